@@ -37,6 +37,7 @@ actor_examples = record {
   no_instruction = λ r a acted. let e = acted.went.steps in absurd (omega (arith, e));
   no_print = λ r a d acted. longer (now r.setup a).clock.prints d acted.went.prints;
   no_start = λ r a n acted. longer_before n (now r.setup a).clock.children acted.went.children;
+  started_locked = λ r a b n child amid started. amid started.rests;
   elsewhere = λ r a not s. not s.own;
   other_limits = λ r limits is not other. not (other.limits ∙ sym is.limits);
   owing = λ r a next d ds some before. some_duties d ds (sym some ∙ before.ready.queue);

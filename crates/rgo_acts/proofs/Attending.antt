@@ -51,9 +51,9 @@ use Rattle.rgo_body.specs.declared.bodies.Side.{Side}
 use Rattle.rgo_acts.specs.Actors.{Stands, Went, distance, now}
 use Rattle.rgo_acts.specs.Attending.{HasAttended, HasWaited, IsAtDuty, IsShort}
 use Rattle.rgo_acts.specs.Runs.{Run}
-use Rattle.rgo_acts.specs.Shortages.{AllInUse, LacksSlot}
+use Rattle.rgo_acts.specs.Shortages.{AllInUse}
 use Rattle.rgo_acts.specs.declared.actors.Actor.{Actor}
-use Rattle.rgo_acts.proofs.Standing.{Continues, Follows, acted_by, acted_local, acted_none, acted_one, now_accesses, now_at_once}
+use Rattle.rgo_acts.proofs.Standing.{Continues, Follows, acted_by, acted_local, acted_none, acted_one, now_accesses, now_at_once, unmoved_at}
 
 -- ---- before a duty
 
@@ -97,6 +97,7 @@ pub no_slots : (r : Run) (a b : Actor) (name : ℕ) (before : IsAtDuty r a (Crea
     → IsShort r a b
 no_slots r a b name before seat behind stays is sizes none = record {
   waited = has_waited r a b before.stands seat behind stays is;
+  unmoved = unmoved_at r a b (has_waited r a b before.stands seat behind stays is).acted seat behind;
   lacks =
       let few : r.setup.sizes.regions ≡ 0 = sym (ap (λ (z : TableSizes). z.slots) sizes) ∙ none in
       let owes = first r.setup r.program b.body (now r.setup b) (Create name) before.others
@@ -235,6 +236,7 @@ module _ (r : Run) (a b : Actor) (name : ℕ) (before : IsAtDuty r a (Create nam
           };
           rest = is;
         };
+        unmoved = record { words = full.still; frame = ap (λ (x : Record). x.frame) here ∙ like.frame };
         lacks = record {
           creates = (
             name,

@@ -3,6 +3,7 @@ use Rattle.std.proofs.Common.{◌≡◌, ◌<◌, ℕ, zero, suc, List, [], ◌�
 use mathlib.Core.Option.{some, some-injective, some-ne-none}
 use lib.ListN.{get_elem?}
 use Rattle.rgo_core_rule.specs.Histories.{access}
+use Rattle.rgo_core_rule.specs.Views.{number_of}
 use Rattle.rgo_core_rule.specs.declared.accesses.Access.{Access}
 use Rattle.rgo_core_rule.specs.declared.accesses.Kind.TheVariants.{ClaimPage, CreateRegion}
 use Rattle.rgo_core_frames.specs.WordFrames.{WordFrame}
@@ -11,8 +12,10 @@ use Rattle.rgo_core.specs.Records.{Record}
 use Rattle.rgo_core_steps.specs.Grown.{Found}
 use Rattle.rgo_region_machine.specs.States.{Duty}
 use Rattle.rgo_body.specs.declared.bodies.Body.{Body}
+use Rattle.rgo_acts.specs.Actors.{IsUnmoved}
 use Rattle.rgo_acts.specs.DutyExamples.{DutyExamples, one_taken, two_taken}
 use Rattle.rgo_acts.specs.Shortages.{AllInUse, LacksPage, LacksSlot}
+use Rattle.rgo_acts.specs.declared.actors.Actor.{Actor}
 use Rattle.rgo_acts.proofs.Attending.{has_waited}
 
 some_duties : (d : Duty) (ds : List Duty) → ◌≡◌ {A = List Duty} [] (d ∷ ds) → ⊥
@@ -95,6 +98,18 @@ makes_nothing T c es frames lacks =
 owes_nothing : (T : Setup) (c : Record) (es : List Access) → c.frame.holder.duties ≡ [] → LacksSlot T 1 c es → ⊥
 owes_nothing T c es duties lacks = some_duties _ lacks.creates.1 (sym duties ∙ lacks.creates.2)
 
+unmoved : (T : Setup) (a : Actor) → IsUnmoved T a a two_taken
+unmoved T a = record {
+  words = λ i x there own.
+      each (λ (k : Access). k.left ≡ k.found) (access 1 CreateRegion 0 2 2) (access 1 CreateRegion 1 4 4) refl refl i x there;
+  frame = refl;
+}
+
+pub moved : (T : Setup) (a b : Actor) → number_of a.seat.me ≡ 1 → IsUnmoved T a b one_taken → ⊥
+moved T a b its still =
+    let e = still.words 1 (access 1 CreateRegion 1 0 2) refl (ap {B = Option ℕ} Some (sym its)) in
+    absurd (omega (arith, e))
+
 pub duty_examples : DutyExamples
 duty_examples = record {
   nothing_owed = λ r a d none before. some_duties d before.others (sym none ∙ before.owes);
@@ -110,6 +125,9 @@ duty_examples = record {
   three = no_third;
   pages = no_pages;
   of_another = not_its;
+  unmoved = unmoved;
+  moved = moved;
+  not_short = λ r a b short its e. moved r.setup a b its (subst (IsUnmoved r.setup a b) e short.unmoved);
   no_slots = λ T c creates few. record { creates = creates; in_use = λ k low. absurd (omega (arith, few, low)) };
   idle = makes_nothing;
   free = owes_nothing;

@@ -6,9 +6,11 @@ pub mod Computes
 pub mod Dividing
 pub mod DutyExamples
 pub mod EndActs
+pub mod Executing
 pub mod Fields
 pub mod Loading
 pub mod LocalActs
+pub mod LocalDuties
 pub mod Measuring
 pub mod ObjectExamples
 pub mod ObjectKinds

@@ -1,5 +1,5 @@
 -- Which object the next instruction makes: a struct, a slice or a channel.
-use Rattle.std.proofs.Common.{◌≡◌, ◌+◌, ◌<◌, ◌≤◌, ◌∙◌, ◌^◌, ◌==◌, ℕ, Bool, true, false, suc, List, [], ◌∷◌, Option, Some, None, ap, sym, subst, refl, inl, inr, arith, if◌then◌else◌, slice_get}
+use Rattle.std.proofs.Common.{◌≡◌, ◌+◌, ◌<◌, ◌≤◌, ◌∙◌, ◌^◌, ◌==◌, ℕ, Bool, true, false, suc, List, [], ◌∷◌, Option, Some, None, ap, sym, subst, refl, inl, inr, arith, if◌then◌else◌, length, slice_get}
 use Rattle.std.proofs.lemmas.Option.{same_Some}
 use Rattle.std.specs.Option.{option_map}
 use Rattle.rgo_core_rule.specs.Views.{number_of}
@@ -37,6 +37,7 @@ use Rattle.rgo_acts.specs.Runs.{Run}
 use Rattle.rgo_acts.specs.Traps.{IsAtTrap}
 use Rattle.rgo_acts.specs.declared.actors.Actor.{Actor}
 use Rattle.rgo_acts.proofs.Before.{IsWord, at_do, here_do, its_word, rests}
+use Rattle.rgo_acts.proofs.Computes.{shaped}
 use Rattle.rgo_acts.proofs.Standing.{acted_none}
 
 -- ---- keys
@@ -122,7 +123,18 @@ module _ (r : Run) (a : Actor) (next : Next) (before : IsBefore r a next) (to : 
         (λ x. too_large T (number_of a.seat.me) c x (Some to) act from removes at words has more) refl;
   }
 
+no_elements : (ns : List ℕ) → length ns ≡ 0 → ns ≡ []
+no_elements [] e = refl
+no_elements (n ∷ ns) e = absurd (omega (arith, e))
+
 module _ (r : Run) (a : Actor) (next : Next) (before : IsBefore r a next) (to : ℕ) where
+  -- an action that makes a struct reads nothing
+  pub no_operands : (n : ℕ) (from : List ℕ) → operation_of next.op ≡ tac.Do (Some to) (action.New n) from
+      → operation_of next.op ≡ tac.Do (Some to) (action.New n) []
+  no_operands n from e =
+      subst (λ vs. operation_of next.op ≡ tac.Do (Some to) (action.New n) vs)
+      (no_elements from (shaped r a next before (action.New n) from (Some to, e)).operands) e
+
   pub wants_struct : (n words : ℕ) (e : operation_of next.op ≡ tac.Do (Some to) (action.New n) [])
       → words ≡ struct_words (slice_get r.setup.code.structs n)
       → Wants r.setup (number_of a.seat.me) (now r.setup a) next.function to words 0 0

@@ -1,7 +1,8 @@
 -- The page for a new object: the goroutine's own one, or one that it claims.
-use Rattle.std.proofs.Common.{◌≡◌, ◌+◌, ◌<◌, ◌≤◌, ◌∙◌, ◌++◌, ℕ, List, [], ◌∷◌, Option, Some, None, ap, sym, subst, refl, arith, if◌then◌else◌, length, nat_eq}
+use Rattle.std.proofs.Common.{◌≡◌, ◌+◌, ◌<◌, ◌≤◌, ◌∙◌, ◌++◌, ℕ, List, [], ◌∷◌, Option, Some, None, MatchOption, ap, sym, subst, refl, arith, if◌then◌else◌, length, nat_eq}
 use Rattle.std.proofs.lemmas.List.{append-nil}
 use Rattle.std.specs.Option.{option_map}
+use Rattle.rgo_core_rule.specs.Passes.{ChangesNothingBy}
 use Rattle.rgo_core_rule.specs.Views.{number_of}
 use Rattle.rgo_core_rule.specs.declared.accesses.Access.{Access}
 use Rattle.rgo_core_rule.specs.declared.accesses.Kind.TheVariants.{ClaimPage}
@@ -211,11 +212,16 @@ module _ (r : Run) (a : Actor) (next : Next) (before : IsBefore r a next) (new :
         (subst (λ (k : Record). Shows T r.program b.body k) (sym e)
         (like_shown T r.program b.body c d
         (subst (λ (k : Body). Shows T r.program k c) (sym body) before.stands.shows) (looks_like c d x))) in
+        let its : full.es ≡ acted.es =
+        sym (same_back a.seat.me.0.seen acted.es full.es (sym acted.went.grew.seen ∙ full.grew.seen)) in
         record {
           acted = acted;
+          unmoved = record {
+            words = subst (ChangesNothingBy (number_of a.seat.me)) its full.still;
+            frame = ap (λ (k : Record). k.frame) (n ∙ e) ∙ x.frame;
+          };
           body = body;
-          lacks = subst (LacksPage T (number_of a.seat.me) (now T b))
-              (sym (same_back a.seat.me.0.seen acted.es full.es (sym acted.went.grew.seen ∙ full.grew.seen)))
+          lacks = subst (LacksPage T (number_of a.seat.me) (now T b)) its
               (record {
                 slot = slot;
                 calm = subst IsCalm (sym (n ∙ e)) (missing_calm tries c calm);
@@ -301,7 +307,7 @@ module _ (s r : Run) (seen_is : s ≡ r) (a : Actor) (next : Next) (before : IsB
       let here = subst (λ (x : Run). new.words ≤ x.sizes.page_words) (sym seen_is) fits in
       subst (λ (z : TableSizes). new.words ≤ z.page_words) sizes here
 
-  pub own_for : (own : Option Page) → TellsPage a new own → (page : Page) → own ≡ Some page
+  own_for : (own : Option Page) → TellsPage a new own → (page : Page) → own ≡ Some page
       → page.fill + new.words ≤ s.sizes.page_words → 0 < new.words → HasPage r a a next new page
   own_for own tells page found room some =
       subst (λ (x : Run). HasPage x a a next new page) seen_is
@@ -309,12 +315,18 @@ module _ (s r : Run) (seen_is : s ≡ r) (a : Actor) (next : Next) (before : IsB
       (λ region at. tells s.setup s.program (now s.setup a) region before_it.stands.shows at) found
       (subst (λ (z : TableSizes). page.fill + new.words ≤ z.page_words) sizes room) some)
 
-  pub no_room_for : (own : Option Page) → TellsPage a new own → HasNoRoomIn s.sizes.page_words new.words own → HasNoRoomHere r a new
+  no_room_for : (own : Option Page) → TellsPage a new own → HasNoRoomIn s.sizes.page_words new.words own → HasNoRoomHere r a new
   no_room_for own tells none =
       subst (λ (x : Run). HasNoRoomHere x a new) seen_is
       (no_room_here s a next before_it new its_new own
       (λ region at. tells s.setup s.program (now s.setup a) region before_it.stands.shows at)
       (subst (λ (z : TableSizes). HasNoRoomIn z.page_words new.words own) sizes none))
+
+  pub its_own_page : (own : Option Page) → TellsPage a new own → (found : Option Page)
+      → MatchOption found (HasNoRoomIn s.sizes.page_words new.words own) (λ q. (own ≡ Some q) × (q.fill + new.words ≤ s.sizes.page_words))
+      → 0 < new.words → MatchOption found (HasNoRoomHere r a new) (HasPage r a a next new)
+  its_own_page own tells None none some = no_room_for own tells none
+  its_own_page own tells (Some page) room some = own_for own tells page room.0 room.1 some
 
   needs_slot : new.words ≤ r.sizes.page_words → HasNoRoomHere r a new
       → NeedsPage s.setup (now s.setup a) (slot_of s.setup.sizes.regions its_new.region)

@@ -1,5 +1,5 @@
 -- What an act leaves: the goroutine is of the run as before, given what its accesses left and that its body shows the record after them.
-use Rattle.std.proofs.Common.{◌≡◌, ℕ, suc, ◌+◌, List, [], ◌++◌, refl, ap, sym, subst, ◌∙◌, append_assoc, arith}
+use Rattle.std.proofs.Common.{◌≡◌, ℕ, suc, ◌+◌, List, [], ◌++◌, ap, sym, subst, ◌∙◌, append_assoc, arith}
 use Rattle.std.proofs.lemmas.List.{append-nil}
 use Rattle.rgo_core_rule.specs.Views.{number_of}
 use Rattle.rgo_core_rule.specs.declared.accesses.Access.{Access}
@@ -8,15 +8,13 @@ use Rattle.rgo_core.specs.Core.{IsPossible, Setup}
 use Rattle.rgo_core.specs.Opening.{first_of}
 use Rattle.rgo_core.specs.Records.{ClockRec, Drawn, Record, accesses, steps_of}
 use Rattle.rgo_core_steps.specs.Grown.{Grew}
-use Rattle.rgo_core_steps.specs.Seats.{HasOne, HasPossible, Left, Settles, SettlesBy, mine, settled, settled_by}
+use Rattle.rgo_core_steps.specs.Seats.{HasOne, HasPossible, Left, Settles, mine, settled, settled_by}
 use Rattle.rgo_core_steps.specs.Settled.{IsLocal}
-use Rattle.rgo_core_steps.proofs.Growing.{grew_none, grew_then, told_accesses, told_grew, told_record}
+use Rattle.rgo_core_steps.proofs.Growing.{grew_none, grew_then, still_none, told_accesses, told_grew, told_record}
 use Rattle.rgo_core_steps.proofs.SettledLaws.{settled_kept, settled_laws}
-use Rattle.rgo_body.specs.Programs.{Program}
 use Rattle.rgo_body.specs.Shows.{IsPossible as IsPossibleBody, Shows}
 use Rattle.rgo_body.specs.Steps.{TakesLocal}
-use Rattle.rgo_body.specs.declared.bodies.Body.{Body}
-use Rattle.rgo_acts.specs.Actors.{Acted, Stands, Went, now}
+use Rattle.rgo_acts.specs.Actors.{Acted, IsUnmoved, Stands, now}
 use Rattle.rgo_acts.specs.Runs.{Run}
 use Rattle.rgo_acts.specs.declared.actors.Actor.{Actor}
 
@@ -173,4 +171,14 @@ acted_then r a b c m n ds es ss ts x y = record {
     first = y.went.first ∙ x.went.first;
   };
   stands = y.stands;
+}
+
+-- nothing has moved by an act without an access or a local step
+pub unmoved_at : (r : Run) (a b : Actor) (acted : Acted r a b 0 [] []) → b.seat ≡ a.seat → b.behind ≡ a.behind
+    → IsUnmoved r.setup a b acted.es
+unmoved_at r a b acted seat behind = record {
+  words = still_none (number_of a.seat.me) acted.es
+      (let more = acted.went.grew.more in let same = ap (λ x. accesses (mine r.setup x.me)) seat in omega (arith, more, same));
+  frame = ap (λ (c : Record). c.frame)
+      (ap (λ x. settled r.setup b.behind x.me) seat ∙ ap (λ q. settled r.setup q a.seat.me) behind);
 }

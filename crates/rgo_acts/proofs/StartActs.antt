@@ -1,7 +1,7 @@
 -- Starts of goroutines.
 use Rattle.std.proofs.Common.{◌≡◌, ◌+◌, ◌∙◌, ℕ, false, List, [], ◌∷◌, Option, Some, None, ap, arith, refl, subst, sym}
 use Rattle.std.proofs.lemmas.List.{append-nil}
-use Rattle.std.proofs.lemmas.Option.{same_Some}
+use Rattle.std.proofs.lemmas.Option.{none-some, same_Some}
 use Rattle.std.specs.Option.{option_map, option_map_or}
 use Rattle.std.specs.Prelude.{unwrap_or}
 use Rattle.rgo_code.specs.Code as code_op
@@ -12,7 +12,7 @@ use Rattle.rgo_region_machine.specs.Owed.{function_of}
 use Rattle.rgo_core.specs.Laws.{first_in}
 use Rattle.rgo_core_facts.specs.ControlCode.{CanCall, HasCallee}
 use Rattle.rgo_core_facts.proofs.ControlCode.{callees_exist}
-use Rattle.rgo_core_frames.specs.Records.{after_op}
+use Rattle.rgo_core_frames.specs.Records.{Rec as FrameRec, after_op}
 use Rattle.rgo_core_frames.specs.WordFrames.{WordFrame, word_called, word_moved, words_of}
 use Rattle.rgo_core_memory.specs.Words.{made_at}
 use Rattle.rgo_core_rule.specs.Views.{Me, number_of, view}
@@ -22,7 +22,7 @@ use Rattle.rgo_region_machine.specs.declared.limits.Limit.TheVariants.{Goroutine
 use Rattle.rgo_core.specs.Core.{IsPossible, Setup}
 use Rattle.rgo_core.specs.Next.{IsAt}
 use Rattle.rgo_core.specs.Opening.{first_of}
-use Rattle.rgo_core.specs.Records.{Record, accesses, begins_with, blank, steps_of, with_child}
+use Rattle.rgo_core.specs.Records.{Record, accesses, begins_with, steps_of, with_child}
 use Rattle.rgo_core_steps.specs.After.{Position, child, child_at, child_by, position, starting}
 use Rattle.rgo_core_steps.specs.Ends.{Ends, IsFull}
 use Rattle.rgo_core_steps.specs.Seats.{HasOne, HasPossible, Left, Settles, mine, other, settled}
@@ -46,34 +46,40 @@ use Rattle.rgo_acts.proofs.Standing.{Follows, acted_one, now_at_once}
 
 -- ---- a goroutine that begins
 
-child_by_blank : (code : Code) (c : Record) (w : WordFrame) (op : CodeOp) (e : Record) → child_by code c w op ≡ Some e → e.clock ≡ blank
-child_by_blank code c w (code_op.Go f from passes removes) e is = called (function_of code f) is
+-- it has frames and what it has of regions, and nothing else
+abbrev Begins : Record → Type 0
+Begins e = (frame : FrameRec) × (e ≡ begins_with frame)
+
+child_by_begins : (code : Code) (c : Record) (w : WordFrame) (op : CodeOp) (e : Record) → child_by code c w op ≡ Some e → Begins e
+child_by_begins code c w (code_op.Go f from passes removes) e is = called (function_of code f) is
   where
+    first_of_callee : CodeFn → FrameRec
+    first_of_callee callee =
+        first_in (child_records code c.frame.holder (Go f from passes removes) (word_called callee f (words_of w from) ∷ []))
+
     begun : CodeFn → Record
-    begun callee = begins_with
-        (first_in (child_records code c.frame.holder (Go f from passes removes) (word_called callee f (words_of w from) ∷ [])))
+    begun callee = begins_with (first_of_callee callee)
 
-    called : (o : Option CodeFn) → option_map begun o ≡ Some e → e.clock ≡ blank
-    called None none = cc
-    called (Some callee) some = ap (λ (d : Record). d.clock) (sym (same_Some (begun callee) e some))
-child_by_blank code c w (code_op.Do to action from removes) e is = cc
-child_by_blank code c w (code_op.Call to n from passes protects removes) e is = cc
-child_by_blank code c w (code_op.Print pieces from removes) e is = cc
-child_by_blank code c w (code_op.Jump target removes) e is = cc
-child_by_blank code c w (code_op.Branch test target removes other otherwise) e is = cc
-child_by_blank code c w (code_op.Return value) e is = cc
+    called : (o : Option CodeFn) → option_map begun o ≡ Some e → Begins e
+    called None none = absurd (none-some e none)
+    called (Some callee) some = (first_of_callee callee, sym (same_Some (begun callee) e some))
+child_by_begins code c w (code_op.Do to action from removes) e is = absurd (none-some e is)
+child_by_begins code c w (code_op.Call to n from passes protects removes) e is = absurd (none-some e is)
+child_by_begins code c w (code_op.Print pieces from removes) e is = absurd (none-some e is)
+child_by_begins code c w (code_op.Jump target removes) e is = absurd (none-some e is)
+child_by_begins code c w (code_op.Branch test target removes other otherwise) e is = absurd (none-some e is)
+child_by_begins code c w (code_op.Return value) e is = absurd (none-some e is)
 
-blank_unless : (o : Option Record) → ((e : Record) → o ≡ Some e → e.clock ≡ blank)
-    → (unwrap_or o (begins_with no_record)).clock ≡ blank
-blank_unless None each = refl
-blank_unless (Some e) each = each e refl
+begins_unless : (o : Option Record) → ((e : Record) → o ≡ Some e → Begins e) → Begins (unwrap_or o (begins_with no_record))
+begins_unless None each = (no_record, refl)
+begins_unless (Some e) each = each e refl
 
-child_blank : (code : Code) (c : Record) → (child code c).clock ≡ blank
-child_blank code c = at_position (position code c)
+child_begins : (code : Code) (c : Record) → Begins (child code c)
+child_begins code c = at_position (position code c)
   where
-    at_position : (o : Option Position) → (option_map_or (child_at code c) o (begins_with no_record)).clock ≡ blank
-    at_position None = refl
-    at_position (Some p) = blank_unless (child_by code c p.w p.instr.op) (child_by_blank code c p.w p.instr.op)
+    at_position : (o : Option Position) → Begins (option_map_or (child_at code c) o (begins_with no_record))
+    at_position None = (no_record, refl)
+    at_position (Some p) = begins_unless (child_by code c p.w p.instr.op) (child_by_begins code c p.w p.instr.op)
 
 -- ---- the seat of the starter after it was split
 
@@ -161,6 +167,8 @@ module _ (r : Run) (a : Actor) (next : Next) (before : IsBefore r a next) (funct
         let is : other T w ≡ child T.code (now T a) = (started_law T a.behind a.seat.me w n drawn.1).3 in
         let at_once : now T c ≡ other T w =
         now_at_once T c child_none ∙ ap (λ (u : Me Record). mine T u) child_me in
+        let begins = child_begins T.code (now T a) in
+        let new : now T c ≡ begins_with begins.0 = (at_once ∙ is) ∙ begins.1 in
         record {
           acted = acted_one r a b before.stands 1 [] (n ∷ []) DrawNumber made_at n next_number
               (λ found d. d ≡ starting T.code (now T a) found) (starting T.code (now T a) n) own none
@@ -181,7 +189,9 @@ module _ (r : Run) (a : Actor) (next : Next) (before : IsBefore r a next) (funct
           within = drawn.0;
           seen = ap (λ (u : Me Record). u.0.seen) child_me ∙ sym (ap (λ (u : Me Record). u.0.seen) me);
           begins = at_once ∙ is;
-          blank = ap (λ (e : Record). e.clock) (at_once ∙ is) ∙ child_blank T.code (now T a);
+          blank = ap (λ (e : Record). e.clock) new;
+          memory = ap (λ (e : Record). e.memory) new;
+          rests = ap (λ (e : Record). e.side) new;
         }
 
   -- ---- a number was refused

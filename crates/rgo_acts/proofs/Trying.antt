@@ -24,9 +24,9 @@ use Rattle.rgo_body.specs.Shows.{Shows}
 use Rattle.rgo_body.specs.Steps.{Becomes}
 use Rattle.rgo_body.specs.declared.bodies.Body.{Body}
 use Rattle.rgo_body.proofs.Showing.{like_shown}
-use Rattle.rgo_acts.specs.Actors.{Acted, Stands, Went, now}
+use Rattle.rgo_acts.specs.Actors.{Acted, IsUnmoved, Stands, Went, now}
 use Rattle.rgo_acts.specs.Runs.{Run}
-use Rattle.rgo_acts.specs.Talks.{HasDone, HasOffered, IsUnmoved}
+use Rattle.rgo_acts.specs.Talks.{HasDone, HasOffered}
 use Rattle.rgo_acts.specs.declared.actors.Actor.{Actor}
 use Rattle.rgo_acts.proofs.AtChannels.{accessed_same, side_offers}
 use Rattle.rgo_acts.proofs.Standing.{Continues, acted_by, now_at_once}

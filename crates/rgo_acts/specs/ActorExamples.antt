@@ -1,6 +1,7 @@
 -- Actors and runs that are as their definitions say, and such as are not.
 use Rattle.std.specs.Prelude.{◌≡◌, ◌≤◌, ℕ, true, false, List, [], ◌∷◌, Some, None}
 use Rattle.rgo_core.specs.Records.{Drawn}
+use Rattle.rgo_core_channels.specs.Records.{at_rest}
 use Rattle.rgo_machine.specs.declared.limits.Limits.{Limits}
 use Rattle.rgo_region_machine.specs.States.{Duty}
 use Rattle.rgo_tac.specs.Code.{Do}
@@ -8,10 +9,11 @@ use Rattle.rgo_typed.specs.declared.actions.Action.TheVariants as action
 use Rattle.rgo_body.specs.Programs.{Program}
 use Rattle.rgo_body.specs.declared.bodies.Body.{Body}
 use Rattle.rgo_body.specs.declared.nexts.Next.{Next}
-use Rattle.rgo_acts.specs.Actors.{Acted, Stands, distance}
+use Rattle.rgo_acts.specs.Actors.{Acted, Stands, distance, now}
 use Rattle.rgo_acts.specs.Elements.{HasElement, HasMeasured, HasNoElementHere, IsAtElementOf}
 use Rattle.rgo_acts.specs.Ready.{IsBefore}
 use Rattle.rgo_acts.specs.Runs.{IsRun, Run}
+use Rattle.rgo_acts.specs.Starts.{HasStarted}
 use Rattle.rgo_acts.specs.declared.actors.Actor.{Actor}
 
 pub record ActorExamples : Type 0 where
@@ -21,6 +23,9 @@ pub record ActorExamples : Type 0 where
   pub no_instruction : (r : Run) (a : Actor) → Acted r a a 1 [] [] → ⊥
   pub no_print : (r : Run) (a : Actor) (d : Drawn) → Acted r a a 0 (d ∷ []) [] → ⊥
   pub no_start : (r : Run) (a : Actor) (n : ℕ) → Acted r a a 0 [] (n ∷ []) → ⊥
+  -- the goroutine that it has started has locked a channel
+  pub started_locked : (r : Run) (a b : Actor) (n : ℕ) (child : Actor) → ((now r.setup child).side ≡ at_rest → ⊥)
+      → HasStarted r a b n child → ⊥
   -- its seat is one of another table
   pub elsewhere : (r : Run) (a : Actor) → (a.seat.table_id ≡ r.table → ⊥) → Stands r a → ⊥
   -- a run with other limits than its table was made for

@@ -1,5 +1,6 @@
 -- Goroutines at the table: what is known of one between two acts, and what an act leaves.
-use Rattle.std.specs.Prelude.{◌≡◌, ◌+◌, ◌<◌, ℕ, List, ◌++◌, length, if◌then◌else◌}
+use Rattle.std.specs.Prelude.{◌≡◌, ◌+◌, ℕ, List, ◌++◌, length, if◌then◌else◌}
+use Rattle.rgo_core_rule.specs.Passes.{ChangesNothingBy}
 use Rattle.rgo_core_rule.specs.Views.{number_of}
 use Rattle.rgo_core_rule.specs.declared.accesses.Access.{Access}
 use Rattle.rgo_core.specs.Core.{IsPossible, Setup}
@@ -40,6 +41,11 @@ pub record Acted (r : Run) (a b : Actor) (n : ℕ) (draws : List Drawn) (starts 
   pub es : List Access
   pub went : Went r.setup a b n draws starts es
   pub stands : Stands r b
+
+-- these accesses changed no word, and its frames and what it has of regions are as before
+pub record IsUnmoved (T : Setup) (a b : Actor) (es : List Access) : Type 0 where
+  pub words : ChangesNothingBy (number_of a.seat.me) es
+  pub frame : (now T b).frame ≡ (now T a).frame
 
 -- how far its next instruction is: the duties before it, and whether these are still to be put into its queue
 abbrev pub distance : Program → Body → ℕ

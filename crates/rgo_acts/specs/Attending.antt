@@ -5,7 +5,7 @@ use Rattle.rgo_body.specs.Duties.{HasDone}
 use Rattle.rgo_body.specs.declared.bodies.Side.TheVariants.{AtRest}
 use Rattle.rgo_core_rule.specs.Views.{number_of}
 use Rattle.rgo_region_machine.specs.States.{Duty}
-use Rattle.rgo_acts.specs.Actors.{Acted, Stands, distance, now}
+use Rattle.rgo_acts.specs.Actors.{Acted, IsUnmoved, Stands, distance, now}
 use Rattle.rgo_acts.specs.Runs.{Run}
 use Rattle.rgo_acts.specs.Shortages.{LacksSlot}
 use Rattle.rgo_acts.specs.declared.actors.Actor.{Actor}
@@ -28,14 +28,21 @@ pub record HasAttended (r : Run) (a b : Actor) : Type 0 where
   pub done : HasDone a.body b.body
   pub nearer : distance r.program b.body < distance r.program a.body
 
+-- Some of its first duties are done, each by a local step. Nothing else of the body has changed but what it has of regions and what it
+-- has counted.
+pub record HasAttendedLocally (r : Run) (a b : Actor) : Type 0 where
+  pub acted : Acted r a b 0 [] []
+  pub rest : b.body ≡ record a.body { holding = b.body.holding; queue = b.body.queue; counts = b.body.counts }
+
 -- It owes what it owed.
 pub record HasWaited (r : Run) (a b : Actor) : Type 0 where
   pub acted : Acted r a b 0 [] []
   pub rest : b.body ≡ record a.body { holding = b.body.holding }
 
--- No slot was free for the region that it is to create.
+-- No slot was free for the region that it is to create. It has changed no word.
 pub record IsShort (r : Run) (a b : Actor) : Type 0 where
   pub waited : HasWaited r a b
+  pub unmoved : IsUnmoved r.setup a b waited.acted.es
   pub lacks : LacksSlot r.setup (number_of a.seat.me) (now r.setup b) waited.acted.es
 
 abbrev pub Attends : (r : Run) (a b : Actor) → Attended → Type 0

@@ -1,14 +1,15 @@
 -- The definitions of duties and of shortages, each where it holds and where it must not.
 use Rattle.std.specs.Prelude.{◌≡◌, List, [], ◌∷◌}
 use Rattle.rgo_core_rule.specs.Histories.{access}
+use Rattle.rgo_core_rule.specs.Views.{number_of}
 use Rattle.rgo_core_rule.specs.declared.accesses.Access.{Access}
 use Rattle.rgo_core_rule.specs.declared.accesses.Kind.TheVariants.{ClaimPage, CreateRegion}
 use Rattle.rgo_core.specs.Core.{Setup}
 use Rattle.rgo_core.specs.Records.{Record}
 use Rattle.rgo_core_steps.specs.Counts.{IsCreating}
 use Rattle.rgo_region_machine.specs.States.{Duty}
-use Rattle.rgo_acts.specs.Actors.{Stands}
-use Rattle.rgo_acts.specs.Attending.{HasAttended, HasWaited, IsAtDuty}
+use Rattle.rgo_acts.specs.Actors.{IsUnmoved, Stands}
+use Rattle.rgo_acts.specs.Attending.{HasAttended, HasWaited, IsAtDuty, IsShort}
 use Rattle.rgo_acts.specs.Runs.{Run}
 use Rattle.rgo_acts.specs.Shortages.{AllInUse, LacksPage, LacksSlot}
 use Rattle.rgo_acts.specs.declared.actors.Actor.{Actor}
@@ -35,6 +36,10 @@ pub record DutyExamples : Type 0 where
   pub three : AllInUse 1 two_taken CreateRegion (λ k. k) 3 → ⊥
   pub pages : AllInUse 1 two_taken ClaimPage (λ k. k) 1 → ⊥
   pub of_another : AllInUse 0 two_taken CreateRegion (λ k. k) 1 → ⊥
+  -- it has changed the word of slot 1
+  pub unmoved : (T : Setup) (a : Actor) → IsUnmoved T a a two_taken
+  pub moved : (T : Setup) (a b : Actor) → number_of a.seat.me ≡ 1 → IsUnmoved T a b one_taken → ⊥
+  pub not_short : (r : Run) (a b : Actor) (short : IsShort r a b) → number_of a.seat.me ≡ 1 → short.waited.acted.es ≡ one_taken → ⊥
   -- a table without slots
   pub no_slots : (T : Setup) (c : Record) → IsCreating c → T.sizes.regions ≡ 0 → LacksSlot T 1 c []
   -- it makes nothing and owes nothing

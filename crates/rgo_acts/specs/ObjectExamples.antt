@@ -2,9 +2,13 @@
 use Rattle.std.specs.Prelude.{◌≡◌, ℕ, [], ◌∷◌, None, Some}
 use Rattle.rgo_core_facts.specs.MemoryExamples.{making_slices, three}
 use Rattle.rgo_core.specs.Records.{Record}
+use Rattle.rgo_core_rule.specs.Views.{number_of}
 use Rattle.rgo_machine.specs.declared.limits.Limits.{Limits}
 use Rattle.rgo_holding.specs.declared.entries.Page.{Page}
-use Rattle.rgo_acts.specs.Objects.{HasNoRoomIn, IsPlaced, opens}
+use Rattle.rgo_acts.specs.DutyExamples.{one_taken}
+use Rattle.rgo_acts.specs.Objects.{HasNoPage, HasNoRoomIn, IsPlaced, opens}
+use Rattle.rgo_acts.specs.Runs.{Run}
+use Rattle.rgo_acts.specs.declared.actors.Actor.{Actor}
 use Rattle.rgo_acts.specs.declared.objects.New.{New}
 
 -- a page of four words, two of which are filled
@@ -28,6 +32,8 @@ pub record ObjectExamples : Type 0 where
   pub no_page : HasNoRoomIn 4 1 None
   pub no_room : HasNoRoomIn 4 3 (Some half_full)
   pub room : HasNoRoomIn 4 2 (Some half_full) → ⊥
+  -- it has changed the word of slot 1
+  pub moved : (r : Run) (a b : Actor) (none : HasNoPage r a b) → number_of a.seat.me ≡ 1 → none.acted.es ≡ one_taken → ⊥
   pub placed : (limits : Limits) → IsPlaced (making_slices limits) (with_own 0) 1 empty three_elements
   -- the page has too few words left
   pub overfull : (limits : Limits) → IsPlaced (making_slices limits) (with_own 2) 1 half_full three_elements → ⊥

@@ -19,7 +19,7 @@ use Rattle.rgo_region_machine.specs.States.{Stopped, top_names}
 use Rattle.rgo_region_machine.specs.declared.limits.Limit.TheVariants.{ObjectSize}
 use Rattle.rgo_region_machine.specs.declared.regions.Region.{Region}
 use Rattle.rgo_body.specs.declared.nexts.Next.{Next}
-use Rattle.rgo_acts.specs.Actors.{Acted, now}
+use Rattle.rgo_acts.specs.Actors.{Acted, IsUnmoved, now}
 use Rattle.rgo_acts.specs.Ready.{IsBefore}
 use Rattle.rgo_acts.specs.Runs.{Run}
 use Rattle.rgo_acts.specs.Shortages.{LacksPage}
@@ -36,9 +36,10 @@ pub record IsTooLarge (r : Run) (a b : Actor) : Type 0 where
   pub acted : Acted r a b 0 [] []
   pub ends : Ends r.setup (number_of b.seat.me) (now r.setup b) (Stopped ObjectSize)
 
--- It needs a page, and each was found in use. It is as it was.
+-- It needs a page, and each was found in use. It is as it was, and has changed no word.
 pub record HasNoPage (r : Run) (a b : Actor) : Type 0 where
   pub acted : Acted r a b 0 [] []
+  pub unmoved : IsUnmoved r.setup a b acted.es
   pub body : b.body ≡ a.body
   pub lacks : LacksPage r.setup (number_of a.seat.me) (now r.setup b) acted.es
 
@@ -70,6 +71,12 @@ pub record Wants (T : Setup) (g : ℕ) (c : Record) (fn : CodeFn) (to words plac
   pub some : 0 < words
   pub fits : words ≤ T.sizes.page_words → NewObject T c (slot_of T.sizes.regions region) words (opens place value)
   pub large : T.sizes.page_words < words → Ends T g c (Stopped ObjectSize)
+
+-- this is the object that the next instruction makes, and a page has as many words
+pub record FitsPage (r : Run) (a : Actor) (new : New) : Type 0 where
+  pub is_new : IsNew r.setup (now r.setup a) a.body.holding new
+  pub fits : new.words ≤ r.sizes.page_words
+  pub some : 0 < new.words
 
 -- ---- its page
 

@@ -1,5 +1,5 @@
 -- What an act asks of a goroutine.
-use Rattle.std.specs.Prelude.{◌≡◌, ◌+◌, ◌<◌, ◌≤◌, ℕ, [], List, length}
+use Rattle.std.specs.Prelude.{◌≡◌, ◌+◌, ◌<◌}
 use Rattle.rgo_body.specs.Bodies.{HasRoomBehind, IsReady}
 use Rattle.rgo_body.specs.declared.bodies.Side.TheVariants.{AtRest}
 use Rattle.rgo_body.specs.declared.nexts.Next.{Next}

@@ -1,5 +1,7 @@
 -- Starts of goroutines.
 use Rattle.std.specs.Prelude.{◌≡◌, ◌<◌, ℕ, [], ◌∷◌}
+use Rattle.rgo_core_channels.specs.Records.{at_rest}
+use Rattle.rgo_core_memory.specs.Opening.{first_record}
 use Rattle.rgo_core_rule.specs.Views.{number_of}
 use Rattle.rgo_core.specs.Records.{blank}
 use Rattle.rgo_core_steps.specs.After.{child as child_of}
@@ -22,6 +24,8 @@ pub record HasStarted (r : Run) (a b : Actor) (n : ℕ) (child : Actor) : Type 0
   pub seen : child.seat.me.0.seen ≡ b.seat.me.0.seen
   pub begins : now r.setup child ≡ child_of r.setup.code (now r.setup a)
   pub blank : (now r.setup child).clock ≡ blank
+  pub memory : (now r.setup child).memory ≡ first_record
+  pub rests : (now r.setup child).side ≡ at_rest
 
 -- it has, or a number was refused to it
 abbrev pub Starts : Run → (before after : Actor) → Outcome → Type 0

@@ -1,9 +1,7 @@
 -- What an operation on a channel asks of a goroutine, and what it leaves.
-use Rattle.std.specs.Prelude.{◌≡◌, ◌+◌, ◌<◌, ℕ, List, [], Option, Some, ⊤}
+use Rattle.std.specs.Prelude.{◌≡◌, ◌+◌, ◌<◌, ℕ, [], Option, Some, ⊤}
 use Rattle.rgo_core_channels.specs.Records as sides
-use Rattle.rgo_core_rule.specs.Passes.{ChangesNothingBy}
 use Rattle.rgo_core_rule.specs.Views.{number_of}
-use Rattle.rgo_core_rule.specs.declared.accesses.Access.{Access}
 use Rattle.rgo_core.specs.AtChannels.{IsAtChannel}
 use Rattle.rgo_core.specs.CommitMoves.{offers}
 use Rattle.rgo_core.specs.Core.{Setup}
@@ -21,7 +19,7 @@ use Rattle.rgo_body.specs.Steps.{Becomes}
 use Rattle.rgo_body.specs.declared.bodies.Body.{Body}
 use Rattle.rgo_body.specs.declared.bodies.Side.TheVariants.{Offering}
 use Rattle.rgo_body.specs.declared.nexts.Next.{Next}
-use Rattle.rgo_acts.specs.Actors.{Acted, Stands, now}
+use Rattle.rgo_acts.specs.Actors.{Acted, IsUnmoved, Stands, now}
 use Rattle.rgo_acts.specs.Runs.{Run}
 use Rattle.rgo_acts.specs.Traps.{IsAtTrap}
 use Rattle.rgo_acts.specs.Waits.{Loses, Waits}
@@ -45,11 +43,6 @@ pub record CanAcknowledge (r : Run) (a : Actor) (next : Next) (at : ℕ) : Type 
   pub room : HasRoomBehind a.body next
 
 -- ---- what it leaves
-
--- these accesses changed no word, and its frames and what it has of regions are as before
-pub record IsUnmoved (T : Setup) (a b : Actor) (es : List Access) : Type 0 where
-  pub words : ChangesNothingBy (number_of a.seat.me) es
-  pub frame : (now T b).frame ≡ (now T a).frame
 
 -- the operation has taken effect, as its nth instruction or by none
 pub record HasDone (r : Run) (a b : Actor) (n at : ℕ) : Type 0 where

@@ -19,7 +19,7 @@ use rgo_core_steps::memory;
 use rgo_memory::Trap;
 
 /// A variable of the next instruction gets the word that this loads.
-fn take(actor: &mut Actor, run: &Run<'_>, next: &Next<'_>, word: usize)
+fn take(actor: &mut Actor, run: &Run<'_, '_>, next: &Next<'_>, word: usize)
     requires before { IsBefore run.now actor.old next.now }
     requires inside { word < run.now.table.words }
     requires loads { Loads run.now.setup (now run.now.setup actor.old) word }
@@ -31,7 +31,7 @@ fn take(actor: &mut Actor, run: &Run<'_>, next: &Next<'_>, word: usize)
 }
 
 /// The next instruction stores this value.
-fn put(actor: &mut Actor, run: &Run<'_>, next: &Next<'_>, word: usize, value: u64)
+fn put(actor: &mut Actor, run: &Run<'_, '_>, next: &Next<'_>, word: usize, value: u64)
     requires before { IsBefore run.now actor.old next.now }
     requires inside { word < run.now.table.words }
     requires stores { Stores run.now.setup (now run.now.setup actor.old) word value }
@@ -45,7 +45,7 @@ fn put(actor: &mut Actor, run: &Run<'_>, next: &Next<'_>, word: usize, value: u6
 /// Loads a field of the struct to which variable `from` points.
 pub fn load_field(
     actor: &mut Actor,
-    run: &Run<'_>,
+    run: &Run<'_, '_>,
     next: &Next<'_>,
     to: u32,
     field: usize,
@@ -66,7 +66,7 @@ pub fn load_field(
 /// Stores variable `value` to a field of the struct to which variable `to` points.
 pub fn store_field(
     actor: &mut Actor,
-    run: &Run<'_>,
+    run: &Run<'_, '_>,
     next: &Next<'_>,
     field: usize,
     to: u32,
@@ -87,7 +87,7 @@ pub fn store_field(
 }
 
 /// Loads the length of the slice in variable `from`. That of nil is 0.
-pub fn length(actor: &mut Actor, run: &Run<'_>, next: &Next<'_>, to: u32, from: u32)
+pub fn length(actor: &mut Actor, run: &Run<'_, '_>, next: &Next<'_>, to: u32, from: u32)
     requires before { IsBefore run.now actor.old next.now }
     requires is { operation_of next.now.op ≡ Do (Some to) action.Len (from ∷ []) }
     ensures { Acted run.now actor.old actor.new 1 [] [] }
@@ -105,7 +105,7 @@ pub fn length(actor: &mut Actor, run: &Run<'_>, next: &Next<'_>, to: u32, from: 
 /// The word of element `index` of the slice in variable `slice`, whose length is loaded for that; `None` if there is no such element.
 fn element(
     actor: &mut Actor,
-    run: &Run<'_>,
+    run: &Run<'_, '_>,
     next: &Next<'_>,
     slice: u32,
     index: u32,
@@ -133,7 +133,7 @@ fn element(
 /// Loads element `index` of the slice in variable `slice`.
 pub fn load_element(
     actor: &mut Actor,
-    run: &Run<'_>,
+    run: &Run<'_, '_>,
     next: &Next<'_>,
     to: u32,
     slice: u32,
@@ -155,7 +155,7 @@ pub fn load_element(
 /// Stores variable `value` to element `index` of the slice in variable `slice`.
 pub fn store_element(
     actor: &mut Actor,
-    run: &Run<'_>,
+    run: &Run<'_, '_>,
     next: &Next<'_>,
     slice: u32,
     index: u32,
@@ -176,7 +176,13 @@ pub fn store_element(
 }
 
 /// Loads a package variable.
-pub fn load_variable(actor: &mut Actor, run: &Run<'_>, next: &Next<'_>, to: u32, variable: usize)
+pub fn load_variable(
+    actor: &mut Actor,
+    run: &Run<'_, '_>,
+    next: &Next<'_>,
+    to: u32,
+    variable: usize,
+)
     requires before { IsBefore run.now actor.old next.now }
     requires is { operation_of next.now.op ≡ Do (Some to) (action.Get variable) [] }
     ensures { Acted run.now actor.old actor.new 1 [] [] }
@@ -185,7 +191,13 @@ pub fn load_variable(actor: &mut Actor, run: &Run<'_>, next: &Next<'_>, to: u32,
 }
 
 /// Stores variable `from` to a package variable.
-pub fn store_variable(actor: &mut Actor, run: &Run<'_>, next: &Next<'_>, variable: usize, from: u32)
+pub fn store_variable(
+    actor: &mut Actor,
+    run: &Run<'_, '_>,
+    next: &Next<'_>,
+    variable: usize,
+    from: u32,
+)
     requires before { IsBefore run.now actor.old next.now }
     requires is { operation_of next.now.op ≡ Do None (action.Set variable) (from ∷ []) }
     ensures { Acted run.now actor.old actor.new 1 [] [] }

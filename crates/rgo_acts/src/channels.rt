@@ -97,14 +97,14 @@ fn is_at_channel(body: &Body, program: &Program<'_>) -> bool
         return false;
     }
     match body.next(program) {
-        Some(next) => talks(&next),
+        Some(next) => talks(next),
         None => false,
     }
 }
 
 /// Whether the goroutine is to try an operation on a channel again. Otherwise it knows of no channel from here on: what it has found
 /// out about a channel lasts as long as it is before an operation on it.
-pub fn tries_again(actor: &mut Actor, run: &Run<'_>) -> bool
+pub fn tries_again(actor: &mut Actor, run: &Run<'_, '_>) -> bool
     requires stands { Stands run.now actor.old }
     requires none { (at : ℕ) → actor.old.body.side ≡ Offering at → ⊥ }
     ensures acted { Acted run.now actor.old actor.new 0 [] [] }
@@ -176,7 +176,7 @@ fn conclude(
 /// The next instruction sends variable `value` on the channel in variable `channel`.
 pub fn send<L: Ledger>(
     actor: &mut Actor,
-    run: &Run<'_>,
+    run: &Run<'_, '_>,
     next: &Next<'_>,
     channel: u32,
     value: u32,
@@ -215,7 +215,7 @@ pub fn send<L: Ledger>(
 /// The next instruction receives from the channel in variable `channel`.
 pub fn receive<L: Ledger>(
     actor: &mut Actor,
-    run: &Run<'_>,
+    run: &Run<'_, '_>,
     next: &Next<'_>,
     channel: u32,
     steps: &mut Steps<L>,
@@ -252,7 +252,7 @@ pub fn receive<L: Ledger>(
 /// The next instruction closes the channel in variable `channel`.
 pub fn close<L: Ledger>(
     actor: &mut Actor,
-    run: &Run<'_>,
+    run: &Run<'_, '_>,
     next: &Next<'_>,
     channel: u32,
     steps: &mut Steps<L>,
@@ -290,7 +290,7 @@ pub fn close<L: Ledger>(
 /// the instruction.
 pub fn acknowledge<L: Ledger>(
     actor: &mut Actor,
-    run: &Run<'_>,
+    run: &Run<'_, '_>,
     next: &Next<'_>,
     at: usize,
     steps: &mut Steps<L>,

@@ -1,14 +1,19 @@
 //! Duties: the steps with regions that a goroutine owes around its instructions. It attends to the first one.
-ghost use Rattle.std.specs.Prelude.{◌≡◌, ℕ, List};
-ghost use Rattle.rgo_body.specs.Duties.{LeavesIn};
+ghost use Rattle.std.specs.Prelude.{◌≡◌, ◌+◌, ◌<◌, [], ℕ, List, false, true};
+ghost use Rattle.rgo_body.specs.Duties.{DoesLocal, LeavesIn, OwesFirst};
+ghost use Rattle.rgo_body.specs.Queues.{duty_of};
+ghost use Rattle.rgo_body.specs.Shows.{IsPossible};
+ghost use Rattle.rgo_body.specs.Steps.{Stays};
+ghost use Rattle.rgo_body.specs.declared.bodies.Side.TheVariants.{AtRest};
 ghost use Rattle.rgo_region_machine.specs.States as machine;
 ghost use Rattle.rgo_region_machine.specs.declared.regions.Region.{Region};
-ghost use Rattle.rgo_acts.specs.Attending.{Attends, HasAttended, IsAtDuty};
+ghost use Rattle.rgo_acts.specs.Actors.{Stands};
+ghost use Rattle.rgo_acts.specs.Attending.{Attends, HasAttended, HasAttendedLocally, IsAtDuty};
 ghost use Rattle.rgo_acts.specs.DutyExamples.{DutyExamples};
 
-use crate::actors::Actor;
+use crate::actors::{Actor, after, within};
 use crate::runs::Run;
-use rgo_body::Duty;
+use rgo_body::{Body, Duty, Program};
 use rgo_core_steps::counting::Steps;
 use rgo_counts::stakes::Left;
 use rgo_counts::{creation, stakes};
@@ -27,18 +32,13 @@ pub enum Attended {
     NoMemory,
 }
 
-/// Attends to the first duty. A search for a free slot begins at slot `from`, or at 0 if there is no such slot.
-pub fn attend<L: Ledger>(
-    actor: &mut Actor,
-    run: &Run<'_>,
-    from: u32,
-    steps: &mut Steps<L>,
-) -> Attended
+/// Attends to the first duty.
+pub fn attend<L: Ledger>(actor: &mut Actor, run: &Run<'_, '_>, steps: &mut Steps<L>) -> Attended
     requires first { (d : machine.Duty) × IsAtDuty run.now actor.old d }
     ensures { Attends run.now actor.old actor.new result }
 {
     match actor.body.duty() {
-        Some(Duty::Create(name)) => return create(actor, run, name, from, steps),
+        Some(Duty::Create(name)) => return create(actor, run, name, steps),
         Some(Duty::Protect(name)) => return protect(actor, run, name),
         Some(Duty::Share(name)) => share(actor, run, name, steps),
         Some(Duty::Unprotect(name)) => unprotect(actor, run, name),
@@ -49,12 +49,54 @@ pub fn attend<L: Ledger>(
     Attended::Done
 }
 
+/// Attends to the first duties as long as they are local, and as `left` local steps more can be counted. Returns whether there are
+/// none left.
+pub(crate) fn attend_local(actor: &mut Actor, run: &Run<'_, '_>, left: usize) -> bool
+    requires stands { Stands run.now actor.old }
+    requires rests { actor.old.body.side ≡ AtRest }
+    requires behind { actor.old.behind + left < 18446744073709551616 }
+    ensures attended { HasAttendedLocally run.now actor.old actor.new }
+    ensures behind { actor.new.behind + left < 18446744073709551616 }
+    ensures empty { result ≡ true → actor.new.body.queue.duties ≡ [] }
+{
+    while let Some(duty) = actor.body.duty() {
+        if actor.behind >= u64::MAX - left as u64 {
+            return false;
+        }
+        if !do_locally(&mut actor.body, run.program, duty) {
+            return false;
+        }
+        actor.behind += 1;
+    }
+    true
+}
+
+/// Does the first duty if it is local. Returns whether it is done; the goroutine owes it as before where it is not local, or where
+/// memory runs out.
+fn do_locally(body: &mut Body, program: &Program<'_>, duty: Duty) -> bool
+    requires possible { IsPossible program.now body.old }
+    requires first { OwesFirst body.old (duty_of duty) }
+    requires rests { body.old.side ≡ AtRest }
+    ensures done { result ≡ true → DoesLocal program.now body.old body.new }
+    ensures stays { result ≡ false → Stays program.now body.old body.new }
+    ensures same { result ≡ false → body.new ≡ record body.old { holding = body.new.holding } }
+{
+    match duty {
+        Duty::Protect(name) => body.protect(program, name).is_ok(),
+        Duty::Unprotect(name) => {
+            body.unprotect(program, name);
+            true
+        }
+        Duty::Remove(name) => body.remove(program, name).is_none(),
+        Duty::Create(_) | Duty::Share(_) | Duty::EndBase(_) => false,
+    }
+}
+
 /// Creates a region.
 fn create<L: Ledger>(
     actor: &mut Actor,
-    run: &Run<'_>,
+    run: &Run<'_, '_>,
     name: u32,
-    from: u32,
     steps: &mut Steps<L>,
 ) -> Attended
     requires first { IsAtDuty run.now actor.old (machine.Create name) }
@@ -67,11 +109,7 @@ fn create<L: Ledger>(
     if run.sizes.slots == 0 {
         return Attended::Short;
     }
-    let from = if (from as usize) < run.sizes.slots {
-        from
-    } else {
-        0
-    };
+    let from = within(actor.searches.slot, run.sizes.slots);
     let slot = creation::create_from(
         run.table,
         &mut actor.seat,
@@ -83,6 +121,7 @@ fn create<L: Ledger>(
     actor.behind = 0;
     match slot {
         Ok(slot) => {
+            actor.searches.slot = after(slot);
             actor.body.created(run.program, name, slot);
             Attended::Done
         }
@@ -91,7 +130,7 @@ fn create<L: Ledger>(
 }
 
 /// Protects a region.
-fn protect(actor: &mut Actor, run: &Run<'_>, name: u32) -> Attended
+fn protect(actor: &mut Actor, run: &Run<'_, '_>, name: u32) -> Attended
     requires first { IsAtDuty run.now actor.old (machine.Protect name) }
     ensures { Attends run.now actor.old actor.new result }
 {
@@ -105,7 +144,7 @@ fn protect(actor: &mut Actor, run: &Run<'_>, name: u32) -> Attended
 }
 
 /// Ends a protection.
-fn unprotect(actor: &mut Actor, run: &Run<'_>, name: u32)
+fn unprotect(actor: &mut Actor, run: &Run<'_, '_>, name: u32)
     requires first { IsAtDuty run.now actor.old (machine.Unprotect name) }
     ensures { HasAttended run.now actor.old actor.new }
 {
@@ -114,7 +153,7 @@ fn unprotect(actor: &mut Actor, run: &Run<'_>, name: u32)
 }
 
 /// Takes a stake for a goroutine that is about to start, unless it has one.
-fn share<L: Ledger>(actor: &mut Actor, run: &Run<'_>, name: u32, steps: &mut Steps<L>)
+fn share<L: Ledger>(actor: &mut Actor, run: &Run<'_, '_>, name: u32, steps: &mut Steps<L>)
     requires first { IsAtDuty run.now actor.old (machine.Share name) }
     ensures { HasAttended run.now actor.old actor.new }
 {
@@ -137,7 +176,7 @@ fn share<L: Ledger>(actor: &mut Actor, run: &Run<'_>, name: u32, steps: &mut Ste
 }
 
 /// Removes a region.
-fn remove<L: Ledger>(actor: &mut Actor, run: &Run<'_>, name: u32, steps: &mut Steps<L>)
+fn remove<L: Ledger>(actor: &mut Actor, run: &Run<'_, '_>, name: u32, steps: &mut Steps<L>)
     requires first { IsAtDuty run.now actor.old (machine.Remove name) }
     ensures { HasAttended run.now actor.old actor.new }
 {
@@ -148,7 +187,7 @@ fn remove<L: Ledger>(actor: &mut Actor, run: &Run<'_>, name: u32, steps: &mut St
 }
 
 /// Ends a protection that a region has had since the goroutine started, and removes the region.
-fn end_base<L: Ledger>(actor: &mut Actor, run: &Run<'_>, steps: &mut Steps<L>)
+fn end_base<L: Ledger>(actor: &mut Actor, run: &Run<'_, '_>, steps: &mut Steps<L>)
     requires first { (region : Region) × IsAtDuty run.now actor.old (machine.EndBase region) }
     ensures { HasAttended run.now actor.old actor.new }
 {
@@ -159,7 +198,7 @@ fn end_base<L: Ledger>(actor: &mut Actor, run: &Run<'_>, steps: &mut Steps<L>)
 }
 
 /// Ends the stake in this region. If it was the last one, gives the pages of the region back, and then frees the slot.
-fn leave<L: Ledger>(actor: &mut Actor, run: &Run<'_>, key: Key, steps: &mut Steps<L>)
+fn leave<L: Ledger>(actor: &mut Actor, run: &Run<'_, '_>, key: Key, steps: &mut Steps<L>)
     requires first { (d : machine.Duty) × IsAtDuty run.now actor.old d }
     requires leaves { LeavesIn run.now.program actor.old.body key }
     ensures { HasAttended run.now actor.old actor.new }

@@ -25,7 +25,7 @@ use rgo_memory::Trap;
 use rgo_region_machine::Limit;
 
 /// A limit ends the run, for which the record of the goroutine shows the cause.
-pub fn stop(actor: &mut Actor, run: &Run<'_>, limit: Limit) -> bool
+pub fn stop(actor: &mut Actor, run: &Run<'_, '_>, limit: Limit) -> bool
     requires stands { Stands run.now actor.old }
     requires cause { Ends run.now.setup (number_of actor.old.seat.me) (now run.now.setup actor.old) (Stopped limit) }
     ensures ended { HasEnded run.now actor.old actor.new 0 (Stopped limit) result }
@@ -42,7 +42,7 @@ pub fn stop(actor: &mut Actor, run: &Run<'_>, limit: Limit) -> bool
 }
 
 /// Memory ran out.
-pub fn out_of_memory(actor: &mut Actor, run: &Run<'_>) -> bool
+pub fn out_of_memory(actor: &mut Actor, run: &Run<'_, '_>) -> bool
     requires stands { Stands run.now actor.old }
     ensures ended { HasEnded run.now actor.old actor.new 0 (Stopped limit.Memory) result }
     ensures body { actor.new.body ≡ actor.old.body }
@@ -51,7 +51,7 @@ pub fn out_of_memory(actor: &mut Actor, run: &Run<'_>) -> bool
 }
 
 /// The next instruction is a call, and the goroutine has as many frames as it may have.
-pub fn too_deep(actor: &mut Actor, run: &Run<'_>, next: &Next<'_>) -> bool
+pub fn too_deep(actor: &mut Actor, run: &Run<'_, '_>, next: &Next<'_>) -> bool
     requires before { IsBefore run.now actor.old next.now }
     requires calls { (to : Option ℕ) × (n : ℕ) × (from : List ℕ) × (operation_of next.now.op ≡ Call to n from) }
     requires deep { length (frames_in actor.old.body) ≡ deepest }
@@ -62,7 +62,7 @@ pub fn too_deep(actor: &mut Actor, run: &Run<'_>, next: &Next<'_>) -> bool
 }
 
 /// The next instruction starts a goroutine, and a number was refused.
-pub fn too_many(actor: &mut Actor, run: &Run<'_>, next: &Next<'_>) -> bool
+pub fn too_many(actor: &mut Actor, run: &Run<'_, '_>, next: &Next<'_>) -> bool
     requires before { IsBefore run.now actor.old next.now }
     requires starts { (n : ℕ) × (from : List ℕ) × (operation_of next.now.op ≡ Go n from) }
     requires refused { actor.old.body.refused ≡ true }
@@ -73,7 +73,7 @@ pub fn too_many(actor: &mut Actor, run: &Run<'_>, next: &Next<'_>) -> bool
 }
 
 /// The next instruction traps.
-pub fn trap(actor: &mut Actor, run: &Run<'_>, next: &Next<'_>, trap: Trap) -> bool
+pub fn trap(actor: &mut Actor, run: &Run<'_, '_>, next: &Next<'_>, trap: Trap) -> bool
     requires stands { Stands run.now actor.old }
     requires next { IsNextOf run.now.program.code (frames_in actor.old.body) next.now }
     requires traps { Traps run.now.setup (now run.now.setup actor.old) trap }
@@ -94,7 +94,7 @@ pub fn trap(actor: &mut Actor, run: &Run<'_>, next: &Next<'_>, trap: Trap) -> bo
 }
 
 /// `main` returns.
-pub fn exit(actor: &mut Actor, run: &Run<'_>, next: &Next<'_>, value: Option<u32>) -> bool
+pub fn exit(actor: &mut Actor, run: &Run<'_, '_>, next: &Next<'_>, value: Option<u32>) -> bool
     requires before { IsBefore run.now actor.old next.now }
     requires returns { operation_of next.now.op ≡ Return value }
     requires main { number_of actor.old.seat.me ≡ 0 }

@@ -1,6 +1,6 @@
 //! New objects: structs, slices and channels. An object goes behind what is filled of the goroutine's own page in the region, or on a
 //! page that is claimed for it. Its words are stored one by one; with the last one it exists, and the instruction is done.
-ghost use Rattle.std.specs.Prelude.{◌≡◌, ◌+◌, ◌*◌, ◌^◌, ◌<◌, ◌≤◌, ◌∷◌, [], ℕ, List, MatchOption, Some, slice_get};
+ghost use Rattle.std.specs.Prelude.{◌≡◌, ◌+◌, ◌*◌, ◌^◌, ◌<◌, ◌≤◌, ◌∷◌, [], ℕ, List, MatchOption, Some, false, slice_get, true};
 ghost use Rattle.rgo_core_rule.specs.Views.{number_of};
 ghost use Rattle.rgo_core_rule.specs.declared.accesses.Access.{Access};
 ghost use Rattle.rgo_core_facts.specs.MemoryObjects.{channel_words as channel_words_of, with_new_object};
@@ -11,6 +11,7 @@ ghost use Rattle.rgo_core.specs.Records.{accesses};
 ghost use Rattle.rgo_core_steps.specs.Grown.{Grew};
 ghost use Rattle.rgo_core_steps.specs.Layouts.{HasLayout};
 ghost use Rattle.rgo_core_steps.specs.Seats.{HasOne, HasPossible, Settles, mine, settled};
+ghost use Rattle.rgo_body.specs.declared.bodies.Side.TheVariants.{AtRest};
 ghost use Rattle.rgo_holding.specs.Holds.{region_at};
 ghost use Rattle.rgo_holding.specs.Known.{own_page, slot_of};
 ghost use Rattle.rgo_region_machine.specs.declared.regions.Region.{Region};
@@ -18,11 +19,12 @@ ghost use Rattle.rgo_tac.specs.Code.{Do};
 ghost use Rattle.rgo_tac.specs.Ops.{operation_of};
 ghost use Rattle.rgo_typed.specs.declared.actions.Action.TheVariants as action;
 ghost use Rattle.rgo_acts.specs.Actors.{Acted, now};
+ghost use Rattle.rgo_acts.specs.Locals.{IsBeyond};
 ghost use Rattle.rgo_acts.specs.ObjectExamples.{ObjectExamples};
 ghost use Rattle.rgo_acts.specs.Objects as spec;
 ghost use Rattle.rgo_acts.specs.Ready.{IsBefore};
 
-use crate::actors::Actor;
+use crate::actors::{Actor, after, within};
 use crate::runs::Run;
 use rgo_body::Next;
 use rgo_core::table::{RunSeat, RunTable};
@@ -116,13 +118,15 @@ fn store_words(
 }
 
 /// Makes the next object on this page.
-fn make_on(actor: &mut Actor, run: &Run<'_>, next: &Next<'_>, new: New, page: Page)
+fn make_on(actor: &mut Actor, run: &Run<'_, '_>, next: &Next<'_>, new: New, page: Page)
     requires before { IsBefore run.now actor.old next.now }
     requires does { (to : _) × (act : _) × (from : List ℕ) × (operation_of next.now.op ≡ Do to act from) }
     requires count { actor.old.body.counts.objects + 1 < 2 ^ 64 }
     requires placed { (region : Region) × (region_at actor.old.body.holding new.key ≡ Some region)
         × spec.IsPlaced run.now.setup (now run.now.setup actor.old) (slot_of run.now.setup.sizes.regions region) page new }
-    ensures { Acted run.now actor.old actor.new 1 [] [] }
+    ensures acted { Acted run.now actor.old actor.new 1 [] [] }
+    ensures beyond { IsBeyond actor.old actor.new }
+    ensures rests { actor.new.body.side ≡ AtRest }
 {
     store_words(
         run.table,
@@ -143,10 +147,9 @@ fn make_on(actor: &mut Actor, run: &Run<'_>, next: &Next<'_>, new: New, page: Pa
 /// Claims a page for the next object.
 fn claim_page<L: Ledger>(
     actor: &mut Actor,
-    run: &Run<'_>,
+    run: &Run<'_, '_>,
     next: &Next<'_>,
     new: New,
-    from: u32,
     steps: &mut Steps<L>,
 ) -> Option<Page>
     requires before { IsBefore run.now actor.old next.now }
@@ -154,13 +157,14 @@ fn claim_page<L: Ledger>(
     requires fits { new.words ≤ run.now.sizes.page_words }
     requires some { 0 < new.words }
     requires full { spec.HasNoRoomHere run.now actor.old new }
-    requires from { from < run.now.sizes.pages }
+    requires pages { 0 < run.now.sizes.pages }
     requires count { actor.old.body.counts.taken + 1 < 2 ^ 64 }
     ensures page { MatchOption result (spec.HasNoPage run.now actor.old actor.new)
         (spec.HasPage run.now actor.old actor.new next.now new) }
     ensures cost { steps.new ≤ steps.old + (2 * run.now.sizes.pages + 2) }
 {
     let slot = actor.body.page_slot(new.key);
+    let from = within(actor.searches.page, run.sizes.pages);
     let claimed = claim_from(
         run.table,
         &mut actor.seat,
@@ -173,6 +177,7 @@ fn claim_page<L: Ledger>(
     actor.behind = 0;
     match claimed {
         Ok(page) => {
+            actor.searches.page = after(page);
             actor.body.claimed(run.program, new.key, page);
             Some(Page { page, fill: 0 })
         }
@@ -180,39 +185,49 @@ fn claim_page<L: Ledger>(
     }
 }
 
+/// The own page, if it has room for the next object.
+fn own_page_for(actor: &Actor, run: &Run<'_, '_>, next: &Next<'_>, new: New) -> Option<Page>
+    requires before { IsBefore run.now actor.now next.now }
+    requires new { spec.IsNew run.now.setup (now run.now.setup actor.now) actor.now.body.holding new }
+    requires fits { new.words ≤ run.now.sizes.page_words }
+    requires some { 0 < new.words }
+    ensures { MatchOption result (spec.HasNoRoomHere run.now actor.now new)
+        (spec.HasPage run.now actor.now actor.now next.now new) }
+{
+    let own = actor.body.own_page(new.key);
+    with_room(own, new.words, run.sizes.page_words)
+}
+
 /// The page for the next object: the own page if it has room, or else one that is claimed.
 fn page_for<L: Ledger>(
     actor: &mut Actor,
-    run: &Run<'_>,
+    run: &Run<'_, '_>,
     next: &Next<'_>,
     new: New,
-    from: u32,
     steps: &mut Steps<L>,
 ) -> Option<Page>
     requires before { IsBefore run.now actor.old next.now }
     requires new { spec.IsNew run.now.setup (now run.now.setup actor.old) actor.old.body.holding new }
     requires fits { new.words ≤ run.now.sizes.page_words }
     requires some { 0 < new.words }
-    requires from { from < run.now.sizes.pages }
+    requires pages { 0 < run.now.sizes.pages }
     requires count { actor.old.body.counts.taken + 1 < 2 ^ 64 }
     ensures page { MatchOption result (spec.HasNoPage run.now actor.old actor.new)
         (spec.HasPage run.now actor.old actor.new next.now new) }
     ensures cost { steps.new ≤ steps.old + (2 * run.now.sizes.pages + 2) }
 {
-    let own = actor.body.own_page(new.key);
-    match with_room(own, new.words, run.sizes.page_words) {
+    match own_page_for(actor, run, next, new) {
         Some(page) => Some(page),
-        None => claim_page(actor, run, next, new, from, steps),
+        None => claim_page(actor, run, next, new, steps),
     }
 }
 
 /// Makes the next object, which fits a page.
 fn make<L: Ledger>(
     actor: &mut Actor,
-    run: &Run<'_>,
+    run: &Run<'_, '_>,
     next: &Next<'_>,
     new: New,
-    from: u32,
     steps: &mut Steps<L>,
 ) -> Made
     requires before { IsBefore run.now actor.old next.now }
@@ -220,12 +235,12 @@ fn make<L: Ledger>(
     requires new { spec.IsNew run.now.setup (now run.now.setup actor.old) actor.old.body.holding new }
     requires fits { new.words ≤ run.now.sizes.page_words }
     requires some { 0 < new.words }
-    requires from { from < run.now.sizes.pages }
+    requires pages { 0 < run.now.sizes.pages }
     requires count { (actor.old.body.counts.taken + 1 < 2 ^ 64) × (actor.old.body.counts.objects + 1 < 2 ^ 64) }
     ensures made { spec.Makes run.now actor.old actor.new result }
     ensures cost { steps.new ≤ steps.old + (2 * run.now.sizes.pages + 2) }
 {
-    match page_for(actor, run, next, new, from, steps) {
+    match page_for(actor, run, next, new, steps) {
         Some(page) => {
             make_on(actor, run, next, new, page);
             Made::Done
@@ -234,43 +249,62 @@ fn make<L: Ledger>(
     }
 }
 
-/// Makes the next object, of this many words, for variable `to`. The word at `place` first holds `value`, and all others hold 0.
-fn object<L: Ledger>(
-    actor: &mut Actor,
-    run: &Run<'_>,
+/// The next object, of this many words, for variable `to`, unless it is larger than a page. The word at `place` first holds `value`,
+/// and all others hold 0.
+fn object_of(
+    actor: &Actor,
+    run: &Run<'_, '_>,
     next: &Next<'_>,
     to: u32,
     words: usize,
     place: usize,
     value: u64,
-    from: u32,
+) -> Option<New>
+    requires before { IsBefore run.now actor.now next.now }
+    requires wants { spec.Wants run.now.setup (number_of actor.now.seat.me) (now run.now.setup actor.now) next.now.function to words place value }
+    ensures { MatchOption result (run.now.setup.sizes.page_words < words) (spec.FitsPage run.now actor.now) }
+{
+    if words > run.sizes.page_words {
+        return None;
+    }
+    let Some(key) = actor.body.region_of(next, to) else {
+        unreachable!();
+    };
+    Some(New {
+        key,
+        words,
+        place,
+        value,
+    })
+}
+
+/// Makes the next object, of this many words, for variable `to`. The word at `place` first holds `value`, and all others hold 0.
+fn object<L: Ledger>(
+    actor: &mut Actor,
+    run: &Run<'_, '_>,
+    next: &Next<'_>,
+    to: u32,
+    words: usize,
+    place: usize,
+    value: u64,
     steps: &mut Steps<L>,
 ) -> Made
     requires before { IsBefore run.now actor.old next.now }
     requires does { (to : _) × (act : _) × (from : List ℕ) × (operation_of next.now.op ≡ Do to act from) }
     requires wants { spec.Wants run.now.setup (number_of actor.old.seat.me) (now run.now.setup actor.old) next.now.function to words place value }
-    requires from { from < run.now.sizes.pages }
+    requires pages { 0 < run.now.sizes.pages }
     requires count { (actor.old.body.counts.taken + 1 < 2 ^ 64) × (actor.old.body.counts.objects + 1 < 2 ^ 64) }
     ensures made { spec.Makes run.now actor.old actor.new result }
     ensures cost { steps.new ≤ steps.old + (2 * run.now.sizes.pages + 2) }
 {
-    if words > run.sizes.page_words {
-        return Made::TooLarge;
+    match object_of(actor, run, next, to, words, place, value) {
+        Some(new) => make(actor, run, next, new, steps),
+        None => Made::TooLarge,
     }
-    let Some(key) = actor.body.region_of(next, to) else {
-        unreachable!();
-    };
-    let new = New {
-        key,
-        words,
-        place,
-        value,
-    };
-    make(actor, run, next, new, from, steps)
 }
 
 /// How many words a struct of this number has: one for each field, and at least one.
-fn struct_words(run: &Run<'_>, number: usize) -> usize
+fn struct_words(run: &Run<'_, '_>, number: usize) -> usize
     ensures { result ≡ struct_words_of (slice_get run.now.setup.code.structs number) }
 {
     match run.program.code().tac().structs().get(number) {
@@ -279,40 +313,70 @@ fn struct_words(run: &Run<'_>, number: usize) -> usize
     }
 }
 
-/// Makes a struct of this number, to which variable `to` points. If it needs a page, the search for a free one begins at page `from`.
+/// Makes a struct of this number, to which variable `to` points.
 pub fn new_struct<L: Ledger>(
     actor: &mut Actor,
-    run: &Run<'_>,
+    run: &Run<'_, '_>,
     next: &Next<'_>,
     to: u32,
     number: usize,
-    from: u32,
     steps: &mut Steps<L>,
 ) -> Made
     requires before { IsBefore run.now actor.old next.now }
     requires is { operation_of next.now.op ≡ Do (Some to) (action.New number) [] }
-    requires from { from < run.now.sizes.pages }
+    requires pages { 0 < run.now.sizes.pages }
     requires count { (actor.old.body.counts.taken + 1 < 2 ^ 64) × (actor.old.body.counts.objects + 1 < 2 ^ 64) }
     ensures made { spec.Makes run.now actor.old actor.new result }
     ensures cost { steps.new ≤ steps.old + (2 * run.now.sizes.pages + 2) }
 {
     let words = struct_words(run, number);
-    object(actor, run, next, to, words, 0, 0, from, steps)
+    object(actor, run, next, to, words, 0, 0, steps)
+}
+
+/// The next instruction makes a struct of this number, to which variable `to` points. Makes it if the own page has room, and returns
+/// whether it has.
+pub(crate) fn new_at_hand(
+    actor: &mut Actor,
+    run: &Run<'_, '_>,
+    next: &Next<'_>,
+    to: u32,
+    number: usize,
+) -> bool
+    requires before { IsBefore run.now actor.old next.now }
+    requires is { (from : List ℕ) × (operation_of next.now.op ≡ Do (Some to) (action.New number) from) }
+    ensures acted { result ≡ true → Acted run.now actor.old actor.new 1 [] [] }
+    ensures beyond { result ≡ true → IsBeyond actor.old actor.new }
+    ensures rests { actor.new.body.side ≡ AtRest }
+    ensures same { result ≡ false → actor.new ≡ actor.old }
+{
+    if actor.body.counts().objects == u64::MAX {
+        return false;
+    }
+    let words = struct_words(run, number);
+    let Some(new) = object_of(actor, run, next, to, words, 0, 0) else {
+        return false;
+    };
+    match own_page_for(actor, run, next, new) {
+        Some(page) => {
+            make_on(actor, run, next, new, page);
+            true
+        }
+        None => false,
+    }
 }
 
 /// Makes a slice for variable `to`, with as many elements as variable `size` says. Its first word is its length.
 pub fn new_slice<L: Ledger>(
     actor: &mut Actor,
-    run: &Run<'_>,
+    run: &Run<'_, '_>,
     next: &Next<'_>,
     to: u32,
     size: u32,
-    from: u32,
     steps: &mut Steps<L>,
 ) -> Made
     requires before { IsBefore run.now actor.old next.now }
     requires is { operation_of next.now.op ≡ Do (Some to) action.Slice (size ∷ []) }
-    requires from { from < run.now.sizes.pages }
+    requires pages { 0 < run.now.sizes.pages }
     requires count { (actor.old.body.counts.taken + 1 < 2 ^ 64) × (actor.old.body.counts.objects + 1 < 2 ^ 64) }
     ensures made { spec.Makes run.now actor.old actor.new result }
     ensures cost { steps.new ≤ steps.old + (2 * run.now.sizes.pages + 2) }
@@ -329,7 +393,6 @@ pub fn new_slice<L: Ledger>(
         elements as usize + 1,
         0,
         elements,
-        from,
         steps,
     )
 }
@@ -345,16 +408,15 @@ fn channel_words(capacity: u64) -> usize
 /// Makes a channel for variable `to`, with a buffer of as many values as variable `size` says.
 pub fn new_channel<L: Ledger>(
     actor: &mut Actor,
-    run: &Run<'_>,
+    run: &Run<'_, '_>,
     next: &Next<'_>,
     to: u32,
     size: u32,
-    from: u32,
     steps: &mut Steps<L>,
 ) -> Made
     requires before { IsBefore run.now actor.old next.now }
     requires is { operation_of next.now.op ≡ Do (Some to) action.Chan (size ∷ []) }
-    requires from { from < run.now.sizes.pages }
+    requires pages { 0 < run.now.sizes.pages }
     requires small { run.now.setup.sizes.page_words ≤ 1073741820 }
     requires count { (actor.old.body.counts.taken + 1 < 2 ^ 64) × (actor.old.body.counts.objects + 1 < 2 ^ 64) }
     ensures made { spec.Makes run.now actor.old actor.new result }
@@ -372,7 +434,6 @@ pub fn new_channel<L: Ledger>(
         channel_words(capacity),
         1,
         capacity,
-        from,
         steps,
     )
 }

@@ -53,7 +53,7 @@ fn type_at(types: &[Type], n: u32) -> Option<&Type>
 }
 
 /// The value of a variable that the next instruction reads.
-fn operand(actor: &Actor, run: &Run<'_>, next: &Next<'_>, variable: u32) -> Value
+fn operand(actor: &Actor, run: &Run<'_, '_>, next: &Next<'_>, variable: u32) -> Value
     requires before { IsBefore run.now actor.now next.now }
     requires reads { Contains (reads (operation_of next.now.op)) variable }
     ensures { result ≡ value_in next.now.function (frames_in actor.now.body) variable }
@@ -68,7 +68,7 @@ fn operand(actor: &Actor, run: &Run<'_>, next: &Next<'_>, variable: u32) -> Valu
 fn operands(
     alloc: Global,
     actor: &Actor,
-    run: &Run<'_>,
+    run: &Run<'_, '_>,
     next: &Next<'_>,
     from: &[u32],
 ) -> Result<Vec<Value>, AllocError>
@@ -87,7 +87,7 @@ fn operands(
 fn line(
     alloc: Global,
     actor: &Actor,
-    run: &Run<'_>,
+    run: &Run<'_, '_>,
     next: &Next<'_>,
     pieces: &[Piece],
     from: &[u32],
@@ -110,7 +110,7 @@ fn line(
 pub fn print_line(
     alloc: Global,
     actor: &mut Actor,
-    run: &Run<'_>,
+    run: &Run<'_, '_>,
     next: &Next<'_>,
     pieces: &[Piece],
     from: &[u32],

@@ -6,7 +6,7 @@ ghost use Rattle.rgo_acts.specs.Actors.{Acted};
 ghost use Rattle.rgo_acts.specs.Ready.{IsBefore};
 ghost use Rattle.rgo_acts.specs.Starts.{Starts};
 
-use crate::actors::Actor;
+use crate::actors::{Actor, Searches};
 use crate::runs::Run;
 use rgo_body::{Body, Next};
 use rgo_core_steps::{numbers, seats};
@@ -28,7 +28,7 @@ pub enum Outcome {
 pub fn start(
     alloc: Global,
     actor: &mut Actor,
-    run: &Run<'_>,
+    run: &Run<'_, '_>,
     next: &Next<'_>,
     function: u32,
     from: &[u32],
@@ -48,11 +48,13 @@ pub fn start(
             actor.behind = 0;
             actor.body.started(run.program, next);
             let seat = seats::split(run.table, &mut actor.seat, number);
+            let searches = Searches::new(number, run);
             Ok(Outcome::Started(
                 number,
                 Actor {
                     seat,
                     behind: 0,
+                    searches,
                     body,
                 },
             ))

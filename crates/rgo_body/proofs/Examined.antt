@@ -74,6 +74,12 @@ examples = record {
   none = λ w ws e. absurd (by_frames w ws e);
   past = λ w ws e. sym (ap (λ fs. current_of fs) e);
   some = λ n. by_instr (n (frame_at 0 0 (7 ∷ 0 ∷ 0 ∷ [])) [] refl);
+  decoded = record { in_fn = refl; at = refl; instr = first_instr; is_instr = refl; op = refl };
+  at_another = λ n. let e = n.at in omega (arith, e);
+  forgotten = by_instr;
+  beyond = refl;
+  no_function = refl;
+  no_table = λ t. by_instr (t (record { function = 0; next = 0 }));
   removes = refl;
   target = refl;
   does = (None, action.Store 0, 1 ∷ 2 ∷ [], refl);

@@ -14,4 +14,5 @@ pub mod Sharing
 pub mod Showing
 pub mod Starting
 pub mod Stepping
+pub mod Tables
 pub mod Transfers

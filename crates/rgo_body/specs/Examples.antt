@@ -1,5 +1,6 @@
 -- Where the definitions hold and where they do not.
-use Rattle.std.specs.Prelude.{◌≡◌, ◌∷◌, [], List, None, Some, pos, true, false}
+use denote.Ref.{Bor}
+use Rattle.std.specs.Prelude.{◌≡◌, ◌∷◌, [], List, None, Some, pos, refl, true, false}
 use Rattle.rgo_compact.specs.Examples.{adding, small}
 use Rattle.rgo_compact.specs.Runs.{frame_at}
 use Rattle.rgo_core.specs.Records.{Record, begins_with, looked}
@@ -20,12 +21,16 @@ use Rattle.rgo_tac.specs.declared.regions.Class.TheVariants.{NoClass}
 use Rattle.rgo_typed.specs.declared.actions.Action.TheVariants as action
 use Rattle.rgo_body.specs.Bodies.{CanCount}
 use Rattle.rgo_body.specs.Duties.{has_share, is_kept, without_region}
-use Rattle.rgo_body.specs.Nexts.{FollowsOn, HasNoNext, IsDo, IsNextOf, IsReturn, removes_at, target_of}
+use Rattle.rgo_body.specs.Nexts.{AreNexts, FollowsOn, HasNoNext, IsDecoded, IsDo, IsNextOf, IsReturn, removes_at, target_of}
 use Rattle.rgo_body.specs.Queues.{duties_of}
 use Rattle.rgo_body.specs.Shows.{IsCalm, LooksLike, SideShows}
 use Rattle.rgo_body.specs.declared.bodies.Side.TheVariants as side
 use Rattle.rgo_body.specs.declared.nexts.Next.{Next}
 use Rattle.rgo_body.specs.declared.queues.Duty.TheVariants as duty
+
+-- a reference to an empty list
+abbrev empty : {X : Type 0} → Bor (List X)
+empty = record { ref_ptr = (0, 0); now = [] }
 
 -- `v1 := 5` is the first instruction of the function
 abbrev pub first_next : Next
@@ -33,6 +38,16 @@ first_next = record {
   function = main_of (int_slot ∷ int_slot ∷ int_slot ∷ []) adding;
   at = 0;
   op = op.Do (Some 1) (action.Int (pos 5)) Zero;
+  creates = empty;
+  passes = empty;
+  protects = empty;
+  removes = empty;
+  otherwise = empty;
+  creates_are = refl;
+  passes_are = refl;
+  protects_are = refl;
+  removes_are = refl;
+  otherwise_are = refl;
 }
 
 abbrev pub at_start : List WordFrame
@@ -80,6 +95,13 @@ pub record BodyExamples : Type 0 where
   pub none : HasNoNext small []
   pub past : HasNoNext small (frame_at 0 3 (7 ∷ 5 ∷ 0 ∷ []) ∷ [])
   pub some : HasNoNext small at_start → ⊥
+  -- a table of instructions
+  pub decoded : IsDecoded small (record { function = 0; next = 0 }) (Some first_next)
+  pub at_another : IsDecoded small (record { function = 0; next = 1 }) (Some first_next) → ⊥
+  pub forgotten : IsDecoded small (record { function = 0; next = 0 }) None → ⊥
+  pub beyond : IsDecoded small (record { function = 0; next = 3 }) None
+  pub no_function : IsDecoded small (record { function = 1; next = 0 }) None
+  pub no_table : AreNexts small [] → ⊥
   pub removes : removes_at first_next ≡ []
   pub target : target_of (tac.Do (Some 1) (action.Int (pos 5)) []) ≡ Some 1
   pub does : IsDo (tac.Do None (action.Store 0) (1 ∷ 2 ∷ []))

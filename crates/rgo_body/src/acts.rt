@@ -1,6 +1,6 @@
 //! Instructions that are done by accesses: what the body is after the last one.
 
-ghost use Rattle.std.specs.Prelude.{◌≡◌, ◌^◌, ◌+◌, ◌*◌, ◌<◌, ◌≤◌, ℕ, Some, suc, true, OnOk};
+ghost use Rattle.std.specs.Prelude.{◌≡◌, ◌^◌, ◌+◌, ◌*◌, ◌<◌, ◌≤◌, ℕ, Some, false, suc, true, OnOk};
 ghost use Rattle.rgo_core.specs.Core.{Setup};
 ghost use Rattle.rgo_core.specs.Records.{Record};
 ghost use Rattle.rgo_core_memory.specs.Records.{Fill};
@@ -75,9 +75,11 @@ impl Body {
         requires does { IsDo (operation_of next.now.op) }
         requires room { HasRoomBehind self.old next.now }
         requires count { (self.old.counts.steps + 1 < 2 ^ 64) × (self.old.counts.objects + 1 < 2 ^ 64) }
-        ensures { (T : Setup) (c : Record) (f : Fill) (object : Object) (region : Region) → Shows T program.now self.old c
+        ensures shows { (T : Setup) (c : Record) (f : Fill) (object : Object) (region : Region) → Shows T program.now self.old c
             → region_at self.old.holding key ≡ Some region → f.slot ≡ slot_of T.sizes.regions region → f.fill + words_in object ≡ end → suc (f.page * T.sizes.page_words + f.fill) ≡ word
             → Shows T program.now self.new (making T c f object) }
+        ensures side { self.new.side ≡ self.old.side }
+        ensures not_yet { self.new.is_expanded ≡ false }
     {
         self.go_on(program, next, word);
         self.holding.fill(key, end);

@@ -12,7 +12,7 @@ ghost use Rattle.rgo_holding.specs.Holds.{region_at};
 ghost use Rattle.rgo_region_machine.specs.declared.regions.Region.TheVariants.{Numbered};
 
 use crate::counts::Counts;
-use crate::nexts::{Next, next_at};
+use crate::nexts::Next;
 use crate::programs::Program;
 use crate::queues::{Duty, Queue};
 use rgo_holding::{Holding, Key};
@@ -48,12 +48,13 @@ pub struct Body {
 
 impl Body {
     /// What its next step is, where it owes no duty; `None` where it has returned from its first function.
-    pub fn next<'p>(&self, program: &'p Program<'_>) -> Option<Next<'p>>
+    #[inline(always)]
+    pub fn next<'p, 'c>(&self, program: &'p Program<'c>) -> Option<&'p Next<'c>>
         ensures { MatchOption result (HasNoNext program.now.code (spec.frames_in self.now))
-            (IsNextOf program.now.code (spec.frames_in self.now)) }
+            (λ n. IsNextOf program.now.code (spec.frames_in self.now) n.now) }
     {
         match self.stack.newest() {
-            Some(place) => next_at(program, place),
+            Some(place) => program.next_at(place),
             None => None,
         }
     }

@@ -1,6 +1,6 @@
 //! Local steps of control: jumps and branches after which names are removed, and calls and returns that pass or protect regions.
 
-ghost use Rattle.std.specs.Prelude.{◌≡◌, ◌^◌, ◌+◌, ◌<◌, ◌≤◌, ◌++◌, ℕ, Err, List, MatchOption, None, OnErr, OnOk, Option, drop, length, map};
+ghost use Rattle.std.specs.Prelude.{◌≡◌, ◌^◌, ◌+◌, ◌<◌, ◌≤◌, ◌++◌, ℕ, Err, List, MatchOption, None, OnErr, OnOk, Option, drop, false, length, map};
 ghost use Rattle.rgo_machine.specs.Limits.{deepest};
 ghost use Rattle.rgo_core_memory.specs.Records.{Fill};
 ghost use Rattle.rgo_holding.specs.Holds.{Holds};
@@ -17,7 +17,7 @@ ghost use Rattle.rgo_body.specs.Steps.{ExitsSo, GoesTo, HasBaseRoom, HasRoomBack
 ghost use Rattle.rgo_body.specs.declared.bodies.Side.TheVariants.{AtRest};
 
 use crate::bodies::Body;
-use crate::nexts::{Next, next_at};
+use crate::nexts::Next;
 use crate::programs::Program;
 use crate::queues::{Duty, Kind, Queue};
 use rgo_holding::Holding;
@@ -57,6 +57,8 @@ impl Body {
         requires count { self.old.counts.steps + 1 < 2 ^ 64 }
         ensures went { OnOk result (GoesTo program.now self.old self.new target removes.now) }
         ensures refused { OnErr result (IsRoomier self.old self.new) }
+        ensures side { self.new.side ≡ self.old.side }
+        ensures not_yet { OnOk result (self.new.is_expanded ≡ false) }
     {
         self.queue.reserve(removes.len())?;
         self.stack.jump(program.compact(), target as usize);
@@ -84,6 +86,8 @@ impl Body {
         requires count { self.old.counts.steps + 1 < 2 ^ 64 }
         ensures done { OnOk result (TakesLocal program.now 1 self.old self.new) }
         ensures stays { OnErr result (Stays program.now self.old self.new) }
+        ensures side { self.new.side ≡ self.old.side }
+        ensures not_yet { OnOk result (self.new.is_expanded ≡ false) }
     {
         program.fits();
         self.go_to(program, target, next.removes())
@@ -109,10 +113,12 @@ impl Body {
         requires count { self.old.counts.steps + 1 < 2 ^ 64 }
         ensures done { OnOk result (TakesLocal program.now 1 self.old self.new) }
         ensures stays { OnErr result (Stays program.now self.old self.new) }
+        ensures side { self.new.side ≡ self.old.side }
+        ensures not_yet { OnOk result (self.new.is_expanded ≡ false) }
     {
         program.fits();
         if self.stack.word(test) == 0 {
-            self.go_to(program, other, next.function.otherwise(next.at))
+            self.go_to(program, other, next.otherwise())
         } else {
             self.go_to(program, target, next.removes())
         }
@@ -139,13 +145,15 @@ impl Body {
         ensures done { OnOk result (TakesLocal program.now 1 self.old self.new) }
         ensures deep { result ≡ Err TooDeep → length (frames_in self.old) ≡ deepest }
         ensures stays { OnErr result (Stays program.now self.old self.new) }
+        ensures side { self.new.side ≡ self.old.side }
+        ensures not_yet { OnOk result (self.new.is_expanded ≡ false) }
     {
         program.fits();
         program.code().ascends();
         let callee = function as usize;
         let entry = program.entry(callee);
         let formals = program.formals(callee);
-        let passes = next.function.passes(next.at);
+        let passes = next.passes();
         match self.queue.reserve(entry.len()) {
             Ok(()) => {}
             Err(_) => return Err(NoCall::NoMemory),
@@ -158,7 +166,7 @@ impl Body {
             Ok(()) => {}
             Err(e) => return Err(e),
         }
-        let protects = next.function.protects(next.at);
+        let protects = next.protects();
         self.holding
             .enter(formals, passes, protects, program.result_class(callee));
         self.queue.put_all(Kind::Remove, entry);
@@ -168,13 +176,13 @@ impl Body {
     }
 
     /// The call at which the caller of its newest frame is; `None` where it has one frame.
-    fn call_below<'p>(&self, program: &'p Program<'_>) -> Option<Next<'p>>
+    fn call_below<'p, 'c>(&self, program: &'p Program<'c>) -> Option<&'p Next<'c>>
         requires possible { IsPossible program.now self.now }
         ensures { MatchOption result (caller_place (frames_in self.now) ≡ None)
-            (IsNextOf program.now.code (drop 1 (frames_in self.now))) }
+            (λ n. IsNextOf program.now.code (drop 1 (frames_in self.now)) n.now) }
     {
         let place = self.stack.caller()?;
-        match next_at(program, place) {
+        match program.next_at(place) {
             Some(next) => Some(next),
             None => unreachable!(),
         }
@@ -191,10 +199,9 @@ impl Body {
         ensures same { IsRoomier self.old self.new }
     {
         match self.call_below(program) {
-            Some(call) => self.queue.reserve_both(
-                call.function.protects(call.at).len(),
-                call.removes().len(),
-            ),
+            Some(call) => self
+                .queue
+                .reserve_both(call.protects().len(), call.removes().len()),
             None => self.queue.reserve(self.holding.base_len()),
         }
     }
@@ -209,9 +216,11 @@ impl Body {
         requires count { self.old.counts.steps + 1 < 2 ^ 64 }
         ensures local { TakesReturn program.now self.old self.new }
         ensures exit { ExitsSo program.now self.old self.new }
+        ensures side { self.new.side ≡ self.old.side }
+        ensures not_yet { self.new.is_expanded ≡ false }
     {
         match self.call_below(program) {
-            Some(call) => self.come_back_to(program, next, &call, value),
+            Some(call) => self.come_back_to(program, next, call, value),
             None => self.come_to_end(program, next, value),
         }
     }
@@ -233,14 +242,15 @@ impl Body {
         requires call { IsNextOf program.now.code (drop 1 (frames_in self.old)) call.now }
         ensures local { TakesReturn program.now self.old self.new }
         ensures exit { ExitsSo program.now self.old self.new }
+        ensures side { self.new.side ≡ self.old.side }
+        ensures not_yet { self.new.is_expanded ≡ false }
     {
         program.fits();
         self.stack
             .come_back(program.compact(), value, call.result_target());
         self.holding.come_back();
         self.queue.put_all(Kind::Remove, call.removes());
-        self.queue
-            .put_all(Kind::Unprotect, call.function.protects(call.at));
+        self.queue.put_all(Kind::Unprotect, call.protects());
         self.is_expanded = false;
         self.counts.add_step();
     }
@@ -256,6 +266,8 @@ impl Body {
         requires last { caller_place (frames_in self.old) ≡ None }
         ensures local { TakesReturn program.now self.old self.new }
         ensures exit { ExitsSo program.now self.old self.new }
+        ensures side { self.new.side ≡ self.old.side }
+        ensures not_yet { self.new.is_expanded ≡ false }
     {
         program.fits();
         self.stack.come_back(program.compact(), value, None);

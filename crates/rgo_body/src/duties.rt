@@ -93,10 +93,10 @@ fn enqueue(queue: &mut Queue, next: &Next<'_>) -> Result<(), AllocError>
         → queue.new.duties ≡ map machine.Create instr.creates ++ (duties_of_op instr.op ++ queue.old.duties)) }
     ensures kept { OnErr result (queue.new.duties ≡ queue.old.duties) }
 {
-    let creates = next.function.creates(next.at);
+    let creates = next.creates();
     match next.op {
         Op::Call { .. } => {
-            let protects = next.function.protects(next.at);
+            let protects = next.protects();
             match queue.reserve_both(creates.len(), protects.len()) {
                 Ok(()) => {}
                 Err(e) => return Err(e),
@@ -106,7 +106,7 @@ fn enqueue(queue: &mut Queue, next: &Next<'_>) -> Result<(), AllocError>
             Ok(())
         }
         Op::Go { .. } => {
-            let passes = next.function.passes(next.at);
+            let passes = next.passes();
             match queue.reserve_both(creates.len(), passes.len()) {
                 Ok(()) => {}
                 Err(e) => return Err(e),

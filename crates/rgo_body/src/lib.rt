@@ -12,6 +12,7 @@ mod calls;
 mod channels;
 mod counts;
 mod duties;
+mod instructions;
 mod laws;
 mod nexts;
 mod objects;

@@ -1,8 +1,12 @@
-//! Instructions that touch neither memory nor regions.
+//! Instructions that need at most an access to a word.
 
 ghost use Rattle.std.specs.Prelude.{◌≡◌, ◌^◌, ◌+◌, ◌<◌, ◌≤◌, ◌∷◌, [], ℕ, List, Option, Some, OnErr, OnOk, false, length};
+ghost use Rattle.rgo_core.specs.Core as core;
 ghost use Rattle.rgo_core_frames.specs.Operators.{computed};
 ghost use Rattle.rgo_core_frames.specs.WordFrames.{WordFrame, words_of};
+ghost use Rattle.rgo_core_rule.specs.Views.{number_of};
+ghost use Rattle.rgo_core_steps.specs.Seats.{HasOne, Settles, settled};
+ghost use Rattle.rgo_loop.specs.Comes.{Comes};
 ghost use Rattle.rgo_stack.specs.Runs.{HasHalted};
 ghost use Rattle.rgo_stack.specs.Stacks.{newest_words, words_from};
 ghost use Rattle.rgo_tac.specs.Code as tac;
@@ -10,39 +14,59 @@ ghost use Rattle.rgo_tac.specs.Ops.{numbers_of, operation_of};
 ghost use Rattle.rgo_typed.specs.declared.actions.Action.{Action};
 ghost use Rattle.rgo_compact.specs.Bounds.{AreBelow};
 ghost use Rattle.rgo_body.specs.Bodies.{HasRoomBehind, IsReady, frames_in};
-ghost use Rattle.rgo_body.specs.Shows.{IsPossible};
+ghost use Rattle.rgo_body.specs.Shows.{IsPossible, Shows};
 ghost use Rattle.rgo_body.specs.Steps.{TakesLocal};
 ghost use Rattle.rgo_body.specs.declared.bodies.Side.TheVariants.{AtRest};
 
 use crate::bodies::Body;
 use crate::nexts::Next;
 use crate::programs::Program;
+use rgo_core::table::RunSeat;
 use rgo_core_frames::words::{binary, negated};
+use rgo_loop::Heap;
+use rgo_stack::Ran;
 use rgo_tac::Operands;
 use rgo_typed::Action;
 
 impl Body {
-    /// Executes simple instructions, at most `at_most`, and returns how many. It stops before that only where the goroutine has no
-    /// frame, or where the next instruction is not simple, traps, or is a call for which there is no room.
-    pub fn run(&mut self, program: &Program<'_>, at_most: usize) -> usize
-        requires possible { IsPossible program.now self.old }
+    /// Makes instructions that need at most an access to a word, at most `at_most`. It stops before that only where the goroutine has no
+    /// frame, or where the next instruction needs more, traps, or is a call for which there is no room.
+    pub fn run(
+        &mut self,
+        program: &Program<'_>,
+        heap: &Heap<'_>,
+        seat: &mut RunSeat,
+        behind: u64,
+        at_most: usize,
+    ) -> Ran
+        requires own { seat.old.table_id ≡ heap.now.table }
+        requires alone { HasOne heap.now.setup seat.old.me }
+        requires settles { Settles heap.now.setup behind seat.old.me }
+        requires possible { core.IsPossible heap.now.setup (number_of seat.old.me) (settled heap.now.setup behind seat.old.me) }
+        requires shows { Shows heap.now.setup program.now self.old (settled heap.now.setup behind seat.old.me) }
         requires empty { self.old.queue.duties ≡ [] }
         requires not_yet { self.old.is_expanded ≡ false }
         requires rests { self.old.side ≡ AtRest }
         requires count { self.old.counts.steps + at_most < 2 ^ 64 }
-        ensures runs { TakesLocal program.now result self.old self.new }
+        requires behind { behind + at_most < 18446744073709551616 }
+        ensures own { seat.new.table_id ≡ seat.old.table_id }
+        ensures comes { Comes heap.now.setup seat.old.me behind seat.new.me result.behind (frames_in self.new) result.done result.kept }
+        ensures shows { Shows heap.now.setup program.now self.new (settled heap.now.setup result.behind seat.new.me) }
         ensures same { self.new ≡ record self.old {
           stack = self.new.stack;
           holding = self.new.holding;
-          counts = record self.old.counts { steps = self.old.counts.steps + result };
+          counts = record self.old.counts { steps = self.old.counts.steps + result.done };
         } }
-        ensures within { result ≤ at_most }
-        ensures halts { result < at_most → HasHalted program.now.code program.now.compact self.new.stack }
+        ensures within { result.done ≤ at_most }
+        ensures behind { result.behind ≤ behind + result.done }
+        ensures halts { result.done < at_most → HasHalted program.now.code program.now.compact self.new.stack }
     {
-        let ran = self.stack.run(program.compact(), at_most);
+        let ran = self
+            .stack
+            .run(heap, seat, behind, program.compact(), at_most);
         self.holding.settle(ran.kept, self.stack.depth());
         self.counts.add_steps(ran.done as u64);
-        ran.done
+        ran
     }
 
     /// What an action gives that touches nothing but words; `None` where it traps, or touches anything else.

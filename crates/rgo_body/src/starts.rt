@@ -115,11 +115,9 @@ impl Body {
         let callee = function as usize;
         let arguments = self.stack.words(alloc, from)?;
         let stack = Stack::new(alloc, program.compact(), callee, arguments)?;
-        let holding = self.holding.child(
-            alloc,
-            program.formals(callee),
-            next.function.passes(next.at),
-        )?;
+        let holding = self
+            .holding
+            .child(alloc, program.formals(callee), next.passes())?;
         Body::with_frame(alloc, stack, holding, program.entry(callee), 0)
     }
 }

@@ -8,6 +8,7 @@ use Rattle.rgo_region_machine.specs.Counts.{Counts, counts_of}
 use Rattle.rgo_region_machine.specs.Machine.{Event, region_step}
 use Rattle.rgo_region_machine.specs.Objects.{owner_live}
 use Rattle.rgo_region_machine.specs.Regions.{is_live}
+use Rattle.rgo_region_machine.specs.Room.{has_room}
 use Rattle.rgo_region_machine.specs.States.{RegionState}
 use Rattle.rgo_region_machine.specs.declared.regions.Region.{Region}
 use Rattle.rgo_sound.proofs.Places.{length_set}
@@ -47,7 +48,7 @@ pub else_stays : (s t : RegionState) → StaysElse s t → MemoryStays s t
 else_stays s t e = record { memory = e.memory; owners = e.owners; printed = e.printed }
 
 module _ {T : Setup} {g : ℕ} {c : Record} (x : Here T g c) (rests : c.side ≡ at_rest) (event : Event) (alone : ActsAlone event g)
-    (t : RegionState) (step : region_step T.code T.sizes.page_words x.s event ≡ Some t) (same : MemoryStays x.s t)
+    (t : RegionState) (step : region_step T.code T.sizes.page_words x.s event ≡ Some t) (room : has_room T.sizes x.s event ≡ true) (same : MemoryStays x.s t)
     (k : ClockRec) (fr : FrameRec) (m : MemoryRec) (slot : ℕ → ℕ) (uses : ℕ → Use) (at : ℕ → Place) (page : ℕ → ℕ) (i v : ℕ)
     (low : i < base (layout T))
     (lives : (o : ℕ) (r : Region) → slice_get x.s.owners o ≡ Some r → is_live t.regions r ≡ true → is_live x.s.regions r ≡ true)
@@ -104,6 +105,7 @@ module _ {T : Setup} {g : ℕ} {c : Record} (x : Here T g c) (rests : c.side ≡
       event = event;
       next = t;
       steps = step;
+      room = room;
       gain = gain;
       adds = adds;
       counted = count;

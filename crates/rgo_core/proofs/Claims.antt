@@ -56,6 +56,7 @@ use Rattle.rgo_core_memory.proofs.Slots.{stake_open}
 use Rattle.rgo_core_memory.proofs.Steadies.{steady_of}
 use Rattle.rgo_core.specs.Links.{Links}
 use Rattle.rgo_core.proofs.Links.{Waits, all_kept, lengths_low, links_closing, links_with}
+use Rattle.rgo_core.proofs.Room.{page_there}
 use Rattle.rgo_core.proofs.Standing.{memory_at}
 use Rattle.rgo_core.proofs.Counting.{plus_zero}
 use Rattle.rgo_core.proofs.Duties.{test_of}
@@ -191,7 +192,7 @@ module _ {T : Setup} {g : ℕ} {c : Record} (x : Here T g c) (to : Option ℕ) (
         (claims c p sl) (all_kept refl refl refl) (Waits refl refl)
 
     claimed_steps : Steps x (slice_set x.words (state_at z p) (suc sl)) (claims c p sl)
-    claimed_steps = inl (attends x rests (TakePage g) refl t P.steps (stays_so x.s g h r) (claims c p sl).clock c.frame (with_page c.memory p sl)
+    claimed_steps = inl (attends x rests (TakePage g) refl t P.steps (page_there x p low none) (stays_so x.s g h r) (claims c p sl).clock c.frame (with_page c.memory p sl)
         (I x).places.slot (I x).places.uses (put (I x).places.at p (Claimed g)) (put (I x).places.page (taken_of (ground_of x.s)) p)
         (state_at z p) (suc sl) (omega (arith, low)) (λ o q e l. sym (live_so x.s g h r q) ∙ l)
         (frame_stays x t (I x).places.slot (I x).addresses P.fit) M links

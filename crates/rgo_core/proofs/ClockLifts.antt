@@ -45,7 +45,7 @@ ticket_law T g c bytes after short is finds words recs run core at fits =
           capped = x.core.capped;
           story = subst (λ (l : List ClockRec). Story T.code T.sizes T.limits (slice_set words 0 ((n + 1) % 18446744073709551616)) l (run ++ p.goes.event ∷ []) p.goes.next)
               (sym (map_set clock_of recs g d))
-              (story_prints T.code T.sizes T.limits words (map clock_of recs) run x.s x.core.story g c.clock d.clock (clock_at x) p.goes.event p.goes.next p.goes.steps
+              (story_prints T.code T.sizes T.limits words (map clock_of recs) run x.s x.core.story g c.clock d.clock (clock_at x) p.goes.event p.goes.next p.goes.steps p.goes.room
               (within_set x (slice_set words 0 ((n + 1) % 18446744073709551616)) d p.goes.next sound p.goes.image p.goes.shallow) p.goes.gain p.goes.adds p.goes.counted
               bytes x.core.capped (omega arith) short
               (ap (λ (y : ClockRec). y.prints) (is n)) (ap (λ (y : ClockRec). y.first) (is n)) (ap (λ (y : ClockRec). y.children) (is n))
@@ -78,7 +78,7 @@ end_law T g c mark after is finds words recs run core at fits =
           capped = x.core.capped;
           story = subst (λ (l : List ClockRec). Story T.code T.sizes T.limits (slice_set words 0 (bit_or n 9223372036854775808)) l (run ++ p.goes.event ∷ []) p.goes.next)
               (sym (map_set clock_of recs g d))
-              (story_ends T.code T.sizes T.limits words (map clock_of recs) run x.s x.core.story g c.clock d.clock (clock_at x) p.goes.event p.goes.next p.goes.steps
+              (story_ends T.code T.sizes T.limits words (map clock_of recs) run x.s x.core.story g c.clock d.clock (clock_at x) p.goes.event p.goes.next p.goes.steps p.goes.room
               (within_set x (slice_set words 0 (bit_or n 9223372036854775808)) d p.goes.next sound p.goes.image p.goes.shallow) p.goes.gain p.goes.adds p.goes.counted
               mark x.core.capped (omega arith) (is n) p.marked p.printed p.cause);
           image = p.goes.image;
@@ -181,7 +181,7 @@ module _ {T : Setup} {g : ℕ} {c : Record} (x : Here T g c) where
     started_core =
         let w = wide x in
         let q = story_starts T.code T.sizes T.limits x.words (map clock_of x.recs) x.events x.s x.core.story g c.clock d.clock (clock_at x) p.goes.event p.goes.next
-        p.goes.steps within p.goes.gain p.goes.adds p.goes.counted child.clock (omega arith) less
+        p.goes.steps p.goes.room within p.goes.gain p.goes.adds p.goes.counted child.clock (omega arith) less
         (ap (λ (y : ClockRec). y.prints) new) (ap (λ (y : ClockRec). y.first) new) (ap (λ (y : ClockRec). y.children) new)
         (ap (λ (y : ClockRec). y.refused) new) (ap counted new) (ap (λ (y : ClockRec). y.prints) is) (ap (λ (y : ClockRec). y.first) is)
         (ap (λ (y : ClockRec). y.children) is) (ap (λ (y : ClockRec). y.refused) is) p.mark p.printed in (

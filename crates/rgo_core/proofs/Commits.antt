@@ -159,6 +159,7 @@ module _ {T : Setup} {g : ℕ} {c : Record} (x : Here T g c) {to : Option ℕ} {
         event = Instruct (One g);
         next = t;
         steps = gains.steps;
+        room = refl;
         gain = record no_share { steps = 1; objects = 0 };
         adds = adds_of x.s t 1 0 refl refl refl (let l = long in omega (arith, l)) (length_set x.s.plain.goroutines g _);
         counted = instructed_counts c.clock;

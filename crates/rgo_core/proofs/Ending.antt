@@ -77,6 +77,7 @@ module _ {T : Setup} {g : ℕ} {c : Record} (x : Here T g c) (why : Limit) (stop
           event = Finish why;
           next = p.state;
           steps = p.steps;
+          room = refl;
           gain = no_share;
           adds = counts_step x.s p.state 0 p.regions_are p.same.global_pages p.same.memory (many_set x x.words d p.state sound image)
               (let n = p.counted in omega arith);

@@ -1,19 +1,23 @@
 -- The examples.
-use Rattle.std.proofs.Common.{◌≡◌, ℕ, zero, suc, ◌+◌, ◌<◌, ◌≤◌, ◌==◌, nat_le, true, false, List, [], ◌∷◌, ◌++◌, Option, Some, None, length, slice_get, slice_set, slice_index, sum_by, refl, ap, sym, subst, ◌∙◌, arith}
+use Rattle.std.proofs.Common.{◌≡◌, ℕ, zero, suc, ◌+◌, ◌<◌, ◌≤◌, ◌==◌, nat_le, nat_lt, true, false, List, [], ◌∷◌, ◌++◌, Option, Some, None, length, slice_get, slice_set, slice_index, sum_by, refl, ap, sym, subst, ◌∙◌, arith}
 use Rattle.std.proofs.lemmas.Bool.Decides.{nat_tests}
+use Rattle.std.proofs.lemmas.List.{append-nil}
 use Rattle.std.proofs.lemmas.Option.{same_Some}
 use Rattle.rgo_code.specs.Code.{Code}
 use Rattle.rgo_region_machine.specs.States.{Ended, Holder, Mark, RegionState}
 use Rattle.rgo_machine.specs.declared.picks.End.TheVariants.{Exit}
 use Rattle.rgo_core.specs.Clock.{Clock, has_ticket}
-use Rattle.rgo_core.specs.Examples.{CauseExamples, ClockExamples, CoreExamples, NumberExamples, both_have_set, ended_then_printed, having_printed, late_mark, parent_and_child, second_then_first}
+use Rattle.rgo_core.specs.Examples.{CauseExamples, ClockExamples, CoreExamples, NumberExamples, RoomExamples, both_have_set, ended_then_printed, having_printed, late_mark, parent_and_child, second_then_first}
 use Rattle.rgo_core.specs.Numbers.{Numbers, has_child}
 use Rattle.rgo_core.proofs.Lists.{cond_other, one_if, word_new}
-use Rattle.rgo_core.proofs.Opening.{at_least_one, made_word}
+use Rattle.rgo_core.proofs.Opening.{at_least_one, first_story, made_word}
 use Rattle.rgo_core.specs.Core.{layout}
 use Rattle.rgo_core.specs.Opening.{opening}
 use Rattle.rgo_machine.specs.Limits.{most_goroutines}
+use Rattle.rgo_region_machine.specs.Machine.{Event}
+use Rattle.rgo_region_machine.specs.Room.{has_room, pages_in_use, roomy_run}
 use Rattle.rgo_sound.proofs.Places.{length_set}
+use Rattle.rgo_sound.proofs.Room.{room_is_kept}
 use Rattle.rgo_core.specs.Records.{ClockRec, Drawn, blank, drawn_at, end_bit, fresh, with_child, with_end, with_print, with_refusal}
 
 -- what holds of both goroutines
@@ -217,3 +221,16 @@ core_examples = record {
     no_bit : (m : Option Mark) (n : ℕ) → n ≡ 0 → 1 ≡ n + end_bit m → ⊥
     no_bit None n z e = omega arith
     no_bit (Some m) n z e = omega arith
+
+pub room_examples : RoomExamples
+room_examples = record {
+  none_yet = first_story;
+  crowded = λ T words recs events k no.
+      no (room_is_kept.fits T.code T.sizes events [] k.0 k.0
+      (ap (roomy_run T.code T.sizes) (append-nil events) ∙ k.1.story.room) (room_is_kept.is_run T.code T.sizes events k.0 k.1.story.room));
+  none_left = λ T g c d x words recs p takes none.
+      full (pages_in_use x.s) T.sizes.pages (ap (λ (e : Event). has_room T.sizes x.s e) (sym takes) ∙ p.room) none;
+}
+  where
+    full : (n m : ℕ) → nat_lt n m ≡ true → m ≤ n → ⊥
+    full n m e l = let h : n < m = grind (arith, nat_tests) in omega (arith, h, l)

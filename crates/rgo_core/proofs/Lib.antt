@@ -38,6 +38,7 @@ pub mod Accesses
 pub mod Chains
 pub mod Claims
 pub mod Attending
+pub mod Room
 pub mod Stakes
 pub mod Regions
 pub mod Traces

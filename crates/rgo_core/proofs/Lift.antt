@@ -150,7 +150,7 @@ module _ {T : Setup} {g : ℕ} {c : Record} (x : Here T g c) where
       ints = ints_stay.step T.code T.sizes.page_words x.s p.goes.next p.goes.event x.core.constants x.core.ints p.goes.steps;
       capped = x.core.capped;
       story = subst (λ (l : List ClockRec). Story T.code T.sizes T.limits words l (x.events ++ p.goes.event ∷ []) p.goes.next) (sym (map_set clock_of x.recs g d))
-          (story_does T.code T.sizes T.limits x.words clocks x.events x.s x.core.story g c.clock d.clock clock_at p.goes.event p.goes.next p.goes.steps
+          (story_does T.code T.sizes T.limits x.words clocks x.events x.s x.core.story g c.clock d.clock clock_at p.goes.event p.goes.next p.goes.steps p.goes.room
           (within_set words d p.goes.next sound p.goes.image p.goes.shallow) p.goes.gain p.goes.adds p.goes.counted words p.same low made p.mark p.printed);
       image = p.goes.image;
       links = p.goes.links;

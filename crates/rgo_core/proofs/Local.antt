@@ -26,6 +26,7 @@ use Rattle.rgo_region_machine.specs.Duties.{may_go}
 use Rattle.rgo_region_machine.specs.Instructions.{marked}
 use Rattle.rgo_region_machine.specs.Machine.{Instruct, region_step}
 use Rattle.rgo_region_machine.specs.Owed.{current}
+use Rattle.rgo_region_machine.specs.Room.{has_room}
 use Rattle.rgo_region_machine.specs.States.{Duty, Ended, Holder, Mark, RegionState}
 use Rattle.rgo_sound.specs.Tally.{counts_plus, no_share}
 use Rattle.rgo_tac.specs.Frames.{Frame}
@@ -41,6 +42,7 @@ use Rattle.rgo_core.proofs.Duties.{duty_ground}
 use Rattle.rgo_core.proofs.Lift.{many_set, quiet_law}
 use Rattle.rgo_core.proofs.Printing.{counts_step}
 use Rattle.rgo_core.proofs.Standing.{frames_here, image_clock, side_at}
+use Rattle.rgo_core.proofs.Room.{no_creation}
 use Rattle.rgo_core.proofs.Staying.{image_stays}
 use Rattle.rgo_core.proofs.Links.{Advances, CountsOne, IsElsewhere, Keeps, all_kept, as_much, has_duty, links_low, links_same, one_later}
 
@@ -176,6 +178,11 @@ module _ {T : Setup} {g : ℕ} {c : Record} (x : Here T g c) (rest : c.side ≡ 
   local_advances [] owes = CountsOne (one_later (steps_of c))
   local_advances (d ∷ l) owes = IsElsewhere (as_much (steps_of c)) (has_duty T.code c d l owes)
 
+  -- it creates no region
+  has_room_by : (l : List Duty) → region_step T.code T.sizes.page_words x.s (event_by g l) ≡ Some p.state → has_room T.sizes x.s (event_by g l) ≡ true
+  has_room_by [] step = refl
+  has_room_by (d ∷ l) step = no_creation T.code T.sizes x.s p.state g step (ap length p.regions_are)
+
   local_adds : counts_of p.state ≡ counts_plus (counts_of x.s) (record no_share { steps = instructions ds })
   local_adds =
       let sound = next_sound T.code T.sizes.page_words x.s p.state (event_of g c.frame) x.core.sound p.steps in
@@ -188,6 +195,7 @@ module _ {T : Setup} {g : ℕ} {c : Record} (x : Here T g c) (rest : c.side ≡ 
       event = event_of g c.frame;
       next = p.state;
       steps = p.steps;
+      room = has_room_by ds p.steps;
       gain = record no_share { steps = instructions ds };
       adds = local_adds;
       counted = record_counts ds c.clock;
@@ -207,6 +215,7 @@ module _ {T : Setup} {g : ℕ} {c : Record} (x : Here T g c) (rest : c.side ≡ 
       event = event_of g c.frame;
       next = p.state;
       steps = p.steps;
+      room = has_room_by ds p.steps;
       gain = record no_share { steps = instructions ds };
       adds = local_adds;
       counted = ap (λ (l : List Duty). counted (clock_after l c.clock)) (sym none) ∙ record_counts ds c.clock;

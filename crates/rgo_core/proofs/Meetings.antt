@@ -97,6 +97,7 @@ module _ {T : Setup} {g : ℕ} {c : Record} (x : Here T g c) {to : Option ℕ} {
           event = MakeOffer g;
           next = t;
           steps = G.steps;
+          room = refl;
           gain = no_share;
           adds = adds_of x.s t 0 0 refl refl (omega arith) (omega arith) refl;
           counted = sym (plus_none (counted c.clock));
@@ -260,6 +261,7 @@ module _ {T : Setup} {g : ℕ} {c : Record} (x : Here T g c) {to : Option ℕ} {
           event = Instruct (Meet g L.0);
           next = t;
           steps = G.steps;
+          room = refl;
           gain = record no_share { steps = 1; objects = 0 };
           adds = adds_of x.s t 1 0 refl refl refl (omega arith)
               (length_set (slice_set x.s.plain.goroutines g _) L.0 _ ∙ length_set x.s.plain.goroutines g _);
@@ -312,6 +314,7 @@ module _ {T : Setup} {g : ℕ} {c : Record} (x : Here T g c) (at n : ℕ) (a : I
           event = Acknowledge g;
           next = t;
           steps = G.steps;
+          room = refl;
           gain = no_share;
           adds = adds_of x.s t 0 0 refl refl (omega arith) (omega arith) refl;
           counted = sym (plus_none (counted c.clock));

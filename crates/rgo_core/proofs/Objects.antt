@@ -135,6 +135,7 @@ module _ {T : Setup} {g : ℕ} {c : Record} (x : Here T g c) (to : Option ℕ) (
           event = Instruct (One g);
           next = H.state;
           steps = H.steps;
+          room = refl;
           gain = record no_share { steps = 1; objects = 1 };
           adds = adds_of x.s H.state 1 1 H.regions H.global_pages H.counted
               (ap (λ (y : Heap). length y.heap) H.memory_is ∙ length-append x.s.plain.memory.heap (object ∷ []))

@@ -186,9 +186,10 @@ first_links T g c e = subst (Link T.code (layout T) (opening T)) (sole (first_of
     nothing : (m : Measured) → None ≡ Some m → ⊥
     nothing m read = cc read
 
-first_story : (T : Setup) → Story T.code T.sizes T.limits (opening T) (fresh ∷ []) [] (region_start T.code)
+pub first_story : (T : Setup) → Story T.code T.sizes T.limits (opening T) (fresh ∷ []) [] (region_start T.code)
 first_story T = record {
   leads = refl;
+  room = refl;
   within = start_within T.code T.limits;
   before = [];
   late = [];

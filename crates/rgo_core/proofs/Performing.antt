@@ -92,6 +92,7 @@ module _ {T : Setup} {g : ℕ} {c : Record} (x : Here T g c) (rests : c.side ≡
       event = Instruct (One g);
       next = t;
       steps = H.steps;
+      room = refl;
       gain = record no_share { steps = 1; objects = 0 };
       adds = adds_of x.s t 1 0 H.regions H.global_pages H.counted
           (ap (λ (y : Heap). length y.heap) H.memory_is ∙ plus_zero (length mem.heap) (length x.s.plain.memory.heap) objects)

@@ -84,6 +84,7 @@ module _ {T : Setup} {g : ℕ} {c : Record} (x : Here T g c) (pieces : List Piec
           event = Instruct (One g);
           next = p.state;
           steps = p.steps;
+          room = refl;
           gain = record no_share { steps = 1 };
           adds = counts_step x.s p.state 1 p.regions p.global_pages p.memory_is (many_set x x.words d p.state sound image) p.counted;
           counted = instructed_counts c.clock;

@@ -8,10 +8,11 @@ use native.Mathlib.Decide.{ℕ_discrete}
 use Rattle.rgo_region_machine.specs.Counts.{Counts, counts_of}
 use Rattle.rgo_region_machine.specs.Machine.{Attend}
 use Rattle.rgo_region_machine.specs.Regions.{RegionInfo, has_stakes, is_live, one_fewer, one_more}
+use Rattle.rgo_region_machine.specs.Room.{has_room}
 use Rattle.rgo_region_machine.specs.States.{Create, Duty, Holder, RegionState}
 use Rattle.rgo_region_machine.specs.declared.regions.Region.{Region}
 use Rattle.rgo_region_machine.specs.declared.regions.Region.TheVariants.{Global as GlobalRegion, Numbered}
-use Rattle.rgo_sound.proofs.Attends.{staked_live}
+use Rattle.rgo_sound.proofs.Attends.{length_with_info, staked_live}
 use Rattle.rgo_sound.proofs.Places.{get_append_left}
 use Rattle.rgo_sound.proofs.Tally.{tally_adds}
 use Rattle.rgo_sound.proofs.Tests.{eq_of, nat_eq_refl, split}
@@ -44,6 +45,7 @@ use Rattle.rgo_core.proofs.Attending.{attends, else_stays}
 use Rattle.rgo_core.proofs.Chains.{as_before, look_image, remembered}
 use Rattle.rgo_core.proofs.Lift.{Reaches, access_law, few_records, moves_by, told_law}
 use Rattle.rgo_core.proofs.Parts.{I, memory_stays, shallow}
+use Rattle.rgo_core.proofs.Room.{no_creation, slot_there}
 use Rattle.rgo_core.proofs.Stakes.{EndsStake, SharesStake, ends_stake, share_is, share_kept, share_last, shares_stake}
 use Rattle.rgo_core_memory.specs.Owed.{claimed_for}
 use Rattle.rgo_core_memory.proofs.Owing.{still_claimed}
@@ -163,7 +165,7 @@ module _ {T : Setup} {g : ℕ} {c : Record} (x : Here T g c) (k p : ℕ) (ds : L
     P' = record (I x).places { slot = slot'; uses = put (I x).places.uses p (Living (length x.s.regions)) }
 
     created_steps : Steps x (slice_set x.words (count_at z p) 2) (creates c k ds p)
-    created_steps = inl (attends x rests (Attend g) refl t step.steps (else_stays x.s t step.same) (creates c k ds p).clock (created_in c.frame k ds p) c.memory
+    created_steps = inl (attends x rests (Attend g) refl t step.steps (slot_there x p low none f.h k first.others f.there owes) (else_stays x.s t step.same) (creates c k ds p).clock (created_in c.frame k ds p) c.memory
         slot' (put (I x).places.uses p (Living (length x.s.regions))) (I x).places.at (I x).places.page (count_at z p) 2 (omega (arith, low)) lives step.fit
         (memory_stays x (slice_set x.words (count_at z p) 2) t P'
         (create_keeps T.code z x.words (map memory_of x.recs) x.s t g k p f.h first.others x.core.sound.good (I x).places (I x).memory f.there owes
@@ -243,8 +245,11 @@ module _ {T : Setup} {g : ℕ} {c : Record} (x : Here T g c) (d : Duty) (ds : Li
   share_adds = tally_adds T.code T.sizes.page_words x.s S.step.state (Attend g) S.step.steps
       ∙ ap (counts_plus (counts_of x.s)) (share_is T.code x.s g S.h S.duty S.others S.there S.owed ∙ shared.share)
 
+  share_room : has_room T.sizes x.s (Attend g) ≡ true
+  share_room = no_creation T.code T.sizes x.s S.step.state g S.step.steps (ap length S.step.regions_are ∙ length_with_info x.s.regions S.region one_more)
+
   share_does : Does x (slice_set x.words (count_at (layout T) p) (slice_index x.words (count_at (layout T) p) + 1)) (with_holder c k)
-  share_does = attends x rests (Attend g) refl S.step.state S.step.steps (else_stays x.s S.step.state S.step.same) (accessed c.clock) (record c.frame { holder = k }) c.memory
+  share_does = attends x rests (Attend g) refl S.step.state S.step.steps share_room (else_stays x.s S.step.state S.step.same) (accessed c.clock) (record c.frame { holder = k }) c.memory
       (I x).places.slot (I x).places.uses (I x).places.at (I x).places.page (count_at (layout T) p) (slice_index x.words (count_at (layout T) p) + 1)
       (let l = in_table x S.region p S.slot_is S.live in omega (arith, l)) share_lives S.step.fit
       (memory_stays x (slice_set x.words (count_at (layout T) p) (slice_index x.words (count_at (layout T) p) + 1)) S.step.state (I x).places share_memory)
@@ -309,6 +314,9 @@ module _ {T : Setup} {g : ℕ} {c : Record} (x : Here T g c) (d : Duty) (ds : Li
   end_adds = tally_adds T.code T.sizes.page_words x.s E.step.state (Attend g) E.step.steps
       ∙ ap (counts_plus (counts_of x.s)) (share_is T.code x.s g E.h E.duty E.others E.there E.owed ∙ end_of.share)
 
+  end_room : has_room T.sizes x.s (Attend g) ≡ true
+  end_room = no_creation T.code T.sizes x.s E.step.state g E.step.steps (ap length E.step.regions_are ∙ length_with_info x.s.regions E.region one_fewer)
+
   low_end : count_at (layout T) p < base (layout T)
   low_end = let l = in_table x E.region p E.slot_is E.live in omega (arith, l)
 
@@ -323,7 +331,7 @@ module _ {T : Setup} {g : ℕ} {c : Record} (x : Here T g c) (d : Duty) (ds : Li
         (subst (λ m. found_at m ≢ 2) (sym E.slot_is) more))
 
     leave_does : Does x (slice_set x.words (count_at (layout T) p) (n - 1)) (leaves c k p)
-    leave_does = attends x rests (Attend g) refl E.step.state E.step.steps (else_stays x.s E.step.state E.step.same) (accessed c.clock) (record c.frame { holder = k })
+    leave_does = attends x rests (Attend g) refl E.step.state E.step.steps end_room (else_stays x.s E.step.state E.step.same) (accessed c.clock) (record c.frame { holder = k })
         (without_slot c.memory p) (I x).places.slot (I x).places.uses (I x).places.at (I x).places.page (count_at (layout T) p) (n - 1) low_end end_lives
         E.step.fit leave_memory
         (links_between x (count_at (layout T) p) (n - 1) (omega arith) low_end (leaves c k p) (all_kept refl refl refl)
@@ -379,7 +387,7 @@ module _ {T : Setup} {g : ℕ} {c : Record} (x : Here T g c) (d : Duty) (ds : Li
         (IsElsewhere (as_much (steps_of c)) (has_duty T.code c d ds owed))
 
     last_does : Does x (slice_set x.words (count_at (layout T) p) (n - 1)) (leaves_last c k p info.pages)
-    last_does = attends x rests (Attend g) refl E.step.state E.step.steps (else_stays x.s E.step.state E.step.same) (leaves_last c k p info.pages).clock
+    last_does = attends x rests (Attend g) refl E.step.state E.step.steps end_room (else_stays x.s E.step.state E.step.same) (leaves_last c k p info.pages).clock
         (record c.frame { holder = k }) (with_give (without_slot c.memory p) (Owes p)) (I x).places.slot (put (I x).places.uses p (Closing g))
         (I x).places.at (I x).places.page (count_at (layout T) p) (n - 1) low_end end_lives E.step.fit last_memory last_links gain
         (end_adds ∙ ap (counts_plus (counts_of x.s)) (share_last x.s.regions E.region info (info_of x E.region p E.slot_is E.live).1

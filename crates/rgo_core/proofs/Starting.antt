@@ -127,6 +127,7 @@ module _ {T : Setup} {g : ℕ} {c : Record} (x : Here T g c) (f : ℕ) (callee :
           event = Instruct (One g);
           next = t;
           steps = p.steps;
+          room = refl;
           gain = gain;
           adds = counts_start x.s t p.regions p.global_pages p.memory_is more p.counted;
           counted = counted_start c.clock (slice_index x.words 16);

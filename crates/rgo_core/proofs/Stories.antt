@@ -1,5 +1,5 @@
 -- The run behind a table's words, after each kind of step.
-use Rattle.std.proofs.Common.{◌≡◌, ℕ, suc, ◌+◌, ◌%◌, ◌^◌, ◌<◌, ◌≤◌, true, false, List, [], ◌∷◌, ◌++◌, Option, Some, None, length, take, slice_get, slice_set, slice_index, bit_or, refl, ap, sym, subst, ◌∙◌, arith, length-append}
+use Rattle.std.proofs.Common.{◌≡◌, ℕ, suc, ◌+◌, ◌%◌, ◌^◌, ◌<◌, ◌≤◌, Bool, true, false, List, [], ◌∷◌, ◌++◌, Option, Some, None, length, take, if◌then◌else◌, slice_get, slice_set, slice_index, bit_or, refl, ap, sym, subst, ◌∙◌, arith, length-append}
 use Rattle.std.proofs.lemmas.List.{take_all}
 use Rattle.std.proofs.lemmas.Option.{same_Some}
 use mathlib.Core.Logic.{dite}
@@ -12,6 +12,7 @@ use Rattle.rgo_machine.specs.declared.limits.Sizes.{Sizes}
 use Rattle.rgo_region_machine.specs.Counts.{Counts, counts_of}
 use Rattle.rgo_region_machine.specs.Instructions.{printed_if}
 use Rattle.rgo_region_machine.specs.Machine.{Event, region_start, region_step}
+use Rattle.rgo_region_machine.specs.Room.{has_room, roomy_run, roomy_step}
 use Rattle.rgo_region_machine.specs.States.{Mark, RegionState}
 use Rattle.rgo_sound.specs.Tally.{counts_plus, no_share}
 use Rattle.rgo_core.specs.Causes.{IsCause}
@@ -42,6 +43,7 @@ module _ (code : Code) (sizes : Sizes) (limits : Limits) (words : List ℕ) (rec
       → slice_index more 16 ≡ slice_index words 16 → Story code sizes limits more (slice_set recs g d) events s
   story_stays more count same clock made = record {
     leads = k.leads;
+    room = k.room;
     within = k.within;
     before = k.before;
     late = k.late;
@@ -59,6 +61,7 @@ module _ (code : Code) (sizes : Sizes) (limits : Limits) (words : List ℕ) (rec
       → Story code sizes limits (slice_set words 16 (suc (slice_index words 16))) (slice_set recs g d) events s
   story_refused wide full never count prints first children now = record {
     leads = k.leads;
+    room = k.room;
     within = k.within;
     before = k.before;
     late = k.late;
@@ -70,7 +73,7 @@ module _ (code : Code) (sizes : Sizes) (limits : Limits) (words : List ℕ) (rec
     shares = k.shares ∙ sym (counted_same recs g c d at count);
   }
 
-  module _ (e : Event) (next : RegionState) (step : region_step code sizes.page_words s e ≡ Some next)
+  module _ (e : Event) (next : RegionState) (step : region_step code sizes.page_words s e ≡ Some next) (left : has_room sizes s e ≡ true)
       (within : is_within limits next.plain ≡ true) (gain : Counts) (adds : counts_of next ≡ counts_plus (counts_of s) gain)
       (count : counted d ≡ counts_plus (counted c) gain) where
     abbrev longer : List Event
@@ -81,6 +84,10 @@ module _ (code : Code) (sizes : Sizes) (limits : Limits) (words : List ℕ) (rec
 
     leads_on : limited_run code sizes.page_words limits longer ≡ Some next
     leads_on = run_then (limited_step code sizes.page_words limits) (region_start code) events s next e k.leads limited
+
+    room_on : roomy_run code sizes longer ≡ Some next
+    room_on = run_then (roomy_step code sizes) (region_start code) events s next e k.room
+        (ap (λ (b : Bool). if b then region_step code sizes.page_words s e else None) left ∙ step)
 
     shares_on : counts_of next ≡ all_counted (slice_set recs g d)
     shares_on = adds ∙ (ap (λ (x : Counts). counts_plus x gain) k.shares ∙ sym (counted_more recs g c d gain at count))
@@ -96,6 +103,7 @@ module _ (code : Code) (sizes : Sizes) (limits : Limits) (words : List ℕ) (rec
         → next.mark ≡ s.mark → next.plain.printed ≡ s.plain.printed → Story code sizes limits more (slice_set recs g d) longer next
     story_does more same clock made mark printed = record {
       leads = leads_on;
+      room = room_on;
       within = within;
       before = k.before;
       late = k.late;
@@ -141,6 +149,7 @@ module _ (code : Code) (sizes : Sizes) (limits : Limits) (words : List ℕ) (rec
       pub story_prints : Story code sizes limits (slice_set words 0 ((slice_index words 0 + 1) % 18446744073709551616)) (slice_set recs g d) longer next
       story_prints = record {
         leads = leads_on;
+        room = room_on;
         within = within;
         before = before;
         late = late_after s.mark k.late b;
@@ -173,6 +182,7 @@ module _ (code : Code) (sizes : Sizes) (limits : Limits) (words : List ℕ) (rec
       pub story_ends : Story code sizes limits (slice_set words 0 (bit_or (slice_index words 0) 9223372036854775808)) (slice_set recs g d) longer next
       story_ends = record {
         leads = leads_on;
+        room = room_on;
         within = within;
         before = k.before;
         late = k.late;
@@ -199,6 +209,7 @@ module _ (code : Code) (sizes : Sizes) (limits : Limits) (words : List ℕ) (rec
         numbers_on.0,
         record {
           leads = leads_on;
+          room = room_on;
           within = within;
           before = k.before;
           late = k.late;

@@ -50,6 +50,7 @@ module _ {T : Setup} {g : ℕ} {c : Record} (x : Here T g c) (trap : Trap) (plac
           event = Instruct (One g);
           next = F.state;
           steps = F.steps;
+          room = refl;
           gain = record no_share { steps = 1 };
           adds = counts_step x.s F.state 1 F.regions_are F.same.global_pages F.same.memory (many_set x x.words d F.state sound image) F.counted;
           counted = instructed_counts c.clock;

@@ -1,20 +1,23 @@
 -- Each definition where it holds and where it must not.
-use Rattle.std.specs.Prelude.{◌≡◌, ℕ, true, List, [], ◌∷◌, Option, Some, None, slice_set}
+use Rattle.std.specs.Prelude.{◌≡◌, ◌≤◌, ℕ, true, List, [], ◌∷◌, Option, Some, None, slice_set}
 use Rattle.rgo_code.specs.Code.{Code}
 use Rattle.rgo_machine.specs.declared.limits.Limits.{Limits}
 use Rattle.rgo_machine.specs.declared.limits.Sizes.{Sizes}
 use Rattle.rgo_machine.specs.declared.picks.End.TheVariants.{Exit}
-use Rattle.rgo_region_machine.specs.Machine.{Event, region_start}
+use Rattle.rgo_region_machine.specs.Machine.{Event, TakePage, region_start}
+use Rattle.rgo_region_machine.specs.Room.{FitsIn, pages_in_use}
 use Rattle.rgo_region_machine.specs.States.{Ended, Mark, RegionState, Stopped}
 use Rattle.rgo_region_machine.specs.declared.limits.Limit.TheVariants.{Memory, Regions}
 use Rattle.rgo_sound.specs.Tally.{no_share}
 use Rattle.rgo_core.specs.Causes.{IsCause}
 use Rattle.rgo_core.specs.Clock.{Clock}
 use Rattle.rgo_core.specs.ClockSteps.{first_mark}
-use Rattle.rgo_core.specs.Core.{Core, Setup}
+use Rattle.rgo_core.specs.Core.{Core, Here, Setup}
 use Rattle.rgo_core.specs.Numbers.{Numbers}
 use Rattle.rgo_core.specs.Opening.{first_of, opening}
-use Rattle.rgo_core.specs.Records.{ClockRec, all_counted, blank, counted, drawn_at, fresh, with_child, with_end, with_print, with_refusal}
+use Rattle.rgo_core.specs.Records.{ClockRec, Record, all_counted, blank, counted, drawn_at, fresh, with_child, with_end, with_print, with_refusal}
+use Rattle.rgo_core.specs.Steps.{Goes}
+use Rattle.rgo_core.specs.Story.{Story}
 
 -- a state that has printed these bytes, and the mark that it has
 abbrev pub having_printed : Code → List ℕ → Option Mark → RegionState
@@ -83,3 +86,12 @@ pub record CoreExamples : Type 0 where
   pub nobody : (T : Setup) (events : List Event) → Core T (opening T) [] events → ⊥
   -- no ticket is drawn
   pub drawn : (T : Setup) (events : List Event) → Core T (slice_set (opening T) 0 1) (first_of T.code ∷ []) events → ⊥
+
+pub record RoomExamples : Type 0 where
+  -- the run without a step
+  pub none_yet : (T : Setup) → Story T.code T.sizes T.limits (opening T) (fresh ∷ []) [] (region_start T.code)
+  -- more pages are in use, or more regions live, than there may be
+  pub crowded : (T : Setup) (words : List ℕ) (recs : List Record) (events : List Event) (k : Core T words recs events) → (FitsIn T.sizes k.0 → ⊥) → ⊥
+  -- a page is taken where none is left
+  pub none_left : (T : Setup) (g : ℕ) (c d : Record) (x : Here T g c) (words : List ℕ) (recs : List Record) (p : Goes x words recs d)
+      → p.event ≡ TakePage g → T.sizes.pages ≤ pages_in_use x.s → ⊥

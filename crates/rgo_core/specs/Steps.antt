@@ -1,9 +1,10 @@
 -- What a step of a goroutine has to leave, whatever the rest of the table is, so that the rule of the table allows it.
-use Rattle.std.specs.Prelude.{◌≡◌, ◌⊎◌, ◌<◌, ◌≤◌, ℕ, suc, List, length, Some, slice_index, slice_set}
+use Rattle.std.specs.Prelude.{◌≡◌, ◌⊎◌, ◌<◌, ◌≤◌, ℕ, suc, true, List, length, Some, slice_index, slice_set}
 use Rattle.rgo_core_rule.specs.Steps as rule
 use Rattle.rgo_machine.specs.Limits.{deepest}
 use Rattle.rgo_region_machine.specs.Counts.{Counts, counts_of}
 use Rattle.rgo_region_machine.specs.Machine.{Event, region_step}
+use Rattle.rgo_region_machine.specs.Room.{has_room}
 use Rattle.rgo_region_machine.specs.States.{RegionState}
 use Rattle.rgo_sound.specs.Tally.{counts_plus}
 use Rattle.rgo_core.specs.Core.{Core, Here, Setup, layout}
@@ -25,6 +26,8 @@ module _ {T : Setup} {g : ℕ} {c : Record} (x : Here T g c) where
     pub event : Event
     pub next : RegionState
     pub steps : region_step T.code T.sizes.page_words x.s event ≡ Some next
+    -- a page is taken, and a region created, only where there is one left
+    pub room : has_room T.sizes x.s event ≡ true
     pub gain : Counts
     pub adds : counts_of next ≡ counts_plus (counts_of x.s) gain
     pub counted : counted_by d.clock ≡ counts_plus (counted_by c.clock) gain

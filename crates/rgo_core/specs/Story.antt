@@ -9,6 +9,7 @@ use Rattle.rgo_machine.specs.declared.limits.Limits.{Limits}
 use Rattle.rgo_machine.specs.declared.limits.Sizes.{Sizes}
 use Rattle.rgo_region_machine.specs.Counts.{counts_of}
 use Rattle.rgo_region_machine.specs.Machine.{Event}
+use Rattle.rgo_region_machine.specs.Room.{roomy_run}
 use Rattle.rgo_region_machine.specs.States.{Mark, RegionState}
 use Rattle.rgo_core.specs.Causes.{IsCause}
 use Rattle.rgo_core.specs.Clock.{Clock}
@@ -19,6 +20,8 @@ use Rattle.rgo_core.specs.Runs.{Marked, Printed, limited_run}
 module _ (code : Code) (sizes : Sizes) (limits : Limits) where
   pub record Story (words : List ℕ) (recs : List ClockRec) (events : List Event) (s : RegionState) : Type 0 where
     pub leads : limited_run code sizes.page_words limits events ≡ Some s
+    -- each of its steps had room
+    pub room : roomy_run code sizes events ≡ Some s
     pub within : is_within limits s.plain ≡ true
     pub before : List (List ℕ)
     pub late : List (List ℕ)

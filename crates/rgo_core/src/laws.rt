@@ -1,7 +1,7 @@
 //! What each access of a goroutine, and each of its steps without one, does to what the table shows.
 
 ghost use Rattle.rgo_core.specs.ClockSteps.{EndLaw, LookLaw, NumberLaw, TicketLaw};
-ghost use Rattle.rgo_core.specs.Examples.{CauseExamples, ClockExamples, CoreExamples, NumberExamples};
+ghost use Rattle.rgo_core.specs.Examples.{CauseExamples, ClockExamples, CoreExamples, NumberExamples, RoomExamples};
 ghost use Rattle.rgo_core.specs.Laws.{CallsMove, ExitMove, FullMove, LocalStill, PrintMove, StartMove, StopMove};
 ghost use Rattle.rgo_core.specs.Opening.{OpeningLaw};
 ghost use Rattle.rgo_core.specs.Possible.{FirstPossible, OccursPossible, PossibleExamples, StillPossible};
@@ -90,5 +90,6 @@ pub fn examples()
     ensures numbers { NumberExamples }
     ensures causes { CauseExamples }
     ensures core { CoreExamples }
+    ensures room { RoomExamples }
     ensures possible { PossibleExamples }
 {}

@@ -61,6 +61,7 @@ module _ (z : TableSizes) (words : List ℕ) (recs : List Rec) (x : Ground) (pla
     lies = k.lies;
     own = record {
       ranged = k.own.ranged;
+      for_slots = k.own.for_slots;
       homes = k.own.homes;
       claimed = λ g f w. k.own.claimed g f (owns g f w);
       alone = λ g h e f w v. k.own.alone g h e f (owns g e w) (owns h f v);

@@ -30,6 +30,9 @@ own_freed z states cell recs heap owners regions slot spot k p r found dead left
   ranged = λ q l. dite (ℕ_discrete q p)
       (λ e. absurd (let y = put_here states p 0 q e in omega arith))
       (λ n. k.ranged q (subst (λ (m : ℕ). 0 < m) (put_else states p 0 q n) l));
+  for_slots = λ q. dite (ℕ_discrete q p)
+      (λ e. let y = put_here states p 0 q e in omega arith)
+      (λ n. let y = put_else states p 0 q n in let h = k.for_slots q in omega arith);
   homes = λ o i object q s l. stays (spot o i).page (slot_of z slot q) (dead o object q s) (k.homes o i object q s l);
   claimed = λ g f w. stays f.page f.slot (left g f w) (k.claimed g f w);
   alone = k.alone;

@@ -23,7 +23,7 @@ use Rattle.rgo_core_memory.proofs.Keeping.{was, owns_was, counts_calm, taken_sam
 use Rattle.rgo_core_memory.proofs.Paging.{other_at, more_at}
 use Rattle.rgo_core_memory.proofs.Puts.{put_here, put_else}
 use Rattle.rgo_core_memory.proofs.Refilling.{refilled}
-use Rattle.rgo_core_memory.proofs.Slots.{live_info, uses_live}
+use Rattle.rgo_core_memory.proofs.Slots.{live_info, stake_slot, uses_live}
 use Rattle.rgo_core_memory.proofs.Writes.{writes_state}
 
 pages_more : (regions : List RegionInfo) (k : ℕ) (info : RegionInfo) → slice_get regions k ≡ Some info
@@ -60,6 +60,13 @@ module _ (z : TableSizes) (words : List ℕ) (recs : List Rec) (x : Ground) (pla
   zero_state : k.w.state p ≡ 0
   zero_state = sym (k.shows.state p small) ∙ free
 
+  -- the slot of a region that is used
+  slot_there : s ≤ z.slots
+  slot_there = ⊎_elim
+      (λ (e : s ≡ z.slots). omega (arith, e))
+      (λ (u : (m : ℕ) × (s < z.slots) × (places.uses s ≡ Living m)). let l = u.1 in omega (arith, l))
+      (stake_slot z words recs x places k steady g s (h, r, hold, used, refl))
+
   only : (f : Fill) → Within f d.fills → (f ≡ fresh) ⊎ (Within f c.fills × (f.slot ≢ s))
   only f (zero, e) = inl (sym (same_Some fresh f e))
   only f (suc i, e) = inr (dropped_within s c.fills f (i, e))
@@ -84,6 +91,9 @@ module _ (z : TableSizes) (words : List ℕ) (recs : List Rec) (x : Ground) (pla
   own_claimed = record {
     ranged = λ q l. dite (ℕ_discrete q p) (λ e. subst (λ (m : ℕ). m < z.pages) (sym e) small) (λ n. k.own.ranged q (subst (λ (m : ℕ). 0 < m)
         (put_else k.w.state p (suc s) q n) l));
+    for_slots = λ q. dite (ℕ_discrete q p)
+        (λ e. let y = put_here k.w.state p (suc s) q e in let h = slot_there in omega (arith, y, h))
+        (λ n. let y = put_else k.w.state p (suc s) q n in let h = k.own.for_slots q in omega (arith, y, h));
     homes = λ o i object q t l. other_state (places.spot o i).page (slot_of z places.slot q) (k.own.homes o i object q t l);
     claimed = λ i f w. ⊎_elim
         (λ (t : (i ≡ g) × (f ≡ fresh)). subst (λ (y : Fill). states y.page ≡ suc y.slot) (sym t.1) (put_here k.w.state p (suc s) p refl))

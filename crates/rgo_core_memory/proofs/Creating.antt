@@ -101,6 +101,7 @@ module _ (z : TableSizes) (words : List ℕ) (recs : List Rec) (x : Ground) (pla
   own_created : Own z k.w.state k.w.cell recs x.heap x.owners infos slot places.spot
   own_created = record {
     ranged = k.own.ranged;
+    for_slots = k.own.for_slots;
     homes = λ o i object q s l. let t = fewer o object q s in k.own.homes o i object q t l ∙ ap suc (sym (live_slot q t.live));
     claimed = k.own.claimed;
     alone = k.own.alone;

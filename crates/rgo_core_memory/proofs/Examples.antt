@@ -1,6 +1,7 @@
 -- The examples, by computation.
-use Rattle.std.proofs.Common.{◌≡◌, ℕ, ◌<◌, [], ◌∷◌, Some, slice_get, refl, ap, sym, ◌∙◌, arith}
-use Rattle.rgo_core_memory.specs.Examples.{MemoryExamples}
+use Rattle.std.proofs.Common.{◌≡◌, ℕ, ◌<◌, ◌≤◌, ◌==◌, Bool, true, false, if◌then◌else◌, [], ◌∷◌, Some, slice_get, refl, ap, sym, ◌∙◌, arith}
+use Rattle.std.proofs.lemmas.Bool.Decides.{nat_tests}
+use Rattle.rgo_core_memory.specs.Examples.{MemoryExamples, first_alone}
 use Rattle.rgo_core_memory.specs.Opening.{first_record}
 use Rattle.rgo_core_memory.specs.Records.{Fill, Has, Rec}
 
@@ -44,6 +45,17 @@ examples = record {
   claimed = refl;
   claimed_other = refl;
   to_give = refl;
+  last_slot = λ slot. record {
+    ranged = one_page;
+    for_slots = low;
+    homes = λ o i object r s l. let e = s.there in cc e;
+    claimed = λ g f w. absurd (no_record g w.0 w.1);
+    alone = λ g h e f w v q. absurd (no_record g w.0 w.1);
+    room = λ g f w. absurd (no_record g w.0 w.1);
+    under = λ g o i f object r w s l e. absurd (no_record g w.0 w.1);
+    amids = λ g c f object stored h m. absurd (no_record g c h);
+  };
+  no_slot = λ slot k. apart 2 3 (let l = k.for_slots 0 in omega arith) (omega arith);
   owns = (_, refl, (0, refl));
   owns_not = λ f w. nothing f w.0 w.1 w.2;
   drops = refl;
@@ -56,6 +68,23 @@ examples = record {
   gives_not = λ g. apart 2 3 g.1 (omega arith);
 }
   where
+    one_page : (p : ℕ) → 0 < first_alone 2 p → p < 1
+    one_page p = by (p == 0) refl
+      where
+        by : (b : Bool) → (p == 0) ≡ b → 0 < (if b then 2 else 0) → p < 1
+        by true e l = grind (arith, nat_tests)
+        by false e l = absurd (omega (arith, l))
+
+    low : (p : ℕ) → first_alone 2 p ≤ 2
+    low p = by (p == 0)
+      where
+        by : (b : Bool) → (if b then 2 else 0) ≤ 2
+        by true = omega arith
+        by false = omega arith
+
+    no_record : (g : ℕ) (c : Rec) → Has [] g c → ⊥
+    no_record g c e = cc
+
     nothing : (f : Fill) (c : Rec) → Has (first_record ∷ []) 0 c → (k : ℕ) × (slice_get c.fills k ≡ Some f) → ⊥
     nothing f c e has = no has.0 (ap (λ (x : Rec). slice_get x.fills has.0) (same e) ∙ has.1)
       where

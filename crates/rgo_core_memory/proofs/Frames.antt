@@ -38,6 +38,7 @@ module _ (z : TableSizes) (states : ℕ → ℕ) (cell : ℕ → ℕ → ℕ) (r
       → Own z states cells recs more others infos slot spot
   own_frame cells more others infos alike same = record {
     ranged = k.ranged;
+    for_slots = k.for_slots;
     homes = λ o i object r s l. let q = alike o object r s in k.homes o i q.0 r q.1 (subst (λ (n : ℕ). i < n) q.2 l);
     claimed = k.claimed;
     alone = k.alone;

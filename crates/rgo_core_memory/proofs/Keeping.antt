@@ -97,6 +97,7 @@ module _ (recs : List Rec) (g : ℕ) (c d : Rec) (own : Has recs g c) where
         (owns_was j f w) in
         record {
           ranged = k.ranged;
+          for_slots = k.for_slots;
           homes = k.homes;
           claimed = λ j f w. k.claimed j f (old j f w);
           alone = λ i j e f w v. k.alone i j e f (old i e w) (old j f v);

@@ -16,6 +16,7 @@ pub mod Examples
 pub mod Existing
 pub mod Facts
 pub mod Frames
+pub mod InUse
 pub mod Infos
 pub mod Keeping
 pub mod Keeps

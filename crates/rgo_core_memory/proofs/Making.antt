@@ -241,6 +241,7 @@ module _ (z : TableSizes) (words : List ℕ) (recs : List Rec) (x : Ground) (pla
   own_made : Own z k.w.state k.w.cell recs2 heap owners x.regions places.slot spot
   own_made = record {
     ranged = k.own.ranged;
+    for_slots = k.own.for_slots;
     homes = λ o i ob q s l. ⊎_elim
         (λ (t : (o < n) × Stands x.heap x.owners x.regions o ob q). subst (λ (y : ℕ
         → Spot). k.w.state (y i).page ≡ suc (slot_of z places.slot q)) (sym (old_spot o t.0)) (k.own.homes o i ob q t.1 l))

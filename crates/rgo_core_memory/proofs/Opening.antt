@@ -105,6 +105,7 @@ opens code z enough =
       };
       own = record {
         ranged = λ p l. absurd (omega arith);
+        for_slots = λ p. omega arith;
         homes = λ o i object r s l. absurd (none_stands [] [] o object r s);
         claimed = λ g f w. absurd (nobody_owns g f w);
         alone = λ g h e f w v q. absurd (nobody_owns g e w);

@@ -73,6 +73,7 @@ module _ (z : TableSizes) (words : List ℕ) (recs : List Rec) (x : Ground) (pla
     own_word : Own z k.w.state cell recs2 x.heap x.owners x.regions places.slot places.spot
     own_word = record {
       ranged = k.own.ranged;
+      for_slots = k.own.for_slots;
       homes = k.own.homes;
       claimed = λ j e w. k.own.claimed j e (old j e w);
       alone = λ j m e e2 w v. k.own.alone j m e e2 (old j e w) (old m e2 v);

@@ -9,7 +9,7 @@ use Rattle.rgo_core_memory.specs.Image.{Memory}
 use Rattle.rgo_core_memory.specs.Opening.{first_record, first_words, nowhere}
 use Rattle.rgo_core_memory.specs.Owed.{owed}
 use Rattle.rgo_core_memory.specs.Pages.{Chain}
-use Rattle.rgo_core_memory.specs.Parts.{Closing, Living, Use, Vacant, pages_at}
+use Rattle.rgo_core_memory.specs.Parts.{Closing, Living, Own, Use, Vacant, pages_at}
 use Rattle.rgo_core_memory.specs.Records.{Calm, Claims, Closes, Fill, Giving, Gives, Got, Idle, Owes, Owns, Past, Rec, with_page, without_slot}
 use Rattle.rgo_core_memory.specs.Words.{Shows, Words, all_words, base, cell_at, clock_at, count_at, head_at, made_at, next_at, state_at, variable_at}
 
@@ -35,6 +35,10 @@ uses s = if s == 0 then Closing 5 else (if s == 1 then Living 7 else Vacant)
 -- pages 0 and 2 are claimed for slot 0, page 1 for slot 1
 abbrev pub states : ℕ → ℕ
 states p = if p == 1 then 2 else 1
+
+-- page 0 is in that state, and no other page is claimed
+abbrev pub first_alone : ℕ → ℕ → ℕ
+first_alone n p = if p == 0 then n else 0
 
 abbrev pub with_one : Rec
 with_one = with_page first_record 3 1
@@ -80,6 +84,9 @@ pub record MemoryExamples : Type 0 where
   pub claimed : pages_at states 3 0 ≡ 2
   pub claimed_other : pages_at states 3 1 ≡ 1
   pub to_give : owed uses states 3 2 ≡ 2
+  -- the last slot is Global's; a page is claimed for no slot above it
+  pub last_slot : (slot : ℕ → ℕ) → Own small (first_alone 2) (λ p o. 0) [] [] [] [] slot spot
+  pub no_slot : (slot : ℕ → ℕ) → Own small (first_alone 3) (λ p o. 0) [] [] [] [] slot spot → ⊥
   -- ---- records
   pub owns : Owns (with_one ∷ []) 0 (record { slot = 1; page = 3; fill = 0 })
   pub owns_not : (f : Fill) → Owns (first_record ∷ []) 0 f → ⊥

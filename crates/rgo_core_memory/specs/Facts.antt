@@ -4,12 +4,13 @@ use Rattle.rgo_code.specs.Code.{Code}
 use Rattle.rgo_memory.specs.Memory.{Object}
 use Rattle.rgo_region_machine.specs.Objects.{words as words_in}
 use Rattle.rgo_region_machine.specs.Regions.{is_live}
+use Rattle.rgo_region_machine.specs.Room.{live_regions, pages_in_use}
 use Rattle.rgo_region_machine.specs.States.{RegionState}
 use Rattle.rgo_region_machine.specs.declared.regions.Region.{Region}
 use Rattle.rgo_region_machine.specs.declared.regions.Region.TheVariants.{Numbered}
 use Rattle.rgo_sound.specs.Good.{AllGood}
 use Rattle.rgo_core_memory.specs.declared.layout.TableSizes.{TableSizes}
-use Rattle.rgo_core_memory.specs.Words.{cell_at, base, all_words, count_at}
+use Rattle.rgo_core_memory.specs.Words.{cell_at, base, all_words, count_at, state_at}
 use Rattle.rgo_core_memory.specs.Encoding.{address, content}
 use Rattle.rgo_core_memory.specs.Records.{Fill, Rec, Has, Owns}
 use Rattle.rgo_core_memory.specs.Ground.{Ground, Stands, ground_of, stored, taken_of}
@@ -48,6 +49,13 @@ AllFound = (z : TableSizes) (words : List ℕ) (recs : List Rec) (s : RegionStat
     → Memory z words recs s places → (g : ℕ) (c : Rec) → Has recs g c
     → (((p : ℕ) → p < z.pages → 0 < times p c.tried_pages) → z.pages ≤ taken_of (ground_of s))
     × (((r : ℕ) → r < z.slots → 0 < times r c.tried_slots) → z.slots ≤ length s.regions)
+
+-- where a page is free, fewer are in use than there are; where a slot is, fewer regions are live
+abbrev pub SomeLeft : Type 0
+SomeLeft = (z : TableSizes) (words : List ℕ) (recs : List Rec) (s : RegionState) (places : Where)
+    → Memory z words recs s places
+    → ((p : ℕ) → p < z.pages → slice_index words (state_at z p) ≡ 0 → pages_in_use s < z.pages)
+    × ((r : ℕ) → r < z.slots → slice_index words (count_at z r) ≡ 0 → live_regions s < z.slots)
 
 -- a word that the object does not determine may be written: any of a channel but its capacity
 abbrev pub UntoldKeeps : Type 0

@@ -52,6 +52,8 @@ pub record Own (z : TableSizes) (states : ℕ → ℕ) (cell : ℕ → ℕ
     → ℕ) (recs : List Rec) (heap : List Object) (owners : List Region)
     (regions : List RegionInfo) (slot : ℕ → ℕ) (spot : ℕ → ℕ → Spot) : Type 0 where
   pub ranged : (p : ℕ) → 0 < states p → p < z.pages
+  -- a page is claimed for a slot that there is; the last one is Global's
+  pub for_slots : (p : ℕ) → states p ≤ suc z.slots
   -- a word of an object lies in a page of its region
   pub homes : (o i : ℕ) (object : Object) (r : Region) → Stands heap owners regions o object r → i < words object
       → states (spot o i).page ≡ suc (slot_of z slot r)

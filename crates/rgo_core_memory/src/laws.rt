@@ -7,7 +7,7 @@ ghost use Rattle.rgo_core_memory.specs.Examples.{MemoryExamples};
 ghost use Rattle.rgo_core_memory.specs.Events.{CreateKeeps, LastLeaveKeeps, LeaveKeeps, PageKeeps, ShareKeeps};
 ghost use Rattle.rgo_core_memory.specs.Laws.{AtLaw, GetLaw, LenLaw, LoadLaw, PutLaw, SetLaw, StoreLaw};
 ghost use Rattle.rgo_core_memory.specs.Opening.{Opens};
-ghost use Rattle.rgo_core_memory.specs.Facts.{AllFound, CountIsSmall, OneAddress, QueueKeeps, UntoldKeeps, WordsFollow};
+ghost use Rattle.rgo_core_memory.specs.Facts.{AllFound, CountIsSmall, OneAddress, QueueKeeps, SomeLeft, UntoldKeeps, WordsFollow};
 ghost use Rattle.rgo_core_memory.specs.Quiet.{QuietKeeps, StartKeeps};
 ghost use Rattle.rgo_core_memory.specs.Exists.{AccessExists, AllocationExists, PageExists};
 ghost use Rattle.rgo_core_memory.specs.Facts.{WordsDiffer};
@@ -151,6 +151,11 @@ pub fn address_law()
 /// The words of an object follow one another, in the table.
 pub fn row_law()
     ensures { WordsFollow }
+{}
+
+/// Where a page is free, fewer are in use than there are; the same of slots.
+pub fn left_law()
+    ensures { SomeLeft }
 {}
 
 /// A count has at most two stakes for each goroutine.

@@ -1,5 +1,5 @@
 -- A step of a turn: acts that change no channel, one after another, and what it comes to after them.
-use Rattle.std.proofs.Common.{◌≡◌, ◌∙◌, ◌<◌, ◌≤◌, Bool, Option, Some, None, ap, arith}
+use Rattle.std.proofs.Common.{◌≡◌, ◌∙◌, ◌<◌, ◌≤◌, Bool, Option, Some, None, ap, arith, sym}
 use Rattle.rgo_acts.specs.Runs.{Run}
 use Rattle.rgo_goroutine.specs.Acting.{Acts}
 use Rattle.rgo_goroutine.specs.Instructions.{Instructs}
@@ -22,6 +22,11 @@ left_as t u b e = ap (λ (x : Turning). x.left) e
 
 pub changed_as : (t u : Turning) (b : Bool) → u ≡ record t { moved = b } → u.changed.count ≡ t.changed.count
 changed_as t u b e = ap (λ (x : Turning). x.changed.count) e
+
+pub told_same : (t v u : Turning) (a b : Bool) → v ≡ record t { moved = a } → u ≡ record v { moved = b } → u ≡ record t { moved = u.moved }
+told_same t v u a b e f =
+    let is = f ∙ ap (λ (x : Turning). record x { moved = b }) e in
+    is ∙ ap (λ m. record t { moved = m }) (sym (ap (λ (x : Turning). x.moved) is))
 
 pub continues_as : (r : Run) (old new : Goroutine) (t u : Turning) (b : Bool) → u ≡ record t { moved = b } → Acts r old new t u None
     → Continues r old new t u

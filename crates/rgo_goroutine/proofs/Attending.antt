@@ -12,8 +12,8 @@ use Rattle.rgo_goroutine.specs.Instructions.{HasAttendedAll, HasAttendedOne}
 use Rattle.rgo_goroutine.specs.declared.goroutine.Goroutine.{Goroutine}
 use Rattle.rgo_goroutine.specs.declared.turning.Stop.{Stop}
 use Rattle.rgo_goroutine.specs.declared.turning.Turning.{Turning}
+use Rattle.rgo_goroutine.proofs.Advancing.{told_same}
 use Rattle.rgo_goroutine.proofs.Joining.{acts_then}
-use Rattle.rgo_goroutine.proofs.Resting.{acts_moved, goes_moved}
 use Rattle.rgo_goroutine.proofs.TurnActs.{acts_none}
 
 -- ---- the first duty
@@ -49,32 +49,19 @@ none_yet r old t goes noted rests = record {
   expanded = refl;
 }
 
--- the turn is told first that the next one may move something
-module _ (r : Run) (old go : Goroutine) (t u v : Turning) (has : HasAttendedSome r old go t u) (e : v ≡ record u { moved = true }) where
-  pub still_goes : Goes r go v.left
-  still_goes = goes_moved r go u v e has.acts.goes
+-- one more
+module _ (r : Run) (old go : Goroutine) (t u v : Turning) (has : HasAttendedSome r old go t u) where
+  pub also : (new : Goroutine) (answer : Option Stop) → Acts r go new u v answer → Acts r old new t v answer
+  also new answer acts = acts_then r old go new t u v answer has.acts acts
 
-  pub still_noted : t.changed.count < 8 → v.changed.count < 8
-  still_noted noted =
-      let a = ap (λ (x : Turning). x.changed.count) has.same in
-      let b = ap (λ (x : Turning). x.changed.count) e in
-      omega (arith, a, b, noted)
+  pub also_same : v ≡ record u { moved = v.moved } → v ≡ record t { moved = v.moved }
+  also_same same = told_same t u v u.moved v.moved has.same same
 
-  pub still_moved : v.moved ≡ true
-  still_moved = ap (λ (x : Turning). x.moved) e
-
-  pub still_same : v ≡ record t { moved = v.moved }
-  still_same =
-      e ∙ (ap (λ (x : Turning). record x { moved = true }) has.same ∙ ap (λ m. record t { moved = m }) (sym still_moved))
-
-  pub also : (new : Goroutine) (answer : Option Stop) → Acts r go new v v answer → Acts r old new t v answer
-  also new answer acts = acts_then r old go new t u v answer has.acts (acts_moved r go new u v v answer e acts)
-
-  pub one_more : (new : Goroutine) (answer : Option Stop) → answer ≡ None → Acts r go new v v answer
+  pub one_more : (new : Goroutine) (answer : Option Stop) → answer ≡ None → Acts r go new u v answer → v ≡ record u { moved = v.moved }
       → HasAttendedOne go.actor.body new.actor.body → HasAttendedSome r old new t v
-  one_more new answer is acts one = record {
+  one_more new answer is acts same one = record {
     acts = subst (λ (a : Option Stop). Acts r old new t v a) is (also new answer acts);
-    same = still_same;
+    same = also_same same;
     rests = one.rests;
     expanded = one.expanded ∙ has.expanded;
   }

@@ -22,38 +22,40 @@ use Rattle.rgo_goroutine.specs.Instructions.{Instructs}
 use Rattle.rgo_goroutine.specs.declared.goroutine.Goroutine.{Goroutine}
 use Rattle.rgo_goroutine.specs.declared.turning.Stop.{Stop}
 use Rattle.rgo_goroutine.specs.declared.turning.Turning.{Turning}
-use Rattle.rgo_goroutine.proofs.Concluding.{ended, uncounted}
+use Rattle.rgo_goroutine.proofs.Concluding.{Counts, ended, uncounted}
 use Rattle.rgo_goroutine.proofs.Joining.{instructs_then}
 use Rattle.rgo_goroutine.proofs.Keeping.{IsSame}
 use Rattle.rgo_goroutine.proofs.Lifting.{goes_as, moved_as, moves}
 
 -- nothing was made, printed or started
-same_acts : (r : Run) (old new : Goroutine) (t : Turning) → Goes r old t.left → t.changed.count < 8 → t.moved ≡ true → IsSame old new
-    → act.Acted r old.actor new.actor 0 [] [] → Acts r old new t t None
-same_acts r old new t goes noted moved same acted = record {
+same_acts : (r : Run) (old new : Goroutine) (t u : Turning) → Goes r old t.left → t.changed.count < 8 → Counts t u 0 0 → IsSame old new
+    → act.Acted r old.actor new.actor 0 [] [] → Acts r old new t u None
+same_acts r old new t u goes noted counts same acted = record {
   acted = record {
     n = 0;
     es = acted.es;
     moved = moved_as r old new 0 [] [] acted (ap (map drawn_by) same.prints ∙ sym (append-nil (fresh old)))
         (same.children ∙ sym (append-nil old.children.items));
-    left = omega arith;
-    noted = omega arith;
-    still = λ e. absurd (moves t.moved moved e);
+    left = counts.left;
+    noted = (let c = counts.changed in omega (arith, c));
+    still = λ e. absurd (moves u.moved counts.moved e);
   };
-  goes = goes_as r old new 0 [] [] acted t.left t.left goes (omega arith) (omega arith) same.number
+  goes = goes_as r old new 0 [] [] acted t.left u.left goes counts.left (omega arith) same.number
       (subst (AllStand r) (sym same.children) goes.all) same.first;
-  noted = omega (arith, noted);
+  noted = (let c = counts.changed in omega (arith, c, noted));
   concludes = acted.went.first;
 }
 
 -- the run is over after that
-pub same_ends : (r : Run) (old mid new : Goroutine) (t : Turning) (why : Stop) → Goes r old t.left → t.changed.count < 8
-    → t.moved ≡ true → IsSame old mid → act.Acted r old.actor mid.actor 0 [] [] → EndsIn r mid new 0 why
-    → Instructs r old new t t (Some why)
-same_ends r old mid new t why goes noted moved same acted ends =
-    let first = same_acts r old mid t goes noted moved same acted in
-    instructs_then r old mid new t t t (Some why) first (omega arith)
-    (ended r mid new t t first.goes noted 0 why ends (uncounted t moved))
+pub same_ends : (r : Run) (old mid new : Goroutine) (t u : Turning) (why : Stop) → Goes r old t.left → t.changed.count < 8
+    → Counts t u 0 0 → IsSame old mid → act.Acted r old.actor mid.actor 0 [] [] → EndsIn r mid new 0 why
+    → Instructs r old new t u (Some why)
+same_ends r old mid new t u why goes noted counts same acted ends =
+    let first = same_acts r old mid t u goes noted counts same acted in
+    let left = counts.left in
+    let changed = counts.changed in
+    instructs_then r old mid new t u u (Some why) first (omega (arith, left, changed))
+    (ended r mid new u u first.goes (omega (arith, changed, noted)) 0 why ends (uncounted u counts.moved))
 
 -- ---- a return, for which room was made
 

@@ -1,11 +1,11 @@
 -- What follows an act of the goroutine's actor: the turn has less to do, or is over.
-use Rattle.std.proofs.Common.{◌≡◌, ◌+◌, ◌-◌, ◌<◌, ◌≤◌, ℕ, true, [], Option, Some, None, Ok, Err, Result, MatchResult, refl, ap, sym, subst, arith}
+use Rattle.std.proofs.Common.{◌≡◌, ◌+◌, ◌-◌, ◌<◌, ◌≤◌, ℕ, true, [], Option, Some, None, Ok, Err, Result, MatchResult, refl, ap, sym, subst, ◌∙◌, arith}
 use Rattle.std.proofs.lemmas.List.{append-nil}
 use Rattle.rgo_memory.specs.declared.traps.Trap.{Trap}
 use Rattle.rgo_acts.specs.Actors as act
-use Rattle.rgo_acts.specs.Actors.{Stands, now}
+use Rattle.rgo_acts.specs.Actors.{IsUnmoved, Stands, now}
 use Rattle.rgo_acts.specs.Runs.{Run}
-use Rattle.rgo_acts.specs.Talks.{IsUnmoved, Talks}
+use Rattle.rgo_acts.specs.Talks.{Talks}
 use Rattle.rgo_acts.specs.Traps.{IsAtTrap}
 use Rattle.rgo_acts.specs.declared.actors.Actor.{Actor}
 use Rattle.rgo_acts.specs.declared.channels.Talked.{Talked}
@@ -34,6 +34,17 @@ counted t u n some e = record {
 
 pub uncounted : (t : Turning) → t.moved ≡ true → Counts t t 0 0
 uncounted t moved = record { left = omega arith; changed = omega arith; moved = moved }
+
+-- the turn is told that something may have moved
+pub only_told : (t u : Turning) → u ≡ record t { moved = true } → Counts t u 0 0
+only_told t u e = record {
+  left = let l = ap (λ (x : Turning). x.left) e in omega (arith, l);
+  changed = let c = ap (λ (x : Turning). x.changed.count) e in omega (arith, c);
+  moved = ap (λ (x : Turning). x.moved) e;
+}
+
+pub told_as : (t u : Turning) → u ≡ record t { moved = true } → u ≡ record t { moved = u.moved }
+told_as t u e = e ∙ ap (λ m. record t { moved = m }) (sym (ap (λ (x : Turning). x.moved) e))
 
 pub no_answer : (why : Stop) → Some why ≡ None → ⊥
 no_answer why e = cc

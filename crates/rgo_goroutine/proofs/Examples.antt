@@ -1,22 +1,28 @@
 -- Goroutines and turns that are as their definitions say, and such as are not.
-use Rattle.std.proofs.Common.{◌≡◌, inl, inr, ◌++◌, ◌∙◌, ℕ, zero, suc, true, false, List, [], ◌∷◌, Option, Some, arith, ap, not, refl, sym}
+use Rattle.std.proofs.Common.{◌≡◌, inl, inr, ◌++◌, ◌∙◌, ℕ, zero, suc, true, false, List, [], ◌∷◌, Option, Some, arith, ap, length, not, refl, subst, sym}
 use mathlib.Core.Option.{some, some-injective, some-ne-none}
 use lib.ListN.{get_elem?}
 use Rattle.rgo_core_frames.specs.WordFrames.{WordFrame}
 use Rattle.rgo_core_rule.specs.Histories.{access}
+use Rattle.rgo_core_rule.specs.Passes.{ChangesNothingBy}
+use Rattle.rgo_core.specs.Core.{Setup}
+use Rattle.rgo_core.specs.Records.{Record}
+use Rattle.rgo_core_rule.specs.Views.{Rows, number_in, number_of}
 use Rattle.rgo_core_rule.specs.declared.accesses.Access.{Access}
 use Rattle.rgo_core_rule.specs.declared.accesses.Kind.TheVariants.{EndRun}
 use Rattle.rgo_region_machine.specs.States.{Duty}
 use Rattle.rgo_acts.specs.Runs.{Run}
 use Rattle.rgo_acts.specs.declared.prints.Print.{Print}
 use Rattle.rgo_goroutine.specs.Examples.{PassingExamples, TurnExamples, end_at}
-use Rattle.rgo_goroutine.specs.Goroutines.{valid}
+use Rattle.rgo_goroutine.specs.Goroutines.{rows, valid}
+use Rattle.rgo_goroutine.specs.Instructions.{IsNear}
 use Rattle.rgo_goroutine.specs.Passing.{Gathers}
 use Rattle.rgo_goroutine.specs.Turns.{FoundEnd, Stops}
 use Rattle.rgo_goroutine.specs.declared.goroutine.Child.{Child}
 use Rattle.rgo_goroutine.specs.declared.goroutine.Goroutine.{Goroutine}
 use Rattle.rgo_goroutine.specs.declared.turning.Stop.TheVariants as stop
 use Rattle.rgo_goroutine.proofs.Handing.{one_valid, one_void}
+use Rattle.rgo_goroutine.proofs.Looking.{near_same}
 
 its : (x a : Access) (i : ℕ) → get_elem? (x ∷ []) i ≡ some a → x ≡ a
 its x a zero e = some-injective x a e
@@ -50,6 +56,13 @@ some_duties d ds e = cc
 some_children : (child : Child) (later : List Child) → ◌≡◌ {A = List Child} (child ∷ later) [] → ⊥
 some_children child later e = cc
 
+not_still : (r : Run) (old new : Goroutine) (left : ℕ) (near : IsNear r old new left) → number_of old.actor.seat.me ≡ 1
+    → near.es ≡ access 1 EndRun 0 5 6 ∷ [] → ⊥
+not_still r old new left near is es =
+    let words = subst (ChangesNothingBy (number_of old.actor.seat.me)) es near.rests.words in
+    let e = words 0 (access 1 EndRun 0 5 6) refl (ap {B = Option ℕ} Some (sym is)) in
+    absurd (omega (arith, e))
+
 pub turn_examples : TurnExamples
 turn_examples = record {
   no_access = λ r go n es turns. let some = turns.some in absurd (omega (arith, some));
@@ -75,6 +88,8 @@ turn_examples = record {
   in_call = λ c w ws some over. some_frames w ws (sym some ∙ over.frames);
   owing = λ c d ds some over. some_duties d ds (sym some ∙ over.duties);
   locked = λ c taken tidy. taken tidy.hold;
+  near = near_same;
+  changed = not_still;
   too_large = λ T g c es lacks. lacks;
 }
 
@@ -92,9 +107,22 @@ in_front old new p q other is_valid prints gathers =
     (gathers.are ∙ ap (λ (ps : List Print). (q ∷ []) ++ valid ps) prints
     ∙ ap (λ (ps : List Print). (q ∷ []) ++ ps) (one_valid p [] (ap not is_valid))))
 
+reversed : (T : Setup) (a b : Child) → rows T (a ∷ b ∷ []) ≡ rows T (b ∷ a ∷ []) → a.number ≡ b.number
+reversed T a b e = ap (λ (l : Rows Record). number_in l) e
+
+-- lists of different lengths
+one_less : (x y : List Access) → ◌≡◌ {A = List (List Access)} (x ∷ y ∷ []) (x ∷ []) → ⊥
+one_less x y e = let n = ap (λ (l : List (List Access)). length l) e in absurd (omega (arith, n))
+
 pub passing_examples : PassingExamples
 passing_examples = record {
   newest_first = λ a b. refl;
+  oldest_first = λ T a b. refl;
+  not_newest_first = λ T a b other e. other (reversed T a b e);
+  each_has_seen = λ a b. refl;
+  none_left_out = λ a b e. one_less a.actor.seat.me.0.seen b.actor.seat.me.0.seen e;
+  begins_tidy = λ frame. record { hold = refl; make = refl; claim = refl; give = refl };
+  begins_locked = λ r child locked is. locked is.tidy.hold;
   one_void = void_out;
   left_behind = λ r old new list longer_list n child later some adopts. some_children child later (sym some ∙ adopts.none);
   one_more = λ r go born. born;

@@ -13,7 +13,6 @@ use Rattle.rgo_goroutine.specs.Instructions.{IsNear, IsReadyToExpand}
 use Rattle.rgo_goroutine.specs.declared.goroutine.Goroutine.{Goroutine}
 use Rattle.rgo_goroutine.specs.declared.turning.Stop.TheVariants as stop
 use Rattle.rgo_goroutine.specs.declared.turning.Turning.{Turning}
-use Rattle.rgo_goroutine.proofs.Attending.{at_rest_offers}
 use Rattle.rgo_goroutine.proofs.Concluding.{counted}
 use Rattle.rgo_goroutine.proofs.Joining.{acts_then, near_acts}
 use Rattle.rgo_goroutine.proofs.Lifting.{goes_on, stops}
@@ -61,7 +60,7 @@ module _ (r : Run) (old : Goroutine) (t v : Turning) (e : v ≡ record t { moved
   executed mid b u n near acted some f =
       let counts = counted v u n some f in
       acts_moved r old (record mid { actor = b }) t v u None e
-      (acts_then r old mid (record mid { actor = b }) v v u None (near_acts r old mid v near told_moved told_within)
+      (acts_then r old mid (record mid { actor = b }) v v u None (near_acts r old mid v near told_within)
       (goes_on r mid b v u near.goes n acted counts.left
       (let c = counts.changed in omega (arith, c))
       (let c = counts.changed in let w = told_within in omega (arith, c, w))
@@ -73,9 +72,6 @@ free_of b d same ready rests = record {
   not_yet = ap (λ (x : Body). x.is_expanded) same ∙ ready.not_yet;
   rests = ap (λ (x : Body). x.side) same ∙ rests;
 }
-
-pub ready_of : (b : Body) → IsFree b → IsReadyToExpand b
-ready_of b free = record { empty = free.empty; not_yet = free.not_yet; none = at_rest_offers b.side free.rests }
 
 -- many instructions can be counted, and local steps
 pub few_more : (r : Run) (go : Goroutine) (left : ℕ) → Goes r go left → go.actor.body.counts.steps + left < 18446744073709551616

@@ -22,7 +22,7 @@ use Rattle.rgo_acts.specs.Actors.{Stands, now}
 use Rattle.rgo_acts.specs.Runs.{Run}
 use Rattle.rgo_acts.specs.declared.prints.Print.{Print}
 use Rattle.rgo_acts.proofs.Standing.{now_at_once}
-use Rattle.rgo_goroutine.specs.Goroutines.{AllStand, IsChild, IsOf, drawn_by, fresh, is_valid, numbers, record_of, valid}
+use Rattle.rgo_goroutine.specs.Goroutines.{AllStand, IsChild, IsOf, drawn_by, fresh, is_valid, numbers, record_of, rows, valid}
 use Rattle.rgo_goroutine.specs.Passing.{AreBorn, IsBorn, Looks}
 use Rattle.rgo_goroutine.specs.declared.goroutine.Child.{Child}
 use Rattle.rgo_goroutine.specs.declared.goroutine.Goroutine.{Goroutine}
@@ -61,6 +61,11 @@ all_born r [] [] are = All-nil (IsOf r)
 all_born r [] (g ∷ gos) are = absurd are
 all_born r (c ∷ cs) [] are = absurd are
 all_born r (c ∷ cs) (g ∷ gos) are = All-cons (IsOf r) g gos are.0.of (all_born r cs gos are.1)
+
+-- the only row of its seat
+pub one_row : (r : Run) (child : Child) → IsChild r child → child.actor.seat.me.0.records ≡ rows r.setup (child ∷ [])
+one_row r child is =
+    is.stands.alone.0 ∙ ap (λ n. (n, mine r.setup child.actor.seat.me) ∷ []) (sym is.number)
 
 child_at : (r : Run) (before later : List Child) (child : Child) → AllStand r (before ++ child ∷ later) → IsChild r child
 child_at r [] later child all = all.0

@@ -44,7 +44,7 @@ module _ (r : Run) (go : Goroutine) (next : Next) (t : Turning) (can : CanAct r 
       → MatchResult done (λ _. act.Acted r go.actor b 1 [] []) (λ trap. IsAtTrap r go.actor b trap)
       → HasComeTo r go (record go { actor = b }) t done
   come_to done did = record {
-    come = record { goes = can.at.goes; some = can.at.some; noted = can.noted; moved = can.moved; rest = refl };
+    come = record { goes = can.at.goes; some = can.at.some; noted = can.noted; rest = refl };
     did = did;
   }
 

@@ -1,5 +1,5 @@
 -- Acts of a turn, one after another.
-use Rattle.std.proofs.Common.{◌≡◌, ◌+◌, ◌≤◌, ℕ, true, List, [], ◌∷◌, ◌++◌, Option, Some, None, ap, sym, subst, ◌∙◌, append_assoc, arith}
+use Rattle.std.proofs.Common.{◌≡◌, ◌+◌, ◌≤◌, ℕ, List, [], ◌∷◌, ◌++◌, Option, Some, None, refl, ap, sym, subst, ◌∙◌, append_assoc, arith}
 use Rattle.std.proofs.lemmas.List.{append-nil}
 use Rattle.rgo_core_rule.specs.Views.{number_of}
 use Rattle.rgo_core_rule.specs.declared.accesses.Access.{Access}
@@ -24,7 +24,6 @@ use Rattle.rgo_goroutine.specs.declared.goroutine.Goroutine.{Goroutine}
 use Rattle.rgo_goroutine.specs.declared.turning.Stop.{Stop}
 use Rattle.rgo_goroutine.specs.declared.turning.Stop.TheVariants as stop
 use Rattle.rgo_goroutine.specs.declared.turning.Turning.{Turning}
-use Rattle.rgo_goroutine.proofs.Lifting.{moves}
 
 -- ---- what was found is found among more accesses
 
@@ -135,16 +134,15 @@ module _ (r : Run) (a b c : Goroutine) where
   }
 
 -- it has come near
-pub near_acts : (r : Run) (a b : Goroutine) (t : Turning) → IsNear r a b t.left → t.moved ≡ true → t.changed.count ≤ 8
-    → Acts r a b t t None
-near_acts r a b t near moved within = record {
+pub near_acts : (r : Run) (a b : Goroutine) (t : Turning) → IsNear r a b t.left → t.changed.count ≤ 8 → Acts r a b t t None
+near_acts r a b t near within = record {
   acted = record {
     n = 0;
     es = near.es;
     moved = near.moved;
     left = omega arith;
     noted = omega arith;
-    still = λ e. absurd (moves t.moved moved e);
+    still = λ e. (e, refl, near.rests);
   };
   goes = near.goes;
   noted = within;

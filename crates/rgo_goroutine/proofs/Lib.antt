@@ -12,7 +12,6 @@ pub mod TurnActs
 pub mod Beginning
 pub mod Examples
 pub mod Shaping
-pub mod Performing
 pub mod Reaching
 pub mod Resting
 pub mod Attending

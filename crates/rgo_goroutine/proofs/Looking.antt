@@ -15,7 +15,7 @@ use Rattle.rgo_acts.specs.Actors as act
 use Rattle.rgo_acts.specs.Actors.{Stands, now}
 use Rattle.rgo_acts.specs.Runs.{Run}
 use Rattle.rgo_acts.specs.declared.actors.Actor.{Actor}
-use Rattle.rgo_acts.proofs.Standing.{acted_none, acted_one, now_accesses, now_at_once}
+use Rattle.rgo_acts.proofs.Standing.{acted_none, acted_one, now_accesses, now_at_once, unmoved_at}
 use Rattle.rgo_goroutine.specs.Acting.{Goes, HasCaughtUp}
 use Rattle.rgo_goroutine.specs.Goroutines.{fresh}
 use Rattle.rgo_goroutine.specs.Instructions.{IsNear}
@@ -110,6 +110,7 @@ pub near_by : (r : Run) (old new : Goroutine) (left : ℕ) → HasCaughtUp r old
 near_by r old new left up = record {
   es = up.es;
   moved = up.moved;
+  rests = up.rests;
   goes = up.goes;
   near = let e = up.settled in omega (arith, e);
   rest = up.rest;
@@ -120,9 +121,11 @@ near_by r old new left up = record {
 pub near_same : (r : Run) (old : Goroutine) (left : ℕ) → Goes r old left → old.actor.behind < 4611686018427387904 → IsNear r old old left
 near_same r old left goes near =
     let acted = acted_none r old.actor old.actor goes.stands refl refl goes.stands.shows in
+    let still = unmoved_at r old.actor old.actor acted refl refl in
     record {
       es = acted.es;
       moved = moved_as r old old 0 [] [] acted (sym (append-nil (fresh old))) (sym (append-nil old.children.items));
+      rests = record { words = still.words; frame = still.frame };
       goes = goes;
       near = near;
       rest = refl;

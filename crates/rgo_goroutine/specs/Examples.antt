@@ -1,19 +1,25 @@
 -- Goroutines and turns that are as their definitions say, and such as are not.
 use Rattle.std.specs.Prelude.{◌≡◌, ◌<◌, ℕ, true, false, List, [], ◌∷◌}
 use Rattle.rgo_core.specs.Core.{Setup}
-use Rattle.rgo_core.specs.Records.{Record}
+use Rattle.rgo_core.specs.Records.{Record, begins_with}
+use Rattle.rgo_core_steps.specs.Seats.{mine}
+use Rattle.rgo_core_frames.specs.Records.{Rec as FrameRec}
 use Rattle.rgo_core_channels.specs.Records.{Free}
 use Rattle.rgo_core_frames.specs.WordFrames.{WordFrame}
 use Rattle.rgo_core_rule.specs.Histories.{access}
+use Rattle.rgo_core_rule.specs.Views.{number_of}
 use Rattle.rgo_core_rule.specs.declared.accesses.Access.{Access}
 use Rattle.rgo_core_rule.specs.declared.accesses.Kind.TheVariants.{EndRun}
 use Rattle.rgo_machine.specs.declared.turns.Shortage.TheVariants as shortage
 use Rattle.rgo_region_machine.specs.States.{Duty}
+use Rattle.rgo_acts.specs.Actors.{now}
 use Rattle.rgo_acts.specs.Runs.{Run}
 use Rattle.rgo_acts.specs.declared.prints.Print.{Print}
-use Rattle.rgo_goroutine.specs.Goroutines.{IsOf, numbers, valid}
+use Rattle.rgo_goroutine.specs.Acting.{Goes}
+use Rattle.rgo_goroutine.specs.Goroutines.{IsChild, IsOf, IsTidy, all_seen, numbers, rows, valid}
+use Rattle.rgo_goroutine.specs.Instructions.{IsNear}
 use Rattle.rgo_goroutine.specs.Passing.{Adopts, AreBorn, Gathers}
-use Rattle.rgo_goroutine.specs.Turns.{FoundEnd, HasTurned, IsOver, IsTidy, LacksFor, Stops, Turns}
+use Rattle.rgo_goroutine.specs.Turns.{FoundEnd, HasTurned, IsOver, LacksFor, Stops, Turns}
 use Rattle.rgo_goroutine.specs.declared.goroutine.Child.{Child}
 use Rattle.rgo_goroutine.specs.declared.goroutine.Goroutine.{Goroutine}
 use Rattle.rgo_goroutine.specs.declared.turning.Stop.TheVariants as stop
@@ -41,12 +47,25 @@ pub record TurnExamples : Type 0 where
   pub in_call : (c : Record) (w : WordFrame) (ws : List WordFrame) → c.frame.frames ≡ w ∷ ws → IsOver c → ⊥
   pub owing : (c : Record) (d : Duty) (ds : List Duty) → c.frame.holder.duties ≡ d ∷ ds → IsOver c → ⊥
   pub locked : (c : Record) → (c.side.hold ≡ Free → ⊥) → IsTidy c → ⊥
+  -- it is near as it is, or has changed a word since
+  pub near : (r : Run) (go : Goroutine) (left : ℕ) → Goes r go left → go.actor.behind < 4611686018427387904 → IsNear r go go left
+  pub changed : (r : Run) (old new : Goroutine) (left : ℕ) (near : IsNear r old new left) → number_of old.actor.seat.me ≡ 1
+      → near.es ≡ access 1 EndRun 0 5 6 ∷ [] → ⊥
   -- the size of an object is no shortage
   pub too_large : (T : Setup) (g : ℕ) (c : Record) (es : List Access) → LacksFor shortage.ObjectSize T g c es → ⊥
 
 pub record PassingExamples : Type 0 where
   -- the newest is the first in a record
   pub newest_first : (a b : Child) → numbers (a ∷ b ∷ []) ≡ b.number ∷ a.number ∷ []
+  -- the oldest is the first in a driver's seat
+  pub oldest_first : (T : Setup) (a b : Child)
+      → rows T (a ∷ b ∷ []) ≡ (a.number, mine T a.actor.seat.me) ∷ (b.number, mine T b.actor.seat.me) ∷ []
+  pub not_newest_first : (T : Setup) (a b : Child) → (a.number ≡ b.number → ⊥) → rows T (a ∷ b ∷ []) ≡ rows T (b ∷ a ∷ []) → ⊥
+  pub each_has_seen : (a b : Child) → all_seen (a ∷ b ∷ []) ≡ a.actor.seat.me.0.seen ∷ b.actor.seat.me.0.seen ∷ []
+  pub none_left_out : (a b : Child) → all_seen (a ∷ b ∷ []) ≡ a.actor.seat.me.0.seen ∷ [] → ⊥
+  -- one that begins is at nothing; one that has locked a channel does not begin
+  pub begins_tidy : (frame : FrameRec) → IsTidy (begins_with frame)
+  pub begins_locked : (r : Run) (child : Child) → ((now r.setup child.actor).side.hold ≡ Free → ⊥) → IsChild r child → ⊥
   -- a void print is left out
   pub one_void : (p q : Print) → p.is_void ≡ true → q.is_void ≡ false → valid (p ∷ q ∷ []) ≡ q ∷ []
   -- one child was left behind

@@ -1,7 +1,10 @@
 -- Goroutines as their driver knows them.
 use Rattle.std.specs.Option.{option_map}
 use Rattle.std.specs.Prelude.{◌≡◌, ◌≤◌, ℕ, Bool, List, [], ◌∷◌, ◌++◌, filter, length, map, not}
-use Rattle.rgo_core_rule.specs.Views.{number_of}
+use Rattle.rgo_core_channels.specs.Records.{Free}
+use Rattle.rgo_core_memory.specs.Records.{Calm, Idle, Rest}
+use Rattle.rgo_core_rule.specs.Views.{Rows, number_of}
+use Rattle.rgo_core_rule.specs.declared.accesses.Access.{Access}
 use Rattle.rgo_core.specs.Core.{Setup}
 use Rattle.rgo_core.specs.Records.{Drawn, Record, blank, steps_of}
 use Rattle.rgo_core_steps.specs.Ends.{mark_of}
@@ -28,12 +31,30 @@ abbrev pub numbers : List Child → List ℕ
 numbers [] = []
 numbers (child ∷ later) = numbers later ++ child.number ∷ []
 
+-- their records, each with its number, the oldest first
+abbrev pub rows : Setup → List Child → Rows Record
+rows T [] = []
+rows T (child ∷ later) = (child.number, mine T child.actor.seat.me) ∷ rows T later
+
+-- what each of them has seen
+abbrev pub all_seen : List Child → List (List Access)
+all_seen [] = []
+all_seen (child ∷ later) = child.actor.seat.me.0.seen ∷ all_seen later
+
+-- no channel is locked, no object half made, no page claimed and not linked, and no chain given back
+pub record IsTidy (c : Record) : Type 0 where
+  pub hold : c.side.hold ≡ Free
+  pub make : c.memory.make ≡ Rest
+  pub claim : c.memory.claim ≡ Idle
+  pub give : c.memory.give ≡ Calm
+
 -- a goroutine that was started, and has done nothing yet
 pub record IsChild (r : Run) (child : Child) : Type 0 where
   pub stands : Stands r child.actor
   pub settled : child.actor.behind ≡ 0
   pub number : child.number ≡ number_of child.actor.seat.me
   pub blank : (now r.setup child.actor).clock ≡ blank
+  pub tidy : IsTidy (now r.setup child.actor)
 
 abbrev pub AllStand : Run → List Child → Type 0
 AllStand r [] = Unit {0}

@@ -16,7 +16,7 @@ use Rattle.rgo_acts.specs.Traps.{IsAtTrap}
 use Rattle.rgo_acts.specs.declared.channels.Talked.{Talked}
 use Rattle.rgo_body.specs.declared.nexts.Next.{Next}
 use Rattle.rgo_acts.specs.Runs.{Run}
-use Rattle.rgo_goroutine.specs.Acting.{Acts, Goes, Moved, Progresses, SameFirst}
+use Rattle.rgo_goroutine.specs.Acting.{Acts, Goes, Moved, Progresses, Rests, SameFirst}
 use Rattle.rgo_goroutine.specs.declared.turning.Stop.{Stop}
 use Rattle.rgo_goroutine.specs.declared.turning.Turning.{Turning}
 use Rattle.rgo_goroutine.specs.declared.goroutine.Goroutine.{Goroutine}
@@ -57,6 +57,12 @@ pub record HasAttendedAll (b d : Body) : Type 0 where
 pub record IsReadyToExpand (b : Body) : Type 0 where
   pub empty : b.queue.duties ≡ []
   pub not_yet : b.is_expanded ≡ false
+  pub none : (at : ℕ) → b.side ≡ Offering at → ⊥
+
+-- it owes nothing before its next instruction, and has no offer
+pub record OwesNothing (b : Body) : Type 0 where
+  pub empty : b.queue.duties ≡ []
+  pub expanded : b.is_expanded ≡ true
   pub none : (at : ℕ) → b.side ≡ Offering at → ⊥
 
 -- the action loads or stores one word
@@ -101,7 +107,6 @@ pub record CanAct (r : Run) (go : Goroutine) (next : Next) (t : Turning) : Type 
   pub counts : CanCountMore r go
   pub near : go.actor.behind < 4611686018427387904
   pub noted : t.changed.count < 8
-  pub moved : t.moved ≡ true
 
 -- The act was made, and the turn may do less than before if it continues.
 pub record Instructs (r : Run) (old new : Goroutine) (t u : Turning) (answer : Option Stop) : Type 0 where
@@ -115,7 +120,6 @@ pub record HasCome (r : Run) (first go : Goroutine) (t : Turning) : Type 0 where
   pub goes : Goes r first t.left
   pub some : 0 < t.left
   pub noted : t.changed.count < 8
-  pub moved : t.moved ≡ true
   pub rest : go ≡ record first { actor = go.actor }
 
 -- by an instruction that may trap
@@ -132,10 +136,11 @@ pub record HasTalked (r : Run) (first go : Goroutine) (t : Turning) (n : ℕ) (t
   pub rest : go ≡ record first { actor = go.actor }
   pub talks : Talks r first.actor go.actor n talked
 
--- The local steps since its last access are not too many to be counted, and its body is as before.
+-- The local steps since its last access are not too many to be counted, and its body is as before. It has changed no word.
 pub record IsNear (r : Run) (old new : Goroutine) (left : ℕ) : Type 0 where
   pub es : List Access
   pub moved : Moved r old new 0 es
+  pub rests : Rests r old new es
   pub goes : Goes r new left
   pub near : new.actor.behind < 4611686018427387904
   pub rest : new ≡ record old { actor = new.actor }

@@ -1,7 +1,5 @@
 -- What a turn of a goroutine leaves, and why it was over.
 use Rattle.std.specs.Prelude.{◌≡◌, ◌⊎◌, ◌+◌, ◌<◌, ◌≤◌, ◌^◌, ℕ, false, List, [], ◌++◌, Some}
-use Rattle.rgo_core_channels.specs.Records.{Free}
-use Rattle.rgo_core_memory.specs.Records.{Calm, Idle, Rest}
 use Rattle.rgo_core_memory.specs.Words.{clock_at}
 use Rattle.rgo_core_rule.specs.Passes.{ChangesNothingBy}
 use Rattle.rgo_core_rule.specs.Views.{number_of}
@@ -18,6 +16,7 @@ use Rattle.rgo_acts.specs.Runs.{Run}
 use Rattle.rgo_acts.specs.Shortages.{LacksPage, LacksSlot}
 use Rattle.rgo_acts.specs.Waits.{Loses, Waits}
 use Rattle.rgo_goroutine.specs.Goroutines.{fresh, numbers, record_of}
+pub use Rattle.rgo_goroutine.specs.Goroutines.{IsTidy}
 use Rattle.rgo_goroutine.specs.declared.goroutine.Child.{Child}
 use Rattle.rgo_goroutine.specs.declared.goroutine.Goroutine.{Goroutine}
 use Rattle.rgo_goroutine.specs.declared.turning.Stop.{Stop}
@@ -36,13 +35,6 @@ pub record Turns (r : Run) (old new : Goroutine) (n : ℕ) (es : List Access) : 
   pub starts : List Child
   pub newborn : new.children.items ≡ old.children.items ++ starts
   pub started : (record_of r.setup new).clock.children ≡ numbers starts ++ (record_of r.setup old).clock.children
-
--- no channel is locked, no object half made, no page claimed and not linked, and no chain given back
-pub record IsTidy (c : Record) : Type 0 where
-  pub hold : c.side.hold ≡ Free
-  pub make : c.memory.make ≡ Rest
-  pub claim : c.memory.claim ≡ Idle
-  pub give : c.memory.give ≡ Calm
 
 -- its accesses changed no word, and it stands where it stood
 pub record IsStill (r : Run) (old new : Goroutine) (es : List Access) : Type 0 where

@@ -4,14 +4,15 @@ ghost use Rattle.std.specs.List.{All};
 ghost use Rattle.rgo_core.specs.Core.{IsPossible};
 ghost use Rattle.rgo_core.specs.Opening.{first_of};
 ghost use Rattle.rgo_core_memory.specs.Words.{clock_at};
+ghost use Rattle.rgo_core_rule.specs.Passes.{after_pass};
 ghost use Rattle.rgo_core_rule.specs.Views.{longer, view};
 ghost use Rattle.rgo_core_steps.specs.Seats.{IsSeatOf};
 ghost use Rattle.rgo_acts.specs.Runs as runs;
-ghost use Rattle.rgo_goroutine.specs.Goroutines.{AllStand, IsOf, record_of, valid};
+ghost use Rattle.rgo_goroutine.specs.Goroutines.{AllStand, IsOf, all_seen, record_of, rows, valid};
 ghost use Rattle.rgo_goroutine.specs.Passing.{Adopts, AreBorn, Gathers, Looks};
 ghost use Rattle.rgo_goroutine.specs.declared.goroutine.Goroutine as spec;
 
-use rgo_acts::actors::Actor;
+use rgo_acts::actors::{Actor, Searches};
 use rgo_acts::prints::Print;
 use rgo_acts::runs::Run;
 use rgo_body::{Body, Counts};
@@ -34,9 +35,6 @@ pub struct Goroutine {
     pub(crate) children: Vec<Child>,
     /// How the run ended, if this goroutine ended it.
     pub(crate) first: Option<Mark>,
-    /// Where its next searches for a free page and for a free slot begin.
-    pub(crate) page_from: u32,
-    pub(crate) slot_from: u32,
 }
 
 /// A goroutine that was started, with its number.
@@ -44,14 +42,6 @@ pub struct Goroutine {
 pub(crate) struct Child {
     pub(crate) actor: Actor,
     pub(crate) number: u64,
-}
-
-/// Where a goroutine begins to search among `count` places, so that goroutines begin at different ones.
-fn place_of(number: u64, count: usize) -> u32 {
-    if count == 0 {
-        return 0;
-    }
-    u32::try_from(number.wrapping_mul(64) % count as u64).unwrap_or(0)
 }
 
 /// Moves the prints that are not void to the end of another list.
@@ -69,7 +59,7 @@ fn move_valid(prints: &mut Vec<Print>, into: &mut Vec<Print>)
 }
 
 /// Makes goroutines of children, at the end of a list.
-fn raise(alloc: Global, run: &Run<'_>, children: &mut Vec<Child>, into: &mut Vec<Goroutine>)
+fn raise(alloc: Global, run: &Run<'_, '_>, children: &mut Vec<Child>, into: &mut Vec<Goroutine>)
     requires room { vec_len children.old ≤ vec_capacity into.old - vec_len into.old }
     requires stand { AllStand run.now children.old.items }
     ensures born { (more : List spec.Goroutine) × (into.new.items ≡ into.old.items ++ more)
@@ -78,13 +68,28 @@ fn raise(alloc: Global, run: &Run<'_>, children: &mut Vec<Child>, into: &mut Vec
 {
     children.reverse();
     while let Some(child) = children.pop() {
-        into.push_reserved(Goroutine::new(alloc, run, child.actor, child.number));
+        into.push_reserved(Goroutine::new(alloc, child.actor, child.number));
+    }
+}
+
+/// The records of goroutines that were started come to the seat of their driver, the oldest first.
+fn hand_over(run: &Run<'_, '_>, started: &mut Vec<Child>, seat: &mut RunSeat)
+    requires stand { AllStand run.now started.old.items }
+    requires own { IsSeatOf seat.old.table_id run.now.table clock_at }
+    ensures own { (seat.new.table_id ≡ seat.old.table_id) × (seat.new.id ≡ seat.old.id) }
+    ensures records { seat.new.me.0.records ≡ seat.old.me.0.records ++ rows run.now.setup started.old.items }
+    ensures seen { seat.new.me.0.seen ≡ after_pass seat.old.me.0.seen (all_seen started.old.items) }
+    ensures slots { seat.new.me.1 ≡ seat.old.me.1 }
+{
+    started.reverse();
+    while let Some(child) = started.pop() {
+        seats::join(run.table(), seat, child.actor.seat);
     }
 }
 
 impl Goroutine {
     /// A goroutine that has done nothing yet.
-    fn new(alloc: Global, run: &Run<'_>, actor: Actor, number: u64) -> Goroutine
+    fn new(alloc: Global, actor: Actor, number: u64) -> Goroutine
         ensures actor { result.actor ≡ actor }
         ensures number { result.number ≡ number }
         ensures prints { result.prints.items ≡ [] }
@@ -97,8 +102,6 @@ impl Goroutine {
             prints: Vec::new(alloc),
             children: Vec::new(alloc),
             first: None,
-            page_from: place_of(number, run.pages()),
-            slot_from: place_of(number, run.slots()),
         }
     }
 
@@ -109,7 +112,7 @@ impl Goroutine {
     /// On allocation failure. Then the seat keeps it.
     pub fn main_goroutine(
         alloc: Global,
-        run: &Run<'_>,
+        run: &Run<'_, '_>,
         seat: &mut RunSeat,
     ) -> Result<Goroutine, AllocError>
         requires own { IsSeatOf seat.old.table_id run.now.table clock_at }
@@ -124,12 +127,13 @@ impl Goroutine {
         match Body::new(alloc, run.program(), run.slots() as u32) {
             Ok(body) => {
                 let seat = part::<Record, Plan, ByRuns>(run.table(), seat, 0);
+                let searches = Searches::new(0, run);
                 Ok(Goroutine::new(
                     alloc,
-                    run,
                     Actor {
                         seat,
                         behind: 0,
+                        searches,
                         body,
                     },
                     0,
@@ -183,7 +187,7 @@ impl Goroutine {
     pub fn adopt(
         &mut self,
         alloc: Global,
-        run: &Run<'_>,
+        run: &Run<'_, '_>,
         into: &mut Vec<Goroutine>,
     ) -> Result<usize, AllocError>
         requires of { IsOf run.now self.old }
@@ -224,7 +228,7 @@ impl Goroutine {
     }
 
     /// Whether the run has ended. Its seat has then seen all accesses of its own.
-    pub fn look(&mut self, run: &Run<'_>) -> bool
+    pub fn look(&mut self, run: &Run<'_, '_>) -> bool
         requires of { IsOf run.now self.old }
         ensures of { IsOf run.now self.new }
         ensures looks { Looks run.now self.old self.new result }
@@ -234,7 +238,7 @@ impl Goroutine {
     }
 
     /// Its record comes to the seat of its driver. What it had printed was gathered, and what it had started was adopted.
-    pub fn retire(self, run: &Run<'_>, seat: &mut RunSeat)
+    pub fn retire(self, run: &Run<'_, '_>, seat: &mut RunSeat)
         requires of { IsOf run.now self }
         requires own { IsSeatOf seat.old.table_id run.now.table clock_at }
         requires gathered { self.prints.items ≡ [] }
@@ -247,8 +251,26 @@ impl Goroutine {
         seats::join(run.table(), seat, self.actor.seat);
     }
 
+    /// Its record comes to the seat of its driver, and after it the records of the goroutines that it had started and that were not
+    /// adopted. What it had printed and was not gathered is lost but for its record. It takes no memory, so that a driver can close the
+    /// table also where `gather` or `adopt` was refused memory.
+    pub fn give_up(self, run: &Run<'_, '_>, seat: &mut RunSeat)
+        requires of { IsOf run.now self }
+        requires own { IsSeatOf seat.old.table_id run.now.table clock_at }
+        ensures own { (seat.new.table_id ≡ seat.old.table_id) × (seat.new.id ≡ seat.old.id) }
+        ensures records { seat.new.me.0.records ≡ seat.old.me.0.records
+            ++ (self.number, record_of run.now.setup self) ∷ rows run.now.setup self.children.items }
+        ensures seen { seat.new.me.0.seen ≡ after_pass (longer seat.old.me.0.seen self.actor.seat.me.0.seen)
+            (all_seen self.children.items) }
+        ensures slots { seat.new.me.1 ≡ seat.old.me.1 }
+    {
+        let mut started = self.children;
+        seats::join(run.table(), seat, self.actor.seat);
+        hand_over(run, &mut started, seat);
+    }
+
     /// It and its driver have then seen what either had seen.
-    pub fn meet(&mut self, run: &Run<'_>, seat: &mut RunSeat)
+    pub fn meet(&mut self, run: &Run<'_, '_>, seat: &mut RunSeat)
         requires of { IsOf run.now self.old }
         requires own { IsSeatOf seat.old.table_id run.now.table clock_at }
         ensures of { IsOf run.now self.new }

@@ -44,7 +44,7 @@ impl Goroutine {
     pub(crate) fn instruct<L: Ledger>(
         &mut self,
         alloc: Global,
-        run: &Run<'_>,
+        run: &Run<'_, '_>,
         turning: &mut Turning,
         steps: &mut Steps<L>,
     ) -> Option<Stop>
@@ -61,13 +61,13 @@ impl Goroutine {
         let Some(next) = self.actor.body.next(run.program()) else {
             return Some(Stop::Ended);
         };
-        if self.actor.body.room_behind(&next).is_err() {
+        if self.actor.body.room_behind(next).is_err() {
             return Some(Stop::NoMemory);
         }
         if let Op::Do { action, from, .. } = next.op {
             match action {
                 Action::Send | Action::Recv | Action::Close => {
-                    return self.talk(run, &next, action, from, turning, steps);
+                    return self.talk(run, next, action, from, turning, steps);
                 }
                 Action::Int(_)
                 | Action::Bool(_)
@@ -89,14 +89,14 @@ impl Goroutine {
                 | Action::Set(_) => {}
             }
         }
-        self.dispatch(alloc, run, &next, turning, steps)
+        self.dispatch(alloc, run, next, turning, steps)
     }
 
     /// An instruction that is no operation on a channel.
     fn dispatch<L: Ledger>(
         &mut self,
         alloc: Global,
-        run: &Run<'_>,
+        run: &Run<'_, '_>,
         next: &Next<'_>,
         turning: &mut Turning,
         steps: &mut Steps<L>,
@@ -108,7 +108,6 @@ impl Goroutine {
         requires elsewhere { IsElsewhere (operation_of next.now.op) }
         ensures { Instructs run.now self.old self.new turning.old turning.new result }
     {
-        turning.move_on();
         self.come_near(run);
         if !self.can_count(run) {
             return Some(Stop::NoMemory);
@@ -120,7 +119,7 @@ impl Goroutine {
     fn perform<L: Ledger>(
         &mut self,
         alloc: Global,
-        run: &Run<'_>,
+        run: &Run<'_, '_>,
         next: &Next<'_>,
         turning: &mut Turning,
         steps: &mut Steps<L>,
@@ -154,7 +153,7 @@ impl Goroutine {
     /// Performs an action.
     fn act<L: Ledger>(
         &mut self,
-        run: &Run<'_>,
+        run: &Run<'_, '_>,
         next: &Next<'_>,
         to: Option<u32>,
         action: Action,
@@ -197,7 +196,7 @@ impl Goroutine {
     /// Loads or stores a word.
     fn access(
         &mut self,
-        run: &Run<'_>,
+        run: &Run<'_, '_>,
         next: &Next<'_>,
         to: Option<u32>,
         action: Action,
@@ -214,10 +213,10 @@ impl Goroutine {
         self.unless_trapped(run, done, turning)
     }
 
-    /// Makes an object.
+    /// Makes an object. Where no page is free, nothing has moved.
     fn make<L: Ledger>(
         &mut self,
-        run: &Run<'_>,
+        run: &Run<'_, '_>,
         next: &Next<'_>,
         to: Option<u32>,
         action: Action,
@@ -232,12 +231,7 @@ impl Goroutine {
         requires makes { makes_object action ≡ true }
         ensures { Instructs run.now self.old self.new turning.old turning.new result }
     {
-        let place = if (self.page_from as usize) < run.pages() {
-            self.page_from
-        } else {
-            0
-        };
-        let made = make_object(&mut self.actor, run, next, to, action, from, place, steps);
+        let made = make_object(&mut self.actor, run, next, to, action, from, steps);
         match made {
             Made::Done => {
                 turning.count(1);
@@ -247,7 +241,10 @@ impl Goroutine {
                 turning.count(1);
                 Some(self.trap(run, trap))
             }
-            Made::TooLarge => Some(self.stop(run, Limit::ObjectSize)),
+            Made::TooLarge => {
+                turning.move_on();
+                Some(self.stop(run, Limit::ObjectSize))
+            }
             Made::Short => Some(Stop::Short(Shortage::Pages)),
         }
     }
@@ -255,7 +252,7 @@ impl Goroutine {
     /// Operates on a channel.
     fn talk<L: Ledger>(
         &mut self,
-        run: &Run<'_>,
+        run: &Run<'_, '_>,
         next: &Next<'_>,
         action: Action,
         from: Operands,
@@ -276,7 +273,7 @@ impl Goroutine {
     /// What follows an operation on a channel, which has made `done` instructions if it took effect.
     pub(crate) fn after_talk(
         &mut self,
-        run: &Run<'_>,
+        run: &Run<'_, '_>,
         talked: Talked,
         done: u32,
         turning: &mut Turning,
@@ -307,7 +304,7 @@ impl Goroutine {
     /// Calls a function.
     fn call(
         &mut self,
-        run: &Run<'_>,
+        run: &Run<'_, '_>,
         next: &Next<'_>,
         function: u32,
         from: &[u32],
@@ -322,8 +319,14 @@ impl Goroutine {
                 turning.count(1);
                 None
             }
-            Err(NoCall::TooDeep) => Some(self.stop(run, Limit::Calls)),
-            Err(NoCall::NoMemory) => Some(Stop::NoMemory),
+            Err(NoCall::TooDeep) => {
+                turning.move_on();
+                Some(self.stop(run, Limit::Calls))
+            }
+            Err(NoCall::NoMemory) => {
+                turning.move_on();
+                Some(Stop::NoMemory)
+            }
         }
     }
 
@@ -331,7 +334,7 @@ impl Goroutine {
     fn start(
         &mut self,
         alloc: Global,
-        run: &Run<'_>,
+        run: &Run<'_, '_>,
         next: &Next<'_>,
         function: u32,
         from: &[u32],
@@ -342,9 +345,11 @@ impl Goroutine {
         ensures { Instructs run.now self.old self.new turning.old turning.new result }
     {
         if self.actor.body.is_refused() {
+            turning.move_on();
             return Some(self.too_many(run, next));
         }
         if self.children.reserve(1).is_err() {
+            turning.move_on();
             return Some(Stop::NoMemory);
         }
         match starts::start(alloc, &mut self.actor, run, next, function, from) {
@@ -353,13 +358,19 @@ impl Goroutine {
                 turning.count(1);
                 None
             }
-            Ok(Outcome::Refused) => Some(self.stop(run, Limit::Goroutines)),
-            Err(_) => Some(Stop::NoMemory),
+            Ok(Outcome::Refused) => {
+                turning.move_on();
+                Some(self.stop(run, Limit::Goroutines))
+            }
+            Err(_) => {
+                turning.move_on();
+                Some(Stop::NoMemory)
+            }
         }
     }
 
     /// A number was refused before: the run ends.
-    fn too_many(&mut self, run: &Run<'_>, next: &Next<'_>) -> Stop
+    fn too_many(&mut self, run: &Run<'_, '_>, next: &Next<'_>) -> Stop
         requires before { IsBefore run.now self.old.actor next.now }
         requires starts { (n : ℕ) × (from : List ℕ) × (operation_of next.now.op ≡ Go n from) }
         requires refused { self.old.actor.body.refused ≡ true }
@@ -373,7 +384,7 @@ impl Goroutine {
     fn print(
         &mut self,
         alloc: Global,
-        run: &Run<'_>,
+        run: &Run<'_, '_>,
         next: &Next<'_>,
         pieces: &[Piece],
         from: &[u32],
@@ -384,6 +395,7 @@ impl Goroutine {
         ensures { Instructs run.now self.old self.new turning.old turning.new result }
     {
         if self.prints.reserve(1).is_err() {
+            turning.move_on();
             return Some(Stop::NoMemory);
         }
         match prints::print_line(alloc, &mut self.actor, run, next, pieces, from) {
@@ -392,14 +404,17 @@ impl Goroutine {
                 turning.count(1);
                 None
             }
-            Err(_) => Some(Stop::NoMemory),
+            Err(_) => {
+                turning.move_on();
+                Some(Stop::NoMemory)
+            }
         }
     }
 
     /// Returns from a function. The return from the first function of `main` ends the run.
     fn come_back(
         &mut self,
-        run: &Run<'_>,
+        run: &Run<'_, '_>,
         next: &Next<'_>,
         value: Option<u32>,
         turning: &mut Turning,
@@ -420,7 +435,7 @@ impl Goroutine {
     /// `main` returns from its first function.
     fn exit(
         &mut self,
-        run: &Run<'_>,
+        run: &Run<'_, '_>,
         next: &Next<'_>,
         value: Option<u32>,
         turning: &mut Turning,
@@ -432,6 +447,7 @@ impl Goroutine {
         ensures { Instructs run.now self.old self.new turning.old turning.new result }
     {
         if self.actor.body.room_to_return(run.program()).is_err() {
+            turning.move_on();
             return Some(Stop::NoMemory);
         }
         let ended = ends::exit(&mut self.actor, run, next, value);
@@ -442,7 +458,7 @@ impl Goroutine {
     /// An instruction that may trap was made, or traps.
     fn unless_trapped(
         &mut self,
-        run: &Run<'_>,
+        run: &Run<'_, '_>,
         done: Result<(), Trap>,
         turning: &mut Turning,
     ) -> Option<Stop>
@@ -458,7 +474,7 @@ impl Goroutine {
     }
 
     /// The next instruction traps: the run ends.
-    fn trap(&mut self, run: &Run<'_>, trap: Trap) -> Stop
+    fn trap(&mut self, run: &Run<'_, '_>, trap: Trap) -> Stop
         requires stands { Stands run.now self.old.actor }
         requires traps { Traps run.now.setup (now run.now.setup self.old.actor) trap }
         requires count { self.old.actor.body.counts.steps + 1 < 2 ^ 64 }
@@ -468,12 +484,12 @@ impl Goroutine {
             unreachable!()
         };
         let place = next.function.tac().place(next.at);
-        let ended = ends::trap(&mut self.actor, run, &next, trap);
+        let ended = ends::trap(&mut self.actor, run, next, trap);
         self.over(Mark::Ended(End::Trap(trap, place)), ended)
     }
 
     /// A limit ends the run.
-    fn stop(&mut self, run: &Run<'_>, limit: Limit) -> Stop
+    fn stop(&mut self, run: &Run<'_, '_>, limit: Limit) -> Stop
         requires stands { Stands run.now self.old.actor }
         requires cause { Ends run.now.setup (number_of self.old.actor.seat.me) (now run.now.setup self.old.actor) (Stopped limit) }
         ensures { EndsIn run.now self.old self.new 0 result }
@@ -499,14 +515,17 @@ impl Goroutine {
 fn unless_refused(done: Result<(), AllocError>, turning: &mut Turning) -> Option<Stop>
     requires { 0 < turning.old.left }
     ensures made { IsOk done → (result ≡ None) × (turning.new ≡ record turning.old { left = turning.old.left - 1; moved = true }) }
-    ensures refused { IsErr done → (result ≡ Some stop.NoMemory) × (turning.new ≡ turning.old) }
+    ensures refused { IsErr done → (result ≡ Some stop.NoMemory) × (turning.new ≡ record turning.old { moved = true }) }
 {
     match done {
         Ok(()) => {
             turning.count(1);
             None
         }
-        Err(_) => Some(Stop::NoMemory),
+        Err(_) => {
+            turning.move_on();
+            Some(Stop::NoMemory)
+        }
     }
 }
 
@@ -557,7 +576,7 @@ fn target(to: Option<u32>) -> u32
 /// Loads or stores a word.
 fn access_word(
     actor: &mut Actor,
-    run: &Run<'_>,
+    run: &Run<'_, '_>,
     next: &Next<'_>,
     to: Option<u32>,
     action: Action,
@@ -609,12 +628,11 @@ fn access_word(
 /// Makes an object.
 fn make_object<L: Ledger>(
     actor: &mut Actor,
-    run: &Run<'_>,
+    run: &Run<'_, '_>,
     next: &Next<'_>,
     to: Option<u32>,
     action: Action,
     from: Operands,
-    place: u32,
     steps: &mut Steps<L>,
 ) -> Made
     requires before { IsBefore run.now actor.old next.now }
@@ -622,22 +640,13 @@ fn make_object<L: Ledger>(
     requires is { operation_of next.now.op ≡ Do to action (numbers_of from) }
     requires shape { IsShaped to action (numbers_of from) }
     requires makes { makes_object action ≡ true }
-    requires from { place < run.now.sizes.pages }
     requires count { CanCount actor.old.body.counts }
     ensures { Makes run.now actor.old actor.new result }
 {
     match action {
-        Action::New(kind) => objects::new_struct(actor, run, next, target(to), kind, place, steps),
-        Action::Slice => objects::new_slice(actor, run, next, target(to), only(from), place, steps),
-        Action::Chan => objects::new_channel(
-            actor,
-            run,
-            next,
-            target(to),
-            only(from),
-            place,
-            steps,
-        ),
+        Action::New(kind) => objects::new_struct(actor, run, next, target(to), kind, steps),
+        Action::Slice => objects::new_slice(actor, run, next, target(to), only(from), steps),
+        Action::Chan => objects::new_channel(actor, run, next, target(to), only(from), steps),
         Action::Int(_)
         | Action::Bool(_)
         | Action::Nil
@@ -662,7 +671,7 @@ fn make_object<L: Ledger>(
 /// Operates on a channel.
 fn operate<L: Ledger>(
     actor: &mut Actor,
-    run: &Run<'_>,
+    run: &Run<'_, '_>,
     next: &Next<'_>,
     action: Action,
     from: Operands,

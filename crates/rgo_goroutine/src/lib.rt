@@ -1,7 +1,7 @@
 //! Goroutines over the table of a run. A [`Goroutine`](goroutine::Goroutine) has a seat at the table, its frames and what it knows of
 //! regions. In a turn it makes up to a slice of instructions, by atomic accesses alone: no turn waits for another goroutine.
 //!
-//! [`turning`] has the turn: the loop over simple instructions, and one act of `rgo_acts` wherever the loop stops. [`goroutine`] has
+//! [`turning`] has the turn: a loop over instructions, `execute` of `rgo_acts`, and one other act wherever it stops. [`goroutine`] has
 //! what a driver needs besides: where goroutines begin and end, and what is taken from them between turns.
 #![tactic(auto)]
 

@@ -9,7 +9,7 @@ ghost use Rattle.rgo_machine.specs.declared.turns.Shortage.TheVariants as shorta
 ghost use Rattle.rgo_region_machine.specs.States.{Duty};
 ghost use Rattle.rgo_acts.specs.Actors.{Stands};
 ghost use Rattle.rgo_goroutine.specs.Acting.{Acts, Goes, Proceeds, HasCaughtUp};
-ghost use Rattle.rgo_goroutine.specs.Instructions.{CanCountMore, HasAttendedAll, HasAttendedOne, HasPages, Instructs, IsNear, IsReadyToExpand};
+ghost use Rattle.rgo_goroutine.specs.Instructions.{CanCountMore, HasAttendedAll, HasAttendedOne, HasPages, Instructs, IsNear, IsReadyToExpand, OwesNothing};
 ghost use Rattle.rgo_goroutine.specs.Examples.{PassingExamples, TurnExamples};
 ghost use Rattle.rgo_goroutine.specs.Goroutines.{IsOf, record_of};
 ghost use Rattle.rgo_goroutine.specs.Turns.{HasTurned, IsTidy};
@@ -105,7 +105,7 @@ impl Goroutine {
     pub fn turn<L: Ledger>(
         &mut self,
         alloc: Global,
-        run: &Run<'_>,
+        run: &Run<'_, '_>,
         slice: u32,
         steps: &mut Steps<L>,
     ) -> Turned
@@ -132,7 +132,7 @@ impl Goroutine {
     }
 
     /// Its record takes its local steps, by a load of the clock.
-    fn catch_up(&mut self, run: &Run<'_>)
+    fn catch_up(&mut self, run: &Run<'_, '_>)
         requires stands { Stands run.now self.old.actor }
         ensures { (left : ℕ) → Goes run.now self.old left → HasCaughtUp run.now self.old self.new left }
     {
@@ -142,7 +142,7 @@ impl Goroutine {
     }
 
     /// Its record takes its local steps if they are many.
-    pub(crate) fn come_near(&mut self, run: &Run<'_>)
+    pub(crate) fn come_near(&mut self, run: &Run<'_, '_>)
         requires stands { Stands run.now self.old.actor }
         ensures { (left : ℕ) → Goes run.now self.old left → IsNear run.now self.old self.new left }
     {
@@ -155,7 +155,7 @@ impl Goroutine {
     fn proceed<L: Ledger>(
         &mut self,
         alloc: Global,
-        run: &Run<'_>,
+        run: &Run<'_, '_>,
         turning: &mut Turning,
         steps: &mut Steps<L>,
     ) -> Stop
@@ -176,7 +176,7 @@ impl Goroutine {
     fn advance<L: Ledger>(
         &mut self,
         alloc: Global,
-        run: &Run<'_>,
+        run: &Run<'_, '_>,
         turning: &mut Turning,
         steps: &mut Steps<L>,
     ) -> Option<Stop>
@@ -198,17 +198,40 @@ impl Goroutine {
         if turning.left == 0 {
             return None;
         }
-        if let Some(stop) = self.expand(run, turning) {
-            return Some(stop);
-        }
-        if let Some(stop) = self.attend_all(run, turning, steps) {
+        if let Some(stop) = self.prepare(run, turning, steps) {
             return Some(stop);
         }
         self.instruct(alloc, run, turning, steps)
     }
 
+    /// Attends to all that it owes before its next instruction. If it is to try an operation on a channel again, it owes nothing.
+    fn prepare<L: Ledger>(
+        &mut self,
+        run: &Run<'_, '_>,
+        turning: &mut Turning,
+        steps: &mut Steps<L>,
+    ) -> Option<Stop>
+        requires goes { Goes run.now self.old turning.old.left }
+        requires noted { turning.old.changed.count < 8 }
+        requires none { (at : ℕ) → self.old.actor.body.side ≡ side.Offering at → ⊥ }
+        ensures acts { Acts run.now self.old self.new turning.old turning.new result }
+        ensures same { turning.new ≡ record turning.old { moved = turning.new.moved } }
+        ensures ready { result ≡ None → OwesNothing self.new.actor.body }
+    {
+        if let Some(stop) = self.attend_all(run, turning, steps) {
+            return Some(stop);
+        }
+        if self.actor.body.is_expanded() {
+            return None;
+        }
+        if let Some(stop) = self.expand(run, turning) {
+            return Some(stop);
+        }
+        self.attend_all(run, turning, steps)
+    }
+
     /// Whether one more of each thing can be counted.
-    pub(crate) fn can_count(&self, run: &Run<'_>) -> bool
+    pub(crate) fn can_count(&self, run: &Run<'_, '_>) -> bool
         ensures { (result ≡ true) ↔ CanCountMore run.now self.now }
     {
         let counts = self.actor.body.counts();
@@ -218,7 +241,7 @@ impl Goroutine {
     /// Attends to all duties in its queue. If it is to try an operation on a channel again, it has none.
     fn attend_all<L: Ledger>(
         &mut self,
-        run: &Run<'_>,
+        run: &Run<'_, '_>,
         turning: &mut Turning,
         steps: &mut Steps<L>,
     ) -> Option<Stop>
@@ -238,7 +261,7 @@ impl Goroutine {
     /// Attends to one duty after another.
     fn attend_each<L: Ledger>(
         &mut self,
-        run: &Run<'_>,
+        run: &Run<'_, '_>,
         turning: &mut Turning,
         steps: &mut Steps<L>,
     ) -> Option<Stop>
@@ -250,7 +273,6 @@ impl Goroutine {
         ensures done { result ≡ None → HasAttendedAll self.old.actor.body self.new.actor.body }
     {
         while self.actor.body.duty().is_some() {
-            turning.move_on();
             if let Some(stop) = self.attend(run, turning, steps) {
                 return Some(stop);
             }
@@ -258,36 +280,42 @@ impl Goroutine {
         None
     }
 
-    /// Attends to the first duty.
+    /// Attends to the first duty. Where no slot is free, nothing has moved.
     fn attend<L: Ledger>(
         &mut self,
-        run: &Run<'_>,
-        turning: &Turning,
+        run: &Run<'_, '_>,
+        turning: &mut Turning,
         steps: &mut Steps<L>,
     ) -> Option<Stop>
-        requires goes { Goes run.now self.old turning.now.left }
-        requires noted { turning.now.changed.count < 8 }
-        requires moved { turning.now.moved ≡ true }
+        requires goes { Goes run.now self.old turning.old.left }
+        requires noted { turning.old.changed.count < 8 }
         requires rests { self.old.actor.body.side ≡ side.AtRest }
         requires first { (d : Duty) × (ds : List Duty) × (self.old.actor.body.queue.duties ≡ d ∷ ds) }
-        ensures acts { Acts run.now self.old self.new turning.now turning.now result }
+        ensures acts { Acts run.now self.old self.new turning.old turning.new result }
+        ensures same { turning.new ≡ record turning.old { moved = turning.new.moved } }
         ensures done { result ≡ None → HasAttendedOne self.old.actor.body self.new.actor.body }
     {
         self.come_near(run);
         if !self.can_count(run) {
             return Some(Stop::NoMemory);
         }
-        match duties::attend(&mut self.actor, run, self.slot_from, steps) {
-            Attended::Done => None,
+        match duties::attend(&mut self.actor, run, steps) {
+            Attended::Done => {
+                turning.move_on();
+                None
+            }
             Attended::Short => Some(Stop::Short(Shortage::Regions)),
-            Attended::NoMemory => Some(Stop::NoMemory),
+            Attended::NoMemory => {
+                turning.move_on();
+                Some(Stop::NoMemory)
+            }
         }
     }
 
     /// Asks whether its offer was taken.
     fn acknowledge<L: Ledger>(
         &mut self,
-        run: &Run<'_>,
+        run: &Run<'_, '_>,
         at: usize,
         turning: &mut Turning,
         steps: &mut Steps<L>,
@@ -300,22 +328,22 @@ impl Goroutine {
         let Some(next) = self.actor.body.next(run.program()) else {
             unreachable!()
         };
-        if room_behind_offer(&mut self.actor.body, run.program(), &next).is_err() {
+        if room_behind_offer(&mut self.actor.body, run.program(), next).is_err() {
             return Some(Stop::NoMemory);
         }
-        let talked = channels::acknowledge(&mut self.actor, run, &next, at, steps);
+        let talked = channels::acknowledge(&mut self.actor, run, next, at, steps);
         self.after_talk(run, talked, 0, turning)
     }
 
-    /// Executes simple instructions up to the next one that is not simple.
-    fn execute(&mut self, run: &Run<'_>, turning: &mut Turning)
+    /// Executes instructions up to the next one that is not executed at once.
+    fn execute(&mut self, run: &Run<'_, '_>, turning: &mut Turning)
         requires goes { Goes run.now self.old turning.old.left }
         requires noted { turning.old.changed.count < 8 }
         requires none { (at : ℕ) → self.old.actor.body.side ≡ side.Offering at → ⊥ }
         requires empty { self.old.actor.body.queue.duties ≡ [] }
         requires not_yet { self.old.actor.body.is_expanded ≡ false }
         ensures acts { Acts run.now self.old self.new turning.old turning.new None }
-        ensures still { IsReadyToExpand self.new.actor.body }
+        ensures none { (at : ℕ) → self.new.actor.body.side ≡ side.Offering at → ⊥ }
         ensures noted { turning.new.changed ≡ turning.old.changed }
         ensures fewer { turning.new.left ≤ turning.old.left }
     {
@@ -330,7 +358,7 @@ impl Goroutine {
     }
 
     /// What comes before the next instruction comes into the queue of duties.
-    fn expand(&mut self, run: &Run<'_>, turning: &mut Turning) -> Option<Stop>
+    fn expand(&mut self, run: &Run<'_, '_>, turning: &mut Turning) -> Option<Stop>
         requires goes { Goes run.now self.old turning.old.left }
         requires noted { turning.old.changed.count < 8 }
         requires still { IsReadyToExpand self.old.actor.body }
@@ -342,7 +370,7 @@ impl Goroutine {
         let Some(next) = self.actor.body.next(run.program()) else {
             return Some(Stop::Ended);
         };
-        match locals::expand(&mut self.actor, run, &next) {
+        match locals::expand(&mut self.actor, run, next) {
             Ok(()) => None,
             Err(_) => Some(Stop::NoMemory),
         }

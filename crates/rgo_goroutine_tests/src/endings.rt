@@ -1,12 +1,13 @@
 //! How runs end.
 
 use crate::driver::{Course, ROOMY, Room, drive};
-use crate::over::Ending;
+use rgo_crew::over::Ending;
 use rgo_machine::Shortage;
 use rgo_memory::Trap;
 use rgo_region_machine::Limit;
 use std::process::Abort;
 use std::test::Fail;
+use std::thread::Threads;
 
 /// A field of nil, after a print.
 const NIL: &str = "\
@@ -311,7 +312,11 @@ static ROWS: [Row; 13] = [
 ];
 
 /// A program ends so after it has printed this, however long turns are.
-fn ends<R: Abort + AllocGlobal>(rt: &R, number: usize, row: &Row) -> Result<(), Fail> {
+fn ends<R: Threads + Abort + AllocGlobal + Sync>(
+    rt: &R,
+    number: usize,
+    row: &Row,
+) -> Result<(), Fail> {
     for slice in [1, 3, 1000] {
         let over = drive(rt, row.text, row.room, Course::Rounds(slice))?;
         assert_eq!(rt; over.ending, row.ending, "row {number} in turns of {slice}");

@@ -1,9 +1,10 @@
 //! Programs, what they print, and what they have made and done. Both were worked out by hand.
 
-use crate::driver::{Course, ROOMY, drive};
-use crate::over::{Ending, Tally};
+use crate::driver::{Course, ROOMY, Tally, drive, made_by};
+use rgo_crew::over::Ending;
 use std::process::Abort;
 use std::test::Fail;
+use std::thread::Threads;
 
 /// Recursive calls that touch no region.
 const FIBONACCI: &str = "\
@@ -398,7 +399,7 @@ static ROWS: [Row; 10] = [
 ];
 
 /// A program prints its lines, and `main` returns, however long turns are.
-fn holds<R: Abort + AllocGlobal>(rt: &R, row: &Row) -> Result<(), Fail> {
+fn holds<R: Threads + Abort + AllocGlobal + Sync>(rt: &R, row: &Row) -> Result<(), Fail> {
     for slice in [1, 2, 3, 7, 50, 1000] {
         let over = drive(rt, row.text, ROOMY, Course::Rounds(slice))?;
         assert_eq!(rt;
@@ -413,7 +414,12 @@ fn holds<R: Abort + AllocGlobal>(rt: &R, row: &Row) -> Result<(), Fail> {
             "{} in turns of {slice}",
             row.calls
         );
-        assert_eq!(rt; over.tally, row.tally, "{} in turns of {slice}", row.calls);
+        assert_eq!(rt;
+            made_by(&over),
+            row.tally,
+            "{} in turns of {slice}",
+            row.calls
+        );
     }
     Ok(())
 }

@@ -1,11 +1,12 @@
 //! Turns one after another, and why each is over. Goroutines are in the order in which they start, `main` at place 0.
 
-use crate::driver::{Course, ROOMY, Room, drive};
-use crate::over::{Ending, Over, Tally, Why};
+use crate::driver::{Course, ROOMY, Room, Tally, drive, made_by};
+use rgo_crew::over::{Ending, Over, Why};
 use rgo_machine::Shortage;
 use rgo_memory::Trap;
 use std::process::Abort;
 use std::test::Fail;
+use std::thread::Threads;
 
 /// Two pages have room for two slices of 15 elements.
 const PAGES: &str = "\
@@ -142,7 +143,7 @@ const fn small(pages: usize, regions: usize) -> Room {
 }
 
 /// The turns are over for these reasons, and this was printed.
-fn go<R: Abort + AllocGlobal>(
+fn go<R: Threads + Abort + AllocGlobal + Sync>(
     rt: &R,
     text: &str,
     room: Room,
@@ -168,7 +169,7 @@ fn pages_and_slots_are_spent(rt: HostRuntime) -> Result<(), Fail> {
         &[pages, pages],
         "1\n0 5\n",
     )?;
-    assert_eq!(&rt; (over.tally.taken, over.tally.objects), (2, 2));
+    assert_eq!(&rt; (made_by(&over).taken, made_by(&over).objects), (2, 2));
     let slots = Why::Over(Ending::Short(Shortage::Regions));
     let over = go(
         &rt,
@@ -186,7 +187,7 @@ fn pages_and_slots_are_spent(rt: HostRuntime) -> Result<(), Fail> {
         objects: 25,
         goroutines: 1,
     };
-    assert_eq!(&rt; over.tally, tally);
+    assert_eq!(&rt; made_by(&over), tally);
     Ok(())
 }
 
@@ -227,7 +228,7 @@ fn pages_and_slots_come_back(rt: HostRuntime) -> Result<(), Fail> {
             objects: 12,
             goroutines: 2,
         };
-        assert_eq!(&rt; over.tally, tally, "{shortage:?}");
+        assert_eq!(&rt; made_by(&over), tally, "{shortage:?}");
     }
     Ok(())
 }

@@ -2,6 +2,5 @@ pub mod Calling
 pub mod Examined
 pub mod Frames
 pub mod Lookups
-pub mod Resting
 pub mod Roomy
 pub mod Sizes

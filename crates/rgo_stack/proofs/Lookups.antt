@@ -1,7 +1,7 @@
 -- Compact functions, by what their code says.
 use Rattle.std.proofs.Common.{◌≡◌, ◌<◌, ◌≤◌, ◌∙◌, ℕ, List, Option, Some, None, refl, ap, sym, subst, arith, length, slice_get}
 use Rattle.std.proofs.lemmas.Option.{same_Some, slice_get_within}
-use Rattle.rgo_code.specs.Code.{Call, Code, CodeFn, CodeInstr, CodeOp, Return}
+use Rattle.rgo_code.specs.Code.{Branch, Call, Code, CodeFn, CodeInstr, CodeOp, Return}
 use Rattle.rgo_tac.specs.declared.regions.Class.{Class}
 use Rattle.rgo_region_machine.specs.Owed.{current, current_in, function_of}
 use Rattle.rgo_core_frames.specs.WordFrames.{WordFrame, bare}
@@ -10,7 +10,7 @@ use Rattle.rgo_compact.specs.declared.operations.Operation.{Operation}
 use Rattle.rgo_compact.specs.Functions.{CompactFn, IsCompact, IsCompactFn}
 use Rattle.rgo_compact.specs.Operations.{StandsFor}
 use Rattle.rgo_compact.specs.Stack.{IsCallOrStop}
-use Rattle.rgo_compact.proofs.Shapes.{IsPlain, Shape, call, invoke, leave, return_of, shape, stop, straight}
+use Rattle.rgo_compact.proofs.Shapes.{IsPlain, Shape, call, invoke, leave, return_of, shape, stop, straight, one_way}
 use Rattle.rgo_stack.specs.Places.{IsAtCall, IsPlace, PlaceLaws, Takes}
 
 -- function n, compact
@@ -76,6 +76,12 @@ waits_at code arguments body at x instr to n from passes protects removes found 
     let same : r.instr ≡ instr = same_Some r.instr instr (sym r.found ∙ found) in
     absurd (no_return (Some a) to n from passes protects removes
     (sym r.op ∙ ap (λ (i : CodeInstr). i.op) same ∙ op))
+waits_at code arguments body at x instr to n from passes protects removes found op stands (one_way test target b w) =
+    let g = w.stands code arguments body stands in
+    let same : g.instr ≡ instr = same_Some g.instr instr (sym g.found ∙ found) in
+    let no : Branch test g.target g.removes g.other g.otherwise ≡ Call to n from passes protects removes =
+    sym g.op ∙ ap (λ (i : CodeInstr). i.op) same ∙ op in
+    cc
 waits_at code arguments body at x instr to n from passes protects removes found op stands (leave is) =
     let r = subst (StandsFor code arguments body at) is stands in
     let same : r.instr ≡ instr = same_Some r.instr instr (sym r.found ∙ found) in

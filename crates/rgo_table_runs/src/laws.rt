@@ -3,7 +3,9 @@
 ghost use Rattle.rgo_table_runs.specs.claims.Examples.{ClaimExamples};
 ghost use Rattle.rgo_table_runs.specs.claims.Laws.{GivesClaim, RunsAsCode};
 ghost use Rattle.rgo_table_runs.specs.closing.Examples.{ClosingExamples};
+ghost use Rattle.rgo_table_runs.specs.closing.Gathering.{FamilyIsAll, GatheredAreGiven, SharesAreAll};
 ghost use Rattle.rgo_table_runs.specs.closing.Laws.{ClosedClaims, ClosedRuns, RowsAreAll};
+ghost use Rattle.rgo_table_runs.specs.closing.Members.{AllRetired, KeptByAdopting, KeptByGathering, KeptByOrder, KeptByTurn};
 ghost use Rattle.rgo_table_runs.specs.passing.Examples.{PassingExamples};
 ghost use Rattle.rgo_table_runs.specs.passing.Laws.{FindsDeadlock, FindsShortage, KnowsByLook, PassesByTurn, StaysPassed};
 
@@ -11,6 +13,24 @@ ghost use Rattle.rgo_table_runs.specs.passing.Laws.{FindsDeadlock, FindsShortage
 /// goroutines.
 pub fn rows_law()
     ensures { RowsAreAll }
+{}
+
+/// How a driver comes to have what it must have at the close: a view with a family has the rows of all goroutines, their shares by number
+/// add up to what all have counted, and prints of which each was given out or waits for the one before it were all given out.
+pub fn gathering_laws()
+    ensures rows { FamilyIsAll }
+    ensures shares { SharesAreAll }
+    ensures prints { GatheredAreGiven }
+{}
+
+/// A driver that follows each goroutine, from its start until it has retired, loses none of them and none of their prints: not by a turn,
+/// by gathering, by adopting, or by the order in which it keeps them.
+pub fn members_laws()
+    ensures order { KeptByOrder }
+    ensures turn { KeptByTurn }
+    ensures gathering { KeptByGathering }
+    ensures adopting { KeptByAdopting }
+    ensures close { AllRetired }
 {}
 
 /// The run behind a closed table is a run of the program, which has ended as its driver says; and what the claim on the whole program

@@ -26,7 +26,7 @@ runs_as_code code sizes limits end tally old new t = (
 
 pub gives_claim : GivesClaim
 unfolding runs_as_code
-gives_claim code sizes limits end tally old new checked ascends t room = record {
+gives_claim code sizes limits end tally old new checked ascends t = record {
   runs = (runs_as_code code sizes limits end tally old new t).0;
   regions = record {
     events = t.events;
@@ -42,7 +42,7 @@ gives_claim code sizes limits end tally old new checked ascends t room = record 
       λ g h r at names. names_only_live code sizes.page_words before s g h r checked ascends leads at names,
     );
     within = λ before after s is leads. room_is_kept.fits code sizes before after s t.last
-        (subst (λ (l : List Event). roomy_run code sizes l ≡ Some t.last) is room) leads;
+        (subst (λ (l : List Event). roomy_run code sizes l ≡ Some t.last) is t.room) leads;
     lacks = t.lacks;
   };
   same = refl;

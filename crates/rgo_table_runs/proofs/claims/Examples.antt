@@ -1,5 +1,5 @@
 -- Where the definitions of runs hold and where they do not.
-use Rattle.std.proofs.Common.{◌≡◌, ◌<◌, ℕ, max, List, [], ◌∷◌, ◌++◌, Option, Some, None, refl, sym, subst, arith}
+use Rattle.std.proofs.Common.{◌≡◌, ◌<◌, ℕ, max, List, [], ◌∷◌, ◌++◌, Option, Some, None, refl, ap, sym, subst, ◌∙◌, arith}
 use Rattle.std.proofs.lemmas.List.{append-nil}
 use Rattle.rgo_code.specs.Code.{Code}
 use Rattle.rgo_driver.specs.declared.ends.RunEnd.TheVariants.{NoMemory, NoRoom}
@@ -8,9 +8,10 @@ use Rattle.rgo_machine.specs.declared.limits.Sizes.{Sizes}
 use Rattle.rgo_machine.specs.declared.turns.Shortage.{Shortage}
 use Rattle.rgo_region_machine.specs.Counts.{counts_of}
 use Rattle.rgo_region_machine.specs.Machine.{region_start}
-use Rattle.rgo_region_machine.specs.Room.{LacksIn}
+use Rattle.rgo_region_machine.specs.Room.{LacksIn, roomy_run}
+use Rattle.rgo_sound.proofs.Room.{room_is_kept}
 use Rattle.rgo_table_runs.specs.claims.Examples.{ClaimExamples}
-use Rattle.rgo_table_runs.specs.claims.TableRuns.{HasRoom, TableRun}
+use Rattle.rgo_table_runs.specs.claims.TableRuns.{TableRun}
 use Rattle.rgo_table_runs.proofs.claims.Claimed.{gives_claim}
 use Rattle.std.specs.Io.KnownBytes.{Appends}
 
@@ -19,29 +20,27 @@ no_room code sizes why e = cc
 
 -- the run without a step
 empty : (code : Code) (sizes : Sizes) (limits : Limits) (old new : Option (List ℕ)) → Appends old new []
-    → (t : TableRun code sizes limits NoMemory (counts_of (region_start code)) old new) × HasRoom t
-empty code sizes limits old new gave = (
-  record {
-    events = [];
-    late = [];
-    state = region_start code;
-    last = region_start code;
-    run = refl;
-    more = refl;
-    made = refl;
-    silent = λ q. refl;
-    plain = (region_start code).plain;
-    ran = refl;
-    is = refl;
-    printed = refl;
-    tested = 0;
-    early = omega arith;
-    ends = tt;
-    gives = gave;
-    lacks = no_room code sizes;
-  },
-  refl,
-)
+    → TableRun code sizes limits NoMemory (counts_of (region_start code)) old new
+empty code sizes limits old new gave = record {
+  events = [];
+  late = [];
+  state = region_start code;
+  last = region_start code;
+  run = refl;
+  more = refl;
+  room = refl;
+  made = refl;
+  silent = λ q. refl;
+  plain = (region_start code).plain;
+  ran = refl;
+  is = refl;
+  printed = refl;
+  tested = 0;
+  early = omega arith;
+  ends = tt;
+  gives = gave;
+  lacks = no_room code sizes;
+}
 
 one : (n tested : ℕ) → tested < max 1 n → n ≡ 0 → tested ≡ 1 → ⊥
 one n tested l e f = let z : tested < max 1 0 = subst (λ (m : ℕ). tested < max 1 m) e l in omega arith
@@ -51,8 +50,11 @@ claim_examples = record {
   none_yet = λ code sizes limits. empty code sizes limits (Some []) (Some []) refl;
   lost = λ code sizes limits tally b t. lost_print b t.plain.printed t.gives;
   tested_late = λ code sizes limits tally old new t e f. one limits.steps t.tested t.ends.2 e f;
-  claimed = λ code sizes limits checked ascends. let t = empty code sizes limits None None tt in
-      gives_claim code sizes limits NoMemory (counts_of (region_start code)) None None checked ascends t.0 t.1;
+  crowded = λ code sizes limits end tally old new t no.
+      no (room_is_kept.fits code sizes (t.events ++ t.late) [] t.last t.last
+      (ap (roomy_run code sizes) (append-nil (t.events ++ t.late)) ∙ t.room) t.more);
+  claimed = λ code sizes limits checked ascends.
+      gives_claim code sizes limits NoMemory (counts_of (region_start code)) None None checked ascends (empty code sizes limits None None tt);
   outgrown = λ code sizes end t r no. no (r.within (r.events ++ r.late) [] r.last (sym (append-nil (r.events ++ r.late))) r.more);
 }
   where

@@ -19,7 +19,6 @@ use Rattle.rgo_table_runs.specs.closing.Ends.{Ends, GaveOut, IsFirst, end_of}
 use Rattle.rgo_table_runs.specs.closing.Laws.{ClosedClaims, ClosedRuns, HasClosed, RowsAreAll, last_state, whole_run}
 use Rattle.rgo_table_runs.specs.closing.Prints.{AllGiven, bytes_of}
 use Rattle.rgo_table_runs.specs.closing.Rows.{AreAll, all_shares}
-use Rattle.rgo_region_machine.specs.Room.{roomy_run}
 use Rattle.rgo_table_runs.proofs.claims.Claimed.{gives_claim}
 use Rattle.rgo_table_runs.proofs.closing.Final.{WholeRun, by_deadlock, by_fault, by_instruction, by_limit, by_memory, by_shortage, by_steps}
 use Rattle.rgo_table_runs.proofs.closing.Prints.{all_pieces, first_pieces, flattened_front, its_mark, no_mark, take_front}
@@ -135,7 +134,6 @@ pub closed_runs : ClosedRuns
 closed_runs T words v e rows given first tested end old new k = closed e rows k.all given first tested end old new k
 
 pub closed_claims : ClosedClaims
-closed_claims T words v e rows given first tested end old new k room =
-    let c = closed_runs T words v e rows given first tested end old new k in
-    gives_claim T.code T.sizes T.limits end (all_shares rows) old new e.account.explains.1.sound.checked e.account.explains.1.sound.written c.0
-    (ap (roomy_run T.code T.sizes) c.1 ∙ (room ∙ ap Some (sym c.2)))
+closed_claims T words v e rows given first tested end old new k =
+    gives_claim T.code T.sizes T.limits end (all_shares rows) old new e.account.explains.1.sound.checked e.account.explains.1.sound.written
+    (closed_runs T words v e rows given first tested end old new k).0

@@ -1,8 +1,9 @@
 -- Where the definitions of a closed run hold and where they do not.
-use Rattle.std.proofs.Common.{◌≡◌, ℕ, zero, suc, ◌<◌, ◌≤◌, max, true, false, List, [], ◌∷◌, take, Some, None, slice_get, refl, ap, sym, subst, arith}
+use Rattle.std.proofs.Common.{inr, ◌≡◌, ◌⊎◌, inl, ⊎_elim, ℕ, zero, suc, ◌<◌, ◌≤◌, max, true, false, List, [], ◌∷◌, map, take, Some, None, slice_get, refl, ap, sym, subst, arith}
 use Rattle.std.proofs.lemmas.Option.{same_Some}
 use mathlib.Core.Option.{some, some-injective, some-ne-none}
 use lib.ListN.{get_elem?}
+use Rattle.rgo_core.proofs.Lists.{elem_of}
 use Rattle.rgo_core.proofs.Opening.{opening_law}
 use Rattle.rgo_core.specs.Core.{Core, Setup}
 use Rattle.rgo_core.specs.Opening.{first_of, opening}
@@ -18,10 +19,14 @@ use Rattle.rgo_core_steps.specs.Outcomes.{Closes}
 use Rattle.rgo_driver.specs.declared.ends.RunEnd.TheVariants.{NoMemory}
 use Rattle.rgo_machine.specs.Limits.{most_goroutines}
 use Rattle.rgo_machine.specs.declared.picks.End.TheVariants.{Exit}
+use Rattle.rgo_region_machine.specs.Counts.{Counts}
 use Rattle.rgo_region_machine.specs.States.{Ended, Mark, Stopped}
+use Rattle.rgo_sound.specs.Tally.{no_share}
 use Rattle.rgo_region_machine.specs.declared.limits.Limit.TheVariants.{Memory}
 use Rattle.rgo_table_runs.specs.closing.Examples.{ClosingExamples, family, main_alone, parent, printers, with_clock}
+use Rattle.rgo_table_runs.specs.closing.Gathering.{IsIn}
 use Rattle.rgo_table_runs.specs.closing.Laws.{HasClosed}
+use Rattle.rgo_table_runs.specs.closing.Members.{HasNumber, HasPrinted, IsListed, IsOneOf, Member, retired}
 use Rattle.rgo_table_runs.specs.closing.Prints.{AllGiven, IsPrint}
 use Rattle.rgo_table_runs.specs.closing.Rows.{AreAll}
 
@@ -159,6 +164,23 @@ module _ (T : Setup) (checked : IsChecked T.code) (ascends : Ascends T.code) (co
     },
   )
 
+no_drawn : (i : ℕ) (d : Drawn) → None ≡ Some d → ⊥
+no_drawn i d e = cc e
+
+abbrev first_printer : Record
+first_printer = with_clock (with_print fresh 1 (7 ∷ 8 ∷ []))
+
+abbrev second_printer : Record
+second_printer = with_clock (with_print blank 0 (9 ∷ []))
+
+abbrev both : List Drawn
+both = drawn_at 0 (9 ∷ []) ∷ drawn_at 1 (7 ∷ 8 ∷ []) ∷ []
+
+their_own : (g : ℕ) (share : Counts) → slice_get (parent.clock.share ∷ []) g ≡ Some share
+    → ((c : Record) × Has family g c) ⊎ (share ≡ no_share)
+their_own zero share e = inl (parent, (0, refl))
+their_own (suc g) share e = let z : None ≡ Some share = e in absurd (cc z)
+
 pub closing_examples : ClosingExamples
 closing_examples = record {
   all = family_all;
@@ -166,6 +188,36 @@ closing_examples = record {
   swapped = λ k. let l = k.ascending 0 (1, with_clock blank) (0, parent) refl refl in omega arith;
   unknown = λ k. let h = k.here 0 (with_clock fresh) (0, refl) in some-ne-none (0, with_clock fresh) (sym h.1);
   shares = refl;
+  by_number = refl;
+  shared = record {
+    its = each_of_two parent (with_clock blank)
+        (λ g c. (slice_get (parent.clock.share ∷ []) g ≡ Some c.clock.share) ⊎ ((1 ≤ g) × (c.clock.share ≡ no_share)))
+        (inl refl) (inr (omega arith, refl));
+    others = their_own;
+  };
+  unshared = λ k. ⊎_elim
+      (λ (e : None ≡ Some parent.clock.share). cc e)
+      (λ (t : (0 ≤ 0) × (parent.clock.share ≡ no_share)). let z = ap (λ (c : Counts). c.steps) t.1 in omega (arith, z))
+      (k.its 0 parent (0, refl));
+  nobodys = λ k. ⊎_elim
+      (λ (t : (c : Record) × Has main_alone 1 c). one_row 0 (with_clock fresh) t.0 t.1)
+      (λ (none : record no_share { steps = 1 } ≡ no_share). let z = ap (λ (c : Counts). c.steps) none in omega (arith, z))
+      (k.others 1 (record no_share { steps = 1 }) refl);
+  sum = refl;
+  gathered = record {
+    each = λ d p valid. each_of_two (with_clock (with_print fresh 1 (7 ∷ 8 ∷ []))) (with_clock (with_print blank 0 (9 ∷ [])))
+        (λ g c. (i : ℕ) → get_elem? c.clock.prints i ≡ some d → IsIn both d ⊎ IsIn [] d)
+        (λ i e. one_only (drawn_at 1 (7 ∷ 8 ∷ [])) (λ j d. IsIn both d ⊎ IsIn [] d) (inl (1, refl)) i d e)
+        (λ i e. one_only (drawn_at 0 (9 ∷ [])) (λ j d. IsIn both d ⊎ IsIn [] d) (inl (0, refl)) i d e)
+        p.goroutine p.its p.has p.place p.there;
+    next = λ d t. absurd (some-ne-none d (sym t.1));
+  };
+  withheld = λ k. k.next (drawn_at 1 (7 ∷ 8 ∷ [])) (0, refl) refl;
+  ungathered = λ k. ⊎_elim
+      (λ (t : IsIn (drawn_at 0 (9 ∷ []) ∷ []) (drawn_at 1 (7 ∷ 8 ∷ []))).
+      let z = one_only (drawn_at 0 (9 ∷ [])) (λ j d. d.ticket ≡ 0) refl t.0 (drawn_at 1 (7 ∷ 8 ∷ [])) t.1 in omega (arith, z))
+      (λ (t : IsIn [] (drawn_at 1 (7 ∷ 8 ∷ []))). some-ne-none (drawn_at 1 (7 ∷ 8 ∷ [])) (sym t.1))
+      (k.each (drawn_at 1 (7 ∷ 8 ∷ [])) second_print refl);
   in_order = record {
     are = two_only (drawn_at 0 (9 ∷ [])) (drawn_at 1 (7 ∷ 8 ∷ [])) (λ i d. IsPrint printers d) first_print second_print;
     next = two_only (drawn_at 0 (9 ∷ [])) (drawn_at 1 (7 ∷ 8 ∷ [])) (λ i d. d.ticket ≡ i) refl refl;
@@ -176,6 +228,31 @@ closing_examples = record {
   none_left = λ d p v. absurd (none_printed d p);
   one_left = λ k. let l : 1 < 1 = k (drawn_at 1 (7 ∷ 8 ∷ [])) second_print refl in omega (arith, l);
   bytes = refl;
+  none_lost = record {
+    main = (retired (0, first_printer), (0, refl), refl);
+    children = λ m h one t. absurd (two_only (retired (0, first_printer)) (retired (1, second_printer)) (λ i m. IsListed m.its.clock.children h → ⊥)
+        (λ t. no_child t.0 h t.1) (λ t. no_child t.0 h t.1) one.0 m one.1 t);
+    prints = λ m d one t valid. inl (two_only (retired (0, first_printer)) (retired (1, second_printer)) (λ i m. HasPrinted m.its d → IsIn both d)
+        (λ t. one_only (drawn_at 1 (7 ∷ 8 ∷ [])) (λ i d. IsIn both d) (1, refl) t.0 d (elem_of (drawn_at 1 (7 ∷ 8 ∷ []) ∷ []) t.0 d t.1))
+        (λ t. one_only (drawn_at 0 (9 ∷ [])) (λ i d. IsIn both d) (0, refl) t.0 d (elem_of (drawn_at 0 (9 ∷ []) ∷ []) t.0 d t.1))
+        one.0 m one.1 t);
+    are = λ d t. two_only (drawn_at 0 (9 ∷ [])) (drawn_at 1 (7 ∷ 8 ∷ []))
+        (λ i d. (d.is_void ≡ false) × (m : Member) × IsOneOf (map retired printers) m × HasPrinted m.its d)
+        (refl, retired (1, second_printer), (1, refl), (0, refl)) (refl, retired (0, first_printer), (0, refl), (0, refl)) t.0 d t.1;
+  };
+  lost_print = λ k. ⊎_elim
+      (λ (t : IsIn (drawn_at 0 (9 ∷ []) ∷ []) (drawn_at 1 (7 ∷ 8 ∷ []))).
+      let z = one_only (drawn_at 0 (9 ∷ [])) (λ j d. d.ticket ≡ 0) refl t.0 (drawn_at 1 (7 ∷ 8 ∷ [])) t.1 in omega (arith, z))
+      (λ (t : IsIn [] (drawn_at 1 (7 ∷ 8 ∷ []))). some-ne-none (drawn_at 1 (7 ∷ 8 ∷ [])) (sym t.1))
+      (k.prints (retired (0, first_printer)) (drawn_at 1 (7 ∷ 8 ∷ [])) (0, refl) (0, refl) refl);
+  lost_child = λ k. ⊎_elim
+      (λ (t : HasNumber (map retired ((0, parent) ∷ [])) 1).
+      let z = one_only (retired (0, parent)) (λ j m. m.number ≡ 0) refl t.1.0 t.0 t.1.1 in let n = t.2 in omega (arith, z, n))
+      (λ (t : IsListed [] 1). no_child t.0 1 t.1)
+      (k.children (retired (0, parent)) 1 (0, refl) (0, refl));
+  made_up = λ k.
+      let a = k.are (drawn_at 0 (9 ∷ [])) (0, refl) in
+      one_only (retired (0, with_clock fresh)) (λ j m. HasPrinted m.its (drawn_at 0 (9 ∷ [])) → ⊥) (λ t. no_drawn t.0 (drawn_at 0 (9 ∷ [])) t.1) a.2.0 a.1 a.2.1 a.3;
   set = (0, with_clock (with_end fresh 0 (Ended Exit)), (0, refl), refl);
   not_set = λ k. let e : Some (Ended Exit) ≡ None = k 0 (with_clock (with_end fresh 0 (Ended Exit))) (0, refl) in cc e;
   another = λ k. each_of_one (with_clock (with_end fresh 0 (Ended Exit))) (λ g c. c.clock.first ≡ Some (Stopped Memory) → ⊥)

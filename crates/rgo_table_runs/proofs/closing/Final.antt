@@ -28,7 +28,7 @@ use Rattle.rgo_machine.specs.declared.turns.Shortage.{Shortage}
 use Rattle.rgo_region_machine.specs.Counts.{Counts}
 use Rattle.rgo_region_machine.specs.Instructions.{marked, printed_if}
 use Rattle.rgo_region_machine.specs.Machine.{Acknowledge, Attend, Event, Finish, Instruct, MakeOffer, TakePage, kept, region_run, region_start, region_step}
-use Rattle.rgo_region_machine.specs.Room.{LacksIn}
+use Rattle.rgo_region_machine.specs.Room.{LacksIn, roomy_run}
 use Rattle.rgo_region_machine.specs.States.{Ended, Mark, RegionState, Stopped, end_in, plain_at}
 use Rattle.rgo_region_machine.specs.declared.limits.Limit.{Limit}
 use Rattle.rgo_region_machine.specs.declared.limits.Limit.TheVariants as limit
@@ -195,6 +195,7 @@ module _ (code : Code) (sizes : Sizes) (limits : Limits) where
         last = s;
         run = b.run;
         more = ap (region_run code sizes.page_words) b.more ∙ runs code sizes.page_words limits events (region_start code) s k.leads;
+        room = ap (roomy_run code sizes) b.more ∙ k.room;
         made = k.shares;
         silent = λ q. k.clock.print ∙ (sym (whole q) ∙ (sym b.says ∙ sym b.printed));
         plain = b.plain;

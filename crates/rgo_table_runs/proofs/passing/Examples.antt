@@ -94,8 +94,6 @@ passing_examples = record {
   locked = λ T before history g c lack no k. no k.tidy.hold;
   all = one_passed;
   unseen = λ T lack k. let e : [] ≡ (look ∷ []) ++ k.since = k.seen in cc e;
-  free = λ T p l. omega arith;
-  nowhere = λ T words some is k. let l = k 0 some in omega (arith, is, l);
   short = refl;
   other = λ e. other_lack (sym e);
   went = λ lack k. k;

@@ -28,7 +28,7 @@ use Rattle.rgo_region_machine.specs.Room.{LacksIn}
 use Rattle.rgo_tac.specs.Tac.{tac}
 use Rattle.rgo_table_runs.specs.closing.Laws.{last_state, whole_run}
 use Rattle.rgo_table_runs.specs.passing.Laws.{FindsDeadlock, FindsShortage}
-use Rattle.rgo_table_runs.specs.passing.Passes.{AllPassed, ClaimedForSlots}
+use Rattle.rgo_table_runs.specs.passing.Passes.{AllPassed}
 use Rattle.rgo_table_runs.specs.passing.Turns.{HadTurn, Over, Stands, StandsStill, Still}
 use Rattle.rgo_table_runs.proofs.closing.Closed.{has_row, is_there}
 use Rattle.rgo_table_runs.proofs.passing.Counting.{pages_used, slots_used}
@@ -90,7 +90,7 @@ module _ {T : Setup} {words : List ℕ} {v : View Record} (e : Closes T words v)
       let d = find_part memory_of e.recs g y at in
       subst (λ (m : MemoryRec). (m.give ≡ Calm) × (m.claim ≡ Idle)) d.2 ((tidy g d.0 d.1).give, (tidy g d.0 d.1).claim)
 
-  module _ (slots : ClaimedForSlots T words) (g : ℕ) (c : Record) (has : Has rows g c) where
+  module _ (g : ℕ) (c : Record) (has : Has rows g c) where
     abbrev x : Here T g c
     x = here g c (is_there e rows k.all g c has)
 
@@ -99,7 +99,7 @@ module _ {T : Setup} {words : List ℕ} {v : View Record} (e : Closes T words v)
       g,
       ap is_some (takes_page x l.slot l.needs).1,
       pages_used (layout T) words (map memory_of e.recs) (ground_of (last_state e)) (I x).places (I x).memory calm
-          (in_use_now words g t.turn _ (state_at (layout T)) T.sizes.pages (found_now e rows before lack k g c t) l.in_use) slots,
+          (in_use_now words g t.turn _ (state_at (layout T)) T.sizes.pages (found_now e rows before lack k g c t) l.in_use),
     )
     by_kind shortage.Regions t l =
         let o = owes_creation x l.creates in (
@@ -125,4 +125,4 @@ pub finds_deadlock : FindsDeadlock
 finds_deadlock T words v e rows before lack k none = is_deadlock e rows before lack k none
 
 pub finds_shortage : FindsShortage
-finds_shortage T words v e rows before lack k slots g c why has is = lacks e rows before lack k slots g c has why is
+finds_shortage T words v e rows before lack k g c why has is = lacks e rows before lack k g c has why is

@@ -12,18 +12,20 @@ use Rattle.rgo_region_machine.specs.Machine.{region_start}
 use Rattle.rgo_region_machine.specs.Room.{FitsIn}
 use Rattle.rgo_tac.specs.Tac.{TacState}
 use Rattle.rgo_table_runs.specs.claims.RegionRuns.{CodeRuns, RegionRun}
-use Rattle.rgo_table_runs.specs.claims.TableRuns.{HasRoom, TableRun}
+use Rattle.rgo_table_runs.specs.claims.TableRuns.{TableRun}
 
 pub record ClaimExamples : Type 0 where
   -- memory ran out before the first step
-  pub none_yet : (code : Code) (sizes : Sizes) (limits : Limits) → (t : TableRun code sizes limits NoMemory (counts_of (region_start code)) (Some []) (Some []))
-      × HasRoom t
+  pub none_yet : (code : Code) (sizes : Sizes) (limits : Limits) → TableRun code sizes limits NoMemory (counts_of (region_start code)) (Some []) (Some [])
   -- it has lost what had been given out before
   pub lost : (code : Code) (sizes : Sizes) (limits : Limits) (tally : Counts) (b : ℕ)
       → TableRun code sizes limits Deadlock tally (Some (b ∷ [])) (Some []) → ⊥
   -- the limit of steps had been reached when it was last tested
   pub tested_late : (code : Code) (sizes : Sizes) (limits : Limits) (tally : Counts) (old new : Option (List ℕ))
       (t : TableRun code sizes limits StepsSpent tally old new) → limits.steps ≡ 0 → t.tested ≡ 1 → ⊥
+  -- in the end more pages are in use, or more regions live, than there may be
+  pub crowded : (code : Code) (sizes : Sizes) (limits : Limits) (end : RunEnd) (tally : Counts) (old new : Option (List ℕ))
+      (t : TableRun code sizes limits end tally old new) → (FitsIn sizes t.last → ⊥) → ⊥
   pub claimed : (code : Code) (sizes : Sizes) (limits : Limits) → IsChecked code → Ascends code
       → CodeRuns code sizes limits NoMemory (counts_of (region_start code)) None None
   -- the steps that followed its end have no more room than those before

@@ -11,7 +11,7 @@ use Rattle.rgo_machine.specs.declared.limits.Sizes.{Sizes}
 use Rattle.rgo_region_machine.specs.Counts.{Counts}
 use Rattle.rgo_tac.specs.Tac.{tac, tac_start}
 use Rattle.rgo_table_runs.specs.claims.RegionRuns.{CodeRuns}
-use Rattle.rgo_table_runs.specs.claims.TableRuns.{HasRoom, TableRun, picks_of}
+use Rattle.rgo_table_runs.specs.claims.TableRuns.{TableRun, picks_of}
 
 -- It is a run of the three-address code, with the picks of its events.
 abbrev pub RunsAsCode : Type 0
@@ -20,8 +20,8 @@ RunsAsCode = (code : Code) (sizes : Sizes) (limits : Limits) (end : RunEnd) (tal
     → (r : RunsFreely (tac (erased code)) limits (tac_start (erased code)) end old new)
     × (r.picks ≡ picks_of code sizes t.events) × (r.state ≡ t.plain)
 
--- Of checked code it is what the claim says, if each of its steps had room.
+-- Of checked code it is what the claim says.
 abbrev pub GivesClaim : Type 0
 GivesClaim = (code : Code) (sizes : Sizes) (limits : Limits) (end : RunEnd) (tally : Counts) (old new : Option (List ℕ))
-    → IsChecked code → Ascends code → (t : TableRun code sizes limits end tally old new) → HasRoom t
+    → IsChecked code → Ascends code → TableRun code sizes limits end tally old new
     → CodeRuns code sizes limits end tally old new

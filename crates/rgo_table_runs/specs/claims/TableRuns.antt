@@ -30,6 +30,8 @@ pub record TableRun (code : Code) (sizes : Sizes) (limits : Limits) (end : RunEn
   pub last : RegionState
   pub run : region_run code sizes.page_words events ≡ Some state
   pub more : region_run code sizes.page_words (events ++ late) ≡ Some last
+  -- each of its steps, also of those that followed the end, had room
+  pub room : roomy_run code sizes (events ++ late) ≡ Some last
   -- what followed counts, too
   pub made : counts_of last ≡ tally
   -- and it prints nothing, unless memory ran out before all was given out
@@ -45,8 +47,3 @@ pub record TableRun (code : Code) (sizes : Sizes) (limits : Limits) (end : RunEn
   pub ends : Ends (tac (erased code)) limits tested (length (picks_of code sizes events)) plain end
   pub gives : Gives end plain.printed old new
   pub lacks : (why : Shortage) → end ≡ NoRoom why → LacksIn code sizes why state
-
--- each of its steps, also of those that followed the end, had room
-abbrev pub HasRoom : {code : Code} {sizes : Sizes} {limits : Limits} {end : RunEnd} {tally : Counts} {old new : Option (List ℕ)}
-    → TableRun code sizes limits end tally old new → Type 0
-HasRoom {code} {sizes} t = roomy_run code sizes (t.events ++ t.late) ≡ Some t.last

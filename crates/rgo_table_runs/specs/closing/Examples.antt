@@ -1,5 +1,5 @@
 -- What a driver has at the end of a run, as the definitions say, and what must not pass for it.
-use Rattle.std.specs.Prelude.{◌≡◌, ◌≤◌, ℕ, List, [], ◌∷◌, Some, None}
+use Rattle.std.specs.Prelude.{◌≡◌, ◌≤◌, ℕ, List, [], ◌∷◌, Some, None, map}
 use Rattle.rgo_code.specs.Checked.{IsChecked}
 use Rattle.rgo_code.specs.Code.{Code}
 use Rattle.rgo_code.specs.NameRules.{Ascends}
@@ -19,7 +19,9 @@ use Rattle.rgo_region_machine.specs.States.{Ended, RegionState, Stopped}
 use Rattle.rgo_region_machine.specs.declared.limits.Limit.TheVariants.{Calls, Memory}
 use Rattle.rgo_sound.specs.Tally.{no_share}
 use Rattle.rgo_table_runs.specs.closing.Ends.{Ends, GaveOut, IsFirst, end_of}
+use Rattle.rgo_table_runs.specs.closing.Gathering.{AreGathered, HasShares, numbered, sum_of}
 use Rattle.rgo_table_runs.specs.closing.Laws.{HasClosed}
+use Rattle.rgo_table_runs.specs.closing.Members.{NoneIsLost, retired}
 use Rattle.rgo_table_runs.specs.closing.Prints.{AllGiven, InOrder, bytes_of}
 use Rattle.rgo_table_runs.specs.closing.Rows.{AreAll, all_shares}
 
@@ -54,13 +56,30 @@ pub record ClosingExamples : Type 0 where
   -- it is of no goroutine of the table
   pub unknown : AreAll (view [] []) main_alone → ⊥
   pub shares : all_shares family ≡ record no_share { steps = 1; goroutines = 2 }
+  pub by_number : numbered (parent ∷ with_clock blank ∷ []) ≡ family
+  -- goroutine 1 has counted nothing, and has no place
+  pub shared : HasShares (view family []) (parent.clock.share ∷ [])
+  pub unshared : HasShares (view family []) [] → ⊥
+  -- a share of no goroutine
+  pub nobodys : HasShares (view main_alone []) (fresh.share ∷ record no_share { steps = 1 } ∷ []) → ⊥
+  pub sum : sum_of (parent.clock.share ∷ no_share ∷ []) ≡ record no_share { steps = 1; goroutines = 2 }
   -- ---- prints
+  pub gathered : AreGathered printers (drawn_at 0 (9 ∷ []) ∷ drawn_at 1 (7 ∷ 8 ∷ []) ∷ []) []
+  -- it could have been given out
+  pub withheld : AreGathered printers (drawn_at 0 (9 ∷ []) ∷ []) (drawn_at 1 (7 ∷ 8 ∷ []) ∷ []) → ⊥
+  pub ungathered : AreGathered printers (drawn_at 0 (9 ∷ []) ∷ []) [] → ⊥
   pub in_order : InOrder printers (drawn_at 0 (9 ∷ []) ∷ drawn_at 1 (7 ∷ 8 ∷ []) ∷ [])
   pub by_place : InOrder printers (drawn_at 1 (7 ∷ 8 ∷ []) ∷ drawn_at 0 (9 ∷ []) ∷ []) → ⊥
   pub void : (rows : Rows Record) → InOrder rows (drawn_at 9223372036854775808 (9 ∷ []) ∷ []) → ⊥
   pub none_left : AllGiven main_alone []
   pub one_left : AllGiven printers (drawn_at 0 (9 ∷ []) ∷ []) → ⊥
   pub bytes : bytes_of (drawn_at 0 (9 ∷ []) ∷ drawn_at 1 (7 ∷ 8 ∷ []) ∷ []) ≡ 9 ∷ 7 ∷ 8 ∷ []
+  -- ---- members
+  pub none_lost : NoneIsLost (map retired printers) (drawn_at 0 (9 ∷ []) ∷ drawn_at 1 (7 ∷ 8 ∷ []) ∷ [])
+  pub lost_print : NoneIsLost (map retired printers) (drawn_at 0 (9 ∷ []) ∷ []) → ⊥
+  pub lost_child : NoneIsLost (map retired ((0, parent) ∷ [])) [] → ⊥
+  -- a print that nobody has made
+  pub made_up : NoneIsLost (map retired main_alone) (drawn_at 0 (9 ∷ []) ∷ []) → ⊥
   -- ---- ends
   pub set : IsFirst exited (Some (Ended Exit))
   pub not_set : IsFirst exited None → ⊥

@@ -1,5 +1,5 @@
 -- What the run behind a closed table is.
-use Rattle.std.specs.Prelude.{◌≡◌, ℕ, List, ◌++◌, Option, Some, map}
+use Rattle.std.specs.Prelude.{◌≡◌, ℕ, List, ◌++◌, Option, map}
 use Rattle.rgo_core.specs.Core.{Setup}
 use Rattle.rgo_core.specs.Records.{Drawn, Record}
 use Rattle.rgo_core_rule.specs.Lists.{flattened}
@@ -9,7 +9,6 @@ use Rattle.rgo_core_steps.specs.Outcomes.{Closes}
 use Rattle.rgo_driver.specs.declared.ends.RunEnd.{RunEnd}
 use Rattle.rgo_region_machine.specs.Machine.{Event}
 use Rattle.rgo_region_machine.specs.States.{Mark, RegionState}
-use Rattle.rgo_region_machine.specs.Room.{roomy_run}
 use Rattle.rgo_table_runs.specs.claims.RegionRuns.{CodeRuns}
 use Rattle.rgo_table_runs.specs.claims.TableRuns.{TableRun}
 use Rattle.rgo_table_runs.specs.closing.Ends.{Ends, GaveOut, IsFirst}
@@ -40,11 +39,11 @@ ClosedRuns = (T : Setup) (words : List ℕ) (v : View Record) (e : Closes T word
     (first : Option Mark) (tested : ℕ) (end : RunEnd) (old new : Option (List ℕ)) → HasClosed T words v e rows given first tested end old new
     → (t : TableRun T.code T.sizes T.limits end (all_shares rows) old new) × (t.events ++ t.late ≡ whole_run e) × (t.last ≡ last_state e)
 
--- If each step of that run had room, it is what the claim on the whole program says of the code.
+-- That is what the claim on the whole program says of the code.
 abbrev pub ClosedClaims : Type 0
 ClosedClaims = (T : Setup) (words : List ℕ) (v : View Record) (e : Closes T words v) (rows : Rows Record) (given : List Drawn)
     (first : Option Mark) (tested : ℕ) (end : RunEnd) (old new : Option (List ℕ)) → HasClosed T words v e rows given first tested end old new
-    → roomy_run T.code T.sizes (whole_run e) ≡ Some (last_state e) → CodeRuns T.code T.sizes T.limits end (all_shares rows) old new
+    → CodeRuns T.code T.sizes T.limits end (all_shares rows) old new
 
 -- Those are the records of all goroutines, by their numbers.
 abbrev pub RowsAreAll : Type 0

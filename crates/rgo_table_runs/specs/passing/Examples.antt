@@ -1,10 +1,9 @@
 -- What a driver knows of goroutines in a pass, and what it cannot know.
-use Rattle.std.specs.Prelude.{◌≡◌, ◌<◌, ℕ, suc, List, [], ◌∷◌, Option, Some, None, slice_index}
-use Rattle.rgo_core.specs.Core.{Setup, layout}
+use Rattle.std.specs.Prelude.{◌≡◌, ℕ, List, [], ◌∷◌, Option, Some, None}
+use Rattle.rgo_core.specs.Core.{Setup}
 use Rattle.rgo_core.specs.Records.{Record, begins_with, looked}
 use Rattle.rgo_core_channels.specs.Records.{Free}
 use Rattle.rgo_core_frames.specs.Opening.{no_record}
-use Rattle.rgo_core_memory.specs.Words.{state_at}
 use Rattle.rgo_core_rule.specs.Histories.{access}
 use Rattle.rgo_core_rule.specs.Views.{view}
 use Rattle.rgo_core_rule.specs.declared.accesses.Access.{Access}
@@ -14,7 +13,7 @@ use Rattle.rgo_machine.specs.declared.turns.Shortage.TheVariants.{ObjectSize, Pa
 use Rattle.rgo_acts.specs.Waits.{Waits}
 use Rattle.rgo_goroutine.specs.declared.turning.Stop.TheVariants as stop
 use Rattle.rgo_table_runs.specs.passing.Laws.{Tells}
-use Rattle.rgo_table_runs.specs.passing.Passes.{AllPassed, ClaimedForSlots}
+use Rattle.rgo_table_runs.specs.passing.Passes.{AllPassed}
 use Rattle.rgo_table_runs.specs.passing.Turns.{HadTurn, HasPassed, IsKnown, StandsStill}
 
 -- a goroutine that has returned
@@ -44,10 +43,6 @@ pub record PassingExamples : Type 0 where
   pub all : (T : Setup) → AllPassed T (view ((0, idle) ∷ []) []) ((0, idle) ∷ []) [] (λ g. None)
   -- the driver has not seen what was before the pass
   pub unseen : (T : Setup) (lack : ℕ → Option Shortage) → AllPassed T (view ((0, idle) ∷ []) []) ((0, idle) ∷ []) (look ∷ []) lack → ⊥
-  pub free : (T : Setup) → ClaimedForSlots T []
-  -- the first page is claimed for a slot behind Global's
-  pub nowhere : (T : Setup) (words : List ℕ) → 0 < T.sizes.pages → slice_index words (state_at (layout T) 0) ≡ suc (suc T.sizes.regions)
-      → ClaimedForSlots T words → ⊥
   pub short : Tells (stop.Short Pages) (Some Pages)
   pub other : Tells (stop.Short Pages) (Some Regions) → ⊥
   pub went : (lack : Option Shortage) → Tells stop.Went lack → ⊥

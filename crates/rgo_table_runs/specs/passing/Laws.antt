@@ -21,7 +21,7 @@ use Rattle.rgo_goroutine.specs.declared.turning.Stop.{Stop}
 use Rattle.rgo_goroutine.specs.declared.turning.Stop.TheVariants as stop
 use Rattle.rgo_goroutine.specs.declared.turning.Turned.{Turned}
 use Rattle.rgo_table_runs.specs.closing.Laws.{last_state}
-use Rattle.rgo_table_runs.specs.passing.Passes.{AllPassed, ClaimedForSlots}
+use Rattle.rgo_table_runs.specs.passing.Passes.{AllPassed}
 use Rattle.rgo_table_runs.specs.passing.Turns.{HasPassed, IsKnown}
 
 -- ---- at the close
@@ -35,7 +35,7 @@ FindsDeadlock = (T : Setup) (words : List ℕ) (v : View Record) (e : Closes T w
 -- If one lacked a page or a slot, there was none: at one moment as many were in use as there are.
 abbrev pub FindsShortage : Type 0
 FindsShortage = (T : Setup) (words : List ℕ) (v : View Record) (e : Closes T words v) (rows : Rows Record) (before : List Access)
-    (lack : ℕ → Option Shortage) → AllPassed T v rows before lack → ClaimedForSlots T words
+    (lack : ℕ → Option Shortage) → AllPassed T v rows before lack
     → (g : ℕ) (c : Record) (why : Shortage) → Has rows g c → lack g ≡ Some why → LacksIn T.code T.sizes why (last_state e)
 
 -- ---- in the pass

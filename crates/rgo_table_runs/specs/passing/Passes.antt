@@ -1,8 +1,7 @@
 -- What a driver knows after a pass, when its goroutines are retired and the table is closed.
-use Rattle.std.specs.Prelude.{◌≡◌, ◌<◌, ◌≤◌, ℕ, suc, List, ◌++◌, Option, slice_index}
-use Rattle.rgo_core.specs.Core.{Setup, layout}
+use Rattle.std.specs.Prelude.{◌≡◌, ℕ, List, ◌++◌, Option}
+use Rattle.rgo_core.specs.Core.{Setup}
 use Rattle.rgo_core.specs.Records.{Record}
-use Rattle.rgo_core_memory.specs.Words.{state_at}
 use Rattle.rgo_core_rule.specs.Views.{Has, Rows}
 use Rattle.rgo_core_rule.specs.declared.accesses.Access.{Access}
 use Rattle.rgo_core_rule.specs.declared.accesses.View.{View}
@@ -16,7 +15,3 @@ pub record AllPassed (T : Setup) (v : View Record) (rows : Rows Record) (before 
   pub since : List Access
   pub seen : v.seen ≡ before ++ since
   pub each : (g : ℕ) (c : Record) → Has rows g c → HasPassed T before v.seen g c (lack g)
-
--- each page is free, or claimed for a slot that there is
-abbrev pub ClaimedForSlots : Setup → List ℕ → Type 0
-ClaimedForSlots T words = (p : ℕ) → p < T.sizes.pages → slice_index words (state_at (layout T) p) ≤ suc T.sizes.regions

@@ -28,7 +28,7 @@ returns-in-Some c =
     let before = subst (λ (r : Run). IsBefore r a c.args.next.now) (sym c.run.view_is) c.requires.before in
     let split = c.split-seat in
     let b = record a { seat = split.new.seat; behind = 0; body = c.started.new.self } in
-    let child = record a { seat = split.result; behind = 0; body = c.in-Ok.body } in
+    let child = record a { seat = split.result; behind = 0; searches = c.new-searches.result; body = c.in-Ok.body } in
     subst (λ (r : Run). HasStarted r a b c.in-Some.number child) c.run.view_is
     (has_started _ a c.args.next.now before c.args.function c.args.from.now c.requires.is c.requires.never c.number.new.seat.me
     c.in-Some.number c.in-Some.ensures.drawn c.number.ensures.possible c.in-Some.ensures.child b child

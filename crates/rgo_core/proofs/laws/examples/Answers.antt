@@ -16,3 +16,6 @@ returns-clause-core c = lemmas.core_examples
 
 pub returns-clause-possible : goal.returns-clause-possible
 returns-clause-possible c = possible_examples
+
+pub returns-clause-room : goal.returns-clause-room
+returns-clause-room c = lemmas.room_examples

@@ -8,4 +8,4 @@ unreachable-requires c =
 
 pub returns : goal.returns
 returns c =
-    caller_next c.args.program.now c.args.self.now c.in_ok-place.place c.in-Some.next (sym c.in_ok-place.ensures) c.in-Some.ensures
+    caller_next c.args.program.now c.args.self.now c.in_ok-place.place c.in-Some.next.now (sym c.in_ok-place.ensures) c.in-Some.ensures

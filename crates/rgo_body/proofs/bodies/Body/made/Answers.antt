@@ -9,8 +9,8 @@ use Rattle.rgo_body.specs.declared.bodies.Body.{Body}
 use Rattle.rgo_body.proofs.Acting.{kept_holds, made_shows}
 use Rattle.rgo_body.proofs.bodies.Body.made.Goals as goal
 
-pub returns : goal.returns
-returns c T r f object region s known slot end word =
+pub returns-clause-shows : goal.returns-clause-shows
+returns-clause-shows c T r f object region s known slot end word =
     let m = c.go_on.new.self in
     let here = ap (λ (b : Body). region_at b.holding c.args.key) c.go_on.ensures.rest ∙ known in
     let filled = c.fill.ensures.fills T.sizes.regions r.frame.holder r.memory.fills region
@@ -26,3 +26,9 @@ returns c T r f object region s known slot end word =
     word refl
     (subst (λ k. Holds T.sizes.regions c.fill.new.self r.frame.holder (raised k (f.fill + words_in object) r.memory.fills)) (sym slot)
     (subst (λ n. Holds T.sizes.regions c.fill.new.self r.frame.holder (raised (slot_of T.sizes.regions region) n r.memory.fills)) (sym end) filled)))
+
+pub returns-clause-side : goal.returns-clause-side
+returns-clause-side c = ap (λ (b : Body). b.side) c.go_on.ensures.rest
+
+pub returns-clause-not_yet : goal.returns-clause-not_yet
+returns-clause-not_yet c = ap (λ (b : Body). b.is_expanded) c.go_on.ensures.rest

@@ -31,10 +31,10 @@ acknowledge-talked-requires g c =
     record {
       before = can_ask c.args.run.now c.args.self.now d c.args.turning.now c.requires.goes c.requires.some.1
           (subst (λ (p : Program). Stays p b d) c.program-2.ensures c.room_behind_offer.ensures.stays)
-          c.room_behind_offer.ensures.same c.in-Some.next c.args.at c.requires.offers
-          (subst (λ (p : Program). IsNextOf p.code (frames_in b) c.in-Some.next) c.program.ensures c.in-Some.ensures)
+          c.room_behind_offer.ensures.same c.in-Some.next.now c.args.at c.requires.offers
+          (subst (λ (p : Program). IsNextOf p.code (frames_in b) c.in-Some.next.now) c.program.ensures c.in-Some.ensures)
           (was_ok c.room_behind_offer.result (d.is_expanded ≡ true) ok c.room_behind_offer.ensures.expanded)
-          (was_ok c.room_behind_offer.result (HasRoomBehind d c.in-Some.next) ok c.room_behind_offer.ensures.room);
+          (was_ok c.room_behind_offer.result (HasRoomBehind d c.in-Some.next.now) ok c.room_behind_offer.ensures.room);
     }
 
 pub after_talk-requires : goal.after_talk-requires

@@ -1,4 +1,4 @@
-use Rattle.std.proofs.Common.{arith, refl, sym, true, ◌∙◌}
+use Rattle.std.proofs.Common.{arith, refl, sym, ◌∙◌}
 use Rattle.rgo_goroutine.proofs.Advancing.{continues_as, continues_then, executed, halts, halts_then, left_as, made_then, room_then, used}
 use Rattle.rgo_goroutine.proofs.goroutine.Goroutine.advance.Goals as goal
 
@@ -41,7 +41,7 @@ returns-then-is_expanded g c =
     c.in_default-attend_all.ensures.acts in
     made_then c.args.run.now c.args.self.now c.attend_all.new.self c.instruct.new.self c.args.turning.now c.attend_all.new.turning c.instruct.new.turning first c.instruct.result c.instruct.ensures
 
--- ---- it executes what is simple
+-- ---- it executes what can be executed at once
 
 pub execute-requires : goal.execute-requires
 execute-requires g c =
@@ -64,10 +64,10 @@ returns-then-turning-eq0 g c =
     (executed c.args.run.now c.attend_all.new.self c.execute.new.self c.attend_all.new.turning c.execute.new.turning c.execute.ensures.noted c.execute.ensures.fewer c.execute.ensures.acts) in
     used c.args.run.now c.args.self.now c.execute.new.self c.args.turning.now c.execute.new.turning second c.requires.some.0 c.if-turning-eq0.true
 
--- ---- what it owes before its next instruction comes into its queue
+-- ---- it attends to what it owes before its next instruction
 
-pub expand-requires : goal.expand-requires
-expand-requires g c =
+pub prepare-requires : goal.prepare-requires
+prepare-requires g c =
     let first = continues_as c.args.run.now c.args.self.now c.attend_all.new.self c.args.turning.now c.attend_all.new.turning c.attend_all.new.turning.moved c.attend_all.ensures.same
     c.in_default-attend_all.ensures.acts in
     let second = continues_then c.args.run.now c.args.self.now c.attend_all.new.self c.execute.new.self c.args.turning.now c.attend_all.new.turning c.execute.new.turning first
@@ -75,65 +75,38 @@ expand-requires g c =
     record {
       goes = c.execute.ensures.acts.goes;
       noted = room_then c.args.run.now c.args.self.now c.execute.new.self c.args.self.now c.args.turning.now c.execute.new.turning c.args.turning.now second c.requires.some.1;
-      still = c.execute.ensures.still;
+      none = c.execute.ensures.none;
     }
 
-pub returns-in-Some-expand : goal.returns-in-Some-expand
-returns-in-Some-expand g c =
+pub returns-in-Some-prepare : goal.returns-in-Some-prepare
+returns-in-Some-prepare g c =
     let first = continues_as c.args.run.now c.args.self.now c.attend_all.new.self c.args.turning.now c.attend_all.new.turning c.attend_all.new.turning.moved c.attend_all.ensures.same
     c.in_default-attend_all.ensures.acts in
     let second = continues_then c.args.run.now c.args.self.now c.attend_all.new.self c.execute.new.self c.args.turning.now c.attend_all.new.turning c.execute.new.turning first
     (executed c.args.run.now c.attend_all.new.self c.execute.new.self c.attend_all.new.turning c.execute.new.turning c.execute.ensures.noted c.execute.ensures.fewer c.execute.ensures.acts) in
-    halts_then c.args.run.now c.args.self.now c.execute.new.self c.expand.new.self c.args.turning.now c.execute.new.turning c.expand.new.turning second c.in-Some-expand.stop c.in-Some-expand.ensures.acts
-
-pub attend_all-requires-2 : goal.attend_all-requires-2
-attend_all-requires-2 g c =
-    let first = continues_as c.args.run.now c.args.self.now c.attend_all.new.self c.args.turning.now c.attend_all.new.turning c.attend_all.new.turning.moved c.attend_all.ensures.same
-    c.in_default-attend_all.ensures.acts in
-    let second = continues_then c.args.run.now c.args.self.now c.attend_all.new.self c.execute.new.self c.args.turning.now c.attend_all.new.turning c.execute.new.turning first
-    (executed c.args.run.now c.attend_all.new.self c.execute.new.self c.attend_all.new.turning c.execute.new.turning c.execute.ensures.noted c.execute.ensures.fewer c.execute.ensures.acts) in
-    let third = continues_then c.args.run.now c.args.self.now c.execute.new.self c.expand.new.self c.args.turning.now c.execute.new.turning c.expand.new.turning second
-    (continues_as c.args.run.now c.execute.new.self c.expand.new.self c.execute.new.turning c.expand.new.turning true c.expand.ensures.same c.in_default-expand.ensures.acts) in
-    record {
-      goes = c.in_default-expand.ensures.acts.goes;
-      noted = room_then c.args.run.now c.args.self.now c.expand.new.self c.args.self.now c.args.turning.now c.expand.new.turning c.args.turning.now third c.requires.some.1;
-      none = λ at e. c.execute.ensures.still.none at (sym (c.in_default-expand.ensures.expanded refl).1 ∙ e);
-    }
-
-pub returns-in-Some-attend_all : goal.returns-in-Some-attend_all
-returns-in-Some-attend_all g c =
-    let first = continues_as c.args.run.now c.args.self.now c.attend_all.new.self c.args.turning.now c.attend_all.new.turning c.attend_all.new.turning.moved c.attend_all.ensures.same
-    c.in_default-attend_all.ensures.acts in
-    let second = continues_then c.args.run.now c.args.self.now c.attend_all.new.self c.execute.new.self c.args.turning.now c.attend_all.new.turning c.execute.new.turning first
-    (executed c.args.run.now c.attend_all.new.self c.execute.new.self c.attend_all.new.turning c.execute.new.turning c.execute.ensures.noted c.execute.ensures.fewer c.execute.ensures.acts) in
-    let third = continues_then c.args.run.now c.args.self.now c.execute.new.self c.expand.new.self c.args.turning.now c.execute.new.turning c.expand.new.turning second
-    (continues_as c.args.run.now c.execute.new.self c.expand.new.self c.execute.new.turning c.expand.new.turning true c.expand.ensures.same c.in_default-expand.ensures.acts) in
-    halts_then c.args.run.now c.args.self.now c.expand.new.self c.attend_all-2.new.self c.args.turning.now c.expand.new.turning c.attend_all-2.new.turning third c.in-Some-attend_all.stop c.in-Some-attend_all.ensures.acts
+    halts_then c.args.run.now c.args.self.now c.execute.new.self c.prepare.new.self c.args.turning.now c.execute.new.turning c.prepare.new.turning second c.in-Some-prepare.stop c.in-Some-prepare.ensures.acts
 
 -- ---- and then it makes the instruction
 
 pub instruct-requires-2 : goal.instruct-requires-2
 instruct-requires-2 g c =
-    let done = c.in_default-attend_all-2.ensures.done refl in
-    let more = left_as c.execute.new.turning c.expand.new.turning true c.expand.ensures.same in
-    let left = left_as c.expand.new.turning c.attend_all-2.new.turning c.attend_all-2.new.turning.moved c.attend_all-2.ensures.same in
+    let ready = c.in_default-prepare.ensures.ready refl in
+    let left = left_as c.execute.new.turning c.prepare.new.turning c.prepare.new.turning.moved c.prepare.ensures.same in
     let some = c.if-turning-eq0.false in
     let first = continues_as c.args.run.now c.args.self.now c.attend_all.new.self c.args.turning.now c.attend_all.new.turning c.attend_all.new.turning.moved c.attend_all.ensures.same
     c.in_default-attend_all.ensures.acts in
     let second = continues_then c.args.run.now c.args.self.now c.attend_all.new.self c.execute.new.self c.args.turning.now c.attend_all.new.turning c.execute.new.turning first
     (executed c.args.run.now c.attend_all.new.self c.execute.new.self c.attend_all.new.turning c.execute.new.turning c.execute.ensures.noted c.execute.ensures.fewer c.execute.ensures.acts) in
-    let third = continues_then c.args.run.now c.args.self.now c.execute.new.self c.expand.new.self c.args.turning.now c.execute.new.turning c.expand.new.turning second
-    (continues_as c.args.run.now c.execute.new.self c.expand.new.self c.execute.new.turning c.expand.new.turning true c.expand.ensures.same c.in_default-expand.ensures.acts) in
-    let fourth = continues_then c.args.run.now c.args.self.now c.expand.new.self c.attend_all-2.new.self c.args.turning.now c.expand.new.turning c.attend_all-2.new.turning third
-    (continues_as c.args.run.now c.expand.new.self c.attend_all-2.new.self c.expand.new.turning c.attend_all-2.new.turning c.attend_all-2.new.turning.moved c.attend_all-2.ensures.same
-    c.in_default-attend_all-2.ensures.acts) in
+    let third = continues_then c.args.run.now c.args.self.now c.execute.new.self c.prepare.new.self c.args.turning.now c.execute.new.turning c.prepare.new.turning second
+    (continues_as c.args.run.now c.execute.new.self c.prepare.new.self c.execute.new.turning c.prepare.new.turning c.prepare.new.turning.moved c.prepare.ensures.same
+    c.in_default-prepare.ensures.acts) in
     record {
-      goes = c.in_default-attend_all-2.ensures.acts.goes;
+      goes = c.in_default-prepare.ensures.acts.goes;
       pages = c.requires.pages;
-      some = (omega (arith, more, left, some), room_then c.args.run.now c.args.self.now c.attend_all-2.new.self c.args.self.now c.args.turning.now c.attend_all-2.new.turning c.args.turning.now fourth c.requires.some.1);
-      empty = done.empty;
-      expanded = done.expanded ∙ (c.in_default-expand.ensures.expanded refl).0;
-      none = done.none;
+      some = (omega (arith, left, some), room_then c.args.run.now c.args.self.now c.prepare.new.self c.args.self.now c.args.turning.now c.prepare.new.turning c.args.turning.now third c.requires.some.1);
+      empty = ready.empty;
+      expanded = ready.expanded;
+      none = ready.none;
     }
 
 pub returns : goal.returns
@@ -142,9 +115,7 @@ returns g c =
     c.in_default-attend_all.ensures.acts in
     let second = continues_then c.args.run.now c.args.self.now c.attend_all.new.self c.execute.new.self c.args.turning.now c.attend_all.new.turning c.execute.new.turning first
     (executed c.args.run.now c.attend_all.new.self c.execute.new.self c.attend_all.new.turning c.execute.new.turning c.execute.ensures.noted c.execute.ensures.fewer c.execute.ensures.acts) in
-    let third = continues_then c.args.run.now c.args.self.now c.execute.new.self c.expand.new.self c.args.turning.now c.execute.new.turning c.expand.new.turning second
-    (continues_as c.args.run.now c.execute.new.self c.expand.new.self c.execute.new.turning c.expand.new.turning true c.expand.ensures.same c.in_default-expand.ensures.acts) in
-    let fourth = continues_then c.args.run.now c.args.self.now c.expand.new.self c.attend_all-2.new.self c.args.turning.now c.expand.new.turning c.attend_all-2.new.turning third
-    (continues_as c.args.run.now c.expand.new.self c.attend_all-2.new.self c.expand.new.turning c.attend_all-2.new.turning c.attend_all-2.new.turning.moved c.attend_all-2.ensures.same
-    c.in_default-attend_all-2.ensures.acts) in
-    made_then c.args.run.now c.args.self.now c.attend_all-2.new.self c.instruct-2.new.self c.args.turning.now c.attend_all-2.new.turning c.instruct-2.new.turning fourth c.instruct-2.result c.instruct-2.ensures
+    let third = continues_then c.args.run.now c.args.self.now c.execute.new.self c.prepare.new.self c.args.turning.now c.execute.new.turning c.prepare.new.turning second
+    (continues_as c.args.run.now c.execute.new.self c.prepare.new.self c.execute.new.turning c.prepare.new.turning c.prepare.new.turning.moved c.prepare.ensures.same
+    c.in_default-prepare.ensures.acts) in
+    made_then c.args.run.now c.args.self.now c.prepare.new.self c.instruct-2.new.self c.args.turning.now c.prepare.new.turning c.instruct-2.new.turning third c.instruct-2.result c.instruct-2.ensures

@@ -1,12 +1,13 @@
 use Rattle.std.proofs.Common.{ap, arith, sym, ◌∙◌}
 use Rattle.rgo_goroutine.specs.declared.turning.Turning.{Turning}
+use Rattle.rgo_goroutine.proofs.Attending.{at_rest_offers}
 use Rattle.rgo_goroutine.proofs.Executing.{executed, few_behind, few_more, free_of, told, told_goes}
 use Rattle.rgo_goroutine.proofs.goroutine.Goroutine.execute.Goals as goal
 
 pub returns-in-Tried : goal.returns-in-Tried
 returns-in-Tried c = record {
   acts = told c.args.run.now c.args.self.now c.args.turning.now c.move_on.new.self c.move_on.ensures c.requires.goes c.requires.noted;
-  still = record { empty = c.requires.empty; not_yet = c.requires.not_yet; none = c.requires.none };
+  none = c.requires.none;
   noted = ap (λ (t : Turning). t.changed) c.move_on.ensures;
   fewer = let e = ap (λ (t : Turning). t.left) c.move_on.ensures in omega (arith, e);
 }
@@ -44,3 +45,6 @@ returns-clause-acts c =
     executed c.args.run.now c.args.self.now c.args.turning.now c.move_on.new.self c.move_on.ensures c.requires.goes c.requires.noted
     c.come_near.new.self c.execute-done.new.actor c.count.new.self c.execute-done.result
     (c.come_near.ensures c.move_on.new.self.left goes) c.execute-done.ensures.acted c.execute-done.ensures.within c.count.ensures
+
+pub returns-clause-none : goal.returns-clause-none
+returns-clause-none c = at_rest_offers c.execute-done.new.actor.body.side c.execute-done.ensures.rests

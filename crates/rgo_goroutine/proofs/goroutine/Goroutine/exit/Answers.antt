@@ -4,15 +4,15 @@ use Rattle.rgo_core_steps.specs.declared.clock.Mark.TheVariants.{Ended}
 use Rattle.rgo_goroutine.specs.Instructions.{Instructs}
 use Rattle.rgo_goroutine.specs.declared.goroutine.Goroutine.{Goroutine as Goroutine_}
 use Rattle.rgo_goroutine.proofs.Beginning.{returning, roomier}
-use Rattle.rgo_goroutine.proofs.Concluding.{counted, ended_then, refused, uncounted}
+use Rattle.rgo_goroutine.proofs.Concluding.{counted, ended_then, only_told, refused}
 use Rattle.rgo_goroutine.proofs.goroutine.Goroutine.exit.Goals as goal
 
 pub returns-then-is_err : goal.returns-then-is_err
 returns-then-is_err c =
     let b = record c.args.self.now.actor { body = c.room_to_return.new.self } in
-    refused c.args.run.now c.args.self.now b c.args.turning.now c.args.turning.now c.requires.can.at.goes c.requires.can.noted
+    refused c.args.run.now c.args.self.now b c.args.turning.now c.move_on.new.self c.requires.can.at.goes c.requires.can.noted
     (roomier c.args.run.now c.args.self.now.actor c.room_to_return.new.self c.requires.can.at.goes.stands c.room_to_return.ensures.same)
-    (uncounted c.args.turning.now c.requires.can.moved)
+    (only_told c.args.turning.now c.move_on.new.self c.move_on.ensures)
 
 pub exit-ended-requires-clause-before : goal.exit-ended-requires-clause-before
 exit-ended-requires-clause-before c =

@@ -35,15 +35,15 @@ talk-requires-clause-at g c =
     is_at r c.args.self.now b c.args.turning.now c.requires.goes c.requires.some
     (kept r.program c.args.self.now.actor b c.requires.empty c.requires.expanded c.requires.none c.tries_again.result
     c.tries_again.ensures.yes c.tries_again.ensures.no)
-    c.tries_again.ensures.acted c.room_behind.new.self c.room_behind.ensures.same c.in-Some.next
-    (subst (λ (p : Program). IsNextOf p.code (frames_in b.body) c.in-Some.next) c.program.ensures c.in-Some.ensures)
-    (after_ok c.room_behind.result (HasRoomBehind c.room_behind.new.self c.in-Some.next) c.room_behind.ensures.room
+    c.tries_again.ensures.acted c.room_behind.new.self c.room_behind.ensures.same c.in-Some.next.now
+    (subst (λ (p : Program). IsNextOf p.code (frames_in b.body) c.in-Some.next.now) c.program.ensures c.in-Some.ensures)
+    (after_ok c.room_behind.result (HasRoomBehind c.room_behind.new.self c.in-Some.next.now) c.room_behind.ensures.room
     c.if-is_err.ensures.negation)
 
 pub talk-requires-clause-shape : goal.talk-requires-clause-shape
 talk-requires-clause-shape g c =
-    (shaped c.args.run.now c.tries_again.new.actor c.in-Some.next c.tries_again.ensures.acted.stands
-    (subst (λ (p : Program). IsNextOf p.code (frames_in c.tries_again.new.actor.body) c.in-Some.next) c.program.ensures c.in-Some.ensures)
+    (shaped c.args.run.now c.tries_again.new.actor c.in-Some.next.now c.tries_again.ensures.acted.stands
+    (subst (λ (p : Program). IsNextOf p.code (frames_in c.tries_again.new.actor.body) c.in-Some.next.now) c.program.ensures c.in-Some.ensures)
     c.in-Do.to c.in-Do.action (numbers_of c.in-Do.from) (ap operation_of c.in-Do.is)).operands
 
 pub returns-in-Send : goal.returns-in-Send
@@ -63,9 +63,9 @@ dispatch-requires-clause-at g c =
     is_at r c.args.self.now b c.args.turning.now c.requires.goes c.requires.some
     (kept r.program c.args.self.now.actor b c.requires.empty c.requires.expanded c.requires.none c.tries_again.result
     c.tries_again.ensures.yes c.tries_again.ensures.no)
-    c.tries_again.ensures.acted c.room_behind.new.self c.room_behind.ensures.same c.in-Some.next
-    (subst (λ (p : Program). IsNextOf p.code (frames_in b.body) c.in-Some.next) c.program.ensures c.in-Some.ensures)
-    (after_ok c.room_behind.result (HasRoomBehind c.room_behind.new.self c.in-Some.next) c.room_behind.ensures.room
+    c.tries_again.ensures.acted c.room_behind.new.self c.room_behind.ensures.same c.in-Some.next.now
+    (subst (λ (p : Program). IsNextOf p.code (frames_in b.body) c.in-Some.next.now) c.program.ensures c.in-Some.ensures)
+    (after_ok c.room_behind.result (HasRoomBehind c.room_behind.new.self c.in-Some.next.now) c.room_behind.ensures.room
     c.if-is_err.ensures.negation)
 
 pub dispatch-requires-clause-elsewhere : goal.dispatch-requires-clause-elsewhere
@@ -74,8 +74,8 @@ dispatch-requires-clause-elsewhere g c = search rules
 pub dispatch-requires-clause-rests : goal.dispatch-requires-clause-rests
 dispatch-requires-clause-rests g c =
     ap (λ (d : Body). d.side) c.room_behind.ensures.same
-    ∙ rests_at c.args.run.now.program c.tries_again.new.actor.body c.in-Some.next
-    (subst (λ (p : Program). IsNextOf p.code (frames_in c.tries_again.new.actor.body) c.in-Some.next) c.program.ensures c.in-Some.ensures)
+    ∙ rests_at c.args.run.now.program c.tries_again.new.actor.body c.in-Some.next.now
+    (subst (λ (p : Program). IsNextOf p.code (frames_in c.tries_again.new.actor.body) c.in-Some.next.now) c.program.ensures c.in-Some.ensures)
     (dispatch-requires-clause-elsewhere g c) c.tries_again.result (λ e. (c.tries_again.ensures.yes e).0)
     (λ e. ap (λ (a : Actor). a.body.side) (c.tries_again.ensures.no e))
 

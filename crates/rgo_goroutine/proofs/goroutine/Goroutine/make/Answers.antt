@@ -1,7 +1,7 @@
-use Rattle.std.proofs.Common.{arith}
+use Rattle.std.proofs.Common.{arith, refl}
 use Rattle.rgo_goroutine.specs.declared.turning.Stop.TheVariants as stop
 use Rattle.rgo_machine.specs.declared.turns.Shortage.TheVariants.{Pages}
-use Rattle.rgo_goroutine.proofs.Concluding.{counted, ended_then, halted, made, uncounted}
+use Rattle.rgo_goroutine.proofs.Concluding.{counted, ended_then, made, only_told, unmoved}
 use Rattle.rgo_goroutine.proofs.goroutine.Goroutine.make.Goals as goal
 
 pub returns-in-Done : goal.returns-in-Done
@@ -18,12 +18,12 @@ returns-in-Trap g c =
 
 pub returns-in-TooLarge : goal.returns-in-TooLarge
 returns-in-TooLarge g c =
-    ended_then c.args.run.now c.args.self.now c.stop.new.self c.args.turning.now c.args.turning.now c.requires.can.at.goes
+    ended_then c.args.run.now c.args.self.now c.stop.new.self c.args.turning.now c.move_on.new.self c.requires.can.at.goes
     c.requires.can.noted c.make_object-made.new.actor 0 c.stop.result c.in-TooLarge.ensures.acted c.stop.ensures
-    (uncounted c.args.turning.now c.requires.can.moved)
+    (only_told c.args.turning.now c.move_on.new.self c.move_on.ensures)
 
 pub returns-in-Short : goal.returns-in-Short
 returns-in-Short g c =
-    halted c.args.run.now c.args.self.now c.make_object-made.new.actor c.args.turning.now c.args.turning.now c.requires.can.at.goes
-    c.requires.can.noted (stop.Short Pages) c.in-Short.ensures.acted (uncounted c.args.turning.now c.requires.can.moved)
-    (c.in-Short.ensures.acted.went.first, c.in-Short.ensures.lacks)
+    unmoved c.args.run.now c.args.self.now c.make_object-made.new.actor c.args.turning.now c.args.turning.now c.requires.can.at.goes
+    c.requires.can.noted (stop.Short Pages) c.in-Short.ensures.acted c.in-Short.ensures.unmoved
+    (c.in-Short.ensures.acted.went.first, c.in-Short.ensures.lacks) refl

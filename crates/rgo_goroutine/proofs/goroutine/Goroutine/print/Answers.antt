@@ -3,17 +3,17 @@ use Rattle.rgo_acts.specs.Actors.{Acted}
 use Rattle.rgo_acts.specs.declared.actors.Actor.{Actor}
 use Rattle.rgo_acts.specs.declared.prints.Print.{Print}
 use Rattle.rgo_acts.proofs.LocalActs.{unchanged}
-use Rattle.rgo_goroutine.proofs.Concluding.{counted, uncounted}
+use Rattle.rgo_goroutine.proofs.Concluding.{counted, only_told}
 use Rattle.rgo_goroutine.proofs.Keeping.{printed_on, same_halts}
 use Rattle.rgo_goroutine.proofs.goroutine.Goroutine.print.Goals as goal
 
 pub returns-then-is_err : goal.returns-then-is_err
 returns-then-is_err c =
     same_halts c.args.run.now c.args.self.now (record c.args.self.now { prints = c.reserve.new.self }) c.args.turning.now
-    c.args.turning.now c.requires.can.at.goes c.requires.can.noted
+    c.move_on.new.self c.requires.can.at.goes c.requires.can.noted
     (record { prints = c.reserve.ensures.items; children = refl; number = refl; first = refl })
     (unchanged c.args.run.now c.args.self.now.actor c.requires.can.at.goes.stands)
-    (uncounted c.args.turning.now c.requires.can.moved)
+    (only_told c.args.turning.now c.move_on.new.self c.move_on.ensures)
 
 pub returns-in-Ok : goal.returns-in-Ok
 returns-in-Ok c =
@@ -26,9 +26,9 @@ returns-in-Ok c =
 pub returns-in-Err : goal.returns-in-Err
 returns-in-Err c =
     same_halts c.args.run.now c.args.self.now
-    (record c.args.self.now { actor = c.print_line.new.actor; prints = c.reserve.new.self }) c.args.turning.now c.args.turning.now
+    (record c.args.self.now { actor = c.print_line.new.actor; prints = c.reserve.new.self }) c.args.turning.now c.move_on-in-Err.new.self
     c.requires.can.at.goes c.requires.can.noted
     (record { prints = c.reserve.ensures.items; children = refl; number = refl; first = refl })
     (subst (λ (a : Actor). Acted c.args.run.now c.args.self.now.actor a 0 [] []) (sym c.in-Err.ensures.same)
     (unchanged c.args.run.now c.args.self.now.actor c.requires.can.at.goes.stands))
-    (uncounted c.args.turning.now c.requires.can.moved)
+    (only_told c.args.turning.now c.move_on-in-Err.new.self c.move_on-in-Err.ensures)

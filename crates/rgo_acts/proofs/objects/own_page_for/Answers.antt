@@ -1,0 +1,8 @@
+use Rattle.rgo_acts.proofs.ObjectPages.{its_own_page}
+use Rattle.rgo_acts.proofs.objects.own_page_for.Goals as goal
+
+pub returns : goal.returns
+returns c =
+    let a = c.args in
+    its_own_page _ a.run.now c.run.view_is a.actor.now a.next.now c.requires.before a.new c.requires.new c.run.invariant.layout.sizes
+    c.own_page-own.result c.own_page-own.ensures c.with_room.result c.with_room.ensures c.requires.some

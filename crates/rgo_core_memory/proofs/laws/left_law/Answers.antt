@@ -1,0 +1,5 @@
+use Rattle.rgo_core_memory.proofs.InUse.{some_left}
+use Rattle.rgo_core_memory.proofs.laws.left_law.Goals as goal
+
+pub returns : goal.returns
+returns c = some_left

@@ -1,0 +1,4 @@
+use Rattle.rgo_crew.proofs.driving.drive.Given as goal
+
+abbrev pub ghosts-play_out : goal.ghosts-play_out
+ghosts-play_out g a = record { name = a.blank.name; parts = a.blank.parts }

@@ -1,0 +1,327 @@
+//! Runs on a table of their own: their goroutines have turns in rounds, turns that are listed, or threads of their own.
+ghost use Rattle.std.specs.Prelude.{◌≡◌, ◌+◌, ◌<◌, ◌≤◌, ◌^◌, IfOk};
+ghost use Rattle.std.specs.Mem.Slots.{IsFull, slots_len};
+ghost use Rattle.rgo_core_memory.specs.Words.{all_words};
+ghost use Rattle.rgo_crew.specs.Overs.{AreNumbered};
+
+use crate::crew::Crew;
+use crate::errors::CrewError;
+use crate::over::{Ending, Over, Why, are_numbered};
+use atomic_table::Closed;
+use rgo_acts::runs::Run;
+use rgo_body::Program;
+use rgo_code::Checked;
+use rgo_core::table::{close, open};
+use rgo_core_memory::layout::{TableSizes, count_at, state_at};
+use rgo_core_steps::counting::Steps;
+use rgo_machine::{Limits, Sizes};
+use std::alloc::Global;
+use std::marker::Brand;
+use std::sync::ledger::{Blank, Ledger};
+use std::thread::Threads;
+
+/// How the goroutines of a run have their turns.
+#[derive(Clone, Copy)]
+pub enum Course<'c> {
+    /// In rounds, until the run is over: in each, every goroutine has a turn of up to this many instructions.
+    Rounds(u32),
+    /// In this order: each turn is that of the goroutine at a place, of up to this many instructions.
+    Turns(&'c [(usize, u32)]),
+    /// In rounds until there are this many goroutines, and then each of them in a thread of its own, by turns of up to so many
+    /// instructions. Goroutines that have found nothing to do in their threads for long have a round, before all have threads again.
+    Threads { goroutines: usize, slice: u32 },
+}
+
+/// The most rounds of a run.
+const MOST_ROUNDS: u64 = 1 << 40;
+
+/// The most rounds of a run after its end.
+const MOST_LATE: u64 = 1 << 10;
+
+/// When a run is over because a goroutine lacks a page or a slot.
+#[derive(Clone, Copy, PartialEq, Eq)]
+enum Lack {
+    /// At once.
+    Ends,
+    /// When no other goroutine continues.
+    Waits,
+}
+
+/// What a round came to.
+enum RoundEnd {
+    Over(Ending),
+    /// Whether anything may have changed.
+    Went(bool),
+}
+
+/// What the turns of a round have come to so far.
+#[derive(Clone, Copy)]
+struct SoFar {
+    /// Whether anything may have changed.
+    moved: bool,
+    /// What a goroutine lacks that has waited.
+    lacked: Option<Ending>,
+}
+
+impl SoFar {
+    /// A turn that has not ended the run. Returns whether the run waits for what the goroutine lacks.
+    fn lacks(&mut self, ending: Ending, lack: Lack) -> bool {
+        match ending {
+            Ending::Short(_) if lack == Lack::Waits => {
+                self.lacked = Some(ending);
+                true
+            }
+            _ => false,
+        }
+    }
+
+    /// What a round has come to.
+    fn end(self) -> RoundEnd {
+        match self.lacked {
+            Some(ending) if !self.moved => RoundEnd::Over(ending),
+            _ => RoundEnd::Went(self.moved),
+        }
+    }
+}
+
+/// One turn of each goroutine. Those that have ended retire, and have their places no more.
+fn round<L: Ledger>(
+    alloc: Global,
+    crew: &mut Crew<'_, '_>,
+    slice: u32,
+    lack: Lack,
+    over: &mut Over,
+    steps: &mut Steps<L>,
+) -> Result<RoundEnd, CrewError>
+    ensures { crew.new ≡ crew.old }
+{
+    let mut so_far = SoFar {
+        moved: false,
+        lacked: None,
+    };
+    let mut place = 0;
+    for _ in 0..crew.len() {
+        let (turned, _) = crew.turn(alloc, place, slice, &mut over.prints, steps)?;
+        match Why::of(turned.stop) {
+            Why::Over(ending) => {
+                if !so_far.lacks(ending, lack) {
+                    return Ok(RoundEnd::Over(ending));
+                }
+                place += 1;
+            }
+            Why::Ended => {
+                so_far.moved = true;
+                crew.retire(place, over)?;
+            }
+            Why::Lost => {
+                so_far.moved = true;
+                place += 1;
+            }
+            Why::Went | Why::Blocked => {
+                so_far.moved = so_far.moved || turned.moved;
+                place += 1;
+            }
+        }
+    }
+    Ok(so_far.end())
+}
+
+/// Rounds until the run is over, at most this many.
+fn rounds<L: Ledger>(
+    alloc: Global,
+    crew: &mut Crew<'_, '_>,
+    slice: u32,
+    most: u64,
+    over: &mut Over,
+    steps: &mut Steps<L>,
+) -> Result<Ending, CrewError>
+    ensures { crew.new ≡ crew.old }
+{
+    for _ in 0..most {
+        match round(alloc, crew, slice, Lack::Ends, over, steps)? {
+            RoundEnd::Over(ending) => return Ok(ending),
+            RoundEnd::Went(true) => {}
+            RoundEnd::Went(false) => return Ok(Ending::Deadlock),
+        }
+    }
+    Ok(Ending::Unfinished)
+}
+
+/// Rounds until the run is over. After those at which there are this many goroutines, each of them has turns in a thread of its own.
+fn threaded<R: Threads + Sync, L: Ledger>(
+    rt: &R,
+    alloc: Global,
+    crew: &mut Crew<'_, '_>,
+    slice: u32,
+    goroutines: usize,
+    over: &mut Over,
+    steps: &mut Steps<L>,
+) -> Result<Ending, CrewError>
+    ensures { crew.new ≡ crew.old }
+{
+    for _ in 0..MOST_ROUNDS {
+        match round(alloc, crew, slice, Lack::Waits, over, steps)? {
+            RoundEnd::Over(ending) => return Ok(ending),
+            RoundEnd::Went(true) => {}
+            RoundEnd::Went(false) => return Ok(Ending::Deadlock),
+        }
+        if crew.len() >= goroutines {
+            crew.turn_on(rt, alloc, slice, &mut over.prints)?;
+            if crew.look() {
+                return rounds(alloc, crew, slice, MOST_LATE, over, steps);
+            }
+        }
+    }
+    Ok(Ending::Unfinished)
+}
+
+/// These turns, one after another.
+fn turns<L: Ledger>(
+    alloc: Global,
+    crew: &mut Crew<'_, '_>,
+    turns: &[(usize, u32)],
+    over: &mut Over,
+    steps: &mut Steps<L>,
+) -> Result<(), CrewError>
+    ensures { crew.new ≡ crew.old }
+{
+    for listed in turns {
+        let (place, slice) = *listed;
+        let (turned, started) = crew.turn(alloc, place, slice, &mut over.prints, steps)?;
+        over.whys.push(Why::of(turned.stop))?;
+        over.started.push(started)?;
+    }
+    Ok(())
+}
+
+/// The goroutines have their turns.
+fn play<R: Threads + Sync, L: Ledger>(
+    rt: &R,
+    alloc: Global,
+    crew: &mut Crew<'_, '_>,
+    course: Course<'_>,
+    over: &mut Over,
+    steps: &mut Steps<L>,
+) -> Result<Ending, CrewError>
+    ensures { crew.new ≡ crew.old }
+{
+    match course {
+        Course::Rounds(slice) => rounds(alloc, crew, slice, MOST_ROUNDS, over, steps),
+        Course::Turns(list) => {
+            turns(alloc, crew, list, over, steps)?;
+            Ok(Ending::Unfinished)
+        }
+        Course::Threads { goroutines, slice } => {
+            threaded(rt, alloc, crew, slice, goroutines, over, steps)
+        }
+    }
+}
+
+/// The goroutines have their turns, and then retire. If `main` has returned, those that are left have turns until none continues.
+fn play_out<R: Threads + Sync, L: Ledger>(
+    rt: &R,
+    alloc: Global,
+    crew: &mut Crew<'_, '_>,
+    course: Course<'_>,
+    over: &mut Over,
+    blank: Blank,
+) -> Result<(), CrewError>
+    requires name { blank.name ≡ L.name }
+    requires parts { (blank.parts ≡ L.parts) × (0 < blank.parts) }
+    ensures { crew.new ≡ crew.old }
+{
+    let steps = &mut Steps::<L>::new(blank);
+    over.ending = play(rt, alloc, crew, course, over, steps)?;
+    over.at_end = over.tally.and(crew.tally());
+    if over.ending == Ending::Exit {
+        rounds(alloc, crew, 1000, MOST_LATE, over, steps)?;
+    }
+    for _ in 0..crew.len() {
+        crew.retire(0, over)?;
+    }
+    Ok(())
+}
+
+/// Fails if a table may not have these sizes.
+fn limit(sizes: &TableSizes) -> Result<(), CrewError>
+    ensures words { IfOk result (λ _. all_words sizes.now ≤ 2 ^ 32) }
+    ensures pages { IfOk result (λ _. (0 < sizes.now.pages) × (sizes.now.page_words ≤ 4096)) }
+{
+    if sizes.pages == 0 || sizes.pages > 65536 || sizes.page_words > 4096 {
+        return Err(CrewError::Pages);
+    }
+    if sizes.slots > 65536 || sizes.variables > 65536 {
+        return Err(CrewError::Slots);
+    }
+    match sizes.pages.checked_mul(sizes.page_words) {
+        Some(cells) => {
+            if cells > 1 << 30 {
+                return Err(CrewError::Cells);
+            }
+            Ok(())
+        }
+        None => Err(CrewError::Cells),
+    }
+}
+
+/// How many of `count` words from `from` on are not 0.
+fn filled(closed: &Closed<(), Global>, from: usize, count: usize) -> u64
+    requires inside { from + count ≤ slots_len closed.now.words }
+    requires small { from + count ≤ 2 ^ 32 }
+    requires full { IsFull closed.now.words }
+{
+    let mut filled = 0;
+    for i in from..from + count {
+        if closed.word(i) != 0 {
+            filled += 1;
+        }
+    }
+    filled
+}
+
+/// Runs code on a table of its own.
+///
+/// # Errors
+///
+/// If the table would be too large, or a goroutine at a listed place does not exist. On allocation failure of the driver.
+pub fn drive<R: Threads + Sync>(
+    rt: &R,
+    alloc: Global,
+    code: &Checked,
+    sizes: Sizes,
+    limits: Limits,
+    course: Course<'_>,
+) -> Result<Over, CrewError>
+    ensures { IfOk result (λ over. AreNumbered over.prints.items) }
+{
+    let variables = code.code().tac().variables().len();
+    let layout = TableSizes {
+        pages: sizes.pages,
+        page_words: sizes.page_words,
+        slots: sizes.regions,
+        variables,
+    };
+    limit(&layout)?;
+    if limits.goroutines > 1_000_000 {
+        return Err(CrewError::Goroutines);
+    }
+    let program = Program::new(alloc, code)?;
+    let (table, seat) = open(alloc, code, variables, sizes, limits)?;
+    let mut over = Over::new(alloc);
+    let seat = {
+        let run = Run::new(&table, layout, limits, &program);
+        let mut crew = Crew::new(alloc, &run, seat)?;
+        play_out::<R, Brand>(rt, alloc, &mut crew, course, &mut over, Blank::new(1))?;
+        crew.into_seat()
+    };
+    let closed = close(table, seat);
+    over.pages = filled(&closed, state_at(&layout, 0), layout.pages);
+    over.slots = filled(&closed, count_at(&layout, 0), layout.slots);
+    closed.free();
+    over.settle();
+    over.prints.sort_unstable_by_key(|print| print.ticket);
+    if !are_numbered(&over.prints) {
+        return Err(CrewError::NoPrint);
+    }
+    Ok(over)
+}

@@ -1,0 +1,174 @@
+-- Members that a driver keeps, and such as it loses; goroutines that have retired.
+use Rattle.std.proofs.Common.{◌≡◌, ◌⊎◌, inl, inr, ⊎_elim, ℕ, zero, suc, ◌≤◌, List, [], ◌∷◌, ◌++◌, All, Option, Some, None, length, map, slice_get, refl, ap, sym, subst, ◌∙◌, arith}
+use Rattle.std.proofs.lemmas.List.Elements.{All-head, All-nil}
+use Rattle.std.proofs.lemmas.Option.{same_Some}
+use Rattle.rgo_acts.specs.declared.prints.Print.{Print}
+use Rattle.rgo_core.specs.Records.{Record}
+use Rattle.rgo_core_rule.specs.Views.{Has, Rows}
+use Rattle.rgo_core_steps.specs.declared.clock.Mark as clock
+use Rattle.rgo_goroutine.specs.Goroutines.{IsTidy}
+use Rattle.rgo_goroutine.specs.Turns.{IsOver}
+use Rattle.rgo_goroutine.specs.declared.goroutine.Goroutine.{Goroutine}
+use Rattle.rgo_region_machine.specs.Counts.{Counts}
+use Rattle.rgo_sound.specs.Tally.{no_share}
+use Rattle.rgo_table_runs.specs.closing.Members.{HasNumber, IsListed, Member, NoneIsLost, retired}
+use Rattle.rgo_runtime.proofs.Leaving.{In, in_cons, nobody_lost, nobody_then, none_in}
+use Rattle.rgo_runtime.proofs.Crewing.{none_retired}
+use Rattle.rgo_runtime.specs.Crew.{Crew, WholeCrewExamples, all_members}
+use Rattle.rgo_runtime.specs.Crews.{AreRetired, CrewExamples, IsNewborn, IsOfCrew, Keeps, KeepsMembers, NobodyIsLost, drawn, main_itself, main_with_child, marked, member_of, members, newborn, turning}
+use Rattle.rgo_runtime.specs.Parking.{values_of}
+use Rattle.rgo_runtime.specs.Turns.{Turn}
+
+-- a list of one
+only : {A : Type 0} (a x : A) → In (a ∷ []) x → a ≡ x
+only a x t = ⊎_elim (λ (e : a ≡ x). e) (λ (n : In [] x). absurd (none_in x n)) (in_cons a [] x t)
+
+none_listed : (h i : ℕ) → None ≡ Some h → ⊥
+none_listed h i e = cc e
+
+-- `main`, which has done nothing, and no prints
+alone : NoneIsLost (newborn 0 ∷ []) []
+alone = record {
+  main = (newborn 0, (0, refl), refl);
+  children = λ m h one t.
+      let z : None ≡ Some h = subst (λ (y : Member). slice_get y.its.clock.children t.0 ≡ Some h) (sym (only (newborn 0) m one)) t.1 in absurd (cc z);
+  prints = λ m d one t valid.
+      let z : None ≡ Some d = subst (λ (y : Member). slice_get y.its.clock.prints t.0 ≡ Some d) (sym (only (newborn 0) m one)) t.1 in absurd (cc z);
+  are = λ d t. absurd (none_in d t);
+}
+
+not_kept : Keeps (newborn 0 ∷ []) [] [] [] → ⊥
+not_kept keeps = let k : NoneIsLost [] [] = keeps [] [] alone in none_in k.main.0 k.main.1
+
+-- its child was not adopted
+with_child : NobodyIsLost (main_with_child ∷ []) []
+with_child = record {
+  main = (main_with_child, (0, refl), refl);
+  children = λ m h one t.
+      let e = only main_with_child m one in
+      inr (subst (λ (y : Member). IsListed y.unborn h) e (subst (λ (y : Member). IsListed y.its.clock.children h) (sym e) t));
+  are = λ d t. absurd (none_in d t);
+}
+
+abbrev adopter : Member
+adopter = record main_with_child { unborn = [] }
+
+child_comes : KeepsMembers (main_with_child ∷ []) (adopter ∷ newborn 1 ∷ [])
+child_comes others taken k = nobody_then main_with_child adopter [] (newborn 1 ∷ []) others taken refl refl listed
+    (λ x one. sym (ap (λ (y : Member). y.its.clock) (only (newborn 1) x one))) k
+  where
+    listed : (h : ℕ) → IsListed (1 ∷ []) h → HasNumber (newborn 1 ∷ []) h ⊎ IsListed [] h
+    listed h (zero, e) = inl (newborn 1, (0, refl), same_Some 1 h e)
+    listed h (suc i, e) = let z : None ≡ Some h = e in absurd (cc z)
+
+not_one : HasNumber (adopter ∷ []) 1 → ⊥
+not_one (m, one, is) =
+    let z : 0 ≡ 1 = ap (λ (y : Member). y.number) (only adopter m one) ∙ is in
+    omega (arith, z)
+
+child_lost : KeepsMembers (main_with_child ∷ []) (adopter ∷ []) → ⊥
+child_lost keeps =
+    let k : NobodyIsLost (adopter ∷ []) [] = keeps [] [] with_child in
+    ⊎_elim
+    (λ (q : HasNumber (adopter ∷ []) 1). not_one q)
+    (λ (q : IsListed [] 1). none_listed 1 q.0 q.1)
+    (k.children adopter 1 (0, refl) (0, refl))
+
+prints_lost : (m : Member) → KeepsMembers (m ∷ []) (record m { fresh = [] } ∷ [])
+prints_lost m others taken k = nobody_then m (record m { fresh = [] }) [] [] others taken refl refl
+    (λ h t. inr t)
+    (λ x one. absurd (none_in x one)) k
+
+-- a row of one
+module _ (c : Record) (P : ℕ → Record → Type 0) (p : P 0 c) where
+  each_of_one : (g : ℕ) (d : Record) → Has ((0, c) ∷ []) g d → P g d
+  each_of_one g d t = subst (λ (r : ℕ × Record). P r.0 r.1) (only (0, c) (g, d) t) p
+
+is_counted : AreRetired ((0, main_itself) ∷ []) (main_itself.clock.share ∷ []) None
+is_counted = record {
+  tidy = each_of_one main_itself (λ g c. IsTidy c) (record { hold = refl; make = refl; claim = refl; give = refl });
+  is_first = each_of_one main_itself (λ g c. c.clock.first ≡ None) refl;
+  its = each_of_one main_itself
+      (λ g c. ((d : Record) × Has ((0, main_itself) ∷ []) g d × (slice_get (main_itself.clock.share ∷ []) g ≡ Some d.clock.share))
+      ⊎ ((1 ≤ g) × (c.clock.share ≡ no_share)))
+      (inl (main_itself, (0, refl), refl));
+  others = belongs;
+}
+  where
+    belongs : (g : ℕ) (share : Counts) → slice_get (main_itself.clock.share ∷ []) g ≡ Some share
+        → ((c : Record) × Has ((0, main_itself) ∷ []) g c × (c.clock.share ≡ share)) ⊎ (share ≡ no_share)
+    belongs zero share at = inl (main_itself, (0, refl), same_Some main_itself.clock.share share at)
+    belongs (suc g) share at = let z : None ≡ Some share = at in absurd (cc z)
+
+not_counted : AreRetired ((0, main_itself) ∷ []) (no_share ∷ []) None → ⊥
+not_counted k = ⊎_elim
+    (λ (q : (d : Record) × Has ((0, main_itself) ∷ []) 0 d × (Some no_share ≡ Some d.clock.share)).
+    let e : no_share ≡ main_itself.clock.share = same_Some no_share q.0.clock.share q.2
+    ∙ sym (ap (λ (r : ℕ × Record). r.1.clock.share) (only (0, main_itself) (0, q.0) q.1)) in
+    let z : 0 ≡ 1 = ap (λ (s : Counts). s.goroutines) e in
+    absurd (omega (arith, z)))
+    (λ (q : (1 ≤ 0) × (main_itself.clock.share ≡ no_share)). absurd (omega (arith, q.0)))
+    (k.its 0 main_itself (0, refl))
+
+pub crews : CrewExamples
+crews = record {
+  nothing_done = λ ms ds others given k. k;
+  one_left = not_kept;
+  weaker = nobody_lost;
+  prints_lost = prints_lost;
+  child_comes = child_comes;
+  child_lost = child_lost;
+  none_yet = record {
+    tidy = λ g c t. absurd (none_in (g, c) t);
+    is_first = λ g c t. absurd (none_in (g, c) t);
+    its = λ g c t. absurd (none_in (g, c) t);
+    others = λ g share at. let z : None ≡ Some share = at in absurd (cc z);
+  };
+  counted = is_counted;
+  uncounted = not_counted;
+  made_up = λ mark k. none_in (k.is_first.0, k.is_first.1) k.is_first.2;
+  has_place = λ t first none. record {
+    run = refl;
+    place = omega (arith, first);
+    ended = λ turned says stop. let z : None ≡ Some turned = sym none ∙ says in absurd (cc z);
+  };
+  no_place = λ r t k. absurd (omega (arith, k.place));
+  not_over = λ r n t turned says stop frames k. frames (k.ended turned says stop).frames;
+  has_printed = λ r go some k. some k.prints;
+}
+
+-- a crew has no members
+nobody_left : (c : Crew) → c.ready ≡ [] → c.parked ≡ [] → c.born ≡ [] → c.me.0.records ≡ [] → all_members c ≡ []
+nobody_left c ready parked born rows =
+    ap (λ (l : List Turn). turning l ++ (turning (values_of c.parked) ++ (members c.run.setup c.born ++ map retired c.me.0.records))) ready
+    ∙ (ap (λ (l : List (ℕ × Turn)). turning (values_of l) ++ (members c.run.setup c.born ++ map retired c.me.0.records)) parked
+    ∙ (ap (λ (l : List Goroutine). members c.run.setup l ++ map retired c.me.0.records) born ∙ ap (λ (rs : Rows Record). map retired rs) rows))
+
+pub whole_crews : WholeCrewExamples
+whole_crews = record {
+  nobody = λ c seat pages ready parked born rows shares first.
+      let P = IsOfCrew c.run (length c.shares) in
+      record {
+        seat = seat;
+        pages = pages;
+        ready = subst (All P) (sym ready) (All-nil P);
+        parked = subst (λ (l : List (ℕ × Turn)). All P (values_of l)) (sym parked) (All-nil P);
+        born = subst (All (IsNewborn c.run)) (sym born) (All-nil (IsNewborn c.run));
+        retired = subst (λ (rs : Rows Record). AreRetired rs c.shares (marked c.first)) (sym rows)
+            (subst (λ (f : Option clock.Mark). AreRetired [] c.shares (marked f)) (sym first) (none_retired c.shares 0 shares));
+        over = subst (λ (rs : Rows Record). (g : ℕ) (its : Record) → Has rs g its → IsOver its) (sym rows) (λ g its t. absurd (none_in (g, its) t));
+      };
+  no_place = λ c t ready shares k.
+      let of = All-head (IsOfCrew c.run (length c.shares)) t [] (subst (All (IsOfCrew c.run (length c.shares))) ready k.ready) in
+      let p = of.place in
+      absurd (omega (arith, p, ap length shares));
+  not_over = λ c r rows frames k. frames (k.over 0 r (subst (λ (rs : Rows Record). Has rs 0 r) (sym rows) (0, refl))).frames;
+  lost = λ c go none ready parked born rows old members_of waiting keeps.
+      let before : NoneIsLost (all_members old ++ []) ([] ++ drawn old.waiting)
+      = subst (λ (l : List Member). NoneIsLost (l ++ []) ([] ++ drawn old.waiting)) (sym members_of)
+      (subst (λ (ps : List Print). NoneIsLost (member_of c.run.setup go ∷ []) (drawn ps)) (sym waiting) none) in
+      let after : NoneIsLost (all_members c ++ []) ([] ++ drawn c.waiting) = keeps [] [] before in
+      let empty : NoneIsLost [] (drawn c.waiting)
+      = subst (λ (l : List Member). NoneIsLost (l ++ []) (drawn c.waiting)) (nobody_left c ready parked born rows) after in
+      none_in empty.main.0 empty.main.1;
+}

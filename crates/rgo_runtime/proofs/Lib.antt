@@ -1,0 +1,15 @@
+pub mod CrewExamples
+pub mod Crewing
+pub mod Examples
+pub mod Groups
+pub mod Keeping
+pub mod Keeps
+pub mod Leaving
+pub mod Moving
+pub mod PassExamples
+pub mod Passing
+pub mod Summing
+pub mod Sweeps
+pub mod TaskExamples
+pub mod Turning
+pub mod Walks

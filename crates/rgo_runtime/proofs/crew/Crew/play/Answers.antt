@@ -1,0 +1,45 @@
+use Rattle.rgo_runtime.proofs.Moving.{kept_then}
+use Rattle.rgo_runtime.proofs.crew.Crew.play.Goals as goal
+
+pub returns-in_err-moved-clause-kept : goal.returns-in_err-moved-clause-kept
+returns-in_err-moved-clause-kept g c =
+    let old = c.args.self.now in
+    kept_then old c.set_slices.new.self c.turn_all.new.self c.set_slices.ensures.kept c.turn_all.ensures.kept
+
+pub returns-in_err-collect_all-clause-kept : goal.returns-in_err-collect_all-clause-kept
+returns-in_err-collect_all-clause-kept g c =
+    let old = c.args.self.now in
+    let turned = kept_then old c.set_slices.new.self c.turn_all.new.self c.set_slices.ensures.kept c.turn_all.ensures.kept in
+    kept_then old c.turn_all.new.self c.collect_all.new.self turned c.collect_all.ensures.kept
+
+pub returns-in_err-came-clause-kept : goal.returns-in_err-came-clause-kept
+returns-in_err-came-clause-kept g c =
+    let old = c.args.self.now in
+    let turned = kept_then old c.set_slices.new.self c.turn_all.new.self c.set_slices.ensures.kept c.turn_all.ensures.kept in
+    kept_then old c.turn_all.new.self c.collect_all.new.self turned c.collect_all.ensures.kept
+
+pub returns-in_err-wake_each-clause-kept : goal.returns-in_err-wake_each-clause-kept
+returns-in_err-wake_each-clause-kept g c =
+    let old = c.args.self.now in
+    let turned = kept_then old c.set_slices.new.self c.turn_all.new.self c.set_slices.ensures.kept c.turn_all.ensures.kept in
+    let collected = kept_then old c.turn_all.new.self c.collect_all.new.self turned c.collect_all.ensures.kept in
+    let sorted = kept_then old c.collect_all.new.self c.sort_out.new.self collected c.sort_out.ensures.kept in
+    kept_then old c.sort_out.new.self c.wake_each.new.self sorted c.wake_each.ensures.kept
+
+pub returns-in_err-welcome-clause-kept : goal.returns-in_err-welcome-clause-kept
+returns-in_err-welcome-clause-kept g c =
+    let old = c.args.self.now in
+    let turned = kept_then old c.set_slices.new.self c.turn_all.new.self c.set_slices.ensures.kept c.turn_all.ensures.kept in
+    let collected = kept_then old c.turn_all.new.self c.collect_all.new.self turned c.collect_all.ensures.kept in
+    let sorted = kept_then old c.collect_all.new.self c.sort_out.new.self collected c.sort_out.ensures.kept in
+    let woken = kept_then old c.sort_out.new.self c.wake_each.new.self sorted c.wake_each.ensures.kept in
+    kept_then old c.wake_each.new.self c.welcome.new.self woken c.welcome.ensures.kept
+
+pub returns-clause-kept : goal.returns-clause-kept
+returns-clause-kept g c =
+    let old = c.args.self.now in
+    let turned = kept_then old c.set_slices.new.self c.turn_all.new.self c.set_slices.ensures.kept c.turn_all.ensures.kept in
+    let collected = kept_then old c.turn_all.new.self c.collect_all.new.self turned c.collect_all.ensures.kept in
+    let sorted = kept_then old c.collect_all.new.self c.sort_out.new.self collected c.sort_out.ensures.kept in
+    let woken = kept_then old c.sort_out.new.self c.wake_each.new.self sorted c.wake_each.ensures.kept in
+    kept_then old c.wake_each.new.self c.welcome.new.self woken c.welcome.ensures.kept

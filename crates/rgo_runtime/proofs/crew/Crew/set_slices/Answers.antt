@@ -1,0 +1,14 @@
+use Rattle.std.proofs.Common.{◌<◌, arith, length}
+use Rattle.rgo_runtime.proofs.Crewing.{slice_changes}
+use Rattle.rgo_runtime.proofs.crew.Crew.set_slices.Goals as goal
+
+pub loop-i-preserved : goal.loop-i-preserved
+loop-i-preserved c =
+    let ready = c.loop-i.self-inside.ready.items in
+    let x = c.index_mut.result.now in
+    let changes = c.loop-i.invariant.changes in
+    let within : c.loop-i.i < length ready = omega (arith, c.loop-i-test.true, c.loop-i.invariant.end, changes.len) in
+    record {
+      end = c.loop-i.invariant.end;
+      changes = slice_changes _ _ c.loop-i.i x changes within c.index_mut.ensures.value c.set_slice.new.self c.set_slice.ensures.rest;
+    }

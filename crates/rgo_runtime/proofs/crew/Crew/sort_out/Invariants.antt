@@ -1,0 +1,13 @@
+use Rattle.std.proofs.Common.{◌≡◌, ◌≤◌, length}
+use Rattle.rgo_runtime.specs.Crew.{KeepsAll}
+use Rattle.rgo_runtime.proofs.crew.Crew.sort_out.Given as goal
+
+abbrev pub invariant-loop-place : goal.invariant-loop-place
+invariant-loop-place l = record {
+  kept : KeepsAll l.fn.self l.self;
+  run : l.self.run ≡ l.fn.self.run;
+  place : l.place ≤ length l.self.ready;
+}
+
+abbrev pub decreases-loop-place : goal.decreases-loop-place
+decreases-loop-place l = l.place

@@ -1,0 +1,16 @@
+use Rattle.rgo_runtime.proofs.Moving.{all_unparked, crew_turns, turns_kept}
+use Rattle.rgo_runtime.proofs.crew.Crew.wake_all.Goals as goal
+
+pub invariant_of-self : goal.invariant_of-self
+invariant_of-self c =
+    crew_turns _ c.unpark_all.new.into.items c.unpark_all.new.self
+    (all_unparked c.self.inside.ready.items c.unpark_all.new.into.items c.self.inside.parked c.unpark_all.new.self c.unpark_all.result
+    c.unpark_all.ensures.woken c.unpark_all.ensures.left c.unpark_all.ensures.same c.unpark_all.ensures.kept)
+    c.self.invariant
+
+pub returns-clause-kept : goal.returns-clause-kept
+returns-clause-kept c =
+    turns_kept _ c.unpark_all.new.into.items c.unpark_all.new.self
+    (all_unparked c.self.inside.ready.items c.unpark_all.new.into.items c.self.inside.parked c.unpark_all.new.self c.unpark_all.result
+    c.unpark_all.ensures.woken c.unpark_all.ensures.left c.unpark_all.ensures.same c.unpark_all.ensures.kept)
+    c.args.self.now c.self.view_is

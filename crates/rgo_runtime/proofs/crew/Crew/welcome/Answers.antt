@@ -1,0 +1,53 @@
+use Rattle.std.proofs.Common.{◌∙◌, append-nil, ap, arith, sym}
+use Rattle.rgo_runtime.proofs.Keeps.{newborn_steps}
+use Rattle.rgo_runtime.proofs.Moving.{born_kept, crew_born, crew_welcomed, last_newborn, welcomed_kept}
+use Rattle.rgo_runtime.proofs.crew.Crew.welcome.Goals as goal
+
+pub loop-goroutine-init : goal.loop-goroutine-init
+loop-goroutine-init c = record {
+  is = crew_born _ c.reserve.new.self.items c.reverse.new.self.items c.reserve.ensures.items c.reverse.ensures.permutation c.self.invariant;
+  kept = born_kept _ c.reserve.new.self.items c.reverse.new.self.items c.reserve.ensures.items c.reverse.ensures.permutation c.args.self.now c.self.view_is;
+  run = ap (λ x. x.run) c.self.view_is;
+  room = omega (arith, c.in_ok-reserve.ensures.ok, c.len.ensures, c.reverse.ensures.len);
+}
+
+pub new-requires-clause-of : goal.new-requires-clause-of
+new-requires-clause-of c =
+    let r = c.loop-goroutine.self-inside.run.now in
+    let is = last_newborn r c.loop-goroutine.self-inside.born.items c.pop.new.self.items c.in-Some.goroutine c.in-Some.ensures.items
+    c.loop-goroutine.invariant.is.born in
+    is.of
+
+pub new-requires-clause-tidy : goal.new-requires-clause-tidy
+new-requires-clause-tidy c =
+    let r = c.loop-goroutine.self-inside.run.now in
+    let is = last_newborn r c.loop-goroutine.self-inside.born.items c.pop.new.self.items c.in-Some.goroutine c.in-Some.ensures.items
+    c.loop-goroutine.invariant.is.born in
+    is.tidy
+
+pub new-requires-clause-few : goal.new-requires-clause-few
+new-requires-clause-few c =
+    let r = c.loop-goroutine.self-inside.run.now in
+    let is = last_newborn r c.loop-goroutine.self-inside.born.items c.pop.new.self.items c.in-Some.goroutine c.in-Some.ensures.items
+    c.loop-goroutine.invariant.is.born in
+    omega (arith, newborn_steps r c.in-Some.goroutine is)
+
+pub loop-goroutine-preserved : goal.loop-goroutine-preserved
+loop-goroutine-preserved c = record {
+  is = crew_welcomed _ c.push_reserved.new.self.items c.pop.new.self.items c.in-Some.goroutine c.new.result c.make_room.new.self
+      c.in-Ok.ensures.more.0 c.push_reserved.ensures.items c.in-Some.ensures.items c.new.ensures c.in-Ok.ensures.more.1 c.loop-goroutine.invariant.is
+      (omega (arith, c.number.ensures, c.in-Ok.ensures.room));
+  kept = welcomed_kept _ c.push_reserved.new.self.items c.pop.new.self.items c.in-Some.goroutine c.new.result c.make_room.new.self
+      c.in-Ok.ensures.more.0 c.push_reserved.ensures.items c.in-Some.ensures.items c.new.ensures c.in-Ok.ensures.more.1 c.loop-goroutine.invariant.is
+      c.args.self.now c.loop-goroutine.invariant.kept;
+  run = c.loop-goroutine.invariant.run;
+  room = omega (arith, c.loop-goroutine.invariant.room, c.in-Some.ensures.cases, c.push_reserved.ensures.len, c.push_reserved.ensures.capacity);
+}
+
+pub returns-in-Err-clause-kept : goal.returns-in-Err-clause-kept
+returns-in-Err-clause-kept c =
+    rw (c.push_reserved-in-Err.ensures.items ∙ sym c.in-Some.ensures.items) c.loop-goroutine.invariant.kept
+
+pub returns-clause-kept : goal.returns-clause-kept
+returns-clause-kept c =
+    rw (sym (c.in_default.ensures.items ∙ append-nil c.pop.new.self.items)) c.loop-goroutine.invariant.kept

@@ -1,0 +1,5 @@
+use Rattle.rgo_runtime.proofs.CrewExamples.{whole_crews}
+use Rattle.rgo_runtime.proofs.crew.examples.Goals as goal
+
+pub returns : goal.returns
+returns c = whole_crews

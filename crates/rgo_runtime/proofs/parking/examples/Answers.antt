@@ -1,0 +1,5 @@
+use Rattle.rgo_runtime.proofs.Examples.{parking}
+use Rattle.rgo_runtime.proofs.parking.examples.Goals as goal
+
+pub returns : goal.returns
+returns c = parking

@@ -1,0 +1,25 @@
+use Rattle.rgo_runtime.specs.Passing.{HasLookedOnce, HasMet, IsTidyIn}
+use Rattle.rgo_runtime.proofs.Passing.{tidy_looked, tidy_met}
+use Rattle.rgo_runtime.proofs.Sweeps.{zip_keeps}
+use Rattle.rgo_runtime.proofs.passes.pass.Goals as goal
+
+pub returns-clause-tidy : goal.returns-clause-tidy
+returns-clause-tidy g c = λ all.
+    let T = c.args.run.now.setup in
+    let met = c.meet_all.new.goroutines in
+    let looked = c.look_all.new.goroutines in
+    c.turn_all.ensures.tidy (zip_keeps (HasLookedOnce T) (IsTidyIn T) (tidy_looked T) met looked c.look_all.ensures.looked
+    (zip_keeps (HasMet T) (IsTidyIn T) (tidy_met T) c.args.goroutines.now met c.meet_all.ensures.met all))
+
+pub returns-clause-passed : goal.returns-clause-passed
+returns-clause-passed g c = record {
+  met = c.meet_all.new.goroutines;
+  looked = c.look_all.new.goroutines;
+  meets = c.meet_all.ensures.met;
+  looks = c.look_all.ensures.looked;
+  turns = c.turn_all.ensures.turned;
+  before = c.look_all.new.seat.me.0.seen;
+  since = c.turn_all.ensures.seen.0;
+  is = c.turn_all.ensures.seen.1;
+  come = c.turn_all.ensures.passed;
+}

@@ -1,0 +1,21 @@
+use Rattle.std.proofs.Common.{◌≡◌, ◌++◌, List, take}
+use Rattle.std.specs.List.{All}
+use Rattle.rgo_core_rule.specs.declared.accesses.Access.{Access}
+use Rattle.rgo_goroutine.specs.Goroutines.{IsOf}
+use Rattle.rgo_runtime.proofs.Turning.{HavePassed}
+use Rattle.rgo_runtime.specs.Passing.{HasStoodStill, IsBehind, IsKnownBy, IsTidyIn}
+use Rattle.rgo_runtime.proofs.Sweeps.{Swept}
+use Rattle.rgo_runtime.proofs.passes.turn_all.Given as goal
+
+abbrev pub invariant-loop-i : goal.invariant-loop-i
+invariant-loop-i g l = record {
+  all : All (IsOf l.fn.run) l.goroutines;
+  own : l.seat.table_id ≡ l.fn.seat.table_id;
+  rows : (l.seat.me.0.records ≡ l.fn.seat.me.0.records) × (l.seat.me.1 ≡ l.fn.seat.me.1);
+  seen : (es : List Access) × (l.seat.me.0.seen ≡ l.fn.seat.me.0.seen ++ es);
+  known : All (IsKnownBy l.fn.run.setup l.seat.me.0.seen) l.goroutines;
+  behind : All (IsBehind l.seat.me.0.seen) l.goroutines;
+  tidy : All (IsTidyIn l.fn.run.setup) l.fn.goroutines → All (IsTidyIn l.fn.run.setup) l.goroutines;
+  still : Swept (HasStoodStill l.fn.run) l.fn.goroutines l.goroutines l.i;
+  passed : HavePassed l.fn.run.setup l.fn.seat.me.0.seen l.seat.me.0.seen (take l.i l.goroutines) l.passed;
+}

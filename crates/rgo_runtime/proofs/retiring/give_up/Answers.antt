@@ -1,0 +1,22 @@
+use Rattle.std.proofs.Common.{refl}
+use Rattle.rgo_goroutine.specs.Goroutines.{record_of, rows}
+use Rattle.rgo_runtime.proofs.Leaving.{children_new, given_up, noted, retired_either}
+use Rattle.rgo_runtime.specs.Crews.{marked, member_of}
+use Rattle.rgo_runtime.proofs.retiring.give_up.Goals as goal
+
+pub returns-clause-retired : goal.returns-clause-retired
+returns-clause-retired c k =
+    let go = c.args.goroutine in
+    let r = c.args.run.now in
+    let its = record_of r.setup go in
+    let how = noted go.first c.args.first.now c.note.new.first its.clock.first c.note.ensures.first c.requires.of.first in
+    rw (c.give_up.ensures.records, c.note.ensures.share r c.requires.of)
+    (retired_either c.args.seat.now.me.0.records (rows r.setup go.children.items) go.number its (children_new r go.children.items c.requires.of.all) c.args.shares.now
+    (marked c.args.first.now) (marked c.note.new.first) c.requires.tidy how k c.requires.place)
+
+pub returns-clause-kept : goal.returns-clause-kept
+returns-clause-kept c =
+    let go = c.args.goroutine in
+    let r = c.args.run.now in
+    rw c.give_up.ensures.records
+    (given_up r (member_of r.setup go) go.children.items c.args.seat.now.me.0.records refl c.requires.of.all)

@@ -1,0 +1,40 @@
+-- Parking: values that are parked at addresses, seen as a list of pairs of an address and a value.
+use Rattle.std.specs.Prelude.{◌≡◌, ◌==◌, ℕ, List, [], ◌∷◌, ◌++◌, IsPermutation, filter, map, not, Vec}
+
+module _ {T : Type 0} where
+  -- the pairs of groups, each of which has an address and the values that are parked there
+  abbrev pub pairs_of : {A : Type 0} → List (ℕ × Vec T A) → List (ℕ × T)
+  pairs_of [] = []
+  pairs_of (group ∷ groups) = map (λ value. (group.0, value)) group.1.items ++ pairs_of groups
+
+  -- the values that are parked
+  abbrev pub values_of : List (ℕ × T) → List T
+  values_of parked = map (λ p. p.1) parked
+
+  -- those that are parked at an address
+  abbrev pub values_at : ℕ → List (ℕ × T) → List T
+  values_at at parked = values_of (filter (λ p. at == p.0) parked)
+
+  -- what is parked at other addresses
+  abbrev pub elsewhere : ℕ → List (ℕ × T) → List (ℕ × T)
+  elsewhere at parked = filter (λ p. not (at == p.0)) parked
+
+  -- all values that are parked have come to the end of a list, in some order
+  abbrev pub TakesAll : List (ℕ × T) → List T → List T → Type 0
+  TakesAll parked old new = (more : List T) × (new ≡ old ++ more) × IsPermutation (values_of parked) more
+
+-- ---- examples: two values at one address, and one at another
+
+abbrev pub three : List (ℕ × ℕ)
+three = (64, 1) ∷ (72, 2) ∷ (64, 3) ∷ []
+
+pub record ParkingExamples : Type 0 where
+  pub woken : values_at 64 three ≡ 1 ∷ 3 ∷ []
+  pub left : elsewhere 64 three ≡ (72, 2) ∷ []
+  -- a value is not woken by another address
+  pub apart : values_at 72 three ≡ 1 ∷ 3 ∷ [] → ⊥
+  -- one that is not woken is not lost
+  pub lost : elsewhere 64 three ≡ [] → ⊥
+  pub all : TakesAll three (7 ∷ []) (7 ∷ 3 ∷ 2 ∷ 1 ∷ [])
+  -- none stays
+  pub some : TakesAll three (7 ∷ []) (7 ∷ 3 ∷ 2 ∷ []) → ⊥

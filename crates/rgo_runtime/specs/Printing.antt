@@ -1,0 +1,60 @@
+-- Printing: prints that wait for their turn, and those that have gone out in the order of their tickets.
+use Rattle.std.specs.Prelude.{◌≡◌, ◌+◌, ℕ, List, [], ◌∷◌, ◌++◌, All, Contains, IsPermutation, Option, Some, length, take, ⊤}
+use Rattle.std.specs.Io.KnownBytes.{Appends}
+use Rattle.rgo_outside.specs.Pieces.{IsEndOf}
+use Rattle.rgo_acts.specs.declared.prints.Print.{Print}
+
+abbrev pub ticket_of : Print → ℕ
+ticket_of print = print.ticket
+
+-- the tickets of these prints are this one and those that follow it, in order
+abbrev pub AreFrom : ℕ → List Print → Type 0
+AreFrom ticket [] = ⊤
+AreFrom ticket (print ∷ prints) = (print.ticket ≡ ticket) × AreFrom (ticket + 1) prints
+
+-- their bytes, one print after the other
+abbrev pub bytes_of : List Print → List ℕ
+bytes_of [] = []
+bytes_of (print ∷ prints) = print.bytes.items ++ bytes_of prints
+
+-- Of the prints that waited, those with this ticket and the following ones have gone out in order. None of the others is the next.
+pub record GivesOut
+    (old : List Print) (from : ℕ) (new : List Print) (next : ℕ) (before now : Option (List ℕ))
+    : Type 0 where
+  pub given : List Print
+  pub turns : AreFrom from given
+  pub all : IsPermutation old (given ++ new)
+  pub many : next ≡ from + length given
+  pub none : All (λ print. print.ticket ≡ next → ⊥) new
+  pub out : Appends before now (bytes_of given)
+
+-- The first bytes of such prints have gone out, some or all.
+pub record GivesSome (old : List Print) (from : ℕ) (before now : Option (List ℕ)) : Type 0 where
+  pub given : List Print
+  pub turns : AreFrom from given
+  pub rest : List Print
+  pub all : IsPermutation old (given ++ rest)
+  pub count : ℕ
+  pub out : Appends before now (take count (bytes_of given))
+
+-- the piece is an end of the bytes of one of these prints
+abbrev pub IsPieceOf : List Print → List ℕ → Type 0
+IsPieceOf prints piece = (print : Print) × Contains prints print × IsEndOf print.bytes.items piece
+
+-- ---- examples: prints from ticket 7 on
+
+pub record PrintingExamples : Type 0 where
+  pub turns : (first second : Print) → first.ticket ≡ 7 → second.ticket ≡ 8 → AreFrom 7 (first ∷ second ∷ [])
+  pub gap : (first second : Print) → second.ticket ≡ 9 → AreFrom 7 (first ∷ second ∷ []) → ⊥
+  pub bytes : (first second : Print) → first.bytes.items ≡ 1 ∷ [] → second.bytes.items ≡ 2 ∷ 3 ∷ []
+      → bytes_of (first ∷ second ∷ []) ≡ 1 ∷ 2 ∷ 3 ∷ []
+  pub goes : (first third : Print) → first.ticket ≡ 7 → third.ticket ≡ 9
+      → GivesOut (third ∷ first ∷ []) 7 (third ∷ []) 8 (Some []) (Some (first.bytes.items ++ []))
+  -- the next print does not wait
+  pub stays : (first : Print) (before now : Option (List ℕ)) → first.ticket ≡ 7 → GivesOut (first ∷ []) 7 (first ∷ []) 7 before now → ⊥
+  -- one that waits is not lost
+  pub lost : (third : Print) (before now : Option (List ℕ)) → GivesOut (third ∷ []) 7 [] 7 before now → ⊥
+  -- no byte of a print goes out before its turn
+  pub early : (third : Print) → third.ticket ≡ 9 → GivesSome (third ∷ []) 7 (Some []) (Some (1 ∷ [])) → ⊥
+  pub piece : (print : Print) → print.bytes.items ≡ 1 ∷ 2 ∷ [] → IsPieceOf (print ∷ []) (2 ∷ [])
+  pub other : IsPieceOf [] (2 ∷ []) → ⊥

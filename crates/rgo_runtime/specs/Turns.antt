@@ -1,0 +1,44 @@
+-- Goroutines with what a worker needs to give them their turns.
+use Rattle.std.specs.Prelude.{◌≡◌, ◌+◌, ◌<◌, ℕ, Bool, Option, None, Some}
+use Rattle.rgo_core.specs.Records.{steps_of}
+use Rattle.rgo_acts.specs.Runs.{Run}
+use Rattle.rgo_goroutine.specs.Goroutines.{IsOf, IsTidy, record_of}
+use Rattle.rgo_goroutine.specs.Instructions.{HasPages}
+use Rattle.rgo_goroutine.specs.Turns.{HasTurned}
+use Rattle.rgo_goroutine.specs.declared.goroutine.Goroutine.{Goroutine}
+use Rattle.rgo_goroutine.specs.declared.turning.Turned.{Turned}
+
+pub record Turn : Type 0 where
+  pub run : Run
+  pub goroutine : Goroutine
+  -- how many instructions its next turn may execute
+  pub slice : ℕ
+  -- what its last turn has done
+  pub turned : Option Turned
+
+-- the goroutine is of the run and at rest, and may have its turn
+pub record CanTurn (t : Turn) : Type 0 where
+  pub of : IsOf t.run t.goroutine
+  pub tidy : IsTidy (record_of t.run.setup t.goroutine)
+  pub pages : HasPages t.run
+  pub few : steps_of (record_of t.run.setup t.goroutine) + t.slice < 8796093022208
+
+-- It has had its turn, and says whether anything may have moved. It has no other one before it is given instructions again.
+pub record TakesTurn (before after : Turn) (went : Bool) : Type 0 where
+  pub turned : Turned
+  pub rest : after ≡ record before { goroutine = after.goroutine; slice = 0; turned = Some turned }
+  pub has : HasTurned before.run before.goroutine after.goroutine before.slice turned
+  pub number : after.goroutine.number ≡ before.goroutine.number
+  pub says : went ≡ turned.moved
+
+pub record TurningExamples : Type 0 where
+  pub has_turned : (before : Turn) (go : Goroutine) (turned : Turned) → HasTurned before.run before.goroutine go before.slice turned
+      → go.number ≡ before.goroutine.number → TakesTurn before (record before { goroutine = go; slice = 0; turned = Some turned }) turned.moved
+  -- it does not say what it has done
+  pub silent : (before after : Turn) (went : Bool) → after.turned ≡ None → TakesTurn before after went → ⊥
+  -- it has another number
+  pub renumbered : (before after : Turn) (went : Bool) → before.goroutine.number ≡ 1 → after.goroutine.number ≡ 2 → TakesTurn before after went → ⊥
+  -- it may go on with the instructions that it was given
+  pub goes_on : (before after : Turn) (went : Bool) → after.slice ≡ 1 → TakesTurn before after went → ⊥
+  -- its prints could not be numbered
+  pub too_many : (t : Turn) → t.slice ≡ 8796093022208 → CanTurn t → ⊥

@@ -1,0 +1,416 @@
+//! The goroutines of a run, as their driver keeps them.
+//!
+//! A goroutine is in one of four places: ready for a turn in the next round, parked at a word of the table, just born, or retired, where
+//! its record is at the driver's seat. It is never in none: each step below says so by its clause `kept`.
+ghost use Rattle.std.specs.Prelude.{◌≡◌, ◌≤◌, ◌<◌, ◌+◌, ◌∷◌, [], IfErr, IfOk, MatchOption, OnErr, OnOk, length, slice_index_or, true};
+ghost use Rattle.rgo_runtime.specs.Crew as spec;
+ghost use Rattle.rgo_core.specs.Core.{IsPossible};
+ghost use Rattle.rgo_core.specs.Opening.{first_of};
+ghost use Rattle.rgo_core_memory.specs.Words.{clock_at};
+ghost use Rattle.rgo_core_rule.specs.Views.{view};
+ghost use Rattle.rgo_core_steps.specs.Seats.{IsSeatOf};
+ghost use Rattle.rgo_goroutine.specs.Instructions.{HasPages};
+ghost use Rattle.rgo_goroutine.specs.declared.turning.Stop.TheVariants.{Ended};
+ghost use Rattle.rgo_outside.specs.Causes.{HasCause};
+ghost use Rattle.rgo_outside.specs.Pieces.{AddsOnly};
+ghost use Rattle.rgo_runtime.specs.Crew.{KeepsAll, WholeCrewExamples, all_members};
+ghost use Rattle.rgo_runtime.specs.Printing.{GivesOut, GivesSome, IsPieceOf};
+ghost use Rattle.rgo_runtime.specs.Turns as turns;
+ghost use Rattle.rgo_runtime.specs.declared.crew.Next.TheVariants.{Retired};
+ghost use Rattle.rgo_table_runs.specs.closing.Members.{NoneIsLost};
+
+use crate::parking::Parked;
+use crate::printing::Outgoing;
+use crate::retiring::retire;
+use crate::shares::Shares;
+use crate::turns::Turn;
+use rgo_acts::runs::Run;
+use rgo_core::table::RunSeat;
+use rgo_core_steps::clock::Mark;
+use rgo_goroutine::goroutine::Goroutine;
+use rgo_goroutine::turning::{Stop, Turned};
+use rgo_outside::{Gate, Sink, WriteFault};
+use rgo_sched::round;
+use std::alloc::{AllocError, Global};
+use std::marker::Model;
+use std::thread::Threads;
+
+/// Those that wait at a nil channel are parked here. No word has this address, so only a pass wakes them.
+const NOWHERE: usize = usize::MAX;
+
+/// The goroutines of a run, and the seat of their driver.
+#[derive(Drop)]
+pub struct Crew<'r, 'c> {
+    run: &'r Run<'r, 'c>,
+    alloc: Global,
+    seat: RunSeat,
+    ready: Vec<Turn<'r, 'c>>,
+    parked: Parked<Turn<'r, 'c>>,
+    born: Vec<Goroutine>,
+    outgoing: Outgoing,
+    shares: Shares,
+    first: Option<Mark>,
+}
+
+impl<'r, 'c> Model for Crew<'r, 'c> {
+    ghost use Rattle.rgo_runtime.specs.Crew as spec;
+
+    ghost Value = { spec.Crew };
+
+    ghost view = { λ c. record {
+      run = c.run.now;
+      table = c.seat.table_id;
+      me = c.seat.me;
+      ready = c.ready.items;
+      parked = c.parked;
+      born = c.born.items;
+      waiting = c.outgoing.waiting.items;
+      next = c.outgoing.next;
+      shares = c.shares;
+      first = c.first;
+    } };
+
+    ghost invariant = { λ c. spec.IsCrew (record {
+      run = c.run.now;
+      table = c.seat.table_id;
+      me = c.seat.me;
+      ready = c.ready.items;
+      parked = c.parked;
+      born = c.born.items;
+      waiting = c.outgoing.waiting.items;
+      next = c.outgoing.next;
+      shares = c.shares;
+      first = c.first;
+    }) };
+}
+
+/// What a round has come to. No clause speaks of it: it says what is worth doing next, and no result may rest on it.
+#[derive(Clone, Copy)]
+pub struct Came {
+    /// Whether anything may have changed.
+    pub moved: bool,
+    /// Whether each turn executed all that it was given.
+    pub all_used: bool,
+    /// Whether a goroutine has ended the run.
+    pub is_over: bool,
+    /// Whether a goroutine found no memory.
+    pub lacks_memory: bool,
+}
+
+/// What becomes of a goroutine after its turn.
+enum Next {
+    Ready,
+    Parked(usize),
+    Retired,
+}
+
+fn next_of(turn: &Turn<'_, '_>) -> Next
+    ensures taken { result ≡ Retired → (turn.now.goroutine.prints.items ≡ []) × (turn.now.goroutine.children.items ≡ []) }
+    ensures ended { result ≡ Retired → MatchOption turn.now.turned ⊥ (λ turned. turned.stop ≡ Ended) }
+{
+    let Some(turned) = turn.turned() else {
+        return Next::Ready;
+    };
+    match turned.stop {
+        Stop::Ended if turn.goroutine().new_prints() == 0 && turn.goroutine().new_children() == 0 =>
+            { Next::Retired }
+        Stop::Blocked { at } if !turned.moved => Next::Parked(at.unwrap_or(NOWHERE)),
+        _ => Next::Ready,
+    }
+}
+
+impl<'r, 'c> Crew<'r, 'c> {
+    /// How many are ready.
+    pub fn ready(&self) -> usize
+        ensures { result ≡ length self.now.ready }
+    {
+        self.ready.len()
+    }
+
+    /// Each that is ready may execute up to this many instructions in its next turn.
+    fn set_slices(&mut self, slice: u32)
+        ensures kept { KeepsAll self.old self.new }
+        ensures run { self.new.run ≡ self.old.run }
+    {
+        for i in 0..self.ready.len() {
+            self.ready[i].set_slice(slice);
+        }
+    }
+
+    /// Each that is ready has a turn. Returns whether any may have moved.
+    ///
+    /// # Errors
+    ///
+    /// On allocation failure. Then none had a turn.
+    fn turn_all<H: Threads + Sync, G: Gate + Sync>(
+        &mut self,
+        rt: &H,
+        workers: u32,
+        number: u64,
+        gate: &G,
+    ) -> Result<bool, AllocError>
+        requires workers { (1 ≤ workers) × (workers ≤ 64) }
+        ensures kept { KeepsAll self.old self.new }
+        ensures run { self.new.run ≡ self.old.run }
+    {
+        round(rt, &mut self.ready, workers, number, gate)
+    }
+
+    /// What those that are ready have printed and started is taken from them.
+    ///
+    /// # Errors
+    ///
+    /// On allocation failure. Then they have what was not taken.
+    fn collect_all(&mut self) -> Result<(), AllocError>
+        ensures kept { KeepsAll self.old self.new }
+        ensures run { self.new.run ≡ self.old.run }
+    {
+        for i in 0..self.ready.len() {
+            self.ready[i].collect(&mut self.outgoing.waiting, &mut self.born)?;
+        }
+        Ok(())
+    }
+
+    /// The one at this place of those that are ready is parked. Without memory for that it stays ready.
+    fn park(&mut self, place: usize, at: usize)
+        requires { place < length self.old.ready }
+        ensures kept { KeepsAll self.old self.new }
+        ensures run { self.new.run ≡ self.old.run }
+        ensures left { length self.old.ready ≤ length self.new.ready + 1 }
+    {
+        let turn = self.ready.swap_remove(place);
+        match self.parked.park(at, turn) {
+            Ok(()) => {}
+            Err(failed) => self.ready.push_reserved(failed.value),
+        }
+    }
+
+    /// The one at this place of those that are ready retires. It has ended, and has no prints that were not gathered, and no children that
+    /// were not adopted.
+    fn retire(&mut self, place: usize)
+        requires place { place < length self.old.ready }
+        requires empty { (t : turns.Turn) → t ≡ slice_index_or self.old.ready place t
+            → (t.goroutine.prints.items ≡ []) × (t.goroutine.children.items ≡ []) }
+        requires ended { (t : turns.Turn) → t ≡ slice_index_or self.old.ready place t
+            → MatchOption t.turned ⊥ (λ turned. turned.stop ≡ Ended) }
+        ensures kept { KeepsAll self.old self.new }
+        ensures run { self.new.run ≡ self.old.run }
+        ensures left { length self.old.ready ≤ length self.new.ready + 1 }
+    {
+        let turn = self.ready.swap_remove(place);
+        let goroutine = turn.into_goroutine();
+        retire(
+            self.run,
+            goroutine,
+            &mut self.seat,
+            &mut self.shares,
+            &mut self.first,
+        );
+    }
+
+    /// Those that wait are parked, and those that have ended retire.
+    fn sort_out(&mut self)
+        ensures kept { KeepsAll self.old self.new }
+        ensures run { self.new.run ≡ self.old.run }
+    {
+        let mut place = self.ready.len();
+        while place > 0 {
+            place -= 1;
+            match next_of(&self.ready[place]) {
+                Next::Ready => {}
+                Next::Parked(at) => self.park(place, at),
+                Next::Retired => self.retire(place),
+            }
+        }
+    }
+
+    /// Those that were born are ready, and have places for their shares.
+    ///
+    /// # Errors
+    ///
+    /// On allocation failure. Then some of them are.
+    fn welcome(&mut self) -> Result<(), AllocError>
+        ensures kept { KeepsAll self.old self.new }
+        ensures run { self.new.run ≡ self.old.run }
+    {
+        self.ready.reserve(self.born.len())?;
+        self.born.reverse();
+        while let Some(goroutine) = self.born.pop() {
+            match self.shares.make_room(goroutine.number()) {
+                Ok(()) => {
+                    self.ready
+                        .push_reserved(Turn::new(self.alloc, self.run, goroutine));
+                }
+                Err(error) => {
+                    self.born.push_reserved(goroutine);
+                    return Err(error);
+                }
+            }
+        }
+        Ok(())
+    }
+
+    /// Those that are parked at this word are ready.
+    ///
+    /// # Errors
+    ///
+    /// On allocation failure. Then nothing has changed.
+    fn wake(&mut self, at: usize) -> Result<(), AllocError>
+        ensures kept { KeepsAll self.old self.new }
+        ensures run { self.new.run ≡ self.old.run }
+    {
+        self.parked.unpark(at, &mut self.ready)
+    }
+
+    /// All that are parked are ready.
+    ///
+    /// # Errors
+    ///
+    /// On allocation failure. Then nothing has changed.
+    pub fn wake_all(&mut self) -> Result<(), AllocError>
+        ensures woken { OnOk result (self.new.parked ≡ []) }
+        ensures same { OnErr result (self.new ≡ self.old) }
+        ensures kept { KeepsAll self.old self.new }
+        ensures run { self.new.run ≡ self.old.run }
+    {
+        self.parked.unpark_all(&mut self.ready)
+    }
+
+    /// What the turns of those that are ready have come to, and which words they have changed.
+    ///
+    /// # Errors
+    ///
+    /// On allocation failure.
+    fn look_over(&self, moved: bool, changed: &mut Vec<usize>) -> Result<Came, AllocError> {
+        let mut came = Came {
+            moved,
+            all_used: true,
+            is_over: false,
+            lacks_memory: false,
+        };
+        for turn in &self.ready {
+            if let Some(turned) = turn.turned() {
+                came.all_used = came.all_used && turned.stop == Stop::Went;
+                came.is_over = came.is_over || turn.goroutine().first().is_some();
+                came.lacks_memory = came.lacks_memory || turned.stop == Stop::NoMemory;
+                changed.extend_from_slice(turned.changed.channels())?;
+            }
+        }
+        Ok(came)
+    }
+
+    /// Those that are parked at these words are ready.
+    ///
+    /// # Errors
+    ///
+    /// On allocation failure. Then some of them are.
+    fn wake_each(&mut self, words: &[usize]) -> Result<(), AllocError>
+        ensures kept { KeepsAll self.old self.new }
+        ensures run { self.new.run ≡ self.old.run }
+    {
+        for at in words {
+            self.wake(*at)?;
+        }
+        Ok(())
+    }
+
+    /// A round: each that is ready has a turn of up to `slice` instructions. What they have printed waits, what they have started is ready,
+    /// and so are those that wait at words that they have changed; those that have ended retire, and those that wait are parked.
+    ///
+    /// # Errors
+    ///
+    /// On allocation failure. Then some of this was not done.
+    pub fn play<H: Threads + Sync, G: Gate + Sync>(
+        &mut self,
+        rt: &H,
+        workers: u32,
+        slice: u32,
+        number: u64,
+        gate: &G,
+    ) -> Result<Came, AllocError>
+        requires workers { (1 ≤ workers) × (workers ≤ 64) }
+        ensures kept { KeepsAll self.old self.new }
+        ensures run { self.new.run ≡ self.old.run }
+    {
+        self.set_slices(slice);
+        let moved = self.turn_all(rt, workers, number, gate)?;
+        self.collect_all()?;
+        let mut changed = Vec::new(self.alloc);
+        let came = self.look_over(moved, &mut changed)?;
+        // Those that wait are parked before others are woken, so that a word that was changed in this round wakes them.
+        self.sort_out();
+        self.wake_each(changed.as_slice())?;
+        self.welcome()?;
+        Ok(came)
+    }
+
+    /// Writes the prints whose turn it is.
+    ///
+    /// # Errors
+    ///
+    /// Where a write failed.
+    pub fn give_out<K: Sink>(&mut self, out: &mut K) -> Result<(), WriteFault>
+        ensures given { OnOk result (GivesOut self.old.waiting self.old.next self.new.waiting self.new.next
+            (K.contents out.old) (K.contents out.new)) }
+        ensures part { OnErr result (GivesSome self.old.waiting self.old.next (K.contents out.old) (K.contents out.new)) }
+        ensures cause { HasCause (K.faults out.old) (K.faults out.new) result }
+        ensures broken { OnErr result (K.broken out.new ≡ true) }
+        ensures pieces { AddsOnly (IsPieceOf self.old.waiting) (K.pieces out.old) (K.pieces out.new) }
+        ensures rest { self.new ≡ record self.old { waiting = self.new.waiting; next = self.new.next } }
+    {
+        self.outgoing.give_out(out)
+    }
+}
+
+impl<'r, 'c> Crew<'r, 'c> {
+    /// That of a run that begins: `main` alone, ready for its first turn.
+    ///
+    /// # Errors
+    ///
+    /// On allocation failure. Then the seat comes back with the record of `main`.
+    pub fn new(
+        alloc: Global,
+        run: &'r Run<'r, 'c>,
+        mut seat: RunSeat,
+    ) -> Result<Crew<'r, 'c>, RunSeat>
+        requires own { IsSeatOf seat.table_id run.now.table clock_at }
+        requires first { seat.me ≡ (view ((0, first_of run.now.setup.code) ∷ []) [], []) }
+        requires possible { IsPossible run.now.setup 0 (first_of run.now.setup.code) }
+        requires pages { HasPages run.now }
+        ensures begun { IfOk result (λ c. (c.run ≡ run.now) × (c.waiting ≡ []) × (c.next ≡ 0) × NoneIsLost (all_members c) []) }
+        ensures back { IfErr result (λ s. (s.table_id ≡ seat.table_id) × (s.me ≡ seat.me)) }
+    {
+        let mut shares = Shares::new(alloc);
+        let mut ready: Vec<Turn<'r, 'c>> = Vec::new(alloc);
+        match shares.make_room(0) {
+            Ok(()) => {}
+            Err(_) => return Err(seat),
+        }
+        match ready.reserve(1) {
+            Ok(()) => {}
+            Err(_) => return Err(seat),
+        }
+        match Goroutine::main_goroutine(alloc, run, &mut seat) {
+            Ok(main) => {
+                ready.push_reserved(Turn::new(alloc, run, main));
+                Ok(Crew {
+                    run,
+                    alloc,
+                    seat,
+                    ready,
+                    parked: Parked::new(alloc),
+                    born: Vec::new(alloc),
+                    outgoing: Outgoing::new(alloc),
+                    shares,
+                    first: None,
+                })
+            }
+            Err(_) => Err(seat),
+        }
+    }
+}
+
+/// Crews, and such as are none.
+pub fn examples()
+    ensures { WholeCrewExamples }
+{}

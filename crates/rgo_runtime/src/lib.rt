@@ -1,0 +1,11 @@
+//! Runs of checked code over the words of one table: a driver gives goroutines their turns on worker threads, gives out their
+//! prints in order, and says how the run has ended.
+#![tactic(auto)]
+
+pub mod crew;
+pub mod parking;
+pub mod passes;
+pub mod printing;
+pub mod retiring;
+pub mod shares;
+pub mod turns;

@@ -1,0 +1,241 @@
+//! Goroutines that are parked until a word of the table changes.
+ghost use Rattle.std.specs.Prelude.{◌≡◌, ◌==◌, ◌++◌, ◌∷◌, [], ◌≤◌, ◌-◌, IfErr, IfOk, IsPermutation, None, OnErr, OnOk, length, nat_eq, vec_capacity, vec_len};
+ghost use Rattle.indexmap.specs.IndexMap.{get};
+ghost use Rattle.rgo_runtime.specs.Parking.{ParkingExamples, TakesAll, elsewhere, pairs_of, values_at};
+
+use indexmap::IndexMap;
+use std::alloc::{AllocError, AllocFailed, Global};
+use std::marker::Model;
+
+/// The values at each address, the oldest first.
+type Groups<T> = IndexMap<usize, Vec<T>>;
+
+/// Goroutines, each parked at the address of a word.
+///
+/// An address at which a goroutine was parked keeps an entry of a few words until [`Parked::unpark_all`].
+#[derive(Drop)]
+pub struct Parked<T: Drop> {
+    groups: Groups<T>,
+    /// How many are parked.
+    count: usize,
+    alloc: Global,
+}
+
+impl<T: Drop> Model for Parked<T> {
+    ghost use Rattle.std.specs.Prelude.{◌≡◌, ℕ, List, length};
+    ghost use Rattle.rgo_runtime.specs.Parking.{pairs_of};
+
+    ghost Value = { List (ℕ × T) };
+
+    ghost view = { λ parked. pairs_of parked.groups.entries };
+
+    ghost invariant = { λ parked. parked.count ≡ length (pairs_of parked.groups.entries) };
+}
+
+/// Begins a group at an address that has none.
+fn begin<T: Drop>(
+    alloc: Global,
+    groups: &mut Groups<T>,
+    at: usize,
+    value: T,
+) -> Result<(), AllocFailed<T>>
+    requires { get nat_eq groups.old at ≡ None }
+    ensures parked { OnOk result (pairs_of groups.new.entries ≡ pairs_of groups.old.entries ++ (at, value) ∷ []) }
+    ensures back { IfErr result (λ failed. failed.value ≡ value) }
+    ensures same { OnErr result (pairs_of groups.new.entries ≡ pairs_of groups.old.entries) }
+{
+    match groups.reserve(1) {
+        Ok(()) => {}
+        Err(_) => return Err(AllocFailed { value }),
+    }
+    let mut group = Vec::new(alloc);
+    match group.push(value) {
+        Ok(()) => {}
+        Err(failed) => return Err(failed),
+    }
+    groups.insert(at, group).unwrap();
+    Ok(())
+}
+
+/// Adds a value to the group of an address.
+fn join<T: Drop>(
+    alloc: Global,
+    groups: &mut Groups<T>,
+    at: usize,
+    value: T,
+) -> Result<(), AllocFailed<T>>
+    ensures parked { OnOk result (IsPermutation (pairs_of groups.new.entries) ((at, value) ∷ pairs_of groups.old.entries)) }
+    ensures back { IfErr result (λ failed. failed.value ≡ value) }
+    ensures same { OnErr result (pairs_of groups.new.entries ≡ pairs_of groups.old.entries) }
+{
+    match groups.get_mut(&at) {
+        Some(group) => match group.push(value) {
+            Ok(()) => Ok(()),
+            Err(failed) => Err(failed),
+        },
+        None => match begin(alloc, groups, at, value) {
+            Ok(()) => Ok(()),
+            Err(failed) => Err(failed),
+        },
+    }
+}
+
+/// Moves the group of an address to the end of a list. Returns how many came.
+fn leave<T: Drop>(
+    alloc: Global,
+    groups: &mut Groups<T>,
+    at: usize,
+    into: &mut Vec<T>,
+) -> Result<usize, AllocError>
+    ensures woken { IfOk result (λ count. count ≡ length (values_at at (pairs_of groups.old.entries))) }
+    ensures into { OnOk result (into.new.items ≡ into.old.items ++ values_at at (pairs_of groups.old.entries)) }
+    ensures left { OnOk result (pairs_of groups.new.entries ≡ elsewhere at (pairs_of groups.old.entries)) }
+    ensures same { OnErr result (pairs_of groups.new.entries ≡ pairs_of groups.old.entries) }
+    ensures kept { OnErr result (into.new.items ≡ into.old.items) }
+{
+    match groups.get_mut(&at) {
+        Some(group) => {
+            let count = group.len();
+            match into.append(group) {
+                Ok(()) => {
+                    *group = Vec::new(alloc);
+                    Ok(count)
+                }
+                Err(error) => Err(error),
+            }
+        }
+        None => Ok(0),
+    }
+}
+
+/// Moves all groups to the end of a list that has room for them.
+fn move_all<T: Drop>(groups: &mut Groups<T>, into: &mut Vec<T>)
+    requires { length (pairs_of groups.old.entries) ≤ vec_capacity into.old - vec_len into.old }
+    ensures moved { TakesAll (pairs_of groups.old.entries) into.old.items into.new.items }
+    ensures none { groups.new.entries ≡ [] }
+{
+    while let Some((_, mut group)) = groups.pop() {
+        into.append(&mut group).unwrap();
+    }
+}
+
+impl<T: Drop> Parked<T> {
+    /// None is parked.
+    pub fn new(alloc: Global) -> Parked<T>
+        ensures { result ≡ [] }
+    {
+        Parked {
+            groups: IndexMap::new(alloc),
+            count: 0,
+            alloc,
+        }
+    }
+
+    /// How many are parked.
+    pub fn len(&self) -> usize
+        ensures { result ≡ length self.now }
+    {
+        self.count
+    }
+
+    /// Whether none is parked.
+    pub fn is_empty(&self) -> bool
+        ensures { result ≡ (length self.now == 0) }
+    {
+        self.count == 0
+    }
+
+    /// Parks a goroutine at an address.
+    ///
+    /// # Errors
+    ///
+    /// On allocation failure. Then nothing has changed, and the error returns the goroutine.
+    pub fn park(&mut self, at: usize, value: T) -> Result<(), AllocFailed<T>>
+        ensures parked { OnOk result (IsPermutation self.new ((at, value) ∷ self.old)) }
+        ensures back { IfErr result (λ failed. failed.value ≡ value) }
+        ensures same { OnErr result (self.new ≡ self.old) }
+    {
+        let Some(count) = self.count.checked_add(1) else {
+            return Err(AllocFailed { value });
+        };
+        match join(self.alloc, &mut self.groups, at, value) {
+            Ok(()) => {
+                self.count = count;
+                Ok(())
+            }
+            Err(failed) => Err(failed),
+        }
+    }
+
+    /// The goroutines that are parked at an address come to the list's end, the oldest first. The others are not touched.
+    ///
+    /// # Errors
+    ///
+    /// On allocation failure. Then nothing has changed.
+    pub fn unpark(&mut self, at: usize, into: &mut Vec<T>) -> Result<(), AllocError>
+        ensures woken { OnOk result (into.new.items ≡ into.old.items ++ values_at at self.old) }
+        ensures left { OnOk result (self.new ≡ elsewhere at self.old) }
+        ensures same { OnErr result (self.new ≡ self.old) }
+        ensures kept { OnErr result (into.new.items ≡ into.old.items) }
+    {
+        match leave(self.alloc, &mut self.groups, at, into) {
+            Ok(count) => {
+                self.count -= count;
+                Ok(())
+            }
+            Err(error) => Err(error),
+        }
+    }
+
+    /// All goroutines that are parked come to the list's end.
+    ///
+    /// # Errors
+    ///
+    /// On allocation failure. Then nothing has changed.
+    pub fn unpark_all(&mut self, into: &mut Vec<T>) -> Result<(), AllocError>
+        ensures woken { OnOk result (TakesAll self.old into.old.items into.new.items) }
+        ensures left { OnOk result (self.new ≡ []) }
+        ensures same { OnErr result (self.new ≡ self.old) }
+        ensures kept { OnErr result (into.new.items ≡ into.old.items) }
+    {
+        match into.reserve(self.count) {
+            Ok(()) => {
+                move_all(&mut self.groups, into);
+                self.count = 0;
+                Ok(())
+            }
+            Err(error) => Err(error),
+        }
+    }
+}
+
+/// Values that are parked at two addresses.
+pub fn examples()
+    ensures { ParkingExamples }
+{}
+
+#[cfg(test)]
+mod tests {
+    use super::*;
+    use std::test::Fail;
+
+    #[test]
+    fn one_address_and_then_all(rt: HostRuntime) -> Result<(), Fail> {
+        let mut parked = Parked::new(rt.alloc());
+        parked.park(64, 1u8)?;
+        parked.park(72, 2)?;
+        parked.park(64, 3)?;
+        assert_eq!(rt; parked.len(), 3);
+        let mut woken = Vec::new(rt.alloc());
+        parked.unpark(64, &mut woken)?;
+        assert_eq!(rt; woken.as_slice(), [1, 3].as_slice());
+        parked.unpark(80, &mut woken)?;
+        assert!(rt; !parked.is_empty());
+        parked.park(64, 4)?;
+        parked.unpark_all(&mut woken)?;
+        woken.sort_unstable();
+        assert_eq!(rt; woken.as_slice(), [1, 2, 3, 4].as_slice());
+        assert!(rt; parked.is_empty());
+        Ok(())
+    }
+}

@@ -1,0 +1,209 @@
+//! Passes: how a driver comes to know that no goroutine can continue. First all meet it, so that it has seen as much as each of them. Then
+//! each looks at the clock, so that all its accesses are known. Then each has a turn; where no turn has changed anything, all of them
+//! have found the table as it was at one moment.
+ghost use Rattle.std.specs.Prelude.{◌≡◌, ◌++◌, List};
+ghost use Rattle.std.specs.List.{All, AllZip};
+ghost use Rattle.rgo_core_memory.specs.Words.{clock_at};
+ghost use Rattle.rgo_core_rule.specs.declared.accesses.Access.{Access};
+ghost use Rattle.rgo_core_steps.specs.Seats.{IsSeatOf};
+ghost use Rattle.rgo_goroutine.specs.Goroutines.{IsOf};
+ghost use Rattle.rgo_goroutine.specs.Instructions.{HasPages};
+ghost use Rattle.rgo_runtime.specs.Passing.{ComesTo, HasLookedOnce, HasMet, IsBehind, IsKnownBy, IsPass, IsTidyIn, LooksBetween, MayHaveTurned, PassComesTo, PassingExamples, TurnsBetween, is_moved, joined_with};
+
+use rgo_acts::runs::Run;
+use rgo_core::table::RunSeat;
+use rgo_core_steps::counting::Steps;
+use rgo_goroutine::goroutine::Goroutine;
+use rgo_goroutine::turning::{Stop, Turned};
+use rgo_machine::Shortage;
+use std::alloc::Global;
+use std::sync::ledger::Ledger;
+
+/// The most instructions of a goroutine that has another turn.
+const MOST_STEPS: u64 = 1 << 42;
+
+/// What the turns of a pass have come to.
+#[derive(Clone, Copy, Debug, PartialEq, Eq)]
+pub enum Passed {
+    /// A goroutine may have changed something, may continue, or has ended.
+    Moved,
+    /// No goroutine can continue, and none lacks anything.
+    Still,
+    /// No goroutine can continue, and one lacks this.
+    Lacks(Shortage),
+}
+
+/// All goroutines meet their driver, which has then seen at least as many accesses as each of them.
+pub fn meet_all(run: &Run<'_, '_>, goroutines: &mut [Goroutine], seat: &mut RunSeat)
+    requires all { All (IsOf run.now) goroutines.old }
+    requires own { IsSeatOf seat.old.table_id run.now.table clock_at }
+    ensures all { All (IsOf run.now) goroutines.new }
+    ensures own { seat.new.table_id ≡ seat.old.table_id }
+    ensures rows { (seat.new.me.0.records ≡ seat.old.me.0.records) × (seat.new.me.1 ≡ seat.old.me.1) }
+    ensures met { AllZip (HasMet run.now.setup) goroutines.old goroutines.new }
+    ensures behind { All (IsBehind seat.new.me.0.seen) goroutines.new }
+{
+    for i in 0..goroutines.len() {
+        goroutines[i].meet(run, seat);
+    }
+}
+
+/// A goroutine looks at the clock, between two meetings with its driver.
+fn look_once(run: &Run<'_, '_>, goroutine: &mut Goroutine, seat: &mut RunSeat)
+    requires of { IsOf run.now goroutine.old }
+    requires own { IsSeatOf seat.old.table_id run.now.table clock_at }
+    requires behind { IsBehind seat.old.me.0.seen goroutine.old }
+    ensures of { IsOf run.now goroutine.new }
+    ensures own { seat.new.table_id ≡ seat.old.table_id }
+    ensures rows { (seat.new.me.0.records ≡ seat.old.me.0.records) × (seat.new.me.1 ≡ seat.old.me.1) }
+    ensures looks { LooksBetween run.now.setup seat.old.me.0.seen seat.new.me.0.seen goroutine.old goroutine.new }
+{
+    goroutine.meet(run, seat);
+    goroutine.look(run);
+    goroutine.meet(run, seat);
+}
+
+/// After all have met their driver, each looks, between two meetings with it. Then all their accesses are known.
+pub fn look_all(run: &Run<'_, '_>, goroutines: &mut [Goroutine], seat: &mut RunSeat)
+    requires all { All (IsOf run.now) goroutines.old }
+    requires own { IsSeatOf seat.old.table_id run.now.table clock_at }
+    requires behind { All (IsBehind seat.old.me.0.seen) goroutines.old }
+    ensures all { All (IsOf run.now) goroutines.new }
+    ensures own { seat.new.table_id ≡ seat.old.table_id }
+    ensures rows { (seat.new.me.0.records ≡ seat.old.me.0.records) × (seat.new.me.1 ≡ seat.old.me.1) }
+    ensures looked { AllZip (HasLookedOnce run.now.setup) goroutines.old goroutines.new }
+    ensures seen { (es : List Access) × (seat.new.me.0.seen ≡ seat.old.me.0.seen ++ es) }
+    ensures known { All (IsKnownBy run.now.setup seat.new.me.0.seen) goroutines.new }
+    ensures behind { All (IsBehind seat.new.me.0.seen) goroutines.new }
+{
+    for i in 0..goroutines.len() {
+        look_once(run, &mut goroutines[i], seat);
+    }
+}
+
+impl Passed {
+    /// What one turn has come to. It counts as still only if nothing moved and the goroutine waits, was outrun, or lacks something.
+    fn by(turned: &Turned) -> Passed
+        ensures { ComesTo turned.now result }
+    {
+        if turned.moved {
+            return Passed::Moved;
+        }
+        match turned.stop {
+            Stop::Blocked { .. } | Stop::Lost { .. } => Passed::Still,
+            Stop::Short(why) => Passed::Lacks(why),
+            Stop::Went | Stop::Ended | Stop::Stopped(_) | Stop::NoMemory => Passed::Moved,
+        }
+    }
+
+    /// What turns have come to, with one more.
+    fn and(self, next: Passed) -> Passed
+        ensures { result ≡ joined_with self next }
+    {
+        match next {
+            Passed::Moved => Passed::Moved,
+            Passed::Still => self,
+            Passed::Lacks(why) => Passed::Lacks(why),
+        }
+    }
+
+    fn is_moved(&self) -> bool
+        ensures { result ≡ is_moved self.now }
+    {
+        match self {
+            Passed::Moved => true,
+            Passed::Still | Passed::Lacks(_) => false,
+        }
+    }
+}
+
+/// A goroutine that has not seen more than its driver has a turn of one instruction, between two meetings with it.
+fn turn_once<L: Ledger>(
+    alloc: Global,
+    run: &Run<'_, '_>,
+    goroutine: &mut Goroutine,
+    seat: &mut RunSeat,
+    steps: &mut Steps<L>,
+) -> Passed
+    requires of { IsOf run.now goroutine.old }
+    requires own { IsSeatOf seat.old.table_id run.now.table clock_at }
+    requires pages { HasPages run.now }
+    requires behind { IsBehind seat.old.me.0.seen goroutine.old }
+    ensures of { IsOf run.now goroutine.new }
+    ensures own { seat.new.table_id ≡ seat.old.table_id }
+    ensures rows { (seat.new.me.0.records ≡ seat.old.me.0.records) × (seat.new.me.1 ≡ seat.old.me.1) }
+    ensures turns { TurnsBetween run.now seat.old.me.0.seen seat.new.me.0.seen goroutine.old goroutine.new result }
+{
+    if goroutine.tally().steps > MOST_STEPS {
+        return Passed::Moved;
+    }
+    goroutine.meet(run, seat);
+    let turned = goroutine.turn(alloc, run, 1, steps);
+    goroutine.meet(run, seat);
+    Passed::by(&turned)
+}
+
+/// After all have looked, each has a turn of one instruction, between two meetings with its driver, until one moves. A goroutine that has
+/// made too many instructions to count another has no turn, and counts as one that moved.
+pub fn turn_all<L: Ledger>(
+    alloc: Global,
+    run: &Run<'_, '_>,
+    goroutines: &mut [Goroutine],
+    seat: &mut RunSeat,
+    steps: &mut Steps<L>,
+) -> Passed
+    requires all { All (IsOf run.now) goroutines.old }
+    requires own { IsSeatOf seat.old.table_id run.now.table clock_at }
+    requires pages { HasPages run.now }
+    requires known { All (IsKnownBy run.now.setup seat.old.me.0.seen) goroutines.old }
+    requires behind { All (IsBehind seat.old.me.0.seen) goroutines.old }
+    ensures all { All (IsOf run.now) goroutines.new }
+    ensures own { seat.new.table_id ≡ seat.old.table_id }
+    ensures rows { (seat.new.me.0.records ≡ seat.old.me.0.records) × (seat.new.me.1 ≡ seat.old.me.1) }
+    ensures seen { (es : List Access) × (seat.new.me.0.seen ≡ seat.old.me.0.seen ++ es) }
+    ensures known { All (IsKnownBy run.now.setup seat.new.me.0.seen) goroutines.new }
+    ensures behind { All (IsBehind seat.new.me.0.seen) goroutines.new }
+    ensures tidy { All (IsTidyIn run.now.setup) goroutines.old → All (IsTidyIn run.now.setup) goroutines.new }
+    ensures turned { AllZip (MayHaveTurned run.now) goroutines.old goroutines.new }
+    ensures passed { PassComesTo run.now seat.old.me.0.seen seat.new.me.0.seen goroutines.old goroutines.new result }
+{
+    let mut passed = Passed::Still;
+    for i in 0..goroutines.len() {
+        let next = turn_once(alloc, run, &mut goroutines[i], seat, steps);
+        if next.is_moved() {
+            return Passed::Moved;
+        }
+        passed = passed.and(next);
+    }
+    passed
+}
+
+/// A pass: all goroutines meet their driver, then each looks, and then each has a turn, until one moves. If none has moved, and all other
+/// goroutines have ended, the run is in a deadlock, or has no page or no slot left for one that lacks it.
+pub fn pass<L: Ledger>(
+    alloc: Global,
+    run: &Run<'_, '_>,
+    goroutines: &mut [Goroutine],
+    seat: &mut RunSeat,
+    steps: &mut Steps<L>,
+) -> Passed
+    requires all { All (IsOf run.now) goroutines.old }
+    requires own { IsSeatOf seat.old.table_id run.now.table clock_at }
+    requires pages { HasPages run.now }
+    ensures all { All (IsOf run.now) goroutines.new }
+    ensures own { seat.new.table_id ≡ seat.old.table_id }
+    ensures rows { (seat.new.me.0.records ≡ seat.old.me.0.records) × (seat.new.me.1 ≡ seat.old.me.1) }
+    ensures known { All (IsKnownBy run.now.setup seat.new.me.0.seen) goroutines.new }
+    ensures behind { All (IsBehind seat.new.me.0.seen) goroutines.new }
+    ensures tidy { All (IsTidyIn run.now.setup) goroutines.old → All (IsTidyIn run.now.setup) goroutines.new }
+    ensures passed { IsPass run.now seat.new.me.0.seen goroutines.old goroutines.new result }
+{
+    meet_all(run, goroutines, seat);
+    look_all(run, goroutines, seat);
+    turn_all(alloc, run, goroutines, seat, steps)
+}
+
+/// What is known of goroutines and turns, and what is not.
+pub fn examples()
+    ensures { PassingExamples }
+{}

@@ -1,0 +1,146 @@
+//! Prints that were gathered from goroutines, and go out in the order of their tickets.
+ghost use Rattle.std.specs.Prelude.{◌≡◌, ◌++◌, [], IfOk, IsPermutation, OnErr, OnOk, true};
+ghost use Rattle.std.specs.List.Sorted.{IsNonDecreasingBy};
+ghost use Rattle.rgo_outside.specs.Causes.{HasCause};
+ghost use Rattle.rgo_outside.specs.Pieces.{AddsOnly};
+ghost use Rattle.rgo_runtime.specs.Printing.{GivesOut, GivesSome, IsPieceOf, PrintingExamples, ticket_of};
+
+use rgo_acts::prints::Print;
+use rgo_outside::{Sink, WriteFault, write_all};
+use std::alloc::{AllocError, Global};
+
+/// Prints that wait until all prints with lower tickets have gone out.
+#[derive(Drop)]
+pub struct Outgoing {
+    pub(crate) waiting: Vec<Print>,
+    /// The first ticket whose print has not gone out. It passes the end of a `u64` once the print with the last ticket is out.
+    pub(crate) next: u128,
+}
+
+/// Puts prints in the order of their tickets.
+fn sort(prints: &mut Vec<Print>)
+    ensures same { IsPermutation prints.old.items prints.new.items }
+    ensures sorted { IsNonDecreasingBy ticket_of prints.new.items }
+{
+    prints.sort_unstable_by_key(|print| print.ticket);
+}
+
+/// Writes the prints whose turn it is, from this ticket on, and removes them. Returns the first ticket that had no print.
+fn give<K: Sink>(waiting: &mut Vec<Print>, from: u128, out: &mut K) -> Result<u128, WriteFault>
+    requires { IsNonDecreasingBy ticket_of waiting.old.items }
+    ensures given { IfOk result (λ next.
+        GivesOut waiting.old.items from waiting.new.items next (K.contents out.old) (K.contents out.new)) }
+    ensures part { OnErr result (GivesSome waiting.old.items from (K.contents out.old) (K.contents out.new)) }
+    ensures cause { HasCause (K.faults out.old) (K.faults out.new) result }
+    ensures broken { OnErr result (K.broken out.new ≡ true) }
+    ensures pieces { AddsOnly (IsPieceOf waiting.old.items) (K.pieces out.old) (K.pieces out.new) }
+{
+    let mut next = from;
+    let mut kept = 0;
+    for i in 0..waiting.len() {
+        let print = &waiting[i];
+        if u128::from(print.ticket) == next {
+            match write_all(out, &print.bytes) {
+                Ok(()) => next += 1,
+                Err(fault) => return Err(fault),
+            }
+        } else {
+            waiting.swap(kept, i);
+            kept += 1;
+        }
+    }
+    waiting.truncate(kept);
+    Ok(next)
+}
+
+impl Outgoing {
+    /// None waits, and none has gone out.
+    pub fn new(alloc: Global) -> Outgoing
+        ensures waiting { result.waiting.items ≡ [] }
+        ensures next { result.next ≡ 0 }
+    {
+        Outgoing {
+            waiting: Vec::new(alloc),
+            next: 0,
+        }
+    }
+
+    /// These prints wait now, and leave the list.
+    ///
+    /// # Errors
+    ///
+    /// On allocation failure. Then nothing has changed.
+    pub fn add(&mut self, prints: &mut Vec<Print>) -> Result<(), AllocError>
+        ensures added { OnOk result (self.new.waiting.items ≡ self.old.waiting.items ++ prints.old.items) }
+        ensures none { OnOk result (prints.new.items ≡ []) }
+        ensures same { OnErr result (self.new.waiting.items ≡ self.old.waiting.items) }
+        ensures kept { OnErr result (prints.new.items ≡ prints.old.items) }
+        ensures next { self.new.next ≡ self.old.next }
+    {
+        self.waiting.append(prints)
+    }
+
+    /// Writes the prints whose turn it is, each as a whole, and removes them.
+    ///
+    /// # Errors
+    ///
+    /// Where a write failed. Nothing more was written then.
+    pub fn give_out<K: Sink>(&mut self, out: &mut K) -> Result<(), WriteFault>
+        ensures given { OnOk result (GivesOut self.old.waiting.items self.old.next self.new.waiting.items self.new.next
+            (K.contents out.old) (K.contents out.new)) }
+        ensures part { OnErr result (GivesSome self.old.waiting.items self.old.next (K.contents out.old) (K.contents out.new)) }
+        ensures cause { HasCause (K.faults out.old) (K.faults out.new) result }
+        ensures broken { OnErr result (K.broken out.new ≡ true) }
+        ensures pieces { AddsOnly (IsPieceOf self.old.waiting.items) (K.pieces out.old) (K.pieces out.new) }
+    {
+        sort(&mut self.waiting);
+        match give(&mut self.waiting, self.next, out) {
+            Ok(next) => {
+                self.next = next;
+                Ok(())
+            }
+            Err(fault) => Err(fault),
+        }
+    }
+}
+
+/// Prints of which one is missing.
+pub fn examples()
+    ensures { PrintingExamples }
+{}
+
+#[cfg(test)]
+mod tests {
+    use super::*;
+    use rgo_outside::MemSink;
+    use std::test::Fail;
+
+    fn add(alloc: Global, outgoing: &mut Outgoing, ticket: u64, text: &str) -> Result<(), Fail> {
+        let bytes = Vec::from_slice(alloc, text.as_bytes())?;
+        let mut prints = Vec::new(alloc);
+        prints.push(Print {
+            ticket,
+            bytes,
+            is_void: false,
+        })?;
+        outgoing.add(&mut prints)?;
+        Ok(())
+    }
+
+    #[test]
+    fn a_gap_is_closed_and_then_a_write_fails(rt: HostRuntime) -> Result<(), Fail> {
+        let alloc = rt.alloc();
+        let failing = Vec::from_slice(alloc, &[4])?;
+        let mut sink = MemSink::new(alloc, 100, failing)?;
+        let mut outgoing = Outgoing::new(alloc);
+        add(alloc, &mut outgoing, 2, "third ")?;
+        add(alloc, &mut outgoing, 0, "first ")?;
+        assert!(rt; outgoing.give_out(&mut sink).is_ok());
+        assert_eq!(rt; sink.bytes(), b"first ".as_slice());
+        add(alloc, &mut outgoing, 3, "fourth ")?;
+        add(alloc, &mut outgoing, 1, "second ")?;
+        assert!(rt; outgoing.give_out(&mut sink).is_err());
+        assert_eq!(rt; sink.bytes(), b"first second third ".as_slice());
+        Ok(())
+    }
+}

@@ -1,0 +1,187 @@
+//! What goroutines that have retired have counted, each share at the place of its goroutine's number.
+ghost use Rattle.std.specs.Prelude.{◌≡◌, ◌<◌, ◌++◌, ◌↔◌, [], ℕ, OnErr, OnOk, length, replicate, slice_set, true};
+ghost use Rattle.rgo_runtime.specs.Shares.{counts_in};
+ghost use Rattle.rgo_sound.specs.Tally.{no_share};
+ghost use Rattle.rgo_table_runs.specs.closing.Gathering.{sum_of};
+
+use rgo_body::Counts;
+use std::alloc::{AllocError, Global};
+use std::marker::Model;
+
+/// What a run has made and done. The sums of a million shares fit.
+#[derive(Clone, Copy, Debug, PartialEq, Eq)]
+pub struct Tally {
+    /// Regions that were created, but for Global.
+    pub made: u128,
+    /// Regions that were removed.
+    pub removed: u128,
+    /// Pages that were taken, those of Global among them.
+    pub taken: u128,
+    /// Pages of regions that were removed.
+    pub returned: u128,
+    /// Instructions that were executed; two that meet are one.
+    pub steps: u128,
+    /// Objects that were made.
+    pub objects: u128,
+    /// Goroutines, `main` included.
+    pub goroutines: u128,
+}
+
+/// The list of shares is shorter than this, so that the sums fit.
+const MOST: usize = 1 << 40;
+
+/// The shares by number. Contracts see the list of them.
+#[derive(Drop)]
+pub struct Shares {
+    shares: Vec<Counts>,
+}
+
+impl Model for Shares {
+    ghost use Rattle.std.specs.Prelude.{◌<◌, List, length};
+    ghost use Rattle.rgo_region_machine.specs.Counts as spec;
+
+    ghost Value = { List spec.Counts };
+
+    ghost view = { λ s. s.shares.items };
+
+    ghost invariant = { λ s. length s.shares.items < 1099511627776 };
+}
+
+/// The same counts.
+fn copy_of(counts: &Counts) -> Counts
+    ensures { result ≡ counts.now }
+{
+    Counts {
+        made: counts.made,
+        removed: counts.removed,
+        taken: counts.taken,
+        returned: counts.returned,
+        steps: counts.steps,
+        objects: counts.objects,
+        goroutines: counts.goroutines,
+    }
+}
+
+/// No counts.
+fn nothing() -> Counts
+    ensures { result ≡ no_share }
+{
+    Counts {
+        made: 0,
+        removed: 0,
+        taken: 0,
+        returned: 0,
+        steps: 0,
+        objects: 0,
+        goroutines: 0,
+    }
+}
+
+impl Shares {
+    /// None yet.
+    pub fn new(alloc: Global) -> Shares
+        ensures { result ≡ [] }
+    {
+        Shares {
+            shares: Vec::new(alloc),
+        }
+    }
+
+    /// Makes a place for the goroutine of this number, and for those of lower numbers. Nothing is counted at a new place.
+    ///
+    /// # Errors
+    ///
+    /// On allocation failure, and for a number that is too large for the list. Then nothing has changed.
+    pub fn make_room(&mut self, number: u64) -> Result<(), AllocError>
+        ensures room { OnOk result (number < length self.new) }
+        ensures more { OnOk result ((n : ℕ) × (self.new ≡ self.old ++ replicate n no_share)) }
+        ensures same { OnErr result (self.new ≡ self.old) }
+    {
+        let Ok(number) = usize::try_from(number) else {
+            return Err(AllocError);
+        };
+        if number >= MOST - 1 {
+            return Err(AllocError);
+        }
+        let len = self.shares.len();
+        if number < len {
+            return Ok(());
+        }
+        self.shares.reserve(number + 1 - len)?;
+        for _ in len..number + 1 {
+            self.shares.push_reserved(nothing());
+        }
+        Ok(())
+    }
+
+    /// Whether the goroutine of this number has a place.
+    pub fn has_place(&self, number: u64) -> bool
+        ensures { (result ≡ true) ↔ (number < length self.now) }
+    {
+        (number as u128) < (self.shares.len() as u128)
+    }
+
+    /// Puts what the goroutine of this number has counted at its place. If it has no place, nothing changes.
+    pub fn set(&mut self, number: u64, counts: &Counts)
+        ensures { self.new ≡ slice_set self.old number counts.now }
+    {
+        if let Ok(number) = usize::try_from(number) {
+            if number < self.shares.len() {
+                self.shares[number] = copy_of(counts);
+            }
+        }
+    }
+
+    /// The sum of all.
+    pub fn total(&self) -> Tally
+        ensures { counts_in result ≡ sum_of self.now }
+    {
+        let mut total = Tally {
+            made: 0,
+            removed: 0,
+            taken: 0,
+            returned: 0,
+            steps: 0,
+            objects: 0,
+            goroutines: 0,
+        };
+        for share in &self.shares {
+            total.made += u128::from(share.made);
+            total.removed += u128::from(share.removed);
+            total.taken += u128::from(share.taken);
+            total.returned += u128::from(share.returned);
+            total.steps += u128::from(share.steps);
+            total.objects += u128::from(share.objects);
+            total.goroutines += u128::from(share.goroutines);
+        }
+        total
+    }
+}
+
+#[cfg(test)]
+mod tests {
+    use super::*;
+    use std::test::Fail;
+
+    #[test]
+    fn shares_at_their_places_add_up(rt: HostRuntime) -> Result<(), Fail> {
+        let mut five = nothing();
+        five.steps = 5;
+        let mut most = nothing();
+        most.steps = u64::MAX;
+        let mut shares = Shares::new(rt.alloc());
+        shares.make_room(2)?;
+        shares.make_room(0)?;
+        assert!(rt; shares.has_place(2));
+        assert!(rt; !shares.has_place(3));
+        assert!(rt; shares.make_room(u64::MAX).is_err());
+        shares.set(0, &most);
+        shares.set(2, &most);
+        // What was counted before is among what is counted now; and the last goroutine has no place.
+        shares.set(2, &five);
+        shares.set(3, &five);
+        assert_eq!(rt; shares.total().steps, u128::from(u64::MAX) + 5);
+        assert_eq!(rt; shares.total().made, 0);
+        Ok(())
+    }
+}

@@ -1,0 +1,184 @@
+//! A goroutine with what a worker needs to give it a turn.
+ghost use Rattle.std.specs.Prelude.{◌≡◌, ◌+◌, ◌∷◌, ◌<◌, ◌≤◌, [], None, OnOk, Some};
+ghost use Rattle.std.specs.List.{All};
+ghost use Rattle.rgo_core.specs.Records.{steps_of};
+ghost use Rattle.rgo_goroutine.specs.Goroutines.{IsOf, IsTidy, record_of};
+ghost use Rattle.rgo_goroutine.specs.Instructions.{HasPages};
+ghost use Rattle.rgo_goroutine.specs.Turns.{HasTurned};
+ghost use Rattle.rgo_runtime.specs.Crews.{IsNewborn, Keeps, drawn, its_member, members};
+ghost use Rattle.rgo_runtime.specs.Turns as spec;
+
+use rgo_acts::prints::Print;
+use rgo_acts::runs::Run;
+use rgo_core_steps::counting::Steps;
+use rgo_goroutine::goroutine::Goroutine;
+use rgo_goroutine::turning::Turned;
+use rgo_sched::Task;
+use std::alloc::{AllocError, Global};
+use std::marker::{Brand, Model};
+use std::sync::ledger::{Blank, Ledger};
+
+/// The most instructions of a goroutine. A print is an instruction, and a run can number the prints of a million goroutines that have
+/// executed no more than these.
+const MOST_STEPS: u64 = 1 << 43;
+
+/// A goroutine, with what its next turn is to be and what its last one has done.
+#[derive(Drop)]
+pub struct Turn<'r, 'c> {
+    run: &'r Run<'r, 'c>,
+    alloc: Global,
+    goroutine: Goroutine,
+    /// How many instructions its next turn may execute.
+    slice: u32,
+    /// What its last turn has done.
+    turned: Option<Turned>,
+}
+
+impl<'r, 'c> Model for Turn<'r, 'c> {
+    ghost use Rattle.rgo_runtime.specs.Turns as spec;
+
+    ghost Value = { spec.Turn };
+
+    ghost view = { λ t. record { run = t.run.now; goroutine = t.goroutine; slice = t.slice; turned = t.turned } };
+
+    ghost invariant = { λ t. spec.CanTurn (record {
+      run = t.run.now;
+      goroutine = t.goroutine;
+      slice = t.slice;
+      turned = t.turned;
+    }) };
+}
+
+impl<'r, 'c> Turn<'r, 'c> {
+    /// A goroutine that has had no turn yet. Its next one may execute no instruction, until it is given some.
+    pub fn new(alloc: Global, run: &'r Run<'r, 'c>, goroutine: Goroutine) -> Turn<'r, 'c>
+        requires of { IsOf run.now goroutine }
+        requires tidy { IsTidy (record_of run.now.setup goroutine) }
+        requires pages { HasPages run.now }
+        requires few { steps_of (record_of run.now.setup goroutine) < 8796093022208 }
+        ensures { result ≡ record { run = run.now; goroutine = goroutine; slice = 0; turned = None } }
+    {
+        Turn {
+            run,
+            alloc,
+            goroutine,
+            slice: 0,
+            turned: None,
+        }
+    }
+
+    /// Its next turn may execute this many instructions; none, if it could then have executed too many in all.
+    pub fn set_slice(&mut self, slice: u32)
+        ensures rest { self.new ≡ record self.old { slice = self.new.slice } }
+        ensures within { self.new.slice ≤ slice }
+    {
+        let done = self.goroutine.tally().steps;
+        self.slice = if done < MOST_STEPS && u64::from(slice) < MOST_STEPS - done {
+            slice
+        } else {
+            0
+        };
+    }
+
+    /// What its last turn has done.
+    pub fn turned(&self) -> Option<Turned>
+        ensures { result ≡ self.now.turned }
+    {
+        self.turned
+    }
+
+    pub fn goroutine(&self) -> &Goroutine
+        ensures { result.now ≡ self.now.goroutine }
+    {
+        &self.goroutine
+    }
+
+    /// What it has printed and started comes to the ends of these lists.
+    ///
+    /// # Errors
+    ///
+    /// On allocation failure. Then some of it has come, and the goroutine has the rest.
+    pub fn collect(
+        &mut self,
+        waiting: &mut Vec<Print>,
+        born: &mut Vec<Goroutine>,
+    ) -> Result<(), AllocError>
+        requires born { All (IsNewborn self.old.run) born.old.items }
+        ensures same { self.new ≡ record self.old { goroutine = self.new.goroutine } }
+        ensures number { self.new.goroutine.number ≡ self.old.goroutine.number }
+        ensures actor { self.new.goroutine.actor ≡ self.old.goroutine.actor }
+        ensures born { All (IsNewborn self.old.run) born.new.items }
+        ensures kept { Keeps (its_member self.old ∷ members self.old.run.setup born.old.items) (drawn waiting.old.items)
+            (its_member self.new ∷ members self.old.run.setup born.new.items) (drawn waiting.new.items) }
+        ensures done { OnOk result ((self.new.goroutine.prints.items ≡ []) × (self.new.goroutine.children.items ≡ [])) }
+    {
+        self.goroutine.gather(waiting)?;
+        self.goroutine.adopt(self.alloc, self.run, born)?;
+        Ok(())
+    }
+
+    /// The goroutine, which has no more turns.
+    pub fn into_goroutine(self) -> Goroutine
+        ensures of { IsOf self.entry.run result }
+        ensures tidy { IsTidy (record_of self.entry.run.setup result) }
+        ensures same { result ≡ self.entry.goroutine }
+    {
+        let Turn {
+            run: _,
+            alloc: _,
+            goroutine,
+            slice: _,
+            turned: _,
+        } = self;
+        goroutine
+    }
+}
+
+/// A turn whose accesses to the table are counted by this ledger.
+fn turn_counted<L: Ledger>(
+    alloc: Global,
+    run: &Run<'_, '_>,
+    goroutine: &mut Goroutine,
+    slice: u32,
+    blank: Blank,
+) -> Turned
+    requires of { IsOf run.now goroutine.old }
+    requires pages { HasPages run.now }
+    requires few { steps_of (record_of run.now.setup goroutine.old) + slice < 8796093022208 }
+    requires name { blank.name ≡ L.name }
+    requires parts { (blank.parts ≡ L.parts) × (0 < blank.parts) }
+    ensures of { IsOf run.now goroutine.new }
+    ensures tidy { IsTidy (record_of run.now.setup goroutine.new) }
+    ensures turned { HasTurned run.now goroutine.old goroutine.new slice result }
+{
+    goroutine.turn(alloc, run, slice, &mut Steps::<L>::new(blank))
+}
+
+/// A turn whose accesses to the table are counted for nobody.
+fn turn_once(alloc: Global, run: &Run<'_, '_>, goroutine: &mut Goroutine, slice: u32) -> Turned
+    requires of { IsOf run.now goroutine.old }
+    requires pages { HasPages run.now }
+    requires few { steps_of (record_of run.now.setup goroutine.old) + slice < 8796093022208 }
+    ensures of { IsOf run.now goroutine.new }
+    ensures tidy { IsTidy (record_of run.now.setup goroutine.new) }
+    ensures turned { HasTurned run.now goroutine.old goroutine.new slice result }
+{
+    turn_counted::<Brand>(alloc, run, goroutine, slice, Blank::new(1))
+}
+
+impl<'r, 'c> Task for Turn<'r, 'c> {
+    ghost goes = { spec.TakesTurn };
+
+    /// A turn of as many instructions as it was given.
+    fn turn(&mut self) -> bool {
+        let turned = turn_once(self.alloc, self.run, &mut self.goroutine, self.slice);
+        self.slice = 0;
+        self.turned = Some(turned);
+        turned.moved
+    }
+}
+
+/// Turns that are as their definitions say, and such as are not.
+pub fn examples()
+    ensures { spec.TurningExamples }
+{}
