@@ -1,5 +1,6 @@
 -- Members that a driver keeps, and such as it loses; goroutines that have retired.
-use Rattle.std.proofs.Common.{◌≡◌, ◌⊎◌, inl, inr, ⊎_elim, ℕ, zero, suc, ◌≤◌, List, [], ◌∷◌, ◌++◌, All, Option, Some, None, length, map, slice_get, refl, ap, sym, subst, ◌∙◌, arith}
+use Rattle.std.proofs.Common.{◌≡◌, ◌⊎◌, inl, inr, ⊎_elim, ℕ, zero, suc, ◌≤◌, Bool, false, List, [], ◌∷◌, ◌++◌, All, Option, Some, None, length, map, slice_get, refl, ap, sym, subst, ◌∙◌, arith}
+use Rattle.std.specs.List.{AllZip}
 use Rattle.std.proofs.lemmas.List.Elements.{All-head, All-nil}
 use Rattle.std.proofs.lemmas.Option.{same_Some}
 use Rattle.rgo_acts.specs.declared.prints.Print.{Print}
@@ -10,14 +11,15 @@ use Rattle.rgo_goroutine.specs.Goroutines.{IsTidy}
 use Rattle.rgo_goroutine.specs.Turns.{IsOver}
 use Rattle.rgo_goroutine.specs.declared.goroutine.Goroutine.{Goroutine}
 use Rattle.rgo_region_machine.specs.Counts.{Counts}
+use Rattle.rgo_sched.specs.Rounds.{EachTurned}
 use Rattle.rgo_sound.specs.Tally.{no_share}
 use Rattle.rgo_table_runs.specs.closing.Members.{HasNumber, IsListed, Member, NoneIsLost, retired}
 use Rattle.rgo_runtime.proofs.Leaving.{In, in_cons, nobody_lost, nobody_then, none_in}
 use Rattle.rgo_runtime.proofs.Crewing.{none_retired}
 use Rattle.rgo_runtime.specs.Crew.{Crew, WholeCrewExamples, all_members}
-use Rattle.rgo_runtime.specs.Crews.{AreRetired, CrewExamples, IsNewborn, IsOfCrew, Keeps, KeepsMembers, NobodyIsLost, drawn, main_itself, main_with_child, marked, member_of, members, newborn, turning}
+use Rattle.rgo_runtime.specs.Crews.{AreRetired, CrewExamples, IsGiven, IsNewborn, IsOfCrew, Keeps, KeepsMembers, NobodyIsLost, drawn, main_itself, main_with_child, marked, member_of, members, newborn, turning}
 use Rattle.rgo_runtime.specs.Parking.{values_of}
-use Rattle.rgo_runtime.specs.Turns.{Turn}
+use Rattle.rgo_runtime.specs.Turns.{TakesTurn, Turn}
 
 -- a list of one
 only : {A : Type 0} (a x : A) → In (a ∷ []) x → a ≡ x
@@ -110,6 +112,12 @@ not_counted k = ⊎_elim
     (λ (q : (1 ≤ 0) × (main_itself.clock.share ≡ no_share)). absurd (omega (arith, q.0)))
     (k.its 0 main_itself (0, refl))
 
+one_had_none : (t : Turn) (given after : List Turn) (answers : List Bool) → AllZip (IsGiven 5) (t ∷ []) given
+    → EachTurned TakesTurn given after answers → after ≡ [] → ⊥
+one_had_none t [] after answers gives turned none = gives
+one_had_none t (x ∷ xs) [] answers gives turned none = turned
+one_had_none t (x ∷ xs) (y ∷ ys) answers gives turned none = absurd (cc none)
+
 pub crews : CrewExamples
 crews = record {
   nothing_done = λ ms ds others given k. k;
@@ -135,6 +143,10 @@ crews = record {
   no_place = λ r t k. absurd (omega (arith, k.place));
   not_over = λ r n t turned says stop frames k. frames (k.ended turned says stop).frames;
   has_printed = λ r go some k. some k.prints;
+  is_given = λ t. (refl, omega arith);
+  too_many = λ t k. absurd (let l = k.1 in omega (arith, l));
+  none_turns = record { given = []; after = []; went = false; gives = tt; turned = record { answers = []; turned = tt; any = refl } };
+  had_none = λ t k none. one_had_none t k.given k.after k.turned.answers k.gives k.turned.turned none;
 }
 
 -- a crew has no members

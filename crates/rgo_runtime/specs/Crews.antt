@@ -1,6 +1,7 @@
 -- What a driver keeps of the goroutines of a run, and that it loses nobody and nothing.
+use Rattle.std.specs.List.{AllZip}
 use Rattle.std.specs.Option.{option_map}
-use Rattle.std.specs.Prelude.{◌≡◌, ◌⊎◌, ◌<◌, ◌≤◌, ℕ, false, List, [], ◌∷◌, ◌++◌, Option, Some, None, length, map, slice_get}
+use Rattle.std.specs.Prelude.{◌≡◌, ◌⊎◌, ◌<◌, ◌≤◌, ℕ, Bool, false, List, [], ◌∷◌, ◌++◌, Option, Some, None, length, map, slice_get}
 use Rattle.rgo_acts.specs.Runs.{Run}
 use Rattle.rgo_acts.specs.declared.prints.Print.{Print}
 use Rattle.rgo_core.specs.Core.{Setup}
@@ -16,11 +17,12 @@ use Rattle.rgo_goroutine.specs.declared.turning.Stop.TheVariants.{Ended}
 use Rattle.rgo_goroutine.specs.declared.turning.Turned.{Turned}
 use Rattle.rgo_region_machine.specs.Counts.{Counts}
 use Rattle.rgo_region_machine.specs.States.{Mark}
+use Rattle.rgo_sched.specs.Rounds.{RoundOf}
 use Rattle.rgo_sound.specs.Tally.{no_share}
 use Rattle.rgo_table_runs.specs.closing.Ends.{IsFirst}
 use Rattle.rgo_table_runs.specs.closing.Gathering.{IsIn}
 use Rattle.rgo_table_runs.specs.closing.Members.{HasNumber, HasPrinted, IsListed, IsOneOf, Member, NoneIsLost}
-use Rattle.rgo_runtime.specs.Turns.{Turn}
+use Rattle.rgo_runtime.specs.Turns.{TakesTurn, Turn}
 
 -- ---- members
 
@@ -67,6 +69,18 @@ pub record IsOfCrew (r : Run) (n : ℕ) (t : Turn) : Type 0 where
   pub place : t.goroutine.number < n
   -- what its last turn says is so
   pub ended : (turned : Turned) → t.turned ≡ Some turned → turned.stop ≡ Ended → IsOver (record_of r.setup t.goroutine)
+
+-- the same turn, which may execute up to so many instructions
+abbrev pub IsGiven : ℕ → (before after : Turn) → Type 0
+IsGiven slice before after = (after ≡ record before { slice = after.slice }) × (after.slice ≤ slice)
+
+-- Each of these was given up to so many instructions, and then had one turn.
+pub record HaveTurned (slice : ℕ) (before : List Turn) : Type 0 where
+  pub given : List Turn
+  pub after : List Turn
+  pub went : Bool
+  pub gives : AllZip (IsGiven slice) before given
+  pub turned : RoundOf TakesTurn given after went
 
 -- one that was started, and has had no turn
 pub record IsNewborn (r : Run) (go : Goroutine) : Type 0 where
@@ -130,4 +144,9 @@ pub record CrewExamples : Type 0 where
   -- its last turn says that it has ended, and it has a frame
   pub not_over : (r : Run) (n : ℕ) (t : Turn) (turned : Turned) → t.turned ≡ Some turned → turned.stop ≡ Ended
       → ((record_of r.setup t.goroutine).frame.frames ≡ [] → ⊥) → IsOfCrew r n t → ⊥
+  pub is_given : (t : Turn) → IsGiven 5 t (record t { slice = 3 })
+  pub too_many : (t : Turn) → IsGiven 5 t (record t { slice = 6 }) → ⊥
+  pub none_turns : HaveTurned 5 []
+  -- one had no turn
+  pub had_none : (t : Turn) (k : HaveTurned 5 (t ∷ [])) → k.after ≡ [] → ⊥
   pub has_printed : (r : Run) (go : Goroutine) → (go.prints.items ≡ [] → ⊥) → IsNewborn r go → ⊥

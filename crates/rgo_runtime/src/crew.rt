@@ -4,6 +4,7 @@
 //! its record is at the driver's seat. It is never in none: each step below says so by its clause `kept`.
 ghost use Rattle.std.specs.Prelude.{◌≡◌, ◌≤◌, ◌<◌, ◌+◌, ◌∷◌, [], IfErr, IfOk, MatchOption, OnErr, OnOk, length, slice_index_or, true};
 ghost use Rattle.rgo_runtime.specs.Crew as spec;
+ghost use Rattle.std.specs.List.{AllZip};
 ghost use Rattle.rgo_core.specs.Core.{IsPossible};
 ghost use Rattle.rgo_core.specs.Opening.{first_of};
 ghost use Rattle.rgo_core_memory.specs.Words.{clock_at};
@@ -14,9 +15,12 @@ ghost use Rattle.rgo_goroutine.specs.declared.turning.Stop.TheVariants.{Ended};
 ghost use Rattle.rgo_outside.specs.Causes.{HasCause};
 ghost use Rattle.rgo_outside.specs.Pieces.{AddsOnly};
 ghost use Rattle.rgo_runtime.specs.Crew.{KeepsAll, WholeCrewExamples, all_members};
+ghost use Rattle.rgo_runtime.specs.Crews.{HaveTurned, IsGiven};
 ghost use Rattle.rgo_runtime.specs.Printing.{GivesOut, GivesSome, IsPieceOf};
 ghost use Rattle.rgo_runtime.specs.Turns as turns;
+ghost use Rattle.rgo_runtime.specs.Turns.{TakesTurn};
 ghost use Rattle.rgo_runtime.specs.declared.crew.Next.TheVariants.{Retired};
+ghost use Rattle.rgo_sched.specs.Rounds.{RoundOf};
 ghost use Rattle.rgo_table_runs.specs.closing.Members.{NoneIsLost};
 
 use crate::parking::Parked;
@@ -130,6 +134,7 @@ impl<'r, 'c> Crew<'r, 'c> {
     /// Each that is ready may execute up to this many instructions in its next turn.
     fn set_slices(&mut self, slice: u32)
         ensures kept { KeepsAll self.old self.new }
+        ensures given { AllZip (IsGiven slice) self.old.ready self.new.ready }
         ensures run { self.new.run ≡ self.old.run }
     {
         for i in 0..self.ready.len() {
@@ -151,6 +156,8 @@ impl<'r, 'c> Crew<'r, 'c> {
     ) -> Result<bool, AllocError>
         requires workers { (1 ≤ workers) × (workers ≤ 64) }
         ensures kept { KeepsAll self.old self.new }
+        ensures turned { IfOk result (λ went. RoundOf TakesTurn self.old.ready self.new.ready went) }
+        ensures same { OnErr result (self.new ≡ self.old) }
         ensures run { self.new.run ≡ self.old.run }
     {
         round(rt, &mut self.ready, workers, number, gate)
@@ -330,6 +337,7 @@ impl<'r, 'c> Crew<'r, 'c> {
     ) -> Result<Came, AllocError>
         requires workers { (1 ≤ workers) × (workers ≤ 64) }
         ensures kept { KeepsAll self.old self.new }
+        ensures turned { OnOk result (HaveTurned slice self.old.ready) }
         ensures run { self.new.run ≡ self.old.run }
     {
         self.set_slices(slice);
