@@ -1,15 +1,15 @@
 -- Actors and runs that are as their definitions say, and such as are not.
 use Rattle.std.proofs.Common.{◌≡◌, ◌≤◌, ◌<◌, ◌+◌, ◌++◌, inl, inr, ℕ, suc, Bool, List, [], ◌∷◌, Some, None, length, if◌then◌else◌, true, false, refl, ap, sym, subst, ◌∙◌, length-append, arith}
-use Rattle.rgo_code.specs.Code.{Code}
-use Rattle.rgo_core_frames.specs.WordFrames.{WordFrame, bare_all, word_at}
-use Rattle.rgo_core_memory.specs.Records.{Measured}
+use Rattle.rgo_sound.specs.Code.Code.{Code}
+use Rattle.rgo_core.specs.Frames.WordFrames.{WordFrame, bare_all, word_at}
+use Rattle.rgo_core.specs.Memory.Records.{Measured}
 use Rattle.rgo_core.specs.Accesses.{IsInSlice}
 use Rattle.rgo_core.specs.ElementTraps.{HasNoElement, IsOutside}
 use Rattle.rgo_core.specs.Records.{Drawn, Record}
-use Rattle.rgo_region_machine.specs.Owed.{next_duties}
-use Rattle.rgo_region_machine.specs.States.{Duty}
-use Rattle.rgo_tac.specs.Code.{Do}
-use Rattle.rgo_typed.specs.declared.actions.Action.TheVariants as action
+use Rattle.rgo_sound.specs.RegionMachine.Owed.{next_duties}
+use Rattle.rgo_sound.specs.RegionMachine.States.{Duty}
+use Rattle.rgo_sound.specs.Tac.Code.{Do}
+use Rattle.rgo_sound.specs.Typed.declared.actions.Action.TheVariants as action
 use Rattle.rgo_body.specs.Bodies.{frames_in, owed}
 use Rattle.rgo_body.specs.Programs.{Program}
 use Rattle.rgo_body.specs.declared.bodies.Body.{Body}

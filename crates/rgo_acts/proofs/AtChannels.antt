@@ -1,30 +1,30 @@
 -- A goroutine that is before an operation on a channel, or whose offer is at one, told by its record.
 use Rattle.std.proofs.Common.{◌≡◌, ◌≢◌, ◌⊎◌, ◌+◌, ◌-◌, ◌<◌, ◌≤◌, ◌++◌, ℕ, zero, suc, List, [], ◌∷◌, Option, Some, length, slice_get, refl, ap, sym, subst, ◌∙◌, inl, inr, arith, Contains}
 use Rattle.std.proofs.lemmas.Option.{same_Some}
-use Rattle.rgo_code.specs.Code as code
-use Rattle.rgo_code.specs.Code.{CodeInstr, CodeOp}
-use Rattle.rgo_code.specs.Erasure.{erased_op}
-use Rattle.rgo_code.specs.Exists.{Uses}
-use Rattle.rgo_core_channels.specs.Records as sides
-use Rattle.rgo_core_channels.specs.Records.{Free, Nowhere, Rec as SideRec, at_rest}
-use Rattle.rgo_core_channels.specs.Standing.{IsOfChannel}
+use Rattle.rgo_sound.specs.Code.Code as code
+use Rattle.rgo_sound.specs.Code.Code.{CodeInstr, CodeOp}
+use Rattle.rgo_sound.specs.Code.Erasure.{erased_op}
+use Rattle.rgo_sound.specs.Code.Exists.{Uses}
+use Rattle.rgo_core.specs.Channels.Records as sides
+use Rattle.rgo_core.specs.Channels.Records.{Free, Nowhere, Rec as SideRec, at_rest}
+use Rattle.rgo_core.specs.Channels.Standing.{IsOfChannel}
 use Rattle.rgo_core_facts.proofs.ControlCode.{variables_exist}
 use Rattle.rgo_core_facts.proofs.ControlFrames.{all_in_code, offers_known}
 use Rattle.rgo_core_facts.proofs.Lying.{channel_lies, pages_in_table}
 use Rattle.rgo_core_facts.proofs.Offers.{offer_lies}
 use Rattle.rgo_core_facts.specs.MemoryWords.{OffersAt}
-use Rattle.rgo_core_frames.specs.WordFrames.{WordFrame, bare, word_at}
-use Rattle.rgo_core_memory.specs.Words.{all_words, base as base_of}
-use Rattle.rgo_core_rule.specs.Views.{number_of}
+use Rattle.rgo_core.specs.Frames.WordFrames.{WordFrame, bare, word_at}
+use Rattle.rgo_core.specs.Memory.Words.{all_words, base as base_of}
+use Rattle.rgo_core.specs.Rule.Views.{number_of}
 use Rattle.rgo_core_steps.specs.Seats.{SettlesBy, mine}
-use Rattle.rgo_region_machine.specs.Owed.{current, function_of}
-use Rattle.rgo_region_machine.specs.States.{Duty, NoOffer, Offer, Standing}
-use Rattle.rgo_tac.specs.Code as tac
-use Rattle.rgo_tac.specs.Code.{Op}
-use Rattle.rgo_tac.specs.Flow.{reads}
-use Rattle.rgo_tac.specs.Ops.{operation_of}
-use Rattle.rgo_typed.specs.declared.actions.Action.{Action}
-use Rattle.rgo_typed.specs.declared.actions.Action.TheVariants.{Close, Recv, Send}
+use Rattle.rgo_sound.specs.RegionMachine.Owed.{current, function_of}
+use Rattle.rgo_sound.specs.RegionMachine.States.{Duty, NoOffer, Offer, Standing}
+use Rattle.rgo_sound.specs.Tac.Code as tac
+use Rattle.rgo_sound.specs.Tac.Code.{Op}
+use Rattle.rgo_sound.specs.Tac.Flow.{reads}
+use Rattle.rgo_sound.specs.Tac.Ops.{operation_of}
+use Rattle.rgo_sound.specs.Typed.declared.actions.Action.{Action}
+use Rattle.rgo_sound.specs.Typed.declared.actions.Action.TheVariants.{Close, Recv, Send}
 use Rattle.rgo_core.specs.CommitMoves.{IsAtSend}
 use Rattle.rgo_core.specs.Core.{Here, Setup, layout}
 use Rattle.rgo_core.specs.Next.{IsAt}
@@ -33,7 +33,7 @@ use Rattle.rgo_core_steps.specs.Calls.{accessed_by, waited}
 use Rattle.rgo_core_steps.specs.Layouts.{HasLayout}
 use Rattle.rgo_core_steps.proofs.SettledLaws.{settled_kept}
 use Rattle.atomic_table.specs.Seated.{TableId}
-use Rattle.rgo_core_memory.specs.declared.layout.TableSizes.{TableSizes}
+use Rattle.rgo_core.specs.Memory.declared.layout.TableSizes.{TableSizes}
 use Rattle.rgo_chan.specs.Before.{IsBeforeClose, IsBeforeReceive, IsBeforeSend, LiesIn}
 use Rattle.rgo_body.specs.Bodies.{frames_in}
 use Rattle.rgo_body.specs.Nexts.{IsDo, IsNextOf}

@@ -9,20 +9,20 @@ use Rattle.rgo_core.specs.Links.{left_to_free}
 use Rattle.rgo_core.specs.Opening.{first_of}
 use Rattle.rgo_core.specs.Records.{Record, accesses, steps_of}
 use Rattle.rgo_core.specs.Regions.{creates, leaves, leaves_last, with_holder}
-use Rattle.rgo_core_channels.specs.Records.{at_rest}
+use Rattle.rgo_core.specs.Channels.Records.{at_rest}
 use Rattle.rgo_core_facts.specs.ControlDuties.{IsNamed, IsOfBase, IsUnprotected}
 use Rattle.rgo_core_facts.specs.ControlSteps.{unbased, unnamed}
 use Rattle.rgo_core_facts.proofs.OwnPages.{free_of_slots}
 use Rattle.rgo_core_facts.specs.ControlRegions.{IsStaked}
-use Rattle.rgo_core_frames.specs.Stakes.{ended, shared_in, stake_ended, stake_shared}
-use Rattle.rgo_core_memory.specs.Owed.{claimed_for}
-use Rattle.rgo_core_memory.specs.Parts.{pages_at}
-use Rattle.rgo_core_memory.specs.Records.{Calm, Owes, with_give}
-use Rattle.rgo_core_memory.specs.Words.{count_at, state_at}
-use Rattle.rgo_core_memory.specs.declared.layout.TableSizes.{TableSizes}
-use Rattle.rgo_core_rule.specs.Views.{Me, number_of}
-use Rattle.rgo_core_rule.specs.declared.accesses.Access.{Access}
-use Rattle.rgo_core_rule.specs.declared.accesses.Kind.TheVariants.{CreateRegion, FreeSlot, LeaveRegion, ShareRegion}
+use Rattle.rgo_core.specs.Frames.Stakes.{ended, shared_in, stake_ended, stake_shared}
+use Rattle.rgo_core.specs.Memory.Owed.{claimed_for}
+use Rattle.rgo_core.specs.Memory.Parts.{pages_at}
+use Rattle.rgo_core.specs.Memory.Records.{Calm, Owes, with_give}
+use Rattle.rgo_core.specs.Memory.Words.{count_at, state_at}
+use Rattle.rgo_core.specs.Memory.declared.layout.TableSizes.{TableSizes}
+use Rattle.rgo_core.specs.Rule.Views.{Me, number_of}
+use Rattle.rgo_core.specs.Rule.declared.accesses.Access.{Access}
+use Rattle.rgo_core.specs.Rule.declared.accesses.Kind.TheVariants.{CreateRegion, FreeSlot, LeaveRegion, ShareRegion}
 use Rattle.rgo_core_steps.proofs.Growing.{grew_then, told_accesses, told_grew, told_record}
 use Rattle.rgo_core_steps.specs.Counts.{IsLeaving, Leaving, by_first, created, created_with, ending, shared, sharing, tried_slot}
 use Rattle.rgo_core_steps.specs.Grown.{Grew}
@@ -30,10 +30,10 @@ use Rattle.rgo_core_steps.specs.Searches.{Miss, missing}
 use Rattle.rgo_core_steps.specs.Seats.{HasPossible, Left, mine}
 use Rattle.rgo_counts.proofs.Vain.{full_law}
 use Rattle.rgo_counts.specs.Creation.{AllSlotsTried, SlotTaken}
-use Rattle.rgo_pages.specs.Releasing.{ChainGivenBack, gave_back}
-use Rattle.rgo_region_machine.specs.Counts.{Counts}
-use Rattle.rgo_region_machine.specs.States.{Create, Duty, EndBase, Holder, Protect, Remove, Share, Unprotect}
-use Rattle.rgo_region_machine.specs.declared.regions.Region.TheVariants.{Numbered}
+use Rattle.rgo_body.specs.Pages.Releasing.{ChainGivenBack, gave_back}
+use Rattle.rgo_sound.specs.RegionMachine.Counts.{Counts}
+use Rattle.rgo_sound.specs.RegionMachine.States.{Create, Duty, EndBase, Holder, Protect, Remove, Share, Unprotect}
+use Rattle.rgo_sound.specs.RegionMachine.declared.regions.Region.TheVariants.{Numbered}
 use Rattle.rgo_body.proofs.Attending.{attended, first, later, top_bound}
 use Rattle.rgo_sound.specs.Stakes.{is_in}
 use Rattle.rgo_body.proofs.Sharing.{took_in}

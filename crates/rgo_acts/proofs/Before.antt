@@ -1,31 +1,31 @@
 -- Where a goroutine is that is before an instruction, told by its record.
 use Rattle.std.proofs.Common.{◌≡◌, ◌<◌, ◌-◌, ℕ, zero, suc, inl, Contains, Bool, true, if◌then◌else◌, List, [], ◌∷◌, ◌++◌, Option, Some, length, slice_get, refl, ap, sym, subst, ◌∙◌, arith}
-use Rattle.rgo_code.specs.Code as code
-use Rattle.rgo_code.specs.Code.{Code, CodeInstr, CodeOp}
-use Rattle.rgo_code.specs.Erasure.{erased_op}
-use Rattle.rgo_code.specs.Exists.{Uses}
-use Rattle.rgo_core_frames.specs.WordFrames.{WordFrame, bare, bare_all, word_at}
-use Rattle.rgo_region_machine.specs.Owed.{current, current_in, function_of, next_duties}
-use Rattle.rgo_region_machine.specs.States.{Duty}
-use Rattle.rgo_tac.specs.Code as tac
-use Rattle.rgo_tac.specs.Code.{Op}
-use Rattle.rgo_tac.specs.Ops.{operation_of}
-use Rattle.rgo_typed.specs.declared.actions.Action.{Action}
-use Rattle.rgo_typed.specs.declared.statements.Piece.{Piece}
-use Rattle.rgo_tac.specs.declared.regions.Class.{Class}
+use Rattle.rgo_sound.specs.Code.Code as code
+use Rattle.rgo_sound.specs.Code.Code.{Code, CodeInstr, CodeOp}
+use Rattle.rgo_sound.specs.Code.Erasure.{erased_op}
+use Rattle.rgo_sound.specs.Code.Exists.{Uses}
+use Rattle.rgo_core.specs.Frames.WordFrames.{WordFrame, bare, bare_all, word_at}
+use Rattle.rgo_sound.specs.RegionMachine.Owed.{current, current_in, function_of, next_duties}
+use Rattle.rgo_sound.specs.RegionMachine.States.{Duty}
+use Rattle.rgo_sound.specs.Tac.Code as tac
+use Rattle.rgo_sound.specs.Tac.Code.{Op}
+use Rattle.rgo_sound.specs.Tac.Ops.{operation_of}
+use Rattle.rgo_sound.specs.Typed.declared.actions.Action.{Action}
+use Rattle.rgo_sound.specs.Typed.declared.statements.Piece.{Piece}
+use Rattle.rgo_sound.specs.Tac.declared.regions.Class.{Class}
 use Rattle.rgo_core.specs.Core.{Setup}
 use Rattle.rgo_core.specs.Next.{IsAt}
 use Rattle.rgo_core.specs.Records.{Record, accesses, steps_of, ticked}
-use Rattle.rgo_core_frames.specs.Actions.{after_action}
-use Rattle.rgo_core_rule.specs.declared.accesses.Kind.{Kind}
-use Rattle.rgo_core_rule.specs.Views.{number_of}
+use Rattle.rgo_core.specs.Frames.Actions.{after_action}
+use Rattle.rgo_core.specs.Rule.declared.accesses.Kind.{Kind}
+use Rattle.rgo_core.specs.Rule.Views.{number_of}
 use Rattle.rgo_core_steps.specs.After.{Position, acting, given, position}
 use Rattle.rgo_core_steps.specs.Seats.{HasPossible, Left, mine}
 use Rattle.rgo_body.specs.Steps.{Becomes}
 use Rattle.rgo_core_steps.proofs.After.{at, moving_is, position_is}
 use Rattle.std.proofs.lemmas.List.{append-nil}
 use Rattle.rgo_acts.proofs.Standing.{Follows, acted_one}
-use Rattle.rgo_core_channels.specs.Records.{at_rest}
+use Rattle.rgo_core.specs.Channels.Records.{at_rest}
 use Rattle.rgo_core_facts.proofs.ControlCode.{variables_exist}
 use Rattle.rgo_core_facts.proofs.ControlFrames.{all_in_code}
 use Rattle.rgo_body.specs.Bodies.{IsReady, frames_in, owed}

@@ -2,15 +2,15 @@
 use Rattle.std.proofs.Common.{◌≡◌, ◌<◌, ℕ, zero, suc, List, [], ◌∷◌, Option, Some, refl, sym, ap, subst, ◌∙◌, length, arith}
 use mathlib.Core.Option.{some, some-injective, some-ne-none}
 use lib.ListN.{get_elem?}
-use Rattle.rgo_core_rule.specs.Histories.{access}
-use Rattle.rgo_core_rule.specs.Views.{number_of}
-use Rattle.rgo_core_rule.specs.declared.accesses.Access.{Access}
-use Rattle.rgo_core_rule.specs.declared.accesses.Kind.TheVariants.{ClaimPage, CreateRegion}
-use Rattle.rgo_core_frames.specs.WordFrames.{WordFrame}
+use Rattle.rgo_core.specs.Rule.Histories.{access}
+use Rattle.rgo_core.specs.Rule.Views.{number_of}
+use Rattle.rgo_core.specs.Rule.declared.accesses.Access.{Access}
+use Rattle.rgo_core.specs.Rule.declared.accesses.Kind.TheVariants.{ClaimPage, CreateRegion}
+use Rattle.rgo_core.specs.Frames.WordFrames.{WordFrame}
 use Rattle.rgo_core.specs.Core.{Setup}
 use Rattle.rgo_core.specs.Records.{Record}
 use Rattle.rgo_core_steps.specs.Grown.{Found}
-use Rattle.rgo_region_machine.specs.States.{Duty}
+use Rattle.rgo_sound.specs.RegionMachine.States.{Duty}
 use Rattle.rgo_body.specs.declared.bodies.Body.{Body}
 use Rattle.rgo_acts.specs.Actors.{IsUnmoved}
 use Rattle.rgo_acts.specs.DutyExamples.{DutyExamples, one_taken, two_taken}

@@ -5,14 +5,14 @@ use Rattle.std.proofs.lemmas.Bool.Decides.{nat_tests}
 use Rattle.std.proofs.lemmas.Option.{slice_get-map}
 use Rattle.std.specs.Option.{option_map, option_map_or}
 use Rattle.std.specs.Prelude.{◌↔◌}
-use Rattle.rgo_code.specs.Code as code
-use Rattle.rgo_code.specs.Code.{CodeInstr}
-use Rattle.rgo_code.specs.Erasure.{erased_instr}
-use Rattle.rgo_core_frames.specs.Quiet.{is_exit}
-use Rattle.rgo_core_frames.specs.WordFrames.{WordFrame, bare}
-use Rattle.rgo_core_memory.specs.Words.{clock_at}
-use Rattle.rgo_core_rule.specs.Views.{number_of}
-use Rattle.rgo_core_rule.specs.declared.accesses.Kind.TheVariants.{EndRun}
+use Rattle.rgo_sound.specs.Code.Code as code
+use Rattle.rgo_sound.specs.Code.Code.{CodeInstr}
+use Rattle.rgo_sound.specs.Code.Erasure.{erased_instr}
+use Rattle.rgo_core.specs.Frames.Quiet.{is_exit}
+use Rattle.rgo_core.specs.Frames.WordFrames.{WordFrame, bare}
+use Rattle.rgo_core.specs.Memory.Words.{clock_at}
+use Rattle.rgo_core.specs.Rule.Views.{number_of}
+use Rattle.rgo_core.specs.Rule.declared.accesses.Kind.TheVariants.{EndRun}
 use Rattle.rgo_core_facts.specs.ControlCode.{HasCallee}
 use Rattle.rgo_core_facts.proofs.ControlCode.{callees_exist}
 use Rattle.rgo_core_facts.proofs.ControlFrames.{last_return}
@@ -23,17 +23,17 @@ use Rattle.rgo_core_steps.specs.After.{Position, place_of, position_in}
 use Rattle.rgo_core_steps.specs.Ends.{Ends, Exits, IsFull, IsTooDeep, Trapped, Traps, ending}
 use Rattle.rgo_core_steps.specs.Seats.{HasPossible, Left, Settles, mine}
 use Rattle.rgo_core_steps.proofs.Growing.{told_accesses, told_found, told_grew, told_record}
-use Rattle.rgo_machine.specs.Limits.{deepest}
-use Rattle.rgo_machine.specs.declared.picks.End.{End}
-use Rattle.rgo_machine.specs.declared.picks.End.TheVariants as the_end
-use Rattle.rgo_memory.specs.declared.traps.Trap.{Trap}
-use Rattle.rgo_region_machine.specs.Owed.{current}
-use Rattle.rgo_region_machine.specs.States.{Ended, Mark, Stopped}
-use Rattle.rgo_region_machine.specs.declared.limits.Limit.{Limit}
-use Rattle.rgo_region_machine.specs.declared.limits.Limit.TheVariants as limit
-use Rattle.rgo_tac.specs.Code as tac
-use Rattle.rgo_tac.specs.Code.{Instr}
-use Rattle.rgo_tac.specs.Ops.{operation_of, place_in}
+use Rattle.rgo_sound.specs.Machine.Limits.{deepest}
+use Rattle.rgo_sound.specs.Machine.declared.picks.End.{End}
+use Rattle.rgo_sound.specs.Machine.declared.picks.End.TheVariants as the_end
+use Rattle.rgo_sound.specs.Memory.declared.traps.Trap.{Trap}
+use Rattle.rgo_sound.specs.RegionMachine.Owed.{current}
+use Rattle.rgo_sound.specs.RegionMachine.States.{Ended, Mark, Stopped}
+use Rattle.rgo_sound.specs.RegionMachine.declared.limits.Limit.{Limit}
+use Rattle.rgo_sound.specs.RegionMachine.declared.limits.Limit.TheVariants as limit
+use Rattle.rgo_sound.specs.Tac.Code as tac
+use Rattle.rgo_sound.specs.Tac.Code.{Instr}
+use Rattle.rgo_sound.specs.Tac.Ops.{operation_of, place_in}
 use Rattle.rgo_body.specs.Bodies.{frames_in}
 use Rattle.rgo_body.specs.Nexts.{IsNextOf}
 use Rattle.rgo_body.specs.Shows.{Shows}

@@ -2,15 +2,15 @@
 use Rattle.std.proofs.Common.{◌≡◌, ◌<◌, ◌+◌, ◌-◌, ℕ, [], ◌∷◌, Some, None, length, refl, sym, ◌∙◌, arith}
 use Rattle.rgo_core.specs.Bounds.{LieInPages}
 use Rattle.rgo_core.specs.Core.{layout}
-use Rattle.rgo_core_memory.specs.Words.{base, variable_at}
-use Rattle.rgo_core_rule.specs.Views.{number_of}
+use Rattle.rgo_core.specs.Memory.Words.{base, variable_at}
+use Rattle.rgo_core.specs.Rule.Views.{number_of}
 use Rattle.rgo_core_steps.specs.Accesses.{Field, Length, LengthOfNil, Loads, Stores, ToField, ToVariable, Variable}
 use Rattle.rgo_core_steps.specs.Ends.{LoadsNil, StoresNil}
 use Rattle.rgo_core_facts.proofs.Lying.{get_exists, len_lies, load_lies, set_exists, store_lies}
-use Rattle.rgo_memory.specs.declared.traps.Trap.TheVariants.{NilPointer}
-use Rattle.rgo_tac.specs.Code as tac
-use Rattle.rgo_tac.specs.Ops.{operation_of}
-use Rattle.rgo_typed.specs.declared.actions.Action.TheVariants as action
+use Rattle.rgo_sound.specs.Memory.declared.traps.Trap.TheVariants.{NilPointer}
+use Rattle.rgo_sound.specs.Tac.Code as tac
+use Rattle.rgo_sound.specs.Tac.Ops.{operation_of}
+use Rattle.rgo_sound.specs.Typed.declared.actions.Action.TheVariants as action
 use Rattle.rgo_body.specs.declared.nexts.Next.{Next}
 use Rattle.rgo_acts.specs.Actors.{now}
 use Rattle.rgo_acts.specs.Ready.{IsBefore}

@@ -2,11 +2,11 @@
 -- record knows the length.
 use Rattle.std.proofs.Common.{◌≡◌, ◌<◌, ◌≤◌, ◌+◌, ◌-◌, inl, inr, ℕ, suc, List, [], ◌∷◌, Contains, Option, Some, None, length, refl, ap, sym, subst, ◌∙◌, arith}
 use Rattle.std.proofs.lemmas.List.{append-nil}
-use Rattle.rgo_core_frames.specs.WordFrames.{WordFrame, word_at}
-use Rattle.rgo_core_memory.specs.Records.{Measured}
-use Rattle.rgo_core_memory.specs.Words.{base}
-use Rattle.rgo_core_rule.specs.Views.{number_of}
-use Rattle.rgo_core_rule.specs.declared.accesses.Kind.TheVariants as kind
+use Rattle.rgo_core.specs.Frames.WordFrames.{WordFrame, word_at}
+use Rattle.rgo_core.specs.Memory.Records.{Measured}
+use Rattle.rgo_core.specs.Memory.Words.{base}
+use Rattle.rgo_core.specs.Rule.Views.{number_of}
+use Rattle.rgo_core.specs.Rule.declared.accesses.Kind.TheVariants as kind
 use Rattle.rgo_core.specs.Accesses.{IsInSlice, measures}
 use Rattle.rgo_core.specs.Bounds.{LieInPages}
 use Rattle.rgo_core.specs.Core.{layout}
@@ -19,12 +19,12 @@ use Rattle.rgo_core_steps.specs.Ends as ends
 use Rattle.rgo_core_steps.specs.Seats.{HasPossible, Left, mine}
 use Rattle.rgo_core_steps.proofs.Growing.{told_record}
 use Rattle.rgo_core_facts.proofs.Lying.{element_lies}
-use Rattle.rgo_memory.specs.declared.traps.Trap.TheVariants.{IndexRange}
-use Rattle.rgo_tac.specs.Code as tac
-use Rattle.rgo_tac.specs.Code.{Op}
-use Rattle.rgo_tac.specs.Flow.{reads}
-use Rattle.rgo_tac.specs.Ops.{operation_of}
-use Rattle.rgo_typed.specs.declared.actions.Action.TheVariants as action
+use Rattle.rgo_sound.specs.Memory.declared.traps.Trap.TheVariants.{IndexRange}
+use Rattle.rgo_sound.specs.Tac.Code as tac
+use Rattle.rgo_sound.specs.Tac.Code.{Op}
+use Rattle.rgo_sound.specs.Tac.Flow.{reads}
+use Rattle.rgo_sound.specs.Tac.Ops.{operation_of}
+use Rattle.rgo_sound.specs.Typed.declared.actions.Action.TheVariants as action
 use Rattle.rgo_body.specs.Bodies.{HasRoomBehind, IsReady, frames_in}
 use Rattle.rgo_body.specs.Shows.{Shows}
 use Rattle.rgo_body.specs.declared.bodies.Body.{Body}

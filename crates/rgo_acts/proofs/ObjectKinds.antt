@@ -2,29 +2,29 @@
 use Rattle.std.proofs.Common.{◌≡◌, ◌+◌, ◌<◌, ◌≤◌, ◌∙◌, ◌^◌, ◌==◌, ℕ, Bool, true, false, suc, List, [], ◌∷◌, Option, Some, None, ap, sym, subst, refl, inl, inr, arith, if◌then◌else◌, length, slice_get}
 use Rattle.std.proofs.lemmas.Option.{same_Some}
 use Rattle.std.specs.Option.{option_map}
-use Rattle.rgo_core_rule.specs.Views.{number_of}
+use Rattle.rgo_core.specs.Rule.Views.{number_of}
 use Rattle.rgo_core_facts.specs.MemoryObjects.{HasWords, MakingRegion, NewObject, OfChannel, OfSlice, OfStruct, channel_words}
 use Rattle.rgo_core_facts.proofs.NewWords.{has_region, makes_channel, makes_slice, makes_struct}
 use Rattle.rgo_core_facts.proofs.TooLarge.{too_large}
-use Rattle.rgo_core_frames.specs.WordFrames.{word_at}
-use Rattle.rgo_core_memory.specs.declared.layout.TableSizes.{TableSizes}
+use Rattle.rgo_core.specs.Frames.WordFrames.{word_at}
+use Rattle.rgo_core.specs.Memory.declared.layout.TableSizes.{TableSizes}
 use Rattle.rgo_core.specs.Bounds.{struct_words}
 use Rattle.rgo_core.specs.Core.{Setup, layout}
 use Rattle.rgo_core.specs.NewObjects.{slot_number}
 use Rattle.rgo_core.specs.Next.{IsAt}
 use Rattle.rgo_core.specs.Records.{Record}
 use Rattle.rgo_core_steps.specs.Ends.{HasBadSize, Meets}
-use Rattle.rgo_code.specs.Code as code
-use Rattle.rgo_memory.specs.declared.traps.Trap.TheVariants.{BadSize}
-use Rattle.rgo_region_machine.specs.Objects.{makes_object}
-use Rattle.rgo_region_machine.specs.declared.limits.Limit.TheVariants.{ObjectSize}
-use Rattle.rgo_region_machine.specs.declared.regions.Region.{Region}
-use Rattle.rgo_region_machine.specs.declared.regions.Region.TheVariants.{Global as GlobalRegion, Numbered}
-use Rattle.rgo_tac.specs.Code as tac
-use Rattle.rgo_tac.specs.Ops.{operation_of}
-use Rattle.rgo_typed.specs.declared.actions.Action.{Action}
-use Rattle.rgo_typed.specs.declared.actions.Action.TheVariants as action
-use Rattle.rgo_typed.specs.declared.programs.Struct.{Struct}
+use Rattle.rgo_sound.specs.Code.Code as code
+use Rattle.rgo_sound.specs.Memory.declared.traps.Trap.TheVariants.{BadSize}
+use Rattle.rgo_sound.specs.RegionMachine.Objects.{makes_object}
+use Rattle.rgo_sound.specs.RegionMachine.declared.limits.Limit.TheVariants.{ObjectSize}
+use Rattle.rgo_sound.specs.RegionMachine.declared.regions.Region.{Region}
+use Rattle.rgo_sound.specs.RegionMachine.declared.regions.Region.TheVariants.{Global as GlobalRegion, Numbered}
+use Rattle.rgo_sound.specs.Tac.Code as tac
+use Rattle.rgo_sound.specs.Tac.Ops.{operation_of}
+use Rattle.rgo_sound.specs.Typed.declared.actions.Action.{Action}
+use Rattle.rgo_sound.specs.Typed.declared.actions.Action.TheVariants as action
+use Rattle.rgo_sound.specs.Typed.declared.programs.Struct.{Struct}
 use Rattle.rgo_holding.specs.Holds.{region_at}
 use Rattle.rgo_holding.specs.Known.{slot_of}
 use Rattle.rgo_holding.specs.declared.holding.Holding.{Holding}

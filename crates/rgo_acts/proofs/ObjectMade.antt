@@ -1,10 +1,10 @@
 -- A new object is made: its words were stored, and the instruction is done.
 use Rattle.std.proofs.Common.{◌≡◌, ◌+◌, ◌*◌, ◌∙◌, ℕ, suc, List, [], Some, ap, sym, subst, refl, arith}
 use Rattle.std.proofs.lemmas.List.{append-nil}
-use Rattle.rgo_core_rule.specs.declared.accesses.Access.{Access}
+use Rattle.rgo_core.specs.Rule.declared.accesses.Access.{Access}
 use Rattle.rgo_core_facts.specs.MemoryObjects.{with_new_object}
-use Rattle.rgo_core_frames.specs.Actions.{after_action}
-use Rattle.rgo_core_memory.specs.Records.{Fill, with_object}
+use Rattle.rgo_core.specs.Frames.Actions.{after_action}
+use Rattle.rgo_core.specs.Memory.Records.{Fill, with_object}
 use Rattle.rgo_core.specs.Core.{Setup}
 use Rattle.rgo_core.specs.Opening.{first_of}
 use Rattle.rgo_core.specs.Records.{Record, accesses, steps_of, ticked}
@@ -12,9 +12,9 @@ use Rattle.rgo_core_steps.specs.After.{Position, given, making}
 use Rattle.rgo_core_steps.specs.Grown.{Grew}
 use Rattle.rgo_core_steps.specs.Seats.{HasPossible, mine}
 use Rattle.rgo_core_steps.proofs.After.{at, moving_is}
-use Rattle.rgo_memory.specs.Memory.{Object}
-use Rattle.rgo_region_machine.specs.Objects.{words as words_of}
-use Rattle.rgo_region_machine.specs.declared.regions.Region.{Region}
+use Rattle.rgo_sound.specs.Memory.Memory.{Object}
+use Rattle.rgo_sound.specs.RegionMachine.Objects.{words as words_of}
+use Rattle.rgo_sound.specs.RegionMachine.declared.regions.Region.{Region}
 use Rattle.rgo_holding.specs.Holds.{region_at}
 use Rattle.rgo_holding.specs.Known.{own_page, slot_of}
 use Rattle.rgo_holding.specs.declared.entries.Page.{Page}

@@ -2,28 +2,28 @@
 use Rattle.std.proofs.Common.{◌≡◌, ◌+◌, ◌<◌, ◌≤◌, ◌∙◌, ◌++◌, ℕ, List, [], ◌∷◌, Option, Some, None, MatchOption, ap, sym, subst, refl, arith, if◌then◌else◌, length, nat_eq}
 use Rattle.std.proofs.lemmas.List.{append-nil}
 use Rattle.std.specs.Option.{option_map}
-use Rattle.rgo_core_rule.specs.Passes.{ChangesNothingBy}
-use Rattle.rgo_core_rule.specs.Views.{number_of}
-use Rattle.rgo_core_rule.specs.declared.accesses.Access.{Access}
-use Rattle.rgo_core_rule.specs.declared.accesses.Kind.TheVariants.{ClaimPage}
+use Rattle.rgo_core.specs.Rule.Passes.{ChangesNothingBy}
+use Rattle.rgo_core.specs.Rule.Views.{number_of}
+use Rattle.rgo_core.specs.Rule.declared.accesses.Access.{Access}
+use Rattle.rgo_core.specs.Rule.declared.accesses.Kind.TheVariants.{ClaimPage}
 use Rattle.rgo_core_facts.specs.MemoryObjects.{HasNoRoom}
 use Rattle.rgo_core_facts.proofs.NewWords.{wants_page}
 use Rattle.rgo_core_facts.proofs.OwnPages.{claimed_page, own_pages}
 use Rattle.rgo_core_facts.proofs.Storing.{new_stays}
-use Rattle.rgo_core_memory.specs.Records.{Fill}
-use Rattle.rgo_core_memory.specs.Words.{state_at}
-use Rattle.rgo_core_memory.specs.declared.layout.TableSizes.{TableSizes}
+use Rattle.rgo_core.specs.Memory.Records.{Fill}
+use Rattle.rgo_core.specs.Memory.Words.{state_at}
+use Rattle.rgo_core.specs.Memory.declared.layout.TableSizes.{TableSizes}
 use Rattle.rgo_core.specs.Core.{Setup, layout}
 use Rattle.rgo_core.specs.Records.{Record, steps_of}
 use Rattle.rgo_core_steps.specs.Making.{IsCalm, NeedsPage, page_of}
 use Rattle.rgo_core_steps.specs.Pages.{tried_page}
 use Rattle.rgo_core_steps.specs.Searches.{Miss, missing}
 use Rattle.rgo_core_steps.specs.Seats.{HasPossible, mine}
-use Rattle.rgo_pages.specs.Claiming.{AllPagesTried, PageClaimed, has_claimed}
-use Rattle.rgo_pages.proofs.Trying.{missing_calm, missing_needs}
-use Rattle.rgo_pages.proofs.Vain.{full_law}
-use Rattle.rgo_region_machine.specs.Counts.{Counts}
-use Rattle.rgo_region_machine.specs.declared.regions.Region.{Region}
+use Rattle.rgo_body.specs.Pages.Claiming.{AllPagesTried, PageClaimed, has_claimed}
+use Rattle.rgo_body.proofs.Pages.Trying.{missing_calm, missing_needs}
+use Rattle.rgo_body.proofs.Pages.Vain.{full_law}
+use Rattle.rgo_sound.specs.RegionMachine.Counts.{Counts}
+use Rattle.rgo_sound.specs.RegionMachine.declared.regions.Region.{Region}
 use Rattle.rgo_holding.specs.Holds.{region_at}
 use Rattle.rgo_holding.specs.Known.{own_page, page_of as page_in, slot_of}
 use Rattle.rgo_holding.specs.declared.entries.Page.{Page}

@@ -1,15 +1,15 @@
 -- The words of a new object are stored one after the other.
 use Rattle.std.proofs.Common.{◌≡◌, ◌+◌, ◌*◌, ◌<◌, ◌≤◌, ◌∙◌, ◌⊎◌, inl, inr, ℕ, suc, ap, sym, subst, refl, arith}
 use Rattle.std.proofs.lemmas.Bool.{cases_lt}
-use Rattle.rgo_core_rule.specs.Views.{Me, number_of}
-use Rattle.rgo_core_rule.specs.declared.accesses.Kind.TheVariants as kind
-use Rattle.rgo_core_channels.specs.Records.{at_rest}
+use Rattle.rgo_core.specs.Rule.Views.{Me, number_of}
+use Rattle.rgo_core.specs.Rule.declared.accesses.Kind.TheVariants as kind
+use Rattle.rgo_core.specs.Channels.Records.{at_rest}
 use Rattle.rgo_core_facts.specs.MemoryObjects.{StoresNext, storing, with_new_object}
 use Rattle.rgo_core_facts.proofs.Lying.{pages_in_table}
 use Rattle.rgo_core_facts.proofs.OwnPages.{room_lies}
 use Rattle.rgo_core_facts.proofs.Storing.{stores_none, stores_words}
-use Rattle.rgo_core_memory.specs.Records.{Fill}
-use Rattle.rgo_core_memory.specs.Words.{all_words, cell_at}
+use Rattle.rgo_core.specs.Memory.Records.{Fill}
+use Rattle.rgo_core.specs.Memory.Words.{all_words, cell_at}
 use Rattle.rgo_core.specs.Core.{Setup, layout}
 use Rattle.rgo_core.specs.Opening.{first_of}
 use Rattle.rgo_core.specs.Records.{Record, accesses}
@@ -20,8 +20,8 @@ use Rattle.rgo_core_steps.proofs.Growing.{told_accesses, told_grew, told_record}
 use Rattle.rgo_core_steps.proofs.Settling.{settled_counts}
 use Rattle.rgo_holding.specs.Known.{own_page}
 use Rattle.rgo_holding.specs.declared.entries.Page.{Page}
-use Rattle.rgo_memory.specs.Memory.{Object}
-use Rattle.rgo_region_machine.specs.Objects.{words as words_of}
+use Rattle.rgo_sound.specs.Memory.Memory.{Object}
+use Rattle.rgo_sound.specs.RegionMachine.Objects.{words as words_of}
 use Rattle.rgo_acts.specs.Objects.{IsPlaced, opens}
 use Rattle.rgo_acts.specs.declared.objects.New.{New}
 

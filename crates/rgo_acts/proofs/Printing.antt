@@ -1,14 +1,14 @@
 -- A print: its bytes are what the record's next instruction prints, and the record has them with the ticket.
 use Rattle.std.proofs.Common.{◌≡◌, ◌<◌, ◌≤◌, ◌+◌, ◌%◌, ◌^◌, ◌++◌, ◌↔◌, ℕ, suc, Bool, true, List, [], ◌∷◌, Option, None, Some, map, nat_le, slice_get, length, refl, ap, sym, subst, ◌∙◌, arith}
 use Rattle.std.proofs.lemmas.Bool.Decides.{nat_tests}
-use Rattle.rgo_code.specs.Code as code
+use Rattle.rgo_sound.specs.Code.Code as code
 use Rattle.std.specs.Option.{option_map}
 use Rattle.std.proofs.lemmas.Option.{slice_get-map}
-use Rattle.rgo_code.specs.Code.{CodeFn, Slot}
-use Rattle.rgo_core_frames.specs.Prints.{printed_values, typed_in, typed_value}
-use Rattle.rgo_core_frames.specs.WordFrames.{WordFrame, word_at}
-use Rattle.rgo_core_memory.specs.Words.{clock_at}
-use Rattle.rgo_core_rule.specs.declared.accesses.Kind.TheVariants as kind
+use Rattle.rgo_sound.specs.Code.Code.{CodeFn, Slot}
+use Rattle.rgo_core.specs.Frames.Prints.{printed_values, typed_in, typed_value}
+use Rattle.rgo_core.specs.Frames.WordFrames.{WordFrame, word_at}
+use Rattle.rgo_core.specs.Memory.Words.{clock_at}
+use Rattle.rgo_core.specs.Rule.declared.accesses.Kind.TheVariants as kind
 use Rattle.rgo_core.specs.Laws.{printed_by}
 use Rattle.rgo_core.specs.Next.{IsAt}
 use Rattle.rgo_core.specs.Records.{Drawn, Record, accesses, drawn_at, has_ended, steps_of}
@@ -16,13 +16,13 @@ use Rattle.rgo_core_steps.specs.After.{piece, printing}
 use Rattle.rgo_core_steps.specs.Prints.{IsAtPrint}
 use Rattle.rgo_core_steps.specs.Seats.{HasPossible, Left}
 use Rattle.rgo_core_steps.proofs.After.{piece_is, printing_is}
-use Rattle.rgo_machine.specs.Lines.{line_of}
-use Rattle.rgo_tac.specs.Code as tac
-use Rattle.rgo_tac.specs.Ops.{operation_of}
-use Rattle.rgo_memory.specs.declared.values.Value.TheVariants as value
-use Rattle.rgo_stack.specs.Stacks.{newest_word}
-use Rattle.rgo_typed.specs.declared.statements.Piece.{Piece}
-use Rattle.rgo_typed.specs.declared.types.Type.{«Type»}
+use Rattle.rgo_sound.specs.Machine.Lines.{line_of}
+use Rattle.rgo_sound.specs.Tac.Code as tac
+use Rattle.rgo_sound.specs.Tac.Ops.{operation_of}
+use Rattle.rgo_sound.specs.Memory.declared.values.Value.TheVariants as value
+use Rattle.rgo_body.specs.Stack.Stacks.{newest_word}
+use Rattle.rgo_sound.specs.Typed.declared.statements.Piece.{Piece}
+use Rattle.rgo_sound.specs.Typed.declared.types.Type.{«Type»}
 use Rattle.rgo_body.specs.Bodies.{frames_in}
 use Rattle.rgo_body.specs.Steps.{Becomes}
 use Rattle.rgo_body.specs.declared.nexts.Next.{Next}

@@ -1,29 +1,29 @@
 -- A goroutine that is before no operation on a channel knows nothing of channels.
 use Rattle.std.proofs.Common.{◌≡◌, ◌⊎◌, ◌∙◌, ◌++◌, ℕ, List, [], ◌∷◌, Option, Some, slice_get, refl, ap, sym, subst, inl, inr}
 use Rattle.std.proofs.lemmas.Option.{none-some, same_Some}
-use Rattle.rgo_code.specs.Code as code
-use Rattle.rgo_code.specs.Code.{CodeInstr, CodeOp}
-use Rattle.rgo_code.specs.Erasure.{erased_op}
-use Rattle.rgo_core_channels.specs.Records.{Free, KnowsOf, Nothing, Nowhere, Offering, Rec as SideRec, Saw, Shut, Size, Sized, Stranded, Unknown, at_rest}
-use Rattle.rgo_core_channels.specs.Standing.{IsAt as IsAtChannel, IsOfChannel, OperatesOn}
-use Rattle.rgo_core_frames.specs.Fits.{Fits, IsPast, IsShown}
-use Rattle.rgo_core_frames.specs.Shown.{FramesShow}
-use Rattle.rgo_core_frames.specs.Slots.{nameless, slot_duties}
-use Rattle.rgo_core_frames.specs.WordFrames.{WordFrame, bare}
-use Rattle.rgo_core_frames.proofs.Bookkeeping.{current_alike}
+use Rattle.rgo_sound.specs.Code.Code as code
+use Rattle.rgo_sound.specs.Code.Code.{CodeInstr, CodeOp}
+use Rattle.rgo_sound.specs.Code.Erasure.{erased_op}
+use Rattle.rgo_core.specs.Channels.Records.{Free, KnowsOf, Nothing, Nowhere, Offering, Rec as SideRec, Saw, Shut, Size, Sized, Stranded, Unknown, at_rest}
+use Rattle.rgo_core.specs.Channels.Standing.{IsAt as IsAtChannel, IsOfChannel, OperatesOn}
+use Rattle.rgo_core.specs.Frames.Fits.{Fits, IsPast, IsShown}
+use Rattle.rgo_core.specs.Frames.Shown.{FramesShow}
+use Rattle.rgo_core.specs.Frames.Slots.{nameless, slot_duties}
+use Rattle.rgo_core.specs.Frames.WordFrames.{WordFrame, bare}
+use Rattle.rgo_core.proofs.Frames.Bookkeeping.{current_alike}
 use Rattle.rgo_core_facts.proofs.ControlFrames.{all_in_code}
-use Rattle.rgo_region_machine.specs.Owed.{current}
-use Rattle.rgo_region_machine.specs.States.{Duty, Holder, NoOffer, Standing}
-use Rattle.rgo_tac.specs.Frames.{Frame}
-use Rattle.rgo_tac.specs.Ops.{operation_of}
-use Rattle.rgo_typed.specs.declared.actions.Action.{Action}
+use Rattle.rgo_sound.specs.RegionMachine.Owed.{current}
+use Rattle.rgo_sound.specs.RegionMachine.States.{Duty, Holder, NoOffer, Standing}
+use Rattle.rgo_sound.specs.Tac.Frames.{Frame}
+use Rattle.rgo_sound.specs.Tac.Ops.{operation_of}
+use Rattle.rgo_sound.specs.Typed.declared.actions.Action.{Action}
 use Rattle.rgo_core.proofs.Parts.{I}
 use Rattle.rgo_core.proofs.Standing.{frame_at, side_at}
 use Rattle.rgo_core.specs.Core.{Here, Setup, layout}
 use Rattle.rgo_core.specs.Image.{place_of}
 use Rattle.rgo_core.specs.Next.{IsAt}
 use Rattle.rgo_core.specs.Records.{Record}
-use Rattle.rgo_core_rule.specs.Views.{number_of}
+use Rattle.rgo_core.specs.Rule.Views.{number_of}
 use Rattle.rgo_body.specs.Bodies.{frames_in}
 use Rattle.rgo_body.specs.Nexts.{HasNoNext, IsNextOf}
 use Rattle.rgo_body.specs.Programs.{Program}

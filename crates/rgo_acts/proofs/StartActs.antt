@@ -4,21 +4,21 @@ use Rattle.std.proofs.lemmas.List.{append-nil}
 use Rattle.std.proofs.lemmas.Option.{none-some, same_Some}
 use Rattle.std.specs.Option.{option_map, option_map_or}
 use Rattle.std.specs.Prelude.{unwrap_or}
-use Rattle.rgo_code.specs.Code as code_op
-use Rattle.rgo_code.specs.Code.{Code, CodeFn, CodeOp, Go}
-use Rattle.rgo_core_frames.specs.Children.{child_records}
-use Rattle.rgo_core_frames.specs.Opening.{no_record}
-use Rattle.rgo_region_machine.specs.Owed.{function_of}
+use Rattle.rgo_sound.specs.Code.Code as code_op
+use Rattle.rgo_sound.specs.Code.Code.{Code, CodeFn, CodeOp, Go}
+use Rattle.rgo_core.specs.Frames.Children.{child_records}
+use Rattle.rgo_core.specs.Frames.Opening.{no_record}
+use Rattle.rgo_sound.specs.RegionMachine.Owed.{function_of}
 use Rattle.rgo_core.specs.Laws.{first_in}
 use Rattle.rgo_core_facts.specs.ControlCode.{CanCall, HasCallee}
 use Rattle.rgo_core_facts.proofs.ControlCode.{callees_exist}
-use Rattle.rgo_core_frames.specs.Records.{Rec as FrameRec, after_op}
-use Rattle.rgo_core_frames.specs.WordFrames.{WordFrame, word_called, word_moved, words_of}
-use Rattle.rgo_core_memory.specs.Words.{made_at}
-use Rattle.rgo_core_rule.specs.Views.{Me, number_of, view}
-use Rattle.rgo_core_rule.specs.declared.accesses.Kind.TheVariants.{DrawNumber}
-use Rattle.rgo_region_machine.specs.States.{Stopped}
-use Rattle.rgo_region_machine.specs.declared.limits.Limit.TheVariants.{Goroutines}
+use Rattle.rgo_core.specs.Frames.Records.{Rec as FrameRec, after_op}
+use Rattle.rgo_core.specs.Frames.WordFrames.{WordFrame, word_called, word_moved, words_of}
+use Rattle.rgo_core.specs.Memory.Words.{made_at}
+use Rattle.rgo_core.specs.Rule.Views.{Me, number_of, view}
+use Rattle.rgo_core.specs.Rule.declared.accesses.Kind.TheVariants.{DrawNumber}
+use Rattle.rgo_sound.specs.RegionMachine.States.{Stopped}
+use Rattle.rgo_sound.specs.RegionMachine.declared.limits.Limit.TheVariants.{Goroutines}
 use Rattle.rgo_core.specs.Core.{IsPossible, Setup}
 use Rattle.rgo_core.specs.Next.{IsAt}
 use Rattle.rgo_core.specs.Opening.{first_of}
@@ -33,8 +33,8 @@ use Rattle.rgo_core_steps.proofs.Parting.{started_law}
 use Rattle.rgo_body.specs.Shows.{Shows}
 use Rattle.rgo_body.specs.Steps.{Becomes}
 use Rattle.rgo_body.specs.declared.nexts.Next.{Next}
-use Rattle.rgo_tac.specs.Code as tac
-use Rattle.rgo_tac.specs.Ops.{operation_of}
+use Rattle.rgo_sound.specs.Tac.Code as tac
+use Rattle.rgo_sound.specs.Tac.Ops.{operation_of}
 use Rattle.rgo_acts.specs.Actors.{now}
 use Rattle.rgo_acts.specs.Limits.{IsAtLimit}
 use Rattle.rgo_acts.specs.Ready.{IsBefore}

@@ -1,9 +1,9 @@
 -- What is said of an operation on a channel, by what rgo_chan says of its try.
 use Rattle.std.proofs.Common.{◌≡◌, ◌≢◌, ◌⊎◌, ◌%◌, ℕ, List, [], ◌∷◌, ◌++◌, Some, None, refl, ap, sym, subst, ◌∙◌, ⊎_elim, inr}
-use Rattle.rgo_core_channels.specs.Records as sides
-use Rattle.rgo_core_channels.specs.Records.{Free, Nowhere, Rec as SideRec, with_look, with_own_look, with_size}
-use Rattle.rgo_core_rule.specs.Views.{number_of}
-use Rattle.rgo_core_rule.specs.declared.accesses.Access.{Access}
+use Rattle.rgo_core.specs.Channels.Records as sides
+use Rattle.rgo_core.specs.Channels.Records.{Free, Nowhere, Rec as SideRec, with_look, with_own_look, with_size}
+use Rattle.rgo_core.specs.Rule.Views.{number_of}
+use Rattle.rgo_core.specs.Rule.declared.accesses.Access.{Access}
 use Rattle.rgo_core.specs.AtChannels.{IsAtChannel}
 use Rattle.rgo_core.specs.CommitMoves.{IsAtSend}
 use Rattle.rgo_core.specs.Core.{Setup}
@@ -12,7 +12,7 @@ use Rattle.rgo_core_steps.specs.After.{acknowledging}
 use Rattle.rgo_core_steps.specs.Calls.{Did, accessing, waited}
 use Rattle.rgo_core_steps.specs.Ends.{Closes as TrapsAtClose, ClosesNil, Offers as TrapsAtOffer, Sends as TrapsAtSend}
 use Rattle.rgo_core_steps.specs.Seats.{HasPossible, mine}
-use Rattle.rgo_memory.specs.declared.traps.Trap.TheVariants.{CloseNil, SendClosed}
+use Rattle.rgo_sound.specs.Memory.declared.traps.Trap.TheVariants.{CloseNil, SendClosed}
 use Rattle.rgo_chan.specs.Answers.{Acknowledges, Closes, Receives, Sends, loads_capacity, loads_control, looked, looks, misses}
 use Rattle.rgo_chan.specs.Before.{ClosesAt, IsBeforeClose, IsBeforeReceive, IsBeforeSend, ReceivesAt, SendsAt}
 use Rattle.rgo_chan.specs.declared.answers.Tried.{Tried}

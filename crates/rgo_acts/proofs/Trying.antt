@@ -3,9 +3,9 @@ use Rattle.std.proofs.Common.{◌≡◌, ℕ, zero, suc, List, [], ◌∷◌, Op
 use mathlib.Core.Option.{some, some-injective, some-ne-none}
 use lib.ListN.{get_elem?}
 use Rattle.std.proofs.lemmas.List.{append-nil}
-use Rattle.rgo_core_channels.specs.Records.{Rec as SideRec}
-use Rattle.rgo_core_rule.specs.Views.{Me, number_of}
-use Rattle.rgo_core_rule.specs.declared.accesses.Access.{Access}
+use Rattle.rgo_core.specs.Channels.Records.{Rec as SideRec}
+use Rattle.rgo_core.specs.Rule.Views.{Me, number_of}
+use Rattle.rgo_core.specs.Rule.declared.accesses.Access.{Access}
 use Rattle.rgo_core.specs.AtChannels.{IsAtChannel, Operates}
 use Rattle.rgo_core.specs.CommitMoves.{IsAtSend, offers}
 use Rattle.rgo_core.specs.Core.{IsPossible, Setup}
@@ -18,7 +18,7 @@ use Rattle.rgo_core_steps.specs.Seats.{HasOne, HasPossible, Settles, settled}
 use Rattle.rgo_core_steps.proofs.After.{acknowledging_is, committing_is}
 use Rattle.rgo_core_steps.proofs.Growing.{grew_none, made_found, made_still}
 use Rattle.rgo_chan.proofs.Carrying.{at_send_as, operates_as}
-use Rattle.rgo_typed.specs.declared.actions.Action.{Action}
+use Rattle.rgo_sound.specs.Typed.declared.actions.Action.{Action}
 use Rattle.rgo_body.specs.Programs.{Program}
 use Rattle.rgo_body.specs.Shows.{Shows}
 use Rattle.rgo_body.specs.Steps.{Becomes}

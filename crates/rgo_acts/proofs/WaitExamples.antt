@@ -9,11 +9,11 @@ use Rattle.rgo_chan.proofs.Examples.{answer_examples, ready_examples}
 use Rattle.rgo_core.specs.ChannelExamples.{offered}
 use Rattle.rgo_core.specs.Core.{Setup}
 use Rattle.rgo_core.specs.Records.{Record}
-use Rattle.rgo_core_rule.specs.declared.accesses.Access.{Access}
-use Rattle.rgo_core_rule.specs.declared.accesses.Kind.{Kind}
-use Rattle.rgo_core_rule.specs.declared.accesses.Kind.TheVariants.{LoadControl, LockChannel}
+use Rattle.rgo_core.specs.Rule.declared.accesses.Access.{Access}
+use Rattle.rgo_core.specs.Rule.declared.accesses.Kind.{Kind}
+use Rattle.rgo_core.specs.Rule.declared.accesses.Kind.TheVariants.{LoadControl, LockChannel}
 use Rattle.rgo_core_steps.specs.Grown.{Found}
-use Rattle.rgo_typed.specs.declared.actions.Action.TheVariants.{Send}
+use Rattle.rgo_sound.specs.Typed.declared.actions.Action.TheVariants.{Send}
 use Rattle.rgo_acts.specs.WaitExamples.{WaitExamples, place}
 use Rattle.rgo_acts.specs.Waits.{HasChanged, IsLocked, Loses, Offers, Receives, ReceivesOnNil, Sends, SendsOnNil, Waits}
 

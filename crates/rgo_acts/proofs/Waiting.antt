@@ -1,9 +1,9 @@
 -- A goroutine that could not continue at a channel is blocked, where its words are still what it found. What it found lasts.
 use Rattle.std.proofs.Common.{◌≡◌, ◌+◌, ℕ, List, ◌++◌, Option, ap, sym, ◌∙◌, slice_index}
-use Rattle.rgo_core_channels.specs.Records.{Rec as SideRec}
-use Rattle.rgo_core_rule.specs.declared.accesses.Access.{Access}
-use Rattle.rgo_core_rule.specs.declared.accesses.Kind.{Kind}
-use Rattle.rgo_core_rule.specs.declared.accesses.Kind.TheVariants.{Load, LoadControl, LockChannel}
+use Rattle.rgo_core.specs.Channels.Records.{Rec as SideRec}
+use Rattle.rgo_core.specs.Rule.declared.accesses.Access.{Access}
+use Rattle.rgo_core.specs.Rule.declared.accesses.Kind.{Kind}
+use Rattle.rgo_core.specs.Rule.declared.accesses.Kind.TheVariants.{Load, LoadControl, LockChannel}
 use Rattle.rgo_core.specs.Core.{Setup}
 use Rattle.rgo_core.specs.Records.{Record}
 use Rattle.rgo_core_steps.specs.Grown.{Found}

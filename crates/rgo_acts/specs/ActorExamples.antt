@@ -1,11 +1,11 @@
 -- Actors and runs that are as their definitions say, and such as are not.
 use Rattle.std.specs.Prelude.{◌≡◌, ◌≤◌, ℕ, true, false, List, [], ◌∷◌, Some, None}
 use Rattle.rgo_core.specs.Records.{Drawn}
-use Rattle.rgo_core_channels.specs.Records.{at_rest}
-use Rattle.rgo_machine.specs.declared.limits.Limits.{Limits}
-use Rattle.rgo_region_machine.specs.States.{Duty}
-use Rattle.rgo_tac.specs.Code.{Do}
-use Rattle.rgo_typed.specs.declared.actions.Action.TheVariants as action
+use Rattle.rgo_core.specs.Channels.Records.{at_rest}
+use Rattle.rgo_sound.specs.Machine.declared.limits.Limits.{Limits}
+use Rattle.rgo_sound.specs.RegionMachine.States.{Duty}
+use Rattle.rgo_sound.specs.Tac.Code.{Do}
+use Rattle.rgo_sound.specs.Typed.declared.actions.Action.TheVariants as action
 use Rattle.rgo_body.specs.Programs.{Program}
 use Rattle.rgo_body.specs.declared.bodies.Body.{Body}
 use Rattle.rgo_body.specs.declared.nexts.Next.{Next}

@@ -1,8 +1,8 @@
 -- Goroutines at the table: what is known of one between two acts, and what an act leaves.
 use Rattle.std.specs.Prelude.{◌≡◌, ◌+◌, ℕ, List, ◌++◌, length, if◌then◌else◌}
-use Rattle.rgo_core_rule.specs.Passes.{ChangesNothingBy}
-use Rattle.rgo_core_rule.specs.Views.{number_of}
-use Rattle.rgo_core_rule.specs.declared.accesses.Access.{Access}
+use Rattle.rgo_core.specs.Rule.Passes.{ChangesNothingBy}
+use Rattle.rgo_core.specs.Rule.Views.{number_of}
+use Rattle.rgo_core.specs.Rule.declared.accesses.Access.{Access}
 use Rattle.rgo_core.specs.Core.{IsPossible, Setup}
 use Rattle.rgo_core.specs.Opening.{first_of}
 use Rattle.rgo_core.specs.Records.{Drawn, Record, accesses, steps_of}

@@ -3,8 +3,8 @@ use Rattle.std.specs.Prelude.{◌≡◌, ◌+◌, ◌<◌, List, [], ◌∷◌}
 use Rattle.rgo_body.specs.Bodies.{CanCount}
 use Rattle.rgo_body.specs.Duties.{HasDone}
 use Rattle.rgo_body.specs.declared.bodies.Side.TheVariants.{AtRest}
-use Rattle.rgo_core_rule.specs.Views.{number_of}
-use Rattle.rgo_region_machine.specs.States.{Duty}
+use Rattle.rgo_core.specs.Rule.Views.{number_of}
+use Rattle.rgo_sound.specs.RegionMachine.States.{Duty}
 use Rattle.rgo_acts.specs.Actors.{Acted, IsUnmoved, Stands, distance, now}
 use Rattle.rgo_acts.specs.Runs.{Run}
 use Rattle.rgo_acts.specs.Shortages.{LacksSlot}

@@ -1,12 +1,12 @@
 -- Accesses to elements of slices, before which the length is loaded.
 use Rattle.std.specs.Prelude.{◌≡◌, ◌⊎◌, ◌+◌, ◌<◌, ℕ, suc, List, [], ◌∷◌, Some, None}
-use Rattle.rgo_core_frames.specs.WordFrames.{word_at}
-use Rattle.rgo_core_memory.specs.Words.{base}
+use Rattle.rgo_core.specs.Frames.WordFrames.{word_at}
+use Rattle.rgo_core.specs.Memory.Words.{base}
 use Rattle.rgo_core.specs.Accesses.{IsInSlice}
 use Rattle.rgo_core.specs.Core.{layout}
 use Rattle.rgo_core.specs.ElementTraps.{HasNoElement}
-use Rattle.rgo_tac.specs.Code.{Do, Op}
-use Rattle.rgo_typed.specs.declared.actions.Action.TheVariants as action
+use Rattle.rgo_sound.specs.Tac.Code.{Do, Op}
+use Rattle.rgo_sound.specs.Typed.declared.actions.Action.TheVariants as action
 use Rattle.rgo_body.specs.declared.nexts.Next.{Next}
 use Rattle.rgo_acts.specs.Actors.{Acted, now}
 use Rattle.rgo_acts.specs.Ready.{IsBefore}

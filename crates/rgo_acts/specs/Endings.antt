@@ -1,16 +1,16 @@
 -- What an act leaves by which a goroutine ends the run.
 use Rattle.std.specs.Prelude.{◌≡◌, ◌+◌, ◌≤◌, Bool, false, ℕ, List, if◌then◌else◌, Some, slice_get}
 use Rattle.rgo_body.specs.declared.nexts.Next.{Next}
-use Rattle.rgo_code.specs.Erasure.{erased_fn}
-use Rattle.rgo_core_memory.specs.Words.{clock_at}
-use Rattle.rgo_core_rule.specs.Views.{number_of}
-use Rattle.rgo_core_rule.specs.declared.accesses.Access.{Access}
-use Rattle.rgo_core_rule.specs.declared.accesses.Kind.TheVariants.{EndRun}
+use Rattle.rgo_sound.specs.Code.Erasure.{erased_fn}
+use Rattle.rgo_core.specs.Memory.Words.{clock_at}
+use Rattle.rgo_core.specs.Rule.Views.{number_of}
+use Rattle.rgo_core.specs.Rule.declared.accesses.Access.{Access}
+use Rattle.rgo_core.specs.Rule.declared.accesses.Kind.TheVariants.{EndRun}
 use Rattle.rgo_core.specs.Opening.{first_of}
 use Rattle.rgo_core.specs.Records.{accesses, steps_of}
 use Rattle.rgo_core_steps.specs.Grown.{Found, Grew}
-use Rattle.rgo_region_machine.specs.States.{Mark}
-use Rattle.rgo_tac.specs.Ops.{place_in}
+use Rattle.rgo_sound.specs.RegionMachine.States.{Mark}
+use Rattle.rgo_sound.specs.Tac.Ops.{place_in}
 use Rattle.rgo_acts.specs.Actors.{Stands, now}
 use Rattle.rgo_acts.specs.Runs.{Run}
 use Rattle.rgo_acts.specs.declared.actors.Actor.{Actor}

@@ -1,9 +1,9 @@
 -- Limits that a goroutine meets.
 use Rattle.std.specs.Prelude.{[]}
-use Rattle.rgo_core_rule.specs.Views.{number_of}
+use Rattle.rgo_core.specs.Rule.Views.{number_of}
 use Rattle.rgo_core_steps.specs.Ends.{Ends}
-use Rattle.rgo_region_machine.specs.States.{Stopped}
-use Rattle.rgo_region_machine.specs.declared.limits.Limit.{Limit}
+use Rattle.rgo_sound.specs.RegionMachine.States.{Stopped}
+use Rattle.rgo_sound.specs.RegionMachine.declared.limits.Limit.{Limit}
 use Rattle.rgo_acts.specs.Actors.{Acted, now}
 use Rattle.rgo_acts.specs.Runs.{Run}
 use Rattle.rgo_acts.specs.declared.actors.Actor.{Actor}

@@ -2,8 +2,8 @@
 use Rattle.std.specs.Prelude.{◌≡◌, ℕ, [], ◌∷◌, None, Some}
 use Rattle.rgo_core_facts.specs.MemoryExamples.{making_slices, three}
 use Rattle.rgo_core.specs.Records.{Record}
-use Rattle.rgo_core_rule.specs.Views.{number_of}
-use Rattle.rgo_machine.specs.declared.limits.Limits.{Limits}
+use Rattle.rgo_core.specs.Rule.Views.{number_of}
+use Rattle.rgo_sound.specs.Machine.declared.limits.Limits.{Limits}
 use Rattle.rgo_holding.specs.declared.entries.Page.{Page}
 use Rattle.rgo_acts.specs.DutyExamples.{one_taken}
 use Rattle.rgo_acts.specs.Objects.{HasNoPage, HasNoRoomIn, IsPlaced, opens}

@@ -1,9 +1,9 @@
 -- New objects: what an act leaves that makes one, and what is known of it before its words are stored.
 use Rattle.std.specs.Prelude.{◌≡◌, ◌+◌, ◌<◌, ◌≤◌, ◌==◌, ℕ, Option, Some, None, [], if◌then◌else◌}
-use Rattle.rgo_core_channels.specs.Records.{at_rest}
+use Rattle.rgo_core.specs.Channels.Records.{at_rest}
 use Rattle.rgo_core_facts.specs.MemoryObjects.{HasNoRoom, NewObject}
-use Rattle.rgo_core_memory.specs.Records.{Rest}
-use Rattle.rgo_core_rule.specs.Views.{number_of}
+use Rattle.rgo_core.specs.Memory.Records.{Rest}
+use Rattle.rgo_core.specs.Rule.Views.{number_of}
 use Rattle.rgo_core.specs.Core.{Setup}
 use Rattle.rgo_core.specs.Records.{Record}
 use Rattle.rgo_core_steps.specs.Ends.{Ends}
@@ -12,12 +12,12 @@ use Rattle.rgo_holding.specs.Holds.{region_at}
 use Rattle.rgo_holding.specs.Known.{own_page, slot_of}
 use Rattle.rgo_holding.specs.declared.entries.Page.{Page}
 use Rattle.rgo_holding.specs.declared.holding.Holding.{Holding}
-use Rattle.rgo_code.specs.Code.{CodeFn}
-use Rattle.rgo_code.specs.Names.{class_of}
-use Rattle.rgo_region_machine.specs.Regions.{class_region}
-use Rattle.rgo_region_machine.specs.States.{Stopped, top_names}
-use Rattle.rgo_region_machine.specs.declared.limits.Limit.TheVariants.{ObjectSize}
-use Rattle.rgo_region_machine.specs.declared.regions.Region.{Region}
+use Rattle.rgo_sound.specs.Code.Code.{CodeFn}
+use Rattle.rgo_sound.specs.Code.Names.{class_of}
+use Rattle.rgo_sound.specs.RegionMachine.Regions.{class_region}
+use Rattle.rgo_sound.specs.RegionMachine.States.{Stopped, top_names}
+use Rattle.rgo_sound.specs.RegionMachine.declared.limits.Limit.TheVariants.{ObjectSize}
+use Rattle.rgo_sound.specs.RegionMachine.declared.regions.Region.{Region}
 use Rattle.rgo_body.specs.declared.nexts.Next.{Next}
 use Rattle.rgo_acts.specs.Actors.{Acted, IsUnmoved, now}
 use Rattle.rgo_acts.specs.Ready.{IsBefore}

@@ -1,14 +1,14 @@
 -- Prints: the values of the operands, and what was drawn for their bytes.
 use Rattle.std.specs.Prelude.{◌≡◌, ℕ, true, false, List, [], ◌∷◌, Some, None, map, slice_get}
 use lib.IntN.{pos}
-use Rattle.rgo_code.specs.Code.{CodeFn, Slot}
-use Rattle.rgo_core_frames.specs.Prints.{typed_value}
-use Rattle.rgo_core_frames.specs.WordFrames.{WordFrame}
-use Rattle.rgo_memory.specs.declared.values.Value.{Value}
-use Rattle.rgo_memory.specs.declared.values.Value.TheVariants as value
-use Rattle.rgo_stack.specs.Stacks.{newest_word}
-use Rattle.rgo_tac.specs.declared.regions.Class.TheVariants.{NoClass}
-use Rattle.rgo_wellformed.specs.TypeRules.{bool, int}
+use Rattle.rgo_sound.specs.Code.Code.{CodeFn, Slot}
+use Rattle.rgo_core.specs.Frames.Prints.{typed_value}
+use Rattle.rgo_core.specs.Frames.WordFrames.{WordFrame}
+use Rattle.rgo_sound.specs.Memory.declared.values.Value.{Value}
+use Rattle.rgo_sound.specs.Memory.declared.values.Value.TheVariants as value
+use Rattle.rgo_body.specs.Stack.Stacks.{newest_word}
+use Rattle.rgo_sound.specs.Tac.declared.regions.Class.TheVariants.{NoClass}
+use Rattle.rgo_sound.specs.WellFormed.TypeRules.{bool, int}
 use Rattle.rgo_core.specs.Records.{Drawn}
 use Rattle.rgo_acts.specs.declared.prints.Print.{Print}
 

@@ -1,15 +1,15 @@
 -- What a goroutine knows of channels while it is before no operation on one: nothing.
 use Rattle.std.specs.Prelude.{◌≡◌, ℕ, List, [], ◌∷◌, Option, Some}
-use Rattle.rgo_code.specs.Code as code
-use Rattle.rgo_code.specs.Code.{CodeInstr}
-use Rattle.rgo_code.specs.Erasure.{erased_op}
-use Rattle.rgo_core_channels.specs.Records.{Free, Nowhere, at_rest}
-use Rattle.rgo_core_channels.specs.Standing.{IsOfChannel}
-use Rattle.rgo_core_frames.specs.WordFrames.{WordFrame, bare}
-use Rattle.rgo_region_machine.specs.Owed.{current}
-use Rattle.rgo_region_machine.specs.States.{NoOffer}
-use Rattle.rgo_tac.specs.Code.{Do, Op}
-use Rattle.rgo_typed.specs.declared.actions.Action.{Action}
+use Rattle.rgo_sound.specs.Code.Code as code
+use Rattle.rgo_sound.specs.Code.Code.{CodeInstr}
+use Rattle.rgo_sound.specs.Code.Erasure.{erased_op}
+use Rattle.rgo_core.specs.Channels.Records.{Free, Nowhere, at_rest}
+use Rattle.rgo_core.specs.Channels.Standing.{IsOfChannel}
+use Rattle.rgo_core.specs.Frames.WordFrames.{WordFrame, bare}
+use Rattle.rgo_sound.specs.RegionMachine.Owed.{current}
+use Rattle.rgo_sound.specs.RegionMachine.States.{NoOffer}
+use Rattle.rgo_sound.specs.Tac.Code.{Do, Op}
+use Rattle.rgo_sound.specs.Typed.declared.actions.Action.{Action}
 use Rattle.rgo_core.specs.Core.{Here, Setup}
 use Rattle.rgo_core.specs.Next.{IsAt}
 use Rattle.rgo_core.specs.Records.{Record}

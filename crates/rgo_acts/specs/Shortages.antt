@@ -1,9 +1,9 @@
 -- What a goroutine lacks, by what its accesses have found: each place was in use.
 use Rattle.std.specs.Prelude.{◌≢◌, ◌<◌, ℕ, List}
-use Rattle.rgo_core_memory.specs.Words.{count_at, state_at}
-use Rattle.rgo_core_rule.specs.declared.accesses.Access.{Access}
-use Rattle.rgo_core_rule.specs.declared.accesses.Kind.{Kind}
-use Rattle.rgo_core_rule.specs.declared.accesses.Kind.TheVariants.{ClaimPage, CreateRegion}
+use Rattle.rgo_core.specs.Memory.Words.{count_at, state_at}
+use Rattle.rgo_core.specs.Rule.declared.accesses.Access.{Access}
+use Rattle.rgo_core.specs.Rule.declared.accesses.Kind.{Kind}
+use Rattle.rgo_core.specs.Rule.declared.accesses.Kind.TheVariants.{ClaimPage, CreateRegion}
 use Rattle.rgo_core.specs.Core.{Setup, layout}
 use Rattle.rgo_core.specs.Records.{Record}
 use Rattle.rgo_core_steps.specs.Counts.{IsCreating}

@@ -1,12 +1,12 @@
 -- Starts of goroutines.
 use Rattle.std.specs.Prelude.{◌≡◌, ◌<◌, ℕ, [], ◌∷◌}
-use Rattle.rgo_core_channels.specs.Records.{at_rest}
-use Rattle.rgo_core_memory.specs.Opening.{first_record}
-use Rattle.rgo_core_rule.specs.Views.{number_of}
+use Rattle.rgo_core.specs.Channels.Records.{at_rest}
+use Rattle.rgo_core.specs.Memory.Opening.{first_record}
+use Rattle.rgo_core.specs.Rule.Views.{number_of}
 use Rattle.rgo_core.specs.Records.{blank}
 use Rattle.rgo_core_steps.specs.After.{child as child_of}
-use Rattle.rgo_machine.specs.Limits.{most_goroutines}
-use Rattle.rgo_region_machine.specs.declared.limits.Limit.TheVariants.{Goroutines}
+use Rattle.rgo_sound.specs.Machine.Limits.{most_goroutines}
+use Rattle.rgo_sound.specs.RegionMachine.declared.limits.Limit.TheVariants.{Goroutines}
 use Rattle.rgo_acts.specs.Actors.{Acted, Stands, now}
 use Rattle.rgo_acts.specs.Runs.{Run}
 use Rattle.rgo_acts.specs.Limits.{IsAtLimit}

@@ -1,7 +1,7 @@
 -- What an operation on a channel asks of a goroutine, and what it leaves.
 use Rattle.std.specs.Prelude.{◌≡◌, ◌+◌, ◌<◌, ℕ, [], Option, Some, ⊤}
-use Rattle.rgo_core_channels.specs.Records as sides
-use Rattle.rgo_core_rule.specs.Views.{number_of}
+use Rattle.rgo_core.specs.Channels.Records as sides
+use Rattle.rgo_core.specs.Rule.Views.{number_of}
 use Rattle.rgo_core.specs.AtChannels.{IsAtChannel}
 use Rattle.rgo_core.specs.CommitMoves.{offers}
 use Rattle.rgo_core.specs.Core.{Setup}
@@ -10,8 +10,8 @@ use Rattle.rgo_core_steps.specs.After.{committing}
 use Rattle.rgo_core_steps.specs.Calls.{waited}
 use Rattle.rgo_chan.specs.declared.answers.Tried.{Tried}
 use Rattle.rgo_chan.specs.declared.answers.Tried.TheVariants as tried
-use Rattle.rgo_memory.specs.declared.traps.Trap.{Trap}
-use Rattle.rgo_memory.specs.declared.traps.Trap.TheVariants.{CloseClosed, SendClosed}
+use Rattle.rgo_sound.specs.Memory.declared.traps.Trap.{Trap}
+use Rattle.rgo_sound.specs.Memory.declared.traps.Trap.TheVariants.{CloseClosed, SendClosed}
 use Rattle.rgo_body.specs.Bodies.{HasRoomBehind, IsReady}
 use Rattle.rgo_body.specs.Programs.{Program}
 use Rattle.rgo_body.specs.Shows.{Shows}

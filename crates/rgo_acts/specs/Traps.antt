@@ -1,7 +1,7 @@
 -- Instructions that trap.
 use Rattle.std.specs.Prelude.{[]}
 use Rattle.rgo_core_steps.specs.Ends.{Traps}
-use Rattle.rgo_memory.specs.declared.traps.Trap.{Trap}
+use Rattle.rgo_sound.specs.Memory.declared.traps.Trap.{Trap}
 use Rattle.rgo_acts.specs.Actors.{Acted, now}
 use Rattle.rgo_acts.specs.Runs.{Run}
 use Rattle.rgo_acts.specs.declared.actors.Actor.{Actor}

@@ -5,14 +5,14 @@ use Rattle.rgo_chan.specs.Examples.{before, on_nil}
 use Rattle.rgo_core.specs.ChannelExamples.{offered, sending}
 use Rattle.rgo_core.specs.Core.{Setup, layout}
 use Rattle.rgo_core.specs.Records.{Record}
-use Rattle.rgo_core_memory.specs.Words.{base}
-use Rattle.rgo_machine.specs.declared.limits.Limits.{Limits}
-use Rattle.rgo_machine.specs.declared.limits.Sizes.{Sizes}
-use Rattle.rgo_memory.specs.declared.traps.Trap.TheVariants.{CloseNil, SendClosed}
+use Rattle.rgo_core.specs.Memory.Words.{base}
+use Rattle.rgo_sound.specs.Machine.declared.limits.Limits.{Limits}
+use Rattle.rgo_sound.specs.Machine.declared.limits.Sizes.{Sizes}
+use Rattle.rgo_sound.specs.Memory.declared.traps.Trap.TheVariants.{CloseNil, SendClosed}
 use Rattle.rgo_body.specs.declared.bodies.Side.TheVariants.{Offering}
 use Rattle.rgo_body.specs.declared.nexts.Next.{Next}
-use Rattle.rgo_tac.specs.Code.{Do, Jump}
-use Rattle.rgo_typed.specs.declared.actions.Action.TheVariants.{Send}
+use Rattle.rgo_sound.specs.Tac.Code.{Do, Jump}
+use Rattle.rgo_sound.specs.Typed.declared.actions.Action.TheVariants.{Send}
 use Rattle.rgo_acts.specs.Resting.{IsTalk}
 use Rattle.rgo_acts.specs.Runs.{Run}
 use Rattle.rgo_acts.specs.Talks.{CanTry, IsNumbered, OfClose, OfReceive}

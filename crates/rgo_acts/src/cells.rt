@@ -1,11 +1,11 @@
 //! Instructions that load or store one word: a field, an element or the length of a slice, or a package variable. Each returns the
 //! trap by which its instruction ends the run instead.
 ghost use Rattle.std.specs.Prelude.{◌≡◌, ◌+◌, ◌<◌, ◌∷◌, [], Some, None, MatchOption, MatchResult};
-ghost use Rattle.rgo_core_memory.specs.Words.{base as base_of};
+ghost use Rattle.rgo_core.specs.Memory.Words.{base as base_of};
 ghost use Rattle.rgo_core_steps.specs.Accesses.{Loads, Stores};
-ghost use Rattle.rgo_tac.specs.Code.{Do};
-ghost use Rattle.rgo_tac.specs.Ops.{operation_of};
-ghost use Rattle.rgo_typed.specs.declared.actions.Action.TheVariants as action;
+ghost use Rattle.rgo_sound.specs.Tac.Code.{Do};
+ghost use Rattle.rgo_sound.specs.Tac.Ops.{operation_of};
+ghost use Rattle.rgo_sound.specs.Typed.declared.actions.Action.TheVariants as action;
 ghost use Rattle.rgo_acts.specs.ActorExamples.{ElementExamples};
 ghost use Rattle.rgo_acts.specs.Actors.{Acted, now};
 ghost use Rattle.rgo_acts.specs.Elements.{HasElement, HasNoElementHere, IsAtElementOf};
@@ -16,7 +16,7 @@ use crate::actors::Actor;
 use crate::runs::Run;
 use rgo_body::Next;
 use rgo_core_steps::memory;
-use rgo_memory::Trap;
+use rgo_sound::memory::Trap;
 
 /// A variable of the next instruction gets the word that this loads.
 fn take(actor: &mut Actor, run: &Run<'_, '_>, next: &Next<'_>, word: usize)

@@ -3,11 +3,11 @@
 ghost use Rattle.std.specs.Prelude.{◌≡◌, ◌+◌, ◌<◌, ◌≤◌, ◌^◌, ◌∷◌, [], ℕ, Option, false, true};
 ghost use Rattle.rgo_chan.specs.Before.{LiesIn, control_at};
 ghost use Rattle.rgo_core.specs.Core.{layout};
-ghost use Rattle.rgo_core_channels.specs.Standing.{IsOfChannel};
-ghost use Rattle.rgo_core_memory.specs.Words.{base as base_of};
-ghost use Rattle.rgo_tac.specs.Code.{Do};
-ghost use Rattle.rgo_tac.specs.Ops.{operation_of};
-ghost use Rattle.rgo_typed.specs.declared.actions.Action.TheVariants as action;
+ghost use Rattle.rgo_core.specs.Channels.Standing.{IsOfChannel};
+ghost use Rattle.rgo_core.specs.Memory.Words.{base as base_of};
+ghost use Rattle.rgo_sound.specs.Tac.Code.{Do};
+ghost use Rattle.rgo_sound.specs.Tac.Ops.{operation_of};
+ghost use Rattle.rgo_sound.specs.Typed.declared.actions.Action.TheVariants as action;
 ghost use Rattle.rgo_body.specs.Bodies.{HasRoomBehind, IsReady};
 ghost use Rattle.rgo_body.specs.Nexts.{IsDo};
 ghost use Rattle.rgo_body.specs.Shows.{IsPossible};
@@ -23,9 +23,9 @@ use crate::runs::Run;
 use rgo_body::{Body, Next, Program, Side};
 use rgo_chan::{self, Tried};
 use rgo_core_steps::counting::Steps;
-use rgo_memory::Trap;
-use rgo_tac::Op;
-use rgo_typed::Action;
+use rgo_sound::memory::Trap;
+use rgo_sound::tac::Op;
+use rgo_sound::typed::Action;
 use std::sync::ledger::Ledger;
 
 /// What came of an operation on a channel. `at` is the word of the table that has the channel's control.

@@ -5,8 +5,8 @@ ghost use Rattle.rgo_body.specs.Queues.{duty_of};
 ghost use Rattle.rgo_body.specs.Shows.{IsPossible};
 ghost use Rattle.rgo_body.specs.Steps.{Stays};
 ghost use Rattle.rgo_body.specs.declared.bodies.Side.TheVariants.{AtRest};
-ghost use Rattle.rgo_region_machine.specs.States as machine;
-ghost use Rattle.rgo_region_machine.specs.declared.regions.Region.{Region};
+ghost use Rattle.rgo_sound.specs.RegionMachine.States as machine;
+ghost use Rattle.rgo_sound.specs.RegionMachine.declared.regions.Region.{Region};
 ghost use Rattle.rgo_acts.specs.Actors.{Stands};
 ghost use Rattle.rgo_acts.specs.Attending.{Attends, HasAttended, HasAttendedLocally, IsAtDuty};
 ghost use Rattle.rgo_acts.specs.DutyExamples.{DutyExamples};
@@ -18,7 +18,7 @@ use rgo_core_steps::counting::Steps;
 use rgo_counts::stakes::Left;
 use rgo_counts::{creation, stakes};
 use rgo_holding::Key;
-use rgo_pages::releasing;
+use rgo_body::pages::releasing;
 use std::sync::ledger::Ledger;
 
 /// What became of a duty.

@@ -4,14 +4,14 @@ ghost use Rattle.std.specs.Prelude.{◌≡◌, ◌^◌, ◌<◌, ◌+◌, ◌∷
 ghost use Rattle.rgo_body.specs.Bodies.{frames_in};
 ghost use Rattle.rgo_body.specs.Nexts.{IsNextOf};
 ghost use Rattle.rgo_body.specs.Steps.{HasRoomBack};
-ghost use Rattle.rgo_core_rule.specs.Views.{number_of};
+ghost use Rattle.rgo_core.specs.Rule.Views.{number_of};
 ghost use Rattle.rgo_core_steps.specs.Ends.{Ends, Traps};
-ghost use Rattle.rgo_machine.specs.Limits.{deepest};
-ghost use Rattle.rgo_machine.specs.declared.picks.End.TheVariants as the_end;
-ghost use Rattle.rgo_region_machine.specs.States.{Ended, Stopped};
-ghost use Rattle.rgo_tac.specs.Code.{Call, Go, Return};
-ghost use Rattle.rgo_tac.specs.Ops.{operation_of};
-ghost use Rattle.rgo_region_machine.specs.declared.limits.Limit.TheVariants as limit;
+ghost use Rattle.rgo_sound.specs.Machine.Limits.{deepest};
+ghost use Rattle.rgo_sound.specs.Machine.declared.picks.End.TheVariants as the_end;
+ghost use Rattle.rgo_sound.specs.RegionMachine.States.{Ended, Stopped};
+ghost use Rattle.rgo_sound.specs.Tac.Code.{Call, Go, Return};
+ghost use Rattle.rgo_sound.specs.Tac.Ops.{operation_of};
+ghost use Rattle.rgo_sound.specs.RegionMachine.declared.limits.Limit.TheVariants as limit;
 ghost use Rattle.rgo_acts.specs.Actors.{Stands, now};
 ghost use Rattle.rgo_acts.specs.Endings.{HasEnded, place_at};
 ghost use Rattle.rgo_acts.specs.Ready.{IsBefore};
@@ -20,9 +20,9 @@ use crate::actors::Actor;
 use crate::runs::Run;
 use rgo_body::Next;
 use rgo_core_steps::clock::{Mark, finish};
-use rgo_machine::End;
-use rgo_memory::Trap;
-use rgo_region_machine::Limit;
+use rgo_sound::machine::End;
+use rgo_sound::memory::Trap;
+use rgo_sound::region_machine::Limit;
 
 /// A limit ends the run, for which the record of the goroutine shows the cause.
 pub fn stop(actor: &mut Actor, run: &Run<'_, '_>, limit: Limit) -> bool

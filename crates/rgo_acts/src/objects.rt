@@ -1,8 +1,8 @@
 //! New objects: structs, slices and channels. An object goes behind what is filled of the goroutine's own page in the region, or on a
 //! page that is claimed for it. Its words are stored one by one; with the last one it exists, and the instruction is done.
 ghost use Rattle.std.specs.Prelude.{◌≡◌, ◌+◌, ◌*◌, ◌^◌, ◌<◌, ◌≤◌, ◌∷◌, [], ℕ, List, MatchOption, Some, false, slice_get, true};
-ghost use Rattle.rgo_core_rule.specs.Views.{number_of};
-ghost use Rattle.rgo_core_rule.specs.declared.accesses.Access.{Access};
+ghost use Rattle.rgo_core.specs.Rule.Views.{number_of};
+ghost use Rattle.rgo_core.specs.Rule.declared.accesses.Access.{Access};
 ghost use Rattle.rgo_core_facts.specs.MemoryObjects.{channel_words as channel_words_of, with_new_object};
 ghost use Rattle.rgo_core.specs.Bounds.{struct_words as struct_words_of};
 ghost use Rattle.rgo_core.specs.Opening.{first_of};
@@ -14,10 +14,10 @@ ghost use Rattle.rgo_core_steps.specs.Seats.{HasOne, HasPossible, Settles, mine,
 ghost use Rattle.rgo_body.specs.declared.bodies.Side.TheVariants.{AtRest};
 ghost use Rattle.rgo_holding.specs.Holds.{region_at};
 ghost use Rattle.rgo_holding.specs.Known.{own_page, slot_of};
-ghost use Rattle.rgo_region_machine.specs.declared.regions.Region.{Region};
-ghost use Rattle.rgo_tac.specs.Code.{Do};
-ghost use Rattle.rgo_tac.specs.Ops.{operation_of};
-ghost use Rattle.rgo_typed.specs.declared.actions.Action.TheVariants as action;
+ghost use Rattle.rgo_sound.specs.RegionMachine.declared.regions.Region.{Region};
+ghost use Rattle.rgo_sound.specs.Tac.Code.{Do};
+ghost use Rattle.rgo_sound.specs.Tac.Ops.{operation_of};
+ghost use Rattle.rgo_sound.specs.Typed.declared.actions.Action.TheVariants as action;
 ghost use Rattle.rgo_acts.specs.Actors.{Acted, now};
 ghost use Rattle.rgo_acts.specs.Locals.{IsBeyond};
 ghost use Rattle.rgo_acts.specs.ObjectExamples.{ObjectExamples};
@@ -28,12 +28,12 @@ use crate::actors::{Actor, after, within};
 use crate::runs::Run;
 use rgo_body::Next;
 use rgo_core::table::{RunSeat, RunTable};
-use rgo_core_memory::layout::{TableSizes, cell_at};
+use rgo_core::memory::layout::{TableSizes, cell_at};
 use rgo_core_steps::counting::Steps;
 use rgo_core_steps::memory;
 use rgo_holding::{Key, Page};
-use rgo_memory::Trap;
-use rgo_pages::claiming::claim_from;
+use rgo_sound::memory::Trap;
+use rgo_body::pages::claiming::claim_from;
 use std::sync::ledger::Ledger;
 
 /// What came of an instruction that makes an object.

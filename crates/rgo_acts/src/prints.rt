@@ -1,10 +1,10 @@
 //! Prints. All bytes of a print are there before its ticket is drawn, which gives it its place among all prints.
 ghost use Rattle.std.specs.Prelude.{◌≡◌, ◌<◌, ◌∷◌, [], Contains, IfOk, MatchOption, None, OnErr, Some, slice_get};
-ghost use Rattle.rgo_core_frames.specs.Prints.{typed_in};
+ghost use Rattle.rgo_core.specs.Frames.Prints.{typed_in};
 ghost use Rattle.rgo_core_steps.specs.After.{piece as piece_of};
-ghost use Rattle.rgo_tac.specs.Code.{Print as PrintOp};
-ghost use Rattle.rgo_tac.specs.Flow.{reads};
-ghost use Rattle.rgo_tac.specs.Ops.{operation_of};
+ghost use Rattle.rgo_sound.specs.Tac.Code.{Print as PrintOp};
+ghost use Rattle.rgo_sound.specs.Tac.Flow.{reads};
+ghost use Rattle.rgo_sound.specs.Tac.Ops.{operation_of};
 ghost use Rattle.rgo_body.specs.Bodies.{frames_in};
 ghost use Rattle.rgo_acts.specs.Actors.{Acted, now};
 ghost use Rattle.rgo_acts.specs.Prints.{PrintExamples, drawn_of, value_in, values_in};
@@ -14,9 +14,9 @@ use crate::actors::Actor;
 use crate::runs::Run;
 use rgo_body::Next;
 use rgo_core_steps::clock;
-use rgo_machine::write_line;
-use rgo_memory::Value;
-use rgo_typed::{Base, Piece, Type};
+use rgo_sound::machine::write_line;
+use rgo_sound::memory::Value;
+use rgo_sound::typed::{Base, Piece, Type};
 use std::alloc::{AllocError, Global};
 
 /// A print with its ticket.

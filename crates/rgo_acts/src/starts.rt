@@ -1,7 +1,7 @@
 //! Starts of goroutines.
 ghost use Rattle.std.specs.Prelude.{◌≡◌, ◌+◌, ◌<◌, [], MatchResult, false};
-ghost use Rattle.rgo_tac.specs.Code.{Go};
-ghost use Rattle.rgo_tac.specs.Ops.{operation_of};
+ghost use Rattle.rgo_sound.specs.Tac.Code.{Go};
+ghost use Rattle.rgo_sound.specs.Tac.Ops.{operation_of};
 ghost use Rattle.rgo_acts.specs.Actors.{Acted};
 ghost use Rattle.rgo_acts.specs.Ready.{IsBefore};
 ghost use Rattle.rgo_acts.specs.Starts.{Starts};

@@ -4,23 +4,23 @@ use Rattle.std.specs.Option.{option_map_or}
 use Rattle.std.proofs.lemmas.List.{length-append}
 use Rattle.rgo_core.specs.Core.{Setup}
 use Rattle.rgo_core.specs.Records.{ClockRec, Record, accessed, drawn_at, ticked, with_child, with_print}
-use Rattle.rgo_core_channels.specs.Records.{Rec as SideRec, at_rest}
-use Rattle.rgo_core_channels.specs.Records as sides
-use Rattle.rgo_core_frames.specs.Actions.{after_action}
-use Rattle.rgo_core_frames.specs.Meetings.{acknowledged}
-use Rattle.rgo_core_frames.specs.Records.{after_op}
-use Rattle.rgo_core_frames.specs.WordFrames.{WordFrame, bare_all, word_going, word_moved}
-use Rattle.rgo_core_memory.specs.Records.{Fill, Rec as MemoryRec, with_object}
+use Rattle.rgo_core.specs.Channels.Records.{Rec as SideRec, at_rest}
+use Rattle.rgo_core.specs.Channels.Records as sides
+use Rattle.rgo_core.specs.Frames.Actions.{after_action}
+use Rattle.rgo_core.specs.Frames.Meetings.{acknowledged}
+use Rattle.rgo_core.specs.Frames.Records.{after_op}
+use Rattle.rgo_core.specs.Frames.WordFrames.{WordFrame, bare_all, word_going, word_moved}
+use Rattle.rgo_core.specs.Memory.Records.{Fill, Rec as MemoryRec, with_object}
 use Rattle.rgo_core_steps.proofs.After.{position_by}
 use Rattle.rgo_core_steps.specs.Calls.{accessed_by, waited}
 use Rattle.rgo_core_steps.specs.After.{Position, acknowledging, acting, bytes_at, committing, given, making, position, printing, starting}
 use Rattle.rgo_holding.specs.Holds.{Holds}
-use Rattle.rgo_memory.specs.Memory.{Object}
-use Rattle.rgo_region_machine.specs.Counts.{Counts}
-use Rattle.rgo_region_machine.specs.Objects.{words as words_in}
-use Rattle.rgo_region_machine.specs.States.{Holder, NoOffer, Offer}
+use Rattle.rgo_sound.specs.Memory.Memory.{Object}
+use Rattle.rgo_sound.specs.RegionMachine.Counts.{Counts}
+use Rattle.rgo_sound.specs.RegionMachine.Objects.{words as words_in}
+use Rattle.rgo_sound.specs.RegionMachine.States.{Holder, NoOffer, Offer}
 use Rattle.rgo_stack.specs.Steps.{after_word}
-use Rattle.rgo_tac.specs.Ops.{operation_of}
+use Rattle.rgo_sound.specs.Tac.Ops.{operation_of}
 use Rattle.rgo_body.specs.Bodies.{IsReady}
 use Rattle.rgo_body.specs.Nexts.{IsDo, IsGo, IsPrint, removes_at, target_of}
 use Rattle.rgo_body.specs.Programs.{Program}

@@ -2,24 +2,24 @@
 use Rattle.std.proofs.Common.{◌≡◌, ◌++◌, ◌<◌, ℕ, List, [], ◌∷◌, Option, Some, None, refl, sym, ap, ◌∙◌, subst, if◌then◌else◌, length, arith}
 use Rattle.std.specs.Option.{option_map}
 use Rattle.std.proofs.lemmas.Option.{same_Some}
-use Rattle.rgo_code.specs.Code.{Code}
+use Rattle.rgo_sound.specs.Code.Code.{Code}
 use Rattle.rgo_core.specs.Core.{Here, Setup}
 use Rattle.rgo_core.specs.Records.{ClockRec, Record}
 use Rattle.rgo_core_facts.proofs.ControlDuties.{duties_known}
 use Rattle.rgo_core_facts.proofs.ControlSteps.{local_duty_steps}
 use Rattle.rgo_core_facts.specs.ControlDuties.{CanAttend, HasNewest, IsNamed}
-use Rattle.rgo_core_frames.specs.Local.{local_duty}
-use Rattle.rgo_core_frames.specs.WordFrames.{bare_all}
-use Rattle.rgo_core_memory.specs.Records.{Fill, Rec as MemoryRec}
+use Rattle.rgo_core.specs.Frames.Local.{local_duty}
+use Rattle.rgo_core.specs.Frames.WordFrames.{bare_all}
+use Rattle.rgo_core.specs.Memory.Records.{Fill, Rec as MemoryRec}
 use Rattle.rgo_core_steps.specs.Seats.{SettlesBy, settled_by}
 use Rattle.rgo_holding.specs.Changes.{Keeps}
 use Rattle.rgo_holding.specs.Holds.{Holds, region_at}
 use Rattle.rgo_holding.specs.declared.holding.Holding.{Holding}
 use Rattle.rgo_holding.specs.declared.keys.Key.{Key}
-use Rattle.rgo_region_machine.specs.Owed.{next_duties}
-use Rattle.rgo_region_machine.specs.Regions.{bound}
-use Rattle.rgo_region_machine.specs.States.{Duty, Environment, Holder, top_names}
-use Rattle.rgo_region_machine.specs.declared.regions.Region.{Region}
+use Rattle.rgo_sound.specs.RegionMachine.Owed.{next_duties}
+use Rattle.rgo_sound.specs.RegionMachine.Regions.{bound}
+use Rattle.rgo_sound.specs.RegionMachine.States.{Duty, Environment, Holder, top_names}
+use Rattle.rgo_sound.specs.RegionMachine.declared.regions.Region.{Region}
 use Rattle.rgo_stack.specs.Stacks.{Belongs}
 use Rattle.rgo_body.specs.Bodies.{frames_in}
 use Rattle.rgo_body.specs.Duties.{DoesLocal, HasDone}

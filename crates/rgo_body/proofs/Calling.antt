@@ -4,11 +4,11 @@ use Rattle.std.specs.List.Sorted.{IsStrictlyIncreasing}
 use Rattle.std.specs.Option.{option_map}
 use Rattle.std.proofs.lemmas.List.{append-nil, length-append, length-map}
 use Rattle.std.proofs.lemmas.Option.{same_Some}
-use Rattle.rgo_code.specs.Code.{Branch, Call, Code, CodeFn, CodeInstr, CodeOp, Do, Go, Jump, Print, Return}
-use Rattle.rgo_code.specs.Erasure.{erased_op}
-use Rattle.rgo_code.specs.Exists.{Uses}
-use Rattle.rgo_code.specs.Lists.{passes_of, protects_in, protects_of, removes_in, removes_of}
-use Rattle.rgo_code.specs.NameRules.{Ascends, protected_names}
+use Rattle.rgo_sound.specs.Code.Code.{Branch, Call, Code, CodeFn, CodeInstr, CodeOp, Do, Go, Jump, Print, Return}
+use Rattle.rgo_sound.specs.Code.Erasure.{erased_op}
+use Rattle.rgo_sound.specs.Code.Exists.{Uses}
+use Rattle.rgo_sound.specs.Code.Lists.{passes_of, protects_in, protects_of, removes_in, removes_of}
+use Rattle.rgo_sound.specs.Code.NameRules.{Ascends, protected_names}
 use Rattle.rgo_compact.specs.Bounds.{IsTarget}
 use Rattle.rgo_core.specs.Core.{Here, Setup}
 use Rattle.rgo_core.specs.Next.{IsAt}
@@ -18,27 +18,27 @@ use Rattle.rgo_core_facts.proofs.ControlFrames.{all_in_code, callers_wait}
 use Rattle.rgo_core_facts.proofs.ControlPasses.{newest_unprotected}
 use Rattle.rgo_core_facts.specs.ControlCode.{IsFollowed}
 use Rattle.rgo_core_facts.specs.ControlFrames.{IsCalledBy, IsInCode}
-use Rattle.rgo_core_frames.specs.Local.{local_op, word_returned}
-use Rattle.rgo_core_frames.specs.Quiet.{is_exit}
-use Rattle.rgo_core_frames.specs.Records.{Rec as FrameRec, after_op}
-use Rattle.rgo_core_frames.specs.WordFrames.{WordFrame, bare, bare_all, word_at, word_called, words_of}
-use Rattle.rgo_core_memory.specs.Records.{Fill}
+use Rattle.rgo_core.specs.Frames.Local.{local_op, word_returned}
+use Rattle.rgo_core.specs.Frames.Quiet.{is_exit}
+use Rattle.rgo_core.specs.Frames.Records.{Rec as FrameRec, after_op}
+use Rattle.rgo_core.specs.Frames.WordFrames.{WordFrame, bare, bare_all, word_at, word_called, words_of}
+use Rattle.rgo_core.specs.Memory.Records.{Fill}
 use Rattle.rgo_core_steps.specs.Ends.{ending}
 use Rattle.rgo_core_steps.specs.Seats.{SettlesBy, settled_by}
 use Rattle.rgo_holding.specs.Changes.{top_protections}
 use Rattle.rgo_holding.specs.Holds.{Holds}
 use Rattle.rgo_holding.specs.Passing.{calling}
-use Rattle.rgo_machine.specs.declared.picks.End.TheVariants.{Exit}
-use Rattle.rgo_region_machine.specs.Owed.{caller_duties, current, duties_behind, duties_behind_call, entry_removes, formals_of, function_of, result_of}
-use Rattle.rgo_region_machine.specs.States.{Duty, Ended, EndBase, Environment, Holder, Remove, Unprotect, below}
+use Rattle.rgo_sound.specs.Machine.declared.picks.End.TheVariants.{Exit}
+use Rattle.rgo_sound.specs.RegionMachine.Owed.{caller_duties, current, duties_behind, duties_behind_call, entry_removes, formals_of, function_of, result_of}
+use Rattle.rgo_sound.specs.RegionMachine.States.{Duty, Ended, EndBase, Environment, Holder, Remove, Unprotect, below}
 use Rattle.rgo_sound.specs.Values.{call_target}
 use Rattle.rgo_stack.proofs.Lookups.{places}
 use Rattle.rgo_stack.specs.Places.{CanContinue, CanReturn, IsCalledFor, WaitsFor}
 use Rattle.rgo_stack.specs.Stacks.{Belongs, caller_place}
 use Rattle.rgo_stack.specs.Steps.{after_call, after_return}
-use Rattle.rgo_tac.specs.Code as tac
-use Rattle.rgo_tac.specs.Flow.{writes}
-use Rattle.rgo_tac.specs.Ops.{operation_of}
+use Rattle.rgo_sound.specs.Tac.Code as tac
+use Rattle.rgo_sound.specs.Tac.Flow.{writes}
+use Rattle.rgo_sound.specs.Tac.Ops.{operation_of}
 use Rattle.rgo_body.specs.Bodies.{IsReady, frames_in}
 use Rattle.rgo_body.specs.Nexts.{IsNextOf, removes_at, result_target_of}
 use Rattle.rgo_body.specs.Programs.{IsProgram, Program}

@@ -1,22 +1,22 @@
 -- An action that touches nothing but words is a local step.
 use Rattle.std.proofs.Common.{◌≡◌, ◌≤◌, ℕ, List, [], ◌∷◌, Option, Some, refl, sym, ap, ◌∙◌, subst, length}
 use Rattle.std.specs.Option.{option_map, option_map_or}
-use Rattle.rgo_code.specs.Code.{Branch, Call, Code, CodeOp, Do, Go, Jump, Print, Return}
-use Rattle.rgo_code.specs.Erasure.{erased_op}
+use Rattle.rgo_sound.specs.Code.Code.{Branch, Call, Code, CodeOp, Do, Go, Jump, Print, Return}
+use Rattle.rgo_sound.specs.Code.Erasure.{erased_op}
 use Rattle.rgo_core.specs.Core.{Setup}
 use Rattle.rgo_core.specs.Records.{Record, instructed, ticked}
-use Rattle.rgo_core_frames.specs.Actions.{after_action}
-use Rattle.rgo_core_frames.specs.Local.{local_op}
-use Rattle.rgo_core_frames.specs.Operators.{computed}
-use Rattle.rgo_core_frames.specs.WordFrames.{WordFrame, word_going, words_of}
+use Rattle.rgo_core.specs.Frames.Actions.{after_action}
+use Rattle.rgo_core.specs.Frames.Local.{local_op}
+use Rattle.rgo_core.specs.Frames.Operators.{computed}
+use Rattle.rgo_core.specs.Frames.WordFrames.{WordFrame, word_going, words_of}
 use Rattle.rgo_core_steps.proofs.After.{position_by}
 use Rattle.rgo_core_steps.specs.After.{Position, acting, given}
 use Rattle.rgo_core_steps.specs.Seats.{SettlesBy, settled_by}
-use Rattle.rgo_machine.specs.Limits.{deepest}
+use Rattle.rgo_sound.specs.Machine.Limits.{deepest}
 use Rattle.rgo_stack.specs.Stacks.{words_from}
-use Rattle.rgo_tac.specs.Code as tac
-use Rattle.rgo_tac.specs.Ops.{operation_of}
-use Rattle.rgo_typed.specs.declared.actions.Action.{Action}
+use Rattle.rgo_sound.specs.Tac.Code as tac
+use Rattle.rgo_sound.specs.Tac.Ops.{operation_of}
+use Rattle.rgo_sound.specs.Typed.declared.actions.Action.{Action}
 use Rattle.rgo_body.specs.Bodies.{IsReady, frames_in}
 use Rattle.rgo_body.specs.Programs.{Program}
 use Rattle.rgo_body.specs.Shows.{Shows, SideShows}

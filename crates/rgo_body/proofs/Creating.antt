@@ -3,32 +3,32 @@ use Rattle.std.proofs.Common.{◌≡◌, ◌≢◌, ◌++◌, ◌+◌, ◌<◌, 
 use Rattle.std.specs.declared.alloc.AllocError.{AllocError}
 use Rattle.rgo_sound.proofs.Tests.{eq_of}
 use Rattle.std.specs.List.{list_any}
-use Rattle.rgo_code.specs.Code as code
-use Rattle.rgo_code.specs.Erasure.{erased_op}
-use Rattle.rgo_code.specs.Lists.{creates_in, passes_of, protects_of}
+use Rattle.rgo_sound.specs.Code.Code as code
+use Rattle.rgo_sound.specs.Code.Erasure.{erased_op}
+use Rattle.rgo_sound.specs.Code.Lists.{creates_in, passes_of, protects_of}
 use Rattle.rgo_core.specs.Core.{Here, Setup}
 use Rattle.rgo_core.specs.Records.{ClockRec, Record, accessed}
 use Rattle.rgo_core_facts.proofs.ControlRegions.{nothing_kept}
 use Rattle.rgo_core_facts.specs.ControlDuties.{IsUnnamed}
 use Rattle.rgo_core_facts.specs.ControlRegions.{HasNothingOf}
-use Rattle.rgo_core_frames.specs.WordFrames.{bare, bare_all}
-use Rattle.rgo_core_memory.specs.Records.{Fill, Within}
+use Rattle.rgo_core.specs.Frames.WordFrames.{bare, bare_all}
+use Rattle.rgo_core.specs.Memory.Records.{Fill, Within}
 use Rattle.rgo_core_steps.specs.Counts.{created, created_with}
 use Rattle.rgo_holding.specs.Changes as changes
 use Rattle.rgo_holding.specs.Holds.{Holds}
 use Rattle.rgo_holding.specs.Known.{page_of}
-use Rattle.rgo_region_machine.specs.Owed.{current, current_in, duties_before, duties_of_op, next_duties, regions_named}
-use Rattle.rgo_region_machine.specs.States.{Create, Duty, Holder, Protect, Share}
+use Rattle.rgo_sound.specs.RegionMachine.Owed.{current, current_in, duties_before, duties_of_op, next_duties, regions_named}
+use Rattle.rgo_sound.specs.RegionMachine.States.{Create, Duty, Holder, Protect, Share}
 use Rattle.rgo_sound.specs.Stakes.{is_in, one_if, times_in}
-use Rattle.rgo_tac.specs.Code as tac
+use Rattle.rgo_sound.specs.Tac.Code as tac
 use Rattle.rgo_body.specs.Bodies.{frames_in, owed}
 use Rattle.rgo_body.specs.Nexts.{IsNextOf}
 use Rattle.rgo_body.specs.Programs.{Program}
 use Rattle.rgo_body.specs.Shows.{IsCalm, IsPossible, Shows, SideShows}
 use Rattle.rgo_stack.specs.Stacks.{Belongs}
-use Rattle.rgo_region_machine.specs.Counts.{Counts}
+use Rattle.rgo_sound.specs.RegionMachine.Counts.{Counts}
 use Rattle.rgo_holding.specs.declared.holding.Holding.{Holding}
-use Rattle.rgo_core_memory.specs.Records.{Rec as MemoryRec}
+use Rattle.rgo_core.specs.Memory.Records.{Rec as MemoryRec}
 use Rattle.rgo_body.specs.Steps.{Stays}
 use Rattle.rgo_body.specs.declared.bodies.Body.{Body}
 use Rattle.rgo_body.specs.declared.nexts.Next.{Next}

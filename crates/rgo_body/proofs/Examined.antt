@@ -2,18 +2,18 @@
 use Rattle.std.proofs.Common.{◌≡◌, ℕ, List, [], ◌∷◌, Option, Some, None, inl, inr, refl, sym, ap, ◌∙◌, arith, pos}
 use Rattle.rgo_compact.specs.Examples.{small}
 use Rattle.rgo_compact.specs.Runs.{frame_at}
-use Rattle.rgo_core_frames.specs.WordFrames.{WordFrame, bare}
-use Rattle.rgo_region_machine.specs.Owed.{current}
-use Rattle.rgo_code.specs.Code.{CodeInstr}
+use Rattle.rgo_core.specs.Frames.WordFrames.{WordFrame, bare}
+use Rattle.rgo_sound.specs.RegionMachine.Owed.{current}
+use Rattle.rgo_sound.specs.Code.Code.{CodeInstr}
 use Rattle.rgo_compact.specs.Operations.{constant}
-use Rattle.rgo_core_channels.specs.Records.{Nowhere, Offering, Post}
-use Rattle.rgo_core_memory.specs.Records.{Calm, Owes}
-use Rattle.rgo_region_machine.specs.Counts.{Counts}
-use Rattle.rgo_region_machine.specs.Examples.{plain}
-use Rattle.rgo_region_machine.specs.States.{NoOffer, Standing}
-use Rattle.rgo_tac.specs.Code as tac
-use Rattle.rgo_typed.specs.declared.actions.Action.{Action}
-use Rattle.rgo_typed.specs.declared.actions.Action.TheVariants as action
+use Rattle.rgo_core.specs.Channels.Records.{Nowhere, Offering, Post}
+use Rattle.rgo_core.specs.Memory.Records.{Calm, Owes}
+use Rattle.rgo_sound.specs.RegionMachine.Counts.{Counts}
+use Rattle.rgo_sound.specs.RegionMachine.Examples.{plain}
+use Rattle.rgo_sound.specs.RegionMachine.States.{NoOffer, Standing}
+use Rattle.rgo_sound.specs.Tac.Code as tac
+use Rattle.rgo_sound.specs.Typed.declared.actions.Action.{Action}
+use Rattle.rgo_sound.specs.Typed.declared.actions.Action.TheVariants as action
 use Rattle.rgo_body.specs.Nexts.{FollowsOn}
 use Rattle.rgo_body.specs.Examples.{BodyExamples}
 

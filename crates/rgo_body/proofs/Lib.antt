@@ -1,3 +1,6 @@
+-- of the crates below, for those above
+pub use Rattle.rgo_pages.proofs as Pages
+
 pub mod Acting
 pub mod Attending
 pub mod Calling

@@ -5,19 +5,19 @@ use Rattle.rgo_compact.specs.Environs.{Environs, IsBare}
 use Rattle.rgo_compact.specs.Functions.{CompactFn}
 use Rattle.rgo_core.specs.Core.{IsPossible as CanBe, Setup}
 use Rattle.rgo_core.specs.Records.{Record}
-use Rattle.rgo_core_channels.specs.Records.{at_rest}
-use Rattle.rgo_core_frames.specs.WordFrames.{bare_all}
-use Rattle.rgo_core_memory.specs.Records.{Fill}
-use Rattle.rgo_core_rule.specs.Views.{Me, number_of}
+use Rattle.rgo_core.specs.Channels.Records.{at_rest}
+use Rattle.rgo_core.specs.Frames.WordFrames.{bare_all}
+use Rattle.rgo_core.specs.Memory.Records.{Fill}
+use Rattle.rgo_core.specs.Rule.Views.{Me, number_of}
 use Rattle.rgo_core_steps.specs.Seats.{HasOne, Settles, settled}
 use Rattle.rgo_holding.specs.Changes.{KnowsNone, Settles as HoldingSettles}
 use Rattle.rgo_holding.specs.Holds.{Holds}
-use Rattle.rgo_loop.proofs.Making.{as_many}
-use Rattle.rgo_loop.specs.Comes.{Comes, HasMade, IsBetween}
-use Rattle.rgo_machine.specs.Limits.{deepest}
-use Rattle.rgo_region_machine.specs.Counts.{Counts}
-use Rattle.rgo_region_machine.specs.Owed.{next_duties}
-use Rattle.rgo_region_machine.specs.States.{Environment, Holder, NoOffer}
+use Rattle.rgo_stack.proofs.Loop.Making.{as_many}
+use Rattle.rgo_stack.specs.Loop.Comes.{Comes, HasMade, IsBetween}
+use Rattle.rgo_sound.specs.Machine.Limits.{deepest}
+use Rattle.rgo_sound.specs.RegionMachine.Counts.{Counts}
+use Rattle.rgo_sound.specs.RegionMachine.Owed.{next_duties}
+use Rattle.rgo_sound.specs.RegionMachine.States.{Environment, Holder, NoOffer}
 use Rattle.rgo_stack.proofs.Frames.{as_deep}
 use Rattle.rgo_stack.specs.Stacks.{Belongs, BelongsAt, Stack, frames_at, frames_of}
 use Rattle.rgo_body.specs.Bodies.{frames_in}

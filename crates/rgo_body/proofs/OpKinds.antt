@@ -1,9 +1,9 @@
 -- What an instruction of the code is, by what it does without regions.
 use Rattle.std.proofs.Common.{◌≡◌, ℕ, List, Option}
-use Rattle.rgo_code.specs.Code.{Branch, Call, CodeOp, Do, Go, Jump, Print, Return}
-use Rattle.rgo_code.specs.Erasure.{erased_op}
-use Rattle.rgo_code.specs.Lists.{otherwise_of, passes_of, protects_of, removes_of}
-use Rattle.rgo_tac.specs.Code as tac
+use Rattle.rgo_sound.specs.Code.Code.{Branch, Call, CodeOp, Do, Go, Jump, Print, Return}
+use Rattle.rgo_sound.specs.Code.Erasure.{erased_op}
+use Rattle.rgo_sound.specs.Code.Lists.{otherwise_of, passes_of, protects_of, removes_of}
+use Rattle.rgo_sound.specs.Tac.Code as tac
 
 pub jump_of : (op : CodeOp) (target : ℕ) → erased_op op ≡ tac.Jump target → op ≡ Jump target (removes_of op)
 jump_of (Jump t removes) target e = cc

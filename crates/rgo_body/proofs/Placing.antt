@@ -2,22 +2,22 @@
 use Rattle.std.proofs.Common.{◌≡◌, inl, inr, ◌+◌, ◌<◌, ◌≤◌, arith, ℕ, List, ◌∷◌, Option, Some, None, refl, sym, ap, ◌∙◌, subst, length, slice_get}
 use Rattle.std.proofs.lemmas.List.{length-map}
 use Rattle.std.proofs.lemmas.Option.{same_Some}
-use Rattle.rgo_code.specs.Code.{Branch, Call, CodeOp, Do, Go, Jump, Print, Return}
-use Rattle.rgo_code.specs.Erasure.{erased_op}
-use Rattle.rgo_code.specs.Lists.{passes_of, protects_of, removes_of}
-use Rattle.rgo_code.specs.Exists.{Uses}
+use Rattle.rgo_sound.specs.Code.Code.{Branch, Call, CodeOp, Do, Go, Jump, Print, Return}
+use Rattle.rgo_sound.specs.Code.Erasure.{erased_op}
+use Rattle.rgo_sound.specs.Code.Lists.{passes_of, protects_of, removes_of}
+use Rattle.rgo_sound.specs.Code.Exists.{Uses}
 use Rattle.rgo_core_facts.proofs.ControlCode.{callees_exist, next_exists, variables_exist}
 use Rattle.rgo_core_facts.proofs.ControlFrames.{all_in_code}
 use Rattle.rgo_core_facts.specs.ControlCode.{CanCall, HasCallee, IsFollowed}
 use Rattle.rgo_core_facts.specs.ControlFrames.{IsInCode}
 use Rattle.rgo_compact.specs.Bounds.{IsTarget}
-use Rattle.rgo_tac.specs.Flow.{writes}
-use Rattle.rgo_region_machine.specs.Owed.{function_of}
+use Rattle.rgo_sound.specs.Tac.Flow.{writes}
+use Rattle.rgo_sound.specs.RegionMachine.Owed.{function_of}
 use Rattle.rgo_stack.proofs.Lookups.{places}
 use Rattle.rgo_stack.specs.Places.{CanAdvance, CanCall as StackCanCall, CanJump, IsPlace, Takes}
 use Rattle.rgo_stack.specs.Stacks.{newest_word, newest_words, words_from}
-use Rattle.rgo_tac.specs.Code as tac
-use Rattle.rgo_tac.specs.Ops.{operation_of}
+use Rattle.rgo_sound.specs.Tac.Code as tac
+use Rattle.rgo_sound.specs.Tac.Ops.{operation_of}
 use Rattle.rgo_body.specs.Bodies.{frames_in}
 use Rattle.rgo_body.specs.Nexts.{FollowsOn, IsNextOf, target_of}
 use Rattle.rgo_body.specs.Programs.{IsProgram, Program}

@@ -2,8 +2,8 @@
 use Rattle.std.proofs.Common.{◌≡◌, ◌≤◌, ◌<◌, ◌+◌, ◌-◌, ◌++◌, ℕ, List, ◌∷◌, Some, sym, ap, ◌∙◌, arith, drop, length, map, slice_get}
 use Rattle.std.proofs.lemmas.List.{drop_all, drop_more}
 use Rattle.std.proofs.lemmas.Option.{get_or_from_slice_get}
-use Rattle.rgo_region_machine.specs.States.{Duty, EndBase}
-use Rattle.rgo_region_machine.specs.declared.regions.Region.{Region}
+use Rattle.rgo_sound.specs.RegionMachine.States.{Duty, EndBase}
+use Rattle.rgo_sound.specs.RegionMachine.declared.regions.Region.{Region}
 
 -- those from the i-th on are put
 abbrev pub Put : List Region → (i : ℕ) → (before now : List Duty) → (room left : ℕ) → Type 0

@@ -11,19 +11,19 @@ use Rattle.rgo_core_facts.proofs.ControlSteps.{duty_laws}
 use Rattle.rgo_core_facts.specs.ControlDuties.{IsOfBase, IsUnprotected}
 use Rattle.rgo_core_facts.specs.ControlRegions.{HasNothingOf, IsStaked}
 use Rattle.rgo_core_facts.specs.ControlSteps.{IsNameOf, unbased, unnamed}
-use Rattle.rgo_core_frames.specs.Local.{local_duty}
-use Rattle.rgo_core_frames.specs.Stakes.{ended, stake_ended}
-use Rattle.rgo_core_memory.specs.Records.{Fill, dropped, without_slot}
+use Rattle.rgo_core.specs.Frames.Local.{local_duty}
+use Rattle.rgo_core.specs.Frames.Stakes.{ended, stake_ended}
+use Rattle.rgo_core.specs.Memory.Records.{Fill, dropped, without_slot}
 use Rattle.rgo_core_steps.specs.Counts.{by_first, ending}
 use Rattle.rgo_holding.specs.Changes as changes
 use Rattle.rgo_holding.specs.Holds.{Holds, region_at}
 use Rattle.rgo_holding.specs.declared.holding.Holding.{Holding}
 use Rattle.rgo_holding.specs.declared.keys.Key.{Key}
-use Rattle.rgo_region_machine.specs.Duties.{guards}
-use Rattle.rgo_region_machine.specs.Regions.{bound, removed_once, same_region, without}
-use Rattle.rgo_region_machine.specs.States.{Create, Duty, EndBase, Environment, Holder, Protect, Remove, Share, Unprotect}
-use Rattle.rgo_region_machine.specs.declared.regions.Region.{Region}
-use Rattle.rgo_region_machine.specs.declared.regions.Region.TheVariants.{Global as GlobalRegion, Numbered}
+use Rattle.rgo_sound.specs.RegionMachine.Duties.{guards}
+use Rattle.rgo_sound.specs.RegionMachine.Regions.{bound, removed_once, same_region, without}
+use Rattle.rgo_sound.specs.RegionMachine.States.{Create, Duty, EndBase, Environment, Holder, Protect, Remove, Share, Unprotect}
+use Rattle.rgo_sound.specs.RegionMachine.declared.regions.Region.{Region}
+use Rattle.rgo_sound.specs.RegionMachine.declared.regions.Region.TheVariants.{Global as GlobalRegion, Numbered}
 use Rattle.rgo_sound.proofs.Attends.{same_reflexive}
 use Rattle.rgo_sound.specs.Stakes.{is_in}
 use Rattle.rgo_body.specs.Duties.{DoesLocal, Forgets, Leaves, LeavesIn, OwesFirst, is_kept}

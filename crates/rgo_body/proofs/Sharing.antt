@@ -9,18 +9,18 @@ use Rattle.rgo_core.specs.Regions.{with_holder}
 use Rattle.rgo_core_facts.proofs.ControlSteps.{duty_laws}
 use Rattle.rgo_core_facts.specs.ControlDuties.{CanAttend, IsNamed, IsProtected}
 use Rattle.rgo_core_facts.specs.ControlSteps.{IsNameOf}
-use Rattle.rgo_core_frames.specs.Local.{local_duty}
-use Rattle.rgo_core_frames.specs.Stakes.{shared_in, stake_shared}
-use Rattle.rgo_core_memory.specs.Records.{Fill}
+use Rattle.rgo_core.specs.Frames.Local.{local_duty}
+use Rattle.rgo_core.specs.Frames.Stakes.{shared_in, stake_shared}
+use Rattle.rgo_core.specs.Memory.Records.{Fill}
 use Rattle.rgo_core_steps.specs.Counts.{by_first, shared, sharing}
 use Rattle.rgo_holding.specs.Changes as changes
 use Rattle.rgo_holding.specs.Holds.{Holds, region_at}
 use Rattle.rgo_holding.specs.declared.keys.Key.{Key}
-use Rattle.rgo_region_machine.specs.Duties.{unprotected, with_protection, without_protection}
-use Rattle.rgo_region_machine.specs.Regions.{bound, same_region}
-use Rattle.rgo_region_machine.specs.States.{Duty, Holder, Protect, Share, Unprotect, top_names}
-use Rattle.rgo_region_machine.specs.declared.regions.Region.{Region}
-use Rattle.rgo_region_machine.specs.declared.regions.Region.TheVariants.{Global as GlobalRegion, Numbered}
+use Rattle.rgo_sound.specs.RegionMachine.Duties.{unprotected, with_protection, without_protection}
+use Rattle.rgo_sound.specs.RegionMachine.Regions.{bound, same_region}
+use Rattle.rgo_sound.specs.RegionMachine.States.{Duty, Holder, Protect, Share, Unprotect, top_names}
+use Rattle.rgo_sound.specs.RegionMachine.declared.regions.Region.{Region}
+use Rattle.rgo_sound.specs.RegionMachine.declared.regions.Region.TheVariants.{Global as GlobalRegion, Numbered}
 use Rattle.rgo_body.specs.Duties.{DoesLocal, OwesFirst, SharesIn, has_share}
 use Rattle.rgo_body.specs.Programs.{Program}
 use Rattle.rgo_body.specs.Shows.{IsPossible, Shows}

@@ -1,23 +1,23 @@
 -- A body shows a record after a step, given what has changed of both.
 use Rattle.std.proofs.Common.{◌≡◌, ◌⊎◌, inl, inr, if◌then◌else◌, ℕ, List, [], ◌∷◌, ◌++◌, Some, refl, sym, ap, ◌∙◌, subst, length, map, slice_get, false}
 use Rattle.std.proofs.lemmas.List.{append-nil}
-use Rattle.rgo_code.specs.Code.{Branch, Call, Code, CodeInstr, CodeOp, Do, Go, Jump, Print, Return}
-use Rattle.rgo_code.specs.Erasure.{erased_op}
-use Rattle.rgo_code.specs.Lists.{otherwise_in, otherwise_of, passes_in, passes_of, protects_in, protects_of, removes_in, removes_of}
+use Rattle.rgo_sound.specs.Code.Code.{Branch, Call, Code, CodeInstr, CodeOp, Do, Go, Jump, Print, Return}
+use Rattle.rgo_sound.specs.Code.Erasure.{erased_op}
+use Rattle.rgo_sound.specs.Code.Lists.{otherwise_in, otherwise_of, passes_in, passes_of, protects_in, protects_of, removes_in, removes_of}
 use Rattle.rgo_core.specs.Core.{Setup}
 use Rattle.rgo_core.specs.Records.{ClockRec, Record}
-use Rattle.rgo_core_channels.specs.Records.{Rec as SideRec}
-use Rattle.rgo_core_frames.specs.WordFrames.{WordFrame, bare, bare_all, word_going}
-use Rattle.rgo_core_memory.specs.Records.{Fill, Rec as MemoryRec}
+use Rattle.rgo_core.specs.Channels.Records.{Rec as SideRec}
+use Rattle.rgo_core.specs.Frames.WordFrames.{WordFrame, bare, bare_all, word_going}
+use Rattle.rgo_core.specs.Memory.Records.{Fill, Rec as MemoryRec}
 use Rattle.rgo_core_steps.specs.After.{given}
 use Rattle.rgo_holding.specs.Holds.{Holds}
 use Rattle.rgo_holding.specs.declared.holding.Holding.{Holding}
-use Rattle.rgo_region_machine.specs.Instructions.{holder_after}
-use Rattle.rgo_region_machine.specs.Owed.{current, current_in, function_of, next_duties}
-use Rattle.rgo_region_machine.specs.States.{Duty, Holder, Offer, Remove}
+use Rattle.rgo_sound.specs.RegionMachine.Instructions.{holder_after}
+use Rattle.rgo_sound.specs.RegionMachine.Owed.{current, current_in, function_of, next_duties}
+use Rattle.rgo_sound.specs.RegionMachine.States.{Duty, Holder, Offer, Remove}
 use Rattle.rgo_stack.specs.Stacks.{Belongs, Stack, frames_of}
 use Rattle.rgo_stack.specs.Steps.{after_word}
-use Rattle.rgo_tac.specs.Ops.{operation_of}
+use Rattle.rgo_sound.specs.Tac.Ops.{operation_of}
 use Rattle.rgo_body.specs.Bodies.{IsReady, frames_in, owed}
 use Rattle.rgo_body.specs.Nexts.{IsDo, IsGo, IsNextOf, IsPrint, removes_at, target_of}
 use Rattle.rgo_body.specs.Programs.{Program}

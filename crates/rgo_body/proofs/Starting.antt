@@ -2,30 +2,30 @@
 use Rattle.std.proofs.Common.{◌≡◌, ◌<◌, ◌+◌, ◌++◌, arith, IfOk, Result, Ok, Err, if◌then◌else◌, bytes_eq, codes, drop, ℕ, zero, suc, Bool, true, false, List, [], ◌∷◌, Option, Some, None, refl, sym, ap, ◌∙◌, subst, length, map, slice_get}
 use Rattle.std.proofs.lemmas.List.{drop_more}
 use Rattle.std.proofs.lemmas.Option.{get_or_from_slice_get, same_Some, slice_get_within}
-use Rattle.rgo_code.specs.Checked.{IsChecked}
-use Rattle.rgo_code.specs.Code.{Code, CodeFn, CodeOp, Go}
+use Rattle.rgo_sound.specs.Code.Checked.{IsChecked}
+use Rattle.rgo_sound.specs.Code.Code.{Code, CodeFn, CodeOp, Go}
 use Rattle.rgo_core.specs.Core.{Setup}
 use Rattle.rgo_core.specs.Laws.{child_of}
 use Rattle.rgo_core.specs.Next.{IsAt}
 use Rattle.rgo_core.specs.Opening.{first_of, main_words}
 use Rattle.rgo_core.specs.Records.{Record}
-use Rattle.rgo_core_channels.specs.Records.{at_rest}
-use Rattle.rgo_core_frames.specs.WordFrames.{bare_all, word_called, words_of}
+use Rattle.rgo_core.specs.Channels.Records.{at_rest}
+use Rattle.rgo_core.specs.Frames.WordFrames.{bare_all, word_called, words_of}
 use Rattle.rgo_core_steps.proofs.After.{child_is}
 use Rattle.rgo_core_steps.specs.After.{child}
 use Rattle.rgo_holding.specs.Holds.{Holds}
 use Rattle.rgo_holding.specs.Passing.{ArePassed, Begins}
 use Rattle.rgo_holding.specs.declared.holding.Holding.{Holding}
-use Rattle.rgo_region_machine.specs.Machine.{main_holder}
-use Rattle.rgo_region_machine.specs.Owed.{entry_removes, formals_of, function_of, next_duties, passed_regions, result_of}
-use Rattle.rgo_region_machine.specs.Regions.{Bindings, class_region}
-use Rattle.rgo_region_machine.specs.States.{NoOffer, Remove, top_names}
-use Rattle.rgo_region_machine.specs.declared.regions.Region.{Region}
-use Rattle.rgo_region_machine.specs.declared.regions.Region.TheVariants.{Global as GlobalRegion, Numbered}
+use Rattle.rgo_sound.specs.RegionMachine.Machine.{main_holder}
+use Rattle.rgo_sound.specs.RegionMachine.Owed.{entry_removes, formals_of, function_of, next_duties, passed_regions, result_of}
+use Rattle.rgo_sound.specs.RegionMachine.Regions.{Bindings, class_region}
+use Rattle.rgo_sound.specs.RegionMachine.States.{NoOffer, Remove, top_names}
+use Rattle.rgo_sound.specs.RegionMachine.declared.regions.Region.{Region}
+use Rattle.rgo_sound.specs.RegionMachine.declared.regions.Region.TheVariants.{Global as GlobalRegion, Numbered}
 use Rattle.rgo_sound.proofs.Others.{main_of}
 use Rattle.rgo_sound.specs.Stakes.{is_in}
 use Rattle.rgo_stack.specs.Stacks.{Belongs, Stack, frames_of}
-use Rattle.rgo_tac.specs.declared.regions.Class.{Class}
+use Rattle.rgo_sound.specs.Tac.declared.regions.Class.{Class}
 use Rattle.rgo_body.specs.Bodies.{IsFresh, IsReady, frames_in}
 use Rattle.rgo_body.specs.Programs.{Program}
 use Rattle.rgo_body.specs.Shows.{Shows, SideShows}

@@ -1,20 +1,20 @@
 -- An instruction that is a local step.
 use Rattle.std.proofs.Common.{◌≡◌, ◌≤◌, ℕ, zero, suc, Bool, false, List, [], ◌∷◌, Some, None, refl, ap, ◌∙◌, if◌then◌else◌, length, option_and_then}
 use Rattle.std.specs.Option.{option_map}
-use Rattle.rgo_code.specs.Code.{Code, CodeInstr}
+use Rattle.rgo_sound.specs.Code.Code.{Code, CodeInstr}
 use Rattle.rgo_core.specs.Core.{Setup}
 use Rattle.rgo_core.specs.Laws.{clock_after}
 use Rattle.rgo_core.specs.Records.{Record, instructed}
-use Rattle.rgo_core_channels.specs.Records.{at_rest}
-use Rattle.rgo_core_frames.specs.Local.{local, local_by, local_frames, local_instr, local_op}
-use Rattle.rgo_core_frames.specs.Quiet.{is_exit, quiet, unless_exit}
-use Rattle.rgo_core_frames.specs.Records.{Rec as FrameRec, after_op}
-use Rattle.rgo_core_frames.specs.WordFrames.{WordFrame, bare}
+use Rattle.rgo_core.specs.Channels.Records.{at_rest}
+use Rattle.rgo_core.specs.Frames.Local.{local, local_by, local_frames, local_instr, local_op}
+use Rattle.rgo_core.specs.Frames.Quiet.{is_exit, quiet, unless_exit}
+use Rattle.rgo_core.specs.Frames.Records.{Rec as FrameRec, after_op}
+use Rattle.rgo_core.specs.Frames.WordFrames.{WordFrame, bare}
 use Rattle.rgo_core_steps.proofs.Settling.{once_is}
 use Rattle.rgo_core_steps.specs.Seats.{SettlesBy, settled_by}
-use Rattle.rgo_machine.specs.Limits.{deepest}
-use Rattle.rgo_region_machine.specs.Owed.{current}
-use Rattle.rgo_region_machine.specs.States.{Duty}
+use Rattle.rgo_sound.specs.Machine.Limits.{deepest}
+use Rattle.rgo_sound.specs.RegionMachine.Owed.{current}
+use Rattle.rgo_sound.specs.RegionMachine.States.{Duty}
 
 -- the record after the next instruction, where it is a local one
 pub local_is : (code : Code) (c : FrameRec) (w : WordFrame) (ws : List WordFrame) (instr : CodeInstr) (next : List WordFrame)

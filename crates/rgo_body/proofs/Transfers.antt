@@ -3,27 +3,27 @@ use Rattle.std.proofs.Common.{◌≡◌, ◌≤◌, arith, ◌++◌, ℕ, suc, B
 use Rattle.std.proofs.lemmas.Bool.Decides.{nat_tests}
 use Rattle.std.proofs.lemmas.List.{append-nil}
 use Rattle.std.proofs.lemmas.Option.{same_Some}
-use Rattle.rgo_code.specs.Code.{CodeInstr}
-use Rattle.rgo_code.specs.Lists.{otherwise_in, otherwise_of, removes_of}
+use Rattle.rgo_sound.specs.Code.Code.{CodeInstr}
+use Rattle.rgo_sound.specs.Code.Lists.{otherwise_in, otherwise_of, removes_of}
 use Rattle.rgo_core.specs.Core.{Setup}
 use Rattle.rgo_core.specs.Records.{Record, instructed}
 use Rattle.rgo_core_facts.proofs.ControlFrames.{all_in_code}
-use Rattle.rgo_core_frames.proofs.Bookkeeping.{bare_test}
-use Rattle.rgo_core_frames.specs.Local.{local_op}
-use Rattle.rgo_core_frames.specs.Quiet.{is_exit}
-use Rattle.rgo_core_frames.specs.Records.{Rec as FrameRec, after_op}
-use Rattle.rgo_core_frames.specs.WordFrames.{WordFrame, bare, bare_all, is_set, word_at, word_moved}
+use Rattle.rgo_core.proofs.Frames.Bookkeeping.{bare_test}
+use Rattle.rgo_core.specs.Frames.Local.{local_op}
+use Rattle.rgo_core.specs.Frames.Quiet.{is_exit}
+use Rattle.rgo_core.specs.Frames.Records.{Rec as FrameRec, after_op}
+use Rattle.rgo_core.specs.Frames.WordFrames.{WordFrame, bare, bare_all, is_set, word_at, word_moved}
 use Rattle.rgo_core_steps.specs.Seats.{SettlesBy, settled_by}
 use Rattle.rgo_holding.specs.Holds.{Holds}
-use Rattle.rgo_machine.specs.Limits.{deepest}
-use Rattle.rgo_region_machine.specs.Counts.{Counts}
-use Rattle.rgo_region_machine.specs.Owed.{current, current_in, function_of, next_duties}
-use Rattle.rgo_region_machine.specs.States.{Duty, Holder, Offer, Remove}
+use Rattle.rgo_sound.specs.Machine.Limits.{deepest}
+use Rattle.rgo_sound.specs.RegionMachine.Counts.{Counts}
+use Rattle.rgo_sound.specs.RegionMachine.Owed.{current, current_in, function_of, next_duties}
+use Rattle.rgo_sound.specs.RegionMachine.States.{Duty, Holder, Offer, Remove}
 use Rattle.rgo_stack.specs.Stacks.{Belongs, caller_place}
 use Rattle.rgo_stack.specs.declared.stacks.Place.{Place}
 use Rattle.rgo_stack.specs.Steps.{after_jump}
-use Rattle.rgo_tac.specs.Code as tac
-use Rattle.rgo_tac.specs.Ops.{operation_of}
+use Rattle.rgo_sound.specs.Tac.Code as tac
+use Rattle.rgo_sound.specs.Tac.Ops.{operation_of}
 use Rattle.rgo_body.specs.Bodies.{IsReady, frames_in}
 use Rattle.rgo_body.specs.Nexts.{IsNextAt, IsNextOf, instr_at, removes_at}
 use Rattle.rgo_body.specs.Programs.{Program}

@@ -1,10 +1,10 @@
 -- What a body owes, and what is next for it.
 use Rattle.std.specs.Prelude.{◌≡◌, ◌<◌, ◌≤◌, ◌+◌, ℕ, true, false, List, [], ◌++◌, if◌then◌else◌, length, map}
-use Rattle.rgo_code.specs.Code.{Code}
-use Rattle.rgo_core_frames.specs.WordFrames.{WordFrame, bare_all}
-use Rattle.rgo_region_machine.specs.Counts.{Counts}
-use Rattle.rgo_region_machine.specs.Owed.{next_duties}
-use Rattle.rgo_region_machine.specs.States.{Duty, Remove}
+use Rattle.rgo_sound.specs.Code.Code.{Code}
+use Rattle.rgo_core.specs.Frames.WordFrames.{WordFrame, bare_all}
+use Rattle.rgo_sound.specs.RegionMachine.Counts.{Counts}
+use Rattle.rgo_sound.specs.RegionMachine.Owed.{next_duties}
+use Rattle.rgo_sound.specs.RegionMachine.States.{Duty, Remove}
 use Rattle.rgo_sound.specs.Tally.{no_share}
 use Rattle.rgo_holding.specs.declared.holding.Holding.{Holding}
 use Rattle.rgo_stack.specs.Stacks.{Stack, frames_of}

@@ -1,17 +1,17 @@
 -- What a duty of a body does, where it needs an access and where it needs none.
 use Rattle.std.specs.List.{list_any}
 use Rattle.std.specs.Prelude.{◌≡◌, ◌+◌, ℕ, suc, Bool, true, List, ◌∷◌, Some, nat_eq}
-use Rattle.rgo_core_memory.specs.Records.{Fill}
+use Rattle.rgo_core.specs.Memory.Records.{Fill}
 use Rattle.rgo_holding.specs.Changes.{without_name}
 use Rattle.rgo_holding.specs.Holds.{Holds, region_at}
 use Rattle.rgo_holding.specs.declared.holding.Holding.{Holding}
 use Rattle.rgo_body.specs.declared.queues.Duty.{Duty as DutyOf}
 use Rattle.rgo_body.specs.declared.queues.Duty.TheVariants as duty
 use Rattle.rgo_holding.specs.declared.keys.Key.{Key}
-use Rattle.rgo_region_machine.specs.Duties.{guards}
-use Rattle.rgo_region_machine.specs.States.{Duty, Environment, Holder}
-use Rattle.rgo_region_machine.specs.declared.regions.Region.{Region}
-use Rattle.rgo_region_machine.specs.declared.regions.Region.TheVariants.{Global as GlobalRegion, Numbered}
+use Rattle.rgo_sound.specs.RegionMachine.Duties.{guards}
+use Rattle.rgo_sound.specs.RegionMachine.States.{Duty, Environment, Holder}
+use Rattle.rgo_sound.specs.RegionMachine.declared.regions.Region.{Region}
+use Rattle.rgo_sound.specs.RegionMachine.declared.regions.Region.TheVariants.{Global as GlobalRegion, Numbered}
 use Rattle.rgo_core.specs.Core.{Here, Setup}
 use Rattle.rgo_core.specs.Records.{Record}
 use Rattle.rgo_core.specs.Regions.{leaves}

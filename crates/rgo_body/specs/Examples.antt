@@ -4,21 +4,21 @@ use Rattle.std.specs.Prelude.{◌≡◌, ◌∷◌, [], List, None, Some, pos, r
 use Rattle.rgo_compact.specs.Examples.{adding, small}
 use Rattle.rgo_compact.specs.Runs.{frame_at}
 use Rattle.rgo_core.specs.Records.{Record, begins_with, looked}
-use Rattle.rgo_core_channels.specs.Records.{at_rest, offering}
-use Rattle.rgo_core_frames.specs.Opening.{no_record}
-use Rattle.rgo_core_frames.specs.WordFrames.{WordFrame}
-use Rattle.rgo_core_memory.specs.Opening.{first_record}
-use Rattle.rgo_core_memory.specs.Records.{Owes, with_give}
-use Rattle.rgo_region_machine.specs.Examples.{int_slot, main_of}
-use Rattle.rgo_region_machine.specs.States.{Environment, NoOffer, Standing}
-use Rattle.rgo_region_machine.specs.States as machine
-use Rattle.rgo_region_machine.specs.declared.regions.Region.TheVariants.{Global as GlobalRegion, Numbered}
+use Rattle.rgo_core.specs.Channels.Records.{at_rest, offering}
+use Rattle.rgo_core.specs.Frames.Opening.{no_record}
+use Rattle.rgo_core.specs.Frames.WordFrames.{WordFrame}
+use Rattle.rgo_core.specs.Memory.Opening.{first_record}
+use Rattle.rgo_core.specs.Memory.Records.{Owes, with_give}
+use Rattle.rgo_sound.specs.RegionMachine.Examples.{int_slot, main_of}
+use Rattle.rgo_sound.specs.RegionMachine.States.{Environment, NoOffer, Standing}
+use Rattle.rgo_sound.specs.RegionMachine.States as machine
+use Rattle.rgo_sound.specs.RegionMachine.declared.regions.Region.TheVariants.{Global as GlobalRegion, Numbered}
 use Rattle.rgo_sound.specs.Tally.{no_share}
-use Rattle.rgo_tac.specs.Code as tac
-use Rattle.rgo_tac.specs.declared.ops.Op.TheVariants as op
-use Rattle.rgo_tac.specs.declared.ops.Operands.TheVariants.{Zero}
-use Rattle.rgo_tac.specs.declared.regions.Class.TheVariants.{NoClass}
-use Rattle.rgo_typed.specs.declared.actions.Action.TheVariants as action
+use Rattle.rgo_sound.specs.Tac.Code as tac
+use Rattle.rgo_sound.specs.Tac.declared.ops.Op.TheVariants as op
+use Rattle.rgo_sound.specs.Tac.declared.ops.Operands.TheVariants.{Zero}
+use Rattle.rgo_sound.specs.Tac.declared.regions.Class.TheVariants.{NoClass}
+use Rattle.rgo_sound.specs.Typed.declared.actions.Action.TheVariants as action
 use Rattle.rgo_body.specs.Bodies.{CanCount}
 use Rattle.rgo_body.specs.Duties.{has_share, is_kept, without_region}
 use Rattle.rgo_body.specs.Nexts.{AreNexts, FollowsOn, HasNoNext, IsDecoded, IsDo, IsNextOf, IsReturn, removes_at, target_of}

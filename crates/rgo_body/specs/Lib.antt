@@ -1,3 +1,8 @@
+-- of the crates below, for those above
+pub use Rattle.rgo_stack.specs.Loop as Loop
+pub use Rattle.rgo_pages.specs as Pages
+pub use Rattle.rgo_stack.specs as Stack
+
 pub mod Programs
 pub mod Nexts
 pub mod Queues

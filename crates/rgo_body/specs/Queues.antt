@@ -1,6 +1,6 @@
 -- The duties that a goroutine keeps in a queue.
 use Rattle.std.specs.Prelude.{ℕ, List, map, reverse}
-use Rattle.rgo_region_machine.specs.States as machine
+use Rattle.rgo_sound.specs.RegionMachine.States as machine
 use Rattle.rgo_body.specs.declared.queues.Duty.{Duty}
 use Rattle.rgo_body.specs.declared.queues.Duty.TheVariants as duty
 use Rattle.rgo_body.specs.declared.queues.Kind.{Kind}

@@ -1,8 +1,8 @@
 -- The record of a goroutine, as its body shows it between two instructions or duties.
 use Rattle.std.specs.Prelude.{◌≡◌, ℕ, length}
-use Rattle.rgo_core_channels.specs.Records.{Free, Nowhere, Offering, Rec as SideRec, at_rest}
-use Rattle.rgo_core_memory.specs.Records.{Calm, Idle, Rec as MemoryRec, Rest}
-use Rattle.rgo_region_machine.specs.States.{NoOffer, Offer, Standing}
+use Rattle.rgo_core.specs.Channels.Records.{Free, Nowhere, Offering, Rec as SideRec, at_rest}
+use Rattle.rgo_core.specs.Memory.Records.{Calm, Idle, Rec as MemoryRec, Rest}
+use Rattle.rgo_sound.specs.RegionMachine.States.{NoOffer, Offer, Standing}
 use Rattle.rgo_core.specs.Core.{Here, Setup}
 use Rattle.rgo_core.specs.Records.{Record}
 use Rattle.rgo_holding.specs.Holds.{Holds}

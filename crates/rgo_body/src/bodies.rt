@@ -1,15 +1,15 @@
 //! The body of a goroutine, and what is read of it.
 
 ghost use Rattle.std.specs.Prelude.{◌≡◌, ◌<◌, ◌∷◌, [], ℕ, List, MatchOption, Some, length};
-ghost use Rattle.rgo_core_frames.specs.WordFrames.{WordFrame, word_at};
-ghost use Rattle.rgo_region_machine.specs.States as machine;
+ghost use Rattle.rgo_core.specs.Frames.WordFrames.{WordFrame, word_at};
+ghost use Rattle.rgo_sound.specs.RegionMachine.States as machine;
 ghost use Rattle.rgo_body.specs.Bodies as spec;
 ghost use Rattle.rgo_body.specs.Nexts.{HasNoNext, IsNextOf};
 ghost use Rattle.rgo_body.specs.Queues.{duty_of};
 ghost use Rattle.rgo_body.specs.Programs.{Program as Program_};
 ghost use Rattle.rgo_body.specs.Shows.{IsPossible};
 ghost use Rattle.rgo_holding.specs.Holds.{region_at};
-ghost use Rattle.rgo_region_machine.specs.declared.regions.Region.TheVariants.{Numbered};
+ghost use Rattle.rgo_sound.specs.RegionMachine.declared.regions.Region.TheVariants.{Numbered};
 
 use crate::counts::Counts;
 use crate::nexts::Next;

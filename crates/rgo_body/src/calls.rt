@@ -1,15 +1,15 @@
 //! Local steps of control: jumps and branches after which names are removed, and calls and returns that pass or protect regions.
 
 ghost use Rattle.std.specs.Prelude.{◌≡◌, ◌^◌, ◌+◌, ◌<◌, ◌≤◌, ◌++◌, ℕ, Err, List, MatchOption, None, OnErr, OnOk, Option, drop, false, length, map};
-ghost use Rattle.rgo_machine.specs.Limits.{deepest};
-ghost use Rattle.rgo_core_memory.specs.Records.{Fill};
+ghost use Rattle.rgo_sound.specs.Machine.Limits.{deepest};
+ghost use Rattle.rgo_core.specs.Memory.Records.{Fill};
 ghost use Rattle.rgo_holding.specs.Holds.{Holds};
-ghost use Rattle.rgo_region_machine.specs.States.{EndBase, Holder};
+ghost use Rattle.rgo_sound.specs.RegionMachine.States.{EndBase, Holder};
 ghost use Rattle.rgo_stack.specs.Places.{CanJump};
 ghost use Rattle.rgo_stack.specs.Stacks.{caller_place};
 ghost use Rattle.rgo_stack.specs.declared.calls.NoCall.TheVariants.{TooDeep};
-ghost use Rattle.rgo_tac.specs.Code as tac;
-ghost use Rattle.rgo_tac.specs.Ops.{operation_of};
+ghost use Rattle.rgo_sound.specs.Tac.Code as tac;
+ghost use Rattle.rgo_sound.specs.Tac.Ops.{operation_of};
 ghost use Rattle.rgo_body.specs.Bodies.{IsReady, frames_in};
 ghost use Rattle.rgo_body.specs.Nexts.{IsNextOf};
 ghost use Rattle.rgo_body.specs.Shows.{IsPossible};

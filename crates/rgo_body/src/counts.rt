@@ -22,7 +22,7 @@ pub struct Counts {
 }
 
 impl Model for Counts {
-    ghost use Rattle.rgo_region_machine.specs.Counts as spec;
+    ghost use Rattle.rgo_sound.specs.RegionMachine.Counts as spec;
 
     ghost Value = { spec.Counts };
 

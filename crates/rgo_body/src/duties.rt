@@ -1,8 +1,8 @@
 //! What a goroutine owes around its instructions.
 
 ghost use Rattle.std.specs.Prelude.{◌≡◌, ◌++◌, Some, map, slice_get, ◌^◌, ◌+◌, ◌<◌, ◌∷◌, [], ℕ, List, MatchOption, OnErr, OnOk, false, true};
-ghost use Rattle.rgo_code.specs.Code.{CodeInstr};
-ghost use Rattle.rgo_code.specs.Erasure.{erased_op};
+ghost use Rattle.rgo_sound.specs.Code.Code.{CodeInstr};
+ghost use Rattle.rgo_sound.specs.Code.Erasure.{erased_op};
 ghost use Rattle.rgo_core.specs.Core.{Here, Setup};
 ghost use Rattle.rgo_core.specs.Records.{Record};
 ghost use Rattle.rgo_core_steps.specs.Counts.{IsSharing, created, shared};
@@ -10,14 +10,14 @@ ghost use Rattle.rgo_holding.specs.Holds.{region_at};
 ghost use Rattle.rgo_holding.specs.Known.{slot_of};
 ghost use Rattle.rgo_holding.specs.Changes.{HasRoom, SameRegions};
 ghost use Rattle.rgo_pages.specs.Claiming.{has_claimed};
-ghost use Rattle.rgo_region_machine.specs.Owed.{duties_of_op};
-ghost use Rattle.rgo_region_machine.specs.States as machine;
-ghost use Rattle.rgo_core_memory.specs.Records.{Fill};
+ghost use Rattle.rgo_sound.specs.RegionMachine.Owed.{duties_of_op};
+ghost use Rattle.rgo_sound.specs.RegionMachine.States as machine;
+ghost use Rattle.rgo_core.specs.Memory.Records.{Fill};
 ghost use Rattle.rgo_holding.specs.Holds.{Holds};
-ghost use Rattle.rgo_region_machine.specs.declared.regions.Region.{Region as Region_};
-ghost use Rattle.rgo_region_machine.specs.declared.regions.Region.TheVariants.{Numbered};
+ghost use Rattle.rgo_sound.specs.RegionMachine.declared.regions.Region.{Region as Region_};
+ghost use Rattle.rgo_sound.specs.RegionMachine.declared.regions.Region.TheVariants.{Numbered};
 ghost use Rattle.rgo_sound.specs.Stakes.{is_in};
-ghost use Rattle.rgo_tac.specs.Ops.{operation_of};
+ghost use Rattle.rgo_sound.specs.Tac.Ops.{operation_of};
 ghost use Rattle.rgo_body.specs.Bodies.{CanCount, frames_in};
 ghost use Rattle.rgo_body.specs.Duties as spec;
 ghost use Rattle.rgo_body.specs.Nexts.{IsNextOf};
@@ -31,8 +31,8 @@ use crate::nexts::Next;
 use crate::programs::Program;
 use crate::queues::{Duty, Kind, Queue};
 use rgo_holding::{Holding, Key};
-use rgo_region_machine::Region;
-use rgo_tac::Op;
+use rgo_sound::region_machine::Region;
+use rgo_sound::tac::Op;
 use std::alloc::AllocError;
 
 /// Whether a goroutine needs no stake in a region for a coming child: it has taken one, or the region is Global.

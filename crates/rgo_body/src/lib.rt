@@ -28,3 +28,7 @@ pub use nexts::Next;
 pub use programs::Program;
 pub use queues::Duty;
 pub use rgo_stack::NoCall;
+
+// The crates below that those above name too.
+pub use rgo_stack::looping as looping;
+pub use rgo_pages as pages;

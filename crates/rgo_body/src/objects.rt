@@ -2,14 +2,14 @@
 
 ghost use Rattle.std.specs.Option.{option_map};
 ghost use Rattle.std.specs.Prelude.{◌≡◌, Some};
-ghost use Rattle.rgo_code.specs.Names.{class_of};
+ghost use Rattle.rgo_sound.specs.Code.Names.{class_of};
 ghost use Rattle.rgo_core.specs.Core.{Setup};
 ghost use Rattle.rgo_core.specs.Records.{Record};
 ghost use Rattle.rgo_holding.specs.Holds.{region_at};
 ghost use Rattle.rgo_holding.specs.Known.{own_page, page_of, slot_of};
-ghost use Rattle.rgo_region_machine.specs.Regions.{class_region};
-ghost use Rattle.rgo_region_machine.specs.States.{top_names};
-ghost use Rattle.rgo_region_machine.specs.declared.regions.Region.{Region};
+ghost use Rattle.rgo_sound.specs.RegionMachine.Regions.{class_region};
+ghost use Rattle.rgo_sound.specs.RegionMachine.States.{top_names};
+ghost use Rattle.rgo_sound.specs.RegionMachine.declared.regions.Region.{Region};
 ghost use Rattle.rgo_body.specs.Programs.{Program};
 ghost use Rattle.rgo_body.specs.Shows.{Shows};
 

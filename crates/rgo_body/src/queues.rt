@@ -1,12 +1,12 @@
 //! What a goroutine owes, in the order in which it is done.
 
 ghost use Rattle.std.specs.Prelude.{◌≡◌, ◌≤◌, ◌+◌, ◌++◌, ◌∷◌, [], List, MatchOption, OnOk, length, map};
-ghost use Rattle.rgo_region_machine.specs.Owed.{regions_named};
-ghost use Rattle.rgo_region_machine.specs.States as machine;
+ghost use Rattle.rgo_sound.specs.RegionMachine.Owed.{regions_named};
+ghost use Rattle.rgo_sound.specs.RegionMachine.States as machine;
 ghost use Rattle.rgo_body.specs.Queues as spec;
 
-use rgo_region_machine::Region;
-use rgo_tac::Class;
+use rgo_sound::region_machine::Region;
+use rgo_sound::tac::Class;
 use std::alloc::{AllocError, Global};
 use std::marker::Model;
 

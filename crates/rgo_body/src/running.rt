@@ -2,16 +2,16 @@
 
 ghost use Rattle.std.specs.Prelude.{◌≡◌, ◌^◌, ◌+◌, ◌<◌, ◌≤◌, ◌∷◌, [], ℕ, List, Option, Some, OnErr, OnOk, false, length};
 ghost use Rattle.rgo_core.specs.Core as core;
-ghost use Rattle.rgo_core_frames.specs.Operators.{computed};
-ghost use Rattle.rgo_core_frames.specs.WordFrames.{WordFrame, words_of};
-ghost use Rattle.rgo_core_rule.specs.Views.{number_of};
+ghost use Rattle.rgo_core.specs.Frames.Operators.{computed};
+ghost use Rattle.rgo_core.specs.Frames.WordFrames.{WordFrame, words_of};
+ghost use Rattle.rgo_core.specs.Rule.Views.{number_of};
 ghost use Rattle.rgo_core_steps.specs.Seats.{HasOne, Settles, settled};
-ghost use Rattle.rgo_loop.specs.Comes.{Comes};
+ghost use Rattle.rgo_stack.specs.Loop.Comes.{Comes};
 ghost use Rattle.rgo_stack.specs.Runs.{HasHalted};
 ghost use Rattle.rgo_stack.specs.Stacks.{newest_words, words_from};
-ghost use Rattle.rgo_tac.specs.Code as tac;
-ghost use Rattle.rgo_tac.specs.Ops.{numbers_of, operation_of};
-ghost use Rattle.rgo_typed.specs.declared.actions.Action.{Action};
+ghost use Rattle.rgo_sound.specs.Tac.Code as tac;
+ghost use Rattle.rgo_sound.specs.Tac.Ops.{numbers_of, operation_of};
+ghost use Rattle.rgo_sound.specs.Typed.declared.actions.Action.{Action};
 ghost use Rattle.rgo_compact.specs.Bounds.{AreBelow};
 ghost use Rattle.rgo_body.specs.Bodies.{HasRoomBehind, IsReady, frames_in};
 ghost use Rattle.rgo_body.specs.Shows.{IsPossible, Shows};
@@ -22,11 +22,11 @@ use crate::bodies::Body;
 use crate::nexts::Next;
 use crate::programs::Program;
 use rgo_core::table::RunSeat;
-use rgo_core_frames::words::{binary, negated};
-use rgo_loop::Heap;
+use rgo_core::frames::words::{binary, negated};
+use rgo_stack::looping::Heap;
 use rgo_stack::Ran;
-use rgo_tac::Operands;
-use rgo_typed::Action;
+use rgo_sound::tac::Operands;
+use rgo_sound::typed::Action;
 
 impl Body {
     /// Makes instructions that need at most an access to a word, at most `at_most`. It stops before that only where the goroutine has no

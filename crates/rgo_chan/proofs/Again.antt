@@ -1,8 +1,8 @@
 -- What a goroutine may do after each answer.
 use Rattle.std.proofs.Common.{◌≡◌, ℕ, List, [], ◌∷◌, ap, ◌∙◌, ⊎_elim}
-use Rattle.rgo_core_channels.specs.Records.{Free, Rec as SideRec, Shut, with_look, with_own_look, with_size}
-use Rattle.rgo_core_rule.specs.Views.{Me}
-use Rattle.rgo_core_rule.specs.declared.accesses.Access.{Access}
+use Rattle.rgo_core.specs.Channels.Records.{Free, Rec as SideRec, Shut, with_look, with_own_look, with_size}
+use Rattle.rgo_core.specs.Rule.Views.{Me}
+use Rattle.rgo_core.specs.Rule.declared.accesses.Access.{Access}
 use Rattle.rgo_core.specs.Core.{Setup}
 use Rattle.rgo_core.specs.Records.{Record}
 use Rattle.rgo_core_steps.specs.Calls.{Did, waited}

@@ -1,10 +1,10 @@
 -- The answers, from what the accesses have left.
 use Rattle.std.proofs.Common.{◌≡◌, ◌≢◌, ℕ, ◌+◌, ◌-◌, ◌%◌, ◌==◌, [], ◌∷◌, ◌++◌, refl, ap, subst, ◌∙◌, inl, inr}
 use prog.Atomic.{either}
-use Rattle.rgo_core_channels.specs.Controls.{closed_of, control, count_of, head_of}
-use Rattle.rgo_core_channels.specs.Records.{Free, Locked, Rec as SideRec, with_hold, with_lock, with_size}
-use Rattle.rgo_core_rule.specs.Views.{Me}
-use Rattle.rgo_core_rule.specs.declared.accesses.Kind.TheVariants.{Commit, LockChannel}
+use Rattle.rgo_core.specs.Channels.Controls.{closed_of, control, count_of, head_of}
+use Rattle.rgo_core.specs.Channels.Records.{Free, Locked, Rec as SideRec, with_hold, with_lock, with_size}
+use Rattle.rgo_core.specs.Rule.Views.{Me}
+use Rattle.rgo_core.specs.Rule.declared.accesses.Kind.TheVariants.{Commit, LockChannel}
 use Rattle.rgo_core.specs.AtChannels.{knows}
 use Rattle.rgo_core.specs.Bounds.{Points}
 use Rattle.rgo_core.specs.CommitMoves.{offers}

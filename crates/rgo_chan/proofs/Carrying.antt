@@ -1,12 +1,12 @@
 -- A goroutine stays before its operation while only its clock and what it knows of channels change.
 use Rattle.std.proofs.Common.{◌≡◌, ◌≢◌, ◌-◌, ◌+◌, ℕ, suc, List, [], ◌∷◌, Option, refl, ap, sym, ◌∙◌, inl, inr, arith}
-use Rattle.rgo_code.specs.Code.{Code, CodeOp}
-use Rattle.rgo_core_channels.specs.Records.{Rec as SideRec}
-use Rattle.rgo_core_frames.specs.Records.{Rec as FrameRec}
-use Rattle.rgo_core_memory.specs.Words.{base as base_of}
-use Rattle.rgo_typed.specs.declared.actions.Action.TheVariants.{Close, Recv, Send}
-use Rattle.rgo_typed.specs.declared.actions.Action.{Action}
-use Rattle.rgo_wellformed.specs.TypeRules.{int}
+use Rattle.rgo_sound.specs.Code.Code.{Code, CodeOp}
+use Rattle.rgo_core.specs.Channels.Records.{Rec as SideRec}
+use Rattle.rgo_core.specs.Frames.Records.{Rec as FrameRec}
+use Rattle.rgo_core.specs.Memory.Words.{base as base_of}
+use Rattle.rgo_sound.specs.Typed.declared.actions.Action.TheVariants.{Close, Recv, Send}
+use Rattle.rgo_sound.specs.Typed.declared.actions.Action.{Action}
+use Rattle.rgo_sound.specs.WellFormed.TypeRules.{int}
 use Rattle.std.specs.Option.{option_map_or}
 use Rattle.rgo_core.specs.Bounds.{target_type}
 use Rattle.rgo_core.specs.AtChannels.{IsAtChannel, Operates}

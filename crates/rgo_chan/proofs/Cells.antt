@@ -1,8 +1,8 @@
 -- Cells that hold nothing.
 use Rattle.std.proofs.Common.{◌≡◌, ℕ, zero, suc, ◌+◌, ◌*◌, ◌/◌, ◌%◌, ◌<◌, ◌≤◌, ◌⊎◌, ap, ◌∙◌, inl, inr, ⊎_elim, arith}
 use Rattle.std.proofs.Math.Nat.{div-add-mod, mod-lt, mul-le-mul_left, mul-suc}
-use Rattle.rgo_core_channels.specs.Controls.{count_of, head_of}
-use Rattle.rgo_core_channels.specs.Locking.{IsSpare}
+use Rattle.rgo_core.specs.Channels.Controls.{count_of, head_of}
+use Rattle.rgo_core.specs.Channels.Locking.{IsSpare}
 
 either_way : (p q : ℕ) → (q ≤ p) ⊎ (suc p ≤ q)
 either_way p zero = inl (omega arith)

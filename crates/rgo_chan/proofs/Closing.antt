@@ -1,10 +1,10 @@
 -- The answers of closes and acknowledgements, from what the accesses have left.
 use Rattle.std.proofs.Common.{◌≡◌, ◌≢◌, ℕ, ◌+◌, ◌-◌, ◌==◌, [], ◌∷◌, ap, ◌∙◌, ⊎_elim}
 use prog.Atomic.{either}
-use Rattle.rgo_core_channels.specs.Controls.{count_of}
-use Rattle.rgo_core_channels.specs.Records.{Locked, Offering, Rec as SideRec, with_hold, with_lock}
-use Rattle.rgo_core_rule.specs.Views.{Me}
-use Rattle.rgo_core_rule.specs.declared.accesses.Kind.TheVariants.{Commit, LoadControl, LockChannel}
+use Rattle.rgo_core.specs.Channels.Controls.{count_of}
+use Rattle.rgo_core.specs.Channels.Records.{Locked, Offering, Rec as SideRec, with_hold, with_lock}
+use Rattle.rgo_core.specs.Rule.Views.{Me}
+use Rattle.rgo_core.specs.Rule.declared.accesses.Kind.TheVariants.{Commit, LoadControl, LockChannel}
 use Rattle.rgo_core.specs.AtChannels.{knows}
 use Rattle.rgo_core.specs.CommitMoves.{IsAtSend}
 use Rattle.rgo_core.specs.Core.{Setup}

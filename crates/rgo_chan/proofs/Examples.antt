@@ -1,24 +1,24 @@
 -- The examples, by computation.
 use Rattle.std.proofs.Common.{◌≡◌, ◌<◌, ◌+◌, ℕ, List, [], ◌∷◌, ◌++◌, Option, None, refl, ap, sym, subst, ◌∙◌, inl, inr, ⊎_elim, arith}
 use Rattle.std.proofs.lemmas.Option.{same_Some}
-use Rattle.rgo_code.specs.Code.{CodeInstr, CodeOp, Do}
+use Rattle.rgo_sound.specs.Code.Code.{CodeInstr, CodeOp, Do}
 use Rattle.rgo_core.specs.ChannelExamples.{sending}
 use Rattle.rgo_core.specs.Core.{Setup, layout}
 use Rattle.rgo_core.specs.Next.{IsAt}
 use Rattle.rgo_core.specs.Records.{Record}
-use Rattle.rgo_core_channels.specs.Records.{Rec as SideRec, at_rest, offering, with_look, with_own_look}
-use Rattle.rgo_core_frames.specs.WordFrames.{WordFrame, bare, word_at}
-use Rattle.rgo_core_rule.specs.declared.accesses.Access.{Access}
+use Rattle.rgo_core.specs.Channels.Records.{Rec as SideRec, at_rest, offering, with_look, with_own_look}
+use Rattle.rgo_core.specs.Frames.WordFrames.{WordFrame, bare, word_at}
+use Rattle.rgo_core.specs.Rule.declared.accesses.Access.{Access}
 use Rattle.rgo_core_steps.specs.Calls.{Did, waited}
 use Rattle.rgo_core_steps.specs.Grown.{own_by}
-use Rattle.rgo_machine.specs.declared.limits.Limits.{Limits}
-use Rattle.rgo_machine.specs.declared.limits.Sizes.{Sizes}
-use Rattle.rgo_region_machine.specs.Examples.{int_slot, main_of, plain}
-use Rattle.rgo_region_machine.specs.Owed.{current}
-use Rattle.rgo_typed.specs.declared.actions.Action.TheVariants.{Recv, Send}
+use Rattle.rgo_sound.specs.Machine.declared.limits.Limits.{Limits}
+use Rattle.rgo_sound.specs.Machine.declared.limits.Sizes.{Sizes}
+use Rattle.rgo_sound.specs.RegionMachine.Examples.{int_slot, main_of, plain}
+use Rattle.rgo_sound.specs.RegionMachine.Owed.{current}
+use Rattle.rgo_sound.specs.Typed.declared.actions.Action.TheVariants.{Recv, Send}
 use Rattle.rgo_chan.specs.Answers.{Acknowledges, Closes, Sends, loads_capacity, loads_control, looked, looks}
 use Rattle.rgo_chan.specs.Before.{IsBeforeReceive, IsBeforeSend, SendsAt}
-use Rattle.rgo_core_memory.specs.Words.{base}
+use Rattle.rgo_core.specs.Memory.Words.{base}
 use Rattle.rgo_chan.specs.Ready.{IsClosed, IsFull, IsOffered}
 use Rattle.rgo_chan.specs.Examples.{AnswerExamples, ReadyExamples, before, first_seat, loaded_seat, looked_seat, on_nil, with_offer}
 use Rattle.rgo_chan.specs.declared.answers.Tried.TheVariants.{Busy, Done, NotReady, Trap}

@@ -2,11 +2,11 @@
 use Rattle.std.proofs.Common.{◌≡◌, ◌≢◌, ℕ, suc, ◌+◌, ◌==◌, ◌&&◌, Bool, true, false, if◌then◌else◌, [], ◌∷◌, refl, ap, sym, subst, ◌∙◌, arith}
 use Rattle.std.proofs.lemmas.Bool.Decides.{nat_tests}
 use prog.Atomic.{either}
-use Rattle.rgo_core_channels.specs.Controls.{closed_of, count_of}
-use Rattle.rgo_core_channels.specs.Records.{Locked, Rec as SideRec, Shut, Stranded, with_hold, with_lock, with_look, with_own_look, with_size}
-use Rattle.rgo_core_rule.specs.Histories.{access}
-use Rattle.rgo_core_rule.specs.Views.{Me, number_of}
-use Rattle.rgo_core_rule.specs.declared.accesses.Kind.TheVariants.{Load, LoadControl, LockChannel}
+use Rattle.rgo_core.specs.Channels.Controls.{closed_of, count_of}
+use Rattle.rgo_core.specs.Channels.Records.{Locked, Rec as SideRec, Shut, Stranded, with_hold, with_lock, with_look, with_own_look, with_size}
+use Rattle.rgo_core.specs.Rule.Histories.{access}
+use Rattle.rgo_core.specs.Rule.Views.{Me, number_of}
+use Rattle.rgo_core.specs.Rule.declared.accesses.Kind.TheVariants.{Load, LoadControl, LockChannel}
 use Rattle.rgo_core.specs.AtChannels.{knows}
 use Rattle.rgo_core.specs.Core.{Setup}
 use Rattle.rgo_core.specs.Records.{Record, accesses}

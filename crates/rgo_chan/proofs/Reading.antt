@@ -1,6 +1,6 @@
 -- What tests of a control say.
 use Rattle.std.proofs.Common.{◌≡◌, ◌≢◌, ◌⊎◌, ◌%◌, ℕ, Bool, true, false, refl, ap, sym, ◌∙◌, ⊎_elim, arith}
-use Rattle.rgo_core_channels.specs.Controls.{bit, closed_of}
+use Rattle.rgo_core.specs.Channels.Controls.{bit, closed_of}
 use Rattle.rgo_chan.specs.Ready.{HasNoOffer, HasOffer, HasRoom, HasValue, IsClosed, IsDrained, IsOpen, IsUnlocked}
 
 module _ (b : Bool) (n : ℕ) where

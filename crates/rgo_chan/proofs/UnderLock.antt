@@ -1,9 +1,9 @@
 -- What is done under the lock: a cell is loaded or stored, and the operation takes effect.
 use Rattle.std.proofs.Common.{◌≡◌, ℕ, ◌+◌, ◌-◌, ◌%◌, ◌<◌, [], ◌∷◌, refl, ap, sym, subst, ◌∙◌}
-use Rattle.rgo_core_channels.specs.Controls.{closed_of, control, count_of, extent, head_of}
-use Rattle.rgo_core_channels.specs.Records.{Read, Rec as SideRec, Wrote, with_hold}
-use Rattle.rgo_core_rule.specs.Views.{Me}
-use Rattle.rgo_core_rule.specs.declared.accesses.Kind.TheVariants.{Commit, LoadCell, StoreCell}
+use Rattle.rgo_core.specs.Channels.Controls.{closed_of, control, count_of, extent, head_of}
+use Rattle.rgo_core.specs.Channels.Records.{Read, Rec as SideRec, Wrote, with_hold}
+use Rattle.rgo_core.specs.Rule.Views.{Me}
+use Rattle.rgo_core.specs.Rule.declared.accesses.Kind.TheVariants.{Commit, LoadCell, StoreCell}
 use Rattle.rgo_core.specs.AtChannels.{knows}
 use Rattle.rgo_core.specs.Bounds.{Points}
 use Rattle.rgo_core.specs.CommitMoves.{offers}
@@ -31,7 +31,7 @@ module _ (T : Setup) (at size n : ℕ) where
     size = size;
     locked = held.0;
     sized = held.1;
-    spare = subst (λ i. Rattle.rgo_core_channels.specs.Locking.IsSpare n size i) (sym is) (next_spare n size room.1);
+    spare = subst (λ i. Rattle.rgo_core.specs.Channels.Locking.IsSpare n size i) (sym is) (next_spare n size room.1);
   }
 
   pub can_load : (c : Record) (cell : ℕ) → Holds at size n c.side → cell < extent size → CanLoadCell c at cell

@@ -1,25 +1,25 @@
 -- Why a goroutine is blocked, by what its operation found.
 use Rattle.std.proofs.Common.{◌≡◌, ◌≢◌, ℕ, ◌+◌, ◌%◌, ◌<◌, ◌≤◌, List, ◌∷◌, Option, Some, map, slice_get, slice_index, refl, ap, sym, subst, ◌∙◌, inl, inr, ⊎_elim, arith, Contains}
-use Rattle.rgo_code.specs.Code.{CodeOp, Do}
-use Rattle.rgo_code.specs.Erasure.{erased_fn, erased_op}
-use Rattle.rgo_code.specs.Types.{HasType}
-use Rattle.rgo_memory.specs.declared.values.Value.TheVariants as value
-use Rattle.rgo_memory.specs.declared.values.Value.{Value}
-use Rattle.rgo_tac.specs.Flow.{reads}
-use Rattle.rgo_tac.specs.Frames.{value_at, values_of}
-use Rattle.rgo_typed.specs.declared.actions.Action.{Action}
-use Rattle.rgo_typed.specs.declared.types.Type.{«Type»}
-use Rattle.rgo_wellformed.specs.TypeRules.{chan_of}
-use Rattle.rgo_core_channels.proofs.Live.{first_type}
-use Rattle.rgo_core_channels.proofs.Locks.{shown}
-use Rattle.rgo_core_channels.specs.Channels.{phase_number}
-use Rattle.rgo_core_channels.specs.Controls.{closed_of, count_of}
-use Rattle.rgo_core_channels.specs.Deadlock as why
-use Rattle.rgo_core_channels.specs.Deadlock.{Blocked, capacity_at, control_at}
-use Rattle.rgo_core_channels.specs.Standing.{IsOfChannel}
-use Rattle.rgo_core_frames.proofs.Operands.{pointer_law}
-use Rattle.rgo_core_frames.specs.WordFrames.{word_at}
-use Rattle.rgo_core_memory.specs.Accesses.{Before}
+use Rattle.rgo_sound.specs.Code.Code.{CodeOp, Do}
+use Rattle.rgo_sound.specs.Code.Erasure.{erased_fn, erased_op}
+use Rattle.rgo_sound.specs.Code.Types.{HasType}
+use Rattle.rgo_sound.specs.Memory.declared.values.Value.TheVariants as value
+use Rattle.rgo_sound.specs.Memory.declared.values.Value.{Value}
+use Rattle.rgo_sound.specs.Tac.Flow.{reads}
+use Rattle.rgo_sound.specs.Tac.Frames.{value_at, values_of}
+use Rattle.rgo_sound.specs.Typed.declared.actions.Action.{Action}
+use Rattle.rgo_sound.specs.Typed.declared.types.Type.{«Type»}
+use Rattle.rgo_sound.specs.WellFormed.TypeRules.{chan_of}
+use Rattle.rgo_core.proofs.Channels.Live.{first_type}
+use Rattle.rgo_core.proofs.Channels.Locks.{shown}
+use Rattle.rgo_core.specs.Channels.Channels.{phase_number}
+use Rattle.rgo_core.specs.Channels.Controls.{closed_of, count_of}
+use Rattle.rgo_core.specs.Channels.Deadlock as why
+use Rattle.rgo_core.specs.Channels.Deadlock.{Blocked, capacity_at, control_at}
+use Rattle.rgo_core.specs.Channels.Standing.{IsOfChannel}
+use Rattle.rgo_core.proofs.Frames.Operands.{pointer_law}
+use Rattle.rgo_core.specs.Frames.WordFrames.{word_at}
+use Rattle.rgo_core.specs.Memory.Accesses.{Before}
 use Rattle.rgo_sound.proofs.Places.{contains_here}
 use Rattle.rgo_core.proofs.AtChannels.{at_channel, calm, live, next, object, place_is}
 use Rattle.rgo_core.proofs.Operands.{before, rule}

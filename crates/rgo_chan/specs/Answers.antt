@@ -1,15 +1,15 @@
 -- What each operation on a channel answers, which accesses its goroutine has made for that, and what its record is then. `c` is the
 -- record before them; m and w are what the seat knew before and knows after; s and t are the numbers of counted accesses.
 use Rattle.std.specs.Prelude.{◌≡◌, ◌≢◌, ◌⊎◌, ◌+◌, ◌-◌, ◌%◌, ◌<◌, ◌≤◌, ℕ, List, [], ◌∷◌, ◌++◌}
-use Rattle.rgo_core_channels.specs.Controls.{closed_of, control, count_of, extent, head_of}
-use Rattle.rgo_core_channels.specs.Records.{Locked, Rec as SideRec, Sized, with_look, with_own_look, with_size}
-use Rattle.rgo_core_rule.specs.Histories.{access}
-use Rattle.rgo_core_rule.specs.Views.{Me}
-use Rattle.rgo_core_rule.specs.declared.accesses.Access.{Access}
-use Rattle.rgo_core_rule.specs.declared.accesses.Kind.TheVariants.{Commit, Load, LoadCell, LoadControl, LockChannel, StoreCell}
+use Rattle.rgo_core.specs.Channels.Controls.{closed_of, control, count_of, extent, head_of}
+use Rattle.rgo_core.specs.Channels.Records.{Locked, Rec as SideRec, Sized, with_look, with_own_look, with_size}
+use Rattle.rgo_core.specs.Rule.Histories.{access}
+use Rattle.rgo_core.specs.Rule.Views.{Me}
+use Rattle.rgo_core.specs.Rule.declared.accesses.Access.{Access}
+use Rattle.rgo_core.specs.Rule.declared.accesses.Kind.TheVariants.{Commit, Load, LoadCell, LoadControl, LockChannel, StoreCell}
 use Rattle.rgo_core.specs.Bounds.{Points}
 use Rattle.rgo_core.specs.CommitMoves.{offers}
-use Rattle.rgo_core_memory.specs.Words.{all_words}
+use Rattle.rgo_core.specs.Memory.Words.{all_words}
 use Rattle.rgo_core.specs.Core.{Setup, layout}
 use Rattle.rgo_core.specs.Records.{Record}
 use Rattle.rgo_core_steps.specs.Accesses.{given_type}

@@ -1,10 +1,10 @@
 -- What the record of a goroutine says before an operation on a channel. `channel` is the word of the channel in the frame, which may be
 -- nil; `base` is the word of the table that has address 0.
 use Rattle.std.specs.Prelude.{◌≡◌, ◌≢◌, ◌+◌, ◌-◌, ◌≤◌, ℕ, List, [], ◌∷◌, Option}
-use Rattle.rgo_code.specs.Code.{Do}
-use Rattle.rgo_core_frames.specs.WordFrames.{word_at}
-use Rattle.rgo_core_memory.specs.Words.{all_words}
-use Rattle.rgo_typed.specs.declared.actions.Action.TheVariants.{Close, Recv, Send}
+use Rattle.rgo_sound.specs.Code.Code.{Do}
+use Rattle.rgo_core.specs.Frames.WordFrames.{word_at}
+use Rattle.rgo_core.specs.Memory.Words.{all_words}
+use Rattle.rgo_sound.specs.Typed.declared.actions.Action.TheVariants.{Close, Recv, Send}
 use Rattle.rgo_core.specs.AtChannels.{Operates}
 use Rattle.rgo_core.specs.Core.{Setup, layout}
 use Rattle.rgo_core.specs.Next.{IsAt}

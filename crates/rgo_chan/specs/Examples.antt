@@ -3,12 +3,12 @@ use Rattle.std.specs.Prelude.{◌+◌, ℕ, [], ◌∷◌}
 use Rattle.rgo_core.specs.ChannelExamples.{sending, with_words}
 use Rattle.rgo_core.specs.Core.{Setup, layout}
 use Rattle.rgo_core.specs.Records.{Record}
-use Rattle.rgo_core_channels.specs.Records.{Rec as SideRec, at_rest, offering, with_look, with_own_look}
-use Rattle.rgo_core_memory.specs.Words.{base}
-use Rattle.rgo_core_rule.specs.Views.{Me, view}
+use Rattle.rgo_core.specs.Channels.Records.{Rec as SideRec, at_rest, offering, with_look, with_own_look}
+use Rattle.rgo_core.specs.Memory.Words.{base}
+use Rattle.rgo_core.specs.Rule.Views.{Me, view}
 use Rattle.rgo_core_steps.specs.Calls.{waited}
-use Rattle.rgo_machine.specs.declared.limits.Limits.{Limits}
-use Rattle.rgo_machine.specs.declared.limits.Sizes.{Sizes}
+use Rattle.rgo_sound.specs.Machine.declared.limits.Limits.{Limits}
+use Rattle.rgo_sound.specs.Machine.declared.limits.Sizes.{Sizes}
 use Rattle.rgo_chan.specs.Answers.{Acknowledges, Closes, Receives, Sends, loads_control, looked, looks}
 use Rattle.rgo_chan.specs.Before.{IsBeforeReceive, IsBeforeSend, LiesIn, SendsAt}
 use Rattle.rgo_chan.specs.Ready.{HasNoOffer, HasOffer, HasRoom, HasValue, IsClosed, IsDrained, IsEmpty, IsFull, IsOpen, IsUnlocked}

@@ -1,6 +1,6 @@
 -- Whether an operation on a channel can take effect, by its capacity and its control.
 use Rattle.std.specs.Prelude.{◌≡◌, ◌≢◌, ◌⊎◌, ◌%◌, ◌<◌, ◌≤◌, ℕ}
-use Rattle.rgo_core_channels.specs.Controls.{closed_of, count_of}
+use Rattle.rgo_core.specs.Channels.Controls.{closed_of, count_of}
 
 abbrev pub IsUnlocked : (control : ℕ) → Type 0
 IsUnlocked n = n % 2 ≡ 0

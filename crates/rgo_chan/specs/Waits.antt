@@ -1,8 +1,8 @@
 -- What follows from the answers: why a goroutine is blocked, at a moment at which the words are what it found; and what it may do next.
 use Rattle.std.specs.Prelude.{◌≡◌, ◌+◌, ◌%◌, ℕ, slice_index}
-use Rattle.rgo_core_channels.specs.Deadlock.{Blocked}
-use Rattle.rgo_core_channels.specs.Records.{Free, Offering, Shut, Stranded}
-use Rattle.rgo_core_rule.specs.Views.{Me}
+use Rattle.rgo_core.specs.Channels.Deadlock.{Blocked}
+use Rattle.rgo_core.specs.Channels.Records.{Free, Offering, Shut, Stranded}
+use Rattle.rgo_core.specs.Rule.Views.{Me}
 use Rattle.rgo_core.specs.Moments.{moment}
 use Rattle.rgo_core.specs.AtChannels.{IsAtChannel}
 use Rattle.rgo_core.specs.CommitMoves.{IsAtSend}

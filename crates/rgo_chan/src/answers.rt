@@ -2,7 +2,7 @@
 ghost use Rattle.std.specs.Prelude.{◌≡◌, ◌⊎◌, true, false};
 ghost use Rattle.rgo_chan.specs.Ready.{HasNoOffer, HasOffer, HasRoom, HasValue, IsDrained, IsEmpty, IsFull, IsOpen};
 
-use rgo_core_channels::controls::{count, is_closed};
+use rgo_core::channels::controls::{count, is_closed};
 
 /// What a try at an operation on a channel came to.
 #[derive(Clone, Copy, Debug, PartialEq, Eq)]

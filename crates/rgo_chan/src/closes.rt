@@ -6,14 +6,14 @@ ghost use Rattle.rgo_chan.specs.declared.answers.Tried.TheVariants.{Trap};
 ghost use Rattle.rgo_core.specs.CommitMoves.{IsAtSend};
 ghost use Rattle.rgo_core.specs.Core.{layout};
 ghost use Rattle.rgo_core.specs.Plans.{setup_of};
-ghost use Rattle.rgo_core_channels.specs.Records.{Free, Offering};
-ghost use Rattle.rgo_core_memory.specs.Words.{all_words, base as base_of};
+ghost use Rattle.rgo_core.specs.Channels.Records.{Free, Offering};
+ghost use Rattle.rgo_core.specs.Memory.Words.{all_words, base as base_of};
 ghost use Rattle.rgo_core_steps.specs.Calls.{IsSeatIn};
 ghost use Rattle.rgo_core_steps.specs.Seats.{HasOne, HasPossible, Settles, mine, settled};
 
 use crate::answers::Tried;
 use rgo_core::table::{RunSeat, RunTable};
-use rgo_core_channels::controls::{count, is_closed, is_locked};
+use rgo_core::channels::controls::{count, is_closed, is_locked};
 use rgo_core_steps::channels::{commit_acknowledge, commit_close, control, lock, own_control};
 use rgo_core_steps::counting::Steps;
 use std::sync::ledger::Ledger;

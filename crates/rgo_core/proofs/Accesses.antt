@@ -3,32 +3,32 @@ use Rattle.std.proofs.Common.{◌≡◌, ◌≢◌, inl, ⊎_elim, ℕ, suc, ◌
 use Rattle.std.proofs.Math.ListN.{length-set}
 use Rattle.std.proofs.lemmas.List.{get_or-set_other}
 use Rattle.std.proofs.lemmas.Option.{same_Some}
-use Rattle.rgo_code.specs.Code.{Do}
-use Rattle.rgo_code.specs.Erasure.{erased, erased_fn}
-use Rattle.rgo_code.specs.Exists.{declared_by}
-use Rattle.rgo_code.specs.Types.{DoFits}
-use Rattle.rgo_machine.specs.declared.picks.Pick.TheVariants.{One}
-use Rattle.rgo_memory.specs.Effects.{Does as DoesSo, answered, to_object}
-use Rattle.rgo_memory.specs.Elements.{length_in}
-use Rattle.rgo_memory.specs.Fields.{field_of, load, or_nil, store, stored}
-use Rattle.rgo_memory.specs.Memory.{Memory as Heap, Object, SliceObject, StructObject, with_object}
-use Rattle.rgo_memory.specs.declared.values.Value.{Value}
-use Rattle.rgo_memory.specs.declared.values.Value.TheVariants as value
-use Rattle.rgo_region_machine.specs.Machine.{Instruct}
-use Rattle.rgo_region_machine.specs.Objects.{words as words_of}
-use Rattle.rgo_region_machine.specs.declared.regions.Region.TheVariants.{Global as GlobalRegion}
+use Rattle.rgo_sound.specs.Code.Code.{Do}
+use Rattle.rgo_sound.specs.Code.Erasure.{erased, erased_fn}
+use Rattle.rgo_sound.specs.Code.Exists.{declared_by}
+use Rattle.rgo_sound.specs.Code.Types.{DoFits}
+use Rattle.rgo_sound.specs.Machine.declared.picks.Pick.TheVariants.{One}
+use Rattle.rgo_sound.specs.Memory.Effects.{Does as DoesSo, answered, to_object}
+use Rattle.rgo_sound.specs.Memory.Elements.{length_in}
+use Rattle.rgo_sound.specs.Memory.Fields.{field_of, load, or_nil, store, stored}
+use Rattle.rgo_sound.specs.Memory.Memory.{Memory as Heap, Object, SliceObject, StructObject, with_object}
+use Rattle.rgo_sound.specs.Memory.declared.values.Value.{Value}
+use Rattle.rgo_sound.specs.Memory.declared.values.Value.TheVariants as value
+use Rattle.rgo_sound.specs.RegionMachine.Machine.{Instruct}
+use Rattle.rgo_sound.specs.RegionMachine.Objects.{words as words_of}
+use Rattle.rgo_sound.specs.RegionMachine.declared.regions.Region.TheVariants.{Global as GlobalRegion}
 use Rattle.rgo_sound.proofs.Acting.{performed}
 use Rattle.rgo_sound.proofs.Places.{contains_here, contains_there, each_get, length_set}
 use Rattle.rgo_sound.proofs.Types.{get_kinds}
 use Rattle.rgo_sound.specs.Values.{LeadsInto}
-use Rattle.rgo_tac.specs.Code.{Tac, TacFn}
-use Rattle.rgo_tac.specs.Frames.{value_at, values_of}
-use Rattle.rgo_tac.specs.Steps.{type_of}
-use Rattle.rgo_typed.specs.declared.actions.Action.{Action}
-use Rattle.rgo_typed.specs.declared.actions.Action.TheVariants as action
-use Rattle.rgo_typed.specs.declared.programs.Variable.{Variable}
-use Rattle.rgo_typed.specs.declared.types.Type.{«Type»}
-use Rattle.rgo_wellformed.specs.TypeRules.{pointer_to, slice_of}
+use Rattle.rgo_sound.specs.Tac.Code.{Tac, TacFn}
+use Rattle.rgo_sound.specs.Tac.Frames.{value_at, values_of}
+use Rattle.rgo_sound.specs.Tac.Steps.{type_of}
+use Rattle.rgo_sound.specs.Typed.declared.actions.Action.{Action}
+use Rattle.rgo_sound.specs.Typed.declared.actions.Action.TheVariants as action
+use Rattle.rgo_sound.specs.Typed.declared.programs.Variable.{Variable}
+use Rattle.rgo_sound.specs.Typed.declared.types.Type.{«Type»}
+use Rattle.rgo_sound.specs.WellFormed.TypeRules.{pointer_to, slice_of}
 use Rattle.rgo_core_channels.specs.Channels.{Chan, IsChan, On, channel}
 use Rattle.rgo_core_channels.specs.Controls.{extent}
 use Rattle.rgo_core_channels.specs.Records.{at_rest}

@@ -1,18 +1,18 @@
 -- What the record of a goroutine at a channel says of the state: the channel, which is in a live region, and the operation.
 use Rattle.std.proofs.Common.{◌≡◌, inl, inr, ℕ, ◌+◌, List, ◌∷◌, Option, Some, map, slice_get, refl, ap, sym, subst, ◌∙◌, Contains}
 use Rattle.std.proofs.lemmas.Option.{same_Some}
-use Rattle.rgo_typed.specs.declared.actions.Action.{Action}
-use Rattle.rgo_typed.specs.declared.types.Type.{«Type»}
-use Rattle.rgo_typed.specs.declared.actions.Action.TheVariants.{Send}
-use Rattle.rgo_wellformed.specs.TypeRules.{chan_of}
-use Rattle.rgo_memory.specs.declared.values.Value.{Value}
-use Rattle.rgo_memory.specs.declared.values.Value.TheVariants as value
-use Rattle.rgo_tac.specs.Flow.{reads}
-use Rattle.rgo_tac.specs.Frames.{value_at, values_of}
-use Rattle.rgo_code.specs.Code.{CodeOp, Do}
-use Rattle.rgo_code.specs.Erasure.{erased, erased_fn, erased_op}
-use Rattle.rgo_code.specs.Types.{HasType, OpFits}
-use Rattle.rgo_region_machine.specs.States.{Holder, NoOffer, Offer, Standing, Taken}
+use Rattle.rgo_sound.specs.Typed.declared.actions.Action.{Action}
+use Rattle.rgo_sound.specs.Typed.declared.types.Type.{«Type»}
+use Rattle.rgo_sound.specs.Typed.declared.actions.Action.TheVariants.{Send}
+use Rattle.rgo_sound.specs.WellFormed.TypeRules.{chan_of}
+use Rattle.rgo_sound.specs.Memory.declared.values.Value.{Value}
+use Rattle.rgo_sound.specs.Memory.declared.values.Value.TheVariants as value
+use Rattle.rgo_sound.specs.Tac.Flow.{reads}
+use Rattle.rgo_sound.specs.Tac.Frames.{value_at, values_of}
+use Rattle.rgo_sound.specs.Code.Code.{CodeOp, Do}
+use Rattle.rgo_sound.specs.Code.Erasure.{erased, erased_fn, erased_op}
+use Rattle.rgo_sound.specs.Code.Types.{HasType, OpFits}
+use Rattle.rgo_sound.specs.RegionMachine.States.{Holder, NoOffer, Offer, Standing, Taken}
 use Rattle.rgo_sound.proofs.Places.{contains_here, head_is}
 use Rattle.rgo_sound.proofs.TypedSteps.{types}
 use Rattle.rgo_core_channels.specs.Channels.{Accepted, Calm, Chan, Offered, OfferOf, On, Phase, holder_offer}

@@ -1,17 +1,17 @@
 -- The words of live objects lie in the pages, and so do those to which a word of a pointer leads.
 use Rattle.std.proofs.Common.{◌≡◌, ℕ, suc, ◌-◌, ◌<◌, ◌≤◌, List, [], ◌∷◌, Option, Some, None, length, max, option_map, slice_get, refl, ap, sym, subst, ◌∙◌, arith, true≢false}
 use Rattle.std.proofs.lemmas.Option.{get_or_from_slice_get, same_Some, slice_get-map}
-use Rattle.rgo_code.specs.Code.{Code, CodeFn, Do}
-use Rattle.rgo_code.specs.Erasure.{erased, erased_fn}
-use Rattle.rgo_code.specs.Types.{DoFits, HasType}
-use Rattle.rgo_memory.specs.Effects.{Does as DoesSo}
-use Rattle.rgo_memory.specs.Memory.{Channel, Memory as Heap, Object, SliceObject, StructObject}
-use Rattle.rgo_memory.specs.declared.values.Value.{Value}
-use Rattle.rgo_memory.specs.declared.values.Value.TheVariants as value
-use Rattle.rgo_region_machine.specs.Objects.{words as words_of}
-use Rattle.rgo_region_machine.specs.Owed.{function_at, function_of}
-use Rattle.rgo_region_machine.specs.States.{RegionState}
-use Rattle.rgo_region_machine.specs.declared.regions.Region.{Region}
+use Rattle.rgo_sound.specs.Code.Code.{Code, CodeFn, Do}
+use Rattle.rgo_sound.specs.Code.Erasure.{erased, erased_fn}
+use Rattle.rgo_sound.specs.Code.Types.{DoFits, HasType}
+use Rattle.rgo_sound.specs.Memory.Effects.{Does as DoesSo}
+use Rattle.rgo_sound.specs.Memory.Memory.{Channel, Memory as Heap, Object, SliceObject, StructObject}
+use Rattle.rgo_sound.specs.Memory.declared.values.Value.{Value}
+use Rattle.rgo_sound.specs.Memory.declared.values.Value.TheVariants as value
+use Rattle.rgo_sound.specs.RegionMachine.Objects.{words as words_of}
+use Rattle.rgo_sound.specs.RegionMachine.Owed.{function_at, function_of}
+use Rattle.rgo_sound.specs.RegionMachine.States.{RegionState}
+use Rattle.rgo_sound.specs.RegionMachine.declared.regions.Region.{Region}
 use Rattle.rgo_sound.proofs.Acting.{performed}
 use Rattle.rgo_sound.proofs.ErasureLemmas.{Always}
 use Rattle.rgo_sound.proofs.Places.{each_get}
@@ -20,12 +20,12 @@ use Rattle.rgo_sound.proofs.Types.{Performed, object_of, returns, takes}
 use Rattle.rgo_sound.specs.Safety.{cells_of}
 use Rattle.rgo_sound.specs.Types.{FrameFits, HasKind, HaveKinds, MemoryFits, ObjectFits}
 use Rattle.rgo_sound.specs.Values.{LeadsInto}
-use Rattle.rgo_tac.specs.Frames.{Frame, values_of}
-use Rattle.rgo_tac.specs.Steps.{type_in, type_of}
-use Rattle.rgo_typed.specs.Types.{is_pointer_like}
-use Rattle.rgo_typed.specs.declared.actions.Action.{Action}
-use Rattle.rgo_typed.specs.declared.programs.Struct.{Struct}
-use Rattle.rgo_typed.specs.declared.types.Type.{«Type»}
+use Rattle.rgo_sound.specs.Tac.Frames.{Frame, values_of}
+use Rattle.rgo_sound.specs.Tac.Steps.{type_in, type_of}
+use Rattle.rgo_sound.specs.Typed.Types.{is_pointer_like}
+use Rattle.rgo_sound.specs.Typed.declared.actions.Action.{Action}
+use Rattle.rgo_sound.specs.Typed.declared.programs.Struct.{Struct}
+use Rattle.rgo_sound.specs.Typed.declared.types.Type.{«Type»}
 use Rattle.rgo_core_frames.specs.Fits.{IsOfLive}
 use Rattle.rgo_core_frames.specs.Words.{Shows}
 use Rattle.rgo_core_memory.specs.Encoding.{address}

@@ -2,13 +2,13 @@
 use Rattle.std.proofs.Common.{◌≡◌, ℕ, suc, ◌+◌, List, [], ◌∷◌, None, refl, ap, ◌∙◌, inl, inr, arith}
 use Rattle.rgo_core_frames.specs.Opening.{no_record}
 use Rattle.rgo_core_memory.specs.Words.{base}
-use Rattle.rgo_machine.specs.declared.limits.Limits.{Limits}
-use Rattle.rgo_machine.specs.declared.limits.Sizes.{Sizes}
-use Rattle.rgo_region_machine.specs.Examples.{int_slot, main_of, plain}
-use Rattle.rgo_code.specs.Code.{CodeInstr, Do}
-use Rattle.rgo_region_machine.specs.Owed.{current}
+use Rattle.rgo_sound.specs.Machine.declared.limits.Limits.{Limits}
+use Rattle.rgo_sound.specs.Machine.declared.limits.Sizes.{Sizes}
+use Rattle.rgo_sound.specs.RegionMachine.Examples.{int_slot, main_of, plain}
+use Rattle.rgo_sound.specs.Code.Code.{CodeInstr, Do}
+use Rattle.rgo_sound.specs.RegionMachine.Owed.{current}
 use Rattle.std.proofs.lemmas.Option.{same_Some}
-use Rattle.rgo_typed.specs.declared.actions.Action.TheVariants.{Send}
+use Rattle.rgo_sound.specs.Typed.declared.actions.Action.TheVariants.{Send}
 use Rattle.rgo_core_frames.specs.WordFrames.{WordFrame, bare, word_at}
 use Rattle.rgo_core.specs.AtChannels.{IsAtChannel, Operates}
 use Rattle.rgo_core.specs.ChannelExamples.{ChannelExamples, offered, sending, with_words}

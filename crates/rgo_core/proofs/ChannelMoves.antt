@@ -1,6 +1,6 @@
 -- Loads of a channel's control, capacity and cells, the lock, and the store of a cell: the region machine makes no step.
 use Rattle.std.proofs.Common.{◌≡◌, ℕ, suc, ◌+◌, ◌^◌, ◌<◌, ◌≤◌, ◌==◌, if◌then◌else◌, List, length, map, None, slice_get, slice_set, slice_index, Some, refl, ap, sym, subst, arith, inl, inr, ◌⊎◌, ◌∙◌}
-use Rattle.rgo_region_machine.specs.Objects.{words as words_in}
+use Rattle.rgo_sound.specs.RegionMachine.Objects.{words as words_in}
 use Rattle.rgo_core_channels.specs.Channels.{Accepted, Calm, Chan, Channels, Offered, OfferOf, On, Phase, Places, channel, phase_number}
 use Rattle.rgo_core_channels.specs.Controls.{count_of, extent, head_of}
 use Rattle.rgo_core_channels.specs.Moments.{Looks, Moment}

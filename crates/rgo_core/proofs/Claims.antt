@@ -2,20 +2,20 @@
 use Rattle.std.proofs.Common.{◌≡◌, ◌≢◌, inl, ℕ, zero, suc, ◌+◌, ◌<◌, ◌≤◌, ◌==◌, ◌&&◌, Bool, true, false, List, [], ◌∷◌, Option, Some, map, if◌then◌else◌, option_and_then, slice_get, slice_set, slice_index, refl, ap, sym, subst, ◌∙◌, arith}
 use Rattle.std.proofs.lemmas.Bool.Decides.{nat_tests}
 use Rattle.std.proofs.lemmas.Option.{same_Some}
-use Rattle.rgo_code.specs.Code.{Do}
-use Rattle.rgo_memory.specs.Memory.{Object}
-use Rattle.rgo_region_machine.specs.Duties.{may_go}
-use Rattle.rgo_region_machine.specs.Instructions.{has_none}
-use Rattle.rgo_region_machine.specs.Machine.{TakePage, next_object, page_for, page_taken, region_step, take_page, takes_page}
-use Rattle.rgo_region_machine.specs.Objects.{fill_of, making_region, wants_page, words as words_of}
-use Rattle.rgo_region_machine.specs.Owed.{function_of}
-use Rattle.rgo_region_machine.specs.Regions.{RegionInfo, has_stakes, is_live, one_page_more, with_info}
-use Rattle.rgo_region_machine.specs.States.{Holder, RegionState, frames_in, frames_of, top_names}
-use Rattle.rgo_region_machine.specs.declared.regions.Region.{Region}
-use Rattle.rgo_region_machine.specs.declared.regions.Region.TheVariants.{Global as GlobalRegion, Numbered}
+use Rattle.rgo_sound.specs.Code.Code.{Do}
+use Rattle.rgo_sound.specs.Memory.Memory.{Object}
+use Rattle.rgo_sound.specs.RegionMachine.Duties.{may_go}
+use Rattle.rgo_sound.specs.RegionMachine.Instructions.{has_none}
+use Rattle.rgo_sound.specs.RegionMachine.Machine.{TakePage, next_object, page_for, page_taken, region_step, take_page, takes_page}
+use Rattle.rgo_sound.specs.RegionMachine.Objects.{fill_of, making_region, wants_page, words as words_of}
+use Rattle.rgo_sound.specs.RegionMachine.Owed.{function_of}
+use Rattle.rgo_sound.specs.RegionMachine.Regions.{RegionInfo, has_stakes, is_live, one_page_more, with_info}
+use Rattle.rgo_sound.specs.RegionMachine.States.{Holder, RegionState, frames_in, frames_of, top_names}
+use Rattle.rgo_sound.specs.RegionMachine.declared.regions.Region.{Region}
+use Rattle.rgo_sound.specs.RegionMachine.declared.regions.Region.TheVariants.{Global as GlobalRegion, Numbered}
 use Rattle.rgo_sound.proofs.Tally.{tally_adds}
 use Rattle.rgo_sound.specs.Tally.{counts_plus, no_share}
-use Rattle.rgo_typed.specs.declared.actions.Action.{Action}
+use Rattle.rgo_sound.specs.Typed.declared.actions.Action.{Action}
 use Rattle.rgo_core_channels.specs.Records.{at_rest}
 use Rattle.rgo_core_frames.specs.Before.{IsBefore}
 use Rattle.rgo_core_frames.specs.Makes.{MakesAt}

@@ -10,8 +10,8 @@ use Rattle.rgo_core_frames.specs.Records.{Rec as FrameRec}
 use Rattle.rgo_core_frames.specs.States.{IsSound}
 use Rattle.rgo_core_memory.proofs.Rows.{at_set}
 use Rattle.rgo_core_memory.proofs.Stepped.{map_set}
-use Rattle.rgo_machine.specs.Limits.{deepest, is_within, most_goroutines}
-use Rattle.rgo_region_machine.specs.Machine.{Event}
+use Rattle.rgo_sound.specs.Machine.Limits.{deepest, is_within, most_goroutines}
+use Rattle.rgo_sound.specs.RegionMachine.Machine.{Event}
 use Rattle.rgo_sound.proofs.Places.{get_snoc, length_set}
 use Rattle.rgo_core.specs.ClockSteps.{EndLaw, Ends, LookLaw, NumberLaw, Prints, Starts, TicketLaw}
 use Rattle.rgo_core.specs.Core.{CoreAt, Here, Setup, layout}

@@ -11,8 +11,8 @@ use mathlib.Core.Logic.{dite}
 use native.Mathlib.Decide.{ℕ_discrete}
 use Rattle.rgo_core_memory.proofs.Rows.{at_set, below, set_else, set_here}
 use Rattle.rgo_core_rule.specs.Lists.{flattened}
-use Rattle.rgo_region_machine.specs.Instructions.{printed_if}
-use Rattle.rgo_region_machine.specs.States.{Mark, RegionState}
+use Rattle.rgo_sound.specs.RegionMachine.Instructions.{printed_if}
+use Rattle.rgo_sound.specs.RegionMachine.States.{Mark, RegionState}
 use Rattle.rgo_sound.proofs.Places.{get_append_last, get_snoc, get_front}
 use Rattle.rgo_core.specs.Clock.{Clock, has_set, has_ticket, prints_in}
 use Rattle.rgo_core.specs.ClockSteps.{first_mark, first_set}

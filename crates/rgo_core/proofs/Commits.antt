@@ -1,25 +1,25 @@
 -- The store that commits an operation of one goroutine on a channel: a send, a receive, the zero of a closed channel, a close.
 use Rattle.std.proofs.Common.{◌≡◌, ◌⊎◌, ℕ, zero, suc, ◌+◌, ◌-◌, ◌%◌, ◌<◌, ◌≤◌, false, List, [], ◌∷◌, ◌++◌, Option, Some, length, map, max, option_map, slice_set, refl, ap, sym, subst, ◌∙◌, inl, arith, append-nil, pos, Contains, slice_get}
 use Rattle.std.proofs.lemmas.Option.{same_Some, slice_get_past, slice_get_within}
-use Rattle.rgo_typed.specs.declared.actions.Action.{Action}
-use Rattle.rgo_typed.specs.declared.actions.Action.TheVariants.{Close, Recv, Send}
-use Rattle.rgo_typed.specs.declared.types.Type.{«Type»}
-use Rattle.rgo_memory.specs.Effects.{Does as MemoryDoes, Effect}
-use Rattle.rgo_memory.specs.Memory.{Channel, Memory as Heap, Object, with_object}
-use Rattle.rgo_memory.specs.declared.values.Value.{Value}
-use Rattle.rgo_memory.specs.declared.values.Value.TheVariants as value
-use Rattle.rgo_machine.specs.Limits.{deepest}
-use Rattle.rgo_machine.specs.declared.picks.Pick.TheVariants.{One}
-use Rattle.rgo_tac.specs.Flow.{reads}
-use Rattle.rgo_tac.specs.Frames.{value_at, values_of}
-use Rattle.rgo_tac.specs.Steps.{type_of}
-use Rattle.rgo_code.specs.Code.{CodeOp}
-use Rattle.rgo_code.specs.Erasure.{erased, erased_op}
-use Rattle.rgo_region_machine.specs.Machine.{Instruct}
-use Rattle.rgo_region_machine.specs.Objects.{allotted, making_region}
-use Rattle.rgo_region_machine.specs.Owed.{function_at}
-use Rattle.rgo_region_machine.specs.States.{RegionState, top_names}
-use Rattle.rgo_region_machine.specs.declared.regions.Region.{Region}
+use Rattle.rgo_sound.specs.Typed.declared.actions.Action.{Action}
+use Rattle.rgo_sound.specs.Typed.declared.actions.Action.TheVariants.{Close, Recv, Send}
+use Rattle.rgo_sound.specs.Typed.declared.types.Type.{«Type»}
+use Rattle.rgo_sound.specs.Memory.Effects.{Does as MemoryDoes, Effect}
+use Rattle.rgo_sound.specs.Memory.Memory.{Channel, Memory as Heap, Object, with_object}
+use Rattle.rgo_sound.specs.Memory.declared.values.Value.{Value}
+use Rattle.rgo_sound.specs.Memory.declared.values.Value.TheVariants as value
+use Rattle.rgo_sound.specs.Machine.Limits.{deepest}
+use Rattle.rgo_sound.specs.Machine.declared.picks.Pick.TheVariants.{One}
+use Rattle.rgo_sound.specs.Tac.Flow.{reads}
+use Rattle.rgo_sound.specs.Tac.Frames.{value_at, values_of}
+use Rattle.rgo_sound.specs.Tac.Steps.{type_of}
+use Rattle.rgo_sound.specs.Code.Code.{CodeOp}
+use Rattle.rgo_sound.specs.Code.Erasure.{erased, erased_op}
+use Rattle.rgo_sound.specs.RegionMachine.Machine.{Instruct}
+use Rattle.rgo_sound.specs.RegionMachine.Objects.{allotted, making_region}
+use Rattle.rgo_sound.specs.RegionMachine.Owed.{function_at}
+use Rattle.rgo_sound.specs.RegionMachine.States.{RegionState, top_names}
+use Rattle.rgo_sound.specs.RegionMachine.declared.regions.Region.{Region}
 use Rattle.rgo_sound.proofs.Acting.{performed, silent}
 use Rattle.rgo_sound.proofs.Places.{contains_here, contains_there, each_get, get_set_same, length_set}
 use Rattle.rgo_sound.specs.Types.{Each, HasKind}

@@ -2,18 +2,18 @@
 use Rattle.std.proofs.Common.{◌≡◌, ◌⊎◌, inl, inr, ⊎_elim, ℕ, Bool, true, false, nat_eq, List, [], ◌∷◌, Option, Some, None, if◌then◌else◌, option_and_then, length, map, slice_get, slice_set, refl, ap, sym, ◌∙◌, arith, length-append}
 use Rattle.std.specs.List.{list_any}
 use Rattle.std.proofs.lemmas.Option.{same_Some}
-use Rattle.rgo_code.specs.Code.{Code}
+use Rattle.rgo_sound.specs.Code.Code.{Code}
 use Rattle.rgo_core_memory.proofs.Attending.{first_duty, same_held}
 use Rattle.rgo_core_memory.proofs.Infos.{info_here}
 use Rattle.rgo_core_memory.proofs.Slots.{live_info}
 use Rattle.rgo_core_memory.specs.Ground.{ground_of, held_of}
-use Rattle.rgo_memory.specs.Memory.{Memory as Heap}
-use Rattle.rgo_region_machine.specs.Duties.{attend, attended, created, duty_done, guards, protected, removal, shared, unprotected}
-use Rattle.rgo_region_machine.specs.Machine.{Attend, region_step}
-use Rattle.rgo_region_machine.specs.Regions.{RegionInfo, bound, is_live, one_fewer, removed_once, unbind, with_info}
-use Rattle.rgo_region_machine.specs.States.{Create, Duty, EndBase, Holder, Protect, RegionState, Remove, Share, Unprotect, top_names, with_top}
-use Rattle.rgo_region_machine.specs.declared.regions.Region.{Region}
-use Rattle.rgo_region_machine.specs.declared.regions.Region.TheVariants.{Global as GlobalRegion, Numbered}
+use Rattle.rgo_sound.specs.Memory.Memory.{Memory as Heap}
+use Rattle.rgo_sound.specs.RegionMachine.Duties.{attend, attended, created, duty_done, guards, protected, removal, shared, unprotected}
+use Rattle.rgo_sound.specs.RegionMachine.Machine.{Attend, region_step}
+use Rattle.rgo_sound.specs.RegionMachine.Regions.{RegionInfo, bound, is_live, one_fewer, removed_once, unbind, with_info}
+use Rattle.rgo_sound.specs.RegionMachine.States.{Create, Duty, EndBase, Holder, Protect, RegionState, Remove, Share, Unprotect, top_names, with_top}
+use Rattle.rgo_sound.specs.RegionMachine.declared.regions.Region.{Region}
+use Rattle.rgo_sound.specs.RegionMachine.declared.regions.Region.TheVariants.{Global as GlobalRegion, Numbered}
 
 -- the holder after a duty
 pub record Attends (s t : RegionState) (g : ℕ) (h : Holder) : Type 0 where

@@ -5,25 +5,25 @@ use Rattle.std.proofs.lemmas.Int.{of_z-to_z}
 use Rattle.std.proofs.lemmas.Option.{slice_get_past}
 use Rattle.std.specs.Int.{cast_signed, cast_unsigned}
 use borrow.Author.Gap.{read_sfits}
-use Rattle.rgo_code.specs.Code.{Do}
-use Rattle.rgo_code.specs.Erasure.{erased, erased_fn, erased_op}
-use Rattle.rgo_code.specs.Types.{HasType}
-use Rattle.rgo_memory.specs.Effects.{Does as DoesSo, Outcome, Traps, answered, in_memory, to_object}
-use Rattle.rgo_memory.specs.Elements.{element, element_in, or_out_of_range, put_in}
-use Rattle.rgo_memory.specs.Memory.{Object, SliceObject}
-use Rattle.rgo_memory.specs.declared.traps.Trap.{Trap}
-use Rattle.rgo_memory.specs.declared.traps.Trap.TheVariants.{IndexRange}
-use Rattle.rgo_memory.specs.declared.values.Value.{Value}
-use Rattle.rgo_memory.specs.declared.values.Value.TheVariants as value
+use Rattle.rgo_sound.specs.Code.Code.{Do}
+use Rattle.rgo_sound.specs.Code.Erasure.{erased, erased_fn, erased_op}
+use Rattle.rgo_sound.specs.Code.Types.{HasType}
+use Rattle.rgo_sound.specs.Memory.Effects.{Does as DoesSo, Outcome, Traps, answered, in_memory, to_object}
+use Rattle.rgo_sound.specs.Memory.Elements.{element, element_in, or_out_of_range, put_in}
+use Rattle.rgo_sound.specs.Memory.Memory.{Object, SliceObject}
+use Rattle.rgo_sound.specs.Memory.declared.traps.Trap.{Trap}
+use Rattle.rgo_sound.specs.Memory.declared.traps.Trap.TheVariants.{IndexRange}
+use Rattle.rgo_sound.specs.Memory.declared.values.Value.{Value}
+use Rattle.rgo_sound.specs.Memory.declared.values.Value.TheVariants as value
 use Rattle.rgo_sound.proofs.Acting.{performed}
 use Rattle.rgo_sound.proofs.Places.{contains_here, contains_there}
-use Rattle.rgo_tac.specs.Flow.{reads}
-use Rattle.rgo_tac.specs.Frames.{value_at, values_of}
-use Rattle.rgo_tac.specs.Steps.{type_of}
-use Rattle.rgo_typed.specs.declared.actions.Action.{Action}
-use Rattle.rgo_typed.specs.declared.actions.Action.TheVariants as action
-use Rattle.rgo_typed.specs.declared.types.Type.{«Type»}
-use Rattle.rgo_wellformed.specs.TypeRules.{int, slice_of}
+use Rattle.rgo_sound.specs.Tac.Flow.{reads}
+use Rattle.rgo_sound.specs.Tac.Frames.{value_at, values_of}
+use Rattle.rgo_sound.specs.Tac.Steps.{type_of}
+use Rattle.rgo_sound.specs.Typed.declared.actions.Action.{Action}
+use Rattle.rgo_sound.specs.Typed.declared.actions.Action.TheVariants as action
+use Rattle.rgo_sound.specs.Typed.declared.types.Type.{«Type»}
+use Rattle.rgo_sound.specs.WellFormed.TypeRules.{int, slice_of}
 use Rattle.rgo_core_frames.proofs.Ending.{trap_law}
 use Rattle.rgo_core_frames.specs.WordFrames.{word_at as word_of_frame}
 use Rattle.rgo_core_memory.specs.Words.{base}

@@ -3,25 +3,25 @@ use Rattle.std.proofs.Common.{◌≡◌, ◌≢◌, inl, inr, ⊎_elim, ℕ, suc
 use Rattle.std.proofs.Math.ListN.{length-set}
 use Rattle.std.proofs.lemmas.Bool.Decides.{nat_tests}
 use Rattle.std.proofs.lemmas.Option.{same_Some}
-use Rattle.rgo_code.specs.Code.{Do}
-use Rattle.rgo_code.specs.Erasure.{erased, erased_fn, erased_op}
-use Rattle.rgo_code.specs.Types.{HasType, HaveTypes}
-use Rattle.rgo_memory.specs.Effects.{Does as DoesSo, Outcome, answered, in_memory, to_object}
-use Rattle.rgo_memory.specs.Elements.{element_in, length_in, or_out_of_range, put_in}
-use Rattle.rgo_memory.specs.Memory.{Memory as Heap, Object, SliceObject, with_object}
-use Rattle.rgo_memory.specs.declared.values.Value.{Value}
-use Rattle.rgo_memory.specs.declared.values.Value.TheVariants as value
-use Rattle.rgo_region_machine.specs.Objects.{words as words_of}
+use Rattle.rgo_sound.specs.Code.Code.{Do}
+use Rattle.rgo_sound.specs.Code.Erasure.{erased, erased_fn, erased_op}
+use Rattle.rgo_sound.specs.Code.Types.{HasType, HaveTypes}
+use Rattle.rgo_sound.specs.Memory.Effects.{Does as DoesSo, Outcome, answered, in_memory, to_object}
+use Rattle.rgo_sound.specs.Memory.Elements.{element_in, length_in, or_out_of_range, put_in}
+use Rattle.rgo_sound.specs.Memory.Memory.{Memory as Heap, Object, SliceObject, with_object}
+use Rattle.rgo_sound.specs.Memory.declared.values.Value.{Value}
+use Rattle.rgo_sound.specs.Memory.declared.values.Value.TheVariants as value
+use Rattle.rgo_sound.specs.RegionMachine.Objects.{words as words_of}
 use Rattle.rgo_sound.proofs.Acting.{performed}
 use Rattle.rgo_sound.proofs.Places.{contains_here, contains_there, get_some, length_set}
-use Rattle.rgo_tac.specs.Code.{TacFn}
-use Rattle.rgo_tac.specs.Flow.{reads}
-use Rattle.rgo_tac.specs.Frames.{value_at, values_of}
-use Rattle.rgo_tac.specs.Steps.{type_of}
-use Rattle.rgo_typed.specs.declared.actions.Action.{Action}
-use Rattle.rgo_typed.specs.declared.actions.Action.TheVariants as action
-use Rattle.rgo_typed.specs.declared.types.Type.{«Type»}
-use Rattle.rgo_wellformed.specs.TypeRules.{int, slice_of}
+use Rattle.rgo_sound.specs.Tac.Code.{TacFn}
+use Rattle.rgo_sound.specs.Tac.Flow.{reads}
+use Rattle.rgo_sound.specs.Tac.Frames.{value_at, values_of}
+use Rattle.rgo_sound.specs.Tac.Steps.{type_of}
+use Rattle.rgo_sound.specs.Typed.declared.actions.Action.{Action}
+use Rattle.rgo_sound.specs.Typed.declared.actions.Action.TheVariants as action
+use Rattle.rgo_sound.specs.Typed.declared.types.Type.{«Type»}
+use Rattle.rgo_sound.specs.WellFormed.TypeRules.{int, slice_of}
 use Rattle.rgo_core_channels.specs.Channels.{Chan, IsChan, channel}
 use Rattle.rgo_core_channels.specs.Records.{at_rest}
 use Rattle.rgo_core_channels.proofs.Lists.{set_own}
@@ -235,7 +235,7 @@ put_here : (cells : List Value) (i : ℕ) (v : Value) → i < length cells
 put_here cells i v low = by (nat_lt i (length cells)) (grind (arith, nat_tests))
   where
     by : (b : Bool) → b ≡ true
-        → (if b then DoesSo (SliceObject (slice_set cells i v)) value.Nil else Rattle.rgo_memory.specs.Effects.Traps Rattle.rgo_memory.specs.declared.traps.Trap.TheVariants.IndexRange)
+        → (if b then DoesSo (SliceObject (slice_set cells i v)) value.Nil else Rattle.rgo_sound.specs.Memory.Effects.Traps Rattle.rgo_sound.specs.Memory.declared.traps.Trap.TheVariants.IndexRange)
         ≡ DoesSo (SliceObject (slice_set cells i v)) value.Nil
     by b e = rw e refl
 

@@ -5,24 +5,24 @@ use Rattle.std.proofs.Common.{slice_get, refl, ap, sym, subst, ◌∙◌, arith,
 use Rattle.std.specs.Int.{cast_signed, cast_unsigned}
 use Rattle.std.proofs.lemmas.Int.{of_z-to_z}
 use mir.ValLaws as laws
-use Rattle.rgo_memory.specs.declared.values.Value.{Value}
-use Rattle.rgo_memory.specs.declared.values.Value.TheVariants as value
-use Rattle.rgo_code.specs.Checked.{IsChecked}
-use Rattle.rgo_code.specs.Code.{Code, CodeFn, Do}
-use Rattle.rgo_code.specs.Erasure.{erased, erased_fn, erased_op}
-use Rattle.rgo_code.specs.Types.{DoFits, OpFits}
-use Rattle.rgo_region_machine.specs.Owed.{function_at}
-use Rattle.rgo_region_machine.specs.States.{RegionState}
-use Rattle.rgo_tac.specs.Frames.{Frame}
-use Rattle.rgo_memory.specs.Memory.{Object}
+use Rattle.rgo_sound.specs.Memory.declared.values.Value.{Value}
+use Rattle.rgo_sound.specs.Memory.declared.values.Value.TheVariants as value
+use Rattle.rgo_sound.specs.Code.Checked.{IsChecked}
+use Rattle.rgo_sound.specs.Code.Code.{Code, CodeFn, Do}
+use Rattle.rgo_sound.specs.Code.Erasure.{erased, erased_fn, erased_op}
+use Rattle.rgo_sound.specs.Code.Types.{DoFits, OpFits}
+use Rattle.rgo_sound.specs.RegionMachine.Owed.{function_at}
+use Rattle.rgo_sound.specs.RegionMachine.States.{RegionState}
+use Rattle.rgo_sound.specs.Tac.Frames.{Frame}
+use Rattle.rgo_sound.specs.Memory.Memory.{Object}
 use Rattle.rgo_sound.proofs.Places.{each_get, get_some}
 use Rattle.rgo_sound.proofs.TypedSteps.{types, vars_kinds}
 use Rattle.rgo_sound.specs.Good.{AllGood}
 use Rattle.rgo_sound.specs.Safety.{cells_of}
 use Rattle.rgo_sound.specs.Types.{FrameFits, FramesHaveKinds, HasKind, HaveKinds}
 use Rattle.rgo_sound.specs.Values.{LeadsInto}
-use Rattle.rgo_typed.specs.declared.actions.Action.{Action}
-use Rattle.rgo_typed.specs.declared.types.Type.{«Type»}
+use Rattle.rgo_sound.specs.Typed.declared.actions.Action.{Action}
+use Rattle.rgo_sound.specs.Typed.declared.types.Type.{«Type»}
 use Rattle.rgo_core_frames.specs.Words.{Shows}
 use Rattle.rgo_core_memory.specs.Accesses.{Before}
 use Rattle.rgo_core_memory.specs.Encoding.{Spot, address, encode}

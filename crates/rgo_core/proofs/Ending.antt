@@ -2,8 +2,8 @@
 use Rattle.std.proofs.Common.{◌≡◌, ℕ, ◌+◌, ◌<◌, ◌^◌, true, option_map, List, [], ◌∷◌, ◌++◌, Option, Some, None, length, map, slice_set, slice_index, bit_or, refl, ap, sym, subst, ◌∙◌, arith}
 use Rattle.std.proofs.lemmas.List.{length-map}
 use Rattle.std.proofs.lemmas.Option.{same_Some}
-use Rattle.rgo_code.specs.Code.{Call, Code, CodeFn, CodeInstr, CodeOp, Do, Go}
-use Rattle.rgo_code.specs.Erasure.{erased, erased_instr, erased_op}
+use Rattle.rgo_sound.specs.Code.Code.{Call, Code, CodeFn, CodeInstr, CodeOp, Do, Go}
+use Rattle.rgo_sound.specs.Code.Erasure.{erased, erased_instr, erased_op}
 use Rattle.rgo_core_channels.proofs.Quiet.{finish_keeps}
 use Rattle.rgo_core_channels.specs.Channels.{Channels}
 use Rattle.rgo_core_frames.proofs.Ending.{finish_law}
@@ -11,27 +11,27 @@ use Rattle.rgo_core_frames.proofs.Sound.{next_sound}
 use Rattle.rgo_core_memory.proofs.Elsewhere.{ground_keeps}
 use Rattle.rgo_core_memory.specs.Ground.{ground_of}
 use Rattle.rgo_core_memory.specs.Image.{code_of}
-use Rattle.rgo_machine.specs.Limits.{IsAtCall, IsAtStart, deepest}
-use Rattle.rgo_machine.specs.Machines.{AtCall, AtStart}
-use Rattle.rgo_memory.specs.Memory.{Object}
-use Rattle.rgo_memory.specs.declared.values.Value.TheVariants as value
-use Rattle.rgo_region_machine.specs.Machine.{Finish, finished, kept}
-use Rattle.rgo_region_machine.specs.Objects.{words as words_of}
-use Rattle.rgo_region_machine.specs.Owed.{current, function_of}
-use Rattle.rgo_region_machine.specs.States.{Mark, RegionState, Stopped}
-use Rattle.rgo_region_machine.specs.declared.limits.Limit.{Limit}
-use Rattle.rgo_region_machine.specs.declared.limits.Limit.TheVariants.{Calls, Goroutines, ObjectSize}
+use Rattle.rgo_sound.specs.Machine.Limits.{IsAtCall, IsAtStart, deepest}
+use Rattle.rgo_sound.specs.Machine.Machines.{AtCall, AtStart}
+use Rattle.rgo_sound.specs.Memory.Memory.{Object}
+use Rattle.rgo_sound.specs.Memory.declared.values.Value.TheVariants as value
+use Rattle.rgo_sound.specs.RegionMachine.Machine.{Finish, finished, kept}
+use Rattle.rgo_sound.specs.RegionMachine.Objects.{words as words_of}
+use Rattle.rgo_sound.specs.RegionMachine.Owed.{current, function_of}
+use Rattle.rgo_sound.specs.RegionMachine.States.{Mark, RegionState, Stopped}
+use Rattle.rgo_sound.specs.RegionMachine.declared.limits.Limit.{Limit}
+use Rattle.rgo_sound.specs.RegionMachine.declared.limits.Limit.TheVariants.{Calls, Goroutines, ObjectSize}
 use Rattle.rgo_sound.proofs.Acting.{Acted, act as act_of, act_at, after, alone, effected, trap_place}
 use Rattle.rgo_sound.proofs.OneStep.{current_erased}
 use Rattle.rgo_sound.proofs.Places.{get_append_last}
 use Rattle.rgo_sound.proofs.Progress.{one_step}
 use Rattle.rgo_sound.specs.Tally.{no_share}
 use Rattle.rgo_sound.proofs.Ruled.{erased_found}
-use Rattle.rgo_tac.specs.Frames.{Frame, going, moved_to, values_of}
-use Rattle.rgo_tac.specs.Steps.{at_function, stand, stand_at, stand_before}
-use Rattle.rgo_tac.specs.Tac.{TacState}
-use Rattle.rgo_typed.specs.declared.actions.Action.{Action}
-use Rattle.rgo_tac.specs.declared.regions.Class.{Class}
+use Rattle.rgo_sound.specs.Tac.Frames.{Frame, going, moved_to, values_of}
+use Rattle.rgo_sound.specs.Tac.Steps.{at_function, stand, stand_at, stand_before}
+use Rattle.rgo_sound.specs.Tac.Tac.{TacState}
+use Rattle.rgo_sound.specs.Typed.declared.actions.Action.{Action}
+use Rattle.rgo_sound.specs.Tac.declared.regions.Class.{Class}
 use Rattle.rgo_core.specs.Causes.{Stops}
 use Rattle.rgo_core.specs.ClockSteps.{Ends, first_mark}
 use Rattle.rgo_core.specs.Core.{Here, Setup, layout}

@@ -3,9 +3,9 @@ use Rattle.std.proofs.Common.{◌≡◌, ℕ, zero, suc, ◌+◌, ◌<◌, ◌�
 use Rattle.std.proofs.lemmas.Bool.Decides.{nat_tests}
 use Rattle.std.proofs.lemmas.List.{append-nil}
 use Rattle.std.proofs.lemmas.Option.{same_Some}
-use Rattle.rgo_code.specs.Code.{Code}
-use Rattle.rgo_region_machine.specs.States.{Ended, Holder, Mark, RegionState}
-use Rattle.rgo_machine.specs.declared.picks.End.TheVariants.{Exit}
+use Rattle.rgo_sound.specs.Code.Code.{Code}
+use Rattle.rgo_sound.specs.RegionMachine.States.{Ended, Holder, Mark, RegionState}
+use Rattle.rgo_sound.specs.Machine.declared.picks.End.TheVariants.{Exit}
 use Rattle.rgo_core.specs.Clock.{Clock, has_ticket}
 use Rattle.rgo_core.specs.Examples.{CauseExamples, ClockExamples, CoreExamples, NumberExamples, RoomExamples, both_have_set, ended_then_printed, having_printed, late_mark, parent_and_child, second_then_first}
 use Rattle.rgo_core.specs.Numbers.{Numbers, has_child}
@@ -13,9 +13,9 @@ use Rattle.rgo_core.proofs.Lists.{cond_other, one_if, word_new}
 use Rattle.rgo_core.proofs.Opening.{at_least_one, first_story, made_word}
 use Rattle.rgo_core.specs.Core.{layout}
 use Rattle.rgo_core.specs.Opening.{opening}
-use Rattle.rgo_machine.specs.Limits.{most_goroutines}
-use Rattle.rgo_region_machine.specs.Machine.{Event}
-use Rattle.rgo_region_machine.specs.Room.{has_room, pages_in_use, roomy_run}
+use Rattle.rgo_sound.specs.Machine.Limits.{most_goroutines}
+use Rattle.rgo_sound.specs.RegionMachine.Machine.{Event}
+use Rattle.rgo_sound.specs.RegionMachine.Room.{has_room, pages_in_use, roomy_run}
 use Rattle.rgo_sound.proofs.Places.{length_set}
 use Rattle.rgo_sound.proofs.Room.{room_is_kept}
 use Rattle.rgo_core.specs.Records.{ClockRec, Drawn, blank, drawn_at, end_bit, fresh, with_child, with_end, with_print, with_refusal}

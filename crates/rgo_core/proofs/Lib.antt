@@ -1,3 +1,9 @@
+-- of the crates below, for those above
+pub use Rattle.rgo_core_channels.proofs as Channels
+pub use Rattle.rgo_core_frames.proofs as Frames
+pub use Rattle.rgo_core_memory.proofs as Memory
+pub use Rattle.rgo_core_rule.proofs as Rule
+
 pub mod Lists
 pub mod Counting
 pub mod Runs

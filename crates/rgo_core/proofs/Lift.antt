@@ -4,7 +4,7 @@ use Rattle.std.proofs.lemmas.Bool.Decides.{nat_tests}
 use Rattle.std.proofs.lemmas.List.{append-nil, length-map}
 use Rattle.std.proofs.lemmas.Option.{same_Some, slice_get_within}
 use Rattle.std.specs.List.{list_all}
-use Rattle.rgo_code.specs.Code.{Code}
+use Rattle.rgo_sound.specs.Code.Code.{Code}
 use Rattle.rgo_core_frames.proofs.Ints.{ints_stay}
 use Rattle.rgo_core_frames.proofs.Sound.{next_sound}
 use Rattle.rgo_core_frames.specs.Fits.{AllFit, IsPast, IsShown}
@@ -14,12 +14,12 @@ use Rattle.rgo_core_frames.specs.States.{IsSound}
 use Rattle.rgo_core_frames.specs.WordFrames.{WordFrame}
 use Rattle.rgo_core_memory.proofs.Rows.{at_set}
 use Rattle.rgo_core_memory.proofs.Stepped.{map_get, map_set}
-use Rattle.rgo_machine.specs.Limits.{deepest, has_room, is_within, most_goroutines}
-use Rattle.rgo_machine.specs.declared.limits.Limits.{Limits}
-use Rattle.rgo_region_machine.specs.Machine.{Event}
-use Rattle.rgo_region_machine.specs.States.{RegionState}
+use Rattle.rgo_sound.specs.Machine.Limits.{deepest, has_room, is_within, most_goroutines}
+use Rattle.rgo_sound.specs.Machine.declared.limits.Limits.{Limits}
+use Rattle.rgo_sound.specs.RegionMachine.Machine.{Event}
+use Rattle.rgo_sound.specs.RegionMachine.States.{RegionState}
 use Rattle.rgo_sound.proofs.Places.{get_some, length_set}
-use Rattle.rgo_tac.specs.Frames.{Frame}
+use Rattle.rgo_sound.specs.Tac.Frames.{Frame}
 use Rattle.rgo_core.specs.Core.{CoreAt, Here, Setup, layout}
 use Rattle.rgo_core.specs.Image.{Image}
 use Rattle.rgo_core.specs.Records.{ClockRec, Record, accesses, clock_of, frame_of}

@@ -1,13 +1,13 @@
 -- Records that are before an access to an element, and such as are not.
 use Rattle.std.proofs.Common.{◌≡◌, ℕ, List, [], ◌∷◌, Some, None, refl, ap, ◌∙◌, arith}
 use Rattle.std.proofs.lemmas.Option.{same_Some}
-use Rattle.rgo_code.specs.Code.{Code, CodeInstr, Do}
+use Rattle.rgo_sound.specs.Code.Code.{Code, CodeInstr, Do}
 use Rattle.rgo_core_frames.specs.Opening.{no_record}
 use Rattle.rgo_core_frames.specs.WordFrames.{WordFrame, bare, word_at}
 use Rattle.rgo_core_memory.specs.Records.{Measured}
-use Rattle.rgo_region_machine.specs.Examples.{int_slot, main_of, plain}
-use Rattle.rgo_region_machine.specs.Owed.{current}
-use Rattle.rgo_typed.specs.declared.actions.Action.TheVariants.{At, Put}
+use Rattle.rgo_sound.specs.RegionMachine.Examples.{int_slot, main_of, plain}
+use Rattle.rgo_sound.specs.RegionMachine.Owed.{current}
+use Rattle.rgo_sound.specs.Typed.declared.actions.Action.TheVariants.{At, Put}
 use Rattle.rgo_core.specs.LinkExamples.{LinkExamples, four, knowing, loading, loads}
 use Rattle.rgo_core.specs.Links.{BeforeLoad, BeforeStore, IsAtElement}
 use Rattle.rgo_core.specs.Next.{IsAt}

@@ -2,15 +2,15 @@
 use Rattle.std.proofs.Common.{◌≡◌, ◌≢◌, ⊎_elim, ℕ, suc, ◌+◌, ◌<◌, ◌≤◌, pos, List, [], ◌∷◌, ◌++◌, Option, Some, None, length, map, slice_get, slice_index, slice_set, refl, ap, sym, subst, ◌∙◌, arith}
 use Rattle.std.proofs.lemmas.List.{get_or-set_other}
 use Rattle.std.proofs.lemmas.Option.{same_Some}
-use Rattle.rgo_code.specs.Code.{Code, CodeInstr, CodeOp, Do}
-use Rattle.rgo_memory.specs.Memory.{Object, SliceObject}
-use Rattle.rgo_memory.specs.declared.values.Value.{Value}
-use Rattle.rgo_memory.specs.declared.values.Value.TheVariants as value
-use Rattle.rgo_region_machine.specs.Objects.{words as words_of}
-use Rattle.rgo_region_machine.specs.Owed.{current}
-use Rattle.rgo_region_machine.specs.States.{Duty}
-use Rattle.rgo_region_machine.specs.declared.regions.Region.{Region}
-use Rattle.rgo_typed.specs.declared.actions.Action.TheVariants as action
+use Rattle.rgo_sound.specs.Code.Code.{Code, CodeInstr, CodeOp, Do}
+use Rattle.rgo_sound.specs.Memory.Memory.{Object, SliceObject}
+use Rattle.rgo_sound.specs.Memory.declared.values.Value.{Value}
+use Rattle.rgo_sound.specs.Memory.declared.values.Value.TheVariants as value
+use Rattle.rgo_sound.specs.RegionMachine.Objects.{words as words_of}
+use Rattle.rgo_sound.specs.RegionMachine.Owed.{current}
+use Rattle.rgo_sound.specs.RegionMachine.States.{Duty}
+use Rattle.rgo_sound.specs.RegionMachine.declared.regions.Region.{Region}
+use Rattle.rgo_sound.specs.Typed.declared.actions.Action.TheVariants as action
 use Rattle.rgo_core_frames.specs.Records.{Rec as FrameRec}
 use Rattle.rgo_core_frames.specs.WordFrames.{WordFrame, bare}
 use Rattle.rgo_sound.proofs.Places.{get_snoc, head_is}

@@ -1,7 +1,7 @@
 -- A local instruction or duty of the record is one of the region machine, and needs no access.
 use Rattle.std.proofs.Common.{◌≡◌, inr, ℕ, zero, suc, ◌+◌, ◌≤◌, Bool, true, false, List, [], ◌∷◌, Option, Some, None, if◌then◌else◌, option_map, option_and_then, length, map, slice_get, slice_set, slice_index, bit_or, refl, ap, sym, subst, ◌∙◌, arith}
 use Rattle.std.proofs.lemmas.Option.{same_Some}
-use Rattle.rgo_code.specs.Code.{Branch, Call, Code, CodeInstr, CodeOp, Do, Go, Jump, Print, Return}
+use Rattle.rgo_sound.specs.Code.Code.{Branch, Call, Code, CodeInstr, CodeOp, Do, Go, Jump, Print, Return}
 use Rattle.rgo_core_channels.specs.Records.{Rec as SideRec, at_rest}
 use Rattle.rgo_core_frames.proofs.Before.{before_law}
 use Rattle.rgo_core_frames.proofs.Leaving.{mark_stays}
@@ -18,18 +18,18 @@ use Rattle.rgo_core_memory.proofs.Elsewhere.{ground_keeps}
 use Rattle.rgo_core_memory.proofs.Quiets.{quiet_keeps}
 use Rattle.rgo_core_memory.specs.Image.{Memory}
 use Rattle.rgo_core_memory.specs.Quiet.{IsGo}
-use Rattle.rgo_machine.specs.Limits.{deepest}
-use Rattle.rgo_machine.specs.declared.picks.End.TheVariants.{Exit}
-use Rattle.rgo_machine.specs.declared.picks.Pick.TheVariants.{One}
-use Rattle.rgo_region_machine.specs.Counts.{counts_of}
-use Rattle.rgo_region_machine.specs.Duties.{may_go}
-use Rattle.rgo_region_machine.specs.Instructions.{marked}
-use Rattle.rgo_region_machine.specs.Machine.{Instruct, region_step}
-use Rattle.rgo_region_machine.specs.Owed.{current}
-use Rattle.rgo_region_machine.specs.Room.{has_room}
-use Rattle.rgo_region_machine.specs.States.{Duty, Ended, Holder, Mark, RegionState}
+use Rattle.rgo_sound.specs.Machine.Limits.{deepest}
+use Rattle.rgo_sound.specs.Machine.declared.picks.End.TheVariants.{Exit}
+use Rattle.rgo_sound.specs.Machine.declared.picks.Pick.TheVariants.{One}
+use Rattle.rgo_sound.specs.RegionMachine.Counts.{counts_of}
+use Rattle.rgo_sound.specs.RegionMachine.Duties.{may_go}
+use Rattle.rgo_sound.specs.RegionMachine.Instructions.{marked}
+use Rattle.rgo_sound.specs.RegionMachine.Machine.{Instruct, region_step}
+use Rattle.rgo_sound.specs.RegionMachine.Owed.{current}
+use Rattle.rgo_sound.specs.RegionMachine.Room.{has_room}
+use Rattle.rgo_sound.specs.RegionMachine.States.{Duty, Ended, Holder, Mark, RegionState}
 use Rattle.rgo_sound.specs.Tally.{counts_plus, no_share}
-use Rattle.rgo_tac.specs.Frames.{Frame}
+use Rattle.rgo_sound.specs.Tac.Frames.{Frame}
 use Rattle.rgo_core.specs.Core.{Here, Setup, layout}
 use Rattle.rgo_core.specs.ClockSteps.{Ends, first_mark}
 use Rattle.rgo_core.specs.Image.{Image}

@@ -1,30 +1,30 @@
 -- What the object that a record makes next says of the region machine.
 use Rattle.std.proofs.Common.{◌≡◌, inl, inr, ℕ, ◌<◌, ◌≤◌, ◌^◌, false, pos, List, [], ◌∷◌, Option, Some, None, map, replicate, slice_get, refl, ap, sym, subst, ◌∙◌, arith, Contains}
 use Rattle.std.specs.Int.{cast_signed, w64}
-use Rattle.rgo_code.specs.Code.{CodeOp, Do}
-use Rattle.rgo_code.specs.Erasure.{erased, erased_fn, erased_op}
-use Rattle.rgo_code.specs.Types.{DoFits, HasType, HaveTypes, OpFits}
-use Rattle.rgo_memory.specs.Making.{made as made_effect, made_struct}
-use Rattle.rgo_memory.specs.Memory.{Memory as Heap, Object, SliceObject, StructObject}
-use Rattle.rgo_memory.specs.Values.{element_zero, zero_of}
-use Rattle.rgo_memory.specs.declared.values.Value.{Value}
-use Rattle.rgo_memory.specs.declared.values.Value.TheVariants as value
-use Rattle.rgo_region_machine.specs.Objects.{making_region}
-use Rattle.rgo_region_machine.specs.Owed.{function_at, function_of}
-use Rattle.rgo_region_machine.specs.States.{top_names}
-use Rattle.rgo_region_machine.specs.declared.regions.Region.{Region}
+use Rattle.rgo_sound.specs.Code.Code.{CodeOp, Do}
+use Rattle.rgo_sound.specs.Code.Erasure.{erased, erased_fn, erased_op}
+use Rattle.rgo_sound.specs.Code.Types.{DoFits, HasType, HaveTypes, OpFits}
+use Rattle.rgo_sound.specs.Memory.Making.{made as made_effect, made_struct}
+use Rattle.rgo_sound.specs.Memory.Memory.{Memory as Heap, Object, SliceObject, StructObject}
+use Rattle.rgo_sound.specs.Memory.Values.{element_zero, zero_of}
+use Rattle.rgo_sound.specs.Memory.declared.values.Value.{Value}
+use Rattle.rgo_sound.specs.Memory.declared.values.Value.TheVariants as value
+use Rattle.rgo_sound.specs.RegionMachine.Objects.{making_region}
+use Rattle.rgo_sound.specs.RegionMachine.Owed.{function_at, function_of}
+use Rattle.rgo_sound.specs.RegionMachine.States.{top_names}
+use Rattle.rgo_sound.specs.RegionMachine.declared.regions.Region.{Region}
 use Rattle.rgo_sound.proofs.Acting.{performed}
 use Rattle.rgo_sound.proofs.Places.{contains_here, head_is}
 use Rattle.rgo_sound.proofs.TypedSteps.{types}
-use Rattle.rgo_tac.specs.Code.{Tac, TacFn}
-use Rattle.rgo_tac.specs.Flow.{reads}
-use Rattle.rgo_tac.specs.Frames.{Frame, value_at, values_of}
-use Rattle.rgo_tac.specs.Steps.{type_in, type_of}
-use Rattle.rgo_typed.specs.declared.actions.Action.{Action}
-use Rattle.rgo_typed.specs.declared.actions.Action.TheVariants as action
-use Rattle.rgo_typed.specs.declared.programs.Struct.{Struct}
-use Rattle.rgo_typed.specs.declared.types.Type.{«Type»}
-use Rattle.rgo_wellformed.specs.TypeRules.{int}
+use Rattle.rgo_sound.specs.Tac.Code.{Tac, TacFn}
+use Rattle.rgo_sound.specs.Tac.Flow.{reads}
+use Rattle.rgo_sound.specs.Tac.Frames.{Frame, value_at, values_of}
+use Rattle.rgo_sound.specs.Tac.Steps.{type_in, type_of}
+use Rattle.rgo_sound.specs.Typed.declared.actions.Action.{Action}
+use Rattle.rgo_sound.specs.Typed.declared.actions.Action.TheVariants as action
+use Rattle.rgo_sound.specs.Typed.declared.programs.Struct.{Struct}
+use Rattle.rgo_sound.specs.Typed.declared.types.Type.{«Type»}
+use Rattle.rgo_sound.specs.WellFormed.TypeRules.{int}
 use Rattle.rgo_core_channels.specs.Channels.{Chan, channel}
 use Rattle.rgo_core_channels.proofs.Steps.{same_channel}
 use Rattle.rgo_core_frames.specs.Before.{IsBefore}

@@ -1,23 +1,23 @@
 -- The store that commits an offer, a meeting or an acknowledgement.
 use Rattle.std.proofs.Common.{◌≡◌, ◌⊎◌, ℕ, ◌+◌, ◌-◌, ◌≤◌, List, [], ◌∷◌, Option, Some, None, length, map, slice_get, slice_set, refl, ap, sym, subst, ◌∙◌, inl, inr, arith, Contains}
 use Rattle.std.proofs.lemmas.Option.{same_Some}
-use Rattle.rgo_typed.specs.declared.actions.Action.TheVariants.{Recv, Send}
-use Rattle.rgo_memory.specs.declared.values.Value.{Value}
-use Rattle.rgo_memory.specs.declared.values.Value.TheVariants as value
-use Rattle.rgo_machine.specs.Limits.{deepest}
-use Rattle.rgo_machine.specs.declared.picks.Pick.TheVariants.{Meet}
-use Rattle.rgo_tac.specs.Flow.{reads}
-use Rattle.rgo_tac.specs.Frames.{Frame, value_at, values_of}
-use Rattle.rgo_tac.specs.Steps.{type_of}
-use Rattle.rgo_typed.specs.declared.types.Type.{«Type»}
-use Rattle.rgo_wellformed.specs.TypeRules.{chan_of}
-use Rattle.rgo_code.specs.Code.{CodeInstr, CodeOp}
-use Rattle.rgo_code.specs.Erasure.{erased, erased_fn, erased_op}
-use Rattle.rgo_code.specs.Types.{DoFits}
-use Rattle.rgo_region_machine.specs.Duties.{attended}
-use Rattle.rgo_region_machine.specs.Machine.{Acknowledge, Instruct, MakeOffer}
-use Rattle.rgo_region_machine.specs.Owed.{current}
-use Rattle.rgo_region_machine.specs.States.{Holder, NoOffer, RegionState, Standing, frames_in}
+use Rattle.rgo_sound.specs.Typed.declared.actions.Action.TheVariants.{Recv, Send}
+use Rattle.rgo_sound.specs.Memory.declared.values.Value.{Value}
+use Rattle.rgo_sound.specs.Memory.declared.values.Value.TheVariants as value
+use Rattle.rgo_sound.specs.Machine.Limits.{deepest}
+use Rattle.rgo_sound.specs.Machine.declared.picks.Pick.TheVariants.{Meet}
+use Rattle.rgo_sound.specs.Tac.Flow.{reads}
+use Rattle.rgo_sound.specs.Tac.Frames.{Frame, value_at, values_of}
+use Rattle.rgo_sound.specs.Tac.Steps.{type_of}
+use Rattle.rgo_sound.specs.Typed.declared.types.Type.{«Type»}
+use Rattle.rgo_sound.specs.WellFormed.TypeRules.{chan_of}
+use Rattle.rgo_sound.specs.Code.Code.{CodeInstr, CodeOp}
+use Rattle.rgo_sound.specs.Code.Erasure.{erased, erased_fn, erased_op}
+use Rattle.rgo_sound.specs.Code.Types.{DoFits}
+use Rattle.rgo_sound.specs.RegionMachine.Duties.{attended}
+use Rattle.rgo_sound.specs.RegionMachine.Machine.{Acknowledge, Instruct, MakeOffer}
+use Rattle.rgo_sound.specs.RegionMachine.Owed.{current}
+use Rattle.rgo_sound.specs.RegionMachine.States.{Holder, NoOffer, RegionState, Standing, frames_in}
 use Rattle.rgo_sound.proofs.Places.{contains_here, contains_there, length_set, head_is}
 use Rattle.rgo_sound.proofs.Progress.{frames_some}
 use Rattle.rgo_sound.proofs.Types.{same_chan}

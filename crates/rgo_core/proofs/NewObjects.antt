@@ -4,21 +4,21 @@ use Rattle.std.proofs.Math.ListN.{length-set}
 use Rattle.std.proofs.lemmas.Bool.Decides.{nat_tests}
 use Rattle.std.proofs.lemmas.List.{append-nil, length-append}
 use Rattle.std.proofs.lemmas.Option.{same_Some}
-use Rattle.rgo_code.specs.Code.{Do}
-use Rattle.rgo_machine.specs.declared.picks.Pick.TheVariants.{One}
-use Rattle.rgo_memory.specs.Memory.{Channel, Memory as Heap, Object, SliceObject, StructObject}
-use Rattle.rgo_memory.specs.declared.values.Value.{Value}
-use Rattle.rgo_memory.specs.declared.values.Value.TheVariants as value
-use Rattle.rgo_region_machine.specs.Machine.{Instruct}
-use Rattle.rgo_region_machine.specs.Objects.{allotted, fill_of, making_region, placed, with_fill, words as words_of}
-use Rattle.rgo_region_machine.specs.Owed.{function_at, function_of}
-use Rattle.rgo_region_machine.specs.Regions.{is_live}
-use Rattle.rgo_region_machine.specs.States.{Holder, RegionState, top_names}
-use Rattle.rgo_region_machine.specs.declared.regions.Region.{Region}
-use Rattle.rgo_region_machine.specs.declared.regions.Region.TheVariants.{Global as GlobalRegion, Numbered}
+use Rattle.rgo_sound.specs.Code.Code.{Do}
+use Rattle.rgo_sound.specs.Machine.declared.picks.Pick.TheVariants.{One}
+use Rattle.rgo_sound.specs.Memory.Memory.{Channel, Memory as Heap, Object, SliceObject, StructObject}
+use Rattle.rgo_sound.specs.Memory.declared.values.Value.{Value}
+use Rattle.rgo_sound.specs.Memory.declared.values.Value.TheVariants as value
+use Rattle.rgo_sound.specs.RegionMachine.Machine.{Instruct}
+use Rattle.rgo_sound.specs.RegionMachine.Objects.{allotted, fill_of, making_region, placed, with_fill, words as words_of}
+use Rattle.rgo_sound.specs.RegionMachine.Owed.{function_at, function_of}
+use Rattle.rgo_sound.specs.RegionMachine.Regions.{is_live}
+use Rattle.rgo_sound.specs.RegionMachine.States.{Holder, RegionState, top_names}
+use Rattle.rgo_sound.specs.RegionMachine.declared.regions.Region.{Region}
+use Rattle.rgo_sound.specs.RegionMachine.declared.regions.Region.TheVariants.{Global as GlobalRegion, Numbered}
 use Rattle.rgo_sound.proofs.Places.{get_append_last, get_append_left, get_some, length_set}
-use Rattle.rgo_typed.specs.declared.actions.Action.{Action}
-use Rattle.rgo_typed.specs.declared.actions.Action.TheVariants.{Send}
+use Rattle.rgo_sound.specs.Typed.declared.actions.Action.{Action}
+use Rattle.rgo_sound.specs.Typed.declared.actions.Action.TheVariants.{Send}
 use Rattle.rgo_core_channels.specs.Channels.{Calm, Chan, Channels, On, Places, Unlocked, channel}
 use Rattle.rgo_core_channels.specs.Controls.{extent}
 use Rattle.rgo_core_channels.specs.Elsewhere.{IsMade, Leaves}

@@ -1,18 +1,18 @@
 -- The stores of a new object's words.
 use Rattle.std.proofs.Common.{◌≡◌, ◌⊎◌, inl, inr, ⊎_elim, ℕ, suc, ◌+◌, ◌*◌, ◌<◌, ◌≤◌, List, [], ◌∷◌, Option, Some, length, map, slice_set, refl, ap, sym, subst, ◌∙◌, arith}
 use Rattle.std.proofs.lemmas.List.{append-nil, length-append}
-use Rattle.rgo_code.specs.Code.{Do}
-use Rattle.rgo_machine.specs.Limits.{deepest}
-use Rattle.rgo_machine.specs.declared.picks.Pick.TheVariants.{One}
-use Rattle.rgo_memory.specs.Memory.{Memory as Heap, Object, SliceObject}
-use Rattle.rgo_region_machine.specs.Instructions.{printed_if}
-use Rattle.rgo_region_machine.specs.Machine.{Instruct}
-use Rattle.rgo_region_machine.specs.Objects.{making_region, words as words_of}
-use Rattle.rgo_region_machine.specs.Owed.{function_of}
-use Rattle.rgo_region_machine.specs.States.{top_names}
-use Rattle.rgo_region_machine.specs.declared.regions.Region.{Region}
+use Rattle.rgo_sound.specs.Code.Code.{Do}
+use Rattle.rgo_sound.specs.Machine.Limits.{deepest}
+use Rattle.rgo_sound.specs.Machine.declared.picks.Pick.TheVariants.{One}
+use Rattle.rgo_sound.specs.Memory.Memory.{Memory as Heap, Object, SliceObject}
+use Rattle.rgo_sound.specs.RegionMachine.Instructions.{printed_if}
+use Rattle.rgo_sound.specs.RegionMachine.Machine.{Instruct}
+use Rattle.rgo_sound.specs.RegionMachine.Objects.{making_region, words as words_of}
+use Rattle.rgo_sound.specs.RegionMachine.Owed.{function_of}
+use Rattle.rgo_sound.specs.RegionMachine.States.{top_names}
+use Rattle.rgo_sound.specs.RegionMachine.declared.regions.Region.{Region}
 use Rattle.rgo_sound.specs.Tally.{counts_plus, no_share}
-use Rattle.rgo_typed.specs.declared.actions.Action.{Action}
+use Rattle.rgo_sound.specs.Typed.declared.actions.Action.{Action}
 use Rattle.rgo_core_channels.specs.Channels.{Chan, On, channel}
 use Rattle.rgo_core_channels.specs.Controls.{extent}
 use Rattle.rgo_core_channels.specs.Records.{at_rest}

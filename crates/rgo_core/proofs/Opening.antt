@@ -3,10 +3,10 @@ use Rattle.std.proofs.Common.{◌≡◌, ℕ, zero, suc, ◌<◌, ◌≤◌, ◌
 use Rattle.std.proofs.lemmas.Bool.Decides.{nat_tests}
 use Rattle.std.proofs.lemmas.Grind.{common_steps}
 use Rattle.std.proofs.lemmas.Option.{same_Some}
-use Rattle.rgo_code.specs.Checked.{IsChecked}
-use Rattle.rgo_code.specs.Code.{Code, CodeFn}
-use Rattle.rgo_code.specs.Erasure.{erased, erased_fn}
-use Rattle.rgo_code.specs.NameRules.{Ascends}
+use Rattle.rgo_sound.specs.Code.Checked.{IsChecked}
+use Rattle.rgo_sound.specs.Code.Code.{Code, CodeFn}
+use Rattle.rgo_sound.specs.Code.Erasure.{erased, erased_fn}
+use Rattle.rgo_sound.specs.Code.NameRules.{Ascends}
 use Rattle.rgo_core_channels.proofs.Opening.{opens as channels_open}
 use Rattle.rgo_core_channels.specs.Channels.{Calm, Places, Unlocked}
 use Rattle.rgo_core_frames.proofs.Ints.{ints_stay}
@@ -23,13 +23,13 @@ use Rattle.rgo_core_memory.specs.Opening.{first_words, nowhere}
 use Rattle.rgo_core_memory.specs.Words.{all_words, count_at}
 use Rattle.rgo_core_memory.specs.declared.layout.TableSizes.{TableSizes}
 use Rattle.rgo_core_rule.specs.Lists.{flattened}
-use Rattle.rgo_machine.specs.Limits.{is_within, most_goroutines}
-use Rattle.rgo_machine.specs.declared.limits.Limits.{Limits}
-use Rattle.rgo_region_machine.specs.Machine.{main_holder, region_start}
+use Rattle.rgo_sound.specs.Machine.Limits.{is_within, most_goroutines}
+use Rattle.rgo_sound.specs.Machine.declared.limits.Limits.{Limits}
+use Rattle.rgo_sound.specs.RegionMachine.Machine.{main_holder, region_start}
 use Rattle.rgo_sound.proofs.Others.{Main, main_of}
-use Rattle.rgo_tac.specs.Code.{TacFn}
-use Rattle.rgo_tac.specs.Frames.{Frame, called}
-use Rattle.rgo_tac.specs.Tac.{main_frames}
+use Rattle.rgo_sound.specs.Tac.Code.{TacFn}
+use Rattle.rgo_sound.specs.Tac.Frames.{Frame, called}
+use Rattle.rgo_sound.specs.Tac.Tac.{main_frames}
 use Rattle.rgo_core.specs.Clock.{Clock}
 use Rattle.rgo_core.specs.Core.{Core, Setup, layout}
 use Rattle.rgo_core.specs.Image.{Image, place_of}

@@ -1,32 +1,32 @@
 -- Traps that the operands of an instruction tell.
 use Rattle.std.proofs.Common.{◌≡◌, ◌⊎◌, inl, inr, ℕ, ◌<◌, ◌≤◌, ◌^◌, ℤ, pos, negsuc, List, [], ◌∷◌, Option, Some, None, Err, map, refl, ap, subst, ◌∙◌, arith, w64, Contains}
 use Rattle.std.specs.Int.{cast_signed}
-use Rattle.rgo_ast.specs.declared.ops.BinaryOp.{BinaryOp}
-use Rattle.rgo_ast.specs.declared.ops.BinaryOp.TheVariants.{Div, Rem}
-use Rattle.rgo_code.specs.Code.{Do}
-use Rattle.rgo_code.specs.Erasure.{erased, erased_fn, erased_op}
-use Rattle.rgo_code.specs.Types.{DoFits, HasType}
-use Rattle.rgo_machine.specs.declared.picks.End.TheVariants as the_end
-use Rattle.rgo_machine.specs.declared.picks.Pick.TheVariants.{One}
-use Rattle.rgo_memory.specs.Effects.{Traps, answered}
-use Rattle.rgo_memory.specs.Memory.{Memory}
-use Rattle.rgo_memory.specs.Operators.{binary_of}
-use Rattle.rgo_memory.specs.declared.traps.Trap.TheVariants.{BadSize, DivideZero, NilPointer}
-use Rattle.rgo_memory.specs.declared.values.Value.{Value}
-use Rattle.rgo_memory.specs.declared.values.Value.TheVariants as value
-use Rattle.rgo_region_machine.specs.Instructions.{marked}
-use Rattle.rgo_region_machine.specs.Machine.{Instruct}
+use Rattle.rgo_sound.specs.Ast.declared.ops.BinaryOp.{BinaryOp}
+use Rattle.rgo_sound.specs.Ast.declared.ops.BinaryOp.TheVariants.{Div, Rem}
+use Rattle.rgo_sound.specs.Code.Code.{Do}
+use Rattle.rgo_sound.specs.Code.Erasure.{erased, erased_fn, erased_op}
+use Rattle.rgo_sound.specs.Code.Types.{DoFits, HasType}
+use Rattle.rgo_sound.specs.Machine.declared.picks.End.TheVariants as the_end
+use Rattle.rgo_sound.specs.Machine.declared.picks.Pick.TheVariants.{One}
+use Rattle.rgo_sound.specs.Memory.Effects.{Traps, answered}
+use Rattle.rgo_sound.specs.Memory.Memory.{Memory}
+use Rattle.rgo_sound.specs.Memory.Operators.{binary_of}
+use Rattle.rgo_sound.specs.Memory.declared.traps.Trap.TheVariants.{BadSize, DivideZero, NilPointer}
+use Rattle.rgo_sound.specs.Memory.declared.values.Value.{Value}
+use Rattle.rgo_sound.specs.Memory.declared.values.Value.TheVariants as value
+use Rattle.rgo_sound.specs.RegionMachine.Instructions.{marked}
+use Rattle.rgo_sound.specs.RegionMachine.Machine.{Instruct}
 use Rattle.rgo_sound.proofs.Acting.{performed, trap_place}
 use Rattle.rgo_sound.proofs.Places.{contains_here, contains_there}
-use Rattle.rgo_tac.specs.Code.{Tac, TacFn}
-use Rattle.rgo_tac.specs.Flow.{reads}
-use Rattle.rgo_tac.specs.Frames.{value_at, values_of}
-use Rattle.rgo_tac.specs.Steps.{type_of}
-use Rattle.rgo_typed.specs.declared.actions.Action.{Action}
-use Rattle.rgo_typed.specs.declared.actions.Action.TheVariants as action
-use Rattle.rgo_typed.specs.declared.programs.Struct.{Struct}
-use Rattle.rgo_typed.specs.declared.types.Type.{«Type»}
-use Rattle.rgo_wellformed.specs.TypeRules.{Computes, int, pointer_to}
+use Rattle.rgo_sound.specs.Tac.Code.{Tac, TacFn}
+use Rattle.rgo_sound.specs.Tac.Flow.{reads}
+use Rattle.rgo_sound.specs.Tac.Frames.{value_at, values_of}
+use Rattle.rgo_sound.specs.Tac.Steps.{type_of}
+use Rattle.rgo_sound.specs.Typed.declared.actions.Action.{Action}
+use Rattle.rgo_sound.specs.Typed.declared.actions.Action.TheVariants as action
+use Rattle.rgo_sound.specs.Typed.declared.programs.Struct.{Struct}
+use Rattle.rgo_sound.specs.Typed.declared.types.Type.{«Type»}
+use Rattle.rgo_sound.specs.WellFormed.TypeRules.{Computes, int, pointer_to}
 use Rattle.rgo_core_frames.proofs.Ending.{trap_law}
 use Rattle.rgo_core_frames.specs.Steps.{StepsTo}
 use Rattle.rgo_core_frames.specs.WordFrames.{word_at as word_of_frame}

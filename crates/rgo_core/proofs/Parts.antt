@@ -1,9 +1,9 @@
 -- The parts of an image about one goroutine, and an image put together from its parts.
 use Rattle.std.proofs.Common.{◌≡◌, ℕ, ◌+◌, ◌≤◌, List, Some, length, map, count_by, sum_by, slice_get, slice_set, ap, sym, subst, ◌∙◌}
-use Rattle.rgo_machine.specs.Limits.{deepest}
-use Rattle.rgo_region_machine.specs.Counts.{counts_of, is_removed, pages_if_removed}
-use Rattle.rgo_region_machine.specs.Regions.{RegionInfo}
-use Rattle.rgo_region_machine.specs.States.{RegionState}
+use Rattle.rgo_sound.specs.Machine.Limits.{deepest}
+use Rattle.rgo_sound.specs.RegionMachine.Counts.{counts_of, is_removed, pages_if_removed}
+use Rattle.rgo_sound.specs.RegionMachine.Regions.{RegionInfo}
+use Rattle.rgo_sound.specs.RegionMachine.States.{RegionState}
 use Rattle.rgo_sound.proofs.Places.{length_set}
 use Rattle.rgo_sound.specs.Tally.{counts_plus, no_share}
 use Rattle.rgo_core_channels.specs.Channels.{Channels, Places}

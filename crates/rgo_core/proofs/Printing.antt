@@ -2,24 +2,24 @@
 use Rattle.std.proofs.Common.{◌≡◌, ℕ, ◌+◌, ◌%◌, List, ◌∷◌, Some, length, slice_get, slice_set, slice_index, sum_by, count_by, refl, ap, sym, subst, ◌∙◌, arith}
 use Rattle.std.proofs.lemmas.List.{append-nil}
 use Rattle.std.proofs.lemmas.Option.{same_Some}
-use Rattle.rgo_code.specs.Code.{CodeInstr, CodeOp, Print}
+use Rattle.rgo_sound.specs.Code.Code.{CodeInstr, CodeOp, Print}
 use Rattle.rgo_core_channels.specs.Records.{at_rest}
 use Rattle.rgo_core_frames.proofs.Sound.{next_sound}
 use Rattle.rgo_core_frames.specs.Prints.{printed_values}
 use Rattle.rgo_core_frames.specs.WordFrames.{WordFrame}
 use Rattle.rgo_core_memory.proofs.Quiets.{quiet_keeps}
 use Rattle.rgo_core_memory.specs.Quiet.{IsGo}
-use Rattle.rgo_machine.specs.Lines.{line_of}
-use Rattle.rgo_machine.specs.declared.picks.Pick.TheVariants.{One}
-use Rattle.rgo_memory.specs.Memory.{Memory as Heap}
-use Rattle.rgo_region_machine.specs.Counts.{counts_of, is_removed, pages_if_removed}
-use Rattle.rgo_region_machine.specs.Machine.{Instruct}
-use Rattle.rgo_region_machine.specs.Owed.{current}
-use Rattle.rgo_region_machine.specs.Regions.{RegionInfo}
-use Rattle.rgo_region_machine.specs.States.{RegionState}
+use Rattle.rgo_sound.specs.Machine.Lines.{line_of}
+use Rattle.rgo_sound.specs.Machine.declared.picks.Pick.TheVariants.{One}
+use Rattle.rgo_sound.specs.Memory.Memory.{Memory as Heap}
+use Rattle.rgo_sound.specs.RegionMachine.Counts.{counts_of, is_removed, pages_if_removed}
+use Rattle.rgo_sound.specs.RegionMachine.Machine.{Instruct}
+use Rattle.rgo_sound.specs.RegionMachine.Owed.{current}
+use Rattle.rgo_sound.specs.RegionMachine.Regions.{RegionInfo}
+use Rattle.rgo_sound.specs.RegionMachine.States.{RegionState}
 use Rattle.rgo_sound.specs.Tally.{counts_plus, no_share}
-use Rattle.rgo_tac.specs.Frames.{Frame}
-use Rattle.rgo_typed.specs.declared.statements.Piece.{Piece}
+use Rattle.rgo_sound.specs.Tac.Frames.{Frame}
+use Rattle.rgo_sound.specs.Typed.declared.statements.Piece.{Piece}
 use Rattle.rgo_core_frames.proofs.ActionSteps.{print_law as frames_print}
 use Rattle.rgo_core.specs.ClockSteps.{Prints}
 use Rattle.rgo_core.specs.Core.{Here, Setup, layout}

@@ -5,13 +5,13 @@ use Rattle.std.proofs.lemmas.List.{length-map}
 use Rattle.std.proofs.lemmas.Option.{same_Some}
 use mathlib.Core.Logic.{dite}
 use native.Mathlib.Decide.{ℕ_discrete}
-use Rattle.rgo_region_machine.specs.Counts.{Counts, counts_of}
-use Rattle.rgo_region_machine.specs.Machine.{Attend}
-use Rattle.rgo_region_machine.specs.Regions.{RegionInfo, has_stakes, is_live, one_fewer, one_more}
-use Rattle.rgo_region_machine.specs.Room.{has_room}
-use Rattle.rgo_region_machine.specs.States.{Create, Duty, Holder, RegionState}
-use Rattle.rgo_region_machine.specs.declared.regions.Region.{Region}
-use Rattle.rgo_region_machine.specs.declared.regions.Region.TheVariants.{Global as GlobalRegion, Numbered}
+use Rattle.rgo_sound.specs.RegionMachine.Counts.{Counts, counts_of}
+use Rattle.rgo_sound.specs.RegionMachine.Machine.{Attend}
+use Rattle.rgo_sound.specs.RegionMachine.Regions.{RegionInfo, has_stakes, is_live, one_fewer, one_more}
+use Rattle.rgo_sound.specs.RegionMachine.Room.{has_room}
+use Rattle.rgo_sound.specs.RegionMachine.States.{Create, Duty, Holder, RegionState}
+use Rattle.rgo_sound.specs.RegionMachine.declared.regions.Region.{Region}
+use Rattle.rgo_sound.specs.RegionMachine.declared.regions.Region.TheVariants.{Global as GlobalRegion, Numbered}
 use Rattle.rgo_sound.proofs.Attends.{length_with_info, staked_live}
 use Rattle.rgo_sound.proofs.Places.{get_append_left}
 use Rattle.rgo_sound.proofs.Tally.{tally_adds}

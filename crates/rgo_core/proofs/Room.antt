@@ -1,14 +1,14 @@
 -- A page that was found free, or a slot, is one that is left: the step that takes it has room.
 use Rattle.std.proofs.Common.{◌≡◌, ℕ, ◌<◌, true, nat_lt, List, [], ◌∷◌, length, map, Option, Some, None, slice_get, slice_index, refl, ap, ◌∙◌, arith}
 use Rattle.std.proofs.lemmas.Bool.Decides.{nat_tests}
-use Rattle.rgo_code.specs.Code.{Code}
+use Rattle.rgo_sound.specs.Code.Code.{Code}
 use Rattle.rgo_core_memory.proofs.InUse.{some_left}
 use Rattle.rgo_core_memory.specs.Words.{count_at, state_at}
-use Rattle.rgo_machine.specs.declared.limits.Sizes.{Sizes}
-use Rattle.rgo_region_machine.specs.Counts.{Counts}
-use Rattle.rgo_region_machine.specs.Machine.{Attend, TakePage, region_step}
-use Rattle.rgo_region_machine.specs.Room.{has_room, has_room_for, has_room_for_first, has_room_to_attend, live_regions, pages_in_use}
-use Rattle.rgo_region_machine.specs.States.{Create, Duty, EndBase, Holder, Protect, RegionState, Remove, Share, Unprotect}
+use Rattle.rgo_sound.specs.Machine.declared.limits.Sizes.{Sizes}
+use Rattle.rgo_sound.specs.RegionMachine.Counts.{Counts}
+use Rattle.rgo_sound.specs.RegionMachine.Machine.{Attend, TakePage, region_step}
+use Rattle.rgo_sound.specs.RegionMachine.Room.{has_room, has_room_for, has_room_for_first, has_room_to_attend, live_regions, pages_in_use}
+use Rattle.rgo_sound.specs.RegionMachine.States.{Create, Duty, EndBase, Holder, Protect, RegionState, Remove, Share, Unprotect}
 use Rattle.rgo_sound.proofs.Tally.{tally_adds}
 use Rattle.rgo_sound.specs.Tally.{share_of_duty, share_of_first, share_of_holder}
 use Rattle.rgo_core.proofs.Parts.{I}

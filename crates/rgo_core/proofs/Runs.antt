@@ -2,12 +2,12 @@
 use Rattle.std.proofs.Common.{◌≡◌, ℕ, Bool, true, List, [], ◌∷◌, ◌++◌, Option, Some, None, if◌then◌else◌, option_and_then, refl, ap, sym, ◌∙◌, append_assoc}
 use Rattle.std.proofs.lemmas.List.{append-nil}
 use Rattle.std.proofs.lemmas.Option.{same_Some}
-use Rattle.rgo_code.specs.Code.{Code}
-use Rattle.rgo_machine.specs.Limits.{is_within}
-use Rattle.rgo_machine.specs.Runs.{run}
-use Rattle.rgo_machine.specs.declared.limits.Limits.{Limits}
-use Rattle.rgo_region_machine.specs.Machine.{Event, region_step}
-use Rattle.rgo_region_machine.specs.States.{Mark, RegionState}
+use Rattle.rgo_sound.specs.Code.Code.{Code}
+use Rattle.rgo_sound.specs.Machine.Limits.{is_within}
+use Rattle.rgo_sound.specs.Machine.Runs.{run}
+use Rattle.rgo_sound.specs.Machine.declared.limits.Limits.{Limits}
+use Rattle.rgo_sound.specs.RegionMachine.Machine.{Event, region_step}
+use Rattle.rgo_sound.specs.RegionMachine.States.{Mark, RegionState}
 use Rattle.rgo_core.specs.Runs.{Marked, Printed, if_in_limits, limited_run, limited_step}
 
 pub run_then : {S E : Type 0} (step : S → E → Option S) (s : S) (es : List E) (t u : S) (e : E) → run step s es ≡ Some t

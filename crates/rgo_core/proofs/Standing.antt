@@ -1,6 +1,6 @@
 -- What the core says where laws about frames, memory and channels begin; and words that are no matter of the image.
 use Rattle.std.proofs.Common.{◌≡◌, inl, ℕ, ◌<◌, List, Some, length, map, slice_get, slice_set, ap, sym, subst, ◌∙◌, arith}
-use Rattle.rgo_code.specs.Code.{CodeOp}
+use Rattle.rgo_sound.specs.Code.Code.{CodeOp}
 use Rattle.rgo_core_channels.proofs.Quiet as channel_laws
 use Rattle.rgo_core_channels.specs.Channels.{Channels, Places}
 use Rattle.rgo_core_channels.specs.Records.{Rec as SideRec}
@@ -14,8 +14,8 @@ use Rattle.rgo_core_memory.specs.Image.{Memory, Where, code_of}
 use Rattle.rgo_core_memory.specs.Records.{Rec as MemoryRec}
 use Rattle.rgo_core_memory.specs.Words.{base}
 use Rattle.rgo_core_memory.specs.declared.layout.TableSizes.{TableSizes}
-use Rattle.rgo_code.specs.Code.{Code}
-use Rattle.rgo_region_machine.specs.States.{RegionState}
+use Rattle.rgo_sound.specs.Code.Code.{Code}
+use Rattle.rgo_sound.specs.RegionMachine.States.{RegionState}
 use Rattle.rgo_core.specs.Core.{Here, Setup}
 use Rattle.rgo_core.specs.Image.{Image, place_of}
 use Rattle.rgo_core.specs.Next.{IsAt}

@@ -2,7 +2,7 @@
 use Rattle.std.proofs.Common.{◌≡◌, ⊎_elim, ℕ, suc, ◌+◌, ◌≤◌, List, [], ◌∷◌, ◌++◌, Some, length, map, slice_get, slice_set, slice_index, sum_by, count_by, refl, ap, sym, subst, ◌∙◌, arith, length-append}
 use Rattle.std.proofs.lemmas.List.{append-nil}
 use Rattle.std.proofs.lemmas.Option.{same_Some, slice_get_within}
-use Rattle.rgo_code.specs.Code.{CodeFn, CodeOp, Go}
+use Rattle.rgo_sound.specs.Code.Code.{CodeFn, CodeOp, Go}
 use Rattle.rgo_core_channels.specs.Channels.{Channels}
 use Rattle.rgo_core_channels.specs.Records.{Rec as SideRec, at_rest}
 use Rattle.rgo_core_frames.proofs.Before.{no_offer}
@@ -19,16 +19,16 @@ use Rattle.rgo_core_memory.specs.Image.{Memory, code_of}
 use Rattle.rgo_core_memory.specs.Opening.{first_record}
 use Rattle.rgo_core_memory.specs.Quiet.{IsGo}
 use Rattle.rgo_core_memory.specs.Records.{Rec as MemoryRec}
-use Rattle.rgo_machine.specs.declared.picks.Pick.TheVariants.{One}
-use Rattle.rgo_memory.specs.Memory.{Memory as Heap}
-use Rattle.rgo_region_machine.specs.Counts.{Counts, counts_of, is_removed, pages_if_removed}
-use Rattle.rgo_region_machine.specs.Machine.{Instruct}
-use Rattle.rgo_region_machine.specs.Owed.{function_of}
-use Rattle.rgo_region_machine.specs.Regions.{RegionInfo}
-use Rattle.rgo_region_machine.specs.States.{Holder, NoOffer, RegionState, Standing}
+use Rattle.rgo_sound.specs.Machine.declared.picks.Pick.TheVariants.{One}
+use Rattle.rgo_sound.specs.Memory.Memory.{Memory as Heap}
+use Rattle.rgo_sound.specs.RegionMachine.Counts.{Counts, counts_of, is_removed, pages_if_removed}
+use Rattle.rgo_sound.specs.RegionMachine.Machine.{Instruct}
+use Rattle.rgo_sound.specs.RegionMachine.Owed.{function_of}
+use Rattle.rgo_sound.specs.RegionMachine.Regions.{RegionInfo}
+use Rattle.rgo_sound.specs.RegionMachine.States.{Holder, NoOffer, RegionState, Standing}
 use Rattle.rgo_sound.proofs.Places.{get_append_last, length_set}
 use Rattle.rgo_sound.specs.Tally.{counts_plus, no_share}
-use Rattle.rgo_tac.specs.declared.regions.Class.{Class}
+use Rattle.rgo_sound.specs.Tac.declared.regions.Class.{Class}
 use Rattle.rgo_core.specs.ClockSteps.{Starts}
 use Rattle.rgo_core.specs.Core.{Here, Setup, layout}
 use Rattle.rgo_core.specs.Image.{Image, place_of}
@@ -137,7 +137,7 @@ module _ {T : Setup} {g : ℕ} {c : Record} (x : Here T g c) (f : ℕ) (callee :
               (links_low x 16 (suc (slice_index x.words 16)) (omega arith) d (all_kept refl refl refl) (CountsOne (one_later (steps_of c)))) refl refl;
         };
         mark = p.mark;
-        printed = p.printed ∙ (ap (Rattle.rgo_region_machine.specs.Instructions.printed_if x.s.mark x.s.plain.printed) (append-nil x.s.plain.printed)
+        printed = p.printed ∙ (ap (Rattle.rgo_sound.specs.RegionMachine.Instructions.printed_if x.s.mark x.s.plain.printed) (append-nil x.s.plain.printed)
             ∙ Rattle.rgo_core_frames.proofs.Leaving.print_stays x.s.mark x.s.plain.printed);
         shallow = omega arith;
       }

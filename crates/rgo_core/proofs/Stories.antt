@@ -4,16 +4,16 @@ use Rattle.std.proofs.lemmas.List.{take_all}
 use Rattle.std.proofs.lemmas.Option.{same_Some}
 use mathlib.Core.Logic.{dite}
 use native.Mathlib.Decide.{dec_le, ℕ_discrete}
-use Rattle.rgo_code.specs.Code.{Code}
+use Rattle.rgo_sound.specs.Code.Code.{Code}
 use Rattle.rgo_core_rule.specs.Lists.{flattened}
-use Rattle.rgo_machine.specs.Limits.{is_within, most_goroutines}
-use Rattle.rgo_machine.specs.declared.limits.Limits.{Limits}
-use Rattle.rgo_machine.specs.declared.limits.Sizes.{Sizes}
-use Rattle.rgo_region_machine.specs.Counts.{Counts, counts_of}
-use Rattle.rgo_region_machine.specs.Instructions.{printed_if}
-use Rattle.rgo_region_machine.specs.Machine.{Event, region_start, region_step}
-use Rattle.rgo_region_machine.specs.Room.{has_room, roomy_run, roomy_step}
-use Rattle.rgo_region_machine.specs.States.{Mark, RegionState}
+use Rattle.rgo_sound.specs.Machine.Limits.{is_within, most_goroutines}
+use Rattle.rgo_sound.specs.Machine.declared.limits.Limits.{Limits}
+use Rattle.rgo_sound.specs.Machine.declared.limits.Sizes.{Sizes}
+use Rattle.rgo_sound.specs.RegionMachine.Counts.{Counts, counts_of}
+use Rattle.rgo_sound.specs.RegionMachine.Instructions.{printed_if}
+use Rattle.rgo_sound.specs.RegionMachine.Machine.{Event, region_start, region_step}
+use Rattle.rgo_sound.specs.RegionMachine.Room.{has_room, roomy_run, roomy_step}
+use Rattle.rgo_sound.specs.RegionMachine.States.{Mark, RegionState}
 use Rattle.rgo_sound.specs.Tally.{counts_plus, no_share}
 use Rattle.rgo_core.specs.Causes.{IsCause}
 use Rattle.rgo_core.specs.Clock.{Clock}

@@ -1,27 +1,27 @@
 -- Traps at channels: the instruction of the region machine traps, and the end is set in the clock.
 use Rattle.std.proofs.Common.{◌≡◌, ◌⊎◌, ℕ, true, List, [], ◌∷◌, Option, Some, map, option_map, slice_get, slice_set, slice_index, refl, ap, sym, subst, ◌∙◌, inl, inr}
 use Rattle.std.proofs.lemmas.Option.{same_Some}
-use Rattle.rgo_typed.specs.declared.actions.Action.{Action}
-use Rattle.rgo_typed.specs.declared.actions.Action.TheVariants.{Close, Send}
-use Rattle.rgo_typed.specs.declared.types.Type.{«Type»}
-use Rattle.rgo_wellformed.specs.TypeRules.{chan_of}
-use Rattle.rgo_memory.specs.Effects.{Effect, Traps}
-use Rattle.rgo_memory.specs.declared.traps.Trap.{Trap}
-use Rattle.rgo_memory.specs.declared.traps.Trap.TheVariants.{CloseClosed, CloseNil, SendClosed}
-use Rattle.rgo_memory.specs.declared.values.Value.{Value}
-use Rattle.rgo_memory.specs.declared.values.Value.TheVariants as value
-use Rattle.rgo_machine.specs.declared.picks.End.TheVariants as the_end
-use Rattle.rgo_machine.specs.declared.picks.Pick.TheVariants.{One}
-use Rattle.rgo_tac.specs.Frames.{value_at, values_of}
-use Rattle.rgo_tac.specs.Steps.{type_of}
-use Rattle.rgo_code.specs.Code.{CodeInstr, Do}
-use Rattle.rgo_code.specs.Erasure.{erased, erased_fn}
-use Rattle.rgo_code.specs.Types.{HasType}
-use Rattle.rgo_region_machine.specs.Duties.{may_go}
-use Rattle.rgo_region_machine.specs.Instructions.{marked}
-use Rattle.rgo_region_machine.specs.Machine.{Instruct}
-use Rattle.rgo_region_machine.specs.Owed.{current}
-use Rattle.rgo_region_machine.specs.States.{Ended, Holder, RegionState, Standing}
+use Rattle.rgo_sound.specs.Typed.declared.actions.Action.{Action}
+use Rattle.rgo_sound.specs.Typed.declared.actions.Action.TheVariants.{Close, Send}
+use Rattle.rgo_sound.specs.Typed.declared.types.Type.{«Type»}
+use Rattle.rgo_sound.specs.WellFormed.TypeRules.{chan_of}
+use Rattle.rgo_sound.specs.Memory.Effects.{Effect, Traps}
+use Rattle.rgo_sound.specs.Memory.declared.traps.Trap.{Trap}
+use Rattle.rgo_sound.specs.Memory.declared.traps.Trap.TheVariants.{CloseClosed, CloseNil, SendClosed}
+use Rattle.rgo_sound.specs.Memory.declared.values.Value.{Value}
+use Rattle.rgo_sound.specs.Memory.declared.values.Value.TheVariants as value
+use Rattle.rgo_sound.specs.Machine.declared.picks.End.TheVariants as the_end
+use Rattle.rgo_sound.specs.Machine.declared.picks.Pick.TheVariants.{One}
+use Rattle.rgo_sound.specs.Tac.Frames.{value_at, values_of}
+use Rattle.rgo_sound.specs.Tac.Steps.{type_of}
+use Rattle.rgo_sound.specs.Code.Code.{CodeInstr, Do}
+use Rattle.rgo_sound.specs.Code.Erasure.{erased, erased_fn}
+use Rattle.rgo_sound.specs.Code.Types.{HasType}
+use Rattle.rgo_sound.specs.RegionMachine.Duties.{may_go}
+use Rattle.rgo_sound.specs.RegionMachine.Instructions.{marked}
+use Rattle.rgo_sound.specs.RegionMachine.Machine.{Instruct}
+use Rattle.rgo_sound.specs.RegionMachine.Owed.{current}
+use Rattle.rgo_sound.specs.RegionMachine.States.{Ended, Holder, RegionState, Standing}
 use Rattle.rgo_sound.proofs.Acting.{performed, silent, trap_place}
 use Rattle.rgo_sound.proofs.Places.{contains_here, head_is}
 use Rattle.rgo_core_channels.specs.After.{after_trap}

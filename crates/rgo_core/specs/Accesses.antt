@@ -1,8 +1,8 @@
 -- Loads and stores: fields of structs, elements and lengths of slices, and package variables. Each is the instruction, but for the load of
 -- a length before an access to an element, which tells that the index is within it.
 use Rattle.std.specs.Prelude.{◌≡◌, ◌+◌, ◌<◌, ℕ, suc, List, [], ◌∷◌, Some, None}
-use Rattle.rgo_code.specs.Code.{Do}
-use Rattle.rgo_typed.specs.declared.actions.Action.TheVariants as action
+use Rattle.rgo_sound.specs.Code.Code.{Do}
+use Rattle.rgo_sound.specs.Typed.declared.actions.Action.TheVariants as action
 use Rattle.rgo_core_channels.specs.Records.{at_rest}
 use Rattle.rgo_core_frames.specs.Actions.{after_action}
 use Rattle.rgo_core_frames.specs.WordFrames.{word_at}

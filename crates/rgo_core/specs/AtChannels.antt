@@ -1,11 +1,11 @@
 -- A goroutine at a channel, told by its record: before an operation on it, or with an offer there.
 use Rattle.std.specs.Prelude.{◌≡◌, ◌+◌, ◌⊎◌, ℕ, suc, List, ◌∷◌, Option}
-use Rattle.rgo_code.specs.Code.{Do}
+use Rattle.rgo_sound.specs.Code.Code.{Do}
 use Rattle.rgo_core_channels.specs.Records.{Offering, Rec as SideRec, at_rest}
 use Rattle.rgo_core_channels.specs.Standing.{IsOfChannel}
 use Rattle.rgo_core_frames.specs.WordFrames.{word_at}
 use Rattle.rgo_core_memory.specs.Words.{base}
-use Rattle.rgo_typed.specs.declared.actions.Action.{Action}
+use Rattle.rgo_sound.specs.Typed.declared.actions.Action.{Action}
 use Rattle.rgo_core.specs.Core.{Setup, layout}
 use Rattle.rgo_core.specs.Next.{IsAt, acted}
 use Rattle.rgo_core.specs.Records.{Record, accessed}

@@ -1,9 +1,9 @@
 -- How many words objects of a type have at least, and where words of a type may point.
 use Rattle.std.specs.Prelude.{◌≡◌, ℕ, [], ◌∷◌}
-use Rattle.rgo_machine.specs.declared.limits.Limits.{Limits}
-use Rattle.rgo_region_machine.specs.Examples.{code_of, node}
-use Rattle.rgo_typed.specs.declared.types.Type.{«Type»}
-use Rattle.rgo_wellformed.specs.TypeRules.{chan_of, int, pointer_to, slice_of}
+use Rattle.rgo_sound.specs.Machine.declared.limits.Limits.{Limits}
+use Rattle.rgo_sound.specs.RegionMachine.Examples.{code_of, node}
+use Rattle.rgo_sound.specs.Typed.declared.types.Type.{«Type»}
+use Rattle.rgo_sound.specs.WellFormed.TypeRules.{chan_of, int, pointer_to, slice_of}
 use Rattle.rgo_core.specs.Bounds.{LieInPages, Points, least_words}
 use Rattle.rgo_core.specs.Core.{Setup}
 

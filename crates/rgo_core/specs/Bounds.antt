@@ -1,15 +1,15 @@
 -- Where the words of pointers lead: to an address from which as many words lie in the pages as an object of the type has at least.
 use Rattle.std.specs.Prelude.{◌≡◌, ◌+◌, ◌*◌, ◌≤◌, ℕ, suc, true, List, [], ◌∷◌, length, max, Option, Some, None, slice_get}
-use Rattle.rgo_code.specs.Code.{CodeOp}
-use Rattle.rgo_code.specs.Erasure.{erased}
-use Rattle.rgo_tac.specs.Steps.{type_of}
-use Rattle.rgo_typed.specs.Types.{is_pointer_like}
-use Rattle.rgo_typed.specs.declared.programs.Struct.{Struct}
-use Rattle.rgo_typed.specs.declared.types.Base.{Base}
-use Rattle.rgo_typed.specs.declared.types.Base.TheVariants as base
-use Rattle.rgo_typed.specs.declared.types.Layer.{Layer}
-use Rattle.rgo_typed.specs.declared.types.Layer.TheVariants.{Chan, Slice}
-use Rattle.rgo_typed.specs.declared.types.Type.{«Type»}
+use Rattle.rgo_sound.specs.Code.Code.{CodeOp}
+use Rattle.rgo_sound.specs.Code.Erasure.{erased}
+use Rattle.rgo_sound.specs.Tac.Steps.{type_of}
+use Rattle.rgo_sound.specs.Typed.Types.{is_pointer_like}
+use Rattle.rgo_sound.specs.Typed.declared.programs.Struct.{Struct}
+use Rattle.rgo_sound.specs.Typed.declared.types.Base.{Base}
+use Rattle.rgo_sound.specs.Typed.declared.types.Base.TheVariants as base
+use Rattle.rgo_sound.specs.Typed.declared.types.Layer.{Layer}
+use Rattle.rgo_sound.specs.Typed.declared.types.Layer.TheVariants.{Chan, Slice}
+use Rattle.rgo_sound.specs.Typed.declared.types.Type.{«Type»}
 use Rattle.rgo_core_frames.specs.WordFrames.{WordFrame, bare}
 use Rattle.rgo_core.specs.Core.{Setup}
 use Rattle.rgo_core.specs.Next.{IsAt, acted}

@@ -1,15 +1,15 @@
 -- Why a run may end in a state of the region machine.
-use Rattle.rgo_code.specs.Code.{Code}
-use Rattle.rgo_code.specs.Erasure.{erased}
-use Rattle.rgo_machine.specs.Limits.{IsFull, IsTooDeep}
-use Rattle.rgo_machine.specs.declared.limits.Limits.{Limits}
-use Rattle.rgo_machine.specs.declared.limits.Sizes.{Sizes}
-use Rattle.rgo_machine.specs.declared.turns.Shortage.TheVariants as shortage
-use Rattle.rgo_region_machine.specs.Room.{LacksIn}
-use Rattle.rgo_region_machine.specs.States.{Ended, Mark, RegionState, Stopped}
-use Rattle.rgo_region_machine.specs.declared.limits.Limit.{Limit}
-use Rattle.rgo_region_machine.specs.declared.limits.Limit.TheVariants as limit
-use Rattle.rgo_tac.specs.Tac.{tac}
+use Rattle.rgo_sound.specs.Code.Code.{Code}
+use Rattle.rgo_sound.specs.Code.Erasure.{erased}
+use Rattle.rgo_sound.specs.Machine.Limits.{IsFull, IsTooDeep}
+use Rattle.rgo_sound.specs.Machine.declared.limits.Limits.{Limits}
+use Rattle.rgo_sound.specs.Machine.declared.limits.Sizes.{Sizes}
+use Rattle.rgo_sound.specs.Machine.declared.turns.Shortage.TheVariants as shortage
+use Rattle.rgo_sound.specs.RegionMachine.Room.{LacksIn}
+use Rattle.rgo_sound.specs.RegionMachine.States.{Ended, Mark, RegionState, Stopped}
+use Rattle.rgo_sound.specs.RegionMachine.declared.limits.Limit.{Limit}
+use Rattle.rgo_sound.specs.RegionMachine.declared.limits.Limit.TheVariants as limit
+use Rattle.rgo_sound.specs.Tac.Tac.{tac}
 
 module _ (code : Code) (sizes : Sizes) (limits : Limits) where
   -- A goroutine lacks a page, a region, or a page that holds a larger object; calls a function though it has as many

@@ -1,13 +1,13 @@
 -- Records of goroutines that are at a channel, and of such as are not.
 use Rattle.std.specs.Prelude.{ℕ, [], ◌∷◌, None, ◌+◌, List}
-use Rattle.rgo_code.specs.Code.{Do}
+use Rattle.rgo_sound.specs.Code.Code.{Do}
 use Rattle.rgo_core_channels.specs.Records.{offering}
 use Rattle.rgo_core_frames.specs.Opening.{no_record}
 use Rattle.rgo_core_memory.specs.Words.{base}
-use Rattle.rgo_machine.specs.declared.limits.Limits.{Limits}
-use Rattle.rgo_machine.specs.declared.limits.Sizes.{Sizes}
-use Rattle.rgo_region_machine.specs.Examples.{code_of, int_slot, main_of, plain}
-use Rattle.rgo_typed.specs.declared.actions.Action.TheVariants.{Send}
+use Rattle.rgo_sound.specs.Machine.declared.limits.Limits.{Limits}
+use Rattle.rgo_sound.specs.Machine.declared.limits.Sizes.{Sizes}
+use Rattle.rgo_sound.specs.RegionMachine.Examples.{code_of, int_slot, main_of, plain}
+use Rattle.rgo_sound.specs.Typed.declared.actions.Action.TheVariants.{Send}
 use Rattle.rgo_core.specs.AtChannels.{IsAtChannel, Operates}
 use Rattle.rgo_core.specs.CommitMoves.{IsAtSend}
 use Rattle.rgo_core.specs.Core.{Setup, layout}

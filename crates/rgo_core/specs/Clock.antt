@@ -3,7 +3,7 @@ use Rattle.std.specs.Option.{option_len}
 use Rattle.std.specs.Prelude.{◌≡◌, ◌≤◌, ◌<◌, ◌+◌, ◌^◌, ◌==◌, ℕ, nat_le, List, [], ◌++◌, length, count_by, sum_by, Some, None, slice_get, slice_index}
 use Rattle.rgo_core_memory.specs.Words.{clock_at}
 use Rattle.rgo_core_rule.specs.Lists.{flattened}
-use Rattle.rgo_region_machine.specs.States.{Mark, RegionState}
+use Rattle.rgo_sound.specs.RegionMachine.States.{Mark, RegionState}
 use Rattle.rgo_core.specs.Records.{ClockRec, Drawn, end_bit}
 
 -- how often a record has this ticket

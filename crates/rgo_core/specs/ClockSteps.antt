@@ -1,9 +1,9 @@
 -- Steps on the clock and on the number of goroutines: prints, ends and starts.
 use Rattle.std.specs.Prelude.{◌≡◌, ◌<◌, ◌≤◌, ◌+◌, ◌%◌, ◌^◌, ℕ, suc, bit_or, false, if◌then◌else◌, List, [], ◌∷◌, ◌++◌, length, Option, Some, None, slice_index, slice_set}
 use Rattle.rgo_core_memory.specs.Words.{clock_at, made_at}
-use Rattle.rgo_machine.specs.Limits.{deepest, most_goroutines}
-use Rattle.rgo_region_machine.specs.Instructions.{printed_if}
-use Rattle.rgo_region_machine.specs.States.{Mark}
+use Rattle.rgo_sound.specs.Machine.Limits.{deepest, most_goroutines}
+use Rattle.rgo_sound.specs.RegionMachine.Instructions.{printed_if}
+use Rattle.rgo_sound.specs.RegionMachine.States.{Mark}
 use Rattle.rgo_core.specs.Causes.{IsCause}
 use Rattle.rgo_core.specs.Core.{Here, Setup}
 use Rattle.rgo_core.specs.Records.{ClockRec, Record, blank, has_ended, looked, with_child, with_print, with_refusal}

@@ -1,13 +1,13 @@
 -- The store to a control with which an operation on a channel takes effect, and the channel is unlocked.
 use Rattle.std.specs.Prelude.{◌≡◌, ◌⊎◌, ◌+◌, ◌-◌, ◌%◌, ◌<◌, ℕ, List, [], ◌∷◌, Option, Some}
-use Rattle.rgo_code.specs.Code.{CodeInstr, Do}
+use Rattle.rgo_sound.specs.Code.Code.{CodeInstr, Do}
 use Rattle.rgo_core_channels.specs.Controls.{closed_of, control, count_of, head_of}
 use Rattle.rgo_core_channels.specs.Records.{Locked, Offering, Read, Sized, Wrote, at_rest, offering}
 use Rattle.rgo_core_frames.specs.Actions.{after_action}
 use Rattle.rgo_core_frames.specs.Meetings.{acknowledged, offering as frame_offering}
 use Rattle.rgo_core_frames.specs.WordFrames.{WordFrame, bare, word_at}
-use Rattle.rgo_region_machine.specs.Owed.{current}
-use Rattle.rgo_typed.specs.declared.actions.Action.TheVariants.{Close, Recv, Send}
+use Rattle.rgo_sound.specs.RegionMachine.Owed.{current}
+use Rattle.rgo_sound.specs.Typed.declared.actions.Action.TheVariants.{Close, Recv, Send}
 use Rattle.rgo_core.specs.AtChannels.{Operates, commits}
 use Rattle.rgo_core.specs.Bounds.{Points, target_type}
 use Rattle.rgo_core.specs.Core.{Setup}

@@ -1,12 +1,12 @@
 -- Accesses to elements that trap: the slice is nil, or the index is not within the length that was read.
 use Rattle.std.specs.Prelude.{◌≡◌, ◌⊎◌, ◌^◌, ◌≤◌, ℕ, bit_or, suc, List, [], ◌∷◌, Some, None}
-use Rattle.rgo_code.specs.Code.{Do}
+use Rattle.rgo_sound.specs.Code.Code.{Do}
 use Rattle.rgo_core_channels.specs.Records.{at_rest}
 use Rattle.rgo_core_frames.specs.WordFrames.{WordFrame, word_at}
 use Rattle.rgo_core_memory.specs.Records.{Measured}
 use Rattle.rgo_core_memory.specs.Words.{clock_at}
-use Rattle.rgo_memory.specs.declared.traps.Trap.TheVariants.{IndexRange}
-use Rattle.rgo_typed.specs.declared.actions.Action.TheVariants as action
+use Rattle.rgo_sound.specs.Memory.declared.traps.Trap.TheVariants.{IndexRange}
+use Rattle.rgo_sound.specs.Typed.declared.actions.Action.TheVariants as action
 use Rattle.rgo_core.specs.Core.{Setup}
 use Rattle.rgo_core.specs.Next.{IsAt}
 use Rattle.rgo_core.specs.Records.{Record, steps_of}

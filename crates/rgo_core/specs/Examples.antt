@@ -1,13 +1,13 @@
 -- Each definition where it holds and where it must not.
 use Rattle.std.specs.Prelude.{◌≡◌, ◌≤◌, ℕ, true, List, [], ◌∷◌, Option, Some, None, slice_set}
-use Rattle.rgo_code.specs.Code.{Code}
-use Rattle.rgo_machine.specs.declared.limits.Limits.{Limits}
-use Rattle.rgo_machine.specs.declared.limits.Sizes.{Sizes}
-use Rattle.rgo_machine.specs.declared.picks.End.TheVariants.{Exit}
-use Rattle.rgo_region_machine.specs.Machine.{Event, TakePage, region_start}
-use Rattle.rgo_region_machine.specs.Room.{FitsIn, pages_in_use}
-use Rattle.rgo_region_machine.specs.States.{Ended, Mark, RegionState, Stopped}
-use Rattle.rgo_region_machine.specs.declared.limits.Limit.TheVariants.{Memory, Regions}
+use Rattle.rgo_sound.specs.Code.Code.{Code}
+use Rattle.rgo_sound.specs.Machine.declared.limits.Limits.{Limits}
+use Rattle.rgo_sound.specs.Machine.declared.limits.Sizes.{Sizes}
+use Rattle.rgo_sound.specs.Machine.declared.picks.End.TheVariants.{Exit}
+use Rattle.rgo_sound.specs.RegionMachine.Machine.{Event, TakePage, region_start}
+use Rattle.rgo_sound.specs.RegionMachine.Room.{FitsIn, pages_in_use}
+use Rattle.rgo_sound.specs.RegionMachine.States.{Ended, Mark, RegionState, Stopped}
+use Rattle.rgo_sound.specs.RegionMachine.declared.limits.Limit.TheVariants.{Memory, Regions}
 use Rattle.rgo_sound.specs.Tally.{no_share}
 use Rattle.rgo_core.specs.Causes.{IsCause}
 use Rattle.rgo_core.specs.Clock.{Clock}

@@ -1,6 +1,6 @@
 -- The law of each access of a goroutine and of its steps without one. What a law asks is told by the goroutine's own record.
 use Rattle.std.specs.Prelude.{◌≡◌, ◌<◌, ◌≤◌, ◌+◌, ◌%◌, ◌^◌, ℕ, bit_or, List, [], ◌∷◌, length, false, true, Option, Some}
-use Rattle.rgo_code.specs.Code.{Call, CodeFn, CodeOp, Go, Print}
+use Rattle.rgo_sound.specs.Code.Code.{Call, CodeFn, CodeOp, Go, Print}
 use Rattle.rgo_core_channels.specs.Records.{at_rest}
 use Rattle.rgo_core_frames.specs.Children.{child_records}
 use Rattle.rgo_core_frames.specs.Opening.{no_record}
@@ -10,15 +10,15 @@ use Rattle.rgo_core_frames.specs.Quiet.{is_exit, quiet}
 use Rattle.rgo_core_frames.specs.Records.{Rec as FrameRec, after_op}
 use Rattle.rgo_core_frames.specs.WordFrames.{word_called, word_moved, words_of}
 use Rattle.rgo_core_memory.specs.Words.{clock_at, made_at}
-use Rattle.rgo_machine.specs.Limits.{deepest, most_goroutines}
-use Rattle.rgo_machine.specs.Lines.{line_of}
-use Rattle.rgo_machine.specs.declared.picks.End.TheVariants.{Exit}
-use Rattle.rgo_region_machine.specs.Owed.{function_of}
-use Rattle.rgo_region_machine.specs.States.{Duty, Ended, Stopped}
-use Rattle.rgo_region_machine.specs.declared.limits.Limit.{Limit}
-use Rattle.rgo_region_machine.specs.declared.limits.Limit.TheVariants.{Calls, Goroutines}
-use Rattle.rgo_tac.specs.declared.regions.Class.{Class}
-use Rattle.rgo_typed.specs.declared.statements.Piece.{Piece}
+use Rattle.rgo_sound.specs.Machine.Limits.{deepest, most_goroutines}
+use Rattle.rgo_sound.specs.Machine.Lines.{line_of}
+use Rattle.rgo_sound.specs.Machine.declared.picks.End.TheVariants.{Exit}
+use Rattle.rgo_sound.specs.RegionMachine.Owed.{function_of}
+use Rattle.rgo_sound.specs.RegionMachine.States.{Duty, Ended, Stopped}
+use Rattle.rgo_sound.specs.RegionMachine.declared.limits.Limit.{Limit}
+use Rattle.rgo_sound.specs.RegionMachine.declared.limits.Limit.TheVariants.{Calls, Goroutines}
+use Rattle.rgo_sound.specs.Tac.declared.regions.Class.{Class}
+use Rattle.rgo_sound.specs.Typed.declared.statements.Piece.{Piece}
 use Rattle.rgo_core.specs.Causes.{Stops}
 use Rattle.rgo_core.specs.Core.{Here, Setup}
 use Rattle.rgo_core.specs.Next.{IsAt}

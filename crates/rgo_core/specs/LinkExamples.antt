@@ -1,12 +1,12 @@
 -- Records that are before an access to an element, and such as are not; what they know of lengths; and pages that are to be freed.
 use Rattle.std.specs.Prelude.{◌≡◌, ◌+◌, ℕ, List, [], ◌∷◌, Some, slice_set}
-use Rattle.rgo_code.specs.Code.{Code, Do}
+use Rattle.rgo_sound.specs.Code.Code.{Code, Do}
 use Rattle.rgo_core_memory.specs.Opening.{first_record, first_words}
 use Rattle.rgo_core_memory.specs.Records.{Calm, Gave, Measured, Owes, Past, with_give}
 use Rattle.rgo_core_memory.specs.Words.{base}
 use Rattle.rgo_core_frames.specs.Opening.{no_record}
-use Rattle.rgo_region_machine.specs.Examples.{code_of, int_slot, main_of, plain}
-use Rattle.rgo_typed.specs.declared.actions.Action.TheVariants.{At}
+use Rattle.rgo_sound.specs.RegionMachine.Examples.{code_of, int_slot, main_of, plain}
+use Rattle.rgo_sound.specs.Typed.declared.actions.Action.TheVariants.{At}
 use Rattle.rgo_core.specs.Accesses.{IsInSlice, measures}
 use Rattle.rgo_core.specs.ChannelExamples.{with_words}
 use Rattle.rgo_core.specs.ElementTraps.{IsOutside}

@@ -1,8 +1,8 @@
 -- What ties the clock of a record and its part of memory to the words: the pages that it has still to free, and the length that it has
 -- read.
 use Rattle.std.specs.Prelude.{◌≡◌, ◌≤◌, ◌+◌, ℕ, suc, List, [], ◌∷◌, Some, None, slice_get, slice_index}
-use Rattle.rgo_code.specs.Code.{Code, Do}
-use Rattle.rgo_typed.specs.declared.actions.Action.TheVariants as action
+use Rattle.rgo_sound.specs.Code.Code.{Code, Do}
+use Rattle.rgo_sound.specs.Typed.declared.actions.Action.TheVariants as action
 use Rattle.rgo_core_frames.specs.WordFrames.{word_at}
 use Rattle.rgo_core_memory.specs.Owed.{claimed_for}
 use Rattle.rgo_core_memory.specs.Records.{Calm, Gave, Give, Giving, Measured, Owes, Past}

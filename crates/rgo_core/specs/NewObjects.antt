@@ -1,19 +1,19 @@
 -- A new object: which one a goroutine's next instruction makes, told by its record, and the record after the stores of its words.
 use Rattle.std.specs.Prelude.{◌≡◌, ℕ, suc, ◌+◌, ◌*◌, ◌<◌, ◌^◌, bit_or, false, List, [], ◌∷◌, map, replicate, Option, Some, slice_get}
-use Rattle.rgo_code.specs.Code.{Code, CodeOp, Do}
-use Rattle.rgo_code.specs.Erasure.{erased}
-use Rattle.rgo_memory.specs.Memory.{Channel, Object, SliceObject, StructObject}
-use Rattle.rgo_memory.specs.Values.{element_zero, zero_of}
-use Rattle.rgo_region_machine.specs.Objects.{making_region, words as words_of}
-use Rattle.rgo_region_machine.specs.Owed.{function_of}
-use Rattle.rgo_region_machine.specs.States.{Stopped, top_names}
-use Rattle.rgo_region_machine.specs.declared.limits.Limit.TheVariants.{ObjectSize}
-use Rattle.rgo_region_machine.specs.declared.regions.Region.{Region}
-use Rattle.rgo_region_machine.specs.declared.regions.Region.TheVariants.{Global as GlobalRegion, Numbered}
-use Rattle.rgo_tac.specs.Steps.{type_of}
-use Rattle.rgo_typed.specs.declared.actions.Action.{Action}
-use Rattle.rgo_typed.specs.declared.actions.Action.TheVariants as action
-use Rattle.rgo_typed.specs.declared.programs.Struct.{Struct}
+use Rattle.rgo_sound.specs.Code.Code.{Code, CodeOp, Do}
+use Rattle.rgo_sound.specs.Code.Erasure.{erased}
+use Rattle.rgo_sound.specs.Memory.Memory.{Channel, Object, SliceObject, StructObject}
+use Rattle.rgo_sound.specs.Memory.Values.{element_zero, zero_of}
+use Rattle.rgo_sound.specs.RegionMachine.Objects.{making_region, words as words_of}
+use Rattle.rgo_sound.specs.RegionMachine.Owed.{function_of}
+use Rattle.rgo_sound.specs.RegionMachine.States.{Stopped, top_names}
+use Rattle.rgo_sound.specs.RegionMachine.declared.limits.Limit.TheVariants.{ObjectSize}
+use Rattle.rgo_sound.specs.RegionMachine.declared.regions.Region.{Region}
+use Rattle.rgo_sound.specs.RegionMachine.declared.regions.Region.TheVariants.{Global as GlobalRegion, Numbered}
+use Rattle.rgo_sound.specs.Tac.Steps.{type_of}
+use Rattle.rgo_sound.specs.Typed.declared.actions.Action.{Action}
+use Rattle.rgo_sound.specs.Typed.declared.actions.Action.TheVariants as action
+use Rattle.rgo_sound.specs.Typed.declared.programs.Struct.{Struct}
 use Rattle.rgo_core_channels.specs.Records.{at_rest}
 use Rattle.rgo_core_frames.specs.Actions.{after_action}
 use Rattle.rgo_core_frames.specs.WordFrames.{WordFrame, bare, word_at}

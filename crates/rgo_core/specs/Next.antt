@@ -1,10 +1,10 @@
 -- Where a goroutine is, told by its record: before an instruction, owing nothing and with no offer.
 use Rattle.std.specs.Prelude.{◌≡◌, ℕ, List, [], ◌∷◌, Option, Some}
-use Rattle.rgo_code.specs.Code.{Code, CodeFn, CodeInstr, CodeOp}
+use Rattle.rgo_sound.specs.Code.Code.{Code, CodeFn, CodeInstr, CodeOp}
 use Rattle.rgo_core_frames.specs.Actions.{after_action}
 use Rattle.rgo_core_frames.specs.WordFrames.{WordFrame, bare}
-use Rattle.rgo_region_machine.specs.Owed.{current, function_of}
-use Rattle.rgo_region_machine.specs.States.{NoOffer}
+use Rattle.rgo_sound.specs.RegionMachine.Owed.{current, function_of}
+use Rattle.rgo_sound.specs.RegionMachine.States.{NoOffer}
 use Rattle.rgo_core.specs.Records.{Record, ticked}
 
 pub record IsAt (code : Code) (c : Record) (op : CodeOp) : Type 0 where

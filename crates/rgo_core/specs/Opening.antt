@@ -1,14 +1,14 @@
 -- How a table opens: the record of `main`, and that the run without a step explains the first words.
 use Rattle.std.specs.Prelude.{◌≤◌, ℕ, suc, List, [], ◌∷◌, bytes_eq, codes, if◌then◌else◌}
-use Rattle.rgo_code.specs.Checked.{IsChecked}
-use Rattle.rgo_code.specs.Code.{Code, CodeFn}
-use Rattle.rgo_code.specs.NameRules.{Ascends}
+use Rattle.rgo_sound.specs.Code.Checked.{IsChecked}
+use Rattle.rgo_sound.specs.Code.Code.{Code, CodeFn}
+use Rattle.rgo_sound.specs.Code.NameRules.{Ascends}
 use Rattle.rgo_core_frames.specs.Constants.{ConstantsFit}
 use Rattle.rgo_core_frames.specs.Records.{Rec as FrameRec}
 use Rattle.rgo_core_frames.specs.WordFrames.{WordFrame, bare_all, word_called}
 use Rattle.rgo_core_memory.specs.Opening.{first_words}
-use Rattle.rgo_machine.specs.Limits.{most_goroutines}
-use Rattle.rgo_region_machine.specs.Machine.{main_holder}
+use Rattle.rgo_sound.specs.Machine.Limits.{most_goroutines}
+use Rattle.rgo_sound.specs.RegionMachine.Machine.{main_holder}
 use Rattle.rgo_core.specs.Core.{Core, Setup, layout}
 use Rattle.rgo_core.specs.Records.{Record, begins_with, fresh}
 

@@ -1,11 +1,11 @@
 -- Traps that the operands of an instruction tell: a field of nil, a division by zero, a negative size.
 use Rattle.std.specs.Prelude.{◌≡◌, ◌⊎◌, ◌^◌, ◌≤◌, ℕ, bit_or, List, [], ◌∷◌, Some, None}
-use Rattle.rgo_ast.specs.declared.ops.BinaryOp.{BinaryOp}
-use Rattle.rgo_ast.specs.declared.ops.BinaryOp.TheVariants.{Div, Rem}
-use Rattle.rgo_code.specs.Code.{Do}
-use Rattle.rgo_memory.specs.declared.traps.Trap.TheVariants.{BadSize, DivideZero, NilPointer}
-use Rattle.rgo_typed.specs.declared.actions.Action.{Action}
-use Rattle.rgo_typed.specs.declared.actions.Action.TheVariants as action
+use Rattle.rgo_sound.specs.Ast.declared.ops.BinaryOp.{BinaryOp}
+use Rattle.rgo_sound.specs.Ast.declared.ops.BinaryOp.TheVariants.{Div, Rem}
+use Rattle.rgo_sound.specs.Code.Code.{Do}
+use Rattle.rgo_sound.specs.Memory.declared.traps.Trap.TheVariants.{BadSize, DivideZero, NilPointer}
+use Rattle.rgo_sound.specs.Typed.declared.actions.Action.{Action}
+use Rattle.rgo_sound.specs.Typed.declared.actions.Action.TheVariants as action
 use Rattle.rgo_core_channels.specs.Records.{at_rest}
 use Rattle.rgo_core_frames.specs.WordFrames.{word_at}
 use Rattle.rgo_core_memory.specs.Words.{clock_at}

@@ -1,10 +1,10 @@
 -- Which records are possible: that of `main` as a table opens, and all that an access or a step without one leaves.
 use Rattle.std.specs.Prelude.{◌≤◌, ℕ}
-use Rattle.rgo_code.specs.Checked.{IsChecked}
-use Rattle.rgo_code.specs.NameRules.{Ascends}
+use Rattle.rgo_sound.specs.Code.Checked.{IsChecked}
+use Rattle.rgo_sound.specs.Code.NameRules.{Ascends}
 use Rattle.rgo_core_frames.specs.Constants.{ConstantsFit}
 use Rattle.rgo_core_rule.specs.Steps.{Occurs}
-use Rattle.rgo_machine.specs.Limits.{most_goroutines}
+use Rattle.rgo_sound.specs.Machine.Limits.{most_goroutines}
 use Rattle.rgo_core.specs.Core.{Core, IsPossible, Setup}
 use Rattle.rgo_core.specs.Opening.{first_of}
 use Rattle.rgo_core.specs.Records.{Record}

@@ -1,7 +1,7 @@
 -- The record of a goroutine: what it has drawn, ended, started and counted, and what it has of frames, memory and channels.
 use Rattle.std.specs.Prelude.{ℕ, suc, ◌+◌, ◌%◌, nat_le, Bool, true, false, List, [], ◌∷◌, ◌++◌, Option, Some, None, if◌then◌else◌}
-use Rattle.rgo_region_machine.specs.Counts.{Counts}
-use Rattle.rgo_region_machine.specs.States.{Mark}
+use Rattle.rgo_sound.specs.RegionMachine.Counts.{Counts}
+use Rattle.rgo_sound.specs.RegionMachine.States.{Mark}
 use Rattle.rgo_sound.specs.Tally.{counts_plus, no_share}
 use Rattle.rgo_core_channels.specs.Records.{Rec as SideRec, at_rest}
 use Rattle.rgo_core_frames.specs.Records.{Rec as FrameRec}

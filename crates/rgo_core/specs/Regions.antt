@@ -1,6 +1,6 @@
 -- Accesses to the counts of regions: a region is created, a stake is taken for a goroutine that is about to start, and a stake ends.
 use Rattle.std.specs.Prelude.{◌≡◌, ◌≢◌, ◌⊎◌, ◌+◌, ◌-◌, ◌%◌, ◌^◌, ◌<◌, ◌==◌, ℕ, suc, false, List, ◌∷◌, Some, if◌then◌else◌}
-use Rattle.rgo_region_machine.specs.States.{Create, Duty, Holder}
+use Rattle.rgo_sound.specs.RegionMachine.States.{Create, Duty, Holder}
 use Rattle.rgo_sound.specs.Stakes.{is_in}
 use Rattle.rgo_core_channels.specs.Records.{at_rest}
 use Rattle.rgo_core_frames.specs.Creations.{created_in}

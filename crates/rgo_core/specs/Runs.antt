@@ -1,11 +1,11 @@
 -- Runs of the region machine every state of which is within the limits of frames and goroutines, and beginnings of such runs.
 use Rattle.std.specs.Prelude.{◌≡◌, ℕ, List, ◌∷◌, ◌++◌, Option, Some, None, option_and_then, if◌then◌else◌}
-use Rattle.rgo_code.specs.Code.{Code}
-use Rattle.rgo_machine.specs.Limits.{is_within}
-use Rattle.rgo_machine.specs.Runs.{run}
-use Rattle.rgo_machine.specs.declared.limits.Limits.{Limits}
-use Rattle.rgo_region_machine.specs.Machine.{Event, region_start, region_step}
-use Rattle.rgo_region_machine.specs.States.{Mark, RegionState}
+use Rattle.rgo_sound.specs.Code.Code.{Code}
+use Rattle.rgo_sound.specs.Machine.Limits.{is_within}
+use Rattle.rgo_sound.specs.Machine.Runs.{run}
+use Rattle.rgo_sound.specs.Machine.declared.limits.Limits.{Limits}
+use Rattle.rgo_sound.specs.RegionMachine.Machine.{Event, region_start, region_step}
+use Rattle.rgo_sound.specs.RegionMachine.States.{Mark, RegionState}
 
 module _ (code : Code) (page_words : ℕ) (limits : Limits) where
   abbrev pub if_in_limits : RegionState → Option RegionState

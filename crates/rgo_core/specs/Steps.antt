@@ -1,11 +1,11 @@
 -- What a step of a goroutine has to leave, whatever the rest of the table is, so that the rule of the table allows it.
 use Rattle.std.specs.Prelude.{◌≡◌, ◌⊎◌, ◌<◌, ◌≤◌, ℕ, suc, true, List, length, Some, slice_index, slice_set}
 use Rattle.rgo_core_rule.specs.Steps as rule
-use Rattle.rgo_machine.specs.Limits.{deepest}
-use Rattle.rgo_region_machine.specs.Counts.{Counts, counts_of}
-use Rattle.rgo_region_machine.specs.Machine.{Event, region_step}
-use Rattle.rgo_region_machine.specs.Room.{has_room}
-use Rattle.rgo_region_machine.specs.States.{RegionState}
+use Rattle.rgo_sound.specs.Machine.Limits.{deepest}
+use Rattle.rgo_sound.specs.RegionMachine.Counts.{Counts, counts_of}
+use Rattle.rgo_sound.specs.RegionMachine.Machine.{Event, region_step}
+use Rattle.rgo_sound.specs.RegionMachine.Room.{has_room}
+use Rattle.rgo_sound.specs.RegionMachine.States.{RegionState}
 use Rattle.rgo_sound.specs.Tally.{counts_plus}
 use Rattle.rgo_core.specs.Core.{Core, Here, Setup, layout}
 use Rattle.rgo_core.specs.Image.{Image}

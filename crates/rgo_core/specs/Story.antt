@@ -1,16 +1,16 @@
 -- The run behind a table's words: which state it leads to, and what the clock, the number of goroutines and the counts of all
 -- records say of it.
 use Rattle.std.specs.Prelude.{◌≡◌, ◌≤◌, ℕ, true, List, length, take, Some, slice_index}
-use Rattle.rgo_code.specs.Code.{Code}
+use Rattle.rgo_sound.specs.Code.Code.{Code}
 use Rattle.rgo_core_memory.specs.Words.{made_at}
 use Rattle.rgo_core_rule.specs.Lists.{flattened}
-use Rattle.rgo_machine.specs.Limits.{is_within, most_goroutines}
-use Rattle.rgo_machine.specs.declared.limits.Limits.{Limits}
-use Rattle.rgo_machine.specs.declared.limits.Sizes.{Sizes}
-use Rattle.rgo_region_machine.specs.Counts.{counts_of}
-use Rattle.rgo_region_machine.specs.Machine.{Event}
-use Rattle.rgo_region_machine.specs.Room.{roomy_run}
-use Rattle.rgo_region_machine.specs.States.{Mark, RegionState}
+use Rattle.rgo_sound.specs.Machine.Limits.{is_within, most_goroutines}
+use Rattle.rgo_sound.specs.Machine.declared.limits.Limits.{Limits}
+use Rattle.rgo_sound.specs.Machine.declared.limits.Sizes.{Sizes}
+use Rattle.rgo_sound.specs.RegionMachine.Counts.{counts_of}
+use Rattle.rgo_sound.specs.RegionMachine.Machine.{Event}
+use Rattle.rgo_sound.specs.RegionMachine.Room.{roomy_run}
+use Rattle.rgo_sound.specs.RegionMachine.States.{Mark, RegionState}
 use Rattle.rgo_core.specs.Causes.{IsCause}
 use Rattle.rgo_core.specs.Clock.{Clock}
 use Rattle.rgo_core.specs.Numbers.{Numbers}

@@ -1,12 +1,12 @@
 -- Small runs as lists of accesses: how a table opens, prints, a region from its creation until its pages are free again, a meeting, and a
 -- ring. After each access stand the words that are not 0.
 use Rattle.std.specs.Prelude.{◌≡◌, ◌==◌, ◌+◌, ◌-◌, ◌%◌, ◌^◌, ℕ, suc, bit_or, true, false, List, [], ◌∷◌, replicate, pos, if◌then◌else◌, slice_set}
-use Rattle.rgo_memory.specs.Memory.{Object, SliceObject}
-use Rattle.rgo_memory.specs.declared.values.Value.TheVariants as value
-use Rattle.rgo_machine.specs.declared.picks.End.TheVariants.{Exit}
-use Rattle.rgo_region_machine.specs.Counts.{Counts}
-use Rattle.rgo_region_machine.specs.Objects.{words as words_of}
-use Rattle.rgo_region_machine.specs.States.{Ended}
+use Rattle.rgo_sound.specs.Memory.Memory.{Object, SliceObject}
+use Rattle.rgo_sound.specs.Memory.declared.values.Value.TheVariants as value
+use Rattle.rgo_sound.specs.Machine.declared.picks.End.TheVariants.{Exit}
+use Rattle.rgo_sound.specs.RegionMachine.Counts.{Counts}
+use Rattle.rgo_sound.specs.RegionMachine.Objects.{words as words_of}
+use Rattle.rgo_sound.specs.RegionMachine.States.{Ended}
 use Rattle.rgo_sound.specs.Tally.{no_share}
 use Rattle.rgo_core_channels.specs.Controls.{closed_of, control, count_of, head_of}
 use Rattle.rgo_core_channels.specs.Records.{Rec as SideRec, at_rest, offering, with_hold, with_lock, with_look, with_own_look, with_size, Read, Wrote}

@@ -1,14 +1,14 @@
 -- Traps at channels: what a goroutine has found of a channel makes its operation end the run.
 use Rattle.std.specs.Prelude.{◌≡◌, ◌^◌, ℕ, bit_or, List, [], ◌∷◌, Option}
-use Rattle.rgo_code.specs.Code.{Do}
+use Rattle.rgo_sound.specs.Code.Code.{Do}
 use Rattle.rgo_core_channels.specs.Records.{Shut, Stranded}
 use Rattle.rgo_core_frames.specs.WordFrames.{word_at}
 use Rattle.rgo_core_memory.specs.Words.{clock_at}
-use Rattle.rgo_machine.specs.declared.picks.End.TheVariants as the_end
-use Rattle.rgo_memory.specs.declared.traps.Trap.TheVariants.{CloseClosed, CloseNil, SendClosed}
-use Rattle.rgo_memory.specs.declared.traps.Trap.{Trap}
-use Rattle.rgo_region_machine.specs.States.{Ended}
-use Rattle.rgo_typed.specs.declared.actions.Action.TheVariants.{Close, Send}
+use Rattle.rgo_sound.specs.Machine.declared.picks.End.TheVariants as the_end
+use Rattle.rgo_sound.specs.Memory.declared.traps.Trap.TheVariants.{CloseClosed, CloseNil, SendClosed}
+use Rattle.rgo_sound.specs.Memory.declared.traps.Trap.{Trap}
+use Rattle.rgo_sound.specs.RegionMachine.States.{Ended}
+use Rattle.rgo_sound.specs.Typed.declared.actions.Action.TheVariants.{Close, Send}
 use Rattle.rgo_core.specs.AtChannels.{Operates}
 use Rattle.rgo_core.specs.CommitMoves.{IsAtSend}
 use Rattle.rgo_core.specs.Core.{Setup}

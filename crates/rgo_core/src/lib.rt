@@ -12,3 +12,9 @@ pub mod laws;
 pub mod memory_moves;
 pub mod records;
 pub mod table;
+
+// The crates below that those above name too.
+pub use rgo_core_channels as channels;
+pub use rgo_core_frames as frames;
+pub use rgo_core_memory as memory;
+pub use rgo_core_rule as rule;

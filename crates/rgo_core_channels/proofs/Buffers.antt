@@ -5,18 +5,18 @@ use Rattle.std.proofs.Common.{length, Some, slice_get, slice_set, slice_index, r
 use Rattle.std.proofs.Common.{⊎_elim, arith, option_map, length-append}
 use Rattle.std.proofs.Math.Nat.{mod-lt, mod-eq_of_lt}
 use Rattle.std.proofs.lemmas.Option.{same_Some}
-use Rattle.rgo_typed.specs.declared.actions.Action.{Action}
-use Rattle.rgo_typed.specs.declared.actions.Action.TheVariants.{Recv, Send, Close}
-use Rattle.rgo_memory.specs.Channels.{close, receive, send}
-use Rattle.rgo_memory.specs.Effects.{Does, Effect}
-use Rattle.rgo_memory.specs.Memory.{Memory, with_object}
-use Rattle.rgo_memory.specs.declared.values.Value.{Value}
-use Rattle.rgo_memory.specs.declared.values.Value.TheVariants as value
-use Rattle.rgo_machine.specs.Machines.{operated}
-use Rattle.rgo_region_machine.specs.Duties.{may_go}
-use Rattle.rgo_region_machine.specs.States.{Holder, NoOffer, RegionState}
+use Rattle.rgo_sound.specs.Typed.declared.actions.Action.{Action}
+use Rattle.rgo_sound.specs.Typed.declared.actions.Action.TheVariants.{Recv, Send, Close}
+use Rattle.rgo_sound.specs.Memory.Channels.{close, receive, send}
+use Rattle.rgo_sound.specs.Memory.Effects.{Does, Effect}
+use Rattle.rgo_sound.specs.Memory.Memory.{Memory, with_object}
+use Rattle.rgo_sound.specs.Memory.declared.values.Value.{Value}
+use Rattle.rgo_sound.specs.Memory.declared.values.Value.TheVariants as value
+use Rattle.rgo_sound.specs.Machine.Machines.{operated}
+use Rattle.rgo_sound.specs.RegionMachine.Duties.{may_go}
+use Rattle.rgo_sound.specs.RegionMachine.States.{Holder, NoOffer, RegionState}
 use Rattle.rgo_sound.proofs.Places.{get_set_same, get_snoc, length_set as length_slice_set}
-use Rattle.rgo_tac.specs.Frames.{going}
+use Rattle.rgo_sound.specs.Tac.Frames.{going}
 use Rattle.rgo_core_channels.specs.Channels.{Chan, channel, On, Calm, phase_number, OfferOf}
 use Rattle.rgo_core_memory.specs.Words.{put}
 use Rattle.rgo_core_channels.specs.Channels.{Unlocked, LockedBy, lock_bit, Places, count, cell_of, Channels}

@@ -1,7 +1,7 @@
 -- Goroutines that are blocked by the words, none of which has locked a channel, are in a deadlock.
 use Rattle.std.proofs.Common.{◌≡◌, ℕ, ◌%◌, [], ◌∷◌, length, Some, slice_get, slice_index, refl, ap}
 use Rattle.std.proofs.Common.{sym, subst, ◌∙◌, inl, inr, arith}
-use Rattle.rgo_typed.specs.declared.actions.Action.TheVariants.{Recv, Send}
+use Rattle.rgo_sound.specs.Typed.declared.actions.Action.TheVariants.{Recv, Send}
 use Rattle.rgo_core_channels.specs.Channels.{Chan, Lock, LockedBy, On, Unlocked, count, lock_bit}
 use Rattle.rgo_core_channels.specs.Controls.{bit, closed_of, count_of}
 use Rattle.rgo_core_channels.specs.Deadlock.{Blocked, DeadlockLaw, IsEmpty, IsFull, IsLocked, IsNotOffered, IsOffered, IsWaiting, ReceivesOnNil, Returned, SendsOnNil}

@@ -1,8 +1,8 @@
 -- The examples, by computation.
 use Rattle.std.proofs.Common.{◌≡◌, ◌<◌, ◌≢◌, ℕ, suc, ◌+◌, ◌%◌, refl, ap, Some, None, inl, inr, arith}
-use Rattle.rgo_typed.specs.declared.actions.Action.TheVariants as action
-use Rattle.rgo_code.specs.Code.{Code}
-use Rattle.rgo_region_machine.specs.Machine.{region_start}
+use Rattle.rgo_sound.specs.Typed.declared.actions.Action.TheVariants as action
+use Rattle.rgo_sound.specs.Code.Code.{Code}
+use Rattle.rgo_sound.specs.RegionMachine.Machine.{region_start}
 use Rattle.rgo_core_channels.specs.Channels.{Chan, On, channel, count, lock_bit}
 use Rattle.rgo_core_channels.specs.Examples.{ChannelExamples, ring}
 use Rattle.rgo_core_channels.specs.Records.{KnowsOf, Locked, Nothing, Nowhere, Offering, Shut, Sized, Stranded, at_rest, with_hold, with_size}

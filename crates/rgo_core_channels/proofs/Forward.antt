@@ -2,28 +2,28 @@
 use Rattle.std.proofs.Common.{◌≡◌, ℕ, ◌+◌, true, false, ◌&&◌, List, [], ◌∷◌, ◌++◌, length, Option, Some, None}
 use Rattle.std.proofs.Common.{refl, ap, sym, ◌∙◌, slice_set, if◌then◌else◌, option_map, option_and_then}
 use Rattle.std.proofs.lemmas.List.{append-nil}
-use Rattle.rgo_typed.specs.declared.actions.Action.{Action}
-use Rattle.rgo_memory.specs.declared.traps.Trap.{Trap}
-use Rattle.rgo_memory.specs.declared.values.Value.{Value}
-use Rattle.rgo_memory.specs.Memory.{Memory}
-use Rattle.rgo_machine.specs.declared.picks.End.TheVariants as the_end
-use Rattle.rgo_machine.specs.declared.picks.Pick.TheVariants.{One}
-use Rattle.rgo_machine.specs.Actions.{at_channel}
-use Rattle.rgo_machine.specs.Machines.{stepped, alone, picked, unless_ended, with_frames, trapped}
-use Rattle.rgo_tac.specs.Frames.{Frame, going}
-use Rattle.rgo_tac.specs.Steps.{stand, stand_at, stand_before}
-use Rattle.rgo_tac.specs.Tac.{TacState, tac}
-use Rattle.rgo_code.specs.Code.{Code, CodeOp, Do}
-use Rattle.rgo_code.specs.Erasure.{erased, erased_instr, erased_op}
-use Rattle.rgo_region_machine.specs.declared.regions.Region.{Region}
-use Rattle.rgo_region_machine.specs.Duties.{may_go}
-use Rattle.rgo_region_machine.specs.Instructions.{has_none, touches, is_ready, holder_after, child_holder, last_frames}
-use Rattle.rgo_region_machine.specs.Instructions.{unless_trapped, marked, printed_if, instructed_with}
-use Rattle.rgo_region_machine.specs.Instructions.{some_instructed, instructed, instructed_at, one_instructed, instruct}
-use Rattle.rgo_region_machine.specs.Machine.{Instruct, region_step, plain_step}
-use Rattle.rgo_region_machine.specs.Objects.{makes_object, making_region, new_object, touched, touched_by, may_touch, allotted}
-use Rattle.rgo_region_machine.specs.Owed.{current, function_at}
-use Rattle.rgo_region_machine.specs.States.{Holder, Mark, RegionState, frames_in, frames_of, top_names}
+use Rattle.rgo_sound.specs.Typed.declared.actions.Action.{Action}
+use Rattle.rgo_sound.specs.Memory.declared.traps.Trap.{Trap}
+use Rattle.rgo_sound.specs.Memory.declared.values.Value.{Value}
+use Rattle.rgo_sound.specs.Memory.Memory.{Memory}
+use Rattle.rgo_sound.specs.Machine.declared.picks.End.TheVariants as the_end
+use Rattle.rgo_sound.specs.Machine.declared.picks.Pick.TheVariants.{One}
+use Rattle.rgo_sound.specs.Machine.Actions.{at_channel}
+use Rattle.rgo_sound.specs.Machine.Machines.{stepped, alone, picked, unless_ended, with_frames, trapped}
+use Rattle.rgo_sound.specs.Tac.Frames.{Frame, going}
+use Rattle.rgo_sound.specs.Tac.Steps.{stand, stand_at, stand_before}
+use Rattle.rgo_sound.specs.Tac.Tac.{TacState, tac}
+use Rattle.rgo_sound.specs.Code.Code.{Code, CodeOp, Do}
+use Rattle.rgo_sound.specs.Code.Erasure.{erased, erased_instr, erased_op}
+use Rattle.rgo_sound.specs.RegionMachine.declared.regions.Region.{Region}
+use Rattle.rgo_sound.specs.RegionMachine.Duties.{may_go}
+use Rattle.rgo_sound.specs.RegionMachine.Instructions.{has_none, touches, is_ready, holder_after, child_holder, last_frames}
+use Rattle.rgo_sound.specs.RegionMachine.Instructions.{unless_trapped, marked, printed_if, instructed_with}
+use Rattle.rgo_sound.specs.RegionMachine.Instructions.{some_instructed, instructed, instructed_at, one_instructed, instruct}
+use Rattle.rgo_sound.specs.RegionMachine.Machine.{Instruct, region_step, plain_step}
+use Rattle.rgo_sound.specs.RegionMachine.Objects.{makes_object, making_region, new_object, touched, touched_by, may_touch, allotted}
+use Rattle.rgo_sound.specs.RegionMachine.Owed.{current, function_at}
+use Rattle.rgo_sound.specs.RegionMachine.States.{Holder, Mark, RegionState, frames_in, frames_of, top_names}
 use Rattle.rgo_sound.proofs.OneStep.{current_erased}
 use Rattle.rgo_sound.proofs.Places.{get_set_same}
 use Rattle.rgo_core_memory.specs.Accesses.{Before}

@@ -1,22 +1,22 @@
 -- That a channel is in a live region, from region safety.
 use Rattle.std.proofs.Common.{◌≡◌, ℕ, true, List, [], ◌∷◌, map, Option, Some, None, slice_get, refl, ap, sym, subst, ◌∙◌}
 use Rattle.std.proofs.Common.{inl, inr}
-use Rattle.rgo_typed.specs.declared.actions.Action.{Action}
-use Rattle.rgo_typed.specs.declared.actions.Action.TheVariants.{Recv, Send, Close}
-use Rattle.rgo_typed.specs.declared.types.Layer.TheVariants as layer
-use Rattle.rgo_typed.specs.declared.types.Type.{«Type»}
-use Rattle.rgo_wellformed.specs.TypeRules.{chan_of, slice_of}
-use Rattle.rgo_memory.specs.Memory.{Object, StructObject, SliceObject, Channel}
-use Rattle.rgo_memory.specs.declared.values.Value.{Value}
-use Rattle.rgo_memory.specs.declared.values.Value.TheVariants as value
-use Rattle.rgo_tac.specs.Frames.{Frame}
-use Rattle.rgo_code.specs.Checked.{IsChecked}
-use Rattle.rgo_code.specs.Code.{Code, CodeFn, Do}
-use Rattle.rgo_code.specs.Erasure.{erased, erased_fn, erased_op}
-use Rattle.rgo_code.specs.Types.{OpFits, DoFits}
-use Rattle.rgo_region_machine.specs.Objects.{may_touch, owner_live, touched, touched_by}
-use Rattle.rgo_region_machine.specs.States.{Taken, RegionState, frames_in}
-use Rattle.rgo_region_machine.specs.declared.regions.Region.{Region}
+use Rattle.rgo_sound.specs.Typed.declared.actions.Action.{Action}
+use Rattle.rgo_sound.specs.Typed.declared.actions.Action.TheVariants.{Recv, Send, Close}
+use Rattle.rgo_sound.specs.Typed.declared.types.Layer.TheVariants as layer
+use Rattle.rgo_sound.specs.Typed.declared.types.Type.{«Type»}
+use Rattle.rgo_sound.specs.WellFormed.TypeRules.{chan_of, slice_of}
+use Rattle.rgo_sound.specs.Memory.Memory.{Object, StructObject, SliceObject, Channel}
+use Rattle.rgo_sound.specs.Memory.declared.values.Value.{Value}
+use Rattle.rgo_sound.specs.Memory.declared.values.Value.TheVariants as value
+use Rattle.rgo_sound.specs.Tac.Frames.{Frame}
+use Rattle.rgo_sound.specs.Code.Checked.{IsChecked}
+use Rattle.rgo_sound.specs.Code.Code.{Code, CodeFn, Do}
+use Rattle.rgo_sound.specs.Code.Erasure.{erased, erased_fn, erased_op}
+use Rattle.rgo_sound.specs.Code.Types.{OpFits, DoFits}
+use Rattle.rgo_sound.specs.RegionMachine.Objects.{may_touch, owner_live, touched, touched_by}
+use Rattle.rgo_sound.specs.RegionMachine.States.{Taken, RegionState, frames_in}
+use Rattle.rgo_sound.specs.RegionMachine.declared.regions.Region.{Region}
 use Rattle.rgo_sound.proofs.Bullets.{has_stake}
 use Rattle.rgo_sound.proofs.Offers.{touched_home}
 use Rattle.rgo_sound.proofs.TypedSteps.{types, vars_kinds}

@@ -6,14 +6,14 @@ use Rattle.std.proofs.lemmas.Option.{same_Some, slice_get_within}
 use mathlib.Core.Logic.{dite}
 use native.Mathlib.Decide.{ℕ_discrete}
 use Rattle.std.specs.List.{list_any}
-use Rattle.rgo_typed.specs.declared.actions.Action.TheVariants.{Recv, Send}
-use Rattle.rgo_memory.specs.Channels.{is_meeting_at}
-use Rattle.rgo_memory.specs.declared.values.Value.{Value}
-use Rattle.rgo_memory.specs.declared.values.Value.TheVariants as value
-use Rattle.rgo_region_machine.specs.Duties.{may_go, attended}
-use Rattle.rgo_region_machine.specs.Machine.{Acknowledge}
-use Rattle.rgo_region_machine.specs.Offers.{offers_on}
-use Rattle.rgo_region_machine.specs.States.{Holder, NoOffer, Standing, Taken, RegionState}
+use Rattle.rgo_sound.specs.Typed.declared.actions.Action.TheVariants.{Recv, Send}
+use Rattle.rgo_sound.specs.Memory.Channels.{is_meeting_at}
+use Rattle.rgo_sound.specs.Memory.declared.values.Value.{Value}
+use Rattle.rgo_sound.specs.Memory.declared.values.Value.TheVariants as value
+use Rattle.rgo_sound.specs.RegionMachine.Duties.{may_go, attended}
+use Rattle.rgo_sound.specs.RegionMachine.Machine.{Acknowledge}
+use Rattle.rgo_sound.specs.RegionMachine.Offers.{offers_on}
+use Rattle.rgo_sound.specs.RegionMachine.States.{Holder, NoOffer, Standing, Taken, RegionState}
 use Rattle.rgo_sound.proofs.Places.{get_set_same, get_some, length_set as length_slice_set}
 use Rattle.rgo_sound.proofs.Tests.{split, eq_of}
 use Rattle.rgo_core_channels.specs.Channels.{Chan, channel, On, Phase, Calm, Offered, Accepted, phase_number, OfferOf}

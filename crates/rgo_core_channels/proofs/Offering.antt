@@ -2,28 +2,28 @@
 use Rattle.std.proofs.Common.{◌≡◌, ◌≢◌, ℕ, suc, ◌+◌, ◌==◌, Bool, true, false, not, ◌&&◌, ◌||◌, List, [], ◌∷◌, ◌++◌, map, Some, None}
 use Rattle.std.proofs.Common.{refl, ap, sym, ◌∙◌, slice_get, slice_set, if◌then◌else◌, option_and_then}
 use Rattle.std.specs.List.{list_any}
-use Rattle.rgo_typed.specs.declared.actions.Action.{Action}
-use Rattle.rgo_typed.specs.declared.actions.Action.TheVariants.{Recv, Send}
-use Rattle.rgo_memory.specs.Channels.{is_meeting_at, meets_at}
-use Rattle.rgo_memory.specs.Memory.{Memory}
-use Rattle.rgo_memory.specs.declared.values.Value.{Value}
-use Rattle.rgo_memory.specs.declared.values.Value.TheVariants as value
-use Rattle.rgo_machine.specs.declared.picks.Pick.TheVariants.{Meet}
-use Rattle.rgo_machine.specs.Machines.{AtReceive, picked, meet, met, met_by, unless_ended, with_frames}
-use Rattle.rgo_tac.specs.Frames.{Frame, going}
-use Rattle.rgo_tac.specs.Steps.{stand}
-use Rattle.rgo_tac.specs.Tac.{TacState, tac}
-use Rattle.rgo_code.specs.Code.{Code}
-use Rattle.rgo_code.specs.Erasure.{erased}
-use Rattle.rgo_region_machine.specs.Duties.{may_go, attended}
-use Rattle.rgo_region_machine.specs.Instructions.{is_ready, holder_after, side_by, side_after, standing_at, taken_offer}
-use Rattle.rgo_region_machine.specs.Instructions.{both_instructed, instruct, marked, plain_after}
-use Rattle.rgo_region_machine.specs.Machine.{MakeOffer, Acknowledge, Instruct, region_step, plain_step}
-use Rattle.rgo_region_machine.specs.Objects.{may_touch}
-use Rattle.rgo_region_machine.specs.Offers.{make_offer, offer_at, offer_for, offered, offered_channel, offers_on, open_channel}
-use Rattle.rgo_region_machine.specs.Offers.{acknowledge}
-use Rattle.rgo_region_machine.specs.Owed.{next_duties}
-use Rattle.rgo_region_machine.specs.States.{Holder, NoOffer, Standing, Taken, Remove, RegionState, frames_in, frames_of}
+use Rattle.rgo_sound.specs.Typed.declared.actions.Action.{Action}
+use Rattle.rgo_sound.specs.Typed.declared.actions.Action.TheVariants.{Recv, Send}
+use Rattle.rgo_sound.specs.Memory.Channels.{is_meeting_at, meets_at}
+use Rattle.rgo_sound.specs.Memory.Memory.{Memory}
+use Rattle.rgo_sound.specs.Memory.declared.values.Value.{Value}
+use Rattle.rgo_sound.specs.Memory.declared.values.Value.TheVariants as value
+use Rattle.rgo_sound.specs.Machine.declared.picks.Pick.TheVariants.{Meet}
+use Rattle.rgo_sound.specs.Machine.Machines.{AtReceive, picked, meet, met, met_by, unless_ended, with_frames}
+use Rattle.rgo_sound.specs.Tac.Frames.{Frame, going}
+use Rattle.rgo_sound.specs.Tac.Steps.{stand}
+use Rattle.rgo_sound.specs.Tac.Tac.{TacState, tac}
+use Rattle.rgo_sound.specs.Code.Code.{Code}
+use Rattle.rgo_sound.specs.Code.Erasure.{erased}
+use Rattle.rgo_sound.specs.RegionMachine.Duties.{may_go, attended}
+use Rattle.rgo_sound.specs.RegionMachine.Instructions.{is_ready, holder_after, side_by, side_after, standing_at, taken_offer}
+use Rattle.rgo_sound.specs.RegionMachine.Instructions.{both_instructed, instruct, marked, plain_after}
+use Rattle.rgo_sound.specs.RegionMachine.Machine.{MakeOffer, Acknowledge, Instruct, region_step, plain_step}
+use Rattle.rgo_sound.specs.RegionMachine.Objects.{may_touch}
+use Rattle.rgo_sound.specs.RegionMachine.Offers.{make_offer, offer_at, offer_for, offered, offered_channel, offers_on, open_channel}
+use Rattle.rgo_sound.specs.RegionMachine.Offers.{acknowledge}
+use Rattle.rgo_sound.specs.RegionMachine.Owed.{next_duties}
+use Rattle.rgo_sound.specs.RegionMachine.States.{Holder, NoOffer, Standing, Taken, Remove, RegionState, frames_in, frames_of}
 use Rattle.rgo_sound.proofs.Places.{get_set_same}
 use Rattle.rgo_sound.proofs.Tests.{ne_of, nat_eq_refl}
 use Rattle.rgo_core_channels.specs.Channels.{Chan, IsChan}

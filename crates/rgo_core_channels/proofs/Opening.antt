@@ -1,8 +1,8 @@
 -- The opening is an image.
 use Rattle.std.proofs.Common.{◌≡◌, ℕ, zero, suc, [], ◌∷◌, Some, slice_get, refl, ap, sym, subst, ◌∙◌}
 use Rattle.std.proofs.lemmas.Option.{same_Some}
-use Rattle.rgo_region_machine.specs.Machine.{region_start}
-use Rattle.rgo_region_machine.specs.States.{Holder, NoOffer}
+use Rattle.rgo_sound.specs.RegionMachine.Machine.{region_start}
+use Rattle.rgo_sound.specs.RegionMachine.States.{Holder, NoOffer}
 use Rattle.rgo_core_channels.specs.Channels.{Chan, On, channel}
 use Rattle.rgo_core_channels.specs.Opening.{Opens}
 use Rattle.rgo_core_channels.specs.Records.{HoldsAt, InCell, KnowsOf, Nothing, Nowhere, Offering, Rec, Shut, Sized, Stranded, Unknown, at_rest}

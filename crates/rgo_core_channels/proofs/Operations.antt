@@ -2,12 +2,12 @@
 use Rattle.std.proofs.Common.{◌≡◌, ℕ, ◌<◌, ◌≤◌, true, false, List, [], ◌∷◌, length, Some, None}
 use Rattle.std.proofs.Common.{ap, sym, ◌∙◌, nat_lt, if◌then◌else◌, arith}
 use Rattle.std.proofs.lemmas.Bool.Decides.{nat_tests}
-use Rattle.rgo_memory.specs.Channels.{send, sent, receive, received, close, shut}
-use Rattle.rgo_memory.specs.Effects.{Does, Traps, in_memory_if_ready, to_object_if_ready, to_object, in_memory}
-use Rattle.rgo_memory.specs.Memory.{Channel, Memory, with_object}
-use Rattle.rgo_memory.specs.declared.traps.Trap.TheVariants.{SendClosed, CloseClosed}
-use Rattle.rgo_memory.specs.declared.values.Value.{Value}
-use Rattle.rgo_memory.specs.declared.values.Value.TheVariants as value
+use Rattle.rgo_sound.specs.Memory.Channels.{send, sent, receive, received, close, shut}
+use Rattle.rgo_sound.specs.Memory.Effects.{Does, Traps, in_memory_if_ready, to_object_if_ready, to_object, in_memory}
+use Rattle.rgo_sound.specs.Memory.Memory.{Channel, Memory, with_object}
+use Rattle.rgo_sound.specs.Memory.declared.traps.Trap.TheVariants.{SendClosed, CloseClosed}
+use Rattle.rgo_sound.specs.Memory.declared.values.Value.{Value}
+use Rattle.rgo_sound.specs.Memory.declared.values.Value.TheVariants as value
 use Rattle.rgo_core_channels.specs.Channels.{Chan, channel, IsChan}
 use Rattle.rgo_core_channels.specs.After.{pushed, popped, closed_now}
 

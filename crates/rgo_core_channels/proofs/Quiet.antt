@@ -2,13 +2,13 @@
 use Rattle.std.proofs.Common.{◌≡◌, ◌⊎◌, ℕ, ◌+◌, ◌<◌, ◌≤◌, List, [], ◌∷◌, Option, slice_set, slice_index, refl, subst, ◌∙◌, ⊎_elim, arith}
 use Rattle.std.proofs.Math.ListN.{length-set}
 use Rattle.std.proofs.lemmas.List.{get_or-set_other}
-use Rattle.rgo_typed.specs.declared.actions.Action.TheVariants.{Send}
-use Rattle.rgo_memory.specs.declared.values.Value.{Value}
-use Rattle.rgo_memory.specs.declared.values.Value.TheVariants as value
-use Rattle.rgo_machine.specs.declared.picks.End.{End}
-use Rattle.rgo_code.specs.Code.{Code}
-use Rattle.rgo_region_machine.specs.Machine.{kept}
-use Rattle.rgo_region_machine.specs.States.{Mark, RegionState}
+use Rattle.rgo_sound.specs.Typed.declared.actions.Action.TheVariants.{Send}
+use Rattle.rgo_sound.specs.Memory.declared.values.Value.{Value}
+use Rattle.rgo_sound.specs.Memory.declared.values.Value.TheVariants as value
+use Rattle.rgo_sound.specs.Machine.declared.picks.End.{End}
+use Rattle.rgo_sound.specs.Code.Code.{Code}
+use Rattle.rgo_sound.specs.RegionMachine.Machine.{kept}
+use Rattle.rgo_sound.specs.RegionMachine.States.{Mark, RegionState}
 use Rattle.rgo_core_channels.specs.Channels.{Chan, Channels, On, Places, cell_of}
 use Rattle.rgo_core_channels.specs.Controls.{extent}
 use Rattle.rgo_core_channels.specs.Elsewhere.{FinishKeeps, WordKeeps}

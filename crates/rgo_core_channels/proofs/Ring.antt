@@ -1,11 +1,11 @@
 -- A channel with two values in a buffer for three, that no goroutine uses, is shown by these words.
 use Rattle.std.proofs.Common.{◌≡◌, ℕ, zero, suc, ◌+◌, ◌<◌, ◌≤◌, List, [], ◌∷◌, length, true, Some, None, slice_get, slice_index, refl, ap, sym, subst, ◌∙◌, arith}
 use Rattle.std.proofs.lemmas.Option.{same_Some}
-use Rattle.rgo_memory.specs.Memory.{Object}
-use Rattle.rgo_memory.specs.declared.values.Value.{Value}
-use Rattle.rgo_memory.specs.declared.values.Value.TheVariants as value
-use Rattle.rgo_code.specs.Code.{Code}
-use Rattle.rgo_region_machine.specs.States.{Holder, NoOffer, RegionState}
+use Rattle.rgo_sound.specs.Memory.Memory.{Object}
+use Rattle.rgo_sound.specs.Memory.declared.values.Value.{Value}
+use Rattle.rgo_sound.specs.Memory.declared.values.Value.TheVariants as value
+use Rattle.rgo_sound.specs.Code.Code.{Code}
+use Rattle.rgo_sound.specs.RegionMachine.States.{Holder, NoOffer, RegionState}
 use Rattle.rgo_core_channels.specs.Channels.{Calm, Chan, Channels, LockedBy, Offered, On, Unlocked, cell_of, channel, count}
 use Rattle.rgo_core_channels.specs.Controls.{bit, control, extent}
 use Rattle.rgo_core_channels.specs.Examples.{RingIsShown, ring, ring_at, ring_words}

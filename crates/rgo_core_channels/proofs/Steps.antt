@@ -8,14 +8,14 @@ use Rattle.std.proofs.lemmas.List.{get_or-set_same, get_or-set_other}
 use Rattle.std.proofs.lemmas.Option.{same_Some, slice_get_within}
 use mathlib.Core.Logic.{dite}
 use native.Mathlib.Decide.{ℕ_discrete}
-use Rattle.rgo_typed.specs.declared.actions.Action.{Action}
-use Rattle.rgo_typed.specs.declared.actions.Action.TheVariants.{Send}
-use Rattle.rgo_memory.specs.Memory.{Object, Channel, Memory}
-use Rattle.rgo_memory.specs.declared.values.Value.{Value}
-use Rattle.rgo_memory.specs.declared.values.Value.TheVariants as value
-use Rattle.rgo_code.specs.Code.{Code}
-use Rattle.rgo_region_machine.specs.Objects.{may_touch}
-use Rattle.rgo_region_machine.specs.States.{Holder, NoOffer, RegionState}
+use Rattle.rgo_sound.specs.Typed.declared.actions.Action.{Action}
+use Rattle.rgo_sound.specs.Typed.declared.actions.Action.TheVariants.{Send}
+use Rattle.rgo_sound.specs.Memory.Memory.{Object, Channel, Memory}
+use Rattle.rgo_sound.specs.Memory.declared.values.Value.{Value}
+use Rattle.rgo_sound.specs.Memory.declared.values.Value.TheVariants as value
+use Rattle.rgo_sound.specs.Code.Code.{Code}
+use Rattle.rgo_sound.specs.RegionMachine.Objects.{may_touch}
+use Rattle.rgo_sound.specs.RegionMachine.States.{Holder, NoOffer, RegionState}
 use Rattle.rgo_sound.proofs.Places.{get_set_same, length_set as length_slice_set}
 use Rattle.rgo_core_channels.specs.Channels.{Chan, channel, On, Phase, Calm, Offered, Accepted, phase_number, OfferOf}
 use Rattle.rgo_core_channels.specs.Channels.{holder_offer, Lock, Unlocked, LockedBy, lock_bit, Places, count, cell_of, Channels}

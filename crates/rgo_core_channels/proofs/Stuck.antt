@@ -3,23 +3,23 @@ use Rattle.std.proofs.Common.{◌≡◌, ◌≢◌, ◌⊎◌, ℕ, ◌+◌, ◌
 use Rattle.std.proofs.Common.{Option, Some, None, slice_get, slice_index, refl, ap, sym, subst, ◌∙◌, inl, inr, arith}
 use Rattle.std.proofs.Common.{if◌then◌else◌, option_map, option_and_then, not, ◌&&◌}
 use Rattle.std.proofs.lemmas.Option.{same_Some, slice_get_within}
-use Rattle.rgo_typed.specs.declared.actions.Action.TheVariants.{Recv, Send}
-use Rattle.rgo_memory.specs.Channels.{send, receive, is_meeting_at, meets_at}
-use Rattle.rgo_memory.specs.Memory.{Memory}
-use Rattle.rgo_memory.specs.declared.values.Value.{Value}
-use Rattle.rgo_memory.specs.declared.values.Value.TheVariants as value
-use Rattle.rgo_machine.specs.Deadlocks.{IsDeadlock}
-use Rattle.rgo_machine.specs.declared.picks.Pick.{Pick}
-use Rattle.rgo_machine.specs.declared.picks.Pick.TheVariants.{One, Meet}
-use Rattle.rgo_machine.specs.Machines.{AtReceive, AtSend, AtClose, AtCall, AtStart, Elsewhere, Stand, alone, meet, met, met_by, operated, picked, unless_ended}
-use Rattle.rgo_machine.specs.Machines.{with_frames}
-use Rattle.rgo_tac.specs.Frames.{Frame, going}
-use Rattle.rgo_tac.specs.Steps.{stand}
-use Rattle.rgo_tac.specs.Tac.{tac}
-use Rattle.rgo_code.specs.Code.{Code}
-use Rattle.rgo_code.specs.Erasure.{erased}
-use Rattle.rgo_region_machine.specs.Machine.{plain_step}
-use Rattle.rgo_region_machine.specs.States.{RegionState}
+use Rattle.rgo_sound.specs.Typed.declared.actions.Action.TheVariants.{Recv, Send}
+use Rattle.rgo_sound.specs.Memory.Channels.{send, receive, is_meeting_at, meets_at}
+use Rattle.rgo_sound.specs.Memory.Memory.{Memory}
+use Rattle.rgo_sound.specs.Memory.declared.values.Value.{Value}
+use Rattle.rgo_sound.specs.Memory.declared.values.Value.TheVariants as value
+use Rattle.rgo_sound.specs.Machine.Deadlocks.{IsDeadlock}
+use Rattle.rgo_sound.specs.Machine.declared.picks.Pick.{Pick}
+use Rattle.rgo_sound.specs.Machine.declared.picks.Pick.TheVariants.{One, Meet}
+use Rattle.rgo_sound.specs.Machine.Machines.{AtReceive, AtSend, AtClose, AtCall, AtStart, Elsewhere, Stand, alone, meet, met, met_by, operated, picked, unless_ended}
+use Rattle.rgo_sound.specs.Machine.Machines.{with_frames}
+use Rattle.rgo_sound.specs.Tac.Frames.{Frame, going}
+use Rattle.rgo_sound.specs.Tac.Steps.{stand}
+use Rattle.rgo_sound.specs.Tac.Tac.{tac}
+use Rattle.rgo_sound.specs.Code.Code.{Code}
+use Rattle.rgo_sound.specs.Code.Erasure.{erased}
+use Rattle.rgo_sound.specs.RegionMachine.Machine.{plain_step}
+use Rattle.rgo_sound.specs.RegionMachine.States.{RegionState}
 use Rattle.rgo_sound.proofs.Places.{get_some}
 use Rattle.rgo_sound.proofs.Tests.{split, eq_of}
 use Rattle.rgo_core_channels.specs.Channels.{Chan, On, Phase, Calm, Offered, Accepted, phase_number, OfferOf}

@@ -1,15 +1,15 @@
 -- Channels after an operation, and states of the region machine after an event at a channel.
 use Rattle.std.specs.Prelude.{ℕ, ◌+◌, List, ◌∷◌, [], ◌++◌, Some, None, true, false, slice_set}
-use Rattle.rgo_typed.specs.declared.actions.Action.{Action}
-use Rattle.rgo_typed.specs.declared.actions.Action.TheVariants.{Recv, Send}
-use Rattle.rgo_memory.specs.Memory.{Memory}
-use Rattle.rgo_memory.specs.declared.traps.Trap.{Trap}
-use Rattle.rgo_memory.specs.declared.values.Value.{Value}
-use Rattle.rgo_memory.specs.declared.values.Value.TheVariants as value
-use Rattle.rgo_machine.specs.declared.picks.End.TheVariants as the_end
-use Rattle.rgo_code.specs.Code.{Code}
-use Rattle.rgo_region_machine.specs.Instructions.{marked}
-use Rattle.rgo_region_machine.specs.States.{Taken, RegionState}
+use Rattle.rgo_sound.specs.Typed.declared.actions.Action.{Action}
+use Rattle.rgo_sound.specs.Typed.declared.actions.Action.TheVariants.{Recv, Send}
+use Rattle.rgo_sound.specs.Memory.Memory.{Memory}
+use Rattle.rgo_sound.specs.Memory.declared.traps.Trap.{Trap}
+use Rattle.rgo_sound.specs.Memory.declared.values.Value.{Value}
+use Rattle.rgo_sound.specs.Memory.declared.values.Value.TheVariants as value
+use Rattle.rgo_sound.specs.Machine.declared.picks.End.TheVariants as the_end
+use Rattle.rgo_sound.specs.Code.Code.{Code}
+use Rattle.rgo_sound.specs.RegionMachine.Instructions.{marked}
+use Rattle.rgo_sound.specs.RegionMachine.States.{Taken, RegionState}
 use Rattle.rgo_core_channels.specs.Channels.{Chan}
 use Rattle.rgo_core_channels.specs.Standing.{Next, passed, passed_holder}
 

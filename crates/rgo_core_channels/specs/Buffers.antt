@@ -1,14 +1,14 @@
 -- The store to a control that makes an operation of one goroutine take effect, and unlocks the channel: a send into a buffer, a
 -- receive from one, a receive from a closed channel, a close. Each is an instruction of the region machine.
 use Rattle.std.specs.Prelude.{◌≡◌, ◌⊎◌, ℕ, ◌+◌, ◌-◌, ◌%◌, ◌<◌, List, [], ◌∷◌, Some}
-use Rattle.rgo_typed.specs.declared.actions.Action.TheVariants.{Recv, Send, Close}
-use Rattle.rgo_memory.specs.Channels.{close, receive, send}
-use Rattle.rgo_memory.specs.Effects.{Does}
-use Rattle.rgo_memory.specs.Memory.{with_object}
-use Rattle.rgo_memory.specs.declared.values.Value.{Value}
-use Rattle.rgo_memory.specs.declared.values.Value.TheVariants as value
-use Rattle.rgo_machine.specs.declared.picks.Pick.TheVariants.{One}
-use Rattle.rgo_region_machine.specs.Machine.{Instruct}
+use Rattle.rgo_sound.specs.Typed.declared.actions.Action.TheVariants.{Recv, Send, Close}
+use Rattle.rgo_sound.specs.Memory.Channels.{close, receive, send}
+use Rattle.rgo_sound.specs.Memory.Effects.{Does}
+use Rattle.rgo_sound.specs.Memory.Memory.{with_object}
+use Rattle.rgo_sound.specs.Memory.declared.values.Value.{Value}
+use Rattle.rgo_sound.specs.Memory.declared.values.Value.TheVariants as value
+use Rattle.rgo_sound.specs.Machine.declared.picks.Pick.TheVariants.{One}
+use Rattle.rgo_sound.specs.RegionMachine.Machine.{Instruct}
 use Rattle.rgo_core_channels.specs.After.{after, closed_now, popped, pushed}
 use Rattle.rgo_core_channels.specs.Channels.{Chan, On, channel}
 use Rattle.rgo_core_channels.specs.Controls.{control, closed_of, count_of, head_of}

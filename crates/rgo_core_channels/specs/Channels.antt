@@ -1,13 +1,13 @@
 -- The channels of a table: which state of the region machine its words, and what records have of channels, stand for.
 use Rattle.std.specs.Prelude.{◌≡◌, ◌≢◌, ◌⊎◌, ℕ, suc, ◌+◌, ◌%◌, ◌<◌, ◌≤◌, Bool, true, List, [], ◌∷◌, length}
 use Rattle.std.specs.Prelude.{Some, slice_get, slice_index}
-use Rattle.rgo_typed.specs.declared.actions.Action.TheVariants.{Send}
-use Rattle.rgo_memory.specs.Memory.{Object, Channel, Memory}
-use Rattle.rgo_memory.specs.declared.values.Value.{Value}
-use Rattle.rgo_memory.specs.declared.values.Value.TheVariants as value
-use Rattle.rgo_code.specs.Code.{Code}
-use Rattle.rgo_region_machine.specs.States.{Holder, Offer, NoOffer, Standing, Taken, RegionState}
-use Rattle.rgo_region_machine.specs.Objects.{may_touch}
+use Rattle.rgo_sound.specs.Typed.declared.actions.Action.TheVariants.{Send}
+use Rattle.rgo_sound.specs.Memory.Memory.{Object, Channel, Memory}
+use Rattle.rgo_sound.specs.Memory.declared.values.Value.{Value}
+use Rattle.rgo_sound.specs.Memory.declared.values.Value.TheVariants as value
+use Rattle.rgo_sound.specs.Code.Code.{Code}
+use Rattle.rgo_sound.specs.RegionMachine.States.{Holder, Offer, NoOffer, Standing, Taken, RegionState}
+use Rattle.rgo_sound.specs.RegionMachine.Objects.{may_touch}
 use Rattle.rgo_core_channels.specs.Controls.{bit, control, extent}
 use Rattle.rgo_core_channels.specs.Records.{Rec, HoldsAt, InCell, KnowsOf, Sized, Nowhere, Offering, Shut, Stranded}
 use Rattle.rgo_core_channels.specs.Standing.{IsAt, Next}

@@ -1,11 +1,11 @@
 -- Goroutines none of which can go on, as their records and the words say.
 use Rattle.std.specs.Prelude.{◌≡◌, ◌≢◌, ℕ, ◌+◌, ◌%◌, ◌<◌, [], ◌∷◌, Some, slice_get, slice_index}
-use Rattle.rgo_typed.specs.declared.actions.Action.TheVariants.{Recv, Send}
-use Rattle.rgo_memory.specs.declared.values.Value.{Value}
-use Rattle.rgo_memory.specs.declared.values.Value.TheVariants as value
-use Rattle.rgo_machine.specs.Deadlocks.{IsDeadlock}
-use Rattle.rgo_tac.specs.Tac.{tac}
-use Rattle.rgo_code.specs.Erasure.{erased}
+use Rattle.rgo_sound.specs.Typed.declared.actions.Action.TheVariants.{Recv, Send}
+use Rattle.rgo_sound.specs.Memory.declared.values.Value.{Value}
+use Rattle.rgo_sound.specs.Memory.declared.values.Value.TheVariants as value
+use Rattle.rgo_sound.specs.Machine.Deadlocks.{IsDeadlock}
+use Rattle.rgo_sound.specs.Tac.Tac.{tac}
+use Rattle.rgo_sound.specs.Code.Erasure.{erased}
 use Rattle.rgo_core_memory.specs.Accesses.{Before}
 use Rattle.rgo_core_channels.specs.Controls.{closed_of, count_of}
 use Rattle.rgo_core_channels.specs.Moments.{Moment}

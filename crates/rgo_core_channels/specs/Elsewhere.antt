@@ -1,13 +1,13 @@
 -- Steps of other kinds: what they have to leave of channels, and how a channel or a goroutine more joins the image.
 use Rattle.std.specs.Prelude.{◌≡◌, ◌⊎◌, ℕ, ◌+◌, ◌<◌, ◌≤◌, false, List, [], ◌∷◌, ◌++◌, length, replicate, Option, Some, None, slice_get}
 use Rattle.std.specs.Prelude.{slice_index, slice_set}
-use Rattle.rgo_typed.specs.declared.actions.Action.TheVariants.{Send}
-use Rattle.rgo_memory.specs.declared.values.Value.{Value}
-use Rattle.rgo_memory.specs.declared.values.Value.TheVariants as value
-use Rattle.rgo_code.specs.Code.{Code}
-use Rattle.rgo_region_machine.specs.declared.limits.Limit.{Limit}
-use Rattle.rgo_region_machine.specs.Machine.{Event, finished, region_step}
-use Rattle.rgo_region_machine.specs.States.{Holder, NoOffer, RegionState}
+use Rattle.rgo_sound.specs.Typed.declared.actions.Action.TheVariants.{Send}
+use Rattle.rgo_sound.specs.Memory.declared.values.Value.{Value}
+use Rattle.rgo_sound.specs.Memory.declared.values.Value.TheVariants as value
+use Rattle.rgo_sound.specs.Code.Code.{Code}
+use Rattle.rgo_sound.specs.RegionMachine.declared.limits.Limit.{Limit}
+use Rattle.rgo_sound.specs.RegionMachine.Machine.{Event, finished, region_step}
+use Rattle.rgo_sound.specs.RegionMachine.States.{Holder, NoOffer, RegionState}
 use Rattle.rgo_sound.specs.Leaving.{ActsAlone}
 use Rattle.rgo_core_channels.specs.Channels.{Calm, Chan, Channels, IsChan, On, Places, Unlocked}
 use Rattle.rgo_core_channels.specs.Controls.{extent}

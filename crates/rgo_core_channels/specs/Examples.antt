@@ -1,9 +1,9 @@
 -- Controls, records and channels that are so, and such as are not.
 use Rattle.std.specs.Prelude.{◌≡◌, ◌+◌, ℕ, true, false, List, [], ◌∷◌, pos, slice_index}
-use Rattle.rgo_memory.specs.declared.values.Value.{Value}
-use Rattle.rgo_memory.specs.declared.values.Value.TheVariants as value
-use Rattle.rgo_code.specs.Code.{Code}
-use Rattle.rgo_region_machine.specs.Machine.{region_start}
+use Rattle.rgo_sound.specs.Memory.declared.values.Value.{Value}
+use Rattle.rgo_sound.specs.Memory.declared.values.Value.TheVariants as value
+use Rattle.rgo_sound.specs.Code.Code.{Code}
+use Rattle.rgo_sound.specs.RegionMachine.Machine.{region_start}
 use Rattle.rgo_core_channels.specs.After.{closed_now, popped, pushed}
 use Rattle.rgo_core_channels.specs.Channels.{Accepted, Calm, Chan, Channels, On, Places, LockedBy, Offered, OfferOf, Unlocked, cell_of, channel, count, holder_offer, lock_bit, phase_number}
 use Rattle.rgo_core_channels.specs.Controls.{bit, closed_of, control, count_of, extent, head_of}
@@ -11,8 +11,8 @@ use Rattle.rgo_core_channels.specs.Locking.{IsSpare}
 use Rattle.rgo_core_channels.specs.Records.{Free, HoldsAt, InCell, KnowsOf, Locked, Read, Wrote, at_rest, offering, with_hold, with_lock, with_look, with_own_look, with_size}
 use Rattle.rgo_core_channels.specs.Records.{Rec, Shut, Stranded}
 use Rattle.rgo_core_channels.specs.Standing.{IsOfChannel}
-use Rattle.rgo_typed.specs.declared.actions.Action.TheVariants as action
-use Rattle.rgo_region_machine.specs.States.{Holder, NoOffer, RegionState, Standing, Taken}
+use Rattle.rgo_sound.specs.Typed.declared.actions.Action.TheVariants as action
+use Rattle.rgo_sound.specs.RegionMachine.States.{Holder, NoOffer, RegionState, Standing, Taken}
 
 -- a buffer for three values, of which it has two
 abbrev pub ring : Chan

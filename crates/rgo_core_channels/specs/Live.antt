@@ -1,12 +1,12 @@
 -- What a goroutine's next operation, and its offer, say of a channel: it is one, in a live region. This is what region safety gives.
 use Rattle.std.specs.Prelude.{◌≡◌, ℕ, true, List, ◌∷◌, Some, slice_get}
-use Rattle.rgo_typed.specs.declared.actions.Action.{Action}
-use Rattle.rgo_memory.specs.declared.values.Value.{Value}
-use Rattle.rgo_memory.specs.declared.values.Value.TheVariants as value
-use Rattle.rgo_code.specs.Checked.{IsChecked}
-use Rattle.rgo_code.specs.Code.{Code}
-use Rattle.rgo_region_machine.specs.Objects.{may_touch}
-use Rattle.rgo_region_machine.specs.States.{Holder, Taken, RegionState}
+use Rattle.rgo_sound.specs.Typed.declared.actions.Action.{Action}
+use Rattle.rgo_sound.specs.Memory.declared.values.Value.{Value}
+use Rattle.rgo_sound.specs.Memory.declared.values.Value.TheVariants as value
+use Rattle.rgo_sound.specs.Code.Checked.{IsChecked}
+use Rattle.rgo_sound.specs.Code.Code.{Code}
+use Rattle.rgo_sound.specs.RegionMachine.Objects.{may_touch}
+use Rattle.rgo_sound.specs.RegionMachine.States.{Holder, Taken, RegionState}
 use Rattle.rgo_sound.specs.Good.{AllGood}
 use Rattle.rgo_core_channels.specs.Channels.{Chan, On}
 use Rattle.rgo_core_channels.specs.Standing.{IsOfChannel, Next}

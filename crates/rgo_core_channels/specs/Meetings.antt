@@ -1,15 +1,15 @@
 -- Channels without a buffer: an offer is put up, a receiver takes it, and the sender acknowledges that it was taken.
 use Rattle.std.specs.List.{list_any}
 use Rattle.std.specs.Prelude.{◌≡◌, ◌≢◌, ℕ, ◌+◌, ◌-◌, true, false, [], ◌∷◌, Some, slice_get}
-use Rattle.rgo_typed.specs.declared.actions.Action.TheVariants.{Recv, Send}
-use Rattle.rgo_memory.specs.Channels.{is_meeting_at}
-use Rattle.rgo_memory.specs.declared.values.Value.{Value}
-use Rattle.rgo_memory.specs.declared.values.Value.TheVariants as value
-use Rattle.rgo_machine.specs.declared.picks.Pick.TheVariants.{Meet}
-use Rattle.rgo_region_machine.specs.Duties.{attended}
-use Rattle.rgo_region_machine.specs.Machine.{Acknowledge, Instruct, MakeOffer}
-use Rattle.rgo_region_machine.specs.Offers.{offers_on}
-use Rattle.rgo_region_machine.specs.States.{Holder, NoOffer, Standing, Taken}
+use Rattle.rgo_sound.specs.Typed.declared.actions.Action.TheVariants.{Recv, Send}
+use Rattle.rgo_sound.specs.Memory.Channels.{is_meeting_at}
+use Rattle.rgo_sound.specs.Memory.declared.values.Value.{Value}
+use Rattle.rgo_sound.specs.Memory.declared.values.Value.TheVariants as value
+use Rattle.rgo_sound.specs.Machine.declared.picks.Pick.TheVariants.{Meet}
+use Rattle.rgo_sound.specs.RegionMachine.Duties.{attended}
+use Rattle.rgo_sound.specs.RegionMachine.Machine.{Acknowledge, Instruct, MakeOffer}
+use Rattle.rgo_sound.specs.RegionMachine.Offers.{offers_on}
+use Rattle.rgo_sound.specs.RegionMachine.States.{Holder, NoOffer, Standing, Taken}
 use Rattle.rgo_core_channels.specs.After.{after_meeting}
 use Rattle.rgo_core_channels.specs.Controls.{closed_of, count_of}
 use Rattle.rgo_core_channels.specs.Moments.{Gains, Law}

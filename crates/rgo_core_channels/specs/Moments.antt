@@ -1,13 +1,13 @@
 -- What a law is about: one moment of a table, the goroutine that makes an access, and its record.
 use Rattle.std.specs.Prelude.{◌≡◌, ℕ, List, Some, slice_get, slice_set, slice_index}
-use Rattle.rgo_memory.specs.declared.traps.Trap.{Trap}
-use Rattle.rgo_memory.specs.declared.values.Value.{Value}
-use Rattle.rgo_machine.specs.declared.picks.Pick.TheVariants.{One}
-use Rattle.rgo_code.specs.Checked.{IsChecked}
-use Rattle.rgo_code.specs.Code.{Code}
-use Rattle.rgo_code.specs.NameRules.{Ascends}
-use Rattle.rgo_region_machine.specs.Machine.{Event, Instruct, region_step}
-use Rattle.rgo_region_machine.specs.States.{RegionState}
+use Rattle.rgo_sound.specs.Memory.declared.traps.Trap.{Trap}
+use Rattle.rgo_sound.specs.Memory.declared.values.Value.{Value}
+use Rattle.rgo_sound.specs.Machine.declared.picks.Pick.TheVariants.{One}
+use Rattle.rgo_sound.specs.Code.Checked.{IsChecked}
+use Rattle.rgo_sound.specs.Code.Code.{Code}
+use Rattle.rgo_sound.specs.Code.NameRules.{Ascends}
+use Rattle.rgo_sound.specs.RegionMachine.Machine.{Event, Instruct, region_step}
+use Rattle.rgo_sound.specs.RegionMachine.States.{RegionState}
 use Rattle.rgo_sound.specs.Good.{AllGood}
 use Rattle.rgo_sound.specs.Running.{IsRunning}
 use Rattle.rgo_core_channels.specs.After.{after_trap}

@@ -1,8 +1,8 @@
 -- At the start there is no channel, and the first goroutine's record knows nothing of channels.
 use Rattle.std.specs.Prelude.{ℕ, List, [], ◌∷◌}
-use Rattle.rgo_memory.specs.declared.values.Value.{Value}
-use Rattle.rgo_code.specs.Code.{Code}
-use Rattle.rgo_region_machine.specs.Machine.{region_start}
+use Rattle.rgo_sound.specs.Memory.declared.values.Value.{Value}
+use Rattle.rgo_sound.specs.Code.Code.{Code}
+use Rattle.rgo_sound.specs.RegionMachine.Machine.{region_start}
 use Rattle.rgo_core_channels.specs.Channels.{Channels, Places}
 use Rattle.rgo_core_channels.specs.Records.{at_rest}
 

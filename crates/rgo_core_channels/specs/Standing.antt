@@ -1,16 +1,16 @@
 -- A goroutine that is about to perform an action and owes nothing before it.
 use Rattle.std.specs.Prelude.{◌≡◌, ◌⊎◌, ℕ, List, [], ◌∷◌, ◌++◌, map, Some, slice_get}
-use Rattle.rgo_typed.specs.declared.actions.Action.{Action}
-use Rattle.rgo_typed.specs.declared.actions.Action.TheVariants.{Recv, Send, Close}
-use Rattle.rgo_memory.specs.Values.{zero_of}
-use Rattle.rgo_memory.specs.declared.values.Value.{Value}
-use Rattle.rgo_memory.specs.declared.values.Value.TheVariants as value
-use Rattle.rgo_tac.specs.Frames.{Frame, going}
-use Rattle.rgo_tac.specs.Steps.{type_of}
-use Rattle.rgo_code.specs.Code.{Code}
-use Rattle.rgo_code.specs.Erasure.{erased}
-use Rattle.rgo_region_machine.specs.Owed.{next_duties}
-use Rattle.rgo_region_machine.specs.States.{Holder, RegionState, Remove}
+use Rattle.rgo_sound.specs.Typed.declared.actions.Action.{Action}
+use Rattle.rgo_sound.specs.Typed.declared.actions.Action.TheVariants.{Recv, Send, Close}
+use Rattle.rgo_sound.specs.Memory.Values.{zero_of}
+use Rattle.rgo_sound.specs.Memory.declared.values.Value.{Value}
+use Rattle.rgo_sound.specs.Memory.declared.values.Value.TheVariants as value
+use Rattle.rgo_sound.specs.Tac.Frames.{Frame, going}
+use Rattle.rgo_sound.specs.Tac.Steps.{type_of}
+use Rattle.rgo_sound.specs.Code.Code.{Code}
+use Rattle.rgo_sound.specs.Code.Erasure.{erased}
+use Rattle.rgo_sound.specs.RegionMachine.Owed.{next_duties}
+use Rattle.rgo_sound.specs.RegionMachine.States.{Holder, RegionState, Remove}
 use Rattle.rgo_core_memory.specs.Accesses.{Before}
 use Rattle.rgo_core_channels.specs.Records.{Post, Nowhere, Offering}
 

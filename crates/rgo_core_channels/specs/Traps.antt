@@ -1,9 +1,9 @@
 -- Traps at channels: a send on a closed channel, and a close of one that is closed or nil.
 use Rattle.std.specs.Prelude.{◌≡◌, ◌⊎◌, ℕ, [], ◌∷◌}
-use Rattle.rgo_typed.specs.declared.actions.Action.TheVariants.{Send, Close}
-use Rattle.rgo_memory.specs.declared.traps.Trap.TheVariants.{SendClosed, CloseClosed, CloseNil}
-use Rattle.rgo_memory.specs.declared.values.Value.{Value}
-use Rattle.rgo_memory.specs.declared.values.Value.TheVariants as value
+use Rattle.rgo_sound.specs.Typed.declared.actions.Action.TheVariants.{Send, Close}
+use Rattle.rgo_sound.specs.Memory.declared.traps.Trap.TheVariants.{SendClosed, CloseClosed, CloseNil}
+use Rattle.rgo_sound.specs.Memory.declared.values.Value.{Value}
+use Rattle.rgo_sound.specs.Memory.declared.values.Value.TheVariants as value
 use Rattle.rgo_core_channels.specs.Moments.{Law, Traps}
 use Rattle.rgo_core_channels.specs.Records.{Nowhere, Shut, Stranded}
 use Rattle.rgo_core_channels.specs.Standing.{Next}

@@ -1,28 +1,28 @@
 -- `main` protects nothing since its start: it is so at the start of a run, and each step keeps it.
 use Rattle.std.proofs.Common.{◌≡◌, ◌∙◌, ℕ, zero, suc, List, [], ◌∷◌, Option, Some, None, option_and_then, slice_get, slice_set, refl, sym, ap, subst, arith}
 use Rattle.std.proofs.lemmas.Option.{same_Some, slice_get_within}
-use Rattle.rgo_code.specs.Code.{Branch, Call, Code, CodeOp, Do, Go, Jump, Print, Return}
+use Rattle.rgo_sound.specs.Code.Code.{Branch, Call, Code, CodeOp, Do, Go, Jump, Print, Return}
 use Rattle.rgo_core.specs.Runs.{limited_run, limited_step}
-use Rattle.rgo_machine.specs.Runs.{run}
-use Rattle.rgo_machine.specs.declared.limits.Limits.{Limits}
-use Rattle.rgo_machine.specs.declared.picks.End.{End}
-use Rattle.rgo_machine.specs.declared.picks.End.TheVariants.{Exit, Trap}
-use Rattle.rgo_machine.specs.declared.picks.Pick.TheVariants.{Meet, One}
-use Rattle.rgo_region_machine.specs.Duties.{attend, attended, created, duty_done, protected, removal, shared, unprotected}
-use Rattle.rgo_region_machine.specs.Instructions.{child_holder, holder_after, last_frames, taken_offer, unless_trapped}
-use Rattle.rgo_region_machine.specs.Machine.{Acknowledge, Attend, Event, Finish, Instruct, MakeOffer, TakePage, page_for, page_taken, region_start, region_step, take_page, takes_page}
-use Rattle.rgo_region_machine.specs.Offers.{acknowledge, make_offer, offer_for, offered}
-use Rattle.rgo_region_machine.specs.Owed.{current}
-use Rattle.rgo_region_machine.specs.Regions.{bound, removed_once}
-use Rattle.rgo_region_machine.specs.States.{Create, Duty, EndBase, Holder, NoOffer, Offer, Protect, RegionState, Remove, Share, Standing, Taken, Unprotect, frames_of, top_names}
-use Rattle.rgo_region_machine.specs.declared.regions.Region.{Region}
-use Rattle.rgo_region_machine.specs.declared.regions.Region.TheVariants.{Global as GlobalRegion, Numbered}
+use Rattle.rgo_sound.specs.Machine.Runs.{run}
+use Rattle.rgo_sound.specs.Machine.declared.limits.Limits.{Limits}
+use Rattle.rgo_sound.specs.Machine.declared.picks.End.{End}
+use Rattle.rgo_sound.specs.Machine.declared.picks.End.TheVariants.{Exit, Trap}
+use Rattle.rgo_sound.specs.Machine.declared.picks.Pick.TheVariants.{Meet, One}
+use Rattle.rgo_sound.specs.RegionMachine.Duties.{attend, attended, created, duty_done, protected, removal, shared, unprotected}
+use Rattle.rgo_sound.specs.RegionMachine.Instructions.{child_holder, holder_after, last_frames, taken_offer, unless_trapped}
+use Rattle.rgo_sound.specs.RegionMachine.Machine.{Acknowledge, Attend, Event, Finish, Instruct, MakeOffer, TakePage, page_for, page_taken, region_start, region_step, take_page, takes_page}
+use Rattle.rgo_sound.specs.RegionMachine.Offers.{acknowledge, make_offer, offer_for, offered}
+use Rattle.rgo_sound.specs.RegionMachine.Owed.{current}
+use Rattle.rgo_sound.specs.RegionMachine.Regions.{bound, removed_once}
+use Rattle.rgo_sound.specs.RegionMachine.States.{Create, Duty, EndBase, Holder, NoOffer, Offer, Protect, RegionState, Remove, Share, Standing, Taken, Unprotect, frames_of, top_names}
+use Rattle.rgo_sound.specs.RegionMachine.declared.regions.Region.{Region}
+use Rattle.rgo_sound.specs.RegionMachine.declared.regions.Region.TheVariants.{Global as GlobalRegion, Numbered}
 use Rattle.rgo_sound.proofs.Acting.{after as acted_plain}
 use Rattle.rgo_sound.proofs.ErasureLemmas.{Yields, yields, yields_at, yields_from, yields_if, yields_is, yields_none, yields_then}
 use Rattle.rgo_sound.proofs.OneStep.{MeetDone, OneDone, gone_on, meet_done, one_done, receive_goes, send_goes}
 use Rattle.rgo_sound.proofs.Places.{get_append_left, length_set}
-use Rattle.rgo_tac.specs.Frames.{Frame}
-use Rattle.rgo_tac.specs.Tac.{TacState}
+use Rattle.rgo_sound.specs.Tac.Frames.{Frame}
+use Rattle.rgo_sound.specs.Tac.Tac.{TacState}
 use Rattle.rgo_core_facts.proofs.ControlUnprotects.{within_is}
 
 -- a goroutine of this number with this holder

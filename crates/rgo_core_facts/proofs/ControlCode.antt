@@ -2,15 +2,15 @@
 use Rattle.std.proofs.Common.{◌≡◌, ◌≢◌, ◌<◌, ◌≤◌, ◌+◌, ◌∙◌, ℕ, Bool, true, false, List, [], ◌∷◌, length, Option, Some, None, is_some, option_map, slice_get, refl, sym, ap, subst, arith}
 use Rattle.std.proofs.lemmas.List.{length-map}
 use Rattle.std.proofs.lemmas.Option.{slice_get_within}
-use Rattle.rgo_code.specs.Checked.{IsChecked}
-use Rattle.rgo_code.specs.ClassRules.{CallPasses, CallsPass, Passes, StartPasses, StartsPass}
-use Rattle.rgo_code.specs.Code.{Branch, Call, Code, CodeFn, CodeInstr, CodeOp, Do, Go, Jump, Print, Return, Slot}
-use Rattle.rgo_code.specs.Erasure.{erased, erased_fn, erased_instr, erased_op}
-use Rattle.rgo_code.specs.Exists.{InstrExists, leaves}
-use Rattle.rgo_code.specs.Types.{OpFits}
-use Rattle.rgo_code.specs.declared.rules.Line.TheVariants as line
-use Rattle.rgo_code.specs.declared.rules.Rule.TheVariants as rule
-use Rattle.rgo_region_machine.specs.Owed.{function_of}
+use Rattle.rgo_sound.specs.Code.Checked.{IsChecked}
+use Rattle.rgo_sound.specs.Code.ClassRules.{CallPasses, CallsPass, Passes, StartPasses, StartsPass}
+use Rattle.rgo_sound.specs.Code.Code.{Branch, Call, Code, CodeFn, CodeInstr, CodeOp, Do, Go, Jump, Print, Return, Slot}
+use Rattle.rgo_sound.specs.Code.Erasure.{erased, erased_fn, erased_instr, erased_op}
+use Rattle.rgo_sound.specs.Code.Exists.{InstrExists, leaves}
+use Rattle.rgo_sound.specs.Code.Types.{OpFits}
+use Rattle.rgo_sound.specs.Code.declared.rules.Line.TheVariants as line
+use Rattle.rgo_sound.specs.Code.declared.rules.Rule.TheVariants as rule
+use Rattle.rgo_sound.specs.RegionMachine.Owed.{function_of}
 use Rattle.rgo_sound.proofs.Ruled.{CallIsThere, StartIsThere, call_is_there, start_is_there}
 use Rattle.rgo_core_facts.specs.ControlCode.{BodiesBegin, CalleesExist, HasCallee, IsFollowed, NextExists, ResultsReturned, ReturnsResult, VariablesExist}
 

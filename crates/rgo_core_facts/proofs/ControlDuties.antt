@@ -1,18 +1,18 @@
 -- What the first duty of a goroutine refers to.
 use Rattle.std.proofs.Common.{◌≡◌, ⊎_elim, ◌∙◌, ◌≤◌, ◌+◌, ◌||◌, ℕ, Bool, true, false, List, [], ◌∷◌, map, Some, slice_get, refl, sym, ap, subst, arith}
 use Rattle.std.specs.List.{list_any}
-use Rattle.rgo_core_frames.proofs.SlotLemmas.{ends_slot}
-use Rattle.rgo_core_frames.proofs.StakeDuties.{OwesFirst, owes_first, past_owes}
-use Rattle.rgo_core_frames.specs.Shown.{FramesShow}
-use Rattle.rgo_core_frames.specs.Slots.{slot, slot_duties, slot_duty, slot_environment, slot_environments}
-use Rattle.rgo_core_frames.specs.WordFrames.{WordFrame}
-use Rattle.rgo_region_machine.specs.Regions.{bound, same_region}
-use Rattle.rgo_region_machine.specs.States.{Create, Duty, EndBase, Environment, Holder, Protect, Remove, Share, Unprotect, top_names}
-use Rattle.rgo_region_machine.specs.declared.regions.Region.{Region}
+use Rattle.rgo_core.proofs.Frames.SlotLemmas.{ends_slot}
+use Rattle.rgo_core.proofs.Frames.StakeDuties.{OwesFirst, owes_first, past_owes}
+use Rattle.rgo_core.specs.Frames.Shown.{FramesShow}
+use Rattle.rgo_core.specs.Frames.Slots.{slot, slot_duties, slot_duty, slot_environment, slot_environments}
+use Rattle.rgo_core.specs.Frames.WordFrames.{WordFrame}
+use Rattle.rgo_sound.specs.RegionMachine.Regions.{bound, same_region}
+use Rattle.rgo_sound.specs.RegionMachine.States.{Create, Duty, EndBase, Environment, Holder, Protect, Remove, Share, Unprotect, top_names}
+use Rattle.rgo_sound.specs.RegionMachine.declared.regions.Region.{Region}
 use Rattle.rgo_sound.proofs.Attends.{same_reflexive}
 use Rattle.rgo_sound.specs.Invariant.{FramesFit, IsFree, IsReady, Settled, times}
 use Rattle.rgo_sound.specs.Stakes.{one_if}
-use Rattle.rgo_tac.specs.Frames.{Frame}
+use Rattle.rgo_sound.specs.Tac.Frames.{Frame}
 use Rattle.rgo_core.specs.Core.{Here, Setup}
 use Rattle.rgo_core.specs.Records.{Record}
 use Rattle.rgo_core.proofs.Parts.{I}

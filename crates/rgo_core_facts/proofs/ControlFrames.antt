@@ -1,21 +1,21 @@
 -- Where the frames of a goroutine are in the code.
 use Rattle.std.proofs.Common.{◌≡◌, ◌⊎◌, inl, inr, ⊎_elim, true, true≢false, ◌∙◌, ℕ, zero, suc, List, [], ◌∷◌, Option, Some, None, is_some, option_map, option_and_then, slice_get, refl, sym, ap, subst}
 use Rattle.std.proofs.lemmas.Option.{same_Some}
-use Rattle.rgo_code.specs.Checked.{IsChecked}
-use Rattle.rgo_code.specs.Code.{Branch, Call, Code, CodeFn, CodeInstr, CodeOp, Do, Go, Jump, Print, Return}
-use Rattle.rgo_core_frames.proofs.Bookkeeping.{current_alike}
-use Rattle.rgo_core_frames.specs.Local.{local_by, local_frames, local_instr, local_op, word_returned}
-use Rattle.rgo_core_frames.specs.Records.{after_op}
-use Rattle.rgo_core_frames.specs.Shown.{CallersShow, FramesShow, IsAlike}
-use Rattle.rgo_core_frames.specs.Slots.{nameless, slot_duties}
-use Rattle.rgo_core_frames.specs.WordFrames.{WordFrame, bare, word_at}
-use Rattle.rgo_region_machine.specs.Duties.{may_go}
-use Rattle.rgo_region_machine.specs.Owed.{current, current_in, function_of}
-use Rattle.rgo_region_machine.specs.States.{Holder, NoOffer, Offer, Standing, Taken, frames_in}
+use Rattle.rgo_sound.specs.Code.Checked.{IsChecked}
+use Rattle.rgo_sound.specs.Code.Code.{Branch, Call, Code, CodeFn, CodeInstr, CodeOp, Do, Go, Jump, Print, Return}
+use Rattle.rgo_core.proofs.Frames.Bookkeeping.{current_alike}
+use Rattle.rgo_core.specs.Frames.Local.{local_by, local_frames, local_instr, local_op, word_returned}
+use Rattle.rgo_core.specs.Frames.Records.{after_op}
+use Rattle.rgo_core.specs.Frames.Shown.{CallersShow, FramesShow, IsAlike}
+use Rattle.rgo_core.specs.Frames.Slots.{nameless, slot_duties}
+use Rattle.rgo_core.specs.Frames.WordFrames.{WordFrame, bare, word_at}
+use Rattle.rgo_sound.specs.RegionMachine.Duties.{may_go}
+use Rattle.rgo_sound.specs.RegionMachine.Owed.{current, current_in, function_of}
+use Rattle.rgo_sound.specs.RegionMachine.States.{Holder, NoOffer, Offer, Standing, Taken, frames_in}
 use Rattle.rgo_sound.specs.Offers.{OfferFits, StandsAtSend}
 use Rattle.rgo_sound.specs.Types.{CalledFrom, IsCallOf}
-use Rattle.rgo_tac.specs.Frames.{Frame}
-use Rattle.rgo_typed.specs.declared.actions.Action.TheVariants.{Send}
+use Rattle.rgo_sound.specs.Tac.Frames.{Frame}
+use Rattle.rgo_sound.specs.Typed.declared.actions.Action.TheVariants.{Send}
 use Rattle.rgo_core.specs.CommitMoves.{IsAtSend}
 use Rattle.rgo_core.specs.Core.{Here, Setup}
 use Rattle.rgo_core.specs.Records.{Record}

@@ -1,23 +1,23 @@
 -- What a call or a start passes has a region.
 use Rattle.std.proofs.Common.{◌≡◌, ◌≢◌, ◌∙◌, ◌≤◌, ℕ, zero, suc, true, List, [], ◌∷◌, length, map, Option, Some, None, is_some, option_map, slice_get, Contains, refl, sym, ap, subst, arith}
 use Rattle.std.proofs.lemmas.Option.{same_Some}
-use Rattle.rgo_code.specs.ClassRules.{CallPasses, CallsPass, Passes, StartPasses, StartsPass}
-use Rattle.rgo_code.specs.Code.{CodeFn, CodeOp, Go}
-use Rattle.rgo_code.specs.Erasure.{erased, erased_fn, erased_op}
-use Rattle.rgo_code.specs.Exists.{OpExists, Uses}
-use Rattle.rgo_code.specs.NameRules.{protected_names}
-use Rattle.rgo_code.specs.Names.{Names}
-use Rattle.rgo_code.specs.Types.{ArgumentsFit, OpFits, TargetFits}
-use Rattle.rgo_code.specs.declared.rules.Line.TheVariants as line
-use Rattle.rgo_code.specs.declared.rules.Rule.TheVariants as rule
-use Rattle.rgo_core_frames.proofs.SlotLemmas.{class_slot, top_slot}
-use Rattle.rgo_core_frames.specs.Before.{IsBefore}
-use Rattle.rgo_core_frames.specs.Slots.{slot, slot_environment, slot_environments, slot_names}
-use Rattle.rgo_region_machine.specs.Owed.{function_of, regions_named}
-use Rattle.rgo_region_machine.specs.Regions.{Bindings, bound, class_region, same_region}
-use Rattle.rgo_region_machine.specs.States.{Environment, Holder, top_names}
-use Rattle.rgo_region_machine.specs.declared.regions.Region.{Region}
-use Rattle.rgo_region_machine.specs.declared.regions.Region.TheVariants.{Global as GlobalRegion, Numbered}
+use Rattle.rgo_sound.specs.Code.ClassRules.{CallPasses, CallsPass, Passes, StartPasses, StartsPass}
+use Rattle.rgo_sound.specs.Code.Code.{CodeFn, CodeOp, Go}
+use Rattle.rgo_sound.specs.Code.Erasure.{erased, erased_fn, erased_op}
+use Rattle.rgo_sound.specs.Code.Exists.{OpExists, Uses}
+use Rattle.rgo_sound.specs.Code.NameRules.{protected_names}
+use Rattle.rgo_sound.specs.Code.Names.{Names}
+use Rattle.rgo_sound.specs.Code.Types.{ArgumentsFit, OpFits, TargetFits}
+use Rattle.rgo_sound.specs.Code.declared.rules.Line.TheVariants as line
+use Rattle.rgo_sound.specs.Code.declared.rules.Rule.TheVariants as rule
+use Rattle.rgo_core.proofs.Frames.SlotLemmas.{class_slot, top_slot}
+use Rattle.rgo_core.specs.Frames.Before.{IsBefore}
+use Rattle.rgo_core.specs.Frames.Slots.{slot, slot_environment, slot_environments, slot_names}
+use Rattle.rgo_sound.specs.RegionMachine.Owed.{function_of, regions_named}
+use Rattle.rgo_sound.specs.RegionMachine.Regions.{Bindings, bound, class_region, same_region}
+use Rattle.rgo_sound.specs.RegionMachine.States.{Environment, Holder, top_names}
+use Rattle.rgo_sound.specs.RegionMachine.declared.regions.Region.{Region}
+use Rattle.rgo_sound.specs.RegionMachine.declared.regions.Region.TheVariants.{Global as GlobalRegion, Numbered}
 use Rattle.rgo_sound.proofs.Attends.{same_reflexive}
 use Rattle.rgo_sound.proofs.Calls.{ArePassable}
 use Rattle.rgo_sound.proofs.Passable.{all_passable, call_reads, call_writes, go_reads}
@@ -29,9 +29,9 @@ use Rattle.rgo_sound.proofs.Static.{named_bound, standing_instr, standing_settle
 use Rattle.rgo_sound.proofs.ValueSteps.{Top, top_of}
 use Rattle.rgo_sound.specs.Invariant.{HasInstr, Settled, Shares, at_most_one, bound_times, same_bound, shared_before, shared_names, times, to_share}
 use Rattle.rgo_sound.specs.Stakes.{is_in, one_if, times_in}
-use Rattle.rgo_tac.specs.Code.{TacFn}
-use Rattle.rgo_tac.specs.declared.regions.Class.{Class}
-use Rattle.rgo_tac.specs.declared.regions.Class.TheVariants.{Global, Name, NoClass}
+use Rattle.rgo_sound.specs.Tac.Code.{TacFn}
+use Rattle.rgo_sound.specs.Tac.declared.regions.Class.{Class}
+use Rattle.rgo_sound.specs.Tac.declared.regions.Class.TheVariants.{Global, Name, NoClass}
 use Rattle.rgo_core.specs.Core.{Here, Setup}
 use Rattle.rgo_core.specs.Next.{IsAt}
 use Rattle.rgo_core.specs.Records.{Record}

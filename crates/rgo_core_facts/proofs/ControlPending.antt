@@ -1,10 +1,10 @@
 -- The stakes that a goroutine has taken for a child: each is in a region for which a name of the newest frame stands.
 use Rattle.std.proofs.Common.{◌≡◌, ◌≢◌, ◌∙◌, ◌<◌, ◌+◌, ℕ, suc, Bool, true, false, List, [], ◌∷◌, map, Option, Some, None, if◌then◌else◌, nat_eq, refl, sym, ap, arith}
 use Rattle.std.specs.List.{list_any}
-use Rattle.rgo_region_machine.specs.Regions.{Bindings, bound, same_region, unbind, removed_once}
-use Rattle.rgo_region_machine.specs.States.{Create, Duty, EndBase, Protect, Remove, Share, Unprotect}
-use Rattle.rgo_region_machine.specs.declared.regions.Region.{Region}
-use Rattle.rgo_region_machine.specs.declared.regions.Region.TheVariants.{Global as GlobalRegion, Numbered}
+use Rattle.rgo_sound.specs.RegionMachine.Regions.{Bindings, bound, same_region, unbind, removed_once}
+use Rattle.rgo_sound.specs.RegionMachine.States.{Create, Duty, EndBase, Protect, Remove, Share, Unprotect}
+use Rattle.rgo_sound.specs.RegionMachine.declared.regions.Region.{Region}
+use Rattle.rgo_sound.specs.RegionMachine.declared.regions.Region.TheVariants.{Global as GlobalRegion, Numbered}
 use Rattle.rgo_sound.proofs.CoreLemmas.{bound_unbind, bound_unbind_other}
 use Rattle.rgo_sound.proofs.Moves.{same_regions}
 use Rattle.rgo_sound.proofs.Shares.{at_most_one_some}

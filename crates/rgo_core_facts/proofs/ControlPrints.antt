@@ -2,26 +2,26 @@
 use Rattle.std.proofs.Common.{◌≡◌, ◌⊎◌, inl, inr, ◌∙◌, ℕ, Bool, true, false, List, Some, slice_get, Contains, sym, ap, subst, true≢false}
 use Rattle.std.proofs.lemmas.Option.{same_Some}
 use Rattle.std.specs.Int.{from_bool}
-use Rattle.rgo_code.specs.Code.{CodeFn, CodeOp, Print, Slot}
-use Rattle.rgo_code.specs.Erasure.{erased, erased_fn, erased_op}
-use Rattle.rgo_code.specs.Types.{HasType, OpFits}
-use Rattle.rgo_code.specs.declared.rules.Line.TheVariants as line
-use Rattle.rgo_code.specs.declared.rules.Rule.TheVariants as rule
-use Rattle.rgo_core_frames.specs.Before.{IsBefore}
-use Rattle.rgo_core_frames.specs.Prints.{typed_in}
-use Rattle.rgo_core_frames.specs.WordFrames.{word_at}
-use Rattle.rgo_core_frames.specs.Words.{Shows}
-use Rattle.rgo_memory.specs.declared.values.Value.{Value}
-use Rattle.rgo_memory.specs.declared.values.Value.TheVariants as value
-use Rattle.rgo_region_machine.specs.Owed.{current_in, function_at, function_of}
+use Rattle.rgo_sound.specs.Code.Code.{CodeFn, CodeOp, Print, Slot}
+use Rattle.rgo_sound.specs.Code.Erasure.{erased, erased_fn, erased_op}
+use Rattle.rgo_sound.specs.Code.Types.{HasType, OpFits}
+use Rattle.rgo_sound.specs.Code.declared.rules.Line.TheVariants as line
+use Rattle.rgo_sound.specs.Code.declared.rules.Rule.TheVariants as rule
+use Rattle.rgo_core.specs.Frames.Before.{IsBefore}
+use Rattle.rgo_core.specs.Frames.Prints.{typed_in}
+use Rattle.rgo_core.specs.Frames.WordFrames.{word_at}
+use Rattle.rgo_core.specs.Frames.Words.{Shows}
+use Rattle.rgo_sound.specs.Memory.declared.values.Value.{Value}
+use Rattle.rgo_sound.specs.Memory.declared.values.Value.TheVariants as value
+use Rattle.rgo_sound.specs.RegionMachine.Owed.{current_in, function_at, function_of}
 use Rattle.rgo_sound.proofs.Passable.{slot_at}
 use Rattle.rgo_sound.proofs.TypedSteps.{var_kind}
 use Rattle.rgo_sound.specs.Types.{HasKind}
-use Rattle.rgo_tac.specs.Flow.{reads}
-use Rattle.rgo_tac.specs.Frames.{value_at}
-use Rattle.rgo_typed.specs.Types.{is_pointer_like}
-use Rattle.rgo_typed.specs.declared.statements.Piece.{Piece}
-use Rattle.rgo_typed.specs.declared.types.Type.{«Type»}
+use Rattle.rgo_sound.specs.Tac.Flow.{reads}
+use Rattle.rgo_sound.specs.Tac.Frames.{value_at}
+use Rattle.rgo_sound.specs.Typed.Types.{is_pointer_like}
+use Rattle.rgo_sound.specs.Typed.declared.statements.Piece.{Piece}
+use Rattle.rgo_sound.specs.Typed.declared.types.Type.{«Type»}
 use Rattle.rgo_core.specs.Core.{Here, Setup}
 use Rattle.rgo_core.specs.Next.{IsAt}
 use Rattle.rgo_core.specs.Records.{Record}

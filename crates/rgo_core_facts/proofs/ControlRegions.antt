@@ -3,30 +3,30 @@ use Rattle.std.proofs.Common.{◌≡◌, ◌⊎◌, inl, inr, ⊎_elim, ◌∙�
 use Rattle.std.proofs.lemmas.List.{length-map}
 use Rattle.std.proofs.lemmas.Option.{same_Some, some_pair_parts}
 use Rattle.std.specs.List.{list_any}
-use Rattle.rgo_code.specs.Code.{Code}
-use Rattle.rgo_core_frames.proofs.Before.{no_duties}
-use Rattle.rgo_core_frames.proofs.LocalActs.{chained}
-use Rattle.rgo_core_frames.specs.Shown.{CallersShow, FramesShow}
-use Rattle.rgo_core_frames.specs.Slots.{slot, slot_environment}
-use Rattle.rgo_core_frames.specs.Stakes.{ended, stake_ended}
-use Rattle.rgo_core_frames.specs.WordFrames.{WordFrame}
-use Rattle.rgo_core_memory.proofs.Slots.{live_info}
-use Rattle.rgo_core_memory.proofs.Stepped.{map_get}
-use Rattle.rgo_core_memory.specs.Ground.{Held, Uses, held_of}
-use Rattle.rgo_core_memory.specs.Parts.{slot_of}
-use Rattle.rgo_core_memory.specs.Records.{Fill, Within}
-use Rattle.rgo_region_machine.specs.Duties.{guards}
-use Rattle.rgo_region_machine.specs.Regions.{bound, removed_once, same_region, unbind, without}
-use Rattle.rgo_region_machine.specs.States.{Create, Duty, EndBase, Environment, Holder, Protect, Remove, Share, Unprotect, frames_in, top_names, with_top}
-use Rattle.rgo_region_machine.specs.declared.regions.Region.{Region}
-use Rattle.rgo_region_machine.specs.declared.regions.Region.TheVariants.{Global as GlobalRegion, Numbered}
+use Rattle.rgo_sound.specs.Code.Code.{Code}
+use Rattle.rgo_core.proofs.Frames.Before.{no_duties}
+use Rattle.rgo_core.proofs.Frames.LocalActs.{chained}
+use Rattle.rgo_core.specs.Frames.Shown.{CallersShow, FramesShow}
+use Rattle.rgo_core.specs.Frames.Slots.{slot, slot_environment}
+use Rattle.rgo_core.specs.Frames.Stakes.{ended, stake_ended}
+use Rattle.rgo_core.specs.Frames.WordFrames.{WordFrame}
+use Rattle.rgo_core.proofs.Memory.Slots.{live_info}
+use Rattle.rgo_core.proofs.Memory.Stepped.{map_get}
+use Rattle.rgo_core.specs.Memory.Ground.{Held, Uses, held_of}
+use Rattle.rgo_core.specs.Memory.Parts.{slot_of}
+use Rattle.rgo_core.specs.Memory.Records.{Fill, Within}
+use Rattle.rgo_sound.specs.RegionMachine.Duties.{guards}
+use Rattle.rgo_sound.specs.RegionMachine.Regions.{bound, removed_once, same_region, unbind, without}
+use Rattle.rgo_sound.specs.RegionMachine.States.{Create, Duty, EndBase, Environment, Holder, Protect, Remove, Share, Unprotect, frames_in, top_names, with_top}
+use Rattle.rgo_sound.specs.RegionMachine.declared.regions.Region.{Region}
+use Rattle.rgo_sound.specs.RegionMachine.declared.regions.Region.TheVariants.{Global as GlobalRegion, Numbered}
 use Rattle.rgo_sound.proofs.Attends.{staked_live}
 use Rattle.rgo_sound.proofs.Bullets.{stakes_counted}
 use Rattle.rgo_sound.proofs.CoreLemmas.{not_in_without}
 use Rattle.rgo_sound.specs.Core.{AreStaked, AreUniqueIn, RegionsStaked}
 use Rattle.rgo_sound.specs.Invariant.{AllWait, FramesFit, GoodHolder, Shares, to_share}
 use Rattle.rgo_sound.specs.Stakes.{is_in, times_in}
-use Rattle.rgo_tac.specs.Frames.{Frame}
+use Rattle.rgo_sound.specs.Tac.Frames.{Frame}
 use Rattle.rgo_core.specs.Core.{Here, Setup, layout}
 use Rattle.rgo_core.specs.Records.{Record}
 use Rattle.rgo_core.proofs.Parts.{I}

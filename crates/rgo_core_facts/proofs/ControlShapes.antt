@@ -1,19 +1,19 @@
 -- How many operands each action has in checked code.
 use Rattle.std.proofs.Common.{◌≡◌, ◌≢◌, ◌∙◌, ℕ, List, length, Option, Some, None, refl, sym, ap, subst}
 use Rattle.std.proofs.lemmas.List.{length-map}
-use Rattle.rgo_ast.specs.declared.ops.BinaryOp.TheVariants as binary
-use Rattle.rgo_ast.specs.declared.ops.BinaryOp.{BinaryOp}
-use Rattle.rgo_code.specs.Code.{Branch, Call, CodeOp, Do, Go, Jump, Print, Return}
-use Rattle.rgo_code.specs.Erasure.{erased, erased_fn, erased_op}
-use Rattle.rgo_code.specs.Exists.{declared_by}
-use Rattle.rgo_code.specs.Types.{DoFits, HaveTypes, OpFits, ReturnsType}
-use Rattle.rgo_code.specs.declared.rules.Line.TheVariants as line
-use Rattle.rgo_code.specs.declared.rules.Rule.TheVariants as rule
-use Rattle.rgo_tac.specs.Code.{Tac, TacFn}
-use Rattle.rgo_typed.specs.declared.actions.Action.TheVariants as action
-use Rattle.rgo_typed.specs.declared.actions.Action.{Action}
-use Rattle.rgo_typed.specs.declared.types.Type.{«Type»}
-use Rattle.rgo_wellformed.specs.TypeRules.{Computes, Declared, Takes}
+use Rattle.rgo_sound.specs.Ast.declared.ops.BinaryOp.TheVariants as binary
+use Rattle.rgo_sound.specs.Ast.declared.ops.BinaryOp.{BinaryOp}
+use Rattle.rgo_sound.specs.Code.Code.{Branch, Call, CodeOp, Do, Go, Jump, Print, Return}
+use Rattle.rgo_sound.specs.Code.Erasure.{erased, erased_fn, erased_op}
+use Rattle.rgo_sound.specs.Code.Exists.{declared_by}
+use Rattle.rgo_sound.specs.Code.Types.{DoFits, HaveTypes, OpFits, ReturnsType}
+use Rattle.rgo_sound.specs.Code.declared.rules.Line.TheVariants as line
+use Rattle.rgo_sound.specs.Code.declared.rules.Rule.TheVariants as rule
+use Rattle.rgo_sound.specs.Tac.Code.{Tac, TacFn}
+use Rattle.rgo_sound.specs.Typed.declared.actions.Action.TheVariants as action
+use Rattle.rgo_sound.specs.Typed.declared.actions.Action.{Action}
+use Rattle.rgo_sound.specs.Typed.declared.types.Type.{«Type»}
+use Rattle.rgo_sound.specs.WellFormed.TypeRules.{Computes, Declared, Takes}
 use Rattle.rgo_core_facts.specs.ControlShapes.{ActionsShaped, HasShape, IsShaped}
 
 have_long : (f : TacFn) (vs : List ℕ) (tys : List «Type») → HaveTypes f vs tys → length vs ≡ length tys

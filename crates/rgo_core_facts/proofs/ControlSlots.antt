@@ -2,12 +2,12 @@
 use Rattle.std.proofs.Common.{◌≡◌, ◌∙◌, ◌<◌, ◌||◌, ℕ, zero, suc, Bool, true, false, List, [], ◌∷◌, map, Some, None, option_map, if◌then◌else◌, nat_eq, slice_get, refl, sym, ap, subst, arith, true≢false}
 use Rattle.std.proofs.lemmas.Option.{same_Some, slice_get-map}
 use Rattle.std.specs.List.{list_any}
-use Rattle.rgo_core_frames.proofs.LocalActs.{mapped}
-use Rattle.rgo_core_frames.proofs.SlotLemmas.{bound_slot}
-use Rattle.rgo_core_frames.specs.Slots.{slot, slot_environment, slot_environments, slot_names}
-use Rattle.rgo_region_machine.specs.Regions.{Bindings, bound, same_region}
-use Rattle.rgo_region_machine.specs.States.{Environment}
-use Rattle.rgo_region_machine.specs.declared.regions.Region.{Region}
+use Rattle.rgo_core.proofs.Frames.LocalActs.{mapped}
+use Rattle.rgo_core.proofs.Frames.SlotLemmas.{bound_slot}
+use Rattle.rgo_core.specs.Frames.Slots.{slot, slot_environment, slot_environments, slot_names}
+use Rattle.rgo_sound.specs.RegionMachine.Regions.{Bindings, bound, same_region}
+use Rattle.rgo_sound.specs.RegionMachine.States.{Environment}
+use Rattle.rgo_sound.specs.RegionMachine.declared.regions.Region.{Region}
 use Rattle.rgo_sound.proofs.Attends.{same_reflexive}
 use Rattle.rgo_sound.proofs.Moves.{same_regions}
 use Rattle.rgo_sound.proofs.Tests.{eq_of, nat_eq_refl, split}

@@ -1,17 +1,17 @@
 -- What the first duty of a goroutine does.
 use Rattle.std.proofs.Common.{◌≡◌, ◌∙◌, ℕ, zero, suc, Bool, false, List, [], ◌∷◌, map, Option, Some, None, option_map, option_and_then, if◌then◌else◌, refl, sym, ap}
 use Rattle.std.specs.Option.{option_map_or}
-use Rattle.rgo_core_channels.specs.Records.{at_rest}
-use Rattle.rgo_core_frames.specs.Local.{local_by, local_duty, not_removed, not_shared}
-use Rattle.rgo_core_frames.specs.Quiet.{is_exit, quiet, unless_exit}
-use Rattle.rgo_core_frames.specs.Records.{Rec as FrameRec}
-use Rattle.rgo_core_frames.specs.Stakes.{ended, shared_in}
-use Rattle.rgo_core_frames.specs.WordFrames.{WordFrame}
-use Rattle.rgo_region_machine.specs.Duties.{guards, unprotected, with_protection}
-use Rattle.rgo_region_machine.specs.Regions.{Bindings, without}
-use Rattle.rgo_region_machine.specs.States.{Create, Duty, EndBase, Environment, Holder, Protect, Remove, Share, Unprotect, with_top}
-use Rattle.rgo_region_machine.specs.declared.regions.Region.{Region}
-use Rattle.rgo_region_machine.specs.declared.regions.Region.TheVariants.{Numbered}
+use Rattle.rgo_core.specs.Channels.Records.{at_rest}
+use Rattle.rgo_core.specs.Frames.Local.{local_by, local_duty, not_removed, not_shared}
+use Rattle.rgo_core.specs.Frames.Quiet.{is_exit, quiet, unless_exit}
+use Rattle.rgo_core.specs.Frames.Records.{Rec as FrameRec}
+use Rattle.rgo_core.specs.Frames.Stakes.{ended, shared_in}
+use Rattle.rgo_core.specs.Frames.WordFrames.{WordFrame}
+use Rattle.rgo_sound.specs.RegionMachine.Duties.{guards, unprotected, with_protection}
+use Rattle.rgo_sound.specs.RegionMachine.Regions.{Bindings, without}
+use Rattle.rgo_sound.specs.RegionMachine.States.{Create, Duty, EndBase, Environment, Holder, Protect, Remove, Share, Unprotect, with_top}
+use Rattle.rgo_sound.specs.RegionMachine.declared.regions.Region.{Region}
+use Rattle.rgo_sound.specs.RegionMachine.declared.regions.Region.TheVariants.{Numbered}
 use Rattle.rgo_core.specs.Core.{Here, Setup}
 use Rattle.rgo_core.specs.Laws.{clock_after}
 use Rattle.rgo_core.specs.Records.{Record}

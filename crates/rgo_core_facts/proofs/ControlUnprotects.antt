@@ -1,27 +1,27 @@
 -- A goroutine ends a protection only where the newest frame has it: it is so at the start of a run, and each step keeps it.
 use Rattle.std.proofs.Common.{◌≡◌, ◌⊎◌, inl, inr, ⊎_elim, ◌∙◌, ◌≤◌, ℕ, zero, suc, Bool, true, false, List, [], ◌∷◌, ◌++◌, map, Option, Some, None, option_and_then, if◌then◌else◌, slice_get, slice_set, refl, sym, ap, subst, arith}
 use Rattle.std.proofs.lemmas.Option.{same_Some}
-use Rattle.rgo_code.specs.Checked.{IsChecked}
-use Rattle.rgo_code.specs.Code.{Branch, Call, Code, CodeInstr, CodeOp, Do, Go, Jump, Print, Return}
-use Rattle.rgo_code.specs.NameRules.{Ascends, protected_names}
+use Rattle.rgo_sound.specs.Code.Checked.{IsChecked}
+use Rattle.rgo_sound.specs.Code.Code.{Branch, Call, Code, CodeInstr, CodeOp, Do, Go, Jump, Print, Return}
+use Rattle.rgo_sound.specs.Code.NameRules.{Ascends, protected_names}
 use Rattle.rgo_core.specs.Runs.{if_in_limits, limited_run, limited_step}
-use Rattle.rgo_core_frames.proofs.Sound.{next_sound, sound_stays}
-use Rattle.rgo_core_frames.specs.States.{IsSound}
-use Rattle.rgo_machine.specs.Limits.{is_within}
-use Rattle.rgo_machine.specs.Runs.{run}
-use Rattle.rgo_machine.specs.declared.limits.Limits.{Limits}
-use Rattle.rgo_machine.specs.declared.picks.End.{End}
-use Rattle.rgo_machine.specs.declared.picks.End.TheVariants.{Exit, Trap}
-use Rattle.rgo_machine.specs.declared.picks.Pick.TheVariants.{Meet, One}
-use Rattle.rgo_region_machine.specs.Duties.{attend, attended, created, duty_done, protected, removal, shared, unprotected, without_protection}
-use Rattle.rgo_region_machine.specs.Instructions.{child_holder, holder_after, last_frames, taken_offer, unless_trapped}
-use Rattle.rgo_region_machine.specs.Machine.{Acknowledge, Attend, Event, Finish, Instruct, MakeOffer, TakePage, main_holder, page_for, page_taken, region_start, region_step, take_page, takes_page}
-use Rattle.rgo_region_machine.specs.Offers.{acknowledge, make_offer, offer_for, offered}
-use Rattle.rgo_region_machine.specs.Owed.{caller_duties, current, current_in, duties_behind, duties_behind_call, duties_before, duties_of_op, entry_removes, function_of, next_duties, regions_named, removes_behind}
-use Rattle.rgo_region_machine.specs.Regions.{Bindings, bound, removed_once, same_region}
-use Rattle.rgo_region_machine.specs.States.{Create, Duty, EndBase, Environment, Holder, NoOffer, Offer, Protect, RegionState, Remove, Share, Standing, Taken, Unprotect, below, frames_in, frames_of, top_names}
-use Rattle.rgo_region_machine.specs.declared.regions.Region.{Region}
-use Rattle.rgo_region_machine.specs.declared.regions.Region.TheVariants.{Global as GlobalRegion, Numbered}
+use Rattle.rgo_core.proofs.Frames.Sound.{next_sound, sound_stays}
+use Rattle.rgo_core.specs.Frames.States.{IsSound}
+use Rattle.rgo_sound.specs.Machine.Limits.{is_within}
+use Rattle.rgo_sound.specs.Machine.Runs.{run}
+use Rattle.rgo_sound.specs.Machine.declared.limits.Limits.{Limits}
+use Rattle.rgo_sound.specs.Machine.declared.picks.End.{End}
+use Rattle.rgo_sound.specs.Machine.declared.picks.End.TheVariants.{Exit, Trap}
+use Rattle.rgo_sound.specs.Machine.declared.picks.Pick.TheVariants.{Meet, One}
+use Rattle.rgo_sound.specs.RegionMachine.Duties.{attend, attended, created, duty_done, protected, removal, shared, unprotected, without_protection}
+use Rattle.rgo_sound.specs.RegionMachine.Instructions.{child_holder, holder_after, last_frames, taken_offer, unless_trapped}
+use Rattle.rgo_sound.specs.RegionMachine.Machine.{Acknowledge, Attend, Event, Finish, Instruct, MakeOffer, TakePage, main_holder, page_for, page_taken, region_start, region_step, take_page, takes_page}
+use Rattle.rgo_sound.specs.RegionMachine.Offers.{acknowledge, make_offer, offer_for, offered}
+use Rattle.rgo_sound.specs.RegionMachine.Owed.{caller_duties, current, current_in, duties_behind, duties_behind_call, duties_before, duties_of_op, entry_removes, function_of, next_duties, regions_named, removes_behind}
+use Rattle.rgo_sound.specs.RegionMachine.Regions.{Bindings, bound, removed_once, same_region}
+use Rattle.rgo_sound.specs.RegionMachine.States.{Create, Duty, EndBase, Environment, Holder, NoOffer, Offer, Protect, RegionState, Remove, Share, Standing, Taken, Unprotect, below, frames_in, frames_of, top_names}
+use Rattle.rgo_sound.specs.RegionMachine.declared.regions.Region.{Region}
+use Rattle.rgo_sound.specs.RegionMachine.declared.regions.Region.TheVariants.{Global as GlobalRegion, Numbered}
 use Rattle.rgo_sound.proofs.Attends.{same_reflexive}
 use Rattle.rgo_sound.proofs.ErasureLemmas.{Yields, yields, yields_at, yields_from, yields_if, yields_is, yields_none, yields_then}
 use Rattle.rgo_sound.proofs.Moves.{times_removed}
@@ -30,9 +30,9 @@ use Rattle.rgo_sound.proofs.OneStep.{MeetDone, OnFrom, OneDone, gone_on, meet_do
 use Rattle.rgo_sound.proofs.Places.{get_append_cases}
 use Rattle.rgo_sound.specs.Invariant.{FramesFit, GoodHolder, IsCall, Waits, bound_times, same_bound, times}
 use Rattle.rgo_sound.specs.Stakes.{one_if}
-use Rattle.rgo_tac.specs.Frames.{Frame}
-use Rattle.rgo_tac.specs.Tac.{TacState, tac_start}
-use Rattle.rgo_code.specs.Erasure.{erased}
+use Rattle.rgo_sound.specs.Tac.Frames.{Frame}
+use Rattle.rgo_sound.specs.Tac.Tac.{TacState, tac_start}
+use Rattle.rgo_sound.specs.Code.Erasure.{erased}
 
 -- ---- duties
 

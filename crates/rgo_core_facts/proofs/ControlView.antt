@@ -2,23 +2,23 @@
 -- regions.
 use Rattle.std.proofs.Common.{◌≡◌, ⊎_elim, ◌∙◌, ℕ, List, [], ◌∷◌, length, map, Option, Some, None, slice_get, refl, sym, ap, subst, arith}
 use Rattle.std.proofs.lemmas.List.{length-map}
-use Rattle.rgo_code.specs.Code.{Code, CodeFn, CodeInstr, CodeOp, Do, Slot}
-use Rattle.rgo_code.specs.Erasure.{erased_fn}
-use Rattle.rgo_core_frames.specs.Fits.{Fits, IsPast, IsShown}
-use Rattle.rgo_core_frames.specs.Shown.{FramesShow}
-use Rattle.rgo_core_frames.specs.Slots.{slot, slot_environments}
-use Rattle.rgo_memory.specs.declared.values.Value.{Value}
-use Rattle.rgo_memory.specs.declared.values.Value.TheVariants as value
-use Rattle.rgo_region_machine.specs.Instructions.{holder_after}
-use Rattle.rgo_region_machine.specs.Owed.{current, current_in, function_at}
-use Rattle.rgo_region_machine.specs.States.{Duty, Environment, Holder, frames_in}
-use Rattle.rgo_region_machine.specs.declared.regions.Region.{Region}
+use Rattle.rgo_sound.specs.Code.Code.{Code, CodeFn, CodeInstr, CodeOp, Do, Slot}
+use Rattle.rgo_sound.specs.Code.Erasure.{erased_fn}
+use Rattle.rgo_core.specs.Frames.Fits.{Fits, IsPast, IsShown}
+use Rattle.rgo_core.specs.Frames.Shown.{FramesShow}
+use Rattle.rgo_core.specs.Frames.Slots.{slot, slot_environments}
+use Rattle.rgo_sound.specs.Memory.declared.values.Value.{Value}
+use Rattle.rgo_sound.specs.Memory.declared.values.Value.TheVariants as value
+use Rattle.rgo_sound.specs.RegionMachine.Instructions.{holder_after}
+use Rattle.rgo_sound.specs.RegionMachine.Owed.{current, current_in, function_at}
+use Rattle.rgo_sound.specs.RegionMachine.States.{Duty, Environment, Holder, frames_in}
+use Rattle.rgo_sound.specs.RegionMachine.declared.regions.Region.{Region}
 use Rattle.rgo_sound.proofs.Places.{length_set}
 use Rattle.rgo_sound.specs.Invariant.{FramesFit, GoodHolder}
 use Rattle.rgo_sound.specs.Types.{CalledFrom, FramesHaveKinds, HaveKinds}
-use Rattle.rgo_tac.specs.Frames.{Frame, assigned, going}
-use Rattle.rgo_typed.specs.declared.actions.Action.TheVariants.{Send}
-use Rattle.rgo_typed.specs.declared.types.Type.{«Type»}
+use Rattle.rgo_sound.specs.Tac.Frames.{Frame, assigned, going}
+use Rattle.rgo_sound.specs.Typed.declared.actions.Action.TheVariants.{Send}
+use Rattle.rgo_sound.specs.Typed.declared.types.Type.{«Type»}
 use Rattle.rgo_core.specs.Core.{Here, Setup}
 use Rattle.rgo_core.specs.Records.{Record}
 use Rattle.rgo_core.proofs.Parts.{I}

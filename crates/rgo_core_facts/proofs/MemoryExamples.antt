@@ -1,16 +1,16 @@
 -- Examples of new objects, own pages and offers.
 use Rattle.std.proofs.Common.{◌≡◌, ℕ, false, List, [], ◌∷◌, Some, None, refl, ap, ⊎_elim, arith}
 use Rattle.std.proofs.lemmas.Option.{none-some, same_Some}
-use Rattle.rgo_code.specs.Code.{Code, Do}
-use Rattle.rgo_core_frames.specs.WordFrames.{WordFrame, word_at}
-use Rattle.rgo_core_memory.specs.Records.{Amid, Fill, Rest}
-use Rattle.rgo_machine.specs.declared.limits.Limits.{Limits}
-use Rattle.rgo_memory.specs.Memory.{Channel, Object, SliceObject, StructObject}
-use Rattle.rgo_region_machine.specs.Examples.{plain}
-use Rattle.rgo_region_machine.specs.Objects.{words as words_of}
-use Rattle.rgo_region_machine.specs.declared.regions.Region.TheVariants.{Global as GlobalRegion, Numbered}
+use Rattle.rgo_sound.specs.Code.Code.{Code, Do}
+use Rattle.rgo_core.specs.Frames.WordFrames.{WordFrame, word_at}
+use Rattle.rgo_core.specs.Memory.Records.{Amid, Fill, Rest}
+use Rattle.rgo_sound.specs.Machine.declared.limits.Limits.{Limits}
+use Rattle.rgo_sound.specs.Memory.Memory.{Channel, Object, SliceObject, StructObject}
+use Rattle.rgo_sound.specs.RegionMachine.Examples.{plain}
+use Rattle.rgo_sound.specs.RegionMachine.Objects.{words as words_of}
+use Rattle.rgo_sound.specs.RegionMachine.declared.regions.Region.TheVariants.{Global as GlobalRegion, Numbered}
 use Rattle.rgo_sound.proofs.Places.{head_is}
-use Rattle.rgo_typed.specs.declared.actions.Action.TheVariants as action
+use Rattle.rgo_sound.specs.Typed.declared.actions.Action.TheVariants as action
 use Rattle.rgo_core.specs.Core.{Setup}
 use Rattle.rgo_core.specs.Records.{Record}
 use Rattle.rgo_core_facts.specs.MemoryExamples.{ObjectExamples, PlaceExamples, at_three, making_slices, newest, three}

@@ -4,38 +4,38 @@ use Rattle.std.proofs.lemmas.Bool.Decides.{nat_tests}
 use Rattle.std.proofs.lemmas.List.{length-map, length-replicate}
 use Rattle.std.proofs.lemmas.Option.{slice_get-map}
 use Rattle.std.specs.Int.{w64, cast_unsigned}
-use Rattle.rgo_code.specs.Code.{CodeFn, CodeOp, Do}
-use Rattle.rgo_code.specs.Erasure.{erased, erased_fn}
-use Rattle.rgo_code.specs.Names.{class_of}
-use Rattle.rgo_code.specs.Types.{DoFits, HaveTypes}
-use Rattle.rgo_memory.specs.Memory.{Channel, SliceObject, StructObject}
-use Rattle.rgo_memory.specs.Values.{base_zero, element_zero, element_zero_in, zero_in, zero_of}
-use Rattle.rgo_memory.specs.declared.values.Value.{Value}
-use Rattle.rgo_region_machine.specs.Objects.{makes_object, making_region, target_class, words as words_of}
-use Rattle.rgo_region_machine.specs.Owed.{function_at, function_of}
-use Rattle.rgo_region_machine.specs.Regions.{Bindings, class_region}
-use Rattle.rgo_region_machine.specs.States.{Holder, top_names}
-use Rattle.rgo_region_machine.specs.declared.regions.Region.{Region}
+use Rattle.rgo_sound.specs.Code.Code.{CodeFn, CodeOp, Do}
+use Rattle.rgo_sound.specs.Code.Erasure.{erased, erased_fn}
+use Rattle.rgo_sound.specs.Code.Names.{class_of}
+use Rattle.rgo_sound.specs.Code.Types.{DoFits, HaveTypes}
+use Rattle.rgo_sound.specs.Memory.Memory.{Channel, SliceObject, StructObject}
+use Rattle.rgo_sound.specs.Memory.Values.{base_zero, element_zero, element_zero_in, zero_in, zero_of}
+use Rattle.rgo_sound.specs.Memory.declared.values.Value.{Value}
+use Rattle.rgo_sound.specs.RegionMachine.Objects.{makes_object, making_region, target_class, words as words_of}
+use Rattle.rgo_sound.specs.RegionMachine.Owed.{function_at, function_of}
+use Rattle.rgo_sound.specs.RegionMachine.Regions.{Bindings, class_region}
+use Rattle.rgo_sound.specs.RegionMachine.States.{Holder, top_names}
+use Rattle.rgo_sound.specs.RegionMachine.declared.regions.Region.{Region}
 use Rattle.rgo_sound.proofs.Offers.{makes_at}
 use Rattle.rgo_sound.proofs.Places.{get_some}
 use Rattle.rgo_sound.proofs.Progress.{HasTarget, region_there, target, top}
-use Rattle.rgo_tac.specs.Code.{Tac, TacFn}
-use Rattle.rgo_tac.specs.Steps.{type_of}
-use Rattle.rgo_typed.specs.declared.actions.Action.{Action}
-use Rattle.rgo_typed.specs.declared.actions.Action.TheVariants as action
-use Rattle.rgo_typed.specs.declared.programs.Struct.{Struct}
-use Rattle.rgo_typed.specs.declared.types.Base.{Base}
-use Rattle.rgo_typed.specs.declared.types.Base.TheVariants as base
-use Rattle.rgo_typed.specs.declared.types.Layer.{Layer}
-use Rattle.rgo_typed.specs.declared.types.Type.{«Type»}
-use Rattle.rgo_core_channels.proofs.Lists.{get_replicated}
-use Rattle.rgo_core_frames.specs.Before.{IsBefore}
-use Rattle.rgo_core_frames.specs.Makes.{MakesAt}
-use Rattle.rgo_core_frames.specs.Slots.{slot, slot_names}
-use Rattle.rgo_core_frames.specs.WordFrames.{bare, word_at}
-use Rattle.rgo_core_frames.proofs.Making.{region_law}
-use Rattle.rgo_core_frames.proofs.SlotLemmas.{class_slot, top_slot}
-use Rattle.rgo_core_memory.specs.Encoding.{content, opening}
+use Rattle.rgo_sound.specs.Tac.Code.{Tac, TacFn}
+use Rattle.rgo_sound.specs.Tac.Steps.{type_of}
+use Rattle.rgo_sound.specs.Typed.declared.actions.Action.{Action}
+use Rattle.rgo_sound.specs.Typed.declared.actions.Action.TheVariants as action
+use Rattle.rgo_sound.specs.Typed.declared.programs.Struct.{Struct}
+use Rattle.rgo_sound.specs.Typed.declared.types.Base.{Base}
+use Rattle.rgo_sound.specs.Typed.declared.types.Base.TheVariants as base
+use Rattle.rgo_sound.specs.Typed.declared.types.Layer.{Layer}
+use Rattle.rgo_sound.specs.Typed.declared.types.Type.{«Type»}
+use Rattle.rgo_core.proofs.Channels.Lists.{get_replicated}
+use Rattle.rgo_core.specs.Frames.Before.{IsBefore}
+use Rattle.rgo_core.specs.Frames.Makes.{MakesAt}
+use Rattle.rgo_core.specs.Frames.Slots.{slot, slot_names}
+use Rattle.rgo_core.specs.Frames.WordFrames.{bare, word_at}
+use Rattle.rgo_core.proofs.Frames.Making.{region_law}
+use Rattle.rgo_core.proofs.Frames.SlotLemmas.{class_slot, top_slot}
+use Rattle.rgo_core.specs.Memory.Encoding.{content, opening}
 use Rattle.rgo_core.specs.Bounds.{struct_words}
 use Rattle.rgo_core.specs.Core.{Here, Setup, layout}
 use Rattle.rgo_core.specs.NewObjects.{AChannel, ASlice, AStruct, slot_number}

@@ -2,16 +2,16 @@
 use Rattle.std.proofs.Common.{◌≡◌, ⊎_elim, ℕ, zero, suc, ◌<◌, ◌≤◌, Bool, true, false, List, [], ◌∷◌, Some, if◌then◌else◌, nat_eq, map, slice_get, refl, ap, sym, subst, ◌∙◌, arith}
 use Rattle.std.proofs.lemmas.Bool.Decides.{nat_tests}
 use Rattle.std.proofs.lemmas.Option.{none-some, same_Some}
-use Rattle.rgo_region_machine.specs.Regions.{is_live}
-use Rattle.rgo_region_machine.specs.declared.regions.Region.{Region}
-use Rattle.rgo_region_machine.specs.declared.regions.Region.TheVariants.{Numbered}
-use Rattle.rgo_memory.specs.Memory.{Object}
-use Rattle.rgo_core_memory.specs.Ground.{ground_of}
-use Rattle.rgo_core_memory.specs.Parts.{Living, slot_of}
-use Rattle.rgo_core_memory.specs.Records.{Amid, Claim, Claims, Fill, Idle, Make, Owns, Rest, Within, dropped}
-use Rattle.rgo_core_memory.proofs.Slots.{region_living, uses_live}
-use Rattle.rgo_core_memory.proofs.Steadies.{steady_of}
-use Rattle.rgo_core_memory.proofs.Writes.{pages_apart}
+use Rattle.rgo_sound.specs.RegionMachine.Regions.{is_live}
+use Rattle.rgo_sound.specs.RegionMachine.declared.regions.Region.{Region}
+use Rattle.rgo_sound.specs.RegionMachine.declared.regions.Region.TheVariants.{Numbered}
+use Rattle.rgo_sound.specs.Memory.Memory.{Object}
+use Rattle.rgo_core.specs.Memory.Ground.{ground_of}
+use Rattle.rgo_core.specs.Memory.Parts.{Living, slot_of}
+use Rattle.rgo_core.specs.Memory.Records.{Amid, Claim, Claims, Fill, Idle, Make, Owns, Rest, Within, dropped}
+use Rattle.rgo_core.proofs.Memory.Slots.{region_living, uses_live}
+use Rattle.rgo_core.proofs.Memory.Steadies.{steady_of}
+use Rattle.rgo_core.proofs.Memory.Writes.{pages_apart}
 use Rattle.rgo_core.specs.Core.{Here, Setup, layout}
 use Rattle.rgo_core.specs.Records.{Record, memory_of}
 use Rattle.rgo_core.proofs.Parts.{I}

@@ -1,16 +1,16 @@
 -- The stores of a new object's words, one by one from the first.
 use Rattle.std.proofs.Common.{◌≡◌, inl, inr, ℕ, zero, suc, ◌+◌, ◌<◌, ◌≤◌, ◌==◌, Bool, true, false, List, ◌∷◌, Some, if◌then◌else◌, refl, ap, sym, ◌∙◌, arith}
 use Rattle.std.proofs.lemmas.Bool.Decides.{nat_tests}
-use Rattle.rgo_code.specs.Code.{Code, CodeOp, Do}
-use Rattle.rgo_memory.specs.Memory.{Object}
-use Rattle.rgo_region_machine.specs.Objects.{making_region, words as words_of}
-use Rattle.rgo_region_machine.specs.Owed.{function_of}
-use Rattle.rgo_region_machine.specs.States.{top_names}
-use Rattle.rgo_core_frames.specs.Records.{Rec as FrameRec}
-use Rattle.rgo_core_memory.specs.Pages.{times}
-use Rattle.rgo_core_memory.specs.Records.{Amid, Fill, with_word}
-use Rattle.rgo_core_memory.specs.Words.{cell_at}
-use Rattle.rgo_core_memory.proofs.Chains.{times_else, times_first}
+use Rattle.rgo_sound.specs.Code.Code.{Code, CodeOp, Do}
+use Rattle.rgo_sound.specs.Memory.Memory.{Object}
+use Rattle.rgo_sound.specs.RegionMachine.Objects.{making_region, words as words_of}
+use Rattle.rgo_sound.specs.RegionMachine.Owed.{function_of}
+use Rattle.rgo_sound.specs.RegionMachine.States.{top_names}
+use Rattle.rgo_core.specs.Frames.Records.{Rec as FrameRec}
+use Rattle.rgo_core.specs.Memory.Pages.{times}
+use Rattle.rgo_core.specs.Memory.Records.{Amid, Fill, with_word}
+use Rattle.rgo_core.specs.Memory.Words.{cell_at}
+use Rattle.rgo_core.proofs.Memory.Chains.{times_else, times_first}
 use Rattle.rgo_core.specs.Core.{Setup, layout}
 use Rattle.rgo_core.specs.NewObjects.{made_object}
 use Rattle.rgo_core.specs.Next.{IsAt}

@@ -1,13 +1,13 @@
 -- An object that no page holds: the run may end for it.
 use Rattle.std.proofs.Common.{false, [], map, replicate, refl, subst, arith}
 use Rattle.std.proofs.lemmas.List.{length-replicate}
-use Rattle.rgo_code.specs.Code.{Do}
-use Rattle.rgo_code.specs.Erasure.{erased}
-use Rattle.rgo_memory.specs.Memory.{Channel, SliceObject, StructObject}
-use Rattle.rgo_memory.specs.Values.{element_zero, zero_of}
-use Rattle.rgo_tac.specs.Steps.{type_of}
-use Rattle.rgo_typed.specs.declared.actions.Action.{Action}
-use Rattle.rgo_core_frames.specs.WordFrames.{bare, word_at}
+use Rattle.rgo_sound.specs.Code.Code.{Do}
+use Rattle.rgo_sound.specs.Code.Erasure.{erased}
+use Rattle.rgo_sound.specs.Memory.Memory.{Channel, SliceObject, StructObject}
+use Rattle.rgo_sound.specs.Memory.Values.{element_zero, zero_of}
+use Rattle.rgo_sound.specs.Tac.Steps.{type_of}
+use Rattle.rgo_sound.specs.Typed.declared.actions.Action.{Action}
+use Rattle.rgo_core.specs.Frames.WordFrames.{bare, word_at}
 use Rattle.rgo_core.specs.NewObjects.{AChannel, ASlice, AStruct}
 use Rattle.rgo_core.specs.Next.{IsAt}
 use Rattle.rgo_core.proofs.Ending.{too_large as larger}

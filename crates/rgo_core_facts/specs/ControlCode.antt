@@ -1,12 +1,12 @@
 -- What checked code says of each of its instructions: its variables, the instructions that may follow it, and its callee exist.
 use Rattle.std.specs.Prelude.{◌≡◌, ◌<◌, ◌≤◌, ◌+◌, ℕ, List, length, Option, Some, None, is_some, slice_get, ⊤}
-use Rattle.rgo_code.specs.Checked.{IsChecked}
-use Rattle.rgo_code.specs.Code.{Branch, Call, Code, CodeFn, CodeInstr, CodeOp, Do, Go, Jump, Print, Return}
-use Rattle.rgo_code.specs.Erasure.{erased_op}
-use Rattle.rgo_code.specs.Exists.{Uses}
-use Rattle.rgo_code.specs.Names.{region_parameters}
-use Rattle.rgo_region_machine.specs.Owed.{function_of}
-use Rattle.rgo_tac.specs.declared.regions.Class.{Class}
+use Rattle.rgo_sound.specs.Code.Checked.{IsChecked}
+use Rattle.rgo_sound.specs.Code.Code.{Branch, Call, Code, CodeFn, CodeInstr, CodeOp, Do, Go, Jump, Print, Return}
+use Rattle.rgo_sound.specs.Code.Erasure.{erased_op}
+use Rattle.rgo_sound.specs.Code.Exists.{Uses}
+use Rattle.rgo_sound.specs.Code.Names.{region_parameters}
+use Rattle.rgo_sound.specs.RegionMachine.Owed.{function_of}
+use Rattle.rgo_sound.specs.Tac.declared.regions.Class.{Class}
 
 -- P holds of each instruction of each function of checked code; i is its number in the body
 abbrev pub OfInstructions : (Code → CodeFn → (i : ℕ) → CodeOp → Type 0) → Type 0

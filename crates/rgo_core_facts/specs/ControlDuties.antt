@@ -1,10 +1,10 @@
 -- What the first duty of a goroutine refers to, told by its record.
 use Rattle.std.specs.List.{list_any}
 use Rattle.std.specs.Prelude.{◌≡◌, ℕ, true, List, [], ◌∷◌, map, Some, None}
-use Rattle.rgo_core_frames.specs.WordFrames.{WordFrame}
-use Rattle.rgo_region_machine.specs.Regions.{bound, same_region}
-use Rattle.rgo_region_machine.specs.States.{Create, Duty, EndBase, Environment, Protect, Remove, Share, Unprotect}
-use Rattle.rgo_region_machine.specs.declared.regions.Region.{Region}
+use Rattle.rgo_core.specs.Frames.WordFrames.{WordFrame}
+use Rattle.rgo_sound.specs.RegionMachine.Regions.{bound, same_region}
+use Rattle.rgo_sound.specs.RegionMachine.States.{Create, Duty, EndBase, Environment, Protect, Remove, Share, Unprotect}
+use Rattle.rgo_sound.specs.RegionMachine.declared.regions.Region.{Region}
 use Rattle.rgo_core.specs.Core.{Setup}
 use Rattle.rgo_core.specs.Records.{Record}
 use Rattle.rgo_core_facts.specs.ControlFrames.{OfRecords}

@@ -1,17 +1,17 @@
 -- Each definition where it holds and where it must not.
 use Rattle.std.specs.Prelude.{◌<◌, ℕ, List, [], ◌∷◌, Some, None}
-use Rattle.rgo_ast.specs.declared.ops.BinaryOp.TheVariants.{And}
-use Rattle.rgo_code.specs.Code.{Branch, Call, CodeFn, Do, Go, Jump, Print, Return, Slot}
-use Rattle.rgo_core_frames.specs.Opening.{no_record}
-use Rattle.rgo_core_frames.specs.WordFrames.{WordFrame}
-use Rattle.rgo_machine.specs.declared.limits.Limits.{Limits}
-use Rattle.rgo_machine.specs.declared.limits.Sizes.{Sizes}
-use Rattle.rgo_region_machine.specs.Examples.{int_slot, main_of, passed_twice, plain}
-use Rattle.rgo_region_machine.specs.States.{Create, EndBase, Environment, Remove, Share, Unprotect}
-use Rattle.rgo_region_machine.specs.declared.regions.Region.TheVariants.{Global as GlobalRegion, Numbered}
-use Rattle.rgo_tac.specs.declared.regions.Class.TheVariants.{Name, NoClass}
-use Rattle.rgo_typed.specs.declared.actions.Action.TheVariants as action
-use Rattle.rgo_wellformed.specs.TypeRules.{bool}
+use Rattle.rgo_sound.specs.Ast.declared.ops.BinaryOp.TheVariants.{And}
+use Rattle.rgo_sound.specs.Code.Code.{Branch, Call, CodeFn, Do, Go, Jump, Print, Return, Slot}
+use Rattle.rgo_core.specs.Frames.Opening.{no_record}
+use Rattle.rgo_core.specs.Frames.WordFrames.{WordFrame}
+use Rattle.rgo_sound.specs.Machine.declared.limits.Limits.{Limits}
+use Rattle.rgo_sound.specs.Machine.declared.limits.Sizes.{Sizes}
+use Rattle.rgo_sound.specs.RegionMachine.Examples.{int_slot, main_of, passed_twice, plain}
+use Rattle.rgo_sound.specs.RegionMachine.States.{Create, EndBase, Environment, Remove, Share, Unprotect}
+use Rattle.rgo_sound.specs.RegionMachine.declared.regions.Region.TheVariants.{Global as GlobalRegion, Numbered}
+use Rattle.rgo_sound.specs.Tac.declared.regions.Class.TheVariants.{Name, NoClass}
+use Rattle.rgo_sound.specs.Typed.declared.actions.Action.TheVariants as action
+use Rattle.rgo_sound.specs.WellFormed.TypeRules.{bool}
 use Rattle.rgo_core.specs.Core.{Setup}
 use Rattle.rgo_core.specs.Records.{Record, begins_with}
 use Rattle.rgo_core_facts.specs.ControlCode.{HasCallee, IsFollowed, ReturnsResult, UsesVariables}

@@ -1,12 +1,12 @@
 -- Where the frames of a goroutine are in the code, told by its record.
 use Rattle.std.specs.Prelude.{◌≡◌, ◌⊎◌, ℕ, List, [], ◌∷◌, length, Option, Some, is_some, slice_get}
-use Rattle.rgo_code.specs.Code.{Call, Code, CodeFn, CodeInstr, CodeOp, Return}
-use Rattle.rgo_core_frames.specs.Local.{local}
-use Rattle.rgo_core_frames.specs.Records.{Rec as FrameRec}
-use Rattle.rgo_core_frames.specs.WordFrames.{WordFrame, bare}
-use Rattle.rgo_region_machine.specs.Owed.{current, function_of}
-use Rattle.rgo_region_machine.specs.States.{NoOffer, Standing}
-use Rattle.rgo_tac.specs.declared.regions.Class.{Class}
+use Rattle.rgo_sound.specs.Code.Code.{Call, Code, CodeFn, CodeInstr, CodeOp, Return}
+use Rattle.rgo_core.specs.Frames.Local.{local}
+use Rattle.rgo_core.specs.Frames.Records.{Rec as FrameRec}
+use Rattle.rgo_core.specs.Frames.WordFrames.{WordFrame, bare}
+use Rattle.rgo_sound.specs.RegionMachine.Owed.{current, function_of}
+use Rattle.rgo_sound.specs.RegionMachine.States.{NoOffer, Standing}
+use Rattle.rgo_sound.specs.Tac.declared.regions.Class.{Class}
 use Rattle.rgo_core.specs.CommitMoves.{IsAtSend}
 use Rattle.rgo_core.specs.Core.{Here, Setup}
 use Rattle.rgo_core.specs.Next.{IsAt}

@@ -1,12 +1,12 @@
 -- The operands of a print: each is an int or a bool, whose word fits its type.
 use Rattle.std.specs.Int.{cast_signed, w64}
 use Rattle.std.specs.Prelude.{◌≡◌, ◌⊎◌, ◌<◌, ◌^◌, ℕ, List, Contains, Some, slice_get}
-use Rattle.rgo_code.specs.Code.{CodeFn, Print, Slot}
-use Rattle.rgo_core_frames.specs.Prints.{typed_value}
-use Rattle.rgo_core_frames.specs.WordFrames.{WordFrame, is_set, word_at}
-use Rattle.rgo_memory.specs.declared.values.Value.TheVariants as value
-use Rattle.rgo_typed.specs.declared.statements.Piece.{Piece}
-use Rattle.rgo_wellformed.specs.TypeRules.{bool, int}
+use Rattle.rgo_sound.specs.Code.Code.{CodeFn, Print, Slot}
+use Rattle.rgo_core.specs.Frames.Prints.{typed_value}
+use Rattle.rgo_core.specs.Frames.WordFrames.{WordFrame, is_set, word_at}
+use Rattle.rgo_sound.specs.Memory.declared.values.Value.TheVariants as value
+use Rattle.rgo_sound.specs.Typed.declared.statements.Piece.{Piece}
+use Rattle.rgo_sound.specs.WellFormed.TypeRules.{bool, int}
 use Rattle.rgo_core.specs.Next.{IsAt}
 use Rattle.rgo_core_facts.specs.ControlFrames.{OfRecords}
 

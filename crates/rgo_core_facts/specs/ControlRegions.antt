@@ -1,16 +1,16 @@
 -- Which regions a goroutine knows, told by its record. Each is Global, or has a slot of the table in which the goroutine has a stake.
 use Rattle.std.specs.List.{list_any}
 use Rattle.std.specs.Prelude.{◌≡◌, ◌≢◌, ◌⊎◌, ◌<◌, ℕ, true, false, List, [], ◌∷◌, length, Some, slice_get}
-use Rattle.rgo_code.specs.Code.{Call, CodeOp, Go}
-use Rattle.rgo_code.specs.NameRules.{protected_names}
-use Rattle.rgo_core_memory.specs.Records.{Fill, Within}
-use Rattle.rgo_region_machine.specs.Regions.{bound, class_region, same_region}
-use Rattle.rgo_region_machine.specs.States.{Environment, Holder, top_names}
-use Rattle.rgo_region_machine.specs.declared.regions.Region.{Region}
-use Rattle.rgo_region_machine.specs.declared.regions.Region.TheVariants.{Global as GlobalRegion, Numbered}
+use Rattle.rgo_sound.specs.Code.Code.{Call, CodeOp, Go}
+use Rattle.rgo_sound.specs.Code.NameRules.{protected_names}
+use Rattle.rgo_core.specs.Memory.Records.{Fill, Within}
+use Rattle.rgo_sound.specs.RegionMachine.Regions.{bound, class_region, same_region}
+use Rattle.rgo_sound.specs.RegionMachine.States.{Environment, Holder, top_names}
+use Rattle.rgo_sound.specs.RegionMachine.declared.regions.Region.{Region}
+use Rattle.rgo_sound.specs.RegionMachine.declared.regions.Region.TheVariants.{Global as GlobalRegion, Numbered}
 use Rattle.rgo_sound.specs.Core.{AreUniqueIn}
 use Rattle.rgo_sound.specs.Stakes.{is_in, times_in}
-use Rattle.rgo_tac.specs.declared.regions.Class.{Class}
+use Rattle.rgo_sound.specs.Tac.declared.regions.Class.{Class}
 use Rattle.rgo_core.specs.Core.{Setup}
 use Rattle.rgo_core.specs.Next.{IsAt}
 use Rattle.rgo_core.specs.Records.{Record}

@@ -1,15 +1,15 @@
 -- What the first duty of a goroutine does: it is a local step, or it changes the count of a region.
 use Rattle.std.specs.List.{list_any}
 use Rattle.std.specs.Prelude.{◌≡◌, ℕ, true, false, List, ◌∷◌, Some, nat_eq}
-use Rattle.rgo_core_channels.specs.Records.{at_rest}
-use Rattle.rgo_core_frames.specs.Local.{local_duty}
-use Rattle.rgo_core_frames.specs.Quiet.{is_exit}
-use Rattle.rgo_core_frames.specs.Stakes.{stake_ended, stake_shared}
-use Rattle.rgo_region_machine.specs.Duties.{guards, unprotected, with_protection}
-use Rattle.rgo_region_machine.specs.Regions.{bound, removed_once, unbind, without}
-use Rattle.rgo_region_machine.specs.States.{Duty, EndBase, Holder, Protect, Remove, Share, Unprotect, top_names, with_top}
-use Rattle.rgo_region_machine.specs.declared.regions.Region.{Region}
-use Rattle.rgo_region_machine.specs.declared.regions.Region.TheVariants.{Global as GlobalRegion, Numbered}
+use Rattle.rgo_core.specs.Channels.Records.{at_rest}
+use Rattle.rgo_core.specs.Frames.Local.{local_duty}
+use Rattle.rgo_core.specs.Frames.Quiet.{is_exit}
+use Rattle.rgo_core.specs.Frames.Stakes.{stake_ended, stake_shared}
+use Rattle.rgo_sound.specs.RegionMachine.Duties.{guards, unprotected, with_protection}
+use Rattle.rgo_sound.specs.RegionMachine.Regions.{bound, removed_once, unbind, without}
+use Rattle.rgo_sound.specs.RegionMachine.States.{Duty, EndBase, Holder, Protect, Remove, Share, Unprotect, top_names, with_top}
+use Rattle.rgo_sound.specs.RegionMachine.declared.regions.Region.{Region}
+use Rattle.rgo_sound.specs.RegionMachine.declared.regions.Region.TheVariants.{Global as GlobalRegion, Numbered}
 use Rattle.rgo_core.specs.Core.{Here, Setup}
 use Rattle.rgo_core.specs.Records.{Record}
 use Rattle.rgo_core_steps.specs.Seats.{SettlesBy, settled_by}

@@ -1,18 +1,18 @@
 -- The definitions of new objects, own pages and offers, each where it holds and where it must not.
 use Rattle.std.specs.Prelude.{◌≡◌, ◌+◌, ℕ, false, [], ◌∷◌, Some, None, refl}
-use Rattle.rgo_code.specs.Code.{Code, CodeFn, CodeInstr, Do}
-use Rattle.rgo_core_frames.specs.Opening.{no_record}
-use Rattle.rgo_core_frames.specs.WordFrames.{WordFrame}
-use Rattle.rgo_core_memory.specs.Records.{Amid, Fill, Rest}
-use Rattle.rgo_core_memory.specs.Words.{base}
-use Rattle.rgo_machine.specs.declared.limits.Limits.{Limits}
-use Rattle.rgo_machine.specs.declared.limits.Sizes.{Sizes}
-use Rattle.rgo_memory.specs.Memory.{Channel}
-use Rattle.rgo_region_machine.specs.Examples.{code_of, int_slot, main_of, plain, slot_of}
-use Rattle.rgo_region_machine.specs.declared.regions.Region.TheVariants.{Global as GlobalRegion, Numbered}
-use Rattle.rgo_tac.specs.declared.regions.Class.TheVariants.{Global}
-use Rattle.rgo_typed.specs.declared.actions.Action.TheVariants as action
-use Rattle.rgo_wellformed.specs.TypeRules.{int, slice_of}
+use Rattle.rgo_sound.specs.Code.Code.{Code, CodeFn, CodeInstr, Do}
+use Rattle.rgo_core.specs.Frames.Opening.{no_record}
+use Rattle.rgo_core.specs.Frames.WordFrames.{WordFrame}
+use Rattle.rgo_core.specs.Memory.Records.{Amid, Fill, Rest}
+use Rattle.rgo_core.specs.Memory.Words.{base}
+use Rattle.rgo_sound.specs.Machine.declared.limits.Limits.{Limits}
+use Rattle.rgo_sound.specs.Machine.declared.limits.Sizes.{Sizes}
+use Rattle.rgo_sound.specs.Memory.Memory.{Channel}
+use Rattle.rgo_sound.specs.RegionMachine.Examples.{code_of, int_slot, main_of, plain, slot_of}
+use Rattle.rgo_sound.specs.RegionMachine.declared.regions.Region.TheVariants.{Global as GlobalRegion, Numbered}
+use Rattle.rgo_sound.specs.Tac.declared.regions.Class.TheVariants.{Global}
+use Rattle.rgo_sound.specs.Typed.declared.actions.Action.TheVariants as action
+use Rattle.rgo_sound.specs.WellFormed.TypeRules.{int, slice_of}
 use Rattle.rgo_core.specs.ChannelExamples.{sending, with_words}
 use Rattle.rgo_core.specs.Core.{Setup, layout}
 use Rattle.rgo_core.specs.Next.{IsAt}

@@ -1,21 +1,21 @@
 -- The object that the next instruction of a goroutine makes: how many words it has, what they first hold, and for which region it
 -- is made; and what the record is while these words are stored.
 use Rattle.std.specs.Prelude.{◌≡◌, ◌+◌, ◌<◌, ◌≤◌, ◌==◌, ◌^◌, ℕ, zero, suc, true, List, [], ◌∷◌, Option, Some, None, if◌then◌else◌, max, slice_get}
-use Rattle.rgo_code.specs.Code.{Code, CodeOp, Do}
-use Rattle.rgo_code.specs.Names.{class_of}
-use Rattle.rgo_memory.specs.Memory.{Object}
-use Rattle.rgo_region_machine.specs.Objects.{makes_object, making_region, words as words_of}
-use Rattle.rgo_region_machine.specs.Owed.{function_of}
-use Rattle.rgo_region_machine.specs.Regions.{class_region}
-use Rattle.rgo_region_machine.specs.States.{top_names}
-use Rattle.rgo_region_machine.specs.declared.limits.Limit.TheVariants.{ObjectSize}
-use Rattle.rgo_region_machine.specs.declared.regions.Region.{Region}
-use Rattle.rgo_typed.specs.declared.actions.Action.{Action}
-use Rattle.rgo_typed.specs.declared.actions.Action.TheVariants as action
-use Rattle.rgo_core_frames.specs.WordFrames.{WordFrame, word_at}
-use Rattle.rgo_core_memory.specs.Encoding.{content, opening}
-use Rattle.rgo_core_memory.specs.Records.{Amid, Fill, Make, Rest}
-use Rattle.rgo_core_memory.specs.Words.{cell_at}
+use Rattle.rgo_sound.specs.Code.Code.{Code, CodeOp, Do}
+use Rattle.rgo_sound.specs.Code.Names.{class_of}
+use Rattle.rgo_sound.specs.Memory.Memory.{Object}
+use Rattle.rgo_sound.specs.RegionMachine.Objects.{makes_object, making_region, words as words_of}
+use Rattle.rgo_sound.specs.RegionMachine.Owed.{function_of}
+use Rattle.rgo_sound.specs.RegionMachine.Regions.{class_region}
+use Rattle.rgo_sound.specs.RegionMachine.States.{top_names}
+use Rattle.rgo_sound.specs.RegionMachine.declared.limits.Limit.TheVariants.{ObjectSize}
+use Rattle.rgo_sound.specs.RegionMachine.declared.regions.Region.{Region}
+use Rattle.rgo_sound.specs.Typed.declared.actions.Action.{Action}
+use Rattle.rgo_sound.specs.Typed.declared.actions.Action.TheVariants as action
+use Rattle.rgo_core.specs.Frames.WordFrames.{WordFrame, word_at}
+use Rattle.rgo_core.specs.Memory.Encoding.{content, opening}
+use Rattle.rgo_core.specs.Memory.Records.{Amid, Fill, Make, Rest}
+use Rattle.rgo_core.specs.Memory.Words.{cell_at}
 use Rattle.rgo_core.specs.Bounds.{struct_words}
 use Rattle.rgo_core.specs.Causes.{Stops}
 use Rattle.rgo_core.specs.Core.{Here, Setup, layout}

@@ -1,7 +1,7 @@
 -- The own pages of a goroutine, and what of its memory has to be at rest before a stake ends.
 use Rattle.std.specs.Prelude.{◌≡◌, ◌+◌, ◌*◌, ◌<◌, ◌≤◌, ℕ, Some}
-use Rattle.rgo_core_memory.specs.Events.{IsFreeOf}
-use Rattle.rgo_core_memory.specs.Records.{Fill, Idle, Rec, Rest, Within, with_page}
+use Rattle.rgo_core.specs.Memory.Events.{IsFreeOf}
+use Rattle.rgo_core.specs.Memory.Records.{Fill, Idle, Rec, Rest, Within, with_page}
 use Rattle.rgo_core.specs.Bounds.{LieInPages}
 use Rattle.rgo_core.specs.Core.{Here, Setup}
 use Rattle.rgo_core.specs.Records.{Record}

@@ -1,17 +1,17 @@
 -- Where the words lie that the next instruction of a goroutine accesses. A pointer, slice or channel that is not nil is one more than
 -- an address, and the words from there on are words of pages.
 use Rattle.std.specs.Prelude.{◌≡◌, ◌+◌, ◌<◌, ◌≤◌, ℕ, suc, List, [], ◌∷◌, Option, Some, None, Contains, length}
-use Rattle.rgo_code.specs.Code.{CodeOp, Do}
-use Rattle.rgo_code.specs.Erasure.{erased_fn, erased_op}
-use Rattle.rgo_code.specs.Types.{HasType}
-use Rattle.rgo_tac.specs.Flow.{reads}
-use Rattle.rgo_typed.specs.declared.actions.Action.{Action}
-use Rattle.rgo_typed.specs.declared.actions.Action.TheVariants as action
-use Rattle.rgo_typed.specs.declared.types.Type.{«Type»}
-use Rattle.rgo_core_channels.specs.Records.{Offering}
-use Rattle.rgo_core_channels.specs.Standing.{IsOfChannel}
-use Rattle.rgo_core_frames.specs.WordFrames.{word_at}
-use Rattle.rgo_core_memory.specs.Words.{all_words, base}
+use Rattle.rgo_sound.specs.Code.Code.{CodeOp, Do}
+use Rattle.rgo_sound.specs.Code.Erasure.{erased_fn, erased_op}
+use Rattle.rgo_sound.specs.Code.Types.{HasType}
+use Rattle.rgo_sound.specs.Tac.Flow.{reads}
+use Rattle.rgo_sound.specs.Typed.declared.actions.Action.{Action}
+use Rattle.rgo_sound.specs.Typed.declared.actions.Action.TheVariants as action
+use Rattle.rgo_sound.specs.Typed.declared.types.Type.{«Type»}
+use Rattle.rgo_core.specs.Channels.Records.{Offering}
+use Rattle.rgo_core.specs.Channels.Standing.{IsOfChannel}
+use Rattle.rgo_core.specs.Frames.WordFrames.{word_at}
+use Rattle.rgo_core.specs.Memory.Words.{all_words, base}
 use Rattle.rgo_core.specs.Bounds.{LieInPages, Points}
 use Rattle.rgo_core.specs.CommitMoves.{IsAtSend}
 use Rattle.rgo_core.specs.Core.{Here, Setup, layout}

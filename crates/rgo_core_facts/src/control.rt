@@ -1,6 +1,6 @@
 //! What the next instruction and the duties before it refer to.
-ghost use Rattle.rgo_machine.specs.declared.limits.Limits.{Limits};
-ghost use Rattle.rgo_machine.specs.declared.limits.Sizes.{Sizes};
+ghost use Rattle.rgo_sound.specs.Machine.declared.limits.Limits.{Limits};
+ghost use Rattle.rgo_sound.specs.Machine.declared.limits.Sizes.{Sizes};
 ghost use Rattle.rgo_core_facts.specs.ControlCode.{BodiesBegin, CalleesExist, NextExists, ResultsReturned, VariablesExist};
 ghost use Rattle.rgo_core_facts.specs.ControlDuties.{DutiesAtEnd, DutiesKnown};
 ghost use Rattle.rgo_core_facts.specs.ControlExamples.{CodeExamples, FrameExamples, PrintExamples, RegionExamples};

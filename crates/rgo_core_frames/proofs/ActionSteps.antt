@@ -3,27 +3,27 @@ use Rattle.std.specs.Int.{from_bool}
 use Rattle.std.proofs.Common.{◌≡◌, ℕ, ◌+◌, Bool, true, false, List, [], ◌∷◌, ◌++◌, length, Option, Some, None, refl, sym, ap, ◌∙◌, subst, inl}
 use Rattle.std.proofs.Common.{nat_le, slice_get, slice_set, append-nil, Contains, true≢false, if◌then◌else◌, option_map}
 use Rattle.std.proofs.lemmas.Option.{same_Some, slice_get-map}
-use Rattle.rgo_typed.specs.declared.actions.Action.{Action}
-use Rattle.rgo_typed.specs.declared.types.Type.{«Type»}
-use Rattle.rgo_typed.specs.Types.{is_pointer_like}
-use Rattle.rgo_memory.specs.declared.values.Value.{Value}
-use Rattle.rgo_memory.specs.declared.values.Value.TheVariants as value
-use Rattle.rgo_memory.specs.Effects.{Does}
-use Rattle.rgo_memory.specs.Memory.{Memory, Object}
-use Rattle.rgo_tac.specs.Steps.{type_of}
-use Rattle.rgo_machine.specs.Lines.{line_of}
-use Rattle.rgo_tac.specs.Flow.{reads, writes}
-use Rattle.rgo_tac.specs.Frames.{Frame, going, moved_to, value_at, values_of}
-use Rattle.rgo_code.specs.Checked.{IsChecked}
-use Rattle.rgo_code.specs.Code.{Branch, Call, Code, CodeFn, CodeInstr, CodeOp, Do, Go, Jump, Print, Return, Slot}
-use Rattle.rgo_code.specs.Erasure.{erased, erased_fn, erased_op}
-use Rattle.rgo_code.specs.Names.{edges}
-use Rattle.rgo_code.specs.Types.{HasType}
-use Rattle.rgo_region_machine.specs.declared.regions.Region.{Region}
-use Rattle.rgo_region_machine.specs.Instructions.{child_holder, holder_after, last_frames, marked}
-use Rattle.rgo_region_machine.specs.Objects.{allotted, fill_of, making_region, placed, words}
-use Rattle.rgo_region_machine.specs.Owed.{function_at, function_of, removes_behind}
-use Rattle.rgo_region_machine.specs.States.{Holder, RegionState, top_names}
+use Rattle.rgo_sound.specs.Typed.declared.actions.Action.{Action}
+use Rattle.rgo_sound.specs.Typed.declared.types.Type.{«Type»}
+use Rattle.rgo_sound.specs.Typed.Types.{is_pointer_like}
+use Rattle.rgo_sound.specs.Memory.declared.values.Value.{Value}
+use Rattle.rgo_sound.specs.Memory.declared.values.Value.TheVariants as value
+use Rattle.rgo_sound.specs.Memory.Effects.{Does}
+use Rattle.rgo_sound.specs.Memory.Memory.{Memory, Object}
+use Rattle.rgo_sound.specs.Tac.Steps.{type_of}
+use Rattle.rgo_sound.specs.Machine.Lines.{line_of}
+use Rattle.rgo_sound.specs.Tac.Flow.{reads, writes}
+use Rattle.rgo_sound.specs.Tac.Frames.{Frame, going, moved_to, value_at, values_of}
+use Rattle.rgo_sound.specs.Code.Checked.{IsChecked}
+use Rattle.rgo_sound.specs.Code.Code.{Branch, Call, Code, CodeFn, CodeInstr, CodeOp, Do, Go, Jump, Print, Return, Slot}
+use Rattle.rgo_sound.specs.Code.Erasure.{erased, erased_fn, erased_op}
+use Rattle.rgo_sound.specs.Code.Names.{edges}
+use Rattle.rgo_sound.specs.Code.Types.{HasType}
+use Rattle.rgo_sound.specs.RegionMachine.declared.regions.Region.{Region}
+use Rattle.rgo_sound.specs.RegionMachine.Instructions.{child_holder, holder_after, last_frames, marked}
+use Rattle.rgo_sound.specs.RegionMachine.Objects.{allotted, fill_of, making_region, placed, words}
+use Rattle.rgo_sound.specs.RegionMachine.Owed.{function_at, function_of, removes_behind}
+use Rattle.rgo_sound.specs.RegionMachine.States.{Holder, RegionState, top_names}
 use Rattle.rgo_sound.proofs.Acting.{Acted, act, after, effected, no_end, performed, trap_place}
 use Rattle.rgo_sound.proofs.OneStep.{SameHolder}
 use Rattle.rgo_sound.proofs.Places.{contains_here, contains_there, get_set_same}
@@ -45,9 +45,9 @@ use Rattle.rgo_core_frames.proofs.Leaving.{leaves_rest, mark_stays}
 use Rattle.rgo_sound.specs.Running.{IsRunning}
 use Rattle.rgo_core_frames.proofs.Showing.{goes_on}
 use Rattle.rgo_core_frames.proofs.Standing.{touched_live}
-use Rattle.rgo_region_machine.specs.Machine.{Instruct, region_step}
-use Rattle.rgo_machine.specs.declared.picks.Pick.TheVariants.{One}
-use Rattle.rgo_typed.specs.declared.statements.Piece.{Piece}
+use Rattle.rgo_sound.specs.RegionMachine.Machine.{Instruct, region_step}
+use Rattle.rgo_sound.specs.Machine.declared.picks.Pick.TheVariants.{One}
+use Rattle.rgo_sound.specs.Typed.declared.statements.Piece.{Piece}
 
 -- an object is allotted in an own page: only fills change
 pub allotted_same : (page_words : ℕ) (h : Holder) (region : Option Region) (object : Option Object)

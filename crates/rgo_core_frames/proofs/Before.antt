@@ -1,12 +1,12 @@
 -- What a record says of the machine before an instruction.
 use Rattle.std.proofs.Common.{◌≡◌, ◌⊎◌, ℕ, List, [], ◌∷◌, Some, refl, sym, ap, ◌∙◌, subst, inl, inr, slice_get}
-use Rattle.rgo_tac.specs.Frames.{Frame}
-use Rattle.rgo_code.specs.Checked.{IsChecked}
-use Rattle.rgo_code.specs.Code.{Code, CodeInstr}
+use Rattle.rgo_sound.specs.Tac.Frames.{Frame}
+use Rattle.rgo_sound.specs.Code.Checked.{IsChecked}
+use Rattle.rgo_sound.specs.Code.Code.{Code, CodeInstr}
 use Rattle.std.proofs.Common.{true≢false}
-use Rattle.rgo_region_machine.specs.Duties.{may_go}
-use Rattle.rgo_region_machine.specs.Owed.{current}
-use Rattle.rgo_region_machine.specs.States.{Duty, Holder, NoOffer, Offer, RegionState, Standing, Taken}
+use Rattle.rgo_sound.specs.RegionMachine.Duties.{may_go}
+use Rattle.rgo_sound.specs.RegionMachine.Owed.{current}
+use Rattle.rgo_sound.specs.RegionMachine.States.{Duty, Holder, NoOffer, Offer, RegionState, Standing, Taken}
 use Rattle.rgo_sound.specs.Good.{AllGood}
 use Rattle.rgo_core_frames.specs.Before.{IsBefore}
 use Rattle.rgo_core_frames.specs.BeforeLaws.{BeforeLaw, MayGo}

@@ -1,16 +1,16 @@
 -- What an instruction leaves of a goroutine's regions, it leaves of their slots.
 use Rattle.std.proofs.Common.{◌≡◌, ℕ, zero, suc, List, [], ◌∷◌, ◌++◌, map, Option, Some, None, refl, sym, ap, ◌∙◌, get_or}
 use Rattle.std.proofs.Common.{if◌then◌else◌}
-use Rattle.rgo_machine.specs.Actions.{is_true}
-use Rattle.rgo_memory.specs.declared.values.Value.TheVariants as value
-use Rattle.rgo_tac.specs.declared.regions.Class.{Class}
-use Rattle.rgo_tac.specs.Frames.{Frame, value_at}
-use Rattle.rgo_code.specs.Code.{Branch, Call, Code, CodeInstr, CodeOp, Do, Go, Jump, Print, Return}
-use Rattle.rgo_region_machine.specs.Instructions.{holder_after}
-use Rattle.rgo_region_machine.specs.Owed.{caller_duties, current, current_in, duties_before, duties_behind, duties_behind_call, duties_of_op}
-use Rattle.rgo_region_machine.specs.Owed.{entry_removes, formals_of, function_of, given_names, next_duties, passed, passed_regions, regions_named, removes_behind, result_of}
-use Rattle.rgo_region_machine.specs.Regions.{Bindings, without_all}
-use Rattle.rgo_region_machine.specs.States.{Create, Duty, Holder, Remove, Unprotect, top_names, with_top}
+use Rattle.rgo_sound.specs.Machine.Actions.{is_true}
+use Rattle.rgo_sound.specs.Memory.declared.values.Value.TheVariants as value
+use Rattle.rgo_sound.specs.Tac.declared.regions.Class.{Class}
+use Rattle.rgo_sound.specs.Tac.Frames.{Frame, value_at}
+use Rattle.rgo_sound.specs.Code.Code.{Branch, Call, Code, CodeInstr, CodeOp, Do, Go, Jump, Print, Return}
+use Rattle.rgo_sound.specs.RegionMachine.Instructions.{holder_after}
+use Rattle.rgo_sound.specs.RegionMachine.Owed.{caller_duties, current, current_in, duties_before, duties_behind, duties_behind_call, duties_of_op}
+use Rattle.rgo_sound.specs.RegionMachine.Owed.{entry_removes, formals_of, function_of, given_names, next_duties, passed, passed_regions, regions_named, removes_behind, result_of}
+use Rattle.rgo_sound.specs.RegionMachine.Regions.{Bindings, without_all}
+use Rattle.rgo_sound.specs.RegionMachine.States.{Create, Duty, Holder, Remove, Unprotect, top_names, with_top}
 use Rattle.rgo_core_frames.specs.Shown.{CallersShow, FramesShow, IsAlike}
 use Rattle.rgo_core_frames.specs.Slots.{slot_duties, slot_environments, slot_names, slotted}
 use Rattle.rgo_core_frames.specs.WordFrames.{WordFrame, bare, bare_all, is_set, word_at}

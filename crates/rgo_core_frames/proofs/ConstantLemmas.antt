@@ -3,8 +3,8 @@ use Rattle.std.proofs.Common.{◌≡◌, ◌∙◌, ℕ, zero, suc, ◌+◌, ◌
 use Rattle.std.specs.Option.{option_map}
 use Rattle.std.proofs.lemmas.List.Elements.{All-head, All-more, All-tail}
 use Rattle.std.proofs.lemmas.Option.{same_Some, slice_get-get_or, slice_get-map}
-use Rattle.rgo_code.specs.Code.{Code, CodeOp}
-use Rattle.rgo_code.specs.Erasure.{erased, erased_fn, erased_instr, erased_op}
+use Rattle.rgo_sound.specs.Code.Code.{Code, CodeOp}
+use Rattle.rgo_sound.specs.Code.Erasure.{erased, erased_fn, erased_instr, erased_op}
 use Rattle.rgo_sound.proofs.Ruled.{erased_found}
 use Rattle.rgo_core_frames.specs.Constants.{ConstantsFit, FnFits, InstrFits, OpFits}
 

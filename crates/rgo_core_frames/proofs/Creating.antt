@@ -3,15 +3,15 @@ use Rattle.std.proofs.Common.{◌≡◌, ◌≢◌, ◌⊎◌, ℕ, ◌<◌, ◌
 use Rattle.std.proofs.Common.{slice_get, slice_set, nat_eq, arith, if◌then◌else◌, option_and_then, true≢false}
 use Rattle.std.proofs.lemmas.Option.{same_Some}
 use Rattle.std.specs.List.{list_any}
-use Rattle.rgo_tac.specs.Frames.{Frame}
-use Rattle.rgo_code.specs.Code.{Code, CodeOp}
-use Rattle.rgo_region_machine.specs.declared.regions.Region.{Region}
-use Rattle.rgo_region_machine.specs.declared.regions.Region.TheVariants.{Global as GlobalRegion, Numbered}
-use Rattle.rgo_region_machine.specs.Duties.{attend, attended, duty_done}
-use Rattle.rgo_region_machine.specs.Instructions.{holder_after}
-use Rattle.rgo_region_machine.specs.Machine.{Attend}
-use Rattle.rgo_region_machine.specs.Regions.{Bindings, RegionInfo, bound, has_stakes, is_live, removed_once, same_region, unbind}
-use Rattle.rgo_region_machine.specs.States.{Create, Duty, EndBase, Environment, Holder, Offer, Protect, RegionState, Remove, Share, Taken, Unprotect, frames_in, top_names, with_top}
+use Rattle.rgo_sound.specs.Tac.Frames.{Frame}
+use Rattle.rgo_sound.specs.Code.Code.{Code, CodeOp}
+use Rattle.rgo_sound.specs.RegionMachine.declared.regions.Region.{Region}
+use Rattle.rgo_sound.specs.RegionMachine.declared.regions.Region.TheVariants.{Global as GlobalRegion, Numbered}
+use Rattle.rgo_sound.specs.RegionMachine.Duties.{attend, attended, duty_done}
+use Rattle.rgo_sound.specs.RegionMachine.Instructions.{holder_after}
+use Rattle.rgo_sound.specs.RegionMachine.Machine.{Attend}
+use Rattle.rgo_sound.specs.RegionMachine.Regions.{Bindings, RegionInfo, bound, has_stakes, is_live, removed_once, same_region, unbind}
+use Rattle.rgo_sound.specs.RegionMachine.States.{Create, Duty, EndBase, Environment, Holder, Offer, Protect, RegionState, Remove, Share, Taken, Unprotect, frames_in, top_names, with_top}
 use Rattle.rgo_sound.proofs.Places.{get_set_other, get_set_same, get_snoc, length_set}
 use Rattle.rgo_sound.proofs.Tests.{eq_of, nat_eq_refl, or_there, split}
 use Rattle.rgo_sound.specs.Core.{AreStaked, AreUnique, AreUniqueIn}

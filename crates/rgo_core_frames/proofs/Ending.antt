@@ -3,26 +3,26 @@ use Rattle.std.proofs.Common.{◌≡◌, ℕ, Bool, true, false, List, [], ◌�
 use Rattle.std.proofs.Common.{slice_get, slice_set, append-nil, nat_eq, if◌then◌else◌}
 use Rattle.std.proofs.lemmas.Option.{same_Some}
 use Rattle.std.specs.List.{list_any}
-use Rattle.rgo_machine.specs.declared.picks.End.TheVariants.{Trap as TrapEnd}
-use Rattle.rgo_machine.specs.declared.picks.Pick.TheVariants.{One}
-use Rattle.rgo_typed.specs.declared.actions.Action.{Action}
-use Rattle.rgo_memory.specs.declared.traps.Trap.{Trap}
-use Rattle.rgo_memory.specs.Effects.{Traps}
-use Rattle.rgo_tac.specs.Frames.{values_of}
-use Rattle.rgo_tac.specs.Steps.{type_of}
-use Rattle.rgo_code.specs.Checked.{IsChecked}
+use Rattle.rgo_sound.specs.Machine.declared.picks.End.TheVariants.{Trap as TrapEnd}
+use Rattle.rgo_sound.specs.Machine.declared.picks.Pick.TheVariants.{One}
+use Rattle.rgo_sound.specs.Typed.declared.actions.Action.{Action}
+use Rattle.rgo_sound.specs.Memory.declared.traps.Trap.{Trap}
+use Rattle.rgo_sound.specs.Memory.Effects.{Traps}
+use Rattle.rgo_sound.specs.Tac.Frames.{values_of}
+use Rattle.rgo_sound.specs.Tac.Steps.{type_of}
+use Rattle.rgo_sound.specs.Code.Checked.{IsChecked}
 use Rattle.rgo_sound.specs.Good.{AllGood}
-use Rattle.rgo_code.specs.Code.{Branch, Call, Code, CodeInstr, CodeOp, Do, Go, Jump, Print, Return}
-use Rattle.rgo_code.specs.Erasure.{erased, erased_op}
-use Rattle.rgo_region_machine.specs.declared.regions.Region.{Region}
-use Rattle.rgo_region_machine.specs.declared.regions.Region.TheVariants.{Global as GlobalRegion, Numbered}
-use Rattle.rgo_region_machine.specs.Duties.{guards, unprotected, with_protection}
-use Rattle.rgo_region_machine.specs.Instructions.{child_holder, holder_after, instructed_with, last_frames, marked, printed_if}
-use Rattle.rgo_region_machine.specs.Machine.{Instruct, finished, Finish, region_step}
-use Rattle.rgo_region_machine.specs.Objects.{making_region}
-use Rattle.rgo_region_machine.specs.Owed.{current, function_at}
-use Rattle.rgo_region_machine.specs.Regions.{bound, removed_once, unbind}
-use Rattle.rgo_region_machine.specs.States.{Create, Duty, EndBase, Holder, Protect, RegionState, Remove, Share, Unprotect, top_names, with_top}
+use Rattle.rgo_sound.specs.Code.Code.{Branch, Call, Code, CodeInstr, CodeOp, Do, Go, Jump, Print, Return}
+use Rattle.rgo_sound.specs.Code.Erasure.{erased, erased_op}
+use Rattle.rgo_sound.specs.RegionMachine.declared.regions.Region.{Region}
+use Rattle.rgo_sound.specs.RegionMachine.declared.regions.Region.TheVariants.{Global as GlobalRegion, Numbered}
+use Rattle.rgo_sound.specs.RegionMachine.Duties.{guards, unprotected, with_protection}
+use Rattle.rgo_sound.specs.RegionMachine.Instructions.{child_holder, holder_after, instructed_with, last_frames, marked, printed_if}
+use Rattle.rgo_sound.specs.RegionMachine.Machine.{Instruct, finished, Finish, region_step}
+use Rattle.rgo_sound.specs.RegionMachine.Objects.{making_region}
+use Rattle.rgo_sound.specs.RegionMachine.Owed.{current, function_at}
+use Rattle.rgo_sound.specs.RegionMachine.Regions.{bound, removed_once, unbind}
+use Rattle.rgo_sound.specs.RegionMachine.States.{Create, Duty, EndBase, Holder, Protect, RegionState, Remove, Share, Unprotect, top_names, with_top}
 use Rattle.rgo_sound.proofs.Acting.{Acted, act, after, effected, performed, trap_place}
 use Rattle.rgo_core_frames.specs.Before.{IsBefore}
 use Rattle.rgo_core_frames.specs.Ends.{FinishLaw, TrapLaw}

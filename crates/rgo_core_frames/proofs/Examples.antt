@@ -2,12 +2,12 @@
 use Rattle.std.proofs.Common.{◌≡◌, ◌∙◌, ℕ, ℤ, zero, suc, List, [], ◌∷◌, Option, Some, None, refl, sym, ap, subst, arith, slice_get, get_or, true, true≢false, FitsSigned, if◌then◌else◌}
 use Rattle.std.proofs.lemmas.Option.{same_Some}
 use Rattle.std.specs.Int.{w64}
-use Rattle.rgo_typed.specs.declared.actions.Action.TheVariants as action
-use Rattle.rgo_code.specs.Code.{CodeFn, CodeInstr, Do}
+use Rattle.rgo_sound.specs.Typed.declared.actions.Action.TheVariants as action
+use Rattle.rgo_sound.specs.Code.Code.{CodeFn, CodeInstr, Do}
 use Rattle.rgo_sound.proofs.Tests.{ne_of}
-use Rattle.rgo_region_machine.specs.declared.regions.Region.TheVariants.{Numbered}
-use Rattle.rgo_region_machine.specs.Examples.{int_slot, main_of, plain}
-use Rattle.rgo_region_machine.specs.Regions.{bound, is_live}
+use Rattle.rgo_sound.specs.RegionMachine.declared.regions.Region.TheVariants.{Numbered}
+use Rattle.rgo_sound.specs.RegionMachine.Examples.{int_slot, main_of, plain}
+use Rattle.rgo_sound.specs.RegionMachine.Regions.{bound, is_live}
 use Rattle.rgo_core_frames.specs.Examples.{FrameExamples, IntExamples, LocalExamples, RecordExamples, WordExamples, one_constant, small_table, two_owners, two_regions}
 use Rattle.rgo_core_frames.specs.Fits.{IsOfLive}
 use Rattle.rgo_core_frames.specs.Constants.{ConstantsFit}

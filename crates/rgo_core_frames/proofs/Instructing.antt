@@ -2,19 +2,19 @@
 use Rattle.std.proofs.Common.{◌≡◌, ℕ, zero, suc, true, ◌&&◌, List, [], ◌∷◌, ◌++◌, length, Option, Some, None, refl, sym, ap, ◌∙◌, le_refl, if◌then◌else◌}
 use Rattle.std.proofs.Common.{slice_get, slice_set, option_map, option_and_then}
 use Rattle.std.proofs.lemmas.Option.{slice_get_past, slice_get_within}
-use Rattle.rgo_memory.specs.Memory.{Memory}
-use Rattle.rgo_machine.specs.declared.picks.Pick.TheVariants.{One}
-use Rattle.rgo_tac.specs.Frames.{Frame}
-use Rattle.rgo_tac.specs.Tac.{TacState}
-use Rattle.rgo_code.specs.Code.{Code, CodeInstr}
-use Rattle.rgo_code.specs.Erasure.{erased, erased_instr, erased_op}
-use Rattle.rgo_region_machine.specs.declared.regions.Region.{Region}
-use Rattle.rgo_region_machine.specs.Duties.{may_go}
-use Rattle.rgo_region_machine.specs.Instructions.{child_holder, has_none, holder_after, instruct, is_ready, instructed, instructed_at, instructed_with, last_frames, one_instructed, some_instructed, touches, unless_trapped}
-use Rattle.rgo_region_machine.specs.Machine.{Instruct, plain_step, region_step}
-use Rattle.rgo_region_machine.specs.Objects.{allotted, making_region, may_touch, new_object, touched}
-use Rattle.rgo_region_machine.specs.Owed.{current, function_at, removes_behind}
-use Rattle.rgo_region_machine.specs.States.{Holder, RegionState, frames_in, frames_of, top_names}
+use Rattle.rgo_sound.specs.Memory.Memory.{Memory}
+use Rattle.rgo_sound.specs.Machine.declared.picks.Pick.TheVariants.{One}
+use Rattle.rgo_sound.specs.Tac.Frames.{Frame}
+use Rattle.rgo_sound.specs.Tac.Tac.{TacState}
+use Rattle.rgo_sound.specs.Code.Code.{Code, CodeInstr}
+use Rattle.rgo_sound.specs.Code.Erasure.{erased, erased_instr, erased_op}
+use Rattle.rgo_sound.specs.RegionMachine.declared.regions.Region.{Region}
+use Rattle.rgo_sound.specs.RegionMachine.Duties.{may_go}
+use Rattle.rgo_sound.specs.RegionMachine.Instructions.{child_holder, has_none, holder_after, instruct, is_ready, instructed, instructed_at, instructed_with, last_frames, one_instructed, some_instructed, touches, unless_trapped}
+use Rattle.rgo_sound.specs.RegionMachine.Machine.{Instruct, plain_step, region_step}
+use Rattle.rgo_sound.specs.RegionMachine.Objects.{allotted, making_region, may_touch, new_object, touched}
+use Rattle.rgo_sound.specs.RegionMachine.Owed.{current, function_at, removes_behind}
+use Rattle.rgo_sound.specs.RegionMachine.States.{Holder, RegionState, frames_in, frames_of, top_names}
 use Rattle.rgo_sound.proofs.Acting.{Acted, act, act_at, after, end_by}
 use Rattle.rgo_sound.proofs.OneStep.{SameHolder, current_erased}
 use Rattle.rgo_sound.proofs.Places.{get_append_left, get_set_same}

@@ -1,43 +1,43 @@
 -- Each step of the three-address machine leaves ints that fit in words.
 use Rattle.std.proofs.Common.{◌≡◌, ℕ, zero, suc, Bool, true, false, List, [], ◌∷◌, ◌++◌, map, drop, get_or, length, bytes_eq, codes, replicate, Option, Some, None, Result, Ok, Err, refl, sym, ap, subst, ℤ, pos, negsuc, nat_eq, nat_lt, if◌then◌else◌, arith, slice_get, slice_set, option_map, option_and_then}
 use Rattle.std.proofs.lemmas.List.{length-replicate}
-use Rattle.rgo_ast.specs.declared.ops.BinaryOp.{BinaryOp}
-use Rattle.rgo_ast.specs.declared.ops.BinaryOp.TheVariants as binary
-use Rattle.rgo_typed.specs.declared.actions.Action.{Action}
-use Rattle.rgo_typed.specs.declared.actions.Action.TheVariants as action
-use Rattle.rgo_typed.specs.declared.programs.Struct.{Struct}
-use Rattle.rgo_typed.specs.declared.programs.Variable.{Variable}
-use Rattle.rgo_typed.specs.declared.types.Base.{Base}
-use Rattle.rgo_typed.specs.declared.types.Base.TheVariants as base
-use Rattle.rgo_typed.specs.declared.types.Layer.{Layer}
-use Rattle.rgo_typed.specs.declared.types.Type.{«Type»}
-use Rattle.rgo_memory.specs.declared.traps.Trap.{Trap}
-use Rattle.rgo_memory.specs.declared.traps.Trap.TheVariants.{IndexRange}
-use Rattle.rgo_memory.specs.declared.values.Value.{Value}
-use Rattle.rgo_memory.specs.declared.values.Value.TheVariants as value
-use Rattle.rgo_memory.specs.Channels.{close, meets_at, receive, received, send, sent, shut}
-use Rattle.rgo_memory.specs.Effects.{Does, Effect, Outcome, Traps, answered, at_object, at_object_if_ready, in_memory, in_memory_if_ready, to_object, to_object_if_ready}
-use Rattle.rgo_memory.specs.Elements.{element, element_at, element_in, length_in, length_of, or_out_of_range, put, put_in}
-use Rattle.rgo_memory.specs.Fields.{field_of, load, or_nil, store, stored}
-use Rattle.rgo_memory.specs.Making.{made, made_struct, new_channel, new_slice, sized}
-use Rattle.rgo_memory.specs.Memory.{Channel, Memory, Object, SliceObject, StructObject}
-use Rattle.rgo_memory.specs.Operators.{binary_of, inverted, is_equal, negated, nil_test, on_ints}
-use Rattle.rgo_memory.specs.Perform.{on_none, on_one, on_three, on_two, perform, set_variable}
-use Rattle.rgo_memory.specs.Values.{base_zero, element_zero, element_zero_in, zero_in, zero_of}
-use Rattle.rgo_machine.specs.declared.picks.End.{End}
-use Rattle.rgo_machine.specs.declared.picks.Pick.{Pick}
-use Rattle.rgo_machine.specs.declared.picks.Pick.TheVariants.{Meet, One}
-use Rattle.rgo_machine.specs.Machines.{AtReceive, AtSend, Stand, met, met_by, picked, unless_ended, with_frames}
-use Rattle.rgo_machine.specs.Machines as machine
-use Rattle.rgo_tac.specs.Code.{Branch as TacBranch, Call as TacCall, Do as TacDo, Go as TacGo, Instr, Jump as TacJump, Op, Print as TacPrint, Return as TacReturn, Tac, TacFn}
-use Rattle.rgo_tac.specs.Frames.{Frame, assigned, called, value_at, values_of}
-use Rattle.rgo_tac.specs.Steps.{instr_of, resumed, resumed_at, stand, target_of, type_of}
-use Rattle.rgo_tac.specs.Tac.{TacState, main_frames, tac}
-use Rattle.rgo_code.specs.Code.{Code, CodeFn, CodeInstr, CodeOp, Do}
-use Rattle.rgo_code.specs.Erasure.{erased, erased_instr, erased_op}
-use Rattle.rgo_region_machine.specs.Machine.{Acknowledge, Attend, Event, Finish, Instruct, MakeOffer, TakePage, plain_step, region_step}
-use Rattle.rgo_region_machine.specs.Owed.{current, current_in}
-use Rattle.rgo_region_machine.specs.States.{RegionState}
+use Rattle.rgo_sound.specs.Ast.declared.ops.BinaryOp.{BinaryOp}
+use Rattle.rgo_sound.specs.Ast.declared.ops.BinaryOp.TheVariants as binary
+use Rattle.rgo_sound.specs.Typed.declared.actions.Action.{Action}
+use Rattle.rgo_sound.specs.Typed.declared.actions.Action.TheVariants as action
+use Rattle.rgo_sound.specs.Typed.declared.programs.Struct.{Struct}
+use Rattle.rgo_sound.specs.Typed.declared.programs.Variable.{Variable}
+use Rattle.rgo_sound.specs.Typed.declared.types.Base.{Base}
+use Rattle.rgo_sound.specs.Typed.declared.types.Base.TheVariants as base
+use Rattle.rgo_sound.specs.Typed.declared.types.Layer.{Layer}
+use Rattle.rgo_sound.specs.Typed.declared.types.Type.{«Type»}
+use Rattle.rgo_sound.specs.Memory.declared.traps.Trap.{Trap}
+use Rattle.rgo_sound.specs.Memory.declared.traps.Trap.TheVariants.{IndexRange}
+use Rattle.rgo_sound.specs.Memory.declared.values.Value.{Value}
+use Rattle.rgo_sound.specs.Memory.declared.values.Value.TheVariants as value
+use Rattle.rgo_sound.specs.Memory.Channels.{close, meets_at, receive, received, send, sent, shut}
+use Rattle.rgo_sound.specs.Memory.Effects.{Does, Effect, Outcome, Traps, answered, at_object, at_object_if_ready, in_memory, in_memory_if_ready, to_object, to_object_if_ready}
+use Rattle.rgo_sound.specs.Memory.Elements.{element, element_at, element_in, length_in, length_of, or_out_of_range, put, put_in}
+use Rattle.rgo_sound.specs.Memory.Fields.{field_of, load, or_nil, store, stored}
+use Rattle.rgo_sound.specs.Memory.Making.{made, made_struct, new_channel, new_slice, sized}
+use Rattle.rgo_sound.specs.Memory.Memory.{Channel, Memory, Object, SliceObject, StructObject}
+use Rattle.rgo_sound.specs.Memory.Operators.{binary_of, inverted, is_equal, negated, nil_test, on_ints}
+use Rattle.rgo_sound.specs.Memory.Perform.{on_none, on_one, on_three, on_two, perform, set_variable}
+use Rattle.rgo_sound.specs.Memory.Values.{base_zero, element_zero, element_zero_in, zero_in, zero_of}
+use Rattle.rgo_sound.specs.Machine.declared.picks.End.{End}
+use Rattle.rgo_sound.specs.Machine.declared.picks.Pick.{Pick}
+use Rattle.rgo_sound.specs.Machine.declared.picks.Pick.TheVariants.{Meet, One}
+use Rattle.rgo_sound.specs.Machine.Machines.{AtReceive, AtSend, Stand, met, met_by, picked, unless_ended, with_frames}
+use Rattle.rgo_sound.specs.Machine.Machines as machine
+use Rattle.rgo_sound.specs.Tac.Code.{Branch as TacBranch, Call as TacCall, Do as TacDo, Go as TacGo, Instr, Jump as TacJump, Op, Print as TacPrint, Return as TacReturn, Tac, TacFn}
+use Rattle.rgo_sound.specs.Tac.Frames.{Frame, assigned, called, value_at, values_of}
+use Rattle.rgo_sound.specs.Tac.Steps.{instr_of, resumed, resumed_at, stand, target_of, type_of}
+use Rattle.rgo_sound.specs.Tac.Tac.{TacState, main_frames, tac}
+use Rattle.rgo_sound.specs.Code.Code.{Code, CodeFn, CodeInstr, CodeOp, Do}
+use Rattle.rgo_sound.specs.Code.Erasure.{erased, erased_instr, erased_op}
+use Rattle.rgo_sound.specs.RegionMachine.Machine.{Acknowledge, Attend, Event, Finish, Instruct, MakeOffer, TakePage, plain_step, region_step}
+use Rattle.rgo_sound.specs.RegionMachine.Owed.{current, current_in}
+use Rattle.rgo_sound.specs.RegionMachine.States.{RegionState}
 use Rattle.rgo_sound.specs.Types.{Each}
 use Rattle.rgo_sound.proofs.Acting.{Acted, act, act_at, after, alone, alone_is, call, effected, performed, returned, silent, start, trap_place}
 use Rattle.rgo_sound.proofs.ErasureLemmas.{Always, Follows, step_follows, yields_is}

@@ -3,13 +3,13 @@ use Rattle.std.proofs.Common.{◌≡◌, ◌⊎◌, ℕ, ◌+◌, ◌<◌, ◌�
 use Rattle.std.proofs.Common.{slice_get, slice_set, nat_eq, nat_lt, arith}
 use Rattle.std.proofs.lemmas.Option.{same_Some}
 use Rattle.std.specs.List.{list_any}
-use Rattle.rgo_memory.specs.Memory.{Memory}
-use Rattle.rgo_tac.specs.Frames.{Frame}
-use Rattle.rgo_code.specs.Code.{Code}
-use Rattle.rgo_region_machine.specs.declared.regions.Region.{Region}
-use Rattle.rgo_region_machine.specs.declared.regions.Region.TheVariants.{Numbered}
-use Rattle.rgo_region_machine.specs.Regions.{RegionInfo, has_stakes, is_live, same_region}
-use Rattle.rgo_region_machine.specs.States.{Environment, Holder, RegionState, frames_of}
+use Rattle.rgo_sound.specs.Memory.Memory.{Memory}
+use Rattle.rgo_sound.specs.Tac.Frames.{Frame}
+use Rattle.rgo_sound.specs.Code.Code.{Code}
+use Rattle.rgo_sound.specs.RegionMachine.declared.regions.Region.{Region}
+use Rattle.rgo_sound.specs.RegionMachine.declared.regions.Region.TheVariants.{Numbered}
+use Rattle.rgo_sound.specs.RegionMachine.Regions.{RegionInfo, has_stakes, is_live, same_region}
+use Rattle.rgo_sound.specs.RegionMachine.States.{Environment, Holder, RegionState, frames_of}
 use Rattle.rgo_sound.proofs.Attends.{total_at, staked_live}
 use Rattle.rgo_sound.proofs.Places.{get_set_other, get_set_same, get_some, length_set, get_front}
 use Rattle.rgo_sound.proofs.Tests.{eq_of, split}
@@ -22,7 +22,7 @@ use Rattle.rgo_core_frames.specs.Shown.{CallersShow, FramesShow, LiveShow}
 use Rattle.rgo_core_frames.specs.WordFrames.{WordFrame, word_at}
 use Rattle.rgo_core_frames.proofs.WordLemmas.{shows_more}
 use Rattle.rgo_sound.specs.Values.{call_target}
-use Rattle.rgo_tac.specs.Frames.{value_at}
+use Rattle.rgo_sound.specs.Tac.Frames.{value_at}
 use Rattle.std.proofs.Common.{◌++◌, append-nil, length-append}
 use Rattle.rgo_sound.proofs.Places.{get_append_last, get_snoc}
 use Rattle.rgo_core_frames.proofs.SlotLemmas.{ProtectionsLive}

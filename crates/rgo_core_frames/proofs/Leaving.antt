@@ -1,10 +1,10 @@
 -- What a step leaves as it was, from the laws of region safety.
 use Rattle.std.proofs.Common.{◌≡◌, ℕ, List, Option, Some, None, refl}
-use Rattle.rgo_code.specs.Code.{Code}
-use Rattle.rgo_region_machine.specs.Instructions.{marked, printed_if}
-use Rattle.rgo_region_machine.specs.Machine.{Event, region_step}
-use Rattle.rgo_region_machine.specs.Regions.{RegionInfo}
-use Rattle.rgo_region_machine.specs.States.{Holder, Mark, RegionState}
+use Rattle.rgo_sound.specs.Code.Code.{Code}
+use Rattle.rgo_sound.specs.RegionMachine.Instructions.{marked, printed_if}
+use Rattle.rgo_sound.specs.RegionMachine.Machine.{Event, region_step}
+use Rattle.rgo_sound.specs.RegionMachine.Regions.{RegionInfo}
+use Rattle.rgo_sound.specs.RegionMachine.States.{Holder, Mark, RegionState}
 use Rattle.rgo_sound.proofs.Leaving.{offers_stay, others_stay}
 use Rattle.rgo_core_frames.specs.Fits.{AllFit}
 use Rattle.rgo_core_frames.specs.Records.{Rec}

@@ -3,27 +3,27 @@ use Rattle.std.specs.Int.{from_bool}
 use Rattle.std.proofs.Common.{◌≡◌, ℕ, ◌+◌, Bool, true, false, List, [], ◌∷◌, Option, Some, None, refl, sym, ap, ◌∙◌, subst, option_map}
 use Rattle.std.proofs.Common.{Contains, if◌then◌else◌, option_and_then}
 use Rattle.std.proofs.lemmas.Option.{same_Some}
-use Rattle.rgo_typed.specs.declared.actions.Action.{Action}
-use Rattle.rgo_typed.specs.declared.actions.Action.TheVariants as action
-use Rattle.rgo_typed.specs.declared.types.Type.{«Type»}
-use Rattle.rgo_wellformed.specs.TypeRules.{bool, Takes}
-use Rattle.rgo_memory.specs.declared.values.Value.{Value}
-use Rattle.rgo_memory.specs.declared.values.Value.TheVariants as value
-use Rattle.rgo_memory.specs.Memory.{Memory}
-use Rattle.rgo_machine.specs.Actions.{is_true}
-use Rattle.rgo_tac.specs.Flow.{reads, writes}
-use Rattle.rgo_tac.specs.Frames.{Frame, called, going, moved_to, value_at, values_of}
-use Rattle.rgo_tac.specs.Steps.{resumed, type_of}
-use Rattle.rgo_code.specs.Checked.{IsChecked}
-use Rattle.rgo_code.specs.Code.{Branch, Call, Code, CodeFn, CodeInstr, CodeOp, Do, Go, Jump, Print, Return}
-use Rattle.rgo_code.specs.Erasure.{erased, erased_fn, erased_op}
-use Rattle.rgo_code.specs.Exists.{declared_by}
-use Rattle.rgo_code.specs.Names.{edges}
-use Rattle.rgo_code.specs.Types.{DoFits, OpFits}
-use Rattle.rgo_code.specs.declared.rules.Line.TheVariants as line
-use Rattle.rgo_code.specs.declared.rules.Rule.TheVariants as rule
-use Rattle.rgo_region_machine.specs.States.{RegionState}
-use Rattle.rgo_region_machine.specs.Owed.{current, function_at, function_of}
+use Rattle.rgo_sound.specs.Typed.declared.actions.Action.{Action}
+use Rattle.rgo_sound.specs.Typed.declared.actions.Action.TheVariants as action
+use Rattle.rgo_sound.specs.Typed.declared.types.Type.{«Type»}
+use Rattle.rgo_sound.specs.WellFormed.TypeRules.{bool, Takes}
+use Rattle.rgo_sound.specs.Memory.declared.values.Value.{Value}
+use Rattle.rgo_sound.specs.Memory.declared.values.Value.TheVariants as value
+use Rattle.rgo_sound.specs.Memory.Memory.{Memory}
+use Rattle.rgo_sound.specs.Machine.Actions.{is_true}
+use Rattle.rgo_sound.specs.Tac.Flow.{reads, writes}
+use Rattle.rgo_sound.specs.Tac.Frames.{Frame, called, going, moved_to, value_at, values_of}
+use Rattle.rgo_sound.specs.Tac.Steps.{resumed, type_of}
+use Rattle.rgo_sound.specs.Code.Checked.{IsChecked}
+use Rattle.rgo_sound.specs.Code.Code.{Branch, Call, Code, CodeFn, CodeInstr, CodeOp, Do, Go, Jump, Print, Return}
+use Rattle.rgo_sound.specs.Code.Erasure.{erased, erased_fn, erased_op}
+use Rattle.rgo_sound.specs.Code.Exists.{declared_by}
+use Rattle.rgo_sound.specs.Code.Names.{edges}
+use Rattle.rgo_sound.specs.Code.Types.{DoFits, OpFits}
+use Rattle.rgo_sound.specs.Code.declared.rules.Line.TheVariants as line
+use Rattle.rgo_sound.specs.Code.declared.rules.Rule.TheVariants as rule
+use Rattle.rgo_sound.specs.RegionMachine.States.{RegionState}
+use Rattle.rgo_sound.specs.RegionMachine.Owed.{current, function_at, function_of}
 use Rattle.rgo_sound.proofs.Acting.{act, call, effected, moves, returned, trap_place}
 use Rattle.rgo_sound.proofs.Places.{contains_here, contains_there}
 use Rattle.rgo_sound.proofs.Ruled.{erased_found}

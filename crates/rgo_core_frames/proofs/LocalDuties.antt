@@ -3,13 +3,13 @@ use Rattle.std.proofs.Common.{◌≡◌, ℕ, ◌<◌, ◌||◌, Bool, true, fal
 use Rattle.std.proofs.Common.{slice_get, nat_eq, arith, if◌then◌else◌, option_map, option_and_then}
 use Rattle.std.proofs.lemmas.Option.{same_Some}
 use Rattle.std.specs.List.{list_any}
-use Rattle.rgo_code.specs.Code.{Code}
-use Rattle.rgo_region_machine.specs.declared.regions.Region.{Region}
-use Rattle.rgo_region_machine.specs.declared.regions.Region.TheVariants.{Global as GlobalRegion, Numbered}
-use Rattle.rgo_region_machine.specs.Duties.{attend, attended, duty_done, guards, may_go, protected, removal, shared, unprotected, with_protection, without_protection}
-use Rattle.rgo_region_machine.specs.Machine.{Attend, region_step}
-use Rattle.rgo_region_machine.specs.Regions.{Bindings, bound, is_live, one_fewer, one_more, removed_once, unbind, with_info, without}
-use Rattle.rgo_region_machine.specs.States.{Create, Duty, EndBase, Environment, Holder, Offer, Protect, RegionState, Remove, Share, Unprotect, top_names, with_top}
+use Rattle.rgo_sound.specs.Code.Code.{Code}
+use Rattle.rgo_sound.specs.RegionMachine.declared.regions.Region.{Region}
+use Rattle.rgo_sound.specs.RegionMachine.declared.regions.Region.TheVariants.{Global as GlobalRegion, Numbered}
+use Rattle.rgo_sound.specs.RegionMachine.Duties.{attend, attended, duty_done, guards, may_go, protected, removal, shared, unprotected, with_protection, without_protection}
+use Rattle.rgo_sound.specs.RegionMachine.Machine.{Attend, region_step}
+use Rattle.rgo_sound.specs.RegionMachine.Regions.{Bindings, bound, is_live, one_fewer, one_more, removed_once, unbind, with_info, without}
+use Rattle.rgo_sound.specs.RegionMachine.States.{Create, Duty, EndBase, Environment, Holder, Offer, Protect, RegionState, Remove, Share, Unprotect, top_names, with_top}
 use Rattle.rgo_sound.proofs.Bullets.{duty_staked}
 use Rattle.rgo_sound.proofs.Tests.{nat_eq_refl}
 use Rattle.rgo_sound.specs.Invariant.{Fine}

@@ -2,20 +2,20 @@
 use Rattle.std.proofs.Common.{◌≡◌, ◌⊎◌, ℕ, zero, suc, List, [], ◌∷◌, ◌++◌, Option, Some, None, refl, sym, ap, ◌∙◌, subst, inl, inr}
 use Rattle.std.proofs.Common.{slice_get, slice_set, append-nil, Contains}
 use Rattle.std.proofs.lemmas.Option.{same_Some}
-use Rattle.rgo_typed.specs.declared.actions.Action.TheVariants as action
-use Rattle.rgo_memory.specs.declared.values.Value.TheVariants as value
-use Rattle.rgo_machine.specs.declared.picks.Pick.TheVariants.{One}
-use Rattle.rgo_tac.specs.Flow.{reads}
-use Rattle.rgo_tac.specs.Frames.{Frame, value_at}
-use Rattle.rgo_code.specs.Checked.{IsChecked}
-use Rattle.rgo_code.specs.Code.{Branch, Call, Code, CodeInstr, CodeOp, Do, Go, Jump, Print, Return}
-use Rattle.rgo_code.specs.Erasure.{erased_op}
-use Rattle.rgo_region_machine.specs.Duties.{attended, may_go}
-use Rattle.rgo_region_machine.specs.Instructions.{child_holder, last_frames, marked, printed_if}
-use Rattle.rgo_region_machine.specs.Machine.{Attend, Event, Instruct, region_step}
-use Rattle.rgo_region_machine.specs.Objects.{making_region}
-use Rattle.rgo_region_machine.specs.Owed.{current, function_at, removes_behind}
-use Rattle.rgo_region_machine.specs.States.{Duty, Holder, RegionState, top_names}
+use Rattle.rgo_sound.specs.Typed.declared.actions.Action.TheVariants as action
+use Rattle.rgo_sound.specs.Memory.declared.values.Value.TheVariants as value
+use Rattle.rgo_sound.specs.Machine.declared.picks.Pick.TheVariants.{One}
+use Rattle.rgo_sound.specs.Tac.Flow.{reads}
+use Rattle.rgo_sound.specs.Tac.Frames.{Frame, value_at}
+use Rattle.rgo_sound.specs.Code.Checked.{IsChecked}
+use Rattle.rgo_sound.specs.Code.Code.{Branch, Call, Code, CodeInstr, CodeOp, Do, Go, Jump, Print, Return}
+use Rattle.rgo_sound.specs.Code.Erasure.{erased_op}
+use Rattle.rgo_sound.specs.RegionMachine.Duties.{attended, may_go}
+use Rattle.rgo_sound.specs.RegionMachine.Instructions.{child_holder, last_frames, marked, printed_if}
+use Rattle.rgo_sound.specs.RegionMachine.Machine.{Attend, Event, Instruct, region_step}
+use Rattle.rgo_sound.specs.RegionMachine.Objects.{making_region}
+use Rattle.rgo_sound.specs.RegionMachine.Owed.{current, function_at, removes_behind}
+use Rattle.rgo_sound.specs.RegionMachine.States.{Duty, Holder, RegionState, top_names}
 use Rattle.rgo_sound.proofs.Acting.{Acted, after, end_by}
 use Rattle.rgo_sound.specs.Good.{AllGood}
 use Rattle.rgo_core_frames.specs.Fits.{AllFit, Fits, IsOfLive, IsPast, IsShown}
@@ -35,7 +35,7 @@ use Rattle.rgo_core_frames.proofs.LocalActs.{ActsAlike, acts_alike, chained, map
 use Rattle.rgo_core_frames.proofs.LocalDuties.{attends_alike}
 use Rattle.rgo_sound.specs.Running.{IsRunning}
 use Rattle.rgo_core_frames.proofs.Standing.{reads_stand, touched_live}
-use Rattle.rgo_machine.specs.declared.picks.End.{End}
+use Rattle.rgo_sound.specs.Machine.declared.picks.End.{End}
 use Rattle.rgo_core_frames.proofs.Leaving.{has_step, mark_stays, print_stays}
 
 -- ---- what local instructions are not

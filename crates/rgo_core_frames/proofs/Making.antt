@@ -1,11 +1,11 @@
 -- In which region the next instruction makes an object, told by the record.
 use Rattle.std.proofs.Common.{◌≡◌, ℕ, Bool, Option, Some, None, true, false, refl, sym, ap, ◌∙◌, option_map, if◌then◌else◌}
-use Rattle.rgo_code.specs.Code.{Branch, Call, CodeFn, CodeOp, Do, Go, Jump, Print, Return}
-use Rattle.rgo_region_machine.specs.declared.regions.Region.{Region}
-use Rattle.rgo_region_machine.specs.Objects.{making_region, makes_object, target_class}
-use Rattle.rgo_region_machine.specs.Owed.{function_at, function_of}
-use Rattle.rgo_region_machine.specs.Regions.{Bindings, class_region}
-use Rattle.rgo_region_machine.specs.States.{Holder, top_names}
+use Rattle.rgo_sound.specs.Code.Code.{Branch, Call, CodeFn, CodeOp, Do, Go, Jump, Print, Return}
+use Rattle.rgo_sound.specs.RegionMachine.declared.regions.Region.{Region}
+use Rattle.rgo_sound.specs.RegionMachine.Objects.{making_region, makes_object, target_class}
+use Rattle.rgo_sound.specs.RegionMachine.Owed.{function_at, function_of}
+use Rattle.rgo_sound.specs.RegionMachine.Regions.{Bindings, class_region}
+use Rattle.rgo_sound.specs.RegionMachine.States.{Holder, top_names}
 use Rattle.rgo_core_frames.specs.Makes.{RegionLaw}
 use Rattle.rgo_core_frames.specs.Slots.{slot, slot_names}
 use Rattle.rgo_core_frames.proofs.LocalActs.{mapped}

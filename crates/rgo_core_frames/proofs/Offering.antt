@@ -2,28 +2,28 @@
 use Rattle.std.proofs.Common.{◌≡◌, ◌≢◌, ◌⊎◌, ℕ, ◌+◌, true, false, ◌&&◌, List, [], ◌∷◌, length, Option, Some, None, refl, sym, ap, ◌∙◌, subst, inl, inr}
 use Rattle.std.proofs.Common.{slice_get, slice_set, append-nil, if◌then◌else◌, option_and_then, option_map, nat_eq, true≢false, Contains, arith}
 use Rattle.std.proofs.lemmas.Option.{same_Some, slice_get_within}
-use Rattle.rgo_typed.specs.declared.actions.Action.TheVariants.{Recv, Send}
-use Rattle.rgo_memory.specs.declared.values.Value.{Value}
-use Rattle.rgo_memory.specs.declared.values.Value.TheVariants as value
-use Rattle.rgo_memory.specs.Channels.{is_meeting_at}
-use Rattle.rgo_memory.specs.Values.{zero_of}
-use Rattle.rgo_machine.specs.declared.picks.Pick.TheVariants.{Meet}
-use Rattle.rgo_machine.specs.Machines.{AtReceive, AtSend, Stand, meet, met, met_by, picked, unless_ended}
-use Rattle.rgo_tac.specs.Flow.{writes}
-use Rattle.rgo_tac.specs.Frames.{Frame, going, value_at}
-use Rattle.rgo_tac.specs.Steps.{stand, stand_at, stand_before, type_of}
-use Rattle.rgo_tac.specs.Tac.{TacState, tac}
-use Rattle.rgo_code.specs.Checked.{IsChecked}
-use Rattle.rgo_code.specs.Code.{Code, CodeInstr, CodeOp, Do}
-use Rattle.rgo_code.specs.Erasure.{erased, erased_instr, erased_op}
-use Rattle.rgo_code.specs.Names.{edges}
-use Rattle.rgo_region_machine.specs.Duties.{attended, may_go}
-use Rattle.rgo_region_machine.specs.Instructions.{both_instructed, holder_after, instruct, is_ready, marked, plain_after, side_after, side_by, standing_at, taken_offer}
-use Rattle.rgo_region_machine.specs.Machine.{Acknowledge, Instruct, plain_step, region_step, MakeOffer}
-use Rattle.rgo_region_machine.specs.Objects.{may_touch, owner_live}
-use Rattle.rgo_region_machine.specs.Offers.{acknowledge, make_offer, offer_at, offer_for, offered, offered_channel, open_channel, offers_on}
-use Rattle.rgo_region_machine.specs.Owed.{current, removes_behind}
-use Rattle.rgo_region_machine.specs.States.{Holder, NoOffer, RegionState, Standing, Taken, frames_in, frames_of}
+use Rattle.rgo_sound.specs.Typed.declared.actions.Action.TheVariants.{Recv, Send}
+use Rattle.rgo_sound.specs.Memory.declared.values.Value.{Value}
+use Rattle.rgo_sound.specs.Memory.declared.values.Value.TheVariants as value
+use Rattle.rgo_sound.specs.Memory.Channels.{is_meeting_at}
+use Rattle.rgo_sound.specs.Memory.Values.{zero_of}
+use Rattle.rgo_sound.specs.Machine.declared.picks.Pick.TheVariants.{Meet}
+use Rattle.rgo_sound.specs.Machine.Machines.{AtReceive, AtSend, Stand, meet, met, met_by, picked, unless_ended}
+use Rattle.rgo_sound.specs.Tac.Flow.{writes}
+use Rattle.rgo_sound.specs.Tac.Frames.{Frame, going, value_at}
+use Rattle.rgo_sound.specs.Tac.Steps.{stand, stand_at, stand_before, type_of}
+use Rattle.rgo_sound.specs.Tac.Tac.{TacState, tac}
+use Rattle.rgo_sound.specs.Code.Checked.{IsChecked}
+use Rattle.rgo_sound.specs.Code.Code.{Code, CodeInstr, CodeOp, Do}
+use Rattle.rgo_sound.specs.Code.Erasure.{erased, erased_instr, erased_op}
+use Rattle.rgo_sound.specs.Code.Names.{edges}
+use Rattle.rgo_sound.specs.RegionMachine.Duties.{attended, may_go}
+use Rattle.rgo_sound.specs.RegionMachine.Instructions.{both_instructed, holder_after, instruct, is_ready, marked, plain_after, side_after, side_by, standing_at, taken_offer}
+use Rattle.rgo_sound.specs.RegionMachine.Machine.{Acknowledge, Instruct, plain_step, region_step, MakeOffer}
+use Rattle.rgo_sound.specs.RegionMachine.Objects.{may_touch, owner_live}
+use Rattle.rgo_sound.specs.RegionMachine.Offers.{acknowledge, make_offer, offer_at, offer_for, offered, offered_channel, open_channel, offers_on}
+use Rattle.rgo_sound.specs.RegionMachine.Owed.{current, removes_behind}
+use Rattle.rgo_sound.specs.RegionMachine.States.{Holder, NoOffer, RegionState, Standing, Taken, frames_in, frames_of}
 use Rattle.rgo_sound.proofs.Bullets.{has_stake}
 use Rattle.rgo_sound.proofs.OneStep.{current_erased, met_with}
 use Rattle.rgo_sound.proofs.Places.{contains_here, get_set_other, get_set_same, get_some, length_set}

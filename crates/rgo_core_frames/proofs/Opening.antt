@@ -1,11 +1,11 @@
 -- The record of `main` fits as a run begins.
 use Rattle.std.proofs.Common.{◌≡◌, ℕ, zero, suc, List, [], ◌∷◌, Some, None, refl, sym, ◌∙◌, subst, inl, slice_get, true≢false}
 use Rattle.std.proofs.lemmas.Option.{same_Some}
-use Rattle.rgo_tac.specs.Frames.{Frame, called}
-use Rattle.rgo_tac.specs.Tac.{main_frames}
-use Rattle.rgo_code.specs.Code.{Code, CodeFn}
-use Rattle.rgo_code.specs.Erasure.{erased, erased_fn}
-use Rattle.rgo_region_machine.specs.Machine.{main_holder, region_start}
+use Rattle.rgo_sound.specs.Tac.Frames.{Frame, called}
+use Rattle.rgo_sound.specs.Tac.Tac.{main_frames}
+use Rattle.rgo_sound.specs.Code.Code.{Code, CodeFn}
+use Rattle.rgo_sound.specs.Code.Erasure.{erased, erased_fn}
+use Rattle.rgo_sound.specs.RegionMachine.Machine.{main_holder, region_start}
 use Rattle.rgo_core_frames.specs.Fits.{AllFit, Fits}
 use Rattle.rgo_core_frames.specs.Opening.{OpeningLaw, main_record}
 use Rattle.rgo_core_frames.specs.Records.{Rec}

@@ -2,22 +2,22 @@
 use Rattle.std.proofs.Common.{◌≡◌, ℕ, suc, true, List, [], ◌∷◌, ◌++◌, length, Some, refl, sym, ap, ◌∙◌, subst, arith}
 use Rattle.std.proofs.Common.{slice_get, append-nil, Contains, true≢false, le_refl}
 use Rattle.std.proofs.lemmas.Option.{same_Some, slice_get_past}
-use Rattle.rgo_typed.specs.declared.actions.Action.TheVariants as action
-use Rattle.rgo_typed.specs.declared.types.Type.{«Type»}
-use Rattle.rgo_typed.specs.Types.{is_pointer_like}
-use Rattle.rgo_wellformed.specs.TypeRules.{int}
-use Rattle.rgo_memory.specs.declared.values.Value.{Value}
-use Rattle.rgo_memory.specs.declared.values.Value.TheVariants as value
-use Rattle.rgo_memory.specs.Effects.{answered}
-use Rattle.rgo_memory.specs.Fields.{field_of, load}
-use Rattle.rgo_tac.specs.Flow.{reads}
-use Rattle.rgo_tac.specs.Frames.{value_at}
-use Rattle.rgo_code.specs.Code.{Code, CodeFn, CodeInstr, CodeOp, Do}
-use Rattle.rgo_code.specs.Erasure.{erased_fn, erased_op}
-use Rattle.rgo_code.specs.Types.{HasType}
-use Rattle.rgo_region_machine.specs.Objects.{allotted, making_region}
-use Rattle.rgo_region_machine.specs.Owed.{function_at, function_of}
-use Rattle.rgo_region_machine.specs.States.{RegionState, top_names}
+use Rattle.rgo_sound.specs.Typed.declared.actions.Action.TheVariants as action
+use Rattle.rgo_sound.specs.Typed.declared.types.Type.{«Type»}
+use Rattle.rgo_sound.specs.Typed.Types.{is_pointer_like}
+use Rattle.rgo_sound.specs.WellFormed.TypeRules.{int}
+use Rattle.rgo_sound.specs.Memory.declared.values.Value.{Value}
+use Rattle.rgo_sound.specs.Memory.declared.values.Value.TheVariants as value
+use Rattle.rgo_sound.specs.Memory.Effects.{answered}
+use Rattle.rgo_sound.specs.Memory.Fields.{field_of, load}
+use Rattle.rgo_sound.specs.Tac.Flow.{reads}
+use Rattle.rgo_sound.specs.Tac.Frames.{value_at}
+use Rattle.rgo_sound.specs.Code.Code.{Code, CodeFn, CodeInstr, CodeOp, Do}
+use Rattle.rgo_sound.specs.Code.Erasure.{erased_fn, erased_op}
+use Rattle.rgo_sound.specs.Code.Types.{HasType}
+use Rattle.rgo_sound.specs.RegionMachine.Objects.{allotted, making_region}
+use Rattle.rgo_sound.specs.RegionMachine.Owed.{function_at, function_of}
+use Rattle.rgo_sound.specs.RegionMachine.States.{RegionState, top_names}
 use Rattle.rgo_sound.proofs.Places.{contains_here}
 use Rattle.rgo_sound.proofs.TypedSteps.{var_kind}
 use Rattle.rgo_sound.specs.Types.{HasKind}
@@ -33,7 +33,7 @@ use Rattle.rgo_core_frames.proofs.ActionSteps.{action_law}
 use Rattle.rgo_sound.proofs.Progress.{live_of}
 use Rattle.rgo_core_frames.proofs.WordLemmas.{int_is}
 use Rattle.rgo_core_frames.specs.States.{AtInstruction}
-use Rattle.rgo_memory.specs.Memory.{Object}
+use Rattle.rgo_sound.specs.Memory.Memory.{Object}
 
 module _ (code : Code) (slot_of : ℕ → ℕ) (addresses : List ℕ) (s : RegionState) (g : ℕ) (c : Rec) (w : WordFrame) (ws : List WordFrame)
     (instr : CodeInstr) (fn : CodeFn) (v : ℕ) (ty : «Type») (b : IsBefore code slot_of addresses s g c w ws instr)

@@ -1,17 +1,17 @@
 -- A page is taken: the records fit after it.
 use Rattle.std.proofs.Common.{◌≡◌, ℕ, true, ◌&&◌, List, [], ◌∷◌, length, Option, Some, None, refl, sym, ap, ◌∙◌, subst, inl}
 use Rattle.std.proofs.Common.{slice_get, slice_set, append-nil, nat_eq, if◌then◌else◌, option_and_then, option_map}
-use Rattle.rgo_code.specs.Checked.{IsChecked}
-use Rattle.rgo_code.specs.Code.{Code, CodeInstr}
-use Rattle.rgo_region_machine.specs.declared.regions.Region.{Region}
-use Rattle.rgo_region_machine.specs.declared.regions.Region.TheVariants.{Global as GlobalRegion, Numbered}
-use Rattle.rgo_region_machine.specs.Duties.{may_go}
-use Rattle.rgo_region_machine.specs.Instructions.{has_none}
-use Rattle.rgo_region_machine.specs.Machine.{TakePage, next_object, page_for, page_taken, region_step, take_page, takes_page}
-use Rattle.rgo_region_machine.specs.Objects.{fill_of, making_region, wants_page, with_fill}
-use Rattle.rgo_region_machine.specs.Owed.{function_at}
-use Rattle.rgo_region_machine.specs.Regions.{RegionInfo, has_stakes, is_live, one_page_more, with_info}
-use Rattle.rgo_region_machine.specs.States.{Holder, RegionState, frames_in, frames_of, top_names}
+use Rattle.rgo_sound.specs.Code.Checked.{IsChecked}
+use Rattle.rgo_sound.specs.Code.Code.{Code, CodeInstr}
+use Rattle.rgo_sound.specs.RegionMachine.declared.regions.Region.{Region}
+use Rattle.rgo_sound.specs.RegionMachine.declared.regions.Region.TheVariants.{Global as GlobalRegion, Numbered}
+use Rattle.rgo_sound.specs.RegionMachine.Duties.{may_go}
+use Rattle.rgo_sound.specs.RegionMachine.Instructions.{has_none}
+use Rattle.rgo_sound.specs.RegionMachine.Machine.{TakePage, next_object, page_for, page_taken, region_step, take_page, takes_page}
+use Rattle.rgo_sound.specs.RegionMachine.Objects.{fill_of, making_region, wants_page, with_fill}
+use Rattle.rgo_sound.specs.RegionMachine.Owed.{function_at}
+use Rattle.rgo_sound.specs.RegionMachine.Regions.{RegionInfo, has_stakes, is_live, one_page_more, with_info}
+use Rattle.rgo_sound.specs.RegionMachine.States.{Holder, RegionState, frames_in, frames_of, top_names}
 use Rattle.rgo_sound.proofs.Attends.{with_info_other, with_info_same}
 use Rattle.rgo_sound.proofs.Offers.{class_has_stake, making_class}
 use Rattle.rgo_sound.proofs.Tests.{eq_of, split}

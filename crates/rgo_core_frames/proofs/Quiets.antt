@@ -2,11 +2,11 @@
 use Rattle.std.proofs.Common.{◌≡◌, ℕ, zero, suc, Bool, true, false, List, [], ◌∷◌, Option, Some, None, refl, sym, ap, ◌∙◌, subst, length}
 use Rattle.std.proofs.Common.{slice_set, option_and_then, option_map, unwrap_or, if◌then◌else◌, true≢false}
 use Rattle.std.proofs.lemmas.Option.{same_Some}
-use Rattle.rgo_code.specs.Code.{Code}
-use Rattle.rgo_machine.specs.Runs.{run}
-use Rattle.rgo_machine.proofs.Items.{set_twice}
-use Rattle.rgo_region_machine.specs.Machine.{region_step}
-use Rattle.rgo_region_machine.specs.States.{RegionState, Duty}
+use Rattle.rgo_sound.specs.Code.Code.{Code}
+use Rattle.rgo_sound.specs.Machine.Runs.{run}
+use Rattle.rgo_sound.proofs.Machine.Items.{set_twice}
+use Rattle.rgo_sound.specs.RegionMachine.Machine.{region_step}
+use Rattle.rgo_sound.specs.RegionMachine.States.{RegionState, Duty}
 use Rattle.rgo_sound.proofs.Places.{get_set_same}
 use Rattle.rgo_core_frames.specs.Fits.{AllFit}
 use Rattle.rgo_core_frames.specs.Local.{local}
@@ -22,7 +22,7 @@ use Rattle.rgo_sound.specs.Leaving.{ActsAlone, TakesPart}
 use Rattle.rgo_core_frames.specs.States.{Here}
 use Rattle.rgo_core_frames.specs.WordFrames.{WordFrame}
 use Rattle.rgo_core_frames.proofs.Leaving.{mark_stays}
-use Rattle.rgo_region_machine.specs.Instructions.{marked}
+use Rattle.rgo_sound.specs.RegionMachine.Instructions.{marked}
 use Rattle.rgo_core_frames.proofs.Sound.{next_sound}
 
 unless : (g : ℕ) (d e : Rec) → unless_exit g d ≡ Some e → (d ≡ e) × (is_exit g d.frames ≡ false)

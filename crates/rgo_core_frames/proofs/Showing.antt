@@ -3,20 +3,20 @@
 use Rattle.std.proofs.Common.{◌≡◌, ◌≢◌, ℕ, zero, suc, ◌+◌, List, [], ◌∷◌, ◌++◌, map, length, drop, get_or, Option, Some, None}
 use Rattle.std.proofs.Common.{option_map, refl, sym, ap, ◌∙◌, subst, arith, slice_set, Contains, pow_pos}
 use Rattle.std.proofs.lemmas.Option.{same_Some}
-use Rattle.rgo_typed.specs.declared.types.Base.{Base}
-use Rattle.rgo_typed.specs.declared.types.Base.TheVariants as base
-use Rattle.rgo_typed.specs.declared.types.Layer.{Layer}
-use Rattle.rgo_typed.specs.declared.types.Type.{«Type»}
-use Rattle.rgo_memory.specs.declared.values.Value.{Value}
-use Rattle.rgo_memory.specs.declared.values.Value.TheVariants as value
-use Rattle.rgo_memory.specs.Values.{base_zero, zero_in, zero_of}
-use Rattle.rgo_tac.specs.Flow.{reads, writes}
-use Rattle.rgo_tac.specs.Frames.{Frame, assigned, called, value_at, values_of}
-use Rattle.rgo_tac.specs.Steps.{resumed, resumed_at, resumed_by, target_of}
-use Rattle.rgo_code.specs.Code.{Branch, Call, Code, CodeFn, CodeInstr, CodeOp, Do, Go, Jump, Print, Return, Slot}
-use Rattle.rgo_code.specs.Erasure.{erased, erased_fn, erased_instr, erased_op}
-use Rattle.rgo_code.specs.Names.{edges}
-use Rattle.rgo_region_machine.specs.Owed.{current, current_in, function_at}
+use Rattle.rgo_sound.specs.Typed.declared.types.Base.{Base}
+use Rattle.rgo_sound.specs.Typed.declared.types.Base.TheVariants as base
+use Rattle.rgo_sound.specs.Typed.declared.types.Layer.{Layer}
+use Rattle.rgo_sound.specs.Typed.declared.types.Type.{«Type»}
+use Rattle.rgo_sound.specs.Memory.declared.values.Value.{Value}
+use Rattle.rgo_sound.specs.Memory.declared.values.Value.TheVariants as value
+use Rattle.rgo_sound.specs.Memory.Values.{base_zero, zero_in, zero_of}
+use Rattle.rgo_sound.specs.Tac.Flow.{reads, writes}
+use Rattle.rgo_sound.specs.Tac.Frames.{Frame, assigned, called, value_at, values_of}
+use Rattle.rgo_sound.specs.Tac.Steps.{resumed, resumed_at, resumed_by, target_of}
+use Rattle.rgo_sound.specs.Code.Code.{Branch, Call, Code, CodeFn, CodeInstr, CodeOp, Do, Go, Jump, Print, Return, Slot}
+use Rattle.rgo_sound.specs.Code.Erasure.{erased, erased_fn, erased_instr, erased_op}
+use Rattle.rgo_sound.specs.Code.Names.{edges}
+use Rattle.rgo_sound.specs.RegionMachine.Owed.{current, current_in, function_at}
 use Rattle.rgo_sound.proofs.Leads.{live_read, continued}
 use Rattle.rgo_sound.proofs.OneStep.{current_erased}
 use Rattle.rgo_sound.proofs.Places.{contains_here, contains_there, length_set}

@@ -2,14 +2,14 @@
 use Rattle.std.proofs.Common.{◌≡◌, ℕ, Bool, true, false, ◌||◌, ◌&&◌, not, List, [], ◌∷◌, ◌++◌, map, Option, Some, None, option_map}
 use Rattle.std.proofs.Common.{refl, sym, ap, ◌∙◌, nat_eq, if◌then◌else◌, true≢false}
 use Rattle.std.specs.List.{list_any}
-use Rattle.rgo_tac.specs.declared.regions.Class.{Class}
-use Rattle.rgo_tac.specs.declared.regions.Class.TheVariants.{NoClass, Global, Name}
-use Rattle.rgo_region_machine.specs.declared.regions.Region.{Region}
-use Rattle.rgo_region_machine.specs.declared.regions.Region.TheVariants.{Global as GlobalRegion, Numbered}
-use Rattle.rgo_region_machine.specs.Duties.{guards, with_protection, without_protection}
-use Rattle.rgo_region_machine.specs.Owed.{passed, passed_regions, stands_in, twice}
-use Rattle.rgo_region_machine.specs.Regions.{Bindings, RegionInfo, is_live, bound, class_region, removed_once, same_region, unbind, without_all}
-use Rattle.rgo_region_machine.specs.States.{Duty, Remove, Protect, Unprotect, EndBase, Create, Share, Environment, top_names, with_top, below}
+use Rattle.rgo_sound.specs.Tac.declared.regions.Class.{Class}
+use Rattle.rgo_sound.specs.Tac.declared.regions.Class.TheVariants.{NoClass, Global, Name}
+use Rattle.rgo_sound.specs.RegionMachine.declared.regions.Region.{Region}
+use Rattle.rgo_sound.specs.RegionMachine.declared.regions.Region.TheVariants.{Global as GlobalRegion, Numbered}
+use Rattle.rgo_sound.specs.RegionMachine.Duties.{guards, with_protection, without_protection}
+use Rattle.rgo_sound.specs.RegionMachine.Owed.{passed, passed_regions, stands_in, twice}
+use Rattle.rgo_sound.specs.RegionMachine.Regions.{Bindings, RegionInfo, is_live, bound, class_region, removed_once, same_region, unbind, without_all}
+use Rattle.rgo_sound.specs.RegionMachine.States.{Duty, Remove, Protect, Unprotect, EndBase, Create, Share, Environment, top_names, with_top, below}
 use Rattle.rgo_sound.proofs.Moves.{same_regions}
 use Rattle.rgo_sound.proofs.Tests.{eq_of, ne_of, nat_eq_refl, or_there, split}
 use Rattle.rgo_core_frames.specs.Fits.{SlotsDiffer}

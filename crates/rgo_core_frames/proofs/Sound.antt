@@ -1,8 +1,8 @@
 -- States of runs are sound, from the laws of region safety.
 use Rattle.std.proofs.Common.{◌≡◌, ℕ, Some}
-use Rattle.rgo_code.specs.Code.{Code}
-use Rattle.rgo_region_machine.specs.Machine.{Event, region_step}
-use Rattle.rgo_region_machine.specs.States.{RegionState}
+use Rattle.rgo_sound.specs.Code.Code.{Code}
+use Rattle.rgo_sound.specs.RegionMachine.Machine.{Event, region_step}
+use Rattle.rgo_sound.specs.RegionMachine.States.{RegionState}
 use Rattle.rgo_sound.proofs.ErasureLemmas.{yields_is}
 use Rattle.rgo_sound.proofs.Offers.{all_good_start, all_good_step}
 use Rattle.rgo_sound.proofs.OwnersMade.{owners_stay_made}

@@ -3,13 +3,13 @@ use Rattle.std.proofs.Common.{◌≡◌, ◌⊎◌, ℕ, ◌-◌, Bool, true, fa
 use Rattle.std.proofs.Common.{slice_get, slice_set, append-nil, nat_eq, nat_lt, arith, if◌then◌else◌, option_map, option_and_then}
 use Rattle.std.proofs.lemmas.Option.{some_pair_parts}
 use Rattle.std.specs.List.{list_any}
-use Rattle.rgo_tac.specs.Frames.{Frame}
-use Rattle.rgo_code.specs.Code.{Code}
-use Rattle.rgo_region_machine.specs.declared.regions.Region.{Region}
-use Rattle.rgo_region_machine.specs.declared.regions.Region.TheVariants.{Global as GlobalRegion, Numbered}
-use Rattle.rgo_region_machine.specs.Duties.{attend, attended, duty_done, guards, may_go, removal, shared}
-use Rattle.rgo_region_machine.specs.Regions.{Bindings, RegionInfo, bound, has_stakes, is_live, one_fewer, one_more, removed_once, unbind, with_info, without}
-use Rattle.rgo_region_machine.specs.States.{Create, Duty, EndBase, Environment, Holder, Protect, RegionState, Remove, Share, Unprotect, top_names, with_top}
+use Rattle.rgo_sound.specs.Tac.Frames.{Frame}
+use Rattle.rgo_sound.specs.Code.Code.{Code}
+use Rattle.rgo_sound.specs.RegionMachine.declared.regions.Region.{Region}
+use Rattle.rgo_sound.specs.RegionMachine.declared.regions.Region.TheVariants.{Global as GlobalRegion, Numbered}
+use Rattle.rgo_sound.specs.RegionMachine.Duties.{attend, attended, duty_done, guards, may_go, removal, shared}
+use Rattle.rgo_sound.specs.RegionMachine.Regions.{Bindings, RegionInfo, bound, has_stakes, is_live, one_fewer, one_more, removed_once, unbind, with_info, without}
+use Rattle.rgo_sound.specs.RegionMachine.States.{Create, Duty, EndBase, Environment, Holder, Protect, RegionState, Remove, Share, Unprotect, top_names, with_top}
 use Rattle.rgo_sound.proofs.Attends.{staked_live, with_info_other, with_info_same}
 use Rattle.rgo_sound.proofs.Bullets.{duty_staked}
 use Rattle.rgo_sound.proofs.Tests.{eq_of, nat_eq_refl, split}
@@ -26,7 +26,7 @@ use Rattle.rgo_core_frames.proofs.LocalActs.{chained, mapped}
 use Rattle.rgo_core_frames.proofs.LocalDuties.{pending_slot}
 use Rattle.rgo_core_frames.proofs.SlotLemmas.{AllLive, ProtectionsLive, bound_slot, guards_slot, removed_live, removed_once_slot, same_slot, top_slot, unbind_slot, with_top_live, with_top_slot}
 use Rattle.rgo_sound.proofs.Progress.{live_of}
-use Rattle.rgo_region_machine.specs.Machine.{Attend}
+use Rattle.rgo_sound.specs.RegionMachine.Machine.{Attend}
 use Rattle.rgo_core_frames.proofs.Leaving.{has_step}
 
 none_is : (x : ℕ × Holder) → ◌≡◌ {A = Option (ℕ × Holder)} None (Some x) → ⊥

@@ -1,16 +1,16 @@
 -- What a goroutine reads before an instruction: the objects to which it points are in live regions.
 use Rattle.std.proofs.Common.{◌≡◌, ℕ, true, List, ◌∷◌, Option, Some, None, refl, ap, ◌∙◌, subst, slice_get, Contains}
-use Rattle.rgo_memory.specs.declared.values.Value.TheVariants as value
-use Rattle.rgo_tac.specs.Flow.{reads}
-use Rattle.rgo_tac.specs.Frames.{Frame, value_at}
-use Rattle.rgo_code.specs.Checked.{IsChecked}
-use Rattle.rgo_code.specs.Code.{Code, CodeInstr}
-use Rattle.rgo_code.specs.Erasure.{erased_op}
-use Rattle.rgo_code.specs.Names.{class_of}
-use Rattle.rgo_region_machine.specs.declared.regions.Region.{Region}
-use Rattle.rgo_region_machine.specs.Objects.{may_touch, owner_live, touched}
-use Rattle.rgo_region_machine.specs.Owed.{current}
-use Rattle.rgo_region_machine.specs.States.{Holder, RegionState, frames_in}
+use Rattle.rgo_sound.specs.Memory.declared.values.Value.TheVariants as value
+use Rattle.rgo_sound.specs.Tac.Flow.{reads}
+use Rattle.rgo_sound.specs.Tac.Frames.{Frame, value_at}
+use Rattle.rgo_sound.specs.Code.Checked.{IsChecked}
+use Rattle.rgo_sound.specs.Code.Code.{Code, CodeInstr}
+use Rattle.rgo_sound.specs.Code.Erasure.{erased_op}
+use Rattle.rgo_sound.specs.Code.Names.{class_of}
+use Rattle.rgo_sound.specs.RegionMachine.declared.regions.Region.{Region}
+use Rattle.rgo_sound.specs.RegionMachine.Objects.{may_touch, owner_live, touched}
+use Rattle.rgo_sound.specs.RegionMachine.Owed.{current}
+use Rattle.rgo_sound.specs.RegionMachine.States.{Holder, RegionState, frames_in}
 use Rattle.rgo_sound.proofs.Leads.{reads_home}
 use Rattle.rgo_sound.proofs.Offers.{class_has_stake, touched_home}
 use Rattle.rgo_sound.proofs.Progress.{live_of}

@@ -2,22 +2,22 @@
 use Rattle.std.proofs.Common.{◌≡◌, ℕ, ◌+◌, true, List, [], ◌∷◌, ◌++◌, length, map, Option, Some, None, refl, sym, ap, ◌∙◌, subst, inl}
 use Rattle.std.proofs.Common.{slice_get, slice_set, append-nil, Contains}
 use Rattle.std.proofs.lemmas.Option.{same_Some, slice_get_within}
-use Rattle.rgo_memory.specs.declared.values.Value.TheVariants as value
-use Rattle.rgo_tac.specs.declared.regions.Class.{Class}
-use Rattle.rgo_tac.specs.declared.regions.Class.TheVariants.{Global, Name, NoClass}
-use Rattle.rgo_tac.specs.Flow.{reads, writes}
-use Rattle.rgo_tac.specs.Frames.{Frame, called, moved_to, values_of}
-use Rattle.rgo_code.specs.Checked.{IsChecked}
-use Rattle.rgo_code.specs.Code.{Code, CodeFn, CodeInstr, CodeOp, Go}
-use Rattle.rgo_code.specs.Erasure.{erased, erased_fn, erased_op}
-use Rattle.rgo_code.specs.Names.{edges}
-use Rattle.rgo_region_machine.specs.declared.regions.Region.{Region}
-use Rattle.rgo_region_machine.specs.declared.regions.Region.TheVariants.{Global as GlobalRegion}
-use Rattle.rgo_region_machine.specs.Instructions.{child_holder, last_frames, marked}
-use Rattle.rgo_region_machine.specs.Objects.{making_region}
-use Rattle.rgo_region_machine.specs.Owed.{entry_removes, formals_of, function_at, function_of, next_duties, passed, passed_regions, removes_behind, result_of, twice}
-use Rattle.rgo_region_machine.specs.Regions.{Bindings, class_region, is_live}
-use Rattle.rgo_region_machine.specs.States.{Holder, NoOffer, RegionState, Remove, environment_of, top_names}
+use Rattle.rgo_sound.specs.Memory.declared.values.Value.TheVariants as value
+use Rattle.rgo_sound.specs.Tac.declared.regions.Class.{Class}
+use Rattle.rgo_sound.specs.Tac.declared.regions.Class.TheVariants.{Global, Name, NoClass}
+use Rattle.rgo_sound.specs.Tac.Flow.{reads, writes}
+use Rattle.rgo_sound.specs.Tac.Frames.{Frame, called, moved_to, values_of}
+use Rattle.rgo_sound.specs.Code.Checked.{IsChecked}
+use Rattle.rgo_sound.specs.Code.Code.{Code, CodeFn, CodeInstr, CodeOp, Go}
+use Rattle.rgo_sound.specs.Code.Erasure.{erased, erased_fn, erased_op}
+use Rattle.rgo_sound.specs.Code.Names.{edges}
+use Rattle.rgo_sound.specs.RegionMachine.declared.regions.Region.{Region}
+use Rattle.rgo_sound.specs.RegionMachine.declared.regions.Region.TheVariants.{Global as GlobalRegion}
+use Rattle.rgo_sound.specs.RegionMachine.Instructions.{child_holder, last_frames, marked}
+use Rattle.rgo_sound.specs.RegionMachine.Objects.{making_region}
+use Rattle.rgo_sound.specs.RegionMachine.Owed.{entry_removes, formals_of, function_at, function_of, next_duties, passed, passed_regions, removes_behind, result_of, twice}
+use Rattle.rgo_sound.specs.RegionMachine.Regions.{Bindings, class_region, is_live}
+use Rattle.rgo_sound.specs.RegionMachine.States.{Holder, NoOffer, RegionState, Remove, environment_of, top_names}
 use Rattle.rgo_sound.proofs.Acting.{Acted, act, after, no_end, start}
 use Rattle.rgo_sound.proofs.Bullets.{name_staked}
 use Rattle.rgo_sound.proofs.Places.{contains_here, get_append_left, get_set_same}
@@ -41,8 +41,8 @@ use Rattle.rgo_sound.specs.Running.{IsRunning}
 use Rattle.rgo_core_frames.proofs.Showing.{all_reads_show, enters, goes_on}
 use Rattle.rgo_core_frames.proofs.SlotLemmas.{PassedLive, passes_slot, top_slot, twice_slot}
 use Rattle.rgo_sound.proofs.Progress.{live_of}
-use Rattle.rgo_region_machine.specs.Machine.{Instruct, region_step}
-use Rattle.rgo_machine.specs.declared.picks.Pick.TheVariants.{One}
+use Rattle.rgo_sound.specs.RegionMachine.Machine.{Instruct, region_step}
+use Rattle.rgo_sound.specs.Machine.declared.picks.Pick.TheVariants.{One}
 
 -- the holder of a goroutine that starts
 abbrev child_of : Code → Holder → ℕ → List Class → List Frame → Holder

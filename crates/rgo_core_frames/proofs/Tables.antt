@@ -1,7 +1,7 @@
 -- The names of a frame in a table.
 use Rattle.std.proofs.Common.{◌≡◌, ◌≢◌, ℕ, zero, suc, ◌<◌, false, List, [], ◌∷◌, Option, None, Some, get_or, length, slice_set, nat_eq, refl, sym, ap, ◌∙◌, arith, if◌then◌else◌}
-use Rattle.rgo_region_machine.specs.declared.regions.Region.{Region}
-use Rattle.rgo_region_machine.specs.Regions.{Bindings, bound, unbind, without_all}
+use Rattle.rgo_sound.specs.RegionMachine.declared.regions.Region.{Region}
+use Rattle.rgo_sound.specs.RegionMachine.Regions.{Bindings, bound, unbind, without_all}
 use Rattle.rgo_sound.proofs.CoreLemmas.{bound_unbind, bound_unbind_other}
 use Rattle.rgo_sound.proofs.Tests.{eq_of, split}
 use Rattle.rgo_core_frames.specs.NameTables.{NameTable, TableLaws, TableShows, cleared}

@@ -10,17 +10,17 @@ use Rattle.std.specs.Int.{cast_signed, cast_unsigned, int_wrapping_add, int_wrap
 use Rattle.std.specs.Ordering.{int_eq}
 use lib.Signed.{mag_rem}
 use mir.ValLaws as laws
-use Rattle.rgo_ast.specs.declared.ops.BinaryOp.{BinaryOp}
-use Rattle.rgo_ast.specs.declared.ops.BinaryOp.TheVariants as binary
-use Rattle.rgo_typed.specs.declared.types.Type.{«Type»}
-use Rattle.rgo_typed.specs.declared.types.Base.TheVariants as base
-use Rattle.rgo_typed.specs.Types.{is_pointer_like}
-use Rattle.rgo_wellformed.specs.TypeRules.{int, bool}
-use Rattle.rgo_memory.specs.declared.traps.Trap.{Trap}
-use Rattle.rgo_memory.specs.declared.traps.Trap.TheVariants.{DivideZero}
-use Rattle.rgo_memory.specs.declared.values.Value.{Value}
-use Rattle.rgo_memory.specs.declared.values.Value.TheVariants as value
-use Rattle.rgo_memory.specs.Operators.{on_ints, binary_of, divided, same_bool}
+use Rattle.rgo_sound.specs.Ast.declared.ops.BinaryOp.{BinaryOp}
+use Rattle.rgo_sound.specs.Ast.declared.ops.BinaryOp.TheVariants as binary
+use Rattle.rgo_sound.specs.Typed.declared.types.Type.{«Type»}
+use Rattle.rgo_sound.specs.Typed.declared.types.Base.TheVariants as base
+use Rattle.rgo_sound.specs.Typed.Types.{is_pointer_like}
+use Rattle.rgo_sound.specs.WellFormed.TypeRules.{int, bool}
+use Rattle.rgo_sound.specs.Memory.declared.traps.Trap.{Trap}
+use Rattle.rgo_sound.specs.Memory.declared.traps.Trap.TheVariants.{DivideZero}
+use Rattle.rgo_sound.specs.Memory.declared.values.Value.{Value}
+use Rattle.rgo_sound.specs.Memory.declared.values.Value.TheVariants as value
+use Rattle.rgo_sound.specs.Memory.Operators.{on_ints, binary_of, divided, same_bool}
 use Rattle.rgo_sound.specs.Types.{HasKind}
 use Rattle.rgo_sound.proofs.Places.{get_front}
 use Rattle.rgo_core_frames.specs.Operators.{binary_on_words, word_in, word_of}

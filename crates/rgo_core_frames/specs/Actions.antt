@@ -1,22 +1,22 @@
 -- Actions that touch words, given what the memory's part says of what they read or make.
-use Rattle.rgo_code.specs.Code.{Code, CodeFn, CodeInstr, Do}
-use Rattle.rgo_code.specs.Erasure.{erased, erased_fn}
-use Rattle.rgo_code.specs.Types.{HasType}
-use Rattle.rgo_memory.specs.Effects.{Does}
-use Rattle.rgo_memory.specs.Fields.{field_of}
-use Rattle.rgo_memory.specs.Memory.{Memory}
-use Rattle.rgo_memory.specs.declared.values.Value.{Value}
-use Rattle.rgo_region_machine.specs.Objects.{allotted, making_region}
-use Rattle.rgo_region_machine.specs.Owed.{function_at, function_of}
-use Rattle.rgo_region_machine.specs.States.{Holder, top_names}
-use Rattle.rgo_region_machine.specs.declared.regions.Region.{Region}
+use Rattle.rgo_sound.specs.Code.Code.{Code, CodeFn, CodeInstr, Do}
+use Rattle.rgo_sound.specs.Code.Erasure.{erased, erased_fn}
+use Rattle.rgo_sound.specs.Code.Types.{HasType}
+use Rattle.rgo_sound.specs.Memory.Effects.{Does}
+use Rattle.rgo_sound.specs.Memory.Fields.{field_of}
+use Rattle.rgo_sound.specs.Memory.Memory.{Memory}
+use Rattle.rgo_sound.specs.Memory.declared.values.Value.{Value}
+use Rattle.rgo_sound.specs.RegionMachine.Objects.{allotted, making_region}
+use Rattle.rgo_sound.specs.RegionMachine.Owed.{function_at, function_of}
+use Rattle.rgo_sound.specs.RegionMachine.States.{Holder, top_names}
+use Rattle.rgo_sound.specs.RegionMachine.declared.regions.Region.{Region}
 use Rattle.rgo_sound.proofs.Acting.{performed}
-use Rattle.rgo_tac.specs.Frames.{values_of}
-use Rattle.rgo_tac.specs.Steps.{type_of}
-use Rattle.rgo_typed.specs.Types.{is_pointer_like}
-use Rattle.rgo_typed.specs.declared.actions.Action.TheVariants as action
-use Rattle.rgo_typed.specs.declared.actions.Action.{Action}
-use Rattle.rgo_typed.specs.declared.types.Type.{«Type»}
+use Rattle.rgo_sound.specs.Tac.Frames.{values_of}
+use Rattle.rgo_sound.specs.Tac.Steps.{type_of}
+use Rattle.rgo_sound.specs.Typed.Types.{is_pointer_like}
+use Rattle.rgo_sound.specs.Typed.declared.actions.Action.TheVariants as action
+use Rattle.rgo_sound.specs.Typed.declared.actions.Action.{Action}
+use Rattle.rgo_sound.specs.Typed.declared.types.Type.{«Type»}
 use Rattle.std.specs.Prelude.{List, Option, Some, [], length, slice_get, slice_set, suc, true, ℕ, ◌++◌, ◌∷◌, ◌≡◌}
 use Rattle.rgo_core_frames.specs.Fits.{IsOfLive, ObjectsDiffer}
 use Rattle.rgo_core_frames.specs.Records.{Rec, after_op}

@@ -1,16 +1,16 @@
 -- A goroutine before an instruction, and what its record says of it.
-use Rattle.rgo_code.specs.Code.{Code, CodeInstr}
-use Rattle.rgo_code.specs.Erasure.{erased_op}
-use Rattle.rgo_memory.specs.declared.values.Value.TheVariants as value
-use Rattle.rgo_region_machine.specs.Duties.{may_go}
-use Rattle.rgo_region_machine.specs.Owed.{current}
-use Rattle.rgo_region_machine.specs.States.{Holder, RegionState}
-use Rattle.rgo_region_machine.specs.declared.regions.Region.{Region}
+use Rattle.rgo_sound.specs.Code.Code.{Code, CodeInstr}
+use Rattle.rgo_sound.specs.Code.Erasure.{erased_op}
+use Rattle.rgo_sound.specs.Memory.declared.values.Value.TheVariants as value
+use Rattle.rgo_sound.specs.RegionMachine.Duties.{may_go}
+use Rattle.rgo_sound.specs.RegionMachine.Owed.{current}
+use Rattle.rgo_sound.specs.RegionMachine.States.{Holder, RegionState}
+use Rattle.rgo_sound.specs.RegionMachine.declared.regions.Region.{Region}
 use Rattle.rgo_sound.specs.NextNames.{HasStake}
 use Rattle.rgo_sound.specs.Types.{FramesHaveKinds, MemoryFits}
-use Rattle.rgo_tac.specs.Flow.{reads}
-use Rattle.rgo_tac.specs.Frames.{Frame, value_at}
-use Rattle.rgo_typed.specs.declared.types.Type.{«Type»}
+use Rattle.rgo_sound.specs.Tac.Flow.{reads}
+use Rattle.rgo_sound.specs.Tac.Frames.{Frame, value_at}
+use Rattle.rgo_sound.specs.Typed.declared.types.Type.{«Type»}
 use Rattle.std.specs.Prelude.{Contains, List, Some, [], slice_get, true, ℕ, ◌∷◌, ◌≡◌}
 use Rattle.rgo_core_frames.specs.Records.{Rec}
 use Rattle.rgo_core_frames.specs.Shown.{CallersShow, NewestShows}

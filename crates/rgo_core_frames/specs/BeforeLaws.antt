@@ -1,8 +1,8 @@
 -- When a goroutine is before an instruction, told by its record.
-use Rattle.rgo_code.specs.Code.{CodeInstr}
-use Rattle.rgo_region_machine.specs.Duties.{may_go}
-use Rattle.rgo_region_machine.specs.Owed.{current}
-use Rattle.rgo_region_machine.specs.States.{Holder, NoOffer}
+use Rattle.rgo_sound.specs.Code.Code.{CodeInstr}
+use Rattle.rgo_sound.specs.RegionMachine.Duties.{may_go}
+use Rattle.rgo_sound.specs.RegionMachine.Owed.{current}
+use Rattle.rgo_sound.specs.RegionMachine.States.{Holder, NoOffer}
 use Rattle.std.specs.Prelude.{List, Some, [], slice_get, true, ◌∷◌, ◌≡◌, ◌⊎◌}
 use Rattle.rgo_core_frames.specs.Before.{IsBefore}
 use Rattle.rgo_core_frames.specs.States.{Here}

@@ -1,9 +1,9 @@
 -- The start of a goroutine: the parent's record, and the child's.
-use Rattle.rgo_code.specs.Code.{Code, CodeFn, CodeOp, Go}
-use Rattle.rgo_region_machine.specs.Instructions.{child_holder}
-use Rattle.rgo_region_machine.specs.Owed.{function_of}
-use Rattle.rgo_region_machine.specs.States.{Holder}
-use Rattle.rgo_tac.specs.declared.regions.Class.{Class}
+use Rattle.rgo_sound.specs.Code.Code.{Code, CodeFn, CodeOp, Go}
+use Rattle.rgo_sound.specs.RegionMachine.Instructions.{child_holder}
+use Rattle.rgo_sound.specs.RegionMachine.Owed.{function_of}
+use Rattle.rgo_sound.specs.RegionMachine.States.{Holder}
+use Rattle.rgo_sound.specs.Tac.declared.regions.Class.{Class}
 use Rattle.std.specs.Prelude.{List, Some, [], map, slice_set, ℕ, ◌++◌, ◌∷◌, ◌≡◌}
 use Rattle.rgo_core_frames.specs.Prints.{gone_on}
 use Rattle.rgo_core_frames.specs.Records.{Rec}

@@ -1,11 +1,11 @@
 -- The constants of code: each is one of 64 bits.
 use Rattle.std.specs.Int.{w64}
 use Rattle.std.specs.Prelude.{All, FitsSigned, List, Option, Some, slice_get, ℕ, ℤ, ◌≡◌, ⊤}
-use Rattle.rgo_code.specs.Code.{Code, CodeFn, CodeInstr, Do}
-use Rattle.rgo_tac.specs.Code.{Instr, Op, TacFn}
-use Rattle.rgo_tac.specs.Code as tac
-use Rattle.rgo_typed.specs.declared.actions.Action.TheVariants as action
-use Rattle.rgo_typed.specs.declared.actions.Action.{Action}
+use Rattle.rgo_sound.specs.Code.Code.{Code, CodeFn, CodeInstr, Do}
+use Rattle.rgo_sound.specs.Tac.Code.{Instr, Op, TacFn}
+use Rattle.rgo_sound.specs.Tac.Code as tac
+use Rattle.rgo_sound.specs.Typed.declared.actions.Action.TheVariants as action
+use Rattle.rgo_sound.specs.Typed.declared.actions.Action.{Action}
 
 -- each constant is one of 64 bits
 abbrev pub ConstantsFit : Code → Type 0

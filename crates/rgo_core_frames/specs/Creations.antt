@@ -1,8 +1,8 @@
 -- A region is created, at a slot that no live region has.
-use Rattle.rgo_region_machine.specs.Machine.{Attend}
-use Rattle.rgo_region_machine.specs.Regions.{is_live, unbind}
-use Rattle.rgo_region_machine.specs.States.{Create, Duty, RegionState, top_names, with_top}
-use Rattle.rgo_region_machine.specs.declared.regions.Region.TheVariants.{Numbered}
+use Rattle.rgo_sound.specs.RegionMachine.Machine.{Attend}
+use Rattle.rgo_sound.specs.RegionMachine.Regions.{is_live, unbind}
+use Rattle.rgo_sound.specs.RegionMachine.States.{Create, Duty, RegionState, top_names, with_top}
+use Rattle.rgo_sound.specs.RegionMachine.declared.regions.Region.TheVariants.{Numbered}
 use Rattle.std.specs.Prelude.{List, [], length, slice_set, true, ℕ, ◌++◌, ◌<◌, ◌∷◌, ◌≡◌, ◌≢◌}
 use Rattle.rgo_core_frames.specs.Records.{Rec}
 use Rattle.rgo_core_frames.specs.States.{Here}

@@ -1,18 +1,18 @@
 -- Ends of a run but for the return of `main`, which is a local step: a trap, and an end that is no instruction's. The records fit
 -- after each.
-use Rattle.rgo_code.specs.Code.{Do}
-use Rattle.rgo_code.specs.Erasure.{erased}
-use Rattle.rgo_machine.specs.declared.picks.End.TheVariants.{Trap as TrapEnd}
-use Rattle.rgo_machine.specs.declared.picks.Pick.TheVariants.{One}
-use Rattle.rgo_memory.specs.Effects.{Traps}
-use Rattle.rgo_memory.specs.declared.traps.Trap.{Trap}
-use Rattle.rgo_region_machine.specs.Instructions.{marked}
-use Rattle.rgo_region_machine.specs.Machine.{Finish, Instruct, finished}
-use Rattle.rgo_region_machine.specs.declared.limits.Limit.{Limit}
+use Rattle.rgo_sound.specs.Code.Code.{Do}
+use Rattle.rgo_sound.specs.Code.Erasure.{erased}
+use Rattle.rgo_sound.specs.Machine.declared.picks.End.TheVariants.{Trap as TrapEnd}
+use Rattle.rgo_sound.specs.Machine.declared.picks.Pick.TheVariants.{One}
+use Rattle.rgo_sound.specs.Memory.Effects.{Traps}
+use Rattle.rgo_sound.specs.Memory.declared.traps.Trap.{Trap}
+use Rattle.rgo_sound.specs.RegionMachine.Instructions.{marked}
+use Rattle.rgo_sound.specs.RegionMachine.Machine.{Finish, Instruct, finished}
+use Rattle.rgo_sound.specs.RegionMachine.declared.limits.Limit.{Limit}
 use Rattle.rgo_sound.proofs.Acting.{performed, trap_place}
-use Rattle.rgo_tac.specs.Frames.{values_of}
-use Rattle.rgo_tac.specs.Steps.{type_of}
-use Rattle.rgo_typed.specs.declared.actions.Action.{Action}
+use Rattle.rgo_sound.specs.Tac.Frames.{values_of}
+use Rattle.rgo_sound.specs.Tac.Steps.{type_of}
+use Rattle.rgo_sound.specs.Typed.declared.actions.Action.{Action}
 use Rattle.std.specs.Prelude.{List, Option, Some, ℕ, ◌≡◌}
 use Rattle.rgo_core_frames.specs.States.{AtInstruction, Here}
 use Rattle.rgo_core_frames.specs.Steps.{StepsTo}

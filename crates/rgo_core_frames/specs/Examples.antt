@@ -2,22 +2,22 @@
 use Rattle.std.specs.Option.{option_map}
 use Rattle.std.specs.Prelude.{FitsSigned, List, None, Option, Some, [], false, negsuc, option_and_then, pos, true, ℕ, ℤ, ◌+◌, ◌∷◌, ◌≡◌}
 use Rattle.std.specs.Int.{w64}
-use Rattle.rgo_ast.specs.declared.ops.BinaryOp.TheVariants.{Add, Div, Sub}
-use Rattle.rgo_typed.specs.declared.actions.Action.TheVariants as action
-use Rattle.rgo_memory.specs.Memory.{Channel, SliceObject, StructObject}
-use Rattle.rgo_memory.specs.declared.values.Value.TheVariants as value
-use Rattle.rgo_machine.specs.declared.picks.End.TheVariants.{Exit}
-use Rattle.rgo_tac.specs.declared.regions.Class.TheVariants.{NoClass}
-use Rattle.rgo_wellformed.specs.TypeRules.{bool}
-use Rattle.rgo_code.specs.Code.{Code, Do}
-use Rattle.rgo_region_machine.specs.declared.regions.Region.{Region}
-use Rattle.rgo_region_machine.specs.declared.regions.Region.TheVariants.{Numbered}
-use Rattle.rgo_region_machine.specs.Examples.{code_of, int_slot, main_of, passed_twice, plain}
-use Rattle.rgo_machine.specs.declared.picks.Pick.TheVariants.{One}
-use Rattle.rgo_region_machine.specs.Machine.{Attend, Instruct, region_start}
-use Rattle.rgo_region_machine.specs.Owed.{function_of}
-use Rattle.rgo_region_machine.specs.Regions.{RegionInfo}
-use Rattle.rgo_region_machine.specs.States.{Create, Duty, Holder, Remove, Share, Standing}
+use Rattle.rgo_sound.specs.Ast.declared.ops.BinaryOp.TheVariants.{Add, Div, Sub}
+use Rattle.rgo_sound.specs.Typed.declared.actions.Action.TheVariants as action
+use Rattle.rgo_sound.specs.Memory.Memory.{Channel, SliceObject, StructObject}
+use Rattle.rgo_sound.specs.Memory.declared.values.Value.TheVariants as value
+use Rattle.rgo_sound.specs.Machine.declared.picks.End.TheVariants.{Exit}
+use Rattle.rgo_sound.specs.Tac.declared.regions.Class.TheVariants.{NoClass}
+use Rattle.rgo_sound.specs.WellFormed.TypeRules.{bool}
+use Rattle.rgo_sound.specs.Code.Code.{Code, Do}
+use Rattle.rgo_sound.specs.RegionMachine.declared.regions.Region.{Region}
+use Rattle.rgo_sound.specs.RegionMachine.declared.regions.Region.TheVariants.{Numbered}
+use Rattle.rgo_sound.specs.RegionMachine.Examples.{code_of, int_slot, main_of, passed_twice, plain}
+use Rattle.rgo_sound.specs.Machine.declared.picks.Pick.TheVariants.{One}
+use Rattle.rgo_sound.specs.RegionMachine.Machine.{Attend, Instruct, region_start}
+use Rattle.rgo_sound.specs.RegionMachine.Owed.{function_of}
+use Rattle.rgo_sound.specs.RegionMachine.Regions.{RegionInfo}
+use Rattle.rgo_sound.specs.RegionMachine.States.{Create, Duty, Holder, Remove, Share, Standing}
 use Rattle.rgo_core_frames.specs.Creations.{GivesSlot}
 use Rattle.rgo_core_frames.specs.Fits.{AllFit, ObjectsDiffer, SlotsDiffer}
 use Rattle.rgo_core_frames.specs.Ints.{IntFits, ObjectIntsFit}

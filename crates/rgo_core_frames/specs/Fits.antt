@@ -1,15 +1,15 @@
 -- How records stand for the goroutines of the region machine.
-use Rattle.rgo_code.specs.Code.{Code, CodeInstr, Do}
-use Rattle.rgo_memory.specs.declared.values.Value.TheVariants.{Nil}
-use Rattle.rgo_region_machine.specs.Duties.{may_go}
-use Rattle.rgo_region_machine.specs.Instructions.{holder_after}
-use Rattle.rgo_region_machine.specs.Owed.{current}
-use Rattle.rgo_region_machine.specs.Regions.{RegionInfo, is_live}
-use Rattle.rgo_region_machine.specs.States.{Holder, RegionState, Standing, Taken}
-use Rattle.rgo_region_machine.specs.declared.regions.Region.TheVariants.{Numbered}
-use Rattle.rgo_region_machine.specs.declared.regions.Region.{Region}
-use Rattle.rgo_tac.specs.Frames.{Frame, going}
-use Rattle.rgo_typed.specs.declared.actions.Action.TheVariants.{Send}
+use Rattle.rgo_sound.specs.Code.Code.{Code, CodeInstr, Do}
+use Rattle.rgo_sound.specs.Memory.declared.values.Value.TheVariants.{Nil}
+use Rattle.rgo_sound.specs.RegionMachine.Duties.{may_go}
+use Rattle.rgo_sound.specs.RegionMachine.Instructions.{holder_after}
+use Rattle.rgo_sound.specs.RegionMachine.Owed.{current}
+use Rattle.rgo_sound.specs.RegionMachine.Regions.{RegionInfo, is_live}
+use Rattle.rgo_sound.specs.RegionMachine.States.{Holder, RegionState, Standing, Taken}
+use Rattle.rgo_sound.specs.RegionMachine.declared.regions.Region.TheVariants.{Numbered}
+use Rattle.rgo_sound.specs.RegionMachine.declared.regions.Region.{Region}
+use Rattle.rgo_sound.specs.Tac.Frames.{Frame, going}
+use Rattle.rgo_sound.specs.Typed.declared.actions.Action.TheVariants.{Send}
 use Rattle.std.specs.Prelude.{List, Option, Some, [], length, slice_get, true, ℕ, ◌∷◌, ◌≡◌, ◌⊎◌}
 use Rattle.rgo_core_frames.specs.Records.{Rec}
 use Rattle.rgo_core_frames.specs.Shown.{FramesShow}

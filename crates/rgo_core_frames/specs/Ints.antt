@@ -1,13 +1,13 @@
 -- Ints are of 64 bits, in memory and in frames.
-use Rattle.rgo_code.specs.Code.{Code}
-use Rattle.rgo_memory.specs.Memory.{Channel, Memory, Object, SliceObject, StructObject}
-use Rattle.rgo_memory.specs.declared.values.Value.TheVariants as value
-use Rattle.rgo_memory.specs.declared.values.Value.{Value}
-use Rattle.rgo_region_machine.specs.Machine.{Event, region_start, region_step}
-use Rattle.rgo_region_machine.specs.States.{RegionState}
+use Rattle.rgo_sound.specs.Code.Code.{Code}
+use Rattle.rgo_sound.specs.Memory.Memory.{Channel, Memory, Object, SliceObject, StructObject}
+use Rattle.rgo_sound.specs.Memory.declared.values.Value.TheVariants as value
+use Rattle.rgo_sound.specs.Memory.declared.values.Value.{Value}
+use Rattle.rgo_sound.specs.RegionMachine.Machine.{Event, region_start, region_step}
+use Rattle.rgo_sound.specs.RegionMachine.States.{RegionState}
 use Rattle.rgo_sound.specs.Types.{Each}
-use Rattle.rgo_tac.specs.Frames.{Frame}
-use Rattle.rgo_tac.specs.Tac.{TacState}
+use Rattle.rgo_sound.specs.Tac.Frames.{Frame}
+use Rattle.rgo_sound.specs.Tac.Tac.{TacState}
 use Rattle.std.specs.Int.{w64}
 use Rattle.std.specs.Prelude.{FitsSigned, List, Some, length, pos, ℕ, ◌≡◌}
 use Rattle.rgo_core_frames.specs.Constants.{ConstantsFit}

@@ -1,11 +1,11 @@
 -- Local steps of a record are steps of the region machine.
-use Rattle.rgo_code.specs.Code.{Code}
-use Rattle.rgo_machine.specs.declared.picks.End.TheVariants.{Exit}
-use Rattle.rgo_machine.specs.declared.picks.End.{End}
-use Rattle.rgo_machine.specs.declared.picks.Pick.TheVariants.{One}
-use Rattle.rgo_region_machine.specs.Instructions.{marked}
-use Rattle.rgo_region_machine.specs.Machine.{Attend, Event, Instruct}
-use Rattle.rgo_region_machine.specs.States.{Duty}
+use Rattle.rgo_sound.specs.Code.Code.{Code}
+use Rattle.rgo_sound.specs.Machine.declared.picks.End.TheVariants.{Exit}
+use Rattle.rgo_sound.specs.Machine.declared.picks.End.{End}
+use Rattle.rgo_sound.specs.Machine.declared.picks.Pick.TheVariants.{One}
+use Rattle.rgo_sound.specs.RegionMachine.Instructions.{marked}
+use Rattle.rgo_sound.specs.RegionMachine.Machine.{Attend, Event, Instruct}
+use Rattle.rgo_sound.specs.RegionMachine.States.{Duty}
 use Rattle.std.specs.Prelude.{List, None, Option, Some, [], slice_set, suc, zero, ℕ, ◌∷◌, ◌≡◌}
 use Rattle.rgo_core_frames.specs.Constants.{ConstantsFit}
 use Rattle.rgo_core_frames.specs.Local.{local}

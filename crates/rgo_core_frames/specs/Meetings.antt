@@ -1,15 +1,15 @@
 -- Offers on channels without a buffer: made, taken by a receiver, and acknowledged.
-use Rattle.rgo_code.specs.Code.{CodeInstr, Do}
-use Rattle.rgo_machine.specs.declared.picks.Pick.TheVariants.{Meet}
-use Rattle.rgo_memory.specs.Channels.{is_meeting_at}
-use Rattle.rgo_memory.specs.declared.values.Value.TheVariants as value
-use Rattle.rgo_region_machine.specs.Machine.{Acknowledge, Instruct, MakeOffer}
-use Rattle.rgo_region_machine.specs.Offers.{offers_on}
-use Rattle.rgo_region_machine.specs.Owed.{current}
-use Rattle.rgo_region_machine.specs.States.{Holder, NoOffer, Standing, Taken}
+use Rattle.rgo_sound.specs.Code.Code.{CodeInstr, Do}
+use Rattle.rgo_sound.specs.Machine.declared.picks.Pick.TheVariants.{Meet}
+use Rattle.rgo_sound.specs.Memory.Channels.{is_meeting_at}
+use Rattle.rgo_sound.specs.Memory.declared.values.Value.TheVariants as value
+use Rattle.rgo_sound.specs.RegionMachine.Machine.{Acknowledge, Instruct, MakeOffer}
+use Rattle.rgo_sound.specs.RegionMachine.Offers.{offers_on}
+use Rattle.rgo_sound.specs.RegionMachine.Owed.{current}
+use Rattle.rgo_sound.specs.RegionMachine.States.{Holder, NoOffer, Standing, Taken}
 use Rattle.rgo_sound.specs.Offers.{StandsAtSend}
-use Rattle.rgo_tac.specs.Frames.{value_at}
-use Rattle.rgo_typed.specs.declared.actions.Action.TheVariants.{Recv, Send}
+use Rattle.rgo_sound.specs.Tac.Frames.{value_at}
+use Rattle.rgo_sound.specs.Typed.declared.actions.Action.TheVariants.{Recv, Send}
 use Rattle.std.specs.List.{list_any}
 use Rattle.std.specs.Prelude.{List, Option, Some, [], false, slice_get, slice_set, true, ℕ, ◌∷◌, ◌≡◌}
 use Rattle.rgo_core_frames.specs.Actions.{acted, after_action}

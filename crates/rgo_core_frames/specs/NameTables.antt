@@ -1,6 +1,6 @@
 -- The names of a frame in a table, as it runs: at each name's number its region, or none.
-use Rattle.rgo_region_machine.specs.Regions.{Bindings, bound, unbind, without_all}
-use Rattle.rgo_region_machine.specs.declared.regions.Region.{Region}
+use Rattle.rgo_sound.specs.RegionMachine.Regions.{Bindings, bound, unbind, without_all}
+use Rattle.rgo_sound.specs.RegionMachine.declared.regions.Region.{Region}
 use Rattle.std.specs.Prelude.{List, None, Option, Some, [], get_or, length, slice_set, ℕ, ◌<◌, ◌∷◌, ◌≡◌}
 
 abbrev pub NameTable : Type 0

@@ -1,10 +1,10 @@
 -- The record with which a run begins: `main` before its first instruction.
-use Rattle.rgo_code.specs.Code.{Code, CodeFn}
-use Rattle.rgo_code.specs.Erasure.{erased, erased_fn}
-use Rattle.rgo_region_machine.specs.Machine.{main_holder, region_start}
-use Rattle.rgo_tac.specs.Frames.{called}
-use Rattle.rgo_tac.specs.Tac.{main_frames}
-use Rattle.rgo_region_machine.specs.States.{NoOffer}
+use Rattle.rgo_sound.specs.Code.Code.{Code, CodeFn}
+use Rattle.rgo_sound.specs.Code.Erasure.{erased, erased_fn}
+use Rattle.rgo_sound.specs.RegionMachine.Machine.{main_holder, region_start}
+use Rattle.rgo_sound.specs.Tac.Frames.{called}
+use Rattle.rgo_sound.specs.Tac.Tac.{main_frames}
+use Rattle.rgo_sound.specs.RegionMachine.States.{NoOffer}
 use Rattle.std.specs.Prelude.{[], ℕ, ◌∷◌, ◌≡◌}
 use Rattle.rgo_core_frames.specs.Fits.{AllFit}
 use Rattle.rgo_core_frames.specs.Records.{Rec}

@@ -1,18 +1,18 @@
 -- What the words of operands say: which int they are, and which object they point to.
-use Rattle.rgo_code.specs.Code.{CodeFn}
-use Rattle.rgo_code.specs.Erasure.{erased_fn, erased_op}
-use Rattle.rgo_code.specs.Types.{HasType}
-use Rattle.rgo_memory.specs.declared.values.Value.TheVariants as value
-use Rattle.rgo_memory.specs.declared.values.Value.{Value}
-use Rattle.rgo_region_machine.specs.Owed.{function_of}
-use Rattle.rgo_region_machine.specs.States.{Holder, RegionState}
-use Rattle.rgo_region_machine.specs.declared.regions.Region.{Region}
+use Rattle.rgo_sound.specs.Code.Code.{CodeFn}
+use Rattle.rgo_sound.specs.Code.Erasure.{erased_fn, erased_op}
+use Rattle.rgo_sound.specs.Code.Types.{HasType}
+use Rattle.rgo_sound.specs.Memory.declared.values.Value.TheVariants as value
+use Rattle.rgo_sound.specs.Memory.declared.values.Value.{Value}
+use Rattle.rgo_sound.specs.RegionMachine.Owed.{function_of}
+use Rattle.rgo_sound.specs.RegionMachine.States.{Holder, RegionState}
+use Rattle.rgo_sound.specs.RegionMachine.declared.regions.Region.{Region}
 use Rattle.rgo_sound.specs.NextNames.{HasStake}
-use Rattle.rgo_tac.specs.Flow.{reads}
-use Rattle.rgo_tac.specs.Frames.{value_at}
-use Rattle.rgo_typed.specs.Types.{is_pointer_like}
-use Rattle.rgo_typed.specs.declared.types.Type.{«Type»}
-use Rattle.rgo_wellformed.specs.TypeRules.{int}
+use Rattle.rgo_sound.specs.Tac.Flow.{reads}
+use Rattle.rgo_sound.specs.Tac.Frames.{value_at}
+use Rattle.rgo_sound.specs.Typed.Types.{is_pointer_like}
+use Rattle.rgo_sound.specs.Typed.declared.types.Type.{«Type»}
+use Rattle.rgo_sound.specs.WellFormed.TypeRules.{int}
 use Rattle.std.specs.Int.{cast_signed, w64}
 use Rattle.std.specs.Prelude.{Contains, List, Some, slice_get, suc, true, ℕ, ◌≡◌}
 use Rattle.rgo_core_frames.specs.States.{AtInstruction}

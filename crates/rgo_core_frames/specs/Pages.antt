@@ -1,9 +1,9 @@
 -- A page is taken: the records fit after it, since they have nothing of pages.
-use Rattle.rgo_region_machine.specs.Machine.{TakePage, next_object, page_taken, region_step}
-use Rattle.rgo_region_machine.specs.Objects.{fill_of, making_region, wants_page}
-use Rattle.rgo_region_machine.specs.Owed.{function_at}
-use Rattle.rgo_region_machine.specs.States.{top_names}
-use Rattle.rgo_region_machine.specs.declared.regions.Region.{Region}
+use Rattle.rgo_sound.specs.RegionMachine.Machine.{TakePage, next_object, page_taken, region_step}
+use Rattle.rgo_sound.specs.RegionMachine.Objects.{fill_of, making_region, wants_page}
+use Rattle.rgo_sound.specs.RegionMachine.Owed.{function_at}
+use Rattle.rgo_sound.specs.RegionMachine.States.{top_names}
+use Rattle.rgo_sound.specs.RegionMachine.declared.regions.Region.{Region}
 use Rattle.std.specs.Prelude.{Some, true, ◌≡◌}
 use Rattle.rgo_core_frames.specs.Fits.{AllFit}
 use Rattle.rgo_core_frames.specs.States.{AtInstruction}

@@ -1,16 +1,16 @@
 -- A print: its bytes from the words and the static types of its operands.
-use Rattle.rgo_code.specs.Code.{CodeFn, Print, Slot}
-use Rattle.rgo_machine.specs.Lines.{line_of}
-use Rattle.rgo_memory.specs.declared.values.Value.TheVariants as value
-use Rattle.rgo_memory.specs.declared.values.Value.{Value}
-use Rattle.rgo_region_machine.specs.Owed.{function_of}
-use Rattle.rgo_typed.specs.declared.statements.Piece.{Piece}
-use Rattle.rgo_typed.specs.declared.types.Base.TheVariants as base
-use Rattle.rgo_typed.specs.declared.types.Layer.{Layer}
+use Rattle.rgo_sound.specs.Code.Code.{CodeFn, Print, Slot}
+use Rattle.rgo_sound.specs.Machine.Lines.{line_of}
+use Rattle.rgo_sound.specs.Memory.declared.values.Value.TheVariants as value
+use Rattle.rgo_sound.specs.Memory.declared.values.Value.{Value}
+use Rattle.rgo_sound.specs.RegionMachine.Owed.{function_of}
+use Rattle.rgo_sound.specs.Typed.declared.statements.Piece.{Piece}
+use Rattle.rgo_sound.specs.Typed.declared.types.Base.TheVariants as base
+use Rattle.rgo_sound.specs.Typed.declared.types.Layer.{Layer}
 use Rattle.std.specs.Int.{cast_signed, w64}
 use Rattle.std.specs.Prelude.{List, None, Option, Some, [], map, slice_get, slice_set, ℕ, ◌+◌, ◌∷◌, ◌≡◌}
 use Rattle.rgo_core_frames.specs.Records.{Rec, after_op}
-use Rattle.rgo_typed.specs.declared.types.Base.{Base}
+use Rattle.rgo_sound.specs.Typed.declared.types.Base.{Base}
 use Rattle.rgo_core_frames.specs.States.{AtInstruction}
 use Rattle.rgo_core_frames.specs.Steps.{Performs}
 use Rattle.rgo_core_frames.specs.WordFrames.{WordFrame, is_set, word_at, word_moved}

@@ -1,7 +1,7 @@
 -- The record of a goroutine: its frames in words, and what it has of the regions by their slots.
-use Rattle.rgo_code.specs.Code.{Code, CodeOp}
-use Rattle.rgo_region_machine.specs.Instructions.{holder_after}
-use Rattle.rgo_region_machine.specs.States.{Holder}
+use Rattle.rgo_sound.specs.Code.Code.{Code, CodeOp}
+use Rattle.rgo_sound.specs.RegionMachine.Instructions.{holder_after}
+use Rattle.rgo_sound.specs.RegionMachine.States.{Holder}
 use Rattle.std.specs.Prelude.{List}
 use Rattle.rgo_core_frames.specs.WordFrames.{WordFrame, bare, bare_all}
 

@@ -1,10 +1,10 @@
 -- How words stand for the variables of frames: those of live variables show their values.
-use Rattle.rgo_code.specs.Code.{Code, CodeFn, CodeInstr}
-use Rattle.rgo_code.specs.Erasure.{erased_fn}
-use Rattle.rgo_flow.specs.Live.{Live}
-use Rattle.rgo_region_machine.specs.Owed.{current, function_at}
+use Rattle.rgo_sound.specs.Code.Code.{Code, CodeFn, CodeInstr}
+use Rattle.rgo_sound.specs.Code.Erasure.{erased_fn}
+use Rattle.rgo_sound.specs.Flow.Live.{Live}
+use Rattle.rgo_sound.specs.RegionMachine.Owed.{current, function_at}
 use Rattle.rgo_sound.specs.Values.{call_target}
-use Rattle.rgo_tac.specs.Frames.{Frame, value_at}
+use Rattle.rgo_sound.specs.Tac.Frames.{Frame, value_at}
 use Rattle.std.specs.Prelude.{List, None, Option, Some, [], length, ℕ, ◌+◌, ◌∷◌, ◌≡◌, ◌≢◌}
 use Rattle.rgo_core_frames.specs.WordFrames.{WordFrame, word_at}
 use Rattle.rgo_core_frames.specs.Words.{Shows}

@@ -1,8 +1,8 @@
 -- What a goroutine has of the regions, by the slots of these regions in place of their numbers.
-use Rattle.rgo_region_machine.specs.Regions.{Bindings}
-use Rattle.rgo_region_machine.specs.States.{Create, Duty, EndBase, Environment, Holder, NoOffer, Offer, Protect, Remove, Share, Standing, Taken, Unprotect}
-use Rattle.rgo_region_machine.specs.declared.regions.Region.TheVariants.{Global as GlobalRegion, Numbered}
-use Rattle.rgo_region_machine.specs.declared.regions.Region.{Region}
+use Rattle.rgo_sound.specs.RegionMachine.Regions.{Bindings}
+use Rattle.rgo_sound.specs.RegionMachine.States.{Create, Duty, EndBase, Environment, Holder, NoOffer, Offer, Protect, Remove, Share, Standing, Taken, Unprotect}
+use Rattle.rgo_sound.specs.RegionMachine.declared.regions.Region.TheVariants.{Global as GlobalRegion, Numbered}
+use Rattle.rgo_sound.specs.RegionMachine.declared.regions.Region.{Region}
 use Rattle.std.specs.Prelude.{List, [], map, ℕ}
 
 -- `slot_of` has the slot of each region

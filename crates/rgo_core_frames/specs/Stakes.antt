@@ -1,17 +1,17 @@
 -- The duties of a goroutine that touch the count of a region: the end of a stake, and a stake for a coming child.
-use Rattle.rgo_region_machine.specs.Duties.{guards}
-use Rattle.rgo_region_machine.specs.Machine.{Attend}
-use Rattle.rgo_region_machine.specs.Regions.{RegionInfo, bound, is_live, one_fewer, one_more, removed_once, unbind, with_info, without}
-use Rattle.rgo_region_machine.specs.States.{Create, Duty, EndBase, Holder, Protect, Remove, Share, Unprotect, top_names, with_top}
-use Rattle.rgo_region_machine.specs.declared.regions.Region.TheVariants.{Global as GlobalRegion, Numbered}
-use Rattle.rgo_region_machine.specs.declared.regions.Region.{Region}
+use Rattle.rgo_sound.specs.RegionMachine.Duties.{guards}
+use Rattle.rgo_sound.specs.RegionMachine.Machine.{Attend}
+use Rattle.rgo_sound.specs.RegionMachine.Regions.{RegionInfo, bound, is_live, one_fewer, one_more, removed_once, unbind, with_info, without}
+use Rattle.rgo_sound.specs.RegionMachine.States.{Create, Duty, EndBase, Holder, Protect, Remove, Share, Unprotect, top_names, with_top}
+use Rattle.rgo_sound.specs.RegionMachine.declared.regions.Region.TheVariants.{Global as GlobalRegion, Numbered}
+use Rattle.rgo_sound.specs.RegionMachine.declared.regions.Region.{Region}
 use Rattle.std.specs.List.{list_any}
 use Rattle.std.specs.Prelude.{List, None, Option, Some, if◌then◌else◌, nat_eq, option_and_then, slice_set, true, ℕ, ◌∷◌, ◌≡◌, slice_get}
 use Rattle.rgo_core_frames.specs.Records.{Rec}
 use Rattle.rgo_core_frames.specs.States.{Here}
 use Rattle.rgo_core_frames.specs.Steps.{HasStep}
-use Rattle.rgo_code.specs.Code.{Code}
-use Rattle.rgo_region_machine.specs.States.{RegionState}
+use Rattle.rgo_sound.specs.Code.Code.{Code}
+use Rattle.rgo_sound.specs.RegionMachine.States.{RegionState}
 
 -- the slot of the region in which a removal ends a stake, and the holder after it; none where it does nothing
 abbrev pub ended : Holder → Region → Option (ℕ × Holder)

@@ -1,9 +1,9 @@
 -- States of runs of checked code, as the laws want them; and one record among those that stand for such a state.
-use Rattle.rgo_code.specs.Checked.{IsChecked}
-use Rattle.rgo_code.specs.Code.{Code, CodeInstr}
-use Rattle.rgo_code.specs.NameRules.{Ascends}
-use Rattle.rgo_region_machine.specs.Machine.{Event, region_start, region_step}
-use Rattle.rgo_region_machine.specs.States.{RegionState}
+use Rattle.rgo_sound.specs.Code.Checked.{IsChecked}
+use Rattle.rgo_sound.specs.Code.Code.{Code, CodeInstr}
+use Rattle.rgo_sound.specs.Code.NameRules.{Ascends}
+use Rattle.rgo_sound.specs.RegionMachine.Machine.{Event, region_start, region_step}
+use Rattle.rgo_sound.specs.RegionMachine.States.{RegionState}
 use Rattle.rgo_sound.specs.Good.{AllGood}
 use Rattle.rgo_sound.specs.Owners.{OwnersMade}
 use Rattle.rgo_sound.specs.Running.{IsRunning}

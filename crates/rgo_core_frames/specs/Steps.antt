@@ -1,12 +1,12 @@
 -- A step of the region machine after which records fit, and what it leaves as it was.
-use Rattle.rgo_code.specs.Code.{Code}
-use Rattle.rgo_machine.specs.declared.picks.Pick.TheVariants.{One}
-use Rattle.rgo_memory.specs.Memory.{Memory}
-use Rattle.rgo_region_machine.specs.Instructions.{printed_if}
-use Rattle.rgo_region_machine.specs.Machine.{Acknowledge, Attend, Event, Finish, Instruct, MakeOffer, TakePage, region_step}
-use Rattle.rgo_region_machine.specs.Regions.{RegionInfo}
-use Rattle.rgo_region_machine.specs.States.{Holder, Mark, RegionState}
-use Rattle.rgo_region_machine.specs.declared.regions.Region.{Region}
+use Rattle.rgo_sound.specs.Code.Code.{Code}
+use Rattle.rgo_sound.specs.Machine.declared.picks.Pick.TheVariants.{One}
+use Rattle.rgo_sound.specs.Memory.Memory.{Memory}
+use Rattle.rgo_sound.specs.RegionMachine.Instructions.{printed_if}
+use Rattle.rgo_sound.specs.RegionMachine.Machine.{Acknowledge, Attend, Event, Finish, Instruct, MakeOffer, TakePage, region_step}
+use Rattle.rgo_sound.specs.RegionMachine.Regions.{RegionInfo}
+use Rattle.rgo_sound.specs.RegionMachine.States.{Holder, Mark, RegionState}
+use Rattle.rgo_sound.specs.RegionMachine.declared.regions.Region.{Region}
 use Rattle.rgo_sound.specs.Leaving.{ActsAlone, LeavesOthers}
 use Rattle.std.specs.Prelude.{List, Option, Some, slice_get, ℕ, ◌++◌, ◌≡◌, ◌+◌}
 use Rattle.rgo_core_frames.specs.Fits.{AllFit}

@@ -1,6 +1,6 @@
 -- Which value a word of 64 bits shows.
-use Rattle.rgo_memory.specs.declared.values.Value.TheVariants as value
-use Rattle.rgo_memory.specs.declared.values.Value.{Value}
+use Rattle.rgo_sound.specs.Memory.declared.values.Value.TheVariants as value
+use Rattle.rgo_sound.specs.Memory.declared.values.Value.{Value}
 use Rattle.std.specs.Int.{cast_signed, w64, from_bool}
 use Rattle.std.specs.Prelude.{List, Some, [], slice_get, suc, ℕ, ◌<◌, ◌^◌, ◌∷◌, ◌≡◌}
 

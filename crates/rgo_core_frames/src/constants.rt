@@ -2,11 +2,11 @@
 
 ghost use Rattle.std.specs.Prelude.{IfSome, slice_get};
 ghost use Rattle.rgo_core_frames.specs.Constants.{ActionFits, ConstantsFit, FnFits, InstrFits, OpFits};
-ghost use Rattle.rgo_tac.specs.Ops.{operation_of};
+ghost use Rattle.rgo_sound.specs.Tac.Ops.{operation_of};
 
-use rgo_code::Code;
-use rgo_tac::{Op, TacFn};
-use rgo_typed::Action;
+use rgo_sound::code::Code;
+use rgo_sound::tac::{Op, TacFn};
+use rgo_sound::typed::Action;
 
 fn action_fits(action: Action)
     ensures { ActionFits action }

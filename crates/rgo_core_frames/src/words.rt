@@ -3,8 +3,8 @@
 ghost use Rattle.std.specs.Prelude.{◌≡◌};
 ghost use Rattle.rgo_core_frames.specs.Operators.{binary_on_words, negated_word, word_of};
 
-use rgo_ast::BinaryOp;
-use rgo_memory::{Value, on_ints};
+use rgo_sound::ast::BinaryOp;
+use rgo_sound::memory::{Value, on_ints};
 
 /// The word of an int or of a bool.
 #[inline(always)]

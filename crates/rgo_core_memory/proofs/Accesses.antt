@@ -1,19 +1,19 @@
 -- Loads and stores are those of the region machine.
 use Rattle.std.proofs.Common.{◌≡◌, ℕ, zero, suc, ◌+◌, ◌<◌, Bool, true, List, [], ◌∷◌, length, max, pos, Option, Some, None, Ok, nat_lt, if◌then◌else◌, slice_get, slice_set, refl, ap, sym, subst, ◌∙◌, arith, true≢false}
-use Rattle.rgo_typed.specs.declared.actions.Action.{Action}
-use Rattle.rgo_typed.specs.declared.actions.Action.TheVariants as action
-use Rattle.rgo_code.specs.Code.{Code, Do}
-use Rattle.rgo_memory.specs.Effects.{Outcome, Does, Traps, answered, in_memory, to_object}
-use Rattle.rgo_memory.specs.Elements.{element_in, length_in, or_out_of_range, put_in, cell_put}
-use Rattle.rgo_memory.specs.Fields.{stored as field_stored, field_of, or_nil}
-use Rattle.rgo_memory.specs.Memory.{Memory as PlainMemory, Object, StructObject, SliceObject, with_object}
+use Rattle.rgo_sound.specs.Typed.declared.actions.Action.{Action}
+use Rattle.rgo_sound.specs.Typed.declared.actions.Action.TheVariants as action
+use Rattle.rgo_sound.specs.Code.Code.{Code, Do}
+use Rattle.rgo_sound.specs.Memory.Effects.{Outcome, Does, Traps, answered, in_memory, to_object}
+use Rattle.rgo_sound.specs.Memory.Elements.{element_in, length_in, or_out_of_range, put_in, cell_put}
+use Rattle.rgo_sound.specs.Memory.Fields.{stored as field_stored, field_of, or_nil}
+use Rattle.rgo_sound.specs.Memory.Memory.{Memory as PlainMemory, Object, StructObject, SliceObject, with_object}
 use Rattle.std.proofs.lemmas.Bool.Decides.{nat_tests}
-use Rattle.rgo_memory.specs.declared.traps.Trap.TheVariants.{IndexRange}
-use Rattle.rgo_memory.specs.declared.values.Value.{Value}
-use Rattle.rgo_memory.specs.declared.values.Value.TheVariants as value
-use Rattle.rgo_region_machine.specs.Objects.{may_touch, owner_live, touched, touched_by}
-use Rattle.rgo_region_machine.specs.States.{RegionState}
-use Rattle.rgo_region_machine.specs.declared.regions.Region.{Region}
+use Rattle.rgo_sound.specs.Memory.declared.traps.Trap.TheVariants.{IndexRange}
+use Rattle.rgo_sound.specs.Memory.declared.values.Value.{Value}
+use Rattle.rgo_sound.specs.Memory.declared.values.Value.TheVariants as value
+use Rattle.rgo_sound.specs.RegionMachine.Objects.{may_touch, owner_live, touched, touched_by}
+use Rattle.rgo_sound.specs.RegionMachine.States.{RegionState}
+use Rattle.rgo_sound.specs.RegionMachine.declared.regions.Region.{Region}
 use Rattle.rgo_sound.proofs.Places.{get_some, length_set}
 use Rattle.rgo_core_memory.specs.Accesses.{Before, StoreKeeps, PutKeeps, SetKeeps, LoadReads, AtReads, LenReads, GetReads}
 use Rattle.rgo_core_memory.specs.Encoding.{content, Changes}

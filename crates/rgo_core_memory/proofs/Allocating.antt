@@ -1,26 +1,26 @@
 -- The last opening store of an object's words is the allocation of the region machine.
 use Rattle.std.proofs.Common.{◌≡◌, ℕ, ◌+◌, ◌<◌, ◌≤◌, Bool, true, false, List, [], ◌∷◌, ◌++◌, map, length, set, replicate, pos, Option, Some, None, nat_le, if◌then◌else◌, slice_get, slice_set, refl, ap, sym, subst, ◌∙◌, ⊎_elim}
 use Rattle.std.proofs.lemmas.Option.{same_Some}
-use Rattle.rgo_typed.specs.declared.actions.Action.{Action}
-use Rattle.rgo_typed.specs.declared.actions.Action.TheVariants as action
-use Rattle.rgo_typed.specs.declared.programs.Struct.{Struct}
-use Rattle.rgo_code.specs.Code.{Code, CodeOp, Do}
-use Rattle.rgo_code.specs.Erasure.{erased}
-use Rattle.rgo_machine.specs.declared.picks.Pick.TheVariants.{One}
-use Rattle.rgo_memory.specs.Making.{made as made_effect, made_struct}
-use Rattle.rgo_memory.specs.Memory.{Memory as PlainMemory, Object, StructObject, SliceObject, Channel}
-use Rattle.rgo_memory.specs.Values.{zero_of, element_zero}
-use Rattle.rgo_memory.specs.declared.values.Value.{Value}
-use Rattle.rgo_memory.specs.declared.values.Value.TheVariants as value
-use Rattle.rgo_region_machine.specs.Machine.{Instruct, region_step}
-use Rattle.rgo_region_machine.specs.Objects.{words as words_of, making_region, fill_of, with_fill, allotted, placed}
-use Rattle.rgo_region_machine.specs.Owed.{function_at}
-use Rattle.rgo_region_machine.specs.States.{Holder, RegionState, top_names}
-use Rattle.rgo_region_machine.specs.declared.regions.Region.{Region}
+use Rattle.rgo_sound.specs.Typed.declared.actions.Action.{Action}
+use Rattle.rgo_sound.specs.Typed.declared.actions.Action.TheVariants as action
+use Rattle.rgo_sound.specs.Typed.declared.programs.Struct.{Struct}
+use Rattle.rgo_sound.specs.Code.Code.{Code, CodeOp, Do}
+use Rattle.rgo_sound.specs.Code.Erasure.{erased}
+use Rattle.rgo_sound.specs.Machine.declared.picks.Pick.TheVariants.{One}
+use Rattle.rgo_sound.specs.Memory.Making.{made as made_effect, made_struct}
+use Rattle.rgo_sound.specs.Memory.Memory.{Memory as PlainMemory, Object, StructObject, SliceObject, Channel}
+use Rattle.rgo_sound.specs.Memory.Values.{zero_of, element_zero}
+use Rattle.rgo_sound.specs.Memory.declared.values.Value.{Value}
+use Rattle.rgo_sound.specs.Memory.declared.values.Value.TheVariants as value
+use Rattle.rgo_sound.specs.RegionMachine.Machine.{Instruct, region_step}
+use Rattle.rgo_sound.specs.RegionMachine.Objects.{words as words_of, making_region, fill_of, with_fill, allotted, placed}
+use Rattle.rgo_sound.specs.RegionMachine.Owed.{function_at}
+use Rattle.rgo_sound.specs.RegionMachine.States.{Holder, RegionState, top_names}
+use Rattle.rgo_sound.specs.RegionMachine.declared.regions.Region.{Region}
 use Rattle.rgo_sound.proofs.Acting.{performed}
 use Rattle.rgo_sound.proofs.Places.{get_append_last}
 use Rattle.rgo_sound.specs.Good.{AllGood}
-use Rattle.rgo_tac.specs.Steps.{type_of}
+use Rattle.rgo_sound.specs.Tac.Steps.{type_of}
 use Rattle.rgo_core_memory.specs.declared.layout.TableSizes.{TableSizes}
 use Rattle.rgo_core_memory.specs.Words.{put, cell_at}
 use Rattle.rgo_core_memory.specs.Encoding.{content, opening, IsPlain}

@@ -2,21 +2,21 @@
 use Rattle.std.proofs.Common.{◌≡◌, ℕ, ◌+◌, Bool, true, false, ◌&&◌, List, [], ◌∷◌, ◌++◌, map, length, Option, Some, None, option_and_then, slice_get, slice_set, nat_eq, if◌then◌else◌, refl, ap, sym, subst, ◌∙◌, ⊎_elim, true≢false}
 use Rattle.std.proofs.lemmas.Option.{same_Some}
 use Rattle.std.specs.List.{list_any}
-use Rattle.rgo_code.specs.Code.{Code, CodeFn}
-use Rattle.rgo_tac.specs.Frames.{Frame}
-use Rattle.rgo_region_machine.specs.Duties.{attended, attend, duty_done, may_go, removal, shared as shared_state, guards}
-use Rattle.rgo_region_machine.specs.Instructions.{has_none}
-use Rattle.rgo_region_machine.specs.Machine.{Attend, TakePage, region_step, take_page, takes_page, page_for, page_taken as taken_state, next_object}
-use Rattle.rgo_region_machine.specs.Objects.{making_region, wants_page, fill_of, with_fill}
-use Rattle.rgo_region_machine.specs.Regions.{is_live, with_info, one_more, one_fewer, one_page_more, class_region, without, bound, unbind, removed_once}
-use Rattle.rgo_region_machine.specs.States.{Environment, Duty, Create, Share, Remove, EndBase, Holder, RegionState, top_names, with_top, frames_in, frames_of}
-use Rattle.rgo_region_machine.specs.declared.regions.Region.{Region}
-use Rattle.rgo_region_machine.specs.declared.regions.Region.TheVariants.{Global as GlobalRegion, Numbered}
+use Rattle.rgo_sound.specs.Code.Code.{Code, CodeFn}
+use Rattle.rgo_sound.specs.Tac.Frames.{Frame}
+use Rattle.rgo_sound.specs.RegionMachine.Duties.{attended, attend, duty_done, may_go, removal, shared as shared_state, guards}
+use Rattle.rgo_sound.specs.RegionMachine.Instructions.{has_none}
+use Rattle.rgo_sound.specs.RegionMachine.Machine.{Attend, TakePage, region_step, take_page, takes_page, page_for, page_taken as taken_state, next_object}
+use Rattle.rgo_sound.specs.RegionMachine.Objects.{making_region, wants_page, fill_of, with_fill}
+use Rattle.rgo_sound.specs.RegionMachine.Regions.{is_live, with_info, one_more, one_fewer, one_page_more, class_region, without, bound, unbind, removed_once}
+use Rattle.rgo_sound.specs.RegionMachine.States.{Environment, Duty, Create, Share, Remove, EndBase, Holder, RegionState, top_names, with_top, frames_in, frames_of}
+use Rattle.rgo_sound.specs.RegionMachine.declared.regions.Region.{Region}
+use Rattle.rgo_sound.specs.RegionMachine.declared.regions.Region.TheVariants.{Global as GlobalRegion, Numbered}
 use Rattle.rgo_sound.proofs.Offers.{making_class}
 use Rattle.rgo_sound.proofs.ValueSteps.{Top, top_of}
 use Rattle.rgo_sound.specs.Invariant.{GoodHolder}
-use Rattle.rgo_tac.specs.declared.regions.Class.{Class}
-use Rattle.rgo_tac.specs.declared.regions.Class.TheVariants.{NoClass, Global, Name}
+use Rattle.rgo_sound.specs.Tac.declared.regions.Class.{Class}
+use Rattle.rgo_sound.specs.Tac.declared.regions.Class.TheVariants.{NoClass, Global, Name}
 use Rattle.rgo_sound.specs.Good.{AllGood}
 use Rattle.rgo_core_memory.specs.Records.{with_give, without_slot, Owes}
 use Rattle.rgo_core_memory.specs.Ground.{Held, Uses, ground_of, held_of, created, shared, left, page_taken}

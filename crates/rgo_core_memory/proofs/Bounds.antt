@@ -1,15 +1,15 @@
 -- A region has at most two stakes for each goroutine, so its count stays small.
 use Rattle.std.proofs.Common.{◌≡◌, ◌≢◌, ℕ, zero, suc, ◌+◌, ◌≤◌, Bool, true, false, List, [], ◌∷◌, map, length, slice_index, Option, Some, None, slice_get, nat_eq, if◌then◌else◌, refl, subst, arith}
 use Rattle.std.specs.List.{list_any}
-use Rattle.rgo_code.specs.Code.{Code}
-use Rattle.rgo_region_machine.specs.Regions.{Bindings, RegionInfo, bound, unbind, is_live}
-use Rattle.rgo_region_machine.specs.States.{Duty, Create, Share, Protect, Unprotect, Remove, EndBase, Environment, Holder, RegionState, frames_of, top_names}
-use Rattle.rgo_region_machine.specs.declared.regions.Region.{Region}
-use Rattle.rgo_region_machine.specs.declared.regions.Region.TheVariants.{Global as GlobalRegion, Numbered}
+use Rattle.rgo_sound.specs.Code.Code.{Code}
+use Rattle.rgo_sound.specs.RegionMachine.Regions.{Bindings, RegionInfo, bound, unbind, is_live}
+use Rattle.rgo_sound.specs.RegionMachine.States.{Duty, Create, Share, Protect, Unprotect, Remove, EndBase, Environment, Holder, RegionState, frames_of, top_names}
+use Rattle.rgo_sound.specs.RegionMachine.declared.regions.Region.{Region}
+use Rattle.rgo_sound.specs.RegionMachine.declared.regions.Region.TheVariants.{Global as GlobalRegion, Numbered}
 use Rattle.rgo_sound.specs.Good.{AllGood}
 use Rattle.rgo_sound.specs.Invariant.{FramesFit, GoodHolder, IsReady, Shares, at_most_one, bound_times, to_share, with_pending}
 use Rattle.rgo_sound.specs.Stakes.{is_in, one_if, times_in, total}
-use Rattle.rgo_tac.specs.Frames.{Frame}
+use Rattle.rgo_sound.specs.Tac.Frames.{Frame}
 use Rattle.rgo_core_memory.specs.declared.layout.TableSizes.{TableSizes}
 use Rattle.rgo_core_memory.specs.Words.{count_at}
 use Rattle.rgo_core_memory.specs.Records.{Rec}

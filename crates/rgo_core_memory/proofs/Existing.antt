@@ -1,28 +1,28 @@
 -- The region machine has the step.
 use Rattle.std.proofs.Common.{◌≡◌, ℕ, ◌+◌, ◌<◌, ◌≤◌, Bool, true, false, not, ◌&&◌, List, [], ◌∷◌, ◌++◌, map, length, replicate, pos, Option, Some, None, option_and_then, option_map, slice_get, nat_le, if◌then◌else◌, refl, ap, sym, subst, ◌∙◌, ⊎_elim, arith}
 use Rattle.std.proofs.lemmas.Bool.Decides.{nat_tests}
-use Rattle.rgo_typed.specs.declared.actions.Action.{Action}
-use Rattle.rgo_typed.specs.declared.actions.Action.TheVariants as action
-use Rattle.rgo_typed.specs.declared.programs.Struct.{Struct}
-use Rattle.rgo_code.specs.Code.{Code, CodeInstr, CodeOp}
-use Rattle.rgo_code.specs.Erasure.{erased, erased_instr, erased_op}
-use Rattle.rgo_machine.specs.Machines.{alone as machine_alone, picked, unless_ended}
-use Rattle.rgo_machine.specs.declared.picks.End.{End}
-use Rattle.rgo_machine.specs.declared.picks.Pick.TheVariants.{One}
-use Rattle.rgo_memory.specs.Making.{made as made_effect, made_struct}
-use Rattle.rgo_memory.specs.Memory.{Object, StructObject, SliceObject, Channel}
-use Rattle.rgo_memory.specs.Values.{zero_of, element_zero}
-use Rattle.rgo_memory.specs.declared.values.Value.{Value}
-use Rattle.rgo_memory.specs.declared.values.Value.TheVariants as value
-use Rattle.rgo_region_machine.specs.Duties.{may_go}
-use Rattle.rgo_region_machine.specs.Instructions.{has_none, instruct, one_instructed, instructed, some_instructed, instructed_with, is_ready, touches}
-use Rattle.rgo_region_machine.specs.Machine.{Instruct, TakePage, region_step, take_page, takes_page, page_for, page_taken, next_object, object_made, plain_step}
-use Rattle.rgo_region_machine.specs.Objects.{allotted, placed, making_region, may_touch, owner_live, new_object, touched, words, fill_of, with_fill, fits, wants_page}
-use Rattle.rgo_region_machine.specs.Owed.{current, function_at}
-use Rattle.rgo_region_machine.specs.Regions.{is_live}
-use Rattle.rgo_region_machine.specs.States.{Holder, RegionState, frames_in, frames_of, top_names}
-use Rattle.rgo_region_machine.specs.declared.regions.Region.{Region}
-use Rattle.rgo_region_machine.specs.declared.regions.Region.TheVariants.{Global as GlobalRegion, Numbered}
+use Rattle.rgo_sound.specs.Typed.declared.actions.Action.{Action}
+use Rattle.rgo_sound.specs.Typed.declared.actions.Action.TheVariants as action
+use Rattle.rgo_sound.specs.Typed.declared.programs.Struct.{Struct}
+use Rattle.rgo_sound.specs.Code.Code.{Code, CodeInstr, CodeOp}
+use Rattle.rgo_sound.specs.Code.Erasure.{erased, erased_instr, erased_op}
+use Rattle.rgo_sound.specs.Machine.Machines.{alone as machine_alone, picked, unless_ended}
+use Rattle.rgo_sound.specs.Machine.declared.picks.End.{End}
+use Rattle.rgo_sound.specs.Machine.declared.picks.Pick.TheVariants.{One}
+use Rattle.rgo_sound.specs.Memory.Making.{made as made_effect, made_struct}
+use Rattle.rgo_sound.specs.Memory.Memory.{Object, StructObject, SliceObject, Channel}
+use Rattle.rgo_sound.specs.Memory.Values.{zero_of, element_zero}
+use Rattle.rgo_sound.specs.Memory.declared.values.Value.{Value}
+use Rattle.rgo_sound.specs.Memory.declared.values.Value.TheVariants as value
+use Rattle.rgo_sound.specs.RegionMachine.Duties.{may_go}
+use Rattle.rgo_sound.specs.RegionMachine.Instructions.{has_none, instruct, one_instructed, instructed, some_instructed, instructed_with, is_ready, touches}
+use Rattle.rgo_sound.specs.RegionMachine.Machine.{Instruct, TakePage, region_step, take_page, takes_page, page_for, page_taken, next_object, object_made, plain_step}
+use Rattle.rgo_sound.specs.RegionMachine.Objects.{allotted, placed, making_region, may_touch, owner_live, new_object, touched, words, fill_of, with_fill, fits, wants_page}
+use Rattle.rgo_sound.specs.RegionMachine.Owed.{current, function_at}
+use Rattle.rgo_sound.specs.RegionMachine.Regions.{is_live}
+use Rattle.rgo_sound.specs.RegionMachine.States.{Holder, RegionState, frames_in, frames_of, top_names}
+use Rattle.rgo_sound.specs.RegionMachine.declared.regions.Region.{Region}
+use Rattle.rgo_sound.specs.RegionMachine.declared.regions.Region.TheVariants.{Global as GlobalRegion, Numbered}
 use Rattle.rgo_sound.proofs.Acting.{Acted, act, act_at, after, alone, alone_is, effected, performed, trap_place}
 use Rattle.rgo_sound.proofs.Attends.{staked_live}
 use Rattle.rgo_sound.proofs.OneStep.{current_erased}
@@ -33,9 +33,9 @@ use Rattle.rgo_sound.specs.NextNames.{HasStake}
 use Rattle.rgo_core_memory.proofs.Stepped.{slice_get_none}
 use Rattle.rgo_sound.proofs.Places.{get_append_last}
 use Rattle.rgo_sound.specs.Good.{AllGood}
-use Rattle.rgo_tac.specs.Frames.{Frame, going}
-use Rattle.rgo_tac.specs.Steps.{type_of}
-use Rattle.rgo_tac.specs.Tac.{tac}
+use Rattle.rgo_sound.specs.Tac.Frames.{Frame, going}
+use Rattle.rgo_sound.specs.Tac.Steps.{type_of}
+use Rattle.rgo_sound.specs.Tac.Tac.{tac}
 use Rattle.rgo_core_memory.specs.Accesses.{Before}
 use Rattle.rgo_core_memory.specs.Allocations.{MakesNext}
 use Rattle.rgo_core_memory.specs.Exists.{Settled, AllocationExists, PageExists, AccessExists}

@@ -1,10 +1,10 @@
 -- What each part keeps where others change.
 use Rattle.std.proofs.Common.{◌≡◌, ℕ, zero, suc, ◌+◌, ◌<◌, ◌≤◌, List, length, max, Some, refl, subst, ◌∙◌, arith}
-use Rattle.rgo_memory.specs.declared.values.Value.{Value}
-use Rattle.rgo_memory.specs.Memory.{Object, StructObject, SliceObject, Channel}
-use Rattle.rgo_region_machine.specs.Objects.{words}
-use Rattle.rgo_region_machine.specs.Regions.{RegionInfo}
-use Rattle.rgo_region_machine.specs.declared.regions.Region.{Region}
+use Rattle.rgo_sound.specs.Memory.declared.values.Value.{Value}
+use Rattle.rgo_sound.specs.Memory.Memory.{Object, StructObject, SliceObject, Channel}
+use Rattle.rgo_sound.specs.RegionMachine.Objects.{words}
+use Rattle.rgo_sound.specs.RegionMachine.Regions.{RegionInfo}
+use Rattle.rgo_sound.specs.RegionMachine.declared.regions.Region.{Region}
 use Rattle.rgo_core_memory.specs.declared.layout.TableSizes.{TableSizes}
 use Rattle.rgo_core_memory.specs.Encoding.{Spot, content}
 use Rattle.rgo_core_memory.specs.Ground.{Stands}

@@ -12,8 +12,8 @@ use Rattle.rgo_core_memory.specs.Parts.{Living, pages_at}
 use Rattle.rgo_core_memory.specs.Records.{Rec}
 use Rattle.rgo_core_memory.specs.Words.{count_at, state_at}
 use Rattle.rgo_core_memory.specs.declared.layout.TableSizes.{TableSizes}
-use Rattle.rgo_region_machine.specs.Counts.{is_removed, pages_if_removed}
-use Rattle.rgo_region_machine.specs.Regions.{RegionInfo}
+use Rattle.rgo_sound.specs.RegionMachine.Counts.{is_removed, pages_if_removed}
+use Rattle.rgo_sound.specs.RegionMachine.Regions.{RegionInfo}
 
 -- ---- sums over live regions
 

@@ -1,13 +1,13 @@
 -- With the last of its words an object is made.
 use Rattle.std.proofs.Common.{◌≡◌, ◌≢◌, ◌⊎◌, ℕ, zero, suc, ◌+◌, ◌*◌, ◌<◌, ◌≤◌, Bool, true, false, List, [], ◌∷◌, ◌++◌, length, set, Some, slice_get, slice_set, nat_eq, if◌then◌else◌, refl, ap, sym, subst, ◌∙◌, inl, inr, ⊎_elim, arith}
 use Rattle.std.proofs.lemmas.Option.{same_Some}
-use Rattle.rgo_memory.specs.declared.values.Value.{Value}
-use Rattle.rgo_memory.specs.declared.values.Value.TheVariants as value
-use Rattle.rgo_memory.specs.Memory.{Object}
-use Rattle.rgo_region_machine.specs.Objects.{words as words_of}
-use Rattle.rgo_region_machine.specs.Regions.{is_live}
-use Rattle.rgo_region_machine.specs.declared.regions.Region.{Region}
-use Rattle.rgo_region_machine.specs.declared.regions.Region.TheVariants.{Numbered}
+use Rattle.rgo_sound.specs.Memory.declared.values.Value.{Value}
+use Rattle.rgo_sound.specs.Memory.declared.values.Value.TheVariants as value
+use Rattle.rgo_sound.specs.Memory.Memory.{Object}
+use Rattle.rgo_sound.specs.RegionMachine.Objects.{words as words_of}
+use Rattle.rgo_sound.specs.RegionMachine.Regions.{is_live}
+use Rattle.rgo_sound.specs.RegionMachine.declared.regions.Region.{Region}
+use Rattle.rgo_sound.specs.RegionMachine.declared.regions.Region.TheVariants.{Numbered}
 use Rattle.rgo_sound.proofs.Tests.{split, eq_of}
 use Rattle.rgo_core_memory.specs.declared.layout.TableSizes.{TableSizes}
 use Rattle.rgo_core_memory.specs.Words.{put, cell_at}
@@ -23,7 +23,7 @@ use Rattle.rgo_core_memory.proofs.Refilling.{refilled}
 use Rattle.rgo_core_memory.proofs.Rows.{set_here, snoc_at, below}
 use Rattle.rgo_core_memory.proofs.Slots.{live_info, uses_live}
 use Rattle.rgo_core_memory.proofs.Zeroing.{word_stored}
-use Rattle.rgo_machine.proofs.Items.{set_twice}
+use Rattle.rgo_sound.proofs.Machine.Items.{set_twice}
 
 -- an own page that is filled further, and the others
 raised_within : (s n : ℕ) (fs : List Fill) (f : Fill) → Within f (raised s n fs)

@@ -1,16 +1,16 @@
 -- The first words are the image of the first state.
 use Rattle.std.proofs.Common.{◌≡◌, ℕ, zero, suc, ◌<◌, List, [], ◌∷◌, length, replicate, set, slice_index, Some, slice_get, refl, ap, sym, subst, ◌∙◌, inl, ⊎_elim, arith}
 use Rattle.std.proofs.lemmas.Option.{same_Some}
-use Rattle.rgo_memory.specs.Memory.{Object}
-use Rattle.rgo_memory.specs.Values.{zero_of, zero_in}
-use Rattle.rgo_region_machine.specs.Objects.{fill_of}
-use Rattle.rgo_region_machine.specs.Regions.{RegionInfo}
-use Rattle.rgo_region_machine.specs.declared.regions.Region.{Region}
-use Rattle.rgo_region_machine.specs.declared.regions.Region.TheVariants.{Numbered}
-use Rattle.rgo_typed.specs.declared.programs.Variable.{Variable}
-use Rattle.rgo_typed.specs.declared.types.Base.{Base}
-use Rattle.rgo_typed.specs.declared.types.Base.TheVariants as base
-use Rattle.rgo_typed.specs.declared.types.Layer.{Layer}
+use Rattle.rgo_sound.specs.Memory.Memory.{Object}
+use Rattle.rgo_sound.specs.Memory.Values.{zero_of, zero_in}
+use Rattle.rgo_sound.specs.RegionMachine.Objects.{fill_of}
+use Rattle.rgo_sound.specs.RegionMachine.Regions.{RegionInfo}
+use Rattle.rgo_sound.specs.RegionMachine.declared.regions.Region.{Region}
+use Rattle.rgo_sound.specs.RegionMachine.declared.regions.Region.TheVariants.{Numbered}
+use Rattle.rgo_sound.specs.Typed.declared.programs.Variable.{Variable}
+use Rattle.rgo_sound.specs.Typed.declared.types.Base.{Base}
+use Rattle.rgo_sound.specs.Typed.declared.types.Base.TheVariants as base
+use Rattle.rgo_sound.specs.Typed.declared.types.Layer.{Layer}
 use Rattle.rgo_core_memory.specs.declared.layout.TableSizes.{TableSizes}
 use Rattle.rgo_core_memory.specs.Words.{Words, Shows, put, all_words, clock_at, made_at, state_at, next_at, count_at, head_at, cell_at, variable_at}
 use Rattle.rgo_core_memory.specs.Encoding.{encode}

@@ -4,7 +4,7 @@ use Rattle.std.proofs.lemmas.Bool.Decides.{nat_tests}
 use Rattle.std.proofs.lemmas.Option.{same_Some}
 use mathlib.Core.Logic.{dite}
 use native.Mathlib.Decide.{ℕ_discrete}
-use Rattle.rgo_region_machine.specs.Regions.{RegionInfo, with_info}
+use Rattle.rgo_sound.specs.RegionMachine.Regions.{RegionInfo, with_info}
 use Rattle.rgo_core_memory.specs.declared.layout.TableSizes.{TableSizes}
 use Rattle.rgo_core_memory.specs.Words.{put}
 use Rattle.rgo_core_memory.specs.Parts.{pages_at, Paged}

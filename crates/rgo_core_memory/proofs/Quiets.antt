@@ -2,24 +2,24 @@
 use Rattle.std.proofs.Common.{◌≡◌, ℕ, Bool, true, false, List, [], ◌∷◌, ◌++◌, map, length, append-nil, Option, Some, None, option_and_then, slice_get, slice_set, nat_eq, if◌then◌else◌, refl, ap, sym, subst, ◌∙◌, arith, true≢false}
 use Rattle.std.proofs.lemmas.Option.{same_Some}
 use Rattle.std.specs.List.{list_any}
-use Rattle.rgo_code.specs.Code.{Code, CodeInstr, CodeOp, Do, Call, Go, Print, Jump, Branch, Return}
-use Rattle.rgo_machine.specs.declared.picks.Pick.TheVariants.{One, Meet}
-use Rattle.rgo_memory.specs.Memory.{Memory as PlainMemory}
-use Rattle.rgo_region_machine.specs.Duties.{attended, attend, duty_done, protected, unprotected, with_protection, removal, shared as shared_state, guards}
-use Rattle.rgo_region_machine.specs.Instructions.{unless_trapped, holder_after, child_holder, last_frames, is_ready, taken_offer}
-use Rattle.rgo_region_machine.specs.Machine.{Event, Instruct, Attend, TakePage, MakeOffer, Acknowledge, Finish, region_step, finished}
-use Rattle.rgo_region_machine.specs.Objects.{allotted, making_region, may_touch}
-use Rattle.rgo_region_machine.specs.Offers.{make_offer, offer_for, offered, offered_channel, offers_on, acknowledge}
-use Rattle.rgo_region_machine.specs.Owed.{current, function_at}
-use Rattle.rgo_region_machine.specs.Regions.{is_live, with_info, one_more, one_fewer, without, bound, unbind, removed_once}
-use Rattle.rgo_region_machine.specs.States.{Duty, Create, Share, Protect, Unprotect, Remove, EndBase, Offer, NoOffer, Standing, Taken, Holder, RegionState, top_names, with_top, frames_of}
-use Rattle.rgo_region_machine.specs.declared.regions.Region.{Region}
-use Rattle.rgo_region_machine.specs.declared.regions.Region.TheVariants.{Global as GlobalRegion, Numbered}
+use Rattle.rgo_sound.specs.Code.Code.{Code, CodeInstr, CodeOp, Do, Call, Go, Print, Jump, Branch, Return}
+use Rattle.rgo_sound.specs.Machine.declared.picks.Pick.TheVariants.{One, Meet}
+use Rattle.rgo_sound.specs.Memory.Memory.{Memory as PlainMemory}
+use Rattle.rgo_sound.specs.RegionMachine.Duties.{attended, attend, duty_done, protected, unprotected, with_protection, removal, shared as shared_state, guards}
+use Rattle.rgo_sound.specs.RegionMachine.Instructions.{unless_trapped, holder_after, child_holder, last_frames, is_ready, taken_offer}
+use Rattle.rgo_sound.specs.RegionMachine.Machine.{Event, Instruct, Attend, TakePage, MakeOffer, Acknowledge, Finish, region_step, finished}
+use Rattle.rgo_sound.specs.RegionMachine.Objects.{allotted, making_region, may_touch}
+use Rattle.rgo_sound.specs.RegionMachine.Offers.{make_offer, offer_for, offered, offered_channel, offers_on, acknowledge}
+use Rattle.rgo_sound.specs.RegionMachine.Owed.{current, function_at}
+use Rattle.rgo_sound.specs.RegionMachine.Regions.{is_live, with_info, one_more, one_fewer, without, bound, unbind, removed_once}
+use Rattle.rgo_sound.specs.RegionMachine.States.{Duty, Create, Share, Protect, Unprotect, Remove, EndBase, Offer, NoOffer, Standing, Taken, Holder, RegionState, top_names, with_top, frames_of}
+use Rattle.rgo_sound.specs.RegionMachine.declared.regions.Region.{Region}
+use Rattle.rgo_sound.specs.RegionMachine.declared.regions.Region.TheVariants.{Global as GlobalRegion, Numbered}
 use Rattle.rgo_sound.proofs.Acting.{after}
 use Rattle.rgo_sound.proofs.ErasureLemmas.{Yields, yields_none, yields_where, yields_is, yields_at}
 use Rattle.rgo_sound.proofs.OneStep.{MeetDone, meet_done, gone_on, receive_goes, send_goes}
-use Rattle.rgo_tac.specs.Frames.{Frame}
-use Rattle.rgo_tac.specs.Tac.{TacState}
+use Rattle.rgo_sound.specs.Tac.Frames.{Frame}
+use Rattle.rgo_sound.specs.Tac.Tac.{TacState}
 use Rattle.rgo_core_memory.specs.Ground.{Held, ground_of, held_of}
 use Rattle.rgo_core_memory.specs.Quiet.{Spared, HasPending, QuietDuty, IsGo, IsQuiet, QuietKeeps, StartKeeps}
 use Rattle.rgo_core_memory.proofs.Accesses.{image_of}

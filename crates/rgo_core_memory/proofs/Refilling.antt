@@ -3,10 +3,10 @@ use Rattle.std.proofs.Common.{◌≡◌, ◌≢◌, ◌⊎◌, ℕ, Bool, true, 
 use Rattle.std.proofs.lemmas.Option.{same_Some}
 use mathlib.Core.Logic.{dite}
 use native.Mathlib.Decide.{ℕ_discrete}
-use Rattle.rgo_region_machine.specs.Objects.{fill_of, with_fill}
-use Rattle.rgo_region_machine.specs.Regions.{is_live, same_region}
-use Rattle.rgo_region_machine.specs.declared.regions.Region.{Region}
-use Rattle.rgo_region_machine.specs.declared.regions.Region.TheVariants.{Global as GlobalRegion, Numbered}
+use Rattle.rgo_sound.specs.RegionMachine.Objects.{fill_of, with_fill}
+use Rattle.rgo_sound.specs.RegionMachine.Regions.{is_live, same_region}
+use Rattle.rgo_sound.specs.RegionMachine.declared.regions.Region.{Region}
+use Rattle.rgo_sound.specs.RegionMachine.declared.regions.Region.TheVariants.{Global as GlobalRegion, Numbered}
 use Rattle.rgo_sound.proofs.Progress.{fill_with}
 use Rattle.rgo_sound.proofs.Tests.{split, eq_of}
 use Rattle.rgo_core_memory.specs.declared.layout.TableSizes.{TableSizes}

@@ -1,8 +1,8 @@
 -- What slots are used for, where regions live and where chains are given back.
 use Rattle.std.proofs.Common.{◌≡◌, ◌⊎◌, ℕ, ◌<◌, true, List, Option, Some, None, slice_get, nat_lt, refl, ap, sym, subst, ◌∙◌, inl, inr, ⊎_elim, arith, true≢false}
-use Rattle.rgo_region_machine.specs.Regions.{RegionInfo, has_stakes, is_live}
-use Rattle.rgo_region_machine.specs.declared.regions.Region.{Region}
-use Rattle.rgo_region_machine.specs.declared.regions.Region.TheVariants.{Global as GlobalRegion, Numbered}
+use Rattle.rgo_sound.specs.RegionMachine.Regions.{RegionInfo, has_stakes, is_live}
+use Rattle.rgo_sound.specs.RegionMachine.declared.regions.Region.{Region}
+use Rattle.rgo_sound.specs.RegionMachine.declared.regions.Region.TheVariants.{Global as GlobalRegion, Numbered}
 use Rattle.rgo_core_memory.specs.declared.layout.TableSizes.{TableSizes}
 use Rattle.rgo_core_memory.specs.Records.{Fill, Claim, Hung, Rec, Has, Owns, Claims, Closes}
 use Rattle.rgo_core_memory.specs.Ground.{Ground, Held, Uses, Steady}

@@ -1,28 +1,28 @@
 -- What an instruction of one goroutine does to what the memory shows.
 use Rattle.std.proofs.Common.{◌≡◌, ℕ, zero, suc, ◌≤◌, true, List, [], ◌∷◌, ◌++◌, map, length, append-nil, Option, Some, None, refl, sym, ap, ◌∙◌, subst, slice_get, slice_set, option_map, arith}
 use Rattle.std.proofs.lemmas.Option.{same_Some}
-use Rattle.rgo_typed.specs.declared.actions.Action.{Action}
-use Rattle.rgo_code.specs.Code.{Code, CodeInstr, CodeOp, Do}
-use Rattle.rgo_code.specs.Erasure.{erased, erased_instr, erased_op}
-use Rattle.rgo_machine.specs.declared.picks.End.{End}
-use Rattle.rgo_machine.specs.declared.picks.End.TheVariants.{Exit, Trap}
-use Rattle.rgo_machine.specs.declared.picks.Pick.TheVariants.{One}
-use Rattle.rgo_memory.specs.Effects.{Does}
-use Rattle.rgo_memory.specs.Memory.{Memory}
-use Rattle.rgo_memory.specs.declared.values.Value.{Value}
-use Rattle.rgo_region_machine.specs.Instructions.{unless_trapped, holder_after, child_holder, last_frames}
-use Rattle.rgo_region_machine.specs.Machine.{Instruct, region_step}
-use Rattle.rgo_region_machine.specs.Objects.{allotted, making_region, may_touch, touched}
-use Rattle.rgo_region_machine.specs.Owed.{current, function_at}
-use Rattle.rgo_region_machine.specs.States.{Holder, RegionState, frames_of, top_names}
-use Rattle.rgo_region_machine.specs.declared.regions.Region.{Region}
+use Rattle.rgo_sound.specs.Typed.declared.actions.Action.{Action}
+use Rattle.rgo_sound.specs.Code.Code.{Code, CodeInstr, CodeOp, Do}
+use Rattle.rgo_sound.specs.Code.Erasure.{erased, erased_instr, erased_op}
+use Rattle.rgo_sound.specs.Machine.declared.picks.End.{End}
+use Rattle.rgo_sound.specs.Machine.declared.picks.End.TheVariants.{Exit, Trap}
+use Rattle.rgo_sound.specs.Machine.declared.picks.Pick.TheVariants.{One}
+use Rattle.rgo_sound.specs.Memory.Effects.{Does}
+use Rattle.rgo_sound.specs.Memory.Memory.{Memory}
+use Rattle.rgo_sound.specs.Memory.declared.values.Value.{Value}
+use Rattle.rgo_sound.specs.RegionMachine.Instructions.{unless_trapped, holder_after, child_holder, last_frames}
+use Rattle.rgo_sound.specs.RegionMachine.Machine.{Instruct, region_step}
+use Rattle.rgo_sound.specs.RegionMachine.Objects.{allotted, making_region, may_touch, touched}
+use Rattle.rgo_sound.specs.RegionMachine.Owed.{current, function_at}
+use Rattle.rgo_sound.specs.RegionMachine.States.{Holder, RegionState, frames_of, top_names}
+use Rattle.rgo_sound.specs.RegionMachine.declared.regions.Region.{Region}
 use Rattle.rgo_sound.proofs.Acting.{after, Acted, act, act_at, alone, effected, performed, trap_place}
 use Rattle.rgo_sound.proofs.ErasureLemmas.{yields_is}
 use Rattle.rgo_sound.proofs.OneStep.{OneDone, one_done, current_erased}
 use Rattle.rgo_sound.proofs.Places.{head_is}
-use Rattle.rgo_tac.specs.Frames.{Frame, going}
-use Rattle.rgo_tac.specs.Steps.{type_of}
-use Rattle.rgo_tac.specs.Tac.{TacState}
+use Rattle.rgo_sound.specs.Tac.Frames.{Frame, going}
+use Rattle.rgo_sound.specs.Tac.Steps.{type_of}
+use Rattle.rgo_sound.specs.Tac.Tac.{TacState}
 use Rattle.rgo_core_memory.proofs.Rows.{set_again}
 use Rattle.rgo_core_memory.specs.Accesses.{Before}
 use Rattle.rgo_core_memory.specs.Ground.{ground_of, held_of}

@@ -3,10 +3,10 @@ use Rattle.std.proofs.Common.{◌≡◌, ◌≢◌, ◌⊎◌, ℕ, ◌+◌, ◌
 use Rattle.std.proofs.lemmas.Option.{same_Some}
 use mathlib.Core.Logic.{dite}
 use native.Mathlib.Decide.{ℕ_discrete}
-use Rattle.rgo_memory.specs.declared.values.Value.{Value}
-use Rattle.rgo_memory.specs.Memory.{Object}
-use Rattle.rgo_region_machine.specs.Objects.{words as words_of}
-use Rattle.rgo_region_machine.specs.declared.regions.Region.{Region}
+use Rattle.rgo_sound.specs.Memory.declared.values.Value.{Value}
+use Rattle.rgo_sound.specs.Memory.Memory.{Object}
+use Rattle.rgo_sound.specs.RegionMachine.Objects.{words as words_of}
+use Rattle.rgo_sound.specs.RegionMachine.declared.regions.Region.{Region}
 use Rattle.rgo_core_memory.specs.declared.layout.TableSizes.{TableSizes}
 use Rattle.rgo_core_memory.specs.Words.{put, put_two, cell_at, variable_at}
 use Rattle.rgo_core_memory.specs.Encoding.{Spot, address, encode, content, Changes}

@@ -1,16 +1,16 @@
 -- A goroutine that is about to perform an action, and what loads and stores of cells do.
 use Rattle.std.specs.Prelude.{◌≡◌, ℕ, suc, ◌<◌, List, [], ◌∷◌, length, pos, Option, Some, slice_get, slice_set, slice_index}
-use Rattle.rgo_typed.specs.declared.actions.Action.{Action}
-use Rattle.rgo_typed.specs.declared.actions.Action.TheVariants as action
-use Rattle.rgo_code.specs.Code.{Code, CodeInstr, Do}
-use Rattle.rgo_machine.specs.declared.picks.Pick.TheVariants.{One}
-use Rattle.rgo_memory.specs.Memory.{StructObject, SliceObject}
-use Rattle.rgo_memory.specs.declared.values.Value.{Value}
-use Rattle.rgo_memory.specs.declared.values.Value.TheVariants as value
-use Rattle.rgo_region_machine.specs.Machine.{Instruct, region_step}
-use Rattle.rgo_region_machine.specs.Owed.{current}
-use Rattle.rgo_region_machine.specs.States.{RegionState}
-use Rattle.rgo_tac.specs.Frames.{Frame, values_of}
+use Rattle.rgo_sound.specs.Typed.declared.actions.Action.{Action}
+use Rattle.rgo_sound.specs.Typed.declared.actions.Action.TheVariants as action
+use Rattle.rgo_sound.specs.Code.Code.{Code, CodeInstr, Do}
+use Rattle.rgo_sound.specs.Machine.declared.picks.Pick.TheVariants.{One}
+use Rattle.rgo_sound.specs.Memory.Memory.{StructObject, SliceObject}
+use Rattle.rgo_sound.specs.Memory.declared.values.Value.{Value}
+use Rattle.rgo_sound.specs.Memory.declared.values.Value.TheVariants as value
+use Rattle.rgo_sound.specs.RegionMachine.Machine.{Instruct, region_step}
+use Rattle.rgo_sound.specs.RegionMachine.Owed.{current}
+use Rattle.rgo_sound.specs.RegionMachine.States.{RegionState}
+use Rattle.rgo_sound.specs.Tac.Frames.{Frame, values_of}
 use Rattle.rgo_core_memory.specs.declared.layout.TableSizes.{TableSizes}
 use Rattle.rgo_core_memory.specs.Words.{variable_at}
 use Rattle.rgo_core_memory.specs.Records.{Rec}

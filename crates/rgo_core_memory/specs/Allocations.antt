@@ -1,20 +1,20 @@
 -- What the stores of a new object's words keep: the last of them makes the object.
 use Rattle.std.specs.Prelude.{◌≡◌, ◌⊎◌, ℕ, ◌+◌, ◌<◌, false, List, [], ◌∷◌, length, map, replicate, pos, Some, slice_get, slice_set}
-use Rattle.rgo_typed.specs.declared.actions.Action.TheVariants as action
-use Rattle.rgo_typed.specs.declared.programs.Struct.{Struct}
-use Rattle.rgo_code.specs.Code.{Code}
-use Rattle.rgo_code.specs.Erasure.{erased}
-use Rattle.rgo_machine.specs.declared.picks.Pick.TheVariants.{One}
-use Rattle.rgo_memory.specs.Memory.{Object, StructObject, SliceObject, Channel}
-use Rattle.rgo_memory.specs.Values.{zero_of, element_zero}
-use Rattle.rgo_memory.specs.declared.values.Value.TheVariants as value
-use Rattle.rgo_region_machine.specs.Machine.{Instruct, region_step}
-use Rattle.rgo_region_machine.specs.Objects.{words as words_in, making_region}
-use Rattle.rgo_region_machine.specs.Owed.{function_at}
-use Rattle.rgo_region_machine.specs.States.{Holder, RegionState, top_names}
-use Rattle.rgo_region_machine.specs.declared.regions.Region.{Region}
+use Rattle.rgo_sound.specs.Typed.declared.actions.Action.TheVariants as action
+use Rattle.rgo_sound.specs.Typed.declared.programs.Struct.{Struct}
+use Rattle.rgo_sound.specs.Code.Code.{Code}
+use Rattle.rgo_sound.specs.Code.Erasure.{erased}
+use Rattle.rgo_sound.specs.Machine.declared.picks.Pick.TheVariants.{One}
+use Rattle.rgo_sound.specs.Memory.Memory.{Object, StructObject, SliceObject, Channel}
+use Rattle.rgo_sound.specs.Memory.Values.{zero_of, element_zero}
+use Rattle.rgo_sound.specs.Memory.declared.values.Value.TheVariants as value
+use Rattle.rgo_sound.specs.RegionMachine.Machine.{Instruct, region_step}
+use Rattle.rgo_sound.specs.RegionMachine.Objects.{words as words_in, making_region}
+use Rattle.rgo_sound.specs.RegionMachine.Owed.{function_at}
+use Rattle.rgo_sound.specs.RegionMachine.States.{Holder, RegionState, top_names}
+use Rattle.rgo_sound.specs.RegionMachine.declared.regions.Region.{Region}
 use Rattle.rgo_sound.specs.Good.{AllGood}
-use Rattle.rgo_tac.specs.Steps.{type_of}
+use Rattle.rgo_sound.specs.Tac.Steps.{type_of}
 use Rattle.rgo_core_memory.specs.declared.layout.TableSizes.{TableSizes}
 use Rattle.rgo_core_memory.specs.Words.{put, cell_at}
 use Rattle.rgo_core_memory.specs.Encoding.{content, opening}

@@ -1,7 +1,7 @@
 -- What concerns no word of memory: accesses to the clock and to the number of goroutines, and steps that leave what memory
 -- shows.
 use Rattle.std.specs.Prelude.{◌≡◌, ℕ, List, slice_set}
-use Rattle.rgo_region_machine.specs.States.{RegionState}
+use Rattle.rgo_sound.specs.RegionMachine.States.{RegionState}
 use Rattle.rgo_core_memory.specs.declared.layout.TableSizes.{TableSizes}
 use Rattle.rgo_core_memory.specs.Ground.{ground_of}
 use Rattle.rgo_core_memory.specs.Image.{Where, Memory}

@@ -1,9 +1,9 @@
 -- How values are encoded in words, and what each word of an object holds.
 use Rattle.std.specs.Prelude.{◌≡◌, ℕ, zero, suc, ◌+◌, ◌*◌, length, pos, Option, Some, None, slice_get}
 use Rattle.std.specs.Int.{w64, cast_unsigned, from_bool}
-use Rattle.rgo_memory.specs.declared.values.Value.{Value}
-use Rattle.rgo_memory.specs.declared.values.Value.TheVariants as value
-use Rattle.rgo_memory.specs.Memory.{Object, StructObject, SliceObject, Channel}
+use Rattle.rgo_sound.specs.Memory.declared.values.Value.{Value}
+use Rattle.rgo_sound.specs.Memory.declared.values.Value.TheVariants as value
+use Rattle.rgo_sound.specs.Memory.Memory.{Object, StructObject, SliceObject, Channel}
 use Rattle.rgo_core_memory.specs.declared.layout.TableSizes.{TableSizes}
 
 -- a word of a page

@@ -1,17 +1,17 @@
 -- What the accesses to regions and pages keep, given the step of the region machine.
 use Rattle.std.specs.Prelude.{◌≡◌, ◌≢◌, ◌⊎◌, ℕ, suc, ◌+◌, ◌-◌, ◌<◌, false, List, ◌∷◌, length, Some, slice_get, slice_set, slice_index, nat_eq}
 use Rattle.std.specs.List.{list_any}
-use Rattle.rgo_memory.specs.Memory.{Object}
-use Rattle.rgo_code.specs.Code.{Code, CodeInstr}
-use Rattle.rgo_tac.specs.Frames.{Frame}
-use Rattle.rgo_region_machine.specs.Duties.{guards}
-use Rattle.rgo_region_machine.specs.Machine.{Attend, TakePage, region_step}
-use Rattle.rgo_region_machine.specs.Objects.{making_region}
-use Rattle.rgo_region_machine.specs.Owed.{current, function_at}
-use Rattle.rgo_region_machine.specs.Regions.{bound, unbind, removed_once}
-use Rattle.rgo_region_machine.specs.States.{Duty, Create, Share, Remove, EndBase, Holder, RegionState, top_names, with_top}
-use Rattle.rgo_region_machine.specs.declared.regions.Region.{Region}
-use Rattle.rgo_region_machine.specs.declared.regions.Region.TheVariants.{Numbered}
+use Rattle.rgo_sound.specs.Memory.Memory.{Object}
+use Rattle.rgo_sound.specs.Code.Code.{Code, CodeInstr}
+use Rattle.rgo_sound.specs.Tac.Frames.{Frame}
+use Rattle.rgo_sound.specs.RegionMachine.Duties.{guards}
+use Rattle.rgo_sound.specs.RegionMachine.Machine.{Attend, TakePage, region_step}
+use Rattle.rgo_sound.specs.RegionMachine.Objects.{making_region}
+use Rattle.rgo_sound.specs.RegionMachine.Owed.{current, function_at}
+use Rattle.rgo_sound.specs.RegionMachine.Regions.{bound, unbind, removed_once}
+use Rattle.rgo_sound.specs.RegionMachine.States.{Duty, Create, Share, Remove, EndBase, Holder, RegionState, top_names, with_top}
+use Rattle.rgo_sound.specs.RegionMachine.declared.regions.Region.{Region}
+use Rattle.rgo_sound.specs.RegionMachine.declared.regions.Region.TheVariants.{Numbered}
 use Rattle.rgo_sound.specs.Good.{AllGood}
 use Rattle.rgo_core_memory.specs.declared.layout.TableSizes.{TableSizes}
 use Rattle.rgo_core_memory.specs.Words.{put, state_at, count_at}

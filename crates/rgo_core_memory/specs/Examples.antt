@@ -1,8 +1,8 @@
 -- A small table: where its words are, how it opens, and what is no image.
 use Rattle.std.specs.Prelude.{◌≡◌, ℕ, suc, ◌==◌, true, false, if◌then◌else◌, List, [], ◌∷◌, Some, None, pos, negsuc, length, replicate, slice_index}
-use Rattle.rgo_memory.specs.Memory.{Channel, SliceObject, StructObject}
-use Rattle.rgo_memory.specs.declared.values.Value.TheVariants as value
-use Rattle.rgo_region_machine.specs.States.{RegionState}
+use Rattle.rgo_sound.specs.Memory.Memory.{Channel, SliceObject, StructObject}
+use Rattle.rgo_sound.specs.Memory.declared.values.Value.TheVariants as value
+use Rattle.rgo_sound.specs.RegionMachine.States.{RegionState}
 use Rattle.rgo_core_memory.specs.declared.layout.TableSizes.{TableSizes}
 use Rattle.rgo_core_memory.specs.Encoding.{Spot, address, content, encode}
 use Rattle.rgo_core_memory.specs.Image.{Memory}

@@ -1,20 +1,20 @@
 -- When the region machine has the step of an access, an allocation or a claim.
 use Rattle.std.specs.Prelude.{◌≡◌, ℕ, ◌+◌, ◌<◌, ◌≤◌, true, List, [], length, Some, None, slice_get}
-use Rattle.rgo_typed.specs.declared.actions.Action.{Action}
-use Rattle.rgo_code.specs.Checked.{IsChecked}
-use Rattle.rgo_code.specs.Code.{Code}
-use Rattle.rgo_code.specs.Erasure.{erased}
-use Rattle.rgo_machine.specs.declared.picks.Pick.TheVariants.{One}
-use Rattle.rgo_memory.specs.Effects.{Does}
-use Rattle.rgo_memory.specs.Memory.{Memory, Object}
+use Rattle.rgo_sound.specs.Typed.declared.actions.Action.{Action}
+use Rattle.rgo_sound.specs.Code.Checked.{IsChecked}
+use Rattle.rgo_sound.specs.Code.Code.{Code}
+use Rattle.rgo_sound.specs.Code.Erasure.{erased}
+use Rattle.rgo_sound.specs.Machine.declared.picks.Pick.TheVariants.{One}
+use Rattle.rgo_sound.specs.Memory.Effects.{Does}
+use Rattle.rgo_sound.specs.Memory.Memory.{Memory, Object}
 use Rattle.rgo_sound.proofs.Acting.{performed}
-use Rattle.rgo_tac.specs.Steps.{type_of}
-use Rattle.rgo_memory.specs.declared.values.Value.{Value}
-use Rattle.rgo_region_machine.specs.Duties.{may_go}
-use Rattle.rgo_region_machine.specs.Machine.{Instruct, TakePage, region_step}
-use Rattle.rgo_region_machine.specs.Objects.{words, fill_of}
-use Rattle.rgo_region_machine.specs.States.{Holder, RegionState}
-use Rattle.rgo_region_machine.specs.declared.regions.Region.{Region}
+use Rattle.rgo_sound.specs.Tac.Steps.{type_of}
+use Rattle.rgo_sound.specs.Memory.declared.values.Value.{Value}
+use Rattle.rgo_sound.specs.RegionMachine.Duties.{may_go}
+use Rattle.rgo_sound.specs.RegionMachine.Machine.{Instruct, TakePage, region_step}
+use Rattle.rgo_sound.specs.RegionMachine.Objects.{words, fill_of}
+use Rattle.rgo_sound.specs.RegionMachine.States.{Holder, RegionState}
+use Rattle.rgo_sound.specs.RegionMachine.declared.regions.Region.{Region}
 use Rattle.rgo_sound.specs.Good.{AllGood}
 use Rattle.rgo_core_memory.specs.Accesses.{Before}
 use Rattle.rgo_core_memory.specs.Allocations.{MakesNext}

@@ -1,13 +1,13 @@
 -- What the crates above need of the image: addresses, bounds, what a search in vain says, and the words of channels.
 use Rattle.std.specs.Prelude.{◌≡◌, ◌≢◌, ℕ, suc, ◌+◌, ◌<◌, ◌≤◌, true, List, length, None, slice_set, slice_index}
-use Rattle.rgo_code.specs.Code.{Code}
-use Rattle.rgo_memory.specs.Memory.{Object}
-use Rattle.rgo_region_machine.specs.Objects.{words as words_in}
-use Rattle.rgo_region_machine.specs.Regions.{is_live}
-use Rattle.rgo_region_machine.specs.Room.{live_regions, pages_in_use}
-use Rattle.rgo_region_machine.specs.States.{RegionState}
-use Rattle.rgo_region_machine.specs.declared.regions.Region.{Region}
-use Rattle.rgo_region_machine.specs.declared.regions.Region.TheVariants.{Numbered}
+use Rattle.rgo_sound.specs.Code.Code.{Code}
+use Rattle.rgo_sound.specs.Memory.Memory.{Object}
+use Rattle.rgo_sound.specs.RegionMachine.Objects.{words as words_in}
+use Rattle.rgo_sound.specs.RegionMachine.Regions.{is_live}
+use Rattle.rgo_sound.specs.RegionMachine.Room.{live_regions, pages_in_use}
+use Rattle.rgo_sound.specs.RegionMachine.States.{RegionState}
+use Rattle.rgo_sound.specs.RegionMachine.declared.regions.Region.{Region}
+use Rattle.rgo_sound.specs.RegionMachine.declared.regions.Region.TheVariants.{Numbered}
 use Rattle.rgo_sound.specs.Good.{AllGood}
 use Rattle.rgo_core_memory.specs.declared.layout.TableSizes.{TableSizes}
 use Rattle.rgo_core_memory.specs.Words.{cell_at, base, all_words, count_at, state_at}

@@ -1,14 +1,14 @@
 -- What the memory of a table shows of a state of the region machine, and what steps do to it.
 use Rattle.std.specs.Prelude.{◌≡◌, ℕ, ◌+◌, ◌<◌, true, List, [], ◌∷◌, ◌++◌, length, map, Some, slice_get, slice_set}
 use Rattle.std.specs.Prelude.{sum_by}
-use Rattle.rgo_memory.specs.declared.values.Value.{Value}
-use Rattle.rgo_memory.specs.declared.values.Value.TheVariants as value
-use Rattle.rgo_memory.specs.Memory.{Object}
-use Rattle.rgo_region_machine.specs.Objects.{with_fill}
-use Rattle.rgo_region_machine.specs.Regions.{RegionInfo, is_live, with_info, one_more, one_fewer, one_page_more, without}
-use Rattle.rgo_region_machine.specs.States.{Holder, RegionState}
-use Rattle.rgo_region_machine.specs.declared.regions.Region.{Region}
-use Rattle.rgo_region_machine.specs.declared.regions.Region.TheVariants.{Global as GlobalRegion, Numbered}
+use Rattle.rgo_sound.specs.Memory.declared.values.Value.{Value}
+use Rattle.rgo_sound.specs.Memory.declared.values.Value.TheVariants as value
+use Rattle.rgo_sound.specs.Memory.Memory.{Object}
+use Rattle.rgo_sound.specs.RegionMachine.Objects.{with_fill}
+use Rattle.rgo_sound.specs.RegionMachine.Regions.{RegionInfo, is_live, with_info, one_more, one_fewer, one_page_more, without}
+use Rattle.rgo_sound.specs.RegionMachine.States.{Holder, RegionState}
+use Rattle.rgo_sound.specs.RegionMachine.declared.regions.Region.{Region}
+use Rattle.rgo_sound.specs.RegionMachine.declared.regions.Region.TheVariants.{Global as GlobalRegion, Numbered}
 use Rattle.rgo_sound.specs.Stakes.{is_in}
 use Rattle.rgo_core_memory.specs.Encoding.{content}
 

@@ -1,9 +1,9 @@
 -- The image: which state of the region machine words and records show.
 use Rattle.std.specs.Prelude.{ℕ, List, length}
-use Rattle.rgo_region_machine.specs.States.{RegionState}
+use Rattle.rgo_sound.specs.RegionMachine.States.{RegionState}
 use Rattle.rgo_core_memory.specs.declared.layout.TableSizes.{TableSizes}
 use Rattle.rgo_core_memory.specs.Words.{Words, Shows, cell_at}
-use Rattle.rgo_memory.specs.declared.values.Value.{Value}
+use Rattle.rgo_sound.specs.Memory.declared.values.Value.{Value}
 use Rattle.rgo_core_memory.specs.Encoding.{Spot, address, encode}
 use Rattle.rgo_core_memory.specs.Records.{Rec}
 use Rattle.rgo_core_memory.specs.Ground.{Ground, ground_of, taken_of}

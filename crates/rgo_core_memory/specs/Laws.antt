@@ -1,16 +1,16 @@
 -- Loads and stores of fields, elements, lengths and package variables. The code is checked, so that the object exists and has the
 -- field by its types.
 use Rattle.std.specs.Prelude.{◌≡◌, ℕ, suc, ◌<◌, pos, Ok, List, [], ◌∷◌, Some, slice_get, slice_set, slice_index}
-use Rattle.rgo_typed.specs.declared.actions.Action.TheVariants as action
-use Rattle.rgo_code.specs.Checked.{IsChecked}
-use Rattle.rgo_code.specs.Code.{Code}
-use Rattle.rgo_machine.specs.declared.picks.Pick.TheVariants.{One}
-use Rattle.rgo_memory.specs.Elements.{element_in, length_in}
-use Rattle.rgo_memory.specs.Fields.{field_of, or_nil}
-use Rattle.rgo_memory.specs.declared.values.Value.{Value}
-use Rattle.rgo_memory.specs.declared.values.Value.TheVariants as value
-use Rattle.rgo_region_machine.specs.Machine.{Instruct, region_step}
-use Rattle.rgo_region_machine.specs.States.{RegionState}
+use Rattle.rgo_sound.specs.Typed.declared.actions.Action.TheVariants as action
+use Rattle.rgo_sound.specs.Code.Checked.{IsChecked}
+use Rattle.rgo_sound.specs.Code.Code.{Code}
+use Rattle.rgo_sound.specs.Machine.declared.picks.Pick.TheVariants.{One}
+use Rattle.rgo_sound.specs.Memory.Elements.{element_in, length_in}
+use Rattle.rgo_sound.specs.Memory.Fields.{field_of, or_nil}
+use Rattle.rgo_sound.specs.Memory.declared.values.Value.{Value}
+use Rattle.rgo_sound.specs.Memory.declared.values.Value.TheVariants as value
+use Rattle.rgo_sound.specs.RegionMachine.Machine.{Instruct, region_step}
+use Rattle.rgo_sound.specs.RegionMachine.States.{RegionState}
 use Rattle.rgo_sound.specs.Good.{AllGood}
 use Rattle.rgo_core_memory.specs.Accesses.{Before}
 use Rattle.rgo_core_memory.specs.declared.layout.TableSizes.{TableSizes}

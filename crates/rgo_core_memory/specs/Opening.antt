@@ -1,7 +1,7 @@
 -- The first words of a table, and that they are the image of the region machine's first state.
 use Rattle.std.specs.Prelude.{ℕ, ◌≤◌, List, [], ◌∷◌, length, replicate, None, slice_set}
-use Rattle.rgo_code.specs.Code.{Code}
-use Rattle.rgo_region_machine.specs.Machine.{region_start}
+use Rattle.rgo_sound.specs.Code.Code.{Code}
+use Rattle.rgo_sound.specs.RegionMachine.Machine.{region_start}
 use Rattle.rgo_core_memory.specs.declared.layout.TableSizes.{TableSizes}
 use Rattle.rgo_core_memory.specs.Words.{all_words, count_at, made_at}
 use Rattle.rgo_core_memory.specs.Records.{Rec, Rest, Idle, Calm}

@@ -1,7 +1,7 @@
 -- What the record of a goroutine has of memory: its own pages, the object that it makes, the page that it claims, and the
 -- chain that it gives back.
 use Rattle.std.specs.Prelude.{◌≡◌, ℕ, List, [], ◌∷◌, Option, Some, slice_get, nat_eq, if◌then◌else◌}
-use Rattle.rgo_memory.specs.Memory.{Object}
+use Rattle.rgo_sound.specs.Memory.Memory.{Object}
 
 -- an own page, claimed for a slot, and how many words of it are filled
 pub record Fill : Type 0 where

@@ -1,14 +1,14 @@
 -- Loads and stores that are the next instruction, whichever word they access.
 use Rattle.std.specs.Option.{option_map_or}
 use Rattle.std.proofs.Common.{◌≡◌, ℕ, suc, ◌+◌, List, Option, Some, add-one, refl, ap, sym, subst, ◌∙◌}
-use Rattle.rgo_code.specs.Code.{CodeOp, Do}
-use Rattle.rgo_typed.specs.declared.actions.Action.{Action}
-use Rattle.rgo_wellformed.specs.TypeRules.{int}
-use Rattle.rgo_core_channels.specs.Records.{at_rest}
-use Rattle.rgo_core_memory.specs.Words.{base, clock_at, variable_at}
-use Rattle.rgo_core_frames.specs.Actions.{after_action}
-use Rattle.rgo_core_frames.specs.WordFrames.{word_at}
-use Rattle.rgo_core_rule.proofs.Still.{still_move}
+use Rattle.rgo_sound.specs.Code.Code.{CodeOp, Do}
+use Rattle.rgo_sound.specs.Typed.declared.actions.Action.{Action}
+use Rattle.rgo_sound.specs.WellFormed.TypeRules.{int}
+use Rattle.rgo_core.specs.Channels.Records.{at_rest}
+use Rattle.rgo_core.specs.Memory.Words.{base, clock_at, variable_at}
+use Rattle.rgo_core.specs.Frames.Actions.{after_action}
+use Rattle.rgo_core.specs.Frames.WordFrames.{word_at}
+use Rattle.rgo_core.proofs.Rule.Still.{still_move}
 use Rattle.rgo_core.specs.Accesses.{measures}
 use Rattle.rgo_core.specs.Bounds.{Gives, LieInPages, Points, target_type}
 use Rattle.rgo_core.specs.Core.{Core, Setup, layout}

@@ -1,22 +1,22 @@
 -- The functions of the record alone are what the laws say, whichever position a law names: a record has at most one.
 use Rattle.std.specs.Option.{option_map, option_map_or}
 use Rattle.std.proofs.Common.{◌≡◌, ℕ, suc, ◌+◌, ◌*◌, List, [], ◌∷◌, Option, Some, ap, ◌∙◌}
-use Rattle.rgo_code.specs.Code.{Code, CodeFn, CodeInstr, CodeOp, Do, Go, Print}
-use Rattle.rgo_core_channels.specs.Records.{at_rest}
-use Rattle.rgo_core_frames.specs.Actions.{after_action}
-use Rattle.rgo_core_frames.specs.Meetings.{acknowledged}
-use Rattle.rgo_core_frames.specs.Opening.{no_record}
-use Rattle.rgo_core_frames.specs.Prints.{printed_values}
-use Rattle.rgo_core_frames.specs.Records.{after_op}
-use Rattle.rgo_core_frames.specs.WordFrames.{WordFrame, bare, word_moved}
-use Rattle.rgo_core_memory.specs.Records.{Fill, with_object}
-use Rattle.rgo_machine.specs.Lines.{line_of}
-use Rattle.rgo_memory.specs.Memory.{Object}
-use Rattle.rgo_region_machine.specs.Objects.{words as words_in}
-use Rattle.rgo_region_machine.specs.Owed.{current, function_of}
-use Rattle.rgo_tac.specs.declared.regions.Class.{Class}
-use Rattle.rgo_typed.specs.declared.actions.Action.{Action}
-use Rattle.rgo_typed.specs.declared.statements.Piece.{Piece}
+use Rattle.rgo_sound.specs.Code.Code.{Code, CodeFn, CodeInstr, CodeOp, Do, Go, Print}
+use Rattle.rgo_core.specs.Channels.Records.{at_rest}
+use Rattle.rgo_core.specs.Frames.Actions.{after_action}
+use Rattle.rgo_core.specs.Frames.Meetings.{acknowledged}
+use Rattle.rgo_core.specs.Frames.Opening.{no_record}
+use Rattle.rgo_core.specs.Frames.Prints.{printed_values}
+use Rattle.rgo_core.specs.Frames.Records.{after_op}
+use Rattle.rgo_core.specs.Frames.WordFrames.{WordFrame, bare, word_moved}
+use Rattle.rgo_core.specs.Memory.Records.{Fill, with_object}
+use Rattle.rgo_sound.specs.Machine.Lines.{line_of}
+use Rattle.rgo_sound.specs.Memory.Memory.{Object}
+use Rattle.rgo_sound.specs.RegionMachine.Objects.{words as words_in}
+use Rattle.rgo_sound.specs.RegionMachine.Owed.{current, function_of}
+use Rattle.rgo_sound.specs.Tac.declared.regions.Class.{Class}
+use Rattle.rgo_sound.specs.Typed.declared.actions.Action.{Action}
+use Rattle.rgo_sound.specs.Typed.declared.statements.Piece.{Piece}
 use Rattle.rgo_core.specs.AtChannels.{Operates, commits}
 use Rattle.rgo_core.specs.CommitMoves.{IsAtSend, acknowledges}
 use Rattle.rgo_core.specs.Core.{Setup}

@@ -1,8 +1,8 @@
 -- The law of each access to a channel, with what the calls ask and show.
 use Rattle.std.proofs.Common.{◌≡◌, ℕ, suc, [], Option, ◌+◌, ◌-◌, ◌%◌, ◌==◌, Bool, true, false, if◌then◌else◌, refl, ap, sym, subst, ◌∙◌, ◌++◌, slice_index, slice_set, arith}
 use prog.Atomic.{either}
-use Rattle.rgo_core_channels.specs.Controls.{closed_of, control, count_of, head_of}
-use Rattle.rgo_core_channels.specs.Records.{Free, Offering, Read, Wrote, with_hold, with_lock}
+use Rattle.rgo_core.specs.Channels.Controls.{closed_of, control, count_of, head_of}
+use Rattle.rgo_core.specs.Channels.Records.{Free, Offering, Read, Wrote, with_hold, with_lock}
 use Rattle.rgo_core.specs.AtChannels.{IsAtChannel, Operates, commits, knows}
 use Rattle.rgo_core.specs.Bounds.{Points}
 use Rattle.rgo_core.specs.CommitMoves.{Receives, offers}
@@ -15,7 +15,7 @@ use Rattle.rgo_core.proofs.Meetings as meeting_laws
 use Rattle.rgo_core_steps.specs.Accesses.{given_type}
 use Rattle.rgo_core_steps.specs.After.{acknowledging, committing}
 use Rattle.rgo_core_steps.specs.Channels.{CanAcknowledge, CanClose, CanLoadCell, CanMeet, CanOffer, CanReceive, CanReceiveZero, CanSend, CanStoreCell, ShowsCapacity, ShowsControl, ShowsOwnControl, found_by, value_by}
-use Rattle.rgo_typed.specs.declared.actions.Action.TheVariants.{Recv}
+use Rattle.rgo_sound.specs.Typed.declared.actions.Action.TheVariants.{Recv}
 use Rattle.rgo_core_steps.proofs.Accesses.{given_type_is}
 use Rattle.rgo_core_steps.proofs.After.{acknowledging_is, committing_is}
 use Rattle.rgo_core_steps.proofs.Telling.{tells_more}

@@ -1,14 +1,14 @@
 -- Records that may access a channel, and such as may not.
 use Rattle.std.proofs.Common.{◌≡◌, ◌<◌, ◌≢◌, ℕ, zero, suc, ◌+◌, ◌%◌, List, [], ◌∷◌, None, Option, Some, refl, inl, inr, ⊎_elim, ap, subst, sym, ◌∙◌, arith}
-use Rattle.rgo_code.specs.Code.{Do}
-use Rattle.rgo_core_channels.specs.Controls.{count_of, extent, head_of}
-use Rattle.rgo_core_channels.specs.Records.{Free, Hold, Locked, Offering, Sized, Wrote}
-use Rattle.rgo_core_channels.specs.Standing.{IsOfChannel}
-use Rattle.rgo_machine.specs.declared.limits.Limits.{Limits}
-use Rattle.rgo_machine.specs.declared.limits.Sizes.{Sizes}
-use Rattle.rgo_region_machine.specs.Examples.{int_slot, main_of, plain}
-use Rattle.rgo_typed.specs.declared.actions.Action.{Action}
-use Rattle.rgo_typed.specs.declared.actions.Action.TheVariants.{Close, Recv, Send}
+use Rattle.rgo_sound.specs.Code.Code.{Do}
+use Rattle.rgo_core.specs.Channels.Controls.{count_of, extent, head_of}
+use Rattle.rgo_core.specs.Channels.Records.{Free, Hold, Locked, Offering, Sized, Wrote}
+use Rattle.rgo_core.specs.Channels.Standing.{IsOfChannel}
+use Rattle.rgo_sound.specs.Machine.declared.limits.Limits.{Limits}
+use Rattle.rgo_sound.specs.Machine.declared.limits.Sizes.{Sizes}
+use Rattle.rgo_sound.specs.RegionMachine.Examples.{int_slot, main_of, plain}
+use Rattle.rgo_sound.specs.Typed.declared.actions.Action.{Action}
+use Rattle.rgo_sound.specs.Typed.declared.actions.Action.TheVariants.{Close, Recv, Send}
 use Rattle.rgo_core.specs.AtChannels.{Operates}
 use Rattle.rgo_core_steps.specs.ChannelExamples.{ChannelExamples, at_work, control_in, the_send}
 use Rattle.rgo_core_steps.specs.MemoryExamples.{doing}

@@ -1,11 +1,11 @@
 -- Accesses to the clock, by the functions of the record alone.
 use Rattle.std.proofs.Common.{◌≡◌, ℕ, ◌+◌, ◌%◌, ◌^◌, bit_or, unwrap_or, Option, Some, ap, subst, sym, ◌∙◌}
-use Rattle.rgo_core_frames.specs.Local.{local}
-use Rattle.rgo_core_frames.specs.Records.{Rec as FrameRec}
-use Rattle.rgo_core_memory.specs.Words.{clock_at}
-use Rattle.rgo_machine.specs.declared.picks.End.TheVariants as the_end
-use Rattle.rgo_memory.specs.declared.traps.Trap.{Trap}
-use Rattle.rgo_region_machine.specs.States.{Ended, Mark}
+use Rattle.rgo_core.specs.Frames.Local.{local}
+use Rattle.rgo_core.specs.Frames.Records.{Rec as FrameRec}
+use Rattle.rgo_core.specs.Memory.Words.{clock_at}
+use Rattle.rgo_sound.specs.Machine.declared.picks.End.TheVariants as the_end
+use Rattle.rgo_sound.specs.Memory.declared.traps.Trap.{Trap}
+use Rattle.rgo_sound.specs.RegionMachine.States.{Ended, Mark}
 use Rattle.rgo_core.specs.Core.{Setup}
 use Rattle.rgo_core.specs.Records.{Record, instructed, with_end}
 use Rattle.rgo_core.specs.Steps.{Moves}

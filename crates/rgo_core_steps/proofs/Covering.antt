@@ -4,11 +4,11 @@ use mathlib.Core.Logic.{◌⊎◌, dite}
 use mathlib.Core.Option.{some, some-injective, some-ne-none}
 use native.Mathlib.Decide.{ℕ_discrete}
 use lib.ListN.{get_elem?}
-use Rattle.rgo_core_rule.specs.Histories.{access, accesses_by}
-use Rattle.rgo_core_rule.specs.Passes.{ChangesNothingBy}
-use Rattle.rgo_core_rule.specs.Views.{Me, number_of}
-use Rattle.rgo_core_rule.specs.declared.accesses.Access.{Access}
-use Rattle.rgo_core_rule.specs.declared.accesses.Kind.{Kind}
+use Rattle.rgo_core.specs.Rule.Histories.{access, accesses_by}
+use Rattle.rgo_core.specs.Rule.Passes.{ChangesNothingBy}
+use Rattle.rgo_core.specs.Rule.Views.{Me, number_of}
+use Rattle.rgo_core.specs.Rule.declared.accesses.Access.{Access}
+use Rattle.rgo_core.specs.Rule.declared.accesses.Kind.{Kind}
 use Rattle.rgo_core_steps.specs.Grown.{Found}
 use Rattle.rgo_core_steps.specs.Searches.{AreTaken, Miss, TriedAll, around, misses, missing, places_of, upward}
 use Rattle.rgo_core_steps.proofs.Growing.{made_found, made_still, own_count}

@@ -2,12 +2,12 @@
 use Rattle.std.proofs.Common.{◌≡◌, ℕ, ◌+◌, ◌%◌, ◌^◌, ◌<◌, ◌≤◌, ◌⊎◌, inl, inr, [], ◌∷◌, Some, None, max, refl, ap, subst, sym, ◌∙◌, arith}
 use Rattle.std.proofs.lemmas.Bool.Decides.{nat_tests}
 use Rattle.std.proofs.lemmas.Grind.{common_steps}
-use Rattle.rgo_core_memory.specs.Words.{made_at}
-use Rattle.rgo_core_rule.specs.Steps.{Occurs, Told, ToldChild}
-use Rattle.rgo_core_rule.specs.Views.{Has, Me, Rows, number_in, number_of, record_in}
-use Rattle.rgo_core_rule.specs.declared.accesses.Kind.TheVariants.{DrawNumber}
-use Rattle.rgo_machine.specs.Limits.{most_goroutines}
-use Rattle.rgo_machine.specs.declared.limits.Limits.{Limits}
+use Rattle.rgo_core.specs.Memory.Words.{made_at}
+use Rattle.rgo_core.specs.Rule.Steps.{Occurs, Told, ToldChild}
+use Rattle.rgo_core.specs.Rule.Views.{Has, Me, Rows, number_in, number_of, record_in}
+use Rattle.rgo_core.specs.Rule.declared.accesses.Kind.TheVariants.{DrawNumber}
+use Rattle.rgo_sound.specs.Machine.Limits.{most_goroutines}
+use Rattle.rgo_sound.specs.Machine.declared.limits.Limits.{Limits}
 use Rattle.rgo_core.specs.Core.{Core, IsPossible, Setup}
 use Rattle.rgo_core.specs.Opening.{first_of}
 use Rattle.rgo_core.specs.Records.{Record, accesses}

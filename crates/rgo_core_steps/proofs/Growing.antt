@@ -3,14 +3,14 @@ use Rattle.std.proofs.Common.{◌≡◌, ℕ, zero, suc, ◌+◌, ◌<◌, Bool,
 use mathlib.Core.Option.{some, some-injective, some-ne-none}
 use lib.ListN.{get_elem?}
 use Rattle.std.proofs.lemmas.List.{append-nil}
-use Rattle.rgo_core_rule.specs.Histories.{access, accesses_by, is_number}
-use Rattle.rgo_core_rule.specs.Passes.{ChangesNothingBy}
-use Rattle.rgo_core_rule.specs.Steps.{Leaves}
-use Rattle.rgo_core_rule.specs.Views.{IsAlone, Me, number_in, number_of, record_in, record_of}
-use Rattle.rgo_core_rule.specs.declared.accesses.Access.{Access}
-use Rattle.rgo_core_rule.specs.declared.accesses.Kind.{Kind}
-use Rattle.rgo_core_rule.proofs.Histories.{by_append, by_own, by_some}
-use Rattle.rgo_core_rule.proofs.Lists.{append_at, at_append}
+use Rattle.rgo_core.specs.Rule.Histories.{access, accesses_by, is_number}
+use Rattle.rgo_core.specs.Rule.Passes.{ChangesNothingBy}
+use Rattle.rgo_core.specs.Rule.Steps.{Leaves}
+use Rattle.rgo_core.specs.Rule.Views.{IsAlone, Me, number_in, number_of, record_in, record_of}
+use Rattle.rgo_core.specs.Rule.declared.accesses.Access.{Access}
+use Rattle.rgo_core.specs.Rule.declared.accesses.Kind.{Kind}
+use Rattle.rgo_core.proofs.Rule.Histories.{by_append, by_own, by_some}
+use Rattle.rgo_core.proofs.Rule.Lists.{append_at, at_append}
 use Rattle.std.proofs.lemmas.Bool.Decides.{nat_tests}
 use Rattle.rgo_core_steps.specs.Grown.{Found, Grew, Made, own_by}
 

@@ -2,12 +2,12 @@
 use Rattle.std.proofs.Common.{◌≡◌, ◌<◌, ℕ, zero, suc, [], ◌∷◌, Some, refl, sym, subst, arith}
 use mathlib.Core.Option.{some, some-injective, some-ne-none}
 use lib.ListN.{get_elem?}
-use Rattle.rgo_core_rule.specs.Counting.{adds, child_record, new_adder, starts, three}
-use Rattle.rgo_core_rule.specs.Histories.{access}
-use Rattle.rgo_core_rule.specs.Views.{view}
-use Rattle.rgo_core_rule.specs.declared.counting.Adder.{Adder}
-use Rattle.rgo_core_rule.specs.declared.accesses.Access.{Access}
-use Rattle.rgo_core_rule.specs.declared.accesses.Kind.TheVariants.{DrawTicket, Load}
+use Rattle.rgo_core.specs.Rule.Counting.{adds, child_record, new_adder, starts, three}
+use Rattle.rgo_core.specs.Rule.Histories.{access}
+use Rattle.rgo_core.specs.Rule.Views.{view}
+use Rattle.rgo_core.specs.Rule.declared.counting.Adder.{Adder}
+use Rattle.rgo_core.specs.Rule.declared.accesses.Access.{Access}
+use Rattle.rgo_core.specs.Rule.declared.accesses.Kind.TheVariants.{DrawTicket, Load}
 use Rattle.rgo_core_steps.specs.Grown.{Found, GrownExamples, Made}
 use Rattle.rgo_core_steps.proofs.Growing.{made_counts}
 

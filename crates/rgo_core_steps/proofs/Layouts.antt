@@ -1,8 +1,8 @@
 -- The words of a table lie in it.
 use Rattle.std.proofs.Common.{ℕ, ◌<◌, ◌≤◌, arith}
 use Rattle.atomic_table.specs.Seated.{TableId}
-use Rattle.rgo_core_memory.specs.Words.{count_at, head_at, next_at, state_at}
-use Rattle.rgo_core_memory.specs.declared.layout.TableSizes.{TableSizes}
+use Rattle.rgo_core.specs.Memory.Words.{count_at, head_at, next_at, state_at}
+use Rattle.rgo_core.specs.Memory.declared.layout.TableSizes.{TableSizes}
 use Rattle.rgo_core.specs.Core.{Setup}
 use Rattle.rgo_core_steps.specs.Layouts.{HasLayout}
 

@@ -1,14 +1,14 @@
 -- Examples of accesses to memory, pages and counts.
 use Rattle.std.proofs.Common.{◌≡◌, ℕ, List, [], ◌∷◌, Some, refl, ap, ◌∙◌, arith}
 use Rattle.std.proofs.lemmas.Option.{none-some, same_Some}
-use Rattle.rgo_core_frames.specs.WordFrames.{WordFrame, bare, word_at}
-use Rattle.rgo_code.specs.Code.{Code, CodeInstr, CodeOp, Do}
-use Rattle.rgo_machine.specs.declared.limits.Limits.{Limits}
-use Rattle.rgo_machine.specs.declared.limits.Sizes.{Sizes}
-use Rattle.rgo_region_machine.specs.Examples.{int_slot, main_of, plain}
-use Rattle.rgo_region_machine.specs.Owed.{current}
-use Rattle.rgo_typed.specs.declared.actions.Action.TheVariants as action
-use Rattle.rgo_region_machine.specs.States.{Create, Duty}
+use Rattle.rgo_core.specs.Frames.WordFrames.{WordFrame, bare, word_at}
+use Rattle.rgo_sound.specs.Code.Code.{Code, CodeInstr, CodeOp, Do}
+use Rattle.rgo_sound.specs.Machine.declared.limits.Limits.{Limits}
+use Rattle.rgo_sound.specs.Machine.declared.limits.Sizes.{Sizes}
+use Rattle.rgo_sound.specs.RegionMachine.Examples.{int_slot, main_of, plain}
+use Rattle.rgo_sound.specs.RegionMachine.Owed.{current}
+use Rattle.rgo_sound.specs.Typed.declared.actions.Action.TheVariants as action
+use Rattle.rgo_sound.specs.RegionMachine.States.{Create, Duty}
 use Rattle.rgo_core.specs.ChannelExamples.{with_words}
 use Rattle.rgo_core.specs.Core.{Setup}
 use Rattle.rgo_core.specs.Next.{IsAt}

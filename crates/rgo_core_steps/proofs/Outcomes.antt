@@ -6,16 +6,16 @@ use Rattle.std.proofs.lemmas.Option.{same_Some, slice_get-map}
 use Rattle.std.specs.Option.{option_len}
 use mathlib.Core.Logic.{dite}
 use native.Mathlib.Decide.{ℕ_discrete}
-use Rattle.rgo_core_memory.specs.Words.{all_words, clock_at, count_at, head_at, made_at, next_at, state_at}
-use Rattle.rgo_core_memory.specs.declared.layout.TableSizes.{TableSizes}
-use Rattle.rgo_core_memory.proofs.Rows.{below}
-use Rattle.rgo_core_rule.specs.Lists.{flattened}
-use Rattle.rgo_core_rule.specs.Rule.{Closing}
-use Rattle.rgo_core_rule.specs.Views.{Has}
-use Rattle.rgo_core_rule.specs.declared.accesses.View.{View}
-use Rattle.rgo_machine.specs.Limits.{most_goroutines}
-use Rattle.rgo_region_machine.specs.Machine.{region_start}
-use Rattle.rgo_region_machine.specs.States.{Mark, RegionState}
+use Rattle.rgo_core.specs.Memory.Words.{all_words, clock_at, count_at, head_at, made_at, next_at, state_at}
+use Rattle.rgo_core.specs.Memory.declared.layout.TableSizes.{TableSizes}
+use Rattle.rgo_core.proofs.Memory.Rows.{below}
+use Rattle.rgo_core.specs.Rule.Lists.{flattened}
+use Rattle.rgo_core.specs.Rule.Rule.{Closing}
+use Rattle.rgo_core.specs.Rule.Views.{Has}
+use Rattle.rgo_core.specs.Rule.declared.accesses.View.{View}
+use Rattle.rgo_sound.specs.Machine.Limits.{most_goroutines}
+use Rattle.rgo_sound.specs.RegionMachine.Machine.{region_start}
+use Rattle.rgo_sound.specs.RegionMachine.States.{Mark, RegionState}
 use Rattle.rgo_sound.proofs.Places.{get_front, length_set}
 use Rattle.rgo_core.specs.Clock.{Clock, has_set, has_ticket}
 use Rattle.rgo_core.specs.Core.{Core, CoreAt, Setup, layout}

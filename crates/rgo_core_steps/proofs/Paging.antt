@@ -1,8 +1,8 @@
 -- Accesses to the states of pages, by the functions of the record alone.
 use prog.Atomic.{either}
 use Rattle.std.proofs.Common.{◌≡◌, ℕ, suc, ◌+◌, ◌<◌, ◌≤◌, ◌==◌, if◌then◌else◌, add-one, ap, sym, subst, ◌∙◌}
-use Rattle.rgo_core_memory.specs.Records.{Giving, Got, Hung, Past, with_claim, with_give}
-use Rattle.rgo_core_memory.specs.Words.{head_at, next_at, state_at}
+use Rattle.rgo_core.specs.Memory.Records.{Giving, Got, Hung, Past, with_claim, with_give}
+use Rattle.rgo_core.specs.Memory.Words.{head_at, next_at, state_at}
 use Rattle.rgo_core.specs.Chains.{frees, remembers}
 use Rattle.rgo_core.specs.Core.{Setup, layout}
 use Rattle.rgo_core.specs.Records.{Record}

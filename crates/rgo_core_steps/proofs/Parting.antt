@@ -1,8 +1,8 @@
 -- A seat with the records of two goroutines, and the seats with one record each after it was split.
 use Rattle.std.proofs.Common.{◌≡◌, ℕ, [], ◌∷◌, ap, sym, ◌∙◌, arith}
 use lib.ListN.{get_elem?}
-use Rattle.rgo_core_rule.specs.Views.{Has, Me, Rows, number_in, number_of, record_in, rows_but, rows_of, view}
-use Rattle.rgo_core_rule.proofs.Rows.{two_rows}
+use Rattle.rgo_core.specs.Rule.Views.{Has, Me, Rows, number_in, number_of, record_in, rows_but, rows_of, view}
+use Rattle.rgo_core.proofs.Rule.Rows.{two_rows}
 use Rattle.rgo_core.specs.Core.{Setup}
 use Rattle.rgo_core.specs.Opening.{first_of}
 use Rattle.rgo_core.specs.Records.{Record}

@@ -3,11 +3,11 @@ use prog.Atomic.{either}
 use Rattle.std.proofs.Common.{◌≡◌, ◌≢◌, ℕ, zero, suc, ◌+◌, ◌-◌, ◌<◌, ◌≤◌, ◌==◌, false, List, [], ◌∷◌, ◌++◌, if◌then◌else◌, refl, ap, sym, subst, ◌∙◌, arith, append_assoc}
 use Rattle.std.proofs.lemmas.Bool.Decides.{nat_tests}
 use Rattle.std.proofs.lemmas.List.{append-nil}
-use Rattle.rgo_core_rule.specs.Histories.{access}
-use Rattle.rgo_core_rule.specs.Steps.{Leaves}
-use Rattle.rgo_core_rule.specs.Views.{IsAlone, Me, record_of}
-use Rattle.rgo_core_rule.specs.declared.accesses.Access.{Access}
-use Rattle.rgo_core_rule.specs.declared.accesses.Kind.{Kind}
+use Rattle.rgo_core.specs.Rule.Histories.{access}
+use Rattle.rgo_core.specs.Rule.Steps.{Leaves}
+use Rattle.rgo_core.specs.Rule.Views.{IsAlone, Me, record_of}
+use Rattle.rgo_core.specs.Rule.declared.accesses.Access.{Access}
+use Rattle.rgo_core.specs.Rule.declared.accesses.Kind.{Kind}
 use Rattle.rgo_core_steps.specs.Grown.{Made}
 use Rattle.rgo_core_steps.specs.Searches.{AreTaken, Miss, Took, TookOne, Tried, TriedAll, around, misses, missing, places_of, upward}
 use Rattle.rgo_core_steps.proofs.Growing.{made_none, made_one, made_then}

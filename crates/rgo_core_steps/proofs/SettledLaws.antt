@@ -1,9 +1,9 @@
 -- Records after local steps.
 use Rattle.std.specs.Option.{option_map_or}
 use Rattle.std.proofs.Common.{◌≡◌, ℕ, zero, suc, ◌+◌, List, [], ◌∷◌, Option, None, Some, refl, ap, sym, subst, ◌∙◌, arith}
-use Rattle.rgo_core_frames.specs.Quiet.{quiet}
-use Rattle.rgo_core_frames.specs.Records.{Rec as FrameRec}
-use Rattle.rgo_region_machine.specs.States.{Duty}
+use Rattle.rgo_core.specs.Frames.Quiet.{quiet}
+use Rattle.rgo_core.specs.Frames.Records.{Rec as FrameRec}
+use Rattle.rgo_sound.specs.RegionMachine.States.{Duty}
 use Rattle.rgo_core.specs.Core.{Setup}
 use Rattle.rgo_core.specs.Laws.{clock_after}
 use Rattle.rgo_core.specs.Records.{ClockRec, Record}

@@ -2,17 +2,17 @@
 use Rattle.std.specs.Option.{option_map_or}
 use Rattle.std.proofs.Common.{◌≡◌, ℕ, zero, suc, List, [], ◌∷◌, ◌++◌, Option, Some, set, inl, inr, ⊎_elim, ap, refl, sym, subst, ◌∙◌, append_assoc}
 use Rattle.atomic_table.proofs.Lists.{set_here}
-use Rattle.rgo_core_frames.specs.Quiet.{quiet}
-use Rattle.rgo_core_frames.specs.Records.{Rec as FrameRec}
-use Rattle.rgo_core_rule.specs.Views.{Me, number_of}
-use Rattle.rgo_core_rule.proofs.Lists.{at_below, set_twice}
-use Rattle.rgo_core_rule.proofs.Still.{still_move, still_same, still_then}
+use Rattle.rgo_core.specs.Frames.Quiet.{quiet}
+use Rattle.rgo_core.specs.Frames.Records.{Rec as FrameRec}
+use Rattle.rgo_core.specs.Rule.Views.{Me, number_of}
+use Rattle.rgo_core.proofs.Rule.Lists.{at_below, set_twice}
+use Rattle.rgo_core.proofs.Rule.Still.{still_move, still_same, still_then}
 use Rattle.rgo_core.specs.Core.{Core, Setup}
 use Rattle.rgo_core.specs.Laws.{clock_after}
 use Rattle.rgo_core.specs.Records.{ClockRec, Record, accesses}
 use Rattle.rgo_core.specs.Steps.{IsStill, Moves, MovesEither}
 use Rattle.rgo_core.proofs.Local.{local_still}
-use Rattle.rgo_region_machine.specs.States.{Duty}
+use Rattle.rgo_sound.specs.RegionMachine.States.{Duty}
 use Rattle.rgo_sound.proofs.Places.{length_set}
 use Rattle.rgo_core_steps.specs.Seats.{IsQuiet, Settles, SettlesBy, mine, settled, settled_by, settled_once}
 

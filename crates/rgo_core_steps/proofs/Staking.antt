@@ -3,11 +3,11 @@ use prog.Atomic.{either}
 use Rattle.std.specs.Option.{option_map_or}
 use Rattle.std.proofs.Common.{◌≡◌, ℕ, ◌+◌, ◌-◌, ◌%◌, ◌^◌, ◌<◌, ◌==◌, Bool, true, false, List, [], ◌∷◌, Option, Some, if◌then◌else◌, refl, ap, sym, subst, ◌∙◌}
 use Rattle.std.proofs.lemmas.Option.{none-some}
-use Rattle.rgo_region_machine.specs.States.{Duty, Holder}
+use Rattle.rgo_sound.specs.RegionMachine.States.{Duty, Holder}
 use Rattle.rgo_sound.specs.Stakes.{is_in}
-use Rattle.rgo_core_channels.specs.Records.{at_rest}
-use Rattle.rgo_core_frames.specs.Stakes.{stake_ended, stake_shared}
-use Rattle.rgo_core_memory.specs.Words.{count_at}
+use Rattle.rgo_core.specs.Channels.Records.{at_rest}
+use Rattle.rgo_core.specs.Frames.Stakes.{stake_ended, stake_shared}
+use Rattle.rgo_core.specs.Memory.Words.{count_at}
 use Rattle.rgo_core.specs.Core.{Setup, layout}
 use Rattle.rgo_core.specs.Records.{Record}
 use Rattle.rgo_core.specs.Regions.{with_holder}

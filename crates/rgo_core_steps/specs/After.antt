@@ -2,20 +2,20 @@
 -- next instruction stays as it is.
 use Rattle.std.specs.Option.{option_map, option_map_or}
 use Rattle.std.specs.Prelude.{ℕ, suc, ◌+◌, ◌*◌, List, [], ◌∷◌, Option, None, unwrap_or}
-use Rattle.rgo_code.specs.Code.{Branch, Call, Code, CodeFn, CodeInstr, CodeOp, Do, Go, Jump, Print, Return}
-use Rattle.rgo_core_channels.specs.Records.{at_rest}
-use Rattle.rgo_core_frames.specs.Actions.{after_action}
-use Rattle.rgo_core_frames.specs.Children.{child_records}
-use Rattle.rgo_core_frames.specs.Meetings.{acknowledged}
-use Rattle.rgo_core_frames.specs.Opening.{no_record}
-use Rattle.rgo_core_frames.specs.Prints.{printed_values}
-use Rattle.rgo_core_frames.specs.Records.{after_op}
-use Rattle.rgo_core_frames.specs.WordFrames.{WordFrame, bare, word_called, word_moved, words_of}
-use Rattle.rgo_core_memory.specs.Records.{Fill, with_object}
-use Rattle.rgo_machine.specs.Lines.{line_of}
-use Rattle.rgo_memory.specs.Memory.{Object}
-use Rattle.rgo_region_machine.specs.Objects.{words as words_in}
-use Rattle.rgo_region_machine.specs.Owed.{current, function_of}
+use Rattle.rgo_sound.specs.Code.Code.{Branch, Call, Code, CodeFn, CodeInstr, CodeOp, Do, Go, Jump, Print, Return}
+use Rattle.rgo_core.specs.Channels.Records.{at_rest}
+use Rattle.rgo_core.specs.Frames.Actions.{after_action}
+use Rattle.rgo_core.specs.Frames.Children.{child_records}
+use Rattle.rgo_core.specs.Frames.Meetings.{acknowledged}
+use Rattle.rgo_core.specs.Frames.Opening.{no_record}
+use Rattle.rgo_core.specs.Frames.Prints.{printed_values}
+use Rattle.rgo_core.specs.Frames.Records.{after_op}
+use Rattle.rgo_core.specs.Frames.WordFrames.{WordFrame, bare, word_called, word_moved, words_of}
+use Rattle.rgo_core.specs.Memory.Records.{Fill, with_object}
+use Rattle.rgo_sound.specs.Machine.Lines.{line_of}
+use Rattle.rgo_sound.specs.Memory.Memory.{Object}
+use Rattle.rgo_sound.specs.RegionMachine.Objects.{words as words_in}
+use Rattle.rgo_sound.specs.RegionMachine.Owed.{current, function_of}
 use Rattle.rgo_core.specs.Core.{Setup}
 use Rattle.rgo_core.specs.Laws.{first_in}
 use Rattle.rgo_core.specs.Records.{Record, accessed, begins_with, ticked, with_child, with_print}

@@ -1,11 +1,11 @@
 -- What each access to a channel asks: records that may make it, and such as may not.
 use Rattle.std.specs.Prelude.{◌+◌, ℕ, [], ◌∷◌, None, Some}
-use Rattle.rgo_code.specs.Code.{CodeOp, Do}
-use Rattle.rgo_core_channels.specs.Records.{Free, Hold, Locked, Read, Sized, Wrote, at_rest, offering}
-use Rattle.rgo_core_memory.specs.Words.{base}
-use Rattle.rgo_machine.specs.declared.limits.Limits.{Limits}
-use Rattle.rgo_machine.specs.declared.limits.Sizes.{Sizes}
-use Rattle.rgo_typed.specs.declared.actions.Action.TheVariants.{Close, Recv, Send}
+use Rattle.rgo_sound.specs.Code.Code.{CodeOp, Do}
+use Rattle.rgo_core.specs.Channels.Records.{Free, Hold, Locked, Read, Sized, Wrote, at_rest, offering}
+use Rattle.rgo_core.specs.Memory.Words.{base}
+use Rattle.rgo_sound.specs.Machine.declared.limits.Limits.{Limits}
+use Rattle.rgo_sound.specs.Machine.declared.limits.Sizes.{Sizes}
+use Rattle.rgo_sound.specs.Typed.declared.actions.Action.TheVariants.{Close, Recv, Send}
 use Rattle.rgo_core.specs.ChannelExamples.{with_words}
 use Rattle.rgo_core.specs.Core.{Setup, layout}
 use Rattle.rgo_core.specs.Records.{Record}

@@ -1,12 +1,12 @@
 -- What each access to a channel asks of the record of its goroutine, and what it shows. A channel is named by `at`, the word of its
 -- control.
 use Rattle.std.specs.Prelude.{◌≡◌, ◌⊎◌, ◌+◌, ◌%◌, ◌^◌, ◌<◌, ◌≤◌, ℕ, [], ◌∷◌, Option}
-use Rattle.rgo_core_channels.specs.Controls.{closed_of, count_of, extent, head_of}
-use Rattle.rgo_core_channels.specs.Locking.{IsSpare}
-use Rattle.rgo_core_channels.specs.Records.{Free, Hold, Locked, Offering, Read, Sized, Wrote, with_look, with_own_look, with_size}
-use Rattle.rgo_core_frames.specs.WordFrames.{word_at}
-use Rattle.rgo_core_memory.specs.Words.{all_words}
-use Rattle.rgo_typed.specs.declared.actions.Action.TheVariants.{Close, Recv, Send}
+use Rattle.rgo_core.specs.Channels.Controls.{closed_of, count_of, extent, head_of}
+use Rattle.rgo_core.specs.Channels.Locking.{IsSpare}
+use Rattle.rgo_core.specs.Channels.Records.{Free, Hold, Locked, Offering, Read, Sized, Wrote, with_look, with_own_look, with_size}
+use Rattle.rgo_core.specs.Frames.WordFrames.{word_at}
+use Rattle.rgo_core.specs.Memory.Words.{all_words}
+use Rattle.rgo_sound.specs.Typed.declared.actions.Action.TheVariants.{Close, Recv, Send}
 use Rattle.rgo_core.specs.AtChannels.{Operates, knows}
 use Rattle.rgo_core.specs.CommitMoves.{IsAtSend}
 use Rattle.rgo_core.specs.Core.{Setup, layout}

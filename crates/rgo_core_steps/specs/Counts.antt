@@ -1,10 +1,10 @@
 -- Accesses to the counts of regions, each the first duty of a goroutine, and the record after each of them.
 use Rattle.std.specs.Option.{option_map_or}
 use Rattle.std.specs.Prelude.{◌≡◌, ◌==◌, ℕ, List, [], ◌∷◌, Option, Some, None, if◌then◌else◌}
-use Rattle.rgo_region_machine.specs.States.{Create, Duty, EndBase, Holder, Protect, Remove, Share, Unprotect}
-use Rattle.rgo_core_frames.specs.Stakes.{stake_ended, stake_shared}
-use Rattle.rgo_core_memory.specs.Events.{IsFreeOf}
-use Rattle.rgo_core_memory.specs.Records.{Calm, with_tried_slot}
+use Rattle.rgo_sound.specs.RegionMachine.States.{Create, Duty, EndBase, Holder, Protect, Remove, Share, Unprotect}
+use Rattle.rgo_core.specs.Frames.Stakes.{stake_ended, stake_shared}
+use Rattle.rgo_core.specs.Memory.Events.{IsFreeOf}
+use Rattle.rgo_core.specs.Memory.Records.{Calm, with_tried_slot}
 use Rattle.rgo_core.specs.Chains.{remembers}
 use Rattle.rgo_core.specs.Records.{Record}
 use Rattle.rgo_core.specs.Regions.{HasLeft, creates, with_holder}

@@ -1,25 +1,25 @@
 -- Why a goroutine ends the run, as its record says, and the record after it has set the end mark.
 use Rattle.std.specs.Prelude.{◌≡◌, ◌⊎◌, ◌≤◌, ◌^◌, ℕ, true, List, [], ◌∷◌, Option, Some, None, length, unwrap_or}
-use Rattle.rgo_ast.specs.declared.ops.BinaryOp.{BinaryOp}
-use Rattle.rgo_ast.specs.declared.ops.BinaryOp.TheVariants.{Div, Rem}
-use Rattle.rgo_code.specs.Code.{Call, Code, CodeFn, Do, Go}
-use Rattle.rgo_core_channels.specs.Records.{Shut, Stranded, at_rest}
-use Rattle.rgo_core_frames.specs.Local.{local}
-use Rattle.rgo_core_frames.specs.Quiet.{is_exit}
-use Rattle.rgo_core_frames.specs.Records.{Rec as FrameRec}
-use Rattle.rgo_core_frames.specs.WordFrames.{word_at}
-use Rattle.rgo_machine.specs.Limits.{deepest}
-use Rattle.rgo_machine.specs.declared.picks.End.{End}
-use Rattle.rgo_machine.specs.declared.picks.End.TheVariants as the_end
-use Rattle.rgo_memory.specs.declared.traps.Trap.{Trap}
-use Rattle.rgo_memory.specs.declared.traps.Trap.TheVariants.{BadSize, CloseClosed, CloseNil, DivideZero, IndexRange, NilPointer, SendClosed}
-use Rattle.rgo_region_machine.specs.Owed.{function_of}
-use Rattle.rgo_region_machine.specs.States.{Ended, Mark, Stopped}
-use Rattle.rgo_region_machine.specs.declared.limits.Limit.{Limit}
-use Rattle.rgo_region_machine.specs.declared.limits.Limit.TheVariants as limit
-use Rattle.rgo_tac.specs.declared.regions.Class.{Class}
-use Rattle.rgo_typed.specs.declared.actions.Action.{Action}
-use Rattle.rgo_typed.specs.declared.actions.Action.TheVariants as action
+use Rattle.rgo_sound.specs.Ast.declared.ops.BinaryOp.{BinaryOp}
+use Rattle.rgo_sound.specs.Ast.declared.ops.BinaryOp.TheVariants.{Div, Rem}
+use Rattle.rgo_sound.specs.Code.Code.{Call, Code, CodeFn, Do, Go}
+use Rattle.rgo_core.specs.Channels.Records.{Shut, Stranded, at_rest}
+use Rattle.rgo_core.specs.Frames.Local.{local}
+use Rattle.rgo_core.specs.Frames.Quiet.{is_exit}
+use Rattle.rgo_core.specs.Frames.Records.{Rec as FrameRec}
+use Rattle.rgo_core.specs.Frames.WordFrames.{word_at}
+use Rattle.rgo_sound.specs.Machine.Limits.{deepest}
+use Rattle.rgo_sound.specs.Machine.declared.picks.End.{End}
+use Rattle.rgo_sound.specs.Machine.declared.picks.End.TheVariants as the_end
+use Rattle.rgo_sound.specs.Memory.declared.traps.Trap.{Trap}
+use Rattle.rgo_sound.specs.Memory.declared.traps.Trap.TheVariants.{BadSize, CloseClosed, CloseNil, DivideZero, IndexRange, NilPointer, SendClosed}
+use Rattle.rgo_sound.specs.RegionMachine.Owed.{function_of}
+use Rattle.rgo_sound.specs.RegionMachine.States.{Ended, Mark, Stopped}
+use Rattle.rgo_sound.specs.RegionMachine.declared.limits.Limit.{Limit}
+use Rattle.rgo_sound.specs.RegionMachine.declared.limits.Limit.TheVariants as limit
+use Rattle.rgo_sound.specs.Tac.declared.regions.Class.{Class}
+use Rattle.rgo_sound.specs.Typed.declared.actions.Action.{Action}
+use Rattle.rgo_sound.specs.Typed.declared.actions.Action.TheVariants as action
 use Rattle.rgo_core.specs.AtChannels.{Operates}
 use Rattle.rgo_core.specs.Causes.{Stops as StopsBy}
 use Rattle.rgo_core.specs.CommitMoves.{IsAtSend}

@@ -1,15 +1,15 @@
 -- Each definition where it holds and where it must not.
 use Rattle.std.specs.Prelude.{◌≡◌, ◌^◌, ◌+◌, ℕ, suc, true, [], ◌∷◌, Some, None, slice_set}
-use Rattle.rgo_code.specs.Code.{Code, Do, Return}
-use Rattle.rgo_core_frames.specs.Opening.{no_record}
-use Rattle.rgo_core_rule.specs.Views.{Me, view}
-use Rattle.rgo_machine.specs.Limits.{most_goroutines}
-use Rattle.rgo_machine.specs.declared.picks.End.TheVariants as the_end
-use Rattle.rgo_memory.specs.declared.traps.Trap.{Trap}
-use Rattle.rgo_memory.specs.declared.traps.Trap.TheVariants.{SendClosed}
-use Rattle.rgo_region_machine.specs.States.{Ended, RegionState, Stopped}
-use Rattle.rgo_region_machine.specs.declared.limits.Limit.TheVariants.{Memory}
-use Rattle.rgo_typed.specs.declared.actions.Action.{Action}
+use Rattle.rgo_sound.specs.Code.Code.{Code, Do, Return}
+use Rattle.rgo_core.specs.Frames.Opening.{no_record}
+use Rattle.rgo_core.specs.Rule.Views.{Me, view}
+use Rattle.rgo_sound.specs.Machine.Limits.{most_goroutines}
+use Rattle.rgo_sound.specs.Machine.declared.picks.End.TheVariants as the_end
+use Rattle.rgo_sound.specs.Memory.declared.traps.Trap.{Trap}
+use Rattle.rgo_sound.specs.Memory.declared.traps.Trap.TheVariants.{SendClosed}
+use Rattle.rgo_sound.specs.RegionMachine.States.{Ended, RegionState, Stopped}
+use Rattle.rgo_sound.specs.RegionMachine.declared.limits.Limit.TheVariants.{Memory}
+use Rattle.rgo_sound.specs.Typed.declared.actions.Action.{Action}
 use Rattle.rgo_core.specs.Core.{Setup}
 use Rattle.rgo_core.specs.Opening.{opening}
 use Rattle.rgo_core.specs.Records.{Record, begins_with, blank, instructed, looked, steps_of, with_child, with_end, with_print}

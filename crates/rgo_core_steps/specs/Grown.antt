@@ -2,13 +2,13 @@
 use Rattle.std.specs.Prelude.{◌≡◌, ◌<◌, ◌+◌, ℕ, List, [], ◌∷◌, ◌++◌, Some, if◌then◌else◌}
 use mathlib.Core.Option.{some}
 use lib.ListN.{get_elem?}
-use Rattle.rgo_core_rule.specs.Counting.{adds, child_record, new_adder, three, two}
-use Rattle.rgo_core_rule.specs.Histories.{access, accesses_by, is_number}
-use Rattle.rgo_core_rule.specs.Views.{IsAlone, Me, number_of, record_of, view}
-use Rattle.rgo_core_rule.specs.declared.accesses.Access.{Access}
-use Rattle.rgo_core_rule.specs.declared.accesses.Kind.TheVariants.{DrawTicket, Load}
-use Rattle.rgo_core_rule.specs.declared.accesses.Kind.{Kind}
-use Rattle.rgo_core_rule.specs.declared.counting.Adder.{Adder}
+use Rattle.rgo_core.specs.Rule.Counting.{adds, child_record, new_adder, three, two}
+use Rattle.rgo_core.specs.Rule.Histories.{access, accesses_by, is_number}
+use Rattle.rgo_core.specs.Rule.Views.{IsAlone, Me, number_of, record_of, view}
+use Rattle.rgo_core.specs.Rule.declared.accesses.Access.{Access}
+use Rattle.rgo_core.specs.Rule.declared.accesses.Kind.TheVariants.{DrawTicket, Load}
+use Rattle.rgo_core.specs.Rule.declared.accesses.Kind.{Kind}
+use Rattle.rgo_core.specs.Rule.declared.counting.Adder.{Adder}
 
 -- those that goroutine g made, in their order
 abbrev pub own_by : ℕ → List Access → List Access

@@ -1,8 +1,8 @@
 -- The sizes of a table, by which calls find its words.
 use Rattle.std.specs.Prelude.{◌≡◌, ◌≤◌, ◌^◌}
 use Rattle.atomic_table.specs.Seated.{TableId}
-use Rattle.rgo_core_memory.specs.Words.{all_words}
-use Rattle.rgo_core_memory.specs.declared.layout.TableSizes.{TableSizes}
+use Rattle.rgo_core.specs.Memory.Words.{all_words}
+use Rattle.rgo_core.specs.Memory.declared.layout.TableSizes.{TableSizes}
 use Rattle.rgo_core.specs.Core.{Setup, layout}
 
 -- these are the sizes of the table that was made for T, and the table has all its words

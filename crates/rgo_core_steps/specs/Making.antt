@@ -2,24 +2,24 @@
 -- each store of one of its words.
 use Rattle.std.specs.Option.{option_map, option_map_or}
 use Rattle.std.specs.Prelude.{◌≡◌, ◌⊎◌, ◌<◌, ◌≤◌, ◌+◌, ◌*◌, ◌==◌, ◌^◌, ℕ, zero, suc, Bool, true, false, List, [], ◌∷◌, Option, Some, None, if◌then◌else◌, map, nat_eq, nat_lt, option_and_then, replicate, slice_get}
-use Rattle.rgo_code.specs.Code.{Branch, Call, Code, CodeOp, Do, Go, Jump, Print, Return}
-use Rattle.rgo_code.specs.Erasure.{erased}
-use Rattle.rgo_memory.specs.Memory.{Channel, Object, SliceObject, StructObject}
-use Rattle.rgo_memory.specs.Values.{element_zero, zero_of}
-use Rattle.rgo_region_machine.specs.Objects.{making_region, words as words_of}
-use Rattle.rgo_region_machine.specs.Owed.{function_of}
-use Rattle.rgo_region_machine.specs.States.{top_names}
-use Rattle.rgo_region_machine.specs.declared.regions.Region.{Region}
-use Rattle.rgo_tac.specs.Steps.{type_of}
-use Rattle.rgo_typed.specs.declared.actions.Action.{Action}
-use Rattle.rgo_typed.specs.declared.actions.Action.TheVariants as action
-use Rattle.rgo_typed.specs.declared.programs.Struct.{Struct}
-use Rattle.rgo_core_channels.specs.Records.{at_rest}
-use Rattle.rgo_core_frames.specs.WordFrames.{WordFrame, bare, word_at}
-use Rattle.rgo_core_memory.specs.Encoding.{content, opening}
-use Rattle.rgo_core_memory.specs.Pages.{times}
-use Rattle.rgo_core_memory.specs.Records.{Amid, Fill, Idle, Make, Rec as MemoryRec, Rest, Within, with_word}
-use Rattle.rgo_core_memory.specs.Words.{cell_at}
+use Rattle.rgo_sound.specs.Code.Code.{Branch, Call, Code, CodeOp, Do, Go, Jump, Print, Return}
+use Rattle.rgo_sound.specs.Code.Erasure.{erased}
+use Rattle.rgo_sound.specs.Memory.Memory.{Channel, Object, SliceObject, StructObject}
+use Rattle.rgo_sound.specs.Memory.Values.{element_zero, zero_of}
+use Rattle.rgo_sound.specs.RegionMachine.Objects.{making_region, words as words_of}
+use Rattle.rgo_sound.specs.RegionMachine.Owed.{function_of}
+use Rattle.rgo_sound.specs.RegionMachine.States.{top_names}
+use Rattle.rgo_sound.specs.RegionMachine.declared.regions.Region.{Region}
+use Rattle.rgo_sound.specs.Tac.Steps.{type_of}
+use Rattle.rgo_sound.specs.Typed.declared.actions.Action.{Action}
+use Rattle.rgo_sound.specs.Typed.declared.actions.Action.TheVariants as action
+use Rattle.rgo_sound.specs.Typed.declared.programs.Struct.{Struct}
+use Rattle.rgo_core.specs.Channels.Records.{at_rest}
+use Rattle.rgo_core.specs.Frames.WordFrames.{WordFrame, bare, word_at}
+use Rattle.rgo_core.specs.Memory.Encoding.{content, opening}
+use Rattle.rgo_core.specs.Memory.Pages.{times}
+use Rattle.rgo_core.specs.Memory.Records.{Amid, Fill, Idle, Make, Rec as MemoryRec, Rest, Within, with_word}
+use Rattle.rgo_core.specs.Memory.Words.{cell_at}
 use Rattle.rgo_core.specs.Bounds.{LieInPages, Points}
 use Rattle.rgo_core.specs.Core.{Setup, layout}
 use Rattle.rgo_core.specs.NewObjects.{MakesObject, slot_number}

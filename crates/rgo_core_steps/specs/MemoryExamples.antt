@@ -1,18 +1,18 @@
 -- The definitions of accesses to memory, pages and counts, each where it holds and where it must not.
 use Rattle.std.specs.Prelude.{◌≡◌, ◌+◌, ℕ, true, false, List, [], ◌∷◌, Some, None, pos}
-use Rattle.rgo_code.specs.Code.{Code, CodeOp, Do}
-use Rattle.rgo_core_frames.specs.Opening.{no_record}
-use Rattle.rgo_core_frames.specs.WordFrames.{WordFrame}
-use Rattle.rgo_core_memory.specs.Records.{Fill}
-use Rattle.rgo_core_rule.specs.declared.accesses.Kind.TheVariants.{CreateRegion}
-use Rattle.rgo_core_rule.specs.Histories.{access}
-use Rattle.rgo_memory.specs.Memory.{Channel, Object, StructObject}
-use Rattle.rgo_memory.specs.declared.values.Value.TheVariants as value
-use Rattle.rgo_machine.specs.declared.limits.Limits.{Limits}
-use Rattle.rgo_machine.specs.declared.limits.Sizes.{Sizes}
-use Rattle.rgo_region_machine.specs.Examples.{code_of, int_slot, main_of, node, plain}
-use Rattle.rgo_region_machine.specs.States.{Create}
-use Rattle.rgo_typed.specs.declared.actions.Action.TheVariants as action
+use Rattle.rgo_sound.specs.Code.Code.{Code, CodeOp, Do}
+use Rattle.rgo_core.specs.Frames.Opening.{no_record}
+use Rattle.rgo_core.specs.Frames.WordFrames.{WordFrame}
+use Rattle.rgo_core.specs.Memory.Records.{Fill}
+use Rattle.rgo_core.specs.Rule.declared.accesses.Kind.TheVariants.{CreateRegion}
+use Rattle.rgo_core.specs.Rule.Histories.{access}
+use Rattle.rgo_sound.specs.Memory.Memory.{Channel, Object, StructObject}
+use Rattle.rgo_sound.specs.Memory.declared.values.Value.TheVariants as value
+use Rattle.rgo_sound.specs.Machine.declared.limits.Limits.{Limits}
+use Rattle.rgo_sound.specs.Machine.declared.limits.Sizes.{Sizes}
+use Rattle.rgo_sound.specs.RegionMachine.Examples.{code_of, int_slot, main_of, node, plain}
+use Rattle.rgo_sound.specs.RegionMachine.States.{Create}
+use Rattle.rgo_sound.specs.Typed.declared.actions.Action.TheVariants as action
 use Rattle.rgo_core.specs.ChannelExamples.{with_words}
 use Rattle.rgo_core.specs.Core.{Setup}
 use Rattle.rgo_core.specs.Records.{Record, begins_with}

@@ -1,18 +1,18 @@
 -- What the words of a table and the records of its goroutines show of the run: who has ended it, and what it has printed.
 use Rattle.std.specs.Prelude.{◌≡◌, ◌≤◌, ◌<◌, ◌^◌, ℕ, false, List, [], ◌∷◌, Some, map, slice_get, slice_index}
 use mathlib.Core.Logic.{◌↔◌}
-use Rattle.rgo_code.specs.Checked.{IsChecked}
-use Rattle.rgo_code.specs.NameRules.{Ascends}
-use Rattle.rgo_core_frames.specs.Constants.{ConstantsFit}
-use Rattle.rgo_core_memory.specs.Words.{clock_at, count_at, head_at, made_at, next_at, state_at}
-use Rattle.rgo_core_rule.specs.Lists.{flattened}
-use Rattle.rgo_core_rule.specs.Rule.{Closing}
-use Rattle.rgo_core_rule.specs.Views.{Has}
-use Rattle.rgo_core_rule.specs.declared.accesses.View.{View}
-use Rattle.rgo_machine.specs.Limits.{most_goroutines}
-use Rattle.rgo_region_machine.specs.Counts.{counts_of}
-use Rattle.rgo_region_machine.specs.Machine.{Event, region_start}
-use Rattle.rgo_region_machine.specs.States.{Mark, RegionState}
+use Rattle.rgo_sound.specs.Code.Checked.{IsChecked}
+use Rattle.rgo_sound.specs.Code.NameRules.{Ascends}
+use Rattle.rgo_core.specs.Frames.Constants.{ConstantsFit}
+use Rattle.rgo_core.specs.Memory.Words.{clock_at, count_at, head_at, made_at, next_at, state_at}
+use Rattle.rgo_core.specs.Rule.Lists.{flattened}
+use Rattle.rgo_core.specs.Rule.Rule.{Closing}
+use Rattle.rgo_core.specs.Rule.Views.{Has}
+use Rattle.rgo_core.specs.Rule.declared.accesses.View.{View}
+use Rattle.rgo_sound.specs.Machine.Limits.{most_goroutines}
+use Rattle.rgo_sound.specs.RegionMachine.Counts.{counts_of}
+use Rattle.rgo_sound.specs.RegionMachine.Machine.{Event, region_start}
+use Rattle.rgo_sound.specs.RegionMachine.States.{Mark, RegionState}
 use Rattle.rgo_core.specs.Causes.{IsCause}
 use Rattle.rgo_core.specs.Core.{Core, CoreAt, Setup, layout}
 use Rattle.rgo_core.specs.Opening.{first_of, opening}

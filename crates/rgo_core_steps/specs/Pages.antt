@@ -1,6 +1,6 @@
 -- The record after an access to the state of a page.
 use Rattle.std.specs.Prelude.{◌==◌, ℕ, if◌then◌else◌}
-use Rattle.rgo_core_memory.specs.Records.{with_tried_page}
+use Rattle.rgo_core.specs.Memory.Records.{with_tried_page}
 use Rattle.rgo_core.specs.Chains.{remembers}
 use Rattle.rgo_core.specs.Claims.{claims}
 use Rattle.rgo_core.specs.Records.{Record}

@@ -1,8 +1,8 @@
 -- Prints, as the record of a goroutine tells them.
 use Rattle.std.specs.Prelude.{◌≡◌, ◌<◌, ℕ, List, length}
-use Rattle.rgo_code.specs.Code.{Print}
-use Rattle.rgo_core_channels.specs.Records.{at_rest}
-use Rattle.rgo_typed.specs.declared.statements.Piece.{Piece}
+use Rattle.rgo_sound.specs.Code.Code.{Print}
+use Rattle.rgo_core.specs.Channels.Records.{at_rest}
+use Rattle.rgo_sound.specs.Typed.declared.statements.Piece.{Piece}
 use Rattle.rgo_core.specs.Core.{Setup}
 use Rattle.rgo_core.specs.Next.{IsAt}
 use Rattle.rgo_core.specs.Records.{Record}

@@ -2,13 +2,13 @@
 use Rattle.std.specs.Option.{option_map_or}
 use Rattle.std.specs.Prelude.{◌≡◌, ◌<◌, ◌≤◌, ℕ, zero, suc, [], ◌∷◌, Some, length}
 use Rattle.atomic_table.specs.Seated.{TableId}
-use Rattle.rgo_core_channels.specs.Records.{at_rest}
-use Rattle.rgo_core_frames.specs.Quiet.{quiet}
-use Rattle.rgo_core_frames.specs.Records.{Rec as FrameRec}
-use Rattle.rgo_core_rule.specs.Steps.{Leaves}
-use Rattle.rgo_core_rule.specs.Views.{IsAlone, Me, Rows, number_of, record_in, record_of}
-use Rattle.rgo_core_rule.specs.declared.accesses.Kind.{Kind}
-use Rattle.rgo_machine.specs.Limits.{deepest}
+use Rattle.rgo_core.specs.Channels.Records.{at_rest}
+use Rattle.rgo_core.specs.Frames.Quiet.{quiet}
+use Rattle.rgo_core.specs.Frames.Records.{Rec as FrameRec}
+use Rattle.rgo_core.specs.Rule.Steps.{Leaves}
+use Rattle.rgo_core.specs.Rule.Views.{IsAlone, Me, Rows, number_of, record_in, record_of}
+use Rattle.rgo_core.specs.Rule.declared.accesses.Kind.{Kind}
+use Rattle.rgo_sound.specs.Machine.Limits.{deepest}
 use Rattle.rgo_core.specs.Core.{IsPossible, Setup}
 use Rattle.rgo_core.specs.Laws.{clock_after}
 use Rattle.rgo_core.specs.Opening.{first_of}

@@ -1,11 +1,11 @@
 -- Records after local steps: they stay possible, and differ from the record before in frames, in what is known of regions, and in
 -- how many instructions were made.
 use Rattle.std.specs.Prelude.{◌≡◌, ◌≤◌, ◌+◌, ℕ, List, [], ◌∷◌, Some, length}
-use Rattle.rgo_region_machine.specs.States.{Duty}
-use Rattle.rgo_core_channels.specs.Records.{at_rest}
-use Rattle.rgo_core_frames.specs.Quiet.{quiet}
-use Rattle.rgo_core_frames.specs.Records.{Rec as FrameRec}
-use Rattle.rgo_machine.specs.Limits.{deepest}
+use Rattle.rgo_sound.specs.RegionMachine.States.{Duty}
+use Rattle.rgo_core.specs.Channels.Records.{at_rest}
+use Rattle.rgo_core.specs.Frames.Quiet.{quiet}
+use Rattle.rgo_core.specs.Frames.Records.{Rec as FrameRec}
+use Rattle.rgo_sound.specs.Machine.Limits.{deepest}
 use Rattle.rgo_core.specs.Core.{IsPossible, Setup}
 use Rattle.rgo_core.specs.Records.{ClockRec, Record, instructed}
 use Rattle.rgo_core_steps.specs.Seats.{IsQuiet, SettlesBy, settled_by, settled_once}

@@ -1,14 +1,14 @@
 -- Starts of goroutines: before one, and what the draw of a number leaves.
 use Rattle.std.specs.Prelude.{◌≡◌, ◌≤◌, ◌<◌, ◌+◌, ◌%◌, ℕ, false, List, Option, Some, None}
-use Rattle.rgo_code.specs.Code.{CodeFn, Go}
-use Rattle.rgo_core_channels.specs.Records.{at_rest}
-use Rattle.rgo_core_memory.specs.Words.{made_at}
-use Rattle.rgo_core_rule.specs.Steps.{ToldChild}
-use Rattle.rgo_core_rule.specs.Views.{Me, number_of}
-use Rattle.rgo_core_rule.specs.declared.accesses.Kind.TheVariants.{DrawNumber}
-use Rattle.rgo_machine.specs.Limits.{most_goroutines}
-use Rattle.rgo_region_machine.specs.Owed.{function_of}
-use Rattle.rgo_tac.specs.declared.regions.Class.{Class}
+use Rattle.rgo_sound.specs.Code.Code.{CodeFn, Go}
+use Rattle.rgo_core.specs.Channels.Records.{at_rest}
+use Rattle.rgo_core.specs.Memory.Words.{made_at}
+use Rattle.rgo_core.specs.Rule.Steps.{ToldChild}
+use Rattle.rgo_core.specs.Rule.Views.{Me, number_of}
+use Rattle.rgo_core.specs.Rule.declared.accesses.Kind.TheVariants.{DrawNumber}
+use Rattle.rgo_sound.specs.Machine.Limits.{most_goroutines}
+use Rattle.rgo_sound.specs.RegionMachine.Owed.{function_of}
+use Rattle.rgo_sound.specs.Tac.declared.regions.Class.{Class}
 use Rattle.rgo_core.specs.Core.{Setup}
 use Rattle.rgo_core.specs.Next.{IsAt}
 use Rattle.rgo_core.specs.Records.{Record, accesses, with_refusal}

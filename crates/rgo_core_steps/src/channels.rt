@@ -17,9 +17,9 @@ ghost use Rattle.rgo_core.specs.AtChannels.{IsAtChannel, knows};
 ghost use Rattle.rgo_core.specs.Bounds.{Points};
 ghost use Rattle.rgo_core.specs.CommitMoves.{offers};
 ghost use Rattle.rgo_core.specs.Plans.{setup_of};
-ghost use Rattle.rgo_core_channels.specs.Controls.{closed_of, control as control_of, count_of, head_of};
-ghost use Rattle.rgo_core_channels.specs.Records.{Free, Offering, Read, Wrote, with_hold, with_lock};
-ghost use Rattle.rgo_core_rule.specs.declared.accesses.Kind.TheVariants as kind;
+ghost use Rattle.rgo_core.specs.Channels.Controls.{closed_of, control as control_of, count_of, head_of};
+ghost use Rattle.rgo_core.specs.Channels.Records.{Free, Offering, Read, Wrote, with_hold, with_lock};
+ghost use Rattle.rgo_core.specs.Rule.declared.accesses.Kind.TheVariants as kind;
 ghost use Rattle.rgo_core_steps.specs.Accesses.{given_type};
 ghost use Rattle.rgo_core_steps.specs.After.{acknowledging, committing};
 ghost use Rattle.rgo_core_steps.specs.ChannelExamples.{ChannelExamples};
@@ -28,8 +28,8 @@ ghost use Rattle.rgo_core_steps.specs.Seats.{HasOne, HasPossible, IsSeatOf, Left
 
 use rgo_core::records::Record;
 use rgo_core::table::{ByRuns, Plan, RunSeat, RunTable};
-use rgo_core_channels::controls::without_oldest;
-use rgo_core_rule::steps::{compare_exchange, load, store};
+use rgo_core::channels::controls::without_oldest;
+use rgo_core::rule::steps::{compare_exchange, load, store};
 use std::marker::Brand;
 
 // ---- loads

@@ -10,9 +10,9 @@ ghost use Rattle.std.specs.Prelude.{◌≡◌, ◌≤◌, ◌<◌, ◌+◌, ◌%
 ghost use mathlib.Core.Logic.{◌↔◌};
 ghost use Rattle.rgo_core.specs.Plans.{setup_of};
 ghost use Rattle.rgo_core.specs.Records.{looked};
-ghost use Rattle.rgo_core_memory.specs.Words.{clock_at};
-ghost use Rattle.rgo_core_rule.specs.Views.{number_of};
-ghost use Rattle.rgo_core_rule.specs.declared.accesses.Kind.TheVariants as kind;
+ghost use Rattle.rgo_core.specs.Memory.Words.{clock_at};
+ghost use Rattle.rgo_core.specs.Rule.Views.{number_of};
+ghost use Rattle.rgo_core.specs.Rule.declared.accesses.Kind.TheVariants as kind;
 ghost use Rattle.rgo_core_steps.specs.After.{piece as piece_of, printing};
 ghost use Rattle.rgo_core_steps.specs.Ends.{Ends, ending, mark_of};
 ghost use Rattle.rgo_core_steps.specs.Prints.{IsAtPrint};
@@ -20,9 +20,9 @@ ghost use Rattle.rgo_core_steps.specs.Seats.{HasOne, HasPossible, IsSeatOf, Left
 
 use rgo_core::records::Record;
 use rgo_core::table::{ByRuns, Plan, RunSeat, RunTable};
-use rgo_core_rule::steps::{fetch_add, fetch_or, load};
-use rgo_machine::End;
-use rgo_region_machine::Limit;
+use rgo_core::rule::steps::{fetch_add, fetch_or, load};
+use rgo_sound::machine::End;
+use rgo_sound::region_machine::Limit;
 use std::marker::Brand;
 
 /// What a print has drawn: the place of its piece among all pieces.

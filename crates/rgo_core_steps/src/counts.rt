@@ -10,18 +10,18 @@ ghost use prog.Atomic.{either};
 ghost use Rattle.rgo_sound.specs.Stakes.{is_in};
 ghost use Rattle.rgo_core.specs.Chains.{remembers};
 ghost use Rattle.rgo_core.specs.Plans.{setup_of};
-ghost use Rattle.rgo_core_channels.specs.Records.{at_rest};
-ghost use Rattle.rgo_core_memory.specs.Records.{Calm, Gave, with_give};
-ghost use Rattle.rgo_core_memory.specs.Words.{count_at as count_is_at};
-ghost use Rattle.rgo_core_rule.specs.declared.accesses.Kind.TheVariants as kind;
+ghost use Rattle.rgo_core.specs.Channels.Records.{at_rest};
+ghost use Rattle.rgo_core.specs.Memory.Records.{Calm, Gave, with_give};
+ghost use Rattle.rgo_core.specs.Memory.Words.{count_at as count_is_at};
+ghost use Rattle.rgo_core.specs.Rule.declared.accesses.Kind.TheVariants as kind;
 ghost use Rattle.rgo_core_steps.specs.Counts.{IsCreating, IsLeaving, IsSharing, Leaving, shared, tries_slot};
 ghost use Rattle.rgo_core_steps.specs.Layouts.{HasLayout};
 ghost use Rattle.rgo_core_steps.specs.Seats.{HasOne, HasPossible, Left, Settles, Stored, mine, settled};
 
 use rgo_core::records::Record;
 use rgo_core::table::{ByRuns, Plan, RunSeat, RunTable};
-use rgo_core_memory::layout::{TableSizes, count_at};
-use rgo_core_rule::steps::{compare_exchange, fetch_add, fetch_sub, store};
+use rgo_core::memory::layout::{TableSizes, count_at};
+use rgo_core::rule::steps::{compare_exchange, fetch_add, fetch_sub, store};
 use std::marker::Brand;
 
 /// Whether a slot looks free, to nobody in particular: another goroutine may take it at once. It serves to begin a search.

@@ -8,9 +8,9 @@ ghost use Rattle.rgo_core.specs.Bounds.{LieInPages, Points};
 ghost use Rattle.rgo_core.specs.Core.{layout};
 ghost use Rattle.rgo_core.specs.Links.{IsAtElement};
 ghost use Rattle.rgo_core.specs.Plans.{setup_of};
-ghost use Rattle.rgo_core_channels.specs.Records.{at_rest};
-ghost use Rattle.rgo_core_memory.specs.Words.{base, clock_at};
-ghost use Rattle.rgo_core_rule.specs.declared.accesses.Kind.TheVariants as kind;
+ghost use Rattle.rgo_core.specs.Channels.Records.{at_rest};
+ghost use Rattle.rgo_core.specs.Memory.Words.{base, clock_at};
+ghost use Rattle.rgo_core.specs.Rule.declared.accesses.Kind.TheVariants as kind;
 ghost use Rattle.rgo_core_steps.specs.Accesses.{LengthOfNil, Loads, Stores, given_type};
 ghost use Rattle.rgo_core_steps.specs.After.{acting};
 ghost use Rattle.rgo_core_steps.specs.Making.{IsNewWord, NewPoints, filling};
@@ -18,7 +18,7 @@ ghost use Rattle.rgo_core_steps.specs.Seats.{HasOne, HasPossible, IsSeatOf, Left
 
 use rgo_core::records::Record;
 use rgo_core::table::{ByRuns, Plan, RunSeat, RunTable};
-use rgo_core_rule::steps;
+use rgo_core::rule::steps;
 use std::marker::Brand;
 
 /// Loads a word as the next instruction: a field, an element, the length of a slice or a package variable. If it is a pointer, a

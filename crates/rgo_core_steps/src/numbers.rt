@@ -5,14 +5,14 @@
 ghost use Rattle.std.specs.Prelude.{◌≡◌, IfSome};
 ghost use Rattle.rgo_core.specs.Core.{IsPossible};
 ghost use Rattle.rgo_core.specs.Plans.{setup_of};
-ghost use Rattle.rgo_core_memory.specs.Words.{made_at};
+ghost use Rattle.rgo_core.specs.Memory.Words.{made_at};
 ghost use Rattle.rgo_core_steps.specs.Seats.{HasOne, HasPossible, IsSeatOf, Settles, other, settled};
 ghost use Rattle.rgo_core_steps.specs.Starts.{HasDrawn, IsAtStart};
 
 use rgo_core::records::Record;
 use rgo_core::table::{ByRuns, Plan, RunSeat, RunTable};
-use rgo_core_rule::steps::fetch_add_start;
-use rgo_machine::Limits;
+use rgo_core::rule::steps::fetch_add_start;
+use rgo_sound::machine::Limits;
 use std::marker::Brand;
 
 /// Draws a number for the goroutine that the next instruction starts, and returns it. The seat then has its record beside that of

@@ -16,9 +16,9 @@ ghost use Rattle.std.specs.Prelude.{◌≡◌, ◌<◌, ◌≤◌, ◌+◌, ◌^
 ghost use prog.Atomic.{either};
 ghost use Rattle.rgo_core.specs.Chains.{frees, remembers};
 ghost use Rattle.rgo_core.specs.Plans.{setup_of};
-ghost use Rattle.rgo_core_memory.specs.Records.{Gave, Giving, Got, Hung, Idle, Owes, Past, with_claim, with_give};
-ghost use Rattle.rgo_core_memory.specs.Words.{head_at as head_is_at, next_at as next_is_at, state_at as state_is_at};
-ghost use Rattle.rgo_core_rule.specs.declared.accesses.Kind.TheVariants as kind;
+ghost use Rattle.rgo_core.specs.Memory.Records.{Gave, Giving, Got, Hung, Idle, Owes, Past, with_claim, with_give};
+ghost use Rattle.rgo_core.specs.Memory.Words.{head_at as head_is_at, next_at as next_is_at, state_at as state_is_at};
+ghost use Rattle.rgo_core.specs.Rule.declared.accesses.Kind.TheVariants as kind;
 ghost use Rattle.rgo_core_steps.specs.Layouts.{HasLayout};
 ghost use Rattle.rgo_core_steps.specs.Making.{IsCalm, NeedsPage};
 ghost use Rattle.rgo_core_steps.specs.Pages.{tries_page};
@@ -26,8 +26,8 @@ ghost use Rattle.rgo_core_steps.specs.Seats.{HasOne, HasPossible, Left, Settles,
 
 use rgo_core::records::Record;
 use rgo_core::table::{ByRuns, Plan, RunSeat, RunTable};
-use rgo_core_memory::layout::{TableSizes, head_at, next_at, state_at};
-use rgo_core_rule::steps::{compare_exchange, load, store, swap};
+use rgo_core::memory::layout::{TableSizes, head_at, next_at, state_at};
+use rgo_core::rule::steps::{compare_exchange, load, store, swap};
 use std::marker::Brand;
 
 /// Whether a page looks free, to nobody in particular: another goroutine may claim it at once. It serves to begin a search.

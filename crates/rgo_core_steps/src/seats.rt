@@ -2,13 +2,13 @@
 //! the seat any more.
 ghost use Rattle.std.specs.Prelude.{◌≡◌, ◌∷◌, [], ◌++◌};
 ghost use Rattle.rgo_core.specs.Plans.{setup_of};
-ghost use Rattle.rgo_core_memory.specs.Words.{clock_at};
-ghost use Rattle.rgo_core_rule.specs.Views.{longer, number_of, view};
+ghost use Rattle.rgo_core.specs.Memory.Words.{clock_at};
+ghost use Rattle.rgo_core.specs.Rule.Views.{longer, number_of, view};
 ghost use Rattle.rgo_core_steps.specs.Seats.{HasTwo, IsSeatOf, mine, other};
 
 use rgo_core::records::Record;
 use rgo_core::table::{ByRuns, Plan, RunSeat, RunTable};
-use rgo_core_rule::seats::{part, retire};
+use rgo_core::rule::seats::{part, retire};
 
 /// The record of a goroutine that has started goes to a seat of its own, which has seen the same accesses.
 pub fn split(table: &RunTable, seat: &mut RunSeat, number: u64) -> RunSeat
@@ -55,5 +55,5 @@ pub fn meet(table: &RunTable, seat: &mut RunSeat, other: &mut RunSeat)
       other.old.me.1,
     ) }
 {
-    rgo_core_rule::seats::meet::<Record, Plan, ByRuns>(table, seat, other);
+    rgo_core::rule::seats::meet::<Record, Plan, ByRuns>(table, seat, other);
 }

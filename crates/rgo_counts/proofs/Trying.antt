@@ -1,14 +1,14 @@
 -- Exchanges of counts, by what each found.
 use prog.Atomic.{either}
 use Rattle.std.proofs.Common.{◌≡◌, ◌≢◌, ◌<◌, ◌+◌, ℕ, suc, ◌==◌, false, List, [], ◌∷◌, Option, Some, None, add-one, arith, refl, ap, sym, ◌∙◌}
-use Rattle.rgo_region_machine.specs.States.{Duty}
+use Rattle.rgo_sound.specs.RegionMachine.States.{Duty}
 use Rattle.rgo_sound.specs.Stakes.{is_in}
-use Rattle.rgo_core_channels.specs.Records.{at_rest}
-use Rattle.rgo_core_frames.specs.Records.{Rec as FrameRec}
-use Rattle.rgo_core_rule.specs.Views.{Me, number_of}
-use Rattle.rgo_core_rule.specs.declared.accesses.Kind.TheVariants.{CreateRegion}
-use Rattle.rgo_core_memory.specs.Words.{count_at}
-use Rattle.rgo_core_memory.specs.declared.layout.TableSizes.{TableSizes}
+use Rattle.rgo_core.specs.Channels.Records.{at_rest}
+use Rattle.rgo_core.specs.Frames.Records.{Rec as FrameRec}
+use Rattle.rgo_core.specs.Rule.Views.{Me, number_of}
+use Rattle.rgo_core.specs.Rule.declared.accesses.Kind.TheVariants.{CreateRegion}
+use Rattle.rgo_core.specs.Memory.Words.{count_at}
+use Rattle.rgo_core.specs.Memory.declared.layout.TableSizes.{TableSizes}
 use Rattle.rgo_core.specs.Core.{Setup}
 use Rattle.rgo_core.specs.Opening.{first_of}
 use Rattle.rgo_core.specs.Records.{Record, accesses}

@@ -1,10 +1,10 @@
 -- What a search in vain shows.
 use Rattle.std.proofs.Common.{◌≡◌, ℕ, ◌<◌, List, [], ◌∷◌, ⊎_elim, sym, subst, arith}
 use Rattle.std.proofs.lemmas.Bool.Decides.{nat_tests}
-use Rattle.rgo_core_rule.specs.declared.accesses.Kind.TheVariants.{CreateRegion}
-use Rattle.rgo_core_memory.specs.Pages.{times}
-use Rattle.rgo_core_memory.specs.Words.{count_at}
-use Rattle.rgo_core_memory.proofs.Chains.{times_first}
+use Rattle.rgo_core.specs.Rule.declared.accesses.Kind.TheVariants.{CreateRegion}
+use Rattle.rgo_core.specs.Memory.Pages.{times}
+use Rattle.rgo_core.specs.Memory.Words.{count_at}
+use Rattle.rgo_core.proofs.Memory.Chains.{times_first}
 use Rattle.rgo_core.specs.Opening.{first_of}
 use Rattle.rgo_core.specs.Records.{Record, accesses}
 use Rattle.rgo_core_steps.specs.Counts.{tried_slot}

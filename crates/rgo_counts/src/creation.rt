@@ -6,7 +6,7 @@
 ghost use Rattle.std.specs.Prelude.{◌≡◌, ◌<◌, ◌≤◌, ◌+◌, ◌*◌, ◌-◌, ◌≢◌, ℕ, false, IfErr, IfOk, IfSome};
 ghost use Rattle.rgo_core.specs.Opening.{first_of};
 ghost use Rattle.rgo_core.specs.Plans.{setup_of};
-ghost use Rattle.rgo_core_channels.specs.Records.{at_rest};
+ghost use Rattle.rgo_core.specs.Channels.Records.{at_rest};
 ghost use Rattle.rgo_sound.specs.Stakes.{is_in};
 ghost use Rattle.rgo_core_steps.specs.Counts.{IsCreating};
 ghost use Rattle.rgo_core_steps.specs.Layouts.{HasLayout};
@@ -14,7 +14,7 @@ ghost use Rattle.rgo_core_steps.specs.Seats.{HasOne, HasPossible, Settles, mine,
 ghost use Rattle.rgo_counts.specs.Creation.{AllSlotsTried, FullLaw, SlotOrNone, SlotTaken, SlotsTried};
 
 use rgo_core::table::{RunSeat, RunTable};
-use rgo_core_memory::layout::TableSizes;
+use rgo_core::memory::layout::TableSizes;
 use rgo_core_steps::counting::Steps;
 use rgo_core_steps::counts;
 use std::sync::ledger::Ledger;

@@ -3,17 +3,17 @@ ghost use Rattle.std.specs.Prelude.{◌≡◌, ◌<◌, ◌+◌, ◌-◌, ◌%�
 ghost use mathlib.Core.Logic.{◌↔◌};
 ghost use Rattle.rgo_core.specs.Chains.{remembers};
 ghost use Rattle.rgo_core.specs.Plans.{setup_of};
-ghost use Rattle.rgo_core_channels.specs.Records.{at_rest};
-ghost use Rattle.rgo_core_memory.specs.Records.{Calm, Gave, with_give};
-ghost use Rattle.rgo_core_memory.specs.Words.{count_at};
-ghost use Rattle.rgo_core_rule.specs.declared.accesses.Kind.TheVariants as kind;
+ghost use Rattle.rgo_core.specs.Channels.Records.{at_rest};
+ghost use Rattle.rgo_core.specs.Memory.Records.{Calm, Gave, with_give};
+ghost use Rattle.rgo_core.specs.Memory.Words.{count_at};
+ghost use Rattle.rgo_core.specs.Rule.declared.accesses.Kind.TheVariants as kind;
 ghost use Rattle.rgo_core_steps.specs.Counts.{IsLeaving, IsSharing, Leaving, shared};
 ghost use Rattle.rgo_core_steps.specs.Layouts.{HasLayout};
 ghost use Rattle.rgo_core_steps.specs.Seats.{HasOne, HasPossible, Left as HasLeft, Settles, Stored, mine, settled};
 ghost use Rattle.rgo_counts.specs.declared.stakes.Left.TheVariants.{Last};
 
 use rgo_core::table::{RunSeat, RunTable};
-use rgo_core_memory::layout::TableSizes;
+use rgo_core::memory::layout::TableSizes;
 use rgo_core_steps::counting::Steps;
 use rgo_core_steps::counts;
 use std::sync::ledger::Ledger;

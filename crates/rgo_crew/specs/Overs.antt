@@ -1,6 +1,6 @@
 -- What a run comes to.
 use Rattle.std.specs.Prelude.{◌≡◌, ◌+◌, ◌%◌, ◌^◌, ◌++◌, ◌∷◌, ℕ, [], List, None, Option, Some, slice_get}
-use Rattle.rgo_acts.specs.declared.prints.Print.{Print}
+use Rattle.rgo_goroutine.specs.Acts.declared.prints.Print.{Print}
 use Rattle.rgo_core_steps.specs.declared.clock.Mark.{Mark}
 use Rattle.rgo_core_steps.specs.declared.clock.Mark.TheVariants.{Ended, Stopped}
 use Rattle.rgo_crew.specs.declared.over.Ending.{Ending}
@@ -11,8 +11,8 @@ use Rattle.rgo_crew.specs.declared.over.Why.TheVariants as why
 use Rattle.rgo_goroutine.specs.declared.goroutine.Goroutine.{Goroutine}
 use Rattle.rgo_goroutine.specs.declared.turning.Stop.{Stop}
 use Rattle.rgo_goroutine.specs.declared.turning.Stop.TheVariants as stop
-use Rattle.rgo_machine.specs.declared.picks.End.TheVariants.{Exit, Trap}
-use Rattle.rgo_region_machine.specs.Counts.{Counts}
+use Rattle.rgo_sound.specs.Machine.declared.picks.End.TheVariants.{Exit, Trap}
+use Rattle.rgo_sound.specs.RegionMachine.Counts.{Counts}
 
 -- the mark, without the place of a trap
 abbrev pub ending_of : Mark → Ending

@@ -3,16 +3,16 @@ ghost use Rattle.std.specs.Prelude.{◌≡◌, ◌<◌, ◌≤◌, ◌∷◌, []
 ghost use Rattle.std.specs.List.{All};
 ghost use Rattle.rgo_core.specs.Core.{IsPossible};
 ghost use Rattle.rgo_core.specs.Opening.{first_of};
-ghost use Rattle.rgo_core_memory.specs.Words.{clock_at};
-ghost use Rattle.rgo_core_rule.specs.Views.{view};
+ghost use Rattle.rgo_core.specs.Memory.Words.{clock_at};
+ghost use Rattle.rgo_core.specs.Rule.Views.{view};
 ghost use Rattle.rgo_core_steps.specs.Seats.{IsSeatOf};
 ghost use Rattle.rgo_goroutine.specs.Goroutines.{IsOf};
 ghost use Rattle.rgo_goroutine.specs.Instructions.{HasPages};
 
 use crate::errors::CrewError;
 use crate::over::{Over, Tally};
-use rgo_acts::prints::Print;
-use rgo_acts::runs::Run;
+use rgo_goroutine::acts::prints::Print;
+use rgo_goroutine::acts::runs::Run;
 use rgo_core::table::RunSeat;
 use rgo_core_steps::counting::Steps;
 use rgo_goroutine::goroutine::Goroutine;
@@ -33,9 +33,9 @@ pub struct Crew<'r, 'c> {
 
 impl<'r, 'c> Model for Crew<'r, 'c> {
     ghost use Rattle.std.specs.List.{All};
-    ghost use Rattle.rgo_core_memory.specs.Words.{clock_at};
+    ghost use Rattle.rgo_core.specs.Memory.Words.{clock_at};
     ghost use Rattle.rgo_core_steps.specs.Seats.{IsSeatOf};
-    ghost use Rattle.rgo_acts.specs.Runs as runs;
+    ghost use Rattle.rgo_goroutine.specs.Acts.Runs as runs;
     ghost use Rattle.rgo_goroutine.specs.Goroutines.{IsOf};
     ghost use Rattle.rgo_goroutine.specs.Instructions.{HasPages};
 

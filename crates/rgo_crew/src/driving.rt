@@ -1,20 +1,20 @@
 //! Runs on a table of their own: their goroutines have turns in rounds, turns that are listed, or threads of their own.
 ghost use Rattle.std.specs.Prelude.{◌≡◌, ◌+◌, ◌<◌, ◌≤◌, ◌^◌, IfOk};
 ghost use Rattle.std.specs.Mem.Slots.{IsFull, slots_len};
-ghost use Rattle.rgo_core_memory.specs.Words.{all_words};
+ghost use Rattle.rgo_core.specs.Memory.Words.{all_words};
 ghost use Rattle.rgo_crew.specs.Overs.{AreNumbered};
 
 use crate::crew::Crew;
 use crate::errors::CrewError;
 use crate::over::{Ending, Over, Why, are_numbered};
 use atomic_table::Closed;
-use rgo_acts::runs::Run;
-use rgo_body::Program;
-use rgo_code::Checked;
+use rgo_goroutine::acts::runs::Run;
+use rgo_goroutine::body::Program;
+use rgo_sound::code::Checked;
 use rgo_core::table::{close, open};
-use rgo_core_memory::layout::{TableSizes, count_at, state_at};
+use rgo_core::memory::layout::{TableSizes, count_at, state_at};
 use rgo_core_steps::counting::Steps;
-use rgo_machine::{Limits, Sizes};
+use rgo_sound::machine::{Limits, Sizes};
 use std::alloc::Global;
 use std::marker::Brand;
 use std::sync::ledger::{Blank, Ledger};

@@ -1,17 +1,17 @@
 //! What a run comes to.
 ghost use Rattle.std.specs.Prelude.{◌≡◌, ◌++◌, true, IfOk, OnOk};
-ghost use Rattle.rgo_acts.specs.Runs as runs;
+ghost use Rattle.rgo_goroutine.specs.Acts.Runs as runs;
 ghost use Rattle.rgo_goroutine.specs.Goroutines.{IsOf, record_of};
 ghost use Rattle.rgo_crew.specs.Overs.{AreNumbered, added, ended_by, ending_of, joined, no_tally, tally_of, why_of};
 
-use rgo_acts::prints::Print;
-use rgo_body::Counts;
+use rgo_goroutine::acts::prints::Print;
+use rgo_goroutine::body::Counts;
 use rgo_core_steps::clock::Mark;
 use rgo_goroutine::goroutine::Goroutine;
 use rgo_goroutine::turning::Stop;
-use rgo_machine::{End, Shortage};
-use rgo_memory::Trap;
-use rgo_region_machine::Limit;
+use rgo_sound::machine::{End, Shortage};
+use rgo_sound::memory::Trap;
+use rgo_sound::region_machine::Limit;
 use std::alloc::{AllocError, Global};
 
 /// How a run is over.

@@ -1,9 +1,9 @@
 -- A goroutine whose offer is at a channel asks whether it was taken.
 use Rattle.std.proofs.Common.{◌≡◌, ◌<◌, ℕ, true, false, Option, Some, None, Result, Ok, Err, OnOk, is_err, refl, ap, sym, subst, ◌∙◌, arith}
 use Rattle.std.proofs.lemmas.Option.{none-some}
-use Rattle.rgo_code.specs.Code.{Code}
-use Rattle.rgo_core_frames.specs.WordFrames.{bare}
-use Rattle.rgo_region_machine.specs.Owed.{current}
+use Rattle.rgo_sound.specs.Code.Code.{Code}
+use Rattle.rgo_core.specs.Frames.WordFrames.{bare}
+use Rattle.rgo_sound.specs.RegionMachine.Owed.{current}
 use Rattle.rgo_body.specs.Bodies.{HasRoomBehind, frames_in}
 use Rattle.rgo_body.specs.Nexts.{HasNoNext, IsNextOf}
 use Rattle.rgo_body.specs.Steps.{Stays}

@@ -1,6 +1,6 @@
 -- Duties attended to, one after another.
 use Rattle.std.proofs.Common.{◌≡◌, ◌<◌, ℕ, true, false, List, [], ◌∷◌, Option, Some, None, MatchOption, is_some, length, refl, ap, sym, subst, ◌∙◌, arith}
-use Rattle.rgo_region_machine.specs.States.{Duty}
+use Rattle.rgo_sound.specs.RegionMachine.States.{Duty}
 use Rattle.rgo_body.specs.Queues.{duty_of}
 use Rattle.rgo_body.specs.declared.bodies.Body.{Body}
 use Rattle.rgo_body.specs.declared.bodies.Side.{Side}

@@ -1,11 +1,11 @@
 -- Starts of goroutines, and the return of `main`, as acts of a turn.
 use Rattle.std.proofs.Common.{◌≡◌, ◌<◌, ◌∙◌, ℕ, List, [], true, Option, Some, None, ap, arith, length, map, refl, subst, sym}
 use Rattle.std.proofs.lemmas.List.{append-nil}
-use Rattle.rgo_code.specs.Code as code
-use Rattle.rgo_code.specs.Code.{CodeInstr, CodeOp}
-use Rattle.rgo_code.specs.Lists.{removes_in, removes_of}
-use Rattle.rgo_tac.specs.Code as tac
-use Rattle.rgo_tac.specs.Ops.{operation_of}
+use Rattle.rgo_sound.specs.Code.Code as code
+use Rattle.rgo_sound.specs.Code.Code.{CodeInstr, CodeOp}
+use Rattle.rgo_sound.specs.Code.Lists.{removes_in, removes_of}
+use Rattle.rgo_sound.specs.Tac.Code as tac
+use Rattle.rgo_sound.specs.Tac.Ops.{operation_of}
 use Rattle.rgo_body.specs.Nexts.{removes_at}
 use Rattle.rgo_body.specs.Steps.{IsRoomier}
 use Rattle.rgo_body.specs.declared.bodies.Body.{Body}

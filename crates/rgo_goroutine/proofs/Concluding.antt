@@ -1,7 +1,7 @@
 -- What follows an act of the goroutine's actor: the turn has less to do, or is over.
 use Rattle.std.proofs.Common.{◌≡◌, ◌+◌, ◌-◌, ◌<◌, ◌≤◌, ℕ, true, [], Option, Some, None, Ok, Err, Result, MatchResult, refl, ap, sym, subst, ◌∙◌, arith}
 use Rattle.std.proofs.lemmas.List.{append-nil}
-use Rattle.rgo_memory.specs.declared.traps.Trap.{Trap}
+use Rattle.rgo_sound.specs.Memory.declared.traps.Trap.{Trap}
 use Rattle.rgo_acts.specs.Actors as act
 use Rattle.rgo_acts.specs.Actors.{IsUnmoved, Stands, now}
 use Rattle.rgo_acts.specs.Runs.{Run}

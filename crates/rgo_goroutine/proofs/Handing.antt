@@ -5,10 +5,10 @@ use Rattle.std.proofs.lemmas.List.Elements.{All-cons, All-nil}
 use Rattle.std.specs.List.{All}
 use mathlib.Core.Logic.{◌↔◌}
 use Rattle.std.specs.Option.{option_map}
-use Rattle.rgo_core_memory.specs.Words.{all_words, clock_at}
-use Rattle.rgo_core_memory.specs.declared.layout.TableSizes.{TableSizes}
-use Rattle.rgo_core_rule.specs.Views.{Me, number_of, view}
-use Rattle.rgo_core_rule.specs.declared.accesses.Kind.TheVariants.{Load}
+use Rattle.rgo_core.specs.Memory.Words.{all_words, clock_at}
+use Rattle.rgo_core.specs.Memory.declared.layout.TableSizes.{TableSizes}
+use Rattle.rgo_core.specs.Rule.Views.{Me, number_of, view}
+use Rattle.rgo_core.specs.Rule.declared.accesses.Kind.TheVariants.{Load}
 use Rattle.rgo_core.specs.Core.{IsPossible}
 use Rattle.rgo_core.specs.Opening.{first_of}
 use Rattle.rgo_core.specs.Records.{Drawn, Record, accesses, looked, steps_of}

@@ -1,16 +1,16 @@
 -- Acts of a turn, one after another.
 use Rattle.std.proofs.Common.{◌≡◌, ◌+◌, ◌≤◌, ℕ, List, [], ◌∷◌, ◌++◌, Option, Some, None, refl, ap, sym, subst, ◌∙◌, append_assoc, arith}
 use Rattle.std.proofs.lemmas.List.{append-nil}
-use Rattle.rgo_core_rule.specs.Views.{number_of}
-use Rattle.rgo_core_rule.specs.declared.accesses.Access.{Access}
-use Rattle.rgo_core_rule.specs.declared.accesses.Kind.{Kind}
+use Rattle.rgo_core.specs.Rule.Views.{number_of}
+use Rattle.rgo_core.specs.Rule.declared.accesses.Access.{Access}
+use Rattle.rgo_core.specs.Rule.declared.accesses.Kind.{Kind}
 use Rattle.rgo_core.specs.Core.{Setup}
 use Rattle.rgo_core.specs.Opening.{first_of}
 use Rattle.rgo_core.specs.Records.{Drawn, Record, accesses}
 use Rattle.rgo_core_steps.specs.Grown.{Found, Grew}
 use Rattle.rgo_core_steps.proofs.Growing.{found_right, grew_then, still_then}
-use Rattle.rgo_machine.specs.declared.turns.Shortage.{Shortage}
-use Rattle.rgo_machine.specs.declared.turns.Shortage.TheVariants as shortage
+use Rattle.rgo_sound.specs.Machine.declared.turns.Shortage.{Shortage}
+use Rattle.rgo_sound.specs.Machine.declared.turns.Shortage.TheVariants as shortage
 use Rattle.rgo_acts.specs.Runs.{Run}
 use Rattle.rgo_acts.specs.Shortages.{AllInUse}
 use Rattle.rgo_acts.specs.Waits.{Loses, Waits}

@@ -1,8 +1,8 @@
 -- A load of the clock, by which the record of a goroutine takes its local steps; and goroutines that need none.
 use Rattle.std.proofs.Common.{◌≡◌, ◌<◌, ℕ, suc, [], refl, ap, sym, subst, ◌∙◌, arith}
 use Rattle.std.proofs.lemmas.List.{append-nil}
-use Rattle.rgo_core_memory.specs.Words.{clock_at}
-use Rattle.rgo_core_rule.specs.declared.accesses.Kind.TheVariants as kind
+use Rattle.rgo_core.specs.Memory.Words.{clock_at}
+use Rattle.rgo_core.specs.Rule.declared.accesses.Kind.TheVariants as kind
 use Rattle.rgo_core.specs.Core.{Setup}
 use Rattle.rgo_core.specs.Opening.{first_of}
 use Rattle.rgo_core.specs.Records.{Record, accesses, looked}

@@ -3,17 +3,17 @@ use Rattle.std.proofs.Common.{◌≡◌, ◌<◌, ◌≤◌, Bool, true, false, 
 use Rattle.std.proofs.lemmas.List.{append-nil}
 use Rattle.std.proofs.lemmas.Option.{none-some}
 use mathlib.Core.Option.{some-ne-none}
-use Rattle.rgo_code.specs.Code.{Code}
-use Rattle.rgo_core_facts.proofs.ControlFrames.{all_in_code}
-use Rattle.rgo_core_frames.specs.WordFrames.{WordFrame, bare, bare_all}
-use Rattle.rgo_core_rule.specs.Views.{number_of}
+use Rattle.rgo_sound.specs.Code.Code.{Code}
+use Rattle.rgo_acts.proofs.Facts.ControlFrames.{all_in_code}
+use Rattle.rgo_core.specs.Frames.WordFrames.{WordFrame, bare, bare_all}
+use Rattle.rgo_core.specs.Rule.Views.{number_of}
 use Rattle.rgo_core.specs.Opening.{first_of}
 use Rattle.rgo_core.specs.Records.{Record, accesses, steps_of}
 use Rattle.rgo_core_steps.specs.Grown.{Grew}
 use Rattle.rgo_core_steps.specs.Seats.{settled}
 use Rattle.rgo_core_steps.proofs.Growing.{grew_none}
-use Rattle.rgo_region_machine.specs.Owed.{current, next_duties}
-use Rattle.rgo_region_machine.specs.States.{Duty}
+use Rattle.rgo_sound.specs.RegionMachine.Owed.{current, next_duties}
+use Rattle.rgo_sound.specs.RegionMachine.States.{Duty}
 use Rattle.rgo_body.specs.Bodies.{frames_in, owed}
 use Rattle.rgo_body.specs.Nexts.{HasNoNext}
 use Rattle.rgo_body.specs.Steps.{Stays}

@@ -1,17 +1,17 @@
 -- What the code says of the next instruction, by its kind.
 use Rattle.std.proofs.Common.{◌≡◌, ◌≢◌, ◌∙◌, ℕ, Bool, true, false, List, Option, ap, refl, subst}
 use Rattle.std.specs.Prelude.{is_some}
-use Rattle.rgo_ast.specs.declared.ops.BinaryOp.{BinaryOp}
-use Rattle.rgo_ast.specs.declared.ops.BinaryOp.TheVariants as binary
-use Rattle.rgo_compact.specs.Simple.{operator_count}
-use Rattle.rgo_core_facts.specs.ControlShapes.{HasShape, IsShaped}
-use Rattle.rgo_core_facts.proofs.ControlShapes.{actions_shaped}
-use Rattle.rgo_code.specs.Code.{Code}
-use Rattle.rgo_region_machine.specs.Owed.{function_of}
-use Rattle.rgo_tac.specs.Code as tac
-use Rattle.rgo_tac.specs.Code.{Op}
-use Rattle.rgo_tac.specs.Ops.{operation_of}
-use Rattle.rgo_typed.specs.declared.actions.Action.{Action}
+use Rattle.rgo_sound.specs.Ast.declared.ops.BinaryOp.{BinaryOp}
+use Rattle.rgo_sound.specs.Ast.declared.ops.BinaryOp.TheVariants as binary
+use Rattle.rgo_acts.specs.Compact.Simple.{operator_count}
+use Rattle.rgo_acts.specs.Facts.ControlShapes.{HasShape, IsShaped}
+use Rattle.rgo_acts.proofs.Facts.ControlShapes.{actions_shaped}
+use Rattle.rgo_sound.specs.Code.Code.{Code}
+use Rattle.rgo_sound.specs.RegionMachine.Owed.{function_of}
+use Rattle.rgo_sound.specs.Tac.Code as tac
+use Rattle.rgo_sound.specs.Tac.Code.{Op}
+use Rattle.rgo_sound.specs.Tac.Ops.{operation_of}
+use Rattle.rgo_sound.specs.Typed.declared.actions.Action.{Action}
 use Rattle.rgo_body.specs.Bodies.{frames_in}
 use Rattle.rgo_body.specs.Nexts.{IsNextOf}
 use Rattle.rgo_body.specs.Programs.{Program}

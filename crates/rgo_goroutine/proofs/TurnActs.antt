@@ -1,14 +1,14 @@
 -- A turn: acts one after another, and a load of the clock at its end.
 use Rattle.std.proofs.Common.{◌≡◌, ◌⊎◌, inl, inr, ◌+◌, ◌<◌, ◌≤◌, ℕ, false, List, [], ◌++◌, Some, None, length, refl, ap, sym, subst, ◌∙◌, append_assoc, arith}
 use Rattle.std.proofs.lemmas.List.{append-nil}
-use Rattle.rgo_core_channels.specs.Records.{Free, Rec as SideRec}
-use Rattle.rgo_core_rule.specs.declared.accesses.Access.{Access}
+use Rattle.rgo_core.specs.Channels.Records.{Free, Rec as SideRec}
+use Rattle.rgo_core.specs.Rule.declared.accesses.Access.{Access}
 use Rattle.rgo_core.specs.Opening.{first_of}
 use Rattle.rgo_core.specs.Records.{Drawn, Record, accesses, steps_of}
 use Rattle.rgo_core_steps.specs.Grown.{Grew}
 use mathlib.Core.Option.{some-ne-none}
 use Rattle.rgo_core_steps.proofs.Growing.{grew_none}
-use Rattle.rgo_region_machine.specs.States.{Offer}
+use Rattle.rgo_sound.specs.RegionMachine.States.{Offer}
 use Rattle.rgo_body.specs.Shows.{SideShows}
 use Rattle.rgo_body.specs.declared.bodies.Side.{Side}
 use Rattle.rgo_body.specs.declared.bodies.Side.TheVariants as side

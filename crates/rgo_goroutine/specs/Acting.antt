@@ -1,9 +1,9 @@
 -- A goroutine during a turn, and what each of its acts leaves.
 use Rattle.std.specs.Option.{option_map}
 use Rattle.std.specs.Prelude.{◌≡◌, ◌⊎◌, ◌+◌, ◌-◌, ◌<◌, ◌≤◌, ℕ, Bool, false, List, ◌++◌, Option, Some, None, if◌then◌else◌, length}
-use Rattle.rgo_core_rule.specs.Passes.{ChangesNothingBy}
-use Rattle.rgo_core_rule.specs.Views.{number_of}
-use Rattle.rgo_core_rule.specs.declared.accesses.Access.{Access}
+use Rattle.rgo_core.specs.Rule.Passes.{ChangesNothingBy}
+use Rattle.rgo_core.specs.Rule.Views.{number_of}
+use Rattle.rgo_core.specs.Rule.declared.accesses.Access.{Access}
 use Rattle.rgo_core.specs.Opening.{first_of}
 use Rattle.rgo_core.specs.Records.{Drawn, Record, accesses, looked, steps_of}
 use Rattle.rgo_core_steps.specs.Ends.{mark_of}

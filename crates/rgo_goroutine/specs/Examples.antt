@@ -3,15 +3,15 @@ use Rattle.std.specs.Prelude.{◌≡◌, ◌<◌, ℕ, true, false, List, [], �
 use Rattle.rgo_core.specs.Core.{Setup}
 use Rattle.rgo_core.specs.Records.{Record, begins_with}
 use Rattle.rgo_core_steps.specs.Seats.{mine}
-use Rattle.rgo_core_frames.specs.Records.{Rec as FrameRec}
-use Rattle.rgo_core_channels.specs.Records.{Free}
-use Rattle.rgo_core_frames.specs.WordFrames.{WordFrame}
-use Rattle.rgo_core_rule.specs.Histories.{access}
-use Rattle.rgo_core_rule.specs.Views.{number_of}
-use Rattle.rgo_core_rule.specs.declared.accesses.Access.{Access}
-use Rattle.rgo_core_rule.specs.declared.accesses.Kind.TheVariants.{EndRun}
-use Rattle.rgo_machine.specs.declared.turns.Shortage.TheVariants as shortage
-use Rattle.rgo_region_machine.specs.States.{Duty}
+use Rattle.rgo_core.specs.Frames.Records.{Rec as FrameRec}
+use Rattle.rgo_core.specs.Channels.Records.{Free}
+use Rattle.rgo_core.specs.Frames.WordFrames.{WordFrame}
+use Rattle.rgo_core.specs.Rule.Histories.{access}
+use Rattle.rgo_core.specs.Rule.Views.{number_of}
+use Rattle.rgo_core.specs.Rule.declared.accesses.Access.{Access}
+use Rattle.rgo_core.specs.Rule.declared.accesses.Kind.TheVariants.{EndRun}
+use Rattle.rgo_sound.specs.Machine.declared.turns.Shortage.TheVariants as shortage
+use Rattle.rgo_sound.specs.RegionMachine.States.{Duty}
 use Rattle.rgo_acts.specs.Actors.{now}
 use Rattle.rgo_acts.specs.Runs.{Run}
 use Rattle.rgo_acts.specs.declared.prints.Print.{Print}

@@ -1,10 +1,10 @@
 -- Goroutines as their driver knows them.
 use Rattle.std.specs.Option.{option_map}
 use Rattle.std.specs.Prelude.{◌≡◌, ◌≤◌, ℕ, Bool, List, [], ◌∷◌, ◌++◌, filter, length, map, not}
-use Rattle.rgo_core_channels.specs.Records.{Free}
-use Rattle.rgo_core_memory.specs.Records.{Calm, Idle, Rest}
-use Rattle.rgo_core_rule.specs.Views.{Rows, number_of}
-use Rattle.rgo_core_rule.specs.declared.accesses.Access.{Access}
+use Rattle.rgo_core.specs.Channels.Records.{Free}
+use Rattle.rgo_core.specs.Memory.Records.{Calm, Idle, Rest}
+use Rattle.rgo_core.specs.Rule.Views.{Rows, number_of}
+use Rattle.rgo_core.specs.Rule.declared.accesses.Access.{Access}
 use Rattle.rgo_core.specs.Core.{Setup}
 use Rattle.rgo_core.specs.Records.{Drawn, Record, blank, steps_of}
 use Rattle.rgo_core_steps.specs.Ends.{mark_of}

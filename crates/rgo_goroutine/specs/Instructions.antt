@@ -1,15 +1,15 @@
 -- A goroutine at its next instruction.
 use Rattle.std.specs.Prelude.{◌≡◌, ◌+◌, ◌<◌, ◌≤◌, ℕ, ⊤, false, true, List, [], ◌∷◌, MatchResult, None, Option, Result}
-use Rattle.rgo_region_machine.specs.States.{Duty}
-use Rattle.rgo_typed.specs.declared.actions.Action.{Action}
-use Rattle.rgo_typed.specs.declared.actions.Action.TheVariants as action
+use Rattle.rgo_sound.specs.RegionMachine.States.{Duty}
+use Rattle.rgo_sound.specs.Typed.declared.actions.Action.{Action}
+use Rattle.rgo_sound.specs.Typed.declared.actions.Action.TheVariants as action
 use Rattle.rgo_body.specs.Bodies.{CanCount, HasRoomBehind, IsReady}
 use Rattle.rgo_body.specs.declared.bodies.Body.{Body}
 use Rattle.rgo_body.specs.declared.bodies.Side.TheVariants.{AtRest, Offering}
-use Rattle.rgo_core_channels.specs.Standing.{IsOfChannel}
-use Rattle.rgo_core_rule.specs.declared.accesses.Access.{Access}
-use Rattle.rgo_memory.specs.declared.traps.Trap.{Trap}
-use Rattle.rgo_tac.specs.Code.{Branch, Call, Do, Go, Jump, Op, Print, Return}
+use Rattle.rgo_core.specs.Channels.Standing.{IsOfChannel}
+use Rattle.rgo_core.specs.Rule.declared.accesses.Access.{Access}
+use Rattle.rgo_sound.specs.Memory.declared.traps.Trap.{Trap}
+use Rattle.rgo_sound.specs.Tac.Code.{Branch, Call, Do, Go, Jump, Op, Print, Return}
 use Rattle.rgo_acts.specs.Actors as act
 use Rattle.rgo_acts.specs.Talks.{Talks}
 use Rattle.rgo_acts.specs.Traps.{IsAtTrap}

@@ -1,17 +1,17 @@
 -- What a turn of a goroutine leaves, and why it was over.
 use Rattle.std.specs.Prelude.{◌≡◌, ◌⊎◌, ◌+◌, ◌<◌, ◌≤◌, ◌^◌, ℕ, false, List, [], ◌++◌, Some}
-use Rattle.rgo_core_memory.specs.Words.{clock_at}
-use Rattle.rgo_core_rule.specs.Passes.{ChangesNothingBy}
-use Rattle.rgo_core_rule.specs.Views.{number_of}
-use Rattle.rgo_core_rule.specs.declared.accesses.Access.{Access}
-use Rattle.rgo_core_rule.specs.declared.accesses.Kind.TheVariants.{EndRun}
+use Rattle.rgo_core.specs.Memory.Words.{clock_at}
+use Rattle.rgo_core.specs.Rule.Passes.{ChangesNothingBy}
+use Rattle.rgo_core.specs.Rule.Views.{number_of}
+use Rattle.rgo_core.specs.Rule.declared.accesses.Access.{Access}
+use Rattle.rgo_core.specs.Rule.declared.accesses.Kind.TheVariants.{EndRun}
 use Rattle.rgo_core.specs.Core.{Setup}
 use Rattle.rgo_core.specs.Opening.{first_of}
 use Rattle.rgo_core.specs.Records.{Drawn, Record, accesses, steps_of}
 use Rattle.rgo_core_steps.specs.Ends.{mark_of}
 use Rattle.rgo_core_steps.specs.Grown.{Found, Grew}
-use Rattle.rgo_machine.specs.declared.turns.Shortage.{Shortage}
-use Rattle.rgo_machine.specs.declared.turns.Shortage.TheVariants as shortage
+use Rattle.rgo_sound.specs.Machine.declared.turns.Shortage.{Shortage}
+use Rattle.rgo_sound.specs.Machine.declared.turns.Shortage.TheVariants as shortage
 use Rattle.rgo_acts.specs.Runs.{Run}
 use Rattle.rgo_acts.specs.Shortages.{LacksPage, LacksSlot}
 use Rattle.rgo_acts.specs.Waits.{Loses, Waits}

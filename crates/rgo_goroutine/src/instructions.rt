@@ -1,13 +1,13 @@
 //! The next instruction of a goroutine, before which it owes nothing.
 ghost use Rattle.std.specs.Prelude.{◌≡◌, ◌+◌, ◌-◌, ◌∷◌, ◌<◌, ◌≤◌, ◌^◌, ℕ, IsErr, IsOk, List, MatchResult, None, Option, Some, [], if◌then◌else◌, is_some, length, true};
-ghost use Rattle.rgo_core_channels.specs.Standing.{IsOfChannel};
-ghost use Rattle.rgo_core_facts.specs.ControlShapes.{IsShaped, operand_count};
-ghost use Rattle.rgo_core_rule.specs.Views.{number_of};
+ghost use Rattle.rgo_core.specs.Channels.Standing.{IsOfChannel};
+ghost use Rattle.rgo_acts.specs.Facts.ControlShapes.{IsShaped, operand_count};
+ghost use Rattle.rgo_core.specs.Rule.Views.{number_of};
 ghost use Rattle.rgo_core_steps.specs.Ends.{Ends, Traps};
-ghost use Rattle.rgo_region_machine.specs.Objects.{makes_object};
-ghost use Rattle.rgo_region_machine.specs.States.{Stopped};
-ghost use Rattle.rgo_tac.specs.Code.{Call, Do, Go, Print, Return};
-ghost use Rattle.rgo_tac.specs.Ops.{numbers_of, operation_of};
+ghost use Rattle.rgo_sound.specs.RegionMachine.Objects.{makes_object};
+ghost use Rattle.rgo_sound.specs.RegionMachine.States.{Stopped};
+ghost use Rattle.rgo_sound.specs.Tac.Code.{Call, Do, Go, Print, Return};
+ghost use Rattle.rgo_sound.specs.Tac.Ops.{numbers_of, operation_of};
 ghost use Rattle.rgo_body.specs.Bodies.{CanCount, frames_in};
 ghost use Rattle.rgo_body.specs.declared.bodies.Side.TheVariants as side;
 ghost use Rattle.rgo_acts.specs.Actors.{Acted, Stands, now};
@@ -31,11 +31,11 @@ use rgo_acts::{cells, ends, locals, prints};
 use rgo_body::{Next, NoCall};
 use rgo_core_steps::clock::Mark;
 use rgo_core_steps::counting::Steps;
-use rgo_machine::{End, Shortage};
-use rgo_memory::Trap;
-use rgo_region_machine::Limit;
-use rgo_tac::{Op, Operands};
-use rgo_typed::{Action, Piece};
+use rgo_sound::machine::{End, Shortage};
+use rgo_sound::memory::Trap;
+use rgo_sound::region_machine::Limit;
+use rgo_sound::tac::{Op, Operands};
+use rgo_sound::typed::{Action, Piece};
 use std::alloc::{AllocError, Global};
 use std::sync::ledger::Ledger;
 

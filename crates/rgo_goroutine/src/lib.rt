@@ -8,3 +8,7 @@
 pub mod goroutine;
 mod instructions;
 pub mod turning;
+
+// The crates below that those above name too.
+pub use rgo_acts as acts;
+pub use rgo_body as body;

@@ -2,14 +2,14 @@
 use Rattle.std.proofs.Common.{◌≡◌, ℕ, Bool, true, false, List, [], ◌∷◌, Option, Some, None, ap, arith, if◌then◌else◌, length, map, nat_eq, option_map, refl, reverse, subst, sym, ◌∙◌}
 use Rattle.std.proofs.lemmas.Option.{none-some, same_Some}
 use Rattle.rgo_core_memory.specs.Records.{Fill}
-use Rattle.rgo_region_machine.specs.Owed.{given_names, passed, passed_regions}
-use Rattle.rgo_region_machine.specs.Regions.{Bindings, bound, class_region, without_all}
-use Rattle.rgo_region_machine.specs.States.{Environment, Holder, environment_of, top_names, with_top}
-use Rattle.rgo_region_machine.specs.declared.regions.Region.{Region}
-use Rattle.rgo_region_machine.specs.declared.regions.Region.TheVariants.{Global as GlobalRegion, Numbered}
+use Rattle.rgo_sound.specs.RegionMachine.Owed.{given_names, passed, passed_regions}
+use Rattle.rgo_sound.specs.RegionMachine.Regions.{Bindings, bound, class_region, without_all}
+use Rattle.rgo_sound.specs.RegionMachine.States.{Environment, Holder, environment_of, top_names, with_top}
+use Rattle.rgo_sound.specs.RegionMachine.declared.regions.Region.{Region}
+use Rattle.rgo_sound.specs.RegionMachine.declared.regions.Region.TheVariants.{Global as GlobalRegion, Numbered}
 use Rattle.rgo_sound.proofs.Tests.{nat_eq_refl}
-use Rattle.rgo_tac.specs.declared.regions.Class.{Class}
-use Rattle.rgo_tac.specs.declared.regions.Class.TheVariants.{NoClass, Global as GlobalClass, Name}
+use Rattle.rgo_sound.specs.Tac.declared.regions.Class.{Class}
+use Rattle.rgo_sound.specs.Tac.declared.regions.Class.TheVariants.{NoClass, Global as GlobalClass, Name}
 use Rattle.rgo_holding.specs.declared.entries.Entry.{Entry}
 use Rattle.rgo_holding.specs.declared.frames.Frames.{Frames}
 use Rattle.rgo_holding.specs.declared.holding.Holding.{Holding}

@@ -2,11 +2,11 @@
 use Rattle.std.proofs.Common.{◌≡◌, ◌≢◌, ◌<◌, ◌+◌, ◌-◌, ℕ, Bool, true, false, ◌||◌, List, ◌∷◌, Option, Some, None, Vec, Global, ap, arith, if◌then◌else◌, length, map, nat_eq, nat_lt, option_map, refl, reverse, slice_set, subst, sym, ◌∙◌}
 use Rattle.std.specs.List.{list_any}
 use Rattle.rgo_core_memory.specs.Records.{Fill, dropped, raised}
-use Rattle.rgo_region_machine.specs.Duties.{guards, unprotected, with_protection, without_protection}
-use Rattle.rgo_region_machine.specs.States.{Holder}
-use Rattle.rgo_region_machine.specs.declared.regions.Region.{Region}
-use Rattle.rgo_region_machine.specs.declared.regions.Region.TheVariants.{Numbered}
-use Rattle.rgo_region_machine.specs.Regions.{same_region}
+use Rattle.rgo_sound.specs.RegionMachine.Duties.{guards, unprotected, with_protection, without_protection}
+use Rattle.rgo_sound.specs.RegionMachine.States.{Holder}
+use Rattle.rgo_sound.specs.RegionMachine.declared.regions.Region.{Region}
+use Rattle.rgo_sound.specs.RegionMachine.declared.regions.Region.TheVariants.{Numbered}
+use Rattle.rgo_sound.specs.RegionMachine.Regions.{same_region}
 use Rattle.rgo_sound.proofs.Tests.{nat_eq_refl, ne_of}
 use Rattle.rgo_sound.specs.Stakes.{one_if}
 use Rattle.rgo_holding.specs.declared.entries.Entry.{Entry}

@@ -3,10 +3,10 @@ use Rattle.std.proofs.Common.{◌≡◌, ◌≢◌, ◌≤◌, ◌<◌, ℕ, Boo
 use Rattle.std.proofs.lemmas.Option.{none-some, same_Some}
 use Rattle.std.specs.List.{AllByRecursion, list_any}
 use Rattle.rgo_core_memory.specs.Records.{Fill, dropped}
-use Rattle.rgo_region_machine.specs.Regions.{bound, same_region, unbind, without}
-use Rattle.rgo_region_machine.specs.States.{Environment, Holder}
-use Rattle.rgo_region_machine.specs.declared.regions.Region.{Region}
-use Rattle.rgo_region_machine.specs.declared.regions.Region.TheVariants.{Global as GlobalRegion, Numbered}
+use Rattle.rgo_sound.specs.RegionMachine.Regions.{bound, same_region, unbind, without}
+use Rattle.rgo_sound.specs.RegionMachine.States.{Environment, Holder}
+use Rattle.rgo_sound.specs.RegionMachine.declared.regions.Region.{Region}
+use Rattle.rgo_sound.specs.RegionMachine.declared.regions.Region.TheVariants.{Global as GlobalRegion, Numbered}
 use Rattle.rgo_sound.proofs.CoreLemmas.{in_without}
 use Rattle.rgo_sound.proofs.Tests.{nat_eq_refl, ne_of, split}
 use Rattle.rgo_sound.specs.Stakes.{is_in}

@@ -3,11 +3,11 @@ use Rattle.std.proofs.Common.{◌≡◌, ◌≢◌, ◌≤◌, ◌<◌, ◌+◌,
 use Rattle.std.proofs.lemmas.Option.{none-some}
 use Rattle.std.specs.List.{AllByRecursion, list_any}
 use Rattle.rgo_core_memory.specs.Records.{Fill, dropped, raised}
-use Rattle.rgo_region_machine.specs.Duties.{guards, with_protection, without_protection}
-use Rattle.rgo_region_machine.specs.Regions.{Bindings, same_region}
-use Rattle.rgo_region_machine.specs.States.{Environment, below, with_top}
-use Rattle.rgo_region_machine.specs.declared.regions.Region.{Region}
-use Rattle.rgo_region_machine.specs.declared.regions.Region.TheVariants.{Global as GlobalRegion, Numbered}
+use Rattle.rgo_sound.specs.RegionMachine.Duties.{guards, with_protection, without_protection}
+use Rattle.rgo_sound.specs.RegionMachine.Regions.{Bindings, same_region}
+use Rattle.rgo_sound.specs.RegionMachine.States.{Environment, below, with_top}
+use Rattle.rgo_sound.specs.RegionMachine.declared.regions.Region.{Region}
+use Rattle.rgo_sound.specs.RegionMachine.declared.regions.Region.TheVariants.{Global as GlobalRegion, Numbered}
 use Rattle.rgo_sound.proofs.Moves.{times_removed}
 use Rattle.rgo_sound.proofs.Tests.{eq_of, nat_eq_refl, ne_of}
 use Rattle.rgo_sound.specs.Invariant.{times}

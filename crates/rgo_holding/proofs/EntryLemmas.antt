@@ -1,7 +1,7 @@
 -- Entries are written: each key but one has the entry that it had.
 use Rattle.std.proofs.Common.{◌≡◌, ◌≢◌, ℕ, Bool, true, false, List, [], ◌∷◌, Option, Some, None, ap, if◌then◌else◌, map, nat_eq, option_map, refl, slice_get, slice_set, subst, sym, true≢false, ◌∙◌}
 use Rattle.std.proofs.lemmas.Option.{none-some, same_Some}
-use Rattle.rgo_region_machine.specs.declared.regions.Region.{Region}
+use Rattle.rgo_sound.specs.RegionMachine.declared.regions.Region.{Region}
 use Rattle.rgo_sound.proofs.Places.{get_set_other, get_set_same}
 use Rattle.rgo_sound.proofs.Tests.{eq_of, nat_eq_refl, split}
 use Rattle.rgo_holding.specs.declared.entries.Entry.{Entry}

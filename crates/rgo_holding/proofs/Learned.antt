@@ -2,7 +2,7 @@
 use Rattle.std.proofs.Common.{◌≡◌, ◌+◌, ℕ, List, [], ◌∷◌, ◌++◌, Some, ap, map, slice_get, take, ◌∙◌}
 use Rattle.std.proofs.lemmas.List.{map-append, take_more}
 use Rattle.std.proofs.lemmas.Option.{get_or_from_slice_get, slice_get_within}
-use Rattle.rgo_code.specs.Code.{CodeFn}
+use Rattle.rgo_sound.specs.Code.Code.{CodeFn}
 
 -- what is kept of each function, with that of the next one
 pub kept_more : {X : Type 0} (keep : CodeFn → X) (fs : List CodeFn) (n : ℕ) (f : CodeFn) → slice_get fs n ≡ Some f

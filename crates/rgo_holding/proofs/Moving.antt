@@ -1,9 +1,9 @@
 -- What a goroutine has, as names end and are made, and frames come and go.
 use Rattle.std.proofs.Common.{◌≡◌, ◌-◌, ℕ, List, [], ◌∷◌, ◌++◌, None, ap, arith, length, refl, slice_set, subst, sym, ◌∙◌}
 use Rattle.rgo_core_memory.specs.Records.{Fill}
-use Rattle.rgo_region_machine.specs.Regions.{Bindings, unbind}
-use Rattle.rgo_region_machine.specs.States.{Environment, Holder, below, top_names, with_top}
-use Rattle.rgo_region_machine.specs.declared.regions.Region.{Region}
+use Rattle.rgo_sound.specs.RegionMachine.Regions.{Bindings, unbind}
+use Rattle.rgo_sound.specs.RegionMachine.States.{Environment, Holder, below, top_names, with_top}
+use Rattle.rgo_sound.specs.RegionMachine.declared.regions.Region.{Region}
 use Rattle.rgo_holding.specs.declared.frames.Frames.{Frames}
 use Rattle.rgo_holding.specs.declared.holding.Holding.{Holding}
 use Rattle.rgo_holding.specs.Changes.{Settles, renamed, top_protections, without_name}

@@ -2,9 +2,9 @@
 use Rattle.std.proofs.Common.{◌≡◌, ◌≢◌, ◌≤◌, ◌<◌, ℕ, zero, suc, Bool, true, false, List, [], ◌∷◌, ◌++◌, Option, Some, None, ap, arith, if◌then◌else◌, length, nat_eq, nat_lt, option_map, refl, slice_set, subst, sym, ◌∙◌}
 use Rattle.std.proofs.lemmas.Option.{none-some, same_Some}
 use Rattle.std.specs.List.{AllByRecursion}
-use Rattle.rgo_region_machine.specs.Regions.{Bindings, bound, unbind, without_all}
-use Rattle.rgo_region_machine.specs.States.{Environment}
-use Rattle.rgo_region_machine.specs.declared.regions.Region.{Region}
+use Rattle.rgo_sound.specs.RegionMachine.Regions.{Bindings, bound, unbind, without_all}
+use Rattle.rgo_sound.specs.RegionMachine.States.{Environment}
+use Rattle.rgo_sound.specs.RegionMachine.declared.regions.Region.{Region}
 use Rattle.rgo_sound.proofs.CoreLemmas.{bound_unbind, bound_unbind_other}
 use Rattle.rgo_sound.proofs.Tests.{eq_of, ne_of, split}
 use Rattle.rgo_holding.specs.declared.keys.Key.{Key}

@@ -6,10 +6,10 @@ use Rattle.std.proofs.lemmas.List.Sorted.{searched}
 use Rattle.std.specs.List.Sorted.{IsBinarySearchResult, IsStrictlyIncreasing}
 use Rattle.std.specs.List.{list_any}
 use Rattle.std.specs.Ordering.{nat_cmp}
-use Rattle.rgo_region_machine.specs.Owed.{given_names, same_class}
+use Rattle.rgo_sound.specs.RegionMachine.Owed.{given_names, same_class}
 use Rattle.rgo_region_sets.proofs.Tables.{rising_ascends}
-use Rattle.rgo_tac.specs.declared.regions.Class.TheVariants.{NoClass, Global, Name}
-use Rattle.rgo_tac.specs.declared.regions.Class.{Class}
+use Rattle.rgo_sound.specs.Tac.declared.regions.Class.TheVariants.{NoClass, Global, Name}
+use Rattle.rgo_sound.specs.Tac.declared.regions.Class.{Class}
 use Rattle.rgo_holding.specs.declared.frames.Frames.{Frames}
 use Rattle.rgo_holding.specs.declared.keys.Key.{Key}
 use Rattle.rgo_holding.specs.Naming.{Changed, changed_at, cleared}

@@ -4,16 +4,16 @@ use Rattle.std.proofs.lemmas.List.{reverse-append, take_more}
 use Rattle.std.proofs.lemmas.Option.{none-some, same_Some}
 use Rattle.std.specs.List.{AllByRecursion, list_any}
 use Rattle.rgo_core_memory.specs.Records.{Fill}
-use Rattle.rgo_region_machine.specs.Owed.{passed, passed_regions, stands_in, twice}
-use Rattle.rgo_region_machine.specs.Regions.{Bindings, bound, class_region, same_region}
-use Rattle.rgo_region_machine.specs.States.{Holder, NoOffer, environment_of, top_names}
-use Rattle.rgo_region_machine.specs.declared.regions.Region.{Region}
-use Rattle.rgo_region_machine.specs.declared.regions.Region.TheVariants.{Global as GlobalRegion, Numbered}
+use Rattle.rgo_sound.specs.RegionMachine.Owed.{passed, passed_regions, stands_in, twice}
+use Rattle.rgo_sound.specs.RegionMachine.Regions.{Bindings, bound, class_region, same_region}
+use Rattle.rgo_sound.specs.RegionMachine.States.{Holder, NoOffer, environment_of, top_names}
+use Rattle.rgo_sound.specs.RegionMachine.declared.regions.Region.{Region}
+use Rattle.rgo_sound.specs.RegionMachine.declared.regions.Region.TheVariants.{Global as GlobalRegion, Numbered}
 use Rattle.rgo_sound.proofs.Tests.{eq_of, nat_eq_refl, or_there, split}
 use Rattle.rgo_sound.specs.Invariant.{times}
 use Rattle.rgo_sound.specs.Stakes.{is_in, one_if}
-use Rattle.rgo_tac.specs.declared.regions.Class.{Class}
-use Rattle.rgo_tac.specs.declared.regions.Class.TheVariants.{NoClass, Global as GlobalClass, Name}
+use Rattle.rgo_sound.specs.Tac.declared.regions.Class.{Class}
+use Rattle.rgo_sound.specs.Tac.declared.regions.Class.TheVariants.{NoClass, Global as GlobalClass, Name}
 use Rattle.rgo_holding.specs.declared.entries.Entry.{Entry}
 use Rattle.rgo_holding.specs.declared.frames.Frames.{Frames}
 use Rattle.rgo_holding.specs.declared.holding.Holding.{Holding}

@@ -2,11 +2,11 @@
 use Rattle.std.specs.List.{AllByRecursion, list_any}
 use Rattle.std.specs.Prelude.{◌≡◌, ◌≢◌, ◌<◌, ◌++◌, ℕ, true, false, List, [], ◌∷◌, Option, Some, None, length, nat_eq, slice_get}
 use Rattle.rgo_core_memory.specs.Records.{Fill}
-use Rattle.rgo_region_machine.specs.Duties.{guards, with_protection}
-use Rattle.rgo_region_machine.specs.Regions.{Bindings, bound, same_region, unbind, without}
-use Rattle.rgo_region_machine.specs.States.{Environment, Holder, top_names, with_top}
-use Rattle.rgo_region_machine.specs.declared.regions.Region.{Region}
-use Rattle.rgo_region_machine.specs.declared.regions.Region.TheVariants.{Numbered}
+use Rattle.rgo_sound.specs.RegionMachine.Duties.{guards, with_protection}
+use Rattle.rgo_sound.specs.RegionMachine.Regions.{Bindings, bound, same_region, unbind, without}
+use Rattle.rgo_sound.specs.RegionMachine.States.{Environment, Holder, top_names, with_top}
+use Rattle.rgo_sound.specs.RegionMachine.declared.regions.Region.{Region}
+use Rattle.rgo_sound.specs.RegionMachine.declared.regions.Region.TheVariants.{Numbered}
 use Rattle.rgo_sound.specs.Stakes.{is_in}
 use Rattle.rgo_holding.specs.declared.entries.Entry.{Entry}
 use Rattle.rgo_holding.specs.declared.holding.Holding.{Holding}

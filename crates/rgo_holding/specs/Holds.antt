@@ -3,8 +3,8 @@
 use Rattle.std.specs.Option.{option_map}
 use Rattle.std.specs.Prelude.{◌≡◌, ℕ, List, Option, Some, length, map, reverse}
 use Rattle.rgo_core_memory.specs.Records.{Fill}
-use Rattle.rgo_region_machine.specs.States.{Environment, Holder}
-use Rattle.rgo_region_machine.specs.declared.regions.Region.{Region}
+use Rattle.rgo_sound.specs.RegionMachine.States.{Environment, Holder}
+use Rattle.rgo_sound.specs.RegionMachine.declared.regions.Region.{Region}
 use Rattle.rgo_holding.specs.declared.entries.Entry.{Entry}
 use Rattle.rgo_holding.specs.declared.holding.Holding.{Holding}
 use Rattle.rgo_holding.specs.declared.keys.Key.{Key}

@@ -1,13 +1,13 @@
 -- What a call or a start passes.
 use Rattle.std.specs.Prelude.{◌≡◌, ℕ, true, List, [], ◌∷◌, Option, Some, None, if◌then◌else◌, length, map, nat_eq}
-use Rattle.rgo_region_machine.specs.Owed.{given_names, passed, passed_regions, twice}
-use Rattle.rgo_region_machine.specs.Regions.{without_all}
-use Rattle.rgo_region_machine.specs.States.{Holder, environment_of, top_names, with_top}
-use Rattle.rgo_region_machine.specs.declared.regions.Region.{Region}
-use Rattle.rgo_region_machine.specs.declared.regions.Region.TheVariants.{Global as GlobalRegion, Numbered}
+use Rattle.rgo_sound.specs.RegionMachine.Owed.{given_names, passed, passed_regions, twice}
+use Rattle.rgo_sound.specs.RegionMachine.Regions.{without_all}
+use Rattle.rgo_sound.specs.RegionMachine.States.{Holder, environment_of, top_names, with_top}
+use Rattle.rgo_sound.specs.RegionMachine.declared.regions.Region.{Region}
+use Rattle.rgo_sound.specs.RegionMachine.declared.regions.Region.TheVariants.{Global as GlobalRegion, Numbered}
 use Rattle.rgo_sound.specs.Stakes.{is_in}
-use Rattle.rgo_tac.specs.declared.regions.Class.{Class}
-use Rattle.rgo_tac.specs.declared.regions.Class.TheVariants.{NoClass, Global, Name}
+use Rattle.rgo_sound.specs.Tac.declared.regions.Class.{Class}
+use Rattle.rgo_sound.specs.Tac.declared.regions.Class.TheVariants.{NoClass, Global, Name}
 use Rattle.rgo_holding.specs.declared.holding.Holding.{Holding}
 use Rattle.rgo_holding.specs.declared.keys.Key.{Key}
 use Rattle.rgo_holding.specs.Known.{global_key}

@@ -1,9 +1,9 @@
 -- What the names of a goroutine's frames stand for, in tables that are kept only for frames that have bound a name.
 use Rattle.std.specs.Option.{option_map}
 use Rattle.std.specs.Prelude.{◌≡◌, ◌≤◌, ℕ, suc, List, [], ◌∷◌, Option, Some, None, drop, if◌then◌else◌, length, nat_eq, reverse, slice_get, take}
-use Rattle.rgo_region_machine.specs.Regions.{Bindings, bound}
-use Rattle.rgo_region_machine.specs.States.{Environment}
-use Rattle.rgo_region_machine.specs.declared.regions.Region.{Region}
+use Rattle.rgo_sound.specs.RegionMachine.Regions.{Bindings, bound}
+use Rattle.rgo_sound.specs.RegionMachine.States.{Environment}
+use Rattle.rgo_sound.specs.RegionMachine.declared.regions.Region.{Region}
 use Rattle.rgo_holding.specs.declared.frames.Frames.{Frames}
 use Rattle.rgo_holding.specs.declared.frames.Table.{Table}
 use Rattle.rgo_holding.specs.declared.keys.Key.{Key}

@@ -3,8 +3,8 @@
 ghost use Rattle.std.specs.List.Sorted.{IsStrictlyIncreasing};
 ghost use Rattle.std.specs.Prelude.{◌≡◌, ℕ, [], List, OnOk, map};
 ghost use Rattle.rgo_core_memory.specs.Records.{Fill};
-ghost use Rattle.rgo_region_machine.specs.Owed as owed;
-ghost use Rattle.rgo_region_machine.specs.States.{Holder};
+ghost use Rattle.rgo_sound.specs.RegionMachine.Owed as owed;
+ghost use Rattle.rgo_sound.specs.RegionMachine.States.{Holder};
 ghost use Rattle.rgo_holding.specs.Changes.{Keeps, SameRegions};
 ghost use Rattle.rgo_holding.specs.Holds.{Holds};
 ghost use Rattle.rgo_holding.specs.Passing as spec;
@@ -14,7 +14,7 @@ ghost use Rattle.rgo_holding.specs.Tables.{IsOrdered, key_in};
 use crate::frames::{Frames, key_of};
 use crate::holding::Holding;
 use crate::keys::{Key, global};
-use rgo_tac::Class;
+use rgo_sound::tac::Class;
 use std::alloc::AllocError;
 
 /// The key of a class.

@@ -3,15 +3,15 @@
 ghost use Rattle.std.specs.List.{list_any};
 ghost use Rattle.std.specs.Option.{option_map};
 ghost use Rattle.std.specs.Prelude.{◌≡◌, ◌<◌, ◌∷◌, ℕ, [], List, None, Some, IfOk, OnOk, OnErr, length, nat_eq, slice_get};
-ghost use Rattle.rgo_code.specs.Code.{Code as CodeRecord};
+ghost use Rattle.rgo_sound.specs.Code.Code.{Code as CodeRecord};
 ghost use Rattle.rgo_core_memory.specs.Records.{Fill, dropped, raised};
-ghost use Rattle.rgo_region_machine.specs.Duties.{guards as guards_in, unprotected};
-ghost use Rattle.rgo_region_machine.specs.Machine.{main_holder};
-ghost use Rattle.rgo_region_machine.specs.Regions.{bound, class_region};
-ghost use Rattle.rgo_region_machine.specs.States.{Environment, Holder, below, top_names};
-ghost use Rattle.rgo_region_machine.specs.declared.regions.Region.{Region as RegionRecord};
-ghost use Rattle.rgo_region_machine.specs.declared.regions.Region.TheVariants.{Numbered};
-ghost use Rattle.rgo_tac.specs.Frames.{Frame};
+ghost use Rattle.rgo_sound.specs.RegionMachine.Duties.{guards as guards_in, unprotected};
+ghost use Rattle.rgo_sound.specs.RegionMachine.Machine.{main_holder};
+ghost use Rattle.rgo_sound.specs.RegionMachine.Regions.{bound, class_region};
+ghost use Rattle.rgo_sound.specs.RegionMachine.States.{Environment, Holder, below, top_names};
+ghost use Rattle.rgo_sound.specs.RegionMachine.declared.regions.Region.{Region as RegionRecord};
+ghost use Rattle.rgo_sound.specs.RegionMachine.declared.regions.Region.TheVariants.{Numbered};
+ghost use Rattle.rgo_sound.specs.Tac.Frames.{Frame};
 ghost use Rattle.rgo_holding.specs.Changes as spec;
 ghost use Rattle.rgo_holding.specs.Holds.{Holds, region_at};
 ghost use Rattle.rgo_holding.specs.Learning.{ShowsFresh, Tracks};
@@ -20,8 +20,8 @@ ghost use Rattle.rgo_holding.specs.Known.{own_page, page_of, slot_of};
 use crate::entries::{Entry, Page, entry_of, forget_rounds, new_entry, put, spare_key};
 use crate::frames::{Frames, key_of};
 use crate::keys::{Key, global};
-use rgo_region_machine::Region;
-use rgo_tac::Class;
+use rgo_sound::region_machine::Region;
+use rgo_sound::tac::Class;
 use std::alloc::{AllocError, Global};
 
 /// What a goroutine has of regions.

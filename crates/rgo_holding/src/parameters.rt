@@ -1,11 +1,11 @@
 //! The region parameters of functions.
 
 ghost use Rattle.std.specs.Prelude.{◌≡◌, IfOk, map};
-ghost use Rattle.rgo_code.specs.Names as names;
+ghost use Rattle.rgo_sound.specs.Code.Names as names;
 
-use rgo_code::Code;
+use rgo_sound::code::Code;
 use rgo_region_sets::region_parameters;
-use rgo_tac::Class;
+use rgo_sound::tac::Class;
 use std::alloc::{AllocError, Global};
 
 /// The region parameters of each function.

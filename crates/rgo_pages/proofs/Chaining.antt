@@ -1,12 +1,12 @@
 -- Pages that are put on a chain, and chains that are given back, access by access.
 use Rattle.std.proofs.Common.{◌≡◌, ℕ, suc, ◌+◌, ◌-◌, ◌*◌, ◌<◌, ◌≤◌, List, [], ◌∷◌, ◌++◌, refl, ap, subst, ◌∙◌, arith, append_assoc, length-append}
-use Rattle.rgo_core_rule.specs.Histories.{access}
-use Rattle.rgo_core_rule.specs.Views.{Me}
-use Rattle.rgo_core_rule.specs.declared.accesses.Access.{Access}
-use Rattle.rgo_core_rule.specs.declared.accesses.Kind.TheVariants.{ClaimPage, ClearHead, FreePage, HangPage, LinkPage, LoadHead, LoadNext}
-use Rattle.rgo_core_memory.specs.Records.{Gave, Giving, Hung, Idle, Past, with_claim, with_give}
-use Rattle.rgo_core_memory.specs.Words.{head_at, next_at, state_at}
-use Rattle.rgo_core_memory.specs.declared.layout.TableSizes.{TableSizes}
+use Rattle.rgo_core.specs.Rule.Histories.{access}
+use Rattle.rgo_core.specs.Rule.Views.{Me}
+use Rattle.rgo_core.specs.Rule.declared.accesses.Access.{Access}
+use Rattle.rgo_core.specs.Rule.declared.accesses.Kind.TheVariants.{ClaimPage, ClearHead, FreePage, HangPage, LinkPage, LoadHead, LoadNext}
+use Rattle.rgo_core.specs.Memory.Records.{Gave, Giving, Hung, Idle, Past, with_claim, with_give}
+use Rattle.rgo_core.specs.Memory.Words.{head_at, next_at, state_at}
+use Rattle.rgo_core.specs.Memory.declared.layout.TableSizes.{TableSizes}
 use Rattle.rgo_core.specs.Chains.{frees, remembers}
 use Rattle.rgo_core.specs.Claims.{claims}
 use Rattle.rgo_core.specs.Core.{Setup}

@@ -1,16 +1,16 @@
 -- Which accesses make a record give a chain back.
 use Rattle.std.specs.Option.{option_map, option_map_or}
 use Rattle.std.proofs.Common.{◌≡◌, ◌≢◌, ◌⊎◌, ◌==◌, ℕ, Bool, true, false, List, [], ◌∷◌, Option, Some, None, if◌then◌else◌, unwrap_or, inl, inr, ⊎_elim, refl, ap}
-use Rattle.rgo_code.specs.Code.{Branch, Call, Code, CodeFn, CodeOp, Do, Go, Jump, Print, Return}
-use Rattle.rgo_memory.specs.Memory.{Object}
-use Rattle.rgo_region_machine.specs.Objects.{words as words_in}
-use Rattle.rgo_region_machine.specs.Owed.{function_of}
-use Rattle.rgo_region_machine.specs.States.{Create, Duty, EndBase, Ended, Holder, Mark, Protect, Remove, Share, Stopped, Unprotect}
-use Rattle.rgo_core_frames.specs.Opening.{no_record}
-use Rattle.rgo_core_frames.specs.Children.{child_records}
-use Rattle.rgo_core_frames.specs.Records.{Rec as FrameRec}
-use Rattle.rgo_core_frames.specs.WordFrames.{WordFrame, word_called, words_of}
-use Rattle.rgo_core_memory.specs.Records.{Calm, Fill, Owes, Rec as MemoryRec}
+use Rattle.rgo_sound.specs.Code.Code.{Branch, Call, Code, CodeFn, CodeOp, Do, Go, Jump, Print, Return}
+use Rattle.rgo_sound.specs.Memory.Memory.{Object}
+use Rattle.rgo_sound.specs.RegionMachine.Objects.{words as words_in}
+use Rattle.rgo_sound.specs.RegionMachine.Owed.{function_of}
+use Rattle.rgo_sound.specs.RegionMachine.States.{Create, Duty, EndBase, Ended, Holder, Mark, Protect, Remove, Share, Stopped, Unprotect}
+use Rattle.rgo_core.specs.Frames.Opening.{no_record}
+use Rattle.rgo_core.specs.Frames.Children.{child_records}
+use Rattle.rgo_core.specs.Frames.Records.{Rec as FrameRec}
+use Rattle.rgo_core.specs.Frames.WordFrames.{WordFrame, word_called, words_of}
+use Rattle.rgo_core.specs.Memory.Records.{Calm, Fill, Owes, Rec as MemoryRec}
 use Rattle.rgo_core.specs.Core.{Setup}
 use Rattle.rgo_core.specs.Laws.{first_in}
 use Rattle.rgo_core.specs.Records.{Record, begins_with}

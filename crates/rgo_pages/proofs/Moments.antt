@@ -1,15 +1,15 @@
 -- Who gives pages back at each moment, by the image of the table.
 use Rattle.std.proofs.Common.{◌≡◌, ℕ, suc, ◌<◌, List, Some, map, slice_get, slice_index, refl, sym, subst, ◌∙◌, arith}
-use Rattle.rgo_region_machine.specs.Machine.{Event}
-use Rattle.rgo_core_memory.specs.Ground.{ground_of}
-use Rattle.rgo_core_memory.specs.Image.{Where}
-use Rattle.rgo_core_memory.specs.Records.{Closes, Give, Gives, Has, Past}
-use Rattle.rgo_core_memory.specs.Words.{count_at, state_at}
-use Rattle.rgo_core_memory.proofs.Chaining.{first_at}
-use Rattle.rgo_core_memory.proofs.Slots.{one_closes}
-use Rattle.rgo_core_memory.proofs.Steadies.{steady_of}
-use Rattle.rgo_core_memory.proofs.Stepped.{map_get}
-use Rattle.rgo_region_machine.specs.States.{RegionState}
+use Rattle.rgo_sound.specs.RegionMachine.Machine.{Event}
+use Rattle.rgo_core.specs.Memory.Ground.{ground_of}
+use Rattle.rgo_core.specs.Memory.Image.{Where}
+use Rattle.rgo_core.specs.Memory.Records.{Closes, Give, Gives, Has, Past}
+use Rattle.rgo_core.specs.Memory.Words.{count_at, state_at}
+use Rattle.rgo_core.proofs.Memory.Chaining.{first_at}
+use Rattle.rgo_core.proofs.Memory.Slots.{one_closes}
+use Rattle.rgo_core.proofs.Memory.Steadies.{steady_of}
+use Rattle.rgo_core.proofs.Memory.Stepped.{map_get}
+use Rattle.rgo_sound.specs.RegionMachine.States.{RegionState}
 use Rattle.rgo_core.specs.Core.{CoreAt, Setup, layout}
 use Rattle.rgo_core.specs.Records.{Record, memory_of}
 use Rattle.rgo_pages.specs.Laws.{ReleaseLaw}

@@ -1,14 +1,14 @@
 -- What a search for a free page leaves, and a claim.
 use Rattle.std.specs.Prelude.{◌≡◌, ◌≢◌, ◌<◌, ◌≤◌, ◌+◌, ◌-◌, ℕ, List, [], ◌∷◌, ◌++◌, Option, Some, None}
-use Rattle.rgo_core_rule.specs.Histories.{access, accesses_by}
-use Rattle.rgo_core_rule.specs.Passes.{ChangesNothingBy}
-use Rattle.rgo_core_rule.specs.Views.{Me, number_of}
-use Rattle.rgo_core_rule.specs.declared.accesses.Access.{Access}
-use Rattle.rgo_core_rule.specs.declared.accesses.Kind.TheVariants.{ClaimPage, HangPage, LinkPage}
-use Rattle.rgo_core_memory.specs.Pages.{times}
-use Rattle.rgo_core_memory.specs.Records.{Idle, with_claim}
-use Rattle.rgo_core_memory.specs.Words.{head_at, next_at, state_at}
-use Rattle.rgo_core_memory.specs.declared.layout.TableSizes.{TableSizes}
+use Rattle.rgo_core.specs.Rule.Histories.{access, accesses_by}
+use Rattle.rgo_core.specs.Rule.Passes.{ChangesNothingBy}
+use Rattle.rgo_core.specs.Rule.Views.{Me, number_of}
+use Rattle.rgo_core.specs.Rule.declared.accesses.Access.{Access}
+use Rattle.rgo_core.specs.Rule.declared.accesses.Kind.TheVariants.{ClaimPage, HangPage, LinkPage}
+use Rattle.rgo_core.specs.Memory.Pages.{times}
+use Rattle.rgo_core.specs.Memory.Records.{Idle, with_claim}
+use Rattle.rgo_core.specs.Memory.Words.{head_at, next_at, state_at}
+use Rattle.rgo_core.specs.Memory.declared.layout.TableSizes.{TableSizes}
 use Rattle.rgo_core.specs.Claims.{claims}
 use Rattle.rgo_core.specs.Core.{Setup}
 use Rattle.rgo_core.specs.Opening.{first_of}

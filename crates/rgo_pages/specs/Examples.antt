@@ -1,11 +1,11 @@
 -- The definitions of claims and of chains that are given back, each where it holds and where it must not.
 use Rattle.std.specs.Prelude.{◌≡◌, List, [], ◌∷◌}
-use Rattle.rgo_core_rule.specs.Histories.{access}
-use Rattle.rgo_core_rule.specs.Views.{Me}
-use Rattle.rgo_core_rule.specs.declared.accesses.Kind.TheVariants.{FreePage, LoadNext}
-use Rattle.rgo_core_frames.specs.Opening.{no_record}
-use Rattle.rgo_core_memory.specs.Records.{Gave, Idle}
-use Rattle.rgo_core_memory.specs.declared.layout.TableSizes.{TableSizes}
+use Rattle.rgo_core.specs.Rule.Histories.{access}
+use Rattle.rgo_core.specs.Rule.Views.{Me}
+use Rattle.rgo_core.specs.Rule.declared.accesses.Kind.TheVariants.{FreePage, LoadNext}
+use Rattle.rgo_core.specs.Frames.Opening.{no_record}
+use Rattle.rgo_core.specs.Memory.Records.{Gave, Idle}
+use Rattle.rgo_core.specs.Memory.declared.layout.TableSizes.{TableSizes}
 use Rattle.rgo_core.specs.Core.{Setup}
 use Rattle.rgo_core.specs.Records.{Record, begins_with}
 use Rattle.rgo_pages.specs.Claiming.{PageClaimed, has_claimed}

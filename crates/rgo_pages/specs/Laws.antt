@@ -1,11 +1,11 @@
 -- Who gives the pages of a region back, and when: what holds at each moment of a table.
 use Rattle.std.specs.Prelude.{◌≡◌, ◌≢◌, ◌⊎◌, ◌<◌, ℕ, suc, List, Some, slice_get, slice_index}
-use Rattle.rgo_code.specs.Code.{Code}
-use Rattle.rgo_region_machine.specs.Machine.{Event}
-use Rattle.rgo_region_machine.specs.States.{Mark}
-use Rattle.rgo_core_channels.specs.Records.{Rec as SideRec}
-use Rattle.rgo_core_memory.specs.Records.{Calm, Claim, Closes, Owes, Past, with_claim}
-use Rattle.rgo_core_memory.specs.Words.{count_at, state_at}
+use Rattle.rgo_sound.specs.Code.Code.{Code}
+use Rattle.rgo_sound.specs.RegionMachine.Machine.{Event}
+use Rattle.rgo_sound.specs.RegionMachine.States.{Mark}
+use Rattle.rgo_core.specs.Channels.Records.{Rec as SideRec}
+use Rattle.rgo_core.specs.Memory.Records.{Calm, Claim, Closes, Owes, Past, with_claim}
+use Rattle.rgo_core.specs.Memory.Words.{count_at, state_at}
 use Rattle.rgo_core.specs.Accesses.{measures}
 use Rattle.rgo_core.specs.AtChannels.{knows}
 use Rattle.rgo_core.specs.Chains.{remembers}

@@ -1,12 +1,12 @@
 -- What a chain that is given back leaves.
 use Rattle.std.specs.Prelude.{◌≡◌, ◌≤◌, ◌+◌, ◌-◌, ◌*◌, ℕ, suc, List, [], ◌∷◌, ◌++◌, length}
-use Rattle.rgo_core_rule.specs.Histories.{access}
-use Rattle.rgo_core_rule.specs.Views.{Me}
-use Rattle.rgo_core_rule.specs.declared.accesses.Access.{Access}
-use Rattle.rgo_core_rule.specs.declared.accesses.Kind.TheVariants.{ClearHead, FreePage, LoadHead, LoadNext}
-use Rattle.rgo_core_memory.specs.Records.{Gave, Giving, Past, with_give}
-use Rattle.rgo_core_memory.specs.Words.{head_at, next_at, state_at}
-use Rattle.rgo_core_memory.specs.declared.layout.TableSizes.{TableSizes}
+use Rattle.rgo_core.specs.Rule.Histories.{access}
+use Rattle.rgo_core.specs.Rule.Views.{Me}
+use Rattle.rgo_core.specs.Rule.declared.accesses.Access.{Access}
+use Rattle.rgo_core.specs.Rule.declared.accesses.Kind.TheVariants.{ClearHead, FreePage, LoadHead, LoadNext}
+use Rattle.rgo_core.specs.Memory.Records.{Gave, Giving, Past, with_give}
+use Rattle.rgo_core.specs.Memory.Words.{head_at, next_at, state_at}
+use Rattle.rgo_core.specs.Memory.declared.layout.TableSizes.{TableSizes}
 use Rattle.rgo_core.specs.Chains.{frees, remembers}
 use Rattle.rgo_core.specs.Core.{Setup}
 use Rattle.rgo_core.specs.Opening.{first_of}

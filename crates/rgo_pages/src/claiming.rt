@@ -6,14 +6,14 @@
 //! 4. If no state is found 0, each page was found in use by an exchange of this call, and the record remembers each page.
 ghost use Rattle.std.specs.Prelude.{◌≡◌, ◌<◌, ◌≤◌, ◌+◌, ◌*◌, ◌-◌, ℕ, IfErr, IfOk, IfSome};
 ghost use Rattle.rgo_core.specs.Plans.{setup_of};
-ghost use Rattle.rgo_core_memory.specs.Records.{Got};
+ghost use Rattle.rgo_core.specs.Memory.Records.{Got};
 ghost use Rattle.rgo_core_steps.specs.Layouts.{HasLayout};
 ghost use Rattle.rgo_core_steps.specs.Making.{IsCalm, NeedsPage};
 ghost use Rattle.rgo_core_steps.specs.Seats.{HasOne, HasPossible, Settles, mine, settled};
 ghost use Rattle.rgo_pages.specs.Claiming.{AllPagesTried, FullLaw, Hooked, PageClaimed, PageOrNone, PagesTried};
 
 use rgo_core::table::{RunSeat, RunTable};
-use rgo_core_memory::layout::TableSizes;
+use rgo_core::memory::layout::TableSizes;
 use rgo_core_steps::counting::Steps;
 use rgo_core_steps::pages;
 use std::sync::ledger::Ledger;

@@ -5,14 +5,14 @@ ghost use Rattle.std.specs.Prelude.{◌≡◌, ◌<◌, ◌≤◌, ◌+◌, ◌*
 ghost use Rattle.rgo_core.specs.Opening.{first_of};
 ghost use Rattle.rgo_core.specs.Plans.{setup_of};
 ghost use Rattle.rgo_core.specs.Records.{accesses};
-ghost use Rattle.rgo_core_memory.specs.Records.{Giving, Owes};
+ghost use Rattle.rgo_core.specs.Memory.Records.{Giving, Owes};
 ghost use Rattle.rgo_core_steps.specs.Grown.{Made};
 ghost use Rattle.rgo_core_steps.specs.Layouts.{HasLayout};
 ghost use Rattle.rgo_core_steps.specs.Seats.{HasOne, HasPossible, mine};
 ghost use Rattle.rgo_pages.specs.Releasing.{ChainGivenBack, OneFreed};
 
 use rgo_core::table::{RunSeat, RunTable};
-use rgo_core_memory::layout::TableSizes;
+use rgo_core::memory::layout::TableSizes;
 use rgo_core_steps::counting::Steps;
 use rgo_core_steps::pages;
 use std::sync::ledger::Ledger;

@@ -3,14 +3,14 @@ use Rattle.std.proofs.Common.{◌≡◌, ◌⊎◌, inl, inr, ⊎_elim, ℕ, zer
 use Rattle.std.specs.List.{AllZip}
 use Rattle.std.proofs.lemmas.List.Elements.{All-head, All-nil}
 use Rattle.std.proofs.lemmas.Option.{same_Some}
-use Rattle.rgo_acts.specs.declared.prints.Print.{Print}
+use Rattle.rgo_goroutine.specs.Acts.declared.prints.Print.{Print}
 use Rattle.rgo_core.specs.Records.{Record}
-use Rattle.rgo_core_rule.specs.Views.{Has, Rows}
+use Rattle.rgo_core.specs.Rule.Views.{Has, Rows}
 use Rattle.rgo_core_steps.specs.declared.clock.Mark as clock
 use Rattle.rgo_goroutine.specs.Goroutines.{IsTidy}
 use Rattle.rgo_goroutine.specs.Turns.{IsOver}
 use Rattle.rgo_goroutine.specs.declared.goroutine.Goroutine.{Goroutine}
-use Rattle.rgo_region_machine.specs.Counts.{Counts}
+use Rattle.rgo_sound.specs.RegionMachine.Counts.{Counts}
 use Rattle.rgo_sched.specs.Rounds.{EachTurned}
 use Rattle.rgo_sound.specs.Tally.{no_share}
 use Rattle.rgo_table_runs.specs.closing.Members.{HasNumber, IsListed, Member, NoneIsLost, retired}

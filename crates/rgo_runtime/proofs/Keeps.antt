@@ -6,16 +6,16 @@ use Rattle.std.specs.List.{AllZip}
 use Rattle.std.proofs.lemmas.List.{map-append}
 use Rattle.std.proofs.lemmas.List.Elements.{All-append, All-cons, All-head, All-nil, All-tail, All-weaker, Contains-append_cases, Contains-append_left, Contains-append_right}
 use Rattle.std.proofs.lemmas.List.Sorted.{Contains-permutation, IsPermutation-append_comm, IsPermutation-append_left, IsPermutation-append_right, IsPermutation-cons, IsPermutation-map, IsPermutation-refl, IsPermutation-sym}
-use Rattle.rgo_acts.proofs.Standing.{now_at_once}
-use Rattle.rgo_acts.specs.Actors.{now}
-use Rattle.rgo_acts.specs.Runs.{Run}
-use Rattle.rgo_acts.specs.declared.prints.Print.{Print}
+use Rattle.rgo_goroutine.proofs.Acts.Standing.{now_at_once}
+use Rattle.rgo_goroutine.specs.Acts.Actors.{now}
+use Rattle.rgo_goroutine.specs.Acts.Runs.{Run}
+use Rattle.rgo_goroutine.specs.Acts.declared.prints.Print.{Print}
 use Rattle.rgo_core.proofs.Lists.{elem_of, get_of}
 use Rattle.rgo_core.specs.Core.{Setup}
 use Rattle.rgo_core.specs.Opening.{first_of}
 use Rattle.rgo_core.specs.Records.{ClockRec, Drawn, Record, blank, steps_of}
-use Rattle.rgo_core_rule.specs.Views.{Me, number_of, view}
-use Rattle.rgo_core_rule.specs.declared.accesses.Access.{Access}
+use Rattle.rgo_core.specs.Rule.Views.{Me, number_of, view}
+use Rattle.rgo_core.specs.Rule.declared.accesses.Access.{Access}
 use Rattle.rgo_core_steps.specs.Seats.{mine}
 use Rattle.rgo_goroutine.proofs.Joining.{numbers_append}
 use Rattle.rgo_goroutine.specs.Goroutines.{AllStand, IsChild, IsOf, IsTidy, drawn_by, fresh, numbers, record_of, valid}

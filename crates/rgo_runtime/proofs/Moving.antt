@@ -4,14 +4,14 @@ use Rattle.std.proofs.lemmas.List.{length-append, map-append}
 use Rattle.std.proofs.lemmas.List.Elements.{All-append, All-cons, All-head, All-nil, All-push, All-tail, All-weaker}
 use Rattle.std.proofs.lemmas.List.Sorted.{All-permutation, IsPermutation-append_left, IsPermutation-append_right, IsPermutation-filter_both, IsPermutation-map, IsPermutation-middle, IsPermutation-refl, IsPermutation-swap_remove, IsPermutation-sym, IsPermutation-to_front, IsPermutation-trans}
 use Rattle.atomic_table.specs.Seated.{TableId}
-use Rattle.rgo_acts.specs.Runs.{Run}
-use Rattle.rgo_core_memory.specs.Words.{clock_at}
+use Rattle.rgo_goroutine.specs.Acts.Runs.{Run}
+use Rattle.rgo_core.specs.Memory.Words.{clock_at}
 use Rattle.rgo_core_steps.specs.Seats.{IsSeatOf}
 use Rattle.rgo_core_steps.specs.declared.clock.Mark.{Mark}
-use Rattle.rgo_region_machine.specs.Counts.{Counts}
+use Rattle.rgo_sound.specs.RegionMachine.Counts.{Counts}
 use Rattle.rgo_sound.specs.Tally.{no_share}
 use Rattle.rgo_core.specs.Records.{Drawn, Record}
-use Rattle.rgo_core_rule.specs.Views.{Has, Me, Rows}
+use Rattle.rgo_core.specs.Rule.Views.{Has, Me, Rows}
 use Rattle.rgo_goroutine.specs.Goroutines.{record_of}
 use Rattle.rgo_goroutine.specs.Turns.{IsOver}
 use Rattle.rgo_goroutine.specs.declared.turning.Stop.TheVariants.{Ended}

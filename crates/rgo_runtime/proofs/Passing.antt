@@ -5,10 +5,10 @@ use Rattle.std.proofs.lemmas.Bool.Decides.{nat_tests}
 use Rattle.std.proofs.lemmas.List.Elements.{All-weaker}
 use Rattle.rgo_core.specs.Core.{Setup}
 use Rattle.rgo_core.specs.Records.{accesses, looked}
-use Rattle.rgo_core_rule.proofs.Passes.{keeps, longer_front}
-use Rattle.rgo_core_rule.specs.Views.{longer, number_of}
-use Rattle.rgo_core_rule.specs.declared.accesses.Access.{Access}
-use Rattle.rgo_acts.specs.Runs.{Run}
+use Rattle.rgo_core.proofs.Rule.Passes.{keeps, longer_front}
+use Rattle.rgo_core.specs.Rule.Views.{longer, number_of}
+use Rattle.rgo_core.specs.Rule.declared.accesses.Access.{Access}
+use Rattle.rgo_goroutine.specs.Acts.Runs.{Run}
 use Rattle.rgo_goroutine.specs.Goroutines.{IsOf, IsTidy, record_of}
 use Rattle.rgo_goroutine.specs.Passing.{Looks}
 use Rattle.rgo_goroutine.specs.declared.goroutine.Goroutine.{Goroutine}

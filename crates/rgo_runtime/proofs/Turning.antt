@@ -5,11 +5,11 @@ use Rattle.std.proofs.lemmas.List.{append-nil, get_or-set_same, length-set}
 use Rattle.std.proofs.lemmas.List.Elements.{All-nil, All-push, Contains-append_left, Contains-get_or, Contains-push}
 use Rattle.rgo_core.specs.Core.{Setup}
 use Rattle.rgo_core.specs.Records.{Record, accesses, steps_of}
-use Rattle.rgo_core_rule.specs.Histories.{accesses_by}
-use Rattle.rgo_core_rule.specs.Views.{number_of}
-use Rattle.rgo_core_rule.specs.declared.accesses.Access.{Access}
-use Rattle.rgo_machine.specs.declared.turns.Shortage.{Shortage}
-use Rattle.rgo_acts.specs.Runs.{Run}
+use Rattle.rgo_core.specs.Rule.Histories.{accesses_by}
+use Rattle.rgo_core.specs.Rule.Views.{number_of}
+use Rattle.rgo_core.specs.Rule.declared.accesses.Access.{Access}
+use Rattle.rgo_sound.specs.Machine.declared.turns.Shortage.{Shortage}
+use Rattle.rgo_goroutine.specs.Acts.Runs.{Run}
 use Rattle.rgo_goroutine.specs.Goroutines.{IsTidy, record_of}
 use Rattle.rgo_goroutine.specs.Turns.{HasTurned}
 use Rattle.rgo_goroutine.specs.declared.goroutine.Goroutine.{Goroutine}

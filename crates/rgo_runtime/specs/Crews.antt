@@ -2,12 +2,12 @@
 use Rattle.std.specs.List.{AllZip}
 use Rattle.std.specs.Option.{option_map}
 use Rattle.std.specs.Prelude.{◌≡◌, ◌⊎◌, ◌<◌, ◌≤◌, ℕ, Bool, false, List, [], ◌∷◌, ◌++◌, Option, Some, None, length, map, slice_get}
-use Rattle.rgo_acts.specs.Runs.{Run}
-use Rattle.rgo_acts.specs.declared.prints.Print.{Print}
+use Rattle.rgo_goroutine.specs.Acts.Runs.{Run}
+use Rattle.rgo_goroutine.specs.Acts.declared.prints.Print.{Print}
 use Rattle.rgo_core.specs.Core.{Setup}
 use Rattle.rgo_core.specs.Records.{Drawn, Record, begins_with, blank}
-use Rattle.rgo_core_frames.specs.Opening.{no_record}
-use Rattle.rgo_core_rule.specs.Views.{Has, Rows}
+use Rattle.rgo_core.specs.Frames.Opening.{no_record}
+use Rattle.rgo_core.specs.Rule.Views.{Has, Rows}
 use Rattle.rgo_core_steps.specs.Ends.{mark_of}
 use Rattle.rgo_core_steps.specs.declared.clock.Mark as clock
 use Rattle.rgo_goroutine.specs.Goroutines.{IsOf, IsTidy, drawn_by, fresh, numbers, record_of}
@@ -15,8 +15,8 @@ use Rattle.rgo_goroutine.specs.Turns.{IsOver}
 use Rattle.rgo_goroutine.specs.declared.goroutine.Goroutine.{Goroutine}
 use Rattle.rgo_goroutine.specs.declared.turning.Stop.TheVariants.{Ended}
 use Rattle.rgo_goroutine.specs.declared.turning.Turned.{Turned}
-use Rattle.rgo_region_machine.specs.Counts.{Counts}
-use Rattle.rgo_region_machine.specs.States.{Mark}
+use Rattle.rgo_sound.specs.RegionMachine.Counts.{Counts}
+use Rattle.rgo_sound.specs.RegionMachine.States.{Mark}
 use Rattle.rgo_sched.specs.Rounds.{RoundOf}
 use Rattle.rgo_sound.specs.Tally.{no_share}
 use Rattle.rgo_table_runs.specs.closing.Ends.{IsFirst}

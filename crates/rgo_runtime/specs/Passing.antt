@@ -3,13 +3,13 @@ use Rattle.std.specs.List.{All, AllZip, Contains}
 use Rattle.std.specs.Prelude.{◌≡◌, ◌⊎◌, ◌<◌, ◌≤◌, ◌^◌, ◌++◌, ◌∷◌, Bool, true, false, List, [], Option, Some, None, length, ⊤}
 use Rattle.rgo_core.specs.Core.{Setup}
 use Rattle.rgo_core.specs.Records.{Record, accesses, looked, steps_of}
-use Rattle.rgo_core_rule.specs.Views.{number_of, view}
-use Rattle.rgo_core_rule.specs.Histories.{access}
-use Rattle.rgo_core_rule.specs.declared.accesses.Kind.TheVariants.{Load}
-use Rattle.rgo_core_rule.specs.declared.accesses.Access.{Access}
-use Rattle.rgo_machine.specs.declared.turns.Shortage.{Shortage}
-use Rattle.rgo_machine.specs.declared.turns.Shortage.TheVariants.{Pages, Regions}
-use Rattle.rgo_acts.specs.Runs.{Run}
+use Rattle.rgo_core.specs.Rule.Views.{number_of, view}
+use Rattle.rgo_core.specs.Rule.Histories.{access}
+use Rattle.rgo_core.specs.Rule.declared.accesses.Kind.TheVariants.{Load}
+use Rattle.rgo_core.specs.Rule.declared.accesses.Access.{Access}
+use Rattle.rgo_sound.specs.Machine.declared.turns.Shortage.{Shortage}
+use Rattle.rgo_sound.specs.Machine.declared.turns.Shortage.TheVariants.{Pages, Regions}
+use Rattle.rgo_goroutine.specs.Acts.Runs.{Run}
 use Rattle.rgo_goroutine.specs.Goroutines.{IsTidy, record_of}
 use Rattle.rgo_goroutine.specs.Turns.{HasTurned}
 use Rattle.rgo_goroutine.specs.declared.goroutine.Goroutine.{Goroutine}

@@ -1,5 +1,5 @@
 -- Tallies as contracts know them.
-use Rattle.rgo_region_machine.specs.Counts.{Counts}
+use Rattle.rgo_sound.specs.RegionMachine.Counts.{Counts}
 use Rattle.rgo_runtime.specs.declared.shares.Tally.{Tally}
 
 abbrev pub counts_in : Tally → Counts

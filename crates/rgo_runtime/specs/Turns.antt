@@ -1,7 +1,7 @@
 -- Goroutines with what a worker needs to give them their turns.
 use Rattle.std.specs.Prelude.{◌≡◌, ◌+◌, ◌<◌, ℕ, Bool, Option, None, Some}
 use Rattle.rgo_core.specs.Records.{steps_of}
-use Rattle.rgo_acts.specs.Runs.{Run}
+use Rattle.rgo_goroutine.specs.Acts.Runs.{Run}
 use Rattle.rgo_goroutine.specs.Goroutines.{IsOf, IsTidy, record_of}
 use Rattle.rgo_goroutine.specs.Instructions.{HasPages}
 use Rattle.rgo_goroutine.specs.Turns.{HasTurned}

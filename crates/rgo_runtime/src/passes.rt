@@ -3,19 +3,19 @@
 //! have found the table as it was at one moment.
 ghost use Rattle.std.specs.Prelude.{◌≡◌, ◌++◌, List};
 ghost use Rattle.std.specs.List.{All, AllZip};
-ghost use Rattle.rgo_core_memory.specs.Words.{clock_at};
-ghost use Rattle.rgo_core_rule.specs.declared.accesses.Access.{Access};
+ghost use Rattle.rgo_core.specs.Memory.Words.{clock_at};
+ghost use Rattle.rgo_core.specs.Rule.declared.accesses.Access.{Access};
 ghost use Rattle.rgo_core_steps.specs.Seats.{IsSeatOf};
 ghost use Rattle.rgo_goroutine.specs.Goroutines.{IsOf};
 ghost use Rattle.rgo_goroutine.specs.Instructions.{HasPages};
 ghost use Rattle.rgo_runtime.specs.Passing.{ComesTo, HasLookedOnce, HasMet, IsBehind, IsKnownBy, IsPass, IsTidyIn, LooksBetween, MayHaveTurned, PassComesTo, PassingExamples, TurnsBetween, is_moved, joined_with};
 
-use rgo_acts::runs::Run;
+use rgo_goroutine::acts::runs::Run;
 use rgo_core::table::RunSeat;
 use rgo_core_steps::counting::Steps;
 use rgo_goroutine::goroutine::Goroutine;
 use rgo_goroutine::turning::{Stop, Turned};
-use rgo_machine::Shortage;
+use rgo_sound::machine::Shortage;
 use std::alloc::Global;
 use std::sync::ledger::Ledger;
 

@@ -5,7 +5,7 @@ ghost use Rattle.rgo_outside.specs.Causes.{HasCause};
 ghost use Rattle.rgo_outside.specs.Pieces.{AddsOnly};
 ghost use Rattle.rgo_runtime.specs.Printing.{GivesOut, GivesSome, IsPieceOf, PrintingExamples, ticket_of};
 
-use rgo_acts::prints::Print;
+use rgo_goroutine::acts::prints::Print;
 use rgo_outside::{Sink, WriteFault, write_all};
 use std::alloc::{AllocError, Global};
 

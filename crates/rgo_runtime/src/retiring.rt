@@ -1,9 +1,9 @@
 //! Goroutines that have no more turns: what their driver keeps of them.
 ghost use Rattle.std.specs.Prelude.{◌≡◌, ◌⊎◌, ◌<◌, ◌∷◌, ◌++◌, [], MatchOption, Some, length, map, slice_set};
-ghost use Rattle.rgo_acts.specs.Runs as runs;
-ghost use Rattle.rgo_core_memory.specs.Words.{clock_at};
-ghost use Rattle.rgo_core_rule.specs.Passes.{after_pass};
-ghost use Rattle.rgo_core_rule.specs.Views.{longer};
+ghost use Rattle.rgo_goroutine.specs.Acts.Runs as runs;
+ghost use Rattle.rgo_core.specs.Memory.Words.{clock_at};
+ghost use Rattle.rgo_core.specs.Rule.Passes.{after_pass};
+ghost use Rattle.rgo_core.specs.Rule.Views.{longer};
 ghost use Rattle.rgo_core_steps.specs.Seats.{IsSeatOf};
 ghost use Rattle.rgo_goroutine.specs.Goroutines.{IsOf, IsTidy, all_seen, record_of, rows};
 ghost use Rattle.rgo_runtime.specs.Crews.{AreRetired, CrewExamples, Keeps, KeepsMembers, marked, member_of};
@@ -11,7 +11,7 @@ ghost use Rattle.rgo_sound.specs.Tally.{no_share};
 ghost use Rattle.rgo_table_runs.specs.closing.Members.{retired};
 
 use crate::shares::Shares;
-use rgo_acts::runs::Run;
+use rgo_goroutine::acts::runs::Run;
 use rgo_core::table::RunSeat;
 use rgo_core_steps::clock::Mark;
 use rgo_goroutine::goroutine::Goroutine;

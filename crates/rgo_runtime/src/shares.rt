@@ -4,7 +4,7 @@ ghost use Rattle.rgo_runtime.specs.Shares.{counts_in};
 ghost use Rattle.rgo_sound.specs.Tally.{no_share};
 ghost use Rattle.rgo_table_runs.specs.closing.Gathering.{sum_of};
 
-use rgo_body::Counts;
+use rgo_goroutine::body::Counts;
 use std::alloc::{AllocError, Global};
 use std::marker::Model;
 
@@ -38,7 +38,7 @@ pub struct Shares {
 
 impl Model for Shares {
     ghost use Rattle.std.specs.Prelude.{◌<◌, List, length};
-    ghost use Rattle.rgo_region_machine.specs.Counts as spec;
+    ghost use Rattle.rgo_sound.specs.RegionMachine.Counts as spec;
 
     ghost Value = { List spec.Counts };
 

@@ -1,10 +1,10 @@
 -- The examples.
 use Rattle.std.proofs.Common.{◌≡◌, ◌∙◌, ℕ, zero, suc, [], ◌∷◌, Some, None, ap, arith, refl, sym}
-use Rattle.rgo_machine.specs.Limits.{deepest}
-use Rattle.rgo_machine.specs.declared.limits.Limits.{Limits}
-use Rattle.rgo_machine.specs.declared.limits.Sizes.{Sizes}
-use Rattle.rgo_core_frames.specs.Quiet.{quiet}
-use Rattle.rgo_core_frames.specs.Records.{Rec as FrameRec}
+use Rattle.rgo_sound.specs.Machine.Limits.{deepest}
+use Rattle.rgo_sound.specs.Machine.declared.limits.Limits.{Limits}
+use Rattle.rgo_sound.specs.Machine.declared.limits.Sizes.{Sizes}
+use Rattle.rgo_core.specs.Frames.Quiet.{quiet}
+use Rattle.rgo_core.specs.Frames.Records.{Rec as FrameRec}
 use Rattle.rgo_core.specs.Records.{Record}
 use Rattle.rgo_compact.specs.Examples.{small}
 use Rattle.rgo_compact.specs.Paths.{Path}

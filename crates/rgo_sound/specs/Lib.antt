@@ -1,3 +1,14 @@
+-- of the crates below, for those above
+pub use Rattle.rgo_ast.specs as Ast
+pub use Rattle.rgo_code.specs as Code
+pub use Rattle.rgo_flow.specs as Flow
+pub use Rattle.rgo_machine.specs as Machine
+pub use Rattle.rgo_memory.specs as Memory
+pub use Rattle.rgo_region_machine.specs as RegionMachine
+pub use Rattle.rgo_tac.specs as Tac
+pub use Rattle.rgo_typed.specs as Typed
+pub use Rattle.rgo_wellformed.specs as WellFormed
+
 pub mod Core
 pub mod Erasure
 pub mod Examples

@@ -8,3 +8,12 @@ pub use laws::{
     owners_stay_made, removed_stays, room_is_kept, runs_on, safety, start_is_good, steps_keep_good,
     tally_adds, types_keep,
 };
+
+// The crates below that those above name too.
+pub use rgo_ast as ast;
+pub use rgo_code as code;
+pub use rgo_machine as machine;
+pub use rgo_memory as memory;
+pub use rgo_region_machine as region_machine;
+pub use rgo_tac as tac;
+pub use rgo_typed as typed;

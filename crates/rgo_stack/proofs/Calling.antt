@@ -5,12 +5,12 @@ use Rattle.std.proofs.lemmas.List.{length-set, length-take-le, take-take}
 use Rattle.std.proofs.lemmas.Option.{same_Some}
 use Rattle.std.specs.Option.{option_map}
 use Rattle.std.specs.Prelude.{IfSome}
-use Rattle.rgo_code.specs.Code.{Call, Code, CodeFn, CodeOp}
-use Rattle.rgo_region_machine.specs.Owed.{function_of}
+use Rattle.rgo_sound.specs.Code.Code.{Call, Code, CodeFn, CodeOp}
+use Rattle.rgo_sound.specs.RegionMachine.Owed.{function_of}
 use Rattle.rgo_sound.specs.Values.{call_target}
-use Rattle.rgo_core_frames.specs.Stacks.{frames_in, newest}
-use Rattle.rgo_core_frames.specs.WordFrames.{WordFrame, word_at, word_called, word_going, word_resumed_at, word_resumed_by, words_of}
-use Rattle.rgo_core_frames.proofs.Stacking.{stack_laws}
+use Rattle.rgo_core.specs.Frames.Stacks.{frames_in, newest}
+use Rattle.rgo_core.specs.Frames.WordFrames.{WordFrame, word_at, word_called, word_going, word_resumed_at, word_resumed_by, words_of}
+use Rattle.rgo_core.proofs.Frames.Stacking.{stack_laws}
 use Rattle.rgo_compact.specs.Bounds.{IsTarget}
 use Rattle.rgo_compact.specs.declared.positions.Caller.{Caller}
 use Rattle.rgo_compact.specs.declared.positions.Position.{Position}

@@ -1,8 +1,8 @@
 -- The examples.
 use Rattle.std.proofs.Common.{◌≡◌, ◌+◌, ◌∙◌, ◌∷◌, [], Some, refl, ap, sym, subst, arith, length, slice_get}
 use Rattle.std.proofs.lemmas.Option.{same_Some}
-use Rattle.rgo_code.specs.Code.{Call, CodeInstr}
-use Rattle.rgo_region_machine.specs.Examples.{plain}
+use Rattle.rgo_sound.specs.Code.Code.{Call, CodeInstr}
+use Rattle.rgo_sound.specs.RegionMachine.Examples.{plain}
 use Rattle.rgo_sound.specs.Values.{call_target}
 use Rattle.rgo_compact.specs.declared.operations.Operation.{Operation}
 use Rattle.rgo_compact.specs.declared.operations.Operation.TheVariants as op

@@ -1,10 +1,10 @@
 -- Compact functions, by what their code says.
 use Rattle.std.proofs.Common.{◌≡◌, ◌<◌, ◌≤◌, ◌∙◌, ℕ, List, Option, Some, None, refl, ap, sym, subst, arith, length, slice_get}
 use Rattle.std.proofs.lemmas.Option.{same_Some, slice_get_within}
-use Rattle.rgo_code.specs.Code.{Branch, Call, Code, CodeFn, CodeInstr, CodeOp, Return}
-use Rattle.rgo_tac.specs.declared.regions.Class.{Class}
-use Rattle.rgo_region_machine.specs.Owed.{current, current_in, function_of}
-use Rattle.rgo_core_frames.specs.WordFrames.{WordFrame, bare}
+use Rattle.rgo_sound.specs.Code.Code.{Branch, Call, Code, CodeFn, CodeInstr, CodeOp, Return}
+use Rattle.rgo_sound.specs.Tac.declared.regions.Class.{Class}
+use Rattle.rgo_sound.specs.RegionMachine.Owed.{current, current_in, function_of}
+use Rattle.rgo_core.specs.Frames.WordFrames.{WordFrame, bare}
 use Rattle.rgo_sound.proofs.Places.{get_some}
 use Rattle.rgo_compact.specs.declared.operations.Operation.{Operation}
 use Rattle.rgo_compact.specs.Functions.{CompactFn, IsCompact, IsCompactFn}

@@ -1,8 +1,8 @@
 -- A stack with more room shows the same frames.
 use Rattle.std.proofs.Common.{◌≡◌, ◌<◌, ◌≤◌, ◌∙◌, ◌∷◌, ℕ, List, Some, zero, suc, refl, ap, sym, subst, arith, length, take, get_or}
 use Rattle.std.proofs.lemmas.List.{get_or-take, take-take}
-use Rattle.rgo_machine.specs.Limits.{deepest}
-use Rattle.rgo_core_frames.specs.Stacks.{frames_in}
+use Rattle.rgo_sound.specs.Machine.Limits.{deepest}
+use Rattle.rgo_core.specs.Frames.Stacks.{frames_in}
 use Rattle.rgo_compact.specs.declared.positions.Caller.{Caller}
 use Rattle.rgo_compact.specs.declared.positions.Position.{Position}
 use Rattle.rgo_compact.specs.Functions.{CompactFn}

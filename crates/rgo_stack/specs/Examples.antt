@@ -1,8 +1,8 @@
 -- Where the definitions hold and where they do not.
 use Rattle.std.specs.Prelude.{List, None, Some, [], ℕ, ◌∷◌, ◌≡◌}
-use Rattle.rgo_code.specs.Code.{Call, Code, CodeFn, Return}
-use Rattle.rgo_region_machine.specs.Examples.{code_of, int_slot, main_of, plain}
-use Rattle.rgo_core_frames.specs.WordFrames.{WordFrame}
+use Rattle.rgo_sound.specs.Code.Code.{Call, Code, CodeFn, Return}
+use Rattle.rgo_sound.specs.RegionMachine.Examples.{code_of, int_slot, main_of, plain}
+use Rattle.rgo_core.specs.Frames.WordFrames.{WordFrame}
 use Rattle.rgo_compact.specs.declared.operations.Operation.TheVariants as op
 use Rattle.rgo_compact.specs.Functions.{CompactFn}
 use Rattle.rgo_compact.specs.Runs.{frame_at}

@@ -1,9 +1,9 @@
 //! Calls and returns.
 
 ghost use Rattle.std.specs.Prelude.{◌≡◌, ◌+◌, ◌<◌, ◌≤◌, ◌↔◌, Err, Some, OnErr, OnOk, length};
-ghost use Rattle.rgo_code.specs.Code.{Code, CodeFn};
-ghost use Rattle.rgo_machine.specs.Limits.{deepest};
-ghost use Rattle.rgo_region_machine.specs.Owed.{function_of};
+ghost use Rattle.rgo_sound.specs.Code.Code.{Code, CodeFn};
+ghost use Rattle.rgo_sound.specs.Machine.Limits.{deepest};
+ghost use Rattle.rgo_sound.specs.RegionMachine.Owed.{function_of};
 ghost use Rattle.rgo_compact.specs.Functions.{IsCompact};
 ghost use Rattle.rgo_stack.specs.declared.calls.NoCall.TheVariants as no_call;
 ghost use Rattle.rgo_stack.specs.Places.{CanCall, CanReturn, IsCalledFor};
@@ -14,7 +14,7 @@ use crate::growth::{deepen, widen};
 use crate::stacks::Stack;
 use crate::steps::following;
 use rgo_compact::{Caller, CompactCode, Position, enter, function_of, give_back, value_of};
-use rgo_machine::DEEPEST;
+use rgo_sound::machine::DEEPEST;
 use std::alloc::AllocError;
 
 /// Why a function cannot be called.

@@ -1,10 +1,10 @@
 //! More room on a stack. It doubles, so that the time for it is in proportion to the calls.
 
 ghost use Rattle.std.specs.Prelude.{◌≡◌, ◌+◌, ◌<◌, ◌≤◌, OnOk, length, take};
-ghost use Rattle.rgo_machine.specs.Limits.{deepest};
+ghost use Rattle.rgo_sound.specs.Machine.Limits.{deepest};
 
 use rgo_compact::Caller;
-use rgo_machine::DEEPEST;
+use rgo_sound::machine::DEEPEST;
 use std::alloc::AllocError;
 
 /// The length of the first list of callers.

@@ -12,3 +12,6 @@ pub use calls::NoCall;
 pub use laws::{examples, frames_law, places_law};
 pub use stacks::{Place, Stack};
 pub use steps::Ran;
+
+// The crates below that those above name too.
+pub use rgo_loop as looping;

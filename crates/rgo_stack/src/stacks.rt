@@ -1,10 +1,10 @@
 //! The stack of a goroutine, and what is read of it.
 
 ghost use Rattle.std.specs.Prelude.{◌≡◌, ◌<◌, ◌≤◌, ◌∷◌, ℕ, List, Some, [], IfOk, drop, get_or, length, map, take};
-ghost use Rattle.rgo_code.specs.Code.{Code, CodeFn};
-ghost use Rattle.rgo_region_machine.specs.Owed.{function_of};
-ghost use Rattle.rgo_core_frames.specs.Stacks.{frames_in};
-ghost use Rattle.rgo_core_frames.specs.WordFrames.{word_called};
+ghost use Rattle.rgo_sound.specs.Code.Code.{Code, CodeFn};
+ghost use Rattle.rgo_sound.specs.RegionMachine.Owed.{function_of};
+ghost use Rattle.rgo_core.specs.Frames.Stacks.{frames_in};
+ghost use Rattle.rgo_core.specs.Frames.WordFrames.{word_called};
 ghost use Rattle.rgo_compact.specs.Functions.{CompactFn, IsCompact};
 ghost use Rattle.rgo_compact.specs.Runs.{word_or_zero};
 ghost use Rattle.rgo_compact.specs.Stack.{callers_in};

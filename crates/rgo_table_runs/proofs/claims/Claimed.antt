@@ -1,8 +1,8 @@
 -- The run behind a table as the claim on the whole program has it.
 use Rattle.std.proofs.Common.{refl, subst}
 use Rattle.std.specs.Prelude.{◌≡◌, List, Some}
-use Rattle.rgo_region_machine.specs.Machine.{Event}
-use Rattle.rgo_region_machine.specs.Room.{roomy_run}
+use Rattle.rgo_sound.specs.RegionMachine.Machine.{Event}
+use Rattle.rgo_sound.specs.RegionMachine.Room.{roomy_run}
 use Rattle.rgo_sound.proofs.Offers.{names_only_live}
 use Rattle.rgo_sound.proofs.Room.{room_is_kept}
 use Rattle.rgo_sound.proofs.Safe.{safety}

@@ -2,17 +2,17 @@
 use Rattle.std.proofs.Common.{◌≡◌, ℕ, ◌+◌, Bool, true, false, List, [], ◌∷◌, ◌++◌, Option, Some, None, length, refl, ap, sym, subst, arith, length-append}
 use Rattle.std.proofs.lemmas.Option.{same_Some}
 use Rattle.std.specs.Prelude.{option_map, unwrap_or, slice_get, nat_eq, if◌then◌else◌}
-use Rattle.rgo_code.specs.Code.{Code}
+use Rattle.rgo_sound.specs.Code.Code.{Code}
 use Rattle.rgo_core.specs.Runs.{limited_step}
-use Rattle.rgo_machine.specs.Runs.{run}
-use Rattle.rgo_machine.specs.declared.limits.Limits.{Limits}
-use Rattle.rgo_region_machine.specs.Counts.{Counts}
-use Rattle.rgo_region_machine.specs.Duties.{guards}
-use Rattle.rgo_region_machine.specs.Machine.{Acknowledge, Attend, Event, Finish, Instruct, MakeOffer, TakePage, region_step}
-use Rattle.rgo_region_machine.specs.Regions.{RegionInfo, bound, removed_once, unbind}
-use Rattle.rgo_region_machine.specs.States.{Mark, RegionState, Holder, Duty, Create, Share, Protect, Unprotect, Remove, EndBase, top_names, with_top}
-use Rattle.rgo_region_machine.specs.declared.regions.Region.{Region}
-use Rattle.rgo_region_machine.specs.declared.regions.Region.TheVariants.{Global as GlobalRegion, Numbered}
+use Rattle.rgo_sound.specs.Machine.Runs.{run}
+use Rattle.rgo_sound.specs.Machine.declared.limits.Limits.{Limits}
+use Rattle.rgo_sound.specs.RegionMachine.Counts.{Counts}
+use Rattle.rgo_sound.specs.RegionMachine.Duties.{guards}
+use Rattle.rgo_sound.specs.RegionMachine.Machine.{Acknowledge, Attend, Event, Finish, Instruct, MakeOffer, TakePage, region_step}
+use Rattle.rgo_sound.specs.RegionMachine.Regions.{RegionInfo, bound, removed_once, unbind}
+use Rattle.rgo_sound.specs.RegionMachine.States.{Mark, RegionState, Holder, Duty, Create, Share, Protect, Unprotect, Remove, EndBase, top_names, with_top}
+use Rattle.rgo_sound.specs.RegionMachine.declared.regions.Region.{Region}
+use Rattle.rgo_sound.specs.RegionMachine.declared.regions.Region.TheVariants.{Global as GlobalRegion, Numbered}
 use Rattle.rgo_sound.specs.Erasure.{erased_picks, event_picks}
 use Rattle.rgo_sound.specs.Tally.{no_share, share_of, share_of_holder, share_of_first, share_of_duty, share_of_named, share_of_removal, share_of_last, share_of_plain}
 use Rattle.rgo_sound.proofs.ErasureLemmas.{Follows}

@@ -3,22 +3,22 @@ use Rattle.std.proofs.Common.{◌≡◌, ℕ, Bool, true, false, List, [], ◌�
 use Rattle.std.proofs.lemmas.Option.{same_Some}
 use Rattle.std.proofs.lemmas.List.{append-nil}
 use Rattle.std.specs.Prelude.{option_and_then, option_map, unwrap_or, if◌then◌else◌}
-use Rattle.rgo_code.specs.Code.{Code}
-use Rattle.rgo_code.specs.Erasure.{erased}
+use Rattle.rgo_sound.specs.Code.Code.{Code}
+use Rattle.rgo_sound.specs.Code.Erasure.{erased}
 use Rattle.rgo_core.specs.Runs.{if_in_limits, limited_step}
-use Rattle.rgo_machine.specs.Limits.{LeadsWithin, is_within}
-use Rattle.rgo_machine.specs.Limits as plain
-use Rattle.rgo_machine.specs.Runs.{run}
-use Rattle.rgo_machine.specs.declared.limits.Limits.{Limits}
-use Rattle.rgo_machine.specs.declared.picks.End.{End}
-use Rattle.rgo_machine.specs.declared.picks.Pick.{Pick}
-use Rattle.rgo_machine.proofs.Runs.{limited}
-use Rattle.rgo_region_machine.specs.Instructions.{marked, printed_if}
-use Rattle.rgo_region_machine.specs.Machine.{Acknowledge, Attend, Event, Finish, Instruct, MakeOffer, TakePage, kept, region_step}
-use Rattle.rgo_region_machine.specs.States.{Mark, Ended, RegionState}
+use Rattle.rgo_sound.specs.Machine.Limits.{LeadsWithin, is_within}
+use Rattle.rgo_sound.specs.Machine.Limits as plain
+use Rattle.rgo_sound.specs.Machine.Runs.{run}
+use Rattle.rgo_sound.specs.Machine.declared.limits.Limits.{Limits}
+use Rattle.rgo_sound.specs.Machine.declared.picks.End.{End}
+use Rattle.rgo_sound.specs.Machine.declared.picks.Pick.{Pick}
+use Rattle.rgo_sound.proofs.Machine.Runs.{limited}
+use Rattle.rgo_sound.specs.RegionMachine.Instructions.{marked, printed_if}
+use Rattle.rgo_sound.specs.RegionMachine.Machine.{Acknowledge, Attend, Event, Finish, Instruct, MakeOffer, TakePage, kept, region_step}
+use Rattle.rgo_sound.specs.RegionMachine.States.{Mark, Ended, RegionState}
 use Rattle.rgo_sound.specs.Erasure.{erased_picks, event_picks}
 use Rattle.rgo_sound.proofs.ErasureLemmas.{Follows, step_follows, yields_is}
-use Rattle.rgo_tac.specs.Tac.{TacState, tac}
+use Rattle.rgo_sound.specs.Tac.Tac.{TacState, tac}
 
 module _ (code : Code) (page_words : ℕ) (limits : Limits) where
   pub follows : (s t : RegionState) (e : Event) → region_step code page_words s e ≡ Some t → Follows code page_words s e t

@@ -6,15 +6,15 @@ use Rattle.rgo_core.proofs.Lists.{get_of}
 use Rattle.rgo_core.specs.Core.{CoreAt, Setup, layout}
 use Rattle.rgo_core.specs.Links.{left_to_free}
 use Rattle.rgo_core.specs.Records.{ClockRec, Drawn, Record, all_counted, clock_of}
-use Rattle.rgo_core_memory.proofs.Stepped.{map_get}
-use Rattle.rgo_core_rule.specs.Lists.{flattened}
-use Rattle.rgo_core_rule.specs.Views.{Has, Rows}
-use Rattle.rgo_core_rule.specs.declared.accesses.View.{View}
+use Rattle.rgo_core.proofs.Memory.Stepped.{map_get}
+use Rattle.rgo_core.specs.Rule.Lists.{flattened}
+use Rattle.rgo_core.specs.Rule.Views.{Has, Rows}
+use Rattle.rgo_core.specs.Rule.declared.accesses.View.{View}
 use Rattle.rgo_core_steps.specs.Outcomes.{Closes}
 use Rattle.rgo_driver.specs.declared.ends.RunEnd.{RunEnd}
 use Rattle.rgo_driver.specs.declared.ends.RunEnd.TheVariants as run_end
-use Rattle.rgo_region_machine.specs.Counts.{Counts}
-use Rattle.rgo_region_machine.specs.States.{Ended, Mark, RegionState, Stopped}
+use Rattle.rgo_sound.specs.RegionMachine.Counts.{Counts}
+use Rattle.rgo_sound.specs.RegionMachine.States.{Ended, Mark, RegionState, Stopped}
 use Rattle.rgo_table_runs.specs.closing.Ends.{Ends, GaveOut, IsFirst, end_of}
 use Rattle.rgo_table_runs.specs.closing.Laws.{ClosedClaims, ClosedRuns, HasClosed, RowsAreAll, last_state, whole_run}
 use Rattle.rgo_table_runs.specs.closing.Prints.{AllGiven, bytes_of}

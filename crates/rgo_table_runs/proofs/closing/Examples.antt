@@ -8,21 +8,21 @@ use Rattle.rgo_core.proofs.Opening.{opening_law}
 use Rattle.rgo_core.specs.Core.{Core, Setup}
 use Rattle.rgo_core.specs.Opening.{first_of, opening}
 use Rattle.rgo_core.specs.Records.{Drawn, Record, accesses, blank, drawn_at, fresh, with_end, with_print}
-use Rattle.rgo_core_frames.specs.Constants.{ConstantsFit}
-use Rattle.rgo_core_memory.specs.Records.{Calm}
-use Rattle.rgo_core_rule.specs.Histories.{replay}
-use Rattle.rgo_core_rule.specs.Lists.{flattened}
-use Rattle.rgo_core_rule.specs.Views.{Has, view}
-use Rattle.rgo_code.specs.Checked.{IsChecked}
-use Rattle.rgo_code.specs.NameRules.{Ascends}
+use Rattle.rgo_core.specs.Frames.Constants.{ConstantsFit}
+use Rattle.rgo_core.specs.Memory.Records.{Calm}
+use Rattle.rgo_core.specs.Rule.Histories.{replay}
+use Rattle.rgo_core.specs.Rule.Lists.{flattened}
+use Rattle.rgo_core.specs.Rule.Views.{Has, view}
+use Rattle.rgo_sound.specs.Code.Checked.{IsChecked}
+use Rattle.rgo_sound.specs.Code.NameRules.{Ascends}
 use Rattle.rgo_core_steps.specs.Outcomes.{Closes}
 use Rattle.rgo_driver.specs.declared.ends.RunEnd.TheVariants.{NoMemory}
-use Rattle.rgo_machine.specs.Limits.{most_goroutines}
-use Rattle.rgo_machine.specs.declared.picks.End.TheVariants.{Exit}
-use Rattle.rgo_region_machine.specs.Counts.{Counts}
-use Rattle.rgo_region_machine.specs.States.{Ended, Mark, Stopped}
+use Rattle.rgo_sound.specs.Machine.Limits.{most_goroutines}
+use Rattle.rgo_sound.specs.Machine.declared.picks.End.TheVariants.{Exit}
+use Rattle.rgo_sound.specs.RegionMachine.Counts.{Counts}
+use Rattle.rgo_sound.specs.RegionMachine.States.{Ended, Mark, Stopped}
 use Rattle.rgo_sound.specs.Tally.{no_share}
-use Rattle.rgo_region_machine.specs.declared.limits.Limit.TheVariants.{Memory}
+use Rattle.rgo_sound.specs.RegionMachine.declared.limits.Limit.TheVariants.{Memory}
 use Rattle.rgo_table_runs.specs.closing.Examples.{ClosingExamples, family, main_alone, parent, printers, with_clock}
 use Rattle.rgo_table_runs.specs.closing.Gathering.{IsIn}
 use Rattle.rgo_table_runs.specs.closing.Laws.{HasClosed}

@@ -5,36 +5,36 @@ use Rattle.std.proofs.lemmas.Option.{same_Some}
 use Rattle.std.proofs.lemmas.Bool.Decides.{nat_tests}
 use Rattle.std.proofs.lemmas.Grind.{common_steps}
 use Rattle.std.specs.Io.KnownBytes.{Appends}
-use Rattle.rgo_code.specs.Code.{Code}
-use Rattle.rgo_code.specs.Erasure.{erased}
+use Rattle.rgo_sound.specs.Code.Code.{Code}
+use Rattle.rgo_sound.specs.Code.Erasure.{erased}
 use Rattle.rgo_core.proofs.Runs.{run_then}
 use Rattle.rgo_core.specs.Causes.{IsCause, Stops}
 use Rattle.rgo_core.specs.Records.{ClockRec, all_counted}
 use Rattle.rgo_core.specs.Runs.{Marked, Printed, limited_run, limited_step}
 use Rattle.rgo_core.specs.Story.{Story}
-use Rattle.rgo_core_rule.specs.Lists.{flattened}
+use Rattle.rgo_core.specs.Rule.Lists.{flattened}
 use Rattle.rgo_driver.specs.Runs as driver
 use Rattle.rgo_driver.specs.Runs.{AppendsSome, Gives}
 use Rattle.rgo_driver.specs.declared.ends.RunEnd.{RunEnd}
 use Rattle.rgo_driver.specs.declared.ends.RunEnd.TheVariants as run_end
-use Rattle.rgo_machine.proofs.Runs.{leads_joined, leads_one, limited}
-use Rattle.rgo_machine.specs.Deadlocks.{IsDeadlock}
-use Rattle.rgo_machine.specs.Limits.{LeadsWithin, is_within}
-use Rattle.rgo_machine.specs.declared.limits.Limits.{Limits}
-use Rattle.rgo_machine.specs.declared.limits.Sizes.{Sizes}
-use Rattle.rgo_machine.specs.declared.picks.End.{End}
-use Rattle.rgo_machine.specs.declared.picks.Pick.{Pick}
-use Rattle.rgo_machine.specs.declared.turns.Shortage.{Shortage}
-use Rattle.rgo_region_machine.specs.Counts.{Counts}
-use Rattle.rgo_region_machine.specs.Instructions.{marked, printed_if}
-use Rattle.rgo_region_machine.specs.Machine.{Acknowledge, Attend, Event, Finish, Instruct, MakeOffer, TakePage, kept, region_run, region_start, region_step}
-use Rattle.rgo_region_machine.specs.Room.{LacksIn, roomy_run}
-use Rattle.rgo_region_machine.specs.States.{Ended, Mark, RegionState, Stopped, end_in, plain_at}
-use Rattle.rgo_region_machine.specs.declared.limits.Limit.{Limit}
-use Rattle.rgo_region_machine.specs.declared.limits.Limit.TheVariants as limit
+use Rattle.rgo_sound.proofs.Machine.Runs.{leads_joined, leads_one, limited}
+use Rattle.rgo_sound.specs.Machine.Deadlocks.{IsDeadlock}
+use Rattle.rgo_sound.specs.Machine.Limits.{LeadsWithin, is_within}
+use Rattle.rgo_sound.specs.Machine.declared.limits.Limits.{Limits}
+use Rattle.rgo_sound.specs.Machine.declared.limits.Sizes.{Sizes}
+use Rattle.rgo_sound.specs.Machine.declared.picks.End.{End}
+use Rattle.rgo_sound.specs.Machine.declared.picks.Pick.{Pick}
+use Rattle.rgo_sound.specs.Machine.declared.turns.Shortage.{Shortage}
+use Rattle.rgo_sound.specs.RegionMachine.Counts.{Counts}
+use Rattle.rgo_sound.specs.RegionMachine.Instructions.{marked, printed_if}
+use Rattle.rgo_sound.specs.RegionMachine.Machine.{Acknowledge, Attend, Event, Finish, Instruct, MakeOffer, TakePage, kept, region_run, region_start, region_step}
+use Rattle.rgo_sound.specs.RegionMachine.Room.{LacksIn, roomy_run}
+use Rattle.rgo_sound.specs.RegionMachine.States.{Ended, Mark, RegionState, Stopped, end_in, plain_at}
+use Rattle.rgo_sound.specs.RegionMachine.declared.limits.Limit.{Limit}
+use Rattle.rgo_sound.specs.RegionMachine.declared.limits.Limit.TheVariants as limit
 use Rattle.rgo_sound.proofs.ErasureLemmas.{Follows}
 use Rattle.rgo_sound.specs.Erasure.{event_picks}
-use Rattle.rgo_tac.specs.Tac.{TacState, tac, tac_start}
+use Rattle.rgo_sound.specs.Tac.Tac.{TacState, tac, tac_start}
 use Rattle.rgo_table_runs.specs.claims.TableRuns.{TableRun, picks_of}
 use Rattle.rgo_table_runs.specs.closing.Ends.{end_of_limit}
 use Rattle.rgo_table_runs.proofs.claims.Counted.{counted}

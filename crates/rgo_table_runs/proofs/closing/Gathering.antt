@@ -7,11 +7,11 @@ use lib.ListN.{get_elem?}
 use Rattle.rgo_core.proofs.Lists.{elem_of, get_of}
 use Rattle.rgo_core.specs.Core.{Setup}
 use Rattle.rgo_core.specs.Records.{Drawn, Record}
-use Rattle.rgo_core_rule.specs.Views.{Has, Rows}
-use Rattle.rgo_core_rule.specs.declared.accesses.View.{View}
+use Rattle.rgo_core.specs.Rule.Views.{Has, Rows}
+use Rattle.rgo_core.specs.Rule.declared.accesses.View.{View}
 use Rattle.rgo_core_steps.proofs.Outcomes.{family_law, outcome_law}
 use Rattle.rgo_core_steps.specs.Outcomes.{Closes, HasDrawnAt, Outcome}
-use Rattle.rgo_region_machine.specs.Counts.{Counts}
+use Rattle.rgo_sound.specs.RegionMachine.Counts.{Counts}
 use Rattle.rgo_sound.specs.Tally.{counts_plus, no_share}
 use Rattle.rgo_table_runs.specs.closing.Gathering.{AreGathered, FamilyIsAll, GatheredAreGiven, IsIn, SharesAreAll, numbered, numbered_from, sum_of}
 use Rattle.rgo_table_runs.specs.closing.Prints.{InOrder, IsPrint}

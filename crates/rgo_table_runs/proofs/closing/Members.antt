@@ -4,7 +4,7 @@ use mathlib.Core.Option.{some, some-injective, some-ne-none}
 use lib.ListN.{get_elem?}
 use Rattle.rgo_core.proofs.Lists.{elem_of, get_of}
 use Rattle.rgo_core.specs.Records.{ClockRec, Drawn, Record, blank}
-use Rattle.rgo_core_rule.specs.Views.{Has, Rows}
+use Rattle.rgo_core.specs.Rule.Views.{Has, Rows}
 use Rattle.rgo_table_runs.specs.closing.Gathering.{IsIn}
 use Rattle.rgo_table_runs.specs.closing.Members.{AllRetired, HasNumber, HasPlayed, HasPrinted, IsListed, IsOneOf, KeptByAdopting, KeptByGathering, KeptByOrder, KeptByTurn, Member, NoneIsLost, WasGathered, WereAdopted, retired}
 

@@ -8,9 +8,9 @@ use lib.ListN.{get_elem?}
 use Rattle.rgo_core.proofs.Lists.{cond_other, count_first, elem_of, get_of}
 use Rattle.rgo_core.specs.Clock.{Clock, has_ticket}
 use Rattle.rgo_core.specs.Records.{ClockRec, Drawn, Record}
-use Rattle.rgo_core_rule.specs.Lists.{flattened}
-use Rattle.rgo_core_rule.specs.Views.{Has, Rows}
-use Rattle.rgo_region_machine.specs.States.{Mark, RegionState}
+use Rattle.rgo_core.specs.Rule.Lists.{flattened}
+use Rattle.rgo_core.specs.Rule.Views.{Has, Rows}
+use Rattle.rgo_sound.specs.RegionMachine.States.{Mark, RegionState}
 use Rattle.rgo_table_runs.specs.closing.Ends.{IsFirst}
 use Rattle.rgo_table_runs.specs.closing.Prints.{AllGiven, InOrder, IsPrint, bytes_in, bytes_of}
 use Rattle.rgo_table_runs.proofs.closing.Rows.{some_part}

@@ -8,8 +8,8 @@ use lib.ListN.{get_elem?}
 use Rattle.rgo_core.proofs.Lists.{get_of}
 use Rattle.rgo_core.specs.Core.{Setup}
 use Rattle.rgo_core.specs.Records.{ClockRec, Record, all_counted, clock_of, counted}
-use Rattle.rgo_core_rule.specs.Views.{Has, Rows, view}
-use Rattle.rgo_core_rule.specs.declared.accesses.View.{View}
+use Rattle.rgo_core.specs.Rule.Views.{Has, Rows, view}
+use Rattle.rgo_core.specs.Rule.declared.accesses.View.{View}
 use Rattle.rgo_core_steps.proofs.Outcomes.{family_law}
 use Rattle.rgo_core_steps.specs.Outcomes.{Closes}
 use Rattle.rgo_sound.specs.Tally.{counts_plus}

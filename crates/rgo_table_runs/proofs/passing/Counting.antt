@@ -2,16 +2,16 @@
 use Rattle.std.proofs.Common.{◌≡◌, ◌≢◌, ◌⊎◌, ℕ, zero, suc, ◌+◌, ◌-◌, ◌<◌, ◌≤◌, List, [], ◌∷◌, length, Some, slice_get, slice_index, sum_by, count_by, refl, ap, sym, subst, ◌∙◌, inl, inr, arith}
 use mathlib.Core.Logic.{dite}
 use native.Mathlib.Decide.{ℕ_discrete}
-use Rattle.rgo_core_memory.proofs.InUse.{below, below_here, below_more, live_many, live_sum, page_here, page_more, sum_more, sum_one, sum_split, zero_plus}
-use Rattle.rgo_core_memory.specs.Ground.{Ground}
-use Rattle.rgo_core_memory.specs.Image.{Image, Where}
-use Rattle.rgo_core_memory.specs.Pages.{Chain, Chained, Claimed, Free, Place, times}
-use Rattle.rgo_core_memory.specs.Parts.{Closing, Living, Use, Vacant, pages_at}
-use Rattle.rgo_core_memory.specs.Records.{Calm, Closes, Give, Got, Has, Idle, Rec}
-use Rattle.rgo_core_memory.specs.Words.{count_at, state_at}
-use Rattle.rgo_core_memory.specs.declared.layout.TableSizes.{TableSizes}
-use Rattle.rgo_region_machine.specs.Counts.{is_removed, pages_if_removed}
-use Rattle.rgo_region_machine.specs.Regions.{RegionInfo}
+use Rattle.rgo_core.proofs.Memory.InUse.{below, below_here, below_more, live_many, live_sum, page_here, page_more, sum_more, sum_one, sum_split, zero_plus}
+use Rattle.rgo_core.specs.Memory.Ground.{Ground}
+use Rattle.rgo_core.specs.Memory.Image.{Image, Where}
+use Rattle.rgo_core.specs.Memory.Pages.{Chain, Chained, Claimed, Free, Place, times}
+use Rattle.rgo_core.specs.Memory.Parts.{Closing, Living, Use, Vacant, pages_at}
+use Rattle.rgo_core.specs.Memory.Records.{Calm, Closes, Give, Got, Has, Idle, Rec}
+use Rattle.rgo_core.specs.Memory.Words.{count_at, state_at}
+use Rattle.rgo_core.specs.Memory.declared.layout.TableSizes.{TableSizes}
+use Rattle.rgo_sound.specs.RegionMachine.Counts.{is_removed, pages_if_removed}
+use Rattle.rgo_sound.specs.RegionMachine.Regions.{RegionInfo}
 
 module _ (z : TableSizes) (words : List ℕ) (recs : List Rec) (x : Ground) (places : Where) (k : Image z words recs x places)
     (calm : (g : ℕ) (c : Rec) → Has recs g c → (c.give ≡ Calm) × (c.claim ≡ Idle)) where

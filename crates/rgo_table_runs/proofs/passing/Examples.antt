@@ -4,13 +4,13 @@ use mathlib.Core.Option.{some-injective, some-ne-none}
 use lib.ListN.{get_elem?}
 use Rattle.rgo_core.specs.Core.{Setup}
 use Rattle.rgo_core.specs.Records.{Record, looked}
-use Rattle.rgo_core_memory.specs.Records.{Calm}
-use Rattle.rgo_core_rule.specs.Histories.{access, accesses_by}
-use Rattle.rgo_core_rule.specs.Passes.{ChangesNothingBy}
-use Rattle.rgo_core_rule.specs.Views.{Has, view}
-use Rattle.rgo_core_rule.specs.declared.accesses.Access.{Access}
-use Rattle.rgo_core_rule.specs.declared.accesses.Kind.TheVariants.{Load}
-use Rattle.rgo_machine.specs.declared.turns.Shortage.TheVariants.{Pages, Regions}
+use Rattle.rgo_core.specs.Memory.Records.{Calm}
+use Rattle.rgo_core.specs.Rule.Histories.{access, accesses_by}
+use Rattle.rgo_core.specs.Rule.Passes.{ChangesNothingBy}
+use Rattle.rgo_core.specs.Rule.Views.{Has, view}
+use Rattle.rgo_core.specs.Rule.declared.accesses.Access.{Access}
+use Rattle.rgo_core.specs.Rule.declared.accesses.Kind.TheVariants.{Load}
+use Rattle.rgo_sound.specs.Machine.declared.turns.Shortage.TheVariants.{Pages, Regions}
 use Rattle.rgo_table_runs.specs.passing.Examples.{PassingExamples, idle, look}
 use Rattle.rgo_table_runs.specs.passing.Passes.{AllPassed}
 use Rattle.rgo_table_runs.specs.passing.Turns.{HadTurn, HasPassed, IsKnown, Over}

@@ -8,23 +8,23 @@ use Rattle.rgo_core.proofs.Standing.{frame_at, memory_at}
 use Rattle.rgo_core.specs.Core.{Here, Setup, layout}
 use Rattle.rgo_core.specs.NewObjects.{slot_number}
 use Rattle.rgo_core.specs.Records.{Record}
-use Rattle.rgo_core_frames.proofs.Creating.{create_duty}
-use Rattle.rgo_core_frames.proofs.Making.{region_law}
-use Rattle.rgo_core_frames.proofs.StakeDuties.{OwesFirst, owes_first, past_owes}
-use Rattle.rgo_core_frames.specs.Before.{IsBefore}
-use Rattle.rgo_core_frames.specs.Fits.{Fits, IsPast, IsShown}
-use Rattle.rgo_core_frames.specs.Makes.{MakesAt}
-use Rattle.rgo_core_memory.proofs.Attending.{makes_used}
-use Rattle.rgo_core_memory.proofs.Existing.{page_exists}
-use Rattle.rgo_core_memory.proofs.Stepped.{map_get}
-use Rattle.rgo_core_memory.specs.Events.{MakesIn}
-use Rattle.rgo_core_memory.specs.Ground.{held_of}
-use Rattle.rgo_core_memory.specs.Parts.{slot_of}
-use Rattle.rgo_core_memory.specs.Records.{Rec as MemoryRec, Within}
+use Rattle.rgo_core.proofs.Frames.Creating.{create_duty}
+use Rattle.rgo_core.proofs.Frames.Making.{region_law}
+use Rattle.rgo_core.proofs.Frames.StakeDuties.{OwesFirst, owes_first, past_owes}
+use Rattle.rgo_core.specs.Frames.Before.{IsBefore}
+use Rattle.rgo_core.specs.Frames.Fits.{Fits, IsPast, IsShown}
+use Rattle.rgo_core.specs.Frames.Makes.{MakesAt}
+use Rattle.rgo_core.proofs.Memory.Attending.{makes_used}
+use Rattle.rgo_core.proofs.Memory.Existing.{page_exists}
+use Rattle.rgo_core.proofs.Memory.Stepped.{map_get}
+use Rattle.rgo_core.specs.Memory.Events.{MakesIn}
+use Rattle.rgo_core.specs.Memory.Ground.{held_of}
+use Rattle.rgo_core.specs.Memory.Parts.{slot_of}
+use Rattle.rgo_core.specs.Memory.Records.{Rec as MemoryRec, Within}
 use Rattle.rgo_core_steps.specs.Counts.{IsCreating}
 use Rattle.rgo_core_steps.specs.Making.{NeedsPage}
-use Rattle.rgo_region_machine.specs.Machine.{TakePage, region_step}
-use Rattle.rgo_region_machine.specs.States.{Create, Duty, Holder, RegionState}
+use Rattle.rgo_sound.specs.RegionMachine.Machine.{TakePage, region_step}
+use Rattle.rgo_sound.specs.RegionMachine.States.{Create, Duty, Holder, RegionState}
 
 module _ {T : Setup} {g : ℕ} {c : Record} (x : Here T g c) (slot : ℕ) (n : NeedsPage T c slot) where
   abbrev before : IsBefore T.code (I x).places.slot (I x).addresses x.s g c.frame n.next.here.w n.next.here.ws n.next.here.instr

@@ -6,17 +6,17 @@ use lib.ListN.{get_elem?}
 use Rattle.rgo_core.specs.Core.{Core, Setup}
 use Rattle.rgo_core.specs.Opening.{opening}
 use Rattle.rgo_core.specs.Records.{Record, accesses}
-use Rattle.rgo_core_rule.proofs.Histories.{by_append}
-use Rattle.rgo_core_rule.proofs.Lists.{at_append, cancel}
-use Rattle.rgo_core_rule.proofs.Settled.{found_stays, turn_looks}
-use Rattle.rgo_core_rule.specs.Histories.{accesses_by}
-use Rattle.rgo_core_rule.specs.Passes.{HasLooked}
-use Rattle.rgo_core_rule.specs.Views.{Has, Rows}
-use Rattle.rgo_core_rule.specs.declared.accesses.Access.{Access}
-use Rattle.rgo_core_rule.specs.declared.accesses.View.{View}
+use Rattle.rgo_core.proofs.Rule.Histories.{by_append}
+use Rattle.rgo_core.proofs.Rule.Lists.{at_append, cancel}
+use Rattle.rgo_core.proofs.Rule.Settled.{found_stays, turn_looks}
+use Rattle.rgo_core.specs.Rule.Histories.{accesses_by}
+use Rattle.rgo_core.specs.Rule.Passes.{HasLooked}
+use Rattle.rgo_core.specs.Rule.Views.{Has, Rows}
+use Rattle.rgo_core.specs.Rule.declared.accesses.Access.{Access}
+use Rattle.rgo_core.specs.Rule.declared.accesses.View.{View}
 use Rattle.rgo_core_steps.specs.Outcomes.{Closes}
-use Rattle.rgo_machine.specs.declared.turns.Shortage.{Shortage}
-use Rattle.rgo_acts.specs.Waits.{FoundNow}
+use Rattle.rgo_sound.specs.Machine.declared.turns.Shortage.{Shortage}
+use Rattle.rgo_goroutine.specs.Acts.Waits.{FoundNow}
 use Rattle.rgo_table_runs.specs.passing.Passes.{AllPassed}
 use Rattle.rgo_table_runs.specs.passing.Turns.{HadTurn, HasPassed, Over, Stands, Still}
 use Rattle.rgo_table_runs.proofs.closing.Closed.{has_row}

@@ -1,31 +1,31 @@
 -- What follows from a pass.
 use Rattle.std.proofs.Common.{◌≡◌, ◌≢◌, ℕ, zero, suc, ◌<◌, List, [], ◌∷◌, Option, Some, None, is_some, map, slice_get, slice_index, refl, ap, sym, subst, ◌∙◌, ⊎_elim}
 use Rattle.std.proofs.lemmas.Option.{same_Some}
-use Rattle.rgo_code.specs.Erasure.{erased}
-use Rattle.rgo_acts.proofs.Waiting.{loses_blocked, waits_blocked}
-use Rattle.rgo_acts.specs.Shortages.{AllInUse}
-use Rattle.rgo_acts.specs.Waits.{FoundNow}
+use Rattle.rgo_sound.specs.Code.Erasure.{erased}
+use Rattle.rgo_goroutine.proofs.Acts.Waiting.{loses_blocked, waits_blocked}
+use Rattle.rgo_goroutine.specs.Acts.Shortages.{AllInUse}
+use Rattle.rgo_goroutine.specs.Acts.Waits.{FoundNow}
 use Rattle.rgo_core.proofs.Parts.{I}
 use Rattle.rgo_core.specs.Core.{Here, Setup, layout}
 use Rattle.rgo_core.specs.Moments.{moment}
 use Rattle.rgo_core.specs.Records.{Record, memory_of, side_of}
-use Rattle.rgo_core_channels.proofs.Deadlock.{deadlock}
-use Rattle.rgo_core_channels.specs.Deadlock.{Blocked}
-use Rattle.rgo_core_channels.specs.Records.{Free, Rec as SideRec}
-use Rattle.rgo_core_memory.specs.Ground.{ground_of}
-use Rattle.rgo_core_memory.specs.Records.{Calm, Idle, Rec as MemoryRec}
-use Rattle.rgo_core_memory.specs.Words.{count_at, state_at}
-use Rattle.rgo_core_rule.specs.Views.{Has, Rows}
-use Rattle.rgo_core_rule.specs.declared.accesses.Access.{Access}
-use Rattle.rgo_core_rule.specs.declared.accesses.Kind.{Kind}
-use Rattle.rgo_core_rule.specs.declared.accesses.View.{View}
+use Rattle.rgo_core.proofs.Channels.Deadlock.{deadlock}
+use Rattle.rgo_core.specs.Channels.Deadlock.{Blocked}
+use Rattle.rgo_core.specs.Channels.Records.{Free, Rec as SideRec}
+use Rattle.rgo_core.specs.Memory.Ground.{ground_of}
+use Rattle.rgo_core.specs.Memory.Records.{Calm, Idle, Rec as MemoryRec}
+use Rattle.rgo_core.specs.Memory.Words.{count_at, state_at}
+use Rattle.rgo_core.specs.Rule.Views.{Has, Rows}
+use Rattle.rgo_core.specs.Rule.declared.accesses.Access.{Access}
+use Rattle.rgo_core.specs.Rule.declared.accesses.Kind.{Kind}
+use Rattle.rgo_core.specs.Rule.declared.accesses.View.{View}
 use Rattle.rgo_goroutine.specs.Turns.{IsTidy}
 use Rattle.rgo_core_steps.specs.Outcomes.{Closes}
-use Rattle.rgo_machine.specs.Deadlocks.{IsDeadlock}
-use Rattle.rgo_machine.specs.declared.turns.Shortage.{Shortage}
-use Rattle.rgo_machine.specs.declared.turns.Shortage.TheVariants as shortage
-use Rattle.rgo_region_machine.specs.Room.{LacksIn}
-use Rattle.rgo_tac.specs.Tac.{tac}
+use Rattle.rgo_sound.specs.Machine.Deadlocks.{IsDeadlock}
+use Rattle.rgo_sound.specs.Machine.declared.turns.Shortage.{Shortage}
+use Rattle.rgo_sound.specs.Machine.declared.turns.Shortage.TheVariants as shortage
+use Rattle.rgo_sound.specs.RegionMachine.Room.{LacksIn}
+use Rattle.rgo_sound.specs.Tac.Tac.{tac}
 use Rattle.rgo_table_runs.specs.closing.Laws.{last_state, whole_run}
 use Rattle.rgo_table_runs.specs.passing.Laws.{FindsDeadlock, FindsShortage}
 use Rattle.rgo_table_runs.specs.passing.Passes.{AllPassed}

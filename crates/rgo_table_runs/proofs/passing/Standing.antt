@@ -1,21 +1,21 @@
 -- A goroutine that is over has returned in the state of the run, and knows of no channel.
 use Rattle.std.proofs.Common.{◌≡◌, ℕ, true, false, List, [], ◌∷◌, Some, slice_get, refl, ap, sym, subst, ◌∙◌, ⊎_elim}
 use Rattle.std.proofs.lemmas.Option.{same_Some}
-use Rattle.rgo_code.specs.Code.{Code}
+use Rattle.rgo_sound.specs.Code.Code.{Code}
 use Rattle.rgo_core.proofs.Standing.{frame_at, side_at}
 use Rattle.rgo_core.specs.Core.{Here, Setup}
 use Rattle.rgo_core.specs.Moments.{moment}
 use Rattle.rgo_core.specs.Records.{Record}
-use Rattle.rgo_core_channels.specs.Channels.{Accepted, Calm, Chan, Offered, OfferOf, On, Phase, holder_offer}
-use Rattle.rgo_core_channels.specs.Deadlock as why
-use Rattle.rgo_core_channels.specs.Deadlock.{Blocked}
-use Rattle.rgo_core_channels.specs.Records.{Nowhere, Offering, Post}
-use Rattle.rgo_core_frames.specs.Fits.{Fits, IsPast, IsShown}
-use Rattle.rgo_core_frames.specs.Shown.{FramesShow}
-use Rattle.rgo_core_frames.specs.WordFrames.{WordFrame}
-use Rattle.rgo_region_machine.specs.Duties.{may_go}
-use Rattle.rgo_region_machine.specs.States.{Holder}
-use Rattle.rgo_tac.specs.Frames.{Frame}
+use Rattle.rgo_core.specs.Channels.Channels.{Accepted, Calm, Chan, Offered, OfferOf, On, Phase, holder_offer}
+use Rattle.rgo_core.specs.Channels.Deadlock as why
+use Rattle.rgo_core.specs.Channels.Deadlock.{Blocked}
+use Rattle.rgo_core.specs.Channels.Records.{Nowhere, Offering, Post}
+use Rattle.rgo_core.specs.Frames.Fits.{Fits, IsPast, IsShown}
+use Rattle.rgo_core.specs.Frames.Shown.{FramesShow}
+use Rattle.rgo_core.specs.Frames.WordFrames.{WordFrame}
+use Rattle.rgo_sound.specs.RegionMachine.Duties.{may_go}
+use Rattle.rgo_sound.specs.RegionMachine.States.{Holder}
+use Rattle.rgo_sound.specs.Tac.Frames.{Frame}
 use Rattle.rgo_goroutine.specs.Turns.{IsOver}
 
 -- no words of frames stand for no frames

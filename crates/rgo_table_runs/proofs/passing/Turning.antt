@@ -2,11 +2,11 @@
 use Rattle.std.proofs.Common.{◌≡◌, ◌+◌, ◌<◌, ℕ, suc, List, [], ◌++◌, Option, ap, sym, subst, ◌∙◌, inl, inr, arith, append_assoc}
 use Rattle.std.proofs.lemmas.List.{append-nil}
 use Rattle.rgo_core.specs.Records.{accesses}
-use Rattle.rgo_core_rule.specs.Histories.{accesses_by}
-use Rattle.rgo_core_rule.specs.Views.{number_of}
-use Rattle.rgo_core_rule.specs.declared.accesses.Access.{Access}
-use Rattle.rgo_machine.specs.declared.turns.Shortage.{Shortage}
-use Rattle.rgo_acts.specs.Runs.{Run}
+use Rattle.rgo_core.specs.Rule.Histories.{accesses_by}
+use Rattle.rgo_core.specs.Rule.Views.{number_of}
+use Rattle.rgo_core.specs.Rule.declared.accesses.Access.{Access}
+use Rattle.rgo_sound.specs.Machine.declared.turns.Shortage.{Shortage}
+use Rattle.rgo_goroutine.specs.Acts.Runs.{Run}
 use Rattle.rgo_goroutine.specs.Goroutines.{record_of}
 use Rattle.rgo_goroutine.specs.Turns.{Stops}
 use Rattle.rgo_goroutine.specs.declared.goroutine.Goroutine.{Goroutine}

@@ -1,16 +1,16 @@
 -- Runs that are as their definitions say, and such as are not.
 use Rattle.std.specs.Prelude.{◌≡◌, ℕ, List, [], ◌∷◌, Option, Some, None}
-use Rattle.rgo_code.specs.Checked.{IsChecked}
-use Rattle.rgo_code.specs.Code.{Code}
-use Rattle.rgo_code.specs.NameRules.{Ascends}
+use Rattle.rgo_sound.specs.Code.Checked.{IsChecked}
+use Rattle.rgo_sound.specs.Code.Code.{Code}
+use Rattle.rgo_sound.specs.Code.NameRules.{Ascends}
 use Rattle.rgo_driver.specs.declared.ends.RunEnd.{RunEnd}
 use Rattle.rgo_driver.specs.declared.ends.RunEnd.TheVariants.{Deadlock, NoMemory, StepsSpent}
-use Rattle.rgo_machine.specs.declared.limits.Limits.{Limits}
-use Rattle.rgo_machine.specs.declared.limits.Sizes.{Sizes}
-use Rattle.rgo_region_machine.specs.Counts.{Counts, counts_of}
-use Rattle.rgo_region_machine.specs.Machine.{region_start}
-use Rattle.rgo_region_machine.specs.Room.{FitsIn}
-use Rattle.rgo_tac.specs.Tac.{TacState}
+use Rattle.rgo_sound.specs.Machine.declared.limits.Limits.{Limits}
+use Rattle.rgo_sound.specs.Machine.declared.limits.Sizes.{Sizes}
+use Rattle.rgo_sound.specs.RegionMachine.Counts.{Counts, counts_of}
+use Rattle.rgo_sound.specs.RegionMachine.Machine.{region_start}
+use Rattle.rgo_sound.specs.RegionMachine.Room.{FitsIn}
+use Rattle.rgo_sound.specs.Tac.Tac.{TacState}
 use Rattle.rgo_table_runs.specs.claims.RegionRuns.{CodeRuns, RegionRun}
 use Rattle.rgo_table_runs.specs.claims.TableRuns.{TableRun}
 

@@ -1,15 +1,15 @@
 -- How the claim on the whole program follows from the run behind a table.
 use Rattle.std.specs.Prelude.{◌≡◌, ℕ, List, Option}
-use Rattle.rgo_code.specs.Checked.{IsChecked}
-use Rattle.rgo_code.specs.Code.{Code}
-use Rattle.rgo_code.specs.Erasure.{erased}
-use Rattle.rgo_code.specs.NameRules.{Ascends}
+use Rattle.rgo_sound.specs.Code.Checked.{IsChecked}
+use Rattle.rgo_sound.specs.Code.Code.{Code}
+use Rattle.rgo_sound.specs.Code.Erasure.{erased}
+use Rattle.rgo_sound.specs.Code.NameRules.{Ascends}
 use Rattle.rgo_driver.specs.Runs.{RunsFreely}
 use Rattle.rgo_driver.specs.declared.ends.RunEnd.{RunEnd}
-use Rattle.rgo_machine.specs.declared.limits.Limits.{Limits}
-use Rattle.rgo_machine.specs.declared.limits.Sizes.{Sizes}
-use Rattle.rgo_region_machine.specs.Counts.{Counts}
-use Rattle.rgo_tac.specs.Tac.{tac, tac_start}
+use Rattle.rgo_sound.specs.Machine.declared.limits.Limits.{Limits}
+use Rattle.rgo_sound.specs.Machine.declared.limits.Sizes.{Sizes}
+use Rattle.rgo_sound.specs.RegionMachine.Counts.{Counts}
+use Rattle.rgo_sound.specs.Tac.Tac.{tac, tac_start}
 use Rattle.rgo_table_runs.specs.claims.RegionRuns.{CodeRuns}
 use Rattle.rgo_table_runs.specs.claims.TableRuns.{TableRun, picks_of}
 

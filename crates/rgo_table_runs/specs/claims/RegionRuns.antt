@@ -1,21 +1,21 @@
 -- What the claim on the whole program says of the code that was run.
 use Rattle.std.specs.Prelude.{◌≡◌, ℕ, List, ◌++◌, Option, Some, slice_get}
-use Rattle.rgo_code.specs.Code.{Code}
-use Rattle.rgo_code.specs.Erasure.{erased}
+use Rattle.rgo_sound.specs.Code.Code.{Code}
+use Rattle.rgo_sound.specs.Code.Erasure.{erased}
 use Rattle.rgo_driver.specs.Runs.{RunsFreely}
 use Rattle.rgo_driver.specs.declared.ends.RunEnd.{RunEnd}
 use Rattle.rgo_driver.specs.declared.ends.RunEnd.TheVariants.{NoRoom}
-use Rattle.rgo_machine.specs.declared.limits.Limits.{Limits}
-use Rattle.rgo_machine.specs.declared.limits.Sizes.{Sizes}
-use Rattle.rgo_machine.specs.declared.turns.Shortage.{Shortage}
-use Rattle.rgo_region_machine.specs.Counts.{Counts, counts_of}
-use Rattle.rgo_region_machine.specs.Machine.{Event, region_run}
-use Rattle.rgo_region_machine.specs.Room.{FitsIn, LacksIn}
-use Rattle.rgo_region_machine.specs.States.{Holder, RegionState, plain_at}
-use Rattle.rgo_region_machine.specs.declared.regions.Region.{Region}
+use Rattle.rgo_sound.specs.Machine.declared.limits.Limits.{Limits}
+use Rattle.rgo_sound.specs.Machine.declared.limits.Sizes.{Sizes}
+use Rattle.rgo_sound.specs.Machine.declared.turns.Shortage.{Shortage}
+use Rattle.rgo_sound.specs.RegionMachine.Counts.{Counts, counts_of}
+use Rattle.rgo_sound.specs.RegionMachine.Machine.{Event, region_run}
+use Rattle.rgo_sound.specs.RegionMachine.Room.{FitsIn, LacksIn}
+use Rattle.rgo_sound.specs.RegionMachine.States.{Holder, RegionState, plain_at}
+use Rattle.rgo_sound.specs.RegionMachine.declared.regions.Region.{Region}
 use Rattle.rgo_sound.specs.NextNames.{HasStake, NextNames}
 use Rattle.rgo_sound.specs.Safety.{IsSafe}
-use Rattle.rgo_tac.specs.Tac.{TacState, tac, tac_start}
+use Rattle.rgo_sound.specs.Tac.Tac.{TacState, tac, tac_start}
 use Rattle.rgo_table_runs.specs.claims.TableRuns.{picks_of}
 
 -- each region that a goroutine names next is Global, or live with a stake of the goroutine

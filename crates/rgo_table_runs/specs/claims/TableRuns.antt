@@ -1,21 +1,21 @@
 -- The run behind a table, up to its end and beyond: what the claim on the whole program takes from it.
 use Rattle.std.specs.Prelude.{◌≡◌, ◌≤◌, ℕ, List, ◌++◌, length, Option, Some}
-use Rattle.rgo_code.specs.Code.{Code}
-use Rattle.rgo_code.specs.Erasure.{erased}
+use Rattle.rgo_sound.specs.Code.Code.{Code}
+use Rattle.rgo_sound.specs.Code.Erasure.{erased}
 use Rattle.rgo_driver.specs.Runs.{Ends, Gives}
 use Rattle.rgo_driver.specs.declared.ends.RunEnd.{RunEnd}
 use Rattle.rgo_driver.specs.declared.ends.RunEnd.TheVariants.{NoMemory, NoRoom}
-use Rattle.rgo_machine.specs.Limits.{LeadsWithin}
-use Rattle.rgo_machine.specs.declared.limits.Limits.{Limits}
-use Rattle.rgo_machine.specs.declared.limits.Sizes.{Sizes}
-use Rattle.rgo_machine.specs.declared.picks.Pick.{Pick}
-use Rattle.rgo_machine.specs.declared.turns.Shortage.{Shortage}
-use Rattle.rgo_region_machine.specs.Counts.{Counts, counts_of}
-use Rattle.rgo_region_machine.specs.Machine.{Event, region_run, region_start}
-use Rattle.rgo_region_machine.specs.Room.{LacksIn, roomy_run}
-use Rattle.rgo_region_machine.specs.States.{RegionState, plain_at}
+use Rattle.rgo_sound.specs.Machine.Limits.{LeadsWithin}
+use Rattle.rgo_sound.specs.Machine.declared.limits.Limits.{Limits}
+use Rattle.rgo_sound.specs.Machine.declared.limits.Sizes.{Sizes}
+use Rattle.rgo_sound.specs.Machine.declared.picks.Pick.{Pick}
+use Rattle.rgo_sound.specs.Machine.declared.turns.Shortage.{Shortage}
+use Rattle.rgo_sound.specs.RegionMachine.Counts.{Counts, counts_of}
+use Rattle.rgo_sound.specs.RegionMachine.Machine.{Event, region_run, region_start}
+use Rattle.rgo_sound.specs.RegionMachine.Room.{LacksIn, roomy_run}
+use Rattle.rgo_sound.specs.RegionMachine.States.{RegionState, plain_at}
 use Rattle.rgo_sound.specs.Erasure.{erased_picks}
-use Rattle.rgo_tac.specs.Tac.{TacState, tac, tac_start}
+use Rattle.rgo_sound.specs.Tac.Tac.{TacState, tac, tac_start}
 
 -- the picks of a run, without its region steps
 abbrev pub picks_of : Code → Sizes → List Event → List Pick

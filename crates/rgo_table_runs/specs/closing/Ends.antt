@@ -1,22 +1,22 @@
 -- Why a driver says that a run has ended so.
 use Rattle.std.specs.Io.KnownBytes.{Appends}
 use Rattle.std.specs.Prelude.{◌≡◌, ◌<◌, ◌≤◌, ℕ, max, List, Option, Some, None, ⊤}
-use Rattle.rgo_code.specs.Code.{Code}
-use Rattle.rgo_code.specs.Erasure.{erased}
+use Rattle.rgo_sound.specs.Code.Code.{Code}
+use Rattle.rgo_sound.specs.Code.Erasure.{erased}
 use Rattle.rgo_core.specs.Records.{Drawn, Record}
-use Rattle.rgo_core_rule.specs.Views.{Has, Rows}
+use Rattle.rgo_core.specs.Rule.Views.{Has, Rows}
 use Rattle.rgo_driver.specs.Runs.{AppendsSome}
 use Rattle.rgo_driver.specs.declared.ends.RunEnd.{RunEnd}
 use Rattle.rgo_driver.specs.declared.ends.RunEnd.TheVariants as run_end
-use Rattle.rgo_machine.specs.Deadlocks.{IsDeadlock}
-use Rattle.rgo_machine.specs.declared.limits.Limits.{Limits}
-use Rattle.rgo_machine.specs.declared.limits.Sizes.{Sizes}
-use Rattle.rgo_machine.specs.declared.turns.Shortage.TheVariants as shortage
-use Rattle.rgo_region_machine.specs.Room.{LacksIn}
-use Rattle.rgo_region_machine.specs.States.{Ended, Mark, RegionState, Stopped}
-use Rattle.rgo_region_machine.specs.declared.limits.Limit.{Limit}
-use Rattle.rgo_region_machine.specs.declared.limits.Limit.TheVariants as limit
-use Rattle.rgo_tac.specs.Tac.{tac}
+use Rattle.rgo_sound.specs.Machine.Deadlocks.{IsDeadlock}
+use Rattle.rgo_sound.specs.Machine.declared.limits.Limits.{Limits}
+use Rattle.rgo_sound.specs.Machine.declared.limits.Sizes.{Sizes}
+use Rattle.rgo_sound.specs.Machine.declared.turns.Shortage.TheVariants as shortage
+use Rattle.rgo_sound.specs.RegionMachine.Room.{LacksIn}
+use Rattle.rgo_sound.specs.RegionMachine.States.{Ended, Mark, RegionState, Stopped}
+use Rattle.rgo_sound.specs.RegionMachine.declared.limits.Limit.{Limit}
+use Rattle.rgo_sound.specs.RegionMachine.declared.limits.Limit.TheVariants as limit
+use Rattle.rgo_sound.specs.Tac.Tac.{tac}
 use Rattle.rgo_table_runs.specs.closing.Prints.{AllGiven, bytes_of}
 
 -- which end mark some goroutine has set, or that none has

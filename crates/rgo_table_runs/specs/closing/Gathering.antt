@@ -5,11 +5,11 @@ use mathlib.Core.Option.{some}
 use lib.ListN.{get_elem?}
 use Rattle.rgo_core.specs.Core.{Setup}
 use Rattle.rgo_core.specs.Records.{Drawn, Record}
-use Rattle.rgo_core_memory.specs.Records.{Calm}
-use Rattle.rgo_core_rule.specs.Views.{Has, Rows}
-use Rattle.rgo_core_rule.specs.declared.accesses.View.{View}
+use Rattle.rgo_core.specs.Memory.Records.{Calm}
+use Rattle.rgo_core.specs.Rule.Views.{Has, Rows}
+use Rattle.rgo_core.specs.Rule.declared.accesses.View.{View}
 use Rattle.rgo_core_steps.specs.Outcomes.{Closes, HasFamily}
-use Rattle.rgo_region_machine.specs.Counts.{Counts}
+use Rattle.rgo_sound.specs.RegionMachine.Counts.{Counts}
 use Rattle.rgo_sound.specs.Tally.{counts_plus, no_share}
 use Rattle.rgo_table_runs.specs.closing.Prints.{AllGiven, InOrder, IsPrint}
 use Rattle.rgo_table_runs.specs.closing.Rows.{AreAll, all_shares}

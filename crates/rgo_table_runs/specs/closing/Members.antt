@@ -3,7 +3,7 @@ use Rattle.std.specs.Prelude.{◌≡◌, ◌⊎◌, ℕ, false, List, [], ◌∷
 use mathlib.Core.Option.{some}
 use lib.ListN.{get_elem?}
 use Rattle.rgo_core.specs.Records.{Drawn, Record, blank}
-use Rattle.rgo_core_rule.specs.declared.accesses.View.{View}
+use Rattle.rgo_core.specs.Rule.declared.accesses.View.{View}
 use Rattle.rgo_core_steps.specs.Outcomes.{HasFamily}
 use Rattle.rgo_table_runs.specs.closing.Prints.{IsPrint}
 use Rattle.rgo_table_runs.specs.closing.Gathering.{IsIn}

@@ -3,8 +3,8 @@ use Rattle.std.specs.Prelude.{◌≡◌, ◌<◌, ℕ, false, List, length, map}
 use mathlib.Core.Option.{some}
 use lib.ListN.{get_elem?}
 use Rattle.rgo_core.specs.Records.{Drawn, Record}
-use Rattle.rgo_core_rule.specs.Lists.{flattened}
-use Rattle.rgo_core_rule.specs.Views.{Has, Rows}
+use Rattle.rgo_core.specs.Rule.Lists.{flattened}
+use Rattle.rgo_core.specs.Rule.Views.{Has, Rows}
 
 -- some goroutine has drawn this ticket and printed these bytes
 pub record IsPrint (rows : Rows Record) (d : Drawn) : Type 0 where

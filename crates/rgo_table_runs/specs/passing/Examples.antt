@@ -2,15 +2,15 @@
 use Rattle.std.specs.Prelude.{◌≡◌, ℕ, List, [], ◌∷◌, Option, Some, None}
 use Rattle.rgo_core.specs.Core.{Setup}
 use Rattle.rgo_core.specs.Records.{Record, begins_with, looked}
-use Rattle.rgo_core_channels.specs.Records.{Free}
-use Rattle.rgo_core_frames.specs.Opening.{no_record}
-use Rattle.rgo_core_rule.specs.Histories.{access}
-use Rattle.rgo_core_rule.specs.Views.{view}
-use Rattle.rgo_core_rule.specs.declared.accesses.Access.{Access}
-use Rattle.rgo_core_rule.specs.declared.accesses.Kind.TheVariants.{Load}
-use Rattle.rgo_machine.specs.declared.turns.Shortage.{Shortage}
-use Rattle.rgo_machine.specs.declared.turns.Shortage.TheVariants.{ObjectSize, Pages, Regions}
-use Rattle.rgo_acts.specs.Waits.{Waits}
+use Rattle.rgo_core.specs.Channels.Records.{Free}
+use Rattle.rgo_core.specs.Frames.Opening.{no_record}
+use Rattle.rgo_core.specs.Rule.Histories.{access}
+use Rattle.rgo_core.specs.Rule.Views.{view}
+use Rattle.rgo_core.specs.Rule.declared.accesses.Access.{Access}
+use Rattle.rgo_core.specs.Rule.declared.accesses.Kind.TheVariants.{Load}
+use Rattle.rgo_sound.specs.Machine.declared.turns.Shortage.{Shortage}
+use Rattle.rgo_sound.specs.Machine.declared.turns.Shortage.TheVariants.{ObjectSize, Pages, Regions}
+use Rattle.rgo_goroutine.specs.Acts.Waits.{Waits}
 use Rattle.rgo_goroutine.specs.declared.turning.Stop.TheVariants as stop
 use Rattle.rgo_table_runs.specs.passing.Laws.{Tells}
 use Rattle.rgo_table_runs.specs.passing.Passes.{AllPassed}

@@ -1,18 +1,18 @@
 -- What follows from a pass, and how a driver comes to know what it knows of each goroutine.
 use Rattle.std.specs.Prelude.{◌≡◌, ℕ, List, ◌++◌, Bool, Option, Some, None}
-use Rattle.rgo_code.specs.Erasure.{erased}
+use Rattle.rgo_sound.specs.Code.Erasure.{erased}
 use Rattle.rgo_core.specs.Core.{Setup}
 use Rattle.rgo_core.specs.Records.{Record, accesses}
-use Rattle.rgo_core_rule.specs.Passes.{ChangesNothingBy}
-use Rattle.rgo_core_rule.specs.Views.{Has, Rows, number_of}
-use Rattle.rgo_core_rule.specs.declared.accesses.Access.{Access}
-use Rattle.rgo_core_rule.specs.declared.accesses.View.{View}
+use Rattle.rgo_core.specs.Rule.Passes.{ChangesNothingBy}
+use Rattle.rgo_core.specs.Rule.Views.{Has, Rows, number_of}
+use Rattle.rgo_core.specs.Rule.declared.accesses.Access.{Access}
+use Rattle.rgo_core.specs.Rule.declared.accesses.View.{View}
 use Rattle.rgo_core_steps.specs.Outcomes.{Closes}
-use Rattle.rgo_machine.specs.Deadlocks.{IsDeadlock}
-use Rattle.rgo_machine.specs.declared.turns.Shortage.{Shortage}
-use Rattle.rgo_region_machine.specs.Room.{LacksIn}
-use Rattle.rgo_tac.specs.Tac.{tac}
-use Rattle.rgo_acts.specs.Runs.{Run}
+use Rattle.rgo_sound.specs.Machine.Deadlocks.{IsDeadlock}
+use Rattle.rgo_sound.specs.Machine.declared.turns.Shortage.{Shortage}
+use Rattle.rgo_sound.specs.RegionMachine.Room.{LacksIn}
+use Rattle.rgo_sound.specs.Tac.Tac.{tac}
+use Rattle.rgo_goroutine.specs.Acts.Runs.{Run}
 use Rattle.rgo_goroutine.specs.Goroutines.{record_of}
 use Rattle.rgo_goroutine.specs.Passing.{Looks}
 use Rattle.rgo_goroutine.specs.Turns.{HasTurned, IsTidy}

@@ -3,11 +3,11 @@
 use Rattle.std.specs.Prelude.{◌≡◌, ◌⊎◌, ◌+◌, ℕ, List, ◌++◌, Option, Some, None}
 use Rattle.rgo_core.specs.Core.{Setup}
 use Rattle.rgo_core.specs.Records.{Record, accesses}
-use Rattle.rgo_core_rule.specs.Histories.{accesses_by}
-use Rattle.rgo_core_rule.specs.Passes.{ChangesNothingBy}
-use Rattle.rgo_core_rule.specs.declared.accesses.Access.{Access}
-use Rattle.rgo_machine.specs.declared.turns.Shortage.{Shortage}
-use Rattle.rgo_acts.specs.Waits.{Loses, Waits}
+use Rattle.rgo_core.specs.Rule.Histories.{accesses_by}
+use Rattle.rgo_core.specs.Rule.Passes.{ChangesNothingBy}
+use Rattle.rgo_core.specs.Rule.declared.accesses.Access.{Access}
+use Rattle.rgo_sound.specs.Machine.declared.turns.Shortage.{Shortage}
+use Rattle.rgo_goroutine.specs.Acts.Waits.{Loses, Waits}
 use Rattle.rgo_goroutine.specs.Turns.{IsOver, IsTidy, LacksFor}
 
 -- n accesses of goroutine g are known: it has made as many in a beginning of `before`

@@ -2,8 +2,8 @@ use Rattle.std.proofs.Common.{◌≡◌, ◌+◌, ◌-◌, ◌<◌, inl, refl, s
 use Rattle.rgo_core.specs.Bounds.{LieInPages}
 use Rattle.rgo_core.specs.Core.{layout}
 use Rattle.rgo_core.specs.Links.{IsAtElement}
-use Rattle.rgo_core_memory.specs.Words.{base}
-use Rattle.rgo_tac.specs.Ops.{operation_of}
+use Rattle.rgo_core.specs.Memory.Words.{base}
+use Rattle.rgo_sound.specs.Tac.Ops.{operation_of}
 use Rattle.rgo_acts.specs.Actors.{now}
 use Rattle.rgo_acts.specs.Elements.{HasElement, HasNoElementHere}
 use Rattle.rgo_acts.specs.Ready.{IsBefore}

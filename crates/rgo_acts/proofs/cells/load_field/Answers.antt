@@ -1,5 +1,5 @@
 use Rattle.std.proofs.Common.{[], ◌∷◌, Some, refl}
-use Rattle.rgo_typed.specs.declared.actions.Action.TheVariants as action
+use Rattle.rgo_sound.specs.Typed.declared.actions.Action.TheVariants as action
 use Rattle.rgo_acts.proofs.Before.{first_in, reads_it}
 use Rattle.rgo_acts.proofs.Fields.{load_loads, load_traps, load_within}
 use Rattle.rgo_acts.proofs.cells.load_field.Goals as goal

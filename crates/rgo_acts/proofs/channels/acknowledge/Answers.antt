@@ -1,9 +1,9 @@
 use Rattle.std.proofs.Common.{◌≡◌, ◌+◌, ◌≤◌, Some, refl, sym, subst}
 use Rattle.rgo_acts.specs.declared.channels.Talked.TheVariants as talked
 use Rattle.rgo_chan.specs.declared.answers.Tried.TheVariants as tried
-use Rattle.rgo_memory.specs.declared.traps.Trap.TheVariants.{SendClosed}
-use Rattle.rgo_core_channels.specs.Records as sides
-use Rattle.rgo_core_memory.specs.Words.{all_words}
+use Rattle.rgo_sound.specs.Memory.declared.traps.Trap.TheVariants.{SendClosed}
+use Rattle.rgo_core.specs.Channels.Records as sides
+use Rattle.rgo_core.specs.Memory.Words.{all_words}
 use Rattle.rgo_core.specs.CommitMoves.{IsAtSend}
 use Rattle.rgo_core.specs.Core.{layout}
 use Rattle.rgo_core_steps.specs.Seats.{mine}

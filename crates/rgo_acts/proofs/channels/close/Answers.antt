@@ -4,7 +4,7 @@ use Rattle.rgo_chan.specs.Answers.{Closes}
 use Rattle.rgo_chan.specs.Before.{IsBeforeClose, LiesIn, control_at}
 use Rattle.rgo_chan.proofs.Carrying.{closes_at}
 use Rattle.rgo_sound.proofs.Places.{contains_here}
-use Rattle.rgo_typed.specs.declared.actions.Action.TheVariants.{Close}
+use Rattle.rgo_sound.specs.Typed.declared.actions.Action.TheVariants.{Close}
 use Rattle.rgo_acts.specs.Actors.{now}
 use Rattle.rgo_acts.specs.Runs.{Run}
 use Rattle.rgo_acts.specs.Talks.{Concludes}

@@ -1,5 +1,5 @@
 use Rattle.std.proofs.Common.{ap}
-use Rattle.rgo_tac.specs.Ops.{numbers_of, operation_of}
+use Rattle.rgo_sound.specs.Tac.Ops.{numbers_of, operation_of}
 use Rattle.rgo_acts.proofs.channels.talks.Goals as goal
 
 pub returns-in-Do-clause-yes : goal.returns-in-Do-clause-yes

@@ -1,5 +1,5 @@
 use Rattle.std.proofs.Common.{◌+◌, ◌∙◌, List, ap, arith, length, refl, subst, sym}
-use Rattle.rgo_region_machine.specs.States.{Duty}
+use Rattle.rgo_sound.specs.RegionMachine.States.{Duty}
 use Rattle.rgo_body.specs.Duties.{DoesLocal}
 use Rattle.rgo_body.specs.Shows.{IsPossible}
 use Rattle.rgo_body.specs.Steps.{Stays}

@@ -1,5 +1,5 @@
 use Rattle.std.proofs.Common.{◌++◌, refl, subst, sym}
-use Rattle.rgo_region_machine.specs.States.{Create}
+use Rattle.rgo_sound.specs.RegionMachine.States.{Create}
 use Rattle.rgo_body.proofs.Attending.{later}
 use Rattle.rgo_body.specs.Steps.{Stays}
 use Rattle.rgo_acts.specs.Attending.{HasAttended, IsAtDuty, IsShort}

@@ -1,5 +1,5 @@
 use Rattle.std.proofs.Common.{◌+◌, refl, subst, sym}
-use Rattle.rgo_region_machine.specs.States.{Share}
+use Rattle.rgo_sound.specs.RegionMachine.States.{Share}
 use Rattle.rgo_body.specs.Duties.{DoesLocal}
 use Rattle.rgo_acts.specs.Attending.{HasAttended, IsAtDuty}
 use Rattle.rgo_acts.specs.Runs.{Run}

@@ -1,8 +1,8 @@
 use Rattle.std.proofs.Common.{refl, subst, sym}
-use Rattle.rgo_core_rule.specs.Views.{number_of}
+use Rattle.rgo_core.specs.Rule.Views.{number_of}
 use Rattle.rgo_core_steps.specs.Ends.{Ends}
-use Rattle.rgo_machine.specs.declared.picks.End.TheVariants.{Exit}
-use Rattle.rgo_region_machine.specs.States.{Ended}
+use Rattle.rgo_sound.specs.Machine.declared.picks.End.TheVariants.{Exit}
+use Rattle.rgo_sound.specs.RegionMachine.States.{Ended}
 use Rattle.rgo_acts.specs.Actors.{Stands, now}
 use Rattle.rgo_acts.specs.Runs.{Run}
 use Rattle.rgo_acts.proofs.EndActs.{ended, exit_ends}

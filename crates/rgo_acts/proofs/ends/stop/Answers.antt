@@ -1,7 +1,7 @@
 use Rattle.std.proofs.Common.{refl, subst, sym}
-use Rattle.rgo_core_rule.specs.Views.{number_of}
+use Rattle.rgo_core.specs.Rule.Views.{number_of}
 use Rattle.rgo_core_steps.specs.Ends.{Ends}
-use Rattle.rgo_region_machine.specs.States.{Stopped}
+use Rattle.rgo_sound.specs.RegionMachine.States.{Stopped}
 use Rattle.rgo_acts.specs.Actors.{now}
 use Rattle.rgo_acts.specs.Runs.{Run}
 use Rattle.rgo_acts.proofs.EndActs.{stopped}

@@ -1,10 +1,10 @@
 use Rattle.std.proofs.Common.{◌∙◌, ap, refl, subst, sym, slice_get}
-use Rattle.rgo_core_rule.specs.Views.{number_of}
+use Rattle.rgo_core.specs.Rule.Views.{number_of}
 use Rattle.rgo_core_steps.specs.Ends.{Ends}
-use Rattle.rgo_machine.specs.declared.picks.End.TheVariants.{Trap}
-use Rattle.rgo_region_machine.specs.States.{Ended}
-use Rattle.rgo_tac.specs.Code.{TacFn}
-use Rattle.rgo_tac.specs.Ops.{place_in}
+use Rattle.rgo_sound.specs.Machine.declared.picks.End.TheVariants.{Trap}
+use Rattle.rgo_sound.specs.RegionMachine.States.{Ended}
+use Rattle.rgo_sound.specs.Tac.Code.{TacFn}
+use Rattle.rgo_sound.specs.Tac.Ops.{place_in}
 use Rattle.rgo_acts.specs.Actors.{Stands, now}
 use Rattle.rgo_acts.specs.Endings.{HasEnded}
 use Rattle.rgo_acts.specs.Runs.{Run}

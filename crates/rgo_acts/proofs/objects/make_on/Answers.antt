@@ -1,5 +1,5 @@
 use Rattle.std.proofs.Common.{◌+◌, ◌*◌, ◌∙◌, suc, ap, arith, refl, sym}
-use Rattle.rgo_core_memory.specs.declared.layout.TableSizes.{TableSizes}
+use Rattle.rgo_core.specs.Memory.declared.layout.TableSizes.{TableSizes}
 use Rattle.rgo_acts.proofs.ObjectMade.{made_here}
 use Rattle.rgo_acts.proofs.objects.make_on.Goals as goal
 

@@ -1,5 +1,5 @@
 use Rattle.std.proofs.Common.{Some}
-use Rattle.rgo_typed.specs.declared.actions.Action.TheVariants as action
+use Rattle.rgo_sound.specs.Typed.declared.actions.Action.TheVariants as action
 use Rattle.rgo_acts.proofs.ObjectKinds.{no_operands, wants_struct}
 use Rattle.rgo_acts.proofs.objects.new_at_hand.Goals as goal
 

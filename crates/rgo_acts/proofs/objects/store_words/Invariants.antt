@@ -1,5 +1,5 @@
 use Rattle.std.proofs.Common.{◌≡◌, ◌<◌, ℕ, List}
-use Rattle.rgo_core_rule.specs.declared.accesses.Access.{Access}
+use Rattle.rgo_core.specs.Rule.declared.accesses.Access.{Access}
 use Rattle.rgo_core.specs.Opening.{first_of}
 use Rattle.rgo_core.specs.Plans.{setup_of}
 use Rattle.rgo_core.specs.Records.{accesses}

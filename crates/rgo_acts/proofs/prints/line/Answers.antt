@@ -1,5 +1,5 @@
 use Rattle.std.proofs.Common.{ap, List, ◌++◌, ◌∙◌}
-use Rattle.rgo_machine.specs.Lines.{line_of}
+use Rattle.rgo_sound.specs.Machine.Lines.{line_of}
 use Rattle.rgo_acts.proofs.Printing.{line_is}
 use Rattle.rgo_acts.proofs.prints.line.Goals as goal
 

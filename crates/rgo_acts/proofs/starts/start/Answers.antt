@@ -3,7 +3,7 @@ use Rattle.rgo_acts.specs.Limits.{IsAtLimit}
 use Rattle.rgo_acts.specs.Ready.{IsBefore}
 use Rattle.rgo_acts.specs.Runs.{Run}
 use Rattle.rgo_acts.specs.Starts.{HasStarted}
-use Rattle.rgo_region_machine.specs.declared.limits.Limit.TheVariants.{Goroutines}
+use Rattle.rgo_sound.specs.RegionMachine.declared.limits.Limit.TheVariants.{Goroutines}
 use Rattle.rgo_acts.proofs.LocalActs.{unchanged}
 use Rattle.rgo_acts.proofs.Standing.{its_body}
 use Rattle.rgo_acts.proofs.StartActs.{at_start, has_started, is_refused}

@@ -1,5 +1,5 @@
 use Rattle.std.proofs.Common.{◌≡◌, ◌-◌, ◌++◌, drop, map, sym, ap, ◌∙◌, arith}
-use Rattle.rgo_region_machine.specs.States.{EndBase}
+use Rattle.rgo_sound.specs.RegionMachine.States.{EndBase}
 use Rattle.rgo_body.proofs.PuttingBase.{put_none, put_one}
 use Rattle.rgo_body.proofs.Starting.{none_at}
 use Rattle.rgo_body.proofs.calls.put_base.Goals as goal

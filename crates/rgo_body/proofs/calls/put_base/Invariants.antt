@@ -1,7 +1,7 @@
 use Rattle.std.proofs.Common.{◌≡◌, ◌≤◌, ◌+◌, ◌++◌, ℕ, List, drop, length, map}
-use Rattle.rgo_core_memory.specs.Records.{Fill}
+use Rattle.rgo_core.specs.Memory.Records.{Fill}
 use Rattle.rgo_holding.specs.Holds.{Holds}
-use Rattle.rgo_region_machine.specs.States.{EndBase, Holder}
+use Rattle.rgo_sound.specs.RegionMachine.States.{EndBase, Holder}
 use Rattle.rgo_body.proofs.calls.put_base.Given as goal
 
 -- the ends of the regions from the i-th on are put

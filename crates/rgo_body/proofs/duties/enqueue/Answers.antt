@@ -1,8 +1,8 @@
 use Rattle.std.proofs.Common.{◌++◌, sym, ap, ◌∙◌, map, subst, inl, inr, []}
-use Rattle.rgo_code.specs.Lists.{passes_in, protects_in}
-use Rattle.rgo_region_machine.specs.Owed.{regions_named}
-use Rattle.rgo_region_machine.specs.States.{Protect, Share}
-use Rattle.rgo_tac.specs.Ops.{operation_of}
+use Rattle.rgo_sound.specs.Code.Lists.{passes_in, protects_in}
+use Rattle.rgo_sound.specs.RegionMachine.Owed.{regions_named}
+use Rattle.rgo_sound.specs.RegionMachine.States.{Protect, Share}
+use Rattle.rgo_sound.specs.Tac.Ops.{operation_of}
 use Rattle.rgo_body.proofs.Creating.{IsPlain, call_duties, go_duties, plain_duties, queued_by}
 use Rattle.rgo_body.proofs.duties.enqueue.Goals as goal
 

@@ -1,7 +1,7 @@
 use Rattle.std.proofs.Common.{subst, sym}
 use Rattle.std.proofs.lemmas.Result.{IfOk-weaker}
-use Rattle.rgo_code.specs.Checked.{IsChecked}
-use Rattle.rgo_code.specs.NameRules.{Ascends}
+use Rattle.rgo_sound.specs.Code.Checked.{IsChecked}
+use Rattle.rgo_sound.specs.Code.NameRules.{Ascends}
 use Rattle.rgo_core_frames.specs.Constants.{ConstantsFit}
 use Rattle.rgo_core.specs.Core.{IsPossible}
 use Rattle.rgo_core.specs.Opening.{first_of}

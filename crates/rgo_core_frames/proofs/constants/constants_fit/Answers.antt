@@ -1,8 +1,8 @@
 use Rattle.std.proofs.Common.{All, subst, arith, length, ap, ◌∙◌}
 use Rattle.std.proofs.lemmas.List.{take_all}
 use Rattle.std.proofs.lemmas.List.Elements.{All-more}
-use Rattle.rgo_code.specs.Erasure.{erased}
-use Rattle.rgo_tac.specs.Code.{Tac}
+use Rattle.rgo_sound.specs.Code.Erasure.{erased}
+use Rattle.rgo_sound.specs.Tac.Code.{Tac}
 use Rattle.rgo_core_frames.specs.Constants.{FnFits}
 use Rattle.rgo_core_frames.proofs.ConstantLemmas.{constants_of_erased}
 use Rattle.rgo_core_frames.proofs.constants.constants_fit.Goals as goal

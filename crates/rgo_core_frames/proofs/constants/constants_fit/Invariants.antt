@@ -1,5 +1,5 @@
 use Rattle.std.proofs.Common.{take, All}
-use Rattle.rgo_code.specs.Erasure.{erased}
+use Rattle.rgo_sound.specs.Code.Erasure.{erased}
 use Rattle.rgo_core_frames.specs.Constants.{FnFits}
 use Rattle.rgo_core_frames.proofs.constants.constants_fit.Given as goal
 

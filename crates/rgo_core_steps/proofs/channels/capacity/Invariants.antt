@@ -1,4 +1,4 @@
-use Rattle.rgo_core_rule.specs.declared.accesses.Kind.TheVariants as kind
+use Rattle.rgo_core.specs.Rule.declared.accesses.Kind.TheVariants as kind
 use Rattle.rgo_core.specs.Plans.{setup_of}
 use Rattle.rgo_core_steps.specs.Channels.{ShowsCapacity}
 use Rattle.rgo_core_steps.specs.Seats.{settled}

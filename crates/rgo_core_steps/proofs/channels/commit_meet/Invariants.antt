@@ -1,5 +1,5 @@
 use Rattle.std.proofs.Common.{◌≡◌}
-use Rattle.rgo_core_rule.specs.declared.accesses.Kind.TheVariants as kind
+use Rattle.rgo_core.specs.Rule.declared.accesses.Kind.TheVariants as kind
 use Rattle.rgo_core.specs.Plans.{setup_of}
 use Rattle.rgo_core.specs.Bounds.{Points}
 use Rattle.rgo_core_steps.specs.Accesses.{given_type}

@@ -1,4 +1,4 @@
-use Rattle.rgo_core_rule.specs.Views.{number_of}
+use Rattle.rgo_core.specs.Rule.Views.{number_of}
 use Rattle.rgo_core.specs.Plans.{setup_of}
 use Rattle.rgo_core.proofs.Possible.{is_possible}
 use Rattle.rgo_core_steps.specs.Seats.{mine}

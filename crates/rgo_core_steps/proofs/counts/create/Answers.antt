@@ -1,11 +1,11 @@
 use prog.Atomic.{either}
 use Rattle.std.proofs.Common.{◌≡◌, ◌<◌, ◌==◌, false, subst, arith}
 use Rattle.rgo_sound.specs.Stakes.{is_in}
-use Rattle.rgo_core_memory.specs.Words.{count_at}
-use Rattle.rgo_core_rule.specs.declared.accesses.Kind.TheVariants.{CreateRegion}
+use Rattle.rgo_core.specs.Memory.Words.{count_at}
+use Rattle.rgo_core.specs.Rule.declared.accesses.Kind.TheVariants.{CreateRegion}
 use Rattle.rgo_core_steps.specs.Counts.{tries_slot}
 use Rattle.rgo_core_steps.proofs.Lefts.{left_as}
-use Rattle.rgo_core_rule.specs.Views.{number_of}
+use Rattle.rgo_core.specs.Rule.Views.{number_of}
 use Rattle.rgo_core.specs.Plans.{setup_of}
 use Rattle.rgo_core.proofs.Possible.{is_possible}
 use Rattle.rgo_core_steps.proofs.Staking.{create_moves}

@@ -1,9 +1,9 @@
 use Rattle.std.proofs.Common.{◌≡◌, arith}
-use Rattle.rgo_core_rule.specs.Views.{number_of}
-use Rattle.rgo_core_rule.specs.declared.accesses.Kind.TheVariants as kind
+use Rattle.rgo_core.specs.Rule.Views.{number_of}
+use Rattle.rgo_core.specs.Rule.declared.accesses.Kind.TheVariants as kind
 use Rattle.rgo_core.specs.Chains.{remembers}
-use Rattle.rgo_core_memory.specs.Words.{head_at}
-use Rattle.rgo_core_memory.specs.Records.{Gave, with_give}
+use Rattle.rgo_core.specs.Memory.Words.{head_at}
+use Rattle.rgo_core.specs.Memory.Records.{Gave, with_give}
 use Rattle.rgo_core.specs.Plans.{setup_of}
 use Rattle.rgo_core.proofs.Possible.{is_possible}
 use Rattle.rgo_core.proofs.Chains.{clear_move}

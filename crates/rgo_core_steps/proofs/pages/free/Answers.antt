@@ -1,8 +1,8 @@
 use Rattle.std.proofs.Common.{◌<◌}
-use Rattle.rgo_core_rule.specs.Views.{number_of}
-use Rattle.rgo_core_rule.specs.declared.accesses.Kind.TheVariants as kind
+use Rattle.rgo_core.specs.Rule.Views.{number_of}
+use Rattle.rgo_core.specs.Rule.declared.accesses.Kind.TheVariants as kind
 use Rattle.rgo_core.specs.Chains.{frees}
-use Rattle.rgo_core_memory.specs.Words.{state_at}
+use Rattle.rgo_core.specs.Memory.Words.{state_at}
 use Rattle.rgo_core.specs.Plans.{setup_of}
 use Rattle.rgo_core.proofs.Possible.{is_possible}
 use Rattle.rgo_core_steps.proofs.Paging.{free_moves}

@@ -1,9 +1,9 @@
 use Rattle.std.proofs.Common.{◌+◌, ◌≤◌, subst, sym}
-use Rattle.rgo_core_rule.specs.Views.{number_of}
-use Rattle.rgo_core_rule.specs.declared.accesses.Kind.TheVariants as kind
+use Rattle.rgo_core.specs.Rule.Views.{number_of}
+use Rattle.rgo_core.specs.Rule.declared.accesses.Kind.TheVariants as kind
 use Rattle.rgo_core.specs.Chains.{remembers}
-use Rattle.rgo_core_memory.specs.Words.{next_at}
-use Rattle.rgo_core_memory.specs.Records.{Past, with_give}
+use Rattle.rgo_core.specs.Memory.Words.{next_at}
+use Rattle.rgo_core.specs.Memory.Records.{Past, with_give}
 use Rattle.rgo_core.specs.Plans.{setup_of}
 use Rattle.rgo_core.proofs.Possible.{is_possible}
 use Rattle.rgo_core_steps.proofs.Paging.{next_moves}

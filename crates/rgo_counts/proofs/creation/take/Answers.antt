@@ -1,8 +1,8 @@
 use Rattle.std.proofs.Common.{◌≡◌, subst, sym}
 use Rattle.std.proofs.lemmas.Option.{IfSome_then}
-use Rattle.rgo_core_channels.specs.Records.{at_rest}
-use Rattle.rgo_core_rule.specs.declared.accesses.Kind.TheVariants.{CreateRegion}
-use Rattle.rgo_core_memory.specs.Words.{count_at}
+use Rattle.rgo_core.specs.Channels.Records.{at_rest}
+use Rattle.rgo_core.specs.Rule.declared.accesses.Kind.TheVariants.{CreateRegion}
+use Rattle.rgo_core.specs.Memory.Words.{count_at}
 use Rattle.rgo_core.specs.Opening.{first_of}
 use Rattle.rgo_core.specs.Plans.{setup_of}
 use Rattle.rgo_core.specs.Records.{Record, accesses}

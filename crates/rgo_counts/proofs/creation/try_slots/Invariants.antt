@@ -1,6 +1,6 @@
 use Rattle.std.proofs.Common.{◌≡◌, ◌+◌, ◌-◌}
-use Rattle.rgo_core_rule.specs.declared.accesses.Kind.TheVariants.{CreateRegion}
-use Rattle.rgo_core_memory.specs.Words.{count_at}
+use Rattle.rgo_core.specs.Rule.declared.accesses.Kind.TheVariants.{CreateRegion}
+use Rattle.rgo_core.specs.Memory.Words.{count_at}
 use Rattle.rgo_core.specs.Opening.{first_of}
 use Rattle.rgo_core.specs.Plans.{setup_of}
 use Rattle.rgo_core.specs.Records.{accesses}

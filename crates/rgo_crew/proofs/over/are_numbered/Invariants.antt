@@ -1,5 +1,5 @@
 use Rattle.std.proofs.Common.{◌≡◌, ◌<◌, ℕ, Some, slice_get}
-use Rattle.rgo_acts.specs.declared.prints.Print.{Print}
+use Rattle.rgo_goroutine.specs.Acts.declared.prints.Print.{Print}
 use Rattle.rgo_crew.proofs.over.are_numbered.Given as goal
 
 abbrev pub invariant-loop-i : goal.invariant-loop-i

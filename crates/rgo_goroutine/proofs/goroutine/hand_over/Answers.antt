@@ -1,9 +1,9 @@
 use Rattle.std.proofs.Common.{◌≡◌, ◌<◌, ◌∙◌, ◌++◌, List, [], ◌∷◌, ap, append_assoc, refl, reverse, subst, sym}
 use Rattle.std.proofs.lemmas.List.{append-nil, reverse-reverse}
 use Rattle.atomic_table.specs.Seated.{TableId}
-use Rattle.rgo_core_memory.specs.Words.{clock_at}
-use Rattle.rgo_core_rule.specs.Passes.{after_pass}
-use Rattle.rgo_core_rule.specs.declared.accesses.Access.{Access}
+use Rattle.rgo_core.specs.Memory.Words.{clock_at}
+use Rattle.rgo_core.specs.Rule.Passes.{after_pass}
+use Rattle.rgo_core.specs.Rule.declared.accesses.Access.{Access}
 use Rattle.rgo_goroutine.specs.Goroutines.{AllStand, all_seen, rows}
 use Rattle.rgo_goroutine.specs.declared.goroutine.Child.{Child}
 use Rattle.rgo_goroutine.proofs.Handing.{last_first, one_row}

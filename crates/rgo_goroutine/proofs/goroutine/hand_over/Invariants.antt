@@ -1,5 +1,5 @@
 use Rattle.std.proofs.Common.{◌≡◌, ◌++◌, reverse, vec_len}
-use Rattle.rgo_core_rule.specs.Passes.{after_pass}
+use Rattle.rgo_core.specs.Rule.Passes.{after_pass}
 use Rattle.rgo_goroutine.specs.Goroutines.{AllStand, all_seen, rows}
 use Rattle.rgo_goroutine.proofs.goroutine.hand_over.Given as goal
 

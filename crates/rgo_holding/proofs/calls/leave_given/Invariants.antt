@@ -1,5 +1,5 @@
 use Rattle.std.proofs.Common.{drop}
-use Rattle.rgo_region_machine.specs.Owed.{given_names}
+use Rattle.rgo_sound.specs.RegionMachine.Owed.{given_names}
 use Rattle.rgo_holding.specs.declared.frames.Frames.{Frames}
 use Rattle.rgo_holding.specs.Naming.{KeepsRoom}
 use Rattle.rgo_holding.specs.Tables.{IsOrdered}

@@ -1,8 +1,8 @@
 use Rattle.std.proofs.Common.{◌≡◌, ◌∙◌, ◌+◌, ◌-◌, ◌∷◌, [], ℕ, true, false, Some, None, ap, sym, drop, map, reverse, arith, nat_eq, if◌then◌else◌}
 use Rattle.std.proofs.lemmas.List.{reverse-append}
 use Rattle.std.specs.HashMap.{get}
-use Rattle.rgo_region_machine.specs.declared.regions.Region.TheVariants.{Numbered}
-use Rattle.rgo_region_machine.specs.Owed.{twice}
+use Rattle.rgo_sound.specs.RegionMachine.declared.regions.Region.TheVariants.{Numbered}
+use Rattle.rgo_sound.specs.RegionMachine.Owed.{twice}
 use Rattle.rgo_holding.proofs.Twice.{next_seen, seen_in, seen_step, seen_still, since_ok, stands_from_none, stands_from_some, twice_step}
 use Rattle.rgo_holding.proofs.children.twice.Goals as goal
 

@@ -1,7 +1,7 @@
 use Rattle.std.proofs.Common.{◌≡◌, ◌≤◌, ℕ, length, drop, map, reverse, nat_eq}
 use Rattle.std.specs.HashMap.{get}
-use Rattle.rgo_region_machine.specs.declared.regions.Region.TheVariants.{Numbered}
-use Rattle.rgo_region_machine.specs.Owed.{twice}
+use Rattle.rgo_sound.specs.RegionMachine.declared.regions.Region.TheVariants.{Numbered}
+use Rattle.rgo_sound.specs.RegionMachine.Owed.{twice}
 use Rattle.rgo_holding.proofs.Twice.{seen_in}
 use Rattle.rgo_holding.proofs.children.twice.Given as goal
 

@@ -1,8 +1,8 @@
 use Rattle.std.proofs.Common.{◌∷◌, ◌++◌, ◌∙◌, Vec, [], ap, arith, map, sym, take}
 use Rattle.std.proofs.lemmas.List.{map-append}
-use Rattle.rgo_code.specs.Names as names
+use Rattle.rgo_sound.specs.Code.Names as names
 use Rattle.rgo_sound.proofs.Places.{get_some}
-use Rattle.rgo_tac.specs.declared.regions.Class.{Class}
+use Rattle.rgo_sound.specs.Tac.declared.regions.Class.{Class}
 use Rattle.rgo_holding.proofs.Learned.{kept_more}
 use Rattle.rgo_holding.proofs.parameters.formals.Goals as goal
 use Rattle.rgo_holding.proofs.parameters.formals.Goals.{in-Some+in_ok-region_parameters+in_ok-push, in_default}

@@ -1,5 +1,5 @@
 use Rattle.std.proofs.Common.{◌≡◌, map, take}
-use Rattle.rgo_code.specs.Names.{region_parameters}
+use Rattle.rgo_sound.specs.Code.Names.{region_parameters}
 use Rattle.rgo_holding.proofs.parameters.formals.Given as goal
 
 abbrev pub invariant-loop-n : goal.invariant-loop-n

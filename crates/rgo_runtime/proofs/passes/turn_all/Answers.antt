@@ -1,7 +1,7 @@
 use Rattle.std.proofs.Common.{◌<◌, ◌≤◌, ◌++◌, ◌∙◌, ◌∷◌, [], List, ap, append_assoc, arith, get_or, length, set, subst, sym, take}
 use Rattle.std.proofs.lemmas.List.{take_all, take_more_set}
 use Rattle.std.proofs.lemmas.List.Elements.{All-get_or, All-set}
-use Rattle.rgo_core_rule.specs.declared.accesses.Access.{Access}
+use Rattle.rgo_core.specs.Rule.declared.accesses.Access.{Access}
 use Rattle.rgo_goroutine.specs.Goroutines.{IsOf}
 use Rattle.rgo_goroutine.specs.declared.goroutine.Goroutine.{Goroutine}
 use Rattle.rgo_runtime.specs.declared.passes.Passed.{Passed}

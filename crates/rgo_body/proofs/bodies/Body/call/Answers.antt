@@ -3,11 +3,11 @@ use Rattle.std.proofs.lemmas.List.{append-nil}
 use Rattle.rgo_compact.specs.Functions.{IsCompact}
 use Rattle.rgo_holding.specs.Holds.{Holds}
 use Rattle.rgo_holding.specs.Passing.{calling}
-use Rattle.rgo_region_machine.specs.Owed.{entry_removes, formals_of, function_of, result_of}
-use Rattle.rgo_region_machine.specs.States.{Remove}
+use Rattle.rgo_sound.specs.RegionMachine.Owed.{entry_removes, formals_of, function_of, result_of}
+use Rattle.rgo_sound.specs.RegionMachine.States.{Remove}
 use Rattle.rgo_stack.specs.Places.{CanCall}
 use Rattle.rgo_stack.specs.Stacks.{Belongs}
-use Rattle.rgo_tac.specs.declared.regions.Class.{Class}
+use Rattle.rgo_sound.specs.Tac.declared.regions.Class.{Class}
 use Rattle.rgo_body.specs.Bodies.{frames_in}
 use Rattle.rgo_body.specs.declared.bodies.Body.{Body}
 use Rattle.rgo_body.proofs.Calling.{calls_shows}

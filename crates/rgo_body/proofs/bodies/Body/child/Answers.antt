@@ -1,12 +1,12 @@
 use Rattle.std.proofs.Common.{[], ◌∷◌, length, sym, ap, ◌∙◌, subst}
-use Rattle.rgo_code.specs.Code.{Go}
-use Rattle.rgo_code.specs.Lists.{passes_of, removes_of}
+use Rattle.rgo_sound.specs.Code.Code.{Go}
+use Rattle.rgo_sound.specs.Code.Lists.{passes_of, removes_of}
 use Rattle.rgo_compact.specs.Functions.{IsCompact}
 use Rattle.rgo_core_facts.proofs.ControlPasses.{start_shares}
-use Rattle.rgo_core_frames.specs.WordFrames.{word_called}
+use Rattle.rgo_core.specs.Frames.WordFrames.{word_called}
 use Rattle.rgo_holding.specs.Passing.{ArePassed, Begins}
-use Rattle.rgo_region_machine.specs.Owed.{formals_of, function_of, passed_regions}
-use Rattle.rgo_region_machine.specs.States.{top_names}
+use Rattle.rgo_sound.specs.RegionMachine.Owed.{formals_of, function_of, passed_regions}
+use Rattle.rgo_sound.specs.RegionMachine.States.{top_names}
 use Rattle.rgo_stack.specs.Places.{Takes}
 use Rattle.rgo_stack.specs.Stacks.{Belongs, words_from}
 use Rattle.rgo_body.specs.Bodies.{IsFresh}

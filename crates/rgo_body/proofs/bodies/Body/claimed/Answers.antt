@@ -1,5 +1,5 @@
 use Rattle.std.proofs.Common.{suc, refl, sym, ap, ◌∙◌}
-use Rattle.rgo_region_machine.specs.Counts.{Counts}
+use Rattle.rgo_sound.specs.RegionMachine.Counts.{Counts}
 use Rattle.rgo_body.proofs.Creating.{recounted}
 use Rattle.rgo_body.proofs.bodies.Body.claimed.Goals as goal
 

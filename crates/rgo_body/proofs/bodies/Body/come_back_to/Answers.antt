@@ -1,5 +1,5 @@
 use Rattle.std.proofs.Common.{◌++◌, ◌∷◌, List, ℕ, false, arith, length, map, sym, ap, ◌∙◌, refl, subst}
-use Rattle.rgo_region_machine.specs.States.{Duty, Remove, Unprotect}
+use Rattle.rgo_sound.specs.RegionMachine.States.{Duty, Remove, Unprotect}
 use Rattle.rgo_stack.specs.Places.{CanReturn, IsCalledFor}
 use Rattle.rgo_stack.specs.Stacks.{Belongs}
 use Rattle.rgo_body.specs.Bodies.{frames_in}

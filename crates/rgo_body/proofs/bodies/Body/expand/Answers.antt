@@ -1,7 +1,7 @@
 use Rattle.std.proofs.Common.{◌++◌, refl, sym, ap, ◌∙◌, map}
-use Rattle.rgo_code.specs.Lists.{creates_in}
-use Rattle.rgo_region_machine.specs.Owed.{duties_of_op}
-use Rattle.rgo_region_machine.specs.States.{Create}
+use Rattle.rgo_sound.specs.Code.Lists.{creates_in}
+use Rattle.rgo_sound.specs.RegionMachine.Owed.{duties_of_op}
+use Rattle.rgo_sound.specs.RegionMachine.States.{Create}
 use Rattle.rgo_body.proofs.Creating.{expands, no_more, requeued}
 use Rattle.rgo_body.proofs.bodies.Body.expand.Goals as goal
 

@@ -1,5 +1,5 @@
 use Rattle.std.proofs.Common.{◌≡◌, ◌∷◌, List, [], Option, refl, subst, MatchOption}
-use Rattle.rgo_region_machine.specs.States.{Duty}
+use Rattle.rgo_sound.specs.RegionMachine.States.{Duty}
 use Rattle.rgo_body.specs.Queues.{duty_of}
 use Rattle.rgo_body.specs.declared.queues.Duty.{Duty as DutyOf}
 use Rattle.rgo_body.proofs.Attending.{has_done}

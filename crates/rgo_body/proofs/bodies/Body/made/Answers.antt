@@ -1,9 +1,9 @@
 use Rattle.std.proofs.Common.{◌+◌, suc, inl, refl, sym, ap, ◌∙◌, subst}
-use Rattle.rgo_core_memory.specs.Records.{raised}
+use Rattle.rgo_core.specs.Memory.Records.{raised}
 use Rattle.rgo_core_steps.specs.After.{making}
 use Rattle.rgo_holding.specs.Holds.{Holds, region_at}
 use Rattle.rgo_holding.specs.Known.{slot_of}
-use Rattle.rgo_region_machine.specs.Objects.{words as words_in}
+use Rattle.rgo_sound.specs.RegionMachine.Objects.{words as words_in}
 use Rattle.rgo_body.specs.Shows.{Shows}
 use Rattle.rgo_body.specs.declared.bodies.Body.{Body}
 use Rattle.rgo_body.proofs.Acting.{kept_holds, made_shows}

@@ -1,9 +1,9 @@
 use Rattle.std.proofs.Common.{◌≡◌, [], ◌∷◌, length, sym, ap, ◌∙◌, subst, arith}
-use Rattle.rgo_code.specs.Code.{Code}
+use Rattle.rgo_sound.specs.Code.Code.{Code}
 use Rattle.rgo_compact.specs.Functions.{IsCompact}
 use Rattle.rgo_core.specs.Opening.{main_words}
-use Rattle.rgo_core_frames.specs.WordFrames.{bare_all, word_called}
-use Rattle.rgo_region_machine.specs.Owed.{function_of}
+use Rattle.rgo_core.specs.Frames.WordFrames.{bare_all, word_called}
+use Rattle.rgo_sound.specs.RegionMachine.Owed.{function_of}
 use Rattle.rgo_stack.proofs.Lookups.{places}
 use Rattle.rgo_stack.specs.Places.{Takes}
 use Rattle.rgo_stack.specs.Stacks.{Belongs}

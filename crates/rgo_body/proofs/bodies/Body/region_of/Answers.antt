@@ -1,8 +1,8 @@
 use Rattle.std.proofs.Common.{◌∙◌, Some, ap}
 use Rattle.std.specs.Option.{option_map}
-use Rattle.rgo_region_machine.specs.Regions.{class_region}
-use Rattle.rgo_region_machine.specs.States.{top_names}
-use Rattle.rgo_tac.specs.declared.regions.Class.{Class}
+use Rattle.rgo_sound.specs.RegionMachine.Regions.{class_region}
+use Rattle.rgo_sound.specs.RegionMachine.States.{top_names}
+use Rattle.rgo_sound.specs.Tac.declared.regions.Class.{Class}
 use Rattle.rgo_body.proofs.bodies.Body.region_of.Goals as goal
 
 pub returns : goal.returns

@@ -1,5 +1,5 @@
 use Rattle.std.proofs.Common.{refl, subst}
-use Rattle.rgo_region_machine.specs.States.{Remove}
+use Rattle.rgo_sound.specs.RegionMachine.States.{Remove}
 use Rattle.rgo_body.proofs.Attending.{IsKeyOf}
 use Rattle.rgo_body.proofs.Sharing.{keyed_name}
 use Rattle.rgo_body.proofs.Removing.{TellsKept, leaves_in, removes_none}

@@ -1,8 +1,8 @@
 use Rattle.std.proofs.Common.{◌≤◌, drop, length, sym, ap, ◌∙◌, subst}
 use Rattle.std.proofs.lemmas.List.{length-map}
-use Rattle.rgo_core_frames.specs.WordFrames.{bare_all}
-use Rattle.rgo_region_machine.specs.Owed.{caller_duties}
-use Rattle.rgo_region_machine.specs.States.{EndBase}
+use Rattle.rgo_core.specs.Frames.WordFrames.{bare_all}
+use Rattle.rgo_sound.specs.RegionMachine.Owed.{caller_duties}
+use Rattle.rgo_sound.specs.RegionMachine.States.{EndBase}
 use Rattle.rgo_body.proofs.Transfers.{no_caller_below, on_ok}
 use Rattle.rgo_body.proofs.bodies.Body.room_to_return.Goals as goal
 

@@ -1,5 +1,5 @@
 use Rattle.std.proofs.Common.{refl, subst}
-use Rattle.rgo_region_machine.specs.States.{Share}
+use Rattle.rgo_sound.specs.RegionMachine.States.{Share}
 use Rattle.rgo_body.proofs.Attending.{IsKeyOf}
 use Rattle.rgo_body.proofs.Sharing.{TellsShare, keyed_name, shares_in, shares_none}
 use Rattle.rgo_body.proofs.bodies.Body.share.Goals as goal

@@ -1,5 +1,5 @@
 use Rattle.std.proofs.Common.{refl, subst}
-use Rattle.rgo_region_machine.specs.States.{Unprotect}
+use Rattle.rgo_sound.specs.RegionMachine.States.{Unprotect}
 use Rattle.rgo_body.proofs.Attending.{IsKeyOf}
 use Rattle.rgo_body.proofs.Sharing.{keyed_name, unprotects}
 use Rattle.rgo_body.proofs.bodies.Body.unprotect.Goals as goal

@@ -1,6 +1,6 @@
 use Rattle.std.proofs.Common.{◌≡◌, ◌≤◌, ◌+◌, ◌++◌, drop, length, map}
-use Rattle.rgo_region_machine.specs.Owed.{regions_named}
-use Rattle.rgo_region_machine.specs.States as machine
+use Rattle.rgo_sound.specs.RegionMachine.Owed.{regions_named}
+use Rattle.rgo_sound.specs.RegionMachine.States as machine
 use Rattle.rgo_body.proofs.queues.Queue.put_shares.Given as goal
 
 -- the duties of the classes from the i-th on are put

@@ -1,8 +1,8 @@
 use Rattle.std.proofs.Common.{◌∙◌, ap, inl, inr}
 use Rattle.std.specs.Prelude.{is_some}
-use Rattle.rgo_compact.specs.Simple.{operand_count}
-use Rattle.rgo_tac.specs.Ops.{numbers_of}
-use Rattle.rgo_typed.specs.declared.actions.Action.{Action}
+use Rattle.rgo_acts.specs.Compact.Simple.{operand_count}
+use Rattle.rgo_sound.specs.Tac.Ops.{numbers_of}
+use Rattle.rgo_sound.specs.Typed.declared.actions.Action.{Action}
 use Rattle.rgo_goroutine.proofs.Instructing.{come_to}
 use Rattle.rgo_goroutine.proofs.Shaping.{shaped, strict}
 use Rattle.rgo_goroutine.proofs.goroutine.Goroutine.act.Goals as goal

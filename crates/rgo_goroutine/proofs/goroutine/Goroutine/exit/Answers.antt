@@ -1,5 +1,5 @@
 use Rattle.std.proofs.Common.{Some, if◌then◌else◌, refl, subst, sym}
-use Rattle.rgo_machine.specs.declared.picks.End.TheVariants.{Exit}
+use Rattle.rgo_sound.specs.Machine.declared.picks.End.TheVariants.{Exit}
 use Rattle.rgo_core_steps.specs.declared.clock.Mark.TheVariants.{Ended}
 use Rattle.rgo_goroutine.specs.Instructions.{Instructs}
 use Rattle.rgo_goroutine.specs.declared.goroutine.Goroutine.{Goroutine as Goroutine_}

@@ -1,6 +1,6 @@
 use Rattle.std.proofs.Common.{◌∙◌, ◌++◌, List, [], ◌∷◌, ap, append_assoc, sym}
-use Rattle.rgo_core_rule.specs.Passes.{after_pass}
-use Rattle.rgo_core_rule.specs.declared.accesses.Access.{Access}
+use Rattle.rgo_core.specs.Rule.Passes.{after_pass}
+use Rattle.rgo_core.specs.Rule.declared.accesses.Access.{Access}
 use Rattle.rgo_goroutine.specs.Goroutines.{all_seen, record_of, rows}
 use Rattle.rgo_goroutine.proofs.goroutine.Goroutine.give_up.Goals as goal
 

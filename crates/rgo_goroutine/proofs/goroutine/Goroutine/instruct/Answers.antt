@@ -1,5 +1,5 @@
 use Rattle.std.proofs.Common.{◌∙◌, ap, rules, subst}
-use Rattle.rgo_tac.specs.Ops.{numbers_of, operation_of}
+use Rattle.rgo_sound.specs.Tac.Ops.{numbers_of, operation_of}
 use Rattle.rgo_body.specs.Bodies.{HasRoomBehind, frames_in}
 use Rattle.rgo_body.specs.Nexts.{HasNoNext, IsNextOf}
 use Rattle.rgo_body.specs.Programs.{Program}

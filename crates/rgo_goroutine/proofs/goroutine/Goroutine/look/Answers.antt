@@ -1,6 +1,6 @@
 use Rattle.std.proofs.Common.{◌≡◌, refl, subst}
-use Rattle.rgo_core_memory.specs.Words.{clock_at}
-use Rattle.rgo_core_rule.specs.declared.accesses.Kind.TheVariants.{Load}
+use Rattle.rgo_core.specs.Memory.Words.{clock_at}
+use Rattle.rgo_core.specs.Rule.declared.accesses.Kind.TheVariants.{Load}
 use Rattle.rgo_core.specs.Core.{Setup}
 use Rattle.rgo_core.specs.Records.{looked}
 use Rattle.rgo_core_steps.specs.Seats.{HasPossible, Left, mine}

@@ -1,6 +1,6 @@
 use Rattle.std.proofs.Common.{arith, refl}
 use Rattle.rgo_goroutine.specs.declared.turning.Stop.TheVariants as stop
-use Rattle.rgo_machine.specs.declared.turns.Shortage.TheVariants.{Pages}
+use Rattle.rgo_sound.specs.Machine.declared.turns.Shortage.TheVariants.{Pages}
 use Rattle.rgo_goroutine.proofs.Concluding.{counted, ended_then, made, only_told, unmoved}
 use Rattle.rgo_goroutine.proofs.goroutine.Goroutine.make.Goals as goal
 

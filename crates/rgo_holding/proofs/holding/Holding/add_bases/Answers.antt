@@ -1,7 +1,7 @@
 use Rattle.std.proofs.Common.{◌≢◌, None, map, nat_eq, reverse, subst, sym, ◌∙◌}
 use Rattle.std.specs.HashMap.{get}
 use Rattle.std.proofs.lemmas.List.{take_all}
-use Rattle.rgo_region_machine.specs.declared.regions.Region.TheVariants.{Numbered}
+use Rattle.rgo_sound.specs.RegionMachine.declared.regions.Region.TheVariants.{Numbered}
 use Rattle.rgo_holding.specs.Learning.{ShowsFresh}
 use Rattle.rgo_holding.proofs.Starting.{all_at, bases_more}
 use Rattle.rgo_holding.proofs.holding.Holding.add_bases.Goals as goal

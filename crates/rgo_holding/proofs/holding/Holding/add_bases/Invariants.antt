@@ -1,6 +1,6 @@
 use Rattle.std.proofs.Common.{◌≡◌, ℕ, List, [], map, nat_eq, reverse, take}
 use Rattle.std.specs.HashMap.{get}
-use Rattle.rgo_region_machine.specs.declared.regions.Region.TheVariants.{Numbered}
+use Rattle.rgo_sound.specs.RegionMachine.declared.regions.Region.TheVariants.{Numbered}
 use Rattle.rgo_holding.specs.Changes.{SameRegions}
 use Rattle.rgo_holding.specs.Learning.{ShowsFresh, SlotsKnown, Tracks}
 use Rattle.rgo_holding.proofs.holding.Holding.add_bases.Given as goal

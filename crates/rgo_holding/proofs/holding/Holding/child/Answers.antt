@@ -1,10 +1,10 @@
 use Rattle.std.proofs.Common.{◌≡◌, ℕ, List, None, Option, [], ap, map, nat_eq, refl, reverse, rules, subst, sym, ◌∙◌}
 use Rattle.std.specs.HashMap.{get}
-use Rattle.rgo_region_machine.specs.Owed.{passed_regions, twice}
-use Rattle.rgo_region_machine.specs.States.{environment_of, top_names}
-use Rattle.rgo_region_machine.specs.declared.regions.Region.TheVariants.{Numbered}
-use Rattle.rgo_region_machine.specs.declared.regions.Region.{Region}
-use Rattle.rgo_tac.specs.declared.regions.Class.TheVariants.{NoClass}
+use Rattle.rgo_sound.specs.RegionMachine.Owed.{passed_regions, twice}
+use Rattle.rgo_sound.specs.RegionMachine.States.{environment_of, top_names}
+use Rattle.rgo_sound.specs.RegionMachine.declared.regions.Region.TheVariants.{Numbered}
+use Rattle.rgo_sound.specs.RegionMachine.declared.regions.Region.{Region}
+use Rattle.rgo_sound.specs.Tac.declared.regions.Class.TheVariants.{NoClass}
 use Rattle.rgo_holding.specs.declared.frames.Frames.{Frames}
 use Rattle.rgo_holding.specs.Holds.{region_at}
 use Rattle.rgo_holding.specs.Learning.{AreGiven, Learned, ShowsFresh, SlotsKnown}

@@ -1,5 +1,5 @@
 use Rattle.std.proofs.Common.{ap, nat_lt, sym, ◌∙◌}
-use Rattle.rgo_region_machine.specs.Duties.{guards}
+use Rattle.rgo_sound.specs.RegionMachine.Duties.{guards}
 use Rattle.rgo_holding.specs.Known.{entry_of}
 use Rattle.rgo_holding.proofs.Changing.{region_entry}
 use Rattle.rgo_holding.proofs.CountLemmas.{guarded}

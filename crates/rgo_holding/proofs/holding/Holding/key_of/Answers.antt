@@ -1,6 +1,6 @@
 use Rattle.std.proofs.Common.{Some, ap, option_map, sym, ◌∙◌}
-use Rattle.rgo_region_machine.specs.Regions.{class_region}
-use Rattle.rgo_region_machine.specs.States.{top_names}
+use Rattle.rgo_sound.specs.RegionMachine.Regions.{class_region}
+use Rattle.rgo_sound.specs.RegionMachine.States.{top_names}
 use Rattle.rgo_holding.proofs.holding.Holding.key_of.Goals as goal
 
 pub returns-in-Name : goal.returns-in-Name

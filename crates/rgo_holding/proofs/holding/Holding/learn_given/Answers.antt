@@ -1,6 +1,6 @@
 use Rattle.std.proofs.Common.{Some, [], ap, option_map, refl, subst, sym, ◌∙◌}
-use Rattle.rgo_region_machine.specs.States.{environment_of}
-use Rattle.rgo_tac.specs.declared.regions.Class.TheVariants.{NoClass}
+use Rattle.rgo_sound.specs.RegionMachine.States.{environment_of}
+use Rattle.rgo_sound.specs.Tac.declared.regions.Class.TheVariants.{NoClass}
 use Rattle.rgo_holding.specs.Holds.{region_at}
 use Rattle.rgo_holding.specs.Learning.{IsGiven}
 use Rattle.rgo_holding.proofs.Starting.{fresh_global}

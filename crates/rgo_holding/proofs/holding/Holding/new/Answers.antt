@@ -1,6 +1,6 @@
 use Rattle.std.proofs.Common.{Err, IfOk, Ok, Result, [], refl}
-use Rattle.rgo_tac.specs.declared.regions.Class.TheVariants.{NoClass}
-use Rattle.rgo_region_machine.specs.States.{environment_of}
+use Rattle.rgo_sound.specs.Tac.declared.regions.Class.TheVariants.{NoClass}
+use Rattle.rgo_sound.specs.RegionMachine.States.{environment_of}
 use Rattle.rgo_holding.proofs.holding.Holding.new.Goals as goal
 
 of_ok : {A E : Type 0} (r : Result A E) (P Q : A → Type 0) → ((a : A) → P a → Q a) → IfOk r P → IfOk r Q

@@ -1,7 +1,7 @@
 use Rattle.std.proofs.Common.{ap, ◌∙◌}
 use Rattle.std.proofs.lemmas.List.{take_all}
-use Rattle.rgo_region_machine.specs.Owed.{passed_regions}
-use Rattle.rgo_region_machine.specs.States.{top_names}
+use Rattle.rgo_sound.specs.RegionMachine.Owed.{passed_regions}
+use Rattle.rgo_sound.specs.RegionMachine.States.{top_names}
 use Rattle.rgo_holding.proofs.Starting.{regions_more}
 use Rattle.rgo_holding.proofs.holding.Holding.passed_regions.Goals as goal
 

@@ -1,7 +1,7 @@
 use Rattle.std.proofs.Common.{◌≡◌, ℕ, List, take}
 use Rattle.rgo_core_memory.specs.Records.{Fill}
-use Rattle.rgo_region_machine.specs.Owed.{passed_regions}
-use Rattle.rgo_region_machine.specs.States.{Holder, top_names}
+use Rattle.rgo_sound.specs.RegionMachine.Owed.{passed_regions}
+use Rattle.rgo_sound.specs.RegionMachine.States.{Holder, top_names}
 use Rattle.rgo_holding.specs.Holds.{Holds}
 use Rattle.rgo_holding.proofs.holding.Holding.passed_regions.Given as goal
 
