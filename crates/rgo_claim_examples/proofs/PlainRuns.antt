@@ -1,66 +1,21 @@
 -- A region run, but for its regions, its print and its ends: one step of the three-address machine for each instruction.
-use Rattle.std.proofs.Common.{◌≡◌, ℕ, ◌+◌, Bool, true, false, List, [], ◌∷◌, length, Option, Some, None, refl, sym, ap, ◌∙◌}
-use Rattle.std.proofs.Common.{subst, arith, slice_get, if◌then◌else◌}
-use Rattle.std.specs.Prelude.{nat_eq, option_and_then}
+use Rattle.std.proofs.Common.{◌≡◌, ℕ, ◌+◌, List, [], ◌∷◌, length, Option, Some, None, refl, sym, ap, ◌∙◌}
+use Rattle.std.proofs.Common.{subst, arith, slice_get}
+use Rattle.std.specs.Prelude.{option_and_then}
 use Rattle.std.proofs.lemmas.Option.{same_Some}
 use Rattle.rgo_machine.specs.declared.picks.Pick.{Pick}
 use Rattle.rgo_machine.specs.Runs.{run}
 use Rattle.rgo_tac.specs.Tac.{TacState, tac}
 use Rattle.rgo_code.specs.Code.{Code}
 use Rattle.rgo_code.specs.Erasure.{erased}
-use Rattle.rgo_region_machine.specs.Duties.{guards}
 use Rattle.rgo_region_machine.specs.Machine.{Acknowledge, Attend, Event, Finish, Instruct, MakeOffer, TakePage}
 use Rattle.rgo_region_machine.specs.Machine.{region_step}
-use Rattle.rgo_region_machine.specs.Regions.{RegionInfo, bound, removed_once, unbind}
-use Rattle.rgo_region_machine.specs.States.{Create, Duty, EndBase, Holder, Protect, RegionState, Remove, Share, Unprotect}
-use Rattle.rgo_region_machine.specs.States.{top_names, with_top}
-use Rattle.rgo_region_machine.specs.declared.regions.Region.{Region}
-use Rattle.rgo_region_machine.specs.declared.regions.Region.TheVariants.{Global as GlobalRegion, Numbered}
-use Rattle.rgo_sound.specs.Tally.{no_share, share_of, share_of_duty, share_of_first, share_of_holder, share_of_last}
-use Rattle.rgo_sound.specs.Tally.{share_of_named, share_of_plain, share_of_removal}
+use Rattle.rgo_region_machine.specs.States.{RegionState}
+use Rattle.rgo_sound.specs.Tally.{share_of}
+use Rattle.rgo_sound.specs.Tally.{share_of_plain}
 use Rattle.rgo_sound.proofs.ErasureLemmas.{Follows, Keeps, Yields, step_follows}
-use Rattle.rgo_sound.proofs.Tally.{tally_adds}
+use Rattle.rgo_sound.proofs.Tally.{none_of_holder, tally_adds}
 use Rattle.rgo_claim_examples.proofs.Quiet.{quiet, quiet_of, quiet_step}
-
--- ---- only an instruction is a step
-
-none_of_last : (o : Option RegionInfo) → (share_of_last o).steps ≡ 0
-none_of_last None = refl
-none_of_last (Some info) = by (nat_eq info.stakes 1)
-  where
-    by : (b : Bool) → (if b then record no_share { removed = 1; returned = info.pages } else no_share).steps ≡ 0
-    by true = refl
-    by false = refl
-
-none_of_removal : (s : RegionState) (h : Holder) (r : Region) → (share_of_removal s h r).steps ≡ 0
-none_of_removal s h GlobalRegion = refl
-none_of_removal s h (Numbered r) = by (guards h.base h.environments (Numbered r))
-  where
-    by : (b : Bool) → (if b then no_share else share_of_last (slice_get s.regions r)).steps ≡ 0
-    by true = refl
-    by false = none_of_last (slice_get s.regions r)
-
-none_of_named : (s : RegionState) (h : Holder) (o : Option Region) → (share_of_named s h o).steps ≡ 0
-none_of_named s h None = refl
-none_of_named s h (Some r) = none_of_removal s h r
-
-none_of_duty : (s : RegionState) (h : Holder) (d : Duty) → (share_of_duty s h d).steps ≡ 0
-none_of_duty s h (Create k) = refl
-none_of_duty s h (Share k) = refl
-none_of_duty s h (Protect k) = refl
-none_of_duty s h (Unprotect k) = refl
-none_of_duty s h (Remove k) =
-    none_of_named s (record h { environments = with_top h.environments (unbind (top_names h.environments) k) })
-    (bound (top_names h.environments) k)
-none_of_duty s h (EndBase r) = none_of_removal s (record h { base = removed_once r h.base }) r
-
-none_of_first : (s : RegionState) (h : Holder) (ds : List Duty) → (share_of_first s h ds).steps ≡ 0
-none_of_first s h [] = refl
-none_of_first s h (d ∷ ds) = none_of_duty s (record h { duties = ds }) d
-
-none_of_holder : (s : RegionState) (o : Option Holder) → (share_of_holder s o).steps ≡ 0
-none_of_holder s None = refl
-none_of_holder s (Some h) = none_of_first s h h.duties
 
 -- ---- one event
 

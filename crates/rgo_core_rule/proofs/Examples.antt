@@ -344,8 +344,10 @@ move_examples = record {
     records = refl;
     slots = refl;
     seen = refl;
+    own = λ g c has. let t = in_row 0 main_record g c has in rw (← t.0, ← t.1) refl;
   };
   not_glanced = λ t. not_one t.between t.seen;
+  miscounted = λ t. apart 0 1 (t.own 1 new_adder (0, refl)) (omega arith);
 }
   where
     start : Counts 8 opening (new_adder ∷ []) []

@@ -9,7 +9,7 @@ use Rattle.rgo_core_rule.specs.Histories.{access, glance, accesses_by}
 use Rattle.rgo_core_rule.specs.Lists.{flattened}
 use Rattle.rgo_core_rule.specs.Rule.{Account, Explained}
 use Rattle.rgo_core_rule.specs.Steps.{Moved, MovedChild, Move, MoveEither, Told, ToldChild, Glanced}
-use Rattle.rgo_core_rule.specs.Views.{Words, Me, Alone, Rows, view}
+use Rattle.rgo_core_rule.specs.Views.{Has, Words, Me, Alone, Rows, view}
 use Rattle.rgo_core_rule.specs.declared.accesses.Access.{Access}
 use Rattle.rgo_core_rule.specs.declared.accesses.Kind.{Kind}
 use Rattle.rgo_core_rule.specs.declared.accesses.Kind.TheVariants.{Load}
@@ -186,12 +186,14 @@ module _ {E R : Type 0} (accesses : R → ℕ) (Explains : List ℕ → List R �
       (move s.words kept.recs (flattened kept.account.gains) kept.account.explains (its_record s kept id g c m i f kind alone at) fits)
 
   -- a load of word 0 by any seat
-  pub lifts_glance : (cells id : ℕ) (m : Me R) → table.Allows Holds cells id m 0 (λ n. n) (Glanced m)
+  pub lifts_glance : (cells id : ℕ) (m : Me R) → table.Allows Holds cells id m 0 (λ n. n) (Glanced accesses m)
   lifts_glance cells id m s kept homes at fits =
       let n : ℕ = slice_index s.words 0 in
       let p = kept.aware.seen id m.0 at in
       let history = kept.history ++ glance Load n ∷ [] in
-      let w : View R = view m.0.records history in (
+      let w : View R = view m.0.records history in
+      let own : (h : ℕ) (x : R) → Has m.0.records h x → accesses x ≡ accesses_by h history =
+      λ h x has. kept.account.counted h x (kept.owned.here id m.0 h x at has).1 ∙ sym (by_none h kept.history Load n) in (
         w,
         table.keeps,
         tt,
@@ -203,12 +205,13 @@ module _ {E R : Type 0} (accesses : R → ℕ) (Explains : List ℕ → List R �
           owned = owned_same s.views kept.recs kept.owner kept.owned id m.0 w at refl;
           aware = aware_set accesses s.views history id w (aware_longer accesses s.views kept.history (glance Load n) kept.aware)
               ([], append-nil history)
-              (λ h x has. kept.account.counted h x (kept.owned.here id m.0 h x at has).1 ∙ sym (by_none h kept.history Load n));
+              own;
         },
         record {
           between = p.0;
           records = refl;
           slots = refl;
           seen = ap (λ (z : List Access). z ++ glance Load n ∷ []) (sym p.1);
+          own = own;
         },
       )

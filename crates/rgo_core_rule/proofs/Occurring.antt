@@ -1,10 +1,8 @@
 -- The record after an access, or after a change without one, is possible.
-use Rattle.std.proofs.Common.{◌≡◌, ◌⊎◌, ℕ, List, [], ◌∷◌, ◌++◌, length, set, inl, inr, ⊎_elim, ap, sym, subst, ◌∙◌}
-use mathlib.Core.Option.{some}
-use lib.ListN.{get_elem?}
+use Rattle.std.proofs.Common.{◌⊎◌, ℕ, List, [], ◌∷◌, ◌++◌, set, inl, inr, ⊎_elim, ap, sym, subst, ◌∙◌}
 use Rattle.std.proofs.Math.ListN.{length-set}
 use Rattle.atomic_table.proofs.Lists.{at_last, at_longer, set_here}
-use Rattle.rgo_core_rule.specs.Steps.{Leaves, Move, MoveEither, Occurs, Still, Told, ToldChild}
+use Rattle.rgo_core_rule.specs.Steps.{Move, MoveEither, Occurs, Still, Told, ToldChild}
 use Rattle.rgo_core_rule.specs.Views.{Has, Me, Rows, number_in, number_of, record_in, record_of}
 use Rattle.rgo_core_rule.specs.declared.accesses.Kind.{Kind}
 use Rattle.rgo_core_rule.proofs.Lists.{at_below}

@@ -217,5 +217,7 @@ pub record MoveExamples : Type 0 where
   -- the seat has no record of the child
   pub untold_child : ToldChild accesses 0 DrawNumber 1 (λ n. suc n) (λ n d child. child ≡ new_adder)
       (view ((0, added new_adder) ∷ []) (adds 0 0 ∷ []), []) 1 (view ((0, main_record) ∷ []) two, []) → ⊥
-  pub glanced : Glanced before_add 2 (view ((1, new_adder) ∷ []) (three ++ glance Load 2 ∷ []), [])
-  pub not_glanced : Glanced before_add 2 (view ((1, new_adder) ∷ []) three, []) → ⊥
+  pub glanced : Glanced accesses (view ((0, main_record) ∷ []) two, []) 2 (view ((0, main_record) ∷ []) (three ++ glance Load 2 ∷ []), [])
+  pub not_glanced : Glanced accesses before_add 2 (view ((1, new_adder) ∷ []) three, []) → ⊥
+  -- the seat has seen an access of its goroutine that the record does not count
+  pub miscounted : Glanced accesses before_add 2 (view ((1, new_adder) ∷ []) (three ++ glance Load 2 ∷ []), []) → ⊥

@@ -45,19 +45,22 @@ pub fn close<R, K, X: Explanation<R, K>>(
 }
 
 /// A load of word 0 by any seat.
-pub struct Glances;
-
-impl<R> Play<(), View<R>> for Glances {
-    ghost then = { λ s m n w. Glanced m n w };
+pub struct Glances<K, X> {
+    of: PhantomData<(K, X)>,
 }
 
-/// A load of word 0 that is of no goroutine: the seat has then seen all accesses so far.
+impl<R, K, X: Explanation<R, K>> Play<(), View<R>> for Glances<K, X> {
+    ghost then = { λ s m n w. Glanced X.accesses m n w };
+}
+
+/// A load of word 0 that is of no goroutine: the seat has then seen all accesses so far, among them all of the goroutines whose
+/// records it has.
 pub fn glance<R, K, X: Explanation<R, K>>(table: &Cells<R, K, X>, seat: &mut Chair<R>) -> u64
     requires own { (seat.old.table_id ≡ table.now.shared.table_id) × (0 < table.now.shared.table_id.words) }
     ensures own { (seat.new.table_id ≡ seat.old.table_id) × (seat.new.id ≡ seat.old.id) }
-    ensures glanced { Glanced seat.old.me result seat.new.me }
+    ensures glanced { Glanced X.accesses seat.old.me result seat.new.me }
 {
-    table.shared.load::<Glances>(seat, 0)
+    table.shared.load::<Glances<K, X>>(seat, 0)
 }
 
 fn cut_as<R, K, X: Explanation<R, K>, T: Parting<R>, A>(

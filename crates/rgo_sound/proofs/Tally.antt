@@ -385,3 +385,43 @@ pub tally_adds : TallyAdds
 tally_adds code page_words s t event e = adds_counts s t (share_of code s event)
     (yields_is {P = Adds s (share_of code s event)} (region_step code page_words s event) t
     (adds_step s code page_words event) e)
+
+-- ---- only an instruction is a step: what a goroutine does with a region is none
+
+none_of_last : (o : Option RegionInfo) → (share_of_last o).steps ≡ 0
+none_of_last None = refl
+none_of_last (Some info) = by (nat_eq info.stakes 1)
+  where
+    by : (b : Bool) → (if b then record no_share { removed = 1; returned = info.pages } else no_share).steps ≡ 0
+    by true = refl
+    by false = refl
+
+none_of_removal : (s : RegionState) (h : Holder) (r : Region) → (share_of_removal s h r).steps ≡ 0
+none_of_removal s h GlobalRegion = refl
+none_of_removal s h (Numbered r) = by (guards h.base h.environments (Numbered r))
+  where
+    by : (b : Bool) → (if b then no_share else share_of_last (slice_get s.regions r)).steps ≡ 0
+    by true = refl
+    by false = none_of_last (slice_get s.regions r)
+
+none_of_named : (s : RegionState) (h : Holder) (o : Option Region) → (share_of_named s h o).steps ≡ 0
+none_of_named s h None = refl
+none_of_named s h (Some r) = none_of_removal s h r
+
+none_of_duty : (s : RegionState) (h : Holder) (d : Duty) → (share_of_duty s h d).steps ≡ 0
+none_of_duty s h (Create k) = refl
+none_of_duty s h (Share k) = refl
+none_of_duty s h (Protect k) = refl
+none_of_duty s h (Unprotect k) = refl
+none_of_duty s h (Remove k) =
+    none_of_named s (record h { environments = with_top h.environments (unbind (top_names h.environments) k) })
+    (bound (top_names h.environments) k)
+none_of_duty s h (EndBase r) = none_of_removal s (record h { base = removed_once r h.base }) r
+
+none_of_first : (s : RegionState) (h : Holder) (ds : List Duty) → (share_of_first s h ds).steps ≡ 0
+none_of_first s h [] = refl
+none_of_first s h (d ∷ ds) = none_of_duty s (record h { duties = ds }) d
+
+pub none_of_holder : (s : RegionState) (o : Option Holder) → (share_of_holder s o).steps ≡ 0
+none_of_holder s None = refl
+none_of_holder s (Some h) = none_of_first s h h.duties
