@@ -1,7 +1,6 @@
 -- of the crates below, for those above
 pub use Rattle.rgo_chan.proofs as Chan
 pub use Rattle.rgo_core_facts.proofs as Facts
-
 pub mod ActorExamples
 pub mod AtChannels
 pub mod Attending

@@ -1,7 +1,6 @@
 -- of the crates below, for those above
 pub use Rattle.rgo_compact.specs as Compact
 pub use Rattle.rgo_core_facts.specs as Facts
-
 pub mod ActorExamples
 pub mod Actors
 pub mod Attending

@@ -13,12 +13,12 @@ ghost use Rattle.rgo_acts.specs.DutyExamples.{DutyExamples};
 
 use crate::actors::{Actor, after, within};
 use crate::runs::Run;
+use rgo_body::pages::releasing;
 use rgo_body::{Body, Duty, Program};
 use rgo_core_steps::counting::Steps;
 use rgo_counts::stakes::Left;
 use rgo_counts::{creation, stakes};
 use rgo_holding::Key;
-use rgo_body::pages::releasing;
 use std::sync::ledger::Ledger;
 
 /// What became of a duty.

@@ -27,13 +27,13 @@ ghost use Rattle.rgo_acts.specs.Ready.{IsBefore};
 use crate::actors::{Actor, after, within};
 use crate::runs::Run;
 use rgo_body::Next;
-use rgo_core::table::{RunSeat, RunTable};
+use rgo_body::pages::claiming::claim_from;
 use rgo_core::memory::layout::{TableSizes, cell_at};
+use rgo_core::table::{RunSeat, RunTable};
 use rgo_core_steps::counting::Steps;
 use rgo_core_steps::memory;
 use rgo_holding::{Key, Page};
 use rgo_sound::memory::Trap;
-use rgo_body::pages::claiming::claim_from;
 use std::sync::ledger::Ledger;
 
 /// What came of an instruction that makes an object.

@@ -1,6 +1,5 @@
 -- of the crates below, for those above
 pub use Rattle.rgo_pages.proofs as Pages
-
 pub mod Acting
 pub mod Attending
 pub mod Calling

@@ -2,7 +2,6 @@
 pub use Rattle.rgo_stack.specs.Loop as Loop
 pub use Rattle.rgo_pages.specs as Pages
 pub use Rattle.rgo_stack.specs as Stack
-
 pub mod Programs
 pub mod Nexts
 pub mod Queues

@@ -30,5 +30,5 @@ pub use queues::Duty;
 pub use rgo_stack::NoCall;
 
 // The crates below that those above name too.
-pub use rgo_stack::looping as looping;
 pub use rgo_pages as pages;
+pub use rgo_stack::looping as looping;

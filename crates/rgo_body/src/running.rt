@@ -21,12 +21,12 @@ ghost use Rattle.rgo_body.specs.declared.bodies.Side.TheVariants.{AtRest};
 use crate::bodies::Body;
 use crate::nexts::Next;
 use crate::programs::Program;
-use rgo_core::table::RunSeat;
 use rgo_core::frames::words::{binary, negated};
-use rgo_stack::looping::Heap;
-use rgo_stack::Ran;
+use rgo_core::table::RunSeat;
 use rgo_sound::tac::Operands;
 use rgo_sound::typed::Action;
+use rgo_stack::Ran;
+use rgo_stack::looping::Heap;
 
 impl Body {
     /// Makes instructions that need at most an access to a word, at most `at_most`. It stops before that only where the goroutine has no

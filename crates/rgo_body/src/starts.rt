@@ -19,8 +19,8 @@ use crate::counts::Counts;
 use crate::nexts::Next;
 use crate::programs::Program;
 use crate::queues::{Kind, Queue};
-use rgo_sound::code::{Code, CodeFn};
 use rgo_holding::Holding;
+use rgo_sound::code::{Code, CodeFn};
 use rgo_stack::Stack;
 use std::alloc::{AllocError, Global};
 

@@ -12,8 +12,8 @@ ghost use Rattle.rgo_core_steps.specs.Calls.{IsSeatIn};
 ghost use Rattle.rgo_core_steps.specs.Seats.{HasOne, HasPossible, Settles, mine, settled};
 
 use crate::answers::Tried;
-use rgo_core::table::{RunSeat, RunTable};
 use rgo_core::channels::controls::{count, is_closed, is_locked};
+use rgo_core::table::{RunSeat, RunTable};
 use rgo_core_steps::channels::{commit_acknowledge, commit_close, control, lock, own_control};
 use rgo_core_steps::counting::Steps;
 use std::sync::ledger::Ledger;

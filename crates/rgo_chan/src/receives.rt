@@ -17,8 +17,8 @@ ghost use Rattle.rgo_core_steps.specs.Seats.{HasOne, HasPossible, Settles, mine,
 
 use crate::answers::{Tried, has_value, is_empty};
 use crate::looks::look;
-use rgo_core::table::{RunSeat, RunTable};
 use rgo_core::channels::controls::{head, is_closed, is_locked};
+use rgo_core::table::{RunSeat, RunTable};
 use rgo_core_steps::channels::{commit_meet, commit_receive, commit_zero, load_cell, lock};
 use rgo_core_steps::counting::Steps;
 use std::sync::ledger::Ledger;

@@ -17,8 +17,8 @@ ghost use Rattle.rgo_core_steps.specs.Seats.{HasOne, HasPossible, Settles, mine,
 
 use crate::answers::{Tried, is_full};
 use crate::looks::look;
-use rgo_core::table::{RunSeat, RunTable};
 use rgo_core::channels::controls::{free_cell, is_closed, is_locked};
+use rgo_core::table::{RunSeat, RunTable};
 use rgo_core_steps::channels::{commit_offer, commit_send, lock, store_cell};
 use rgo_core_steps::counting::Steps;
 use std::sync::ledger::Ledger;

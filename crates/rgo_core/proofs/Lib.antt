@@ -3,7 +3,6 @@ pub use Rattle.rgo_core_channels.proofs as Channels
 pub use Rattle.rgo_core_frames.proofs as Frames
 pub use Rattle.rgo_core_memory.proofs as Memory
 pub use Rattle.rgo_core_rule.proofs as Rule
-
 pub mod Lists
 pub mod Counting
 pub mod Runs

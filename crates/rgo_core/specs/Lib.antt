@@ -3,7 +3,6 @@ pub use Rattle.rgo_core_channels.specs as Channels
 pub use Rattle.rgo_core_frames.specs as Frames
 pub use Rattle.rgo_core_memory.specs as Memory
 pub use Rattle.rgo_core_rule.specs as Rule
-
 pub mod Records
 pub mod Runs
 pub mod Causes

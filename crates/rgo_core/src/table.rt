@@ -18,12 +18,12 @@ ghost use Rattle.rgo_sound.specs.RegionMachine.Machine.{Event as RegionEvent};
 
 use crate::records::Record;
 use atomic_table::Closed;
-use rgo_sound::code::Checked;
 use rgo_core_frames::constants::constants_fit;
 use rgo_core_memory::layout::{TableSizes, all_words, count_at};
 use rgo_core_rule::rule::{Cells, Chair, Explanation};
 use rgo_core_rule::seats;
 use rgo_core_rule::steps::load;
+use rgo_sound::code::Checked;
 use rgo_sound::machine::{Limits, Sizes};
 use std::alloc::{AllocError, Global};
 use std::marker::Brand;

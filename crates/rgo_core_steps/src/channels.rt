@@ -26,10 +26,10 @@ ghost use Rattle.rgo_core_steps.specs.ChannelExamples.{ChannelExamples};
 ghost use Rattle.rgo_core_steps.specs.Channels.{CanAcknowledge, CanClose, CanLoadCell, CanMeet, CanOffer, CanReceive, CanReceiveZero, CanSend, CanStoreCell, ShowsCapacity, ShowsControl, ShowsOwnControl, found_by, value_by};
 ghost use Rattle.rgo_core_steps.specs.Seats.{HasOne, HasPossible, IsSeatOf, Left, Settles, Stored, mine, settled};
 
-use rgo_core::records::Record;
-use rgo_core::table::{ByRuns, Plan, RunSeat, RunTable};
 use rgo_core::channels::controls::without_oldest;
+use rgo_core::records::Record;
 use rgo_core::rule::steps::{compare_exchange, load, store};
+use rgo_core::table::{ByRuns, Plan, RunSeat, RunTable};
 use std::marker::Brand;
 
 // ---- loads

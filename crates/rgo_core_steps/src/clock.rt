@@ -19,8 +19,8 @@ ghost use Rattle.rgo_core_steps.specs.Prints.{IsAtPrint};
 ghost use Rattle.rgo_core_steps.specs.Seats.{HasOne, HasPossible, IsSeatOf, Left, Settles, settled};
 
 use rgo_core::records::Record;
-use rgo_core::table::{ByRuns, Plan, RunSeat, RunTable};
 use rgo_core::rule::steps::{fetch_add, fetch_or, load};
+use rgo_core::table::{ByRuns, Plan, RunSeat, RunTable};
 use rgo_sound::machine::End;
 use rgo_sound::region_machine::Limit;
 use std::marker::Brand;

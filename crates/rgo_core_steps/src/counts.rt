@@ -18,10 +18,10 @@ ghost use Rattle.rgo_core_steps.specs.Counts.{IsCreating, IsLeaving, IsSharing, 
 ghost use Rattle.rgo_core_steps.specs.Layouts.{HasLayout};
 ghost use Rattle.rgo_core_steps.specs.Seats.{HasOne, HasPossible, Left, Settles, Stored, mine, settled};
 
-use rgo_core::records::Record;
-use rgo_core::table::{ByRuns, Plan, RunSeat, RunTable};
 use rgo_core::memory::layout::{TableSizes, count_at};
+use rgo_core::records::Record;
 use rgo_core::rule::steps::{compare_exchange, fetch_add, fetch_sub, store};
+use rgo_core::table::{ByRuns, Plan, RunSeat, RunTable};
 use std::marker::Brand;
 
 /// Whether a slot looks free, to nobody in particular: another goroutine may take it at once. It serves to begin a search.

@@ -17,8 +17,8 @@ ghost use Rattle.rgo_core_steps.specs.Making.{IsNewWord, NewPoints, filling};
 ghost use Rattle.rgo_core_steps.specs.Seats.{HasOne, HasPossible, IsSeatOf, Left, Settles, Stored, settled};
 
 use rgo_core::records::Record;
-use rgo_core::table::{ByRuns, Plan, RunSeat, RunTable};
 use rgo_core::rule::steps;
+use rgo_core::table::{ByRuns, Plan, RunSeat, RunTable};
 use std::marker::Brand;
 
 /// Loads a word as the next instruction: a field, an element, the length of a slice or a package variable. If it is a pointer, a

@@ -10,8 +10,8 @@ ghost use Rattle.rgo_core_steps.specs.Seats.{HasOne, HasPossible, IsSeatOf, Sett
 ghost use Rattle.rgo_core_steps.specs.Starts.{HasDrawn, IsAtStart};
 
 use rgo_core::records::Record;
-use rgo_core::table::{ByRuns, Plan, RunSeat, RunTable};
 use rgo_core::rule::steps::fetch_add_start;
+use rgo_core::table::{ByRuns, Plan, RunSeat, RunTable};
 use rgo_sound::machine::Limits;
 use std::marker::Brand;
 

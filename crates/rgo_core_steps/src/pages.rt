@@ -24,10 +24,10 @@ ghost use Rattle.rgo_core_steps.specs.Making.{IsCalm, NeedsPage};
 ghost use Rattle.rgo_core_steps.specs.Pages.{tries_page};
 ghost use Rattle.rgo_core_steps.specs.Seats.{HasOne, HasPossible, Left, Settles, Stored, mine, settled};
 
-use rgo_core::records::Record;
-use rgo_core::table::{ByRuns, Plan, RunSeat, RunTable};
 use rgo_core::memory::layout::{TableSizes, head_at, next_at, state_at};
+use rgo_core::records::Record;
 use rgo_core::rule::steps::{compare_exchange, load, store, swap};
+use rgo_core::table::{ByRuns, Plan, RunSeat, RunTable};
 use std::marker::Brand;
 
 /// Whether a page looks free, to nobody in particular: another goroutine may claim it at once. It serves to begin a search.

@@ -7,8 +7,8 @@ ghost use Rattle.rgo_core.specs.Rule.Views.{longer, number_of, view};
 ghost use Rattle.rgo_core_steps.specs.Seats.{HasTwo, IsSeatOf, mine, other};
 
 use rgo_core::records::Record;
-use rgo_core::table::{ByRuns, Plan, RunSeat, RunTable};
 use rgo_core::rule::seats::{part, retire};
+use rgo_core::table::{ByRuns, Plan, RunSeat, RunTable};
 
 /// The record of a goroutine that has started goes to a seat of its own, which has seen the same accesses.
 pub fn split(table: &RunTable, seat: &mut RunSeat, number: u64) -> RunSeat

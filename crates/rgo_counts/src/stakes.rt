@@ -12,8 +12,8 @@ ghost use Rattle.rgo_core_steps.specs.Layouts.{HasLayout};
 ghost use Rattle.rgo_core_steps.specs.Seats.{HasOne, HasPossible, Left as HasLeft, Settles, Stored, mine, settled};
 ghost use Rattle.rgo_counts.specs.declared.stakes.Left.TheVariants.{Last};
 
-use rgo_core::table::{RunSeat, RunTable};
 use rgo_core::memory::layout::TableSizes;
+use rgo_core::table::{RunSeat, RunTable};
 use rgo_core_steps::counting::Steps;
 use rgo_core_steps::counts;
 use std::sync::ledger::Ledger;

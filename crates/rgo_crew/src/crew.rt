@@ -11,10 +11,10 @@ ghost use Rattle.rgo_goroutine.specs.Instructions.{HasPages};
 
 use crate::errors::CrewError;
 use crate::over::{Over, Tally};
-use rgo_goroutine::acts::prints::Print;
-use rgo_goroutine::acts::runs::Run;
 use rgo_core::table::RunSeat;
 use rgo_core_steps::counting::Steps;
+use rgo_goroutine::acts::prints::Print;
+use rgo_goroutine::acts::runs::Run;
 use rgo_goroutine::goroutine::Goroutine;
 use rgo_goroutine::turning::{Stop, Turned};
 use std::alloc::{AllocError, Global};

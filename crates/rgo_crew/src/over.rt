@@ -4,9 +4,9 @@ ghost use Rattle.rgo_goroutine.specs.Acts.Runs as runs;
 ghost use Rattle.rgo_goroutine.specs.Goroutines.{IsOf, record_of};
 ghost use Rattle.rgo_crew.specs.Overs.{AreNumbered, added, ended_by, ending_of, joined, no_tally, tally_of, why_of};
 
+use rgo_core_steps::clock::Mark;
 use rgo_goroutine::acts::prints::Print;
 use rgo_goroutine::body::Counts;
-use rgo_core_steps::clock::Mark;
 use rgo_goroutine::goroutine::Goroutine;
 use rgo_goroutine::turning::Stop;
 use rgo_sound::machine::{End, Shortage};

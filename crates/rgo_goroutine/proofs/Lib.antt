@@ -1,6 +1,5 @@
 -- of the crates below, for those above
 pub use Rattle.rgo_acts.proofs as Acts
-
 pub mod Handing
 pub mod Lifting
 pub mod Joining

@@ -1,6 +1,5 @@
 -- of the crates below, for those above
 pub use Rattle.rgo_acts.specs as Acts
-
 pub mod Goroutines
 pub mod Passing
 pub mod Turns

@@ -3,8 +3,8 @@
 ghost use Rattle.std.specs.Prelude.{◌≡◌, IfOk, map};
 ghost use Rattle.rgo_sound.specs.Code.Names as names;
 
-use rgo_sound::code::Code;
 use rgo_region_sets::region_parameters;
+use rgo_sound::code::Code;
 use rgo_sound::tac::Class;
 use std::alloc::{AllocError, Global};
 

@@ -12,8 +12,8 @@ ghost use Rattle.rgo_core_steps.specs.Making.{IsCalm, NeedsPage};
 ghost use Rattle.rgo_core_steps.specs.Seats.{HasOne, HasPossible, Settles, mine, settled};
 ghost use Rattle.rgo_pages.specs.Claiming.{AllPagesTried, FullLaw, Hooked, PageClaimed, PageOrNone, PagesTried};
 
-use rgo_core::table::{RunSeat, RunTable};
 use rgo_core::memory::layout::TableSizes;
+use rgo_core::table::{RunSeat, RunTable};
 use rgo_core_steps::counting::Steps;
 use rgo_core_steps::pages;
 use std::sync::ledger::Ledger;

@@ -11,8 +11,8 @@ ghost use Rattle.rgo_core_steps.specs.Layouts.{HasLayout};
 ghost use Rattle.rgo_core_steps.specs.Seats.{HasOne, HasPossible, mine};
 ghost use Rattle.rgo_pages.specs.Releasing.{ChainGivenBack, OneFreed};
 
-use rgo_core::table::{RunSeat, RunTable};
 use rgo_core::memory::layout::TableSizes;
+use rgo_core::table::{RunSeat, RunTable};
 use rgo_core_steps::counting::Steps;
 use rgo_core_steps::pages;
 use std::sync::ledger::Ledger;

@@ -10,9 +10,9 @@ ghost use Rattle.rgo_goroutine.specs.Goroutines.{IsOf};
 ghost use Rattle.rgo_goroutine.specs.Instructions.{HasPages};
 ghost use Rattle.rgo_runtime.specs.Passing.{ComesTo, HasLookedOnce, HasMet, IsBehind, IsKnownBy, IsPass, IsTidyIn, LooksBetween, MayHaveTurned, PassComesTo, PassingExamples, TurnsBetween, is_moved, joined_with};
 
-use rgo_goroutine::acts::runs::Run;
 use rgo_core::table::RunSeat;
 use rgo_core_steps::counting::Steps;
+use rgo_goroutine::acts::runs::Run;
 use rgo_goroutine::goroutine::Goroutine;
 use rgo_goroutine::turning::{Stop, Turned};
 use rgo_sound::machine::Shortage;

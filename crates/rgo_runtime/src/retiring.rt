@@ -11,9 +11,9 @@ ghost use Rattle.rgo_sound.specs.Tally.{no_share};
 ghost use Rattle.rgo_table_runs.specs.closing.Members.{retired};
 
 use crate::shares::Shares;
-use rgo_goroutine::acts::runs::Run;
 use rgo_core::table::RunSeat;
 use rgo_core_steps::clock::Mark;
+use rgo_goroutine::acts::runs::Run;
 use rgo_goroutine::goroutine::Goroutine;
 
 /// Puts what the goroutine has counted at its place, and records how it has ended the run, if it has.

@@ -8,9 +8,9 @@ ghost use Rattle.rgo_goroutine.specs.Turns.{HasTurned};
 ghost use Rattle.rgo_runtime.specs.Crews.{IsNewborn, Keeps, drawn, its_member, members};
 ghost use Rattle.rgo_runtime.specs.Turns as spec;
 
+use rgo_core_steps::counting::Steps;
 use rgo_goroutine::acts::prints::Print;
 use rgo_goroutine::acts::runs::Run;
-use rgo_core_steps::counting::Steps;
 use rgo_goroutine::goroutine::Goroutine;
 use rgo_goroutine::turning::Turned;
 use rgo_sched::Task;

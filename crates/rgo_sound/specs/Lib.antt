@@ -8,7 +8,6 @@ pub use Rattle.rgo_region_machine.specs as RegionMachine
 pub use Rattle.rgo_tac.specs as Tac
 pub use Rattle.rgo_typed.specs as Typed
 pub use Rattle.rgo_wellformed.specs as WellFormed
-
 pub mod Core
 pub mod Erasure
 pub mod Examples
