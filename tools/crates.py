@@ -38,6 +38,14 @@ def lowest_first(every):
     return list(found)
 
 
+def paths(every):
+    """How many paths lead down from each crate. The toolchain walks all of them, and reads the files on them."""
+    found = {}
+    for crate in lowest_first(every):
+        found[crate] = 1 + sum(found[below] for below in every[crate] if below in every)
+    return found
+
+
 def with_those_above(names):
     """These crates and those that depend on them, each after those that it depends on."""
     every, found = crates(), set(names)

@@ -2,11 +2,13 @@
 
 import os
 import pathlib
+import re
 import subprocess
 import sys
 import tempfile
 import unittest
 
+from crates import PARTS, crates, paths
 from error_pages import TOP
 
 # Three crates, one on the other, and one beside them.
@@ -32,6 +34,20 @@ An earlier gate took a while.
 <!-- to here -->
 The end.
 """
+
+
+class Lines(unittest.TestCase):
+    """The lines of this repository's crates.txt."""
+
+    def test_a_crate_names_what_its_line_lists(self):
+        every = crates()
+        for crate, below in every.items():
+            files = [file for part in PARTS for file in (TOP / "crates" / crate / part).rglob("*.*")]
+            names = {name for file in files for name in re.findall(r"\brgo_\w+", file.read_text(encoding="utf-8"))}
+            self.assertEqual([], [name for name in below if name in every and name not in names], crate)
+
+    def test_few_paths_lead_down(self):
+        self.assertLess(sum(paths(crates()).values()), 600_000)
 
 
 class Tools(unittest.TestCase):
