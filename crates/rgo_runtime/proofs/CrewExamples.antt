@@ -1,25 +1,29 @@
 -- Members that a driver keeps, and such as it loses; goroutines that have retired.
-use Rattle.std.proofs.Common.{◌≡◌, ◌⊎◌, inl, inr, ⊎_elim, ℕ, zero, suc, ◌≤◌, Bool, false, List, [], ◌∷◌, ◌++◌, All, Option, Some, None, length, map, slice_get, refl, ap, sym, subst, ◌∙◌, arith}
+use Rattle.std.proofs.Common.{◌≡◌, ◌⊎◌, inl, inr, ⊎_elim, ℕ, zero, suc, ◌≤◌, Bool, false, List, [], ◌∷◌, ◌++◌, All, IsPermutation, Option, Some, None, length, map, slice_get, refl, ap, sym, subst, ◌∙◌, arith}
 use Rattle.std.specs.List.{AllZip}
 use Rattle.std.proofs.lemmas.List.Elements.{All-head, All-nil}
+use Rattle.std.proofs.lemmas.List.Sorted.{IsPermutation-refl, length_permutation}
 use Rattle.std.proofs.lemmas.Option.{same_Some}
-use Rattle.rgo_goroutine.specs.Acts.declared.prints.Print.{Print}
+use Rattle.rgo_table_runs.specs.Goroutine.Acts.declared.prints.Print.{Print}
 use Rattle.rgo_core.specs.Records.{Record}
 use Rattle.rgo_core.specs.Rule.Views.{Has, Rows}
 use Rattle.rgo_core_steps.specs.declared.clock.Mark as clock
-use Rattle.rgo_goroutine.specs.Goroutines.{IsTidy}
-use Rattle.rgo_goroutine.specs.Turns.{IsOver}
-use Rattle.rgo_goroutine.specs.declared.goroutine.Goroutine.{Goroutine}
+use Rattle.rgo_table_runs.specs.Goroutine.Goroutines.{IsOf, IsTidy}
+use Rattle.rgo_table_runs.specs.Goroutine.Turns.{IsOver}
+use Rattle.rgo_table_runs.specs.Goroutine.declared.goroutine.Goroutine.{Goroutine}
 use Rattle.rgo_sound.specs.RegionMachine.Counts.{Counts}
 use Rattle.rgo_sched.specs.Rounds.{EachTurned}
 use Rattle.rgo_sound.specs.Tally.{no_share}
 use Rattle.rgo_table_runs.specs.closing.Members.{HasNumber, IsListed, Member, NoneIsLost, retired}
 use Rattle.rgo_runtime.proofs.Leaving.{In, in_cons, nobody_lost, nobody_then, none_in}
 use Rattle.rgo_runtime.proofs.Crewing.{none_retired}
-use Rattle.rgo_runtime.specs.Crew.{Crew, WholeCrewExamples, all_members}
-use Rattle.rgo_runtime.specs.Crews.{AreRetired, CrewExamples, IsGiven, IsNewborn, IsOfCrew, Keeps, KeepsMembers, NobodyIsLost, drawn, main_itself, main_with_child, marked, member_of, members, newborn, turning}
+use Rattle.rgo_runtime.proofs.CrewPasses.{pass_length}
+use Rattle.rgo_runtime.specs.Crew.{Crew, HasPassedAll, WholeCrewExamples, all_members}
+use Rattle.rgo_runtime.specs.Crews.{AreRetired, CrewExamples, IsGiven, IsNewborn, IsOfCrew, Keeps, KeepsMembers, NobodyIsLost, drawn, its_goroutine, main_itself, main_with_child, marked, member_of, members, newborn, turning}
 use Rattle.rgo_runtime.specs.Parking.{values_of}
+use Rattle.rgo_runtime.specs.Passing.{IsBehind}
 use Rattle.rgo_runtime.specs.Turns.{TakesTurn, Turn}
+use Rattle.rgo_runtime.specs.declared.passes.Passed.{Passed}
 
 -- a list of one
 only : {A : Type 0} (a x : A) → In (a ∷ []) x → a ≡ x
@@ -83,7 +87,7 @@ prints_lost m others taken k = nobody_then m (record m { fresh = [] }) [] [] oth
 
 -- a row of one
 module _ (c : Record) (P : ℕ → Record → Type 0) (p : P 0 c) where
-  each_of_one : (g : ℕ) (d : Record) → Has ((0, c) ∷ []) g d → P g d
+  pub each_of_one : (g : ℕ) (d : Record) → Has ((0, c) ∷ []) g d → P g d
   each_of_one g d t = subst (λ (r : ℕ × Record). P r.0 r.1) (only (0, c) (g, d) t) p
 
 is_counted : AreRetired ((0, main_itself) ∷ []) (main_itself.clock.share ∷ []) None
@@ -135,6 +139,7 @@ crews = record {
   counted = is_counted;
   uncounted = not_counted;
   made_up = λ mark k. none_in (k.is_first.0, k.is_first.1) k.is_first.2;
+  may_not_turn = λ r go many k. absurd (let l = k.few in omega (arith, l, many));
   has_place = λ t first none. record {
     run = refl;
     place = omega (arith, first);
@@ -155,6 +160,11 @@ nobody_left c ready parked born rows =
     ap (λ (l : List Turn). turning l ++ (turning (values_of c.parked) ++ (members c.run.setup c.born ++ map retired c.me.0.records))) ready
     ∙ (ap (λ (l : List (ℕ × Turn)). turning (values_of l) ++ (members c.run.setup c.born ++ map retired c.me.0.records)) parked
     ∙ (ap (λ (l : List Goroutine). members c.run.setup l ++ map retired c.me.0.records) born ∙ ap (λ (rs : Rows Record). map retired rs) rows))
+
+-- if one was ready, one has a part in the pass
+before_passes : (old new : Crew) (t : Turn) (passed : Passed) (k : HasPassedAll old new passed) → old.ready ≡ t ∷ [] → length k.before ≡ 1
+before_passes old new t passed k one =
+    length_permutation (map its_goroutine old.ready) k.before k.of_old ∙ ap (λ (l : List Turn). length (map its_goroutine l)) one
 
 pub whole_crews : WholeCrewExamples
 whole_crews = record {
@@ -183,4 +193,24 @@ whole_crews = record {
       let empty : NoneIsLost [] (drawn c.waiting)
       = subst (λ (l : List Member). NoneIsLost (l ++ []) (drawn c.waiting)) (nobody_left c ready parked born rows) after in
       none_in empty.main.0 empty.main.1;
+  all_passed = λ c passed none pass. record {
+    before = [];
+    after = [];
+    of_old = subst (λ (l : List Turn). IsPermutation (map its_goroutine l) []) (sym none) (IsPermutation-refl []);
+    of_new = subst (λ (l : List Turn). IsPermutation [] (map its_goroutine l)) (sym none) (IsPermutation-refl []);
+    pass = pass;
+    of = All-nil (IsOf c.run);
+    behind = All-nil (IsBehind c.me.0.seen);
+    rows = refl;
+    rest = refl;
+  };
+  left_out = λ old new t passed k one none.
+      let some : length k.before ≡ 1 = before_passes old new t passed k one in
+      omega (arith, some, ap length none);
+  gone = λ old new t passed one none k.
+      let some : length k.before ≡ 1 = before_passes old new t passed k one in
+      let left = length_permutation k.after (map its_goroutine new.ready) k.of_new in
+      let here : length (map its_goroutine new.ready) ≡ 0 = ap (λ (l : List Turn). length (map its_goroutine l)) none in
+      let same = pass_length old.run new.me k.before k.after passed k.pass in
+      omega (arith, some, left, here, same);
 }

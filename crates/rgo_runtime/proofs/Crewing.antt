@@ -5,18 +5,18 @@ use Rattle.std.proofs.lemmas.List.{length-set, map-append, set-get_or, set_split
 use Rattle.std.proofs.lemmas.List.Elements.{All-cons, All-get_or, All-nil, All-set}
 use Rattle.std.proofs.lemmas.Option.{same_Some}
 use Rattle.std.proofs.lemmas.List.Sorted.{IsPermutation-append, IsPermutation-append_comm, IsPermutation-append_left, IsPermutation-cons, IsPermutation-middle, IsPermutation-refl, IsPermutation-sym, IsPermutation-trans}
-use Rattle.rgo_goroutine.specs.Acts.Runs.{Run}
-use Rattle.rgo_goroutine.specs.Acts.declared.prints.Print.{Print}
+use Rattle.rgo_table_runs.specs.Goroutine.Acts.Runs.{Run}
+use Rattle.rgo_table_runs.specs.Goroutine.Acts.declared.prints.Print.{Print}
 use Rattle.rgo_core.specs.Opening.{first_of}
 use Rattle.rgo_core.specs.Records.{Drawn, Record}
 use Rattle.rgo_core.specs.Memory.Words.{clock_at}
 use Rattle.rgo_core.specs.Rule.Views.{Has, Rows, view}
 use Rattle.rgo_core_steps.specs.Seats.{IsSeatOf, mine}
 use Rattle.rgo_core_steps.specs.declared.clock.Mark.{Mark}
-use Rattle.rgo_goroutine.specs.Acts.declared.actors.Actor.{Actor}
-use Rattle.rgo_goroutine.specs.Instructions.{HasPages}
-use Rattle.rgo_goroutine.specs.Turns.{IsOver}
-use Rattle.rgo_goroutine.specs.declared.goroutine.Goroutine.{Goroutine}
+use Rattle.rgo_table_runs.specs.Goroutine.Acts.declared.actors.Actor.{Actor}
+use Rattle.rgo_table_runs.specs.Goroutine.Instructions.{HasPages}
+use Rattle.rgo_table_runs.specs.Goroutine.Turns.{IsOver}
+use Rattle.rgo_table_runs.specs.Goroutine.declared.goroutine.Goroutine.{Goroutine}
 use Rattle.rgo_sound.specs.RegionMachine.Counts.{Counts}
 use Rattle.rgo_sched.specs.Rounds.{RoundOf}
 use Rattle.rgo_sound.specs.Tally.{no_share}

@@ -6,7 +6,7 @@ use Rattle.std.proofs.Math.Seq.{take-nil}
 use Rattle.rgo_outside.specs.Pieces.{IsEndOf}
 use Rattle.rgo_runtime.specs.Parking.{ParkingExamples, TakesAll, three}
 use Rattle.rgo_runtime.specs.Printing.{AreFrom, GivesSome, PrintingExamples, bytes_of}
-use Rattle.rgo_goroutine.specs.Acts.declared.prints.Print.{Print}
+use Rattle.rgo_table_runs.specs.Goroutine.Acts.declared.prints.Print.{Print}
 
 two_are_some : TakesAll three (7 ∷ []) (7 ∷ 3 ∷ 2 ∷ []) → ⊥
 two_are_some (more, come, same) =

@@ -1,5 +1,5 @@
 -- Groups: what the pairs of groups are after a group was begun, has grown, or was emptied.
-use Rattle.std.proofs.Common.{◌≡◌, ◌==◌, ℕ, Bool, true, false, cond, not, List, [], ◌∷◌, ◌++◌, Some, None, IsPermutation, Vec, filter, map, nat_eq, refl, sym, ap, ◌∙◌, subst, append_assoc, append-nil, ◌+◌, length, length-append}
+use Rattle.std.proofs.Common.{◌≡◌, ◌==◌, ℕ, Bool, true, false, cond, not, List, [], ◌∷◌, ◌++◌, Some, None, IsPermutation, Vec, filter, map, nat_eq, refl, sym, ap, ◌∙◌, subst, append_assoc, append-nil, ◌+◌, arith, length, length-append}
 use Rattle.std.specs.List.{AllByRecursion, IsDistinct}
 use Rattle.std.specs.Map.{keys_of, lookup, set_value}
 use Rattle.std.proofs.lemmas.Bool.{eqb-true}
@@ -13,6 +13,10 @@ module _ {T : Type 0} where
   -- the pairs of one group
   abbrev pub pairs_at : ℕ → List T → List (ℕ × T)
   pairs_at at values = map (λ value. (at, value)) values
+
+  pub nothing_in : (values : List T) → length values ≡ 0 → values ≡ []
+  nothing_in [] none = refl
+  nothing_in (v ∷ values) none = absurd (omega (arith, none))
 
   -- ---- one address, and the others
 
@@ -208,7 +212,7 @@ module _ {T A : Type 0} where
       by [] = refl
       by (v ∷ values) = ap (λ l. v ∷ l) (by values)
 
-  values_last : (left : List (ℕ × Vec T A)) (e : ℕ × Vec T A) → values_of (pairs_of (left ++ e ∷ [])) ≡ values_of (pairs_of left) ++ e.1.items
+  pub values_last : (left : List (ℕ × Vec T A)) (e : ℕ × Vec T A) → values_of (pairs_of (left ++ e ∷ [])) ≡ values_of (pairs_of left) ++ e.1.items
   values_last left e =
       ap values_of (pairs-append left (e ∷ []))
       ∙ map-append (λ p. p.1) (pairs_of left) (pairs_at e.0 e.1.items ++ [])
@@ -230,6 +234,12 @@ module _ {T A : Type 0} where
             (sym (append_assoc moved.more e.1.items (values_of (pairs_of left))))
             (IsPermutation-append_right moved.more _ _ (IsPermutation-append_comm (values_of (pairs_of left)) e.1.items))));
       }
+
+  -- the last group was empty
+  pub none_last : (left : List (ℕ × Vec T A)) (e : ℕ × Vec T A) → e.1.items ≡ [] → pairs_of (left ++ e ∷ []) ≡ pairs_of left
+  none_last left e none =
+      pairs-append left (e ∷ [])
+      ∙ (ap (λ l. pairs_of left ++ (pairs_at e.0 l ++ [])) none ∙ append-nil (pairs_of left))
 
   -- the room that the last group needs, and that the others need
   pub length_last : (left : List (ℕ × Vec T A)) (e : ℕ × Vec T A) → length (pairs_of (left ++ e ∷ [])) ≡ length (pairs_of left) + length e.1.items

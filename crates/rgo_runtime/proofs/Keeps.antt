@@ -6,31 +6,29 @@ use Rattle.std.specs.List.{AllZip}
 use Rattle.std.proofs.lemmas.List.{map-append}
 use Rattle.std.proofs.lemmas.List.Elements.{All-append, All-cons, All-head, All-nil, All-tail, All-weaker, Contains-append_cases, Contains-append_left, Contains-append_right}
 use Rattle.std.proofs.lemmas.List.Sorted.{Contains-permutation, IsPermutation-append_comm, IsPermutation-append_left, IsPermutation-append_right, IsPermutation-cons, IsPermutation-map, IsPermutation-refl, IsPermutation-sym}
-use Rattle.rgo_goroutine.proofs.Acts.Standing.{now_at_once}
-use Rattle.rgo_goroutine.specs.Acts.Actors.{now}
-use Rattle.rgo_goroutine.specs.Acts.Runs.{Run}
-use Rattle.rgo_goroutine.specs.Acts.declared.prints.Print.{Print}
+use Rattle.rgo_table_runs.proofs.Goroutine.Acts.Standing.{now_at_once}
+use Rattle.rgo_table_runs.specs.Goroutine.Acts.Actors.{now}
+use Rattle.rgo_table_runs.specs.Goroutine.Acts.Runs.{Run}
+use Rattle.rgo_table_runs.specs.Goroutine.Acts.declared.prints.Print.{Print}
 use Rattle.rgo_core.proofs.Lists.{elem_of, get_of}
 use Rattle.rgo_core.specs.Core.{Setup}
 use Rattle.rgo_core.specs.Opening.{first_of}
 use Rattle.rgo_core.specs.Records.{ClockRec, Drawn, Record, blank, steps_of}
 use Rattle.rgo_core.specs.Rule.Views.{Me, number_of, view}
-use Rattle.rgo_core.specs.Rule.declared.accesses.Access.{Access}
 use Rattle.rgo_core_steps.specs.Seats.{mine}
-use Rattle.rgo_goroutine.proofs.Joining.{numbers_append}
-use Rattle.rgo_goroutine.specs.Goroutines.{AllStand, IsChild, IsOf, IsTidy, drawn_by, fresh, numbers, record_of, valid}
-use Rattle.rgo_goroutine.specs.Passing.{Adopts, AreBorn, Gathers, IsBorn}
-use Rattle.rgo_goroutine.specs.Turns.{HasTurned, IsOver, Stops}
-use Rattle.rgo_goroutine.specs.declared.turning.Stop.TheVariants.{Ended}
-use Rattle.rgo_goroutine.specs.declared.goroutine.Child.{Child}
-use Rattle.rgo_goroutine.specs.declared.goroutine.Goroutine.{Goroutine}
-use Rattle.rgo_goroutine.specs.declared.turning.Turned.{Turned}
+use Rattle.rgo_table_runs.proofs.Goroutine.Joining.{numbers_append}
+use Rattle.rgo_table_runs.specs.Goroutine.Goroutines.{AllStand, IsChild, IsOf, IsTidy, drawn_by, fresh, numbers, record_of, valid}
+use Rattle.rgo_table_runs.specs.Goroutine.Passing.{Adopts, AreBorn, Gathers, IsBorn}
+use Rattle.rgo_table_runs.specs.Goroutine.Turns.{HasTurned, IsOver, Stops}
+use Rattle.rgo_table_runs.specs.Goroutine.declared.turning.Stop.TheVariants.{Ended}
+use Rattle.rgo_table_runs.specs.Goroutine.declared.goroutine.Child.{Child}
+use Rattle.rgo_table_runs.specs.Goroutine.declared.goroutine.Goroutine.{Goroutine}
+use Rattle.rgo_table_runs.specs.Goroutine.declared.turning.Turned.{Turned}
 use Rattle.rgo_sched.specs.Rounds.{EachTurned, RoundOf}
 use Rattle.rgo_table_runs.proofs.closing.Members.{kept_by_adopting, kept_by_gathering, kept_by_order, kept_by_turn}
 use Rattle.rgo_table_runs.specs.closing.Members.{AreSame, HasNumber, HasPlayed, HasPrinted, IsListed, IsOneOf, Member, NoneIsLost, WasGathered, WereAdopted}
 use Rattle.rgo_runtime.specs.Crews.{IsNewborn, IsOfCrew, Keeps, drawn, its_member, member_of, members, turning}
 use Rattle.rgo_runtime.specs.Passing.{HasLookedOnce, HasMet, HasTurnedOnce, IsPass, MayHaveTurned}
-use Rattle.rgo_runtime.specs.Printing.{GivesOut}
 use Rattle.rgo_runtime.specs.Turns.{TakesTurn, Turn}
 use Rattle.rgo_runtime.specs.declared.passes.Passed.{Passed}
 use Rattle.rgo_runtime.proofs.Sweeps.{zip_keeps}
@@ -38,7 +36,7 @@ use Rattle.rgo_runtime.proofs.Sweeps.{zip_keeps}
 -- ---- lists
 
 module _ {A : Type 0} where
-  abbrev In : List A → A → Type 0
+  abbrev pub In : List A → A → Type 0
   In xs x = (i : ℕ) × (get_elem? xs i ≡ some x)
 
   none_in : (x : A) → In [] x → ⊥
@@ -66,7 +64,7 @@ module _ {A : Type 0} where
       (λ (r : Contains ys x). inr (placed ys x r))
       (Contains-append_cases xs ys x (contained (xs ++ ys) x t))
 
-  in_permuted : (xs ys : List A) → IsPermutation xs ys → (x : A) → In xs x → In ys x
+  pub in_permuted : (xs ys : List A) → IsPermutation xs ys → (x : A) → In xs x → In ys x
   in_permuted xs ys same x t = placed ys x (Contains-permutation xs ys x same (contained xs x t))
 
   -- what is among the first is among the others, and so it is beside more
@@ -332,9 +330,9 @@ keeps_may_turns r olds news t zip was is =
     (λ x y both. keeps_may_turn r x y t both.1 both.2 both.0) olds news
     (zip_all (MayHaveTurned r) IsNumbered IsNumbered olds news zip was is)
 
-pub keeps_pass : (r : Run) (seen : List Access) (olds news : List Goroutine) (passed : Passed) (t : List Drawn) → IsPass r seen olds news passed
+pub keeps_pass : (r : Run) (me : Me Record) (olds news : List Goroutine) (passed : Passed) (t : List Drawn) → IsPass r me olds news passed
     → All (IsOf r) olds → All (IsOf r) news → Keeps (members r.setup olds) t (members r.setup news) t
-keeps_pass r seen olds news passed t pass was is =
+keeps_pass r me olds news passed t pass was is =
     let T = r.setup in
     let met_are = zip_keeps (HasMet T) IsNumbered (λ x y met. meets_numbered T x y met) olds pass.met pass.meets (numbered r olds was) in
     let looked_are = zip_keeps (HasLookedOnce T) IsNumbered (λ x y looked. looks_numbered T x y looked) pass.met pass.looked pass.looks met_are in
@@ -526,15 +524,15 @@ module _ (r : Run) (old mid new : Goroutine) (prints waiting : List Print) (n : 
 
 -- ---- prints that were given out
 
-pub keeps_given : (ms : List Member) (taken : List Drawn) (old : List Print) (from : ℕ) (new : List Print) (next : ℕ)
-    (before now : Option (List ℕ)) (gives : GivesOut old from new next before now) → NoneIsLost ms (taken ++ drawn old)
-    → NoneIsLost ms ((taken ++ drawn gives.given) ++ drawn new)
-keeps_given ms taken old from new next before now gives k =
-    let out : IsPermutation (drawn old) (drawn gives.given ++ drawn new) =
-    subst (IsPermutation (drawn old)) (map-append drawn_by gives.given new) (IsPermutation-map drawn_by old (gives.given ++ new) gives.all) in
-    subst (NoneIsLost ms) (sym (append_assoc taken (drawn gives.given) (drawn new)))
-    (kept_permuted ms ms (taken ++ drawn old) (taken ++ (drawn gives.given ++ drawn new)) (IsPermutation-refl ms)
-    (IsPermutation-append_right taken (drawn old) (drawn gives.given ++ drawn new) out) k)
+-- some of those that wait are given out
+pub keeps_out : (ms : List Member) (taken : List Drawn) (old given new : List Print) → IsPermutation old (given ++ new)
+    → NoneIsLost ms (taken ++ drawn old) → NoneIsLost ms ((taken ++ drawn given) ++ drawn new)
+keeps_out ms taken old given new all k =
+    let out : IsPermutation (drawn old) (drawn given ++ drawn new) =
+    subst (IsPermutation (drawn old)) (map-append drawn_by given new) (IsPermutation-map drawn_by old (given ++ new) all) in
+    subst (NoneIsLost ms) (sym (append_assoc taken (drawn given) (drawn new)))
+    (kept_permuted ms ms (taken ++ drawn old) (taken ++ (drawn given ++ drawn new)) (IsPermutation-refl ms)
+    (IsPermutation-append_right taken (drawn old) (drawn given ++ drawn new) out) k)
 
 -- ---- the beginning
 

@@ -5,8 +5,8 @@ use Rattle.std.proofs.lemmas.List.{map-append}
 use Rattle.std.proofs.lemmas.Option.{same_Some, slice_get_cases}
 use mathlib.Core.Option.{some, some-injective, some-ne-none}
 use lib.ListN.{get_elem?}
-use Rattle.rgo_goroutine.specs.Acts.Actors.{now}
-use Rattle.rgo_goroutine.specs.Acts.Runs.{Run}
+use Rattle.rgo_table_runs.specs.Goroutine.Acts.Actors.{now}
+use Rattle.rgo_table_runs.specs.Goroutine.Acts.Runs.{Run}
 use Rattle.rgo_core.proofs.Lists.{elem_of}
 use Rattle.rgo_core.specs.Core.{Setup}
 use Rattle.rgo_core.specs.Records.{ClockRec, Drawn, Record, blank}
@@ -16,8 +16,8 @@ use Rattle.rgo_core_steps.specs.Outcomes.{Closes, HasFamily}
 use Rattle.rgo_core_steps.specs.Seats.{mine, settled}
 use Rattle.rgo_core_steps.specs.declared.clock.Mark as clock
 use Rattle.rgo_core.specs.Rule.declared.accesses.View.{View}
-use Rattle.rgo_goroutine.specs.Goroutines.{AllStand, IsTidy, numbers, rows}
-use Rattle.rgo_goroutine.specs.declared.goroutine.Child.{Child}
+use Rattle.rgo_table_runs.specs.Goroutine.Goroutines.{AllStand, IsTidy, numbers, rows}
+use Rattle.rgo_table_runs.specs.Goroutine.declared.goroutine.Child.{Child}
 use Rattle.rgo_sound.specs.RegionMachine.Counts.{Counts}
 use Rattle.rgo_sound.specs.RegionMachine.States.{Mark}
 use Rattle.rgo_sound.proofs.Places.{get_set_other, get_set_same, get_some, length_set}

@@ -1,6 +1,10 @@
+pub mod Closing
+pub mod ClosingExamples
 pub mod CrewExamples
+pub mod CrewPasses
 pub mod Crewing
 pub mod Examples
+pub mod Gone
 pub mod Groups
 pub mod Keeping
 pub mod Keeps
@@ -8,8 +12,13 @@ pub mod Leaving
 pub mod Moving
 pub mod PassExamples
 pub mod Passing
+pub mod Playing
+pub mod RunExamples
+pub mod Running
+pub mod Stock
 pub mod Summing
 pub mod Sweeps
 pub mod TaskExamples
+pub mod Telling
 pub mod Turning
 pub mod Walks

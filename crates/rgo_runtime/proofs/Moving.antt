@@ -1,10 +1,10 @@
 -- Moving: goroutines go from one list of their driver to another, and nobody is lost by it.
-use Rattle.std.proofs.Common.{◌≡◌, ◌<◌, ◌≤◌, ◌==◌, ◌⊎◌, ⊎_elim, ℕ, not, List, [], ◌∷◌, ◌++◌, All, Err, IsPermutation, MatchOption, None, Some, Ok, OnErr, Option, OnOk, Result, filter, get_or, length, map, replicate, swap_remove, refl, ap, sym, subst, ◌∙◌, append_assoc, append-nil, arith}
+use Rattle.std.proofs.Common.{◌≡◌, ◌<◌, ◌≤◌, ◌==◌, ⊎_elim, ℕ, not, List, [], ◌∷◌, ◌++◌, All, Err, IsPermutation, MatchOption, None, Some, Ok, OnErr, Option, OnOk, Result, filter, get_or, length, map, replicate, swap_remove, refl, ap, sym, subst, ◌∙◌, append_assoc, append-nil, arith}
 use Rattle.std.proofs.lemmas.List.{length-append, map-append}
 use Rattle.std.proofs.lemmas.List.Elements.{All-append, All-cons, All-head, All-nil, All-push, All-tail, All-weaker}
 use Rattle.std.proofs.lemmas.List.Sorted.{All-permutation, IsPermutation-append_left, IsPermutation-append_right, IsPermutation-filter_both, IsPermutation-map, IsPermutation-middle, IsPermutation-refl, IsPermutation-swap_remove, IsPermutation-sym, IsPermutation-to_front, IsPermutation-trans}
 use Rattle.atomic_table.specs.Seated.{TableId}
-use Rattle.rgo_goroutine.specs.Acts.Runs.{Run}
+use Rattle.rgo_table_runs.specs.Goroutine.Acts.Runs.{Run}
 use Rattle.rgo_core.specs.Memory.Words.{clock_at}
 use Rattle.rgo_core_steps.specs.Seats.{IsSeatOf}
 use Rattle.rgo_core_steps.specs.declared.clock.Mark.{Mark}
@@ -12,11 +12,11 @@ use Rattle.rgo_sound.specs.RegionMachine.Counts.{Counts}
 use Rattle.rgo_sound.specs.Tally.{no_share}
 use Rattle.rgo_core.specs.Records.{Drawn, Record}
 use Rattle.rgo_core.specs.Rule.Views.{Has, Me, Rows}
-use Rattle.rgo_goroutine.specs.Goroutines.{record_of}
-use Rattle.rgo_goroutine.specs.Turns.{IsOver}
-use Rattle.rgo_goroutine.specs.declared.turning.Stop.TheVariants.{Ended}
-use Rattle.rgo_goroutine.specs.declared.turning.Turned.{Turned}
-use Rattle.rgo_goroutine.specs.declared.goroutine.Goroutine.{Goroutine}
+use Rattle.rgo_table_runs.specs.Goroutine.Goroutines.{record_of}
+use Rattle.rgo_table_runs.specs.Goroutine.Turns.{IsOver}
+use Rattle.rgo_table_runs.specs.Goroutine.declared.turning.Stop.TheVariants.{Ended}
+use Rattle.rgo_table_runs.specs.Goroutine.declared.turning.Turned.{Turned}
+use Rattle.rgo_table_runs.specs.Goroutine.declared.goroutine.Goroutine.{Goroutine}
 use Rattle.rgo_table_runs.specs.closing.Members.{Member, retired}
 use Rattle.rgo_runtime.specs.Crew.{Crew, IsCrew, KeepsAll, all_members}
 use Rattle.rgo_runtime.specs.Crews.{AreRetired, IsNewborn, IsOfCrew, Keeps, drawn, its_member, marked, member_of, members, turning}
@@ -29,11 +29,11 @@ use Rattle.rgo_runtime.proofs.Keeps.{keeps_after, keeps_any, keeps_beside, keeps
 
 -- what holds of all of two lists holds of each
 module _ {T : Type 0} (P : T → Type 0) where
-  all_first : (xs ys : List T) → All P (xs ++ ys) → All P xs
+  pub all_first : (xs ys : List T) → All P (xs ++ ys) → All P xs
   all_first [] ys all = All-nil P
   all_first (x ∷ xs) ys all = All-cons P x xs (All-head P x (xs ++ ys) all) (all_first xs ys (All-tail P x (xs ++ ys) all))
 
-  all_last : (xs ys : List T) → All P (xs ++ ys) → All P ys
+  pub all_last : (xs ys : List T) → All P (xs ++ ys) → All P ys
   all_last [] ys all = all
   all_last (x ∷ xs) ys all = all_last xs ys (All-tail P x (xs ++ ys) all)
 

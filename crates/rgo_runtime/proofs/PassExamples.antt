@@ -9,15 +9,16 @@ use Rattle.rgo_core.specs.Rule.Views.{number_of}
 use Rattle.rgo_core.specs.Rule.declared.accesses.Access.{Access}
 use Rattle.rgo_core_steps.specs.Seats.{mine}
 use Rattle.rgo_sound.specs.Machine.declared.turns.Shortage.TheVariants.{Pages, Regions}
-use Rattle.rgo_goroutine.specs.Acts.Runs.{Run}
-use Rattle.rgo_goroutine.specs.Goroutines.{record_of}
-use Rattle.rgo_goroutine.specs.declared.goroutine.Goroutine.{Goroutine}
-use Rattle.rgo_goroutine.specs.declared.turning.Stop.{Stop}
-use Rattle.rgo_goroutine.specs.declared.turning.Stop.TheVariants as stop
-use Rattle.rgo_goroutine.specs.declared.turning.Turned.{Turned}
+use Rattle.rgo_table_runs.specs.Goroutine.Acts.Runs.{Run}
+use Rattle.rgo_table_runs.specs.Goroutine.Goroutines.{record_of}
+use Rattle.rgo_table_runs.specs.Goroutine.declared.goroutine.Goroutine.{Goroutine}
+use Rattle.rgo_table_runs.specs.Goroutine.declared.turning.Stop.{Stop}
+use Rattle.rgo_table_runs.specs.Goroutine.declared.turning.Stop.TheVariants as stop
+use Rattle.rgo_table_runs.specs.Goroutine.declared.turning.Turned.{Turned}
 use Rattle.rgo_table_runs.specs.passing.Laws.{Tells}
 use Rattle.rgo_table_runs.specs.passing.Turns.{IsKnown}
 use Rattle.rgo_runtime.specs.Passing.{HasLookedOnce, HasMet, HasTurnedOnce, IsStuck, PassingExamples, look}
+use Rattle.rgo_runtime.proofs.Leaving.{none_in}
 use Rattle.rgo_runtime.proofs.Turning.{no_turn}
 
 none_known : (g n : ℕ) → IsKnown [] g n → n ≡ 1 → ⊥
@@ -26,6 +27,10 @@ none_known g n k one = by k.early k.later k.is k.own
     by : (early later : List Access) → [] ≡ early ++ later → n ≡ accesses_by g early → ⊥
     by [] later is own = let z : n ≡ 0 = own in omega (arith, z, one)
     by (a ∷ early) later is own = cc is
+
+none_before_none : (before since : List Access) → [] ≡ before ++ since → before ≡ []
+none_before_none [] since is = refl
+none_before_none (a ∷ before) since is = cc is
 
 -- why a turn was over tells one thing
 one_lack : (why : Stop) → Tells why None → Tells why (Some Pages) → ⊥
@@ -119,14 +124,18 @@ passing = record {
     since = [];
     is = sym (append-nil seen);
     come = record { turned = tt; lacks = []; passes = tt; are = All-nil (λ lack. lack ≡ None) };
+    retired = λ g its has. absurd (none_in (g, its) has);
   };
-  nobody = λ r seen p.
+  nobody = λ r me p.
       let met = no_other (HasMet r.setup) p.met p.meets in
       let looked = no_other (HasLookedOnce r.setup) p.looked (subst (λ l. AllZip (HasLookedOnce r.setup) l p.looked) met p.looks) in
       let there = subst (λ l. Contains l p.come.was) looked p.come.of_old in
       omega (arith, there.1);
-  lost = λ r seen go passed p.
+  lost = λ r me go passed p.
       let looked = none_before _ p.looked p.turns in
       let met = none_before (HasLookedOnce r.setup) p.met (subst (λ l. AllZip (HasLookedOnce r.setup) p.met l) looked p.looks) in
       subst (λ l. AllZip (HasMet r.setup) (go ∷ []) l) met p.meets;
+  unknown_row = λ r its one p.
+      let before = none_before_none p.before p.since p.is in
+      none_known 1 (accesses its) (subst (λ (l : List Access). IsKnown l 1 (accesses its)) before (p.retired 1 its (0, refl))) one;
 }

@@ -1,17 +1,20 @@
 -- Passing: what a goroutine and its driver have seen after they have met.
-use Rattle.std.proofs.Common.{◌≡◌, ◌<◌, ◌≤◌, ℕ, Bool, true, false, ltb, if◌then◌else◌, List, ◌++◌, length, refl, sym, ap, ◌∙◌, subst, arith, length-append}
+use Rattle.std.proofs.Common.{◌≡◌, ◌<◌, ◌≤◌, ℕ, Bool, true, false, ltb, if◌then◌else◌, List, [], ◌∷◌, ◌++◌, length, refl, sym, ap, ◌∙◌, subst, append_assoc, arith, length-append}
 use Rattle.std.specs.List.{All}
 use Rattle.std.proofs.lemmas.Bool.Decides.{nat_tests}
 use Rattle.std.proofs.lemmas.List.Elements.{All-weaker}
 use Rattle.rgo_core.specs.Core.{Setup}
-use Rattle.rgo_core.specs.Records.{accesses, looked}
+use Rattle.rgo_core.specs.Records.{Record, accesses, looked}
 use Rattle.rgo_core.proofs.Rule.Passes.{keeps, longer_front}
-use Rattle.rgo_core.specs.Rule.Views.{longer, number_of}
+use Rattle.rgo_core.specs.Rule.Histories.{glance}
+use Rattle.rgo_core.specs.Rule.Steps.{Glanced}
+use Rattle.rgo_core.specs.Rule.Views.{Has, Me, Rows, longer, number_of}
 use Rattle.rgo_core.specs.Rule.declared.accesses.Access.{Access}
-use Rattle.rgo_goroutine.specs.Acts.Runs.{Run}
-use Rattle.rgo_goroutine.specs.Goroutines.{IsOf, IsTidy, record_of}
-use Rattle.rgo_goroutine.specs.Passing.{Looks}
-use Rattle.rgo_goroutine.specs.declared.goroutine.Goroutine.{Goroutine}
+use Rattle.rgo_core.specs.Rule.declared.accesses.Kind.TheVariants.{Load}
+use Rattle.rgo_table_runs.specs.Goroutine.Acts.Runs.{Run}
+use Rattle.rgo_table_runs.specs.Goroutine.Goroutines.{IsOf, IsTidy, record_of}
+use Rattle.rgo_table_runs.specs.Goroutine.Passing.{Looks}
+use Rattle.rgo_table_runs.specs.Goroutine.declared.goroutine.Goroutine.{Goroutine}
 use Rattle.rgo_table_runs.specs.passing.Turns.{IsKnown}
 use Rattle.rgo_table_runs.proofs.passing.Turning.{knows_by_look}
 use Rattle.rgo_runtime.specs.Passing.{HasLookedOnce, HasMet, IsBehind, IsKnownBy, IsTidyIn, LooksBetween, seen_by}
@@ -146,6 +149,25 @@ module _ (r : Run) (a b c d : Goroutine) (before between after : List Access) (e
     known = known_after r.setup a b c d before between after looks.es look_again behind (number_of b.actor.seat.me)
         (knows_by_look.looks r b c ended looks)
         (sym looks.grew.same);
+  }
+
+-- ---- a glance of the driver
+
+module _ (m w : Me Record) (n : ℕ) (glanced : Glanced accesses m n w) where
+  -- who was behind still is
+  pub behind_glance : (gos : List Goroutine) → All (IsBehind m.0.seen) gos → All (IsBehind w.0.seen) gos
+  behind_glance gos all =
+      let now : List Access = glance Load n ∷ [] in
+      all_behind_more m.0.seen w.0.seen (glanced.between ++ now) (glanced.seen ∙ append_assoc m.0.seen glanced.between now) gos all
+
+  -- the accesses of those that had retired are known then, and stay known while more is seen
+  pub known_by_glance : (later more : List Access) → later ≡ w.0.seen ++ more → (rows : Rows Record) → rows ≡ w.0.records → (g : ℕ) (its : Record)
+      → Has rows g its → IsKnown later g (accesses its)
+  known_by_glance later more is rows same g its has = record {
+    early = w.0.seen;
+    later = more;
+    is = is;
+    own = glanced.own g its (subst (λ (rs : Rows Record). Has rs g its) same has);
   }
 
 -- ---- all of them are as tidy as they were

@@ -1,8 +1,8 @@
 -- Sweeps: loops that change the elements of a list one after the other.
-use Rattle.std.proofs.Common.{◌≡◌, ◌+◌, ◌<◌, ◌≤◌, ℕ, List, [], ◌∷◌, ◌++◌, length, take, drop, set, get_or, refl, sym, ap, ◌∙◌, subst, arith, length-set}
+use Rattle.std.proofs.Common.{◌≡◌, ◌+◌, ◌<◌, ◌≤◌, ℕ, suc, List, [], ◌∷◌, ◌++◌, length, take, drop, set, get_or, refl, sym, ap, ◌∙◌, subst, arith, length-set}
 use Rattle.std.specs.List.{All, AllZip}
 use Rattle.std.proofs.lemmas.List.{drop-set-lt, drop_more, take-append-drop, take_all, take_more, take_more_set}
-use Rattle.std.proofs.lemmas.List.Elements.{All-cons, All-head, All-push, All-tail, AllZip-push}
+use Rattle.std.proofs.lemmas.List.Elements.{All-cons, All-head, All-nil, All-push, All-tail, AllZip-push}
 
 -- ---- two lists, item by item
 
@@ -19,6 +19,12 @@ module _ {A B : Type 0} (R : A → B → Type 0) where
   zip_append (a ∷ xs) [] us vs all more = absurd all
   zip_append (a ∷ xs) (b ∷ ys) us vs all more = (all.0, zip_append xs ys us vs all.1 more)
 
+  pub zip_length : (xs : List A) (ys : List B) → AllZip R xs ys → length ys ≡ length xs
+  zip_length [] [] all = refl
+  zip_length [] (b ∷ ys) all = absurd all
+  zip_length (a ∷ xs) [] all = absurd all
+  zip_length (a ∷ xs) (b ∷ ys) all = ap suc (zip_length xs ys all.1)
+
   module _ (S : A → B → Type 0) (weaker : (x : A) (y : B) → R x y → S x y) where
     pub zip_weaker : (xs : List A) (ys : List B) → AllZip R xs ys → AllZip S xs ys
     zip_weaker [] [] all = tt
@@ -34,6 +40,13 @@ zip_keeps R P keeps [] (y ∷ ys) zip all = absurd zip
 zip_keeps R P keeps (x ∷ xs) [] zip all = absurd zip
 zip_keeps R P keeps (x ∷ xs) (y ∷ ys) zip all =
     All-cons P y ys (keeps x y zip.0 (All-head P x xs all)) (zip_keeps R P keeps xs ys zip.1 (All-tail P x xs all))
+
+-- what each has for two reasons, all have
+pub all_both : {A : Type 0} (P Q R : A → Type 0) → ((x : A) → P x → Q x → R x) → (xs : List A) → All P xs → All Q xs → All R xs
+all_both P Q R each [] first second = All-nil R
+all_both P Q R each (x ∷ xs) first second =
+    All-cons R x xs (each x (All-head P x xs first) (All-head Q x xs second))
+    (all_both P Q R each xs (All-tail P x xs first) (All-tail Q x xs second))
 
 zip_same : {A : Type 0} (R : A → A → Type 0) → ((x : A) → R x x) → (xs : List A) → AllZip R xs xs
 zip_same R same [] = tt

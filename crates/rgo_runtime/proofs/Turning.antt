@@ -1,5 +1,5 @@
 -- Turning: what a turn between two meetings with the driver comes to.
-use Rattle.std.proofs.Common.{◌≡◌, ◌+◌, ◌<◌, ◌^◌, ℕ, true, false, List, [], ◌∷◌, ◌++◌, Option, Some, None, get_or, length, refl, sym, ap, ◌∙◌, subst, inl, inr, arith, set}
+use Rattle.std.proofs.Common.{◌≡◌, ◌+◌, ◌<◌, ◌≤◌, ◌^◌, ℕ, true, false, List, [], ◌∷◌, ◌++◌, Option, Some, None, get_or, length, refl, sym, ap, ◌∙◌, subst, inl, inr, arith, set}
 use Rattle.std.specs.List.{AllZip, Contains}
 use Rattle.std.proofs.lemmas.List.{append-nil, get_or-set_same, length-set}
 use Rattle.std.proofs.lemmas.List.Elements.{All-nil, All-push, Contains-append_left, Contains-get_or, Contains-push}
@@ -9,11 +9,11 @@ use Rattle.rgo_core.specs.Rule.Histories.{accesses_by}
 use Rattle.rgo_core.specs.Rule.Views.{number_of}
 use Rattle.rgo_core.specs.Rule.declared.accesses.Access.{Access}
 use Rattle.rgo_sound.specs.Machine.declared.turns.Shortage.{Shortage}
-use Rattle.rgo_goroutine.specs.Acts.Runs.{Run}
-use Rattle.rgo_goroutine.specs.Goroutines.{IsTidy, record_of}
-use Rattle.rgo_goroutine.specs.Turns.{HasTurned}
-use Rattle.rgo_goroutine.specs.declared.goroutine.Goroutine.{Goroutine}
-use Rattle.rgo_goroutine.specs.declared.turning.Turned.{Turned}
+use Rattle.rgo_table_runs.specs.Goroutine.Acts.Runs.{Run}
+use Rattle.rgo_table_runs.specs.Goroutine.Goroutines.{IsTidy, record_of}
+use Rattle.rgo_table_runs.specs.Goroutine.Turns.{HasTurned}
+use Rattle.rgo_table_runs.specs.Goroutine.declared.goroutine.Goroutine.{Goroutine}
+use Rattle.rgo_table_runs.specs.Goroutine.declared.turning.Turned.{Turned}
 use Rattle.rgo_table_runs.specs.passing.Turns.{HasPassed, IsKnown}
 use Rattle.rgo_table_runs.proofs.passing.Turning.{passes_by_turn, stays_passed}
 use Rattle.rgo_runtime.specs.declared.passes.Passed.{Passed}
@@ -28,8 +28,9 @@ some_made a b n e l = omega arith
 
 -- ---- one turn
 
--- a goroutine that was behind has met its driver, had a turn, and has met it again
+-- a goroutine that was behind and had made few instructions has met its driver, had a turn, and has met it again
 pub record HasATurn (r : Run) (a b c d : Goroutine) (before between after : List Access) (turned : Turned) : Type 0 where
+  pub few : steps_of (record_of r.setup a) ≤ 2 ^ 42
   pub first : Meets r.setup a b before between
   pub turns : HasTurned r b c 1 turned
   pub second : Meets r.setup c d between after
@@ -45,7 +46,7 @@ module _ (r : Run) (a b c d : Goroutine) (before between after : List Access) (t
   turn_seen = after_is r.setup a b c d before between after m.turns.es again m.behind
 
   turned_once : HasTurnedOnce r a d turned
-  turned_once = record { first = b; last = c; met = m.first.met; turns = m.turns; meets = m.second.met }
+  turned_once = record { first = b; last = c; met = m.first.met; few = m.few; turns = m.turns; meets = m.second.met }
 
   known_then : IsKnown (seen_by c) (number_of b.actor.seat.me) (accesses (record_of r.setup c))
   known_then = record {

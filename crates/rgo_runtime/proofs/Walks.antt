@@ -13,7 +13,7 @@ use Rattle.rgo_outside.proofs.PieceLemmas.{AddsPieces-trans}
 use Rattle.std.proofs.lemmas.List.Elements.{All-append, All-from_get_or, All-head, All-nil, All-push, All-tail, All-weaker, Contains-append_right, Contains-get_or}
 use Rattle.std.proofs.lemmas.List.Sorted.{Contains-permutation, IsNonDecreasingBy-drop, IsPermutation-append_right, IsPermutation-middle, IsPermutation-refl, IsPermutation-sym, IsPermutation-trans}
 use Rattle.rgo_runtime.specs.Printing.{AreFrom, GivesOut, GivesSome, IsPieceOf, bytes_of, ticket_of}
-use Rattle.rgo_goroutine.specs.Acts.declared.prints.Print.{Print}
+use Rattle.rgo_table_runs.specs.Goroutine.Acts.declared.prints.Print.{Print}
 
 abbrev pub NotAfter : List Print → Print → Type 0
 NotAfter rest print = All (λ q. print.ticket ≤ q.ticket) rest

@@ -1,22 +1,25 @@
 -- The goroutines of a run, as their driver keeps them.
 use Rattle.std.specs.List.{All}
-use Rattle.std.specs.Prelude.{◌≡◌, ℕ, List, [], ◌∷◌, ◌++◌, Option, None, length, map}
+use Rattle.std.specs.Prelude.{◌≡◌, ℕ, List, [], ◌∷◌, ◌++◌, IsPermutation, Option, None, length, map}
 use Rattle.atomic_table.specs.Seated.{TableId}
-use Rattle.rgo_goroutine.specs.Acts.Runs.{Run}
-use Rattle.rgo_goroutine.specs.Acts.declared.prints.Print.{Print}
+use Rattle.rgo_table_runs.specs.Goroutine.Acts.Runs.{Run}
+use Rattle.rgo_table_runs.specs.Goroutine.Acts.declared.prints.Print.{Print}
 use Rattle.rgo_core.specs.Records.{Record}
 use Rattle.rgo_core.specs.Memory.Words.{clock_at}
 use Rattle.rgo_core.specs.Rule.Views.{Has, Me}
 use Rattle.rgo_core_steps.specs.Seats.{IsSeatOf}
 use Rattle.rgo_core_steps.specs.declared.clock.Mark.{Mark}
-use Rattle.rgo_goroutine.specs.Instructions.{HasPages}
-use Rattle.rgo_goroutine.specs.Turns.{IsOver}
-use Rattle.rgo_goroutine.specs.declared.goroutine.Goroutine.{Goroutine}
+use Rattle.rgo_table_runs.specs.Goroutine.Goroutines.{IsOf}
+use Rattle.rgo_table_runs.specs.Goroutine.Instructions.{HasPages}
+use Rattle.rgo_table_runs.specs.Goroutine.Turns.{IsOver}
+use Rattle.rgo_table_runs.specs.Goroutine.declared.goroutine.Goroutine.{Goroutine}
 use Rattle.rgo_sound.specs.RegionMachine.Counts.{Counts}
 use Rattle.rgo_table_runs.specs.closing.Members.{Member, NoneIsLost, retired}
-use Rattle.rgo_runtime.specs.Crews.{AreRetired, IsNewborn, IsOfCrew, Keeps, drawn, marked, member_of, members, turning}
+use Rattle.rgo_runtime.specs.Crews.{AreRetired, IsNewborn, IsOfCrew, Keeps, drawn, its_goroutine, marked, member_of, members, turning}
 use Rattle.rgo_runtime.specs.Parking.{values_of}
+use Rattle.rgo_runtime.specs.Passing.{IsBehind, IsPass}
 use Rattle.rgo_runtime.specs.Turns.{Turn}
+use Rattle.rgo_runtime.specs.declared.passes.Passed.{Passed}
 
 pub record Crew : Type 0 where
   pub run : Run
@@ -52,6 +55,18 @@ all_members c = turning c.ready ++ (turning (values_of c.parked) ++ (members c.r
 abbrev pub KeepsAll : (old new : Crew) → Type 0
 KeepsAll old new = Keeps (all_members old) (drawn old.waiting) (all_members new) (drawn new.waiting)
 
+-- Those that had not retired have had a pass. Only they and the seat of the driver have changed.
+pub record HasPassedAll (old new : Crew) (passed : Passed) : Type 0 where
+  pub before : List Goroutine
+  pub after : List Goroutine
+  pub of_old : IsPermutation (map its_goroutine old.ready) before
+  pub of_new : IsPermutation after (map its_goroutine new.ready)
+  pub pass : IsPass old.run new.me before after passed
+  pub of : All (IsOf old.run) after
+  pub behind : All (IsBehind new.me.0.seen) after
+  pub rows : new.me.0.records ≡ old.me.0.records
+  pub rest : new ≡ record old { ready = new.ready; me = new.me }
+
 pub record WholeCrewExamples : Type 0 where
   pub nobody : (c : Crew) → IsSeatOf c.table c.run.table clock_at → HasPages c.run → c.ready ≡ [] → c.parked ≡ [] → c.born ≡ []
       → c.me.0.records ≡ [] → c.shares ≡ [] → c.first ≡ None → IsCrew c
@@ -63,3 +78,8 @@ pub record WholeCrewExamples : Type 0 where
   pub lost : (c : Crew) (go : Goroutine) → NoneIsLost (member_of c.run.setup go ∷ []) (drawn c.waiting) → c.ready ≡ [] → c.parked ≡ []
       → c.born ≡ [] → c.me.0.records ≡ [] → (old : Crew) → all_members old ≡ member_of c.run.setup go ∷ [] → old.waiting ≡ c.waiting
       → KeepsAll old c → ⊥
+  pub all_passed : (c : Crew) (passed : Passed) → c.ready ≡ [] → IsPass c.run c.me [] [] passed → HasPassedAll c c passed
+  -- one that was ready had no part in it
+  pub left_out : (old new : Crew) (t : Turn) (passed : Passed) (k : HasPassedAll old new passed) → old.ready ≡ t ∷ [] → k.before ≡ [] → ⊥
+  -- it has taken one that was ready away
+  pub gone : (old new : Crew) (t : Turn) (passed : Passed) → old.ready ≡ t ∷ [] → new.ready ≡ [] → HasPassedAll old new passed → ⊥

@@ -2,19 +2,19 @@
 use Rattle.std.specs.List.{AllZip}
 use Rattle.std.specs.Option.{option_map}
 use Rattle.std.specs.Prelude.{◌≡◌, ◌⊎◌, ◌<◌, ◌≤◌, ℕ, Bool, false, List, [], ◌∷◌, ◌++◌, Option, Some, None, length, map, slice_get}
-use Rattle.rgo_goroutine.specs.Acts.Runs.{Run}
-use Rattle.rgo_goroutine.specs.Acts.declared.prints.Print.{Print}
+use Rattle.rgo_table_runs.specs.Goroutine.Acts.Runs.{Run}
+use Rattle.rgo_table_runs.specs.Goroutine.Acts.declared.prints.Print.{Print}
 use Rattle.rgo_core.specs.Core.{Setup}
-use Rattle.rgo_core.specs.Records.{Drawn, Record, begins_with, blank}
+use Rattle.rgo_core.specs.Records.{Drawn, Record, begins_with, blank, steps_of}
 use Rattle.rgo_core.specs.Frames.Opening.{no_record}
 use Rattle.rgo_core.specs.Rule.Views.{Has, Rows}
 use Rattle.rgo_core_steps.specs.Ends.{mark_of}
 use Rattle.rgo_core_steps.specs.declared.clock.Mark as clock
-use Rattle.rgo_goroutine.specs.Goroutines.{IsOf, IsTidy, drawn_by, fresh, numbers, record_of}
-use Rattle.rgo_goroutine.specs.Turns.{IsOver}
-use Rattle.rgo_goroutine.specs.declared.goroutine.Goroutine.{Goroutine}
-use Rattle.rgo_goroutine.specs.declared.turning.Stop.TheVariants.{Ended}
-use Rattle.rgo_goroutine.specs.declared.turning.Turned.{Turned}
+use Rattle.rgo_table_runs.specs.Goroutine.Goroutines.{IsOf, IsTidy, drawn_by, fresh, numbers, record_of}
+use Rattle.rgo_table_runs.specs.Goroutine.Turns.{IsOver}
+use Rattle.rgo_table_runs.specs.Goroutine.declared.goroutine.Goroutine.{Goroutine}
+use Rattle.rgo_table_runs.specs.Goroutine.declared.turning.Stop.TheVariants.{Ended}
+use Rattle.rgo_table_runs.specs.Goroutine.declared.turning.Turned.{Turned}
 use Rattle.rgo_sound.specs.RegionMachine.Counts.{Counts}
 use Rattle.rgo_sound.specs.RegionMachine.States.{Mark}
 use Rattle.rgo_sched.specs.Rounds.{RoundOf}
@@ -59,6 +59,15 @@ KeepsMembers old new = (others : List Member) (taken : List Drawn) → NobodyIsL
 
 abbrev pub its_member : Turn → Member
 its_member t = member_of t.run.setup t.goroutine
+
+abbrev pub its_goroutine : Turn → Goroutine
+its_goroutine t = t.goroutine
+
+-- of this run and at rest, and with few enough instructions for a turn
+pub record MayTurn (r : Run) (go : Goroutine) : Type 0 where
+  pub of : IsOf r go
+  pub tidy : IsTidy (record_of r.setup go)
+  pub few : steps_of (record_of r.setup go) < 8796093022208
 
 abbrev pub turning : List Turn → List Member
 turning ts = map its_member ts
@@ -139,6 +148,8 @@ pub record CrewExamples : Type 0 where
   pub uncounted : AreRetired ((0, main_itself) ∷ []) (no_share ∷ []) None → ⊥
   -- nobody has ended the run
   pub made_up : (mark : Mark) → AreRetired [] [] (Some mark) → ⊥
+  -- a goroutine that has made too many instructions
+  pub may_not_turn : (r : Run) (go : Goroutine) → steps_of (record_of r.setup go) ≡ 8796093022208 → MayTurn r go → ⊥
   pub has_place : (t : Turn) → t.goroutine.number ≡ 0 → t.turned ≡ None → IsOfCrew t.run 1 t
   pub no_place : (r : Run) (t : Turn) → IsOfCrew r 0 t → ⊥
   -- its last turn says that it has ended, and it has a frame

@@ -1,7 +1,10 @@
+pub mod Closing
 pub mod Crew
 pub mod Crews
+pub mod Leaving
 pub mod Parking
 pub mod Passing
 pub mod Printing
+pub mod Runs
 pub mod Shares
 pub mod Turns

@@ -1,20 +1,20 @@
 -- Passes: what a driver knows of its goroutines after all have met it, after all have looked, and after all have had a turn.
 use Rattle.std.specs.List.{All, AllZip, Contains}
-use Rattle.std.specs.Prelude.{◌≡◌, ◌⊎◌, ◌<◌, ◌≤◌, ◌^◌, ◌++◌, ◌∷◌, Bool, true, false, List, [], Option, Some, None, length, ⊤}
+use Rattle.std.specs.Prelude.{◌≡◌, ◌⊎◌, ◌<◌, ◌≤◌, ◌^◌, ◌++◌, ◌∷◌, ℕ, Bool, true, false, List, [], Option, Some, None, length, ⊤}
 use Rattle.rgo_core.specs.Core.{Setup}
 use Rattle.rgo_core.specs.Records.{Record, accesses, looked, steps_of}
-use Rattle.rgo_core.specs.Rule.Views.{number_of, view}
+use Rattle.rgo_core.specs.Rule.Views.{Has, Me, number_of, view}
 use Rattle.rgo_core.specs.Rule.Histories.{access}
 use Rattle.rgo_core.specs.Rule.declared.accesses.Kind.TheVariants.{Load}
 use Rattle.rgo_core.specs.Rule.declared.accesses.Access.{Access}
 use Rattle.rgo_sound.specs.Machine.declared.turns.Shortage.{Shortage}
 use Rattle.rgo_sound.specs.Machine.declared.turns.Shortage.TheVariants.{Pages, Regions}
-use Rattle.rgo_goroutine.specs.Acts.Runs.{Run}
-use Rattle.rgo_goroutine.specs.Goroutines.{IsTidy, record_of}
-use Rattle.rgo_goroutine.specs.Turns.{HasTurned}
-use Rattle.rgo_goroutine.specs.declared.goroutine.Goroutine.{Goroutine}
-use Rattle.rgo_goroutine.specs.declared.turning.Stop.TheVariants.{Ended, Lost}
-use Rattle.rgo_goroutine.specs.declared.turning.Turned.{Turned}
+use Rattle.rgo_table_runs.specs.Goroutine.Acts.Runs.{Run}
+use Rattle.rgo_table_runs.specs.Goroutine.Goroutines.{IsTidy, record_of}
+use Rattle.rgo_table_runs.specs.Goroutine.Turns.{HasTurned}
+use Rattle.rgo_table_runs.specs.Goroutine.declared.goroutine.Goroutine.{Goroutine}
+use Rattle.rgo_table_runs.specs.Goroutine.declared.turning.Stop.TheVariants.{Ended, Lost}
+use Rattle.rgo_table_runs.specs.Goroutine.declared.turning.Turned.{Turned}
 use Rattle.rgo_table_runs.specs.passing.Laws.{Tells}
 use Rattle.rgo_table_runs.specs.passing.Turns.{HasPassed, IsKnown}
 use Rattle.rgo_runtime.specs.declared.passes.Passed.{Passed}
@@ -66,6 +66,7 @@ pub record HasTurnedOnce (r : Run) (old new : Goroutine) (turned : Turned) : Typ
   pub first : Goroutine
   pub last : Goroutine
   pub met : HasMet r.setup old first
+  pub few : steps_of (record_of r.setup old) ≤ 2 ^ 42
   pub turns : HasTurned r first last 1 turned
   pub meets : HasMet r.setup last new
 
@@ -159,8 +160,9 @@ PassComesTo r before seen old new Moved = OneMoved r old new
 PassComesTo r before seen old new Still = AllStoodStill r before seen old new Still
 PassComesTo r before seen old new (Lacks why) = AllStoodStill r before seen old new (Lacks why)
 
--- All goroutines have met their driver, then all have looked, and then each had a turn, until one moved. This is what it has come to.
-pub record IsPass (r : Run) (seen : List Access) (old new : List Goroutine) (passed : Passed) : Type 0 where
+-- All goroutines have met their driver, whose seat then had this part; then all have looked, and then each had a turn, until one moved.
+-- This is what it has come to.
+pub record IsPass (r : Run) (me : Me Record) (old new : List Goroutine) (passed : Passed) : Type 0 where
   pub met : List Goroutine
   pub looked : List Goroutine
   pub meets : AllZip (HasMet r.setup) old met
@@ -169,8 +171,10 @@ pub record IsPass (r : Run) (seen : List Access) (old new : List Goroutine) (pas
   -- what the driver had seen when all had looked, and since then
   pub before : List Access
   pub since : List Access
-  pub is : seen ≡ before ++ since
-  pub come : PassComesTo r before seen looked new passed
+  pub is : me.0.seen ≡ before ++ since
+  pub come : PassComesTo r before me.0.seen looked new passed
+  -- of those that had retired, all accesses were known when all had looked
+  pub retired : (g : ℕ) (its : Record) → Has me.0.records g its → IsKnown before g (accesses its)
 
 -- ---- examples
 
@@ -221,8 +225,10 @@ pub record PassingExamples : Type 0 where
   pub no_lack : AreLacks (Lacks Regions) (None ∷ Some Pages ∷ []) → ⊥
   pub none : AreLacks Still (None ∷ None ∷ [])
   pub some : AreLacks Still (None ∷ Some Pages ∷ []) → ⊥
-  pub all : (r : Run) (seen : List Access) → IsPass r seen [] [] Still
+  pub all : (r : Run) (seen : List Access) → IsPass r (view [] seen, []) [] [] Still
   -- one of no goroutines has moved
-  pub nobody : (r : Run) (seen : List Access) → IsPass r seen [] [] Moved → ⊥
+  pub nobody : (r : Run) (me : Me Record) → IsPass r me [] [] Moved → ⊥
   -- a goroutine is lost
-  pub lost : (r : Run) (seen : List Access) (go : Goroutine) (passed : Passed) → IsPass r seen (go ∷ []) [] passed → ⊥
+  pub lost : (r : Run) (me : Me Record) (go : Goroutine) (passed : Passed) → IsPass r me (go ∷ []) [] passed → ⊥
+  -- an access of one that had retired was not known
+  pub unknown_row : (r : Run) (its : Record) → accesses its ≡ 1 → IsPass r (view ((1, its) ∷ []) [], []) [] [] Still → ⊥

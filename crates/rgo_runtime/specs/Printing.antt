@@ -2,7 +2,7 @@
 use Rattle.std.specs.Prelude.{◌≡◌, ◌+◌, ℕ, List, [], ◌∷◌, ◌++◌, All, Contains, IsPermutation, Option, Some, length, take, ⊤}
 use Rattle.std.specs.Io.KnownBytes.{Appends}
 use Rattle.rgo_outside.specs.Pieces.{IsEndOf}
-use Rattle.rgo_goroutine.specs.Acts.declared.prints.Print.{Print}
+use Rattle.rgo_table_runs.specs.Goroutine.Acts.declared.prints.Print.{Print}
 
 abbrev pub ticket_of : Print → ℕ
 ticket_of print = print.ticket

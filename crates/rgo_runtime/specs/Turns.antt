@@ -1,12 +1,12 @@
 -- Goroutines with what a worker needs to give them their turns.
 use Rattle.std.specs.Prelude.{◌≡◌, ◌+◌, ◌<◌, ℕ, Bool, Option, None, Some}
 use Rattle.rgo_core.specs.Records.{steps_of}
-use Rattle.rgo_goroutine.specs.Acts.Runs.{Run}
-use Rattle.rgo_goroutine.specs.Goroutines.{IsOf, IsTidy, record_of}
-use Rattle.rgo_goroutine.specs.Instructions.{HasPages}
-use Rattle.rgo_goroutine.specs.Turns.{HasTurned}
-use Rattle.rgo_goroutine.specs.declared.goroutine.Goroutine.{Goroutine}
-use Rattle.rgo_goroutine.specs.declared.turning.Turned.{Turned}
+use Rattle.rgo_table_runs.specs.Goroutine.Acts.Runs.{Run}
+use Rattle.rgo_table_runs.specs.Goroutine.Goroutines.{IsOf, IsTidy, record_of}
+use Rattle.rgo_table_runs.specs.Goroutine.Instructions.{HasPages}
+use Rattle.rgo_table_runs.specs.Goroutine.Turns.{HasTurned}
+use Rattle.rgo_table_runs.specs.Goroutine.declared.goroutine.Goroutine.{Goroutine}
+use Rattle.rgo_table_runs.specs.Goroutine.declared.turning.Turned.{Turned}
 
 pub record Turn : Type 0 where
   pub run : Run
@@ -15,6 +15,10 @@ pub record Turn : Type 0 where
   pub slice : ℕ
   -- what its last turn has done
   pub turned : Option Turned
+
+-- that of a goroutine which may execute nothing until it is given some
+abbrev pub first_turn : Run → Goroutine → Turn
+first_turn r go = record { run = r; goroutine = go; slice = 0; turned = None }
 
 -- the goroutine is of the run and at rest, and may have its turn
 pub record CanTurn (t : Turn) : Type 0 where

@@ -2,20 +2,21 @@
 //!
 //! A goroutine is in one of four places: ready for a turn in the next round, parked at a word of the table, just born, or retired, where
 //! its record is at the driver's seat. It is never in none: each step below says so by its clause `kept`.
-ghost use Rattle.std.specs.Prelude.{◌≡◌, ◌≤◌, ◌<◌, ◌+◌, ◌∷◌, [], IfErr, IfOk, MatchOption, OnErr, OnOk, length, slice_index_or, true};
+ghost use Rattle.std.specs.Prelude.{◌≡◌, ◌≤◌, ◌<◌, ◌+◌, ◌∷◌, ◌++◌, [], ℕ, IfErr, IfOk, MatchOption, OnErr, OnOk, length, map, reverse, slice_index_or, true, vec_capacity};
 ghost use Rattle.rgo_runtime.specs.Crew as spec;
-ghost use Rattle.std.specs.List.{AllZip};
+ghost use Rattle.std.specs.List.{All, AllZip};
 ghost use Rattle.rgo_core.specs.Core.{IsPossible};
 ghost use Rattle.rgo_core.specs.Opening.{first_of};
 ghost use Rattle.rgo_core.specs.Memory.Words.{clock_at};
 ghost use Rattle.rgo_core.specs.Rule.Views.{view};
 ghost use Rattle.rgo_core_steps.specs.Seats.{IsSeatOf};
-ghost use Rattle.rgo_goroutine.specs.Instructions.{HasPages};
-ghost use Rattle.rgo_goroutine.specs.declared.turning.Stop.TheVariants.{Ended};
+ghost use Rattle.rgo_table_runs.specs.Goroutine.Instructions.{HasPages};
+ghost use Rattle.rgo_table_runs.specs.Goroutine.declared.turning.Stop.TheVariants.{Ended};
 ghost use Rattle.rgo_outside.specs.Causes.{HasCause};
 ghost use Rattle.rgo_outside.specs.Pieces.{AddsOnly};
-ghost use Rattle.rgo_runtime.specs.Crew.{KeepsAll, WholeCrewExamples, all_members};
-ghost use Rattle.rgo_runtime.specs.Crews.{HaveTurned, IsGiven};
+ghost use Rattle.rgo_runtime.specs.Crew.{HasPassedAll, KeepsAll, WholeCrewExamples, all_members};
+ghost use Rattle.rgo_runtime.specs.Crews.{HaveTurned, IsGiven, IsOfCrew, MayTurn, its_goroutine, AreRetired, marked};
+ghost use Rattle.rgo_runtime.specs.Leaving.{HaveAllLeft, turn_row};
 ghost use Rattle.rgo_runtime.specs.Printing.{GivesOut, GivesSome, IsPieceOf};
 ghost use Rattle.rgo_runtime.specs.Turns as turns;
 ghost use Rattle.rgo_runtime.specs.Turns.{TakesTurn};
@@ -24,17 +25,18 @@ ghost use Rattle.rgo_sched.specs.Rounds.{RoundOf};
 ghost use Rattle.rgo_table_runs.specs.closing.Members.{NoneIsLost};
 
 use crate::parking::Parked;
+use crate::passes::{Passed, pass_uncounted};
 use crate::printing::Outgoing;
-use crate::retiring::retire;
+use crate::retiring::{Left, Stock, dismiss_born, dismiss_parked, dismiss_turns, note, retire};
 use crate::shares::Shares;
 use crate::turns::Turn;
 use rgo_core::table::RunSeat;
 use rgo_core_steps::clock::Mark;
-use rgo_goroutine::acts::runs::Run;
-use rgo_goroutine::goroutine::Goroutine;
-use rgo_goroutine::turning::{Stop, Turned};
 use rgo_outside::{Gate, Sink, WriteFault};
 use rgo_sched::round;
+use rgo_table_runs::goroutine::acts::runs::Run;
+use rgo_table_runs::goroutine::goroutine::Goroutine;
+use rgo_table_runs::goroutine::turning::{Stop, Turned};
 use std::alloc::{AllocError, Global};
 use std::marker::Model;
 use std::thread::Threads;
@@ -95,6 +97,8 @@ pub struct Came {
     pub moved: bool,
     /// Whether each turn executed all that it was given.
     pub all_used: bool,
+    /// How many instructions were executed.
+    pub steps: u64,
     /// Whether a goroutine has ended the run.
     pub is_over: bool,
     /// Whether a goroutine found no memory.
@@ -123,6 +127,49 @@ fn next_of(turn: &Turn<'_, '_>) -> Next
     }
 }
 
+/// The goroutines of these turns, the last first.
+///
+/// # Errors
+///
+/// On allocation failure. Then nothing has changed.
+fn take_out<'r, 'c>(
+    alloc: Global,
+    run: &'r Run<'r, 'c>,
+    ready: &mut Vec<Turn<'r, 'c>>,
+) -> Result<Vec<Goroutine>, AllocError>
+    requires crew { (n : ℕ) × All (IsOfCrew run.now n) ready.old.items }
+    ensures taken { IfOk result (λ goroutines. goroutines.items ≡ reverse (map its_goroutine ready.old.items)) }
+    ensures rest { IfOk result (λ goroutines. All (MayTurn run.now) goroutines.items) }
+    ensures none { OnOk result (ready.new.items ≡ []) }
+    ensures capacity { vec_capacity ready.new ≡ vec_capacity ready.old }
+    ensures same { OnErr result (ready.new.items ≡ ready.old.items) }
+{
+    let mut goroutines = Vec::new(alloc);
+    goroutines.reserve(ready.len())?;
+    while let Some(turn) = ready.pop() {
+        goroutines.push_reserved(turn.into_goroutine());
+    }
+    Ok(goroutines)
+}
+
+/// These goroutines come to a list without turns that has room for them, the last first.
+fn put_back<'r, 'c>(
+    alloc: Global,
+    run: &'r Run<'r, 'c>,
+    mut goroutines: Vec<Goroutine>,
+    ready: &mut Vec<Turn<'r, 'c>>,
+)
+    requires rest { All (MayTurn run.now) goroutines.items }
+    requires pages { HasPages run.now }
+    requires none { ready.old.items ≡ [] }
+    requires room { length goroutines.items ≤ vec_capacity ready.old }
+    ensures back { ready.new.items ≡ map (turns.first_turn run.now) (reverse goroutines.items) }
+{
+    while let Some(goroutine) = goroutines.pop() {
+        ready.push_reserved(Turn::new(alloc, run, goroutine));
+    }
+}
+
 impl<'r, 'c> Crew<'r, 'c> {
     /// How many are ready.
     pub fn ready(&self) -> usize
@@ -136,6 +183,7 @@ impl<'r, 'c> Crew<'r, 'c> {
         ensures kept { KeepsAll self.old self.new }
         ensures given { AllZip (IsGiven slice) self.old.ready self.new.ready }
         ensures run { self.new.run ≡ self.old.run }
+        ensures next { self.new.next ≡ self.old.next }
     {
         for i in 0..self.ready.len() {
             self.ready[i].set_slice(slice);
@@ -159,6 +207,7 @@ impl<'r, 'c> Crew<'r, 'c> {
         ensures turned { IfOk result (λ went. RoundOf TakesTurn self.old.ready self.new.ready went) }
         ensures same { OnErr result (self.new ≡ self.old) }
         ensures run { self.new.run ≡ self.old.run }
+        ensures next { self.new.next ≡ self.old.next }
     {
         round(rt, &mut self.ready, workers, number, gate)
     }
@@ -171,6 +220,7 @@ impl<'r, 'c> Crew<'r, 'c> {
     fn collect_all(&mut self) -> Result<(), AllocError>
         ensures kept { KeepsAll self.old self.new }
         ensures run { self.new.run ≡ self.old.run }
+        ensures next { self.new.next ≡ self.old.next }
     {
         for i in 0..self.ready.len() {
             self.ready[i].collect(&mut self.outgoing.waiting, &mut self.born)?;
@@ -183,6 +233,7 @@ impl<'r, 'c> Crew<'r, 'c> {
         requires { place < length self.old.ready }
         ensures kept { KeepsAll self.old self.new }
         ensures run { self.new.run ≡ self.old.run }
+        ensures next { self.new.next ≡ self.old.next }
         ensures left { length self.old.ready ≤ length self.new.ready + 1 }
     {
         let turn = self.ready.swap_remove(place);
@@ -202,6 +253,7 @@ impl<'r, 'c> Crew<'r, 'c> {
             → MatchOption t.turned ⊥ (λ turned. turned.stop ≡ Ended) }
         ensures kept { KeepsAll self.old self.new }
         ensures run { self.new.run ≡ self.old.run }
+        ensures next { self.new.next ≡ self.old.next }
         ensures left { length self.old.ready ≤ length self.new.ready + 1 }
     {
         let turn = self.ready.swap_remove(place);
@@ -219,6 +271,7 @@ impl<'r, 'c> Crew<'r, 'c> {
     fn sort_out(&mut self)
         ensures kept { KeepsAll self.old self.new }
         ensures run { self.new.run ≡ self.old.run }
+        ensures next { self.new.next ≡ self.old.next }
     {
         let mut place = self.ready.len();
         while place > 0 {
@@ -237,8 +290,10 @@ impl<'r, 'c> Crew<'r, 'c> {
     ///
     /// On allocation failure. Then some of them are.
     fn welcome(&mut self) -> Result<(), AllocError>
+        ensures none { OnOk result (self.new.born ≡ []) }
         ensures kept { KeepsAll self.old self.new }
         ensures run { self.new.run ≡ self.old.run }
+        ensures next { self.new.next ≡ self.old.next }
     {
         self.ready.reserve(self.born.len())?;
         self.born.reverse();
@@ -265,6 +320,7 @@ impl<'r, 'c> Crew<'r, 'c> {
     fn wake(&mut self, at: usize) -> Result<(), AllocError>
         ensures kept { KeepsAll self.old self.new }
         ensures run { self.new.run ≡ self.old.run }
+        ensures next { self.new.next ≡ self.old.next }
     {
         self.parked.unpark(at, &mut self.ready)
     }
@@ -278,7 +334,7 @@ impl<'r, 'c> Crew<'r, 'c> {
         ensures woken { OnOk result (self.new.parked ≡ []) }
         ensures same { OnErr result (self.new ≡ self.old) }
         ensures kept { KeepsAll self.old self.new }
-        ensures run { self.new.run ≡ self.old.run }
+        ensures rest { self.new ≡ record self.old { ready = self.new.ready; parked = self.new.parked } }
     {
         self.parked.unpark_all(&mut self.ready)
     }
@@ -292,12 +348,14 @@ impl<'r, 'c> Crew<'r, 'c> {
         let mut came = Came {
             moved,
             all_used: true,
+            steps: 0,
             is_over: false,
             lacks_memory: false,
         };
         for turn in &self.ready {
             if let Some(turned) = turn.turned() {
                 came.all_used = came.all_used && turned.stop == Stop::Went;
+                came.steps = came.steps.saturating_add(u64::from(turned.steps));
                 came.is_over = came.is_over || turn.goroutine().first().is_some();
                 came.lacks_memory = came.lacks_memory || turned.stop == Stop::NoMemory;
                 changed.extend_from_slice(turned.changed.channels())?;
@@ -314,6 +372,7 @@ impl<'r, 'c> Crew<'r, 'c> {
     fn wake_each(&mut self, words: &[usize]) -> Result<(), AllocError>
         ensures kept { KeepsAll self.old self.new }
         ensures run { self.new.run ≡ self.old.run }
+        ensures next { self.new.next ≡ self.old.next }
     {
         for at in words {
             self.wake(*at)?;
@@ -338,7 +397,9 @@ impl<'r, 'c> Crew<'r, 'c> {
         requires workers { (1 ≤ workers) × (workers ≤ 64) }
         ensures kept { KeepsAll self.old self.new }
         ensures turned { OnOk result (HaveTurned slice self.old.ready) }
+        ensures none { OnOk result (self.new.born ≡ []) }
         ensures run { self.new.run ≡ self.old.run }
+        ensures next { self.new.next ≡ self.old.next }
     {
         self.set_slices(slice);
         let moved = self.turn_all(rt, workers, number, gate)?;
@@ -350,6 +411,76 @@ impl<'r, 'c> Crew<'r, 'c> {
         self.wake_each(changed.as_slice())?;
         self.welcome()?;
         Ok(came)
+    }
+
+    /// A pass over all that are ready, if none is parked and none was just born.
+    ///
+    /// # Errors
+    ///
+    /// On allocation failure. Then nothing has changed.
+    pub fn pass(&mut self) -> Result<Passed, AllocError>
+        requires settled { (self.old.parked ≡ []) × (self.old.born ≡ []) }
+        ensures kept { KeepsAll self.old self.new }
+        ensures passed { IfOk result (HasPassedAll self.old self.new) }
+        ensures same { OnErr result (self.new ≡ self.old) }
+    {
+        let mut goroutines = take_out(self.alloc, self.run, &mut self.ready)?;
+        let passed = pass_uncounted(
+            self.alloc,
+            self.run,
+            goroutines.as_mut_slice(),
+            &mut self.seat,
+        );
+        put_back(self.alloc, self.run, goroutines, &mut self.ready);
+        Ok(passed)
+    }
+
+    /// What those that are ready and those that have retired have counted so far, and how one of them has ended the run.
+    ///
+    /// # Errors
+    ///
+    /// On allocation failure.
+    pub fn stock(&self) -> Result<Stock, AllocError>
+        ensures { IfOk result (λ stock. AreRetired (self.now.me.0.records ++ map (turn_row self.now.run.setup) self.now.ready)
+            stock.shares (marked stock.first)) }
+    {
+        let mut stock = Stock {
+            shares: self.shares.copy(self.alloc)?,
+            first: self.first,
+        };
+        for turn in &self.ready {
+            note(turn.goroutine(), &mut stock.shares, &mut stock.first);
+        }
+        Ok(stock)
+    }
+
+    /// All goroutines retire, or are given up.
+    pub fn finish(self) -> Left
+        ensures left { HaveAllLeft self.entry result }
+        ensures crew { spec.IsCrew self.entry }
+        ensures retired { AreRetired result.seat.me.0.records result.shares (marked result.first) }
+    {
+        let Crew {
+            run,
+            alloc: _,
+            seat,
+            ready,
+            parked,
+            born,
+            outgoing: _,
+            shares,
+            first,
+        } = self;
+        let mut left = Left {
+            seat,
+            shares,
+            first,
+            is_whole: true,
+        };
+        dismiss_turns(run, ready, &mut left);
+        dismiss_parked(run, parked, &mut left);
+        dismiss_born(run, born, &mut left);
+        left
     }
 
     /// Writes the prints whose turn it is.

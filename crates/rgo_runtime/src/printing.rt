@@ -5,8 +5,8 @@ ghost use Rattle.rgo_outside.specs.Causes.{HasCause};
 ghost use Rattle.rgo_outside.specs.Pieces.{AddsOnly};
 ghost use Rattle.rgo_runtime.specs.Printing.{GivesOut, GivesSome, IsPieceOf, PrintingExamples, ticket_of};
 
-use rgo_goroutine::acts::prints::Print;
 use rgo_outside::{Sink, WriteFault, write_all};
+use rgo_table_runs::goroutine::acts::prints::Print;
 use std::alloc::{AllocError, Global};
 
 /// Prints that wait until all prints with lower tickets have gone out.
@@ -108,39 +108,3 @@ impl Outgoing {
 pub fn examples()
     ensures { PrintingExamples }
 {}
-
-#[cfg(test)]
-mod tests {
-    use super::*;
-    use rgo_outside::MemSink;
-    use std::test::Fail;
-
-    fn add(alloc: Global, outgoing: &mut Outgoing, ticket: u64, text: &str) -> Result<(), Fail> {
-        let bytes = Vec::from_slice(alloc, text.as_bytes())?;
-        let mut prints = Vec::new(alloc);
-        prints.push(Print {
-            ticket,
-            bytes,
-            is_void: false,
-        })?;
-        outgoing.add(&mut prints)?;
-        Ok(())
-    }
-
-    #[test]
-    fn a_gap_is_closed_and_then_a_write_fails(rt: HostRuntime) -> Result<(), Fail> {
-        let alloc = rt.alloc();
-        let failing = Vec::from_slice(alloc, &[4])?;
-        let mut sink = MemSink::new(alloc, 100, failing)?;
-        let mut outgoing = Outgoing::new(alloc);
-        add(alloc, &mut outgoing, 2, "third ")?;
-        add(alloc, &mut outgoing, 0, "first ")?;
-        assert!(rt; outgoing.give_out(&mut sink).is_ok());
-        assert_eq!(rt; sink.bytes(), b"first ".as_slice());
-        add(alloc, &mut outgoing, 3, "fourth ")?;
-        add(alloc, &mut outgoing, 1, "second ")?;
-        assert!(rt; outgoing.give_out(&mut sink).is_err());
-        assert_eq!(rt; sink.bytes(), b"first second third ".as_slice());
-        Ok(())
-    }
-}

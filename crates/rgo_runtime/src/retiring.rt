@@ -1,23 +1,29 @@
 //! Goroutines that have no more turns: what their driver keeps of them.
-ghost use Rattle.std.specs.Prelude.{◌≡◌, ◌⊎◌, ◌<◌, ◌∷◌, ◌++◌, [], MatchOption, Some, length, map, slice_set};
-ghost use Rattle.rgo_goroutine.specs.Acts.Runs as runs;
+ghost use Rattle.std.specs.Prelude.{◌≡◌, ◌⊎◌, ◌<◌, ◌∷◌, ◌++◌, [], IsPermutation, List, MatchOption, Some, length, map, reverse, slice_set};
+ghost use Rattle.std.specs.List.{All};
+ghost use Rattle.rgo_table_runs.specs.Goroutine.Acts.Runs as runs;
 ghost use Rattle.rgo_core.specs.Memory.Words.{clock_at};
 ghost use Rattle.rgo_core.specs.Rule.Passes.{after_pass};
 ghost use Rattle.rgo_core.specs.Rule.Views.{longer};
 ghost use Rattle.rgo_core_steps.specs.Seats.{IsSeatOf};
-ghost use Rattle.rgo_goroutine.specs.Goroutines.{IsOf, IsTidy, all_seen, record_of, rows};
-ghost use Rattle.rgo_runtime.specs.Crews.{AreRetired, CrewExamples, Keeps, KeepsMembers, marked, member_of};
+ghost use Rattle.rgo_table_runs.specs.Goroutine.Goroutines.{IsOf, IsTidy, all_seen, record_of, rows};
+ghost use Rattle.rgo_runtime.specs.Crews.{AreRetired, CrewExamples, IsNewborn, IsOfCrew, Keeps, KeepsMembers, its_goroutine, marked, member_of};
+ghost use Rattle.rgo_runtime.specs.Leaving.{HaveLeft, LeavingExamples};
+ghost use Rattle.rgo_runtime.specs.Parking.{values_of};
+ghost use Rattle.rgo_table_runs.specs.Goroutine.declared.goroutine.Goroutine.{Goroutine};
 ghost use Rattle.rgo_sound.specs.Tally.{no_share};
 ghost use Rattle.rgo_table_runs.specs.closing.Members.{retired};
 
+use crate::parking::Parked;
 use crate::shares::Shares;
+use crate::turns::Turn;
 use rgo_core::table::RunSeat;
 use rgo_core_steps::clock::Mark;
-use rgo_goroutine::acts::runs::Run;
-use rgo_goroutine::goroutine::Goroutine;
+use rgo_table_runs::goroutine::acts::runs::Run;
+use rgo_table_runs::goroutine::goroutine::Goroutine;
 
 /// Puts what the goroutine has counted at its place, and records how it has ended the run, if it has.
-fn note(goroutine: &Goroutine, shares: &mut Shares, first: &mut Option<Mark>)
+pub(crate) fn note(goroutine: &Goroutine, shares: &mut Shares, first: &mut Option<Mark>)
     ensures share { (r : runs.Run) → IsOf r goroutine.now → shares.new
         ≡ slice_set shares.old goroutine.now.number (record_of r.setup goroutine.now).clock.share }
     ensures first { MatchOption goroutine.now.first (first.new ≡ first.old) (λ mark. first.new ≡ Some mark) }
@@ -86,7 +92,104 @@ pub fn give_up(
     goroutine.give_up(run, seat);
 }
 
+/// What goroutines have counted, each share at the place of its goroutine's number, and how one of them has ended the run.
+#[derive(Drop)]
+pub struct Stock {
+    pub shares: Shares,
+    pub first: Option<Mark>,
+}
+
+/// What is left of goroutines that have no more turns.
+#[derive(Drop)]
+pub struct Left {
+    /// The seat of their driver, with their records.
+    pub seat: RunSeat,
+    /// What each has counted, at the place of its number.
+    pub shares: Shares,
+    /// How one of them has ended the run, if one has.
+    pub first: Option<Mark>,
+    /// Whether nothing of them is lost. Where memory was refused, prints are that were not gathered.
+    pub is_whole: bool,
+}
+
+/// A goroutine retires. If its prints were not gathered, or its children not adopted, it is given up.
+pub(crate) fn dismiss(run: &Run<'_, '_>, goroutine: Goroutine, left: &mut Left)
+    requires of { IsOf run.now goroutine }
+    requires tidy { IsTidy (record_of run.now.setup goroutine) }
+    requires place { (goroutine.number < length left.old.shares)
+        ⊎ ((record_of run.now.setup goroutine).clock.share ≡ no_share) }
+    requires own { IsSeatOf left.old.seat.table_id run.now.table clock_at }
+    ensures { HaveLeft run.now.setup (goroutine ∷ []) left.old left.new }
+{
+    let is_empty = goroutine.new_prints() == 0 && goroutine.new_children() == 0;
+    if is_empty && left.shares.has_place(goroutine.number()) {
+        retire(
+            run,
+            goroutine,
+            &mut left.seat,
+            &mut left.shares,
+            &mut left.first,
+        );
+    } else {
+        left.is_whole = false;
+        give_up(
+            run,
+            goroutine,
+            &mut left.seat,
+            &mut left.shares,
+            &mut left.first,
+        );
+    }
+}
+
+/// The goroutines of these turns retire or are given up, the last first.
+pub(crate) fn dismiss_turns<'r, 'c>(
+    run: &'r Run<'r, 'c>,
+    mut turns: Vec<Turn<'r, 'c>>,
+    left: &mut Left,
+)
+    requires all { All (IsOfCrew run.now (length left.old.shares)) turns.items }
+    requires own { IsSeatOf left.old.seat.table_id run.now.table clock_at }
+    ensures { HaveLeft run.now.setup (reverse (map its_goroutine turns.entry.items)) left.old left.new }
+{
+    while let Some(turn) = turns.pop() {
+        dismiss(run, turn.into_goroutine(), left);
+    }
+}
+
+/// So do those that are parked.
+pub(crate) fn dismiss_parked<'r, 'c>(
+    run: &'r Run<'r, 'c>,
+    mut parked: Parked<Turn<'r, 'c>>,
+    left: &mut Left,
+)
+    requires all { All (IsOfCrew run.now (length left.old.shares)) (values_of parked) }
+    requires own { IsSeatOf left.old.seat.table_id run.now.table clock_at }
+    ensures { (gone : List Goroutine) × IsPermutation gone (map its_goroutine (values_of parked.entry))
+        × HaveLeft run.now.setup gone left.old left.new }
+{
+    while let Some(group) = parked.pop() {
+        dismiss_turns(run, group, left);
+    }
+}
+
+/// So do those that were just born.
+pub(crate) fn dismiss_born(run: &Run<'_, '_>, mut born: Vec<Goroutine>, left: &mut Left)
+    requires all { All (IsNewborn run.now) born.items }
+    requires own { IsSeatOf left.old.seat.table_id run.now.table clock_at }
+    ensures { HaveLeft run.now.setup (reverse born.items) left.old left.new }
+{
+    while let Some(goroutine) = born.pop() {
+        dismiss(run, goroutine, left);
+    }
+}
+
 /// Members that a driver keeps, and such as it loses.
 pub fn examples()
     ensures { CrewExamples }
+{}
+
+/// What is left of goroutines, and what cannot be.
+pub fn leaving_examples()
+    ensures { LeavingExamples }
 {}

@@ -1,10 +1,10 @@
 //! What goroutines that have retired have counted, each share at the place of its goroutine's number.
-ghost use Rattle.std.specs.Prelude.{◌≡◌, ◌<◌, ◌++◌, ◌↔◌, [], ℕ, OnErr, OnOk, length, replicate, slice_set, true};
+ghost use Rattle.std.specs.Prelude.{◌≡◌, ◌<◌, ◌++◌, ◌↔◌, [], ℕ, IfOk, OnErr, OnOk, length, replicate, slice_set, true};
 ghost use Rattle.rgo_runtime.specs.Shares.{counts_in};
 ghost use Rattle.rgo_sound.specs.Tally.{no_share};
 ghost use Rattle.rgo_table_runs.specs.closing.Gathering.{sum_of};
 
-use rgo_goroutine::body::Counts;
+use rgo_table_runs::goroutine::body::Counts;
 use std::alloc::{AllocError, Global};
 use std::marker::Model;
 
@@ -87,6 +87,22 @@ impl Shares {
         }
     }
 
+    /// The same shares once more.
+    ///
+    /// # Errors
+    ///
+    /// On allocation failure.
+    pub fn copy(&self, alloc: Global) -> Result<Shares, AllocError>
+        ensures { IfOk result (λ shares. shares ≡ self.now) }
+    {
+        let mut shares = Vec::new(alloc);
+        shares.reserve(self.shares.len())?;
+        for share in &self.shares {
+            shares.push_reserved(copy_of(share));
+        }
+        Ok(Shares { shares })
+    }
+
     /// Makes a place for the goroutine of this number, and for those of lower numbers. Nothing is counted at a new place.
     ///
     /// # Errors
@@ -155,33 +171,5 @@ impl Shares {
             total.goroutines += u128::from(share.goroutines);
         }
         total
-    }
-}
-
-#[cfg(test)]
-mod tests {
-    use super::*;
-    use std::test::Fail;
-
-    #[test]
-    fn shares_at_their_places_add_up(rt: HostRuntime) -> Result<(), Fail> {
-        let mut five = nothing();
-        five.steps = 5;
-        let mut most = nothing();
-        most.steps = u64::MAX;
-        let mut shares = Shares::new(rt.alloc());
-        shares.make_room(2)?;
-        shares.make_room(0)?;
-        assert!(rt; shares.has_place(2));
-        assert!(rt; !shares.has_place(3));
-        assert!(rt; shares.make_room(u64::MAX).is_err());
-        shares.set(0, &most);
-        shares.set(2, &most);
-        // What was counted before is among what is counted now; and the last goroutine has no place.
-        shares.set(2, &five);
-        shares.set(3, &five);
-        assert_eq!(rt; shares.total().steps, u128::from(u64::MAX) + 5);
-        assert_eq!(rt; shares.total().made, 0);
-        Ok(())
     }
 }

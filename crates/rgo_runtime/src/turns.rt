@@ -2,18 +2,18 @@
 ghost use Rattle.std.specs.Prelude.{◌≡◌, ◌+◌, ◌∷◌, ◌<◌, ◌≤◌, [], None, OnOk, Some};
 ghost use Rattle.std.specs.List.{All};
 ghost use Rattle.rgo_core.specs.Records.{steps_of};
-ghost use Rattle.rgo_goroutine.specs.Goroutines.{IsOf, IsTidy, record_of};
-ghost use Rattle.rgo_goroutine.specs.Instructions.{HasPages};
-ghost use Rattle.rgo_goroutine.specs.Turns.{HasTurned};
+ghost use Rattle.rgo_table_runs.specs.Goroutine.Goroutines.{IsOf, IsTidy, record_of};
+ghost use Rattle.rgo_table_runs.specs.Goroutine.Instructions.{HasPages};
+ghost use Rattle.rgo_table_runs.specs.Goroutine.Turns.{HasTurned};
 ghost use Rattle.rgo_runtime.specs.Crews.{IsNewborn, Keeps, drawn, its_member, members};
 ghost use Rattle.rgo_runtime.specs.Turns as spec;
 
 use rgo_core_steps::counting::Steps;
-use rgo_goroutine::acts::prints::Print;
-use rgo_goroutine::acts::runs::Run;
-use rgo_goroutine::goroutine::Goroutine;
-use rgo_goroutine::turning::Turned;
 use rgo_sched::Task;
+use rgo_table_runs::goroutine::acts::prints::Print;
+use rgo_table_runs::goroutine::acts::runs::Run;
+use rgo_table_runs::goroutine::goroutine::Goroutine;
+use rgo_table_runs::goroutine::turning::Turned;
 use std::alloc::{AllocError, Global};
 use std::marker::{Brand, Model};
 use std::sync::ledger::{Blank, Ledger};
@@ -56,7 +56,7 @@ impl<'r, 'c> Turn<'r, 'c> {
         requires tidy { IsTidy (record_of run.now.setup goroutine) }
         requires pages { HasPages run.now }
         requires few { steps_of (record_of run.now.setup goroutine) < 8796093022208 }
-        ensures { result ≡ record { run = run.now; goroutine = goroutine; slice = 0; turned = None } }
+        ensures { result ≡ spec.first_turn run.now goroutine }
     {
         Turn {
             run,
@@ -88,7 +88,9 @@ impl<'r, 'c> Turn<'r, 'c> {
     }
 
     pub fn goroutine(&self) -> &Goroutine
-        ensures { result.now ≡ self.now.goroutine }
+        ensures of { IsOf self.now.run result.now }
+        ensures tidy { IsTidy (record_of self.now.run.setup result.now) }
+        ensures same { result.now ≡ self.now.goroutine }
     {
         &self.goroutine
     }
@@ -121,6 +123,7 @@ impl<'r, 'c> Turn<'r, 'c> {
     pub fn into_goroutine(self) -> Goroutine
         ensures of { IsOf self.entry.run result }
         ensures tidy { IsTidy (record_of self.entry.run.setup result) }
+        ensures few { steps_of (record_of self.entry.run.setup result) < 8796093022208 }
         ensures same { result ≡ self.entry.goroutine }
     {
         let Turn {

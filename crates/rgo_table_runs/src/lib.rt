@@ -8,3 +8,6 @@
 #![tactic(auto)]
 
 pub mod laws;
+
+// The crates below that those above name too.
+pub use rgo_goroutine as goroutine;

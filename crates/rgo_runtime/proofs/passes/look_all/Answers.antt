@@ -1,7 +1,7 @@
 use Rattle.std.proofs.Common.{◌<◌, ◌++◌, ◌∙◌, List, ap, append_assoc, arith, get_or, length, take}
 use Rattle.std.proofs.lemmas.List.Elements.{All-set}
 use Rattle.rgo_core.specs.Rule.declared.accesses.Access.{Access}
-use Rattle.rgo_goroutine.specs.Goroutines.{IsOf}
+use Rattle.rgo_table_runs.specs.Goroutine.Goroutines.{IsOf}
 use Rattle.rgo_runtime.specs.Passing.{HasLookedOnce, IsBehind, IsKnownBy}
 use Rattle.rgo_runtime.proofs.Passing.{all_behind_more, all_known_after}
 use Rattle.rgo_runtime.proofs.Sweeps.{all_more, swept_more}

@@ -1,6 +1,6 @@
 use Rattle.std.proofs.Common.{◌<◌, ◌≤◌, ◌∙◌, ap, arith, get_or, length, take}
 use Rattle.std.proofs.lemmas.List.Elements.{All-get_or, All-set}
-use Rattle.rgo_goroutine.specs.Goroutines.{IsOf}
+use Rattle.rgo_table_runs.specs.Goroutine.Goroutines.{IsOf}
 use Rattle.rgo_runtime.specs.Passing.{HasMet, IsBehind, seen_by}
 use Rattle.rgo_runtime.proofs.Passing.{at_least, met_by, now_behind, still_behind}
 use Rattle.rgo_runtime.proofs.Sweeps.{all_more, swept_more}

@@ -1,6 +1,6 @@
 use Rattle.std.proofs.Common.{◌≡◌, take}
 use Rattle.std.specs.List.{All}
-use Rattle.rgo_goroutine.specs.Goroutines.{IsOf}
+use Rattle.rgo_table_runs.specs.Goroutine.Goroutines.{IsOf}
 use Rattle.rgo_runtime.specs.Passing.{HasMet, IsBehind}
 use Rattle.rgo_runtime.proofs.Sweeps.{Swept}
 use Rattle.rgo_runtime.proofs.passes.meet_all.Given as goal

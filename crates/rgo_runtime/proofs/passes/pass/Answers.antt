@@ -1,7 +1,13 @@
+use Rattle.std.proofs.Common.{◌∙◌}
 use Rattle.rgo_runtime.specs.Passing.{HasLookedOnce, HasMet, IsTidyIn}
-use Rattle.rgo_runtime.proofs.Passing.{tidy_looked, tidy_met}
+use Rattle.rgo_runtime.proofs.Passing.{behind_glance, known_by_glance, tidy_looked, tidy_met}
 use Rattle.rgo_runtime.proofs.Sweeps.{zip_keeps}
 use Rattle.rgo_runtime.proofs.passes.pass.Goals as goal
+
+pub look_all-requires-clause-behind : goal.look_all-requires-clause-behind
+look_all-requires-clause-behind g c =
+    behind_glance c.meet_all.new.seat.me c.glance.new.seat.me c.glance.result c.glance.ensures.glanced c.meet_all.new.goroutines
+    c.meet_all.ensures.behind
 
 pub returns-clause-tidy : goal.returns-clause-tidy
 returns-clause-tidy g c = λ all.
@@ -22,4 +28,7 @@ returns-clause-passed g c = record {
   since = c.turn_all.ensures.seen.0;
   is = c.turn_all.ensures.seen.1;
   come = c.turn_all.ensures.passed;
+  retired = known_by_glance c.meet_all.new.seat.me c.glance.new.seat.me c.glance.result c.glance.ensures.glanced
+      c.look_all.new.seat.me.0.seen c.look_all.ensures.seen.0 c.look_all.ensures.seen.1
+      c.turn_all.new.seat.me.0.records (c.turn_all.ensures.rows.0 ∙ c.look_all.ensures.rows.0);
 }

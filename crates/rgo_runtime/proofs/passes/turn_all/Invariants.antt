@@ -1,7 +1,7 @@
 use Rattle.std.proofs.Common.{◌≡◌, ◌++◌, List, take}
 use Rattle.std.specs.List.{All}
 use Rattle.rgo_core.specs.Rule.declared.accesses.Access.{Access}
-use Rattle.rgo_goroutine.specs.Goroutines.{IsOf}
+use Rattle.rgo_table_runs.specs.Goroutine.Goroutines.{IsOf}
 use Rattle.rgo_runtime.proofs.Turning.{HavePassed}
 use Rattle.rgo_runtime.specs.Passing.{HasStoodStill, IsBehind, IsKnownBy, IsTidyIn}
 use Rattle.rgo_runtime.proofs.Sweeps.{Swept}

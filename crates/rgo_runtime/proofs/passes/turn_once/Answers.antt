@@ -1,6 +1,6 @@
-use Rattle.std.proofs.Common.{◌≡◌, ◌<◌, ◌^◌, ◌∙◌, ap, arith}
+use Rattle.std.proofs.Common.{◌≡◌, ◌<◌, ◌≤◌, ◌^◌, ◌∙◌, ap, arith}
 use Rattle.rgo_core.specs.Records.{steps_of}
-use Rattle.rgo_goroutine.specs.Goroutines.{record_of}
+use Rattle.rgo_table_runs.specs.Goroutine.Goroutines.{record_of}
 use Rattle.rgo_runtime.proofs.Passing.{met_by}
 use Rattle.rgo_runtime.proofs.Turning.{no_turn, turns_between}
 use Rattle.rgo_runtime.proofs.passes.turn_once.Goals as goal
@@ -15,8 +15,12 @@ returns-clause-turns g c =
     let before = c.args.seat.now.me.0.seen in
     let between = c.meet.new.seat.me.0.seen in
     let after = c.meet-2.new.seat.me.0.seen in
+    let counted = c.tally.ensures run c.requires.of in
+    let same : c.behind-goroutine.inside.steps ≡ steps_of (record_of run.setup a) = ap (λ s. s.steps) (c.behind-goroutine.view_is ∙ counted) in
+    let few : steps_of (record_of run.setup a) ≤ 2 ^ 42 = omega (arith, same, c.if-tally-gt-MOST_STEPS.false) in
     turns_between run a b x d before between after c.turn-turned.result
     (record {
+      few = few;
       first = met_by run a b before between c.requires.of c.meet.ensures.of (ap (λ me. me.0.seen) c.meet.ensures.seat) c.meet.ensures.seen
           c.meet.ensures.rest c.meet.ensures.record;
       turns = c.turn-turned.ensures.turned;

@@ -1,5 +1,5 @@
 use Rattle.std.proofs.Common.{refl}
-use Rattle.rgo_goroutine.specs.Goroutines.{record_of, rows}
+use Rattle.rgo_table_runs.specs.Goroutine.Goroutines.{record_of, rows}
 use Rattle.rgo_runtime.proofs.Leaving.{children_new, given_up, noted, retired_either}
 use Rattle.rgo_runtime.specs.Crews.{marked, member_of}
 use Rattle.rgo_runtime.proofs.retiring.give_up.Goals as goal

@@ -1,5 +1,5 @@
 use Rattle.std.proofs.Common.{[], ap, map}
-use Rattle.rgo_goroutine.specs.Goroutines.{drawn_by, numbers, record_of}
+use Rattle.rgo_table_runs.specs.Goroutine.Goroutines.{drawn_by, numbers, record_of}
 use Rattle.rgo_runtime.proofs.Leaving.{as_row, none_in, noted, one_retires, retired_more}
 use Rattle.rgo_runtime.specs.Crews.{marked, member_of}
 use Rattle.rgo_runtime.proofs.retiring.retire.Goals as goal

@@ -6,6 +6,7 @@ abbrev pub invariant-loop-place : goal.invariant-loop-place
 invariant-loop-place l = record {
   kept : KeepsAll l.fn.self l.self;
   run : l.self.run ≡ l.fn.self.run;
+  next : l.self.next ≡ l.fn.self.next;
   place : l.place ≤ length l.self.ready;
 }
 

@@ -10,4 +10,5 @@ pub loop-at-preserved : goal.loop-at-preserved
 loop-at-preserved c = record {
   kept = kept_then c.args.self.now c.loop-at.self c.wake.new.self c.loop-at.invariant.kept c.wake.ensures.kept;
   run = c.wake.ensures.run ∙ c.loop-at.invariant.run;
+  next = c.wake.ensures.next ∙ c.loop-at.invariant.next;
 }

@@ -6,4 +6,5 @@ abbrev pub invariant-loop-at : goal.invariant-loop-at
 invariant-loop-at l = record {
   kept : KeepsAll l.fn.self l.self;
   run : l.self.run ≡ l.fn.self.run;
+  next : l.self.next ≡ l.fn.self.next;
 }

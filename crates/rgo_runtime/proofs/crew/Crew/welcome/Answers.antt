@@ -1,4 +1,5 @@
 use Rattle.std.proofs.Common.{◌∙◌, append-nil, ap, arith, sym}
+use Rattle.rgo_runtime.proofs.CrewPasses.{nothing_left}
 use Rattle.rgo_runtime.proofs.Keeps.{newborn_steps}
 use Rattle.rgo_runtime.proofs.Moving.{born_kept, crew_born, crew_welcomed, last_newborn, welcomed_kept}
 use Rattle.rgo_runtime.proofs.crew.Crew.welcome.Goals as goal
@@ -8,6 +9,7 @@ loop-goroutine-init c = record {
   is = crew_born _ c.reserve.new.self.items c.reverse.new.self.items c.reserve.ensures.items c.reverse.ensures.permutation c.self.invariant;
   kept = born_kept _ c.reserve.new.self.items c.reverse.new.self.items c.reserve.ensures.items c.reverse.ensures.permutation c.args.self.now c.self.view_is;
   run = ap (λ x. x.run) c.self.view_is;
+  next = ap (λ x. x.next) c.self.view_is;
   room = omega (arith, c.in_ok-reserve.ensures.ok, c.len.ensures, c.reverse.ensures.len);
 }
 
@@ -41,12 +43,16 @@ loop-goroutine-preserved c = record {
       c.in-Ok.ensures.more.0 c.push_reserved.ensures.items c.in-Some.ensures.items c.new.ensures c.in-Ok.ensures.more.1 c.loop-goroutine.invariant.is
       c.args.self.now c.loop-goroutine.invariant.kept;
   run = c.loop-goroutine.invariant.run;
+  next = c.loop-goroutine.invariant.next;
   room = omega (arith, c.loop-goroutine.invariant.room, c.in-Some.ensures.cases, c.push_reserved.ensures.len, c.push_reserved.ensures.capacity);
 }
 
 pub returns-in-Err-clause-kept : goal.returns-in-Err-clause-kept
 returns-in-Err-clause-kept c =
     rw (c.push_reserved-in-Err.ensures.items ∙ sym c.in-Some.ensures.items) c.loop-goroutine.invariant.kept
+
+pub returns-clause-none : goal.returns-clause-none
+returns-clause-none c = nothing_left _ _ _ c.in_default.ensures.rest c.in_default.ensures.cases.0
 
 pub returns-clause-kept : goal.returns-clause-kept
 returns-clause-kept c =

@@ -29,6 +29,7 @@ invariant-loop-goroutine l = record {
     first = l.self-inside.first;
   });
   run : l.self-inside.run.now ≡ l.fn.self.run;
+  next : l.self-inside.outgoing.next ≡ l.fn.self.next;
   room : vec_len l.self-inside.born ≤ vec_capacity l.self-inside.ready - vec_len l.self-inside.ready;
 }
 

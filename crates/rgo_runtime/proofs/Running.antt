@@ -1,0 +1,289 @@
+-- From what a driver knows when it ends a run, to the run of the code that its table has made.
+use Rattle.std.proofs.Common.{◌≡◌, ◌≤◌, ⊎_elim, ℕ, Bool, true, false, cond, nat_le, List, [], ◌∷◌, ◌++◌, IsPermutation, Option, None, Some, length, map, refl, ap, sym, subst, ◌∙◌, arith, append_assoc}
+use Rattle.std.specs.Io.KnownBytes.{Appends}
+use Rattle.std.specs.List.{All, AllByRecursion}
+use Rattle.std.proofs.KnownBytes.{Appends-nil}
+use Rattle.std.proofs.lemmas.Bool.Decides.{nat_tests}
+use Rattle.std.proofs.lemmas.List.{append-nil, map-append, take_all}
+use Rattle.std.proofs.lemmas.List.Elements.{recursion_from_All}
+use Rattle.std.proofs.lemmas.List.Sorted.{IsPermutation-sym}
+use Rattle.rgo_core.specs.Core.{Setup}
+use Rattle.rgo_core.specs.Records.{Drawn, Record}
+use Rattle.rgo_core.specs.Rule.Views.{Rows}
+use Rattle.rgo_core_steps.specs.Ends.{mark_of}
+use Rattle.rgo_core_steps.specs.Outcomes.{Closes}
+use Rattle.rgo_core_steps.specs.declared.clock.Mark as clock
+use Rattle.rgo_driver.specs.declared.ends.RunEnd.{RunEnd}
+use Rattle.rgo_driver.specs.declared.ends.RunEnd.TheVariants as run_end
+use Rattle.rgo_table_runs.specs.Goroutine.Acts.Runs.{Run}
+use Rattle.rgo_table_runs.specs.Goroutine.Acts.declared.prints.Print.{Print}
+use Rattle.rgo_table_runs.specs.Goroutine.declared.goroutine.Goroutine.{Goroutine}
+use Rattle.rgo_sound.specs.Code.Code.{Code}
+use Rattle.rgo_sound.specs.Machine.declared.limits.Limits.{Limits}
+use Rattle.rgo_sound.specs.Machine.declared.limits.Sizes.{Sizes}
+use Rattle.rgo_sound.specs.RegionMachine.Counts.{Counts}
+use Rattle.rgo_sound.specs.RegionMachine.States.{Mark, RegionState}
+use Rattle.rgo_table_runs.proofs.closing.Closed.{closed_claims}
+use Rattle.rgo_table_runs.proofs.closing.Members.{kept_by_order}
+use Rattle.rgo_table_runs.specs.claims.RegionRuns.{CodeRuns}
+use Rattle.rgo_table_runs.specs.closing.Ends.{Ends, GaveOut, end_of}
+use Rattle.rgo_table_runs.specs.closing.Gathering.{numbered, sum_of}
+use Rattle.rgo_table_runs.specs.closing.Laws.{last_state}
+use Rattle.rgo_table_runs.specs.closing.Members.{AreSame, Member, NoneIsLost, retired}
+use Rattle.rgo_table_runs.specs.closing.Prints.{AllGiven, bytes_of}
+use Rattle.rgo_table_runs.specs.closing.Rows.{all_shares}
+use Rattle.rgo_runtime.specs.Closing.{AreInOrder, ClosesWith, Tells}
+use Rattle.rgo_runtime.specs.Crew.{Crew, IsCrew, all_members}
+use Rattle.rgo_runtime.specs.Crews.{AreRetired, IsOfCrew, NobodyIsLost, drawn, its_goroutine, marked, member_of, members, turning}
+use Rattle.rgo_runtime.specs.Leaving.{HaveAllLeft}
+use Rattle.rgo_runtime.specs.Parking.{values_of}
+use Rattle.rgo_runtime.specs.Runs.{EndsFor, HasGiven, HasGivenSome, NoneIsNext, end_by, settled_end, unmarked_end}
+use Rattle.rgo_runtime.specs.Shares.{counts_in}
+use Rattle.rgo_runtime.specs.Turns.{Turn}
+use Rattle.rgo_runtime.specs.declared.passes.Passed.{Passed}
+use Rattle.rgo_runtime.specs.declared.passes.Passed.TheVariants.{Lacks, Moved, Still}
+use Rattle.rgo_runtime.specs.declared.retiring.Left.{Left}
+use Rattle.rgo_runtime.specs.declared.runs.Why.{Why}
+use Rattle.rgo_runtime.specs.declared.runs.Why.TheVariants.{Memory, Over, Steps, Stuck, Write}
+use Rattle.rgo_runtime.specs.declared.shares.Tally.{Tally}
+use Rattle.rgo_runtime.proofs.Closing.{closes_anyway, closes_whole}
+use Rattle.rgo_runtime.proofs.Leaving.{In, in_either, in_left, in_right, nobody_by_order, nobody_lost, none_in}
+use Rattle.rgo_runtime.proofs.Telling.{in_map, in_order, map_in, pass_tells}
+
+-- ---- members
+
+-- those of turns are those of their goroutines
+of_crew : (r : Run) (n : ℕ) (ts : List Turn) → AllByRecursion (IsOfCrew r n) ts → turning ts ≡ members r.setup (map its_goroutine ts)
+of_crew r n [] all = refl
+of_crew r n (t ∷ ts) all =
+    ap (λ (x : Run). member_of x.setup t.goroutine ∷ turning ts) all.0.run
+    ∙ ap (λ (ms : List Member). member_of r.setup t.goroutine ∷ ms) (of_crew r n ts all.1)
+
+in_any_order : (T : Setup) (xs ys : List Goroutine) → IsPermutation xs ys → (m : Member) → In (members T xs) m → In (members T ys) m
+in_any_order T xs ys order m t =
+    let r = in_map (member_of T) xs m t in
+    subst (In (members T ys)) r.2 (map_in (member_of T) ys r.0 (in_order xs ys order r.0 r.1))
+
+four : (a b c d : List Member) → a ++ (b ++ (c ++ d)) ≡ (a ++ (b ++ c)) ++ d
+four a b c d = ap (λ (l : List Member). a ++ l) (sym (append_assoc b c d)) ∙ sym (append_assoc a (b ++ c) d)
+
+-- ---- ends
+
+-- a mark that was set tells the end
+by_mark : (code : Code) (sizes : Sizes) (limits : Limits) (steps : ℕ) (s : RegionState) (mark : Mark) (end : RunEnd) → end_of mark ≡ end
+    → Ends code sizes limits 0 steps s (Some mark) end
+by_mark code sizes limits steps s mark (run_end.Ended end) q = q
+by_mark code sizes limits steps s mark run_end.Deadlock q = q
+by_mark code sizes limits steps s mark run_end.CallsTooDeep q = q
+by_mark code sizes limits steps s mark run_end.StepsSpent q = q
+by_mark code sizes limits steps s mark run_end.GoroutinesSpent q = q
+by_mark code sizes limits steps s mark (run_end.NoRoom why) q = q
+by_mark code sizes limits steps s mark run_end.WriteFault q = tt
+by_mark code sizes limits steps s mark run_end.NoMemory q = tt
+
+-- all prints have gone out, however the run has ended
+gave_all : (rows : Rows Record) (given : List Drawn) (end : RunEnd) (old new : Option (List ℕ)) → AllGiven rows given
+    → Appends old new (bytes_of given) → GaveOut rows given end old new
+gave_all rows given (run_end.Ended end) old new all out = (all, out)
+gave_all rows given run_end.Deadlock old new all out = (all, out)
+gave_all rows given run_end.CallsTooDeep old new all out = (all, out)
+gave_all rows given run_end.StepsSpent old new all out = (all, out)
+gave_all rows given run_end.GoroutinesSpent old new all out = (all, out)
+gave_all rows given (run_end.NoRoom why) old new all out = (all, out)
+gave_all rows given run_end.WriteFault old new all out = (
+  length (bytes_of given),
+  subst (Appends old new) (sym (take_all (length (bytes_of given)) (bytes_of given) (omega arith))) out,
+)
+gave_all rows given run_end.NoMemory old new all out = out
+
+-- ---- when all goroutines have left
+
+module _ (c : Crew) (left : Left) (k : IsCrew c) (gone : HaveAllLeft c left) where
+  abbrev T : Setup
+  T = c.run.setup
+
+  abbrev all : List Goroutine
+  all = map its_goroutine c.ready ++ (map its_goroutine (values_of c.parked) ++ c.born)
+
+  -- those that had retired before
+  abbrev before : List Member
+  before = map retired gone.begin.seat.me.0.records
+
+  abbrev left_ones : List Member
+  left_ones = members T gone.gone ++ before
+
+  crew_of : (ts : List Turn) → All (IsOfCrew c.run (length c.shares)) ts → turning ts ≡ members T (map its_goroutine ts)
+  crew_of ts of = of_crew c.run (length c.shares) ts (recursion_from_All (IsOfCrew c.run (length c.shares)) ts of)
+
+  parts : members T all ≡ members T (map its_goroutine c.ready) ++ (members T (map its_goroutine (values_of c.parked)) ++ members T c.born)
+  parts = map-append (member_of T) (map its_goroutine c.ready) (map its_goroutine (values_of c.parked) ++ c.born)
+      ∙ ap (λ (l : List Member). members T (map its_goroutine c.ready) ++ l)
+      (map-append (member_of T) (map its_goroutine (values_of c.parked)) c.born)
+
+  all_are : all_members c ≡ members T all ++ before
+  all_are =
+      ap (λ (l : List Member). l ++ (turning (values_of c.parked) ++ (members T c.born ++ map retired c.me.0.records))) (crew_of c.ready k.ready)
+      ∙ (ap (λ (l : List Member). members T (map its_goroutine c.ready) ++ (l ++ (members T c.born ++ map retired c.me.0.records)))
+      (crew_of (values_of c.parked) k.parked)
+      ∙ (four (members T (map its_goroutine c.ready)) (members T (map its_goroutine (values_of c.parked))) (members T c.born)
+      (map retired c.me.0.records)
+      ∙ (ap (λ (l : List Member). l ++ map retired c.me.0.records) (sym parts)
+      ∙ ap (λ me. members T all ++ map retired me.0.records) (sym gone.is.0))))
+
+  there : (m : Member) → In (members T all ++ before) m → In left_ones m
+  there m t = ⊎_elim
+      (λ (s : In (members T all) m).
+      in_left (members T gone.gone) before m (in_any_order T all gone.gone (IsPermutation-sym gone.gone all gone.all) m s))
+      (λ (s : In before m). in_right (members T gone.gone) before m s)
+      (in_either (members T all) before m t)
+
+  back : (m : Member) → In left_ones m → In (members T all ++ before) m
+  back m t = ⊎_elim
+      (λ (s : In (members T gone.gone) m). in_left (members T all) before m (in_any_order T gone.gone all gone.all m s))
+      (λ (s : In before m). in_right (members T all) before m s)
+      (in_either (members T gone.gone) before m t)
+
+  -- they are the members of the crew
+  same_ones : (taken : List Drawn) → AreSame (all_members c) (left_ones ++ []) taken taken
+  same_ones taken =
+      subst (λ (l : List Member). AreSame (all_members c) l taken taken) (sym (append-nil left_ones))
+      (subst (λ (l : List Member). AreSame l left_ones taken taken) (sym all_are)
+      (record { there = there; back = back; still = λ d t. t; before = λ d t. t }))
+
+  nobody : (taken : List Drawn) → NoneIsLost (all_members c) taken → NobodyIsLost (map retired left.seat.me.0.records) taken
+  nobody taken none =
+      subst (λ (l : List Member). NobodyIsLost l taken) (append-nil (map retired left.seat.me.0.records))
+      (gone.left.members [] taken
+      (nobody_by_order (all_members c) (left_ones ++ []) taken taken (nobody_lost (all_members c) taken none) (same_ones taken)))
+
+  -- where the driver says that nothing of them is lost
+  no_print : left.is_whole ≡ true → (taken : List Drawn) → NoneIsLost (all_members c) taken
+      → NoneIsLost (map retired left.seat.me.0.records) taken
+  no_print whole taken none =
+      let come : NoneIsLost (all_members c) (taken ++ []) =
+      subst (λ (ds : List Drawn). NoneIsLost (all_members c) ds) (sym (append-nil taken)) none in
+      subst (λ (ds : List Drawn). NoneIsLost (map retired left.seat.me.0.records) ds) (append-nil taken)
+      (subst (λ (l : List Member). NoneIsLost l (taken ++ [])) (append-nil (map retired left.seat.me.0.records))
+      (gone.left.kept whole [] taken
+      (kept_by_order (all_members c) (left_ones ++ []) (taken ++ []) (taken ++ []) come (same_ones (taken ++ [])))))
+
+  -- and the table is closed
+  module _ (words : List ℕ) (e : Closes T words left.seat.me.0)
+      (counted : AreRetired left.seat.me.0.records left.shares (marked left.first)) (was now : Option (List ℕ)) where
+    abbrev rows : Rows Record
+    rows = numbered e.recs
+
+    abbrev Has : List Drawn → Type 0
+    Has given = ClosesWith T words left.seat.me.0 e left.shares (marked left.first) given
+
+    abbrev EndsAs : Option Mark → RunEnd → Type 0
+    EndsAs first end = Ends T.code T.sizes T.limits 0 (all_shares rows).steps (last_state e) first end
+
+    abbrev RunsAs : RunEnd → Type 0
+    RunsAs end = CodeRuns T.code T.sizes T.limits end (sum_of left.shares) was now
+
+    runs_as : (given : List Drawn) (end : RunEnd) → Has given → EndsAs (marked left.first) end → GaveOut rows given end was now → RunsAs end
+    runs_as given end has ends gave =
+        subst (λ (n : Counts). CodeRuns T.code T.sizes T.limits end n was now) (sym has.sum)
+        (closed_claims T words left.seat.me.0 e rows given (marked left.first) 0 end was now
+        (record { all = has.all; order = has.order; is_first = has.is_first; ends = ends; gave = gave }))
+
+    has_anyway : (given rest : List Drawn) → NoneIsLost (all_members c) (given ++ rest) → AreInOrder given → Has given
+    has_anyway given rest none turns =
+        closes_anyway T words left.seat.me.0 e left.shares (marked left.first) given rest (nobody (given ++ rest) none) turns counted
+
+    by_memory : (given : List Drawn) → HasGiven c given was now → RunsAs run_end.NoMemory
+    by_memory given h = runs_as given run_end.NoMemory (has_anyway given (drawn c.waiting) h.none_lost h.turns) tt h.out
+
+    by_fault : (given : List Drawn) → HasGivenSome c given was now → RunsAs run_end.WriteFault
+    by_fault given h = runs_as given run_end.WriteFault (has_anyway given h.rest h.none_lost h.turns) tt h.out
+
+    -- where no print that waits is the next, and nothing is lost, all prints have gone out
+    module _ (given : List Drawn) (h : HasGiven c given was now) (next : NoneIsNext c) where
+      has_all : left.is_whole ≡ true → Has given × AllGiven rows given
+      has_all whole = closes_whole T words left.seat.me.0 e left.shares (marked left.first) given (drawn c.waiting)
+          (no_print whole (given ++ drawn c.waiting) h.none_lost)
+          (record { turns = h.turns; next = λ d at is. next d at (is ∙ sym h.next) })
+          counted
+
+      by_end : (end : RunEnd) (first : Option clock.Mark) → left.first ≡ first → left.is_whole ≡ true → (Has given → EndsAs (marked first) end)
+          → RunsAs end
+      by_end end first is whole ends =
+          let has = has_all whole in
+          runs_as given end has.0 (subst (λ (f : Option clock.Mark). EndsAs (marked f) end) (sym is) (ends has.0))
+          (gave_all rows given end was now has.1 h.out)
+
+      settled : (unmarked : RunEnd) → (left.is_whole ≡ true → Has given → EndsAs None unmarked) → (whole : Bool) → left.is_whole ≡ whole
+          → (first : Option clock.Mark) → left.first ≡ first → RunsAs (settled_end whole first unmarked)
+      settled unmarked ends false lost first is = by_memory given h
+      settled unmarked ends true whole None is = by_end unmarked None is whole (ends whole)
+      settled unmarked ends true whole (Some mark) is = by_end (end_of (mark_of mark)) (Some mark) is whole
+          (λ has. by_mark T.code T.sizes T.limits (all_shares rows).steps (last_state e) (mark_of mark) (end_of (mark_of mark)) refl)
+
+      -- so many instructions were executed
+      spent : (steps : ℕ) → steps ≡ (sum_of left.shares).steps → Has given → (b : Bool) → nat_le T.limits.steps steps ≡ b
+          → EndsAs None (cond b run_end.StepsSpent run_end.NoMemory)
+      spent steps is has false q = tt
+      spent steps is has true q =
+          let total : steps ≡ (all_shares rows).steps = is ∙ ap (λ (n : Counts). n.steps) has.sum in
+          (reached steps (all_shares rows).steps total q, omega arith, omega arith)
+        where
+          reached : (a b : ℕ) → a ≡ b → nat_le T.limits.steps a ≡ true → T.limits.steps ≤ b
+          reached a b same r = grind (arith, nat_tests)
+
+      stuck : (passed : Passed) (steps : ℕ) → Tells T words left.seat.me.0 e passed → EndsAs None (unmarked_end (Stuck passed) steps T.limits.steps)
+      stuck Still steps t = t
+      stuck (Lacks why) steps t = t
+      stuck Moved steps t = tt
+
+    ended_so : (why : Why) (start : Crew) → EndsFor why start was c now → HasGiven start [] was was → (steps : ℕ)
+        → steps ≡ (sum_of left.shares).steps → RunsAs (end_by why left.is_whole left.first steps T.limits.steps)
+    ended_so Memory start f h steps is = let g = f was [] h in by_memory g.0 g.1
+    ended_so Write start f h steps is = let g = f was [] h in by_fault g.0 g.1
+    ended_so Over start f h steps is =
+        let g = f.0 was [] h in
+        settled g.0 g.1 f.1 run_end.NoMemory (λ whole has. tt) left.is_whole refl left.first refl
+    ended_so Steps start f h steps is =
+        let g = f.0 was [] h in
+        settled g.0 g.1 f.1 (cond (nat_le T.limits.steps steps) run_end.StepsSpent run_end.NoMemory)
+        (λ whole has. spent g.0 g.1 f.1 steps is has (nat_le T.limits.steps steps) refl)
+        left.is_whole refl left.first refl
+    ended_so (Stuck passed) start f h steps is =
+        let g = f.0 was [] h in
+        settled g.0 g.1 f.1.0 (unmarked_end (Stuck passed) steps T.limits.steps)
+        (λ whole has. stuck g.0 g.1 f.1.0 passed steps
+        (pass_tells f.1.1 c passed left words e f.1.2 k f.1.3 f.1.4 gone whole has.all))
+        left.is_whole refl left.first refl
+
+-- ---- for the driver
+
+-- nothing has gone out when a run begins
+none_yet : (start : Crew) (was : Option (List ℕ)) → start.waiting ≡ [] → start.next ≡ 0 → NoneIsLost (all_members start) []
+    → HasGiven start [] was was
+none_yet start was waiting next none = record {
+  none_lost = subst (λ (prints : List Print). NoneIsLost (all_members start) (drawn prints)) (sym waiting) none;
+  turns = λ i d at. absurd (none_in d (i, at));
+  next = next;
+  out = Appends-nil was;
+}
+
+-- K is what the table was made for, and S what its run was asked for.
+pub code_runs : (c : Crew) (left : Left) → IsCrew c → HaveAllLeft c left → (K S : Setup) → c.run.setup ≡ K → K ≡ S → (words : List ℕ)
+    → Closes K words left.seat.me.0 → AreRetired left.seat.me.0.records left.shares (marked left.first) → (was now : Option (List ℕ))
+    → (why : Why) (start : Crew) → EndsFor why start was c now → start.waiting ≡ [] → start.next ≡ 0 → NoneIsLost (all_members start) []
+    → (tally : Tally) → counts_in tally ≡ sum_of left.shares → (end : RunEnd)
+    → end ≡ end_by why left.is_whole left.first tally.steps S.limits.steps
+    → CodeRuns S.code S.sizes S.limits end (counts_in tally) was now
+code_runs c left k gone K S of_table asked words e counted was now why start f waiting next none tally total end is =
+    let at_close : Closes c.run.setup words left.seat.me.0 =
+    subst (λ (T : Setup). Closes T words left.seat.me.0) (sym of_table) e in
+    let ended = ended_so c left k gone words at_close counted was now why start f (none_yet start was waiting next none) tally.steps
+    (ap (λ (n : Counts). n.steps) total) in
+    subst (λ (x : RunEnd). CodeRuns S.code S.sizes S.limits x (counts_in tally) was now) (sym is)
+    (subst
+    (λ (n : Counts). CodeRuns S.code S.sizes S.limits (end_by why left.is_whole left.first tally.steps S.limits.steps) n was now)
+    (sym total)
+    (subst
+    (λ (T : Setup).
+    CodeRuns T.code T.sizes T.limits (end_by why left.is_whole left.first tally.steps T.limits.steps) (sum_of left.shares) was now)
+    (of_table ∙ asked) ended))

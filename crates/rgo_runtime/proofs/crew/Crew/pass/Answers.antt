@@ -1,0 +1,68 @@
+use Rattle.std.proofs.Common.{◌∙◌, All, ap, length, map, reverse, subst, sym}
+use Rattle.rgo_runtime.specs.Crew.{Crew}
+use Rattle.rgo_runtime.specs.Crews.{MayTurn}
+use Rattle.rgo_runtime.specs.Turns.{first_turn}
+use Rattle.rgo_runtime.proofs.CrewPasses.{CrewHasPassed, all_passed, crew_passed, pass_length, pass_may_turn, passed_kept, written_back}
+use Rattle.rgo_runtime.proofs.crew.Crew.pass.Goals as goal
+
+pub take_out-requires : goal.take_out-requires
+take_out-requires c = record { crew = (length c.self.inside.shares, c.self.invariant.ready) }
+
+pub put_back-requires-clause-rest : goal.put_back-requires-clause-rest
+put_back-requires-clause-rest c =
+    let r = c.self.inside.run.now in
+    let before = c.as_mut_slice.result.now in
+    let after = c.pass_uncounted-passed.new.goroutines in
+    let its = c.pass_uncounted-passed.ensures in
+    let may : All (MayTurn r) before = subst (All (MayTurn r)) (sym c.as_mut_slice.ensures.value) c.in_ok-goroutines.ensures.rest in
+    let me = c.pass_uncounted-passed.new.seat.me in
+    let passed = c.pass_uncounted-passed.result in
+    let long = pass_length r me before after passed its.passed ∙ c.as_mut_slice.ensures.len in
+    subst (All (MayTurn r)) (sym (written_back c.in_ok-goroutines.goroutines.len after _ long))
+    (pass_may_turn r me before after passed its.passed its.all its.tidy may)
+
+-- the crew as it was
+abbrev crew : goal.After-put_back → Crew
+crew c = record {
+  run = c.self.inside.run.now;
+  table = c.self.inside.seat.table_id;
+  me = c.self.inside.seat.me;
+  ready = c.self.inside.ready.items;
+  parked = c.self.inside.parked;
+  born = c.self.inside.born.items;
+  waiting = c.self.inside.outgoing.waiting.items;
+  next = c.self.inside.outgoing.next;
+  shares = c.self.inside.shares;
+  first = c.self.inside.first;
+}
+
+-- what has happened to those that were ready
+crew_has_passed : (c : goal.After-put_back)
+    → CrewHasPassed (crew c) c.as_mut_slice.result.now c.pass_uncounted-passed.new.goroutines c.pass_uncounted-passed.new.seat.table_id
+    c.pass_uncounted-passed.new.seat.me c.put_back.new.ready.items c.pass_uncounted-passed.result
+crew_has_passed c =
+    let r = c.self.inside.run.now in
+    let before = c.as_mut_slice.result.now in
+    let after = c.pass_uncounted-passed.new.goroutines in
+    let its = c.pass_uncounted-passed.ensures in
+    let me = c.pass_uncounted-passed.new.seat.me in
+    let long = pass_length r me before after c.pass_uncounted-passed.result its.passed ∙ c.as_mut_slice.ensures.len in
+    record {
+      out = c.as_mut_slice.ensures.value ∙ c.in_ok-goroutines.ensures.taken;
+      may = subst (All (MayTurn r)) (sym c.as_mut_slice.ensures.value) c.in_ok-goroutines.ensures.rest;
+      pass = its.passed;
+      is = its.all;
+      behind = its.behind;
+      same = its.own;
+      rows = its.rows.0;
+      back = c.put_back.ensures.back ∙ ap (λ l. map (first_turn r) (reverse l)) (written_back c.in_ok-goroutines.goroutines.len after _ long);
+    }
+
+pub invariant_of-self-2 : goal.invariant_of-self-2
+invariant_of-self-2 c = crew_passed _ _ _ _ _ _ _ (crew_has_passed c) c.self.invariant
+
+pub returns-clause-kept : goal.returns-clause-kept
+returns-clause-kept c = passed_kept _ _ _ _ _ _ _ (crew_has_passed c) c.self.invariant c.args.self.now c.self.view_is
+
+pub returns-clause-passed : goal.returns-clause-passed
+returns-clause-passed c = all_passed _ _ _ _ _ _ _ (crew_has_passed c) c.self.invariant c.args.self.now c.self.view_is

@@ -1,0 +1,5 @@
+use Rattle.rgo_runtime.proofs.ClosingExamples.{closing_examples}
+use Rattle.rgo_runtime.proofs.laws.examples.Goals as goal
+
+pub returns : goal.returns
+returns c = closing_examples

@@ -1,0 +1,5 @@
+use Rattle.rgo_runtime.proofs.Gone.{leaving}
+use Rattle.rgo_runtime.proofs.retiring.leaving_examples.Goals as goal
+
+pub returns : goal.returns
+returns c = leaving

@@ -1,0 +1,5 @@
+use Rattle.rgo_runtime.proofs.RunExamples.{run_examples}
+use Rattle.rgo_runtime.proofs.runs.examples.Goals as goal
+
+pub returns : goal.returns
+returns c = run_examples

@@ -1,0 +1,10 @@
+use Rattle.std.proofs.Common.{◌≡◌}
+use Rattle.rgo_runtime.specs.Runs.{GoesOn}
+use Rattle.rgo_runtime.proofs.runs.play.Given as goal
+
+-- all is well so far
+abbrev pub invariant-loop : goal.invariant-loop
+invariant-loop g l = record {
+  on : GoesOn l.fn.crew (g.K.Sink.contents l.fn.out) l.crew (g.K.Sink.contents l.out);
+  run : l.crew.run ≡ l.fn.crew.run;
+}

@@ -1,0 +1,23 @@
+use Rattle.std.proofs.Common.{ap, ◌∙◌}
+use Rattle.rgo_core.specs.Plans.{setup_of}
+use Rattle.rgo_table_runs.specs.Goroutine.Acts.Runs.{Run}
+use Rattle.rgo_runtime.proofs.Running.{code_runs}
+use Rattle.rgo_runtime.proofs.runs.run.Goals as goal
+
+-- the seat that comes back is that of the table
+pub close-requires : goal.close-requires
+close-requires g c =
+    let gone = c.finish.ensures.left in
+    record {
+      own = gone.left.own ∙ (gone.own ∙ (c.finish.ensures.crew.seat.0
+          ∙ (ap (λ (r : Run). r.table) (c.play-why.ensures.run ∙ c.in-Ok.ensures.begun.0) ∙ c.new-run.ensures.table)));
+    }
+
+pub returns-clause-runs : goal.returns-clause-runs
+returns-clause-runs g c =
+    code_runs c.play-why.new.crew c.finish.result c.finish.ensures.crew c.finish.ensures.left (setup_of c.in_ok-table.table.shared.key)
+    (record { code = c.args.code.now; sizes = c.args.sizes; limits = c.args.limits })
+    (ap (λ (r : Run). r.setup) (c.play-why.ensures.run ∙ c.in-Ok.ensures.begun.0) ∙ c.new-run.ensures.setup)
+    c.in_ok-table.ensures.table.2 _ c.close.ensures.end c.finish.ensures.retired _ _ c.play-why.result c.in-Ok.crew c.play-why.ensures.ends
+    c.in-Ok.ensures.begun.1 c.in-Ok.ensures.begun.2 c.in-Ok.ensures.begun.3 c.total-tally.result c.total-tally.ensures
+    c.end_of_run.result c.end_of_run.ensures

@@ -1,0 +1,22 @@
+use Rattle.std.proofs.Common.{◌∙◌, ap}
+use Rattle.rgo_runtime.proofs.Moving.{kept_then}
+use Rattle.rgo_runtime.proofs.Playing.{goes_quietly, is_stuck, passes}
+use Rattle.rgo_runtime.proofs.runs.stand.Goals as goal
+
+pub returns-in-Moved-clause-ends : goal.returns-in-Moved-clause-ends
+returns-in-Moved-clause-ends c =
+    passes c.args.crew.now c.wake_all.new.self c.pass.new.self c.in-Ok-pass.passed c.wake_all.ensures.rest c.wake_all.ensures.kept
+    c.pass.ensures.kept c.in-Ok-pass.ensures.passed
+
+pub returns-in-Still : goal.returns-in-Still
+returns-in-Still c = record {
+  ends = is_stuck c.args.crew.now c.wake_all.new.self c.pass.new.self c.in-Ok-pass.passed c.wake_all.ensures.rest c.wake_all.ensures.kept
+      c.pass.ensures.kept c.in-Ok-pass.ensures.passed c.requires.next c.in-Ok.ensures.woken c.requires.born;
+  run = ap (λ x. x.run) c.in-Ok-pass.ensures.passed.rest ∙ ap (λ x. x.run) c.wake_all.ensures.rest;
+}
+
+pub returns-in-Err-pass-clause-ends : goal.returns-in-Err-pass-clause-ends
+returns-in-Err-pass-clause-ends c out =
+    goes_quietly c.args.crew.now c.pass.new.self out
+    (kept_then c.args.crew.now c.wake_all.new.self c.pass.new.self c.wake_all.ensures.kept c.pass.ensures.kept)
+    (ap (λ x. x.next) c.in-Err-pass.ensures.same ∙ ap (λ x. x.next) c.wake_all.ensures.rest)

@@ -1,0 +1,94 @@
+-- What a driver has when all goroutines have left and the table is closed.
+use lib.ListN.{get_elem?}
+use mathlib.Core.Option.{some}
+use Rattle.std.specs.Prelude.{◌≡◌, ◌≤◌, ℕ, true, List, [], ◌∷◌, ◌++◌, Option, None, length, map, ⊤}
+use Rattle.rgo_core.specs.Core.{Setup}
+use Rattle.rgo_core.specs.Frames.Constants.{ConstantsFit}
+use Rattle.rgo_core.specs.Opening.{first_of, opening}
+use Rattle.rgo_core.specs.Records.{Drawn, Record, drawn_at}
+use Rattle.rgo_core.specs.Rule.Views.{view}
+use Rattle.rgo_core.specs.Rule.declared.accesses.View.{View}
+use Rattle.rgo_core_steps.specs.Outcomes.{Closes}
+use Rattle.rgo_sound.specs.Code.Checked.{IsChecked}
+use Rattle.rgo_sound.specs.Code.Erasure.{erased}
+use Rattle.rgo_sound.specs.Code.NameRules.{Ascends}
+use Rattle.rgo_sound.specs.Machine.Limits.{most_goroutines}
+use Rattle.rgo_sound.specs.RegionMachine.Counts.{Counts}
+use Rattle.rgo_sound.specs.RegionMachine.Room.{LacksIn}
+use Rattle.rgo_sound.specs.RegionMachine.States.{Mark}
+use Rattle.rgo_sound.specs.Machine.Deadlocks.{IsDeadlock}
+use Rattle.rgo_sound.specs.Tac.Tac.{tac}
+use Rattle.rgo_table_runs.specs.closing.Ends.{IsFirst}
+use Rattle.rgo_table_runs.specs.closing.Gathering.{IsIn, numbered, sum_of}
+use Rattle.rgo_table_runs.specs.closing.Laws.{last_state}
+use Rattle.rgo_table_runs.specs.closing.Members.{NoneIsLost, retired}
+use Rattle.rgo_table_runs.specs.closing.Prints.{AllGiven, InOrder}
+use Rattle.rgo_table_runs.specs.closing.Rows.{AreAll, all_shares}
+use Rattle.rgo_runtime.specs.Crew.{Crew, HasPassedAll, IsCrew}
+use Rattle.rgo_runtime.specs.Crews.{AreRetired, NobodyIsLost}
+use Rattle.rgo_runtime.specs.Leaving.{HaveAllLeft}
+use Rattle.rgo_runtime.specs.declared.passes.Passed.{Passed}
+use Rattle.rgo_runtime.specs.declared.passes.Passed.TheVariants.{Lacks, Moved, Still}
+use Rattle.rgo_runtime.specs.declared.retiring.Left.{Left}
+
+-- ---- rows, prints and shares
+
+-- tickets from 0 on, in order
+abbrev pub AreInOrder : List Drawn → Type 0
+AreInOrder given = (i : ℕ) (d : Drawn) → get_elem? given i ≡ some d → d.ticket ≡ i
+
+-- prints have gone out in order, and the next one is none of those that wait
+pub record AreInTurn (given waiting : List Drawn) : Type 0 where
+  pub turns : AreInOrder given
+  pub next : (d : Drawn) → IsIn waiting d → d.ticket ≡ length given → ⊥
+
+-- The rows of a closed table, the prints that have gone out, the sum of the shares, and how the run was ended: they are of all goroutines.
+-- Where memory was refused, there may be prints that have not gone out.
+pub record ClosesWith (T : Setup) (words : List ℕ) (v : View Record) (e : Closes T words v) (shares : List Counts) (first : Option Mark)
+    (given : List Drawn) : Type 0 where
+  pub all : AreAll v (numbered e.recs)
+  pub order : InOrder (numbered e.recs) given
+  pub is_first : IsFirst (numbered e.recs) first
+  pub sum : sum_of shares ≡ all_shares (numbered e.recs)
+
+-- Where nobody is lost, the seat of the driver has them.
+abbrev pub ClosesAnyway : Type 0
+ClosesAnyway = (T : Setup) (words : List ℕ) (v : View Record) (e : Closes T words v) (shares : List Counts) (first : Option Mark)
+    (given waiting : List Drawn) → NobodyIsLost (map retired v.records) (given ++ waiting) → AreInOrder given
+    → AreRetired v.records shares first → ClosesWith T words v e shares first given
+
+-- Where no print is lost either, all prints have gone out.
+abbrev pub ClosesWhole : Type 0
+ClosesWhole = (T : Setup) (words : List ℕ) (v : View Record) (e : Closes T words v) (shares : List Counts) (first : Option Mark)
+    (given waiting : List Drawn) → NoneIsLost (map retired v.records) (given ++ waiting) → AreInTurn given waiting
+    → AreRetired v.records shares first → ClosesWith T words v e shares first given × AllGiven (numbered e.recs) given
+
+-- ---- what a pass tells
+
+-- how the run behind a closed table stands, by what the last pass of its goroutines has come to
+abbrev pub Tells : (T : Setup) (words : List ℕ) (v : View Record) → Closes T words v → Passed → Type 0
+Tells T words v e Moved = ⊤
+Tells T words v e Still = IsDeadlock (tac (erased T.code)) (last_state e).plain
+Tells T words v e (Lacks why) = LacksIn T.code T.sizes why (last_state e)
+
+-- After a pass in which nothing moved all goroutines leave, the table is closed, and the run is in a deadlock, or lacks what one of them
+-- lacked.
+abbrev pub PassTells : Type 0
+PassTells = (before c : Crew) (passed : Passed) (left : Left) (words : List ℕ) (e : Closes c.run.setup words left.seat.me.0)
+    → HasPassedAll before c passed → IsCrew c → c.parked ≡ [] → c.born ≡ [] → HaveAllLeft c left → left.is_whole ≡ true
+    → AreAll left.seat.me.0 (numbered e.recs) → Tells c.run.setup words left.seat.me.0 e passed
+
+-- ---- examples
+
+pub record ClosingExamples : Type 0 where
+  pub in_turn : AreInTurn (drawn_at 0 (9 ∷ []) ∷ []) (drawn_at 2 (7 ∷ []) ∷ [])
+  -- the next one could have gone out
+  pub held_back : AreInTurn (drawn_at 0 (9 ∷ []) ∷ []) (drawn_at 1 (7 ∷ []) ∷ []) → ⊥
+  pub out_of_turn : AreInTurn (drawn_at 1 (9 ∷ []) ∷ []) [] → ⊥
+  -- a table that is closed as it was opened
+  pub closed : (T : Setup) → IsChecked T.code → Ascends T.code → ConstantsFit T.code → most_goroutines T.limits ≤ 1000000
+      → (e : Closes T (opening T) (view ((0, first_of T.code) ∷ []) []))
+      × ClosesWith T (opening T) (view ((0, first_of T.code) ∷ []) []) e ((first_of T.code).clock.share ∷ []) None []
+  -- a print has gone out that nobody has printed
+  pub made_up : (T : Setup) (words : List ℕ) (e : Closes T words (view [] [])) (shares : List Counts) (d : Drawn)
+      → ClosesWith T words (view [] []) e shares None (d ∷ []) → ⊥

@@ -1,0 +1,121 @@
+-- What a driver knows while it plays, and why it ends a run.
+use Rattle.std.specs.Io.KnownBytes.{Appends}
+use Rattle.std.specs.Prelude.{◌≡◌, ℕ, Bool, false, true, cond, nat_le, List, [], ◌∷◌, ◌++◌, Option, None, Some, length, ⊤}
+use Rattle.rgo_core.specs.Memory.declared.layout.TableSizes.{TableSizes}
+use Rattle.rgo_core.specs.Records.{Drawn}
+use Rattle.rgo_core_steps.specs.Ends.{mark_of}
+use Rattle.rgo_core_steps.specs.declared.clock.Mark.{Mark}
+use Rattle.rgo_core_steps.specs.declared.clock.Mark.TheVariants as clock
+use Rattle.rgo_driver.specs.Runs.{AppendsSome}
+use Rattle.rgo_driver.specs.declared.ends.RunEnd.{RunEnd}
+use Rattle.rgo_driver.specs.declared.ends.RunEnd.TheVariants as run_end
+use Rattle.rgo_table_runs.specs.Goroutine.Acts.declared.prints.Print.{Print}
+use Rattle.rgo_sound.specs.Machine.declared.limits.Sizes.{Sizes}
+use Rattle.rgo_sound.specs.Machine.declared.picks.End.TheVariants.{Exit}
+use Rattle.rgo_table_runs.specs.closing.Ends.{end_of}
+use Rattle.rgo_table_runs.specs.closing.Gathering.{IsIn}
+use Rattle.rgo_table_runs.specs.closing.Members.{NoneIsLost}
+use Rattle.rgo_table_runs.specs.closing.Prints.{bytes_of}
+use Rattle.rgo_runtime.specs.Closing.{AreInOrder}
+use Rattle.rgo_runtime.specs.Crew.{Crew, HasPassedAll, all_members}
+use Rattle.rgo_runtime.specs.Crews.{drawn}
+use Rattle.rgo_runtime.specs.declared.passes.Passed.TheVariants.{Lacks, Moved, Still}
+use Rattle.rgo_runtime.specs.declared.runs.Why.{Why}
+use Rattle.rgo_runtime.specs.declared.runs.Why.TheVariants.{Memory, Over, Steps, Stuck, Write}
+
+-- the sizes of a table for code with so many package variables
+abbrev pub sizes_with : Sizes → ℕ → TableSizes
+sizes_with sizes variables = record {
+  pages = sizes.pages;
+  page_words = sizes.page_words;
+  slots = sizes.regions;
+  variables = variables;
+}
+
+-- These prints have gone out since the sink held `old`, whole and in order; the others wait, and none is lost.
+pub record HasGiven (c : Crew) (given : List Drawn) (old now : Option (List ℕ)) : Type 0 where
+  pub none_lost : NoneIsLost (all_members c) (given ++ drawn c.waiting)
+  pub turns : AreInOrder given
+  pub next : c.next ≡ length given
+  pub out : Appends old now (bytes_of given)
+
+-- Of these prints, which come in order, the first bytes have gone out, some or all. None of them and of the rest is lost.
+pub record HasGivenSome (c : Crew) (given : List Drawn) (old now : Option (List ℕ)) : Type 0 where
+  pub rest : List Drawn
+  pub none_lost : NoneIsLost (all_members c) (given ++ rest)
+  pub turns : AreInOrder given
+  pub out : AppendsSome old now (bytes_of given)
+
+-- whatever had gone out before, all is well after it
+abbrev pub GoesOn : (before : Crew) (was : Option (List ℕ)) (after : Crew) (now : Option (List ℕ)) → Type 0
+GoesOn before was after now = (old : Option (List ℕ)) (given : List Drawn) → HasGiven before given old was
+    → (more : List Drawn) × HasGiven after more old now
+
+-- no print that waits could go out
+abbrev pub NoneIsNext : Crew → Type 0
+NoneIsNext c = (d : Drawn) → IsIn (drawn c.waiting) d → d.ticket ≡ c.next → ⊥
+
+-- what the driver knows when it ends a run for this reason
+abbrev pub Knows : Crew → Why → Type 0
+Knows c Memory = ⊤
+Knows c Write = ⊤
+Knows c Over = NoneIsNext c
+Knows c Steps = NoneIsNext c
+Knows c (Stuck passed) = NoneIsNext c × (before : Crew) × HasPassedAll before c passed × (c.parked ≡ []) × (c.born ≡ [])
+
+-- whatever had gone out before, the run has ended well for this reason
+abbrev pub EndsFor : Why → (before : Crew) (was : Option (List ℕ)) (after : Crew) (now : Option (List ℕ)) → Type 0
+EndsFor Write before was after now = (old : Option (List ℕ)) (given : List Drawn) → HasGiven before given old was
+    → (more : List Drawn) × HasGivenSome after more old now
+EndsFor Memory before was after now = GoesOn before was after now
+EndsFor Over before was after now = GoesOn before was after now × Knows after Over
+EndsFor Steps before was after now = GoesOn before was after now × Knows after Steps
+EndsFor (Stuck passed) before was after now = GoesOn before was after now × Knows after (Stuck passed)
+
+-- How a run has ended that no goroutine has ended, by why its driver ended it, and by the steps that were made and may be made. The other
+-- cases do not arise.
+abbrev pub unmarked_end : Why → (steps most : ℕ) → RunEnd
+unmarked_end (Stuck Still) steps most = run_end.Deadlock
+unmarked_end (Stuck (Lacks why)) steps most = run_end.NoRoom why
+unmarked_end (Stuck Moved) steps most = run_end.NoMemory
+unmarked_end Steps steps most = cond (nat_le most steps) run_end.StepsSpent run_end.NoMemory
+unmarked_end Over steps most = run_end.NoMemory
+unmarked_end Memory steps most = run_end.NoMemory
+unmarked_end Write steps most = run_end.NoMemory
+
+-- the same by the mark that a goroutine has set, if nothing is lost of the goroutines; or else memory was refused
+abbrev pub settled_end : (whole : Bool) → Option Mark → (unmarked : RunEnd) → RunEnd
+settled_end false first unmarked = run_end.NoMemory
+settled_end true (Some mark) unmarked = end_of (mark_of mark)
+settled_end true None unmarked = unmarked
+
+-- how a run has ended
+abbrev pub end_by : Why → (whole : Bool) → Option Mark → (steps most : ℕ) → RunEnd
+end_by Memory whole first steps most = run_end.NoMemory
+end_by Write whole first steps most = run_end.WriteFault
+end_by Over whole first steps most = settled_end whole first (unmarked_end Over steps most)
+end_by Steps whole first steps most = settled_end whole first (unmarked_end Steps steps most)
+end_by (Stuck passed) whole first steps most = settled_end whole first (unmarked_end (Stuck passed) steps most)
+
+-- ---- examples
+
+pub record RunExamples : Type 0 where
+  pub begins : (c : Crew) (old : Option (List ℕ)) → NoneIsLost (all_members c) [] → c.waiting ≡ [] → c.next ≡ 0 → HasGiven c [] old old
+  -- a print has gone out that the driver has not counted
+  pub uncounted : (c : Crew) (d : Drawn) (old now : Option (List ℕ)) → c.next ≡ 0 → HasGiven c (d ∷ []) old now → ⊥
+  -- the second print has gone out before the first
+  pub out_of_order : (c : Crew) (d : Drawn) (old now : Option (List ℕ)) → d.ticket ≡ 1 → HasGiven c (d ∷ []) old now → ⊥
+  pub some_out_of_order : (c : Crew) (d : Drawn) (old now : Option (List ℕ)) → d.ticket ≡ 1 → HasGivenSome c (d ∷ []) old now → ⊥
+  pub nothing_done : (c : Crew) (now : Option (List ℕ)) → GoesOn c now c now
+  pub none_waits : (c : Crew) → c.waiting ≡ [] → NoneIsNext c
+  -- the first that waits could go out
+  pub one_waits : (c : Crew) (print : Print) → c.waiting ≡ print ∷ [] → print.ticket ≡ c.next → NoneIsNext c → ⊥
+  pub deadlock : end_by (Stuck Still) true None 5 9 ≡ run_end.Deadlock
+  -- memory was refused when goroutines left
+  pub lost : end_by (Stuck Still) false None 5 9 ≡ run_end.NoMemory
+  -- the mark of a goroutine goes before what the driver has found
+  pub exited : end_by (Stuck Still) true (Some (clock.Ended Exit)) 5 9 ≡ run_end.Ended Exit
+  pub spent : end_by Steps true None 9 9 ≡ run_end.StepsSpent
+  pub unspent : end_by Steps true None 8 9 ≡ run_end.StepsSpent → ⊥
+  -- a failed write goes before all
+  pub failed : end_by Write true (Some (clock.Ended Exit)) 9 9 ≡ run_end.WriteFault

@@ -1,0 +1,32 @@
+//! How a run has ended, by the mark that a goroutine has set at its table.
+ghost use Rattle.std.specs.Prelude.{◌≡◌};
+ghost use Rattle.rgo_core_steps.specs.Ends.{mark_of};
+ghost use Rattle.rgo_table_runs.specs.closing.Ends as spec;
+
+use rgo_core_steps::clock::Mark;
+use rgo_driver::RunEnd;
+use rgo_sound::machine::Shortage;
+use rgo_sound::region_machine::Limit;
+
+fn end_of_limit(limit: Limit) -> RunEnd
+    ensures { result ≡ spec.end_of_limit limit }
+{
+    match limit {
+        Limit::Pages => RunEnd::NoRoom(Shortage::Pages),
+        Limit::Regions => RunEnd::NoRoom(Shortage::Regions),
+        Limit::ObjectSize => RunEnd::NoRoom(Shortage::ObjectSize),
+        Limit::Calls => RunEnd::CallsTooDeep,
+        Limit::Goroutines => RunEnd::GoroutinesSpent,
+        Limit::Memory => RunEnd::NoMemory,
+    }
+}
+
+/// The end that a mark says.
+pub fn end_of(mark: Mark) -> RunEnd
+    ensures { result ≡ spec.end_of (mark_of mark) }
+{
+    match mark {
+        Mark::Ended(end) => RunEnd::Ended(end),
+        Mark::Stopped(limit) => end_of_limit(limit),
+    }
+}

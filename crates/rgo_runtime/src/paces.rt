@@ -1,0 +1,63 @@
+//! How long turns are, and whether a round is worth threads.
+ghost use Rattle.std.specs.Prelude.{◌≤◌};
+
+/// The length of a turn at first, in instructions, and the longest one.
+const SHORT: u32 = 1_000;
+
+const LONG: u32 = 1_000_000;
+
+/// The least instructions of a round for which threads are started.
+const WORTH_THREADS: u64 = 30_000;
+
+/// The first rounds, which are on threads whatever their length, and the most goroutines that are ready in such a round.
+const FIRST_ROUNDS: u64 = 2;
+
+const FEW: usize = 8;
+
+/// The pace of a run. It decides nothing but how fast a run is.
+#[derive(Drop)]
+pub(crate) struct Pace {
+    slice: u32,
+}
+
+impl Pace {
+    pub(crate) fn new() -> Pace {
+        Pace { slice: SHORT }
+    }
+
+    /// The length of each turn of a round of `ready` goroutines, in a run that may execute `left` instructions more before its limit
+    /// is tested.
+    pub(crate) fn slice(&self, ready: usize, left: u64) -> u32 {
+        let share = left / (ready as u64).max(1);
+        let most = share.max(u64::from(SHORT));
+        if u64::from(self.slice) < most {
+            self.slice
+        } else {
+            most as u32
+        }
+    }
+
+    /// After a round in which each turn used all that it was given, turns may be twice as long; after any other they are short again.
+    pub(crate) fn after(&mut self, all_used: bool) {
+        self.slice = if all_used {
+            self.slice.saturating_mul(2).min(LONG)
+        } else {
+            SHORT
+        };
+    }
+
+    /// On how many workers a round of `ready` goroutines runs: on all of them, or on the thread of the caller.
+    pub(crate) fn workers(&self, workers: u32, ready: usize, slice: u32, number: u64) -> u32
+        requires { (1 ≤ workers) × (workers ≤ 64) }
+        ensures { (1 ≤ result) × (result ≤ 64) }
+    {
+        let is_first = number <= FIRST_ROUNDS && ready <= FEW;
+        let is_long = u64::from(slice).saturating_mul(ready as u64) >= WORTH_THREADS
+            && slice > SHORT;
+        if ready > 1 && (is_first || is_long) {
+            workers
+        } else {
+            1
+        }
+    }
+}

@@ -1,0 +1,304 @@
+//! Runs of checked code, each over a table of its own.
+ghost use Rattle.std.specs.Prelude.{◌≡◌, ◌≤◌, ◌<◌, ◌^◌, ◌↔◌, true, [], IfOk, MatchResult, OnErr, Some, None, MatchOption, List, Option, ℕ};
+ghost use Rattle.rgo_core.specs.Image.{table_sizes};
+ghost use Rattle.rgo_core.specs.Memory.Words.{all_words as words_in_all};
+ghost use Rattle.rgo_runtime.specs.Runs.{EndsFor, GoesOn, NoneIsNext, RunExamples, end_by, sizes_with, unmarked_end};
+ghost use Rattle.rgo_runtime.specs.Shares.{counts_in};
+ghost use Rattle.rgo_runtime.specs.declared.runs.Why.TheVariants as why;
+ghost use Rattle.rgo_sound.specs.Machine.Limits.{most_goroutines};
+ghost use Rattle.rgo_table_runs.specs.claims.RegionRuns.{CodeRuns};
+
+use crate::crew::{Came, Crew};
+use crate::ends::end_of;
+use crate::paces::Pace;
+use crate::passes::Passed;
+use crate::retiring::Left;
+use crate::shares::Tally;
+use rgo_core::memory::layout::TableSizes;
+use rgo_core::table::{close, open};
+use rgo_core_steps::clock::Mark;
+use rgo_driver::RunEnd;
+use rgo_outside::{Gate, Sink};
+use rgo_sound::code::Checked;
+use rgo_sound::machine::{Limits, Sizes};
+use rgo_table_runs::goroutine::acts::runs::Run;
+use rgo_table_runs::goroutine::body::Program;
+use std::alloc::{AllocError, Global};
+use std::thread::Threads;
+
+/// How a run ended, and what it has made and done.
+#[derive(Clone, Copy, Debug)]
+pub struct Outcome {
+    pub end: RunEnd,
+    pub tally: Tally,
+}
+
+/// Why a driver ends a run.
+#[derive(Clone, Copy)]
+pub(crate) enum Why {
+    /// Memory was refused.
+    Memory,
+    /// A write failed.
+    Write,
+    /// A goroutine has ended the run.
+    Over,
+    /// As many instructions were executed as may be.
+    Steps,
+    /// In a pass over all goroutines nothing moved.
+    Stuck(Passed),
+}
+
+/// What a driver remembers from round to round.
+#[derive(Drop)]
+struct Course {
+    pace: Pace,
+    /// The number of the next round.
+    number: u64,
+    /// The instructions that were executed, at most.
+    steps: u64,
+}
+
+/// The exact number of instructions that were executed, when all that were parked are ready.
+fn count(crew: &mut Crew<'_, '_>) -> Result<u128, AllocError>
+    ensures kept { (out : Option (List ℕ)) → GoesOn crew.old out crew.new out }
+    ensures rest { crew.new ≡ record crew.old { ready = crew.new.ready; parked = crew.new.parked } }
+{
+    crew.wake_all()?;
+    Ok(crew.stock()?.shares.total().steps)
+}
+
+/// Counts exactly where so many may have been executed that the run is over. Returns why it is over, or `None` if it goes on.
+fn spend(crew: &mut Crew<'_, '_>, most: u64, steps: &mut u64) -> Option<Why>
+    requires next { NoneIsNext crew.old }
+    ensures ends { (out : Option (List ℕ)) → MatchOption result (GoesOn crew.old out crew.new out)
+        (λ why. EndsFor why crew.old out crew.new out) }
+    ensures rest { crew.new ≡ record crew.old { ready = crew.new.ready; parked = crew.new.parked } }
+{
+    if *steps < most {
+        return None;
+    }
+    let exact = match count(crew) {
+        Ok(exact) => exact,
+        Err(_) => return Some(Why::Memory),
+    };
+    if exact >= u128::from(most) {
+        return Some(Why::Steps);
+    }
+    *steps = exact as u64;
+    None
+}
+
+/// A pass over all goroutines. If nothing moves in it, the run is over.
+fn stand(crew: &mut Crew<'_, '_>) -> Option<Why>
+    requires next { NoneIsNext crew.old }
+    requires born { crew.old.born ≡ [] }
+    ensures ends { (out : Option (List ℕ)) → MatchOption result (GoesOn crew.old out crew.new out)
+        (λ why. EndsFor why crew.old out crew.new out) }
+    ensures run { crew.new.run ≡ crew.old.run }
+{
+    match crew.wake_all() {
+        Ok(()) => {}
+        Err(_) => return Some(Why::Memory),
+    }
+    match crew.pass() {
+        Ok(passed) => match passed {
+            Passed::Moved => None,
+            Passed::Still | Passed::Lacks(_) => Some(Why::Stuck(passed)),
+        },
+        Err(_) => Some(Why::Memory),
+    }
+}
+
+/// What becomes of the run after a round whose prints have gone out, and that has come to this. Where nothing moved in it there is a pass.
+fn settle(crew: &mut Crew<'_, '_>, came: Came, most: u64, steps: &mut u64) -> Option<Why>
+    requires next { NoneIsNext crew.old }
+    requires born { crew.old.born ≡ [] }
+    ensures ends { (out : Option (List ℕ)) → MatchOption result (GoesOn crew.old out crew.new out)
+        (λ why. EndsFor why crew.old out crew.new out) }
+    ensures run { crew.new.run ≡ crew.old.run }
+{
+    if came.is_over {
+        return Some(Why::Over);
+    }
+    if came.lacks_memory {
+        return Some(Why::Memory);
+    }
+    match spend(crew, most, steps) {
+        Some(why) => return Some(why),
+        None => {}
+    }
+    if came.moved {
+        return None;
+    }
+    stand(crew)
+}
+
+/// A round, and a pass if nothing moved in it. Returns why the run is over, or `None` if it goes on.
+fn advance<H: Threads + Sync, K: Sink, G: Gate + Sync>(
+    rt: &H,
+    crew: &mut Crew<'_, '_>,
+    most: u64,
+    workers: u32,
+    course: &mut Course,
+    out: &mut K,
+    gate: &G,
+) -> Option<Why>
+    requires workers { (1 ≤ workers) × (workers ≤ 64) }
+    ensures ends { MatchOption result (GoesOn crew.old (K.contents out.old) crew.new (K.contents out.new))
+        (λ why. EndsFor why crew.old (K.contents out.old) crew.new (K.contents out.new)) }
+    ensures run { crew.new.run ≡ crew.old.run }
+{
+    let ready = crew.ready();
+    let slice = course.pace.slice(ready, most.saturating_sub(course.steps));
+    let workers = course.pace.workers(workers, ready, slice, course.number);
+    let came = match crew.play(rt, workers, slice, course.number, gate) {
+        Ok(came) => came,
+        Err(_) => return Some(Why::Memory),
+    };
+    course.number = course.number.saturating_add(1);
+    course.pace.after(came.all_used);
+    course.steps = course.steps.saturating_add(came.steps);
+    match crew.give_out(out) {
+        Ok(()) => {}
+        Err(_) => return Some(Why::Write),
+    }
+    settle(crew, came, most, &mut course.steps)
+}
+
+/// The goroutines have their turns until the run is over.
+fn play<H: Threads + Sync, K: Sink, G: Gate + Sync>(
+    rt: &H,
+    crew: &mut Crew<'_, '_>,
+    most: u64,
+    workers: u32,
+    out: &mut K,
+    gate: &G,
+) -> Why
+    requires workers { (1 ≤ workers) × (workers ≤ 64) }
+    ensures ends { EndsFor result crew.old (K.contents out.old) crew.new (K.contents out.new) }
+    ensures run { crew.new.run ≡ crew.old.run }
+{
+    let mut course = Course {
+        pace: Pace::new(),
+        number: 1,
+        steps: 0,
+    };
+    for _ in 0..u64::MAX {
+        match advance(rt, crew, most, workers, &mut course, out, gate) {
+            Some(why) => return why,
+            None => {}
+        }
+    }
+    // No run has so many rounds.
+    Why::Memory
+}
+
+/// How a run has ended that no goroutine has ended. The last cases do not arise.
+fn unmarked_end(why: Why, steps: u128, most: u64) -> RunEnd
+    ensures { result ≡ unmarked_end why steps most }
+{
+    match why {
+        Why::Stuck(passed) => match passed {
+            Passed::Still => RunEnd::Deadlock,
+            Passed::Lacks(lack) => RunEnd::NoRoom(lack),
+            Passed::Moved => RunEnd::NoMemory,
+        },
+        Why::Steps => if steps >= u128::from(most) {
+            RunEnd::StepsSpent
+        } else {
+            RunEnd::NoMemory
+        },
+        Why::Over | Why::Memory | Why::Write => RunEnd::NoMemory,
+    }
+}
+
+/// How a run has ended, when all its goroutines have left.
+fn end_of_run(why: Why, is_whole: bool, first: Option<Mark>, steps: u128, most: u64) -> RunEnd
+    ensures { result ≡ end_by why is_whole first steps most }
+{
+    match why {
+        Why::Memory => RunEnd::NoMemory,
+        Why::Write => RunEnd::WriteFault,
+        Why::Over | Why::Steps | Why::Stuck(_) => {
+            if !is_whole {
+                return RunEnd::NoMemory;
+            }
+            match first {
+                Some(mark) => end_of(mark),
+                None => unmarked_end(why, steps, most),
+            }
+        }
+    }
+}
+
+/// Whether the table of a run may have these sizes, for code with so many package variables: at least one page, at most 1,073,741,820
+/// words for each, and at most 2^32 words in all.
+pub fn has_table(sizes: &Sizes, variables: usize) -> bool
+    ensures { (result ≡ true) ↔ ((0 < sizes.now.pages) × (sizes.now.page_words ≤ 1073741820)
+        × (words_in_all (sizes_with sizes.now variables) ≤ 2 ^ 32)) }
+{
+    let cells = (sizes.pages as u128) * (sizes.page_words as u128);
+    let others = 98 + 2 * (sizes.pages as u128) + 2 * (sizes.regions as u128) + (variables as u128);
+    sizes.pages > 0 && sizes.page_words <= 1_073_741_820 && cells + others <= 1 << 32
+}
+
+/// Runs code over a table of its own. The prints go out as they are made.
+///
+/// # Errors
+///
+/// If there is no memory for the table, the program or `main`. Then nothing has gone out. Where memory is refused later, the run ends so.
+pub fn run<H: Threads + Sync, K: Sink, G: Gate + Sync>(
+    rt: &H,
+    alloc: Global,
+    code: &Checked,
+    sizes: Sizes,
+    limits: Limits,
+    workers: u32,
+    out: &mut K,
+    gate: &G,
+) -> Result<Outcome, AllocError>
+    requires workers { (1 ≤ workers) × (workers ≤ 64) }
+    requires pages { 0 < sizes.pages }
+    requires small { sizes.page_words ≤ 1073741820 }
+    requires fits { words_in_all (table_sizes code.now sizes) ≤ 2 ^ 32 }
+    requires goroutines { most_goroutines limits ≤ 1000000 }
+    ensures runs { IfOk result (λ o. CodeRuns code.now sizes limits o.end (counts_in o.tally) (K.contents out.old) (K.contents out.new)) }
+    ensures none { OnErr result (K.contents out.new ≡ K.contents out.old) }
+{
+    let variables = code.code().tac().variables().len();
+    let layout = TableSizes {
+        pages: sizes.pages,
+        page_words: sizes.page_words,
+        slots: sizes.regions,
+        variables,
+    };
+    let program = Program::new(alloc, code)?;
+    let (table, seat) = open(alloc, code, variables, sizes, limits)?;
+    let (left, why) = {
+        let run = Run::new(&table, layout, limits, &program);
+        match Crew::new(alloc, &run, seat) {
+            Ok(mut crew) => {
+                let why = play(rt, &mut crew, limits.steps, workers, out, gate);
+                (crew.finish(), why)
+            }
+            Err(_) => return Err(AllocError),
+        }
+    };
+    let tally = left.shares.total();
+    let Left {
+        seat,
+        shares: _,
+        first,
+        is_whole,
+    } = left;
+    close(table, seat).free();
+    Ok(Outcome {
+        end: end_of_run(why, is_whole, first, tally.steps, limits.steps),
+        tally,
+    })
+}
+
+/// What a driver knows while it plays, why it ends a run, and what must not pass for it.
+pub fn examples()
+    ensures { RunExamples }
+{}
