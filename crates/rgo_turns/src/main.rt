@@ -4,9 +4,11 @@
 
 mod options;
 mod report;
+mod workers;
 
 use crate::options::{Options, options_of, parser};
 use crate::report::report;
+use crate::workers::run_on;
 use rgo_crew::driving::drive;
 use rgo_run::{Ending, compile};
 use std::alloc::{AllocError, Global};
@@ -48,6 +50,9 @@ fn run<R: Threads + Sync, O: Write, E: Write>(
             return 1;
         }
     };
+    if let Some(workers) = options.workers {
+        return run_on(rt, alloc, &code, workers, options, out, err);
+    }
     match drive(
         rt,
         alloc,

@@ -12,6 +12,10 @@ pub(crate) struct Options {
     pub limits: Limits,
     pub course: Course<'static>,
     pub stats: bool,
+    /// On how many workers the driver of rgo_runtime runs the program; `None` for the driver of rgo_crew.
+    pub workers: Option<u32>,
+    /// The most instructions of a run on workers.
+    pub steps: u64,
 }
 
 /// An option `--name N`.
@@ -63,6 +67,20 @@ pub(crate) fn parser<'a>(alloc: Global) -> Result<Command<'a>, AllocError> {
             "goroutines",
             "how many goroutines there may be; 100000 if not given",
         ))?
+        .arg(
+            number(
+                alloc,
+                "workers",
+                "run on N workers, from 1 to 64, and write what is printed as it is made",
+            )
+            .conflicts_with("rounds")?
+            .conflicts_with("threads")?,
+        )?
+        .arg(number(
+            alloc,
+            "steps",
+            "end a run on workers after some more than N instructions; never if not given",
+        ))?
         .arg(stats)
 }
 
@@ -79,6 +97,10 @@ pub(crate) fn options_of(matches: &ArgMatches<'_>) -> Options {
         },
         None => Course::Rounds(value(matches, "rounds", 1000)),
     };
+    let steps = match matches.get_one::<u32>("steps") {
+        Some(steps) => u64::from(steps),
+        None => u64::MAX,
+    };
     Options {
         sizes: Sizes {
             page_words: value(matches, "page-words", 256) as usize,
@@ -91,5 +113,7 @@ pub(crate) fn options_of(matches: &ArgMatches<'_>) -> Options {
         },
         course,
         stats: matches.get_flag("stats"),
+        workers: matches.get_one::<u32>("workers"),
+        steps,
     }
 }
