@@ -88,7 +88,7 @@ noted words err = record {
           followed_if (of_program one_object) code default_options.limits 0 taken (run_end.Ended Exit) state compiled refl refl;
       regions = exits;
     };
-    stats_are = refl;
+    said = tt;
     failed = λ is. cc;
     held = λ no_fault. refl;
   };

@@ -1,5 +1,5 @@
 -- The examples of runs with regions.
-use Rattle.std.proofs.Common.{◌≡◌, ◌≤◌, ℕ, [], ◌∷◌, List, Some, length, refl, ap, subst, arith}
+use Rattle.std.proofs.Common.{◌≡◌, ◌≤◌, ℕ, [], ◌∷◌, List, Some, length, refl, sym, ap, ◌∙◌, subst, arith}
 use Rattle.std.specs.Prelude.{nat_lt, unwrap_or}
 use Rattle.std.proofs.lemmas.Bool.{leb-true, ltb-true}
 use Rattle.rgo_machine.specs.declared.limits.Sizes.{Sizes}
@@ -21,7 +21,8 @@ use Rattle.rgo_driver.specs.declared.ends.RunEnd.{RunEnd}
 use Rattle.rgo_driver.specs.declared.ends.RunEnd.TheVariants as run_end
 use Rattle.rgo_command_line.specs.Limits.{default_options}
 use Rattle.rgo_run.specs.Headline.{Suffices}
-use Rattle.rgo_run.specs.Runs.{NamesLive, RegionRun, of_program}
+use Rattle.rgo_run.specs.Runs.{IsOneRun, of_program}
+use Rattle.rgo_run.specs.TableRuns.claims.RegionRuns.{NamesLive, RegionRun}
 use Rattle.rgo_claim_examples.specs.Programs.{one_object}
 use Rattle.rgo_claim_examples.specs.RegionRuns.{RegionRunExamples, code}
 use Rattle.rgo_claim_examples.specs.States.{sizes}
@@ -59,8 +60,11 @@ not_lacking why e = cc
 pub exits : RegionRun code default_options.sizes (run_end.Ended Exit) (plain_at last last.plain.printed)
 exits = record {
   events = events;
+  late = [];
   state = last;
+  last = last;
   run = refl;
+  more = refl;
   is = refl;
   printed = refl;
   safe = λ before after s e is_run. good 256 before s is_run;
@@ -78,8 +82,11 @@ wants why e = cc
 no_region : RegionRun code (sizes 16 1 0) (run_end.NoRoom shortage.Regions) (tac_start (erased code))
 no_region = record {
   events = [];
+  late = [];
   state = region_start code;
+  last = region_start code;
   run = refl;
+  more = refl;
   is = refl;
   printed = refl;
   safe = λ before after s e is_run. good 16 before s is_run;
@@ -130,4 +137,10 @@ region_run_examples = record {
   has_region = has_region;
   has_room = has_room;
   no_second = no_second;
+  unsaid = λ made said. said;
+  unasked = λ made tally said. said;
+  cut = λ made. tt;
+  two_runs = λ what options end out r none one is. let same = sym none ∙ is.same ∙ one in cc;
+  overspent = λ what options out r steps is.
+      let less = is.spent refl in omega (arith, less, steps);
 }

@@ -1,17 +1,23 @@
 -- A run with regions, and what is none.
-use Rattle.std.specs.Prelude.{◌≡◌, ◌≤◌, List, [], ◌∷◌, Some, length}
+use Rattle.std.specs.Prelude.{◌≡◌, ◌≤◌, ◌+◌, ◌*◌, true, false, List, [], ◌∷◌, None, Some, length}
 use Rattle.rgo_machine.specs.declared.limits.Sizes.{Sizes}
 use Rattle.rgo_machine.specs.declared.picks.End.TheVariants.{Exit}
 use Rattle.rgo_machine.specs.declared.turns.Shortage.TheVariants as shortage
 use Rattle.rgo_tac.specs.Tac.{TacState}
 use Rattle.rgo_code.specs.Code.{Code}
-use Rattle.rgo_region_machine.specs.Counts.{counts_of}
+use Rattle.rgo_region_machine.specs.Counts.{Counts, counts_of}
 use Rattle.rgo_region_machine.specs.Machine.{Event, region_run}
 use Rattle.rgo_region_machine.specs.States.{RegionState}
 use Rattle.rgo_driver.specs.declared.ends.RunEnd.{RunEnd}
 use Rattle.rgo_driver.specs.declared.ends.RunEnd.TheVariants as run_end
 use Rattle.rgo_command_line.specs.Limits.{default_options}
-use Rattle.rgo_run.specs.Runs.{RegionRun}
+use Rattle.rgo_machine.specs.declared.picks.Pick.TheVariants.{One}
+use Rattle.rgo_command_line.specs.declared.limits.RunOptions.{RunOptions}
+use Rattle.rgo_run.specs.Calls.{SinkUse}
+use Rattle.rgo_run.specs.Runs.{IsOneRun, IsSaid, RunOf, Runnable}
+use Rattle.rgo_run.specs.TableRuns.claims.RegionRuns.{RegionRun}
+use Rattle.rgo_run.specs.TableRuns.claims.TableRuns.{picks_of}
+use Rattle.rgo_run.specs.Tally.{Tally}
 use Rattle.rgo_claim_examples.specs.CompiledCode.{code_with}
 use Rattle.rgo_claim_examples.specs.States.{sizes}
 
@@ -33,3 +39,15 @@ pub record RegionRunExamples : Type 0 where
   -- it never comes to a state with a second goroutine
   pub no_second : (page_sizes : Sizes) (end : RunEnd) (t : TacState) → length t.goroutines ≡ 2
       → RegionRun code page_sizes end t → ⊥
+  -- its counts were asked for, and it says nothing
+  pub unsaid : (made : Counts) → IsSaid true (run_end.Ended Exit) made None → ⊥
+  -- they were not asked for, and it says them
+  pub unasked : (made : Counts) (tally : Tally) → IsSaid false (run_end.Ended Exit) made (Some tally) → ⊥
+  -- memory was refused for them, too
+  pub cut : (made : Counts) → IsSaid true run_end.NoMemory made None
+  -- it is not the run that took no step
+  pub two_runs : (what : Runnable) (options : RunOptions) (end : RunEnd) (out : SinkUse) (r : RunOf what options end out)
+      → r.runs.picks ≡ [] → picks_of r.code options.sizes r.regions.events ≡ One 0 ∷ [] → IsOneRun r → ⊥
+  -- its limit of instructions was passed by 1,000 for each goroutine
+  pub overspent : (what : Runnable) (options : RunOptions) (out : SinkUse) (r : RunOf what options run_end.StepsSpent out)
+      → (counts_of r.regions.last).steps ≡ options.limits.steps + 1000 * (counts_of r.regions.last).goroutines → IsOneRun r → ⊥

@@ -4,7 +4,7 @@ use Rattle.std.proofs.lemmas.Option.{same_Some}
 use Rattle.rgo_typed.specs.Tree.{Typed}
 use Rattle.rgo_machine.specs.declared.turns.Shortage.{Shortage}
 use Rattle.rgo_machine.specs.declared.turns.Shortage.TheVariants as shortage
-use Rattle.rgo_world.specs.declared.tally.Tally.{Tally}
+use Rattle.rgo_runtime.specs.declared.shares.Tally.{Tally}
 use Rattle.rgo_driver.specs.declared.ends.RunEnd.{RunEnd}
 use Rattle.rgo_driver.specs.declared.ends.RunEnd.TheVariants as run_end
 use Rattle.rgo_command_line.specs.declared.limits.RunOptions.{RunOptions}
@@ -23,11 +23,12 @@ use Rattle.rgo_run.specs.Endings.{status_of, status_of_run, is_fault_status, lin
 use Rattle.rgo_run.specs.Reports.{Tells}
 use Rattle.rgo_code.specs.Code.{Code as RegionCode}
 use Rattle.rgo_code.specs.Erasure.{erased}
-use Rattle.rgo_run.specs.Runs.{IsCodeFor, IsPlainCodeFor, IsRunnable, RunOf, Runnable, RunsTo, of_code, of_program, stats_at}
+use Rattle.rgo_region_machine.specs.Counts.{counts_of}
+use Rattle.rgo_run.specs.Runs.{IsCodeFor, IsOneRun, IsPlainCodeFor, IsRunnable, IsSaid, RunOf, Runnable, RunsTo, of_code, of_program}
 use Rattle.rgo_run.specs.Texts.{IsTextOf, AskSome, PassesAs, RefusedAs, RefusedBy, AcceptedBy}
 use Rattle.rgo_run.specs.Verdicts.{Passes, IsProgram}
 use Rattle.rgo_run.specs.Headline.{AlwaysHas, EndsRun, EndsEmit, IsOwnEnd, IsWriteFault, MayRun, MayEmit, NeverEnds, Print, Faults}
-use Rattle.rgo_run.specs.Headline.{Suffices, RunsWhole, MustRunWhole, IsSilent, EmitsWhole}
+use Rattle.rgo_run.specs.Headline.{Suffices, RunsFor, RunsWhole, MustRunWhole, IsSilent, EmitsWhole}
 use Rattle.rgo_run.proofs.EndingLemmas.{refused_status, not_one, one_is_no_run, one_is_no_emit, not_status_1, read_fault, write_fault}
 use Rattle.rgo_run.proofs.CodeVerdictLemmas as codes
 use Rattle.rgo_run.proofs.VerdictLemmas as verdicts
@@ -42,8 +43,8 @@ OnlyChecks _ = ⊥
 pub data Outcome (call : Call) (text : List ℕ) (e : Ending) : Type 0 where
   accepted : e ≡ Valid → (command : Command) → Asks call command → OnlyChecks command → AcceptedBy command text
       → IsUntouched call.out → Outcome call text e
-  ran : (kind : TextKind) (options : RunOptions) → IsRun call kind options → RunsTo kind options text e call.out
-      → Outcome call text e
+  ran : (kind : TextKind) (options : RunOptions) → IsRun call kind options → (r : RunsTo kind options text e call.out)
+      → ((Asks call (Record options) → ⊥) → IsOneRun r.runs) → Outcome call text e
   emitted : IsEmit call → Emits text e call.out → Outcome call text e
   refused : (command : Command) → Asks call command → RefusedBy command text e → IsUntouched call.out → Outcome call text e
   no_memory : e ≡ NoMemory → IsUntouched call.out → Outcome call text e
@@ -190,7 +191,7 @@ emit_held bytes call _ w n = absurd w
 
 pub usage : (call : Call) (text : List ℕ) (e : Ending) → Outcome call text e → e ≡ Usage → command_of call.words ≡ None
 usage call text e (accepted is command c k p o) u = cc
-usage call text e (ran kind options c r) u = absurd (let is = r.is_end in cc)
+usage call text e (ran kind options c r one) u = absurd (let is = r.is_end in cc)
 usage call text e (emitted c em) u = absurd (subst EndsEmit u (emit_ends call text e em))
 usage call text e (refused command c f o) u =
     absurd (not_one e Usage (refused_status (kind_of command) text e f) (λ s. cc) u)
@@ -204,7 +205,7 @@ unknown call e (inr is) n = inr is
 pub is_refused : (call : Call) (text : List ℕ) (e : Ending) → Outcome call text e → status_of e ≡ 1
     → (command : Command) × Asks call command × RefusedBy command text e
 is_refused call text e (accepted is command c k p o) s = absurd (let t = subst (λ x. status_of x ≡ 1) is s in cc)
-is_refused call text e (ran kind options c r) s = absurd (not_status_1 r.run_end (subst (λ x. status_of x ≡ 1) r.is_end s))
+is_refused call text e (ran kind options c r one) s = absurd (not_status_1 r.run_end (subst (λ x. status_of x ≡ 1) r.is_end s))
 is_refused call text e (emitted c em) s = absurd (emit_status e (emit_ends call text e em) s)
 is_refused call text e (refused command c f o) s = (command, c, f)
 is_refused call text e (no_memory is o) s = absurd (let t = subst (λ x. status_of x ≡ 1) is s in cc)
@@ -212,7 +213,7 @@ is_refused call text e (no_memory is o) s = absurd (let t = subst (λ x. status_
 pub valid : (call : Call) (text : List ℕ) (e : Ending) → Outcome call text e → e ≡ Valid
     → (command : Command) × Asks call command × AcceptedBy command text
 valid call text e (accepted is command c k p o) x = (command, c, p)
-valid call text e (ran kind options c r) x = absurd (let is = r.is_end in cc)
+valid call text e (ran kind options c r one) x = absurd (let is = r.is_end in cc)
 valid call text e (emitted c em) x = (Emit, c, compiled_passes text em.0 em.1)
 valid call text e (refused command c f o) x =
     absurd (not_one e Valid (refused_status (kind_of command) text e f) (λ s. cc) x)
@@ -223,7 +224,7 @@ pub first : (call : Call) (text : List ℕ) (e : Ending) → Outcome call text e
 first call text e (accepted is other c k p o) command d why w =
     absurd (never_both (kind_of other) text why (accepted_passes other text p)
     (program_refused call text command other why d c w))
-first call text e (ran kind options c r) command d why w =
+first call text e (ran kind options c r one) command d why w =
     absurd (never_both kind text why (runnable_passes kind text r.what r.is_what)
     (run_refused call command kind options text why d c w))
 first call text e (emitted c em) command d why w =
@@ -235,7 +236,7 @@ first call text e (no_memory is o) command d why w = inr is
 pub untouched : (call : Call) (text : List ℕ) (e : Ending) → Outcome call text e → (MayRun call e → ⊥)
     → (MayEmit call e → ⊥) → IsUntouched call.out
 untouched call text e (accepted is command c k p o) r m = o
-untouched call text e (ran kind options c run) r m = absurd (r ((kind, options, c), subst EndsRun (sym run.is_end) tt))
+untouched call text e (ran kind options c run one) r m = absurd (r ((kind, options, c), subst EndsRun (sym run.is_end) tt))
 untouched call text e (emitted c em) r m = absurd (m (c, emit_ends call text e em))
 untouched call text e (refused command c f o) r m = o
 untouched call text e (no_memory is o) r m = o
@@ -249,8 +250,8 @@ emit_no_run_end _ ends m = ends
 
 pub print : (call : Call) (text : List ℕ) (e : Ending) → Outcome call text e → Print call text e
 print call text e (accepted is command c k p o) kind options d m = absurd (subst EndsRun is m)
-print call text e (ran k l c r) kind options d m =
-    inl (subst (λ (x : TextKind × RunOptions). RunsTo x.0 x.1 text e call.out) (same_run call k l kind options c d) r)
+print call text e (ran k l c r one) kind options d m =
+    inl (subst (λ (x : TextKind × RunOptions). RunsFor call x.0 x.1 text e) (same_run call k l kind options c d) (r, one))
 print call text e (emitted c em) kind options d m = absurd (emit_no_run_end e (emit_ends call text e em) m)
 print call text e (refused command c f o) kind options d m =
     absurd (one_is_no_run e (refused_status (kind_of command) text e f) m)
@@ -259,14 +260,14 @@ print call text e (no_memory is o) kind options d m = inr (is, o)
 pub emission : (call : Call) (text : List ℕ) (e : Ending) → Outcome call text e → IsEmit call → EndsEmit e
     → Emits text e call.out
 emission call text e (accepted is command c k p o) d m = absurd (no_emit call command c k d)
-emission call text e (ran kind options c r) d m = absurd (run_or_emit call kind options d c)
+emission call text e (ran kind options c r one) d m = absurd (run_or_emit call kind options d c)
 emission call text e (emitted c em) d m = em
 emission call text e (refused command c f o) d m = absurd (one_is_no_emit e (refused_status (kind_of command) text e f) m)
 emission call text e (no_memory is o) d m = absurd (subst EndsEmit is m)
 
 pub not_read_fault : (call : Call) (text : List ℕ) (e : Ending) → Outcome call text e → e ≡ ReadFault → ⊥
 not_read_fault call text e (accepted is command c k p o) x = cc
-not_read_fault call text e (ran kind options c r) x = let is = r.is_end in cc
+not_read_fault call text e (ran kind options c r one) x = let is = r.is_end in cc
 not_read_fault call text e (emitted c em) x = subst EndsEmit x (emit_ends call text e em)
 not_read_fault call text e (refused command c f o) x =
     not_one e ReadFault (refused_status (kind_of command) text e f) (λ s. cc) x
@@ -298,7 +299,7 @@ pub write_failed : (call : Call) (text : List ℕ) (e : Ending) → Outcome call
 write_failed call text e (accepted is command c k p o) x =
     absurd (no_write_fault e (λ kind stats. not_other e Valid (Ran kind run_end.WriteFault stats) is (λ w. cc))
     (not_other e Valid WriteFault is (λ w. cc)) x)
-write_failed call text e (ran kind options c r) x = run_write_failed kind options call text e r x
+write_failed call text e (ran kind options c r one) x = run_write_failed kind options call text e r x
 write_failed call text e (emitted c em) x = emit_write_failed call text e em x
 write_failed call text e (refused command c f o) x =
     let one = refused_status (kind_of command) text e f in
@@ -312,7 +313,7 @@ pub ran_asks : (call : Call) (text : List ℕ) (e : Ending) → Outcome call tex
     (stats : Option Tally) → e ≡ Ran kind end stats → (options : RunOptions) × IsRun call kind options
 ran_asks call text e (accepted is command c k p o) kind end stats x =
     absurd (not_other e Valid (Ran kind end stats) is (λ w. cc) x)
-ran_asks call text e (ran k options c r) kind end stats x =
+ran_asks call text e (ran k options c r one) kind end stats x =
     let is = r.is_end in
     let same : k ≡ kind = cc in
     (options, subst (λ k. IsRun call k options) same c)
@@ -349,7 +350,7 @@ out_held : (call : Call) (text : List ℕ) (e : Ending) → Outcome call text e
     → ((kind : TextKind) (stats : Option Tally) → e ≡ Ran kind run_end.WriteFault stats → ⊥) → (e ≡ WriteFault → ⊥)
     → Held call.out
 out_held call text e (accepted is command c k p o) n m = o.1
-out_held call text e (ran kind options c r) n m = r.held (λ w. n kind r.stats (r.is_end ∙ ap (λ end. Ran kind end r.stats) w))
+out_held call text e (ran kind options c r one) n m = r.held (λ w. n kind r.stats (r.is_end ∙ ap (λ end. Ran kind end r.stats) w))
 out_held call text e (emitted c em) n m = emit_held em.0 call e em.2 m
 out_held call text e (refused command c f o) n m = o.1
 out_held call text e (no_memory is o) n m = o.1
@@ -375,7 +376,7 @@ faults call text e went t = record {
 -- a run of what is run, and what is said of it
 abbrev RunsWith : RunOptions → Runnable → RunEnd → Option Tally → SinkUse → Type 0
 RunsWith options what end stats out =
-    (runs : RunOf what options end out) × (stats ≡ stats_at options.stats end runs.regions.state)
+    (runs : RunOf what options end out) × IsSaid options.stats end (counts_of runs.regions.last) stats
 
 -- without its regions the code that is run is the three-address code of what is run
 plain_code : (what : Runnable) (code : RegionCode) → IsCodeFor what code → IsPlainCodeFor what (erased code)
@@ -391,7 +392,9 @@ module _ (kind : TextKind) (options : RunOptions) (call : Call) (text : List ℕ
     run_end = end;
     is_own = is;
     runs = r.0;
-    told = subst (λ x. Grew call.err (line_of text (Ran kind end x))) r.1 t.1;
+    stats = stats;
+    said = r.1;
+    told = t.1;
     status = t.0;
   }
 
@@ -428,13 +431,13 @@ pub complete_run : (call : Call) (text : List ℕ) (e : Ending) → Outcome call
     → MustRunWhole kind options call text
 complete_run call text e (accepted is command c k u o) t kind options d w n what p s =
     absurd (no_run call command kind options c k d)
-complete_run call text e (ran k l c r) t kind options d w n what p s =
+complete_run call text e (ran k l c r one) t kind options d w n what p s =
     let same = same_run call k l kind options c d in
     let q = one_runnable kind text r.what what
     (subst (λ (x : TextKind × RunOptions). IsRunnable x.0 text r.what) same r.is_what) p in
     runs_whole kind options call text what r.stats s r.run_end
     (subst (λ (x : TextKind × RunOptions). RunsWith x.1 what r.run_end r.stats call.out) same
-    (subst (λ x. RunsWith l x r.run_end r.stats call.out) q (r.runs, r.stats_are)))
+    (subst (λ x. RunsWith l x r.run_end r.stats call.out) q (r.runs, r.said)))
     (subst (λ x. (call.status ≡ status_of x) × Grew call.err (line_of text x))
     (r.is_end ∙ ap (λ (x : TextKind × RunOptions). Ran x.0 r.run_end r.stats) same) (told_whole call text e t n))
     (λ f. w (r.failed f))
@@ -451,7 +454,7 @@ pub complete_checking : (call : Call) (text : List ℕ) (e : Ending) → Outcome
 complete_checking call text e (accepted is other c k u o) t command d only n p =
     let told = subst (λ x. (call.status ≡ status_of x) × Grew call.err (line_of text x)) is (told_whole call text e t n) in
     inl (record { status = told.0; untouched = o; silent = told.1 })
-complete_checking call text e (ran kind options c r) t command d only n p = absurd (no_run call command kind options d only c)
+complete_checking call text e (ran kind options c r one) t command d only n p = absurd (no_run call command kind options d only c)
 complete_checking call text e (emitted c em) t command d only n p = absurd (no_emit call command d only c)
 complete_checking call text e (refused other c f o) t command d only n p =
     absurd (never_both (kind_of command) text e (accepted_passes command text p)
@@ -476,7 +479,7 @@ pub complete_emit : (call : Call) (text : List ℕ) (e : Ending) → Outcome cal
     → IsEmit call → (Failed call.out → ⊥) → (Failed call.err → ⊥) → Passes text
     → EmitsWhole call text ⊎ (call.status ≡ 11)
 complete_emit call text e (accepted is command c k u o) t d w n p = absurd (no_emit call command c k d)
-complete_emit call text e (ran kind options c r) t d w n p = absurd (run_or_emit call kind options d c)
+complete_emit call text e (ran kind options c r one) t d w n p = absurd (run_or_emit call kind options d c)
 complete_emit call text e (emitted c em) t d w n p =
     inl (emits_whole call text e em.0 em.1 em.2 (told_whole call text e t n) w)
 complete_emit call text e (refused command c f o) t d w n p =

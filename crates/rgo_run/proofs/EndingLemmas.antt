@@ -13,8 +13,8 @@ use Rattle.rgo_run.specs.declared.endings.Ending.TheVariants.{Valid, Ran, Usage,
 use Rattle.rgo_run.specs.declared.endings.Ending.TheVariants.{Lexical, Syntax, Nesting, Typing, NoForm, Breaks, WriteFault, NoMemory}
 use Rattle.rgo_run.specs.Calls.{SinkUse}
 use Rattle.rgo_run.specs.Endings.{line_of, line_of_run, stats_lines, status_of, status_of_run, is_run_status}
-use Rattle.rgo_run.specs.Reports.{Reports, Writes}
-use Rattle.rgo_world.specs.declared.tally.Tally.{Tally}
+use Rattle.rgo_run.specs.Reports.{Reports, Tells, Writes, in_short}
+use Rattle.rgo_runtime.specs.declared.shares.Tally.{Tally}
 use Rattle.rgo_run.specs.Headline.{EndsEmit, EndsRun, IsWriteFault}
 use Rattle.rgo_run.specs.CodeVerdicts.{CodeRefused}
 use Rattle.rgo_run.specs.Texts.{RefusedAs}
@@ -165,9 +165,86 @@ run_of_status WriteFault s = cc
 pub stats_reported : {S : Type 0} (bytes_of : S → List ℕ) (kind : TextKind) (text : List ℕ) (end : RunEnd) (tally : Tally)
     (lines : Result S AllocError) (status answer : ℕ) (err : SinkUse) → status ≡ status_of_run end
     → IfOk lines (λ s. bytes_of s ≡ stats_lines tally (line_of_run kind text end))
-    → MatchResult lines (λ s. Writes (bytes_of s) status answer err) (λ e. Writes (line_of [] NoMemory) 11 answer err)
+    → MatchResult lines (λ s. Writes (bytes_of s) status answer err) (λ e. Tells text (in_short (Ran kind end (Some tally))) answer err)
     → Reports text (Ran kind end (Some tally)) answer err
 stats_reported bytes_of kind text end tally (Ok s) status answer err same is writes =
     inl (subst (λ n. Writes (stats_lines tally (line_of_run kind text end)) n answer err) same
     (subst (λ bytes. Writes bytes status answer err) is writes))
 stats_reported bytes_of kind text end tally (Err e) status answer err same is writes = inr (tt, writes)
+
+-- ---- endings in short
+
+short_of_run : (kind : TextKind) (end : RunEnd) (stats : Option Tally)
+    → (in_short (Ran kind end stats) ≡ NoMemory) ⊎ (end ≡ run_end.WriteFault)
+short_of_run kind run_end.WriteFault stats = inr refl
+short_of_run kind (run_end.Ended end) stats = inl refl
+short_of_run kind run_end.Deadlock stats = inl refl
+short_of_run kind (run_end.NoRoom why) stats = inl refl
+short_of_run kind run_end.CallsTooDeep stats = inl refl
+short_of_run kind run_end.StepsSpent stats = inl refl
+short_of_run kind run_end.GoroutinesSpent stats = inl refl
+short_of_run kind run_end.NoMemory stats = inl refl
+
+-- what is reported for want of memory: that, or that a write has failed
+pub short_is : (e : Ending) → (in_short e ≡ NoMemory) ⊎ ((status_of e ≡ 10) × (status_of (in_short e) ≡ 10))
+short_is (Ran kind end stats) = by (short_of_run kind end stats)
+  where
+    by : (in_short (Ran kind end stats) ≡ NoMemory) ⊎ (end ≡ run_end.WriteFault)
+        → (in_short (Ran kind end stats) ≡ NoMemory)
+        ⊎ ((status_of (Ran kind end stats) ≡ 10) × (status_of (in_short (Ran kind end stats)) ≡ 10))
+    by (inl is) = inl is
+    by (inr is) = inr (ap status_of_run is, ap (λ x. status_of (in_short (Ran kind x stats))) is)
+short_is Valid = inl refl
+short_is Usage = inl refl
+short_is ReadFault = inl refl
+short_is TooLong = inl refl
+short_is CodeTooLong = inl refl
+short_is (Lexical refusal) = inl refl
+short_is (Syntax at) = inl refl
+short_is (Nesting at) = inl refl
+short_is (Typing refusal) = inl refl
+short_is (NoForm line) = inl refl
+short_is (Breaks refusal) = inl refl
+short_is WriteFault = inl refl
+short_is NoMemory = inl refl
+
+-- that memory ran out, of an ending that is no failed write
+pub short_without_fault : (e : Ending) → (status_of e ≡ 10 → ⊥) → in_short e ≡ NoMemory
+short_without_fault e no = by (short_is e)
+  where
+    by : (in_short e ≡ NoMemory) ⊎ ((status_of e ≡ 10) × (status_of (in_short e) ≡ 10)) → in_short e ≡ NoMemory
+    by (inl is) = is
+    by (inr fault) = absurd (no fault.0)
+
+pub short_of_refusal : (e : Ending) → status_of e ≡ 1 → in_short e ≡ NoMemory
+short_of_refusal e one = short_without_fault e (λ ten. let wrong = sym one ∙ ten in cc)
+
+-- its status is 10 or 11, and 10 only after a failed write
+pub short_status : (e : Ending) → (status_of (in_short e) ≡ 11) ⊎ ((status_of e ≡ 10) × (status_of (in_short e) ≡ 10))
+short_status e = by (short_is e)
+  where
+    by : (in_short e ≡ NoMemory) ⊎ ((status_of e ≡ 10) × (status_of (in_short e) ≡ 10))
+        → (status_of (in_short e) ≡ 11) ⊎ ((status_of e ≡ 10) × (status_of (in_short e) ≡ 10))
+    by (inl is) = inl (ap status_of is)
+    by (inr fault) = inr fault
+
+pub short_is_late : (e : Ending) → IsLate (status_of (in_short e))
+short_is_late e = by (short_status e)
+  where
+    by : (status_of (in_short e) ≡ 11) ⊎ ((status_of e ≡ 10) × (status_of (in_short e) ≡ 10)) → IsLate (status_of (in_short e))
+    by (inl is) = subst IsLate (sym is) (λ s. cc, λ s. cc)
+    by (inr is) = subst IsLate (sym is.1) (λ s. cc, λ s. cc)
+
+pub short_fault : (e : Ending) → status_of (in_short e) ≡ 10 → status_of e ≡ 10
+short_fault e ten = by (short_status e)
+  where
+    by : (status_of (in_short e) ≡ 11) ⊎ ((status_of e ≡ 10) × (status_of (in_short e) ≡ 10)) → status_of e ≡ 10
+    by (inl is) = absurd (let wrong = sym is ∙ ten in cc)
+    by (inr is) = is.0
+
+pub short_is_no_refusal : (e : Ending) → status_of (in_short e) ≡ 1 → ⊥
+short_is_no_refusal e one = by (short_status e)
+  where
+    by : (status_of (in_short e) ≡ 11) ⊎ ((status_of e ≡ 10) × (status_of (in_short e) ≡ 10)) → ⊥
+    by (inl is) = let wrong = sym is ∙ one in cc
+    by (inr is) = let wrong = sym is.1 ∙ one in cc

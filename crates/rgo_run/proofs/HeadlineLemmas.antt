@@ -4,8 +4,8 @@ use Rattle.std.proofs.Common.{◌≡◌, Bool, true, false, ℕ, ◌⊎◌, inl,
 use Rattle.std.specs.Io.KnownBytes.{Appends}
 use Rattle.rgo_machine.specs.declared.limits.Limits.{Limits}
 use Rattle.rgo_tac.specs.Tac.{TacState}
-use Rattle.rgo_region_machine.specs.States.{RegionState}
-use Rattle.rgo_world.specs.declared.tally.Tally.{Tally}
+use Rattle.rgo_region_machine.specs.Counts.{Counts, counts_of}
+use Rattle.rgo_runtime.specs.declared.shares.Tally.{Tally}
 use Rattle.rgo_driver.specs.Runs.{Gives}
 use Rattle.rgo_driver.specs.declared.ends.RunEnd.{RunEnd}
 use Rattle.rgo_driver.specs.declared.ends.RunEnd.TheVariants as run_end
@@ -22,11 +22,11 @@ use Rattle.rgo_run.specs.declared.endings.Ending.TheVariants.{Valid, Ran, Usage,
 use Rattle.rgo_run.specs.declared.endings.Ending.TheVariants.{WriteFault, NoMemory}
 use Rattle.rgo_run.specs.Calls.{AsksRun, Call, Asks, IsRun, SinkUse, SourceFailed, SourceHeld, IsUntouched, kind_of, run_of}
 use Rattle.rgo_run.specs.Endings.{status_of, is_run_status, is_fault_status}
-use Rattle.rgo_run.specs.Reports.{Tells, HasPlace, Reports}
-use Rattle.rgo_run.specs.Runs.{HasSourceRun, Runnable, RunsTo, of_code, of_program, stats_at}
+use Rattle.rgo_run.specs.Reports.{Tells, HasPlace, Reports, in_short}
+use Rattle.rgo_run.specs.Runs.{HasSourceRun, IsOneRun, IsSaid, Runnable, RunsTo, of_code, of_program}
 use Rattle.rgo_run.specs.Texts.{AcceptedBy, IsTextOf, IsRead, AskSome, NotRead, PassesAs, ReadTooMuch, Checks, FailsAs, Performs}
 use Rattle.rgo_run.specs.Headline.{EndsEmit, EndsRun, Headline, IsWriteFault}
-use Rattle.rgo_run.proofs.EndingLemmas.{run_of_status}
+use Rattle.rgo_run.proofs.EndingLemmas.{refused_status, run_of_status, short_of_refusal}
 use Rattle.rgo_run.proofs.ClaimLemmas.{OnlyChecks, Outcome, accepted, ran, emitted, refused, no_memory, Went}
 use Rattle.rgo_run.proofs.ClaimLemmas.{complete_checking, complete_emit, complete_run, emission, err_held, faults, first}
 use Rattle.rgo_run.proofs.ClaimLemmas.{is_refused, no_write_fault, not_read_fault, print, ran_asks, status_10, status_9}
@@ -88,6 +88,11 @@ no_line_source (of_program program) limits end t s = record {
 }
 no_line_source (of_code code) limits end t s = s
 
+-- where memory was refused, or a write failed, nothing may be said of a run
+nothing_said : (asked : Bool) (made : Counts) → IsSaid asked run_end.NoMemory made None × IsSaid asked run_end.WriteFault made None
+nothing_said true made = (tt, tt)
+nothing_said false made = (tt, tt)
+
 -- a run of which the lines had no memory counts as one that ran out of memory
 abbrev pub no_line_run : (kind : TextKind) (options : RunOptions) (text : List ℕ) (out : SinkUse) (e : Ending)
     (r : RunsTo kind options text e out) → (r.run_end ≡ run_end.WriteFault → ⊥)
@@ -113,8 +118,11 @@ no_line_run kind options text out e r no_fault = record {
     source = no_line_source r.what options.limits r.run_end r.runs.runs.state r.runs.source;
     regions = record {
       events = r.runs.regions.events;
+      late = r.runs.regions.late;
       state = r.runs.regions.state;
+      last = r.runs.regions.last;
       run = r.runs.regions.run;
+      more = r.runs.regions.more;
       is = r.runs.regions.is;
       printed = r.runs.regions.printed;
       safe = r.runs.regions.safe;
@@ -122,18 +130,27 @@ no_line_run kind options text out e r no_fault = record {
       lacks = λ why x. cc;
     };
   };
-  stats_are = refl;
+  said = (nothing_said options.stats (counts_of r.runs.regions.last)).0;
   failed = λ x. cc;
   held = λ _. r.held no_fault;
 }
 
--- after a failed write nothing is said of the run, and the line of that needs no memory
-no_fault_line : (kind : TextKind) (end : RunEnd) (stats : Option Tally) (s : RegionState) (b : Bool)
-    → stats ≡ stats_at b end s → HasPlace (Ran kind end stats) → end ≡ run_end.WriteFault → ⊥
-no_fault_line kind end stats s b is h x = subst HasPlace same h
-  where
-    same : Ran kind end stats ≡ Ran kind run_end.WriteFault None
-    same = ap (λ z. Ran kind end z) is ∙ ap (λ z. Ran kind z (stats_at b z s)) x
+-- a run in which a write failed, of which nothing else is said
+abbrev unsaid_run : (kind : TextKind) (options : RunOptions) (text : List ℕ) (out : SinkUse) (e : Ending)
+    (r : RunsTo kind options text e out) → r.run_end ≡ run_end.WriteFault
+    → RunsTo kind options text (Ran kind run_end.WriteFault None) out
+unsaid_run kind options text out e r fault = record {
+  what = r.what;
+  is_what = r.is_what;
+  run_end = r.run_end;
+  stats = None;
+  is_end = ap (λ end. Ran kind end None) (sym fault);
+  runs = r.runs;
+  said = subst (λ end. IsSaid options.stats end (counts_of r.runs.regions.last) None) (sym fault)
+      (nothing_said options.stats (counts_of r.runs.regions.last)).1;
+  failed = r.failed;
+  held = r.held;
+}
 
 -- what was printed needs no memory for a line
 no_place : (e : Ending) → EndsEmit e → HasPlace e → ⊥
@@ -150,25 +167,58 @@ run_asks call kind options r = by_command (command_of call.words) refl r
     by_command (Some command) is r = (command, is)
     by_command None is r = cc
 
-no_line : (call : Call) (text : List ℕ) (e : Ending) → Went call text e → Outcome call text e → HasPlace e
-    → Tells text NoMemory call.status call.err → Headline call
-no_line call text e went (accepted is command c k p o) h t = absurd (subst HasPlace is h)
-no_line call text e went (ran kind options c r) h t =
-    headline_told call text (Ran kind run_end.NoMemory None) (record {
-      is_text = went.is_text;
-      held = went.held;
-      asks = inl (run_asks call kind options c);
-      outcome = ran kind options c (no_line_run kind options text call.out e r
-          (no_fault_line kind r.run_end r.stats r.runs.regions.state options.stats r.stats_are (subst HasPlace r.is_end h)));
-    }) t
-no_line call text e went (emitted c em) h t = absurd (no_place e (emit_ends call text e em) h)
-no_line call text e went (refused command c f o) h t =
+-- the lines of a run had no memory
+module _ (call : Call) (text : List ℕ) (e : Ending) (went : Went call text e) (kind : TextKind) (options : RunOptions)
+    (c : IsRun call kind options) (r : RunsTo kind options text e call.out)
+    (one : (Asks call (Record options) → ⊥) → IsOneRun r.runs) where
+  is_one_still : (no_fault : r.run_end ≡ run_end.WriteFault → ⊥) → (Asks call (Record options) → ⊥)
+      → IsOneRun (no_line_run kind options text call.out e r no_fault).runs
+  is_one_still no_fault unrecorded = record { same = (one unrecorded).same; spent = λ x. cc }
+
+  without_memory : (r.run_end ≡ run_end.WriteFault → ⊥) → Tells text NoMemory call.status call.err → Headline call
+  without_memory no_fault t =
+      headline_told call text (Ran kind run_end.NoMemory None) (record {
+        is_text = went.is_text;
+        held = went.held;
+        asks = inl (run_asks call kind options c);
+        outcome = ran kind options c (no_line_run kind options text call.out e r no_fault) (is_one_still no_fault);
+      }) t
+
+  no_line_of_run : (end : RunEnd) → r.run_end ≡ end → Tells text (in_short (Ran kind end r.stats)) call.status call.err → Headline call
+  no_line_of_run run_end.WriteFault is t =
+      headline_told call text (Ran kind run_end.WriteFault None) (record {
+        is_text = went.is_text;
+        held = went.held;
+        asks = inl (run_asks call kind options c);
+        outcome = ran kind options c (unsaid_run kind options text call.out e r is) one;
+      }) t
+  no_line_of_run (run_end.Ended end) is t = without_memory (λ x. cc) t
+  no_line_of_run run_end.Deadlock is t = without_memory (λ x. cc) t
+  no_line_of_run (run_end.NoRoom why) is t = without_memory (λ x. cc) t
+  no_line_of_run run_end.CallsTooDeep is t = without_memory (λ x. cc) t
+  no_line_of_run run_end.StepsSpent is t = without_memory (λ x. cc) t
+  no_line_of_run run_end.GoroutinesSpent is t = without_memory (λ x. cc) t
+  no_line_of_run run_end.NoMemory is t = without_memory (λ x. cc) t
+
+-- a refusal whose line had no memory
+no_line_of_refusal : (call : Call) (text : List ℕ) (e : Ending) → Went call text e → status_of e ≡ 1 → IsUntouched call.out
+    → Tells text (in_short e) call.status call.err → Headline call
+no_line_of_refusal call text e went refusal o t =
     headline_told call text NoMemory (record {
       is_text = went.is_text;
       held = went.held;
       asks = inr refl;
       outcome = no_memory refl o;
-    }) t
+    }) (subst (λ x. Tells text x call.status call.err) (short_of_refusal e refusal) t)
+
+no_line : (call : Call) (text : List ℕ) (e : Ending) → Went call text e → Outcome call text e → HasPlace e
+    → Tells text (in_short e) call.status call.err → Headline call
+no_line call text e went (accepted is command c k p o) h t = absurd (subst HasPlace is h)
+no_line call text e went (ran kind options c r one) h t =
+    no_line_of_run call text e went kind options c r one r.run_end refl
+    (subst (λ x. Tells text (in_short x) call.status call.err) r.is_end t)
+no_line call text e went (emitted c em) h t = absurd (no_place e (emit_ends call text e em) h)
+no_line call text e went (refused command c f o) h t = no_line_of_refusal call text e went (refused_status (kind_of command) text e f) o t
 no_line call text e went (no_memory is o) h t = absurd (subst HasPlace is h)
 
 pub headline_of : (call : Call) (text : List ℕ) (e : Ending) → Went call text e → Reports text e call.status call.err → Headline call
@@ -191,12 +241,12 @@ performed_outcome : (call : Call) (command : Command) (text : List ℕ) (e : End
     → Performs command text e call.out → Outcome call text e
 performed_outcome call Check text e c p = checked_outcome call Check text e c tt (λ passes. passes) p.0 p.1
 performed_outcome call Code text e c p = checked_outcome call Code text e c tt (λ passes. passes) p.0 p.1
-performed_outcome call (Run options) text e c (inl r) = ran text_kind.Go options (ap (option_and_then run_of) c) r
+performed_outcome call (Run options) text e c (inl r) = ran text_kind.Go options (ap (option_and_then run_of) c) r.0 (λ _. r.1)
 performed_outcome call (Run options) text e c (inr f) = failed_outcome call (Run options) text e c f.0 f.1
 performed_outcome call (RunCode options) text e c (inl r) =
-    ran text_kind.Code options (ap (option_and_then run_of) c) r
+    ran text_kind.Code options (ap (option_and_then run_of) c) r.0 (λ _. r.1)
 performed_outcome call (RunCode options) text e c (inr f) = failed_outcome call (RunCode options) text e c f.0 f.1
-performed_outcome call (Big n) text e c (inl r) = ran text_kind.Go default_options (ap (option_and_then run_of) c) r
+performed_outcome call (Big n) text e c (inl r) = ran text_kind.Go default_options (ap (option_and_then run_of) c) r.0 (λ _. r.1)
 performed_outcome call (Big n) text e c (inr f) = failed_outcome call (Big n) text e c f.0 f.1
 performed_outcome call Replay text e c p = absurd p
 performed_outcome call (Record options) text e c p = absurd p
@@ -224,7 +274,7 @@ headline_of_recorded call options text e read runs reports =
       is_text = subst (λ o. IsTextOf o call.source.left text) (sym read.asked) read.is_text;
       held = read.held;
       asks = inl (Record options, read.asked);
-      outcome = ran text_kind.Go options (ap (option_and_then run_of) read.asked) runs;
+      outcome = ran text_kind.Go options (ap (option_and_then run_of) read.asked) runs (λ unrecorded. absurd (unrecorded read.asked));
     }) reports
 
 -- or not, since the text was refused or memory ran out

@@ -10,7 +10,7 @@ use Rattle.rgo_tac.specs.Code.{Tac}
 use Rattle.rgo_tac.specs.Tac.{tac, tac_start}
 use Rattle.rgo_code.specs.Code.{Code}
 use Rattle.rgo_code.specs.Erasure.{erased}
-use Rattle.rgo_region_machine.specs.States.{RegionState}
+use Rattle.rgo_region_machine.specs.Counts.{Counts, counts_of}
 use Rattle.rgo_driver.specs.Rounds.{all_of}
 use Rattle.rgo_driver.specs.Runs.{Runs, RunsFreely}
 use Rattle.rgo_driver.specs.declared.ends.RunEnd.{RunEnd}
@@ -32,11 +32,13 @@ use Rattle.rgo_run.specs.Endings.{line_of, status_of}
 use Rattle.rgo_run.specs.Headline.{EndsRun}
 use Rattle.rgo_run.specs.Recorded.{IsCut, IsOfNoRun, Keeps, KeepsNotes, Noted, RecordHeadline, Records, ReportsKept, Says, WritesJournal}
 use Rattle.rgo_run.specs.Recorded.{after, nothing, part, rest, whole}
-use Rattle.rgo_run.specs.Reports.{Reports, Writes}
-use Rattle.rgo_run.specs.Runs.{RegionRun, of_program, stats_at}
+use Rattle.rgo_run.specs.Reports.{Reports, Writes, in_short}
+use Rattle.rgo_run.specs.Runs.{IsSaid, of_program}
+use Rattle.rgo_runtime.specs.TableRuns.claims.RegionRuns.{RegionRun}
 use Rattle.rgo_run.specs.Texts.{Fails, IsRead, NotRead}
 use Rattle.rgo_run.specs.Verdicts.{IsProgram}
 use Rattle.rgo_run.proofs.EndingLemmas.{IsLate, failing_late, failing_ten, fault_of_run, one_is_no_run, refused_status, run_is_late}
+use Rattle.rgo_run.proofs.EndingLemmas.{short_fault, short_is_late, short_is_no_refusal, short_status}
 use Rattle.rgo_run.proofs.HeadlineLemmas.{headline_of_recorded, headline_of_unrecorded, headline_of_words, no_line_run}
 use Rattle.rgo_run.proofs.TextLemmas.{followed_if}
 use Rattle.rgo_run.proofs.WorldLemmas.{Ended, ended_so, region_run}
@@ -72,7 +74,7 @@ reports_after old mid new before between now broken said text e answer grew held
     inl (writes_after old mid new before between now broken said (line_of text e) (status_of e) answer grew held t)
 reports_after old mid new before between now broken said text e answer grew held (inr t) = inr (
   t.0,
-  writes_after old mid new before between now broken said (line_of text NoMemory) 11 answer grew held t.1,
+  writes_after old mid new before between now broken said (line_of text (in_short e)) (status_of (in_short e)) answer grew held t.1,
 )
 
 -- nothing was written first
@@ -177,15 +179,8 @@ kept_none end picks e bytes no_fault is empty = inr (no_fault, is, empty)
 
 -- ---- the run that was noted
 
-no_stats : (asked : Bool) (end : RunEnd) (s : RegionState) → asked ≡ false → None ≡ stats_at asked end s
-no_stats asked run_end.NoMemory s is = refl
-no_stats asked run_end.WriteFault s is = refl
-no_stats asked (run_end.Ended e) s is = rw is refl
-no_stats asked run_end.Deadlock s is = rw is refl
-no_stats asked (run_end.NoRoom why) s is = rw is refl
-no_stats asked run_end.CallsTooDeep s is = rw is refl
-no_stats asked run_end.StepsSpent s is = rw is refl
-no_stats asked run_end.GoroutinesSpent s is = rw is refl
+no_stats : (asked : Bool) (end : RunEnd) (made : Counts) → asked ≡ false → IsSaid asked end made None
+no_stats asked end made is = subst (λ b. IsSaid b end made None) (sym is) tt
 
 -- a run in rounds is one in any order
 abbrev runs_freely : (code : Tac) (limits : Limits) (end : RunEnd) (old new : Option (List ℕ))
@@ -207,11 +202,10 @@ module _ (options : RunOptions) (text : List ℕ) (program : Typed) (code : Code
   ended : Ended r.world records.runs.before (record records.runs.runs.state { printed = r.world.state.printed }) r.end
   ended = ended_so r.world records.runs.before
       (record records.runs.runs.state { printed = r.world.state.printed }) r.end records.runs.left.leaves
-      records.runs.left.shows records.runs.left.lacks
+      records.runs.left.lacks
 
   regions : RegionRun code options.sizes r.end records.runs.runs.state
-  regions = (region_run code options.sizes r.world records.runs.before records.runs.runs.state r.end options.stats None
-      records.fixed records.runs.whole ended (no_stats options.stats r.end ended.reaches.state plain)).0
+  regions = region_run code options.sizes r.world records.runs.before records.runs.runs.state r.end records.fixed records.runs.whole ended
 
   pub noted_run : Noted options text (Ran text_kind.Go r.end None) out (picks_of r.notes)
   noted_run = record {
@@ -230,7 +224,7 @@ module _ (options : RunOptions) (text : List ℕ) (program : Typed) (code : Code
             records.runs.runs.ran records.runs.runs.ends;
         regions = regions;
       };
-      stats_are = no_stats options.stats r.end regions.state plain;
+      said = no_stats options.stats r.end (counts_of regions.last) plain;
       failed = failed;
       held = held;
     };
@@ -273,7 +267,7 @@ failing text e f = inr (refused_status text_kind.Go text e f)
 pub reported_late : (text : List ℕ) (e : Ending) (n : ℕ) (err : SinkUse) → IsLate (status_of e) → Reports text e n err → IsLate n
 reported_late text e n err late (inl (inl w)) = subst IsLate (sym w.0) late
 reported_late text e n err late (inl (inr w)) = subst IsLate (sym w.0) (λ s. cc, λ s. cc)
-reported_late text e n err late (inr (h, inl w)) = subst IsLate (sym w.0) (λ s. cc, λ s. cc)
+reported_late text e n err late (inr (h, inl w)) = subst IsLate (sym w.0) (short_is_late e)
 reported_late text e n err late (inr (h, inr w)) = subst IsLate (sym w.0) (λ s. cc, λ s. cc)
 
 records_late : (options : RunOptions) (text : List ℕ) (n : ℕ) (out err : SinkUse) → Records options text n out err
@@ -310,14 +304,17 @@ write_failed options text n out err (said, inl r) ten = by r.reports
         (fault_of_run r.noted.runs.run_end (sym (ap status_of r.noted.runs.is_end) ∙ sym w.0 ∙ ten)) in
         inl (f.counted, f.broken)
     by (inl (inr w)) = inr (broke said err w.1)
-    by (inr (h, inl w)) = absurd (let wrong = sym w.0 ∙ ten in cc)
+    by (inr (h, inl w)) =
+        let f = r.noted.runs.failed (fault_of_run r.noted.runs.run_end
+        (sym (ap status_of r.noted.runs.is_end) ∙ short_fault r.ending (sym w.0 ∙ ten))) in
+        inl (f.counted, f.broken)
     by (inr (h, inr w)) = inr (broke said err w.1)
 write_failed options text n out err (said, inr r) ten = by r.reports
   where
     by : Reports text r.ending n err → Broke out ⊎ Broke err
     by (inl (inl w)) = absurd (failing_ten r.ending (failing text r.ending r.fails) (sym w.0 ∙ ten))
     by (inl (inr w)) = inr (w.1.counted, w.1.broken)
-    by (inr (h, inl w)) = absurd (let wrong = sym w.0 ∙ ten in cc)
+    by (inr (h, inl w)) = absurd (failing_ten r.ending (failing text r.ending r.fails) (short_fault r.ending (sym w.0 ∙ ten)))
     by (inr (h, inr w)) = inr (w.1.counted, w.1.broken)
 
 -- a run never ends with the status of a refusal
@@ -325,17 +322,24 @@ pub kept_not_refused : (text : List ℕ) (e : Ending) (bytes : List ℕ) (n : �
     → ReportsKept text e bytes n err → n ≡ 1 → ⊥
 kept_not_refused text e bytes n err ends (inl (inl (inl w))) s = one_is_no_run e (sym w.0 ∙ s) ends
 kept_not_refused text e bytes n err ends (inl (inl (inr w))) s = absurd (let ten = sym w.0 ∙ s in cc)
-kept_not_refused text e bytes n err ends (inl (inr (h, inl w))) s = absurd (let eleven = sym w.0 ∙ s in cc)
+kept_not_refused text e bytes n err ends (inl (inr (h, inl w))) s = absurd (short_is_no_refusal e (sym w.0 ∙ s))
 kept_not_refused text e bytes n err ends (inl (inr (h, inr w))) s = absurd (let ten = sym w.0 ∙ s in cc)
 kept_not_refused text e bytes n err ends (inr w) s = absurd (let ten = sym w.0 ∙ s in cc)
 
 -- ---- the claim
 
+pub short_of_no_run : (e : Ending) → IsOfNoRun (status_of (in_short e))
+short_of_no_run e = by (short_status e)
+  where
+    by : (status_of (in_short e) ≡ 11) ⊎ ((status_of e ≡ 10) × (status_of (in_short e) ≡ 10)) → IsOfNoRun (status_of (in_short e))
+    by (inl is) = inr (inr (inr is))
+    by (inr is) = inr (inr (inl is.1))
+
 ending_of_no_run : (text : List ℕ) (e : Ending) (n : ℕ) (err : SinkUse) → IsOfNoRun (status_of e) → Reports text e n err
     → IsOfNoRun n
 ending_of_no_run text e n err is (inl (inl w)) = subst IsOfNoRun (sym w.0) is
 ending_of_no_run text e n err is (inl (inr w)) = inr (inr (inl w.0))
-ending_of_no_run text e n err is (inr (h, inl w)) = inr (inr (inr w.0))
+ending_of_no_run text e n err is (inr (h, inl w)) = subst IsOfNoRun (sym w.0) (short_of_no_run e)
 ending_of_no_run text e n err is (inr (h, inr w)) = inr (inr (inl w.0))
 
 failing_of_no_run : (e : Ending) → (e ≡ NoMemory) ⊎ (status_of e ≡ 1) → IsOfNoRun (status_of e)

@@ -1,6 +1,7 @@
 -- A journal that `record` wrote, replayed with its text.
 use Rattle.std.proofs.Common.{◌≡◌, ◌⊎◌, inl, inr, ℕ, ◌≤◌, ◌<◌, true, false, List, [], ◌∷◌, ◌++◌, drop, length, IfSome, Option, None, Some, refl, sym}
 use Rattle.std.proofs.Common.{ap, ◌∙◌, subst, arith, true≢false, append_assoc}
+use Rattle.rgo_run.proofs.RecordLemmas.{short_of_no_run}
 use Rattle.std.specs.Io.KnownBytes.{Appends, append_known}
 use Rattle.std.proofs.lemmas.Option.{same_Some}
 use Rattle.rgo_machine.specs.declared.picks.End.TheVariants as the_end
@@ -100,7 +101,7 @@ pub run_told : (text : List ℕ) (e : Ending) (n : ℕ) (err : SinkUse) → (IsO
     → (n ≡ status_of e) × Grew err (line_of text e)
 run_told text e n err of_run (inl (inl w)) = (w.0, w.1)
 run_told text e n err of_run (inl (inr w)) = absurd (of_run (inr (inr (inl w.0))))
-run_told text e n err of_run (inr (h, inl w)) = absurd (of_run (inr (inr (inr w.0))))
+run_told text e n err of_run (inr (h, inl w)) = absurd (of_run (subst IsOfNoRun (sym w.0) (short_of_no_run e)))
 run_told text e n err of_run (inr (h, inr w)) = absurd (of_run (inr (inr (inl w.0))))
 
 pub cut_is_of_no_run : (e : Ending) → IsCut e → IsOfNoRun (status_of e)

@@ -29,7 +29,7 @@ use Rattle.rgo_run.specs.Replayed.{Claim, EndsOn, HasNumber, IsReadWhole, IsSpli
 use Rattle.rgo_run.specs.Recorded.{RecordHeadline, Records, after}
 use Rattle.rgo_run.specs.Reports.{Reports, Tells, Writes}
 use Rattle.rgo_run.specs.Texts.{FailsAs, IsRead, IsTextOf, NotRead, Performs, RefusedBy}
-use Rattle.rgo_run.proofs.EndingLemmas.{IsLate, failing_late, failing_ten, no_run_status, refused_status}
+use Rattle.rgo_run.proofs.EndingLemmas.{IsLate, failing_late, failing_ten, no_run_status, refused_status, short_without_fault}
 use Rattle.rgo_run.proofs.HeadlineLemmas.{headline_of_text, headline_of_words, ran_by_status}
 use Rattle.rgo_run.proofs.RecordLemmas.{headline_of_records, record_of_words}
 
@@ -81,6 +81,23 @@ number_reported bytes_of text e (Ok s) status answer err number same is writes =
     inl (subst (λ n. Writes (line_of_replay text e) n answer err) same
     (subst (λ bytes. Writes bytes status answer err) is writes))
 number_reported bytes_of text e (Err x) status answer err number same is writes = inr (number, writes)
+
+-- what another command would report, of an ending that is no failed write
+pub other_reported : (text : List ℕ) (e : Ending) (answer : ℕ) (err : SinkUse) → (status_of e ≡ 10 → ⊥) → Reports text e answer err
+    → ReportsReplay text (Other e) answer err
+other_reported text e answer err no (inl t) = inl t
+other_reported text e answer err no (inr t) =
+    inr (t.0, subst (λ x. Tells text x answer err) (short_without_fault e no) t.1)
+
+-- nothing that is reported of bytes that were not replayed is a failed write
+pub not_written : (bytes text : List ℕ) (ending : ReplayEnding) (out : SinkUse) → EndsOn bytes text ending out → (e : Ending)
+    → ending ≡ Other e → status_of e ≡ 10 → ⊥
+not_written bytes text ending out ends e is ten =
+    failing_ten e (not_replayed bytes text e (subst (λ x. EndsOn bytes text x out) is ends).0) ten
+
+pub error_not_written : (error : PicksError) (e : Ending) → error_of error ≡ Other e → status_of e ≡ 10 → ⊥
+error_not_written picks_error.NoMemory e is ten = let wrong = ap status_of_replay is ∙ ten in cc
+error_not_written (picks_error.Refused refusal) e is ten = cc
 
 -- ---- what `replay_text` leaves
 

@@ -1,5 +1,5 @@
 -- What the parts of the compiler say of a text, as the endings that report it.
-use Rattle.std.proofs.Common.{◌≡◌, ℕ, ◌+◌, ◌*◌, ◌<◌, ◌≤◌, inl, List, length, Option, None, Some, IfSome, refl, ap, arith, subst, sym}
+use Rattle.std.proofs.Common.{◌≡◌, ℕ, ◌+◌, ◌*◌, ◌<◌, ◌≤◌, inl, List, [], length, Option, None, Some, IfSome, refl, ap, arith, subst, sym, ◌∙◌, append-nil}
 use Rattle.rgo_outside.specs.Moves.{ReadsAll, GivesTooMany}
 use Rattle.rgo_outside.specs.declared.whole.ReadEnd.{ReadEnd}
 use Rattle.rgo_outside.specs.declared.whole.ReadEnd.TheVariants as read
@@ -26,7 +26,7 @@ use Rattle.rgo_tac.specs.Tac.{TacState, tac, tac_start}
 use Rattle.rgo_lower.proofs.follows.Whole.{lowering_simulates}
 use Rattle.rgo_driver.specs.Runs.{Ends, RunsFreely}
 use Rattle.rgo_driver.specs.declared.ends.RunEnd.{RunEnd}
-use Rattle.rgo_driver.specs.declared.ends.RunEnd.TheVariants.{Deadlock, NoRoom, WriteFault}
+use Rattle.rgo_driver.specs.declared.ends.RunEnd.TheVariants.{Deadlock, NoRoom, StepsSpent, WriteFault}
 use Rattle.rgo_sound.proofs.Offers.{names_only_live}
 use Rattle.rgo_sound.proofs.Room.{room_is_kept}
 use Rattle.rgo_sound.proofs.Safe.{safety}
@@ -44,10 +44,13 @@ use Rattle.rgo_code.specs.Checked.{IsChecked}
 use Rattle.rgo_code.specs.Code as code
 use Rattle.rgo_code.specs.Erasure.{erased}
 use Rattle.rgo_code.specs.NameRules.{Ascends}
-use Rattle.rgo_region_machine.specs.Machine.{Event}
+use Rattle.rgo_region_machine.specs.Counts.{counts_of}
+use Rattle.rgo_region_machine.specs.Machine.{Event, region_run}
 use Rattle.rgo_region_machine.specs.Room.{roomy_run, LacksIn}
 use Rattle.rgo_region_machine.specs.States.{RegionState, plain_at}
-use Rattle.rgo_world.specs.declared.tally.Tally.{Tally}
+use Rattle.rgo_runtime.specs.TableRuns.claims.RegionRuns.{RegionRun}
+use Rattle.rgo_runtime.specs.TableRuns.claims.TableRuns.{picks_of}
+use Rattle.rgo_runtime.specs.declared.shares.Tally.{Tally}
 use Rattle.rgo_code_printing.specs.Text.{text_of}
 use Rattle.rgo_code_text.specs.Walk.{Refuses as ReadFails}
 use Rattle.rgo_code_text.specs.declared.refusals.ReadError.{ReadError}
@@ -63,7 +66,7 @@ use Rattle.rgo_run.specs.Compiled.{IsCompiled, WritesCode}
 use Rattle.rgo_run.specs.Constants.{ConstantsFit}
 use Rattle.rgo_run.specs.Calls.{SourceUse, SourceFailed, SourceHeld, SinkUse, Failed, Held, kind_of}
 use Rattle.rgo_run.specs.Errors.{command_error, read_error, too_long, lex_error, type_error, reading_error, check_error}
-use Rattle.rgo_run.specs.Runs.{HasSourceRun, IsCodeFor, IsRunnable, RegionRun, Runnable, SourceRun, of_code, of_program, stats_at}
+use Rattle.rgo_run.specs.Runs.{HasSourceRun, IsCodeFor, IsRunnable, IsSaid, Runnable, SourceRun, of_code, of_program}
 use Rattle.rgo_run.specs.CodeVerdicts.{IsTextOfCode, code_limit, CodePasses}
 use Rattle.rgo_run.specs.Texts.{IsRead, IsTextOf, NotRead, ReadTooMuch, RefusedAs, Fails, FailsAs, Performs, RunsOrFails, limit_of}
 use Rattle.rgo_run.specs.Verdicts.{IsTree, text_limit}
@@ -195,15 +198,19 @@ followed limits program code before steps end t ends run = record {
       (dead, deadlocks_wait (source program) run.0 dead);
 }
 
--- a run of the region machine, which is safe in each of its states
+-- a run of the region machine, which is safe in each of its states, and of which no step follows the end
 abbrev pub region_run_of : (code : code.Code) (sizes : Sizes) (end : RunEnd) (t : TacState) (events : List Event) (state : RegionState)
     → IsChecked code → Ascends code → roomy_run code sizes events ≡ Some state
     → plain_at state t.printed ≡ t → state.plain.printed ≡ t.printed
     → ((why : Shortage) → end ≡ NoRoom why → LacksIn code sizes why state) → RegionRun code sizes end t
 region_run_of code sizes end t events state checked ascends leads is printed lacks = record {
   events = events;
+  late = [];
   state = state;
+  last = state;
   run = room_is_kept.is_run code sizes events state leads;
+  more = subst (λ es. region_run code sizes.page_words es ≡ Some state) (sym (append-nil events))
+      (room_is_kept.is_run code sizes events state leads);
   is = is;
   printed = printed;
   safe = λ before after s is run. (
@@ -211,7 +218,8 @@ region_run_of code sizes end t events state checked ascends leads is printed lac
     λ g h r there names. names_only_live code sizes.page_words before s g h r checked ascends run there names,
   );
   within = λ before after s is run.
-      room_is_kept.fits code sizes before after s state (subst (λ es. roomy_run code sizes es ≡ Some state) is leads) run;
+      room_is_kept.fits code sizes before after s state
+      (subst (λ es. roomy_run code sizes es ≡ Some state) (sym (append-nil events) ∙ is) leads) run;
   lacks = lacks;
 }
 
@@ -227,26 +235,31 @@ followed_if (of_code given) code limits before picks end t is ran ends = tt
 pub ran : (kind : TextKind) (options : RunOptions) (text : List ℕ) (what : Runnable) (code : code.Code) (end : RunEnd)
     (stats : Option Tally) (out : SinkUse) → IsRunnable kind text what → IsCodeFor what code
     → (runs : RunsFreely (tac (erased code)) options.limits (tac_start (erased code)) end out.old out.new)
-    → (regions : RegionRun code options.sizes end runs.state) → stats ≡ stats_at options.stats end regions.state
+    → (regions : RegionRun code options.sizes end runs.state) → runs.picks ≡ picks_of code options.sizes regions.events
+    → (end ≡ StepsSpent → (counts_of regions.last).steps < options.limits.steps + 1000 * (counts_of regions.last).goroutines)
+    → IsSaid options.stats end (counts_of regions.last) stats
     → (end ≡ WriteFault → Failed out) → ((end ≡ WriteFault → ⊥) → Held out)
     → RunsOrFails kind options text (Ran kind end stats) out
-ran kind options text what code end stats out is_what is_code runs regions stats_are failed held = inl (record {
-  what = what;
-  is_what = is_what;
-  run_end = end;
-  stats = stats;
-  is_end = refl;
-  runs = record {
-    code = code;
-    is_code = is_code;
-    runs = runs;
-    source = followed_if what code options.limits runs.tested runs.picks end runs.state is_code runs.ran runs.ends;
-    regions = regions;
-  };
-  stats_are = stats_are;
-  failed = failed;
-  held = held;
-})
+ran kind options text what code end stats out is_what is_code runs regions same spent said failed held = inl (
+  record {
+    what = what;
+    is_what = is_what;
+    run_end = end;
+    stats = stats;
+    is_end = refl;
+    runs = record {
+      code = code;
+      is_code = is_code;
+      runs = runs;
+      source = followed_if what code options.limits runs.tested runs.picks end runs.state is_code runs.ran runs.ends;
+      regions = regions;
+    };
+    said = said;
+    failed = failed;
+    held = held;
+  },
+  record { same = same; spent = spent },
+)
 
 -- ---- code that is printed
 

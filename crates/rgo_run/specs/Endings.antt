@@ -14,7 +14,7 @@ use Rattle.rgo_run.specs.declared.endings.TextKind.TheVariants as text_kind
 use Rattle.rgo_code.specs.Checked.{rule_number}
 use Rattle.rgo_run.specs.declared.endings.Ending.TheVariants.{Valid, Ran, Usage, ReadFault, TooLong, CodeTooLong}
 use Rattle.rgo_run.specs.declared.endings.Ending.TheVariants.{Lexical, Syntax, Nesting, Typing, NoForm, Breaks, WriteFault, NoMemory}
-use Rattle.rgo_world.specs.declared.tally.Tally.{Tally}
+use Rattle.rgo_runtime.specs.declared.shares.Tally.{Tally}
 use Rattle.rgo_run.specs.Positions.{position_of}
 
 abbrev pub status_of_shortage : Shortage → ℕ

@@ -5,14 +5,16 @@ use Rattle.rgo_machine.specs.Limits.{LeadsWithin}
 use Rattle.rgo_tac.specs.Code.{Tac}
 use Rattle.rgo_tac.specs.Tac.{TacState, tac, tac_start}
 use Rattle.rgo_code.specs.Code.{Code}
+use Rattle.rgo_region_machine.specs.Counts.{counts_of}
 use Rattle.rgo_region_machine.specs.Machine.{Event, region_run}
 use Rattle.rgo_region_machine.specs.States.{RegionState}
-use Rattle.rgo_world.specs.declared.tally.Tally.{Tally}
+use Rattle.rgo_runtime.specs.declared.shares.Tally.{Tally}
 use Rattle.rgo_region_machine.specs.Room.{LacksIn}
 use Rattle.rgo_driver.specs.declared.ends.RunEnd.{RunEnd}
 use Rattle.rgo_driver.specs.declared.ends.RunEnd.TheVariants as run_end
 use Rattle.rgo_driver.specs.Runs.{Ends}
 use Rattle.rgo_command_line.specs.declared.commands.Command.{Command}
+use Rattle.rgo_command_line.specs.declared.commands.Command.TheVariants.{Record}
 use Rattle.rgo_command_line.specs.declared.limits.RunOptions.{RunOptions}
 use Rattle.rgo_machine.specs.declared.limits.Limits.{Limits}
 use Rattle.rgo_machine.specs.declared.limits.Sizes.{Sizes}
@@ -26,7 +28,7 @@ use Rattle.rgo_run.specs.Calls.{AsksRun, Call, Asks, IsRun, IsCheck, IsEmit, IsC
 use Rattle.rgo_run.specs.Compiled.{Emits, IsCodeText}
 use Rattle.rgo_run.specs.Endings.{status_of, status_of_run, line_of, is_fault_status}
 use Rattle.rgo_run.specs.Reports.{Tells}
-use Rattle.rgo_run.specs.Runs.{IsCodeFor, IsPlainCodeFor, IsRunnable, RunOf, Runnable, RunsTo, stats_at}
+use Rattle.rgo_run.specs.Runs.{IsCodeFor, IsOneRun, IsPlainCodeFor, IsRunnable, IsSaid, RunOf, Runnable, RunsTo}
 use Rattle.rgo_run.specs.CodeVerdicts.{CodePasses}
 use Rattle.rgo_run.specs.Texts.{IsTextOf, RefusedBy, AcceptedBy}
 use Rattle.rgo_run.specs.Verdicts.{Passes}
@@ -66,12 +68,17 @@ pub record Refusal (call : Call) (text : List ℕ) (ending : Ending) : Type 0 wh
       → (why : Ending) → RefusedBy command text why → (ending ≡ why) ⊎ (ending ≡ NoMemory)
   pub untouched : (MayRun call ending → ⊥) → (MayEmit call ending → ⊥) → IsUntouched call.out
 
+-- What is claimed of a run, and, unless it was recorded, that it is one run, with its regions and without them.
+abbrev pub RunsFor : Call → TextKind → RunOptions → List ℕ → Ending → Type 0
+RunsFor call kind options text ending =
+    (r : RunsTo kind options text ending call.out) × ((Asks call (Record options) → ⊥) → IsOneRun r.runs)
+
 -- The bytes given out are the print of a run of the text's program, or of the code that is the text, and the ending reports
 -- how that run ended; or memory ran out before the run.
 abbrev pub Print : Call → List ℕ → Ending → Type 0
 Print call text ending =
     (kind : TextKind) (options : RunOptions) → IsRun call kind options → EndsRun ending
-    → RunsTo kind options text ending call.out ⊎ ((ending ≡ NoMemory) × IsUntouched call.out)
+    → RunsFor call kind options text ending ⊎ ((ending ≡ NoMemory) × IsUntouched call.out)
 
 -- The bytes given out are the text of the code with regions that the text is compiled to, or the first of them where a
 -- write failed.
@@ -130,7 +137,9 @@ pub record RunsWhole (kind : TextKind) (options : RunOptions) (call : Call) (tex
   pub run_end : RunEnd
   pub is_own : IsOwnEnd run_end
   pub runs : RunOf what options run_end call.out
-  pub told : Grew call.err (line_of text (Ran kind run_end (stats_at options.stats run_end runs.regions.state)))
+  pub stats : Option Tally
+  pub said : IsSaid options.stats run_end (counts_of runs.regions.last) stats
+  pub told : Grew call.err (line_of text (Ran kind run_end stats))
   pub status : call.status ≡ status_of_run run_end
 
 -- what the text of this kind is, is run so, where no run of it meets a limit; or memory ran out

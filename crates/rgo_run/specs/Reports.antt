@@ -1,7 +1,7 @@
 -- What a report leaves: the status, and the line on `err`.
 use Rattle.std.specs.Prelude.{◌≡◌, ℕ, ◌⊎◌, List, None, Some, take}
 use Rattle.rgo_machine.specs.declared.picks.End.TheVariants.{Trap}
-use Rattle.rgo_driver.specs.declared.ends.RunEnd.TheVariants.{Ended}
+use Rattle.rgo_driver.specs.declared.ends.RunEnd.TheVariants.{Ended, WriteFault}
 use Rattle.rgo_run.specs.declared.endings.Ending.{Ending}
 use Rattle.rgo_run.specs.declared.endings.Ending.TheVariants.{Ran, Lexical, Syntax, Nesting, Typing, NoForm, Breaks, NoMemory}
 use Rattle.rgo_run.specs.Calls.{SinkUse, Failed, Held, Grew}
@@ -30,7 +30,13 @@ HasPlace (NoForm line) = Unit {0}
 HasPlace (Breaks refusal) = Unit {0}
 HasPlace _ = ⊥
 
--- the line of the ending was written, or on allocation failure for it, that memory ran out
+-- The ending that is reported where there was no memory for the lines of one: that memory ran out. After a failed write it stays that,
+-- without what the run has made.
+abbrev pub in_short : Ending → Ending
+in_short (Ran kind WriteFault stats) = Ran kind WriteFault None
+in_short _ = NoMemory
+
+-- the lines of the ending were written, or on allocation failure for them, those of the ending in short
 abbrev pub Reports : List ℕ → Ending → ℕ → SinkUse → Type 0
 Reports text ending answer err =
-    Tells text ending answer err ⊎ (HasPlace ending × Tells text NoMemory answer err)
+    Tells text ending answer err ⊎ (HasPlace ending × Tells text (in_short ending) answer err)

@@ -1,10 +1,8 @@
 -- The run of a text, which is that of a program or of code: the ending that reports its end, and what it leaves.
-use Rattle.std.specs.Prelude.{◌≡◌, ℕ, Bool, true, false, List, ◌++◌, Option, Some, None, slice_get}
+use Rattle.std.specs.Prelude.{◌≡◌, ℕ, ◌+◌, ◌*◌, ◌<◌, Bool, true, false, List, Option, Some, None, slice_get, ⊤}
 use Rattle.rgo_typed.specs.Tree.{Typed}
 use Rattle.rgo_machine.specs.declared.limits.Limits.{Limits}
-use Rattle.rgo_machine.specs.declared.limits.Sizes.{Sizes}
 use Rattle.rgo_machine.specs.declared.picks.Pick.{Pick}
-use Rattle.rgo_machine.specs.declared.turns.Shortage.{Shortage}
 use Rattle.rgo_machine.specs.Deadlocks.{HasReturnedOrWaits, IsDeadlock}
 use Rattle.rgo_machine.specs.Limits.{LeadsWithin}
 use Rattle.rgo_machine.specs.Machines.{Machine, State}
@@ -16,18 +14,14 @@ use Rattle.rgo_code.specs.Code.{Code}
 use Rattle.rgo_code.specs.Erasure.{erased}
 use Rattle.rgo_code.specs.NameRules.{Ascends}
 use Rattle.rgo_lower.specs.Lowered.{IsLowered}
-use Rattle.rgo_region_machine.specs.Counts.{counts_of}
-use Rattle.rgo_region_machine.specs.Machine.{Event, region_run}
-use Rattle.rgo_region_machine.specs.declared.regions.Region.{Region}
-use Rattle.rgo_region_machine.specs.Room.{FitsIn, LacksIn}
-use Rattle.rgo_region_machine.specs.States.{Holder, RegionState, plain_at}
-use Rattle.rgo_sound.specs.NextNames.{HasStake, NextNames}
-use Rattle.rgo_sound.specs.Safety.{IsSafe}
-use Rattle.rgo_world.specs.declared.tally.Tally.{Tally}
-use Rattle.rgo_world.specs.Worlds.{tally_of}
+use Rattle.rgo_region_machine.specs.Counts.{Counts, counts_of}
 use Rattle.rgo_driver.specs.declared.ends.RunEnd.{RunEnd}
-use Rattle.rgo_driver.specs.declared.ends.RunEnd.TheVariants.{Deadlock, NoMemory, NoRoom, WriteFault}
+use Rattle.rgo_driver.specs.declared.ends.RunEnd.TheVariants.{Deadlock, NoMemory, StepsSpent, WriteFault}
 use Rattle.rgo_driver.specs.Runs.{RunsFreely}
+use Rattle.rgo_runtime.specs.Shares.{counts_in}
+use Rattle.rgo_runtime.specs.TableRuns.claims.RegionRuns.{RegionRun}
+use Rattle.rgo_runtime.specs.TableRuns.claims.TableRuns.{picks_of}
+use Rattle.rgo_runtime.specs.declared.shares.Tally.{Tally}
 use Rattle.rgo_command_line.specs.declared.limits.RunOptions.{RunOptions}
 use Rattle.rgo_run.specs.declared.endings.TextKind.{TextKind}
 use Rattle.rgo_run.specs.declared.endings.TextKind.TheVariants as text_kind
@@ -59,31 +53,6 @@ pub record IsCodeOf (text : List ℕ) (code : Tac) : Type 0 where
   pub is_program : IsProgram text program
   pub lowered : IsLowered program code
 
--- each region that a goroutine names next is Global, or live with a stake of the goroutine
-abbrev pub NamesLive : Code → RegionState → Type 0
-NamesLive code s =
-    (g : ℕ) (h : Holder) (r : Region) → slice_get s.holders g ≡ Some h → NextNames code s g h h.duties h.offer r
-    → HasStake s h r
-
--- A run of the code with its regions, in pages of this size, that has come to this state of the three-address code. Its
--- steps are those of the region machine, none of which touches or removes a region that was removed, or removes Global.
--- There are never more pages or regions than there may be.
-pub record RegionRun (code : Code) (sizes : Sizes) (end : RunEnd) (t : TacState) : Type 0 where
-  pub events : List Event
-  pub state : RegionState
-  pub run : region_run code sizes.page_words events ≡ Some state
-  -- it has made and printed the same, and ended so
-  pub is : plain_at state t.printed ≡ t
-  pub printed : state.plain.printed ≡ t.printed
-  -- in each state that it went through, stakes are counted, and what any goroutine names next is live
-  pub safe : (before after : List Event) (s : RegionState) → events ≡ before ++ after
-      → region_run code sizes.page_words before ≡ Some s → IsSafe code s × NamesLive code s
-  -- and no more pages are in use, and no more regions live, than there may be
-  pub within : (before after : List Event) (s : RegionState) → events ≡ before ++ after
-      → region_run code sizes.page_words before ≡ Some s → FitsIn sizes s
-  -- why there was no room
-  pub lacks : (why : Shortage) → end ≡ NoRoom why → LacksIn code sizes why state
-
 -- what can be run: a program, or code of its own, of any origin
 pub data Runnable : Type 0 where
   of_program : Typed → Runnable
@@ -110,8 +79,8 @@ abbrev pub HasSourceRun : Runnable → Limits → RunEnd → TacState → Type 0
 HasSourceRun (of_program program) limits end t = SourceRun limits program end t
 HasSourceRun (of_code code) limits end t = Unit {0}
 
--- Some run of the code, its steps in any order, ends so and gives out what `out` took. It is why the end is what it is, and
--- it is a run with regions. Where the code is that of a program, it does what some run of the program does.
+-- Some run of the code, its steps in any order, ends so and gives out what `out` took. It is why the end is what it is. A run with
+-- regions does the same, and where the code is that of a program, some run of the program does.
 pub record RunOf (what : Runnable) (options : RunOptions) (end : RunEnd) (out : SinkUse) : Type 0 where
   pub code : Code
   pub is_code : IsCodeFor what code
@@ -119,12 +88,23 @@ pub record RunOf (what : Runnable) (options : RunOptions) (end : RunEnd) (out : 
   pub source : HasSourceRun what options.limits end runs.state
   pub regions : RegionRun code options.sizes end runs.state
 
--- what is said of a run that has ended so, if it was asked for: nothing where memory ran out or a write failed
-abbrev pub stats_at : (asked : Bool) → RunEnd → RegionState → Option Tally
-stats_at asked NoMemory s = None
-stats_at asked WriteFault s = None
-stats_at true _ s = Some (tally_of (counts_of s))
-stats_at false _ s = None
+-- The run with regions is the run of the code, step for step, but for its region steps. If it ended since its instructions were spent,
+-- fewer than 1,000 for each goroutine have followed the limit.
+pub record IsOneRun
+    {what : Runnable} {options : RunOptions} {end : RunEnd} {out : SinkUse} (r : RunOf what options end out)
+    : Type 0 where
+  pub same : r.runs.picks ≡ picks_of r.code options.sizes r.regions.events
+  pub spent : end ≡ StepsSpent
+      → (counts_of r.regions.last).steps < options.limits.steps + 1000 * (counts_of r.regions.last).goroutines
+
+-- What is said of a run that has ended so and has made this, if it was asked for. Nothing, too, where memory for its line was refused:
+-- then that is how the run has ended, or a failed write is.
+abbrev pub IsSaid : (asked : Bool) → RunEnd → (made : Counts) → Option Tally → Type 0
+IsSaid true end made (Some tally) = counts_in tally ≡ made
+IsSaid true NoMemory made None = ⊤
+IsSaid true WriteFault made None = ⊤
+IsSaid false end made None = ⊤
+IsSaid _ end made _ = ⊥
 
 -- some run of what the text of this kind is, whose end the ending reports, gave out what `out` took
 pub record RunsTo (kind : TextKind) (options : RunOptions) (text : List ℕ) (ending : Ending) (out : SinkUse) : Type 0 where
@@ -134,6 +114,10 @@ pub record RunsTo (kind : TextKind) (options : RunOptions) (text : List ℕ) (en
   pub stats : Option Tally
   pub is_end : ending ≡ Ran kind run_end stats
   pub runs : RunOf what options run_end out
-  pub stats_are : stats ≡ stats_at options.stats run_end runs.regions.state
+  pub said : IsSaid options.stats run_end (counts_of runs.regions.last) stats
   pub failed : run_end ≡ WriteFault → Failed out
   pub held : (run_end ≡ WriteFault → ⊥) → Held out
+
+-- the same of a run on workers, over the words of one table
+abbrev pub RunsAsOne : TextKind → RunOptions → (text : List ℕ) → Ending → SinkUse → Type 0
+RunsAsOne kind options text ending out = (r : RunsTo kind options text ending out) × IsOneRun r.runs

@@ -13,7 +13,7 @@ use Rattle.rgo_run.specs.declared.endings.Ending.TheVariants.{Valid, Usage, Read
 use Rattle.rgo_run.specs.Calls.{SourceUse, SourceFailed, SourceHeld, SinkUse, IsUntouched, kind_of}
 use Rattle.rgo_run.specs.CodeVerdicts.{CodePasses, CodeRefused, code_limit}
 use Rattle.rgo_run.specs.Compiled.{Emits}
-use Rattle.rgo_run.specs.Runs.{RunsTo}
+use Rattle.rgo_run.specs.Runs.{RunsAsOne}
 use Rattle.rgo_run.specs.Verdicts.{Passes, Refused, text_limit}
 
 -- the text for what the words ask for, if anything: the large text for `big`, and otherwise what the source had left,
@@ -94,7 +94,7 @@ Checks kind text ending = FailsAs kind text ending
 -- a text of this kind was run with these options, or not accepted
 abbrev pub RunsOrFails : TextKind → RunOptions → List ℕ → Ending → SinkUse → Type 0
 RunsOrFails kind options text ending out =
-    RunsTo kind options text ending out ⊎ (FailsAs kind text ending × IsUntouched out)
+    RunsAsOne kind options text ending out ⊎ (FailsAs kind text ending × IsUntouched out)
 
 -- what a command other than `record` and `replay` leaves of a text
 abbrev pub Performs : Command → List ℕ → Ending → SinkUse → Type 0

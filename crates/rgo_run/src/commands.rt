@@ -4,7 +4,8 @@ ghost use Rattle.std.specs.Prelude.{◌≡◌, ℕ, List, IfErr, IfOk};
 ghost use Rattle.rgo_code.specs.Erasure.{erased};
 ghost use Rattle.rgo_code_printing.specs.Text.{text_of};
 ghost use Rattle.rgo_command_line.specs.Commands.{KeepsBounds};
-ghost use Rattle.rgo_command_line.specs.Limits.{LiesIn, worker_bounds};
+ghost use Rattle.rgo_command_line.specs.Limits.{LieInBounds};
+ghost use Rattle.rgo_driver.specs.declared.ends.RunEnd.{RunEnd};
 ghost use Rattle.rgo_command_line.specs.declared.commands.Command.TheVariants.{Check, Emit, Record, Replay};
 ghost use Rattle.rgo_command_line.specs.declared.limits.RunOptions.{RunOptions};
 ghost use Rattle.rgo_run.specs.declared.endings.TextKind.TheVariants as text_kind;
@@ -13,9 +14,8 @@ ghost use Rattle.rgo_run.specs.declared.endings.Ending.TheVariants.{NoMemory};
 ghost use Rattle.rgo_run.specs.Compiled.{IsCompiled, WritesCode};
 ghost use Rattle.rgo_run.specs.Constants.{ConstantsFit};
 ghost use Rattle.rgo_run.specs.Endings.{status_of};
-ghost use Rattle.rgo_run.specs.Runs.{IsCodeFor, IsRunnable, Runnable, stats_at};
-ghost use Rattle.rgo_region_machine.specs.States.{RegionState};
-ghost use Rattle.rgo_world.specs.Worlds.{Shown};
+ghost use Rattle.rgo_run.specs.Runs.{IsCodeFor, IsRunnable, IsSaid, Runnable};
+ghost use Rattle.rgo_runtime.specs.Shares.{counts_in};
 ghost use Rattle.rgo_run.specs.Texts.{Checks, Performs, RunsOrFails};
 
 use crate::constants::constants_fit;
@@ -24,11 +24,10 @@ use crate::pipeline::{check_text, compile, read_checked};
 use rgo_code::{Checked, Code};
 use rgo_code_printing::print_code;
 use rgo_command_line::{Command, RunOptions};
-use rgo_driver::{RunEnd, run_with_workers};
 use rgo_outside::{Gate, Sink, write_all};
-use rgo_world::{Tally, World};
+use rgo_runtime::runs::{has_table, run};
+use rgo_runtime::shares::Tally;
 use std::alloc::Global;
-use std::sync::Wait;
 use std::thread::Threads;
 
 /// The kind of text that a command is about.
@@ -52,20 +51,16 @@ fn check_only(alloc: Global, text: &[u8]) -> Ending
     }
 }
 
-// What is said of a run that has ended so. Where memory ran out or a write failed, that is nothing.
-fn stats_of(options: RunOptions, end: RunEnd, world: &World<'_>) -> Option<Tally>
-    ensures { (s : RegionState) → ((end ≡ RunEnd.NoMemory → ⊥) → (end ≡ RunEnd.WriteFault → ⊥) → Shown world.now s)
-        → result ≡ stats_at options.stats end s }
+// What is said of a run that has made this.
+fn stats_of(options: RunOptions, made: Tally) -> Option<Tally>
+    ensures { (end : RunEnd) → IsSaid options.stats end (counts_in made) result }
 {
-    match end {
-        RunEnd::NoMemory | RunEnd::WriteFault => None,
-        _ if options.stats => Some(world.tally()),
-        _ => None,
-    }
+    if options.stats { Some(made) } else { None }
 }
 
-// Runs the code with regions of a text of this kind.
-fn run_code<H: Threads + Wait + Sync, K: Sink, G: Gate + Sync>(
+// Runs the code with regions of a text of this kind. Where a table cannot have so many words, that ends as a want of memory does: no
+// text of at most 67,108,864 bytes has so many package variables.
+fn run_code<H: Threads + Sync, K: Sink, G: Gate + Sync>(
     rt: &H,
     alloc: Global,
     kind: TextKind,
@@ -74,35 +69,36 @@ fn run_code<H: Threads + Wait + Sync, K: Sink, G: Gate + Sync>(
     out: &mut K,
     gate: &G,
 ) -> Ending
-    requires { LiesIn worker_bounds options.workers }
+    requires { LieInBounds options }
     ensures performs { (text : List ℕ) (what : Runnable) → IsRunnable kind text what → IsCodeFor what code.now
         → RunsOrFails kind options text result (sink_use (K.contents out.old) (K.contents out.new)
         (K.faults out.old) (K.faults out.new) (K.broken out.new)) }
     ensures refused { status_of result ≡ 1 → out.new ≡ out.old }
 {
-    match World::new(alloc, code, options.sizes) {
-        Ok(world) => {
-            let (world, end) = run_with_workers(
-                rt,
-                alloc,
-                world,
-                options.workers,
-                options.limits,
-                out,
-                gate,
-            );
-            Ending::Ran {
-                kind,
-                end,
-                stats: stats_of(options, end, &world),
-            }
-        }
+    if !has_table(&options.sizes, code.code().tac().variables().len()) {
+        return Ending::NoMemory;
+    }
+    match run(
+        rt,
+        alloc,
+        code,
+        options.sizes,
+        options.limits,
+        options.workers,
+        out,
+        gate,
+    ) {
+        Ok(outcome) => Ending::Ran {
+            kind,
+            end: outcome.end,
+            stats: stats_of(options, outcome.tally),
+        },
         Err(_) => Ending::NoMemory,
     }
 }
 
 // Runs a text.
-fn run_text<H: Threads + Wait + Sync, K: Sink, G: Gate + Sync>(
+fn run_text<H: Threads + Sync, K: Sink, G: Gate + Sync>(
     rt: &H,
     alloc: Global,
     options: RunOptions,
@@ -110,7 +106,7 @@ fn run_text<H: Threads + Wait + Sync, K: Sink, G: Gate + Sync>(
     out: &mut K,
     gate: &G,
 ) -> Ending
-    requires { LiesIn worker_bounds options.workers }
+    requires { LieInBounds options }
     ensures performs { RunsOrFails text_kind.Go options text.now result (sink_use (K.contents out.old)
         (K.contents out.new) (K.faults out.old) (K.faults out.new) (K.broken out.new)) }
     ensures refused { status_of result ≡ 1 → out.new ≡ out.old }
@@ -122,7 +118,7 @@ fn run_text<H: Threads + Wait + Sync, K: Sink, G: Gate + Sync>(
 }
 
 // Runs the code of a code text.
-fn run_code_text<H: Threads + Wait + Sync, K: Sink, G: Gate + Sync>(
+fn run_code_text<H: Threads + Sync, K: Sink, G: Gate + Sync>(
     rt: &H,
     alloc: Global,
     options: RunOptions,
@@ -130,7 +126,7 @@ fn run_code_text<H: Threads + Wait + Sync, K: Sink, G: Gate + Sync>(
     out: &mut K,
     gate: &G,
 ) -> Ending
-    requires { LiesIn worker_bounds options.workers }
+    requires { LieInBounds options }
     ensures performs { RunsOrFails text_kind.Code options text.now result (sink_use (K.contents out.old)
         (K.contents out.new) (K.faults out.old) (K.faults out.new) (K.broken out.new)) }
     ensures refused { status_of result ≡ 1 → out.new ≡ out.old }
@@ -205,7 +201,7 @@ fn check_code_text(alloc: Global, text: &[u8]) -> Ending
 
 /// Does what the command says with a text: checks it, runs it, or prints its code. `replay` is not among these commands, since
 /// its places are those of a part of what it reads.
-pub(crate) fn perform<H: Threads + Wait + Sync, K: Sink, G: Gate + Sync>(
+pub(crate) fn perform<H: Threads + Sync, K: Sink, G: Gate + Sync>(
     rt: &H,
     alloc: Global,
     command: Command,

@@ -10,8 +10,8 @@ use rgo_code_text::ReadError;
 use rgo_command_line::WordsError;
 use rgo_driver::RunEnd;
 use rgo_lexer::{LexError, LexRefusal};
+use rgo_runtime::shares::Tally;
 use rgo_typing_rules::{TypeError, TypeRefusal};
-use rgo_world::Tally;
 use std::alloc::AllocError;
 
 /// What kind of text a command is about, which determines how places of it are reported.

@@ -3,7 +3,8 @@
 ghost use Rattle.std.specs.Prelude.{◌≡◌, ◌⊎◌, ◌<◌, ◌^◌, ◌++◌, length, List, ℕ, true, codes, string_bytes, IfOk};
 ghost use Rattle.rgo_outside.specs.Causes.{Rose};
 ghost use Rattle.rgo_run.specs.Calls.{sink_use};
-ghost use Rattle.rgo_run.specs.Endings.{numbered_line};
+ghost use Rattle.rgo_run.specs.Endings.{numbered_line, status_of};
+ghost use Rattle.rgo_run.specs.declared.endings.Ending as endings;
 ghost use Rattle.rgo_run.specs.Replayed.{EndsOn, IsSplit, ReplaysBytes, ReportsReplay, error_of};
 
 use crate::endings::{Ending, TextKind};
@@ -80,7 +81,8 @@ fn report_end<E: Sink>(alloc: Global, text: &[u8], end: ReplayEnd, err: &mut E) 
 
 /// Writes the line of an ending, and returns its status. On allocation failure for the line, it writes that memory ran out.
 fn report_replay<E: Sink>(alloc: Global, text: &[u8], ending: ReplayEnding, err: &mut E) -> u8
-    requires { length text.now < 2 ^ 63 }
+    requires short { length text.now < 2 ^ 63 }
+    requires written { (e : endings.Ending) → ending ≡ ReplayEnding.Other e → status_of e ≡ 10 → ⊥ }
     ensures { ReportsReplay text.now ending result (sink_use (E.contents err.old) (E.contents err.new)
         (E.faults err.old) (E.faults err.new) (E.broken err.new)) }
 {

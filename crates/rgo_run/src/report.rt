@@ -1,13 +1,15 @@
 //! The report of an ending: its line on `err`, and its status.
 
-ghost use Rattle.std.specs.Prelude.{◌≡◌, ◌<◌, ◌^◌, ◌++◌, [], None, codes, length, IfOk, MatchResult, string_bytes};
+ghost use Rattle.std.specs.Prelude.{◌≡◌, ◌<◌, ◌^◌, ◌++◌, [], ℕ, List, Option, None, codes, length, IfOk, MatchResult, string_bytes};
 ghost use Rattle.rgo_run.specs.Calls.{sink_use};
 ghost use Rattle.rgo_run.specs.Endings.{line_of, line_of_run, line_of_shortage, numbered, numbered_line, positioned};
 ghost use Rattle.rgo_run.specs.Endings.{others_made, placed, regions_made, stats_lines, status_of_run, status_of_shortage};
-ghost use Rattle.rgo_run.specs.Reports.{Reports, Writes};
+ghost use Rattle.rgo_run.specs.Reports.{Reports, Tells, Writes, in_short};
 ghost use Rattle.rgo_driver.specs.declared.ends.RunEnd.TheVariants.{Ended};
 ghost use Rattle.rgo_machine.specs.declared.picks.End.TheVariants as the_end;
 ghost use Rattle.rgo_run.specs.declared.endings.Ending.TheVariants.{Breaks, Ran};
+ghost use Rattle.rgo_run.specs.declared.endings.TextKind as kinds;
+ghost use Rattle.rgo_runtime.specs.declared.shares.Tally as tallies;
 
 use crate::endings::{Ending, TextKind};
 use crate::positions::position_of;
@@ -17,7 +19,7 @@ use rgo_driver::RunEnd;
 use rgo_machine::{End, Shortage};
 use rgo_memory::Trap;
 use rgo_outside::{Sink, write_all};
-use rgo_world::Tally;
+use rgo_runtime::shares::Tally;
 use std::alloc::{AllocError, Global};
 
 const USAGE: &[u8] =
@@ -250,6 +252,31 @@ fn stats_lines(
     format!(in alloc; "rgo: {regions}{others}{line}")
 }
 
+// Writes how a run ended, where there was no memory to say what it has made.
+fn report_in_short<E: Sink>(end: RunEnd, err: &mut E) -> u8
+    ensures { (kind : kinds.TextKind) (text : List ℕ) (stats : Option tallies.Tally) → Tells text (in_short (Ran kind end stats)) result
+        (sink_use (E.contents err.old) (E.contents err.new) (E.faults err.old) (E.faults err.new) (E.broken err.new)) }
+{
+    match end {
+        RunEnd::WriteFault => write(err, b"rgo: write failed\n", 10),
+        _ => write_no_memory(err),
+    }
+}
+
+// Writes the lines of a run that ended so; on allocation failure, how it ended.
+fn write_lines<E: Sink>(err: &mut E, end: RunEnd, lines: Result<String, AllocError>) -> u8
+    ensures { (kind : kinds.TextKind) (text : List ℕ) (stats : Option tallies.Tally) → MatchResult lines
+        (λ lines. Writes (string_bytes lines) (status_of_run end) result (sink_use (E.contents err.old)
+        (E.contents err.new) (E.faults err.old) (E.faults err.new) (E.broken err.new)))
+        (λ _. Tells text (in_short (Ran kind end stats)) result (sink_use (E.contents err.old)
+        (E.contents err.new) (E.faults err.old) (E.faults err.new) (E.broken err.new))) }
+{
+    match lines {
+        Ok(lines) => write(err, lines.as_bytes(), status_of(end)),
+        Err(_) => report_in_short(end, err),
+    }
+}
+
 // Writes how a run ended, and before it what it has made, if that was asked for.
 fn report_run<E: Sink>(
     alloc: Global,
@@ -266,14 +293,14 @@ fn report_run<E: Sink>(
     match stats {
         Some(tally) => {
             let lines = stats_lines(alloc, kind, text, end, tally);
-            write_or_no_memory(err, lines, status_of(end))
+            write_lines(err, end, lines)
         }
         None => report_end(alloc, kind, text, end, err),
     }
 }
 
 /// Writes the line of an ending, and returns its status. On allocation failure for the line, the
-/// call ends as one that ran out of memory.
+/// call ends as one that ran out of memory, or, after a failed write, as one whose write failed.
 pub(crate) fn report<E: Sink>(alloc: Global, text: &[u8], ending: Ending, err: &mut E) -> u8
     requires { length text.now < 2 ^ 63 }
     ensures { Reports text.now ending result (sink_use (E.contents err.old) (E.contents err.new)

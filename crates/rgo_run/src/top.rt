@@ -21,7 +21,6 @@ use rgo_big::big_source;
 use rgo_command_line::{Command, read_words};
 use rgo_outside::{Gate, ReadEnd, Sink, Source, read_all};
 use std::alloc::Global;
-use std::sync::Wait;
 use std::thread::Threads;
 
 // Why no text of this kind was read.
@@ -82,12 +81,12 @@ fn read<S: Source>(
 /// to `err`, which reports the end, and before it, with `--stats`, one that counts what the run has made. After a
 /// failed write nothing more is written to that sink.
 ///
-/// A run is in rounds, in which every goroutine that can step has a turn; no clause says so. With one
-/// worker the turns come one after the other, on the caller's thread. With more, `rt` starts threads in
-/// the first two rounds, where at most eight goroutines are ready: these are dealt out to two workers,
-/// and their steps come in any order, each under one lock. A worker that has goroutines in a round arrives at the gate before the first
-/// turn of these, with its number, from 0 on, and that of the round, from 1 on. That a worker gets the
-/// lock for which it waits is not claimed.
+/// A run is in rounds, in which each goroutine that is ready has one turn. The goroutines take single steps on the words of one table,
+/// and no step waits for another. With one worker the turns come one after the other, on the caller's thread. With more, `rt` starts
+/// threads in the first two rounds, where at most eight goroutines are ready, and in each round whose turns are long; the goroutines are
+/// dealt out to the workers, which steal from each other, and their steps come in any order. A worker that has goroutines in a round
+/// arrives at the gate before the first turn of these, with its number, from 0 on, and that of the round, from 1 on. A goroutine that
+/// waits at a channel has no turn until the channel may have changed; a deadlock is found by a pass over all of them.
 ///
 /// | status | where |
 /// |---|---|
@@ -107,7 +106,7 @@ fn read<S: Source>(
 /// | 12 | there are as many goroutines as `--goroutines` allows, and one starts another |
 /// | 13 | for `replay`: all picks were taken, none ended the run, and some pick has a step |
 /// | 64 | the words name no command; the source is not read |
-pub fn rgo<H: Threads + Wait + Sync, S: Source, K: Sink, E: Sink, G: Gate + Sync>(
+pub fn rgo<H: Threads + Sync, S: Source, K: Sink, E: Sink, G: Gate + Sync>(
     rt: &H,
     alloc: Global,
     words: &[String],

@@ -38,5 +38,9 @@ run_examples = record {
   exited = refl;
   spent = refl;
   unspent = λ e. cc e;
+  overspent = λ e. cc e;
   failed = refl;
+  broke = record { fault = λ x. omega arith; broken = λ x. refl; held = λ n. absurd (n tt) };
+  hidden = λ f. let same : 1 ≡ 0 = f.held (λ x. x) in absurd (omega (arith, same));
+  went_on = λ f. let same : false ≡ true = f.broken tt in cc;
 }

@@ -1,5 +1,5 @@
 -- From what a driver knows when it ends a run, to the run of the code that its table has made.
-use Rattle.std.proofs.Common.{◌≡◌, ◌≤◌, ⊎_elim, ℕ, Bool, true, false, cond, nat_le, List, [], ◌∷◌, ◌++◌, IsPermutation, Option, None, Some, length, map, refl, ap, sym, subst, ◌∙◌, arith, append_assoc}
+use Rattle.std.proofs.Common.{◌≡◌, ◌≤◌, ◌<◌, ◌+◌, ◌*◌, ⊎_elim, ℕ, Bool, true, false, cond, ◌&&◌, nat_le, nat_lt, List, [], ◌∷◌, ◌++◌, IsPermutation, Option, None, Some, length, map, refl, ap, sym, subst, ◌∙◌, arith, append_assoc}
 use Rattle.std.specs.Io.KnownBytes.{Appends}
 use Rattle.std.specs.List.{All, AllByRecursion}
 use Rattle.std.proofs.KnownBytes.{Appends-nil}
@@ -13,6 +13,8 @@ use Rattle.rgo_core.specs.Rule.Views.{Rows}
 use Rattle.rgo_core_steps.specs.Ends.{mark_of}
 use Rattle.rgo_core_steps.specs.Outcomes.{Closes}
 use Rattle.rgo_core_steps.specs.declared.clock.Mark as clock
+use Rattle.rgo_core_steps.specs.declared.clock.Mark.TheVariants as given
+use Rattle.rgo_sound.specs.RegionMachine.declared.limits.Limit.TheVariants as limit
 use Rattle.rgo_driver.specs.declared.ends.RunEnd.{RunEnd}
 use Rattle.rgo_driver.specs.declared.ends.RunEnd.TheVariants as run_end
 use Rattle.rgo_table_runs.specs.Goroutine.Acts.Runs.{Run}
@@ -37,7 +39,7 @@ use Rattle.rgo_runtime.specs.Crew.{Crew, IsCrew, all_members}
 use Rattle.rgo_runtime.specs.Crews.{AreRetired, IsOfCrew, NobodyIsLost, drawn, its_goroutine, marked, member_of, members, turning}
 use Rattle.rgo_runtime.specs.Leaving.{HaveAllLeft}
 use Rattle.rgo_runtime.specs.Parking.{values_of}
-use Rattle.rgo_runtime.specs.Runs.{EndsFor, HasGiven, HasGivenSome, NoneIsNext, end_by, settled_end, unmarked_end}
+use Rattle.rgo_runtime.specs.Runs.{EndsFor, FailsIf, HasGiven, HasGivenSome, NoneIsNext, end_by, is_spent, settled_end, unmarked_end}
 use Rattle.rgo_runtime.specs.Shares.{counts_in}
 use Rattle.rgo_runtime.specs.Turns.{Turn}
 use Rattle.rgo_runtime.specs.declared.passes.Passed.{Passed}
@@ -68,6 +70,98 @@ four : (a b c d : List Member) → a ++ (b ++ (c ++ d)) ≡ (a ++ (b ++ c)) ++ d
 four a b c d = ap (λ (l : List Member). a ++ l) (sym (append_assoc b c d)) ∙ sym (append_assoc a (b ++ c) d)
 
 -- ---- ends
+
+-- the limit was reached, and not passed by more than turns are long
+spent_is : (made : Counts) (most : ℕ) → is_spent made most ≡ true → (most ≤ made.steps) × (made.steps < most + 1000 * made.goroutines)
+spent_is made most q = by (nat_le most made.steps) (nat_lt made.steps (most + 1000 * made.goroutines)) refl refl q
+  where
+    by : (x y : Bool) → nat_le most made.steps ≡ x → nat_lt made.steps (most + 1000 * made.goroutines) ≡ y → (x && y) ≡ true
+        → (most ≤ made.steps) × (made.steps < most + 1000 * made.goroutines)
+    by true true p r both = grind (arith, nat_tests)
+    by true false p r both = cc
+    by false y p r both = cc
+
+-- no mark says that instructions were spent, or that a write failed
+not_by_mark : (mark : clock.Mark) → (end_of (mark_of mark) ≡ run_end.StepsSpent → ⊥) × (end_of (mark_of mark) ≡ run_end.WriteFault → ⊥)
+not_by_mark (given.Ended end) = (λ x. cc, λ x. cc)
+not_by_mark (given.Stopped limit.Pages) = (λ x. cc, λ x. cc)
+not_by_mark (given.Stopped limit.Regions) = (λ x. cc, λ x. cc)
+not_by_mark (given.Stopped limit.ObjectSize) = (λ x. cc, λ x. cc)
+not_by_mark (given.Stopped limit.Calls) = (λ x. cc, λ x. cc)
+not_by_mark (given.Stopped limit.Goroutines) = (λ x. cc, λ x. cc)
+not_by_mark (given.Stopped limit.Memory) = (λ x. cc, λ x. cc)
+
+-- a run whose instructions were spent has passed its limit by no more than turns are long
+module _ (made : Counts) (most : ℕ) where
+  abbrev InTime : Type 0
+  InTime = made.steps < most + 1000 * made.goroutines
+
+  settled_in_time : (whole : Bool) (first : Option clock.Mark) (unmarked : RunEnd) → (unmarked ≡ run_end.StepsSpent → InTime)
+      → settled_end whole first unmarked ≡ run_end.StepsSpent → InTime
+  settled_in_time false first unmarked f x = cc
+  settled_in_time true (Some mark) unmarked f x = absurd ((not_by_mark mark).0 x)
+  settled_in_time true None unmarked f x = f x
+
+  spent_in_time : (b : Bool) → is_spent made most ≡ b → cond b run_end.StepsSpent run_end.NoMemory ≡ run_end.StepsSpent → InTime
+  spent_in_time true is x = (spent_is made most is).1
+  spent_in_time false is x = cc
+
+  stuck_in_time : (passed : Passed) → unmarked_end (Stuck passed) made most ≡ run_end.StepsSpent → InTime
+  stuck_in_time Still x = cc
+  stuck_in_time (Lacks why) x = cc
+  stuck_in_time Moved x = cc
+
+  pub ends_in_time : (why : Why) (whole : Bool) (first : Option clock.Mark) (end : RunEnd) → end ≡ end_by why whole first made most
+      → end ≡ run_end.StepsSpent → InTime
+  ends_in_time why whole first end is spent = by why (sym is ∙ spent)
+    where
+      by : (why : Why) → end_by why whole first made most ≡ run_end.StepsSpent → InTime
+      by Memory x = cc
+      by Write x = cc
+      by Over x = settled_in_time whole first run_end.NoMemory (λ y. cc) x
+      by Steps x = settled_in_time whole first (unmarked_end Steps made most) (spent_in_time (is_spent made most) refl) x
+      by (Stuck passed) x = settled_in_time whole first (unmarked_end (Stuck passed) made most) (stuck_in_time passed) x
+
+  -- and only a failed write ends it so
+  settled_held : (whole : Bool) (first : Option clock.Mark) (unmarked : RunEnd) → (unmarked ≡ run_end.WriteFault → ⊥)
+      → settled_end whole first unmarked ≡ run_end.WriteFault → ⊥
+  settled_held false first unmarked f x = cc
+  settled_held true (Some mark) unmarked f x = (not_by_mark mark).1 x
+  settled_held true None unmarked f x = f x
+
+  unmarked_held : (why : Why) → unmarked_end why made most ≡ run_end.WriteFault → ⊥
+  unmarked_held Memory x = cc
+  unmarked_held Write x = cc
+  unmarked_held Over x = cc
+  unmarked_held Steps x = by (is_spent made most) x
+    where
+      by : (b : Bool) → cond b run_end.StepsSpent run_end.NoMemory ≡ run_end.WriteFault → ⊥
+      by true x = cc
+      by false x = cc
+  unmarked_held (Stuck Still) x = cc
+  unmarked_held (Stuck (Lacks why)) x = cc
+  unmarked_held (Stuck Moved) x = cc
+
+  failed_by : (why : Why) (whole : Bool) (first : Option clock.Mark) → end_by why whole first made most ≡ run_end.WriteFault → why ≡ Write
+  failed_by Memory whole first x = cc
+  failed_by Write whole first x = refl
+  failed_by Over whole first x = absurd (settled_held whole first (unmarked_end Over made most) (unmarked_held Over) x)
+  failed_by Steps whole first x = absurd (settled_held whole first (unmarked_end Steps made most) (unmarked_held Steps) x)
+  failed_by (Stuck passed) whole first x =
+      absurd (settled_held whole first (unmarked_end (Stuck passed) made most) (unmarked_held (Stuck passed)) x)
+
+  written_by : (why : Why) (whole : Bool) (first : Option clock.Mark) → why ≡ Write → end_by why whole first made most ≡ run_end.WriteFault
+  written_by why whole first is = ap (λ w. end_by w whole first made most) is
+
+  -- so the sink says it of the end as of why there is one
+  pub fails_so : (why : Why) (whole : Bool) (first : Option clock.Mark) (end : RunEnd) (before now : ℕ) (broken : Bool)
+      → end ≡ end_by why whole first made most → FailsIf (why ≡ Write) before now broken
+      → FailsIf (end ≡ run_end.WriteFault) before now broken
+  fails_so why whole first end before now broken is f = record {
+    fault = λ x. f.fault (failed_by why whole first (sym is ∙ x));
+    broken = λ x. f.broken (failed_by why whole first (sym is ∙ x));
+    held = λ n. f.held (λ w. n (is ∙ written_by why whole first w));
+  }
 
 -- a mark that was set tells the end
 by_mark : (code : Code) (sizes : Sizes) (limits : Limits) (steps : ℕ) (s : RegionState) (mark : Mark) (end : RunEnd) → end_of mark ≡ end
@@ -221,37 +315,34 @@ module _ (c : Crew) (left : Left) (k : IsCrew c) (gone : HaveAllLeft c left) whe
           (λ has. by_mark T.code T.sizes T.limits (all_shares rows).steps (last_state e) (mark_of mark) (end_of (mark_of mark)) refl)
 
       -- so many instructions were executed
-      spent : (steps : ℕ) → steps ≡ (sum_of left.shares).steps → Has given → (b : Bool) → nat_le T.limits.steps steps ≡ b
+      spent : (made : Counts) → made ≡ sum_of left.shares → Has given → (b : Bool) → is_spent made T.limits.steps ≡ b
           → EndsAs None (cond b run_end.StepsSpent run_end.NoMemory)
-      spent steps is has false q = tt
-      spent steps is has true q =
-          let total : steps ≡ (all_shares rows).steps = is ∙ ap (λ (n : Counts). n.steps) has.sum in
-          (reached steps (all_shares rows).steps total q, omega arith, omega arith)
-        where
-          reached : (a b : ℕ) → a ≡ b → nat_le T.limits.steps a ≡ true → T.limits.steps ≤ b
-          reached a b same r = grind (arith, nat_tests)
+      spent made is has false q = tt
+      spent made is has true q =
+          let total : made.steps ≡ (all_shares rows).steps = ap (λ (n : Counts). n.steps) (is ∙ has.sum) in
+          (subst (λ n. T.limits.steps ≤ n) total (spent_is made T.limits.steps q).0, omega arith, omega arith)
 
-      stuck : (passed : Passed) (steps : ℕ) → Tells T words left.seat.me.0 e passed → EndsAs None (unmarked_end (Stuck passed) steps T.limits.steps)
-      stuck Still steps t = t
-      stuck (Lacks why) steps t = t
-      stuck Moved steps t = tt
+      stuck : (passed : Passed) (made : Counts) → Tells T words left.seat.me.0 e passed → EndsAs None (unmarked_end (Stuck passed) made T.limits.steps)
+      stuck Still made t = t
+      stuck (Lacks why) made t = t
+      stuck Moved made t = tt
 
-    ended_so : (why : Why) (start : Crew) → EndsFor why start was c now → HasGiven start [] was was → (steps : ℕ)
-        → steps ≡ (sum_of left.shares).steps → RunsAs (end_by why left.is_whole left.first steps T.limits.steps)
-    ended_so Memory start f h steps is = let g = f was [] h in by_memory g.0 g.1
-    ended_so Write start f h steps is = let g = f was [] h in by_fault g.0 g.1
-    ended_so Over start f h steps is =
+    ended_so : (why : Why) (start : Crew) → EndsFor why start was c now → HasGiven start [] was was → (made : Counts)
+        → made ≡ sum_of left.shares → RunsAs (end_by why left.is_whole left.first made T.limits.steps)
+    ended_so Memory start f h made is = let g = f was [] h in by_memory g.0 g.1
+    ended_so Write start f h made is = let g = f was [] h in by_fault g.0 g.1
+    ended_so Over start f h made is =
         let g = f.0 was [] h in
         settled g.0 g.1 f.1 run_end.NoMemory (λ whole has. tt) left.is_whole refl left.first refl
-    ended_so Steps start f h steps is =
+    ended_so Steps start f h made is =
         let g = f.0 was [] h in
-        settled g.0 g.1 f.1 (cond (nat_le T.limits.steps steps) run_end.StepsSpent run_end.NoMemory)
-        (λ whole has. spent g.0 g.1 f.1 steps is has (nat_le T.limits.steps steps) refl)
+        settled g.0 g.1 f.1 (cond (is_spent made T.limits.steps) run_end.StepsSpent run_end.NoMemory)
+        (λ whole has. spent g.0 g.1 f.1 made is has (is_spent made T.limits.steps) refl)
         left.is_whole refl left.first refl
-    ended_so (Stuck passed) start f h steps is =
+    ended_so (Stuck passed) start f h made is =
         let g = f.0 was [] h in
-        settled g.0 g.1 f.1.0 (unmarked_end (Stuck passed) steps T.limits.steps)
-        (λ whole has. stuck g.0 g.1 f.1.0 passed steps
+        settled g.0 g.1 f.1.0 (unmarked_end (Stuck passed) made T.limits.steps)
+        (λ whole has. stuck g.0 g.1 f.1.0 passed made
         (pass_tells f.1.1 c passed left words e f.1.2 k f.1.3 f.1.4 gone whole has.all))
         left.is_whole refl left.first refl
 
@@ -272,18 +363,17 @@ pub code_runs : (c : Crew) (left : Left) → IsCrew c → HaveAllLeft c left →
     → Closes K words left.seat.me.0 → AreRetired left.seat.me.0.records left.shares (marked left.first) → (was now : Option (List ℕ))
     → (why : Why) (start : Crew) → EndsFor why start was c now → start.waiting ≡ [] → start.next ≡ 0 → NoneIsLost (all_members start) []
     → (tally : Tally) → counts_in tally ≡ sum_of left.shares → (end : RunEnd)
-    → end ≡ end_by why left.is_whole left.first tally.steps S.limits.steps
+    → end ≡ end_by why left.is_whole left.first (counts_in tally) S.limits.steps
     → CodeRuns S.code S.sizes S.limits end (counts_in tally) was now
 code_runs c left k gone K S of_table asked words e counted was now why start f waiting next none tally total end is =
     let at_close : Closes c.run.setup words left.seat.me.0 =
     subst (λ (T : Setup). Closes T words left.seat.me.0) (sym of_table) e in
-    let ended = ended_so c left k gone words at_close counted was now why start f (none_yet start was waiting next none) tally.steps
-    (ap (λ (n : Counts). n.steps) total) in
+    let ended = ended_so c left k gone words at_close counted was now why start f (none_yet start was waiting next none) (counts_in tally) total in
     subst (λ (x : RunEnd). CodeRuns S.code S.sizes S.limits x (counts_in tally) was now) (sym is)
     (subst
-    (λ (n : Counts). CodeRuns S.code S.sizes S.limits (end_by why left.is_whole left.first tally.steps S.limits.steps) n was now)
+    (λ (n : Counts). CodeRuns S.code S.sizes S.limits (end_by why left.is_whole left.first (counts_in tally) S.limits.steps) n was now)
     (sym total)
     (subst
     (λ (T : Setup).
-    CodeRuns T.code T.sizes T.limits (end_by why left.is_whole left.first tally.steps T.limits.steps) (sum_of left.shares) was now)
+    CodeRuns T.code T.sizes T.limits (end_by why left.is_whole left.first (counts_in tally) T.limits.steps) (sum_of left.shares) was now)
     (of_table ∙ asked) ended))

@@ -1,3 +1,5 @@
+-- of the crates below, for those above
+pub use Rattle.rgo_table_runs.specs as TableRuns
 pub mod Closing
 pub mod Crew
 pub mod Crews

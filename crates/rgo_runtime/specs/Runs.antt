@@ -1,12 +1,15 @@
 -- What a driver knows while it plays, and why it ends a run.
 use Rattle.std.specs.Io.KnownBytes.{Appends}
-use Rattle.std.specs.Prelude.{◌≡◌, ℕ, Bool, false, true, cond, nat_le, List, [], ◌∷◌, ◌++◌, Option, None, Some, length, ⊤}
+use Rattle.std.specs.Prelude.{◌≡◌, ℕ, ◌+◌, ◌*◌, Bool, false, true, cond, ◌&&◌, nat_le, nat_lt, List, [], ◌∷◌, ◌++◌, Option, None, Some, length, ⊤}
 use Rattle.rgo_core.specs.Memory.declared.layout.TableSizes.{TableSizes}
 use Rattle.rgo_core.specs.Records.{Drawn}
 use Rattle.rgo_core_steps.specs.Ends.{mark_of}
 use Rattle.rgo_core_steps.specs.declared.clock.Mark.{Mark}
 use Rattle.rgo_core_steps.specs.declared.clock.Mark.TheVariants as clock
 use Rattle.rgo_driver.specs.Runs.{AppendsSome}
+use Rattle.rgo_outside.specs.Causes.{Rose}
+use Rattle.rgo_sound.specs.RegionMachine.Counts.{Counts}
+use Rattle.rgo_sound.specs.Tally.{no_share}
 use Rattle.rgo_driver.specs.declared.ends.RunEnd.{RunEnd}
 use Rattle.rgo_driver.specs.declared.ends.RunEnd.TheVariants as run_end
 use Rattle.rgo_table_runs.specs.Goroutine.Acts.declared.prints.Print.{Print}
@@ -72,16 +75,26 @@ EndsFor Over before was after now = GoesOn before was after now × Knows after O
 EndsFor Steps before was after now = GoesOn before was after now × Knows after Steps
 EndsFor (Stuck passed) before was after now = GoesOn before was after now × Knows after (Stuck passed)
 
--- How a run has ended that no goroutine has ended, by why its driver ended it, and by the steps that were made and may be made. The other
--- cases do not arise.
-abbrev pub unmarked_end : Why → (steps most : ℕ) → RunEnd
-unmarked_end (Stuck Still) steps most = run_end.Deadlock
-unmarked_end (Stuck (Lacks why)) steps most = run_end.NoRoom why
-unmarked_end (Stuck Moved) steps most = run_end.NoMemory
-unmarked_end Steps steps most = cond (nat_le most steps) run_end.StepsSpent run_end.NoMemory
-unmarked_end Over steps most = run_end.NoMemory
-unmarked_end Memory steps most = run_end.NoMemory
-unmarked_end Write steps most = run_end.NoMemory
+-- a write failed exactly if this is so, by the faults of the sink before and now, and nothing was written after it
+pub record FailsIf (is_so : Type 0) (before now : ℕ) (is_broken : Bool) : Type 0 where
+  pub fault : is_so → Rose before now
+  pub broken : is_so → is_broken ≡ true
+  pub held : (is_so → ⊥) → now ≡ before
+
+-- whether the limit of instructions was reached, and passed by fewer than 1,000 for each goroutine
+abbrev pub is_spent : (made : Counts) (most : ℕ) → Bool
+is_spent made most = nat_le most made.steps && nat_lt made.steps (most + 1000 * made.goroutines)
+
+-- How a run has ended that no goroutine has ended, by why its driver ended it, by what it has made, and by the instructions that may be
+-- executed. The other cases do not arise.
+abbrev pub unmarked_end : Why → (made : Counts) → (most : ℕ) → RunEnd
+unmarked_end (Stuck Still) made most = run_end.Deadlock
+unmarked_end (Stuck (Lacks why)) made most = run_end.NoRoom why
+unmarked_end (Stuck Moved) made most = run_end.NoMemory
+unmarked_end Steps made most = cond (is_spent made most) run_end.StepsSpent run_end.NoMemory
+unmarked_end Over made most = run_end.NoMemory
+unmarked_end Memory made most = run_end.NoMemory
+unmarked_end Write made most = run_end.NoMemory
 
 -- the same by the mark that a goroutine has set, if nothing is lost of the goroutines; or else memory was refused
 abbrev pub settled_end : (whole : Bool) → Option Mark → (unmarked : RunEnd) → RunEnd
@@ -90,14 +103,18 @@ settled_end true (Some mark) unmarked = end_of (mark_of mark)
 settled_end true None unmarked = unmarked
 
 -- how a run has ended
-abbrev pub end_by : Why → (whole : Bool) → Option Mark → (steps most : ℕ) → RunEnd
-end_by Memory whole first steps most = run_end.NoMemory
-end_by Write whole first steps most = run_end.WriteFault
-end_by Over whole first steps most = settled_end whole first (unmarked_end Over steps most)
-end_by Steps whole first steps most = settled_end whole first (unmarked_end Steps steps most)
-end_by (Stuck passed) whole first steps most = settled_end whole first (unmarked_end (Stuck passed) steps most)
+abbrev pub end_by : Why → (whole : Bool) → Option Mark → (made : Counts) → (most : ℕ) → RunEnd
+end_by Memory whole first made most = run_end.NoMemory
+end_by Write whole first made most = run_end.WriteFault
+end_by Over whole first made most = settled_end whole first (unmarked_end Over made most)
+end_by Steps whole first made most = settled_end whole first (unmarked_end Steps made most)
+end_by (Stuck passed) whole first made most = settled_end whole first (unmarked_end (Stuck passed) made most)
 
 -- ---- examples
+
+-- one goroutine has executed so many instructions
+abbrev pub alone : ℕ → Counts
+alone steps = record no_share { steps = steps; goroutines = 1 }
 
 pub record RunExamples : Type 0 where
   pub begins : (c : Crew) (old : Option (List ℕ)) → NoneIsLost (all_members c) [] → c.waiting ≡ [] → c.next ≡ 0 → HasGiven c [] old old
@@ -110,12 +127,19 @@ pub record RunExamples : Type 0 where
   pub none_waits : (c : Crew) → c.waiting ≡ [] → NoneIsNext c
   -- the first that waits could go out
   pub one_waits : (c : Crew) (print : Print) → c.waiting ≡ print ∷ [] → print.ticket ≡ c.next → NoneIsNext c → ⊥
-  pub deadlock : end_by (Stuck Still) true None 5 9 ≡ run_end.Deadlock
+  pub deadlock : end_by (Stuck Still) true None (alone 5) 9 ≡ run_end.Deadlock
   -- memory was refused when goroutines left
-  pub lost : end_by (Stuck Still) false None 5 9 ≡ run_end.NoMemory
+  pub lost : end_by (Stuck Still) false None (alone 5) 9 ≡ run_end.NoMemory
   -- the mark of a goroutine goes before what the driver has found
-  pub exited : end_by (Stuck Still) true (Some (clock.Ended Exit)) 5 9 ≡ run_end.Ended Exit
-  pub spent : end_by Steps true None 9 9 ≡ run_end.StepsSpent
-  pub unspent : end_by Steps true None 8 9 ≡ run_end.StepsSpent → ⊥
+  pub exited : end_by (Stuck Still) true (Some (clock.Ended Exit)) (alone 5) 9 ≡ run_end.Ended Exit
+  pub spent : end_by Steps true None (alone 1008) 9 ≡ run_end.StepsSpent
+  pub unspent : end_by Steps true None (alone 8) 9 ≡ run_end.StepsSpent → ⊥
+  -- too many instructions were executed after the limit
+  pub overspent : end_by Steps true None (alone 1009) 9 ≡ run_end.StepsSpent → ⊥
   -- a failed write goes before all
-  pub failed : end_by Write true (Some (clock.Ended Exit)) 9 9 ≡ run_end.WriteFault
+  pub failed : end_by Write true (Some (clock.Ended Exit)) (alone 9) 9 ≡ run_end.WriteFault
+  pub broke : FailsIf ⊤ 0 1 true
+  -- a write failed, but the run does not say so
+  pub hidden : FailsIf ⊥ 0 1 true → ⊥
+  -- more was written after it
+  pub went_on : FailsIf ⊤ 0 1 false → ⊥

@@ -1,8 +1,9 @@
 //! Runs of checked code, each over a table of its own.
-ghost use Rattle.std.specs.Prelude.{◌≡◌, ◌≤◌, ◌<◌, ◌^◌, ◌↔◌, true, [], IfOk, MatchResult, OnErr, Some, None, MatchOption, List, Option, ℕ};
+ghost use Rattle.std.specs.Prelude.{◌≡◌, ◌≤◌, ◌<◌, ◌^◌, ◌+◌, ◌*◌, ◌↔◌, true, [], IfOk, MatchResult, OnErr, Some, None, MatchOption, List, Option, ℕ};
 ghost use Rattle.rgo_core.specs.Image.{table_sizes};
 ghost use Rattle.rgo_core.specs.Memory.Words.{all_words as words_in_all};
-ghost use Rattle.rgo_runtime.specs.Runs.{EndsFor, GoesOn, NoneIsNext, RunExamples, end_by, sizes_with, unmarked_end};
+ghost use Rattle.rgo_driver.specs.declared.ends.RunEnd.TheVariants as run_end;
+ghost use Rattle.rgo_runtime.specs.Runs.{EndsFor, FailsIf, GoesOn, NoneIsNext, RunExamples, end_by, is_spent, sizes_with, unmarked_end};
 ghost use Rattle.rgo_runtime.specs.Shares.{counts_in};
 ghost use Rattle.rgo_runtime.specs.declared.runs.Why.TheVariants as why;
 ghost use Rattle.rgo_sound.specs.Machine.Limits.{most_goroutines};
@@ -73,6 +74,7 @@ fn spend(crew: &mut Crew<'_, '_>, most: u64, steps: &mut u64) -> Option<Why>
     ensures ends { (out : Option (List ℕ)) → MatchOption result (GoesOn crew.old out crew.new out)
         (λ why. EndsFor why crew.old out crew.new out) }
     ensures rest { crew.new ≡ record crew.old { ready = crew.new.ready; parked = crew.new.parked } }
+    ensures other { result ≡ Some why.Write → ⊥ }
 {
     if *steps < most {
         return None;
@@ -95,6 +97,7 @@ fn stand(crew: &mut Crew<'_, '_>) -> Option<Why>
     ensures ends { (out : Option (List ℕ)) → MatchOption result (GoesOn crew.old out crew.new out)
         (λ why. EndsFor why crew.old out crew.new out) }
     ensures run { crew.new.run ≡ crew.old.run }
+    ensures other { result ≡ Some why.Write → ⊥ }
 {
     match crew.wake_all() {
         Ok(()) => {}
@@ -116,6 +119,7 @@ fn settle(crew: &mut Crew<'_, '_>, came: Came, most: u64, steps: &mut u64) -> Op
     ensures ends { (out : Option (List ℕ)) → MatchOption result (GoesOn crew.old out crew.new out)
         (λ why. EndsFor why crew.old out crew.new out) }
     ensures run { crew.new.run ≡ crew.old.run }
+    ensures other { result ≡ Some why.Write → ⊥ }
 {
     if came.is_over {
         return Some(Why::Over);
@@ -147,6 +151,7 @@ fn advance<H: Threads + Sync, K: Sink, G: Gate + Sync>(
     ensures ends { MatchOption result (GoesOn crew.old (K.contents out.old) crew.new (K.contents out.new))
         (λ why. EndsFor why crew.old (K.contents out.old) crew.new (K.contents out.new)) }
     ensures run { crew.new.run ≡ crew.old.run }
+    ensures fault { FailsIf (result ≡ Some why.Write) (K.faults out.old) (K.faults out.new) (K.broken out.new) }
 {
     let ready = crew.ready();
     let slice = course.pace.slice(ready, most.saturating_sub(course.steps));
@@ -177,6 +182,7 @@ fn play<H: Threads + Sync, K: Sink, G: Gate + Sync>(
     requires workers { (1 ≤ workers) × (workers ≤ 64) }
     ensures ends { EndsFor result crew.old (K.contents out.old) crew.new (K.contents out.new) }
     ensures run { crew.new.run ≡ crew.old.run }
+    ensures fault { FailsIf (result ≡ why.Write) (K.faults out.old) (K.faults out.new) (K.broken out.new) }
 {
     let mut course = Course {
         pace: Pace::new(),
@@ -193,9 +199,19 @@ fn play<H: Threads + Sync, K: Sink, G: Gate + Sync>(
     Why::Memory
 }
 
-/// How a run has ended that no goroutine has ended. The last cases do not arise.
-fn unmarked_end(why: Why, steps: u128, most: u64) -> RunEnd
-    ensures { result ≡ unmarked_end why steps most }
+/// Whether a run that has made this has reached its limit of instructions. By then each goroutine has executed fewer than 1,000 more than
+/// it had when the limit was last tested.
+fn is_spent(made: &Tally, most: u64) -> bool
+    ensures { result ≡ is_spent (counts_in made.now) most }
+{
+    let most = u128::from(most);
+    made.steps >= most && (made.steps - most) / 1_000 < made.goroutines
+}
+
+/// How a run that has made this has ended, where no goroutine has ended it. The cases that answer want of memory for another reason do
+/// not arise.
+fn unmarked_end(why: Why, made: &Tally, most: u64) -> RunEnd
+    ensures { result ≡ unmarked_end why (counts_in made.now) most }
 {
     match why {
         Why::Stuck(passed) => match passed {
@@ -203,7 +219,7 @@ fn unmarked_end(why: Why, steps: u128, most: u64) -> RunEnd
             Passed::Lacks(lack) => RunEnd::NoRoom(lack),
             Passed::Moved => RunEnd::NoMemory,
         },
-        Why::Steps => if steps >= u128::from(most) {
+        Why::Steps => if is_spent(made, most) {
             RunEnd::StepsSpent
         } else {
             RunEnd::NoMemory
@@ -212,9 +228,9 @@ fn unmarked_end(why: Why, steps: u128, most: u64) -> RunEnd
     }
 }
 
-/// How a run has ended, when all its goroutines have left.
-fn end_of_run(why: Why, is_whole: bool, first: Option<Mark>, steps: u128, most: u64) -> RunEnd
-    ensures { result ≡ end_by why is_whole first steps most }
+/// How a run that has made this has ended, when all its goroutines have left.
+fn end_of_run(why: Why, is_whole: bool, first: Option<Mark>, made: &Tally, most: u64) -> RunEnd
+    ensures { result ≡ end_by why is_whole first (counts_in made.now) most }
 {
     match why {
         Why::Memory => RunEnd::NoMemory,
@@ -225,7 +241,7 @@ fn end_of_run(why: Why, is_whole: bool, first: Option<Mark>, steps: u128, most: 
             }
             match first {
                 Some(mark) => end_of(mark),
-                None => unmarked_end(why, steps, most),
+                None => unmarked_end(why, made, most),
             }
         }
     }
@@ -263,7 +279,9 @@ pub fn run<H: Threads + Sync, K: Sink, G: Gate + Sync>(
     requires fits { words_in_all (table_sizes code.now sizes) ≤ 2 ^ 32 }
     requires goroutines { most_goroutines limits ≤ 1000000 }
     ensures runs { IfOk result (λ o. CodeRuns code.now sizes limits o.end (counts_in o.tally) (K.contents out.old) (K.contents out.new)) }
-    ensures none { OnErr result (K.contents out.new ≡ K.contents out.old) }
+    ensures spent { IfOk result (λ o. o.end ≡ run_end.StepsSpent → o.tally.steps < limits.steps + 1000 * o.tally.goroutines) }
+    ensures fault { IfOk result (λ o. FailsIf (o.end ≡ run_end.WriteFault) (K.faults out.old) (K.faults out.new) (K.broken out.new)) }
+    ensures none { OnErr result (out.new ≡ out.old) }
 {
     let variables = code.code().tac().variables().len();
     let layout = TableSizes {
@@ -293,7 +311,7 @@ pub fn run<H: Threads + Sync, K: Sink, G: Gate + Sync>(
     } = left;
     close(table, seat).free();
     Ok(Outcome {
-        end: end_of_run(why, is_whole, first, tally.steps, limits.steps),
+        end: end_of_run(why, is_whole, first, &tally, limits.steps),
         tally,
     })
 }

@@ -23,11 +23,10 @@ use rgo_outside::NoGate;
 use rows::are_called;
 use std::alloc::{AllocError, Global};
 use std::process::Abort;
-use std::sync::Wait;
 use std::thread::Threads;
 
 /// Calls with lines after the head.
-fn are_called_after_head<R: Threads + Wait + Abort + AllocGlobal + Sync>(rt: &R, table: &str) {
+fn are_called_after_head<R: Threads + Abort + AllocGlobal + Sync>(rt: &R, table: &str) {
     are_called(rt, HEAD, table, "\n", SOUND);
 }
 
@@ -48,7 +47,7 @@ fn lines_are_refused_or_run(rt: HostRuntime) {
 }
 
 /// Calls with whole texts.
-fn are_called_with<R: Threads + Wait + Abort + AllocGlobal + Sync>(rt: &R, table: &str) {
+fn are_called_with<R: Threads + Abort + AllocGlobal + Sync>(rt: &R, table: &str) {
     are_called(rt, "", table, "", SOUND);
 }
 

@@ -6,7 +6,6 @@ use rgo_outside::{Gate, MemSink, MemSource, NoGate, Sink, Source};
 use rgo_run::rgo;
 use std::alloc::{AllocError, Global};
 use std::process::Abort;
-use std::sync::Wait;
 use std::thread::Threads;
 
 /// The first three lines of most texts.
@@ -36,7 +35,7 @@ pub(super) fn with_head(alloc: Global, line: &str) -> Result<String, AllocError>
 /// Calls `rgo` with the words of a line, and returns the status. It says nothing of the call, so that the tests are
 /// proved without what `rgo` says of it.
 pub(super) fn status_of<
-    R: Threads + Wait + AllocGlobal + Sync,
+    R: Threads + AllocGlobal + Sync,
     S: Source,
     K: Sink,
     E: Sink,
@@ -66,7 +65,7 @@ fn sink(alloc: Global, failing: u64) -> Result<MemSink, AllocError> {
 }
 
 /// Calls `rgo` with the words of a line, over sinks in memory of which these writes fail.
-pub(super) fn outcome_of<R: Threads + Wait + AllocGlobal + Sync, S: Source, G: Gate + Sync>(
+pub(super) fn outcome_of<R: Threads + AllocGlobal + Sync, S: Source, G: Gate + Sync>(
     rt: &R,
     line: &str,
     source: &mut S,
@@ -105,7 +104,7 @@ pub(super) fn is_wanted<R: Abort>(
 }
 
 /// Calls `rgo` with a text.
-pub(super) fn called<R: Threads + Wait + AllocGlobal + Sync, G: Gate + Sync>(
+pub(super) fn called<R: Threads + AllocGlobal + Sync, G: Gate + Sync>(
     rt: &R,
     words: &str,
     text: &[u8],
@@ -140,7 +139,7 @@ fn calls_of(words: &str) -> (&str, &'static [&'static str], &str) {
 
 /// Calls `rgo` with a text, and compares what is printed and reported, and the status. A run that names no number of
 /// workers is called with 1, 2 and 7, too.
-pub(super) fn expect<R: Threads + Wait + Abort + AllocGlobal + Sync>(
+pub(super) fn expect<R: Threads + Abort + AllocGlobal + Sync>(
     rt: &R,
     words: &str,
     text: &[u8],

@@ -15,7 +15,6 @@
 use super::calls::{Outside, expect};
 use std::alloc::AllocError;
 use std::process::Abort;
-use std::sync::Wait;
 use std::thread::Threads;
 
 /// Calls, and what is wanted of each.
@@ -61,7 +60,7 @@ fn not_a_row(row: &str) -> Row<'_> {
 }
 
 /// Calls `rgo` as a row says.
-fn is_called<R: Threads + Wait + Abort + AllocGlobal + Sync>(
+fn is_called<R: Threads + Abort + AllocGlobal + Sync>(
     rt: &R,
     before: &str,
     row: &str,
@@ -80,7 +79,7 @@ fn is_called<R: Threads + Wait + Abort + AllocGlobal + Sync>(
 
 /// Calls `rgo` as each row of a table says, with a text whose lines are between these others, and ends the test where it
 /// does something else.
-pub(super) fn are_called<R: Threads + Wait + Abort + AllocGlobal + Sync>(
+pub(super) fn are_called<R: Threads + Abort + AllocGlobal + Sync>(
     rt: &R,
     before: &str,
     table: &str,

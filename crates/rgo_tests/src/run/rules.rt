@@ -4,7 +4,6 @@ use super::calls::{HEAD, SOUND, expect};
 use super::{broken_texts, rule_texts};
 use std::alloc::{AllocError, Global};
 use std::process::Abort;
-use std::sync::Wait;
 use std::thread::Threads;
 
 /// What a check reports: nothing if all is `ok`.
@@ -16,7 +15,7 @@ fn report_of(alloc: Global, finding: &str) -> Result<String, AllocError> {
 }
 
 /// Checks the text of a row, in which a `~` stands for a newline, between two others. The finding is before the first `|`.
-fn is_checked<R: Threads + Wait + Abort + AllocGlobal + Sync>(
+fn is_checked<R: Threads + Abort + AllocGlobal + Sync>(
     rt: &R,
     before: &str,
     row: &str,
@@ -33,7 +32,7 @@ fn is_checked<R: Threads + Wait + Abort + AllocGlobal + Sync>(
 }
 
 /// Checks the text of each row of a table, and ends the test where something else is found.
-fn are_checked<R: Threads + Wait + Abort + AllocGlobal + Sync>(
+fn are_checked<R: Threads + Abort + AllocGlobal + Sync>(
     rt: &R,
     before: &str,
     table: &str,

@@ -6,7 +6,6 @@ use crate::slow_sinks::SlowSink;
 use rgo_outside::{NoFaultSink, NoGate, StdSink, StdSource};
 use std::alloc::AllocError;
 use std::process::Abort;
-use std::sync::Wait;
 use std::thread::Threads;
 
 const USAGE: &str =
@@ -42,7 +41,7 @@ static UNREAD: [(&str, Wanted<'static>); 22] = [
 ];
 
 /// Calls `rgo` over a source that it shall not read, and compares what is printed and reported, and the status.
-fn nothing_is_read<R: Threads + Wait + Abort + AllocGlobal + Sync>(
+fn nothing_is_read<R: Threads + Abort + AllocGlobal + Sync>(
     rt: &R,
     line: &str,
     wanted: Wanted<'_>,

@@ -8,7 +8,6 @@ use rgo_outside::{Gate, NoGate};
 use rgo_sched_tests::Meeting;
 use std::alloc::AllocError;
 use std::process::Abort;
-use std::sync::Wait;
 use std::thread::Threads;
 
 /// Both goroutines need several turns.
@@ -32,7 +31,7 @@ impl Gate for Holding {
 }
 
 /// Calls `rgo` with a text, and compares how many workers have arrived in round 2, of which none misses the other.
-fn have_arrived<R: Threads + Wait + Abort + AllocGlobal + Sync>(
+fn have_arrived<R: Threads + Abort + AllocGlobal + Sync>(
     rt: &R,
     calls: &str,
     text: &str,

@@ -7,4 +7,5 @@ abbrev pub invariant-loop : goal.invariant-loop
 invariant-loop g l = record {
   on : GoesOn l.fn.crew (g.K.Sink.contents l.fn.out) l.crew (g.K.Sink.contents l.out);
   run : l.crew.run ≡ l.fn.crew.run;
+  held : g.K.Sink.faults l.out ≡ g.K.Sink.faults l.fn.out;
 }

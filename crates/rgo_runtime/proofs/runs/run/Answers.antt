@@ -1,7 +1,8 @@
 use Rattle.std.proofs.Common.{ap, ◌∙◌}
 use Rattle.rgo_core.specs.Plans.{setup_of}
 use Rattle.rgo_table_runs.specs.Goroutine.Acts.Runs.{Run}
-use Rattle.rgo_runtime.proofs.Running.{code_runs}
+use Rattle.rgo_runtime.specs.Shares.{counts_in}
+use Rattle.rgo_runtime.proofs.Running.{code_runs, ends_in_time, fails_so}
 use Rattle.rgo_runtime.proofs.runs.run.Goals as goal
 
 -- the seat that comes back is that of the table
@@ -21,3 +22,13 @@ returns-clause-runs g c =
     c.in_ok-table.ensures.table.2 _ c.close.ensures.end c.finish.ensures.retired _ _ c.play-why.result c.in-Ok.crew c.play-why.ensures.ends
     c.in-Ok.ensures.begun.1 c.in-Ok.ensures.begun.2 c.in-Ok.ensures.begun.3 c.total-tally.result c.total-tally.ensures
     c.end_of_run.result c.end_of_run.ensures
+
+pub returns-clause-spent : goal.returns-clause-spent
+returns-clause-spent g c =
+    ends_in_time (counts_in c.total-tally.result) c.args.limits.steps c.play-why.result c.finish.result.is_whole c.finish.result.first
+    c.end_of_run.result c.end_of_run.ensures
+
+pub returns-clause-fault : goal.returns-clause-fault
+returns-clause-fault g c =
+    fails_so (counts_in c.total-tally.result) c.args.limits.steps c.play-why.result c.finish.result.is_whole c.finish.result.first
+    c.end_of_run.result _ _ _ c.end_of_run.ensures c.play-why.ensures.fault
