@@ -1,4 +1,5 @@
 -- of the crates below, for those above
+pub use Rattle.rgo_body.proofs as Body
 pub use Rattle.rgo_chan.proofs as Chan
 pub use Rattle.rgo_core_facts.proofs as Facts
 pub mod ActorExamples

@@ -1,4 +1,5 @@
 -- of the crates below, for those above
+pub use Rattle.rgo_body.specs as Body
 pub use Rattle.rgo_compact.specs as Compact
 pub use Rattle.rgo_core_facts.specs as Facts
 pub mod ActorExamples

@@ -13,3 +13,6 @@ pub mod objects;
 pub mod prints;
 pub mod runs;
 pub mod starts;
+
+// The crates below that those above name too.
+pub use rgo_body as body;

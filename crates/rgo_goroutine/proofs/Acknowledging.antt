@@ -4,12 +4,12 @@ use Rattle.std.proofs.lemmas.Option.{none-some}
 use Rattle.rgo_sound.specs.Code.Code.{Code}
 use Rattle.rgo_core.specs.Frames.WordFrames.{bare}
 use Rattle.rgo_sound.specs.RegionMachine.Owed.{current}
-use Rattle.rgo_body.specs.Bodies.{HasRoomBehind, frames_in}
-use Rattle.rgo_body.specs.Nexts.{HasNoNext, IsNextOf}
-use Rattle.rgo_body.specs.Steps.{Stays}
-use Rattle.rgo_body.specs.declared.bodies.Body.{Body}
-use Rattle.rgo_body.specs.declared.bodies.Side.TheVariants.{Offering}
-use Rattle.rgo_body.specs.declared.nexts.Next.{Next}
+use Rattle.rgo_acts.specs.Body.Bodies.{HasRoomBehind, frames_in}
+use Rattle.rgo_acts.specs.Body.Nexts.{HasNoNext, IsNextOf}
+use Rattle.rgo_acts.specs.Body.Steps.{Stays}
+use Rattle.rgo_acts.specs.Body.declared.bodies.Body.{Body}
+use Rattle.rgo_acts.specs.Body.declared.bodies.Side.TheVariants.{Offering}
+use Rattle.rgo_acts.specs.Body.declared.nexts.Next.{Next}
 use Rattle.rgo_acts.specs.Actors.{Stands}
 use Rattle.rgo_acts.specs.Runs.{Run}
 use Rattle.rgo_acts.specs.Talks.{CanAcknowledge, Talks}

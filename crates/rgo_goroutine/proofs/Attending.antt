@@ -1,11 +1,11 @@
 -- Duties attended to, one after another.
 use Rattle.std.proofs.Common.{◌≡◌, ◌<◌, ℕ, true, false, List, [], ◌∷◌, Option, Some, None, MatchOption, is_some, length, refl, ap, sym, subst, ◌∙◌, arith}
 use Rattle.rgo_sound.specs.RegionMachine.States.{Duty}
-use Rattle.rgo_body.specs.Queues.{duty_of}
-use Rattle.rgo_body.specs.declared.bodies.Body.{Body}
-use Rattle.rgo_body.specs.declared.bodies.Side.{Side}
-use Rattle.rgo_body.specs.declared.bodies.Side.TheVariants.{AtRest, Offering}
-use Rattle.rgo_body.specs.declared.queues.Duty.{Duty as DutyOf}
+use Rattle.rgo_acts.specs.Body.Queues.{duty_of}
+use Rattle.rgo_acts.specs.Body.declared.bodies.Body.{Body}
+use Rattle.rgo_acts.specs.Body.declared.bodies.Side.{Side}
+use Rattle.rgo_acts.specs.Body.declared.bodies.Side.TheVariants.{AtRest, Offering}
+use Rattle.rgo_acts.specs.Body.declared.queues.Duty.{Duty as DutyOf}
 use Rattle.rgo_acts.specs.Runs.{Run}
 use Rattle.rgo_goroutine.specs.Acting.{Acts, Goes}
 use Rattle.rgo_goroutine.specs.Instructions.{HasAttendedAll, HasAttendedOne}

@@ -6,10 +6,10 @@ use Rattle.rgo_sound.specs.Code.Code.{CodeInstr, CodeOp}
 use Rattle.rgo_sound.specs.Code.Lists.{removes_in, removes_of}
 use Rattle.rgo_sound.specs.Tac.Code as tac
 use Rattle.rgo_sound.specs.Tac.Ops.{operation_of}
-use Rattle.rgo_body.specs.Nexts.{removes_at}
-use Rattle.rgo_body.specs.Steps.{IsRoomier}
-use Rattle.rgo_body.specs.declared.bodies.Body.{Body}
-use Rattle.rgo_body.specs.declared.nexts.Next.{Next}
+use Rattle.rgo_acts.specs.Body.Nexts.{removes_at}
+use Rattle.rgo_acts.specs.Body.Steps.{IsRoomier}
+use Rattle.rgo_acts.specs.Body.declared.bodies.Body.{Body}
+use Rattle.rgo_acts.specs.Body.declared.nexts.Next.{Next}
 use Rattle.rgo_acts.specs.Actors as act
 use Rattle.rgo_acts.specs.Ready.{IsBefore}
 use Rattle.rgo_acts.specs.Runs.{Run}

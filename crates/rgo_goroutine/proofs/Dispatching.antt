@@ -1,10 +1,10 @@
 -- Before an instruction the goroutine comes near, and what it does can be counted; then it makes the instruction.
 use Rattle.std.proofs.Common.{◌≡◌, ◌-◌, ◌<◌, true, [], Option, Some, None, Ok, Err, Result, MatchResult, refl, ap, sym, subst, ◌∙◌, arith}
 use Rattle.std.specs.Result.{IsErr, IsOk}
-use Rattle.rgo_body.specs.Bodies.{HasRoomBehind, IsReady}
-use Rattle.rgo_body.specs.declared.bodies.Body.{Body}
-use Rattle.rgo_body.specs.declared.bodies.Side.TheVariants.{AtRest}
-use Rattle.rgo_body.specs.declared.nexts.Next.{Next}
+use Rattle.rgo_acts.specs.Body.Bodies.{HasRoomBehind, IsReady}
+use Rattle.rgo_acts.specs.Body.declared.bodies.Body.{Body}
+use Rattle.rgo_acts.specs.Body.declared.bodies.Side.TheVariants.{AtRest}
+use Rattle.rgo_acts.specs.Body.declared.nexts.Next.{Next}
 use Rattle.rgo_acts.specs.Actors as act
 use Rattle.rgo_acts.specs.Runs.{Run}
 use Rattle.rgo_acts.specs.declared.actors.Actor.{Actor}

@@ -1,9 +1,9 @@
 -- Simple instructions, and what is owed before the next one.
 use Rattle.std.proofs.Common.{◌≡◌, ◌+◌, ◌-◌, ◌<◌, ◌≤◌, ℕ, true, [], Some, None, refl, ap, ◌∙◌, arith}
-use Rattle.rgo_body.specs.Bodies.{frames_in}
-use Rattle.rgo_body.specs.Nexts.{HasNoNext}
-use Rattle.rgo_body.specs.declared.bodies.Body.{Body}
-use Rattle.rgo_body.specs.declared.bodies.Side.TheVariants.{AtRest}
+use Rattle.rgo_acts.specs.Body.Bodies.{frames_in}
+use Rattle.rgo_acts.specs.Body.Nexts.{HasNoNext}
+use Rattle.rgo_acts.specs.Body.declared.bodies.Body.{Body}
+use Rattle.rgo_acts.specs.Body.declared.bodies.Side.TheVariants.{AtRest}
 use Rattle.rgo_acts.specs.Actors as act
 use Rattle.rgo_acts.specs.Locals.{IsFree}
 use Rattle.rgo_acts.specs.Runs.{Run}

@@ -16,8 +16,8 @@ use Rattle.rgo_core_steps.specs.Ends.{mark_of}
 use Rattle.rgo_core_steps.specs.Grown.{Grew}
 use Rattle.rgo_core_steps.specs.Seats.{HasOne, HasPossible, Left, Settles, mine}
 use Rattle.rgo_core_steps.proofs.Growing.{told_accesses, told_found, told_grew, told_record, told_still}
-use Rattle.rgo_body.specs.Shows.{Shows}
-use Rattle.rgo_body.proofs.Showing.{like_shown}
+use Rattle.rgo_acts.specs.Body.Shows.{Shows}
+use Rattle.rgo_acts.proofs.Body.Showing.{like_shown}
 use Rattle.rgo_acts.specs.Actors.{Stands, now}
 use Rattle.rgo_acts.specs.Runs.{Run}
 use Rattle.rgo_acts.specs.declared.prints.Print.{Print}

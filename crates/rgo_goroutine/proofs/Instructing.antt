@@ -1,7 +1,7 @@
 -- What an instruction asks of the goroutine, and where its actor has come by it.
 use Rattle.std.proofs.Common.{◌+◌, ◌<◌, ℕ, [], Result, MatchResult, refl, ap, arith}
 use Rattle.rgo_sound.specs.Memory.declared.traps.Trap.{Trap}
-use Rattle.rgo_body.specs.declared.nexts.Next.{Next}
+use Rattle.rgo_acts.specs.Body.declared.nexts.Next.{Next}
 use Rattle.rgo_acts.specs.Actors as act
 use Rattle.rgo_acts.specs.Ready.{IsBefore}
 use Rattle.rgo_acts.specs.Runs.{Run}

@@ -8,9 +8,9 @@ use Rattle.rgo_core.specs.Opening.{first_of}
 use Rattle.rgo_core.specs.Records.{Record, accesses, looked}
 use Rattle.rgo_core_steps.specs.Seats.{HasPossible, Left, mine, settled}
 use Rattle.rgo_core_steps.proofs.Growing.{told_accesses, told_grew, told_record, told_still}
-use Rattle.rgo_body.specs.Shows.{Shows}
-use Rattle.rgo_body.specs.declared.bodies.Body.{Body}
-use Rattle.rgo_body.proofs.Showing.{like_shown}
+use Rattle.rgo_acts.specs.Body.Shows.{Shows}
+use Rattle.rgo_acts.specs.Body.declared.bodies.Body.{Body}
+use Rattle.rgo_acts.proofs.Body.Showing.{like_shown}
 use Rattle.rgo_acts.specs.Actors as act
 use Rattle.rgo_acts.specs.Actors.{Stands, now}
 use Rattle.rgo_acts.specs.Runs.{Run}

@@ -1,14 +1,14 @@
 -- A goroutine comes to its next instruction: its body alone changes, and nothing has moved by that.
 use Rattle.std.proofs.Common.{◌≡◌, ◌<◌, ◌∙◌, ℕ, Bool, true, false, [], Option, Some, None, Ok, Err, Result, ap, arith, refl, sym}
 use Rattle.std.specs.Result.{OnOk, is_ok}
-use Rattle.rgo_body.specs.Bodies.{HasRoomBehind, frames_in}
-use Rattle.rgo_body.specs.Nexts.{HasNoNext, IsNextOf}
-use Rattle.rgo_body.specs.Programs.{Program}
-use Rattle.rgo_body.specs.Steps.{IsRoomier}
-use Rattle.rgo_body.specs.declared.bodies.Body.{Body}
-use Rattle.rgo_body.specs.declared.bodies.Side.{Side}
-use Rattle.rgo_body.specs.declared.bodies.Side.TheVariants.{AtRest, Offering}
-use Rattle.rgo_body.specs.declared.nexts.Next.{Next}
+use Rattle.rgo_acts.specs.Body.Bodies.{HasRoomBehind, frames_in}
+use Rattle.rgo_acts.specs.Body.Nexts.{HasNoNext, IsNextOf}
+use Rattle.rgo_acts.specs.Body.Programs.{Program}
+use Rattle.rgo_acts.specs.Body.Steps.{IsRoomier}
+use Rattle.rgo_acts.specs.Body.declared.bodies.Body.{Body}
+use Rattle.rgo_acts.specs.Body.declared.bodies.Side.{Side}
+use Rattle.rgo_acts.specs.Body.declared.bodies.Side.TheVariants.{AtRest, Offering}
+use Rattle.rgo_acts.specs.Body.declared.nexts.Next.{Next}
 use Rattle.rgo_acts.specs.Actors as act
 use Rattle.rgo_acts.specs.Resting.{IsAtTalk}
 use Rattle.rgo_acts.specs.Runs.{Run}

@@ -14,10 +14,10 @@ use Rattle.rgo_core_steps.specs.Seats.{settled}
 use Rattle.rgo_core_steps.proofs.Growing.{grew_none}
 use Rattle.rgo_sound.specs.RegionMachine.Owed.{current, next_duties}
 use Rattle.rgo_sound.specs.RegionMachine.States.{Duty}
-use Rattle.rgo_body.specs.Bodies.{frames_in, owed}
-use Rattle.rgo_body.specs.Nexts.{HasNoNext}
-use Rattle.rgo_body.specs.Steps.{Stays}
-use Rattle.rgo_body.specs.declared.bodies.Body.{Body}
+use Rattle.rgo_acts.specs.Body.Bodies.{frames_in, owed}
+use Rattle.rgo_acts.specs.Body.Nexts.{HasNoNext}
+use Rattle.rgo_acts.specs.Body.Steps.{Stays}
+use Rattle.rgo_acts.specs.Body.declared.bodies.Body.{Body}
 use Rattle.rgo_acts.specs.Actors.{Stands, now}
 use Rattle.rgo_acts.specs.Runs.{Run}
 use Rattle.rgo_acts.specs.declared.actors.Actor.{Actor}

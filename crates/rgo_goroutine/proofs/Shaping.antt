@@ -12,12 +12,12 @@ use Rattle.rgo_sound.specs.Tac.Code as tac
 use Rattle.rgo_sound.specs.Tac.Code.{Op}
 use Rattle.rgo_sound.specs.Tac.Ops.{operation_of}
 use Rattle.rgo_sound.specs.Typed.declared.actions.Action.{Action}
-use Rattle.rgo_body.specs.Bodies.{frames_in}
-use Rattle.rgo_body.specs.Nexts.{IsNextOf}
-use Rattle.rgo_body.specs.Programs.{Program}
-use Rattle.rgo_body.specs.declared.bodies.Body.{Body}
-use Rattle.rgo_body.specs.declared.bodies.Side.TheVariants.{AtRest}
-use Rattle.rgo_body.specs.declared.nexts.Next.{Next}
+use Rattle.rgo_acts.specs.Body.Bodies.{frames_in}
+use Rattle.rgo_acts.specs.Body.Nexts.{IsNextOf}
+use Rattle.rgo_acts.specs.Body.Programs.{Program}
+use Rattle.rgo_acts.specs.Body.declared.bodies.Body.{Body}
+use Rattle.rgo_acts.specs.Body.declared.bodies.Side.TheVariants.{AtRest}
+use Rattle.rgo_acts.specs.Body.declared.nexts.Next.{Next}
 use Rattle.rgo_acts.specs.Actors.{Stands}
 use Rattle.rgo_acts.specs.Resting.{IsAtTalk, IsTalk}
 use Rattle.rgo_acts.specs.Runs.{Run}

@@ -9,9 +9,9 @@ use Rattle.rgo_core_steps.specs.Grown.{Grew}
 use mathlib.Core.Option.{some-ne-none}
 use Rattle.rgo_core_steps.proofs.Growing.{grew_none}
 use Rattle.rgo_sound.specs.RegionMachine.States.{Offer}
-use Rattle.rgo_body.specs.Shows.{SideShows}
-use Rattle.rgo_body.specs.declared.bodies.Side.{Side}
-use Rattle.rgo_body.specs.declared.bodies.Side.TheVariants as side
+use Rattle.rgo_acts.specs.Body.Shows.{SideShows}
+use Rattle.rgo_acts.specs.Body.declared.bodies.Side.{Side}
+use Rattle.rgo_acts.specs.Body.declared.bodies.Side.TheVariants as side
 use Rattle.rgo_acts.specs.Runs.{Run}
 use Rattle.rgo_acts.proofs.Standing.{now_accesses, now_at_once}
 use Rattle.rgo_goroutine.specs.Acting.{Acts, Goes, HasCaughtUp, IsOverFor, Moved, Proceeds, StopsBy, record_now}

@@ -3,9 +3,9 @@ use Rattle.std.specs.Prelude.{◌≡◌, ◌+◌, ◌<◌, ◌≤◌, ℕ, ⊤, 
 use Rattle.rgo_sound.specs.RegionMachine.States.{Duty}
 use Rattle.rgo_sound.specs.Typed.declared.actions.Action.{Action}
 use Rattle.rgo_sound.specs.Typed.declared.actions.Action.TheVariants as action
-use Rattle.rgo_body.specs.Bodies.{CanCount, HasRoomBehind, IsReady}
-use Rattle.rgo_body.specs.declared.bodies.Body.{Body}
-use Rattle.rgo_body.specs.declared.bodies.Side.TheVariants.{AtRest, Offering}
+use Rattle.rgo_acts.specs.Body.Bodies.{CanCount, HasRoomBehind, IsReady}
+use Rattle.rgo_acts.specs.Body.declared.bodies.Body.{Body}
+use Rattle.rgo_acts.specs.Body.declared.bodies.Side.TheVariants.{AtRest, Offering}
 use Rattle.rgo_core.specs.Channels.Standing.{IsOfChannel}
 use Rattle.rgo_core.specs.Rule.declared.accesses.Access.{Access}
 use Rattle.rgo_sound.specs.Memory.declared.traps.Trap.{Trap}
@@ -14,7 +14,7 @@ use Rattle.rgo_acts.specs.Actors as act
 use Rattle.rgo_acts.specs.Talks.{Talks}
 use Rattle.rgo_acts.specs.Traps.{IsAtTrap}
 use Rattle.rgo_acts.specs.declared.channels.Talked.{Talked}
-use Rattle.rgo_body.specs.declared.nexts.Next.{Next}
+use Rattle.rgo_acts.specs.Body.declared.nexts.Next.{Next}
 use Rattle.rgo_acts.specs.Runs.{Run}
 use Rattle.rgo_goroutine.specs.Acting.{Acts, Goes, Moved, Progresses, Rests, SameFirst}
 use Rattle.rgo_goroutine.specs.declared.turning.Stop.{Stop}

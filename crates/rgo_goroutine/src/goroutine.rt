@@ -13,9 +13,9 @@ ghost use Rattle.rgo_goroutine.specs.Passing.{Adopts, AreBorn, Gathers, Looks};
 ghost use Rattle.rgo_goroutine.specs.declared.goroutine.Goroutine as spec;
 
 use rgo_acts::actors::{Actor, Searches};
+use rgo_acts::body::{Body, Counts};
 use rgo_acts::prints::Print;
 use rgo_acts::runs::Run;
-use rgo_body::{Body, Counts};
 use rgo_core::records::Record;
 use rgo_core::rule::seats::part;
 use rgo_core::table::{ByRuns, Plan, RunSeat};

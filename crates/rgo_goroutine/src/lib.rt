@@ -11,4 +11,4 @@ pub mod turning;
 
 // The crates below that those above name too.
 pub use rgo_acts as acts;
-pub use rgo_body as body;
+pub use rgo_acts::body as body;

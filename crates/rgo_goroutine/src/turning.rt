@@ -1,10 +1,10 @@
 //! The turn of a goroutine.
 ghost use Rattle.std.specs.Prelude.{◌≡◌, ◌+◌, ◌-◌, ◌∷◌, ◌<◌, ◌≤◌, [], ℕ, List, OnOk, Some, None, false, true, ◌↔◌};
 ghost use Rattle.rgo_core.specs.Records.{steps_of};
-ghost use Rattle.rgo_body.specs.Bodies.{HasRoomBehind, frames_in};
-ghost use Rattle.rgo_body.specs.Nexts.{IsNextOf};
-ghost use Rattle.rgo_body.specs.Steps.{Stays};
-ghost use Rattle.rgo_body.specs.declared.bodies.Side.TheVariants as side;
+ghost use Rattle.rgo_acts.specs.Body.Bodies.{HasRoomBehind, frames_in};
+ghost use Rattle.rgo_acts.specs.Body.Nexts.{IsNextOf};
+ghost use Rattle.rgo_acts.specs.Body.Steps.{Stays};
+ghost use Rattle.rgo_acts.specs.Body.declared.bodies.Side.TheVariants as side;
 ghost use Rattle.rgo_sound.specs.Machine.declared.turns.Shortage.TheVariants as shortage;
 ghost use Rattle.rgo_sound.specs.RegionMachine.States.{Duty};
 ghost use Rattle.rgo_acts.specs.Actors.{Stands};
@@ -15,10 +15,10 @@ ghost use Rattle.rgo_goroutine.specs.Goroutines.{IsOf, record_of};
 ghost use Rattle.rgo_goroutine.specs.Turns.{HasTurned, IsTidy};
 
 use crate::goroutine::Goroutine;
+use rgo_acts::body::{Body, Next, Program, Side};
 use rgo_acts::duties::{self, Attended};
 use rgo_acts::runs::Run;
 use rgo_acts::{channels, locals};
-use rgo_body::{Body, Next, Program, Side};
 use rgo_core_steps::clock::{Mark, look};
 use rgo_core_steps::counting::Steps;
 use rgo_sound::machine::Shortage;

@@ -1,8 +1,8 @@
 use Rattle.std.proofs.Common.{◌≡◌, true, subst, sym, ◌∙◌}
-use Rattle.rgo_body.specs.Bodies.{HasRoomBehind, frames_in}
-use Rattle.rgo_body.specs.Nexts.{HasNoNext, IsNextOf}
-use Rattle.rgo_body.specs.Programs.{Program}
-use Rattle.rgo_body.specs.Steps.{Stays}
+use Rattle.rgo_acts.specs.Body.Bodies.{HasRoomBehind, frames_in}
+use Rattle.rgo_acts.specs.Body.Nexts.{HasNoNext, IsNextOf}
+use Rattle.rgo_acts.specs.Body.Programs.{Program}
+use Rattle.rgo_acts.specs.Body.Steps.{Stays}
 use Rattle.rgo_acts.proofs.AtChannels.{offers_owe_nothing}
 use Rattle.rgo_goroutine.proofs.Acknowledging.{asked, can_ask, has_next, no_room, room_then, was_ok}
 use Rattle.rgo_goroutine.proofs.goroutine.Goroutine.acknowledge.Goals as goal

@@ -1,5 +1,5 @@
 use Rattle.std.proofs.Common.{ap, arith, sym, ◌∙◌}
-use Rattle.rgo_body.specs.declared.bodies.Side.TheVariants.{AtRest}
+use Rattle.rgo_acts.specs.Body.declared.bodies.Side.TheVariants.{AtRest}
 use Rattle.rgo_acts.specs.declared.actors.Actor.{Actor}
 use Rattle.rgo_goroutine.proofs.Joining.{acts_then}
 use Rattle.rgo_goroutine.proofs.Resting.{put_goes, put_on, put_same, put_with}

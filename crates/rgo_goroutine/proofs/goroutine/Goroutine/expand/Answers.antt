@@ -1,7 +1,7 @@
 use Rattle.std.proofs.Common.{subst}
-use Rattle.rgo_body.specs.Bodies.{frames_in}
-use Rattle.rgo_body.specs.Nexts.{HasNoNext}
-use Rattle.rgo_body.specs.Programs.{Program}
+use Rattle.rgo_acts.specs.Body.Bodies.{frames_in}
+use Rattle.rgo_acts.specs.Body.Nexts.{HasNoNext}
+use Rattle.rgo_acts.specs.Body.Programs.{Program}
 use Rattle.rgo_goroutine.proofs.Executing.{told_on, told_over, told_stops}
 use Rattle.rgo_goroutine.proofs.goroutine.Goroutine.expand.Goals as goal
 

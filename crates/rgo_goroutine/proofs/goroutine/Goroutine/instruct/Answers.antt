@@ -1,9 +1,9 @@
 use Rattle.std.proofs.Common.{◌∙◌, ap, rules, subst}
 use Rattle.rgo_sound.specs.Tac.Ops.{numbers_of, operation_of}
-use Rattle.rgo_body.specs.Bodies.{HasRoomBehind, frames_in}
-use Rattle.rgo_body.specs.Nexts.{HasNoNext, IsNextOf}
-use Rattle.rgo_body.specs.Programs.{Program}
-use Rattle.rgo_body.specs.declared.bodies.Body.{Body}
+use Rattle.rgo_acts.specs.Body.Bodies.{HasRoomBehind, frames_in}
+use Rattle.rgo_acts.specs.Body.Nexts.{HasNoNext, IsNextOf}
+use Rattle.rgo_acts.specs.Body.Programs.{Program}
+use Rattle.rgo_acts.specs.Body.declared.bodies.Body.{Body}
 use Rattle.rgo_acts.specs.declared.actors.Actor.{Actor}
 use Rattle.rgo_goroutine.proofs.Reaching.{after_ok, and_then, has_ended, is_at, kept, lacks_memory}
 use Rattle.rgo_goroutine.proofs.Shaping.{rests_at, shaped}

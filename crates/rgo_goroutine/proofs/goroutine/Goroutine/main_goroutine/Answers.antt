@@ -4,9 +4,9 @@ use Rattle.rgo_core.specs.Memory.declared.layout.TableSizes.{TableSizes}
 use Rattle.rgo_core.specs.Rule.Views.{Me, rows_of, view}
 use Rattle.rgo_core.specs.Opening.{first_of}
 use Rattle.rgo_core.specs.Records.{Record}
-use Rattle.rgo_body.specs.Programs.{Program}
-use Rattle.rgo_body.specs.Shows.{Shows}
-use Rattle.rgo_body.specs.declared.bodies.Body.{Body}
+use Rattle.rgo_acts.specs.Body.Programs.{Program}
+use Rattle.rgo_acts.specs.Body.Shows.{Shows}
+use Rattle.rgo_acts.specs.Body.declared.bodies.Body.{Body}
 use Rattle.rgo_acts.specs.declared.actors.Actor.{Actor}
 use Rattle.rgo_goroutine.proofs.Handing.{main_of}
 use Rattle.rgo_goroutine.proofs.goroutine.Goroutine.main_goroutine.Goals as goal
