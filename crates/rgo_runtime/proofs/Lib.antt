@@ -10,12 +10,12 @@ pub mod Keeping
 pub mod Keeps
 pub mod Leaving
 pub mod Moving
+pub mod Narrowing
 pub mod PassExamples
 pub mod Passing
 pub mod Playing
 pub mod RunExamples
 pub mod Running
-pub mod Sizing
 pub mod Stock
 pub mod Summing
 pub mod Sweeps
