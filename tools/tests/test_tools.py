@@ -37,7 +37,7 @@ WRONG = {
     "subset": ["a.go b.go", "--all a.go"],
     "test-rgo": ["x"],
     "test-tools": ["--all"],
-    "test-turns": ["a b c", "--all"],
+    "test-workers": ["a b", "--all"],
     "wrong-bodies": ["--all", "--changed a b"],
 }
 # Words with a file, F, that is missing or a folder, and the status.
@@ -54,11 +54,11 @@ NO_FILE = {
     "rgor F": 66,
     "soak --rgo F": 127,
     "subset F": 66,
-    "test-turns F": 127,
+    "test-workers F": 127,
 }
 WRONG, NO_FILE = ({words: found for words, found in table.items() if words.split()[0] in TOOLS} for table in (WRONG, NO_FILE))
 # Words that need the program where none is built.
-NO_PROGRAM = ["compare-with-go", "examples", "listing a.go", "regions a.go", "rgor a.go", "rgor --check a.go", "soak", "test-turns"]
+NO_PROGRAM = ["compare-with-go", "examples", "listing a.go", "regions a.go", "rgor a.go", "rgor --check a.go", "soak", "test-workers"]
 # Words that print something without the program, and need nothing to be installed.
 PRINTING = ["code_producer.py texts/all.tac", "definitions", "count", "explain", "listing texts/all.code"]
 

@@ -15,6 +15,7 @@ pub mod Passing
 pub mod Playing
 pub mod RunExamples
 pub mod Running
+pub mod Sizing
 pub mod Stock
 pub mod Summing
 pub mod Sweeps

@@ -9,4 +9,5 @@ pub mod Passing
 pub mod Printing
 pub mod Runs
 pub mod Shares
+pub mod Sizing
 pub mod Turns

@@ -12,6 +12,7 @@ pub mod printing;
 pub mod retiring;
 pub mod runs;
 pub mod shares;
+pub mod sizing;
 pub mod turns;
 
 // The crates below that those above name too.

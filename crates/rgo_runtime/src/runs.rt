@@ -15,6 +15,7 @@ use crate::paces::Pace;
 use crate::passes::Passed;
 use crate::retiring::Left;
 use crate::shares::Tally;
+use crate::sizing::{smaller, unless_short};
 use rgo_core::memory::layout::TableSizes;
 use rgo_core::table::{close, open};
 use rgo_core_steps::clock::Mark;
@@ -258,12 +259,12 @@ pub fn has_table(sizes: &Sizes, variables: usize) -> bool
     sizes.pages > 0 && sizes.page_words <= 1_073_741_820 && cells + others <= 1 << 32
 }
 
-/// Runs code over a table of its own. The prints go out as they are made.
+/// Runs code over a table of these sizes.
 ///
 /// # Errors
 ///
 /// If there is no memory for the table, the program or `main`. Then nothing has gone out. Where memory is refused later, the run ends so.
-pub fn run<H: Threads + Sync, K: Sink, G: Gate + Sync>(
+fn run_in<H: Threads + Sync, K: Sink, G: Gate + Sync>(
     rt: &H,
     alloc: Global,
     code: &Checked,
@@ -312,6 +313,42 @@ pub fn run<H: Threads + Sync, K: Sink, G: Gate + Sync>(
     close(table, seat).free();
     Ok(Outcome {
         end: end_of_run(why, is_whole, first, &tally, limits.steps),
+        tally,
+    })
+}
+
+/// Runs code over a table of its own. The prints go out as they are made. The table of code that makes nothing has fewer pages and
+/// regions than the run may have.
+///
+/// # Errors
+///
+/// If there is no memory for the table, the program or `main`. Then nothing has gone out. Where memory is refused later, the run ends so.
+pub fn run<H: Threads + Sync, K: Sink, G: Gate + Sync>(
+    rt: &H,
+    alloc: Global,
+    code: &Checked,
+    sizes: Sizes,
+    limits: Limits,
+    workers: u32,
+    out: &mut K,
+    gate: &G,
+) -> Result<Outcome, AllocError>
+    requires workers { (1 ≤ workers) × (workers ≤ 64) }
+    requires pages { 0 < sizes.pages }
+    requires small { sizes.page_words ≤ 1073741820 }
+    requires fits { words_in_all (table_sizes code.now sizes) ≤ 2 ^ 32 }
+    requires goroutines { most_goroutines limits ≤ 1000000 }
+    ensures runs { IfOk result (λ o. CodeRuns code.now sizes limits o.end (counts_in o.tally) (K.contents out.old) (K.contents out.new)) }
+    ensures spent { IfOk result (λ o. o.end ≡ run_end.StepsSpent → o.tally.steps < limits.steps + 1000 * o.tally.goroutines) }
+    ensures fault { IfOk result (λ o. FailsIf (o.end ≡ run_end.WriteFault) (K.faults out.old) (K.faults out.new) (K.broken out.new)) }
+    ensures none { OnErr result (out.new ≡ out.old) }
+{
+    let Some(few) = smaller(code.code(), sizes) else {
+        return run_in(rt, alloc, code, sizes, limits, workers, out, gate);
+    };
+    let Outcome { end, tally } = run_in(rt, alloc, code, few, limits, workers, out, gate)?;
+    Ok(Outcome {
+        end: unless_short(end),
         tally,
     })
 }

@@ -3,7 +3,7 @@ use Rattle.rgo_core.specs.Plans.{setup_of}
 use Rattle.rgo_table_runs.specs.Goroutine.Acts.Runs.{Run}
 use Rattle.rgo_runtime.specs.Shares.{counts_in}
 use Rattle.rgo_runtime.proofs.Running.{code_runs, ends_in_time, fails_so}
-use Rattle.rgo_runtime.proofs.runs.run.Goals as goal
+use Rattle.rgo_runtime.proofs.runs.run_in.Goals as goal
 
 -- the seat that comes back is that of the table
 pub close-requires : goal.close-requires

@@ -1,0 +1,5 @@
+use Rattle.rgo_runtime.proofs.Sizing.{sizing_examples}
+use Rattle.rgo_runtime.proofs.sizing.examples.Goals as goal
+
+pub returns : goal.returns
+returns c = sizing_examples

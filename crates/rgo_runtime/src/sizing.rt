@@ -1,0 +1,113 @@
+//! How large the table of a run is. A table has all its words from its beginning, whether or not they are used. Code that makes no
+//! object, and so no channel, takes no page, and the run begins sooner without its pages.
+ghost use Rattle.std.specs.Prelude.{◌≡◌, ◌<◌, IfSome};
+ghost use Rattle.rgo_runtime.specs.Sizing.{IsNarrower, SizingExamples, unless_short};
+
+use rgo_driver::RunEnd;
+use rgo_sound::code::{Code, CodeFn};
+use rgo_sound::machine::Sizes;
+use rgo_sound::tac::Op;
+use rgo_sound::typed::Action;
+
+/// Whether an action makes an object.
+fn makes(action: Action) -> bool {
+    match action {
+        Action::New(_) | Action::Slice | Action::Chan => true,
+        Action::Int(_)
+        | Action::Bool(_)
+        | Action::Nil
+        | Action::Copy
+        | Action::Binary(_)
+        | Action::Neg
+        | Action::Not
+        | Action::IsNil
+        | Action::Len
+        | Action::Load(_)
+        | Action::Store(_)
+        | Action::At
+        | Action::Put
+        | Action::Recv
+        | Action::Send
+        | Action::Close
+        | Action::Get(_)
+        | Action::Set(_) => false,
+    }
+}
+
+/// Whether an instruction makes one.
+fn is_maker(op: Op<'_>) -> bool {
+    match op {
+        Op::Do { action, .. } => makes(action),
+        Op::Call { .. }
+        | Op::Go { .. }
+        | Op::Print { .. }
+        | Op::Jump(_)
+        | Op::Branch { .. }
+        | Op::Return(_) => false,
+    }
+}
+
+/// Whether some instruction of a function makes an object, or is preceded by the making of a region.
+fn has_maker(function: &CodeFn<'_>) -> bool {
+    for at in 0..function.tac().len() {
+        if !function.creates(at).is_empty() {
+            return true;
+        }
+        if let Some(op) = function.tac().op(at) {
+            if is_maker(op) {
+                return true;
+            }
+        }
+    }
+    false
+}
+
+/// Whether some function of the code has such an instruction.
+fn code_has_maker(code: &Code) -> bool {
+    for n in 0..code.len() {
+        if let Some(function) = code.function(n) {
+            if has_maker(&function) {
+                return true;
+            }
+        }
+    }
+    false
+}
+
+/// The sizes of a smaller table for code that makes nothing; `None` for any other code.
+pub(crate) fn smaller(code: &Code, sizes: Sizes) -> Option<Sizes>
+    requires { 0 < sizes.pages }
+    ensures narrower { IfSome result (λ few. IsNarrower few sizes) }
+    ensures one { IfSome result (λ few. few.pages ≡ 1) }
+{
+    if code_has_maker(code) {
+        return None;
+    }
+    Some(Sizes {
+        page_words: sizes.page_words,
+        pages: 1,
+        regions: sizes.regions.min(1),
+    })
+}
+
+/// How a run in a smaller table has ended. That it lacked room would say nothing of the larger one: it is then given as want of memory.
+/// Code that makes nothing does not end so.
+pub(crate) fn unless_short(end: RunEnd) -> RunEnd
+    ensures { result ≡ unless_short end }
+{
+    match end {
+        RunEnd::NoRoom(_) => RunEnd::NoMemory,
+        RunEnd::Ended(_)
+        | RunEnd::Deadlock
+        | RunEnd::CallsTooDeep
+        | RunEnd::StepsSpent
+        | RunEnd::GoroutinesSpent
+        | RunEnd::WriteFault
+        | RunEnd::NoMemory => end,
+    }
+}
+
+/// Sizes of which one is narrower, and ends in a smaller table.
+pub fn examples()
+    ensures { SizingExamples }
+{}
