@@ -1,6 +1,6 @@
 """Which region grew in a run that ended with status 4: what tools/rgor and tools/explain say after `pages spent`.
 
-The run is repeated by region_runs, which runs code texts as with one worker and notes where objects are made. It is
+The run is repeated by region_runs, which runs code texts on one thread and notes where objects are made. It is
 repeated with fewer pages if there were many, and ends after a few seconds: what grows has the most pages there, too.
 """
 
