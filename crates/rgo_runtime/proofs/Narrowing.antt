@@ -1,5 +1,5 @@
 -- A run in a smaller table is one that a larger table allows.
-use Rattle.std.proofs.Common.{◌≡◌, ◌≤◌, ◌<◌, ◌*◌, ℕ, suc, Bool, List, Option, refl, subst, arith}
+use Rattle.std.proofs.Common.{◌≡◌, ◌≤◌, ◌<◌, ◌*◌, ℕ, zero, suc, Bool, List, Option, refl, subst, arith}
 use Rattle.rgo_core.specs.Image.{table_sizes}
 use Rattle.rgo_core.specs.Memory.Words.{all_words}
 use Rattle.rgo_driver.specs.Runs.{RunsFreely}
@@ -20,6 +20,7 @@ use Rattle.rgo_runtime.specs.Sizing.{IsNarrower, SizingExamples, unless_short}
 
 -- the smaller table has fewer words
 times : (p w : ℕ) → 0 < p → w ≤ p * w
+times zero w some = absurd (omega (arith, some))
 times (suc p) w some = omega arith
 
 pub fits_still : (code : Code) (few sizes : Sizes) (most : ℕ) → few.pages ≡ 1 → IsNarrower few sizes

@@ -1,6 +1,6 @@
 -- What a driver knows while it plays, why it ends a run, and what must not pass for it.
 use mathlib.Core.Option.{some-ne-none}
-use Rattle.std.proofs.Common.{◌≡◌, ℕ, List, [], Option, None, Some, refl, sym, subst, ◌∙◌, append-nil, arith}
+use Rattle.std.proofs.Common.{◌≡◌, ℕ, true, false, List, [], Option, None, Some, refl, sym, subst, ◌∙◌, append-nil, arith}
 use Rattle.std.specs.Io.KnownBytes.{Appends}
 use Rattle.rgo_table_runs.specs.Goroutine.Acts.declared.prints.Print.{Print}
 use Rattle.rgo_table_runs.specs.Goroutine.Goroutines.{drawn_by}

@@ -13,6 +13,7 @@ returns-in-Still c = record {
   ends = is_stuck c.args.crew.now c.wake_all.new.self c.pass.new.self c.in-Ok-pass.passed c.wake_all.ensures.rest c.wake_all.ensures.kept
       c.pass.ensures.kept c.in-Ok-pass.ensures.passed c.requires.next c.in-Ok.ensures.woken c.requires.born;
   run = ap (λ x. x.run) c.in-Ok-pass.ensures.passed.rest ∙ ap (λ x. x.run) c.wake_all.ensures.rest;
+  other = λ is. cc;
 }
 
 pub returns-in-Err-pass-clause-ends : goal.returns-in-Err-pass-clause-ends
