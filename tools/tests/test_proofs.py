@@ -46,13 +46,13 @@ class Definitions(unittest.TestCase):
         found = {path.relative_to(tool.CRATES).as_posix(): names for path, names in tool.reached({}).items()}
         # The claim's own words, one of a file that code uses, too, and a case of a type.
         self.assertLessEqual({"Headline", "Suffices", "AlwaysHas"}, found["rgo_run/specs/Headline.antt"])
-        self.assertEqual({"tally_of"}, found["rgo_world/specs/Worlds.antt"])
+        self.assertEqual({"Ends", "AppendsSome", "Gives", "RunsFreely"}, found["rgo_driver/specs/Runs.antt"])
         room = {"pages_in_use", "live_regions", "FitsIn", "MakesTooLarge", "LacksIn"}
         self.assertEqual(room, found["rgo_region_machine/specs/Room.antt"])
         self.assertIn("Event", found["rgo_region_machine/specs/Machine.antt"])
         # What is named through an alias, and in the head of a module.
         self.assertIn("instructed_with", found["rgo_region_machine/specs/Instructions.antt"])
-        self.assertNotIn("rgo_world/specs/Tables.antt", found)
+        self.assertNotIn("rgo_driver/specs/Running.antt", found)
         self.assertTrue(all(any(path.startswith(f"{crate}/") for crates in tool.CHAPTERS.values() for crate in crates) for path in found))
 
 
