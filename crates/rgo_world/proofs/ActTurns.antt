@@ -79,9 +79,9 @@ module _ (w v : World) (s : RegionState) (limits : Limits) (g : ℕ) (turned : T
   holders_same : v.holders ≡ w.holders
   holders_same = ap (λ (x : World). x.holders) takes.same
 
-  pub v_is : v ≡ record w { state = v.state; table = v.table; holders = v.holders; steps = v.steps }
+  pub v_is : v ≡ record w { state = v.state; table = v.table; holders = v.holders }
   v_is = takes.same
-      ∙ (λ i. record w { state = v.state; table = sym table_same i; holders = sym holders_same i; steps = v.steps })
+      ∙ (λ i. record w { state = v.state; table = sym table_same i; holders = sym holders_same i })
 
   pub goes_one : goes_by turned.stop turned.steps ≡ true → turned.steps ≡ 1
   goes_one e = go (none_or_one w v s limits g turned ready.between takes)
@@ -386,7 +386,7 @@ module _ (w v : World) (s : RegionState) (limits : Limits) (g : ℕ) (next : Nex
       placed : Places v p g r making.words object
       placed = place r found
 
-      p_is : p ≡ record w { state = v.state; table = p.table; holders = p.holders; steps = v.steps }
+      p_is : p ≡ record w { state = v.state; table = p.table; holders = p.holders }
       p_is = placed.same ∙ ap (λ (z : World). record z { table = p.table; holders = p.holders }) takes.same
 
       object_is : object ≡ length s.owners

@@ -144,12 +144,12 @@ module _ (w v : World) (s : RegionState) (limits : Limits) (g : ℕ) {frame : Fr
     shows_state = state_after w v s limits g turned ready.between takes one next_state next_step refl refl more
         none_gone refl refl
 
-    -- a world with that state, that has counted the step
+    -- a world with that state
     module _ (u : World)
-        (u_is : u ≡ record w { state = v.state; table = u.table; holders = u.holders; steps = v.steps })
+        (u_is : u ≡ record w { state = v.state; table = u.table; holders = u.holders })
         (table : TableShows u.table s.regions s.global_pages (s.owners ++ more)) where
       abbrev now : World
-      now = record w { state = v.state; table = u.table; holders = u.holders; steps = v.steps }
+      now = record w { state = v.state; table = u.table; holders = u.holders }
 
       prepared_now : Prepared now
       prepared_now = record {
@@ -169,11 +169,7 @@ module _ (w v : World) (s : RegionState) (limits : Limits) (g : ℕ) {frame : Fr
         goes_on = shows_state.goes_on;
         table = table;
         holders = holders;
-        steps = takes.steps ∙ count s.steps w.steps turned.steps ready.works.shown.steps one;
       }
-        where
-          count : (m n k : ℕ) → n ≡ min m (2 ^ 64 - 1) → k ≡ 1 → min (n + k) (2 ^ 64 - 1) ≡ min (m + 1) (2 ^ 64 - 1)
-          count m n k q z = omega (arith, q, z)
 
       pub prepared_so : Prepared u
       prepared_so = subst Prepared (sym u_is) prepared_now

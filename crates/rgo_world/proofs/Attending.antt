@@ -143,7 +143,6 @@ module _ (w v : World) (s : RegionState) (g : ℕ) (d : Duty) (ds : List Duty) (
         goes_on = old.goes_on;
         table = table;
         holders = λ m. record { as_many = as_many; each = each; unmade = unmade };
-        steps = old.steps;
       }
     where
       old : HoldersShow w s
@@ -298,7 +297,6 @@ counted_works w v g c n there moved table memory holders s ds works =
               (filled c (Numbered r) ∙ old.unmade j c y (ap (slice_get w.holders.items) (sym (eq_of g j t)) ∙ there) f r l))
               (λ q. old.unmade j x y (code_other j x q e) f r l);
         };
-        steps = works.shown.steps;
       };
       running = works.running;
       holder = works.holder;

@@ -76,9 +76,9 @@ module _ (w : World) (c : Holder) (holders : w.holders.items ≡ c ∷ []) (begi
         together = λ l. absurd (omega (arith, d, l));
       }
 
-  starts_between : Prepared w → w.state ≡ tac_start (erased w.code.now) → TableShows w.table [] 0 [] → w.steps ≡ 0
+  starts_between : Prepared w → w.state ≡ tac_start (erased w.code.now) → TableShows w.table [] 0 []
       → Between w (region_start w.code.now)
-  starts_between prepared state table steps = record {
+  starts_between prepared state table = record {
     prepared = prepared;
     good = all_good_start w.code.now prepared.checked prepared.ascends;
     orderly = orderly_start w.code.now;
@@ -97,7 +97,6 @@ module _ (w : World) (c : Holder) (holders : w.holders.items ≡ c ∷ []) (begi
             (λ x h. (r : ℕ) → 0 ≤ r → fill_in x (Numbered r) ≡ fill_of h.fills (Numbered r))
             (λ r l. begins.fills (Numbered r));
       };
-      steps = steps;
     };
     running = refl;
     owes = λ g x h e f.
@@ -108,11 +107,11 @@ module _ (w : World) (c : Holder) (holders : w.holders.items ≡ c ∷ []) (begi
 -- the world after the start of a run of this code
 pub starts : (code : Code) (sizes : Sizes) (w : World) (c : Holder) → w.code.now ≡ code → w.sizes ≡ sizes
     → w.holders.items ≡ c ∷ [] → Begins c [] [] → Prepared w → w.state ≡ tac_start (erased w.code.now)
-    → TableShows w.table [] 0 [] → w.steps ≡ 0 → Starts code sizes w
-starts code sizes w c code_is sizes_are holders begins prepared state table steps = record {
+    → TableShows w.table [] 0 [] → Starts code sizes w
+starts code sizes w c code_is sizes_are holders begins prepared state table = record {
   code_is = code_is;
   sizes_are = sizes_are;
   print = ap (λ (s : TacState). s.printed) state;
   between = subst (λ k. Between w (region_start k)) code_is
-      (starts_between w c holders begins prepared state table steps);
+      (starts_between w c holders begins prepared state table);
 }

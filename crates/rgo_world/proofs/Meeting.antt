@@ -300,7 +300,6 @@ pub record MeetsBy (code : Code) (sizes : Sizes) (s : RegionState) (r u : ℕ) (
   pub owners : state.owners ≡ s.owners
   pub regions : state.regions ≡ s.regions
   pub global_pages : state.global_pages ≡ s.global_pages
-  pub steps : state.steps ≡ s.steps + 1
   pub as_many : length state.holders ≡ length s.holders
   pub receiver : slice_get state.holders r ≡ Some (gone_on (receive_goes x.receives x.v) h)
   pub sender : slice_get state.holders u ≡ Some (record (gone_on (send_goes x.sends) k) { offer = NoOffer })
@@ -511,7 +510,6 @@ module _ (code : Code) (sizes : Sizes) (s : RegionState) (r u : ℕ) (next : Tac
     owners = refl;
     regions = refl;
     global_pages = refl;
-    steps = refl;
     as_many =
         length_set t2.holders u given_back
         ∙ length_set (slice_set t1.holders r receiver_after) u taken
@@ -688,10 +686,10 @@ did_nothing did p q next e x = subst (λ d. Steps (Ok d) p q next) e x
 
 -- ---- a meeting of the world
 
--- The three-address machine has met over what the world keeps of the memory, which has counted the step.
+-- The three-address machine has met over what the world keeps of the memory.
 module _ (w v : World) (s : RegionState) (r u : ℕ) (between : Between w s)
     (stepped : tac_step (erased w.code.now) w.state (Meet r u) ≡ Some v.state)
-    (same : v ≡ record w { state = v.state; steps = v.steps }) (count : v.steps ≡ min (w.steps + 1) (2 ^ 64 - 1)) where
+    (same : v ≡ record w { state = v.state }) where
   shows : StateShows w.state s
   shows = state_shows w s between.shown
 
@@ -727,7 +725,7 @@ module _ (w v : World) (s : RegionState) (r u : ℕ) (between : Between w s)
   t = done.state
 
   abbrev now : World
-  now = record w { state = v.state; steps = v.steps }
+  now = record w { state = v.state }
 
   -- ---- the state after it
 
@@ -858,14 +856,7 @@ module _ (w v : World) (s : RegionState) (r u : ℕ) (between : Between w s)
     table = subst (λ (z : List RegionInfo × ℕ × List Region). TableShows w.table z.0 z.1 z.2)
         (λ i. (sym done.regions i, sym done.global_pages i, sym done.owners i)) between.shown.table;
     holders = λ m. holders_now;
-    steps =
-        count
-        ∙ counted s.steps w.steps between.shown.steps
-        ∙ ap (λ n. min n (2 ^ 64 - 1)) (sym done.steps);
   }
-    where
-      counted : (m n : ℕ) → n ≡ min m (2 ^ 64 - 1) → min (n + 1) (2 ^ 64 - 1) ≡ min (m + 1) (2 ^ 64 - 1)
-      counted m n q = omega (arith, q)
 
   prepared_now : Prepared now
   prepared_now = record {

@@ -186,7 +186,6 @@ module _ (w v : World) (s : RegionState) (g : ℕ) (ready : Ready w s g) (region
             (λ r l. fill_unmade kept.0 refilled.0 h region (Numbered r) 0 refilled.2
             (shows.unmade g kept.0 h kept.1 ready.works.is_holder r
             (let e = page_length s.regions region in omega (arith, e, l))));
-        steps = old.steps;
       }
 
   works_next : Works now next g []

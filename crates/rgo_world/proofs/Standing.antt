@@ -292,7 +292,6 @@ module _ (w : World) where
     goes_on = x.goes_on;
     table = x.table;
     holders = λ m. holders_cleared s (x.holders m);
-    steps = x.steps;
   }
 
   prepared_cleared : Prepared w → Prepared cleared

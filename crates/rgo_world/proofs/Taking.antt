@@ -160,16 +160,10 @@ module _ (w v : World) (s : RegionState) (limits : Limits) (g : ℕ) (turned : T
   -- ---- nothing was done
 
   unmoved : turned.steps ≡ 0 → v ≡ w
-  unmoved e = takes.same ∙ (λ i. record w { state = state i; steps = steps i })
+  unmoved e = takes.same ∙ (λ i. record w { state = state i })
     where
       state : v.state ≡ w.state
       state = sym (idle_is w.code.now takes.turns e)
-
-      count : (m n k : ℕ) → n ≡ min m (2 ^ 64 - 1) → k ≡ 0 → min (n + k) (2 ^ 64 - 1) ≡ n
-      count m n k q z = omega (arith, q, z)
-
-      steps : v.steps ≡ w.steps
-      steps = takes.steps ∙ count s.steps w.steps turned.steps between.shown.steps e
 
   pub takes_none : turned.steps ≡ 0 → TakesStep w v limits s g 1 turned
   takes_none e = subst (λ u. TakesStep w u limits s g 1 turned) (sym (unmoved e)) (record {

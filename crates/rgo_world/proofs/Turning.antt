@@ -69,7 +69,7 @@ module _ (w v : World) (s : RegionState) (limits : Limits) (g : ℕ) (next : Nex
       (fitting w v s limits g turned ready i none takes one did) tt v takes_is
       (table_now w v s limits g turned ready i none takes) running
     where
-      takes_is : v ≡ record w { state = v.state; table = v.table; holders = v.holders; steps = v.steps }
+      takes_is : v ≡ record w { state = v.state; table = v.table; holders = v.holders }
       takes_is = v_is w v s limits g turned ready takes
 
   pub regions_after : after_it.regions ≡ s.regions
@@ -101,9 +101,9 @@ module _ (w v : World) (s : RegionState) (limits : Limits) (g : ℕ) (next : Nex
 
   -- world p has other holders
   module _ (p : World) (p_is : p ≡ record v { holders = p.holders }) where
-    over_w : p ≡ record w { state = v.state; table = p.table; holders = p.holders; steps = v.steps }
+    over_w : p ≡ record w { state = v.state; table = p.table; holders = p.holders }
     over_w = p_is ∙ (λ j. record (takes.same j) { holders = p.holders })
-        ∙ (λ j. record w { state = v.state; table = table_kept j; holders = p.holders; steps = v.steps })
+        ∙ (λ j. record w { state = v.state; table = table_kept j; holders = p.holders })
       where
         table_kept : w.table ≡ p.table
         table_kept = sym (ap (λ (z : World). z.table) p_is ∙ ap (λ (z : World). z.table) takes.same)

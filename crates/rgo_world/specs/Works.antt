@@ -155,12 +155,10 @@ without_regions stop.TooDeep = stop.TooDeep
 without_regions stop.Full = stop.Full
 without_regions stop.NoMemory = stop.NoMemory
 
--- a goroutine has taken a turn of at most one step on the three-address machine; all but its state and the count of steps
--- is as it was
+-- a goroutine has taken a turn of at most one step on the three-address machine; all but its state is as it was
 pub record TakesTurn (w v : World) (limits : Limits) (g : ℕ) (turned : Turned) : Type 0 where
   pub turns : Turns (tac (erased w.code.now)) limits w.state v.state g 1 turned
-  pub steps : v.steps ≡ min (w.steps + turned.steps) (2 ^ 64 - 1)
-  pub same : v ≡ record w { state = v.state; steps = v.steps }
+  pub same : v ≡ record w { state = v.state }
   pub no_region : (why : Shortage) → turned.stop ≡ stop.NoRoom why → ⊥
 
 -- goroutine g has taken a step on the three-address machine, wherever the limits allow one; or nothing changed

@@ -11,7 +11,6 @@ use Rattle.rgo_code.specs.Code.{CodeInstr, CodeFn, Code}
 use Rattle.rgo_code.specs.Lists.{creates_in, removes_in, otherwise_in}
 use Rattle.rgo_code.specs.NameRules.{Ascends}
 use Rattle.rgo_code.specs.Names.{region_parameters}
-use Rattle.rgo_region_machine.specs.Counts.{Counts}
 use Rattle.rgo_region_machine.specs.Machine.{Event}
 use Rattle.rgo_region_machine.specs.declared.regions.Region.TheVariants.{Numbered}
 use Rattle.rgo_region_machine.specs.Objects.{fill_of}
@@ -20,7 +19,6 @@ use Rattle.rgo_region_machine.specs.Room.{roomy_run, LacksIn}
 use Rattle.rgo_region_machine.specs.States.{RegionState, frames_of, end_in, plain_at}
 use Rattle.rgo_region_machine.specs.States as spec
 use Rattle.rgo_world.specs.declared.holders.Holder.{Holder}
-use Rattle.rgo_world.specs.declared.tally.Tally.{Tally}
 use Rattle.rgo_world.specs.declared.worlds.World.{World}
 use Rattle.rgo_world.specs.Holders.{HolderShows, fill_in}
 use Rattle.rgo_world.specs.Tables.{TableShows, MemoryShows}
@@ -49,7 +47,6 @@ pub record Shown (w : World) (s : RegionState) : Type 0 where
   pub goes_on : s.plain.ended ≡ None
   pub table : TableShows w.table s.regions s.global_pages s.owners
   pub holders : s.mark ≡ None → HoldersShow w s
-  pub steps : w.steps ≡ min s.steps (2 ^ 64 - 1)
 
 -- ---- what is known of the code
 
@@ -118,17 +115,3 @@ pub record Stands (w : World) (given : List ℕ) (p : TacState) : Type 0 where
 
 abbrev pub Lacks : World → Shortage → (given : List ℕ) → TacState → Type 0
 Lacks w why given p = (at : Stands w given p) × LacksIn w.code.now w.sizes why at.reaches.state
-
--- ---- what it has made and done
-
--- the count of steps stays at the end of its type
-abbrev pub tally_of : Counts → Tally
-tally_of counts = record {
-  made = counts.made;
-  removed = counts.removed;
-  taken = counts.taken;
-  returned = counts.returned;
-  steps = min counts.steps (2 ^ 64 - 1);
-  objects = counts.objects;
-  goroutines = counts.goroutines;
-}

@@ -88,7 +88,6 @@ impl<'a> World<'a> {
     {
         let machine = self.machine();
         let turned = turn_once(alloc, &machine, &mut self.state, limits, g);
-        self.steps = self.steps.saturating_add(turned.steps);
         Turned {
             steps: turned.steps,
             stop: without_regions(turned.stop),
@@ -103,16 +102,12 @@ impl<'a> World<'a> {
         let Some(goroutine) = self.state.goroutines.get_mut(g) else {
             return false;
         };
-        if !call_or_return(
+        call_or_return(
             alloc,
             self.code.tac(),
             &mut self.state.memory,
             &mut goroutine.frames,
-        ) {
-            return false;
-        }
-        self.steps = self.steps.saturating_add(1);
-        true
+        )
     }
 
     /// A goroutine calls a function or returns, on the three-address machine.
@@ -141,11 +136,7 @@ impl<'a> World<'a> {
         let Some(frame) = goroutine.frames.last_mut() else {
             return false;
         };
-        if !make_object(alloc, self.code.tac(), frame, &mut self.state.memory) {
-            return false;
-        }
-        self.steps = self.steps.saturating_add(1);
-        true
+        make_object(alloc, self.code.tac(), frame, &mut self.state.memory)
     }
 
     /// A goroutine makes an object by its next instruction, on the three-address machine.

@@ -11,9 +11,7 @@ mod objects;
 mod running;
 mod starting;
 mod tables;
-mod tally;
 mod turns;
 mod worlds;
 
-pub use tally::Tally;
 pub use worlds::World;

@@ -36,7 +36,6 @@ impl<'a> World<'a> {
         )? {
             Stepped::NotEnabled => Ok(false),
             Stepped::Advanced | Stepped::Ended(_) => {
-                self.steps = self.steps.saturating_add(1);
                 let sent = sends.function.removes(sends.at);
                 let received = receives.function.removes(receives.at);
                 self.settle_both(sender, sent, receiver, received);

@@ -33,7 +33,6 @@ impl<'a> World<'a> {
             state: start(alloc, code.tac())?,
             table: Table::new(alloc),
             holders,
-            steps: 0,
         })
     }
 }

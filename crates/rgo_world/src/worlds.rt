@@ -29,8 +29,6 @@ pub struct World<'a> {
     pub(crate) table: Table,
     /// What each goroutine has of the regions.
     pub(crate) holders: Vec<Holder>,
-    /// How many instructions were done; two that meet are one.
-    pub(crate) steps: usize,
 }
 
 /// Why a step with a region was not done.

@@ -10,7 +10,7 @@ use Rattle.rgo_tac.specs.Steps.{act, stand}
 use Rattle.rgo_code.specs.Erasure.{erased}
 use Rattle.rgo_world.specs.declared.worlds.World.{World}
 use Rattle.rgo_world.specs.Works.{MayStep}
-use Rattle.rgo_world.proofs.AtOnce.{goes_once, world_same, world_then}
+use Rattle.rgo_world.proofs.AtOnce.{goes_once, may_step, world_same, world_then}
 use Rattle.rgo_world.proofs.worlds.World.make_at_once.Goals as goal
 
 pub returns-in_default : goal.returns-in_default
@@ -27,26 +27,6 @@ returns-in_default-last_mut c =
     let same = set_same c.args.self.now.state.goroutines c.args.g c.in-Some.goroutine.now read in
     world_same _ c.args.self.now c.args.g _ _ _ v (ap (λ (u : World). u.state.memory) v) b same
 
-pub returns-then-not-make_object : goal.returns-then-not-make_object
-returns-then-not-make_object c =
-    let v = c.self.view_is in
-    let b = c.goroutine.view_is in
-    let item = c.in-Some.ensures.item in
-    let read : slice_get c.args.self.now.state.goroutines c.args.g ≡ Some c.in-Some.goroutine.now =
-    subst (λ (w : World). slice_get w.state.goroutines c.args.g ≡ Some c.in-Some.goroutine.now) v
-    (slice_get_read _ _ c.args.g c.in-Some.goroutine.now refl item.3.0 item.1) in
-    let same = set_same c.args.self.now.state.goroutines c.args.g c.in-Some.goroutine.now read in
-    let last = c.in-Some-last_mut.ensures.item in
-    let frames = c.goroutine.inside.frames in
-    let kept = set_same frames.items (vec_len frames - 1) c.in-Some-last_mut.frame.now
-    (slice_get_read frames.items (length frames.items) (vec_len frames - 1) c.in-Some-last_mut.frame.now refl
-    (omega (arith, last.3.0, frames.ok.0)) last.1) in
-    let turned = ap reverse kept in
-    let memory = c.if-not-make_object.ensures.goes.0 in
-    let frame = c.if-not-make_object.ensures.goes.1 in
-    world_same _ c.args.self.now c.args.g _ _ _ v (memory ∙ ap (λ (u : World). u.state.memory) v)
-    (ap (λ f. reverse (slice_set frames.items (vec_len frames - 1) f)) frame ∙ turned ∙ b) same
-
 pub returns : goal.returns
 returns c =
     let w = c.args.self.now in
@@ -59,19 +39,33 @@ returns c =
     (slice_get_read _ _ g c.in-Some.goroutine.now refl item.3.0 item.1) in
     let last = c.in-Some-last_mut.ensures.item in
     let frames = c.goroutine.inside.frames in
+    let place = vec_len frames - 1 in
     let old = c.in-Some-last_mut.frame.now in
     let next = c.make_object.new.frame in
     let n = memory_of c.make_object.new.memory in
     let callers = drop 1 (reverse frames.items) in
-    let top = newest frames.items old (vec_len frames - 1) (omega (arith, last.3.0, frames.ok.0)) last.1 in
-    let again = renewed frames.items next (vec_len frames - 1) (omega (arith, last.3.0, frames.ok.0)) in
+    let top = newest frames.items old place (omega (arith, last.3.0, frames.ok.0)) last.1 in
+    let again = renewed frames.items next place (omega (arith, last.3.0, frames.ok.0)) in
+    let kept = set_same frames.items place old
+    (slice_get_read frames.items (length frames.items) place old refl (omega (arith, last.3.0, frames.ok.0)) last.1) in
     let at : slice_get w.state.goroutines g ≡ Some (old ∷ callers) = read ∙ ap Some (sym b ∙ top) in
     let m = ap (λ (u : World). u.state.memory) v in
     let code = c.tac.ensures ∙ ap (λ (u : World). erased u.code.now) v in
-    let sum = c.saturating_add-self-inside.ensures in
-    subst (λ u. MayStep w u g true) (world_then _ w g n _ _ (next ∷ callers) 1 _ v refl again sum)
+    let did : GoesOn c.make_object.result (stand (erased w.code.now) old) (act (erased w.code.now) w.state.memory old)
+    w.state.memory n old next =
+    subst (λ x. GoesOn c.make_object.result (stand x old) (act x w.state.memory old) w.state.memory n old next) code
+    (subst (λ k. GoesOn c.make_object.result (stand c.tac.result.now old) (act c.tac.result.now k old) k n old next) m
+    c.make_object.ensures.goes) in
+    may_step w _ g c.make_object.result
+    (λ is. subst (λ u. MayStep w u g true) (world_then _ w g n _ _ (next ∷ callers) v refl again)
     (goes_once w g n old next callers at
-    (subst (λ code. GoesOn true (stand code old) (act code w.state.memory old) w.state.memory n old next) code
-    (subst (λ k. GoesOn true (stand c.tac.result.now old) (act c.tac.result.now k old) k n old next) m
-    c.if-not-make_object.ensures.goes))
-    (subst (λ k. SameChannels k n) m c.if-not-make_object.ensures.channels))
+    (subst (λ x. GoesOn x (stand (erased w.code.now) old) (act (erased w.code.now) w.state.memory old) w.state.memory n
+    old next) is did)
+    (subst (λ k. SameChannels k n) m c.make_object.ensures.channels)))
+    (λ is.
+    let same : (n ≡ w.state.memory) × (next ≡ old) =
+    subst (λ x. GoesOn x (stand (erased w.code.now) old) (act (erased w.code.now) w.state.memory old) w.state.memory n
+    old next) is did in
+    world_same _ w g _ _ _ v same.0
+    (ap (λ f. reverse (slice_set frames.items place f)) same.1 ∙ ap reverse kept ∙ b)
+    (set_same w.state.goroutines g c.in-Some.goroutine.now read))

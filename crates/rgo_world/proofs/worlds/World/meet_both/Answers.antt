@@ -41,10 +41,9 @@ returns-in-Advanced c =
     let x = did_step c.in_ok-step.field-0 w.state c.step.new.state
     (tac_step c.machine-machine.result.code.now w.state pick) c.in-Advanced.is c.in_ok-step.ensures in
     record {
-      meets = λ s between. meets w (record w { state = c.step.new.state; steps = c.saturating_add-self.result }) s
+      meets = λ s between. meets w (record w { state = c.step.new.state }) s
           c.args.receiver c.args.sender between
-          (ap (λ code. tac_step code w.state pick) (sym c.machine-machine.ensures) ∙ x) refl
-          c.saturating_add-self.ensures c.in-Some.receives c.in-Some-next.sends c.in-Some.ensures c.in-Some-next.ensures
+          (ap (λ code. tac_step code w.state pick) (sym c.machine-machine.ensures) ∙ x) refl c.in-Some.receives c.in-Some-next.sends c.in-Some.ensures c.in-Some-next.ensures
           c.removes-received.result.now c.removes-sent.result.now c.removes-received.ensures c.removes-sent.ensures
           c.settle_both.new.self c.settle_both.ensures.settled;
     }

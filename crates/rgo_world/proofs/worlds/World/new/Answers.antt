@@ -18,5 +18,5 @@ returns c =
             marks = c.in_ok-marks.ensures;
             formals = c.in_ok-formals.ensures;
           })
-          (c.in_ok-start.ensures ∙ ap tac_start c.tac.ensures) c.new-4.ensures refl;
+          (c.in_ok-start.ensures ∙ ap tac_start c.tac.ensures) c.new-4.ensures;
     }

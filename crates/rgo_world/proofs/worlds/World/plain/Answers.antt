@@ -10,13 +10,12 @@ returns c =
     let w = c.args.self.now in
     let turned = c.turn_once-turned.result in
     let state = c.turn_once-turned.new.state in
-    subst (λ s. TakesTurn w (record w { state = state; steps = c.saturating_add-self.result }) c.args.limits c.args.g
+    subst (λ s. TakesTurn w (record w { state = state }) c.args.limits c.args.g
     (record { steps = turned.steps; stop = s })) (sym c.without_regions.ensures)
     (record {
       turns = turns_without_regions w.code.now c.args.limits w.state state c.args.g 1 turned
           (subst (λ code. Turns (tac code) c.args.limits w.state state c.args.g 1 turned) c.machine-machine.ensures
           c.turn_once-turned.ensures);
-      steps = c.saturating_add-self.ensures;
       same = refl;
       no_region = never_no_room turned.stop;
     })
