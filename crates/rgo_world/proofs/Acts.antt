@@ -1,6 +1,6 @@
 -- An instruction of one goroutine with its regions: the state to which the region machine's step leads, and what the
 -- world shows of it.
-use Rattle.std.proofs.Common.{◌≡◌, ℕ, ◌+◌, ◌-◌, ◌≤◌, ◌^◌, min, false, List, [], ◌∷◌, ◌++◌, map}
+use Rattle.std.proofs.Common.{◌≡◌, ℕ, ◌≤◌, false, List, [], ◌∷◌, ◌++◌, map}
 use Rattle.std.proofs.Common.{length, Option, Some, None, refl, sym, ap, ◌∙◌, subst, nat_eq, arith}
 use Rattle.std.proofs.Common.{slice_get, slice_set, option_map}
 use Rattle.std.proofs.lemmas.List.{append-nil}
