@@ -1,7 +1,6 @@
-use Rattle.std.proofs.Common.{ap, subst, sym, ◌∙◌}
+use Rattle.std.proofs.Common.{subst, sym}
 use Rattle.rgo_table_runs.specs.claims.RegionRuns.{CodeRuns}
 use Rattle.rgo_runtime.specs.Shares.{counts_in}
-use Rattle.rgo_runtime.specs.Sizing.{unless_short}
 use Rattle.rgo_runtime.proofs.Narrowing.{in_wider}
 use Rattle.rgo_runtime.proofs.runs.run.Goals as goal
 
@@ -11,6 +10,6 @@ returns-clause-runs g c =
     let old = g.K.Sink.contents c.args.out.now in
     let new = g.K.Sink.contents c.run_in-2.new.out in
     subst (λ end. CodeRuns c.args.code.now c.args.sizes c.args.limits end (counts_in outcome.tally) old new)
-    (sym (c.unless_short.ensures ∙ ap unless_short c.in_ok-end.end-is))
+    (sym c.unless_short.ensures)
     (in_wider c.args.code.now c.in-Some.few c.args.sizes c.args.limits (counts_in outcome.tally) old new outcome.end
     c.in-Some.ensures.narrower c.in_ok-end.ensures.runs)
