@@ -111,13 +111,13 @@ for i := 0; i < 100; i++ { s += <-c }; fmt.Println(s) }
 !
 rgo: regions 1 removed 1 pages 1 returned 1 objects 1 goroutines 2
 
-> rgo run --workers 1 --stats // A goroutine is given one region at two positions.
+> rgo run --workers 1 --stats // A goroutine is given one region at two positions. It has not come to its end when `main` returns.
 func f(a, b *N, d chan int) { s := a.v; d <- s + b.v }
 func main() { x := &N{21, nil}; d := make(chan int); go f(x, x, d); fmt.Println(<-d) }
 < 0
 42
 !
-rgo: regions 2 removed 2 pages 2 returned 2 objects 2 goroutines 2
+rgo: regions 2 removed 0 pages 2 returned 0 objects 2 goroutines 2
 
 > rgo run --stats // An object that fits a page, and one that has a word more.
 func main() { s := make([]int, 255); fmt.Println(len(s)) }
@@ -235,5 +235,5 @@ func main() { d := make(chan int); l := list(4); go child(l, d); <-d }
 < 0
 6
 !
-rgo: regions 2 removed 2 pages 2 returned 2 objects 5 goroutines 2
+rgo: regions 2 removed 1 pages 2 returned 1 objects 5 goroutines 2
 ";
