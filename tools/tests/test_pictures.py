@@ -146,7 +146,7 @@ class Case(unittest.TestCase):
         return subprocess.run([self.program, *words], input=text, capture_output=True, timeout=300, check=False)
 
     def check_runs(self, text, *all_limits):
-        """Runs a program with limits, and compares print, counts and end. A text that is rejected is no program."""
+        """Runs a program with limits, and compares print, end and counts. A text that is rejected is no program."""
         emitted = self.rgo(text, "emit")
         if emitted.returncode == 1:
             return
@@ -154,12 +154,17 @@ class Case(unittest.TestCase):
         for limits in all_limits:
             with self.subTest(**limits):
                 words = [word for name, n in limits.items() for word in (f"--{name.replace('_', '-')}", str(n))]
-                wanted = self.rgo(text, "run", "--stats", "--workers", "1", *words)
                 lines = []
                 ran = region_runs.run(code, region_runs.Limits(**limits), lines.append)
-                report = f"rgo: {ran.counts()}\n" + (f"rgo: {said(ran.end, source)}\n" if ran.end.status else "")
-                found = ran.end.status, b"".join(lines), report.encode()
-                self.assertEqual((wanted.returncode, wanted.stdout, wanted.stderr), found)
+                line = f"rgo: {said(ran.end, source)}\n" if ran.end.status else ""
+                # Its rounds are those of `record`, which counts nothing. What `run` counts depends on its own rounds,
+                # but where main is alone, and is not stopped between two of them.
+                wanted = self.rgo(text, "record", *words)
+                self.assertEqual((wanted.returncode, wanted.stdout), (ran.end.status, b"".join(lines)))
+                self.assertTrue(wanted.stderr.decode().endswith(line))
+                if ran.goroutines == 1 and ran.end != region_runs.STEPS_SPENT:
+                    wanted = self.rgo(text, "run", "--stats", "--workers", "1", *words)
+                    self.assertEqual((wanted.returncode, wanted.stderr.decode()), (ran.end.status, f"rgo: {ran.counts()}\n{line}"))
                 self.statuses.add(ran.end.status)
                 self.check_removed(ran)
 
