@@ -1,5 +1,5 @@
 -- What endings and statuses exclude.
-use Rattle.std.proofs.Common.{◌≡◌, ◌⊎◌, inl, inr, Bool, true, false, ◌||◌, ℕ, List, [], Option, Some, Result, Ok, Err, IfOk, MatchResult, refl, sym, ap, ◌∙◌, subst, true≢false}
+use Rattle.std.proofs.Common.{◌≡◌, ◌⊎◌, inl, inr, Bool, true, false, ◌||◌, ℕ, List, Option, Some, Result, Ok, Err, IfOk, MatchResult, refl, sym, ap, ◌∙◌, subst, true≢false}
 use Rattle.std.specs.Prelude.{◌==◌}
 use Rattle.std.specs.declared.alloc.AllocError.{AllocError}
 use Rattle.rgo_machine.specs.declared.picks.End.TheVariants as the_end
@@ -12,7 +12,7 @@ use Rattle.rgo_run.specs.declared.endings.Ending.{Ending}
 use Rattle.rgo_run.specs.declared.endings.Ending.TheVariants.{Valid, Ran, Usage, ReadFault, TooLong, CodeTooLong}
 use Rattle.rgo_run.specs.declared.endings.Ending.TheVariants.{Lexical, Syntax, Nesting, Typing, NoForm, Breaks, WriteFault, NoMemory}
 use Rattle.rgo_run.specs.Calls.{SinkUse}
-use Rattle.rgo_run.specs.Endings.{line_of, line_of_run, stats_lines, status_of, status_of_run, is_run_status}
+use Rattle.rgo_run.specs.Endings.{line_of_run, stats_lines, status_of, status_of_run, is_run_status}
 use Rattle.rgo_run.specs.Reports.{Reports, Tells, Writes, in_short}
 use Rattle.rgo_runtime.specs.declared.shares.Tally.{Tally}
 use Rattle.rgo_run.specs.Headline.{EndsEmit, EndsRun, IsWriteFault}
@@ -210,11 +210,11 @@ short_is NoMemory = inl refl
 
 -- that memory ran out, of an ending that is no failed write
 pub short_without_fault : (e : Ending) → (status_of e ≡ 10 → ⊥) → in_short e ≡ NoMemory
-short_without_fault e no = by (short_is e)
+short_without_fault e other = by (short_is e)
   where
     by : (in_short e ≡ NoMemory) ⊎ ((status_of e ≡ 10) × (status_of (in_short e) ≡ 10)) → in_short e ≡ NoMemory
     by (inl is) = is
-    by (inr fault) = absurd (no fault.0)
+    by (inr fault) = absurd (other fault.0)
 
 pub short_of_refusal : (e : Ending) → status_of e ≡ 1 → in_short e ≡ NoMemory
 short_of_refusal e one = short_without_fault e (λ ten. let wrong = sym one ∙ ten in cc)

@@ -1,6 +1,6 @@
 -- The claims of the whole, from what its parts leave: the text that was read and checked or run, and the report of the
 -- ending.
-use Rattle.std.proofs.Common.{◌≡◌, Bool, true, false, ℕ, ◌⊎◌, inl, inr, List, [], Option, None, Some, IfSome, option_and_then, refl, sym, ap, ◌∙◌, subst}
+use Rattle.std.proofs.Common.{◌≡◌, Bool, true, false, ℕ, ◌⊎◌, inl, inr, List, [], Option, None, Some, IfSome, option_and_then, refl, sym, ap, subst}
 use Rattle.std.specs.Io.KnownBytes.{Appends}
 use Rattle.rgo_machine.specs.declared.limits.Limits.{Limits}
 use Rattle.rgo_tac.specs.Tac.{TacState}
@@ -89,7 +89,7 @@ no_line_source (of_program program) limits end t s = record {
 no_line_source (of_code code) limits end t s = s
 
 -- where memory was refused, or a write failed, nothing may be said of a run
-nothing_said : (asked : Bool) (made : Counts) → IsSaid asked run_end.NoMemory made None × IsSaid asked run_end.WriteFault made None
+pub nothing_said : (asked : Bool) (made : Counts) → IsSaid asked run_end.NoMemory made None × IsSaid asked run_end.WriteFault made None
 nothing_said true made = (tt, tt)
 nothing_said false made = (tt, tt)
 

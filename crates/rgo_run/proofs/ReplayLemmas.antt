@@ -85,9 +85,9 @@ number_reported bytes_of text e (Err x) status answer err number same is writes 
 -- what another command would report, of an ending that is no failed write
 pub other_reported : (text : List ℕ) (e : Ending) (answer : ℕ) (err : SinkUse) → (status_of e ≡ 10 → ⊥) → Reports text e answer err
     → ReportsReplay text (Other e) answer err
-other_reported text e answer err no (inl t) = inl t
-other_reported text e answer err no (inr t) =
-    inr (t.0, subst (λ x. Tells text x answer err) (short_without_fault e no) t.1)
+other_reported text e answer err other (inl t) = inl t
+other_reported text e answer err other (inr t) =
+    inr (t.0, subst (λ x. Tells text x answer err) (short_without_fault e other) t.1)
 
 -- nothing that is reported of bytes that were not replayed is a failed write
 pub not_written : (bytes text : List ℕ) (ending : ReplayEnding) (out : SinkUse) → EndsOn bytes text ending out → (e : Ending)

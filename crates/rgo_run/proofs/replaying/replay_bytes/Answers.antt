@@ -1,4 +1,4 @@
-use Rattle.std.proofs.Common.{◌-◌, [], take, drop, length, inl, inr, refl, sym}
+use Rattle.std.proofs.Common.{◌-◌, [], take, drop, length, refl}
 use Rattle.std.proofs.KnownBytes.{Appends-nil}
 use Rattle.rgo_run.specs.Calls.{sink_use}
 use Rattle.rgo_run.proofs.ReplayLemmas.{error_ends, error_not_written, not_read, not_usage, not_written, split_at, write_failed}
@@ -9,8 +9,8 @@ report_replay-requires-clause-written g c =
     not_written c.args.bytes.now _ c.replay_text-ending.result _ (c.replay_text-ending.ensures c.args.bytes.now
     (rw c.items.ensures (split_at c.args.bytes.now c.in-Ok.picks.list c.in-Ok.picks.rest c.in-Ok.ensures)))
 
-pub report_replay-in-Err-requires-clause-written : goal.report_replay-in-Err-requires-clause-written
-report_replay-in-Err-requires-clause-written g c = rw c.from.ensures (error_not_written c.in-Err.error)
+pub report_replay-requires-in-Err-clause-written : goal.report_replay-requires-in-Err-clause-written
+report_replay-requires-in-Err-clause-written g c = rw c.from.ensures (error_not_written c.in-Err.error)
 
 pub returns-in-Ok-clause-replays : goal.returns-in-Ok-clause-replays
 returns-in-Ok-clause-replays g c = record {

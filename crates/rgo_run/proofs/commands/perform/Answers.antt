@@ -1,0 +1,14 @@
+use Rattle.std.proofs.Common.{subst}
+use Rattle.rgo_run.specs.Calls.{sink_use}
+use Rattle.rgo_run.specs.Texts.{RunsOrFails}
+use Rattle.rgo_run.specs.declared.endings.TextKind.TheVariants as text_kind
+use Rattle.rgo_run.proofs.commands.perform.Goals as goal
+
+-- it runs as `run` does without options
+pub returns-in-Big-clause-performs : goal.returns-in-Big-clause-performs
+returns-in-Big-clause-performs g c =
+    let new = c.run_text-in-Big.new.out in
+    let out = sink_use (g.K.Sink.contents c.args.out.now) (g.K.Sink.contents new) (g.K.Sink.faults c.args.out.now)
+    (g.K.Sink.faults new) (g.K.Sink.broken new) in
+    rw c.in-Big.is (subst (λ options. RunsOrFails text_kind.Go options c.args.text.now c.run_text-in-Big.result out)
+    c.default.ensures c.run_text-in-Big.ensures.performs)
