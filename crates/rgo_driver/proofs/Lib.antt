@@ -1,5 +1,3 @@
-pub mod AnyOrder
-pub mod Attending
 pub mod Composed
 pub mod Found
 pub mod Given

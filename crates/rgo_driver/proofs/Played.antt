@@ -34,7 +34,7 @@ use Rattle.rgo_driver.proofs.Printing.{no_step}
 
 -- ---- what goes out
 
-pub gives_whole : (end : RunEnd) (bytes : List ℕ) (old new : Option (List ℕ)) → Appends old new bytes
+gives_whole : (end : RunEnd) (bytes : List ℕ) (old new : Option (List ℕ)) → Appends old new bytes
     → Gives end bytes old new
 gives_whole (run_end.Ended e) bytes old new h = h
 gives_whole run_end.Deadlock bytes old new h = h
@@ -123,7 +123,7 @@ module _ {F : Type 0} (machine : Machine F) (limits : Limits) where
   printed_before s before silent = ap (λ l. with_print s (before ++ l)) silent
       ∙ ap (λ l. with_print s l) (append-nil before)
 
-  pub leads_after : (s t : State F) (picks : List Pick) (before : List ℕ) → s.printed ≡ []
+  leads_after : (s t : State F) (picks : List Pick) (before : List ℕ) → s.printed ≡ []
       → LeadsWithin machine limits s picks t
       → LeadsWithin machine limits (with_print s before) picks (with_print t (before ++ t.printed))
   leads_after s t picks before silent leads =
@@ -147,7 +147,7 @@ module _ {F : Type 0} (machine : Machine F) (limits : Limits) where
     plays = λ none. no_step machine s before (One g) (h.plays none);
   }
 
-  pub ends_after : (b n : ℕ) (s : State F) (print : List ℕ) (end : RunEnd) → Ends machine limits b n s end
+  ends_after : (b n : ℕ) (s : State F) (print : List ℕ) (end : RunEnd) → Ends machine limits b n s end
       → Ends machine limits b n (with_print s print) end
   ends_after b n s print (run_end.Ended e) h = h
   ends_after b n s print run_end.Deadlock h = (h.0, λ pick. no_step machine s print pick (h.1 pick))
@@ -272,7 +272,7 @@ module _ {F : Type 0} (machine : Machine F) (limits : Limits) where
     gave = given;
   }
 
-  pub ready_after : (t : State F) (u : State F) → GoesOn limits t → u ≡ with_print t [] → IsReady limits u
+  ready_after : (t : State F) (u : State F) → GoesOn limits t → u ≡ with_print t [] → IsReady limits u
   ready_after t u on is = subst (IsReady limits) (sym is) (record {
     on = record { running = on.running; within = on.within };
     silent = refl;

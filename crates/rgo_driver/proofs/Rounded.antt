@@ -179,7 +179,7 @@ module _ {F : Type 0} (machine : Machine F) (limits : Limits) where
         by_cases still same rest k (inl e) = subst (λ k. step_by machine s (One k) ≡ None) e still
         by_cases still same rest k (inr c) = ap (λ v. step_by machine v (One k)) same ∙ rest k c
 
-  pub none_counted : (m n : ℕ) (picks : List Pick) → m < 2 ^ 64 - 1 → n ≤ m → Counts m picks n → picks ≡ []
+  none_counted : (m n : ℕ) (picks : List Pick) → m < 2 ^ 64 - 1 → n ≤ m → Counts m picks n → picks ≡ []
   none_counted m n picks lt le counted =
       let sum = counted m (omega (arith, lt)) in
       nil_from_length picks (omega (arith, sum, lt, le))

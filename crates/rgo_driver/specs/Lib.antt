@@ -1,6 +1,4 @@
-pub mod Freely
 pub mod Lines
-pub mod OpenRounds
 pub mod Plain
 pub mod Playing
 pub mod Points

@@ -93,13 +93,3 @@ module _ {F C : Type 0} where
     pub before : List ℕ
     pub whole : given ++ runs.state.printed ≡ before ++ run.print
     pub left : IsLeft run machine before (record runs.state { printed = run.print }) end
-
-  -- the same of a run whose goroutines have stepped in any order
-  pub record RunsFreelyTo
-      (run : View F C) (machine : Machine F) (limits : Limits) (given : List ℕ) (start : State F) (end : RunEnd)
-      (old new : Option (List ℕ))
-      : Type 0 where
-    pub runs : RunsFreely machine limits start end old new
-    pub before : List ℕ
-    pub whole : given ++ runs.state.printed ≡ before ++ run.print
-    pub left : IsLeft run machine before (record runs.state { printed = run.print }) end

@@ -107,7 +107,7 @@ fn whole_round<R: Running, K: Sink>(
 }
 
 /// A round, and whether the run continues after it.
-pub(crate) fn pass<R: Running, K: Sink>(
+fn pass<R: Running, K: Sink>(
     alloc: Global,
     run: &mut R,
     driver: &mut Driver,

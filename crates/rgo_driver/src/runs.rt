@@ -25,7 +25,7 @@ use std::collections::HashMap;
 /// # Errors
 ///
 /// The end of the run, where there is no memory to begin.
-pub(crate) fn first_driver<R: Running>(alloc: Global, run: &R) -> Result<Driver, RunEnd>
+fn first_driver<R: Running>(alloc: Global, run: &R) -> Result<Driver, RunEnd>
     ensures begins { IfOk result (λ driver. (driver.steps ≡ 0)
         × ((limits : declared.Limits) (given : List ℕ) (s : spec.State R.Frame) → (R.view run.now).shows given s
         → IsReady limits s → IsBetween (R.view run.now).machine limits (point_of s driver))) }

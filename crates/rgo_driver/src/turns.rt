@@ -23,7 +23,7 @@ use std::alloc::{AllocError, Global};
 use std::collections::HashMap;
 
 /// The most steps of a turn.
-pub(crate) const LONGEST_TURN: usize = 1_000;
+const LONGEST_TURN: usize = 1_000;
 
 /// The channel at which a goroutine waits that stands there and has no step alone.
 fn waits_at(stand: Stand) -> Option<usize>
@@ -277,7 +277,7 @@ fn take_steps<R: Running>(
 }
 
 /// A goroutine takes some steps of its turn. Returns how many it has left, `None` where it sleeps.
-pub(crate) fn advance<R: Running>(
+fn advance<R: Running>(
     alloc: Global,
     run: &mut R,
     driver: &mut Driver,
