@@ -1,3 +1,4 @@
+pub mod Boxes
 pub mod Closing
 pub mod Crew
 pub mod Crews
