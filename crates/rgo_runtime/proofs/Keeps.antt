@@ -14,7 +14,8 @@ use Rattle.rgo_core.proofs.Lists.{elem_of, get_of}
 use Rattle.rgo_core.specs.Core.{Setup}
 use Rattle.rgo_core.specs.Opening.{first_of}
 use Rattle.rgo_core.specs.Records.{ClockRec, Drawn, Record, blank, steps_of}
-use Rattle.rgo_core.specs.Rule.Views.{Me, number_of, view}
+use Rattle.rgo_core.specs.Rule.Views.{Me, Rows, longer, number_of, view}
+use Rattle.rgo_core.specs.Rule.declared.accesses.Access.{Access}
 use Rattle.rgo_core_steps.specs.Seats.{mine}
 use Rattle.rgo_table_runs.proofs.Goroutine.Joining.{numbers_append}
 use Rattle.rgo_table_runs.specs.Goroutine.Goroutines.{AllStand, IsChild, IsOf, IsTidy, drawn_by, fresh, numbers, record_of, valid}
@@ -545,6 +546,21 @@ module _ (r : Run) (go : Goroutine) (me : go.actor.seat.me ≡ (view ((0, first_
 
   pub begins_steps : steps_of (record_of r.setup go) ≡ 0
   begins_steps = ap steps_of main_is
+
+  -- its record has come back to the seat of its driver
+  pub begins_again : (seat now : Me Record) → go.number ≡ 0 → seat ≡ (view [] [], [])
+      → now.0.records ≡ seat.0.records ++ (go.number, record_of r.setup go) ∷ [] → now.0.seen ≡ longer seat.0.seen go.actor.seat.me.0.seen
+      → now.1 ≡ seat.1 → now ≡ (view ((0, first_of r.setup.code) ∷ []) [], [])
+  begins_again seat now number none records seen slots =
+      let rows : now.0.records ≡ (0, first_of r.setup.code) ∷ [] =
+      records ∙ (ap (λ (m : Me Record). m.0.records ++ (go.number, record_of r.setup go) ∷ []) none
+      ∙ (ap (λ (n : ℕ). (n, record_of r.setup go) ∷ []) number ∙ ap (λ (c : Record). (0, c) ∷ []) main_is)) in
+      let all : now.0.seen ≡ [] =
+      seen ∙ (ap (λ (m : Me Record). longer m.0.seen go.actor.seat.me.0.seen) none ∙ ap (λ (m : Me Record). longer [] m.0.seen) me) in
+      let free : now.1 ≡ [] = slots ∙ ap (λ (m : Me Record). m.1) none in
+      ap (λ (rs : Rows Record). (view rs now.0.seen, now.1)) rows
+      ∙ (ap (λ (es : List Access). (view ((0, first_of r.setup.code) ∷ []) es, now.1)) all
+      ∙ ap (λ k. (view ((0, first_of r.setup.code) ∷ []) [], k)) free)
 
   pub begins : go.number ≡ 0 → NoneIsLost (member_of r.setup go ∷ []) []
   begins number = record {

@@ -1,3 +1,4 @@
+pub mod Boxing
 pub mod Closing
 pub mod ClosingExamples
 pub mod CrewExamples

@@ -1,5 +1,6 @@
 -- of the crates below, for those above
 pub use Rattle.rgo_table_runs.specs as TableRuns
+pub mod Boxes
 pub mod Closing
 pub mod Crew
 pub mod Crews

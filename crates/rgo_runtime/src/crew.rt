@@ -2,7 +2,7 @@
 //!
 //! A goroutine is in one of four places: ready for a turn in the next round, parked at a word of the table, just born, or retired, where
 //! its record is at the driver's seat. It is never in none: each step below says so by its clause `kept`.
-ghost use Rattle.std.specs.Prelude.{◌≡◌, ◌≤◌, ◌<◌, ◌+◌, ◌∷◌, ◌++◌, [], ℕ, IfErr, IfOk, MatchOption, OnErr, OnOk, length, map, reverse, slice_index_or, true, vec_capacity};
+ghost use Rattle.std.specs.Prelude.{◌≡◌, ◌≤◌, ◌<◌, ◌+◌, ◌∷◌, ◌++◌, [], ℕ, IfErr, IfOk, MatchOption, MatchResult, OnErr, OnOk, length, map, replicate, reverse, slice_index_or, true, vec_capacity};
 ghost use Rattle.rgo_runtime.specs.Crew as spec;
 ghost use Rattle.std.specs.List.{All, AllZip};
 ghost use Rattle.rgo_core.specs.Core.{IsPossible};
@@ -10,10 +10,12 @@ ghost use Rattle.rgo_core.specs.Opening.{first_of};
 ghost use Rattle.rgo_core.specs.Memory.Words.{clock_at};
 ghost use Rattle.rgo_core.specs.Rule.Views.{view};
 ghost use Rattle.rgo_core_steps.specs.Seats.{IsSeatOf};
+ghost use Rattle.rgo_table_runs.specs.Goroutine.Goroutines.{IsOf};
 ghost use Rattle.rgo_table_runs.specs.Goroutine.Instructions.{HasPages};
 ghost use Rattle.rgo_table_runs.specs.Goroutine.declared.turning.Stop.TheVariants.{Ended};
 ghost use Rattle.rgo_outside.specs.Causes.{HasCause};
 ghost use Rattle.rgo_outside.specs.Pieces.{AddsOnly};
+ghost use Rattle.rgo_runtime.specs.Boxes.{in_boxes};
 ghost use Rattle.rgo_runtime.specs.Crew.{HasPassedAll, KeepsAll, WholeCrewExamples, all_members};
 ghost use Rattle.rgo_runtime.specs.Crews.{HaveTurned, IsGiven, IsOfCrew, MayTurn, its_goroutine, AreRetired, marked};
 ghost use Rattle.rgo_runtime.specs.Leaving.{HaveAllLeft, turn_row};
@@ -22,6 +24,7 @@ ghost use Rattle.rgo_runtime.specs.Turns as turns;
 ghost use Rattle.rgo_runtime.specs.Turns.{TakesTurn};
 ghost use Rattle.rgo_runtime.specs.declared.crew.Next.TheVariants.{Retired};
 ghost use Rattle.rgo_sched.specs.Rounds.{RoundOf};
+ghost use Rattle.rgo_sound.specs.Tally.{no_share};
 ghost use Rattle.rgo_table_runs.specs.closing.Members.{NoneIsLost};
 
 use crate::parking::Parked;
@@ -37,7 +40,7 @@ use rgo_sched::round;
 use rgo_table_runs::goroutine::acts::runs::Run;
 use rgo_table_runs::goroutine::goroutine::Goroutine;
 use rgo_table_runs::goroutine::turning::{Stop, Turned};
-use std::alloc::{AllocError, Global};
+use std::alloc::{AllocError, AllocFailed, Global};
 use std::marker::Model;
 use std::thread::Threads;
 
@@ -136,18 +139,18 @@ fn take_out<'r, 'c>(
     alloc: Global,
     run: &'r Run<'r, 'c>,
     ready: &mut Vec<Turn<'r, 'c>>,
-) -> Result<Vec<Goroutine>, AllocError>
+) -> Result<Vec<Box<Goroutine>>, AllocError>
     requires crew { (n : ℕ) × All (IsOfCrew run.now n) ready.old.items }
-    ensures taken { IfOk result (λ goroutines. goroutines.items ≡ reverse (map its_goroutine ready.old.items)) }
-    ensures rest { IfOk result (λ goroutines. All (MayTurn run.now) goroutines.items) }
+    ensures taken { IfOk result (λ goroutines. in_boxes goroutines.items ≡ reverse (map its_goroutine ready.old.items)) }
+    ensures rest { IfOk result (λ goroutines. All (MayTurn run.now) (in_boxes goroutines.items)) }
     ensures none { OnOk result (ready.new.items ≡ []) }
     ensures capacity { vec_capacity ready.new ≡ vec_capacity ready.old }
     ensures same { OnErr result (ready.new.items ≡ ready.old.items) }
 {
-    let mut goroutines = Vec::new(alloc);
+    let mut goroutines: Vec<Box<Goroutine>> = Vec::new(alloc);
     goroutines.reserve(ready.len())?;
     while let Some(turn) = ready.pop() {
-        goroutines.push_reserved(turn.into_goroutine());
+        goroutines.push_reserved(turn.into_box());
     }
     Ok(goroutines)
 }
@@ -156,17 +159,73 @@ fn take_out<'r, 'c>(
 fn put_back<'r, 'c>(
     alloc: Global,
     run: &'r Run<'r, 'c>,
-    mut goroutines: Vec<Goroutine>,
+    mut goroutines: Vec<Box<Goroutine>>,
     ready: &mut Vec<Turn<'r, 'c>>,
 )
-    requires rest { All (MayTurn run.now) goroutines.items }
+    requires rest { All (MayTurn run.now) (in_boxes goroutines.items) }
     requires pages { HasPages run.now }
     requires none { ready.old.items ≡ [] }
     requires room { length goroutines.items ≤ vec_capacity ready.old }
-    ensures back { ready.new.items ≡ map (turns.first_turn run.now) (reverse goroutines.items) }
+    ensures back { ready.new.items ≡ map (turns.first_turn run.now) (reverse (in_boxes goroutines.items)) }
 {
     while let Some(goroutine) = goroutines.pop() {
         ready.push_reserved(Turn::new(alloc, run, goroutine));
+    }
+}
+
+/// A goroutine that was born, in a box. It has a place for its share.
+///
+/// # Errors
+///
+/// On allocation failure. Then there is no new place, and the error returns the goroutine.
+fn admit(
+    alloc: Global,
+    goroutine: Goroutine,
+    shares: &mut Shares,
+) -> Result<Box<Goroutine>, AllocFailed<Goroutine>>
+    ensures boxed { IfOk result (λ boxed. boxed.value ≡ goroutine) }
+    ensures room { OnOk result (goroutine.number < length shares.new) }
+    ensures more { OnOk result ((n : ℕ) × (shares.new ≡ shares.old ++ replicate n no_share)) }
+    ensures back { IfErr result (λ failed. failed.value ≡ goroutine) }
+    ensures same { OnErr result (shares.new ≡ shares.old) }
+{
+    match Box::new(alloc, goroutine) {
+        Ok(boxed) => match shares.make_room(boxed.as_ref().number()) {
+            Ok(()) => Ok(boxed),
+            Err(_) => Err(AllocFailed {
+                value: Box::into_inner(boxed),
+            }),
+        },
+        Err(failed) => Err(failed),
+    }
+}
+
+/// The goroutine of `main` in a box, at a new table. The record of `main` goes from the driver's seat to a seat of the goroutine.
+///
+/// # Errors
+///
+/// On allocation failure. Then the driver's seat has it.
+fn boxed_main(
+    alloc: Global,
+    run: &Run<'_, '_>,
+    seat: &mut RunSeat,
+) -> Result<Box<Goroutine>, AllocError>
+    requires own { IsSeatOf seat.old.table_id run.now.table clock_at }
+    requires first { seat.old.me ≡ (view ((0, first_of run.now.setup.code) ∷ []) [], []) }
+    requires possible { IsPossible run.now.setup 0 (first_of run.now.setup.code) }
+    ensures own { seat.new.table_id ≡ seat.old.table_id }
+    ensures seat { MatchResult result (λ _. seat.new.me ≡ (view [] [], [])) (λ _. seat.new.me ≡ seat.old.me) }
+    ensures main { IfOk result (λ main. IsOf run.now main.value × (main.value.number ≡ 0) × (main.value.actor.seat.me ≡ seat.old.me)) }
+{
+    match Goroutine::main_goroutine(alloc, run, seat) {
+        Ok(main) => match Box::new(alloc, main) {
+            Ok(boxed) => Ok(boxed),
+            Err(failed) => {
+                failed.value.retire(run, seat);
+                Err(AllocError)
+            }
+        },
+        Err(error) => Err(error),
     }
 }
 
@@ -298,14 +357,14 @@ impl<'r, 'c> Crew<'r, 'c> {
         self.ready.reserve(self.born.len())?;
         self.born.reverse();
         while let Some(goroutine) = self.born.pop() {
-            match self.shares.make_room(goroutine.number()) {
-                Ok(()) => {
+            match admit(self.alloc, goroutine, &mut self.shares) {
+                Ok(boxed) => {
                     self.ready
-                        .push_reserved(Turn::new(self.alloc, self.run, goroutine));
+                        .push_reserved(Turn::new(self.alloc, self.run, boxed));
                 }
-                Err(error) => {
-                    self.born.push_reserved(goroutine);
-                    return Err(error);
+                Err(failed) => {
+                    self.born.push_reserved(failed.value);
+                    return Err(AllocError);
                 }
             }
         }
@@ -381,7 +440,8 @@ impl<'r, 'c> Crew<'r, 'c> {
     }
 
     /// A round: each that is ready has a turn of up to `slice` instructions. What they have printed waits, what they have started is ready,
-    /// and so are those that wait at words that they have changed; those that have ended retire, and those that wait are parked.
+    /// and so are those that wait at words that they have changed; those that have ended retire, and those that wait are parked. These words
+    /// are left in `changed`, whatever was there before, so that a list serves for all rounds.
     ///
     /// # Errors
     ///
@@ -393,6 +453,7 @@ impl<'r, 'c> Crew<'r, 'c> {
         slice: u32,
         number: u64,
         gate: &G,
+        changed: &mut Vec<usize>,
     ) -> Result<Came, AllocError>
         requires workers { (1 ≤ workers) × (workers ≤ 64) }
         ensures kept { KeepsAll self.old self.new }
@@ -404,8 +465,8 @@ impl<'r, 'c> Crew<'r, 'c> {
         self.set_slices(slice);
         let moved = self.turn_all(rt, workers, number, gate)?;
         self.collect_all()?;
-        let mut changed = Vec::new(self.alloc);
-        let came = self.look_over(moved, &mut changed)?;
+        changed.clear();
+        let came = self.look_over(moved, changed)?;
         // Those that wait are parked before others are woken, so that a word that was changed in this round wakes them.
         self.sort_out();
         self.wake_each(changed.as_slice())?;
@@ -529,7 +590,7 @@ impl<'r, 'c> Crew<'r, 'c> {
             Ok(()) => {}
             Err(_) => return Err(seat),
         }
-        match Goroutine::main_goroutine(alloc, run, &mut seat) {
+        match boxed_main(alloc, run, &mut seat) {
             Ok(main) => {
                 ready.push_reserved(Turn::new(alloc, run, main));
                 Ok(Crew {

@@ -10,9 +10,15 @@ use std::marker::Model;
 /// The values at each address, the oldest first.
 type Groups<T> = IndexMap<usize, Vec<T>>;
 
+/// The most groups at which lists without values keep their memory, and the most values for which such a list has memory.
+const MOST_KEPT: usize = 1_024;
+
+const LONGEST_KEPT: usize = 64;
+
 /// Goroutines, each parked at the address of a word.
 ///
-/// An address at which a goroutine was parked keeps an entry of a few words until [`Parked::unpark_all`].
+/// An address at which a goroutine was parked keeps an entry of a few words until [`Parked::unpark_all`], and, where there are not many,
+/// the memory of a short list.
 #[derive(Drop)]
 pub struct Parked<T: Drop> {
     groups: Groups<T>,
@@ -80,6 +86,16 @@ fn join<T: Drop>(
     }
 }
 
+/// The list of a group that was woken keeps its memory for those that are parked there next, unless it is long or there are many groups.
+fn tidy_up<T: Drop>(alloc: Global, group: &mut Vec<T>, is_few: bool)
+    requires { group.old.items ≡ [] }
+    ensures { group.new.items ≡ [] }
+{
+    if !is_few || group.capacity() > LONGEST_KEPT {
+        *group = Vec::new(alloc);
+    }
+}
+
 /// Moves the group of an address to the end of a list. Returns how many came.
 fn leave<T: Drop>(
     alloc: Global,
@@ -93,12 +109,13 @@ fn leave<T: Drop>(
     ensures same { OnErr result (pairs_of groups.new.entries ≡ pairs_of groups.old.entries) }
     ensures kept { OnErr result (into.new.items ≡ into.old.items) }
 {
+    let is_few = groups.len() <= MOST_KEPT;
     match groups.get_mut(&at) {
         Some(group) => {
             let count = group.len();
             match into.append(group) {
                 Ok(()) => {
-                    *group = Vec::new(alloc);
+                    tidy_up(alloc, group, is_few);
                     Ok(count)
                 }
                 Err(error) => Err(error),

@@ -8,6 +8,7 @@ ghost use Rattle.rgo_core.specs.Rule.declared.accesses.Access.{Access};
 ghost use Rattle.rgo_core_steps.specs.Seats.{IsSeatOf};
 ghost use Rattle.rgo_table_runs.specs.Goroutine.Goroutines.{IsOf};
 ghost use Rattle.rgo_table_runs.specs.Goroutine.Instructions.{HasPages};
+ghost use Rattle.rgo_runtime.specs.Boxes.{in_boxes};
 ghost use Rattle.rgo_runtime.specs.Passing.{ComesTo, HasLookedOnce, HasMet, IsBehind, IsKnownBy, IsPass, IsTidyIn, LooksBetween, MayHaveTurned, PassComesTo, PassingExamples, TurnsBetween, is_moved, joined_with};
 
 use rgo_core::rule::seats::glance;
@@ -36,17 +37,17 @@ pub enum Passed {
 }
 
 /// All goroutines meet their driver, which has then seen at least as many accesses as each of them.
-pub fn meet_all(run: &Run<'_, '_>, goroutines: &mut [Goroutine], seat: &mut RunSeat)
-    requires all { All (IsOf run.now) goroutines.old }
+pub fn meet_all(run: &Run<'_, '_>, goroutines: &mut [Box<Goroutine>], seat: &mut RunSeat)
+    requires all { All (IsOf run.now) (in_boxes goroutines.old) }
     requires own { IsSeatOf seat.old.table_id run.now.table clock_at }
-    ensures all { All (IsOf run.now) goroutines.new }
+    ensures all { All (IsOf run.now) (in_boxes goroutines.new) }
     ensures own { seat.new.table_id ≡ seat.old.table_id }
     ensures rows { (seat.new.me.0.records ≡ seat.old.me.0.records) × (seat.new.me.1 ≡ seat.old.me.1) }
-    ensures met { AllZip (HasMet run.now.setup) goroutines.old goroutines.new }
-    ensures behind { All (IsBehind seat.new.me.0.seen) goroutines.new }
+    ensures met { AllZip (HasMet run.now.setup) (in_boxes goroutines.old) (in_boxes goroutines.new) }
+    ensures behind { All (IsBehind seat.new.me.0.seen) (in_boxes goroutines.new) }
 {
     for i in 0..goroutines.len() {
-        goroutines[i].meet(run, seat);
+        goroutines[i].as_mut().meet(run, seat);
     }
 }
 
@@ -66,20 +67,20 @@ fn look_once(run: &Run<'_, '_>, goroutine: &mut Goroutine, seat: &mut RunSeat)
 }
 
 /// After all have met their driver, each looks, between two meetings with it. Then all their accesses are known.
-pub fn look_all(run: &Run<'_, '_>, goroutines: &mut [Goroutine], seat: &mut RunSeat)
-    requires all { All (IsOf run.now) goroutines.old }
+pub fn look_all(run: &Run<'_, '_>, goroutines: &mut [Box<Goroutine>], seat: &mut RunSeat)
+    requires all { All (IsOf run.now) (in_boxes goroutines.old) }
     requires own { IsSeatOf seat.old.table_id run.now.table clock_at }
-    requires behind { All (IsBehind seat.old.me.0.seen) goroutines.old }
-    ensures all { All (IsOf run.now) goroutines.new }
+    requires behind { All (IsBehind seat.old.me.0.seen) (in_boxes goroutines.old) }
+    ensures all { All (IsOf run.now) (in_boxes goroutines.new) }
     ensures own { seat.new.table_id ≡ seat.old.table_id }
     ensures rows { (seat.new.me.0.records ≡ seat.old.me.0.records) × (seat.new.me.1 ≡ seat.old.me.1) }
-    ensures looked { AllZip (HasLookedOnce run.now.setup) goroutines.old goroutines.new }
+    ensures looked { AllZip (HasLookedOnce run.now.setup) (in_boxes goroutines.old) (in_boxes goroutines.new) }
     ensures seen { (es : List Access) × (seat.new.me.0.seen ≡ seat.old.me.0.seen ++ es) }
-    ensures known { All (IsKnownBy run.now.setup seat.new.me.0.seen) goroutines.new }
-    ensures behind { All (IsBehind seat.new.me.0.seen) goroutines.new }
+    ensures known { All (IsKnownBy run.now.setup seat.new.me.0.seen) (in_boxes goroutines.new) }
+    ensures behind { All (IsBehind seat.new.me.0.seen) (in_boxes goroutines.new) }
 {
     for i in 0..goroutines.len() {
-        look_once(run, &mut goroutines[i], seat);
+        look_once(run, goroutines[i].as_mut(), seat);
     }
 }
 
@@ -150,28 +151,28 @@ fn turn_once<L: Ledger>(
 pub fn turn_all<L: Ledger>(
     alloc: Global,
     run: &Run<'_, '_>,
-    goroutines: &mut [Goroutine],
+    goroutines: &mut [Box<Goroutine>],
     seat: &mut RunSeat,
     steps: &mut Steps<L>,
 ) -> Passed
-    requires all { All (IsOf run.now) goroutines.old }
+    requires all { All (IsOf run.now) (in_boxes goroutines.old) }
     requires own { IsSeatOf seat.old.table_id run.now.table clock_at }
     requires pages { HasPages run.now }
-    requires known { All (IsKnownBy run.now.setup seat.old.me.0.seen) goroutines.old }
-    requires behind { All (IsBehind seat.old.me.0.seen) goroutines.old }
-    ensures all { All (IsOf run.now) goroutines.new }
+    requires known { All (IsKnownBy run.now.setup seat.old.me.0.seen) (in_boxes goroutines.old) }
+    requires behind { All (IsBehind seat.old.me.0.seen) (in_boxes goroutines.old) }
+    ensures all { All (IsOf run.now) (in_boxes goroutines.new) }
     ensures own { seat.new.table_id ≡ seat.old.table_id }
     ensures rows { (seat.new.me.0.records ≡ seat.old.me.0.records) × (seat.new.me.1 ≡ seat.old.me.1) }
     ensures seen { (es : List Access) × (seat.new.me.0.seen ≡ seat.old.me.0.seen ++ es) }
-    ensures known { All (IsKnownBy run.now.setup seat.new.me.0.seen) goroutines.new }
-    ensures behind { All (IsBehind seat.new.me.0.seen) goroutines.new }
-    ensures tidy { All (IsTidyIn run.now.setup) goroutines.old → All (IsTidyIn run.now.setup) goroutines.new }
-    ensures turned { AllZip (MayHaveTurned run.now) goroutines.old goroutines.new }
-    ensures passed { PassComesTo run.now seat.old.me.0.seen seat.new.me.0.seen goroutines.old goroutines.new result }
+    ensures known { All (IsKnownBy run.now.setup seat.new.me.0.seen) (in_boxes goroutines.new) }
+    ensures behind { All (IsBehind seat.new.me.0.seen) (in_boxes goroutines.new) }
+    ensures tidy { All (IsTidyIn run.now.setup) (in_boxes goroutines.old) → All (IsTidyIn run.now.setup) (in_boxes goroutines.new) }
+    ensures turned { AllZip (MayHaveTurned run.now) (in_boxes goroutines.old) (in_boxes goroutines.new) }
+    ensures passed { PassComesTo run.now seat.old.me.0.seen seat.new.me.0.seen (in_boxes goroutines.old) (in_boxes goroutines.new) result }
 {
     let mut passed = Passed::Still;
     for i in 0..goroutines.len() {
-        let next = turn_once(alloc, run, &mut goroutines[i], seat, steps);
+        let next = turn_once(alloc, run, goroutines[i].as_mut(), seat, steps);
         if next.is_moved() {
             return Passed::Moved;
         }
@@ -186,20 +187,20 @@ pub fn turn_all<L: Ledger>(
 pub fn pass<L: Ledger>(
     alloc: Global,
     run: &Run<'_, '_>,
-    goroutines: &mut [Goroutine],
+    goroutines: &mut [Box<Goroutine>],
     seat: &mut RunSeat,
     steps: &mut Steps<L>,
 ) -> Passed
-    requires all { All (IsOf run.now) goroutines.old }
+    requires all { All (IsOf run.now) (in_boxes goroutines.old) }
     requires own { IsSeatOf seat.old.table_id run.now.table clock_at }
     requires pages { HasPages run.now }
-    ensures all { All (IsOf run.now) goroutines.new }
+    ensures all { All (IsOf run.now) (in_boxes goroutines.new) }
     ensures own { seat.new.table_id ≡ seat.old.table_id }
     ensures rows { (seat.new.me.0.records ≡ seat.old.me.0.records) × (seat.new.me.1 ≡ seat.old.me.1) }
-    ensures known { All (IsKnownBy run.now.setup seat.new.me.0.seen) goroutines.new }
-    ensures behind { All (IsBehind seat.new.me.0.seen) goroutines.new }
-    ensures tidy { All (IsTidyIn run.now.setup) goroutines.old → All (IsTidyIn run.now.setup) goroutines.new }
-    ensures passed { IsPass run.now seat.new.me goroutines.old goroutines.new result }
+    ensures known { All (IsKnownBy run.now.setup seat.new.me.0.seen) (in_boxes goroutines.new) }
+    ensures behind { All (IsBehind seat.new.me.0.seen) (in_boxes goroutines.new) }
+    ensures tidy { All (IsTidyIn run.now.setup) (in_boxes goroutines.old) → All (IsTidyIn run.now.setup) (in_boxes goroutines.new) }
+    ensures passed { IsPass run.now seat.new.me (in_boxes goroutines.old) (in_boxes goroutines.new) result }
 {
     meet_all(run, goroutines, seat);
     glance(run.table(), seat);
@@ -211,21 +212,21 @@ pub fn pass<L: Ledger>(
 fn pass_counted<L: Ledger>(
     alloc: Global,
     run: &Run<'_, '_>,
-    goroutines: &mut [Goroutine],
+    goroutines: &mut [Box<Goroutine>],
     seat: &mut RunSeat,
     blank: Blank,
 ) -> Passed
-    requires all { All (IsOf run.now) goroutines.old }
+    requires all { All (IsOf run.now) (in_boxes goroutines.old) }
     requires own { IsSeatOf seat.old.table_id run.now.table clock_at }
     requires pages { HasPages run.now }
     requires name { blank.name ≡ L.name }
     requires parts { (blank.parts ≡ L.parts) × (0 < blank.parts) }
-    ensures all { All (IsOf run.now) goroutines.new }
+    ensures all { All (IsOf run.now) (in_boxes goroutines.new) }
     ensures own { seat.new.table_id ≡ seat.old.table_id }
     ensures rows { (seat.new.me.0.records ≡ seat.old.me.0.records) × (seat.new.me.1 ≡ seat.old.me.1) }
-    ensures behind { All (IsBehind seat.new.me.0.seen) goroutines.new }
-    ensures tidy { All (IsTidyIn run.now.setup) goroutines.old → All (IsTidyIn run.now.setup) goroutines.new }
-    ensures passed { IsPass run.now seat.new.me goroutines.old goroutines.new result }
+    ensures behind { All (IsBehind seat.new.me.0.seen) (in_boxes goroutines.new) }
+    ensures tidy { All (IsTidyIn run.now.setup) (in_boxes goroutines.old) → All (IsTidyIn run.now.setup) (in_boxes goroutines.new) }
+    ensures passed { IsPass run.now seat.new.me (in_boxes goroutines.old) (in_boxes goroutines.new) result }
 {
     pass(alloc, run, goroutines, seat, &mut Steps::<L>::new(blank))
 }
@@ -234,18 +235,18 @@ fn pass_counted<L: Ledger>(
 pub(crate) fn pass_uncounted(
     alloc: Global,
     run: &Run<'_, '_>,
-    goroutines: &mut [Goroutine],
+    goroutines: &mut [Box<Goroutine>],
     seat: &mut RunSeat,
 ) -> Passed
-    requires all { All (IsOf run.now) goroutines.old }
+    requires all { All (IsOf run.now) (in_boxes goroutines.old) }
     requires own { IsSeatOf seat.old.table_id run.now.table clock_at }
     requires pages { HasPages run.now }
-    ensures all { All (IsOf run.now) goroutines.new }
+    ensures all { All (IsOf run.now) (in_boxes goroutines.new) }
     ensures own { seat.new.table_id ≡ seat.old.table_id }
     ensures rows { (seat.new.me.0.records ≡ seat.old.me.0.records) × (seat.new.me.1 ≡ seat.old.me.1) }
-    ensures behind { All (IsBehind seat.new.me.0.seen) goroutines.new }
-    ensures tidy { All (IsTidyIn run.now.setup) goroutines.old → All (IsTidyIn run.now.setup) goroutines.new }
-    ensures passed { IsPass run.now seat.new.me goroutines.old goroutines.new result }
+    ensures behind { All (IsBehind seat.new.me.0.seen) (in_boxes goroutines.new) }
+    ensures tidy { All (IsTidyIn run.now.setup) (in_boxes goroutines.old) → All (IsTidyIn run.now.setup) (in_boxes goroutines.new) }
+    ensures passed { IsPass run.now seat.new.me (in_boxes goroutines.old) (in_boxes goroutines.new) result }
 {
     pass_counted::<Brand>(alloc, run, goroutines, seat, Blank::new(1))
 }

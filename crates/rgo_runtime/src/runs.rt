@@ -58,6 +58,8 @@ struct Course {
     number: u64,
     /// The instructions that were executed, at most.
     steps: u64,
+    /// The words that were changed in the last round.
+    changed: Vec<usize>,
 }
 
 /// The exact number of instructions that were executed, when all that were parked are ready.
@@ -157,7 +159,7 @@ fn advance<H: Threads + Sync, K: Sink, G: Gate + Sync>(
     let ready = crew.ready();
     let slice = course.pace.slice(ready, most.saturating_sub(course.steps));
     let workers = course.pace.workers(workers, ready, slice, course.number);
-    let came = match crew.play(rt, workers, slice, course.number, gate) {
+    let came = match crew.play(rt, workers, slice, course.number, gate, &mut course.changed) {
         Ok(came) => came,
         Err(_) => return Some(Why::Memory),
     };
@@ -174,6 +176,7 @@ fn advance<H: Threads + Sync, K: Sink, G: Gate + Sync>(
 /// The goroutines have their turns until the run is over.
 fn play<H: Threads + Sync, K: Sink, G: Gate + Sync>(
     rt: &H,
+    alloc: Global,
     crew: &mut Crew<'_, '_>,
     most: u64,
     workers: u32,
@@ -189,6 +192,7 @@ fn play<H: Threads + Sync, K: Sink, G: Gate + Sync>(
         pace: Pace::new(),
         number: 1,
         steps: 0,
+        changed: Vec::new(alloc),
     };
     for _ in 0..u64::MAX {
         match advance(rt, crew, most, workers, &mut course, out, gate) {
@@ -297,7 +301,7 @@ fn run_in<H: Threads + Sync, K: Sink, G: Gate + Sync>(
         let run = Run::new(&table, layout, limits, &program);
         match Crew::new(alloc, &run, seat) {
             Ok(mut crew) => {
-                let why = play(rt, &mut crew, limits.steps, workers, out, gate);
+                let why = play(rt, alloc, &mut crew, limits.steps, workers, out, gate);
                 (crew.finish(), why)
             }
             Err(_) => return Err(AllocError),

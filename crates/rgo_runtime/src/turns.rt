@@ -22,12 +22,13 @@ use std::sync::ledger::{Blank, Ledger};
 /// executed no more than these.
 const MOST_STEPS: u64 = 1 << 43;
 
-/// A goroutine, with what its next turn is to be and what its last one has done.
+/// A goroutine, with what its next turn is to be and what its last one has done. The goroutine is in a box, since it is large, and a
+/// turn moves each time that its goroutine is parked or woken.
 #[derive(Drop)]
 pub struct Turn<'r, 'c> {
     run: &'r Run<'r, 'c>,
     alloc: Global,
-    goroutine: Goroutine,
+    goroutine: Box<Goroutine>,
     /// How many instructions its next turn may execute.
     slice: u32,
     /// What its last turn has done.
@@ -39,11 +40,11 @@ impl<'r, 'c> Model for Turn<'r, 'c> {
 
     ghost Value = { spec.Turn };
 
-    ghost view = { λ t. record { run = t.run.now; goroutine = t.goroutine; slice = t.slice; turned = t.turned } };
+    ghost view = { λ t. record { run = t.run.now; goroutine = t.goroutine.value; slice = t.slice; turned = t.turned } };
 
     ghost invariant = { λ t. spec.CanTurn (record {
       run = t.run.now;
-      goroutine = t.goroutine;
+      goroutine = t.goroutine.value;
       slice = t.slice;
       turned = t.turned;
     }) };
@@ -51,12 +52,12 @@ impl<'r, 'c> Model for Turn<'r, 'c> {
 
 impl<'r, 'c> Turn<'r, 'c> {
     /// A goroutine that has had no turn yet. Its next one may execute no instruction, until it is given some.
-    pub fn new(alloc: Global, run: &'r Run<'r, 'c>, goroutine: Goroutine) -> Turn<'r, 'c>
-        requires of { IsOf run.now goroutine }
-        requires tidy { IsTidy (record_of run.now.setup goroutine) }
+    pub fn new(alloc: Global, run: &'r Run<'r, 'c>, goroutine: Box<Goroutine>) -> Turn<'r, 'c>
+        requires of { IsOf run.now goroutine.value }
+        requires tidy { IsTidy (record_of run.now.setup goroutine.value) }
         requires pages { HasPages run.now }
-        requires few { steps_of (record_of run.now.setup goroutine) < 8796093022208 }
-        ensures { result ≡ spec.first_turn run.now goroutine }
+        requires few { steps_of (record_of run.now.setup goroutine.value) < 8796093022208 }
+        ensures { result ≡ spec.first_turn run.now goroutine.value }
     {
         Turn {
             run,
@@ -72,7 +73,7 @@ impl<'r, 'c> Turn<'r, 'c> {
         ensures rest { self.new ≡ record self.old { slice = self.new.slice } }
         ensures within { self.new.slice ≤ slice }
     {
-        let done = self.goroutine.tally().steps;
+        let done = self.goroutine.as_ref().tally().steps;
         self.slice = if done < MOST_STEPS && u64::from(slice) < MOST_STEPS - done {
             slice
         } else {
@@ -81,10 +82,10 @@ impl<'r, 'c> Turn<'r, 'c> {
     }
 
     /// What its last turn has done.
-    pub fn turned(&self) -> Option<Turned>
-        ensures { result ≡ self.now.turned }
+    pub fn turned(&self) -> &Option<Turned>
+        ensures { result.now ≡ self.now.turned }
     {
-        self.turned
+        &self.turned
     }
 
     pub fn goroutine(&self) -> &Goroutine
@@ -92,7 +93,7 @@ impl<'r, 'c> Turn<'r, 'c> {
         ensures tidy { IsTidy (record_of self.now.run.setup result.now) }
         ensures same { result.now ≡ self.now.goroutine }
     {
-        &self.goroutine
+        self.goroutine.as_ref()
     }
 
     /// What it has printed and started comes to the ends of these lists.
@@ -114,17 +115,18 @@ impl<'r, 'c> Turn<'r, 'c> {
             (its_member self.new ∷ members self.old.run.setup born.new.items) (drawn waiting.new.items) }
         ensures done { OnOk result ((self.new.goroutine.prints.items ≡ []) × (self.new.goroutine.children.items ≡ [])) }
     {
-        self.goroutine.gather(waiting)?;
-        self.goroutine.adopt(self.alloc, self.run, born)?;
+        let goroutine = self.goroutine.as_mut();
+        goroutine.gather(waiting)?;
+        goroutine.adopt(self.alloc, self.run, born)?;
         Ok(())
     }
 
-    /// The goroutine, which has no more turns.
-    pub fn into_goroutine(self) -> Goroutine
-        ensures of { IsOf self.entry.run result }
-        ensures tidy { IsTidy (record_of self.entry.run.setup result) }
-        ensures few { steps_of (record_of self.entry.run.setup result) < 8796093022208 }
-        ensures same { result ≡ self.entry.goroutine }
+    /// The goroutine in its box.
+    pub fn into_box(self) -> Box<Goroutine>
+        ensures of { IsOf self.entry.run result.value }
+        ensures tidy { IsTidy (record_of self.entry.run.setup result.value) }
+        ensures few { steps_of (record_of self.entry.run.setup result.value) < 8796093022208 }
+        ensures same { result.value ≡ self.entry.goroutine }
     {
         let Turn {
             run: _,
@@ -134,6 +136,16 @@ impl<'r, 'c> Turn<'r, 'c> {
             turned: _,
         } = self;
         goroutine
+    }
+
+    /// The goroutine, which has no more turns.
+    pub fn into_goroutine(self) -> Goroutine
+        ensures of { IsOf self.entry.run result }
+        ensures tidy { IsTidy (record_of self.entry.run.setup result) }
+        ensures few { steps_of (record_of self.entry.run.setup result) < 8796093022208 }
+        ensures same { result ≡ self.entry.goroutine }
+    {
+        Box::into_inner(self.into_box())
     }
 }
 
@@ -174,7 +186,7 @@ impl<'r, 'c> Task for Turn<'r, 'c> {
 
     /// A turn of as many instructions as it was given.
     fn turn(&mut self) -> bool {
-        let turned = turn_once(self.alloc, self.run, &mut self.goroutine, self.slice);
+        let turned = turn_once(self.alloc, self.run, self.goroutine.as_mut(), self.slice);
         self.slice = 0;
         self.turned = Some(turned);
         turned.moved

@@ -1,5 +1,6 @@
 use Rattle.std.proofs.Common.{◌≡◌, ◌≤◌, ◌-◌, ◌++◌, ℕ, map, reverse, vec_capacity, vec_len}
 use Rattle.std.specs.List.{All}
+use Rattle.rgo_runtime.specs.Boxes.{in_boxes}
 use Rattle.rgo_runtime.specs.Crews.{IsOfCrew, MayTurn, its_goroutine}
 use Rattle.rgo_runtime.proofs.crew.take_out.Given as goal
 
@@ -7,8 +8,8 @@ use Rattle.rgo_runtime.proofs.crew.take_out.Given as goal
 abbrev pub invariant-loop-turn : goal.invariant-loop-turn
 invariant-loop-turn l = record {
   crew : (n : ℕ) × All (IsOfCrew l.fn.run n) l.ready.items;
-  taken : l.goroutines.items ++ reverse (map its_goroutine l.ready.items) ≡ reverse (map its_goroutine l.fn.ready.items);
-  rest : All (MayTurn l.fn.run) l.goroutines.items;
+  taken : in_boxes l.goroutines.items ++ reverse (map its_goroutine l.ready.items) ≡ reverse (map its_goroutine l.fn.ready.items);
+  rest : All (MayTurn l.fn.run) (in_boxes l.goroutines.items);
   capacity : vec_capacity l.ready ≡ vec_capacity l.fn.ready;
   room : vec_len l.ready ≤ vec_capacity l.goroutines - vec_len l.goroutines;
 }

@@ -16,7 +16,7 @@ returns-in-Ok-clause-into g c =
 pub returns-in-Ok-clause-left : goal.returns-in-Ok-clause-left
 returns-in-Ok-clause-left g c =
     rw ((c.get_mut.follows.holds _).0)
-    (emptied c.args.groups.now.entries c.args.at c.in-Some.group.now _ c.in-Some.ensures.unique (sym c.in-Some.ensures.value) c.new.ensures.items)
+    (emptied c.args.groups.now.entries c.args.at c.in-Some.group.now _ c.in-Some.ensures.unique (sym c.in-Some.ensures.value) c.tidy_up.ensures)
 
 pub returns-in-Err-clause-same : goal.returns-in-Err-clause-same
 returns-in-Err-clause-same g c =

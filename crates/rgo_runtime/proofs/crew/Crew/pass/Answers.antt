@@ -1,7 +1,9 @@
 use Rattle.std.proofs.Common.{◌∙◌, All, ap, length, map, reverse, subst, sym}
+use Rattle.rgo_runtime.specs.Boxes.{in_boxes}
 use Rattle.rgo_runtime.specs.Crew.{Crew}
 use Rattle.rgo_runtime.specs.Crews.{MayTurn}
 use Rattle.rgo_runtime.specs.Turns.{first_turn}
+use Rattle.rgo_runtime.proofs.Boxing.{boxes_length}
 use Rattle.rgo_runtime.proofs.CrewPasses.{CrewHasPassed, all_passed, crew_passed, pass_length, pass_may_turn, passed_kept, written_back}
 use Rattle.rgo_runtime.proofs.crew.Crew.pass.Goals as goal
 
@@ -11,14 +13,16 @@ take_out-requires c = record { crew = (length c.self.inside.shares, c.self.invar
 pub put_back-requires-clause-rest : goal.put_back-requires-clause-rest
 put_back-requires-clause-rest c =
     let r = c.self.inside.run.now in
-    let before = c.as_mut_slice.result.now in
-    let after = c.pass_uncounted-passed.new.goroutines in
+    let before = in_boxes c.as_mut_slice.result.now in
+    let boxes = c.pass_uncounted-passed.new.goroutines in
+    let after = in_boxes boxes in
     let its = c.pass_uncounted-passed.ensures in
-    let may : All (MayTurn r) before = subst (All (MayTurn r)) (sym c.as_mut_slice.ensures.value) c.in_ok-goroutines.ensures.rest in
+    let may : All (MayTurn r) before = subst (All (MayTurn r)) (sym (ap in_boxes c.as_mut_slice.ensures.value)) c.in_ok-goroutines.ensures.rest in
     let me = c.pass_uncounted-passed.new.seat.me in
     let passed = c.pass_uncounted-passed.result in
-    let long = pass_length r me before after passed its.passed ∙ c.as_mut_slice.ensures.len in
-    subst (All (MayTurn r)) (sym (written_back c.in_ok-goroutines.goroutines.len after _ long))
+    let long = sym (boxes_length boxes)
+    ∙ (pass_length r me before after passed its.passed ∙ (boxes_length c.as_mut_slice.result.now ∙ c.as_mut_slice.ensures.len)) in
+    subst (λ bs. All (MayTurn r) (in_boxes bs)) (sym (written_back c.in_ok-goroutines.goroutines.len boxes _ long))
     (pass_may_turn r me before after passed its.passed its.all its.tidy may)
 
 -- the crew as it was
@@ -38,24 +42,29 @@ crew c = record {
 
 -- what has happened to those that were ready
 crew_has_passed : (c : goal.After-put_back)
-    → CrewHasPassed (crew c) c.as_mut_slice.result.now c.pass_uncounted-passed.new.goroutines c.pass_uncounted-passed.new.seat.table_id
+    → CrewHasPassed (crew c) (in_boxes c.as_mut_slice.result.now) (in_boxes c.pass_uncounted-passed.new.goroutines)
+    c.pass_uncounted-passed.new.seat.table_id
     c.pass_uncounted-passed.new.seat.me c.put_back.new.ready.items c.pass_uncounted-passed.result
 crew_has_passed c =
     let r = c.self.inside.run.now in
-    let before = c.as_mut_slice.result.now in
-    let after = c.pass_uncounted-passed.new.goroutines in
+    let before = in_boxes c.as_mut_slice.result.now in
+    let boxes = c.pass_uncounted-passed.new.goroutines in
+    let after = in_boxes boxes in
     let its = c.pass_uncounted-passed.ensures in
     let me = c.pass_uncounted-passed.new.seat.me in
-    let long = pass_length r me before after c.pass_uncounted-passed.result its.passed ∙ c.as_mut_slice.ensures.len in
+    let long = sym (boxes_length boxes)
+    ∙ (pass_length r me before after c.pass_uncounted-passed.result its.passed
+    ∙ (boxes_length c.as_mut_slice.result.now ∙ c.as_mut_slice.ensures.len)) in
     record {
-      out = c.as_mut_slice.ensures.value ∙ c.in_ok-goroutines.ensures.taken;
-      may = subst (All (MayTurn r)) (sym c.as_mut_slice.ensures.value) c.in_ok-goroutines.ensures.rest;
+      out = ap in_boxes c.as_mut_slice.ensures.value ∙ c.in_ok-goroutines.ensures.taken;
+      may = subst (All (MayTurn r)) (sym (ap in_boxes c.as_mut_slice.ensures.value)) c.in_ok-goroutines.ensures.rest;
       pass = its.passed;
       is = its.all;
       behind = its.behind;
       same = its.own;
       rows = its.rows.0;
-      back = c.put_back.ensures.back ∙ ap (λ l. map (first_turn r) (reverse l)) (written_back c.in_ok-goroutines.goroutines.len after _ long);
+      back = c.put_back.ensures.back
+          ∙ ap (λ bs. map (first_turn r) (reverse (in_boxes bs))) (written_back c.in_ok-goroutines.goroutines.len boxes _ long);
     }
 
 pub invariant_of-self-2 : goal.invariant_of-self-2

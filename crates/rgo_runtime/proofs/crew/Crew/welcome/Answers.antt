@@ -1,4 +1,7 @@
-use Rattle.std.proofs.Common.{◌∙◌, append-nil, ap, arith, sym}
+use Rattle.std.proofs.Common.{◌∙◌, ◌∷◌, ◌++◌, [], append-nil, ap, arith, subst, sym}
+use Rattle.rgo_core.specs.Records.{steps_of}
+use Rattle.rgo_table_runs.specs.Goroutine.Goroutines.{IsOf, IsTidy, record_of}
+use Rattle.rgo_runtime.specs.Turns.{first_turn}
 use Rattle.rgo_runtime.proofs.CrewPasses.{nothing_left}
 use Rattle.rgo_runtime.proofs.Keeps.{newborn_steps}
 use Rattle.rgo_runtime.proofs.Moving.{born_kept, crew_born, crew_welcomed, last_newborn, welcomed_kept}
@@ -18,29 +21,31 @@ new-requires-clause-of c =
     let r = c.loop-goroutine.self-inside.run.now in
     let is = last_newborn r c.loop-goroutine.self-inside.born.items c.pop.new.self.items c.in-Some.goroutine c.in-Some.ensures.items
     c.loop-goroutine.invariant.is.born in
-    is.of
+    subst (IsOf r) (sym c.in-Ok.ensures.boxed) is.of
 
 pub new-requires-clause-tidy : goal.new-requires-clause-tidy
 new-requires-clause-tidy c =
     let r = c.loop-goroutine.self-inside.run.now in
     let is = last_newborn r c.loop-goroutine.self-inside.born.items c.pop.new.self.items c.in-Some.goroutine c.in-Some.ensures.items
     c.loop-goroutine.invariant.is.born in
-    is.tidy
+    subst (λ go. IsTidy (record_of r.setup go)) (sym c.in-Ok.ensures.boxed) is.tidy
 
 pub new-requires-clause-few : goal.new-requires-clause-few
 new-requires-clause-few c =
     let r = c.loop-goroutine.self-inside.run.now in
     let is = last_newborn r c.loop-goroutine.self-inside.born.items c.pop.new.self.items c.in-Some.goroutine c.in-Some.ensures.items
     c.loop-goroutine.invariant.is.born in
-    omega (arith, newborn_steps r c.in-Some.goroutine is)
+    omega (arith, newborn_steps r c.in-Some.goroutine is, ap (λ go. steps_of (record_of r.setup go)) c.in-Ok.ensures.boxed)
 
 pub loop-goroutine-preserved : goal.loop-goroutine-preserved
 loop-goroutine-preserved c = record {
-  is = crew_welcomed _ c.push_reserved.new.self.items c.pop.new.self.items c.in-Some.goroutine c.new.result c.make_room.new.self
-      c.in-Ok.ensures.more.0 c.push_reserved.ensures.items c.in-Some.ensures.items c.new.ensures c.in-Ok.ensures.more.1 c.loop-goroutine.invariant.is
-      (omega (arith, c.number.ensures, c.in-Ok.ensures.room));
-  kept = welcomed_kept _ c.push_reserved.new.self.items c.pop.new.self.items c.in-Some.goroutine c.new.result c.make_room.new.self
-      c.in-Ok.ensures.more.0 c.push_reserved.ensures.items c.in-Some.ensures.items c.new.ensures c.in-Ok.ensures.more.1 c.loop-goroutine.invariant.is
+  is = crew_welcomed _ c.push_reserved.new.self.items c.pop.new.self.items c.in-Some.goroutine c.new.result c.admit.new.shares
+      c.in-Ok.ensures.more.0 c.push_reserved.ensures.items c.in-Some.ensures.items
+      (c.new.ensures ∙ ap (first_turn c.loop-goroutine.self-inside.run.now) c.in-Ok.ensures.boxed) c.in-Ok.ensures.more.1 c.loop-goroutine.invariant.is
+      c.in-Ok.ensures.room;
+  kept = welcomed_kept _ c.push_reserved.new.self.items c.pop.new.self.items c.in-Some.goroutine c.new.result c.admit.new.shares
+      c.in-Ok.ensures.more.0 c.push_reserved.ensures.items c.in-Some.ensures.items
+      (c.new.ensures ∙ ap (first_turn c.loop-goroutine.self-inside.run.now) c.in-Ok.ensures.boxed) c.in-Ok.ensures.more.1 c.loop-goroutine.invariant.is
       c.args.self.now c.loop-goroutine.invariant.kept;
   run = c.loop-goroutine.invariant.run;
   next = c.loop-goroutine.invariant.next;
@@ -49,7 +54,8 @@ loop-goroutine-preserved c = record {
 
 pub returns-in-Err-clause-kept : goal.returns-in-Err-clause-kept
 returns-in-Err-clause-kept c =
-    rw (c.push_reserved-in-Err.ensures.items ∙ sym c.in-Some.ensures.items) c.loop-goroutine.invariant.kept
+    let back = ap (λ go. c.pop.new.self.items ++ go ∷ []) c.in-Err.ensures.back in
+    rw (c.push_reserved-in-Err.ensures.items ∙ (back ∙ sym c.in-Some.ensures.items)) c.loop-goroutine.invariant.kept
 
 pub returns-clause-none : goal.returns-clause-none
 returns-clause-none c = nothing_left _ _ _ c.in_default.ensures.rest c.in_default.ensures.cases.0

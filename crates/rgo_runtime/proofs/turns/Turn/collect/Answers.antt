@@ -1,6 +1,8 @@
-use Rattle.std.proofs.Common.{◌∷◌, subst}
+use Rattle.std.proofs.Common.{◌∷◌, subst, sym}
 use Rattle.std.specs.List.{All}
 use Rattle.std.proofs.lemmas.List.Elements.{All-same}
+use Rattle.rgo_table_runs.specs.Goroutine.Goroutines.{IsOf}
+use Rattle.rgo_table_runs.specs.Goroutine.declared.goroutine.Goroutine.{Goroutine}
 use Rattle.rgo_runtime.specs.Crews.{IsNewborn, Keeps, drawn, its_member, member_of, members}
 use Rattle.rgo_runtime.specs.Turns.{Turn}
 use Rattle.rgo_runtime.proofs.Keeps.{adopts_newborn, keeps_collect, keeps_prints_only}
@@ -9,13 +11,17 @@ use Rattle.rgo_runtime.proofs.turns.Turn.collect.Goals as goal
 pub returns-in_err-adopt-clause-kept : goal.returns-in_err-adopt-clause-kept
 returns-in_err-adopt-clause-kept c =
     let r = c.self.inside.run.now in
+    let go = c.as_mut-goroutine.result.now in
+    let is = c.as_mut-goroutine.ensures.value in
     let list = c.args.born.now.items in
     let gathered = c.in_ok-gather.ensures in
     let none = c.in_err-adopt.ensures.adopts in
     subst (λ (x : Turn). Keeps (its_member x ∷ members x.run.setup list) (drawn c.args.waiting.now.items)
     (member_of r.setup c.adopt.new.self ∷ members x.run.setup c.adopt.new.into.items) (drawn c.gather.new.into.items)) c.self.view_is
-    (keeps_prints_only r c.self.inside.goroutine c.gather.new.self c.adopt.new.self c.args.waiting.now.items c.gather.new.into.items
-    c.in_ok-gather.field-0 list c.adopt.new.into.items c.self.invariant.of gathered.gathers none.0 none.1)
+    (subst (λ (x : Goroutine). Keeps (member_of r.setup x ∷ members r.setup list) (drawn c.args.waiting.now.items)
+    (member_of r.setup c.adopt.new.self ∷ members r.setup c.adopt.new.into.items) (drawn c.gather.new.into.items)) is
+    (keeps_prints_only r go c.gather.new.self c.adopt.new.self c.args.waiting.now.items c.gather.new.into.items
+    c.in_ok-gather.field-0 list c.adopt.new.into.items (subst (IsOf r) (sym is) c.self.invariant.of) gathered.gathers none.0 none.1))
 
 pub returns-in_err-adopt-clause-born : goal.returns-in_err-adopt-clause-born
 returns-in_err-adopt-clause-born c =
@@ -26,17 +32,23 @@ returns-clause-born c =
     let r = c.self.inside.run.now in
     let list = c.args.born.now.items in
     let longer = c.adopt.new.into.items in
+    let of = subst (IsOf r) (sym c.as_mut-goroutine.ensures.value) c.self.invariant.of in
     subst (λ (x : Turn). All (IsNewborn x.run) list → All (IsNewborn x.run) longer) c.self.view_is
     (adopts_newborn r c.gather.new.self c.adopt.new.self list longer c.in_ok-adopt.field-0
-    (c.in_ok-gather.ensures.of r c.self.invariant.of) c.in_ok-adopt.ensures.adopts) c.requires.born
+    (c.in_ok-gather.ensures.of r of) c.in_ok-adopt.ensures.adopts) c.requires.born
 
 pub returns-clause-kept : goal.returns-clause-kept
 returns-clause-kept c =
     let r = c.self.inside.run.now in
+    let go = c.as_mut-goroutine.result.now in
+    let is = c.as_mut-goroutine.ensures.value in
+    let of = subst (IsOf r) (sym is) c.self.invariant.of in
     let list = c.args.born.now.items in
     let gathered = c.in_ok-gather.ensures in
     subst (λ (x : Turn). Keeps (its_member x ∷ members x.run.setup list) (drawn c.args.waiting.now.items)
     (member_of r.setup c.adopt.new.self ∷ members x.run.setup c.adopt.new.into.items) (drawn c.gather.new.into.items)) c.self.view_is
-    (keeps_collect r c.self.inside.goroutine c.gather.new.self c.adopt.new.self c.args.waiting.now.items c.gather.new.into.items
-    c.in_ok-gather.field-0 list c.adopt.new.into.items c.self.invariant.of gathered.gathers c.in_ok-adopt.field-0
-    (gathered.of r c.self.invariant.of) c.in_ok-adopt.ensures.adopts)
+    (subst (λ (x : Goroutine). Keeps (member_of r.setup x ∷ members r.setup list) (drawn c.args.waiting.now.items)
+    (member_of r.setup c.adopt.new.self ∷ members r.setup c.adopt.new.into.items) (drawn c.gather.new.into.items)) is
+    (keeps_collect r go c.gather.new.self c.adopt.new.self c.args.waiting.now.items c.gather.new.into.items
+    c.in_ok-gather.field-0 list c.adopt.new.into.items of gathered.gathers c.in_ok-adopt.field-0
+    (gathered.of r of) c.in_ok-adopt.ensures.adopts))
