@@ -398,12 +398,17 @@ impl<'r, 'c> Crew<'r, 'c> {
         self.parked.unpark_all(&mut self.ready)
     }
 
-    /// What the turns of those that are ready have come to, and which words they have changed.
+    /// What the turns of those that are ready, of up to `slice` instructions, have come to, and which words they have changed.
     ///
     /// # Errors
     ///
     /// On allocation failure.
-    fn look_over(&self, moved: bool, changed: &mut Vec<usize>) -> Result<Came, AllocError> {
+    fn look_over(
+        &self,
+        moved: bool,
+        slice: u32,
+        changed: &mut Vec<usize>,
+    ) -> Result<Came, AllocError> {
         let mut came = Came {
             moved,
             all_used: true,
@@ -413,7 +418,7 @@ impl<'r, 'c> Crew<'r, 'c> {
         };
         for turn in &self.ready {
             if let Some(turned) = turn.turned() {
-                came.all_used = came.all_used && turned.stop == Stop::Went;
+                came.all_used = came.all_used && turned.steps >= slice;
                 came.steps = came.steps.saturating_add(u64::from(turned.steps));
                 came.is_over = came.is_over || turn.goroutine().first().is_some();
                 came.lacks_memory = came.lacks_memory || turned.stop == Stop::NoMemory;
@@ -466,7 +471,7 @@ impl<'r, 'c> Crew<'r, 'c> {
         let moved = self.turn_all(rt, workers, number, gate)?;
         self.collect_all()?;
         changed.clear();
-        let came = self.look_over(moved, changed)?;
+        let came = self.look_over(moved, slice, changed)?;
         // Those that wait are parked before others are woken, so that a word that was changed in this round wakes them.
         self.sort_out();
         self.wake_each(changed.as_slice())?;

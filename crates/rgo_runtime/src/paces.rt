@@ -46,7 +46,7 @@ impl Pace {
         };
     }
 
-    /// On how many workers a round of `ready` goroutines runs: on all of them, or on the thread of the caller.
+    /// On how many workers a round of `ready` goroutines runs: on all that have one, or on the thread of the caller.
     pub(crate) fn workers(&self, workers: u32, ready: usize, slice: u32, number: u64) -> u32
         requires { (1 ≤ workers) × (workers ≤ 64) }
         ensures { (1 ≤ result) × (result ≤ 64) }
@@ -55,7 +55,12 @@ impl Pace {
         let is_long = u64::from(slice).saturating_mul(ready as u64) >= WORTH_THREADS
             && slice > SHORT;
         if ready > 1 && (is_first || is_long) {
-            workers
+            // More workers than goroutines would have nothing to do.
+            if ready < workers as usize {
+                ready as u32
+            } else {
+                workers
+            }
         } else {
             1
         }
