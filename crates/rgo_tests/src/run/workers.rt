@@ -30,13 +30,13 @@ impl Gate for Holding {
     }
 }
 
-/// Calls `rgo` with a text, and compares how many workers have arrived in round 2, of which none misses the other.
+/// Calls `rgo` with a text, and compares how many of workers 0 and 1 have arrived in round 2, and whether one has missed the other.
 fn have_arrived<R: Threads + Abort + AllocGlobal + Sync>(
     rt: &R,
     calls: &str,
     text: &str,
     print: &str,
-    wanted: u32,
+    wanted: (u32, bool),
 ) -> Result<(), AllocError> {
     let text = with_head(rt.alloc(), text)?;
     for words in calls.split(" | ") {
@@ -46,7 +46,7 @@ fn have_arrived<R: Threads + Abort + AllocGlobal + Sync>(
         let found = called(rt, words, text.as_bytes(), SOUND, &gate)?;
         is_wanted(rt, words, text.as_bytes(), &found, (print, "", 0));
         let arrived = (gate.round_2.arrived(), gate.round_2.missed());
-        same(rt, words, &arrived, &(wanted, false));
+        same(rt, words, &arrived, &wanted);
     }
     Ok(())
 }
@@ -57,11 +57,11 @@ const SEVERAL: &str = "rgo run | rgo run --workers 2 | rgo run --workers 7";
 #[test]
 fn workers_wait_for_one_another(rt: HostRuntime) -> Result<(), AllocError> {
     let sum = "3998000\n";
-    have_arrived(&rt, SEVERAL, TWO, sum, 2)?;
-    have_arrived(&rt, "rgo run --workers 1", TWO, sum, 0)?;
+    have_arrived(&rt, SEVERAL, TWO, sum, (2, false))?;
+    have_arrived(&rt, "rgo run --workers 1", TWO, sum, (1, true))?;
     let echo = "1\n11\n21\n31\n41\n";
-    have_arrived(&rt, SEVERAL, ECHO, echo, 2)?;
-    have_arrived(&rt, "rgo run --workers 1", ECHO, echo, 0)
+    have_arrived(&rt, SEVERAL, ECHO, echo, (2, false))?;
+    have_arrived(&rt, "rgo run --workers 1", ECHO, echo, (1, true))
 }
 
 /// How many goroutines the large text starts, and what it prints. With at most seven, all run on workers in a round.
