@@ -26,7 +26,7 @@ use Rattle.rgo_region_machine.specs.Room.{MakesTooLarge, LacksIn}
 use Rattle.rgo_sound.specs.Safety.{IsSafe, PointersStay, cells_of}
 use Rattle.rgo_sound.specs.Stakes.{HasEnded, holders_of, pending_of}
 use Rattle.rgo_sound.proofs.Places.{contains_here, contains_one}
-use Rattle.rgo_run.specs.Runs.{NamesLive}
+use Rattle.rgo_run.specs.TableRuns.claims.RegionRuns.{NamesLive}
 use Rattle.rgo_claim_examples.specs.States as example
 use Rattle.rgo_claim_examples.specs.States.{RoomExamples, StateExamples, main_at, sizes}
 

@@ -16,7 +16,7 @@ use Rattle.rgo_region_machine.specs.Regions.{Bindings, RegionInfo}
 use Rattle.rgo_region_machine.specs.States.{Duty, Holder, NoOffer, RegionState, Remove, Taken}
 use Rattle.rgo_sound.specs.Safety.{IsSafe}
 use Rattle.rgo_region_machine.specs.Room.{LacksIn}
-use Rattle.rgo_run.specs.Runs.{NamesLive}
+use Rattle.rgo_run.specs.TableRuns.claims.RegionRuns.{NamesLive}
 
 -- ---- parts of states
 
