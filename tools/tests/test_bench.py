@@ -35,7 +35,7 @@ class Programs(unittest.TestCase):
         self.assertEqual(16, len(sources))
         for source in sources:
             with self.subTest(source.name), open(source, "rb") as text:
-                command = [error_pages.program(), "run", "--page-words", "4096"]
+                command = [error_pages.program(), "run", "--page-words", "4096", "--pages", "256"]
                 ran = subprocess.run(command, stdin=text, capture_output=True, timeout=300, check=False)
                 self.assertEqual((0, source.with_suffix(".out").read_bytes(), b""), (ran.returncode, ran.stdout, ran.stderr))
 
@@ -107,7 +107,7 @@ class Script(unittest.TestCase):
         self.assertEqual(["", "0.50", "0.75", "1", "", ""], [row[6], *row[10:]])
 
     def test_processor_time_is_not_that_of_waiting(self):
-        fake = self.write("rgo", "#!/bin/sh\ncat >/dev/null\n[ \"$6\" = --stats ] || sleep 0.5\n")
+        fake = self.write("rgo", "#!/bin/sh\ncat >/dev/null\n[ \"$8\" = --stats ] || sleep 0.5\n")
         seconds = [float(self.rows(self.bench("--rgo", fake, "--clock", clock, "sieve"))[0][2]) for clock in ("wall", "processor")]
         self.assertGreaterEqual(seconds[0], 0.5)
         self.assertLess(seconds[1], 0.25)
@@ -119,12 +119,12 @@ class Script(unittest.TestCase):
 
     def test_regions_and_pages_are_those_of_the_statistics(self):
         made = "rgo: regions 3 removed 2 pages 7 returned 5 objects 9 goroutines 1"
-        fake = self.write("rgo", f"#!/bin/sh\ncat >/dev/null\n[ \"$6\" = --stats ] && echo '{made}' >&2\nexit 0\n")
+        fake = self.write("rgo", f"#!/bin/sh\ncat >/dev/null\n[ \"$8\" = --stats ] && echo '{made}' >&2\nexit 0\n")
         self.assertEqual(["3", "7"], self.rows(self.bench("--rgo", fake, "sieve"))[0][13:])
 
     def test_programs_with_goroutines_run_on_several_workers(self):
         # Waits longer on two workers than on one.
-        fake = self.write("rgo", "#!/bin/sh\ncat >/dev/null\n[ \"$5\" = 2 ] && sleep 0.5\nexit 0\n")
+        fake = self.write("rgo", "#!/bin/sh\ncat >/dev/null\n[ \"$7\" = 2 ] && sleep 0.5\nexit 0\n")
         ran = self.bench("--rgo", fake, "--workers", "1,2", "pingpong", "sieve")
         self.assertEqual((0, ""), (ran.returncode, ran.stderr))
         self.assertIn("\n| program | size | 1 worker s | 2 workers s |\n", ran.stdout)
