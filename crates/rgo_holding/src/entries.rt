@@ -22,10 +22,10 @@ pub(crate) struct Entry {
     pub(crate) page: Option<Page>,
     /// How often the goroutine protects it, in all frames and since its start.
     pub(crate) protections: u32,
-    /// The last round in which a stake was taken for a coming child; 0 for none.
-    pub(crate) shared: u64,
     /// Entries of regions that were left are used again.
     pub(crate) used: bool,
+    /// The last round in which a stake was taken for a coming child; 0 for none.
+    pub(crate) shared: u64,
 }
 
 /// The entry of a region that the goroutine has just come to know.
@@ -36,8 +36,8 @@ pub(crate) fn new_entry(slot: u32) -> Entry
         slot,
         page: None,
         protections: 0,
-        shared: 0,
         used: true,
+        shared: 0,
     }
 }
 
@@ -49,8 +49,8 @@ fn no_entry() -> Entry
         slot: 0,
         page: None,
         protections: 0,
-        shared: 0,
         used: false,
+        shared: 0,
     }
 }
 

@@ -58,6 +58,7 @@ impl Frames {
     pub(crate) fn name_first(&mut self, keys: Vec<Option<Key>>) -> Result<(), AllocError>
         ensures { OnOk result (spec.NamesFirst self.old self.new keys.items) }
     {
+        self.tables.reserve_exact(1)?;
         self.tables.push(Table {
             height: 1,
             start: 0,

@@ -68,7 +68,8 @@ impl Holding {
         ensures slots { IfOk result (λ k. k.slots ≡ slots) }
         ensures tables { IfOk result (λ k. k.frames.tables.items ≡ []) }
     {
-        let mut entries = Vec::new(alloc);
+        // Most goroutines know one region beside Global, and many wait in it: a list that grew by itself would have room for four.
+        let mut entries = Vec::with_capacity(alloc, 2)?;
         entries.push(new_entry(slots))?;
         Ok(Holding {
             frames: Frames::new(alloc),
