@@ -43,14 +43,6 @@ fn place_of(number: u64, count: usize) -> u32 {
     u32::try_from(number.wrapping_mul(64) % count as u64).unwrap_or(0)
 }
 
-/// This place, or the first one if there is no such place among `count`.
-pub(crate) fn within(place: u32, count: usize) -> u32
-    requires { 0 < count }
-    ensures { result < count }
-{
-    if (place as usize) < count { place } else { 0 }
-}
-
 /// The place after this one. After the last one there is none, and a search begins at the first one then.
 pub(crate) fn after(place: u32) -> u32 {
     place.wrapping_add(1)

@@ -15,41 +15,57 @@ ghost use Rattle.rgo_acts.specs.Traps.{IsAtTrap};
 use crate::actors::Actor;
 use crate::runs::Run;
 use rgo_body::Next;
-use rgo_core_steps::memory;
+use rgo_body::pages::cells;
+use rgo_core_steps::counting::Steps;
 use rgo_sound::memory::Trap;
+use std::sync::ledger::Ledger;
 
 /// A variable of the next instruction gets the word that this loads.
-fn take(actor: &mut Actor, run: &Run<'_, '_>, next: &Next<'_>, word: usize)
+fn take<L: Ledger>(
+    actor: &mut Actor,
+    run: &Run<'_, '_>,
+    next: &Next<'_>,
+    word: usize,
+    steps: &mut Steps<L>,
+)
     requires before { IsBefore run.now actor.old next.now }
     requires inside { word < run.now.table.words }
     requires loads { Loads run.now.setup (now run.now.setup actor.old) word }
     ensures { Acted run.now actor.old actor.new 1 [] [] }
 {
-    let found = memory::load(run.table, &mut actor.seat, actor.behind, word);
+    let found = cells::load(run.table, &mut actor.seat, actor.behind, word, steps);
     actor.behind = 0;
     actor.body.acted(run.program, next, found);
 }
 
 /// The next instruction stores this value.
-fn put(actor: &mut Actor, run: &Run<'_, '_>, next: &Next<'_>, word: usize, value: u64)
+fn put<L: Ledger>(
+    actor: &mut Actor,
+    run: &Run<'_, '_>,
+    next: &Next<'_>,
+    word: usize,
+    value: u64,
+    steps: &mut Steps<L>,
+)
     requires before { IsBefore run.now actor.old next.now }
     requires inside { word < run.now.table.words }
     requires stores { Stores run.now.setup (now run.now.setup actor.old) word value }
     ensures { Acted run.now actor.old actor.new 1 [] [] }
 {
-    memory::store(run.table, &mut actor.seat, actor.behind, word, value);
+    cells::store(run.table, &mut actor.seat, actor.behind, word, value, steps);
     actor.behind = 0;
     actor.body.acted(run.program, next, 0);
 }
 
 /// Loads a field of the struct to which variable `from` points.
-pub fn load_field(
+pub fn load_field<L: Ledger>(
     actor: &mut Actor,
     run: &Run<'_, '_>,
     next: &Next<'_>,
     to: u32,
     field: usize,
     from: u32,
+    steps: &mut Steps<L>,
 ) -> Result<(), Trap>
     requires before { IsBefore run.now actor.old next.now }
     requires is { operation_of next.now.op ≡ Do (Some to) (action.Load field) (from ∷ []) }
@@ -59,18 +75,25 @@ pub fn load_field(
     if pointer == 0 {
         return Err(Trap::NilPointer);
     }
-    take(actor, run, next, run.cell(pointer as usize - 1, field));
+    take(
+        actor,
+        run,
+        next,
+        run.cell(pointer as usize - 1, field),
+        steps,
+    );
     Ok(())
 }
 
 /// Stores variable `value` to a field of the struct to which variable `to` points.
-pub fn store_field(
+pub fn store_field<L: Ledger>(
     actor: &mut Actor,
     run: &Run<'_, '_>,
     next: &Next<'_>,
     field: usize,
     to: u32,
     value: u32,
+    steps: &mut Steps<L>,
 ) -> Result<(), Trap>
     requires before { IsBefore run.now actor.old next.now }
     requires is { operation_of next.now.op ≡ Do None (action.Store field) (to ∷ value ∷ []) }
@@ -82,33 +105,41 @@ pub fn store_field(
     }
     let word = actor.body.word(value);
     let cell = run.cell(pointer as usize - 1, field);
-    put(actor, run, next, cell, word);
+    put(actor, run, next, cell, word, steps);
     Ok(())
 }
 
 /// Loads the length of the slice in variable `from`. That of nil is 0.
-pub fn length(actor: &mut Actor, run: &Run<'_, '_>, next: &Next<'_>, to: u32, from: u32)
+pub fn length<L: Ledger>(
+    actor: &mut Actor,
+    run: &Run<'_, '_>,
+    next: &Next<'_>,
+    to: u32,
+    from: u32,
+    steps: &mut Steps<L>,
+)
     requires before { IsBefore run.now actor.old next.now }
     requires is { operation_of next.now.op ≡ Do (Some to) action.Len (from ∷ []) }
     ensures { Acted run.now actor.old actor.new 1 [] [] }
 {
     let slice = actor.body.word(from);
     if slice == 0 {
-        memory::length_of_nil(run.table, &mut actor.seat, actor.behind);
+        cells::length_of_nil(run.table, &mut actor.seat, actor.behind, steps);
         actor.behind = 0;
         actor.body.acted(run.program, next, 0);
         return;
     }
-    take(actor, run, next, run.cell(slice as usize - 1, 0));
+    take(actor, run, next, run.cell(slice as usize - 1, 0), steps);
 }
 
 /// The word of element `index` of the slice in variable `slice`, whose length is loaded for that; `None` if there is no such element.
-fn element(
+fn element<L: Ledger>(
     actor: &mut Actor,
     run: &Run<'_, '_>,
     next: &Next<'_>,
     slice: u32,
     index: u32,
+    steps: &mut Steps<L>,
 ) -> Option<usize>
     requires before { IsBefore run.now actor.old next.now }
     requires at { IsAtElementOf (operation_of next.now.op) slice index }
@@ -121,7 +152,14 @@ fn element(
     }
     let address = pointer as usize - 1;
     let first = run.cell(address, 0);
-    let elements = memory::measure(run.table, &mut actor.seat, actor.behind, first, address);
+    let elements = cells::measure(
+        run.table,
+        &mut actor.seat,
+        actor.behind,
+        first,
+        address,
+        steps,
+    );
     actor.behind = 0;
     let index = actor.body.word(index);
     if index >= elements {
@@ -131,21 +169,22 @@ fn element(
 }
 
 /// Loads element `index` of the slice in variable `slice`.
-pub fn load_element(
+pub fn load_element<L: Ledger>(
     actor: &mut Actor,
     run: &Run<'_, '_>,
     next: &Next<'_>,
     to: u32,
     slice: u32,
     index: u32,
+    steps: &mut Steps<L>,
 ) -> Result<(), Trap>
     requires before { IsBefore run.now actor.old next.now }
     requires is { operation_of next.now.op ≡ Do (Some to) action.At (slice ∷ index ∷ []) }
     ensures { MatchResult result (λ _. Acted run.now actor.old actor.new 1 [] []) (λ trap. IsAtTrap run.now actor.old actor.new trap) }
 {
-    match element(actor, run, next, slice, index) {
+    match element(actor, run, next, slice, index, steps) {
         Some(word) => {
-            take(actor, run, next, word);
+            take(actor, run, next, word, steps);
             Ok(())
         }
         None => Err(Trap::IndexRange),
@@ -153,22 +192,23 @@ pub fn load_element(
 }
 
 /// Stores variable `value` to element `index` of the slice in variable `slice`.
-pub fn store_element(
+pub fn store_element<L: Ledger>(
     actor: &mut Actor,
     run: &Run<'_, '_>,
     next: &Next<'_>,
     slice: u32,
     index: u32,
     value: u32,
+    steps: &mut Steps<L>,
 ) -> Result<(), Trap>
     requires before { IsBefore run.now actor.old next.now }
     requires is { operation_of next.now.op ≡ Do None action.Put (slice ∷ index ∷ value ∷ []) }
     ensures { MatchResult result (λ _. Acted run.now actor.old actor.new 1 [] []) (λ trap. IsAtTrap run.now actor.old actor.new trap) }
 {
-    match element(actor, run, next, slice, index) {
+    match element(actor, run, next, slice, index, steps) {
         Some(word) => {
             let value = actor.body.word(value);
-            put(actor, run, next, word, value);
+            put(actor, run, next, word, value, steps);
             Ok(())
         }
         None => Err(Trap::IndexRange),
@@ -176,34 +216,36 @@ pub fn store_element(
 }
 
 /// Loads a package variable.
-pub fn load_variable(
+pub fn load_variable<L: Ledger>(
     actor: &mut Actor,
     run: &Run<'_, '_>,
     next: &Next<'_>,
     to: u32,
     variable: usize,
+    steps: &mut Steps<L>,
 )
     requires before { IsBefore run.now actor.old next.now }
     requires is { operation_of next.now.op ≡ Do (Some to) (action.Get variable) [] }
     ensures { Acted run.now actor.old actor.new 1 [] [] }
 {
-    take(actor, run, next, run.variable(variable));
+    take(actor, run, next, run.variable(variable), steps);
 }
 
 /// Stores variable `from` to a package variable.
-pub fn store_variable(
+pub fn store_variable<L: Ledger>(
     actor: &mut Actor,
     run: &Run<'_, '_>,
     next: &Next<'_>,
     variable: usize,
     from: u32,
+    steps: &mut Steps<L>,
 )
     requires before { IsBefore run.now actor.old next.now }
     requires is { operation_of next.now.op ≡ Do None (action.Set variable) (from ∷ []) }
     ensures { Acted run.now actor.old actor.new 1 [] [] }
 {
     let value = actor.body.word(from);
-    put(actor, run, next, run.variable(variable), value);
+    put(actor, run, next, run.variable(variable), value, steps);
 }
 
 /// Accesses to elements that are as their definitions say, and such as are not.

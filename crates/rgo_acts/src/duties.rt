@@ -11,7 +11,7 @@ ghost use Rattle.rgo_acts.specs.Actors.{Stands};
 ghost use Rattle.rgo_acts.specs.Attending.{Attends, HasAttended, HasAttendedLocally, IsAtDuty};
 ghost use Rattle.rgo_acts.specs.DutyExamples.{DutyExamples};
 
-use crate::actors::{Actor, after, within};
+use crate::actors::{Actor, after};
 use crate::runs::Run;
 use rgo_body::pages::releasing;
 use rgo_body::{Body, Duty, Program};
@@ -109,13 +109,12 @@ fn create<L: Ledger>(
     if run.sizes.slots == 0 {
         return Attended::Short;
     }
-    let from = within(actor.searches.slot, run.sizes.slots);
     let slot = creation::create_from(
         run.table,
         &mut actor.seat,
         actor.behind,
         &run.sizes,
-        from,
+        actor.searches.slot,
         steps,
     );
     actor.behind = 0;

@@ -24,17 +24,18 @@ ghost use Rattle.rgo_acts.specs.ObjectExamples.{ObjectExamples};
 ghost use Rattle.rgo_acts.specs.Objects as spec;
 ghost use Rattle.rgo_acts.specs.Ready.{IsBefore};
 
-use crate::actors::{Actor, after, within};
+use crate::actors::{Actor, after};
 use crate::runs::Run;
 use rgo_body::Next;
+use rgo_body::pages::cells::zero;
 use rgo_body::pages::claiming::claim_from;
 use rgo_core::memory::layout::{TableSizes, cell_at};
 use rgo_core::table::{RunSeat, RunTable};
 use rgo_core_steps::counting::Steps;
-use rgo_core_steps::memory;
 use rgo_holding::{Key, Page};
 use rgo_sound::memory::Trap;
-use std::sync::ledger::Ledger;
+use std::marker::Brand;
+use std::sync::ledger::{Blank, Ledger};
 
 /// What came of an instruction that makes an object.
 #[derive(Clone, Copy, Debug, PartialEq, Eq)]
@@ -86,13 +87,14 @@ fn with_room(page: Option<Page>, words: usize, page_words: usize) -> Option<Page
 }
 
 /// Stores the words of the next object on its page.
-fn store_words(
+fn store_words<L: Ledger>(
     table: &RunTable,
     sizes: &TableSizes,
     seat: &mut RunSeat,
     behind: u64,
     page: Page,
     new: New,
+    steps: &mut Steps<L>,
 )
     requires own { seat.old.table_id ≡ table.now.shared.table_id }
     requires layout { HasLayout (setup_of table.now.shared.key) sizes.now table.now.shared.table_id }
@@ -107,18 +109,26 @@ fn store_words(
         (slot : ℕ) (placed : spec.IsPlaced T (settled T behind seat.old.me) slot page new)
         → mine T seat.new.me ≡ with_new_object T (settled T behind seat.old.me) (own_page slot page) placed.object.object }
     ensures possible { HasPossible (setup_of table.now.shared.key) seat.new.me }
+    ensures cost { steps.new ≡ steps.old + new.words }
 {
     let mut left = behind;
     for i in 0..new.words {
         let word = cell_at(sizes, page.page as usize, page.fill as usize + i);
-        memory::zero(table, seat, left, word, opening(new, i), i);
+        zero(table, seat, left, word, opening(new, i), i, steps);
         // The first access takes the local steps before it.
         left = 0;
     }
 }
 
 /// Makes the next object on this page.
-fn make_on(actor: &mut Actor, run: &Run<'_, '_>, next: &Next<'_>, new: New, page: Page)
+fn make_on<L: Ledger>(
+    actor: &mut Actor,
+    run: &Run<'_, '_>,
+    next: &Next<'_>,
+    new: New,
+    page: Page,
+    steps: &mut Steps<L>,
+)
     requires before { IsBefore run.now actor.old next.now }
     requires does { (to : _) × (act : _) × (from : List ℕ) × (operation_of next.now.op ≡ Do to act from) }
     requires count { actor.old.body.counts.objects + 1 < 2 ^ 64 }
@@ -127,6 +137,7 @@ fn make_on(actor: &mut Actor, run: &Run<'_, '_>, next: &Next<'_>, new: New, page
     ensures acted { Acted run.now actor.old actor.new 1 [] [] }
     ensures beyond { IsBeyond actor.old actor.new }
     ensures rests { actor.new.body.side ≡ AtRest }
+    ensures cost { steps.new ≡ steps.old + new.words }
 {
     store_words(
         run.table,
@@ -135,6 +146,7 @@ fn make_on(actor: &mut Actor, run: &Run<'_, '_>, next: &Next<'_>, new: New, page
         actor.behind,
         page,
         new,
+        steps,
     );
     actor.behind = 0;
     let address = page.page as usize * run.sizes.page_words + page.fill as usize;
@@ -142,6 +154,30 @@ fn make_on(actor: &mut Actor, run: &Run<'_, '_>, next: &Next<'_>, new: New, page
     actor
         .body
         .made(run.program, next, new.key, end, address as u64 + 1);
+}
+
+/// The same, where nobody counts the accesses.
+fn make_uncounted<L: Ledger>(
+    actor: &mut Actor,
+    run: &Run<'_, '_>,
+    next: &Next<'_>,
+    new: New,
+    page: Page,
+    blank: Blank,
+)
+    requires before { IsBefore run.now actor.old next.now }
+    requires does { (to : _) × (act : _) × (from : List ℕ) × (operation_of next.now.op ≡ Do to act from) }
+    requires count { actor.old.body.counts.objects + 1 < 2 ^ 64 }
+    requires placed { (region : Region) × (region_at actor.old.body.holding new.key ≡ Some region)
+        × spec.IsPlaced run.now.setup (now run.now.setup actor.old) (slot_of run.now.setup.sizes.regions region) page new }
+    requires name { blank.name ≡ L.name }
+    requires parts { (blank.parts ≡ L.parts) × (0 < blank.parts) }
+    ensures acted { Acted run.now actor.old actor.new 1 [] [] }
+    ensures beyond { IsBeyond actor.old actor.new }
+    ensures rests { actor.new.body.side ≡ AtRest }
+{
+    let mut steps = Steps::<L>::new(blank);
+    make_on(actor, run, next, new, page, &mut steps);
 }
 
 /// Claims a page for the next object.
@@ -164,14 +200,13 @@ fn claim_page<L: Ledger>(
     ensures cost { steps.new ≤ steps.old + (2 * run.now.sizes.pages + 2) }
 {
     let slot = actor.body.page_slot(new.key);
-    let from = within(actor.searches.page, run.sizes.pages);
     let claimed = claim_from(
         run.table,
         &mut actor.seat,
         actor.behind,
         &run.sizes,
         slot,
-        from,
+        actor.searches.page,
         steps,
     );
     actor.behind = 0;
@@ -238,11 +273,11 @@ fn make<L: Ledger>(
     requires pages { 0 < run.now.sizes.pages }
     requires count { (actor.old.body.counts.taken + 1 < 2 ^ 64) × (actor.old.body.counts.objects + 1 < 2 ^ 64) }
     ensures made { spec.Makes run.now actor.old actor.new result }
-    ensures cost { steps.new ≤ steps.old + (2 * run.now.sizes.pages + 2) }
+    ensures cost { steps.new ≤ steps.old + (2 * run.now.sizes.pages + 2 + run.now.sizes.page_words) }
 {
     match page_for(actor, run, next, new, steps) {
         Some(page) => {
-            make_on(actor, run, next, new, page);
+            make_on(actor, run, next, new, page, steps);
             Made::Done
         }
         None => Made::Short,
@@ -295,7 +330,7 @@ fn object<L: Ledger>(
     requires pages { 0 < run.now.sizes.pages }
     requires count { (actor.old.body.counts.taken + 1 < 2 ^ 64) × (actor.old.body.counts.objects + 1 < 2 ^ 64) }
     ensures made { spec.Makes run.now actor.old actor.new result }
-    ensures cost { steps.new ≤ steps.old + (2 * run.now.sizes.pages + 2) }
+    ensures cost { steps.new ≤ steps.old + (2 * run.now.sizes.pages + 2 + run.now.sizes.page_words) }
 {
     match object_of(actor, run, next, to, words, place, value) {
         Some(new) => make(actor, run, next, new, steps),
@@ -327,7 +362,7 @@ pub fn new_struct<L: Ledger>(
     requires pages { 0 < run.now.sizes.pages }
     requires count { (actor.old.body.counts.taken + 1 < 2 ^ 64) × (actor.old.body.counts.objects + 1 < 2 ^ 64) }
     ensures made { spec.Makes run.now actor.old actor.new result }
-    ensures cost { steps.new ≤ steps.old + (2 * run.now.sizes.pages + 2) }
+    ensures cost { steps.new ≤ steps.old + (2 * run.now.sizes.pages + 2 + run.now.sizes.page_words) }
 {
     let words = struct_words(run, number);
     object(actor, run, next, to, words, 0, 0, steps)
@@ -358,7 +393,7 @@ pub(crate) fn new_at_hand(
     };
     match own_page_for(actor, run, next, new) {
         Some(page) => {
-            make_on(actor, run, next, new, page);
+            make_uncounted::<Brand>(actor, run, next, new, page, Blank::new(1));
             true
         }
         None => false,
@@ -379,7 +414,7 @@ pub fn new_slice<L: Ledger>(
     requires pages { 0 < run.now.sizes.pages }
     requires count { (actor.old.body.counts.taken + 1 < 2 ^ 64) × (actor.old.body.counts.objects + 1 < 2 ^ 64) }
     ensures made { spec.Makes run.now actor.old actor.new result }
-    ensures cost { steps.new ≤ steps.old + (2 * run.now.sizes.pages + 2) }
+    ensures cost { steps.new ≤ steps.old + (2 * run.now.sizes.pages + 2 + run.now.sizes.page_words) }
 {
     let elements = actor.body.word(size);
     if elements >= FIRST_NEGATIVE {
@@ -420,7 +455,7 @@ pub fn new_channel<L: Ledger>(
     requires small { run.now.setup.sizes.page_words ≤ 1073741820 }
     requires count { (actor.old.body.counts.taken + 1 < 2 ^ 64) × (actor.old.body.counts.objects + 1 < 2 ^ 64) }
     ensures made { spec.Makes run.now actor.old actor.new result }
-    ensures cost { steps.new ≤ steps.old + (2 * run.now.sizes.pages + 2) }
+    ensures cost { steps.new ≤ steps.old + (2 * run.now.sizes.pages + 2 + run.now.sizes.page_words) }
 {
     let capacity = actor.body.word(size);
     if capacity >= FIRST_NEGATIVE {

@@ -49,11 +49,49 @@ pub fn create<L: Ledger>(
     ensures possible { HasPossible (setup_of table.now.shared.key) seat.new.me }
     ensures cost { steps.new ≤ steps.old + 2 * sizes.now.slots }
 {
-    create_from(table, seat, behind, sizes, 0, steps)
+    create_at(table, seat, behind, sizes, 0, steps)
 }
 
-/// The same, where the looks begin at slot `from`.
+/// The same, where the search begins at slot `from`, or at slot 0 if there is no such slot.
 pub fn create_from<L: Ledger>(
+    table: &RunTable,
+    seat: &mut RunSeat,
+    behind: u64,
+    sizes: &TableSizes,
+    from: u32,
+    steps: &mut Steps<L>,
+) -> Result<u32, NoSlot>
+    requires own { seat.old.table_id ≡ table.now.shared.table_id }
+    requires layout { HasLayout (setup_of table.now.shared.key) sizes.now table.now.shared.table_id }
+    requires alone { HasOne (setup_of table.now.shared.key) seat.old.me }
+    requires settles { Settles (setup_of table.now.shared.key) behind seat.old.me }
+    requires rests { (settled (setup_of table.now.shared.key) behind seat.old.me).side ≡ at_rest }
+    requires creates { IsCreating (settled (setup_of table.now.shared.key) behind seat.old.me) }
+    requires some { 0 < sizes.now.slots }
+    ensures own { (seat.new.table_id ≡ seat.old.table_id) × (seat.new.id ≡ seat.old.id) }
+    ensures created { let T = setup_of table.now.shared.key in IfOk result (λ slot.
+        SlotTaken T sizes.now (settled T behind seat.old.me) slot seat.old.me seat.new.me) }
+    ensures full { let T = setup_of table.now.shared.key in IfErr result (λ e.
+        AllSlotsTried T sizes.now (settled T behind seat.old.me) seat.old.me seat.new.me) }
+    ensures fresh { let T = setup_of table.now.shared.key in IfOk result (λ slot.
+        is_in slot (settled T behind seat.old.me).frame.holder.stakes ≡ false) }
+    ensures possible { HasPossible (setup_of table.now.shared.key) seat.new.me }
+    ensures cost { steps.new ≤ steps.old + 2 * sizes.now.slots }
+{
+    if (from as usize) < sizes.slots {
+        create_at(table, seat, behind, sizes, from, steps)
+    } else {
+        create(table, seat, behind, sizes, steps)
+    }
+}
+
+/// What a search in vain shows: each slot was found in use at an exchange of the call.
+pub fn full_law()
+    ensures { FullLaw }
+{}
+
+/// Creates a region, where the looks begin at this slot.
+fn create_at<L: Ledger>(
     table: &RunTable,
     seat: &mut RunSeat,
     behind: u64,
@@ -83,11 +121,6 @@ pub fn create_from<L: Ledger>(
         None => Err(NoSlot),
     }
 }
-
-/// What a search in vain shows: each slot was found in use at an exchange of the call.
-pub fn full_law()
-    ensures { FullLaw }
-{}
 
 /// Takes a free slot, if there is one.
 fn take<L: Ledger>(

@@ -1,4 +1,10 @@
-//! Stakes in regions, each by one access.
+//! Stakes in regions, each by one access of the count of a slot, which is one more than the stakes in its region.
+//!
+//! 1. A goroutine that has a stake adds 1 for one that it is about to start (`share`). So the count is at least 3 from before the start
+//!    on, until one of the two leaves.
+//! 2. Whoever ends a stake subtracts 1 (`leave`). Who finds more than 2 is not the last: another goroutine has a stake still, and will
+//!    find what is left. Who finds 2 is the last; no goroutine has a stake from then on, and so none accesses the count.
+//! 3. The last one gives the pages back, and stores 0 (`free_slot`). Then another goroutine's `create` may find the slot free.
 ghost use Rattle.std.specs.Prelude.{◌≡◌, ◌<◌, ◌+◌, ◌-◌, ◌%◌, ◌^◌, ℕ};
 ghost use mathlib.Core.Logic.{◌↔◌};
 ghost use Rattle.rgo_core.specs.Chains.{remembers};

@@ -1,4 +1,10 @@
 //! Words of objects and package variables, each by one access.
+//!
+//! 1. The goroutine that makes an object stores each of its words once (`zero`), in whatever order. Nobody else has its address before
+//!    the last of these stores.
+//! 2. From then on each goroutine that has come to know the address, and has a stake in the region, loads and stores the words (`load`,
+//!    `store`). None is locked: a load finds what the last store to the word has stored, whoever made it.
+//! 3. Before a goroutine accesses an element it loads the length of the slice (`measure`), which is never stored again.
 ghost use Rattle.std.specs.Prelude.{◌≡◌, ◌+◌, ℕ};
 ghost use Rattle.rgo_core.specs.Accesses.{measures};
 ghost use Rattle.rgo_core.specs.Bounds.{LieInPages, Points};

@@ -47,11 +47,49 @@ pub fn claim<L: Ledger>(
     ensures possible { HasPossible (setup_of table.now.shared.key) seat.new.me }
     ensures cost { steps.new ≤ steps.old + (2 * sizes.now.pages + 2) }
 {
-    claim_from(table, seat, behind, sizes, slot, 0, steps)
+    claim_at(table, seat, behind, sizes, slot, 0, steps)
 }
 
-/// The same, where the looks begin at page `from`.
+/// The same, where the search begins at page `from`, or at page 0 if there is no such page.
 pub fn claim_from<L: Ledger>(
+    table: &RunTable,
+    seat: &mut RunSeat,
+    behind: u64,
+    sizes: &TableSizes,
+    slot: u32,
+    from: u32,
+    steps: &mut Steps<L>,
+) -> Result<u32, NoPage>
+    requires own { seat.old.table_id ≡ table.now.shared.table_id }
+    requires layout { HasLayout (setup_of table.now.shared.key) sizes.now table.now.shared.table_id }
+    requires alone { HasOne (setup_of table.now.shared.key) seat.old.me }
+    requires settles { Settles (setup_of table.now.shared.key) behind seat.old.me }
+    requires slot { slot ≤ sizes.now.slots }
+    requires some { 0 < sizes.now.pages }
+    requires calm { IsCalm (settled (setup_of table.now.shared.key) behind seat.old.me) }
+    requires needs { let T = setup_of table.now.shared.key in NeedsPage T (settled T behind seat.old.me) slot }
+    ensures own { (seat.new.table_id ≡ seat.old.table_id) × (seat.new.id ≡ seat.old.id) }
+    ensures claimed { let T = setup_of table.now.shared.key in IfOk result (λ page.
+        PageClaimed T sizes.now slot (settled T behind seat.old.me) page seat.old.me seat.new.me) }
+    ensures full { let T = setup_of table.now.shared.key in IfErr result (λ e.
+        AllPagesTried T sizes.now (settled T behind seat.old.me) seat.old.me seat.new.me) }
+    ensures possible { HasPossible (setup_of table.now.shared.key) seat.new.me }
+    ensures cost { steps.new ≤ steps.old + (2 * sizes.now.pages + 2) }
+{
+    if (from as usize) < sizes.pages {
+        claim_at(table, seat, behind, sizes, slot, from, steps)
+    } else {
+        claim(table, seat, behind, sizes, slot, steps)
+    }
+}
+
+/// What a search in vain shows: each page was found in use at an exchange of the call.
+pub fn full_law()
+    ensures { FullLaw }
+{}
+
+/// Claims a page, where the looks begin at this one.
+fn claim_at<L: Ledger>(
     table: &RunTable,
     seat: &mut RunSeat,
     behind: u64,
@@ -92,11 +130,6 @@ pub fn claim_from<L: Ledger>(
         None => Err(NoPage),
     }
 }
-
-/// What a search in vain shows: each page was found in use at an exchange of the call.
-pub fn full_law()
-    ensures { FullLaw }
-{}
 
 /// Puts a page that was taken at the head of the chain of its slot.
 fn hook<L: Ledger>(

@@ -13,33 +13,33 @@ use Rattle.rgo_acts.proofs.Measuring.{at_element, is_inside, is_nil, is_outside,
 use Rattle.rgo_acts.proofs.cells.element.Goals as goal
 
 pub word-pointer-requires : goal.word-pointer-requires
-word-pointer-requires c =
+word-pointer-requires g c =
     has_variable c.args.run.now c.args.actor.now c.args.next.now c.requires.before c.args.slice
     (inl (reads_both (operation_of c.args.next.now.op) c.args.slice c.args.index c.requires.at).0)
 
 pub returns-then-pointer-eq0 : goal.returns-then-pointer-eq0
-returns-then-pointer-eq0 c =
+returns-then-pointer-eq0 g c =
     is_nil c.args.run.now c.args.actor.now c.args.next.now c.requires.before c.args.slice c.args.index c.word-pointer.result c.requires.at
     c.word-pointer.ensures c.if-pointer-eq0.true
 
 pub cell-first-requires : goal.cell-first-requires
-cell-first-requires c =
+cell-first-requires g c =
     length_lies c.args.run.now c.args.actor.now c.args.next.now c.requires.before c.args.slice c.args.index c.word-pointer.result
     c.requires.at c.word-pointer.ensures c.if-pointer-eq0.false
 
 pub measure-elements-requires-clause-element : goal.measure-elements-requires-clause-element
-measure-elements-requires-clause-element c =
+measure-elements-requires-clause-element g c =
     subst (λ (r : Run). IsAtElement r.setup.code (now r.setup c.args.actor.now) (c.word-pointer.result - 1)) (sym c.run.view_is)
     (at_element c.args.run.now c.args.actor.now c.args.next.now c.requires.before c.args.slice c.args.index c.word-pointer.result
     c.requires.at c.word-pointer.ensures c.if-pointer-eq0.false)
 
 pub word-index-requires : goal.word-index-requires
-word-index-requires c =
+word-index-requires g c =
     has_variable c.args.run.now c.args.actor.now c.args.next.now c.requires.before c.args.index
     (inl (reads_both (operation_of c.args.next.now.op) c.args.slice c.args.index c.requires.at).1)
 
 pub returns-then-index-elements : goal.returns-then-index-elements
-returns-then-index-elements c =
+returns-then-index-elements g c =
     let a = c.args.actor.now in
     let b = record a { seat = c.measure-elements.new.seat; behind = 0 } in
     let before = subst (λ (r : Run). IsBefore r a c.args.next.now) (sym c.run.view_is) c.requires.before in
@@ -49,7 +49,7 @@ returns-then-index-elements c =
     c.measure-elements.ensures.possible c.measure-elements.ensures.leaves c.word-index.result c.word-index.ensures c.if-index-elements.true)
 
 pub cell-requires : goal.cell-requires
-cell-requires c =
+cell-requires g c =
     let a = c.args.actor.now in
     let b = record a { seat = c.measure-elements.new.seat; behind = 0 } in
     let before = subst (λ (r : Run). IsBefore r a c.args.next.now) (sym c.run.view_is) c.requires.before in
@@ -59,7 +59,7 @@ cell-requires c =
     c.measure-elements.ensures.possible c.measure-elements.ensures.leaves c.word-index.result c.if-index-elements.false)
 
 pub returns : goal.returns
-returns c =
+returns g c =
     let a = c.args.actor.now in
     let b = record a { seat = c.measure-elements.new.seat; behind = 0 } in
     let before = subst (λ (r : Run). IsBefore r a c.args.next.now) (sym c.run.view_is) c.requires.before in

@@ -6,11 +6,11 @@ use Rattle.rgo_acts.proofs.Loading.{loaded}
 use Rattle.rgo_acts.proofs.cells.take.Goals as goal
 
 pub load-found-requires-clause-loads : goal.load-found-requires-clause-loads
-load-found-requires-clause-loads c =
+load-found-requires-clause-loads g c =
     subst (λ (r : Run). Loads r.setup (now r.setup c.args.actor.now) c.args.word) (sym c.run.view_is) c.requires.loads
 
 pub returns : goal.returns
-returns c =
+returns g c =
     let a = c.args.actor.now in
     let b = record a { seat = c.load-found.new.seat; behind = 0; body = c.acted.new.self } in
     loaded _ c.args.run.now c.run.view_is a b c.args.next.now c.requires.before c.load-found.ensures.own.0 refl

@@ -4,7 +4,7 @@ use Rattle.rgo_acts.proofs.ObjectMade.{made_here}
 use Rattle.rgo_acts.proofs.objects.make_on.Goals as goal
 
 pub returns-clause-acted : goal.returns-clause-acted
-returns-clause-acted c =
+returns-clause-acted g c =
     let a = c.args in
     let b = record a.actor.now { seat = c.store_words.new.seat; behind = 0; body = c.made.new.self } in
     let words = ap (λ (z : TableSizes). z.page_words) c.run.invariant.layout.sizes in
@@ -13,7 +13,7 @@ returns-clause-acted c =
     c.made.ensures.shows refl (ap (λ n. suc (a.page.page * n + a.page.fill)) (sym words) ∙ omega arith)
 
 pub returns-clause-beyond : goal.returns-clause-beyond
-returns-clause-beyond c = record { not_yet = c.made.ensures.not_yet; behind = omega arith }
+returns-clause-beyond g c = record { not_yet = c.made.ensures.not_yet; behind = omega arith }
 
 pub returns-clause-rests : goal.returns-clause-rests
-returns-clause-rests c = c.made.ensures.side ∙ c.requires.before.rests
+returns-clause-rests g c = c.made.ensures.side ∙ c.requires.before.rests

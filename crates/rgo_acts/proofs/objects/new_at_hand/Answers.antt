@@ -19,10 +19,10 @@ own_page_for-requires-clause-fits c = c.in-Some.ensures.fits
 pub own_page_for-requires-clause-some : goal.own_page_for-requires-clause-some
 own_page_for-requires-clause-some c = c.in-Some.ensures.some
 
-pub make_on-requires-clause-does : goal.make_on-requires-clause-does
-make_on-requires-clause-does c = (Some c.args.to, action.New c.args.number, c.requires.is.0, c.requires.is.1)
+pub make_uncounted-requires-clause-does : goal.make_uncounted-requires-clause-does
+make_uncounted-requires-clause-does c = (Some c.args.to, action.New c.args.number, c.requires.is.0, c.requires.is.1)
 
-pub make_on-requires-clause-placed : goal.make_on-requires-clause-placed
-make_on-requires-clause-placed c =
+pub make_uncounted-requires-clause-placed : goal.make_uncounted-requires-clause-placed
+make_uncounted-requires-clause-placed c =
     let own = c.in-Some-own_page_for.ensures in
     (own.region, own.at_key, own.placed)

@@ -12,7 +12,7 @@ use Rattle.rgo_acts.proofs.ObjectStores.{new_word, none_so_far, one_grew, one_so
 use Rattle.rgo_acts.proofs.objects.store_words.Goals as goal
 
 pub loop-i-init : goal.loop-i-init
-loop-i-init c =
+loop-i-init g c =
     let T = setup_of c.args.table.now.shared.key in
     let m = c.args.seat.now.me in
     record {
@@ -23,17 +23,18 @@ loop-i-init c =
       grew = ([], grew_none accesses (first_of T.code) m c.requires.alone);
       possible = λ none. absurd (omega (arith, none));
       left = λ none. absurd (omega (arith, none));
+      counted = omega arith;
     }
 
 pub zero-requires-clause-rests : goal.zero-requires-clause-rests
-zero-requires-clause-rests c =
+zero-requires-clause-rests g c =
     let T = setup_of c.args.table.now.shared.key in
     let placed = c.requires.placed in
     still_rests T (settled T c.args.behind c.args.seat.now.me) placed.0 c.args.page c.args.new placed.1 c.loop-i.i c.loop-i-test.true
     c.loop-i.left c.loop-i.seat.me c.loop-i.invariant.settles (c.loop-i.invariant.so_far placed.0 placed.1)
 
 pub zero-requires-clause-new : goal.zero-requires-clause-new
-zero-requires-clause-new c =
+zero-requires-clause-new g c =
     let T = setup_of c.args.table.now.shared.key in
     let placed = c.requires.placed in
     let i = c.loop-i.i in
@@ -46,7 +47,7 @@ zero-requires-clause-new c =
     (subst (λ n. IsNewWord T now i (cell_at (layout T) page.page (page.fill + i)) n) (sym c.opening.ensures) word)
 
 pub loop-i-preserved : goal.loop-i-preserved
-loop-i-preserved c =
+loop-i-preserved g c =
     let T = setup_of c.args.table.now.shared.key in
     let placed = c.requires.placed in
     let i = c.loop-i.i in
@@ -68,10 +69,11 @@ loop-i-preserved c =
       );
       possible = λ more. c.zero.ensures.possible;
       left = λ more. refl;
+      counted = let cost = c.zero.ensures.cost in let so_far = l.counted in omega (arith, cost, so_far);
     }
 
 pub returns : goal.returns
-returns c =
+returns g c =
     let T = setup_of c.args.table.now.shared.key in
     let l = c.loop-i.invariant in
     let me = c.loop-i.seat.me in
@@ -86,4 +88,5 @@ returns c =
       grew = l.grew;
       stored = λ slot p. sym at_once ∙ (l.so_far slot p).all end;
       possible = l.possible positive;
+      cost = let counted = l.counted in omega (arith, counted, end);
     }

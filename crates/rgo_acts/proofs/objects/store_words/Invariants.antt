@@ -1,4 +1,4 @@
-use Rattle.std.proofs.Common.{◌≡◌, ◌<◌, ℕ, List}
+use Rattle.std.proofs.Common.{◌≡◌, ◌+◌, ◌<◌, ℕ, List}
 use Rattle.rgo_core.specs.Rule.declared.accesses.Access.{Access}
 use Rattle.rgo_core.specs.Opening.{first_of}
 use Rattle.rgo_core.specs.Plans.{setup_of}
@@ -11,7 +11,7 @@ use Rattle.rgo_acts.proofs.ObjectStores.{IsSoFar}
 use Rattle.rgo_acts.proofs.objects.store_words.Given as goal
 
 abbrev pub invariant-loop-i : goal.invariant-loop-i
-invariant-loop-i l =
+invariant-loop-i g l =
     let T = setup_of l.table.shared.key in
     let c = settled T l.fn.behind l.fn.seat.me in
     record {
@@ -23,4 +23,5 @@ invariant-loop-i l =
       grew : (es : List Access) × Grew accesses (first_of T.code) l.fn.seat.me es l.seat.me;
       possible : 0 < l.i → HasPossible T l.seat.me;
       left : 0 < l.i → l.left ≡ 0;
+      counted : l.steps ≡ l.fn.steps + l.i;
     }

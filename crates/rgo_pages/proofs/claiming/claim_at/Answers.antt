@@ -3,7 +3,7 @@ use Rattle.rgo_core.specs.Plans.{setup_of}
 use Rattle.rgo_core.specs.Records.{Record}
 use Rattle.rgo_core_steps.specs.Seats.{settled}
 use Rattle.rgo_pages.proofs.Chaining.{page_claimed}
-use Rattle.rgo_pages.proofs.claiming.claim_from.Goals as goal
+use Rattle.rgo_pages.proofs.claiming.claim_at.Goals as goal
 
 pub hook-requires-clause-alone : goal.hook-requires-clause-alone
 hook-requires-clause-alone g c = c.in-Some.ensures.taken.1.took.made.grew.alone
