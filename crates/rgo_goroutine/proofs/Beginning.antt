@@ -1,5 +1,5 @@
 -- Starts of goroutines, and the return of `main`, as acts of a turn.
-use Rattle.std.proofs.Common.{◌≡◌, ◌<◌, ◌∙◌, ℕ, List, [], true, Option, Some, None, ap, arith, length, map, refl, subst, sym}
+use Rattle.std.proofs.Common.{◌≡◌, ◌<◌, ◌∙◌, ℕ, List, [], Option, Some, None, ap, arith, length, map, refl, subst, sym}
 use Rattle.std.proofs.lemmas.List.{append-nil}
 use Rattle.rgo_sound.specs.Code.Code as code
 use Rattle.rgo_sound.specs.Code.Code.{CodeInstr, CodeOp}

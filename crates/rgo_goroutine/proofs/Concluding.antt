@@ -32,6 +32,13 @@ counted t u n some e = record {
   moved = ap (λ (x : Turning). x.moved) e;
 }
 
+pub counted_print : (t u : Turning) → 0 < t.left → u ≡ record t { left = t.left - 1; moved = true; printed = u.printed } → Counts t u 1 0
+counted_print t u some e = record {
+  left = let l = ap (λ (x : Turning). x.left) e in omega (arith, l, some);
+  changed = let c = ap (λ (x : Turning). x.changed.count) e in omega (arith, c);
+  moved = ap (λ (x : Turning). x.moved) e;
+}
+
 pub uncounted : (t : Turning) → t.moved ≡ true → Counts t t 0 0
 uncounted t moved = record { left = omega arith; changed = omega arith; moved = moved }
 
@@ -142,10 +149,10 @@ module _ (r : Run) (first go : Goroutine) (t u : Turning) (n : ℕ) (answer : Ta
   talks_as : (other : Talked) → answer ≡ other → Talks r first.actor go.actor n other
   talks_as other is = subst (Talks r first.actor go.actor n) is has.talks
 
-  pub talk_done : (at : ℕ) → answer ≡ talked.Done at → Counts t u n 1 → Instructs r first go t u None
-  talk_done at is counts =
+  pub talk_done : (at m : ℕ) → answer ≡ talked.Done at → Counts t u n m → 0 < n + m → m ≤ 1 → Instructs r first go t u None
+  talk_done at m is counts some few =
       subst (λ (g : Goroutine). Instructs r first g t u None) (sym has.rest)
-      (made r first go.actor t u has.goes has.noted n 1 (talks_as (talked.Done at) is).acted counts (omega arith) (omega arith))
+      (made r first go.actor t u has.goes has.noted n m (talks_as (talked.Done at) is).acted counts some few)
 
   pub talk_offered : (at : ℕ) → answer ≡ talked.Offered at → Counts t u 0 1 → Instructs r first go t u None
   talk_offered at is counts =

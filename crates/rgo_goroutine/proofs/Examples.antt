@@ -1,5 +1,5 @@
 -- Goroutines and turns that are as their definitions say, and such as are not.
-use Rattle.std.proofs.Common.{◌≡◌, inl, inr, ◌++◌, ◌∙◌, ℕ, zero, suc, true, false, List, [], ◌∷◌, Option, Some, arith, ap, length, not, refl, subst, sym}
+use Rattle.std.proofs.Common.{◌≡◌, ◌<◌, inl, inr, ◌++◌, ◌∙◌, ℕ, zero, suc, true, false, List, [], ◌∷◌, Option, Some, arith, ap, length, not, refl, subst, sym}
 use mathlib.Core.Option.{some, some-injective, some-ne-none}
 use lib.ListN.{get_elem?}
 use Rattle.rgo_core.specs.Frames.WordFrames.{WordFrame}
@@ -14,7 +14,7 @@ use Rattle.rgo_sound.specs.RegionMachine.States.{Duty}
 use Rattle.rgo_acts.specs.Runs.{Run}
 use Rattle.rgo_acts.specs.declared.prints.Print.{Print}
 use Rattle.rgo_goroutine.specs.Examples.{PassingExamples, TurnExamples, end_at}
-use Rattle.rgo_goroutine.specs.Goroutines.{rows, valid}
+use Rattle.rgo_goroutine.specs.Goroutines.{bytes_in, rows, valid}
 use Rattle.rgo_goroutine.specs.Instructions.{IsNear}
 use Rattle.rgo_goroutine.specs.Passing.{Gathers}
 use Rattle.rgo_goroutine.specs.Turns.{FoundEnd, Stops}
@@ -42,10 +42,11 @@ not_its (n, late, f) =
     not_zero
     (ap (λ (a : Access). a.by) (its (access 1 EndRun 0 9223372036854775813 9223372036854775813) f.access f.place f.there) ∙ f.own)
 
-not_early : (r : Run) (old new : Goroutine) → Stops r old new 10 3 0 [] stop.Went → ⊥
-not_early r old new (first, inl (inl all)) = absurd (omega (arith, all))
-not_early r old new (first, inl (inr told)) = absurd (omega (arith, told))
-not_early r old new (first, inr (n, late, f)) = some-ne-none f.access (sym f.there)
+not_early : (r : Run) (old new : Goroutine) → bytes_in new.prints.items < 65536 → Stops r old new 10 3 0 [] stop.Went → ⊥
+not_early r old new few (first, inl (inl all)) = absurd (omega (arith, all))
+not_early r old new few (first, inl (inr told)) = absurd (omega (arith, told))
+not_early r old new few (first, inr (inl much)) = absurd (omega (arith, few, much))
+not_early r old new few (first, inr (inr (n, late, f))) = some-ne-none f.access (sym f.there)
 
 some_frames : (w : WordFrame) (ws : List WordFrame) → ◌≡◌ {A = List WordFrame} (w ∷ ws) [] → ⊥
 some_frames w ws e = cc
@@ -69,6 +70,7 @@ turn_examples = record {
   too_many = λ r old new slice turned more has. let within = has.within in absurd (omega (arith, more, within));
   used_up = λ r go. (refl, inl (inl refl));
   told_all = λ r go. (refl, inl (inr refl));
+  printed_much = λ r go much. (refl, inr (inl much));
   too_early = not_early;
   found_end = (
     9223372036854775813,
@@ -123,6 +125,8 @@ passing_examples = record {
   none_left_out = λ a b e. one_less a.actor.seat.me.0.seen b.actor.seat.me.0.seen e;
   begins_tidy = λ frame. record { hold = refl; make = refl; claim = refl; give = refl };
   begins_locked = λ r child locked is. locked is.tidy.hold;
+  all_bytes = λ p q three four. omega (arith, three, four);
+  not_one_each = λ p q three is. absurd (omega (arith, three, is));
   one_void = void_out;
   left_behind = λ r old new list longer_list n child later some adopts. some_children child later (sym some ∙ adopts.none);
   one_more = λ r go born. born;

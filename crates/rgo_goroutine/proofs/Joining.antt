@@ -1,5 +1,5 @@
 -- Acts of a turn, one after another.
-use Rattle.std.proofs.Common.{◌≡◌, ◌+◌, ◌≤◌, ℕ, List, [], ◌∷◌, ◌++◌, Option, Some, None, refl, ap, sym, subst, ◌∙◌, append_assoc, arith}
+use Rattle.std.proofs.Common.{◌≡◌, ◌+◌, ◌≤◌, ℕ, List, [], ◌∷◌, ◌++◌, Option, Some, None, inl, inr, refl, ap, sym, subst, ◌∙◌, append_assoc, arith}
 use Rattle.std.proofs.lemmas.List.{append-nil}
 use Rattle.rgo_core.specs.Rule.Views.{number_of}
 use Rattle.rgo_core.specs.Rule.declared.accesses.Access.{Access}
@@ -91,9 +91,10 @@ module _ (r : Run) (a b c : Goroutine) where
   stops_more xs es grew same why by = its why by
     where
       its : (why : Stop) → StopsBy r b c es why → StopsBy r a c (xs ++ es) why
-      its stop.Went (first, end) = (
+      its stop.Went (first, inl much) = (first ∙ same, inl much)
+      its stop.Went (first, inr end) = (
         first ∙ same,
-        end_more r.setup (number_of a.actor.seat.me) (record_now r c) xs es (subst (λ g. FoundEnd g es) grew.same end),
+        inr (end_more r.setup (number_of a.actor.seat.me) (record_now r c) xs es (subst (λ g. FoundEnd g es) grew.same end)),
       )
       its (stop.Blocked at) (first, waits) = (
         first ∙ same,

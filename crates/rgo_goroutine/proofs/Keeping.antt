@@ -1,14 +1,17 @@
 -- Acts after which what the goroutine has for its driver is as before, or is one print or one goroutine more.
-use Rattle.std.proofs.Common.{◌≡◌, ◌<◌, List, [], ◌∷◌, ◌++◌, Some, None, map, ap, sym, subst, ◌∙◌, arith}
+use Rattle.std.proofs.Common.{◌≡◌, ◌<◌, List, [], ◌∷◌, ◌++◌, Option, Some, None, MatchOption, inl, map, ap, sym, subst, ◌∙◌, arith}
+use Rattle.std.specs.Prelude.{⊤}
 use Rattle.std.proofs.lemmas.List.{append-nil, map-append}
 use Rattle.rgo_acts.specs.Actors as act
 use Rattle.rgo_acts.specs.Runs.{Run}
 use Rattle.rgo_acts.specs.declared.prints.Print.{Print}
-use Rattle.rgo_goroutine.specs.Acting.{Goes}
-use Rattle.rgo_goroutine.specs.Goroutines.{AllStand, IsChild, drawn_by, fresh}
+use Rattle.rgo_core.specs.Rule.declared.accesses.Access.{Access}
+use Rattle.rgo_goroutine.specs.Acting.{Concludes, Goes, SameFirst, StopsBy}
+use Rattle.rgo_goroutine.specs.Goroutines.{AllStand, HoldsMuch, IsChild, drawn_by, fresh}
 use Rattle.rgo_goroutine.specs.Instructions.{Instructs}
 use Rattle.rgo_goroutine.specs.declared.goroutine.Child.{Child}
 use Rattle.rgo_goroutine.specs.declared.goroutine.Goroutine.{Goroutine}
+use Rattle.rgo_goroutine.specs.declared.turning.Stop.{Stop}
 use Rattle.rgo_goroutine.specs.declared.turning.Stop.TheVariants as stop
 use Rattle.rgo_goroutine.specs.declared.turning.Turning.{Turning}
 use Rattle.rgo_goroutine.proofs.Concluding.{Counts, no_answer}
@@ -42,11 +45,17 @@ same_halts r old new t u goes noted same acted counts = record {
   progress = λ e. absurd (no_answer stop.NoMemory e);
 }
 
--- one print more
+-- one print more, after which the turn is over if it has printed much
+much_concludes : (r : Run) (old new : Goroutine) (es : List Access) (answer : Option Stop) → SameFirst r old new
+    → MatchOption answer ⊤ (λ why. (why ≡ stop.Went) × HoldsMuch new) → Concludes r old new es answer
+much_concludes r old new es None same much = same
+much_concludes r old new es (Some why) same (is, much) = subst (StopsBy r old new es) (sym is) (same, inl much)
+
 pub printed_on : (r : Run) (old new : Goroutine) (t u : Turning) → Goes r old t.left → t.changed.count < 8 → (print : Print)
     → new.prints.items ≡ old.prints.items ++ print ∷ [] → new.children.items ≡ old.children.items → new.number ≡ old.number
-    → new.first ≡ old.first → act.Acted r old.actor new.actor 1 (drawn_by print ∷ []) [] → Counts t u 1 0 → Instructs r old new t u None
-printed_on r old new t u goes noted print prints children number first acted counts = record {
+    → new.first ≡ old.first → act.Acted r old.actor new.actor 1 (drawn_by print ∷ []) [] → Counts t u 1 0 → (answer : Option Stop)
+    → MatchOption answer ⊤ (λ why. (why ≡ stop.Went) × HoldsMuch new) → Instructs r old new t u answer
+printed_on r old new t u goes noted print prints children number first acted counts answer much = record {
   acts = record {
     acted = record {
       n = 1;
@@ -61,7 +70,7 @@ printed_on r old new t u goes noted print prints children number first acted cou
     goes = goes_as r old new 1 (drawn_by print ∷ []) [] acted t.left u.left goes counts.left (omega arith) number
         (subst (AllStand r) (sym children) goes.all) first;
     noted = (let c = counts.changed in omega (arith, c, noted));
-    concludes = acted.went.first;
+    concludes = much_concludes r old new acted.es answer acted.went.first much;
   };
   progress = λ e. let l = counts.left in let c = counts.changed in omega (arith, l, c, noted);
 }

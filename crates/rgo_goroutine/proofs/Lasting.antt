@@ -1,5 +1,5 @@
 -- What a turn has found lasts while its goroutine only loads the clock.
-use Rattle.std.proofs.Common.{◌≡◌, ◌∙◌, ℕ, List, ◌++◌, Option, ap, inl, inr, refl, subst, sym}
+use Rattle.std.proofs.Common.{◌≡◌, ◌∙◌, ◌≤◌, ℕ, List, ◌++◌, Option, ap, inl, inr, refl, subst, sym}
 use Rattle.rgo_core.specs.Memory.Words.{clock_at}
 use Rattle.rgo_core.specs.Rule.Views.{number_of}
 use Rattle.rgo_core.specs.Rule.declared.accesses.Access.{Access}
@@ -17,7 +17,7 @@ use Rattle.rgo_acts.specs.Shortages.{AllInUse, LacksPage, LacksSlot}
 use Rattle.rgo_acts.specs.Waits.{Loses, Waits}
 use Rattle.rgo_acts.proofs.Waiting.{loses_as, loses_left, waits_as, waits_left}
 use Rattle.rgo_goroutine.specs.Acting.{IsOverFor, SameFirst, record_now}
-use Rattle.rgo_goroutine.specs.Goroutines.{record_of}
+use Rattle.rgo_goroutine.specs.Goroutines.{bytes_in, record_of}
 use Rattle.rgo_goroutine.specs.Turns as turns
 use Rattle.rgo_goroutine.specs.Turns.{IsOver, LacksFor, Stops}
 use Rattle.rgo_goroutine.specs.declared.goroutine.Goroutine.{Goroutine}
@@ -75,7 +75,7 @@ over_lasts c o = record { frames = o.frames; duties = o.duties }
 
 module _ (r : Run) (old mid new : Goroutine) (u : Turning) (slice n : ℕ) (xs ys : List Access)
     (before : record_now r old ≡ record_of r.setup old) (after : record_of r.setup new ≡ looked (record_now r mid))
-    (all : u.left ≡ 0 → n ≡ slice) where
+    (all : u.left ≡ 0 → n ≡ slice) (kept : new.prints.items ≡ mid.prints.items) where
   abbrev T : Setup
   T = r.setup
 
@@ -91,7 +91,11 @@ module _ (r : Run) (old mid new : Goroutine) (u : Turning) (slice n : ℕ) (xs y
   pub stops_last : (why : Stop) → IsOverFor r old mid u xs why → Stops r old new slice n u.changed.count (xs ++ ys) why
   stops_last stop.Went (same, inl (inl none)) = (same_first same, inl (inl (all none)))
   stops_last stop.Went (same, inl (inr many)) = (same_first same, inl (inr many))
-  stops_last stop.Went (same, inr end) = (same_first same, inr (end.0, end.1, found_left g xs ys EndRun clock_at end.0 end.2))
+  stops_last stop.Went (same, inr (inl much)) = (same_first same, inr (inl (subst (λ ps. 65536 ≤ bytes_in ps) (sym kept) much)))
+  stops_last stop.Went (same, inr (inr end)) = (
+    same_first same,
+    inr (inr (end.0, end.1, found_left g xs ys EndRun clock_at end.0 end.2)),
+  )
   stops_last (stop.Blocked at) (same, waits) = (
     same_first same,
     subst (λ (d : Record). Waits T g d (xs ++ ys) at) (sym after) (waits_last T g c xs ys at waits),

@@ -1,5 +1,5 @@
 -- What acts of the goroutine's actor are to the turn.
-use Rattle.std.proofs.Common.{◌≡◌, ◌+◌, ◌≤◌, ℕ, Bool, true, false, if◌then◌else◌, List, [], ◌++◌, Some, None, length, refl, ap, sym, subst, ◌∙◌, length-append, arith}
+use Rattle.std.proofs.Common.{◌≡◌, ◌+◌, ◌≤◌, ℕ, Bool, true, false, if◌then◌else◌, List, [], ◌++◌, Some, None, inr, length, refl, ap, sym, subst, ◌∙◌, length-append, arith}
 use Rattle.std.specs.Option.{option_map}
 use Rattle.std.proofs.lemmas.List.{append-nil}
 use Rattle.rgo_core.specs.Opening.{first_of}
@@ -141,7 +141,7 @@ module _ (r : Run) (old new : Goroutine) (t u : Turning) (goes : Goes r old t.le
       → (record_now r new).clock.first ≡ (if b then Some (mark_of e.mark) else (record_now r old).clock.first)
       → StopsBy r old new e.ended.es why
   stops_by true is same first = subst (StopsBy r old new e.ended.es) (sym same) first
-  stops_by false is same first = subst (StopsBy r old new e.ended.es) (sym same) (first, e.ended.late is)
+  stops_by false is same first = subst (StopsBy r old new e.ended.es) (sym same) (first, inr (e.ended.late is))
 
   pub ends_by : Acts r old new t u (Some why)
   ends_by = record {

@@ -195,7 +195,8 @@ module _ (r : Run) (old mid new : Goroutine) (t u : Turning) (why : Stop) (of : 
       )
 
   pub stops_are : (slice n : ℕ) → (u.left ≡ 0 → n ≡ slice) → Stops r old new slice n u.changed.count es why
-  stops_are slice n all = stops_last r old mid new u slice n p.acted.es up.es old_is (sym new_is ∙ up.is) all why p.over
+  stops_are slice n all = stops_last r old mid new u slice n p.acted.es up.es old_is (sym new_is ∙ up.is) all
+      (ap (λ (go : Goroutine). go.prints.items) up.rest) why p.over
 
 -- what it tells of itself
 pub has_turned : (r : Run) (old mid new : Goroutine) (t u : Turning) (turned : Turned) (of : IsOf r old)

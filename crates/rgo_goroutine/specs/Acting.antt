@@ -13,7 +13,7 @@ use Rattle.rgo_acts.specs.Actors.{Stands, now}
 use Rattle.rgo_acts.specs.Endings.{HasEnded}
 use Rattle.rgo_acts.specs.Runs.{Run}
 use Rattle.rgo_acts.specs.Waits.{Loses, Waits}
-use Rattle.rgo_goroutine.specs.Goroutines.{AllStand, fresh, numbers}
+use Rattle.rgo_goroutine.specs.Goroutines.{AllStand, HoldsMuch, fresh, numbers}
 use Rattle.rgo_goroutine.specs.Turns.{FoundEnd, IsOver, LacksFor}
 use Rattle.rgo_goroutine.specs.declared.goroutine.Child.{Child}
 use Rattle.rgo_goroutine.specs.declared.goroutine.Goroutine.{Goroutine}
@@ -65,13 +65,13 @@ SameFirst r old new = (record_now r new).clock.first ≡ (record_now r old).cloc
 
 -- ---- what an act came to
 
--- how much the turn may still do: instructions, and channels that it may change
+-- how much the turn may still do: instructions, and entries in its list of changed channels
 abbrev pub room_in : Turning → ℕ
 room_in t = t.left + (8 - t.changed.count)
 
 -- why the turn is over after it; es are the accesses of the act
 abbrev pub StopsBy : (r : Run) (old new : Goroutine) (es : List Access) → Stop → Type 0
-StopsBy r old new es stop.Went = SameFirst r old new × FoundEnd (number_of old.actor.seat.me) es
+StopsBy r old new es stop.Went = SameFirst r old new × (HoldsMuch new ⊎ FoundEnd (number_of old.actor.seat.me) es)
 StopsBy r old new es (stop.Blocked at) =
     SameFirst r old new × Waits r.setup (number_of old.actor.seat.me) (record_now r new) es at
 StopsBy r old new es (stop.Lost at) =
@@ -99,11 +99,11 @@ Progresses t u = room_in u < room_in t
 
 -- ---- several acts
 
--- The turn was over for this reason, by its last act, or since all its instructions were made, or since it has changed as many channels
--- as it can tell.
+-- The turn was over for this reason, by its last act, or since all its instructions were made, or since its list of changed channels is
+-- full.
 abbrev pub IsOverFor : (r : Run) (old new : Goroutine) (u : Turning) (es : List Access) → Stop → Type 0
 IsOverFor r old new u es stop.Went =
-    SameFirst r old new × (((u.left ≡ 0) ⊎ (u.changed.count ≡ 8)) ⊎ FoundEnd (number_of old.actor.seat.me) es)
+    SameFirst r old new × (((u.left ≡ 0) ⊎ (u.changed.count ≡ 8)) ⊎ (HoldsMuch new ⊎ FoundEnd (number_of old.actor.seat.me) es))
 IsOverFor r old new u es (stop.Blocked at) = StopsBy r old new es (stop.Blocked at)
 IsOverFor r old new u es (stop.Lost at) = StopsBy r old new es (stop.Lost at)
 IsOverFor r old new u es stop.Ended = StopsBy r old new es stop.Ended

@@ -1,5 +1,5 @@
 -- Goroutines and turns that are as their definitions say, and such as are not.
-use Rattle.std.specs.Prelude.{◌≡◌, ◌<◌, ℕ, true, false, List, [], ◌∷◌}
+use Rattle.std.specs.Prelude.{◌≡◌, ◌<◌, ◌≤◌, ℕ, true, false, List, [], ◌∷◌, length}
 use Rattle.rgo_core.specs.Core.{Setup}
 use Rattle.rgo_core.specs.Records.{Record, begins_with}
 use Rattle.rgo_core_steps.specs.Seats.{mine}
@@ -16,7 +16,7 @@ use Rattle.rgo_acts.specs.Actors.{now}
 use Rattle.rgo_acts.specs.Runs.{Run}
 use Rattle.rgo_acts.specs.declared.prints.Print.{Print}
 use Rattle.rgo_goroutine.specs.Acting.{Goes}
-use Rattle.rgo_goroutine.specs.Goroutines.{IsChild, IsOf, IsTidy, all_seen, numbers, rows, valid}
+use Rattle.rgo_goroutine.specs.Goroutines.{IsChild, IsOf, IsTidy, all_seen, bytes_in, numbers, rows, valid}
 use Rattle.rgo_goroutine.specs.Instructions.{IsNear}
 use Rattle.rgo_goroutine.specs.Passing.{Adopts, AreBorn, Gathers}
 use Rattle.rgo_goroutine.specs.Turns.{FoundEnd, HasTurned, IsOver, LacksFor, Stops, Turns}
@@ -34,11 +34,13 @@ pub record TurnExamples : Type 0 where
   pub no_access : (r : Run) (go : Goroutine) (n : ℕ) (es : List Access) → Turns r go go n es → ⊥
   -- and no more instructions than it was given
   pub too_many : (r : Run) (old new : Goroutine) (slice : ℕ) (turned : Turned) → slice < turned.steps → HasTurned r old new slice turned → ⊥
-  -- it has made all its instructions, or has changed as many channels as it can tell
+  -- it has made all its instructions, or its list of changed channels is full
   pub used_up : (r : Run) (go : Goroutine) → Stops r go go 10 10 0 [] stop.Went
   pub told_all : (r : Run) (go : Goroutine) → Stops r go go 10 3 8 [] stop.Went
-  -- it has made fewer, and nothing ended
-  pub too_early : (r : Run) (old new : Goroutine) → Stops r old new 10 3 0 [] stop.Went → ⊥
+  -- or it has printed much
+  pub printed_much : (r : Run) (go : Goroutine) → 65536 ≤ bytes_in go.prints.items → Stops r go go 10 3 0 [] stop.Went
+  -- it has made fewer, has printed little, and nothing ended
+  pub too_early : (r : Run) (old new : Goroutine) → bytes_in new.prints.items < 65536 → Stops r old new 10 3 0 [] stop.Went → ⊥
   -- the run had ended: bit 63 of the clock was set
   pub found_end : FoundEnd 1 (end_at 9223372036854775813)
   pub found_none : FoundEnd 1 (end_at 5) → ⊥
@@ -66,6 +68,9 @@ pub record PassingExamples : Type 0 where
   -- one that begins is at nothing; one that has locked a channel does not begin
   pub begins_tidy : (frame : FrameRec) → IsTidy (begins_with frame)
   pub begins_locked : (r : Run) (child : Child) → ((now r.setup child.actor).side.hold ≡ Free → ⊥) → IsChild r child → ⊥
+  -- a print counts with all its bytes, void or not
+  pub all_bytes : (p q : Print) → length p.bytes.items ≡ 3 → length q.bytes.items ≡ 4 → bytes_in (p ∷ q ∷ []) ≡ 7
+  pub not_one_each : (p q : Print) → length p.bytes.items ≡ 3 → bytes_in (p ∷ q ∷ []) ≡ 2 → ⊥
   -- a void print is left out
   pub one_void : (p q : Print) → p.is_void ≡ true → q.is_void ≡ false → valid (p ∷ q ∷ []) ≡ q ∷ []
   -- one child was left behind

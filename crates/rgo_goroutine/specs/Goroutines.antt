@@ -1,6 +1,6 @@
 -- Goroutines as their driver knows them.
 use Rattle.std.specs.Option.{option_map}
-use Rattle.std.specs.Prelude.{◌≡◌, ◌≤◌, ℕ, Bool, List, [], ◌∷◌, ◌++◌, filter, length, map, not}
+use Rattle.std.specs.Prelude.{◌≡◌, ◌+◌, ◌≤◌, ℕ, Bool, List, [], ◌∷◌, ◌++◌, filter, length, map, not}
 use Rattle.rgo_core.specs.Channels.Records.{Free}
 use Rattle.rgo_core.specs.Memory.Records.{Calm, Idle, Rest}
 use Rattle.rgo_core.specs.Rule.Views.{Rows, number_of}
@@ -25,6 +25,15 @@ drawn_by p = record { ticket = p.ticket; bytes = p.bytes.items; is_void = p.is_v
 
 abbrev pub fresh : Goroutine → List Drawn
 fresh go = map drawn_by go.prints.items
+
+-- how many bytes these prints have
+abbrev pub bytes_in : List Print → ℕ
+bytes_in [] = 0
+bytes_in (p ∷ later) = length p.bytes.items + bytes_in later
+
+-- what it has printed and was not gathered is as much as may come of one turn
+abbrev pub HoldsMuch : Goroutine → Type 0
+HoldsMuch go = 65536 ≤ bytes_in go.prints.items
 
 -- the numbers of goroutines, the newest first, as a record has them
 abbrev pub numbers : List Child → List ℕ

@@ -15,7 +15,7 @@ use Rattle.rgo_sound.specs.Machine.declared.turns.Shortage.TheVariants as shorta
 use Rattle.rgo_acts.specs.Runs.{Run}
 use Rattle.rgo_acts.specs.Shortages.{LacksPage, LacksSlot}
 use Rattle.rgo_acts.specs.Waits.{Loses, Waits}
-use Rattle.rgo_goroutine.specs.Goroutines.{fresh, numbers, record_of}
+use Rattle.rgo_goroutine.specs.Goroutines.{HoldsMuch, fresh, numbers, record_of}
 pub use Rattle.rgo_goroutine.specs.Goroutines.{IsTidy}
 use Rattle.rgo_goroutine.specs.declared.goroutine.Child.{Child}
 use Rattle.rgo_goroutine.specs.declared.goroutine.Goroutine.{Goroutine}
@@ -59,11 +59,11 @@ LacksFor shortage.Pages T g c es = LacksPage T g c es
 LacksFor shortage.Regions T g c es = LacksSlot T g c es
 LacksFor shortage.ObjectSize T g c es = ⊥
 
--- Why the turn was over, of which n instructions were made, at most `slice`, and in which so many channels were changed. es are the
--- accesses that its seat has seen since.
+-- Why the turn was over, of which n instructions were made, at most `slice`, and whose list of changed channels has so many of its
+-- eight entries. es are the accesses that its seat has seen since.
 abbrev pub Stops : (r : Run) (old new : Goroutine) (slice n changed : ℕ) (es : List Access) → Stop → Type 0
 Stops r old new slice n changed es stop.Went =
-    SameFirst r old new × (((n ≡ slice) ⊎ (changed ≡ 8)) ⊎ FoundEnd (number_of old.actor.seat.me) es)
+    SameFirst r old new × (((n ≡ slice) ⊎ (changed ≡ 8)) ⊎ (HoldsMuch new ⊎ FoundEnd (number_of old.actor.seat.me) es))
 Stops r old new slice n changed es (stop.Blocked at) =
     SameFirst r old new × Waits r.setup (number_of old.actor.seat.me) (record_of r.setup new) es at
 Stops r old new slice n changed es (stop.Lost at) =

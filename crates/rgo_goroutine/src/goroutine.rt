@@ -1,5 +1,6 @@
 //! Goroutines between turns: where they begin and end, and what their driver takes from them.
-ghost use Rattle.std.specs.Prelude.{◌≡◌, ◌+◌, ◌≤◌, ◌<◌, ◌-◌, ◌++◌, ◌∷◌, [], ℕ, List, IfErr, IfOk, MatchResult, None, length, vec_capacity, vec_len};
+ghost use mathlib.Core.Logic.{◌↔◌};
+ghost use Rattle.std.specs.Prelude.{◌≡◌, ◌+◌, ◌≤◌, ◌<◌, ◌-◌, ◌++◌, ◌∷◌, [], ℕ, List, IfErr, IfOk, MatchResult, None, length, true, vec_capacity, vec_len};
 ghost use Rattle.std.specs.List.{All};
 ghost use Rattle.rgo_core.specs.Core.{IsPossible};
 ghost use Rattle.rgo_core.specs.Opening.{first_of};
@@ -8,7 +9,7 @@ ghost use Rattle.rgo_core.specs.Rule.Passes.{after_pass};
 ghost use Rattle.rgo_core.specs.Rule.Views.{longer, view};
 ghost use Rattle.rgo_core_steps.specs.Seats.{IsSeatOf};
 ghost use Rattle.rgo_acts.specs.Runs as runs;
-ghost use Rattle.rgo_goroutine.specs.Goroutines.{AllStand, IsOf, all_seen, record_of, rows, valid};
+ghost use Rattle.rgo_goroutine.specs.Goroutines.{AllStand, IsOf, all_seen, bytes_in, record_of, rows, valid};
 ghost use Rattle.rgo_goroutine.specs.Passing.{Adopts, AreBorn, Gathers, Looks};
 ghost use Rattle.rgo_goroutine.specs.declared.goroutine.Goroutine as spec;
 
@@ -37,11 +38,31 @@ pub struct Goroutine {
     pub(crate) first: Option<Mark>,
 }
 
+/// The bytes of prints that may come of one turn. A turn that has printed as many is over.
+pub(crate) const MOST_PRINTED: usize = 65_536;
+
 /// A goroutine that was started, with its number.
 #[derive(Drop)]
 pub(crate) struct Child {
     pub(crate) actor: Actor,
     pub(crate) number: u64,
+}
+
+/// Whether these prints have as many bytes as may come of one turn.
+pub(crate) fn are_much(prints: &[Print]) -> bool
+    ensures { (result ≡ true) ↔ (65536 ≤ bytes_in prints.now) }
+{
+    let mut left = MOST_PRINTED;
+    let mut rest = prints;
+    while let Some((first, others)) = rest.split_first() {
+        let bytes = first.bytes.len();
+        if bytes >= left {
+            return true;
+        }
+        left -= bytes;
+        rest = others;
+    }
+    false
 }
 
 /// Moves the prints that are not void to the end of another list.

@@ -1,5 +1,5 @@
 //! The next instruction of a goroutine, before which it owes nothing.
-ghost use Rattle.std.specs.Prelude.{◌≡◌, ◌+◌, ◌-◌, ◌∷◌, ◌<◌, ◌≤◌, ◌^◌, ℕ, IsErr, IsOk, List, MatchResult, None, Option, Some, [], if◌then◌else◌, is_some, length, true};
+ghost use Rattle.std.specs.Prelude.{◌≡◌, ◌+◌, ◌-◌, ◌∷◌, ◌<◌, ◌≤◌, ◌^◌, ℕ, ⊤, IsErr, IsOk, List, MatchOption, MatchResult, None, Option, Some, [], if◌then◌else◌, is_some, length, true};
 ghost use Rattle.rgo_core.specs.Channels.Standing.{IsOfChannel};
 ghost use Rattle.rgo_acts.specs.Facts.ControlShapes.{IsShaped, operand_count};
 ghost use Rattle.rgo_core.specs.Rule.Views.{number_of};
@@ -16,11 +16,12 @@ ghost use Rattle.rgo_acts.specs.Ready.{IsBefore};
 ghost use Rattle.rgo_acts.specs.Talks.{CanTry, Talks};
 ghost use Rattle.rgo_acts.specs.Traps.{IsAtTrap};
 ghost use Rattle.rgo_goroutine.specs.Acting.{EndsIn, Goes};
+ghost use Rattle.rgo_goroutine.specs.Goroutines.{HoldsMuch};
 ghost use Rattle.rgo_goroutine.specs.Instructions.{CanAct, HasComeTo, HasPages, HasTalked, Instructs, IsAt, IsElsewhere, IsOfWord};
 ghost use Rattle.rgo_goroutine.specs.declared.goroutine.Goroutine.{Goroutine as Goroutine_};
 ghost use Rattle.rgo_goroutine.specs.declared.turning.Stop.TheVariants as stop;
 
-use crate::goroutine::{Child, Goroutine};
+use crate::goroutine::{Child, Goroutine, MOST_PRINTED, are_much};
 use crate::turning::{Stop, Turning};
 use rgo_acts::actors::Actor;
 use rgo_acts::body::{Next, NoCall};
@@ -185,7 +186,7 @@ impl Goroutine {
             | Action::At
             | Action::Put
             | Action::Get(_)
-            | Action::Set(_) => self.access(run, next, to, action, from, turning),
+            | Action::Set(_) => self.access(run, next, to, action, from, turning, steps),
             Action::New(_) | Action::Slice | Action::Chan => {
                 self.make(run, next, to, action, from, turning, steps)
             }
@@ -194,7 +195,7 @@ impl Goroutine {
     }
 
     /// Loads or stores a word.
-    fn access(
+    fn access<L: Ledger>(
         &mut self,
         run: &Run<'_, '_>,
         next: &Next<'_>,
@@ -202,6 +203,7 @@ impl Goroutine {
         action: Action,
         from: Operands,
         turning: &mut Turning,
+        steps: &mut Steps<L>,
     ) -> Option<Stop>
         requires can { CanAct run.now self.old next.now turning.old }
         requires is { operation_of next.now.op ≡ Do to action (numbers_of from) }
@@ -209,7 +211,7 @@ impl Goroutine {
         requires accesses { IsOfWord action }
         ensures { Instructs run.now self.old self.new turning.old turning.new result }
     {
-        let done = access_word(&mut self.actor, run, next, to, action, from);
+        let done = access_word(&mut self.actor, run, next, to, action, from, steps);
         self.unless_trapped(run, done, turning)
     }
 
@@ -285,11 +287,11 @@ impl Goroutine {
         match talked {
             Talked::Done { at } => {
                 turning.count(done);
-                turning.note(at);
+                turning.note(at, done);
                 None
             }
             Talked::Offered { at } => {
-                turning.note(at);
+                turning.note(at, 0);
                 None
             }
             Talked::Waits { at } => Some(Stop::Blocked { at }),
@@ -400,14 +402,26 @@ impl Goroutine {
         }
         match prints::print_line(alloc, &mut self.actor, run, next, pieces, from) {
             Ok(print) => {
+                turning.count_print(print.bytes.len());
                 self.prints.push_reserved(print);
-                turning.count(1);
-                None
+                self.unless_much(turning)
             }
             Err(_) => {
                 turning.move_on();
                 Some(Stop::NoMemory)
             }
+        }
+    }
+
+    /// The turn is over after a print if what it has printed is much, so that no round holds too much of it. The prints before the turn
+    /// were gathered, so the bytes printed in it tell when to look at all of them.
+    fn unless_much(&self, turning: &Turning) -> Option<Stop>
+        ensures { MatchOption result ⊤ (λ why. (why ≡ stop.Went) × HoldsMuch self.now) }
+    {
+        if turning.printed >= MOST_PRINTED && are_much(self.prints.as_slice()) {
+            Some(Stop::Went)
+        } else {
+            None
         }
     }
 
@@ -574,13 +588,14 @@ fn target(to: Option<u32>) -> u32
 }
 
 /// Loads or stores a word.
-fn access_word(
+fn access_word<L: Ledger>(
     actor: &mut Actor,
     run: &Run<'_, '_>,
     next: &Next<'_>,
     to: Option<u32>,
     action: Action,
     from: Operands,
+    steps: &mut Steps<L>,
 ) -> Result<(), Trap>
     requires before { IsBefore run.now actor.old next.now }
     requires is { operation_of next.now.op ≡ Do to action (numbers_of from) }
@@ -590,23 +605,37 @@ fn access_word(
 {
     match action {
         Action::Load(field) => {
-            return cells::load_field(actor, run, next, target(to), field, only(from));
+            return cells::load_field(actor, run, next, target(to), field, only(from), steps);
         }
         Action::Store(field) => {
             let (to, value) = both(from);
-            return cells::store_field(actor, run, next, field, to, value);
+            return cells::store_field(actor, run, next, field, to, value, steps);
         }
         Action::At => {
             let (slice, index) = both(from);
-            return cells::load_element(actor, run, next, target(to), slice, index);
+            return cells::load_element(actor, run, next, target(to), slice, index, steps);
         }
         Action::Put => {
             let (slice, index, value) = all_three(from);
-            return cells::store_element(actor, run, next, slice, index, value);
+            return cells::store_element(actor, run, next, slice, index, value, steps);
         }
-        Action::Len => cells::length(actor, run, next, target(to), only(from)),
-        Action::Get(variable) => cells::load_variable(actor, run, next, target(to), variable),
-        Action::Set(variable) => cells::store_variable(actor, run, next, variable, only(from)),
+        Action::Len => cells::length(actor, run, next, target(to), only(from), steps),
+        Action::Get(variable) => cells::load_variable(
+            actor,
+            run,
+            next,
+            target(to),
+            variable,
+            steps,
+        ),
+        Action::Set(variable) => cells::store_variable(
+            actor,
+            run,
+            next,
+            variable,
+            only(from),
+            steps,
+        ),
         Action::Int(_)
         | Action::Bool(_)
         | Action::Nil

@@ -28,7 +28,8 @@ use std::sync::ledger::Ledger;
 /// Why a turn was over.
 #[derive(Clone, Copy, Debug, PartialEq, Eq)]
 pub enum Stop {
-    /// It has made as many instructions as it was given, or the run had ended before it would have ended it.
+    /// It has made as many instructions as it was given, has listed as many changed channels or printed as many bytes as a turn may, or
+    /// would have ended the run, which had ended before.
     Went,
     /// The operation on a channel at which it is was not ready. `at` is the word of the channel's control; `None` for a nil channel.
     Blocked { at: Option<usize> },
@@ -44,11 +45,11 @@ pub enum Stop {
     NoMemory,
 }
 
-/// The channels that a turn has changed, by the words of their controls, so that goroutines that wait there can be woken. It is a
-/// hint: no contract speaks of it.
+/// The channels that a turn has changed, by the words of their controls, of which a table has fewer than 2^32, so that goroutines that
+/// wait there can be woken. It is a hint: no contract says which words it has.
 #[derive(Clone, Copy)]
 pub struct Changed {
-    pub(crate) at: [usize; 8],
+    pub(crate) at: [u32; 8],
     pub(crate) count: usize,
 }
 
@@ -70,6 +71,8 @@ pub(crate) struct Turning {
     pub(crate) left: u32,
     pub(crate) moved: bool,
     pub(crate) changed: Changed,
+    /// How many bytes it has printed.
+    pub(crate) printed: usize,
 }
 
 impl Turning {
@@ -82,6 +85,15 @@ impl Turning {
         self.moved = true;
     }
 
+    /// It has made an instruction more, which has printed so many bytes.
+    pub(crate) fn count_print(&mut self, bytes: usize)
+        requires { 0 < self.old.left }
+        ensures { self.new ≡ record self.old { left = self.old.left - 1; moved = true; printed = self.new.printed } }
+    {
+        self.count(1);
+        self.printed = self.printed.saturating_add(bytes);
+    }
+
     /// It may have changed something.
     pub(crate) fn move_on(&mut self)
         ensures { self.new ≡ record self.old { moved = true } }
@@ -89,13 +101,17 @@ impl Turning {
         self.moved = true;
     }
 
-    /// It has changed the channel whose control is this word.
-    pub(crate) fn note(&mut self, at: usize)
+    /// It has changed the channel whose control is this word, by an act of `made` instructions. The word is listed once; an act of no
+    /// instruction lists it again, so that a turn of such acts ends by its list.
+    pub(crate) fn note(&mut self, at: usize, made: u32)
         requires { self.old.changed.count < 8 }
-        ensures count { self.new.changed.count ≡ self.old.changed.count + 1 }
+        ensures count { (self.old.changed.count ≤ self.new.changed.count) × (self.new.changed.count ≤ self.old.changed.count + 1) }
+        ensures less { self.old.changed.count < self.new.changed.count + made }
         ensures same { (self.new.left ≡ self.old.left) × (self.new.moved ≡ true) }
     {
-        self.changed.note(at);
+        if made == 0 || !self.changed.channels().contains(&listed(at)) {
+            self.changed.note(at);
+        }
         self.moved = true;
     }
 }
@@ -120,6 +136,7 @@ impl Goroutine {
             left: slice,
             moved: false,
             changed: Changed::new(),
+            printed: 0,
         };
         let stop = self.proceed(alloc, run, &mut turning, steps);
         self.catch_up(run);
@@ -404,6 +421,11 @@ fn room_behind_offer(
     }
 }
 
+/// A word as a list has it. A table has no more than 2^32 words, so each of them has a number of its own.
+fn listed(at: usize) -> u32 {
+    u32::try_from(at).unwrap_or(u32::MAX)
+}
+
 impl Changed {
     fn new() -> Changed
         ensures { result.count ≡ 0 }
@@ -419,12 +441,12 @@ impl Changed {
         requires { self.old.count < 8 }
         ensures { self.new.count ≡ self.old.count + 1 }
     {
-        self.at[self.count] = at;
+        self.at[self.count] = listed(at);
         self.count += 1;
     }
 
     /// The words of the controls.
-    pub fn channels(&self) -> &[usize] {
+    pub fn channels(&self) -> &[u32] {
         self.at.get(..self.count).unwrap_or(&[])
     }
 }

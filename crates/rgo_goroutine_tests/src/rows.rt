@@ -132,6 +132,19 @@ func main() {
 }
 ";
 
+/// Seven thousand lines of ten bytes.
+const LINES: &str = "\
+package main
+
+import \"fmt\"
+
+func main() {
+    for i := 0; i < 7000; i++ {
+        fmt.Println(\"123456789\")
+    }
+}
+";
+
 /// Pages of 16 words.
 const fn small(pages: usize, regions: usize) -> Room {
     Room {
@@ -230,6 +243,21 @@ fn pages_and_slots_come_back(rt: HostRuntime) -> Result<(), Fail> {
         };
         assert_eq!(&rt; made_by(&over), tally, "{shortage:?}");
     }
+    Ok(())
+}
+
+/// A turn is over after the print with which it has printed 65,536 bytes: that is the 6,554th line of ten bytes.
+#[test]
+fn a_turn_that_prints_much_is_over(rt: HostRuntime) -> Result<(), Fail> {
+    let over = drive(
+        &rt,
+        LINES,
+        ROOMY,
+        Course::Turns(&[(0, 1_000_000), (0, 1_000_000)]),
+    )?;
+    let whys = [Why::Went, Why::Over(Ending::Exit)];
+    assert_eq!(&rt; over.whys.as_slice(), whys.as_slice());
+    assert_eq!(&rt; over.printed(rt.alloc())?.len(), 70_000);
     Ok(())
 }
 

@@ -1,4 +1,4 @@
-use Rattle.std.proofs.Common.{arith, refl}
+use Rattle.std.proofs.Common.{◌-◌, arith, refl}
 use Rattle.rgo_goroutine.proofs.Concluding.{counted, talk_done, talk_ends, talk_lost, talk_offered, talk_trap, talk_waits}
 use Rattle.rgo_goroutine.proofs.goroutine.Goroutine.after_talk.Goals as goal
 
@@ -10,15 +10,21 @@ trap-requires-clause-traps c =
 pub returns-in-Done : goal.returns-in-Done
 returns-in-Done c first has =
     let t = c.args.turning.now in
+    let u = c.note.new.self in
     let few = has.few in
     let some = has.some in
     let less = counted t c.count.new.self c.args.done (omega (arith, few, some)) c.count.ensures in
-    talk_done c.args.run.now first c.args.self.now t c.note.new.self c.args.done c.args.talked has c.in-Done.at c.in-Done.is
+    let a = less.changed in
+    let b = c.note.ensures.count in
+    let d = c.note.ensures.less in
+    talk_done c.args.run.now first c.args.self.now t u c.args.done c.args.talked has c.in-Done.at
+    (u.changed.count - t.changed.count) c.in-Done.is
     (record {
-      left = (let a = less.left in let b = c.note.ensures.same.0 in omega (arith, a, b));
-      changed = (let a = less.changed in let b = c.note.ensures.count in omega (arith, a, b));
+      left = (let l = less.left in let s = c.note.ensures.same.0 in omega (arith, l, s));
+      changed = omega (arith, a, b.0);
       moved = c.note.ensures.same.1;
     })
+    (omega (arith, a, b.0, d)) (omega (arith, a, b.1))
 
 pub returns-in-Offered : goal.returns-in-Offered
 returns-in-Offered c first has =
@@ -26,7 +32,7 @@ returns-in-Offered c first has =
     c.in-Offered.at c.in-Offered.is
     (record {
       left = (let b = c.note-in-Offered.ensures.same.0 in omega (arith, b));
-      changed = c.note-in-Offered.ensures.count;
+      changed = (let b = c.note-in-Offered.ensures.count.1 in let d = c.note-in-Offered.ensures.less in omega (arith, b, d));
       moved = c.note-in-Offered.ensures.same.1;
     })
 

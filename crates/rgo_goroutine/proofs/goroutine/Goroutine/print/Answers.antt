@@ -3,7 +3,7 @@ use Rattle.rgo_acts.specs.Actors.{Acted}
 use Rattle.rgo_acts.specs.declared.actors.Actor.{Actor}
 use Rattle.rgo_acts.specs.declared.prints.Print.{Print}
 use Rattle.rgo_acts.proofs.LocalActs.{unchanged}
-use Rattle.rgo_goroutine.proofs.Concluding.{counted, only_told}
+use Rattle.rgo_goroutine.proofs.Concluding.{counted_print, only_told}
 use Rattle.rgo_goroutine.proofs.Keeping.{printed_on, same_halts}
 use Rattle.rgo_goroutine.proofs.goroutine.Goroutine.print.Goals as goal
 
@@ -18,10 +18,12 @@ returns-then-is_err c =
 pub returns-in-Ok : goal.returns-in-Ok
 returns-in-Ok c =
     printed_on c.args.run.now c.args.self.now
-    (record c.args.self.now { actor = c.print_line.new.actor; prints = c.push_reserved.new.self }) c.args.turning.now c.count.new.self
-    c.requires.can.at.goes c.requires.can.noted c.in-Ok.print
+    (record c.args.self.now { actor = c.print_line.new.actor; prints = c.push_reserved.new.self }) c.args.turning.now
+    c.count_print.new.self c.requires.can.at.goes c.requires.can.noted c.in-Ok.print
     (c.push_reserved.ensures.items ∙ ap (λ (l : List Print). l ++ c.in-Ok.print ∷ []) c.reserve.ensures.items) refl refl refl
-    c.in-Ok.ensures.printed (counted c.args.turning.now c.count.new.self 1 c.requires.can.at.some c.count.ensures)
+    c.in-Ok.ensures.printed
+    (counted_print c.args.turning.now c.count_print.new.self c.requires.can.at.some c.count_print.ensures) c.unless_much.result
+    c.unless_much.ensures
 
 pub returns-in-Err : goal.returns-in-Err
 returns-in-Err c =
