@@ -13,8 +13,8 @@ use Rattle.rgo_sound.specs.Machine.declared.turns.Shortage.{Shortage}
 use Rattle.rgo_sound.specs.RegionMachine.Counts.{Counts}
 use Rattle.rgo_sound.specs.RegionMachine.Room.{FitsIn}
 use Rattle.rgo_sound.specs.RegionMachine.States.{RegionState}
-use Rattle.rgo_sound.specs.Tac.Tac.{tac, tac_start}
-use Rattle.rgo_table_runs.specs.claims.RegionRuns.{CodeRuns}
+use Rattle.rgo_sound.specs.Tac.Tac.{TacState, tac, tac_start}
+use Rattle.rgo_table_runs.specs.claims.RegionRuns.{CodeRuns, RegionRun}
 use Rattle.rgo_runtime.specs.Runs.{FailsIf}
 use Rattle.rgo_runtime.specs.Sizing.{IsNarrower, SizingExamples, unless_short}
 
@@ -44,23 +44,27 @@ module _ (code : Code) (few sizes : Sizes) (limits : Limits) (tally : Counts) (o
   abbrev cut : Sizes
   cut = record sizes { pages = few.pages; regions = few.regions }
 
-  -- an end that is no want of room
+  -- the same run with its regions, of an end that is no want of room
+  abbrev widened : (end other : RunEnd) (t : TacState) → IsNarrower cut sizes → ((why : Shortage) → other ≡ run_end.NoRoom why → ⊥)
+      → RegionRun code cut end t → RegionRun code sizes other t
+  widened end other t narrow roomy r = record {
+    events = r.events;
+    late = r.late;
+    state = r.state;
+    last = r.last;
+    run = r.run;
+    more = r.more;
+    is = r.is;
+    printed = r.printed;
+    safe = r.safe;
+    within = λ before after s is leads. fits_wider cut sizes s narrow (r.within before after s is leads);
+    lacks = λ why is. absurd (roomy why is);
+  }
+
   still : (end : RunEnd) → IsNarrower cut sizes → ((why : Shortage) → end ≡ run_end.NoRoom why → ⊥) → RunsIn cut end → RunsIn sizes end
   still end narrow roomy r = record {
     runs = r.runs;
-    regions = record {
-      events = r.regions.events;
-      late = r.regions.late;
-      state = r.regions.state;
-      last = r.regions.last;
-      run = r.regions.run;
-      more = r.regions.more;
-      is = r.regions.is;
-      printed = r.regions.printed;
-      safe = r.regions.safe;
-      within = λ before after s is leads. fits_wider cut sizes s narrow (r.regions.within before after s is leads);
-      lacks = λ why is. absurd (roomy why is);
-    };
+    regions = widened end end r.runs.state narrow roomy r.regions;
     same = r.same;
     made = r.made;
   }
@@ -77,19 +81,7 @@ module _ (code : Code) (few sizes : Sizes) (limits : Limits) (tally : Counts) (o
       ends = tt;
       gives = r.runs.gives;
     };
-    regions = record {
-      events = r.regions.events;
-      late = r.regions.late;
-      state = r.regions.state;
-      last = r.regions.last;
-      run = r.regions.run;
-      more = r.regions.more;
-      is = r.regions.is;
-      printed = r.regions.printed;
-      safe = r.regions.safe;
-      within = λ before after s is leads. fits_wider cut sizes s narrow (r.regions.within before after s is leads);
-      lacks = λ other is. cc;
-    };
+    regions = widened (run_end.NoRoom why) run_end.NoMemory r.runs.state narrow (λ other is. cc) r.regions;
     same = r.same;
     made = r.made;
   }

@@ -98,7 +98,7 @@ impl<'r, 'c> Model for Crew<'r, 'c> {
 pub struct Came {
     /// Whether anything may have changed.
     pub moved: bool,
-    /// Whether each turn executed all that it was given.
+    /// Whether each turn executed all that it was given, and none printed.
     pub all_used: bool,
     /// How many instructions were executed.
     pub steps: u64,
@@ -126,7 +126,13 @@ fn next_of(turn: &Turn<'_, '_>) -> Next
         Stop::Ended if turn.goroutine().new_prints() == 0 && turn.goroutine().new_children() == 0 =>
             { Next::Retired }
         Stop::Blocked { at } if !turned.moved => Next::Parked(at.unwrap_or(NOWHERE)),
-        _ => Next::Ready,
+        Stop::Went
+        | Stop::Blocked { .. }
+        | Stop::Lost { .. }
+        | Stop::Ended
+        | Stop::Stopped(_)
+        | Stop::Short(_)
+        | Stop::NoMemory => Next::Ready,
     }
 }
 
@@ -398,7 +404,8 @@ impl<'r, 'c> Crew<'r, 'c> {
         self.parked.unpark_all(&mut self.ready)
     }
 
-    /// What the turns of those that are ready, of up to `slice` instructions, have come to, and which words they have changed.
+    /// What the turns of those that are ready, of up to `slice` instructions, have come to, and which words they have changed. Their prints
+    /// have been collected.
     ///
     /// # Errors
     ///
@@ -407,11 +414,11 @@ impl<'r, 'c> Crew<'r, 'c> {
         &self,
         moved: bool,
         slice: u32,
-        changed: &mut Vec<usize>,
+        changed: &mut Vec<u32>,
     ) -> Result<Came, AllocError> {
         let mut came = Came {
             moved,
-            all_used: true,
+            all_used: self.outgoing.waiting.is_empty(),
             steps: 0,
             is_over: false,
             lacks_memory: false,
@@ -433,13 +440,13 @@ impl<'r, 'c> Crew<'r, 'c> {
     /// # Errors
     ///
     /// On allocation failure. Then some of them are.
-    fn wake_each(&mut self, words: &[usize]) -> Result<(), AllocError>
+    fn wake_each(&mut self, words: &[u32]) -> Result<(), AllocError>
         ensures kept { KeepsAll self.old self.new }
         ensures run { self.new.run ≡ self.old.run }
         ensures next { self.new.next ≡ self.old.next }
     {
         for at in words {
-            self.wake(*at)?;
+            self.wake(*at as usize)?;
         }
         Ok(())
     }
@@ -458,7 +465,7 @@ impl<'r, 'c> Crew<'r, 'c> {
         slice: u32,
         number: u64,
         gate: &G,
-        changed: &mut Vec<usize>,
+        changed: &mut Vec<u32>,
     ) -> Result<Came, AllocError>
         requires workers { (1 ≤ workers) × (workers ≤ 64) }
         ensures kept { KeepsAll self.old self.new }

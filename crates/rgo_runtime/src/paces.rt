@@ -37,7 +37,8 @@ impl Pace {
         }
     }
 
-    /// After a round in which each turn used all that it was given, turns may be twice as long; after any other they are short again.
+    /// After a round in which each turn used all that it was given and none printed, turns may be twice as long; after any other they are
+    /// short again, so that goroutines that talk to each other do not wait for those that compute, and prints do not wait either.
     pub(crate) fn after(&mut self, all_used: bool) {
         self.slice = if all_used {
             self.slice.saturating_mul(2).min(LONG)

@@ -59,7 +59,7 @@ struct Course {
     /// The instructions that were executed, at most.
     steps: u64,
     /// The words that were changed in the last round.
-    changed: Vec<usize>,
+    changed: Vec<u32>,
 }
 
 /// The exact number of instructions that were executed, when all that were parked are ready.

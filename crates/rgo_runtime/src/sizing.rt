@@ -47,7 +47,7 @@ fn is_maker(op: Op<'_>) -> bool {
     }
 }
 
-/// Whether some instruction of a function makes an object, or is preceded by the making of a region.
+/// Whether some instruction of a function makes an object, or a region is created before one.
 fn has_maker(function: &CodeFn<'_>) -> bool {
     for at in 0..function.tac().len() {
         if !function.creates(at).is_empty() {
