@@ -236,4 +236,20 @@ func main() { d := make(chan int); l := list(4); go child(l, d); <-d }
 6
 !
 rgo: regions 2 removed 1 pages 2 returned 1 objects 5 goroutines 2
+
+> rgo run --page-words 16 --pages 4 --regions 4 // A goroutine that lacks a page continues when `main` has removed its list.
+func count(ready, done chan int) { ready <- 1; done <- sum(list(9)) }
+func main() { ready := make(chan int, 1); done := make(chan int, 1); l := list(1); go count(ready, done); fmt.Println(<-ready); fmt.Println(l.v); fmt.Println(<-done) }
+< 0
+1
+0
+36
+
+> rgo run --page-words 16 --pages 5 --regions 3 // The same of a region.
+func count(ready, done chan int) { ready <- 1; done <- sum(list(9)) }
+func main() { ready := make(chan int, 1); done := make(chan int, 1); l := list(1); go count(ready, done); fmt.Println(<-ready); fmt.Println(l.v); fmt.Println(<-done) }
+< 0
+1
+0
+36
 ";
