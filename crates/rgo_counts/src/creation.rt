@@ -1,9 +1,10 @@
 //! A region is created: a search for a slot whose count is 0.
 //!
-//! 1. Looks, which change nothing and show nothing, find the slot at which to begin: the first that looks free.
+//! 1. Looks find the slot at which to begin: the first that looks free. A look is a plain load that no history has, so it proves
+//!    nothing, and it is not counted as a step. There is at most one for each slot.
 //! 2. From there on once around, the count of each slot is exchanged, 2 for 0, until a count is found 0. That slot is the region's.
 //! 3. If none is found 0, each count was found in use by an exchange of this call, and the record remembers each slot.
-ghost use Rattle.std.specs.Prelude.{◌≡◌, ◌<◌, ◌≤◌, ◌+◌, ◌*◌, ◌-◌, ◌≢◌, ℕ, false, IfErr, IfOk, IfSome};
+ghost use Rattle.std.specs.Prelude.{◌≡◌, ◌<◌, ◌≤◌, ◌+◌, ◌-◌, ◌≢◌, ℕ, false, IfErr, IfOk, IfSome};
 ghost use Rattle.rgo_core.specs.Opening.{first_of};
 ghost use Rattle.rgo_core.specs.Plans.{setup_of};
 ghost use Rattle.rgo_core.specs.Channels.Records.{at_rest};
@@ -47,7 +48,7 @@ pub fn create<L: Ledger>(
     ensures fresh { let T = setup_of table.now.shared.key in IfOk result (λ slot.
         is_in slot (settled T behind seat.old.me).frame.holder.stakes ≡ false) }
     ensures possible { HasPossible (setup_of table.now.shared.key) seat.new.me }
-    ensures cost { steps.new ≤ steps.old + 2 * sizes.now.slots }
+    ensures cost { steps.new ≤ steps.old + sizes.now.slots }
 {
     create_at(table, seat, behind, sizes, 0, steps)
 }
@@ -76,7 +77,7 @@ pub fn create_from<L: Ledger>(
     ensures fresh { let T = setup_of table.now.shared.key in IfOk result (λ slot.
         is_in slot (settled T behind seat.old.me).frame.holder.stakes ≡ false) }
     ensures possible { HasPossible (setup_of table.now.shared.key) seat.new.me }
-    ensures cost { steps.new ≤ steps.old + 2 * sizes.now.slots }
+    ensures cost { steps.new ≤ steps.old + sizes.now.slots }
 {
     if (from as usize) < sizes.slots {
         create_at(table, seat, behind, sizes, from, steps)
@@ -114,7 +115,7 @@ fn create_at<L: Ledger>(
     ensures fresh { let T = setup_of table.now.shared.key in IfOk result (λ slot.
         is_in slot (settled T behind seat.old.me).frame.holder.stakes ≡ false) }
     ensures possible { HasPossible (setup_of table.now.shared.key) seat.new.me }
-    ensures cost { steps.new ≤ steps.old + 2 * sizes.now.slots }
+    ensures cost { steps.new ≤ steps.old + sizes.now.slots }
 {
     match take(table, seat, behind, sizes, from as usize, steps) {
         Some(slot) => Ok(slot as u32),
@@ -144,9 +145,9 @@ fn take<L: Ledger>(
     ensures fresh { let T = setup_of table.now.shared.key in IfSome result (λ slot.
         is_in slot (settled T behind seat.old.me).frame.holder.stakes ≡ false) }
     ensures possible { HasPossible (setup_of table.now.shared.key) seat.new.me }
-    ensures cost { steps.new ≤ steps.old + 2 * sizes.now.slots }
+    ensures cost { steps.new ≤ steps.old + sizes.now.slots }
 {
-    let start = beginning(table, sizes, from, steps);
+    let start = beginning(table, sizes, from);
     steps.tick();
     if counts::create(table, seat, behind, sizes, start) == 0 {
         return Some(start);
@@ -158,41 +159,27 @@ fn take<L: Ledger>(
 }
 
 /// Where the exchanges begin: at the first slot that looks free, from `from` on once around; if none does, at `from`.
-fn beginning<L: Ledger>(
-    table: &RunTable,
-    sizes: &TableSizes,
-    from: usize,
-    steps: &mut Steps<L>,
-) -> usize
+fn beginning(table: &RunTable, sizes: &TableSizes, from: usize) -> usize
     requires layout { HasLayout (setup_of table.now.shared.key) sizes.now table.now.shared.table_id }
     requires from { from < sizes.now.slots }
     ensures inside { result < sizes.now.slots }
-    ensures cost { steps.new ≤ steps.old + sizes.now.slots }
 {
-    if let Some(slot) = look(table, sizes, from, sizes.slots, steps) {
+    if let Some(slot) = look(table, sizes, from, sizes.slots) {
         return slot;
     }
-    match look(table, sizes, 0, from, steps) {
+    match look(table, sizes, 0, from) {
         Some(slot) => slot,
         None => from,
     }
 }
 
 /// The first slot from `first` to `end` that looks free.
-fn look<L: Ledger>(
-    table: &RunTable,
-    sizes: &TableSizes,
-    first: usize,
-    end: usize,
-    steps: &mut Steps<L>,
-) -> Option<usize>
+fn look(table: &RunTable, sizes: &TableSizes, first: usize, end: usize) -> Option<usize>
     requires layout { HasLayout (setup_of table.now.shared.key) sizes.now table.now.shared.table_id }
     requires ends { (first ≤ end) × (end ≤ sizes.now.slots) }
     ensures inside { IfSome result (λ slot. slot < sizes.now.slots) }
-    ensures cost { steps.new ≤ steps.old + (end - first) }
 {
     for slot in first..end {
-        steps.tick();
         if counts::looks_free(table, sizes, slot) {
             return Some(slot);
         }

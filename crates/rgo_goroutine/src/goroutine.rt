@@ -49,7 +49,7 @@ pub(crate) struct Child {
 }
 
 /// Whether these prints have as many bytes as may come of one turn.
-pub(crate) fn are_much(prints: &[Print]) -> bool
+pub(crate) fn hold_much(prints: &[Print]) -> bool
     ensures { (result ≡ true) ↔ (65536 ≤ bytes_in prints.now) }
 {
     let mut left = MOST_PRINTED;

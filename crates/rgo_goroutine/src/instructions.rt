@@ -21,7 +21,7 @@ ghost use Rattle.rgo_goroutine.specs.Instructions.{CanAct, HasComeTo, HasPages, 
 ghost use Rattle.rgo_goroutine.specs.declared.goroutine.Goroutine.{Goroutine as Goroutine_};
 ghost use Rattle.rgo_goroutine.specs.declared.turning.Stop.TheVariants as stop;
 
-use crate::goroutine::{Child, Goroutine, MOST_PRINTED, are_much};
+use crate::goroutine::{Child, Goroutine, MOST_PRINTED, hold_much};
 use crate::turning::{Stop, Turning};
 use rgo_acts::actors::Actor;
 use rgo_acts::body::{Next, NoCall};
@@ -418,7 +418,7 @@ impl Goroutine {
     fn unless_much(&self, turning: &Turning) -> Option<Stop>
         ensures { MatchOption result ⊤ (λ why. (why ≡ stop.Went) × HoldsMuch self.now) }
     {
-        if turning.printed >= MOST_PRINTED && are_much(self.prints.as_slice()) {
+        if turning.printed >= MOST_PRINTED && hold_much(self.prints.as_slice()) {
             Some(Stop::Went)
         } else {
             None

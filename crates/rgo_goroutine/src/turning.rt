@@ -45,7 +45,7 @@ pub enum Stop {
     NoMemory,
 }
 
-/// The channels that a turn has changed, by the words of their controls, of which a table has fewer than 2^32, so that goroutines that
+/// The channels that a turn has changed, by the words of their controls, of which a table has no more than 2^32, so that goroutines that
 /// wait there can be woken. It is a hint: no contract says which words it has.
 #[derive(Clone, Copy)]
 pub struct Changed {

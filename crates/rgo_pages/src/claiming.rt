@@ -1,10 +1,11 @@
 //! A page is claimed: a search for a page whose state is 0, and two accesses that put it on the chain of its slot.
 //!
-//! 1. Looks, which change nothing and show nothing, find the page at which to begin: the first that looks free.
+//! 1. Looks find the page at which to begin: the first that looks free. A look is a plain load that no history has, so it proves
+//!    nothing, and it is not counted as a step. There is at most one for each page.
 //! 2. From there on once around, the state of each page is exchanged, the slot plus 1 for 0, until a state is found 0.
 //! 3. That page is swapped in as the head of the chain, and the head found becomes its next word.
 //! 4. If no state is found 0, each page was found in use by an exchange of this call, and the record remembers each page.
-ghost use Rattle.std.specs.Prelude.{◌≡◌, ◌<◌, ◌≤◌, ◌+◌, ◌*◌, ◌-◌, ℕ, IfErr, IfOk, IfSome};
+ghost use Rattle.std.specs.Prelude.{◌≡◌, ◌<◌, ◌≤◌, ◌+◌, ◌-◌, ℕ, IfErr, IfOk, IfSome};
 ghost use Rattle.rgo_core.specs.Plans.{setup_of};
 ghost use Rattle.rgo_core.specs.Memory.Records.{Got};
 ghost use Rattle.rgo_core_steps.specs.Layouts.{HasLayout};
@@ -45,7 +46,7 @@ pub fn claim<L: Ledger>(
     ensures full { let T = setup_of table.now.shared.key in IfErr result (λ e.
         AllPagesTried T sizes.now (settled T behind seat.old.me) seat.old.me seat.new.me) }
     ensures possible { HasPossible (setup_of table.now.shared.key) seat.new.me }
-    ensures cost { steps.new ≤ steps.old + (2 * sizes.now.pages + 2) }
+    ensures cost { steps.new ≤ steps.old + (sizes.now.pages + 2) }
 {
     claim_at(table, seat, behind, sizes, slot, 0, steps)
 }
@@ -74,7 +75,7 @@ pub fn claim_from<L: Ledger>(
     ensures full { let T = setup_of table.now.shared.key in IfErr result (λ e.
         AllPagesTried T sizes.now (settled T behind seat.old.me) seat.old.me seat.new.me) }
     ensures possible { HasPossible (setup_of table.now.shared.key) seat.new.me }
-    ensures cost { steps.new ≤ steps.old + (2 * sizes.now.pages + 2) }
+    ensures cost { steps.new ≤ steps.old + (sizes.now.pages + 2) }
 {
     if (from as usize) < sizes.pages {
         claim_at(table, seat, behind, sizes, slot, from, steps)
@@ -112,7 +113,7 @@ fn claim_at<L: Ledger>(
     ensures full { let T = setup_of table.now.shared.key in IfErr result (λ e.
         AllPagesTried T sizes.now (settled T behind seat.old.me) seat.old.me seat.new.me) }
     ensures possible { HasPossible (setup_of table.now.shared.key) seat.new.me }
-    ensures cost { steps.new ≤ steps.old + (2 * sizes.now.pages + 2) }
+    ensures cost { steps.new ≤ steps.old + (sizes.now.pages + 2) }
 {
     match take(
         table,
@@ -180,9 +181,9 @@ fn take<L: Ledger>(
     ensures taken { let T = setup_of table.now.shared.key in
         PageOrNone T sizes.now slot (settled T behind seat.old.me) result seat.old.me seat.new.me }
     ensures possible { HasPossible (setup_of table.now.shared.key) seat.new.me }
-    ensures cost { steps.new ≤ steps.old + 2 * sizes.now.pages }
+    ensures cost { steps.new ≤ steps.old + sizes.now.pages }
 {
-    let start = beginning(table, sizes, from, steps);
+    let start = beginning(table, sizes, from);
     steps.tick();
     if pages::claim(table, seat, behind, sizes, start, slot) == 0 {
         return Some(start);
@@ -194,41 +195,27 @@ fn take<L: Ledger>(
 }
 
 /// Where the exchanges begin: at the first page that looks free, from `from` on once around; if none does, at `from`.
-fn beginning<L: Ledger>(
-    table: &RunTable,
-    sizes: &TableSizes,
-    from: usize,
-    steps: &mut Steps<L>,
-) -> usize
+fn beginning(table: &RunTable, sizes: &TableSizes, from: usize) -> usize
     requires layout { HasLayout (setup_of table.now.shared.key) sizes.now table.now.shared.table_id }
     requires from { from < sizes.now.pages }
     ensures inside { result < sizes.now.pages }
-    ensures cost { steps.new ≤ steps.old + sizes.now.pages }
 {
-    if let Some(page) = look(table, sizes, from, sizes.pages, steps) {
+    if let Some(page) = look(table, sizes, from, sizes.pages) {
         return page;
     }
-    match look(table, sizes, 0, from, steps) {
+    match look(table, sizes, 0, from) {
         Some(page) => page,
         None => from,
     }
 }
 
 /// The first page from `first` to `end` that looks free.
-fn look<L: Ledger>(
-    table: &RunTable,
-    sizes: &TableSizes,
-    first: usize,
-    end: usize,
-    steps: &mut Steps<L>,
-) -> Option<usize>
+fn look(table: &RunTable, sizes: &TableSizes, first: usize, end: usize) -> Option<usize>
     requires layout { HasLayout (setup_of table.now.shared.key) sizes.now table.now.shared.table_id }
     requires ends { (first ≤ end) × (end ≤ sizes.now.pages) }
     ensures inside { IfSome result (λ page. page < sizes.now.pages) }
-    ensures cost { steps.new ≤ steps.old + (end - first) }
 {
     for page in first..end {
-        steps.tick();
         if pages::looks_free(table, sizes, page) {
             return Some(page);
         }

@@ -1,6 +1,6 @@
 use Rattle.std.proofs.Common.{◌≡◌, ◌+◌, ◌<◌, length}
 use Rattle.rgo_goroutine.specs.Goroutines.{bytes_in}
-use Rattle.rgo_goroutine.proofs.goroutine.are_much.Given as goal
+use Rattle.rgo_goroutine.proofs.goroutine.hold_much.Given as goal
 
 abbrev pub invariant-loop-first : goal.invariant-loop-first
 invariant-loop-first l = record {

@@ -1,7 +1,7 @@
 use Rattle.std.proofs.Common.{◌≡◌, ◌+◌, ◌≤◌, List, [], ◌∷◌, ap, arith, length, refl}
 use Rattle.rgo_acts.specs.declared.prints.Print.{Print}
 use Rattle.rgo_goroutine.specs.Goroutines.{bytes_in}
-use Rattle.rgo_goroutine.proofs.goroutine.are_much.Goals as goal
+use Rattle.rgo_goroutine.proofs.goroutine.hold_much.Goals as goal
 
 none_in : (ps : List Print) → length ps ≡ 0 → bytes_in ps ≡ 0
 none_in [] none = refl
