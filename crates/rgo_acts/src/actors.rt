@@ -1,10 +1,12 @@
 //! Goroutines at the table.
-ghost use Rattle.std.specs.Prelude.{◌<◌};
+ghost use Rattle.std.specs.Prelude.{◌≤◌};
 ghost use Rattle.rgo_acts.specs.ActorExamples.{ActorExamples};
 
 use crate::runs::Run;
 use rgo_body::Body;
 use rgo_core::table::RunSeat;
+use rgo_core_steps::{counts, pages};
+use rgo_holding::Page;
 
 /// A goroutine with its seat at the table.
 #[derive(Drop)]
@@ -16,35 +18,112 @@ pub struct Actor {
     pub body: Body,
 }
 
-/// Where the next searches for a free page and for a free slot begin: after what the last ones found. What lies before that the
-/// goroutine has often taken itself, and a search would look at all of it again. No clause speaks of these places, since a search goes
-/// once around wherever it begins.
+/// Where a goroutine searches for free pages and for free slots. No clause speaks of these places, since a search goes once around
+/// wherever it begins.
 #[derive(Clone, Copy)]
 pub struct Searches {
-    pub page: u32,
-    pub slot: u32,
+    pub(crate) pages: Search,
+    pub(crate) slots: Search,
 }
 
 impl Searches {
-    /// The places for a new goroutine with this number.
+    /// Those of a new goroutine with this number.
     pub fn new(number: u64, run: &Run<'_, '_>) -> Searches {
         Searches {
-            page: place_of(number, run.sizes.pages),
-            slot: place_of(number, run.sizes.slots),
+            pages: Search::from_place(place_of(number, run.sizes.pages)),
+            slots: Search::from_place(place_of(number, run.sizes.slots)),
+        }
+    }
+
+    /// A region was removed whose slot and pages this goroutine has given back, among them the page that it filled there, if it did.
+    pub(crate) fn freed(&mut self, slot: u32, own: Option<Page>) {
+        self.slots.near = slot;
+        if let Some(own) = own {
+            self.pages.near = own.page;
         }
     }
 }
 
-/// Where a goroutine begins to search among `count` places, so that goroutines begin at different ones.
-fn place_of(number: u64, count: usize) -> u32 {
-    if count == 0 {
-        return 0;
+/// Where the next search for one of several places begins.
+///
+/// A goroutine that makes and removes regions in turn takes again what it gave back last: the cache of its processor has that still.
+/// Where that is in use, it searches behind the last place that it found: before that lies what it has often taken itself, and it
+/// would look at all of it again.
+#[derive(Clone, Copy)]
+pub(crate) struct Search {
+    /// The place that was given back last, or the one behind what was found near it.
+    near: u32,
+    /// The place behind the last one that was found elsewhere.
+    next: u32,
+}
+
+/// How many places are near.
+const FEW: u32 = 8;
+
+/// Whether a place is one of the few from `first` on.
+fn lies_near(place: u32, first: u32) -> bool {
+    place.wrapping_sub(first) < FEW
+}
+
+/// Where the few places from `first` on end, of so many.
+fn end_near(first: usize, count: usize) -> usize
+    ensures { result ≤ count }
+{
+    let end = first.saturating_add(FEW as usize);
+    if end < count { end } else { count }
+}
+
+impl Search {
+    fn from_place(place: u32) -> Search {
+        Search {
+            near: place,
+            next: place,
+        }
     }
-    u32::try_from(number.wrapping_mul(64) % count as u64).unwrap_or(0)
+
+    /// A search has found this place.
+    pub(crate) fn found(&mut self, place: u32) {
+        if !lies_near(place, self.near) || lies_near(place, self.next) {
+            self.next = after(place);
+        }
+        self.near = after(place);
+    }
+
+    /// Where a search for a page begins: at one nearby that looks free, if one does.
+    pub(crate) fn first_page(self, run: &Run<'_, '_>) -> u32 {
+        let first = self.near as usize;
+        for page in first..end_near(first, run.sizes.pages) {
+            if pages::looks_free(run.table, &run.sizes, page) {
+                return u32::try_from(page).unwrap_or(self.next);
+            }
+        }
+        self.next
+    }
+
+    /// Where a search for a slot begins, in the same way.
+    pub(crate) fn first_slot(self, run: &Run<'_, '_>) -> u32 {
+        let first = self.near as usize;
+        for slot in first..end_near(first, run.sizes.slots) {
+            if counts::looks_free(run.table, &run.sizes, slot) {
+                return u32::try_from(slot).unwrap_or(self.next);
+            }
+        }
+        self.next
+    }
+}
+
+/// The golden ratio's part behind the point, in 2^-64.
+const GOLDEN: u64 = 0x9E37_79B9_7F4A_7C15;
+
+/// Where a goroutine begins to search among `count` places. Multiples of the golden ratio lie far from each other, however many there
+/// are, so that goroutines begin in cache lines of their own.
+fn place_of(number: u64, count: usize) -> u32 {
+    let share = number.wrapping_mul(GOLDEN) >> 32;
+    u32::try_from(share.wrapping_mul(count as u64) >> 32).unwrap_or(0)
 }
 
 /// The place after this one. After the last one there is none, and a search begins at the first one then.
-pub(crate) fn after(place: u32) -> u32 {
+fn after(place: u32) -> u32 {
     place.wrapping_add(1)
 }
 

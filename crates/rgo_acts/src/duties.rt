@@ -11,7 +11,7 @@ ghost use Rattle.rgo_acts.specs.Actors.{Stands};
 ghost use Rattle.rgo_acts.specs.Attending.{Attends, HasAttended, HasAttendedLocally, IsAtDuty};
 ghost use Rattle.rgo_acts.specs.DutyExamples.{DutyExamples};
 
-use crate::actors::{Actor, after};
+use crate::actors::Actor;
 use crate::runs::Run;
 use rgo_body::pages::releasing;
 use rgo_body::{Body, Duty, Program};
@@ -114,13 +114,13 @@ fn create<L: Ledger>(
         &mut actor.seat,
         actor.behind,
         &run.sizes,
-        actor.searches.slot,
+        actor.searches.slots.first_slot(run),
         steps,
     );
     actor.behind = 0;
     match slot {
         Ok(slot) => {
-            actor.searches.slot = after(slot);
+            actor.searches.slots.found(slot);
             actor.body.created(run.program, name, slot);
             Attended::Done
         }
@@ -203,6 +203,7 @@ fn leave<L: Ledger>(actor: &mut Actor, run: &Run<'_, '_>, key: Key, steps: &mut 
     ensures { HasAttended run.now actor.old actor.new }
 {
     let slot = actor.body.slot(key);
+    let own = actor.body.own_page(key);
     let left = stakes::leave(
         run.table,
         &mut actor.seat,
@@ -219,6 +220,7 @@ fn leave<L: Ledger>(actor: &mut Actor, run: &Run<'_, '_>, key: Key, steps: &mut 
             let pages = releasing::release(run.table, &mut actor.seat, &run.sizes, slot, steps);
             stakes::free_slot(run.table, &mut actor.seat, &run.sizes, slot, steps);
             actor.body.gave_back(run.program, pages);
+            actor.searches.freed(slot, own);
         }
     }
 }

@@ -24,7 +24,7 @@ ghost use Rattle.rgo_acts.specs.ObjectExamples.{ObjectExamples};
 ghost use Rattle.rgo_acts.specs.Objects as spec;
 ghost use Rattle.rgo_acts.specs.Ready.{IsBefore};
 
-use crate::actors::{Actor, after};
+use crate::actors::Actor;
 use crate::runs::Run;
 use rgo_body::Next;
 use rgo_body::pages::cells::zero;
@@ -197,7 +197,7 @@ fn claim_page<L: Ledger>(
     requires count { actor.old.body.counts.taken + 1 < 2 ^ 64 }
     ensures page { MatchOption result (spec.HasNoPage run.now actor.old actor.new)
         (spec.HasPage run.now actor.old actor.new next.now new) }
-    ensures cost { steps.new ≤ steps.old + (2 * run.now.sizes.pages + 2) }
+    ensures cost { steps.new ≤ steps.old + (run.now.sizes.pages + 2) }
 {
     let slot = actor.body.page_slot(new.key);
     let claimed = claim_from(
@@ -206,13 +206,13 @@ fn claim_page<L: Ledger>(
         actor.behind,
         &run.sizes,
         slot,
-        actor.searches.page,
+        actor.searches.pages.first_page(run),
         steps,
     );
     actor.behind = 0;
     match claimed {
         Ok(page) => {
-            actor.searches.page = after(page);
+            actor.searches.pages.found(page);
             actor.body.claimed(run.program, new.key, page);
             Some(Page { page, fill: 0 })
         }
@@ -249,7 +249,7 @@ fn page_for<L: Ledger>(
     requires count { actor.old.body.counts.taken + 1 < 2 ^ 64 }
     ensures page { MatchOption result (spec.HasNoPage run.now actor.old actor.new)
         (spec.HasPage run.now actor.old actor.new next.now new) }
-    ensures cost { steps.new ≤ steps.old + (2 * run.now.sizes.pages + 2) }
+    ensures cost { steps.new ≤ steps.old + (run.now.sizes.pages + 2) }
 {
     match own_page_for(actor, run, next, new) {
         Some(page) => Some(page),
@@ -273,7 +273,7 @@ fn make<L: Ledger>(
     requires pages { 0 < run.now.sizes.pages }
     requires count { (actor.old.body.counts.taken + 1 < 2 ^ 64) × (actor.old.body.counts.objects + 1 < 2 ^ 64) }
     ensures made { spec.Makes run.now actor.old actor.new result }
-    ensures cost { steps.new ≤ steps.old + (2 * run.now.sizes.pages + 2 + run.now.sizes.page_words) }
+    ensures cost { steps.new ≤ steps.old + (run.now.sizes.pages + 2 + run.now.sizes.page_words) }
 {
     match page_for(actor, run, next, new, steps) {
         Some(page) => {
@@ -330,7 +330,7 @@ fn object<L: Ledger>(
     requires pages { 0 < run.now.sizes.pages }
     requires count { (actor.old.body.counts.taken + 1 < 2 ^ 64) × (actor.old.body.counts.objects + 1 < 2 ^ 64) }
     ensures made { spec.Makes run.now actor.old actor.new result }
-    ensures cost { steps.new ≤ steps.old + (2 * run.now.sizes.pages + 2 + run.now.sizes.page_words) }
+    ensures cost { steps.new ≤ steps.old + (run.now.sizes.pages + 2 + run.now.sizes.page_words) }
 {
     match object_of(actor, run, next, to, words, place, value) {
         Some(new) => make(actor, run, next, new, steps),
@@ -362,7 +362,7 @@ pub fn new_struct<L: Ledger>(
     requires pages { 0 < run.now.sizes.pages }
     requires count { (actor.old.body.counts.taken + 1 < 2 ^ 64) × (actor.old.body.counts.objects + 1 < 2 ^ 64) }
     ensures made { spec.Makes run.now actor.old actor.new result }
-    ensures cost { steps.new ≤ steps.old + (2 * run.now.sizes.pages + 2 + run.now.sizes.page_words) }
+    ensures cost { steps.new ≤ steps.old + (run.now.sizes.pages + 2 + run.now.sizes.page_words) }
 {
     let words = struct_words(run, number);
     object(actor, run, next, to, words, 0, 0, steps)
@@ -414,7 +414,7 @@ pub fn new_slice<L: Ledger>(
     requires pages { 0 < run.now.sizes.pages }
     requires count { (actor.old.body.counts.taken + 1 < 2 ^ 64) × (actor.old.body.counts.objects + 1 < 2 ^ 64) }
     ensures made { spec.Makes run.now actor.old actor.new result }
-    ensures cost { steps.new ≤ steps.old + (2 * run.now.sizes.pages + 2 + run.now.sizes.page_words) }
+    ensures cost { steps.new ≤ steps.old + (run.now.sizes.pages + 2 + run.now.sizes.page_words) }
 {
     let elements = actor.body.word(size);
     if elements >= FIRST_NEGATIVE {
@@ -455,7 +455,7 @@ pub fn new_channel<L: Ledger>(
     requires small { run.now.setup.sizes.page_words ≤ 1073741820 }
     requires count { (actor.old.body.counts.taken + 1 < 2 ^ 64) × (actor.old.body.counts.objects + 1 < 2 ^ 64) }
     ensures made { spec.Makes run.now actor.old actor.new result }
-    ensures cost { steps.new ≤ steps.old + (2 * run.now.sizes.pages + 2 + run.now.sizes.page_words) }
+    ensures cost { steps.new ≤ steps.old + (run.now.sizes.pages + 2 + run.now.sizes.page_words) }
 {
     let capacity = actor.body.word(size);
     if capacity >= FIRST_NEGATIVE {

@@ -27,6 +27,7 @@ ghost use Rattle.rgo_sched.specs.Rounds.{RoundOf};
 ghost use Rattle.rgo_sound.specs.Tally.{no_share};
 ghost use Rattle.rgo_table_runs.specs.closing.Members.{NoneIsLost};
 
+use crate::changes::Changes;
 use crate::parking::Parked;
 use crate::passes::{Passed, pass_uncounted};
 use crate::printing::Outgoing;
@@ -115,7 +116,9 @@ enum Next {
     Retired,
 }
 
-fn next_of(turn: &Turn<'_, '_>) -> Next
+/// Those that wait are parked, unless another turn of the round has changed the word at which they wait: that may have been after they
+/// had looked at it.
+fn next_of(turn: &Turn<'_, '_>, changes: &Changes) -> Next
     ensures taken { result ≡ Retired → (turn.now.goroutine.prints.items ≡ []) × (turn.now.goroutine.children.items ≡ []) }
     ensures ended { result ≡ Retired → MatchOption turn.now.turned ⊥ (λ turned. turned.stop ≡ Ended) }
 {
@@ -125,7 +128,8 @@ fn next_of(turn: &Turn<'_, '_>) -> Next
     match turned.stop {
         Stop::Ended if turn.goroutine().new_prints() == 0 && turn.goroutine().new_children() == 0 =>
             { Next::Retired }
-        Stop::Blocked { at } if !turned.moved => Next::Parked(at.unwrap_or(NOWHERE)),
+        Stop::Blocked { at: None } => Next::Parked(NOWHERE),
+        Stop::Blocked { at: Some(at) } if !changes.are_by_others(turned, at) => Next::Parked(at),
         Stop::Went
         | Stop::Blocked { .. }
         | Stop::Lost { .. }
@@ -332,16 +336,17 @@ impl<'r, 'c> Crew<'r, 'c> {
         );
     }
 
-    /// Those that wait are parked, and those that have ended retire.
-    fn sort_out(&mut self)
+    /// Of those that had a turn in this round, the first `turns` that are ready, those that wait are parked, and those that have ended
+    /// retire.
+    fn sort_out(&mut self, changes: &Changes, turns: usize)
         ensures kept { KeepsAll self.old self.new }
         ensures run { self.new.run ≡ self.old.run }
         ensures next { self.new.next ≡ self.old.next }
     {
-        let mut place = self.ready.len();
+        let mut place = turns.min(self.ready.len());
         while place > 0 {
             place -= 1;
-            match next_of(&self.ready[place]) {
+            match next_of(&self.ready[place], changes) {
                 Next::Ready => {}
                 Next::Parked(at) => self.park(place, at),
                 Next::Retired => self.retire(place),
@@ -414,8 +419,9 @@ impl<'r, 'c> Crew<'r, 'c> {
         &self,
         moved: bool,
         slice: u32,
-        changed: &mut Vec<u32>,
+        changes: &mut Changes,
     ) -> Result<Came, AllocError> {
+        changes.clear();
         let mut came = Came {
             moved,
             all_used: self.outgoing.waiting.is_empty(),
@@ -429,9 +435,10 @@ impl<'r, 'c> Crew<'r, 'c> {
                 came.steps = came.steps.saturating_add(u64::from(turned.steps));
                 came.is_over = came.is_over || turn.goroutine().first().is_some();
                 came.lacks_memory = came.lacks_memory || turned.stop == Stop::NoMemory;
-                changed.extend_from_slice(turned.changed.channels())?;
+                changes.add(turned)?;
             }
         }
+        changes.sort();
         Ok(came)
     }
 
@@ -453,7 +460,7 @@ impl<'r, 'c> Crew<'r, 'c> {
 
     /// A round: each that is ready has a turn of up to `slice` instructions. What they have printed waits, what they have started is ready,
     /// and so are those that wait at words that they have changed; those that have ended retire, and those that wait are parked. These words
-    /// are left in `changed`, whatever was there before, so that a list serves for all rounds.
+    /// are left in `changes`, whatever was there before, so that a list serves for all rounds.
     ///
     /// # Errors
     ///
@@ -465,7 +472,7 @@ impl<'r, 'c> Crew<'r, 'c> {
         slice: u32,
         number: u64,
         gate: &G,
-        changed: &mut Vec<u32>,
+        changes: &mut Changes,
     ) -> Result<Came, AllocError>
         requires workers { (1 ≤ workers) × (workers ≤ 64) }
         ensures kept { KeepsAll self.old self.new }
@@ -477,11 +484,11 @@ impl<'r, 'c> Crew<'r, 'c> {
         self.set_slices(slice);
         let moved = self.turn_all(rt, workers, number, gate)?;
         self.collect_all()?;
-        changed.clear();
-        let came = self.look_over(moved, slice, changed)?;
-        // Those that wait are parked before others are woken, so that a word that was changed in this round wakes them.
-        self.sort_out();
-        self.wake_each(changed.as_slice())?;
+        let came = self.look_over(moved, slice, changes)?;
+        // Those that waited before this round are woken first, so that they are not parked again.
+        let turns = self.ready.len();
+        self.wake_each(changes.words())?;
+        self.sort_out(changes, turns);
         self.welcome()?;
         Ok(came)
     }

@@ -2,6 +2,7 @@
 //! prints in order, and says how the run has ended.
 #![tactic(auto)]
 
+pub mod changes;
 pub mod crew;
 pub mod ends;
 pub mod laws;

@@ -9,6 +9,7 @@ ghost use Rattle.rgo_runtime.specs.declared.runs.Why.TheVariants as why;
 ghost use Rattle.rgo_sound.specs.Machine.Limits.{most_goroutines};
 ghost use Rattle.rgo_table_runs.specs.claims.RegionRuns.{CodeRuns};
 
+use crate::changes::Changes;
 use crate::crew::{Came, Crew};
 use crate::ends::end_of;
 use crate::paces::Pace;
@@ -59,7 +60,7 @@ struct Course {
     /// The instructions that were executed, at most.
     steps: u64,
     /// The words that were changed in the last round.
-    changed: Vec<u32>,
+    changes: Changes,
 }
 
 /// The exact number of instructions that were executed, when all that were parked are ready.
@@ -159,7 +160,7 @@ fn advance<H: Threads + Sync, K: Sink, G: Gate + Sync>(
     let ready = crew.ready();
     let slice = course.pace.slice(ready, most.saturating_sub(course.steps));
     let workers = course.pace.workers(workers, ready, slice, course.number);
-    let came = match crew.play(rt, workers, slice, course.number, gate, &mut course.changed) {
+    let came = match crew.play(rt, workers, slice, course.number, gate, &mut course.changes) {
         Ok(came) => came,
         Err(_) => return Some(Why::Memory),
     };
@@ -192,7 +193,7 @@ fn play<H: Threads + Sync, K: Sink, G: Gate + Sync>(
         pace: Pace::new(),
         number: 1,
         steps: 0,
-        changed: Vec::new(alloc),
+        changes: Changes::new(alloc),
     };
     for _ in 0..u64::MAX {
         match advance(rt, crew, most, workers, &mut course, out, gate) {

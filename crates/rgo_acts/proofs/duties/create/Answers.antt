@@ -31,7 +31,7 @@ create_from-slot-requires-clause-creates g c =
 pub returns-in-Ok-slot : goal.returns-in-Ok-slot
 returns-in-Ok-slot g c =
     let a = c.args.actor.now in
-    let searches = record a.searches { slot = c.after-actor.result } in
+    let searches = record a.searches { slots = c.found.new.self } in
     let b = record a { seat = c.create_from-slot.new.seat; behind = 0; searches = searches; body = c.created.new.self } in
     let before = subst (λ (r : Run). IsAtDuty r a (Create c.args.name)) (sym c.run.view_is) c.requires.first in
     subst (λ (r : Run). HasAttended r a b) c.run.view_is

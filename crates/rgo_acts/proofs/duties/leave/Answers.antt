@@ -59,7 +59,7 @@ returns-in-Others g c =
 pub returns-in-Last : goal.returns-in-Last
 returns-in-Last g c =
     let a = c.args.actor.now in
-    let b = record a { seat = c.free_slot.new.seat; behind = 0; body = c.gave_back.new.self } in
+    let b = record a { seat = c.free_slot.new.seat; behind = 0; searches = c.freed.new.self; body = c.gave_back.new.self } in
     let before = subst (λ (r : Run). IsAtDuty r a c.requires.first.0) (sym c.run.view_is) c.requires.first.1 in
     let left = c.leave-left.ensures.leaves in
     subst (λ (r : Run). HasAttended r a b) c.run.view_is

@@ -11,7 +11,7 @@ claim_from-claimed-requires-clause-needs g c =
 pub returns-in-Ok-clause-page : goal.returns-in-Ok-clause-page
 returns-in-Ok-clause-page g c =
     let a = c.args in
-    let searches = record a.actor.now.searches { page = c.after-actor.result } in
+    let searches = record a.actor.now.searches { pages = c.found.new.self } in
     let b = record a.actor.now { seat = c.claim_from-claimed.new.seat; behind = 0; searches = searches; body = c.claimed.new.self } in
     claimed_here _ a.run.now c.run.view_is a.actor.now a.next.now c.requires.before a.new c.requires.new c.run.invariant.layout.sizes
     b c.claim_from-claimed.ensures.own.0 refl c.claim_from-claimed.ensures.possible c.requires.fits c.page_slot-slot.result

@@ -23,23 +23,22 @@ returns-in_err-wake_each-clause-kept g c =
     let old = c.args.self.now in
     let turned = kept_then old c.set_slices.new.self c.turn_all.new.self c.set_slices.ensures.kept c.turn_all.ensures.kept in
     let collected = kept_then old c.turn_all.new.self c.collect_all.new.self turned c.collect_all.ensures.kept in
-    let sorted = kept_then old c.collect_all.new.self c.sort_out.new.self collected c.sort_out.ensures.kept in
-    kept_then old c.sort_out.new.self c.wake_each.new.self sorted c.wake_each.ensures.kept
+    kept_then old c.collect_all.new.self c.wake_each.new.self collected c.wake_each.ensures.kept
 
 pub returns-in_err-welcome-clause-kept : goal.returns-in_err-welcome-clause-kept
 returns-in_err-welcome-clause-kept g c =
     let old = c.args.self.now in
     let turned = kept_then old c.set_slices.new.self c.turn_all.new.self c.set_slices.ensures.kept c.turn_all.ensures.kept in
     let collected = kept_then old c.turn_all.new.self c.collect_all.new.self turned c.collect_all.ensures.kept in
-    let sorted = kept_then old c.collect_all.new.self c.sort_out.new.self collected c.sort_out.ensures.kept in
-    let woken = kept_then old c.sort_out.new.self c.wake_each.new.self sorted c.wake_each.ensures.kept in
-    kept_then old c.wake_each.new.self c.welcome.new.self woken c.welcome.ensures.kept
+    let woken = kept_then old c.collect_all.new.self c.wake_each.new.self collected c.wake_each.ensures.kept in
+    let sorted = kept_then old c.wake_each.new.self c.sort_out.new.self woken c.sort_out.ensures.kept in
+    kept_then old c.sort_out.new.self c.welcome.new.self sorted c.welcome.ensures.kept
 
 pub returns-clause-kept : goal.returns-clause-kept
 returns-clause-kept g c =
     let old = c.args.self.now in
     let turned = kept_then old c.set_slices.new.self c.turn_all.new.self c.set_slices.ensures.kept c.turn_all.ensures.kept in
     let collected = kept_then old c.turn_all.new.self c.collect_all.new.self turned c.collect_all.ensures.kept in
-    let sorted = kept_then old c.collect_all.new.self c.sort_out.new.self collected c.sort_out.ensures.kept in
-    let woken = kept_then old c.sort_out.new.self c.wake_each.new.self sorted c.wake_each.ensures.kept in
-    kept_then old c.wake_each.new.self c.welcome.new.self woken c.welcome.ensures.kept
+    let woken = kept_then old c.collect_all.new.self c.wake_each.new.self collected c.wake_each.ensures.kept in
+    let sorted = kept_then old c.wake_each.new.self c.sort_out.new.self woken c.sort_out.ensures.kept in
+    kept_then old c.sort_out.new.self c.welcome.new.self sorted c.welcome.ensures.kept
