@@ -7,6 +7,8 @@ mod driver;
 #[cfg(test)]
 mod endings;
 #[cfg(test)]
+mod examples;
+#[cfg(test)]
 mod programs;
 #[cfg(test)]
 mod rows;

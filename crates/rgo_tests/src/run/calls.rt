@@ -122,7 +122,13 @@ pub(super) fn called<R: Threads + AllocGlobal + Sync, G: Gate + Sync>(
 }
 
 /// The numbers of workers with which a run is called that names none, as words.
-static WORKERS: [&str; 4] = [" --workers 1", " --workers 2", " --workers 7", ""];
+static WORKERS: [&str; 5] = [
+    " --workers 1",
+    " --workers 2",
+    " --workers 7",
+    " --workers 64",
+    "",
+];
 
 static AS_IT_IS: [&str; 1] = [""];
 
@@ -138,7 +144,7 @@ fn calls_of(words: &str) -> (&str, &'static [&'static str], &str) {
 }
 
 /// Calls `rgo` with a text, and compares what is printed and reported, and the status. A run that names no number of
-/// workers is called with 1, 2 and 7, too.
+/// workers is called with 1, 2, 7 and 64, too.
 pub(super) fn expect<R: Threads + Abort + AllocGlobal + Sync>(
     rt: &R,
     words: &str,
