@@ -179,7 +179,7 @@ func main() {
 \t}
 }
 
-< exit regions 123 removed 123 pages 123 returned 123 objects 131 goroutines 5 steps 15050
+< exit
 sum 5509
 hits 65 misses 35 evictions 30
 144
