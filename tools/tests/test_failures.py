@@ -32,7 +32,7 @@ FEW_PRINTED = b"".join(b"%d\n" % i for i in range(100000))
 LOOP = HEAD + b"func main() { fmt.Println(0); for {} }\n"
 CROWD = HEAD + b"func work() { for {} }\nfunc main() { for i := 0; i < 6; i++ { go work() }; for {} }\n"
 DEEP = HEAD + b"func f(n int) int { return f(n + 1) + 1 }\nfunc main() { fmt.Println(0); fmt.Println(f(0)) }\n"
-NESTED = HEAD + b"func main() { fmt.Println(" + b"(" * 198 + b"1" + b")" * 198 + b") }\n"
+NESTED = HEAD + b"func main() { fmt.Println(" + b"(" * 196 + b"1" + b")" * 196 + b") }\n"
 SUMS = HEAD + b"""\
 func sum(n int, c chan int) { s := 0; for i := 0; i < n; i++ { s += i }; c <- s }
 func main() { c := make(chan int); for i := 0; i < 4; i++ { go sum(200000, c) }; s := 0; for i := 0; i < 4; i++ { s += <-c }; fmt.Println(s) }
@@ -58,7 +58,8 @@ def call(text, words=("run",), limits=(), before=None, user=None, program=None, 
 
     def prepare():
         for limit, most in limits:
-            resource.setrlimit(limit, (most, most))
+            # Processor time has a second limit, at which the system sends SIGKILL.
+            resource.setrlimit(limit, (most, most + 9 if limit == resource.RLIMIT_CPU else most))
         if before:
             before()
 
@@ -233,7 +234,7 @@ TRIED = {
     "standard output does not wait, and is full": full_and_not_waiting,
     "too little memory (`ulimit -v`) for a table of pages": lambda: in_memory(100, words=LARGE_TABLE),
     "too little memory for the frames of deep calls": lambda: in_memory(12, DEEP),
-    "too little memory for the system to load the program": lambda: in_memory(1),
+    "too little memory for the system to load the program": lambda: in_memory(3),
     "a stack of 1 MiB (`ulimit -s`), and 100,000 frames": lambda: call(DEEP, limits=STACK),
     "a stack of 1 MiB, and a text that is nested 200 deep": lambda: call(NESTED, limits=STACK),
     "no process or thread may be started (`ulimit -u`)": without_processes,
