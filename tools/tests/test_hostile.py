@@ -14,6 +14,8 @@ from test_proofs import loaded
 OUT = b"1\n11\n21\n"
 USUAL = (0, OUT, b"")
 TRAP = (2, OUT, b"rgo: 4:5: trap 1 NilPointer\n")
+MADE = b"rgo: regions 1 removed 1 pages 1 returned 1 objects 1 goroutines 1\n"
+COUNTED = (0, OUT, MADE)
 RECORD = (0, OUT, b"rgo picks 1\none 0\ntext\n")
 NO_MEMORY, READ_FAILED, WRITE_FAILED = (f"rgo: {said}\n".encode() for said in ("out of memory", "read failed", "write failed"))
 # A kind of failure, a command, the usual answer, what was found, the file of a failed call, and whether that is right.
@@ -35,6 +37,12 @@ JUDGED = [
     ("memory", "record", RECORD, (11, b"1\n", RECORD[2] + NO_MEMORY), -1, False),
     ("memory", "emit", USUAL, (11, b"", NO_MEMORY), -1, True),
     ("memory", "emit", USUAL, (11, b"1\n", NO_MEMORY), -1, False),
+    ("memory", "run --stats", COUNTED, (11, b"1\n", NO_MEMORY), -1, True),
+    ("memory", "run --stats", COUNTED, (11, b"1\n", MADE + NO_MEMORY), -1, True),
+    ("memory", "run --stats", COUNTED, (0, OUT, b""), -1, False),
+    ("memory", "run", USUAL, (11, b"1\n", MADE + NO_MEMORY), -1, False),
+    ("write", "run --stats", COUNTED, (10, b"1\n", MADE + WRITE_FAILED), 1, True),
+    ("write", "run --stats", COUNTED, (10, OUT, b""), 2, True),
     ("read", "run", USUAL, (9, b"", READ_FAILED), 0, True),
     ("read", "run", USUAL, USUAL, 0, False),
     ("read", "run", USUAL, (9, b"1\n", READ_FAILED), 0, False),
@@ -75,7 +83,7 @@ class Fail(unittest.TestCase):
         kinds = {kind.name: kind for kind in tool.KINDS}
         for name, word, usual, found, file, is_right in JUDGED:
             with self.subTest(f"{name} {word}", found=found):
-                call = tool.Call("", [word], b"")
+                call = tool.Call("", word.split(), b"")
                 self.assertEqual(is_right, bool(kinds[name].is_right(call, tool.Answer(*usual), tool.Answer(*found), file)))
 
     def test_numbers_are_spread(self):
