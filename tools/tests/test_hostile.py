@@ -115,7 +115,7 @@ class Fail(unittest.TestCase):
             fake.chmod(0o755)
             ran = self.fail("--rgo", fake)
         self.assertEqual(1, ran.returncode)
-        self.assertRegex(ran.stdout, r"(?m)^wrong: run --workers 1: echo: .*, and not ")
+        self.assertRegex(ran.stdout, r"(?m)^wrong: run --workers 1 --stats: echo: .*, and not ")
 
 
 @unittest.skipUnless(shutil.which("go"), "Go is not installed")
