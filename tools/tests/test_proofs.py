@@ -2,6 +2,7 @@
 
 import importlib.machinery
 import importlib.util
+import re
 import unittest
 
 from error_pages import TOP
@@ -56,6 +57,45 @@ class Definitions(unittest.TestCase):
         # How the claim is proved is no part of it.
         self.assertNotIn("rgo_core/specs/Core.antt", found)
         self.assertTrue(all(any(path.startswith(f"{crate}/") for crates in tool.CHAPTERS.values() for crate in crates) for path in found))
+
+
+class Answers(unittest.TestCase):
+    """The tables in docs/PROOF.md that name the clause of each answer."""
+
+    # What declares a name: a clause, a function, a definition or a field, and a case of a type.
+    RUST = re.compile(r"(?:ensures|fn|enum|struct|type) (\w+)|^ +(\w+)(?:\(.*\))?,$", re.MULTILINE)
+    RULES = re.compile(r"^ *(?:abbrev )?(?:pub )?(?:record |data )?(\w+) :", re.MULTILINE)
+
+    def declared(self):
+        found = set()
+        for path in (TOP / "crates").glob("*/src/**/*.rt"):
+            found.update(name for names in self.RUST.findall(path.read_text(encoding="utf-8")) for name in names)
+        for path in (TOP / "crates").glob("*/specs/**/*.antt"):
+            found.update(self.RULES.findall(path.read_text(encoding="utf-8")))
+            found.update(re.findall(r"(?:record|data) (\w+)", path.read_text(encoding="utf-8")))
+        return found
+
+    def test_what_the_tables_name_exists(self):
+        page = TOP.joinpath("docs", "PROOF.md").read_text(encoding="utf-8")
+        section = re.search(r"^## Answers and their causes\n(.*?)^## ", page, re.DOTALL | re.MULTILINE)[1]
+        rows = [line.split(" | ") for line in section.splitlines() if line.startswith("| ") and "---" not in line]
+        self.assertGreater(len(rows), 40)
+        names = self.declared() | {path.name for path in (TOP / "crates").iterdir()}
+        for row in rows:
+            for word in re.findall(r"`([^`]+)`", row[-2]):
+                for one in re.findall(r"[\w/.{},]+", word):
+                    with self.subTest(row[0], name=one):
+                        self.assert_exists(one, names)
+
+    def assert_exists(self, one, names):
+        if "/" not in one:
+            # The error of std has no other value than that memory was refused.
+            self.assertTrue(one in names or one == "AllocError", f"{one} is declared nowhere")
+            return
+        before, _, rest = one.partition("{")
+        inner, _, after = rest.partition("}")
+        for part in inner.split(","):
+            self.assertTrue(TOP.joinpath("crates", before + part + after).exists(), one)
 
 
 if __name__ == "__main__":

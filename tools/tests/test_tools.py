@@ -26,9 +26,11 @@ WRONG = {
     "definitions": ["x"],
     "examples": ["--tables", "a b"],
     "explain": ["a b", "--all"],
+    "fail": ["--most x", "--most -1", "--moist 1"],
     "install": ["a b"],
     "journal": ["", "a.go b.go", "--steps 0 a.go", "--workers 1 a.go"],
     "listing": ["a.go b.code", "--all a"],
+    "mutate": ["x", "--texts 0", "--show x"],
     "quick": ["--all", "a b"],
     "regions": ["--all a.go", "--warn --list a.go", "--journal a.picks a.go"],
     "replay-at": ["", "a.picks", "--after x a.picks a.go", "--all a.picks a.go"],
@@ -47,8 +49,10 @@ NO_FILE = {
     "compare-with-go --rgo F": 127,
     "examples F": 127,
     "explain F": 66,
+    "fail --rgo F": 127,
     "journal F": 66,
     "listing F": 66,
+    "mutate --rgo F": 127,
     "regions F": 66,
     "replay-at F a.go": 66,
     "rgor F": 66,
@@ -58,7 +62,7 @@ NO_FILE = {
 }
 WRONG, NO_FILE = ({words: found for words, found in table.items() if words.split()[0] in TOOLS} for table in (WRONG, NO_FILE))
 # Words that need the program where none is built.
-NO_PROGRAM = ["compare-with-go", "examples", "listing a.go", "regions a.go", "rgor a.go", "rgor --check a.go", "soak", "test-workers"]
+NO_PROGRAM = ["compare-with-go", "examples", "fail", "mutate", "listing a.go", "regions a.go", "rgor a.go", "rgor --check a.go", "soak", "test-workers"]
 # Words that print something without the program, and need nothing to be installed.
 PRINTING = ["code_producer.py texts/all.tac", "definitions", "count", "explain", "listing texts/all.code"]
 

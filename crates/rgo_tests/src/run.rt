@@ -92,16 +92,44 @@ fn a_text_has_at_most_one_mebibyte(rt: HostRuntime) -> Result<(), AllocError> {
     expect(&rt, "rgo run", &longer, SOUND, ("", report, 1))
 }
 
+/// Calls `rgo` with the first `k` bytes of a text, and compares the status, and how much was printed.
+fn is_cut<R: Threads + Abort + AllocGlobal + Sync>(
+    rt: &R,
+    words: &str,
+    text: &str,
+    k: usize,
+    wanted: (u8, usize),
+) -> Result<(), AllocError> {
+    let cut = text.as_bytes().get(..k).unwrap_or(&[]);
+    let found = called(rt, words, cut, SOUND, &NoGate)?;
+    let found = (found.status, found.out.bytes().len());
+    same(rt, str::from_utf8(cut).unwrap_or("?"), &found, &wanted);
+    Ok(())
+}
+
 #[test]
 fn a_text_is_refused_wherever_it_is_cut(rt: HostRuntime) -> Result<(), AllocError> {
     let text = with_head(rt.alloc(), "func main() { fmt.Println(\"hi\", 1, true) }")?;
     same(&rt, "the length", &text.len(), &99);
-    for k in 0..100 {
-        let cut = text.as_bytes().get(..k).unwrap_or(&[]);
-        let found = called(&rt, "rgo run", cut, SOUND, &NoGate)?;
-        let wanted = if k < 98 { (1, 0) } else { (0, 10) };
-        let found = (found.status, found.out.bytes().len());
-        same(&rt, str::from_utf8(cut).unwrap_or("?"), &found, &wanted);
+    for words in [
+        "rgo run --workers 1",
+        "rgo run --workers 2",
+        "rgo run --workers 7",
+    ] {
+        for k in 0..100 {
+            let wanted = if k < 98 { (1, 0) } else { (0, 10) };
+            is_cut(&rt, words, &text, k, wanted)?;
+        }
+    }
+    Ok(())
+}
+
+#[test]
+fn a_code_text_is_refused_wherever_it_is_cut(rt: HostRuntime) -> Result<(), AllocError> {
+    same(&rt, "the length", &codes::FIELD.len(), &209);
+    for k in 0..210 {
+        let wanted = if k < 209 { (1, 0) } else { (0, 0) };
+        is_cut(&rt, "rgo code", codes::FIELD, k, wanted)?;
     }
     Ok(())
 }

@@ -1,6 +1,23 @@
 //! Code texts that are run or refused, as tables of calls, worked out by hand from the meaning of their instructions.
 
-/// The code of `x := new(N); fmt.Println(x.v)`, and others that differ from it.
+/// The code of `x := new(N); fmt.Println(x.v)`.
+pub(super) const FIELD: &str = "\
+rgo code 1
+struct N int *N
+func main 0 - -
+var *N r0
+var *N r0
+var int -
+entry -[]
+0 @76 +[r0] new v0 N -[]
+1 @73 +[] copy v1 v0 -[]
+2 @98 +[] load v2 v1 0 -[r0]
+3 @95 +[] print v2 -[]
+4 @101 +[] return -
+end
+";
+
+/// The same code, and others that differ from it.
 pub(super) const OBJECTS: &str = "
 > rgo code
 rgo code 1

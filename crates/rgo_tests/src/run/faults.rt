@@ -77,6 +77,11 @@ func main() {
 func main() { c := make(chan int); <-c }
 < 10
 
+> rgo run
+func g(c chan int) { c <- 1 }
+func main() { var c chan int; go g(c); <-c }
+< 10
+
 > rgo check
 func main() { fmt.Println(1); fmt.Println(2); fmt.Println(3) }
 < 0
@@ -98,6 +103,12 @@ rgo: read failed
 /// The first read of fifty bytes fails.
 const FIRST_OF_50: &str = "
 > rgo run
+func main() { fmt.Println(\"hi\", 1, true) }
+< 9
+!
+rgo: read failed
+
+> rgo run
 func main() { for i := 1; i < 5; i++ { fmt.Println(i) } }
 < 9
 !
@@ -106,6 +117,12 @@ rgo: read failed
 
 /// The second read of fifty bytes fails.
 const SECOND_OF_50: &str = "
+> rgo run
+func main() { fmt.Println(\"hi\", 1, true) }
+< 9
+!
+rgo: read failed
+
 > rgo run
 func main() { for i := 1; i < 5; i++ { fmt.Println(i) } }
 < 9
