@@ -89,12 +89,7 @@ fn holds<R: Threads + Abort + AllocGlobal + Sync>(rt: &R, row: &str) -> Result<(
         } else {
             name_of(over.ending)
         };
-        assert_eq!(rt;
-            found,
-            row.outcome,
-            "{} in turns of {slice}",
-            row.name
-        );
+        assert_eq!(rt; found, row.outcome, "{} in turns of {slice}", row.name);
     }
     Ok(())
 }
