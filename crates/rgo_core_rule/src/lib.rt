@@ -13,6 +13,4 @@ pub mod laws;
 pub mod rule;
 pub mod seats;
 pub mod steps;
-#[cfg(test)]
-mod tests;
 pub mod told;

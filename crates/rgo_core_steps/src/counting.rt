@@ -20,7 +20,7 @@ impl<L: Ledger> Model for Steps<L> {
 }
 
 impl<L: Ledger> Steps<L> {
-    /// A count that begins at 0. A caller that needs none makes one of `Blank::new(1)`, too (`tests`).
+    /// A count that begins at 0. A caller that needs none makes one of `Blank::new(1)`, too.
     pub fn new(blank: Blank) -> Steps<L>
         requires name { blank.name ≡ L.name }
         requires parts { (blank.parts ≡ L.parts) × (0 < blank.parts) }

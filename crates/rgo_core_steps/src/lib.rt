@@ -18,5 +18,3 @@ pub mod numbers;
 pub mod pages;
 pub mod searches;
 pub mod seats;
-#[cfg(test)]
-mod tests;

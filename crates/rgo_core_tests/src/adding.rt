@@ -1,10 +1,10 @@
-//! The table of the example, accessed from one thread and from two.
+//! The table of the smallest example of the rule, accessed from one thread and from two.
 ghost use Rattle.std.specs.Prelude.{◌≡◌};
 ghost use Rattle.rgo_core_rule.specs.Counting.{new_adder};
 ghost use Rattle.rgo_core_rule.specs.Views.{IsAlone};
 
-use crate::counting::{AdderSeat, Plan, Total, add, close, open, start};
-use crate::seats::{glance, meet, part, retire};
+use rgo_core_rule::counting::{AdderSeat, Plan, Total, add, close, open, start};
+use rgo_core_rule::seats::{glance, meet, part, retire};
 use std::process::Abort;
 use std::test::Fail;
 use std::thread::{Threads, join};
