@@ -28,6 +28,7 @@ ghost use Rattle.rgo_sound.specs.Tally.{no_share};
 ghost use Rattle.rgo_table_runs.specs.closing.Members.{NoneIsLost};
 
 use crate::changes::Changes;
+use crate::paces::is_first;
 use crate::parking::Parked;
 use crate::passes::{Passed, pass_uncounted};
 use crate::printing::Outgoing;
@@ -116,9 +117,20 @@ enum Next {
     Retired,
 }
 
-/// Those that wait are parked, unless another turn of the round has changed the word at which they wait: that may have been after they
-/// had looked at it.
-fn next_of(turn: &Turn<'_, '_>, changes: &Changes) -> Next
+/// Whether a goroutine is parked whose turn has ended at a channel that was not ready: unless another turn of the round has changed that
+/// channel, which may have been after it had looked. In the first rounds it has one more turn if it has moved, so that all are there.
+fn is_parked(turned: &Turned, at: Option<usize>, changes: &Changes, number: u64) -> bool {
+    if turned.moved && is_first(number) {
+        return false;
+    }
+    match at {
+        Some(at) => !changes.are_by_others(turned, at),
+        None => true,
+    }
+}
+
+/// What becomes of a goroutine after its turn in the round of this number.
+fn next_of(turn: &Turn<'_, '_>, changes: &Changes, number: u64) -> Next
     ensures taken { result ≡ Retired → (turn.now.goroutine.prints.items ≡ []) × (turn.now.goroutine.children.items ≡ []) }
     ensures ended { result ≡ Retired → MatchOption turn.now.turned ⊥ (λ turned. turned.stop ≡ Ended) }
 {
@@ -128,8 +140,9 @@ fn next_of(turn: &Turn<'_, '_>, changes: &Changes) -> Next
     match turned.stop {
         Stop::Ended if turn.goroutine().new_prints() == 0 && turn.goroutine().new_children() == 0 =>
             { Next::Retired }
-        Stop::Blocked { at: None } => Next::Parked(NOWHERE),
-        Stop::Blocked { at: Some(at) } if !changes.are_by_others(turned, at) => Next::Parked(at),
+        Stop::Blocked { at } if is_parked(turned, at, changes, number) => {
+            Next::Parked(at.unwrap_or(NOWHERE))
+        }
         Stop::Went
         | Stop::Blocked { .. }
         | Stop::Lost { .. }
@@ -338,7 +351,7 @@ impl<'r, 'c> Crew<'r, 'c> {
 
     /// Of those that had a turn in this round, the first `turns` that are ready, those that wait are parked, and those that have ended
     /// retire.
-    fn sort_out(&mut self, changes: &Changes, turns: usize)
+    fn sort_out(&mut self, changes: &Changes, turns: usize, number: u64)
         ensures kept { KeepsAll self.old self.new }
         ensures run { self.new.run ≡ self.old.run }
         ensures next { self.new.next ≡ self.old.next }
@@ -346,7 +359,7 @@ impl<'r, 'c> Crew<'r, 'c> {
         let mut place = turns.min(self.ready.len());
         while place > 0 {
             place -= 1;
-            match next_of(&self.ready[place], changes) {
+            match next_of(&self.ready[place], changes, number) {
                 Next::Ready => {}
                 Next::Parked(at) => self.park(place, at),
                 Next::Retired => self.retire(place),
@@ -488,7 +501,7 @@ impl<'r, 'c> Crew<'r, 'c> {
         // Those that waited before this round are woken first, so that they are not parked again.
         let turns = self.ready.len();
         self.wake_each(changes.words())?;
-        self.sort_out(changes, turns);
+        self.sort_out(changes, turns, number);
         self.welcome()?;
         Ok(came)
     }

@@ -14,6 +14,11 @@ const FIRST_ROUNDS: u64 = 2;
 
 const FEW: usize = 8;
 
+/// Whether this is one of the first rounds.
+pub(crate) fn is_first(number: u64) -> bool {
+    number <= FIRST_ROUNDS
+}
+
 /// The pace of a run. It decides nothing but how fast a run is.
 #[derive(Drop)]
 pub(crate) struct Pace {
@@ -52,10 +57,10 @@ impl Pace {
         requires { (1 ≤ workers) × (workers ≤ 64) }
         ensures { (1 ≤ result) × (result ≤ 64) }
     {
-        let is_first = number <= FIRST_ROUNDS && ready <= FEW;
+        let is_shown = is_first(number) && ready <= FEW;
         let is_long = u64::from(slice).saturating_mul(ready as u64) >= WORTH_THREADS
             && slice > SHORT;
-        if ready > 1 && (is_first || is_long) {
+        if ready > 1 && (is_shown || is_long) {
             // More workers than goroutines would have nothing to do.
             if ready < workers as usize {
                 ready as u32
