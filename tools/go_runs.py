@@ -28,6 +28,7 @@ GO_IS_STRICTER = [
     (r"declared (and|but) not used", "unused variables are allowed"),
     (r"imported (and|but) not used", "unused imports are allowed"),
     (r"evaluated but not used|is not used", "an unused value that is a receive or a call is allowed"),
+    (r"(illegal character|invalid) NUL|byte order mark|invalid BOM", "NUL bytes and byte order marks in strings and comments are allowed"),
 ]
 RGO_IS_STRICTER = [
     (r": syntax$", "what is left out of the grammar"),

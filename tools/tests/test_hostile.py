@@ -1,5 +1,6 @@
 """Tests that tools/fail and tools/mutate accept what is right, and find what is wrong."""
 
+import collections
 import pathlib
 import shutil
 import subprocess
@@ -7,6 +8,7 @@ import sys
 import tempfile
 import unittest
 
+import code_text
 import error_pages
 from error_pages import TOP
 from test_proofs import loaded
@@ -139,6 +141,21 @@ class Mutate(unittest.TestCase):
                 ran = self.mutate(self.fake(script), "--texts", str(count))
                 self.assertEqual((1, b""), (ran.returncode, ran.stderr))
                 self.assertRegex(ran.stdout.decode(), rf"(?m)^text \d+: .*({said})")
+
+    def test_orders_of_steps_are_found(self):
+        tool, counts = loaded("mutate"), collections.Counter()
+        text = TOP.joinpath("examples", "journals", "keys.go").read_bytes()
+        code = code_text.read(tool.answer(error_pages.program(), ["emit"], text).printed)
+        line = "clerk {} has both keys\n".format
+        for print_, end in [(line(1) + line(2), (0, "")), (line(2) + line(1), (0, "")), ("", (3, "deadlock"))]:
+            tool.compare_orders(counts, code, text, tool.Ended(*end, print_.encode(), None), "runs")
+        self.assertEqual({"runs in another order": 3}, counts)
+        # With other numbers it counts as not found; with another text, or another end, it differs.
+        tool.compare_orders(counts, code, text, tool.Ended(0, "", (line(3) + line(4)).encode(), None), "runs")
+        self.assertEqual(1, counts["runs in an order that was not found, where goroutines race"])
+        for print_, end in [(line(1), (0, "")), (line(1) + line(2), (3, "deadlock")), (line(2) * 2 + "x\n", (0, ""))]:
+            with self.assertRaises(tool.Differs):
+                tool.compare_orders(counts, code, text, tool.Ended(*end, print_.encode(), None), "runs")
 
     def test_texts_follow_from_the_seed(self):
         texts = [self.mutate(error_pages.program(), "--show", "7", "--seed", seed).stdout for seed in ("1", "1", "2")]

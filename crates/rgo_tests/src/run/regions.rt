@@ -89,7 +89,7 @@ func main() { x := new(W); fmt.Println(x.a) }
 !
 rgo: object larger than a page
 
-> rgo run --workers 1 --stats // Goroutines that meet at channels without buffers.
+> rgo run --workers 1 --stats // Goroutines that meet at channels without buffers. Both come to their ends in the last round.
 func echo(a, b chan int) { for i := 0; i < 5; i++ { b <- <-a + 1 } }
 func main() { a := make(chan int); b := make(chan int); go echo(a, b)
 for i := 0; i < 5; i++ { a <- i * 10; fmt.Println(<-b) } }
@@ -100,7 +100,7 @@ for i := 0; i < 5; i++ { a <- i * 10; fmt.Println(<-b) } }
 31
 41
 !
-rgo: regions 2 removed 0 pages 2 returned 0 objects 2 goroutines 2
+rgo: regions 2 removed 2 pages 2 returned 2 objects 2 goroutines 2
 
 > rgo run --workers 1 --stats // A channel with a buffer.
 func prod(c chan int) { for i := 0; i < 100; i++ { c <- i }; close(c) }
@@ -111,13 +111,13 @@ for i := 0; i < 100; i++ { s += <-c }; fmt.Println(s) }
 !
 rgo: regions 1 removed 1 pages 1 returned 1 objects 1 goroutines 2
 
-> rgo run --workers 1 --stats // A goroutine is given one region at two positions. It has not come to its end when `main` returns.
+> rgo run --workers 1 --stats // A goroutine is given one region at two positions. It comes to its end in the round in which `main` returns.
 func f(a, b *N, d chan int) { s := a.v; d <- s + b.v }
 func main() { x := &N{21, nil}; d := make(chan int); go f(x, x, d); fmt.Println(<-d) }
 < 0
 42
 !
-rgo: regions 2 removed 0 pages 2 returned 0 objects 2 goroutines 2
+rgo: regions 2 removed 2 pages 2 returned 2 objects 2 goroutines 2
 
 > rgo run --stats // An object that fits a page, and one that has a word more.
 func main() { s := make([]int, 255); fmt.Println(len(s)) }
@@ -235,7 +235,7 @@ func main() { d := make(chan int); l := list(4); go child(l, d); <-d }
 < 0
 6
 !
-rgo: regions 2 removed 1 pages 2 returned 1 objects 5 goroutines 2
+rgo: regions 2 removed 2 pages 2 returned 2 objects 5 goroutines 2
 
 > rgo run --page-words 16 --pages 4 --regions 4 // A goroutine that lacks a page continues when `main` has removed its list.
 func count(ready, done chan int) { ready <- 1; done <- sum(list(9)) }
