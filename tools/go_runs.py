@@ -84,6 +84,6 @@ def documented(go, rgo):
         return next((why for said, why in RGO_IS_STRICTER if re.search(said, rgo.detail)), None)
     if go.end == rgo.end == "calls too deep" and go.printed.startswith(rgo.printed):
         return "calls are too deep at 100,000 frames"
-    if go.end == "no end" and rgo.end == "rgo: goroutines spent":
+    if go.end in ("no end", "calls too deep") and rgo.end == "rgo: goroutines spent":
         return "a run has at most 100,000 goroutines"
     return None
