@@ -38,6 +38,7 @@ RGO_IS_STRICTER = [
     (r"StructByValue$|PointerBase$", "structs are used through pointers only"),
     (r"StringPlace$", "strings are arguments of fmt.Println only"),
     (r"PrintType$", "pointers, slices and channels are not printed"),
+    (r"BareNil$", "nil is not printed"),
     (r"ConstRange$", "constants are within the range of int on the way"),
     (r"NotCall$|NotValue$", "function values are left out"),
     (r"ArgCount$|LiteralFields$", "variadic functions and literals of some fields are left out"),
