@@ -7,7 +7,7 @@ use std::process::Abort;
 use std::test::Fail;
 use std::thread::Threads;
 
-/// A goroutine sends the numbers below 1,000, up to the channel that `main` makes.
+/// A goroutine sends numbers from 0 on, up to how many there are.
 const BEFORE: &str = "\
 package main
 
@@ -21,10 +21,9 @@ func send(c chan int, n int) {
 }
 
 func main() {
-    n := 1000
-    c := ";
+    n := ";
 
-/// `main` receives them, looks at their order, and adds them up.
+/// `main` makes the channel, receives them, looks at their order, and adds them up.
 const AFTER: &str = "
     go send(c, n)
     sum := 0
@@ -96,10 +95,12 @@ const NARROW: Room = Room {
     goroutines: 9,
 };
 
-/// The program with this channel.
-fn sender(alloc: Global, channel: &str) -> Result<String, AllocError> {
+/// The program with so many numbers and this channel.
+fn sender(alloc: Global, count: &str, channel: &str) -> Result<String, AllocError> {
     let mut text = String::new(alloc);
     text.push_str(BEFORE)?;
+    text.push_str(count)?;
+    text.push_str("\n    c := ")?;
     text.push_str(channel)?;
     text.push_str(AFTER)?;
     Ok(text)
@@ -127,8 +128,11 @@ fn ends<R: Threads + Abort + AllocGlobal + Sync>(
 
 #[test]
 fn values_arrive_in_order(rt: HostRuntime) -> Result<(), Fail> {
-    for channel in ["make(chan int)", "make(chan int, 64)"] {
-        let text = sender(rt.alloc(), channel)?;
+    for (count, channel, printed) in [
+        ("1000", "make(chan int)", "499500 0\n"),
+        ("1000000", "make(chan int, 64)", "499999500000 0\n"),
+    ] {
+        let text = sender(rt.alloc(), count, channel)?;
         let tally = Tally {
             made: 1,
             removed: 1,
@@ -137,7 +141,7 @@ fn values_arrive_in_order(rt: HostRuntime) -> Result<(), Fail> {
             objects: 1,
             goroutines: 2,
         };
-        ends(&rt, text.as_str(), ROOMY, "499500 0\n", tally)?;
+        ends(&rt, text.as_str(), ROOMY, printed, tally)?;
     }
     Ok(())
 }
