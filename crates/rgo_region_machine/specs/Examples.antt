@@ -1,5 +1,8 @@
 -- Small code with regions, its runs, and the room that they use.
-use Rattle.std.specs.Prelude.{◌≡◌, ℕ, List, [], ◌∷◌, ◌++◌, Option, Some, None, IfSome, pos, option_and_then, codes}
+use Rattle.std.specs.Prelude.{◌≡◌, ℕ, false, true, List, [], ◌∷◌, ◌++◌, Option, Some, None, IfSome, pos, replicate}
+use Rattle.std.specs.Prelude.{option_and_then, codes, slice_get}
+use Rattle.rgo_region_machine.specs.declared.regions.Region.{Region}
+use Rattle.rgo_region_machine.specs.declared.regions.Region.TheVariants.{Numbered}
 use Rattle.rgo_ast.specs.declared.ops.BinaryOp.TheVariants.{Add}
 use Rattle.rgo_typed.specs.declared.actions.Action.TheVariants as action
 use Rattle.rgo_typed.specs.declared.programs.Struct.{Struct}
@@ -7,9 +10,12 @@ use Rattle.rgo_typed.specs.declared.statements.Piece.TheVariants as piece
 use Rattle.rgo_typed.specs.declared.types.Type.{«Type»}
 use Rattle.rgo_wellformed.specs.TypeRules.{int, pointer_to, slice_of, chan_of}
 use Rattle.rgo_memory.specs.declared.values.Value.TheVariants as value
+use Rattle.rgo_memory.specs.Memory.{Channel, SliceObject}
 use Rattle.rgo_machine.specs.declared.limits.Sizes.{Sizes}
 use Rattle.rgo_machine.specs.declared.picks.End.TheVariants.{Exit}
 use Rattle.rgo_machine.specs.declared.picks.Pick.TheVariants.{One, Meet}
+use Rattle.rgo_machine.specs.declared.turns.Shortage.{Shortage}
+use Rattle.rgo_machine.specs.declared.turns.Shortage.TheVariants as shortage
 use Rattle.rgo_machine.specs.Lines.{line_of}
 use Rattle.rgo_tac.specs.declared.regions.Class.{Class}
 use Rattle.rgo_tac.specs.declared.regions.Class.TheVariants.{NoClass, Name}
@@ -17,8 +23,9 @@ use Rattle.rgo_code.specs.declared.code.Undeclared.{Undeclared}
 use Rattle.rgo_code.specs.Code.{Slot, CodeOp, CodeInstr, CodeFn, Code, Do, Call, Go, Print, Return}
 use Rattle.rgo_region_machine.specs.Counts.{Counts, counts_of}
 use Rattle.rgo_region_machine.specs.Machine.{Event, Instruct, Attend, TakePage, MakeOffer, Acknowledge, region_run}
-use Rattle.rgo_region_machine.specs.Room.{FitsIn, live_regions, pages_in_use, roomy_run}
-use Rattle.rgo_region_machine.specs.States.{Mark, Ended, RegionState}
+use Rattle.rgo_region_machine.specs.Objects.{data_pages, is_too_large}
+use Rattle.rgo_region_machine.specs.Room.{FitsIn, LacksIn, enough_pages, live_regions, pages_in_use, roomy_run}
+use Rattle.rgo_region_machine.specs.States.{Mark, Ended, Holder, RegionState}
 
 -- ---- code
 
@@ -157,6 +164,55 @@ both_live = two_objects []
 abbrev pub one_live : Code
 one_live = two_objects (0 ∷ [])
 
+-- s := make([]int, n); s[last] = 9; fmt.Println(s[last], s[other])
+abbrev pub long_slice : (n last other : ℕ) → Code
+long_slice n last other = code_of [] (main_of (slot_of (slice_of int) (Name 0) ∷ int_slot ∷ int_slot ∷ int_slot ∷ []) (
+    plain (Do (Some 1) (action.Int (pos n)) [] [])
+    ∷ creating (0 ∷ []) (Do (Some 0) action.Slice (1 ∷ []) [])
+    ∷ plain (Do (Some 1) (action.Int (pos last)) [] [])
+    ∷ plain (Do (Some 2) (action.Int (pos 9)) [] [])
+    ∷ plain (Do None action.Put (0 ∷ 1 ∷ 2 ∷ []) [])
+    ∷ plain (Do (Some 2) action.At (0 ∷ 1 ∷ []) [])
+    ∷ plain (Do (Some 1) (action.Int (pos other)) [] [])
+    ∷ plain (Do (Some 3) action.At (0 ∷ 1 ∷ []) (0 ∷ []))
+    ∷ plain (Print (piece.Value ∷ piece.Value ∷ []) (2 ∷ 3 ∷ []) [])
+    ∷ plain (Return None) ∷ []) ∷ [])
+
+-- c := make(chan int, n); c <- n; fmt.Println(<-c)
+abbrev pub long_channel : (n : ℕ) → Code
+long_channel n = code_of [] (main_of (slot_of (chan_of int) (Name 0) ∷ int_slot ∷ []) (
+    plain (Do (Some 1) (action.Int (pos n)) [] [])
+    ∷ creating (0 ∷ []) (Do (Some 0) action.Chan (1 ∷ []) [])
+    ∷ plain (Do None action.Send (0 ∷ 1 ∷ []) [])
+    ∷ plain (Do (Some 1) action.Recv (0 ∷ []) (0 ∷ []))
+    ∷ printing 1
+    ∷ plain (Return None) ∷ []) ∷ [])
+
+-- x := new(N); s := make([]int, n); x = new(N), all in one region
+abbrev pub slice_between : (n : ℕ) → Code
+slice_between n = code_of (node ∷ []) (main_of (node_slot (Name 0) ∷ slot_of (slice_of int) (Name 0) ∷ int_slot ∷ []) (
+    creating (0 ∷ []) (Do (Some 0) (action.New 0) [] [])
+    ∷ plain (Do (Some 2) (action.Int (pos n)) [] [])
+    ∷ plain (Do (Some 1) action.Slice (2 ∷ []) [])
+    ∷ plain (Do (Some 0) (action.New 0) [] (0 ∷ []))
+    ∷ plain (Return None) ∷ []) ∷ [])
+
+-- func f() { s := make([]int, n) }, and a `main` that starts it and returns
+abbrev pub left_alone : (n : ℕ) → Code
+left_alone n = code_of [] (
+    main_of [] (plain (Go 1 [] [] []) ∷ plain (Return None) ∷ [])
+    ∷ record {
+      name = codes "f";
+      params = 0;
+      result = None;
+      variables = slot_of (slice_of int) (Name 0) ∷ int_slot ∷ [];
+      entry = [];
+      body =
+          plain (Do (Some 1) (action.Int (pos n)) [] [])
+          ∷ creating (0 ∷ []) (Do (Some 0) action.Slice (1 ∷ []) (0 ∷ []))
+          ∷ plain (Return None) ∷ [];
+    } ∷ [])
+
 -- ---- runs
 
 abbrev pub step : Event
@@ -201,6 +257,24 @@ both_live_run = Attend 0 ∷ TakePage 0 ∷ step ∷ Attend 0 ∷ TakePage 0 ∷
 abbrev pub one_live_run : List Event
 one_live_run = Attend 0 ∷ TakePage 0 ∷ step ∷ Attend 0 ∷ Attend 0 ∷ TakePage 0 ∷ step ∷ []
 
+-- the size, the region, and so many pages for the object
+abbrev pub taking : (pages : ℕ) → List Event
+taking pages = step ∷ Attend 0 ∷ replicate pages (TakePage 0)
+
+abbrev pub long_slice_run : (pages : ℕ) → List Event
+long_slice_run pages = taking pages ++ (replicate 7 step ++ (Attend 0 ∷ step ∷ step ∷ []))
+
+abbrev pub long_channel_run : (pages : ℕ) → List Event
+long_channel_run pages = taking pages ++ (step ∷ step ∷ step ∷ Attend 0 ∷ step ∷ step ∷ [])
+
+-- the second structure goes into the page in which the first one is
+abbrev pub slice_between_run : (pages : ℕ) → List Event
+slice_between_run pages = Attend 0 ∷ TakePage 0 ∷ step ∷ step ∷ (replicate pages (TakePage 0) ++ (step ∷ step ∷ []))
+
+-- `main` returns after f has taken one of its pages
+abbrev pub left_alone_run : List Event
+left_alone_run = step ∷ Instruct (One 1) ∷ Attend 1 ∷ TakePage 1 ∷ step ∷ []
+
 -- ---- what they print, how they end, and what they have made
 
 abbrev pub outcome : RegionState → List ℕ × Option Mark × Counts
@@ -210,9 +284,12 @@ outcome s = (s.plain.printed, s.mark, counts_of s)
 abbrev pub line : ℕ → List ℕ
 line n = line_of (piece.Value ∷ []) (value.Int (pos n) ∷ [])
 
+abbrev pub GivesIn : (page_words : ℕ) → Code → List Event → List ℕ → Option Mark → Counts → Type 0
+GivesIn page_words code events print mark counts =
+    option_and_then (λ s. Some (outcome s)) (region_run code page_words events) ≡ Some (print, mark, counts)
+
 abbrev pub Gives : Code → List Event → List ℕ → Option Mark → Counts → Type 0
-Gives code events print mark counts =
-    option_and_then (λ s. Some (outcome s)) (region_run code 16 events) ≡ Some (print, mark, counts)
+Gives = GivesIn 16
 
 abbrev pub counts : (made removed taken returned steps objects goroutines : ℕ) → Counts
 counts made removed taken returned steps objects goroutines = record {
@@ -236,7 +313,7 @@ pub record RegionExamples : Type 0 where
   -- no object is made before its region and its page are there
   pub no_region : region_run one_object 16 (step ∷ []) ≡ None
   pub no_page : region_run one_object 16 (Attend 0 ∷ step ∷ []) ≡ None
-  -- no page is taken for an object that is larger than a page
+  -- in pages of one word nothing is spread, since no lead page has a page number
   pub too_large : region_run one_object 1 (Attend 0 ∷ TakePage 0 ∷ []) ≡ None
   -- the protection is owed before the call
   pub unprotected : region_run passed_twice 16 unprotected_run ≡ None
@@ -248,6 +325,49 @@ pub record RegionExamples : Type 0 where
       (before_the_meeting ++ (MakeOffer 1 ∷ Instruct (Meet 0 1) ∷ Attend 0 ∷ Attend 1 ∷ [])) ≡ None
   -- after a trap nothing is owed
   pub trap : region_run trapping 16 (step ∷ Attend 0 ∷ TakePage 0 ∷ step ∷ step ∷ Attend 0 ∷ []) ≡ None
+
+-- the fills of the first goroutine, and how many pages it has reserved
+abbrev pub page_state : RegionState → Option (List (Region × ℕ) × ℕ)
+page_state s = option_and_then (λ (h : Holder). Some (h.fills, h.reserved)) (slice_get s.holders 0)
+
+abbrev pub HasPages : Code → List Event → List (Region × ℕ) → (reserved : ℕ) → Type 0
+HasPages code events fills reserved = option_and_then page_state (region_run code 16 events) ≡ Some (fills, reserved)
+
+-- the numbers, printed with a space between them
+abbrev pub line_of_two : ℕ → ℕ → List ℕ
+line_of_two m n = line_of (piece.Value ∷ piece.Value ∷ []) (value.Int (pos m) ∷ value.Int (pos n) ∷ [])
+
+pub record SpreadExamples : Type 0 where
+  -- 257 cells in pages of 256 words: a lead page and two data pages
+  pub slice : GivesIn 256 (long_slice 257 256 255) (long_slice_run 3) (line_of_two 9 0) (Some (Ended Exit))
+      (counts 1 1 3 3 10 1 1)
+  pub channel : GivesIn 256 (long_channel 300) (long_channel_run 3) (line 300) (Some (Ended Exit))
+      (counts 1 1 3 3 6 1 1)
+  -- 255 elements and the length fill a page
+  pub within_a_page : GivesIn 256 (long_slice 255 254 253) (long_slice_run 1) (line_of_two 9 0) (Some (Ended Exit))
+      (counts 1 1 1 1 10 1 1)
+  -- 256 elements fill a data page
+  pub one_data_page : GivesIn 256 (long_slice 256 255 254) (long_slice_run 2) (line_of_two 9 0) (Some (Ended Exit))
+      (counts 1 1 2 2 10 1 1)
+  -- it is made when it has all of its pages, and then takes no more
+  pub too_few : region_run (long_slice 257 256 255) 256 (taking 2 ++ (step ∷ [])) ≡ None
+  pub too_many : region_run (long_slice 257 256 255) 256 (taking 4) ≡ None
+  -- 14 page numbers fit a page of 16 words beside the length and another word, and no more
+  pub most : Gives (long_slice 224 223 222) (long_slice_run 15) (line_of_two 9 0) (Some (Ended Exit))
+      (counts 1 1 15 15 10 1 1)
+  pub over_most : region_run (long_slice 225 224 223) 16 (taking 1) ≡ None
+  -- no object has more than 64 data pages
+  pub longest : is_too_large 256 (Channel 16384 [] false) ≡ false
+  pub over_longest : is_too_large 256 (Channel 16385 [] false) ≡ true
+  pub longest_pages : data_pages 256 (SliceObject (replicate 16384 value.Nil)) ≡ 64
+  pub over_longest_pages : data_pages 256 (SliceObject (replicate 16385 value.Nil)) ≡ 65
+  -- the own page stays as it is, before the object is made and after that; the second structure goes there
+  pub reserved : HasPages (slice_between 17) (Attend 0 ∷ TakePage 0 ∷ step ∷ step ∷ TakePage 0 ∷ TakePage 0 ∷ [])
+      ((Numbered 0, 2) ∷ []) 2
+  pub own_page_filled : HasPages (slice_between 17) (slice_between_run 3) ((Numbered 0, 4) ∷ []) 0
+  pub own_page : Gives (slice_between 17) (slice_between_run 3) [] None (counts 1 0 4 0 4 3 1)
+  -- pages that were taken for an object that is not made stay in its region
+  pub left : Gives (left_alone 17) left_alone_run [] (Some (Ended Exit)) (counts 1 0 1 0 3 0 2)
 
 -- ---- the room that they use
 
@@ -265,6 +385,15 @@ Uses code events pages regions =
 -- each of these events has a step with room
 abbrev pub HasRoomIn : Sizes → Code → List Event → Type 0
 HasRoomIn sizes code events = roomy_run code sizes events ≡ region_run code 16 events
+
+-- so many pages are enough for what the run after these events has made and makes next
+abbrev pub IsEnough : Code → List Event → (pages : ℕ) → Type 0
+IsEnough code events pages =
+    option_and_then (λ s. Some (enough_pages code 16 s)) (region_run code 16 events) ≡ Some pages
+
+-- after these events there is a lack
+abbrev pub Lacks : Sizes → Code → Shortage → List Event → Type 0
+Lacks sizes code short events = IfSome (region_run code 16 events) (LacksIn code sizes short)
 
 -- the state after these events fits
 abbrev pub FitsAfter : Sizes → Code → List Event → Type 0
@@ -285,3 +414,16 @@ pub record RoomExamples : Type 0 where
   pub fits : FitsAfter (sizes_of 2 2) both_live both_live_run
   pub too_many_pages : FitsAfter (sizes_of 1 2) both_live both_live_run → ⊥
   pub too_many_regions : FitsAfter (sizes_of 2 1) both_live both_live_run → ⊥
+  -- where nothing is spread, as many as objects and goroutines
+  pub enough_for_one : IsEnough one_object one_object_run 2
+  pub enough_for_both : IsEnough both_live both_live_run 3
+  -- three pages for the object that is made next, and then for as many again
+  pub enough_before : IsEnough (long_slice 17 16 15) (taking 3) 3
+  pub enough_after : IsEnough (long_slice 17 16 15) (long_slice_run 3) 6
+  -- a spread object needs room for all of its pages
+  pub room_for_spread : HasRoomIn (sizes_of 3 1) (long_slice 17 16 15) (long_slice_run 3)
+  pub no_room_for_spread : roomy_run (long_slice 17 16 15) (sizes_of 2 1) (taking 3) ≡ None
+  pub lacks_pages : Lacks (sizes_of 2 1) (long_slice 17 16 15) shortage.Pages (taking 2)
+  -- an object is too large from the beginning on
+  pub lacks_size : Lacks (sizes_of 99 1) (long_slice 225 224 223) shortage.ObjectSize (taking 0)
+  pub has_size : Lacks (sizes_of 99 1) (long_slice 224 223 222) shortage.ObjectSize (taking 0) → ⊥

@@ -80,6 +80,7 @@ child_holder code h (Go n from passes removes) child =
           environment_of (result_of (function_of code n)) (passed (formals_of (function_of code n)) given) ∷ [];
       base = twice given;
       fills = [];
+      reserved = 0;
       duties = map Remove (entry_removes (function_of code n)) ++ next_duties code child;
       offer = NoOffer;
     } ∷ []

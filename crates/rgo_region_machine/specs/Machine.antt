@@ -16,7 +16,7 @@ use Rattle.rgo_region_machine.specs.declared.regions.Region.{Region}
 use Rattle.rgo_region_machine.specs.declared.regions.Region.TheVariants.{Global as GlobalRegion, Numbered}
 use Rattle.rgo_region_machine.specs.Duties.{attended, may_go, attend}
 use Rattle.rgo_region_machine.specs.Instructions.{has_none, instruct}
-use Rattle.rgo_region_machine.specs.Objects.{making_region, new_object, wants_page, fill_of, with_fill}
+use Rattle.rgo_region_machine.specs.Objects.{making_region, new_object, wants_page, with_page, fill_of}
 use Rattle.rgo_region_machine.specs.Offers.{make_offer, acknowledge}
 use Rattle.rgo_region_machine.specs.Owed.{function_at, current, next_duties}
 use Rattle.rgo_region_machine.specs.Regions.{is_live, with_info, one_page_more}
@@ -40,14 +40,10 @@ plain_step code p pick = tac_step (erased code) p pick
 
 -- ---- pages
 
--- a page more in a region, which the goroutine fills from its beginning
+-- a page more in a region; h is the holder after it
 abbrev pub page_taken : RegionState → ℕ → Holder → Region → RegionState
-page_taken s g h GlobalRegion = record (attended s g (record h { fills = with_fill h.fills GlobalRegion 0 })) {
-  global_pages = s.global_pages + 1;
-}
-page_taken s g h (Numbered r) = record (attended s g (record h { fills = with_fill h.fills (Numbered r) 0 })) {
-  regions = with_info s.regions r one_page_more;
-}
+page_taken s g h GlobalRegion = record (attended s g h) { global_pages = s.global_pages + 1 }
+page_taken s g h (Numbered r) = record (attended s g h) { regions = with_info s.regions r one_page_more }
 
 abbrev pub object_made : RegionState → Option TacState → Option Object
 object_made s None = None
@@ -57,12 +53,15 @@ object_made s (Some next) = new_object s.plain next
 abbrev pub next_object : Code → RegionState → ℕ → Option Object
 next_object code s g = object_made s (plain_step code s.plain (One g))
 
--- the goroutine owes nothing, and its next instruction makes an object that does not fit its own page in this region
-abbrev pub takes_page : Code → ℕ → RegionState → ℕ → Holder → Region → Option RegionState
-takes_page code page_words s g h r =
+-- the goroutine owes nothing, and wants a page in this region for the object that it makes next
+abbrev pub page_before : (page_words : ℕ) → RegionState → ℕ → Holder → Region → Object → Option RegionState
+page_before page_words s g h r object =
     if has_none h.duties && may_go h.offer && is_live s.regions r
-    && wants_page page_words (fill_of h.fills r) (next_object code s g)
-    then Some (page_taken s g h r) else None
+    && wants_page page_words h.reserved (fill_of h.fills r) object
+    then Some (page_taken s g (with_page page_words h r object) r) else None
+
+abbrev pub takes_page : Code → ℕ → RegionState → ℕ → Holder → Region → Option RegionState
+takes_page code page_words s g h r = option_and_then (page_before page_words s g h r) (next_object code s g)
 
 abbrev pub page_for : Code → ℕ → RegionState → ℕ → Holder → Frame → CodeInstr → Option RegionState
 page_for code page_words s g h frame i =
@@ -106,6 +105,7 @@ main_holder code frames = record {
   environments = environment_of NoClass [] ∷ [];
   base = [];
   fills = [];
+  reserved = 0;
   duties = next_duties code frames;
   offer = NoOffer;
 }

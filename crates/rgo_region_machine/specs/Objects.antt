@@ -1,6 +1,6 @@
 -- Which objects instructions make and touch, and how objects lie in pages.
-use Rattle.std.specs.Prelude.{ℕ, ◌+◌, Bool, true, false, not, ◌&&◌, List, [], ◌∷◌, length, Option, Some, None}
-use Rattle.std.specs.Prelude.{slice_get, nat_le, max, if◌then◌else◌}
+use Rattle.std.specs.Prelude.{ℕ, ◌+◌, ◌-◌, ◌/◌, Bool, true, false, not, ◌&&◌, List, [], ◌∷◌, length, Option, Some, None}
+use Rattle.std.specs.Prelude.{slice_get, nat_le, nat_lt, min, max, if◌then◌else◌}
 use Rattle.rgo_typed.specs.declared.actions.Action.{Action}
 use Rattle.rgo_typed.specs.declared.actions.Action.TheVariants as action
 use Rattle.rgo_memory.specs.declared.values.Value.{Value}
@@ -114,12 +114,33 @@ may_touch s (Some o) = owner_live s (slice_get s.owners o)
 
 -- ---- pages
 
--- how many words of a page an object takes: at least one for the cells of a struct and of a channel; one more for the
--- length of a slice, two for what a channel is
+-- the words of an object: at least one for the cells of a struct and of a channel; one more for the length of a slice,
+-- two for what a channel is
 abbrev pub words : Object → ℕ
 words (StructObject cells) = max 1 (length cells)
 words (SliceObject cells) = 1 + length cells
 words (Channel capacity queue closed) = 2 + max 1 capacity
+
+-- An object of more words than a page has is spread: over a lead page and data pages, which hold nothing else.
+abbrev pub is_spread : (page_words : ℕ) → Object → Bool
+is_spread page_words object = nat_lt page_words (words object)
+
+-- the cells of an object: fields, elements, or the places of a buffer
+abbrev pub cells : Object → ℕ
+cells (StructObject fields) = length fields
+cells (SliceObject elements) = length elements
+cells (Channel capacity queue closed) = max 1 capacity
+
+-- the data pages of an object: as many as its cells fill, the last perhaps in part; none unless it is spread
+abbrev pub data_pages : (page_words : ℕ) → Object → ℕ
+data_pages page_words object = if is_spread page_words object then (cells object - 1) / page_words + 1 else 0
+
+-- how many data pages an object can have: the lead page has their numbers, after at most two words
+abbrev pub most_data_pages : (page_words : ℕ) → ℕ
+most_data_pages page_words = min 64 (page_words - 2)
+
+abbrev pub is_too_large : (page_words : ℕ) → Object → Bool
+is_too_large page_words object = nat_lt (most_data_pages page_words) (data_pages page_words object)
 
 -- the words used of a goroutine's own page; none where it has no page there
 abbrev pub fill_of : List (Region × ℕ) → Region → Option ℕ
@@ -134,11 +155,21 @@ abbrev pub fits : (page_words : ℕ) → Option ℕ → ℕ → Bool
 fits page_words None n = false
 fits page_words (Some used) n = nat_le (used + n) page_words
 
--- whether an object that fits a page does not fit what is left of the own page
-abbrev pub wants_page : (page_words : ℕ) → Option ℕ → Option Object → Bool
-wants_page page_words used None = false
-wants_page page_words used (Some object) =
-    nat_le (words object) page_words && not (fits page_words used (words object))
+-- Whether a page is to be taken before this object: a spread object that is not too large has not all of its pages, or
+-- another one does not fit what is left of the own page.
+abbrev pub wants_page : (page_words : ℕ) → (reserved : ℕ) → (used : Option ℕ) → Object → Bool
+wants_page page_words reserved used object =
+    if is_spread page_words object
+    then not (is_too_large page_words object) && nat_le reserved (data_pages page_words object)
+    else not (fits page_words used (words object))
+
+-- The holder after that page was taken: it is reserved for the spread object, and the own page stays as it is; or else it
+-- is the own page, to be filled from its beginning.
+abbrev pub with_page : (page_words : ℕ) → Holder → Region → Object → Holder
+with_page page_words h r object = record h {
+  fills = if is_spread page_words object then h.fills else with_fill h.fills r 0;
+  reserved = if is_spread page_words object then h.reserved + 1 else h.reserved;
+}
 
 -- An object is placed in the own page in its region, if it fits there. The holder after it, and the owner of the new
 -- object.
@@ -148,7 +179,15 @@ placed page_words h r object (Some used) =
     if nat_le (used + words object) page_words
     then Some (record h { fills = with_fill h.fills r (used + words object) }, r ∷ []) else None
 
+-- A spread object that is not too large is placed in the pages reserved for it, when these are all.
+abbrev pub spread_out : (page_words : ℕ) → Holder → Region → Object → Option (Holder × List Region)
+spread_out page_words h r object =
+    if not (is_too_large page_words object) && nat_lt (data_pages page_words object) h.reserved
+    then Some (record h { reserved = 0 }, r ∷ []) else None
+
 abbrev pub allotted : (page_words : ℕ) → Holder → Option Region → Option Object → Option (Holder × List Region)
 allotted page_words h region None = Some (h, [])
 allotted page_words h None (Some object) = None
-allotted page_words h (Some r) (Some object) = placed page_words h r object (fill_of h.fills r)
+allotted page_words h (Some r) (Some object) =
+    if is_spread page_words object
+    then spread_out page_words h r object else placed page_words h r object (fill_of h.fills r)

@@ -1,18 +1,19 @@
 -- How much room a state uses, and the steps for which there is room: a page is taken only where fewer are in use than
 -- there may be, and a region is created only where fewer are live.
-use Rattle.std.specs.Prelude.{◌≡◌, ◌≤◌, ◌<◌, ◌-◌, ℕ, Bool, true, List, [], ◌∷◌, Option, Some, None}
-use Rattle.std.specs.Prelude.{IsSome, slice_get, nat_lt, if◌then◌else◌}
+use Rattle.std.specs.Prelude.{◌≡◌, ◌≤◌, ◌<◌, ◌+◌, ◌-◌, ◌*◌, ℕ, zero, suc, Bool, true, List, [], ◌∷◌, Option, Some, None}
+use Rattle.std.specs.Prelude.{IsSome, length, max, slice_get, sum_by, nat_lt, if◌then◌else◌}
 use Rattle.rgo_machine.specs.declared.limits.Sizes.{Sizes}
 use Rattle.rgo_machine.specs.declared.picks.Pick.TheVariants.{One}
 use Rattle.rgo_machine.specs.declared.turns.Shortage.{Shortage}
 use Rattle.rgo_machine.specs.declared.turns.Shortage.TheVariants as shortage
 use Rattle.rgo_machine.specs.Runs.{run}
+use Rattle.rgo_memory.specs.Memory.{Object}
 use Rattle.rgo_tac.specs.Tac.{TacState}
 use Rattle.rgo_code.specs.Code.{Code}
 use Rattle.rgo_region_machine.specs.Counts.{counts_of}
 use Rattle.rgo_region_machine.specs.Machine.{Event, Instruct, Attend, TakePage, MakeOffer, Acknowledge, Finish}
-use Rattle.rgo_region_machine.specs.Machine.{plain_step, region_start, region_step}
-use Rattle.rgo_region_machine.specs.Objects.{new_object, words}
+use Rattle.rgo_region_machine.specs.Machine.{next_object, plain_step, region_start, region_step}
+use Rattle.rgo_region_machine.specs.Objects.{data_pages, most_data_pages, new_object}
 use Rattle.rgo_region_machine.specs.States.{Duty, Create, Share, Protect, Unprotect, Remove, EndBase, Holder, RegionState}
 
 -- the pages of live regions and of Global
@@ -65,11 +66,13 @@ roomy_run code sizes events = run (roomy_step code sizes) (region_start code) ev
 
 -- ---- where there is none
 
--- the step makes an object larger than a page
+-- the step makes an object of more data pages than there can be
 abbrev pub MakesTooLarge : ℕ → TacState → TacState → Type 0
-MakesTooLarge page_words old next = (object : _) × (new_object old next ≡ Some object) × (page_words < words object)
+MakesTooLarge page_words old next =
+    (object : Object) × (new_object old next ≡ Some object)
+    × (most_data_pages page_words < data_pages page_words object)
 
--- some goroutine is to take a page, create a region, or make an object that is larger than a page
+-- some goroutine is to take a page, create a region, or make an object of more data pages than there can be
 abbrev pub LacksIn : Code → Sizes → Shortage → RegionState → Type 0
 LacksIn code sizes shortage.Pages s =
     (g : ℕ) × IsSome (region_step code sizes.page_words s (TakePage g)) × (sizes.pages ≤ pages_in_use s)
@@ -79,3 +82,38 @@ LacksIn code sizes shortage.Regions s =
 LacksIn code sizes shortage.ObjectSize s =
     (g : ℕ) × (next : TacState) × (plain_step code s.plain (One g) ≡ Some next)
     × MakesTooLarge sizes.page_words s.plain next
+
+-- ---- how many pages are enough
+
+-- the pages that are taken for one object: its lead and data pages, or at most one of a goroutine's own
+abbrev pub pages_of : (page_words : ℕ) → Object → ℕ
+pages_of page_words object = data_pages page_words object + 1
+
+-- of the objects that were made
+abbrev pub object_pages : (page_words : ℕ) → RegionState → ℕ
+object_pages page_words s = sum_by (pages_of page_words) s.plain.memory.heap
+
+abbrev pub most_of : (page_words : ℕ) → List Object → ℕ
+most_of page_words [] = 1
+most_of page_words (object ∷ objects) = max (pages_of page_words object) (most_of page_words objects)
+
+abbrev pub pages_before : (page_words : ℕ) → Option Object → ℕ
+pages_before page_words None = 1
+pages_before page_words (Some object) = pages_of page_words object
+
+-- the most pages of one object that one of the first n goroutines makes next
+abbrev pub most_next : Code → (page_words : ℕ) → RegionState → (n : ℕ) → ℕ
+most_next code page_words s zero = 1
+most_next code page_words s (suc n) =
+    max (pages_before page_words (next_object code s n)) (most_next code page_words s n)
+
+-- the most pages of one object that was made, or that a goroutine makes next; at least 1
+abbrev pub most_pages : Code → (page_words : ℕ) → RegionState → ℕ
+most_pages code page_words s =
+    max (most_of page_words s.plain.memory.heap) (most_next code page_words s (length s.plain.goroutines))
+
+-- A run takes no more pages than this: those of the objects that it made, and for each goroutine those of one object that
+-- it may be about to make.
+abbrev pub enough_pages : Code → (page_words : ℕ) → RegionState → ℕ
+enough_pages code page_words s =
+    object_pages page_words s + most_pages code page_words s * length s.plain.goroutines

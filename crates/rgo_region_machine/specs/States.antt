@@ -46,6 +46,8 @@ pub record Holder : Type 0 where
   pub base : List Region
   -- the page of its own that it fills in a region: how many words of it are used
   pub fills : List (Region × ℕ)
+  -- how many pages it has taken so far for the spread object that its next instruction makes
+  pub reserved : ℕ
   -- what it owes before its next instruction
   pub duties : List Duty
   pub offer : Offer

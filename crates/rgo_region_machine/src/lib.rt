@@ -5,6 +5,6 @@ mod laws;
 mod limits;
 mod regions;
 
-pub use laws::{examples, room_examples};
+pub use laws::{examples, room_examples, spread_examples};
 pub use limits::Limit;
 pub use regions::Region;

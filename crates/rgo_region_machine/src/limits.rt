@@ -7,7 +7,7 @@ pub enum Limit {
     Pages,
     /// There are as many regions as there may be, and another one is to be created.
     Regions,
-    /// An object is larger than a page.
+    /// An object wants more data pages than one can have.
     ObjectSize,
     /// A goroutine that has as many frames as it may have calls a function.
     Calls,

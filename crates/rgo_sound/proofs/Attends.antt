@@ -129,14 +129,16 @@ fine_with code s g h k regions fine e more good staked pending counts =
 -- ---- one duty
 
 -- a holder by its fields in order
-abbrev pub holder : List ℕ → List ℕ → List Environment → List Region → List (Region × ℕ) → List Duty → Offer → Holder
-holder stakes pending environments base fills duties offer =
+abbrev pub holder : List ℕ → List ℕ → List Environment → List Region → List (Region × ℕ) → ℕ → List Duty → Offer
+    → Holder
+holder stakes pending environments base fills reserved duties offer =
     record {
       stakes = stakes;
       pending = pending;
       environments = environments;
       base = base;
       fills = fills;
+      reserved = reserved;
       duties =
           duties;
       offer = offer;
@@ -243,15 +245,15 @@ stake_ends code s g h k r fine e staked ks kp good =
             omega (arith, a, p, d, y, a', p')
 
 module _ (code : Code) (s : RegionState) (g : ℕ) (stakes pending : List ℕ) (f : Environment) (fs : List Environment)
-    (base : List Region) (fills : List (Region × ℕ)) (ds : List Duty) (offer : Offer) (frame : Frame)
+    (base : List Region) (fills : List (Region × ℕ)) (reserved : ℕ) (ds : List Duty) (offer : Offer) (frame : Frame)
     (callers : List Frame) (fine : Fine code s) (once : EachOnce base) (at : frames_of s.plain g ≡ frame ∷ callers)
   where
     -- the holder before its duty d and behind it, where nothing else has changed
     abbrev before : Duty → Holder
-    before d = holder stakes pending (f ∷ fs) base fills (d ∷ ds) offer
+    before d = holder stakes pending (f ∷ fs) base fills reserved (d ∷ ds) offer
 
     abbrev left : Holder
-    left = holder stakes pending (f ∷ fs) base fills ds offer
+    left = holder stakes pending (f ∷ fs) base fills reserved ds offer
 
     abbrev Sharing : Duty → Type 0
     Sharing d = Shares (to_share code (frame ∷ callers)) (d ∷ ds) f.names pending
@@ -297,7 +299,7 @@ module _ (code : Code) (s : RegionState) (g : ℕ) (stakes pending : List ℕ) (
     -- Create
     abbrev created : ℕ → Holder
     created k = holder (length s.regions ∷ stakes) pending
-        (record f { names = (k, Numbered (length s.regions)) ∷ unbind f.names k } ∷ fs) base fills ds offer
+        (record f { names = (k, Numbered (length s.regions)) ∷ unbind f.names k } ∷ fs) base fills reserved ds offer
 
     goes_create : (k : ℕ) → slice_get s.holders g ≡ Some (before (Create k)) → Core stakes base (f ∷ fs)
         → Stands code frame f (Create k ∷ ds) → AllWait code callers fs → Sharing (Create k)
@@ -397,10 +399,10 @@ module _ (code : Code) (s : RegionState) (g : ℕ) (stakes pending : List ℕ) (
 
     -- what a name stands for
     abbrev unnamed : ℕ → Holder
-    unnamed k = holder stakes pending (record f { names = unbind f.names k } ∷ fs) base fills ds offer
+    unnamed k = holder stakes pending (record f { names = unbind f.names k } ∷ fs) base fills reserved ds offer
 
     abbrev unstaked : ℕ → ℕ → Holder
-    unstaked k r = holder (without r stakes) pending (record f { names = unbind f.names k } ∷ fs) base fills ds offer
+    unstaked k r = holder (without r stakes) pending (record f { names = unbind f.names k } ∷ fs) base fills reserved ds offer
 
     -- Remove
     goes_removal : (k : ℕ) (q : Region) → bound f.names k ≡ Some q → slice_get s.holders g ≡ Some (before (Remove k))
@@ -492,7 +494,7 @@ module _ (code : Code) (s : RegionState) (g : ℕ) (stakes pending : List ℕ) (
 
     -- Protect
     abbrev protecting : Region → Holder
-    protecting q = holder stakes pending (record f { protections = q ∷ f.protections } ∷ fs) base fills ds offer
+    protecting q = holder stakes pending (record f { protections = q ∷ f.protections } ∷ fs) base fills reserved ds offer
 
     goes_protect : (k : ℕ) → slice_get s.holders g ≡ Some (before (Protect k)) → Core stakes base (f ∷ fs)
         → Stands code frame f (Protect k ∷ ds) → AllWait code callers fs → Sharing (Protect k)
@@ -537,7 +539,7 @@ module _ (code : Code) (s : RegionState) (g : ℕ) (stakes pending : List ℕ) (
 
     -- Unprotect
     abbrev unprotecting : Region → Holder
-    unprotecting q = holder stakes pending (record f { protections = removed_once q f.protections } ∷ fs) base fills ds
+    unprotecting q = holder stakes pending (record f { protections = removed_once q f.protections } ∷ fs) base fills reserved ds
         offer
 
     goes_unprotect : (k : ℕ) → slice_get s.holders g ≡ Some (before (Unprotect k)) → Core stakes base (f ∷ fs)
@@ -565,7 +567,7 @@ module _ (code : Code) (s : RegionState) (g : ℕ) (stakes pending : List ℕ) (
 
     -- Share
     abbrev sharing : ℕ → Holder
-    sharing r = holder stakes (r ∷ pending) (f ∷ fs) base fills ds offer
+    sharing r = holder stakes (r ∷ pending) (f ∷ fs) base fills reserved ds offer
 
     goes_shared : (k : ℕ) (q : Region) → bound f.names k ≡ Some q → slice_get s.holders g ≡ Some (before (Share k))
         → Core stakes base (f ∷ fs) → Stands code frame f (Share k ∷ ds) → AllWait code callers fs → Sharing (Share k)
@@ -711,21 +713,21 @@ same_reflexive GlobalRegion = refl
 same_reflexive (Numbered r) = grind arith
 
 module _ (code : Code) (s : RegionState) (g : ℕ) (stakes pending : List ℕ) (rs : List Region)
-    (fills : List (Region × ℕ)) (ds : List Duty) (offer : Offer) (fine : Fine code s) (at : frames_of s.plain g ≡ [])
+    (fills : List (Region × ℕ)) (reserved : ℕ) (ds : List Duty) (offer : Offer) (fine : Fine code s) (at : frames_of s.plain g ≡ [])
   where
     abbrev ended : List ℕ → List Region → Holder
-    ended st base = holder st pending [] base fills ds offer
+    ended st base = holder st pending [] base fills reserved ds offer
 
     -- the end of a protection that the goroutine had from its start, and the end of the stake with it
     goes_end : (r : Region) → slice_get s.holders g ≡ Some
-        (holder stakes pending [] (r ∷ rs) fills (EndBase r ∷ ds) offer) → Core stakes (r ∷ rs) [] → EachOnce (r ∷ rs)
+        (holder stakes pending [] (r ∷ rs) fills reserved (EndBase r ∷ ds) offer) → Core stakes (r ∷ rs) [] → EachOnce (r ∷ rs)
         → ds ≡ map EndBase rs → Shares [] ds [] pending → Goes code (removal s g (ended stakes rs) r)
     goes_end GlobalRegion e c o d sh =
         record {
           state = attended s g (ended stakes rs);
           goes = refl;
           fine =
-              fine_with code s g (holder stakes pending [] (GlobalRegion ∷ rs) fills (EndBase GlobalRegion ∷ ds) offer)
+              fine_with code s g (holder stakes pending [] (GlobalRegion ∷ rs) fills reserved (EndBase GlobalRegion ∷ ds) offer)
               (ended stakes rs) s.regions fine e (omega arith)
               (subst (λ x. GoodHolder code x (ended stakes rs)) (sym at)
               (record {
@@ -747,7 +749,7 @@ module _ (code : Code) (s : RegionState) (g : ℕ) (stakes pending : List ℕ) (
           goes = ap (λ x. if x then (if list_any (same_region (Numbered r)) rs then Some
               (attended s g (ended stakes rs))
               else last) else None) live ∙ ap (λ x. if x then Some (attended s g (ended stakes rs)) else last) o.0;
-          fine = stake_ends code s g (holder stakes pending [] (Numbered r ∷ rs) fills (EndBase (Numbered r) ∷ ds)
+          fine = stake_ends code s g (holder stakes pending [] (Numbered r ∷ rs) fills reserved (EndBase (Numbered r) ∷ ds)
               offer)
               (ended (without r stakes) rs) r fine e staked refl refl
               (subst (λ x. GoodHolder code x (ended (without r stakes) rs)) (sym at)
@@ -767,7 +769,7 @@ module _ (code : Code) (s : RegionState) (g : ℕ) (stakes pending : List ℕ) (
         staked = c.based r (ap (λ x. x || list_any (same_region (Numbered r)) rs) (same_reflexive (Numbered r)))
 
         live : is_live s.regions (Numbered r) ≡ true
-        live = staked_live code s g (holder stakes pending [] (Numbered r ∷ rs) fills (EndBase (Numbered r) ∷ ds) offer)
+        live = staked_live code s g (holder stakes pending [] (Numbered r ∷ rs) fills reserved (EndBase (Numbered r) ∷ ds) offer)
             r
             fine e staked
 
@@ -796,16 +798,16 @@ duties_go code page_words s g h fine e n m =
     first d ds (r ∷ rs) eb es ed ef c o q sh =
         let head : d ≡ EndBase r = cc in
         let rest : ds ≡ map EndBase rs = cc in
-        let path : h ≡ holder h.stakes h.pending [] (r ∷ rs) h.fills (EndBase r ∷ ds) h.offer =
-        λ i. holder h.stakes h.pending (es i) (eb i) h.fills ((ed ∙ ap (λ x. x ∷ ds) head) i) h.offer in
-        let y = goes_end code s g h.stakes h.pending rs h.fills ds h.offer fine ef r (e ∙ ap Some path) c o rest
+        let path : h ≡ holder h.stakes h.pending [] (r ∷ rs) h.fills h.reserved (EndBase r ∷ ds) h.offer =
+        λ i. holder h.stakes h.pending (es i) (eb i) h.fills h.reserved ((ed ∙ ap (λ x. x ∷ ds) head) i) h.offer in
+        let y = goes_end code s g h.stakes h.pending rs h.fills h.reserved ds h.offer fine ef r (e ∙ ap Some path) c o rest
         (subst (λ x. Shares [] (x ∷ ds) [] h.pending) head sh) in
         let base : removed_once r (r ∷ rs) ≡ rs = ap (λ b. if b then rs else r ∷ removed_once r rs) (same_reflexive r)
         in
-        let y' : Goes code (removal s g (holder h.stakes h.pending [] (removed_once r (r ∷ rs)) h.fills ds h.offer) r) =
-        subst (λ b. Goes code (removal s g (holder h.stakes h.pending [] b h.fills ds h.offer) r)) (sym base) y in
+        let y' : Goes code (removal s g (holder h.stakes h.pending [] (removed_once r (r ∷ rs)) h.fills h.reserved ds h.offer) r) =
+        subst (λ b. Goes code (removal s g (holder h.stakes h.pending [] b h.fills h.reserved ds h.offer) r)) (sym base) y in
         subst (λ (x : Holder). Goes code (attend s g x x.duties)) (sym path)
-        (go_on (may_go h.offer) (removal s g (holder h.stakes h.pending [] (removed_once r (r ∷ rs)) h.fills ds
+        (go_on (may_go h.offer) (removal s g (holder h.stakes h.pending [] (removed_once r (r ∷ rs)) h.fills h.reserved ds
         h.offer) r) m y')
 
     shape : (environments : List Environment) (duties : List Duty) (frames : List Frame) → h.environments ≡ environments
@@ -817,10 +819,10 @@ duties_go code page_words s g h fine e n m =
     shape [] (d ∷ ds) (frame ∷ callers) es ed ef c fit sh = absurd fit
     shape (f ∷ fs) (d ∷ ds) [] es ed ef c fit sh = absurd fit
     shape (f ∷ fs) (d ∷ ds) (frame ∷ callers) es ed ef c fit sh =
-        let path : h ≡ holder h.stakes h.pending (f ∷ fs) h.base h.fills (d ∷ ds) h.offer =
-        λ i. holder h.stakes h.pending (es i) h.base h.fills (ed i) h.offer in
-        let y = goes_duty code s g h.stakes h.pending f fs h.base h.fills ds h.offer frame callers fine
+        let path : h ≡ holder h.stakes h.pending (f ∷ fs) h.base h.fills h.reserved (d ∷ ds) h.offer =
+        λ i. holder h.stakes h.pending (es i) h.base h.fills h.reserved (ed i) h.offer in
+        let y = goes_duty code s g h.stakes h.pending f fs h.base h.fills h.reserved ds h.offer frame callers fine
         (fine.each g h e).base_once ef d (e ∙ ap Some path) c fit.0 fit.1 sh in
         subst (λ (x : Holder). Goes code (attend s g x x.duties)) (sym path)
-        (go_on (may_go h.offer) (duty_done s g (holder h.stakes h.pending (f ∷ fs) h.base h.fills ds h.offer) d) m
+        (go_on (may_go h.offer) (duty_done s g (holder h.stakes h.pending (f ∷ fs) h.base h.fills h.reserved ds h.offer) d) m
         y)

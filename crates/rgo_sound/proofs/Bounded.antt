@@ -41,8 +41,8 @@ use Rattle.rgo_region_machine.specs.Instructions.{child_holder, holder_after, in
 use Rattle.rgo_region_machine.specs.Instructions.{unless_trapped}
 use Rattle.rgo_region_machine.specs.Machine.{Acknowledge, Attend, Event, Finish, Instruct, MakeOffer, TakePage}
 use Rattle.rgo_region_machine.specs.Machine.{finished, page_for, page_taken, region_run, region_start, region_step}
-use Rattle.rgo_region_machine.specs.Machine.{take_page, takes_page}
-use Rattle.rgo_region_machine.specs.Objects.{with_fill}
+use Rattle.rgo_region_machine.specs.Machine.{take_page, takes_page, page_before}
+use Rattle.rgo_region_machine.specs.Objects.{with_page}
 use Rattle.rgo_region_machine.specs.Offers.{acknowledge, make_offer, offer_for, offered}
 use Rattle.rgo_region_machine.specs.Owed.{caller_duties, current, current_in, duties_before, duties_behind}
 use Rattle.rgo_region_machine.specs.Owed.{duties_behind_call, duties_of_op, entry_removes, function_at, function_of}
@@ -55,6 +55,7 @@ use Rattle.rgo_region_machine.specs.States.{with_top}
 use Rattle.rgo_region_machine.specs.declared.limits.Limit.{Limit}
 use Rattle.rgo_region_machine.specs.declared.regions.Region.{Region}
 use Rattle.rgo_region_machine.specs.declared.regions.Region.TheVariants.{Global as GlobalRegion, Numbered}
+use Rattle.rgo_memory.specs.Memory.{Object}
 use Rattle.rgo_sound.proofs.Acting.{after, Acted, act, act_at, start}
 use Rattle.rgo_sound.proofs.Attends.{total_at, total_set, length_with_info}
 use Rattle.rgo_sound.proofs.ErasureLemmas.{Yields, yields, yields_none, yields_if, yields_then, yields_at, yields_from}
@@ -503,11 +504,12 @@ module _ (code : Code) (page_words : ℕ) (s : RegionState) (old : Bounded code 
     takes : (frames : List Frame) → Yields (Bounded code) (take_page code page_words s g h frames)
     takes [] = yields_none
     takes (frame ∷ callers) = yields_then (page_for code page_words s g h frame) _
-        (λ i. yields_then (takes_page code page_words s g h) _ (λ r. yields_if _ _ _ (taken r) yields_none))
+        (λ i. yields_then (takes_page code page_words s g h) _ (λ r. yields_then (page_before page_words s g h r) _
+        (λ x. yields_if _ _ _ (taken r x) yields_none)))
       where
-        taken : (r : Region) → Yields (Bounded code) (Some (page_taken s g h r))
-        taken GlobalRegion = kept _ (record h { fills = with_fill h.fills GlobalRegion 0 }) refl refl refl refl
-        taken (Numbered r) = kept _ (record h { fills = with_fill h.fills (Numbered r) 0 }) refl refl refl
+        taken : (r : Region) (x : Object) → Yields (Bounded code) (Some (page_taken s g (with_page page_words h r x) r))
+        taken GlobalRegion x = kept _ (with_page page_words h GlobalRegion x) refl refl refl refl
+        taken (Numbered r) x = kept _ (with_page page_words h (Numbered r) x) refl refl refl
             (infos r one_page_more (creates_in h.duties) refl)
 
     makes : (frames : List Frame) → Yields (Bounded code) (make_offer code s g h frames)

@@ -255,12 +255,12 @@ module _ (code : Code) (s : RegionState) (g : ℕ) (h : Holder) (frame : Frame) 
       → Fine code (instructed_with code s g frame callers call (next callee) given)
   behind callee frames given found q d same =
       fine_plain code s (instructed_with code s g frame callers call (next callee) given) g h
-      (behind_holder (record h { fills = same.fills }) callee (entered callee ∷ frame ∷ callers)) fine e refl hs
+      (behind_holder (record h { fills = same.fills; reserved = same.reserved }) callee (entered callee ∷ frame ∷ callers)) fine e refl hs
       refl refl (as_long callee) (the_others callee)
-      (subst (λ x. GoodHolder code x (behind_holder (record h { fills = same.fills }) callee
+      (subst (λ x. GoodHolder code x (behind_holder (record h { fills = same.fills; reserved = same.reserved }) callee
       (entered callee ∷ frame ∷ callers))) (sym (goroutines callee frames q))
       (good_behind code checked written frame callers call to n from passes protects removes is cur
-      (record h { fills = same.fills }) h.environments h.duties (entered callee) callee refl refl found
+      (record h { fills = same.fills; reserved = same.reserved }) h.environments h.duties (entered callee) callee refl refl found
       (none_owed h.duties d) good.core good.base_once good.fit good.shares))
     where
       after : (o : CodeOp) → o ≡ Call to n from passes protects removes
@@ -277,7 +277,7 @@ module _ (code : Code) (s : RegionState) (g : ℕ) (h : Holder) (frame : Frame) 
           }) found
 
       hs : (instructed_with code s g frame callers call (next callee) given).holders
-          ≡ slice_set s.holders g (behind_holder (record h { fills = same.fills }) callee
+          ≡ slice_set s.holders g (behind_holder (record h { fills = same.fills; reserved = same.reserved }) callee
           (entered callee ∷ frame ∷ callers))
       hs =
           ap (λ x. slice_set s.holders g (unless_trapped (next callee).ended given.0
@@ -290,7 +290,7 @@ module _ (code : Code) (s : RegionState) (g : ℕ) (h : Holder) (frame : Frame) 
           (no_end g (entered callee) (frame ∷ callers))
           ∙ ap (slice_set s.holders g) (after call.op is)
           ∙ ap (λ (x : Holder). slice_set s.holders g (behind_holder x callee (frames_of (next callee) g))) same.same
-          ∙ ap (λ x. slice_set s.holders g (behind_holder (record h { fills = same.fills }) callee x))
+          ∙ ap (λ x. slice_set s.holders g (behind_holder (record h { fills = same.fills; reserved = same.reserved }) callee x))
           (goroutines callee frames q)
 
 -- a call keeps what holds of the state: of an instruction that was done, and of a step

@@ -14,7 +14,7 @@ use Rattle.rgo_region_machine.specs.Duties.{attend, attended, duty_done, may_go,
 use Rattle.rgo_region_machine.specs.Duties.{unprotected}
 use Rattle.rgo_region_machine.specs.Instructions.{has_none}
 use Rattle.rgo_region_machine.specs.Machine.{Acknowledge, Attend, Event, Finish, Instruct, MakeOffer, TakePage}
-use Rattle.rgo_region_machine.specs.Machine.{next_object, page_for, region_step, take_page, takes_page}
+use Rattle.rgo_region_machine.specs.Machine.{page_for, region_step, take_page, takes_page, page_before}
 use Rattle.rgo_region_machine.specs.Objects.{fill_of, wants_page}
 use Rattle.rgo_region_machine.specs.Offers.{acknowledge, make_offer, offer_for, offered}
 use Rattle.rgo_region_machine.specs.Regions.{RegionInfo, has_stakes, is_live, one_fewer, one_more, one_page_more}
@@ -23,6 +23,7 @@ use Rattle.rgo_region_machine.specs.States.{Create, Duty, EndBase, Holder, NoOff
 use Rattle.rgo_region_machine.specs.States.{Share, Standing, Taken, Unprotect, frames_of, top_names, with_top}
 use Rattle.rgo_region_machine.specs.declared.regions.Region.{Region}
 use Rattle.rgo_region_machine.specs.declared.regions.Region.TheVariants.{Global as GlobalRegion, Numbered}
+use Rattle.rgo_memory.specs.Memory.{Object}
 use Rattle.rgo_sound.specs.Safety.{RemovedStays}
 use Rattle.rgo_tac.specs.Frames.{Frame}
 
@@ -71,12 +72,13 @@ module _ (s : RegionState) (r : ℕ) (info : RegionInfo) (e : slice_get s.region
         → Yields Still (take_page code page_words s g h frames)
     still_take code page_words g h [] = yields_none
     still_take code page_words g h (frame ∷ callers) = yields_then (page_for code page_words s g h frame) _
-        (λ i. yields_then (takes_page code page_words s g h) _ taken)
+        (λ i. yields_then (takes_page code page_words s g h) _
+        (λ q. yields_then (page_before page_words s g h q) _ (taken q)))
       where
-        taken : (q : Region) → Yields Still (takes_page code page_words s g h q)
-        taken GlobalRegion = yields_if _ _ _ (yields _ e) yields_none
-        taken (Numbered q) = yields_where (has_none h.duties && may_go h.offer && is_live s.regions (Numbered q) &&
-            wants_page page_words (fill_of h.fills (Numbered q)) (next_object code s g)) _
+        taken : (q : Region) (object : Object) → Yields Still (page_before page_words s g h q object)
+        taken GlobalRegion object = yields_if _ _ _ (yields _ e) yields_none
+        taken (Numbered q) object = yields_where (has_none h.duties && may_go h.offer && is_live s.regions (Numbered q) &&
+            wants_page page_words h.reserved (fill_of h.fills (Numbered q)) object) _
             (λ l. yields _ (changes q one_page_more (and_third (has_none h.duties) (may_go h.offer)
             (is_live s.regions (Numbered q)) _ l)))
 

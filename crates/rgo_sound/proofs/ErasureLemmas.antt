@@ -14,12 +14,13 @@ use Rattle.rgo_region_machine.specs.Instructions.{both_instructed, instruct, ins
 use Rattle.rgo_region_machine.specs.Instructions.{one_instructed, plain_after, printed_if, some_instructed}
 use Rattle.rgo_region_machine.specs.Machine.{Acknowledge, Attend, Event, Finish, Instruct, MakeOffer, TakePage, kept}
 use Rattle.rgo_region_machine.specs.Machine.{page_for, page_taken, region_start, region_step, take_page, plain_step}
-use Rattle.rgo_region_machine.specs.Machine.{takes_page}
+use Rattle.rgo_region_machine.specs.Machine.{takes_page, page_before}
 use Rattle.rgo_region_machine.specs.Offers.{acknowledge, make_offer, offer_at, offer_for, offered}
 use Rattle.rgo_region_machine.specs.States.{Create, Duty, EndBase, Ended, Holder, Mark, NoOffer, Offer, Protect}
 use Rattle.rgo_region_machine.specs.States.{RegionState, Remove, Share, Standing, Stopped, Taken, Unprotect, frames_of}
 use Rattle.rgo_region_machine.specs.declared.regions.Region.{Region}
 use Rattle.rgo_region_machine.specs.declared.regions.Region.TheVariants.{Global as GlobalRegion, Numbered}
+use Rattle.rgo_region_machine.specs.Objects.{with_page}
 use Rattle.rgo_sound.specs.Erasure.{Erasure, SameEnd, erased_picks, event_picks}
 use Rattle.rgo_tac.specs.Frames.{Frame}
 use Rattle.rgo_tac.specs.Tac.{TacState, tac_step}
@@ -120,7 +121,8 @@ kept_page s g h (Numbered r) = same s _ refl refl
 
 kept_takes_page : (code : Code) (page_words : ℕ) (s : RegionState) (g : ℕ) (h : Holder) (r : Region)
     → Yields (Keeps s) (takes_page code page_words s g h r)
-kept_takes_page code page_words s g h r = yields_if _ _ _ (kept_page s g h r) yields_none
+kept_takes_page code page_words s g h r = yields_then (page_before page_words s g h r) _
+    (λ x. yields_if _ _ _ (kept_page s g (with_page page_words h r x) r) yields_none)
 
 kept_page_for : (code : Code) (page_words : ℕ) (s : RegionState) (g : ℕ) (h : Holder) (frame : Frame) (i : CodeInstr)
     → Yields (Keeps s) (page_for code page_words s g h frame i)

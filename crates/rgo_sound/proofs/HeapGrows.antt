@@ -1,22 +1,25 @@
--- The heap does not shrink, whatever one goroutine does alone.
-use Rattle.std.proofs.Common.{◌≡◌, ℕ, ◌≤◌, false, List, [], ◌∷◌, length, Option, Some, None, subst, arith}
-use Rattle.std.proofs.Common.{length-append, slice_get, replicate}
+-- The heap does not shrink, and its objects keep their sizes, whatever one goroutine does alone.
+use Rattle.std.proofs.Common.{◌≡◌, ℕ, zero, suc, ◌≤◌, ◌+◌, Bool, true, false, List, [], ◌∷◌, ◌++◌, length, Option, Some, None}
+use Rattle.std.proofs.Common.{refl, ap, subst, arith, if◌then◌else◌, max, nat_lt, slice_get, slice_set, sum_by, replicate}
+use Rattle.std.proofs.lemmas.List.Sums.{sum_by-cons, sum_by_push}
+use Rattle.std.proofs.lemmas.Option.{same_Some}
 use Rattle.std.specs.Option.{option_map}
-use Rattle.std.specs.Prelude.{Result, Ok, Err, pos, negsuc}
+use Rattle.std.specs.Prelude.{Result, Ok, Err, ℤ, pos, negsuc}
 use Rattle.rgo_typed.specs.declared.actions.Action.{Action}
 use Rattle.rgo_typed.specs.declared.actions.Action.TheVariants as action
 use Rattle.rgo_typed.specs.declared.programs.Struct.{Struct}
 use Rattle.rgo_typed.specs.declared.types.Type.{«Type»}
 use Rattle.rgo_memory.specs.declared.traps.Trap.{Trap}
+use Rattle.rgo_memory.specs.declared.traps.Trap.TheVariants.{IndexRange}
 use Rattle.rgo_memory.specs.declared.values.Value.{Value}
 use Rattle.rgo_memory.specs.declared.values.Value.TheVariants as value
 use Rattle.rgo_memory.specs.Channels.{close, receive, received, send, sent, shut}
 use Rattle.rgo_memory.specs.Effects.{Does, Effect, Outcome, Traps, answered, in_memory, in_memory_if_ready, to_object}
 use Rattle.rgo_memory.specs.Effects.{to_object_if_ready}
-use Rattle.rgo_memory.specs.Elements.{element_at, length_of, put, put_in}
+use Rattle.rgo_memory.specs.Elements.{cell_put, element_at, length_of, put, put_in}
 use Rattle.rgo_memory.specs.Fields.{load, or_nil, store, stored}
 use Rattle.rgo_memory.specs.Making.{made, made_struct, sized}
-use Rattle.rgo_memory.specs.Memory.{Channel, Memory, Object, SliceObject}
+use Rattle.rgo_memory.specs.Memory.{Channel, Memory, Object, SliceObject, StructObject}
 use Rattle.rgo_memory.specs.Operators.{binary_of, inverted, negated, nil_test}
 use Rattle.rgo_memory.specs.Perform.{on_none, on_one, on_three, on_two, perform, set_variable}
 use Rattle.rgo_memory.specs.Values.{element_zero, zero_of}
@@ -27,10 +30,80 @@ use Rattle.rgo_sound.proofs.Acting.{Acted, act, act_at, alone, call, effected, p
 use Rattle.rgo_sound.proofs.Acting.{trap_place}
 use Rattle.rgo_sound.proofs.ErasureLemmas.{Always}
 use Rattle.rgo_sound.proofs.Places.{length_set}
+use Rattle.rgo_region_machine.specs.Objects.{cells, words}
 
-module _ (m : Memory) where
+-- ---- what an operation on one object leaves has the size of the object
+
+abbrev pub SameSize : Object → Object → Type 0
+SameSize old new = (words new ≡ words old) × (cells new ≡ cells old)
+
+abbrev KeepsSize : Object → Outcome Object → Type 0
+KeepsSize old (Does new v) = SameSize old new
+KeepsSize old (Traps trap) = Unit {0}
+
+stored_size : (k : ℕ) (v : Value) (old : Object) → KeepsSize old (stored k v old)
+stored_size k v (StructObject fields) = (ap (max 1) (length_set fields k v), length_set fields k v)
+stored_size k v (SliceObject elements) = (refl, refl)
+stored_size k v (Channel capacity queue closed) = (refl, refl)
+
+cell_put_size : (elements : List Value) (i : ℤ) (v : Value)
+    → KeepsSize (SliceObject elements) (cell_put elements i v)
+cell_put_size elements (negsuc n) v = tt
+cell_put_size elements (pos i) v = by (nat_lt i (length elements))
+  where
+    by : (b : Bool) → KeepsSize (SliceObject elements) (if b then Does (SliceObject (slice_set elements i v)) value.Nil
+        else Traps IndexRange)
+    by true = (ap (λ n. 1 + n) (length_set elements i v), length_set elements i v)
+    by false = tt
+
+put_size : (i : ℤ) (v : Value) (old : Object) → KeepsSize old (put_in i v old)
+put_size i v (StructObject fields) = (refl, refl)
+put_size i v (SliceObject elements) = cell_put_size elements i v
+put_size i v (Channel capacity queue closed) = (refl, refl)
+
+received_size : (blank : Value) (old : Object) → Always (KeepsSize old) (received blank old)
+received_size blank (StructObject fields) = (refl, refl)
+received_size blank (SliceObject elements) = (refl, refl)
+received_size blank (Channel capacity (v ∷ queue) closed) = (refl, refl)
+received_size blank (Channel capacity [] true) = (refl, refl)
+received_size blank (Channel capacity [] false) = tt
+
+sent_size : (v : Value) (old : Object) → Always (KeepsSize old) (sent v old)
+sent_size v (StructObject fields) = (refl, refl)
+sent_size v (SliceObject elements) = (refl, refl)
+sent_size v (Channel capacity queue true) = tt
+sent_size v (Channel capacity queue false) = by (nat_lt (length queue) capacity)
+  where
+    by : (b : Bool) → Always (KeepsSize (Channel capacity queue false))
+        (if b then Some (Does (Channel capacity (queue ++ v ∷ []) false) value.Nil) else None)
+    by true = (refl, refl)
+    by false = tt
+
+shut_size : (old : Object) → KeepsSize old (shut old)
+shut_size (StructObject fields) = (refl, refl)
+shut_size (SliceObject elements) = (refl, refl)
+shut_size (Channel capacity queue true) = tt
+shut_size (Channel capacity queue false) = (refl, refl)
+
+-- ---- a sum over the heap, of what objects of one size have in common
+
+sum_replaced : (f : Object → ℕ) (heap : List Object) (n : ℕ) (old new : Object) → slice_get heap n ≡ Some old
+    → f new ≡ f old → sum_by f (slice_set heap n new) ≡ sum_by f heap
+sum_replaced f [] n old new e same = refl
+sum_replaced f (x ∷ heap) zero old new e same =
+    let a = sum_by-cons f new heap in
+    let b = sum_by-cons f x heap in
+    let c : f x ≡ f old = ap f (same_Some x old e) in
+    omega (arith, a, b, c, same)
+sum_replaced f (x ∷ heap) (suc n) old new e same =
+    let a = sum_by-cons f x (slice_set heap n new) in
+    let b = sum_by-cons f x heap in
+    let c = sum_replaced f heap n old new e same in
+    omega (arith, a, b, c)
+
+module _ (f : Object → ℕ) (kept : (old new : Object) → SameSize old new → f new ≡ f old) (m : Memory) where
   abbrev Grows : Effect → Type 0
-  Grows (Does m' v) = length m.heap ≤ length m'.heap
+  Grows (Does m' v) = sum_by f m.heap ≤ sum_by f m'.heap
   Grows (Traps trap) = Unit {0}
 
   stays : (v : Value) → Grows (Does m v)
@@ -42,26 +115,31 @@ module _ (m : Memory) where
 
   -- ---- one object is written
 
-  in_memory_grows : (n : ℕ) (outcome : Outcome Object) → Grows (in_memory m n outcome)
-  in_memory_grows n (Does object v) = let e = length_set m.heap n object in omega (arith, e)
-  in_memory_grows n (Traps trap) = tt
+  in_memory_grows : (n : ℕ) (old : Object) → slice_get m.heap n ≡ Some old → (outcome : Outcome Object)
+      → KeepsSize old outcome → Grows (in_memory m n outcome)
+  in_memory_grows n old e (Does object v) k =
+      let a = sum_replaced f m.heap n old object e (kept old object k) in omega (arith, a)
+  in_memory_grows n old e (Traps trap) k = tt
 
-  to_object_grows : (n : ℕ) (f : Object → Outcome Object) (o : Option Object) → Grows (to_object m n f o)
-  to_object_grows n f None = stays value.Nil
-  to_object_grows n f (Some object) = in_memory_grows n (f object)
+  to_object_grows : (n : ℕ) (g : Object → Outcome Object) → ((old : Object) → KeepsSize old (g old))
+      → (o : Option Object) → slice_get m.heap n ≡ o → Grows (to_object m n g o)
+  to_object_grows n g k None e = stays value.Nil
+  to_object_grows n g k (Some object) e = in_memory_grows n object e (g object) (k object)
 
-  if_ready_grows : (n : ℕ) (o : Option (Outcome Object)) → Always Grows (in_memory_if_ready m n o)
-  if_ready_grows n None = tt
-  if_ready_grows n (Some outcome) = in_memory_grows n outcome
+  if_ready_grows : (n : ℕ) (old : Object) → slice_get m.heap n ≡ Some old → (o : Option (Outcome Object))
+      → Always (KeepsSize old) o → Always Grows (in_memory_if_ready m n o)
+  if_ready_grows n old e None k = tt
+  if_ready_grows n old e (Some outcome) k = in_memory_grows n old e outcome k
 
-  to_object_if_ready_grows : (n : ℕ) (f : Object → Option (Outcome Object)) (o : Option Object)
-      → Always Grows (to_object_if_ready m n f o)
-  to_object_if_ready_grows n f None = stays value.Nil
-  to_object_if_ready_grows n f (Some object) = if_ready_grows n (f object)
+  to_object_if_ready_grows : (n : ℕ) (g : Object → Option (Outcome Object))
+      → ((old : Object) → Always (KeepsSize old) (g old)) → (o : Option Object) → slice_get m.heap n ≡ o
+      → Always Grows (to_object_if_ready m n g o)
+  to_object_if_ready_grows n g k None e = stays value.Nil
+  to_object_if_ready_grows n g k (Some object) e = if_ready_grows n object e (g object) (k object)
 
   store_grows : (v : Value) (k : ℕ) (w : Value) → Grows (store m v k w)
   store_grows value.Nil k w = tt
-  store_grows (value.Object n) k w = to_object_grows n (stored k w) (slice_get m.heap n)
+  store_grows (value.Object n) k w = to_object_grows n (stored k w) (stored_size k w) (slice_get m.heap n) refl
   store_grows (value.Int i) k w = stays value.Nil
   store_grows (value.Bool b) k w = stays value.Nil
 
@@ -70,7 +148,7 @@ module _ (m : Memory) where
   put_grows value.Nil (value.Bool b) w = stays value.Nil
   put_grows value.Nil value.Nil w = stays value.Nil
   put_grows value.Nil (value.Object o) w = stays value.Nil
-  put_grows (value.Object n) (value.Int i) w = to_object_grows n (put_in i w) (slice_get m.heap n)
+  put_grows (value.Object n) (value.Int i) w = to_object_grows n (put_in i w) (put_size i w) (slice_get m.heap n) refl
   put_grows (value.Object n) (value.Bool b) w = stays value.Nil
   put_grows (value.Object n) value.Nil w = stays value.Nil
   put_grows (value.Object n) (value.Object o) w = stays value.Nil
@@ -79,19 +157,20 @@ module _ (m : Memory) where
 
   receive_grows : (v blank : Value) → Always Grows (receive m v blank)
   receive_grows value.Nil blank = tt
-  receive_grows (value.Object n) blank = to_object_if_ready_grows n (received blank) (slice_get m.heap n)
+  receive_grows (value.Object n) blank = to_object_if_ready_grows n (received blank) (received_size blank)
+      (slice_get m.heap n) refl
   receive_grows (value.Int i) blank = stays value.Nil
   receive_grows (value.Bool b) blank = stays value.Nil
 
   send_grows : (v w : Value) → Always Grows (send m v w)
   send_grows value.Nil w = tt
-  send_grows (value.Object n) w = to_object_if_ready_grows n (sent w) (slice_get m.heap n)
+  send_grows (value.Object n) w = to_object_if_ready_grows n (sent w) (sent_size w) (slice_get m.heap n) refl
   send_grows (value.Int i) w = stays value.Nil
   send_grows (value.Bool b) w = stays value.Nil
 
   close_grows : (v : Value) → Grows (close m v)
   close_grows value.Nil = tt
-  close_grows (value.Object n) = to_object_grows n shut (slice_get m.heap n)
+  close_grows (value.Object n) = to_object_grows n shut shut_size (slice_get m.heap n) refl
   close_grows (value.Int i) = stays value.Nil
   close_grows (value.Bool b) = stays value.Nil
 
@@ -109,7 +188,7 @@ module _ (m : Memory) where
   variable_grows n v = omega arith
 
   made_grows : (object : Object) → Grows (made m object)
-  made_grows object = let e = length-append m.heap (object ∷ []) in omega (arith, e)
+  made_grows object = let e = sum_by_push f m.heap object in omega (arith, e)
 
   struct_grows : (o : Option Struct) → Grows (made_struct o m)
   struct_grows None = stays value.Nil
@@ -257,7 +336,7 @@ module _ (m : Memory) where
   -- ---- instructions
 
   abbrev ActedGrows : Acted → Type 0
-  ActedGrows a = length m.heap ≤ length a.memory.heap
+  ActedGrows a = sum_by f m.heap ≤ sum_by f a.memory.heap
 
   effected_grows : (frame : Frame) (callers : List Frame) (to : Option ℕ) (place : ℕ) (o : Option Effect)
       → Always Grows o → Always ActedGrows (effected m frame callers to place o)
@@ -303,6 +382,21 @@ module _ (m : Memory) where
     alone_grows [] = tt
     alone_grows (frame ∷ callers) = act_at_grows (instr_of code frame) frame callers
 
+-- whatever objects of one size have in common, its sum over the heap does not shrink
+pub sum_only_grows : (f : Object → ℕ) → ((old new : Object) → SameSize old new → f new ≡ f old) → (code : Tac)
+    (m : Memory) (frames : List Frame) (a : Acted) → alone code m frames ≡ Some a
+    → sum_by f m.heap ≤ sum_by f a.memory.heap
+sum_only_grows f kept code m frames a e = subst (Always (ActedGrows f kept m)) e (alone_grows f kept m code frames)
+
+sum_of_ones : (heap : List Object) → sum_by (λ (o : Object). 1) heap ≡ length heap
+sum_of_ones [] = refl
+sum_of_ones (o ∷ heap) =
+    let a = sum_by-cons (λ (x : Object). 1) o heap in let b = sum_of_ones heap in omega (arith, a, b)
+
 pub heap_only_grows : (code : Tac) (m : Memory) (frames : List Frame) (a : Acted) → alone code m frames ≡ Some a
     → length m.heap ≤ length a.memory.heap
-heap_only_grows code m frames a e = subst (Always (ActedGrows m)) e (alone_grows m code frames)
+heap_only_grows code m frames a e =
+    let x = sum_only_grows (λ o. 1) (λ old new same. refl) code m frames a e in
+    let y = sum_of_ones m.heap in
+    let z = sum_of_ones a.memory.heap in
+    omega (arith, x, y, z)

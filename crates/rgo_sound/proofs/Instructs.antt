@@ -286,16 +286,18 @@ module _ (code : Code) (page_words : ℕ) (s : RegionState) (g : ℕ) (h : Holde
         k : Holder
         k = record h {
           fills = same.fills;
+          reserved = same.reserved;
           duties = map Remove (removes_behind frame instr.op)
               ++ next_duties code (go.frame' ∷ callers);
         }
 
         fits_on : GoodHolder code (go.frame' ∷ callers) (record h {
           fills = same.fills;
+          reserved = same.reserved;
           duties = map Remove (removes_behind frame instr.op)
               ++ next_duties code (go.frame' ∷ callers);
         })
-        fits_on = frame_goes code frame go.frame' callers instr (record h { fills = same.fills }) h.environments
+        fits_on = frame_goes code frame go.frame' callers instr (record h { fills = same.fills; reserved = same.reserved }) h.environments
             h.duties
             ruled cur simple (none_owed h.duties d) good.core good.base_once good.fit good.shares go.function go.edge
 
@@ -306,6 +308,7 @@ module _ (code : Code) (page_words : ℕ) (s : RegionState) (g : ℕ) (h : Holde
         hs : (instructed_with code s g frame callers instr (after s.plain g a) given).holders
             ≡ slice_set s.holders g (record h {
               fills = same.fills;
+              reserved = same.reserved;
               duties =
                   map Remove (removes_behind frame instr.op) ++ next_duties code (go.frame' ∷ callers);
             })
@@ -325,22 +328,23 @@ module _ (code : Code) (page_words : ℕ) (s : RegionState) (g : ℕ) (h : Holde
             })) same.same
             ∙ ap (λ x. slice_set s.holders g (record h {
               fills = same.fills;
+              reserved = same.reserved;
               duties =
                   map Remove (removes_behind frame instr.op) ++ next_duties code x;
             }))
             (own a frames q go.started ∙ go.frames)
     behind a frames given q d same (inr st) =
         fine_plain code s (instructed_with code s g frame callers instr (after s.plain g a) given) g h
-        (record h { fills = same.fills }) fine e refl hs refl refl (as_long a st.started)
+        (record h { fills = same.fills; reserved = same.reserved }) fine e refl hs refl refl (as_long a st.started)
         (others a frames q st.started)
-        (subst (λ x. GoodHolder code x (record h { fills = same.fills })) (sym (own a frames q st.started ∙ st.frames))
+        (subst (λ x. GoodHolder code x (record h { fills = same.fills; reserved = same.reserved })) (sym (own a frames q st.started ∙ st.frames))
         (record { core = good.core; fit = good.fit; base_once = good.base_once; shares = good.shares }))
       where
         ended : (after s.plain g a).ended ≡ Some (the_end.Trap st.kind st.place)
         ended = ap (end_by g a.frames) st.trap
 
         hs : (instructed_with code s g frame callers instr (after s.plain g a) given).holders
-            ≡ slice_set s.holders g (record h { fills = same.fills })
+            ≡ slice_set s.holders g (record h { fills = same.fills; reserved = same.reserved })
         hs =
             ap (λ x. slice_set s.holders g (unless_trapped (after s.plain g a).ended given.0
             (holder_after code given.0 frame callers instr.op (frames_of (after s.plain g a) g))) ++ x)

@@ -8,7 +8,7 @@ use Rattle.rgo_machine.specs.declared.picks.Pick.TheVariants.{Meet, One}
 use Rattle.rgo_region_machine.specs.Duties.{attend, attended, duty_done, protected, removal, shared, unprotected}
 use Rattle.rgo_region_machine.specs.Instructions.{child_holder, holder_after, last_frames, unless_trapped}
 use Rattle.rgo_region_machine.specs.Machine.{Acknowledge, Attend, Event, Finish, Instruct, MakeOffer, TakePage}
-use Rattle.rgo_region_machine.specs.Machine.{page_for, page_taken, region_step, take_page, takes_page}
+use Rattle.rgo_region_machine.specs.Machine.{page_for, page_taken, region_step, take_page, takes_page, page_before}
 use Rattle.rgo_region_machine.specs.Offers.{acknowledge, make_offer, offer_for, offered}
 use Rattle.rgo_region_machine.specs.Owed.{current}
 use Rattle.rgo_region_machine.specs.Regions.{removed_once, unbind}
@@ -16,6 +16,7 @@ use Rattle.rgo_region_machine.specs.States.{Create, Duty, EndBase, Holder, NoOff
 use Rattle.rgo_region_machine.specs.States.{Share, Standing, Taken, Unprotect, frames_of, top_names, with_top}
 use Rattle.rgo_region_machine.specs.declared.regions.Region.{Region}
 use Rattle.rgo_region_machine.specs.declared.regions.Region.TheVariants.{Global as GlobalRegion, Numbered}
+use Rattle.rgo_region_machine.specs.Objects.{with_page}
 use Rattle.rgo_sound.proofs.Acting.{after}
 use Rattle.rgo_sound.proofs.ErasureLemmas.{Yields, yields, yields_at, yields_from, yields_if, yields_is, yields_none}
 use Rattle.rgo_sound.proofs.ErasureLemmas.{yields_then}
@@ -95,7 +96,8 @@ module _ (s : RegionState) (g : ℕ) (h0 : Holder) where
   by_take code page_words h [] e = yields_none
   by_take code page_words h (frame ∷ callers) e =
       yields_then (page_for code page_words s g h frame) (current code frame)
-      (λ i. yields_then (takes_page code page_words s g h) _ (λ r. yields_if _ _ _ (by_page h r e) yields_none))
+      (λ i. yields_then (takes_page code page_words s g h) _ (λ r. yields_then (page_before page_words s g h r) _
+      (λ x. yields_if _ _ _ (by_page (with_page page_words h r x) r e) yields_none)))
 
 module _ (s : RegionState) (g : ℕ) where
   abbrev Any : Holder → Type 0

@@ -45,8 +45,9 @@ use Rattle.rgo_region_machine.specs.Instructions.{child_holder, holder_after, in
 use Rattle.rgo_region_machine.specs.Instructions.{standing_at, taken_offer, unless_trapped}
 use Rattle.rgo_region_machine.specs.Machine.{Acknowledge, Attend, Event, Finish, Instruct, MakeOffer, TakePage}
 use Rattle.rgo_region_machine.specs.Machine.{finished, page_for, page_taken, region_run, region_start, region_step}
-use Rattle.rgo_region_machine.specs.Machine.{take_page, takes_page}
-use Rattle.rgo_region_machine.specs.Objects.{makes_object, making_region, target_class, touched, touched_by, with_fill}
+use Rattle.rgo_region_machine.specs.Machine.{take_page, takes_page, page_before}
+use Rattle.rgo_region_machine.specs.Objects.{makes_object, making_region, target_class, touched, touched_by}
+use Rattle.rgo_region_machine.specs.Objects.{with_page}
 use Rattle.rgo_region_machine.specs.Offers.{acknowledge, make_offer, offer_for, offered, offered_channel, open_channel}
 use Rattle.rgo_region_machine.specs.Owed.{current, function_at}
 use Rattle.rgo_region_machine.specs.Regions.{Bindings, bound, class_region, removed_once, unbind, without}
@@ -704,19 +705,20 @@ module _ (code : Code) (s : RegionState) (old : OffersFit code s) where
       → Yields (OffersFit code) (take_page code page_words s g h frames)
   offers_take g h page_words [] e = yields_none
   offers_take g h page_words (frame ∷ callers) e = yields_then (page_for code page_words s g h frame) _
-      (λ i. yields_then (takes_page code page_words s g h) _ (λ r. yields_if _ _ _ (taken r) yields_none))
+      (λ i. yields_then (takes_page code page_words s g h) _ (λ r. yields_then (page_before page_words s g h r) _
+      (λ x. yields_if _ _ _ (taken r x) yields_none)))
     where
-      same : (fills : List (Region × ℕ)) (offer : Offer) → OfferFits code s g h offer
-          → OfferFits code s g (record h { fills = fills }) offer
-      same fills NoOffer f = f
-      same fills (Standing o) f = f
-      same fills (Taken o) f = f
+      same : (r : Region) (x : Object) (offer : Offer) → OfferFits code s g h offer
+          → OfferFits code s g (with_page page_words h r x) offer
+      same r x NoOffer f = f
+      same r x (Standing o) f = f
+      same r x (Taken o) f = f
 
-      taken : (r : Region) → Yields (OffersFit code) (Some (page_taken s g h r))
-      taken GlobalRegion = yields _ (offers_with _ g h (record h { fills = with_fill h.fills GlobalRegion 0 }) e refl
-          refl refl (same (with_fill h.fills GlobalRegion 0) h.offer (old.fits g h e)))
-      taken (Numbered r) = yields _ (offers_with _ g h (record h { fills = with_fill h.fills (Numbered r) 0 }) e refl
-          refl refl (same (with_fill h.fills (Numbered r) 0) h.offer (old.fits g h e)))
+      taken : (r : Region) (x : Object) → Yields (OffersFit code) (Some (page_taken s g (with_page page_words h r x) r))
+      taken GlobalRegion x = yields _ (offers_with _ g h (with_page page_words h GlobalRegion x) e refl refl refl
+          (same GlobalRegion x h.offer (old.fits g h e)))
+      taken (Numbered r) x = yields _ (offers_with _ g h (with_page page_words h (Numbered r) x) e refl refl refl
+          (same (Numbered r) x h.offer (old.fits g h e)))
 
   offers_make : (g : ℕ) (h : Holder) (frames : List Frame) → frames_of s.plain g ≡ frames → slice_get s.holders g
       ≡ Some h → Yields (OffersFit code) (make_offer code s g h frames)

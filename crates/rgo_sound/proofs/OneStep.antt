@@ -5,7 +5,7 @@ use Rattle.std.proofs.Common.{option_and_then, Contains}
 use Rattle.std.proofs.lemmas.Option.{slice_get-map}
 use Rattle.rgo_sound.proofs.Places.{contains_here, get_set_other, get_set_same}
 use Rattle.rgo_sound.proofs.Tests.{and_split, nat_ne_sym}
-use Rattle.rgo_sound.proofs.ErasureLemmas.{Yields, yields_none, yields_itself, yields_with, yields_where}
+use Rattle.rgo_sound.proofs.ErasureLemmas.{Yields, yields_if, yields_none, yields_itself, yields_with, yields_where}
 use Rattle.rgo_code.specs.Code.{Branch, Call, Code, CodeFn, CodeInstr, CodeOp, Do, Go, Jump, Print, Return}
 use Rattle.rgo_code.specs.Erasure.{erased, erased_fn, erased_instr, erased_op}
 use Rattle.rgo_code.specs.Names.{edges}
@@ -22,6 +22,7 @@ use Rattle.rgo_region_machine.specs.Instructions.{instructed_with, is_ready, one
 use Rattle.rgo_region_machine.specs.Instructions.{side_by, some_instructed, standing_at, taken_offer, touches}
 use Rattle.rgo_region_machine.specs.Machine.{Instruct, region_step}
 use Rattle.rgo_region_machine.specs.Objects.{allotted, fill_of, making_region, may_touch, new_object, placed, touched}
+use Rattle.rgo_region_machine.specs.Objects.{is_spread, spread_out}
 use Rattle.rgo_region_machine.specs.Owed.{current, current_in, function_at, next_duties, removes_behind}
 use Rattle.rgo_region_machine.specs.States.{Duty, Holder, RegionState, Remove, frames_in, frames_of, top_names}
 use Rattle.rgo_region_machine.specs.declared.regions.Region.{Region}
@@ -36,10 +37,11 @@ use Rattle.rgo_typed.specs.declared.actions.Action.TheVariants.{Get, Int, IsNil,
 use Rattle.rgo_typed.specs.declared.actions.Action.TheVariants.{Recv, Send, Set, Slice, Store}
 use Rattle.rgo_memory.specs.declared.values.Value.TheVariants as value
 
--- only the fills of pages differ
+-- only the fills of pages differ, and how many pages are reserved
 pub record SameHolder (h k : Holder) : Type 0 where
   pub fills : List (Region × ℕ)
-  pub same : k ≡ record h { fills = fills }
+  pub reserved : ℕ
+  pub same : k ≡ record h { fills = fills; reserved = reserved }
 
 pub none_owed : (ds : List Duty) → has_none ds ≡ true → ds ≡ []
 none_owed [] e = refl
@@ -294,19 +296,23 @@ side_is code h frames next x =
 pub allotted_is : (page_words : ℕ) (h : Holder) (region : Option Region) (object : Option Object)
     → Yields (λ (given : Holder × List Region). SameHolder h given.0 × Allots region object given.1)
     (allotted page_words h region object)
-allotted_is page_words h region None = record { fact = (record { fills = h.fills; same = refl }, refl) }
+allotted_is page_words h region None =
+    record { fact = (record { fills = h.fills; reserved = h.reserved; same = refl }, refl) }
 allotted_is page_words h None (Some object) = record { fact = tt }
-allotted_is page_words h (Some r) (Some object) = go (fill_of h.fills r)
+allotted_is page_words h (Some r) (Some object) =
+    yields_if (is_spread page_words object) (spread_out page_words h r object)
+    (placed page_words h r object (fill_of h.fills r)) (by _ h.fills 0) (go (fill_of h.fills r))
   where
-    by : (b : Bool) (fills : List (Region × ℕ)) → Yields (λ (given : Holder × List Region). SameHolder h given.0
-        × Allots (Some r) (Some object) given.1) (if b then Some (record h { fills = fills }, r ∷ []) else None)
-    by true fills = record { fact = (record { fills = fills; same = refl }, refl) }
-    by false fills = record { fact = tt }
+    by : (b : Bool) (fills : List (Region × ℕ)) (reserved : ℕ) → Yields (λ (given : Holder × List Region).
+        SameHolder h given.0 × Allots (Some r) (Some object) given.1)
+        (if b then Some (record h { fills = fills; reserved = reserved }, r ∷ []) else None)
+    by true fills reserved = record { fact = (record { fills = fills; reserved = reserved; same = refl }, refl) }
+    by false fills reserved = record { fact = tt }
 
     go : (o : Option ℕ) → Yields (λ (given : Holder × List Region). SameHolder h given.0
         × Allots (Some r) (Some object) given.1) (placed page_words h r object o)
     go None = record { fact = tt }
-    go (Some used) = by _ _
+    go (Some used) = by _ _ h.reserved
 
 -- what is ready owes nothing, has no offer to acknowledge, and touches what is live
 pub record Ready (s : RegionState) (h : Holder) (frame : Frame) (instr : CodeInstr) : Type 0 where

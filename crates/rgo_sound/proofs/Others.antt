@@ -28,8 +28,8 @@ use Rattle.rgo_machine.specs.declared.picks.Pick.TheVariants.{Meet, One}
 use Rattle.rgo_region_machine.specs.Duties.{attend, attended, may_go}
 use Rattle.rgo_region_machine.specs.Machine.{Acknowledge, Attend, Event, Finish, Instruct, MakeOffer, TakePage}
 use Rattle.rgo_region_machine.specs.Machine.{finished, main_holder, page_for, page_taken, region_start, region_step}
-use Rattle.rgo_region_machine.specs.Machine.{take_page, takes_page}
-use Rattle.rgo_region_machine.specs.Objects.{with_fill}
+use Rattle.rgo_region_machine.specs.Machine.{take_page, takes_page, page_before}
+use Rattle.rgo_region_machine.specs.Objects.{with_page}
 use Rattle.rgo_region_machine.specs.Offers.{acknowledge, make_offer, offer_for, offered}
 use Rattle.rgo_region_machine.specs.Owed.{current, current_in, duties_before}
 use Rattle.rgo_region_machine.specs.Regions.{RegionInfo, one_page_more, with_info}
@@ -38,6 +38,7 @@ use Rattle.rgo_region_machine.specs.States.{frames_of}
 use Rattle.rgo_region_machine.specs.declared.limits.Limit.{Limit}
 use Rattle.rgo_region_machine.specs.declared.regions.Region.{Region}
 use Rattle.rgo_region_machine.specs.declared.regions.Region.TheVariants.{Global as GlobalRegion, Numbered}
+use Rattle.rgo_memory.specs.Memory.{Object}
 use Rattle.rgo_sound.specs.Invariant.{Fine, GoodHolder, IsFree, IsReady, Settled}
 use Rattle.rgo_sound.specs.Stakes.{holders_of, is_in, one_if, pending_of, times_in, total}
 use Rattle.rgo_tac.specs.Code.{TacFn}
@@ -56,17 +57,19 @@ module _ (code : Code) (page_words : ℕ) (s : RegionState) (fine : Fine code s)
       (ap (λ p. length p.goroutines) ps) (λ j n. ap (λ p. frames_of p j) ps)
       (subst (λ p. GoodHolder code (frames_of p g) k) (sym ps) good)
 
-  same_good : (g : ℕ) (h : Holder) (fills : List (Region × ℕ)) (offer : Offer) → slice_get s.holders g ≡ Some h
-      → GoodHolder code (frames_of s.plain g) (record h { fills = fills; offer = offer })
-  same_good g h fills offer e = let x = fine.each g h e in
+  same_good : (g : ℕ) (h : Holder) (fills : List (Region × ℕ)) (reserved : ℕ) (offer : Offer) → slice_get s.holders g
+      ≡ Some h → GoodHolder code (frames_of s.plain g) (record h { fills = fills; reserved = reserved; offer = offer })
+  same_good g h fills reserved offer e = let x = fine.each g h e in
       record { core = x.core; fit = x.fit; base_once = x.base_once; shares = x.shares }
 
-  fine_page : (g : ℕ) (h : Holder) (r : Region) → slice_get s.holders g ≡ Some h → Fine code (page_taken s g h r)
-  fine_page g h GlobalRegion e = same_stakes g h _ (page_taken s g h GlobalRegion) e refl refl refl refl refl
-      (same_good g h _ h.offer e)
-  fine_page g h (Numbered r) e =
-      fine_with code s g h (record h { fills = with_fill h.fills (Numbered r) 0 }) (with_info s.regions r one_page_more)
-      fine e (omega (arith, long)) (same_good g h _ h.offer e)
+  fine_page : (page_words g : ℕ) (h : Holder) (r : Region) (object : Object) → slice_get s.holders g ≡ Some h
+      → Fine code (page_taken s g (with_page page_words h r object) r)
+  fine_page page_words g h GlobalRegion object e = same_stakes g h _
+      (page_taken s g (with_page page_words h GlobalRegion object) GlobalRegion) e refl refl refl refl refl
+      (same_good g h _ _ h.offer e)
+  fine_page page_words g h (Numbered r) object e =
+      fine_with code s g h (with_page page_words h (Numbered r) object) (with_info s.regions r one_page_more)
+      fine e (omega (arith, long)) (same_good g h _ _ h.offer e)
       (λ q i. let x = fine.made g h q e i in omega (arith, x, long))
       (λ q i. let x = fine.pended g h q e i in omega (arith, x, long)) counts
     where
@@ -90,14 +93,14 @@ module _ (code : Code) (page_words : ℕ) (s : RegionState) (fine : Fine code s)
 
       counts : (q : ℕ) (info : RegionInfo) → slice_get (with_info s.regions r one_page_more) q ≡ Some info → info.stakes
           ≡ total (λ (x : Holder). one_if (is_in q x.stakes))
-          (slice_set s.holders g (record h { fills = with_fill h.fills (Numbered r) 0 })) + total
+          (slice_set s.holders g (with_page page_words h (Numbered r) object)) + total
           (λ (x : Holder). times_in q x.pending) (slice_set s.holders g
-          (record h { fills = with_fill h.fills (Numbered r) 0 }))
+          (with_page page_words h (Numbered r) object))
       counts q info i =
           let a = total_set (λ (x : Holder). one_if (is_in q x.stakes)) s.holders g h
-          (record h { fills = with_fill h.fills (Numbered r) 0 }) e in
+          (with_page page_words h (Numbered r) object) e in
           let b = total_set (λ (x : Holder). times_in q x.pending) s.holders g h
-          (record h { fills = with_fill h.fills (Numbered r) 0 }) e in
+          (with_page page_words h (Numbered r) object) e in
           let c = old q info i in
           omega (arith, a, b, c)
 
@@ -105,13 +108,13 @@ module _ (code : Code) (page_words : ℕ) (s : RegionState) (fine : Fine code s)
       → Yields (Fine code) (take_page code page_words s g h frames)
   fine_take g h [] e = yields_none
   fine_take g h (frame ∷ callers) e = yields_then (page_for code page_words s g h frame) _
-      (λ i. yields_then (takes_page code page_words s g h) _
-      (λ r. yields_if _ _ _ (yields (page_taken s g h r) (fine_page g h r e)) yields_none))
+      (λ i. yields_then (takes_page code page_words s g h) _ (λ r. yields_then (page_before page_words s g h r) _
+      (λ x. yields_if _ _ _ (yields _ (fine_page page_words g h r x e)) yields_none)))
 
   fine_offer : (g : ℕ) (h : Holder) (offer : Offer) → slice_get s.holders g ≡ Some h
       → Yields (Fine code) (Some (attended s g (record h { offer = offer })))
   fine_offer g h offer e = yields _ (same_stakes g h (record h { offer = offer })
-      (attended s g (record h { offer = offer })) e refl refl refl refl refl (same_good g h h.fills offer e))
+      (attended s g (record h { offer = offer })) e refl refl refl refl refl (same_good g h h.fills h.reserved offer e))
 
   fine_make : (g : ℕ) (h : Holder) (frames : List Frame) → slice_get s.holders g ≡ Some h
       → Yields (Fine code) (make_offer code s g h frames)

@@ -10,7 +10,8 @@ use Rattle.rgo_region_machine.specs.declared.regions.Region.{Region}
 use Rattle.rgo_region_machine.specs.declared.regions.Region.TheVariants.{Global as GlobalRegion, Numbered}
 use Rattle.rgo_region_machine.specs.Duties.{attend, attended, duty_done, protected, removal, shared, unprotected}
 use Rattle.rgo_region_machine.specs.Machine.{Acknowledge, Attend, Event, Finish, Instruct, MakeOffer, TakePage, page_for, page_taken, region_step, take_page, takes_page}
-use Rattle.rgo_region_machine.specs.Objects.{making_region}
+use Rattle.rgo_region_machine.specs.Machine.{page_before}
+use Rattle.rgo_region_machine.specs.Objects.{making_region, with_page}
 use Rattle.rgo_region_machine.specs.Offers.{acknowledge, make_offer, offer_for, offered}
 use Rattle.rgo_region_machine.specs.Owed.{current, function_at}
 use Rattle.rgo_region_machine.specs.Regions.{RegionInfo, has_stakes, is_live, with_info}
@@ -76,7 +77,8 @@ module _ (s : RegionState) (made : OwnersMade s) where
   by_take code page_words g h [] = yields_none
   by_take code page_words g h (frame ∷ callers) =
       yields_then (page_for code page_words s g h frame) (current code frame)
-      (λ i. yields_then (takes_page code page_words s g h) _ (λ r. yields_if _ _ _ (by_page g h r) yields_none))
+      (λ i. yields_then (takes_page code page_words s g h) _ (λ r. yields_then (page_before page_words s g h r) _
+      (λ x. yields_if _ _ _ (by_page g (with_page page_words h r x) r) yields_none)))
 
   by_offer : (code : Code) (g : ℕ) (h : Holder) (frames : List Frame) → Yields OwnersMade (make_offer code s g h frames)
   by_offer code g h [] = yields_none

@@ -1,6 +1,6 @@
 -- No step is missing: each instruction of the three-address machine can be done after some region steps.
 use Rattle.std.proofs.Common.{◌≡◌, ◌≢◌, ℕ, zero, suc, ◌+◌, ◌<◌, Bool, true, false, not, ◌&&◌, ◌||◌, List, [], ◌∷◌, map}
-use Rattle.std.proofs.Common.{length, Option, Some, None, IsSome, refl, sym, ap, ◌∙◌, subst, nat_eq, nat_le}
+use Rattle.std.proofs.Common.{length, Option, Some, None, IsSome, refl, sym, ap, ◌∙◌, subst, nat_eq, nat_le, nat_lt}
 use Rattle.std.proofs.Common.{if◌then◌else◌, arith, true≢false, slice_get, slice_set, option_map, option_and_then, inr}
 use Rattle.std.proofs.Common.{rules}
 use Rattle.std.proofs.lemmas.Option.{slice_get_within, slice_get_past, same_Some}
@@ -39,10 +39,11 @@ use Rattle.rgo_region_machine.specs.Instructions.{instructed_with, is_ready, one
 use Rattle.rgo_region_machine.specs.Instructions.{standing_at, touches}
 use Rattle.rgo_region_machine.specs.Machine.{Acknowledge, Attend, Event, Instruct, MakeOffer, TakePage, next_object}
 use Rattle.rgo_region_machine.specs.Machine.{object_made, page_for, page_taken, plain_step, region_step, take_page}
-use Rattle.rgo_region_machine.specs.Machine.{takes_page}
+use Rattle.rgo_region_machine.specs.Machine.{page_before, takes_page}
 use Rattle.rgo_region_machine.specs.Objects.{allotted, fill_of, fits, makes_object, making_region, may_touch}
 use Rattle.rgo_region_machine.specs.Objects.{new_object, owner_live, placed, target_class, touched, wants_page}
-use Rattle.rgo_region_machine.specs.Objects.{with_fill, words}
+use Rattle.rgo_region_machine.specs.Objects.{data_pages, is_spread, is_too_large, most_data_pages, spread_out, with_fill}
+use Rattle.rgo_region_machine.specs.Objects.{with_page, words}
 use Rattle.rgo_region_machine.specs.Offers.{acknowledge, make_offer, offer_at, offer_for, offered, offered_channel}
 use Rattle.rgo_region_machine.specs.Offers.{offers_on, open_channel}
 use Rattle.rgo_region_machine.specs.Owed.{current, current_in, function_at}
@@ -468,6 +469,173 @@ module _ (code : Code) (page_words : ℕ) (checked : IsChecked code) (written : 
       ∙ ap (option_and_then (instructed code page_words s g h frame callers (after s.plain g a))) cur
       ∙ ap (option_and_then (some_instructed code s g frame callers instr (after s.plain g a))) fits)
 
+  -- a goroutine that owes nothing is to make the object x in region r
+  record MakesNow (s : RegionState) (h : Holder) (frame : Frame) (callers : List Frame) (instr : CodeInstr) (a : Acted)
+      (r : Region) (x : Object) : Type 0 where
+    all : AllGood code s
+    there : slice_get s.holders g ≡ Some h
+    at : slice_get s.plain.goroutines g ≡ Some (frame ∷ callers)
+    cur : current code frame ≡ Some instr
+    running : s.plain.ended ≡ None
+    acts : alone (erased code) s.plain.memory (frame ∷ callers) ≡ Some a
+    none : h.duties ≡ []
+    free : may_go h.offer ≡ true
+    making : making_region (function_at code frame) (top_names h.environments) instr.op ≡ Some r
+    makes : new_object s.plain (after s.plain g a) ≡ Some x
+
+  module _ (frame : Frame) (callers : List Frame) (instr : CodeInstr) (a : Acted) (r : Region) (x : Object) where
+    -- it has its place
+    makes_at_once : (s : RegionState) (h : Holder) (given : Holder × List Region)
+        → MakesNow s h frame callers instr a r x → allotted page_words h (Some r) (Some x) ≡ Some given
+        → CanInstruct code page_words s (One g)
+    makes_at_once s h given k fits =
+        now code page_words checked written (One g) s (One g) refl
+        (steps_now s h frame callers instr a given k.all k.there k.at k.cur k.running k.acts k.none k.free
+        (ap (λ o. allotted page_words h o (new_object s.plain (after s.plain g a))) k.making
+        ∙ ap (allotted page_words h (Some r)) k.makes ∙ fits))
+
+    abbrev paged : RegionState → Holder → RegionState
+    paged s h = page_taken s g (with_page page_words h r x) r
+
+    same_plain : (s : RegionState) (k : Holder) (q : Region) → (page_taken s g k q).plain ≡ s.plain
+    same_plain s k GlobalRegion = refl
+    same_plain s k (Numbered n) = refl
+
+    same_holders : (s : RegionState) (k : Holder) (q : Region) → (page_taken s g k q).holders ≡ slice_set s.holders g k
+    same_holders s k GlobalRegion = refl
+    same_holders s k (Numbered n) = refl
+
+    -- it takes a page first
+    makes_later : (s : RegionState) (h : Holder) → MakesNow s h frame callers instr a r x
+        → wants_page page_words h.reserved (fill_of h.fills r) x ≡ true
+        → (MakesNow (paged s h) (with_page page_words h r x) frame callers instr a r x
+        → CanInstruct code page_words (paged s h) (One g)) → CanInstruct code page_words s (One g)
+    makes_later s h k wants then_can =
+        first_step code page_words checked written (One g) s (paged s h) (TakePage g) tt takes (then_can (record {
+          all = good_at code page_words checked written (One g) s (paged s h) (TakePage g) k.all takes;
+          there =
+              ap (λ y. slice_get y g) (same_holders s (with_page page_words h r x) r)
+              ∙ get_set_same s.holders g h (with_page page_words h r x) k.there;
+          at = ap (λ p. slice_get p.goroutines g) same ∙ k.at;
+          cur = k.cur;
+          running = ap (λ (p : TacState). p.ended) same ∙ k.running;
+          acts = ap (λ p. alone (erased code) p.memory (frame ∷ callers)) same ∙ k.acts;
+          none = k.none;
+          free = k.free;
+          making = k.making;
+          makes = ap (λ p. new_object p (after p g a)) same ∙ k.makes;
+        }))
+      where
+        same : (paged s h).plain ≡ s.plain
+        same = same_plain s (with_page page_words h r x) r
+
+        top : Top code h frame callers
+        top = top_of code h frame callers (subst (λ y. GoodHolder code y h) (ap frames_in k.at)
+            (k.all.good.fine.each g h k.there))
+
+        class : (c : Class) × (class_region top.f.names c ≡ Some r)
+        class = making_class top.stands.fn top.f.names instr.op r
+            (ap (λ sh. making_region (Some top.stands.fn) (top_names sh) instr.op) (sym top.environments)
+            ∙ ap (λ o. making_region o (top_names h.environments) instr.op) (sym top.stands.is_fn) ∙ k.making)
+
+        live : is_live s.regions r ≡ true
+        live = live_of s h r (class_has_stake code s g h frame callers top class.0 r k.all.good.fine k.there class.1)
+
+        next : next_object code s g ≡ Some x
+        next =
+            ap (object_made s) (one_step code s.plain g (frame ∷ callers) k.running k.at
+            ∙ ap (option_map (after s.plain g)) k.acts)
+            ∙ k.makes
+
+        takes : region_step code page_words s (TakePage g) ≡ Some (paged s h)
+        takes =
+            ap (option_and_then (λ k. take_page code page_words s g k (frames_of s.plain g))) k.there
+            ∙ ap (take_page code page_words s g h) (ap frames_in k.at)
+            ∙ ap (option_and_then (page_for code page_words s g h frame)) k.cur
+            ∙ ap (option_and_then (takes_page code page_words s g h)) k.making
+            ∙ ap (option_and_then (page_before page_words s g h r)) next
+            ∙ ap (λ ds. if has_none ds && may_go h.offer && is_live s.regions r && wants_page page_words h.reserved
+            (fill_of h.fills r) x then Some (paged s h) else None) k.none
+            ∙ ap (λ b. if b && is_live s.regions r && wants_page page_words h.reserved (fill_of h.fills r) x then Some
+            (paged s h) else None) k.free
+            ∙ ap (λ b. if b && wants_page page_words h.reserved (fill_of h.fills r) x then Some (paged s h) else None)
+            live
+            ∙ ap (λ b. if b then Some (paged s h) else None) wants
+
+    -- an object that is not spread: in the own page, if need be in a new one
+    module _ (whole : is_spread page_words x ≡ false) where
+      in_own : (h : Holder) (used : ℕ) → fill_of h.fills r ≡ Some used → nat_le (used + words x) page_words ≡ true
+          → allotted page_words h (Some r) (Some x) ≡ Some
+          (record h { fills = with_fill h.fills r (used + words x) }, r ∷ [])
+      in_own h used w l =
+          ap (λ b. if b then spread_out page_words h r x else placed page_words h r x (fill_of h.fills r)) whole
+          ∙ ap (placed page_words h r x) w
+          ∙ ap (λ b. if b then Some (record h { fills = with_fill h.fills r (used + words x) }, r ∷ []) else None) l
+
+      small_enough : (n p : ℕ) → nat_lt p n ≡ false → nat_le (0 + n) p ≡ true
+      small_enough n p e = grind (arith, nat_tests)
+
+      can_whole : (s : RegionState) (h : Holder) → MakesNow s h frame callers instr a r x
+          → CanInstruct code page_words s (One g)
+      can_whole s h k = by (fill_of h.fills r) refl
+        where
+          new_page : fits page_words (fill_of h.fills r) (words x) ≡ false → CanInstruct code page_words s (One g)
+          new_page n = makes_later s h k wants (λ k'. makes_at_once (paged s h) (with_page page_words h r x) _ k'
+              (in_own (with_page page_words h r x) 0
+              (ap (λ b. fill_of (if b then h.fills else with_fill h.fills r 0) r) whole ∙ fill_with h.fills r 0)
+              (small_enough (words x) page_words whole)))
+            where
+              wants : wants_page page_words h.reserved (fill_of h.fills r) x ≡ true
+              wants =
+                  ap (λ b. if b then not (is_too_large page_words x) && nat_le h.reserved (data_pages page_words x) else
+                  not (fits page_words (fill_of h.fills r) (words x))) whole
+                  ∙ ap (λ b. not b) n
+
+          by : (o : Option ℕ) → fill_of h.fills r ≡ o → CanInstruct code page_words s (One g)
+          by None w = new_page (ap (λ o. fits page_words o (words x)) w)
+          by (Some used) w = split (nat_le (used + words x) page_words)
+              (λ t. makes_at_once s h _ k (in_own h used w t))
+              (λ n. new_page (ap (λ o. fits page_words o (words x)) w ∙ n))
+
+    -- a spread object: when all of its pages were taken
+    module _ (spread : is_spread page_words x ≡ true) (small : is_too_large page_words x ≡ false) where
+      in_pages : (h : Holder) → nat_lt (data_pages page_words x) h.reserved ≡ true
+          → allotted page_words h (Some r) (Some x) ≡ Some (record h { reserved = 0 }, r ∷ [])
+      in_pages h l =
+          ap (λ b. if b then spread_out page_words h r x else placed page_words h r x (fill_of h.fills r)) spread
+          ∙ ap (λ b. if not b && nat_lt (data_pages page_words x) h.reserved then Some
+          (record h { reserved = 0 }, r ∷ []) else None) small
+          ∙ ap (λ b. if b then Some (record h { reserved = 0 }, r ∷ []) else None) l
+
+      all_taken : (d n : ℕ) → d < n + 0 → nat_lt d n ≡ true
+      all_taken d n l = grind (arith, nat_tests)
+
+      wants_more : (d n : ℕ) → nat_lt d n ≡ false → nat_le n d ≡ true
+      wants_more d n e = grind (arith, nat_tests)
+
+      can_spread : (n : ℕ) (s : RegionState) (h : Holder) → MakesNow s h frame callers instr a r x
+          → data_pages page_words x < h.reserved + n → CanInstruct code page_words s (One g)
+      can_spread zero s h k l = makes_at_once s h _ k (in_pages h (all_taken (data_pages page_words x) h.reserved l))
+      can_spread (suc n) s h k l = go (λ k' l'. can_spread n (paged s h) (with_page page_words h r x) k' l')
+        where
+          one_more : with_page page_words h r x ≡ record h { reserved = h.reserved + 1 }
+          one_more = ap (λ b. record h {
+            fills = if b then h.fills else with_fill h.fills r 0;
+            reserved = if b then h.reserved + 1 else h.reserved;
+          }) spread
+
+          go : (MakesNow (paged s h) (with_page page_words h r x) frame callers instr a r x
+              → data_pages page_words x < Holder.reserved (with_page page_words h r x) + n
+              → CanInstruct code page_words (paged s h) (One g)) → CanInstruct code page_words s (One g)
+          go then_can = split (nat_lt (data_pages page_words x) h.reserved)
+              (λ t. makes_at_once s h _ k (in_pages h t))
+              (λ f. makes_later s h k
+              (ap (λ b. if b then not (is_too_large page_words x) && nat_le h.reserved (data_pages page_words x) else
+              not (fits page_words (fill_of h.fills r) (words x))) spread
+              ∙ ap (λ b. not b && nat_le h.reserved (data_pages page_words x)) small
+              ∙ wants_more (data_pages page_words x) h.reserved f)
+              (λ k'. then_can k' (let e = ap Holder.reserved one_more in omega (arith, e, l))))
+
   can_one : (s : RegionState) (h : Holder) (next : TacState) → AllGood code s → slice_get s.holders g ≡ Some h
       → h.duties ≡ [] → may_go h.offer ≡ true → plain_step code s.plain (One g) ≡ Some next
       → ¬ (MakesTooLarge page_words s.plain next) → CanInstruct code page_words s (One g)
@@ -481,128 +649,45 @@ module _ (code : Code) (page_words : ℕ) (checked : IsChecked code) (written : 
           → (instr : CodeInstr) → current code frame ≡ Some instr → CanInstruct code page_words s (One g)
       at_instr frame callers at a acts is instr cur = object (new_object s.plain (after s.plain g a)) refl
         where
-          at_once : (given : Holder × List Region) → allotted page_words h
-              (making_region (function_at code frame) (top_names h.environments) instr.op)
-              (new_object s.plain (after s.plain g a)) ≡ Some given → CanInstruct code page_words s (One g)
-          at_once given fits = now code page_words checked written (One g) s (One g) refl
-              (steps_now s h frame callers instr a given all e at cur running acts d m fits)
-
           object : (o : Option Object) → new_object s.plain (after s.plain g a) ≡ o
               → CanInstruct code page_words s (One g)
-          object None q = at_once (h, []) (ap (allotted page_words h
-              (making_region (function_at code frame) (top_names h.environments) instr.op)) q)
-          object (Some x) q = place (fill_of h.fills r.0) refl
+          object None q = now code page_words checked written (One g) s (One g) refl
+              (steps_now s h frame callers instr a (h, []) all e at cur running acts d m
+              (ap (allotted page_words h
+              (making_region (function_at code frame) (top_names h.environments) instr.op)) q))
+          object (Some x) q = split (is_spread page_words x)
+              (λ t. can_spread frame callers instr a r.0 x t not_too_large (data_pages page_words x + 1) s h makes
+              (omega arith))
+              (λ n. can_whole frame callers instr a r.0 x n s h makes)
             where
               r : (r : Region) × (making_region (function_at code frame) (top_names h.environments) instr.op ≡ Some r)
               r = object_region code checked s g h frame callers instr all e at cur d a acts x q
 
-              small_enough : nat_le (words x) page_words ≡ true
-              small_enough = split (nat_le (words x) page_words) (λ t. t)
-                  (λ n. absurd (small (x, ap (new_object s.plain) (sym is) ∙ q, not_le (words x) page_words n)))
+              makes : MakesNow s h frame callers instr a r.0 x
+              makes = record {
+                all = all;
+                there = e;
+                at = at;
+                cur = cur;
+                running = running;
+                acts = acts;
+                none = d;
+                free = m;
+                making = r.1;
+                makes = q;
+              }
 
-              is_placed : (k : Holder) → allotted page_words k
-                  (making_region (function_at code frame) (top_names h.environments) instr.op)
-                  (new_object s.plain (after s.plain g a)) ≡ placed page_words k r.0 x (fill_of k.fills r.0)
-              is_placed k = ap (λ o. allotted page_words k o (new_object s.plain (after s.plain g a))) r.1
-                  ∙ ap (allotted page_words k (Some r.0)) q
+              is_over : (m d : ℕ) → nat_lt m d ≡ true → m < d
+              is_over m d t = grind (arith, nat_tests)
 
-              -- a page first
-              page : fits page_words (fill_of h.fills r.0) (words x) ≡ false → CanInstruct code page_words s (One g)
-              page n = first_step code page_words checked written (One g) s (page_taken s g h r.0) (TakePage g) tt takes
-                  behind
-                where
-                  top : Top code h frame callers
-                  top = top_of code h frame callers (subst (λ y. GoodHolder code y h) (ap frames_in at)
-                      (all.good.fine.each g h e))
-
-                  making : (c : Class) × (class_region top.f.names c ≡ Some r.0)
-                  making = making_class top.stands.fn top.f.names instr.op r.0
-                      (ap (λ sh. making_region (Some top.stands.fn) (top_names sh) instr.op) (sym top.environments)
-                      ∙ ap (λ o. making_region o (top_names h.environments) instr.op) (sym top.stands.is_fn) ∙ r.1)
-
-                  live : is_live s.regions r.0 ≡ true
-                  live = live_of s h r.0 (class_has_stake code s g h frame callers top making.0 r.0 all.good.fine e
-                      making.1)
-
-                  wants : wants_page page_words (fill_of h.fills r.0) (next_object code s g) ≡ true
-                  wants =
-                      ap (λ o. wants_page page_words (fill_of h.fills r.0) (object_made s o)) step
-                      ∙ ap (wants_page page_words (fill_of h.fills r.0)) (ap (new_object s.plain) (sym is) ∙ q)
-                      ∙ ap (λ b. b && not (fits page_words (fill_of h.fills r.0) (words x))) small_enough
-                      ∙ ap (λ b. not b) n
-
-                  takes : region_step code page_words s (TakePage g) ≡ Some (page_taken s g h r.0)
-                  takes =
-                      ap (option_and_then (λ k. take_page code page_words s g k (frames_of s.plain g))) e
-                      ∙ ap (take_page code page_words s g h) (ap frames_in at)
-                      ∙ ap (option_and_then (page_for code page_words s g h frame)) cur
-                      ∙ ap (option_and_then (takes_page code page_words s g h)) r.1
-                      ∙ ap (λ ds. if has_none ds && may_go h.offer && is_live s.regions r.0 && wants_page page_words
-                      (fill_of h.fills r.0) (next_object code s g) then Some (page_taken s g h r.0) else None) d
-                      ∙ ap (λ b. if b && is_live s.regions r.0 && wants_page page_words (fill_of h.fills r.0)
-                      (next_object code s g) then Some (page_taken s g h r.0) else None) m
-                      ∙ ap (λ b. if b && wants_page page_words (fill_of h.fills r.0) (next_object code s g) then Some
-                      (page_taken s g h r.0) else None) live
-                      ∙ ap (λ b. if b then Some (page_taken s g h r.0) else None) wants
-
-                  good' : AllGood code (page_taken s g h r.0)
-                  good' = good_at code page_words checked written (One g) s (page_taken s g h r.0) (TakePage g) all
-                      takes
-
-                  same_plain : (q : Region) → (page_taken s g h q).plain ≡ s.plain
-                  same_plain GlobalRegion = refl
-                  same_plain (Numbered n) = refl
-
-                  same_holders : (q : Region) → (page_taken s g h q).holders
-                      ≡ slice_set s.holders g (record h { fills = with_fill h.fills q 0 })
-                  same_holders GlobalRegion = refl
-                  same_holders (Numbered n) = refl
-
-                  k_there : slice_get (page_taken s g h r.0).holders g
-                      ≡ Some (record h { fills = with_fill h.fills r.0 0 })
-                  k_there = ap (λ y. slice_get y g) (same_holders r.0)
-                      ∙ get_set_same s.holders g h (record h { fills = with_fill h.fills r.0 0 }) e
-
-                  fits_now : placed page_words (record h { fills = with_fill h.fills r.0 0 }) r.0 x
-                      (fill_of (with_fill h.fills r.0 0) r.0) ≡ Some
-                      (record h { fills = with_fill (with_fill h.fills r.0 0) r.0 (0 + words x) }, r.0 ∷ [])
-                  fits_now =
-                      ap (placed page_words (record h { fills = with_fill h.fills r.0 0 }) r.0 x)
-                      (fill_with h.fills r.0 0)
-                      ∙ ap (λ b. if b then Some (
-                        record h {
-                          fills =
-                              with_fill (with_fill h.fills r.0 0) r.0 (0 + words x);
-                        },
-                        r.0 ∷ [],
-                      ) else None)
-                      (ap (λ w. nat_le w page_words) (zero_add (words x)) ∙ small_enough)
-                    where
-                      zero_add : (n : ℕ) → 0 + n ≡ n
-                      zero_add n = omega arith
-
-                  behind : CanInstruct code page_words (page_taken s g h r.0) (One g)
-                  behind =
-                      now code page_words checked written (One g) (page_taken s g h r.0) (One g) refl
-                      (steps_now (page_taken s g h r.0) (record h { fills = with_fill h.fills r.0 0 }) frame callers
-                      instr a (record h { fills = with_fill (with_fill h.fills r.0 0) r.0 (0 + words x) }, r.0 ∷ [])
-                      good' k_there (ap (λ p. slice_get p.goroutines g) (same_plain r.0) ∙ at) cur
-                      (ap (λ (p : TacState). p.ended) (same_plain r.0) ∙ running)
-                      (ap (λ p. alone (erased code) p.memory (frame ∷ callers)) (same_plain r.0) ∙ acts) d m
-                      (ap (λ p. allotted page_words (record h { fills = with_fill h.fills r.0 0 })
-                      (making_region (function_at code frame) (top_names h.environments) instr.op)
-                      (new_object p (after p g a))) (same_plain r.0)
-                      ∙ is_placed (record h { fills = with_fill h.fills r.0 0 }) ∙ fits_now))
-
-              place : (o : Option ℕ) → fill_of h.fills r.0 ≡ o → CanInstruct code page_words s (One g)
-              place None w = page (ap (λ o. fits page_words o (words x)) w)
-              place (Some used) w =
-                  split (nat_le (used + words x) page_words)
-                  (λ t. at_once (record h { fills = with_fill h.fills r.0 (used + words x) }, r.0 ∷ [])
-                  (is_placed h ∙ ap (placed page_words h r.0 x) w
-                  ∙ ap (λ b. if b then Some (record h { fills = with_fill h.fills r.0 (used + words x) }, r.0 ∷ [])
-                  else None) t))
-                  (λ n. page (ap (λ o. fits page_words o (words x)) w ∙ n))
+              not_too_large : is_too_large page_words x ≡ false
+              not_too_large = split (is_too_large page_words x)
+                  (λ t. absurd (small (
+                    x,
+                    ap (new_object s.plain) (sym is) ∙ q,
+                    is_over (most_data_pages page_words) (data_pages page_words x) t,
+                  )))
+                  (λ n. n)
 
       acted : (fr : List Frame) → slice_get s.plain.goroutines g ≡ Some fr → (o : Option Acted)
           → alone (erased code) s.plain.memory fr ≡ o → option_map (after s.plain g) o ≡ Some next

@@ -198,14 +198,14 @@ module _ (code : Code) (page_words : ℕ) (s : RegionState) (g : ℕ) (h : Holde
       (instructed_with code s g frame callers call next given)
   behind frames given q d same =
       fine_plain code s (instructed_with code s g frame callers call next given) g h
-      (behind_holder (record h { fills = same.fills }) frames') fine e refl hs refl refl as_long the_others
-      (subst (λ x. GoodHolder code x (behind_holder (record h { fills = same.fills }) frames'))
+      (behind_holder (record h { fills = same.fills; reserved = same.reserved }) frames') fine e refl hs refl refl as_long the_others
+      (subst (λ x. GoodHolder code x (behind_holder (record h { fills = same.fills; reserved = same.reserved }) frames'))
       (sym (goroutines frames q))
-      (returned_good code checked written frame call value is cur (record h { fills = same.fills }) callers
+      (returned_good code checked written frame call value is cur (record h { fills = same.fills; reserved = same.reserved }) callers
       h.environments h.duties (none_owed h.duties d) good.core good.base_once good.fit good.shares))
     where
       hs : (instructed_with code s g frame callers call next given).holders
-          ≡ slice_set s.holders g (behind_holder (record h { fills = same.fills }) frames')
+          ≡ slice_set s.holders g (behind_holder (record h { fills = same.fills; reserved = same.reserved }) frames')
       hs =
           ap (λ x. slice_set s.holders g (unless_trapped next.ended given.0
           (holder_after code given.0 frame callers call.op (frames_of next g))) ++ x)
@@ -216,7 +216,7 @@ module _ (code : Code) (page_words : ℕ) (s : RegionState) (g : ℕ) (h : Holde
           (holder_after code given.0 frame callers call.op (frames_of next g)))
           ∙ ap (λ x. slice_set s.holders g (holder_after code given.0 frame callers x (frames_of next g))) is
           ∙ ap (λ (x : Holder). slice_set s.holders g (behind_holder x (frames_of next g))) same.same
-          ∙ ap (λ x. slice_set s.holders g (behind_holder (record h { fills = same.fills }) x)) (goroutines frames q)
+          ∙ ap (λ x. slice_set s.holders g (behind_holder (record h { fills = same.fills; reserved = same.reserved }) x)) (goroutines frames q)
 
   is_returned : alone (erased code) s.plain.memory (frame ∷ callers) ≡ Some acted
   is_returned =

@@ -228,6 +228,7 @@ module _ (code : Code) (checked : IsChecked code) (written : Ascends code) (fram
             (passed (region_parameters callee) (passed_regions (top_names environments) passes)) ∷ [];
         base = twice (passed_regions (top_names environments) passes);
         fills = [];
+        reserved = 0;
         duties = map Remove callee.entry ++ next_duties code frames;
         offer = NoOffer;
       }
@@ -591,22 +592,22 @@ module _ (code : Code) (page_words : ℕ) (s : RegionState) (g : ℕ) (h : Holde
   behind callee frames given found q d same =
       fine_started code s (instructed_with code s g frame callers instr (next callee) given) g h
       (parent_of code checked written frame callers instr n from passes removes is cur
-      (record h { fills = same.fills }) h.environments (frame' ∷ callers))
+      (record h { fills = same.fills; reserved = same.reserved }) h.environments (frame' ∷ callers))
       (child_of code checked written frame callers instr n from passes removes is cur
-      (record h { fills = same.fills }) h.environments callee (entered callee ∷ []))
+      (record h { fills = same.fills; reserved = same.reserved }) h.environments callee (entered callee ∷ []))
       (frame' ∷ callers) (entered callee ∷ []) fine e refl hs refl refl refl refl refl all.once all.parent all.child
     where
       all : Started code checked written frame callers instr n from passes removes is cur
-          (record h { fills = same.fills }) h.environments frame' (entered callee) callee
+          (record h { fills = same.fills; reserved = same.reserved }) h.environments frame' (entered callee) callee
       all = started code checked written frame callers instr n from passes removes is cur
-          (record h { fills = same.fills }) h.environments h.duties frame' (entered callee) callee refl refl refl refl
+          (record h { fills = same.fills; reserved = same.reserved }) h.environments h.duties frame' (entered callee) callee refl refl refl refl
           found (none_owed h.duties d) good.core good.base_once good.fit good.shares
 
       hs : (instructed_with code s g frame callers instr (next callee) given).holders
-          ≡ slice_set s.holders g (record (record h { fills = same.fills })
+          ≡ slice_set s.holders g (record (record h { fills = same.fills; reserved = same.reserved })
           { pending = []; duties = map Remove removes ++ next_duties code (frame' ∷ callers) })
           ++ child_of code checked written frame callers instr n from passes removes is cur
-          (record h { fills = same.fills }) h.environments callee (entered callee ∷ []) ∷ []
+          (record h { fills = same.fills; reserved = same.reserved }) h.environments callee (entered callee ∷ []) ∷ []
       hs =
           ap (λ x. slice_set s.holders g (unless_trapped x given.0
           (holder_after code given.0 frame callers instr.op (frames_of (next callee) g)))
@@ -622,7 +623,7 @@ module _ (code : Code) (page_words : ℕ) (s : RegionState) (g : ℕ) (h : Holde
           ∙ ap (λ (x : Holder). slice_set s.holders g (holder_after code x frame callers (Go n from passes removes)
           (frame' ∷ callers)) ++ child_holder code x (Go n from passes removes) (entered callee ∷ [])) same.same
           ∙ ap (λ (o : Option CodeFn). slice_set s.holders g
-          (holder_after code (record h { fills = same.fills }) frame callers (Go n from passes removes)
+          (holder_after code (record h { fills = same.fills; reserved = same.reserved }) frame callers (Go n from passes removes)
           (frame' ∷ callers)) ++ record {
             stakes = h.pending;
             pending = [];
@@ -630,6 +631,7 @@ module _ (code : Code) (page_words : ℕ) (s : RegionState) (g : ℕ) (h : Holde
                 (passed_regions (top_names h.environments) passes)) ∷ [];
             base = twice (passed_regions (top_names h.environments) passes);
             fills = [];
+            reserved = 0;
             duties = map Remove (entry_removes o) ++ next_duties code (entered callee ∷ []);
             offer = NoOffer;
           } ∷ []) found

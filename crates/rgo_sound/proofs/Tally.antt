@@ -21,7 +21,7 @@ use Rattle.rgo_region_machine.specs.Duties.{attend, attended, duty_done, guards,
 use Rattle.rgo_region_machine.specs.Duties.{unprotected}
 use Rattle.rgo_region_machine.specs.Instructions.{has_none, plain_after}
 use Rattle.rgo_region_machine.specs.Machine.{Acknowledge, Attend, Event, Finish, Instruct, MakeOffer, TakePage}
-use Rattle.rgo_region_machine.specs.Machine.{next_object, page_for, region_step, take_page, takes_page}
+use Rattle.rgo_region_machine.specs.Machine.{page_for, region_step, take_page, takes_page, page_before}
 use Rattle.rgo_region_machine.specs.Objects.{fill_of, wants_page}
 use Rattle.rgo_region_machine.specs.Offers.{acknowledge, make_offer, offer_for, offered}
 use Rattle.rgo_region_machine.specs.Regions.{RegionInfo, bound, has_stakes, is_live, one_fewer, one_more, one_page_more}
@@ -30,6 +30,7 @@ use Rattle.rgo_region_machine.specs.States.{Create, Duty, EndBase, Holder, NoOff
 use Rattle.rgo_region_machine.specs.States.{Share, Standing, Taken, Unprotect, frames_of, top_names, with_top}
 use Rattle.rgo_region_machine.specs.declared.regions.Region.{Region}
 use Rattle.rgo_region_machine.specs.declared.regions.Region.TheVariants.{Global as GlobalRegion, Numbered}
+use Rattle.rgo_memory.specs.Memory.{Object}
 use Rattle.rgo_sound.specs.Tally.{TallyAdds, counts_plus, no_share, share_of, share_of_duty, share_of_first}
 use Rattle.rgo_sound.specs.Tally.{share_of_holder, share_of_last, share_of_named, share_of_plain, share_of_removal}
 use Rattle.rgo_tac.specs.Frames.{Frame}
@@ -293,10 +294,12 @@ module _ (s : RegionState) where
       → Yields (Adds s (record no_share { taken = 1 })) (take_page code page_words s g h frames)
   adds_take code page_words g h [] = yields_none
   adds_take code page_words g h (frame ∷ callers) = yields_then (page_for code page_words s g h frame) _
-      (λ i. yields_then (takes_page code page_words s g h) _ taken)
+      (λ i. yields_then (takes_page code page_words s g h) _
+      (λ q. yields_then (page_before page_words s g h q) _ (taken q)))
     where
-      taken : (q : Region) → Yields (Adds s (record no_share { taken = 1 })) (takes_page code page_words s g h q)
-      taken GlobalRegion = yields_if _ _ _ (yields _ (record {
+      taken : (q : Region) (object : Object)
+          → Yields (Adds s (record no_share { taken = 1 })) (page_before page_words s g h q object)
+      taken GlobalRegion object = yields_if _ _ _ (yields _ (record {
         made = add_none _;
         removed = add_none _;
         taken = omega arith;
@@ -306,8 +309,8 @@ module _ (s : RegionState) where
         objects = add_none _;
         goroutines = add_none _;
       })) yields_none
-      taken (Numbered r) = yields_where (has_none h.duties && may_go h.offer && is_live s.regions (Numbered r) &&
-          wants_page page_words (fill_of h.fills (Numbered r)) (next_object code s g)) _
+      taken (Numbered r) object = yields_where (has_none h.duties && may_go h.offer && is_live s.regions (Numbered r) &&
+          wants_page page_words h.reserved (fill_of h.fills (Numbered r)) object) _
           (λ l. yields _ (page_added _ r (and_third (has_none h.duties) (may_go h.offer)
           (is_live s.regions (Numbered r)) _
           l) refl refl refl refl))

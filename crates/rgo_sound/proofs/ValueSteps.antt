@@ -39,8 +39,8 @@ use Rattle.rgo_region_machine.specs.Instructions.{child_holder, holder_after, in
 use Rattle.rgo_region_machine.specs.Instructions.{unless_trapped}
 use Rattle.rgo_region_machine.specs.Machine.{Acknowledge, Attend, Event, Finish, Instruct, MakeOffer, TakePage}
 use Rattle.rgo_region_machine.specs.Machine.{finished, main_holder, page_for, page_taken, region_start, region_step}
-use Rattle.rgo_region_machine.specs.Machine.{take_page, takes_page}
-use Rattle.rgo_region_machine.specs.Objects.{making_region}
+use Rattle.rgo_region_machine.specs.Machine.{take_page, takes_page, page_before}
+use Rattle.rgo_region_machine.specs.Objects.{making_region, with_page}
 use Rattle.rgo_region_machine.specs.Offers.{acknowledge, make_offer, offer_for, offered}
 use Rattle.rgo_region_machine.specs.Regions.{Bindings, bound, removed_once, unbind}
 use Rattle.rgo_region_machine.specs.States.{Create, Duty, EndBase, Environment, Holder, NoOffer, Offer, Protect}
@@ -49,6 +49,7 @@ use Rattle.rgo_region_machine.specs.States.{frames_of, top_names, with_top}
 use Rattle.rgo_region_machine.specs.declared.limits.Limit.{Limit}
 use Rattle.rgo_region_machine.specs.declared.regions.Region.{Region}
 use Rattle.rgo_region_machine.specs.declared.regions.Region.TheVariants.{Global as GlobalRegion, Numbered}
+use Rattle.rgo_memory.specs.Memory.{Object}
 use Rattle.rgo_sound.specs.Core.{AreStaked, NamesStaked}
 use Rattle.rgo_sound.specs.Good.{Good}
 use Rattle.rgo_sound.specs.Invariant.{Fine, FramesFit, GoodHolder, HasInstr, IsFree, IsReady, Settled, Stands}
@@ -282,11 +283,12 @@ module _ (code : Code) (s : RegionState) (values : ValuesStay code s) where
       → Yields (ValuesStay code) (take_page code page_words s g h frames)
   values_take g h page_words [] e = yields_none
   values_take g h page_words (frame ∷ callers) e = yields_then (page_for code page_words s g h frame) _
-      (λ i. yields_then (takes_page code page_words s g h) _ (λ r. yields_if _ _ _ (taken r) yields_none))
+      (λ i. yields_then (takes_page code page_words s g h) _ (λ r. yields_then (page_before page_words s g h r) _
+      (λ x. yields_if _ _ _ (taken r x) yields_none)))
     where
-      taken : (r : Region) → Yields (ValuesStay code) (Some (page_taken s g h r))
-      taken GlobalRegion = yields _ (with_same _ g h _ e refl refl refl refl)
-      taken (Numbered r) = yields _ (with_same _ g h _ e refl refl refl refl)
+      taken : (r : Region) (x : Object) → Yields (ValuesStay code) (Some (page_taken s g (with_page page_words h r x) r))
+      taken GlobalRegion x = yields _ (with_same _ g h _ e refl refl refl refl)
+      taken (Numbered r) x = yields _ (with_same _ g h _ e refl refl refl refl)
 
   values_make : (g : ℕ) (h : Holder) (frames : List Frame) → slice_get s.holders g ≡ Some h
       → Yields (ValuesStay code) (make_offer code s g h frames)

@@ -1,6 +1,6 @@
 -- What holds in every state of every region run of checked code.
 use Rattle.std.specs.Prelude.{Contains, List, Some, [], length, map, max, slice_get, true, ℕ, ◌*◌, ◌++◌, ◌+◌, ◌∷◌, ◌≡◌}
-use Rattle.std.specs.Prelude.{◌≤◌}
+use Rattle.std.specs.Prelude.{◌≤◌, false}
 use Rattle.rgo_code.specs.Checked.{IsChecked}
 use Rattle.rgo_code.specs.Code.{Code, CodeFn, Slot}
 use Rattle.rgo_code.specs.NameRules.{Ascends}
@@ -8,8 +8,10 @@ use Rattle.rgo_code.specs.Names.{distinct_names, result_class}
 use Rattle.rgo_memory.specs.Memory.{Channel, Object, SliceObject, StructObject}
 use Rattle.rgo_memory.specs.declared.values.Value.{Value}
 use Rattle.rgo_region_machine.specs.Counts.{counts_of}
-use Rattle.rgo_region_machine.specs.Machine.{Event, region_run, region_step}
+use Rattle.rgo_region_machine.specs.Machine.{Event, next_object, region_run, region_step}
+use Rattle.rgo_region_machine.specs.Objects.{is_spread}
 use Rattle.rgo_region_machine.specs.Regions.{RegionInfo, is_live}
+use Rattle.rgo_region_machine.specs.Room.{enough_pages}
 use Rattle.rgo_region_machine.specs.States.{Holder, RegionState}
 use Rattle.rgo_region_machine.specs.declared.regions.Region.{Region}
 use Rattle.rgo_sound.specs.Holding.{OneHoldingName}
@@ -46,21 +48,21 @@ abbrev pub AllEnded : RegionState → Type 0
 AllEnded s = (g : ℕ) (h : Holder) → slice_get s.holders g ≡ Some h → HasEnded s g h
 
 -- pages are bounded by objects, regions by names, and all regions are removed in the end
-pub record CountsFit (code : Code) (s : RegionState) : Type 0 where
-  pub pages : (counts_of s).taken ≤ (counts_of s).objects + (counts_of s).goroutines
+pub record CountsFit (code : Code) (page_words : ℕ) (s : RegionState) : Type 0 where
+  pub pages : (counts_of s).taken ≤ enough_pages code page_words s
   pub regions : (counts_of s).made ≤ ((counts_of s).steps + (counts_of s).goroutines) * most_names code.functions
   pub all_removed : AllEnded s → (counts_of s).made ≡ (counts_of s).removed
 
 -- what holds in every state of a run of checked code
-pub record IsSafe (code : Code) (s : RegionState) : Type 0 where
+pub record IsSafe (code : Code) (page_words : ℕ) (s : RegionState) : Type 0 where
   pub stakes : StakesAreCounted s
   pub names : OneHoldingName s
   pub pointers : PointersStay s
-  pub counts : CountsFit code s
+  pub counts : CountsFit code page_words s
 
 abbrev pub Safety : Type 0
 Safety = (code : Code) (page_words : ℕ) (events : List Event) (s : RegionState) → IsChecked code → Ascends code
-    → region_run code page_words events ≡ Some s → IsSafe code s
+    → region_run code page_words events ≡ Some s → IsSafe code page_words s
 
 -- a region whose last stake has ended stays as it was: none is removed twice, and none gets a page after its removal
 abbrev pub RemovedStays : Type 0
@@ -68,3 +70,11 @@ RemovedStays =
     (code : Code) (page_words : ℕ) (s t : RegionState) (event : Event) (r : ℕ) (info : RegionInfo)
     → region_step code page_words s event ≡ Some t →
     slice_get s.regions r ≡ Some info → info.stakes ≡ 0 → slice_get t.regions r ≡ Some info
+
+-- where no object is spread, the bound on pages is the number of objects and goroutines
+abbrev pub WholeIsEnough : Type 0
+WholeIsEnough =
+    (code : Code) (page_words : ℕ) (s : RegionState)
+    → ((o : ℕ) (object : Object) → slice_get s.plain.memory.heap o ≡ Some object → is_spread page_words object ≡ false) →
+    ((g : ℕ) (object : Object) → next_object code s g ≡ Some object → is_spread page_words object ≡ false) →
+    enough_pages code page_words s ≡ (counts_of s).objects + (counts_of s).goroutines

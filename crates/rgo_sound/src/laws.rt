@@ -8,9 +8,10 @@ ghost use Rattle.rgo_sound.specs.Leaving.{OffersStay, OthersStay};
 ghost use Rattle.rgo_sound.specs.NextNames.{NamesOnlyLive};
 ghost use Rattle.rgo_sound.specs.Owners.{OwnersStayMade};
 ghost use Rattle.rgo_sound.specs.Progress.{NoStepMissing};
+ghost use Rattle.rgo_sound.specs.Reserved.{ReservedForNext};
 ghost use Rattle.rgo_sound.specs.Room.{RoomIsKept};
 ghost use Rattle.rgo_sound.specs.Running.{RunsOn};
-ghost use Rattle.rgo_sound.specs.Safety.{Safety, RemovedStays};
+ghost use Rattle.rgo_sound.specs.Safety.{Safety, RemovedStays, WholeIsEnough};
 ghost use Rattle.rgo_sound.specs.Tally.{TallyAdds};
 ghost use Rattle.rgo_sound.specs.Types.{TypesKeep};
 
@@ -57,6 +58,16 @@ pub fn no_step_missing()
 /// Stakes are counted, each is kept by one name, pointers stay in their regions, and all is removed in the end.
 pub fn safety()
     ensures { Safety }
+{}
+
+/// Where no object is spread, the bound on pages is the number of objects and goroutines.
+pub fn whole_is_enough()
+    ensures { WholeIsEnough }
+{}
+
+/// Pages are reserved only for the spread object that their goroutine makes next, and no more than it needs.
+pub fn reserved_for_next()
+    ensures { ReservedForNext }
 {}
 
 /// A run that takes a page only where fewer are in use than there may be, and creates a region only where fewer are live,

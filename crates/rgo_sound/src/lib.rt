@@ -5,8 +5,8 @@ mod laws;
 
 pub use laws::{
     erasure, examples, names_only_live, no_step_missing, offers_stay, others_stay,
-    owners_stay_made, removed_stays, room_is_kept, runs_on, safety, start_is_good, steps_keep_good,
-    tally_adds, types_keep,
+    owners_stay_made, removed_stays, reserved_for_next, room_is_kept, runs_on, safety,
+    start_is_good, steps_keep_good, tally_adds, types_keep, whole_is_enough,
 };
 
 // The crates below that those above name too.

@@ -1,0 +1,5 @@
+use Rattle.rgo_sound.proofs.Paged as lemmas
+use Rattle.rgo_sound.proofs.laws.reserved_for_next.Goals as goal
+
+pub returns : goal.returns
+returns c = lemmas.reserved_for_next

@@ -1,0 +1,5 @@
+use Rattle.rgo_sound.proofs.Whole as lemmas
+use Rattle.rgo_sound.proofs.laws.whole_is_enough.Goals as goal
+
+pub returns : goal.returns
+returns c = lemmas.whole_is_enough
