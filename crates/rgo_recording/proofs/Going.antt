@@ -1,6 +1,6 @@
 -- A run that lacks room for what some goroutine does next is in no deadlock: without its regions that goroutine has a step.
 -- The same is true before a call and before the start of a goroutine.
-use Rattle.std.proofs.Common.{◌≡◌, ℕ, zero, suc, Bool, true, false, ◌&&◌, List, [], ◌∷◌, drop, Option, Some, None, IsSome}
+use Rattle.std.proofs.Common.{◌≡◌, ℕ, zero, suc, List, [], ◌∷◌, drop, Option, Some, None, IsSome}
 use Rattle.std.proofs.Common.{refl, sym, ap, ◌∙◌, subst, arith, true≢false, slice_get, option_and_then}
 use Rattle.std.proofs.lemmas.Option.{slice_get_within}
 use Rattle.rgo_memory.specs.Memory.{Memory}
@@ -21,15 +21,14 @@ use Rattle.rgo_tac.specs.Tac.{TacState, tac}
 use Rattle.rgo_code.specs.Checked.{IsChecked}
 use Rattle.rgo_code.specs.Code.{Code}
 use Rattle.rgo_code.specs.Erasure.{erased}
-use Rattle.rgo_region_machine.specs.Duties.{may_go}
-use Rattle.rgo_region_machine.specs.Instructions.{has_none}
-use Rattle.rgo_region_machine.specs.Machine.{TakePage, object_made, page_for, page_taken, plain_step, region_step, take_page, takes_page}
-use Rattle.rgo_region_machine.specs.Objects.{fill_of, wants_page}
+use Rattle.rgo_region_machine.specs.declared.regions.Region.{Region}
+use Rattle.rgo_region_machine.specs.Machine.{TakePage, object_made, page_before, page_for, page_taken, plain_step}
+use Rattle.rgo_region_machine.specs.Machine.{region_step, take_page, takes_page}
+use Rattle.rgo_region_machine.specs.Objects.{new_object, with_page}
 use Rattle.rgo_region_machine.specs.Owed.{current, next_duties}
-use Rattle.rgo_region_machine.specs.Regions.{is_live}
 use Rattle.rgo_region_machine.specs.States.{Create, Duty, RegionState, frames_in, frames_of}
 use Rattle.rgo_region_machine.specs.States as spec
-use Rattle.rgo_sound.proofs.ErasureLemmas.{Yields, yields, yields_then, yields_where}
+use Rattle.rgo_sound.proofs.ErasureLemmas.{Yields, yields, yields_if, yields_none, yields_then}
 use Rattle.rgo_sound.proofs.Places.{get_some}
 use Rattle.rgo_sound.proofs.OneStep.{StandsAt, stands_at_channel}
 use Rattle.rgo_driver.specs.declared.ends.RunEnd.TheVariants as run_end
@@ -105,12 +104,6 @@ module _ {F : Type 0} (machine : Machine F) (s : State F) where
 
 -- ---- pages: the next instruction makes an object
 
-all_last : (a b c d : Bool) → (a && b && c && d) ≡ true → d ≡ true
-all_last true true true d e = e
-all_last true true false d e = cc
-all_last true false c d e = cc
-all_last false b c d e = cc
-
 some_of : {X : Type 0} (Q : Type 0) (o : Option X) → Yields (λ _. Q) o → IsSome o → Q
 some_of Q None y is = absurd (true≢false (sym is))
 some_of Q (Some x) y is = y.fact
@@ -119,18 +112,17 @@ module _ (code : Code) (page_words : ℕ) (s : RegionState) (g : ℕ) where
   abbrev Steps : Type 0
   Steps = (next : TacState) × (plain_step code s.plain (One g) ≡ Some next)
 
-  makes : (o : Option TacState) (used : Option ℕ) → plain_step code s.plain (One g) ≡ o
-      → wants_page page_words used (object_made s o) ≡ true → Steps
-  makes None used is wants = absurd (true≢false (sym wants))
-  makes (Some next) used is wants = (next, is)
+  makes : (h : spec.Holder) (r : Region) (o : Option TacState) → plain_step code s.plain (One g) ≡ o
+      → Yields (λ _. Steps) (option_and_then (page_before page_words s g h r) (object_made s o))
+  makes h r None is = record { fact = tt }
+  makes h r (Some next) is = yields_then (page_before page_words s g h r) (new_object s.plain next)
+      (λ object. yields_if _ _ _ (yields (page_taken s g (with_page page_words h r object) r) (next, is)) yields_none)
 
   page_steps : (h : spec.Holder) (frames : List Frame) → Yields (λ _. Steps) (take_page code page_words s g h frames)
   page_steps h [] = record { fact = tt }
   page_steps h (frame ∷ callers) = yields_then (page_for code page_words s g h frame) (current code frame)
       (λ i. yields_then (takes_page code page_words s g h) _
-      (λ r. yields_where _ (Some (page_taken s g h r)) (λ all. yields (page_taken s g h r)
-      (makes (plain_step code s.plain (One g)) (fill_of h.fills r) refl
-      (all_last (has_none h.duties) (may_go h.offer) (is_live s.regions r) _ all)))))
+      (λ r. makes h r (plain_step code s.plain (One g)) refl))
 
   taking_steps : IsSome (region_step code page_words s (TakePage g)) → Steps
   taking_steps = some_of Steps (region_step code page_words s (TakePage g))

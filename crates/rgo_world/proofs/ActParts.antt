@@ -1,13 +1,10 @@
 -- An instruction that is no call, no start and no return, from its parts: where there is no room for the object that it
 -- makes, where it makes one, and where it makes none.
-use Rattle.std.proofs.Common.{◌≡◌, ℕ, true, ◌&&◌, List, [], length, Option, Some, None, refl, sym, ap, ◌∙◌, subst}
-use Rattle.std.proofs.Common.{nat_le, arith, slice_get}
+use Rattle.std.proofs.Common.{◌≡◌, ℕ, true, ◌&&◌, List, [], length, Option, Some, None, sym, ap, ◌∙◌, subst}
+use Rattle.std.proofs.Common.{nat_le, slice_get}
 use Rattle.std.specs.List.{list_all}
-use Rattle.std.proofs.lemmas.List.{append-nil}
 use Rattle.rgo_typed.specs.declared.programs.Struct.{Struct}
 use Rattle.rgo_machine.specs.declared.limits.Limits.{Limits}
-use Rattle.rgo_machine.specs.declared.turns.Shortage.{Shortage}
-use Rattle.rgo_machine.specs.declared.turns.Stop.TheVariants as stop
 use Rattle.rgo_machine.specs.declared.turns.Turned.{Turned}
 use Rattle.rgo_machine.specs.Limits.{has_room, is_within, most_goroutines}
 use Rattle.rgo_tac.specs.Frames.{Frame}
@@ -15,7 +12,7 @@ use Rattle.rgo_tac.specs.Ops.{operation_of}
 use Rattle.rgo_tac.specs.Tac.{TacState}
 use Rattle.rgo_code.specs.Code.{Code}
 use Rattle.rgo_region_machine.specs.Owed.{removes_behind}
-use Rattle.rgo_region_machine.specs.States.{RegionState, end_in, plain_at}
+use Rattle.rgo_region_machine.specs.States.{RegionState, plain_at}
 use Rattle.rgo_world.specs.declared.objects.Making.{Making}
 use Rattle.rgo_world.specs.declared.worlds.Halt.{Halt}
 use Rattle.rgo_world.specs.declared.worlds.Halt.TheVariants as halt
@@ -23,9 +20,8 @@ use Rattle.rgo_world.specs.declared.worlds.Next.{Next}
 use Rattle.rgo_world.specs.declared.worlds.World.{World}
 use Rattle.rgo_world.specs.Objects.{HasNoRoom, HasRoom, IsRoomy, MakesNext, RemovesBehind, making_by}
 use Rattle.rgo_world.specs.Works.{IsNext, IsNextOf, IsReady, Ready, TakesStep, first_of, halted, newest_of}
-use Rattle.rgo_region_machine.specs.Room.{LacksIn}
 use Rattle.rgo_world.proofs.OneHolder.{the_same}
-use Rattle.rgo_world.proofs.Taking.{takes_after, takes_nothing}
+use Rattle.rgo_world.proofs.Taking.{takes_after, takes_nothing, takes_short}
 
 -- ---- the newest frame
 
@@ -66,28 +62,8 @@ made_next w g next at frame structs o is same made =
 pub turn_halted : (why : Halt) (w v : World) (s : RegionState) (limits : Limits) (g : ℕ) → Ready w s g
     → HasNoRoom why w v g → TakesStep w v limits s g 1 (halted why)
 turn_halted halt.NoMemory w v s limits g ready same = takes_nothing w v s limits g ready.between.running same
-turn_halted (halt.NoRoom why) w v s limits g ready (same, lacks) =
-    subst (λ u. TakesStep w u limits s g 1 (halted (halt.NoRoom why))) (sym same) (record {
-      events = [];
-      state = s;
-      leads = refl;
-      turns = record {
-        leads = refl;
-        within = omega arith;
-        over = ap end_in ready.between.running;
-        channels = λ o channel e. e;
-        print = refl;
-      };
-      code = refl;
-      sizes = refl;
-      shown = λ n. (ready.between.prepared, ready.between.shown);
-      between = λ n m. ready.between;
-      lacks = λ other e. subst (λ x. LacksIn w.code.now w.sizes x s) (the_why why other e) (lacks s ready);
-      prints = record { bytes = []; whole = sym (append-nil s.plain.printed); kept = sym (append-nil w.state.printed) };
-    })
-  where
-    the_why : (a b : Shortage) → stop.NoRoom a ≡ stop.NoRoom b → a ≡ b
-    the_why a b e = cc
+turn_halted (halt.NoRoom why) w v s limits g ready stops =
+    takes_short w v limits g why s ready.between.running (stops s ready)
 
 -- ---- where an object is made
 

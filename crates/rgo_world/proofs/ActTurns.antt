@@ -1,5 +1,5 @@
 -- Turns of an instruction that is no call, no start and no return: where it makes no object, and where it makes one.
-use Rattle.std.proofs.Common.{◌≡◌, ◌⊎◌, inl, inr, ℕ, ◌+◌, ◌≤◌, true, false, List, [], ◌∷◌, ◌++◌, map}
+use Rattle.std.proofs.Common.{◌≡◌, ◌⊎◌, inl, inr, ℕ, ◌+◌, ◌-◌, ◌≤◌, ◌<◌, Bool, true, false, if◌then◌else◌, List, [], ◌∷◌, ◌++◌, map}
 use Rattle.std.proofs.Common.{length, Option, Some, None, refl, sym, ap, ◌∙◌, subst, nat_le, nat_lt, arith, true≢false}
 use Rattle.std.proofs.Common.{slice_get, slice_set, unwrap_or}
 use Rattle.std.proofs.lemmas.Bool.Decides.{nat_tests}
@@ -26,23 +26,25 @@ use Rattle.rgo_region_machine.specs.States.{Duty, RegionState, Remove, frames_of
 use Rattle.rgo_sound.proofs.Acting.{after, no_end, set_same}
 use Rattle.rgo_sound.proofs.OneStep.{IsSimple}
 use Rattle.rgo_sound.proofs.Places.{get_append_left}
+use Rattle.rgo_sound.proofs.Tests.{split}
 use Rattle.rgo_world.specs.declared.holders.Holder.{Holder}
 use Rattle.rgo_world.specs.declared.objects.Making.{Making}
 use Rattle.rgo_world.specs.declared.worlds.Next.{Next}
 use Rattle.rgo_world.specs.declared.worlds.World.{World}
-use Rattle.rgo_world.specs.Holders.{Fills, HolderShows, fill_in}
-use Rattle.rgo_world.specs.Objects.{IsRoomy, MakesNone, Places, fill_for, making_by, region_for}
+use Rattle.rgo_world.specs.Extents.{data_pages, is_spread, pages_wanted}
+use Rattle.rgo_world.specs.Holders.{Fills, HolderShows, Reserves, fill_in}
+use Rattle.rgo_world.specs.Objects.{IsRoomy, MakesNone, Placed, Places, fill_held, making_by, region_for}
 use Rattle.rgo_world.specs.Tables.{TableShows}
 use Rattle.rgo_world.specs.Works.{ActsNext, OthersOwe, Ready, SameRun, Settled, TakesStep, TakesTurn, Works, goes_by}
 use Rattle.rgo_world.proofs.Acts.{ActsSo, acts_so, ends_so, next_state, next_step, others_so, prepared_so, simple_next}
 use Rattle.rgo_world.proofs.Acts.{still_running, works_so}
 use Rattle.rgo_world.proofs.Attending.{same_then, shown_holder, there_is}
-use Rattle.rgo_world.proofs.Instructed.{allots, its_region, made, making_act, making_acts, no_object, region_live}
+use Rattle.rgo_world.proofs.Instructed.{allots, allots_spread, its_region, made, making_act, making_acts, no_object, region_live}
 use Rattle.rgo_world.proofs.Lifting.{live_not_gone}
 use Rattle.rgo_world.proofs.LiftingGood.{StepShows}
 use Rattle.rgo_world.proofs.LiftingMemory.{NoneGone, kept_length}
 use Rattle.rgo_world.proofs.OneHolder.{the_same}
-use Rattle.rgo_world.proofs.Paging.{fill_shown, fill_unmade}
+use Rattle.rgo_world.proofs.Paging.{fill_shown, fill_unmade, reserve_shown}
 use Rattle.rgo_world.proofs.PlainTurns.{goes_running, stays_ended}
 use Rattle.rgo_world.proofs.Rooms.{before, fill_is, is_making, region_found}
 use Rattle.rgo_world.proofs.Taking.{leads_on, none_or_one, shows_step, takes_end, takes_fail, takes_none, takes_settled}
@@ -104,7 +106,13 @@ module _ (w v : World) (s : RegionState) (limits : Limits) (g : ℕ) {frame : Fr
       → allotted w.sizes.page_words ready.works.holder
       (making_region (function_at w.code.now frame) (top_names ready.works.holder.environments)
       instr.op) (new_object s.plain (after s.plain g x.act))
-      ≡ Some (record ready.works.holder { fills = ready.works.holder.fills }, [])
+      ≡ Some (
+        record ready.works.holder {
+          fills = ready.works.holder.fills;
+          reserved = ready.works.holder.reserved;
+        },
+        [],
+      )
   fitting one x = ap (allotted w.sizes.page_words ready.works.holder
       (making_region (function_at w.code.now frame) (top_names ready.works.holder.environments)
       instr.op)) (no_object i none x.act x.acts)
@@ -121,14 +129,14 @@ module _ (w v : World) (s : RegionState) (limits : Limits) (g : ℕ) {frame : Fr
       ended : (one : turned.steps ≡ 1) → (x : ActsSo w v s limits g turned ready i takes one)
           → (e : End) × (v.state.ended ≡ Some e) → TakesStep w v limits s g 1 turned
       ended one x (e, q) =
-          let n = ends_so w v s limits g turned ready i takes one x ready.works.holder.fills []
+          let n = ends_so w v s limits g turned ready i takes one x ready.works.holder.fills ready.works.holder.reserved []
           (fitting one x) tt v (v_is w v s limits g turned ready takes) table_now e q in
           takes_end w v s limits g turned ready.between takes one
-          (next_state w v s limits g turned ready i takes one x ready.works.holder.fills []
+          (next_state w v s limits g turned ready i takes one x ready.works.holder.fills ready.works.holder.reserved []
           (fitting one x) tt)
-          (next_step w v s limits g turned ready i takes one x ready.works.holder.fills []
+          (next_step w v s limits g turned ready i takes one x ready.works.holder.fills ready.works.holder.reserved []
           (fitting one x) tt) refl refl [] tt refl refl
-          (prepared_so w v s limits g turned ready i takes one x ready.works.holder.fills []
+          (prepared_so w v s limits g turned ready i takes one x ready.works.holder.fills ready.works.holder.reserved []
           (fitting one x) tt v (v_is w v s limits g turned ready takes) table_now) n.1 n.0
 
       go : (turned.steps ≡ 0) ⊎ (turned.steps ≡ 1) → TakesStep w v limits s g 1 turned
@@ -160,28 +168,32 @@ module _ (w v : World) (s : RegionState) (limits : Limits) (g : ℕ) {frame : Fr
       go : (x : ActsSo w v s limits g turned ready i takes one) → TakesStep w u limits s g 1 turned
       go x =
           takes_settled w v s limits g turned ready.between takes one t
-          (next_step w v s limits g turned ready i takes one x ready.works.holder.fills []
+          (next_step w v s limits g turned ready i takes one x ready.works.holder.fills ready.works.holder.reserved []
           (fitting one x) tt) refl refl [] tt refl refl u
           (settles t (subst (λ ds. Works v t g ds)
           (λ j. map Remove (sym is j) ++ next_duties (sym code j) (frames_of t.plain g)) works) others)
-          (still_running w v s limits g turned ready i takes one x ready.works.holder.fills []
+          (still_running w v s limits g turned ready i takes one x ready.works.holder.fills ready.works.holder.reserved []
           (fitting one x) tt v (v_is w v s limits g turned ready takes) table_now running)
         where
           t : RegionState
-          t = next_state w v s limits g turned ready i takes one x ready.works.holder.fills []
+          t = next_state w v s limits g turned ready i takes one x ready.works.holder.fills ready.works.holder.reserved []
               (fitting one x) tt
 
           same : v.holders.items ≡ slice_set w.holders.items g kept.0
           same = ap (λ (x : World). x.holders.items) takes.same ∙ sym (set_same w.holders.items g kept.0 kept.1)
 
-          shows_now : (ds : List Duty) → HolderShows kept.0 (record ready.works.holder
-              { fills = ready.works.holder.fills; duties = ds })
+          shows_now : (ds : List Duty) → HolderShows kept.0 (record ready.works.holder {
+            fills = ready.works.holder.fills;
+            reserved = ready.works.holder.reserved;
+            duties = ds;
+          })
           shows_now ds = record {
             names = shows.names;
             protections = shows.protections;
             base = shows.base;
             fills = shows.fills;
             global_fill = shows.global_fill;
+            reserved = shows.reserved;
             no_offer = shows.no_offer;
           }
 
@@ -192,12 +204,12 @@ module _ (w v : World) (s : RegionState) (limits : Limits) (g : ℕ) {frame : Fr
 
           works : Works v t g (map Remove (removes_behind frame instr.op)
               ++ next_duties w.code.now (frames_of t.plain g))
-          works = works_so w v s limits g turned ready i takes one x ready.works.holder.fills []
+          works = works_so w v s limits g turned ready i takes one x ready.works.holder.fills ready.works.holder.reserved []
               (fitting one x) tt v (v_is w v s limits g turned ready takes) table_now running simple kept.0 kept.0
               kept.1 same shows_now unmade
 
           others : OthersOwe v t g
-          others = others_so w v s limits g turned ready i takes one x ready.works.holder.fills []
+          others = others_so w v s limits g turned ready i takes one x ready.works.holder.fills ready.works.holder.reserved []
               (fitting one x) tt v (v_is w v s limits g turned ready takes) table_now running simple kept.0 kept.0
               kept.1 same shows_now unmade
 
@@ -260,16 +272,95 @@ module _ (w v : World) (s : RegionState) (limits : Limits) (g : ℕ) (next : Nex
   unfolding r
   r_is = (its_region before_it making is_some).1
 
-  used : (used : ℕ) × (fill_of roomy.ready.works.holder.fills r ≡ Some used)
-      × (used + making.words ≤ w.sizes.page_words)
-  used = fits_used w.sizes.page_words making.words (fill_of roomy.ready.works.holder.fills r)
-      (ap (λ q. fits w.sizes.page_words (fill_of roomy.ready.works.holder.fills q) making.words)
+  abbrev page_words : ℕ
+  page_words = w.sizes.page_words
+
+  kept : (c : Holder) × (slice_get w.holders.items g ≡ Some c)
+  kept = there_is w s g [] roomy.ready.works
+
+  old : HolderShows kept.0 roomy.ready.works.holder
+  old = shown_holder w s g [] roomy.ready.works kept.0 kept.1
+
+  fill_there : fill_in kept.0 r ≡ fill_of roomy.ready.works.holder.fills r
+  unfolding r is_some
+  fill_there = sym (ap (λ o. fill_held o (its_region before_it making is_some).0) kept.1)
+      ∙ fill_is w s g next making roomy.ready roomy.makes
+
+  has_pages : pages_wanted page_words roomy.ready.works.holder.reserved (fill_of roomy.ready.works.holder.fills r)
+      making.extent ≡ 0
+  has_pages = ap (λ q. pages_wanted page_words roomy.ready.works.holder.reserved
+      (fill_of roomy.ready.works.holder.fills q) making.extent)
       (the_same r roomy.region (sym r_is
       ∙ ap (λ f. making_region f (top_names roomy.ready.works.holder.environments) roomy.makes.at.is.instr.op)
-      roomy.makes.at.is.function ∙ roomy.is_region)) ∙ roomy.fitting)
+      roomy.makes.at.is.function ∙ roomy.is_region)) ∙ roomy.has_pages
 
-  fills : List (Region × ℕ)
-  fills = with_fill roomy.ready.works.holder.fills r (used.0 + making.words)
+  -- what the goroutine has of the pages once the object lies in them
+  pub record LiesSo : Type 0 where
+    fills : List (Region × ℕ)
+    reserved : ℕ
+    allots : allotted w.sizes.page_words roomy.ready.works.holder
+        (making_region (function_at w.code.now roomy.makes.at.frame) (top_names roomy.ready.works.holder.environments)
+        roomy.makes.at.is.instr.op) (new_object s.plain (after s.plain g (making_act before_it making is_some)))
+        ≡ Some (record roomy.ready.works.holder { fills = fills; reserved = reserved }, r ∷ [])
+    shows : (d : Holder) → Placed (is_spread page_words making.extent) kept.0 d r making.extent.words → (ds : List Duty)
+        → HolderShows d (record roomy.ready.works.holder { fills = fills; reserved = reserved; duties = ds })
+    unmade : (d : Holder) → Placed (is_spread page_words making.extent) kept.0 d r making.extent.words → (q : ℕ)
+        → fill_in kept.0 (Numbered q) ≡ fill_of roomy.ready.works.holder.fills (Numbered q)
+        → fill_in d (Numbered q) ≡ fill_of fills (Numbered q)
+
+  lies_spread : is_spread page_words making.extent ≡ true → LiesSo
+  unfolding r
+  lies_spread t = record {
+    fills = roomy.ready.works.holder.fills;
+    reserved = 0;
+    allots = allots_spread before_it making is_some page_words t roomy.small all;
+    shows = λ d p ds. reserve_shown kept.0 d roomy.ready.works.holder 0 ds old (so d p);
+    unmade = λ d p q e. ap (λ (z : Holder). fill_in z (Numbered q)) (so d p) ∙ e;
+  }
+    where
+      so : (d : Holder) → Placed (is_spread page_words making.extent) kept.0 d r making.extent.words
+          → Reserves kept.0 d 0
+      so d p = subst (λ b. Placed b kept.0 d r making.extent.words) t p
+
+      none_left : (n m : ℕ) → (n + 1) - m ≡ 0 → n < m
+      none_left n m e = omega (arith, e)
+
+      all : data_pages page_words making.extent < roomy.ready.works.holder.reserved
+      all = none_left (data_pages page_words making.extent) roomy.ready.works.holder.reserved
+          (sym (ap (λ b. if b then (data_pages page_words making.extent + 1) - roomy.ready.works.holder.reserved
+          else if fits page_words (fill_of roomy.ready.works.holder.fills r) making.extent.words then 0 else 1) t)
+          ∙ has_pages)
+
+  lies_own : is_spread page_words making.extent ≡ false → LiesSo
+  unfolding r
+  lies_own f = record {
+    fills = with_fill roomy.ready.works.holder.fills r (used.0 + making.extent.words);
+    reserved = roomy.ready.works.holder.reserved;
+    allots = allots before_it making is_some page_words used.0 f used.1 used.2;
+    shows = λ d p ds. fill_shown kept.0 d roomy.ready.works.holder r (used.0 + making.extent.words) ds old (so d p);
+    unmade = λ d p q e. fill_unmade kept.0 d roomy.ready.works.holder r (Numbered q) (used.0 + making.extent.words)
+        (so d p) e;
+  }
+    where
+      fits_now : (b : Bool) → ◌≡◌ {A = ℕ} (if b then 0 else 1) 0 → b ≡ true
+      fits_now true e = refl
+      fits_now false e = cc
+
+      used : (used : ℕ) × (fill_of roomy.ready.works.holder.fills r ≡ Some used)
+          × (used + making.extent.words ≤ page_words)
+      used = fits_used page_words making.extent.words (fill_of roomy.ready.works.holder.fills r)
+          (fits_now (fits page_words (fill_of roomy.ready.works.holder.fills r) making.extent.words)
+          (sym (ap (λ b. if b then (data_pages page_words making.extent + 1) - roomy.ready.works.holder.reserved
+          else if fits page_words (fill_of roomy.ready.works.holder.fills r) making.extent.words then 0 else 1) f)
+          ∙ has_pages))
+
+      so : (d : Holder) → Placed (is_spread page_words making.extent) kept.0 d r making.extent.words
+          → Fills kept.0 d r (used.0 + making.extent.words)
+      so d p = subst (Fills kept.0 d r) (ap (λ o. unwrap_or o 0 + making.extent.words) (fill_there ∙ used.1))
+          (subst (λ b. Placed b kept.0 d r making.extent.words) f p)
+
+  lies : LiesSo
+  lies = split (is_spread page_words making.extent) lies_spread lies_own
 
   live : is_live s.regions r ≡ true
   unfolding r
@@ -296,9 +387,9 @@ module _ (w v : World) (s : RegionState) (limits : Limits) (g : ℕ) (next : Nex
     fitting_made : allotted w.sizes.page_words roomy.ready.works.holder
         (making_region (function_at w.code.now roomy.makes.at.frame) (top_names roomy.ready.works.holder.environments)
         roomy.makes.at.is.instr.op) (new_object s.plain (after s.plain g x.act))
-        ≡ Some (record roomy.ready.works.holder { fills = fills }, r ∷ [])
-    unfolding x r fills
-    fitting_made = allots before_it making is_some w.sizes.page_words used.0 used.1 used.2
+        ≡ Some (record roomy.ready.works.holder { fills = lies.fills; reserved = lies.reserved }, r ∷ [])
+    unfolding x
+    fitting_made = lies.allots
 
     y : StepShows w.code.now s w.state (One g) v.state
     y = shows_step w v s limits g turned roomy.ready.between takes one
@@ -318,7 +409,7 @@ module _ (w v : World) (s : RegionState) (limits : Limits) (g : ℕ) (next : Nex
         ∙ append-nil w.state.printed
 
     t : RegionState
-    t = next_state w v s limits g turned roomy.ready before_it takes one x fills (r ∷ []) fitting_made
+    t = next_state w v s limits g turned roomy.ready before_it takes one x lies.fills lies.reserved (r ∷ []) fitting_made
         none_gone
 
   pub making_stays : goes_by turned.stop turned.steps ≡ false → TakesStep w v limits s g 1 turned
@@ -339,7 +430,7 @@ module _ (w v : World) (s : RegionState) (limits : Limits) (g : ℕ) (next : Nex
   unfolding t y
   making_fails p goes same =
       takes_fail w v s limits g turned roomy.ready.between takes one (t one)
-      (next_step w v s limits g turned roomy.ready before_it takes one (x one) fills (r ∷ [])
+      (next_step w v s limits g turned roomy.ready before_it takes one (x one) lies.fills lies.reserved (r ∷ [])
       (fitting_made one) none_gone) refl refl (r ∷ []) none_gone refl refl p same (still one) channels
       (nothing_printed one)
     where
@@ -353,28 +444,22 @@ module _ (w v : World) (s : RegionState) (limits : Limits) (g : ℕ) (next : Nex
   -- it was placed, and what is owed after it is done
   pub making_goes : (p u : World) (object : ℕ) (removes : List ℕ) → goes_by turned.stop turned.steps ≡ true
       → object ≡ length w.state.memory.heap
-      → ((region : Region) → region_for v g next making ≡ Some region → Places v p g region making.words object)
+      → ((region : Region) → region_for v g next making ≡ Some region → Places v p g region making.extent object)
       → SameRun v p → removes ≡ removes_behind roomy.makes.at.frame roomy.makes.at.is.instr.op
       → ((z : RegionState) → Works p z g (map Remove removes ++ next_duties p.code.now (frames_of z.plain g))
       → OthersOwe p z g → Settled p u z) → TakesStep w u limits s g 1 turned
-  unfolding r fills t is_some
+  unfolding r t is_some
   making_goes p u object removes goes number place same is settles =
       takes_settled w v s limits g turned roomy.ready.between takes one (t one)
-      (next_step w v s limits g turned roomy.ready before_it takes one (x one) fills (r ∷ [])
+      (next_step w v s limits g turned roomy.ready before_it takes one (x one) lies.fills lies.reserved (r ∷ [])
       (fitting_made one) none_gone) refl refl (r ∷ []) none_gone refl refl u
       (settled_after v p u (t one) same
       (settles (t one) (subst (Works p (t one) g) owed works) others))
-      (still_running w v s limits g turned roomy.ready before_it takes one (x one) fills (r ∷ [])
+      (still_running w v s limits g turned roomy.ready before_it takes one (x one) lies.fills lies.reserved (r ∷ [])
       (fitting_made one) none_gone p p_is table (still one))
     where
       one : turned.steps ≡ 1
       one = goes_one w v s limits g turned roomy.ready takes goes
-
-      kept : (c : Holder) × (slice_get w.holders.items g ≡ Some c)
-      kept = there_is w s g [] roomy.ready.works
-
-      old : HolderShows kept.0 roomy.ready.works.holder
-      old = shown_holder w s g [] roomy.ready.works kept.0 kept.1
 
       in_w : v.holders.items ≡ w.holders.items
       in_w = ap (λ (z : World). z.holders.items) takes.same
@@ -383,7 +468,7 @@ module _ (w v : World) (s : RegionState) (limits : Limits) (g : ℕ) (next : Nex
       found = ap (λ (z : World). region_for z g next making) takes.same
           ∙ region_found w s g next making roomy.ready roomy.makes
 
-      placed : Places v p g r making.words object
+      placed : Places v p g r making.extent object
       placed = place r found
 
       p_is : p ≡ record w { state = v.state; table = p.table; holders = p.holders }
@@ -400,29 +485,29 @@ module _ (w v : World) (s : RegionState) (limits : Limits) (g : ℕ) (next : Nex
           (subst (λ z. TableShows z s.regions s.global_pages s.owners)
           (sym (table_same w v s limits g turned roomy.ready takes)) roomy.ready.works.shown.table)
 
-      used_is : unwrap_or (fill_for v g r) 0 + making.words ≡ used.0 + making.words
-      used_is = ap (λ o. unwrap_or o 0 + making.words)
-          (ap (λ (z : World). fill_for z g r) takes.same ∙ fill_there ∙ used.1)
-        where
-          fill_there : fill_for w g r ≡ fill_of roomy.ready.works.holder.fills r
-          fill_there = fill_is w s g next making roomy.ready roomy.makes
+      changed : (d : Holder) × (p.holders.items ≡ slice_set v.holders.items g d)
+          × Placed (is_spread page_words making.extent) kept.0 d r making.extent.words
+      changed =
+          let x = placed.changed kept.0 (ap (λ l. slice_get l g) in_w ∙ kept.1) in (
+            x.0,
+            x.1,
+            subst (λ n. Placed (is_spread n making.extent) kept.0 x.0 r making.extent.words)
+                (ap (λ (z : World). z.sizes.page_words) takes.same) x.2,
+          )
 
-      refilled : (d : Holder) × (p.holders.items ≡ slice_set v.holders.items g d)
-          × Fills kept.0 d r (unwrap_or (fill_for v g r) 0 + making.words)
-      refilled = placed.refilled kept.0 (ap (λ l. slice_get l g) in_w ∙ kept.1)
+      p_holders : p.holders.items ≡ slice_set w.holders.items g changed.0
+      p_holders = changed.1 ∙ ap (λ l. slice_set l g changed.0) in_w
 
-      fills_now : Fills kept.0 refilled.0 r (used.0 + making.words)
-      fills_now = subst (Fills kept.0 refilled.0 r) used_is refilled.2
+      shows : (ds : List Duty) → HolderShows changed.0 (record roomy.ready.works.holder {
+        fills = lies.fills;
+        reserved = lies.reserved;
+        duties = ds;
+      })
+      shows ds = lies.shows changed.0 changed.2 ds
 
-      p_holders : p.holders.items ≡ slice_set w.holders.items g refilled.0
-      p_holders = refilled.1 ∙ ap (λ l. slice_set l g refilled.0) in_w
-
-      shows : (ds : List Duty) → HolderShows refilled.0 (record roomy.ready.works.holder { fills = fills; duties = ds })
-      shows ds = fill_shown kept.0 refilled.0 roomy.ready.works.holder r (used.0 + making.words) ds old fills_now
-
-      unmade : (q : ℕ) → length s.regions ≤ q → fill_in refilled.0 (Numbered q) ≡ fill_of fills (Numbered q)
-      unmade q l = fill_unmade kept.0 refilled.0 roomy.ready.works.holder r (Numbered q) (used.0 + making.words)
-          fills_now ((roomy.ready.works.shown.holders roomy.ready.works.running).unmade g kept.0 roomy.ready.works.holder kept.1
+      unmade : (q : ℕ) → length s.regions ≤ q → fill_in changed.0 (Numbered q) ≡ fill_of lies.fills (Numbered q)
+      unmade q l = lies.unmade changed.0 changed.2 q
+          ((roomy.ready.works.shown.holders roomy.ready.works.running).unmade g kept.0 roomy.ready.works.holder kept.1
           roomy.ready.works.is_holder q l)
 
       code : p.code.now ≡ w.code.now
@@ -435,11 +520,11 @@ module _ (w v : World) (s : RegionState) (limits : Limits) (g : ℕ) (next : Nex
 
       works : Works p (t one) g (map Remove (removes_behind roomy.makes.at.frame roomy.makes.at.is.instr.op)
           ++ next_duties w.code.now (frames_of (t one).plain g))
-      works = works_so w v s limits g turned roomy.ready before_it takes one (x one) fills (r ∷ [])
+      works = works_so w v s limits g turned roomy.ready before_it takes one (x one) lies.fills lies.reserved (r ∷ [])
           (fitting_made one) none_gone p p_is table (still one) (simple_next w g next roomy.makes.at kind) kept.0
-          refilled.0 kept.1 p_holders shows unmade
+          changed.0 kept.1 p_holders shows unmade
 
       others : OthersOwe p (t one) g
-      others = others_so w v s limits g turned roomy.ready before_it takes one (x one) fills (r ∷ [])
+      others = others_so w v s limits g turned roomy.ready before_it takes one (x one) lies.fills lies.reserved (r ∷ [])
           (fitting_made one) none_gone p p_is table (still one) (simple_next w g next roomy.makes.at kind) kept.0
-          refilled.0 kept.1 p_holders shows unmade
+          changed.0 kept.1 p_holders shows unmade

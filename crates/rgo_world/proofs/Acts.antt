@@ -121,10 +121,10 @@ module _ (w v : World) (s : RegionState) (limits : Limits) (g : ℕ) {frame : Fr
       }
 
   -- the region machine's step, by the own pages and the owner of the object that is made
-  module _ (one : turned.steps ≡ 1) (x : ActsSo one) (fills : List (Region × ℕ)) (more : List Region)
+  module _ (one : turned.steps ≡ 1) (x : ActsSo one) (fills : List (Region × ℕ)) (reserved : ℕ) (more : List Region)
       (fitting : allotted w.sizes.page_words ready.works.holder
       (making_region (function_at w.code.now frame) (top_names ready.works.holder.environments) instr.op)
-      (new_object s.plain (after s.plain g x.act)) ≡ Some (record ready.works.holder { fills = fills }, more))
+      (new_object s.plain (after s.plain g x.act)) ≡ Some (record ready.works.holder { fills = fills; reserved = reserved }, more))
       (none_gone : NoneGone s.regions more) where
     abbrev y : StepShows w.code.now s w.state (One g) v.state
     y = shows_step w v s limits g turned ready.between takes one
@@ -132,13 +132,13 @@ module _ (w v : World) (s : RegionState) (limits : Limits) (g : ℕ) {frame : Fr
     abbrev pub next_state : RegionState
     next_state = instructed_with w.code.now s g frame callers instr
         (shows_step w v s limits g turned ready.between takes one).next
-        (record ready.works.holder { fills = fills }, more)
+        (record ready.works.holder { fills = fills; reserved = reserved }, more)
 
     pub next_step : region_step w.code.now w.sizes.page_words s (Instruct (One g)) ≡ Some next_state
     next_step =
-        instructs i w.sizes.page_words x.act (record ready.works.holder { fills = fills }, more) x.acts fitting
+        instructs i w.sizes.page_words x.act (record ready.works.holder { fills = fills; reserved = reserved }, more) x.acts fitting
         ∙ ap (λ n. Some (instructed_with w.code.now s g frame callers instr n
-        (record ready.works.holder { fills = fills }, more))) x.is
+        (record ready.works.holder { fills = fills; reserved = reserved }, more))) x.is
 
     shows_state : StateShows v.state next_state
     shows_state = state_after w v s limits g turned ready.between takes one next_state next_step refl refl more
@@ -197,14 +197,14 @@ module _ (w v : World) (s : RegionState) (limits : Limits) (g : ℕ) {frame : Fr
 
         -- what the goroutine has of the regions afterwards
         abbrev pub holder_next : spec.Holder
-        holder_next = holder_after w.code.now (record h { fills = fills }) frame callers instr.op
+        holder_next = holder_after w.code.now (record h { fills = fills; reserved = reserved }) frame callers instr.op
             (frames_of y.next g)
 
         abbrev pub child_next : List spec.Holder
-        child_next = child_holder w.code.now (record h { fills = fills }) instr.op (last_frames y.next.goroutines)
+        child_next = child_holder w.code.now (record h { fills = fills; reserved = reserved }) instr.op (last_frames y.next.goroutines)
 
         pub holders_are : next_state.holders ≡ slice_set s.holders g holder_next ++ child_next
-        holders_are = ap (λ e. slice_set s.holders g (unless_trapped e (record h { fills = fills }) holder_next)
+        holders_are = ap (λ e. slice_set s.holders g (unless_trapped e (record h { fills = fills; reserved = reserved }) holder_next)
             ++ child_next) not_ended
 
         -- the others have the frames that they had
@@ -263,22 +263,22 @@ module _ (w v : World) (s : RegionState) (limits : Limits) (g : ℕ) {frame : Fr
         -- of an instruction that is no call, no start and no return
         module _ (simple : IsSimple instr.op) (c d : Holder) (there : slice_get w.holders.items g ≡ Some c)
             (d_is : u.holders.items ≡ slice_set w.holders.items g d)
-            (shows : (ds : List Duty) → HolderShows d (record ready.works.holder { fills = fills; duties = ds }))
+            (shows : (ds : List Duty) → HolderShows d (record ready.works.holder { fills = fills; reserved = reserved; duties = ds }))
             (unmade : (r : ℕ) → length s.regions ≤ r → fill_in d (Numbered r) ≡ fill_of fills (Numbered r)) where
           abbrev duties : List Duty
           duties = map Remove (removes_behind frame instr.op) ++ next_duties w.code.now (frames_of y.next g)
 
           abbrev k : spec.Holder
-          k = record ready.works.holder { fills = fills; duties = duties }
+          k = record ready.works.holder { fills = fills; reserved = reserved; duties = duties }
 
           k_is : next_state.holders ≡ slice_set s.holders g k
           k_is =
               holders_are
               ∙ ap (λ x. slice_set s.holders g holder_next ++ x)
-              (no_child w.code.now (record h { fills = fills }) instr.op (last_frames y.next.goroutines) simple)
+              (no_child w.code.now (record h { fills = fills; reserved = reserved }) instr.op (last_frames y.next.goroutines) simple)
               ∙ append-nil _
               ∙ ap (slice_set s.holders g)
-              (after_simple w.code.now (record h { fills = fills }) frame callers instr.op
+              (after_simple w.code.now (record h { fills = fills; reserved = reserved }) frame callers instr.op
               (frames_of y.next g) simple)
 
           started : x.act.started ≡ []

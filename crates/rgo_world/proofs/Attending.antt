@@ -332,6 +332,7 @@ counted_works w v g c n there moved table memory holders s ds works =
       base = shows.base;
       fills = shows.fills;
       global_fill = shows.global_fill;
+      reserved = shows.reserved;
       no_offer = shows.no_offer;
     }
 
@@ -848,7 +849,7 @@ ends_next w v u x g q c c' so there moved table memory holders ends stake counte
       (end_base_attends v u x a.state g q c c' (map EndBase (map Numbered c'.base.items)) held there moved table memory
       holders ends stake));
   done =
-      counted ∙ ap (λ l. done_in (slice_get l g)) holders ∙ count_kept v.holders.items g c c' there ends.4 ∙ so.done;
+      counted ∙ ap (λ l. done_in (slice_get l g)) holders ∙ count_kept v.holders.items g c c' there ends.5 ∙ so.done;
 }
   where
     there' : slice_get u.holders.items g ≡ Some c'
@@ -898,6 +899,7 @@ pend_shown c h pending ds shows = record {
   base = shows.base;
   fills = shows.fills;
   global_fill = shows.global_fill;
+  reserved = shows.reserved;
   no_offer = shows.no_offer;
 }
 

@@ -106,6 +106,7 @@ module _ (c d : Holder) (h : spec.Holder) (function : Option CodeFn) (passes : L
     base = ap (map Numbered) else_same.base ∙ shows.base;
     fills = λ r i. else_same.fills (Numbered r) ∙ shows.fills r i;
     global_fill = else_same.fills GlobalRegion ∙ shows.global_fill;
+    reserved = else_same.reserved ∙ shows.reserved;
     no_offer = shows.no_offer;
   }
     where

@@ -185,6 +185,7 @@ same_else_more a b c h g =
       protections = λ r. g.protections r ∙ h.protections r;
       fills = λ r. g.fills r ∙ h.fills r;
       base = g.base ∙ h.base;
+      reserved = g.reserved ∙ h.reserved;
       done = g.done ∙ h.done;
     }
 
@@ -192,7 +193,7 @@ pub unbinds_none : (c : Holder) (given : List ℕ) → given ≡ [] → UnbindsA
 unbinds_none c given e =
     record {
       renamed = λ names frames is. (names, is, λ k. ap (λ g. bound_except g names k) (sym e));
-      kept = record { protections = λ r. refl; fills = λ r. refl; base = refl; done = refl };
+      kept = record { protections = λ r. refl; fills = λ r. refl; base = refl; reserved = refl; done = refl };
     }
 
 same_test : (a b : ℕ) → nat_eq a b ≡ nat_eq b a

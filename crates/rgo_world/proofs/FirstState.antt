@@ -30,6 +30,7 @@ first_shows code frames c begins = record {
   base = ap (map Numbered) begins.base_is;
   fills = λ r i. cc;
   global_fill = begins.fills GlobalRegion;
+  reserved = begins.reserved;
   no_offer = refl;
 }
 

@@ -25,21 +25,22 @@ use Rattle.rgo_world.proofs.Showing.{flip, renamed, times_are, top_protections}
 
 -- the machine's holder changed in what is not shown
 pub alike_shown : (c : Holder) (h k : spec.Holder) → HolderShows c h → k.environments ≡ h.environments → k.base ≡ h.base
-    → k.stakes ≡ h.stakes → k.fills ≡ h.fills → k.offer ≡ h.offer → HolderShows c k
-alike_shown c h k shows es bs ss fs o = record {
+    → k.stakes ≡ h.stakes → k.fills ≡ h.fills → k.reserved ≡ h.reserved → k.offer ≡ h.offer → HolderShows c k
+alike_shown c h k shows es bs ss fs rs o = record {
   names = subst (SameBindings (frames_of c)) (sym es) shows.names;
   protections = λ r. shows.protections r ∙ ap (λ x. protections_of (Numbered r) x h.base) (sym es)
       ∙ ap (protections_of (Numbered r) k.environments) (sym bs);
   base = shows.base ∙ sym bs;
   fills = λ r i. shows.fills r (ap (is_in r) (sym ss) ∙ i) ∙ ap (λ x. fill_of x (Numbered r)) (sym fs);
   global_fill = shows.global_fill ∙ ap (λ x. fill_of x GlobalRegion) (sym fs);
+  reserved = shows.reserved ∙ sym rs;
   no_offer = o ∙ shows.no_offer;
 }
 
 -- other steps are owed
 pub duties_shown : (c : Holder) (h : spec.Holder) (ds : List Duty) → HolderShows c h
     → HolderShows c (record h { duties = ds })
-duties_shown c h ds shows = alike_shown c h (record h { duties = ds }) shows refl refl refl refl refl
+duties_shown c h ds shows = alike_shown c h (record h { duties = ds }) shows refl refl refl refl refl refl
 
 -- other steps are done
 pub done_shown : (c : Holder) (h : spec.Holder) (n : ℕ) → HolderShows c h → HolderShows (record c { done = n }) h
@@ -49,6 +50,7 @@ done_shown c h n shows = record {
   base = shows.base;
   fills = shows.fills;
   global_fill = shows.global_fill;
+  reserved = shows.reserved;
   no_offer = shows.no_offer;
 }
 
@@ -114,9 +116,9 @@ at_most_once n m e l = split (nat_eq n 0)
 -- a goroutine that starts
 pub begin_shown : (c : Holder) (h : spec.Holder) (names : Names) (base : List ℕ) (e : Environment)
     → Begins c names base → h.environments ≡ e ∷ [] → ((k : ℕ) → bound_in names k ≡ bound e.names k)
-    → e.protections ≡ [] → map Numbered base ≡ h.base → EachOnce h.base → h.fills ≡ [] → h.offer ≡ NoOffer
-    → HolderShows c h
-begin_shown c h names base e begins es same none is once fs offer = record {
+    → e.protections ≡ [] → map Numbered base ≡ h.base → EachOnce h.base → h.fills ≡ []
+    → h.reserved ≡ 0 → h.offer ≡ NoOffer → HolderShows c h
+begin_shown c h names base e begins es same none is once fs none_reserved offer = record {
   names = subst (SameBindings (frames_of c)) (sym es)
       (subst (λ l. SameBindings l (e ∷ [])) (sym begins.frames) (same, tt));
   protections = λ r.
@@ -130,6 +132,7 @@ begin_shown c h names base e begins es same none is once fs offer = record {
   base = ap (map Numbered) begins.base_is ∙ is;
   fills = λ r i. begins.fills (Numbered r) ∙ sym (ap (λ l. fill_of l (Numbered r)) fs);
   global_fill = begins.fills GlobalRegion ∙ sym (ap (λ l. fill_of l GlobalRegion) fs);
+  reserved = begins.reserved ∙ sym none_reserved;
   no_offer = offer;
 }
 
@@ -145,6 +148,7 @@ module _ (c d : Holder) (h : spec.Holder) (shows : HolderShows c h) (ds : List D
     base = ap (map Numbered) enters.1.base ∙ shows.base;
     fills = λ r i. enters.1.fills (Numbered r) ∙ shows.fills r i;
     global_fill = enters.1.fills GlobalRegion ∙ shows.global_fill;
+    reserved = enters.1.reserved ∙ shows.reserved;
     no_offer = shows.no_offer;
   }
 
@@ -164,6 +168,7 @@ module _ (c d : Holder) (h : spec.Holder) (shows : HolderShows c h) (ds : List D
     base = ap (map Numbered) unbinds.kept.base ∙ shows.base;
     fills = λ r i. unbinds.kept.fills (Numbered r) ∙ shows.fills r i;
     global_fill = unbinds.kept.fills GlobalRegion ∙ shows.global_fill;
+    reserved = unbinds.kept.reserved ∙ shows.reserved;
     no_offer = shows.no_offer;
   }
 
@@ -188,6 +193,7 @@ module _ (c d : Holder) (h : spec.Holder) (shows : HolderShows c h) (ds : List D
     base = ap (map Numbered) back.1.base ∙ shows.base;
     fills = λ r i. back.1.fills (Numbered r) ∙ shows.fills r i;
     global_fill = back.1.fills GlobalRegion ∙ shows.global_fill;
+    reserved = back.1.reserved ∙ shows.reserved;
     no_offer = shows.no_offer;
   }
     where

@@ -1,7 +1,7 @@
 -- The steps of the region machine for an instruction of one goroutine: the page that it takes before it makes an object,
 -- and the instruction itself.
-use Rattle.std.proofs.Common.{◌≡◌, ℕ, ◌+◌, ◌≤◌, ◌<◌, true, false, not, ◌&&◌, List, [], ◌∷◌, ◌++◌, length}
-use Rattle.std.proofs.Common.{Option, Some, None, refl, sym, ap, ◌∙◌, subst, nat_le, if◌then◌else◌, true≢false}
+use Rattle.std.proofs.Common.{◌≡◌, ℕ, ◌+◌, ◌-◌, ◌/◌, ◌≤◌, ◌<◌, Bool, true, false, not, ◌&&◌, List, [], ◌∷◌, ◌++◌, length}
+use Rattle.std.proofs.Common.{Option, Some, None, refl, sym, ap, ◌∙◌, subst, nat_le, nat_lt, if◌then◌else◌, true≢false}
 use Rattle.std.proofs.Common.{slice_get, option_map, option_and_then, arith, length-append}
 use Rattle.std.proofs.lemmas.Bool.Decides.{nat_tests}
 use Rattle.std.proofs.lemmas.Option.{slice_get_past}
@@ -18,10 +18,11 @@ use Rattle.rgo_region_machine.specs.declared.regions.Region.{Region}
 use Rattle.rgo_region_machine.specs.Duties.{may_go}
 use Rattle.rgo_region_machine.specs.Instructions.{has_none, instruct, instructed, instructed_at, instructed_with}
 use Rattle.rgo_region_machine.specs.Instructions.{one_instructed, some_instructed}
-use Rattle.rgo_region_machine.specs.Machine.{Instruct, TakePage, next_object, object_made, page_for, page_taken}
+use Rattle.rgo_region_machine.specs.Machine.{Instruct, TakePage, object_made, page_before, page_for, page_taken}
 use Rattle.rgo_region_machine.specs.Machine.{plain_step, region_step, take_page, takes_page}
-use Rattle.rgo_region_machine.specs.Objects.{allotted, fill_of, fits, making_region, new_object, placed}
-use Rattle.rgo_region_machine.specs.Objects.{wants_page, with_fill}
+use Rattle.rgo_region_machine.specs.Objects.{allotted, data_pages, fill_of, fits, is_spread, is_too_large}
+use Rattle.rgo_region_machine.specs.Objects.{making_region, most_data_pages, new_object, placed, spread_out, wants_page}
+use Rattle.rgo_region_machine.specs.Objects.{with_fill, with_page, words}
 use Rattle.rgo_region_machine.specs.Owed.{function_at}
 use Rattle.rgo_region_machine.specs.Regions.{is_live}
 use Rattle.rgo_region_machine.specs.States.{Holder, RegionState, frames_in, frames_of, top_names}
@@ -34,7 +35,9 @@ use Rattle.rgo_sound.proofs.Progress.{HasTarget, live_of}
 use Rattle.rgo_sound.proofs.Tests.{split}
 use Rattle.rgo_region_machine.specs.Room.{MakesTooLarge}
 use Rattle.rgo_world.specs.declared.objects.Making.{Making}
-use Rattle.rgo_world.specs.Objects.{making_by, making_of, words_made}
+use Rattle.rgo_world.specs.Extents as extents
+use Rattle.rgo_world.specs.Extents.{pages_wanted}
+use Rattle.rgo_world.specs.Objects.{extent_made, making_by, making_of}
 use Rattle.rgo_world.proofs.Making.{Makes, acts_none, makes, makes_none}
 use Rattle.rgo_world.proofs.Targets.{IsBefore, ready_now, region_staked, region_there, target, top}
 
@@ -88,7 +91,7 @@ module _ {code : Code} {s : RegionState} {g : ℕ} {h : Holder} {frame : Frame} 
           (acts_none s.plain.memory frame callers to (trap_place action instr.place) _
           (makes_none code.structs (type_of (erased code) frame to) s.plain.memory action w.variable
           (values_of frame from) t
-          (ap (λ d. making_of d (words_made code.structs action (values_of frame from))) (sym w.is) ∙ n)))
+          (ap (λ d. making_of d (extent_made code.structs action (values_of frame from))) (sym w.is) ∙ n)))
         where
           w : HasTarget (erased_fn (top i).stands.fn) to
           w = target i to action from removes is t
@@ -162,63 +165,154 @@ module _ {code : Code} {s : RegionState} {g : ℕ} {h : Holder} {frame : Frame} 
     pub region_live : is_live s.regions its_region.0 ≡ true
     region_live = live_of s h its_region.0 (region_staked i its_region.0 its_region.1)
 
-    -- it does not fit a page
-    pub too_large : (page_words : ℕ) → page_words < making.words → (next : TacState)
+    -- how large the object is, as the code counts it
+    spread_is : (page_words : ℕ) → is_spread page_words made.object ≡ extents.is_spread page_words making.extent
+    spread_is page_words = ap (nat_lt page_words) made.large.words
+
+    data_is : (page_words : ℕ) → data_pages page_words made.object ≡ extents.data_pages page_words making.extent
+    data_is page_words = λ j. if spread_is page_words j then (made.large.cells j - 1) / page_words + 1 else 0
+
+    too_large_is : (page_words : ℕ)
+        → is_too_large page_words made.object ≡ extents.is_too_large page_words making.extent
+    too_large_is page_words = ap (nat_lt (most_data_pages page_words)) (data_is page_words)
+
+    -- it wants more data pages than there can be
+    pub too_large : (page_words : ℕ) → extents.is_too_large page_words making.extent ≡ true → (next : TacState)
         × (plain_step code s.plain (One g) ≡ Some next) × MakesTooLarge page_words s.plain next
-    too_large page_words less = (
+    too_large page_words large = (
       after s.plain g making_act,
       step_of making_act making_acts,
-      (made.object, making_new, subst (λ n. page_words < n) (sym made.large) less),
+      (
+        made.object,
+        making_new,
+        below (most_data_pages page_words) (data_pages page_words made.object)
+            (too_large_is page_words ∙ large),
+      ),
     )
+      where
+        below : (n m : ℕ) → nat_lt n m ≡ true → n < m
+        below n m e = grind (arith, nat_tests)
 
-    -- it fits one, but not the goroutine's own
-    pub page_step : (page_words : ℕ) → making.words ≤ page_words
-        → fits page_words (fill_of h.fills its_region.0) making.words ≡ false
-        → region_step code page_words s (TakePage g) ≡ Some (page_taken s g h its_region.0)
-    page_step page_words small lacks =
+    -- a page is wanted for it
+    wants_one : (page_words : ℕ) (used : Option ℕ) → extents.is_too_large page_words making.extent ≡ false
+        → 0 < pages_wanted page_words h.reserved used making.extent
+        → wants_page page_words h.reserved used made.object ≡ true
+    wants_one page_words used small more = split (extents.is_spread page_words making.extent) whole part
+      where
+        le : (n m : ℕ) → 0 < (m + 1) - n → nat_le n m ≡ true
+        le n m l = grind (arith, nat_tests)
+
+        none_true : (b : Bool) → 0 < (if b then 0 else 1) → not b ≡ true
+        none_true true l = absurd (omega (arith, l))
+        none_true false l = refl
+
+        whole : extents.is_spread page_words making.extent ≡ true
+            → wants_page page_words h.reserved used made.object ≡ true
+        whole t =
+            ap (λ b. if b then not (is_too_large page_words made.object) && nat_le h.reserved
+            (data_pages page_words made.object) else not (fits page_words used (words made.object)))
+            (spread_is page_words ∙ t)
+            ∙ ap (λ b. not b && nat_le h.reserved (data_pages page_words made.object)) (too_large_is page_words ∙ small)
+            ∙ ap (nat_le h.reserved) (data_is page_words)
+            ∙ le h.reserved (extents.data_pages page_words making.extent)
+            (subst (λ b. 0 < (if b then (extents.data_pages page_words making.extent + 1) - h.reserved
+            else if fits page_words used making.extent.words then 0 else 1)) t more)
+
+        part : extents.is_spread page_words making.extent ≡ false
+            → wants_page page_words h.reserved used made.object ≡ true
+        part f =
+            ap (λ b. if b then not (is_too_large page_words made.object) && nat_le h.reserved
+            (data_pages page_words made.object) else not (fits page_words used (words made.object)))
+            (spread_is page_words ∙ f)
+            ∙ ap (λ n. not (fits page_words used n)) made.large.words
+            ∙ none_true (fits page_words used making.extent.words)
+            (subst (λ b. 0 < (if b then (extents.data_pages page_words making.extent + 1) - h.reserved
+            else if fits page_words used making.extent.words then 0 else 1)) f more)
+
+    -- the goroutine takes a page for it
+    pub page_step : (page_words : ℕ) → extents.is_too_large page_words making.extent ≡ false
+        → 0 < pages_wanted page_words h.reserved (fill_of h.fills its_region.0) making.extent
+        → region_step code page_words s (TakePage g)
+        ≡ Some (page_taken s g (with_page page_words h its_region.0 made.object) its_region.0)
+    page_step page_words small more =
         ap (option_and_then (λ k. take_page code page_words s g k (frames_of s.plain g))) i.there
         ∙ ap (take_page code page_words s g h) (ap frames_in i.at)
         ∙ ap (option_and_then (page_for code page_words s g h frame)) i.cur
         ∙ ap (option_and_then (takes_page code page_words s g h)) its_region.1
-        ∙ ap (λ ds. if has_none ds && may_go h.offer && is_live s.regions its_region.0 && wants_page page_words
-        (fill_of h.fills its_region.0) (next_object code s g) then Some (page_taken s g h its_region.0) else None) i.none
-        ∙ ap (λ b. if b && is_live s.regions its_region.0 && wants_page page_words (fill_of h.fills its_region.0)
-        (next_object code s g) then Some (page_taken s g h its_region.0) else None) i.free
-        ∙ ap (λ b. if b && wants_page page_words (fill_of h.fills its_region.0) (next_object code s g) then Some
-        (page_taken s g h its_region.0) else None) region_live
-        ∙ ap (λ b. if b then Some (page_taken s g h its_region.0) else None) wants
+        ∙ ap (λ o. option_and_then (page_before page_words s g h its_region.0) (object_made s o))
+        (step_of making_act making_acts)
+        ∙ ap (option_and_then (page_before page_words s g h its_region.0)) making_new
+        ∙ ap (λ ds. if has_none ds && may_go h.offer && is_live s.regions its_region.0 && wants then Some paged else None)
+        i.none
+        ∙ ap (λ b. if b && is_live s.regions its_region.0 && wants then Some paged else None) i.free
+        ∙ ap (λ b. if b && wants then Some paged else None) region_live
+        ∙ ap (λ b. if b then Some paged else None)
+        (wants_one page_words (fill_of h.fills its_region.0) small more)
       where
-        small_enough : (n m : ℕ) → n ≤ m → nat_le n m ≡ true
-        small_enough n m l = grind (arith, nat_tests)
+        paged : RegionState
+        paged = page_taken s g (with_page page_words h its_region.0 made.object) its_region.0
 
-        wants : wants_page page_words (fill_of h.fills its_region.0) (next_object code s g) ≡ true
-        wants =
-            ap (λ o. wants_page page_words (fill_of h.fills its_region.0) (object_made s o))
-            (step_of making_act making_acts)
-            ∙ ap (wants_page page_words (fill_of h.fills its_region.0)) making_new
-            ∙ ap (λ n. nat_le n page_words && not (fits page_words (fill_of h.fills its_region.0) n)) made.large
-            ∙ ap (λ b. b && not (fits page_words (fill_of h.fills its_region.0) making.words))
-            (small_enough making.words page_words small)
-            ∙ ap (λ b. not b) lacks
+        wants : Bool
+        wants = wants_page page_words h.reserved (fill_of h.fills its_region.0) made.object
+
+    -- the holder after it, by whether the object is spread
+    pub paged_spread : (page_words : ℕ) → extents.is_spread page_words making.extent ≡ true
+        → with_page page_words h its_region.0 made.object ≡ record h { reserved = h.reserved + 1 }
+    paged_spread page_words t = λ j. record h {
+      fills = if (spread_is page_words ∙ t) j then h.fills else with_fill h.fills its_region.0 0;
+      reserved = if (spread_is page_words ∙ t) j then h.reserved + 1 else h.reserved;
+    }
+
+    pub paged_own : (page_words : ℕ) → extents.is_spread page_words making.extent ≡ false
+        → with_page page_words h its_region.0 made.object ≡ record h { fills = with_fill h.fills its_region.0 0 }
+    paged_own page_words f = λ j. record h {
+      fills = if (spread_is page_words ∙ f) j then h.fills else with_fill h.fills its_region.0 0;
+      reserved = if (spread_is page_words ∙ f) j then h.reserved + 1 else h.reserved;
+    }
 
     -- it fits the goroutine's own page
-    pub allots : (page_words used : ℕ) → fill_of h.fills its_region.0 ≡ Some used
-        → used + making.words ≤ page_words
+    pub allots : (page_words used : ℕ) → extents.is_spread page_words making.extent ≡ false
+        → fill_of h.fills its_region.0 ≡ Some used → used + making.extent.words ≤ page_words
         → allotted page_words h (making_region (function_at code frame) (top_names h.environments) instr.op)
         (new_object s.plain (after s.plain g making_act))
-        ≡ Some (record h { fills = with_fill h.fills its_region.0 (used + making.words) }, its_region.0 ∷ [])
-    allots page_words used q fitting =
+        ≡ Some (record h { fills = with_fill h.fills its_region.0 (used + making.extent.words) }, its_region.0 ∷ [])
+    allots page_words used f q fitting =
         ap (λ o. allotted page_words h o (new_object s.plain (after s.plain g making_act))) its_region.1
         ∙ ap (allotted page_words h (Some its_region.0)) making_new
+        ∙ ap (λ b. if b then spread_out page_words h its_region.0 made.object
+        else placed page_words h its_region.0 made.object (fill_of h.fills its_region.0)) (spread_is page_words ∙ f)
         ∙ ap (placed page_words h its_region.0 made.object) q
         ∙ ap (λ n. if nat_le (used + n) page_words then Some (
           record h { fills = with_fill h.fills its_region.0 (used + n) },
           its_region.0 ∷ [],
-        ) else None) made.large
+        ) else None) made.large.words
         ∙ ap (λ b. if b then Some (
-          record h { fills = with_fill h.fills its_region.0 (used + making.words) },
+          record h { fills = with_fill h.fills its_region.0 (used + making.extent.words) },
           its_region.0 ∷ [],
-        ) else None) (small_enough (used + making.words) page_words fitting)
+        ) else None) (small_enough (used + making.extent.words) page_words fitting)
       where
         small_enough : (n m : ℕ) → n ≤ m → nat_le n m ≡ true
         small_enough n m l = grind (arith, nat_tests)
+
+    -- all of its pages are reserved
+    pub allots_spread : (page_words : ℕ) → extents.is_spread page_words making.extent ≡ true
+        → extents.is_too_large page_words making.extent ≡ false
+        → extents.data_pages page_words making.extent < h.reserved
+        → allotted page_words h (making_region (function_at code frame) (top_names h.environments) instr.op)
+        (new_object s.plain (after s.plain g making_act)) ≡ Some (record h { reserved = 0 }, its_region.0 ∷ [])
+    allots_spread page_words t small all =
+        ap (λ o. allotted page_words h o (new_object s.plain (after s.plain g making_act))) its_region.1
+        ∙ ap (allotted page_words h (Some its_region.0)) making_new
+        ∙ ap (λ b. if b then spread_out page_words h its_region.0 made.object
+        else placed page_words h its_region.0 made.object (fill_of h.fills its_region.0)) (spread_is page_words ∙ t)
+        ∙ ap (λ b. if not b && nat_lt (data_pages page_words made.object) h.reserved then Some (
+          record h { reserved = 0 },
+          its_region.0 ∷ [],
+        ) else None) (too_large_is page_words ∙ small)
+        ∙ ap (λ n. if nat_lt n h.reserved then Some (record h { reserved = 0 }, its_region.0 ∷ []) else None)
+        (data_is page_words)
+        ∙ ap (λ b. if b then Some (record h { reserved = 0 }, its_region.0 ∷ []) else None)
+        (fewer (extents.data_pages page_words making.extent) h.reserved all)
+      where
+        fewer : (n m : ℕ) → n < m → nat_lt n m ≡ true
+        fewer n m l = grind (arith, nat_tests)

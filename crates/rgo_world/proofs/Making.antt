@@ -1,6 +1,6 @@
 -- The object that an instruction makes: what the code counts of it before is what the three-address machine makes.
 use Rattle.std.proofs.Common.{◌≡◌, ℕ, ◌+◌, true, false, List, [], ◌∷◌, ◌++◌, map, length, Option, Some, None}
-use Rattle.std.proofs.Common.{refl, sym, ap, ◌∙◌, true≢false, slice_get, max, replicate}
+use Rattle.std.proofs.Common.{refl, sym, subst, ap, ◌∙◌, true≢false, slice_get, max, replicate}
 use Rattle.std.specs.Prelude.{pos, negsuc}
 use Rattle.std.proofs.lemmas.List.{length-map, length-replicate}
 use Rattle.rgo_typed.specs.declared.actions.Action.{Action}
@@ -17,17 +17,19 @@ use Rattle.rgo_memory.specs.Values.{element_zero, zero_of}
 use Rattle.rgo_tac.specs.Code.{Branch, Call, Do, Go, Jump, Op, Print, Return, Tac}
 use Rattle.rgo_tac.specs.Frames.{Frame, going, values_of}
 use Rattle.rgo_tac.specs.Steps.{type_of}
-use Rattle.rgo_region_machine.specs.Objects.{makes_object, words}
+use Rattle.rgo_region_machine.specs.Objects.{makes_object}
 use Rattle.rgo_sound.proofs.Acting.{Acted, act, effected, performed, trap_place}
 use Rattle.rgo_sound.proofs.ErasureLemmas.{Always}
+use Rattle.rgo_world.specs.declared.objects.Extent.{Extent}
 use Rattle.rgo_world.specs.declared.objects.Making.{Making}
-use Rattle.rgo_world.specs.Objects.{making_by, making_of, sized_words, struct_words, words_made}
+use Rattle.rgo_world.specs.Extents.{IsOf}
+use Rattle.rgo_world.specs.Objects.{channel_extent, extent_made, making_by, making_of, sized_extent, slice_extent, struct_extent}
 
--- whatever the memory, an instruction of this frame makes an object of these words, and the variable points to it
+-- whatever the memory, an instruction of this frame makes an object that is so large, and the variable points to it
 pub record Makes (code : Tac) (op : Op) (place : ℕ) (frame : Frame) (callers : List Frame) (making : Making) : Type 0
   where
     pub object : Object
-    pub large : words object ≡ making.words
+    pub large : IsOf making.extent object
     pub acts : (m : Memory) → act code m op place frame callers ≡ Some (record {
       memory = record m { heap = m.heap ++ object ∷ [] };
       frames = going frame (Some making.to) (value.Object (length m.heap)) ∷ callers;
@@ -45,50 +47,53 @@ none_made : (to : Option ℕ) (making : Making) → making_of to None ≡ Some m
 none_made None making e = cc
 none_made (Some d) making e = cc
 
-the_making : (to : Option ℕ) (count : ℕ) (making : Making) → making_of to (Some count) ≡ Some making
-    → (to ≡ Some making.to) × (count ≡ making.words)
-the_making None count making e = cc
-the_making (Some d) count making e = (ap (λ m. Some m.to) is, ap (λ m. m.words) is)
+the_making : (to : Option ℕ) (extent : Extent) (making : Making) → making_of to (Some extent) ≡ Some making
+    → (to ≡ Some making.to) × (extent ≡ making.extent)
+the_making None extent making e = cc
+the_making (Some d) extent making e = (ap (λ m. Some m.to) is, ap (λ m. m.extent) is)
   where
     the_same : (x y : Making) → Some x ≡ Some y → x ≡ y
     the_same x y e = cc
 
-    is : ◌≡◌ {A = Making} (record { to = d; words = count }) making
+    is : ◌≡◌ {A = Making} (record { to = d; extent = extent }) making
     is = the_same _ making e
 
 module _ (code : Tac) (place : ℕ) (frame : Frame) (callers : List Frame) where
   -- an action that makes this object, whatever the memory
-  makes_object_by : (to : Option ℕ) (a : Action) (from : List ℕ) (count : ℕ) (making : Making) (object : Object)
-      → making_of to (Some count) ≡ Some making → words object ≡ count
+  makes_object_by : (to : Option ℕ) (a : Action) (from : List ℕ) (extent : Extent) (making : Making) (object : Object)
+      → making_of to (Some extent) ≡ Some making → IsOf extent object
       → ((m : Memory) → performed code.structs a (type_of code frame to) (values_of frame from) m ≡ Some (made m object))
       → Makes code (Do to a from) place frame callers making
-  makes_object_by to a from count making object e large makes = record {
+  makes_object_by to a from extent making object e large makes = record {
     object = object;
-    large = large ∙ is.1;
+    large = subst (λ x. IsOf x object) is.1 large;
     acts = λ m. ap (effected m frame callers to (trap_place a place)) (makes m)
         ∙ ap (λ d. effected m frame callers d (trap_place a place) (Some (made m object))) is.0;
   }
     where
-      is : (to ≡ Some making.to) × (count ≡ making.words)
-      is = the_making to count making e
+      is : (to ≡ Some making.to) × (extent ≡ making.extent)
+      is = the_making to extent making e
 
   module _ (to : Option ℕ) (from : List ℕ) (making : Making) where
     new_makes : (n : ℕ) (o : Option Struct) → slice_get code.structs n ≡ o → values_of frame from ≡ []
-        → making_of to (struct_words o) ≡ Some making → Makes code (Do to (action.New n) from) place frame callers making
+        → making_of to (struct_extent o) ≡ Some making → Makes code (Do to (action.New n) from) place frame callers making
     new_makes n None q r e = absurd (none_made to making e)
     new_makes n (Some of) q r e =
-        makes_object_by to (action.New n) from (max 1 (length of.fields)) making
-        (StructObject (map zero_of of.fields)) e (ap (max 1) (length-map of.fields zero_of))
+        makes_object_by to (action.New n) from
+        (record { cells = length of.fields; words = max 1 (length of.fields) }) making
+        (StructObject (map zero_of of.fields)) e
+        (let l = length-map of.fields zero_of in record { words = ap (max 1) l; cells = l })
         (λ m. ap (λ vs. Some (perform code.structs (action.New n) (type_of code frame to) vs m)) r
         ∙ ap (λ x. Some (made_struct x m)) q)
 
     slice_makes : (size : Value) → values_of frame from ≡ size ∷ []
-        → making_of to (sized_words (λ n. 1 + n) size) ≡ Some making
+        → making_of to (sized_extent slice_extent size) ≡ Some making
         → Makes code (Do to action.Slice from) place frame callers making
     slice_makes (value.Int (pos n)) r e =
-        makes_object_by to action.Slice from (1 + n) making
+        makes_object_by to action.Slice from (slice_extent n) making
         (SliceObject (replicate n (element_zero (type_of code frame to)))) e
-        (ap (λ k. 1 + k) (length-replicate n (element_zero (type_of code frame to))))
+        (let l = length-replicate n (element_zero (type_of code frame to)) in
+        record { words = ap (λ k. 1 + k) l; cells = l })
         (λ m. ap (λ vs. Some (perform code.structs action.Slice (type_of code frame to) vs m)) r)
     slice_makes (value.Int (negsuc n)) r e = absurd (none_made to making e)
     slice_makes (value.Bool b) r e = absurd (none_made to making e)
@@ -96,10 +101,11 @@ module _ (code : Tac) (place : ℕ) (frame : Frame) (callers : List Frame) where
     slice_makes (value.Object o) r e = absurd (none_made to making e)
 
     channel_makes : (size : Value) → values_of frame from ≡ size ∷ []
-        → making_of to (sized_words (λ n. 2 + max 1 n) size) ≡ Some making
+        → making_of to (sized_extent channel_extent size) ≡ Some making
         → Makes code (Do to action.Chan from) place frame callers making
     channel_makes (value.Int (pos n)) r e =
-        makes_object_by to action.Chan from (2 + max 1 n) making (Channel n [] false) e refl
+        makes_object_by to action.Chan from (channel_extent n) making (Channel n [] false) e
+        (record { words = refl; cells = refl })
         (λ m. ap (λ vs. Some (perform code.structs action.Chan (type_of code frame to) vs m)) r)
     channel_makes (value.Int (negsuc n)) r e = absurd (none_made to making e)
     channel_makes (value.Bool b) r e = absurd (none_made to making e)
@@ -107,7 +113,7 @@ module _ (code : Tac) (place : ℕ) (frame : Frame) (callers : List Frame) where
     channel_makes (value.Object o) r e = absurd (none_made to making e)
 
     action_makes : (a : Action) (vs : List Value) → values_of frame from ≡ vs
-        → making_of to (words_made code.structs a vs) ≡ Some making → Makes code (Do to a from) place frame callers making
+        → making_of to (extent_made code.structs a vs) ≡ Some making → Makes code (Do to a from) place frame callers making
     action_makes (action.Int k) vs r e = absurd (none_made to making e)
     action_makes (action.Bool b) vs r e = absurd (none_made to making e)
     action_makes action.Nil vs r e = absurd (none_made to making e)
@@ -148,22 +154,22 @@ module _ (code : Tac) (place : ℕ) (frame : Frame) (callers : List Frame) where
 -- ---- where none is made
 
 module _ (structs : List Struct) (ty : «Type») (m : Memory) where
-  sized_none : (count : ℕ → ℕ) (object : ℕ → Object) (d : ℕ) (size : Value)
-      → making_of (Some d) (sized_words count size) ≡ None → MakesNoObject m (sized object size m)
-  sized_none count object d (value.Int (pos n)) e = cc
-  sized_none count object d (value.Int (negsuc n)) e = tt
-  sized_none count object d (value.Bool b) e = refl
-  sized_none count object d value.Nil e = refl
-  sized_none count object d (value.Object o) e = refl
+  sized_none : (extent : ℕ → Extent) (object : ℕ → Object) (d : ℕ) (size : Value)
+      → making_of (Some d) (sized_extent extent size) ≡ None → MakesNoObject m (sized object size m)
+  sized_none extent object d (value.Int (pos n)) e = cc
+  sized_none extent object d (value.Int (negsuc n)) e = tt
+  sized_none extent object d (value.Bool b) e = refl
+  sized_none extent object d value.Nil e = refl
+  sized_none extent object d (value.Object o) e = refl
 
-  struct_none : (d : ℕ) (o : Option Struct) → making_of (Some d) (struct_words o) ≡ None
+  struct_none : (d : ℕ) (o : Option Struct) → making_of (Some d) (struct_extent o) ≡ None
       → MakesNoObject m (made_struct o m)
   struct_none d None e = refl
   struct_none d (Some of) e = cc
 
   -- an action that could make an object, and gives a variable a value
   pub makes_none : (a : Action) (d : ℕ) (vs : List Value) → makes_object a ≡ true
-      → making_of (Some d) (words_made structs a vs) ≡ None → Always (MakesNoObject m) (performed structs a ty vs m)
+      → making_of (Some d) (extent_made structs a vs) ≡ None → Always (MakesNoObject m) (performed structs a ty vs m)
   makes_none (action.New n) d [] t e = struct_none d (slice_get structs n) e
   makes_none (action.New n) d (v ∷ []) t e = refl
   makes_none (action.New n) d (v ∷ w ∷ []) t e = refl
@@ -171,12 +177,12 @@ module _ (structs : List Struct) (ty : «Type») (m : Memory) where
   makes_none (action.New n) d (u ∷ v ∷ w ∷ x ∷ vs) t e = refl
   makes_none action.Slice d [] t e = refl
   makes_none action.Slice d (v ∷ []) t e =
-      sized_none (λ n. 1 + n) (λ n. SliceObject (replicate n (element_zero ty))) d v e
+      sized_none slice_extent (λ n. SliceObject (replicate n (element_zero ty))) d v e
   makes_none action.Slice d (v ∷ w ∷ []) t e = refl
   makes_none action.Slice d (u ∷ v ∷ w ∷ []) t e = refl
   makes_none action.Slice d (u ∷ v ∷ w ∷ x ∷ vs) t e = refl
   makes_none action.Chan d [] t e = refl
-  makes_none action.Chan d (v ∷ []) t e = sized_none (λ n. 2 + max 1 n) (λ n. Channel n [] false) d v e
+  makes_none action.Chan d (v ∷ []) t e = sized_none channel_extent (λ n. Channel n [] false) d v e
   makes_none action.Chan d (v ∷ w ∷ []) t e = refl
   makes_none action.Chan d (u ∷ v ∷ w ∷ []) t e = refl
   makes_none action.Chan d (u ∷ v ∷ w ∷ x ∷ vs) t e = refl

@@ -831,6 +831,7 @@ module _ (w v : World) (s : RegionState) (r u : ℕ) (between : Between w s)
                 base = shows.base;
                 fills = shows.fills;
                 global_fill = shows.global_fill;
+                reserved = shows.reserved;
                 no_offer = refl;
               })
 

@@ -15,9 +15,9 @@ use Rattle.rgo_region_machine.specs.Duties.{with_protection, without_protection}
 use Rattle.rgo_region_machine.specs.Instructions.{both_instructed, child_holder, holder_after, instruct, instructed_with}
 use Rattle.rgo_region_machine.specs.Instructions.{last_frames, marked, unless_trapped, taken_offer}
 use Rattle.rgo_region_machine.specs.Machine.{Acknowledge, Attend, Event, Finish, Instruct, MakeOffer, TakePage}
-use Rattle.rgo_region_machine.specs.Machine.{finished, kept, main_holder, page_for, page_taken, region_run, region_start, region_step}
+use Rattle.rgo_region_machine.specs.Machine.{finished, kept, main_holder, page_before, page_for, page_taken, region_run, region_start, region_step}
 use Rattle.rgo_region_machine.specs.Machine.{take_page, takes_page}
-use Rattle.rgo_region_machine.specs.Objects.{making_region, new_object, with_fill}
+use Rattle.rgo_region_machine.specs.Objects.{making_region, new_object, with_page}
 use Rattle.rgo_region_machine.specs.Offers.{acknowledge, make_offer, offer_for, offered}
 use Rattle.rgo_region_machine.specs.Owed.{caller_duties, current, current_in, duties_before, duties_behind, duties_behind_call}
 use Rattle.rgo_region_machine.specs.Owed.{duties_of_op, entry_removes, function_at, function_of, next_duties}
@@ -398,15 +398,16 @@ module _ (code : Code) (s : RegionState) (old : Orderly code s) where
     takes : (page_words : ℕ) (frames : List Frame) → Yields (Orderly code) (take_page code page_words s g h frames)
     takes page_words [] = yields_none
     takes page_words (frame ∷ callers) = yields_then (page_for code page_words s g h frame) _
-        (λ i. yields_then (takes_page code page_words s g h) _ (λ r. yields_if _ _ _ (taken r) yields_none))
+        (λ i. yields_then (takes_page code page_words s g h) _ (λ r. yields_then (page_before page_words s g h r) _
+        (λ x. yields_if _ _ _ (taken r x) yields_none)))
       where
-        taken : (r : Region) → Yields (Orderly code) (Some (page_taken s g h r))
-        taken GlobalRegion = kept_pending _ (record h { fills = with_fill h.fills GlobalRegion 0 }) refl refl refl refl
-            (omega arith) refl refl before
-        taken (Numbered r) =
-            let l = length_with_info s.regions r one_page_more in
-            kept_pending _ (record h { fills = with_fill h.fills (Numbered r) 0 }) refl refl refl refl (omega (arith, l))
+        taken : (r : Region) (x : Object)
+            → Yields (Orderly code) (Some (page_taken s g (with_page page_words h r x) r))
+        taken GlobalRegion x = kept_pending _ (with_page page_words h GlobalRegion x) refl refl refl refl (omega arith)
             refl refl before
+        taken (Numbered r) x =
+            let l = length_with_info s.regions r one_page_more in
+            kept_pending _ (with_page page_words h (Numbered r) x) refl refl refl refl (omega (arith, l)) refl refl before
 
     offers : (frames : List Frame) → Yields (Orderly code) (make_offer code s g h frames)
     offers [] = yields_none
@@ -545,7 +546,7 @@ module _ (code : Code) (s : RegionState) (old : Orderly code s) where
       own_orderly m =
           subst (λ (k : Holder). OrderlyHolder code (frames_of (after s.plain g x.a) g)
           (holder_after code k x.frame x.callers x.instr.op (frames_of (after s.plain g x.a) g))) (sym x.same.same)
-          (orderly_after (record x.h { fills = x.same.fills }) x.frame x.callers x.instr.op
+          (orderly_after (record x.h { fills = x.same.fills; reserved = x.same.reserved }) x.frame x.callers x.instr.op
           (frames_of (after s.plain g x.a) g)
           (subst (λ f. FramesFit code x.h.base f x.h.environments x.h.duties) (ap frames_in x.at)
           (all.good.fine.each g x.h x.there).fit)

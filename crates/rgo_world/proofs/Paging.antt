@@ -1,5 +1,5 @@
 -- A goroutine takes a page: the step of the region machine, and what the world shows after it.
-use Rattle.std.proofs.Common.{◌≡◌, ℕ, ◌≤◌, ◌<◌, Bool, true, false, List, [], ◌∷◌, length, map, Option, Some, None}
+use Rattle.std.proofs.Common.{◌≡◌, ℕ, ◌+◌, ◌≤◌, ◌<◌, Bool, true, false, List, [], ◌∷◌, length, map, Option, Some, None}
 use Rattle.std.proofs.Common.{◌-◌, refl, sym, ap, ◌∙◌, subst, drop, nat_eq, nat_lt, if◌then◌else◌, arith, true≢false}
 use Rattle.std.proofs.Common.{slice_get, slice_set, option_map, option_and_then}
 use Rattle.std.proofs.lemmas.Bool.Decides.{nat_tests}
@@ -20,9 +20,11 @@ use Rattle.rgo_sound.proofs.Offers.{steps_keep_good}
 use Rattle.rgo_sound.proofs.Places.{get_set_other}
 use Rattle.rgo_sound.proofs.Tests.{eq_of, split}
 use Rattle.rgo_world.specs.declared.holders.Holder.{Holder}
+use Rattle.rgo_world.specs.declared.objects.Extent.{Extent}
 use Rattle.rgo_world.specs.declared.worlds.World.{World}
-use Rattle.rgo_world.specs.Holders.{Fills, HolderShows, SameBindings, fill_in}
-use Rattle.rgo_world.specs.Objects.{AddsPage}
+use Rattle.rgo_world.specs.Holders.{Fills, HolderShows, Reserves, SameBindings, fill_in}
+use Rattle.rgo_world.specs.Extents.{is_spread}
+use Rattle.rgo_world.specs.Objects.{AddsPage, WithPage}
 use Rattle.rgo_world.specs.Tables.{is_gone, is_gone_in, pages_with, regions_with_page}
 use Rattle.rgo_world.specs.Works.{Attended, Ready, Works}
 use Rattle.rgo_world.specs.Worlds.{HoldersShow, OwesNext, Shown, next_creates}
@@ -72,6 +74,7 @@ fill_shown c d h region used ds shows fills = record {
   base = ap (map Numbered) fills.1.base ∙ shows.base;
   fills = λ r i. by (Numbered r) (shows.fills r i);
   global_fill = by GlobalRegion shows.global_fill;
+  reserved = fills.1.reserved ∙ shows.reserved;
   no_offer = shows.no_offer;
 }
   where
@@ -83,6 +86,46 @@ pub fill_unmade : (c d : Holder) (h : spec.Holder) (region q : Region) (used : �
     → fill_in c q ≡ fill_of h.fills q → fill_in d q ≡ fill_of (with_fill h.fills region used) q
 fill_unmade c d h region q used fills e =
     fills.0 q ∙ ap (λ o. if same_region region q then Some used else o) e ∙ sym (fill_with_at h.fills region used q)
+
+-- what the code keeps of it, after so many pages are reserved
+pub reserve_shown : (c d : Holder) (h : spec.Holder) (n : ℕ) (ds : List Duty) → HolderShows c h → Reserves c d n
+    → HolderShows d (record h { reserved = n; duties = ds })
+reserve_shown c d h n ds shows e = subst (λ z. HolderShows z (record h { reserved = n; duties = ds })) (sym e) (record {
+  names = shows.names;
+  protections = shows.protections;
+  base = shows.base;
+  fills = shows.fills;
+  global_fill = shows.global_fill;
+  reserved = refl;
+  no_offer = shows.no_offer;
+})
+
+-- ---- the page that is taken
+
+-- what the machine's goroutine has of the pages after it, and the code's shows it
+pub record PageShows (h : spec.Holder) (spread : Bool) (region : Region) (fills : List (Region × ℕ)) (reserved : ℕ)
+    : Type 0 where
+  pub shows : (c d : Holder) → HolderShows c h → WithPage spread c d region
+      → HolderShows d (record h { fills = fills; reserved = reserved })
+  pub unmade : (c d : Holder) → WithPage spread c d region → (q : ℕ)
+      → fill_in c (Numbered q) ≡ fill_of h.fills (Numbered q) → fill_in d (Numbered q) ≡ fill_of fills (Numbered q)
+  pub done : (c d : Holder) → WithPage spread c d region → d.done ≡ c.done
+
+pub page_reserved : (h : spec.Holder) (region : Region) → PageShows h true region h.fills (h.reserved + 1)
+page_reserved h region = record {
+  shows = λ c d shows e. reserve_shown c d h (h.reserved + 1) h.duties shows
+      (e ∙ ap (λ n. record c { reserved = n + 1 }) shows.reserved);
+  unmade = λ c d e q is. ap (λ (z : Holder). fill_in z (Numbered q)) e ∙ is;
+  done = λ c d e. ap (λ (z : Holder). z.done) e;
+}
+
+pub page_own : (h : spec.Holder) (region : Region)
+    → PageShows h false region (with_fill h.fills region 0) h.reserved
+page_own h region = record {
+  shows = λ c d shows fills. fill_shown c d h region 0 h.duties shows fills;
+  unmade = λ c d fills q is. fill_unmade c d h region (Numbered q) 0 fills is;
+  done = λ c d fills. fills.1.done;
+}
 
 -- ---- a page more
 
@@ -114,15 +157,17 @@ pub record Pages (w v : World) (s : RegionState) (g : ℕ) (k : spec.Holder) : T
   pub ready : Ready v attended.state g
   pub holder : ready.works.holder ≡ k
 
-module _ (w v : World) (s : RegionState) (g : ℕ) (ready : Ready w s g) (region : Region) (adds : AddsPage w v g region)
-    (live : is_live s.regions region ≡ true) (fewer : w.table.taken - w.table.returned < w.sizes.pages)
+module _ (w v : World) (s : RegionState) (g : ℕ) (ready : Ready w s g) (region : Region) (extent : Extent)
+    (adds : AddsPage w v g region extent) (live : is_live s.regions region ≡ true)
+    (fewer : w.table.taken - w.table.returned < w.sizes.pages) (fills : List (Region × ℕ)) (reserved : ℕ)
+    (after : PageShows ready.works.holder (is_spread w.sizes.page_words extent) region fills reserved)
     (steps : region_step w.code.now w.sizes.page_words s (TakePage g)
-    ≡ Some (page_taken s g ready.works.holder region)) where
+    ≡ Some (page_taken s g (record ready.works.holder { fills = fills; reserved = reserved }) region)) where
   abbrev h : spec.Holder
   h = ready.works.holder
 
   abbrev k : spec.Holder
-  k = record h { fills = with_fill h.fills region 0 }
+  k = record h { fills = fills; reserved = reserved }
 
   abbrev now : World
   now = record w { table = v.table; holders = v.holders }
@@ -133,7 +178,7 @@ module _ (w v : World) (s : RegionState) (g : ℕ) (ready : Ready w s g) (region
     global_pages = pages_with s.global_pages region;
   }
 
-  next_is : (r : Region) → page_taken s g h r ≡ record (attended s g (record h { fills = with_fill h.fills r 0 })) {
+  next_is : (r : Region) → page_taken s g k r ≡ record (attended s g k) {
     regions = regions_with_page s.regions r;
     global_pages = pages_with s.global_pages r;
   }
@@ -158,11 +203,12 @@ module _ (w v : World) (s : RegionState) (g : ℕ) (ready : Ready w s g) (region
   kept : (c : Holder) × (slice_get w.holders.items g ≡ Some c)
   kept = there_is w s g [] ready.works
 
-  refilled : (d : Holder) × (v.holders.items ≡ slice_set w.holders.items g d) × Fills kept.0 d region 0
-  refilled = adds.refilled kept.0 kept.1
+  paged : (d : Holder) × (v.holders.items ≡ slice_set w.holders.items g d)
+      × WithPage (is_spread w.sizes.page_words extent) kept.0 d region
+  paged = adds.changed kept.0 kept.1
 
-  changes : Changes w now s next g kept.0 refilled.0 h k
-  changes = record { c_there = kept.1; h_there = ready.works.is_holder; v_is = refilled.1; t_is = refl }
+  changes : Changes w now s next g kept.0 paged.0 h k
+  changes = record { c_there = kept.1; h_there = ready.works.is_holder; v_is = paged.1; t_is = refl }
 
   shows : HoldersShow w s
   shows = ready.works.shown.holders ready.works.running
@@ -181,9 +227,8 @@ module _ (w v : World) (s : RegionState) (g : ℕ) (ready : Ready w s g) (region
         table = adds.taken s.regions s.global_pages s.owners live old.table;
         holders = λ m. one_shows changes shows
             (let l = page_length s.regions region in omega (arith, l))
-            (fill_shown kept.0 refilled.0 h region 0 h.duties (shows.each g kept.0 h kept.1 ready.works.is_holder)
-            refilled.2)
-            (λ r l. fill_unmade kept.0 refilled.0 h region (Numbered r) 0 refilled.2
+            (after.shows kept.0 paged.0 (shows.each g kept.0 h kept.1 ready.works.is_holder) paged.2)
+            (λ r l. after.unmade kept.0 paged.0 paged.2 r
             (shows.unmade g kept.0 h kept.1 ready.works.is_holder r
             (let e = page_length s.regions region in omega (arith, e, l))));
       }
@@ -211,13 +256,16 @@ module _ (w v : World) (s : RegionState) (g : ℕ) (ready : Ready w s g) (region
   owes_next x e =
       subst (λ z. OwesNext w.code.now next g z k)
       (d_is changes g x refl e) (record {
-        left = was.left ∙ ap (λ n. drop n (next_duties w.code.now (frames_of s.plain g))) (sym refilled.2.1.done);
-        within = subst (λ n. n ≤ length (next_duties w.code.now (frames_of s.plain g))) (sym refilled.2.1.done)
+        left = was.left ∙ ap (λ n. drop n (next_duties w.code.now (frames_of s.plain g))) (sym done);
+        within = subst (λ n. n ≤ length (next_duties w.code.now (frames_of s.plain g))) (sym done)
             was.within;
         together = λ l. was.together
-            (subst (λ n. length (next_creates w.code.now (frames_of s.plain g)) < n) refilled.2.1.done l);
+            (subst (λ n. length (next_creates w.code.now (frames_of s.plain g)) < n) done l);
       })
     where
+      done : paged.0.done ≡ kept.0.done
+      done = after.done kept.0 paged.0 paged.2
+
       was : OwesNext w.code.now s g kept.0 h
       was = ready.between.owes g kept.0 h kept.1 ready.works.is_holder
 
@@ -232,7 +280,7 @@ module _ (w v : World) (s : RegionState) (g : ℕ) (ready : Ready w s g) (region
       works = works_next;
       plain = refl;
       same = record { code = refl; sizes = refl; print = refl };
-      kept = kept_others w now g refilled.0 refilled.1;
+      kept = kept_others w now g paged.0 paged.1;
       others = λ j n. get_set_other s.holders g j k (differs g j n);
     };
     ready = record {

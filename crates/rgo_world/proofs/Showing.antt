@@ -151,6 +151,7 @@ module _ (c d : Holder) (h : spec.Holder) (shows : HolderShows c h) (ds : List D
       base = ap (map Numbered) binds.kept.base ∙ shows.base;
       fills = λ q i. binds.kept.fills (Numbered q) ∙ staked q (nat_eq q r) refl i;
       global_fill = binds.kept.fills GlobalRegion ∙ shows.global_fill;
+      reserved = binds.kept.reserved ∙ shows.reserved;
       no_offer = shows.no_offer;
     }
       where
@@ -189,6 +190,7 @@ module _ (c d : Holder) (h : spec.Holder) (shows : HolderShows c h) (ds : List D
       base = ap (map Numbered) protects.1.base ∙ shows.base;
       fills = λ r i. protects.1.fills (Numbered r) ∙ shows.fills r i;
       global_fill = protects.1.fills GlobalRegion ∙ shows.global_fill;
+      reserved = protects.1.reserved ∙ shows.reserved;
       no_offer = shows.no_offer;
     }
 
@@ -214,6 +216,7 @@ module _ (c d : Holder) (h : spec.Holder) (shows : HolderShows c h) (ds : List D
       base = ap (map Numbered) unprotects.1.base ∙ shows.base;
       fills = λ r i. unprotects.1.fills (Numbered r) ∙ shows.fills r i;
       global_fill = unprotects.1.fills GlobalRegion ∙ shows.global_fill;
+      reserved = unprotects.1.reserved ∙ shows.reserved;
       no_offer = shows.no_offer;
     }
 
@@ -229,6 +232,7 @@ module _ (c d : Holder) (h : spec.Holder) (shows : HolderShows c h) (ds : List D
       base = ap (map Numbered) unbinds.kept.base ∙ shows.base;
       fills = λ q i. unbinds.kept.fills (Numbered q) ∙ shows.fills q i;
       global_fill = unbinds.kept.fills GlobalRegion ∙ shows.global_fill;
+      reserved = unbinds.kept.reserved ∙ shows.reserved;
       no_offer = shows.no_offer;
     }
       where
@@ -250,6 +254,7 @@ module _ (c d : Holder) (h : spec.Holder) (shows : HolderShows c h) (ds : List D
     fills = λ q i. leaves.0 (Numbered q) ∙ split (nat_eq r q) (λ t. absurd (gone q (eq_of r q t) i)) (λ f.
         ap (λ b. if b then None else fill_in c (Numbered q)) f ∙ shows.fills q (sym (in_without r q h.stakes f) ∙ i));
     global_fill = leaves.0 GlobalRegion ∙ shows.global_fill;
+    reserved = leaves.1.reserved ∙ shows.reserved;
     no_offer = shows.no_offer;
   }
     where
@@ -277,6 +282,7 @@ module _ (c d : Holder) (h : spec.Holder) (shows : HolderShows c h) (ds : List D
       base = sym removed;
       fills = λ r i. ends.3 (Numbered r) ∙ shows.fills r i;
       global_fill = ends.3 GlobalRegion ∙ shows.global_fill;
+      reserved = ends.4 ∙ shows.reserved;
       no_offer = shows.no_offer;
     },
   )

@@ -191,6 +191,7 @@ module _ (w v : World) (s : RegionState) (limits : Limits) (g : ℕ) (next : Nex
           (passed_regions (top_names h.environments) (passes_of instr.op))) ∷ [];
       base = twice (passed_regions (top_names h.environments) (passes_of instr.op));
       fills = [];
+      reserved = 0;
       duties = map Remove (entry_removes (function_of w.code.now callee))
           ++ next_duties w.code.now (last_frames y.next.goroutines);
       offer = NoOffer;
@@ -296,10 +297,10 @@ module _ (w v : World) (s : RegionState) (limits : Limits) (g : ℕ) (next : Nex
           (environment_of (result_of (function_of w.code.now callee))
           (passed (formals_of (function_of w.code.now callee))
           (passed_regions (top_names h.environments) (passes_of instr.op)))) started.begins refl stand.0 refl stand.1
-          (good_now.good.fine.each (length w.holders.items) child child_now).base_once refl refl
+          (good_now.good.fine.each (length w.holders.items) child child_now).base_once refl refl refl
 
       parent_shows : HolderShows kept.0 parent
-      parent_shows = alike_shown kept.0 h parent old refl refl refl refl refl
+      parent_shows = alike_shown kept.0 h parent old refl refl refl refl refl refl
 
       changes : Changes w w s without g kept.0 kept.0 h parent
       changes = record {

@@ -7,7 +7,6 @@ use Rattle.rgo_memory.specs.Channels.{SameChannels}
 use Rattle.rgo_memory.specs.Memory.{Memory}
 use Rattle.rgo_machine.specs.declared.limits.Limits.{Limits}
 use Rattle.rgo_machine.specs.declared.picks.Pick.TheVariants.{One}
-use Rattle.rgo_machine.specs.declared.turns.Shortage.{Shortage}
 use Rattle.rgo_machine.specs.declared.turns.Stop.TheVariants as stop
 use Rattle.rgo_machine.specs.declared.turns.Turned.{Turned}
 use Rattle.rgo_machine.specs.Limits.{is_within}
@@ -29,10 +28,9 @@ use Rattle.rgo_world.specs.declared.worlds.Halt.TheVariants as halt
 use Rattle.rgo_world.specs.declared.worlds.Next.{Next}
 use Rattle.rgo_world.specs.declared.worlds.World.{World}
 use Rattle.rgo_world.specs.Works.{ActsBy, Between, Falls, HasNoNext, IsNext, IsNextOf, IsOn, IsReady, Readies, Ready}
-use Rattle.rgo_world.specs.Works.{StopsShort, Takes, TakesStep, first_of, halted}
-use Rattle.rgo_region_machine.specs.Room.{LacksIn}
+use Rattle.rgo_world.specs.Works.{Takes, TakesStep, first_of, halted}
 use Rattle.rgo_world.proofs.OneHolder.{none_some}
-use Rattle.rgo_world.proofs.Taking.{plain_at_same, takes_after, takes_nothing}
+use Rattle.rgo_world.proofs.Taking.{plain_at_same, takes_after, takes_nothing, takes_short}
 
 no_channel_changed : (m : Memory) → SameChannels m m
 no_channel_changed m o channel e = e
@@ -91,39 +89,8 @@ takes_wait w limits g no_next s between within = record {
 pub takes_halt : (w v : World) (limits : Limits) (g : ℕ) (why : Halt) → Falls why w v g
     → Takes w v limits g 1 (halted why)
 takes_halt w v limits g halt.NoMemory same s between within = takes_nothing w v s limits g between.running same
-takes_halt w v limits g (halt.NoRoom why) stops s between within = record {
-  events = x.events;
-  state = x.state;
-  leads = x.leads;
-  turns = record {
-    leads = ap Some (sym at_same);
-    within = omega arith;
-    over = ap end_in x.between.running;
-    channels = subst (λ (p : TacState). SameChannels s.plain.memory p.memory) (sym x.plain)
-        (no_channel_changed s.plain.memory);
-    print = x.same.print;
-  };
-  code = x.same.code;
-  sizes = x.same.sizes;
-  shown = λ n. (x.between.prepared, x.between.shown);
-  between = λ n m. x.between;
-  lacks = λ other e. subst (λ y. LacksIn w.code.now w.sizes y x.state) (the_shortage why other e) x.lacks;
-  prints = record {
-    bytes = [];
-    whole = ap (λ (p : TacState). p.printed) x.plain ∙ sym (append-nil s.plain.printed);
-    kept = x.same.print ∙ sym (append-nil w.state.printed);
-  };
-}
-  where
-    x : StopsShort w v s g why
-    x = stops s between
-
-    at_same : plain_at x.state v.state.printed ≡ plain_at s w.state.printed
-    at_same = plain_at_same s x.state w.state.printed v.state.printed x.plain between.running x.between.running
-        x.same.print
-
-    the_shortage : (a b : Shortage) → stop.NoRoom a ≡ stop.NoRoom b → a ≡ b
-    the_shortage a b e = cc
+takes_halt w v limits g (halt.NoRoom why) stops s between within =
+    takes_short w v limits g why s between.running (stops s between)
 
 -- ---- it was all done
 

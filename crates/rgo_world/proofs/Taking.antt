@@ -28,8 +28,8 @@ use Rattle.rgo_machine.specs.declared.limits.Sizes.{Sizes}
 use Rattle.rgo_world.specs.declared.worlds.Halt.TheVariants as halt
 use Rattle.rgo_world.specs.declared.worlds.World.{World}
 use Rattle.rgo_world.specs.Orderly.{Orderly}
-use Rattle.rgo_world.specs.Works.{Attended, Between, KeepsOthers, OthersOwe, SamePrint, SameRun, Settled, TakesStep}
-use Rattle.rgo_world.specs.Works.{TakesTurn, done_in, done_of, halted}
+use Rattle.rgo_world.specs.Works.{Attended, Between, KeepsOthers, OthersOwe, SamePrint, SameRun, Settled, StopsShort}
+use Rattle.rgo_world.specs.Works.{TakesStep, TakesTurn, done_in, done_of, halted}
 use Rattle.rgo_world.specs.Worlds.{OwesNext, Prepared, Shown}
 use Rattle.rgo_world.proofs.Attending.{leads_append, same_then}
 use Rattle.rgo_world.proofs.LiftingGood.{StateShows, StepShows, plain_at_after, shown_after, state_shows}
@@ -73,6 +73,38 @@ takes_nothing w v s limits g running same = record {
     kept = same.print ∙ sym (append-nil w.state.printed);
   };
 }
+
+-- some steps with regions were done, and then there was no room
+pub takes_short : (w v : World) (limits : Limits) (g : ℕ) (why : Shortage) (s : RegionState) → s.mark ≡ None
+    → StopsShort w v s g why → TakesStep w v limits s g 1 (halted (halt.NoRoom why))
+takes_short w v limits g why s running x = record {
+  events = x.events;
+  state = x.state;
+  leads = x.leads;
+  turns = record {
+    leads = ap Some (sym at_same);
+    within = omega arith;
+    over = ap end_in x.between.running;
+    channels = subst (λ (p : TacState). SameChannels s.plain.memory p.memory) (sym x.plain) (λ o channel e. e);
+    print = x.same.print;
+  };
+  code = x.same.code;
+  sizes = x.same.sizes;
+  shown = λ n. (x.between.prepared, x.between.shown);
+  between = λ n m. x.between;
+  lacks = λ other e. subst (λ y. LacksIn w.code.now w.sizes y x.state) (the_shortage why other e) x.lacks;
+  prints = record {
+    bytes = [];
+    whole = ap (λ (p : TacState). p.printed) x.plain ∙ sym (append-nil s.plain.printed);
+    kept = x.same.print ∙ sym (append-nil w.state.printed);
+  };
+}
+  where
+    at_same : plain_at x.state v.state.printed ≡ plain_at s w.state.printed
+    at_same = plain_at_same s x.state w.state.printed v.state.printed x.plain running x.between.running x.same.print
+
+    the_shortage : (a b : Shortage) → stop.NoRoom a ≡ stop.NoRoom b → a ≡ b
+    the_shortage a b e = cc
 
 -- the steps lead on over the same code, with as much room
 pub leads_on : (w v : World) (s t : RegionState) (events : List Event) → SameRun w v

@@ -55,17 +55,17 @@ module _ (w v : World) (s : RegionState) (limits : Limits) (g : ℕ) (next : Nex
 
   -- the region machine after it
   pub after_it : RegionState
-  after_it = next_state w v s limits g turned ready i takes one did ready.works.holder.fills []
+  after_it = next_state w v s limits g turned ready i takes one did ready.works.holder.fills ready.works.holder.reserved []
       (fitting w v s limits g turned ready i none takes one did) tt
 
   pub steps_to : region_step w.code.now w.sizes.page_words s (Instruct (One g)) ≡ Some after_it
   unfolding after_it
-  steps_to = next_step w v s limits g turned ready i takes one did ready.works.holder.fills []
+  steps_to = next_step w v s limits g turned ready i takes one did ready.works.holder.fills ready.works.holder.reserved []
       (fitting w v s limits g turned ready i none takes one did) tt
 
   pub mark_after : after_it.mark ≡ None
   unfolding after_it
-  mark_after = still_running w v s limits g turned ready i takes one did ready.works.holder.fills []
+  mark_after = still_running w v s limits g turned ready i takes one did ready.works.holder.fills ready.works.holder.reserved []
       (fitting w v s limits g turned ready i none takes one did) tt v takes_is
       (table_now w v s limits g turned ready i none takes) running
     where
@@ -87,7 +87,7 @@ module _ (w v : World) (s : RegionState) (limits : Limits) (g : ℕ) (next : Nex
       makes.at.is.instr.op (frames_of shown.next g))
       ++ child_holder w.code.now ready.works.holder makes.at.is.instr.op (last_frames shown.next.goroutines)
   unfolding after_it
-  holders_after = holders_are w v s limits g turned ready i takes one did ready.works.holder.fills []
+  holders_after = holders_are w v s limits g turned ready i takes one did ready.works.holder.fills ready.works.holder.reserved []
       (fitting w v s limits g turned ready i none takes one did) tt v (v_is w v s limits g turned ready takes)
       (table_now w v s limits g turned ready i none takes) running
 
@@ -116,7 +116,7 @@ module _ (w v : World) (s : RegionState) (limits : Limits) (g : ℕ) (next : Nex
     pub works_after : HoldersShow p after_it → (k : spec.Holder) → slice_get after_it.holders g ≡ Some k
         → Works p after_it g k.duties
     unfolding after_it
-    works_after = works_by w v s limits g turned ready i takes one did ready.works.holder.fills []
+    works_after = works_by w v s limits g turned ready i takes one did ready.works.holder.fills ready.works.holder.reserved []
         (fitting w v s limits g turned ready i none takes one did) tt p over_w table_at running
 
     -- where only goroutine g has something else
@@ -127,13 +127,13 @@ module _ (w v : World) (s : RegionState) (limits : Limits) (g : ℕ) (next : Nex
         (unmade : (r : ℕ) → length s.regions ≤ r → fill_in d (Numbered r) ≡ fill_of k.fills (Numbered r)) where
       pub works_alone : Works p after_it g k.duties
       unfolding after_it
-      works_alone = works_one w v s limits g turned ready i takes one did ready.works.holder.fills []
+      works_alone = works_one w v s limits g turned ready i takes one did ready.works.holder.fills ready.works.holder.reserved []
           (fitting w v s limits g turned ready i none takes one did) tt p over_w table_at running started k k_is c d
           there d_is shows unmade
 
       pub others_alone : OthersOwe p after_it g
       unfolding after_it
-      others_alone = others_one w v s limits g turned ready i takes one did ready.works.holder.fills []
+      others_alone = others_one w v s limits g turned ready i takes one did ready.works.holder.fills ready.works.holder.reserved []
           (fitting w v s limits g turned ready i none takes one did) tt p over_w table_at running started k k_is c d
           there d_is shows unmade
 

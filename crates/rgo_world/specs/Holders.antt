@@ -70,6 +70,7 @@ pub record SameElse (c d : Holder) : Type 0 where
   pub protections : SameProtections c d
   pub fills : SameFills c d
   pub base : d.base.items ≡ c.base.items
+  pub reserved : d.reserved ≡ c.reserved
   pub done : d.done ≡ c.done
 
 abbrev pub Same : Holder → Holder → Type 0
@@ -80,6 +81,7 @@ pub record SameNames (c d : Holder) : Type 0 where
   pub names : frames_of d ≡ frames_of c
   pub fills : SameFills c d
   pub base : d.base.items ≡ c.base.items
+  pub reserved : d.reserved ≡ c.reserved
   pub done : d.done ≡ c.done
 
 -- the newest frame has other names; with no frame nothing changed
@@ -116,11 +118,16 @@ pub record SameGuards (c d : Holder) : Type 0 where
   pub names : frames_of d ≡ frames_of c
   pub protections : SameProtections c d
   pub base : d.base.items ≡ c.base.items
+  pub reserved : d.reserved ≡ c.reserved
   pub done : d.done ≡ c.done
 
 abbrev pub Fills : Holder → Holder → Region → ℕ → Type 0
 Fills c d region used =
     ((r : Region) → fill_in d r ≡ (if same_region region r then Some used else fill_in c r)) × SameGuards c d
+
+-- so many pages are reserved, and nothing else is changed
+abbrev pub Reserves : Holder → Holder → ℕ → Type 0
+Reserves c d n = d ≡ record c { reserved = n }
 
 abbrev pub Leaves : Holder → Holder → ℕ → Type 0
 Leaves c d q =
@@ -137,6 +144,7 @@ pub record Begins (c : Holder) (names : Names) (base : List ℕ) : Type 0 where
   pub protections : (r : ℕ) → protections_in c r ≡ (if nat_eq (times_among r base) 0 then 0 else 1)
   pub base_is : c.base.items ≡ base
   pub fills : (region : Region) → fill_in c region ≡ None
+  pub reserved : c.reserved ≡ 0
   pub done : c.done ≡ 0
 
 -- ---- what it is of the machine
@@ -162,6 +170,7 @@ pub record HolderShows (c : Holder) (h : spec.Holder) : Type 0 where
   pub base : map Numbered c.base.items ≡ h.base
   pub fills : (r : ℕ) → is_in r h.stakes ≡ true → fill_in c (Numbered r) ≡ fill_of h.fills (Numbered r)
   pub global_fill : c.global_fill ≡ fill_of h.fills GlobalRegion
+  pub reserved : c.reserved ≡ h.reserved
   pub no_offer : h.offer ≡ NoOffer
 
 abbrev pub EndsBase : Holder → Holder → Option ℕ → Type 0
@@ -169,4 +178,4 @@ EndsBase c d None = (c.base.items ≡ []) × (d ≡ c)
 EndsBase c d (Some q) =
     (c.base.items ≡ q ∷ d.base.items)
     × ((r : ℕ) → protections_in d r ≡ protections_in c r - one_if (nat_eq q r))
-    × (frames_of d ≡ frames_of c) × SameFills c d × (d.done ≡ c.done)
+    × (frames_of d ≡ frames_of c) × SameFills c d × (d.reserved ≡ c.reserved) × (d.done ≡ c.done)

@@ -1,5 +1,6 @@
 pub mod Calls
 pub mod Attending
+pub mod Extents
 pub mod Holders
 pub mod Objects
 pub mod Orderly

@@ -28,6 +28,8 @@ pub(crate) struct Holder {
     pub(crate) fills: HashMap<usize, usize>,
     /// The same of Global, if it has a page there.
     pub(crate) global_fill: Option<usize>,
+    /// How many pages it has taken so far for the spread object that its next instruction makes.
+    pub(crate) reserved: usize,
     /// How many of the steps are done that it owes before its next instruction.
     pub(crate) done: usize,
 }
@@ -92,6 +94,7 @@ impl Holder {
             base,
             fills: HashMap::new(alloc),
             global_fill: None,
+            reserved: 0,
             done: 0,
         })
     }

@@ -5,6 +5,7 @@ mod calls;
 mod duties;
 mod holders;
 mod instructions;
+mod laws;
 mod marks;
 mod meetings;
 mod objects;
@@ -14,4 +15,5 @@ mod tables;
 mod turns;
 mod worlds;
 
+pub use laws::extent_examples;
 pub use worlds::World;

@@ -1,13 +1,15 @@
 //! New objects, and the pages in which they lie.
 
-ghost use Rattle.std.specs.Prelude.{◌≡◌, ◌≤◌, ◌+◌, ℕ, length, max, slice_get, unwrap_or, Some, MatchResult, OnOk};
+ghost use Rattle.std.specs.Prelude.{◌≡◌, ◌≤◌, ◌+◌, false, slice_get, unwrap_or, Some, MatchResult, OnOk};
 ghost use Rattle.rgo_tac.specs.Frames.{values_of};
 ghost use Rattle.rgo_tac.specs.Ops.{numbers_of, operation_of};
 ghost use Rattle.rgo_code.specs.Names as names;
 ghost use Rattle.rgo_region_machine.specs.Objects.{fits};
 ghost use Rattle.rgo_region_machine.specs.States.{RegionState};
+ghost use Rattle.rgo_world.specs.Extents as extents;
+ghost use Rattle.rgo_world.specs.Holders.{Fills, Reserves, fill_in};
 ghost use Rattle.rgo_world.specs.Objects as spec;
-ghost use Rattle.rgo_world.specs.Objects.{MakesNext, Refills, AddsPage, Places, HasRoom, HasNoRoom};
+ghost use Rattle.rgo_world.specs.Objects.{MakesNext, ChangesHolder, WithPage, AddsPage, Placed, Places, HasRoom, HasNoRoom};
 ghost use Rattle.rgo_world.specs.Works.{Ready, SameRun};
 
 use crate::worlds::{Halt, Next, World};
@@ -18,21 +20,79 @@ use rgo_tac::{Class, Frame, Op, Operands};
 use rgo_typed::{Action, Struct};
 use std::alloc::AllocError;
 
+/// How large an object is.
+#[derive(Clone, Copy)]
+pub(crate) struct Extent {
+    /// How many fields, elements or places of a buffer it has.
+    pub(crate) cells: usize,
+    /// How many words it takes.
+    pub(crate) words: usize,
+}
+
 /// An object that is about to be made.
 #[derive(Clone, Copy)]
 pub(crate) struct Making {
     /// The variable that will point to it.
     pub(crate) to: u32,
-    /// How many words of a page it takes.
-    pub(crate) words: usize,
+    pub(crate) extent: Extent,
 }
 
-/// The words of a struct of this number: at least one.
-fn struct_words(structs: &[Struct], n: usize) -> Option<usize>
-    ensures { result ≡ spec.struct_words (slice_get structs.now n) }
+impl Extent {
+    /// Whether an object does not fit a page, and is spread over a lead page and data pages.
+    fn is_spread(self, page_words: usize) -> bool
+        ensures { result ≡ extents.is_spread page_words self }
+    {
+        self.words > page_words
+    }
+
+    /// How many data pages an object has; none unless it is spread.
+    fn data_pages(self, page_words: usize) -> usize
+        ensures { result ≡ extents.data_pages page_words self }
+    {
+        if !self.is_spread(page_words) {
+            return 0;
+        }
+        match self.cells.saturating_sub(1).checked_div(page_words) {
+            Some(full) => full + 1,
+            None => 1,
+        }
+    }
+
+    /// Whether an object has more data pages than there can be.
+    fn is_too_large(self, page_words: usize) -> bool
+        ensures { result ≡ extents.is_too_large page_words self }
+    {
+        self.data_pages(page_words) > page_words.saturating_sub(2).min(64)
+    }
+
+    /// How many pages are to be taken before an object, where so many are reserved for it and so many words are used of
+    /// the goroutine's own page.
+    fn pages_wanted(self, page_words: usize, reserved: usize, used: Option<usize>) -> usize
+        requires { extents.is_too_large page_words self ≡ false }
+        ensures { result ≡ extents.pages_wanted page_words reserved used self }
+    {
+        if self.is_spread(page_words) {
+            (self.data_pages(page_words) + 1).saturating_sub(reserved)
+        } else if has_room(used, self.words, page_words) {
+            0
+        } else {
+            1
+        }
+    }
+}
+
+/// A struct of this number: it takes at least one word.
+fn struct_extent(structs: &[Struct], n: usize) -> Option<Extent>
+    ensures { result ≡ spec.struct_extent (slice_get structs.now n) }
 {
     match structs.get(n) {
-        Some(of) => Some(of.fields.items().len().max(1)),
+        Some(of) => {
+            let cells = of.fields.items().len();
+            Some(Extent {
+                cells,
+                words: cells.max(1),
+            })
+        }
         None => None,
     }
 }
@@ -47,34 +107,40 @@ fn cells(size: Value) -> Option<usize>
     }
 }
 
-/// The words of a slice of this length: its cells, and one for the length.
-fn slice_words(size: Value) -> Option<usize>
-    ensures { result ≡ spec.sized_words (λ n. 1 + n) size }
+/// A slice of this length: its cells, and a word for the length.
+fn slice_extent(size: Value) -> Option<Extent>
+    ensures { result ≡ spec.sized_extent spec.slice_extent size }
 {
     match cells(size) {
-        Some(n) => Some(n + 1),
+        Some(n) => Some(Extent {
+            cells: n,
+            words: n + 1,
+        }),
         None => None,
     }
 }
 
-/// The words of a channel with such a buffer: at least one cell, and two for what a channel is.
-fn channel_words(size: Value) -> Option<usize>
-    ensures { result ≡ spec.sized_words (λ n. 2 + max 1 n) size }
+/// A channel with such a buffer: at least one cell, and two words for what a channel is.
+fn channel_extent(size: Value) -> Option<Extent>
+    ensures { result ≡ spec.sized_extent spec.channel_extent size }
 {
     match cells(size) {
-        Some(n) => Some(n.max(1) + 2),
+        Some(n) => Some(Extent {
+            cells: n.max(1),
+            words: n.max(1) + 2,
+        }),
         None => None,
     }
 }
 
-/// The words of the object that an action makes; `None` where it makes none.
-fn words_made(structs: &[Struct], frame: &Frame, action: Action, from: Operands) -> Option<usize>
-    ensures { result ≡ spec.words_made structs.now action (values_of frame.now (numbers_of from)) }
+/// How large the object is that an action makes; `None` where it makes none.
+fn extent_made(structs: &[Struct], frame: &Frame, action: Action, from: Operands) -> Option<Extent>
+    ensures { result ≡ spec.extent_made structs.now action (values_of frame.now (numbers_of from)) }
 {
     match (action, from) {
-        (Action::New(n), Operands::Zero) => struct_words(structs, n),
-        (Action::Slice, Operands::One(size)) => slice_words(frame.value(size)),
-        (Action::Chan, Operands::One(size)) => channel_words(frame.value(size)),
+        (Action::New(n), Operands::Zero) => struct_extent(structs, n),
+        (Action::Slice, Operands::One(size)) => slice_extent(frame.value(size)),
+        (Action::Chan, Operands::One(size)) => channel_extent(frame.value(size)),
         (Action::New(_) | Action::Slice | Action::Chan, _) => None,
         (
             Action::Int(_)
@@ -109,8 +175,8 @@ pub(crate) fn next_object(structs: &[Struct], frame: &Frame, op: Op<'_>) -> Opti
             to: Some(to),
             action,
             from,
-        } => match words_made(structs, frame, action, from) {
-            Some(words) => Some(Making { to, words }),
+        } => match extent_made(structs, frame, action, from) {
+            Some(extent) => Some(Making { to, extent }),
             None => None,
         },
         Op::Do { .. }
@@ -168,7 +234,7 @@ impl<'a> World<'a> {
 
     /// Now so many words are used of the page that a goroutine fills in a region.
     fn refill(&mut self, g: usize, region: Region, used: usize) -> Result<(), AllocError>
-        ensures refills { OnOk result (Refills self.old self.new g region used) }
+        ensures refills { OnOk result (ChangesHolder self.old self.new g (λ c d. Fills c d region used)) }
         ensures same { SameRun self.old self.new }
     {
         if let Some(holder) = self.holders.get_mut(g) {
@@ -179,8 +245,8 @@ impl<'a> World<'a> {
 
     /// So many more words are used of that page.
     fn fill_more(&mut self, g: usize, region: Region, words: usize) -> Result<(), AllocError>
-        ensures refills { OnOk result (Refills self.old self.new g region
-            (unwrap_or (spec.fill_for self.old g region) 0 + words)) }
+        ensures refills { OnOk result (ChangesHolder self.old self.new g
+            (λ c d. Fills c d region (unwrap_or (fill_in c region) 0 + words))) }
         ensures same { SameRun self.old self.new }
     {
         if let Some(holder) = self.holders.get_mut(g) {
@@ -189,17 +255,104 @@ impl<'a> World<'a> {
         Ok(())
     }
 
-    /// A goroutine takes a page in a region.
-    fn add_page(&mut self, g: usize, region: Region) -> Result<(), AllocError>
-        ensures added { OnOk result (AddsPage self.old self.new g region) }
+    /// How many pages a goroutine has reserved.
+    fn reserved(&self, g: usize) -> usize
+        ensures { result ≡ spec.reserved_for self.now g }
+    {
+        match self.holders.get(g) {
+            Some(holder) => holder.reserved,
+            None => 0,
+        }
+    }
+
+    /// A goroutine has one more page reserved.
+    ///
+    /// # Errors
+    ///
+    /// Where as many are reserved as can be counted. Then nothing changed.
+    fn reserve_page(&mut self, g: usize) -> Result<(), AllocError>
+        ensures reserves { OnOk result (ChangesHolder self.old self.new g (λ c d. Reserves c d (c.reserved + 1))) }
         ensures same { SameRun self.old self.new }
     {
-        self.table.take_page(region)?;
-        self.refill(g, region, 0)?;
+        if let Some(holder) = self.holders.get_mut(g) {
+            let Some(more) = holder.reserved.checked_add(1) else {
+                return Err(AllocError);
+            };
+            holder.reserved = more;
+        }
         Ok(())
     }
 
-    /// The next object has room in the goroutine's own page of its region. Where it has none, the goroutine takes a page.
+    /// The pages that a goroutine has reserved are those of an object: no other is reserved.
+    fn use_reserved(&mut self, g: usize)
+        ensures uses { ChangesHolder self.old self.new g (λ c d. Reserves c d 0) }
+        ensures same { SameRun self.old self.new }
+    {
+        if let Some(holder) = self.holders.get_mut(g) {
+            holder.reserved = 0;
+        }
+    }
+
+    /// A page more is reserved for an object, if it is spread; else it is the goroutine's own in a region.
+    fn keep_page(&mut self, g: usize, region: Region, extent: Extent) -> Result<(), AllocError>
+        ensures kept { OnOk result (ChangesHolder self.old self.new g
+            (λ c d. WithPage (extents.is_spread self.old.sizes.page_words extent) c d region)) }
+        ensures same { SameRun self.old self.new }
+    {
+        if extent.is_spread(self.sizes.page_words) {
+            self.reserve_page(g)
+        } else {
+            self.refill(g, region, 0)
+        }
+    }
+
+    /// A goroutine takes a page in a region for an object.
+    fn add_page(&mut self, g: usize, region: Region, extent: Extent) -> Result<(), AllocError>
+        ensures added { OnOk result (AddsPage self.old self.new g region extent) }
+        ensures same { SameRun self.old self.new }
+    {
+        self.table.take_page(region)?;
+        self.keep_page(g, region, extent)?;
+        Ok(())
+    }
+
+    /// How many pages a goroutine is to take in a region before an object.
+    fn pages_wanted(&self, g: usize, region: Region, extent: Extent) -> usize
+        requires { extents.is_too_large self.now.sizes.page_words extent ≡ false }
+        ensures { result ≡ spec.pages_wanted_for self.now g region extent }
+    {
+        extent.pages_wanted(
+            self.sizes.page_words,
+            self.reserved(g),
+            self.fill(g, region),
+        )
+    }
+
+    /// The goroutine takes these pages in a region for its next object.
+    fn take_pages(
+        &mut self,
+        g: usize,
+        next: &Next<'a>,
+        making: Making,
+        region: Region,
+    ) -> Result<(), Halt>
+        requires makes { MakesNext self.old g next.now making }
+        requires region { spec.region_for self.old g next.now making ≡ Some region }
+        requires small { extents.is_too_large self.old.sizes.page_words making.extent ≡ false }
+        ensures { MatchResult result (λ _. (s : RegionState) → Ready self.old s g
+            → HasRoom self.old self.new s g next.now making) (λ halt. HasNoRoom halt self.old self.new g) }
+    {
+        for _ in 0..self.pages_wanted(g, region, making.extent) {
+            if self.table.pages() >= self.sizes.pages {
+                return Err(Halt::NoRoom(Shortage::Pages));
+            }
+            self.add_page(g, region, making.extent)?;
+        }
+        Ok(())
+    }
+
+    /// The next object has room: in the goroutine's own page of its region, or in pages that are reserved for it. Where it
+    /// has none, the goroutine takes pages.
     pub(crate) fn make_room(
         &mut self,
         g: usize,
@@ -210,39 +363,47 @@ impl<'a> World<'a> {
         ensures { MatchResult result (λ _. (s : RegionState) → Ready self.old s g
             → HasRoom self.old self.new s g next.now making) (λ halt. HasNoRoom halt self.old self.new g) }
     {
-        if making.words > self.sizes.page_words {
+        if making.extent.is_too_large(self.sizes.page_words) {
             return Err(Halt::NoRoom(Shortage::ObjectSize));
         }
         let Some(region) = self.region_for(g, next, making) else {
             return Ok(());
         };
-        if has_room(self.fill(g, region), making.words, self.sizes.page_words) {
-            return Ok(());
-        }
-        if self.table.pages() >= self.sizes.pages {
-            return Err(Halt::NoRoom(Shortage::Pages));
-        }
-        self.add_page(g, region)?;
-        Ok(())
+        self.take_pages(g, next, making, region)
     }
 
-    /// An object of so many words lies in the page that a goroutine fills in a region.
+    /// An object takes the pages that are reserved for it, if it is spread; else words of the goroutine's own page in a
+    /// region.
+    fn use_room(&mut self, g: usize, region: Region, extent: Extent) -> Result<(), AllocError>
+        ensures used { OnOk result (ChangesHolder self.old self.new g
+            (λ c d. Placed (extents.is_spread self.old.sizes.page_words extent) c d region extent.words)) }
+        ensures same { SameRun self.old self.new }
+    {
+        if extent.is_spread(self.sizes.page_words) {
+            self.use_reserved(g);
+            Ok(())
+        } else {
+            self.fill_more(g, region, extent.words)
+        }
+    }
+
+    /// An object lies in a region.
     fn put(
         &mut self,
         g: usize,
         region: Region,
-        words: usize,
+        extent: Extent,
         object: usize,
     ) -> Result<(), AllocError>
-        ensures placed { OnOk result (Places self.old self.new g region words object) }
+        ensures placed { OnOk result (Places self.old self.new g region extent object) }
         ensures same { SameRun self.old self.new }
     {
-        self.fill_more(g, region, words)?;
+        self.use_room(g, region, extent)?;
         self.table.own(region, object)?;
         Ok(())
     }
 
-    /// The object that was made lies in its region, in the goroutine's own page.
+    /// The object that was made lies in its region, where there is room for it.
     pub(crate) fn place(
         &mut self,
         g: usize,
@@ -251,11 +412,11 @@ impl<'a> World<'a> {
         object: usize,
     ) -> Result<(), AllocError>
         ensures placed { OnOk result ((region : _) → spec.region_for self.old g next.now making ≡ Some region
-            → Places self.old self.new g region making.words object) }
+            → Places self.old self.new g region making.extent object) }
         ensures same { SameRun self.old self.new }
     {
         if let Some(region) = self.region_for(g, next, making) {
-            self.put(g, region, making.words, object)?;
+            self.put(g, region, making.extent, object)?;
         }
         Ok(())
     }

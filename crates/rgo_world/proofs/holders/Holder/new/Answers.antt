@@ -31,5 +31,6 @@ returns c = record {
   fills =
       let none : (r : ℕ) → get nat_eq c.new-2.result r ≡ None = λ r. search rules in
       each_region _ refl none;
+  reserved = refl;
   done = refl;
 }

@@ -1,7 +1,6 @@
-use Rattle.std.proofs.Common.{◌≡◌, ◌+◌, Some, ap, refl, slice_get, sym, ◌∙◌, subst, unwrap_or}
+use Rattle.std.proofs.Common.{◌≡◌, ◌+◌, Some, refl, slice_get, sym, ◌∙◌, subst, unwrap_or}
 use Rattle.std.proofs.lemmas.Option.{slice_get_past}
-use Rattle.rgo_world.specs.Holders.{Fills}
-use Rattle.rgo_world.specs.Objects.{fill_held}
+use Rattle.rgo_world.specs.Holders.{Fills, fill_in}
 use Rattle.rgo_world.proofs.Attending.{found}
 use Rattle.rgo_world.proofs.OneHolder.{none_some, the_same}
 use Rattle.rgo_world.proofs.worlds.World.fill_more.Goals as goal
@@ -14,19 +13,17 @@ returns-in_ok-fill_more-clause-refills c =
     found w.holders.items c.args.g c.in-Some.holder.now item.3.0 item.1 in
     record {
       same = refl;
-      refilled = λ h e. (
+      changed = λ h e. (
         c.fill_more.new.self,
         refl,
-        subst (λ n. Fills h c.fill_more.new.self c.args.region n)
-            (ap (λ o. unwrap_or (fill_held o c.args.region) 0 + c.args.words) (sym e))
-            (subst (λ z. Fills z c.fill_more.new.self c.args.region (unwrap_or (fill_held (Some z) c.args.region) 0 + c.args.words))
-            (the_same c.in-Some.holder.now h (sym at ∙ e)) c.in_ok-fill_more.ensures),
+        subst (λ z. Fills z c.fill_more.new.self c.args.region (unwrap_or (fill_in z c.args.region) 0 + c.args.words))
+            (the_same c.in-Some.holder.now h (sym at ∙ e)) c.in_ok-fill_more.ensures,
       );
     }
 
 pub returns-in_default-clause-refills : goal.returns-in_default-clause-refills
 returns-in_default-clause-refills c = record {
   same = refl;
-  refilled = λ h e. absurd (none_some
+  changed = λ h e. absurd (none_some
       (sym (slice_get_past c.args.self.now.holders.items c.args.g c.in_default.ensures.item.3) ∙ e));
 }

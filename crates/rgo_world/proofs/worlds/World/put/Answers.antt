@@ -6,10 +6,10 @@ use Rattle.rgo_world.proofs.worlds.World.put.Goals as goal
 
 pub returns-clause-placed : goal.returns-clause-placed
 returns-clause-placed c =
-    let r = c.in_ok-fill_more.ensures.refills in
+    let r = c.in_ok-use_room.ensures.used in
     record {
       same = ap (λ (x : World). record x { table = c.own.new.self }) r.same;
-      refilled = r.refilled;
+      changed = r.changed;
       owned = λ regions global_pages owners live is shows.
           c.in_ok-own.ensures.owned regions global_pages owners live is
           (subst (λ (t : Table). TableShows t regions global_pages owners) (sym (ap (λ (x : World). x.table) r.same))

@@ -11,7 +11,7 @@ returns-in_ok-set_fill-clause-refills c =
     let w = c.args.self.now in
     record {
       same = refl;
-      refilled = λ h e. (
+      changed = λ h e. (
         c.set_fill.new.self,
         refl,
         subst (λ z. Fills z c.set_fill.new.self c.args.region c.args.used)
@@ -24,6 +24,6 @@ returns-in_ok-set_fill-clause-refills c =
 pub returns-in_default-clause-refills : goal.returns-in_default-clause-refills
 returns-in_default-clause-refills c = record {
   same = refl;
-  refilled = λ h e. absurd (none_some
+  changed = λ h e. absurd (none_some
       (sym (slice_get_past c.args.self.now.holders.items c.args.g c.in_default.ensures.item.3) ∙ e));
 }
