@@ -51,14 +51,14 @@ module _ (T : Moment) (g : ℕ) (c : Rec) (mine : slice_get T.recs g ≡ Some c)
   abbrev pub s : RegionState
   s = T.state
 
-  abbrev pub K : Channels T.code T.encode T.place T.words T.recs T.state T.at
+  abbrev pub K : Channels T.code T.page_words T.encode T.place T.cell T.words T.recs T.state T.at
   K = T.channels
 
   -- an offer is another goroutine's
   pub posted : c.post ≡ Nowhere → (p j : ℕ) (l : Chan) → On s p l → OfferOf (T.at.phase p) j → j ≢ g
   posted free p j l x q w =
       let t = K.offers p j l x q in
-      let same = is_mine T.code T.encode T.place T.words T.recs T.state T.at K g c c mine j t.0 t.2 w in
+      let same = is_mine T.code T.page_words T.encode T.place T.cell T.words T.recs T.state T.at K g c c mine j t.0 t.2 w in
       let z : Nowhere ≡ Offering (T.place p) = sym free ∙ (ap (λ (y : Rec). y.post) (sym same) ∙ t.4) in
       absurd (cc z)
 
@@ -70,7 +70,7 @@ module _ (T : Moment) (g : ℕ) (c : Rec) (mine : slice_get T.recs g ≡ Some c)
     locks : (T.at.lock o ≡ LockedBy g) × (slice_index T.words (T.place o) ≡ suc n)
     locks =
         let t = K.locks g (T.place o) n c mine held in
-        let same = one_place T.code T.encode T.place T.words T.recs T.state T.at K t.0 o t.1 k t.2 on t.3 in
+        let same = one_place T.code T.page_words T.encode T.place T.cell T.words T.recs T.state T.at K t.0 o t.1 k t.2 on t.3 in
         (subst (λ p. T.at.lock p ≡ LockedBy g) same t.4, t.5)
 
     pub lock_is : T.at.lock o ≡ LockedBy g
@@ -88,17 +88,20 @@ module _ (T : Moment) (g : ℕ) (c : Rec) (mine : slice_get T.recs g ≡ Some c)
     said =
         let e = n_is in
         let d = decode (bit k.closed) (count k (T.at.phase o)) (T.at.head o) (bit_small k.closed)
-        (count_small T.code T.encode T.place T.words T.recs T.state T.at K o k on) in
+        (count_small T.code T.page_words T.encode T.place T.cell T.words T.recs T.state T.at K o k on) in
         (ap closed_of e ∙ d.0, ap count_of e ∙ d.1, ap head_of e ∙ d.2)
 
     pub capacity_is : (size : ℕ) → c.size ≡ Sized (T.place o) size → k.capacity ≡ size
     capacity_is size e =
         let t = K.sizes g (T.place o) size c mine e in
-        let same = one_place T.code T.encode T.place T.words T.recs T.state T.at K t.0 o t.1 k t.2 on t.3 in
+        let same = one_place T.code T.page_words T.encode T.place T.cell T.words T.recs T.state T.at K t.0 o t.1 k t.2 on t.3 in
         ap (λ (y : Chan). y.capacity) (same_chan T.state o k t.1 on (subst (λ p. On T.state p t.1) same t.2)) ∙ t.4
 
-    pub cell_is : (i x : ℕ) → InCell c.hold (T.place o) i x → slice_index T.words (T.place o + 2 + i) ≡ x
-    cell_is i x q = (K.in_cells g (T.place o) i x c mine q).5
+    pub cell_is : (i x : ℕ) → InCell c.hold (T.place o) i x → slice_index T.words (T.cell o i) ≡ x
+    cell_is i x q =
+        let t = K.in_cells g (T.place o) i x c mine q in
+        let same = one_place T.code T.page_words T.encode T.place T.cell T.words T.recs T.state T.at K t.0 o t.1 k t.2 on t.3 in
+        ap (λ p. slice_index T.words (T.cell p i)) (sym same) ∙ t.5
 
     pub is_open : closed_of n ≡ 0 → k.closed ≡ false
     is_open e = open_or k.closed (sym said.0 ∙ e)
@@ -121,12 +124,12 @@ module _ (T : Moment) (g : ℕ) (c : Rec) (mine : slice_get T.recs g ≡ Some c)
 
       pub commit : z.capacity ≡ k.capacity → x ≡ control (bit z.closed) (count z (T.at.phase o)) hd
           → ((i : ℕ) (u : Value) → slice_get z.queue i ≡ Some u
-          → slice_index T.words (T.place o + 2 + cell_of k hd i) ≡ T.encode u)
+          → slice_index T.words (T.cell o (cell_of k hd i)) ≡ T.encode u)
           → (0 < k.capacity → (length z.queue ≤ k.capacity) × (hd < k.capacity))
           → (k.capacity ≡ 0 → (z.queue ≡ []) × (hd ≡ 0)) → (k.closed ≡ true → z.closed ≡ true)
-          → Channels T.code T.encode T.place (slice_set T.words (T.place o) x) (slice_set T.recs g at_rest) b next_at
+          → Channels T.code T.page_words T.encode T.place T.cell (slice_set T.words (T.place o) x) (slice_set T.recs g at_rest) b next_at
       commit capacity word cells buffered unbuffered closes =
-          control_step T.code T.encode T.place T.words T.recs T.state T.at K g c at_rest mine o k z x Unlocked hd
+          control_step T.code T.page_words T.encode T.place T.cell T.words T.recs T.state T.at K g c at_rest mine o k z x Unlocked hd
           (T.at.phase o) b on (record {
             heap = refl;
             touch = λ p. refl;
@@ -137,8 +140,8 @@ module _ (T : Moment) (g : ℕ) (c : Rec) (mine : slice_get T.recs g ≡ Some c)
             buffered = λ q. let t = buffered q in ((K.buffered o k on q).0, t.0, t.1);
             unbuffered = unbuffered;
             closes = closes;
-            told = freed T.code T.encode T.place T.words T.recs T.state T.at K g c mine Nowhere o n x held lock_is;
-            know = they_know T.code T.encode T.place T.words T.recs T.state T.at K g c at_rest mine b
+            told = freed T.code T.page_words T.encode T.place T.cell T.words T.recs T.state T.at K g c mine Nowhere o n x held lock_is;
+            know = they_know T.code T.page_words T.encode T.place T.cell T.words T.recs T.state T.at K g c at_rest mine b
                 (λ a q. absurd (rest_knows a q)) (λ j y ne e q. same_other j ne);
             stranded = λ j q f. f;
             as_many = length_slice_set s.holders g (passed_holder N v);
@@ -150,14 +153,14 @@ module _ (T : Moment) (g : ℕ) (c : Rec) (mine : slice_get T.recs g ≡ Some c)
                 ap (λ (r : Holder). r.offer) (sym h') ∙ no_offer N free)
                 (λ (u : (j ≢ g) × (slice_get T.recs j ≡ Some y)). K.calm j y h u.1
                 (sym (set_else s.holders g j (passed_holder N v) u.0) ∙ q) f)
-                (recs_was T.code T.encode T.place T.words T.recs T.state T.at K g c at_rest mine j y p);
+                (recs_was T.code T.page_words T.encode T.place T.cell T.words T.recs T.state T.at K g c at_rest mine j y p);
             others = λ p j l ne e q. let nj = posted free p j l e q in (same_other j nj, λ w. absurd (nj w));
             mine_post = λ a q. absurd (let y : Nowhere ≡ Offering a = q in cc y);
             theirs = λ j ne q. q;
             offer = λ j q. let t = K.offers o j k on q in let nj = posted free o j k on q in (
               t.0,
               t.1,
-              stays T.code T.encode T.place T.words T.recs T.state T.at K g c at_rest mine j t.0 nj t.2,
+              stays T.code T.page_words T.encode T.place T.cell T.words T.recs T.state T.at K g c at_rest mine j t.0 nj t.2,
               (same_other j nj).1 ∙ t.3,
               t.4,
               t.5,
@@ -239,14 +242,14 @@ send_is T g c mine o n i x size v next hold code free sizing shut room behind = 
         omega arith
 
     cells : (j : ℕ) (u : Value) → slice_get (k.queue ++ v ∷ []) j ≡ Some u
-        → slice_index T.words (T.place o + 2 + cell_of k (T.at.head o) j) ≡ T.encode u
+        → slice_index T.words (T.cell o (cell_of k (T.at.head o) j)) ≡ T.encode u
     cells j u q = ⊎_elim
         (λ w. T.channels.cells o j u k on w)
         (λ w. let place : i ≡ cell_of k (T.at.head o) j = behind
         ∙ (ap (λ (y : ℕ). (head_of n + y) % size) (let c1 = said'.1 in let p = no_phase in let w0 = w.0 in
         let z : count_of n ≡ j = omega arith in z)
         ∙ (ap (λ (y : ℕ). (y + j) % size) said'.2 ∙ ap (λ (y : ℕ). (T.at.head o + j) % y) (sym cap))) in
-        subst (λ y. slice_index T.words (T.place o + 2 + y) ≡ T.encode u) place
+        subst (λ y. slice_index T.words (T.cell o y) ≡ T.encode u) place
         (cell_is T g c mine o n held k on i x (subst (λ y. InCell y (T.place o) i x) (sym hold) (refl, refl, refl))
         ∙ (sym code ∙ ap T.encode (sym w.1))))
         (get_snoc k.queue v j u q)
@@ -331,7 +334,7 @@ receive_is T g c mine o n i x size next hold free sizing filled some_size at_hea
     word = let c0 = said'.0 in let c1 = said'.1 in let a = long in omega arith
 
     cells : (j : ℕ) (u : Value) → slice_get queue j ≡ Some u
-        → slice_index T.words (T.place o + 2 + cell_of k hd j) ≡ T.encode u
+        → slice_index T.words (T.cell o (cell_of k hd j)) ≡ T.encode u
     cells j u q = rw (hd_is, turned (T.at.head o) j k.capacity bf.2)
         (T.channels.cells o (suc j) u k on (ap (λ y. slice_get y (suc j)) parts.2 ∙ q))
 
@@ -344,7 +347,7 @@ receive_is T g c mine o n i x size next hold free sizing filled some_size at_hea
 
     value_is : T.encode v ≡ x
     value_is =
-        sym (subst (λ y. slice_index T.words (T.place o + 2 + y) ≡ T.encode v) first
+        sym (subst (λ y. slice_index T.words (T.cell o y) ≡ T.encode v) first
         (T.channels.cells o 0 v k on (ap (λ y. slice_get y 0) parts.2)))
         ∙ cell_is T g c mine o n held k on i x (subst (λ y. InCell y (T.place o) i x) (sym hold) (refl, refl, refl))
 

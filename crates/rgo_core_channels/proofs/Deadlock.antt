@@ -12,7 +12,7 @@ use Rattle.rgo_core_channels.proofs.Stuck.{At, Empty, Full, Gone, HasNoOffer, Ha
 
 pub deadlock : DeadlockLaw
 deadlock T each =
-    stuck T.code T.encode T.place T.words T.recs T.state T.at T.channels many (λ g c e. why g c e (each g c e).1) T.running
+    stuck T.code T.page_words T.encode T.place T.cell T.words T.recs T.state T.at T.channels many (λ g c e. why g c e (each g c e).1) T.running
   where
     many : length T.state.plain.goroutines ≡ length T.recs
     many = let a = T.good.good.fine.as_many in let b = T.channels.as_many in omega arith
@@ -31,7 +31,7 @@ deadlock T each =
             absurd (subst (λ (y : Hold). HoldsAt y (T.place o) r.1) (each h r.0 r.2).0 r.3)
 
     why : (g : ℕ) (c : Rec) → slice_get T.recs g ≡ Some c → Blocked T g c
-        → Waiting T.code T.encode T.place T.words T.recs T.state T.at T.channels g c
+        → Waiting T.code T.page_words T.encode T.place T.cell T.words T.recs T.state T.at T.channels g c
     why g c e (Returned free q) = Gone free q
     why g c e (SendsOnNil v free before) = NilSend v free before
     why g c e (ReceivesOnNil free before) = NilReceive free before

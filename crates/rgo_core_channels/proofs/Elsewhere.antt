@@ -1,5 +1,5 @@
 -- Steps of other kinds keep the image of channels.
-use Rattle.std.proofs.Common.{◌≡◌, ◌≢◌, ◌⊎◌, ℕ, ◌+◌, ◌<◌, ◌≤◌, true, List, [], ◌∷◌, ◌++◌, length, replicate, Some, None}
+use Rattle.std.proofs.Common.{◌≡◌, ◌≢◌, ◌⊎◌, ℕ, zero, suc, ◌+◌, ◌<◌, ◌≤◌, true, List, [], ◌∷◌, ◌++◌, length, replicate, Some, None}
 use Rattle.std.proofs.Common.{slice_get, slice_index, refl, ap, sym, subst, ◌∙◌, inl, inr, ⊎_elim, arith}
 use Rattle.std.proofs.lemmas.Option.{same_Some, slice_get_within}
 use mathlib.Core.Logic.{dite}
@@ -17,18 +17,18 @@ use Rattle.rgo_sound.proofs.Offers.{steps_keep_good}
 use Rattle.rgo_sound.proofs.Places.{get_append_left, get_some}
 use Rattle.rgo_sound.specs.Good.{AllGood}
 use Rattle.rgo_sound.specs.Leaving.{ActsAlone, LeavesOthers, TakesPart}
-use Rattle.rgo_core_channels.specs.Channels.{Accepted, Calm, Chan, Channels, LockedBy, Offered, OfferOf, On, Phase, Places, Unlocked, cell_of}
+use Rattle.rgo_core_channels.specs.Channels.{Accepted, Calm, Chan, Channels, LockedBy, Offered, OfferOf, On, Phase, Places, Unlocked, cell_of, word_of}
 use Rattle.rgo_core_channels.specs.Channels.{holder_offer, lock_bit, phase_number}
 use Rattle.rgo_core_channels.specs.Controls.{bit, extent}
 use Rattle.rgo_core_channels.specs.Elsewhere.{EventLaw, IsMade, Leaves}
 use Rattle.rgo_core_channels.specs.Moments.{Moment}
-use Rattle.rgo_core_channels.specs.Records.{HoldsAt, InCell, KnowsOf, Nothing, Nowhere, Offering, Rec, Shut, Sized, Stranded, Unknown, at_rest}
+use Rattle.rgo_core_channels.specs.Records.{HoldsAt, InCell, KnowsOf, Nothing, Nowhere, Offering, Reached, Rec, Shut, Sized, Stranded, Unknown, Unreached, at_rest}
 use Rattle.rgo_core_channels.specs.Standing.{IsAt, Next}
 use Rattle.rgo_core_channels.proofs.Buffers.{posted}
 use Rattle.rgo_core_channels.proofs.Decoding.{some_cell}
 use Rattle.rgo_core_channels.proofs.Lists.{length_more, old_or_new}
 use Rattle.rgo_core_channels.proofs.Live.{live_at, operand_is_live, taken_is_live}
-use Rattle.rgo_core_channels.proofs.Steps.{Same, held, next_same, one_place, place_in, rest_knows}
+use Rattle.rgo_core_channels.proofs.Steps.{Same, held, next_same, one_place, place_in, rest_knows, same_chan}
 
 pub nothing_there : {X : Type 0} (o : ℕ) (x : X) → slice_get [] o ≡ Some x → ⊥
 nothing_there o x e = let z : None ≡ Some x = e in cc z
@@ -44,10 +44,10 @@ only_one (Acknowledge i) g j a b = absurd a
 only_one (Finish limit) g j a b = absurd a
 
 module _ (T : Moment) (g : ℕ) (event : Event) (words : List ℕ) (s : RegionState) (encode : Value → ℕ) (place : ℕ → ℕ)
-    (at : Places) (IsNew : ℕ → Chan → Type 0) (children : ℕ) (mine : slice_get T.recs g ≡ Some at_rest)
+    (cell : ℕ → ℕ → ℕ) (at : Places) (IsNew : ℕ → Chan → Type 0) (children : ℕ) (mine : slice_get T.recs g ≡ Some at_rest)
     (alone : ActsAlone event g) (step : region_step T.code T.page_words T.state event ≡ Some s)
-    (X : Leaves T words s encode place at IsNew children) where
-  abbrev K : Channels T.code T.encode T.place T.words T.recs T.state T.at
+    (X : Leaves T words s encode place cell at IsNew children) where
+  abbrev K : Channels T.code T.page_words T.encode T.place T.cell T.words T.recs T.state T.at
   K = T.channels
 
   abbrev recs : List Rec
@@ -105,14 +105,14 @@ module _ (T : Moment) (g : ℕ) (event : Event) (words : List ℕ) (s : RegionSt
       by : IsAt T.code T.place T.state j y.post a → may_touch s (Some o) ≡ true
       by (inl t) =
           let l = live_at T j t.3.0 t.1 t.3.2 t.3.3 t.3.1 in
-          let same : t.1 ≡ o = one_place T.code T.encode T.place T.words T.recs T.state T.at K t.1 o l.0 k l.1 on
+          let same : t.1 ≡ o = one_place T.code T.page_words T.encode T.place T.cell T.words T.recs T.state T.at K t.1 o l.0 k l.1 on
           (t.2 ∙ sym is) in
           subst (λ p. may_touch s (Some p) ≡ true) same
           (operand_is_live T.code s j t.3.0 t.1 t.3.2 T.checked all t.3.1
           (next_stays j t.3.0 (value.Object t.1 ∷ t.3.2) ne t.3.3)).1.1
       by (inr post) =
           let t = K.posts j a y e post in
-          let same : t.0 ≡ o = one_place T.code T.encode T.place T.words T.recs T.state T.at K t.0 o t.1 k t.2 on
+          let same : t.0 ≡ o = one_place T.code T.page_words T.encode T.place T.cell T.words T.recs T.state T.at K t.0 o t.1 k t.2 on
           (t.3 ∙ sym is) in
           phase (T.at.phase o) refl (subst (λ p. OfferOf (T.at.phase p) j) same t.4)
         where
@@ -132,13 +132,18 @@ module _ (T : Moment) (g : ℕ) (event : Event) (words : List ℕ) (s : RegionSt
   stays_on j a o k y e q on is = (X.heap o k on, live_still j a o k y e q on is)
 
   first : (o : ℕ) (k : Chan) → On T.state o k → slice_index words (T.place o) ≡ slice_index T.words (T.place o)
-  first o k on = let q : T.place o + 0 ≡ T.place o = omega arith in
-      subst (λ i. slice_index words i ≡ slice_index T.words i) q (X.same o 0 k on (omega arith))
+  first o k on = X.same o 0 k on (omega arith)
 
-  behind : (o i : ℕ) (k : Chan) → On T.state o k → i < extent k.capacity
-      → slice_index words (T.place o + 2 + i) ≡ slice_index T.words (T.place o + 2 + i)
-  behind o i k on h = let q : T.place o + (2 + i) ≡ T.place o + 2 + i = omega arith in
-      subst (λ i. slice_index words i ≡ slice_index T.words i) q (X.same o (2 + i) k on (omega arith))
+  in_cell : (o i : ℕ) (k : Chan) → On T.state o k → i < extent k.capacity
+      → slice_index words (cell o i) ≡ slice_index T.words (T.cell o i)
+  in_cell o i k on h = ap (slice_index words) (X.spots o i k on h) ∙ X.same o (suc (suc i)) k on (omega arith)
+
+  -- the words of a channel lie where they lay
+  lay : (o i : ℕ) (k : Chan) → On T.state o k → i < 2 + extent k.capacity
+      → word_of place cell o i ≡ word_of T.place T.cell o i
+  lay o zero k on h = X.places o k on
+  lay o (suc zero) k on h = ap (λ n. n + 1) (X.places o k on)
+  lay o (suc (suc i)) k on h = X.spots o i k on (omega arith)
 
   -- where the channel of a goroutine lies, it lay
   stays_at : (j a : ℕ) (y : Rec) → slice_get T.recs j ≡ Some y → KnowsOf y a → IsAt T.code place s j y.post a
@@ -164,7 +169,18 @@ module _ (T : Moment) (g : ℕ) (event : Event) (words : List ℕ) (s : RegionSt
       was : (h : Holder) × (slice_get T.state.holders j ≡ Some h)
       was = get_some T.state.holders j (let a = K.as_many in let b = slice_get_within T.recs j y e in omega arith)
 
-  pub leaves : Channels T.code encode place words recs s at
+  -- no two words of what is new are one
+  one_new : (o p i j : ℕ) (k l : Chan) → On s o k → On s p l → IsNew o k → IsNew p l → i < 2 + extent k.capacity
+      → j < 2 + extent l.capacity → word_of place cell o i ≡ word_of place cell p j → (o ≡ p) × (i ≡ j)
+  one_new o p i j k l e e' new new' h h' q =
+      let w : o ≡ p = X.one_fresh o p k l new new' in
+      let same : l ≡ k = same_chan s p l k e' (subst (λ r. On s r k) w e) in (
+        w,
+        X.fresh_differ o i j k new h (subst (λ (r : Chan). j < 2 + extent r.capacity) same h')
+            (q ∙ ap (λ r. word_of place cell r j) (sym w)),
+      )
+
+  pub leaves : Channels T.code T.page_words encode place cell words recs s at
   leaves = record {
     controls = λ o k e. ⊎_elim
         (λ on. let a = X.ats o k on in rw (X.places o k on, a.0, a.1, a.2) (first o k on ∙ K.controls o k on))
@@ -183,8 +199,8 @@ module _ (T : Moment) (g : ℕ) (event : Event) (words : List ℕ) (s : RegionSt
         (λ new. (X.fresh_words o k new).1)
         (X.was o k e);
     cells = λ o i v k e q. ⊎_elim
-        (λ on. let a = X.ats o k on in let p = place_in T.code T.encode T.place T.words T.recs T.state T.at K o i v k on q in
-        rw (X.places o k on, a.0) (behind o (cell_of k (T.at.head o) i) k on p.1 ∙ (K.cells o i v k on q
+        (λ on. let a = X.ats o k on in let p = place_in T.code T.page_words T.encode T.place T.cell T.words T.recs T.state T.at K o i v k on q in
+        rw a.0 (in_cell o (cell_of k (T.at.head o) i) k on p.1 ∙ (K.cells o i v k on q
         ∙ sym (X.codes o i v k on q))))
         (λ new. absurd (nothing_there i v (ap (λ l. slice_get l i) (sym (X.fresh o k new).0) ∙ q)))
         (X.was o k e);
@@ -202,14 +218,22 @@ module _ (T : Moment) (g : ℕ) (event : Event) (words : List ℕ) (s : RegionSt
         (λ on. rw (X.places o k on, X.long) (K.inside o k on))
         (λ new. (X.fresh_words o k new).3)
         (X.was o k e);
-    apart = λ o p k l ne e e'. ⊎_elim
+    cells_inside = λ o i k e h. ⊎_elim
+        (λ on. rw (X.spots o i k on h, X.long) (K.cells_inside o i k on h))
+        (λ new. (X.fresh_cells o i k new h).0)
+        (X.was o k e);
+    row = λ o i k e w h. ⊎_elim
+        (λ on. rw (X.spots o i k on h, X.places o k on) (K.row o i k on w h))
+        (λ new. (X.fresh_cells o i k new h).1 w)
+        (X.was o k e);
+    apart = λ o p i j k l e e' h h' q. ⊎_elim
         (λ on. ⊎_elim
-        (λ on'. rw (X.places o k on, X.places p l on') (K.apart o p k l ne on on'))
-        (λ new'. rw (X.places o k on) (⊎_elim (λ u. inr u) (λ u. inl u) (X.fresh_apart p o l k new' on)))
+        (λ on'. K.apart o p i j k l on on' h h' (sym (lay o i k on h) ∙ (q ∙ lay p j l on' h')))
+        (λ new'. absurd (X.fresh_apart p o j i l k new' on h' h (sym q ∙ lay o i k on h)))
         (X.was p l e'))
         (λ new. ⊎_elim
-        (λ on'. rw (X.places p l on') (X.fresh_apart o p k l new on'))
-        (λ new'. absurd (ne (X.one_fresh o p k l new new')))
+        (λ on'. absurd (X.fresh_apart o p i j k l new on' h h' (q ∙ lay p j l on' h')))
+        (λ new'. one_new o p i j k l e e' new new' h h' q)
         (X.was p l e'))
         (X.was o k e);
     lockers = λ o j k e q. ⊎_elim
@@ -235,8 +259,7 @@ module _ (T : Moment) (g : ℕ) (event : Event) (words : List ℕ) (s : RegionSt
           stays_on j a t.0 t.1 y e (inl h) t.2 t.3,
           X.places t.0 t.1 t.2 ∙ t.3,
           t.4,
-          subst (λ a. slice_index words (a + 2 + i) ≡ slice_index T.words (a + 2 + i)) t.3 (behind t.0 i t.1 t.2 t.4)
-              ∙ t.5,
+          in_cell t.0 i t.1 t.2 t.4 ∙ t.5,
         ))
         (λ u. absurd (subst (λ (r : Rec). InCell r.hold a i x) (sym u.1) q))
         (was_there j y e);
@@ -244,6 +267,17 @@ module _ (T : Moment) (g : ℕ) (event : Event) (words : List ℕ) (s : RegionSt
         (λ e. let t = K.sizes j a i y e q in
         (t.0, t.1, stays_on j a t.0 t.1 y e (inr (inl (i, q))) t.2 t.3, X.places t.0 t.1 t.2 ∙ t.3, t.4))
         (λ u. absurd (let z : Unknown ≡ Sized a i = ap (λ (r : Rec). r.size) u.1 ∙ q in cc z))
+        (was_there j y e);
+    reaches = λ j a i w y e q. ⊎_elim
+        (λ e. let t = K.reaches j a i w y e q in (
+          t.0,
+          t.1,
+          stays_on j a t.0 t.1 y e (inr (inr (inr (inr (inr (i, w, q)))))) t.2 t.3,
+          X.places t.0 t.1 t.2 ∙ t.3,
+          t.4,
+          X.spots t.0 i t.1 t.2 t.4 ∙ t.5,
+        ))
+        (λ u. absurd (let z : Unreached ≡ Reached a i w = ap (λ (r : Rec). r.reach) u.1 ∙ q in cc z))
         (was_there j y e);
     saws = λ j a y e q. ⊎_elim
         (λ e. let t = K.saws j a y e q in
@@ -274,7 +308,7 @@ module _ (T : Moment) (g : ℕ) (event : Event) (words : List ℕ) (s : RegionSt
         (λ e. let t = K.posts j a y e q in (
           t.0,
           t.1,
-          stays_on j a t.0 t.1 y e (inr (inr (inr (inr q)))) t.2 t.3,
+          stays_on j a t.0 t.1 y e (inr (inr (inr (inr (inl q))))) t.2 t.3,
           X.places t.0 t.1 t.2 ∙ t.3,
           subst (λ p. OfferOf p j) (sym (X.ats t.0 t.1 t.2).2) t.4,
         ))
@@ -297,13 +331,12 @@ module _ (T : Moment) (g : ℕ) (event : Event) (words : List ℕ) (s : RegionSt
         let ne = other_posts o j k on (subst (λ p. OfferOf p j) (sym p) refl) in (
           t.0,
           next_stays j Send (value.Object o ∷ t.0 ∷ []) ne t.1,
-          rw (X.places o k on) (X.same o 2 k on (let y = some_cell k.capacity in omega arith) ∙ (t.2
-              ∙ sym (X.sent o j t.0 t.1))),
+          in_cell o 0 k on (some_cell k.capacity) ∙ (t.2 ∙ sym (X.sent o j t.0 t.1)),
         ))
         (λ new. absurd (let z : Calm ≡ Offered j = sym (X.fresh o k new).4 ∙ q in cc z))
         (X.was o k e);
   }
 
 pub event_keeps : EventLaw
-event_keeps T g event words s encode place at made children mine alone step X =
-    leaves T g event words s encode place at (IsMade made) children mine alone step X
+event_keeps T g event words s encode place cell at made children mine alone step X =
+    leaves T g event words s encode place cell at (IsMade made) children mine alone step X

@@ -11,6 +11,7 @@ pub mod Meetings
 pub mod Offering
 pub mod Opening
 pub mod Operations
+pub mod Positions
 pub mod Quiet
 pub mod Ring
 pub mod Steps

@@ -1,6 +1,6 @@
 -- The store that commits an offer, a meeting or an acknowledgement, and unlocks.
 use Rattle.std.proofs.Common.{◌≡◌, ◌≢◌, ℕ, ◌+◌, ◌-◌, true, false, [], ◌∷◌}
-use Rattle.std.proofs.Common.{length, Some, slice_get, slice_set, slice_index, refl, ap, sym, subst, ◌∙◌, inl, inr}
+use Rattle.std.proofs.Common.{length, Some, slice_get, slice_set, refl, ap, sym, subst, ◌∙◌, inl, inr}
 use Rattle.std.proofs.Common.{⊎_elim, arith, nat_eq}
 use Rattle.std.proofs.lemmas.Option.{same_Some, slice_get_within}
 use mathlib.Core.Logic.{dite}
@@ -53,10 +53,6 @@ module _ (T : Moment) where
       → count_of n ≡ count k (T.at.phase o) → phase_number (T.at.phase o) ≡ count_of n
   phase_is o k n on cap c = let q : length k.queue ≡ 0 = ap length (T.channels.unbuffered o k on cap).0 in omega arith
 
-  first_cell : (o x : ℕ) → slice_index T.words (T.place o + 2 + 0) ≡ x → slice_index T.words (T.place o + 2) ≡ x
-  first_cell o x e = let q : T.place o + 2 + 0 ≡ T.place o + 2 = omega arith in
-      subst (λ j. slice_index T.words j ≡ x) q e
-
   -- where the phase says that there is no offer, no holder has one
   no_holder : (o : ℕ) (k : Chan) → On T.state o k → T.at.phase o ≡ Calm → (j : ℕ) (h : Holder)
       → slice_get T.state.holders j ≡ Some h → offers_on o h.offer ≡ false
@@ -96,7 +92,7 @@ offer_is T g c mine o n x v next hold code free sizing shut idle = (
     steps = offers T.code T.page_words T.state o T.running on.1 g v next
         (ap may_go (no_offer T g c mine next free)) meeting nobody;
     at = _;
-    channels = control_step T.code T.encode T.place T.words T.recs T.state T.at T.channels g c (offering (T.place o))
+    channels = control_step T.code T.page_words T.encode T.place T.cell T.words T.recs T.state T.at T.channels g c (offering (T.place o))
         mine o k k (n + 4) Unlocked (T.at.head o) (Offered g) b on (record {
           heap = sym (set_again T.state.plain.memory.heap o (channel k) on.0);
           touch = λ p. refl;
@@ -106,9 +102,9 @@ offer_is T g c mine o n x v next hold code free sizing shut idle = (
           buffered = λ q. let e = cap in absurd (omega arith);
           unbuffered = T.channels.unbuffered o k on;
           closes = λ t. t;
-          told = freed T.code T.encode T.place T.words T.recs T.state T.at T.channels g c mine (Offering (T.place o)) o n (n + 4) held
+          told = freed T.code T.page_words T.encode T.place T.cell T.words T.recs T.state T.at T.channels g c mine (Offering (T.place o)) o n (n + 4) held
               (lock_is T g c mine o n held k on);
-          know = they_know T.code T.encode T.place T.words T.recs T.state T.at T.channels g c (offering (T.place o)) mine b
+          know = they_know T.code T.page_words T.encode T.place T.cell T.words T.recs T.state T.at T.channels g c (offering (T.place o)) mine b
               (λ a q. inr (knows_post (Offering (T.place o)) a q)) (λ j y ne e q. other_holder T g h j ne);
           stranded = λ j q f. absurd (let y : Calm ≡ Offered j = sym calm ∙ f in cc y);
           as_many = length_slice_set T.state.holders g h;
@@ -117,7 +113,7 @@ offer_is T g c mine o n x v next hold code free sizing shut idle = (
               = ap (λ (r : Rec). r.post) u.1 ∙ f in absurd (cc z))
               (λ (u : (j ≢ g) × (slice_get T.recs j ≡ Some y)). T.channels.calm j y h' u.1
               (sym (set_else T.state.holders g j h u.0) ∙ q) f)
-              (recs_was T.code T.encode T.place T.words T.recs T.state T.at T.channels g c (offering (T.place o)) mine j
+              (recs_was T.code T.page_words T.encode T.place T.cell T.words T.recs T.state T.at T.channels g c (offering (T.place o)) mine j
               y p);
           others = λ p j l ne e q. let nj = posted T g c mine free p j l e q in
               (other_holder T g h j nj, λ w. absurd (nj w));
@@ -127,7 +123,7 @@ offer_is T g c mine o n x v next hold code free sizing shut idle = (
             offering (T.place o),
             h,
             subst (λ i. slice_get (slice_set T.recs g (offering (T.place o))) i ≡ Some (offering (T.place o))) q
-                (here T.code T.encode T.place T.words T.recs T.state T.at T.channels g c (offering (T.place o)) mine),
+                (here T.code T.page_words T.encode T.place T.cell T.words T.recs T.state T.at T.channels g c (offering (T.place o)) mine),
             subst (λ i. slice_get b.holders i ≡ Some h) q there,
             refl,
             refl,
@@ -135,7 +131,7 @@ offer_is T g c mine o n x v next hold code free sizing shut idle = (
           wait = λ j q. let y : Offered g ≡ Offered j = q in let z : g ≡ j = cc y in (
             v,
             subst (λ i. Next T.code b i Send (value.Object o ∷ v ∷ [])) z stays_at,
-            first_cell T o (T.encode v) (cell_is T g c mine o n held k on 0 x
+            (cell_is T g c mine o n held k on 0 x
                 (subst (λ y. InCell y (T.place o) 0 x) (sym hold) (refl, refl, refl)) ∙ sym code),
           );
         });
@@ -203,7 +199,7 @@ acknowledges_at T g c mine o n k on own post gone hold = (
   record {
     steps = acknowledges T.code T.page_words T.state o T.running on.1 g h there taken;
     at = _;
-    channels = control_step T.code T.encode T.place T.words T.recs T.state T.at T.channels g c at_rest mine o k k (n - 8)
+    channels = control_step T.code T.page_words T.encode T.place T.cell T.words T.recs T.state T.at T.channels g c at_rest mine o k k (n - 8)
         Unlocked (T.at.head o) Calm b on (record {
           heap = sym (set_again T.state.plain.memory.heap o (channel k) on.0);
           touch = λ p. refl;
@@ -213,9 +209,9 @@ acknowledges_at T g c mine o n k on own post gone hold = (
           buffered = λ q. let e = cap in absurd (omega arith);
           unbuffered = T.channels.unbuffered o k on;
           closes = λ t. t;
-          told = freed T.code T.encode T.place T.words T.recs T.state T.at T.channels g c mine Nowhere o n (n - 8) held
+          told = freed T.code T.page_words T.encode T.place T.cell T.words T.recs T.state T.at T.channels g c mine Nowhere o n (n - 8) held
               (lock_is T g c mine o n held k on);
-          know = they_know T.code T.encode T.place T.words T.recs T.state T.at T.channels g c at_rest mine b
+          know = they_know T.code T.page_words T.encode T.place T.cell T.words T.recs T.state T.at T.channels g c at_rest mine b
               (λ a q. absurd (rest_knows a q)) (λ j y ne e q. other_holder T g h' j ne);
           stranded = λ j q f. absurd (let y : Accepted g ≡ Offered j = sym accepted ∙ f in cc y);
           as_many = length_slice_set T.state.holders g h';
@@ -226,8 +222,8 @@ acknowledges_at T g c mine o n k on own post gone hold = (
               ap (λ (z : Holder). z.offer) (sym same))
               (λ (u : (j ≢ g) × (slice_get T.recs j ≡ Some y)). T.channels.calm j y r u.1
               (sym (set_else T.state.holders g j h' u.0) ∙ q) f)
-              (recs_was T.code T.encode T.place T.words T.recs T.state T.at T.channels g c at_rest mine j y p);
-          others = λ p j l ne e q. let nj : j ≢ g = λ w. ne (one_offer T.code T.encode T.place T.words T.recs T.state T.at
+              (recs_was T.code T.page_words T.encode T.place T.cell T.words T.recs T.state T.at T.channels g c at_rest mine j y p);
+          others = λ p j l ne e q. let nj : j ≢ g = λ w. ne (one_offer T.code T.page_words T.encode T.place T.cell T.words T.recs T.state T.at
               T.channels p o g l k e on (subst (OfferOf (T.at.phase p)) w q) own) in
               (other_holder T g h' j nj, λ w. absurd (nj w));
           mine_post = λ a q. absurd (let y : Nowhere ≡ Offering a = q in cc y);
@@ -245,7 +241,7 @@ acknowledges_at T g c mine o n k on own post gone hold = (
     said' = said T g c mine o n held k on
 
     cap : k.capacity ≡ 0
-    cap = no_buffer T.code T.encode T.place T.words T.recs T.state T.at T.channels o g k on own
+    cap = no_buffer T.code T.page_words T.encode T.place T.cell T.words T.recs T.state T.at T.channels o g k on own
 
     two : (i : ℕ) × (T.at.phase o ≡ Accepted i)
     two = accepted_of (T.at.phase o) (phase_is T o k n on cap said'.1 ∙ gone)
@@ -308,7 +304,7 @@ meet_is T g c mine o n x next hold free sizing shut up = (
     steps = meets T.code T.page_words T.state o T.running on.1 g t v next M (λ e. ne (sym e))
         (ap may_go (no_offer T g c mine next free)) standing meeting;
     at = _;
-    channels = control_step T.code T.encode T.place T.words T.recs T.state T.at T.channels g c at_rest mine o k k (n + 4)
+    channels = control_step T.code T.page_words T.encode T.place T.cell T.words T.recs T.state T.at T.channels g c at_rest mine o k k (n + 4)
         Unlocked (T.at.head o) (Accepted t) b on (record {
           heap = sym (set_again T.state.plain.memory.heap o (channel k) on.0);
           touch = λ p. refl;
@@ -318,9 +314,9 @@ meet_is T g c mine o n x next hold free sizing shut up = (
           buffered = λ q. let e = cap in absurd (omega arith);
           unbuffered = T.channels.unbuffered o k on;
           closes = λ z. z;
-          told = freed T.code T.encode T.place T.words T.recs T.state T.at T.channels g c mine Nowhere o n (n + 4) held
+          told = freed T.code T.page_words T.encode T.place T.cell T.words T.recs T.state T.at T.channels g c mine Nowhere o n (n + 4) held
               (lock_is T g c mine o n held k on);
-          know = they_know T.code T.encode T.place T.words T.recs T.state T.at T.channels g c at_rest mine b
+          know = they_know T.code T.page_words T.encode T.place T.cell T.words T.recs T.state T.at T.channels g c at_rest mine b
               (λ a q. absurd (rest_knows a q)) (λ j y no e q. same_both j no (λ w.
               let same : y ≡ S.0 = same_Some y S.0 (sym e ∙ (ap (slice_get T.recs) w ∙ S.2)) in
               let z : Nowhere ≡ Offering (T.place o) = sym q ∙ (ap (λ (z : Rec). z.post) same ∙ S.4) in absurd (cc z)));
@@ -335,9 +331,9 @@ meet_is T g c mine o n x next hold free sizing shut up = (
               (λ w. let same : y ≡ S.0 = same_Some y S.0 (sym u.1 ∙ (ap (slice_get T.recs) w ∙ S.2)) in
               let z : Nowhere ≡ Offering (T.place o) = sym f ∙ (ap (λ (z : Rec). z.post) same ∙ S.4) in absurd (cc z))
               (λ nt. T.channels.calm j y r u.1 (sym (same_holder j u.0 nt) ∙ q) f))
-              (recs_was T.code T.encode T.place T.words T.recs T.state T.at T.channels g c at_rest mine j y p);
+              (recs_was T.code T.page_words T.encode T.place T.cell T.words T.recs T.state T.at T.channels g c at_rest mine j y p);
           others = λ p j l no e q. let nj = posted T g c mine free p j l e q in
-              let nt : j ≢ t = λ w. no (one_offer T.code T.encode T.place T.words T.recs T.state T.at T.channels p o t l k
+              let nt : j ≢ t = λ w. no (one_offer T.code T.page_words T.encode T.place T.cell T.words T.recs T.state T.at T.channels p o t l k
               e on (subst (OfferOf (T.at.phase p)) w q) own) in
               (same_both j nj nt, λ w. absurd (nj w));
           mine_post = λ a q. absurd (let y : Nowhere ≡ Offering a = q in cc y);
@@ -345,7 +341,7 @@ meet_is T g c mine o n x next hold free sizing shut up = (
           offer = λ j q. (
             S.0,
             B,
-            stays T.code T.encode T.place T.words T.recs T.state T.at T.channels g c at_rest mine j S.0
+            stays T.code T.page_words T.encode T.place T.cell T.words T.recs T.state T.at T.channels g c at_rest mine j S.0
                 (λ w. ne (q ∙ w)) (subst (λ i. slice_get T.recs i ≡ Some S.0) q S.2),
             subst (λ i. slice_get b.holders i ≡ Some B) q there_t,
             S.4,
@@ -434,7 +430,7 @@ meet_is T g c mine o n x next hold free sizing shut up = (
 
     value_is : T.encode v ≡ x
     value_is = sym (T.channels.waits o t k on offered).2
-        ∙ first_cell T o x (cell_is T g c mine o n held k on 0 x
+        ∙ (cell_is T g c mine o n held k on 0 x
         (subst (λ y. InCell y (T.place o) 0 x) (sym hold) (refl, refl, refl)))
 
     word : n + 4 ≡ 0 + control (bit k.closed) (length k.queue + 2) (T.at.head o)

@@ -5,7 +5,7 @@ use Rattle.rgo_sound.specs.RegionMachine.Machine.{region_start}
 use Rattle.rgo_sound.specs.RegionMachine.States.{Holder, NoOffer}
 use Rattle.rgo_core_channels.specs.Channels.{Chan, On, channel}
 use Rattle.rgo_core_channels.specs.Opening.{Opens}
-use Rattle.rgo_core_channels.specs.Records.{HoldsAt, InCell, KnowsOf, Nothing, Nowhere, Offering, Rec, Shut, Sized, Stranded, Unknown, at_rest}
+use Rattle.rgo_core_channels.specs.Records.{HoldsAt, InCell, KnowsOf, Nothing, Nowhere, Offering, Reached, Rec, Shut, Sized, Stranded, Unknown, Unreached, at_rest}
 use Rattle.rgo_core_channels.proofs.Steps.{rest_knows}
 use Rattle.rgo_core_channels.proofs.Elsewhere.{nothing_there}
 
@@ -15,7 +15,7 @@ only zero y e = same_Some at_rest y e
 only (suc j) y e = absurd (nothing_there j y e)
 
 pub opens : Opens
-opens code encode place words at = record {
+opens code page_words encode place cell words at = record {
   controls = λ o k e. absurd (none o k e);
   capacities = λ o k e. absurd (none o k e);
   cells = λ o i v k e q. absurd (none o k e);
@@ -23,11 +23,14 @@ opens code encode place words at = record {
   unbuffered = λ o k e q. absurd (none o k e);
   small = λ o k e. absurd (none o k e);
   inside = λ o k e. absurd (none o k e);
-  apart = λ o p k l ne e e'. absurd (none o k e);
+  cells_inside = λ o i k e h. absurd (none o k e);
+  row = λ o i k e w h. absurd (none o k e);
+  apart = λ o p i j k l e e' h h'. absurd (none o k e);
   lockers = λ o j k e q. absurd (none o k e);
   locks = λ j a i y e q. absurd (subst (λ (r : Rec). HoldsAt r.hold a i) (sym (only j y e)) q);
   in_cells = λ j a i x y e q. absurd (subst (λ (r : Rec). InCell r.hold a i x) (sym (only j y e)) q);
   sizes = λ j a i y e q. absurd (let z : Unknown ≡ Sized a i = ap (λ (r : Rec). r.size) (only j y e) ∙ q in cc z);
+  reaches = λ j a i w y e q. absurd (let z : Unreached ≡ Reached a i w = ap (λ (r : Rec). r.reach) (only j y e) ∙ q in cc z);
   saws = λ j a y e q. absurd (let z : Nothing ≡ Shut a = ap (λ (r : Rec). r.saw) (only j y e) ∙ q in cc z);
   strands = λ j a y e q. absurd (let z : Nothing ≡ Stranded a = ap (λ (r : Rec). r.saw) (only j y e) ∙ q in cc z);
   knows = λ j a y e q. absurd (rest_knows a (subst (λ (r : Rec). KnowsOf r a) (sym (only j y e)) q));

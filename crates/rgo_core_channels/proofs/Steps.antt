@@ -17,11 +17,11 @@ use Rattle.rgo_sound.specs.Code.Code.{Code}
 use Rattle.rgo_sound.specs.RegionMachine.Objects.{may_touch}
 use Rattle.rgo_sound.specs.RegionMachine.States.{Holder, NoOffer, RegionState}
 use Rattle.rgo_sound.proofs.Places.{get_set_same, length_set as length_slice_set}
-use Rattle.rgo_core_channels.specs.Channels.{Chan, channel, On, Phase, Calm, Offered, Accepted, phase_number, OfferOf}
+use Rattle.rgo_core_channels.specs.Channels.{Chan, channel, On, Phase, Calm, Offered, Accepted, phase_number, OfferOf, word_of}
 use Rattle.rgo_core_channels.specs.Channels.{holder_offer, Lock, Unlocked, LockedBy, lock_bit, Places, count, cell_of, Channels}
 use Rattle.rgo_core_memory.specs.Words.{put}
 use Rattle.rgo_core_channels.specs.Controls.{bit, control, extent}
-use Rattle.rgo_core_channels.specs.Records.{Rec, Hold, Free, Locked, Wrote, Read, HoldsAt, InCell, KnowsOf, Sized, Unknown, Post, Nowhere, Offering, Nothing, Shut, Stranded, at_rest}
+use Rattle.rgo_core_channels.specs.Records.{Rec, Hold, Free, Locked, Wrote, Read, HoldsAt, InCell, KnowsOf, Sized, Unknown, Reached, Unreached, Post, Nowhere, Offering, Nothing, Shut, Stranded, at_rest}
 use Rattle.rgo_core_channels.specs.Standing.{IsAt, Next}
 use Rattle.rgo_core_memory.specs.Accesses.{Before}
 use Rattle.rgo_core_channels.proofs.Decoding.{some_cell, extent_is}
@@ -99,33 +99,38 @@ at_same code place s b j post a same (inr p) = inr p
 
 -- a record whose channel, if any, is that of its offer
 pub knows_post : (post : Post) (a : ℕ)
-    → KnowsOf (record { hold = Free; size = Unknown; post = post; saw = Nothing }) a → post ≡ Offering a
+    → KnowsOf (record { hold = Free; size = Unknown; reach = Unreached; post = post; saw = Nothing }) a → post ≡ Offering a
 knows_post post a (inl t) = absurd t.1
 knows_post post a (inr (inl t)) = absurd (let z : Unknown ≡ Sized a t.0 = t.1 in cc z)
 knows_post post a (inr (inr (inl e))) = absurd (let z : Nothing ≡ Shut a = e in cc z)
 knows_post post a (inr (inr (inr (inl e)))) = absurd (let z : Nothing ≡ Stranded a = e in cc z)
-knows_post post a (inr (inr (inr (inr e)))) = e
+knows_post post a (inr (inr (inr (inr (inl e))))) = e
+knows_post post a (inr (inr (inr (inr (inr t))))) = absurd (let z : Unreached ≡ Reached a t.0 t.1 = t.2 in cc z)
 
 pub rest_knows : (a : ℕ) → KnowsOf at_rest a → ⊥
 rest_knows a q = let z : Nowhere ≡ Offering a = knows_post Nowhere a q in cc z
 
-module _ (code : Code) (encode : Value → ℕ) (place : ℕ → ℕ) (words : List ℕ) (recs : List Rec) (s : RegionState)
-    (at : Places) (K : Channels code encode place words recs s at) where
+-- the cell of a value of a queue
+pub queue_cell : (k : Chan) (queue : List Value) (h i : ℕ) (v : Value) → (k.capacity ≡ 0 → queue ≡ [])
+    → slice_get queue i ≡ Some v → (0 < k.capacity) × (cell_of k h i < extent k.capacity)
+queue_cell k queue h i v none e = go k.capacity refl
+  where
+    go : (n : ℕ) → k.capacity ≡ n → (0 < k.capacity) × (cell_of k h i < extent k.capacity)
+    go zero z =
+        let b = slice_get_within queue i v e in
+        let l : length queue ≡ 0 = ap length (none z) in
+        absurd (omega arith)
+    go (suc n) z = let p : 0 < k.capacity = omega arith in (p, rw (extent_is k.capacity p) (mod-lt (h + i) p))
+
+module _ (code : Code) (page_words : ℕ) (encode : Value → ℕ) (place : ℕ → ℕ) (cell : ℕ → ℕ → ℕ) (words : List ℕ) (recs : List Rec) (s : RegionState)
+    (at : Places) (K : Channels code page_words encode place cell words recs s at) where
   abbrev m : Memory
   m = s.plain.memory
 
   -- the cell of a value of the queue
   pub place_in : (o i : ℕ) (v : Value) (k : Chan) → On s o k → slice_get k.queue i ≡ Some v
       → (0 < k.capacity) × (cell_of k (at.head o) i < extent k.capacity)
-  place_in o i v k on e = go k.capacity refl
-    where
-      go : (n : ℕ) → k.capacity ≡ n → (0 < k.capacity) × (cell_of k (at.head o) i < extent k.capacity)
-      go zero z =
-          let b = slice_get_within k.queue i v e in
-          let l : length k.queue ≡ 0 = ap length (K.unbuffered o k on z).0 in
-          absurd (omega arith)
-      go (suc n) z = let p : 0 < k.capacity = omega arith in
-          (p, rw (extent_is k.capacity p) (mod-lt (at.head o + i) p))
+  place_in o i v k on e = queue_cell k k.queue (at.head o) i v (λ z. (K.unbuffered o k on z).0) e
 
   pub no_buffer : (o g : ℕ) (k : Chan) → On s o k → OfferOf (at.phase o) g → k.capacity ≡ 0
   no_buffer o g k on q = go k.capacity refl
@@ -156,9 +161,13 @@ module _ (code : Code) (encode : Value → ℕ) (place : ℕ → ℕ) (words : L
 
   -- words of two channels differ
   pub far : (o p i j : ℕ) (k l : Chan) → o ≢ p → On s o k → On s p l → i < 2 + extent k.capacity
-      → j < 2 + extent l.capacity → place o + i ≢ place p + j
-  far o p i j k l ne x y hi hj e =
-      ⊎_elim (λ u. absurd (omega arith)) (λ u. absurd (omega arith)) (K.apart o p k l ne x y)
+      → j < 2 + extent l.capacity → word_of place cell o i ≢ word_of place cell p j
+  far o p i j k l ne x y hi hj e = ne (K.apart o p i j k l x y hi hj e).0
+
+  -- a cell is not a control
+  pub cell_apart : (o p i : ℕ) (k l : Chan) → On s o k → On s p l → i < extent k.capacity → cell o i ≢ place p
+  cell_apart o p i k l x y hi e =
+      let t = (K.apart o p (suc (suc i)) 0 k l x y (omega arith) (omega arith) e).1 in absurd (omega arith)
 
   pub one_place : (o p : ℕ) (k l : Chan) → On s o k → On s p l → place o ≡ place p → o ≡ p
   one_place o p k l x y e = dite (ℕ_discrete o p) (λ w. w)
@@ -210,6 +219,7 @@ module _ (code : Code) (encode : Value → ℕ) (place : ℕ → ℕ) (words : L
       pub hold : (a n : ℕ) → HoldsAt d.hold a n → (a ≡ place o) × (lk ≡ LockedBy g) × (x ≡ suc n)
       pub no_cell : (a i v : ℕ) → InCell d.hold a i v → ⊥
       pub size : (a n : ℕ) → d.size ≡ Sized a n → c.size ≡ Sized a n
+      pub reach : (a i w : ℕ) → d.reach ≡ Reached a i w → c.reach ≡ Reached a i w
       pub saw : (a : ℕ) → d.saw ≡ Shut a → c.saw ≡ Shut a
       pub strand : (a : ℕ) → d.saw ≡ Stranded a → c.saw ≡ Stranded a
 
@@ -220,7 +230,7 @@ module _ (code : Code) (encode : Value → ℕ) (place : ℕ → ℕ) (words : L
       pub capacity : z.capacity ≡ k.capacity
       pub word : x ≡ lock_bit lk + control (bit z.closed) (count z ph) hd
       pub cells : (i : ℕ) (v : Value) → slice_get z.queue i ≡ Some v
-          → slice_index words (place o + 2 + cell_of k hd i) ≡ encode v
+          → slice_index words (cell o (cell_of k hd i)) ≡ encode v
       pub buffered : 0 < k.capacity → (ph ≡ Calm) × (length z.queue ≤ k.capacity) × (hd < k.capacity)
       pub unbuffered : k.capacity ≡ 0 → (z.queue ≡ []) × (hd ≡ 0)
       pub closes : k.closed ≡ true → z.closed ≡ true
@@ -239,7 +249,7 @@ module _ (code : Code) (encode : Value → ℕ) (place : ℕ → ℕ) (words : L
       pub offer : (j : ℕ) → OfferOf ph j → (y : Rec) × (h : Holder) × (slice_get (slice_set recs g d) j ≡ Some y)
           × (slice_get b.holders j ≡ Some h) × (y.post ≡ Offering (place o)) × (h.offer ≡ holder_offer o ph)
       pub wait : (j : ℕ) → ph ≡ Offered j
-          → (v : Value) × Next code b j Send (value.Object o ∷ v ∷ []) × (slice_index words (place o + 2) ≡ encode v)
+          → (v : Value) × Next code b j Send (value.Object o ∷ v ∷ []) × (slice_index words (cell o 0) ≡ encode v)
 
     module _ (o : ℕ) (k z : Chan) (x : ℕ) (lk : Lock) (hd : ℕ) (ph : Phase) (b : RegionState) (on : On s o k)
         (X : Change o k z x lk hd ph b) where
@@ -281,19 +291,13 @@ module _ (code : Code) (encode : Value → ℕ) (place : ℕ → ℕ) (words : L
       written = get_or-set_same words (place o) x 0 (control_in o k on)
 
       apart_of : (p i : ℕ) (l : Chan) → p ≢ o → On s p l → i < 2 + extent l.capacity
-          → slice_index more (place p + i) ≡ slice_index words (place p + i)
-      apart_of p i l ne e hi = other (place p + i)
-          (λ q. far p o i 0 l k ne e on hi (omega arith) (let y : place o + 0 ≡ place o = omega arith in q ∙ sym y))
+          → slice_index more (word_of place cell p i) ≡ slice_index words (word_of place cell p i)
+      apart_of p i l ne e hi = other (word_of place cell p i) (λ q. far p o i 0 l k ne e on hi (omega arith) q)
 
-      at_zero : (j : ℕ) → slice_index more (j + 0) ≡ slice_index words (j + 0)
-          → slice_index more j ≡ slice_index words j
-      at_zero j e = let q : j + 0 ≡ j = omega arith in
-          subst (λ (i : ℕ). slice_index more i ≡ slice_index words i) q e
-
-      at_two : (j i : ℕ) → slice_index more (j + (2 + i)) ≡ slice_index words (j + (2 + i))
-          → slice_index more (j + 2 + i) ≡ slice_index words (j + 2 + i)
-      at_two j i e = let q : j + (2 + i) ≡ j + 2 + i = omega arith in
-          subst (λ (i : ℕ). slice_index more i ≡ slice_index words i) q e
+      -- the cells of channels stay
+      cell_stays : (p i : ℕ) (l : Chan) → On s p l → i < extent l.capacity
+          → slice_index more (cell p i) ≡ slice_index words (cell p i)
+      cell_stays p i l e hi = other (cell p i) (cell_apart p o i l k e on hi)
 
       same_cap : (p : ℕ) (l : Chan) → On b p l → (l' : Chan) × On s p l' × (l'.capacity ≡ l.capacity)
       same_cap p l e = ⊎_elim
@@ -308,7 +312,7 @@ module _ (code : Code) (encode : Value → ℕ) (place : ℕ → ℕ) (words : L
           ⊎_elim (λ u. absurd (let v : Unlocked ≡ LockedBy j = sym u ∙ t in cc v))
           (λ u. ne (let v : LockedBy g ≡ LockedBy j = sym u ∙ t in sym (cc v))) X.told.mine_lock
 
-      pub control_step : Channels code encode place more (slice_set recs g d) b at'
+      pub control_step : Channels code page_words encode place cell more (slice_set recs g d) b at'
       control_step = record {
         controls = λ p l e. ⊎_elim
             (λ (u : (p ≡ o) × (z ≡ l)). rw (
@@ -323,7 +327,7 @@ module _ (code : Code) (encode : Value → ℕ) (place : ℕ → ℕ) (words : L
               put_else at.head o hd p u.0,
               put_else at.phase o ph p u.0,
             )
-            (at_zero (place p) (apart_of p 0 l u.0 u.1 (omega arith)) ∙ K.controls p l u.1))
+            (apart_of p 0 l u.0 u.1 (omega arith) ∙ K.controls p l u.1))
             (on_was p l e);
         capacities = λ p l e. let r = same_cap p l e in let i = K.inside p r.0 r.1 in dite (ℕ_discrete p o)
             (λ w. other (place p + 1) (λ q. let t : place p ≡ place o = ap place w in omega arith)
@@ -331,11 +335,11 @@ module _ (code : Code) (encode : Value → ℕ) (place : ℕ → ℕ) (words : L
             (λ ne. apart_of p 1 r.0 ne r.1 (omega arith) ∙ (K.capacities p r.0 r.1 ∙ r.2));
         cells = λ p i v l e q. ⊎_elim
             (λ (u : (p ≡ o) × (z ≡ l)). rw (u.0, put_here at.head o hd o refl, ← u.1, X.capacity)
-            (other (place o + 2 + cell_of k hd i) (λ t. omega arith)
-            ∙ X.cells i v (ap (λ (y : Chan). slice_get y.queue i) u.1 ∙ q)))
+            (let f = ap (λ (y : Chan). slice_get y.queue i) u.1 ∙ q in
+            let t = queue_cell k z.queue hd i v (λ w. (X.unbuffered w).0) f in
+            cell_stays o (cell_of k hd i) k on t.1 ∙ X.cells i v f))
             (λ (u : (p ≢ o) × On s p l). let t = place_in p i v l u.1 q in rw (put_else at.head o hd p u.0)
-            (at_two (place p) (cell_of l (at.head p) i)
-            (apart_of p (2 + cell_of l (at.head p) i) l u.0 u.1 (let y = t.1 in omega arith)) ∙ K.cells p i v l u.1 q))
+            (cell_stays p (cell_of l (at.head p) i) l u.1 t.1 ∙ K.cells p i v l u.1 q))
             (on_was p l e);
         buffered = λ p l e q. ⊎_elim
             (λ (u : (p ≡ o) × (z ≡ l)). rw (
@@ -355,8 +359,10 @@ module _ (code : Code) (encode : Value → ℕ) (place : ℕ → ℕ) (words : L
             (on_was p l e);
         small = λ p l e. let r = same_cap p l e in rw (← r.2) (K.small p r.0 r.1);
         inside = λ p l e. let r = same_cap p l e in rw (← r.2, length-set) (K.inside p r.0 r.1);
-        apart = λ p q l l' ne e e'. let r = same_cap p l e in let r' = same_cap q l' e' in
-            rw (← r.2, ← r'.2) (K.apart p q r.0 r'.0 ne r.1 r'.1);
+        cells_inside = λ p i l e q. let r = same_cap p l e in rw length-set (K.cells_inside p i r.0 r.1 (rw r.2 q));
+        row = λ p i l e w q. let r = same_cap p l e in K.row p i r.0 r.1 (rw r.2 w) (rw r.2 q);
+        apart = λ p q i j l l' e e' h h'. let r = same_cap p l e in let r' = same_cap q l' e' in
+            K.apart p q i j r.0 r'.0 r.1 r'.1 (rw r.2 h) (rw r'.2 h');
         lockers = λ p j l f e. dite (ℕ_discrete p o)
             (λ w. let q = X.told.lock j (sym (put_here at.lock o lk p w) ∙ e) in
             (d, q.1, rw q.0 here, subst (λ i. HoldsAt d.hold (place i) q.1) (sym w) q.2))
@@ -382,7 +388,7 @@ module _ (code : Code) (encode : Value → ℕ) (place : ℕ → ℕ) (words : L
               t.3,
               put_else at.lock o lk t.0 ne ∙ t.4,
               subst (λ i'. slice_index more i' ≡ slice_index words i') t.3
-                  (at_zero (place t.0) (apart_of t.0 0 t.1 ne t.2 (omega arith))) ∙ t.5,
+                  (apart_of t.0 0 t.1 ne t.2 (omega arith)) ∙ t.5,
             ))
             (recs_was j y e);
         in_cells = λ j a i v y e q. ⊎_elim
@@ -397,8 +403,7 @@ module _ (code : Code) (encode : Value → ℕ) (place : ℕ → ℕ) (words : L
               on_else t.0 t.1 ne t.2,
               t.3,
               t.4,
-              subst (λ p. slice_index more (p + 2 + i) ≡ slice_index words (p + 2 + i)) t.3
-                  (at_two (place t.0) i (apart_of t.0 (2 + i) t.1 ne t.2 (let p = t.4 in omega arith))) ∙ t.5,
+              cell_stays t.0 i t.1 t.2 t.4 ∙ t.5,
             ))
             (recs_was j y e);
         sizes = λ j a i y e q.
@@ -407,6 +412,13 @@ module _ (code : Code) (encode : Value → ℕ) (place : ℕ → ℕ) (words : L
             (λ (u : (j ≢ g) × (slice_get recs j ≡ Some y)). K.sizes j a i y u.1 q)
             (recs_was j y e) in
             let r = on_made t.0 t.1 t.2 in (t.0, r.0, r.1, t.3, r.2 ∙ t.4);
+        reaches = λ j a i w y e q.
+            let t : (p : ℕ) × (l : Chan) × On s p l × (place p ≡ a) × (i < extent l.capacity) × (cell p i ≡ w) = ⊎_elim
+            (λ (u : (j ≡ g) × (d ≡ y)). K.reaches g a i w c mine
+            (X.told.reach a i w (ap (λ (r : Rec). r.reach) u.1 ∙ q)))
+            (λ (u : (j ≢ g) × (slice_get recs j ≡ Some y)). K.reaches j a i w y u.1 q)
+            (recs_was j y e) in
+            let r = on_made t.0 t.1 t.2 in (t.0, r.0, r.1, t.3, rw r.2 t.4, t.5);
         saws = λ j a y e q.
             let t : (p : ℕ) × (l : Chan) × On s p l × (place p ≡ a) × (l.closed ≡ true) = ⊎_elim
             (λ (u : (j ≡ g) × (d ≡ y)). K.saws g a c mine (X.told.saw a (ap (λ (r : Rec). r.saw) u.1 ∙ q)))
@@ -463,8 +475,8 @@ module _ (code : Code) (encode : Value → ℕ) (place : ℕ → ℕ) (words : L
             (λ w. let t = X.wait j (sym (put_here at.phase o ph p w) ∙ q) in (
               t.0,
               subst (λ i. Next code b j Send (value.Object i ∷ t.0 ∷ [])) (sym w) t.1,
-              subst (λ i. slice_index more (place i + 2) ≡ encode t.0) (sym w)
-                  (other (place o + 2) (λ y. omega arith) ∙ t.2),
+              subst (λ i. slice_index more (cell i 0) ≡ encode t.0) (sym w)
+                  (cell_stays o 0 k on (some_cell k.capacity) ∙ t.2),
             ))
             (λ ne. let r = sym (put_else at.phase o ph p ne) ∙ q in
             let l' = ⊎_elim (λ u. absurd (ne u.0)) (λ u. u.1) (on_was p l e) in
@@ -472,7 +484,7 @@ module _ (code : Code) (encode : Value → ℕ) (place : ℕ → ℕ) (words : L
             let x' = X.others p j l ne l' (subst (λ y. OfferOf y j) (sym r) refl) in (
               t.0,
               next_same code s b j Send (value.Object p ∷ t.0 ∷ []) x'.0 t.1,
-              apart_of p 2 l ne l' (let y = some_cell l.capacity in omega arith) ∙ t.2,
+              cell_stays p 0 l l' (some_cell l.capacity) ∙ t.2,
             ));
       }
         where
@@ -494,14 +506,16 @@ module _ (code : Code) (encode : Value → ℕ) (place : ℕ → ℕ) (words : L
     -- the record knows more or less of channels, and holds what it held
     module _ (to : (a n : ℕ) → HoldsAt d.hold a n → HoldsAt c.hold a n)
         (fro : (a n : ℕ) → HoldsAt c.hold a n → HoldsAt d.hold a n)
-        (cell : (a i v : ℕ) → InCell d.hold a i v → (o : ℕ) × (k : Chan) × On s o k × (place o ≡ a)
-        × (i < extent k.capacity) × (slice_index words (a + 2 + i) ≡ v))
+        (in_cell : (a i v : ℕ) → InCell d.hold a i v → (o : ℕ) × (k : Chan) × On s o k × (place o ≡ a)
+        × (i < extent k.capacity) × (slice_index words (cell o i) ≡ v))
         (size : (a n : ℕ) → d.size ≡ Sized a n → (o : ℕ) × (k : Chan) × On s o k × (place o ≡ a) × (k.capacity ≡ n))
+        (reach : (a i w : ℕ) → d.reach ≡ Reached a i w → (o : ℕ) × (k : Chan) × On s o k × (place o ≡ a)
+        × (i < extent k.capacity) × (cell o i ≡ w))
         (saw : (a : ℕ) → d.saw ≡ Shut a → (o : ℕ) × (k : Chan) × On s o k × (place o ≡ a) × (k.closed ≡ true))
         (strand : (a : ℕ) → d.saw ≡ Stranded a → (o : ℕ) × (k : Chan) × On s o k × (place o ≡ a) × (k.closed ≡ true)
         × (at.phase o ≡ Offered g))
         (post : d.post ≡ c.post) (know : (a : ℕ) → KnowsOf d a → IsAt code place s g d.post a) where
-      pub record_step : Channels code encode place words (slice_set recs g d) s at
+      pub record_step : Channels code page_words encode place cell words (slice_set recs g d) s at
       record_step = record {
         controls = K.controls;
         capacities = K.capacities;
@@ -510,6 +524,8 @@ module _ (code : Code) (encode : Value → ℕ) (place : ℕ → ℕ) (words : L
         unbuffered = K.unbuffered;
         small = K.small;
         inside = K.inside;
+        cells_inside = K.cells_inside;
+        row = K.row;
         apart = K.apart;
         lockers = λ o j k on e. let q = K.lockers o j k on e in dite (ℕ_discrete j g)
             (λ w. (
@@ -527,12 +543,16 @@ module _ (code : Code) (encode : Value → ℕ) (place : ℕ → ℕ) (words : L
             (λ (u : (j ≢ g) × (slice_get recs j ≡ Some y)). K.locks j a n y u.1 q)
             (recs_was j y e);
         in_cells = λ j a i v y e q. ⊎_elim
-            (λ (u : (j ≡ g) × (d ≡ y)). cell a i v (subst (λ (r : Rec). InCell r.hold a i v) (sym u.1) q))
+            (λ (u : (j ≡ g) × (d ≡ y)). in_cell a i v (subst (λ (r : Rec). InCell r.hold a i v) (sym u.1) q))
             (λ (u : (j ≢ g) × (slice_get recs j ≡ Some y)). K.in_cells j a i v y u.1 q)
             (recs_was j y e);
         sizes = λ j a n y e q. ⊎_elim
             (λ (u : (j ≡ g) × (d ≡ y)). size a n (ap (λ (r : Rec). r.size) u.1 ∙ q))
             (λ (u : (j ≢ g) × (slice_get recs j ≡ Some y)). K.sizes j a n y u.1 q)
+            (recs_was j y e);
+        reaches = λ j a i w y e q. ⊎_elim
+            (λ (u : (j ≡ g) × (d ≡ y)). reach a i w (ap (λ (r : Rec). r.reach) u.1 ∙ q))
+            (λ (u : (j ≢ g) × (slice_get recs j ≡ Some y)). K.reaches j a i w y u.1 q)
             (recs_was j y e);
         saws = λ j a y e q. ⊎_elim
             (λ (u : (j ≡ g) × (d ≡ y)). saw a (ap (λ (r : Rec). r.saw) u.1 ∙ q))
@@ -563,7 +583,7 @@ module _ (code : Code) (encode : Value → ℕ) (place : ℕ → ℕ) (words : L
   -- a record that had locked channel o, and now knows of its offer alone
   pub freed : (g : ℕ) (c : Rec) (mine : slice_get recs g ≡ Some c) (post : Post) (o n x : ℕ) → HoldsAt c.hold (place o) n
       → at.lock o ≡ LockedBy g
-      → Told g c (record { hold = Free; size = Unknown; post = post; saw = Nothing }) mine o x Unlocked
+      → Told g c (record { hold = Free; size = Unknown; reach = Unreached; post = post; saw = Nothing }) mine o x Unlocked
   freed g c mine post o n x held locked = record {
     mine_lock = inr locked;
     only = λ a j q. one_hold c.hold (place o) n a j held q;
@@ -571,6 +591,7 @@ module _ (code : Code) (encode : Value → ℕ) (place : ℕ → ℕ) (words : L
     hold = λ a j q. absurd q;
     no_cell = λ a i u q. q;
     size = λ a j q. absurd (let y : Unknown ≡ Sized a j = q in cc y);
+    reach = λ a i w q. absurd (let y : Unreached ≡ Reached a i w = q in cc y);
     saw = λ a q. absurd (let y : Nothing ≡ Shut a = q in cc y);
     strand = λ a q. absurd (let y : Nothing ≡ Stranded a = q in cc y);
   }
@@ -582,49 +603,34 @@ module _ (code : Code) (encode : Value → ℕ) (place : ℕ → ℕ) (words : L
       (no_queue : (j : ℕ) (u : Value) → slice_get k.queue j ≡ Some u → cell_of k (at.head o) j ≢ i)
       (no_offer : (j : ℕ) → at.phase o ≡ Offered j → 0 ≢ i) where
     abbrev stored : List ℕ
-    stored = slice_set words (place o + 2 + i) v
+    stored = slice_set words (cell o i) v
 
-    keeps : (j : ℕ) → j ≢ place o + 2 + i → slice_index stored j ≡ slice_index words j
-    keeps j ne = get_or-set_other words (place o + 2 + i) j v 0 ne
+    -- any other word of a channel
+    keeps : (p j : ℕ) (l : Chan) → On s p l → j < 2 + extent l.capacity → (p ≡ o → j ≢ suc (suc i))
+        → slice_index stored (word_of place cell p j) ≡ slice_index words (word_of place cell p j)
+    keeps p j l x hj ne = get_or-set_other words (cell o i) (word_of place cell p j) v 0
+        (λ e. let t = K.apart p o j (suc (suc i)) l k x on hj (omega arith) e in ne t.0 t.1)
 
-    keeps_far : (p j : ℕ) (l : Chan) → p ≢ o → On s p l → j < 2 + extent l.capacity
-        → slice_index stored (place p + j) ≡ slice_index words (place p + j)
-    keeps_far p j l ne x hj = keeps (place p + j) (λ e. far p o j (2 + i) l k ne x on hj (omega arith)
-        (let y : place o + (2 + i) ≡ place o + 2 + i = omega arith in e ∙ sym y))
+    keeps_cell : (p j : ℕ) (l : Chan) → On s p l → j < extent l.capacity → (p ≡ o → j ≢ i)
+        → slice_index stored (cell p j) ≡ slice_index words (cell p j)
+    keeps_cell p j l x hj ne = keeps p (suc (suc j)) l x (omega arith) (λ w e. ne w (omega arith))
 
-    -- the first two words of any channel
-    keeps_low : (p j : ℕ) (l : Chan) → On s p l → j < 2
-        → slice_index stored (place p + j) ≡ slice_index words (place p + j)
-    keeps_low p j l x hj = dite (ℕ_discrete p o)
-        (λ w. keeps (place p + j) (λ e. let t : place p ≡ place o = ap place w in omega arith))
-        (λ ne. keeps_far p j l ne x (omega arith))
-
-    cell_zero : (j : ℕ) → slice_index stored (j + 0) ≡ slice_index words (j + 0)
-        → slice_index stored j ≡ slice_index words j
-    cell_zero j e = let q : j + 0 ≡ j = omega arith in
-        subst (λ (i : ℕ). slice_index stored i ≡ slice_index words i) q e
-
-    cell_two : (j i : ℕ) → slice_index stored (j + (2 + i)) ≡ slice_index words (j + (2 + i))
-        → slice_index stored (j + 2 + i) ≡ slice_index words (j + 2 + i)
-    cell_two j i e = let q : j + (2 + i) ≡ j + 2 + i = omega arith in
-        subst (λ (i : ℕ). slice_index stored i ≡ slice_index words i) q e
-
-    pub cell_step : Channels code encode place stored recs s at
+    pub cell_step : Channels code page_words encode place cell stored recs s at
     cell_step = record {
-      controls = λ p l x. cell_zero (place p) (keeps_low p 0 l x (omega arith)) ∙ K.controls p l x;
-      capacities = λ p l x. keeps_low p 1 l x (omega arith) ∙ K.capacities p l x;
-      cells = λ p j u l x e. let t = place_in p j u l x e in dite (ℕ_discrete p o)
-          (λ w. let same : l ≡ k = same_chan s o l k (subst (λ q. On s q l) w x) on in
-          let q : cell_of l (at.head p) j ≢ i = λ y. no_queue j u (subst (λ (r : Chan). slice_get r.queue j ≡ Some u) same e)
-          (ap (λ p. cell_of k (at.head p) j) (sym w) ∙ (ap (λ (r : Chan). cell_of r (at.head p) j) (sym same) ∙ y)) in
-          keeps (place p + 2 + cell_of l (at.head p) j)
-          (λ y. q (let t : place p ≡ place o = ap place w in omega arith)) ∙ K.cells p j u l x e)
-          (λ ne. cell_two (place p) (cell_of l (at.head p) j)
-          (keeps_far p (2 + cell_of l (at.head p) j) l ne x (let y = t.1 in omega arith)) ∙ K.cells p j u l x e);
+      controls = λ p l x. keeps p 0 l x (omega arith) (λ w e. omega arith) ∙ K.controls p l x;
+      capacities = λ p l x. keeps p 1 l x (omega arith) (λ w e. omega arith) ∙ K.capacities p l x;
+      cells = λ p j u l x e. let t = place_in p j u l x e in
+          keeps_cell p (cell_of l (at.head p) j) l x t.1
+          (λ w y. let same : l ≡ k = same_chan s o l k (subst (λ q. On s q l) w x) on in
+          no_queue j u (subst (λ (r : Chan). slice_get r.queue j ≡ Some u) same e)
+          (ap (λ p. cell_of k (at.head p) j) (sym w) ∙ (ap (λ (r : Chan). cell_of r (at.head p) j) (sym same) ∙ y)))
+          ∙ K.cells p j u l x e;
       buffered = K.buffered;
       unbuffered = K.unbuffered;
       small = K.small;
       inside = λ p l x. rw length-set (K.inside p l x);
+      cells_inside = λ p j l x h. rw length-set (K.cells_inside p j l x h);
+      row = K.row;
       apart = K.apart;
       lockers = K.lockers;
       locks = λ j a y z e q. let t = K.locks j a y z e q in (
@@ -634,7 +640,7 @@ module _ (code : Code) (encode : Value → ℕ) (place : ℕ → ℕ) (words : L
         t.3,
         t.4,
         subst (λ a. slice_index stored a ≡ slice_index words a) t.3
-            (cell_zero (place t.0) (keeps_low t.0 0 t.1 t.2 (omega arith))) ∙ t.5,
+            (keeps t.0 0 t.1 t.2 (omega arith) (λ w e. omega arith)) ∙ t.5,
       );
       in_cells = λ j a y u z e q. let t = K.in_cells j a y u z e q in
           let ne : t.0 ≢ o = λ w.
@@ -652,10 +658,10 @@ module _ (code : Code) (encode : Value → ℕ) (place : ℕ → ℕ) (words : L
             t.2,
             t.3,
             t.4,
-            subst (λ p. slice_index stored (p + 2 + y) ≡ slice_index words (p + 2 + y)) t.3
-                (cell_two (place t.0) y (keeps_far t.0 (2 + y) t.1 ne t.2 (let p = t.4 in omega arith))) ∙ t.5,
+            keeps_cell t.0 y t.1 t.2 t.4 (λ w. absurd (ne w)) ∙ t.5,
           );
       sizes = K.sizes;
+      reaches = K.reaches;
       saws = K.saws;
       strands = K.strands;
       knows = K.knows;
@@ -666,9 +672,6 @@ module _ (code : Code) (encode : Value → ℕ) (place : ℕ → ℕ) (words : L
       waits = λ p j l x e. let t = K.waits p j l x e in (
         t.0,
         t.1,
-        dite (ℕ_discrete p o)
-            (λ w. keeps (place p + 2) (λ y. no_offer j (ap at.phase (sym w) ∙ e)
-            (let t : place p ≡ place o = ap place w in omega arith)) ∙ t.2)
-            (λ ne. keeps_far p 2 l ne x (let y = some_cell l.capacity in omega arith) ∙ t.2),
+        keeps_cell p 0 l x (some_cell l.capacity) (λ w. no_offer j (ap at.phase (sym w) ∙ e)) ∙ t.2,
       );
     }

@@ -45,8 +45,8 @@ pub data NotReady (code : Code) (place : ℕ → ℕ) (s : RegionState) (g : ℕ
       → count_of n ≢ 1 → NotReady code place s g c o size n
   Waits : c.post ≡ Offering (place o) → closed_of n ≡ 0 → count_of n ≡ 1 → NotReady code place s g c o size n
 
-module _ (code : Code) (encode : Value → ℕ) (place : ℕ → ℕ) (words : List ℕ) (recs : List Rec) (s : RegionState)
-    (at : Places) (K : Channels code encode place words recs s at) where
+module _ (code : Code) (page_words : ℕ) (encode : Value → ℕ) (place : ℕ → ℕ) (cell : ℕ → ℕ → ℕ) (words : List ℕ) (recs : List Rec) (s : RegionState)
+    (at : Places) (K : Channels code page_words encode place cell words recs s at) where
   abbrev m : Memory
   m = s.plain.memory
 
@@ -63,7 +63,7 @@ module _ (code : Code) (encode : Value → ℕ) (place : ℕ → ℕ) (words : L
       × (count_of (slice_index words (place o)) ≡ count k (at.phase o))
   shown o k on = rw (K.controls o k on) (let d = decode_locked (lock_bit (at.lock o)) (bit k.closed) (count k (at.phase o))
       (at.head o) (lock_small (at.lock o)) (bit_small k.closed)
-      (count_small code encode place words recs s at K o k on) in (d.0, d.1))
+      (count_small code page_words encode place cell words recs s at K o k on) in (d.0, d.1))
 
   is_open : (o : ℕ) (k : Chan) → On s o k → closed_of (slice_index words (place o)) ≡ 0 → k.closed ≡ false
   is_open o k on e = open_or k.closed (sym (shown o k on).0 ∙ e)
@@ -123,10 +123,10 @@ module _ (code : Code) (encode : Value → ℕ) (place : ℕ → ℕ) (words : L
       own : OfferOf (at.phase o) g
       own =
           let t = K.posts g (place o) c e post in
-          subst (λ p. OfferOf (at.phase p) g) (one_place code encode place words recs s at K t.0 o t.1 k t.2 on t.3) t.4
+          subst (λ p. OfferOf (at.phase p) g) (one_place code page_words encode place cell words recs s at K t.0 o t.1 k t.2 on t.3) t.4
 
       cap : k.capacity ≡ 0
-      cap = no_buffer code encode place words recs s at K o g k on own
+      cap = no_buffer code page_words encode place cell words recs s at K o g k on own
 
       number : phase_number (at.phase o) ≡ 1
       number = let n = (shown o k on).1 in let l = no_queue o k on cap in omega arith
@@ -169,7 +169,7 @@ module _ (code : Code) (encode : Value → ℕ) (place : ℕ → ℕ) (words : L
         by c f post (At p l on' (HasNoOffer free st op nn th)) = clash c post free
         by c f post (At p l on' (Waits post' op one)) =
             let w : Offering (place p) ≡ Offering (place o) = sym post' ∙ post in
-            let same : p ≡ o = one_place code encode place words recs s at K p o l k on' on (cc w) in
+            let same : p ≡ o = one_place code page_words encode place cell words recs s at K p o l k on' on (cc w) in
             let n = (shown o k on).1 in
             let one' : count_of (slice_index words (place o)) ≡ 1
             = ap (λ q. count_of (slice_index words (place q))) (sym same) ∙ one in

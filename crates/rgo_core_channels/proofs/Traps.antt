@@ -31,8 +31,8 @@ use Rattle.rgo_core_channels.specs.Standing.{Next}
 
 -- a trap leaves channels, frames and holders as they were
 trap_kept : (T : Moment) (trap : Trap) (at : ℕ)
-    → Channels T.code T.encode T.place T.words T.recs (after_trap T.state trap at) T.at
-trap_kept T trap at = marked_keeps T.code T.encode T.place T.words T.recs T.state T.at T.channels None
+    → Channels T.code T.page_words T.encode T.place T.cell T.words T.recs (after_trap T.state trap at) T.at
+trap_kept T trap at = marked_keeps T.code T.page_words T.encode T.place T.cell T.words T.recs T.state T.at T.channels None
     (marked T.state.mark (Some (the_end.Trap trap at))) (T.state.steps + 1)
 
 module _ (T : Moment) (g : ℕ) (c : Rec) (mine : slice_get T.recs g ≡ Some c) where
@@ -40,7 +40,7 @@ module _ (T : Moment) (g : ℕ) (c : Rec) (mine : slice_get T.recs g ≡ Some c)
   closed_is : (o : ℕ) (k : Chan) → On T.state o k → c.saw ≡ Shut (T.place o) → k.closed ≡ true
   closed_is o k on saw =
       let t = T.channels.saws g (T.place o) c mine saw in
-      let same = one_place T.code T.encode T.place T.words T.recs T.state T.at T.channels t.0 o t.1 k t.2 on t.3 in
+      let same = one_place T.code T.page_words T.encode T.place T.cell T.words T.recs T.state T.at T.channels t.0 o t.1 k t.2 on t.3 in
       ap (λ (r : Chan). r.closed) (same_chan T.state o k t.1 on
       (subst (λ p. On T.state p t.1) same t.2)) ∙ t.4
 
@@ -48,7 +48,7 @@ module _ (T : Moment) (g : ℕ) (c : Rec) (mine : slice_get T.recs g ≡ Some c)
       → (k.closed ≡ true) × (T.at.phase o ≡ Offered g)
   stranded_is o k on saw =
       let t = T.channels.strands g (T.place o) c mine saw in
-      let same = one_place T.code T.encode T.place T.words T.recs T.state T.at T.channels t.0 o t.1 k t.2 on t.3 in (
+      let same = one_place T.code T.page_words T.encode T.place T.cell T.words T.recs T.state T.at T.channels t.0 o t.1 k t.2 on t.3 in (
         ap (λ (r : Chan). r.closed) (same_chan T.state o k t.1 on
             (subst (λ p. On T.state p t.1) same t.2)) ∙ t.4,
         ap T.at.phase (sym same) ∙ t.5,
@@ -58,7 +58,7 @@ module _ (T : Moment) (g : ℕ) (c : Rec) (mine : slice_get T.recs g ≡ Some c)
       → On T.state o k → k.closed ≡ true → may_go next.holder.offer ≡ true
       → (region_step T.code T.page_words T.state (Instruct (One g))
       ≡ Some (after_trap T.state SendClosed next.before.instr.place))
-      × Channels T.code T.encode T.place T.words T.recs (after_trap T.state SendClosed next.before.instr.place) T.at
+      × Channels T.code T.page_words T.encode T.place T.cell T.words T.recs (after_trap T.state SendClosed next.before.instr.place) T.at
   send_traps_is o v next k on shut free =
       let n = next in (
         traps T.code T.page_words T.state g Send (value.Object o ∷ v ∷ []) n T.running free on.1 refl SendClosed

@@ -1,5 +1,5 @@
 -- The channels of a table: which state of the region machine its words, and what records have of channels, stand for.
-use Rattle.std.specs.Prelude.{◌≡◌, ◌≢◌, ◌⊎◌, ℕ, suc, ◌+◌, ◌%◌, ◌<◌, ◌≤◌, Bool, true, List, [], ◌∷◌, length}
+use Rattle.std.specs.Prelude.{◌≡◌, ℕ, zero, suc, ◌+◌, ◌%◌, ◌<◌, ◌≤◌, Bool, false, true, List, [], ◌∷◌, length}
 use Rattle.std.specs.Prelude.{Some, slice_get, slice_index}
 use Rattle.rgo_sound.specs.Typed.declared.actions.Action.TheVariants.{Send}
 use Rattle.rgo_sound.specs.Memory.Memory.{Object, Channel, Memory}
@@ -8,8 +8,8 @@ use Rattle.rgo_sound.specs.Memory.declared.values.Value.TheVariants as value
 use Rattle.rgo_sound.specs.Code.Code.{Code}
 use Rattle.rgo_sound.specs.RegionMachine.States.{Holder, Offer, NoOffer, Standing, Taken, RegionState}
 use Rattle.rgo_sound.specs.RegionMachine.Objects.{may_touch}
-use Rattle.rgo_core_channels.specs.Controls.{bit, control, extent}
-use Rattle.rgo_core_channels.specs.Records.{Rec, HoldsAt, InCell, KnowsOf, Sized, Nowhere, Offering, Shut, Stranded}
+use Rattle.rgo_core_channels.specs.Controls.{bit, control, extent, tail_words, spreads}
+use Rattle.rgo_core_channels.specs.Records.{Rec, HoldsAt, InCell, KnowsOf, Reached, Sized, Nowhere, Offering, Shut, Stranded}
 use Rattle.rgo_core_channels.specs.Standing.{IsAt, Next}
 
 pub record Chan : Type 0 where
@@ -69,39 +69,51 @@ pub record Places : Type 0 where
 abbrev pub count : Chan → Phase → ℕ
 count k p = length k.queue + phase_number p
 
--- where value i of the queue lies, behind the first two words
+-- the cell of value i of the queue
 abbrev pub cell_of : Chan → (head : ℕ) → ℕ → ℕ
 cell_of k head i = (head + i) % k.capacity
 
--- `place` is the first word of each object; `encode` is how values stand in words
-module _ (code : Code) (encode : Value → ℕ) (place : ℕ → ℕ) where
+-- word i of channel o: the control, the capacity, or a cell
+abbrev pub word_of : (place : ℕ → ℕ) (cell : ℕ → ℕ → ℕ) → (o i : ℕ) → ℕ
+word_of place cell o zero = place o
+word_of place cell o (suc zero) = place o + 1
+word_of place cell o (suc (suc i)) = cell o i
+
+-- `place` is the first word of each object, and `cell` the word of each cell of a channel; `encode` is how values stand in words
+module _ (code : Code) (page_words : ℕ) (encode : Value → ℕ) (place : ℕ → ℕ) (cell : ℕ → ℕ → ℕ) where
   pub record Channels (words : List ℕ) (recs : List Rec) (s : RegionState) (at : Places) : Type 0 where
     -- what words hold
     pub controls : (o : ℕ) (k : Chan) → On s o k
         → slice_index words (place o) ≡ lock_bit (at.lock o) + control (bit k.closed) (count k (at.phase o)) (at.head o)
     pub capacities : (o : ℕ) (k : Chan) → On s o k → slice_index words (place o + 1) ≡ k.capacity
     pub cells : (o i : ℕ) (v : Value) (k : Chan) → On s o k → slice_get k.queue i ≡ Some v
-        → slice_index words (place o + 2 + cell_of k (at.head o) i) ≡ encode v
+        → slice_index words (cell o (cell_of k (at.head o) i)) ≡ encode v
     pub buffered : (o : ℕ) (k : Chan) → On s o k → 0 < k.capacity
         → (at.phase o ≡ Calm) × (length k.queue ≤ k.capacity) × (at.head o < k.capacity)
     pub unbuffered : (o : ℕ) (k : Chan) → On s o k → k.capacity ≡ 0 → (k.queue ≡ []) × (at.head o ≡ 0)
     pub small : (o : ℕ) (k : Chan) → On s o k → k.capacity < 1073741820
-    pub inside : (o : ℕ) (k : Chan) → On s o k → place o + 2 + extent k.capacity ≤ length words
-    pub apart : (o p : ℕ) (k l : Chan) → o ≢ p → On s o k → On s p l
-        → (place o + 2 + extent k.capacity ≤ place p) ⊎ (place p + 2 + extent l.capacity ≤ place o)
+    -- where words are: in the table, the cells after the capacity unless the channel is spread, and no two words at one position
+    pub inside : (o : ℕ) (k : Chan) → On s o k → place o + 2 + tail_words page_words k.capacity ≤ length words
+    pub cells_inside : (o i : ℕ) (k : Chan) → On s o k → i < extent k.capacity → cell o i < length words
+    pub row : (o i : ℕ) (k : Chan) → On s o k → spreads page_words k.capacity ≡ false → i < extent k.capacity
+        → cell o i ≡ place o + 2 + i
+    pub apart : (o p i j : ℕ) (k l : Chan) → On s o k → On s p l → i < 2 + extent k.capacity → j < 2 + extent l.capacity
+        → word_of place cell o i ≡ word_of place cell p j → (o ≡ p) × (i ≡ j)
     -- a control is locked exactly where one goroutine has locked it
     pub lockers : (o g : ℕ) (k : Chan) → On s o k → at.lock o ≡ LockedBy g
         → (c : Rec) × (n : ℕ) × (slice_get recs g ≡ Some c) × HoldsAt c.hold (place o) n
     pub locks : (g a n : ℕ) (c : Rec) → slice_get recs g ≡ Some c → HoldsAt c.hold a n
         → (o : ℕ) × (k : Chan) × On s o k × (place o ≡ a) × (at.lock o ≡ LockedBy g)
         × (slice_index words a ≡ suc n)
-    -- what was stored or loaded under the lock is the cell's; the capacity that was read is the channel's; one that was
-    -- found closed is closed
+    -- what was stored or loaded under the lock is the cell's; the capacity that was read is the channel's; the word that was
+    -- found is the cell's; one that was found closed is closed
     pub in_cells : (g a i x : ℕ) (c : Rec) → slice_get recs g ≡ Some c → InCell c.hold a i x
         → (o : ℕ) × (k : Chan) × On s o k × (place o ≡ a) × (i < extent k.capacity)
-        × (slice_index words (a + 2 + i) ≡ x)
+        × (slice_index words (cell o i) ≡ x)
     pub sizes : (g a n : ℕ) (c : Rec) → slice_get recs g ≡ Some c → c.size ≡ Sized a n
         → (o : ℕ) × (k : Chan) × On s o k × (place o ≡ a) × (k.capacity ≡ n)
+    pub reaches : (g a i w : ℕ) (c : Rec) → slice_get recs g ≡ Some c → c.reach ≡ Reached a i w
+        → (o : ℕ) × (k : Chan) × On s o k × (place o ≡ a) × (i < extent k.capacity) × (cell o i ≡ w)
     pub saws : (g a : ℕ) (c : Rec) → slice_get recs g ≡ Some c → c.saw ≡ Shut a
         → (o : ℕ) × (k : Chan) × On s o k × (place o ≡ a) × (k.closed ≡ true)
     pub strands : (g a : ℕ) (c : Rec) → slice_get recs g ≡ Some c → c.saw ≡ Stranded a
@@ -118,4 +130,4 @@ module _ (code : Code) (encode : Value → ℕ) (place : ℕ → ℕ) where
         → (c : Rec) × (h : Holder) × (slice_get recs g ≡ Some c) × (slice_get s.holders g ≡ Some h)
         × (c.post ≡ Offering (place o)) × (h.offer ≡ holder_offer o (at.phase o))
     pub waits : (o g : ℕ) (k : Chan) → On s o k → at.phase o ≡ Offered g
-        → (v : Value) × Next code s g Send (value.Object o ∷ v ∷ []) × (slice_index words (place o + 2) ≡ encode v)
+        → (v : Value) × Next code s g Send (value.Object o ∷ v ∷ []) × (slice_index words (cell o 0) ≡ encode v)

@@ -1,6 +1,8 @@
 -- The control of a channel, its first word: bit 0 is the lock, bit 1 says that it is closed. Then come 30 bits for the number of
 -- values, or for the phase of a channel without a buffer, and the cell of the oldest value.
-use Rattle.std.specs.Prelude.{ℕ, ◌+◌, ◌*◌, ◌/◌, ◌%◌, Bool, true, false, max}
+use Rattle.std.specs.Prelude.{ℕ, ◌+◌, ◌*◌, ◌/◌, ◌%◌, Bool, true, false, [], max, if◌then◌else◌}
+use Rattle.rgo_sound.specs.Memory.Memory.{Channel}
+use Rattle.rgo_sound.specs.RegionMachine.Objects.{data_pages, is_spread}
 
 abbrev pub bit : Bool → ℕ
 bit true = 1
@@ -22,3 +24,12 @@ head_of n = n / 4294967296
 -- how many cells a channel of this capacity has
 abbrev pub extent : ℕ → ℕ
 extent capacity = max 1 capacity
+
+-- whether a channel of this capacity does not fit a page
+abbrev pub spreads : (page_words capacity : ℕ) → Bool
+spreads page_words capacity = is_spread page_words (Channel capacity [] false)
+
+-- how many words follow the capacity in the same page: the cells; of a spread channel, the numbers of its data pages
+abbrev pub tail_words : (page_words capacity : ℕ) → ℕ
+tail_words page_words capacity =
+    if spreads page_words capacity then data_pages page_words (Channel capacity [] false) else extent capacity

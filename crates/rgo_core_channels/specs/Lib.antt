@@ -11,6 +11,7 @@ pub mod Looking
 pub mod Meetings
 pub mod Moments
 pub mod Opening
+pub mod Positions
 pub mod Records
 pub mod Standing
 pub mod Traps

@@ -22,13 +22,14 @@ pub record Moment : Type 0 where
   pub ascends : Ascends code
   pub encode : Value → ℕ
   pub place : ℕ → ℕ
+  pub cell : ℕ → ℕ → ℕ
   pub words : List ℕ
   pub recs : List Rec
   pub state : RegionState
   pub good : AllGood code state
   pub running : IsRunning state
   pub at : Places
-  pub channels : Channels code encode place words recs state at
+  pub channels : Channels code page_words encode place cell words recs state at
 
 -- a law of accesses by a goroutine with this record
 abbrev pub Law : ((T : Moment) → ℕ → Rec → Type 0) → Type 0
@@ -37,21 +38,22 @@ Law P = (T : Moment) (g : ℕ) (c : Rec) → slice_get T.recs g ≡ Some c → P
 module _ (T : Moment) (g : ℕ) where
   -- word i is loaded, and what was found makes the record this: the state stays
   abbrev pub Looks : (i : ℕ) → (ℕ → Rec) → Type 0
-  Looks i d = Channels T.code T.encode T.place (slice_set T.words i (slice_index T.words i))
+  Looks i d = Channels T.code T.page_words T.encode T.place T.cell (slice_set T.words i (slice_index T.words i))
       (slice_set T.recs g (d (slice_index T.words i))) T.state T.at
 
   -- word i becomes what f makes of what was found: the state stays
   abbrev pub Keeps : (i : ℕ) (f : ℕ → ℕ) → (ℕ → Rec) → Type 0
-  Keeps i f d = (at : Places) × Channels T.code T.encode T.place (slice_set T.words i (f (slice_index T.words i)))
+  Keeps i f d = (at : Places)
+      × Channels T.code T.page_words T.encode T.place T.cell (slice_set T.words i (f (slice_index T.words i)))
       (slice_set T.recs g (d (slice_index T.words i))) T.state at
 
   -- word i becomes x, and the region machine has a step by this event, to the state t
   pub record Gains (i x : ℕ) (d : Rec) (event : Event) (t : RegionState) : Type 0 where
     pub steps : region_step T.code T.page_words T.state event ≡ Some t
     pub at : Places
-    pub channels : Channels T.code T.encode T.place (slice_set T.words i x) (slice_set T.recs g d) t at
+    pub channels : Channels T.code T.page_words T.encode T.place T.cell (slice_set T.words i x) (slice_set T.recs g d) t at
 
   -- the goroutine's instruction traps, and the same words and records are the image of the state after it
   abbrev pub Traps : Trap → (place : ℕ) → Type 0
   Traps trap at = (region_step T.code T.page_words T.state (Instruct (One g)) ≡ Some (after_trap T.state trap at))
-      × Channels T.code T.encode T.place T.words T.recs (after_trap T.state trap at) T.at
+      × Channels T.code T.page_words T.encode T.place T.cell T.words T.recs (after_trap T.state trap at) T.at

@@ -15,6 +15,11 @@ pub data Size : Type 0 where
   Unknown : Size
   Sized : (at capacity : ℕ) → Size
 
+-- a cell of a spread channel that it has found by a page number, and the position of its word
+pub data Reach : Type 0 where
+  Unreached : Reach
+  Reached : (at cell word : ℕ) → Reach
+
 -- the channel at which its offer stands, or was taken and is not yet acknowledged
 pub data Post : Type 0 where
   Nowhere : Post
@@ -29,6 +34,7 @@ pub data Saw : Type 0 where
 pub record Rec : Type 0 where
   pub hold : Hold
   pub size : Size
+  pub reach : Reach
   pub post : Post
   pub saw : Saw
 
@@ -49,23 +55,28 @@ InCell (Read b m j w) a i v = (b ≡ a) × (j ≡ i) × (w ≡ v)
 -- it knows something of the channel there
 abbrev pub KnowsOf : Rec → ℕ → Type 0
 KnowsOf c a = ((n : ℕ) × HoldsAt c.hold a n) ⊎ (((n : ℕ) × (c.size ≡ Sized a n))
-    ⊎ ((c.saw ≡ Shut a) ⊎ ((c.saw ≡ Stranded a) ⊎ (c.post ≡ Offering a))))
+    ⊎ ((c.saw ≡ Shut a) ⊎ ((c.saw ≡ Stranded a) ⊎ ((c.post ≡ Offering a)
+    ⊎ ((i : ℕ) × (w : ℕ) × (c.reach ≡ Reached a i w))))))
 
 -- ---- what steps do to a record
 
 -- it knows nothing of channels: so it is wherever its goroutine stands at no operation on one
 abbrev pub at_rest : Rec
-at_rest = record { hold = Free; size = Unknown; post = Nowhere; saw = Nothing }
+at_rest = record { hold = Free; size = Unknown; reach = Unreached; post = Nowhere; saw = Nothing }
 
 -- its offer stands there
 abbrev pub offering : ℕ → Rec
-offering a = record { hold = Free; size = Unknown; post = Offering a; saw = Nothing }
+offering a = record { hold = Free; size = Unknown; reach = Unreached; post = Offering a; saw = Nothing }
 
 abbrev pub with_hold : Rec → Hold → Rec
 with_hold c h = record c { hold = h }
 
 abbrev pub with_size : Rec → (at capacity : ℕ) → Rec
 with_size c a n = record c { size = Sized a n }
+
+-- it has found that cell, at that word
+abbrev pub with_reach : Rec → (at cell word : ℕ) → Rec
+with_reach c a i w = record c { reach = Reached a i w }
 
 -- the control was found to be n
 abbrev pub with_look : Rec → (at found : ℕ) → Rec

@@ -1,6 +1,6 @@
 //! Controls of channels: what one says, and the one that an operation leaves.
 ghost use Rattle.std.specs.Prelude.{◌≡◌, ◌<◌, ◌≤◌, ◌^◌, ◌+◌, ◌-◌, ◌%◌, suc};
-ghost use Rattle.rgo_core_channels.specs.Controls.{bit, closed_of, control, count_of, extent, head_of};
+ghost use Rattle.rgo_core_channels.specs.Controls.{bit, closed_of, control, count_of, extent, head_of, spreads};
 
 /// Whether the channel is locked.
 pub fn is_locked(word: u64) -> bool
@@ -35,6 +35,14 @@ pub fn cells(capacity: u64) -> u64
     ensures { result ≡ extent capacity }
 {
     capacity.max(1)
+}
+
+/// Whether a channel of this capacity does not fit a page.
+pub fn is_spread(capacity: u64, page_words: u64) -> bool
+    requires small { capacity < 1073741820 }
+    ensures { result ≡ spreads page_words capacity }
+{
+    page_words < 2 + capacity.max(1)
 }
 
 /// The first cell that is free, where the buffer has room.

@@ -4,6 +4,7 @@ ghost use Rattle.rgo_core_channels.specs.Buffers.{CloseLaw, ReceiveLaw, SendLaw,
 ghost use Rattle.rgo_core_channels.specs.Deadlock.{DeadlockLaw};
 ghost use Rattle.rgo_core_channels.specs.Elsewhere.{EventLaw, FinishKeeps, WordKeeps};
 ghost use Rattle.rgo_core_channels.specs.Examples.{ChannelExamples};
+ghost use Rattle.rgo_core_channels.specs.Positions.{LayoutLaw, PageNumberLaw};
 ghost use Rattle.rgo_core_channels.specs.Live.{OperandIsLive, TakenIsLive};
 ghost use Rattle.rgo_core_channels.specs.Locking.{CellLoadLaw, CellStoreLaw, LockLaw};
 ghost use Rattle.rgo_core_channels.specs.Looking.{CapacityLaw, ControlLaw, OwnControlLaw};
@@ -29,6 +30,16 @@ pub fn own_control_law()
 /// An unlocked control is exchanged for the locked one.
 pub fn lock_law()
     ensures { LockLaw }
+{}
+
+/// The number of a data page of a spread channel is loaded.
+pub fn page_number_law()
+    ensures { PageNumberLaw }
+{}
+
+/// Where the words of channels are, in each table.
+pub fn layout_law()
+    ensures { LayoutLaw }
 {}
 
 /// A cell is loaded under the lock.

@@ -3,6 +3,9 @@
 //! cell for each value of its buffer; without a buffer it has one cell, for the value of an offer. An operation locks the
 //! control, loads or stores a cell, and takes effect with the store that unlocks.
 //!
+//! A channel that does not fit a page is spread: its cells are words of data pages, whose numbers follow the capacity. Before
+//! an access to such a cell the operation loads the number of its page.
+//!
 //! Each law of [`laws`] is about one state, and computes the region machine's step; that the channel is in a live region
 //! follows from region safety. [`controls`] reads and makes controls.
 #![tactic(auto)]

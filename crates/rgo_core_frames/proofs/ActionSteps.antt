@@ -1,7 +1,7 @@
 -- The steps of actions that touch words, of prints, and of starts.
 use Rattle.std.specs.Int.{from_bool}
-use Rattle.std.proofs.Common.{◌≡◌, ℕ, ◌+◌, Bool, true, false, List, [], ◌∷◌, ◌++◌, length, Option, Some, None, refl, sym, ap, ◌∙◌, subst, inl}
-use Rattle.std.proofs.Common.{nat_le, slice_get, slice_set, append-nil, Contains, true≢false, if◌then◌else◌, option_map}
+use Rattle.std.proofs.Common.{◌≡◌, ℕ, ◌+◌, Bool, true, false, not, ◌&&◌, List, [], ◌∷◌, ◌++◌, length, Option, Some, None, refl, sym, ap, ◌∙◌, subst, inl}
+use Rattle.std.proofs.Common.{nat_le, nat_lt, slice_get, slice_set, append-nil, Contains, true≢false, if◌then◌else◌, option_map}
 use Rattle.std.proofs.lemmas.Option.{same_Some, slice_get-map}
 use Rattle.rgo_sound.specs.Typed.declared.actions.Action.{Action}
 use Rattle.rgo_sound.specs.Typed.declared.types.Type.{«Type»}
@@ -21,7 +21,7 @@ use Rattle.rgo_sound.specs.Code.Names.{edges}
 use Rattle.rgo_sound.specs.Code.Types.{HasType}
 use Rattle.rgo_sound.specs.RegionMachine.declared.regions.Region.{Region}
 use Rattle.rgo_sound.specs.RegionMachine.Instructions.{child_holder, holder_after, last_frames, marked}
-use Rattle.rgo_sound.specs.RegionMachine.Objects.{allotted, fill_of, making_region, placed, words}
+use Rattle.rgo_sound.specs.RegionMachine.Objects.{allotted, data_pages, fill_of, is_spread, is_too_large, making_region, placed, spread_out, words}
 use Rattle.rgo_sound.specs.RegionMachine.Owed.{function_at, function_of, removes_behind}
 use Rattle.rgo_sound.specs.RegionMachine.States.{Holder, RegionState, top_names}
 use Rattle.rgo_sound.proofs.Acting.{Acted, act, after, effected, no_end, performed, trap_place}
@@ -49,23 +49,31 @@ use Rattle.rgo_sound.specs.RegionMachine.Machine.{Instruct, region_step}
 use Rattle.rgo_sound.specs.Machine.declared.picks.Pick.TheVariants.{One}
 use Rattle.rgo_sound.specs.Typed.declared.statements.Piece.{Piece}
 
--- an object is allotted in an own page: only fills change
+-- an object is allotted in an own page, or in reserved pages: only these change
 pub allotted_same : (page_words : ℕ) (h : Holder) (region : Option Region) (object : Option Object)
     (given : Holder × List Region) → allotted page_words h region object ≡ Some given → SameHolder h given.0
 allotted_same page_words h region None given e =
-    subst (λ (x : Holder × List Region). SameHolder h x.0) (same_Some (h, []) given e) (record { fills = h.fills; same = refl })
+    subst (λ (x : Holder × List Region). SameHolder h x.0) (same_Some (h, []) given e)
+    (record { fills = h.fills; reserved = h.reserved; same = refl })
 allotted_same page_words h None (Some object) given e = cc
-allotted_same page_words h (Some r) (Some object) given e = go (fill_of h.fills r) e
+allotted_same page_words h (Some r) (Some object) given e = spread_or (is_spread page_words object) e
   where
-    by : (b : Bool) (fills : List (Region × ℕ)) → (if b then Some (record h { fills = fills }, r ∷ []) else None) ≡ Some given
+    by : (b : Bool) (fills : List (Region × ℕ)) (reserved : ℕ)
+        → (if b then Some (record h { fills = fills; reserved = reserved }, r ∷ []) else None) ≡ Some given
         → SameHolder h given.0
-    by true fills e = subst (λ (x : Holder × List Region). SameHolder h x.0)
-        (same_Some (record h { fills = fills }, r ∷ []) given e) (record { fills = fills; same = refl })
-    by false fills e = cc
+    by true fills reserved e = subst (λ (x : Holder × List Region). SameHolder h x.0)
+        (same_Some (record h { fills = fills; reserved = reserved }, r ∷ []) given e)
+        (record { fills = fills; reserved = reserved; same = refl })
+    by false fills reserved e = cc
 
     go : (o : Option ℕ) → placed page_words h r object o ≡ Some given → SameHolder h given.0
     go None e = cc
-    go (Some used) e = by (nat_le (used + words object) page_words) _ e
+    go (Some used) e = by (nat_le (used + words object) page_words) _ h.reserved e
+
+    spread_or : (b : Bool) → (if b then spread_out page_words h r object else placed page_words h r object (fill_of h.fills r))
+        ≡ Some given → SameHolder h given.0
+    spread_or true e = by (not (is_too_large page_words object) && nat_lt (data_pages page_words object) h.reserved) h.fills 0 e
+    spread_or false e = go (fill_of h.fills r) e
 
 -- an instruction leaves the own pages
 pub fills_after : (code : Code) (h : Holder) (frame : Frame) (callers : List Frame) (op : CodeOp) (next : List Frame)
@@ -77,6 +85,17 @@ fills_after code h frame callers (Print pieces from removes) next = refl
 fills_after code h frame callers (Jump target removes) next = refl
 fills_after code h frame callers (Branch test target removes other otherwise) next = refl
 fills_after code h frame callers (Return value) next = refl
+
+-- and the reserved ones
+pub reserved_after : (code : Code) (h : Holder) (frame : Frame) (callers : List Frame) (op : CodeOp) (next : List Frame)
+    → (holder_after code h frame callers op next).reserved ≡ h.reserved
+reserved_after code h frame callers (Do to a from removes) next = refl
+reserved_after code h frame callers (Call to n from passes protects removes) next = refl
+reserved_after code h frame callers (Go n from passes removes) next = refl
+reserved_after code h frame callers (Print pieces from removes) next = refl
+reserved_after code h frame callers (Jump target removes) next = refl
+reserved_after code h frame callers (Branch test target removes other otherwise) next = refl
+reserved_after code h frame callers (Return value) next = refl
 
 module _ (code : Code) (page_words : ℕ) (checked : IsChecked code) (slot_of : ℕ → ℕ) (addresses more : List ℕ) (s : RegionState)
     (good : AllGood code s) (running : IsRunning s) (records : List Rec) (all : AllFit code slot_of addresses s records) (g : ℕ)
@@ -125,13 +144,20 @@ module _ (code : Code) (page_words : ℕ) (checked : IsChecked code) (slot_of : 
     none_started : child_holder code given.0 instr.op (last_frames (after s.plain g did).goroutines) ≡ []
     none_started = no_child (last_frames (after s.plain g did).goroutines)
 
+    next_there : slice_get state_after.holders g ≡ Some holder_next
+    next_there =
+        ap (λ hs. slice_get hs g) (changed.holders ∙ ap (λ ks. slice_set s.holders g holder_next ++ ks) none_started
+        ∙ append-nil _) ∙ get_set_same s.holders g b.h holder_next b.there
+
     fills_are : (h : Holder) → slice_get state_after.holders g ≡ Some h → h.fills ≡ given.0.fills
     fills_are h e =
-        let x : slice_get state_after.holders g ≡ Some holder_next =
-        ap (λ hs. slice_get hs g) (changed.holders ∙ ap (λ ks. slice_set s.holders g holder_next ++ ks) none_started
-        ∙ append-nil _) ∙ get_set_same s.holders g b.h holder_next b.there in
-        ap (λ (k : Holder). k.fills) (same_Some h holder_next (sym e ∙ x))
+        ap (λ (k : Holder). k.fills) (same_Some h holder_next (sym e ∙ next_there))
         ∙ fills_after code given.0 b.frame b.callers instr.op (f ∷ fs)
+
+    reserved_is : (h : Holder) → slice_get state_after.holders g ≡ Some h → h.reserved ≡ given.0.reserved
+    reserved_is h e =
+        ap (λ (k : Holder). k.reserved) (same_Some h holder_next (sym e ∙ next_there))
+        ∙ reserved_after code given.0 b.frame b.callers instr.op (f ∷ fs)
 
     step_is : region_step code page_words s (Instruct (One g)) ≡ Some state_after
     step_is = instructs ready_now page_words did given acts allots
@@ -155,6 +181,7 @@ module _ (code : Code) (page_words : ℕ) (checked : IsChecked code) (slot_of : 
       mark = ap (marked s.mark) (no_end g f fs) ∙ mark_stays s.mark;
       counted = refl;
       fills = fills_are;
+      reserved = reserved_is;
     }
 
   -- ---- an action

@@ -1,10 +1,11 @@
 -- The examples, by computation.
-use Rattle.std.proofs.Common.{◌≡◌, ◌∙◌, ℕ, ℤ, zero, suc, List, [], ◌∷◌, Option, Some, None, refl, sym, ap, subst, arith, slice_get, get_or, true, true≢false, FitsSigned, if◌then◌else◌}
+use Rattle.std.proofs.Common.{◌≡◌, ◌∙◌, ℕ, ℤ, zero, suc, List, [], ◌∷◌, Option, Some, None, refl, sym, ap, subst, arith, slice_get, get_or, length, true, true≢false, FitsSigned, if◌then◌else◌}
 use Rattle.std.proofs.lemmas.Option.{same_Some}
 use Rattle.std.specs.Int.{w64}
 use Rattle.rgo_sound.specs.Typed.declared.actions.Action.TheVariants as action
 use Rattle.rgo_sound.specs.Code.Code.{CodeFn, CodeInstr, Do}
 use Rattle.rgo_sound.proofs.Tests.{ne_of}
+use Rattle.rgo_sound.specs.RegionMachine.declared.regions.Region.{Region}
 use Rattle.rgo_sound.specs.RegionMachine.declared.regions.Region.TheVariants.{Numbered}
 use Rattle.rgo_sound.specs.RegionMachine.Examples.{int_slot, main_of, plain}
 use Rattle.rgo_sound.specs.RegionMachine.Regions.{bound, is_live}
@@ -50,6 +51,10 @@ in_table (suc zero) = refl
 in_table (suc (suc k)) =
     ap (λ t. if t then Some (Numbered 5) else None) (ne_of 1 (suc (suc k)) (λ e. absurd (omega (arith, e))))
 
+abbrev many : Option (List (Region × ℕ) × ℕ) → ℕ
+many None = 0
+many (Some x) = length x.0
+
 records : RecordExamples
 records = record {
   reads = refl;
@@ -59,6 +64,8 @@ records = record {
   callers = λ code f. f;
   slots = refl;
   offers = refl;
+  fills = refl;
+  reserved = refl;
   one_slot = λ d. let n : 0 ≡ 1 = d 0 1 refl refl refl in absurd (omega (arith, n));
   slot_again = λ r q a b e. live_at r a ∙ sym (live_at q b);
   one_address = λ d.
@@ -80,6 +87,12 @@ records = record {
   other_table = λ t. let n : Some (Numbered 5) ≡ None = t 1 in cc;
   gives = λ code. record { new = refl; old = λ r l. absurd (omega (arith, l)) };
   keeps = λ code g. let n : 2 ≡ 3 = g.new in absurd (omega (arith, n));
+  reserves = λ code. refl;
+  owns = λ code. refl;
+  both = λ code e.
+      let n : 1 ≡ 2 = ap many e in absurd (omega (arith, n));
+  reached = λ x e. ap Some (sym e);
+  unreached = λ x r. let n : None ≡ Some x.s = r in cc;
 }
 
 -- ---- ints

@@ -22,6 +22,7 @@ pub mod Operands
 pub mod Creating
 pub mod Ending
 pub mod Paging
+pub mod Reserving
 pub mod Stacking
 pub mod Tables
 pub mod Examples

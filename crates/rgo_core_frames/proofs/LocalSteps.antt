@@ -152,8 +152,8 @@ module _ (code : Code) (page_words : ℕ) (checked : IsChecked code) (constants 
     }
 
     shows : IsShown code slot_of addresses a.next after_holder (after_op code c.holder w ws instr.op next)
-    shows = shown_after ready moved refl (h, []) slot_of addresses (record { fills = h.fills; same = refl }) c shown.holder w ws
-        waiting same_tests addresses next a.shown
+    shows = shown_after ready moved refl (h, []) slot_of addresses (record { fills = h.fills; reserved = h.reserved; same = refl })
+        c shown.holder w ws waiting same_tests addresses next a.shown
 
     instructs_alike : Steps (Instruct (One g)) (end_by_frames g [] d.frames)
     instructs_alike =

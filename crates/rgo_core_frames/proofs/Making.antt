@@ -1,13 +1,19 @@
 -- In which region the next instruction makes an object, told by the record.
-use Rattle.std.proofs.Common.{◌≡◌, ℕ, Bool, Option, Some, None, true, false, refl, sym, ap, ◌∙◌, option_map, if◌then◌else◌}
-use Rattle.rgo_sound.specs.Code.Code.{Branch, Call, CodeFn, CodeOp, Do, Go, Jump, Print, Return}
+use Rattle.std.proofs.Common.{◌≡◌, ℕ, Bool, List, ◌∷◌, Option, Some, None, true, false, true≢false, refl, sym, ap, ◌∙◌, option_and_then, option_map, if◌then◌else◌}
+use Rattle.rgo_sound.specs.Typed.declared.actions.Action.{Action}
+use Rattle.rgo_sound.specs.Typed.declared.actions.Action.TheVariants as action
+use Rattle.rgo_sound.specs.Code.Code.{Branch, Call, Code, CodeFn, CodeOp, Do, Go, Jump, Print, Return}
 use Rattle.rgo_sound.specs.RegionMachine.declared.regions.Region.{Region}
 use Rattle.rgo_sound.specs.RegionMachine.Objects.{making_region, makes_object, target_class}
 use Rattle.rgo_sound.specs.RegionMachine.Owed.{function_at, function_of}
 use Rattle.rgo_sound.specs.RegionMachine.Regions.{Bindings, class_region}
 use Rattle.rgo_sound.specs.RegionMachine.States.{Holder, top_names}
-use Rattle.rgo_core_frames.specs.Makes.{RegionLaw}
+use Rattle.rgo_core_frames.specs.Local.{local_by, local_frames, local_instr, local_op}
+use Rattle.rgo_core_frames.specs.Makes.{MakingLaw, RegionLaw}
+use Rattle.rgo_core_frames.specs.Operators.{computed}
+use Rattle.rgo_core_frames.specs.Records.{after_op}
 use Rattle.rgo_core_frames.specs.Slots.{slot, slot_names}
+use Rattle.rgo_core_frames.specs.WordFrames.{WordFrame, word_going, words_of}
 use Rattle.rgo_core_frames.proofs.LocalActs.{mapped}
 use Rattle.rgo_core_frames.proofs.Paging.{region_live}
 use Rattle.rgo_core_frames.proofs.SlotLemmas.{class_slot, top_slot}
@@ -54,3 +60,58 @@ region_law x by_slot e = record {
         ap (λ k. making_region (function_of x.here.code k) (top_names x.before.h.environments) x.instr.op)
         (sym x.before.newest.alike.function)
         ∙ at.1
+
+-- ---- it is no local step
+
+none : {A : Type 0} (region : Region) → None ≡ Some region → A
+none region e = absurd (by e)
+  where
+    by : None ≡ Some region → ⊥
+    by e = cc
+
+is_making : (b : Bool) (o : Option Region) (region : Region) → (if b then o else None) ≡ Some region → b ≡ true
+is_making true o region e = refl
+is_making false o region e = none region e
+
+uncomputed : (a : Action) (words : List ℕ) → makes_object a ≡ true → computed a words ≡ None
+uncomputed (action.New n) words e = refl
+uncomputed action.Slice words e = refl
+uncomputed action.Chan words e = refl
+uncomputed (action.Int k) words e = absurd (true≢false (sym e))
+uncomputed (action.Bool b) words e = absurd (true≢false (sym e))
+uncomputed action.Nil words e = absurd (true≢false (sym e))
+uncomputed action.Copy words e = absurd (true≢false (sym e))
+uncomputed (action.Binary op) words e = absurd (true≢false (sym e))
+uncomputed action.Neg words e = absurd (true≢false (sym e))
+uncomputed action.Not words e = absurd (true≢false (sym e))
+uncomputed action.IsNil words e = absurd (true≢false (sym e))
+uncomputed action.Len words e = refl
+uncomputed (action.Load k) words e = refl
+uncomputed (action.Store k) words e = refl
+uncomputed action.At words e = refl
+uncomputed action.Put words e = refl
+uncomputed action.Recv words e = refl
+uncomputed action.Send words e = refl
+uncomputed action.Close words e = refl
+uncomputed (action.Get n) words e = refl
+uncomputed (action.Set n) words e = refl
+
+module _ (code : Code) (f : Option CodeFn) (names : Bindings) (w : WordFrame) (ws : List WordFrame) (region : Region) where
+  not_local : (op : CodeOp) → making_region f names op ≡ Some region → local_op code w ws op ≡ None
+  not_local (Do to a from removes) e =
+      ap (option_map (λ word. word_going w to word ∷ ws))
+      (uncomputed a (words_of w from) (is_making (makes_object a) (class_region names (target_class f to)) region e))
+  not_local (Call to n from passes protects removes) e = none region e
+  not_local (Go n from passes removes) e = none region e
+  not_local (Print pieces from removes) e = none region e
+  not_local (Jump target removes) e = none region e
+  not_local (Branch test target removes other otherwise) e = none region e
+  not_local (Return value) e = none region e
+
+pub making_law : MakingLaw
+making_law code c w ws instr by_slot owes frames cur makes =
+    ap (local_by code c) owes
+    ∙ ap (local_frames code c.holder) frames
+    ∙ ap (option_and_then (local_instr code c.holder w ws)) cur
+    ∙ ap (option_map (after_op code c.holder w ws instr.op))
+    (not_local code (function_of code w.function) (top_names c.holder.environments) w ws by_slot instr.op makes)

@@ -32,7 +32,7 @@ use Rattle.rgo_core_frames.specs.Shown.{FramesShow, NewestShows}
 use Rattle.rgo_core_frames.specs.Slots.{slot, slot_environments, slotted}
 use Rattle.rgo_core_frames.specs.Steps.{HasInstruction}
 use Rattle.rgo_core_frames.specs.WordFrames.{WordFrame, bare, bare_all, word_called, word_moved, words_of}
-use Rattle.rgo_core_frames.proofs.ActionSteps.{fills_after, ready_now}
+use Rattle.rgo_core_frames.proofs.ActionSteps.{fills_after, ready_now, reserved_after}
 use Rattle.rgo_core_frames.proofs.Bookkeeping.{front_slot, passed_is}
 use Rattle.rgo_core_frames.proofs.Instructing.{changes, done_state, instructs, next_holder, none_allotted, shown_after}
 use Rattle.rgo_core_frames.proofs.Keeping.{Changes, all_fit_child}
@@ -54,6 +54,7 @@ child_of code h n passes child = record {
       (passed (formals_of (function_of code n)) (passed_regions (top_names h.environments) passes)) ∷ [];
   base = twice (passed_regions (top_names h.environments) passes);
   fills = [];
+  reserved = 0;
   duties = map Remove (entry_removes (function_of code n)) ++ next_duties code child;
   offer = NoOffer;
 }
@@ -104,7 +105,7 @@ module _ (code : Code) (page_words : ℕ) (checked : IsChecked code) (slot_of : 
 
   stands : IsShown code slot_of addresses next holder_next (after_op code c.holder w ws instr.op word_next)
   stands = shown_after (ready_now code page_words checked slot_of addresses [] s good running records all g c is_c w ws instr b) did refl
-      (b.h, []) slot_of addresses (record { fills = b.h.fills; same = refl }) c b.holder w ws b.waiting
+      (b.h, []) slot_of addresses (record { fills = b.h.fills; reserved = b.h.reserved; same = refl }) c b.holder w ws b.waiting
       (subst (λ (o : CodeOp). removes_behind (bare w) o ≡ removes_behind b.frame o) (sym is) refl) addresses word_next shows
 
   abbrev children : List Holder
@@ -167,6 +168,7 @@ module _ (code : Code) (page_words : ℕ) (checked : IsChecked code) (slot_of : 
         } ∷ [];
         base = base_is i;
         fills = [];
+        reserved = 0;
         duties = sym (front_slot slot_of code addresses b.h addresses (entry_removes (function_of code n)) (entered ∷ []) (word_entered ∷ [])
             child_shows) i;
         offer = NoOffer;
@@ -177,15 +179,22 @@ module _ (code : Code) (page_words : ℕ) (checked : IsChecked code) (slot_of : 
 
   -- ---- both
 
-  fills_are : (h : Holder) → slice_get state_after.holders g ≡ Some h → h.fills ≡ b.h.fills
-  fills_are h e =
+  next_there : slice_get state_after.holders g ≡ Some holder_next
+  next_there =
       let q = get_set_same s.holders g b.h holder_next b.there in
-      let x : slice_get state_after.holders g ≡ Some holder_next =
       ap (λ hs. slice_get hs g) changed.holders
       ∙ get_append_left (slice_set s.holders g holder_next) children g
-      (slice_get_within (slice_set s.holders g holder_next) g holder_next q) ∙ q in
-      ap (λ (k : Holder). k.fills) (same_Some h holder_next (sym e ∙ x))
+      (slice_get_within (slice_set s.holders g holder_next) g holder_next q) ∙ q
+
+  fills_are : (h : Holder) → slice_get state_after.holders g ≡ Some h → h.fills ≡ b.h.fills
+  fills_are h e =
+      ap (λ (k : Holder). k.fills) (same_Some h holder_next (sym e ∙ next_there))
       ∙ fills_after code b.h b.frame b.callers instr.op next
+
+  reserved_is : (h : Holder) → slice_get state_after.holders g ≡ Some h → h.reserved ≡ b.h.reserved
+  reserved_is h e =
+      ap (λ (k : Holder). k.reserved) (same_Some h holder_next (sym e ∙ next_there))
+      ∙ reserved_after code b.h b.frame b.callers instr.op next
 
   abbrev left : Rec
   left = after_op code c.holder w ws instr.op word_next
@@ -226,6 +235,7 @@ module _ (code : Code) (page_words : ℕ) (checked : IsChecked code) (slot_of : 
     mark = ap (marked s.mark) (no_end g (moved_to b.frame (b.frame.next + 1)) b.callers) ∙ mark_stays s.mark;
     counted = refl;
     fills = fills_are;
+    reserved = reserved_is;
   }
 
 pub go_law : GoLaw

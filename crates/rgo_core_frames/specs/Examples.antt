@@ -1,6 +1,6 @@
 -- Each definition where it holds and where it must not, and local steps of a small code, computed.
 use Rattle.std.specs.Option.{option_map}
-use Rattle.std.specs.Prelude.{FitsSigned, List, None, Option, Some, [], false, negsuc, option_and_then, pos, true, ℕ, ℤ, ◌+◌, ◌∷◌, ◌≡◌}
+use Rattle.std.specs.Prelude.{FitsSigned, List, None, Option, Some, [], false, negsuc, option_and_then, pos, replicate, slice_get, true, ℕ, ℤ, ◌+◌, ◌∷◌, ◌≡◌}
 use Rattle.std.specs.Int.{w64}
 use Rattle.rgo_sound.specs.Ast.declared.ops.BinaryOp.TheVariants.{Add, Div, Sub}
 use Rattle.rgo_sound.specs.Typed.declared.actions.Action.TheVariants as action
@@ -11,13 +11,13 @@ use Rattle.rgo_sound.specs.Tac.declared.regions.Class.TheVariants.{NoClass}
 use Rattle.rgo_sound.specs.WellFormed.TypeRules.{bool}
 use Rattle.rgo_sound.specs.Code.Code.{Code, Do}
 use Rattle.rgo_sound.specs.RegionMachine.declared.regions.Region.{Region}
-use Rattle.rgo_sound.specs.RegionMachine.declared.regions.Region.TheVariants.{Numbered}
+use Rattle.rgo_sound.specs.RegionMachine.declared.regions.Region.TheVariants.{Global as GlobalRegion, Numbered}
 use Rattle.rgo_sound.specs.RegionMachine.Examples.{code_of, int_slot, main_of, passed_twice, plain}
 use Rattle.rgo_sound.specs.Machine.declared.picks.Pick.TheVariants.{One}
-use Rattle.rgo_sound.specs.RegionMachine.Machine.{Attend, Instruct, region_start}
+use Rattle.rgo_sound.specs.RegionMachine.Machine.{Attend, Instruct, TakePage, region_start}
 use Rattle.rgo_sound.specs.RegionMachine.Owed.{function_of}
 use Rattle.rgo_sound.specs.RegionMachine.Regions.{RegionInfo}
-use Rattle.rgo_sound.specs.RegionMachine.States.{Create, Duty, Holder, Remove, Share, Standing}
+use Rattle.rgo_sound.specs.RegionMachine.States.{Create, Duty, Holder, RegionState, Remove, Share, Standing}
 use Rattle.rgo_core_frames.specs.Creations.{GivesSlot}
 use Rattle.rgo_core_frames.specs.Fits.{AllFit, ObjectsDiffer, SlotsDiffer}
 use Rattle.rgo_core_frames.specs.Ints.{IntFits, ObjectIntsFit}
@@ -27,13 +27,16 @@ use Rattle.rgo_core_frames.specs.LocalLaws.{end_by_frames}
 use Rattle.rgo_core_frames.specs.NameTables.{NameTable, TableShows}
 use Rattle.rgo_core_frames.specs.Opening.{main_record}
 use Rattle.rgo_core_frames.specs.Operators.{computed}
+use Rattle.rgo_core_frames.specs.Pages.{page_after}
 use Rattle.rgo_core_frames.specs.Prints.{typed_value}
 use Rattle.rgo_core_frames.specs.Quiet.{quiets}
 use Rattle.rgo_core_frames.specs.Records.{Rec}
+use Rattle.rgo_core_frames.specs.Reserved.{IsReached}
 use Rattle.rgo_core_frames.specs.Shown.{FramesShow, IsAlike}
 use Rattle.rgo_core_frames.specs.Slots.{slotted}
 use Rattle.rgo_core_frames.specs.Stacks.{frames_in}
 use Rattle.rgo_core_frames.specs.Stakes.{stake_ended, stake_shared}
+use Rattle.rgo_core_frames.specs.States.{Here}
 use Rattle.rgo_core_frames.specs.Steps.{steps_after}
 use Rattle.rgo_core_frames.specs.WordFrames.{WordFrame, word_at, word_going}
 use Rattle.rgo_core_frames.specs.Words.{AllShow, Shows}
@@ -66,7 +69,8 @@ two_regions n = record { stakes = 1; pages = 0 } ∷ record { stakes = n; pages 
 abbrev pub two_owners : List Region
 two_owners = Numbered 0 ∷ Numbered 1 ∷ []
 
--- a goroutine with a stake in region 0, for which name 3 stands, and which it protects or does not
+-- a goroutine with a stake in region 0, for which name 3 stands, and which it protects or does not; it has filled 5 words of its
+-- own page there, and has reserved two pages
 abbrev pub one_name : List Region → Holder
 one_name protections = record {
   stakes = 0 ∷ [];
@@ -74,10 +78,20 @@ one_name protections = record {
   environments = record { lent = NoClass; names = (3, Numbered 0) ∷ []; protections = [] }
       ∷ record { lent = NoClass; names = []; protections = protections } ∷ [];
   base = [];
-  fills = [];
+  fills = (Numbered 0, 5) ∷ [];
+  reserved = 2;
   duties = [];
   offer = Standing 7;
 }
+
+-- goroutine 0 as above has taken a page of 4 words in Global, for a slice of so many elements
+abbrev pub after_one : Code → (elements : ℕ) → RegionState
+after_one code elements =
+    page_after 4 (region_start code) 0 (one_name []) GlobalRegion (SliceObject (replicate elements value.Nil))
+
+-- its own pages, and how many it has reserved
+abbrev pub pages_in : RegionState → Option (List (Region × ℕ) × ℕ)
+pages_in s = option_map (λ (h : Holder). (h.fills, h.reserved)) (slice_get s.holders 0)
 
 -- a frame of two variables before instruction 4 of function 1
 abbrev pub some_frame : WordFrame
@@ -120,6 +134,9 @@ pub record RecordExamples : Type 0 where
   -- by slots: region 0 has slot 6, and which channel has the offer is not said
   pub slots : (slotted (λ r. r + 6) (one_name [])).stakes ≡ 6 ∷ []
   pub offers : (slotted (λ r. r + 6) (one_name [])).offer ≡ Standing 0
+  -- pages are a matter of the memory's part
+  pub fills : (slotted (λ r. r + 6) (one_name [])).fills ≡ []
+  pub reserved : (slotted (λ r. r + 6) (one_name [])).reserved ≡ 0
   pub one_slot : SlotsDiffer (λ r. 0) (two_regions 1) → ⊥
   -- the slot of a region that is gone is given again
   pub slot_again : SlotsDiffer (λ r. 0) (two_regions 0)
@@ -148,6 +165,13 @@ pub record RecordExamples : Type 0 where
   pub other_table : TableShows ((1, Numbered 5) ∷ []) (None ∷ None ∷ []) → ⊥
   pub gives : (code : Code) → GivesSlot (region_start code) (λ r. 0) (λ r. 2) 2
   pub keeps : (code : Code) → GivesSlot (region_start code) (λ r. 0) (λ r. 2) 3 → ⊥
+  -- for a slice of 5 elements one more page is reserved, and for one of 3 the page is its own; never both
+  pub reserves : (code : Code) → pages_in (after_one code 5) ≡ Some ((Numbered 0, 5) ∷ [], 3)
+  pub owns : (code : Code) → pages_in (after_one code 3) ≡ Some ((Numbered 0, 5) ∷ (GlobalRegion, 0) ∷ [], 2)
+  pub both : (code : Code) → pages_in (after_one code 5) ≡ Some ((Numbered 0, 5) ∷ (GlobalRegion, 0) ∷ [], 3) → ⊥
+  -- no event leads to the first state; nothing is reached by a page of a goroutine that never started
+  pub reached : (x : Here) → x.s ≡ region_start x.code → IsReached x []
+  pub unreached : (x : Here) → IsReached x (TakePage 7 ∷ []) → ⊥
 
 -- ---- local steps
 

@@ -20,6 +20,7 @@ pub mod Pages
 pub mod Prints
 pub mod Quiet
 pub mod Records
+pub mod Reserved
 pub mod Shown
 pub mod Slots
 pub mod Stacks

@@ -20,7 +20,16 @@ main_record code n main = record {
 abbrev pub no_record : Rec
 no_record = record {
   frames = [];
-  holder = record { stakes = []; pending = []; environments = []; base = []; fills = []; duties = []; offer = NoOffer };
+  holder = record {
+    stakes = [];
+    pending = [];
+    environments = [];
+    base = [];
+    fills = [];
+    reserved = 0;
+    duties = [];
+    offer = NoOffer;
+  };
 }
 
 abbrev pub OpeningLaw : Type 0

@@ -40,7 +40,7 @@ nameless NoOffer = NoOffer
 nameless (Standing o) = Standing 0
 nameless (Taken o) = Taken 0
 
--- the own pages are not said here: a record has more of them than their fills
+-- Own pages and reserved pages are not said here: the memory's part of a record has which pages these are.
 abbrev pub slotted : (slot_of : ℕ → ℕ) → Holder → Holder
 slotted slot_of h = record {
   stakes = map slot_of h.stakes;
@@ -48,6 +48,7 @@ slotted slot_of h = record {
   environments = slot_environments slot_of h.environments;
   base = map (slot slot_of) h.base;
   fills = [];
+  reserved = 0;
   duties = slot_duties slot_of h.duties;
   offer = nameless h.offer;
 }

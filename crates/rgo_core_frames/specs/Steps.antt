@@ -54,7 +54,8 @@ abbrev pub StepsTo : Here → Event → List RegionInfo → Option Mark → List
 StepsTo x event regions mark records = HasStep x.code x.page_words x.slot_of x.addresses x.s event regions mark records
 
 -- The region machine has this instruction of goroutine g, and these records fit after it. The memory, the print and the
--- owners are then these, and the goroutine's own pages those of `given`; nothing else has changed but goroutines.
+-- owners are then these, and the goroutine's own pages and reserved pages those of `given`; nothing else has changed but
+-- goroutines.
 pub record HasInstruction
     (code : Code) (page_words : ℕ) (slot_of : ℕ → ℕ) (addresses : List ℕ) (s : RegionState) (g : ℕ) (memory : Memory)
     (bytes : List ℕ) (given : Holder × List Region) (records : List Rec) : Type 0 where
@@ -70,6 +71,7 @@ pub record HasInstruction
   pub mark : state.mark ≡ s.mark
   pub counted : state.steps ≡ s.steps + 1
   pub fills : (h : Holder) → slice_get state.holders g ≡ Some h → h.fills ≡ given.0.fills
+  pub reserved : (h : Holder) → slice_get state.holders g ≡ Some h → h.reserved ≡ given.0.reserved
 
 -- the same of the instruction that comes next; `addresses` are those of the objects after it
 abbrev pub Performs : AtInstruction → (addresses : List ℕ) → Memory → (bytes : List ℕ) → Holder × List Region

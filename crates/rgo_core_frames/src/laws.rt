@@ -8,7 +8,7 @@ ghost use Rattle.rgo_core_frames.specs.Ends.{FinishLaw, TrapLaw};
 ghost use Rattle.rgo_core_frames.specs.Examples.{FrameExamples};
 ghost use Rattle.rgo_core_frames.specs.Ints.{IntsStay};
 ghost use Rattle.rgo_core_frames.specs.LocalLaws.{LocalLaw, StakesStay};
-ghost use Rattle.rgo_core_frames.specs.Makes.{RegionLaw};
+ghost use Rattle.rgo_core_frames.specs.Makes.{MakingLaw, RegionLaw};
 ghost use Rattle.rgo_core_frames.specs.Meetings.{AcknowledgeLaw, MeetLaw, OfferLaw, SentLaw};
 ghost use Rattle.rgo_core_frames.specs.NameTables.{TableLaws};
 ghost use Rattle.rgo_core_frames.specs.Opening.{OpeningLaw};
@@ -16,6 +16,7 @@ ghost use Rattle.rgo_core_frames.specs.Operands.{IntLaw, PointerLaw};
 ghost use Rattle.rgo_core_frames.specs.Pages.{PageLaw};
 ghost use Rattle.rgo_core_frames.specs.Prints.{PrintLaw};
 ghost use Rattle.rgo_core_frames.specs.Quiet.{QuietLaw};
+ghost use Rattle.rgo_core_frames.specs.Reserved.{ReservedLaw};
 ghost use Rattle.rgo_core_frames.specs.Stacks.{StackLaws};
 ghost use Rattle.rgo_core_frames.specs.Stakes.{EndLaw, ShareLaw};
 ghost use Rattle.rgo_core_frames.specs.States.{SoundStays};
@@ -53,6 +54,11 @@ pub fn pointer_law()
 /// In which region the next instruction makes an object.
 pub fn region_law()
     ensures { RegionLaw }
+{}
+
+/// An instruction that makes an object is no local step.
+pub fn making_law()
+    ensures { MakingLaw }
 {}
 
 /// A local step of a record is a step of the region machine.
@@ -108,6 +114,11 @@ pub fn create_law()
 /// A page is taken.
 pub fn page_law()
     ensures { PageLaw }
+{}
+
+/// Pages are reserved only before an instruction that makes a spread object, and no more than it needs.
+pub fn reserved_law()
+    ensures { ReservedLaw }
 {}
 
 /// An offer is made.

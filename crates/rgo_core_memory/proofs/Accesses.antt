@@ -68,8 +68,8 @@ element_changes cells n v l = let u = get_some cells n l in record {
 pub store_keeps : StoreKeeps
 store_keeps code z words recs s t g o n v cells places k e b there l =
     image_of is
-    (stores z words recs (ground_of s) places k o n (StructObject cells) object st.0 v st.1 (let h = l in omega arith) (ap (λ (m : ℕ). max 1 m)
-    (length_set cells n v)) (field_changes cells n v l))
+    (stores z words recs (ground_of s) places k o n (StructObject cells) object st.0 v st.1 (let h = l in omega arith)
+    (ap (λ (m : ℕ). max 1 m) (length_set cells n v), length_set cells n v) (field_changes cells n v l))
   where
     object : Object
     object = StructObject (slice_set cells n v)
@@ -90,8 +90,8 @@ store_keeps code z words recs s t g o n v cells places k e b there l =
 pub put_keeps : PutKeeps
 put_keeps code z words recs s t g o n v cells places k e b there l =
     image_of is
-    (stores z words recs (ground_of s) places k o (suc n) (SliceObject cells) object st.0 v st.1 (omega arith) (ap (λ (m : ℕ). 1 + m)
-    (length_set cells n v)) (element_changes cells n v l))
+    (stores z words recs (ground_of s) places k o (suc n) (SliceObject cells) object st.0 v st.1 (omega arith)
+    (ap (λ (m : ℕ). 1 + m) (length_set cells n v), length_set cells n v) (element_changes cells n v l))
   where
     object : Object
     object = SliceObject (slice_set cells n v)

@@ -7,7 +7,9 @@ use Rattle.rgo_sound.specs.Tac.Frames.{Frame}
 use Rattle.rgo_sound.specs.RegionMachine.Duties.{attended, attend, duty_done, may_go, removal, shared as shared_state, guards}
 use Rattle.rgo_sound.specs.RegionMachine.Instructions.{has_none}
 use Rattle.rgo_sound.specs.RegionMachine.Machine.{Attend, TakePage, region_step, take_page, takes_page, page_for, page_taken as taken_state, next_object}
-use Rattle.rgo_sound.specs.RegionMachine.Objects.{making_region, wants_page, fill_of, with_fill}
+use Rattle.rgo_sound.specs.RegionMachine.Objects.{making_region, wants_page, fill_of, with_fill, with_page, is_spread}
+use Rattle.rgo_sound.specs.RegionMachine.Machine.{page_before}
+use Rattle.rgo_sound.specs.Memory.Memory.{Object}
 use Rattle.rgo_sound.specs.RegionMachine.Regions.{is_live, with_info, one_more, one_fewer, one_page_more, class_region, without, bound, unbind, removed_once}
 use Rattle.rgo_sound.specs.RegionMachine.States.{Environment, Duty, Create, Share, Remove, EndBase, Holder, RegionState, top_names, with_top, frames_in, frames_of}
 use Rattle.rgo_sound.specs.RegionMachine.declared.regions.Region.{Region}
@@ -28,6 +30,9 @@ use Rattle.rgo_core_memory.proofs.Rows.{set_again}
 use Rattle.rgo_core_memory.proofs.Sharing.{one_shared, other_left, last_left}
 use Rattle.rgo_core_memory.proofs.Steadies.{steady_of}
 use Rattle.rgo_core_memory.proofs.Stepped.{map_set, map_get}
+use Rattle.rgo_core_memory.proofs.Claiming.{page_reserves}
+use Rattle.rgo_core_memory.specs.Ground.{page_reserved}
+use Rattle.rgo_core_memory.specs.Events.{ReservedPageKeeps}
 
 -- the first of the duties
 pub first_duty : (code : Code) (page_words : ℕ) (s t : RegionState) (g : ℕ) (h : Holder) (d : Duty) (ds : List Duty) → slice_get s.holders g ≡ Some h
@@ -141,17 +146,17 @@ leaving code page_words s t g j h hold leaves e = ⊎_elim
     leaves
 
 pub leave_keeps : LeaveKeeps
-leave_keeps code z words recs s t g j h c all places k hold own leaves e free more =
+leave_keeps code z words recs s t g j h c all places k hold own leaves e free none more =
     let y = leaving code z.page_words s t g j h hold leaves e in
     image_of y.1 (other_left z words recs (ground_of s) places k j y.0 (steady_of code s all) g c (without_slot c (places.slot j)) own refl refl
-    (held_of h) (map_get held_of s.holders g h hold) free.0
+    refl none (held_of h) (map_get held_of s.holders g h hold) free.0
     free.1 refl refl refl refl more)
 
 pub last_leave_keeps : LastLeaveKeeps
-last_leave_keeps code z words recs s t g j h c all places k hold own leaves e free calm last =
+last_leave_keeps code z words recs s t g j h c all places k hold own leaves e free none calm last =
     let y = leaving code z.page_words s t g j h hold leaves e in
     image_of y.1 (last_left z words recs (ground_of s) places k j y.0 (steady_of code s all) g c (with_give (without_slot c (places.slot j)) (Owes
-    (places.slot j))) own refl refl (held_of h) (map_get held_of s.holders g h hold) free.0
+    (places.slot j))) own refl refl refl none (held_of h) (map_get held_of s.holders g h hold) free.0
     free.1 refl refl refl calm refl last)
 
 -- ---- pages
@@ -172,20 +177,38 @@ makes_used code s g h r all hold m = by r (making_class top.stands.fn (top_names
     by (Numbered j) (Name name, w) = top.staked name j (ap (λ (y : List Environment). bound (top_names y) name) (sym top.environments) ∙ w)
 
 page_done : (code : Code) (page_words : ℕ) (s t : RegionState) (g : ℕ) (h : Holder) (r : Region) → slice_get s.holders g ≡ Some h
-    → MakesIn code s g h r
-    → region_step code page_words s (TakePage g) ≡ Some t → taken_state s g h r ≡ t
-page_done code page_words s t g h r hold m e =
-    go (has_none h.duties && may_go h.offer && is_live s.regions r && wants_page page_words (fill_of h.fills r) (next_object code s g))
+    → MakesIn code s g h r → (x : Object) → next_object code s g ≡ Some x
+    → region_step code page_words s (TakePage g) ≡ Some t → taken_state s g (with_page page_words h r x) r ≡ t
+page_done code page_words s t g h r hold m x next e =
+    go (has_none h.duties && may_go h.offer && is_live s.regions r && wants_page page_words h.reserved (fill_of h.fills r) x)
     (sym (ap (option_and_then (λ (y : Holder). take_page code page_words s g y (frames_of s.plain g))) hold
     ∙ ap (λ (y : Option (List Frame)). take_page code page_words s g h (frames_in y)) m.3
     ∙ ap (option_and_then (page_for code page_words s g h m.0)) m.4
-    ∙ ap (option_and_then (takes_page code page_words s g h)) m.5) ∙ e)
+    ∙ ap (option_and_then (takes_page code page_words s g h)) m.5
+    ∙ ap (option_and_then (page_before page_words s g h r)) next) ∙ e)
   where
-    go : (b : Bool) → (if b then Some (taken_state s g h r) else None) ≡ Some t → taken_state s g h r ≡ t
-    go true q = same_Some (taken_state s g h r) t q
+    go : (b : Bool) → (if b then Some (taken_state s g (with_page page_words h r x) r) else None) ≡ Some t
+        → taken_state s g (with_page page_words h r x) r ≡ t
+    go true q = same_Some (taken_state s g (with_page page_words h r x) r) t q
     go false q = cc
 
-page_ground : (s : RegionState) (g : ℕ) (h : Holder) (r : Region) → ground_of (taken_state s g h r) ≡ page_taken (ground_of s) g (held_of h) r
+-- the holder after it: the page is the own one, or reserved
+own_page : (page_words : ℕ) (h : Holder) (r : Region) (x : Object) → is_spread page_words x ≡ false
+    → with_page page_words h r x ≡ record h { fills = with_fill h.fills r 0 }
+own_page page_words h r x w = ap (λ b. record h {
+  fills = if b then h.fills else with_fill h.fills r 0;
+  reserved = if b then h.reserved + 1 else h.reserved;
+}) w
+
+spread_page : (page_words : ℕ) (h : Holder) (r : Region) (x : Object) → is_spread page_words x ≡ true
+    → with_page page_words h r x ≡ record h { reserved = h.reserved + 1 }
+spread_page page_words h r x w = ap (λ b. record h {
+  fills = if b then h.fills else with_fill h.fills r 0;
+  reserved = if b then h.reserved + 1 else h.reserved;
+}) w
+
+page_ground : (s : RegionState) (g : ℕ) (h : Holder) (r : Region)
+    → ground_of (taken_state s g (record h { fills = with_fill h.fills r 0 }) r) ≡ page_taken (ground_of s) g (held_of h) r
 page_ground s g h GlobalRegion = λ i. record {
   heap = s.plain.memory.heap;
   variables = s.plain.memory.variables;
@@ -203,8 +226,35 @@ page_ground s g h (Numbered j) = λ i. record {
   held = map_set held_of s.holders g (record h { fills = with_fill h.fills (Numbered j) 0 }) i;
 }
 
+reserved_ground : (s : RegionState) (g : ℕ) (h : Holder) (r : Region)
+    → ground_of (taken_state s g (record h { reserved = h.reserved + 1 }) r) ≡ page_reserved (ground_of s) g (held_of h) r
+reserved_ground s g h GlobalRegion = λ i. record {
+  heap = s.plain.memory.heap;
+  variables = s.plain.memory.variables;
+  owners = s.owners;
+  regions = s.regions;
+  global_pages = s.global_pages + 1;
+  held = map_set held_of s.holders g (record h { reserved = h.reserved + 1 }) i;
+}
+reserved_ground s g h (Numbered j) = λ i. record {
+  heap = s.plain.memory.heap;
+  variables = s.plain.memory.variables;
+  owners = s.owners;
+  regions = with_info s.regions j one_page_more;
+  global_pages = s.global_pages;
+  held = map_set held_of s.holders g (record h { reserved = h.reserved + 1 }) i;
+}
+
+pub reserved_page_keeps : ReservedPageKeeps
+reserved_page_keeps code z words recs s t g p h r c all places k hold own m next same_slot e idle rests small free =
+    image_of (ap ground_of (sym (page_done code z.page_words s t g h r hold m next.0 next.1 e))
+    ∙ (ap (λ y. ground_of (taken_state s g y r)) (spread_page z.page_words h r next.0 next.2) ∙ reserved_ground s g h r))
+    (page_reserves z words recs (ground_of s) places k (steady_of code s all) g c own (held_of h)
+    (map_get held_of s.holders g h hold) r (makes_used code s g h r all hold m) p small free idle rests same_slot)
+
 pub page_keeps : PageKeeps
-page_keeps code z words recs s t g p h r c all places k hold own m e idle rests small free =
-    image_of (ap ground_of (sym (page_done code z.page_words s t g h r hold m e)) ∙ page_ground s g h r)
+page_keeps code z words recs s t g p h r c all places k hold own m next e idle rests small free =
+    image_of (ap ground_of (sym (page_done code z.page_words s t g h r hold m next.0 next.1 e))
+    ∙ (ap (λ y. ground_of (taken_state s g y r)) (own_page z.page_words h r next.0 next.2) ∙ page_ground s g h r))
     (page_claimed z words recs (ground_of s) places k (steady_of code s all) g c own (held_of h) (map_get held_of s.holders g h hold) r
     (makes_used code s g h r all hold m) p small free idle rests)

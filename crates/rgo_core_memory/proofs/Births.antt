@@ -12,13 +12,15 @@ use Rattle.rgo_core_memory.specs.Parts.{StakeAt}
 use Rattle.rgo_core_memory.specs.Opening.{first_record}
 use Rattle.rgo_core_memory.specs.Image.{Image, Where}
 use Rattle.rgo_core_memory.proofs.Rows.{below, snoc_at}
+use Rattle.rgo_core_memory.specs.Records.{Across}
+use Rattle.std.proofs.Common.{ap}
 
 module _ (z : TableSizes) (words : List ℕ) (recs : List Rec) (x : Ground) (places : Where) (k : Image z words recs x places) (stakes : List ℕ) where
   abbrev more : List Rec
   more = recs ++ first_record ∷ []
 
   abbrev child : Held
-  child = record { stakes = stakes; fills = [] }
+  child = record { stakes = stakes; fills = []; reserved = 0 }
 
   abbrev held : List Held
   held = x.held ++ child ∷ []
@@ -39,6 +41,12 @@ module _ (z : TableSizes) (words : List ℕ) (recs : List Rec) (x : Ground) (pla
     where
       nothing : Within f [] → ⊥
       nothing v = let n = v.0 in let q : slice_get [] n ≡ Some f = v.1 in cc q
+
+  reserves : (g : ℕ) (c : Rec) (p : ℕ) → Has more g c → Within p c.reserved.pages → Has recs g c
+  reserves g c p e w = only (λ c. Within p c.reserved.pages) nothing g c e w
+    where
+      nothing : Within p [] → ⊥
+      nothing v = let n = v.0 in let q : slice_get [] n ≡ Some p = v.1 in cc q
 
   old_held : (g : ℕ) (h : Held) → slice_get x.held g ≡ Some h → slice_get held g ≡ Some h
   old_held g h e = get_append_left x.held (child ∷ []) g (below x.held g h e) ∙ e
@@ -69,6 +77,15 @@ module _ (z : TableSizes) (words : List ℕ) (recs : List Rec) (x : Ground) (pla
       under = λ g o i f object r w. k.own.under g o i f object r (owns g f w);
       amids = λ g c f object stored e m. k.own.amids g c f object stored (only (λ c. c.make ≡ Amid f object stored)
           (λ q. let y : Rest ≡ Amid f object stored = q in cc y) g c e m) m;
+      apart = record {
+        nobody = λ g o i f object r w. k.own.apart.nobody g o i f object r (owns g f w);
+        claimed = λ g p c e w. k.own.apart.claimed g p c (reserves g c p e w) w;
+        unowned = λ g h p c f e w v. k.own.apart.unowned g h p c f (reserves g c p e w) w (owns h f v);
+        once = λ g h i j p c d e q a b. k.own.apart.once g h i j p c d (reserves g c p e (i, a)) (reserves h d p q (j, b)) a b;
+        empty = λ g o i p c object r e w. k.own.apart.empty g o i p c object r (reserves g c p e w) w;
+        strewn = λ g c object stored e m. k.own.apart.strewn g c object stored (only (λ c. c.make ≡ Across object stored)
+            (λ q. let y : Rest ≡ Across object stored = q in cc y) g c e m) m;
+      };
     };
     filled = record {
       fills = λ g f w. let t = k.filled.fills g f (owns g f w) in (t.0, t.1, old_held g t.0 t.2, t.3, t.4, t.5);
@@ -84,6 +101,15 @@ module _ (z : TableSizes) (words : List ℕ) (recs : List Rec) (x : Ground) (pla
       );
       single = λ g e f w v. k.filled.single g e f (owns g e w) (owns g f v);
       claims = λ g s c e q. stake g s (k.filled.claims g s c (only (λ c. Claims c.claim s) (λ v. v) g c e q) q);
+      reserved = λ g c e q.
+          let t = k.filled.reserved g c (only (λ c. 0 < length c.reserved.pages) (λ l. omega (arith, l)) g c e q) q in
+          (t.0, t.1, old_held g t.0 t.2, t.3, t.4, t.5);
+      recorded = λ g h e q. ⊎_elim
+          (λ (t : (g < length x.held) × (slice_get x.held g ≡ Some h)).
+          let u = k.filled.recorded g h t.1 q in (u.0, old g u.0 u.1, u.2))
+          (λ (t : (g ≡ length x.held) × (child ≡ h)).
+          let n = ap (λ (v : Held). v.reserved) t.1 in absurd (omega (arith, n, q)))
+          (snoc_at x.held child h g e);
       made = λ g j n h e f. k.filled.made g j n h (was_filled g n h (Numbered j) e f) f;
     };
     counts = record {

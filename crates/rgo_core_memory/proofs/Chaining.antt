@@ -20,13 +20,18 @@ use Rattle.rgo_core_memory.proofs.Puts.{put_here, put_else}
 use Rattle.rgo_core_memory.proofs.Releases.{first_is, loads_head, loads_next, clears_head, gives_back}
 use Rattle.rgo_core_memory.proofs.Slots.{not_closed, one_closes, stake_open, stake_slot, owner_stake, unclaimed}
 use Rattle.rgo_core_memory.proofs.Writes.{writes_state, writes_next, writes_head}
+use Rattle.std.proofs.Common.{[]}
+use Rattle.std.proofs.Common.{Some, slice_get}
+use Rattle.rgo_core_memory.proofs.Keeping.{was}
 
 -- a page without objects, and nobody's own, is freed
 own_freed : (z : TableSizes) (states : ℕ → ℕ) (cell : ℕ → ℕ → ℕ) (recs : List Rec) (heap : List Object) (owners : List Region)
     (regions : List RegionInfo) (slot : ℕ → ℕ) (spot : ℕ → ℕ → Spot) → Own z states cell recs heap owners regions slot spot
     → (p r : ℕ) → states p ≡ suc r → ((o : ℕ) (object : Object) (q : Region) → Stands heap owners regions o object q → slot_of z slot q ≢ r)
-    → ((g : ℕ) (f : Fill) → Owns recs g f → f.slot ≢ r) → Own z (put states p 0) cell recs heap owners regions slot spot
-own_freed z states cell recs heap owners regions slot spot k p r found dead left = record {
+    → ((g : ℕ) (f : Fill) → Owns recs g f → f.slot ≢ r)
+    → ((g q : ℕ) (c : Rec) → Has recs g c → Within q c.reserved.pages → c.reserved.slot ≢ r)
+    → Own z (put states p 0) cell recs heap owners regions slot spot
+own_freed z states cell recs heap owners regions slot spot k p r found dead left unreserved = record {
   ranged = λ q l. dite (ℕ_discrete q p)
       (λ e. absurd (let y = put_here states p 0 q e in omega arith))
       (λ n. k.ranged q (subst (λ (m : ℕ). 0 < m) (put_else states p 0 q n) l));
@@ -39,6 +44,14 @@ own_freed z states cell recs heap owners regions slot spot k p r found dead left
   room = k.room;
   under = k.under;
   amids = k.amids;
+  apart = record {
+    nobody = k.apart.nobody;
+    claimed = λ g q c e w. stays q c.reserved.slot (unreserved g q c e w) (k.apart.claimed g q c e w);
+    unowned = k.apart.unowned;
+    once = k.apart.once;
+    empty = k.apart.empty;
+    strewn = k.apart.strewn;
+  };
 }
   where
     stays : (q s : ℕ) → s ≢ r → states q ≡ suc s → put states p 0 q ≡ suc s
@@ -109,8 +122,8 @@ module _ (z : TableSizes) (words : List ℕ) (recs : List Rec) (x : Ground) (pla
         w = record k.w { head = put k.w.head r (suc p) };
         shows = writes_head z words k.w k.shows r (suc p) (stake_below r st);
         lies = k.lies;
-        own = own_same recs g c d own z k.w.state k.w.cell x.heap x.owners x.regions places.slot places.spot k.own refl refl;
-        filled = filled_same recs g c d own z x.held (length x.regions) places.slot k.filled refl (λ s q. subst (λ
+        own = own_same recs g c d own z k.w.state k.w.cell x.heap x.owners x.regions places.slot places.spot k.own refl refl refl;
+        filled = filled_same recs g c d own z x.held (length x.regions) places.slot k.filled refl refl (λ s q. subst (λ
             (n : ℕ). StakeAt z x.held places.slot g n) q st);
         counts = counts_calm recs g c d own z k.w.count (put places.top r (suc p)) x.regions places.slot places.uses (stake_top r (suc p) st) refl;
         pages = subst (λ (n : ℕ). Pages k.w.state k.w.next (put k.w.head r (suc p)) (slice_set recs g d) (put places.at p (Chained r))
@@ -132,8 +145,8 @@ module _ (z : TableSizes) (words : List ℕ) (recs : List Rec) (x : Ground) (pla
         w = record k.w { next = put k.w.next p o };
         shows = writes_next z words k.w k.shows p o (k.own.ranged p (omega (arith, state)));
         lies = k.lies;
-        own = own_same recs g c d own z k.w.state k.w.cell x.heap x.owners x.regions places.slot places.spot k.own refl refl;
-        filled = filled_same recs g c d own z x.held (length x.regions) places.slot k.filled refl (λ s q. absurd q);
+        own = own_same recs g c d own z k.w.state k.w.cell x.heap x.owners x.regions places.slot places.spot k.own refl refl refl;
+        filled = filled_same recs g c d own z x.held (length x.regions) places.slot k.filled refl refl (λ s q. absurd q);
         counts = counts_calm recs g c d own z k.w.count places.top x.regions places.slot places.uses k.counts refl;
         pages = stores_next k.w.state k.w.next k.w.head recs places.at places.chain places.link places.top k.pages g c d own refl p r o before refl;
         paged = k.paged;
@@ -164,6 +177,16 @@ module _ (z : TableSizes) (words : List ℕ) (recs : List Rec) (x : Ground) (pla
     left j f w e = stake_open z words recs x places k steady j g f.slot c (owner_stake z words recs x places k steady j f w) own (subst
         (Closes c.give) (sym e) closes)
 
+    unreserved : (j m : ℕ) (y : Rec) → Has recs j y → Within m y.reserved.pages → y.reserved.slot ≢ r
+    unreserved j m y e w q =
+        let t = k.filled.reserved j y e (some y.reserved.pages w) in
+        stake_open z words recs x places k steady j g y.reserved.slot c (t.0, t.1, t.2, t.3, t.4) own (subst
+        (Closes c.give) (sym q) closes)
+      where
+        some : (l : List ℕ) → Within m l → 0 < length l
+        some [] v = let n = v.0 in let u : slice_get [] n ≡ Some m = v.1 in cc u
+        some (a ∷ l) v = omega arith
+
     same_claims : (s : ℕ) → Claims c.claim s → StakeAt z x.held places.slot g s
     same_claims s q = k.filled.claims g s c own q
 
@@ -182,8 +205,8 @@ module _ (z : TableSizes) (words : List ℕ) (recs : List Rec) (x : Ground) (pla
         w = record k.w { head = heads };
         shows = shows;
         lies = k.lies;
-        own = own_same recs g c d own z k.w.state k.w.cell x.heap x.owners x.regions places.slot places.spot k.own refl refl;
-        filled = filled_same recs g c d own z x.held (length x.regions) places.slot k.filled refl same_claims;
+        own = own_same recs g c d own z k.w.state k.w.cell x.heap x.owners x.regions places.slot places.spot k.own refl refl refl;
+        filled = filled_same recs g c d own z x.held (length x.regions) places.slot k.filled refl refl same_claims;
         counts = counts_same recs g c d own z k.w.count places.top x.regions places.slot places.uses k.counts still only;
         pages = pages;
         paged = k.paged;
@@ -243,7 +266,7 @@ module _ (z : TableSizes) (words : List ℕ) (recs : List Rec) (x : Ground) (pla
       (alone r closes) p q before refl
       (unclaimed z words recs x places k steady g r p c own closes at) in
       let uses = (closing r closes).1 in
-      let own2 = own_same recs g c d own z k.w.state k.w.cell x.heap x.owners x.regions places.slot places.spot k.own refl refl in
+      let own2 = own_same recs g c d own z k.w.state k.w.cell x.heap x.owners x.regions places.slot places.spot k.own refl refl refl in
       record {
         w = record k.w { state = put k.w.state p 0 };
         shows = writes_state z words k.w k.shows p 0 (k.own.ranged p (omega (arith, state)));
@@ -252,8 +275,13 @@ module _ (z : TableSizes) (words : List ℕ) (recs : List Rec) (x : Ground) (pla
             (λ j f w. ⊎_elim
             (λ (t : (j ≡ g) × Within f d.fills). left r closes g f (c, own, t.1))
             (λ (t : (j ≢ g) × Owns recs j f). left r closes j f t.1)
-            (owns_was recs g c d own j f w));
-        filled = filled_same recs g c d own z x.held (length x.regions) places.slot k.filled refl (same_claims r closes);
+            (owns_was recs g c d own j f w))
+            (λ j m y e w. ⊎_elim
+            (λ (t : (j ≡ g) × (d ≡ y)). subst (λ (v : Rec). v.reserved.slot ≢ r) t.1 (unreserved r closes g m c own
+            (subst (λ (v : Rec). Within m v.reserved.pages) (sym t.1) w)))
+            (λ (t : (j ≢ g) × Has recs j y). unreserved r closes j m y t.1 w)
+            (was recs g c d own j y e));
+        filled = filled_same recs g c d own z x.held (length x.regions) places.slot k.filled refl refl (same_claims r closes);
         counts = counts_same recs g c d own z k.w.count (put places.top r q) x.regions places.slot places.uses
             (top_counts r q (λ e. let y : Closing g ≡ Vacant = sym uses ∙ e in cc y))
             (λ s w. by_closes s (Past r (suc p) q) before w) (λ s w. closes_by s (Past r (suc p) q) before w);

@@ -42,8 +42,8 @@ module _ (z : TableSizes) (words : List ℕ) (recs : List Rec) (x : Ground) (pla
           w = record k.w { count = put k.w.count r 0 };
           shows = writes_count z words k.w k.shows r 0 below;
           lies = k.lies;
-          own = own_same recs g c d own z k.w.state k.w.cell x.heap x.owners x.regions places.slot places.spot k.own refl refl;
-          filled = filled_same recs g c d own z x.held (length x.regions) places.slot k.filled refl (λ s q. k.filled.claims g s c own q);
+          own = own_same recs g c d own z k.w.state k.w.cell x.heap x.owners x.regions places.slot places.spot k.own refl refl refl;
+          filled = filled_same recs g c d own z x.held (length x.regions) places.slot k.filled refl refl (λ s q. k.filled.claims g s c own q);
           counts = record {
             global = put_else k.w.count r 0 z.slots (λ e. let l = at.0 in omega arith) ∙ k.counts.global;
             vacant = λ s l e. dite (ℕ_discrete s r)

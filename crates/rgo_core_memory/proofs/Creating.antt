@@ -25,6 +25,7 @@ use Rattle.rgo_core_memory.proofs.Puts.{put_here, put_else}
 use Rattle.rgo_core_memory.proofs.Rows.{at_set, set_here, set_else, below, snoc_at}
 use Rattle.rgo_core_memory.proofs.Slots.{live_info, uses_live, stake_slot}
 use Rattle.rgo_core_memory.proofs.Writes.{writes_count}
+use Rattle.rgo_core_memory.specs.Records.{Has}
 
 more_in : (m j : ℕ) (l : List ℕ) → is_in m l ≡ true → is_in m (j ∷ l) ≡ true
 more_in m j l e = go (nat_eq m j)
@@ -108,6 +109,14 @@ module _ (z : TableSizes) (words : List ℕ) (recs : List Rec) (x : Ground) (pla
     room = k.own.room;
     under = λ g o i f object q w s l e. k.own.under g o i f object q w (fewer o object q s) l e;
     amids = k.own.amids;
+    apart = record {
+      nobody = λ g o i f object q w s. k.own.apart.nobody g o i f object q w (fewer o object q s);
+      claimed = k.own.apart.claimed;
+      unowned = k.own.apart.unowned;
+      once = k.own.apart.once;
+      empty = λ g o i p c object q e w s. k.own.apart.empty g o i p c object q e w (fewer o object q s);
+      strewn = k.own.apart.strewn;
+    };
   }
 
   was_held : (i : ℕ) (y : Held) → slice_get held i ≡ Some y → ((i ≡ g) × (h2 ≡ y)) ⊎ ((i ≢ g) × (slice_get x.held i ≡ Some y))
@@ -148,6 +157,17 @@ module _ (z : TableSizes) (words : List ℕ) (recs : List Rec) (x : Ground) (pla
       by GlobalRegion u f = tt
       by (Numbered m) u f = less_in m j h.stakes (λ s. let l = k.filled.made g m n h hold f in omega arith) u
 
+  uses_of : (q : Region) (y2 y3 : Held) → y2 ≡ y3 → Uses y3 q → Uses y2 q
+  uses_of q y2 y3 e u = subst (λ (v : Held). Uses v q) (sym e) u
+
+  -- as many pages are reserved
+  still_reserved : (i : ℕ) (y : Held) → slice_get x.held i ≡ Some y
+      → (y2 : Held) × (slice_get held i ≡ Some y2) × (y2.reserved ≡ y.reserved)
+  still_reserved i y e = dite (ℕ_discrete i g)
+      (λ s. let same : y ≡ h = same_Some y h (sym e ∙ (ap (slice_get x.held) s ∙ hold)) in
+      (h2, ap (slice_get held) s ∙ hold2, ap (λ (v : Held). v.reserved) (sym same)))
+      (λ n. (y, set_else x.held g i h2 n ∙ e, refl))
+
   filled_created : Filled z recs held (length infos) slot
   filled_created = record {
     fills = λ i f w. let t = k.filled.fills i f w in let s = still i t.0 t.1 t.2 t.3 in
@@ -156,6 +176,18 @@ module _ (z : TableSizes) (words : List ℕ) (recs : List Rec) (x : Ground) (pla
         (o.0, o.1, o.2 ∙ sym (live_slot q (uses_live z words recs x places k steady i b.0 q b.1 b.2)), o.3);
     single = k.filled.single;
     claims = λ i s c e q. let t = k.filled.claims i s c e q in let u = still i t.0 t.1 t.2 t.3 in (u.0, t.1, u.1, u.2, u.3 ∙ t.4);
+    reserved = λ i c e q.
+        let t = k.filled.reserved i c e q in
+        let s = still i t.0 t.1 t.2 t.3 in
+        let n = still_reserved i t.0 t.2 in
+        (n.0, t.1, n.1, uses_of t.1 n.0 s.0 (same_Some n.0 s.0 (sym n.1 ∙ s.1)) s.2, s.3 ∙ t.4, n.2 ∙ t.5);
+    recorded = λ i y e q. ⊎_elim
+        (λ (t : (i ≡ g) × (h2 ≡ y)).
+        let m = ap (λ (v : Held). v.reserved) t.1 in
+        let u = k.filled.recorded g h hold (omega (arith, m, q)) in
+        (u.0, subst (λ (n : ℕ). Has recs n u.0) (sym t.0) u.1, sym m ∙ u.2))
+        (λ (t : (i ≢ g) × (slice_get x.held i ≡ Some y)). k.filled.recorded i y t.1 q)
+        (was_held i y e);
     made = λ i m n y e f. ⊎_elim
         (λ (t : (i ≡ g) × (h2 ≡ y)). let l = k.filled.made g m n h hold (subst (λ (v : Held). fill_of v.fills (Numbered m) ≡ Some n)
         (sym t.1) f) in omega (arith, l, many))
@@ -269,7 +301,7 @@ module _ (z : TableSizes) (words : List ℕ) (recs : List Rec) (x : Ground) (pla
   one_created = record {
     w = record k.w { count = put k.w.count r 2 };
     shows = writes_count z words k.w k.shows r 2 below_all;
-    lies = lies_fewer z k.w.variable k.w.cell x.variables x.heap x.owners x.regions infos places.spot k.lies fewer (omega (arith, many));
+    lies = lies_fewer z k.w.variable k.w.cell x.variables x.heap x.owners x.regions infos places.spot places.start k.lies fewer (omega (arith, many));
     own = own_created;
     filled = filled_created;
     counts = counts_created;

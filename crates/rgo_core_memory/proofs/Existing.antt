@@ -41,6 +41,11 @@ use Rattle.rgo_core_memory.specs.Allocations.{MakesNext}
 use Rattle.rgo_core_memory.specs.Exists.{Settled, AllocationExists, PageExists, AccessExists}
 use Rattle.rgo_core_memory.specs.Ground.{Uses, held_of}
 use Rattle.rgo_core_memory.proofs.Attending.{makes_used}
+use Rattle.rgo_core_memory.proofs.Spreads.{whole_of}
+use Rattle.rgo_sound.specs.RegionMachine.Objects.{is_spread, spread_out, is_too_large, data_pages, with_page}
+use Rattle.rgo_sound.specs.RegionMachine.Machine.{page_before}
+use Rattle.rgo_core_memory.specs.Exists.{AllocationExistsApart, ReservedPageExists}
+use Rattle.std.proofs.Common.{nat_lt}
 
 -- ---- an instruction
 
@@ -117,23 +122,45 @@ module _ (code : Code) (page_words : ℕ) (s : RegionState) (g : ℕ) (h : Holde
     )
         (ap (λ (y : Option Region). allotted page_words h y (new_object s.plain (after s.plain g result))) region
         ∙ (ap (allotted page_words h (Some r)) new_is
+        ∙ (ap (λ b. if b then spread_out page_words h r object else placed page_words h r object (fill_of h.fills r))
+        (whole_of page_words object (omega (arith, small)))
         ∙ (ap (placed page_words h r object) fill
         ∙ ap (λ (c : Bool). if c then Some (record h { fills = with_fill h.fills r (n + words object) }, r ∷ []) else None) (test
-        (n + words object) page_words small)))),
+        (n + words object) page_words small))))),
   )
     where
       test : (x y : ℕ) → x ≤ y → nat_le x y ≡ true
       test x y l = grind (arith, nat_tests)
 
-  takes : words object ≤ page_words → ((n : ℕ) → fill_of h.fills r ≡ Some n → page_words < n + words object)
+  makes_apart : is_spread page_words object ≡ true → is_too_large page_words object ≡ false
+      → data_pages page_words object < h.reserved → may_touch s (touched b.frame b.instr.op) ≡ true
+      → (t : RegionState) × (region_step code page_words s (Instruct (One g)) ≡ Some t)
+  makes_apart sp small more live = (
+    instructed_with code s g b.frame b.callers b.instr (after s.plain g result) (record h { reserved = 0 }, r ∷ []),
+    instruct_exists code page_words s g h settled b.frame b.callers b.at result does_so b.instr b.cur live
+        (record h { reserved = 0 }, r ∷ [])
+        (ap (λ (y : Option Region). allotted page_words h y (new_object s.plain (after s.plain g result))) region
+        ∙ (ap (allotted page_words h (Some r)) new_is
+        ∙ (ap (λ b. if b then spread_out page_words h r object else placed page_words h r object (fill_of h.fills r)) sp
+        ∙ (ap (λ b. if not b && nat_lt (data_pages page_words object) h.reserved then Some
+        (record h { reserved = 0 }, r ∷ []) else None) small
+        ∙ ap (λ (c : Bool). if c then Some (record h { reserved = 0 }, r ∷ []) else None)
+        (test (data_pages page_words object) h.reserved more))))),
+  )
+    where
+      test : (x y : ℕ) → x < y → nat_lt x y ≡ true
+      test x y l = grind (arith, nat_tests)
+
+  takes_if : wants_page page_words h.reserved (fill_of h.fills r) object ≡ true
       → (t : RegionState) × (region_step code page_words s (TakePage g) ≡ Some t)
-  takes small full = (
-    page_taken s g h r,
+  takes_if wants = (
+    page_taken s g (with_page page_words h r object) r,
     ap (option_and_then (λ (y : Holder). take_page code page_words s g y (frames_of s.plain g))) settled.there
         ∙ (ap (λ (y : Option (List Frame)). take_page code page_words s g h (frames_in y)) b.at
         ∙ (ap (option_and_then (page_for code page_words s g h b.frame)) b.cur
         ∙ (ap (option_and_then (takes_page code page_words s g h)) region
-        ∙ ap (λ (c : Bool). if c then Some (page_taken s g h r) else None) tested))),
+        ∙ (ap (option_and_then (page_before page_words s g h r)) next
+        ∙ ap (λ (c : Bool). if c then Some (page_taken s g (with_page page_words h r object) r) else None) tested)))),
   )
     where
       used : Uses (held_of h) r
@@ -143,9 +170,20 @@ module _ (code : Code) (page_words : ℕ) (s : RegionState) (g : ℕ) (h : Holde
       lives GlobalRegion u = refl
       lives (Numbered j) u = staked_live code s g h j all.good.fine settled.there u
 
-      test : (x y : ℕ) → x ≤ y → nat_le x y ≡ true
-      test x y l = grind (arith, nat_tests)
+      next : next_object code s g ≡ Some object
+      next = ap (object_made s) (plain_done code page_words s g h settled b.frame b.callers b.at result does_so) ∙ new_is
 
+      tested : (has_none h.duties && may_go h.offer && is_live s.regions r
+          && wants_page page_words h.reserved (fill_of h.fills r) object) ≡ true
+      tested = ap (λ ds. has_none ds && may_go h.offer && is_live s.regions r
+          && wants_page page_words h.reserved (fill_of h.fills r) object) settled.owes
+          ∙ (ap (λ (c : Bool). c && is_live s.regions r && wants_page page_words h.reserved (fill_of h.fills r) object) settled.free
+          ∙ (ap (λ (c : Bool). c && wants_page page_words h.reserved (fill_of h.fills r) object) (lives r used) ∙ wants))
+
+  takes : words object ≤ page_words → ((n : ℕ) → fill_of h.fills r ≡ Some n → page_words < n + words object)
+      → (t : RegionState) × (region_step code page_words s (TakePage g) ≡ Some t)
+  takes small full = takes_if wants
+    where
       untrue : (x y : ℕ) → y < x → nat_le x y ≡ false
       untrue x y l = grind (arith, nat_tests)
 
@@ -153,19 +191,23 @@ module _ (code : Code) (page_words : ℕ) (s : RegionState) (g : ℕ) (h : Holde
       unfit None e = refl
       unfit (Some n) e = untrue (n + words object) page_words (full n e)
 
-      next : next_object code s g ≡ Some object
-      next = ap (object_made s) (plain_done code page_words s g h settled b.frame b.callers b.at result does_so) ∙ new_is
+      wants : wants_page page_words h.reserved (fill_of h.fills r) object ≡ true
+      wants =
+          ap (λ b. if b then not (is_too_large page_words object) && nat_le h.reserved (data_pages page_words object) else
+          not (fits page_words (fill_of h.fills r) (words object))) (whole_of page_words object small)
+          ∙ ap not (unfit (fill_of h.fills r) refl)
 
-      wants : wants_page page_words (fill_of h.fills r) (next_object code s g) ≡ true
-      wants = ap (wants_page page_words (fill_of h.fills r)) next
-          ∙ (ap (λ (c : Bool). c && not (fits page_words (fill_of h.fills r) (words object))) (test (words object) page_words small)
-          ∙ ap not (unfit (fill_of h.fills r) refl))
-
-      tested : (has_none h.duties && may_go h.offer && is_live s.regions r && wants_page page_words (fill_of h.fills r) (next_object code s g)) ≡ true
-      tested = ap (λ ds. has_none ds && may_go h.offer && is_live s.regions r && wants_page page_words (fill_of h.fills r)
-          (next_object code s g)) settled.owes
-          ∙ (ap (λ (c : Bool). c && is_live s.regions r && wants_page page_words (fill_of h.fills r) (next_object code s g)) settled.free
-          ∙ (ap (λ (c : Bool). c && wants_page page_words (fill_of h.fills r) (next_object code s g)) (lives r used) ∙ wants))
+  takes_apart : is_spread page_words object ≡ true → is_too_large page_words object ≡ false
+      → h.reserved ≤ data_pages page_words object
+      → (t : RegionState) × (region_step code page_words s (TakePage g) ≡ Some t)
+  takes_apart sp small few = takes_if
+      (ap (λ b. if b then not (is_too_large page_words object) && nat_le h.reserved (data_pages page_words object) else
+      not (fits page_words (fill_of h.fills r) (words object))) sp
+      ∙ (ap (λ b. not b && nat_le h.reserved (data_pages page_words object)) small
+      ∙ test h.reserved (data_pages page_words object) few))
+    where
+      test : (x y : ℕ) → x ≤ y → nat_le x y ≡ true
+      test x y l = grind (arith, nat_tests)
 
 -- by the kind of object
 by_kind : (P : Type 0) (code : Code) (s : RegionState) (g : ℕ) (h : Holder) (r : Region) (object : Object) → MakesNext code s g h r object
@@ -195,6 +237,15 @@ by_kind P code s g h r object next f = ⊎_elim
 pub allocation_exists : AllocationExists
 allocation_exists code page_words s g n h r object all settled next fill small = by_kind _ code s g h r object next
     (λ a values b region does live. makes code page_words s g h settled all r object a values b region does n fill small live)
+
+pub allocation_exists_apart : AllocationExistsApart
+allocation_exists_apart code page_words s g h r object all settled next sp small more = by_kind _ code s g h r object next
+    (λ a values b region does live. makes_apart code page_words s g h settled all r object a values b region does sp small more
+    live)
+
+pub reserved_page_exists : ReservedPageExists
+reserved_page_exists code page_words s g h r object all settled next sp small few = by_kind _ code s g h r object next
+    (λ a values b region does live. takes_apart code page_words s g h settled all r object a values b region does sp small few)
 
 pub page_exists : PageExists
 page_exists code page_words s g h r object all settled next small full = by_kind _ code s g h r object next

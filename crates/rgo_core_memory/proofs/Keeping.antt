@@ -14,6 +14,9 @@ use Rattle.rgo_core_memory.specs.Ground.{Held}
 use Rattle.rgo_core_memory.specs.Pages.{Place, Pages, times}
 use Rattle.rgo_core_memory.specs.Parts.{Own, Filled, StakeAt, Use, Closing, Counts, Taken, TriedPage, TriedSlot}
 use Rattle.rgo_core_memory.proofs.Rows.{at_set, set_here, set_else}
+use Rattle.rgo_core_memory.specs.Records.{Across, Reserved}
+use Rattle.rgo_core_memory.specs.Parts.{Strewn}
+use Rattle.std.proofs.Common.{length}
 
 -- ---- own pages of other slots
 
@@ -68,6 +71,18 @@ module _ (recs : List Rec) (g : ℕ) (c d : Rec) (own : Has recs g c) where
   pub mine : (j : ℕ) (x : Rec) → j ≡ g → Has recs j x → x ≡ c
   mine j x s e = same_Some x c (sym e ∙ (ap (slice_get recs) s ∙ own))
 
+  -- a record afterwards, if no pages are reserved or given up
+  pub reserves : d.reserved ≡ c.reserved → (j : ℕ) (x : Rec) → Has new j x
+      → (y : Rec) × Has recs j y × (x.reserved ≡ y.reserved)
+  reserves reserved j x e = ⊎_elim
+      (λ (t : (j ≡ g) × (d ≡ x)). (
+        c,
+        subst (λ (n : ℕ). Has recs n c) (sym t.0) own,
+        ap (λ (y : Rec). y.reserved) (sym t.1) ∙ reserved,
+      ))
+      (λ (t : (j ≢ g) × Has recs j x). (x, t.1, refl))
+      (was j x e)
+
   -- who owns a page afterwards
   pub owns_was : (j : ℕ) (f : Fill) → Owns new j f → ((j ≡ g) × Within f d.fills) ⊎ ((j ≢ g) × Owns recs j f)
   owns_was j f w = ⊎_elim
@@ -89,8 +104,10 @@ module _ (recs : List Rec) (g : ℕ) (c d : Rec) (own : Has recs g c) where
     -- own pages may be given up
     pub own_fewer : ((f : Fill) → Within f d.fills → Within f c.fills)
         → ((f : Fill) (object : Object) (stored : List ℕ) → d.make ≡ Amid f object stored → (c.make ≡ Amid f object stored) × Within f d.fills)
+        → d.reserved ≡ c.reserved
+        → ((object : Object) (stored : List ℕ) → d.make ≡ Across object stored → c.make ≡ Across object stored)
         → Own z states cell new heap owners regions slot spot
-    own_fewer sub makes =
+    own_fewer sub makes reserved across =
         let old : (j : ℕ) (f : Fill) → Owns new j f → Owns recs j f = λ j f w. ⊎_elim
         (λ (t : (j ≡ g) × Within f d.fills). subst (λ (n : ℕ). Owns recs n f) (sym t.0) (c, own, sub f t.1))
         (λ (t : (j ≢ g) × Owns recs j f). t.1)
@@ -108,16 +125,45 @@ module _ (recs : List Rec) (g : ℕ) (c d : Rec) (own : Has recs g c) where
               (subst (λ (y : Rec). Within f y.fills) t.1 y.1, (k.amids g c f object stored own y.0).1))
               (λ (t : (j ≢ g) × Has recs j x). k.amids j x f object stored t.1 m)
               (was j x h);
+          apart = record {
+            nobody = λ j o i f object r w. k.apart.nobody j o i f object r (old j f w);
+            claimed = λ j p x h w.
+                let y = reserves reserved j x h in
+                k.apart.claimed j p y.0 y.1 (subst (λ (v : Reserved). Within p v.pages) y.2 w)
+                ∙ ap (λ (v : Reserved). suc v.slot) (sym y.2);
+            unowned = λ j i p x f h w v.
+                let y = reserves reserved j x h in
+                k.apart.unowned j i p y.0 f y.1 (subst (λ (v : Reserved). Within p v.pages) y.2 w) (old i f v);
+            once = λ i j m n p x y h w a b.
+                let u = reserves reserved i x h in
+                let v = reserves reserved j y w in
+                k.apart.once i j m n p u.0 v.0 u.1 v.1
+                (subst (λ (v : Reserved). slice_get v.pages m ≡ Some p) u.2 a)
+                (subst (λ (v : Reserved). slice_get v.pages n ≡ Some p) v.2 b);
+            empty = λ j o i p x object r h w.
+                let y = reserves reserved j x h in
+                k.apart.empty j o i p y.0 object r y.1 (subst (λ (v : Reserved). Within p v.pages) y.2 w);
+            strewn = λ j x object stored h m. ⊎_elim
+                (λ (t : (j ≡ g) × (d ≡ x)).
+                let a = k.apart.strewn g c object stored own (across object stored (ap (λ (y : Rec). y.make) t.1 ∙ m)) in
+                subst (λ (v : Reserved). Strewn z cell v.pages object stored)
+                (sym reserved ∙ ap (λ (y : Rec). y.reserved) t.1) a)
+                (λ (t : (j ≢ g) × Has recs j x). k.apart.strewn j x object stored t.1 m)
+                (was j x h);
+          };
         }
 
-    pub own_same : d.fills ≡ c.fills → d.make ≡ c.make → Own z states cell new heap owners regions slot spot
-    own_same fills make = own_fewer
+    pub own_same : d.fills ≡ c.fills → d.make ≡ c.make → d.reserved ≡ c.reserved
+        → Own z states cell new heap owners regions slot spot
+    own_same fills make reserved = own_fewer
         (λ f w. subst (λ (l : List Fill). Within f l) fills w)
         (λ f object stored m. let e = sym make ∙ m in (e, subst (λ (l : List Fill). Within f l) (sym fills) (k.amids g c f object stored own e).0))
+        reserved (λ object stored m. sym make ∙ m)
 
   module _ (z : TableSizes) (held : List Held) (creations : ℕ) (slot : ℕ → ℕ) (k : Filled z recs held creations slot) where
-    pub filled_same : d.fills ≡ c.fills → ((s : ℕ) → Claims d.claim s → StakeAt z held slot g s) → Filled z new held creations slot
-    filled_same fills claims =
+    pub filled_same : d.fills ≡ c.fills → d.reserved ≡ c.reserved
+        → ((s : ℕ) → Claims d.claim s → StakeAt z held slot g s) → Filled z new held creations slot
+    filled_same fills reserved claims =
         let old : (j : ℕ) (f : Fill) → Owns new j f → Owns recs j f = λ j f w. ⊎_elim
         (λ (t : (j ≡ g) × Within f d.fills). subst (λ (n : ℕ). Owns recs n f) (sym t.0) (c, own, subst (λ (l : List Fill). Within f l) fills t.1))
         (λ (t : (j ≢ g) × Owns recs j f). t.1)
@@ -134,6 +180,26 @@ module _ (recs : List Rec) (g : ℕ) (c d : Rec) (own : Has recs g c) where
               (sym t.1) q)))
               (λ (t : (j ≢ g) × Has recs j x). k.claims j s x t.1 q)
               (was j x e);
+          reserved = λ j x e q.
+              let y = reserves reserved j x e in
+              let t = k.reserved j y.0 y.1 (subst (λ (v : Reserved). 0 < length v.pages) y.2 q) in (
+                t.0,
+                t.1,
+                t.2,
+                t.3,
+                t.4 ∙ ap (λ (v : Reserved). v.slot) (sym y.2),
+                t.5 ∙ ap (λ (v : Reserved). length v.pages) (sym y.2),
+              );
+          recorded = λ j h e q.
+              let t = k.recorded j h e q in
+              dite (ℕ_discrete j g)
+              (λ s. (
+                d,
+                subst (λ (n : ℕ). Has new n d) (sym s) here,
+                t.2 ∙ ap (λ (v : Reserved). length v.pages)
+                    (ap (λ (y : Rec). y.reserved) (mine j t.0 s t.1) ∙ sym reserved),
+              ))
+              (λ n. (t.0, stays j t.0 n t.1, t.2));
           made = k.made;
         }
 

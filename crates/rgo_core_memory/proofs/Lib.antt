@@ -21,6 +21,7 @@ pub mod Infos
 pub mod Keeping
 pub mod Keeps
 pub mod Making
+pub mod MakingApart
 pub mod Opening
 pub mod Owing
 pub mod Paging
@@ -28,12 +29,15 @@ pub mod Puts
 pub mod Quiets
 pub mod Refilling
 pub mod Releases
+pub mod Reserving
 pub mod Rows
 pub mod Sharing
 pub mod Slots
+pub mod Spreads
 pub mod Steadies
 pub mod Stepped
 pub mod Storing
+pub mod Strewing
 pub mod Trying
 pub mod Typing
 pub mod Writes

@@ -24,6 +24,13 @@ use Rattle.rgo_core_memory.proofs.Rows.{set_here, snoc_at, below}
 use Rattle.rgo_core_memory.proofs.Slots.{live_info, uses_live}
 use Rattle.rgo_core_memory.proofs.Zeroing.{word_stored}
 use Rattle.rgo_sound.proofs.Machine.Items.{set_twice}
+use Rattle.rgo_core_memory.specs.Records.{Across, Reserved}
+use Rattle.rgo_core_memory.proofs.Keeping.{reserves}
+use Rattle.rgo_core_memory.proofs.Spreads.{whole_of, in_whole}
+use Rattle.rgo_core_memory.specs.Spread.{table_words}
+use Rattle.rgo_sound.specs.RegionMachine.Objects.{is_spread}
+use Rattle.rgo_core_memory.specs.Parts.{SpreadOver}
+use Rattle.std.proofs.Common.{true≢false}
 
 -- an own page that is filled further, and the others
 raised_within : (s n : ℕ) (fs : List Fill) (f : Fill) → Within f (raised s n fs)
@@ -69,7 +76,7 @@ within_raised s n (e ∷ fs) f (suc i, q) = ⊎_elim (λ t. inl (t.0, (suc t.1.0
     (i, q))
 
 -- plain values, and pointers to old objects, stand in words as before
-plain_code : (a b : ℕ → ℕ) (v : Value) → IsPlain v → encode a v ≡ encode b v
+pub plain_code : (a b : ℕ → ℕ) (v : Value) → IsPlain v → encode a v ≡ encode b v
 plain_code a b (value.Int n) p = refl
 plain_code a b (value.Bool n) p = refl
 plain_code a b value.Nil p = refl
@@ -100,11 +107,20 @@ module _ (z : TableSizes) (words : List ℕ) (recs : List Rec) (x : Ground) (pla
   abbrev spot : ℕ → ℕ → Spot
   spot = put places.spot n (λ i. record { page = f.page; offset = f.fill + i })
 
+  abbrev start : ℕ → Spot
+  start = put places.start n (record { page = f.page; offset = f.fill })
+
   begun : Within f c.fills × Amidst z k.w.cell f object stored
   begun = k.own.amids g c f object stored own make
 
   owner : Owns recs g f
   owner = (c, own, begun.0)
+
+  whole : is_spread z.page_words object ≡ false
+  whole = whole_of z.page_words object (let w = begun.1.fits in omega (arith, w))
+
+  whole_new : (ob : Object) → object ≡ ob → (i : ℕ) → i < table_words z.page_words ob → i < words_of object
+  whole_new ob e i l = in_whole z.page_words object i whole (subst (λ (y : Object). i < table_words z.page_words y) (sym e) l)
 
   live : is_live x.regions r ≡ true
   live = uses_live z words recs x places k steady g h r hold used
@@ -132,31 +148,37 @@ module _ (z : TableSizes) (words : List ℕ) (recs : List Rec) (x : Ground) (pla
   new_spot : (o : ℕ) → o ≡ n → spot o ≡ (λ i. record { page = f.page; offset = f.fill + i })
   new_spot o e = put_here places.spot n (λ i. record { page = f.page; offset = f.fill + i }) o e
 
+  old_start : (o : ℕ) → o < n → start o ≡ places.start o
+  old_start o l = put_else places.start n (record { page = f.page; offset = f.fill }) o (λ e. omega (arith, l, e))
+
+  new_start : (o : ℕ) → o ≡ n → start o ≡ record { page = f.page; offset = f.fill }
+  new_start o e = put_here places.start n (record { page = f.page; offset = f.fill }) o e
+
   -- what held before stands as before
-  same_code : (v : Value) → ((p : ℕ) → v ≡ value.Object p → p < n) → encode (address z places.spot) v ≡ encode (address z spot) v
+  same_code : (v : Value) → ((p : ℕ) → v ≡ value.Object p → p < n) → encode (address z places.start) v ≡ encode (address z start) v
   same_code (value.Int m) l = refl
   same_code (value.Bool m) l = refl
   same_code value.Nil l = refl
-  same_code (value.Object p) l = ap (λ (s : ℕ → Spot). suc ((s 0).page * z.page_words + (s 0).offset)) (sym (old_spot p (l p refl)))
+  same_code (value.Object p) l = ap (λ (s : Spot). suc (s.page * z.page_words + s.offset)) (sym (old_start p (l p refl)))
 
-  lies_made : Lies z k.w.variable k.w.cell x.variables heap owners x.regions spot
+  lies_made : Lies z k.w.variable k.w.cell x.variables heap owners x.regions spot start
   lies_made = record {
     inside = λ o i ob q s l. ⊎_elim
         (λ (t : (o < n) × Stands x.heap x.owners x.regions o ob q). subst (λ (y : ℕ → Spot). ((y i).page < z.pages)
         × ((y i).offset < z.page_words)) (sym (old_spot o t.0)) (k.lies.inside o i ob q t.1 l))
         (λ (t : (o ≡ n) × (object ≡ ob) × (r ≡ q)). subst (λ (y : ℕ → Spot). ((y i).page < z.pages)
         × ((y i).offset < z.page_words)) (sym (new_spot o t.0))
-        (page_in, let w = begun.1.fits in let m : i < words_of object = subst (λ (y : Object). i < words_of y) (sym t.1) l in omega arith))
+        (page_in, let w = begun.1.fits in let m : i < words_of object = whole_new ob t.1 i l in omega arith))
         (which o ob q s);
     shows = λ o i ob q v s e. ⊎_elim
         (λ (t : (o < n) × Stands x.heap x.owners x.regions o ob q). subst (λ (y : ℕ
-        → Spot). k.w.cell (y i).page (y i).offset ≡ encode (address z spot) v) (sym (old_spot o t.0))
+        → Spot). k.w.cell (y i).page (y i).offset ≡ encode (address z start) v) (sym (old_spot o t.0))
         (k.lies.shows o i ob q v t.1 e ∙ same_code v (λ p w. steady.cells o i p ob t.1.there (e ∙ ap Some w))))
         (λ (t : (o ≡ n) × (object ≡ ob) × (r ≡ q)). subst (λ (y : ℕ
-        → Spot). k.w.cell (y i).page (y i).offset ≡ encode (address z spot) v) (sym (new_spot o t.0))
+        → Spot). k.w.cell (y i).page (y i).offset ≡ encode (address z start) v) (sym (new_spot o t.0))
         (let u : content object i ≡ Some v = ap (λ (y : Object). content y i) t.1 ∙ e in
         let l = content_below object i v u in
-        begun.1.laid i l (covers i l) ∙ (ap opening u ∙ plain_code (λ o. 0) (address z spot) v (begun.1.plain i v u))))
+        begun.1.laid i l (covers i l) ∙ (ap opening u ∙ plain_code (λ o. 0) (address z start) v (begun.1.plain i v u))))
         (which o ob q s);
     apart = λ o p i j ob ob2 q q2 s s2 l l2 a b. ⊎_elim
         (λ (t : (o < n) × Stands x.heap x.owners x.regions o ob q). ⊎_elim
@@ -185,11 +207,22 @@ module _ (z : TableSizes) (words : List ℕ) (recs : List Rec) (x : Ground) (pla
         (t.0 ∙ sym u.0, omega (arith, w)))
         (which p ob2 q2 s2))
         (which o ob q s);
-    row = λ o i ob q s l. ⊎_elim
-        (λ (t : (o < n) × Stands x.heap x.owners x.regions o ob q). subst (λ (y : ℕ → Spot). ((y i).page ≡ (y 0).page)
-        × ((y i).offset ≡ (y 0).offset + i)) (sym (old_spot o t.0)) (k.lies.row o i ob q t.1 l))
-        (λ (t : (o ≡ n) × (object ≡ ob) × (r ≡ q)). subst (λ (y : ℕ → Spot). ((y i).page ≡ (y 0).page)
-        × ((y i).offset ≡ (y 0).offset + i)) (sym (new_spot o t.0)) (refl, omega arith))
+    spread = λ o ob q s w. ⊎_elim
+        (λ (t : (o < n) × Stands x.heap x.owners x.regions o ob q). subst (λ (y : ℕ → Spot). (pages : List ℕ)
+        × SpreadOver z k.w.cell y (start o) ob pages) (sym (old_spot o t.0))
+        (subst (λ (y : Spot). (pages : List ℕ) × SpreadOver z k.w.cell (places.spot o) y ob pages)
+        (sym (old_start o t.0)) (k.lies.spread o ob q t.1 w)))
+        (λ (t : (o ≡ n) × (object ≡ ob) × (r ≡ q)). absurd (true≢false (sym w
+        ∙ (ap (is_spread z.page_words) (sym t.1) ∙ whole))))
+        (which o ob q s);
+    row = λ o i ob q s w l. ⊎_elim
+        (λ (t : (o < n) × Stands x.heap x.owners x.regions o ob q). subst (λ (y : ℕ → Spot). ((y i).page ≡ (start o).page)
+        × ((y i).offset ≡ (start o).offset + i)) (sym (old_spot o t.0))
+        (subst (λ (y : Spot). ((places.spot o i).page ≡ y.page) × ((places.spot o i).offset ≡ y.offset + i))
+        (sym (old_start o t.0)) (k.lies.row o i ob q t.1 w l)))
+        (λ (t : (o ≡ n) × (object ≡ ob) × (r ≡ q)). subst (λ (y : ℕ → Spot). ((y i).page ≡ (start o).page)
+        × ((y i).offset ≡ (start o).offset + i)) (sym (new_spot o t.0))
+        (subst (λ (y : Spot). (f.page ≡ y.page) × (f.fill + i ≡ y.offset + i)) (sym (new_start o t.0)) (refl, refl)))
         (which o ob q s);
     variables = λ m v e. let t = k.lies.variables m v e in (t.0, t.1 ∙ same_code v (λ p w. steady.variables m p (e ∙ ap Some w)));
     made = λ o j e. ⊎_elim
@@ -277,7 +310,7 @@ module _ (z : TableSizes) (words : List ℕ) (recs : List Rec) (x : Ground) (pla
         (λ (u : (o ≡ n) × (object ≡ ob) × (r ≡ q)).
         let a : (spot o m).offset ≡ f.fill + m = ap (λ (y : ℕ → Spot). (y m).offset) (new_spot o u.0) in
         let b2 : e.fill ≡ many = ap (λ (y : Fill). y.fill) t.1 in
-        let l2 : m < words_of object = subst (λ (y : Object). m < words_of y) (sym u.1) l in omega (arith, a, b2, l2))
+        let l2 : m < words_of object = whole_new ob u.1 m l in omega (arith, a, b2, l2))
         (which o ob q s))
         (λ (t : Owns recs i e × (e.page ≢ f.page)). ⊎_elim
         (λ (u : (o < n) × Stands x.heap x.owners x.regions o ob q).
@@ -291,10 +324,53 @@ module _ (z : TableSizes) (words : List ℕ) (recs : List Rec) (x : Ground) (pla
         (λ (t : (i ≡ g) × (d ≡ y)). let v : Rest ≡ Amid e ob st = ap (λ (u : Rec). u.make) t.1 ∙ m in absurd (cc v))
         (λ (t : (i ≢ g) × Has recs i y). k.own.amids i y e ob st t.1 m)
         (was recs g c d own i y q);
+    apart = record {
+      nobody = λ i o m e ob q w s sp l. ⊎_elim
+          (λ (u : (o < n) × Stands x.heap x.owners x.regions o ob q). λ v.
+          let v2 : (places.spot o m).page ≡ e.page = sym (ap (λ (y : ℕ → Spot). (y m).page) (old_spot o u.0)) ∙ v in
+          ⊎_elim
+          (λ (t : (i ≡ g) × (e ≡ full)). k.own.apart.nobody g o m f ob q owner u.1 sp l (v2 ∙ ap (λ (y : Fill). y.page) t.1))
+          (λ (t : Owns recs i e × (e.page ≢ f.page)). k.own.apart.nobody i o m e ob q t.0 u.1 sp l v2)
+          (old i e w))
+          (λ (u : (o ≡ n) × (object ≡ ob) × (r ≡ q)). absurd (true≢false (sym sp
+          ∙ (ap (is_spread z.page_words) (sym u.1) ∙ whole))))
+          (which o ob q s);
+      claimed = λ j p y e w.
+          let u = reserves recs g c d own refl j y e in
+          k.own.apart.claimed j p u.0 u.1 (subst (λ (v : Reserved). Within p v.pages) u.2 w)
+          ∙ ap (λ (v : Reserved). suc v.slot) (sym u.2);
+      unowned = λ j m p y e q w v.
+          let u = reserves recs g c d own refl j y q in
+          let w2 = subst (λ (v : Reserved). Within p v.pages) u.2 w in
+          ⊎_elim
+          (λ (t : (m ≡ g) × (e ≡ full)). λ s. k.own.apart.unowned j g p u.0 f u.1 w2 owner
+          (sym (ap (λ (y : Fill). y.page) t.1) ∙ s))
+          (λ (t : Owns recs m e × (e.page ≢ f.page)). k.own.apart.unowned j m p u.0 e u.1 w2 t.0)
+          (old m e v);
+      once = λ j l m i p y y2 q q2 a b.
+          let u = reserves recs g c d own refl j y q in
+          let v = reserves recs g c d own refl l y2 q2 in
+          k.own.apart.once j l m i p u.0 v.0 u.1 v.1
+          (subst (λ (v : Reserved). slice_get v.pages m ≡ Some p) u.2 a)
+          (subst (λ (v : Reserved). slice_get v.pages i ≡ Some p) v.2 b);
+      empty = λ j o m p y ob t q w s l.
+          let u = reserves recs g c d own refl j y q in
+          let w2 = subst (λ (v : Reserved). Within p v.pages) u.2 w in
+          ⊎_elim
+          (λ (v : (o < n) × Stands x.heap x.owners x.regions o ob t). λ e.
+          k.own.apart.empty j o m p u.0 ob t u.1 w2 v.1 l (sym (ap (λ (y : ℕ → Spot). (y m).page) (old_spot o v.0)) ∙ e))
+          (λ (v : (o ≡ n) × (object ≡ ob) × (r ≡ t)). λ e.
+          k.own.apart.unowned j g p u.0 f u.1 w2 owner (sym (ap (λ (y : ℕ → Spot). (y m).page) (new_spot o v.0)) ∙ e))
+          (which o ob t s);
+      strewn = λ i y ob st q m. ⊎_elim
+          (λ (t : (i ≡ g) × (d ≡ y)). let v : Rest ≡ Across ob st = ap (λ (u : Rec). u.make) t.1 ∙ m in absurd (cc v))
+          (λ (t : (i ≢ g) × Has recs i y). k.own.apart.strewn i y ob st t.1 m)
+          (was recs g c d own i y q);
+    };
   }
 
   -- all words stand: the object is made
-  pub object_stands : Image z words recs2 (made x g h r object many) (record places { spot = spot })
+  pub object_stands : Image z words recs2 (made x g h r object many) (record places { spot = spot; start = start })
   object_stands = record {
     w = k.w;
     shows = k.shows;
@@ -303,7 +379,7 @@ module _ (z : TableSizes) (words : List ℕ) (recs : List Rec) (x : Ground) (pla
     filled = refilled z words recs x places k steady g h hold r used many c d own full (sym slotted) refl full_there
         (λ e w. subst (λ (m : ℕ). (e ≡ full) ⊎ (Within e c.fills × (e.slot ≢ m))) (sym slotted) (only e w))
         (λ e w ne. others e w (λ q. ne (q ∙ sym slotted)))
-        (λ s q. k.filled.claims g s c own q);
+        (λ s q. k.filled.claims g s c own q) refl;
     counts = counts_calm recs g c d own z k.w.count places.top x.regions places.slot places.uses k.counts refl;
     pages = pages_same recs g c d own k.w.state k.w.next k.w.head places.at places.chain places.link places.top k.pages refl refl;
     paged = k.paged;
@@ -317,12 +393,18 @@ pub object_made : (z : TableSizes) (words : List ℕ) (recs : List Rec) (x : Gro
     → (h : Held) → slice_get x.held g ≡ Some h → (r : Region) → Uses h r → slot_of z places.slot r ≡ f.slot
     → Image z (set words (cell_at z f.page (f.fill + i)) (opening (content object i))) (slice_set recs g (with_object c f.slot
     (f.fill + words_of object))) (made x g h r object (f.fill + words_of object))
-    (record places { spot = put places.spot (length x.heap) (λ i. record { page = f.page; offset = f.fill + i }) })
+    (record places {
+      spot = put places.spot (length x.heap) (λ i. record { page = f.page; offset = f.fill + i });
+      start = put places.start (length x.heap) (record { page = f.page; offset = f.fill });
+    })
 object_made z words recs x places k steady g c own f object stored makes i small covers h hold r used slotted =
     let half : Rec = with_word c f object (i ∷ stored) in
     let k1 = word_stored z words recs x places k g c own f object stored makes i small in
     let k2 = object_stands z (set words (cell_at z f.page (f.fill + i)) (opening (content object i)))
     (slice_set recs g half) x places k1 steady g half (set_here recs g half c own) f object (i ∷ stored) refl covers h hold r used slotted in
     subst (λ (l : List Rec). Image z (set words (cell_at z f.page (f.fill + i)) (opening (content object i))) l (made x g h r object
-    (f.fill + words_of object)) (record places { spot = put places.spot (length x.heap) (λ i. record { page = f.page; offset = f.fill + i }) }))
+    (f.fill + words_of object)) (record places {
+      spot = put places.spot (length x.heap) (λ i. record { page = f.page; offset = f.fill + i });
+      start = put places.start (length x.heap) (record { page = f.page; offset = f.fill });
+    }))
     (set_twice recs g half (with_object c f.slot (f.fill + words_of object))) k2

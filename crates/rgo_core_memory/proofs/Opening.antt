@@ -24,6 +24,8 @@ use Rattle.rgo_core_memory.proofs.Puts.{put_here, put_else}
 use Rattle.rgo_core_memory.proofs.Rows.{below}
 use Rattle.rgo_core_memory.proofs.Steadies.{map_back}
 use Rattle.rgo_core_memory.proofs.Writes.{writes_count, writes_made}
+use Rattle.rgo_core_memory.specs.Records.{Across}
+use Rattle.rgo_core_memory.specs.Records.{Within}
 
 pub zeros : (n i : ℕ) → slice_index (replicate n 0) i ≡ 0
 zeros zero i = refl
@@ -75,13 +77,19 @@ none_stands owners regions o object r s = go o s.there
     go : (i : ℕ) → slice_get [] i ≡ Some object → ⊥
     go i e = cc
 
-nothing_filled : (h : Held) (g : ℕ) → slice_get (record { stakes = []; fills = [] } ∷ []) g ≡ Some h
-    → ◌≡◌ {A = Held} (record { stakes = []; fills = [] }) h
-nothing_filled h zero e = same_Some (record { stakes = []; fills = [] }) h e
+nothing_filled : (h : Held) (g : ℕ) → slice_get (record { stakes = []; fills = []; reserved = 0 } ∷ []) g ≡ Some h
+    → ◌≡◌ {A = Held} (record { stakes = []; fills = []; reserved = 0 }) h
+nothing_filled h zero e = same_Some (record { stakes = []; fills = []; reserved = 0 }) h e
 nothing_filled h (suc g) e = cc
 
-none_filled : (h : Held) (g n : ℕ) (r : Region) → slice_get (record { stakes = []; fills = [] } ∷ []) g ≡ Some h → fill_of h.fills r ≡ Some n → ⊥
+none_filled : (h : Held) (g n : ℕ) (r : Region) → slice_get (record { stakes = []; fills = []; reserved = 0 } ∷ []) g ≡ Some h → fill_of h.fills r ≡ Some n → ⊥
 none_filled h g n r e f = let q : fill_of [] r ≡ Some n = subst (λ (y : Held). fill_of y.fills r ≡ Some n) (sym (nothing_filled h g e)) f in cc q
+
+none_reserved : (g p : ℕ) (c : Rec) → slice_get (first_record ∷ []) g ≡ Some c → Within p c.reserved.pages → ⊥
+none_reserved g p c h w = go (subst (λ (y : Rec). Within p y.reserved.pages) (sym (only g c h)) w)
+  where
+    go : Within p [] → ⊥
+    go v = let n = v.0 in let q : slice_get [] n ≡ Some p = v.1 in cc q
 
 none_made : (k : ℕ) (info : RegionInfo) → slice_get [] k ≡ Some info → ⊥
 none_made k info e = cc
@@ -96,7 +104,8 @@ opens code z enough =
         inside = λ o i object r s l. absurd (none_stands [] [] o object r s);
         shows = λ o i object r v s e. absurd (none_stands [] [] o object r s);
         apart = λ o p i j object other r q s t l m a b. absurd (none_stands [] [] o object r s);
-        row = λ o i object r s l. absurd (none_stands [] [] o object r s);
+        row = λ o i object r s w l. absurd (none_stands [] [] o object r s);
+        spread = λ o object r s w. absurd (none_stands [] [] o object r s);
         variables = λ n v e.
             let b = map_back (λ (v : Variable). zero_of v.ty) code.variables n v e in
             let l = below code.variables n b.0 b.1 in
@@ -112,12 +121,23 @@ opens code z enough =
         room = λ g f w. absurd (nobody_owns g f w);
         under = λ g o i f object r w s l e. absurd (nobody_owns g f w);
         amids = λ g c f object stored h m. let y : Rest ≡ Amid f object stored = ap (λ (c : Rec). c.make) (only g c h) ∙ m in absurd (cc y);
+        apart = record {
+          nobody = λ g o i f object r w. absurd (nobody_owns g f w);
+          claimed = λ g p c h w. absurd (none_reserved g p c h w);
+          unowned = λ g i p c f h w. absurd (none_reserved g p c h w);
+          once = λ g i m n p c d h q a. absurd (none_reserved g p c h (m, a));
+          empty = λ g o i p c object r h w. absurd (none_reserved g p c h w);
+          strewn = λ g c object stored h m.
+              let y : Rest ≡ Across object stored = ap (λ (c : Rec). c.make) (only g c h) ∙ m in absurd (cc y);
+        };
       };
       filled = record {
         fills = λ g f w. absurd (nobody_owns g f w);
         owned = λ g n h r e u f. absurd (none_filled h g n r e f);
         single = λ g e f w v q. absurd (nobody_owns g e w);
         claims = λ g s c h q. absurd (subst (λ (y : Rec). Claims y.claim s) (sym (only g c h)) q);
+        reserved = λ g c h q. absurd (let n = ap (λ (y : Rec). length y.reserved.pages) (only g c h) in omega (arith, n, q));
+        recorded = λ g h e q. absurd (let n = ap (λ (y : Held). y.reserved) (nothing_filled h g e) in omega (arith, n, q));
         made = λ g k n h e f. absurd (none_filled h g n (Numbered k) e f);
       };
       counts = record {

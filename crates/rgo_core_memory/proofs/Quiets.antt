@@ -209,7 +209,7 @@ no_child code h (Branch v j removes k others) child n = refl
 no_child code h (Return value) child n = refl
 
 one_child : (code : Code) (h : Holder) (op : CodeOp) (child : List Frame) → IsGo op → (stakes : List ℕ)
-    × (map held_of (child_holder code h op child) ≡ record { stakes = stakes; fills = [] } ∷ [])
+    × (map held_of (child_holder code h op child) ≡ record { stakes = stakes; fills = []; reserved = 0 } ∷ [])
 one_child code h (Do to action from removes) child n = absurd n
 one_child code h (Call to m from passes protects removes) child n = absurd n
 one_child code h (Go m from passes removes) child n = (h.pending, refl)

@@ -17,6 +17,9 @@ use Rattle.rgo_core_memory.specs.Image.{Image, Where}
 use Rattle.rgo_core_memory.proofs.Keeping.{was, owns_was, owns_mine, owns_other, owns_old}
 use Rattle.rgo_core_memory.proofs.Rows.{at_set, set_here, set_else, below}
 use Rattle.rgo_core_memory.proofs.Slots.{live_info, one_region, uses_live}
+use Rattle.rgo_core_memory.specs.Records.{Reserved}
+use Rattle.rgo_core_memory.proofs.Keeping.{reserves, here, stays}
+use Rattle.std.proofs.Common.{◌<◌}
 
 -- two regions are one, or a test says that they are not
 pub one_or_two : (r q : Region) → (r ≡ q) ⊎ (same_region r q ≡ false)
@@ -92,7 +95,7 @@ module _ (z : TableSizes) (words : List ℕ) (recs : List Rec) (x : Ground) (pla
       (there : Within e0 d.fills)
       (only : (f : Fill) → Within f d.fills → (f ≡ e0) ⊎ (Within f c.fills × (f.slot ≢ slot_of z places.slot r)))
       (others : (f : Fill) → Within f c.fills → f.slot ≢ slot_of z places.slot r → Within f d.fills)
-      (claims : (s : ℕ) → Claims d.claim s → StakeAt z x.held places.slot g s) where
+      (claims : (s : ℕ) → Claims d.claim s → StakeAt z x.held places.slot g s) (reserved : d.reserved ≡ c.reserved) where
     abbrev recs2 : List Rec
     recs2 = slice_set recs g d
 
@@ -179,6 +182,34 @@ module _ (z : TableSizes) (words : List ℕ) (recs : List Rec) (x : Ground) (pla
           (v : Rec). Claims v.claim s) (sym t.1) q))))
           (λ (t : (i ≢ g) × Has recs i y). stake_refilled i s (k.filled.claims i s y t.1 q))
           (was recs g c d own i y e);
+      reserved = λ i y e q.
+          let w = reserves recs g c d own reserved i y e in
+          let o = k.filled.reserved i w.0 w.1 (subst (λ (v : Reserved). 0 < length v.pages) w.2 q) in
+          let slot = o.4 ∙ ap (λ (v : Reserved). v.slot) (sym w.2) in
+          let many = o.5 ∙ ap (λ (v : Reserved). length v.pages) (sym w.2) in
+          dite (ℕ_discrete i g)
+          (λ s.
+          let same : o.0 ≡ h = same_Some o.0 h (sym o.2 ∙ (ap (slice_get x.held) s ∙ hold)) in (
+            h2,
+            o.1,
+            ap (slice_get held) s ∙ hold2,
+            uses_same o.1 (subst (λ (v : Held). Uses v o.1) same o.3),
+            slot,
+            ap (λ (v : Held). v.reserved) (sym same) ∙ many,
+          ))
+          (λ m. (o.0, o.1, set_else x.held g i h2 m ∙ o.2, o.3, slot, many));
+      recorded = λ i y e q. ⊎_elim
+          (λ (t : (i ≡ g) × (h2 ≡ y)).
+          let m = ap (λ (v : Held). v.reserved) t.1 in
+          let u = k.filled.recorded g h hold (omega (arith, m, q)) in (
+            d,
+            subst (λ (a : ℕ). Has recs2 a d) (sym t.0) (here recs g c d own),
+            sym m ∙ u.2 ∙ ap (λ (v : Reserved). length v.pages)
+                (ap (λ (v : Rec). v.reserved) (same_Some u.0 c (sym u.1 ∙ own)) ∙ sym reserved),
+          ))
+          (λ (t : (i ≢ g) × (slice_get x.held i ≡ Some y)).
+          let u = k.filled.recorded i y t.1 q in (u.0, stays recs g c d own i u.0 t.0 u.1, u.2))
+          (was_held i y e);
       made = λ i j m y e f. ⊎_elim
           (λ (t : (i ≡ g) × (h2 ≡ y)).
           let f2 : fill_of (with_fill h.fills r n) (Numbered j) ≡ Some m = subst (λ (v : Held). fill_of v.fills (Numbered j) ≡ Some m) (sym t.1) f in

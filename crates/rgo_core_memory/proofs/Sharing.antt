@@ -29,6 +29,8 @@ use Rattle.rgo_core_memory.proofs.Releases.{owes_now}
 use Rattle.rgo_core_memory.proofs.Rows.{at_set, set_here, set_else}
 use Rattle.rgo_core_memory.proofs.Slots.{live_info, one_region, uses_live}
 use Rattle.rgo_core_memory.proofs.Writes.{writes_count}
+use Rattle.rgo_core_memory.specs.Records.{Reserved}
+use Rattle.std.proofs.Common.{[]}
 
 module _ (z : TableSizes) (words : List ℕ) (recs : List Rec) (x : Ground) (places : Where) (k : Image z words recs x places) (j : ℕ)
     (live : is_live x.regions (Numbered j) ≡ true) where
@@ -64,14 +66,14 @@ module _ (z : TableSizes) (words : List ℕ) (recs : List Rec) (x : Ground) (pla
     same_length : length infos ≡ length x.regions
     same_length = length_with_info x.regions j change
 
-    lies_changed : Lies z k.w.variable k.w.cell x.variables x.heap x.owners infos places.spot
-    lies_changed = lies_fewer z k.w.variable k.w.cell x.variables x.heap x.owners x.regions infos places.spot k.lies fewer (omega
+    lies_changed : Lies z k.w.variable k.w.cell x.variables x.heap x.owners infos places.spot places.start
+    lies_changed = lies_fewer z k.w.variable k.w.cell x.variables x.heap x.owners x.regions infos places.spot places.start k.lies fewer (omega
         (arith, same_length))
 
     own_changed : (more : List Rec) → Own z k.w.state k.w.cell more x.heap x.owners x.regions places.slot places.spot
         → Own z k.w.state k.w.cell more x.heap x.owners infos places.slot places.spot
     own_changed more o = own_frame z k.w.state k.w.cell more x.heap x.owners x.regions places.slot places.spot o k.w.cell x.heap x.owners infos
-        (stay_alike x.heap x.owners x.regions infos fewer) (λ g i f w l. refl)
+        (stay_alike x.heap x.owners x.regions infos fewer) (λ g i f w l. refl) (λ g p i c h w. refl)
 
     same_takes : x.global_pages + sum_by (λ (i : RegionInfo). i.pages) infos ≡ taken_of x
     same_takes = ap (λ (m : ℕ). x.global_pages + m) (pages_kept x.regions j change same_pages)
@@ -104,6 +106,7 @@ module _ (z : TableSizes) (words : List ℕ) (recs : List Rec) (x : Ground) (pla
   -- ---- the end of a stake
 
   module _ (steady : Steady x) (g : ℕ) (c d : Rec) (own : Has recs g c) (fills : d.fills ≡ dropped s c.fills) (claim : d.claim ≡ c.claim)
+      (reserved : d.reserved ≡ c.reserved) (none_reserved : c.reserved.pages ≡ [])
       (h : Held) (hold : slice_get x.held g ≡ Some h) (free : Claims c.claim s → ⊥) where
     abbrev h2 : Held
     h2 = record h { stakes = without j h.stakes }
@@ -185,6 +188,28 @@ module _ (z : TableSizes) (words : List ℕ) (recs : List Rec) (x : Ground) (pla
           (Claims c.claim) e' w)))
           (λ (t : (i ≢ g) × Has recs i y). stake_still i r (k.filled.claims i r y t.1 q) (λ e. absurd (t.0 e)))
           (was recs g c d own i y e);
+      reserved = λ i y e q. ⊎_elim
+          (λ (t : (i ≡ g) × (d ≡ y)).
+          let n : length y.reserved.pages ≡ 0 = ap (λ (v : Rec). length v.reserved.pages) (sym t.1)
+          ∙ (ap (λ (v : Reserved). length v.pages) reserved ∙ ap (λ (l : List ℕ). length l) none_reserved) in
+          absurd (omega (arith, n, q)))
+          (λ (t : (i ≢ g) × Has recs i y).
+          let u = k.filled.reserved i y t.1 q in
+          (u.0, u.1, set_else x.held g i h2 t.0 ∙ u.2, u.3, u.4, u.5))
+          (was recs g c d own i y e);
+      recorded = λ i y e q. ⊎_elim
+          (λ (t : (i ≡ g) × (h2 ≡ y)).
+          let u = k.filled.recorded g h hold (subst (λ (v : Held). 0 < v.reserved) (sym t.1) q) in
+          let n : length (u.0).reserved.pages ≡ 0 =
+          ap (λ (v : Rec). length v.reserved.pages) (same_Some u.0 c (sym u.1 ∙ own))
+          ∙ ap (λ (l : List ℕ). length l) none_reserved in
+          let m = ap (λ (v : Held). v.reserved) t.1 in
+          let w = u.2 in
+          absurd (omega (arith, n, m, w, q)))
+          (λ (t : (i ≢ g) × (slice_get x.held i ≡ Some y)).
+          let u = k.filled.recorded i y t.1 q in
+          (u.0, stays recs g c d own i u.0 t.0 u.1, u.2))
+          (was_held i y e);
       made = λ i r n y e q. subst (λ (b : ℕ). r < b) many (⊎_elim
           (λ (t : (i ≡ g) × (h2 ≡ y)). k.filled.made g r n h hold (subst (λ (v : Held). fill_of v.fills (Numbered r) ≡ Some n) (sym t.1) q))
           (λ (t : (i ≢ g) × (slice_get x.held i ≡ Some y)). k.filled.made i r n y t.1 q)
@@ -200,6 +225,7 @@ module _ (z : TableSizes) (words : List ℕ) (recs : List Rec) (x : Ground) (pla
           let e = sym make ∙ m in
           let a = k.own.amids g c f object stored own e in
           (e, subst (λ (l : List Fill). Within f l) (sym fills) (within_dropped s c.fills f a.0 (unmade f object stored e))))
+          reserved (λ object stored m. sym make ∙ m)
 
       -- a leave, where others have a stake
       pub other_left : d.give ≡ c.give → n ≢ 2 → Image z (set words (count_at z s) (n - 1)) recs2 (left x g h j) places

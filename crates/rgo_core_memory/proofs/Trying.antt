@@ -4,7 +4,7 @@ use mathlib.Core.Logic.{dite}
 use native.Mathlib.Decide.{ℕ_discrete}
 use Rattle.rgo_core_memory.specs.declared.layout.TableSizes.{TableSizes}
 use Rattle.rgo_core_memory.specs.Words.{state_at, count_at}
-use Rattle.rgo_core_memory.specs.Records.{Measured, Rec, Has, Claims, with_measured, with_tried_page, with_tried_slot}
+use Rattle.rgo_core_memory.specs.Records.{Located, Measured, Rec, Has, Claims, with_located, with_measured, with_tried_page, with_tried_slot}
 use Rattle.rgo_core_memory.specs.Ground.{Ground, taken_of}
 use Rattle.rgo_core_memory.specs.Pages.{times}
 use Rattle.rgo_core_memory.specs.Parts.{Taken, TriedPage, TriedSlot}
@@ -19,15 +19,15 @@ positive (suc n) h = omega arith
 module _ (z : TableSizes) (words : List ℕ) (recs : List Rec) (x : Ground) (places : Where) (k : Image z words recs x places) (g : ℕ) (c : Rec)
     (own : Has recs g c) where
   -- a record of which only what it tried changes
-  tried : (d : Rec) → d.fills ≡ c.fills → d.make ≡ c.make → d.claim ≡ c.claim → d.give ≡ c.give
+  tried : (d : Rec) → d.fills ≡ c.fills → d.make ≡ c.make → d.reserved ≡ c.reserved → d.claim ≡ c.claim → d.give ≡ c.give
       → Taken z k.w.state k.w.count (slice_set recs g d) (taken_of x) (length x.regions) places.slot places.page
       → Image z words (slice_set recs g d) x places
-  tried d fills make claim give taken = record {
+  tried d fills make reserved claim give taken = record {
     w = k.w;
     shows = k.shows;
     lies = k.lies;
-    own = own_same recs g c d own z k.w.state k.w.cell x.heap x.owners x.regions places.slot places.spot k.own fills make;
-    filled = filled_same recs g c d own z x.held (length x.regions) places.slot k.filled fills (λ s q. k.filled.claims g s c own (subst
+    own = own_same recs g c d own z k.w.state k.w.cell x.heap x.owners x.regions places.slot places.spot k.own fills make reserved;
+    filled = filled_same recs g c d own z x.held (length x.regions) places.slot k.filled fills reserved (λ s q. k.filled.claims g s c own (subst
         (λ v. Claims v s) claim q));
     counts = counts_calm recs g c d own z k.w.count places.top x.regions places.slot places.uses k.counts give;
     pages = pages_same recs g c d own k.w.state k.w.next k.w.head places.at places.chain places.link places.top k.pages claim give;
@@ -37,7 +37,7 @@ module _ (z : TableSizes) (words : List ℕ) (recs : List Rec) (x : Ground) (pla
 
   -- a claim that found another number
   pub page_tried : (p : ℕ) → p < z.pages → slice_index words (state_at z p) ≢ 0 → Image z words (slice_set recs g (with_tried_page c p)) x places
-  page_tried p small found = tried d refl refl refl refl (record {
+  page_tried p small found = tried d refl refl refl refl refl (record {
     pages = λ q f. ⊎_elim (λ l. k.taken.pages q (inl l)) (λ u. was_tried q u) f;
     slots = λ s l f. k.taken.slots s l (⊎_elim (λ q. inl q) (λ u. inr (slot_tried s u)) f);
   })
@@ -63,7 +63,7 @@ module _ (z : TableSizes) (words : List ℕ) (recs : List Rec) (x : Ground) (pla
 
   -- a creation that found another number
   pub slot_tried : (r : ℕ) → r < z.slots → slice_index words (count_at z r) ≢ 0 → Image z words (slice_set recs g (with_tried_slot c r)) x places
-  slot_tried r small found = tried (with_tried_slot c r) refl refl refl refl (record {
+  slot_tried r small found = tried (with_tried_slot c r) refl refl refl refl refl (record {
     pages = λ q f. k.taken.pages q (⊎_elim (λ l. inl l) (λ u. inr (page_was q u)) f);
     slots = λ s l f. ⊎_elim (λ q. k.taken.slots s l (inl q)) (λ u. was_tried s l u) f;
   })
@@ -88,14 +88,21 @@ module _ (z : TableSizes) (words : List ℕ) (recs : List Rec) (x : Ground) (pla
 
   -- the next call forgets what was found
   pub forgot : Image z words (slice_set recs g (record c { tried_pages = []; tried_slots = [] })) x places
-  forgot = tried (record c { tried_pages = []; tried_slots = [] }) refl refl refl refl
+  forgot = tried (record c { tried_pages = []; tried_slots = [] }) refl refl refl refl refl
       (taken_fewer recs g c (record c { tried_pages = []; tried_slots = [] }) own z k.w.state k.w.count (taken_of x)
       (length x.regions) places.slot places.page k.taken
       (λ p l. omega (arith, l)) (λ r l. omega (arith, l)))
 
   -- a length was read
   pub measures : (m : Measured) → Image z words (slice_set recs g (with_measured c m)) x places
-  measures m = tried (with_measured c m) refl refl refl refl
+  measures m = tried (with_measured c m) refl refl refl refl refl
       (taken_fewer recs g c (with_measured c m) own z k.w.state k.w.count (taken_of x)
+      (length x.regions) places.slot places.page k.taken
+      (λ p l. omega (arith, l)) (λ r l. omega (arith, l)))
+
+  -- the number of a data page was read
+  pub locates : (l : Located) → Image z words (slice_set recs g (with_located c l)) x places
+  locates l = tried (with_located c l) refl refl refl refl refl
+      (taken_fewer recs g c (with_located c l) own z k.w.state k.w.count (taken_of x)
       (length x.regions) places.slot places.page k.taken
       (λ p l. omega (arith, l)) (λ r l. omega (arith, l)))

@@ -18,6 +18,12 @@ use Rattle.rgo_core_memory.proofs.Frames.{content_below}
 use Rattle.rgo_core_memory.proofs.Keeping.{was, owns_was, filled_same, counts_calm, taken_same, pages_same}
 use Rattle.rgo_core_memory.proofs.Puts.{two_here, two_else}
 use Rattle.rgo_core_memory.proofs.Writes.{writes_cell}
+use Rattle.rgo_core_memory.specs.Records.{Across, Reserved}
+use Rattle.rgo_core_memory.proofs.Keeping.{reserves}
+use Rattle.rgo_core_memory.proofs.Spreads.{spread_same, spread_within, in_table}
+use Rattle.rgo_core_memory.specs.Spread.{spread_spot}
+use Rattle.std.proofs.Common.{slice_get}
+use Rattle.std.proofs.Common.{suc}
 
 module _ (z : TableSizes) (words : List ℕ) (recs : List Rec) (x : Ground) (places : Where) (k : Image z words recs x places) (g : ℕ) (c : Rec)
     (own : Has recs g c)
@@ -52,13 +58,21 @@ module _ (z : TableSizes) (words : List ℕ) (recs : List Rec) (x : Ground) (pla
     page_in : f.page < z.pages
     page_in = let e = k.own.claimed g f owner in k.own.ranged f.page (omega arith)
 
-    lies_word : Lies z k.w.variable cell x.variables x.heap x.owners x.regions places.spot
+    lies_word : Lies z k.w.variable cell x.variables x.heap x.owners x.regions places.spot places.start
     lies_word = record {
       inside = k.lies.inside;
       shows = λ o j ob r v s e. two_else k.w.cell f.page (f.fill + i) word (places.spot o j).page (places.spot o j).offset
-          (λ a b. let u = k.own.under g o j f ob r owner s (content_below ob j v e) a in absurd (omega arith)) ∙ k.lies.shows o j ob r v s e;
+          (λ a b. let u = k.own.under g o j f ob r owner s (in_table z.page_words ob j (content_below ob j v e)) a in
+          absurd (omega arith)) ∙ k.lies.shows o j ob r v s e;
       apart = k.lies.apart;
       row = k.lies.row;
+      spread = λ o ob r s w.
+          let y = k.lies.spread o ob r s w in (
+            y.0,
+            spread_same z k.w.cell cell (places.spot o) (places.start o) ob ob y.0 (refl, refl)
+                (λ j m l. two_else k.w.cell f.page (f.fill + i) word (places.spot o j).page (places.spot o j).offset
+                (λ a b. let u = k.own.under g o j f ob r owner s l a in absurd (omega arith))) y.1,
+          );
       variables = k.lies.variables;
       made = k.lies.made;
     }
@@ -98,6 +112,43 @@ module _ (z : TableSizes) (words : List ℕ) (recs : List Rec) (x : Ground) (pla
             },
           ))
           (was recs g c d own j y q);
+      apart = record {
+        nobody = λ j o m e ob r w. k.own.apart.nobody j o m e ob r (old j e w);
+        claimed = λ j p y e w.
+            let u = reserves recs g c d own refl j y e in
+            k.own.apart.claimed j p u.0 u.1 (subst (λ (v : Reserved). Within p v.pages) u.2 w)
+            ∙ ap (λ (v : Reserved). suc v.slot) (sym u.2);
+        unowned = λ j m p y e q w v.
+            let u = reserves recs g c d own refl j y q in
+            k.own.apart.unowned j m p u.0 e u.1 (subst (λ (v : Reserved). Within p v.pages) u.2 w) (old m e v);
+        once = λ j l m n p y y2 q q2 a b.
+            let u = reserves recs g c d own refl j y q in
+            let v = reserves recs g c d own refl l y2 q2 in
+            k.own.apart.once j l m n p u.0 v.0 u.1 v.1
+            (subst (λ (v : Reserved). slice_get v.pages m ≡ Some p) u.2 a)
+            (subst (λ (v : Reserved). slice_get v.pages n ≡ Some p) v.2 b);
+        empty = λ j o m p y ob r q w.
+            let u = reserves recs g c d own refl j y q in
+            k.own.apart.empty j o m p u.0 ob r u.1 (subst (λ (v : Reserved). Within p v.pages) u.2 w);
+        strewn = λ j y ob st q m. ⊎_elim
+            (λ (t : (j ≡ g) × (d ≡ y)).
+            let v : Amid f object (i ∷ stored) ≡ Across ob st = ap (λ (u : Rec). u.make) t.1 ∙ m in absurd (cc v))
+            (λ (t : (j ≢ g) × Has recs j y).
+            let a = k.own.apart.strewn j y ob st t.1 m in
+            record {
+              spread = a.spread;
+              small = a.small;
+              many = a.many;
+              plain = a.plain;
+              laid = λ n l u.
+                  two_else k.w.cell f.page (f.fill + i) word (spread_spot z.page_words ob y.reserved.pages n).page
+                  (spread_spot z.page_words ob y.reserved.pages n).offset
+                  (λ p b. absurd (k.own.apart.unowned j g (spread_spot z.page_words ob y.reserved.pages n).page y f t.1
+                  (spread_within z.page_words ob y.reserved.pages n a.spread a.many l) owner (sym p)))
+                  ∙ a.laid n l u;
+            })
+            (was recs g c d own j y q);
+      };
     }
       where
         more : Amidst z cell f object (i ∷ stored)
@@ -118,7 +169,7 @@ module _ (z : TableSizes) (words : List ℕ) (recs : List Rec) (x : Ground) (pla
       shows = writes_cell z words k.w k.shows f.page (f.fill + i) word page_in in_page;
       lies = lies_word;
       own = own_word;
-      filled = filled_same recs g c d own z x.held (length x.regions) places.slot k.filled refl (λ s q. k.filled.claims g s c own q);
+      filled = filled_same recs g c d own z x.held (length x.regions) places.slot k.filled refl refl (λ s q. k.filled.claims g s c own q);
       counts = counts_calm recs g c d own z k.w.count places.top x.regions places.slot places.uses k.counts refl;
       pages = pages_same recs g c d own k.w.state k.w.next k.w.head places.at places.chain places.link places.top k.pages refl refl;
       paged = k.paged;

@@ -18,8 +18,9 @@ use Rattle.rgo_sound.specs.Tac.Steps.{type_of}
 use Rattle.rgo_core_memory.specs.declared.layout.TableSizes.{TableSizes}
 use Rattle.rgo_core_memory.specs.Words.{put, cell_at}
 use Rattle.rgo_core_memory.specs.Encoding.{content, opening}
-use Rattle.rgo_core_memory.specs.Records.{Fill, Rec, Has, with_word, with_object}
-use Rattle.rgo_core_memory.specs.Parts.{slot_of, Makes, Covers}
+use Rattle.rgo_core_memory.specs.Records.{Fill, Rec, Has, with_word, with_object, with_word_apart, with_object_apart}
+use Rattle.rgo_core_memory.specs.Parts.{slot_of, Makes, MakesApart, Covers, CoversApart}
+use Rattle.rgo_core_memory.specs.Spread.{lead_spot, spread_spot, spread_opening, table_words}
 use Rattle.rgo_core_memory.specs.Image.{Where, Memory}
 use Rattle.rgo_core_memory.specs.Accesses.{Before}
 
@@ -44,6 +45,16 @@ WordKeeps = (z : TableSizes) (words : List ℕ) (recs : List Rec) (s : RegionSta
     → Memory z (slice_set words (cell_at z f.page (f.fill + i)) (opening (content object i))) (slice_set recs g
     (with_word c f object (i ∷ stored))) s places
 
+-- the same of a spread object: the word and the place are those of the reserved pages
+abbrev pub WordKeepsApart : Type 0
+WordKeepsApart = (z : TableSizes) (words : List ℕ) (recs : List Rec) (s : RegionState) (g i : ℕ) (c : Rec)
+    (object : Object) (stored : List ℕ)
+    → (places : Where) → Memory z words recs s places → Has recs g c → MakesApart z c object stored
+    → i < table_words z.page_words object
+    → Memory z (slice_set words (cell_at z (spread_spot z.page_words object c.reserved.pages i).page
+    (spread_spot z.page_words object c.reserved.pages i).offset) (spread_opening object c.reserved.pages i))
+    (slice_set recs g (with_word_apart c object (i ∷ stored))) s places
+
 -- the last one
 abbrev pub AllocationKeeps : Type 0
 AllocationKeeps = (code : Code) (z : TableSizes) (words : List ℕ) (recs : List Rec) (s t : RegionState) (g i : ℕ)
@@ -58,4 +69,22 @@ AllocationKeeps = (code : Code) (z : TableSizes) (words : List ℕ) (recs : List
     (record places {
       spot = put places.spot (length s.plain.memory.heap)
           (λ i. record { page = f.page; offset = f.fill + i });
+      start = put places.start (length s.plain.memory.heap) (record { page = f.page; offset = f.fill });
+    })
+
+-- the same of a spread object
+abbrev pub AllocationKeepsApart : Type 0
+AllocationKeepsApart = (code : Code) (z : TableSizes) (words : List ℕ) (recs : List Rec) (s t : RegionState) (g i : ℕ)
+    (h : Holder) (r : Region) (c : Rec)
+    (object : Object) (stored : List ℕ) → AllGood code s → (places : Where) → Memory z words recs s places
+    → slice_get s.holders g ≡ Some h → Has recs g c
+    → MakesNext code s g h r object → slot_of z places.slot r ≡ c.reserved.slot → MakesApart z c object stored
+    → i < table_words z.page_words object → CoversApart z object (i ∷ stored)
+    → region_step code z.page_words s (Instruct (One g)) ≡ Some t
+    → Memory z (slice_set words (cell_at z (spread_spot z.page_words object c.reserved.pages i).page
+    (spread_spot z.page_words object c.reserved.pages i).offset) (spread_opening object c.reserved.pages i))
+    (slice_set recs g (with_object_apart c)) t
+    (record places {
+      spot = put places.spot (length s.plain.memory.heap) (spread_spot z.page_words object c.reserved.pages);
+      start = put places.start (length s.plain.memory.heap) (lead_spot c.reserved.pages 0);
     })

@@ -5,7 +5,7 @@ use Rattle.rgo_sound.specs.RegionMachine.States.{RegionState}
 use Rattle.rgo_sound.specs.Good.{AllGood}
 use Rattle.rgo_core_memory.specs.declared.layout.TableSizes.{TableSizes}
 use Rattle.rgo_core_memory.specs.Words.{put, state_at, next_at, count_at, head_at}
-use Rattle.rgo_core_memory.specs.Records.{Idle, Got, Hung, Calm, Owes, Giving, Past, Gave, Measured, Rec, Has, with_claim, with_give, with_measured, with_tried_page, with_tried_slot}
+use Rattle.rgo_core_memory.specs.Records.{Idle, Got, Hung, Calm, Owes, Giving, Past, Gave, Located, Measured, Rec, Has, with_claim, with_give, with_located, with_measured, with_tried_page, with_tried_slot}
 use Rattle.rgo_core_memory.specs.Pages.{Free, Chained}
 use Rattle.rgo_core_memory.specs.Parts.{Vacant}
 use Rattle.rgo_core_memory.specs.Image.{Where, Memory}
@@ -85,3 +85,7 @@ ForgetKeeps = Keeps (λ z words recs s places g c. Memory z words (slice_set rec
 -- the length of a slice was read
 abbrev pub MeasuredKeeps : Type 0
 MeasuredKeeps = Keeps (λ z words recs s places g c. (m : Measured) → Memory z words (slice_set recs g (with_measured c m)) s places)
+
+-- the number of a data page was read
+abbrev pub LocatedKeeps : Type 0
+LocatedKeeps = Keeps (λ z words recs s places g c. (l : Located) → Memory z words (slice_set recs g (with_located c l)) s places)

@@ -11,9 +11,9 @@ pub record Spot : Type 0 where
   pub page : ℕ
   pub offset : ℕ
 
--- the address of an object less one, by the spots of its words
-abbrev pub address : TableSizes → (ℕ → ℕ → Spot) → ℕ → ℕ
-address z spot o = (spot o 0).page * z.page_words + (spot o 0).offset
+-- the address of an object less one, by where objects begin: at their first word, or that of their lead page
+abbrev pub address : TableSizes → (ℕ → Spot) → ℕ → ℕ
+address z start o = (start o).page * z.page_words + (start o).offset
 
 abbrev pub encode : (ℕ → ℕ) → Value → ℕ
 encode address (value.Int n) = cast_unsigned w64 n

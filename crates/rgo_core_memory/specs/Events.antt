@@ -1,12 +1,12 @@
 -- What the accesses to regions and pages keep, given the step of the region machine.
-use Rattle.std.specs.Prelude.{◌≡◌, ◌≢◌, ◌⊎◌, ℕ, suc, ◌+◌, ◌-◌, ◌<◌, false, List, ◌∷◌, length, Some, slice_get, slice_set, slice_index, nat_eq}
+use Rattle.std.specs.Prelude.{◌≡◌, ◌≢◌, ◌⊎◌, ℕ, suc, ◌+◌, ◌-◌, ◌<◌, Bool, false, true, List, [], ◌∷◌, length, Some, slice_get, slice_set, slice_index, nat_eq}
 use Rattle.std.specs.List.{list_any}
 use Rattle.rgo_sound.specs.Memory.Memory.{Object}
 use Rattle.rgo_sound.specs.Code.Code.{Code, CodeInstr}
 use Rattle.rgo_sound.specs.Tac.Frames.{Frame}
 use Rattle.rgo_sound.specs.RegionMachine.Duties.{guards}
-use Rattle.rgo_sound.specs.RegionMachine.Machine.{Attend, TakePage, region_step}
-use Rattle.rgo_sound.specs.RegionMachine.Objects.{making_region}
+use Rattle.rgo_sound.specs.RegionMachine.Machine.{Attend, TakePage, next_object, region_step}
+use Rattle.rgo_sound.specs.RegionMachine.Objects.{is_spread, making_region}
 use Rattle.rgo_sound.specs.RegionMachine.Owed.{current, function_at}
 use Rattle.rgo_sound.specs.RegionMachine.Regions.{bound, unbind, removed_once}
 use Rattle.rgo_sound.specs.RegionMachine.States.{Duty, Create, Share, Remove, EndBase, Holder, RegionState, top_names, with_top}
@@ -20,6 +20,7 @@ use Rattle.rgo_core_memory.specs.Parts.{slot_of, Living, Closing}
 use Rattle.rgo_core_memory.specs.Ground.{ground_of, taken_of}
 use Rattle.rgo_core_memory.specs.Pages.{Claimed}
 use Rattle.rgo_core_memory.specs.Image.{Where, Memory}
+use Rattle.rgo_core_memory.specs.Records.{with_reserved}
 
 -- a region is created at a slot that was found free
 abbrev pub CreateKeeps : Type 0
@@ -62,7 +63,7 @@ LeaveKeeps = (code : Code) (z : TableSizes) (words : List ℕ) (recs : List Rec)
     → AllGood code s → (places : Where) → Memory z words recs s places → slice_get s.holders g ≡ Some h → Has recs g c
     → Leaves h j
     → region_step code z.page_words s (Attend g) ≡ Some t → IsFreeOf c (places.slot j)
-    → slice_index words (count_at z (places.slot j)) ≢ 2
+    → c.reserved.pages ≡ [] → slice_index words (count_at z (places.slot j)) ≢ 2
     → Memory z (slice_set words (count_at z (places.slot j)) (slice_index words (count_at z (places.slot j)) - 1))
     (slice_set recs g (without_slot c (places.slot j))) t places
 
@@ -72,7 +73,8 @@ LastLeaveKeeps = (code : Code) (z : TableSizes) (words : List ℕ) (recs : List 
     (h : Holder) (c : Rec)
     → AllGood code s → (places : Where) → Memory z words recs s places → slice_get s.holders g ≡ Some h → Has recs g c
     → Leaves h j
-    → region_step code z.page_words s (Attend g) ≡ Some t → IsFreeOf c (places.slot j) → c.give ≡ Calm
+    → region_step code z.page_words s (Attend g) ≡ Some t → IsFreeOf c (places.slot j) → c.reserved.pages ≡ []
+    → c.give ≡ Calm
     → slice_index words (count_at z (places.slot j)) ≡ 2
     → Memory z (slice_set words (count_at z (places.slot j)) (slice_index words (count_at z (places.slot j)) - 1))
     (slice_set recs g (with_give (without_slot c (places.slot j)) (Owes (places.slot j)))) t
@@ -85,14 +87,32 @@ MakesIn code s g h r = (frame : Frame) × (callers : List Frame) × (instr : Cod
     × (current code frame ≡ Some instr)
     × (making_region (function_at code frame) (top_names h.environments) instr.op ≡ Some r)
 
--- a page that was found free is claimed
+-- the goroutine's next instruction makes an object that is spread, or one that is not
+abbrev pub NextIsSpread : Code → ℕ → RegionState → ℕ → Bool → Type 0
+NextIsSpread code page_words s g b = (object : Object) × (next_object code s g ≡ Some object)
+    × (is_spread page_words object ≡ b)
+
+-- a page that was found free is claimed, as an own page
 abbrev pub PageKeeps : Type 0
 PageKeeps = (code : Code) (z : TableSizes) (words : List ℕ) (recs : List Rec) (s t : RegionState) (g p : ℕ)
     (h : Holder) (r : Region) (c : Rec)
     → AllGood code s → (places : Where) → Memory z words recs s places → slice_get s.holders g ≡ Some h → Has recs g c
-    → MakesIn code s g h r
+    → MakesIn code s g h r → NextIsSpread code z.page_words s g false
     → region_step code z.page_words s (TakePage g) ≡ Some t → c.claim ≡ Idle → c.make ≡ Rest → p < z.pages
     → slice_index words (state_at z p) ≡ 0
     → Memory z (slice_set words (state_at z p) (suc (slot_of z places.slot r))) (slice_set recs g (with_page c p
+    (slot_of z places.slot r))) t
+    (record places { at = put places.at p (Claimed g); page = put places.page (taken_of (ground_of s)) p })
+
+-- the same for a spread object
+abbrev pub ReservedPageKeeps : Type 0
+ReservedPageKeeps = (code : Code) (z : TableSizes) (words : List ℕ) (recs : List Rec) (s t : RegionState) (g p : ℕ)
+    (h : Holder) (r : Region) (c : Rec)
+    → AllGood code s → (places : Where) → Memory z words recs s places → slice_get s.holders g ≡ Some h → Has recs g c
+    → MakesIn code s g h r → NextIsSpread code z.page_words s g true
+    → (0 < length c.reserved.pages → c.reserved.slot ≡ slot_of z places.slot r)
+    → region_step code z.page_words s (TakePage g) ≡ Some t → c.claim ≡ Idle → c.make ≡ Rest → p < z.pages
+    → slice_index words (state_at z p) ≡ 0
+    → Memory z (slice_set words (state_at z p) (suc (slot_of z places.slot r))) (slice_set recs g (with_reserved c p
     (slot_of z places.slot r))) t
     (record places { at = put places.at p (Claimed g); page = put places.page (taken_of (ground_of s)) p })

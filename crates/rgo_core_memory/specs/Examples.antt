@@ -1,6 +1,8 @@
 -- A small table: where its words are, how it opens, and what is no image.
 use Rattle.std.specs.Prelude.{◌≡◌, ℕ, suc, ◌==◌, true, false, if◌then◌else◌, List, [], ◌∷◌, Some, None, pos, negsuc, length, replicate, slice_index}
-use Rattle.rgo_sound.specs.Memory.Memory.{Channel, SliceObject, StructObject}
+use Rattle.rgo_sound.specs.Memory.Memory.{Channel, Object, SliceObject, StructObject}
+use Rattle.rgo_core_memory.specs.Spread.{spread_opening, spread_spot, table_words, words_before}
+use Rattle.rgo_core_memory.specs.Records.{with_object_apart, with_reserved}
 use Rattle.rgo_sound.specs.Memory.declared.values.Value.TheVariants as value
 use Rattle.rgo_sound.specs.RegionMachine.States.{RegionState}
 use Rattle.rgo_core_memory.specs.declared.layout.TableSizes.{TableSizes}
@@ -27,6 +29,13 @@ link p = if p == 0 then 2 else 0
 -- the words of the only object begin at word 1 of page 2
 abbrev pub spot : ℕ → ℕ → Spot
 spot o i = record { page = 2; offset = suc i }
+
+abbrev pub start : ℕ → Spot
+start o = record { page = 2; offset = 1 }
+
+-- 257 elements
+abbrev pub long : Object
+long = SliceObject (replicate 257 value.Nil)
 
 -- slot 0 is given back by goroutine 5, slot 1 has region 7, the others are free
 abbrev pub uses : ℕ → Use
@@ -55,7 +64,7 @@ pub record MemoryExamples : Type 0 where
   pub cell : cell_at small 0 3 ≡ 105
   pub variable : variable_at small 0 ≡ 106
   pub all : all_words small ≡ 107
-  pub object : address small spot 0 ≡ 9
+  pub object : address small start 0 ≡ 9
   -- ---- how the table opens
   pub wide : length (first_words small) ≡ 107
   pub none : slice_index (first_words small) clock_at ≡ 0
@@ -69,7 +78,7 @@ pub record MemoryExamples : Type 0 where
   pub minus_one : encode (λ o. 0) (value.Int (negsuc 0)) ≡ 18446744073709551615
   pub truth : encode (λ o. 0) (value.Bool true) ≡ 1
   pub nil : encode (λ o. 0) value.Nil ≡ 0
-  pub pointer : encode (address small spot) (value.Object 0) ≡ 10
+  pub pointer : encode (address small start) (value.Object 0) ≡ 10
   pub field : content (StructObject (value.Int (pos 3) ∷ [])) 0 ≡ Some (value.Int (pos 3))
   pub no_field : content (StructObject (value.Int (pos 3) ∷ [])) 1 ≡ None
   pub amount : content (SliceObject (value.Bool true ∷ [])) 0 ≡ Some (value.Int (pos 1))
@@ -87,7 +96,22 @@ pub record MemoryExamples : Type 0 where
   -- the last slot is Global's; a page is claimed for no slot above it
   pub last_slot : (slot : ℕ → ℕ) → Own small (first_alone 2) (λ p o. 0) [] [] [] [] slot spot
   pub no_slot : (slot : ℕ → ℕ) → Own small (first_alone 3) (λ p o. 0) [] [] [] [] slot spot → ⊥
+  -- ---- an object of 257 elements over a lead page and two data pages of 256 words
+  pub all_of_it : table_words 256 long ≡ 260
+  pub long_length : spread_spot 256 long (4 ∷ 7 ∷ 2 ∷ []) 0 ≡ record { page = 4; offset = 0 }
+  pub first_element : spread_spot 256 long (4 ∷ 7 ∷ 2 ∷ []) 1 ≡ record { page = 7; offset = 0 }
+  pub last_of_page : spread_spot 256 long (4 ∷ 7 ∷ 2 ∷ []) 256 ≡ record { page = 7; offset = 255 }
+  pub last_element : spread_spot 256 long (4 ∷ 7 ∷ 2 ∷ []) 257 ≡ record { page = 2; offset = 0 }
+  pub first_number : spread_spot 256 long (4 ∷ 7 ∷ 2 ∷ []) 258 ≡ record { page = 4; offset = 1 }
+  pub holds_length : spread_opening long (4 ∷ 7 ∷ 2 ∷ []) 0 ≡ 257
+  pub holds_number : spread_opening long (4 ∷ 7 ∷ 2 ∷ []) 259 ≡ 3
+  -- a structure has no word before its fields, and a channel two before its places
+  pub struct_words : words_before (StructObject (value.Nil ∷ [])) ≡ 0
+  pub channel_words : words_before (Channel 300 [] false) ≡ 2
   -- ---- records
+  pub reserves : (with_reserved (with_reserved first_record 4 1) 7 1).reserved.pages ≡ 4 ∷ 7 ∷ []
+  pub reserves_alone : (with_reserved first_record 4 1).fills ≡ []
+  pub gives_all_up : (with_object_apart (with_reserved first_record 4 1)).reserved.pages ≡ []
   pub owns : Owns (with_one ∷ []) 0 (record { slot = 1; page = 3; fill = 0 })
   pub owns_not : (f : Fill) → Owns (first_record ∷ []) 0 f → ⊥
   pub drops : (without_slot with_one 1).fills ≡ []

@@ -1,5 +1,5 @@
 -- When the region machine has the step of an access, an allocation or a claim.
-use Rattle.std.specs.Prelude.{◌≡◌, ℕ, ◌+◌, ◌<◌, ◌≤◌, true, List, [], length, Some, None, slice_get}
+use Rattle.std.specs.Prelude.{◌≡◌, ℕ, ◌+◌, ◌<◌, ◌≤◌, false, true, List, [], length, Some, None, slice_get}
 use Rattle.rgo_sound.specs.Typed.declared.actions.Action.{Action}
 use Rattle.rgo_sound.specs.Code.Checked.{IsChecked}
 use Rattle.rgo_sound.specs.Code.Code.{Code}
@@ -12,7 +12,7 @@ use Rattle.rgo_sound.specs.Tac.Steps.{type_of}
 use Rattle.rgo_sound.specs.Memory.declared.values.Value.{Value}
 use Rattle.rgo_sound.specs.RegionMachine.Duties.{may_go}
 use Rattle.rgo_sound.specs.RegionMachine.Machine.{Instruct, TakePage, region_step}
-use Rattle.rgo_sound.specs.RegionMachine.Objects.{words, fill_of}
+use Rattle.rgo_sound.specs.RegionMachine.Objects.{data_pages, fill_of, is_spread, is_too_large, words}
 use Rattle.rgo_sound.specs.RegionMachine.States.{Holder, RegionState}
 use Rattle.rgo_sound.specs.RegionMachine.declared.regions.Region.{Region}
 use Rattle.rgo_sound.specs.Good.{AllGood}
@@ -38,6 +38,21 @@ PageExists = (code : Code) (page_words : ℕ) (s : RegionState) (g : ℕ) (h : H
     → AllGood code s → Settled s g h
     → MakesNext code s g h r object → words object ≤ page_words → ((n : ℕ) → fill_of h.fills r ≡ Some n
     → page_words < n + words object)
+    → (t : RegionState) × (region_step code page_words s (TakePage g) ≡ Some t)
+
+-- a spread object that is not too large can be made in its pages; and one of these can be taken, if they are not all taken
+abbrev pub AllocationExistsApart : Type 0
+AllocationExistsApart = (code : Code) (page_words : ℕ) (s : RegionState) (g : ℕ) (h : Holder) (r : Region)
+    (object : Object) → AllGood code s → Settled s g h
+    → MakesNext code s g h r object → is_spread page_words object ≡ true → is_too_large page_words object ≡ false
+    → data_pages page_words object < h.reserved
+    → (t : RegionState) × (region_step code page_words s (Instruct (One g)) ≡ Some t)
+
+abbrev pub ReservedPageExists : Type 0
+ReservedPageExists = (code : Code) (page_words : ℕ) (s : RegionState) (g : ℕ) (h : Holder) (r : Region)
+    (object : Object) → AllGood code s → Settled s g h
+    → MakesNext code s g h r object → is_spread page_words object ≡ true → is_too_large page_words object ≡ false
+    → h.reserved ≤ data_pages page_words object
     → (t : RegionState) × (region_step code page_words s (TakePage g) ≡ Some t)
 
 -- an action that makes no object, does not trap and need not wait

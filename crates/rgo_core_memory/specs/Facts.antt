@@ -1,8 +1,9 @@
 -- What the crates above need of the image: addresses, bounds, what a search in vain says, and the words of channels.
-use Rattle.std.specs.Prelude.{◌≡◌, ◌≢◌, ℕ, suc, ◌+◌, ◌<◌, ◌≤◌, true, List, length, None, slice_set, slice_index}
+use Rattle.std.specs.Prelude.{◌≡◌, ◌≢◌, ℕ, suc, ◌+◌, ◌/◌, ◌%◌, ◌<◌, ◌≤◌, false, true, List, length, None, slice_set, slice_index}
 use Rattle.rgo_sound.specs.Code.Code.{Code}
 use Rattle.rgo_sound.specs.Memory.Memory.{Object}
-use Rattle.rgo_sound.specs.RegionMachine.Objects.{words as words_in}
+use Rattle.rgo_sound.specs.RegionMachine.Objects.{words as words_in, cells, data_pages, is_spread}
+use Rattle.rgo_core_memory.specs.Spread.{table_words, words_before}
 use Rattle.rgo_sound.specs.RegionMachine.Regions.{is_live}
 use Rattle.rgo_sound.specs.RegionMachine.Room.{live_regions, pages_in_use}
 use Rattle.rgo_sound.specs.RegionMachine.States.{RegionState}
@@ -26,14 +27,27 @@ abbrev pub OneAddress : Type 0
 OneAddress = (z : TableSizes) (words : List ℕ) (recs : List Rec) (s : RegionState) (places : Where)
     → Memory z words recs s places
     → (o p : ℕ) (a b : Object) (r q : Region) → StandsIn s o a r → StandsIn s p b q
-    → address z places.spot o ≡ address z places.spot p → o ≡ p
+    → address z places.start o ≡ address z places.start p → o ≡ p
 
--- the words of an object follow one another from its address on, in the table
+-- the words of an object that is not spread follow one another from its address on, in the table
 abbrev pub WordsFollow : Type 0
 WordsFollow = (z : TableSizes) (words : List ℕ) (recs : List Rec) (s : RegionState) (places : Where)
     → Memory z words recs s places
-    → (o i : ℕ) (object : Object) (r : Region) → StandsIn s o object r → i < words_in object
-    → (word_at z places o i ≡ base z + (address z places.spot o + i)) × (word_at z places o i < all_words z)
+    → (o i : ℕ) (object : Object) (r : Region) → StandsIn s o object r → is_spread z.page_words object ≡ false
+    → i < words_in object → (word_at z places o i ≡ base z + (address z places.start o + i)) × (word_at z places o i < all_words z)
+
+-- The words of a spread object before its cells, and then the page numbers, follow one another from its address on. These
+-- lead to its cells.
+abbrev pub SpreadFollows : Type 0
+SpreadFollows = (z : TableSizes) (words : List ℕ) (recs : List Rec) (s : RegionState) (places : Where)
+    → Memory z words recs s places
+    → (o : ℕ) (object : Object) (r : Region) → StandsIn s o object r → is_spread z.page_words object ≡ true
+    → (pages : List ℕ)
+    × ((i : ℕ) → i < words_before object → word_at z places o i ≡ base z + (address z places.start o + i))
+    × ((j : ℕ) → j < data_pages z.page_words object
+    → slice_index words (base z + (address z places.start o + (words_before object + j))) ≡ suc (slice_index pages (suc j)))
+    × ((i : ℕ) → i < cells object → word_at z places o (words_before object + i)
+    ≡ cell_at z (slice_index pages (i / z.page_words + 1)) (i % z.page_words))
 
 -- the count of a live region is small
 abbrev pub CountIsSmall : Type 0
@@ -68,17 +82,18 @@ UntoldKeeps = (z : TableSizes) (words : List ℕ) (recs : List Rec) (x : Ground)
 abbrev pub QueueKeeps : Type 0
 QueueKeeps = (z : TableSizes) (words : List ℕ) (recs : List Rec) (x : Ground) (places : Where)
     → Image z words recs x places → (o : ℕ) (object : Object) (r : Region)
-    → Stands x.heap x.owners x.regions o object r → (after : Object) → words_in after ≡ words_in object → ((j : ℕ)
+    → Stands x.heap x.owners x.regions o object r → (after : Object) → words_in after ≡ words_in object
+    → cells after ≡ cells object → ((j : ℕ)
     → content after j ≡ content object j)
     → Image z words recs (stored x o after) places
 
--- no two words of objects are one word of the list, and none is a word above the fill of an own page
+-- no two words of objects, page numbers among them, are one word of the list, and none is a word above the fill of an own page
 abbrev pub WordsDiffer : Type 0
 WordsDiffer = (z : TableSizes) (words : List ℕ) (recs : List Rec) (x : Ground) (places : Where)
     → Image z words recs x places
     → ((o p i j : ℕ) (a b : Object) (r q : Region) → Stands x.heap x.owners x.regions o a r
     → Stands x.heap x.owners x.regions p b q
-    → i < words_in a → j < words_in b → (o ≡ p → i ≡ j → ⊥) → word_at z places o i ≢ word_at z places p j)
+    → i < table_words z.page_words a → j < table_words z.page_words b → (o ≡ p → i ≡ j → ⊥) → word_at z places o i ≢ word_at z places p j)
     × ((g o i j : ℕ) (f : Fill) (a : Object) (r : Region) → Owns recs g f → Stands x.heap x.owners x.regions o a r
-    → i < words_in a → f.fill + j < z.page_words
+    → i < table_words z.page_words a → f.fill + j < z.page_words
     → cell_at z f.page (f.fill + j) ≢ word_at z places o i)

@@ -12,10 +12,11 @@ use Rattle.rgo_sound.specs.RegionMachine.declared.regions.Region.TheVariants.{Gl
 use Rattle.rgo_sound.specs.Stakes.{is_in}
 use Rattle.rgo_core_memory.specs.Encoding.{content}
 
--- a goroutine's stakes, and how much of its own pages it has filled
+-- a goroutine's stakes, how much of its own pages it has filled, and how many pages it has for a spread object that it makes
 pub record Held : Type 0 where
   pub stakes : List ℕ
   pub fills : List (Region × ℕ)
+  pub reserved : ℕ
 
 pub record Ground : Type 0 where
   pub heap : List Object
@@ -27,7 +28,7 @@ pub record Ground : Type 0 where
   pub held : List Held
 
 abbrev pub held_of : Holder → Held
-held_of h = record { stakes = h.stakes; fills = h.fills }
+held_of h = record { stakes = h.stakes; fills = h.fills; reserved = h.reserved }
 
 abbrev pub ground_of : RegionState → Ground
 ground_of s = record {
@@ -74,15 +75,29 @@ made x g h r object n = record x {
   held = slice_set x.held g (record h { fills = with_fill h.fills r n });
 }
 
-abbrev pub page_taken : Ground → ℕ → Held → Region → Ground
-page_taken x g h GlobalRegion = record x {
-  global_pages = x.global_pages + 1;
-  held = slice_set x.held g (record h { fills = with_fill h.fills GlobalRegion 0 });
+-- the same of a spread object, in the pages that were taken for it
+abbrev pub made_apart : Ground → ℕ → Held → Region → Object → Ground
+made_apart x g h r object = record x {
+  heap = x.heap ++ object ∷ [];
+  owners = x.owners ++ r ∷ [];
+  held = slice_set x.held g (record h { reserved = 0 });
 }
-page_taken x g h (Numbered k) = record x {
+
+-- a page is taken, after which the goroutine holds this
+abbrev pub one_page : Ground → ℕ → Held → Region → Ground
+one_page x g h GlobalRegion = record x { global_pages = x.global_pages + 1; held = slice_set x.held g h }
+one_page x g h (Numbered k) = record x {
   regions = with_info x.regions k one_page_more;
-  held = slice_set x.held g (record h { fills = with_fill h.fills (Numbered k) 0 });
+  held = slice_set x.held g h;
 }
+
+-- the page is filled from its beginning
+abbrev pub page_taken : Ground → ℕ → Held → Region → Ground
+page_taken x g h r = one_page x g (record h { fills = with_fill h.fills r 0 }) r
+
+-- it is for a spread object
+abbrev pub page_reserved : Ground → ℕ → Held → Region → Ground
+page_reserved x g h r = one_page x g (record h { reserved = h.reserved + 1 }) r
 
 abbrev pub created : Ground → ℕ → Held → Ground
 created x g h = record x {

@@ -17,6 +17,8 @@ pub record Where : Type 0 where
   pub uses : ℕ → Use
   -- the spot of each word of each object
   pub spot : ℕ → ℕ → Spot
+  -- where each object begins
+  pub start : ℕ → Spot
   -- where each page is, the pages of each chain, the true next of each page and head of each chain
   pub at : ℕ → Place
   pub chain : ℕ → List ℕ
@@ -28,7 +30,7 @@ pub record Where : Type 0 where
 pub record Image (z : TableSizes) (words : List ℕ) (recs : List Rec) (x : Ground) (a : Where) : Type 0 where
   pub w : Words
   pub shows : Shows z words w
-  pub lies : Lies z w.variable w.cell x.variables x.heap x.owners x.regions a.spot
+  pub lies : Lies z w.variable w.cell x.variables x.heap x.owners x.regions a.spot a.start
   pub own : Own z w.state w.cell recs x.heap x.owners x.regions a.slot a.spot
   pub filled : Filled z recs x.held (length x.regions) a.slot
   pub counts : Counts z w.count a.top recs x.regions a.slot a.uses
@@ -45,4 +47,4 @@ abbrev pub word_at : TableSizes → Where → ℕ → ℕ → ℕ
 word_at z places o i = cell_at z (places.spot o i).page (places.spot o i).offset
 
 abbrev pub code_of : TableSizes → Where → Value → ℕ
-code_of z places v = encode (address z places.spot) v
+code_of z places v = encode (address z places.start) v

@@ -16,4 +16,5 @@ pub mod Pages
 pub mod Parts
 pub mod Quiet
 pub mod Records
+pub mod Spread
 pub mod Words

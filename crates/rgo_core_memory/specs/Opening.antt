@@ -14,7 +14,17 @@ abbrev pub first_words : TableSizes → List ℕ
 first_words z = slice_set (slice_set (replicate (all_words z) 0) made_at 1) (count_at z z.slots) 2
 
 abbrev pub first_record : Rec
-first_record = record { fills = []; make = Rest; claim = Idle; give = Calm; tried_pages = []; tried_slots = []; measured = None }
+first_record = record {
+  fills = [];
+  reserved = record { slot = 0; pages = [] };
+  make = Rest;
+  claim = Idle;
+  give = Calm;
+  tried_pages = [];
+  tried_slots = [];
+  measured = None;
+  located = None;
+}
 
 -- no region, no object, and each page is free
 abbrev pub nowhere : Where
@@ -22,6 +32,7 @@ nowhere = record {
   slot = λ k. 0;
   uses = λ s. Vacant;
   spot = λ o i. record { page = 0; offset = 0 };
+  start = λ o. record { page = 0; offset = 0 };
   at = λ p. Free;
   chain = λ r. [];
   link = λ p. 0;

@@ -1,37 +1,53 @@
 -- The parts of the image: objects, own pages, fills, counts, and the numbering of creations and of pages taken.
-use Rattle.std.specs.Prelude.{◌≡◌, ◌⊎◌, ℕ, zero, suc, ◌==◌, if◌then◌else◌, ◌+◌, ◌<◌, ◌≤◌, List, [], length, Some, slice_get}
+use Rattle.std.specs.Prelude.{◌≡◌, ◌≢◌, ◌⊎◌, ℕ, zero, suc, ◌==◌, if◌then◌else◌, ◌+◌, ◌<◌, ◌≤◌, List, [], length, Some, true, false}
+use Rattle.std.specs.Prelude.{slice_get, slice_index}
 use Rattle.rgo_sound.specs.Memory.declared.values.Value.{Value}
 use Rattle.rgo_sound.specs.Memory.Memory.{Object}
-use Rattle.rgo_sound.specs.RegionMachine.Objects.{words, fill_of}
+use Rattle.rgo_sound.specs.RegionMachine.Objects.{words, fill_of, data_pages, is_spread, is_too_large}
+use Rattle.rgo_sound.specs.RegionMachine.Room.{pages_of}
 use Rattle.rgo_sound.specs.RegionMachine.Regions.{RegionInfo}
 use Rattle.rgo_sound.specs.RegionMachine.declared.regions.Region.{Region}
 use Rattle.rgo_sound.specs.RegionMachine.declared.regions.Region.TheVariants.{Global as GlobalRegion, Numbered}
 use Rattle.rgo_core_memory.specs.declared.layout.TableSizes.{TableSizes}
 use Rattle.rgo_core_memory.specs.Encoding.{Spot, address, encode, content, IsPlain, opening}
 use Rattle.rgo_core_memory.specs.Ground.{Held, Stands, Uses}
-use Rattle.rgo_core_memory.specs.Records.{Fill, Rest, Amid, Rec, Has, Within, Owns, Claims, Closes}
+use Rattle.rgo_core_memory.specs.Records.{Fill, Rest, Amid, Across, Rec, Has, Within, Owns, Claims, Closes}
+use Rattle.rgo_core_memory.specs.Spread.{lead_spot, table_words, spread_spot, spread_opening}
 use Rattle.rgo_core_memory.specs.Pages.{times}
 
 -- ---- objects and package variables
 
+-- the object is spread over these pages: where its words are, and which page numbers its lead page has
+pub record SpreadOver (z : TableSizes) (cell : ℕ → ℕ → ℕ) (spots : ℕ → Spot) (start : Spot) (object : Object)
+    (pages : List ℕ) : Type 0
+  where
+    pub begins : start ≡ lead_spot pages 0
+    pub many : length pages ≡ pages_of z.page_words object
+    pub laid : (i : ℕ) → i < table_words z.page_words object → spots i ≡ spread_spot z.page_words object pages i
+    pub numbers : (j : ℕ) → j < data_pages z.page_words object
+        → cell (spots (words object + j)).page (spots (words object + j)).offset ≡ suc (slice_index pages (suc j))
+
 pub record Lies (z : TableSizes) (variable : ℕ → ℕ) (cell : ℕ → ℕ
     → ℕ) (values : List Value) (heap : List Object) (owners : List Region)
-    (regions : List RegionInfo) (spot : ℕ → ℕ → Spot) : Type 0 where
+    (regions : List RegionInfo) (spot : ℕ → ℕ → Spot) (start : ℕ → Spot) : Type 0 where
   -- each word of a live object is a word of a page
-  pub inside : (o i : ℕ) (object : Object) (r : Region) → Stands heap owners regions o object r → i < words object
-      → ((spot o i).page < z.pages) × ((spot o i).offset < z.page_words)
+  pub inside : (o i : ℕ) (object : Object) (r : Region) → Stands heap owners regions o object r
+      → i < table_words z.page_words object → ((spot o i).page < z.pages) × ((spot o i).offset < z.page_words)
   -- and holds its value
   pub shows : (o i : ℕ) (object : Object) (r : Region) (v : Value) → Stands heap owners regions o object r
-      → content object i ≡ Some v → cell (spot o i).page (spot o i).offset ≡ encode (address z spot) v
+      → content object i ≡ Some v → cell (spot o i).page (spot o i).offset ≡ encode (address z start) v
   -- no two words share one
   pub apart : (o p i j : ℕ) (object other : Object) (r s : Region) → Stands heap owners regions o object r
-      → Stands heap owners regions p other s → i < words object → j < words other → (spot o i).page ≡ (spot p j).page
+      → Stands heap owners regions p other s → i < table_words z.page_words object → j < table_words z.page_words other
+      → (spot o i).page ≡ (spot p j).page
       → (spot o i).offset ≡ (spot p j).offset → (o ≡ p) × (i ≡ j)
-  -- an object lies in one row
-  pub row : (o i : ℕ) (object : Object) (r : Region) → Stands heap owners regions o object r → i < words object
-      → ((spot o i).page ≡ (spot o 0).page) × ((spot o i).offset ≡ (spot o 0).offset + i)
+  -- an object that is not spread lies in one row
+  pub row : (o i : ℕ) (object : Object) (r : Region) → Stands heap owners regions o object r
+      → is_spread z.page_words object ≡ false → i < words object → ((spot o i).page ≡ (start o).page) × ((spot o i).offset ≡ (start o).offset + i)
+  pub spread : (o : ℕ) (object : Object) (r : Region) → Stands heap owners regions o object r
+      → is_spread z.page_words object ≡ true → (pages : List ℕ) × SpreadOver z cell (spot o) (start o) object pages
   pub variables : (n : ℕ) (v : Value) → slice_get values n ≡ Some v
-      → (n < z.variables) × (variable n ≡ encode (address z spot) v)
+      → (n < z.variables) × (variable n ≡ encode (address z start) v)
   -- an object's region was made
   pub made : (o k : ℕ) → slice_get owners o ≡ Some (Numbered k) → k < length regions
 
@@ -48,6 +64,31 @@ pub record Amidst (z : TableSizes) (cell : ℕ → ℕ → ℕ) (f : Fill) (obje
   pub plain : (i : ℕ) (v : Value) → content object i ≡ Some v → IsPlain v
   pub laid : (i : ℕ) → i < words object → 0 < times i stored → cell f.page (f.fill + i) ≡ opening (content object i)
 
+-- the same of a spread object, in these pages
+pub record Strewn (z : TableSizes) (cell : ℕ → ℕ → ℕ) (pages : List ℕ) (object : Object) (stored : List ℕ) : Type 0 where
+  pub spread : is_spread z.page_words object ≡ true
+  pub small : is_too_large z.page_words object ≡ false
+  pub many : length pages ≡ pages_of z.page_words object
+  pub plain : (i : ℕ) (v : Value) → content object i ≡ Some v → IsPlain v
+  pub laid : (i : ℕ) → i < table_words z.page_words object → 0 < times i stored
+      → cell (spread_spot z.page_words object pages i).page (spread_spot z.page_words object pages i).offset
+      ≡ spread_opening object pages i
+
+-- Pages for spread objects are nobody's own. Reserved pages are claimed for their slot, each once, and hold no other object.
+pub record Apart (z : TableSizes) (states : ℕ → ℕ) (cell : ℕ → ℕ → ℕ) (recs : List Rec) (heap : List Object)
+    (owners : List Region) (regions : List RegionInfo) (spot : ℕ → ℕ → Spot) : Type 0 where
+  pub nobody : (g o i : ℕ) (f : Fill) (object : Object) (r : Region) → Owns recs g f
+      → Stands heap owners regions o object r → is_spread z.page_words object ≡ true
+      → i < table_words z.page_words object → (spot o i).page ≢ f.page
+  pub claimed : (g p : ℕ) (c : Rec) → Has recs g c → Within p c.reserved.pages → states p ≡ suc c.reserved.slot
+  pub unowned : (g h p : ℕ) (c : Rec) (f : Fill) → Has recs g c → Within p c.reserved.pages → Owns recs h f → f.page ≢ p
+  pub once : (g h k l p : ℕ) (c d : Rec) → Has recs g c → Has recs h d → slice_get c.reserved.pages k ≡ Some p
+      → slice_get d.reserved.pages l ≡ Some p → (g ≡ h) × (k ≡ l)
+  pub empty : (g o i p : ℕ) (c : Rec) (object : Object) (r : Region) → Has recs g c → Within p c.reserved.pages
+      → Stands heap owners regions o object r → i < table_words z.page_words object → (spot o i).page ≢ p
+  pub strewn : (g : ℕ) (c : Rec) (object : Object) (stored : List ℕ) → Has recs g c → c.make ≡ Across object stored
+      → Strewn z cell c.reserved.pages object stored
+
 pub record Own (z : TableSizes) (states : ℕ → ℕ) (cell : ℕ → ℕ
     → ℕ) (recs : List Rec) (heap : List Object) (owners : List Region)
     (regions : List RegionInfo) (slot : ℕ → ℕ) (spot : ℕ → ℕ → Spot) : Type 0 where
@@ -55,8 +96,8 @@ pub record Own (z : TableSizes) (states : ℕ → ℕ) (cell : ℕ → ℕ
   -- a page is claimed for a slot that there is; the last one is Global's
   pub for_slots : (p : ℕ) → states p ≤ suc z.slots
   -- a word of an object lies in a page of its region
-  pub homes : (o i : ℕ) (object : Object) (r : Region) → Stands heap owners regions o object r → i < words object
-      → states (spot o i).page ≡ suc (slot_of z slot r)
+  pub homes : (o i : ℕ) (object : Object) (r : Region) → Stands heap owners regions o object r
+      → i < table_words z.page_words object → states (spot o i).page ≡ suc (slot_of z slot r)
   -- own pages are claimed for their slot, and nobody else's
   pub claimed : (g : ℕ) (f : Fill) → Owns recs g f → states f.page ≡ suc f.slot
   pub alone : (g h : ℕ) (e f : Fill) → Owns recs g e → Owns recs h f → e.page ≡ f.page → (g ≡ h) × (e ≡ f)
@@ -64,9 +105,10 @@ pub record Own (z : TableSizes) (states : ℕ → ℕ) (cell : ℕ → ℕ
   -- nothing lies above the fill
   pub under : (g o i : ℕ) (f : Fill) (object : Object) (r : Region) → Owns recs g f
       → Stands heap owners regions o object r
-      → i < words object → (spot o i).page ≡ f.page → (spot o i).offset < f.fill
+      → i < table_words z.page_words object → (spot o i).page ≡ f.page → (spot o i).offset < f.fill
   pub amids : (g : ℕ) (c : Rec) (f : Fill) (object : Object) (stored : List ℕ) → Has recs g c
       → c.make ≡ Amid f object stored → Within f c.fills × Amidst z cell f object stored
+  pub apart : Apart z states cell recs heap owners regions spot
 
 -- the goroutine makes this object, and these of its words were stored
 abbrev pub Makes : TableSizes → Rec → Fill → Object → List ℕ → Type 0
@@ -74,9 +116,20 @@ Makes z c f object stored = (c.make ≡ Amid f object stored)
     ⊎ ((c.make ≡ Rest) × (stored ≡ []) × Within f c.fills × (f.fill + words object ≤ z.page_words)
     × ((i : ℕ) (v : Value) → content object i ≡ Some v → IsPlain v))
 
+-- the same of a spread object
+abbrev pub MakesApart : TableSizes → Rec → Object → List ℕ → Type 0
+MakesApart z c object stored = (c.make ≡ Across object stored)
+    ⊎ ((c.make ≡ Rest) × (stored ≡ []) × (is_spread z.page_words object ≡ true)
+    × (is_too_large z.page_words object ≡ false) × (length c.reserved.pages ≡ pages_of z.page_words object)
+    × ((i : ℕ) (v : Value) → content object i ≡ Some v → IsPlain v))
+
 -- all of its words
 abbrev pub Covers : Object → List ℕ → Type 0
 Covers object stored = (i : ℕ) → i < words object → 0 < times i stored
+
+-- the page numbers of a spread object too
+abbrev pub CoversApart : TableSizes → Object → List ℕ → Type 0
+CoversApart z object stored = (i : ℕ) → i < table_words z.page_words object → 0 < times i stored
 
 -- ---- fills, and where there are stakes
 
@@ -97,6 +150,12 @@ pub record Filled (z : TableSizes) (recs : List Rec) (held : List Held) (creatio
   pub single : (g : ℕ) (e f : Fill) → Owns recs g e → Owns recs g f → e.slot ≡ f.slot → e ≡ f
   -- pages are claimed where there is a stake
   pub claims : (g s : ℕ) (c : Rec) → Has recs g c → Claims c.claim s → StakeAt z held slot g s
+  -- the reserved pages are as many as the goroutine has reserved, in a region that it uses
+  pub reserved : (g : ℕ) (c : Rec) → Has recs g c → 0 < length c.reserved.pages
+      → (h : Held) × (r : Region) × (slice_get held g ≡ Some h) × Uses h r × (slot_of z slot r ≡ c.reserved.slot)
+      × (h.reserved ≡ length c.reserved.pages)
+  pub recorded : (g : ℕ) (h : Held) → slice_get held g ≡ Some h → 0 < h.reserved
+      → (c : Rec) × Has recs g c × (h.reserved ≡ length c.reserved.pages)
   -- what was filled was made
   pub made : (g k n : ℕ) (h : Held) → slice_get held g ≡ Some h → fill_of h.fills (Numbered k) ≡ Some n → k < creations
 

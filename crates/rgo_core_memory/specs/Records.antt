@@ -1,6 +1,6 @@
 -- What the record of a goroutine has of memory: its own pages, the object that it makes, the page that it claims, and the
 -- chain that it gives back.
-use Rattle.std.specs.Prelude.{◌≡◌, ℕ, List, [], ◌∷◌, Option, Some, slice_get, nat_eq, if◌then◌else◌}
+use Rattle.std.specs.Prelude.{◌≡◌, ℕ, List, [], ◌∷◌, ◌++◌, Option, Some, slice_get, nat_eq, if◌then◌else◌}
 use Rattle.rgo_sound.specs.Memory.Memory.{Object}
 
 -- an own page, claimed for a slot, and how many words of it are filled
@@ -9,10 +9,17 @@ pub record Fill : Type 0 where
   pub page : ℕ
   pub fill : ℕ
 
--- nothing; or an object behind what is filled of an own page, with the numbers of its words stored so far
+-- the pages claimed for a slot and for a spread object that is made there, the lead page first
+pub record Reserved : Type 0 where
+  pub slot : ℕ
+  pub pages : List ℕ
+
+-- nothing; an object behind what is filled of an own page, with the numbers of its words stored so far; or the same of a
+-- spread object, in the reserved pages
 pub data Make : Type 0 where
   Rest : Make
   Amid : (fill : Fill) (object : Object) (stored : List ℕ) → Make
+  Across : (object : Object) (stored : List ℕ) → Make
 
 -- nothing; a page that is claimed for a slot; or one that was put at its head before `old`, with its next word not yet stored
 pub data Claim : Type 0 where
@@ -36,8 +43,16 @@ pub record Measured : Type 0 where
   pub elements : ℕ
   pub steps : ℕ
 
+-- The data page that has a cell of a spread object, read from its lead page; the object has this address. `steps` is as above.
+pub record Located : Type 0 where
+  pub address : ℕ
+  pub cell : ℕ
+  pub page : ℕ
+  pub steps : ℕ
+
 pub record Rec : Type 0 where
   pub fills : List Fill
+  pub reserved : Reserved
   pub make : Make
   pub claim : Claim
   pub give : Give
@@ -46,6 +61,8 @@ pub record Rec : Type 0 where
   pub tried_slots : List ℕ
   -- the slice whose length it has read last
   pub measured : Option Measured
+  -- the cell whose data page it has read last
+  pub located : Option Located
 
 -- goroutine g has this record
 abbrev pub Has : List Rec → ℕ → Rec → Type 0
@@ -91,6 +108,11 @@ dropped s (f ∷ fs) = if nat_eq s f.slot then dropped s fs else f ∷ dropped s
 abbrev pub with_page : Rec → ℕ → ℕ → Rec
 with_page c p s = record c { fills = record { slot = s; page = p; fill = 0 } ∷ dropped s c.fills; claim = Got p s }
 
+-- a page was claimed for a spread object
+abbrev pub with_reserved : Rec → ℕ → ℕ → Rec
+with_reserved c p s =
+    record c { reserved = record { slot = s; pages = c.reserved.pages ++ p ∷ [] }; claim = Got p s }
+
 abbrev pub with_claim : Rec → Claim → Rec
 with_claim c claim = record c { claim = claim }
 
@@ -100,6 +122,10 @@ with_give c give = record c { give = give }
 -- a length was read
 abbrev pub with_measured : Rec → Measured → Rec
 with_measured c m = record c { measured = Some m }
+
+-- a page number was read
+abbrev pub with_located : Rec → Located → Rec
+with_located c l = record c { located = Some l }
 
 -- a stake there has ended
 abbrev pub without_slot : Rec → ℕ → Rec
@@ -123,3 +149,10 @@ with_word c f object stored = record c { make = Amid f object stored }
 
 abbrev pub with_object : Rec → ℕ → ℕ → Rec
 with_object c s n = record c { fills = raised s n c.fills; make = Rest }
+
+-- the same of a spread object
+abbrev pub with_word_apart : Rec → Object → List ℕ → Rec
+with_word_apart c object stored = record c { make = Across object stored }
+
+abbrev pub with_object_apart : Rec → Rec
+with_object_apart c = record c { reserved = record c.reserved { pages = [] }; make = Rest }

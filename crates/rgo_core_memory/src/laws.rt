@@ -1,15 +1,15 @@
 //! What each atomic step on the table's memory keeps.
 
-ghost use Rattle.rgo_core_memory.specs.Allocations.{AllocationKeeps, WordKeeps};
-ghost use Rattle.rgo_core_memory.specs.Chains.{ClearKeeps, ForgetKeeps, FreeKeeps, HangKeeps, HeadKeeps, LinkKeeps, MeasuredKeeps, NextKeeps, SlotKeeps, TriedPageKeeps, TriedSlotKeeps};
+ghost use Rattle.rgo_core_memory.specs.Allocations.{AllocationKeeps, AllocationKeepsApart, WordKeeps, WordKeepsApart};
+ghost use Rattle.rgo_core_memory.specs.Chains.{ClearKeeps, ForgetKeeps, FreeKeeps, HangKeeps, HeadKeeps, LinkKeeps, LocatedKeeps, MeasuredKeeps, NextKeeps, SlotKeeps, TriedPageKeeps, TriedSlotKeeps};
 ghost use Rattle.rgo_core_memory.specs.Elsewhere.{ClockKeeps, GroundKeeps, NumberKeeps};
 ghost use Rattle.rgo_core_memory.specs.Examples.{MemoryExamples};
-ghost use Rattle.rgo_core_memory.specs.Events.{CreateKeeps, LastLeaveKeeps, LeaveKeeps, PageKeeps, ShareKeeps};
+ghost use Rattle.rgo_core_memory.specs.Events.{CreateKeeps, LastLeaveKeeps, LeaveKeeps, PageKeeps, ReservedPageKeeps, ShareKeeps};
 ghost use Rattle.rgo_core_memory.specs.Laws.{AtLaw, GetLaw, LenLaw, LoadLaw, PutLaw, SetLaw, StoreLaw};
 ghost use Rattle.rgo_core_memory.specs.Opening.{Opens};
-ghost use Rattle.rgo_core_memory.specs.Facts.{AllFound, CountIsSmall, OneAddress, QueueKeeps, SomeLeft, UntoldKeeps, WordsFollow};
+ghost use Rattle.rgo_core_memory.specs.Facts.{AllFound, CountIsSmall, OneAddress, QueueKeeps, SomeLeft, SpreadFollows, UntoldKeeps, WordsFollow};
 ghost use Rattle.rgo_core_memory.specs.Quiet.{QuietKeeps, StartKeeps};
-ghost use Rattle.rgo_core_memory.specs.Exists.{AccessExists, AllocationExists, PageExists};
+ghost use Rattle.rgo_core_memory.specs.Exists.{AccessExists, AllocationExists, AllocationExistsApart, PageExists, ReservedPageExists};
 ghost use Rattle.rgo_core_memory.specs.Facts.{WordsDiffer};
 ghost use Rattle.rgo_core_memory.specs.Owed.{StillClaimed, StillOwed};
 
@@ -53,14 +53,29 @@ pub fn word_law()
     ensures { WordKeeps }
 {}
 
+/// The same for a spread object.
+pub fn word_apart_law()
+    ensures { WordKeepsApart }
+{}
+
 /// The last opening store is the instruction that makes the object.
 pub fn allocation_law()
     ensures { AllocationKeeps }
 {}
 
+/// The same for a spread object.
+pub fn allocation_apart_law()
+    ensures { AllocationKeepsApart }
+{}
+
 /// The exchange of a free page state takes a page.
 pub fn page_law()
     ensures { PageKeeps }
+{}
+
+/// The same for a spread object.
+pub fn reserved_page_law()
+    ensures { ReservedPageKeeps }
 {}
 
 /// A page was found claimed.
@@ -218,6 +233,11 @@ pub fn measured_law()
     ensures { MeasuredKeeps }
 {}
 
+/// The number of a data page was read.
+pub fn located_law()
+    ensures { LocatedKeeps }
+{}
+
 /// The clock is no word of memory.
 pub fn clock_law()
     ensures { ClockKeeps }
@@ -236,4 +256,19 @@ pub fn ground_law()
 /// A small table: where its words are, how it opens, and what is no image.
 pub fn examples()
     ensures { MemoryExamples }
+{}
+
+/// The lead page of a spread object leads from its address to its cells.
+pub fn spread_follows_law()
+    ensures { SpreadFollows }
+{}
+
+/// A spread object can be made when all of its pages were taken.
+pub fn allocation_exists_apart_law()
+    ensures { AllocationExistsApart }
+{}
+
+/// Before that, a page can be taken for it.
+pub fn reserved_page_exists_law()
+    ensures { ReservedPageExists }
 {}

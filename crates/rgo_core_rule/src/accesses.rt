@@ -9,6 +9,10 @@ pub enum Kind {
     Store,
     /// A store of the first value of a word of an object that is being made.
     Fill,
+    /// A store of a page number in the lead page of an object that is being made.
+    StoreIndex,
+    /// A load of a page number from the lead page of an object.
+    LoadIndex,
     /// An exchange that claims a page if it is free.
     ClaimPage,
     /// A swap that puts a claimed page at the head of a chain.

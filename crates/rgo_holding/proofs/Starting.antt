@@ -381,6 +381,7 @@ bases_more slots stakes k l known found i d key within tracks shows apart at add
       environments = e ∷ [];
       base = map Numbered (reverse (take i found));
       fills = [];
+      reserved = 0;
       duties = [];
       offer = NoOffer;
     }) [] (Numbered (get_or found i d)) h

@@ -47,7 +47,7 @@ abbrev pub bare : Environment
 bare = environment_of NoClass []
 
 abbrev pub holder_of : List Environment → Holder
-holder_of es = record { stakes = 2 ∷ []; pending = []; environments = es; base = []; fills = []; duties = []; offer = NoOffer }
+holder_of es = record { stakes = 2 ∷ []; pending = []; environments = es; base = []; fills = []; reserved = 0; duties = []; offer = NoOffer }
 
 abbrev pub frame : (height : ℕ) → Named
 frame n = record { height = n; keys = None ∷ Some second ∷ [] }

@@ -1,0 +1,5 @@
+use Rattle.rgo_core_frames.proofs.Reserving.{reserved_law}
+use Rattle.rgo_core_frames.proofs.laws.reserved_law.Goals as goal
+
+pub returns : goal.returns
+returns c = reserved_law

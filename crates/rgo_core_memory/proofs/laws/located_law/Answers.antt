@@ -1,0 +1,5 @@
+use Rattle.rgo_core_memory.proofs.Keeps.{located_keeps}
+use Rattle.rgo_core_memory.proofs.laws.located_law.Goals as goal
+
+pub returns : goal.returns
+returns c = located_keeps

@@ -1,0 +1,5 @@
+use Rattle.rgo_core_memory.proofs.Allocating.{word_keeps_apart}
+use Rattle.rgo_core_memory.proofs.laws.word_apart_law.Goals as goal
+
+pub returns : goal.returns
+returns c = word_keeps_apart
