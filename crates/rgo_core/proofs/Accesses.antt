@@ -1,12 +1,12 @@
 -- Loads and stores.
-use Rattle.std.proofs.Common.{◌≡◌, ◌≢◌, inl, ⊎_elim, ℕ, suc, ◌+◌, ◌<◌, ◌≤◌, pos, List, [], ◌∷◌, Option, Some, None, length, map, max, slice_get, slice_set, slice_index, refl, ap, sym, subst, ◌∙◌, arith}
+use Rattle.std.proofs.Common.{◌≡◌, ◌≢◌, inl, ⊎_elim, ℕ, suc, ◌+◌, ◌<◌, ◌≤◌, pos, List, [], ◌∷◌, Option, Some, None, length, map, max, slice_get, slice_set, slice_index, refl, ap, sym, subst, ◌∙◌, arith, false, Contains}
 use Rattle.std.proofs.Math.ListN.{length-set}
 use Rattle.std.proofs.lemmas.List.{get_or-set_other}
-use Rattle.std.proofs.lemmas.Option.{same_Some}
-use Rattle.rgo_sound.specs.Code.Code.{Do}
-use Rattle.rgo_sound.specs.Code.Erasure.{erased, erased_fn}
+use Rattle.std.proofs.lemmas.Option.{same_Some, slice_get_within}
+use Rattle.rgo_sound.specs.Code.Code.{CodeFn, Do}
+use Rattle.rgo_sound.specs.Code.Erasure.{erased, erased_fn, erased_op}
 use Rattle.rgo_sound.specs.Code.Exists.{declared_by}
-use Rattle.rgo_sound.specs.Code.Types.{DoFits}
+use Rattle.rgo_sound.specs.Code.Types.{DoFits, HasType}
 use Rattle.rgo_sound.specs.Machine.declared.picks.Pick.TheVariants.{One}
 use Rattle.rgo_sound.specs.Memory.Effects.{Does as DoesSo, answered, to_object}
 use Rattle.rgo_sound.specs.Memory.Elements.{length_in}
@@ -15,21 +15,26 @@ use Rattle.rgo_sound.specs.Memory.Memory.{Memory as Heap, Object, SliceObject, S
 use Rattle.rgo_sound.specs.Memory.declared.values.Value.{Value}
 use Rattle.rgo_sound.specs.Memory.declared.values.Value.TheVariants as value
 use Rattle.rgo_sound.specs.RegionMachine.Machine.{Instruct}
-use Rattle.rgo_sound.specs.RegionMachine.Objects.{words as words_of}
+use Rattle.rgo_sound.specs.RegionMachine.Objects.{is_spread, words as words_of}
 use Rattle.rgo_sound.specs.RegionMachine.declared.regions.Region.TheVariants.{Global as GlobalRegion}
 use Rattle.rgo_sound.proofs.Acting.{performed}
 use Rattle.rgo_sound.proofs.Places.{contains_here, contains_there, each_get, length_set}
-use Rattle.rgo_sound.proofs.Types.{get_kinds}
+use Rattle.rgo_sound.proofs.Types.{get_kinds, object_of}
 use Rattle.rgo_sound.specs.Values.{LeadsInto}
+use Rattle.rgo_sound.proofs.TypedSteps.{var_kind}
+use Rattle.rgo_sound.specs.RegionMachine.Owed.{function_of}
+use Rattle.rgo_sound.specs.Tac.Flow.{reads}
+use Rattle.rgo_sound.specs.Types.{HasKind, ObjectFits}
+use Rattle.rgo_sound.specs.Typed.declared.actions.Action.{Action}
+use Rattle.rgo_sound.specs.Typed.declared.programs.Struct.{Struct}
 use Rattle.rgo_sound.specs.Tac.Code.{Tac, TacFn}
 use Rattle.rgo_sound.specs.Tac.Frames.{value_at, values_of}
 use Rattle.rgo_sound.specs.Tac.Steps.{type_of}
-use Rattle.rgo_sound.specs.Typed.declared.actions.Action.{Action}
 use Rattle.rgo_sound.specs.Typed.declared.actions.Action.TheVariants as action
 use Rattle.rgo_sound.specs.Typed.declared.programs.Variable.{Variable}
 use Rattle.rgo_sound.specs.Typed.declared.types.Type.{«Type»}
 use Rattle.rgo_sound.specs.WellFormed.TypeRules.{pointer_to, slice_of}
-use Rattle.rgo_core_channels.specs.Channels.{Chan, IsChan, On, channel}
+use Rattle.rgo_core_channels.specs.Channels.{Chan, IsChan, On, channel, word_of}
 use Rattle.rgo_core_channels.specs.Controls.{extent}
 use Rattle.rgo_core_channels.specs.Records.{at_rest}
 use Rattle.rgo_core_channels.proofs.Lists.{set_own}
@@ -39,9 +44,11 @@ use Rattle.rgo_core_frames.specs.Steps.{HasInstruction}
 use Rattle.rgo_core_frames.specs.WordFrames.{word_at as word_of_frame}
 use Rattle.rgo_core_frames.specs.Words.{Shows}
 use Rattle.rgo_core_memory.specs.Accesses.{Before}
+use Rattle.rgo_core_memory.proofs.Spreads.{in_table, whole_of}
 use Rattle.rgo_core_memory.specs.Encoding.{address}
-use Rattle.rgo_core_memory.specs.Ground.{ground_of}
+use Rattle.rgo_core_memory.specs.Ground.{Stands, ground_of}
 use Rattle.rgo_core_memory.specs.Image.{Memory, code_of, word_at}
+use Rattle.rgo_core_memory.specs.Spread.{words_before}
 use Rattle.rgo_core_memory.specs.Words.{base, variable_at}
 use Rattle.rgo_core_memory.proofs.Frames.{content_below}
 use Rattle.rgo_core_memory.proofs.Quiets.{quiet_keeps}
@@ -50,26 +57,26 @@ use Rattle.rgo_core_memory.proofs.Steadies.{steady_of}
 use Rattle.rgo_core_memory.proofs.Storing.{gets}
 use Rattle.rgo_core_memory.proofs.Typing.{get_law, len_law, load_law, loads_from, set_law, store_law, stores_to}
 use Rattle.rgo_core_memory.proofs.Writes.{in_pages}
-use Rattle.rgo_core.specs.Accesses.{GetMove, LenMove, LenNilStill, LoadMove, SetMove, StoreMove}
-use Rattle.rgo_core.specs.Bounds.{Gives, LieInPages, Points, target_type}
+use Rattle.rgo_core.specs.Accesses.{GetMove, IsFieldAt, LenMove, LenNilStill, LoadMove, PointsToWhole, SetMove, StoreMove}
+use Rattle.rgo_core.specs.Bounds.{Gives, LieInPages, Points, slice_words, target_type}
 use Rattle.rgo_core.specs.Core.{Here, Setup, layout}
-use Rattle.rgo_core.specs.Image.{place_of}
+use Rattle.rgo_core_channels.specs.Positions.{cell_place, place_at}
 use Rattle.rgo_core.specs.Next.{IsAt, acted}
 use Rattle.rgo_core.specs.Records.{Record, frame_of, instructed, memory_of}
 use Rattle.rgo_core.specs.Steps.{Does, Steps}
-use Rattle.rgo_core.proofs.Bounds.{LeadsToLive, gives_points, held_live}
+use Rattle.rgo_core.proofs.Bounds.{LeadsToLive, as_many as kinds_many, gives_points, held_live}
 use Rattle.rgo_core.proofs.Encodings.{shows_it, small_int, word_is}
 use Rattle.rgo_core.proofs.Contents.{variable_fits}
 use Rattle.rgo_core.proofs.Leaving.{apart_from, channel_stands, channel_word}
 use Rattle.rgo_core.proofs.Lift.{access_law, moves_by, quiet_law}
-use Rattle.rgo_core.proofs.MakesObject.{first_type}
+use Rattle.rgo_core.proofs.Locating.{field_high, located_word}
+use Rattle.rgo_core.proofs.MakesObject.{first_type, struct_no_channel}
 use Rattle.rgo_core.proofs.Operands as operands
 use Rattle.rgo_core.proofs.Slices as slices
 use Rattle.rgo_core.proofs.Parts.{I}
 use Rattle.rgo_core.proofs.Printing.{not_go}
 use Rattle.rgo_core.proofs.Performing.{channels_after, performs}
-use Rattle.rgo_core.proofs.Links.{claims_high, lengths_apart, lengths_in}
-use Rattle.rgo_core.proofs.MakesObject.{struct_no_channel}
+use Rattle.rgo_core.proofs.Links.{claims_high, fixed_apart, fixed_in}
 
 -- ---- types
 
@@ -115,17 +122,60 @@ module _ {T : Setup} {g : ℕ} {c : Record} (x : Here T g c) (rests : c.side ≡
       (operands.as_deep x (Some d) act from removes a (slice_index x.words i)) M
       (channels_after x rests x.s.plain.memory (operands.b x (Some d) act from removes a).h
       (after_action T.code c.frame a.w a.ws a.instr (Some d) (slice_index x.words i)) read_step x.words
-      (λ o k is. is) (λ o k is. is) refl (λ o j k on l. refl)) (λ r. refl) (λ o cells r stands. refl)))
+      (λ o k is. is) (λ o k is. is) refl (λ o j k on l. refl)) (λ r. refl) (λ o i object r stands low fixed. refl)))
 
   -- and points where it may
   pub read_points : LeadsToLive x.s v → Points T (target_type T a.w (Some d)) (slice_index x.words i)
   read_points live = gives_points x (Some d) act from removes a x.s.plain.memory v does x.words (map memory_of x.recs) x.s (I x).places (I x).memory
       (I x).addresses (I x).addressed refl (slice_index x.words i) live shows
 
+-- ---- a struct fits a page
+
+same_number : (m n : ℕ) → pointer_to m ≡ pointer_to n → m ≡ n
+same_number m n e = let b = ap (λ (t : «Type»). t.base) e in cc b
+
+module _ {T : Setup} {g : ℕ} {c : Record} (x : Here T g c) (to : Option ℕ) (act : Action) (p : ℕ) (others removes : List ℕ)
+    (a : IsAt T.code c (Do to act (p ∷ others) removes)) (n : ℕ) (tys : List «Type»)
+    (types_are : (operands.rule x to act (p ∷ others) removes a).0 ≡ pointer_to n ∷ tys)
+    (read : Contains (reads (erased_op (Do to act (p ∷ others) removes))) p) (at : ℕ) (points : word_of_frame a.w p ≡ suc at)
+    (whole : PointsToWhole T c a p) where
+  abbrev struct_at : PointsTo (I x).addresses x.s (operands.b x to act (p ∷ others) removes a).h
+      (value_at (operands.b x to act (p ∷ others) removes a).frame p) at
+  struct_at = operands.to_it x to act (p ∷ others) removes a p at (pointer_to n) tys others types_are refl refl read points
+
+  pub struct_whole : (cells : List Value) → slice_get x.s.plain.memory.heap struct_at.object ≡ Some (StructObject cells) → 0 < length cells
+      → is_spread T.sizes.page_words (StructObject cells) ≡ false
+  struct_whole cells there some =
+      let typed = operands.typed x to act (p ∷ others) removes a p at (pointer_to n) tys others types_are refl refl read points in
+      let fits = (operands.b x to act (p ∷ others) removes a).typed.0 in
+      let same : a.fn ≡ fits.0 = same_Some a.fn fits.0 (sym a.in_fn ∙ (ap (function_of T.code)
+      (operands.b x to act (p ∷ others) removes a).newest.alike.function ∙ fits.1)) in
+      let kinds = (operands.b x to act (p ∷ others) removes a).kinds in
+      let kind : HasKind kinds (pointer_to n) (value.Object struct_at.object) =
+      subst (HasKind kinds (pointer_to n)) struct_at.is
+      (var_kind kinds (erased_fn fits.0) (operands.b x to act (p ∷ others) removes a).frame fits.2 p (pointer_to n)
+      (subst (λ (f : CodeFn). HasType (erased_fn f) p (pointer_to n)) same typed)) in
+      let ob = object_of T.code kinds x.s.plain.memory (operands.b x to act (p ∷ others) removes a).memory struct_at.object
+      (pointer_to n) kind.0 in
+      let it : ObjectFits T.code.structs kinds (pointer_to n) (StructObject cells) =
+      subst (ObjectFits T.code.structs kinds (pointer_to n)) (same_Some ob.0 (StructObject cells) (sym ob.1 ∙ there)) ob.2 in
+      let number : it.0 ≡ whole.number = same_number it.0 whole.number
+      (sym it.1 ∙ same_Some (pointer_to n) (pointer_to whole.number) (sym typed ∙ whole.typed)) in
+      let struct : it.2 ≡ whole.struct = same_Some it.2 whole.struct (sym it.3 ∙ (ap (slice_get T.code.structs) number ∙ whole.there)) in
+      let many : length cells ≡ length whole.struct.fields =
+      kinds_many kinds it.2.fields cells it.4 ∙ ap (λ (s : Struct). length s.fields) struct in
+      let l = whole.fits in
+      whole_of T.sizes.page_words (StructObject cells) (omega (arith, many, l, some))
+
+-- a field is that many words after the first
+fields_first : (cells : List Value) (k : ℕ) → k < length cells → k ≡ words_before (StructObject cells) + k
+fields_first cells k low = omega (arith, low)
+
 -- ---- a field is loaded
 
 module _ {T : Setup} {g : ℕ} {c : Record} (x : Here T g c) (rests : c.side ≡ at_rest) (d k p at : ℕ) (removes : List ℕ)
-    (a : IsAt T.code c (Do (Some d) (action.Load k) (p ∷ []) removes)) (points : word_of_frame a.w p ≡ suc at) where
+    (a : IsAt T.code c (Do (Some d) (action.Load k) (p ∷ []) removes)) (points : word_of_frame a.w p ≡ suc at)
+    (word : ℕ) (lies : IsFieldAt T c a p at k word) where
   load_types : (n : ℕ) × ((operands.rule x (Some d) (action.Load k) (p ∷ []) removes a).0 ≡ pointer_to n ∷ [])
   load_types = load_takes (erased T.code) (erased_fn a.fn) d k (operands.rule x (Some d) (action.Load k) (p ∷ []) removes a).0
       (operands.rule x (Some d) (action.Load k) (p ∷ []) removes a).2
@@ -151,36 +201,47 @@ module _ {T : Setup} {g : ℕ} {c : Record} (x : Here T g c) (rests : c.side ≡
       ∙ (ap (λ (y : Option Object). Some (DoesSo x.s.plain.memory (field_of y k))) load_there.1
       ∙ ap (λ (y : Option Value). Some (DoesSo x.s.plain.memory (or_nil y))) load_there.3)
 
-  load_index : word_at (layout T) (I x).places load_from.object k ≡ base (layout T) + (at + k)
-  load_index = operands.word_there x (Some d) (action.Load k) (p ∷ []) removes a p at (pointer_to load_types.0) [] [] load_types.1 refl refl
-      (contains_here p []) points (StructObject load_there.0) load_there.1 k
-      (content_below (StructObject load_there.0) k load_there.2 load_there.3)
+  load_stands : Stands x.s.plain.memory.heap x.s.owners x.s.regions load_from.object (StructObject load_there.0) load_from.region
+  load_stands = operands.stands x (Some d) (action.Load k) (p ∷ []) removes a p at (pointer_to load_types.0) [] [] load_types.1 refl refl
+      (contains_here p []) points (StructObject load_there.0) load_there.1
 
-  load_shows : Shows (I x).addresses load_there.2 (slice_index x.words (base (layout T) + (at + k)))
+  load_index : word_at (layout T) (I x).places load_from.object k ≡ word
+  load_index =
+      let l = slice_get_within load_there.0 k load_there.2 load_there.3 in
+      ⊎_elim
+      (λ t. operands.word_there x (Some d) (action.Load k) (p ∷ []) removes a p at (pointer_to load_types.0) [] [] load_types.1 refl refl
+      (contains_here p []) points (StructObject load_there.0) load_there.1
+      (struct_whole x (Some d) (action.Load k) p [] removes a load_types.0 [] load_types.1 (contains_here p []) at points t.0
+      load_there.0 load_there.1 (omega (arith, l))) k
+      (content_below (StructObject load_there.0) k load_there.2 load_there.3) ∙ sym t.1)
+      (λ e. ap (word_at (layout T) (I x).places load_from.object) (fields_first load_there.0 k l)
+      ∙ located_word x load_from.object (StructObject load_there.0) load_from.region load_stands at k word e
+      ((I x).addressed load_from.object at load_from.at))
+      lies
+
+  load_shows : Shows (I x).addresses load_there.2 (slice_index x.words word)
   load_shows = subst (λ n. Shows (I x).addresses load_there.2 (slice_index x.words n)) load_index
       (operands.found_shows x (Some d) (action.Load k) (p ∷ []) removes a p at (pointer_to load_types.0) [] [] load_types.1 refl refl
       (contains_here p []) points (StructObject load_there.0) load_there.1 k load_there.2 load_there.3)
 
-  pub load_steps : Steps x (slice_set x.words (base (layout T) + (at + k)) (slice_index x.words (base (layout T) + (at + k))))
-      (acted T.code c a (Some d) (slice_index x.words (base (layout T) + (at + k))))
-  load_steps = reads_word x rests d (action.Load k) (p ∷ []) removes a (base (layout T) + (at + k)) load_there.2 load_does load_shows
+  pub load_steps : Steps x (slice_set x.words word (slice_index x.words word))
+      (acted T.code c a (Some d) (slice_index x.words word))
+  load_steps = reads_word x rests d (action.Load k) (p ∷ []) removes a word load_there.2 load_does load_shows
       (load_law T.code (layout T) x.words (map memory_of x.recs) x.s
-      (read_step x rests d (action.Load k) (p ∷ []) removes a (base (layout T) + (at + k)) load_there.2 load_does load_shows).state
+      (read_step x rests d (action.Load k) (p ∷ []) removes a word load_there.2 load_does load_shows).state
       g load_from.object k (I x).places x.core.sound.checked x.core.sound.good (I x).memory
-      (read_step x rests d (action.Load k) (p ∷ []) removes a (base (layout T) + (at + k)) load_there.2 load_does load_shows).steps load_before).1
+      (read_step x rests d (action.Load k) (p ∷ []) removes a word load_there.2 load_does load_shows).steps load_before).1
 
-  pub load_points : Points T (target_type T a.w (Some d)) (slice_index x.words (base (layout T) + (at + k)))
-  load_points = read_points x rests d (action.Load k) (p ∷ []) removes a (base (layout T) + (at + k)) load_there.2 load_does load_shows
-      (held_live x load_from.object (StructObject load_there.0) load_from.region
-      (operands.stands x (Some d) (action.Load k) (p ∷ []) removes a p at (pointer_to load_types.0) [] [] load_types.1 refl refl
-      (contains_here p []) points (StructObject load_there.0) load_there.1)
-      k load_there.2 load_there.3)
+  pub load_points : Points T (target_type T a.w (Some d)) (slice_index x.words word)
+  load_points = read_points x rests d (action.Load k) (p ∷ []) removes a word load_there.2 load_does load_shows
+      (held_live x load_from.object (StructObject load_there.0) load_from.region load_stands k load_there.2 load_there.3)
 
 pub load_move : LoadMove
-load_move T g c d k p at removes a rests points =
-    moves_by T g c (base (layout T) + (at + k)) (λ n. n) (λ n. acted T.code c a (Some d) n) (Gives T c a (Some d)) (λ n. refl)
-    (λ x. omega arith) (λ x small. load_steps x rests d k p at removes a points)
-    (λ x. (refl, load_points x rests d k p at removes a points))
+load_move T g c d k p at word removes a rests points lies =
+    moves_by T g c word (λ n. n) (λ n. acted T.code c a (Some d) n) (Gives T c a (Some d)) (λ n. refl)
+    (λ x. let h = field_high T c a p at k word lies in omega (arith, h))
+    (λ x small. load_steps x rests d k p at removes a points word lies)
+    (λ x. (refl, load_points x rests d k p at removes a points word lies))
 
 -- ---- the length of a slice is loaded
 
@@ -234,13 +295,13 @@ module _ {T : Setup} {g : ℕ} {c : Record} (x : Here T g c) (rests : c.side ≡
       no_object : (o : ℕ) → long ≡ value.Object o → ⊥
       no_object o e = cc e
 
-  pub elements_lie : LieInPages T at (suc (slice_index x.words (base (layout T) + at)))
+  pub elements_lie : LieInPages T at (slice_words T (slice_index x.words (base (layout T) + at)))
   elements_lie = slices.lies x (Some d) action.Len p [] removes a len_types.0 [] len_types.1 (contains_here p []) at points
 
 pub len_move : LenMove
 len_move T g c d p at removes a rests points =
     moves_by T g c (base (layout T) + at) (λ n. n) (λ n. acted T.code c a (Some d) n)
-    (λ n e. Gives T c a (Some d) n e × LieInPages T at (suc n)) (λ n. refl) (λ x. omega arith)
+    (λ n e. Gives T c a (Some d) n e × LieInPages T at (slice_words T n)) (λ n. refl) (λ x. omega arith)
     (λ x small. len_steps x rests d p at removes a points)
     (λ x. ((refl, len_points x rests d p at removes a points), elements_lie x rests d p at removes a points))
 
@@ -279,7 +340,7 @@ module _ {T : Setup} {g : ℕ} {c : Record} (x : Here T g c) (rests : c.side ≡
       (channels_after x rests x.s.plain.memory (operands.b x (Some d) action.Len (p ∷ []) removes a).h
       (after_action T.code c.frame a.w a.ws a.instr (Some d) 0) nil_step x.words
       (λ o k is. is) (λ o k is. is) refl (λ o j k on l. refl))
-      (λ r. refl) (λ o cells r stands. refl)
+      (λ r. refl) (λ o i object r stands low fixed. refl)
 
 pub len_nil_still : LenNilStill
 len_nil_still T g c d p removes a rests nil =
@@ -306,7 +367,7 @@ module _ {T : Setup} {g : ℕ} {c : Record} (x : Here T g c) (rests : c.side ≡
   get_shows : Shows (I x).addresses variable_there.0 (slice_index x.words (variable_at (layout T) k))
   get_shows = subst (Shows (I x).addresses variable_there.0)
       (sym (gets (layout T) x.words (map memory_of x.recs) (ground_of x.s) (I x).places (I x).memory k variable_there.0 variable_there.1))
-      (shows_it (I x).addresses (address (layout T) (I x).places.spot) (I x).addressed variable_there.0
+      (shows_it (I x).addresses (address (layout T) (I x).places.start) (I x).addressed variable_there.0
       (λ n w. variable_fits x k n (variable_there.1 ∙ ap Some w))
       (λ o w. let y = (steady_of T.code x.s x.core.sound.good).variables k o (variable_there.1 ∙ ap Some w) in
       let l = (I x).frames.laid in omega (arith, y, l)))
@@ -338,7 +399,8 @@ get_move T g c d k removes a rests =
 -- ---- a field is stored
 
 module _ {T : Setup} {g : ℕ} {c : Record} (x : Here T g c) (rests : c.side ≡ at_rest) (k p q at : ℕ) (removes : List ℕ)
-    (a : IsAt T.code c (Do None (action.Store k) (p ∷ q ∷ []) removes)) (points : word_of_frame a.w p ≡ suc at) where
+    (a : IsAt T.code c (Do None (action.Store k) (p ∷ q ∷ []) removes)) (points : word_of_frame a.w p ≡ suc at)
+    (word : ℕ) (lies : IsFieldAt T c a p at k word) where
   store_types : (n : ℕ) × (t : «Type») × ((operands.rule x None (action.Store k) (p ∷ q ∷ []) removes a).0 ≡ pointer_to n ∷ t ∷ [])
   store_types = store_takes (erased T.code) (erased_fn a.fn) k (operands.rule x None (action.Store k) (p ∷ q ∷ []) removes a).0
       (operands.rule x None (action.Store k) (p ∷ q ∷ []) removes a).2
@@ -385,12 +447,24 @@ module _ {T : Setup} {g : ℕ} {c : Record} (x : Here T g c) (rests : c.side ≡
   low : k < words_of (StructObject store_there.0)
   low = content_below (StructObject store_there.0) k store_there.2 store_there.3
 
-  store_index : word_at (layout T) (I x).places o k ≡ base (layout T) + (at + k)
-  store_index = operands.word_there x None (action.Store k) (p ∷ q ∷ []) removes a p at (pointer_to store_types.0) (store_types.1 ∷ []) (q ∷ [])
-      store_types.2 refl refl (contains_here p (q ∷ [])) points (StructObject store_there.0) store_there.1 k low
+  store_stands : Stands x.s.plain.memory.heap x.s.owners x.s.regions o (StructObject store_there.0) store_to.region
+  store_stands = operands.stands x None (action.Store k) (p ∷ q ∷ []) removes a p at (pointer_to store_types.0) (store_types.1 ∷ []) (q ∷ [])
+      store_types.2 refl refl (contains_here p (q ∷ [])) points (StructObject store_there.0) store_there.1
+
+  store_index : word_at (layout T) (I x).places o k ≡ word
+  store_index =
+      let l = slice_get_within store_there.0 k store_there.2 store_there.3 in
+      ⊎_elim
+      (λ t. operands.word_there x None (action.Store k) (p ∷ q ∷ []) removes a p at (pointer_to store_types.0) (store_types.1 ∷ []) (q ∷ [])
+      store_types.2 refl refl (contains_here p (q ∷ [])) points (StructObject store_there.0) store_there.1
+      (struct_whole x None (action.Store k) p (q ∷ []) removes a store_types.0 (store_types.1 ∷ []) store_types.2 (contains_here p (q ∷ [])) at points t.0
+      store_there.0 store_there.1 (omega (arith, l))) k low ∙ sym t.1)
+      (λ e. ap (word_at (layout T) (I x).places o) (fields_first store_there.0 k l)
+      ∙ located_word x o (StructObject store_there.0) store_to.region store_stands at k word e ((I x).addressed o at store_to.at))
+      lies
 
   same_word : code_of (layout T) (I x).places v ≡ word_of_frame a.w q
-  same_word = word_is (I x).addresses (address (layout T) (I x).places.spot) (I x).addressed v (word_of_frame a.w q)
+  same_word = word_is (I x).addresses (address (layout T) (I x).places.start) (I x).addressed v (word_of_frame a.w q)
       (operands.shown x None (action.Store k) (p ∷ q ∷ []) removes a q (contains_there p (q ∷ []) q (contains_here q [])))
 
   abbrev words : List ℕ
@@ -426,22 +500,21 @@ module _ {T : Setup} {g : ℕ} {c : Record} (x : Here T g c) (rests : c.side ≡
       (length-set x.words (word_at (layout T) (I x).places o k) (word_of_frame a.w q))
       (apart_from (layout T) x.words (map memory_of x.recs) x.s (I x).places (I x).memory o k (word_of_frame a.w q) (StructObject store_there.0)
       store_to.region
-      (operands.stands x None (action.Store k) (p ∷ q ∷ []) removes a p at (pointer_to store_types.0) (store_types.1 ∷ []) (q ∷ [])
-      store_types.2 refl refl (contains_here p (q ∷ [])) points (StructObject store_there.0) store_there.1)
+      store_stands
       low (λ j l on. other j l on.0)))
       (claims_high x (word_at (layout T) (I x).places o k) (word_of_frame a.w q) (omega arith))
-      (lengths_in x o k (StructObject store_there.0) store_to.region
-      (operands.stands x None (action.Store k) (p ∷ q ∷ []) removes a p at (pointer_to store_types.0) (store_types.1 ∷ []) (q ∷ [])
-      store_types.2 refl refl (contains_here p (q ∷ [])) points (StructObject store_there.0) store_there.1)
+      (fixed_in x o k (StructObject store_there.0) store_to.region
+      store_stands
       low (λ cells e. absurd (struct_no_slice store_there.0 cells e)) (word_of_frame a.w q))
 
-  pub store_steps : Steps x (slice_set x.words (base (layout T) + (at + k)) (word_of_frame a.w q)) (acted T.code c a None 0)
+  pub store_steps : Steps x (slice_set x.words word (word_of_frame a.w q)) (acted T.code c a None 0)
   store_steps = inl (subst (λ n. Does x (slice_set x.words n (word_of_frame a.w q)) (acted T.code c a None 0)) store_index store_done)
 
 pub store_move : StoreMove
-store_move T g c k p q at removes a rests points =
-    access_law T g c (base (layout T) + (at + k)) (λ n. word_of_frame a.w q) (λ n. acted T.code c a None 0) (omega arith) (λ n. refl)
-    (λ x small. store_steps x rests k p q at removes a points)
+store_move T g c k p q at word removes a rests points lies =
+    access_law T g c word (λ n. word_of_frame a.w q) (λ n. acted T.code c a None 0)
+    (let h = field_high T c a p at k word lies in omega (arith, h)) (λ n. refl)
+    (λ x small. store_steps x rests k p q at removes a points word lies)
 
 -- ---- a package variable is stored
 
@@ -459,7 +532,7 @@ module _ {T : Setup} {g : ℕ} {c : Record} (x : Here T g c) (rests : c.side ≡
   set_step = operands.acts x None (action.Set k) (q ∷ []) removes a set_mem value.Nil 0 refl refl refl
 
   set_word : code_of (layout T) (I x).places set_value ≡ word_of_frame a.w q
-  set_word = word_is (I x).addresses (address (layout T) (I x).places.spot) (I x).addressed set_value (word_of_frame a.w q)
+  set_word = word_is (I x).addresses (address (layout T) (I x).places.start) (I x).addressed set_value (word_of_frame a.w q)
       (operands.shown x None (action.Set k) (q ∷ []) removes a q (contains_here q []))
 
   abbrev set_words : List ℕ
@@ -472,13 +545,14 @@ module _ {T : Setup} {g : ℕ} {c : Record} (x : Here T g c) (rests : c.side ≡
       (I x).memory set_step.steps (operands.before x None (action.Set k) (q ∷ []) removes a (set_value ∷ []) refl))
 
   set_same : (j i : ℕ) (l : Chan) → On x.s j l → i < 2 + extent l.capacity
-      → slice_index set_words (place_of (layout T) (I x).places j + i) ≡ slice_index x.words (place_of (layout T) (I x).places j + i)
+      → slice_index set_words (word_of (place_at (layout T) (I x).places) (cell_place (layout T) (I x).places) j i)
+      ≡ slice_index x.words (word_of (place_at (layout T) (I x).places) (cell_place (layout T) (I x).places) j i)
   set_same j i l on low =
       let y = channel_stands x.s j l on in
-      let u = (I x).memory.lies.inside j i (channel l) y.0 y.1 low in
+      let u = (I x).memory.lies.inside j i (channel l) y.0 y.1 (in_table T.sizes.page_words (channel l) i low) in
       let e = channel_word (layout T) x.words (map memory_of x.recs) x.s (I x).places (I x).memory j i l on low in
       let b = in_pages (layout T).pages ((I x).places.spot j i).page (layout T).page_words ((I x).places.spot j i).offset u.0 u.1 in
-      get_or-set_other x.words (variable_at (layout T) k) (place_of (layout T) (I x).places j + i) (word_of_frame a.w q) 0
+      get_or-set_other x.words (variable_at (layout T) k) (word_of (place_at (layout T) (I x).places) (cell_place (layout T) (I x).places) j i) (word_of_frame a.w q) 0
       (λ w. omega (arith, e, b, w))
 
   pub set_steps : Steps x set_words (acted T.code c a None 0)
@@ -489,9 +563,9 @@ module _ {T : Setup} {g : ℕ} {c : Record} (x : Here T g c) (rests : c.side ≡
       (after_action T.code c.frame a.w a.ws a.instr None 0) set_step set_words (λ j l is. is) (λ j l is. is)
       (length-set x.words (variable_at (layout T) k) (word_of_frame a.w q)) set_same)
       (claims_high x (variable_at (layout T) k) (word_of_frame a.w q) (omega arith))
-      (lengths_apart x (variable_at (layout T) k) (word_of_frame a.w q) (λ j cells r stands e.
-      let u = (I x).memory.lies.inside j 0 (SliceObject cells) r stands (omega arith) in
-      let b = in_pages (layout T).pages ((I x).places.spot j 0).page (layout T).page_words ((I x).places.spot j 0).offset u.0 u.1 in
+      (fixed_apart x (variable_at (layout T) k) (word_of_frame a.w q) (λ j n at r stands l fixed e.
+      let u = (I x).memory.lies.inside j n at r stands l in
+      let b = in_pages (layout T).pages ((I x).places.spot j n).page (layout T).page_words ((I x).places.spot j n).offset u.0 u.1 in
       omega (arith, b, e))))
 
 pub set_move : SetMove

@@ -27,7 +27,7 @@ use Rattle.rgo_core_frames.proofs.Operands.{pointer_law}
 use Rattle.rgo_core_memory.specs.Words.{base}
 use Rattle.rgo_core.specs.AtChannels.{IsAtChannel, Operates}
 use Rattle.rgo_core.specs.Core.{Here, Setup, layout}
-use Rattle.rgo_core.specs.Image.{place_of}
+use Rattle.rgo_core_channels.specs.Positions.{place_at}
 use Rattle.rgo_core.specs.Next.{IsAt}
 use Rattle.rgo_core.specs.Records.{Record}
 use Rattle.rgo_core.proofs.Standing.{at_instruction, side_at}
@@ -71,7 +71,7 @@ module _ {T : Setup} {g : ℕ} {c : Record} (x : Here T g c) where
     pub object : ℕ
     pub chan : Chan
     pub on : On x.s object chan
-    pub place_is : place_of (layout T) x.core.image.places object ≡ control
+    pub place_is : place_at (layout T) x.core.image.places object ≡ control
 
   module _ {to : Option ℕ} {action : Action} {others : List ℕ} {control : ℕ} (a : Operates T c to action others control) where
     abbrev pub here : AtInstruction
@@ -132,13 +132,13 @@ module _ {T : Setup} {g : ℕ} {c : Record} (x : Here T g c) where
     live = operand_is_live T.code x.s g action object (values_of here.before.frame others) x.core.sound.checked
         x.core.sound.good a.of_channel next
 
-    pub place_is : place_of (layout T) x.core.image.places object ≡ control
+    pub place_is : place_at (layout T) x.core.image.places object ≡ control
     place_is = ap (λ n. base (layout T) + n) (sym (x.core.image.addressed object a.address points_to.at)) ∙ sym a.lies
 
     pub reached : Reaches control
     reached = record { object = object; chan = live.0; on = live.1; place_is = place_is }
 
-    pub at_word : IsAtWord T.code (place_of (layout T) x.core.image.places) x.s g c.side.post control
+    pub at_word : IsAtWord T.code (place_at (layout T) x.core.image.places) x.s g c.side.post control
     at_word = inl (
       calm a.here,
       object,
@@ -153,6 +153,6 @@ module _ {T : Setup} {g : ℕ} {c : Record} (x : Here T g c) where
       record { object = q.0; chan = q.1; on = q.2; place_is = q.3 }
 
   pub at_channel : {control : ℕ} → IsAtChannel T c control
-      → IsAtWord T.code (place_of (layout T) x.core.image.places) x.s g c.side.post control
+      → IsAtWord T.code (place_at (layout T) x.core.image.places) x.s g c.side.post control
   at_channel (inl a) = at_word a.3
   at_channel (inr e) = inr e

@@ -14,7 +14,7 @@ use Rattle.rgo_sound.specs.RegionMachine.declared.regions.Region.{Region}
 use Rattle.rgo_sound.proofs.Places.{length_set}
 use Rattle.rgo_sound.specs.Leaving.{ActsAlone}
 use Rattle.rgo_sound.specs.Tally.{counts_plus}
-use Rattle.rgo_core_channels.specs.Channels.{Chan, Channels, On}
+use Rattle.rgo_core_channels.specs.Channels.{Chan, On}
 use Rattle.rgo_core_channels.specs.Elsewhere.{IsMade, Leaves}
 use Rattle.rgo_core_channels.specs.Records.{at_rest}
 use Rattle.rgo_core_channels.proofs.Elsewhere.{event_keeps}
@@ -28,7 +28,8 @@ use Rattle.rgo_core_memory.specs.Records.{Rec as MemoryRec}
 use Rattle.rgo_core_memory.specs.Words.{base}
 use Rattle.rgo_core_memory.proofs.Rows.{below, set_again}
 use Rattle.rgo_core.specs.Core.{Here, Setup, layout}
-use Rattle.rgo_core.specs.Image.{place_of}
+use Rattle.rgo_core_channels.specs.Positions.{cell_place, place_at}
+use Rattle.rgo_core.specs.Image.{ChannelsIn}
 use Rattle.rgo_core.specs.Records.{ClockRec, Record, counted, frame_of, memory_of, side_of}
 use Rattle.rgo_core.specs.Steps.{Does, SameClock}
 use Rattle.rgo_core.proofs.Leaving.{before_cells, owner_of}
@@ -72,13 +73,14 @@ module _ {T : Setup} {g : ℕ} {c : Record} (x : Here T g c) (rests : c.side ≡
         ap (owner_live x.s) e ∙ lives o y.0 e y.2,
       )
 
-  stay : Leaves (moment x) words t (code_of (layout T) P) (place_of (layout T) P) (I x).at (IsMade None) 0
+  stay : Leaves (moment x) words t (code_of (layout T) P) (place_at (layout T) P) (cell_place (layout T) P) (I x).at (IsMade None) 0
   stay = record {
     long = length-set x.words i v;
     heap = λ o l on. ap (λ (h : Heap). slice_get h.heap o) same.memory ∙ on.0;
     was = λ o l on. inl (was o l on);
     same = λ o j l on h. before_cells (layout T) x.words (map memory_of x.recs) x.s (I x).places (I x).memory i v low o j l on h;
     places = λ o l on. refl;
+    spots = λ o i l on h. refl;
     ats = λ o l on. (refl, refl, refl);
     codes = λ o j u l on q. refl;
     sent = λ o j u n. refl;
@@ -86,15 +88,17 @@ module _ {T : Setup} {g : ℕ} {c : Record} (x : Here T g c) (rests : c.side ≡
     born_calm = λ j h l q. absurd (let y = below t.holders j h q in let w = holders_many in omega (arith, l, y, w));
     fresh = λ o l n. absurd n;
     fresh_words = λ o l n. absurd n;
-    fresh_apart = λ o p l j n on. absurd n;
+    fresh_cells = λ o i k n. absurd n;
+    fresh_differ = λ o i j k n. absurd n;
+    fresh_apart = λ o p i j k l n on. absurd n;
     one_fresh = λ o p l j n n'. absurd n;
   }
 
-  channels : Channels T.code (code_of (layout T) P) (place_of (layout T) P) words (slice_set (map side_of x.recs) g c.side) t (I x).at
+  channels : ChannelsIn T.code (layout T) P words (slice_set (map side_of x.recs) g c.side) t (I x).at
   channels =
-      subst (λ l. Channels T.code (code_of (layout T) P) (place_of (layout T) P) words l t (I x).at)
+      subst (λ l. ChannelsIn T.code (layout T) P words l t (I x).at)
       (append-nil (map side_of x.recs) ∙ sym (set_again (map side_of x.recs) g c.side (side_at x)))
-      (event_keeps (moment x) g event words t (code_of (layout T) P) (place_of (layout T) P) (I x).at None 0
+      (event_keeps (moment x) g event words t (code_of (layout T) P) (place_at (layout T) P) (cell_place (layout T) P) (I x).at None 0
       (side_at x ∙ ap Some rests) alone step stay)
 
   pub attends : Links T.code (layout T) words (slice_set x.recs g (record c { clock = k; frame = fr; memory = m })) → (gain : Counts) → counts_of t ≡ counts_plus (counts_of x.s) gain → counted k ≡ counts_plus (counted c.clock) gain

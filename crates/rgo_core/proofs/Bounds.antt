@@ -1,5 +1,6 @@
 -- The words of live objects lie in the pages, and so do those to which a word of a pointer leads.
-use Rattle.std.proofs.Common.{◌≡◌, ℕ, suc, ◌-◌, ◌<◌, ◌≤◌, List, [], ◌∷◌, Option, Some, None, length, max, option_map, slice_get, refl, ap, sym, subst, ◌∙◌, arith, true≢false}
+use Rattle.std.proofs.Common.{◌≡◌, ℕ, suc, ◌+◌, ◌-◌, ◌*◌, ◌<◌, ◌≤◌, false, true, List, [], ◌∷◌, Option, Some, None, length, map, max, if◌then◌else◌, option_map, slice_get, refl, ap, sym, subst, ◌∙◌, arith, true≢false}
+use Rattle.std.proofs.lemmas.List.{length-map}
 use Rattle.std.proofs.lemmas.Option.{get_or_from_slice_get, same_Some, slice_get-map}
 use Rattle.rgo_sound.specs.Code.Code.{Code, CodeFn, Do}
 use Rattle.rgo_sound.specs.Code.Erasure.{erased, erased_fn}
@@ -8,13 +9,16 @@ use Rattle.rgo_sound.specs.Memory.Effects.{Does as DoesSo}
 use Rattle.rgo_sound.specs.Memory.Memory.{Channel, Memory as Heap, Object, SliceObject, StructObject}
 use Rattle.rgo_sound.specs.Memory.declared.values.Value.{Value}
 use Rattle.rgo_sound.specs.Memory.declared.values.Value.TheVariants as value
-use Rattle.rgo_sound.specs.RegionMachine.Objects.{words as words_of}
+use Rattle.rgo_sound.specs.RegionMachine.Objects.{cells as cells_in, data_pages, is_spread, words as words_of}
 use Rattle.rgo_sound.specs.RegionMachine.Owed.{function_at, function_of}
 use Rattle.rgo_sound.specs.RegionMachine.States.{RegionState}
 use Rattle.rgo_sound.specs.RegionMachine.declared.regions.Region.{Region}
 use Rattle.rgo_sound.proofs.Acting.{performed}
 use Rattle.rgo_sound.proofs.ErasureLemmas.{Always}
+use Rattle.rgo_sound.proofs.HeapGrows.{SameSize}
 use Rattle.rgo_sound.proofs.Places.{each_get}
+use Rattle.rgo_sound.proofs.Tests.{split}
+use Rattle.rgo_sound.specs.Memory.Values.{zero_of}
 use Rattle.rgo_sound.proofs.TypedSteps.{vars_kinds}
 use Rattle.rgo_sound.proofs.Types.{Performed, object_of, returns, takes}
 use Rattle.rgo_sound.specs.Safety.{cells_of}
@@ -28,13 +32,15 @@ use Rattle.rgo_sound.specs.Typed.declared.programs.Struct.{Struct}
 use Rattle.rgo_sound.specs.Typed.declared.types.Type.{«Type»}
 use Rattle.rgo_core_frames.specs.Fits.{IsOfLive}
 use Rattle.rgo_core_frames.specs.Words.{Shows}
-use Rattle.rgo_core_memory.specs.Encoding.{address}
+use Rattle.rgo_core_memory.specs.Encoding.{Spot, address}
 use Rattle.rgo_core_memory.specs.Ground.{Stands}
 use Rattle.rgo_core_memory.specs.Image.{Memory, Where}
 use Rattle.rgo_core_memory.specs.Records.{Rec as MemoryRec}
+use Rattle.rgo_core_memory.specs.Spread.{table_words, words_before}
 use Rattle.rgo_core_memory.proofs.Facts.{follow}
+use Rattle.rgo_core_memory.proofs.Spreads.{in_table, number_spot, same_data, same_spread, spread_data}
 use Rattle.rgo_core_memory.proofs.Writes.{in_pages}
-use Rattle.rgo_core.specs.Bounds.{LieInPages, Points, least_words, struct_words, target_type}
+use Rattle.rgo_core.specs.Bounds.{LieInPages, Points, least_words, row_words, struct_words, target_type}
 use Rattle.rgo_core.specs.Core.{Here, Setup, layout}
 use Rattle.rgo_core.specs.Next.{IsAt}
 use Rattle.rgo_core.specs.Records.{Record}
@@ -43,24 +49,52 @@ use Rattle.rgo_core.proofs.Operands as operands
 
 -- ---- an object has as many words as its type says
 
-as_many : (kinds tys : List «Type») (vs : List Value) → HaveKinds kinds tys vs → length vs ≡ length tys
+pub as_many : (kinds tys : List «Type») (vs : List Value) → HaveKinds kinds tys vs → length vs ≡ length tys
 as_many kinds [] [] h = refl
 as_many kinds [] (v ∷ vs) h = absurd h
 as_many kinds (ty ∷ tys) [] h = absurd h
 as_many kinds (ty ∷ tys) (v ∷ vs) h = ap suc (as_many kinds tys vs h.1)
 
-large_enough : (structs : List Struct) (kinds : List «Type») (ty : «Type») (object : Object) → ObjectFits structs kinds ty object
-    → least_words structs ty ≤ words_of object
-large_enough structs kinds ty (StructObject cells) (n, is, s, at, h) =
-    let e : least_words structs ty ≡ max 1 (length s.fields) = ap (least_words structs) is ∙ ap struct_words at in
-    let l = as_many kinds s.fields cells h in
-    omega (arith, e, l)
-large_enough structs kinds ty (SliceObject cells) (u, is, h) =
-    let e : least_words structs ty ≡ 1 = ap (least_words structs) is in
-    omega (arith, e)
-large_enough structs kinds ty (Channel capacity queue closed) (u, is, h) =
-    let e : least_words structs ty ≡ 3 = ap (least_words structs) is in
-    omega (arith, e)
+-- objects of one size
+pub same_row : (page_words : ℕ) (was object : Object) → SameSize was object → row_words page_words object ≡ row_words page_words was
+same_row page_words was object same =
+    ap (λ b. if b then words_before object + data_pages page_words object else words_of object) (same_spread page_words was object same)
+    ∙ (ap (λ n. if is_spread page_words was then words_before object + n else words_of object) (same_data page_words was object same)
+    ∙ (ap (λ w. if is_spread page_words was then (w - cells_in object) + data_pages page_words was else w) same.0
+    ∙ ap (λ k. if is_spread page_words was then (words_of was - k) + data_pages page_words was else words_of was) same.1))
+
+-- of a spread object, and of another one
+pub spread_row : (page_words : ℕ) (object : Object) → is_spread page_words object ≡ true
+    → row_words page_words object ≡ words_before object + data_pages page_words object
+spread_row page_words object sp = ap (λ b. if b then words_before object + data_pages page_words object else words_of object) sp
+
+pub whole_row : (page_words : ℕ) (object : Object) → is_spread page_words object ≡ false → row_words page_words object ≡ words_of object
+whole_row page_words object whole = ap (λ b. if b then words_before object + data_pages page_words object else words_of object) whole
+
+-- words before the cells, and one more
+row_more : (page_words : ℕ) (object : Object) → words_before object < words_of object
+    → words_before object + 1 ≤ row_words page_words object
+row_more page_words object more = split (is_spread page_words object)
+    (λ sp. let e = spread_row page_words object sp in let d = spread_data page_words object sp in omega (arith, e, d))
+    (λ whole. let e = whole_row page_words object whole in omega (arith, e, more))
+
+large_enough : (page_words : ℕ) (structs : List Struct) (kinds : List «Type») (ty : «Type») (object : Object) → ObjectFits structs kinds ty object
+    → least_words page_words structs ty ≤ row_words page_words object
+large_enough page_words structs kinds ty (StructObject cells) (n, is, s, at, h) =
+    let e : least_words page_words structs ty ≡ row_words page_words (StructObject (map zero_of s.fields)) =
+    ap (least_words page_words structs) is ∙ ap (struct_words page_words) at in
+    let l : length cells ≡ length (map zero_of s.fields) = as_many kinds s.fields cells h ∙ sym (length-map s.fields zero_of) in
+    let q = same_row page_words (StructObject (map zero_of s.fields)) (StructObject cells) (ap (λ k. max 1 k) l, l) in
+    omega (arith, e, q)
+large_enough page_words structs kinds ty (SliceObject cells) (u, is, h) =
+    let e : least_words page_words structs ty ≡ 1 = ap (least_words page_words structs) is in
+    split (is_spread page_words (SliceObject cells))
+    (λ sp. let r = spread_row page_words (SliceObject cells) sp in omega (arith, e, r))
+    (λ whole. let r = whole_row page_words (SliceObject cells) whole in omega (arith, e, r))
+large_enough page_words structs kinds ty (Channel capacity queue closed) (u, is, h) =
+    let e : least_words page_words structs ty ≡ 3 = ap (least_words page_words structs) is in
+    let m = row_more page_words (Channel capacity queue closed) (omega arith) in
+    omega (arith, e, m)
 
 last_low : (object : Object) → words_of object - 1 < words_of object
 last_low (StructObject cells) = omega arith
@@ -88,18 +122,42 @@ held_live x o object r stands i v e p is = (
 -- ---- a word that shows a value of a type
 
 module _ (T : Setup) (words : List ℕ) (recs : List MemoryRec) (s : RegionState) (places : Where) (M : Memory (layout T) words recs s places) where
-  -- all words of a live object
+  -- the words that follow the address of a live object
   pub lies_in : (o : ℕ) (object : Object) (r : Region) → Stands s.plain.memory.heap s.owners s.regions o object r
-      → LieInPages T (address (layout T) places.spot o) (words_of object)
-  lies_in o object r stands =
-      let i = words_of object - 1 in
-      let low = last_low object in
-      let u = M.lies.inside o i object r stands low in
-      let b = in_pages (layout T).pages (places.spot o i).page (layout T).page_words (places.spot o i).offset u.0 u.1 in
-      let e = (follow (layout T) words recs s places M o i object r stands low).0 in
-      omega (arith, b, e, low)
+      → LieInPages T (address (layout T) places.start o) (row_words T.sizes.page_words object)
+  lies_in o object r stands = split (is_spread T.sizes.page_words object) spread whole
+    where
+      whole : is_spread T.sizes.page_words object ≡ false
+          → LieInPages T (address (layout T) places.start o) (row_words T.sizes.page_words object)
+      whole f =
+          let i = words_of object - 1 in
+          let low = last_low object in
+          let u = M.lies.inside o i object r stands (in_table T.sizes.page_words object i low) in
+          let b = in_pages (layout T).pages (places.spot o i).page (layout T).page_words (places.spot o i).offset u.0 u.1 in
+          let e = (follow (layout T) words recs s places M o i object r stands f low).0 in
+          let q = whole_row T.sizes.page_words object f in
+          omega (arith, b, e, low, q)
 
-  module _ (addresses : List ℕ) (addressed : (o a : ℕ) → slice_get addresses o ≡ Some a → a ≡ address (layout T) places.spot o)
+      spread : is_spread T.sizes.page_words object ≡ true
+          → LieInPages T (address (layout T) places.start o) (row_words T.sizes.page_words object)
+      spread sp =
+          let over = M.lies.spread o object r stands sp in
+          let d = spread_data T.sizes.page_words object sp in
+          let j = data_pages T.sizes.page_words object - 1 in
+          let m : words_of object + j < table_words T.sizes.page_words object = omega (arith, d) in
+          let e = (over.1).laid (words_of object + j) m ∙ number_spot T.sizes.page_words object over.0 j in
+          let t = M.lies.inside o (words_of object + j) object r stands m in
+          let b = in_pages T.sizes.pages (places.spot o (words_of object + j)).page T.sizes.page_words
+          (places.spot o (words_of object + j)).offset t.0 t.1 in
+          let f = (over.1).begins in
+          let p : (places.spot o (words_of object + j)).page * T.sizes.page_words ≡ (places.start o).page * T.sizes.page_words =
+          ap (λ (y : Spot). y.page * T.sizes.page_words) e ∙ ap (λ (y : Spot). y.page * T.sizes.page_words) (sym f) in
+          let q : (places.spot o (words_of object + j)).offset ≡ words_before object + j = ap Spot.offset e in
+          let q0 : (places.start o).offset ≡ 0 = ap Spot.offset f in
+          let w = spread_row T.sizes.page_words object sp in
+          omega (arith, b, p, q, q0, w, d)
+
+  module _ (addresses : List ℕ) (addressed : (o a : ℕ) → slice_get addresses o ≡ Some a → a ≡ address (layout T) places.start o)
       (kinds : List «Type») (fits : MemoryFits T.code kinds s.plain.memory) where
     pub leads_in : (ty : «Type») (v : Value) (word : ℕ) → HasKind kinds ty v → LeadsToLive s v → Shows addresses v word → Points T ty word
     leads_in ty (value.Int i) word kind live shows at like e = absurd (true≢false (sym like ∙ ap is_pointer_like kind))
@@ -107,7 +165,7 @@ module _ (T : Setup) (words : List ℕ) (recs : List MemoryRec) (s : RegionState
     leads_in ty value.Nil word kind live shows at like e = absurd (omega (arith, shows, e))
     leads_in ty (value.Object o) word kind live shows at like e =
         let x = object_of T.code kinds s.plain.memory fits o ty kind.0 in
-        let large = large_enough T.code.structs kinds ty x.0 x.2 in
+        let large = large_enough T.sizes.page_words T.code.structs kinds ty x.0 x.2 in
         let r = live o refl in
         let lies = lies_in o x.0 r.0 (record { there = x.1; owner = r.1; live = r.2 }) in
         let a = addressed o shows.0 shows.1 in
@@ -170,7 +228,7 @@ module _ {T : Setup} {g : ℕ} {c : Record} (x : Here T g c) (to : Option ℕ) (
 
   -- and so it points where it may, in an image of a state with the memory after it
   module _ (words : List ℕ) (recs : List MemoryRec) (s : RegionState) (places : Where) (M : Memory (layout T) words recs s places)
-      (addresses : List ℕ) (addressed : (o k : ℕ) → slice_get addresses o ≡ Some k → k ≡ address (layout T) places.spot o)
+      (addresses : List ℕ) (addressed : (o k : ℕ) → slice_get addresses o ≡ Some k → k ≡ address (layout T) places.start o)
       (memory : s.plain.memory ≡ mem) (word : ℕ) (live : LeadsToLive s v) (shows : Shows addresses v word) where
     by_type : (q : Option ℕ) → (kinds : List «Type») → MemoryFits T.code kinds mem → HasItsKind kinds q
         → Points T (type_of (erased T.code) frame q) word

@@ -1,38 +1,34 @@
 -- Accesses to chains of pages.
-use Rattle.std.proofs.Common.{◌≡◌, inl, inr, ⊎_elim, ℕ, zero, suc, ◌+◌, ◌-◌, ◌<◌, ◌≤◌, List, [], ◌∷◌, map, drop, slice_set, slice_index, refl, ap, sym, subst, ◌∙◌, arith}
+use Rattle.std.proofs.Common.{◌≡◌, inr, ⊎_elim, ℕ, zero, suc, ◌+◌, ◌-◌, ◌<◌, ◌≤◌, List, [], ◌∷◌, map, drop, slice_set, slice_index, refl, ap, sym, subst, ◌∙◌, arith}
 use Rattle.std.proofs.lemmas.Bool.Decides.{nat_tests}
-use Rattle.rgo_core_channels.specs.Channels.{Chan, On, channel}
 use Rattle.rgo_core_channels.proofs.Lists.{set_own}
-use Rattle.rgo_core_channels.proofs.Quiet.{word_keeps}
 use mathlib.Core.Logic.{dite}
 use native.Mathlib.Decide.{ℕ_discrete}
 use Rattle.rgo_core_memory.specs.Ground.{Ground, Steady, ground_of}
-use Rattle.rgo_core_memory.specs.Image.{Image as MemoryImage, Memory, Where, code_of}
+use Rattle.rgo_core_memory.specs.Image.{Image as MemoryImage, Memory, Where}
 use Rattle.rgo_core_memory.specs.Pages.{Chain, Chained, Free, Place, times}
 use Rattle.rgo_core_memory.specs.Parts.{Living, Use, Vacant, pages_at}
 use Rattle.rgo_core_memory.specs.Records.{Calm, Claim, Claims, Closes, Gave, Give, Gives, Giving, Got, Has, Hung, Idle, Past, Rec as MemoryRec, with_claim, with_give, Owes}
 use Rattle.rgo_core_memory.specs.Words.{base, count_at, head_at, next_at, put, state_at}
 use Rattle.rgo_core_memory.specs.declared.layout.TableSizes.{TableSizes}
 use Rattle.rgo_core_memory.proofs.Chains.{times_else, times_first}
-use Rattle.rgo_core_memory.proofs.Facts.{follow}
 use Rattle.rgo_core_memory.proofs.Keeps.{clear_keeps, free_keeps, hang_keeps, head_keeps, link_keeps, next_keeps, slot_keeps}
 use Rattle.rgo_core_memory.proofs.Rows.{set_here}
 use Rattle.rgo_core_memory.proofs.Slots.{one_closes, stake_slot}
 use Rattle.rgo_core_memory.proofs.Steadies.{steady_of}
 use Rattle.rgo_core.specs.Chains.{ClearMove, FreeMove, HangMove, HeadMove, LinkMove, NextMove, SlotMove, frees, remembers}
 use Rattle.rgo_core.specs.Core.{Here, Setup, layout}
-use Rattle.rgo_core.specs.Image.{Image, place_of}
+use Rattle.rgo_core.specs.Image.{Image}
 use Rattle.rgo_core.specs.Records.{ClockRec, Record, counted, memory_of, side_of}
 use Rattle.rgo_core.specs.Steps.{Steps}
-use Rattle.rgo_core.proofs.Leaving.{channel_stands}
 use Rattle.rgo_core.proofs.Lift.{access_law, moves_by, told_law}
 use Rattle.rgo_core.proofs.Parts.{I, frame_stays, image_with, side_stays}
 use Rattle.rgo_core.specs.Links.{Links, left_to_free}
 use Rattle.rgo_core_memory.specs.Owed.{claimed_for}
 use Rattle.rgo_core_memory.proofs.Owing.{still_claimed}
 use Rattle.rgo_core_memory.proofs.Stepped.{map_get}
-use Rattle.rgo_core.proofs.Links.{Waits, claims_apart, left_same, lengths_low, links_freeing}
-use Rattle.rgo_core.proofs.Standing.{memory_at}
+use Rattle.rgo_core.proofs.Links.{Waits, claims_apart, left_same, fixed_low, links_freeing}
+use Rattle.rgo_core.proofs.Standing.{channels_beside, memory_at}
 
 -- ---- pages of chains are pages of the table
 
@@ -108,14 +104,7 @@ module _ {T : Setup} {g : ℕ} {c : Record} (x : Here T g c) where
       image_with x (slice_set x.words i v) (record c { clock = k; memory = m }) x.s p (I x).at (I x).addresses (I x).addressed
       (frame_stays x x.s (I x).places.slot (I x).addresses (I x).frames) M
       (side_stays x (slice_set x.words i v) x.s p (I x).at
-      (word_keeps T.code (code_of (layout T) (I x).places) (place_of (layout T) (I x).places) x.words (map side_of x.recs) x.s (I x).at i v
-      (λ o l on. inl (before o l on)) (I x).channels))
-    where
-      before : (o : ℕ) (l : Chan) → On x.s o l → i < place_of (layout T) (I x).places o
-      before o l on =
-          let y = channel_stands x.s o l on in
-          let w = (follow (layout T) x.words (map memory_of x.recs) x.s (I x).places (I x).memory o 0 (channel l) y.0 y.1 (omega arith)).0 in
-          omega (arith, w, low)
+      (channels_beside T.code (layout T) (I x).places x.words (map side_of x.recs) x.s (I x).at i v low (I x).channels))
 
   -- the word stays
   pub look_image : (i : ℕ) → i < base (layout T) → (k : ClockRec) (m : MemoryRec)
@@ -136,14 +125,14 @@ module _ {T : Setup} {g : ℕ} {c : Record} (x : Here T g c) where
 
   -- its links, where the chain that it gives back stays as it is
   pub as_before : (i v : ℕ) → 32 + T.sizes.pages ≤ i → i < base (layout T) → (m : MemoryRec) → m.measured ≡ c.memory.measured
-      → left_to_free (layout T) x.words m.give ≡ left_to_free (layout T) x.words c.memory.give
+      → m.located ≡ c.memory.located → m.reserved ≡ c.memory.reserved → left_to_free (layout T) x.words m.give ≡ left_to_free (layout T) x.words c.memory.give
       → Links T.code (layout T) (slice_set x.words i v) (slice_set x.recs g (remembers c m))
-  as_before i v high low m measured give =
+  as_before i v high low m measured located reserved give =
       let words = slice_set x.words i v in
       let claims = claims_apart x i v (λ p l e. omega (arith, high, l, e)) in
-      links_freeing x words (lengths_low x i v low) (remembers c m) (λ j r e ne is closes. claims r)
+      links_freeing x words (fixed_low x i v low) (remembers c m) (λ j r e ne is closes. claims r)
       ((x.core.links g c x.is_c).owed ∙ (sym give ∙ sym (left_same (layout T) x.words words m.give (λ r closes. claims r))))
-      measured (Waits refl refl)
+      measured located (Waits refl refl reserved)
 
 one_less : (c : Record) (r q n : ℕ) → c.clock.owed ≡ suc n → counted (frees c r q).clock ≡ counted c.clock
 one_less c r q n owed = λ i. record (counted c.clock) {
@@ -193,7 +182,7 @@ hang_move T g c p r got =
     remembered x _ _ (chain_image x (head_at (layout T) r) (suc p) (omega (arith, low)) _ _ k.uses (put k.at p (Chained r))
     (put k.chain r (p ∷ k.chain r)) (put k.link p (slice_index x.words (head_at (layout T) r))) (put k.top r (suc p))
     (hang_keeps T.code (layout T) x.words (map memory_of x.recs) x.s k g c.memory x.core.sound.good (I x).memory (memory_at x) p r got))
-    (as_before x (head_at (layout T) r) (suc p) (omega arith) (omega (arith, low)) _ refl refl))
+    (as_before x (head_at (layout T) r) (suc p) (omega arith) (omega (arith, low)) _ refl refl refl refl))
 
 pub link_move : LinkMove
 link_move T g c p r old hung =
@@ -203,7 +192,7 @@ link_move T g c p r old hung =
     let low = hung_low (layout T) x.words (map memory_of x.recs) (ground_of x.s) k (I x).memory g c.memory (memory_at x) p r old hung in
     remembered x _ _ (chain_image x (next_at (layout T) p) old (omega (arith, low)) _ _ k.uses k.at k.chain k.link k.top
     (link_keeps T.code (layout T) x.words (map memory_of x.recs) x.s k g c.memory x.core.sound.good (I x).memory (memory_at x) p r old hung))
-    (as_before x (next_at (layout T) p) old (omega arith) (omega (arith, low)) _ refl refl))
+    (as_before x (next_at (layout T) p) old (omega arith) (omega (arith, low)) _ refl refl refl refl))
 
 pub head_move : HeadMove
 head_move T g c r owes =
@@ -221,7 +210,7 @@ head_move T g c r owes =
       after = remembers c d;
       more = refl;
       steps = remembered x _ _ (look_image x (head_at (layout T) r) (omega (arith, low)) _ _ M)
-          (as_before x (head_at (layout T) r) n (omega arith) (omega (arith, low)) d refl
+          (as_before x (head_at (layout T) r) n (omega arith) (omega (arith, low)) d refl refl refl
           (sym (ap (left_to_free (layout T) x.words) owes)));
       tells_so = (
         refl,
@@ -246,7 +235,7 @@ next_move T g c r p gives =
       after = remembers c d;
       more = refl;
       steps = remembered x _ _ (look_image x (next_at (layout T) p) (omega (arith, low)) _ _ M)
-          (as_before x (next_at (layout T) p) n (omega arith) (omega (arith, low)) d refl
+          (as_before x (next_at (layout T) p) n (omega arith) (omega (arith, low)) d refl refl refl
           (sym (ap (left_to_free (layout T) x.words) gives)));
       tells_so = (
         refl,
@@ -271,10 +260,10 @@ free_move T g c r p q past =
       image = chain_image x (state_at (layout T) p) 0 (omega (arith, low)) _ _ k.uses (put k.at p Free) (put k.chain r (drop 1 (k.chain r)))
           k.link (put k.top r q)
           (free_keeps T.code (layout T) x.words (map memory_of x.recs) x.s k g c.memory x.core.sound.good (I x).memory (memory_at x) r p q past);
-      links = links_freeing x (slice_set x.words (state_at (layout T) p) 0) (lengths_low x (state_at (layout T) p) 0 (omega (arith, low))) (frees c r q)
+      links = links_freeing x (slice_set x.words (state_at (layout T) p) 0) (fixed_low x (state_at (layout T) p) 0 (omega (arith, low))) (frees c r q)
           (λ j t e ne is closes. freed.1 t (λ same. ne (one_closes (layout T) x.words (map memory_of x.recs) (ground_of x.s) k (I x).memory r g j c.memory e.memory (memory_at x)
           (subst (λ (y : Give). Closes y r) (sym past) refl) (map_get memory_of x.recs j e is) (subst (Closes e.memory.give) same closes))))
-          (omega (arith, owed)) refl (Waits refl refl);
+          (omega (arith, owed)) refl refl (Waits refl refl refl);
     }))
     (λ x. (refl, one_owed x r p q past))
 
@@ -288,7 +277,7 @@ clear_move T g c r gives =
     (subst (λ (y : Give). Closes y r) (sym gives) refl) in
     remembered x _ _ (chain_image x (head_at (layout T) r) 0 (omega (arith, low)) _ _ k.uses k.at k.chain k.link k.top
     (clear_keeps T.code (layout T) x.words (map memory_of x.recs) x.s k g c.memory x.core.sound.good (I x).memory (memory_at x) r gives))
-    (as_before x (head_at (layout T) r) 0 (omega arith) (omega (arith, low)) _ refl
+    (as_before x (head_at (layout T) r) 0 (omega arith) (omega (arith, low)) _ refl refl refl
     (sym (ap (left_to_free (layout T) x.words) gives))))
     (λ x. (refl, none_owed x r gives))
 
@@ -301,6 +290,6 @@ slot_move T g c r gave =
     (subst (λ (y : Give). Closes y r) (sym gave) refl) in
     remembered x _ _ (chain_image x (count_at (layout T) r) 0 (omega (arith, low)) _ _ (put k.uses r Vacant) k.at k.chain k.link k.top
     (slot_keeps T.code (layout T) x.words (map memory_of x.recs) x.s k g c.memory x.core.sound.good (I x).memory (memory_at x) r gave))
-    (as_before x (count_at (layout T) r) 0 (omega arith) (omega (arith, low)) _ refl
+    (as_before x (count_at (layout T) r) 0 (omega arith) (omega (arith, low)) _ refl refl refl
     (sym (ap (left_to_free (layout T) x.words) gave
     ∙ still_claimed.none T.code (layout T) x.words (map memory_of x.recs) x.s k x.core.sound.good (I x).memory g r c.memory (memory_at x) gave))))

@@ -1,16 +1,14 @@
 -- The exchange that claims a page.
-use Rattle.std.proofs.Common.{◌≡◌, ◌≢◌, inl, ℕ, zero, suc, ◌+◌, ◌<◌, ◌≤◌, ◌==◌, ◌&&◌, Bool, true, false, List, [], ◌∷◌, Option, Some, map, if◌then◌else◌, option_and_then, slice_get, slice_set, slice_index, refl, ap, sym, subst, ◌∙◌, arith}
+use Rattle.std.proofs.Common.{◌≡◌, ◌≢◌, inl, ℕ, zero, suc, ◌+◌, ◌<◌, ◌≤◌, ◌==◌, Bool, true, false, List, [], ◌∷◌, nat_le, Option, Some, None, map, if◌then◌else◌, slice_get, slice_set, slice_index, refl, ap, sym, subst, ◌∙◌, arith}
 use Rattle.std.proofs.lemmas.Bool.Decides.{nat_tests}
 use Rattle.std.proofs.lemmas.Option.{same_Some}
 use Rattle.rgo_sound.specs.Code.Code.{Do}
 use Rattle.rgo_sound.specs.Memory.Memory.{Object}
-use Rattle.rgo_sound.specs.RegionMachine.Duties.{may_go}
-use Rattle.rgo_sound.specs.RegionMachine.Instructions.{has_none}
-use Rattle.rgo_sound.specs.RegionMachine.Machine.{TakePage, next_object, page_for, page_taken, region_step, take_page, takes_page}
-use Rattle.rgo_sound.specs.RegionMachine.Objects.{fill_of, making_region, wants_page, words as words_of}
+use Rattle.rgo_sound.specs.RegionMachine.Machine.{TakePage, next_object, page_taken}
+use Rattle.rgo_sound.specs.RegionMachine.Objects.{fill_of, fits, is_spread, making_region, wants_page, with_page as holder_with_page, words as words_of}
 use Rattle.rgo_sound.specs.RegionMachine.Owed.{function_of}
 use Rattle.rgo_sound.specs.RegionMachine.Regions.{RegionInfo, has_stakes, is_live, one_page_more, with_info}
-use Rattle.rgo_sound.specs.RegionMachine.States.{Holder, RegionState, frames_in, frames_of, top_names}
+use Rattle.rgo_sound.specs.RegionMachine.States.{Holder, RegionState, top_names}
 use Rattle.rgo_sound.specs.RegionMachine.declared.regions.Region.{Region}
 use Rattle.rgo_sound.specs.RegionMachine.declared.regions.Region.TheVariants.{Global as GlobalRegion, Numbered}
 use Rattle.rgo_sound.proofs.Tally.{tally_adds}
@@ -19,19 +17,19 @@ use Rattle.rgo_sound.specs.Typed.declared.actions.Action.{Action}
 use Rattle.rgo_core_channels.specs.Records.{at_rest}
 use Rattle.rgo_core_frames.specs.Before.{IsBefore}
 use Rattle.rgo_core_frames.specs.Makes.{MakesAt}
-use Rattle.rgo_core_frames.specs.Pages.{TakesPage}
+use Rattle.rgo_core_frames.specs.Pages.{TakesPage, after_page}
 use Rattle.rgo_core_frames.proofs.Making.{region_law}
-use Rattle.rgo_core_frames.proofs.Paging.{page_law}
+use Rattle.rgo_core_frames.proofs.Paging.{page_law, wants_own}
 use Rattle.rgo_core_memory.specs.Events.{MakesIn}
 use Rattle.rgo_core_memory.specs.Ground.{ground_of, held_of, taken_of}
-use Rattle.rgo_core_memory.specs.Image.{Memory, Where}
+use Rattle.rgo_core_memory.specs.Image.{Memory, Where, word_at}
 use Rattle.rgo_core_memory.specs.Pages.{Claimed}
 use Rattle.rgo_core_memory.specs.Parts.{slot_of}
-use Rattle.rgo_core_memory.specs.Records.{Fill, Idle, Rec as MemoryRec, Rest, Within, with_page, with_tried_page}
+use Rattle.rgo_core_memory.specs.Records.{Fill, Idle, Rec as MemoryRec, Rest, Within, with_page, with_tried_page, Closes}
 use Rattle.rgo_core_memory.specs.Words.{put, state_at}
 use Rattle.rgo_core_memory.specs.declared.layout.TableSizes.{TableSizes}
 use Rattle.rgo_core_memory.proofs.Attending.{makes_used, page_keeps}
-use Rattle.rgo_core_memory.proofs.Existing.{page_exists}
+use Rattle.rgo_core_memory.proofs.Spreads.{whole_of}
 use Rattle.rgo_core_memory.proofs.Keeps.{tried_page_keeps}
 use Rattle.rgo_core_memory.proofs.Stepped.{map_get}
 use Rattle.rgo_core.specs.Chains.{remembers}
@@ -46,24 +44,18 @@ use Rattle.rgo_core.proofs.Chains.{look_image, remembered}
 use Rattle.rgo_core.proofs.Lift.{access_law}
 use Rattle.rgo_core.proofs.MakesObject.{Made, at, b, made as it_makes}
 use Rattle.rgo_core.proofs.NewObjects.{slot_is}
+use Rattle.rgo_core.proofs.NextObject.{next_is}
 use Rattle.rgo_core.proofs.Parts.{I, frame_stays, shallow}
 use Rattle.rgo_core_channels.proofs.Lists.{set_own}
-use Rattle.rgo_core_memory.specs.Image.{word_at}
 use Rattle.rgo_core_memory.specs.Owed.{claimed_for}
-use Rattle.rgo_core_memory.specs.Records.{Closes}
 use Rattle.rgo_core_memory.proofs.Owing.{still_claimed}
 use Rattle.rgo_core_memory.proofs.Slots.{stake_open}
 use Rattle.rgo_core_memory.proofs.Steadies.{steady_of}
 use Rattle.rgo_core.specs.Links.{Links}
-use Rattle.rgo_core.proofs.Links.{Waits, all_kept, lengths_low, links_closing, links_with}
+use Rattle.rgo_core.proofs.Links.{Waits, all_kept, fixed_low, links_closing, links_with}
 use Rattle.rgo_core.proofs.Room.{page_there}
 use Rattle.rgo_core.proofs.Standing.{memory_at}
 use Rattle.rgo_core.proofs.Counting.{plus_zero}
-use Rattle.rgo_core.proofs.Duties.{test_of}
-
-and_last : (a b : Bool) → (a && b) ≡ true → b ≡ true
-and_last true b e = e
-and_last false b e = cc
 
 -- ---- a page more leaves all else
 
@@ -76,16 +68,16 @@ more_pages (i ∷ is) (suc k) zero = refl
 more_pages (i ∷ is) (suc k) (suc j) = more_pages is k j
 
 module _ (s : RegionState) (g : ℕ) (h : Holder) where
-  live_so : (r q : Region) → is_live (page_taken s g h r).regions q ≡ is_live s.regions q
+  pub live_so : (r q : Region) → is_live (page_taken s g h r).regions q ≡ is_live s.regions q
   live_so GlobalRegion q = refl
   live_so (Numbered k) GlobalRegion = refl
   live_so (Numbered k) (Numbered j) = more_pages s.regions k j
 
-  stays_so : (r : Region) → MemoryStays s (page_taken s g h r)
+  pub stays_so : (r : Region) → MemoryStays s (page_taken s g h r)
   stays_so GlobalRegion = record { memory = refl; owners = refl; printed = refl }
   stays_so (Numbered k) = record { memory = refl; owners = refl; printed = refl }
 
-  mark_so : (r : Region) → (page_taken s g h r).mark ≡ s.mark
+  pub mark_so : (r : Region) → (page_taken s g h r).mark ≡ s.mark
   mark_so GlobalRegion = refl
   mark_so (Numbered k) = refl
 
@@ -110,9 +102,9 @@ module _ {T : Setup} {g : ℕ} {c : Record} (x : Here T g c) (to : Option ℕ) (
   tried_steps ne = remembered x _ _ (look_image x (state_at z p) (omega (arith, low)) _ _
       (tried_page_keeps T.code z x.words recs x.s (I x).places g c.memory x.core.sound.good (I x).memory (memory_at x) p low ne))
       (links_with x (slice_set x.words (state_at z p) (slice_index x.words (state_at z p)))
-      (λ o cells r stands. ap (λ (w : List ℕ). slice_index w (word_at z (I x).places o 0)) (set_own x.words (state_at z p)))
+      (λ o n at r stands l fixed. ap (λ (w : List ℕ). slice_index w (word_at z (I x).places o n)) (set_own x.words (state_at z p)))
       (λ r. ap (λ (w : List ℕ). claimed_for z w r) (set_own x.words (state_at z p)))
-      (remembers c (with_tried_page c.memory p)) (all_kept refl refl refl) (Waits refl refl))
+      (remembers c (with_tried_page c.memory p)) (all_kept refl refl refl refl) (Waits refl refl refl))
 
   abbrev B : IsBefore T.code (I x).places.slot (I x).addresses x.s g c.frame a.w a.ws a.instr
   B = b x to act from removes a object
@@ -135,29 +127,39 @@ module _ {T : Setup} {g : ℕ} {c : Record} (x : Here T g c) (to : Option ℕ) (
   it : Made x to act from removes a object
   it = it_makes x to act from removes a object mk
 
-  exists : (t : RegionState) × (region_step T.code T.sizes.page_words x.s (TakePage g) ≡ Some t)
-  exists = page_exists T.code T.sizes.page_words x.s g h r object x.core.sound.good
-      (record { running = x.core.sound.running; there = B.there; owes = B.none; free = B.free })
-      (it.next r region.makes) small
-      (λ m e. let o = (I x).memory.filled.owned g m (held_of h) r (map_get held_of x.s.holders g h B.there)
-      (makes_used T.code x.s g h r x.core.sound.good B.there makes_in) e in
-      let same : o.1.0 ≡ c.memory = same_Some o.1.0 c.memory (sym o.1.1 ∙ memory_at x) in
-      let f = full o.0 (subst (λ (y : MemoryRec). Within o.0 y.fills) same o.1.2) (o.2 ∙ in_slot) in
-      let q = o.3 in omega (arith, f, q))
+  whole : is_spread T.sizes.page_words object ≡ false
+  whole = whole_of T.sizes.page_words object small
 
-  wants : wants_page T.sizes.page_words (fill_of h.fills r) (next_object T.code x.s g) ≡ true
-  wants = and_last (has_none h.duties && may_go h.offer && is_live x.s.regions r) _
-      (test_of _ (Some (page_taken x.s g h r)) exists.0
-      (sym (ap (option_and_then (λ (y : Holder). take_page T.code T.sizes.page_words x.s g y (frames_of x.s.plain g))) B.there
-      ∙ (ap (λ y. take_page T.code T.sizes.page_words x.s g h (frames_in y)) B.at
-      ∙ (ap (option_and_then (page_for T.code T.sizes.page_words x.s g h B.frame)) B.cur
-      ∙ ap (option_and_then (takes_page T.code T.sizes.page_words x.s g h)) region.makes))) ∙ exists.1))
+  next : next_object T.code x.s g ≡ Some object
+  next = next_is x to act from removes a object 1073741820 (omega arith) mk
+
+  wants : wants_page T.sizes.page_words h.reserved (fill_of h.fills r) object ≡ true
+  wants = wants_own T.sizes.page_words h.reserved (fill_of h.fills r) object whole (unfit (fill_of h.fills r) refl)
+    where
+      untrue : (m k : ℕ) → k < m → nat_le m k ≡ false
+      untrue m k l = grind (arith, nat_tests)
+
+      over : (m : ℕ) → fill_of h.fills r ≡ Some m → T.sizes.page_words < m + words_of object
+      over m e =
+          let o = (I x).memory.filled.owned g m (held_of h) r (map_get held_of x.s.holders g h B.there)
+          (makes_used T.code x.s g h r x.core.sound.good B.there makes_in) e in
+          let same : o.1.0 ≡ c.memory = same_Some o.1.0 c.memory (sym o.1.1 ∙ memory_at x) in
+          let f = full o.0 (subst (λ (y : MemoryRec). Within o.0 y.fills) same o.1.2) (o.2 ∙ in_slot) in
+          let q = o.3 in omega (arith, f, q)
+
+      unfit : (o : Option ℕ) → fill_of h.fills r ≡ o → fits T.sizes.page_words o (words_of object) ≡ false
+      unfit None e = refl
+      unfit (Some m) e = untrue (m + words_of object) T.sizes.page_words (over m e)
+
+  -- the holder after it
+  abbrev paged : Holder
+  paged = holder_with_page T.sizes.page_words h r object
 
   abbrev t : RegionState
-  t = page_taken x.s g h r
+  t = after_page (at x to act from removes a object) r object
 
-  P : TakesPage (at x to act from removes a object) r
-  P = page_law (at x to act from removes a object) r region.makes wants
+  P : TakesPage (at x to act from removes a object) r object
+  P = page_law (at x to act from removes a object) r object region.makes next wants
 
   counts : counted (claims c p sl).clock ≡ counts_plus (counted c.clock) (record no_share { taken = 1 })
   counts = λ i. record {
@@ -176,7 +178,8 @@ module _ {T : Setup} {g : ℕ} {c : Record} (x : Here T g c) (to : Option ℕ) (
   module _ (none : slice_index x.words (state_at z p) ≡ 0) where
     M : Memory z (slice_set x.words (state_at z p) (suc sl)) (slice_set recs g (with_page c.memory p sl)) t P'
     M = subst (λ k. Memory z (slice_set x.words (state_at z p) (suc k)) (slice_set recs g (with_page c.memory p k)) t P') in_slot
-        (page_keeps T.code z x.words recs x.s t g p h r c.memory x.core.sound.good (I x).places (I x).memory B.there (memory_at x) makes_in P.steps
+        (page_keeps T.code z x.words recs x.s t g p h r c.memory x.core.sound.good (I x).places (I x).memory B.there (memory_at x) makes_in
+        (object, next, whole) P.steps
         idle resting low none)
 
     -- a chain that is given back is of another slot
@@ -187,16 +190,16 @@ module _ {T : Setup} {g : ℕ} {c : Record} (x : Here T g c) (to : Option ℕ) (
         (map_get memory_of x.recs j e is) (subst (Closes e.memory.give) same closes)
 
     links : Links T.code z (slice_set x.words (state_at z p) (suc sl)) (slice_set x.recs g (claims c p sl))
-    links = links_closing x (slice_set x.words (state_at z p) (suc sl)) (lengths_low x (state_at z p) (suc sl) (omega (arith, low)))
+    links = links_closing x (slice_set x.words (state_at z p) (suc sl)) (fixed_low x (state_at z p) (suc sl) (omega (arith, low)))
         (λ j t e is closes. still_claimed.claim z x.words recs x.s (I x).places (I x).memory p sl t low none (other_slot j t e is closes))
-        (claims c p sl) (all_kept refl refl refl) (Waits refl refl)
+        (claims c p sl) (all_kept refl refl refl refl) (Waits refl refl refl)
 
     claimed_steps : Steps x (slice_set x.words (state_at z p) (suc sl)) (claims c p sl)
-    claimed_steps = inl (attends x rests (TakePage g) refl t P.steps (page_there x p low none) (stays_so x.s g h r) (claims c p sl).clock c.frame (with_page c.memory p sl)
+    claimed_steps = inl (attends x rests (TakePage g) refl t P.steps (page_there x p low none) (stays_so x.s g paged r) (claims c p sl).clock c.frame (with_page c.memory p sl)
         (I x).places.slot (I x).places.uses (put (I x).places.at p (Claimed g)) (put (I x).places.page (taken_of (ground_of x.s)) p)
-        (state_at z p) (suc sl) (omega (arith, low)) (λ o q e l. sym (live_so x.s g h r q) ∙ l)
+        (state_at z p) (suc sl) (omega (arith, low)) (λ o q e l. sym (live_so x.s g paged r q) ∙ l)
         (frame_stays x t (I x).places.slot (I x).addresses P.fit) M links
-        (record no_share { taken = 1 }) (tally_adds T.code T.sizes.page_words x.s t (TakePage g) P.steps) counts (shallow x) (mark_so x.s g h r)
+        (record no_share { taken = 1 }) (tally_adds T.code T.sizes.page_words x.s t (TakePage g) P.steps) counts (shallow x) (mark_so x.s g paged r)
         (record { prints = refl; first = refl; children = refl; refused = refl }))
 
 pub claim_move : ClaimMove

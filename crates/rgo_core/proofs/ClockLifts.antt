@@ -104,7 +104,7 @@ look_law T g c words recs run core at fits =
               counted = refl;
               same = record { prints = refl; first = refl; children = refl; refused = refl };
               image = image_same T.code (layout T) words recs x.s x.core.image g c d x.is_c refl refl refl;
-              links = links_same x d (all_kept refl refl refl) (Waits refl refl);
+              links = links_same x d (all_kept refl refl refl refl) (Waits refl refl refl);
             }))),
       );
       counts = refl;
@@ -144,7 +144,7 @@ module _ {T : Setup} {g : ℕ} {c : Record} (x : Here T g c) where
             refl refl refl refl refl);
         image = image_made T.code (layout T) x.words (slice_set x.recs g d) x.s (suc n)
             (image_same T.code (layout T) x.words x.recs x.s x.core.image g c d x.is_c refl refl refl);
-        links = links_low x 16 (suc n) (omega arith) d (all_kept refl refl refl) (Waits refl refl);
+        links = links_low x 16 (suc n) (omega arith) d (all_kept refl refl refl refl) (Waits refl refl refl);
       }
 
   -- below it

@@ -49,17 +49,18 @@ use Rattle.rgo_core.specs.AtChannels.{Operates, commits}
 use Rattle.rgo_core.specs.Bounds.{Points, target_type}
 use Rattle.rgo_core.specs.CommitMoves.{CloseMove, ReceiveMove, Receives, SendMove, ZeroMove}
 use Rattle.rgo_core.specs.Core.{Here, Setup, layout}
-use Rattle.rgo_core.specs.Image.{place_of}
+use Rattle.rgo_core_channels.specs.Positions.{place_at}
 use Rattle.rgo_core.specs.Records.{Record, frame_of, memory_of, steps_of}
 use Rattle.rgo_core.specs.Steps.{Does}
 use Rattle.rgo_core.proofs.AtChannels.{calm, here, next, object, place_is, points_to, reached}
 use Rattle.rgo_core.proofs.Bounds.{LeadsToLive, gives_points, held_live}
-use Rattle.rgo_core.proofs.ChannelMoves.{above, high, written}
+use Rattle.rgo_core.proofs.ChannelMoves.{above, control_at, high, written}
 use Rattle.rgo_core.proofs.Encodings.{shows_it, word_is}
 use Rattle.rgo_core.proofs.Leaving.{channel_stands}
 use Rattle.rgo_core.proofs.Parts.{adds_of, image_with, memory_stays, shallow}
 use Rattle.rgo_core.proofs.Standing.{side_at}
 use Rattle.rgo_core.specs.Moments.{moment}
+use Rattle.rgo_core.proofs.Unreserved.{adds_nothing}
 use Rattle.rgo_core.proofs.Links.{CountsOne, all_kept, links_beside, one_later}
 use Rattle.rgo_core.proofs.Counting.{instructed_counts}
 use Rattle.rgo_core.proofs.Lift.{moves_by}
@@ -110,7 +111,7 @@ module _ {T : Setup} {g : ℕ} {c : Record} (x : Here T g c) {to : Option ℕ} {
       (value.Object (object x a) ∷ values_of (here x a).before.frame others) x.s.plain.memory
       ≡ Some (MemoryDoes (with_object x.s.plain.memory (object x a) (channel y)) v))
       (shows : Shows x.core.image.addresses v word)
-      (gains : Gains (moment x) g (place_of (layout T) x.core.image.places (object x a)) w at_rest (Instruct (One g))
+      (gains : Gains (moment x) g (place_at (layout T) x.core.image.places (object x a)) w at_rest (Instruct (One g))
       (after (next x a) (with_object x.s.plain.memory (object x a) (channel y)) v)) where
     abbrev t : RegionState
     t = after (next x a) (with_object x.s.plain.memory (object x a) (channel y)) v
@@ -150,7 +151,7 @@ module _ {T : Setup} {g : ℕ} {c : Record} (x : Here T g c) {to : Option ℕ} {
         })
         (untold (layout T) x.words (map memory_of x.recs) (stored (ground_of x.s) (object x a) (channel y)) x.core.image.places
         (requeued (layout T) x.words (map memory_of x.recs) (ground_of x.s) x.core.image.places x.core.image.memory
-        (object x a) (channel k) stands.0 stands.1 (channel y) (ap (λ n. 2 + max 1 n) size) (told_same k y size))
+        (object x a) (channel k) stands.0 stands.1 (channel y) (ap (λ n. 2 + max 1 n) size, ap (λ n. max 1 n) size) (told_same k y size))
         (object x a) (channel y) stands.0 stands_then 0 w (omega arith) refl)
 
     pub commits_it : Does x (slice_set x.words at w) (commits a word)
@@ -170,12 +171,12 @@ module _ {T : Setup} {g : ℕ} {c : Record} (x : Here T g c) {to : Option ℕ} {
             (slice_set (map frame_of x.recs) g (commits a word).frame)) (sym same_state) H.fit)
             (memory_stays x (slice_set x.words at w) t x.core.image.places
             (subst (λ (i : ℕ). Memory (layout T) (slice_set x.words i w) (map memory_of x.recs) t x.core.image.places)
-            (place_is x a) memory_then))
+            (control_at x (object x a) k on ∙ place_is x a) memory_then))
             (subst (λ (i : ℕ). Gains (moment x) g i w at_rest (Instruct (One g)) t) (place_is x a) gains).channels;
         links = links_beside x at w (map memory_of x.recs)
             (subst (λ (i : ℕ). Memory (layout T) (slice_set x.words i w) (map memory_of x.recs) x.s x.core.image.places)
-            (place_is x a) (written x (object x a) k on 0 w (omega arith) refl))
-            (above x (reached x a)) (commits a word) (all_kept refl refl refl) (CountsOne (one_later (steps_of c)));
+            (control_at x (object x a) k on ∙ place_is x a) (written x (object x a) k on 0 w (omega arith) refl))
+            (above x (reached x a)) (commits a word) (all_kept refl refl refl refl) (CountsOne (one_later (steps_of c)) (adds_nothing x t gains.steps long));
       };
       mark = refl;
       printed = refl;
@@ -201,7 +202,7 @@ module _ {T : Setup} {g : ℕ} {c : Record} (x : Here T g c) {to : Option ℕ} {
     -- what is sent is in the record's word
     pub sent_is : (moment x).encode value_sent ≡ word_of a.here.w sent
     sent_is =
-        word_is x.core.image.addresses (address (layout T) x.core.image.places.spot) x.core.image.addressed value_sent
+        word_is x.core.image.addresses (address (layout T) x.core.image.places.start) x.core.image.addressed value_sent
         (word_of a.here.w sent)
         ((here x a).before.shown sent
         (subst (λ (o : CodeOp). Contains (reads (erased_op o)) sent) (sym a.here.is)
@@ -233,7 +234,7 @@ module _ {T : Setup} {g : ℕ} {c : Record} (x : Here T g c) {to : Option ℕ} {
   queue_shows : (o : ℕ) (k : Chan) (v : Value) (queue : List Value) → On x.s o k → k.queue ≡ v ∷ queue
       → Shows x.core.image.addresses v ((moment x).encode v)
   queue_shows o k v queue on filled =
-      shows_it x.core.image.addresses (address (layout T) x.core.image.places.spot) x.core.image.addressed v
+      shows_it x.core.image.addresses (address (layout T) x.core.image.places.start) x.core.image.addressed v
       (λ n e. subst IntFits e ints.0) made
     where
       fit : Each IntFits k.queue × IntFits (value.Int (pos k.capacity))

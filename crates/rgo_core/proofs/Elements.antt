@@ -1,5 +1,5 @@
 -- Accesses to elements of slices: the length is read, and then the element is loaded or stored.
-use Rattle.std.proofs.Common.{◌≡◌, ◌≢◌, inl, inr, ⊎_elim, ℕ, suc, ◌+◌, ◌<◌, ◌≤◌, nat_lt, Bool, true, pos, List, [], ◌∷◌, Option, Some, None, length, map, if◌then◌else◌, slice_get, slice_set, slice_index, refl, ap, sym, subst, ◌∙◌, arith, Contains}
+use Rattle.std.proofs.Common.{◌≡◌, ◌≢◌, inl, inr, ⊎_elim, ℕ, suc, ◌+◌, ◌<◌, ◌≤◌, nat_lt, Bool, false, true, pos, List, [], ◌∷◌, Option, Some, None, length, map, if◌then◌else◌, slice_get, slice_set, slice_index, refl, ap, sym, subst, ◌∙◌, arith, Contains}
 use Rattle.std.proofs.Math.ListN.{length-set}
 use Rattle.std.proofs.lemmas.Bool.Decides.{nat_tests}
 use Rattle.std.proofs.lemmas.Option.{same_Some}
@@ -11,7 +11,7 @@ use Rattle.rgo_sound.specs.Memory.Elements.{element_in, length_in, or_out_of_ran
 use Rattle.rgo_sound.specs.Memory.Memory.{Memory as Heap, Object, SliceObject, with_object}
 use Rattle.rgo_sound.specs.Memory.declared.values.Value.{Value}
 use Rattle.rgo_sound.specs.Memory.declared.values.Value.TheVariants as value
-use Rattle.rgo_sound.specs.RegionMachine.Objects.{words as words_of}
+use Rattle.rgo_sound.specs.RegionMachine.Objects.{is_spread, words as words_of}
 use Rattle.rgo_sound.proofs.Acting.{performed}
 use Rattle.rgo_sound.proofs.Places.{contains_here, contains_there, get_some, length_set}
 use Rattle.rgo_sound.specs.Tac.Code.{TacFn}
@@ -34,12 +34,14 @@ use Rattle.rgo_core_memory.specs.Accesses.{Before}
 use Rattle.rgo_core_memory.specs.Encoding.{address}
 use Rattle.rgo_core_memory.specs.Image.{Memory, code_of, word_at}
 use Rattle.rgo_core_memory.specs.Records.{Measured}
+use Rattle.rgo_core_memory.specs.Spread.{words_before}
 use Rattle.rgo_core_memory.specs.Words.{base}
 use Rattle.rgo_core_memory.proofs.Keeps.{measured_keeps}
 use Rattle.rgo_core_memory.proofs.Rows.{at_set, set_else}
 use Rattle.rgo_core_memory.proofs.Typing.{at_law, put_law}
-use Rattle.rgo_core.specs.Accesses.{AtMove, IsInSlice, MeasureMove, PutMove, measures}
-use Rattle.rgo_core.specs.Bounds.{Gives, LieInPages, Points, target_type}
+use Rattle.rgo_core.specs.Accesses.{AtMove, IsElementAt, IsInSlice, IsWhole, MeasureMove, PutMove, measures}
+use Rattle.rgo_core_memory.proofs.Spreads.{whole_of}
+use Rattle.rgo_core.specs.Bounds.{Gives, LieInPages, Points, slice_words, target_type}
 use Rattle.rgo_core.specs.Core.{Here, Setup, layout}
 use Rattle.rgo_core.specs.Links.{IsAtElement}
 use Rattle.rgo_core.specs.Next.{IsAt, acted}
@@ -50,7 +52,8 @@ use Rattle.rgo_core.proofs.Bounds.{held_live}
 use Rattle.rgo_core.proofs.Encodings.{small_int, word_is}
 use Rattle.rgo_core.proofs.Leaving.{apart_from}
 use Rattle.rgo_core.proofs.Lift.{access_law, moves_by}
-use Rattle.rgo_core.proofs.Links.{as_much, claims_high, lengths_in, links_by, same_place}
+use Rattle.rgo_core.proofs.Links.{Nowhere, Waits, as_much, claims_high, fixed_in, its_cell, its_pages, links_by, same_place}
+use Rattle.rgo_core.proofs.Locating.{element_high, located_word}
 use Rattle.rgo_core.proofs.Operands as operands
 use Rattle.rgo_core.proofs.Parts.{I, frame_stays, image_with, side_stays}
 use Rattle.rgo_core.proofs.Performing.{channels_after, performs}
@@ -78,12 +81,16 @@ module _ {T : Setup} {g : ℕ} {c : Record} (x : Here T g c) (at : ℕ) (here : 
         (frame_stays x x.s (I x).places.slot (I x).addresses (I x).frames)
         (measured_keeps T.code (layout T) x.words (map memory_of x.recs) x.s (I x).places g c.memory x.core.sound.good (I x).memory (memory_at x) m)
         (side_stays x x.words x.s (I x).places (I x).at (I x).channels);
-    links = links_by x x.words (λ o cells r stands. refl) d (λ j r e ne is closes. refl) (x.core.links g c x.is_c).owed
-        (λ n read. let same : m ≡ n = same_Some m n read in record {
-          past = subst (λ (y : Measured). y.steps ≤ steps_of c) same (as_much (steps_of c));
-          before = λ now. subst (λ (y : Measured). IsAtElement T.code d y.address) same (same_place T.code c d at refl here);
-          still = λ now. subst (λ (y : Measured). slice_index x.words (base (layout T) + y.address) ≡ y.elements) same refl;
-        });
+    links = links_by x x.words (λ o i object r stands low fixed. refl) d (λ j r e ne is closes. refl) (record {
+      owed = (x.core.links g c x.is_c).owed;
+      knows = λ n read. let same : m ≡ n = same_Some m n read in record {
+        past = subst (λ (y : Measured). y.steps ≤ steps_of c) same (as_much (steps_of c));
+        before = λ now. subst (λ (y : Measured). IsAtElement T.code d y.address) same (same_place T.code c d at refl here);
+        still = λ now. subst (λ (y : Measured). slice_index x.words (base (layout T) + y.address) ≡ y.elements) same refl;
+      };
+      finds = its_cell x x.words (λ o i object r stands low fixed. refl) d refl (Nowhere refl refl);
+      reserved = its_pages x x.words (λ o i object r stands low fixed. refl) d (Waits refl refl refl);
+    });
   }
 
   pub measured_steps : Steps x (slice_set x.words (base (layout T) + at) found) d
@@ -91,10 +98,14 @@ module _ {T : Setup} {g : ℕ} {c : Record} (x : Here T g c) (at : ℕ) (here : 
 
 pub measure_move : MeasureMove
 measure_move T g c at here =
-    moves_by T g c (base (layout T) + at) (λ n. n) (λ n. measures c at n) (λ n d. (d ≡ measures c at n) × LieInPages T at (suc n)) (λ n. refl)
+    moves_by T g c (base (layout T) + at) (λ n. n) (λ n. measures c at n) (λ n d. (d ≡ measures c at n) × LieInPages T at (slice_words T n)) (λ n. refl)
     (λ x. omega arith) (λ x small. measured_steps x at here) (λ x. (refl, (slices.at_slice x at here).lies))
 
 -- ---- the operands
+
+-- an element is behind the length
+elements_next : (cells : List Value) (index : ℕ) → suc index ≡ words_before (SliceObject cells) + index
+elements_next cells index = omega arith
 
 second_is : {X : Type 0} (a b a' b' : X) (xs ys : List X) → a ∷ b ∷ xs ≡ a' ∷ b' ∷ ys → b ≡ b'
 second_is a b a' b' xs ys e = cc
@@ -145,15 +156,31 @@ module _ {T : Setup} {g : ℕ} {c : Record} (x : Here T g c) (to : Option ℕ) (
   pub word_low : suc index < words_of (SliceObject cells)
   word_low = let l = within in omega (arith, l)
 
-  pub word_is_at : word_at (layout T) (I x).places it.object (suc index) ≡ base (layout T) + (at + suc index)
-  word_is_at = operands.word_there x to act (p ∷ q ∷ others) removes a p at (slice_of u) (int ∷ tys) (q ∷ others) types_are refl refl reads_slice
-      points (SliceObject cells) there (suc index) word_low
+  -- the length that was read says that the slice fits a page
+  pub fits_page : IsWhole T inside → is_spread T.sizes.page_words (SliceObject cells) ≡ false
+  fits_page whole =
+      let k = (x.core.links g c x.is_c).knows inside.measured inside.read in
+      let w = ap (λ n. slice_index x.words (base (layout T) + n)) (sym inside.its) ∙ k.still inside.now in
+      let l = slices.length_word x to act p (q ∷ others) removes a u (int ∷ tys) types_are reads_slice at points in
+      let m : suc (length cells) ≤ T.sizes.page_words = subst (λ n. suc n ≤ T.sizes.page_words) (sym w ∙ l) whole in
+      whole_of T.sizes.page_words (SliceObject cells) (omega (arith, m))
+
+  pub word_is_at : (word : ℕ) → IsElementAt T c at index inside word → word_at (layout T) (I x).places it.object (suc index) ≡ word
+  word_is_at word lies = ⊎_elim
+      (λ t. operands.word_there x to act (p ∷ q ∷ others) removes a p at (slice_of u) (int ∷ tys) (q ∷ others) types_are refl refl reads_slice
+      points (SliceObject cells) there (fits_page t.0) (suc index) word_low ∙ sym t.1)
+      (λ e. ap (word_at (layout T) (I x).places it.object) (elements_next cells index)
+      ∙ located_word x it.object (SliceObject cells) it.region
+      (slices.slice_stands x to act p (q ∷ others) removes a u (int ∷ tys) types_are reads_slice at points) at index word e
+      ((I x).addressed it.object at it.at))
+      lies
 
 -- ---- an element is loaded
 
 module _ {T : Setup} {g : ℕ} {c : Record} (x : Here T g c) (rests : c.side ≡ at_rest) (d p q at : ℕ) (removes : List ℕ)
     (a : IsAt T.code c (Do (Some d) action.At (p ∷ q ∷ []) removes)) (points : word_of_frame a.w p ≡ suc at)
-    (inside : IsInSlice c at (word_of_frame a.w q)) where
+    (inside : IsInSlice c at (word_of_frame a.w q)) (word : ℕ)
+    (lies : IsElementAt T c at (word_of_frame a.w q) inside word) where
   at_types : (u : «Type») × ((operands.rule x (Some d) action.At (p ∷ q ∷ []) removes a).0 ≡ slice_of u ∷ int ∷ [])
   at_types = slices.at_takes (erased T.code) (erased_fn a.fn) d (operands.rule x (Some d) action.At (p ∷ q ∷ []) removes a).0
       (operands.rule x (Some d) action.At (p ∷ q ∷ []) removes a).2
@@ -200,33 +227,34 @@ module _ {T : Setup} {g : ℕ} {c : Record} (x : Here T g c) (rests : c.side ≡
       ∙ (ap (λ (y : Option Object). Some (answered x.s.plain.memory (element_in y (pos i)))) at_there
       ∙ ap (λ (y : Option Value). Some (answered x.s.plain.memory (or_out_of_range y))) element.1)
 
-  at_index : word_at (layout T) (I x).places at_from.object (suc i) ≡ base (layout T) + (at + suc i)
-  at_index = word_is_at x (Some d) action.At p q [] removes a at_types.0 [] at_types.1 reads_p reads_q at points inside
+  at_index : word_at (layout T) (I x).places at_from.object (suc i) ≡ word
+  at_index = word_is_at x (Some d) action.At p q [] removes a at_types.0 [] at_types.1 reads_p reads_q at points inside word lies
 
-  at_shows : Shows (I x).addresses element.0 (slice_index x.words (base (layout T) + (at + suc i)))
+  at_shows : Shows (I x).addresses element.0 (slice_index x.words word)
   at_shows = subst (λ n. Shows (I x).addresses element.0 (slice_index x.words n)) at_index
       (operands.found_shows x (Some d) action.At (p ∷ q ∷ []) removes a p at (slice_of at_types.0) (int ∷ []) (q ∷ []) at_types.1 refl refl
       reads_p points (SliceObject at_cells) at_there (suc i) element.0 element.1)
 
-  pub at_steps : Steps x (slice_set x.words (base (layout T) + (at + suc i)) (slice_index x.words (base (layout T) + (at + suc i))))
-      (acted T.code c a (Some d) (slice_index x.words (base (layout T) + (at + suc i))))
-  at_steps = reads_word x rests d action.At (p ∷ q ∷ []) removes a (base (layout T) + (at + suc i)) element.0 at_does at_shows
+  pub at_steps : Steps x (slice_set x.words word (slice_index x.words word))
+      (acted T.code c a (Some d) (slice_index x.words word))
+  at_steps = reads_word x rests d action.At (p ∷ q ∷ []) removes a word element.0 at_does at_shows
       (at_law T.code (layout T) x.words (map memory_of x.recs) x.s
-      (read_step x rests d action.At (p ∷ q ∷ []) removes a (base (layout T) + (at + suc i)) element.0 at_does at_shows).state
+      (read_step x rests d action.At (p ∷ q ∷ []) removes a word element.0 at_does at_shows).state
       g at_from.object i (length at_cells) (I x).places x.core.sound.checked x.core.sound.good (I x).memory
-      (read_step x rests d action.At (p ∷ q ∷ []) removes a (base (layout T) + (at + suc i)) element.0 at_does at_shows).steps at_before
+      (read_step x rests d action.At (p ∷ q ∷ []) removes a word element.0 at_does at_shows).steps at_before
       (ap length_in at_there) at_within).3
 
-  pub at_points : Points T (target_type T a.w (Some d)) (slice_index x.words (base (layout T) + (at + suc i)))
-  at_points = read_points x rests d action.At (p ∷ q ∷ []) removes a (base (layout T) + (at + suc i)) element.0 at_does at_shows
+  pub at_points : Points T (target_type T a.w (Some d)) (slice_index x.words word)
+  at_points = read_points x rests d action.At (p ∷ q ∷ []) removes a word element.0 at_does at_shows
       (held_live x at_from.object (SliceObject at_cells) at_from.region
       (slices.slice_stands x (Some d) action.At p (q ∷ []) removes a at_types.0 (int ∷ []) at_types.1 reads_p at points) i element.0 element.1)
 
 pub at_move : AtMove
-at_move T g c d p q at removes a rests points inside =
-    moves_by T g c (base (layout T) + (at + suc (word_of_frame a.w q))) (λ n. n) (λ n. acted T.code c a (Some d) n) (Gives T c a (Some d)) (λ n. refl)
-    (λ x. omega arith) (λ x small. at_steps x rests d p q at removes a points inside)
-    (λ x. (refl, at_points x rests d p q at removes a points inside))
+at_move T g c d p q at word removes a rests points inside lies =
+    moves_by T g c word (λ n. n) (λ n. acted T.code c a (Some d) n) (Gives T c a (Some d)) (λ n. refl)
+    (λ x. let h = element_high T c at (word_of_frame a.w q) inside word lies in omega (arith, h))
+    (λ x small. at_steps x rests d p q at removes a points inside word lies)
+    (λ x. (refl, at_points x rests d p q at removes a points inside word lies))
 
 -- ---- an element is stored
 
@@ -244,7 +272,8 @@ second_word cells others i same e = omega (arith, e)
 
 module _ {T : Setup} {g : ℕ} {c : Record} (x : Here T g c) (rests : c.side ≡ at_rest) (p q r at : ℕ) (removes : List ℕ)
     (a : IsAt T.code c (Do None action.Put (p ∷ q ∷ r ∷ []) removes)) (points : word_of_frame a.w p ≡ suc at)
-    (inside : IsInSlice c at (word_of_frame a.w q)) where
+    (inside : IsInSlice c at (word_of_frame a.w q)) (word : ℕ)
+    (lies : IsElementAt T c at (word_of_frame a.w q) inside word) where
   abbrev from : List ℕ
   from = p ∷ q ∷ r ∷ []
 
@@ -310,11 +339,11 @@ module _ {T : Setup} {g : ℕ} {c : Record} (x : Here T g c) (rests : c.side ≡
   put_low : suc k < words_of (SliceObject put_cells)
   put_low = word_low x None action.Put p q (r ∷ []) removes a put_types.0 (put_types.0 ∷ []) put_types.1 puts_p puts_q at points inside
 
-  put_word : word_at (layout T) (I x).places o (suc k) ≡ base (layout T) + (at + suc k)
-  put_word = word_is_at x None action.Put p q (r ∷ []) removes a put_types.0 (put_types.0 ∷ []) put_types.1 puts_p puts_q at points inside
+  put_word : word_at (layout T) (I x).places o (suc k) ≡ word
+  put_word = word_is_at x None action.Put p q (r ∷ []) removes a put_types.0 (put_types.0 ∷ []) put_types.1 puts_p puts_q at points inside word lies
 
   same_word : code_of (layout T) (I x).places v ≡ word_of_frame a.w r
-  same_word = word_is (I x).addresses (address (layout T) (I x).places.spot) (I x).addressed v (word_of_frame a.w r)
+  same_word = word_is (I x).addresses (address (layout T) (I x).places.start) (I x).addressed v (word_of_frame a.w r)
       (operands.shown x None action.Put from removes a r
       (contains_there p (q ∷ r ∷ []) r (contains_there q (r ∷ []) r (contains_here r []))))
 
@@ -352,16 +381,17 @@ module _ {T : Setup} {g : ℕ} {c : Record} (x : Here T g c) (rests : c.side ≡
       (apart_from (layout T) x.words (map memory_of x.recs) x.s (I x).places (I x).memory o (suc k) (word_of_frame a.w r) (SliceObject put_cells)
       put_to.region stands_there put_low (λ j l on. other j l on.0)))
       (claims_high x (word_at (layout T) (I x).places o (suc k)) (word_of_frame a.w r) (omega arith))
-      (lengths_in x o (suc k) (SliceObject put_cells) put_to.region stands_there put_low (λ others same. second_word put_cells others k same)
+      (fixed_in x o (suc k) (SliceObject put_cells) put_to.region stands_there put_low (λ others same. second_word put_cells others k same)
       (word_of_frame a.w r))
     where
       stands_there : Rattle.rgo_core_memory.specs.Ground.Stands x.s.plain.memory.heap x.s.owners x.s.regions o (SliceObject put_cells) put_to.region
       stands_there = slices.slice_stands x None action.Put p (q ∷ r ∷ []) removes a put_types.0 (int ∷ put_types.0 ∷ []) put_types.1 puts_p at points
 
-  pub put_steps : Steps x (slice_set x.words (base (layout T) + (at + suc k)) (word_of_frame a.w r)) (acted T.code c a None 0)
+  pub put_steps : Steps x (slice_set x.words word (word_of_frame a.w r)) (acted T.code c a None 0)
   put_steps = inl (subst (λ n. Does x (slice_set x.words n (word_of_frame a.w r)) (acted T.code c a None 0)) put_word put_done)
 
 pub put_move : PutMove
-put_move T g c p q r at removes a rests points inside =
-    access_law T g c (base (layout T) + (at + suc (word_of_frame a.w q))) (λ n. word_of_frame a.w r) (λ n. acted T.code c a None 0) (omega arith)
-    (λ n. refl) (λ x small. put_steps x rests p q r at removes a points inside)
+put_move T g c p q r at word removes a rests points inside lies =
+    access_law T g c word (λ n. word_of_frame a.w r) (λ n. acted T.code c a None 0)
+    (let h = element_high T c at (word_of_frame a.w q) inside word lies in omega (arith, h))
+    (λ n. refl) (λ x small. put_steps x rests p q r at removes a points inside word lies)

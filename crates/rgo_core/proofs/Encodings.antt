@@ -1,7 +1,6 @@
 -- One encoding of values: the word that shows a value is the one that encodes it. Pointers to objects that were made are
 -- encoded as before when an object more has been placed.
-use Rattle.std.proofs.Common.{◌≡◌, ℕ, suc, ◌+◌, ◌*◌, ◌<◌, ◌^◌, FitsSigned, ℤ, pos, List, [], ◌∷◌, length, Option, Some}
-use Rattle.std.proofs.Common.{slice_get, refl, ap, sym, subst, ◌∙◌, arith, w64}
+use Rattle.std.proofs.Common.{◌≡◌, ℕ, suc, ◌+◌, ◌*◌, ◌<◌, ◌^◌, FitsSigned, ℤ, pos, List, [], ◌∷◌, length, Option, Some, slice_get, refl, ap, sym, subst, ◌∙◌, arith, w64}
 use Rattle.std.specs.Int.{cast_signed, cast_unsigned}
 use Rattle.std.proofs.lemmas.Int.{of_z-to_z}
 use mir.ValLaws as laws
@@ -57,13 +56,13 @@ module _ (addresses : List ℕ) (at : ℕ → ℕ) (addressed : (o a : ℕ) → 
 
 -- ---- another object has a place
 
-pub old_code : (z : TableSizes) (a b : ℕ → ℕ → Spot) (n : ℕ) → ((o : ℕ) → o < n → b o ≡ a o) → (v : Value)
+pub old_code : (z : TableSizes) (a b : ℕ → Spot) (n : ℕ) → ((o : ℕ) → o < n → b o ≡ a o) → (v : Value)
     → ((p : ℕ) → v ≡ value.Object p → p < n) → encode (address z b) v ≡ encode (address z a) v
 old_code z a b n same (value.Int m) l = refl
 old_code z a b n same (value.Bool m) l = refl
 old_code z a b n same value.Nil l = refl
 old_code z a b n same (value.Object p) l =
-    ap (λ (s : ℕ → Spot). suc ((s 0).page * z.page_words + (s 0).offset)) (same p (l p refl))
+    ap (λ (s : Spot). suc (s.page * z.page_words + s.offset)) (same p (l p refl))
 
 -- ---- pointers lead to objects that were made
 

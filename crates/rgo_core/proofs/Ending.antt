@@ -1,11 +1,11 @@
 -- A run is ended for want of room, or by a limit.
-use Rattle.std.proofs.Common.{◌≡◌, ℕ, ◌+◌, ◌<◌, ◌^◌, true, option_map, List, [], ◌∷◌, ◌++◌, Option, Some, None, length, map, slice_set, slice_index, bit_or, refl, ap, sym, subst, ◌∙◌, arith}
+use Rattle.std.proofs.Common.{◌≡◌, nat_lt, ℕ, ◌+◌, ◌<◌, ◌^◌, true, option_map, List, ◌∷◌, Option, Some, None, length, map, slice_set, slice_index, bit_or, refl, ap, sym, subst, ◌∙◌, arith}
+use Rattle.std.proofs.lemmas.Bool.Decides.{nat_tests}
 use Rattle.std.proofs.lemmas.List.{length-map}
 use Rattle.std.proofs.lemmas.Option.{same_Some}
 use Rattle.rgo_sound.specs.Code.Code.{Call, Code, CodeFn, CodeInstr, CodeOp, Do, Go}
 use Rattle.rgo_sound.specs.Code.Erasure.{erased, erased_instr, erased_op}
 use Rattle.rgo_core_channels.proofs.Quiet.{finish_keeps}
-use Rattle.rgo_core_channels.specs.Channels.{Channels}
 use Rattle.rgo_core_frames.proofs.Ending.{finish_law}
 use Rattle.rgo_core_frames.proofs.Sound.{next_sound}
 use Rattle.rgo_core_memory.proofs.Elsewhere.{ground_keeps}
@@ -14,28 +14,25 @@ use Rattle.rgo_core_memory.specs.Image.{code_of}
 use Rattle.rgo_sound.specs.Machine.Limits.{IsAtCall, IsAtStart, deepest}
 use Rattle.rgo_sound.specs.Machine.Machines.{AtCall, AtStart}
 use Rattle.rgo_sound.specs.Memory.Memory.{Object}
-use Rattle.rgo_sound.specs.Memory.declared.values.Value.TheVariants as value
 use Rattle.rgo_sound.specs.RegionMachine.Machine.{Finish, finished, kept}
-use Rattle.rgo_sound.specs.RegionMachine.Objects.{words as words_of}
+use Rattle.rgo_sound.specs.RegionMachine.Objects.{data_pages, is_too_large, most_data_pages}
 use Rattle.rgo_sound.specs.RegionMachine.Owed.{current, function_of}
 use Rattle.rgo_sound.specs.RegionMachine.States.{Mark, RegionState, Stopped}
 use Rattle.rgo_sound.specs.RegionMachine.declared.limits.Limit.{Limit}
 use Rattle.rgo_sound.specs.RegionMachine.declared.limits.Limit.TheVariants.{Calls, Goroutines, ObjectSize}
-use Rattle.rgo_sound.proofs.Acting.{Acted, act as act_of, act_at, after, alone, effected, trap_place}
+use Rattle.rgo_sound.proofs.Acting.{after}
 use Rattle.rgo_sound.proofs.OneStep.{current_erased}
-use Rattle.rgo_sound.proofs.Places.{get_append_last}
-use Rattle.rgo_sound.proofs.Progress.{one_step}
 use Rattle.rgo_sound.specs.Tally.{no_share}
 use Rattle.rgo_sound.proofs.Ruled.{erased_found}
-use Rattle.rgo_sound.specs.Tac.Frames.{Frame, going, moved_to, values_of}
+use Rattle.rgo_sound.specs.Tac.Frames.{Frame, moved_to, values_of}
 use Rattle.rgo_sound.specs.Tac.Steps.{at_function, stand, stand_at, stand_before}
-use Rattle.rgo_sound.specs.Tac.Tac.{TacState}
 use Rattle.rgo_sound.specs.Typed.declared.actions.Action.{Action}
 use Rattle.rgo_sound.specs.Tac.declared.regions.Class.{Class}
 use Rattle.rgo_core.specs.Causes.{Stops}
 use Rattle.rgo_core.specs.ClockSteps.{Ends, first_mark}
 use Rattle.rgo_core.specs.Core.{Here, Setup, layout}
-use Rattle.rgo_core.specs.Image.{Image, place_of}
+use Rattle.rgo_core_channels.specs.Positions.{cell_place, place_at}
+use Rattle.rgo_core.specs.Image.{Image, ChannelsIn}
 use Rattle.rgo_core.specs.Laws.{CallsMove, FullMove, StopMove}
 use Rattle.rgo_core.specs.NewObjects.{LargeMove, ObjectOf}
 use Rattle.rgo_core.specs.Next.{IsAt}
@@ -43,7 +40,8 @@ use Rattle.rgo_core.specs.Records.{Record, clock_of, counted, frame_of, memory_o
 use Rattle.rgo_core.proofs.ClockLifts.{end_law}
 use Rattle.rgo_core.proofs.Counting.{plus_none}
 use Rattle.rgo_core.proofs.Lift.{as_long, clock_at, many, many_set, shallow_here}
-use Rattle.rgo_core.proofs.MakesObject.{b, makes_it}
+use Rattle.rgo_core.proofs.MakesObject.{b}
+use Rattle.rgo_core.proofs.NextObject.{done, object_there, steps_plain}
 use Rattle.rgo_core.proofs.Printing.{counts_step}
 use Rattle.rgo_core.proofs.Standing.{at_instruction, frame_at, frames_here, image_clock, image_same}
 use Rattle.rgo_core.proofs.Links.{Waits, all_kept, links_low}
@@ -68,8 +66,8 @@ module _ {T : Setup} {g : ℕ} {c : Record} (x : Here T g c) (why : Limit) (stop
         addressed = x.core.image.addressed;
         frames = p.fit;
         memory = ground_keeps (layout T) x.words (map memory_of x.recs) x.s p.state x.core.image.places (ap ground_of (sym is)) x.core.image.memory;
-        channels = subst (λ (t : RegionState). Channels T.code (code_of (layout T) x.core.image.places) (place_of (layout T) x.core.image.places) x.words (map side_of x.recs) t x.core.image.at) is
-            (finish_keeps T.code (code_of (layout T) x.core.image.places) (place_of (layout T) x.core.image.places) x.words (map side_of x.recs) x.s x.core.image.at why x.core.image.channels);
+        channels = subst (λ (t : RegionState). ChannelsIn T.code (layout T) x.core.image.places x.words (map side_of x.recs) t x.core.image.at) is
+            (finish_keeps T.code T.sizes.page_words (code_of (layout T) x.core.image.places) (place_at (layout T) x.core.image.places) (cell_place (layout T) x.core.image.places) x.words (map side_of x.recs) x.s x.core.image.at why x.core.image.channels);
       } in
       let image = image_same T.code (layout T) x.words x.recs p.state after g c d x.is_c refl refl refl in
       record {
@@ -84,7 +82,7 @@ module _ {T : Setup} {g : ℕ} {c : Record} (x : Here T g c) (why : Limit) (stop
           counted = sym (plus_none (counted c.clock));
           shallow = shallow_here x g c.frame (frame_at x);
           image = image_clock T.code (layout T) x.words (slice_set x.recs g d) p.state (bit_or (slice_index x.words 0) 9223372036854775808) image;
-          links = links_low x 0 (bit_or (slice_index x.words 0) 9223372036854775808) (omega arith) d (all_kept refl refl refl) (Waits refl refl);
+          links = links_low x 0 (bit_or (slice_index x.words 0) 9223372036854775808) (omega arith) d (all_kept refl refl refl refl) (Waits refl refl refl);
         };
         marked = p.mark_is ∙ kept_is x.s.mark why;
         printed = p.same.printed;
@@ -148,44 +146,24 @@ pub full_move : FullMove
 full_move T g c f callee from passes removes a is refused =
     stop_move T g c Goroutines (λ x. no_more x f callee from passes removes is a refused)
 
--- ---- an object that no page holds
+-- ---- an object of too many data pages
+
+less_is : (m n : ℕ) → nat_lt m n ≡ true → m < n
+less_is m n e = grind (arith, nat_tests)
 
 module _ {T : Setup} {g : ℕ} {c : Record} (x : Here T g c) (to : Option ℕ) (act : Action) (from removes : List ℕ)
     (a : IsAt T.code c (Do to act from removes)) (object : Object) (makes : ObjectOf (2 ^ 63) T.code a.w to act from object)
-    (large : T.sizes.page_words < words_of object) where
-  abbrev old : TacState
-  old = x.s.plain
-
-  abbrev frame : Frame
-  frame = (b x to act from removes a object).frame
-
-  abbrev callers : List Frame
-  callers = (b x to act from removes a object).callers
-
-  abbrev done : Acted
-  done = record {
-    memory = record old.memory { heap = old.memory.heap ++ object ∷ [] };
-    frames = going frame to (value.Object (length old.memory.heap)) ∷ callers;
-    started = [];
-    printed = [];
-    trap = None;
-  }
-
-  acts_so : alone (erased T.code) old.memory (frame ∷ callers) ≡ Some done
-  acts_so =
-      ap (λ i. act_at (erased T.code) old.memory i frame callers)
-      (current_erased T.code frame ∙ ap (option_map erased_instr) (b x to act from removes a object).cur)
-      ∙ (ap (λ op. act_of (erased T.code) old.memory (erased_op op) a.instr.place frame callers) a.is
-      ∙ ap (effected old.memory frame callers to (trap_place act a.instr.place))
-      (makes_it x to act from removes a object (2 ^ 63) (omega arith) makes))
-
+    (large : is_too_large T.sizes.page_words object ≡ true) where
   pub too_large : Stops T.code T.sizes T.limits ObjectSize x.s
   too_large = (
     g,
-    after old g done,
-    one_step T.code old g (frame ∷ callers) x.core.sound.running (b x to act from removes a object).at
-        ∙ ap (option_map (after old g)) acts_so,
-    (object, get_append_last old.memory.heap object (length old.memory.heap) refl, large),
+    after x.s.plain g (done x to act from removes a object (2 ^ 63) (omega arith) makes),
+    steps_plain x to act from removes a object (2 ^ 63) (omega arith) makes,
+    (
+      object,
+      object_there x to act from removes a object (2 ^ 63) (omega arith) makes,
+      less_is (most_data_pages T.sizes.page_words) (data_pages T.sizes.page_words object) large,
+    ),
   )
 
 pub large_move : LargeMove

@@ -4,7 +4,7 @@ use Rattle.std.proofs.lemmas.Option.{same_Some}
 use Rattle.rgo_sound.specs.Code.Code.{Code, CodeInstr, Do}
 use Rattle.rgo_core_frames.specs.Opening.{no_record}
 use Rattle.rgo_core_frames.specs.WordFrames.{WordFrame, bare, word_at}
-use Rattle.rgo_core_memory.specs.Records.{Measured}
+use Rattle.rgo_core_memory.specs.Records.{Located, Measured}
 use Rattle.rgo_sound.specs.RegionMachine.Examples.{int_slot, main_of, plain}
 use Rattle.rgo_sound.specs.RegionMachine.Owed.{current}
 use Rattle.rgo_sound.specs.Typed.declared.actions.Action.TheVariants.{At, Put}
@@ -57,6 +57,9 @@ no_put d from others removes removes' e = cc e
 measured_is : (m : Measured) → Some four ≡ Some m → four ≡ m
 measured_is m e = same_Some four m e
 
+no_location : (l : Located) → None ≡ Some l → ⊥
+no_location l e = cc e
+
 no_measure : (m : Measured) → None ≡ Some m → ⊥
 no_measure m e = cc e
 
@@ -89,7 +92,12 @@ examples = record {
   left_after = refl;
   left_none = refl;
   left_other = refl;
-  owes = record { owed = refl; knows = λ m read. absurd (no_measure m read) };
+  owes = record {
+    owed = refl;
+    knows = λ m read. absurd (no_measure m read);
+    finds = λ l read. absurd (no_location l read);
+    reserved = λ some. absurd (omega (arith, some));
+  };
   owes_fewer = λ k. let e : ◌≡◌ {A = ℕ} 1 2 = k.owed in omega (arith, e);
 }
   where

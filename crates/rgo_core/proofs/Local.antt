@@ -29,6 +29,7 @@ use Rattle.rgo_sound.specs.RegionMachine.Owed.{current}
 use Rattle.rgo_sound.specs.RegionMachine.Room.{has_room}
 use Rattle.rgo_sound.specs.RegionMachine.States.{Duty, Ended, Holder, Mark, RegionState}
 use Rattle.rgo_sound.specs.Tally.{counts_plus, no_share}
+use Rattle.rgo_sound.specs.Memory.Memory.{Memory as Heap}
 use Rattle.rgo_sound.specs.Tac.Frames.{Frame}
 use Rattle.rgo_core.specs.Core.{Here, Setup, layout}
 use Rattle.rgo_core.specs.ClockSteps.{Ends, first_mark}
@@ -44,7 +45,8 @@ use Rattle.rgo_core.proofs.Printing.{counts_step}
 use Rattle.rgo_core.proofs.Standing.{frames_here, image_clock, side_at}
 use Rattle.rgo_core.proofs.Room.{no_creation}
 use Rattle.rgo_core.proofs.Staying.{image_stays}
-use Rattle.rgo_core.proofs.Links.{Advances, CountsOne, IsElsewhere, Keeps, all_kept, as_much, has_duty, links_low, links_same, one_later}
+use Rattle.rgo_core.proofs.Unreserved.{adds_nothing}
+use Rattle.rgo_core.proofs.Links.{Advances, CountsOne, IsElsewhere, Keeps, all_kept, as_much, has_duty, links_low, links_same, one_later, owing_none}
 
 -- ---- what a quiet step of a record is
 
@@ -171,12 +173,17 @@ module _ {T : Setup} {g : ℕ} {c : Record} (x : Here T g c) (rest : c.side ≡ 
       (shown ds refl p.state p.steps p.same.memory p.same.owners p.regions_are p.same.global_pages)
 
   local_keeps : (l : List Duty) → Keeps c (after (clock_after l c.clock))
-  local_keeps [] = all_kept refl refl refl
-  local_keeps (d ∷ l) = all_kept refl refl refl
+  local_keeps [] = all_kept refl refl refl refl
+  local_keeps (d ∷ l) = all_kept refl refl refl refl
 
-  local_advances : (l : List Duty) → c.frame.holder.duties ≡ l → Advances T.code c (after (clock_after l c.clock))
-  local_advances [] owes = CountsOne (one_later (steps_of c))
-  local_advances (d ∷ l) owes = IsElsewhere (as_much (steps_of c)) (has_duty T.code c d l owes)
+  -- where it owes nothing, it makes no object
+  nothing_made : region_step T.code T.sizes.page_words x.s (Instruct (One g)) ≡ Some p.state → c.memory.reserved.pages ≡ []
+  nothing_made step = adds_nothing x p.state step (ap (λ (m : Heap). length m.heap) p.same.memory)
+
+  local_advances : (l : List Duty) → c.frame.holder.duties ≡ l → region_step T.code T.sizes.page_words x.s (event_by g l) ≡ Some p.state
+      → Advances T.code c (after (clock_after l c.clock))
+  local_advances [] owes step = CountsOne (one_later (steps_of c)) (nothing_made step)
+  local_advances (d ∷ l) owes step = IsElsewhere (as_much (steps_of c)) (has_duty T.code c d l owes) (owing_none x d l owes)
 
   -- it creates no region
   has_room_by : (l : List Duty) → region_step T.code T.sizes.page_words x.s (event_by g l) ≡ Some p.state → has_room T.sizes x.s (event_by g l) ≡ true
@@ -201,7 +208,7 @@ module _ {T : Setup} {g : ℕ} {c : Record} (x : Here T g c) (rest : c.side ≡ 
       counted = record_counts ds c.clock;
       shallow = short;
       image = local_image (clock_after ds c.clock);
-      links = links_same x (after (clock_after ds c.clock)) (local_keeps ds) (local_advances ds refl);
+      links = links_same x (after (clock_after ds c.clock)) (local_keeps ds) (local_advances ds refl p.steps);
     };
     mark = p.mark_is ∙ (ap (marked x.s.mark) (no_end g ds e.frames stays) ∙ mark_stays x.s.mark);
     printed = p.same.printed;
@@ -223,7 +230,9 @@ module _ {T : Setup} {g : ℕ} {c : Record} (x : Here T g c) (rest : c.side ≡ 
       image = image_clock T.code (layout T) x.words (slice_set x.recs g (after (with_end (instructed c.clock) (slice_index x.words 0) (Ended Exit)))) p.state
           (bit_or (slice_index x.words 0) 9223372036854775808) (local_image (with_end (instructed c.clock) (slice_index x.words 0) (Ended Exit)));
       links = links_low x 0 (bit_or (slice_index x.words 0) 9223372036854775808) (omega arith)
-          (after (with_end (instructed c.clock) (slice_index x.words 0) (Ended Exit))) (all_kept refl refl refl) (CountsOne (one_later (steps_of c)));
+          (after (with_end (instructed c.clock) (slice_index x.words 0) (Ended Exit))) (all_kept refl refl refl refl)
+          (CountsOne (one_later (steps_of c))
+          (nothing_made (subst (λ (l : List Duty). region_step T.code T.sizes.page_words x.s (event_by g l) ≡ Some p.state) none p.steps)));
     };
     marked = p.mark_is ∙ (ap (λ (l : List Duty). marked x.s.mark (end_by_frames g l e.frames)) none
         ∙ (ap (marked x.s.mark) (some_end g e.frames exits) ∙ marked_exit x.s.mark));

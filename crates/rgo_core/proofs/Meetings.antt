@@ -51,8 +51,8 @@ use Rattle.rgo_core.specs.CommitMoves.{AcknowledgeMove, IsAtSend, MeetMove, Offe
 use Rattle.rgo_core.specs.Core.{Here, Setup, layout}
 use Rattle.rgo_core.specs.Records.{Record, counted, frame_of, memory_of, side_of, steps_of}
 use Rattle.rgo_core.specs.Steps.{Does}
-use Rattle.rgo_core.proofs.AtChannels.{Reaches, here, calm, next, object, place_is, points_to, reached, reaches}
-use Rattle.rgo_core.proofs.ChannelMoves.{above, high, written}
+use Rattle.rgo_core.proofs.AtChannels.{Reaches, here, calm, next, object, place_is, points_to, reached, reaches, same_operands, standing_or_taken}
+use Rattle.rgo_core.proofs.ChannelMoves.{above, control_at, high, written}
 use Rattle.rgo_core.proofs.Commits.{as_shallow, sent_is, value_sent}
 use Rattle.rgo_core.proofs.Counting.{instructed_counts, plus_none}
 use Rattle.rgo_core.proofs.Bounds.{LeadsToLive, leads_in, typed_at}
@@ -61,16 +61,16 @@ use Rattle.rgo_core.proofs.MakesObject.{type_alike}
 use Rattle.rgo_core.proofs.Parts.{adds_of, image_with, memory_stays, shallow}
 use Rattle.rgo_core.proofs.Standing.{frames_here, side_at}
 use Rattle.rgo_core.specs.Moments.{moment}
-use Rattle.rgo_core.proofs.Links.{CountsOne, IsElsewhere, all_kept, as_much, at_send, links_beside, one_later}
+use Rattle.rgo_core.proofs.Links.{CountsOne, IsElsewhere, all_kept, as_much, at_send, links_beside, makes_none, one_later, sends_none}
 use Rattle.rgo_core.proofs.Lift.{moves_by}
-use Rattle.rgo_core.proofs.AtChannels.{same_operands, standing_or_taken}
 
 module _ {T : Setup} {g : ℕ} {c : Record} (x : Here T g c) where
   -- the control of its channel is stored, as memory shows it
   control_written : {control : ℕ} → Reaches x control → (w : ℕ)
       → Memory (layout T) (slice_set x.words control w) (map memory_of x.recs) x.s x.core.image.places
   control_written r w =
-      subst (λ (i : ℕ). Memory (layout T) (slice_set x.words i w) (map memory_of x.recs) x.s x.core.image.places) r.place_is
+      subst (λ (i : ℕ). Memory (layout T) (slice_set x.words i w) (map memory_of x.recs) x.s x.core.image.places)
+      (control_at x r.object r.chan r.on ∙ r.place_is)
       (written x r.object r.chan r.on 0 w (omega arith) refl)
 
 -- ---- an offer
@@ -112,9 +112,11 @@ module _ {T : Setup} {g : ℕ} {c : Record} (x : Here T g c) {to : Option ℕ} {
               x.core.image.places (control_written x (reached x a) (n + 4)) G.steps tt))
               G.channels;
           links = links_beside x at (n + 4) (map memory_of x.recs) (control_written x (reached x a) (n + 4)) (above x (reached x a)) (offers c at)
-              (all_kept refl refl refl)
+              (all_kept refl refl refl refl)
               (IsElsewhere (as_much (steps_of c)) (at_send T.code c a.here.w a.here.ws a.here.frames a.here.instr a.here.cur to (a.channel ∷ sent ∷ [])
-              a.removes a.here.is));
+              a.removes a.here.is)
+              (sends_none T.code c a.here.w a.here.ws a.here.frames a.here.instr a.here.cur to (a.channel ∷ sent ∷ []) a.removes a.here.is (layout T)
+              x.words (x.core.links g c x.is_c)));
         };
         mark = refl;
         printed = refl;
@@ -174,7 +176,7 @@ module _ {T : Setup} {g : ℕ} {c : Record} (x : Here T g c) (s o : ℕ) (v : Va
             (subst (λ (o : CodeOp). Contains (reads (erased_op o)) q.sent) (sym q.is)
             (contains_there q.channel (q.sent ∷ []) q.sent (contains_here q.sent []))) in
             subst (Shows x.core.image.addresses (value_at q.frame q.sent))
-            (sym (word_is x.core.image.addresses (address (layout T) x.core.image.places.spot) x.core.image.addressed
+            (sym (word_is x.core.image.addresses (address (layout T) x.core.image.places.start) x.core.image.addressed
             (value_at q.frame q.sent) (word_of w q.sent) sh) ∙ ap (moment x).encode (sym sent_is_v)) sh
 
         by : IsShown T.code x.core.image.places.slot x.core.image.addresses F.frames F.h r.0.frame
@@ -277,7 +279,7 @@ module _ {T : Setup} {g : ℕ} {c : Record} (x : Here T g c) {to : Option ℕ} {
               (Instruct (Meet g L.0)) x.core.image.places (control_written x (reached x a) (n + 4)) G.steps tt))
               G.channels;
           links = links_beside x at (n + 4) (map memory_of x.recs) (control_written x (reached x a) (n + 4)) (above x (reached x a)) (commits a word)
-              (all_kept refl refl refl) (CountsOne (one_later (steps_of c)));
+              (all_kept refl refl refl refl) (CountsOne (one_later (steps_of c)) (makes_none x a.here refl));
         };
         mark = refl;
         printed = refl;
@@ -329,8 +331,9 @@ module _ {T : Setup} {g : ℕ} {c : Record} (x : Here T g c) (at n : ℕ) (a : I
               x.core.image.places (control_written x (reaches x (inr post)) (n - 8)) G.steps tt))
               G.channels;
           links = links_beside x at (n - 8) (map memory_of x.recs) (control_written x (reaches x (inr post)) (n - 8)) (above x (reaches x (inr post)))
-              (acknowledges T c a) (all_kept refl refl refl)
-              (IsElsewhere (as_much (steps_of c)) (at_send T.code c a.w a.ws a.frames a.instr a.cur a.to a.from a.removes a.is));
+              (acknowledges T c a) (all_kept refl refl refl refl)
+              (IsElsewhere (as_much (steps_of c)) (at_send T.code c a.w a.ws a.frames a.instr a.cur a.to a.from a.removes a.is)
+              (sends_none T.code c a.w a.ws a.frames a.instr a.cur a.to a.from a.removes a.is (layout T) x.words (x.core.links g c x.is_c)));
         };
         mark = refl;
         printed = refl;

@@ -1,5 +1,5 @@
 -- The last store of a new object's words is the instruction that makes it.
-use Rattle.std.proofs.Common.{◌≡◌, ◌⊎◌, inl, inr, ⊎_elim, ℕ, suc, ◌+◌, ◌*◌, ◌<◌, ◌≤◌, Bool, true, false, List, [], ◌∷◌, ◌++◌, Option, Some, None, length, map, set, nat_le, if◌then◌else◌, slice_get, slice_set, slice_index, refl, ap, sym, subst, ◌∙◌, arith}
+use Rattle.std.proofs.Common.{◌≡◌, ◌≢◌, ◌⊎◌, zero, inl, inr, ⊎_elim, ℕ, suc, ◌+◌, ◌*◌, ◌<◌, ◌≤◌, Bool, true, false, List, [], ◌∷◌, ◌++◌, Option, Some, None, length, map, set, nat_le, if◌then◌else◌, slice_get, slice_set, slice_index, refl, ap, sym, subst, ◌∙◌, arith}
 use Rattle.std.proofs.Math.ListN.{length-set}
 use Rattle.std.proofs.lemmas.Bool.Decides.{nat_tests}
 use Rattle.std.proofs.lemmas.List.{append-nil, length-append}
@@ -10,7 +10,7 @@ use Rattle.rgo_sound.specs.Memory.Memory.{Channel, Memory as Heap, Object, Slice
 use Rattle.rgo_sound.specs.Memory.declared.values.Value.{Value}
 use Rattle.rgo_sound.specs.Memory.declared.values.Value.TheVariants as value
 use Rattle.rgo_sound.specs.RegionMachine.Machine.{Instruct}
-use Rattle.rgo_sound.specs.RegionMachine.Objects.{allotted, fill_of, making_region, placed, with_fill, words as words_of}
+use Rattle.rgo_sound.specs.RegionMachine.Objects.{allotted, data_pages, fill_of, is_spread, making_region, placed, spread_out, with_fill, words as words_of}
 use Rattle.rgo_sound.specs.RegionMachine.Owed.{function_at, function_of}
 use Rattle.rgo_sound.specs.RegionMachine.Regions.{is_live}
 use Rattle.rgo_sound.specs.RegionMachine.States.{Holder, RegionState, top_names}
@@ -19,8 +19,8 @@ use Rattle.rgo_sound.specs.RegionMachine.declared.regions.Region.TheVariants.{Gl
 use Rattle.rgo_sound.proofs.Places.{get_append_last, get_append_left, get_some, length_set}
 use Rattle.rgo_sound.specs.Typed.declared.actions.Action.{Action}
 use Rattle.rgo_sound.specs.Typed.declared.actions.Action.TheVariants.{Send}
-use Rattle.rgo_core_channels.specs.Channels.{Calm, Chan, Channels, On, Places, Unlocked, channel}
-use Rattle.rgo_core_channels.specs.Controls.{extent}
+use Rattle.rgo_core_channels.specs.Channels.{Calm, Chan, Channels, On, Places, Unlocked, channel, word_of}
+use Rattle.rgo_core_channels.specs.Controls.{extent, spreads}
 use Rattle.rgo_core_channels.specs.Elsewhere.{IsMade, Leaves}
 use Rattle.rgo_core_channels.specs.Records.{Rec as SideRec, at_rest}
 use Rattle.rgo_core_channels.proofs.Elsewhere.{event_keeps}
@@ -53,12 +53,12 @@ use Rattle.rgo_core_memory.proofs.Stepped.{map_get}
 use Rattle.rgo_core_memory.proofs.Writes.{in_pages, pages_apart}
 use Rattle.rgo_core.specs.Bounds.{LieInPages, Points, target_type}
 use Rattle.rgo_core.specs.Core.{Here, Setup, layout}
-use Rattle.rgo_core.specs.Image.{place_of}
+use Rattle.rgo_core_channels.specs.Positions.{cell_place, place_at}
 use Rattle.rgo_core.specs.NewObjects.{MakesObject, slot_number}
 use Rattle.rgo_core.specs.Next.{IsAt}
 use Rattle.rgo_core.specs.Records.{Record, frame_of, memory_of, side_of}
 use Rattle.rgo_core.proofs.Bounds.{LeadsToLive, gives_points}
-use Rattle.rgo_core.proofs.Disjoint.{rows_apart}
+use Rattle.rgo_core_memory.proofs.Spreads.{whole_of, in_table}
 use Rattle.rgo_core.proofs.Encodings.{held_made, old_code, operand_made, small_word}
 use Rattle.rgo_core.proofs.Leaving.{above_fill, channel_stands, channel_word, touch_more}
 use Rattle.rgo_core.proofs.MakesObject.{Made, at, b, made as it_makes}
@@ -74,7 +74,7 @@ new_channel n (Channel capacity queue closed) = Some (n, capacity)
 new_channel n (StructObject cells) = None
 new_channel n (SliceObject cells) = None
 
-is_new : (n : ℕ) (object : Object) (k : Chan) → object ≡ channel k → k.queue ≡ [] → k.closed ≡ false → IsMade (new_channel n object) n k
+pub is_new : (n : ℕ) (object : Object) (k : Chan) → object ≡ channel k → k.queue ≡ [] → k.closed ≡ false → IsMade (new_channel n object) n k
 is_new n (StructObject cells) k e q l = clash e
   where
     clash : StructObject cells ≡ channel k → ⊥
@@ -88,7 +88,7 @@ is_new n (Channel capacity queue closed) k e q l =
     same_channel (record { capacity = capacity; queue = queue; closed = closed }) k e in
     (refl, λ i. record { capacity = ap (λ (y : Chan). y.capacity) (sym same) i; queue = q i; closed = l i })
 
-only_new : (n : ℕ) (object : Object) → ((k : Chan) → object ≡ channel k → (k.queue ≡ []) × (k.closed ≡ false) × (k.capacity < 1073741820))
+pub only_new : (n : ℕ) (object : Object) → ((k : Chan) → object ≡ channel k → (k.queue ≡ []) × (k.closed ≡ false) × (k.capacity < 1073741820))
     → (o : ℕ) (k : Chan) → IsMade (new_channel n object) o k → (o ≡ n) × (object ≡ channel k)
 only_new n (StructObject cells) fresh o k m = absurd m
 only_new n (SliceObject cells) fresh o k m = absurd m
@@ -137,8 +137,11 @@ module _ {T : Setup} {g : ℕ} {c : Record} (x : Here T g c) (to : Option ℕ) (
   abbrev spot : ℕ → ℕ → Spot
   spot = put P.spot n (λ j. record { page = f.page; offset = f.fill + j })
 
+  abbrev start : ℕ → Spot
+  start = put P.start n (record { page = f.page; offset = f.fill })
+
   abbrev pub places' : Where
-  places' = record P { spot = spot }
+  places' = record P { spot = spot; start = start }
 
   it : Made x to act from removes a object
   it = it_makes x to act from removes a object mk
@@ -159,6 +162,10 @@ module _ {T : Setup} {g : ℕ} {c : Record} (x : Here T g c) (to : Option ℕ) (
 
   fits : f.fill + words_of object ≤ z.page_words
   fits = ⊎_elim (λ m. (M.own.amids g c.memory f object stored (memory_at x) m).1.fits) (λ m. m.3) makes
+
+  -- the object is not spread
+  whole : is_spread z.page_words object ≡ false
+  whole = whole_of z.page_words object (let l = fits in omega (arith, l))
 
   owner : Owns recs g f
   owner = (c.memory, memory_at x, within)
@@ -221,22 +228,27 @@ module _ {T : Setup} {g : ℕ} {c : Record} (x : Here T g c) (to : Option ℕ) (
   new_spot : (o : ℕ) → o ≡ n → spot o ≡ (λ j. record { page = f.page; offset = f.fill + j })
   new_spot o e = put_here P.spot n (λ j. record { page = f.page; offset = f.fill + j }) o e
 
+  old_start : (o : ℕ) → o < n → start o ≡ P.start o
+  old_start o l = put_else P.start n (record { page = f.page; offset = f.fill }) o (λ e. omega (arith, e, l))
+
+  new_start : (o : ℕ) → o ≡ n → start o ≡ record { page = f.page; offset = f.fill }
+  new_start o e = put_here P.start n (record { page = f.page; offset = f.fill }) o e
+
   abbrev pub new_address : ℕ
   new_address = f.page * T.sizes.page_words + f.fill
 
   abbrev pub addresses' : List ℕ
   addresses' = (I x).addresses ++ new_address ∷ []
 
-  pub addressed : (o m : ℕ) → slice_get addresses' o ≡ Some m → m ≡ address z spot o
+  pub addressed : (o m : ℕ) → slice_get addresses' o ≡ Some m → m ≡ address z start o
   addressed o m e = ⊎_elim
       (λ (t : (o < length (I x).addresses) × (slice_get (I x).addresses o ≡ Some m)).
       let l = (I x).frames.laid in
       let u = t.0 in
       (I x).addressed o m t.1
-      ∙ ap (λ (y : ℕ → Spot). (y 0).page * z.page_words + (y 0).offset) (sym (old_spot o (omega (arith, l, u)))))
+      ∙ ap (λ (y : Spot). y.page * z.page_words + y.offset) (sym (old_start o (omega (arith, l, u)))))
       (λ (t : (o ≡ length (I x).addresses) × (new_address ≡ m)).
-      let q : new_address ≡ f.page * T.sizes.page_words + (f.fill + 0) = omega arith in
-      sym t.1 ∙ (q ∙ ap (λ (y : ℕ → Spot). (y 0).page * z.page_words + (y 0).offset) (sym (new_spot o (t.0 ∙ (I x).frames.laid)))))
+      sym t.1 ∙ ap (λ (y : Spot). y.page * z.page_words + y.offset) (sym (new_start o (t.0 ∙ (I x).frames.laid))))
       (snoc_at (I x).addresses new_address m o e)
 
   differ : ObjectsDiffer addresses' s.regions owners
@@ -259,8 +271,9 @@ module _ {T : Setup} {g : ℕ} {c : Record} (x : Here T g c) (to : Option ℕ) (
   allots =
       ap (λ y. allotted T.sizes.page_words h y (slice_get memory.heap n)) region.makes
       ∙ (ap (allotted T.sizes.page_words h (Some r)) (get_append_last s.plain.memory.heap object n refl)
+      ∙ (ap (λ (t : Bool). if t then spread_out T.sizes.page_words h r object else placed T.sizes.page_words h r object (fill_of h.fills r)) whole
       ∙ (ap (placed T.sizes.page_words h r object) filled
-      ∙ ap (λ (t : Bool). if t then Some given else None) (low (f.fill + words_of object) T.sizes.page_words fits)))
+      ∙ ap (λ (t : Bool). if t then Some given else None) (low (f.fill + words_of object) T.sizes.page_words fits))))
     where
       low : (m k : ℕ) → m ≤ k → nat_le m k ≡ true
       low m k l = grind (arith, nat_tests)
@@ -316,20 +329,36 @@ module _ {T : Setup} {g : ℕ} {c : Record} (x : Here T g c) (to : Option ℕ) (
   at' = record { head = put (I x).at.head n 0; lock = put (I x).at.lock n Unlocked; phase = put (I x).at.phase n Calm }
 
   abbrev pub place' : ℕ → ℕ
-  place' = place_of z places'
+  place' = place_at z places'
 
   -- a channel of before is an object of before
   on_low : (o : ℕ) (k : Chan) → On s o k → o < n
   on_low o k on = below s.plain.memory.heap o (channel k) on.0
 
-  place_same : (o : ℕ) → o < n → place' o ≡ place_of z P o
-  place_same o l = ap (λ (y : ℕ → Spot). cell_at z (y 0).page (y 0).offset) (old_spot o l)
+  abbrev pub cell' : ℕ → ℕ → ℕ
+  cell' = cell_place z places'
+
+  place_same : (o : ℕ) → o < n → place' o ≡ place_at z P o
+  place_same o l = ap (λ (y : Spot). cell_at z y.page y.offset) (old_start o l)
+
+  cell_same : (o i' : ℕ) → o < n → cell' o i' ≡ cell_place z P o i'
+  cell_same o i' l = ap (λ (y : ℕ → Spot). cell_at z (y (2 + i')).page (y (2 + i')).offset) (old_spot o l)
 
   place_new : (o : ℕ) → o ≡ n → place' o ≡ cell_at z f.page (f.fill + 0)
-  place_new o e = ap (λ (y : ℕ → Spot). cell_at z (y 0).page (y 0).offset) (new_spot o e)
+  place_new o e =
+      let q : cell_at z f.page f.fill ≡ cell_at z f.page (f.fill + 0) = omega arith in
+      ap (λ (y : Spot). cell_at z y.page y.offset) (new_start o e) ∙ q
+
+  cell_new : (o i' : ℕ) → o ≡ n → cell' o i' ≡ cell_at z f.page (f.fill + (2 + i'))
+  cell_new o i' e = ap (λ (y : ℕ → Spot). cell_at z (y (2 + i')).page (y (2 + i')).offset) (new_spot o e)
+
+  word_new : (o j : ℕ) → o ≡ n → word_of place' cell' o j ≡ cell_at z f.page (f.fill + j)
+  word_new o zero e = place_new o e
+  word_new o (suc zero) e = let q = place_new o e in omega (arith, q)
+  word_new o (suc (suc j)) e = let q = cell_new o j e in omega (arith, q)
 
   codes_same : (v : Value) → ((p : ℕ) → v ≡ value.Object p → p < n) → code_of z places' v ≡ code_of z P v
-  codes_same v l = old_code z P.spot spot n old_spot v l
+  codes_same v l = old_code z P.start start n old_start v l
 
   -- the words of the new object
   half : Memory z next_words (slice_set recs g (with_word c.memory f object (i ∷ stored))) s P
@@ -371,22 +400,20 @@ module _ {T : Setup} {g : ℕ} {c : Record} (x : Here T g c) (to : Option ℕ) (
       inr (subst (λ q. IsMade (new_channel n object) q k) (sym u.0) (is_new n object k u.1 y.0 y.1)))
       (snoc_at s.plain.memory.heap object (channel k) o (ap (λ (y : Heap). slice_get y.heap o) (sym H.memory_is) ∙ on.0))
 
-  apart : (o p : ℕ) (k l : Chan) → IsNew o k → On s p l
-      → (place' o + 2 + extent k.capacity ≤ place_of z P p) ⊎ (place_of z P p + 2 + extent l.capacity ≤ place' o)
-  apart o p k l new on =
+  whole_channel : (k : Chan) → object ≡ channel k → spreads z.page_words k.capacity ≡ false
+  whole_channel k e = subst (λ (y : Object). is_spread z.page_words y ≡ false) e whole
+
+  apart : (o p i' j' : ℕ) (k l : Chan) → IsNew o k → On s p l → i' < 2 + extent k.capacity → j' < 2 + extent l.capacity
+      → word_of place' cell' o i' ≢ word_of (place_at z P) (cell_place z P) p j'
+  apart o p i' j' k l new on li lj e =
       let y = new_is o k new in
-      let q = place_new o y.0 in
       let room = fits_channel k y.1 in
       let u = channel_stands s p l on in
-      ⊎_elim
-      (λ (e : place' o + (2 + extent k.capacity) ≤ place_of z P p). inl (omega (arith, e)))
-      (λ (e : place_of z P p + (2 + extent l.capacity) ≤ place' o). inr (omega (arith, e)))
-      (rows_apart (place' o) (2 + extent k.capacity) (place_of z P p) (2 + extent l.capacity) (omega arith) (omega arith)
-      (λ i' j' li lj e. free_apart z x.words recs (ground_of s) P M g p j' i' f (channel l) u.0 owner u.1 lj (omega (arith, room, li))
-      (let w = channel_word z x.words recs s P M p j' l on lj in
-      let v : cell_at z f.page (f.fill + i') ≡ place' o + i' = omega (arith, q) in v ∙ (e ∙ w))))
+      free_apart z x.words recs (ground_of s) P M g p j' i' f (channel l) u.0 owner u.1
+      (in_table z.page_words (channel l) j' lj) (omega (arith, room, li))
+      (sym (word_new o i' y.0) ∙ (e ∙ channel_word z x.words recs s P M p j' l on lj))
 
-  leaves : Leaves (moment x) next_words t (code_of z places') place' at' IsNew 0
+  leaves : Leaves (moment x) next_words t (code_of z places') place' cell' at' IsNew 0
   leaves = record {
     long = length-set x.words (cell_at z f.page (f.fill + i)) (opening (content object i));
     heap = λ o k on. ap (λ (y : Heap). slice_get y.heap o) H.memory_is
@@ -394,6 +421,7 @@ module _ {T : Setup} {g : ℕ} {c : Record} (x : Here T g c) (to : Option ℕ) (
     was = was;
     same = λ o j k on l. above_fill z x.words recs s P M g i (opening (content object i)) f owner (let m = fits in omega (arith, small, m)) o j k on l;
     places = λ o k on. place_same o (on_low o k on);
+    spots = λ o j k on l. cell_same o j (on_low o k on);
     ats = λ o k on. let l = on_low o k on in (
       put_else (I x).at.head n 0 o (λ e. omega (arith, e, l)),
       put_else (I x).at.lock n Unlocked o (λ e. omega (arith, e, l)),
@@ -421,8 +449,26 @@ module _ {T : Setup} {g : ℕ} {c : Record} (x : Here T g c) (to : Option ℕ) (
           ap (slice_index next_words) q ∙ first_word k y.1,
           ap (slice_index next_words) q1 ∙ second_word k y.1,
           (it.fresh k y.1).2,
-          omega (arith, q, pages, wide, same),
+          subst (λ (n : ℕ). place' o + 2 + n ≤ length next_words)
+              (sym (ap (λ b. if b then data_pages z.page_words (Channel k.capacity [] false) else extent k.capacity) (whole_channel k y.1)))
+              (omega (arith, q, pages, wide, same)),
         );
+    fresh_cells = λ o j k new lj.
+        let y = new_is o k new in
+        let q = place_new o y.0 in
+        let w = cell_new o j y.0 in
+        let room = fits_channel k y.1 in
+        let pages = in_pages z.pages f.page z.page_words (f.fill + (2 + j)) page_in (omega (arith, room, lj)) in
+        let wide = (I x).memory.shows.wide in
+        let same = length-set x.words (cell_at z f.page (f.fill + i)) (opening (content object i)) in (
+          omega (arith, w, pages, wide, same),
+          λ sp. omega (arith, q, w),
+        );
+    fresh_differ = λ o j j' k new lj lj' e.
+        let y = new_is o k new in
+        let u = word_new o j y.0 in
+        let v = word_new o j' y.0 in
+        omega (arith, e, u, v);
     fresh_apart = apart;
     one_fresh = λ o p k l e e'. (new_is o k e).0 ∙ sym (new_is p l e').0;
   }
@@ -430,9 +476,9 @@ module _ {T : Setup} {g : ℕ} {c : Record} (x : Here T g c) (to : Option ℕ) (
       as_many : length t.holders ≡ length s.holders
       as_many = sym H.fit.as_many ∙ (length_set (map frame_of x.recs) g d' ∙ (I x).frames.as_many)
 
-  pub channels_after : Channels T.code (code_of z places') place' next_words (slice_set side g c.side) t at'
+  pub channels_after : Channels T.code T.sizes.page_words (code_of z places') place' cell' next_words (slice_set side g c.side) t at'
   channels_after =
-      subst (λ l. Channels T.code (code_of z places') place' next_words l t at')
+      subst (λ l. Channels T.code T.sizes.page_words (code_of z places') place' cell' next_words l t at')
       (append-nil side ∙ sym (set_again side g c.side (side_at x)))
-      (event_keeps (moment x) g (Instruct (One g)) next_words t (code_of z places') place' at' (new_channel n object) 0
+      (event_keeps (moment x) g (Instruct (One g)) next_words t (code_of z places') place' cell' at' (new_channel n object) 0
       (side_at x ∙ ap Some rests) refl H.steps leaves)

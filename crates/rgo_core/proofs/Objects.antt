@@ -1,10 +1,10 @@
 -- The stores of a new object's words.
-use Rattle.std.proofs.Common.{◌≡◌, ◌⊎◌, inl, inr, ⊎_elim, ℕ, suc, ◌+◌, ◌*◌, ◌<◌, ◌≤◌, List, [], ◌∷◌, Option, Some, length, map, slice_set, refl, ap, sym, subst, ◌∙◌, arith}
+use Rattle.std.proofs.Common.{◌≡◌, ◌≢◌, inl, inr, ⊎_elim, ℕ, suc, ◌+◌, ◌*◌, ◌<◌, ◌≤◌, List, [], ◌∷◌, Option, Some, length, map, slice_set, refl, ap, sym, subst, ◌∙◌, arith}
 use Rattle.std.proofs.lemmas.List.{append-nil, length-append}
 use Rattle.rgo_sound.specs.Code.Code.{Do}
 use Rattle.rgo_sound.specs.Machine.Limits.{deepest}
 use Rattle.rgo_sound.specs.Machine.declared.picks.Pick.TheVariants.{One}
-use Rattle.rgo_sound.specs.Memory.Memory.{Memory as Heap, Object, SliceObject}
+use Rattle.rgo_sound.specs.Memory.Memory.{Memory as Heap, Object}
 use Rattle.rgo_sound.specs.RegionMachine.Instructions.{printed_if}
 use Rattle.rgo_sound.specs.RegionMachine.Machine.{Instruct}
 use Rattle.rgo_sound.specs.RegionMachine.Objects.{making_region, words as words_of}
@@ -13,7 +13,7 @@ use Rattle.rgo_sound.specs.RegionMachine.States.{top_names}
 use Rattle.rgo_sound.specs.RegionMachine.declared.regions.Region.{Region}
 use Rattle.rgo_sound.specs.Tally.{counts_plus, no_share}
 use Rattle.rgo_sound.specs.Typed.declared.actions.Action.{Action}
-use Rattle.rgo_core_channels.specs.Channels.{Chan, On, channel}
+use Rattle.rgo_core_channels.specs.Channels.{Chan, On, channel, word_of}
 use Rattle.rgo_core_channels.specs.Controls.{extent}
 use Rattle.rgo_core_channels.specs.Records.{at_rest}
 use Rattle.rgo_core_channels.proofs.Forward.{printed_same}
@@ -30,17 +30,19 @@ use Rattle.rgo_core_memory.proofs.Addresses.{free_apart}
 use Rattle.rgo_core_memory.proofs.Allocating.{word_keeps}
 use Rattle.rgo_core.specs.Bounds.{LieInPages, Points, target_type}
 use Rattle.rgo_core.specs.Core.{Here, Setup, layout}
-use Rattle.rgo_core.specs.Image.{place_of}
+use Rattle.rgo_core_channels.specs.Positions.{cell_place, place_at}
 use Rattle.rgo_core.specs.NewObjects.{MakesObject, ObjectMove, WordMove, made_object, slot_number}
 use Rattle.rgo_core.specs.Next.{IsAt}
 use Rattle.rgo_core.specs.Records.{Record, accessed, counted, memory_of, side_of, steps_of}
 use Rattle.rgo_core.specs.Steps.{Steps}
-use Rattle.rgo_core.proofs.Disjoint.{rows_apart}
 use Rattle.rgo_core.proofs.Leaving.{channel_stands, channel_word}
 use Rattle.rgo_core.proofs.Lift.{access_law, moves_by}
 use Rattle.rgo_core.proofs.NewObjects as new
+use Rattle.rgo_core.proofs.NextObject.{next_is}
+use Rattle.rgo_core.proofs.Unreserved.{not_spread}
+use Rattle.rgo_core_memory.proofs.Spreads.{in_table, whole_of}
 use Rattle.rgo_core.proofs.Parts.{I, adds_of, as_many, frame_stays, image_with, shallow, side_stays}
-use Rattle.rgo_core.proofs.Links.{CountsOne, LengthsStay, Waits, all_kept, claims_high, lengths_apart, links_with, one_later}
+use Rattle.rgo_core.proofs.Links.{CountsOne, FixedStay, Waits, all_kept, claims_high, fixed_apart, links_with, one_later}
 use Rattle.rgo_core.proofs.Standing.{memory_at}
 use Rattle.rgo_core.proofs.Counting.{plus_zero}
 
@@ -58,27 +60,21 @@ module _ {T : Setup} {g : ℕ} {c : Record} (x : Here T g c) (f : Fill) (object 
   owner = (c.memory, memory_at x, within)
 
   -- no channel has the word
-  apart : (o : ℕ) (k : Chan) → On x.s o k
-      → (cell_at (layout T) f.page (f.fill + i) < place_of (layout T) (I x).places o)
-      ⊎ (place_of (layout T) (I x).places o + 2 + extent k.capacity ≤ cell_at (layout T) f.page (f.fill + i))
-  apart o k on =
+  apart : (o j : ℕ) (k : Chan) → On x.s o k → j < 2 + extent k.capacity
+      → word_of (place_at (layout T) (I x).places) (cell_place (layout T) (I x).places) o j ≢ cell_at (layout T) f.page (f.fill + i)
+  apart o j k on lj e =
       let u = channel_stands x.s o k on in
       let room = fits in
-      ⊎_elim
-      (λ (e : cell_at (layout T) f.page (f.fill + i) + 1 ≤ place_of (layout T) (I x).places o). inl (omega (arith, e)))
-      (λ (e : place_of (layout T) (I x).places o + (2 + extent k.capacity) ≤ cell_at (layout T) f.page (f.fill + i)). inr (omega (arith, e)))
-      (rows_apart (cell_at (layout T) f.page (f.fill + i)) 1 (place_of (layout T) (I x).places o) (2 + extent k.capacity) (omega arith) (omega arith)
-      (λ i' j li lj e. free_apart (layout T) x.words (map memory_of x.recs) (ground_of x.s) (I x).places (I x).memory g o j i f (channel k) u.0 owner u.1 lj
-      (omega (arith, room, small))
-      (let w = channel_word (layout T) x.words (map memory_of x.recs) x.s (I x).places (I x).memory o j k on lj in
-      let v : cell_at (layout T) f.page (f.fill + i) ≡ cell_at (layout T) f.page (f.fill + i) + i' = omega (arith, li) in v ∙ (e ∙ w))))
+      free_apart (layout T) x.words (map memory_of x.recs) (ground_of x.s) (I x).places (I x).memory g o j i f (channel k) u.0 owner u.1
+      (in_table T.sizes.page_words (channel k) j lj) (omega (arith, room, small))
+      (sym e ∙ channel_word (layout T) x.words (map memory_of x.recs) x.s (I x).places (I x).memory o j k on lj)
 
-  -- no slice has it as its first
-  pub lengths_stay : (v : ℕ) → LengthsStay x (slice_set x.words (cell_at (layout T) f.page (f.fill + i)) v)
-  lengths_stay v = lengths_apart x (cell_at (layout T) f.page (f.fill + i)) v (λ o cells r stands e.
+  -- nor has an object that stands
+  pub fixed_stay : (v : ℕ) → FixedStay x (slice_set x.words (cell_at (layout T) f.page (f.fill + i)) v)
+  fixed_stay v = fixed_apart x (cell_at (layout T) f.page (f.fill + i)) v (λ o n at r stands low fixed e.
       let room = fits in
-      free_apart (layout T) x.words (map memory_of x.recs) (ground_of x.s) (I x).places (I x).memory g o 0 i f (SliceObject cells) r owner stands
-      (omega arith) (omega (arith, room, small)) (sym e))
+      free_apart (layout T) x.words (map memory_of x.recs) (ground_of x.s) (I x).places (I x).memory g o n i f at r owner stands
+      low (omega (arith, room, small)) (sym e))
 
   pub word_steps : Steps x (slice_set x.words (cell_at (layout T) f.page (f.fill + i)) (opening (content object i)))
       (record c { clock = accessed c.clock; memory = with_word c.memory f object (i ∷ stored) })
@@ -91,11 +87,11 @@ module _ {T : Setup} {g : ℕ} {c : Record} (x : Here T g c) (f : Fill) (object 
             (I x).addresses (I x).addressed (frame_stays x x.s (I x).places.slot (I x).addresses (I x).frames)
             (word_keeps (layout T) x.words (map memory_of x.recs) x.s g i c.memory f object stored (I x).places (I x).memory (memory_at x) makes small)
             (side_stays x words x.s (I x).places (I x).at
-            (channels_keep T.code (code_of (layout T) (I x).places) (place_of (layout T) (I x).places) x.words (map side_of x.recs) x.s (I x).at
+            (channels_keep T.code T.sizes.page_words (code_of (layout T) (I x).places) (place_at (layout T) (I x).places) (cell_place (layout T) (I x).places) x.words (map side_of x.recs) x.s (I x).at
             (cell_at (layout T) f.page (f.fill + i)) (opening (content object i)) apart (I x).channels));
-        links = links_with x words (lengths_stay (opening (content object i)))
+        links = links_with x words (fixed_stay (opening (content object i)))
             (claims_high x (cell_at (layout T) f.page (f.fill + i)) (opening (content object i)) (omega arith))
-            (record c { clock = accessed c.clock; memory = with_word c.memory f object (i ∷ stored) }) (all_kept refl refl refl) (Waits refl refl);
+            (record c { clock = accessed c.clock; memory = with_word c.memory f object (i ∷ stored) }) (all_kept refl refl refl refl) (Waits refl refl refl);
       })
 
 pub word_move : WordMove
@@ -148,9 +144,13 @@ module _ {T : Setup} {g : ℕ} {c : Record} (x : Here T g c) (to : Option ℕ) (
               (new.memory_after x to act from removes a object by_slot f stored i rests mk making slotted makes small covers)
               (new.channels_after x to act from removes a object by_slot f stored i rests mk making slotted makes small covers);
           links = links_with x (slice_set x.words (cell_at (layout T) f.page (f.fill + i)) (opening (content object i)))
-              (lengths_stay x f object stored i makes small (opening (content object i)))
+              (fixed_stay x f object stored i makes small (opening (content object i)))
               (claims_high x (cell_at (layout T) f.page (f.fill + i)) (opening (content object i)) (omega arith))
-              (made_object T c a to f object) (all_kept refl refl refl) (CountsOne (one_later (steps_of c)));
+              (made_object T c a to f object) (all_kept refl refl refl refl)
+              (CountsOne (one_later (steps_of c))
+              (not_spread x object (next_is x to act from removes a object 1073741820 (omega arith) mk)
+              (whole_of T.sizes.page_words object
+              (let l = fits x f object stored i makes small in omega (arith, l)))));
         };
         mark = H.mark;
         printed = H.printed ∙ (ap (printed_if x.s.mark x.s.plain.printed) (append-nil x.s.plain.printed) ∙ printed_same x.s.mark x.s.plain.printed);

@@ -32,7 +32,8 @@ use Rattle.rgo_sound.specs.Tac.Frames.{Frame, called}
 use Rattle.rgo_sound.specs.Tac.Tac.{main_frames}
 use Rattle.rgo_core.specs.Clock.{Clock}
 use Rattle.rgo_core.specs.Core.{Core, Setup, layout}
-use Rattle.rgo_core.specs.Image.{Image, place_of}
+use Rattle.rgo_core_channels.specs.Positions.{cell_place, place_at}
+use Rattle.rgo_core.specs.Image.{Image}
 use Rattle.rgo_core.specs.Numbers.{Numbers, has_child}
 use Rattle.rgo_core.specs.Opening.{OpeningLaw, first_of, main_frame, main_words, opening}
 use Rattle.rgo_core.specs.Records.{Record, ClockRec, Drawn, fresh}
@@ -41,7 +42,7 @@ use Rattle.rgo_core.specs.Story.{Story}
 use Rattle.rgo_core.proofs.Lists.{word_new, word_same}
 use Rattle.rgo_core.proofs.Runs.{printed_whole}
 use Rattle.rgo_core.specs.Links.{Link, Links}
-use Rattle.rgo_core_memory.specs.Records.{Measured}
+use Rattle.rgo_core_memory.specs.Records.{Located, Measured}
 
 -- ---- words
 
@@ -172,12 +173,17 @@ first_image T checked = record {
   addressed = λ o a e. let z : None ≡ Some a = e in absurd (cc z);
   frames = frames_fit T.code nowhere.slot checked;
   memory = memory_opens T.code (layout T) (omega arith);
-  channels = channels_open T.code (code_of (layout T) nowhere) (place_of (layout T) nowhere) (opening T) nobody;
+  channels = channels_open T.code T.sizes.page_words (code_of (layout T) nowhere) (place_at (layout T) nowhere) (cell_place (layout T) nowhere) (opening T) nobody;
 }
 
 first_links : (T : Setup) → Links T.code (layout T) (opening T) (first_of T.code ∷ [])
 first_links T g c e = subst (Link T.code (layout T) (opening T)) (sole (first_of T.code) c g e)
-    (record { owed = refl; knows = λ m read. absurd (nothing m read) })
+    (record {
+      owed = refl;
+      knows = λ m read. absurd (nothing m read);
+      finds = λ l read. absurd (nowhere_read l read);
+      reserved = λ some. absurd (omega (arith, some));
+    })
   where
     sole : (a b : Record) (i : ℕ) → slice_get (a ∷ []) i ≡ Some b → a ≡ b
     sole a b zero e = same_Some a b e
@@ -185,6 +191,9 @@ first_links T g c e = subst (Link T.code (layout T) (opening T)) (sole (first_of
 
     nothing : (m : Measured) → None ≡ Some m → ⊥
     nothing m read = cc read
+
+    nowhere_read : (l : Located) → None ≡ Some l → ⊥
+    nowhere_read l read = cc read
 
 pub first_story : (T : Setup) → Story T.code T.sizes T.limits (opening T) (fresh ∷ []) [] (region_start T.code)
 first_story T = record {

@@ -1,5 +1,5 @@
 -- What the operands of a record's next instruction are, by the types of checked code; and an action that makes no object.
-use Rattle.std.proofs.Common.{◌≡◌, ℕ, suc, ◌+◌, ◌<◌, ◌^◌, w64, true, List, [], ◌∷◌, ◌++◌, Option, Some, length, map, slice_get, slice_set, slice_index, ap, sym, subst, ◌∙◌, arith, append-nil, Contains}
+use Rattle.std.proofs.Common.{◌≡◌, ℕ, suc, ◌+◌, ◌<◌, ◌^◌, w64, false, true, List, [], ◌∷◌, ◌++◌, Option, Some, length, map, slice_get, slice_set, slice_index, ap, sym, subst, ◌∙◌, arith, append-nil, Contains}
 use Rattle.std.specs.Int.{cast_signed}
 use Rattle.rgo_sound.specs.Code.Code.{CodeOp, Do}
 use Rattle.rgo_sound.specs.Code.Erasure.{erased, erased_fn, erased_op}
@@ -8,7 +8,7 @@ use Rattle.rgo_sound.specs.Memory.Effects.{Does}
 use Rattle.rgo_sound.specs.Memory.Memory.{Memory as Heap, Object}
 use Rattle.rgo_sound.specs.Memory.declared.values.Value.{Value}
 use Rattle.rgo_sound.specs.Memory.declared.values.Value.TheVariants as value
-use Rattle.rgo_sound.specs.RegionMachine.Objects.{allotted, making_region, words as words_of}
+use Rattle.rgo_sound.specs.RegionMachine.Objects.{allotted, is_spread, making_region, words as words_of}
 use Rattle.rgo_sound.specs.RegionMachine.Owed.{function_at, function_of}
 use Rattle.rgo_sound.specs.RegionMachine.Regions.{is_live}
 use Rattle.rgo_sound.specs.RegionMachine.States.{top_names}
@@ -36,7 +36,9 @@ use Rattle.rgo_core_memory.specs.Encoding.{address, content}
 use Rattle.rgo_core_memory.specs.Ground.{Stands, ground_of}
 use Rattle.rgo_core_memory.specs.Image.{word_at}
 use Rattle.rgo_core_memory.specs.Words.{base}
-use Rattle.rgo_core_memory.proofs.Facts.{follow}
+use Rattle.rgo_core_memory.proofs.Facts.{follow, spread_follow}
+use Rattle.rgo_core_memory.specs.Spread.{words_before}
+use Rattle.rgo_sound.proofs.Tests.{split}
 use Rattle.rgo_core_memory.proofs.Steadies.{steady_of}
 use Rattle.rgo_core_memory.proofs.Stepped.{slice_get_none}
 use Rattle.rgo_core_memory.proofs.Storing.{loads}
@@ -118,12 +120,21 @@ module _ {T : Setup} {g : ℕ} {c : Record} (x : Here T g c) (to : Option ℕ) (
         → Stands x.s.plain.memory.heap x.s.owners x.s.regions to_it.object object to_it.region
     stands object e = record { there = e; owner = to_it.owner; live = live }
 
-    -- its words in the table
-    pub word_there : (object : Object) → slice_get x.s.plain.memory.heap to_it.object ≡ Some object → (k : ℕ) → k < words_of object
+    -- its words in the table, where it fits a page
+    pub word_there : (object : Object) → slice_get x.s.plain.memory.heap to_it.object ≡ Some object
+        → is_spread T.sizes.page_words object ≡ false → (k : ℕ) → k < words_of object
         → word_at (layout T) (I x).places to_it.object k ≡ base (layout T) + (at + k)
-    word_there object e k low =
-        (follow (layout T) x.words (map memory_of x.recs) x.s (I x).places (I x).memory to_it.object k object to_it.region (stands object e) low).0
+    word_there object e whole k low =
+        (follow (layout T) x.words (map memory_of x.recs) x.s (I x).places (I x).memory to_it.object k object to_it.region (stands object e) whole low).0
         ∙ ap (λ n. base (layout T) + (n + k)) (sym ((I x).addressed to_it.object at to_it.at))
+
+    -- and those before its cells, where it need not
+    pub word_before : (object : Object) → slice_get x.s.plain.memory.heap to_it.object ≡ Some object → (k : ℕ) → k < words_before object
+        → word_at (layout T) (I x).places to_it.object k ≡ base (layout T) + (at + k)
+    word_before object e k low = split (is_spread T.sizes.page_words object)
+        (λ sp. (spread_follow (layout T) x.words (map memory_of x.recs) x.s (I x).places (I x).memory to_it.object object to_it.region (stands object e) sp).1 k low
+        ∙ ap (λ n. base (layout T) + (n + k)) (sym ((I x).addressed to_it.object at to_it.at)))
+        (λ whole. word_there object e whole k (omega (arith, low)))
 
     -- a word that holds a value shows it
     pub found_shows : (object : Object) → slice_get x.s.plain.memory.heap to_it.object ≡ Some object → (k : ℕ) (v : Value)
@@ -133,7 +144,7 @@ module _ {T : Setup} {g : ℕ} {c : Record} (x : Here T g c) (to : Option ℕ) (
         subst (Shows (I x).addresses v)
         (sym (loads (layout T) x.words (map memory_of x.recs) (ground_of x.s) (I x).places (I x).memory to_it.object k object to_it.region v
         (stands object e) q))
-        (shows_it (I x).addresses (address (layout T) (I x).places.spot) (I x).addressed v
+        (shows_it (I x).addresses (address (layout T) (I x).places.start) (I x).addressed v
         (λ n w. content_fits x to_it.object k object e n (q ∙ ap Some w))
         (λ o w. let y = (steady_of T.code x.s x.core.sound.good).cells to_it.object k o object e (q ∙ ap Some w) in
         let l = (I x).frames.laid in omega (arith, y, l)))

@@ -6,18 +6,18 @@ use Rattle.rgo_sound.specs.RegionMachine.Regions.{RegionInfo}
 use Rattle.rgo_sound.specs.RegionMachine.States.{RegionState}
 use Rattle.rgo_sound.proofs.Places.{length_set}
 use Rattle.rgo_sound.specs.Tally.{counts_plus, no_share}
-use Rattle.rgo_core_channels.specs.Channels.{Channels, Places}
+use Rattle.rgo_core_channels.specs.Channels.{Places}
 use Rattle.rgo_core_channels.specs.Records.{Rec as SideRec}
 use Rattle.rgo_core_frames.specs.Fits.{AllFit}
 use Rattle.rgo_core_frames.specs.Records.{Rec as FrameRec}
 use Rattle.rgo_core_frames.specs.States.{IsSound}
 use Rattle.rgo_core_memory.specs.Encoding.{address}
-use Rattle.rgo_core_memory.specs.Image.{Memory, Where, code_of}
+use Rattle.rgo_core_memory.specs.Image.{Memory, Where}
 use Rattle.rgo_core_memory.specs.Records.{Rec as MemoryRec}
 use Rattle.rgo_core_memory.proofs.Rows.{set_again}
 use Rattle.rgo_core_memory.proofs.Stepped.{map_set}
 use Rattle.rgo_core.specs.Core.{Here, Setup, layout}
-use Rattle.rgo_core.specs.Image.{Image, place_of}
+use Rattle.rgo_core.specs.Image.{Image, ChannelsIn}
 use Rattle.rgo_core.specs.Records.{Record, frame_of, memory_of, side_of}
 use Rattle.rgo_core.proofs.Lift.{many, shallow_here}
 use Rattle.rgo_core.proofs.Standing.{frame_at, memory_at, side_at}
@@ -30,10 +30,10 @@ module _ {T : Setup} {g : ℕ} {c : Record} (x : Here T g c) where
   -- ---- an image of the records after it, from its parts
 
   pub image_with : (words : List ℕ) (d : Record) (t : RegionState) (places : Where) (at : Places) (addresses : List ℕ)
-      → ((o a : ℕ) → slice_get addresses o ≡ Some a → a ≡ address (layout T) places.spot o)
+      → ((o a : ℕ) → slice_get addresses o ≡ Some a → a ≡ address (layout T) places.start o)
       → AllFit T.code places.slot addresses t (slice_set (map frame_of x.recs) g d.frame)
       → Memory (layout T) words (slice_set (map memory_of x.recs) g d.memory) t places
-      → Channels T.code (code_of (layout T) places) (place_of (layout T) places) words (slice_set (map side_of x.recs) g d.side) t at
+      → ChannelsIn T.code (layout T) places words (slice_set (map side_of x.recs) g d.side) t at
       → Image T.code (layout T) words (slice_set x.recs g d) t
   image_with words d t places at addresses addressed F M K = record {
     places = places;
@@ -42,7 +42,7 @@ module _ {T : Setup} {g : ℕ} {c : Record} (x : Here T g c) where
     addressed = addressed;
     frames = subst (AllFit T.code places.slot addresses t) (sym (map_set frame_of x.recs g d)) F;
     memory = subst (λ (l : List MemoryRec). Memory (layout T) words l t places) (sym (map_set memory_of x.recs g d)) M;
-    channels = subst (λ (l : List SideRec). Channels T.code (code_of (layout T) places) (place_of (layout T) places) words l t at)
+    channels = subst (λ (l : List SideRec). ChannelsIn T.code (layout T) places words l t at)
         (sym (map_set side_of x.recs g d)) K;
   }
 
@@ -58,10 +58,10 @@ module _ {T : Setup} {g : ℕ} {c : Record} (x : Here T g c) where
       subst (λ (l : List MemoryRec). Memory (layout T) words l t places) (sym (set_again (map memory_of x.recs) g c.memory (memory_at x))) M
 
   pub side_stays : (words : List ℕ) (t : RegionState) (places : Where) (at : Places)
-      → Channels T.code (code_of (layout T) places) (place_of (layout T) places) words (map side_of x.recs) t at
-      → Channels T.code (code_of (layout T) places) (place_of (layout T) places) words (slice_set (map side_of x.recs) g c.side) t at
+      → ChannelsIn T.code (layout T) places words (map side_of x.recs) t at
+      → ChannelsIn T.code (layout T) places words (slice_set (map side_of x.recs) g c.side) t at
   side_stays words t places at K =
-      subst (λ (l : List SideRec). Channels T.code (code_of (layout T) places) (place_of (layout T) places) words l t at)
+      subst (λ (l : List SideRec). ChannelsIn T.code (layout T) places words l t at)
       (sym (set_again (map side_of x.recs) g c.side (side_at x))) K
 
   -- ---- numbers

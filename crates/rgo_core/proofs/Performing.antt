@@ -8,7 +8,7 @@ use Rattle.rgo_sound.specs.RegionMachine.Machine.{Instruct}
 use Rattle.rgo_sound.specs.RegionMachine.States.{Holder, RegionState}
 use Rattle.rgo_sound.proofs.Places.{length_set}
 use Rattle.rgo_sound.specs.Tally.{no_share}
-use Rattle.rgo_core_channels.specs.Channels.{Chan, Channels, IsChan, On}
+use Rattle.rgo_core_channels.specs.Channels.{Chan, IsChan, On, word_of}
 use Rattle.rgo_core_channels.specs.Controls.{extent}
 use Rattle.rgo_core_channels.specs.Elsewhere.{IsMade, Leaves}
 use Rattle.rgo_core_channels.specs.Records.{at_rest}
@@ -21,13 +21,15 @@ use Rattle.rgo_core_frames.proofs.Sound.{sound_stays}
 use Rattle.rgo_core_memory.specs.Image.{Memory, code_of}
 use Rattle.rgo_core_memory.proofs.Rows.{below, set_again}
 use Rattle.rgo_core.specs.Core.{Here, Setup, layout}
-use Rattle.rgo_core.specs.Image.{place_of}
+use Rattle.rgo_core_channels.specs.Positions.{cell_place, place_at}
+use Rattle.rgo_core.specs.Image.{ChannelsIn}
 use Rattle.rgo_core.specs.Records.{Record, frame_of, instructed, memory_of, side_of, steps_of}
 use Rattle.rgo_core.specs.Steps.{Does}
 use Rattle.rgo_core.proofs.Leaving.{touch_same}
 use Rattle.rgo_core.proofs.Parts.{I, adds_of, as_many, image_with, memory_stays, shallow}
-use Rattle.rgo_core.proofs.Links.{ClaimsStay, CountsOne, LengthsStay, all_kept, links_with, one_later}
+use Rattle.rgo_core.proofs.Links.{ClaimsStay, CountsOne, FixedStay, all_kept, links_with, one_later}
 use Rattle.rgo_core.proofs.Standing.{side_at}
+use Rattle.rgo_core.proofs.Unreserved.{adds_nothing}
 use Rattle.rgo_core.specs.Moments.{moment}
 use Rattle.rgo_core.proofs.Counting.{instructed_counts, plus_zero}
 
@@ -50,16 +52,17 @@ module _ {T : Setup} {g : ℕ} {c : Record} (x : Here T g c) (rests : c.side ≡
   pub channels_after : ((o : ℕ) (k : Chan) → IsChan x.s.plain.memory o k → IsChan mem o k)
       → ((o : ℕ) (k : Chan) → IsChan mem o k → IsChan x.s.plain.memory o k) → length words ≡ length x.words
       → ((o i : ℕ) (k : Chan) → On x.s o k → i < 2 + extent k.capacity
-      → slice_index words (place_of (layout T) (I x).places o + i) ≡ slice_index x.words (place_of (layout T) (I x).places o + i))
-      → Channels T.code (code_of (layout T) (I x).places) (place_of (layout T) (I x).places) words
+      → slice_index words (word_of (place_at (layout T) (I x).places) (cell_place (layout T) (I x).places) o i)
+      ≡ slice_index x.words (word_of (place_at (layout T) (I x).places) (cell_place (layout T) (I x).places) o i))
+      → ChannelsIn T.code (layout T) (I x).places words
       (slice_set (map side_of x.recs) g c.side) t (I x).at
   channels_after stay was long same =
-      subst (λ l. Channels T.code (code_of (layout T) (I x).places) (place_of (layout T) (I x).places) words l t (I x).at)
+      subst (λ l. ChannelsIn T.code (layout T) (I x).places words l t (I x).at)
       (append-nil (map side_of x.recs) ∙ sym (set_again (map side_of x.recs) g c.side (side_at x)))
-      (event_keeps (moment x) g (Instruct (One g)) words t (code_of (layout T) (I x).places) (place_of (layout T) (I x).places) (I x).at None 0
+      (event_keeps (moment x) g (Instruct (One g)) words t (code_of (layout T) (I x).places) (place_at (layout T) (I x).places) (cell_place (layout T) (I x).places) (I x).at None 0
       (side_at x ∙ ap Some rests) refl H.steps leaves)
     where
-      leaves : Leaves (moment x) words t (code_of (layout T) (I x).places) (place_of (layout T) (I x).places) (I x).at (IsMade None) 0
+      leaves : Leaves (moment x) words t (code_of (layout T) (I x).places) (place_at (layout T) (I x).places) (cell_place (layout T) (I x).places) (I x).at (IsMade None) 0
       leaves = record {
         long = long;
         heap = λ o k on. ap (λ (y : Heap). slice_get y.heap o) H.memory_is ∙ stay o k on.0;
@@ -69,6 +72,7 @@ module _ {T : Setup} {g : ℕ} {c : Record} (x : Here T g c) (rests : c.side ≡
         );
         same = same;
         places = λ o k on. refl;
+        spots = λ o i k on h. refl;
         ats = λ o k on. (refl, refl, refl);
         codes = λ o i v k on q. refl;
         sent = λ o j v n. refl;
@@ -76,18 +80,20 @@ module _ {T : Setup} {g : ℕ} {c : Record} (x : Here T g c) (rests : c.side ≡
         born_calm = λ j k l q. absurd (let y = below t.holders j k q in let w = holders_many in omega (arith, l, y, w));
         fresh = λ o k n. absurd n;
         fresh_words = λ o k n. absurd n;
-        fresh_apart = λ o p k l n on. absurd n;
+        fresh_cells = λ o i k n. absurd n;
+        fresh_differ = λ o i j k n. absurd n;
+        fresh_apart = λ o p i j k l n on. absurd n;
         one_fresh = λ o p k l n m. absurd n;
       }
 
   -- what is left after so many accesses
   pub performs : (n : ℕ) → length mem.heap ≡ length x.s.plain.memory.heap → length e.frames ≡ length c.frame.frames
       → Memory (layout T) words (map memory_of x.recs) t (I x).places
-      → Channels T.code (code_of (layout T) (I x).places) (place_of (layout T) (I x).places) words
+      → ChannelsIn T.code (layout T) (I x).places words
       (slice_set (map side_of x.recs) g c.side) t (I x).at
-      → ClaimsStay x words → LengthsStay x words
+      → ClaimsStay x words → FixedStay x words
       → Does x words (record c { clock = record (instructed c.clock) { accesses = n }; frame = e })
-  performs n objects deep M K claims lengths = record {
+  performs n objects deep M K claims fixed = record {
     goes = record {
       event = Instruct (One g);
       next = t;
@@ -101,8 +107,9 @@ module _ {T : Setup} {g : ℕ} {c : Record} (x : Here T g c) (rests : c.side ≡
       shallow = let l = shallow x in omega (arith, deep, l);
       image = image_with x words (record c { clock = record (instructed c.clock) { accesses = n }; frame = e }) t (I x).places (I x).at (I x).addresses (I x).addressed H.fit
           (memory_stays x words t (I x).places M) K;
-      links = links_with x words lengths claims (record c { clock = record (instructed c.clock) { accesses = n }; frame = e })
-          (all_kept refl refl refl) (CountsOne (one_later (steps_of c)));
+      links = links_with x words fixed claims (record c { clock = record (instructed c.clock) { accesses = n }; frame = e })
+          (all_kept refl refl refl refl) (CountsOne (one_later (steps_of c))
+          (adds_nothing x t H.steps (ap (λ (y : Heap). length y.heap) H.memory_is ∙ objects)));
     };
     mark = H.mark;
     printed = H.printed ∙ (ap (printed_if x.s.mark x.s.plain.printed) (append-nil x.s.plain.printed) ∙ printed_same x.s.mark x.s.plain.printed);

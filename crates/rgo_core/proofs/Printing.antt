@@ -28,6 +28,7 @@ use Rattle.rgo_core.specs.Next.{IsAt}
 use Rattle.rgo_core.specs.Records.{Record, steps_of}
 use Rattle.rgo_core.proofs.ClockLifts.{ticket_law}
 use Rattle.rgo_core.proofs.Lift.{many_set, shallow_here}
+use Rattle.rgo_core.proofs.Unreserved.{adds_nothing}
 use Rattle.rgo_core.proofs.Standing.{at_instruction, frame_at, image_clock}
 use Rattle.rgo_core.proofs.Staying.{image_stays}
 use Rattle.rgo_core.proofs.Links.{CountsOne, all_kept, links_low, one_later}
@@ -90,7 +91,8 @@ module _ {T : Setup} {g : ℕ} {c : Record} (x : Here T g c) (pieces : List Piec
           counted = instructed_counts c.clock;
           shallow = let s = shallow_here x g c.frame (frame_at x) in let l = ap (λ (fs : List WordFrame). length fs) a.frames in omega arith;
           image = image_clock T.code (layout T) x.words (slice_set x.recs g d) p.state v image;
-          links = links_low x 0 v (omega arith) d (all_kept refl refl refl) (CountsOne (one_later (steps_of c)));
+          links = links_low x 0 v (omega arith) d (all_kept refl refl refl refl) (CountsOne (one_later (steps_of c))
+              (adds_nothing x p.state p.steps (ap (λ (m : Heap). length m.heap) p.memory_is)));
         };
         mark = p.mark;
         printed = p.printed;

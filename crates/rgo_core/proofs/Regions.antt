@@ -51,7 +51,7 @@ use Rattle.rgo_core_memory.specs.Owed.{claimed_for}
 use Rattle.rgo_core_memory.proofs.Owing.{still_claimed}
 use Rattle.rgo_core_memory.proofs.Infos.{info_fewer}
 use Rattle.rgo_core.specs.Links.{Links, left_to_free}
-use Rattle.rgo_core.proofs.Links.{IsElsewhere, all_kept, as_much, claims_apart, has_duty, lengths_low, links_between, links_freeing}
+use Rattle.rgo_core.proofs.Links.{IsElsewhere, all_kept, as_much, claims_apart, has_duty, fixed_low, links_between, links_freeing, owing_none}
 use Rattle.rgo_core.proofs.Standing.{frames_here, frame_at, memory_at}
 use Rattle.rgo_core.proofs.Counting.{plus_zero}
 
@@ -95,7 +95,7 @@ module _ {T : Setup} {g : ℕ} {c : Record} (x : Here T g c) (k p : ℕ) (ds : L
       → Steps x (slice_set x.words (count_at z p) (slice_index x.words (count_at z p))) (remembers c (with_tried_slot c.memory p))
   tried_steps ne = remembered x _ _ (look_image x (count_at z p) (omega (arith, low)) _ _
       (tried_slot_keeps T.code z x.words (map memory_of x.recs) x.s (I x).places g c.memory x.core.sound.good (I x).memory (memory_at x) p low ne))
-      (as_before x (count_at z p) (slice_index x.words (count_at z p)) (omega arith) (omega (arith, low)) (with_tried_slot c.memory p) refl refl)
+      (as_before x (count_at z p) (slice_index x.words (count_at z p)) (omega arith) (omega (arith, low)) (with_tried_slot c.memory p) refl refl refl refl)
 
   module _ (none : slice_index x.words (count_at z p) ≡ 0) where
     -- no live region has the slot
@@ -170,8 +170,8 @@ module _ {T : Setup} {g : ℕ} {c : Record} (x : Here T g c) (k p : ℕ) (ds : L
         (memory_stays x (slice_set x.words (count_at z p) 2) t P'
         (create_keeps T.code z x.words (map memory_of x.recs) x.s t g k p f.h first.others x.core.sound.good (I x).places (I x).memory f.there owes
         step.steps low none))
-        (links_between x (count_at z p) 2 (omega arith) (omega (arith, low)) (creates c k ds p) (all_kept refl refl refl)
-        (IsElsewhere (as_much (steps_of c)) (has_duty T.code c (Create k) ds owed)))
+        (links_between x (count_at z p) 2 (omega arith) (omega (arith, low)) (creates c k ds p) (all_kept refl refl refl refl)
+        (IsElsewhere (as_much (steps_of c)) (has_duty T.code c (Create k) ds owed) (owing_none x (Create k) ds owed)))
         (record no_share { made = 1 }) adds counts (shallow x) step.mark_is
         (record { prints = refl; first = refl; children = refl; refused = refl }))
 
@@ -254,8 +254,8 @@ module _ {T : Setup} {g : ℕ} {c : Record} (x : Here T g c) (d : Duty) (ds : Li
       (let l = in_table x S.region p S.slot_is S.live in omega (arith, l)) share_lives S.step.fit
       (memory_stays x (slice_set x.words (count_at (layout T) p) (slice_index x.words (count_at (layout T) p) + 1)) S.step.state (I x).places share_memory)
       (links_between x (count_at (layout T) p) (slice_index x.words (count_at (layout T) p) + 1) (omega arith)
-      (let l = in_table x S.region p S.slot_is S.live in omega (arith, l)) (with_holder c k) (all_kept refl refl refl)
-      (IsElsewhere (as_much (steps_of c)) (has_duty T.code c d ds owed)))
+      (let l = in_table x S.region p S.slot_is S.live in omega (arith, l)) (with_holder c k) (all_kept refl refl refl refl)
+      (IsElsewhere (as_much (steps_of c)) (has_duty T.code c d ds owed) (owing_none x d ds owed)))
       no_share share_adds (counts_none (counted c.clock)) (shallow x) S.step.mark_is
       (record { prints = refl; first = refl; children = refl; refused = refl })
 
@@ -327,15 +327,15 @@ module _ {T : Setup} {g : ℕ} {c : Record} (x : Here T g c) (d : Duty) (ds : Li
     leave_memory = subst (λ m. Memory (layout T) (slice_set x.words (count_at (layout T) m) (found_at m - 1))
         (slice_set (map memory_of x.recs) g (without_slot c.memory m)) E.step.state (I x).places) E.slot_is
         (leave_keeps T.code (layout T) x.words (map memory_of x.recs) x.s E.step.state g E.region E.h c.memory x.core.sound.good (I x).places
-        (I x).memory E.there (memory_at x) end_of.leaves E.step.steps end_free
+        (I x).memory E.there (memory_at x) end_of.leaves E.step.steps end_free (owing_none x d ds owed)
         (subst (λ m. found_at m ≢ 2) (sym E.slot_is) more))
 
     leave_does : Does x (slice_set x.words (count_at (layout T) p) (n - 1)) (leaves c k p)
     leave_does = attends x rests (Attend g) refl E.step.state E.step.steps end_room (else_stays x.s E.step.state E.step.same) (accessed c.clock) (record c.frame { holder = k })
         (without_slot c.memory p) (I x).places.slot (I x).places.uses (I x).places.at (I x).places.page (count_at (layout T) p) (n - 1) low_end end_lives
         E.step.fit leave_memory
-        (links_between x (count_at (layout T) p) (n - 1) (omega arith) low_end (leaves c k p) (all_kept refl refl refl)
-        (IsElsewhere (as_much (steps_of c)) (has_duty T.code c d ds owed)))
+        (links_between x (count_at (layout T) p) (n - 1) (omega arith) low_end (leaves c k p) (all_kept refl refl refl refl)
+        (IsElsewhere (as_much (steps_of c)) (has_duty T.code c d ds owed) (owing_none x d ds owed)))
         no_share
         (end_adds ∙ ap (counts_plus (counts_of x.s)) (share_kept x.s.regions E.region info (info_of x E.region p E.slot_is E.live).1
         (λ e. let w = n_is in more (omega (arith, w, e)))))
@@ -354,7 +354,7 @@ module _ {T : Setup} {g : ℕ} {c : Record} (x : Here T g c) (d : Duty) (ds : Li
         (slice_set (map memory_of x.recs) g (with_give (without_slot c.memory m) (Owes m))) E.step.state
         (record (I x).places { uses = put (I x).places.uses m (Closing g) })) E.slot_is
         (last_leave_keeps T.code (layout T) x.words (map memory_of x.recs) x.s E.step.state g E.region E.h c.memory x.core.sound.good (I x).places
-        (I x).memory E.there (memory_at x) end_of.leaves E.step.steps end_free calm
+        (I x).memory E.there (memory_at x) end_of.leaves E.step.steps end_free (owing_none x d ds owed) calm
         (subst (λ m. found_at m ≡ 2) (sym E.slot_is) two))
 
     owes_none : c.clock.owed ≡ 0
@@ -382,9 +382,9 @@ module _ {T : Setup} {g : ℕ} {c : Record} (x : Here T g c) (d : Duty) (ds : Li
         let pages : info.pages ≡ claimed_for (layout T) x.words p =
         still_claimed.live (layout T) x.words (map memory_of x.recs) x.s (I x).places (I x).memory E.region info live.1 live.2
         ∙ ap (claimed_for (layout T) x.words) E.slot_is in
-        links_freeing x words (lengths_low x (count_at (layout T) p) (n - 1) low_end) (leaves_last c k p info.pages) (λ j r e ne is closes. claims r)
-        (pages ∙ sym (claims p)) refl
-        (IsElsewhere (as_much (steps_of c)) (has_duty T.code c d ds owed))
+        links_freeing x words (fixed_low x (count_at (layout T) p) (n - 1) low_end) (leaves_last c k p info.pages) (λ j r e ne is closes. claims r)
+        (pages ∙ sym (claims p)) refl refl
+        (IsElsewhere (as_much (steps_of c)) (has_duty T.code c d ds owed) (owing_none x d ds owed))
 
     last_does : Does x (slice_set x.words (count_at (layout T) p) (n - 1)) (leaves_last c k p info.pages)
     last_does = attends x rests (Attend g) refl E.step.state E.step.steps end_room (else_stays x.s E.step.state E.step.same) (leaves_last c k p info.pages).clock

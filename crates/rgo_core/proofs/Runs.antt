@@ -1,5 +1,5 @@
 -- Runs within the limits that grow by an event.
-use Rattle.std.proofs.Common.{◌≡◌, ℕ, Bool, true, List, [], ◌∷◌, ◌++◌, Option, Some, None, if◌then◌else◌, option_and_then, refl, ap, sym, ◌∙◌, append_assoc}
+use Rattle.std.proofs.Common.{◌≡◌, ℕ, Bool, false, true, List, [], ◌∷◌, ◌++◌, Option, Some, None, if◌then◌else◌, option_and_then, refl, ap, sym, ◌∙◌, append_assoc}
 use Rattle.std.proofs.lemmas.List.{append-nil}
 use Rattle.std.proofs.lemmas.Option.{same_Some}
 use Rattle.rgo_sound.specs.Code.Code.{Code}
@@ -89,3 +89,33 @@ module _ (code : Code) (page_words : ℕ) (limits : Limits) where
       still = still;
       cause = cause;
     }
+
+-- ---- a run within the limits is a run
+
+-- the first step of a run
+pub first_step : {S E : Type 0} (step : S → E → Option S) (s t : S) (e : E) (es : List E) → run step s (e ∷ es) ≡ Some t
+    → (u : S) × (step s e ≡ Some u) × (run step u es ≡ Some t)
+first_step {S = S} {E = E} step s t e es leads = go (step s e) leads
+  where
+    go : (o : Option S) → option_and_then (λ u. run step u es) o ≡ Some t → (u : S) × (o ≡ Some u) × (run step u es ≡ Some t)
+    go None q = absurd (cc q)
+    go (Some u) q = (u, refl, q)
+
+module _ (code : Code) (page_words : ℕ) (limits : Limits) where
+  step_is : (s t : RegionState) (e : Event) → limited_step code page_words limits s e ≡ Some t → region_step code page_words s e ≡ Some t
+  step_is s t e is = go (region_step code page_words s e) is
+    where
+      pick : (b : Bool) (u : RegionState) → (if b then Some u else None) ≡ Some t → Some u ≡ Some t
+      pick true u q = q
+      pick false u q = absurd (cc q)
+
+      go : (o : Option RegionState) → option_and_then (if_in_limits code page_words limits) o ≡ Some t → o ≡ Some t
+      go None q = absurd (cc q)
+      go (Some u) q = pick (is_within limits u.plain) u q
+
+  pub runs_too : (events : List Event) (s t : RegionState) → run (limited_step code page_words limits) s events ≡ Some t
+      → run (region_step code page_words) s events ≡ Some t
+  runs_too [] s t e = e
+  runs_too (event ∷ events) s t e =
+      let f = first_step (limited_step code page_words limits) s t event events e in
+      ap (option_and_then (λ u. run (region_step code page_words) u events)) (step_is s f.0 event f.1) ∙ runs_too events f.0 t f.2

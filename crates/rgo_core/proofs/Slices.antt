@@ -1,5 +1,6 @@
 -- The slice to which the first operand of a record's next instruction points.
-use Rattle.std.proofs.Common.{◌≡◌, ℕ, suc, ◌+◌, ◌<◌, ◌^◌, FitsSigned, pos, List, [], ◌∷◌, Option, Some, None, length, map, slice_get, slice_index, refl, ap, sym, subst, ◌∙◌, arith, w64, Contains}
+use Rattle.std.proofs.Common.{◌≡◌, ℕ, suc, ◌+◌, ◌<◌, ◌^◌, FitsSigned, pos, List, [], ◌∷◌, Option, Some, None, length, map, replicate, slice_get, slice_index, refl, ap, sym, subst, ◌∙◌, arith, w64, Contains}
+use Rattle.std.proofs.lemmas.List.{length-replicate}
 use Rattle.std.proofs.lemmas.Option.{same_Some}
 use Rattle.rgo_sound.specs.Code.Code.{CodeFn, Do}
 use Rattle.rgo_sound.specs.Code.Erasure.{erased, erased_fn, erased_op}
@@ -26,12 +27,12 @@ use Rattle.rgo_core_memory.specs.Ground.{Stands, ground_of}
 use Rattle.rgo_core_memory.specs.Image.{word_at}
 use Rattle.rgo_core_memory.specs.Words.{base}
 use Rattle.rgo_core_memory.proofs.Storing.{loads}
-use Rattle.rgo_core.specs.Bounds.{LieInPages}
+use Rattle.rgo_core.specs.Bounds.{LieInPages, slice_words}
 use Rattle.rgo_core.specs.Core.{Here, Setup, layout}
 use Rattle.rgo_core.specs.Links.{BeforeLoad, BeforeStore, IsAtElement}
 use Rattle.rgo_core.specs.Next.{IsAt}
 use Rattle.rgo_core.specs.Records.{Record, memory_of}
-use Rattle.rgo_core.proofs.Bounds.{lies_in}
+use Rattle.rgo_core.proofs.Bounds.{lies_in, same_row}
 use Rattle.rgo_core.proofs.Contents.{content_fits}
 use Rattle.rgo_core.proofs.Encodings.{small_word}
 use Rattle.rgo_core.proofs.Operands as operands
@@ -80,7 +81,7 @@ module _ {T : Setup} {g : ℕ} {c : Record} (x : Here T g c) (to : Option ℕ) (
   -- its first word, which has its length
   pub first_word : word_at (layout T) (I x).places it.object 0 ≡ base (layout T) + at
   first_word =
-      operands.word_there x to act (p ∷ others) removes a p at (slice_of u) tys others types_are refl refl read points
+      operands.word_before x to act (p ∷ others) removes a p at (slice_of u) tys others types_are refl refl read points
       (SliceObject slice_there.0) slice_there.1 0 (omega arith)
       ∙ (let e : base (layout T) + (at + 0) ≡ base (layout T) + at = omega arith in e)
 
@@ -95,13 +96,16 @@ module _ {T : Setup} {g : ℕ} {c : Record} (x : Here T g c) (to : Option ℕ) (
       (value.Int (pos (length slice_there.0))) slice_stands refl
       ∙ small_word (length slice_there.0) length_small)
 
-  -- all its words lie in the pages
-  pub lies : LieInPages T at (suc (slice_index x.words (base (layout T) + at)))
+  -- the words that follow its address lie in the pages
+  pub lies : LieInPages T at (slice_words T (slice_index x.words (base (layout T) + at)))
   lies =
       let l = lies_in T x.words (map memory_of x.recs) x.s (I x).places (I x).memory it.object (SliceObject slice_there.0) it.region slice_stands in
       let e = (I x).addressed it.object at it.at in
-      let n = length_word in
-      omega (arith, l, e, n)
+      let n : length slice_there.0 ≡ length (replicate (slice_index x.words (base (layout T) + at)) value.Nil) =
+      sym (length-replicate (slice_index x.words (base (layout T) + at)) value.Nil ∙ length_word) in
+      let w = same_row T.sizes.page_words (SliceObject (replicate (slice_index x.words (base (layout T) + at)) value.Nil)) (SliceObject slice_there.0)
+      (ap (λ k. 1 + k) n, n) in
+      omega (arith, l, e, w)
 
 -- ---- the operands of accesses to elements
 
@@ -120,7 +124,7 @@ pub record HasSlice {T : Setup} {g : ℕ} {c : Record} (x : Here T g c) (at : �
   pub region : Region
   pub stands : Stands x.s.plain.memory.heap x.s.owners x.s.regions object (SliceObject cells) region
   pub first : word_at (layout T) (I x).places object 0 ≡ base (layout T) + at
-  pub lies : LieInPages T at (suc (slice_index x.words (base (layout T) + at)))
+  pub lies : LieInPages T at (slice_words T (slice_index x.words (base (layout T) + at)))
 
 pub at_slice : {T : Setup} {g : ℕ} {c : Record} (x : Here T g c) (at : ℕ) → IsAtElement T.code c at → HasSlice x at
 at_slice {T} x at (BeforeLoad d p q removes a points) =

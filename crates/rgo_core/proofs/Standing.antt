@@ -1,8 +1,8 @@
 -- What the core says where laws about frames, memory and channels begin; and words that are no matter of the image.
-use Rattle.std.proofs.Common.{◌≡◌, inl, ℕ, ◌<◌, List, Some, length, map, slice_get, slice_set, ap, sym, subst, ◌∙◌, arith}
-use Rattle.rgo_sound.specs.Code.Code.{CodeOp}
+use Rattle.std.proofs.Common.{◌≡◌, inl, ℕ, zero, suc, ◌<◌, ◌≤◌, List, Some, length, map, slice_get, slice_set, ap, sym, subst, ◌∙◌, arith}
+use Rattle.rgo_sound.specs.Code.Code.{CodeOp, Code}
 use Rattle.rgo_core_channels.proofs.Quiet as channel_laws
-use Rattle.rgo_core_channels.specs.Channels.{Channels, Places}
+use Rattle.rgo_core_channels.specs.Channels.{Places, word_of}
 use Rattle.rgo_core_channels.specs.Records.{Rec as SideRec}
 use Rattle.rgo_core_frames.proofs.Before.{before_law}
 use Rattle.rgo_core_frames.specs.Records.{Rec as FrameRec}
@@ -14,10 +14,10 @@ use Rattle.rgo_core_memory.specs.Image.{Memory, Where, code_of}
 use Rattle.rgo_core_memory.specs.Records.{Rec as MemoryRec}
 use Rattle.rgo_core_memory.specs.Words.{base}
 use Rattle.rgo_core_memory.specs.declared.layout.TableSizes.{TableSizes}
-use Rattle.rgo_sound.specs.Code.Code.{Code}
 use Rattle.rgo_sound.specs.RegionMachine.States.{RegionState}
 use Rattle.rgo_core.specs.Core.{Here, Setup}
-use Rattle.rgo_core.specs.Image.{Image, place_of}
+use Rattle.rgo_core_channels.specs.Positions.{cell_place, place_at}
+use Rattle.rgo_core.specs.Image.{Image, ChannelsIn}
 use Rattle.rgo_core.specs.Next.{IsAt}
 use Rattle.rgo_core.specs.Records.{Record, frame_of, memory_of, side_of}
 
@@ -75,17 +75,24 @@ module _ (code : Code) (z : TableSizes) (words : List ℕ) (recs : List Record) 
     memory = subst (λ (l : List MemoryRec). Memory z words l s k.places)
         (sym (map_set memory_of recs g d ∙ (ap (slice_set (map memory_of recs) g) memory ∙ set_again (map memory_of recs) g c.memory (map_get memory_of recs g c at))))
         k.memory;
-    channels = subst (λ (l : List SideRec). Channels code (code_of z k.places) (place_of z k.places) words l s k.at)
+    channels = subst (λ (l : List SideRec). ChannelsIn code z k.places words l s k.at)
         (sym (map_set side_of recs g d ∙ (ap (slice_set (map side_of recs) g) side ∙ set_again (map side_of recs) g c.side (map_get side_of recs g c at))))
         k.channels;
   }
 
+-- words of channels are those of pages
+pub word_high : (z : TableSizes) (places : Where) (o j : ℕ) → base z ≤ word_of (place_at z places) (cell_place z places) o j
+word_high z places o zero = omega arith
+word_high z places o (suc zero) = omega arith
+word_high z places o (suc (suc j)) = omega arith
+
 -- words before those of pages are no words of channels
 pub channels_beside : (code : Code) (z : TableSizes) (places : Where) (words : List ℕ) (recs : List SideRec) (s : RegionState) (at : Places) (i v : ℕ)
-    → i < base z → Channels code (code_of z places) (place_of z places) words recs s at
-    → Channels code (code_of z places) (place_of z places) (slice_set words i v) recs s at
+    → i < base z → ChannelsIn code z places words recs s at
+    → ChannelsIn code z places (slice_set words i v) recs s at
 channels_beside code z places words recs s at i v low =
-    channel_laws.word_keeps code (code_of z places) (place_of z places) words recs s at i v (λ o k on. inl (omega arith))
+    channel_laws.word_keeps code z.page_words (code_of z places) (place_at z places) (cell_place z places) words recs s at i v
+    (λ o j k on h e. let l = word_high z places o j in omega (arith, l, e, low))
 
 pub image_clock : (code : Code) (z : TableSizes) (words : List ℕ) (recs : List Record) (s : RegionState) (v : ℕ) → Image code z words recs s
     → Image code z (slice_set words 0 v) recs s

@@ -3,7 +3,6 @@ use Rattle.std.proofs.Common.{◌≡◌, ⊎_elim, ℕ, suc, ◌+◌, ◌≤◌,
 use Rattle.std.proofs.lemmas.List.{append-nil}
 use Rattle.std.proofs.lemmas.Option.{same_Some, slice_get_within}
 use Rattle.rgo_sound.specs.Code.Code.{CodeFn, CodeOp, Go}
-use Rattle.rgo_core_channels.specs.Channels.{Channels}
 use Rattle.rgo_core_channels.specs.Records.{Rec as SideRec, at_rest}
 use Rattle.rgo_core_frames.proofs.Before.{no_offer}
 use Rattle.rgo_core_frames.proofs.Sound.{next_sound}
@@ -15,7 +14,7 @@ use Rattle.rgo_core_frames.specs.Slots.{nameless}
 use Rattle.rgo_core_frames.specs.WordFrames.{WordFrame, word_called, words_of}
 use Rattle.rgo_core_memory.proofs.Quiets.{start_keeps}
 use Rattle.rgo_core_memory.proofs.Rows.{set_again}
-use Rattle.rgo_core_memory.specs.Image.{Memory, code_of}
+use Rattle.rgo_core_memory.specs.Image.{Memory}
 use Rattle.rgo_core_memory.specs.Opening.{first_record}
 use Rattle.rgo_core_memory.specs.Quiet.{IsGo}
 use Rattle.rgo_core_memory.specs.Records.{Rec as MemoryRec}
@@ -31,12 +30,13 @@ use Rattle.rgo_sound.specs.Tally.{counts_plus, no_share}
 use Rattle.rgo_sound.specs.Tac.declared.regions.Class.{Class}
 use Rattle.rgo_core.specs.ClockSteps.{Starts}
 use Rattle.rgo_core.specs.Core.{Here, Setup, layout}
-use Rattle.rgo_core.specs.Image.{Image, place_of}
+use Rattle.rgo_core.specs.Image.{Image, ChannelsIn}
 use Rattle.rgo_core.specs.Laws.{StartMove, child_of, started_by}
 use Rattle.rgo_core.specs.Next.{IsAt}
 use Rattle.rgo_core.specs.Records.{ClockRec, Record, counted, frame_of, memory_of, side_of, with_child, steps_of}
 use Rattle.rgo_core.proofs.ClockLifts.{map_more, number_law}
 use Rattle.rgo_core.proofs.Lift.{many, shallow_here}
+use Rattle.rgo_core.proofs.Unreserved.{adds_nothing}
 use Rattle.rgo_core.proofs.Standing.{at_instruction, frame_at, image_made, memory_at, side_at}
 use Rattle.rgo_core.proofs.Staying.{channels_keep}
 use Rattle.rgo_core.proofs.Links.{CountsOne, all_kept, links_low, links_more, one_later}
@@ -114,7 +114,7 @@ module _ {T : Setup} {g : ℕ} {c : Record} (x : Here T g c) (f : ℕ) (callee :
         frames = subst (λ (l : List FrameRec). AllFit T.code places.slot x.core.image.addresses t l) (sym (map_more frame_of x.recs g d child)) fit;
         memory = subst (λ (l : List MemoryRec). Memory (layout T) x.words l t places)
             (sym (map_more memory_of x.recs g d child ∙ ap (λ (l : List MemoryRec). l ++ first_record ∷ []) (set_again (map memory_of x.recs) g c.memory (memory_at x)))) shown;
-        channels = subst (λ (l : List SideRec). Channels T.code (code_of (layout T) places) (place_of (layout T) places) x.words l t x.core.image.at)
+        channels = subst (λ (l : List SideRec). ChannelsIn T.code (layout T) places x.words l t x.core.image.at)
             (sym (map_more side_of x.recs g d child ∙ ap (λ (l : List SideRec). l ++ at_rest ∷ []) (set_again (map side_of x.recs) g c.side (side_at x)))) channels;
       } in
       let more : length t.plain.goroutines ≡ length x.s.plain.goroutines + 1 =
@@ -134,7 +134,8 @@ module _ {T : Setup} {g : ℕ} {c : Record} (x : Here T g c) (f : ℕ) (callee :
           shallow = let s = shallow_here x g c.frame (frame_at x) in let l = ap (λ (fs : List WordFrame). length fs) a.frames in omega arith;
           image = image_made T.code (layout T) x.words recs' t (suc (slice_index x.words 16)) image;
           links = links_more T.code (layout T) (slice_set x.words 16 (suc (slice_index x.words 16))) (slice_set x.recs g d) child
-              (links_low x 16 (suc (slice_index x.words 16)) (omega arith) d (all_kept refl refl refl) (CountsOne (one_later (steps_of c)))) refl refl;
+              (links_low x 16 (suc (slice_index x.words 16)) (omega arith) d (all_kept refl refl refl refl) (CountsOne (one_later (steps_of c))
+              (adds_nothing x t p.steps (ap (λ (m : Heap). length m.heap) p.memory_is)))) refl refl;
         };
         mark = p.mark;
         printed = p.printed ∙ (ap (Rattle.rgo_sound.specs.RegionMachine.Instructions.printed_if x.s.mark x.s.plain.printed) (append-nil x.s.plain.printed)

@@ -3,7 +3,7 @@ use Rattle.std.proofs.Common.{◌≡◌, inl, ℕ, ◌+◌, ◌≤◌, List, ◌
 use Rattle.std.proofs.lemmas.List.{append-nil}
 use Rattle.std.proofs.lemmas.Option.{slice_get_within}
 use Rattle.rgo_core_channels.proofs.Elsewhere.{event_keeps}
-use Rattle.rgo_core_channels.specs.Channels.{Channels, IsChan}
+use Rattle.rgo_core_channels.specs.Channels.{IsChan}
 use Rattle.rgo_core_channels.specs.Records.{Rec as SideRec, at_rest}
 use Rattle.rgo_core_frames.specs.Fits.{AllFit}
 use Rattle.rgo_core_frames.specs.Records.{Rec as FrameRec}
@@ -17,7 +17,8 @@ use Rattle.rgo_sound.specs.RegionMachine.States.{Holder, NoOffer, RegionState}
 use Rattle.rgo_sound.proofs.Places.{length_set}
 use Rattle.rgo_sound.specs.Leaving.{ActsAlone}
 use Rattle.rgo_core.specs.Core.{Here, Setup, layout}
-use Rattle.rgo_core.specs.Image.{Image, place_of}
+use Rattle.rgo_core_channels.specs.Positions.{cell_place, place_at}
+use Rattle.rgo_core.specs.Image.{Image, ChannelsIn}
 use Rattle.rgo_core.specs.Records.{Record, frame_of, memory_of, side_of}
 use Rattle.rgo_core.proofs.Standing.{memory_at, side_at}
 use Rattle.rgo_core.specs.Moments.{moment}
@@ -28,19 +29,20 @@ module _ {T : Setup} {g : ℕ} {c : Record} (x : Here T g c) (event : Event) (t 
     (step : region_step T.code T.sizes.page_words x.s event ≡ Some t) (alone : ActsAlone event g) (rest : c.side ≡ at_rest)
     (memory : t.plain.memory ≡ x.s.plain.memory) (owners : t.owners ≡ x.s.owners) (regions : t.regions ≡ x.s.regions) where
   abbrev Shown : List SideRec → Type 0
-  Shown recs = Channels T.code (code_of (layout T) x.core.image.places) (place_of (layout T) x.core.image.places) x.words recs t x.core.image.at
+  Shown recs = ChannelsIn T.code (layout T) x.core.image.places x.words recs t x.core.image.at
 
   pub channels_keep : (children : ℕ) → length t.holders ≡ length x.s.holders + children
       → ((j : ℕ) (h : Holder) → length x.s.holders ≤ j → slice_get t.holders j ≡ Some h → h.offer ≡ NoOffer)
       → Shown (map side_of x.recs ++ replicate children at_rest)
   channels_keep children born calm =
-      event_keeps (moment x) g event x.words t (code_of (layout T) x.core.image.places) (place_of (layout T) x.core.image.places) x.core.image.at None children
+      event_keeps (moment x) g event x.words t (code_of (layout T) x.core.image.places) (place_at (layout T) x.core.image.places) (cell_place (layout T) x.core.image.places) x.core.image.at None children
       (side_at x ∙ ap Some rest) alone step (record {
         long = refl;
         heap = λ o k on. subst (λ (m : Heap). IsChan m o k) (sym memory) on.0;
         was = λ o k on. inl (subst (λ (m : Heap). IsChan m o k) memory on.0, sym (touch_same x.s t owners regions o) ∙ on.1);
         same = λ o i k on h. refl;
         places = λ o k on. refl;
+        spots = λ o i k on h. refl;
         ats = λ o k on. (refl, refl, refl);
         codes = λ o i v k on e. refl;
         sent = λ o j v n. refl;
@@ -48,7 +50,9 @@ module _ {T : Setup} {g : ℕ} {c : Record} (x : Here T g c) (event : Event) (t 
         born_calm = calm;
         fresh = λ o k n. absurd n;
         fresh_words = λ o k n. absurd n;
-        fresh_apart = λ o p k l n on. absurd n;
+        fresh_cells = λ o i k n. absurd n;
+        fresh_differ = λ o i j k n. absurd n;
+        fresh_apart = λ o p i j k l n on. absurd n;
         one_fresh = λ o p k l n m. absurd n;
       })
 

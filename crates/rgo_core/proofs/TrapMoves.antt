@@ -49,8 +49,7 @@ use Rattle.rgo_core.specs.Image.{Image}
 use Rattle.rgo_core.specs.Next.{IsAt}
 use Rattle.rgo_core.specs.Records.{Record, frame_of, memory_of, side_of}
 use Rattle.rgo_core.specs.TrapMoves.{CloseNilMove, CloseTrapMove, SendTrapMove, StrandedMove, trapped}
-use Rattle.rgo_core.proofs.AtChannels.{calm, here, live, next, object, place_is, points_to}
-use Rattle.rgo_core.proofs.AtChannels.{same_operands, standing_or_taken}
+use Rattle.rgo_core.proofs.AtChannels.{calm, here, live, next, object, place_is, points_to, same_operands, standing_or_taken}
 use Rattle.rgo_core.proofs.Operands as operands
 use Rattle.rgo_core.proofs.Standing.{at_instruction, frame_at, frames_here, image_same, side_at}
 use Rattle.rgo_core.specs.Moments.{moment}
@@ -90,7 +89,7 @@ module _ {T : Setup} {g : ℕ} {c : Record} (x : Here T g c) {to : Option ℕ} {
       let q = x.core.image.channels.saws g at c.side (side_at x) saw in
       let l = live x a in
       let same : q.0 ≡ object x a =
-      one_place T.code (moment x).encode (moment x).place x.words (map side_of x.recs) x.s x.core.image.at x.core.image.channels
+      one_place T.code (moment x).page_words (moment x).encode (moment x).place (moment x).cell x.words (map side_of x.recs) x.s x.core.image.at x.core.image.channels
       q.0 (object x a) q.1 l.0 q.2 l.1 (q.3 ∙ sym (place_is x a)) in
       (q.1, subst (λ o. On x.s o q.1) same q.2, q.4)
 

@@ -1,10 +1,11 @@
 -- A trap of an instruction ends the run, unless it has ended.
-use Rattle.std.proofs.Common.{◌≡◌, ℕ, Option, Some, None, map, slice_set, slice_index, bit_or, refl, sym, subst, ◌∙◌, arith}
+use Rattle.std.proofs.Common.{◌≡◌, ℕ, Option, Some, None, map, slice_set, slice_index, bit_or, refl, sym, subst, ◌∙◌, arith, ap, length}
 use Rattle.rgo_sound.specs.Code.Code.{CodeOp}
 use Rattle.rgo_sound.specs.Machine.declared.picks.End.{End}
 use Rattle.rgo_sound.specs.Machine.declared.picks.End.TheVariants as the_end
 use Rattle.rgo_sound.specs.Machine.declared.picks.Pick.TheVariants.{One}
 use Rattle.rgo_sound.specs.Memory.declared.traps.Trap.{Trap}
+use Rattle.rgo_sound.specs.Memory.Memory.{Memory as Heap}
 use Rattle.rgo_sound.specs.RegionMachine.Instructions.{marked}
 use Rattle.rgo_sound.specs.RegionMachine.Machine.{Instruct}
 use Rattle.rgo_sound.specs.RegionMachine.States.{Ended, Mark}
@@ -29,6 +30,7 @@ use Rattle.rgo_core.proofs.Counting.{instructed_counts}
 use Rattle.rgo_core.proofs.Lift.{many_set, shallow_here}
 use Rattle.rgo_core.proofs.Links.{CountsOne, all_kept, links_low, one_later}
 use Rattle.rgo_core.proofs.Printing.{counts_step, not_go}
+use Rattle.rgo_core.proofs.Unreserved.{adds_nothing}
 use Rattle.rgo_core.proofs.Standing.{frame_at, frames_here, image_clock}
 use Rattle.rgo_core.proofs.Staying.{image_stays}
 
@@ -56,8 +58,8 @@ module _ {T : Setup} {g : ℕ} {c : Record} (x : Here T g c) (trap : Trap) (plac
           counted = instructed_counts c.clock;
           shallow = shallow_here x g c.frame (frame_at x);
           image = image_clock T.code (layout T) x.words (slice_set x.recs g d) F.state (bit_or (slice_index x.words 0) 9223372036854775808) image;
-          links = links_low x 0 (bit_or (slice_index x.words 0) 9223372036854775808) (omega arith) d (all_kept refl refl refl)
-              (CountsOne (one_later (steps_of c)));
+          links = links_low x 0 (bit_or (slice_index x.words 0) 9223372036854775808) (omega arith) d (all_kept refl refl refl refl)
+              (CountsOne (one_later (steps_of c)) (adds_nothing x F.state F.steps (ap (λ (m : Heap). length m.heap) F.same.memory)));
         };
         marked = F.mark_is ∙ marked_is x.s.mark (the_end.Trap trap place);
         printed = F.same.printed;

@@ -12,7 +12,7 @@ use Rattle.rgo_sound.specs.RegionMachine.declared.limits.Limit.TheVariants as li
 use Rattle.rgo_sound.specs.Tac.Tac.{tac}
 
 module _ (code : Code) (sizes : Sizes) (limits : Limits) where
-  -- A goroutine lacks a page, a region, or a page that holds a larger object; calls a function though it has as many
+  -- A goroutine lacks a page or a region, or makes an object of too many data pages; calls a function though it has as many
   -- frames as it may; or starts a goroutine though there are as many. Memory may run out in any state.
   abbrev pub Stops : Limit → RegionState → Type 0
   Stops limit.Pages s = LacksIn code sizes shortage.Pages s

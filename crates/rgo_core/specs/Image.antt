@@ -2,9 +2,11 @@
 use Rattle.std.specs.Prelude.{◌≡◌, ℕ, List, length, map, Some, slice_get}
 use Rattle.rgo_sound.specs.Code.Code.{Code}
 use Rattle.rgo_core_channels.specs.Channels.{Channels, Places}
+use Rattle.rgo_core_channels.specs.Positions.{cell_place, place_at}
+use Rattle.rgo_core_channels.specs.Records.{Rec as SideRec}
 use Rattle.rgo_core_frames.specs.Fits.{AllFit}
 use Rattle.rgo_core_memory.specs.Encoding.{address}
-use Rattle.rgo_core_memory.specs.Image.{Memory, Where, code_of, word_at}
+use Rattle.rgo_core_memory.specs.Image.{Memory, Where, code_of}
 use Rattle.rgo_core_memory.specs.declared.layout.TableSizes.{TableSizes}
 use Rattle.rgo_sound.specs.Machine.declared.limits.Sizes.{Sizes}
 use Rattle.rgo_sound.specs.RegionMachine.States.{RegionState}
@@ -19,17 +21,18 @@ table_sizes code sizes = record {
   variables = length code.variables;
 }
 
--- the first word of an object
-abbrev pub place_of : TableSizes → Where → ℕ → ℕ
-place_of z places o = word_at z places o 0
+-- the image of channels, which begin where the memory has them begin, and have their cells where it has these
+abbrev pub ChannelsIn : Code → TableSizes → Where → List ℕ → List SideRec → RegionState → Places → Type 0
+ChannelsIn code z places words recs s at =
+    Channels code z.page_words (code_of z places) (place_at z places) (cell_place z places) words recs s at
 
--- One layout: the slots of regions in the records' frames are those of the memory, an object's address there is that of its words,
--- and a channel lies where the memory has it.
+-- One layout: the slots of regions in the records' frames are those of the memory, an object's address there is where it begins in the
+-- memory, and a channel lies where the memory has it.
 pub record Image (code : Code) (z : TableSizes) (words : List ℕ) (recs : List Record) (s : RegionState) : Type 0 where
   pub places : Where
   pub at : Places
   pub addresses : List ℕ
-  pub addressed : (o a : ℕ) → slice_get addresses o ≡ Some a → a ≡ address z places.spot o
+  pub addressed : (o a : ℕ) → slice_get addresses o ≡ Some a → a ≡ address z places.start o
   pub frames : AllFit code places.slot addresses s (map frame_of recs)
   pub memory : Memory z words (map memory_of recs) s places
-  pub channels : Channels code (code_of z places) (place_of z places) words (map side_of recs) s at
+  pub channels : ChannelsIn code z places words (map side_of recs) s at

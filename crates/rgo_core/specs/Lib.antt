@@ -38,3 +38,4 @@ pub mod TraceExamples
 pub mod ElementTraps
 pub mod OperandTraps
 pub mod LinkExamples
+pub mod SpreadExamples

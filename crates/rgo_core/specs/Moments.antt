@@ -1,9 +1,9 @@
 -- The moment that laws about channels speak of, from what is known of a table and its records.
 use Rattle.std.specs.Prelude.{ℕ, map}
+use Rattle.rgo_core_channels.specs.Positions.{cell_place, place_at}
 use Rattle.rgo_core_channels.specs.Moments.{Moment}
 use Rattle.rgo_core_memory.specs.Image.{code_of}
 use Rattle.rgo_core.specs.Core.{Here, Setup, layout}
-use Rattle.rgo_core.specs.Image.{place_of}
 use Rattle.rgo_core.specs.Records.{Record, side_of}
 
 abbrev pub moment : {T : Setup} {g : ℕ} {c : Record} → Here T g c → Moment
@@ -13,7 +13,8 @@ moment {T} x = record {
   checked = x.core.sound.checked;
   ascends = x.core.sound.written;
   encode = code_of (layout T) x.core.image.places;
-  place = place_of (layout T) x.core.image.places;
+  place = place_at (layout T) x.core.image.places;
+  cell = cell_place (layout T) x.core.image.places;
   words = x.words;
   recs = map side_of x.recs;
   state = x.s;

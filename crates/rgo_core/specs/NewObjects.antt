@@ -1,15 +1,14 @@
 -- A new object: which one a goroutine's next instruction makes, told by its record, and the record after the stores of its words.
-use Rattle.std.specs.Prelude.{◌≡◌, ℕ, suc, ◌+◌, ◌*◌, ◌<◌, ◌^◌, bit_or, false, List, [], ◌∷◌, map, replicate, Option, Some, slice_get}
+use Rattle.std.specs.Prelude.{◌≡◌, ℕ, suc, ◌+◌, ◌*◌, ◌<◌, ◌^◌, bit_or, false, true, List, [], ◌∷◌, map, replicate, Option, Some, slice_get, slice_index}
 use Rattle.rgo_sound.specs.Code.Code.{Code, CodeOp, Do}
 use Rattle.rgo_sound.specs.Code.Erasure.{erased}
 use Rattle.rgo_sound.specs.Memory.Memory.{Channel, Object, SliceObject, StructObject}
 use Rattle.rgo_sound.specs.Memory.Values.{element_zero, zero_of}
-use Rattle.rgo_sound.specs.RegionMachine.Objects.{making_region, words as words_of}
+use Rattle.rgo_sound.specs.RegionMachine.Objects.{is_too_large, making_region, words as words_of}
 use Rattle.rgo_sound.specs.RegionMachine.Owed.{function_of}
 use Rattle.rgo_sound.specs.RegionMachine.States.{Stopped, top_names}
 use Rattle.rgo_sound.specs.RegionMachine.declared.limits.Limit.TheVariants.{ObjectSize}
 use Rattle.rgo_sound.specs.RegionMachine.declared.regions.Region.{Region}
-use Rattle.rgo_sound.specs.RegionMachine.declared.regions.Region.TheVariants.{Global as GlobalRegion, Numbered}
 use Rattle.rgo_sound.specs.Tac.Steps.{type_of}
 use Rattle.rgo_sound.specs.Typed.declared.actions.Action.{Action}
 use Rattle.rgo_sound.specs.Typed.declared.actions.Action.TheVariants as action
@@ -18,12 +17,13 @@ use Rattle.rgo_core_channels.specs.Records.{at_rest}
 use Rattle.rgo_core_frames.specs.Actions.{after_action}
 use Rattle.rgo_core_frames.specs.WordFrames.{WordFrame, bare, word_at}
 use Rattle.rgo_core_memory.specs.Encoding.{content, opening}
-use Rattle.rgo_core_memory.specs.Parts.{Covers, Makes}
-use Rattle.rgo_core_memory.specs.Records.{Fill, with_object, with_word}
+use Rattle.rgo_core_memory.specs.Parts.{Covers, CoversApart, Makes, MakesApart}
+use Rattle.rgo_core_memory.specs.Records.{Fill, with_object, with_object_apart, with_word, with_word_apart}
+use Rattle.rgo_core_memory.specs.Spread.{spread_opening, spread_spot, table_words}
 use Rattle.rgo_core_memory.specs.Words.{cell_at, clock_at}
-use Rattle.rgo_core_memory.specs.declared.layout.TableSizes.{TableSizes}
-use Rattle.rgo_core.specs.Bounds.{LieInPages, Points, target_type}
+use Rattle.rgo_core.specs.Bounds.{LieInPages, Points, row_words, target_type}
 use Rattle.rgo_core.specs.Core.{Setup, layout}
+pub use Rattle.rgo_core.specs.Links.{slot_number}
 use Rattle.rgo_core.specs.Next.{IsAt}
 use Rattle.rgo_core.specs.Records.{Record, accessed, ticked, with_end}
 use Rattle.rgo_core.specs.Steps.{Moves}
@@ -42,11 +42,6 @@ pub data ObjectOf (most : ℕ) (code : Code) (w : WordFrame) (to : Option ℕ) (
 abbrev pub MakesObject : Code → WordFrame → Option ℕ → Action → List ℕ → Object → Type 0
 MakesObject = ObjectOf 1073741820
 
--- the slot by which a record knows a region
-abbrev pub slot_number : TableSizes → Region → ℕ
-slot_number z GlobalRegion = z.slots
-slot_number z (Numbered p) = p
-
 -- the record after an instruction that has made an object at the end of what is filled of this own page
 abbrev pub made_object : (T : Setup) (c : Record) {op : CodeOp} → IsAt T.code c op → Option ℕ → Fill → Object → Record
 made_object T c a to f object = record c {
@@ -57,12 +52,24 @@ made_object T c a to f object = record c {
   memory = with_object c.memory f.slot (f.fill + words_of object);
 }
 
+-- where word i of a spread object goes, which is made in the reserved pages of the record
+abbrev pub word_apart : Setup → Record → Object → ℕ → ℕ
+word_apart T c object i = cell_at (layout T) (spread_spot T.sizes.page_words object c.memory.reserved.pages i).page
+    (spread_spot T.sizes.page_words object c.memory.reserved.pages i).offset
+
 -- one word of a new object is stored, and not all of them
 abbrev pub WordMove : Type 0
 WordMove = (T : Setup) (g : ℕ) (c : Record) (f : Fill) (object : Object) (stored : List ℕ) (i : ℕ)
     → Makes (layout T) c.memory f object stored → i < words_of object
     → Moves T g c (cell_at (layout T) f.page (f.fill + i)) (λ n. opening (content object i))
     (λ n d. d ≡ record c { clock = accessed c.clock; memory = with_word c.memory f object (i ∷ stored) })
+
+-- The same of a spread object, in the pages that are reserved: also the numbers of its data pages are stored.
+abbrev pub WordMoveApart : Type 0
+WordMoveApart = (T : Setup) (g : ℕ) (c : Record) (object : Object) (stored : List ℕ) (i : ℕ)
+    → MakesApart (layout T) c.memory object stored → i < table_words T.sizes.page_words object
+    → Moves T g c (word_apart T c object i) (λ n. spread_opening object c.memory.reserved.pages i)
+    (λ n d. d ≡ record c { clock = accessed c.clock; memory = with_word_apart c.memory object (i ∷ stored) })
 
 -- The last of its words is stored: this is the instruction. All words of the object lie in the pages, and the pointer to it points where
 -- it may.
@@ -77,9 +84,35 @@ ObjectMove = (T : Setup) (g : ℕ) (c : Record) (to : Option ℕ) (act : Action)
     (λ n d. (d ≡ made_object T c a to f object) × LieInPages T (f.page * T.sizes.page_words + f.fill) (words_of object)
     × Points T (target_type T a.w to) (suc (f.page * T.sizes.page_words + f.fill)))
 
--- an object that no page holds ends the run
+-- the address of a spread object that is made in the reserved pages: the first word of its lead page
+abbrev pub reserved_address : Setup → Record → ℕ
+reserved_address T c = slice_index c.memory.reserved.pages 0 * T.sizes.page_words
+
+-- the record after an instruction that has made an object there
+abbrev pub made_apart : (T : Setup) (c : Record) {op : CodeOp} → IsAt T.code c op → Option ℕ → Record
+made_apart T c a to = record c {
+  clock = record (ticked c.clock) {
+    share = record c.clock.share { steps = suc c.clock.share.steps; objects = suc c.clock.share.objects };
+  };
+  frame = after_action T.code c.frame a.w a.ws a.instr to (suc (reserved_address T c));
+  memory = with_object_apart c.memory;
+}
+
+-- The last word of a spread object is stored, or the last page number.
+abbrev pub ObjectMoveApart : Type 0
+ObjectMoveApart = (T : Setup) (g : ℕ) (c : Record) (to : Option ℕ) (act : Action) (from removes : List ℕ)
+    (a : IsAt T.code c (Do to act from removes)) (object : Object) (by_slot : Region) (stored : List ℕ) (last : ℕ)
+    → c.side ≡ at_rest → MakesObject T.code a.w to act from object
+    → making_region (function_of T.code a.w.function) (top_names c.frame.holder.environments) a.instr.op ≡ Some by_slot
+    → MakesApart (layout T) c.memory object stored
+    → last < table_words T.sizes.page_words object → CoversApart (layout T) object (last ∷ stored)
+    → Moves T g c (word_apart T c object last) (λ n. spread_opening object c.memory.reserved.pages last)
+    (λ n d. (d ≡ made_apart T c a to) × LieInPages T (reserved_address T c) (row_words T.sizes.page_words object)
+    × Points T (target_type T a.w to) (suc (reserved_address T c)))
+
+-- an object of too many data pages ends the run
 abbrev pub LargeMove : Type 0
 LargeMove = (T : Setup) (g : ℕ) (c : Record) (to : Option ℕ) (act : Action) (from removes : List ℕ)
     (a : IsAt T.code c (Do to act from removes)) (object : Object) → ObjectOf (2 ^ 63) T.code a.w to act from object
-    → T.sizes.page_words < words_of object
+    → is_too_large T.sizes.page_words object ≡ true
     → Moves T g c clock_at (λ n. bit_or n (2 ^ 63)) (λ n d. d ≡ record c { clock = with_end c.clock n (Stopped ObjectSize) })

@@ -2,7 +2,7 @@
 //! and takes effect with the store that unlocks. What a law asks is told by the goroutine's own record.
 
 ghost use Rattle.rgo_core.specs.ChannelExamples.{ChannelExamples};
-ghost use Rattle.rgo_core.specs.ChannelMoves.{CapacityMove, CellLoadMove, CellStoreMove, ControlMove, LockMove, OwnControlMove};
+ghost use Rattle.rgo_core.specs.ChannelMoves.{CapacityMove, CellLoadMove, CellStoreMove, ControlMove, LockMove, OwnControlMove, PageNumberMove};
 ghost use Rattle.rgo_core.specs.CommitMoves.{AcknowledgeMove, CloseMove, MeetMove, OfferMove, ReceiveMove, SendMove, ZeroMove};
 ghost use Rattle.rgo_core.specs.TrapMoves.{CloseNilMove, CloseTrapMove, SendTrapMove, StrandedMove};
 
@@ -24,6 +24,11 @@ pub fn capacity_move()
 /// An unlocked control is exchanged for the locked one.
 pub fn lock_move()
     ensures { LockMove }
+{}
+
+/// The number of a data page of a spread channel is loaded.
+pub fn page_number_move()
+    ensures { PageNumberMove }
 {}
 
 /// A cell is loaded under the lock.

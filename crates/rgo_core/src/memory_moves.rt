@@ -1,14 +1,15 @@
 //! What each access to memory does to what the table shows: loads and stores, new objects, pages, chains and the counts of
 //! regions; and what ends the run in place of one. What a law asks is told by the goroutine's own record.
-ghost use Rattle.rgo_core.specs.Accesses.{AtMove, GetMove, LenMove, LenNilStill, LoadMove, MeasureMove, PutMove, SetMove, StoreMove};
+ghost use Rattle.rgo_core.specs.Accesses.{AtMove, GetMove, IndexMove, LenMove, LenNilStill, LoadMove, MeasureMove, PutMove, SetMove, StoreMove};
 ghost use Rattle.rgo_core.specs.BoundExamples.{BoundExamples};
 ghost use Rattle.rgo_core.specs.Chains.{ClearMove, FreeMove, HangMove, HeadMove, LinkMove, NextMove, SlotMove};
-ghost use Rattle.rgo_core.specs.Claims.{ClaimMove};
+ghost use Rattle.rgo_core.specs.Claims.{ClaimMove, ReserveMove};
 ghost use Rattle.rgo_core.specs.ElementTraps.{AtTrapMove, PutTrapMove};
 ghost use Rattle.rgo_core.specs.LinkExamples.{LinkExamples};
-ghost use Rattle.rgo_core.specs.NewObjects.{LargeMove, ObjectMove, WordMove};
+ghost use Rattle.rgo_core.specs.NewObjects.{LargeMove, ObjectMove, ObjectMoveApart, WordMove, WordMoveApart};
 ghost use Rattle.rgo_core.specs.OperandTraps.{DivideTrapMove, LoadTrapMove, SizeTrapMove, StoreTrapMove};
 ghost use Rattle.rgo_core.specs.Regions.{CreateMove, LeaveMove, ShareMove};
+ghost use Rattle.rgo_core.specs.SpreadExamples.{SpreadExamples};
 ghost use Rattle.rgo_core.specs.TraceExamples.{TraceExamples};
 
 /// A load of a field reads what the instruction reads.
@@ -34,6 +35,11 @@ pub fn len_nil_still()
 /// The length of a slice is read before an access to one of its elements.
 pub fn measure_move()
     ensures { MeasureMove }
+{}
+
+/// The number of a data page is read before an access to a cell of a spread object.
+pub fn index_move()
+    ensures { IndexMove }
 {}
 
 /// A load of an element reads what the instruction reads.
@@ -86,9 +92,19 @@ pub fn word_move()
     ensures { WordMove }
 {}
 
+/// The same of a spread object; the numbers of its data pages are stored too.
+pub fn word_move_apart()
+    ensures { WordMoveApart }
+{}
+
 /// With the last of its words an object is made.
 pub fn object_move()
     ensures { ObjectMove }
+{}
+
+/// The same of a spread object.
+pub fn object_move_apart()
+    ensures { ObjectMoveApart }
 {}
 
 /// A negative size of a new slice or channel ends the run.
@@ -104,6 +120,11 @@ pub fn large_move()
 /// A page is claimed if it is free.
 pub fn claim_move()
     ensures { ClaimMove }
+{}
+
+/// The same for a spread object.
+pub fn reserve_move()
+    ensures { ReserveMove }
 {}
 
 /// A claimed page becomes the head of its chain.
@@ -164,6 +185,11 @@ pub fn traces()
 /// Records that are before an access to an element, what they know of its slice, and what is still to be freed.
 pub fn links()
     ensures { LinkExamples }
+{}
+
+/// Records that work at spread objects: what they know of a cell, and what they reserve.
+pub fn spread()
+    ensures { SpreadExamples }
 {}
 
 /// How many words objects have at least, and where words of a type may point.

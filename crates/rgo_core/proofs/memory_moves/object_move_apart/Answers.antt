@@ -1,0 +1,5 @@
+use Rattle.rgo_core.proofs.ObjectsApart as lemmas
+use Rattle.rgo_core.proofs.memory_moves.object_move_apart.Goals as goal
+
+pub returns : goal.returns
+returns c = lemmas.object_move_apart

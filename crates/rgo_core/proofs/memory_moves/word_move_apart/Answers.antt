@@ -1,0 +1,5 @@
+use Rattle.rgo_core.proofs.WordsApart as lemmas
+use Rattle.rgo_core.proofs.memory_moves.word_move_apart.Goals as goal
+
+pub returns : goal.returns
+returns c = lemmas.word_move_apart
