@@ -10,8 +10,9 @@ use Rattle.rgo_sound.specs.Machine.declared.picks.End.TheVariants.{Exit, Trap}
 use Rattle.rgo_sound.specs.Machine.declared.picks.Pick.TheVariants.{Meet, One}
 use Rattle.rgo_sound.specs.RegionMachine.Duties.{attend, attended, created, duty_done, protected, removal, shared, unprotected}
 use Rattle.rgo_sound.specs.RegionMachine.Instructions.{child_holder, holder_after, last_frames, taken_offer, unless_trapped}
-use Rattle.rgo_sound.specs.RegionMachine.Machine.{Acknowledge, Attend, Event, Finish, Instruct, MakeOffer, TakePage, page_for, page_taken, region_start, region_step, take_page, takes_page}
+use Rattle.rgo_sound.specs.RegionMachine.Machine.{Acknowledge, Attend, Event, Finish, Instruct, MakeOffer, TakePage, page_before, page_for, page_taken, region_start, region_step, take_page, takes_page}
 use Rattle.rgo_sound.specs.RegionMachine.Offers.{acknowledge, make_offer, offer_for, offered}
+use Rattle.rgo_sound.specs.RegionMachine.Objects.{with_page}
 use Rattle.rgo_sound.specs.RegionMachine.Owed.{current}
 use Rattle.rgo_sound.specs.RegionMachine.Regions.{bound, removed_once}
 use Rattle.rgo_sound.specs.RegionMachine.States.{Create, Duty, EndBase, Holder, NoOffer, Offer, Protect, RegionState, Remove, Share, Standing, Taken, Unprotect, frames_of, top_names}
@@ -73,15 +74,17 @@ module _ (s : RegionState) (all : MainHasNoBase s) where
   by_attend g h n [] = yields_none
   by_attend g h n (d ∷ ds) = yields_if _ _ _ (by_duty g (record h { duties = ds }) d n) yields_none
 
-  by_page : (g : ℕ) (h : Holder) → BasesFit g h → (r : Region) → Yields MainHasNoBase (Some (page_taken s g h r))
-  by_page g h n GlobalRegion = with_same (page_taken s g h GlobalRegion) g h _ refl refl n
-  by_page g h n (Numbered r) = with_same (page_taken s g h (Numbered r)) g h _ refl refl n
+  -- with k the holder after the page
+  by_page : (g : ℕ) (h k : Holder) → k.base ≡ h.base → BasesFit g h → (r : Region) → Yields MainHasNoBase (Some (page_taken s g k r))
+  by_page g h k same n GlobalRegion = with_same (page_taken s g k GlobalRegion) g h k refl same n
+  by_page g h k same n (Numbered r) = with_same (page_taken s g k (Numbered r)) g h k refl same n
 
   by_take : (code : Code) (page_words g : ℕ) (h : Holder) → BasesFit g h → (frames : List Frame)
       → Yields MainHasNoBase (take_page code page_words s g h frames)
   by_take code page_words g h n [] = yields_none
   by_take code page_words g h n (frame ∷ callers) = yields_then (page_for code page_words s g h frame) (current code frame)
-      (λ i. yields_then (takes_page code page_words s g h) _ (λ r. yields_if _ _ _ (by_page g h n r) yields_none))
+      (λ i. yields_then (takes_page code page_words s g h) _ (λ r. yields_then (page_before page_words s g h r) _
+      (λ object. yields_if _ _ _ (by_page g h (with_page page_words h r object) refl n r) yields_none)))
 
   by_offer : (code : Code) (g : ℕ) (h : Holder) → BasesFit g h → (frames : List Frame)
       → Yields MainHasNoBase (make_offer code s g h frames)

@@ -15,8 +15,9 @@ use Rattle.rgo_sound.specs.Machine.declared.picks.End.TheVariants.{Exit, Trap}
 use Rattle.rgo_sound.specs.Machine.declared.picks.Pick.TheVariants.{Meet, One}
 use Rattle.rgo_sound.specs.RegionMachine.Duties.{attend, attended, created, duty_done, protected, removal, shared, unprotected, without_protection}
 use Rattle.rgo_sound.specs.RegionMachine.Instructions.{child_holder, holder_after, last_frames, taken_offer, unless_trapped}
-use Rattle.rgo_sound.specs.RegionMachine.Machine.{Acknowledge, Attend, Event, Finish, Instruct, MakeOffer, TakePage, main_holder, page_for, page_taken, region_start, region_step, take_page, takes_page}
+use Rattle.rgo_sound.specs.RegionMachine.Machine.{Acknowledge, Attend, Event, Finish, Instruct, MakeOffer, TakePage, main_holder, page_before, page_for, page_taken, region_start, region_step, take_page, takes_page}
 use Rattle.rgo_sound.specs.RegionMachine.Offers.{acknowledge, make_offer, offer_for, offered}
+use Rattle.rgo_sound.specs.RegionMachine.Objects.{with_page}
 use Rattle.rgo_sound.specs.RegionMachine.Owed.{caller_duties, current, current_in, duties_behind, duties_behind_call, duties_before, duties_of_op, entry_removes, function_of, next_duties, regions_named, removes_behind}
 use Rattle.rgo_sound.specs.RegionMachine.Regions.{Bindings, bound, removed_once, same_region}
 use Rattle.rgo_sound.specs.RegionMachine.States.{Create, Duty, EndBase, Environment, Holder, NoOffer, Offer, Protect, RegionState, Remove, Share, Standing, Taken, Unprotect, below, frames_in, frames_of, top_names}
@@ -213,15 +214,17 @@ module _ (s : RegionState) (all : AllEndProtections s) where
 
   -- ---- pages and offers leave duties
 
-  by_page : (g : ℕ) (h : Holder) → slice_get s.holders g ≡ Some h → (r : Region) → Yields AllEndProtections (Some (page_taken s g h r))
-  by_page g h there GlobalRegion = yields (page_taken s g h GlobalRegion) (with_one (page_taken s g h GlobalRegion) g _ refl (all g h there))
-  by_page g h there (Numbered r) = yields (page_taken s g h (Numbered r)) (with_one (page_taken s g h (Numbered r)) g _ refl (all g h there))
+  -- with k the holder after the page
+  by_page : (g : ℕ) (k : Holder) → EndsProtections k → (r : Region) → Yields AllEndProtections (Some (page_taken s g k r))
+  by_page g k fits GlobalRegion = yields (page_taken s g k GlobalRegion) (with_one (page_taken s g k GlobalRegion) g k refl fits)
+  by_page g k fits (Numbered r) = yields (page_taken s g k (Numbered r)) (with_one (page_taken s g k (Numbered r)) g k refl fits)
 
   by_take : (code : Code) (page_words g : ℕ) (h : Holder) → slice_get s.holders g ≡ Some h → (frames : List Frame)
       → Yields AllEndProtections (take_page code page_words s g h frames)
   by_take code page_words g h there [] = yields_none
   by_take code page_words g h there (frame ∷ callers) = yields_then (page_for code page_words s g h frame) (current code frame)
-      (λ i. yields_then (takes_page code page_words s g h) _ (λ r. yields_if _ _ _ (by_page g h there r) yields_none))
+      (λ i. yields_then (takes_page code page_words s g h) _ (λ r. yields_then (page_before page_words s g h r) _
+      (λ object. yields_if _ _ _ (by_page g (with_page page_words h r object) (all g h there) r) yields_none)))
 
   by_offer : (code : Code) (g : ℕ) (h : Holder) → slice_get s.holders g ≡ Some h → (frames : List Frame)
       → Yields AllEndProtections (make_offer code s g h frames)

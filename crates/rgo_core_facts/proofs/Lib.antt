@@ -9,12 +9,14 @@ pub mod ControlPasses
 pub mod ControlPrints
 pub mod ControlUnprotects
 pub mod ControlDuties
+pub mod DataPages
 pub mod Lying
 pub mod Offers
 pub mod OwnPages
 pub mod NewWords
 pub mod TooLarge
 pub mod Storing
+pub mod StoringApart
 pub mod MemoryExamples
 pub mod ControlExamples
 pub mod ControlBase

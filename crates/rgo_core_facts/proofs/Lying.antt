@@ -1,6 +1,6 @@
 -- Where the operands of a record's next instruction point, and so where the words lie that it accesses.
-use Rattle.std.proofs.Common.{◌≡◌, ℕ, suc, ◌+◌, ◌*◌, ◌<◌, ◌≤◌, List, [], ◌∷◌, Option, Some, None, length, map, option_map, slice_get, refl, ap, sym, subst, ◌∙◌, arith, Contains}
-use Rattle.std.proofs.lemmas.List.{length-map}
+use Rattle.std.proofs.Common.{◌≡◌, ℕ, suc, ◌+◌, ◌*◌, ◌/◌, ◌<◌, ◌≤◌, List, [], ◌∷◌, Option, Some, None, length, map, option_map, replicate, slice_get, slice_index, refl, ap, sym, subst, ◌∙◌, arith, Contains}
+use Rattle.std.proofs.lemmas.List.{length-map, length-replicate}
 use Rattle.std.proofs.lemmas.Option.{none-some, same_Some, slice_get-map, slice_get_within}
 use Rattle.rgo_sound.specs.Code.Code.{CodeFn, CodeOp}
 use Rattle.rgo_sound.specs.Code.Erasure.{erased, erased_fn, erased_op}
@@ -10,6 +10,11 @@ use Rattle.rgo_sound.specs.RegionMachine.Owed.{function_of}
 use Rattle.rgo_sound.proofs.Places.{contains_here}
 use Rattle.rgo_sound.proofs.Progress.{live_of}
 use Rattle.rgo_sound.proofs.TypedSteps.{var_kind}
+use Rattle.rgo_sound.proofs.Tests.{split}
+use Rattle.rgo_sound.specs.Memory.Memory.{Object, SliceObject, StructObject}
+use Rattle.rgo_sound.specs.Memory.Values.{zero_of}
+use Rattle.rgo_sound.specs.Memory.declared.values.Value.TheVariants as value
+use Rattle.rgo_sound.specs.RegionMachine.Objects.{is_spread}
 use Rattle.rgo_sound.specs.Types.{HasKind}
 use Rattle.rgo_sound.specs.Tac.Code.{Tac, TacFn}
 use Rattle.rgo_sound.specs.Tac.Flow.{reads}
@@ -17,23 +22,28 @@ use Rattle.rgo_sound.specs.Tac.Frames.{value_at}
 use Rattle.rgo_sound.specs.Typed.declared.actions.Action.TheVariants as action
 use Rattle.rgo_sound.specs.Typed.declared.programs.Struct.{Struct}
 use Rattle.rgo_sound.specs.Typed.declared.programs.Variable.{Variable}
+use Rattle.rgo_sound.specs.Typed.declared.types.Base.TheVariants as base
 use Rattle.rgo_sound.specs.Typed.declared.types.Type.{«Type»}
-use Rattle.rgo_sound.specs.WellFormed.TypeRules.{HasField, chan_of, pointer_to, slice_of}
+use Rattle.rgo_sound.specs.WellFormed.TypeRules.{HasField as FieldOf, chan_of, pointer_to, slice_of}
 use Rattle.rgo_core.specs.Frames.Before.{IsBefore}
 use Rattle.rgo_core.specs.Frames.WordFrames.{word_at}
+use Rattle.rgo_core.specs.Memory.Words.{base as cells_from}
 use Rattle.rgo_core.specs.AtChannels.{Operates}
-use Rattle.rgo_core.specs.Bounds.{LieInPages, Points, struct_words}
-use Rattle.rgo_core.specs.Core.{Here, Setup}
+use Rattle.rgo_core.specs.Accesses.{IsInSlice, IsSpreadOut, LoadsElement, LoadsField as AtLoad, StoresElement, StoresField as AtStore}
+use Rattle.rgo_core.specs.Bounds.{LieInPages, Points, row_words, slice_words, struct_words}
+use Rattle.rgo_core.specs.Core.{Here, Setup, layout}
+use Rattle.rgo_core.specs.Links.{BeforeLoad, BeforeStore, IsAtElement}
 use Rattle.rgo_core.specs.Next.{IsAt}
 use Rattle.rgo_core.specs.Records.{Record, memory_of}
 use Rattle.rgo_core.proofs.AtChannels.{channel_type}
-use Rattle.rgo_core.proofs.Bounds.{LeadsToLive, leads_in}
+use Rattle.rgo_core.proofs.Bounds.{LeadsToLive, leads_in, spread_row, whole_row}
 use Rattle.rgo_core.proofs.MakesObject.{first_type}
 use Rattle.rgo_core.proofs.Operands as operands
 use Rattle.rgo_core.proofs.Parts.{I}
 use Rattle.rgo_core.proofs.Slices.{at_slice}
 use Rattle.rgo_core.proofs.Standing.{at_instruction}
-use Rattle.rgo_core_facts.specs.MemoryWords.{ChannelLies, ElementLies, GetExists, LenLies, LoadLies, OperandPoints, PagesInTable, SetExists, StoreLies}
+use Rattle.rgo_core_facts.specs.MemoryWords.{ChannelLies, ElementLies, GetExists, HasField, IndexLies, LenLies, LoadLies, LoadsField, OperandPoints, PagesInTable, SetExists, SliceLies, StoreLies, StoresField}
+use Rattle.rgo_core_facts.proofs.DataPages.{less, number_in_row, row_whole}
 
 -- ---- operands
 
@@ -66,40 +76,94 @@ pages_in_table T address n lies = omega (arith, lies)
 
 -- ---- fields
 
-field_below : (s : Option Struct) (fields : List «Type») (k : ℕ) (t : «Type») → option_map (λ (s : Struct). s.fields) s ≡ Some fields
-    → slice_get fields k ≡ Some t → suc k ≤ struct_words s
-field_below None fields k t e at = absurd (none-some fields e)
-field_below (Some s) fields k t e at =
-    let l = slice_get_within s.fields k t (ap (λ (l : List «Type»). slice_get l k) (same_Some s.fields fields e) ∙ at) in
-    omega (arith, l)
+-- a field that a struct type has
+field_there : (s : Option Struct) (fields : List «Type») (k : ℕ) (t : «Type») → option_map (λ (s : Struct). s.fields) s ≡ Some fields
+    → slice_get fields k ≡ Some t → (struct : Struct) × (s ≡ Some struct) × (k < length struct.fields)
+field_there None fields k t e at = absurd (none-some fields e)
+field_there (Some s) fields k t e at =
+    (s, refl, slice_get_within s.fields k t (ap (λ (l : List «Type»). slice_get l k) (same_Some s.fields fields e) ∙ at))
 
--- a struct has as many words as it takes up to a field
-field_fits : (code : Tac) (n k : ℕ) (t : «Type») → HasField (declared_by code) n k t → suc k ≤ struct_words (slice_get code.structs n)
-field_fits code n k t f = field_below (slice_get code.structs n) f.0 k t (sym (slice_get-map (λ (s : Struct). s.fields) code.structs n) ∙ f.1) f.2
+field_of : (T : Setup) (c : Record) {op : CodeOp} (a : IsAt T.code c op) (p n k : ℕ) (t : «Type») → HasType (erased_fn a.fn) p (pointer_to n)
+    → FieldOf (declared_by (erased T.code)) n k t → HasField T c a p k
+field_of T c a p n k t typed f =
+    let s = field_there (slice_get T.code.structs n) f.0 k t (sym (slice_get-map (λ (s : Struct). s.fields) T.code.structs n) ∙ f.1) f.2 in
+    record { number = n; typed = typed; struct = s.0; there = s.1; low = s.2 }
 
-module _ (T : Setup) (n k address word : ℕ) (points : Points T (pointer_to n) word) (is : word ≡ suc address)
-    (within : suc k ≤ struct_words (slice_get T.code.structs n)) where
-  field_lies : LieInPages T address (suc k)
-  field_lies =
-      let p : address + struct_words (slice_get T.code.structs n) ≤ T.sizes.pages * T.sizes.page_words = points address refl is in
-      omega (arith, p, within)
-
-pub load_lies : LoadLies
-load_lies T g c x d k p address removes a is =
+pub loads_field : LoadsField
+loads_field T g c x d k p removes a =
     let r = operands.rule x (Some d) (action.Load k) (p ∷ []) removes a in
     let t = r.2.2 in
-    field_lies T t.0 k address (word_at a.w p)
-    (points x a p (pointer_to t.0) (contains_here p []) (first_type (erased_fn a.fn) p [] r.0 (pointer_to t.0) [] t.1 r.1)) is
-    (field_fits (erased T.code) t.0 k r.2.0 t.2)
+    field_of T c a p t.0 k r.2.0 (first_type (erased_fn a.fn) p [] r.0 (pointer_to t.0) [] t.1 r.1) t.2
 
-pub store_lies : StoreLies
-store_lies T g c x k p q address removes a is =
+pub stores_field : StoresField
+stores_field T g c x k p q removes a =
     let r = operands.rule x None (action.Store k) (p ∷ q ∷ []) removes a in
     let t = r.2 in
-    field_lies T t.0 k address (word_at a.w p)
-    (points x a p (pointer_to t.0) (contains_here p (q ∷ []))
-    (first_type (erased_fn a.fn) p (q ∷ []) r.0 (pointer_to t.0) (t.1 ∷ []) t.2 r.1)) is
-    (field_fits (erased T.code) t.0 k t.1 t.3)
+    field_of T c a p t.0 k t.1 (first_type (erased_fn a.fn) p (q ∷ []) r.0 (pointer_to t.0) (t.1 ∷ []) t.2 r.1) t.3
+
+pub same_number : (m n : ℕ) → pointer_to m ≡ pointer_to n → m ≡ n
+same_number m n e = let b : base.Pointer m ≡ base.Pointer n = ap (λ (t : «Type»). t.base) e in cc b
+
+-- the struct type of a variable is one
+same_fields : (T : Setup) (c : Record) {op : CodeOp} (a : IsAt T.code c op) (p k number : ℕ) (struct : Struct) (f : HasField T c a p k)
+    → HasType (erased_fn a.fn) p (pointer_to number) → slice_get T.code.structs number ≡ Some struct → k < length struct.fields
+same_fields T c a p k number struct f typed there =
+    let n = same_number f.number number (same_Some (pointer_to f.number) (pointer_to number) (sym f.typed ∙ typed)) in
+    let s = same_Some f.struct struct (sym f.there ∙ (ap (slice_get T.code.structs) n ∙ there)) in
+    let l = f.low in
+    let e = ap (λ (s : Struct). length s.fields) s in
+    omega (arith, l, e)
+
+-- as many words as follow the address of a struct, by its type
+row_of : (T : Setup) (number : ℕ) (struct : Struct) → slice_get T.code.structs number ≡ Some struct
+    → struct_words T.sizes.page_words (slice_get T.code.structs number) ≡ row_words T.sizes.page_words (StructObject (map zero_of struct.fields))
+row_of T number struct there = ap (struct_words T.sizes.page_words) there
+
+module _ (T : Setup) (c : Record) {op : CodeOp} (a : IsAt T.code c op) (p k address word : ℕ) (f : HasField T c a p k) (number : ℕ) (struct : Struct)
+    (typed : HasType (erased_fn a.fn) p (pointer_to number)) (there : slice_get T.code.structs number ≡ Some struct)
+    (points : Points T (pointer_to number) word) (is : word ≡ suc address) where
+  abbrev object : Object
+  object = StructObject (map zero_of struct.fields)
+
+  follows : address + row_words T.sizes.page_words object ≤ T.sizes.pages * T.sizes.page_words
+  follows =
+      let l : address + struct_words T.sizes.page_words (slice_get T.code.structs number) ≤ T.sizes.pages * T.sizes.page_words =
+      points address refl is in
+      let e = row_of T number struct there in
+      omega (arith, l, e)
+
+  low : k < length (map zero_of struct.fields)
+  low =
+      let l = same_fields T c a p k number struct f typed there in
+      let m = length-map struct.fields zero_of in
+      omega (arith, l, m)
+
+  -- of a struct that fits a page the words up to the field
+  field_lies : length struct.fields ≤ T.sizes.page_words → LieInPages T address (suc k)
+  field_lies fits =
+      let l = follows in
+      let i = low in
+      let m = length-map struct.fields zero_of in
+      let w = row_whole T.sizes.page_words object (omega (arith, fits, i, m)) in
+      omega (arith, l, i, w)
+
+  -- and of a spread one those up to the number of the field's data page
+  number_lies : T.sizes.page_words < length struct.fields → LieInPages T address (suc (0 + k / T.sizes.page_words))
+  number_lies spread =
+      let l = follows in
+      let m = length-map struct.fields zero_of in
+      let n = number_in_row T.sizes.page_words object 0 k (less T.sizes.page_words _ (omega (arith, spread, m))) (omega arith) low in
+      omega (arith, l, n)
+
+pub load_lies : LoadLies
+load_lies T g c x d k p address removes a is whole =
+    field_lies T c a p k address (word_at a.w p) (loads_field T g c x d k p removes a) whole.number whole.struct whole.typed whole.there
+    (points x a p (pointer_to whole.number) (contains_here p []) whole.typed) is whole.fits
+
+pub store_lies : StoreLies
+store_lies T g c x k p q address removes a is whole =
+    field_lies T c a p k address (word_at a.w p) (stores_field T g c x k p q removes a) whole.number whole.struct whole.typed whole.there
+    (points x a p (pointer_to whole.number) (contains_here p (q ∷ [])) whole.typed) is whole.fits
 
 -- ---- slices
 
@@ -109,8 +173,69 @@ len_lies T g c x d p address removes a is =
     let t = r.2.2 in
     points x a p (slice_of t.0) (contains_here p []) (first_type (erased_fn a.fn) p [] r.0 (slice_of t.0) [] t.1 r.1) address refl is
 
+-- the words that follow the address of a slice with n elements, if it fits a page
+whole_slice : (T : Setup) (n : ℕ) → suc n ≤ T.sizes.page_words → slice_words T n ≡ suc n
+whole_slice T n fits =
+    let e = length-replicate n value.Nil in
+    let w = row_whole T.sizes.page_words (SliceObject (replicate n value.Nil)) (omega (arith, fits, e)) in
+    omega (arith, w, e)
+
+-- it has a word before its elements
+some_word : (T : Setup) (n : ℕ) → 1 ≤ slice_words T n
+some_word T n = split (is_spread T.sizes.page_words (SliceObject (replicate n value.Nil)))
+    (λ spread.
+    let r = spread_row T.sizes.page_words (SliceObject (replicate n value.Nil)) spread in
+    omega (arith, r))
+    (λ whole. let r = whole_row T.sizes.page_words (SliceObject (replicate n value.Nil)) whole in omega (arith, r))
+
 pub element_lies : ElementLies
-element_lies T g c x address here = let l = (at_slice x address here).lies in omega (arith, l)
+element_lies T g c x address here =
+    let s = at_slice x address here in
+    let l = s.lies in
+    let o = some_word T (slice_index x.words (cells_from (layout T) + address)) in
+    omega (arith, l, o)
+
+pub slice_lies : SliceLies
+slice_lies T address n i lies fits low = let e = whole_slice T n fits in omega (arith, lies, e, low)
+
+-- the number of the data page that has an element
+element_number_lies : {T : Setup} {g : ℕ} {c : Record} (x : Here T g c) (address i : ℕ) → IsAtElement T.code c address
+    → (inside : IsInSlice c address i) → IsSpreadOut T inside → LieInPages T address (suc (1 + i / T.sizes.page_words))
+element_number_lies {T} {g} {c} x address i here inside spread =
+    let k = (x.core.links g c x.is_c).knows inside.measured inside.read in
+    let many : slice_index x.words (cells_from (layout T) + address) ≡ inside.measured.elements =
+    ap (λ (n : ℕ). slice_index x.words (cells_from (layout T) + n)) (sym inside.its) ∙ k.still inside.now in
+    let lies = subst (λ (n : ℕ). LieInPages T address (slice_words T n)) many (at_slice x address here).lies in
+    let n = inside.measured.elements in
+    let e = length-replicate n value.Nil in
+    let within = inside.within in
+    let m = number_in_row T.sizes.page_words (SliceObject (replicate n value.Nil)) 1 i (less T.sizes.page_words _ (omega (arith, spread, e)))
+    (omega arith) (omega (arith, within, e)) in
+    omega (arith, lies, m)
+
+-- ---- page numbers
+
+lies_at : (T : Setup) (address before cell b i : ℕ) → before ≡ b → cell ≡ i → LieInPages T address (suc (b + i / T.sizes.page_words))
+    → LieInPages T address (suc (before + cell / T.sizes.page_words))
+lies_at T address before cell b i eb ei l =
+    subst (λ (n : ℕ). LieInPages T address (suc (before + n / T.sizes.page_words))) (sym ei)
+    (subst (λ (n : ℕ). LieInPages T address (suc (n + i / T.sizes.page_words))) (sym eb) l)
+
+pub index_lies : IndexLies
+index_lies T g c x address before cell (AtLoad d k p removes a is spread eb ei) =
+    lies_at T address before cell 0 k eb ei
+    (number_lies T c a p k address (word_at a.w p) (loads_field T g c x d k p removes a) spread.number spread.struct spread.typed spread.there
+    (points x a p (pointer_to spread.number) (contains_here p []) spread.typed) is spread.spread)
+index_lies T g c x address before cell (AtStore k p q removes a is spread eb ei) =
+    lies_at T address before cell 0 k eb ei
+    (number_lies T c a p k address (word_at a.w p) (stores_field T g c x k p q removes a) spread.number spread.struct spread.typed spread.there
+    (points x a p (pointer_to spread.number) (contains_here p (q ∷ [])) spread.typed) is spread.spread)
+index_lies T g c x address before cell (LoadsElement d p q removes a is inside spread eb ei) =
+    lies_at T address before cell 1 (word_at a.w q) eb ei
+    (element_number_lies x address (word_at a.w q) (BeforeLoad d p q removes a is) inside spread)
+index_lies T g c x address before cell (StoresElement p q r removes a is inside spread eb ei) =
+    lies_at T address before cell 1 (word_at a.w q) eb ei
+    (element_number_lies x address (word_at a.w q) (BeforeStore p q r removes a is) inside spread)
 
 -- ---- package variables
 

@@ -1,17 +1,18 @@
 -- Which object the next instruction makes, in which region, and what its words first hold.
-use Rattle.std.proofs.Common.{◌≡◌, ℕ, zero, suc, ◌+◌, ◌<◌, ◌≤◌, ◌^◌, true, false, pos, List, [], ◌∷◌, Option, Some, None, if◌then◌else◌, length, map, max, option_map, replicate, slice_get, refl, ap, sym, subst, ◌∙◌, arith}
+use Rattle.std.proofs.Common.{◌≡◌, ℕ, zero, suc, ◌+◌, ◌<◌, ◌≤◌, ◌^◌, true, false, pos, List, [], ◌∷◌, Option, Some, None, if◌then◌else◌, length, map, max, nat_lt, option_map, replicate, slice_get, refl, ap, sym, subst, ◌∙◌, arith}
 use Rattle.std.proofs.lemmas.Bool.Decides.{nat_tests}
 use Rattle.std.proofs.lemmas.List.{length-map, length-replicate}
 use Rattle.std.proofs.lemmas.Option.{slice_get-map}
 use Rattle.std.specs.Int.{w64, cast_unsigned}
+use Rattle.std.specs.Option.{option_map_or}
 use Rattle.rgo_sound.specs.Code.Code.{CodeFn, CodeOp, Do}
 use Rattle.rgo_sound.specs.Code.Erasure.{erased, erased_fn}
 use Rattle.rgo_sound.specs.Code.Names.{class_of}
 use Rattle.rgo_sound.specs.Code.Types.{DoFits, HaveTypes}
-use Rattle.rgo_sound.specs.Memory.Memory.{Channel, SliceObject, StructObject}
+use Rattle.rgo_sound.specs.Memory.Memory.{Channel, Object, SliceObject, StructObject}
 use Rattle.rgo_sound.specs.Memory.Values.{base_zero, element_zero, element_zero_in, zero_in, zero_of}
 use Rattle.rgo_sound.specs.Memory.declared.values.Value.{Value}
-use Rattle.rgo_sound.specs.RegionMachine.Objects.{makes_object, making_region, target_class, words as words_of}
+use Rattle.rgo_sound.specs.RegionMachine.Objects.{cells, is_spread, makes_object, making_region, most_data_pages, target_class, words as words_of}
 use Rattle.rgo_sound.specs.RegionMachine.Owed.{function_at, function_of}
 use Rattle.rgo_sound.specs.RegionMachine.Regions.{Bindings, class_region}
 use Rattle.rgo_sound.specs.RegionMachine.States.{Holder, top_names}
@@ -36,7 +37,6 @@ use Rattle.rgo_core.specs.Frames.WordFrames.{bare, word_at}
 use Rattle.rgo_core.proofs.Frames.Making.{region_law}
 use Rattle.rgo_core.proofs.Frames.SlotLemmas.{class_slot, top_slot}
 use Rattle.rgo_core.specs.Memory.Encoding.{content, opening}
-use Rattle.rgo_core.specs.Bounds.{struct_words}
 use Rattle.rgo_core.specs.Core.{Here, Setup, layout}
 use Rattle.rgo_core.specs.NewObjects.{AChannel, ASlice, AStruct, slot_number}
 use Rattle.rgo_core.specs.Next.{IsAt}
@@ -47,7 +47,9 @@ use Rattle.rgo_core.proofs.Operands as operands
 use Rattle.rgo_core.proofs.Parts.{I}
 use Rattle.rgo_core.proofs.Standing.{at_instruction}
 use Rattle.rgo_core_steps.specs.Making.{page_of}
-use Rattle.rgo_core_facts.specs.MemoryObjects.{HasNoRoom, HasRegion, MakesChannel, MakesIn, MakesSlice, MakesStruct, WantsPage, channel_opens, slice_opens}
+use Rattle.rgo_core_facts.specs.MemoryObjects.{HasNoRoom, HasRegion, MakesChannel, MakesIn, MakesSlice, MakesStruct, NextIsSpread, PagesAre, WantsPage, WantsReserved, all_struct_words, channel_opens, slice_opens}
+use Rattle.rgo_core_steps.proofs.Making.{next_object_is}
+use Rattle.rgo_core_facts.proofs.DataPages.{less, not_less, pages_so}
 use Rattle.rgo_core_facts.proofs.OwnPages.{one_page, slot_low}
 
 -- ---- the region
@@ -179,8 +181,16 @@ struct_there {T} x to n from removes a =
     (none_taken (erased_fn a.fn) from r.0 t.0 r.1, s.0, s.1)
 
 pub struct_many : (structs : List Struct) (n : ℕ) (s : Struct) → slice_get structs n ≡ Some s
-    → words_of (StructObject (map zero_of s.fields)) ≡ struct_words (slice_get structs n)
-struct_many structs n s e = ap (max 1) (length-map s.fields zero_of) ∙ sym (ap struct_words e)
+    → words_of (StructObject (map zero_of s.fields)) ≡ all_struct_words (slice_get structs n)
+struct_many structs n s e = ap (max 1) (length-map s.fields zero_of) ∙ sym (ap all_struct_words e)
+
+-- it has no words before its cells
+pub struct_split : (structs : List Struct) (n : ℕ) (s : Struct) → slice_get structs n ≡ Some s → 1 < all_struct_words (slice_get structs n)
+    → cells (StructObject (map zero_of s.fields)) + 0 ≡ all_struct_words (slice_get structs n)
+struct_split structs n s e more =
+    let l = length-map s.fields zero_of in
+    let many : all_struct_words (slice_get structs n) ≡ max 1 (length s.fields) = ap all_struct_words e in
+    omega (arith, l, many, more)
 
 pub makes_struct : MakesStruct
 makes_struct T g c x to n from removes a r makes =
@@ -199,6 +209,7 @@ makes_struct T g c x to n from removes a r makes =
         in_slot = refl;
       };
       many = struct_many T.code.structs n s.1 s.2;
+      split = struct_split T.code.structs n s.1 s.2;
       opens = λ i low. ap opening (slice_get-map zero_of s.1.fields i) ∙ field_opens (slice_get s.1.fields i);
     }
 
@@ -220,6 +231,8 @@ makes_slice T c to p removes a r makes small = record {
   };
   many = ap (λ (n : ℕ). 1 + n) (length-replicate (word_at a.w p) (element_zero (type_of (erased T.code) (bare a.w) to)))
       ∙ (let e : 1 + word_at a.w p ≡ suc (word_at a.w p) = omega arith in e);
+  split = λ more.
+      let l = length-replicate (word_at a.w p) (element_zero (type_of (erased T.code) (bare a.w) to)) in omega (arith, l);
   opens = λ i low. slice_so (word_at a.w p) (type_of (erased T.code) (bare a.w) to) i small;
 }
 
@@ -238,13 +251,14 @@ makes_channel T c to p removes a r makes small = record {
     in_slot = refl;
   };
   many = refl;
+  split = λ more. omega arith;
   opens = λ i low. channel_so (word_at a.w p) i (omega (arith, small));
 }
 
 -- ---- a page
 
 pub wants_page : WantsPage
-wants_page T g c x slot words first new fits lacks = record {
+wants_page T g c x slot words before first new fits lacks = record {
   object = new.object;
   next = new.next;
   fits = let m = new.many in omega (arith, m, fits);
@@ -253,3 +267,24 @@ wants_page T g c x slot words first new fits lacks = record {
       subst (HasNoRoom T.sizes.page_words words) (ap (λ (s : ℕ). page_of s c.memory.fills) (sym its) ∙ one_page x f within) lacks in
       let m = new.many in omega (arith, no_room, m);
 }
+
+-- ---- spread objects
+
+pub pages_are : PagesAre
+pages_are T c slot words before first new = pages_so T.sizes.page_words new.object words before new.many new.split
+
+pub next_is_spread : NextIsSpread
+next_is_spread T c slot words before first new =
+    ap (λ (o : Option Object). option_map_or (is_spread T.sizes.page_words) o false) (next_object_is new.next)
+    ∙ ap (nat_lt T.sizes.page_words) new.many
+
+pub wants_reserved : WantsReserved
+wants_reserved T c slot words before first new large few lacks =
+    let pages = pages_are T c slot words before first new in
+    record {
+      object = new.object;
+      next = new.next;
+      spread = ap (nat_lt T.sizes.page_words) new.many ∙ less T.sizes.page_words words large;
+      small = ap (nat_lt (most_data_pages T.sizes.page_words)) pages ∙ not_less (most_data_pages T.sizes.page_words) _ few;
+      more = omega (arith, pages, lacks);
+    }

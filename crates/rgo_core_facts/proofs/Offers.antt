@@ -8,6 +8,7 @@ use Rattle.rgo_sound.specs.RegionMachine.States.{Holder}
 use Rattle.rgo_sound.specs.Tac.Frames.{Frame}
 use Rattle.rgo_sound.specs.Typed.declared.actions.Action.TheVariants.{Send}
 use Rattle.rgo_core.specs.Channels.Channels.{Accepted, Calm, Chan, Offered, OfferOf, On, Phase, channel, holder_offer}
+use Rattle.rgo_core.specs.Channels.Positions.{place_at}
 use Rattle.rgo_core.specs.Channels.Records.{Offering}
 use Rattle.rgo_core.specs.Frames.Fits.{Fits, IsPast, IsShown}
 use Rattle.rgo_core.specs.Frames.Shown.{FramesShow}
@@ -16,7 +17,6 @@ use Rattle.rgo_core.proofs.Frames.Bookkeeping.{current_alike}
 use Rattle.rgo_core.specs.Memory.Encoding.{address}
 use Rattle.rgo_core.specs.CommitMoves.{IsAtSend}
 use Rattle.rgo_core.specs.Core.{Here, Setup, layout}
-use Rattle.rgo_core.specs.Image.{place_of}
 use Rattle.rgo_core.specs.Records.{Record, memory_of}
 use Rattle.rgo_core.proofs.AtChannels.{standing_or_taken}
 use Rattle.rgo_core.proofs.Bounds.{lies_in}
@@ -24,6 +24,7 @@ use Rattle.rgo_core.proofs.Leaving.{channel_stands}
 use Rattle.rgo_core.proofs.Parts.{I}
 use Rattle.rgo_core.proofs.Standing.{frame_at, side_at}
 use Rattle.rgo_core_facts.specs.MemoryWords.{OfferLies}
+use Rattle.rgo_core_facts.proofs.DataPages.{row_least}
 
 module _ {T : Setup} {g : ℕ} {c : Record} (x : Here T g c) where
   abbrev F : Fits T.code (I x).places.slot (I x).addresses x.s g c.frame
@@ -47,7 +48,7 @@ module _ {T : Setup} {g : ℕ} {c : Record} (x : Here T g c) where
   }
 
   module _ (at : ℕ) (post : c.side.post ≡ Offering at) where
-    abbrev there : (o : ℕ) × (k : Chan) × On x.s o k × (place_of (layout T) (I x).places o ≡ at) × OfferOf ((I x).at.phase o) g
+    abbrev there : (o : ℕ) × (k : Chan) × On x.s o k × (place_at (layout T) (I x).places o ≡ at) × OfferOf ((I x).at.phase o) g
     there = (I x).channels.posts g at c.side (side_at x) post
 
     offer_is : F.h.offer ≡ holder_offer there.0 ((I x).at.phase there.0)
@@ -91,7 +92,7 @@ offer_lies T g c x at post =
     let l = lies_in T x.words (map memory_of x.recs) x.s (I x).places (I x).memory q.0 (channel q.1) r.0 r.1 in
     record {
       send = send x at post;
-      address = address (layout T) (I x).places.spot q.0;
+      address = address (layout T) (I x).places.start q.0;
       is = sym q.3;
-      lies = omega (arith, l);
+      lies = let m = row_least T.sizes.page_words (channel q.1) (omega arith) in omega (arith, l, m);
     }

@@ -1,24 +1,33 @@
 -- The own pages of a goroutine.
-use Rattle.std.proofs.Common.{◌≡◌, ⊎_elim, ℕ, zero, suc, ◌<◌, ◌≤◌, Bool, true, false, List, [], ◌∷◌, Some, if◌then◌else◌, nat_eq, map, slice_get, refl, ap, sym, subst, ◌∙◌, arith}
+use Rattle.std.proofs.Common.{◌≡◌, ⊎_elim, ℕ, zero, suc, ◌<◌, ◌≤◌, Bool, true, false, List, [], ◌∷◌, Some, if◌then◌else◌, length, nat_eq, nat_lt, map, slice_get, slice_index, refl, ap, sym, subst, ◌∙◌, arith}
 use Rattle.std.proofs.lemmas.Bool.Decides.{nat_tests}
 use Rattle.std.proofs.lemmas.Option.{none-some, same_Some}
+use Rattle.rgo_sound.proofs.Room.{room_is_kept}
+use Rattle.rgo_sound.proofs.Tests.{split}
 use Rattle.rgo_sound.specs.RegionMachine.Regions.{is_live}
+use Rattle.rgo_sound.specs.RegionMachine.Room.{pages_of}
 use Rattle.rgo_sound.specs.RegionMachine.declared.regions.Region.{Region}
 use Rattle.rgo_sound.specs.RegionMachine.declared.regions.Region.TheVariants.{Numbered}
 use Rattle.rgo_sound.specs.Memory.Memory.{Object}
-use Rattle.rgo_core.specs.Memory.Ground.{ground_of}
+use Rattle.rgo_core.proofs.Frames.Reserving.{reserved_law}
+use Rattle.rgo_core.specs.Frames.Before.{IsBefore}
+use Rattle.rgo_core.specs.Memory.Ground.{Held, ground_of, held_of}
 use Rattle.rgo_core.specs.Memory.Parts.{Living, slot_of}
 use Rattle.rgo_core.specs.Memory.Records.{Amid, Claim, Claims, Fill, Idle, Make, Owns, Rest, Within, dropped}
 use Rattle.rgo_core.proofs.Memory.Slots.{region_living, uses_live}
 use Rattle.rgo_core.proofs.Memory.Steadies.{steady_of}
+use Rattle.rgo_core.proofs.Memory.Stepped.{map_get}
 use Rattle.rgo_core.proofs.Memory.Writes.{pages_apart}
 use Rattle.rgo_core.specs.Core.{Here, Setup, layout}
 use Rattle.rgo_core.specs.Records.{Record, memory_of}
+use Rattle.rgo_core.proofs.MakesObject.{at, b}
+use Rattle.rgo_core.proofs.NextObject.{next_is}
 use Rattle.rgo_core.proofs.Parts.{I}
 use Rattle.rgo_core.proofs.Standing.{memory_at}
-use Rattle.rgo_core_steps.specs.Making.{page_of}
+use Rattle.rgo_core_steps.specs.Making.{MakesNext, page_of}
 use Rattle.rgo_core_steps.proofs.Making.{page_in}
-use Rattle.rgo_core_facts.specs.MemoryPages.{ClaimedPage, FreeOfSlots, IsOwnPage, OneOwnPage, OwnPages, RoomLies}
+use Rattle.rgo_core_facts.specs.MemoryPages.{ClaimedPage, FreeOfSlots, IsOwnPage, OneOwnPage, OwnPages, ReservedFew, ReservedPages, RoomLies}
+use Rattle.rgo_core_facts.proofs.DataPages.{pages_so}
 
 -- ---- in a list
 
@@ -82,6 +91,44 @@ pub claimed_page : ClaimedPage
 claimed_page m page slot =
     let same : nat_eq slot slot ≡ true = grind (arith, nat_tests) in
     ap (λ (b : Bool). if b then Some (record { slot = slot; page = page; fill = 0 }) else page_of slot (dropped slot m.fills)) same
+
+index_within : (pages : List ℕ) (k : ℕ) → k < length pages → Within (slice_index pages k) pages
+index_within [] k low = absurd (omega (arith, low))
+index_within (p ∷ ps) zero low = (0, refl)
+index_within (p ∷ ps) (suc k) low = let w = index_within ps k (omega (arith, low)) in (suc w.0, w.1)
+
+pub reserved_pages : ReservedPages
+reserved_pages T g c x i low =
+    let p = slice_index c.memory.reserved.pages i in
+    let claimed = (I x).memory.own.apart.claimed g p c.memory (memory_at x) (index_within c.memory.reserved.pages i low) in
+    (I x).memory.own.ranged p (omega (arith, claimed))
+
+-- the region machine has as many reserved as the record, for the object that the next instruction makes
+module _ {T : Setup} {g : ℕ} {c : Record} (x : Here T g c) (object : Object) (slot : ℕ) (next : MakesNext T c object slot) where
+  abbrev before : IsBefore T.code (I x).places.slot (I x).addresses x.s g c.frame next.here.w next.here.ws next.here.instr
+  before = b x next.to next.act next.from next.removes next.here object
+
+  as_many : 0 < length c.memory.reserved.pages → before.h.reserved ≡ length c.memory.reserved.pages
+  as_many some =
+      let q = (I x).memory.filled.reserved g c.memory (memory_at x) some in
+      let same : held_of before.h ≡ q.0 =
+      same_Some (held_of before.h) q.0 (sym (map_get held_of x.s.holders g before.h before.there) ∙ q.2) in
+      ap (λ (h : Held). h.reserved) same ∙ q.5
+
+  few : length c.memory.reserved.pages ≤ pages_of T.sizes.page_words object
+  few =
+      let most = reserved_law.within (at x next.to next.act next.from next.removes next.here object) x.events object
+      (room_is_kept.is_run T.code T.sizes x.events x.s x.core.story.room)
+      (next_is x next.to next.act next.from next.removes next.here object 1073741820 (omega arith) next.makes) in
+      split (nat_lt 0 (length c.memory.reserved.pages))
+      (λ some. let e = as_many (grind (arith, nat_tests, some)) in omega (arith, most, e))
+      (λ none. let n : length c.memory.reserved.pages ≤ 0 = grind (arith, nat_tests, none) in omega (arith, n))
+
+pub reserved_few : ReservedFew
+reserved_few T g c x slot words before first new =
+    let l = few x new.object slot new.next in
+    let pages = pages_so T.sizes.page_words new.object words before new.many new.split in
+    omega (arith, l, pages)
 
 pub room_lies : RoomLies
 room_lies T page fill n low fits = let p = pages_apart page T.sizes.pages T.sizes.page_words low in omega (arith, p, fits)

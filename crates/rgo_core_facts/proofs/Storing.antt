@@ -43,7 +43,7 @@ some_below i (suc n) low = by (n == i) refl (some_below i n)
         let r = rest less in
         omega (arith, w, r)
 
-covered : (m n : ℕ) → m ≤ n → covers m (numbers_below n) ≡ true
+pub covered : (m n : ℕ) → m ≤ n → covers m (numbers_below n) ≡ true
 covered zero n low = refl
 covered (suc m) n low = by (times m (numbers_below n) == 0) refl (covered m n (omega (arith, low)))
   where
@@ -52,7 +52,7 @@ covered (suc m) n low = by (times m (numbers_below n) == 0) refl (covered m n (o
     by true is rest = let some = some_below m n (omega (arith, low)) in absurd (grind (arith, nat_tests, is, some))
     by false is rest = rest
 
-uncovered : (m n : ℕ) → n < m → covers m (numbers_below n) ≡ false
+pub uncovered : (m n : ℕ) → n < m → covers m (numbers_below n) ≡ false
 uncovered zero n low = absurd (omega (arith, low))
 uncovered (suc m) n low =
     let none = none_above m n (omega (arith, low)) in
@@ -82,7 +82,7 @@ stays code c d op same a = record {
 pub at_stays : AtStays
 at_stays = stays
 
-abbrev next_stays : (T : Setup) (c d : Record) (object : Object) (slot : ℕ) → d.frame ≡ c.frame → MakesNext T c object slot → MakesNext T d object slot
+abbrev pub next_stays : (T : Setup) (c d : Record) (object : Object) (slot : ℕ) → d.frame ≡ c.frame → MakesNext T c object slot → MakesNext T d object slot
 next_stays T c d object slot same next = record {
   to = next.to;
   act = next.act;
@@ -98,10 +98,11 @@ next_stays T c d object slot same next = record {
 }
 
 pub new_stays : NewStays
-new_stays T c d slot words first same new = record {
+new_stays T c d slot words before first same new = record {
   object = new.object;
   next = next_stays T c d new.object slot same new.next;
   many = new.many;
+  split = new.split;
   opens = new.opens;
 }
 
@@ -112,7 +113,7 @@ making_so : (page_words : ℕ) (c : Record) (f : Fill) (object : Object) (n : �
 making_so page_words c f object zero fits = inl (refl, fits)
 making_so page_words c f object (suc n) fits = inr refl
 
-module _ (T : Setup) (c : Record) (slot words : ℕ) (first : ℕ → ℕ) (new : NewObject T c slot words first) (f : Fill)
+module _ (T : Setup) (c : Record) (slot words before : ℕ) (first : ℕ → ℕ) (new : NewObject T c slot words before first) (f : Fill)
     (is_page : page_of slot c.memory.fills ≡ Some f) (fits : f.fill + words ≤ T.sizes.page_words) (n : ℕ) (low : n < words) where
   abbrev object : Object
   object = new.object
@@ -169,7 +170,7 @@ module _ (T : Setup) (c : Record) (slot words : ℕ) (first : ℕ → ℕ) (new 
   stores_next = record { word = word; more = more; last = last }
 
 pub stores_words : StoresWords
-stores_words T c slot words first new f is_page fits n low = stores_next T c slot words first new f is_page fits n low
+stores_words T c slot words before first new f is_page fits n low = stores_next T c slot words before first new f is_page fits n low
 
 pub stores_none : StoresNone
 stores_none c f object rests =

@@ -1,28 +1,41 @@
--- An object that no page holds: the run may end for it.
-use Rattle.std.proofs.Common.{false, [], map, replicate, refl, subst, arith}
+-- An object of more data pages than one may have: the run may end for it.
+use Rattle.std.proofs.Common.{◌≡◌, ℕ, ◌+◌, ◌<◌, true, false, [], map, replicate, refl, sym, subst, ◌∙◌, arith}
 use Rattle.std.proofs.lemmas.List.{length-replicate}
 use Rattle.rgo_sound.specs.Code.Code.{Do}
 use Rattle.rgo_sound.specs.Code.Erasure.{erased}
-use Rattle.rgo_sound.specs.Memory.Memory.{Channel, SliceObject, StructObject}
+use Rattle.rgo_sound.specs.Memory.Memory.{Channel, Object, SliceObject, StructObject}
 use Rattle.rgo_sound.specs.Memory.Values.{element_zero, zero_of}
+use Rattle.rgo_sound.specs.RegionMachine.Objects.{cells, is_too_large, most_data_pages, words as words_of}
 use Rattle.rgo_sound.specs.Tac.Steps.{type_of}
 use Rattle.rgo_sound.specs.Typed.declared.actions.Action.{Action}
 use Rattle.rgo_core.specs.Frames.WordFrames.{bare, word_at}
 use Rattle.rgo_core.specs.NewObjects.{AChannel, ASlice, AStruct}
 use Rattle.rgo_core.specs.Next.{IsAt}
 use Rattle.rgo_core.proofs.Ending.{too_large as larger}
-use Rattle.rgo_core_facts.specs.MemoryObjects.{OfChannel, OfSlice, OfStruct, TooLarge}
-use Rattle.rgo_core_facts.proofs.NewWords.{struct_many, struct_there}
+use Rattle.rgo_core_facts.specs.MemoryObjects.{OfChannel, OfSlice, OfStruct, TooLarge, data_pages_of}
+use Rattle.rgo_core_facts.proofs.DataPages.{less, pages_so}
+use Rattle.rgo_core_facts.proofs.NewWords.{struct_many, struct_split, struct_there}
+
+-- it is too large by its words, of which so many are before its cells
+too_many : (page_words : ℕ) (object : Object) (words before : ℕ) → words_of object ≡ words → (1 < words → cells object + before ≡ words)
+    → most_data_pages page_words < data_pages_of page_words words before → is_too_large page_words object ≡ true
+too_many page_words object words before many split large =
+    let pages = pages_so page_words object words before many split in
+    less (most_data_pages page_words) _ (omega (arith, pages, large))
 
 pub too_large : TooLarge
-too_large T g c x to act from removes a words (OfStruct n ea en) large =
+too_large T g c x to act from removes a words before (OfStruct n ea en eb) large =
     let s = struct_there x to n from removes (subst (λ (y : Action). IsAt T.code c (Do to y from removes)) ea a) in
     let many = struct_many T.code.structs n s.1 s.2 in
-    larger x to act from removes a (StructObject (map zero_of s.1.fields)) (AStruct n s.1 ea s.0 s.2 refl) (omega (arith, en, many, large))
-too_large T g c x to act from removes a words (OfSlice p ea ef small en) large =
+    larger x to act from removes a (StructObject (map zero_of s.1.fields)) (AStruct n s.1 ea s.0 s.2 refl)
+    (too_many T.sizes.page_words (StructObject (map zero_of s.1.fields)) words before (many ∙ sym en)
+    (λ more. let e = struct_split T.code.structs n s.1 s.2 (omega (arith, more, en)) in omega (arith, e, en, eb)) large)
+too_large T g c x to act from removes a words before (OfSlice p ea ef small en eb) large =
     let ty = type_of (erased T.code) (bare a.w) to in
     let many = length-replicate (word_at a.w p) (element_zero ty) in
     larger x to act from removes a (SliceObject (replicate (word_at a.w p) (element_zero ty))) (ASlice p ea ef small refl)
-    (omega (arith, en, many, large))
-too_large T g c x to act from removes a words (OfChannel p ea ef small en) large =
-    larger x to act from removes a (Channel (word_at a.w p) [] false) (AChannel p ea ef small refl) (omega (arith, en, large))
+    (too_many T.sizes.page_words (SliceObject (replicate (word_at a.w p) (element_zero ty))) words before (omega (arith, en, many))
+    (λ more. omega (arith, en, many, eb)) large)
+too_large T g c x to act from removes a words before (OfChannel p ea ef small en eb) large =
+    larger x to act from removes a (Channel (word_at a.w p) [] false) (AChannel p ea ef small refl)
+    (too_many T.sizes.page_words (Channel (word_at a.w p) [] false) words before (omega (arith, en)) (λ more. omega (arith, en, eb)) large)

@@ -1,14 +1,14 @@
 -- The definitions of new objects, own pages and offers, each where it holds and where it must not.
-use Rattle.std.specs.Prelude.{◌≡◌, ◌+◌, ℕ, false, [], ◌∷◌, Some, None, refl}
+use Rattle.std.specs.Prelude.{◌≡◌, ◌+◌, ℕ, false, List, [], ◌∷◌, Some, None, refl}
 use Rattle.rgo_sound.specs.Code.Code.{Code, CodeFn, CodeInstr, Do}
 use Rattle.rgo_core.specs.Frames.Opening.{no_record}
 use Rattle.rgo_core.specs.Frames.WordFrames.{WordFrame}
-use Rattle.rgo_core.specs.Memory.Records.{Amid, Fill, Rest}
+use Rattle.rgo_core.specs.Memory.Records.{Across, Amid, Fill, Rest}
 use Rattle.rgo_core.specs.Memory.Words.{base}
 use Rattle.rgo_sound.specs.Machine.declared.limits.Limits.{Limits}
 use Rattle.rgo_sound.specs.Machine.declared.limits.Sizes.{Sizes}
 use Rattle.rgo_sound.specs.Memory.Memory.{Channel}
-use Rattle.rgo_sound.specs.RegionMachine.Examples.{code_of, int_slot, main_of, plain, slot_of}
+use Rattle.rgo_sound.specs.RegionMachine.Examples.{code_of, int_slot, main_of, node, node_slot, plain, slot_of}
 use Rattle.rgo_sound.specs.RegionMachine.declared.regions.Region.TheVariants.{Global as GlobalRegion, Numbered}
 use Rattle.rgo_sound.specs.Tac.declared.regions.Class.TheVariants.{Global}
 use Rattle.rgo_sound.specs.Typed.declared.actions.Action.TheVariants as action
@@ -17,9 +17,9 @@ use Rattle.rgo_core.specs.ChannelExamples.{sending, with_words}
 use Rattle.rgo_core.specs.Core.{Setup, layout}
 use Rattle.rgo_core.specs.Next.{IsAt}
 use Rattle.rgo_core.specs.Records.{Record, begins_with}
-use Rattle.rgo_core_facts.specs.MemoryObjects.{HasNoRoom, HasWords, MakesIn, MakingRegion, NewObject, StoresNext, channel_opens, channel_words, numbers_below, slice_opens, storing}
+use Rattle.rgo_core_facts.specs.MemoryObjects.{HasNoRoom, HasWords, MakesIn, MakingRegion, NewObject, StoresNext, StoresNextApart, all_struct_words, channel_opens, channel_words, data_pages_of, first_of, numbers_below, slice_opens, spot_of, storing, storing_apart}
 use Rattle.rgo_core_facts.specs.MemoryPages.{IsOwnPage}
-use Rattle.rgo_core_facts.specs.MemoryWords.{OffersAt}
+use Rattle.rgo_core_facts.specs.MemoryWords.{HasField, OffersAt}
 
 -- two pages of four words, and one region beside Global
 abbrev pub two_pages : Sizes
@@ -65,15 +65,46 @@ half_full = record { slot = 1; page = 1; fill = 2 }
 abbrev pub two_stored : Record
 two_stored = storing (begins_with no_record) half_full (Channel 4 [] false) 2
 
+-- a lead page and two data pages
+abbrev pub spread_pages : List ℕ
+spread_pages = 7 ∷ 9 ∷ 8 ∷ []
+
+-- ---- `main` of this code loads the second field of a struct, to which variable 0 points
+
+abbrev pub loading : CodeInstr
+loading = plain (Do (Some 1) (action.Load 1) (0 ∷ []) [])
+
+abbrev pub loading_main : CodeFn
+loading_main = main_of (node_slot Global ∷ node_slot Global ∷ []) (loading ∷ [])
+
+abbrev pub loading_fields : Limits → Setup
+loading_fields limits = record { code = code_of (node ∷ []) (loading_main ∷ []); sizes = two_pages; limits = limits }
+
+abbrev pub at_load : (limits : Limits) → IsAt (loading_fields limits).code (with_words (6 ∷ 0 ∷ [])) (Do (Some 1) (action.Load 1) (0 ∷ []) [])
+at_load limits = record {
+  w = record { function = 0; next = 0; variables = 6 ∷ 0 ∷ [] };
+  ws = [];
+  frames = refl;
+  fn = loading_main;
+  in_fn = refl;
+  instr = loading;
+  cur = refl;
+  is = refl;
+  none = refl;
+  free = refl;
+}
+
 pub record ObjectExamples : Type 0 where
   pub in_global : (limits : Limits) → MakesIn (making_slices limits) three (at_three limits) GlobalRegion
   pub in_no_other : (limits : Limits) (slot : ℕ) → MakesIn (making_slices limits) three (at_three limits) (Numbered slot) → ⊥
   pub has_class : (limits : Limits) → MakingRegion (making_slices limits) three (at_three limits) 1
   -- an int has no region
   pub no_class : (limits : Limits) → MakingRegion (making_slices limits) three (at_three limits) 0 → ⊥
-  pub slice : (limits : Limits) → NewObject (making_slices limits) three 1 4 (slice_opens 3)
+  pub slice : (limits : Limits) → NewObject (making_slices limits) three 1 4 1 (slice_opens 3)
   -- an object has a word
-  pub no_words : (T : Setup) (c : Record) (slot : ℕ) (first : ℕ → ℕ) → NewObject T c slot 0 first → ⊥
+  pub no_words : (T : Setup) (c : Record) (slot before : ℕ) (first : ℕ → ℕ) → NewObject T c slot 0 before first → ⊥
+  -- an object of two words has a cell
+  pub no_cell : (T : Setup) (c : Record) (slot : ℕ) (first : ℕ → ℕ) → NewObject T c slot 2 2 first → ⊥
   pub length_first : slice_opens 3 0 ≡ 3
   pub element : slice_opens 3 2 ≡ 0
   pub control : channel_opens 3 0 ≡ 0
@@ -81,9 +112,17 @@ pub record ObjectExamples : Type 0 where
   -- a channel without a buffer has a cell
   pub no_buffer : channel_words 0 ≡ 3
   pub buffer : channel_words 4 ≡ 6
-  pub words : (limits : Limits) → HasWords (making_slices limits).code newest action.Slice (0 ∷ []) 4
-  pub other_words : (limits : Limits) → HasWords (making_slices limits).code newest action.Slice (0 ∷ []) 3 → ⊥
-  pub copied : (code : Code) (w : WordFrame) (n : ℕ) → HasWords code w action.Copy (0 ∷ []) n → ⊥
+  pub words : (limits : Limits) → HasWords (making_slices limits).code newest action.Slice (0 ∷ []) 4 1
+  pub other_words : (limits : Limits) → HasWords (making_slices limits).code newest action.Slice (0 ∷ []) 3 1 → ⊥
+  pub other_split : (limits : Limits) → HasWords (making_slices limits).code newest action.Slice (0 ∷ []) 4 0 → ⊥
+  pub copied : (code : Code) (w : WordFrame) (n before : ℕ) → HasWords code w action.Copy (0 ∷ []) n before → ⊥
+  -- a struct without fields has a word
+  pub empty_struct : all_struct_words (Some (record node { fields = [] })) ≡ 1
+  pub two_fields : all_struct_words (Some node) ≡ 2
+  -- a slice with three elements fits a page of four words; with seven it has two data pages, with nine three
+  pub fits_page : data_pages_of 4 4 1 ≡ 0
+  pub two_data_pages : data_pages_of 4 8 1 ≡ 2
+  pub three_data_pages : data_pages_of 4 10 1 ≡ 3
   pub no_page : HasNoRoom 4 1 None
   pub no_room : HasNoRoom 4 3 (Some half_full)
   pub room : HasNoRoom 4 2 (Some half_full) → ⊥
@@ -93,12 +132,31 @@ pub record ObjectExamples : Type 0 where
   pub none_stored : (storing (begins_with no_record) half_full (Channel 4 [] false) 0).memory.make ≡ Rest
   -- a word that the object does not have
   pub outside : (T : Setup) (c : Record) (f : Fill) (value : ℕ) → StoresNext T c f (Channel 0 [] false) 3 value → ⊥
+  -- the words of a slice with seven elements, spread over a lead page and two data pages
+  pub length_leads : spot_of 4 8 1 spread_pages 0 ≡ record { page = 7; offset = 0 }
+  pub first_element : spot_of 4 8 1 spread_pages 1 ≡ record { page = 9; offset = 0 }
+  pub last_element : spot_of 4 8 1 spread_pages 7 ≡ record { page = 8; offset = 2 }
+  pub first_number : spot_of 4 8 1 spread_pages 8 ≡ record { page = 7; offset = 1 }
+  pub second_number : spot_of 4 8 1 spread_pages 9 ≡ record { page = 7; offset = 2 }
+  -- an element is not in the lead page
+  pub element_apart : spot_of 4 8 1 spread_pages 1 ≡ record { page = 7; offset = 1 } → ⊥
+  -- their first values; a page number is stored plus 1
+  pub length_value : first_of 8 (slice_opens 7) spread_pages 0 ≡ 7
+  pub element_value : first_of 8 (slice_opens 7) spread_pages 7 ≡ 0
+  pub number_value : first_of 8 (slice_opens 7) spread_pages 9 ≡ 9
+  pub number_itself : first_of 8 (slice_opens 7) spread_pages 9 ≡ 8 → ⊥
+  pub across : (storing_apart (begins_with no_record) (Channel 4 [] false) 2).memory.make ≡ Across (Channel 4 [] false) (1 ∷ 0 ∷ [])
+  pub none_across : (storing_apart (begins_with no_record) (Channel 4 [] false) 0).memory.make ≡ Rest
+  -- a channel with one cell is not spread, or too large
+  pub one_cell : (T : Setup) (c : Record) (word value : ℕ) → StoresNextApart T c (Channel 0 [] false) 1 word value → ⊥
 
 pub record PlaceExamples : Type 0 where
   pub own : (limits : Limits) → IsOwnPage (making_slices limits) 1 half_full
   pub of_other_slot : (limits : Limits) → IsOwnPage (making_slices limits) 0 half_full → ⊥
   pub no_such_page : (limits : Limits) → IsOwnPage (making_slices limits) 1 (record half_full { page = 2 }) → ⊥
   pub overfull : (limits : Limits) → IsOwnPage (making_slices limits) 1 (record half_full { fill = 5 }) → ⊥
+  pub has_field : (limits : Limits) → HasField (loading_fields limits) (with_words (6 ∷ 0 ∷ [])) (at_load limits) 0 1
+  pub no_third : (limits : Limits) → HasField (loading_fields limits) (with_words (6 ∷ 0 ∷ [])) (at_load limits) 0 2 → ⊥
   -- an offer at the channel with address 5, the last that fits
   pub offers : (limits : Limits) → let T = sending two_pages limits in OffersAt T (with_words (6 ∷ 3 ∷ [])) (base (layout T) + 5)
   pub beyond : (limits : Limits) → let T = sending two_pages limits in OffersAt T (with_words (7 ∷ 3 ∷ [])) (base (layout T) + 6) → ⊥

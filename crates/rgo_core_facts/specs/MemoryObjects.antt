@@ -1,10 +1,10 @@
 -- The object that the next instruction of a goroutine makes: how many words it has, what they first hold, and for which region it
 -- is made; and what the record is while these words are stored.
-use Rattle.std.specs.Prelude.{◌≡◌, ◌+◌, ◌<◌, ◌≤◌, ◌==◌, ◌^◌, ℕ, zero, suc, true, List, [], ◌∷◌, Option, Some, None, if◌then◌else◌, max, slice_get}
+use Rattle.std.specs.Prelude.{◌≡◌, ◌+◌, ◌-◌, ◌/◌, ◌%◌, ◌<◌, ◌≤◌, ◌==◌, ◌^◌, ℕ, zero, suc, true, List, [], ◌∷◌, Option, Some, None, if◌then◌else◌, length, max, nat_lt, slice_get, slice_index}
 use Rattle.rgo_sound.specs.Code.Code.{Code, CodeOp, Do}
 use Rattle.rgo_sound.specs.Code.Names.{class_of}
 use Rattle.rgo_sound.specs.Memory.Memory.{Object}
-use Rattle.rgo_sound.specs.RegionMachine.Objects.{makes_object, making_region, words as words_of}
+use Rattle.rgo_sound.specs.RegionMachine.Objects.{cells, data_pages, makes_object, making_region, most_data_pages, words as words_of}
 use Rattle.rgo_sound.specs.RegionMachine.Owed.{function_of}
 use Rattle.rgo_sound.specs.RegionMachine.Regions.{class_region}
 use Rattle.rgo_sound.specs.RegionMachine.States.{top_names}
@@ -12,18 +12,19 @@ use Rattle.rgo_sound.specs.RegionMachine.declared.limits.Limit.TheVariants.{Obje
 use Rattle.rgo_sound.specs.RegionMachine.declared.regions.Region.{Region}
 use Rattle.rgo_sound.specs.Typed.declared.actions.Action.{Action}
 use Rattle.rgo_sound.specs.Typed.declared.actions.Action.TheVariants as action
+use Rattle.rgo_sound.specs.Typed.declared.programs.Struct.{Struct}
 use Rattle.rgo_core.specs.Frames.WordFrames.{WordFrame, word_at}
-use Rattle.rgo_core.specs.Memory.Encoding.{content, opening}
-use Rattle.rgo_core.specs.Memory.Records.{Amid, Fill, Make, Rest}
+use Rattle.rgo_core.specs.Memory.Encoding.{Spot, content, opening}
+use Rattle.rgo_core.specs.Memory.Records.{Across, Amid, Fill, Make, Rest}
+use Rattle.rgo_core.specs.Memory.Spread.{table_words}
 use Rattle.rgo_core.specs.Memory.Words.{cell_at}
-use Rattle.rgo_core.specs.Bounds.{struct_words}
 use Rattle.rgo_core.specs.Causes.{Stops}
 use Rattle.rgo_core.specs.Core.{Here, Setup, layout}
 use Rattle.rgo_core.specs.NewObjects.{slot_number}
 use Rattle.rgo_core.specs.Next.{IsAt}
 use Rattle.rgo_core.specs.Records.{Record}
-use Rattle.rgo_core_steps.specs.After.{making}
-use Rattle.rgo_core_steps.specs.Making.{IsNewWord, MakesNext, NeedsPage, filling, page_of}
+use Rattle.rgo_core_steps.specs.After.{making, making_apart}
+use Rattle.rgo_core_steps.specs.Making.{IsIndex, IsNewWord, IsNewWordApart, MakesNext, NeedsOwnPage, NeedsReserved, filling, filling_apart, next_is_spread, page_of}
 
 -- ---- the region
 
@@ -45,12 +46,19 @@ HasRegion = (T : Setup) (g : ℕ) (c : Record) → Here T g c → (to : Option �
 
 -- ---- its words
 
--- The next instruction makes an object with this number of words in the region of this slot. Word i first holds `first i`.
-pub record NewObject (T : Setup) (c : Record) (slot words : ℕ) (first : ℕ → ℕ) : Type 0 where
+-- The next instruction makes an object with this number of words in the region of this slot. If there are several, so many are before its
+-- cells. Word i first holds `first i`.
+pub record NewObject (T : Setup) (c : Record) (slot words before : ℕ) (first : ℕ → ℕ) : Type 0 where
   pub object : Object
   pub next : MakesNext T c object slot
   pub many : words_of object ≡ words
+  pub split : 1 < words → cells object + before ≡ words
   pub opens : (i : ℕ) → i < words → opening (content object i) ≡ first i
+
+-- a struct has a word for each field, and at least one
+abbrev pub all_struct_words : Option Struct → ℕ
+all_struct_words None = 1
+all_struct_words (Some struct) = max 1 (length struct.fields)
 
 -- all words of a struct first hold 0
 abbrev pub struct_opens : (i : ℕ) → ℕ
@@ -70,41 +78,53 @@ channel_opens n i = if i == 1 then n else 0
 abbrev pub MakesStruct : Type 0
 MakesStruct = (T : Setup) (g : ℕ) (c : Record) → Here T g c → (to : Option ℕ) (n : ℕ) (from removes : List ℕ)
     (a : IsAt T.code c (Do to (action.New n) from removes)) (r : Region) → MakesIn T c a r
-    → NewObject T c (slot_number (layout T) r) (struct_words (slice_get T.code.structs n)) struct_opens
+    → NewObject T c (slot_number (layout T) r) (all_struct_words (slice_get T.code.structs n)) 0 struct_opens
 
 -- a slice whose length is not negative
 abbrev pub MakesSlice : Type 0
 MakesSlice = (T : Setup) (c : Record) (to : Option ℕ) (p : ℕ) (removes : List ℕ) (a : IsAt T.code c (Do to action.Slice (p ∷ []) removes))
     (r : Region) → MakesIn T c a r → word_at a.w p < 2 ^ 63
-    → NewObject T c (slot_number (layout T) r) (suc (word_at a.w p)) (slice_opens (word_at a.w p))
+    → NewObject T c (slot_number (layout T) r) (suc (word_at a.w p)) 1 (slice_opens (word_at a.w p))
 
 -- a channel whose values its control can count
 abbrev pub MakesChannel : Type 0
 MakesChannel = (T : Setup) (c : Record) (to : Option ℕ) (p : ℕ) (removes : List ℕ) (a : IsAt T.code c (Do to action.Chan (p ∷ []) removes))
     (r : Region) → MakesIn T c a r → word_at a.w p < 1073741820
-    → NewObject T c (slot_number (layout T) r) (channel_words (word_at a.w p)) (channel_opens (word_at a.w p))
+    → NewObject T c (slot_number (layout T) r) (channel_words (word_at a.w p)) 2 (channel_opens (word_at a.w p))
 
 -- An access that leaves the frames and what is known of regions leaves the next instruction, and so the object that it makes.
 abbrev pub AtStays : Type 0
 AtStays = (code : Code) (c d : Record) (op : CodeOp) → d.frame ≡ c.frame → IsAt code c op → IsAt code d op
 
 abbrev pub NewStays : Type 0
-NewStays = (T : Setup) (c d : Record) (slot words : ℕ) (first : ℕ → ℕ) → d.frame ≡ c.frame → NewObject T c slot words first
-    → NewObject T d slot words first
+NewStays = (T : Setup) (c d : Record) (slot words before : ℕ) (first : ℕ → ℕ) → d.frame ≡ c.frame → NewObject T c slot words before first
+    → NewObject T d slot words before first
 
--- ---- an object that no page holds
+-- ---- an object that is spread
 
--- the number of words of the object that an action makes, if its size is not negative
-pub data HasWords (code : Code) (w : WordFrame) (act : Action) (from : List ℕ) (words : ℕ) : Type 0 where
-  OfStruct : (n : ℕ) → act ≡ action.New n → words ≡ struct_words (slice_get code.structs n) → HasWords code w act from words
-  OfSlice : (p : ℕ) → act ≡ action.Slice → from ≡ p ∷ [] → word_at w p < 2 ^ 63 → words ≡ suc (word_at w p) → HasWords code w act from words
-  OfChannel : (p : ℕ) → act ≡ action.Chan → from ≡ p ∷ [] → word_at w p < 2 ^ 63 → words ≡ channel_words (word_at w p)
-      → HasWords code w act from words
+-- how many data pages an object has with so many words, `before` of which are before its cells
+abbrev pub data_pages_of : (page_words words before : ℕ) → ℕ
+data_pages_of n words before = if nat_lt n words then (words - before - 1) / n + 1 else 0
 
--- if a page has fewer words, the run may end by this limit
+-- these are the data pages of the object
+abbrev pub PagesAre : Type 0
+PagesAre = (T : Setup) (c : Record) (slot words before : ℕ) (first : ℕ → ℕ) (new : NewObject T c slot words before first)
+    → data_pages T.sizes.page_words new.object ≡ data_pages_of T.sizes.page_words words before
+
+-- The number of words of the object that an action makes, if its size is not negative, and how many are before its cells.
+pub data HasWords (code : Code) (w : WordFrame) (act : Action) (from : List ℕ) (words before : ℕ) : Type 0 where
+  OfStruct : (n : ℕ) → act ≡ action.New n → words ≡ all_struct_words (slice_get code.structs n) → before ≡ 0
+      → HasWords code w act from words before
+  OfSlice : (p : ℕ) → act ≡ action.Slice → from ≡ p ∷ [] → word_at w p < 2 ^ 63 → words ≡ suc (word_at w p) → before ≡ 1
+      → HasWords code w act from words before
+  OfChannel : (p : ℕ) → act ≡ action.Chan → from ≡ p ∷ [] → word_at w p < 2 ^ 63 → words ≡ channel_words (word_at w p) → before ≡ 2
+      → HasWords code w act from words before
+
+-- if it has more data pages than an object may have, the run may end by this limit
 abbrev pub TooLarge : Type 0
 TooLarge = (T : Setup) (g : ℕ) (c : Record) (x : Here T g c) (to : Option ℕ) (act : Action) (from removes : List ℕ)
-    (a : IsAt T.code c (Do to act from removes)) (words : ℕ) → HasWords T.code a.w act from words → T.sizes.page_words < words
+    (a : IsAt T.code c (Do to act from removes)) (words before : ℕ) → HasWords T.code a.w act from words before
+    → most_data_pages T.sizes.page_words < data_pages_of T.sizes.page_words words before
     → Stops T.code T.sizes T.limits ObjectSize x.s
 
 -- ---- its page
@@ -116,8 +136,19 @@ HasNoRoom n words (Some f) = n < f.fill + words
 
 -- an object that fits a page then needs one
 abbrev pub WantsPage : Type 0
-WantsPage = (T : Setup) (g : ℕ) (c : Record) → Here T g c → (slot words : ℕ) (first : ℕ → ℕ) → NewObject T c slot words first
-    → words ≤ T.sizes.page_words → HasNoRoom T.sizes.page_words words (page_of slot c.memory.fills) → NeedsPage T c slot
+WantsPage = (T : Setup) (g : ℕ) (c : Record) → Here T g c → (slot words before : ℕ) (first : ℕ → ℕ) → NewObject T c slot words before first
+    → words ≤ T.sizes.page_words → HasNoRoom T.sizes.page_words words (page_of slot c.memory.fills) → NeedsOwnPage T c slot
+
+-- whether the next object is spread: if it has more words than a page
+abbrev pub NextIsSpread : Type 0
+NextIsSpread = (T : Setup) (c : Record) (slot words before : ℕ) (first : ℕ → ℕ) → NewObject T c slot words before first
+    → next_is_spread T c ≡ nat_lt T.sizes.page_words words
+
+-- a spread object of which not all pages are reserved, a lead page and its data pages, needs one
+abbrev pub WantsReserved : Type 0
+WantsReserved = (T : Setup) (c : Record) (slot words before : ℕ) (first : ℕ → ℕ) → NewObject T c slot words before first
+    → T.sizes.page_words < words → data_pages_of T.sizes.page_words words before ≤ most_data_pages T.sizes.page_words
+    → length c.memory.reserved.pages ≤ data_pages_of T.sizes.page_words words before → NeedsReserved T c slot
 
 -- ---- the stores of its words, from the first one on
 
@@ -151,10 +182,63 @@ pub record StoresNext (T : Setup) (c : Record) (f : Fill) (object : Object) (n v
 
 -- the words of an object are stored one by one on an own page that has room for it
 abbrev pub StoresWords : Type 0
-StoresWords = (T : Setup) (c : Record) (slot words : ℕ) (first : ℕ → ℕ) (new : NewObject T c slot words first) (f : Fill)
+StoresWords = (T : Setup) (c : Record) (slot words before : ℕ) (first : ℕ → ℕ) (new : NewObject T c slot words before first) (f : Fill)
     → page_of slot c.memory.fills ≡ Some f → f.fill + words ≤ T.sizes.page_words
     → (n : ℕ) → n < words → StoresNext T c f new.object n (first n)
 
 -- before the first one the record is as it was
 abbrev pub StoresNone : Type 0
 StoresNone = (c : Record) (f : Fill) (object : Object) → c.memory.make ≡ Rest → storing c f object 0 ≡ c
+
+-- ---- the same of a spread object, in the pages reserved for it: its words, and then the numbers of its data pages
+
+abbrev pub making_after_apart : Object → (stored : ℕ) → Make
+making_after_apart object zero = Rest
+making_after_apart object (suc n) = Across object (numbers_below (suc n))
+
+-- the record after the first n words are stored, but not all of them
+abbrev pub storing_apart : Record → Object → (n : ℕ) → Record
+storing_apart c object n = record c {
+  clock = record c.clock { accesses = c.clock.accesses + n };
+  memory = record c.memory { make = making_after_apart object n };
+}
+
+-- the record after all of them are stored, which is the instruction
+abbrev pub with_new_object_apart : Setup → Record → Object → Record
+with_new_object_apart T c object = record (making_apart T c) {
+  clock = record (making_apart T c).clock { accesses = c.clock.accesses + table_words T.sizes.page_words object };
+}
+
+-- Where word n goes of an object with so many words, `before` of which are before its cells, in these pages, the lead page first. The
+-- numbers of the data pages come after the words.
+abbrev pub spot_of : (page_words words before : ℕ) → List ℕ → (n : ℕ) → Spot
+spot_of page_words words before pages n =
+    if nat_lt n before then record { page = slice_index pages 0; offset = n }
+    else
+    (if nat_lt n words
+    then record { page = slice_index pages ((n - before) / page_words + 1); offset = (n - before) % page_words }
+    else record { page = slice_index pages 0; offset = before + (n - words) })
+
+-- what it first holds
+abbrev pub first_of : (words : ℕ) → (first : ℕ → ℕ) → List ℕ → (n : ℕ) → ℕ
+first_of words first pages n = if nat_lt n words then first n else suc (slice_index pages (n - words + 1))
+
+-- the store of word n, which first holds this value
+pub record StoresNextApart (T : Setup) (c : Record) (object : Object) (n word value : ℕ) : Type 0 where
+  pub new : IsNewWordApart T (storing_apart c object n) n word value
+  pub index : words_of object ≤ n → IsIndex new
+  pub more : suc n < table_words T.sizes.page_words object → filling_apart T (storing_apart c object n) n ≡ storing_apart c object (suc n)
+  pub last : suc n ≡ table_words T.sizes.page_words object → filling_apart T (storing_apart c object n) n ≡ with_new_object_apart T c object
+
+-- the words of a spread object are stored one by one, when all of its pages are reserved
+abbrev pub StoresWordsApart : Type 0
+StoresWordsApart = (T : Setup) (c : Record) (slot words before : ℕ) (first : ℕ → ℕ) (new : NewObject T c slot words before first)
+    → T.sizes.page_words < words → data_pages_of T.sizes.page_words words before ≤ most_data_pages T.sizes.page_words
+    → length c.memory.reserved.pages ≡ suc (data_pages_of T.sizes.page_words words before)
+    → (n : ℕ) → n < words + data_pages_of T.sizes.page_words words before
+    → StoresNextApart T c new.object n (cell_at (layout T) (spot_of T.sizes.page_words words before c.memory.reserved.pages n).page
+    (spot_of T.sizes.page_words words before c.memory.reserved.pages n).offset)
+    (first_of words first c.memory.reserved.pages n)
+
+abbrev pub StoresNoneApart : Type 0
+StoresNoneApart = (c : Record) (object : Object) → c.memory.make ≡ Rest → storing_apart c object 0 ≡ c

@@ -1,11 +1,12 @@
--- The own pages of a goroutine, and what of its memory has to be at rest before a stake ends.
-use Rattle.std.specs.Prelude.{◌≡◌, ◌+◌, ◌*◌, ◌<◌, ◌≤◌, ℕ, Some}
+-- The own pages of a goroutine and those that it has reserved, and what of its memory has to be at rest before a stake ends.
+use Rattle.std.specs.Prelude.{◌≡◌, ◌+◌, ◌*◌, ◌<◌, ◌≤◌, ℕ, suc, Some, length, slice_index}
 use Rattle.rgo_core.specs.Memory.Events.{IsFreeOf}
 use Rattle.rgo_core.specs.Memory.Records.{Fill, Idle, Rec, Rest, Within, with_page}
 use Rattle.rgo_core.specs.Bounds.{LieInPages}
 use Rattle.rgo_core.specs.Core.{Here, Setup}
 use Rattle.rgo_core.specs.Records.{Record}
 use Rattle.rgo_core_steps.specs.Making.{page_of}
+use Rattle.rgo_core_facts.specs.MemoryObjects.{NewObject, data_pages_of}
 
 -- an own page for this slot is a page, and no more of it is filled than it has
 pub record IsOwnPage (T : Setup) (slot : ℕ) (f : Fill) : Type 0 where
@@ -26,6 +27,16 @@ OneOwnPage = (T : Setup) (g : ℕ) (c : Record) → Here T g c → (f : Fill) �
 -- a page that was claimed for a slot is the own page there, and empty
 abbrev pub ClaimedPage : Type 0
 ClaimedPage = (m : Rec) (page slot : ℕ) → page_of slot (with_page m page slot).fills ≡ Some (record { slot = slot; page = page; fill = 0 })
+
+-- each page that is reserved for a spread object is a page
+abbrev pub ReservedPages : Type 0
+ReservedPages = (T : Setup) (g : ℕ) (c : Record) → Here T g c → (i : ℕ) → i < length c.memory.reserved.pages
+    → slice_index c.memory.reserved.pages i < T.sizes.pages
+
+-- and there are no more of them than a lead page and the data pages of the object that is made next
+abbrev pub ReservedFew : Type 0
+ReservedFew = (T : Setup) (g : ℕ) (c : Record) → Here T g c → (slot words before : ℕ) (first : ℕ → ℕ) → NewObject T c slot words before first
+    → length c.memory.reserved.pages ≤ suc (data_pages_of T.sizes.page_words words before)
 
 -- what is left of a page lies in the pages
 abbrev pub RoomLies : Type 0

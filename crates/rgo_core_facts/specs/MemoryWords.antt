@@ -1,18 +1,21 @@
 -- Where the words lie that the next instruction of a goroutine accesses. A pointer, slice or channel that is not nil is one more than
 -- an address, and the words from there on are words of pages.
-use Rattle.std.specs.Prelude.{◌≡◌, ◌+◌, ◌<◌, ◌≤◌, ℕ, suc, List, [], ◌∷◌, Option, Some, None, Contains, length}
+use Rattle.std.specs.Prelude.{◌≡◌, ◌+◌, ◌/◌, ◌<◌, ◌≤◌, ℕ, suc, List, [], ◌∷◌, Option, Some, None, Contains, length, slice_get}
 use Rattle.rgo_sound.specs.Code.Code.{CodeOp, Do}
 use Rattle.rgo_sound.specs.Code.Erasure.{erased_fn, erased_op}
 use Rattle.rgo_sound.specs.Code.Types.{HasType}
 use Rattle.rgo_sound.specs.Tac.Flow.{reads}
 use Rattle.rgo_sound.specs.Typed.declared.actions.Action.{Action}
 use Rattle.rgo_sound.specs.Typed.declared.actions.Action.TheVariants as action
+use Rattle.rgo_sound.specs.Typed.declared.programs.Struct.{Struct}
 use Rattle.rgo_sound.specs.Typed.declared.types.Type.{«Type»}
+use Rattle.rgo_sound.specs.WellFormed.TypeRules.{pointer_to}
 use Rattle.rgo_core.specs.Channels.Records.{Offering}
 use Rattle.rgo_core.specs.Channels.Standing.{IsOfChannel}
 use Rattle.rgo_core.specs.Frames.WordFrames.{word_at}
 use Rattle.rgo_core.specs.Memory.Words.{all_words, base}
-use Rattle.rgo_core.specs.Bounds.{LieInPages, Points}
+use Rattle.rgo_core.specs.Accesses.{IsAtSpread, PointsToWhole}
+use Rattle.rgo_core.specs.Bounds.{LieInPages, Points, slice_words}
 use Rattle.rgo_core.specs.CommitMoves.{IsAtSend}
 use Rattle.rgo_core.specs.Core.{Here, Setup, layout}
 use Rattle.rgo_core.specs.Links.{IsAtElement}
@@ -32,15 +35,43 @@ PagesInTable = (T : Setup) (address n : ℕ) → LieInPages T address n → base
 
 -- ---- fields, elements and lengths
 
--- a struct up to the field that is loaded
+-- The variable points to structs of this type, which have this field. They fit a page, or are spread.
+pub record HasField (T : Setup) (c : Record) {op : CodeOp} (a : IsAt T.code c op) (p k : ℕ) : Type 0 where
+  pub number : ℕ
+  pub typed : HasType (erased_fn a.fn) p (pointer_to number)
+  pub struct : Struct
+  pub there : slice_get T.code.structs number ≡ Some struct
+  pub low : k < length struct.fields
+
+abbrev pub LoadsField : Type 0
+LoadsField = (T : Setup) (g : ℕ) (c : Record) → Here T g c → (d k p : ℕ) (removes : List ℕ)
+    (a : IsAt T.code c (Do (Some d) (action.Load k) (p ∷ []) removes)) → HasField T c a p k
+
+abbrev pub StoresField : Type 0
+StoresField = (T : Setup) (g : ℕ) (c : Record) → Here T g c → (k p q : ℕ) (removes : List ℕ)
+    (a : IsAt T.code c (Do None (action.Store k) (p ∷ q ∷ []) removes)) → HasField T c a p k
+
+-- a struct that fits a page, up to the field that is loaded
 abbrev pub LoadLies : Type 0
 LoadLies = (T : Setup) (g : ℕ) (c : Record) → Here T g c → (d k p address : ℕ) (removes : List ℕ)
-    (a : IsAt T.code c (Do (Some d) (action.Load k) (p ∷ []) removes)) → word_at a.w p ≡ suc address → LieInPages T address (suc k)
+    (a : IsAt T.code c (Do (Some d) (action.Load k) (p ∷ []) removes)) → word_at a.w p ≡ suc address → PointsToWhole T c a p
+    → LieInPages T address (suc k)
 
--- a struct up to the field that is stored
+-- a struct that fits a page, up to the field that is stored
 abbrev pub StoreLies : Type 0
 StoreLies = (T : Setup) (g : ℕ) (c : Record) → Here T g c → (k p q address : ℕ) (removes : List ℕ)
-    (a : IsAt T.code c (Do None (action.Store k) (p ∷ q ∷ []) removes)) → word_at a.w p ≡ suc address → LieInPages T address (suc k)
+    (a : IsAt T.code c (Do None (action.Store k) (p ∷ q ∷ []) removes)) → word_at a.w p ≡ suc address → PointsToWhole T c a p
+    → LieInPages T address (suc k)
+
+-- a spread object up to the number of the data page that has a cell
+abbrev pub IndexLies : Type 0
+IndexLies = (T : Setup) (g : ℕ) (c : Record) → Here T g c → (address before cell : ℕ) → IsAtSpread T c address before cell
+    → LieInPages T address (suc (before + cell / T.sizes.page_words))
+
+-- a slice that fits a page, and whose length was read, up to an element
+abbrev pub SliceLies : Type 0
+SliceLies = (T : Setup) (address n i : ℕ) → LieInPages T address (slice_words T n) → suc n ≤ T.sizes.page_words → i < n
+    → LieInPages T address (suc (suc i))
 
 -- the length of a slice
 abbrev pub LenLies : Type 0

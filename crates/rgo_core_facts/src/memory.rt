@@ -1,8 +1,8 @@
 //! Where the words of the next instruction lie, which object it makes, and what the own pages of a goroutine are.
 ghost use Rattle.rgo_core_facts.specs.MemoryExamples.{ObjectExamples, PlaceExamples};
-ghost use Rattle.rgo_core_facts.specs.MemoryObjects.{AtStays, HasRegion, MakesChannel, MakesSlice, MakesStruct, NewStays, StoresNone, StoresWords, TooLarge, WantsPage};
-ghost use Rattle.rgo_core_facts.specs.MemoryPages.{ClaimedPage, FreeOfSlots, OneOwnPage, OwnPages, RoomLies};
-ghost use Rattle.rgo_core_facts.specs.MemoryWords.{ChannelLies, ElementLies, GetExists, LenLies, LoadLies, OfferLies, OperandPoints, PagesInTable, SetExists, StoreLies};
+ghost use Rattle.rgo_core_facts.specs.MemoryObjects.{AtStays, HasRegion, MakesChannel, MakesSlice, MakesStruct, NewStays, NextIsSpread, PagesAre, StoresNone, StoresNoneApart, StoresWords, StoresWordsApart, TooLarge, WantsPage, WantsReserved};
+ghost use Rattle.rgo_core_facts.specs.MemoryPages.{ClaimedPage, FreeOfSlots, OneOwnPage, OwnPages, ReservedFew, ReservedPages, RoomLies};
+ghost use Rattle.rgo_core_facts.specs.MemoryWords.{ChannelLies, ElementLies, GetExists, IndexLies, LenLies, LoadLies, LoadsField, OfferLies, OperandPoints, PagesInTable, SetExists, SliceLies, StoreLies, StoresField};
 
 /// An operand points where its type may.
 pub fn operand_points()
@@ -12,6 +12,26 @@ pub fn operand_points()
 /// Words of pages are words of the table.
 pub fn pages_in_table()
     ensures { PagesInTable }
+{}
+
+/// The struct has the field that is loaded.
+pub fn loads_field()
+    ensures { LoadsField }
+{}
+
+/// And the one that is stored.
+pub fn stores_field()
+    ensures { StoresField }
+{}
+
+/// The number of a data page that is loaded is a word of a page.
+pub fn index_lies()
+    ensures { IndexLies }
+{}
+
+/// So is an element of a slice that fits a page.
+pub fn slice_lies()
+    ensures { SliceLies }
 {}
 
 /// The field that is loaded is a word of a page.
@@ -84,7 +104,12 @@ pub fn new_stays()
     ensures { NewStays }
 {}
 
-/// An object that no page holds may end the run.
+/// Its data pages.
+pub fn pages_are()
+    ensures { PagesAre }
+{}
+
+/// An object of too many data pages may end the run.
 pub fn too_large()
     ensures { TooLarge }
 {}
@@ -92,6 +117,16 @@ pub fn too_large()
 /// A new object for which the own page has no room needs a page.
 pub fn wants_page()
     ensures { WantsPage }
+{}
+
+/// A new object is spread if it has more words than a page.
+pub fn next_is_spread()
+    ensures { NextIsSpread }
+{}
+
+/// A spread object of which not all pages are reserved needs one.
+pub fn wants_reserved()
+    ensures { WantsReserved }
 {}
 
 /// Each word of a new object may be stored after the words before it, and the last one makes the object.
@@ -102,6 +137,16 @@ pub fn stores_words()
 /// Before the first of them the record is as it was.
 pub fn stores_none()
     ensures { StoresNone }
+{}
+
+/// The same of a spread object, with the numbers of its data pages.
+pub fn stores_words_apart()
+    ensures { StoresWordsApart }
+{}
+
+/// Before the first of them the record is as it was.
+pub fn stores_none_apart()
+    ensures { StoresNoneApart }
 {}
 
 /// An own page is a page of the table.
@@ -117,6 +162,16 @@ pub fn one_own_page()
 /// A claimed page is the own page of its slot.
 pub fn claimed_page()
     ensures { ClaimedPage }
+{}
+
+/// A reserved page is a page of the table.
+pub fn reserved_pages()
+    ensures { ReservedPages }
+{}
+
+/// No more pages are reserved than the next object takes.
+pub fn reserved_few()
+    ensures { ReservedFew }
 {}
 
 /// What is left of a page is words of pages.

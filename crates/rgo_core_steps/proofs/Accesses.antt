@@ -1,6 +1,6 @@
 -- Loads and stores that are the next instruction, whichever word they access.
 use Rattle.std.specs.Option.{option_map_or}
-use Rattle.std.proofs.Common.{◌≡◌, ℕ, suc, ◌+◌, List, Option, Some, add-one, refl, ap, sym, subst, ◌∙◌}
+use Rattle.std.proofs.Common.{◌≡◌, ℕ, ◌+◌, List, Option, Some, refl, ap, sym, subst, ◌∙◌}
 use Rattle.rgo_sound.specs.Code.Code.{CodeOp, Do}
 use Rattle.rgo_sound.specs.Typed.declared.actions.Action.{Action}
 use Rattle.rgo_sound.specs.WellFormed.TypeRules.{int}
@@ -9,16 +9,14 @@ use Rattle.rgo_core.specs.Memory.Words.{base, clock_at, variable_at}
 use Rattle.rgo_core.specs.Frames.Actions.{after_action}
 use Rattle.rgo_core.specs.Frames.WordFrames.{word_at}
 use Rattle.rgo_core.proofs.Rule.Still.{still_move}
-use Rattle.rgo_core.specs.Accesses.{measures}
-use Rattle.rgo_core.specs.Bounds.{Gives, LieInPages, Points, target_type}
+use Rattle.rgo_core.specs.Bounds.{Gives, Points, target_type}
 use Rattle.rgo_core.specs.Core.{Core, Setup, layout}
-use Rattle.rgo_core.specs.Links.{IsAtElement}
 use Rattle.rgo_core.specs.Next.{IsAt}
 use Rattle.rgo_core.specs.Records.{Record, accesses, instructed}
 use Rattle.rgo_core.specs.Steps.{Moves}
 use Rattle.rgo_core.proofs.ClockLifts.{look_law}
 use Rattle.rgo_core.proofs.Accesses.{get_move, len_move, len_nil_still, load_move, set_move, store_move}
-use Rattle.rgo_core.proofs.Elements.{at_move, measure_move, put_move}
+use Rattle.rgo_core.proofs.Elements.{at_move, put_move}
 use Rattle.rgo_core_steps.specs.Accesses.{Element, Field, Length, LengthOfNil, Loads, Stores, ToElement, ToField, ToVariable, Variable, given_type}
 use Rattle.rgo_core_steps.specs.After.{Position, acting, given}
 use Rattle.rgo_core_steps.proofs.After.{acting_is, position_is}
@@ -41,12 +39,10 @@ module _ (T : Setup) (g : ℕ) (c : Record) (rests : c.side ≡ at_rest) where
   GivesWord word = Moves T g c word (λ n. n) (λ n d. (d ≡ acting T.code c n) × Points T (given_type T c) n)
 
   pub load_moves : (word : ℕ) → Loads T c word → Moves T g c word (λ n. n) (λ n d. (d ≡ acting T.code c n) × Points T (given_type T c) n)
-  load_moves word (Field d k p address removes a points is) =
-      subst GivesWord (sym is) (tells_more T g c (base (layout T) + (address + k)) (λ n. n) (λ n e k. gives_is T a n e k)
-      (load_move T g c d k p address removes a rests points))
-  load_moves word (Element d p q address removes a points within is) =
-      subst GivesWord (sym is) (tells_more T g c (base (layout T) + (address + suc (word_at a.w q))) (λ n. n)
-      (λ n e k. gives_is T a n e k) (at_move T g c d p q address removes a rests points within))
+  load_moves word (Field d k p address removes a points there) =
+      tells_more T g c word (λ n. n) (λ n e k. gives_is T a n e k) (load_move T g c d k p address word removes a rests points there)
+  load_moves word (Element d p q address removes a points inside there) =
+      tells_more T g c word (λ n. n) (λ n e k. gives_is T a n e k) (at_move T g c d p q address word removes a rests points inside there)
   load_moves word (Length d p address removes a points is) =
       subst GivesWord (sym is) (tells_more T g c (base (layout T) + address) (λ n. n) (λ n e k. gives_is T a n e k.0)
       (len_move T g c d p address removes a rests points))
@@ -61,24 +57,18 @@ module _ (T : Setup) (g : ℕ) (c : Record) (rests : c.side ≡ at_rest) where
   takes word at value v there same m = subst (λ w. TakesWord w value) (sym there) (subst (TakesWord at) (sym same) m)
 
   pub store_moves : (word value : ℕ) → Stores T c word value → Moves T g c word (λ n. value) (λ n d. d ≡ acting T.code c 0)
-  store_moves word value (ToField k p q address removes a points is same) =
-      takes word (base (layout T) + (address + k)) value (word_at a.w q) is same
-      (tells_more T g c (base (layout T) + (address + k)) (λ n. word_at a.w q) (λ n e same. same ∙ sym (acting_is a 0))
-      (store_move T g c k p q address removes a rests points))
-  store_moves word value (ToElement p q r address removes a points within is same) =
-      takes word (base (layout T) + (address + suc (word_at a.w q))) value (word_at a.w r) is same
-      (tells_more T g c (base (layout T) + (address + suc (word_at a.w q))) (λ n. word_at a.w r) (λ n e same. same ∙ sym (acting_is a 0))
-      (put_move T g c p q r address removes a rests points within))
+  store_moves word value (ToField k p q address removes a points there same) =
+      takes word word value (word_at a.w q) refl same
+      (tells_more T g c word (λ n. word_at a.w q) (λ n e same. same ∙ sym (acting_is a 0))
+      (store_move T g c k p q address word removes a rests points there))
+  store_moves word value (ToElement p q r address removes a points inside there same) =
+      takes word word value (word_at a.w r) refl same
+      (tells_more T g c word (λ n. word_at a.w r) (λ n e same. same ∙ sym (acting_is a 0))
+      (put_move T g c p q r address word removes a rests points inside there))
   store_moves word value (ToVariable k q removes a is same) =
       takes word (variable_at (layout T) k) value (word_at a.w q) is same
       (tells_more T g c (variable_at (layout T) k) (λ n. word_at a.w q) (λ n e same. same ∙ sym (acting_is a 0))
       (set_move T g c k q removes a rests))
-
-pub measure_moves : (T : Setup) (g : ℕ) (c : Record) (address : ℕ) → IsAtElement T.code c address
-    → Moves T g c (base (layout T) + address) (λ n. n) (λ n d. (d ≡ measures c address n) × LieInPages T address (n + 1))
-measure_moves T g c address at =
-    tells_more T g c (base (layout T) + address) (λ n. n) (λ n d k. (k.0, subst (LieInPages T address) (sym (add-one n)) k.1))
-    (measure_move T g c address at)
 
 -- the length of nil, with a load of the clock
 pub nil_length_moves : (T : Setup) (g : ℕ) (c : Record) → c.side ≡ at_rest → LengthOfNil T c

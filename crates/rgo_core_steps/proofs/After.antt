@@ -9,7 +9,7 @@ use Rattle.rgo_core.specs.Frames.Opening.{no_record}
 use Rattle.rgo_core.specs.Frames.Prints.{printed_values}
 use Rattle.rgo_core.specs.Frames.Records.{after_op}
 use Rattle.rgo_core.specs.Frames.WordFrames.{WordFrame, bare, word_moved}
-use Rattle.rgo_core.specs.Memory.Records.{Fill, with_object}
+use Rattle.rgo_core.specs.Memory.Records.{Fill, with_object, with_object_apart}
 use Rattle.rgo_sound.specs.Machine.Lines.{line_of}
 use Rattle.rgo_sound.specs.Memory.Memory.{Object}
 use Rattle.rgo_sound.specs.RegionMachine.Objects.{words as words_in}
@@ -21,10 +21,10 @@ use Rattle.rgo_core.specs.AtChannels.{Operates, commits}
 use Rattle.rgo_core.specs.CommitMoves.{IsAtSend, acknowledges}
 use Rattle.rgo_core.specs.Core.{Setup}
 use Rattle.rgo_core.specs.Laws.{child_of, printed_by, started_by}
-use Rattle.rgo_core.specs.NewObjects.{made_object}
+use Rattle.rgo_core.specs.NewObjects.{made_apart, made_object, reserved_address}
 use Rattle.rgo_core.specs.Next.{IsAt, acted}
 use Rattle.rgo_core.specs.Records.{Record, accessed, begins_with, ticked, with_print}
-use Rattle.rgo_core_steps.specs.After.{Position, acknowledging, acting, bytes_at, bytes_in, child, child_at, child_by, committing, given, making, moving, piece, place_of, position, position_in, printing, starting}
+use Rattle.rgo_core_steps.specs.After.{Position, acknowledging, acting, bytes_at, bytes_in, child, child_at, child_by, committing, given, making, making_apart, moving, piece, place_of, position, position_in, printing, starting}
 
 -- ---- positions
 
@@ -94,6 +94,20 @@ making_is T {c} {to} a f object =
       };
       frame = after_action T.code c.frame p.w p.ws p.instr t (suc (f.page * T.sizes.page_words + f.fill));
       memory = with_object c.memory f.slot (f.fill + words_in object);
+    }
+
+pub making_apart_is : (T : Setup) {c : Record} {to : Option ℕ} {action : Action} {from removes : List ℕ}
+    (a : IsAt T.code c (Do to action from removes)) → making_apart T c ≡ made_apart T c a to
+making_apart_is T {c} {to} a =
+    moving_is a (λ p. after p (given p.instr.op)) ∙ ap (after (at a)) (ap given a.is)
+  where
+    after : Position → Option ℕ → Record
+    after p t = record c {
+      clock = record (ticked c.clock) {
+        share = record c.clock.share { steps = suc c.clock.share.steps; objects = suc c.clock.share.objects };
+      };
+      frame = after_action T.code c.frame p.w p.ws p.instr t (suc (reserved_address T c));
+      memory = with_object_apart c.memory;
     }
 
 -- ---- prints and starts

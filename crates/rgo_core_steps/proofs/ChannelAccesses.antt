@@ -1,5 +1,5 @@
 -- The law of each access to a channel, with what the calls ask and show.
-use Rattle.std.proofs.Common.{◌≡◌, ℕ, suc, [], Option, ◌+◌, ◌-◌, ◌%◌, ◌==◌, Bool, true, false, if◌then◌else◌, refl, ap, sym, subst, ◌∙◌, ◌++◌, slice_index, slice_set, arith}
+use Rattle.std.proofs.Common.{◌≡◌, ℕ, suc, [], Option, ◌+◌, ◌-◌, ◌/◌, ◌%◌, ◌==◌, Bool, true, false, if◌then◌else◌, refl, ap, sym, subst, ◌∙◌, ◌++◌, slice_index, slice_set, arith}
 use prog.Atomic.{either}
 use Rattle.rgo_core.specs.Channels.Controls.{closed_of, control, count_of, head_of}
 use Rattle.rgo_core.specs.Channels.Records.{Free, Offering, Read, Wrote, with_hold, with_lock}
@@ -14,7 +14,7 @@ use Rattle.rgo_core.proofs.Commits as commit_laws
 use Rattle.rgo_core.proofs.Meetings as meeting_laws
 use Rattle.rgo_core_steps.specs.Accesses.{given_type}
 use Rattle.rgo_core_steps.specs.After.{acknowledging, committing}
-use Rattle.rgo_core_steps.specs.Channels.{CanAcknowledge, CanClose, CanLoadCell, CanMeet, CanOffer, CanReceive, CanReceiveZero, CanSend, CanStoreCell, ShowsCapacity, ShowsControl, ShowsOwnControl, found_by, value_by}
+use Rattle.rgo_core_steps.specs.Channels.{CanAcknowledge, CanClose, CanLoadCell, CanMeet, CanOffer, CanReachCell, CanReceive, CanReceiveZero, CanSend, CanStoreCell, ShowsCapacity, ShowsControl, ShowsOwnControl, ShowsPage, found_by, value_by}
 use Rattle.rgo_sound.specs.Typed.declared.actions.Action.TheVariants.{Recv}
 use Rattle.rgo_core_steps.proofs.Accesses.{given_type_is}
 use Rattle.rgo_core_steps.proofs.After.{acknowledging_is, committing_is}
@@ -58,19 +58,25 @@ module _ (T : Setup) (g : ℕ) (c : Record) where
       by true w = omega arith
       by false w = refl
 
-  pub cell_loads : (at cell : ℕ) → CanLoadCell c at cell
-      → Moves T g c (at + 2 + cell) (λ w. w) (λ w d. d ≡ knows c (with_hold c.side (Read at (found_by c.side.hold) cell w)))
-  cell_loads at cell can =
-      tells_more T g c (at + 2 + cell) (λ w. w)
-      (λ w d e. e ∙ ap (λ n. knows c (with_hold c.side (Read at n cell w))) (sym (ap found_by can.locked)))
-      (laws.cell_load_move T g c at can.n cell can.size can.locked can.sized can.within)
+  pub page_shows : (at cell : ℕ) → CanReachCell T c at cell
+      → Moves T g c (at + 2 + cell / T.sizes.page_words) (λ n. n) (ShowsPage T c at cell)
+  page_shows at cell can =
+      tells_more T g c (at + 2 + cell / T.sizes.page_words) (λ n. n) (λ n d t. record { is = t.0; some = t.1; inside = t.2 })
+      (laws.page_number_move T g c at cell can.size can.sized can.spread can.within)
 
-  pub cell_stores : (at cell value : ℕ) → CanStoreCell c at cell
-      → Moves T g c (at + 2 + cell) (λ w. value) (λ w d. d ≡ knows c (with_hold c.side (Wrote at (found_by c.side.hold) cell value)))
-  cell_stores at cell value can =
-      tells_more T g c (at + 2 + cell) (λ w. value)
+  pub cell_loads : (at cell word : ℕ) → CanLoadCell T c at cell word
+      → Moves T g c word (λ w. w) (λ w d. d ≡ knows c (with_hold c.side (Read at (found_by c.side.hold) cell w)))
+  cell_loads at cell word can =
+      tells_more T g c word (λ w. w)
+      (λ w d e. e ∙ ap (λ n. knows c (with_hold c.side (Read at n cell w))) (sym (ap found_by can.locked)))
+      (laws.cell_load_move T g c at can.n cell can.size word can.locked can.sized can.within can.is_there)
+
+  pub cell_stores : (at cell word value : ℕ) → CanStoreCell T c at cell word
+      → Moves T g c word (λ w. value) (λ w d. d ≡ knows c (with_hold c.side (Wrote at (found_by c.side.hold) cell value)))
+  cell_stores at cell word value can =
+      tells_more T g c word (λ w. value)
       (λ w d e. e ∙ ap (λ n. knows c (with_hold c.side (Wrote at n cell value))) (sym (ap found_by can.locked)))
-      (laws.cell_store_move T g c at can.n cell can.size value can.locked can.sized can.spare)
+      (laws.cell_store_move T g c at can.n cell can.size word value can.locked can.sized can.spare can.is_there)
 
   -- ---- commits
 

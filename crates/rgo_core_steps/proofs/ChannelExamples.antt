@@ -1,8 +1,9 @@
 -- Records that may access a channel, and such as may not.
-use Rattle.std.proofs.Common.{◌≡◌, ◌<◌, ◌≢◌, ℕ, zero, suc, ◌+◌, ◌%◌, List, [], ◌∷◌, None, Option, Some, refl, inl, inr, ⊎_elim, ap, subst, sym, ◌∙◌, arith}
+use Rattle.std.proofs.Common.{◌≡◌, ◌<◌, ◌≢◌, ℕ, zero, suc, ◌+◌, ◌%◌, true, List, [], ◌∷◌, None, Option, Some, refl, inl, inr, ⊎_elim, ap, subst, sym, ◌∙◌, arith}
+use Rattle.std.proofs.lemmas.Bool.{false≢true}
 use Rattle.rgo_sound.specs.Code.Code.{Do}
-use Rattle.rgo_core.specs.Channels.Controls.{count_of, extent, head_of}
-use Rattle.rgo_core.specs.Channels.Records.{Free, Hold, Locked, Offering, Sized, Wrote}
+use Rattle.rgo_core.specs.Channels.Controls.{count_of, extent, head_of, spreads}
+use Rattle.rgo_core.specs.Channels.Records.{Free, Hold, Locked, Offering, Reached, Sized, Unreached, Wrote}
 use Rattle.rgo_core.specs.Channels.Standing.{IsOfChannel}
 use Rattle.rgo_sound.specs.Machine.declared.limits.Limits.{Limits}
 use Rattle.rgo_sound.specs.Machine.declared.limits.Sizes.{Sizes}
@@ -16,8 +17,11 @@ use Rattle.rgo_core_steps.specs.MemoryExamples.{doing}
 apart : (a b : ℕ) → a ≡ b → a < b → ⊥
 apart a b e h = omega arith
 
+size_is : (at n size : ℕ) → Sized at n ≡ Sized at size → n ≡ size
+size_is at n size e = cc
+
 two_is : (at size : ℕ) → Sized at 2 ≡ Sized at size → 2 ≡ size
-two_is at size e = cc
+two_is at size e = size_is at 2 size e
 
 -- the instruction operates on the channel with address 5, whatever the goroutine has of it
 abbrev operates : (to : Option ℕ) (action : Action) (others : List ℕ) (sizes : Sizes) (limits : Limits) (hold : Hold) (capacity : ℕ) → IsOfChannel action
@@ -46,11 +50,28 @@ operates to action others sizes limits hold capacity of_channel = record {
 
 pub channel_examples : ChannelExamples
 channel_examples = record {
-  loads = record { n = 8; size = 2; locked = refl; sized = refl; within = omega arith };
-  no_third = λ k. no_cell (subst (λ s. 2 < extent s) (sym (two_is 700 k.size k.sized)) k.within);
-  unlocked = λ k. free 700 k.n k.locked;
-  stores = record { n = 4; size = 2; locked = refl; sized = refl; spare = (omega arith, one_only, λ none one. apart 0 2 (sym none) (omega arith)) };
-  used = λ k. first_used k.n k.size (found_is 700 k.n k.locked) (two_is 700 k.size k.sized) (k.spare.1 0);
+  loads = λ limits. record { n = 8; size = 2; locked = refl; sized = refl; within = omega arith; is_there = inl (refl, refl) };
+  no_third = λ T word k. no_cell (subst (λ s. 2 < extent s) (sym (two_is 700 k.size k.sized)) k.within);
+  unlocked = λ T word k. free 700 k.n k.locked;
+  misplaced = λ T k. ⊎_elim (λ t. apart 702 703 t.1 (omega arith)) (λ e. nowhere 700 1 702 e) k.is_there;
+  stores = λ limits. record {
+    n = 4;
+    size = 2;
+    locked = refl;
+    sized = refl;
+    spare = (omega arith, one_only, λ none one. apart 0 2 (sym none) (omega arith));
+    is_there = inl (refl, refl);
+  };
+  used = λ T word k. first_used k.n k.size (found_is 700 k.n k.locked) (two_is 700 k.size k.sized) (k.spare.1 0);
+  reaches = λ limits. record { size = 9; sized = refl; spread = refl; within = omega arith };
+  no_page = λ limits cell k. false≢true (subst (λ s. spreads 8 s ≡ true) (sym (two_is 700 k.size k.sized)) k.spread);
+  no_tenth = λ T k. no_cell_after (subst (λ s. 9 < extent s) (sym (size_is 700 9 k.size k.sized)) k.within);
+  shows = λ limits. record { is = refl; some = omega arith; inside = omega arith };
+  no_number = λ T c at cell d k. let s : 0 < 0 = k.some in omega (arith, s);
+  no_such_page = λ limits c at cell d k. let s = k.inside in omega (arith, s);
+  loads_apart = λ limits word. record { n = 4; size = 9; locked = refl; sized = refl; within = omega arith; is_there = inr refl };
+  unreached = λ limits word k. ⊎_elim
+      (λ t. false≢true (sym t.0 ∙ ap (λ s. spreads 8 s) (sym (size_is 700 9 k.size k.sized)))) (λ e. nowhere 700 8 word e) k.is_there;
   sends = λ sizes limits. record {
     to = None;
     sent = 1;
@@ -139,6 +160,12 @@ channel_examples = record {
   where
     no_cell : 2 < extent 2 → ⊥
     no_cell l = omega (arith, l)
+
+    no_cell_after : 9 < extent 9 → ⊥
+    no_cell_after l = omega (arith, l)
+
+    nowhere : (at cell word : ℕ) → Unreached ≡ Reached at cell word → ⊥
+    nowhere at cell word e = cc e
 
     one_only : (j : ℕ) → j < 1 → 0 < 2 → (0 + j) % 2 ≢ 1
     one_only zero l s e = apart 0 1 e (omega arith)

@@ -15,6 +15,7 @@ pub mod Layouts
 pub mod Lefts
 pub mod Accesses
 pub mod Making
+pub mod MakingApart
 pub mod Staking
 pub mod Paging
 pub mod Searching
@@ -22,3 +23,4 @@ pub mod MemoryExamples
 pub mod ChannelExamples
 pub mod Covering
 pub mod Parting
+pub mod SpreadExamples

@@ -9,7 +9,7 @@ use Rattle.rgo_sound.specs.Memory.Memory.{Channel, Object, SliceObject, StructOb
 use Rattle.rgo_sound.specs.Memory.Values.{base_zero, element_zero, element_zero_in, zero_in, zero_of}
 use Rattle.rgo_sound.specs.Memory.declared.values.Value.{Value}
 use Rattle.rgo_sound.specs.Memory.declared.values.Value.TheVariants as value
-use Rattle.rgo_sound.specs.RegionMachine.Objects.{words as words_of}
+use Rattle.rgo_sound.specs.RegionMachine.Objects.{is_spread, words as words_of}
 use Rattle.rgo_sound.specs.RegionMachine.declared.regions.Region.{Region}
 use Rattle.rgo_sound.specs.Tac.Steps.{type_of}
 use Rattle.rgo_sound.specs.Typed.declared.actions.Action.{Action}
@@ -33,7 +33,7 @@ use Rattle.rgo_core.specs.Records.{Record, accessed}
 use Rattle.rgo_core.specs.Steps.{Moves}
 use Rattle.rgo_core.proofs.Objects.{object_move, word_move}
 use Rattle.rgo_core_steps.specs.After.{Position, making}
-use Rattle.rgo_core_steps.specs.Making.{IsNewWord, IsPlaced, MakesNext, NewPoints, covers, filling, next_object, next_page, next_slot, object_in, object_of, page_of, region_at, sized, stored_in, struct_of, with_new_word}
+use Rattle.rgo_core_steps.specs.Making.{IsNewWord, IsPlaced, MakesNext, NewPoints, covers, filling, filling_apart, next_is_spread, next_object, next_page, next_slot, object_in, object_of, page_of, region_at, sized, stored_in, struct_of, with_new_word, with_new_word_apart}
 use Rattle.rgo_core_steps.proofs.Accesses.{given_type_is}
 use Rattle.rgo_core_steps.proofs.After.{making_is, position_is}
 use Rattle.rgo_core_steps.proofs.Telling.{tells_more}
@@ -74,6 +74,14 @@ module _ {T : Setup} {c : Record} {object : Object} {slot : ℕ} (m : MakesNext 
       ap (λ (o : Option Object). option_map_or (λ (object : Object). option_map_or (λ (f : Fill). with_new_word T c f object i) (next_page T c) c) o c)
       next_object_is
       ∙ ap (λ (p : Option Fill). option_map_or (λ (f : Fill). with_new_word T c f object i) p c) (next_page_is f is)
+
+  pub filling_apart_is : (i : ℕ) → filling_apart T c i ≡ with_new_word_apart T c object i
+  filling_apart_is i =
+      ap (λ (o : Option Object). option_map_or (λ (object : Object). with_new_word_apart T c object i) o c) next_object_is
+
+  pub next_is_spread_is : next_is_spread T c ≡ is_spread T.sizes.page_words object
+  next_is_spread_is =
+      ap (λ (o : Option Object). option_map_or (is_spread T.sizes.page_words) o false) next_object_is
 
 -- ---- its page
 
@@ -122,7 +130,7 @@ channel_plain n zero v e = absurd (none-some v e)
 channel_plain n (suc zero) v e = subst IsPlain (same_Some (value.Int (pos n)) v e) tt
 channel_plain n (suc (suc i)) v e = absurd (none-some v e)
 
-object_plain : (code : Code) (w : WordFrame) (to : Option ℕ) (act : Action) (from : List ℕ) (object : Object) → MakesObject code w to act from object
+pub object_plain : (code : Code) (w : WordFrame) (to : Option ℕ) (act : Action) (from : List ℕ) (object : Object) → MakesObject code w to act from object
     → (i : ℕ) (v : Value) → content object i ≡ Some v → IsPlain v
 object_plain code w to act from object (AStruct n made ea ef es eo) i v e =
     struct_plain made.fields i v (ap (λ (o : Object). content o i) (sym eo) ∙ e)
@@ -136,7 +144,7 @@ object_plain code w to act from object (AChannel p ea ef small eo) i v e =
 at_last : (i n : ℕ) → i < suc n → (i < n) ⊎ (i ≡ n)
 at_last i n l = grind (arith, nat_tests)
 
-covers_all : (n : ℕ) (stored : List ℕ) → covers n stored ≡ true → (i : ℕ) → i < n → 0 < times i stored
+pub covers_all : (n : ℕ) (stored : List ℕ) → covers n stored ≡ true → (i : ℕ) → i < n → 0 < times i stored
 covers_all zero stored e i low = absurd (omega arith)
 covers_all (suc n) stored e i low = by (times n stored == 0) refl (λ rest l. covers_all n stored rest i l)
   where

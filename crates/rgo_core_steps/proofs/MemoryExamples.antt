@@ -104,7 +104,7 @@ count_examples = record {
   misses = refl;
   not_sharing = λ slot t. none-some (slot, t.0) t.1;
   not_leaving = λ slot t. none-some (slot, t.holder) t.is;
-  page_missed = refl;
+  page_missed = λ T. refl;
 }
 
 pub search_examples : SearchExamples

@@ -11,13 +11,14 @@ use Rattle.rgo_core.specs.Frames.Opening.{no_record}
 use Rattle.rgo_core.specs.Frames.Prints.{printed_values}
 use Rattle.rgo_core.specs.Frames.Records.{after_op}
 use Rattle.rgo_core.specs.Frames.WordFrames.{WordFrame, bare, word_called, word_moved, words_of}
-use Rattle.rgo_core.specs.Memory.Records.{Fill, with_object}
+use Rattle.rgo_core.specs.Memory.Records.{Fill, with_object, with_object_apart}
 use Rattle.rgo_sound.specs.Machine.Lines.{line_of}
 use Rattle.rgo_sound.specs.Memory.Memory.{Object}
 use Rattle.rgo_sound.specs.RegionMachine.Objects.{words as words_in}
 use Rattle.rgo_sound.specs.RegionMachine.Owed.{current, function_of}
 use Rattle.rgo_core.specs.Core.{Setup}
 use Rattle.rgo_core.specs.Laws.{first_in}
+use Rattle.rgo_core.specs.NewObjects.{reserved_address}
 use Rattle.rgo_core.specs.Records.{Record, accessed, begins_with, ticked, with_child, with_print}
 
 -- ---- the next instruction
@@ -83,6 +84,16 @@ making T c f object = moving T.code c (λ p. record c {
   };
   frame = after_action T.code c.frame p.w p.ws p.instr (given p.instr.op) (suc (f.page * T.sizes.page_words + f.fill));
   memory = with_object c.memory f.slot (f.fill + words_in object);
+})
+
+-- after it has made a spread object in the pages that were reserved for it
+abbrev pub making_apart : Setup → Record → Record
+making_apart T c = moving T.code c (λ p. record c {
+  clock = record (ticked c.clock) {
+    share = record c.clock.share { steps = suc c.clock.share.steps; objects = suc c.clock.share.objects };
+  };
+  frame = after_action T.code c.frame p.w p.ws p.instr (given p.instr.op) (suc (reserved_address T c));
+  memory = with_object_apart c.memory;
 })
 
 -- ---- prints and starts

@@ -1,16 +1,18 @@
 -- What each access to a channel asks: records that may make it, and such as may not.
 use Rattle.std.specs.Prelude.{◌+◌, ℕ, [], ◌∷◌, None, Some}
 use Rattle.rgo_sound.specs.Code.Code.{CodeOp, Do}
-use Rattle.rgo_core.specs.Channels.Records.{Free, Hold, Locked, Read, Sized, Wrote, at_rest, offering}
-use Rattle.rgo_core.specs.Memory.Words.{base}
+use Rattle.rgo_core.specs.Channels.Records.{Free, Hold, Locked, Read, Sized, Wrote, at_rest, offering, with_reach}
+use Rattle.rgo_core.specs.Memory.Words.{base, cell_at}
 use Rattle.rgo_sound.specs.Machine.declared.limits.Limits.{Limits}
 use Rattle.rgo_sound.specs.Machine.declared.limits.Sizes.{Sizes}
 use Rattle.rgo_sound.specs.Typed.declared.actions.Action.TheVariants.{Close, Recv, Send}
+use Rattle.rgo_core.specs.AtChannels.{knows}
 use Rattle.rgo_core.specs.ChannelExamples.{with_words}
 use Rattle.rgo_core.specs.Core.{Setup, layout}
 use Rattle.rgo_core.specs.Records.{Record}
-use Rattle.rgo_core_steps.specs.Channels.{CanAcknowledge, CanClose, CanLoadCell, CanMeet, CanOffer, CanReceive, CanReceiveZero, CanSend, CanStoreCell}
+use Rattle.rgo_core_steps.specs.Channels.{CanAcknowledge, CanClose, CanLoadCell, CanMeet, CanOffer, CanReachCell, CanReceive, CanReceiveZero, CanSend, CanStoreCell, ShowsPage}
 use Rattle.rgo_core_steps.specs.MemoryExamples.{doing}
+use Rattle.rgo_core_steps.specs.SpreadExamples.{eight}
 
 -- a send of variable 1 on variable 0, a receive from that, a close of it
 abbrev pub the_send : CodeOp
@@ -34,14 +36,37 @@ at_work at hold capacity = record (with_words (6 ∷ 3 ∷ [])) { side = record 
 abbrev pub offering_at : (at found : ℕ) → Record
 offering_at at n = record (with_words (6 ∷ 3 ∷ [])) { side = record (offering at) { hold = Locked at n } }
 
+-- after it has found this cell of the channel there
+abbrev pub reached : Record → (at cell word : ℕ) → Record
+reached c at i w = knows c (with_reach c.side at i w)
+
+-- a channel with nine cells is locked, and cell 8 was found at this word
+abbrev pub reaching : (word : ℕ) → Record
+reaching w = reached (at_work 700 (Locked 700 4) 9) 700 8 w
+
 -- A control of 4 says one value, 8 two; 2 more that the channel is closed. Without a buffer 4 is an offer, and 8 one that was taken.
 pub record ChannelExamples : Type 0 where
-  pub loads : CanLoadCell (at_work 700 (Locked 700 8) 2) 700 1
-  pub no_third : CanLoadCell (at_work 700 (Locked 700 8) 2) 700 2 → ⊥
-  pub unlocked : CanLoadCell (at_work 700 Free 2) 700 0 → ⊥
-  pub stores : CanStoreCell (at_work 700 (Locked 700 4) 2) 700 1
+  pub loads : (limits : Limits) → CanLoadCell (doing the_receive eight limits) (at_work 700 (Locked 700 8) 2) 700 1 703
+  pub no_third : (T : Setup) (word : ℕ) → CanLoadCell T (at_work 700 (Locked 700 8) 2) 700 2 word → ⊥
+  pub unlocked : (T : Setup) (word : ℕ) → CanLoadCell T (at_work 700 Free 2) 700 0 word → ⊥
+  -- another cell's word
+  pub misplaced : (T : Setup) → CanLoadCell T (at_work 700 (Locked 700 8) 2) 700 1 702 → ⊥
+  pub stores : (limits : Limits) → CanStoreCell (doing the_send eight limits) (at_work 700 (Locked 700 4) 2) 700 1 703
   -- the cell has the value
-  pub used : CanStoreCell (at_work 700 (Locked 700 4) 2) 700 0 → ⊥
+  pub used : (T : Setup) (word : ℕ) → CanStoreCell T (at_work 700 (Locked 700 4) 2) 700 0 word → ⊥
+  -- a channel with nine cells does not fit a page of eight words; one with two does, and has no third
+  pub reaches : (limits : Limits) → CanReachCell (doing the_receive eight limits) (at_work 700 Free 9) 700 8
+  pub no_page : (limits : Limits) (cell : ℕ) → CanReachCell (doing the_receive eight limits) (at_work 700 Free 2) 700 cell → ⊥
+  pub no_tenth : (T : Setup) → CanReachCell T (at_work 700 Free 9) 700 9 → ⊥
+  -- the number of page 1, plus 1
+  pub shows : (limits : Limits) → let T = doing the_receive eight limits in
+      ShowsPage T (at_work 700 Free 9) 700 8 2 (reached (at_work 700 Free 9) 700 8 (cell_at (layout T) 1 0))
+  pub no_number : (T : Setup) (c : Record) (at cell : ℕ) (d : Record) → ShowsPage T c at cell 0 d → ⊥
+  -- a page that there is not
+  pub no_such_page : (limits : Limits) (c : Record) (at cell : ℕ) (d : Record) → ShowsPage (doing the_receive eight limits) c at cell 5 d → ⊥
+  -- the cell is there, and nowhere else
+  pub loads_apart : (limits : Limits) (word : ℕ) → CanLoadCell (doing the_receive eight limits) (reaching word) 700 8 word
+  pub unreached : (limits : Limits) (word : ℕ) → CanLoadCell (doing the_receive eight limits) (at_work 700 (Locked 700 4) 9) 700 8 word → ⊥
   pub sends : (sizes : Sizes) (limits : Limits) → let T = doing the_send sizes limits in
       CanSend T (at_work (control_in T) (Wrote (control_in T) 4 1 3) 2) (control_in T) 4
   -- the value was stored in another cell

@@ -1,11 +1,11 @@
 -- What each access to a channel asks of the record of its goroutine, and what it shows. A channel is named by `at`, the word of its
 -- control.
-use Rattle.std.specs.Prelude.{◌≡◌, ◌⊎◌, ◌+◌, ◌%◌, ◌^◌, ◌<◌, ◌≤◌, ℕ, [], ◌∷◌, Option}
-use Rattle.rgo_core.specs.Channels.Controls.{closed_of, count_of, extent, head_of}
-use Rattle.rgo_core.specs.Channels.Locking.{IsSpare}
-use Rattle.rgo_core.specs.Channels.Records.{Free, Hold, Locked, Offering, Read, Sized, Wrote, with_look, with_own_look, with_size}
+use Rattle.std.specs.Prelude.{◌≡◌, ◌⊎◌, ◌+◌, ◌-◌, ◌%◌, ◌^◌, ◌<◌, ◌≤◌, ℕ, true, [], ◌∷◌, Option}
+use Rattle.rgo_core.specs.Channels.Controls.{closed_of, count_of, extent, head_of, spreads, tail_words}
+use Rattle.rgo_core.specs.Channels.Locking.{IsCell, IsSpare}
+use Rattle.rgo_core.specs.Channels.Records.{Free, Hold, Locked, Offering, Read, Sized, Wrote, with_look, with_own_look, with_reach, with_size}
 use Rattle.rgo_core.specs.Frames.WordFrames.{word_at}
-use Rattle.rgo_core.specs.Memory.Words.{all_words}
+use Rattle.rgo_core.specs.Memory.Words.{all_words, cell_at}
 use Rattle.rgo_sound.specs.Typed.declared.actions.Action.TheVariants.{Close, Recv, Send}
 use Rattle.rgo_core.specs.AtChannels.{Operates, knows}
 use Rattle.rgo_core.specs.CommitMoves.{IsAtSend}
@@ -42,29 +42,44 @@ pub record ShowsOwnControl (c : Record) (at n : ℕ) (d : Record) : Type 0 where
   pub fits : n + 4 < 2 ^ 64
   pub phase : (count_of n ≡ 1) ⊎ (count_of n ≡ 2)
 
--- n is the capacity: it is small, and all cells are words of the table
+-- n is the capacity: it is small, and the words that follow it are words of the table
 pub record ShowsCapacity (T : Setup) (c : Record) (at n : ℕ) (d : Record) : Type 0 where
   pub is : d ≡ knows c (with_size c.side at n)
   pub small : n < 1073741820
-  pub inside : at + 2 + extent n ≤ all_words (layout T)
+  pub inside : at + 2 + tail_words T.sizes.page_words n ≤ all_words (layout T)
 
 -- ---- cells
 
--- The goroutine has locked the channel and knows its capacity, and the channel has this cell.
-pub record CanLoadCell (c : Record) (at cell : ℕ) : Type 0 where
+-- The goroutine knows the capacity of the channel, which is spread and has this cell.
+pub record CanReachCell (T : Setup) (c : Record) (at cell : ℕ) : Type 0 where
+  pub size : ℕ
+  pub sized : c.side.size ≡ Sized at size
+  pub spread : spreads T.sizes.page_words size ≡ true
+  pub within : cell < extent size
+
+-- w is the number, plus 1, of the data page that has the cell, which is a word of the table
+pub record ShowsPage (T : Setup) (c : Record) (at cell w : ℕ) (d : Record) : Type 0 where
+  pub is : d ≡ knows c (with_reach c.side at cell (cell_at (layout T) (w - 1) (cell % T.sizes.page_words)))
+  pub some : 0 < w
+  pub inside : cell_at (layout T) (w - 1) (cell % T.sizes.page_words) < all_words (layout T)
+
+-- The goroutine has locked the channel and knows its capacity; the channel has this cell, which is this word of the table.
+pub record CanLoadCell (T : Setup) (c : Record) (at cell word : ℕ) : Type 0 where
   pub n : ℕ
   pub size : ℕ
   pub locked : c.side.hold ≡ Locked at n
   pub sized : c.side.size ≡ Sized at size
   pub within : cell < extent size
+  pub is_there : IsCell T.sizes.page_words c.side at size cell word
 
 -- The same, and the cell holds nothing.
-pub record CanStoreCell (c : Record) (at cell : ℕ) : Type 0 where
+pub record CanStoreCell (T : Setup) (c : Record) (at cell word : ℕ) : Type 0 where
   pub n : ℕ
   pub size : ℕ
   pub locked : c.side.hold ≡ Locked at n
   pub sized : c.side.size ≡ Sized at size
   pub spare : IsSpare n size cell
+  pub is_there : IsCell T.sizes.page_words c.side at size cell word
 
 -- ---- commits. The goroutine has locked the channel, whose control was n.
 

@@ -17,3 +17,4 @@ pub mod Pages
 pub mod Searches
 pub mod MemoryExamples
 pub mod ChannelExamples
+pub mod SpreadExamples

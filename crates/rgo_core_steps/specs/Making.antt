@@ -1,13 +1,14 @@
--- New objects: which one the next instruction of a goroutine makes, in which slot, and at the end of which page; and the record after
--- each store of one of its words.
+-- New objects: which one the next instruction of a goroutine makes, in which slot, and at the end of which page or in which reserved
+-- pages; and the record after each store of one of its words.
 use Rattle.std.specs.Option.{option_map, option_map_or}
-use Rattle.std.specs.Prelude.{◌≡◌, ◌⊎◌, ◌<◌, ◌≤◌, ◌+◌, ◌*◌, ◌==◌, ◌^◌, ℕ, zero, suc, Bool, true, false, List, [], ◌∷◌, Option, Some, None, if◌then◌else◌, map, nat_eq, nat_lt, option_and_then, replicate, slice_get}
+use Rattle.std.specs.Prelude.{◌≡◌, ◌⊎◌, ◌<◌, ◌≤◌, ◌+◌, ◌*◌, ◌==◌, ◌^◌, ℕ, zero, suc, Bool, true, false, List, [], ◌∷◌, Option, Some, None, if◌then◌else◌, length, map, nat_eq, nat_lt, option_and_then, replicate, slice_get}
 use Rattle.rgo_sound.specs.Code.Code.{Branch, Call, Code, CodeOp, Do, Go, Jump, Print, Return}
 use Rattle.rgo_sound.specs.Code.Erasure.{erased}
 use Rattle.rgo_sound.specs.Memory.Memory.{Channel, Object, SliceObject, StructObject}
 use Rattle.rgo_sound.specs.Memory.Values.{element_zero, zero_of}
-use Rattle.rgo_sound.specs.RegionMachine.Objects.{making_region, words as words_of}
+use Rattle.rgo_sound.specs.RegionMachine.Objects.{is_spread, is_too_large, making_region, words as words_of}
 use Rattle.rgo_sound.specs.RegionMachine.Owed.{function_of}
+use Rattle.rgo_sound.specs.RegionMachine.Room.{pages_of}
 use Rattle.rgo_sound.specs.RegionMachine.States.{top_names}
 use Rattle.rgo_sound.specs.RegionMachine.declared.regions.Region.{Region}
 use Rattle.rgo_sound.specs.Tac.Steps.{type_of}
@@ -18,15 +19,16 @@ use Rattle.rgo_core.specs.Channels.Records.{at_rest}
 use Rattle.rgo_core.specs.Frames.WordFrames.{WordFrame, bare, word_at}
 use Rattle.rgo_core.specs.Memory.Encoding.{content, opening}
 use Rattle.rgo_core.specs.Memory.Pages.{times}
-use Rattle.rgo_core.specs.Memory.Records.{Amid, Fill, Idle, Make, Rec as MemoryRec, Rest, Within, with_word}
+use Rattle.rgo_core.specs.Memory.Records.{Across, Amid, Fill, Idle, Make, Rec as MemoryRec, Rest, Within, with_word, with_word_apart}
+use Rattle.rgo_core.specs.Memory.Spread.{spread_opening, table_words}
 use Rattle.rgo_core.specs.Memory.Words.{cell_at}
-use Rattle.rgo_core.specs.Bounds.{LieInPages, Points}
+use Rattle.rgo_core.specs.Bounds.{LieInPages, Points, row_words}
 use Rattle.rgo_core.specs.Core.{Setup, layout}
-use Rattle.rgo_core.specs.NewObjects.{MakesObject, slot_number}
+use Rattle.rgo_core.specs.NewObjects.{MakesObject, reserved_address, slot_number, word_apart}
 use Rattle.rgo_core.specs.Next.{IsAt}
 use Rattle.rgo_core.specs.Records.{Record, accessed}
 use Rattle.rgo_core_steps.specs.Accesses.{given_type}
-use Rattle.rgo_core_steps.specs.After.{Position, making, position}
+use Rattle.rgo_core_steps.specs.After.{Position, making, making_apart, position}
 
 -- ---- the object
 
@@ -93,11 +95,26 @@ pub record MakesNext (T : Setup) (c : Record) (object : Object) (slot : ℕ) : T
 -- ---- a page is needed
 
 -- The object fits a page, and not what is left of an own page of that slot.
-pub record NeedsPage (T : Setup) (c : Record) (slot : ℕ) : Type 0 where
+pub record NeedsOwnPage (T : Setup) (c : Record) (slot : ℕ) : Type 0 where
   pub object : Object
   pub next : MakesNext T c object slot
   pub fits : words_of object ≤ T.sizes.page_words
   pub full : (f : Fill) → Within f c.memory.fills → f.slot ≡ slot → T.sizes.page_words < f.fill + words_of object
+
+-- The object is spread, and not all of its pages are reserved.
+pub record NeedsReserved (T : Setup) (c : Record) (slot : ℕ) : Type 0 where
+  pub object : Object
+  pub next : MakesNext T c object slot
+  pub spread : is_spread T.sizes.page_words object ≡ true
+  pub small : is_too_large T.sizes.page_words object ≡ false
+  pub more : length c.memory.reserved.pages < pages_of T.sizes.page_words object
+
+abbrev pub NeedsPage : (T : Setup) (c : Record) (slot : ℕ) → Type 0
+NeedsPage T c slot = NeedsOwnPage T c slot ⊎ NeedsReserved T c slot
+
+-- whether the object that the next instruction makes is spread
+abbrev pub next_is_spread : Setup → Record → Bool
+next_is_spread T c = option_map_or (is_spread T.sizes.page_words) (next_object T c) false
 
 -- nothing is pending: no operation on a channel, no page that is claimed and not yet linked, no object that is half made
 pub record IsCalm (c : Record) : Type 0 where
@@ -111,6 +128,7 @@ pub record IsCalm (c : Record) : Type 0 where
 abbrev pub stored_in : Make → List ℕ
 stored_in Rest = []
 stored_in (Amid f object stored) = stored
+stored_in (Across object stored) = stored
 
 -- no word of the object is stored yet and it fits the page, or some are stored
 abbrev pub IsMaking : (page_words : ℕ) → MemoryRec → Fill → Object → Type 0
@@ -152,3 +170,43 @@ IsPlaced T c f object = LieInPages T (f.page * T.sizes.page_words + f.fill) (wor
 abbrev pub NewPoints : Setup → Record → (i : ℕ) → Type 0
 NewPoints T c i = (object : Object) (f : Fill) → next_object T c ≡ Some object → next_page T c ≡ Some f
     → covers (words_of object) (i ∷ stored_in c.memory.make) ≡ true → IsPlaced T c f object
+
+-- ---- the words of a spread object
+
+-- Word i of the next object, which is spread, has this position in the table, in the pages that are reserved, and first holds this value.
+-- The numbers of the data pages come after its words.
+pub record IsNewWordApart (T : Setup) (c : Record) (i word value : ℕ) : Type 0 where
+  pub object : Object
+  pub slot : ℕ
+  pub next : MakesNext T c object slot
+  pub spread : is_spread T.sizes.page_words object ≡ true
+  pub small : is_too_large T.sizes.page_words object ≡ false
+  pub all : length c.memory.reserved.pages ≡ pages_of T.sizes.page_words object
+  pub making : (c.memory.make ≡ Rest) ⊎ (c.memory.make ≡ Across object (stored_in c.memory.make))
+  pub low : i < table_words T.sizes.page_words object
+  pub at : word ≡ word_apart T c object i
+  pub opens : value ≡ spread_opening object c.memory.reserved.pages i
+
+-- it is the number of a data page
+abbrev pub IsIndex : {T : Setup} {c : Record} {i word value : ℕ} → IsNewWordApart T c i word value → Type 0
+IsIndex {i = i} new = words_of new.object ≤ i
+
+-- the record after word i of this object is stored, in the reserved pages: with the last word the object is made
+abbrev pub with_new_word_apart : Setup → Record → Object → (i : ℕ) → Record
+with_new_word_apart T c object i =
+    if covers (table_words T.sizes.page_words object) (i ∷ stored_in c.memory.make) then making_apart T c
+    else record c { clock = accessed c.clock; memory = with_word_apart c.memory object (i ∷ stored_in c.memory.make) }
+
+-- the same of the next object
+abbrev pub filling_apart : Setup → Record → (i : ℕ) → Record
+filling_apart T c i = option_map_or (λ (object : Object). with_new_word_apart T c object i) (next_object T c) c
+
+-- so many words from its address on lie in pages as follow it, and a pointer to it points where it may
+abbrev pub IsPlacedApart : Setup → Record → Object → Type 0
+IsPlacedApart T c object = LieInPages T (reserved_address T c) (row_words T.sizes.page_words object)
+    × Points T (given_type T c) (suc (reserved_address T c))
+
+-- the next object is so, if word i is the last of its words
+abbrev pub NewPointsApart : Setup → Record → (i : ℕ) → Type 0
+NewPointsApart T c i = (object : Object) → next_object T c ≡ Some object
+    → covers (table_words T.sizes.page_words object) (i ∷ stored_in c.memory.make) ≡ true → IsPlacedApart T c object

@@ -86,7 +86,7 @@ pub record CountExamples : Type 0 where
   pub misses : tries_slot owing 2 7 ≡ tried_slot owing 2
   pub not_sharing : (slot : ℕ) → IsSharing owing slot → ⊥
   pub not_leaving : (slot : ℕ) → IsLeaving owing slot → ⊥
-  pub page_missed : tries_page idle 4 2 1 ≡ tried_page idle 4
+  pub page_missed : (T : Setup) → tries_page T idle 4 2 1 ≡ tried_page idle 4
 
 -- slots 1 and 2 were found with these counts
 abbrev pub two_misses : List Miss

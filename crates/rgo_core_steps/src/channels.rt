@@ -1,17 +1,19 @@
-//! Accesses to the words of a channel. `at` is the word of its control; the word after it has the capacity, and the cells follow.
+//! Accesses to the words of a channel. `at` is the word of its control; the word after it has the capacity, and the cells follow, or
+//! if the channel is spread, the numbers of the data pages that have the cells.
 //!
 //! A goroutine operates on a channel in these steps, each of which is one access:
 //! 1. It loads the capacity and the control: [`capacity`], [`control`]; [`own_control`] where its own offer is at the channel.
 //! 2. It exchanges the unlocked control for the locked one: [`lock`]. If another goroutine has changed the control since, the
 //!    exchange changes nothing, and the goroutine begins again.
-//! 3. Under the lock it loads a cell or stores one that holds nothing: [`load_cell`], [`store_cell`].
+//! 3. Under the lock it loads a cell or stores one that holds nothing: [`load_cell`], [`store_cell`]. Of a spread channel it first
+//!    loads the number of the cell's page: [`page_number`].
 //! 4. It stores the unlocked control of the channel after the operation. With this store the operation takes effect:
 //!    [`commit_send`], [`commit_receive`], [`commit_zero`], [`commit_close`], [`commit_offer`], [`commit_meet`],
 //!    [`commit_acknowledge`].
 //!
 //! All other goroutines find a locked control between 2 and 4. `behind` is how many local steps the goroutine has made since its
 //! last access. Between the accesses of one operation, and while its offer is at a channel, it makes none.
-ghost use Rattle.std.specs.Prelude.{◌≡◌, ◌+◌, ◌-◌, ◌%◌, ◌^◌, ◌<◌, ◌==◌, ℕ};
+ghost use Rattle.std.specs.Prelude.{◌≡◌, ◌+◌, ◌-◌, ◌/◌, ◌%◌, ◌^◌, ◌<◌, ◌==◌, ℕ};
 ghost use prog.Atomic.{either};
 ghost use Rattle.rgo_core.specs.AtChannels.{IsAtChannel, knows};
 ghost use Rattle.rgo_core.specs.Bounds.{Points};
@@ -23,7 +25,7 @@ ghost use Rattle.rgo_core.specs.Rule.declared.accesses.Kind.TheVariants as kind;
 ghost use Rattle.rgo_core_steps.specs.Accesses.{given_type};
 ghost use Rattle.rgo_core_steps.specs.After.{acknowledging, committing};
 ghost use Rattle.rgo_core_steps.specs.ChannelExamples.{ChannelExamples};
-ghost use Rattle.rgo_core_steps.specs.Channels.{CanAcknowledge, CanClose, CanLoadCell, CanMeet, CanOffer, CanReceive, CanReceiveZero, CanSend, CanStoreCell, ShowsCapacity, ShowsControl, ShowsOwnControl, found_by, value_by};
+ghost use Rattle.rgo_core_steps.specs.Channels.{CanAcknowledge, CanClose, CanLoadCell, CanMeet, CanOffer, CanReachCell, CanReceive, CanReceiveZero, CanSend, CanStoreCell, ShowsCapacity, ShowsControl, ShowsOwnControl, ShowsPage, found_by, value_by};
 ghost use Rattle.rgo_core_steps.specs.Seats.{HasOne, HasPossible, IsSeatOf, Left, Settles, Stored, mine, settled};
 
 use rgo_core::channels::controls::without_oldest;
@@ -97,36 +99,64 @@ pub fn lock(table: &RunTable, seat: &mut RunSeat, at: usize, control: u64) -> u6
     compare_exchange::<Record, Plan, ByRuns, Brand, _>(table, seat, at, control, control + 1, &())
 }
 
-// ---- cells, under the lock
+// ---- cells
 
-/// Loads a cell.
-pub fn load_cell(table: &RunTable, seat: &mut RunSeat, at: usize, cell: usize) -> u64
-    requires own { IsSeatOf seat.old.table_id table.now.shared.table_id (at + 2 + cell) }
-    requires fits { at + 2 + cell < 2 ^ 64 }
+/// Loads the number, plus 1, of the data page that has a cell of a spread channel.
+pub fn page_number(
+    table: &RunTable,
+    seat: &mut RunSeat,
+    at: usize,
+    cell: usize,
+    page_words: usize,
+) -> u64
+    requires own { IsSeatOf seat.old.table_id table.now.shared.table_id (at + 2 + cell / page_words) }
+    requires fits { at + 2 + cell / page_words < 2 ^ 64 }
+    requires size { page_words ≡ (setup_of table.now.shared.key).sizes.page_words }
+    requires some { 0 < page_words }
     requires alone { HasOne (setup_of table.now.shared.key) seat.old.me }
-    requires held { CanLoadCell (mine (setup_of table.now.shared.key) seat.old.me) at cell }
+    requires sized { let T = setup_of table.now.shared.key in CanReachCell T (mine T seat.old.me) at cell }
+    ensures own { (seat.new.table_id ≡ seat.old.table_id) × (seat.new.id ≡ seat.old.id) }
+    ensures leaves { let T = setup_of table.now.shared.key in
+        Left T kind.LoadIndex (at + 2 + cell / page_words) (λ n. n) (ShowsPage T (mine T seat.old.me) at cell)
+        seat.old.me result seat.new.me }
+    ensures possible { HasPossible (setup_of table.now.shared.key) seat.new.me }
+{
+    load::<Record, Plan, ByRuns, Brand, _>(table, seat, at + 2 + cell / page_words, &(at, cell))
+}
+
+/// Loads a cell, which is this word of the table, under the lock.
+pub fn load_cell(table: &RunTable, seat: &mut RunSeat, at: usize, cell: usize, word: usize) -> u64
+    requires own { IsSeatOf seat.old.table_id table.now.shared.table_id word }
+    requires alone { HasOne (setup_of table.now.shared.key) seat.old.me }
+    requires held { let T = setup_of table.now.shared.key in CanLoadCell T (mine T seat.old.me) at cell word }
     ensures own { (seat.new.table_id ≡ seat.old.table_id) × (seat.new.id ≡ seat.old.id) }
     ensures leaves { let T = setup_of table.now.shared.key in let c = mine T seat.old.me in
-        Left T kind.LoadCell (at + 2 + cell) (λ n. n)
+        Left T kind.LoadCell word (λ n. n)
         (λ n d. d ≡ knows c (with_hold c.side (Read at (found_by c.side.hold) cell n))) seat.old.me result seat.new.me }
     ensures possible { HasPossible (setup_of table.now.shared.key) seat.new.me }
 {
-    load::<Record, Plan, ByRuns, Brand, _>(table, seat, at + 2 + cell, &(at, cell))
+    load::<Record, Plan, ByRuns, Brand, _>(table, seat, word, &(at, cell))
 }
 
-/// Stores the word of a value in a cell that holds nothing.
-pub fn store_cell(table: &RunTable, seat: &mut RunSeat, at: usize, cell: usize, value: u64)
-    requires own { IsSeatOf seat.old.table_id table.now.shared.table_id (at + 2 + cell) }
-    requires fits { at + 2 + cell < 2 ^ 64 }
+/// Stores the word of a value in a cell that holds nothing, under the lock.
+pub fn store_cell(
+    table: &RunTable,
+    seat: &mut RunSeat,
+    at: usize,
+    cell: usize,
+    word: usize,
+    value: u64,
+)
+    requires own { IsSeatOf seat.old.table_id table.now.shared.table_id word }
     requires alone { HasOne (setup_of table.now.shared.key) seat.old.me }
-    requires held { CanStoreCell (mine (setup_of table.now.shared.key) seat.old.me) at cell }
+    requires held { let T = setup_of table.now.shared.key in CanStoreCell T (mine T seat.old.me) at cell word }
     ensures own { (seat.new.table_id ≡ seat.old.table_id) × (seat.new.id ≡ seat.old.id) }
     ensures stored { let T = setup_of table.now.shared.key in let c = mine T seat.old.me in
-        Stored T kind.StoreCell (at + 2 + cell) value
+        Stored T kind.StoreCell word value
         (knows c (with_hold c.side (Wrote at (found_by c.side.hold) cell value))) seat.old.me seat.new.me }
     ensures possible { HasPossible (setup_of table.now.shared.key) seat.new.me }
 {
-    store::<Record, Plan, ByRuns, Brand, _>(table, seat, at + 2 + cell, value, &(at, cell));
+    store::<Record, Plan, ByRuns, Brand, _>(table, seat, word, value, &(at, cell));
 }
 
 // ---- commits. `control` is what the goroutine found when it locked the channel.

@@ -38,8 +38,8 @@ pub fn looks_free(table: &RunTable, sizes: &TableSizes, page: usize) -> bool
     table.shared.peek(state_at(sizes, page)) == 0
 }
 
-/// Claims a page for the slot of the region in which the next instruction makes an object, if its state is found 0. If it is not,
-/// the record remembers that.
+/// Claims a page for the slot of the region in which the next instruction makes an object, if its state is found 0: the own page there,
+/// or a page that is reserved for the object, if that is spread. If the state is not 0, the record remembers that.
 pub fn claim(
     table: &RunTable,
     seat: &mut RunSeat,
@@ -58,7 +58,7 @@ pub fn claim(
     requires needs { let T = setup_of table.now.shared.key in NeedsPage T (settled T behind seat.old.me) slot }
     ensures own { (seat.new.table_id ≡ seat.old.table_id) × (seat.new.id ≡ seat.old.id) }
     ensures leaves { let T = setup_of table.now.shared.key in Left T kind.ClaimPage (state_is_at sizes.now page)
-        (λ n. either (n == 0) (slot + 1) n) (λ n d. d ≡ tries_page (settled T behind seat.old.me) page slot n)
+        (λ n. either (n == 0) (slot + 1) n) (λ n d. d ≡ tries_page T (settled T behind seat.old.me) page slot n)
         seat.old.me result seat.new.me }
     ensures possible { HasPossible (setup_of table.now.shared.key) seat.new.me }
 {

@@ -9,7 +9,7 @@ pub store-requires-clause-asks : goal.store-requires-clause-asks
 store-requires-clause-asks c =
     let T = setup_of c.args.table.now.shared.key in
     let me = c.args.seat.now.me in
-    (c.requires.alone, cell_stores T (number_of me) (mine T me) c.args.at c.args.cell c.args.value c.requires.held)
+    (c.requires.alone, cell_stores T (number_of me) (mine T me) c.args.at c.args.cell c.args.word c.args.value c.requires.held)
 
 pub returns-clause-possible : goal.returns-clause-possible
 returns-clause-possible c = is_possible (setup_of c.args.table.now.shared.key) _ _ c.store.ensures.possible

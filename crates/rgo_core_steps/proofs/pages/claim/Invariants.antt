@@ -9,4 +9,4 @@ abbrev pub ghosts-compare_exchange : goal.ghosts-compare_exchange
 ghosts-compare_exchange a =
     let T = setup_of a.table.now.shared.key in
     let c = settled T a._about.now.2 a.seat.now.me in
-    record { kind = kind.ClaimPage; tells = λ n d. d ≡ tries_page c a._about.now.0 a._about.now.1 n }
+    record { kind = kind.ClaimPage; tells = λ n d. d ≡ tries_page T c a._about.now.0 a._about.now.1 n }

@@ -1,8 +1,12 @@
 use Rattle.rgo_core_steps.proofs.MemoryExamples.{count_examples, making_examples, search_examples}
+use Rattle.rgo_core_steps.proofs.SpreadExamples.{spread_examples}
 use Rattle.rgo_core_steps.proofs.searches.examples.Goals as goal
 
 pub returns-clause-making : goal.returns-clause-making
 returns-clause-making c = making_examples
+
+pub returns-clause-spread : goal.returns-clause-spread
+returns-clause-spread c = spread_examples
 
 pub returns-clause-counts : goal.returns-clause-counts
 returns-clause-counts c = count_examples
