@@ -1,11 +1,12 @@
 -- The answers, from what the accesses have left.
-use Rattle.std.proofs.Common.{◌≡◌, ◌≢◌, ℕ, ◌+◌, ◌-◌, ◌%◌, ◌==◌, [], ◌∷◌, ◌++◌, refl, ap, subst, ◌∙◌, inl, inr}
+use Rattle.std.proofs.Common.{◌≡◌, ◌≢◌, ℕ, suc, ◌+◌, ◌==◌, List, [], ◌∷◌, ◌++◌, Option, refl, ap, subst, ◌∙◌, inl, inr}
 use prog.Atomic.{either}
-use Rattle.rgo_core.specs.Channels.Controls.{closed_of, control, count_of, head_of}
+use Rattle.rgo_sound.specs.Typed.declared.actions.Action.{Action}
+use Rattle.rgo_core.specs.Channels.Controls.{head_of}
 use Rattle.rgo_core.specs.Channels.Records.{Free, Locked, Rec as SideRec, with_hold, with_lock, with_size}
 use Rattle.rgo_core.specs.Rule.Views.{Me}
 use Rattle.rgo_core.specs.Rule.declared.accesses.Kind.TheVariants.{Commit, LockChannel}
-use Rattle.rgo_core.specs.AtChannels.{knows}
+use Rattle.rgo_core.specs.AtChannels.{Operates, knows}
 use Rattle.rgo_core.specs.Bounds.{Points}
 use Rattle.rgo_core.specs.CommitMoves.{offers}
 use Rattle.rgo_core.specs.Core.{Setup}
@@ -16,11 +17,12 @@ use Rattle.rgo_core_steps.specs.Calls.{Did, accessing, waited}
 use Rattle.rgo_core_steps.specs.Channels.{CanReceiveZero}
 use Rattle.rgo_core_steps.specs.Seats.{Left, Stored, mine}
 use Rattle.rgo_core_steps.proofs.Calling.{did_as, did_one, did_then}
-use Rattle.rgo_chan.specs.Answers.{Holds, Looked, Receives, Sends, commits, loads_cell, locks, looked, looks, misses, stores_cell}
+use Rattle.rgo_chan.specs.Answers.{Holds, Looked, Receives, Sends, cell_word, commits, free_cell, loads_cell, locks, looked, looks, misses, numbers, reaches, stores_cell, without_oldest}
 use Rattle.rgo_chan.specs.Before.{ReceivesAt, SendsAt}
 use Rattle.rgo_chan.specs.Ready.{HasNoOffer, HasOffer, HasRoom, HasValue, IsDrained, IsUnlocked}
 use Rattle.rgo_chan.specs.declared.answers.Tried.TheVariants.{Done, Offered}
 use Rattle.rgo_chan.proofs.Carrying.{committed_as, committed_counts, receives_as, type_as}
+use Rattle.rgo_chan.proofs.CellWords.{counted_both}
 use Rattle.rgo_chan.proofs.Looking.{lock_holds, lock_misses, look_hold, look_size}
 
 module _ (T : Setup) (at : ℕ) (c : Record) (size n : ℕ) (m v : Me Record) (s t : ℕ) (seen : Looked T at c size n m s v t) where
@@ -66,13 +68,23 @@ module _ (T : Setup) (at : ℕ) (c : Record) (size n : ℕ) (m v : Me Record) (s
       pub frame_held : (mine T w).frame ≡ c.frame
       frame_held = ap (λ (d : Record). d.frame) is_locked
 
+      -- what is done under the lock makes so many accesses with those before it
+      pub all_committed : {to : Option ℕ} {action : Action} {others : List ℕ} → Operates T c to action others at → (value : ℕ)
+          → committing T.code (accessing (suc (numbers T size)) (mine T w)) value ≡ committing T.code (accessing (4 + numbers T size) c) value
+      all_committed here value =
+          ap (λ (d : Record). committing T.code (accessing (suc (numbers T size)) d) value) is_locked
+          ∙ (ap (λ k. committing T.code (record c { clock = k; side = held_side }) value) (counted_both T size c.clock)
+          ∙ committed_as here (4 + numbers T size) held_side value)
+
       -- ---- the operation took effect
 
       module _ (z : Me Record) (e : ℕ) where
         pub sent : (value : ℕ) → SendsAt T c at value → IsUnlocked n → HasRoom size n
-            → (x y : ℕ)
-            × Did T w u (λ g. stores_cell at ((head_of n + count_of n) % size) x value g ∷ commits at y (n + 4) g ∷ [])
-            (committing T.code (accessing 1 (mine T w)) 0) z e
+            → (k x y : ℕ)
+            × Did T w u
+            (λ g. reaches T at size (free_cell size n) k g ++ stores_cell (cell_word T at size (free_cell size n) k) x value g
+            ∷ commits at y (n + 4) g ∷ [])
+            (committing T.code (accessing (suc (numbers T size)) (mine T w)) 0) z e
             → Sends T at c value (Done 0) m s z e
         sent value here even room p = (
           refl,
@@ -80,29 +92,33 @@ module _ (T : Setup) (at : ℕ) (c : Record) (size n : ℕ) (m v : Me Record) (s
           n,
           p.0,
           p.1,
+          p.2,
           even,
           room,
-          did_as T m z (committing T.code (accessing 1 (mine T w)) 0) (committing T.code (accessing 4 c) 0) s e
-              (ap (λ (d : Record). committing T.code (accessing 1 d) 0) is_locked ∙ committed_as here.here 4 held_side 0)
-              (did_then T m w z (waited 3 c held_side) (committing T.code (accessing 1 (mine T w)) 0) s u e locked p.2),
+          did_as T m z (committing T.code (accessing (suc (numbers T size)) (mine T w)) 0) (committing T.code (accessing (4 + numbers T size) c) 0) s e
+              (all_committed here.here 0)
+              (did_then T m w z (waited 3 c held_side) (committing T.code (accessing (suc (numbers T size)) (mine T w)) 0) s u e locked p.3),
         )
 
         pub got_value : (value : ℕ) → ReceivesAt T c at → IsUnlocked n → HasValue size n → Points T (given_type T (mine T w)) value
-            → (y : ℕ)
-            × Did T w u (λ g. loads_cell at (head_of n) value g
-            ∷ commits at y (control (closed_of n) (count_of n - 1) ((head_of n + 1) % size)) g ∷ [])
-            (committing T.code (accessing 1 (mine T w)) value) z e
+            → (k y : ℕ)
+            × Did T w u
+            (λ g. reaches T at size (head_of n) k g ++ loads_cell (cell_word T at size (head_of n) k) value g
+            ∷ commits at y (without_oldest size n) g ∷ [])
+            (committing T.code (accessing (suc (numbers T size)) (mine T w)) value) z e
             → Receives T at c (Done value) m s z e
         got_value value here even some points p = inl (
           size,
           n,
           p.0,
+          p.1,
           even,
           some,
           subst (λ ty. Points T ty value) (type_as T c (mine T w) frame_held) points,
-          did_as T m z (committing T.code (accessing 1 (mine T w)) value) (committing T.code (accessing 4 c) value) s e
-              (ap (λ (d : Record). committing T.code (accessing 1 d) value) is_locked ∙ committed_as here.1 4 held_side value)
-              (did_then T m w z (waited 3 c held_side) (committing T.code (accessing 1 (mine T w)) value) s u e locked p.1),
+          did_as T m z (committing T.code (accessing (suc (numbers T size)) (mine T w)) value)
+              (committing T.code (accessing (4 + numbers T size) c) value) s e
+              (all_committed here.1 value)
+              (did_then T m w z (waited 3 c held_side) (committing T.code (accessing (suc (numbers T size)) (mine T w)) value) s u e locked p.2),
         )
 
         pub got_zero : ReceivesAt T c at → IsUnlocked n → IsDrained size n → e ≡ u + 1
@@ -140,35 +156,41 @@ module _ (T : Setup) (at : ℕ) (c : Record) (n : ℕ) (m v : Me Record) (s t : 
     (l : Left T LockChannel at (λ x. either (x == n) (n + 1) x) (λ x d. d ≡ knows (mine T v) (with_lock (mine T v).side at n x)) v found w)
     (same : found ≡ n) (z : Me Record) (e : ℕ) where
   pub offered : (value : ℕ) → IsUnlocked n → HasNoOffer 0 n
-      → (x y : ℕ)
-      × Did T w u (λ g. stores_cell at 0 x value g ∷ commits at y (n + 4) g ∷ []) (offers (accessing 1 (mine T w)) at) z e
+      → (k x y : ℕ)
+      × Did T w u (λ g. reaches T at 0 0 k g ++ stores_cell (cell_word T at 0 0 k) x value g ∷ commits at y (n + 4) g ∷ [])
+      (offers (accessing (suc (numbers T 0)) (mine T w)) at) z e
       → Sends T at c value Offered m s z e
   offered value even none p = (
     n,
     p.0,
     p.1,
+    p.2,
     even,
     none,
-    did_as T m z (offers (accessing 1 (mine T w)) at) (offers (accessing 4 c) at) s e
-        (ap (λ (d : Record). offers (accessing 1 d) at) (locked T at c 0 n m v s t seen w found u one l same).made.after)
-        (did_then T m w z (waited 3 c (held_side T at c 0 n m v s t seen w found u one l)) (offers (accessing 1 (mine T w)) at) s u e
-        (locked T at c 0 n m v s t seen w found u one l same) p.2),
+    did_as T m z (offers (accessing (suc (numbers T 0)) (mine T w)) at) (offers (accessing (4 + numbers T 0) c) at) s e
+        (ap (λ (d : Record). offers (accessing (suc (numbers T 0)) d) at) (locked T at c 0 n m v s t seen w found u one l same).made.after
+        ∙ ap (λ k. offers (record c { clock = k }) at) (counted_both T 0 c.clock))
+        (did_then T m w z (waited 3 c (held_side T at c 0 n m v s t seen w found u one l))
+        (offers (accessing (suc (numbers T 0)) (mine T w)) at) s u e
+        (locked T at c 0 n m v s t seen w found u one l same) p.3),
   )
 
   pub got_offer : (value : ℕ) → ReceivesAt T c at → IsUnlocked n → HasOffer 0 n → Points T (given_type T (mine T w)) value
-      → (y : ℕ)
-      × Did T w u (λ g. loads_cell at 0 value g ∷ commits at y (n + 4) g ∷ []) (committing T.code (accessing 1 (mine T w)) value) z e
+      → (k y : ℕ)
+      × Did T w u (λ g. reaches T at 0 0 k g ++ loads_cell (cell_word T at 0 0 k) value g ∷ commits at y (n + 4) g ∷ [])
+      (committing T.code (accessing (suc (numbers T 0)) (mine T w)) value) z e
       → Receives T at c (Done value) m s z e
   got_offer value here even offer points p = inr (inr (
     n,
     p.0,
+    p.1,
     even,
     offer,
     subst (λ ty. Points T ty value)
         (type_as T c (mine T w) (ap (λ (d : Record). d.frame) (locked T at c 0 n m v s t seen w found u one l same).made.after)) points,
-    did_as T m z (committing T.code (accessing 1 (mine T w)) value) (committing T.code (accessing 4 c) value) s e
-        (ap (λ (d : Record). committing T.code (accessing 1 d) value) (locked T at c 0 n m v s t seen w found u one l same).made.after
-        ∙ committed_as here.1 4 (held_side T at c 0 n m v s t seen w found u one l) value)
-        (did_then T m w z (waited 3 c (held_side T at c 0 n m v s t seen w found u one l)) (committing T.code (accessing 1 (mine T w)) value) s u e
-        (locked T at c 0 n m v s t seen w found u one l same) p.1),
+    did_as T m z (committing T.code (accessing (suc (numbers T 0)) (mine T w)) value) (committing T.code (accessing (4 + numbers T 0) c) value) s e
+        (all_committed T at c 0 n m v s t seen w found u one l same here.1 value)
+        (did_then T m w z (waited 3 c (held_side T at c 0 n m v s t seen w found u one l))
+        (committing T.code (accessing (suc (numbers T 0)) (mine T w)) value) s u e
+        (locked T at c 0 n m v s t seen w found u one l same) p.2),
   ))

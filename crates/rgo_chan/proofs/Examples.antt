@@ -1,5 +1,5 @@
 -- The examples, by computation.
-use Rattle.std.proofs.Common.{◌≡◌, ◌<◌, ◌+◌, ℕ, List, [], ◌∷◌, ◌++◌, Option, None, refl, ap, sym, subst, ◌∙◌, inl, inr, ⊎_elim, arith}
+use Rattle.std.proofs.Common.{◌≡◌, ◌<◌, ◌+◌, ℕ, List, [], ◌∷◌, ◌++◌, Option, None, length, refl, ap, sym, subst, ◌∙◌, inl, inr, ⊎_elim, arith}
 use Rattle.std.proofs.lemmas.Option.{same_Some}
 use Rattle.rgo_sound.specs.Code.Code.{CodeInstr, CodeOp, Do}
 use Rattle.rgo_core.specs.ChannelExamples.{sending}
@@ -16,7 +16,7 @@ use Rattle.rgo_sound.specs.Machine.declared.limits.Sizes.{Sizes}
 use Rattle.rgo_sound.specs.RegionMachine.Examples.{int_slot, main_of, plain}
 use Rattle.rgo_sound.specs.RegionMachine.Owed.{current}
 use Rattle.rgo_sound.specs.Typed.declared.actions.Action.TheVariants.{Recv, Send}
-use Rattle.rgo_chan.specs.Answers.{Acknowledges, Closes, Sends, loads_capacity, loads_control, looked, looks}
+use Rattle.rgo_chan.specs.Answers.{Acknowledges, Closes, Sends, cell_word, commits, free_cell, loads_capacity, loads_control, locks, looked, looks, reaches, stores_cell}
 use Rattle.rgo_chan.specs.Before.{IsBeforeReceive, IsBeforeSend, SendsAt}
 use Rattle.rgo_core.specs.Memory.Words.{base}
 use Rattle.rgo_chan.specs.Ready.{IsClosed, IsFull, IsOffered}
@@ -147,6 +147,9 @@ module _ (sizes : Sizes) (limits : Limits) where
 
 -- ---- answers
 
+long : (a b c : Access) (es : List Access) → 7 ≡ 5 + length (a ∷ b ∷ c ∷ es) → ⊥
+long a b c es e = omega (arith, e)
+
 module _ (T : Setup) where
   -- the capacity 2 and this control were loaded, and both loads were counted
   did_look : (n : ℕ) → Did T (first_seat before) 5 (looks 700 2 n) (waited 2 before (looked 700 before.side 2 n)) (looked_seat before n) 7
@@ -185,7 +188,9 @@ module _ (T : Setup) where
       a
 
   not_done : Sends T 700 before 3 (Done 0) (first_seat before) 5 (looked_seat before 4) 7 → ⊥
-  not_done a = apart 7 10 a.7.counted (omega arith)
+  not_done a = long (loads_capacity 700 a.1 0) (loads_control 700 a.2 0) (locks 700 a.2 0)
+      (reaches T 700 a.1 (free_cell a.1 a.2) a.3 0
+      ++ stores_cell (cell_word T 700 a.1 (free_cell a.1 a.2) a.3) a.4 3 0 ∷ commits 700 a.5 (a.2 + 4) 0 ∷ []) a.8.counted
 
   -- this control was loaded, and the load was counted
   did_load : (old side : SideRec) (n : ℕ)

@@ -1,6 +1,7 @@
 pub mod Carrying
 pub mod Cells
 pub mod Looking
+pub mod CellWords
 pub mod UnderLock
 pub mod Answering
 pub mod Reading
@@ -8,3 +9,4 @@ pub mod Closing
 pub mod Waiting
 pub mod Again
 pub mod Examples
+pub mod CellExamples

@@ -1,6 +1,7 @@
--- What is done under the lock: a cell is loaded or stored, and the operation takes effect.
-use Rattle.std.proofs.Common.{◌≡◌, ℕ, ◌+◌, ◌-◌, ◌%◌, ◌<◌, [], ◌∷◌, refl, ap, sym, subst, ◌∙◌}
-use Rattle.rgo_core.specs.Channels.Controls.{closed_of, control, count_of, extent, head_of}
+-- What is done under the lock with a cell that is reached: it is loaded or stored, and the operation takes effect.
+use Rattle.std.proofs.Common.{◌≡◌, ℕ, suc, ◌+◌, ◌%◌, ◌<◌, [], ◌∷◌, ◌++◌, refl, ap, sym, subst, ◌∙◌}
+use Rattle.rgo_core.specs.Channels.Controls.{count_of, extent, head_of}
+use Rattle.rgo_core.specs.Channels.Locking.{IsCell, IsSpare}
 use Rattle.rgo_core.specs.Channels.Records.{Read, Rec as SideRec, Wrote, with_hold}
 use Rattle.rgo_core.specs.Rule.Views.{Me}
 use Rattle.rgo_core.specs.Rule.declared.accesses.Kind.TheVariants.{Commit, LoadCell, StoreCell}
@@ -11,40 +12,122 @@ use Rattle.rgo_core.specs.Core.{Setup}
 use Rattle.rgo_core.specs.Records.{Record}
 use Rattle.rgo_core_steps.specs.Accesses.{given_type}
 use Rattle.rgo_core_steps.specs.After.{committing}
-use Rattle.rgo_core_steps.specs.Calls.{Did, accessing}
+use Rattle.rgo_core_steps.specs.Calls.{Did, accessing, waited}
 use Rattle.rgo_core_steps.specs.Channels.{CanLoadCell, CanMeet, CanOffer, CanReceive, CanSend, CanStoreCell, found_by, value_by}
 use Rattle.rgo_core_steps.specs.Seats.{Left, Stored, mine}
 use Rattle.rgo_core_steps.proofs.Calling.{did_as, did_one, did_then, left_record}
-use Rattle.rgo_chan.specs.Answers.{Holds, commits, loads_cell, stores_cell}
+use Rattle.rgo_chan.specs.Answers.{Holds, IsReached, cell_word, commits, free_cell, loads_cell, numbers, reaches, stores_cell}
 use Rattle.rgo_chan.specs.Before.{ReceivesAt, SendsAt}
 use Rattle.rgo_chan.specs.Ready.{HasNoOffer, HasOffer, HasRoom, HasValue}
 use Rattle.rgo_chan.proofs.Carrying.{committed_as, committed_counts, receives_as, sends_as, type_as}
-use Rattle.rgo_chan.proofs.Cells.{next_spare, only_spare}
+use Rattle.rgo_chan.proofs.Cells.{next_spare}
+use Rattle.rgo_chan.proofs.CellWords.{reached_commit, reached_offer}
 
 module _ (T : Setup) (at size n : ℕ) where
-  -- ---- before the access to the cell
+  -- ---- the cell is reached, and not yet accessed
 
-  pub can_push : (c : Record) (cell : ℕ) → Holds at size n c.side → HasRoom size n → cell ≡ (head_of n + count_of n) % size
-      → CanStoreCell c at cell
-  can_push c cell held room is = record {
-    n = n;
-    size = size;
-    locked = held.0;
-    sized = held.1;
-    spare = subst (λ i. Rattle.rgo_core.specs.Channels.Locking.IsSpare n size i) (sym is) (next_spare n size room.1);
-  }
+  module _ (c : Record) (m v : Me Record) (s r cell word : ℕ) (held : Holds at size n c.side) (reach : IsReached T at size cell word c m s v r) where
+    is_reached : mine T v ≡ waited (numbers T size) c reach.side
+    is_reached = reach.did.made.after
 
-  pub can_load : (c : Record) (cell : ℕ) → Holds at size n c.side → cell < extent size → CanLoadCell c at cell
-  can_load c cell held within = record { n = n; size = size; locked = held.0; sized = held.1; within = within }
+    pub held_still : Holds at size n (mine T v).side
+    held_still = (
+      ap (λ (d : Record). d.side.hold) is_reached ∙ (reach.hold ∙ held.0),
+      ap (λ (d : Record). d.side.size) is_reached ∙ (reach.sized ∙ held.1),
+    )
 
-  module _ (m v : Me Record) (held : Holds at size n (mine T m).side) where
+    pub frame_still : (mine T v).frame ≡ c.frame
+    frame_still = ap (λ (d : Record). d.frame) is_reached
+
+    there_still : IsCell T.sizes.page_words (mine T v).side at size cell word
+    there_still = subst (λ (d : Record). IsCell T.sizes.page_words d.side at size cell word) (sym is_reached) reach.there
+
+    pub can_store : IsSpare n size cell → CanStoreCell T (mine T v) at cell word
+    can_store spare = record {
+      n = n;
+      size = size;
+      locked = held_still.0;
+      sized = held_still.1;
+      spare = spare;
+      is_there = there_still;
+    }
+
+    pub can_load : cell < extent size → CanLoadCell T (mine T v) at cell word
+    can_load within = record {
+      n = n;
+      size = size;
+      locked = held_still.0;
+      sized = held_still.1;
+      within = within;
+      is_there = there_still;
+    }
+
+    -- the accesses with those that reach the cell before them
+
+    pub pushed_there : (value : ℕ) → SendsAt T c at value → cell ≡ free_cell size n → (w : Me Record) (u : ℕ)
+        → (x y : ℕ)
+        × Did T v r (λ g. stores_cell word x value g ∷ commits at y (n + 4) g ∷ []) (committing T.code (accessing 1 (mine T v)) 0) w u
+        → (k x y : ℕ)
+        × Did T m s
+        (λ g. reaches T at size (free_cell size n) k g ++ stores_cell (cell_word T at size (free_cell size n) k) x value g
+        ∷ commits at y (n + 4) g ∷ [])
+        (committing T.code (accessing (suc (numbers T size)) c) 0) w u
+    pushed_there value here is w u p = (
+      reach.k,
+      p.0,
+      p.1,
+      subst (λ i. Did T m s
+          (λ g. reaches T at size i reach.k g ++ stores_cell (cell_word T at size i reach.k) p.0 value g ∷ commits at p.1 (n + 4) g ∷ [])
+          (committing T.code (accessing (suc (numbers T size)) c) 0) w u) is
+          (subst (λ i. Did T m s (λ g. reaches T at size cell reach.k g ++ stores_cell i p.0 value g ∷ commits at p.1 (n + 4) g ∷ [])
+          (committing T.code (accessing (suc (numbers T size)) c) 0) w u) reach.is
+          (reached_commit T at size cell word c m v w s r u reach here.here 0 p.2)),
+    )
+
+    pub received_there : (value x : ℕ) → ReceivesAt T c at → (i : ℕ) → cell ≡ i → (w : Me Record) (u : ℕ)
+        → (y : ℕ)
+        × Did T v r (λ g. loads_cell word value g ∷ commits at y x g ∷ []) (committing T.code (accessing 1 (mine T v)) value) w u
+        → (k y : ℕ)
+        × Did T m s (λ g. reaches T at size i k g ++ loads_cell (cell_word T at size i k) value g ∷ commits at y x g ∷ [])
+        (committing T.code (accessing (suc (numbers T size)) c) value) w u
+    received_there value x here i is w u p = (
+      reach.k,
+      p.0,
+      subst (λ i. Did T m s
+          (λ g. reaches T at size i reach.k g ++ loads_cell (cell_word T at size i reach.k) value g ∷ commits at p.0 x g ∷ [])
+          (committing T.code (accessing (suc (numbers T size)) c) value) w u) is
+          (subst (λ i. Did T m s (λ g. reaches T at size cell reach.k g ++ loads_cell i value g ∷ commits at p.0 x g ∷ [])
+          (committing T.code (accessing (suc (numbers T size)) c) value) w u) reach.is
+          (reached_commit T at size cell word c m v w s r u reach here.1 value p.1)),
+    )
+
+    pub put_up_there : (value : ℕ) (w : Me Record) (u : ℕ)
+        → (x y : ℕ)
+        × Did T v r (λ g. stores_cell word x value g ∷ commits at y (n + 4) g ∷ []) (offers (accessing 1 (mine T v)) at) w u
+        → (k x y : ℕ)
+        × Did T m s
+        (λ g. reaches T at size cell k g ++ stores_cell (cell_word T at size cell k) x value g ∷ commits at y (n + 4) g ∷ [])
+        (offers (accessing (suc (numbers T size)) c) at) w u
+    put_up_there value w u p = (
+      reach.k,
+      p.0,
+      p.1,
+      subst (λ i. Did T m s (λ g. reaches T at size cell reach.k g ++ stores_cell i p.0 value g ∷ commits at p.1 (n + 4) g ∷ [])
+          (offers (accessing (suc (numbers T size)) c) at) w u) reach.is
+          (reached_offer T at size cell word c m v w s r u reach p.2),
+    )
+
+  pub spare_cell : (cell : ℕ) → HasRoom size n → cell ≡ (head_of n + count_of n) % size → IsSpare n size cell
+  spare_cell cell room is = subst (λ i. IsSpare n size i) (sym is) (next_spare n size room.1)
+
+  module _ (m v : Me Record) (held : Holds at size n (mine T m).side) (cell word : ℕ) where
     abbrev c : Record
     c = mine T m
 
     -- ---- a cell was stored
 
-    module _ (cell value : ℕ) (here : SendsAt T c at value)
-        (a : Stored T StoreCell (at + 2 + cell) value (knows c (with_hold c.side (Wrote at (found_by c.side.hold) cell value))) m v) where
+    module _ (value : ℕ) (here : SendsAt T c at value)
+        (a : Stored T StoreCell word value (knows c (with_hold c.side (Wrote at (found_by c.side.hold) cell value))) m v) where
       abbrev wrote : SideRec
       wrote = with_hold c.side (Wrote at (found_by c.side.hold) cell value)
 
@@ -74,26 +157,24 @@ module _ (T : Setup) (at size n : ℕ) where
         first = is;
       }
 
-      pub pushed : (w : Me Record) (s t u : ℕ) → t ≡ s + 1 → u ≡ t + 1 → cell ≡ (head_of n + count_of n) % size
+      pub pushed : (w : Me Record) (s t u : ℕ) → t ≡ s + 1 → u ≡ t + 1
           → Stored T Commit at (n + 4) (committing T.code (mine T v) 0) v w
           → (x y : ℕ)
-          × Did T m s (λ g. stores_cell at ((head_of n + count_of n) % size) x value g ∷ commits at y (n + 4) g ∷ [])
-          (committing T.code (accessing 1 c) 0) w u
-      pushed w s t u one two is b = (
+          × Did T m s (λ g. stores_cell word x value g ∷ commits at y (n + 4) g ∷ []) (committing T.code (accessing 1 c) 0) w u
+      pushed w s t u one two b = (
         a.0,
         b.0,
-        subst (λ i. Did T m s (λ g. stores_cell at i a.0 value g ∷ commits at b.0 (n + 4) g ∷ []) (committing T.code (accessing 1 c) 0) w u) is
-            (did_as T m w (committing T.code (mine T v) 0) (committing T.code (accessing 1 c) 0) s u
+        did_as T m w (committing T.code (mine T v) 0) (committing T.code (accessing 1 c) 0) s u
             (ap (λ (d : Record). committing T.code d 0) is_stored ∙ committed_as here.here 1 wrote 0)
             (did_then T m v w (knows c wrote) (committing T.code (mine T v) 0) s t u
             (did_one T m v (knows c wrote) a.1 (λ q. q) refl s t one)
-            (did_one T v w (committing T.code (mine T v) 0) b.1 (λ q. q) (committed_counts still.here 0) t u two))),
+            (did_one T v w (committing T.code (mine T v) 0) b.1 (λ q. q) (committed_counts still.here 0) t u two)),
       )
 
     -- ---- a cell was loaded
 
-    module _ (cell value : ℕ) (here : ReceivesAt T c at)
-        (a : Left T LoadCell (at + 2 + cell) (λ x. x)
+    module _ (value : ℕ) (here : ReceivesAt T c at)
+        (a : Left T LoadCell word (λ x. x)
         (λ x d. d ≡ knows c (with_hold c.side (Read at (found_by c.side.hold) cell x))) m value v) where
       abbrev read : SideRec
       read = with_hold c.side (Read at (found_by c.side.hold) cell value)
@@ -121,8 +202,9 @@ module _ (T : Setup) (at size n : ℕ) where
       }
 
       -- the operation takes effect with the word that was loaded
-      pub received : (w : Me Record) (s t u : ℕ) → t ≡ s + 1 → u ≡ t + 1 → (x : ℕ) → Stored T Commit at x (committing T.code (mine T v) (value_by (mine T v).side.hold)) v w
-          → (y : ℕ) × Did T m s (λ g. loads_cell at cell value g ∷ commits at y x g ∷ []) (committing T.code (accessing 1 c) value) w u
+      pub received : (w : Me Record) (s t u : ℕ) → t ≡ s + 1 → u ≡ t + 1 → (x : ℕ)
+          → Stored T Commit at x (committing T.code (mine T v) (value_by (mine T v).side.hold)) v w
+          → (y : ℕ) × Did T m s (λ g. loads_cell word value g ∷ commits at y x g ∷ []) (committing T.code (accessing 1 c) value) w u
       received w s t u one two x b = (
         b.0,
         did_as T m w (committing T.code (mine T v) (value_by (mine T v).side.hold)) (committing T.code (accessing 1 c) value) s u
@@ -138,68 +220,49 @@ module _ (T : Setup) (at size n : ℕ) where
       leads p = subst (λ ty. Points T ty value) (type_as T c (mine T v) (ap (λ (d : Record). d.frame) is_loaded))
           (subst (Points T (given_type T (mine T v))) (ap value_by read_is) p)
 
-      -- the oldest value of a buffer
-      pub popped : (w : Me Record) (s t u : ℕ) → t ≡ s + 1 → u ≡ t + 1 → cell ≡ head_of n
-          → Stored T Commit at (control (closed_of n) (count_of n - 1) ((head_of n + 1) % size))
-          (committing T.code (mine T v) (value_by (mine T v).side.hold)) v w
-          → (y : ℕ)
-          × Did T m s
-          (λ g. loads_cell at (head_of n) value g
-          ∷ commits at y (control (closed_of n) (count_of n - 1) ((head_of n + 1) % size)) g ∷ [])
-          (committing T.code (accessing 1 c) value) w u
-      popped w s t u one two is b =
-          let r = received w s t u one two (control (closed_of n) (count_of n - 1) ((head_of n + 1) % size)) b in (
-            r.0,
-            subst (λ i. Did T m s
-                (λ g. loads_cell at i value g ∷ commits at r.0 (control (closed_of n) (count_of n - 1) ((head_of n + 1) % size)) g ∷ [])
-                (committing T.code (accessing 1 c) value) w u) is r.1,
-          )
-
 -- ---- without a buffer
 
-module _ (T : Setup) (at n : ℕ) where
-  pub can_put : (c : Record) → Holds at 0 n c.side → HasNoOffer 0 n → CanStoreCell c at 0
-  can_put c held none = record { n = n; size = 0; locked = held.0; sized = held.1; spare = only_spare n none.2 }
+module _ (T : Setup) (at n : ℕ) (m v : Me Record) (held : Holds at 0 n (mine T m).side) (word : ℕ) where
+  module _ (value : ℕ) (here : SendsAt T (mine T m) at value)
+      (a : Stored T StoreCell word value
+      (knows (mine T m) (with_hold (mine T m).side (Wrote at (found_by (mine T m).side.hold) 0 value))) m v) where
+    pub can_offer : HasNoOffer 0 n → CanOffer T (mine T v) at n
+    can_offer none =
+        let x = still T at 0 n m v held 0 word value here a in record {
+          to = x.to;
+          sent = x.sent;
+          here = x.here;
+          wrote = wrote_is T at 0 n m v held 0 word value here a ∙ ap (Wrote at n 0) (sym x.word);
+          sized = sized_is T at 0 n m v held 0 word value here a ∙ held.1;
+          is_open = none.0;
+          none = none.2;
+        }
 
-  module _ (m v : Me Record) (held : Holds at 0 n (mine T m).side) where
-    module _ (value : ℕ) (here : SendsAt T (mine T m) at value)
-        (a : Stored T StoreCell (at + 2 + 0) value
-        (knows (mine T m) (with_hold (mine T m).side (Wrote at (found_by (mine T m).side.hold) 0 value))) m v) where
-      pub can_offer : HasNoOffer 0 n → CanOffer T (mine T v) at n
-      can_offer none =
-          let x = still T at 0 n m v held 0 value here a in record {
-            to = x.to;
-            sent = x.sent;
-            here = x.here;
-            wrote = wrote_is T at 0 n m v held 0 value here a ∙ ap (Wrote at n 0) (sym x.word);
-            sized = sized_is T at 0 n m v held 0 value here a ∙ held.1;
-            is_open = none.0;
-            none = none.2;
-          }
+    pub put_up : (w : Me Record) (s t u : ℕ) → t ≡ s + 1 → u ≡ t + 1 → Stored T Commit at (n + 4) (offers (mine T v) at) v w
+        → (x y : ℕ)
+        × Did T m s (λ g. stores_cell word x value g ∷ commits at y (n + 4) g ∷ []) (offers (accessing 1 (mine T m)) at) w u
+    put_up w s t u one two b =
+        let e = is_stored T at 0 n m v held 0 word value here a in
+        let k = knows (mine T m) (wrote T at 0 n m v held 0 word value here a) in (
+          a.0,
+          b.0,
+          did_as T m w (offers (mine T v) at) (offers (accessing 1 (mine T m)) at) s u (ap (λ (d : Record). offers d at) e)
+              (did_then T m v w k (offers (mine T v) at) s t u
+              (did_one T m v k a.1 (λ q. q) refl s t one)
+              (did_one T v w (offers (mine T v) at) b.1 (λ q. q) refl t u two)),
+        )
 
-      pub put_up : (w : Me Record) (s t u : ℕ) → t ≡ s + 1 → u ≡ t + 1 → Stored T Commit at (n + 4) (offers (mine T v) at) v w
-          → (x y : ℕ) × Did T m s (λ g. stores_cell at 0 x value g ∷ commits at y (n + 4) g ∷ []) (offers (accessing 1 (mine T m)) at) w u
-      put_up w s t u one two b =
-          let e = is_stored T at 0 n m v held 0 value here a in (
-            a.0,
-            b.0,
-            did_as T m w (offers (mine T v) at) (offers (accessing 1 (mine T m)) at) s u (ap (λ (d : Record). offers d at) e)
-                (did_then T m v w (knows (mine T m) (wrote T at 0 n m v held 0 value here a)) (offers (mine T v) at) s t u
-                (did_one T m v (knows (mine T m) (wrote T at 0 n m v held 0 value here a)) a.1 (λ q. q) refl s t one)
-                (did_one T v w (offers (mine T v) at) b.1 (λ q. q) refl t u two)),
-          )
-
-    module _ (value : ℕ) (here : ReceivesAt T (mine T m) at)
-        (a : Left T LoadCell (at + 2 + 0) (λ x. x)
-        (λ x d. d ≡ knows (mine T m) (with_hold (mine T m).side (Read at (found_by (mine T m).side.hold) 0 x))) m value v) where
-      pub can_meet : HasOffer 0 n → CanMeet T (mine T v) at n
-      can_meet offer =
-          let x = yet T at 0 n m v held 0 value here a in record {
-            to = x.0;
-            value = value;
-            here = x.1;
-            read = read_is T at 0 n m v held 0 value here a;
-            sized = ap (λ (d : Record). d.side.size) (is_loaded T at 0 n m v held 0 value here a) ∙ held.1;
-            is_open = offer.0;
-            offered = offer.2;
-          }
+  module _ (value : ℕ) (here : ReceivesAt T (mine T m) at)
+      (a : Left T LoadCell word (λ x. x)
+      (λ x d. d ≡ knows (mine T m) (with_hold (mine T m).side (Read at (found_by (mine T m).side.hold) 0 x))) m value v) where
+    pub can_meet : HasOffer 0 n → CanMeet T (mine T v) at n
+    can_meet offer =
+        let x = yet T at 0 n m v held 0 word value here a in record {
+          to = x.0;
+          value = value;
+          here = x.1;
+          read = read_is T at 0 n m v held 0 word value here a;
+          sized = ap (λ (d : Record). d.side.size) (is_loaded T at 0 n m v held 0 word value here a) ∙ held.1;
+          is_open = offer.0;
+          offered = offer.2;
+        }

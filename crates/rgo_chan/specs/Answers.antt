@@ -1,15 +1,16 @@
 -- What each operation on a channel answers, which accesses its goroutine has made for that, and what its record is then. `c` is the
 -- record before them; m and w are what the seat knew before and knows after; s and t are the numbers of counted accesses.
-use Rattle.std.specs.Prelude.{◌≡◌, ◌≢◌, ◌⊎◌, ◌+◌, ◌-◌, ◌%◌, ◌<◌, ◌≤◌, ℕ, List, [], ◌∷◌, ◌++◌}
-use Rattle.rgo_core.specs.Channels.Controls.{closed_of, control, count_of, extent, head_of}
+use Rattle.std.specs.Prelude.{◌≡◌, ◌≢◌, ◌⊎◌, ◌+◌, ◌-◌, ◌/◌, ◌%◌, ◌<◌, ◌≤◌, ℕ, List, [], ◌∷◌, ◌++◌, if◌then◌else◌}
+use Rattle.rgo_core.specs.Channels.Controls.{closed_of, control, count_of, extent, head_of, spreads, tail_words}
+use Rattle.rgo_core.specs.Channels.Locking.{IsCell}
 use Rattle.rgo_core.specs.Channels.Records.{Locked, Rec as SideRec, Sized, with_look, with_own_look, with_size}
 use Rattle.rgo_core.specs.Rule.Histories.{access}
 use Rattle.rgo_core.specs.Rule.Views.{Me}
 use Rattle.rgo_core.specs.Rule.declared.accesses.Access.{Access}
-use Rattle.rgo_core.specs.Rule.declared.accesses.Kind.TheVariants.{Commit, Load, LoadCell, LoadControl, LockChannel, StoreCell}
+use Rattle.rgo_core.specs.Rule.declared.accesses.Kind.TheVariants.{Commit, Load, LoadCell, LoadControl, LoadIndex, LockChannel, StoreCell}
 use Rattle.rgo_core.specs.Bounds.{Points}
 use Rattle.rgo_core.specs.CommitMoves.{offers}
-use Rattle.rgo_core.specs.Memory.Words.{all_words}
+use Rattle.rgo_core.specs.Memory.Words.{all_words, cell_at}
 use Rattle.rgo_core.specs.Core.{Setup, layout}
 use Rattle.rgo_core.specs.Records.{Record}
 use Rattle.rgo_core_steps.specs.Accesses.{given_type}
@@ -40,18 +41,41 @@ module _ (at : ℕ) where
   abbrev pub misses : (k g : ℕ) → Access
   misses k g = access g LockChannel at k k
 
-  abbrev pub loads_cell : (cell value g : ℕ) → Access
-  loads_cell cell value g = access g LoadCell (at + 2 + cell) value value
-
-  abbrev pub stores_cell : (cell old value g : ℕ) → Access
-  stores_cell cell old value g = access g StoreCell (at + 2 + cell) old value
-
   abbrev pub commits : (old new g : ℕ) → Access
   commits old new g = access g Commit at old new
 
   -- what a record knows of channels after it has found this capacity and this control
   abbrev pub looked : SideRec → (size n : ℕ) → SideRec
   looked side size n = with_look (with_size side at size) at n
+
+-- ---- cells
+
+abbrev pub loads_cell : (word value g : ℕ) → Access
+loads_cell word value g = access g LoadCell word value value
+
+abbrev pub stores_cell : (word old value g : ℕ) → Access
+stores_cell word old value g = access g StoreCell word old value
+
+-- how many page numbers are loaded to reach a cell of a channel of this capacity: one if it is spread
+abbrev pub numbers : Setup → (size : ℕ) → ℕ
+numbers T size = if spreads T.sizes.page_words size then 1 else 0
+
+module _ (T : Setup) (at size cell : ℕ) where
+  -- If the channel is spread, the number of the cell's page is loaded, plus 1, which is k; else k is nothing.
+  abbrev pub reaches : (k g : ℕ) → List Access
+  reaches k g = if spreads T.sizes.page_words size then access g LoadIndex (at + 2 + cell / T.sizes.page_words) k k ∷ [] else []
+
+  -- the word of the cell: in that page, or after the capacity
+  abbrev pub cell_word : (k : ℕ) → ℕ
+  cell_word k = if spreads T.sizes.page_words size then cell_at (layout T) (k - 1) (cell % T.sizes.page_words) else at + 2 + cell
+
+-- the first cell that is free
+abbrev pub free_cell : (size n : ℕ) → ℕ
+free_cell size n = (head_of n + count_of n) % size
+
+-- the control after a receive of the oldest value
+abbrev pub without_oldest : (size n : ℕ) → ℕ
+without_oldest size n = control (closed_of n) (count_of n - 1) ((head_of n + 1) % size)
 
 -- ---- answers
 
@@ -60,15 +84,17 @@ module _ (T : Setup) (at : ℕ) (c : Record) where
   -- control; it was closed.
   abbrev pub Sends : (value : ℕ) → Tried → (m : Me Record) (s : ℕ) → (w : Me Record) (t : ℕ) → Type 0
   Sends value (Done v) m s w t =
-      (v ≡ 0) × (size n x y : ℕ) × IsUnlocked n × HasRoom size n
+      (v ≡ 0) × (size n k x y : ℕ) × IsUnlocked n × HasRoom size n
       × Did T m s
-      (λ g. looks at size n g ++ locks at n g ∷ stores_cell at ((head_of n + count_of n) % size) x value g
-      ∷ commits at y (n + 4) g ∷ [])
-      (committing T.code (accessing 4 c) 0) w t
+      (λ g. looks at size n g ++ locks at n g ∷ reaches T at size (free_cell size n) k g
+      ++ stores_cell (cell_word T at size (free_cell size n) k) x value g ∷ commits at y (n + 4) g ∷ [])
+      (committing T.code (accessing (4 + numbers T size) c) 0) w t
   Sends value Offered m s w t =
-      (n x y : ℕ) × IsUnlocked n × HasNoOffer 0 n
-      × Did T m s (λ g. looks at 0 n g ++ locks at n g ∷ stores_cell at 0 x value g ∷ commits at y (n + 4) g ∷ [])
-      (offers (accessing 4 c) at) w t
+      (n k x y : ℕ) × IsUnlocked n × HasNoOffer 0 n
+      × Did T m s
+      (λ g. looks at 0 n g ++ locks at n g ∷ reaches T at 0 0 k g ++ stores_cell (cell_word T at 0 0 k) x value g
+      ∷ commits at y (n + 4) g ∷ [])
+      (offers (accessing (4 + numbers T 0) c) at) w t
   Sends value NotReady m s w t =
       (size n : ℕ) × IsUnlocked n × IsFull size n
       × Did T m s (looks at size n) (waited 2 c (looked at c.side size n)) w t
@@ -84,11 +110,11 @@ module _ (T : Setup) (at : ℕ) (c : Record) where
   -- pages.
   abbrev pub ReceivesValue : (v : ℕ) → (m : Me Record) (s : ℕ) → (w : Me Record) (t : ℕ) → Type 0
   ReceivesValue v m s w t =
-      (size n y : ℕ) × IsUnlocked n × HasValue size n × Points T (given_type T c) v
+      (size n k y : ℕ) × IsUnlocked n × HasValue size n × Points T (given_type T c) v
       × Did T m s
-      (λ g. looks at size n g ++ locks at n g ∷ loads_cell at (head_of n) v g
-      ∷ commits at y (control (closed_of n) (count_of n - 1) ((head_of n + 1) % size)) g ∷ [])
-      (committing T.code (accessing 4 c) v) w t
+      (λ g. looks at size n g ++ locks at n g ∷ reaches T at size (head_of n) k g
+      ++ loads_cell (cell_word T at size (head_of n) k) v g ∷ commits at y (without_oldest size n) g ∷ [])
+      (committing T.code (accessing (4 + numbers T size) c) v) w t
 
   abbrev pub ReceivesZero : (v : ℕ) → (m : Me Record) (s : ℕ) → (w : Me Record) (t : ℕ) → Type 0
   ReceivesZero v m s w t =
@@ -97,9 +123,10 @@ module _ (T : Setup) (at : ℕ) (c : Record) where
 
   abbrev pub TakesOffer : (v : ℕ) → (m : Me Record) (s : ℕ) → (w : Me Record) (t : ℕ) → Type 0
   TakesOffer v m s w t =
-      (n y : ℕ) × IsUnlocked n × HasOffer 0 n × Points T (given_type T c) v
-      × Did T m s (λ g. looks at 0 n g ++ locks at n g ∷ loads_cell at 0 v g ∷ commits at y (n + 4) g ∷ [])
-      (committing T.code (accessing 4 c) v) w t
+      (n k y : ℕ) × IsUnlocked n × HasOffer 0 n × Points T (given_type T c) v
+      × Did T m s
+      (λ g. looks at 0 n g ++ locks at n g ∷ reaches T at 0 0 k g ++ loads_cell (cell_word T at 0 0 k) v g ∷ commits at y (n + 4) g ∷ [])
+      (committing T.code (accessing (4 + numbers T 0) c) v) w t
 
   -- A value was received; the channel was empty; it was locked, or the exchange found another control.
   abbrev pub Receives : Tried → (m : Me Record) (s : ℕ) → (w : Me Record) (t : ℕ) → Type 0
@@ -149,15 +176,27 @@ module _ (T : Setup) (at : ℕ) (c : Record) where
 
 -- ---- what the parts of an operation leave
 
--- The capacity and the control were loaded. What a commit adds to the control fits; the oldest cell is one of the cells, and all of them
--- are words of the table.
+-- The capacity and the control were loaded. What a commit adds to the control fits; the oldest cell is one of the cells. The words that
+-- follow the capacity are words of the table: the cells, or if the channel is spread, the numbers of their pages.
 pub record Looked (T : Setup) (at : ℕ) (c : Record) (size n : ℕ) (m : Me Record) (s : ℕ) (w : Me Record) (t : ℕ) : Type 0 where
   pub did : Did T m s (looks at size n) (waited 2 c (looked at c.side size n)) w t
   pub fits : n + 4 < 18446744073709551616
   pub head : head_of n < extent size
   pub small : size < 1073741820
-  pub inside : at + 2 + extent size ≤ all_words (layout T)
+  pub inside : at + 2 + tail_words T.sizes.page_words size ≤ all_words (layout T)
 
 -- the goroutine has locked the channel, whose control was n, and knows its capacity
 abbrev pub Holds : (at size n : ℕ) → SideRec → Type 0
 Holds at size n side = (side.hold ≡ Locked at n) × (side.size ≡ Sized at size)
+
+-- The word of a cell is known, by number k of its page where the channel is spread; it is a word of the table. The record, which was c,
+-- has locked the channel as before.
+pub record IsReached (T : Setup) (at size cell word : ℕ) (c : Record) (m : Me Record) (s : ℕ) (w : Me Record) (t : ℕ) : Type 0 where
+  pub k : ℕ
+  pub side : SideRec
+  pub is : word ≡ cell_word T at size cell k
+  pub inside : word < all_words (layout T)
+  pub hold : side.hold ≡ c.side.hold
+  pub sized : side.size ≡ c.side.size
+  pub there : IsCell T.sizes.page_words side at size cell word
+  pub did : Did T m s (reaches T at size cell k) (waited (numbers T size) c side) w t

@@ -1,9 +1,9 @@
 -- What the record of a goroutine says before an operation on a channel. `channel` is the word of the channel in the frame, which may be
 -- nil; `base` is the word of the table that has address 0.
-use Rattle.std.specs.Prelude.{◌≡◌, ◌≢◌, ◌+◌, ◌-◌, ◌≤◌, ℕ, List, [], ◌∷◌, Option}
+use Rattle.std.specs.Prelude.{◌≡◌, ◌≢◌, ◌+◌, ◌-◌, ◌<◌, ◌≤◌, ℕ, List, [], ◌∷◌, Option}
 use Rattle.rgo_sound.specs.Code.Code.{Do}
 use Rattle.rgo_core.specs.Frames.WordFrames.{word_at}
-use Rattle.rgo_core.specs.Memory.Words.{all_words}
+use Rattle.rgo_core.specs.Memory.Words.{all_words, base as base_of}
 use Rattle.rgo_sound.specs.Typed.declared.actions.Action.TheVariants.{Close, Recv, Send}
 use Rattle.rgo_core.specs.AtChannels.{Operates}
 use Rattle.rgo_core.specs.Core.{Setup, layout}
@@ -54,6 +54,10 @@ ClosesAt T c at = (to : Option ℕ) × Operates T c to Close [] at
 abbrev pub control_at : (base channel : ℕ) → ℕ
 control_at base channel = base + (channel - 1)
 
--- if it is not nil, its control, its capacity and its first cell are words of the table
+-- if it is not nil, its control, its capacity and the word after them are words of the table
 abbrev pub LiesIn : Setup → (base channel : ℕ) → Type 0
 LiesIn T base channel = channel ≢ 0 → control_at base channel + 3 ≤ all_words (layout T)
+
+-- the pages of the table begin at this word, and each has so many words, at least one
+abbrev pub IsPaged : Setup → (base page_words : ℕ) → Type 0
+IsPaged T base page_words = (base ≡ base_of (layout T)) × (page_words ≡ T.sizes.page_words) × (0 < page_words)

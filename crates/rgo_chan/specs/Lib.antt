@@ -3,3 +3,4 @@ pub mod Before
 pub mod Answers
 pub mod Waits
 pub mod Examples
+pub mod CellExamples

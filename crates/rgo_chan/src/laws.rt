@@ -1,5 +1,7 @@
 //! What follows from the answers of operations on channels.
+ghost use Rattle.rgo_chan.specs.CellExamples.{CellExamples};
 ghost use Rattle.rgo_chan.specs.Examples.{AnswerExamples, ReadyExamples};
+ghost use Rattle.rgo_sound.specs.Machine.declared.limits.Limits.{Limits};
 ghost use Rattle.rgo_chan.specs.Waits.{AcknowledgeThen, CloseThen, LockWaits, NilReceiveWaits, NilSendWaits, OfferWaits, ReceiveThen, ReceiveWaits, SendThen, SendWaits};
 
 /// A goroutine is blocked at a send, as long as the words are what it found.
@@ -36,4 +38,5 @@ pub fn next_laws()
 pub fn examples()
     ensures ready { ReadyExamples }
     ensures answers { AnswerExamples }
+    ensures cells { (limits : Limits) → CellExamples limits }
 {}

@@ -10,7 +10,8 @@
 //!    effect now, answer `NotReady`; if it ends the run, `Trap`.
 //! 2. Exchange the control that was loaded for the same with the lock bit. If the exchange finds another control, answer `Busy`:
 //!    whatever was decided is void. There is no second try here, and so no loop.
-//! 3. Load or store the one cell that the control names. Nobody else does, since they all find the lock bit.
+//! 3. Load or store the one cell that the control names. Nobody else does, since they all find the lock bit. If the channel does not
+//!    fit a page, load the number of the cell's page before that.
 //! 4. Store the control after the operation, without the lock bit. With this store the operation takes effect.
 //!
 //! The sender of an offer does the same once more after step 4: when it finds phase 2, it stores phase 0, and leaves its send. So a
@@ -22,6 +23,7 @@ pub mod answers;
 pub mod closes;
 pub mod laws;
 mod looks;
+mod reaching;
 pub mod receives;
 pub mod sends;
 

@@ -8,12 +8,11 @@ use Rattle.rgo_core.specs.Memory.Records.{Gave, Giving, Hung, Idle, Past, with_c
 use Rattle.rgo_core.specs.Memory.Words.{head_at, next_at, state_at}
 use Rattle.rgo_core.specs.Memory.declared.layout.TableSizes.{TableSizes}
 use Rattle.rgo_core.specs.Chains.{frees, remembers}
-use Rattle.rgo_core.specs.Claims.{claims}
 use Rattle.rgo_core.specs.Core.{Setup}
 use Rattle.rgo_core.specs.Opening.{first_of}
 use Rattle.rgo_core.specs.Records.{Record, accessed, accesses}
 use Rattle.rgo_core_steps.specs.Grown.{Made}
-use Rattle.rgo_core_steps.specs.Pages.{tried_page}
+use Rattle.rgo_core_steps.specs.Pages.{takes_page, tried_page}
 use Rattle.rgo_core_steps.specs.Searches.{Miss, misses, missing}
 use Rattle.rgo_core_steps.specs.Seats.{Left, Stored, mine}
 use Rattle.rgo_core_steps.proofs.Growing.{made_one, made_then}
@@ -80,7 +79,7 @@ module _ (T : Setup) (z : TableSizes) (slot : ℕ) where
       chained d = record d { clock = accessed (accessed d.clock); memory = with_claim d.memory Idle }
 
       taken_record : List Miss → Record
-      taken_record ts = claims (missing tried_page c ts) page slot
+      taken_record ts = takes_page T (missing tried_page c ts) page slot
 
   -- ---- a page is freed
 

@@ -11,6 +11,7 @@ use Rattle.rgo_core.specs.Frames.Children.{child_records}
 use Rattle.rgo_core.specs.Frames.Records.{Rec as FrameRec}
 use Rattle.rgo_core.specs.Frames.WordFrames.{WordFrame, word_called, words_of}
 use Rattle.rgo_core.specs.Memory.Records.{Calm, Fill, Owes, Rec as MemoryRec}
+use Rattle.rgo_core.specs.Memory.Spread.{table_words}
 use Rattle.rgo_core.specs.Core.{Setup}
 use Rattle.rgo_core.specs.Laws.{first_in}
 use Rattle.rgo_core.specs.Records.{Record, begins_with}
@@ -18,10 +19,10 @@ use Rattle.rgo_core.specs.Regions.{with_holder}
 use Rattle.rgo_core_steps.specs.After.{Position, child_at, child_by, moving, position}
 use Rattle.rgo_core_steps.specs.Counts.{Leaving, created, created_with, sharing, tried_slot}
 use Rattle.rgo_core_steps.specs.Ends.{ending}
-use Rattle.rgo_core_steps.specs.Making.{covers, filling, next_object, next_page, stored_in, with_new_word}
-use Rattle.rgo_core_steps.specs.Pages.{tried_page}
+use Rattle.rgo_core_steps.specs.Making.{covers, filling, filling_apart, next_is_spread, next_object, next_page, stored_in, with_new_word, with_new_word_apart}
+use Rattle.rgo_core_steps.specs.Pages.{takes_page, tried_page}
 use Rattle.rgo_core_steps.proofs.SettledLaws.{settled_kept}
-use Rattle.rgo_core.specs.Claims.{claims}
+use Rattle.rgo_core.specs.Claims.{claims, reserves}
 use Rattle.rgo_pages.specs.Laws.{GiveLaw, GivesTheSame}
 
 either_record : (b : Bool) (c d e : Record) → GivesTheSame c d → GivesTheSame c e → GivesTheSame c (if b then d else e)
@@ -70,6 +71,14 @@ fills T c i = by (next_object T c)
     by None = refl
     by (Some object) = on object (next_page T c)
 
+fills_apart : (T : Setup) (c : Record) (i : ℕ) → GivesTheSame c (filling_apart T c i)
+fills_apart T c i = by (next_object T c)
+  where
+    by : (o : Option Object) → GivesTheSame c (option_map_or (λ (object : Object). with_new_word_apart T c object i) o c)
+    by None = refl
+    by (Some object) =
+        either_record (covers (table_words T.sizes.page_words object) (i ∷ stored_in c.memory.make)) c _ _ (moved T.code c _ (λ p. refl)) refl
+
 ends : (code : Code) (c : Record) (n : ℕ) (mark : Mark) → GivesTheSame c (ending code c n mark)
 ends code c n (Ended end) = refl
 ends code c n (Stopped why) = refl
@@ -101,12 +110,15 @@ give_law = record {
   leave = leaves;
   create = λ c slot n. either_record (n == 0) c (created c slot) (tried_slot c slot) (creates c slot c.frame.holder.duties) refl;
   share = λ c. shares c (sharing c);
-  claim = λ c page slot n. either_record (n == 0) c (claims c page slot) (tried_page c page) refl refl;
+  claim = λ T c page slot n. either_record (n == 0) c (takes_page T c page slot) (tried_page c page)
+      (either_record (next_is_spread T c) c (reserves c page slot) (claims c page slot) refl refl) refl;
   hook = λ c claim. refl;
   look = λ c. refl;
   act = λ code c word. moved code c _ (λ p. refl);
   measure = λ c address elements. refl;
+  locate = λ c address cell page. refl;
   fill = fills;
+  fill_apart = fills_apart;
   print = λ code c n. moved code c _ (λ p. refl);
   start = λ code c n. moved code c _ (λ p. refl);
   refuse = λ c. refl;

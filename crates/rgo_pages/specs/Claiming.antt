@@ -9,20 +9,19 @@ use Rattle.rgo_core.specs.Memory.Pages.{times}
 use Rattle.rgo_core.specs.Memory.Records.{Idle, with_claim}
 use Rattle.rgo_core.specs.Memory.Words.{head_at, next_at, state_at}
 use Rattle.rgo_core.specs.Memory.declared.layout.TableSizes.{TableSizes}
-use Rattle.rgo_core.specs.Claims.{claims}
 use Rattle.rgo_core.specs.Core.{Setup}
 use Rattle.rgo_core.specs.Opening.{first_of}
 use Rattle.rgo_core.specs.Records.{Record, accessed, accesses}
 use Rattle.rgo_core_steps.specs.Grown.{Found, Grew, Made}
-use Rattle.rgo_core_steps.specs.Pages.{tried_page}
+use Rattle.rgo_core_steps.specs.Pages.{takes_page, tried_page}
 use Rattle.rgo_core_steps.specs.Searches.{AreTaken, Miss, Took, TookOne, Tried, TriedAll, around, misses, missing, places_of, upward}
 use Rattle.rgo_core_steps.specs.Seats.{mine}
 
 -- The goroutine of seat m, whose record is c after its local steps, has exchanged the states of pages, each at most once: it found
--- that of this page 0, and has claimed it for this slot, and all before it in use.
+-- that of this page 0, and has claimed it for this slot, as an own page or as one of a spread object, and all before it in use.
 abbrev pub PageTaken : Setup → TableSizes → (slot : ℕ) → (c : Record) → (page : ℕ) → (m w : Me Record) → Type 0
 PageTaken T z s c p m w =
-    TookOne accesses (first_of T.code) ClaimPage (state_at z) tried_page c z.pages p (s + 1) (λ d. claims d p s) m w
+    TookOne accesses (first_of T.code) ClaimPage (state_at z) tried_page c z.pages p (s + 1) (λ d. takes_page T d p s) m w
 
 -- it has exchanged the state of each page once, and found each in use
 abbrev pub AllPagesTried : Setup → TableSizes → (c : Record) → (m w : Me Record) → Type 0
@@ -38,13 +37,13 @@ abbrev pub PagesTried : Setup → TableSizes → (slot first end : ℕ) → (c :
 PagesTried T z s first end c None m w =
     Tried accesses (first_of T.code) ClaimPage (state_at z) tried_page c (upward first (end - first)) m w
 PagesTried T z s first end c (Some p) m w = (first ≤ p) × (p < end)
-    × Took accesses (first_of T.code) ClaimPage (state_at z) tried_page c (upward first (p - first)) p (s + 1) (λ d. claims d p s) m w
+    × Took accesses (first_of T.code) ClaimPage (state_at z) tried_page c (upward first (p - first)) p (s + 1) (λ d. takes_page T d p s) m w
 
 -- the record after a page is claimed for a slot, hung on its chain and linked
-abbrev pub has_claimed : Record → (page slot : ℕ) → Record
-has_claimed c p s = record (claims c p s) {
-  clock = accessed (accessed (claims c p s).clock);
-  memory = with_claim (claims c p s).memory Idle;
+abbrev pub has_claimed : Setup → Record → (page slot : ℕ) → Record
+has_claimed T c p s = record (takes_page T c p s) {
+  clock = accessed (accessed (takes_page T c p s).clock);
+  memory = with_claim (takes_page T c p s).memory Idle;
 }
 
 -- the goroutine has put the page at the head of the chain of the slot, where it found `head`, and has stored that as its next word
@@ -74,7 +73,7 @@ pub record PageClaimed (T : Setup) (z : TableSizes) (slot : ℕ) (c : Record) (p
       ++ access g ClaimPage (state_at z page) 0 (slot + 1)
       ∷ access g HangPage (head_at z slot) head (page + 1)
       ∷ access g LinkPage (next_at z page) next head ∷ [])
-      (has_claimed (missing tried_page c tries) page slot) w
+      (has_claimed T (missing tried_page c tries) page slot) w
 
 -- A search in vain made one exchange for each page, and changed no word. Each page was found in use, and the record remembers it.
 pub record FullPages (T : Setup) (z : TableSizes) (c : Record) (m w : Me Record) : Type 0 where

@@ -1,5 +1,9 @@
 -- The definitions of claims and of chains that are given back, each where it holds and where it must not.
-use Rattle.std.specs.Prelude.{◌≡◌, List, [], ◌∷◌}
+use Rattle.std.specs.Prelude.{◌≡◌, List, [], ◌∷◌, Some}
+use Rattle.rgo_sound.specs.Code.Code.{Do}
+use Rattle.rgo_sound.specs.Machine.declared.limits.Limits.{Limits}
+use Rattle.rgo_sound.specs.Typed.declared.actions.Action.TheVariants as action
+use Rattle.rgo_core.specs.ChannelExamples.{with_words}
 use Rattle.rgo_core.specs.Rule.Histories.{access}
 use Rattle.rgo_core.specs.Rule.Views.{Me}
 use Rattle.rgo_core.specs.Rule.declared.accesses.Kind.TheVariants.{FreePage, LoadNext}
@@ -8,6 +12,7 @@ use Rattle.rgo_core.specs.Memory.Records.{Gave, Idle}
 use Rattle.rgo_core.specs.Memory.declared.layout.TableSizes.{TableSizes}
 use Rattle.rgo_core.specs.Core.{Setup}
 use Rattle.rgo_core.specs.Records.{Record, begins_with}
+use Rattle.rgo_core_steps.specs.MemoryExamples.{doing}
 use Rattle.rgo_pages.specs.Claiming.{PageClaimed, has_claimed}
 use Rattle.rgo_pages.specs.Releasing.{ChainGivenBack, Freed, Leads, freeing, gave_back, giving}
 
@@ -22,6 +27,17 @@ small = record { pages = 10; page_words = 4; slots = 3; variables = 0 }
 -- a record with two pages to free
 abbrev pub owing_two : Record
 owing_two = record (begins_with no_record) { clock = record (begins_with no_record).clock { owed = 2 } }
+
+-- `main` makes a slice, with as many elements as its first variable says, where pages have four words
+abbrev pub slicing : Limits → Setup
+slicing limits = doing (Do (Some 1) action.Slice (0 ∷ []) []) (record { page_words = 4; pages = 10; regions = 3 }) limits
+
+-- of three elements, which fits a page, and of nine
+abbrev pub small_slice : Record
+small_slice = with_words (3 ∷ 0 ∷ [])
+
+abbrev pub spread_slice : Record
+spread_slice = with_words (9 ∷ 0 ∷ [])
 
 pub record PageExamples : Type 0 where
   pub chain : Leads 3 two_pages 0
@@ -38,9 +54,16 @@ pub record PageExamples : Type 0 where
   pub given : (gave_back owing_two 1).memory.give ≡ Gave 1
   -- one access for the head at either end, and two for each page
   pub accesses : (gave_back owing_two 1).clock.accesses ≡ 6
-  pub linked : (has_claimed owing_two 3 1).memory.claim ≡ Idle
-  pub taken : (has_claimed owing_two 3 1).clock.share.taken ≡ 1
-  pub three : (has_claimed owing_two 3 1).clock.accesses ≡ 3
+  pub linked : (T : Setup) → (has_claimed T owing_two 3 1).memory.claim ≡ Idle
+  pub taken : (T : Setup) → (has_claimed T owing_two 3 1).clock.share.taken ≡ 1
+  pub three : (T : Setup) → (has_claimed T owing_two 3 1).clock.accesses ≡ 3
+  -- the page for an object that fits a page is an own page; one for a spread object is reserved, and nobody's own
+  pub own : (limits : Limits) → (has_claimed (slicing limits) small_slice 3 1).memory.fills ≡ record { slot = 1; page = 3; fill = 0 } ∷ []
+  pub unreserved : (limits : Limits) → (has_claimed (slicing limits) small_slice 3 1).memory.reserved.pages ≡ []
+  pub reserved : (limits : Limits) → (has_claimed (slicing limits) spread_slice 3 1).memory.reserved.pages ≡ 3 ∷ []
+  pub not_own : (limits : Limits) → (has_claimed (slicing limits) spread_slice 3 1).memory.fills ≡ []
+  pub also_linked : (limits : Limits) → (has_claimed (slicing limits) spread_slice 3 1).memory.claim ≡ Idle
+  pub also_three : (limits : Limits) → (has_claimed (slicing limits) spread_slice 3 1).clock.accesses ≡ 3
   -- a page that the table does not have
   pub outside : (T : Setup) (c : Record) (m w : Me Record) → PageClaimed T small 1 c 10 m w → ⊥
   -- three pages of a chain that ends with its head

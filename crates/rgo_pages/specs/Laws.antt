@@ -6,7 +6,7 @@ use Rattle.rgo_sound.specs.RegionMachine.States.{Mark}
 use Rattle.rgo_core.specs.Channels.Records.{Rec as SideRec}
 use Rattle.rgo_core.specs.Memory.Records.{Calm, Claim, Closes, Owes, Past, with_claim}
 use Rattle.rgo_core.specs.Memory.Words.{count_at, state_at}
-use Rattle.rgo_core.specs.Accesses.{measures}
+use Rattle.rgo_core.specs.Accesses.{locates, measures}
 use Rattle.rgo_core.specs.AtChannels.{knows}
 use Rattle.rgo_core.specs.Chains.{remembers}
 use Rattle.rgo_core.specs.CommitMoves.{offers}
@@ -15,7 +15,7 @@ use Rattle.rgo_core.specs.Records.{Record, looked}
 use Rattle.rgo_core_steps.specs.After.{acknowledging, acting, child, committing, printing, starting}
 use Rattle.rgo_core_steps.specs.Counts.{Leaving, shared, tries_slot}
 use Rattle.rgo_core_steps.specs.Ends.{ending}
-use Rattle.rgo_core_steps.specs.Making.{filling}
+use Rattle.rgo_core_steps.specs.Making.{filling, filling_apart}
 use Rattle.rgo_core_steps.specs.Pages.{tries_page}
 use Rattle.rgo_core_steps.specs.Seats.{settled_by}
 use Rattle.rgo_core_steps.specs.Starts.{refusing}
@@ -50,12 +50,14 @@ pub record GiveLaw : Type 0 where
   -- no other access does
   pub create : (c : Record) (slot n : ℕ) → GivesTheSame c (tries_slot c slot n)
   pub share : (c : Record) → GivesTheSame c (shared c)
-  pub claim : (c : Record) (page slot n : ℕ) → GivesTheSame c (tries_page c page slot n)
+  pub claim : (T : Setup) (c : Record) (page slot n : ℕ) → GivesTheSame c (tries_page T c page slot n)
   pub hook : (c : Record) (claim : Claim) → GivesTheSame c (remembers c (with_claim c.memory claim))
   pub look : (c : Record) → GivesTheSame c (looked c)
   pub act : (code : Code) (c : Record) (word : ℕ) → GivesTheSame c (acting code c word)
   pub measure : (c : Record) (address elements : ℕ) → GivesTheSame c (measures c address elements)
+  pub locate : (c : Record) (address cell page : ℕ) → GivesTheSame c (locates c address cell page)
   pub fill : (T : Setup) (c : Record) (i : ℕ) → GivesTheSame c (filling T c i)
+  pub fill_apart : (T : Setup) (c : Record) (i : ℕ) → GivesTheSame c (filling_apart T c i)
   pub print : (code : Code) (c : Record) (n : ℕ) → GivesTheSame c (printing code c n)
   pub start : (code : Code) (c : Record) (n : ℕ) → GivesTheSame c (starting code c n)
   pub refuse : (c : Record) → GivesTheSame c (refusing c)

@@ -1,22 +1,24 @@
 //! Words of objects and package variables, each by one access.
 //!
 //! 1. The goroutine that makes an object stores each of its words once (`zero`), in whatever order. Nobody else has its address before
-//!    the last of these stores.
+//!    the last of these stores. Of a spread object it stores the words in several pages (`zero_apart`), and in the lead page the numbers
+//!    of the data pages (`set_index`).
 //! 2. From then on each goroutine that has come to know the address, and has a stake in the region, loads and stores the words (`load`,
 //!    `store`). None is locked: a load finds what the last store to the word has stored, whoever made it.
-//! 3. Before a goroutine accesses an element it loads the length of the slice (`measure`), which is never stored again.
-ghost use Rattle.std.specs.Prelude.{◌≡◌, ◌+◌, ℕ};
-ghost use Rattle.rgo_core.specs.Accesses.{measures};
-ghost use Rattle.rgo_core.specs.Bounds.{LieInPages, Points};
+//! 3. Before a goroutine accesses an element it loads the length of the slice (`measure`), which is never stored again; and before it
+//!    accesses a cell of a spread object, the number of the cell's page (`index`), which is not either.
+ghost use Rattle.std.specs.Prelude.{◌≡◌, ◌+◌, ◌-◌, ◌/◌, ◌%◌, ◌<◌, ℕ};
+ghost use Rattle.rgo_core.specs.Accesses.{IsAtSpread, locates, measures};
+ghost use Rattle.rgo_core.specs.Bounds.{LieInPages, Points, slice_words};
 ghost use Rattle.rgo_core.specs.Core.{layout};
 ghost use Rattle.rgo_core.specs.Links.{IsAtElement};
 ghost use Rattle.rgo_core.specs.Plans.{setup_of};
 ghost use Rattle.rgo_core.specs.Channels.Records.{at_rest};
-ghost use Rattle.rgo_core.specs.Memory.Words.{base, clock_at};
+ghost use Rattle.rgo_core.specs.Memory.Words.{all_words, base, cell_at, clock_at};
 ghost use Rattle.rgo_core.specs.Rule.declared.accesses.Kind.TheVariants as kind;
 ghost use Rattle.rgo_core_steps.specs.Accesses.{LengthOfNil, Loads, Stores, given_type};
 ghost use Rattle.rgo_core_steps.specs.After.{acting};
-ghost use Rattle.rgo_core_steps.specs.Making.{IsNewWord, NewPoints, filling};
+ghost use Rattle.rgo_core_steps.specs.Making.{IsIndex, IsNewWord, IsNewWordApart, NewPoints, NewPointsApart, filling, filling_apart};
 ghost use Rattle.rgo_core_steps.specs.Seats.{HasOne, HasPossible, IsSeatOf, Left, Settles, Stored, settled};
 
 use rgo_core::table::{RunSeat, RunTable};
@@ -49,6 +51,60 @@ pub fn zero<L: Ledger>(
 {
     steps.tick();
     memory::zero(table, seat, behind, word, value, index);
+}
+
+/// The same of a word of a spread object, which lies in the pages that are reserved for it. The numbers of its data pages have to be
+/// stored, too.
+pub fn zero_apart<L: Ledger>(
+    table: &RunTable,
+    seat: &mut RunSeat,
+    behind: u64,
+    word: usize,
+    value: u64,
+    index: usize,
+    steps: &mut Steps<L>,
+)
+    requires own { IsSeatOf seat.old.table_id table.now.shared.table_id word }
+    requires alone { HasOne (setup_of table.now.shared.key) seat.old.me }
+    requires settles { Settles (setup_of table.now.shared.key) behind seat.old.me }
+    requires rests { (settled (setup_of table.now.shared.key) behind seat.old.me).side ≡ at_rest }
+    requires new { let T = setup_of table.now.shared.key in IsNewWordApart T (settled T behind seat.old.me) index word value }
+    ensures own { (seat.new.table_id ≡ seat.old.table_id) × (seat.new.id ≡ seat.old.id) }
+    ensures leaves { let T = setup_of table.now.shared.key in Stored T kind.Fill word value
+        (filling_apart T (settled T behind seat.old.me) index) seat.old.me seat.new.me }
+    ensures points { let T = setup_of table.now.shared.key in NewPointsApart T (settled T behind seat.old.me) index }
+    ensures possible { HasPossible (setup_of table.now.shared.key) seat.new.me }
+    ensures cost { steps.new ≡ steps.old + 1 }
+{
+    steps.tick();
+    memory::zero_apart(table, seat, behind, word, value, index);
+}
+
+/// Stores the number of a data page, plus 1, in the lead page of the object: word `index`, behind the words of the object.
+pub fn set_index<L: Ledger>(
+    table: &RunTable,
+    seat: &mut RunSeat,
+    behind: u64,
+    word: usize,
+    value: u64,
+    index: usize,
+    steps: &mut Steps<L>,
+)
+    requires own { IsSeatOf seat.old.table_id table.now.shared.table_id word }
+    requires alone { HasOne (setup_of table.now.shared.key) seat.old.me }
+    requires settles { Settles (setup_of table.now.shared.key) behind seat.old.me }
+    requires rests { (settled (setup_of table.now.shared.key) behind seat.old.me).side ≡ at_rest }
+    requires new { let T = setup_of table.now.shared.key in
+        (new : IsNewWordApart T (settled T behind seat.old.me) index word value) × IsIndex new }
+    ensures own { (seat.new.table_id ≡ seat.old.table_id) × (seat.new.id ≡ seat.old.id) }
+    ensures leaves { let T = setup_of table.now.shared.key in Stored T kind.StoreIndex word value
+        (filling_apart T (settled T behind seat.old.me) index) seat.old.me seat.new.me }
+    ensures points { let T = setup_of table.now.shared.key in NewPointsApart T (settled T behind seat.old.me) index }
+    ensures possible { HasPossible (setup_of table.now.shared.key) seat.new.me }
+    ensures cost { steps.new ≡ steps.old + 1 }
+{
+    steps.tick();
+    memory::set_index(table, seat, behind, word, value, index);
 }
 
 /// Loads a word as the next instruction: a field, an element, the length of a slice or a package variable. If it is a pointer, a
@@ -101,7 +157,7 @@ pub fn length_of_nil<L: Ledger>(
 }
 
 /// Loads the length of the slice at this address, before the next instruction loads or stores one of its elements. They all lie in
-/// pages.
+/// pages, or if the slice is spread, the numbers of its data pages do.
 pub fn measure<L: Ledger>(
     table: &RunTable,
     seat: &mut RunSeat,
@@ -117,13 +173,43 @@ pub fn measure<L: Ledger>(
     requires at { word ≡ base (layout (setup_of table.now.shared.key)) + address }
     ensures own { (seat.new.table_id ≡ seat.old.table_id) × (seat.new.id ≡ seat.old.id) }
     ensures leaves { let T = setup_of table.now.shared.key in Left T kind.Load word (λ n. n)
-        (λ n d. (d ≡ measures (settled T behind seat.old.me) address n) × LieInPages T address (n + 1))
+        (λ n d. (d ≡ measures (settled T behind seat.old.me) address n) × LieInPages T address (slice_words T n))
         seat.old.me result seat.new.me }
     ensures possible { HasPossible (setup_of table.now.shared.key) seat.new.me }
     ensures cost { steps.new ≡ steps.old + 1 }
 {
     steps.tick();
     memory::measure(table, seat, behind, word, address)
+}
+
+/// Loads the number of the data page, plus 1, that has a cell of the spread object at this address, before the next instruction loads
+/// or stores the cell. So many words of the object are before its cells.
+pub fn index<L: Ledger>(
+    table: &RunTable,
+    seat: &mut RunSeat,
+    behind: u64,
+    word: usize,
+    address: usize,
+    before: usize,
+    cell: usize,
+    steps: &mut Steps<L>,
+) -> u64
+    requires own { IsSeatOf seat.old.table_id table.now.shared.table_id word }
+    requires alone { HasOne (setup_of table.now.shared.key) seat.old.me }
+    requires settles { Settles (setup_of table.now.shared.key) behind seat.old.me }
+    requires spread { let T = setup_of table.now.shared.key in IsAtSpread T (settled T behind seat.old.me) address before cell }
+    requires at { let T = setup_of table.now.shared.key in
+        word ≡ base (layout T) + (address + (before + cell / T.sizes.page_words)) }
+    ensures own { (seat.new.table_id ≡ seat.old.table_id) × (seat.new.id ≡ seat.old.id) }
+    ensures leaves { let T = setup_of table.now.shared.key in Left T kind.LoadIndex word (λ n. n)
+        (λ n d. (d ≡ locates (settled T behind seat.old.me) address cell (n - 1)) × (0 < n)
+        × (cell_at (layout T) (n - 1) (cell % T.sizes.page_words) < all_words (layout T)))
+        seat.old.me result seat.new.me }
+    ensures possible { HasPossible (setup_of table.now.shared.key) seat.new.me }
+    ensures cost { steps.new ≡ steps.old + 1 }
+{
+    steps.tick();
+    memory::index(table, seat, behind, word, address, before, cell)
 }
 
 /// Stores a word as the next instruction: to a field, an element or a package variable.

@@ -23,7 +23,8 @@ use std::sync::ledger::Ledger;
 #[derive(Clone, Copy, Debug, PartialEq, Eq)]
 pub struct NoPage;
 
-/// Claims a page for the slot of the region in which the next instruction makes an object. The search begins at page 0.
+/// Claims a page for the slot of the region in which the next instruction makes an object: the own page there, or if the object is
+/// spread, one that is reserved for it. The search begins at page 0.
 pub fn claim<L: Ledger>(
     table: &RunTable,
     seat: &mut RunSeat,

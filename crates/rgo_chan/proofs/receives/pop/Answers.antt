@@ -1,29 +1,80 @@
+use Rattle.std.proofs.Common.{subst}
 use Rattle.rgo_core.specs.Plans.{setup_of}
+use Rattle.rgo_core.specs.Channels.Controls.{head_of}
 use Rattle.rgo_core_steps.specs.Seats.{mine}
-use Rattle.rgo_chan.proofs.UnderLock.{can_load, can_receive, leads, popped}
+use Rattle.rgo_core.specs.Bounds.{Points}
+use Rattle.rgo_chan.specs.Answers.{without_oldest}
+use Rattle.rgo_chan.proofs.Carrying.{receives_as, type_as}
+use Rattle.rgo_chan.proofs.UnderLock.{can_load, can_receive, frame_still, held_still, leads, received, received_there}
 use Rattle.rgo_chan.proofs.receives.pop.Goals as goal
+
+pub reach-word-requires-clause-cell : goal.reach-word-requires-clause-cell
+reach-word-requires-clause-cell g c = rw c.head-cell.ensures c.requires.cell
+
+pub reach-word-requires-clause-sized : goal.reach-word-requires-clause-sized
+reach-word-requires-clause-sized g c = c.requires.held.1
+
+pub load_cell-value-requires-clause-alone : goal.load_cell-value-requires-clause-alone
+load_cell-value-requires-clause-alone g c = c.reach-word.ensures.reached.did.made.grew.alone
 
 pub load_cell-value-requires-clause-held : goal.load_cell-value-requires-clause-held
 load_cell-value-requires-clause-held g c =
     let T = setup_of c.args.table.now.shared.key in
-    can_load T c.args.at c.args.size c.args.control (mine T c.args.seat.now.me) c.head.result c.requires.held
-    (rw c.head.ensures c.requires.cell)
+    can_load T c.args.at c.args.size c.args.control (mine T c.args.seat.now.me) c.args.seat.now.me c.reach-word.new.seat.me
+    c.args.steps.now c.reach-word.new.steps c.head-cell.result c.reach-word.result c.requires.held c.reach-word.ensures.reached
+    (rw c.head-cell.ensures c.requires.cell)
 
 pub commit_receive-requires-clause-ready : goal.commit_receive-requires-clause-ready
 commit_receive-requires-clause-ready g c =
-    can_receive (setup_of c.args.table.now.shared.key) c.args.at c.args.size c.args.control c.args.seat.now.me
-    c.load_cell-value.new.seat.me c.requires.held c.head.result c.load_cell-value.result c.requires.here c.load_cell-value.ensures.leaves
-    c.head.ensures c.requires.some
+    let T = setup_of c.args.table.now.shared.key in
+    let m = c.args.seat.now.me in
+    let v = c.reach-word.new.seat.me in
+    let s = c.args.steps.now in
+    let r = c.reach-word.new.steps in
+    let cell = c.head-cell.result in
+    let word = c.reach-word.result in
+    can_receive T c.args.at c.args.size c.args.control v c.load_cell-value.new.seat.me
+    (held_still T c.args.at c.args.size c.args.control (mine T m) m v s r cell word c.requires.held c.reach-word.ensures.reached) cell word
+    c.load_cell-value.result
+    (receives_as (mine T v)
+    (frame_still T c.args.at c.args.size c.args.control (mine T m) m v s r cell word c.requires.held c.reach-word.ensures.reached)
+    c.requires.here)
+    c.load_cell-value.ensures.leaves c.head-cell.ensures c.requires.some
 
 pub returns-clause-popped : goal.returns-clause-popped
 returns-clause-popped g c =
-    popped (setup_of c.args.table.now.shared.key) c.args.at c.args.size c.args.control c.args.seat.now.me
-    c.load_cell-value.new.seat.me c.requires.held c.head.result c.load_cell-value.result c.requires.here c.load_cell-value.ensures.leaves
-    c.commit_receive.new.seat.me c.args.steps.now c.tick.new.self c.tick-2.new.self c.tick.ensures c.tick-2.ensures c.head.ensures
-    c.commit_receive.ensures.stored
+    let T = setup_of c.args.table.now.shared.key in
+    let m = c.args.seat.now.me in
+    let v = c.reach-word.new.seat.me in
+    let w = c.commit_receive.new.seat.me in
+    let s = c.args.steps.now in
+    let r = c.reach-word.new.steps in
+    let cell = c.head-cell.result in
+    let word = c.reach-word.result in
+    let reach = c.reach-word.ensures.reached in
+    let x = without_oldest c.args.size c.args.control in
+    let value = c.load_cell-value.result in
+    received_there T c.args.at c.args.size c.args.control (mine T m) m v s r cell word c.requires.held reach value x c.requires.here
+    (head_of c.args.control) c.head-cell.ensures w c.tick-2.new.self
+    (received T c.args.at c.args.size c.args.control v c.load_cell-value.new.seat.me
+    (held_still T c.args.at c.args.size c.args.control (mine T m) m v s r cell word c.requires.held reach) cell word value
+    (receives_as (mine T v)
+    (frame_still T c.args.at c.args.size c.args.control (mine T m) m v s r cell word c.requires.held reach) c.requires.here)
+    c.load_cell-value.ensures.leaves w r c.tick.new.self c.tick-2.new.self c.tick.ensures c.tick-2.ensures x
+    c.commit_receive.ensures.stored)
 
 pub returns-clause-points : goal.returns-clause-points
 returns-clause-points g c =
-    leads (setup_of c.args.table.now.shared.key) c.args.at c.args.size c.args.control c.args.seat.now.me
-    c.load_cell-value.new.seat.me c.requires.held c.head.result c.load_cell-value.result c.requires.here c.load_cell-value.ensures.leaves
-    c.commit_receive.ensures.points
+    let T = setup_of c.args.table.now.shared.key in
+    let m = c.args.seat.now.me in
+    let v = c.reach-word.new.seat.me in
+    let s = c.args.steps.now in
+    let r = c.reach-word.new.steps in
+    let cell = c.head-cell.result in
+    let word = c.reach-word.result in
+    let reach = c.reach-word.ensures.reached in
+    let same = frame_still T c.args.at c.args.size c.args.control (mine T m) m v s r cell word c.requires.held reach in
+    subst (λ ty. Points T ty c.load_cell-value.result) (type_as T (mine T m) (mine T v) same)
+    (leads T c.args.at c.args.size c.args.control v c.load_cell-value.new.seat.me
+    (held_still T c.args.at c.args.size c.args.control (mine T m) m v s r cell word c.requires.held reach) cell word c.load_cell-value.result
+    (receives_as (mine T v) same c.requires.here) c.load_cell-value.ensures.leaves c.commit_receive.ensures.points)

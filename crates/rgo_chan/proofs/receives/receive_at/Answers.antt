@@ -1,9 +1,13 @@
-use Rattle.std.proofs.Common.{inl, inr, refl, subst}
+use Rattle.std.proofs.Common.{◌+◌, ◌≤◌, arith, inl, inr, refl, subst}
+use Rattle.rgo_core.specs.Channels.Controls.{tail_words}
+use Rattle.rgo_core.specs.Core.{layout}
+use Rattle.rgo_core.specs.Memory.Words.{all_words}
 use Rattle.rgo_core.specs.Plans.{setup_of}
 use Rattle.rgo_core_steps.specs.Seats.{mine, settled}
 use Rattle.rgo_chan.specs.Answers.{Looked}
 use Rattle.rgo_chan.proofs.Answering.{can_zero, frame_held, got_offer, got_value, got_zero, holds, missed, same_frame, still_free}
 use Rattle.rgo_chan.proofs.Carrying.{receives_as, receives_there}
+use Rattle.rgo_chan.proofs.CellWords.{few}
 use Rattle.rgo_chan.proofs.Reading.{drained, is_even, is_odd, is_shut, not_shut, offer}
 use Rattle.rgo_chan.proofs.receives.receive_at.Goals as goal
 
@@ -121,6 +125,14 @@ take_offer-value-requires-clause-held g c =
     c.lock-found.new.seat.me c.lock-found.result
     c.tick.new.self c.tick.ensures c.lock-found.ensures.leaves c.if-found-control.false
 
+pub take_offer-value-requires-clause-inside : goal.take_offer-value-requires-clause-inside
+take_offer-value-requires-clause-inside g c =
+    let T = setup_of c.args.table.now.shared.key in
+    let o = offer c.look-seen.result.size c.look-seen.result.control (c.is_empty.ensures.ready c.if-is_empty.false)
+    (c.has_value.ensures.no c.if-has_value.false)
+    (not_shut c.is_closed.result c.look-seen.result.control c.is_closed.ensures c.if-is_closed.false) in
+    subst (λ z. c.args.at + 2 + tail_words T.sizes.page_words z ≤ all_words (layout T)) o.1 c.look-seen.ensures.looked.inside
+
 pub take_offer-value-requires-clause-here : goal.take_offer-value-requires-clause-here
 take_offer-value-requires-clause-here g c =
     let T = setup_of c.args.table.now.shared.key in
@@ -140,6 +152,11 @@ take_offer-value-requires-clause-offered g c =
     (c.has_value.ensures.no c.if-has_value.false)
     (not_shut c.is_closed.result c.look-seen.result.control c.is_closed.ensures c.if-is_closed.false) in
     (o.0, refl, o.2)
+
+pub returns-clause-steps : goal.returns-clause-steps
+returns-clause-steps g c =
+    let at_most = few (setup_of c.args.table.now.shared.key) 0 in
+    omega (arith, at_most, c.look-seen.ensures.steps, c.tick.ensures, c.take_offer-value.ensures.steps)
 
 pub returns-clause-answers : goal.returns-clause-answers
 returns-clause-answers g c =

@@ -1,4 +1,7 @@
-use Rattle.std.proofs.Common.{inl, inr, refl, subst}
+use Rattle.std.proofs.Common.{◌+◌, ◌≤◌, inl, inr, refl, subst}
+use Rattle.rgo_core.specs.Channels.Controls.{tail_words}
+use Rattle.rgo_core.specs.Core.{layout}
+use Rattle.rgo_core.specs.Memory.Words.{all_words}
 use Rattle.rgo_core.specs.Plans.{setup_of}
 use Rattle.rgo_core_steps.specs.Seats.{mine, settled}
 use Rattle.rgo_chan.specs.Answers.{Looked}
@@ -96,6 +99,11 @@ offer-requires-clause-held g c =
     holds T c.args.at d 0 n m v c.args.steps.now c.look-seen.new.steps
     (subst (λ z. Looked T c.args.at d z n m c.args.steps.now v c.look-seen.new.steps) c.if-size-eq0.true c.look-seen.ensures.looked)
     c.lock-found.new.seat.me c.lock-found.result c.tick.new.self c.tick.ensures c.lock-found.ensures.leaves c.if-found-control.false
+
+pub offer-requires-clause-inside : goal.offer-requires-clause-inside
+offer-requires-clause-inside g c =
+    let T = setup_of c.args.table.now.shared.key in
+    subst (λ z. c.args.at + 2 + tail_words T.sizes.page_words z ≤ all_words (layout T)) c.if-size-eq0.true c.look-seen.ensures.looked.inside
 
 pub offer-requires-clause-here : goal.offer-requires-clause-here
 offer-requires-clause-here g c =
