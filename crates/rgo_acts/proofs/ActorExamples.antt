@@ -1,20 +1,16 @@
 -- Actors and runs that are as their definitions say, and such as are not.
-use Rattle.std.proofs.Common.{◌≡◌, ◌≤◌, ◌<◌, ◌+◌, ◌++◌, inl, inr, ℕ, suc, Bool, List, [], ◌∷◌, Some, None, length, if◌then◌else◌, true, false, refl, ap, sym, subst, ◌∙◌, length-append, arith}
-use Rattle.rgo_sound.specs.Code.Code.{Code}
-use Rattle.rgo_core.specs.Frames.WordFrames.{WordFrame, bare_all, word_at}
-use Rattle.rgo_core.specs.Memory.Records.{Measured}
+use Rattle.std.proofs.Common.{◌≡◌, ◌+◌, ◌++◌, inl, inr, ℕ, suc, Bool, List, [], ◌∷◌, Some, length, if◌then◌else◌, true, false, refl, ap, sym, ◌∙◌, length-append, arith}
+use Rattle.rgo_core.specs.Frames.WordFrames.{WordFrame, word_at}
+use Rattle.rgo_core.specs.Memory.Records.{Located, Measured}
 use Rattle.rgo_core.specs.Accesses.{IsInSlice}
-use Rattle.rgo_core.specs.ElementTraps.{HasNoElement, IsOutside}
-use Rattle.rgo_core.specs.Records.{Drawn, Record}
-use Rattle.rgo_sound.specs.RegionMachine.Owed.{next_duties}
+use Rattle.rgo_core.specs.ElementTraps.{HasNoElement}
+use Rattle.rgo_core.specs.Records.{Record}
 use Rattle.rgo_sound.specs.RegionMachine.States.{Duty}
 use Rattle.rgo_sound.specs.Tac.Code.{Do}
 use Rattle.rgo_sound.specs.Typed.declared.actions.Action.TheVariants as action
-use Rattle.rgo_body.specs.Bodies.{frames_in, owed}
-use Rattle.rgo_body.specs.Programs.{Program}
-use Rattle.rgo_body.specs.declared.bodies.Body.{Body}
+use Rattle.rgo_body.specs.Bodies.{owed}
 use Rattle.rgo_acts.specs.ActorExamples.{ActorExamples, ElementExamples}
-use Rattle.rgo_acts.specs.Actors.{distance, now}
+use Rattle.rgo_acts.specs.Actors.{now}
 use Rattle.rgo_acts.proofs.Before.{owes_none}
 use Rattle.rgo_acts.proofs.Standing.{acted_none}
 
@@ -59,6 +55,14 @@ not_both c w p q address points slice (inr (a, its, none)) =
     let more = none.beyond in
     absurd (omega (arith, elements, less, more))
 
+other_load : (n m : ℕ) → Do (Some 2) (action.Load 1) (0 ∷ []) ≡ Do (Some n) (action.Load 2) (m ∷ []) → ⊥
+other_load n m e =
+    let same : action.Load 1 ≡ action.Load 2 = cc e in
+    let one : ℕ = 1 in
+    let two : ℕ = 2 in
+    let fields : one ≡ two = cc same in
+    absurd (omega (arith, fields))
+
 pub element_examples : ElementExamples
 element_examples = record {
   load = inl (2, refl);
@@ -71,4 +75,15 @@ element_examples = record {
       let n = has.measured.before.ready.is_next in
       let are = has.measured.before.stands.shows.frames ∙ n.are in
       not_both (now r.setup b) n.w p q has.address (has.points n.w n.ws are) (has.within n.w n.ws are).0 (none.none n.w n.ws are);
+  load_field = inl (2, refl);
+  store_field = inr (2, refl);
+  other_field = λ e. elim e [ inl t ↦ other_load t.0 0 t.1 | inr t ↦ cc t.1 ];
+  element = λ e. elim e [ inl t ↦ cc t.1 | inr t ↦ cc t.1 ];
+  located = λ r a b next address cell word x y.
+      let both : Some x.located.located ≡ Some y.located.located = sym x.located.read ∙ y.located.read in
+      let same : x.located.located ≡ y.located.located = cc both in
+      let cells = ap (λ (l : Located). l.cell) same in
+      let first = x.located.of_cell in
+      let second = y.located.of_cell in
+      absurd (omega (arith, cells, first, second));
 }

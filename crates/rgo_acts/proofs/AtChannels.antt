@@ -48,6 +48,7 @@ use Rattle.rgo_acts.specs.Runs.{Run}
 use Rattle.rgo_acts.specs.Talks.{CanTry}
 use Rattle.rgo_acts.specs.declared.actors.Actor.{Actor}
 use Rattle.rgo_acts.proofs.Before.{current_is, do_of, owes_none}
+use Rattle.rgo_acts.proofs.Locating.{some_words}
 use Rattle.rgo_acts.proofs.Standing.{now_at_once}
 
 -- ---- what it knows of channels
@@ -161,6 +162,15 @@ module _ (r : Run) (a : Actor) (next : Next) (can : CanTry r a next) where
       where
         some_address : pointer ≢ 0 → pointer ≡ suc (pointer - 1)
         some_address some = omega arith
+
+    -- a page has words
+    pub has_words : IsOfChannel act → (pointer : ℕ) → word_at can.ready.is_next.w channel ≡ pointer → pointer ≢ 0
+        → 0 < r.setup.sizes.page_words
+    has_words of_channel pointer on some =
+        let address : pointer ≡ suc (pointer - 1) = omega (arith, some) in
+        let l = channel_lies r.setup (number_of a.seat.me) c can.stands.possible to act channel (pointer - 1) others code_is.0 here_do
+        of_channel (on ∙ address) in
+        some_words r.setup.sizes.pages r.setup.sizes.page_words (pointer - 1 + 2) (omega (arith, l))
 
   pub before_send : (to : Option ℕ) (channel value pointer word : ℕ) → operation_of next.op ≡ tac.Do to Send (channel ∷ value ∷ [])
       → word_at can.ready.is_next.w channel ≡ pointer → word_at can.ready.is_next.w value ≡ word → IsBeforeSend r.setup c pointer word
@@ -291,6 +301,7 @@ shows_offering T p b c k side at offers shows free post =
       belongs = shows.belongs;
       frames = shows.frames;
       holds = shows.holds;
+      reserved = shows.reserved;
       owes = shows.owes;
       side = subst (λ (x : Side). SideShows x side c.frame.holder.offer) (sym offers) (free, post, q.offer);
       calm = record { make = shows.calm.make; claim = shows.calm.claim; give = shows.calm.give; none = m.owed ∙ shows.calm.none };

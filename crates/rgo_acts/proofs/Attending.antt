@@ -116,6 +116,7 @@ like_tries [] c = record {
   frame = refl;
   side = refl;
   fills = refl;
+  reserved = refl;
   make = refl;
   claim = refl;
   give = refl;
@@ -128,6 +129,7 @@ like_tries (t ∷ ts) c = let l = like_tries ts (tried_slot c t.place) in record
   frame = l.frame;
   side = l.side;
   fills = l.fills;
+  reserved = l.reserved;
   make = l.make;
   claim = l.claim;
   give = l.give;
@@ -165,6 +167,7 @@ like_creates c d name slot ds l = record {
   frame = ap (λ f. (creates (record c { frame = f }) name ds slot).frame) l.frame;
   side = l.side;
   fills = l.fills;
+  reserved = l.reserved;
   make = l.make;
   claim = l.claim;
   give = l.give;
@@ -357,6 +360,7 @@ module _ (r : Run) (a b : Actor) (before : Stands r a) (own : b.seat.table_id �
               frame = refl;
               side = refl;
               fills = refl;
+              reserved = refl;
               make = refl;
               claim = refl;
               give = sym before.shows.calm.give;

@@ -13,7 +13,6 @@ use Rattle.rgo_sound.specs.Tac.Ops.{operation_of}
 use Rattle.rgo_sound.specs.Typed.declared.actions.Action.{Action}
 use Rattle.rgo_sound.specs.Typed.declared.statements.Piece.{Piece}
 use Rattle.rgo_sound.specs.Tac.declared.regions.Class.{Class}
-use Rattle.rgo_core.specs.Core.{Setup}
 use Rattle.rgo_core.specs.Next.{IsAt}
 use Rattle.rgo_core.specs.Records.{Record, accesses, steps_of, ticked}
 use Rattle.rgo_core.specs.Frames.Actions.{after_action}
@@ -28,10 +27,10 @@ use Rattle.rgo_acts.proofs.Standing.{Follows, acted_one}
 use Rattle.rgo_core.specs.Channels.Records.{at_rest}
 use Rattle.rgo_core_facts.proofs.ControlCode.{variables_exist}
 use Rattle.rgo_core_facts.proofs.ControlFrames.{all_in_code}
-use Rattle.rgo_body.specs.Bodies.{IsReady, frames_in, owed}
+use Rattle.rgo_body.specs.Stack.Stacks.{newest_word}
+use Rattle.rgo_body.specs.Bodies.{frames_in, owed}
 use Rattle.rgo_body.specs.Nexts.{IsNextOf}
-use Rattle.rgo_body.specs.Programs.{Program}
-use Rattle.rgo_body.specs.Shows.{Shows, SideShows}
+use Rattle.rgo_body.specs.Shows.{SideShows}
 use Rattle.rgo_body.specs.declared.bodies.Body.{Body}
 use Rattle.rgo_body.specs.declared.bodies.Side.{Side}
 use Rattle.rgo_body.specs.declared.bodies.Side.TheVariants.{AtRest}
@@ -226,6 +225,11 @@ third_in x y z xs = (2, omega arith, refl)
 -- this is the word of the variable of the newest frame
 abbrev pub IsWord : Body → (variable word : ℕ) → Type 0
 IsWord b v n = (w : WordFrame) (ws : List WordFrame) → frames_in b ≡ w ∷ ws → n ≡ word_at w v
+
+-- as the stack has it
+pub newest_is : (b : Body) (n : ℕ) (w : WordFrame) (ws : List WordFrame) (v : ℕ) → frames_in b ≡ w ∷ ws → IsWord b v n
+    → n ≡ newest_word (frames_in b) v
+newest_is b n w ws v are is = is w ws are ∙ sym (ap (λ (fs : List WordFrame). newest_word fs v) are)
 
 module _ (r : Run) (a : Actor) (next : Next) (before : IsBefore r a next) where
   -- an action reads its operands

@@ -1,5 +1,5 @@
 -- The definitions of duties and of shortages, each where it holds and where it must not.
-use Rattle.std.proofs.Common.{◌≡◌, ◌<◌, ℕ, zero, suc, List, [], ◌∷◌, Option, Some, refl, sym, ap, subst, ◌∙◌, length, arith}
+use Rattle.std.proofs.Common.{◌≡◌, ◌<◌, ℕ, zero, suc, List, [], ◌∷◌, Option, Some, refl, sym, ap, subst, ◌∙◌, length, arith, inl, inr}
 use mathlib.Core.Option.{some, some-injective, some-ne-none}
 use lib.ListN.{get_elem?}
 use Rattle.rgo_core.specs.Rule.Histories.{access}
@@ -12,6 +12,7 @@ use Rattle.rgo_core.specs.Records.{Record}
 use Rattle.rgo_core_steps.specs.Grown.{Found}
 use Rattle.rgo_sound.specs.RegionMachine.States.{Duty}
 use Rattle.rgo_body.specs.declared.bodies.Body.{Body}
+use Rattle.rgo_core_steps.specs.Making.{NeedsPage}
 use Rattle.rgo_acts.specs.Actors.{IsUnmoved}
 use Rattle.rgo_acts.specs.DutyExamples.{DutyExamples, one_taken, two_taken}
 use Rattle.rgo_acts.specs.Shortages.{AllInUse, LacksPage, LacksSlot}
@@ -92,8 +93,11 @@ not_its all =
     x.2.place x.2.access x.2.there x.2.own
 
 makes_nothing : (T : Setup) (c : Record) (es : List Access) → c.frame.frames ≡ [] → LacksPage T 1 c es → ⊥
-makes_nothing T c es frames lacks =
-    some_frames lacks.needs.next.here.w lacks.needs.next.here.ws (sym frames ∙ lacks.needs.next.here.frames)
+makes_nothing T c es frames lacks = by lacks.needs
+  where
+    by : NeedsPage T c lacks.slot → ⊥
+    by (inl own) = some_frames own.next.here.w own.next.here.ws (sym frames ∙ own.next.here.frames)
+    by (inr more) = some_frames more.next.here.w more.next.here.ws (sym frames ∙ more.next.here.frames)
 
 owes_nothing : (T : Setup) (c : Record) (es : List Access) → c.frame.holder.duties ≡ [] → LacksSlot T 1 c es → ⊥
 owes_nothing T c es duties lacks = some_duties _ lacks.creates.1 (sym duties ∙ lacks.creates.2)

@@ -151,6 +151,7 @@ module _ (s r : Run) (seen_is : s ≡ r) (a b : Actor) (stands : Stands r a) (ow
         frame = refl;
         side = refl;
         fills = refl;
+        reserved = refl;
         make = refl;
         claim = refl;
         give = refl;

@@ -1,44 +1,40 @@
 -- Loads and stores of fields, of lengths and of package variables: the word is one of the table, and it is the instruction's.
-use Rattle.std.proofs.Common.{◌≡◌, ◌<◌, ◌+◌, ◌-◌, ℕ, [], ◌∷◌, Some, None, length, refl, sym, ◌∙◌, arith}
+use Rattle.std.proofs.Common.{◌≡◌, ◌<◌, ◌≤◌, ◌+◌, ◌-◌, ℕ, suc, List, [], ◌∷◌, Contains, Some, None, length, inl, inr, ap, refl, subst, sym, ◌∙◌, arith}
+use Rattle.rgo_core.specs.Frames.WordFrames.{WordFrame, word_at}
+use Rattle.rgo_core.specs.Accesses.{IsAtSpread, LoadsField, PointsToSpread, PointsToWhole, StoresField}
 use Rattle.rgo_core.specs.Bounds.{LieInPages}
 use Rattle.rgo_core.specs.Core.{layout}
 use Rattle.rgo_core.specs.Memory.Words.{base, variable_at}
 use Rattle.rgo_core.specs.Rule.Views.{number_of}
 use Rattle.rgo_core_steps.specs.Accesses.{Field, Length, LengthOfNil, Loads, Stores, ToField, ToVariable, Variable}
 use Rattle.rgo_core_steps.specs.Ends.{LoadsNil, StoresNil}
-use Rattle.rgo_core_facts.proofs.Lying.{get_exists, len_lies, load_lies, set_exists, store_lies}
+use Rattle.rgo_core.specs.Next.{IsAt}
+use Rattle.rgo_core_facts.specs.MemoryWords.{HasField}
+use Rattle.rgo_core_facts.proofs.Lying.{get_exists, len_lies, load_lies, loads_field, set_exists, store_lies, stores_field}
+use Rattle.rgo_sound.specs.Code.Code as code
+use Rattle.rgo_sound.specs.Code.Code.{CodeOp}
 use Rattle.rgo_sound.specs.Memory.declared.traps.Trap.TheVariants.{NilPointer}
 use Rattle.rgo_sound.specs.Tac.Code as tac
+use Rattle.rgo_sound.specs.Tac.Code.{Op}
+use Rattle.rgo_sound.specs.Tac.Flow.{reads}
 use Rattle.rgo_sound.specs.Tac.Ops.{operation_of}
 use Rattle.rgo_sound.specs.Typed.declared.actions.Action.TheVariants as action
+use Rattle.rgo_body.specs.Bodies.{frames_in}
+use Rattle.rgo_body.specs.Fields.{PointsToFields}
 use Rattle.rgo_body.specs.declared.nexts.Next.{Next}
 use Rattle.rgo_acts.specs.Actors.{now}
+use Rattle.rgo_acts.specs.Elements.{HasFieldHere, HasLocated, IsAtFieldOf}
 use Rattle.rgo_acts.specs.Ready.{IsBefore}
 use Rattle.rgo_acts.specs.Runs.{Run}
 use Rattle.rgo_acts.specs.Traps.{IsAtTrap}
 use Rattle.rgo_acts.specs.declared.actors.Actor.{Actor}
-use Rattle.rgo_acts.proofs.Before.{IsWord, at_do, here_do, its_word, one_more, rests}
+use Rattle.rgo_acts.proofs.Before.{IsWord, at_do, first_in, here_do, its_word, one_more, rests}
 use Rattle.rgo_acts.proofs.Standing.{acted_none}
 
 module _ (r : Run) (a : Actor) (next : Next) (before : IsBefore r a next) where
-  -- ---- fields
+  -- ---- fields of nil
 
   module _ (to field from n : ℕ) (e : operation_of next.op ≡ tac.Do (Some to) (action.Load field) (from ∷ [])) (word : IsWord a.body from n) where
-    pub load_within : (n ≡ 0 → ⊥) → LieInPages r.setup (n - 1) (field + 1)
-    load_within some =
-        let lies =
-        load_lies r.setup (number_of a.seat.me) (now r.setup a) before.stands.possible to field from (n - 1)
-        (here_do r a next before (Some to) (action.Load field) (from ∷ []) e).0
-        (at_do r a next before (Some to) (action.Load field) (from ∷ []) e)
-        (one_more n _ (its_word r a next before from n word) some) in
-        omega (arith, lies)
-
-    pub load_loads : (n ≡ 0 → ⊥) → (i : ℕ) → i ≡ base (layout r.setup) + ((n - 1) + field) → Loads r.setup (now r.setup a) i
-    load_loads some i is =
-        Field to field from (n - 1) (here_do r a next before (Some to) (action.Load field) (from ∷ []) e).0
-        (at_do r a next before (Some to) (action.Load field) (from ∷ []) e)
-        (one_more n _ (its_word r a next before from n word) some) is
-
     pub load_traps : n ≡ 0 → IsAtTrap r a a NilPointer
     load_traps none = (
       acted_none r a a before.stands refl refl before.stands.shows,
@@ -48,22 +44,6 @@ module _ (r : Run) (a : Actor) (next : Next) (before : IsBefore r a next) where
     )
 
   module _ (field to value n : ℕ) (e : operation_of next.op ≡ tac.Do None (action.Store field) (to ∷ value ∷ [])) (word : IsWord a.body to n) where
-    pub store_within : (n ≡ 0 → ⊥) → LieInPages r.setup (n - 1) (field + 1)
-    store_within some =
-        let lies =
-        store_lies r.setup (number_of a.seat.me) (now r.setup a) before.stands.possible field to value (n - 1)
-        (here_do r a next before None (action.Store field) (to ∷ value ∷ []) e).0
-        (at_do r a next before None (action.Store field) (to ∷ value ∷ []) e)
-        (one_more n _ (its_word r a next before to n word) some) in
-        omega (arith, lies)
-
-    pub store_stores : (n ≡ 0 → ⊥) → (i m : ℕ) → IsWord a.body value m → i ≡ base (layout r.setup) + ((n - 1) + field)
-        → Stores r.setup (now r.setup a) i m
-    store_stores some i m it is =
-        ToField field to value (n - 1) (here_do r a next before None (action.Store field) (to ∷ value ∷ []) e).0
-        (at_do r a next before None (action.Store field) (to ∷ value ∷ []) e)
-        (one_more n _ (its_word r a next before to n word) some) is (its_word r a next before value m it)
-
     pub store_traps : n ≡ 0 → IsAtTrap r a a NilPointer
     store_traps none = (
       acted_none r a a before.stands refl refl before.stands.shows,
@@ -71,6 +51,119 @@ module _ (r : Run) (a : Actor) (next : Next) (before : IsBefore r a next) where
           (at_do r a next before None (action.Store field) (to ∷ value ∷ []) e) (rests r a next before)
           (sym (its_word r a next before to n word) ∙ none) refl,
     )
+
+  -- ---- fields of a struct at an address
+
+  -- it reads the pointer
+  pub reads_pointer : (op : Op) (p k : ℕ) → IsAtFieldOf op p k → Contains (reads op) p
+  reads_pointer op p k (inl (to, e)) = subst (λ (o : Op). Contains (reads o) p) (sym e) (first_in p [])
+  reads_pointer op p k (inr (q, e)) = subst (λ (o : Op). Contains (reads o) p) (sym e) (first_in p (q ∷ []))
+
+  module _ (p k address : ℕ) (e : IsAtFieldOf (operation_of next.op) p k)
+      (points : (w : WordFrame) (ws : List WordFrame) → frames_in a.body ≡ w ∷ ws → word_at w p ≡ suc address)
+      (n : ℕ) (fields : PointsToFields r.program next p n) where
+    points_here : word_at before.ready.is_next.w p ≡ suc address
+    points_here = points before.ready.is_next.w before.ready.is_next.ws before.ready.is_next.are
+
+    abbrev at_load : (to : ℕ) (is : operation_of next.op ≡ tac.Do (Some to) (action.Load k) (p ∷ []))
+        → IsAt r.setup.code (now r.setup a)
+        (code.Do (Some to) (action.Load k) (p ∷ []) (here_do r a next before (Some to) (action.Load k) (p ∷ []) is).0)
+    at_load to is = at_do r a next before (Some to) (action.Load k) (p ∷ []) is
+
+    abbrev at_store : (q : ℕ) (is : operation_of next.op ≡ tac.Do None (action.Store k) (p ∷ q ∷ []))
+        → IsAt r.setup.code (now r.setup a)
+        (code.Do None (action.Store k) (p ∷ q ∷ []) (here_do r a next before None (action.Store k) (p ∷ q ∷ []) is).0)
+    at_store q is = at_do r a next before None (action.Store k) (p ∷ q ∷ []) is
+
+    many : (op : CodeOp) (x : IsAt r.setup.code (now r.setup a) op) (f : HasField r.setup (now r.setup a) x p k) → n ≡ length f.struct.fields
+    many op x f = fields r.setup a.body (now r.setup a) op x k f before.stands.shows before.ready.is_next
+
+    -- the struct fits a page, or it is spread
+    whole_by : {op : CodeOp} (x : IsAt r.setup.code (now r.setup a) op) → HasField r.setup (now r.setup a) x p k
+        → n ≤ r.setup.sizes.page_words → PointsToWhole r.setup (now r.setup a) x p
+    whole_by x f few = record {
+      number = f.number;
+      typed = f.typed;
+      struct = f.struct;
+      there = f.there;
+      fits = let m = many _ x f in omega (arith, few, m);
+    }
+
+    spread_by : {op : CodeOp} (x : IsAt r.setup.code (now r.setup a) op) → HasField r.setup (now r.setup a) x p k
+        → r.setup.sizes.page_words < n → PointsToSpread r.setup (now r.setup a) x p
+    spread_by x f more = record {
+      number = f.number;
+      typed = f.typed;
+      struct = f.struct;
+      there = f.there;
+      spread = let m = many _ x f in omega (arith, more, m);
+    }
+
+    loaded : (to : ℕ) (is : operation_of next.op ≡ tac.Do (Some to) (action.Load k) (p ∷ []))
+        → HasField r.setup (now r.setup a) (at_load to is) p k
+    loaded to is = loads_field r.setup (number_of a.seat.me) (now r.setup a) before.stands.possible to k p
+        (here_do r a next before (Some to) (action.Load k) (p ∷ []) is).0 (at_load to is)
+
+    stored : (q : ℕ) (is : operation_of next.op ≡ tac.Do None (action.Store k) (p ∷ q ∷ []))
+        → HasField r.setup (now r.setup a) (at_store q is) p k
+    stored q is = stores_field r.setup (number_of a.seat.me) (now r.setup a) before.stands.possible k p q
+        (here_do r a next before None (action.Store k) (p ∷ q ∷ []) is).0 (at_store q is)
+
+    pub field_lies : n ≤ r.setup.sizes.page_words → LieInPages r.setup address (k + 1)
+    field_lies few = by e
+      where
+        by : IsAtFieldOf (operation_of next.op) p k → LieInPages r.setup address (k + 1)
+        by (inl (to, is)) =
+            let l = load_lies r.setup (number_of a.seat.me) (now r.setup a) before.stands.possible to k p address
+            (here_do r a next before (Some to) (action.Load k) (p ∷ []) is).0 (at_load to is) points_here
+            (whole_by (at_load to is) (loaded to is) few) in
+            omega (arith, l)
+        by (inr (q, is)) =
+            let l = store_lies r.setup (number_of a.seat.me) (now r.setup a) before.stands.possible k p q address
+            (here_do r a next before None (action.Store k) (p ∷ q ∷ []) is).0 (at_store q is) points_here
+            (whole_by (at_store q is) (stored q is) few) in
+            omega (arith, l)
+
+    pub field_here : n ≤ r.setup.sizes.page_words → (j : ℕ) → j ≡ base (layout r.setup) + (address + k) → j < r.table.words
+        → HasFieldHere r a a next p k j
+    field_here few j at inside = record {
+      measured = record { before = before; acted = acted_none r a a before.stands refl refl before.stands.shows; body = refl };
+      loads = λ to is.
+          Field to k p address (here_do r a next before (Some to) (action.Load k) (p ∷ []) is).0 (at_load to is) points_here
+          (inl (whole_by (at_load to is) (loaded to is) few, at));
+      stores = λ q value is word.
+          ToField k p q address (here_do r a next before None (action.Store k) (p ∷ q ∷ []) is).0 (at_store q is) points_here
+          (inl (whole_by (at_store q is) (stored q is) few, at)) (word (at_store q is).w (at_store q is).ws (at_store q is).frames);
+      inside = inside;
+    }
+
+    pub field_spread : r.setup.sizes.page_words < n → IsAtSpread r.setup (now r.setup a) address 0 k
+    field_spread more = by e
+      where
+        by : IsAtFieldOf (operation_of next.op) p k → IsAtSpread r.setup (now r.setup a) address 0 k
+        by (inl (to, is)) =
+            LoadsField to k p (here_do r a next before (Some to) (action.Load k) (p ∷ []) is).0 (at_load to is) points_here
+            (spread_by (at_load to is) (loaded to is) more) refl refl
+        by (inr (q, is)) =
+            StoresField k p q (here_do r a next before None (action.Store k) (p ∷ q ∷ []) is).0 (at_store q is) points_here
+            (spread_by (at_store q is) (stored q is) more) refl refl
+
+    pub field_located : (b : Actor) (j : ℕ) → HasLocated r a b next address k j → HasFieldHere r a b next p k j
+    field_located b j has =
+        let there : IsBefore r b next = has.measured.before in
+        let points_there : word_at there.ready.is_next.w p ≡ suc address =
+        points there.ready.is_next.w there.ready.is_next.ws (sym (ap frames_in has.measured.body) ∙ there.ready.is_next.are) in
+        record {
+          measured = has.measured;
+          loads = λ to is.
+              Field to k p address (here_do r b next there (Some to) (action.Load k) (p ∷ []) is).0
+              (at_do r b next there (Some to) (action.Load k) (p ∷ []) is) points_there (inr has.located);
+          stores = λ q value is word.
+              let x = at_do r b next there None (action.Store k) (p ∷ q ∷ []) is in
+              ToField k p q address (here_do r b next there None (action.Store k) (p ∷ q ∷ []) is).0 x points_there (inr has.located)
+              (word x.w x.ws x.frames);
+          inside = has.inside;
+        }
 
   -- ---- lengths
 

@@ -15,11 +15,14 @@ pub mod Fields
 pub mod Loading
 pub mod LocalActs
 pub mod LocalDuties
+pub mod Locating
 pub mod Measuring
+pub mod ObjectApart
 pub mod ObjectExamples
 pub mod ObjectKinds
 pub mod ObjectMade
 pub mod ObjectPages
+pub mod ObjectReserves
 pub mod ObjectStores
 pub mod Printing
 pub mod Resting

@@ -1,5 +1,5 @@
 -- What is left by an access that is the next instruction, a load or a store. The record of the run, s, is as its fields have it.
-use Rattle.std.proofs.Common.{◌≡◌, ℕ, [], refl, sym, subst}
+use Rattle.std.proofs.Common.{◌≡◌, ℕ, [], sym, subst}
 use Rattle.rgo_core.specs.Memory.Words.{clock_at}
 use Rattle.rgo_core.specs.Rule.declared.accesses.Kind.TheVariants as kind
 use Rattle.rgo_core.specs.Bounds.{Points}

@@ -1,16 +1,15 @@
 -- The length of a slice is loaded before an access to one of its elements: the goroutine is still before the instruction, and its
 -- record knows the length.
-use Rattle.std.proofs.Common.{◌≡◌, ◌<◌, ◌≤◌, ◌+◌, ◌-◌, inl, inr, ℕ, suc, List, [], ◌∷◌, Contains, Option, Some, None, length, refl, ap, sym, subst, ◌∙◌, arith}
+use Rattle.std.proofs.Common.{◌≡◌, ◌<◌, ◌≤◌, ◌+◌, ◌-◌, inl, inr, ℕ, suc, List, [], ◌∷◌, Contains, Some, None, refl, ap, sym, subst, ◌∙◌, arith}
 use Rattle.std.proofs.lemmas.List.{append-nil}
 use Rattle.rgo_core.specs.Frames.WordFrames.{WordFrame, word_at}
 use Rattle.rgo_core.specs.Memory.Records.{Measured}
 use Rattle.rgo_core.specs.Memory.Words.{base}
 use Rattle.rgo_core.specs.Rule.Views.{number_of}
 use Rattle.rgo_core.specs.Rule.declared.accesses.Kind.TheVariants as kind
-use Rattle.rgo_core.specs.Accesses.{IsInSlice, measures}
-use Rattle.rgo_core.specs.Bounds.{LieInPages}
+use Rattle.rgo_core.specs.Accesses.{IsAtSpread, IsInSlice, IsLocated, LoadsElement, StoresElement, measures}
+use Rattle.rgo_core.specs.Bounds.{LieInPages, slice_words}
 use Rattle.rgo_core.specs.Core.{layout}
-use Rattle.rgo_core.specs.ElementTraps.{HasNoElement}
 use Rattle.rgo_core.specs.Links.{BeforeLoad, BeforeStore, IsAtElement}
 use Rattle.rgo_core.specs.Opening.{first_of}
 use Rattle.rgo_core.specs.Records.{Record, accesses, steps_of}
@@ -18,25 +17,26 @@ use Rattle.rgo_core_steps.specs.Accesses.{Element, Loads, Stores, ToElement}
 use Rattle.rgo_core_steps.specs.Ends as ends
 use Rattle.rgo_core_steps.specs.Seats.{HasPossible, Left, mine}
 use Rattle.rgo_core_steps.proofs.Growing.{told_record}
-use Rattle.rgo_core_facts.proofs.Lying.{element_lies}
+use Rattle.rgo_core_facts.proofs.Lying.{element_lies, slice_lies}
 use Rattle.rgo_sound.specs.Memory.declared.traps.Trap.TheVariants.{IndexRange}
 use Rattle.rgo_sound.specs.Tac.Code as tac
 use Rattle.rgo_sound.specs.Tac.Code.{Op}
 use Rattle.rgo_sound.specs.Tac.Flow.{reads}
 use Rattle.rgo_sound.specs.Tac.Ops.{operation_of}
 use Rattle.rgo_sound.specs.Typed.declared.actions.Action.TheVariants as action
-use Rattle.rgo_body.specs.Bodies.{HasRoomBehind, IsReady, frames_in}
+use Rattle.rgo_body.specs.Bodies.{frames_in}
 use Rattle.rgo_body.specs.Shows.{Shows}
 use Rattle.rgo_body.specs.declared.bodies.Body.{Body}
 use Rattle.rgo_body.specs.declared.nexts.Next.{Next}
 use Rattle.rgo_body.proofs.Showing.{like_shown}
 use Rattle.rgo_acts.specs.Actors.{Acted, now}
-use Rattle.rgo_acts.specs.Elements.{HasElement, HasMeasured, HasNoElementHere, IsAtElementOf}
+use Rattle.rgo_acts.specs.Elements.{HasElement, HasLocated, HasMeasured, HasNoElementHere, IsAtElementOf}
 use Rattle.rgo_acts.specs.Ready.{IsBefore}
 use Rattle.rgo_acts.specs.Runs.{Run}
 use Rattle.rgo_acts.specs.Traps.{IsAtTrap}
 use Rattle.rgo_acts.specs.declared.actors.Actor.{Actor}
-use Rattle.rgo_acts.proofs.Before.{IsWord, at_do, first_in, has_variable, here_do, its_word, one_more, rests, second_in}
+use Rattle.rgo_acts.proofs.Before.{IsWord, at_do, first_in, here_do, its_word, one_more, rests, second_in}
+use Rattle.rgo_acts.proofs.Locating.{still_before, then_measured}
 use Rattle.rgo_acts.proofs.Standing.{acted_none, acted_one, acted_then, now_at_once}
 
 -- it reads both variables
@@ -72,12 +72,12 @@ module _ (r : Run) (a : Actor) (next : Next) (before : IsBefore r a next) (p q n
   module _ (some : n ≡ 0 → ⊥) (b : Actor) (i m : ℕ) (own : b.seat.table_id ≡ a.seat.table_id) (at_once : b.behind ≡ 0)
       (same : b.body ≡ a.body) (possible : HasPossible r.setup b.seat.me)
       (left : Left r.setup kind.Load i (λ n. n)
-      (λ m d. (d ≡ measures (now r.setup a) (n - 1) m) × LieInPages r.setup (n - 1) (m + 1)) a.seat.me m b.seat.me) where
-    tells : (mine r.setup b.seat.me ≡ measures (now r.setup a) (n - 1) m) × LieInPages r.setup (n - 1) (m + 1)
+      (λ m d. (d ≡ measures (now r.setup a) (n - 1) m) × LieInPages r.setup (n - 1) (slice_words r.setup m)) a.seat.me m b.seat.me) where
+    tells : (mine r.setup b.seat.me ≡ measures (now r.setup a) (n - 1) m) × LieInPages r.setup (n - 1) (slice_words r.setup m)
     tells = told_record accesses (first_of r.setup.code) a.seat.me b.seat.me kind.Load i m (λ n. n)
-        (λ m d. (d ≡ measures (now r.setup a) (n - 1) m) × LieInPages r.setup (n - 1) (m + 1)) left
+        (λ m d. (d ≡ measures (now r.setup a) (n - 1) m) × LieInPages r.setup (n - 1) (slice_words r.setup m)) left
 
-    pub all_lie : LieInPages r.setup (n - 1) (m + 1)
+    pub all_lie : LieInPages r.setup (n - 1) (slice_words r.setup m)
     all_lie = tells.1
 
     knows : now r.setup b ≡ measures (now r.setup a) (n - 1) m
@@ -86,7 +86,7 @@ module _ (r : Run) (a : Actor) (next : Next) (before : IsBefore r a next) (p q n
     measured_acted : Acted r a b 0 [] []
     measured_acted =
         acted_one r a b before.stands 0 [] [] kind.Load i m (λ n. n)
-        (λ m d. (d ≡ measures (now r.setup a) (n - 1) m) × LieInPages r.setup (n - 1) (m + 1))
+        (λ m d. (d ≡ measures (now r.setup a) (n - 1) m) × LieInPages r.setup (n - 1) (slice_words r.setup m))
         (measures (now r.setup a) (n - 1) m) own at_once left possible (λ t. t.0)
         (record {
           accesses = refl;
@@ -100,6 +100,7 @@ module _ (r : Run) (a : Actor) (next : Next) (before : IsBefore r a next) (p q n
           frame = refl;
           side = refl;
           fills = refl;
+          reserved = refl;
           make = refl;
           claim = refl;
           give = refl;
@@ -110,17 +111,7 @@ module _ (r : Run) (a : Actor) (next : Next) (before : IsBefore r a next) (p q n
         })))
 
     pub has_measured : HasMeasured r a b next
-    has_measured = record {
-      before = record {
-        stands = measured_acted.stands;
-        ready = subst (λ (body : Body). IsReady r.program body next) (sym same) before.ready;
-        rests = ap (λ (body : Body). body.side) same ∙ before.rests;
-        room = subst (λ (body : Body). HasRoomBehind body next) (sym same) before.room;
-        count = subst (λ (body : Body). body.counts.steps + 1 < 18446744073709551616) (sym same) before.count;
-      };
-      acted = measured_acted;
-      body = same;
-    }
+    has_measured = still_before r a b next before same measured_acted
 
     abbrev known : Measured
     known = record { address = n - 1; elements = m; steps = steps_of (now r.setup a) }
@@ -148,28 +139,73 @@ module _ (r : Run) (a : Actor) (next : Next) (before : IsBefore r a next) (p q n
       );
     }
 
-    pub within_pages : (k : ℕ) → k < m → LieInPages r.setup (n - 1) ((1 + k) + 1)
-    within_pages k less = let l = all_lie in omega (arith, l, less)
+    -- it has the element
+    abbrev inside_slice : (k : ℕ) → IsWord b.body q k → k < m → (w : WordFrame) (ws : List WordFrame) → (now r.setup b).frame.frames ≡ w ∷ ws
+        → IsInSlice (now r.setup b) (n - 1) (word_at w q)
+    inside_slice k index less w ws are = record {
+      measured = known;
+      read = ap (λ (c : Record). c.memory.measured) knows;
+      now = sym (ap steps_of knows);
+      its = refl;
+      within = subst (λ x. x < m) (its_index k index w ws are) less;
+    }
 
-    pub is_inside : (k : ℕ) → IsWord b.body q k → k < m → (j : ℕ) → j ≡ base (layout r.setup) + ((n - 1) + (1 + k)) → j < r.table.words
-        → HasElement r a b next p q j
-    is_inside k index less j is inside = record {
+    -- it fits a page
+    pub within_pages : (k : ℕ) → k < m → m < r.setup.sizes.page_words → LieInPages r.setup (n - 1) ((1 + k) + 1)
+    within_pages k less whole = let l = slice_lies r.setup (n - 1) m k all_lie (omega (arith, whole)) less in omega (arith, l)
+
+    pub is_inside : (k : ℕ) → IsWord b.body q k → k < m → m < r.setup.sizes.page_words → (j : ℕ)
+        → j ≡ base (layout r.setup) + ((n - 1) + (1 + k)) → j < r.table.words → HasElement r a b next p q j
+    is_inside k index less whole j is inside = record {
       measured = has_measured;
       address = n - 1;
       points = its_slice;
       within = λ w ws are.
-          let same_index = its_index k index w ws are in (
-            record {
-              measured = known;
-              read = ap (λ (c : Record). c.memory.measured) knows;
-              now = sym (ap steps_of knows);
-              its = refl;
-              within = subst (λ x. x < m) same_index less;
-            },
-            omega (arith, is, same_index),
-          );
+          let same_index = its_index k index w ws are in
+          (inside_slice k index less w ws are, inl (omega (arith, whole), omega (arith, is, same_index)));
       inside = inside;
     }
+
+    -- it is spread
+    pub at_spread : (k : ℕ) → IsWord b.body q k → k < m → r.setup.sizes.page_words ≤ m → IsAtSpread r.setup (now r.setup b) (n - 1) 1 k
+    at_spread k index less spread = by e
+      where
+        by : IsAtElementOf (operation_of next.op) p q → IsAtSpread r.setup (now r.setup b) (n - 1) 1 k
+        by (inl (to, is)) =
+            let x = at_do r b next has_measured.before (Some to) action.At (p ∷ q ∷ []) is in
+            LoadsElement to p q (here_do r b next has_measured.before (Some to) action.At (p ∷ q ∷ []) is).0 x
+            (its_slice x.w x.ws x.frames) (inside_slice k index less x.w x.ws x.frames) (omega (arith, spread)) refl
+            (its_index k index x.w x.ws x.frames)
+        by (inr (v, is)) =
+            let x = at_do r b next has_measured.before None action.Put (p ∷ q ∷ v ∷ []) is in
+            StoresElement p q v (here_do r b next has_measured.before None action.Put (p ∷ q ∷ v ∷ []) is).0 x
+            (its_slice x.w x.ws x.frames) (inside_slice k index less x.w x.ws x.frames) (omega (arith, spread)) refl
+            (its_index k index x.w x.ws x.frames)
+
+    pub is_located : (k : ℕ) → IsWord b.body q k → k < m → (c : Actor) (j : ℕ) → HasLocated r b c next (n - 1) k j → HasElement r a c next p q j
+    is_located k index less c j has =
+        let body : c.body ≡ a.body = has.measured.body ∙ same in
+        let word_in : (v x : ℕ) → IsWord a.body v x → (w : WordFrame) (ws : List WordFrame) → (now r.setup c).frame.frames ≡ w ∷ ws
+        → x ≡ word_at w v = λ v x word_is w ws are.
+        word_is w ws (sym (ap frames_in body) ∙ (sym has.measured.acted.stands.shows.frames ∙ are)) in
+        let index_in : (w : WordFrame) (ws : List WordFrame) → (now r.setup c).frame.frames ≡ w ∷ ws → k ≡ word_at w q =
+        word_in q k (subst (λ (body : Body). IsWord body q k) same index) in
+        record {
+          measured = then_measured r a b c next has_measured has.measured;
+          address = n - 1;
+          points = λ w ws are. one_more n (word_at w p) (word_in p n word w ws are) some;
+          within = λ w ws are. (
+            record {
+              measured = known;
+              read = has.lengths ∙ ap (λ (d : Record). d.memory.measured) knows;
+              now = sym (has.steps ∙ ap steps_of knows);
+              its = refl;
+              within = subst (λ x. x < m) (index_in w ws are) less;
+            },
+            inr (subst (λ x. IsLocated r.setup (now r.setup c) (n - 1) x j) (index_in w ws are) has.located),
+          );
+          inside = has.inside;
+        }
 
 -- ---- loads and stores of elements
 

@@ -1,14 +1,15 @@
 -- Which object the next instruction makes: a struct, a slice or a channel.
-use Rattle.std.proofs.Common.{◌≡◌, ◌+◌, ◌<◌, ◌≤◌, ◌∙◌, ◌^◌, ◌==◌, ℕ, Bool, true, false, suc, List, [], ◌∷◌, Option, Some, None, ap, sym, subst, refl, inl, inr, arith, if◌then◌else◌, length, slice_get}
+use Rattle.std.proofs.Common.{◌≡◌, ◌⊎◌, ◌+◌, ◌-◌, ◌/◌, ◌<◌, ◌≤◌, ◌∙◌, ◌^◌, ◌==◌, ℕ, Bool, true, false, suc, List, [], ◌∷◌, Option, Some, None, ap, sym, subst, refl, inl, inr, arith, if◌then◌else◌, length, slice_get}
+use Rattle.std.proofs.Math.Nat.{lt-div-mul-add, mul-le-mul_right}
+use Rattle.std.proofs.lemmas.Bool.{cases_lt}
 use Rattle.std.proofs.lemmas.Option.{same_Some}
 use Rattle.std.specs.Option.{option_map}
 use Rattle.rgo_core.specs.Rule.Views.{number_of}
-use Rattle.rgo_core_facts.specs.MemoryObjects.{HasWords, MakingRegion, NewObject, OfChannel, OfSlice, OfStruct, channel_words}
+use Rattle.rgo_core_facts.specs.MemoryObjects.{HasWords, MakingRegion, NewObject, OfChannel, OfSlice, OfStruct, all_struct_words, channel_words, data_pages_of}
+use Rattle.rgo_core_facts.proofs.DataPages.{less, not_less}
 use Rattle.rgo_core_facts.proofs.NewWords.{has_region, makes_channel, makes_slice, makes_struct}
 use Rattle.rgo_core_facts.proofs.TooLarge.{too_large}
 use Rattle.rgo_core.specs.Frames.WordFrames.{word_at}
-use Rattle.rgo_core.specs.Memory.declared.layout.TableSizes.{TableSizes}
-use Rattle.rgo_core.specs.Bounds.{struct_words}
 use Rattle.rgo_core.specs.Core.{Setup, layout}
 use Rattle.rgo_core.specs.NewObjects.{slot_number}
 use Rattle.rgo_core.specs.Next.{IsAt}
@@ -16,7 +17,7 @@ use Rattle.rgo_core.specs.Records.{Record}
 use Rattle.rgo_core_steps.specs.Ends.{HasBadSize, Meets}
 use Rattle.rgo_sound.specs.Code.Code as code
 use Rattle.rgo_sound.specs.Memory.declared.traps.Trap.TheVariants.{BadSize}
-use Rattle.rgo_sound.specs.RegionMachine.Objects.{makes_object}
+use Rattle.rgo_sound.specs.RegionMachine.Objects.{makes_object, most_data_pages}
 use Rattle.rgo_sound.specs.RegionMachine.declared.limits.Limit.TheVariants.{ObjectSize}
 use Rattle.rgo_sound.specs.RegionMachine.declared.regions.Region.{Region}
 use Rattle.rgo_sound.specs.RegionMachine.declared.regions.Region.TheVariants.{Global as GlobalRegion, Numbered}
@@ -31,7 +32,7 @@ use Rattle.rgo_holding.specs.declared.holding.Holding.{Holding}
 use Rattle.rgo_holding.specs.declared.keys.Key.{Key}
 use Rattle.rgo_body.specs.declared.nexts.Next.{Next}
 use Rattle.rgo_acts.specs.Actors.{now}
-use Rattle.rgo_acts.specs.Objects.{Wants, opens}
+use Rattle.rgo_acts.specs.Objects.{IsSmall, Wants, opens}
 use Rattle.rgo_acts.specs.Ready.{IsBefore}
 use Rattle.rgo_acts.specs.Runs.{Run}
 use Rattle.rgo_acts.specs.Traps.{IsAtTrap}
@@ -57,16 +58,36 @@ pub slot_same : (T : Setup) (region : Region) → slot_number (layout T) region 
 slot_same T GlobalRegion = refl
 slot_same T (Numbered p) = refl
 
--- ---- the sizes of a run, where it is seen by its fields
+-- ---- data pages
 
-module _ (s r : Run) (seen_is : s ≡ r) (sizes : s.sizes ≡ layout s.setup) (words : ℕ) where
-  pub page_words_less : s.sizes.page_words < words → r.setup.sizes.page_words < words
-  page_words_less less =
-      subst (λ (x : Run). x.setup.sizes.page_words < words) seen_is (subst (λ (z : TableSizes). z.page_words < words) sizes less)
+-- an object that fits a page has none
+pub none_apart : (n words before : ℕ) → words ≤ n → data_pages_of n words before ≡ 0
+none_apart n words before fits =
+    ap (λ (b : Bool). if b then (words - before - 1) / n + 1 else 0) (not_less n words fits)
 
-  pub page_words_more : words ≤ s.sizes.page_words → words ≤ r.setup.sizes.page_words
-  page_words_more more =
-      subst (λ (x : Run). words ≤ x.setup.sizes.page_words) seen_is (subst (λ (z : TableSizes). words ≤ z.page_words) sizes more)
+-- so many has one that does not
+pub some_apart : (n words before : ℕ) → n < words → data_pages_of n words before ≡ (words - before - 1) / n + 1
+some_apart n words before more = ap (λ (b : Bool). if b then (words - before - 1) / n + 1 else 0) (less n words more)
+
+-- a channel that is not too large has few cells, where pages are small
+module _ (n page_words words : ℕ) (many : words ≡ channel_words n) (small : page_words ≤ 16777215)
+    (few : data_pages_of page_words words 2 ≤ most_data_pages page_words) where
+  in_pages : page_words < words → (0 < page_words) ⊎ (page_words ≤ 0) → n < 1073741820
+  in_pages more (inl some) =
+      let pages : (words - 2 - 1) / page_words + 1 ≤ 64 =
+      let k = subst (λ k. k ≤ most_data_pages page_words) (some_apart page_words words 2 more) few in omega (arith, k) in
+      let mul = mul-le-mul_right page_words pages in
+      let rest = lt-div-mul-add {a = words - 2 - 1} {b = page_words} some in
+      omega (arith, mul, rest, many, small)
+  in_pages more (inr none) =
+      let k = subst (λ k. k ≤ most_data_pages page_words) (some_apart page_words words 2 more) few in omega (arith, k, none)
+
+  in_channel : (page_words < words) ⊎ (words ≤ page_words) → n < 1073741820
+  in_channel (inl more) = in_pages more (cases_lt 0 page_words)
+  in_channel (inr fits) = omega (arith, fits, many, small)
+
+  few_in_channel : n < 1073741820
+  few_in_channel = in_channel (cases_lt page_words words)
 
 -- ---- words
 
@@ -74,18 +95,19 @@ zero_both : (b : Bool) → ◌≡◌ {A = ℕ} 0 (if b then 0 else 0)
 zero_both true = refl
 zero_both false = refl
 
-pub some_words : (o : Option Struct) → 0 < struct_words o
+pub some_words : (o : Option Struct) → 0 < all_struct_words o
 some_words None = omega arith
 some_words (Some made) = omega arith
 
 -- the same object, by equal numbers of words and equal first values
-same_object : (T : Setup) (c : Record) (slot other words count : ℕ) (first start : ℕ → ℕ) → slot ≡ other → words ≡ count
-    → ((i : ℕ) → first i ≡ start i) → NewObject T c slot words first → NewObject T c other count start
-same_object T c slot other words count first start same many starts new =
-    subst (λ n. NewObject T c n count start) same (record {
+same_object : (T : Setup) (c : Record) (slot other words count before : ℕ) (first start : ℕ → ℕ) → slot ≡ other → words ≡ count
+    → ((i : ℕ) → first i ≡ start i) → NewObject T c slot words before first → NewObject T c other count before start
+same_object T c slot other words count before first start same many starts new =
+    subst (λ n. NewObject T c n count before start) same (record {
       object = new.object;
       next = new.next;
       many = new.many ∙ many;
+      split = λ more. new.split (omega (arith, more, many)) ∙ many;
       opens = λ i low. new.opens i (omega (arith, low, many)) ∙ starts i;
     })
 
@@ -110,17 +132,18 @@ module _ (r : Run) (a : Actor) (next : Next) (before : IsBefore r a next) (to : 
   making = subst (MakingRegion T c at) (sym (same_Some to its.0 its.1)) its.2
 
   -- what it wants, by its words
-  wants : (words place value : ℕ) → 0 < words
-      → (words ≤ T.sizes.page_words → NewObject T c (slot_number (layout T) making.region) words (opens place value))
-      → HasWords T.code at.w act from words → Wants T (number_of a.seat.me) c next.function to words place value
-  wants words place value some fits has = record {
+  wants : (words lead place value : ℕ) → 0 < words → lead ≤ 2
+      → (IsSmall T words lead → NewObject T c (slot_number (layout T) making.region) words lead (opens place value))
+      → HasWords T.code at.w act from words lead → Wants T (number_of a.seat.me) c next.function to words lead place value
+  wants words lead place value some few fits has = record {
     region = making.region;
     in_class = making.in_class;
     low = let low = making.low in let same = slot_same T making.region in omega (arith, low, same);
     some = some;
-    fits = λ fit. subst (λ n. NewObject T c n words (opens place value)) (slot_same T making.region) (fits fit);
+    few = few;
+    fits = λ fit. subst (λ n. NewObject T c n words lead (opens place value)) (slot_same T making.region) (fits fit);
     large = λ more. Meets ObjectSize
-        (λ x. too_large T (number_of a.seat.me) c x (Some to) act from removes at words has more) refl;
+        (λ x. too_large T (number_of a.seat.me) c x (Some to) act from removes at words lead has more) refl;
   }
 
 no_elements : (ns : List ℕ) → length ns ≡ 0 → ns ≡ []
@@ -136,21 +159,21 @@ module _ (r : Run) (a : Actor) (next : Next) (before : IsBefore r a next) (to : 
       (no_elements from (shaped r a next before (action.New n) from (Some to, e)).operands) e
 
   pub wants_struct : (n words : ℕ) (e : operation_of next.op ≡ tac.Do (Some to) (action.New n) [])
-      → words ≡ struct_words (slice_get r.setup.code.structs n)
-      → Wants r.setup (number_of a.seat.me) (now r.setup a) next.function to words 0 0
+      → words ≡ all_struct_words (slice_get r.setup.code.structs n)
+      → Wants r.setup (number_of a.seat.me) (now r.setup a) next.function to words 0 0 0
   wants_struct n words e many =
       let x = at r a next before to (action.New n) [] e refl in
       let m = making r a next before to (action.New n) [] e refl in
       let made = makes_struct r.setup (number_of a.seat.me) (now r.setup a) before.stands.possible (Some to) n []
       (removes r a next before to (action.New n) [] e refl) x m.region m.makes in
       let some = some_words (slice_get r.setup.code.structs n) in
-      wants r a next before to (action.New n) [] e refl words 0 0 (omega (arith, some, many))
-      (λ fit. same_object r.setup (now r.setup a) _ _ _ words _ (opens 0 0) refl (sym many) (λ i. zero_both (i == 0)) made)
-      (OfStruct n refl many)
+      wants r a next before to (action.New n) [] e refl words 0 0 0 (omega (arith, some, many)) (omega arith)
+      (λ fit. same_object r.setup (now r.setup a) _ _ _ words 0 _ (opens 0 0) refl (sym many) (λ i. zero_both (i == 0)) made)
+      (OfStruct n refl many refl)
 
   module _ (size n : ℕ) (word : IsWord a.body size n) where
     pub wants_slice : (e : operation_of next.op ≡ tac.Do (Some to) action.Slice (size ∷ [])) → n < 2 ^ 63
-        → Wants r.setup (number_of a.seat.me) (now r.setup a) next.function to (n + 1) 0 n
+        → Wants r.setup (number_of a.seat.me) (now r.setup a) next.function to (n + 1) 1 0 n
     wants_slice e low =
         let x = at r a next before to action.Slice (size ∷ []) e refl in
         let m = making r a next before to action.Slice (size ∷ []) e refl in
@@ -159,26 +182,27 @@ module _ (r : Run) (a : Actor) (next : Next) (before : IsBefore r a next) (to : 
         let many : suc (word_at x.w size) ≡ n + 1 = omega (arith, is) in
         let made = makes_slice r.setup (now r.setup a) (Some to) size (removes r a next before to action.Slice (size ∷ []) e refl) x
         m.region m.makes small in
-        wants r a next before to action.Slice (size ∷ []) e refl (n + 1) 0 n (omega arith)
-        (λ fit. same_object r.setup (now r.setup a) _ _ _ (n + 1) _ (opens 0 n) refl many
+        wants r a next before to action.Slice (size ∷ []) e refl (n + 1) 1 0 n (omega arith) (omega arith)
+        (λ fit. same_object r.setup (now r.setup a) _ _ _ (n + 1) 1 _ (opens 0 n) refl many
         (λ i. ap (λ k. opens 0 k i) (sym is)) made)
-        (OfSlice size refl refl small (sym many))
+        (OfSlice size refl refl small (sym many) refl)
 
     pub wants_channel : (words : ℕ) (e : operation_of next.op ≡ tac.Do (Some to) action.Chan (size ∷ [])) → n < 2 ^ 63
-        → r.setup.sizes.page_words ≤ 1073741820 → words ≡ channel_words n
-        → Wants r.setup (number_of a.seat.me) (now r.setup a) next.function to words 1 n
+        → r.setup.sizes.page_words ≤ 16777215 → words ≡ channel_words n
+        → Wants r.setup (number_of a.seat.me) (now r.setup a) next.function to words 2 1 n
     wants_channel words e low least many =
         let x = at r a next before to action.Chan (size ∷ []) e refl in
         let m = making r a next before to action.Chan (size ∷ []) e refl in
         let is : n ≡ word_at x.w size = its_word r a next before size n word in
-        wants r a next before to action.Chan (size ∷ []) e refl words 1 n (omega (arith, many))
+        wants r a next before to action.Chan (size ∷ []) e refl words 2 1 n (omega (arith, many)) (omega arith)
         (λ fit.
-        let small : word_at x.w size < 1073741820 = omega (arith, is, fit, least, many) in
-        same_object r.setup (now r.setup a) _ _ _ words _ (opens 1 n) refl (ap channel_words (sym is) ∙ sym many)
+        let small : word_at x.w size < 1073741820 =
+        subst (λ k. k < 1073741820) is (few_in_channel n r.setup.sizes.page_words words many least fit) in
+        same_object r.setup (now r.setup a) _ _ _ words 2 _ (opens 1 n) refl (ap channel_words (sym is) ∙ sym many)
         (λ i. ap (λ k. opens 1 k i) (sym is))
         (makes_channel r.setup (now r.setup a) (Some to) size (removes r a next before to action.Chan (size ∷ []) e refl) x
         m.region m.makes small))
-        (OfChannel size refl refl (subst (λ k. k < 2 ^ 63) is low) (many ∙ ap channel_words is))
+        (OfChannel size refl refl (subst (λ k. k < 2 ^ 63) is low) (many ∙ ap channel_words is) refl)
 
     -- a negative size
     pub slice_traps : operation_of next.op ≡ tac.Do (Some to) action.Slice (size ∷ []) → 2 ^ 63 ≤ n → IsAtTrap r a a BadSize

@@ -1,14 +1,15 @@
 -- A new object is made: its words were stored, and the instruction is done.
-use Rattle.std.proofs.Common.{◌≡◌, ◌+◌, ◌*◌, ◌∙◌, ℕ, suc, List, [], Some, ap, sym, subst, refl, arith}
+use Rattle.std.proofs.Common.{◌≡◌, ◌+◌, ◌*◌, ◌∙◌, ℕ, suc, List, [], Some, ap, sym, subst, refl, arith, slice_index}
 use Rattle.std.proofs.lemmas.List.{append-nil}
 use Rattle.rgo_core.specs.Rule.declared.accesses.Access.{Access}
-use Rattle.rgo_core_facts.specs.MemoryObjects.{with_new_object}
+use Rattle.rgo_core_facts.specs.MemoryObjects.{with_new_object, with_new_object_apart}
 use Rattle.rgo_core.specs.Frames.Actions.{after_action}
-use Rattle.rgo_core.specs.Memory.Records.{Fill, with_object}
+use Rattle.rgo_core.specs.Memory.Records.{Fill, with_object, with_object_apart}
 use Rattle.rgo_core.specs.Core.{Setup}
+use Rattle.rgo_core.specs.NewObjects.{reserved_address}
 use Rattle.rgo_core.specs.Opening.{first_of}
 use Rattle.rgo_core.specs.Records.{Record, accesses, steps_of, ticked}
-use Rattle.rgo_core_steps.specs.After.{Position, given, making}
+use Rattle.rgo_core_steps.specs.After.{Position, given, making, making_apart}
 use Rattle.rgo_core_steps.specs.Grown.{Grew}
 use Rattle.rgo_core_steps.specs.Seats.{HasPossible, mine}
 use Rattle.rgo_core_steps.proofs.After.{at, moving_is}
@@ -23,7 +24,7 @@ use Rattle.rgo_body.specs.Shows.{Shows}
 use Rattle.rgo_body.specs.declared.nexts.Next.{Next}
 use Rattle.rgo_body.proofs.Showing.{like_shown}
 use Rattle.rgo_acts.specs.Actors.{Acted, now}
-use Rattle.rgo_acts.specs.Objects.{IsPlaced}
+use Rattle.rgo_acts.specs.Objects.{IsPlaced, IsPlacedApart}
 use Rattle.rgo_acts.specs.Ready.{IsBefore}
 use Rattle.rgo_acts.specs.Runs.{Run}
 use Rattle.rgo_acts.specs.declared.actors.Actor.{Actor}
@@ -108,6 +109,84 @@ module _ (s r : Run) (seen_is : s ≡ r) (a : Actor) (next : Next) (before : IsB
         frame = refl;
         side = refl;
         fills = refl;
+        reserved = refl;
+        make = refl;
+        claim = refl;
+        give = refl;
+        share = refl;
+        owed = refl;
+        prints = refl;
+        refused = refl;
+      }))))
+
+-- ---- a spread object
+
+module _ (r : Run) (a : Actor) (next : Next) (before : IsBefore r a next) where
+  abbrev d : Record
+  d = now r.setup a
+
+  abbrev after_apart : Position → Record
+  after_apart p = record d {
+    clock = record (ticked d.clock) {
+      share = record d.clock.share { steps = suc d.clock.share.steps; objects = suc d.clock.share.objects };
+    };
+    frame = after_action r.setup.code d.frame p.w p.ws p.instr (given p.instr.op) (suc (reserved_address r.setup d));
+    memory = with_object_apart d.memory;
+  }
+
+  making_apart_is : making_apart r.setup d ≡ after_apart (at (here r a next before))
+  making_apart_is = moving_is (here r a next before) after_apart
+
+  pub apart_continues : (object : Object) → Continues d (with_new_object_apart r.setup d object) 1 [] []
+  apart_continues object =
+      let is = making_apart_is in
+      record {
+        steps = ap steps_of is ∙ omega arith;
+        prints = ap (λ (e : Record). e.clock.prints) is ∙ sym (append-nil d.clock.prints);
+        children = ap (λ (e : Record). e.clock.children) is;
+        first = ap (λ (e : Record). e.clock.first) is;
+      }
+
+-- the body shows the record after it
+abbrev pub ApartShows : Program → (before after : Actor) → (word : ℕ) → Type 0
+ApartShows p a b word = (T : Setup) (c : Record) → Shows T p a.body c → suc (reserved_address T c) ≡ word → Shows T p b.body (making_apart T c)
+
+module _ (s r : Run) (seen_is : s ≡ r) (a : Actor) (next : Next) (before : IsBefore r a next) (new : New) (pages : List ℕ)
+    (placed : IsPlacedApart r.setup (now r.setup a) pages new) where
+  before_apart : IsBefore s a next
+  before_apart = subst (λ (x : Run). IsBefore x a next) (sym seen_is) before
+
+  abbrev pub placed_apart : IsPlacedApart s.setup (now s.setup a) pages new
+  placed_apart = subst (λ (x : Run). IsPlacedApart x.setup (now x.setup a) pages new) (sym seen_is) placed
+
+  pub apart_here : (b : Actor) → b.seat.table_id ≡ a.seat.table_id → b.behind ≡ 0
+      → (grew : (es : List Access) × Grew accesses (first_of s.setup.code) a.seat.me es b.seat.me)
+      → ((p : IsPlacedApart s.setup (now s.setup a) pages new)
+      → mine s.setup b.seat.me ≡ with_new_object_apart s.setup (now s.setup a) p.object.object)
+      → HasPossible s.setup b.seat.me → (word : ℕ) → ApartShows s.program a b word
+      → suc (slice_index pages 0 * s.setup.sizes.page_words) ≡ word → Acted r a b 1 [] []
+  apart_here b own at_once grew stored possible word shows points =
+      let p = placed_apart in
+      let object = p.object.object in
+      let e = stored p in
+      let follows = apart_continues s a next before_apart object in
+      let address = ap (λ (ps : List ℕ). suc (slice_index ps 0 * s.setup.sizes.page_words)) p.reserved ∙ points in
+      let shown = shows s.setup (now s.setup a) before_apart.stands.shows address in
+      subst (λ (x : Run). Acted x a b 1 [] []) seen_is
+      (acted_by s a b before_apart.stands 1 [] [] grew.0 own at_once grew.1 possible
+      (record {
+        steps = ap steps_of e ∙ follows.steps;
+        prints = ap (λ (d : Record). d.clock.prints) e ∙ follows.prints;
+        children = ap (λ (d : Record). d.clock.children) e ∙ follows.children;
+        first = ap (λ (d : Record). d.clock.first) e ∙ follows.first;
+      })
+      (subst (λ (d : Record). Shows s.setup s.program b.body d) (sym e)
+      (like_shown s.setup s.program b.body (making_apart s.setup (now s.setup a)) (with_new_object_apart s.setup (now s.setup a) object) shown
+      (record {
+        frame = refl;
+        side = refl;
+        fills = refl;
+        reserved = refl;
         make = refl;
         claim = refl;
         give = refl;

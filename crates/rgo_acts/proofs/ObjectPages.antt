@@ -1,22 +1,25 @@
 -- The page for a new object: the goroutine's own one, or one that it claims.
-use Rattle.std.proofs.Common.{◌≡◌, ◌+◌, ◌<◌, ◌≤◌, ◌∙◌, ◌++◌, ℕ, List, [], ◌∷◌, Option, Some, None, MatchOption, ap, sym, subst, refl, arith, if◌then◌else◌, length, nat_eq}
+use Rattle.std.proofs.Common.{◌≡◌, ◌+◌, ◌<◌, ◌≤◌, ◌∙◌, ◌++◌, ℕ, Bool, true, false, suc, List, [], ◌∷◌, Option, Some, None, MatchOption, ap, sym, subst, refl, inl, inr, arith, if◌then◌else◌, length, length-append, nat_eq}
 use Rattle.std.proofs.lemmas.List.{append-nil}
 use Rattle.std.specs.Option.{option_map}
 use Rattle.rgo_core.specs.Rule.Passes.{ChangesNothingBy}
 use Rattle.rgo_core.specs.Rule.Views.{number_of}
 use Rattle.rgo_core.specs.Rule.declared.accesses.Access.{Access}
 use Rattle.rgo_core.specs.Rule.declared.accesses.Kind.TheVariants.{ClaimPage}
-use Rattle.rgo_core_facts.specs.MemoryObjects.{HasNoRoom}
-use Rattle.rgo_core_facts.proofs.NewWords.{wants_page}
+use Rattle.rgo_core_facts.specs.MemoryObjects.{HasNoRoom, NewObject, data_pages_of}
+use Rattle.rgo_core_facts.proofs.DataPages.{less, not_less}
+use Rattle.rgo_core_facts.proofs.NewWords.{next_is_spread, wants_page, wants_reserved}
 use Rattle.rgo_core_facts.proofs.OwnPages.{claimed_page, own_pages}
 use Rattle.rgo_core_facts.proofs.Storing.{new_stays}
-use Rattle.rgo_core.specs.Memory.Records.{Fill}
+use Rattle.rgo_core.specs.Channels.Records.{at_rest}
+use Rattle.rgo_core.specs.Memory.Records.{Fill, Idle, Rest, with_claim}
 use Rattle.rgo_core.specs.Memory.Words.{state_at}
 use Rattle.rgo_core.specs.Memory.declared.layout.TableSizes.{TableSizes}
 use Rattle.rgo_core.specs.Core.{Setup, layout}
-use Rattle.rgo_core.specs.Records.{Record, steps_of}
-use Rattle.rgo_core_steps.specs.Making.{IsCalm, NeedsPage, page_of}
-use Rattle.rgo_core_steps.specs.Pages.{tried_page}
+use Rattle.rgo_core.specs.Claims.{claims, reserves}
+use Rattle.rgo_core.specs.Records.{Record, accessed, steps_of}
+use Rattle.rgo_core_steps.specs.Making.{IsCalm, NeedsPage, next_is_spread as next_spread, page_of}
+use Rattle.rgo_core_steps.specs.Pages.{takes_page, tried_page}
 use Rattle.rgo_core_steps.specs.Searches.{Miss, missing}
 use Rattle.rgo_core_steps.specs.Seats.{HasPossible, mine}
 use Rattle.rgo_body.specs.Pages.Claiming.{AllPagesTried, PageClaimed, has_claimed}
@@ -27,16 +30,17 @@ use Rattle.rgo_sound.specs.RegionMachine.declared.regions.Region.{Region}
 use Rattle.rgo_holding.specs.Holds.{region_at}
 use Rattle.rgo_holding.specs.Known.{own_page, page_of as page_in, slot_of}
 use Rattle.rgo_holding.specs.declared.entries.Page.{Page}
+use Rattle.rgo_holding.specs.declared.holding.Holding.{Holding}
 use Rattle.rgo_body.specs.Bodies.{HasRoomBehind, frames_in}
 use Rattle.rgo_body.specs.Nexts.{IsNextOf}
 use Rattle.rgo_body.specs.Programs.{Program}
+use Rattle.rgo_body.specs.Reserves.{Reserved}
 use Rattle.rgo_body.specs.Shows.{LooksLike, Shows}
-use Rattle.rgo_body.specs.Steps.{Becomes}
 use Rattle.rgo_body.specs.declared.bodies.Body.{Body}
 use Rattle.rgo_body.specs.declared.nexts.Next.{Next}
 use Rattle.rgo_body.proofs.Showing.{like_shown}
-use Rattle.rgo_acts.specs.Actors.{now}
-use Rattle.rgo_acts.specs.Objects.{HasNoPage, HasNoRoomHere, HasNoRoomIn, HasPage, IsNew}
+use Rattle.rgo_acts.specs.Actors.{Acted, Stands, now}
+use Rattle.rgo_acts.specs.Objects.{HasNoPage, HasNoRoomHere, HasNoRoomIn, HasPage, HasReserved, IsNew, IsSmall, opens}
 use Rattle.rgo_acts.specs.Ready.{IsBefore}
 use Rattle.rgo_acts.specs.Runs.{Run}
 use Rattle.rgo_acts.specs.Shortages.{AllInUse, LacksPage}
@@ -73,6 +77,7 @@ pub record HasTried (c d : Record) : Type 0 where
   pub frame : d.frame ≡ c.frame
   pub side : d.side ≡ c.side
   pub fills : d.memory.fills ≡ c.memory.fills
+  pub reserved : d.memory.reserved.pages ≡ c.memory.reserved.pages
   pub make : d.memory.make ≡ c.memory.make
   pub claim : d.memory.claim ≡ c.memory.claim
   pub give : d.memory.give ≡ c.memory.give
@@ -88,6 +93,7 @@ has_tried [] c = record {
   frame = refl;
   side = refl;
   fills = refl;
+  reserved = refl;
   make = refl;
   claim = refl;
   give = refl;
@@ -104,6 +110,7 @@ has_tried (t ∷ ts) c =
       frame = x.frame;
       side = x.side;
       fills = x.fills;
+      reserved = x.reserved;
       make = x.make;
       claim = x.claim;
       give = x.give;
@@ -120,6 +127,7 @@ looks_like c d x = record {
   frame = x.frame;
   side = x.side;
   fills = x.fills;
+  reserved = x.reserved;
   make = x.make;
   claim = x.claim;
   give = x.give;
@@ -127,6 +135,50 @@ looks_like c d x = record {
   owed = x.owed;
   prints = ap length x.prints;
   refused = x.refused;
+}
+
+-- ---- a page that was claimed
+
+-- the record after its page is hung on the chain of its region and linked
+abbrev pub linked : Record → Record
+linked c = record c { clock = accessed (accessed c.clock); memory = with_claim c.memory Idle }
+
+-- what a claim leaves as it was
+pub record IsTaken (c d : Record) : Type 0 where
+  pub frame : d.frame ≡ c.frame
+  pub side : d.side ≡ c.side
+  pub make : d.memory.make ≡ c.memory.make
+  pub steps : steps_of d ≡ steps_of c
+  pub objects : d.clock.share.objects ≡ c.clock.share.objects
+  pub prints : d.clock.prints ≡ c.clock.prints
+  pub children : d.clock.children ≡ c.clock.children
+  pub first : d.clock.first ≡ c.clock.first
+
+taken_own : (c : Record) (page slot : ℕ) → IsTaken c (linked (claims c page slot))
+taken_own c page slot =
+    record { frame = refl; side = refl; make = refl; steps = refl; objects = refl; prints = refl; children = refl; first = refl }
+
+taken_more : (c : Record) (page slot : ℕ) → IsTaken c (linked (reserves c page slot))
+taken_more c page slot =
+    record { frame = refl; side = refl; make = refl; steps = refl; objects = refl; prints = refl; children = refl; first = refl }
+
+length_one_more : (xs : List ℕ) (x : ℕ) → length (xs ++ x ∷ []) ≡ length xs + 1
+length_one_more xs x = omega (arith, length-append xs (x ∷ []))
+
+-- before the instruction still, where the body differs only in its regions, its counts and its reserved pages
+pub before_again : (r : Run) (a b : Actor) (next : Next) → IsBefore r a next → Stands r b
+    → b.body ≡ record a.body { holding = b.body.holding; counts = b.body.counts; reserved = b.body.reserved }
+    → b.body.counts.steps ≡ a.body.counts.steps → IsBefore r b next
+before_again r a b next before stands same steps = record {
+  stands = stands;
+  ready = record {
+    queue = ap (λ (k : Body). k.queue.duties) same ∙ before.ready.queue;
+    expanded = ap (λ (k : Body). k.is_expanded) same ∙ before.ready.expanded;
+    is_next = subst (λ (k : Body). IsNextOf r.program.code (frames_in k) next) (sym same) before.ready.is_next;
+  };
+  rests = ap (λ (k : Body). k.side) same ∙ before.rests;
+  room = subst (λ (k : Body). HasRoomBehind k next) (sym same) before.room;
+  count = let count = before.count in omega (arith, count, steps);
 }
 
 module _ (r : Run) (a : Actor) (next : Next) (before : IsBefore r a next) (new : New)
@@ -189,7 +241,15 @@ module _ (r : Run) (a : Actor) (next : Next) (before : IsBefore r a next) (new :
 
   pub needs : new.words ≤ T.sizes.page_words → HasNoRoomHere r a new → NeedsPage T c slot
   needs fits none =
-      wants_page T (number_of a.seat.me) c before.stands.possible slot new.words _ is.object fits (none is.region is.at_key)
+      inl (wants_page T (number_of a.seat.me) c before.stands.possible slot new.words new.before _ is.object fits
+      (none is.region is.at_key))
+
+  -- one that is reserved
+  pub needs_more : T.sizes.page_words < new.words → IsSmall T new.words new.before
+      → length a.body.reserved.pages ≤ data_pages_of T.sizes.page_words new.words new.before → NeedsPage T c slot
+  needs_more spread small more =
+      inr (wants_reserved T c slot new.words new.before _ is.object spread small
+      (subst (λ (ps : List ℕ). length ps ≤ data_pages_of T.sizes.page_words new.words new.before) (sym before.stands.shows.reserved) more))
 
   module _ (b : Actor) (own : b.seat.table_id ≡ a.seat.table_id) (at_once : b.behind ≡ 0) (possible : HasPossible T b.seat.me)
       (z : TableSizes) (sizes : z ≡ layout T) where
@@ -220,7 +280,7 @@ module _ (r : Run) (a : Actor) (next : Next) (before : IsBefore r a next) (new :
             words = subst (ChangesNothingBy (number_of a.seat.me)) its full.still;
             frame = ap (λ (k : Record). k.frame) (n ∙ e) ∙ x.frame;
           };
-          body = body;
+          body = body ∙ sym (ap (λ (k : Body). record a.body { reserved = record a.body.reserved { room = k.reserved.room } }) body);
           lacks = subst (LacksPage T (number_of a.seat.me) (now T b)) its
               (record {
                 slot = slot;
@@ -230,57 +290,138 @@ module _ (r : Run) (a : Actor) (next : Next) (before : IsBefore r a next) (new :
               });
         }
 
-    -- a page was free
+    -- a page was free: `took` makes of the record before the claim what the record is after it
+    module _ (page : ℕ) (t : PageClaimed T z slot c page a.seat.me b.seat.me) (took : Record → Record)
+        (taken : takes_page T (missing tried_page c t.tries) page slot ≡ took (missing tried_page c t.tries))
+        (goes : IsTaken (missing tried_page c t.tries) (linked (took (missing tried_page c t.tries))))
+        (same : b.body ≡ record a.body { holding = b.body.holding; counts = b.body.counts; reserved = b.body.reserved })
+        (shown : Shows T r.program b.body (has_claimed T (missing tried_page c t.tries) page slot)) where
+      abbrev d : Record
+      d = missing tried_page c t.tries
+
+      x : HasTried c d
+      x = has_tried t.tries c
+
+      e : mine T b.seat.me ≡ linked (took d)
+      e = t.made.after ∙ ap linked taken
+
+      n : now T b ≡ linked (took d)
+      n = now_at_once T b at_once ∙ e
+
+      shown_so : Shows T r.program b.body (linked (took d))
+      shown_so = subst (λ (k : Record). Shows T r.program b.body (linked k)) taken shown
+
+      pub claim_acted : Acted r a b 0 [] []
+      claim_acted =
+          acted_by r a b before.stands 0 [] [] t.made.es own at_once t.made.grew possible
+          (record {
+            steps = let k = ap steps_of e in let m = goes.steps in let l = ap (λ (s : Counts). s.steps) x.share in omega (arith, k, l, m);
+            prints = ap (λ (k : Record). k.clock.prints) e ∙ goes.prints ∙ x.prints ∙ sym (append-nil c.clock.prints);
+            children = ap (λ (k : Record). k.clock.children) e ∙ goes.children ∙ x.children;
+            first = ap (λ (k : Record). k.clock.first) e ∙ goes.first ∙ x.first;
+          })
+          (subst (λ (k : Record). Shows T r.program b.body k) (sym e) shown_so)
+
+      steps : b.body.counts.steps ≡ a.body.counts.steps
+      steps = sym (ap (λ (s : Counts). s.steps) shown_so.share) ∙ goes.steps
+          ∙ ap (λ (s : Counts). s.steps) (x.share ∙ before.stands.shows.share)
+
+      pub claim_before : IsBefore r b next
+      claim_before = before_again r a b next before claim_acted.stands same steps
+
+      pub claim_objects : b.body.counts.objects ≡ a.body.counts.objects
+      claim_objects = sym (ap (λ (s : Counts). s.objects) shown_so.share) ∙ goes.objects
+          ∙ ap (λ (s : Counts). s.objects) (x.share ∙ before.stands.shows.share)
+
+      pub claim_object : NewObject T (now T b) slot new.words new.before (opens new.place new.value)
+      claim_object = new_stays T c (now T b) slot new.words new.before _ (ap (λ (k : Record). k.frame) n ∙ goes.frame ∙ x.frame) is.object
+
+      pub claim_rests : (now T b).side ≡ at_rest
+      claim_rests = ap (λ (k : Record). k.side) n ∙ goes.side ∙ x.side ∙ rests r a next before
+
+      pub claim_make : (now T b).memory.make ≡ Rest
+      claim_make = ap (λ (k : Record). k.memory.make) n ∙ goes.make ∙ x.make ∙ before.stands.shows.calm.make
+
+      pub claim_now : now T b ≡ linked (took d)
+      claim_now = n
+
+    -- as its own one
     pub has_free : (page : ℕ) → region_at b.body.holding new.key ≡ Some is.region
         → (same : b.body ≡ record a.body { holding = b.body.holding; counts = b.body.counts })
-        → Becomes r.program a.body b.body (λ T c. has_claimed c page (slot_of T.sizes.regions is.region))
+        → ((T : Setup) (c : Record) → Shows T r.program a.body c → next_spread T c ≡ false
+        → Shows T r.program b.body (has_claimed T c page (slot_of T.sizes.regions is.region)))
         → new.words ≤ T.sizes.page_words → 0 < new.words
         → PageClaimed T z slot c page a.seat.me b.seat.me
         → HasPage r a b next new (record { page = page; fill = 0 })
     has_free page at same becomes fits some t =
         let d = missing tried_page c t.tries in
         let x = has_tried t.tries c in
-        let e : mine T b.seat.me ≡ has_claimed d page slot = t.made.after in
-        let n = now_at_once T b at_once ∙ e in
-        let shown = becomes T d (like_shown T r.program a.body c d before.stands.shows (looks_like c d x)) in
-        let acted = acted_by r a b before.stands 0 [] [] t.made.es own at_once t.made.grew possible
-        (record {
-          steps = let k = ap steps_of e ∙ ap (λ (s : Counts). s.steps) x.share in omega (arith, k);
-          prints = ap (λ (k : Record). k.clock.prints) e ∙ x.prints ∙ sym (append-nil c.clock.prints);
-          children = ap (λ (k : Record). k.clock.children) e ∙ x.children;
-          first = ap (λ (k : Record). k.clock.first) e ∙ x.first;
-        })
-        (subst (λ (k : Record). Shows T r.program b.body k) (sym e) shown) in
-        let steps : b.body.counts.steps ≡ a.body.counts.steps =
-        sym (ap (λ (s : Counts). s.steps) shown.share) ∙ ap (λ (s : Counts). s.steps) (x.share ∙ before.stands.shows.share) in
-        let count = before.count in
+        let whole : next_spread T d ≡ false =
+        next_is_spread T d slot new.words new.before _ (new_stays T c d slot new.words new.before _ x.frame is.object)
+        ∙ not_less T.sizes.page_words new.words fits in
+        let took : Record → Record = λ k. claims k page slot in
+        let taken : takes_page T d page slot ≡ claims d page slot =
+        ap (λ (s : Bool). if s then reserves d page slot else claims d page slot) whole in
+        let goes = taken_own d page slot in
+        let all : b.body ≡ record a.body { holding = b.body.holding; counts = b.body.counts; reserved = b.body.reserved } =
+        same ∙ ap (λ (q : Reserved). record a.body { holding = b.body.holding; counts = b.body.counts; reserved = q })
+        (sym (ap (λ (k : Body). k.reserved) same)) in
+        let shown = becomes T d (like_shown T r.program a.body c d before.stands.shows (looks_like c d x)) whole in
         record {
-          before = record {
-            stands = acted.stands;
-            ready = record {
-              queue = ap (λ (k : Body). k.queue.duties) same ∙ before.ready.queue;
-              expanded = ap (λ (k : Body). k.is_expanded) same ∙ before.ready.expanded;
-              is_next = subst (λ (k : Body). IsNextOf r.program.code (frames_in k) next) (sym same) before.ready.is_next;
-            };
-            rests = ap (λ (k : Body). k.side) same ∙ before.rests;
-            room = subst (λ (k : Body). HasRoomBehind k next) (sym same) before.room;
-            count = omega (arith, count, steps);
-          };
-          acted = acted;
-          objects = sym (ap (λ (s : Counts). s.objects) shown.share) ∙ ap (λ (s : Counts). s.objects) (x.share ∙ before.stands.shows.share);
+          before = claim_before page t took taken goes all shown;
+          acted = claim_acted page t took taken goes all shown;
+          objects = claim_objects page t took taken goes all shown;
           region = is.region;
           at_key = at;
-          placed =
-              let frame = ap (λ (k : Record). k.frame) n ∙ x.frame in
-              record {
-                object = new_stays T c (now T b) slot new.words _ frame is.object;
-                is_page = ap (λ (k : Record). page_of slot k.memory.fills) n ∙ claimed_page d.memory page slot;
-                room = omega (arith, fits);
-                low = subst (λ (k : TableSizes). page < k.pages) sizes t.low;
-                rests = ap (λ (k : Record). k.side) n ∙ x.side ∙ rests r a next before;
-                make = ap (λ (k : Record). k.memory.make) n ∙ x.make ∙ before.stands.shows.calm.make;
-                some = some;
-              };
+          placed = record {
+            object = claim_object page t took taken goes all shown;
+            is_page = ap (λ (k : Record). page_of slot k.memory.fills) (claim_now page t took taken goes all shown)
+                ∙ claimed_page d.memory page slot;
+            room = omega (arith, fits);
+            low = subst (λ (k : TableSizes). page < k.pages) sizes t.low;
+            rests = claim_rests page t took taken goes all shown;
+            make = claim_make page t took taken goes all shown;
+            some = some;
+          };
+        }
+
+    -- as one that is reserved
+    pub has_more : (page : ℕ) → b.body.reserved.pages ≡ a.body.reserved.pages ++ page ∷ []
+        → b.body.reserved.room + 1 ≡ a.body.reserved.room
+        → (same : b.body ≡ record a.body { reserved = b.body.reserved; counts = record a.body.counts { taken = suc a.body.counts.taken } })
+        → ((T : Setup) (c : Record) (slot : ℕ) → Shows T r.program a.body c → next_spread T c ≡ true
+        → Shows T r.program b.body (has_claimed T c page slot))
+        → T.sizes.page_words < new.words
+        → PageClaimed T z slot c page a.seat.me b.seat.me → HasReserved r a b next new 1
+    has_more page pages room same becomes spread t =
+        let d = missing tried_page c t.tries in
+        let x = has_tried t.tries c in
+        let apart : next_spread T d ≡ true =
+        next_is_spread T d slot new.words new.before _ (new_stays T c d slot new.words new.before _ x.frame is.object)
+        ∙ less T.sizes.page_words new.words spread in
+        let took : Record → Record = λ k. reserves k page slot in
+        let taken : takes_page T d page slot ≡ reserves d page slot =
+        ap (λ (s : Bool). if s then reserves d page slot else claims d page slot) apart in
+        let goes = taken_more d page slot in
+        let all : b.body ≡ record a.body { holding = b.body.holding; counts = b.body.counts; reserved = b.body.reserved } =
+        same ∙ (ap (λ (q : Counts). record a.body { reserved = b.body.reserved; counts = q }) (sym (ap (λ (k : Body). k.counts) same))
+        ∙ ap (λ (q : Holding). record a.body { holding = q; counts = b.body.counts; reserved = b.body.reserved })
+        (sym (ap (λ (k : Body). k.holding) same))) in
+        let shown = becomes T d slot (like_shown T r.program a.body c d before.stands.shows (looks_like c d x)) apart in
+        record {
+          before = claim_before page t took taken goes all shown;
+          acted = claim_acted page t took taken goes all shown;
+          is_new = record {
+            region = is.region;
+            at_key = ap (λ (k : Body). region_at k.holding new.key) same ∙ is.at_key;
+            low = is.low;
+            few = is.few;
+            object = claim_object page t took taken goes all shown;
+          };
+          pages = ap length pages ∙ length_one_more a.body.reserved.pages page;
+          room = room;
+          taken = ap (λ (k : Body). k.counts.taken) same ∙ omega arith;
+          objects = claim_objects page t took taken goes all shown;
         }
 
 -- ---- the same, where the run is seen by its fields. The sizes are those of its table.
@@ -294,6 +435,24 @@ abbrev TellsSlot : Actor → New → ℕ → Type 0
 TellsSlot a new n = (T : Setup) (p : Program) (c : Record) (region : Region) → Shows T p a.body c
     → region_at a.body.holding new.key ≡ Some region → n ≡ slot_of T.sizes.regions region
 
+-- the own page, if it has room
+module _ (r : Run) (a : Actor) (next : Next) (before : IsBefore r a next) (new : New) (is : IsNew r.setup (now r.setup a) a.body.holding new)
+    (n : ℕ) (words : n ≡ r.setup.sizes.page_words) (own : Option Page) (tells : TellsPage a new own) where
+  tells_here : (region : Region) → region_at a.body.holding new.key ≡ Some region
+      → option_map (own_page (slot_of r.setup.sizes.regions region)) own ≡ page_in (slot_of r.setup.sizes.regions region) (now r.setup a).memory.fills
+  tells_here region at = tells r.setup r.program (now r.setup a) region before.stands.shows at
+
+  pub its_own_page : (found : Option Page)
+      → MatchOption found (HasNoRoomIn n new.words own) (λ q. (own ≡ Some q) × (q.fill + new.words ≤ n))
+      → 0 < new.words → MatchOption found (HasNoRoomHere r a new) (HasPage r a a next new)
+  its_own_page None none some =
+      no_room_here r a next before new is own tells_here (subst (λ k. HasNoRoomIn k new.words own) words none)
+  its_own_page (Some page) room some =
+      has_own r a next before new is own page tells_here room.0 (subst (λ k. page.fill + new.words ≤ k) words room.1) some
+
+pub pages_same : (s r : Run) → s ≡ r → s.sizes ≡ layout s.setup → s.sizes.pages ≡ r.setup.sizes.pages
+pages_same s r seen_is sizes = ap (λ (z : TableSizes). z.pages) sizes ∙ ap (λ (x : Run). x.setup.sizes.pages) seen_is
+
 module _ (s r : Run) (seen_is : s ≡ r) (a : Actor) (next : Next) (before : IsBefore r a next) (new : New)
     (is : IsNew r.setup (now r.setup a) a.body.holding new) (sizes : s.sizes ≡ layout s.setup) where
   before_it : IsBefore s a next
@@ -302,55 +461,33 @@ module _ (s r : Run) (seen_is : s ≡ r) (a : Actor) (next : Next) (before : IsB
   its_new : IsNew s.setup (now s.setup a) a.body.holding new
   its_new = subst (λ (x : Run). IsNew x.setup (now x.setup a) a.body.holding new) (sym seen_is) is
 
-  words_fit : new.words ≤ r.sizes.page_words → new.words ≤ s.setup.sizes.page_words
-  words_fit fits =
-      let here = subst (λ (x : Run). new.words ≤ x.sizes.page_words) (sym seen_is) fits in
-      subst (λ (z : TableSizes). new.words ≤ z.page_words) sizes here
+  words_fit : new.words ≤ r.setup.sizes.page_words → new.words ≤ s.setup.sizes.page_words
+  words_fit fits = subst (λ (x : Run). new.words ≤ x.setup.sizes.page_words) (sym seen_is) fits
 
-  own_for : (own : Option Page) → TellsPage a new own → (page : Page) → own ≡ Some page
-      → page.fill + new.words ≤ s.sizes.page_words → 0 < new.words → HasPage r a a next new page
-  own_for own tells page found room some =
-      subst (λ (x : Run). HasPage x a a next new page) seen_is
-      (has_own s a next before_it new its_new own page
-      (λ region at. tells s.setup s.program (now s.setup a) region before_it.stands.shows at) found
-      (subst (λ (z : TableSizes). page.fill + new.words ≤ z.page_words) sizes room) some)
-
-  no_room_for : (own : Option Page) → TellsPage a new own → HasNoRoomIn s.sizes.page_words new.words own → HasNoRoomHere r a new
-  no_room_for own tells none =
-      subst (λ (x : Run). HasNoRoomHere x a new) seen_is
-      (no_room_here s a next before_it new its_new own
-      (λ region at. tells s.setup s.program (now s.setup a) region before_it.stands.shows at)
-      (subst (λ (z : TableSizes). HasNoRoomIn z.page_words new.words own) sizes none))
-
-  pub its_own_page : (own : Option Page) → TellsPage a new own → (found : Option Page)
-      → MatchOption found (HasNoRoomIn s.sizes.page_words new.words own) (λ q. (own ≡ Some q) × (q.fill + new.words ≤ s.sizes.page_words))
-      → 0 < new.words → MatchOption found (HasNoRoomHere r a new) (HasPage r a a next new)
-  its_own_page own tells None none some = no_room_for own tells none
-  its_own_page own tells (Some page) room some = own_for own tells page room.0 room.1 some
-
-  needs_slot : new.words ≤ r.sizes.page_words → HasNoRoomHere r a new
+  needs_slot : new.words ≤ r.setup.sizes.page_words → HasNoRoomHere r a new
       → NeedsPage s.setup (now s.setup a) (slot_of s.setup.sizes.regions its_new.region)
   needs_slot fits none =
       needs s a next before_it new its_new (words_fit fits) (subst (λ (x : Run). HasNoRoomHere x a new) (sym seen_is) none)
 
-  pub needs_here : new.words ≤ r.sizes.page_words → HasNoRoomHere r a new → (n : ℕ) → TellsSlot a new n
+  pub needs_here : new.words ≤ r.setup.sizes.page_words → HasNoRoomHere r a new → (n : ℕ) → TellsSlot a new n
       → NeedsPage s.setup (now s.setup a) n
   needs_here fits none n tells =
       subst (NeedsPage s.setup (now s.setup a))
       (sym (tells s.setup s.program (now s.setup a) its_new.region before_it.stands.shows its_new.at_key)) (needs_slot fits none)
 
   module _ (b : Actor) (own : b.seat.table_id ≡ a.seat.table_id) (at_once : b.behind ≡ 0) (possible : HasPossible s.setup b.seat.me) where
-    pub none_here : new.words ≤ r.sizes.page_words → HasNoRoomHere r a new → b.body ≡ a.body
+    pub none_here : new.words ≤ r.setup.sizes.page_words → HasNoRoomHere r a new → b.body ≡ a.body
         → AllPagesTried s.setup s.sizes (now s.setup a) a.seat.me b.seat.me → HasNoPage r a b
     none_here fits none body t =
         subst (λ (x : Run). HasNoPage x a b) seen_is
         (none_free s a next before_it new its_new b own at_once possible s.sizes sizes body (needs_slot fits none) t)
 
-    pub claimed_here : new.words ≤ r.sizes.page_words → (n : ℕ) → TellsSlot a new n → (page : ℕ)
+    pub claimed_here : new.words ≤ r.setup.sizes.page_words → (n : ℕ) → TellsSlot a new n → (page : ℕ)
         → region_at b.body.holding new.key ≡ region_at a.body.holding new.key
         → b.body ≡ record a.body { holding = b.body.holding; counts = b.body.counts }
         → ((region : Region) → region_at a.body.holding new.key ≡ Some region
-        → Becomes s.program a.body b.body (λ T c. has_claimed c page (slot_of T.sizes.regions region)))
+        → (T : Setup) (c : Record) → Shows T s.program a.body c → next_spread T c ≡ false
+        → Shows T s.program b.body (has_claimed T c page (slot_of T.sizes.regions region)))
         → 0 < new.words → PageClaimed s.setup s.sizes n (now s.setup a) page a.seat.me b.seat.me
         → HasPage r a b next new (record { page = page; fill = 0 })
     claimed_here fits n tells page regions same becomes some t =
@@ -358,4 +495,44 @@ module _ (s r : Run) (seen_is : s ≡ r) (a : Actor) (next : Next) (before : IsB
         subst (λ (x : Run). HasPage x a b next new (record { page = page; fill = 0 })) seen_is
         (has_free s a next before_it new its_new b own at_once possible s.sizes sizes page (regions ∙ its_new.at_key) same
         (becomes its_new.region its_new.at_key) (words_fit fits) some
+        (subst (λ k. PageClaimed s.setup s.sizes k (now s.setup a) page a.seat.me b.seat.me) at t))
+
+  -- ---- a reserved page
+
+  needs_more_slot : r.setup.sizes.page_words < new.words → IsSmall r.setup new.words new.before
+      → length a.body.reserved.pages ≤ data_pages_of r.setup.sizes.page_words new.words new.before
+      → NeedsPage s.setup (now s.setup a) (slot_of s.setup.sizes.regions its_new.region)
+  needs_more_slot spread small more =
+      needs_more s a next before_it new its_new
+      (subst (λ (x : Run). x.setup.sizes.page_words < new.words) (sym seen_is) spread)
+      (subst (λ (x : Run). IsSmall x.setup new.words new.before) (sym seen_is) small)
+      (subst (λ (x : Run). length a.body.reserved.pages ≤ data_pages_of x.setup.sizes.page_words new.words new.before) (sym seen_is) more)
+
+  pub needs_more_here : r.setup.sizes.page_words < new.words → IsSmall r.setup new.words new.before
+      → length a.body.reserved.pages ≤ data_pages_of r.setup.sizes.page_words new.words new.before → (n : ℕ) → TellsSlot a new n
+      → NeedsPage s.setup (now s.setup a) n
+  needs_more_here spread small more n tells =
+      subst (NeedsPage s.setup (now s.setup a))
+      (sym (tells s.setup s.program (now s.setup a) its_new.region before_it.stands.shows its_new.at_key)) (needs_more_slot spread small more)
+
+  module _ (b : Actor) (own : b.seat.table_id ≡ a.seat.table_id) (at_once : b.behind ≡ 0) (possible : HasPossible s.setup b.seat.me) where
+    pub no_more_here : r.setup.sizes.page_words < new.words → IsSmall r.setup new.words new.before
+        → length a.body.reserved.pages ≤ data_pages_of r.setup.sizes.page_words new.words new.before → b.body ≡ a.body
+        → AllPagesTried s.setup s.sizes (now s.setup a) a.seat.me b.seat.me → HasNoPage r a b
+    no_more_here spread small more body t =
+        subst (λ (x : Run). HasNoPage x a b) seen_is
+        (none_free s a next before_it new its_new b own at_once possible s.sizes sizes body (needs_more_slot spread small more) t)
+
+    pub more_here : r.setup.sizes.page_words < new.words → (n : ℕ) → TellsSlot a new n → (page : ℕ)
+        → b.body.reserved.pages ≡ a.body.reserved.pages ++ page ∷ []
+        → b.body.reserved.room + 1 ≡ a.body.reserved.room
+        → b.body ≡ record a.body { reserved = b.body.reserved; counts = record a.body.counts { taken = suc a.body.counts.taken } }
+        → ((T : Setup) (c : Record) (slot : ℕ) → Shows T s.program a.body c → next_spread T c ≡ true
+        → Shows T s.program b.body (has_claimed T c page slot))
+        → PageClaimed s.setup s.sizes n (now s.setup a) page a.seat.me b.seat.me → HasReserved r a b next new 1
+    more_here spread n tells page pages room same becomes t =
+        let at = tells s.setup s.program (now s.setup a) its_new.region before_it.stands.shows its_new.at_key in
+        subst (λ (x : Run). HasReserved x a b next new 1) seen_is
+        (has_more s a next before_it new its_new b own at_once possible s.sizes sizes page pages room same becomes
+        (subst (λ (x : Run). x.setup.sizes.page_words < new.words) (sym seen_is) spread)
         (subst (λ k. PageClaimed s.setup s.sizes k (now s.setup a) page a.seat.me b.seat.me) at t))

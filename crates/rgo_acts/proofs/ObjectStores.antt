@@ -48,7 +48,7 @@ module _ (T : Setup) (c : Record) (slot : ℕ) (page : Page) (new : New) (p : Is
   object = p.object.object
 
   next : StoresNext T c f object i (opens new.place new.value i)
-  next = stores_words T c slot new.words (opens new.place new.value) p.object f p.is_page p.room i less
+  next = stores_words T c slot new.words new.before (opens new.place new.value) p.object f p.is_page p.room i less
 
   module _ (q : ℕ) (m : Me Record) (settles : Settles T q m) (so_far : IsSoFar T c f object new.words i (settled T q m)) where
     is : settled T q m ≡ storing c f object i

@@ -1,5 +1,5 @@
 -- A print: its bytes are what the record's next instruction prints, and the record has them with the ticket.
-use Rattle.std.proofs.Common.{◌≡◌, ◌<◌, ◌≤◌, ◌+◌, ◌%◌, ◌^◌, ◌++◌, ◌↔◌, ℕ, suc, Bool, true, List, [], ◌∷◌, Option, None, Some, map, nat_le, slice_get, length, refl, ap, sym, subst, ◌∙◌, arith}
+use Rattle.std.proofs.Common.{◌≡◌, ◌<◌, ◌≤◌, ◌+◌, ◌%◌, ◌^◌, ◌++◌, ◌↔◌, ℕ, Bool, true, List, [], ◌∷◌, Option, None, Some, map, slice_get, refl, ap, sym, subst, ◌∙◌, arith}
 use Rattle.std.proofs.lemmas.Bool.Decides.{nat_tests}
 use Rattle.rgo_sound.specs.Code.Code as code
 use Rattle.std.specs.Option.{option_map}

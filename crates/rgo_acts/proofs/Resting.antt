@@ -4,7 +4,7 @@ use Rattle.std.proofs.lemmas.Option.{none-some, same_Some}
 use Rattle.rgo_sound.specs.Code.Code as code
 use Rattle.rgo_sound.specs.Code.Code.{CodeInstr, CodeOp}
 use Rattle.rgo_sound.specs.Code.Erasure.{erased_op}
-use Rattle.rgo_core.specs.Channels.Records.{Free, KnowsOf, Nothing, Nowhere, Offering, Rec as SideRec, Saw, Shut, Size, Sized, Stranded, Unknown, at_rest}
+use Rattle.rgo_core.specs.Channels.Records.{Free, KnowsOf, Nothing, Nowhere, Offering, Reach, Reached, Rec as SideRec, Saw, Shut, Size, Sized, Stranded, Unknown, Unreached, at_rest}
 use Rattle.rgo_core.specs.Channels.Standing.{IsAt as IsAtChannel, IsOfChannel, OperatesOn}
 use Rattle.rgo_core.specs.Frames.Fits.{Fits, IsPast, IsShown}
 use Rattle.rgo_core.specs.Frames.Shown.{FramesShow}
@@ -20,7 +20,7 @@ use Rattle.rgo_sound.specs.Typed.declared.actions.Action.{Action}
 use Rattle.rgo_core.proofs.Parts.{I}
 use Rattle.rgo_core.proofs.Standing.{frame_at, side_at}
 use Rattle.rgo_core.specs.Core.{Here, Setup, layout}
-use Rattle.rgo_core.specs.Image.{place_of}
+use Rattle.rgo_core.specs.Channels.Positions.{place_at}
 use Rattle.rgo_core.specs.Next.{IsAt}
 use Rattle.rgo_core.specs.Records.{Record}
 use Rattle.rgo_core.specs.Rule.Views.{number_of}
@@ -97,18 +97,23 @@ module _ {T : Setup} {g : ℕ} {c : Record} (x : Here T g c) (no_offer : c.frame
   knows_some : c.side.post ≡ Nowhere → (a : ℕ) → KnowsOf c.side a → AtSome T c
   knows_some nowhere a q = by ((I x).channels.knows g a c.side (side_at x) q)
     where
-      by : IsAtChannel T.code (place_of (layout T) (I x).places) x.s g c.side.post a → AtSome T c
+      by : IsAtChannel T.code (place_at (layout T) (I x).places) x.s g c.side.post a → AtSome T c
       by (inl m) = at_some m.1 m.3
       by (inr post) = absurd (let e : Nowhere ≡ Offering a = sym nowhere ∙ post in cc e)
 
 -- ---- else it knows nothing
 
-rest_is : (k : SideRec) → k.hold ≡ Free → k.size ≡ Unknown → k.post ≡ Nowhere → k.saw ≡ Nothing → k ≡ at_rest
-rest_is k a b c d =
-    ap (λ h. record { hold = h; size = k.size; post = k.post; saw = k.saw }) a
-    ∙ (ap (λ s. record { hold = Free; size = s; post = k.post; saw = k.saw }) b
-    ∙ (ap (λ p. record { hold = Free; size = Unknown; post = p; saw = k.saw }) c
-    ∙ ap (λ s. record { hold = Free; size = Unknown; post = Nowhere; saw = s }) d))
+rest_is : (k : SideRec) → k.hold ≡ Free → k.size ≡ Unknown → k.reach ≡ Unreached → k.post ≡ Nowhere → k.saw ≡ Nothing → k ≡ at_rest
+rest_is k a b r c d =
+    ap (λ h. record { hold = h; size = k.size; reach = k.reach; post = k.post; saw = k.saw }) a
+    ∙ (ap (λ s. record { hold = Free; size = s; reach = k.reach; post = k.post; saw = k.saw }) b
+    ∙ (ap (λ q. record { hold = Free; size = Unknown; reach = q; post = k.post; saw = k.saw }) r
+    ∙ (ap (λ p. record { hold = Free; size = Unknown; reach = Unreached; post = p; saw = k.saw }) c
+    ∙ ap (λ s. record { hold = Free; size = Unknown; reach = Unreached; post = Nowhere; saw = s }) d)))
+
+no_reach : (k : SideRec) → ((a : ℕ) → KnowsOf k a → ⊥) → (q : Reach) → k.reach ≡ q → k.reach ≡ Unreached
+no_reach k none Unreached e = e
+no_reach k none (Reached a i w) e = absurd (none a (inr (inr (inr (inr (inr (i, w, e)))))))
 
 no_size : (k : SideRec) → ((a : ℕ) → KnowsOf k a → ⊥) → (s : Size) → k.size ≡ s → k.size ≡ Unknown
 no_size k none Unknown e = e
@@ -121,7 +126,7 @@ no_saw k none (Stranded a) e = absurd (none a (inr (inr (inr (inl e)))))
 
 pub rests_elsewhere : RestsElsewhere
 rests_elsewhere T g c x free nowhere no_offer elsewhere =
-    rest_is c.side free (no_size c.side none c.side.size refl) nowhere (no_saw c.side none c.side.saw refl)
+    rest_is c.side free (no_size c.side none c.side.size refl) (no_reach c.side none c.side.reach refl) nowhere (no_saw c.side none c.side.saw refl)
   where
     none : (a : ℕ) → KnowsOf c.side a → ⊥
     none a q = let t = knows_some x no_offer nowhere a q in elsewhere t.0 t.1 t.2 t.3 t.4 t.5

@@ -1,5 +1,5 @@
 -- What is said of an operation on a channel, by what rgo_chan says of its try.
-use Rattle.std.proofs.Common.{◌≡◌, ◌≢◌, ◌⊎◌, ◌%◌, ℕ, List, [], ◌∷◌, ◌++◌, Some, None, refl, ap, sym, subst, ◌∙◌, ⊎_elim, inr}
+use Rattle.std.proofs.Common.{◌+◌, ◌≡◌, ◌≢◌, ◌⊎◌, ◌%◌, ℕ, List, [], ◌∷◌, ◌++◌, Some, None, refl, ap, sym, subst, ◌∙◌, ⊎_elim, inr}
 use Rattle.rgo_core.specs.Channels.Records as sides
 use Rattle.rgo_core.specs.Channels.Records.{Free, Nowhere, Rec as SideRec, with_look, with_own_look, with_size}
 use Rattle.rgo_core.specs.Rule.Views.{number_of}
@@ -13,7 +13,7 @@ use Rattle.rgo_core_steps.specs.Calls.{Did, accessing, waited}
 use Rattle.rgo_core_steps.specs.Ends.{Closes as TrapsAtClose, ClosesNil, Offers as TrapsAtOffer, Sends as TrapsAtSend}
 use Rattle.rgo_core_steps.specs.Seats.{HasPossible, mine}
 use Rattle.rgo_sound.specs.Memory.declared.traps.Trap.TheVariants.{CloseNil, SendClosed}
-use Rattle.rgo_chan.specs.Answers.{Acknowledges, Closes, Receives, Sends, loads_capacity, loads_control, looked, looks, misses}
+use Rattle.rgo_chan.specs.Answers.{Acknowledges, Closes, Receives, Sends, loads_capacity, loads_control, looked, looks, misses, numbers}
 use Rattle.rgo_chan.specs.Before.{ClosesAt, IsBeforeClose, IsBeforeReceive, IsBeforeSend, ReceivesAt, SendsAt}
 use Rattle.rgo_chan.specs.declared.answers.Tried.{Tried}
 use Rattle.rgo_chan.specs.declared.answers.Tried.TheVariants.{Busy, Done, NotReady, Offered, Trap as Trapped}
@@ -137,9 +137,9 @@ module _ (r : Run) (a b : Actor) (next : Next) (can : CanTry r a next) (own : b.
   pub sends_talk : (value : ℕ) → SendsAt T c at value → (answer : Tried) (t' : Talked)
       → Sends T at c value answer a.seat.me s b.seat.me t → Concludes r.program a.body b.body at answer → Says at answer t' → Talks r a b 1 t'
   sends_talk value here (Done v) t' p body says =
-      subst (Talks r a b 1) (sym says) (done r a b can.stands own at_once possible here.here (sends_there here) 4 0 v p.0 p.7 body)
+      subst (Talks r a b 1) (sym says) (done r a b can.stands own at_once possible here.here (sends_there here) (4 + numbers r.setup p.1) 0 v p.0 p.8 body)
   sends_talk value here Offered t' p body says =
-      subst (Talks r a b 1) (sym says) (offered r a b can.stands own at_once possible 4 at p.5 body)
+      subst (Talks r a b 1) (sym says) (offered r a b can.stands own at_once possible (4 + numbers r.setup 0) at p.6 body)
   sends_talk value here NotReady t' p body says =
       let shows = shows_looked body 2 p.0 p.1 in
       let side = looked at c.side p.0 p.1 in
@@ -172,9 +172,9 @@ module _ (r : Run) (a b : Actor) (next : Next) (can : CanTry r a next) (own : b.
       → Talks r a b 1 t' × OfReceive t'
   receives_talk here (Done v) t' p body says =
       let result = ⊎_elim
-      (λ q. done r a b can.stands own at_once possible here.1 (receives_there here) 4 v v refl q.6 body)
+      (λ q. done r a b can.stands own at_once possible here.1 (receives_there here) (4 + numbers r.setup q.0) v v refl q.7 body)
       (λ q. ⊎_elim (λ z. done r a b can.stands own at_once possible here.1 (receives_there here) 3 0 v z.0 z.6 body)
-      (λ z. done r a b can.stands own at_once possible here.1 (receives_there here) 4 v v refl z.5 body) q) p in
+      (λ z. done r a b can.stands own at_once possible here.1 (receives_there here) (4 + numbers r.setup 0) v v refl z.6 body) q) p in
       subst (λ x. Talks r a b 1 x × OfReceive x) (sym says) (result, tt)
   receives_talk here Offered t' p body says = absurd p
   receives_talk here NotReady t' p body says =

@@ -40,6 +40,7 @@ shows_accessing T p b c k shows =
       frame = refl;
       side = refl;
       fills = refl;
+      reserved = refl;
       make = refl;
       claim = refl;
       give = refl;

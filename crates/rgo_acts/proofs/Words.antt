@@ -1,7 +1,6 @@
 -- Words of pages and package variables are words of the table of a run.
-use Rattle.std.proofs.Common.{◌≡◌, ◌<◌, ◌≤◌, ◌+◌, ◌^◌, ℕ, length, sym, subst, ap, ◌∙◌, arith}
+use Rattle.std.proofs.Common.{◌≡◌, ◌<◌, ◌≤◌, ◌+◌, ℕ, length, sym, ap, ◌∙◌, arith}
 use Rattle.rgo_core.specs.Memory.Words.{all_words, base, variable_at}
-use Rattle.rgo_core.specs.Memory.declared.layout.TableSizes.{TableSizes}
 use Rattle.rgo_core.specs.Bounds.{LieInPages}
 use Rattle.rgo_core.specs.Core.{layout}
 use Rattle.rgo_core_facts.proofs.Lying.{pages_in_table}

@@ -1,5 +1,5 @@
 -- Actors and runs that are as their definitions say, and such as are not.
-use Rattle.std.specs.Prelude.{◌≡◌, ◌≤◌, ℕ, true, false, List, [], ◌∷◌, Some, None}
+use Rattle.std.specs.Prelude.{◌≡◌, ◌≤◌, ℕ, suc, true, false, List, [], ◌∷◌, Some, None}
 use Rattle.rgo_core.specs.Records.{Drawn}
 use Rattle.rgo_core.specs.Channels.Records.{at_rest}
 use Rattle.rgo_sound.specs.Machine.declared.limits.Limits.{Limits}
@@ -10,7 +10,7 @@ use Rattle.rgo_body.specs.Programs.{Program}
 use Rattle.rgo_body.specs.declared.bodies.Body.{Body}
 use Rattle.rgo_body.specs.declared.nexts.Next.{Next}
 use Rattle.rgo_acts.specs.Actors.{Acted, Stands, distance, now}
-use Rattle.rgo_acts.specs.Elements.{HasElement, HasMeasured, HasNoElementHere, IsAtElementOf}
+use Rattle.rgo_acts.specs.Elements.{HasElement, HasLocated, HasMeasured, HasNoElementHere, IsAtElementOf, IsAtFieldOf}
 use Rattle.rgo_acts.specs.Ready.{IsBefore}
 use Rattle.rgo_acts.specs.Runs.{IsRun, Run}
 use Rattle.rgo_acts.specs.Starts.{HasStarted}
@@ -48,3 +48,12 @@ pub record ElementExamples : Type 0 where
   pub outside : (r : Run) (a b : Actor) (next : Next) (p q word : ℕ) → r.table.words ≤ word → HasElement r a b next p q word → ⊥
   -- an element that the slice has
   pub either : (r : Run) (a b : Actor) (next : Next) (p q word : ℕ) → HasElement r a b next p q word → HasNoElementHere r a b next p q → ⊥
+  pub load_field : IsAtFieldOf (Do (Some 2) (action.Load 1) (0 ∷ [])) 0 1
+  pub store_field : IsAtFieldOf (Do None (action.Store 1) (0 ∷ 2 ∷ [])) 0 1
+  -- another field
+  pub other_field : IsAtFieldOf (Do (Some 2) (action.Load 1) (0 ∷ [])) 0 2 → ⊥
+  -- an element
+  pub element : IsAtFieldOf (Do (Some 2) action.At (0 ∷ 1 ∷ [])) 0 1 → ⊥
+  -- the word of a cell that was located, in place of that of the next one
+  pub located : (r : Run) (a b : Actor) (next : Next) (address cell word : ℕ) → HasLocated r a b next address cell word
+      → HasLocated r a b next address (suc cell) word → ⊥

@@ -1,12 +1,14 @@
 -- The definitions of new objects, each where it holds and where it must not.
-use Rattle.std.specs.Prelude.{◌≡◌, ℕ, [], ◌∷◌, None, Some}
+use Rattle.std.specs.Prelude.{◌≡◌, ℕ, List, [], ◌∷◌, None, Some}
+use Rattle.rgo_core.specs.ChannelExamples.{with_words}
+use Rattle.rgo_core.specs.Core.{Setup}
 use Rattle.rgo_core_facts.specs.MemoryExamples.{making_slices, three}
 use Rattle.rgo_core.specs.Records.{Record}
 use Rattle.rgo_core.specs.Rule.Views.{number_of}
 use Rattle.rgo_sound.specs.Machine.declared.limits.Limits.{Limits}
 use Rattle.rgo_holding.specs.declared.entries.Page.{Page}
 use Rattle.rgo_acts.specs.DutyExamples.{one_taken}
-use Rattle.rgo_acts.specs.Objects.{HasNoPage, HasNoRoomIn, IsPlaced, opens}
+use Rattle.rgo_acts.specs.Objects.{HasNoPage, HasNoRoomIn, IsPlaced, IsPlacedApart, IsSmall, most_steps, opens}
 use Rattle.rgo_acts.specs.Runs.{Run}
 use Rattle.rgo_acts.specs.declared.actors.Actor.{Actor}
 use Rattle.rgo_acts.specs.declared.objects.New.{New}
@@ -20,11 +22,25 @@ empty = record { page = 1; fill = 0 }
 
 -- a slice of three elements
 abbrev pub three_elements : New
-three_elements = record { key = record { 0 = 0 }; words = 4; place = 0; value = 3 }
+three_elements = record { key = record { 0 = 0 }; words = 4; before = 1; place = 0; value = 3 }
 
 -- before it is made, with an own page in Global
 abbrev pub with_own : (fill : ℕ) → Record
 with_own n = record three { memory = record three.memory { fills = record { slot = 1; page = 1; fill = n } ∷ [] } }
+
+-- a slice of five elements, for which two of these pages are data pages
+abbrev pub five_elements : New
+five_elements = record { key = record { 0 = 0 }; words = 6; before = 1; place = 0; value = 5 }
+
+abbrev pub its_pages : List ℕ
+its_pages = 2 ∷ 0 ∷ 1 ∷ []
+
+-- before it is made, with these pages reserved
+abbrev pub five : List ℕ → Record
+five ps = record (with_words (5 ∷ 0 ∷ [])) { memory = record (with_words (5 ∷ 0 ∷ [])).memory { reserved = record { slot = 1; pages = ps } } }
+
+abbrev pub making_in_three : Limits → Setup
+making_in_three limits = record (making_slices limits) { sizes = record { page_words = 4; pages = 3; regions = 1 } }
 
 pub record ObjectExamples : Type 0 where
   pub first : opens 1 5 1 ≡ 5
@@ -37,3 +53,14 @@ pub record ObjectExamples : Type 0 where
   pub placed : (limits : Limits) → IsPlaced (making_slices limits) (with_own 0) 1 empty three_elements
   -- the page has too few words left
   pub overfull : (limits : Limits) → IsPlaced (making_slices limits) (with_own 2) 1 half_full three_elements → ⊥
+  -- an object of four words fits a page of four; one of seven takes a lead page and two data pages, each after a look at both pages
+  pub few_steps : (limits : Limits) → most_steps (making_slices limits) 4 1 ≡ 8
+  pub more_steps : (limits : Limits) → most_steps (making_slices limits) 7 1 ≡ 21
+  -- in pages of four words an object has two data pages at the most
+  pub small : (limits : Limits) → IsSmall (making_slices limits) 9 1
+  pub large : (limits : Limits) → IsSmall (making_slices limits) 10 1 → ⊥
+  pub apart : (limits : Limits) → IsPlacedApart (making_in_three limits) (five its_pages) its_pages five_elements
+  -- a data page too few
+  pub too_few : (limits : Limits) (c : Record) → IsPlacedApart (making_in_three limits) c (2 ∷ 0 ∷ []) five_elements → ⊥
+  -- it would fit a page
+  pub not_spread : (limits : Limits) (c : Record) (ps : List ℕ) → IsPlacedApart (making_in_three limits) c ps three_elements → ⊥

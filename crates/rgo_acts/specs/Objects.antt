@@ -1,7 +1,7 @@
 -- New objects: what an act leaves that makes one, and what is known of it before its words are stored.
-use Rattle.std.specs.Prelude.{◌≡◌, ◌+◌, ◌<◌, ◌≤◌, ◌==◌, ℕ, Option, Some, None, [], if◌then◌else◌}
+use Rattle.std.specs.Prelude.{◌≡◌, ◌+◌, ◌*◌, ◌<◌, ◌≤◌, ◌==◌, ℕ, suc, List, Option, Some, None, [], if◌then◌else◌, length, slice_index}
 use Rattle.rgo_core.specs.Channels.Records.{at_rest}
-use Rattle.rgo_core_facts.specs.MemoryObjects.{HasNoRoom, NewObject}
+use Rattle.rgo_core_facts.specs.MemoryObjects.{HasNoRoom, NewObject, data_pages_of}
 use Rattle.rgo_core.specs.Memory.Records.{Rest}
 use Rattle.rgo_core.specs.Rule.Views.{number_of}
 use Rattle.rgo_core.specs.Core.{Setup}
@@ -14,10 +14,12 @@ use Rattle.rgo_holding.specs.declared.entries.Page.{Page}
 use Rattle.rgo_holding.specs.declared.holding.Holding.{Holding}
 use Rattle.rgo_sound.specs.Code.Code.{CodeFn}
 use Rattle.rgo_sound.specs.Code.Names.{class_of}
+use Rattle.rgo_sound.specs.RegionMachine.Objects.{most_data_pages}
 use Rattle.rgo_sound.specs.RegionMachine.Regions.{class_region}
 use Rattle.rgo_sound.specs.RegionMachine.States.{Stopped, top_names}
 use Rattle.rgo_sound.specs.RegionMachine.declared.limits.Limit.TheVariants.{ObjectSize}
 use Rattle.rgo_sound.specs.RegionMachine.declared.regions.Region.{Region}
+use Rattle.rgo_body.specs.declared.bodies.Body.{Body}
 use Rattle.rgo_body.specs.declared.nexts.Next.{Next}
 use Rattle.rgo_acts.specs.Actors.{Acted, IsUnmoved, now}
 use Rattle.rgo_acts.specs.Ready.{IsBefore}
@@ -31,23 +33,46 @@ use Rattle.rgo_acts.specs.declared.objects.New.{New}
 
 -- ---- what comes of it
 
--- The object fits no page, which is a cause to end the run.
+-- The object has more data pages than an object may have, which is a cause to end the run.
 pub record IsTooLarge (r : Run) (a b : Actor) : Type 0 where
   pub acted : Acted r a b 0 [] []
   pub ends : Ends r.setup (number_of b.seat.me) (now r.setup b) (Stopped ObjectSize)
+
+-- body d is b, but for the room in its list of reserved pages
+abbrev pub IsAsBefore : (before after : Body) → Type 0
+IsAsBefore b d = d ≡ record b { reserved = record b.reserved { room = d.reserved.room } }
 
 -- It needs a page, and each was found in use. It is as it was, and has changed no word.
 pub record HasNoPage (r : Run) (a b : Actor) : Type 0 where
   pub acted : Acted r a b 0 [] []
   pub unmoved : IsUnmoved r.setup a b acted.es
-  pub body : b.body ≡ a.body
+  pub body : IsAsBefore a.body b.body
   pub lacks : LacksPage r.setup (number_of a.seat.me) (now r.setup b) acted.es
+
+-- It has claimed pages for a spread object. It needs one more, and each was found in use.
+pub record HasTooFewPages (r : Run) (a b : Actor) : Type 0 where
+  pub acted : Acted r a b 0 [] []
+  pub lacks : LacksPage r.setup (number_of a.seat.me) (now r.setup b) acted.es
+
+-- Memory ran out before it had made an access.
+pub record HasNoMemory (r : Run) (a b : Actor) : Type 0 where
+  pub acted : Acted r a b 0 [] []
+  pub seat : b.seat ≡ a.seat
+  pub body : IsAsBefore a.body b.body
 
 abbrev pub Makes : (r : Run) (a b : Actor) → Made → Type 0
 Makes r a b made.Done = Acted r a b 1 [] []
 Makes r a b (made.Trap trap) = IsAtTrap r a b trap
 Makes r a b made.TooLarge = IsTooLarge r a b
 Makes r a b made.Short = HasNoPage r a b
+Makes r a b made.Partly = HasTooFewPages r a b
+Makes r a b made.NoMemory = HasNoMemory r a b
+
+-- How many accesses it takes at the most to make an object with so many words, `before` of which are before its cells: a search and a
+-- claim for each of its pages, and a store of each of its words and page numbers.
+abbrev pub most_steps : Setup → (words before : ℕ) → ℕ
+most_steps T words before = (data_pages_of T.sizes.page_words words before + 1) * (T.sizes.pages + 2)
+    + (words + data_pages_of T.sizes.page_words words before)
 
 -- ---- the object
 
@@ -60,22 +85,28 @@ pub record IsNew (T : Setup) (c : Record) (k : Holding) (new : New) : Type 0 whe
   pub region : Region
   pub at_key : region_at k new.key ≡ Some region
   pub low : slot_of T.sizes.regions region ≤ T.sizes.regions
-  pub object : NewObject T c (slot_of T.sizes.regions region) new.words (opens new.place new.value)
+  pub few : new.before ≤ 2
+  pub object : NewObject T c (slot_of T.sizes.regions region) new.words new.before (opens new.place new.value)
+
+-- an object with so many words, `before` of which are before its cells, has no more data pages than an object may have
+abbrev pub IsSmall : Setup → (words before : ℕ) → Type 0
+IsSmall T words before = data_pages_of T.sizes.page_words words before ≤ most_data_pages T.sizes.page_words
 
 -- What the next instruction makes for variable `to` of its function, in the region of the variable's class: an object of this many
--- words, if a page has as many; or else there is a cause to end the run.
-pub record Wants (T : Setup) (g : ℕ) (c : Record) (fn : CodeFn) (to words place value : ℕ) : Type 0 where
+-- words, if it has not too many data pages; or else there is a cause to end the run.
+pub record Wants (T : Setup) (g : ℕ) (c : Record) (fn : CodeFn) (to words before place value : ℕ) : Type 0 where
   pub region : Region
   pub in_class : class_region (top_names c.frame.holder.environments) (class_of fn to) ≡ Some region
   pub low : slot_of T.sizes.regions region ≤ T.sizes.regions
   pub some : 0 < words
-  pub fits : words ≤ T.sizes.page_words → NewObject T c (slot_of T.sizes.regions region) words (opens place value)
-  pub large : T.sizes.page_words < words → Ends T g c (Stopped ObjectSize)
+  pub few : before ≤ 2
+  pub fits : IsSmall T words before → NewObject T c (slot_of T.sizes.regions region) words before (opens place value)
+  pub large : most_data_pages T.sizes.page_words < data_pages_of T.sizes.page_words words before → Ends T g c (Stopped ObjectSize)
 
--- this is the object that the next instruction makes, and a page has as many words
-pub record FitsPage (r : Run) (a : Actor) (new : New) : Type 0 where
+-- this is the object that the next instruction makes, and it is not too large
+pub record CanMake (r : Run) (a : Actor) (new : New) : Type 0 where
   pub is_new : IsNew r.setup (now r.setup a) a.body.holding new
-  pub fits : new.words ≤ r.sizes.page_words
+  pub small : IsSmall r.setup new.words new.before
   pub some : 0 < new.words
 
 -- ---- its page
@@ -92,7 +123,7 @@ HasNoRoomHere r a new = (region : Region) → region_at a.body.holding new.key �
 
 -- The words of the next object go behind what is filled of this page, its own one for this slot.
 pub record IsPlaced (T : Setup) (c : Record) (slot : ℕ) (page : Page) (new : New) : Type 0 where
-  pub object : NewObject T c slot new.words (opens new.place new.value)
+  pub object : NewObject T c slot new.words new.before (opens new.place new.value)
   pub is_page : page_of slot c.memory.fills ≡ Some (own_page slot page)
   pub room : page.fill + new.words ≤ T.sizes.page_words
   pub low : page.page < T.sizes.pages
@@ -108,3 +139,36 @@ pub record HasPage (r : Run) (a b : Actor) (next : Next) (new : New) (page : Pag
   pub region : Region
   pub at_key : region_at b.body.holding new.key ≡ Some region
   pub placed : IsPlaced r.setup (now r.setup b) (slot_of r.setup.sizes.regions region) page new
+
+-- ---- the pages of a spread object
+
+-- The goroutine is before its instruction, and n pages more are reserved for the object.
+pub record HasReserved (r : Run) (a b : Actor) (next : Next) (new : New) (n : ℕ) : Type 0 where
+  pub before : IsBefore r b next
+  pub acted : Acted r a b 0 [] []
+  pub is_new : IsNew r.setup (now r.setup b) b.body.holding new
+  pub pages : length b.body.reserved.pages ≡ length a.body.reserved.pages + n
+  pub room : b.body.reserved.room + n ≡ a.body.reserved.room
+  pub taken : b.body.counts.taken ≡ a.body.counts.taken + n
+  pub objects : b.body.counts.objects ≡ a.body.counts.objects
+
+-- The words of the next object, which is spread, go into these pages, the lead page first. All of them are reserved.
+pub record IsPlacedApart (T : Setup) (c : Record) (pages : List ℕ) (new : New) : Type 0 where
+  pub slot : ℕ
+  pub object : NewObject T c slot new.words new.before (opens new.place new.value)
+  pub spread : T.sizes.page_words < new.words
+  pub small : IsSmall T new.words new.before
+  pub few : new.before ≤ 2
+  pub reserved : c.memory.reserved.pages ≡ pages
+  pub all : length pages ≡ suc (data_pages_of T.sizes.page_words new.words new.before)
+  pub low : (i : ℕ) → i < length pages → slice_index pages i < T.sizes.pages
+  pub rests : c.side ≡ at_rest
+  pub make : c.memory.make ≡ Rest
+
+-- All pages of the next object, which is spread, are reserved, and the goroutine is before its instruction.
+pub record HasAllPages (r : Run) (a b : Actor) (next : Next) (new : New) : Type 0 where
+  pub before : IsBefore r b next
+  pub acted : Acted r a b 0 [] []
+  pub is_new : IsNew r.setup (now r.setup b) b.body.holding new
+  pub all : length b.body.reserved.pages ≡ suc (data_pages_of r.setup.sizes.page_words new.words new.before)
+  pub objects : b.body.counts.objects ≡ a.body.counts.objects

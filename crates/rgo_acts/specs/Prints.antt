@@ -1,7 +1,7 @@
 -- Prints: the values of the operands, and what was drawn for their bytes.
-use Rattle.std.specs.Prelude.{◌≡◌, ℕ, true, false, List, [], ◌∷◌, Some, None, map, slice_get}
+use Rattle.std.specs.Prelude.{◌≡◌, ℕ, true, false, List, [], ◌∷◌, None, map, slice_get}
 use lib.IntN.{pos}
-use Rattle.rgo_sound.specs.Code.Code.{CodeFn, Slot}
+use Rattle.rgo_sound.specs.Code.Code.{CodeFn}
 use Rattle.rgo_core.specs.Frames.Prints.{typed_value}
 use Rattle.rgo_core.specs.Frames.WordFrames.{WordFrame}
 use Rattle.rgo_sound.specs.Memory.declared.values.Value.{Value}

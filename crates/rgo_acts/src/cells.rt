@@ -1,14 +1,16 @@
 //! Instructions that load or store one word: a field, an element or the length of a slice, or a package variable. Each returns the
 //! trap by which its instruction ends the run instead.
-ghost use Rattle.std.specs.Prelude.{◌≡◌, ◌+◌, ◌<◌, ◌∷◌, [], Some, None, MatchOption, MatchResult};
-ghost use Rattle.rgo_core.specs.Memory.Words.{base as base_of};
+ghost use Rattle.std.specs.Prelude.{◌≡◌, ◌<◌, ◌∷◌, [], List, Some, None, MatchOption, MatchResult, suc};
+ghost use Rattle.rgo_core.specs.Accesses.{IsAtSpread};
+ghost use Rattle.rgo_core.specs.Frames.WordFrames.{word_at};
 ghost use Rattle.rgo_core_steps.specs.Accesses.{Loads, Stores};
 ghost use Rattle.rgo_sound.specs.Tac.Code.{Do};
 ghost use Rattle.rgo_sound.specs.Tac.Ops.{operation_of};
 ghost use Rattle.rgo_sound.specs.Typed.declared.actions.Action.TheVariants as action;
+ghost use Rattle.rgo_body.specs.Bodies.{frames_in};
 ghost use Rattle.rgo_acts.specs.ActorExamples.{ElementExamples};
 ghost use Rattle.rgo_acts.specs.Actors.{Acted, now};
-ghost use Rattle.rgo_acts.specs.Elements.{HasElement, HasNoElementHere, IsAtElementOf};
+ghost use Rattle.rgo_acts.specs.Elements.{HasElement, HasFieldHere, HasLocated, HasNoElementHere, IsAtElementOf, IsAtFieldOf};
 ghost use Rattle.rgo_acts.specs.Ready.{IsBefore};
 ghost use Rattle.rgo_acts.specs.Traps.{IsAtTrap};
 
@@ -57,6 +59,61 @@ fn put<L: Ledger>(
     actor.body.acted(run.program, next, 0);
 }
 
+/// The word of a cell of the spread object at this address, which has so many words before its cells. The number of the cell's data
+/// page is loaded for that.
+fn locate<L: Ledger>(
+    actor: &mut Actor,
+    run: &Run<'_, '_>,
+    next: &Next<'_>,
+    address: usize,
+    before: usize,
+    cell: usize,
+    steps: &mut Steps<L>,
+) -> usize
+    requires before { IsBefore run.now actor.old next.now }
+    requires spread { IsAtSpread run.now.setup (now run.now.setup actor.old) address before cell }
+    ensures { HasLocated run.now actor.old actor.new next.now address cell result }
+{
+    run.fits();
+    let page_words = run.page_words();
+    let word = run.cell(address, before + cell / page_words);
+    let number = cells::index(
+        run.table,
+        &mut actor.seat,
+        actor.behind,
+        word,
+        address,
+        before,
+        cell,
+        steps,
+    );
+    actor.behind = 0;
+    run.cell_in(number as usize - 1, cell % page_words)
+}
+
+/// The word of a field of the struct to which variable `pointer` points, which has this address.
+fn field_word<L: Ledger>(
+    actor: &mut Actor,
+    run: &Run<'_, '_>,
+    next: &Next<'_>,
+    pointer: u32,
+    address: usize,
+    field: usize,
+    steps: &mut Steps<L>,
+) -> usize
+    requires before { IsBefore run.now actor.old next.now }
+    requires at { IsAtFieldOf (operation_of next.now.op) pointer field }
+    requires points { (w : _) (ws : List _) → frames_in actor.old.body ≡ w ∷ ws → word_at w pointer ≡ suc address }
+    ensures { HasFieldHere run.now actor.old actor.new next.now pointer field result }
+{
+    let fields = run.program.fields_at(next, pointer);
+    let page_words = run.page_words();
+    if fields <= page_words {
+        return run.cell(address, field);
+    }
+    locate(actor, run, next, address, 0, field, steps)
+}
+
 /// Loads a field of the struct to which variable `from` points.
 pub fn load_field<L: Ledger>(
     actor: &mut Actor,
@@ -75,13 +132,9 @@ pub fn load_field<L: Ledger>(
     if pointer == 0 {
         return Err(Trap::NilPointer);
     }
-    take(
-        actor,
-        run,
-        next,
-        run.cell(pointer as usize - 1, field),
-        steps,
-    );
+    let address = pointer as usize - 1;
+    let word = field_word(actor, run, next, from, address, field, steps);
+    take(actor, run, next, word, steps);
     Ok(())
 }
 
@@ -103,9 +156,10 @@ pub fn store_field<L: Ledger>(
     if pointer == 0 {
         return Err(Trap::NilPointer);
     }
-    let word = actor.body.word(value);
-    let cell = run.cell(pointer as usize - 1, field);
-    put(actor, run, next, cell, word, steps);
+    let address = pointer as usize - 1;
+    let word = field_word(actor, run, next, to, address, field, steps);
+    let value = actor.body.word(value);
+    put(actor, run, next, word, value, steps);
     Ok(())
 }
 
@@ -165,7 +219,12 @@ fn element<L: Ledger>(
     if index >= elements {
         return None;
     }
-    Some(run.cell(address, 1 + index as usize))
+    let cell = index as usize;
+    let page_words = run.page_words() as u64;
+    if elements < page_words {
+        return Some(run.cell(address, 1 + cell));
+    }
+    Some(locate(actor, run, next, address, 1, cell, steps))
 }
 
 /// Loads element `index` of the slice in variable `slice`.

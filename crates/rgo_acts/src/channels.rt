@@ -185,16 +185,18 @@ pub fn send<L: Ledger>(
     requires before { CanTry run.now actor.old next.now }
     requires is { (to : Option ℕ) × (operation_of next.now.op ≡ Do to action.Send (channel ∷ value ∷ [])) }
     ensures talks { Talks run.now actor.old actor.new 1 result }
-    ensures steps { steps.new ≤ steps.old + 5 }
+    ensures steps { steps.new ≤ steps.old + 6 }
 {
     let pointer = actor.body.word(channel);
     let word = actor.body.word(value);
     let base = run.base();
+    let page_words = run.page_words();
     let tried = rgo_chan::send(
         run.table,
         &mut actor.seat,
         actor.behind,
         base,
+        page_words,
         pointer,
         word,
         steps,
@@ -224,15 +226,17 @@ pub fn receive<L: Ledger>(
     requires is { (to : Option ℕ) × (operation_of next.now.op ≡ Do to action.Recv (channel ∷ [])) }
     ensures talks { Talks run.now actor.old actor.new 1 result }
     ensures only { OfReceive result }
-    ensures steps { steps.new ≤ steps.old + 5 }
+    ensures steps { steps.new ≤ steps.old + 6 }
 {
     let pointer = actor.body.word(channel);
     let base = run.base();
+    let page_words = run.page_words();
     let tried = rgo_chan::receive(
         run.table,
         &mut actor.seat,
         actor.behind,
         base,
+        page_words,
         pointer,
         steps,
     );

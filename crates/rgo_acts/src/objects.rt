@@ -1,19 +1,25 @@
 //! New objects: structs, slices and channels. An object goes behind what is filled of the goroutine's own page in the region, or on a
-//! page that is claimed for it. Its words are stored one by one; with the last one it exists, and the instruction is done.
-ghost use Rattle.std.specs.Prelude.{◌≡◌, ◌+◌, ◌*◌, ◌^◌, ◌<◌, ◌≤◌, ◌∷◌, [], ℕ, List, MatchOption, Some, false, slice_get, true};
+//! page that is claimed for it. One that has more words than a page is spread: all its pages are claimed first, a lead page and its
+//! data pages. Its words are stored one by one; with the last one it exists, and the instruction is done.
+ghost use Rattle.std.specs.Prelude.{◌≡◌, ◌+◌, ◌-◌, ◌*◌, ◌/◌, ◌^◌, ◌<◌, ◌≤◌, ◌∷◌, [], ℕ, IfSome, List, MatchOption, MatchResult, Some, false, length, slice_get, suc, true};
 ghost use Rattle.rgo_core.specs.Rule.Views.{number_of};
 ghost use Rattle.rgo_core.specs.Rule.declared.accesses.Access.{Access};
-ghost use Rattle.rgo_core_facts.specs.MemoryObjects.{channel_words as channel_words_of, with_new_object};
-ghost use Rattle.rgo_core.specs.Bounds.{struct_words as struct_words_of};
+ghost use Rattle.rgo_core.specs.Rule.declared.accesses.Kind.{Kind};
+ghost use Rattle.rgo_core_facts.specs.MemoryObjects.{all_struct_words, channel_words as channel_words_of, data_pages_of, first_of as first_value_of, spot_of, with_new_object, with_new_object_apart};
 ghost use Rattle.rgo_core.specs.Opening.{first_of};
 ghost use Rattle.rgo_core.specs.Plans.{setup_of};
 ghost use Rattle.rgo_core.specs.Records.{accesses};
 ghost use Rattle.rgo_core_steps.specs.Grown.{Grew};
 ghost use Rattle.rgo_core_steps.specs.Layouts.{HasLayout};
-ghost use Rattle.rgo_core_steps.specs.Seats.{HasOne, HasPossible, Settles, mine, settled};
+ghost use Rattle.rgo_core_steps.specs.Making.{IsIndex, IsNewWordApart, filling_apart};
+ghost use Rattle.rgo_core_steps.specs.Seats.{HasOne, HasPossible, IsSeatOf, Settles, Stored, mine, settled};
+ghost use Rattle.rgo_core.specs.Channels.Records.{at_rest};
+ghost use Rattle.rgo_body.specs.Bodies.{frames_in};
+ghost use Rattle.rgo_body.specs.Stack.Stacks.{newest_word};
 ghost use Rattle.rgo_body.specs.declared.bodies.Side.TheVariants.{AtRest};
 ghost use Rattle.rgo_holding.specs.Holds.{region_at};
 ghost use Rattle.rgo_holding.specs.Known.{own_page, slot_of};
+ghost use Rattle.rgo_sound.specs.RegionMachine.Objects.{most_data_pages as most_data_pages_of};
 ghost use Rattle.rgo_sound.specs.RegionMachine.declared.regions.Region.{Region};
 ghost use Rattle.rgo_sound.specs.Tac.Code.{Do};
 ghost use Rattle.rgo_sound.specs.Tac.Ops.{operation_of};
@@ -27,7 +33,7 @@ ghost use Rattle.rgo_acts.specs.Ready.{IsBefore};
 use crate::actors::Actor;
 use crate::runs::Run;
 use rgo_body::Next;
-use rgo_body::pages::cells::zero;
+use rgo_body::pages::cells::{set_index, zero, zero_apart};
 use rgo_body::pages::claiming::claim_from;
 use rgo_core::memory::layout::{TableSizes, cell_at};
 use rgo_core::table::{RunSeat, RunTable};
@@ -44,24 +50,50 @@ pub enum Made {
     Done,
     /// The size is negative.
     Trap(Trap),
-    /// The object is larger than a page.
+    /// The object has more data pages than an object may have.
     TooLarge,
-    /// The object needs a page, and no page is free.
+    /// The object needs a page, and no page is free. None was claimed.
     Short,
+    /// Pages were claimed for the object, which is spread; it needs one more, and no page is free.
+    Partly,
+    /// Memory ran out before a page was claimed.
+    NoMemory,
 }
 
-/// The object that the next instruction makes: its region, and its words. The word at `place` first holds `value`, and all others
-/// hold 0.
+/// The object that the next instruction makes: its region, its words, and how many of them are before its cells. The word at `place`
+/// first holds `value`, and all others hold 0.
 #[derive(Clone, Copy)]
 pub(crate) struct New {
     pub(crate) key: Key,
     pub(crate) words: usize,
+    pub(crate) before: usize,
     pub(crate) place: usize,
     pub(crate) value: u64,
 }
 
 /// The least word that is a negative number.
 const FIRST_NEGATIVE: u64 = 9223372036854775808;
+
+/// How many data pages an object has with so many words, `before` of which are before its cells: none if it fits a page.
+fn data_pages(page_words: usize, words: usize, before: usize) -> usize
+    ensures { result ≡ data_pages_of page_words words before }
+{
+    if words <= page_words {
+        return 0;
+    }
+    // A page without words has none of the cells.
+    if page_words == 0 {
+        return 1;
+    }
+    words.saturating_sub(before).saturating_sub(1) / page_words + 1
+}
+
+/// How many data pages an object may have.
+fn most_data_pages(page_words: usize) -> usize
+    ensures { result ≡ most_data_pages_of page_words }
+{
+    page_words.saturating_sub(2).min(64)
+}
 
 /// What a word of it first holds.
 fn opening(new: New, i: usize) -> u64
@@ -190,14 +222,14 @@ fn claim_page<L: Ledger>(
 ) -> Option<Page>
     requires before { IsBefore run.now actor.old next.now }
     requires new { spec.IsNew run.now.setup (now run.now.setup actor.old) actor.old.body.holding new }
-    requires fits { new.words ≤ run.now.sizes.page_words }
+    requires fits { new.words ≤ run.now.setup.sizes.page_words }
     requires some { 0 < new.words }
     requires full { spec.HasNoRoomHere run.now actor.old new }
     requires pages { 0 < run.now.sizes.pages }
     requires count { actor.old.body.counts.taken + 1 < 2 ^ 64 }
     ensures page { MatchOption result (spec.HasNoPage run.now actor.old actor.new)
         (spec.HasPage run.now actor.old actor.new next.now new) }
-    ensures cost { steps.new ≤ steps.old + (run.now.sizes.pages + 2) }
+    ensures cost { steps.new ≤ steps.old + (run.now.setup.sizes.pages + 2) }
 {
     let slot = actor.body.page_slot(new.key);
     let claimed = claim_from(
@@ -224,13 +256,13 @@ fn claim_page<L: Ledger>(
 fn own_page_for(actor: &Actor, run: &Run<'_, '_>, next: &Next<'_>, new: New) -> Option<Page>
     requires before { IsBefore run.now actor.now next.now }
     requires new { spec.IsNew run.now.setup (now run.now.setup actor.now) actor.now.body.holding new }
-    requires fits { new.words ≤ run.now.sizes.page_words }
+    requires fits { new.words ≤ run.now.setup.sizes.page_words }
     requires some { 0 < new.words }
     ensures { MatchOption result (spec.HasNoRoomHere run.now actor.now new)
         (spec.HasPage run.now actor.now actor.now next.now new) }
 {
     let own = actor.body.own_page(new.key);
-    with_room(own, new.words, run.sizes.page_words)
+    with_room(own, new.words, run.page_words())
 }
 
 /// The page for the next object: the own page if it has room, or else one that is claimed.
@@ -243,13 +275,13 @@ fn page_for<L: Ledger>(
 ) -> Option<Page>
     requires before { IsBefore run.now actor.old next.now }
     requires new { spec.IsNew run.now.setup (now run.now.setup actor.old) actor.old.body.holding new }
-    requires fits { new.words ≤ run.now.sizes.page_words }
+    requires fits { new.words ≤ run.now.setup.sizes.page_words }
     requires some { 0 < new.words }
     requires pages { 0 < run.now.sizes.pages }
     requires count { actor.old.body.counts.taken + 1 < 2 ^ 64 }
     ensures page { MatchOption result (spec.HasNoPage run.now actor.old actor.new)
         (spec.HasPage run.now actor.old actor.new next.now new) }
-    ensures cost { steps.new ≤ steps.old + (run.now.sizes.pages + 2) }
+    ensures cost { steps.new ≤ steps.old + (run.now.setup.sizes.pages + 2) }
 {
     match own_page_for(actor, run, next, new) {
         Some(page) => Some(page),
@@ -268,12 +300,12 @@ fn make<L: Ledger>(
     requires before { IsBefore run.now actor.old next.now }
     requires does { (to : _) × (act : _) × (from : List ℕ) × (operation_of next.now.op ≡ Do to act from) }
     requires new { spec.IsNew run.now.setup (now run.now.setup actor.old) actor.old.body.holding new }
-    requires fits { new.words ≤ run.now.sizes.page_words }
+    requires fits { new.words ≤ run.now.setup.sizes.page_words }
     requires some { 0 < new.words }
     requires pages { 0 < run.now.sizes.pages }
     requires count { (actor.old.body.counts.taken + 1 < 2 ^ 64) × (actor.old.body.counts.objects + 1 < 2 ^ 64) }
     ensures made { spec.Makes run.now actor.old actor.new result }
-    ensures cost { steps.new ≤ steps.old + (run.now.sizes.pages + 2 + run.now.sizes.page_words) }
+    ensures cost { steps.new ≤ steps.old + (run.now.setup.sizes.pages + 2 + new.words) }
 {
     match page_for(actor, run, next, new, steps) {
         Some(page) => {
@@ -284,22 +316,265 @@ fn make<L: Ledger>(
     }
 }
 
-/// The next object, of this many words, for variable `to`, unless it is larger than a page. The word at `place` first holds `value`,
-/// and all others hold 0.
+// ---- an object that is spread
+
+/// Claims a page more for the next object, which is spread. Returns whether one was free.
+fn reserve_page<L: Ledger>(
+    actor: &mut Actor,
+    run: &Run<'_, '_>,
+    next: &Next<'_>,
+    new: New,
+    steps: &mut Steps<L>,
+) -> bool
+    requires before { IsBefore run.now actor.old next.now }
+    requires new { spec.IsNew run.now.setup (now run.now.setup actor.old) actor.old.body.holding new }
+    requires spread { run.now.setup.sizes.page_words < new.words }
+    requires small { spec.IsSmall run.now.setup new.words new.before }
+    requires more { length actor.old.body.reserved.pages ≤ data_pages_of run.now.setup.sizes.page_words new.words new.before }
+    requires room { 1 ≤ actor.old.body.reserved.room }
+    requires pages { 0 < run.now.sizes.pages }
+    requires count { actor.old.body.counts.taken + 1 < 2 ^ 64 }
+    ensures one { result ≡ true → spec.HasReserved run.now actor.old actor.new next.now new 1 }
+    ensures none { result ≡ false → spec.HasNoPage run.now actor.old actor.new }
+    ensures cost { steps.new ≤ steps.old + (run.now.setup.sizes.pages + 2) }
+{
+    let slot = actor.body.page_slot(new.key);
+    let claimed = claim_from(
+        run.table,
+        &mut actor.seat,
+        actor.behind,
+        &run.sizes,
+        slot,
+        actor.searches.pages.first_page(run),
+        steps,
+    );
+    actor.behind = 0;
+    match claimed {
+        Ok(page) => {
+            actor.searches.pages.found(page);
+            actor.body.reserved_page(run.program, page);
+            true
+        }
+        Err(_) => false,
+    }
+}
+
+/// Claims all pages of the next object, which is spread, that are not reserved for it yet. If it does not come to that, returns what
+/// came of the instruction.
+fn reserve<L: Ledger>(
+    actor: &mut Actor,
+    run: &Run<'_, '_>,
+    next: &Next<'_>,
+    new: New,
+    steps: &mut Steps<L>,
+) -> Result<(), Made>
+    requires before { IsBefore run.now actor.old next.now }
+    requires new { spec.IsNew run.now.setup (now run.now.setup actor.old) actor.old.body.holding new }
+    requires spread { run.now.setup.sizes.page_words < new.words }
+    requires small { spec.IsSmall run.now.setup new.words new.before }
+    requires pages { 0 < run.now.sizes.pages }
+    requires count { actor.old.body.counts.taken + 65 < 2 ^ 64 }
+    ensures made { MatchResult result
+        (λ _. spec.HasAllPages run.now actor.old actor.new next.now new) (spec.Makes run.now actor.old actor.new) }
+    ensures cost { steps.new ≤ steps.old
+        + (data_pages_of run.now.setup.sizes.page_words new.words new.before + 1) * (run.now.setup.sizes.pages + 2) }
+{
+    let first = actor.body.reserved().len();
+    let all = data_pages(run.page_words(), new.words, new.before) + 1;
+    match actor.body.room_to_reserve(all - first) {
+        Ok(()) => {}
+        Err(_) => return Err(Made::NoMemory),
+    }
+    for i in first..all {
+        let is_free = reserve_page(actor, run, next, new, steps);
+        if !is_free {
+            if i == first {
+                return Err(Made::Short);
+            }
+            return Err(Made::Partly);
+        }
+    }
+    Ok(())
+}
+
+/// Where word `i` of a spread object goes, by a page and a word of it. The numbers of its data pages come after its words.
+fn spot(page_words: usize, pages: &[u32], new: New, i: usize) -> (u32, usize)
+    requires words { 0 < page_words }
+    requires some { 0 < length pages.now }
+    requires within { i < new.words → (i - new.before) / page_words + 1 < length pages.now }
+    requires fits { new.before + (i - new.words) < 2 ^ 64 }
+    ensures page { result.0 ≡ (spot_of page_words new.words new.before pages.now i).page }
+    ensures offset { result.1 ≡ (spot_of page_words new.words new.before pages.now i).offset }
+{
+    if i < new.before {
+        return (pages[0], i);
+    }
+    if i >= new.words {
+        return (pages[0], new.before + (i - new.words));
+    }
+    let cell = i - new.before;
+    (pages[cell / page_words + 1], cell % page_words)
+}
+
+/// What it first holds.
+fn first_value(pages: &[u32], new: New, i: usize) -> u64
+    requires within { new.words ≤ i → i - new.words + 1 < length pages.now }
+    ensures { result ≡ first_value_of new.words (spec.opens new.place new.value) pages.now i }
+{
+    if i < new.words {
+        return opening(new, i);
+    }
+    u64::from(pages[i - new.words + 1]) + 1
+}
+
+/// Stores this word of the next object, which is spread: one of its words, or the number of a data page.
+fn store_apart<L: Ledger>(
+    table: &RunTable,
+    seat: &mut RunSeat,
+    behind: u64,
+    new: New,
+    word: usize,
+    value: u64,
+    i: usize,
+    steps: &mut Steps<L>,
+)
+    requires own { IsSeatOf seat.old.table_id table.now.shared.table_id word }
+    requires alone { HasOne (setup_of table.now.shared.key) seat.old.me }
+    requires settles { Settles (setup_of table.now.shared.key) behind seat.old.me }
+    requires rests { (settled (setup_of table.now.shared.key) behind seat.old.me).side ≡ at_rest }
+    requires new { let T = setup_of table.now.shared.key in
+        (w : IsNewWordApart T (settled T behind seat.old.me) i word value) × (new.words ≤ i → IsIndex w) }
+    ensures own { seat.new.table_id ≡ seat.old.table_id }
+    ensures leaves { let T = setup_of table.now.shared.key in (kind : Kind)
+        × Stored T kind word value (filling_apart T (settled T behind seat.old.me) i) seat.old.me seat.new.me }
+    ensures possible { HasPossible (setup_of table.now.shared.key) seat.new.me }
+    ensures cost { steps.new ≡ steps.old + 1 }
+{
+    if i < new.words {
+        zero_apart(table, seat, behind, word, value, i, steps);
+        return;
+    }
+    set_index(table, seat, behind, word, value, i, steps);
+}
+
+/// Stores all words of the next object, which is spread over these pages, and the numbers of its data pages.
+fn store_words_apart<L: Ledger>(
+    table: &RunTable,
+    sizes: &TableSizes,
+    seat: &mut RunSeat,
+    behind: u64,
+    pages: &[u32],
+    new: New,
+    steps: &mut Steps<L>,
+)
+    requires own { seat.old.table_id ≡ table.now.shared.table_id }
+    requires layout { HasLayout (setup_of table.now.shared.key) sizes.now table.now.shared.table_id }
+    requires alone { HasOne (setup_of table.now.shared.key) seat.old.me }
+    requires settles { Settles (setup_of table.now.shared.key) behind seat.old.me }
+    requires placed { let T = setup_of table.now.shared.key in spec.IsPlacedApart T (settled T behind seat.old.me) pages.now new }
+    ensures own { seat.new.table_id ≡ seat.old.table_id }
+    ensures grew { let T = setup_of table.now.shared.key in
+        (es : List Access) × Grew accesses (first_of T.code) seat.old.me es seat.new.me }
+    ensures stored { let T = setup_of table.now.shared.key in (placed : spec.IsPlacedApart T (settled T behind seat.old.me) pages.now new)
+        → mine T seat.new.me ≡ with_new_object_apart T (settled T behind seat.old.me) placed.object.object }
+    ensures possible { HasPossible (setup_of table.now.shared.key) seat.new.me }
+    ensures cost { let T = setup_of table.now.shared.key in
+        steps.new ≡ steps.old + (new.words + data_pages_of T.sizes.page_words new.words new.before) }
+{
+    let mut left = behind;
+    let data_pages = pages.len() - 1;
+    for i in 0..new.words + data_pages {
+        let place = spot(sizes.page_words, pages, new, i);
+        let word = cell_at(sizes, place.0 as usize, place.1);
+        let value = first_value(pages, new, i);
+        store_apart(table, seat, left, new, word, value, i, steps);
+        // The first access takes the local steps before it.
+        left = 0;
+    }
+}
+
+/// Makes the next object, which is spread, in the pages that are reserved for it.
+fn make_in_reserved<L: Ledger>(
+    actor: &mut Actor,
+    run: &Run<'_, '_>,
+    next: &Next<'_>,
+    new: New,
+    steps: &mut Steps<L>,
+)
+    requires before { IsBefore run.now actor.old next.now }
+    requires does { (to : _) × (act : _) × (from : List ℕ) × (operation_of next.now.op ≡ Do to act from) }
+    requires count { actor.old.body.counts.objects + 1 < 2 ^ 64 }
+    requires new { spec.IsNew run.now.setup (now run.now.setup actor.old) actor.old.body.holding new }
+    requires spread { run.now.setup.sizes.page_words < new.words }
+    requires small { spec.IsSmall run.now.setup new.words new.before }
+    requires all { length actor.old.body.reserved.pages ≡ suc (data_pages_of run.now.setup.sizes.page_words new.words new.before) }
+    ensures acted { Acted run.now actor.old actor.new 1 [] [] }
+    ensures cost { steps.new ≡ steps.old + (new.words + data_pages_of run.now.setup.sizes.page_words new.words new.before) }
+{
+    store_words_apart(
+        run.table,
+        &run.sizes,
+        &mut actor.seat,
+        actor.behind,
+        actor.body.reserved(),
+        new,
+        steps,
+    );
+    actor.behind = 0;
+    let lead = actor.body.reserved()[0];
+    let address = lead as usize * run.sizes.page_words;
+    actor.body.made_apart(run.program, next, address as u64 + 1);
+}
+
+/// Makes the next object, which is spread.
+fn make_apart<L: Ledger>(
+    actor: &mut Actor,
+    run: &Run<'_, '_>,
+    next: &Next<'_>,
+    new: New,
+    steps: &mut Steps<L>,
+) -> Made
+    requires before { IsBefore run.now actor.old next.now }
+    requires does { (to : _) × (act : _) × (from : List ℕ) × (operation_of next.now.op ≡ Do to act from) }
+    requires new { spec.IsNew run.now.setup (now run.now.setup actor.old) actor.old.body.holding new }
+    requires spread { run.now.setup.sizes.page_words < new.words }
+    requires small { spec.IsSmall run.now.setup new.words new.before }
+    requires pages { 0 < run.now.sizes.pages }
+    requires count { (actor.old.body.counts.taken + 65 < 2 ^ 64) × (actor.old.body.counts.objects + 1 < 2 ^ 64) }
+    ensures made { spec.Makes run.now actor.old actor.new result }
+    ensures cost { steps.new ≤ steps.old + spec.most_steps run.now.setup new.words new.before }
+{
+    match reserve(actor, run, next, new, steps) {
+        Ok(()) => {
+            make_in_reserved(actor, run, next, new, steps);
+            Made::Done
+        }
+        Err(made) => made,
+    }
+}
+
+// ---- any object
+
+/// The next object, of this many words, for variable `to`, unless it has too many data pages. So many words are before its cells. The
+/// word at `place` first holds `value`, and all others hold 0.
 fn object_of(
     actor: &Actor,
     run: &Run<'_, '_>,
     next: &Next<'_>,
     to: u32,
     words: usize,
+    before: usize,
     place: usize,
     value: u64,
 ) -> Option<New>
     requires before { IsBefore run.now actor.now next.now }
-    requires wants { spec.Wants run.now.setup (number_of actor.now.seat.me) (now run.now.setup actor.now) next.now.function to words place value }
-    ensures { MatchOption result (run.now.setup.sizes.page_words < words) (spec.FitsPage run.now actor.now) }
+    requires wants { spec.Wants run.now.setup (number_of actor.now.seat.me) (now run.now.setup actor.now) next.now.function to words before place value }
+    ensures object { MatchOption result
+        (most_data_pages_of run.now.setup.sizes.page_words < data_pages_of run.now.setup.sizes.page_words words before) (spec.CanMake run.now actor.now) }
+    ensures words { IfSome result (λ new. (new.words ≡ words) × (new.before ≡ before)) }
 {
-    if words > run.sizes.page_words {
+    let page_words = run.page_words();
+    if data_pages(page_words, words, before) > most_data_pages(page_words) {
         return None;
     }
     let Some(key) = actor.body.region_of(next, to) else {
@@ -308,39 +583,65 @@ fn object_of(
     Some(New {
         key,
         words,
+        before,
         place,
         value,
     })
 }
 
-/// Makes the next object, of this many words, for variable `to`. The word at `place` first holds `value`, and all others hold 0.
+/// Makes the next object, which is not too large.
+fn make_new<L: Ledger>(
+    actor: &mut Actor,
+    run: &Run<'_, '_>,
+    next: &Next<'_>,
+    new: New,
+    steps: &mut Steps<L>,
+) -> Made
+    requires before { IsBefore run.now actor.old next.now }
+    requires does { (to : _) × (act : _) × (from : List ℕ) × (operation_of next.now.op ≡ Do to act from) }
+    requires can { spec.CanMake run.now actor.old new }
+    requires pages { 0 < run.now.sizes.pages }
+    requires count { (actor.old.body.counts.taken + 65 < 2 ^ 64) × (actor.old.body.counts.objects + 1 < 2 ^ 64) }
+    ensures made { spec.Makes run.now actor.old actor.new result }
+    ensures cost { steps.new ≤ steps.old + spec.most_steps run.now.setup new.words new.before }
+{
+    let page_words = run.page_words();
+    if new.words <= page_words {
+        return make(actor, run, next, new, steps);
+    }
+    make_apart(actor, run, next, new, steps)
+}
+
+/// Makes the next object, of this many words, for variable `to`. So many words are before its cells. The word at `place` first holds
+/// `value`, and all others hold 0.
 fn object<L: Ledger>(
     actor: &mut Actor,
     run: &Run<'_, '_>,
     next: &Next<'_>,
     to: u32,
     words: usize,
+    before: usize,
     place: usize,
     value: u64,
     steps: &mut Steps<L>,
 ) -> Made
     requires before { IsBefore run.now actor.old next.now }
     requires does { (to : _) × (act : _) × (from : List ℕ) × (operation_of next.now.op ≡ Do to act from) }
-    requires wants { spec.Wants run.now.setup (number_of actor.old.seat.me) (now run.now.setup actor.old) next.now.function to words place value }
+    requires wants { spec.Wants run.now.setup (number_of actor.old.seat.me) (now run.now.setup actor.old) next.now.function to words before place value }
     requires pages { 0 < run.now.sizes.pages }
-    requires count { (actor.old.body.counts.taken + 1 < 2 ^ 64) × (actor.old.body.counts.objects + 1 < 2 ^ 64) }
+    requires count { (actor.old.body.counts.taken + 65 < 2 ^ 64) × (actor.old.body.counts.objects + 1 < 2 ^ 64) }
     ensures made { spec.Makes run.now actor.old actor.new result }
-    ensures cost { steps.new ≤ steps.old + (run.now.sizes.pages + 2 + run.now.sizes.page_words) }
+    ensures cost { steps.new ≤ steps.old + spec.most_steps run.now.setup words before }
 {
-    match object_of(actor, run, next, to, words, place, value) {
-        Some(new) => make(actor, run, next, new, steps),
+    match object_of(actor, run, next, to, words, before, place, value) {
+        Some(new) => make_new(actor, run, next, new, steps),
         None => Made::TooLarge,
     }
 }
 
 /// How many words a struct of this number has: one for each field, and at least one.
 fn struct_words(run: &Run<'_, '_>, number: usize) -> usize
-    ensures { result ≡ struct_words_of (slice_get run.now.setup.code.structs number) }
+    ensures { result ≡ all_struct_words (slice_get run.now.setup.code.structs number) }
 {
     match run.program.code().tac().structs().get(number) {
         Some(made) => made.fields.items().len().max(1),
@@ -360,12 +661,12 @@ pub fn new_struct<L: Ledger>(
     requires before { IsBefore run.now actor.old next.now }
     requires is { operation_of next.now.op ≡ Do (Some to) (action.New number) [] }
     requires pages { 0 < run.now.sizes.pages }
-    requires count { (actor.old.body.counts.taken + 1 < 2 ^ 64) × (actor.old.body.counts.objects + 1 < 2 ^ 64) }
+    requires count { (actor.old.body.counts.taken + 65 < 2 ^ 64) × (actor.old.body.counts.objects + 1 < 2 ^ 64) }
     ensures made { spec.Makes run.now actor.old actor.new result }
-    ensures cost { steps.new ≤ steps.old + (run.now.sizes.pages + 2 + run.now.sizes.page_words) }
+    ensures cost { steps.new ≤ steps.old + spec.most_steps run.now.setup (all_struct_words (slice_get run.now.setup.code.structs number)) 0 }
 {
     let words = struct_words(run, number);
-    object(actor, run, next, to, words, 0, 0, steps)
+    object(actor, run, next, to, words, 0, 0, 0, steps)
 }
 
 /// The next instruction makes a struct of this number, to which variable `to` points. Makes it if the own page has room, and returns
@@ -388,9 +689,13 @@ pub(crate) fn new_at_hand(
         return false;
     }
     let words = struct_words(run, number);
-    let Some(new) = object_of(actor, run, next, to, words, 0, 0) else {
+    let Some(new) = object_of(actor, run, next, to, words, 0, 0, 0) else {
         return false;
     };
+    let page_words = run.page_words();
+    if words > page_words {
+        return false;
+    }
     match own_page_for(actor, run, next, new) {
         Some(page) => {
             make_uncounted::<Brand>(actor, run, next, new, page, Blank::new(1));
@@ -412,9 +717,9 @@ pub fn new_slice<L: Ledger>(
     requires before { IsBefore run.now actor.old next.now }
     requires is { operation_of next.now.op ≡ Do (Some to) action.Slice (size ∷ []) }
     requires pages { 0 < run.now.sizes.pages }
-    requires count { (actor.old.body.counts.taken + 1 < 2 ^ 64) × (actor.old.body.counts.objects + 1 < 2 ^ 64) }
+    requires count { (actor.old.body.counts.taken + 65 < 2 ^ 64) × (actor.old.body.counts.objects + 1 < 2 ^ 64) }
     ensures made { spec.Makes run.now actor.old actor.new result }
-    ensures cost { steps.new ≤ steps.old + (run.now.sizes.pages + 2 + run.now.sizes.page_words) }
+    ensures cost { steps.new ≤ steps.old + spec.most_steps run.now.setup (newest_word (frames_in actor.old.body) size + 1) 1 }
 {
     let elements = actor.body.word(size);
     if elements >= FIRST_NEGATIVE {
@@ -426,6 +731,7 @@ pub fn new_slice<L: Ledger>(
         next,
         to,
         elements as usize + 1,
+        1,
         0,
         elements,
         steps,
@@ -452,10 +758,10 @@ pub fn new_channel<L: Ledger>(
     requires before { IsBefore run.now actor.old next.now }
     requires is { operation_of next.now.op ≡ Do (Some to) action.Chan (size ∷ []) }
     requires pages { 0 < run.now.sizes.pages }
-    requires small { run.now.setup.sizes.page_words ≤ 1073741820 }
-    requires count { (actor.old.body.counts.taken + 1 < 2 ^ 64) × (actor.old.body.counts.objects + 1 < 2 ^ 64) }
+    requires small { run.now.setup.sizes.page_words ≤ 16777215 }
+    requires count { (actor.old.body.counts.taken + 65 < 2 ^ 64) × (actor.old.body.counts.objects + 1 < 2 ^ 64) }
     ensures made { spec.Makes run.now actor.old actor.new result }
-    ensures cost { steps.new ≤ steps.old + (run.now.sizes.pages + 2 + run.now.sizes.page_words) }
+    ensures cost { steps.new ≤ steps.old + spec.most_steps run.now.setup (channel_words_of (newest_word (frames_in actor.old.body) size)) 2 }
 {
     let capacity = actor.body.word(size);
     if capacity >= FIRST_NEGATIVE {
@@ -467,6 +773,7 @@ pub fn new_channel<L: Ledger>(
         next,
         to,
         channel_words(capacity),
+        2,
         1,
         capacity,
         steps,

@@ -10,10 +10,11 @@ use Rattle.rgo_core.specs.Frames.Actions.{after_action}
 use Rattle.rgo_core.specs.Frames.Meetings.{acknowledged}
 use Rattle.rgo_core.specs.Frames.Records.{after_op}
 use Rattle.rgo_core.specs.Frames.WordFrames.{WordFrame, bare_all, word_going, word_moved}
-use Rattle.rgo_core.specs.Memory.Records.{Fill, Rec as MemoryRec, with_object}
+use Rattle.rgo_core.specs.Memory.Records.{Fill, Rec as MemoryRec, with_object, with_object_apart}
+use Rattle.rgo_core.specs.NewObjects.{reserved_address}
 use Rattle.rgo_core_steps.proofs.After.{position_by}
 use Rattle.rgo_core_steps.specs.Calls.{accessed_by, waited}
-use Rattle.rgo_core_steps.specs.After.{Position, acknowledging, acting, bytes_at, committing, given, making, position, printing, starting}
+use Rattle.rgo_core_steps.specs.After.{Position, acknowledging, acting, bytes_at, committing, given, making, making_apart, position, printing, starting}
 use Rattle.rgo_holding.specs.Holds.{Holds}
 use Rattle.rgo_sound.specs.Memory.Memory.{Object}
 use Rattle.rgo_sound.specs.RegionMachine.Counts.{Counts}
@@ -24,6 +25,7 @@ use Rattle.rgo_sound.specs.Tac.Ops.{operation_of}
 use Rattle.rgo_body.specs.Bodies.{IsReady}
 use Rattle.rgo_body.specs.Nexts.{IsDo, IsGo, IsPrint, removes_at, target_of}
 use Rattle.rgo_body.specs.Programs.{Program}
+use Rattle.rgo_body.specs.Reserves.{none_reserved}
 use Rattle.rgo_body.specs.Shows.{Shows, SideShows}
 use Rattle.rgo_body.specs.Steps.{GoesOn}
 use Rattle.rgo_body.specs.declared.bodies.Body.{Body}
@@ -53,6 +55,9 @@ module _ (T : Setup) (p : Program) (b m : Body) (c : Record) (next : Next) (word
 
   kept_side : SideShows m.side c.side c.frame.holder.offer
   kept_side = subst (λ (d : Body). SideShows d.side c.side c.frame.holder.offer) (sym goes.rest) s.side
+
+  kept_reserved : c.memory.reserved.pages ≡ m.reserved.pages
+  kept_reserved = s.reserved ∙ sym (ap (λ (d : Body). d.reserved.pages) goes.rest)
 
   kept_share : c.clock.share ≡ m.counts
   kept_share = s.share ∙ sym (ap (λ (d : Body). d.counts) goes.rest)
@@ -94,7 +99,7 @@ module _ (T : Setup) (p : Program) (b m : Body) (c : Record) (next : Next) (word
     acted_shows =
         subst (Shows T p (record m { counts = stepped m.counts })) (sym acting_is)
         (gone_shows T p b m c next word s ready goes (ticked c.clock) c.frame.holder c.memory c.side
-        (record m { counts = stepped m.counts }) refl refl refl kept_holds kept_side s.calm (ap stepped kept_share) kept_prints kept_refused)
+        (record m { counts = stepped m.counts }) refl refl refl kept_holds kept_side s.calm kept_reserved (ap stepped kept_share) kept_prints kept_refused)
 
     pub committed_shows : (known : SideShows side.AtRest at_rest c.frame.holder.offer)
         → Shows T p (record m { counts = stepped m.counts; side = side.AtRest }) (committing T.code c word)
@@ -102,7 +107,7 @@ module _ (T : Setup) (p : Program) (b m : Body) (c : Record) (next : Next) (word
         subst (Shows T p (record m { counts = stepped m.counts; side = side.AtRest }))
         (sym (ap (λ (d : Record). record d { side = at_rest }) acting_is))
         (gone_shows T p b m c next word s ready goes (ticked c.clock) c.frame.holder c.memory at_rest
-        (record m { counts = stepped m.counts; side = side.AtRest }) refl refl refl kept_holds known s.calm
+        (record m { counts = stepped m.counts; side = side.AtRest }) refl refl refl kept_holds known s.calm kept_reserved
         (ap stepped kept_share) kept_prints kept_refused)
 
     acknowledging_is : word ≡ 0
@@ -126,7 +131,7 @@ module _ (T : Setup) (p : Program) (b m : Body) (c : Record) (next : Next) (word
     acknowledged_shows none =
         subst (Shows T p (record m { side = side.AtRest })) (sym (acknowledging_is none))
         (gone_shows T p b m c next word s ready goes (accessed c.clock) (record c.frame.holder { offer = NoOffer }) c.memory at_rest
-        (record m { side = side.AtRest }) refl refl refl kept_holds (refl, refl) s.calm kept_share kept_prints kept_refused)
+        (record m { side = side.AtRest }) refl refl refl kept_holds (refl, refl) s.calm kept_reserved kept_share kept_prints kept_refused)
 
     -- a print
     printing_is : (clock : ℕ) → to ≡ None
@@ -146,7 +151,7 @@ module _ (T : Setup) (p : Program) (b m : Body) (c : Record) (next : Next) (word
         let bytes = bytes_at T.code (record { w = x.w; ws = x.ws; instr = x.instr }) in
         subst (Shows T p (record m { counts = stepped m.counts; prints = m.prints + 1 })) (sym (printing_is clock none))
         (gone_shows T p b m c next word s ready goes (with_print c.clock clock bytes) c.frame.holder c.memory c.side
-        (record m { counts = stepped m.counts; prints = m.prints + 1 }) refl refl refl kept_holds kept_side s.calm
+        (record m { counts = stepped m.counts; prints = m.prints + 1 }) refl refl refl kept_holds kept_side s.calm kept_reserved
         (ap stepped kept_share) (length-append c.clock.prints (drawn_at clock bytes ∷ []) ∙ ap (λ n. n + 1) kept_prints) kept_refused)
 
     -- a new object
@@ -189,8 +194,54 @@ module _ (T : Setup) (p : Program) (b m : Body) (c : Record) (next : Next) (word
         (ap (λ (e : Body). e.stack) is) (ap (λ (e : Body). e.queue) is) (ap (λ (e : Body). e.is_expanded) is) holds
         (subst (λ (e : Body). SideShows e.side c.side c.frame.holder.offer) (sym is) kept_side)
         (record { make = refl; claim = s.calm.claim; give = s.calm.give; none = s.calm.none })
+        (kept_reserved ∙ sym (ap (λ (e : Body). e.reserved.pages) is))
         (ap (λ (n : Counts). record n { steps = suc n.steps; objects = suc n.objects }) kept_share ∙ sym (ap (λ (e : Body). e.counts) is))
         (kept_prints ∙ sym (ap (λ (e : Body). e.prints) is)) (kept_refused ∙ sym (ap (λ (e : Body). e.refused) is)))
+
+    -- a spread object
+    making_apart_is : suc (reserved_address T c) ≡ word
+        → making_apart T c ≡ goes_to (record (ticked c.clock) {
+          share = record c.clock.share { steps = suc c.clock.share.steps; objects = suc c.clock.share.objects };
+        }) c.frame.holder (with_object_apart c.memory) c.side
+    making_apart_is same =
+        moves (λ q. record c {
+          clock = record (ticked c.clock) {
+            share = record c.clock.share { steps = suc c.clock.share.steps; objects = suc c.clock.share.objects };
+          };
+          frame = after_action T.code c.frame q.w q.ws q.instr (given q.instr.op) (suc (reserved_address T c));
+          memory = with_object_apart c.memory;
+        })
+        ∙ ap (λ n. record c {
+          clock = record (ticked c.clock) {
+            share = record c.clock.share { steps = suc c.clock.share.steps; objects = suc c.clock.share.objects };
+          };
+          frame = after_action T.code c.frame x.w x.ws x.instr to n;
+          memory = with_object_apart c.memory;
+        }) same
+        ∙ ap (λ r. record c {
+          clock = record (ticked c.clock) {
+            share = record c.clock.share { steps = suc c.clock.share.steps; objects = suc c.clock.share.objects };
+          };
+          frame = r;
+          memory = with_object_apart c.memory;
+        }) does
+
+    pub made_apart_shows : suc (reserved_address T c) ≡ word
+        → Shows T p (record m {
+          reserved = none_reserved;
+          counts = record m.counts { steps = suc m.counts.steps; objects = suc m.counts.objects };
+        }) (making_apart T c)
+    made_apart_shows same =
+        let d : Body = record m {
+          reserved = none_reserved;
+          counts = record m.counts { steps = suc m.counts.steps; objects = suc m.counts.objects };
+        } in
+        subst (Shows T p d) (sym (making_apart_is same))
+        (gone_shows T p b m c next word s ready goes (record (ticked c.clock) {
+          share = record c.clock.share { steps = suc c.clock.share.steps; objects = suc c.clock.share.objects };
+        }) c.frame.holder (with_object_apart c.memory) c.side d refl refl refl kept_holds kept_side
+        (record { make = refl; claim = s.calm.claim; give = s.calm.give; none = s.calm.none }) refl
+        (ap (λ (n : Counts). record n { steps = suc n.steps; objects = suc n.objects }) kept_share) kept_prints kept_refused)
 
   -- a start
   module _ (kind : IsGo (operation_of next.op)) where
@@ -218,6 +269,7 @@ module _ (T : Setup) (p : Program) (b m : Body) (c : Record) (next : Next) (word
         (gone_shows T p b m c next word s ready goes (with_child c.clock number) (record c.frame.holder { pending = [] }) c.memory c.side d
         (ap (λ (e : Body). e.stack) is) (ap (λ (e : Body). e.queue) is) (ap (λ (e : Body). e.is_expanded) is) holds
         (subst (λ (e : Body). SideShows e.side c.side c.frame.holder.offer) (sym is) kept_side) s.calm
+        (kept_reserved ∙ sym (ap (λ (e : Body). e.reserved.pages) is))
         (ap (λ (n : Counts). record n { steps = suc n.steps; goroutines = suc n.goroutines }) kept_share
         ∙ sym (ap (λ (e : Body). e.counts) is))
         (kept_prints ∙ sym (ap (λ (e : Body). e.prints) is)) (kept_refused ∙ sym (ap (λ (e : Body). e.refused) is)))
@@ -237,6 +289,7 @@ rest_shows T p b c none s rests = record {
   belongs = s.belongs;
   frames = s.frames;
   holds = s.holds;
+  reserved = s.reserved;
   owes = s.owes;
   side = (rests, no_offer b.side c.side c.frame.holder.offer s.side none);
   calm = s.calm;
@@ -254,6 +307,7 @@ tried_shows T p b c n known s none free nowhere = record {
   belongs = s.belongs;
   frames = s.frames;
   holds = s.holds;
+  reserved = s.reserved;
   owes = s.owes;
   side = (free, nowhere, no_offer b.side c.side c.frame.holder.offer s.side none);
   calm = record { make = s.calm.make; claim = s.calm.claim; give = s.calm.give; none = owed_still n c.clock ∙ s.calm.none };

@@ -10,7 +10,7 @@ use Rattle.rgo_core_facts.proofs.ControlSteps.{local_duty_steps}
 use Rattle.rgo_core_facts.specs.ControlDuties.{CanAttend, HasNewest, IsNamed}
 use Rattle.rgo_core.specs.Frames.Local.{local_duty}
 use Rattle.rgo_core.specs.Frames.WordFrames.{bare_all}
-use Rattle.rgo_core.specs.Memory.Records.{Fill, Rec as MemoryRec}
+use Rattle.rgo_core.specs.Memory.Records.{Fill, Rec as MemoryRec, Reserved}
 use Rattle.rgo_core_steps.specs.Seats.{SettlesBy, settled_by}
 use Rattle.rgo_holding.specs.Changes.{Keeps}
 use Rattle.rgo_holding.specs.Holds.{Holds, region_at}
@@ -42,15 +42,16 @@ module _ (T : Setup) (p : Program) (b : Body) (c : Record) (d : Duty) (ds : List
 
   -- after the first one is done, by an access or without one: another holder and other pages are known
   module _ (e : Body) (done : e.queue.duties ≡ ds) (is : e ≡ record b { queue = e.queue; holding = e.holding; counts = e.counts }) where
-    pub done_shows : (k : Holder) (clock : ClockRec) (memory : MemoryRec) → k.duties ≡ ds ++ later p.code b
+    pub done_shows : (k : Holder) (clock : ClockRec) (memory : MemoryRec) → memory.reserved ≡ c.memory.reserved → k.duties ≡ ds ++ later p.code b
         → k.offer ≡ c.frame.holder.offer → Holds T.sizes.regions e.holding k memory.fills → IsCalm memory clock.owed
         → clock.share ≡ e.counts → length clock.prints ≡ length c.clock.prints → clock.refused ≡ c.clock.refused
         → Shows T p e (record c { clock = clock; frame = record c.frame { holder = k }; memory = memory })
-    done_shows k clock memory duties offer holds calm share prints refused = record {
+    done_shows k clock memory reserved duties offer holds calm share prints refused = record {
       code = s.code;
       belongs = subst (λ (x : Body). Belongs p.compact x.stack) (sym is) s.belongs;
       frames = s.frames ∙ sym (ap frames_in is);
       holds = holds;
+      reserved = ap (λ (r : Reserved). r.pages) reserved ∙ s.reserved ∙ sym (ap (λ (x : Body). x.reserved.pages) is);
       owes = duties ∙ ap (λ l. l ++ later p.code b) (sym done) ∙ sym (ap (λ (x : Body). e.queue.duties ++ later p.code x) is);
       side = subst (λ o. SideShows e.side c.side o) (sym offer)
           (subst (λ (x : Body). SideShows x.side c.side c.frame.holder.offer) (sym is) s.side);
@@ -71,7 +72,7 @@ module _ (T : Setup) (p : Program) (b : Body) (c : Record) (d : Duty) (ds : List
         let step = local_duty_steps T g c d (ds ++ later p.code b) k here known.0 first does in (
           step.settles,
           subst (Shows T p e) (sym step.becomes)
-              (done_shows k c.clock c.memory duties offer holds s.calm (s.share ∙ sym counts) refl refl),
+              (done_shows k c.clock c.memory refl duties offer holds s.calm (s.share ∙ sym counts) refl refl),
         )
 
   -- ---- the region of a name
@@ -135,6 +136,7 @@ with_holding T p b c H s keeps = record {
   belongs = s.belongs;
   frames = s.frames;
   holds = keeps T.sizes.regions c.frame.holder c.memory.fills s.holds;
+  reserved = s.reserved;
   owes = s.owes;
   side = s.side;
   calm = s.calm;

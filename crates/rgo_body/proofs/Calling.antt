@@ -154,6 +154,7 @@ module _ (T : Setup) (p : Program) (b d : Body) (g : ℕ) (c : Record) (next : N
           frame = refl;
           side = refl;
           fills = refl;
+          reserved = refl;
           make = refl;
           claim = refl;
           give = refl;
@@ -274,7 +275,7 @@ module _ (T : Setup) (p : Program) (b d : Body) (g : ℕ) (c : Record) (next : N
     (holding : (slots : ℕ) (h : Holder) (fills : List Fill) → Holds slots b.holding h fills → top_protections h.environments ≡ []
     → Holds slots d.holding (record h { environments = below h.environments }) fills)
     (expanded : d.is_expanded ≡ false) (side_is : d.side ≡ b.side) (counts : d.counts ≡ counted b.counts)
-    (prints : d.prints ≡ b.prints) (refused : d.refused ≡ b.refused) where
+    (prints : d.prints ≡ b.prints) (reserved : d.reserved ≡ b.reserved) (refused : d.refused ≡ b.refused) where
   abbrev pub z : At T.code c next
   z = at T p b c next s ready.is_next
 
@@ -295,6 +296,7 @@ module _ (T : Setup) (p : Program) (b d : Body) (g : ℕ) (c : Record) (next : N
     side = side_is;
     counts = counts;
     prints = prints;
+    reserved = reserved;
     refused = refused;
   }
 

@@ -85,6 +85,7 @@ module _ (T : Setup) (p : Program) (b d : Body) (g : ℕ) (c : Record) (next : N
           frame = refl;
           side = refl;
           fills = refl;
+          reserved = refl;
           make = refl;
           claim = refl;
           give = refl;

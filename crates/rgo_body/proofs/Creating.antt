@@ -24,11 +24,15 @@ use Rattle.rgo_sound.specs.Tac.Code as tac
 use Rattle.rgo_body.specs.Bodies.{frames_in, owed}
 use Rattle.rgo_body.specs.Nexts.{IsNextOf}
 use Rattle.rgo_body.specs.Programs.{Program}
+use Rattle.rgo_body.specs.Reserves.{Reserved}
 use Rattle.rgo_body.specs.Shows.{IsCalm, IsPossible, Shows, SideShows}
 use Rattle.rgo_stack.specs.Stacks.{Belongs}
 use Rattle.rgo_sound.specs.RegionMachine.Counts.{Counts}
 use Rattle.rgo_holding.specs.declared.holding.Holding.{Holding}
-use Rattle.rgo_core.specs.Memory.Records.{Rec as MemoryRec}
+use Rattle.rgo_core.specs.Claims.{claims, reserves}
+use Rattle.rgo_core.specs.Memory.Records.{Idle, Rec as MemoryRec, with_claim}
+use Rattle.rgo_core_steps.specs.Making.{next_is_spread}
+use Rattle.rgo_pages.specs.Claiming.{has_claimed}
 use Rattle.rgo_body.specs.Steps.{Stays}
 use Rattle.rgo_body.specs.declared.bodies.Body.{Body}
 use Rattle.rgo_body.specs.declared.nexts.Next.{Next}
@@ -80,7 +84,7 @@ created_shows T p b e g c name slot ds here s queue done is counts low out creat
     let h : Holder = record (changes.creating c.frame.holder name slot) { duties = ds ++ later p.code b } in
     let clock : ClockRec = record (accessed c.clock) { share = record c.clock.share { made = suc c.clock.share.made } } in
     subst (λ l. Shows T p e (created_with c slot l)) (sym owes)
-    (done_shows T p b c (Create name) ds s queue e done is h clock c.memory refl refl
+    (done_shows T p b c (Create name) ds s queue e done is h clock c.memory refl refl refl
     (creates T.sizes.regions c.frame.holder c.memory.fills s.holds (is_new T g c slot here low out))
     record { make = s.calm.make; claim = s.calm.claim; give = s.calm.give; none = s.calm.none }
     (ap (λ (n : Counts). record n { made = suc n.made }) s.share ∙ sym counts) refl refl)
@@ -111,6 +115,7 @@ expands p b d next n empty not_yet is queue T c s = record {
   belongs = subst (λ (x : Body). Belongs p.compact x.stack) (sym is) s.belongs;
   frames = s.frames ∙ sym (ap frames_in is);
   holds = subst (λ (x : Body). Holds T.sizes.regions x.holding c.frame.holder c.memory.fills) (sym is) s.holds;
+  reserved = s.reserved ∙ sym (ap (λ (x : Body). x.reserved.pages) is);
   owes = s.owes ∙ before ∙ sym queue ∙ sym (no_more d.queue.duties)
       ∙ ap (λ t. d.queue.duties ++ (if t then [] else next_duties p.code (bare_all (frames_in d)))) (sym (ap (λ (x : Body). x.is_expanded) is));
   side = subst (λ (x : Body). SideShows x.side c.side c.frame.holder.offer) (sym is) s.side;
@@ -136,6 +141,7 @@ requeued p b d is queue T c s = record {
   belongs = subst (λ (x : Body). Belongs p.compact x.stack) (sym is) s.belongs;
   frames = s.frames ∙ sym (ap frames_in is);
   holds = subst (λ (x : Body). Holds T.sizes.regions x.holding c.frame.holder c.memory.fills) (sym is) s.holds;
+  reserved = s.reserved ∙ sym (ap (λ (x : Body). x.reserved.pages) is);
   owes = s.owes ∙ ap (λ l. l ++ later p.code b) (sym queue) ∙ sym (ap (λ (x : Body). d.queue.duties ++ later p.code x) is);
   side = subst (λ (x : Body). SideShows x.side c.side c.frame.holder.offer) (sym is) s.side;
   calm = s.calm;
@@ -166,15 +172,16 @@ go_duties (code.Return value) f l e = refl
 
 -- ---- memory and counts alone
 
-pub recounted : (T : Setup) (p : Program) (b : Body) (c : Record) (H : Holding) (n : Counts) (clock : ClockRec) (memory : MemoryRec)
-    → Shows T p b c → Holds T.sizes.regions H c.frame.holder memory.fills → IsCalm memory clock.owed → clock.share ≡ n
+pub recounted : (T : Setup) (p : Program) (b : Body) (c : Record) (H : Holding) (R : Reserved) (n : Counts) (clock : ClockRec) (memory : MemoryRec)
+    → Shows T p b c → Holds T.sizes.regions H c.frame.holder memory.fills → memory.reserved.pages ≡ R.pages → IsCalm memory clock.owed → clock.share ≡ n
     → length clock.prints ≡ length c.clock.prints → clock.refused ≡ c.clock.refused
-    → Shows T p (record b { holding = H; counts = n }) (record c { clock = clock; memory = memory })
-recounted T p b c H n clock memory s holds calm share prints refused = record {
+    → Shows T p (record b { holding = H; reserved = R; counts = n }) (record c { clock = clock; memory = memory })
+recounted T p b c H R n clock memory s holds reserved calm share prints refused = record {
   code = s.code;
   belongs = s.belongs;
   frames = s.frames;
   holds = holds;
+  reserved = reserved;
   owes = s.owes;
   side = s.side;
   calm = calm;
@@ -182,6 +189,19 @@ recounted T p b c H n clock memory s holds calm share prints refused = record {
   prints = prints ∙ s.prints;
   refused = refused ∙ s.refused;
 }
+
+-- the record after a page was claimed, which is now hung and linked
+abbrev pub linked : Record → Record
+linked c = record c { clock = accessed (accessed c.clock); memory = with_claim c.memory Idle }
+
+-- it is an own page, or one of a spread object
+pub claims_own : (T : Setup) (c : Record) (page slot : ℕ) → next_is_spread T c ≡ false
+    → has_claimed T c page slot ≡ linked (claims c page slot)
+claims_own T c page slot none = ap (λ t. linked (if t then reserves c page slot else claims c page slot)) none
+
+pub claims_apart : (T : Setup) (c : Record) (page slot : ℕ) → next_is_spread T c ≡ true
+    → has_claimed T c page slot ≡ linked (reserves c page slot)
+claims_apart T c page slot spread = ap (λ t. linked (if t then reserves c page slot else claims c page slot)) spread
 
 -- the duties of creates are put before those of the operation
 pub queued_by : (instr : code.CodeInstr) (found : Option code.CodeInstr) (creates : List ℕ) (before mid after old : List Duty)

@@ -32,6 +32,7 @@ examples = record {
     frame = refl;
     side = refl;
     fills = refl;
+    reserved = refl;
     make = refl;
     claim = refl;
     give = refl;
@@ -40,6 +41,35 @@ examples = record {
     prints = refl;
     refused = refl;
   };
+  slot = record {
+    frame = refl;
+    side = refl;
+    fills = refl;
+    reserved = refl;
+    make = refl;
+    claim = refl;
+    give = refl;
+    share = refl;
+    owed = refl;
+    prints = refl;
+    refused = refl;
+  };
+  page = λ s. by_pages s.reserved;
+  two = λ T p b c s. record {
+    code = s.code;
+    belongs = s.belongs;
+    frames = s.frames;
+    holds = s.holds;
+    reserved = refl;
+    owes = s.owes;
+    side = s.side;
+    calm = record { make = s.calm.make; claim = s.calm.claim; give = s.calm.give; none = s.calm.none };
+    share = s.share;
+    prints = s.prints;
+    refused = s.refused;
+  };
+  other_order = λ T p b c s. let e = ap first_of s.reserved in omega (arith, e);
+  no_page = λ T p b c s. let e = ap first_of s.reserved in omega (arith, e);
   instruction = λ s. let e = ap (λ (n : Counts). n.steps) s.share in omega (arith, e);
   gone = refl;
   removed = refl;
@@ -52,6 +82,18 @@ examples = record {
     goroutines = omega arith;
   };
   many = λ s. let l = s.steps in omega (arith, l);
+  most_pages = record {
+    made = omega arith;
+    removed = omega arith;
+    taken = omega arith;
+    steps = omega arith;
+    objects = omega arith;
+    goroutines = omega arith;
+  };
+  too_many_pages = λ s. let l = s.taken in omega (arith, l);
+  most = refl;
+  no_struct = refl;
+  a_field_more = λ T p b c next op a v k f s n points. let e = points T b c op a k f s n in omega (arith, e);
   order = refl;
   global_shared = refl;
   shared = refl;
@@ -115,6 +157,13 @@ examples = record {
 
     by_give : Owes 3 ≡ Calm → ⊥
     by_give e = cc
+
+    first_of : List ℕ → ℕ
+    first_of [] = 0
+    first_of (page ∷ pages) = page
+
+    by_pages : ◌≡◌ {A = List ℕ} (3 ∷ []) [] → ⊥
+    by_pages e = cc
 
     by_frames : (w : WordFrame) (ws : List WordFrame) → ◌≡◌ {A = List WordFrame} [] (w ∷ ws) → ⊥
     by_frames w ws e = cc

@@ -7,6 +7,7 @@ pub mod Computing
 pub mod Creating
 pub mod Decoding
 pub mod Examined
+pub mod Fielding
 pub mod LoopRuns
 pub mod OpKinds
 pub mod Placing

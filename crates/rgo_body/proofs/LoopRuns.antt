@@ -7,7 +7,7 @@ use Rattle.rgo_core.specs.Core.{IsPossible as CanBe, Setup}
 use Rattle.rgo_core.specs.Records.{Record}
 use Rattle.rgo_core.specs.Channels.Records.{at_rest}
 use Rattle.rgo_core.specs.Frames.WordFrames.{bare_all}
-use Rattle.rgo_core.specs.Memory.Records.{Fill}
+use Rattle.rgo_core.specs.Memory.Records.{Fill, Reserved}
 use Rattle.rgo_core.specs.Rule.Views.{Me, number_of}
 use Rattle.rgo_core_steps.specs.Seats.{HasOne, Settles, settled}
 use Rattle.rgo_holding.specs.Changes.{KnowsNone, Settles as HoldingSettles}
@@ -95,6 +95,7 @@ module _ (T : Setup) (p : Program) (b : Body) (m : Me Record) (q : ℕ) (s : Sho
       belongs = belongs;
       frames = comes.between.are;
       holds = shown_holds;
+      reserved = ap (λ (r : Reserved). r.pages) made.reserved ∙ s.reserved ∙ sym (ap (λ (x : Body). x.reserved.pages) is);
       owes = comes.between.owes ∙ ap (λ code. next_duties code (bare_all (frames_in d))) s.code
           ∙ sym (owes_next p.code d (ap (λ (x : Body). x.queue.duties) is ∙ empty) (ap (λ (x : Body). x.is_expanded) is ∙ not_yet));
       side = subst (λ (x : Side). SideShows x (settled T r w).side (settled T r w).frame.holder.offer)

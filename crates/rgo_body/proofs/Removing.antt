@@ -284,7 +284,7 @@ module _ (T : Setup) (p : Program) (b d : Body) (g : ℕ) (c x : Record) (slot :
         let none = nothing_kept T g x there slot low (ap (λ (y : Holder). is_in slot y.stakes) holder ∙ out) in
         let unknown : changes.IsUnknown h slot = (let u = subst (λ (y : Holder). changes.IsUnknown y slot) (holder ∙ after) (unknown_from x slot none) in
         record { unnamed = u.unnamed; unguarded = u.unguarded }) in
-        done_shows T p b c first_duty ds s queue d done is k (accessed c.clock) (without_slot c.memory slot)
+        done_shows T p b c first_duty ds s queue d done is k (accessed c.clock) (without_slot c.memory slot) refl
         (ap (λ (y : Holder). y.duties) after ∙ duties) (ap (λ (y : Holder). y.offer) after ∙ offer)
         (subst (λ (y : Holder). Holds T.sizes.regions d.holding y (dropped slot c.memory.fills)) (sym after)
         (gives T.sizes.regions h c.memory.fills slot holds at unknown))

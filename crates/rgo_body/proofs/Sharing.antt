@@ -186,7 +186,7 @@ shared_shows T p b e g c name ds key here s queue done is counts shares holds =
     let took = took_in h n.region shares.slot x.0
     (sym (ap (by_first stake_shared c.frame.holder) first_is ∙ ap (option_and_then (shared_in h)) (top_bound T c name n)) ∙ x.1) in
     subst (Shows T p e) (sym (ap (λ o. option_map_or (λ (t : ℕ × Holder). with_holder c t.1) o c) x.1))
-    (done_shows T p b c (Share name) ds s queue e done is x.0 (accessed c.clock) c.memory
+    (done_shows T p b c (Share name) ds s queue e done is x.0 (accessed c.clock) c.memory refl
     (ap (λ (y : Holder). y.duties) took.after) (ap (λ (y : Holder). y.offer) took.after)
     (subst (λ (y : Holder). Holds T.sizes.regions e.holding y c.memory.fills) (sym took.after)
     (holds T.sizes.regions c.frame.holder c.memory.fills shares.slot s.holds shares.region))

@@ -36,6 +36,7 @@ like_shown T p b c d s like = record {
   frames = ap (λ (f : _). f.frames) like.frame ∙ s.frames;
   holds = subst (λ (h : Holder). Holds T.sizes.regions b.holding h d.memory.fills) (sym (ap (λ (f : _). f.holder) like.frame))
       (subst (λ (fills : List Fill). Holds T.sizes.regions b.holding c.frame.holder fills) (sym like.fills) s.holds);
+  reserved = like.reserved ∙ s.reserved;
   owes = ap (λ (f : _). f.holder.duties) like.frame ∙ s.owes;
   side = subst (λ (o : Offer). SideShows b.side d.side o) (sym (ap (λ (f : _). f.holder.offer) like.frame))
       (subst (λ (k : SideRec). SideShows b.side k c.frame.holder.offer) (sym like.side) s.side);
@@ -60,6 +61,7 @@ stays_shows T p b c stack holding queue s frames belongs same holds = record {
   belongs = belongs;
   frames = s.frames ∙ sym frames;
   holds = holds;
+  reserved = s.reserved;
   owes = s.owes
       ∙ ap (λ l. l ++ (if b.is_expanded then [] else next_duties p.code (bare_all (frames_in b)))) (sym same)
       ∙ ap (λ fs. queue.duties ++ (if b.is_expanded then [] else next_duties p.code (bare_all fs))) (sym frames);
@@ -216,12 +218,13 @@ module _ (T : Setup) (p : Program) (b m : Body) (c : Record) (next : Next) (word
   pub gone_shows : (k : ClockRec) (h : Holder) (memory : MemoryRec) (side : SideRec) (d : Body) → d.stack ≡ m.stack
       → d.queue ≡ m.queue → d.is_expanded ≡ m.is_expanded
       → Holds T.sizes.regions d.holding h memory.fills → SideShows d.side side h.offer → IsCalm memory k.owed
-      → k.share ≡ d.counts → length k.prints ≡ d.prints → k.refused ≡ d.refused → Shows T p d (gone k h memory side)
-  gone_shows k h memory side d stack queue expanded holds side_shows calm share prints refused = record {
+      → memory.reserved.pages ≡ d.reserved.pages → k.share ≡ d.counts → length k.prints ≡ d.prints → k.refused ≡ d.refused → Shows T p d (gone k h memory side)
+  gone_shows k h memory side d stack queue expanded holds side_shows calm reserved share prints refused = record {
     code = s.code;
     belongs = subst (Belongs p.compact) (sym stack) goes.belongs;
     frames = frames_are ∙ ap frames_of (sym stack);
     holds = holds;
+    reserved = reserved;
     owes = owes
         ∙ ap (λ (q : _). q.duties ++ (if m.is_expanded then [] else next_duties p.code (bare_all (frames_in m)))) (sym queue)
         ∙ ap (λ e. d.queue.duties ++ (if e then [] else next_duties p.code (bare_all (frames_in m)))) (sym expanded)

@@ -28,6 +28,7 @@ use Rattle.rgo_stack.specs.Stacks.{Belongs, Stack, frames_of}
 use Rattle.rgo_sound.specs.Tac.declared.regions.Class.{Class}
 use Rattle.rgo_body.specs.Bodies.{IsFresh, IsReady, frames_in}
 use Rattle.rgo_body.specs.Programs.{Program}
+use Rattle.rgo_body.specs.Reserves.{Reserved}
 use Rattle.rgo_body.specs.Shows.{Shows, SideShows}
 use Rattle.rgo_body.specs.declared.bodies.Body.{Body}
 use Rattle.rgo_body.specs.declared.bodies.Side.{Side}
@@ -139,6 +140,7 @@ module _ (T : Setup) (p : Program) (b : Body) (stack : Stack) (holding : Holding
     calm = record { make = refl; claim = refl; give = refl; none = refl };
     share = sym fresh.counts;
     prints = sym fresh.prints;
+    reserved = sym (ap (λ (r : Reserved). r.pages) fresh.reserved);
     refused = sym fresh.refused;
   }
     where
@@ -167,6 +169,7 @@ module _ (T : Setup) (p : Program) (b : Body) (stack : Stack) (holding : Holding
         calm = record { make = refl; claim = refl; give = refl; none = refl };
         share = sym fresh.counts;
         prints = sym fresh.prints;
+        reserved = sym (ap (λ (r : Reserved). r.pages) fresh.reserved);
         refused = sym fresh.refused;
       })
     where

@@ -27,6 +27,7 @@ use Rattle.rgo_sound.specs.Tac.Ops.{operation_of}
 use Rattle.rgo_body.specs.Bodies.{IsReady, frames_in}
 use Rattle.rgo_body.specs.Nexts.{IsNextAt, IsNextOf, instr_at, removes_at}
 use Rattle.rgo_body.specs.Programs.{Program}
+use Rattle.rgo_body.specs.Reserves.{Reserved}
 use Rattle.rgo_body.specs.Shows.{IsPossible, Shows, SideShows}
 use Rattle.rgo_body.specs.Steps.{GoesTo}
 use Rattle.rgo_body.specs.declared.bodies.Body.{Body}
@@ -57,6 +58,7 @@ pub record Stepped (b d : Body) (ds : List Duty) : Type 0 where
   pub side : d.side ≡ b.side
   pub counts : d.counts ≡ counted b.counts
   pub prints : d.prints ≡ b.prints
+  pub reserved : d.reserved ≡ b.reserved
   pub refused : d.refused ≡ b.refused
 
 pub stepped_shows : (T : Setup) (p : Program) (b d : Body) (c : Record) (frames : List WordFrame) (h : Holder) (ds : List Duty)
@@ -67,6 +69,7 @@ stepped_shows T p b d c frames h ds s k belongs are offer holds = record {
   belongs = belongs;
   frames = are;
   holds = holds;
+  reserved = s.reserved ∙ sym (ap (λ (r : Reserved). r.pages) k.reserved);
   owes = ap (λ code. ds ++ next_duties code (bare_all frames)) s.code
       ∙ ap (λ fs. ds ++ next_duties p.code (bare_all fs)) are
       ∙ sym (owes_first p.code d ds k.queue k.expanded);
@@ -117,6 +120,7 @@ module _ (T : Setup) (p : Program) (b m : Body) (g : ℕ) (c : Record) (next : N
     side = ap (λ (e : Body). e.side) goes.rest;
     counts = ap (λ (e : Body). e.counts) goes.rest;
     prints = ap (λ (e : Body). e.prints) goes.rest;
+    reserved = ap (λ (e : Body). e.reserved) goes.rest;
     refused = ap (λ (e : Body). e.refused) goes.rest;
   }
 

@@ -10,6 +10,7 @@ use Rattle.rgo_holding.specs.declared.holding.Holding.{Holding}
 use Rattle.rgo_stack.specs.Stacks.{Stack, frames_of}
 use Rattle.rgo_body.specs.Nexts.{IsNextOf, removes_at}
 use Rattle.rgo_body.specs.Programs.{Program}
+use Rattle.rgo_body.specs.Reserves.{none_reserved}
 use Rattle.rgo_body.specs.declared.bodies.Body.{Body}
 use Rattle.rgo_body.specs.declared.bodies.Side.TheVariants.{AtRest}
 use Rattle.rgo_body.specs.declared.nexts.Next.{Next}
@@ -33,11 +34,11 @@ HasRoomBehind b next = length (removes_at next) ≤ b.queue.room
 
 -- ---- counts
 
--- one more of each can be counted
+-- one more of each can be counted, and as many pages as an object may have
 pub record CanCount (n : Counts) : Type 0 where
   pub made : n.made + 1 < 18446744073709551616
   pub removed : n.removed + 1 < 18446744073709551616
-  pub taken : n.taken + 1 < 18446744073709551616
+  pub taken : n.taken + 65 < 18446744073709551616
   pub steps : n.steps + 1 < 18446744073709551616
   pub objects : n.objects + 1 < 18446744073709551616
   pub goroutines : n.goroutines + 1 < 18446744073709551616
@@ -53,4 +54,5 @@ pub record IsFresh (stack : Stack) (holding : Holding) (removes : List ℕ) (gor
   pub side : b.side ≡ AtRest
   pub counts : b.counts ≡ record no_share { goroutines = goroutines }
   pub prints : b.prints ≡ 0
+  pub reserved : b.reserved ≡ none_reserved
   pub refused : b.refused ≡ false

@@ -1,15 +1,19 @@
 -- Where the definitions hold and where they do not.
 use denote.Ref.{Bor}
-use Rattle.std.specs.Prelude.{◌≡◌, ◌∷◌, [], List, None, Some, pos, refl, true, false}
+use Rattle.std.specs.Prelude.{◌≡◌, ◌∷◌, [], ℕ, List, None, Some, length, pos, refl, suc, true, false}
 use Rattle.rgo_compact.specs.Examples.{adding, small}
 use Rattle.rgo_compact.specs.Runs.{frame_at}
+use Rattle.rgo_core.specs.Core.{Setup}
+use Rattle.rgo_core.specs.Next.{IsAt}
 use Rattle.rgo_core.specs.Records.{Record, begins_with, looked}
 use Rattle.rgo_core.specs.Channels.Records.{at_rest, offering}
 use Rattle.rgo_core.specs.Frames.Opening.{no_record}
 use Rattle.rgo_core.specs.Frames.WordFrames.{WordFrame}
 use Rattle.rgo_core.specs.Memory.Opening.{first_record}
 use Rattle.rgo_core.specs.Memory.Records.{Owes, with_give}
-use Rattle.rgo_sound.specs.RegionMachine.Examples.{int_slot, main_of}
+use Rattle.rgo_core_facts.specs.MemoryWords.{HasField}
+use Rattle.rgo_sound.specs.Code.Code.{CodeOp}
+use Rattle.rgo_sound.specs.RegionMachine.Examples.{int_slot, main_of, node}
 use Rattle.rgo_sound.specs.RegionMachine.States.{Environment, NoOffer, Standing}
 use Rattle.rgo_sound.specs.RegionMachine.States as machine
 use Rattle.rgo_sound.specs.RegionMachine.declared.regions.Region.TheVariants.{Global as GlobalRegion, Numbered}
@@ -19,11 +23,14 @@ use Rattle.rgo_sound.specs.Tac.declared.ops.Op.TheVariants as op
 use Rattle.rgo_sound.specs.Tac.declared.ops.Operands.TheVariants.{Zero}
 use Rattle.rgo_sound.specs.Tac.declared.regions.Class.TheVariants.{NoClass}
 use Rattle.rgo_sound.specs.Typed.declared.actions.Action.TheVariants as action
-use Rattle.rgo_body.specs.Bodies.{CanCount}
+use Rattle.rgo_body.specs.Bodies.{CanCount, frames_in}
 use Rattle.rgo_body.specs.Duties.{has_share, is_kept, without_region}
+use Rattle.rgo_body.specs.Fields.{PointsToFields}
 use Rattle.rgo_body.specs.Nexts.{AreNexts, FollowsOn, HasNoNext, IsDecoded, IsDo, IsNextOf, IsReturn, removes_at, target_of}
+use Rattle.rgo_body.specs.Programs.{Program, most_fields}
 use Rattle.rgo_body.specs.Queues.{duties_of}
-use Rattle.rgo_body.specs.Shows.{IsCalm, LooksLike, SideShows}
+use Rattle.rgo_body.specs.Shows.{IsCalm, LooksLike, Shows, SideShows}
+use Rattle.rgo_body.specs.declared.bodies.Body.{Body}
 use Rattle.rgo_body.specs.declared.bodies.Side.TheVariants as side
 use Rattle.rgo_body.specs.declared.nexts.Next.{Next}
 use Rattle.rgo_body.specs.declared.queues.Duty.TheVariants as duty
@@ -56,6 +63,14 @@ at_start = frame_at 0 0 (7 ∷ 0 ∷ 0 ∷ []) ∷ []
 abbrev pub nobody : Record
 nobody = begins_with no_record
 
+-- this body after it has reserved pages 3 and 7
+abbrev pub with_two : Body → Body
+with_two b = record b { reserved = record { pages = 3 ∷ 7 ∷ []; room = 0 } }
+
+-- this record with these reserved pages, claimed for slot 5
+abbrev pub with_pages : Record → List ℕ → Record
+with_pages c pages = record c { memory = record c.memory { reserved = record { slot = 5; pages = pages } } }
+
 -- a frame whose call protects the region of slot 3
 abbrev pub guarding : Environment
 guarding = record { lent = NoClass; names = []; protections = Numbered 3 ∷ [] }
@@ -74,11 +89,25 @@ pub record BodyExamples : Type 0 where
   -- what no body shows
   pub access : LooksLike nobody (looked nobody)
   pub instruction : LooksLike nobody (record nobody { clock = record nobody.clock { share = record no_share { steps = 1 } } }) → ⊥
+  pub slot : LooksLike nobody (with_pages nobody [])
+  pub page : LooksLike nobody (with_pages nobody (3 ∷ [])) → ⊥
+  -- reserved pages, whatever else is shown
+  pub two : (T : Setup) (p : Program) (b : Body) (c : Record) → Shows T p b c → Shows T p (with_two b) (with_pages c (3 ∷ 7 ∷ []))
+  pub other_order : (T : Setup) (p : Program) (b : Body) (c : Record) → Shows T p (with_two b) (with_pages c (7 ∷ 3 ∷ [])) → ⊥
+  pub no_page : (T : Setup) (p : Program) (b : Body) (c : Record) → Shows T p (with_two b) (with_pages c []) → ⊥
   pub gone : (without_region nobody 4).clock.share.returned ≡ 4
   pub removed : (without_region nobody 4).clock.share.removed ≡ 1
   -- counts
   pub few : CanCount no_share
   pub many : CanCount (record no_share { steps = 18446744073709551615 }) → ⊥
+  pub most_pages : CanCount (record no_share { taken = 18446744073709551550 })
+  pub too_many_pages : CanCount (record no_share { taken = 18446744073709551551 }) → ⊥
+  -- fields
+  pub most : most_fields (node ∷ record node { fields = [] } ∷ []) ≡ 2
+  pub no_struct : most_fields [] ≡ 0
+  pub a_field_more : (T : Setup) (p : Program) (b : Body) (c : Record) (next : Next) (op : CodeOp) (a : IsAt T.code c op) (v k : ℕ)
+      (f : HasField T c a v k) → Shows T p b c → IsNextOf p.code (frames_in b) next
+      → PointsToFields p next v (suc (length f.struct.fields)) → ⊥
   -- queues: the first duty is the last of the list
   pub order : duties_of (duty.Create 4 ∷ duty.Remove 3 ∷ []) ≡ machine.Remove 3 ∷ machine.Create 4 ∷ []
   -- duties without an access

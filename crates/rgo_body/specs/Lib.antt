@@ -5,8 +5,10 @@ pub use Rattle.rgo_stack.specs as Stack
 pub mod Programs
 pub mod Nexts
 pub mod Queues
+pub mod Reserves
 pub mod Bodies
 pub mod Shows
+pub mod Fields
 pub mod Steps
 pub mod Duties
 pub mod Examples

@@ -32,6 +32,7 @@ pub record Shows (T : Setup) (p : Program) (b : Body) (c : Record) : Type 0 wher
   pub belongs : Belongs p.compact b.stack
   pub frames : c.frame.frames ≡ frames_in b
   pub holds : Holds T.sizes.regions b.holding c.frame.holder c.memory.fills
+  pub reserved : c.memory.reserved.pages ≡ b.reserved.pages
   pub owes : c.frame.holder.duties ≡ owed p.code b
   pub side : SideShows b.side c.side c.frame.holder.offer
   pub calm : IsCalm c.memory c.clock.owed
@@ -47,12 +48,13 @@ pub record IsPossible (p : Program) (b : Body) : Type 0 where
   pub here : Here T goroutine c
   pub shows : Shows T p b c
 
--- d differs from c only in what no body shows: its accesses, what it has tried and measured, its children, the end that it has set, and
--- the tickets of its prints
+-- d differs from c only in what no body shows: its accesses, what it has tried, measured and located, its children, the end that it has
+-- set, and the tickets of its prints
 pub record LooksLike (c d : Record) : Type 0 where
   pub frame : d.frame ≡ c.frame
   pub side : d.side ≡ c.side
   pub fills : d.memory.fills ≡ c.memory.fills
+  pub reserved : d.memory.reserved.pages ≡ c.memory.reserved.pages
   pub make : d.memory.make ≡ c.memory.make
   pub claim : d.memory.claim ≡ c.memory.claim
   pub give : d.memory.give ≡ c.memory.give

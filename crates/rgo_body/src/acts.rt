@@ -4,7 +4,8 @@ ghost use Rattle.std.specs.Prelude.{◌≡◌, ◌^◌, ◌+◌, ◌*◌, ◌<�
 ghost use Rattle.rgo_core.specs.Core.{Setup};
 ghost use Rattle.rgo_core.specs.Records.{Record};
 ghost use Rattle.rgo_core.specs.Memory.Records.{Fill};
-ghost use Rattle.rgo_core_steps.specs.After.{acting, making, printing, starting};
+ghost use Rattle.rgo_core.specs.NewObjects.{reserved_address};
+ghost use Rattle.rgo_core_steps.specs.After.{acting, making, making_apart, printing, starting};
 ghost use Rattle.rgo_core_steps.specs.Ends.{ending};
 ghost use Rattle.rgo_core_steps.specs.Starts.{refusing};
 ghost use Rattle.rgo_sound.specs.Machine.declared.picks.End.TheVariants.{Trap};
@@ -18,6 +19,7 @@ ghost use Rattle.rgo_sound.specs.RegionMachine.States.{Ended, Stopped};
 ghost use Rattle.rgo_sound.specs.Tac.Ops.{operation_of};
 ghost use Rattle.rgo_body.specs.Bodies.{HasRoomBehind, IsReady};
 ghost use Rattle.rgo_body.specs.Nexts.{FollowsOn, IsDo, IsGo, IsPrint, removes_at, target_of};
+ghost use Rattle.rgo_body.specs.Reserves.{none_reserved};
 ghost use Rattle.rgo_body.specs.Shows.{IsPossible, Shows};
 ghost use Rattle.rgo_body.specs.Steps.{Becomes, GoesOn, IsRoomier};
 
@@ -83,6 +85,24 @@ impl Body {
     {
         self.go_on(program, next, word);
         self.holding.fill(key, end);
+        self.counts.add_object();
+    }
+
+    /// Its next instruction has made a spread object in the pages that were reserved for it. `word` is the pointer.
+    pub fn made_apart(&mut self, program: &Program<'_>, next: &Next<'_>, word: u64)
+        requires possible { IsPossible program.now self.old }
+        requires ready { IsReady program.now self.old next.now }
+        requires does { IsDo (operation_of next.now.op) }
+        requires room { HasRoomBehind self.old next.now }
+        requires count { (self.old.counts.steps + 1 < 2 ^ 64) × (self.old.counts.objects + 1 < 2 ^ 64) }
+        ensures shows { (T : Setup) (c : Record) → Shows T program.now self.old c → suc (reserved_address T c) ≡ word
+            → Shows T program.now self.new (making_apart T c) }
+        ensures none { self.new.reserved ≡ none_reserved }
+        ensures side { self.new.side ≡ self.old.side }
+        ensures not_yet { self.new.is_expanded ≡ false }
+    {
+        self.go_on(program, next, word);
+        self.reserved.clear();
         self.counts.add_object();
     }
 

@@ -15,6 +15,7 @@ use crate::counts::Counts;
 use crate::nexts::Next;
 use crate::programs::Program;
 use crate::queues::{Duty, Queue};
+use crate::reserves::Reserved;
 use rgo_holding::{Holding, Key};
 use rgo_stack::Stack;
 
@@ -40,6 +41,8 @@ pub struct Body {
     pub(crate) is_expanded: bool,
     pub(crate) side: Side,
     pub(crate) counts: Counts,
+    /// The pages for the spread object that its next instruction makes.
+    pub(crate) reserved: Reserved,
     /// How many prints it has made.
     pub(crate) prints: u64,
     /// Whether a number was refused to it.
@@ -84,6 +87,13 @@ impl Body {
         ensures { result.now ≡ self.now.counts }
     {
         &self.counts
+    }
+
+    /// The pages that were claimed so far for the spread object that its next instruction makes, the lead page first.
+    pub fn reserved(&self) -> &[u32]
+        ensures { result.now ≡ self.now.reserved.pages }
+    {
+        self.reserved.pages()
     }
 
     /// Whether a number was refused to it.

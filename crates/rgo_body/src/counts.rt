@@ -116,13 +116,13 @@ impl Counts {
         self.returned += pages;
     }
 
-    /// Whether one more of each can be counted.
+    /// Whether one more of each can be counted, and as many pages as an object may have.
     pub fn has_room(&self) -> bool
         ensures { (result ≡ true) ↔ CanCount self.now }
     {
         self.made < u64::MAX
             && self.removed < u64::MAX
-            && self.taken < u64::MAX
+            && self.taken < u64::MAX - 64
             && self.steps < u64::MAX
             && self.objects < u64::MAX
             && self.goroutines < u64::MAX

@@ -6,6 +6,7 @@ ghost use Rattle.rgo_sound.specs.Code.Erasure.{erased_op};
 ghost use Rattle.rgo_core.specs.Core.{Here, Setup};
 ghost use Rattle.rgo_core.specs.Records.{Record};
 ghost use Rattle.rgo_core_steps.specs.Counts.{IsSharing, created, shared};
+ghost use Rattle.rgo_core_steps.specs.Making.{next_is_spread};
 ghost use Rattle.rgo_holding.specs.Holds.{region_at};
 ghost use Rattle.rgo_holding.specs.Known.{slot_of};
 ghost use Rattle.rgo_holding.specs.Changes.{HasRoom, SameRegions};
@@ -314,11 +315,12 @@ impl Body {
         self.counts.remove_region(pages);
     }
 
-    /// It has claimed this page for a region that it knows.
+    /// It has claimed this page for a region that it knows, as its own page there.
     pub fn claimed(&mut self, program: &Program<'_>, key: Key, page: u32)
         requires count { self.old.counts.taken + 1 < 2 ^ 64 }
         ensures shows { (region : Region_) → region_at self.old.holding key ≡ Some region
-            → Becomes program.now self.old self.new (λ T c. has_claimed c page (slot_of T.sizes.regions region)) }
+            → (T : Setup) (c : Record) → Shows T program.now self.old c → next_is_spread T c ≡ false
+            → Shows T program.now self.new (has_claimed T c page (slot_of T.sizes.regions region)) }
         ensures same { self.new ≡ record self.old { holding = self.new.holding; counts = self.new.counts } }
         ensures regions { SameRegions self.old.holding self.new.holding }
     {

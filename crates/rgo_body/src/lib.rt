@@ -12,12 +12,14 @@ mod calls;
 mod channels;
 mod counts;
 mod duties;
+mod fields;
 mod instructions;
 mod laws;
 mod nexts;
 mod objects;
 mod programs;
 mod queues;
+mod reserves;
 mod running;
 mod starts;
 

@@ -19,6 +19,7 @@ use crate::counts::Counts;
 use crate::nexts::Next;
 use crate::programs::Program;
 use crate::queues::{Kind, Queue};
+use crate::reserves::Reserved;
 use rgo_holding::Holding;
 use rgo_sound::code::{Code, CodeFn};
 use rgo_stack::Stack;
@@ -70,6 +71,7 @@ impl Body {
             is_expanded: false,
             side: Side::AtRest,
             counts: Counts::new(goroutines),
+            reserved: Reserved::new(alloc),
             prints: 0,
             refused: false,
         })

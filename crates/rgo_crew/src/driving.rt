@@ -107,6 +107,7 @@ fn round<L: Ledger>(
                 if !so_far.lacks(ending, lack) {
                     return Ok(RoundEnd::Over(ending));
                 }
+                so_far.moved = so_far.moved || turned.moved;
                 place += 1;
             }
             Why::Ended => {

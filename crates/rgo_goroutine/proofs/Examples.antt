@@ -9,7 +9,7 @@ use Rattle.rgo_core.specs.Core.{Setup}
 use Rattle.rgo_core.specs.Records.{Record}
 use Rattle.rgo_core.specs.Rule.Views.{Rows, number_in, number_of}
 use Rattle.rgo_core.specs.Rule.declared.accesses.Access.{Access}
-use Rattle.rgo_core.specs.Rule.declared.accesses.Kind.TheVariants.{EndRun}
+use Rattle.rgo_core.specs.Rule.declared.accesses.Kind.TheVariants.{ClaimPage, EndRun}
 use Rattle.rgo_sound.specs.RegionMachine.States.{Duty}
 use Rattle.rgo_acts.specs.Runs.{Run}
 use Rattle.rgo_acts.specs.declared.prints.Print.{Print}
@@ -17,10 +17,11 @@ use Rattle.rgo_goroutine.specs.Examples.{PassingExamples, TurnExamples, end_at}
 use Rattle.rgo_goroutine.specs.Goroutines.{bytes_in, rows, valid}
 use Rattle.rgo_goroutine.specs.Instructions.{IsNear}
 use Rattle.rgo_goroutine.specs.Passing.{Gathers}
-use Rattle.rgo_goroutine.specs.Turns.{FoundEnd, Stops}
+use Rattle.rgo_goroutine.specs.Turns.{FoundEnd, HasTurned, Stops}
 use Rattle.rgo_goroutine.specs.declared.goroutine.Child.{Child}
 use Rattle.rgo_goroutine.specs.declared.goroutine.Goroutine.{Goroutine}
 use Rattle.rgo_goroutine.specs.declared.turning.Stop.TheVariants as stop
+use Rattle.rgo_goroutine.specs.declared.turning.Turned.{Turned}
 use Rattle.rgo_goroutine.proofs.Handing.{one_valid, one_void}
 use Rattle.rgo_goroutine.proofs.Looking.{near_same}
 
@@ -64,6 +65,13 @@ not_still r old new left near is es =
     let e = words 0 (access 1 EndRun 0 5 6) refl (ap {B = Option ℕ} Some (sym is)) in
     absurd (omega (arith, e))
 
+not_unmoved : (r : Run) (old new : Goroutine) (slice : ℕ) (turned : Turned) (h : HasTurned r old new slice turned)
+    → number_of old.actor.seat.me ≡ 1 → h.es ≡ access 1 ClaimPage 40 0 1 ∷ [] → turned.moved ≡ false → ⊥
+not_unmoved r old new slice turned h is es none =
+    let words = subst (ChangesNothingBy (number_of old.actor.seat.me)) es (h.still none).1.words in
+    let e = words 0 (access 1 ClaimPage 40 0 1) refl (ap {B = Option ℕ} Some (sym is)) in
+    absurd (omega (arith, e))
+
 pub turn_examples : TurnExamples
 turn_examples = record {
   no_access = λ r go n es turns. let some = turns.some in absurd (omega (arith, some));
@@ -92,6 +100,7 @@ turn_examples = record {
   locked = λ c taken tidy. taken tidy.hold;
   near = near_same;
   changed = not_still;
+  claimed = not_unmoved;
   too_large = λ T g c es lacks. lacks;
 }
 

@@ -170,6 +170,7 @@ module _ (r : Run) (go d : Goroutine) (of : IsOf r go) (rest : d ≡ record go {
         frame = refl;
         side = refl;
         fills = refl;
+        reserved = refl;
         make = refl;
         claim = refl;
         give = refl;

@@ -9,6 +9,8 @@ use Rattle.rgo_core.specs.Memory.Words.{count_at, state_at}
 use Rattle.rgo_core.specs.Core.{Setup, layout}
 use Rattle.rgo_core.specs.Records.{Record, looked}
 use Rattle.rgo_core_steps.proofs.Growing.{found_left}
+use Rattle.rgo_core_steps.specs.Making.{MakesNext, NeedsPage}
+use Rattle.rgo_sound.specs.Memory.Memory.{Object}
 use Rattle.rgo_sound.specs.Machine.declared.turns.Shortage.{Shortage}
 use Rattle.rgo_sound.specs.Machine.declared.turns.Shortage.TheVariants as shortage
 use Rattle.rgo_acts.proofs.Chan.Carrying.{at_as}
@@ -37,26 +39,34 @@ module _ (T : Setup) (g : ℕ) (c : Record) (xs ys : List Access) where
   in_use_last : (kind : Kind) (at : ℕ → ℕ) (n : ℕ) → AllInUse g xs kind at n → AllInUse g (xs ++ ys) kind at n
   in_use_last kind at n all k less = let f = all k less in (f.0, f.1, found_left g xs ys kind (at k) f.0 f.2)
 
+  next_lasts : (object : Object) (slot : ℕ) → MakesNext T c object slot → MakesNext T (looked c) object slot
+  next_lasts object slot n = record {
+    to = n.to;
+    act = n.act;
+    from = n.from;
+    removes = n.removes;
+    here = at_as (looked c) refl n.here;
+    makes = n.makes;
+    region = n.region;
+    in_region = n.in_region;
+    in_slot = n.in_slot;
+  }
+
+  needs_last : (slot : ℕ) → NeedsPage T c slot → NeedsPage T (looked c) slot
+  needs_last slot (inl n) = inl (record { object = n.object; next = next_lasts n.object slot n.next; fits = n.fits; full = n.full })
+  needs_last slot (inr n) = inr (record {
+    object = n.object;
+    next = next_lasts n.object slot n.next;
+    spread = n.spread;
+    small = n.small;
+    more = n.more;
+  })
+
   page_lasts : LacksPage T g c xs → LacksPage T g (looked c) (xs ++ ys)
   page_lasts l = record {
     slot = l.slot;
     calm = record { side = l.calm.side; claim = l.calm.claim; make = l.calm.make };
-    needs = record {
-      object = l.needs.object;
-      next = record {
-        to = l.needs.next.to;
-        act = l.needs.next.act;
-        from = l.needs.next.from;
-        removes = l.needs.next.removes;
-        here = at_as (looked c) refl l.needs.next.here;
-        makes = l.needs.next.makes;
-        region = l.needs.next.region;
-        in_region = l.needs.next.in_region;
-        in_slot = l.needs.next.in_slot;
-      };
-      fits = l.needs.fits;
-      full = l.needs.full;
-    };
+    needs = needs_last l.slot l.needs;
     in_use = in_use_last ClaimPage (state_at (layout T)) T.sizes.pages l.in_use;
   }
 

@@ -57,6 +57,7 @@ module _ (r : Run) (old : Goroutine) (b : Actor) (own : b.seat.table_id ≡ old.
         frame = refl;
         side = refl;
         fills = refl;
+        reserved = refl;
         make = refl;
         claim = refl;
         give = refl;

@@ -9,7 +9,7 @@ use Rattle.rgo_core.specs.Frames.WordFrames.{WordFrame}
 use Rattle.rgo_core.specs.Rule.Histories.{access}
 use Rattle.rgo_core.specs.Rule.Views.{number_of}
 use Rattle.rgo_core.specs.Rule.declared.accesses.Access.{Access}
-use Rattle.rgo_core.specs.Rule.declared.accesses.Kind.TheVariants.{EndRun}
+use Rattle.rgo_core.specs.Rule.declared.accesses.Kind.TheVariants.{ClaimPage, EndRun}
 use Rattle.rgo_sound.specs.Machine.declared.turns.Shortage.TheVariants as shortage
 use Rattle.rgo_sound.specs.RegionMachine.States.{Duty}
 use Rattle.rgo_acts.specs.Actors.{now}
@@ -53,6 +53,9 @@ pub record TurnExamples : Type 0 where
   pub near : (r : Run) (go : Goroutine) (left : ℕ) → Goes r go left → go.actor.behind < 4611686018427387904 → IsNear r go go left
   pub changed : (r : Run) (old new : Goroutine) (left : ℕ) (near : IsNear r old new left) → number_of old.actor.seat.me ≡ 1
       → near.es ≡ access 1 EndRun 0 5 6 ∷ [] → ⊥
+  -- it has claimed a page, even if it then lacks the next one
+  pub claimed : (r : Run) (old new : Goroutine) (slice : ℕ) (turned : Turned) (h : HasTurned r old new slice turned)
+      → number_of old.actor.seat.me ≡ 1 → h.es ≡ access 1 ClaimPage 40 0 1 ∷ [] → turned.moved ≡ false → ⊥
   -- the size of an object is no shortage
   pub too_large : (T : Setup) (g : ℕ) (c : Record) (es : List Access) → LacksFor shortage.ObjectSize T g c es → ⊥
 

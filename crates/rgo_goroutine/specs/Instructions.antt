@@ -30,10 +30,10 @@ pub record IsAt (r : Run) (go : Goroutine) (next : Next) (left : ℕ) : Type 0 w
   pub none : (at : ℕ) → go.actor.body.side ≡ Offering at → ⊥
   pub room : HasRoomBehind go.actor.body next
 
--- its table has pages, and a channel's control can count the words of a page
+-- its table has pages, and a channel's control can count the words of 64 of them, which a channel may have as data pages
 pub record HasPages (r : Run) : Type 0 where
   pub some : 0 < r.sizes.pages
-  pub small : r.setup.sizes.page_words ≤ 1073741820
+  pub small : r.setup.sizes.page_words ≤ 16777215
 
 -- one more of each thing can be counted, and the pages of a region more
 pub record CanCountMore (r : Run) (go : Goroutine) : Type 0 where

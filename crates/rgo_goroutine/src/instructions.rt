@@ -215,7 +215,7 @@ impl Goroutine {
         self.unless_trapped(run, done, turning)
     }
 
-    /// Makes an object. Where no page is free, nothing has moved.
+    /// Makes an object. Where a page is needed and none is free, nothing has moved unless others were claimed for it.
     fn make<L: Ledger>(
         &mut self,
         run: &Run<'_, '_>,
@@ -248,6 +248,14 @@ impl Goroutine {
                 Some(self.stop(run, Limit::ObjectSize))
             }
             Made::Short => Some(Stop::Short(Shortage::Pages)),
+            Made::Partly => {
+                turning.move_on();
+                Some(Stop::Short(Shortage::Pages))
+            }
+            Made::NoMemory => {
+                turning.move_on();
+                Some(Stop::NoMemory)
+            }
         }
     }
 

@@ -1,7 +1,8 @@
-use Rattle.std.proofs.Common.{[], ◌∷◌, Some, refl}
-use Rattle.rgo_sound.specs.Typed.declared.actions.Action.TheVariants as action
-use Rattle.rgo_acts.proofs.Before.{first_in, reads_it}
-use Rattle.rgo_acts.proofs.Fields.{load_loads, load_traps, load_within}
+use Rattle.std.proofs.Common.{[], inl}
+use Rattle.rgo_core.specs.Frames.WordFrames.{word_at}
+use Rattle.rgo_acts.proofs.Before.{first_in, one_more, reads_it}
+use Rattle.rgo_acts.proofs.Fields.{load_traps}
+use Rattle.rgo_acts.proofs.Standing.{acted_then}
 use Rattle.rgo_acts.proofs.cells.load_field.Goals as goal
 
 pub word-pointer-requires : goal.word-pointer-requires
@@ -13,12 +14,17 @@ returns-then-pointer-eq0 g c =
     load_traps c.args.run.now c.args.actor.now c.args.next.now c.requires.before c.args.to c.args.field c.args.from c.word-pointer.result
     c.requires.is c.word-pointer.ensures c.if-pointer-eq0.true
 
-pub cell-requires : goal.cell-requires
-cell-requires g c =
-    load_within c.args.run.now c.args.actor.now c.args.next.now c.requires.before c.args.to c.args.field c.args.from c.word-pointer.result
-    c.requires.is c.word-pointer.ensures c.if-pointer-eq0.false
+pub field_word-word-requires-clause-at : goal.field_word-word-requires-clause-at
+field_word-word-requires-clause-at g c = inl (c.args.to, c.requires.is)
+
+pub field_word-word-requires-clause-points : goal.field_word-word-requires-clause-points
+field_word-word-requires-clause-points g c =
+    λ w ws are. one_more c.word-pointer.result (word_at w c.args.from) (c.word-pointer.ensures w ws are) c.if-pointer-eq0.false
 
 pub take-requires-clause-loads : goal.take-requires-clause-loads
-take-requires-clause-loads g c =
-    load_loads c.args.run.now c.args.actor.now c.args.next.now c.requires.before c.args.to c.args.field c.args.from c.word-pointer.result
-    c.requires.is c.word-pointer.ensures c.if-pointer-eq0.false c.cell.result c.cell.ensures.at
+take-requires-clause-loads g c = c.field_word-word.ensures.loads c.args.to c.requires.is
+
+pub returns : goal.returns
+returns g c =
+    acted_then c.args.run.now c.args.actor.now c.field_word-word.new.actor c.take.new.actor 0 1 [] [] [] []
+    c.field_word-word.ensures.measured.acted c.take.ensures

@@ -1,6 +1,8 @@
-use Rattle.std.proofs.Common.{[], ◌∷◌, refl}
-use Rattle.rgo_acts.proofs.Before.{first_in, reads_it, second_in}
-use Rattle.rgo_acts.proofs.Fields.{store_stores, store_traps, store_within}
+use Rattle.std.proofs.Common.{[], ◌∷◌, inr, sym, ◌∙◌}
+use Rattle.rgo_core.specs.Frames.WordFrames.{word_at}
+use Rattle.rgo_acts.proofs.Before.{first_in, one_more, reads_it, second_in}
+use Rattle.rgo_acts.proofs.Fields.{store_traps}
+use Rattle.rgo_acts.proofs.Standing.{acted_then}
 use Rattle.rgo_acts.proofs.cells.store_field.Goals as goal
 
 pub word-pointer-requires : goal.word-pointer-requires
@@ -13,17 +15,25 @@ returns-then-pointer-eq0 g c =
     store_traps c.args.run.now c.args.actor.now c.args.next.now c.requires.before c.args.field c.args.to c.args.value c.word-pointer.result
     c.requires.is c.word-pointer.ensures c.if-pointer-eq0.true
 
-pub word-word-requires : goal.word-word-requires
-word-word-requires g c =
-    reads_it c.args.run.now c.args.actor.now c.args.next.now c.requires.before _ _ _ c.requires.is c.args.value
-    (second_in c.args.to c.args.value [])
+pub field_word-word-requires-clause-at : goal.field_word-word-requires-clause-at
+field_word-word-requires-clause-at g c = inr (c.args.value, c.requires.is)
 
-pub cell-cell-requires : goal.cell-cell-requires
-cell-cell-requires g c =
-    store_within c.args.run.now c.args.actor.now c.args.next.now c.requires.before c.args.field c.args.to c.args.value c.word-pointer.result
-    c.requires.is c.word-pointer.ensures c.if-pointer-eq0.false
+pub field_word-word-requires-clause-points : goal.field_word-word-requires-clause-points
+field_word-word-requires-clause-points g c =
+    λ w ws are. one_more c.word-pointer.result (word_at w c.args.to) (c.word-pointer.ensures w ws are) c.if-pointer-eq0.false
+
+pub word-value-requires : goal.word-value-requires
+word-value-requires g c =
+    reads_it c.args.run.now c.field_word-word.new.actor c.args.next.now c.field_word-word.ensures.measured.before _ _ _ c.requires.is
+    c.args.value (second_in c.args.to c.args.value [])
 
 pub put-requires-clause-stores : goal.put-requires-clause-stores
 put-requires-clause-stores g c =
-    store_stores c.args.run.now c.args.actor.now c.args.next.now c.requires.before c.args.field c.args.to c.args.value c.word-pointer.result
-    c.requires.is c.word-pointer.ensures c.if-pointer-eq0.false c.cell-cell.result c.word-word.result c.word-word.ensures c.cell-cell.ensures.at
+    let has = c.field_word-word.ensures in
+    has.stores c.args.value c.word-value.result c.requires.is
+    (λ w ws are. c.word-value.ensures w ws (sym has.measured.before.stands.shows.frames ∙ are))
+
+pub returns : goal.returns
+returns g c =
+    acted_then c.args.run.now c.args.actor.now c.field_word-word.new.actor c.put.new.actor 0 1 [] [] [] []
+    c.field_word-word.ensures.measured.acted c.put.ensures

@@ -1,4 +1,4 @@
-use Rattle.std.proofs.Common.{◌∷◌, [], refl, sym, subst, inl, arith}
+use Rattle.std.proofs.Common.{◌∷◌, ◌∙◌, [], ap, refl, sym, subst, inl, arith}
 use Rattle.rgo_core_steps.specs.Seats.{HasPossible}
 use Rattle.rgo_chan.specs.Answers.{Receives}
 use Rattle.rgo_chan.specs.Before.{IsBeforeReceive, LiesIn, control_at}
@@ -8,7 +8,7 @@ use Rattle.rgo_sound.specs.Typed.declared.actions.Action.TheVariants.{Recv}
 use Rattle.rgo_acts.specs.Actors.{now}
 use Rattle.rgo_acts.specs.Runs.{Run}
 use Rattle.rgo_acts.specs.Talks.{Concludes}
-use Rattle.rgo_acts.proofs.AtChannels.{before_receive, has_operand, lies, place_fits}
+use Rattle.rgo_acts.proofs.AtChannels.{before_receive, has_operand, has_words, lies, place_fits}
 use Rattle.rgo_acts.proofs.Talking.{receive_on_nil, receives_talk}
 use Rattle.rgo_acts.proofs.channels.receive.Goals as goal
 
@@ -23,6 +23,19 @@ receive-tried-requires-clause-lies g c =
     (lies c.args.run.now c.args.actor.now c.args.next.now c.requires.before c.requires.is.0 Recv c.args.channel ([]) c.requires.is.1 (inl refl)
     c.base-base.result c.word-pointer.result c.base-base.ensures.at
     (sym (c.word-pointer.ensures c.requires.before.ready.is_next.w c.requires.before.ready.is_next.ws c.requires.before.ready.is_next.are)))
+
+pub receive-tried-requires-clause-words : goal.receive-tried-requires-clause-words
+receive-tried-requires-clause-words g c =
+    c.page_words-page_words.ensures ∙ ap (λ (x : Run). x.setup.sizes.page_words) (sym c.run.view_is)
+
+pub receive-tried-requires-clause-some : goal.receive-tried-requires-clause-some
+receive-tried-requires-clause-some g c =
+    λ some.
+    let words = has_words c.args.run.now c.args.actor.now c.args.next.now c.requires.before c.requires.is.0 Recv c.args.channel ([]) c.requires.is.1 (inl refl)
+    c.word-pointer.result
+    (sym (c.word-pointer.ensures c.requires.before.ready.is_next.w c.requires.before.ready.is_next.ws c.requires.before.ready.is_next.are)) some in
+    let same = c.page_words-page_words.ensures in
+    omega (arith, words, same)
 
 pub receive-tried-requires-clause-here : goal.receive-tried-requires-clause-here
 receive-tried-requires-clause-here g c =

@@ -1,4 +1,4 @@
-use Rattle.std.proofs.Common.{◌∷◌, [], refl, sym, subst, inl, inr, arith}
+use Rattle.std.proofs.Common.{◌∷◌, ◌∙◌, [], ap, refl, sym, subst, inl, inr, arith}
 use Rattle.rgo_core_steps.specs.Seats.{HasPossible}
 use Rattle.rgo_chan.specs.Answers.{Sends}
 use Rattle.rgo_chan.specs.Before.{IsBeforeSend, LiesIn, control_at}
@@ -8,7 +8,7 @@ use Rattle.rgo_sound.specs.Typed.declared.actions.Action.TheVariants.{Send}
 use Rattle.rgo_acts.specs.Actors.{now}
 use Rattle.rgo_acts.specs.Runs.{Run}
 use Rattle.rgo_acts.specs.Talks.{Concludes}
-use Rattle.rgo_acts.proofs.AtChannels.{before_send, has_operand, lies, place_fits}
+use Rattle.rgo_acts.proofs.AtChannels.{before_send, has_operand, has_words, lies, place_fits}
 use Rattle.rgo_acts.proofs.Talking.{send_on_nil, sends_talk}
 use Rattle.rgo_acts.proofs.channels.send.Goals as goal
 
@@ -28,6 +28,19 @@ send-tried-requires-clause-lies g c =
     (lies c.args.run.now c.args.actor.now c.args.next.now c.requires.before c.requires.is.0 Send c.args.channel (c.args.value ∷ []) c.requires.is.1 (inr (inl refl))
     c.base-base.result c.word-pointer.result c.base-base.ensures.at
     (sym (c.word-pointer.ensures c.requires.before.ready.is_next.w c.requires.before.ready.is_next.ws c.requires.before.ready.is_next.are)))
+
+pub send-tried-requires-clause-words : goal.send-tried-requires-clause-words
+send-tried-requires-clause-words g c =
+    c.page_words-page_words.ensures ∙ ap (λ (x : Run). x.setup.sizes.page_words) (sym c.run.view_is)
+
+pub send-tried-requires-clause-some : goal.send-tried-requires-clause-some
+send-tried-requires-clause-some g c =
+    λ some.
+    let words = has_words c.args.run.now c.args.actor.now c.args.next.now c.requires.before c.requires.is.0 Send c.args.channel (c.args.value ∷ []) c.requires.is.1 (inr (inl refl))
+    c.word-pointer.result
+    (sym (c.word-pointer.ensures c.requires.before.ready.is_next.w c.requires.before.ready.is_next.ws c.requires.before.ready.is_next.are)) some in
+    let same = c.page_words-page_words.ensures in
+    omega (arith, words, same)
 
 pub send-tried-requires-clause-here : goal.send-tried-requires-clause-here
 send-tried-requires-clause-here g c =

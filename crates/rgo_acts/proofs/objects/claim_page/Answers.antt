@@ -1,5 +1,5 @@
-use Rattle.std.proofs.Common.{refl}
-use Rattle.rgo_acts.proofs.ObjectPages.{claimed_here, needs_here, none_here}
+use Rattle.std.proofs.Common.{arith, refl}
+use Rattle.rgo_acts.proofs.ObjectPages.{claimed_here, needs_here, none_here, pages_same}
 use Rattle.rgo_acts.proofs.objects.claim_page.Goals as goal
 
 pub claim_from-claimed-requires-clause-needs : goal.claim_from-claimed-requires-clause-needs
@@ -25,3 +25,15 @@ returns-in-Err-clause-page g c =
     none_here _ a.run.now c.run.view_is a.actor.now a.next.now c.requires.before a.new c.requires.new c.run.invariant.layout.sizes
     b c.claim_from-claimed.ensures.own.0 refl c.claim_from-claimed.ensures.possible c.requires.fits c.requires.full refl
     c.in-Err.ensures.full
+
+pub returns-in-Ok-clause-cost : goal.returns-in-Ok-clause-cost
+returns-in-Ok-clause-cost g c =
+    let pages = pages_same _ c.args.run.now c.run.view_is c.run.invariant.layout.sizes in
+    let cost = c.claim_from-claimed.ensures.cost in
+    omega (arith, pages, cost)
+
+pub returns-in-Err-clause-cost : goal.returns-in-Err-clause-cost
+returns-in-Err-clause-cost g c =
+    let pages = pages_same _ c.args.run.now c.run.view_is c.run.invariant.layout.sizes in
+    let cost = c.claim_from-claimed.ensures.cost in
+    omega (arith, pages, cost)

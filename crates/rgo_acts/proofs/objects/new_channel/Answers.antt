@@ -1,5 +1,7 @@
-use Rattle.std.proofs.Common.{[]}
-use Rattle.rgo_acts.proofs.Before.{first_in, reads_it}
+use Rattle.std.proofs.Common.{◌+◌, ◌≤◌, [], subst}
+use Rattle.rgo_core_facts.specs.MemoryObjects.{channel_words}
+use Rattle.rgo_acts.specs.Objects.{most_steps}
+use Rattle.rgo_acts.proofs.Before.{first_in, newest_is, reads_it}
 use Rattle.rgo_acts.proofs.ObjectKinds.{channel_traps, wants_channel}
 use Rattle.rgo_acts.proofs.objects.new_channel.Goals as goal
 
@@ -17,3 +19,10 @@ object-requires-clause-wants g c =
     wants_channel c.args.run.now c.args.actor.now c.args.next.now c.requires.before c.args.to c.args.size c.word-capacity.result
     c.word-capacity.ensures c.channel_words.result c.requires.is c.if-capacity-ge-FIRST_NEGATIVE.false c.requires.small
     c.channel_words.ensures
+
+pub returns-clause-cost : goal.returns-clause-cost
+returns-clause-cost g c =
+    let before = c.requires.before in
+    subst (λ n. c.object.new.steps ≤ c.args.steps.now + most_steps c.args.run.now.setup (channel_words n) 2)
+    (newest_is c.args.actor.now.body c.word-capacity.result before.ready.is_next.w before.ready.is_next.ws c.args.size before.ready.is_next.are c.word-capacity.ensures)
+    (subst (λ n. c.object.new.steps ≤ c.args.steps.now + most_steps c.args.run.now.setup n 2) c.channel_words.ensures c.object.ensures.cost)

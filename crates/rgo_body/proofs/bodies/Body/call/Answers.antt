@@ -61,6 +61,7 @@ returns-clause-done c T g r here s =
       side = refl;
       counts = c.add_step.ensures;
       prints = refl;
+      reserved = refl;
       refused = refl;
     })
     (subst (λ fs. Belongs fs c.call.new.self) c.compact.ensures.compact c.call.ensures.belongs)

@@ -40,7 +40,7 @@ returns-clause-local c T g r here s =
       counts = c.add_step.new.self;
     }) g r c.args.next.now c.requires.possible c.fits.ensures here s c.requires.ready c.requires.rests c.args.value c.requires.returns
     (subst (λ fs. Belongs fs c.come_back.new.self) c.compact.ensures.compact c.come_back.ensures.belongs)
-    c.come_back-2.ensures.returns refl refl c.add_step.ensures refl refl
+    c.come_back-2.ensures.returns refl refl c.add_step.ensures refl refl refl
     c.args.call.now c.requires.call
     (λ code is. c.come_back.ensures.frames code (subst (λ t. IsCalledFor code t (frames_in c.args.self.now)) (sym c.result_target.ensures) is))
     (c.put_all-2.ensures.put ∙ ap (λ (q : List ℕ × List Duty). map Unprotect q.0 ++ q.1)
@@ -56,7 +56,7 @@ returns-clause-exit c clock T g r here s =
       counts = c.add_step.new.self;
     }) g r c.args.next.now c.requires.possible c.fits.ensures here s c.requires.ready c.requires.rests c.args.value c.requires.returns
     (subst (λ fs. Belongs fs c.come_back.new.self) c.compact.ensures.compact c.come_back.ensures.belongs)
-    c.come_back-2.ensures.returns refl refl c.add_step.ensures refl refl
+    c.come_back-2.ensures.returns refl refl c.add_step.ensures refl refl refl
     c.args.call.now c.requires.call
     (λ code is. c.come_back.ensures.frames code (subst (λ t. IsCalledFor code t (frames_in c.args.self.now)) (sym c.result_target.ensures) is))
     (c.put_all-2.ensures.put ∙ ap (λ (q : List ℕ × List Duty). map Unprotect q.0 ++ q.1)

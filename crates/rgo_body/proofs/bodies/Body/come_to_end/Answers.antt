@@ -30,7 +30,7 @@ returns-clause-local c T g r here s =
       counts = c.add_step.new.self;
     }) g r c.args.next.now c.requires.possible c.fits.ensures here s c.requires.ready c.requires.rests c.args.value c.requires.returns
     (subst (λ fs. Belongs fs c.come_back.new.self) c.compact.ensures.compact c.come_back.ensures.belongs)
-    c.come_back-2.ensures.returns refl refl c.add_step.ensures refl refl
+    c.come_back-2.ensures.returns refl refl c.add_step.ensures refl refl refl
     c.requires.last c.come_back.ensures.frames c.put_base.ensures
 
 pub returns-clause-exit : goal.returns-clause-exit
@@ -43,5 +43,5 @@ returns-clause-exit c clock T g r here s =
       counts = c.add_step.new.self;
     }) g r c.args.next.now c.requires.possible c.fits.ensures here s c.requires.ready c.requires.rests c.args.value c.requires.returns
     (subst (λ fs. Belongs fs c.come_back.new.self) c.compact.ensures.compact c.come_back.ensures.belongs)
-    c.come_back-2.ensures.returns refl refl c.add_step.ensures refl refl
+    c.come_back-2.ensures.returns refl refl c.add_step.ensures refl refl refl
     c.requires.last c.come_back.ensures.frames c.put_base.ensures clock

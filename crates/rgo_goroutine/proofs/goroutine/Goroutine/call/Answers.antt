@@ -1,7 +1,13 @@
-use Rattle.std.proofs.Common.{subst}
+use Rattle.std.proofs.Common.{arith, subst}
 use Rattle.rgo_acts.specs.Locals.{HasNoCall}
-use Rattle.rgo_goroutine.proofs.Concluding.{ended_then, only_told}
+use Rattle.rgo_goroutine.proofs.Concluding.{counted, ended_then, made, only_told}
 use Rattle.rgo_goroutine.proofs.goroutine.Goroutine.call.Goals as goal
+
+pub returns-in-Ok : goal.returns-in-Ok
+returns-in-Ok c =
+    made c.args.run.now c.args.self.now c.call.new.actor c.args.turning.now c.count.new.self c.requires.can.at.goes
+    c.requires.can.noted 1 0 c.in-Ok.ensures.acted
+    (counted c.args.turning.now c.count.new.self 1 c.requires.can.at.some c.count.ensures) (omega arith) (omega arith)
 
 pub stop-requires-clause-cause : goal.stop-requires-clause-cause
 stop-requires-clause-cause c =

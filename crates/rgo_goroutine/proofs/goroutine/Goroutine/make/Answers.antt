@@ -1,7 +1,7 @@
 use Rattle.std.proofs.Common.{arith, refl}
 use Rattle.rgo_goroutine.specs.declared.turning.Stop.TheVariants as stop
 use Rattle.rgo_sound.specs.Machine.declared.turns.Shortage.TheVariants.{Pages}
-use Rattle.rgo_goroutine.proofs.Concluding.{counted, ended_then, made, only_told, unmoved}
+use Rattle.rgo_goroutine.proofs.Concluding.{counted, ended_then, halted, made, only_told, refused, unmoved}
 use Rattle.rgo_goroutine.proofs.goroutine.Goroutine.make.Goals as goal
 
 pub returns-in-Done : goal.returns-in-Done
@@ -27,3 +27,16 @@ returns-in-Short g c =
     unmoved c.args.run.now c.args.self.now c.make_object-made.new.actor c.args.turning.now c.args.turning.now c.requires.can.at.goes
     c.requires.can.noted (stop.Short Pages) c.in-Short.ensures.acted c.in-Short.ensures.unmoved
     (c.in-Short.ensures.acted.went.first, c.in-Short.ensures.lacks) refl
+
+pub returns-in-Partly : goal.returns-in-Partly
+returns-in-Partly g c =
+    halted c.args.run.now c.args.self.now c.make_object-made.new.actor c.args.turning.now c.move_on-in-Partly.new.self c.requires.can.at.goes
+    c.requires.can.noted (stop.Short Pages) c.in-Partly.ensures.acted
+    (only_told c.args.turning.now c.move_on-in-Partly.new.self c.move_on-in-Partly.ensures)
+    (c.in-Partly.ensures.acted.went.first, c.in-Partly.ensures.lacks)
+
+pub returns-in-NoMemory : goal.returns-in-NoMemory
+returns-in-NoMemory g c =
+    refused c.args.run.now c.args.self.now c.make_object-made.new.actor c.args.turning.now c.move_on-in-NoMemory.new.self
+    c.requires.can.at.goes c.requires.can.noted c.in-NoMemory.ensures.acted
+    (only_told c.args.turning.now c.move_on-in-NoMemory.new.self c.move_on-in-NoMemory.ensures)
