@@ -1,7 +1,7 @@
 -- From the search to the claim: where each state that a program's code comes to has room, no run meets a limit, and none
 -- wants more room than there is.
-use Rattle.std.proofs.Common.{◌≡◌, ℕ, zero, suc, ◌+◌, ◌*◌, ◌<◌, ◌≤◌, Bool, true, List, [], ◌∷◌, length, Some, ap}
-use Rattle.std.proofs.Common.{subst, arith, slice_get}
+use Rattle.std.proofs.Common.{◌≡◌, ℕ, zero, suc, ◌+◌, ◌-◌, ◌*◌, ◌/◌, ◌<◌, ◌≤◌, Bool, true, false, List, [], ◌∷◌, length}
+use Rattle.std.proofs.Common.{Option, Some, None, refl, ap, subst, arith, slice_get, if◌then◌else◌}
 use Rattle.std.specs.Prelude.{nat_le, nat_lt, option_and_then}
 use Rattle.std.specs.List.{list_all}
 use Rattle.std.proofs.Math.Nat.{le-max_right}
@@ -21,16 +21,17 @@ use Rattle.rgo_lower.specs.Lowered.{IsLowered}
 use Rattle.rgo_lower.proofs.Determined.{lowering_is_determined}
 use Rattle.rgo_code.specs.Code.{Code}
 use Rattle.rgo_code.specs.Erasure.{erased}
-use Rattle.rgo_region_machine.specs.Machine.{Event, plain_step, region_run, region_start}
-use Rattle.rgo_region_machine.specs.Objects.{new_object, words}
+use Rattle.rgo_region_machine.specs.Machine.{Event, next_object, object_made, plain_step, region_run, region_start}
+use Rattle.rgo_region_machine.specs.Objects.{cells, data_pages, is_spread, new_object, words}
 use Rattle.rgo_region_machine.specs.States.{RegionState}
+use Rattle.rgo_sound.proofs.Whole.{whole_is_enough}
 use Rattle.rgo_sound.specs.Safety.{most_names}
 use Rattle.rgo_driver.specs.declared.ends.RunEnd.TheVariants as run_end
 use Rattle.rgo_command_line.specs.declared.limits.RunOptions.{RunOptions}
 use Rattle.rgo_run.specs.Compiled.{IsCompiledFrom}
 use Rattle.rgo_run.specs.Headline.{NeverEnds, Suffices}
 use Rattle.rgo_run.specs.Runs.{of_program}
-use Rattle.rgo_run.specs.Sufficing.{FewObjects, FewSteps}
+use Rattle.rgo_run.specs.Sufficing.{FewPages, FewSteps}
 use Rattle.rgo_run.proofs.Sufficing.{few_suffice}
 use Rattle.rgo_claim_examples.proofs.Fits.{fits, has_room, is_shallow, is_small, most_variables}
 use Rattle.rgo_claim_examples.proofs.Names.{names_bounded}
@@ -45,6 +46,17 @@ all_at test [] i x all at = absurd cc
 all_at test (y ∷ ys) zero x all at =
     subst (λ z. test z ≡ true) (same_Some y x at) (and_parts (test y) (list_all test ys) all).0
 all_at test (y ∷ ys) (suc i) x all at = all_at test ys i x (and_parts (test y) (list_all test ys) all).1 at
+
+-- an object that fits a page is not spread, and has no data pages
+not_spread : (page_words : ℕ) (object : Object) → words object ≤ page_words → is_spread page_words object ≡ false
+not_spread page_words object small = not_below page_words (words object) small
+  where
+    not_below : (m n : ℕ) → n ≤ m → nat_lt m n ≡ false
+    not_below m n l = grind arith
+
+no_data_pages : (page_words : ℕ) (object : Object) → words object ≤ page_words → data_pages page_words object ≡ 0
+no_data_pages page_words object small =
+    ap (λ b. if b then (cells object - 1) / page_words + 1 else 0) (not_spread page_words object small)
 
 module _ (options : RunOptions) (code : Tac) (steps : ℕ) where
   -- what the search finds of a state
@@ -135,9 +147,6 @@ module _ (options : RunOptions) (code : Tac) (steps : ℕ) where
         room_in : HasRoom s.plain (PlainRun.picks plain)
         room_in = room_by (PlainRun.picks plain) s.plain (PlainRun.leads plain)
 
-        pub few_objects : FewObjects options.sizes made s
-        few_objects = HasRoom.objects room_in
-
         pub few_steps : FewSteps options.sizes made s
         few_steps =
             let most = names_bounded made.functions in
@@ -159,6 +168,26 @@ module _ (options : RunOptions) (code : Tac) (steps : ℕ) where
             (ap (option_and_then (λ u. Some u)) one) in
             HasRoom.small (room_by longer.0 next longer.1) (length s.plain.memory.heap) object at
 
+        none_next : (object : Object) → ◌≡◌ {A = Option Object} None (Some object) → ⊥
+        none_next object e = cc
+
+        next_small : (g : ℕ) (object : Object) → next_object made s g ≡ Some object
+            → words object ≤ options.sizes.page_words
+        next_small g object = by (plain_step made s.plain (One g)) refl
+          where
+            by : (o : Option TacState) → plain_step made s.plain (One g) ≡ o → object_made s o ≡ Some object
+                → words object ≤ options.sizes.page_words
+            by None e at = absurd (none_next object at)
+            by (Some next) e at = no_large g next object e at
+
+        -- no object is spread, so as many pages are enough as there are objects and goroutines
+        pub few_pages : FewPages options.sizes made s
+        few_pages =
+            let whole = whole_is_enough made options.sizes.page_words s
+            (λ o object at. not_spread options.sizes.page_words object (HasRoom.small room_in o object at))
+            (λ g object next. not_spread options.sizes.page_words object (next_small g object next)) in
+            omega (arith, whole, HasRoom.objects room_in)
+
       -- every run of the program has what it needs
       pub suffices : Suffices options (of_program program)
       suffices = record {
@@ -167,12 +196,13 @@ module _ (options : RunOptions) (code : Tac) (steps : ℕ) where
         goroutines = goroutines;
         pages =
             few_suffice.pages options.sizes (of_program program)
-            (λ made events s compiled is_run. few_objects made compiled events s is_run);
+            (λ made events s compiled is_run. few_pages made compiled events s is_run);
         regions =
             few_suffice.regions options.sizes (of_program program)
             (λ made events s compiled is_run. few_steps made compiled events s is_run);
         object_size =
             λ made compiled events s is_run lacks.
-            let fits = no_large made compiled events s is_run lacks.0 lacks.1 lacks.3.0 lacks.2 lacks.3.1 in
-            omega (arith, fits, lacks.3.2);
+            let small = no_large made compiled events s is_run lacks.0 lacks.1 lacks.3.0 lacks.2 lacks.3.1 in
+            let none = no_data_pages options.sizes.page_words lacks.3.0 small in
+            omega (arith, none, lacks.3.2);
       }

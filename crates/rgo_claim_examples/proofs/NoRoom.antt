@@ -4,7 +4,7 @@ use Rattle.std.proofs.Common.{Option, Some, None, refl, sym, ap, ◌∙◌, subs
 use Rattle.std.specs.Prelude.{IsSome, nat_le, option_and_then}
 use Rattle.std.specs.Option.{is_some, option_map}
 use Rattle.std.specs.List.{list_all}
-use Rattle.std.proofs.lemmas.Bool.{and_parts, and_right, leb-true}
+use Rattle.std.proofs.lemmas.Bool.{and_parts, leb-true}
 use Rattle.std.proofs.lemmas.Option.{slice_get-map, slice_get_past}
 use Rattle.rgo_typed.specs.Types.{is_pointer_like}
 use Rattle.rgo_memory.specs.Memory.{Object}
@@ -21,15 +21,12 @@ use Rattle.rgo_code.specs.Erasure.{erased, erased_fn}
 use Rattle.rgo_code.specs.Names.{distinct_names, slot_class}
 use Rattle.rgo_code.specs.declared.rules.Line.TheVariants as line
 use Rattle.rgo_code.specs.declared.rules.Rule.TheVariants as rule
-use Rattle.rgo_region_machine.specs.Machine.{Event, TakePage, next_object, object_made, page_for, page_taken, plain_step}
+use Rattle.rgo_region_machine.specs.Machine.{Event, TakePage, next_object, object_made, page_before, page_for, plain_step}
 use Rattle.rgo_region_machine.specs.Machine.{region_run, region_start, region_step, take_page, takes_page}
-use Rattle.rgo_region_machine.specs.Objects.{fill_of, new_object, wants_page}
-use Rattle.rgo_region_machine.specs.Instructions.{has_none}
-use Rattle.rgo_region_machine.specs.Duties.{may_go}
-use Rattle.rgo_region_machine.specs.Regions.{is_live}
+use Rattle.rgo_region_machine.specs.Objects.{new_object}
 use Rattle.rgo_region_machine.specs.States.{Holder, RegionState, frames_of}
 use Rattle.rgo_region_machine.specs.declared.regions.Region.{Region}
-use Rattle.rgo_sound.proofs.ErasureLemmas.{Yields, yields_none, yields_then, yields_where}
+use Rattle.rgo_sound.proofs.ErasureLemmas.{Yields, yields_none, yields_then}
 use Rattle.rgo_sound.specs.Safety.{most_names, name_count}
 use Rattle.rgo_command_line.specs.Limits.{default_options}
 use Rattle.rgo_run.specs.Compiled.{IsCompiledFrom}
@@ -152,26 +149,19 @@ module _ (made : Code) (compiled : IsCompiledFrom no_object made) where
           let none = leb-true (length next.memory.heap) 0 empty.0 in
           slice_get_past next.memory.heap (length s.plain.memory.heap) (omega (arith, none))
 
-      none_wanted : (g : ℕ) (used : Option ℕ) → wants_page page_words used (next_object made s g) ≡ false
-      none_wanted g used = by (plain_step made s.plain (One g)) refl
+      none_next : (g : ℕ) → next_object made s g ≡ None
+      none_next g = by (plain_step made s.plain (One g)) refl
         where
-          by : (o : Option TacState) → plain_step made s.plain (One g) ≡ o
-              → wants_page page_words used (object_made s o) ≡ false
+          by : (o : Option TacState) → plain_step made s.plain (One g) ≡ o → object_made s o ≡ None
           by None e = refl
-          by (Some next) e = ap (wants_page page_words used) (none_made g next e)
+          by (Some next) e = none_made g next e
 
       abbrev Never : RegionState → Type 0
       Never t = ⊥
 
-      false_is : (b : Bool) → b ≡ false → b ≡ true → {o : Option RegionState} → Yields Never o
-      false_is b f t = absurd (true≢false (sym t ∙ f))
-
       none_taken : (g : ℕ) (h : Holder) (r : Region) → Yields Never (takes_page made page_words s g h r)
       none_taken g h r =
-          let ready = has_none h.duties && may_go h.offer && is_live s.regions r in
-          let wants = wants_page page_words (fill_of h.fills r) (next_object made s g) in
-          yields_where (ready && wants) (Some (page_taken s g h r))
-          (λ e. false_is (ready && wants) (and_right ready wants (none_wanted g (fill_of h.fills r))) e)
+          subst (λ o. Yields Never (option_and_then (page_before page_words s g h r) o)) (sym (none_next g)) yields_none
 
       none_for : (g : ℕ) (h : Holder) (frame : Frame) (i : CodeInstr)
           → Yields Never (page_for made page_words s g h frame i)

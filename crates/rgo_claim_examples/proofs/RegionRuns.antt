@@ -29,7 +29,7 @@ use Rattle.rgo_claim_examples.specs.States.{sizes}
 use Rattle.rgo_claim_examples.proofs.Checked.{checked}
 use Rattle.rgo_claim_examples.proofs.Codes.{one_object_code}
 use Rattle.rgo_claim_examples.proofs.Compiled.{ascends, compiled}
-use Rattle.rgo_claim_examples.proofs.Enough.{few_objects, few_steps, suffices}
+use Rattle.rgo_claim_examples.proofs.Enough.{few_pages, few_steps, suffices}
 use Rattle.rgo_claim_examples.proofs.Lowered.{one_object_lowered}
 use Rattle.rgo_claim_examples.proofs.PlainRuns.{plain_run}
 use Rattle.rgo_claim_examples.proofs.Quiet.{quiet, quiet_is_of, quiet_step}
@@ -37,7 +37,7 @@ use Rattle.rgo_claim_examples.proofs.Search.{found}
 
 -- what holds of each state of a run
 good : (page_words : ℕ) (events : List Event) (s : RegionState) → region_run code page_words events ≡ Some s
-    → IsSafe code s × NamesLive code s
+    → IsSafe code page_words s × NamesLive code s
 good page_words events s is_run = (
   safety code page_words events s checked ascends is_run,
   λ g h r at named. names_only_live code page_words events s g h r checked ascends is_run at named,
@@ -110,11 +110,11 @@ has_room : (events : List Event) (s : RegionState) → region_run code default_o
     → ((counts_of s).taken ≤ default_options.sizes.pages) × ((counts_of s).made ≤ default_options.sizes.regions)
 has_room events s is_run =
     let counts = (good default_options.sizes.page_words events s is_run).0.counts in
-    let objects = few_objects default_options one_object_code 6 refl one_object one_object_lowered code compiled events s
+    let pages = few_pages default_options one_object_code 6 refl one_object one_object_lowered code compiled events s
     is_run in
     let steps = few_steps default_options one_object_code 6 refl one_object one_object_lowered code compiled events s
     is_run in
-    (omega (arith, counts.pages, objects), omega (arith, counts.regions, steps))
+    (omega (arith, counts.pages, pages), omega (arith, counts.regions, steps))
 
 -- ---- one goroutine
 

@@ -12,9 +12,9 @@ use Rattle.rgo_machine.specs.declared.turns.Shortage.TheVariants as shortage
 use Rattle.rgo_tac.specs.Tac.{TacState}
 use Rattle.rgo_region_machine.specs.declared.regions.Region.{Region}
 use Rattle.rgo_region_machine.specs.declared.regions.Region.TheVariants.{Numbered}
-use Rattle.rgo_region_machine.specs.Examples.{one_object}
+use Rattle.rgo_region_machine.specs.Examples.{long_slice, one_object, taking}
 use Rattle.rgo_region_machine.specs.Machine.{TakePage, plain_step, region_run, region_start, region_step}
-use Rattle.rgo_region_machine.specs.Objects.{making_region, new_object, touched, words}
+use Rattle.rgo_region_machine.specs.Objects.{data_pages, making_region, most_data_pages, new_object, touched}
 use Rattle.rgo_tac.specs.Frames.{Frame}
 use Rattle.rgo_code.specs.Code.{CodeInstr}
 use Rattle.rgo_region_machine.specs.Owed.{current, function_at}
@@ -23,7 +23,7 @@ use Rattle.rgo_region_machine.specs.States.{Holder, RegionState, Remove, top_nam
 use Rattle.rgo_sound.specs.Holding.{OneHoldingName, held}
 use Rattle.rgo_sound.specs.NextNames.{HasStake, InstructionNames, NextNames}
 use Rattle.rgo_region_machine.specs.Room.{MakesTooLarge, LacksIn}
-use Rattle.rgo_sound.specs.Safety.{IsSafe, PointersStay, cells_of}
+use Rattle.rgo_sound.specs.Safety.{CountsFit, IsSafe, PointersStay, cells_of}
 use Rattle.rgo_sound.specs.Stakes.{HasEnded, holders_of, pending_of}
 use Rattle.rgo_sound.proofs.Places.{contains_here, contains_one}
 use Rattle.rgo_run.specs.TableRuns.claims.RegionRuns.{NamesLive}
@@ -69,7 +69,7 @@ pointers zero p object r at owner live points =
     subst (λ q. slice_get example.at_home.owners q ≡ Some r) same owner
 pointers (suc o) p object r at owner live points = absurd cc
 
-at_home : IsSafe one_object example.at_home
+at_home : IsSafe one_object 16 example.at_home
 at_home = record {
   stakes = record { counted = counted; ended = ended };
   names = names;
@@ -84,7 +84,7 @@ at_home = record {
 
 -- ---- states that are not
 
-astray : IsSafe one_object example.astray → ⊥
+astray : IsSafe one_object 16 example.astray → ⊥
 astray safe =
     let e : Some (Numbered 1) ≡ Some (Numbered 0) =
     safe.pointers 0 1 _ (Numbered 0) refl refl refl (contains_here (value.Object 1) []) in
@@ -93,17 +93,38 @@ astray safe =
     different : Some (Numbered 1) ≡ Some (Numbered 0) → ⊥
     different e = cc
 
-overcounted : IsSafe one_object example.overcounted → ⊥
+overcounted : IsSafe one_object 16 example.overcounted → ⊥
 overcounted safe = let e : 2 ≡ 1 = safe.stakes.counted 0 _ refl in omega (arith, e)
 
-unnamed : IsSafe one_object example.unnamed → ⊥
+unnamed : IsSafe one_object 16 example.unnamed → ⊥
 unnamed safe = let e : 0 ≡ 1 = safe.names 0 _ 0 refl (contains_here 0 []) refl in omega (arith, e)
 
-named_twice : IsSafe one_object example.named_twice → ⊥
+named_twice : IsSafe one_object 16 example.named_twice → ⊥
 named_twice safe = let e : 2 ≡ 1 = safe.names 0 _ 0 refl (contains_here 0 []) refl in omega (arith, e)
 
-too_many_pages : IsSafe one_object example.too_many_pages → ⊥
+too_many_pages : IsSafe one_object 16 example.too_many_pages → ⊥
 too_many_pages safe = let e : 2 ≤ 1 = safe.counts.pages in omega (arith, e)
+
+-- `main` stands before an instruction, so it has not ended
+spread_pages : CountsFit one_object 16 (example.with_pages 8)
+spread_pages = record {
+  pages = leb-true 8 8 refl;
+  regions = leb-true 1 2 refl;
+  all_removed = λ over. absurd (stands (over 0 _ refl).0);
+}
+
+whole_pages : CountsFit one_object 41 (example.with_pages 2)
+whole_pages = record {
+  pages = leb-true 2 2 refl;
+  regions = leb-true 1 2 refl;
+  all_removed = λ over. absurd (stands (over 0 _ refl).0);
+}
+
+too_many_spread : IsSafe one_object 16 (example.with_pages 9) → ⊥
+too_many_spread safe = let e : 9 ≤ 8 = safe.counts.pages in omega (arith, e)
+
+too_many_whole : IsSafe one_object 41 (example.with_pages 3) → ⊥
+too_many_whole safe = let e : 3 ≤ 2 = safe.counts.pages in omega (arith, e)
 
 -- ---- what is named next
 
@@ -209,6 +230,10 @@ state_examples = record {
   unnamed = unnamed;
   named_twice = named_twice;
   too_many_pages = too_many_pages;
+  spread_pages = spread_pages;
+  too_many_spread = too_many_spread;
+  whole_pages = whole_pages;
+  too_many_whole = too_many_whole;
   removing = removing;
   removing_twice = removing_twice;
   removing_anothers = removing_anothers;
@@ -231,28 +256,54 @@ no_page_yet lacks = by lacks.0 lacks.1
     by zero some = true≢false (sym some)
     by (suc g) some = true≢false (sym some)
 
-abbrev size_of : Option Object → ℕ
-size_of None = 0
-size_of (Some object) = words object
+-- the state before a slice of so many elements, of whose pages so many are taken
+abbrev before_slice : (n last other pages : ℕ) → RegionState
+before_slice n last other pages =
+    unwrap_or (region_run (long_slice n last other) 16 (taking pages)) (region_start (long_slice n last other))
 
--- the size of the object that a step makes
-abbrev size_in : TacState → Option TacState → ℕ
-size_in old None = 0
-size_in old (Some next) = size_of (new_object old next)
+all_pages : LacksIn (long_slice 17 16 15) (sizes 16 3 1) shortage.Pages (before_slice 17 16 15 3) → ⊥
+all_pages lacks = by lacks.0 lacks.1
+  where
+    by : (g : ℕ) → IsSome (region_step (long_slice 17 16 15) 16 (before_slice 17 16 15 3) (TakePage g)) → ⊥
+    by zero some = true≢false (sym some)
+    by (suc g) some = true≢false (sym some)
+
+abbrev pages_of : (page_words : ℕ) → Option Object → ℕ
+pages_of page_words None = 0
+pages_of page_words (Some object) = data_pages page_words object
+
+-- the data pages of the object that a step makes
+abbrev pages_in : (page_words : ℕ) → TacState → Option TacState → ℕ
+pages_in page_words old None = 0
+pages_in page_words old (Some next) = pages_of page_words (new_object old next)
 
 larger : (page_words : ℕ) (old next : TacState) (o : Option TacState) → o ≡ Some next → MakesTooLarge page_words old next
-    → page_words < size_in old o
+    → most_data_pages page_words < pages_in page_words old o
 larger page_words old next o e makes =
-    subst (λ q. page_words < size_in old q) (sym e) (subst (λ q. page_words < size_of q) (sym makes.1) makes.2)
+    subst (λ q. most_data_pages page_words < pages_in page_words old q) (sym e)
+    (subst (λ q. most_data_pages page_words < pages_of page_words q) (sym makes.1) makes.2)
+
+longest : LacksIn (long_slice 224 0 0) (sizes 16 1 1) shortage.ObjectSize (before_slice 224 0 0 0) → ⊥
+longest lacks =
+    by lacks.0
+    (larger 16 (before_slice 224 0 0 0).plain lacks.1
+    (plain_step (long_slice 224 0 0) (before_slice 224 0 0 0).plain (One lacks.0)) lacks.2 lacks.3)
+  where
+    by : (g : ℕ)
+        → most_data_pages 16
+        < pages_in 16 (before_slice 224 0 0 0).plain
+        (plain_step (long_slice 224 0 0) (before_slice 224 0 0 0).plain (One g)) → ⊥
+    by zero less = let e : 14 < 14 = less in omega (arith, e)
+    by (suc g) less = let e : 14 < 0 = less in omega (arith, e)
 
 two_words : LacksIn one_object (sizes 2 1 1) shortage.ObjectSize (here 2) → ⊥
 two_words lacks =
     by lacks.0
     (larger 2 (here 2).plain lacks.1 (plain_step one_object (here 2).plain (One lacks.0)) lacks.2 lacks.3)
   where
-    by : (g : ℕ) → 2 < size_in (here 2).plain (plain_step one_object (here 2).plain (One g)) → ⊥
-    by zero less = let e : 2 < 2 = less in omega (arith, e)
-    by (suc g) less = let e : 2 < 0 = less in omega (arith, e)
+    by : (g : ℕ) → most_data_pages 2 < pages_in 2 (here 2).plain (plain_step one_object (here 2).plain (One g)) → ⊥
+    by zero less = let e : 0 < 0 = less in omega (arith, e)
+    by (suc g) less = let e : 0 < 0 = less in omega (arith, e)
 
 pub room_examples : RoomExamples
 room_examples = record {
@@ -261,6 +312,10 @@ room_examples = record {
   no_page = (here 16, refl, (0, refl, leb-true 0 0 refl));
   one_page = (here 16, refl, λ lacks. let e : 1 ≤ 0 = lacks.2 in omega (arith, e));
   no_page_yet = no_page_yet;
-  one_word = (here 1, refl, (0, _, refl, (_, refl, ltb-true 1 2 refl)));
+  no_data_page = (before_slice 17 16 15 2, refl, (0, refl, leb-true 2 2 refl));
+  all_pages = (before_slice 17 16 15 3, refl, all_pages);
+  longest = (before_slice 224 0 0 0, refl, longest);
+  too_long = (before_slice 225 0 0 0, refl, (0, _, refl, (_, refl, ltb-true 14 15 refl)));
+  one_word = (here 1, refl, (0, _, refl, (_, refl, ltb-true 0 2 refl)));
   two_words = (here 2, refl, two_words);
 }

@@ -1,7 +1,7 @@
 -- States of the region machine in which something is wrong, states in which nothing is, and what each definition says of
 -- them. The code is that of `rgo_region_machine`'s examples.
-use Rattle.std.specs.Prelude.{◌≡◌, ℕ, false, List, [], ◌∷◌, Some, None}
-use Rattle.rgo_memory.specs.Memory.{Channel, Object, StructObject}
+use Rattle.std.specs.Prelude.{◌≡◌, ℕ, false, pos, replicate, List, [], ◌∷◌, Some, None}
+use Rattle.rgo_memory.specs.Memory.{Channel, Object, SliceObject, StructObject}
 use Rattle.rgo_memory.specs.declared.values.Value.TheVariants as value
 use Rattle.rgo_machine.specs.declared.limits.Sizes.{Sizes}
 use Rattle.rgo_machine.specs.declared.turns.Shortage.TheVariants as shortage
@@ -10,11 +10,11 @@ use Rattle.rgo_tac.specs.Frames.{Frame}
 use Rattle.rgo_code.specs.Code.{Code}
 use Rattle.rgo_region_machine.specs.declared.regions.Region.{Region}
 use Rattle.rgo_region_machine.specs.declared.regions.Region.TheVariants.{Numbered}
-use Rattle.rgo_region_machine.specs.Examples.{one_object}
+use Rattle.rgo_region_machine.specs.Examples.{long_slice, one_object, taking}
 use Rattle.rgo_region_machine.specs.Machine.{Attend, Event, region_run, region_start}
 use Rattle.rgo_region_machine.specs.Regions.{Bindings, RegionInfo}
 use Rattle.rgo_region_machine.specs.States.{Duty, Holder, NoOffer, RegionState, Remove, Taken}
-use Rattle.rgo_sound.specs.Safety.{IsSafe}
+use Rattle.rgo_sound.specs.Safety.{CountsFit, IsSafe}
 use Rattle.rgo_region_machine.specs.Room.{LacksIn}
 use Rattle.rgo_run.specs.TableRuns.claims.RegionRuns.{NamesLive}
 
@@ -36,6 +36,7 @@ holder stakes names duties = record {
   environments = record { lent = NoClass; names = names; protections = [] } ∷ [];
   base = [];
   fills = [];
+  reserved = 0;
   duties = duties;
   offer = NoOffer;
 }
@@ -89,6 +90,12 @@ named_twice = state [] [] (region 1 0 ∷ []) (holder (0 ∷ []) ((0, Numbered 0
 abbrev pub too_many_pages : RegionState
 too_many_pages = state [] [] (region 1 2 ∷ []) (holder (0 ∷ []) ((0, Numbered 0) ∷ []) [])
 
+-- a slice of 40 elements in a region of so many pages; the next object is a structure
+abbrev pub with_pages : (pages : ℕ) → RegionState
+with_pages pages =
+    state (SliceObject (replicate 40 (value.Int (pos 0))) ∷ []) (Numbered 0 ∷ []) (region 1 pages ∷ [])
+    (holder (0 ∷ []) ((0, Numbered 0) ∷ []) [])
+
 -- a region is removed next: it is live; it has been removed before; it is that of another goroutine
 abbrev pub removing : RegionState
 removing = state [] [] (region 1 0 ∷ []) (holder (0 ∷ []) ((0, Numbered 0) ∷ []) (Remove 0 ∷ []))
@@ -122,12 +129,18 @@ acknowledging =
     (record (holder [] [] []) { offer = Taken 0 })
 
 pub record StateExamples : Type 0 where
-  pub safe : IsSafe one_object at_home
-  pub astray : IsSafe one_object astray → ⊥
-  pub overcounted : IsSafe one_object overcounted → ⊥
-  pub unnamed : IsSafe one_object unnamed → ⊥
-  pub named_twice : IsSafe one_object named_twice → ⊥
-  pub too_many_pages : IsSafe one_object too_many_pages → ⊥
+  pub safe : IsSafe one_object 16 at_home
+  pub astray : IsSafe one_object 16 astray → ⊥
+  pub overcounted : IsSafe one_object 16 overcounted → ⊥
+  pub unnamed : IsSafe one_object 16 unnamed → ⊥
+  pub named_twice : IsSafe one_object 16 named_twice → ⊥
+  pub too_many_pages : IsSafe one_object 16 too_many_pages → ⊥
+  -- The slice has a lead page and three data pages, and the goroutine may have taken as many more; in a page that has room for it, it
+  -- has that one alone.
+  pub spread_pages : CountsFit one_object 16 (with_pages 8)
+  pub too_many_spread : IsSafe one_object 16 (with_pages 9) → ⊥
+  pub whole_pages : CountsFit one_object 41 (with_pages 2)
+  pub too_many_whole : IsSafe one_object 41 (with_pages 3) → ⊥
   pub removing : NamesLive one_object removing
   pub removing_twice : NamesLive one_object removing_twice → ⊥
   pub removing_anothers : NamesLive one_object removing_anothers → ⊥
@@ -159,6 +172,14 @@ pub record RoomExamples : Type 0 where
   pub one_page : Comes one_object 16 created (λ s. LacksIn one_object (sizes 16 1 1) shortage.Pages s → ⊥)
   -- no page is wanted before the region is there
   pub no_page_yet : LacksIn one_object (sizes 16 0 1) shortage.Pages (region_start one_object) → ⊥
+  -- of the three pages of a slice that is spread, the third is wanted and not there; and none is wanted after it
+  pub no_data_page : Comes (long_slice 17 16 15) 16 (taking 2) (LacksIn (long_slice 17 16 15) (sizes 16 2 1) shortage.Pages)
+  pub all_pages : Comes (long_slice 17 16 15) 16 (taking 3)
+      (λ s. LacksIn (long_slice 17 16 15) (sizes 16 3 1) shortage.Pages s → ⊥)
+  -- a lead page of 16 words has the numbers of 14 data pages
+  pub longest : Comes (long_slice 224 0 0) 16 (taking 0)
+      (λ s. LacksIn (long_slice 224 0 0) (sizes 16 1 1) shortage.ObjectSize s → ⊥)
+  pub too_long : Comes (long_slice 225 0 0) 16 (taking 0) (LacksIn (long_slice 225 0 0) (sizes 16 1 1) shortage.ObjectSize)
   -- the object has two words
   pub one_word : Comes one_object 1 created (LacksIn one_object (sizes 1 1 1) shortage.ObjectSize)
   pub two_words : Comes one_object 2 created (λ s. LacksIn one_object (sizes 2 1 1) shortage.ObjectSize s → ⊥)

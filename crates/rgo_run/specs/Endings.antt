@@ -84,7 +84,7 @@ numbered_line line message = codes "rgo: line " ++ (decimal line ++ (codes ": " 
 abbrev pub line_of_shortage : Shortage → List ℕ
 line_of_shortage shortage.Pages = codes "rgo: pages spent\n"
 line_of_shortage shortage.Regions = codes "rgo: regions spent\n"
-line_of_shortage shortage.ObjectSize = codes "rgo: object larger than a page\n"
+line_of_shortage shortage.ObjectSize = codes "rgo: object too large\n"
 
 -- one line, or nothing where `main` returned
 abbrev pub line_of_run : TextKind → List ℕ → RunEnd → List ℕ

@@ -5,6 +5,7 @@ use Rattle.rgo_machine.specs.declared.turns.Shortage.TheVariants as shortage
 use Rattle.rgo_code.specs.Code.{Code}
 use Rattle.rgo_region_machine.specs.Counts.{counts_of}
 use Rattle.rgo_region_machine.specs.Machine.{Event, region_run}
+use Rattle.rgo_region_machine.specs.Room.{enough_pages}
 use Rattle.rgo_region_machine.specs.States.{RegionState}
 use Rattle.rgo_sound.specs.Safety.{most_names}
 use Rattle.rgo_run.specs.Headline.{AlwaysHas}
@@ -16,18 +17,19 @@ Always sizes what Holds =
     (code : Code) (events : List Event) (s : RegionState) → IsCodeFor what code
     → region_run code sizes.page_words events ≡ Some s → Holds code s
 
--- objects and goroutines together are at most the pages
-abbrev pub FewObjects : Sizes → Code → RegionState → Type 0
-FewObjects sizes code s = (counts_of s).objects + (counts_of s).goroutines ≤ sizes.pages
+-- The pages of its objects, and for each goroutine those of the largest object, made or next, are at most the pages. Where no
+-- object is spread, that is the number of objects and goroutines.
+abbrev pub FewPages : Sizes → Code → RegionState → Type 0
+FewPages sizes code s = enough_pages code sizes.page_words s ≤ sizes.pages
 
 -- steps and goroutines together, times the most region names of one function, are at most the regions
 abbrev pub FewSteps : Sizes → Code → RegionState → Type 0
 FewSteps sizes code s = ((counts_of s).steps + (counts_of s).goroutines) * most_names code.functions ≤ sizes.regions
 
--- Where every run makes as few objects, no run wants a page that there is not; where every run takes as few steps, none
--- wants a region.
+-- Where the objects of every run have as few pages, no run wants a page that there is not; where every run takes as few
+-- steps, none wants a region.
 pub record FewSuffice : Type 0 where
-  pub pages : (sizes : Sizes) (what : Runnable) → Always sizes what (FewObjects sizes)
+  pub pages : (sizes : Sizes) (what : Runnable) → Always sizes what (FewPages sizes)
       → AlwaysHas sizes what shortage.Pages
   pub regions : (sizes : Sizes) (what : Runnable) → Always sizes what (FewSteps sizes)
       → AlwaysHas sizes what shortage.Regions

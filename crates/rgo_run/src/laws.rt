@@ -39,9 +39,9 @@ pub fn one_compiled()
     ensures { OneCompiled }
 {}
 
-/// No run of a program lacks a page if there are as many pages as objects and goroutines in any of its runs. None lacks a
-/// region if there are as many regions as steps and goroutines in any of its runs, times the most region names of one
-/// function.
+/// No run of a program lacks a page if, in each state of any of its runs, there are as many as the objects have, and for each
+/// goroutine as many as the largest object has that was made or is next. None lacks a region if there are as many regions as
+/// steps and goroutines in any of its runs, times the most region names of one function.
 pub fn few_suffice()
     ensures { FewSuffice }
 {}

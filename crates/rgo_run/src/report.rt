@@ -149,7 +149,7 @@ fn write_shortage<E: Sink>(err: &mut E, shortage: Shortage) -> u8
     match shortage {
         Shortage::Pages => write(err, b"rgo: pages spent\n", 4),
         Shortage::Regions => write(err, b"rgo: regions spent\n", 5),
-        Shortage::ObjectSize => write(err, b"rgo: object larger than a page\n", 6),
+        Shortage::ObjectSize => write(err, b"rgo: object too large\n", 6),
     }
 }
 
@@ -187,7 +187,7 @@ fn end_line(alloc: Global, kind: TextKind, text: &[u8], end: RunEnd) -> Result<S
         RunEnd::NoRoom(Shortage::Pages) => String::from_str(alloc, "rgo: pages spent\n"),
         RunEnd::NoRoom(Shortage::Regions) => String::from_str(alloc, "rgo: regions spent\n"),
         RunEnd::NoRoom(Shortage::ObjectSize) => {
-            String::from_str(alloc, "rgo: object larger than a page\n")
+            String::from_str(alloc, "rgo: object too large\n")
         }
         RunEnd::CallsTooDeep => String::from_str(alloc, "rgo: calls too deep\n"),
         RunEnd::StepsSpent => String::from_str(alloc, "rgo: steps spent\n"),

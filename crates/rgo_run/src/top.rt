@@ -97,7 +97,7 @@ fn read<S: Source>(
 /// | 3 | no goroutine can step, alone or with another, and `main` has not returned |
 /// | 4 | a page is wanted, and all that `--pages` allows are in use |
 /// | 5 | as many regions are live as `--regions` allows, and one more is to be created |
-/// | 6 | an object is larger than a page |
+/// | 6 | an object takes more than 64 data pages, or more than the words of a page less 2 |
 /// | 7 | a goroutine that has 100,000 calls open makes another |
 /// | 8 | as many steps were taken as `--steps` allows |
 /// | 9 | a read of the source failed |

@@ -253,15 +253,15 @@ fn end_of_run(why: Why, is_whole: bool, first: Option<Mark>, made: &Tally, most:
     }
 }
 
-/// Whether the table of a run may have these sizes, for code with so many package variables: at least one page, at most 1,073,741,820
+/// Whether the table of a run may have these sizes, for code with so many package variables: at least one page, at most 16,777,215
 /// words for each, and at most 2^32 words in all.
 pub fn has_table(sizes: &Sizes, variables: usize) -> bool
-    ensures { (result ≡ true) ↔ ((0 < sizes.now.pages) × (sizes.now.page_words ≤ 1073741820)
+    ensures { (result ≡ true) ↔ ((0 < sizes.now.pages) × (sizes.now.page_words ≤ 16777215)
         × (words_in_all (sizes_with sizes.now variables) ≤ 2 ^ 32)) }
 {
     let cells = (sizes.pages as u128) * (sizes.page_words as u128);
     let others = 98 + 2 * (sizes.pages as u128) + 2 * (sizes.regions as u128) + (variables as u128);
-    sizes.pages > 0 && sizes.page_words <= 1_073_741_820 && cells + others <= 1 << 32
+    sizes.pages > 0 && sizes.page_words <= 16_777_215 && cells + others <= 1 << 32
 }
 
 /// Runs code over a table of these sizes.
@@ -281,7 +281,7 @@ fn run_in<H: Threads + Sync, K: Sink, G: Gate + Sync>(
 ) -> Result<Outcome, AllocError>
     requires workers { (1 ≤ workers) × (workers ≤ 64) }
     requires pages { 0 < sizes.pages }
-    requires small { sizes.page_words ≤ 1073741820 }
+    requires small { sizes.page_words ≤ 16777215 }
     requires fits { words_in_all (table_sizes code.now sizes) ≤ 2 ^ 32 }
     requires goroutines { most_goroutines limits ≤ 1000000 }
     ensures runs { IfOk result (λ o. CodeRuns code.now sizes limits o.end (counts_in o.tally) (K.contents out.old) (K.contents out.new)) }
@@ -340,7 +340,7 @@ pub fn run<H: Threads + Sync, K: Sink, G: Gate + Sync>(
 ) -> Result<Outcome, AllocError>
     requires workers { (1 ≤ workers) × (workers ≤ 64) }
     requires pages { 0 < sizes.pages }
-    requires small { sizes.page_words ≤ 1073741820 }
+    requires small { sizes.page_words ≤ 16777215 }
     requires fits { words_in_all (table_sizes code.now sizes) ≤ 2 ^ 32 }
     requires goroutines { most_goroutines limits ≤ 1000000 }
     ensures runs { IfOk result (λ o. CodeRuns code.now sizes limits o.end (counts_in o.tally) (K.contents out.old) (K.contents out.new)) }

@@ -40,7 +40,7 @@ pub record RegionRun (code : Code) (sizes : Sizes) (end : RunEnd) (t : TacState)
   pub printed : state.plain.printed ≡ t.printed
   -- in each state that it went through, stakes are counted, and what any goroutine names next is live
   pub safe : (before after : List Event) (s : RegionState) → events ++ late ≡ before ++ after
-      → region_run code sizes.page_words before ≡ Some s → IsSafe code s × NamesLive code s
+      → region_run code sizes.page_words before ≡ Some s → IsSafe code sizes.page_words s × NamesLive code s
   -- and no more pages are in use, and no more regions live, than there may be
   pub within : (before after : List Event) (s : RegionState) → events ++ late ≡ before ++ after
       → region_run code sizes.page_words before ≡ Some s → FitsIn sizes s
