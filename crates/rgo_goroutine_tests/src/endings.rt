@@ -202,14 +202,14 @@ func main() {
 }
 ";
 
-/// A slice that no page has room for.
+/// A slice of more data pages than an object can have.
 const LARGE: &str = "\
 package main
 
 import \"fmt\"
 
 func main() {
-    s := make([]int, 1000)
+    s := make([]int, 16385)
     fmt.Println(len(s))
 }
 ";

@@ -132,6 +132,31 @@ func main() {
 }
 ";
 
+/// A goroutine makes a slice of four pages while `main` has one of three.
+const SLICES: &str = "\
+package main
+
+import \"fmt\"
+
+func count(ready, done chan int) {
+    ready <- 1
+    s := make([]int, 40)
+    s[39] = 7
+    done <- s[39] + len(s)
+}
+
+func main() {
+    ready := make(chan int, 1)
+    done := make(chan int, 1)
+    s := make([]int, 20)
+    s[19] = 3
+    go count(ready, done)
+    fmt.Println(<-ready)
+    fmt.Println(s[19])
+    fmt.Println(<-done)
+}
+";
+
 /// Seven thousand lines of ten bytes.
 const LINES: &str = "\
 package main
@@ -243,6 +268,44 @@ fn pages_and_slots_come_back(rt: HostRuntime) -> Result<(), Fail> {
         };
         assert_eq!(&rt; made_by(&over), tally, "{shortage:?}");
     }
+    Ok(())
+}
+
+/// A goroutine keeps the page that it has for a slice, and continues once others are free.
+#[test]
+fn the_pages_of_a_slice_are_taken_one_by_one(rt: HostRuntime) -> Result<(), Fail> {
+    let short = Why::Over(Ending::Short(Shortage::Pages));
+    let over = go(
+        &rt,
+        SLICES,
+        small(6, 4),
+        &[
+            (0, 1000),
+            (1, 1000),
+            (1, 1000),
+            (0, 1000),
+            (1, 1000),
+            (0, 1000),
+        ],
+        &[
+            Why::Blocked,
+            short,
+            short,
+            Why::Blocked,
+            Why::Ended,
+            Why::Over(Ending::Exit),
+        ],
+        "1\n3\n47\n",
+    )?;
+    let tally = Tally {
+        made: 4,
+        removed: 4,
+        taken: 9,
+        returned: 9,
+        objects: 4,
+        goroutines: 2,
+    };
+    assert_eq!(&rt; made_by(&over), tally);
     Ok(())
 }
 

@@ -14,6 +14,7 @@ mod rows;
 mod rule_texts;
 mod rules;
 mod running;
+mod spread;
 mod usage;
 mod workers;
 
@@ -39,6 +40,7 @@ fn lines_are_refused_or_run(rt: HostRuntime) {
     are_called_after_head(&rt, running::STATEMENTS);
     are_called_after_head(&rt, running::GOROUTINES);
     are_called_after_head(&rt, regions::ROWS);
+    are_called_after_head(&rt, spread::ROWS);
     are_called_after_head(&rt, ends::TRAPS);
     are_called_after_head(&rt, ends::ENDS);
     are_called_after_head(&rt, emitting::CODES);
@@ -49,6 +51,11 @@ fn lines_are_refused_or_run(rt: HostRuntime) {
 /// Calls with whole texts.
 fn are_called_with<R: Threads + Abort + AllocGlobal + Sync>(rt: &R, table: &str) {
     are_called(rt, "", table, "", SOUND);
+}
+
+#[test]
+fn large_objects_serve_programs(rt: HostRuntime) {
+    are_called_after_head(&rt, spread::PROGRAMS);
 }
 
 #[test]

@@ -48,6 +48,69 @@ fibonacci 10 is 55
 fibonacci 15 is 610
 fibonacci 20 is 6765
 
+> heap.go
+package main
+
+import \"fmt\"
+
+// A heap of 10,000 numbers in one slice: the least one is at the front.
+type Heap struct {
+\tnumbers []int
+\tcount   int
+}
+
+func push(h *Heap, number int) {
+\tat := h.count
+\th.count++
+\tfor at > 0 && h.numbers[(at-1)/2] > number {
+\t\th.numbers[at] = h.numbers[(at-1)/2]
+\t\tat = (at - 1) / 2
+\t}
+\th.numbers[at] = number
+}
+
+func pop(h *Heap) int {
+\tleast := h.numbers[0]
+\th.count--
+\tlast := h.numbers[h.count]
+\tat := 0
+\tfor 2*at+1 < h.count {
+\t\tchild := 2*at + 1
+\t\tif child+1 < h.count && h.numbers[child+1] < h.numbers[child] {
+\t\t\tchild++
+\t\t}
+\t\tif last <= h.numbers[child] {
+\t\t\tbreak
+\t\t}
+\t\th.numbers[at] = h.numbers[child]
+\t\tat = child
+\t}
+\th.numbers[at] = last
+\treturn least
+}
+
+func main() {
+\th := &Heap{make([]int, 10000), 0}
+\tseed := 1
+\tfor i := 0; i < 10000; i++ {
+\t\tseed = (seed*1103515245 + 12345) % 2147483648
+\t\tpush(h, seed)
+\t}
+\tbefore := -1
+\tsorted := true
+\tsum := 0
+\tfor i := 0; i < 100; i++ {
+\t\tnumber := pop(h)
+\t\tsorted = sorted && before <= number
+\t\tbefore = number
+\t\tsum = (sum*31 + number) % 1000003
+\t}
+\tfmt.Println(sorted, before, sum, h.count)
+}
+
+< exit regions 1 removed 1 pages 42 returned 42 objects 2 goroutines 1 steps 768504
+true 20320867 26547 9900
+
 > hello.go
 package main
 import \"fmt\"
@@ -99,6 +162,55 @@ func main() {
 3
 4
 5
+
+> long_buffer.go
+package main
+
+import \"fmt\"
+
+// All values fit the buffer, which is spread over several pages, so one goroutine can send them before the other receives any.
+func send(c chan int, n int) {
+\tfor i := 0; i < n; i++ {
+\t\tc <- i
+\t}
+\tclose(c)
+}
+
+func main() {
+\tc := make(chan int, 10000)
+\tsend(c, 10000)
+\tsum := 0
+\tfor i := 0; i < 10000; i++ {
+\t\tsum += <-c
+\t}
+\tfmt.Println(sum, <-c)
+}
+
+< exit regions 1 removed 1 pages 41 returned 41 objects 1 goroutines 1 steps 170021
+49995000 0
+
+> long_sieve.go
+package main
+
+import \"fmt\"
+
+// The primes below 16,000. The slice is larger than a page: it is spread over several.
+func main() {
+\tcomposite := make([]bool, 16000)
+\tcount := 0
+\tfor i := 2; i < len(composite); i++ {
+\t\tif !composite[i] {
+\t\t\tcount++
+\t\t\tfor j := i * i; j < len(composite); j += i {
+\t\t\t\tcomposite[j] = true
+\t\t\t}
+\t\t}
+\t}
+\tfmt.Println(count)
+}
+
+< exit regions 1 removed 1 pages 64 returned 64 objects 1 goroutines 1 steps 399032
+1862
 
 > matrix.go
 package main
@@ -292,6 +404,51 @@ func main() {
 4
 5
 6
+
+> square_matrix.go
+package main
+
+import \"fmt\"
+
+// A matrix of 100 by 100 numbers, in one slice that is spread over several pages.
+type Matrix struct {
+\tcells []int
+\twidth int
+}
+
+func matrix(width int) *Matrix {
+\treturn &Matrix{make([]int, width*width), width}
+}
+
+func transposed(a *Matrix) *Matrix {
+\tb := matrix(a.width)
+\tfor i := 0; i < a.width; i++ {
+\t\tfor j := 0; j < a.width; j++ {
+\t\t\tb.cells[j*a.width+i] = a.cells[i*a.width+j]
+\t\t}
+\t}
+\treturn b
+}
+
+func row(a *Matrix, i int) int {
+\tsum := 0
+\tfor j := 0; j < a.width; j++ {
+\t\tsum += a.cells[i*a.width+j]
+\t}
+\treturn sum
+}
+
+func main() {
+\ta := matrix(100)
+\tfor i := 0; i < 100*100; i++ {
+\t\ta.cells[i] = i
+\t}
+\tb := transposed(a)
+\tfmt.Println(row(a, 0), row(a, 99), row(b, 0), row(b, 99), b.cells[9801])
+}
+
+< exit regions 2 removed 2 pages 84 returned 84 objects 4 goroutines 1 steps 266876
+4950 994950 495000 504900 198
 
 > stack.go
 package main

@@ -98,16 +98,43 @@ one 0
 text
 rgo: pages spent
 
-> rgo record // the slice has a word more than a page
+> rgo record --pages 2 // the slice has a word more than a page, and takes two
 package main
 func main() { s := make([]int, 256); s[0] = 1 }
+
+< 0
+!
+rgo picks 1
+one 0
+one 0
+one 0
+one 0
+one 0
+one 0
+one 0
+text
+
+> rgo record --pages 1 // its second page is not there
+package main
+func main() { s := make([]int, 256); s[0] = 1 }
+
+< 4
+!
+rgo picks 1
+one 0
+text
+rgo: pages spent
+
+> rgo record // the slice takes a page more than any object has
+package main
+func main() { s := make([]int, 16385); s[0] = 1 }
 
 < 6
 !
 rgo picks 1
 one 0
 text
-rgo: object larger than a page
+rgo: object too large
 
 > rgo record --goroutines 2 // `main` is the other
 package main

@@ -82,12 +82,21 @@ func main() { for i := 0; i < 20; i++ { x := &N{i, nil}; fmt.Println(x.v) } }
 18
 19
 
-> rgo run --page-words 16 // A structure takes a word for each field.
+> rgo run --page-words 16 --stats // A structure takes a word for each field: 16 of them fill a page, and one more is spread.
+type W struct { a, b, c, d, e, f, g, h, i, j, k, l, m, n, o, p int }
+func main() { x := new(W); fmt.Println(x.a) }
+< 0
+0
+!
+rgo: regions 1 removed 1 pages 1 returned 1 objects 1 goroutines 1
+
+> rgo run --page-words 16 --stats
 type W struct { a, b, c, d, e, f, g, h, i, j, k, l, m, n, o, p, q int }
 func main() { x := new(W); fmt.Println(x.a) }
-< 6
+< 0
+0
 !
-rgo: object larger than a page
+rgo: regions 1 removed 1 pages 3 returned 3 objects 1 goroutines 1
 
 > rgo run --workers 1 --stats // Goroutines that meet at channels without buffers. Both come to their ends in the last round.
 func echo(a, b chan int) { for i := 0; i < 5; i++ { b <- <-a + 1 } }
@@ -128,26 +137,29 @@ rgo: regions 1 removed 1 pages 1 returned 1 objects 1 goroutines 1
 
 > rgo run --stats
 func main() { s := make([]int, 256); fmt.Println(len(s)) }
-< 6
+< 0
+256
 !
-rgo: regions 1 removed 0 pages 0 returned 0 objects 0 goroutines 1
-rgo: object larger than a page
+rgo: regions 1 removed 1 pages 2 returned 2 objects 1 goroutines 1
 
 > rgo run --page-words 4096
 func main() { s := make([]int, 4095); fmt.Println(len(s)) }
 < 0
 4095
 
-> rgo run --page-words 16 // A channel takes two words and one for each place, but at least three.
+> rgo run --page-words 16 --stats // A channel takes two words and one for each place, but at least three.
 func main() { c := make(chan int, 14); c <- 1; fmt.Println(<-c) }
 < 0
 1
-
-> rgo run --page-words 16
-func main() { c := make(chan int, 15); c <- 1; fmt.Println(<-c) }
-< 6
 !
-rgo: object larger than a page
+rgo: regions 1 removed 1 pages 1 returned 1 objects 1 goroutines 1
+
+> rgo run --page-words 16 --stats
+func main() { c := make(chan int, 15); c <- 1; fmt.Println(<-c) }
+< 0
+1
+!
+rgo: regions 1 removed 1 pages 2 returned 2 objects 1 goroutines 1
 
 > rgo run --regions 2 --stats // Regions that live at one time.
 func main() { x := &N{1, nil}; y := &N{2, nil}; fmt.Println(x.v + y.v) }

@@ -151,6 +151,51 @@ func main() {
 5
 6
 
+> rgo run // square_matrix.go
+package main
+
+import \"fmt\"
+
+// A matrix of 100 by 100 numbers, in one slice that is spread over several pages.
+type Matrix struct {
+\tcells []int
+\twidth int
+}
+
+func matrix(width int) *Matrix {
+\treturn &Matrix{make([]int, width*width), width}
+}
+
+func transposed(a *Matrix) *Matrix {
+\tb := matrix(a.width)
+\tfor i := 0; i < a.width; i++ {
+\t\tfor j := 0; j < a.width; j++ {
+\t\t\tb.cells[j*a.width+i] = a.cells[i*a.width+j]
+\t\t}
+\t}
+\treturn b
+}
+
+func row(a *Matrix, i int) int {
+\tsum := 0
+\tfor j := 0; j < a.width; j++ {
+\t\tsum += a.cells[i*a.width+j]
+\t}
+\treturn sum
+}
+
+func main() {
+\ta := matrix(100)
+\tfor i := 0; i < 100*100; i++ {
+\t\ta.cells[i] = i
+\t}
+\tb := transposed(a)
+\tfmt.Println(row(a, 0), row(a, 99), row(b, 0), row(b, 99), b.cells[9801])
+}
+
+< 0
+4950 994950 495000 504900 198
+
 > rgo run // stack.go
 package main
 
