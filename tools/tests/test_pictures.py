@@ -41,6 +41,11 @@ func main() { a := 0 - 9223372036854775807; a--; fmt.Println(a, -a, a / -1, a % 
 func main() { n := 254; s := make([]bool, n); fmt.Println(len(s), s[0]);
   n++; c := make(chan bool, n); close(c); fmt.Println(<-c) }
 func main() { n := 256; s := make([]bool, n); fmt.Println(len(s), s[0]) }
+func main() { n := 16384; s := make([]int, n); s[n-1] = 9; fmt.Println(len(s), s[n-1], s[n/2]) }
+func main() { n := 16385; s := make([]int, n); fmt.Println(len(s)) }
+func main() { c := make(chan int, 300); for i := 0; i < 300; i++ { c <- i }; s := 0;
+  for i := 0; i < 300; i++ { s += <-c }; fmt.Println(s) }
+func main() { x := &N{1, nil}; s := make([]int, 257); y := &N{2, x}; s[256] = y.p.v; fmt.Println(s[256], s[255]) }
 func f(a, b *N, c chan int) { c <- a.v + b.v; c <- 1 }
   func main() { x := &N{21, nil}; c := make(chan int); go f(x, x, c); fmt.Println(<-c) }
 func f(c, d chan int, n int) { for i := 0; i < n; i++ { c <- i + <-d }; close(c) }
@@ -206,7 +211,7 @@ class BesideTheProgram(Case):
 
     def test_programs_that_end_in_each_way(self):
         texts = programs()
-        self.assertEqual(23, len(texts))
+        self.assertEqual(27, len(texts))
         for text in texts:
             with self.subTest(text):
                 self.assertEqual(0, self.rgo(text.encode(), "check").returncode)

@@ -50,6 +50,8 @@ class Definitions(unittest.TestCase):
         # What a crate hands on of one below it.
         self.assertEqual({"NamesLive", "RegionRun"}, found["rgo_table_runs/specs/claims/RegionRuns.antt"])
         room = {"pages_in_use", "live_regions", "FitsIn", "MakesTooLarge", "LacksIn"}
+        # How many pages are enough.
+        room |= {"pages_of", "pages_before", "most_of", "most_next", "most_pages", "object_pages", "enough_pages"}
         self.assertEqual(room, found["rgo_region_machine/specs/Room.antt"])
         self.assertIn("Event", found["rgo_region_machine/specs/Machine.antt"])
         # What is named through an alias, and in the head of a module.
