@@ -37,6 +37,7 @@ WRONG = {
     "rgor": ["", "--steps 5 a.go"],
     "soak": ["x", "--seconds x"],
     "subset": ["a.go b.go", "--all a.go"],
+    "tags": ["a b", "--all"],
     "test-rgo": ["x"],
     "test-tools": ["--all"],
     "test-workers": ["a b", "--all"],
