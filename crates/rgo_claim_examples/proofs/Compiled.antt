@@ -98,5 +98,5 @@ compiled_examples = record {
   no_page = λ has. has (code_with (0 ∷ [])) compiled (Attend 0 ∷ []) _ refl (0, refl, leb-true 0 0 refl);
   no_region = λ has. has (code_with (0 ∷ [])) compiled [] _ refl (0, 0, _, [], refl, refl, leb-true 0 0 refl);
   one_word =
-      λ has. has (code_with (0 ∷ [])) compiled (Attend 0 ∷ []) _ refl (0, _, refl, (_, refl, ltb-true 1 2 refl));
+      λ has. has (code_with (0 ∷ [])) compiled (Attend 0 ∷ []) _ refl (0, _, refl, (_, refl, ltb-true 0 2 refl));
 }

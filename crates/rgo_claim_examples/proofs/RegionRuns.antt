@@ -21,7 +21,7 @@ use Rattle.rgo_driver.specs.declared.ends.RunEnd.{RunEnd}
 use Rattle.rgo_driver.specs.declared.ends.RunEnd.TheVariants as run_end
 use Rattle.rgo_command_line.specs.Limits.{default_options}
 use Rattle.rgo_run.specs.Headline.{Suffices}
-use Rattle.rgo_run.specs.Runs.{IsOneRun, of_program}
+use Rattle.rgo_run.specs.Runs.{of_program}
 use Rattle.rgo_run.specs.TableRuns.claims.RegionRuns.{NamesLive, RegionRun}
 use Rattle.rgo_claim_examples.specs.Programs.{one_object}
 use Rattle.rgo_claim_examples.specs.RegionRuns.{RegionRunExamples, code}
