@@ -1,15 +1,5 @@
-pub mod Advancing
-pub mod Frames
-pub mod Going
 pub mod Items
-pub mod Limited
-pub mod Marked
-pub mod Meeting
-pub mod Newest
 pub mod Printing
 pub mod Runs
 pub mod Spaces
-pub mod Ready
-pub mod Stepping
-pub mod Unmet
 pub mod Waiting

@@ -14,7 +14,7 @@ use Rattle.rgo_machine.specs.Growing.{PrintGrows}
 use Rattle.rgo_machine.specs.Limits.{if_within, is_within, limited_step, LeadsWithin}
 use Rattle.rgo_machine.specs.Machines.{Act, Moves, Returns, Prints, Traps}
 use Rattle.rgo_machine.specs.Machines.{Stand, AtReceive, AtSend, AtClose, AtCall, AtStart, Elsewhere}
-use Rattle.rgo_machine.specs.Machines.{Machine, State, acted, operated, returned, stepped, alone, met, met_by, picked}
+use Rattle.rgo_machine.specs.Machines.{Machine, State, acted, operated, state_after_return, stepped, alone, met, met_by, picked}
 use Rattle.rgo_machine.specs.Machines.{unless_ended, step_by}
 use Rattle.rgo_machine.specs.Runs.{run}
 
@@ -26,7 +26,7 @@ with_before before s = record s { printed = before ++ s.printed }
 
 module _ {F : Type 0} (machine : Machine F) (before : List ℕ) where
   returned_before : (s : State F) (g : ℕ) (callers : List F) (v : Option Value)
-      → returned machine (with_before before s) g callers v ≡ with_before before (returned machine s g callers v)
+      → state_after_return machine (with_before before s) g callers v ≡ with_before before (state_after_return machine s g callers v)
   returned_before s g [] v = refl
   returned_before s g (f ∷ callers) v = refl
 

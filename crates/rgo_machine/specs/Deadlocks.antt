@@ -1,19 +1,9 @@
 -- Deadlocks: the run has not ended, and no pick has a step.
-use Rattle.std.specs.Prelude.{◌≡◌, ℕ, Bool, true, false, List, [], ◌∷◌, Some, None, slice_get}
-use Rattle.std.specs.Option.{is_some}
+use Rattle.std.specs.Prelude.{◌≡◌, ℕ, List, [], ◌∷◌, Some, None, slice_get}
 use Rattle.rgo_memory.specs.Channels.{receive, send}
 use Rattle.rgo_memory.specs.Memory.{Memory}
-use Rattle.rgo_machine.specs.declared.machines.Stand.{Stand as CodeStand}
-use Rattle.rgo_machine.specs.declared.machines.Stand.TheVariants as code
-use Rattle.rgo_machine.specs.declared.picks.Pick.TheVariants.{One}
 use Rattle.rgo_machine.specs.Machines.{Machine, State, Stand, AtReceive, AtSend, step_by}
 use Rattle.rgo_machine.specs.Runs.{IsBlocked}
-
--- whether a goroutine that stands there has a step alone
-abbrev pub is_ready : Memory → CodeStand → Bool
-is_ready m (code.Receive channel blank) = is_some (receive m channel blank)
-is_ready m (code.Send channel v place) = is_some (send m channel v)
-is_ready m _ = true
 
 module _ {F : Type 0} where
   abbrev pub IsDeadlock : Machine F → State F → Type 0
@@ -35,13 +25,3 @@ module _ {F : Type 0} where
   DeadlocksWait machine =
       (s : State F) → IsDeadlock machine s
       → (g : ℕ) (frames : List F) → slice_get s.goroutines g ≡ Some frames → HasReturnedOrWaits machine s.memory frames
-
-  -- whether no goroutine has a step alone
-  abbrev pub ReportsWaiting : Machine F → State F → Bool → Type 0
-  ReportsWaiting machine s true = (g : ℕ) → step_by machine s (One g) ≡ None
-  ReportsWaiting machine s false = (g : ℕ) × (step_by machine s (One g) ≡ None → ⊥)
-
-  -- whether there is a deadlock
-  abbrev pub ReportsDeadlock : Machine F → State F → Bool → Type 0
-  ReportsDeadlock machine s true = IsDeadlock machine s
-  ReportsDeadlock machine s false = IsDeadlock machine s → ⊥

@@ -1,12 +1,8 @@
-pub mod Acting
 pub mod Actions
-pub mod Alone
 pub mod Deadlocks
+pub mod Ends
 pub mod Growing
 pub mod Limits
 pub mod Lines
 pub mod Machines
-pub mod Meetings
 pub mod Runs
-pub mod Turning
-pub mod Turns

@@ -16,11 +16,11 @@ abbrev pub most_goroutines : Limits → ℕ
 most_goroutines limits = max 1 limits.goroutines
 
 module _ {F : Type 0} where
-  abbrev pub has_room : List F → Bool
-  has_room frames = nat_le (length frames) deepest
+  abbrev pub is_within_depth : List F → Bool
+  is_within_depth frames = nat_le (length frames) deepest
 
   abbrev pub is_within : Limits → State F → Bool
-  is_within limits s = nat_le (length s.goroutines) (most_goroutines limits) && list_all has_room s.goroutines
+  is_within limits s = nat_le (length s.goroutines) (most_goroutines limits) && list_all is_within_depth s.goroutines
 
   abbrev pub if_within : Limits → State F → Option (State F)
   if_within limits s = if is_within limits s then Some s else None
@@ -42,7 +42,7 @@ module _ {F : Type 0} where
   IsAtStart _ = ⊥
 
   -- some goroutine has 100,000 frames, and stands before a call
-  pub record IsTooDeep (machine : Machine F) (s : State F) : Type 0 where
+  pub record IsCallTooDeep (machine : Machine F) (s : State F) : Type 0 where
     pub goroutine : ℕ
     pub frame : F
     pub callers : List F

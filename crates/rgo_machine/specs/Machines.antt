@@ -60,8 +60,8 @@ end_of_return (suc g) = None
 
 module _ {F : Type 0} where
   -- a run that begins with this memory and the frames of `main`
-  abbrev pub start_of : Memory → List F → State F
-  start_of memory frames = record { memory = memory; goroutines = frames ∷ []; printed = []; ended = None }
+  abbrev pub start_state : Memory → List F → State F
+  start_state memory frames = record { memory = memory; goroutines = frames ∷ []; printed = []; ended = None }
 
   abbrev pub with_frames : State F → ℕ → List F → State F
   with_frames s g frames = record s { goroutines = slice_set s.goroutines g frames }
@@ -70,14 +70,14 @@ module _ {F : Type 0} where
   trapped s trap place = record s { ended = Some (the_end.Trap trap place) }
 
   -- the newest frame of a goroutine has returned to its callers
-  abbrev pub returned : Machine F → State F → ℕ → List F → Option Value → State F
-  returned machine s g [] value = record (with_frames s g []) { ended = end_of_return g }
-  returned machine s g (caller ∷ callers) value = with_frames s g (machine.resume caller value ∷ callers)
+  abbrev pub state_after_return : Machine F → State F → ℕ → List F → Option Value → State F
+  state_after_return machine s g [] value = record (with_frames s g []) { ended = end_of_return g }
+  state_after_return machine s g (caller ∷ callers) value = with_frames s g (machine.resume caller value ∷ callers)
 
   -- a goroutine that has these callers did this
   abbrev pub acted : Machine F → State F → ℕ → List F → Act F → State F
   acted machine s g callers (Moves m f) = record (with_frames s g (f ∷ callers)) { memory = m }
-  acted machine s g callers (Returns value) = returned machine s g callers value
+  acted machine s g callers (Returns value) = state_after_return machine s g callers value
   acted machine s g callers (Prints f bytes) = record (with_frames s g (f ∷ callers)) { printed = s.printed ++ bytes }
   acted machine s g callers (Traps trap place) = trapped s trap place
 

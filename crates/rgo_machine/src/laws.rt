@@ -1,16 +1,15 @@
-//! What holds of every machine.
+//! What holds of every machine, whatever its frames are.
 
 ghost use Rattle.rgo_machine.specs.Deadlocks.{DeadlocksWait};
 ghost use Rattle.rgo_machine.specs.Growing.{PrintGrows};
-
-use crate::machines::Machine;
+ghost use Rattle.rgo_machine.specs.Machines as spec;
 
 /// In a deadlock every goroutine has returned or waits at a channel.
-pub fn deadlocks_wait<M: Machine>(machine: &M)
-    ensures { DeadlocksWait (M.machine machine.now) }
+pub fn deadlocks_wait<F>()
+    ensures { (machine : spec.Machine F) → DeadlocksWait machine }
 {}
 
 /// Whatever is picked in a run, its print only grows.
-pub fn print_grows<M: Machine>(machine: &M)
-    ensures { PrintGrows (M.machine machine.now) }
+pub fn print_grows<F>()
+    ensures { (machine : spec.Machine F) → PrintGrows machine }
 {}

@@ -21,3 +21,14 @@ pub struct Sizes {
     /// The most regions that are live at one time, but for the global one.
     pub regions: usize,
 }
+
+/// What a machine whose objects lie in regions can have no room for.
+#[derive(Clone, Copy, Debug, PartialEq, Eq)]
+pub enum Shortage {
+    /// All pages are taken, and an object wants another one.
+    Pages,
+    /// There are as many regions as there may be, and another one is to be created.
+    Regions,
+    /// An object has more data pages than the largest one that is allowed.
+    ObjectSize,
+}

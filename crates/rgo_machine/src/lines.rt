@@ -11,7 +11,7 @@ use std::alloc::AllocError;
 /// Appends the operands in order, each followed by a space. On allocation failure some of it is appended.
 #[tactic(auto, using(crate::proofs::Spaces::begun))]
 fn write_operands(out: &mut Vec<u8>, pieces: &[Piece], values: &[Value]) -> Result<(), AllocError>
-    ensures operands { OnOk result (out.new.items ≡ out.old.items ++ spaced (spec.filled pieces.now values.now)) }
+    ensures operands { OnOk result (out.new.items ≡ out.old.items ++ spaced (spec.printed_operands pieces.now values.now)) }
     ensures begins { take (length out.old.items) out.new.items ≡ out.old.items }
 {
     let mut rest = values;
@@ -36,7 +36,7 @@ fn write_operands(out: &mut Vec<u8>, pieces: &[Piece], values: &[Value]) -> Resu
 /// Appends a line. On allocation failure some of it is appended.
 #[tactic(auto, using(crate::proofs::Spaces::begun))]
 fn append_line(out: &mut Vec<u8>, pieces: &[Piece], values: &[Value]) -> Result<(), AllocError>
-    ensures line { OnOk result (out.new.items ≡ out.old.items ++ spec.line_of pieces.now values.now) }
+    ensures line { OnOk result (out.new.items ≡ out.old.items ++ spec.printed_line pieces.now values.now) }
     ensures begins { take (length out.old.items) out.new.items ≡ out.old.items }
 {
     let start = out.len();
@@ -52,7 +52,7 @@ fn append_line(out: &mut Vec<u8>, pieces: &[Piece], values: &[Value]) -> Result<
 ///
 /// On allocation failure. Then nothing is appended.
 pub fn write_line(out: &mut Vec<u8>, pieces: &[Piece], values: &[Value]) -> Result<(), AllocError>
-    ensures appends { OnOk result (out.new.items ≡ out.old.items ++ spec.line_of pieces.now values.now) }
+    ensures appends { OnOk result (out.new.items ≡ out.old.items ++ spec.printed_line pieces.now values.now) }
     ensures keeps { OnErr result (out.new.items ≡ out.old.items) }
 {
     let start = out.len();

@@ -1,4 +1,4 @@
-//! Picks, ends, and what a step answers.
+//! Picks, and how runs end by themselves.
 
 use rgo_ast::Place;
 use rgo_memory::Trap;
@@ -20,15 +20,4 @@ pub enum End {
     Exit,
     /// A goroutine trapped, at this place of the text.
     Trap(Trap, Place),
-}
-
-/// What a step did.
-#[derive(Clone, Copy, Debug, PartialEq, Eq)]
-pub enum Stepped {
-    /// The run goes on.
-    Advanced,
-    /// The run ended by this step.
-    Ended(End),
-    /// There is no such step; nothing changed.
-    NotEnabled,
 }

@@ -7,7 +7,7 @@ use Rattle.rgo_typed.specs.declared.statements.Piece.TheVariants.{Value as NextV
 use Rattle.rgo_typed.specs.declared.types.Type.{«Type»}
 use Rattle.rgo_typed.specs.declared.types.Base.TheVariants as base
 use Rattle.rgo_typed.specs.declared.types.Layer.TheVariants.{Chan}
-use Rattle.rgo_typed.specs.Tree.{Term, Terms, Local, Apply, Call, no_terms, a_term, Stmt, Stmts, Function, Typed}
+use Rattle.rgo_typed.specs.Tree.{Term, Terms, Local, Apply, Call, no_terms, a_term, Stmt, Function, Typed}
 use Rattle.rgo_typed.specs.Tree as tree
 use Rattle.rgo_memory.specs.declared.traps.Trap.TheVariants.{DivideZero, NilPointer, SendClosed}
 use Rattle.rgo_memory.specs.Memory.{Object, Channel}

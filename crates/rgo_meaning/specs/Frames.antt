@@ -58,22 +58,22 @@ pub data Todo : Type 0 where
 
 -- the local variables by number; the values that are not used yet, the newest first; and what is to do, in order. If
 -- nothing is to do, the function returns without a value
-pub record Frame : Type 0 where
+pub record SourceFrame : Type 0 where
   pub locals : List Value
   pub values : List Value
   pub todo : List Todo
 
 -- ---- local variables
 
-abbrev pub local_at : List Value → ℕ → Value
-local_at locals n = get_or locals n Nil
+abbrev pub local_value : List Value → ℕ → Value
+local_value locals n = get_or locals n Nil
 
 -- the list is longer where it has to be
-abbrev pub with_local : List Value → ℕ → Value → List Value
-with_local [] zero v = v ∷ []
-with_local [] (suc n) v = Nil ∷ with_local [] n v
-with_local (u ∷ locals) zero v = v ∷ locals
-with_local (u ∷ locals) (suc n) v = u ∷ with_local locals n v
+abbrev pub with_local_value : List Value → ℕ → Value → List Value
+with_local_value [] zero v = v ∷ []
+with_local_value [] (suc n) v = Nil ∷ with_local_value [] n v
+with_local_value (u ∷ locals) zero v = v ∷ locals
+with_local_value (u ∷ locals) (suc n) v = u ∷ with_local_value locals n v
 
 -- ---- values
 
@@ -89,8 +89,8 @@ abbrev pub last_values : ℕ → List Value → List Value
 last_values n values = reverse (take n values)
 
 -- the frame with other things to do, after `taken` values were taken and some were put
-abbrev pub going : Frame → ℕ → List Value → List Todo → Frame
-going f taken put todo = record { locals = f.locals; values = put ++ drop taken f.values; todo = todo }
+abbrev pub frame_with_todo : SourceFrame → ℕ → List Value → List Todo → SourceFrame
+frame_with_todo f taken put todo = record { locals = f.locals; values = put ++ drop taken f.values; todo = todo }
 
 -- this item in place of the newest and of up to `count` below it
 abbrev pub replaced : {A : Type 0} → A → ℕ → List A → List A
@@ -105,8 +105,8 @@ closing None = []
 closing (Some ty) = Stay ∷ []
 
 -- the parameters have the arguments, all other local variables the zero of their type
-abbrev pub called : Function → List Value → Frame
-called f arguments = record {
+abbrev pub new_source_frame : Function → List Value → SourceFrame
+new_source_frame f arguments = record {
   locals = arguments ++ map zero_of (drop (length arguments) f.locals);
   values = [];
   todo = Sequence (stmts_of f.body) ∷ closing f.result_type;

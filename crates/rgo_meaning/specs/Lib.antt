@@ -1,9 +1,6 @@
-pub mod Changes
-pub mod Codes
 pub mod Examples
 pub mod Frames
 pub mod Source
 pub mod Stands
 pub mod Steps
 pub mod Todos
-pub mod Views

@@ -3,17 +3,17 @@ use Rattle.std.specs.Prelude.{ℕ, List, [], ◌∷◌, Option, Some, None, code
 use Rattle.rgo_typed.specs.Tree.{Function, Typed}
 use Rattle.rgo_memory.specs.Opening.{opening}
 use Rattle.rgo_machine.specs.declared.picks.Pick.{Pick}
-use Rattle.rgo_machine.specs.Machines.{Machine, State, start_of, step_by}
+use Rattle.rgo_machine.specs.Machines.{Machine, State, start_state, step_by}
 use Rattle.rgo_machine.specs.Runs.{Leads}
-use Rattle.rgo_meaning.specs.Frames.{Frame, called}
-use Rattle.rgo_meaning.specs.Stands.{stand}
-use Rattle.rgo_meaning.specs.Steps.{act, resumed}
+use Rattle.rgo_meaning.specs.Frames.{SourceFrame, new_source_frame}
+use Rattle.rgo_meaning.specs.Stands.{source_stand}
+use Rattle.rgo_meaning.specs.Steps.{source_act, source_resumed}
 
 abbrev pub SourceState : Type 0
-SourceState = State Frame
+SourceState = State SourceFrame
 
-abbrev pub source : Typed → Machine Frame
-source program = record { act = act program; stand = stand program; resume = resumed }
+abbrev pub source : Typed → Machine SourceFrame
+source program = record { act = source_act program; stand = source_stand program; resume = source_resumed }
 
 abbrev pub source_step : Typed → SourceState → Pick → Option SourceState
 source_step program = step_by (source program)
@@ -25,14 +25,14 @@ abbrev pub function_named : List ℕ → List Function → Option Function
 function_named name [] = None
 function_named name (f ∷ fs) = if bytes_eq f.name name then Some f else function_named name fs
 
-abbrev pub main_frames : Option Function → List Frame
-main_frames None = []
-main_frames (Some f) = called f [] ∷ []
+abbrev pub source_main_frames : Option Function → List SourceFrame
+source_main_frames None = []
+source_main_frames (Some f) = new_source_frame f [] ∷ []
 
 abbrev pub source_start : Typed → SourceState
 source_start program =
-    start_of (opening program.variables) (main_frames (function_named (codes "main") program.functions))
+    start_state (opening program.variables) (source_main_frames (function_named (codes "main") program.functions))
 
 -- the picks lead from the beginning to the state
-abbrev pub IsRun : Typed → List Pick → SourceState → Type 0
-IsRun program picks s = Leads (source_step program) (source_start program) picks s
+abbrev pub IsSourceRun : Typed → List Pick → SourceState → Type 0
+IsSourceRun program picks s = Leads (source_step program) (source_start program) picks s

@@ -13,9 +13,9 @@ use Rattle.rgo_memory.specs.Values.{zero_of}
 use Rattle.rgo_memory.specs.Memory.{Memory}
 use Rattle.rgo_memory.specs.Perform.{perform}
 use Rattle.rgo_machine.specs.Actions.{effected, is_true, no_type}
-use Rattle.rgo_machine.specs.Lines.{line_of}
+use Rattle.rgo_machine.specs.Lines.{printed_line}
 use Rattle.rgo_machine.specs.Machines.{Act, Moves, Returns, Prints}
-use Rattle.rgo_meaning.specs.Frames.{Frame, local_at, with_local, value_below, newest, last_values, replaced, going}
+use Rattle.rgo_meaning.specs.Frames.{SourceFrame, local_value, with_local_value, value_below, newest, last_values, replaced, frame_with_todo}
 use Rattle.rgo_meaning.specs.Frames.{Todo, Evaluate, Each, Perform, Affect, Settle, Decide, Create, Fill, Repeat, Give}
 use Rattle.rgo_meaning.specs.Frames.{Forget, Clear, Enter, Start, Write, Execute, Sequence, When, Choose, Close, Onward}
 use Rattle.rgo_meaning.specs.Frames.{Turn, Test, Again, Leave, Stay}
@@ -24,46 +24,46 @@ use Rattle.rgo_meaning.specs.Todos.{term_todo, statement_todo, turn_todo}
 -- ---- actions
 
 -- with the value, or without it
-abbrev pub giving : Frame → ℕ → List Todo → Value → Frame
-giving f taken todo v = going f taken (v ∷ []) todo
+abbrev pub giving : SourceFrame → ℕ → List Todo → Value → SourceFrame
+giving f taken todo v = frame_with_todo f taken (v ∷ []) todo
 
-abbrev pub leaving : Frame → ℕ → List Todo → Value → Frame
-leaving f taken todo v = going f taken [] todo
+abbrev pub leaving : SourceFrame → ℕ → List Todo → Value → SourceFrame
+leaving f taken todo v = frame_with_todo f taken [] todo
 
 -- ---- terms
 
-abbrev pub evaluated : Term → List Todo → Frame → Frame
-evaluated (tree.Local n) todo f = going f 0 (local_at f.locals n ∷ []) todo
-evaluated t todo f = going f 0 [] (term_todo t todo)
+abbrev pub evaluated : Term → List Todo → SourceFrame → SourceFrame
+evaluated (tree.Local n) todo f = frame_with_todo f 0 (local_value f.locals n ∷ []) todo
+evaluated t todo f = frame_with_todo f 0 [] (term_todo t todo)
 
 abbrev pub each : Terms → List Todo → List Todo
 each tree.no_terms todo = todo
 each (tree.a_term t ts) todo = Evaluate t ∷ Each ts ∷ todo
 
 -- the right side is evaluated in place of the left, or the left side's value is the result
-abbrev pub decided : Logical → Term → List Todo → Frame → Bool → Frame
-decided And right todo f true = going f 1 [] (Evaluate right ∷ Settle ∷ todo)
-decided And right todo f false = going f 0 [] todo
-decided Or right todo f true = going f 0 [] todo
-decided Or right todo f false = going f 1 [] (Evaluate right ∷ Settle ∷ todo)
+abbrev pub decided : Logical → Term → List Todo → SourceFrame → Bool → SourceFrame
+decided And right todo f true = frame_with_todo f 1 [] (Evaluate right ∷ Settle ∷ todo)
+decided And right todo f false = frame_with_todo f 0 [] todo
+decided Or right todo f true = frame_with_todo f 0 [] todo
+decided Or right todo f false = frame_with_todo f 1 [] (Evaluate right ∷ Settle ∷ todo)
 
 -- The first of these fields of the newest value's object is written, with the value that is below it by the number of
 -- fields. At the end the object replaces the values.
-abbrev pub filled : List Struct → Memory → ℕ → List ℕ → (place : ℕ) → List Todo → Frame → Act Frame
-filled structs m count [] place todo f =
+abbrev pub act_of_fill : List Struct → Memory → ℕ → List ℕ → (place : ℕ) → List Todo → SourceFrame → Act SourceFrame
+act_of_fill structs m count [] place todo f =
     Moves m (record f { values = replaced (newest f.values) count f.values; todo = todo })
-filled structs m count (k ∷ fields) place todo f =
+act_of_fill structs m count (k ∷ fields) place todo f =
     effected (leaving f 0 (Fill count fields place ∷ todo)) place
     (perform structs (Store k) no_type (newest f.values ∷ value_below f.values (length (k ∷ fields)) ∷ []) m)
 
 -- ---- statements
 
-abbrev pub given : ℕ → List Todo → Frame → Frame
+abbrev pub given : ℕ → List Todo → SourceFrame → SourceFrame
 given n todo f =
-    record { locals = with_local f.locals n (newest f.values); values = drop 1 f.values; todo = todo }
+    record { locals = with_local_value f.locals n (newest f.values); values = drop 1 f.values; todo = todo }
 
-abbrev pub cleared : ℕ → «Type» → List Todo → Frame → Frame
-cleared n ty todo f = record { locals = with_local f.locals n (zero_of ty); values = f.values; todo = todo }
+abbrev pub cleared : ℕ → «Type» → List Todo → SourceFrame → SourceFrame
+cleared n ty todo f = record { locals = with_local_value f.locals n (zero_of ty); values = f.values; todo = todo }
 
 abbrev pub sequence : Stmts → List Todo → List Todo
 sequence tree.no_stmts todo = todo
@@ -85,50 +85,50 @@ tested test body post todo false = todo
 
 -- What changes the frame alone, before the other things to do. A call or a start of a function that does not exist
 -- takes its arguments and does nothing.
-abbrev pub moved : Todo → List Todo → Frame → Frame
+abbrev pub moved : Todo → List Todo → SourceFrame → SourceFrame
 moved (Evaluate t) todo f = evaluated t todo f
-moved (Each ts) todo f = going f 0 [] (each ts todo)
+moved (Each ts) todo f = frame_with_todo f 0 [] (each ts todo)
 moved (Decide op right) todo f = decided op right todo f (is_true (newest f.values))
-moved (Repeat count) todo f = going f 0 (take count f.values) todo
+moved (Repeat count) todo f = frame_with_todo f 0 (take count f.values) todo
 moved (Give n) todo f = given n todo f
-moved Forget todo f = going f 1 [] todo
+moved Forget todo f = frame_with_todo f 1 [] todo
 moved (Clear n ty) todo f = cleared n ty todo f
-moved (Enter function count) todo f = going f count [] todo
-moved (Start function count) todo f = going f count [] todo
-moved (Execute s) todo f = going f 0 [] (statement_todo s todo)
-moved (Sequence ss) todo f = going f 0 [] (sequence ss todo)
-moved (When body) todo f = going f 1 [] (when body todo (is_true (newest f.values)))
-moved (Choose body other) todo f = going f 1 [] (chosen body other todo (is_true (newest f.values)))
-moved (Turn test body post) todo f = going f 0 [] (turn_todo test body post todo)
-moved (Test test body post) todo f = going f 1 [] (tested test body post todo (is_true (newest f.values)))
-moved (Again test body post) todo f = going f 0 [] (Sequence post ∷ Onward ∷ Turn test body post ∷ todo)
-moved _ todo f = going f 0 [] todo
+moved (Enter function count) todo f = frame_with_todo f count [] todo
+moved (Start function count) todo f = frame_with_todo f count [] todo
+moved (Execute s) todo f = frame_with_todo f 0 [] (statement_todo s todo)
+moved (Sequence ss) todo f = frame_with_todo f 0 [] (sequence ss todo)
+moved (When body) todo f = frame_with_todo f 1 [] (when body todo (is_true (newest f.values)))
+moved (Choose body other) todo f = frame_with_todo f 1 [] (chosen body other todo (is_true (newest f.values)))
+moved (Turn test body post) todo f = frame_with_todo f 0 [] (turn_todo test body post todo)
+moved (Test test body post) todo f = frame_with_todo f 1 [] (tested test body post todo (is_true (newest f.values)))
+moved (Again test body post) todo f = frame_with_todo f 0 [] (Sequence post ∷ Onward ∷ Turn test body post ∷ todo)
+moved _ todo f = frame_with_todo f 0 [] todo
 
-abbrev pub done : Typed → Memory → Todo → List Todo → Frame → Act Frame
-done program m (Perform action count ty place) todo f =
+abbrev pub act_of_todo : Typed → Memory → Todo → List Todo → SourceFrame → Act SourceFrame
+act_of_todo program m (Perform action count ty place) todo f =
     effected (giving f count todo) place (perform program.structs action ty (last_values count f.values) m)
-done program m (Affect action count place) todo f =
+act_of_todo program m (Affect action count place) todo f =
     effected (leaving f count todo) place (perform program.structs action no_type (last_values count f.values) m)
-done program m (Create struct) todo f =
+act_of_todo program m (Create struct) todo f =
     effected (giving f 0 todo) 0 (perform program.structs (New struct) no_type [] m)
-done program m (Fill count fields place) todo f = filled program.structs m count fields place todo f
-done program m (Write pieces count) todo f =
-    Prints (going f count [] todo) (line_of pieces (last_values count f.values))
-done program m Leave todo f = Returns (Some (newest f.values))
-done program m Stay todo f = Moves m f
-done program m item todo f = Moves m (moved item todo f)
+act_of_todo program m (Fill count fields place) todo f = act_of_fill program.structs m count fields place todo f
+act_of_todo program m (Write pieces count) todo f =
+    Prints (frame_with_todo f count [] todo) (printed_line pieces (last_values count f.values))
+act_of_todo program m Leave todo f = Returns (Some (newest f.values))
+act_of_todo program m Stay todo f = Moves m f
+act_of_todo program m item todo f = Moves m (moved item todo f)
 
 -- the first of several things; if nothing is to do, the function returns without a value
-abbrev pub first_done : Typed → Memory → List Todo → Frame → Act Frame
+abbrev pub first_done : Typed → Memory → List Todo → SourceFrame → Act SourceFrame
 first_done program m [] f = Returns None
-first_done program m (item ∷ todo) f = done program m item todo f
+first_done program m (item ∷ todo) f = act_of_todo program m item todo f
 
-abbrev pub act : Typed → Memory → Frame → Act Frame
-act program m f = first_done program m f.todo f
+abbrev pub source_act : Typed → Memory → SourceFrame → Act SourceFrame
+source_act program m f = first_done program m f.todo f
 
 -- ---- returns
 
 -- a caller continues with the result, or without one
-abbrev pub resumed : Frame → Option Value → Frame
-resumed f None = f
-resumed f (Some v) = going f 0 (v ∷ []) f.todo
+abbrev pub source_resumed : SourceFrame → Option Value → SourceFrame
+source_resumed f None = f
+source_resumed f (Some v) = frame_with_todo f 0 (v ∷ []) f.todo

@@ -7,23 +7,23 @@ use Rattle.rgo_meaning.specs.Frames.{Todo, Evaluate, Each, Perform, Affect, Sett
 use Rattle.rgo_meaning.specs.Frames.{Forget, Clear, Enter, Start, Write, Sequence, When, Choose, Close, Turn, Test}
 use Rattle.rgo_meaning.specs.Frames.{Again, Leave}
 
-abbrev pub count : Terms → ℕ
-count tree.no_terms = 0
-count (tree.a_term t ts) = suc (count ts)
+abbrev pub term_count : Terms → ℕ
+term_count tree.no_terms = 0
+term_count (tree.a_term t ts) = suc (term_count ts)
 
 -- of a term that is no local variable: first its parts
 abbrev pub term_todo : Term → List Todo → List Todo
 term_todo (tree.Local n) todo = todo
-term_todo (tree.Apply action parts ty at) todo = Each parts ∷ Perform action (count parts) ty at ∷ todo
+term_todo (tree.Apply action parts ty at) todo = Each parts ∷ Perform action (term_count parts) ty at ∷ todo
 term_todo (tree.Logic op left right at) todo = Evaluate left ∷ Settle ∷ Decide op right ∷ todo
-term_todo (tree.Build struct parts fields at) todo = Each parts ∷ Create struct ∷ Fill (count parts) fields at ∷ todo
-term_todo (tree.Call function arguments ty at) todo = Each arguments ∷ Enter function (count arguments) ∷ todo
+term_todo (tree.Build struct parts fields at) todo = Each parts ∷ Create struct ∷ Fill (term_count parts) fields at ∷ todo
+term_todo (tree.Call function arguments ty at) todo = Each arguments ∷ Enter function (term_count arguments) ∷ todo
 
 -- the operands, the read, the value, the operation, the write
 abbrev pub update_todo : Change → List Todo → List Todo
 update_todo c todo =
-    Each c.operands ∷ Repeat (count c.operands) ∷ Perform c.read (count c.operands) c.ty c.read_at
-    ∷ Evaluate c.value ∷ Perform (Binary c.op) 2 c.ty c.at ∷ Affect c.write (suc (count c.operands)) c.at ∷ todo
+    Each c.operands ∷ Repeat (term_count c.operands) ∷ Perform c.read (term_count c.operands) c.ty c.read_at
+    ∷ Evaluate c.value ∷ Perform (Binary c.op) 2 c.ty c.at ∷ Affect c.write (suc (term_count c.operands)) c.at ∷ todo
 
 -- a loop from its condition on
 abbrev pub turn_todo : Option Term → Stmts → Stmts → List Todo → List Todo
@@ -62,10 +62,10 @@ abbrev pub statement_todo : Stmt → List Todo → List Todo
 statement_todo (tree.Declare n ty value at) todo = Evaluate value ∷ Give n ∷ todo
 statement_todo (tree.Zero n ty at) todo = Clear n ty ∷ todo
 statement_todo (tree.Assign n value at) todo = Evaluate value ∷ Give n ∷ todo
-statement_todo (tree.Perform action operands at) todo = Each operands ∷ Affect action (count operands) at ∷ todo
+statement_todo (tree.Perform action operands at) todo = Each operands ∷ Affect action (term_count operands) at ∷ todo
 statement_todo (tree.Update change) todo = update_todo change todo
 statement_todo (tree.Discard value) todo = Evaluate value ∷ Forget ∷ todo
-statement_todo (tree.Invoke function arguments at) todo = Each arguments ∷ Enter function (count arguments) ∷ todo
-statement_todo (tree.Go function arguments at) todo = Each arguments ∷ Start function (count arguments) ∷ todo
-statement_todo (tree.Print pieces values at) todo = Each values ∷ Write pieces (count values) ∷ todo
+statement_todo (tree.Invoke function arguments at) todo = Each arguments ∷ Enter function (term_count arguments) ∷ todo
+statement_todo (tree.Go function arguments at) todo = Each arguments ∷ Start function (term_count arguments) ∷ todo
+statement_todo (tree.Print pieces values at) todo = Each values ∷ Write pieces (term_count values) ∷ todo
 statement_todo s todo = flow_todo s todo

@@ -11,20 +11,20 @@ abbrev pub or_nil : Option Value → Value
 or_nil (Some v) = v
 or_nil None = value.Nil
 
-abbrev pub field_of : Option Object → ℕ → Value
-field_of (Some (StructObject cells)) k = or_nil (slice_get cells k)
-field_of _ k = value.Nil
+abbrev pub field_value : Option Object → ℕ → Value
+field_value (Some (StructObject cells)) k = or_nil (slice_get cells k)
+field_value _ k = value.Nil
 
 abbrev pub load : Memory → Value → ℕ → Result Value Trap
 load m value.Nil k = Err NilPointer
-load m (value.Object n) k = Ok (field_of (slice_get m.heap n) k)
+load m (value.Object n) k = Ok (field_value (slice_get m.heap n) k)
 load m _ k = Ok value.Nil
 
-abbrev pub stored : ℕ → Value → Object → Outcome Object
-stored k v (StructObject cells) = Does (StructObject (slice_set cells k v)) value.Nil
-stored k v object = nothing object
+abbrev pub store_outcome : ℕ → Value → Object → Outcome Object
+store_outcome k v (StructObject cells) = Does (StructObject (slice_set cells k v)) value.Nil
+store_outcome k v object = nothing object
 
 abbrev pub store : Memory → Value → ℕ → Value → Effect
 store m value.Nil k v = Traps NilPointer
-store m (value.Object n) k v = at_object m n (stored k v)
+store m (value.Object n) k v = at_object m n (store_outcome k v)
 store m _ k v = nothing m

@@ -1,9 +1,7 @@
-pub mod Blocks
 pub mod Channels
 pub mod Effects
 pub mod Elements
 pub mod Fields
-pub mod Lending
 pub mod Making
 pub mod Memory
 pub mod Opening
@@ -12,4 +10,3 @@ pub mod Perform
 pub mod Shown
 pub mod Traps
 pub mod Values
-pub mod Views

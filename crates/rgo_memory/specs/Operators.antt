@@ -16,23 +16,23 @@ is_equal Eq same = value.Bool same
 is_equal Ne same = value.Bool (not same)
 is_equal _ same = value.Nil
 
-abbrev pub int : ℤ → Result Value Trap
-int z = Ok (value.Int z)
+abbrev pub int_result : ℤ → Result Value Trap
+int_result z = Ok (value.Int z)
 
 abbrev pub truth : Bool → Result Value Trap
 truth b = Ok (value.Bool b)
 
 -- by y
-abbrev pub divided : ℤ → ℤ → Result Value Trap
-divided y z = if int_eq y (pos 0) then Err DivideZero else int z
+abbrev pub checked_quotient : ℤ → ℤ → Result Value Trap
+checked_quotient y z = if int_eq y (pos 0) then Err DivideZero else int_result z
 
 -- a quotient and a remainder are truncated towards zero
 abbrev pub on_ints : BinaryOp → ℤ → ℤ → Result Value Trap
-on_ints Add x y = int (int_wrapping_add w64 x y)
-on_ints Sub x y = int (int_wrapping_sub w64 x y)
-on_ints Mul x y = int (int_wrapping_mul w64 x y)
-on_ints Div x y = divided y (int_wrapping_div w64 x y)
-on_ints Rem x y = divided y (int_rem x y)
+on_ints Add x y = int_result (int_wrapping_add w64 x y)
+on_ints Sub x y = int_result (int_wrapping_sub w64 x y)
+on_ints Mul x y = int_result (int_wrapping_mul w64 x y)
+on_ints Div x y = checked_quotient y (int_wrapping_div w64 x y)
+on_ints Rem x y = checked_quotient y (int_rem x y)
 on_ints Lt x y = truth (int_lt x y)
 on_ints Le x y = truth (int_le x y)
 on_ints Gt x y = truth (int_lt y x)
@@ -52,9 +52,9 @@ binary_of op value.Nil (value.Object n) = Ok (is_equal op false)
 binary_of op (value.Object m) value.Nil = Ok (is_equal op false)
 binary_of op _ _ = Ok value.Nil
 
-abbrev pub negated : Value → Value
-negated (value.Int x) = value.Int (int_wrapping_neg w64 x)
-negated _ = value.Nil
+abbrev pub negated_value : Value → Value
+negated_value (value.Int x) = value.Int (int_wrapping_neg w64 x)
+negated_value _ = value.Nil
 
 abbrev pub inverted : Value → Value
 inverted (value.Bool b) = value.Bool (not b)

@@ -7,7 +7,7 @@ use Rattle.rgo_typed.specs.declared.actions.Action.{Action}
 use Rattle.rgo_typed.specs.declared.actions.Action.TheVariants as action
 use Rattle.rgo_memory.specs.declared.values.Value.{Value}
 use Rattle.rgo_memory.specs.declared.values.Value.TheVariants as value
-use Rattle.rgo_memory.specs.Operators.{binary_of, negated, inverted, nil_test}
+use Rattle.rgo_memory.specs.Operators.{binary_of, negated_value, inverted, nil_test}
 use Rattle.rgo_memory.specs.Memory.{Memory}
 use Rattle.rgo_memory.specs.Effects.{Does, Effect, nothing, answered}
 use Rattle.rgo_memory.specs.Fields.{or_nil, load, store}
@@ -44,7 +44,7 @@ on_none structs (action.Set n) m = nothing m
 -- with one operand
 abbrev pub on_one : Action → «Type» → Value → Memory → Effect
 on_one action.Copy ty v m = Does m v
-on_one action.Neg ty v m = Does m (negated v)
+on_one action.Neg ty v m = Does m (negated_value v)
 on_one action.Not ty v m = Does m (inverted v)
 on_one action.IsNil ty v m = Does m (nil_test v)
 on_one action.Len ty v m = Does m (length_of m v)

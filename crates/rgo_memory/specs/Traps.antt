@@ -4,20 +4,20 @@ use Rattle.rgo_memory.specs.declared.traps.Trap.{Trap}
 use Rattle.rgo_memory.specs.declared.traps.Trap.TheVariants.{NilPointer, IndexRange, DivideZero, BadSize}
 use Rattle.rgo_memory.specs.declared.traps.Trap.TheVariants.{SendClosed, CloseClosed, CloseNil}
 
-abbrev pub number_of : Trap → ℕ
-number_of NilPointer = 1
-number_of IndexRange = 2
-number_of DivideZero = 3
-number_of BadSize = 4
-number_of SendClosed = 5
-number_of CloseClosed = 6
-number_of CloseNil = 7
+abbrev pub trap_number : Trap → ℕ
+trap_number NilPointer = 1
+trap_number IndexRange = 2
+trap_number DivideZero = 3
+trap_number BadSize = 4
+trap_number SendClosed = 5
+trap_number CloseClosed = 6
+trap_number CloseNil = 7
 
-abbrev pub name_of : Trap → List ℕ
-name_of NilPointer = codes "NilPointer"
-name_of IndexRange = codes "IndexRange"
-name_of DivideZero = codes "DivideZero"
-name_of BadSize = codes "BadSize"
-name_of SendClosed = codes "SendClosed"
-name_of CloseClosed = codes "CloseClosed"
-name_of CloseNil = codes "CloseNil"
+abbrev pub trap_name : Trap → List ℕ
+trap_name NilPointer = codes "NilPointer"
+trap_name IndexRange = codes "IndexRange"
+trap_name DivideZero = codes "DivideZero"
+trap_name BadSize = codes "BadSize"
+trap_name SendClosed = codes "SendClosed"
+trap_name CloseClosed = codes "CloseClosed"
+trap_name CloseNil = codes "CloseNil"

@@ -1,7 +1,7 @@
 //! The operators, on values.
 
 ghost use Rattle.std.specs.Prelude.{◌≡◌};
-ghost use Rattle.rgo_memory.specs.Operators.{is_equal, on_ints, binary_of, negated, inverted};
+ghost use Rattle.rgo_memory.specs.Operators.{is_equal, on_ints, binary_of, negated_value, inverted};
 ghost use Rattle.rgo_memory.specs.Operators.{nil_test};
 
 use crate::traps::Trap;
@@ -72,7 +72,7 @@ pub fn binary(op: BinaryOp, left: Value, right: Value) -> Result<Value, Trap>
 /// `-x`: the least integer is its own. `nil` where `x` is no integer.
 #[inline(always)]
 pub fn negated(value: Value) -> Value
-    ensures { result ≡ negated value }
+    ensures { result ≡ negated_value value }
 {
     match value {
         Value::Int(x) => Value::Int(x.wrapping_neg()),

@@ -1,7 +1,7 @@
 //! Traps: what ends a running program.
 
 ghost use Rattle.std.specs.Prelude.{◌≡◌};
-ghost use Rattle.rgo_memory.specs.Traps.{number_of, name_of};
+ghost use Rattle.rgo_memory.specs.Traps.{trap_number, trap_name};
 
 /// Why a program ends before its end (The Go Programming Language Specification, "Run-time
 /// panics").
@@ -26,7 +26,7 @@ pub enum Trap {
 impl Trap {
     /// Its number, from 1 on.
     pub fn number(self) -> u8
-        ensures { result ≡ number_of self }
+        ensures { result ≡ trap_number self }
     {
         match self {
             Trap::NilPointer => 1,
@@ -41,7 +41,7 @@ impl Trap {
 
     /// Its name.
     pub fn name(self) -> &'static str
-        ensures { result.now ≡ name_of self }
+        ensures { result.now ≡ trap_name self }
     {
         match self {
             Trap::NilPointer => "NilPointer",

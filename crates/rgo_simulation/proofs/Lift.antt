@@ -12,9 +12,9 @@ use Rattle.rgo_machine.specs.declared.picks.End.{End}
 use Rattle.rgo_machine.specs.declared.picks.Pick.{Pick}
 use Rattle.rgo_machine.specs.declared.picks.Pick.TheVariants.{One, Meet}
 use Rattle.rgo_machine.specs.Deadlocks.{IsDeadlock}
-use Rattle.rgo_machine.specs.Limits.{has_room, most_goroutines, deepest, is_within, limited_step, LeadsWithin}
+use Rattle.rgo_machine.specs.Limits.{is_within_depth, most_goroutines, deepest, is_within, limited_step, LeadsWithin}
 use Rattle.rgo_machine.specs.Machines.{Stand, AtReceive, Elsewhere}
-use Rattle.rgo_machine.specs.Machines.{Machine, State, start_of, met, met_by, meet, picked, unless_ended, step_by}
+use Rattle.rgo_machine.specs.Machines.{Machine, State, start_state, met, met_by, meet, picked, unless_ended, step_by}
 use Rattle.rgo_machine.specs.Runs.{run, Leads}
 use Rattle.rgo_machine.proofs.Runs.{joined, single, is_step, limited}
 use Rattle.rgo_simulation.specs.Follows.{Follows}
@@ -277,7 +277,7 @@ module _ {F G : Type 0} (high : Machine F) (low : Machine G) (Matched : List F �
   same_length _ _ k = absurd k
 
   same_rooms : (fs : List (List F)) (gs : List (List G)) → AllSame high low Matched fs gs
-      → list_all has_room gs ≡ list_all has_room fs
+      → list_all is_within_depth gs ≡ list_all is_within_depth fs
   same_rooms [] [] k = refl
   same_rooms (f ∷ fs) (g ∷ gs) k =
       λ i. nat_le (follows.depth f g k.0 i) deepest && same_rooms fs gs k.1 i
@@ -340,7 +340,7 @@ following_simulates high low Matched size follows s0 t0 same may = record {
 
 -- the state in which a run begins is within all limits
 pub start_within : {F : Type 0} (memory : Memory) (frames : List F) → length frames ≤ deepest → (limits : Limits)
-    → is_within limits (start_of memory frames) ≡ true
+    → is_within limits (start_state memory frames) ≡ true
 start_within memory frames few limits =
     and_from (nat_le 1 (most_goroutines limits)) (nat_le (length frames) deepest && true)
     (grind (arith, nat_tests, le-max_left 1 limits.goroutines))

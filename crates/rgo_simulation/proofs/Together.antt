@@ -12,7 +12,7 @@ use Rattle.rgo_machine.specs.declared.picks.Pick.{Pick}
 use Rattle.rgo_machine.specs.declared.picks.Pick.TheVariants.{One, Meet}
 use Rattle.rgo_machine.specs.Machines.{Act, Moves, Returns, Prints, Traps}
 use Rattle.rgo_machine.specs.Machines.{Stand, AtReceive, AtSend, AtClose, AtCall, AtStart, Elsewhere}
-use Rattle.rgo_machine.specs.Machines.{Machine, State, acted, operated, returned, stepped, alone, met, met_by, meet}
+use Rattle.rgo_machine.specs.Machines.{Machine, State, acted, operated, state_after_return, stepped, alone, met, met_by, meet}
 use Rattle.rgo_machine.specs.Machines.{with_frames, picked, unless_ended, step_by}
 use Rattle.rgo_simulation.specs.Follows.{ReturnAlike, ActAlike, StandAlike, Together}
 use Rattle.rgo_simulation.specs.Simulations.{AllMatched, SameStates}
@@ -97,7 +97,7 @@ module _ {F G : Type 0} (high : Machine F) (low : Machine G) (Matched : List F �
 
     module _ (g : ℕ) where
       returned_same : (v : Option Value) (callers : List F) (lows : List G) → ReturnAlike high low Matched v callers lows
-          → Same (returned high s g callers v) (returned low t g lows v)
+          → Same (state_after_return high s g callers v) (state_after_return low t g lows v)
       returned_same v [] [] k = record {
         memory = same.memory;
         printed = same.printed;
@@ -117,7 +117,7 @@ module _ {F G : Type 0} (high : Machine F) (low : Machine G) (Matched : List F �
           goroutines = all_set s.goroutines t.goroutines g (f ∷ callers) (h ∷ lows) same.goroutines k.1;
         }
         acted_same (Returns v) (Returns w) k =
-            subst (λ z. Same (returned high s g callers v) (returned low t g lows z)) (sym k.0)
+            subst (λ z. Same (state_after_return high s g callers v) (state_after_return low t g lows z)) (sym k.0)
             (returned_same v callers lows k.1)
         acted_same (Prints f bytes) (Prints h others) k = record {
           memory = same.memory;

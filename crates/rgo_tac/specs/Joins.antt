@@ -13,22 +13,22 @@ is_pointer_like_type None = false
 is_pointer_like_type (Some ty) = is_pointer_like ty
 
 -- pointers, slices and channels; all package variables together count as one
-abbrev pub is_pointer_like_in : TacFn → Member → Bool
-is_pointer_like_in f (Variable n) = is_pointer_like_type (slice_get f.variables n)
-is_pointer_like_in f Result = is_pointer_like_type f.result_type
-is_pointer_like_in f Global = true
+abbrev pub is_pointer_like_member : TacFn → Member → Bool
+is_pointer_like_member f (Variable n) = is_pointer_like_type (slice_get f.variables n)
+is_pointer_like_member f Result = is_pointer_like_type f.result_type
+is_pointer_like_member f Global = true
 
-abbrev pub joined : (a b : ℕ) → Option (Member × Member)
-joined a b = Some (Variable a, Variable b)
+abbrev pub joined_variables : (a b : ℕ) → Option (Member × Member)
+joined_variables a b = Some (Variable a, Variable b)
 
 abbrev pub action_joins : Action → (to : Option ℕ) → (from : List ℕ) → Option (Member × Member)
-action_joins the_action.Copy (Some d) (a ∷ []) = joined d a
-action_joins (the_action.Load k) (Some d) (a ∷ []) = joined d a
-action_joins (the_action.Store k) to (a ∷ b ∷ []) = joined a b
-action_joins the_action.At (Some d) (a ∷ i ∷ []) = joined d a
-action_joins the_action.Put to (a ∷ i ∷ b ∷ []) = joined a b
-action_joins the_action.Recv (Some d) (c ∷ []) = joined d c
-action_joins the_action.Send to (c ∷ a ∷ []) = joined c a
+action_joins the_action.Copy (Some d) (a ∷ []) = joined_variables d a
+action_joins (the_action.Load k) (Some d) (a ∷ []) = joined_variables d a
+action_joins (the_action.Store k) to (a ∷ b ∷ []) = joined_variables a b
+action_joins the_action.At (Some d) (a ∷ i ∷ []) = joined_variables d a
+action_joins the_action.Put to (a ∷ i ∷ b ∷ []) = joined_variables a b
+action_joins the_action.Recv (Some d) (c ∷ []) = joined_variables d c
+action_joins the_action.Send to (c ∷ a ∷ []) = joined_variables c a
 action_joins (the_action.Get g) (Some d) [] = Some (Variable d, Global)
 action_joins (the_action.Set g) to (a ∷ []) = Some (Variable a, Global)
 action_joins (the_action.Int k) to from = None
@@ -66,7 +66,7 @@ op_joins (Return None) = None
 
 abbrev pub if_pointer_like : TacFn → Option (Member × Member) → Option (Member × Member)
 if_pointer_like f None = None
-if_pointer_like f (Some p) = if is_pointer_like_in f p.0 && is_pointer_like_in f p.1 then Some p else None
+if_pointer_like f (Some p) = if is_pointer_like_member f p.0 && is_pointer_like_member f p.1 then Some p else None
 
 -- the two that an instruction of a function joins
 abbrev pub joins : TacFn → Op → Option (Member × Member)

@@ -2,13 +2,9 @@ pub mod Code
 pub mod Flow
 pub mod Frames
 pub mod Joins
-pub mod Making
 pub mod Ops
-pub mod Quick
 pub mod Sizes
 pub mod Steps
-pub mod Stretches
 pub mod Tac
-pub mod Transfers
 pub mod Views
 pub mod Widths

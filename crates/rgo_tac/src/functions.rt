@@ -7,6 +7,7 @@ ghost use Rattle.rgo_tac.specs.declared.errors.FunctionError.TheVariants.{TooLar
 ghost use Rattle.rgo_tac.specs.Ops.{kind_of, operation_of, op_in, place_in};
 ghost use Rattle.rgo_tac.specs.Sizes.{AreTooMany};
 ghost use Rattle.rgo_tac.specs.Views.{body_of};
+ghost use Rattle.rgo_tac.specs.Widths.{OpsFitWidth};
 
 use crate::code::{Body, Instr};
 use crate::errors::FunctionError;
@@ -40,7 +41,7 @@ impl Model for TacFn {
     ghost Value = { spec.TacFn };
 
     ghost use Rattle.rgo_tac.specs.Views.{body_of};
-    ghost use Rattle.rgo_tac.specs.Widths.{AllFit};
+    ghost use Rattle.rgo_tac.specs.Widths.{OpsFitWidth};
 
     ghost view = { λ f. record {
       name = f.name;
@@ -51,7 +52,7 @@ impl Model for TacFn {
     } };
 
     ghost invariant = { λ f. (f.zeros ≡ map zero_of f.variables)
-        × AllFit f.body.lists f.body.pieces f.width f.body.instrs
+        × OpsFitWidth f.body.lists f.body.pieces f.width f.body.instrs
         × (length f.variables + 2 < 2 ^ 32) × (length f.body.instrs + 1 < 2 ^ 32) };
 }
 
@@ -63,7 +64,7 @@ fn zeros_of(alloc: Global, types: &[Type]) -> Result<Vec<Value>, AllocError>
 
 /// The instruction of this number.
 #[inline(always)]
-pub(crate) fn instr_at(instrs: &[Instr], n: usize) -> Option<Instr>
+pub fn instr_at(instrs: &[Instr], n: usize) -> Option<Instr>
     ensures instr { result ≡ slice_get instrs.now n }
     ensures below { IfSome result (λ instr. n < 2 ^ 63) }
 {
@@ -171,6 +172,26 @@ impl TacFn {
         ensures { result.now ≡ self.now.variables }
     {
         self.variables.items()
+    }
+
+    /// The zeros of its variables, which a frame of it begins with.
+    pub fn zeros(&self) -> &[Value]
+        ensures { result.now ≡ map zero_of self.now.variables }
+    {
+        self.zeros.items()
+    }
+
+    /// Its body, if a frame with this many variables has all that are named by instructions which stay in the frame.
+    #[inline(always)]
+    pub fn body_within(&self, variables: usize) -> Option<&Body>
+        ensures body { IfSome result (λ b. self.now.body
+            ≡ body_of b.now.lists b.now.pieces b.now.instrs b.now.places) }
+        ensures fits { IfSome result (λ b. OpsFitWidth b.now.lists b.now.pieces variables b.now.instrs) }
+    {
+        if variables < self.width {
+            return None;
+        }
+        Some(&self.body)
     }
 
     /// How many variables it has.

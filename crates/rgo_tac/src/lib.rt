@@ -1,27 +1,16 @@
-//! Three-address code, and the machine that runs it.
+//! Three-address code: its instructions, what they read, write and join, and by definition what it does when it runs.
 #![tactic(auto)]
 
-mod acts;
-mod cases;
 mod code;
 mod copies;
 mod copying;
 mod errors;
 mod flow;
-mod frames;
 mod functions;
 mod laws;
-mod machine;
-mod makes;
-mod marks;
 mod ops;
 mod programs;
-mod quick;
 mod regions;
-mod stands;
-mod states;
-mod stretches;
-mod transfers;
 mod widths;
 
 pub use code::{Body, Instr};
@@ -31,15 +20,8 @@ pub use copies::{
 };
 pub use errors::FunctionError;
 pub use flow::{ReadVariables, Targets, leads_to, reads, writes};
-pub use frames::Frame;
-pub use functions::TacFn;
+pub use functions::{TacFn, instr_at};
 pub use laws::examples;
-pub use machine::{TacMachine, start};
-pub use makes::make_object;
-pub use marks::Mark;
-pub use ops::{Kind, Op, Operands};
+pub use ops::{Kind, Op, Operands, items_at};
 pub use programs::Tac;
 pub use regions::{Class, Member, is_pointer_like, joins};
-pub use states::{TacState, tac_printed, tac_start, tac_step, tac_stuck};
-pub use stretches::stretch;
-pub use transfers::call_or_return;

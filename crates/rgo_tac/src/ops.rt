@@ -92,7 +92,7 @@ impl Operands {
 
 /// The items of the list of this number; none where there is no such list.
 #[inline(always)]
-pub(crate) fn items_at<T>(lists: &[Row<T>], n: u32) -> &[T]
+pub fn items_at<T>(lists: &[Row<T>], n: u32) -> &[T]
     ensures { result.now ≡ get_or lists.now n [] }
 {
     match lists.get(n as usize) {

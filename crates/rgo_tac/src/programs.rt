@@ -60,7 +60,7 @@ impl Tac {
         self.functions.items()
     }
     /// The body of the function of this number.
-    pub(crate) fn body(&self, function: usize) -> Option<&Body>
+    pub fn body(&self, function: usize) -> Option<&Body>
         ensures { MatchOption result (slice_get self.now.functions function ≡ None)
             (λ b. option_map (λ f. f.body) (slice_get self.now.functions function)
             ≡ Some (body_of b.now.lists b.now.pieces b.now.instrs b.now.places)) }

@@ -29,7 +29,7 @@ pub enum Class {
 
 /// Two variables.
 fn pair(a: u32, b: u32) -> Option<(Member, Member)>
-    ensures { result ≡ spec.joined a b }
+    ensures { result ≡ spec.joined_variables a b }
 {
     Some((Member::Variable(a), Member::Variable(b)))
 }
@@ -92,7 +92,7 @@ fn op_joins(op: Op<'_>) -> Option<(Member, Member)>
 
 /// Whether a member is a pointer, a slice or a channel, or the package variables.
 pub fn is_pointer_like(function: &TacFn, member: Member) -> bool
-    ensures { result ≡ spec.is_pointer_like_in function.now member }
+    ensures { result ≡ spec.is_pointer_like_member function.now member }
 {
     match member {
         Member::Variable(n) => match function.variables().get(n as usize) {

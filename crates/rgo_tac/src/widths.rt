@@ -2,7 +2,7 @@
 
 ghost use Rattle.std.specs.Prelude.{◌≤◌};
 ghost use Rattle.rgo_tac.specs.Ops.{numbers_of, operation_of};
-ghost use Rattle.rgo_tac.specs.Widths.{IsBelow, AreBelow, FitsIn, AllFit};
+ghost use Rattle.rgo_tac.specs.Widths.{IsBelow, AreBelow, OpFitsWidth, OpsFitWidth};
 
 use crate::code::Body;
 use crate::ops::{Op, Operands, decode};
@@ -28,7 +28,7 @@ fn width_of_operands(from: Operands) -> usize
 }
 
 fn width_of(op: Op<'_>) -> usize
-    ensures { FitsIn result (operation_of op.entry) }
+    ensures { OpFitsWidth result (operation_of op.entry) }
 {
     match op {
         Op::Do { to, from, .. } => width_of_target(to).max(width_of_operands(from)),
@@ -40,7 +40,7 @@ fn width_of(op: Op<'_>) -> usize
 #[tactic(auto, using(crate::proofs::Fitting::wider))]
 /// The width of an instruction, or the width that there was, if it is greater.
 fn widened(width: usize, op: Op<'_>) -> usize
-    ensures fits { FitsIn result (operation_of op.entry) }
+    ensures fits { OpFitsWidth result (operation_of op.entry) }
     ensures grows { width ≤ result }
 {
     width.max(width_of(op))
@@ -48,7 +48,7 @@ fn widened(width: usize, op: Op<'_>) -> usize
 
 /// The width of all instructions.
 pub fn width_of_all(body: &Body) -> usize
-    ensures { AllFit body.now.lists body.now.pieces result body.now.instrs }
+    ensures { OpsFitWidth body.now.lists body.now.pieces result body.now.instrs }
 {
     let mut width = 0;
     for instr in body.instrs.items() {

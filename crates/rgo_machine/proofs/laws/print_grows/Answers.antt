@@ -2,4 +2,4 @@ use Rattle.rgo_machine.proofs.Printing.{print_grows}
 use Rattle.rgo_machine.proofs.laws.print_grows.Goals as goal
 
 pub returns : goal.returns
-returns g c = print_grows (g.M.Machine.machine c.args.machine.now)
+returns g c machine = print_grows machine

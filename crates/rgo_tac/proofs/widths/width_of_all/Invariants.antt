@@ -1,8 +1,8 @@
 use Rattle.std.proofs.Common.{ℕ, ◌≤◌, drop}
-use Rattle.rgo_tac.specs.Widths.{AllFit}
+use Rattle.rgo_tac.specs.Widths.{OpsFitWidth}
 use Rattle.rgo_tac.proofs.widths.width_of_all.Given as goal
 
 abbrev pub invariant-loop-instr : goal.invariant-loop-instr
 invariant-loop-instr l =
-    (w : ℕ) → l.width ≤ w → AllFit l.body.lists l.body.pieces w (drop l.instr-index l.body.instrs)
-    → AllFit l.body.lists l.body.pieces w l.body.instrs
+    (w : ℕ) → l.width ≤ w → OpsFitWidth l.body.lists l.body.pieces w (drop l.instr-index l.body.instrs)
+    → OpsFitWidth l.body.lists l.body.pieces w l.body.instrs

@@ -1,0 +1,15 @@
+pub mod Advancing
+pub mod Frames
+pub mod Going
+pub mod Heap
+pub mod InPlace
+pub mod Keeping
+pub mod Limited
+pub mod Marked
+pub mod Meeting
+pub mod Newest
+pub mod Operating
+pub mod Reading
+pub mod Ready
+pub mod Stepping
+pub mod Unmet

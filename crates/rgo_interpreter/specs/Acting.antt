@@ -1,0 +1,68 @@
+-- What answers of a machine's code say of its definition.
+use Rattle.std.specs.Prelude.{◌≡◌, ℕ, List, [], ◌∷◌, ◌++◌, Option, Some, None, Result, Ok, Err, slice_get}
+use Rattle.std.specs.Prelude.{option_and_then}
+use Rattle.std.specs.declared.alloc.AllocError.{AllocError}
+use Rattle.rgo_memory.specs.declared.values.Value.{Value}
+use Rattle.rgo_memory.specs.Memory.{Memory}
+use Rattle.rgo_interpreter.specs.declared.machines.Did.{Did}
+use Rattle.rgo_interpreter.specs.declared.machines.Did.TheVariants as did
+use Rattle.rgo_interpreter.specs.declared.machines.Stand.{Stand as CodeStand}
+use Rattle.rgo_interpreter.specs.declared.machines.Stand.TheVariants as code
+use Rattle.rgo_interpreter.specs.declared.steps.Stepped.{Stepped}
+use Rattle.rgo_interpreter.specs.declared.steps.Stepped.TheVariants as stepped
+use Rattle.rgo_machine.specs.Machines.{Act, Moves, Returns, Prints, Traps, State, Machine}
+use Rattle.rgo_machine.specs.Machines.{Stand, AtReceive, AtSend, AtClose, AtCall, AtStart, Elsewhere}
+
+module _ {F : Type 0} where
+  -- where a frame stands, without how it continues
+  abbrev pub stand_of : Stand F → CodeStand
+  stand_of (AtReceive channel blank go_on) = code.Receive channel blank
+  stand_of (AtSend channel value place next) = code.Send channel value place
+  stand_of (AtClose channel place next) = code.Close channel place
+  stand_of (AtCall next callee) = code.Call
+  stand_of (AtStart next child) = code.Start
+  stand_of Elsewhere = code.Elsewhere
+
+  -- the frame after an operation on a channel that gave this value; as it was where it stands at no channel
+  abbrev pub passed : F → Value → Stand F → F
+  passed f v (AtReceive channel blank go_on) = go_on v
+  passed f v (AtSend channel value place next) = next
+  passed f v (AtClose channel place next) = next
+  passed f v _ = f
+
+  -- the frame after a call or a start, and the new one
+  abbrev pub entered : Stand F → Option (F × F)
+  entered (AtCall next callee) = Some (next, callee)
+  entered (AtStart next child) = Some (next, child)
+  entered _ = None
+
+  -- what a call or a start left of a frame; nothing changed on allocation failure, and where there was none
+  abbrev pub FrameEnters : Result (Option F) AllocError → (before after : F) → Stand F → Type 0
+  FrameEnters (Ok (Some begun)) before after stand = entered stand ≡ Some (after, begun)
+  FrameEnters (Ok None) before after stand = (entered stand ≡ None) × (after ≡ before)
+  FrameEnters (Err e) before after stand = after ≡ before
+
+  -- What a frame did by itself, with the memory, the frame and the print before and after; on allocation failure
+  -- nothing changed.
+  abbrev pub FrameActs : Result Did AllocError → (m n : Memory) (f g : F) (old new : List ℕ) → Act F → Type 0
+  FrameActs (Ok did.Moves) m n f g old new act = (act ≡ Moves n g) × (new ≡ old)
+  FrameActs (Ok (did.Returns value)) m n f g old new act = (act ≡ Returns value) × (n ≡ m) × (g ≡ f) × (new ≡ old)
+  FrameActs (Ok did.Prints) m n f g old new act =
+      (bytes : List ℕ) × (act ≡ Prints g bytes) × (n ≡ m) × (new ≡ old ++ bytes)
+  FrameActs (Ok (did.Traps trap at)) m n f g old new act = (act ≡ Traps trap at) × (n ≡ m) × (g ≡ f) × (new ≡ old)
+  FrameActs (Err e) m n f g old new act = (n ≡ m) × (g ≡ f) × (new ≡ old)
+
+  -- what a step of the machine answers; where there is none, and on allocation failure, nothing changed
+  abbrev pub MachineSteps : Result Stepped AllocError → (before after : State F) → Option (State F) → Type 0
+  MachineSteps (Ok stepped.Advanced) before after next = (next ≡ Some after) × (after.ended ≡ None)
+  MachineSteps (Ok (stepped.Ended e)) before after next = (next ≡ Some after) × (after.ended ≡ Some e)
+  MachineSteps (Ok stepped.NotEnabled) before after next = (next ≡ None) × (after ≡ before)
+  MachineSteps (Err e) before after next = after ≡ before
+
+  -- where the newest frame of a goroutine stands; none where it has returned, or does not exist
+  abbrev pub newest_stand : Machine F → List F → Option CodeStand
+  newest_stand machine [] = None
+  newest_stand machine (f ∷ callers) = Some (stand_of (machine.stand f))
+
+  abbrev pub standing : Machine F → State F → ℕ → Option CodeStand
+  standing machine s g = option_and_then (newest_stand machine) (slice_get s.goroutines g)

@@ -1,0 +1,9 @@
+pub mod Acting
+pub mod Alone
+pub mod Blocks
+pub mod Lending
+pub mod Meetings
+pub mod Reports
+pub mod Turning
+pub mod Turns
+pub mod Views

@@ -1,0 +1,46 @@
+-- Who meets: a receiver and a sender that stand at one open channel without a buffer.
+use Rattle.std.specs.Prelude.{◌≡◌, ◌<◌, ℕ, Option, Some, None, option_and_then}
+use Rattle.std.specs.Option.{option_map}
+use Rattle.rgo_memory.specs.declared.values.Value.{Value}
+use Rattle.rgo_memory.specs.declared.values.Value.TheVariants as value
+use Rattle.rgo_machine.specs.declared.picks.Pick.TheVariants.{Meet}
+use Rattle.rgo_interpreter.specs.Acting.{standing}
+use Rattle.rgo_interpreter.specs.Alone.{receives_at, sends_at}
+use Rattle.rgo_machine.specs.Machines.{Machine, State, step_by}
+
+-- the number of the channel, unless it is nil
+abbrev pub number_of : Value → Option ℕ
+number_of (value.Object n) = Some n
+number_of _ = None
+
+module _ {F : Type 0} (machine : Machine F) where
+  -- the channel from which a goroutine receives next, and that to which it sends
+  abbrev pub receiver_at : State F → ℕ → Option ℕ
+  receiver_at s g = option_and_then number_of (receives_at (standing machine s g))
+
+  abbrev pub sender_at : State F → ℕ → Option ℕ
+  sender_at s g = option_and_then number_of (option_map (λ send. send.0) (sends_at (standing machine s g)))
+
+  -- no goroutine meets this sender
+  abbrev pub IsUnmet : State F → ℕ → Type 0
+  IsUnmet s sender = (receiver : ℕ) → step_by machine s (Meet receiver sender) ≡ None
+
+  -- this one does
+  abbrev pub CanMeet : State F → (receiver sender : ℕ) → Type 0
+  CanMeet s receiver sender = step_by machine s (Meet receiver sender) ≡ None → ⊥
+
+  -- of the first `count` goroutines, one that receives at each channel where one does
+  pub record FindsReceivers (s : State F) (count : ℕ) (found : ℕ → Option ℕ) : Type 0 where
+    pub sound : (channel receiver : ℕ) → found channel ≡ Some receiver → receiver_at s receiver ≡ Some channel
+    pub complete : (channel receiver : ℕ) → receiver < count → receiver_at s receiver ≡ Some channel
+        → found channel ≡ None → ⊥
+
+  -- the receiver of this sender; none where there is none
+  abbrev pub FindsPartner : State F → (sender : ℕ) → Option ℕ → Type 0
+  FindsPartner s sender None = IsUnmet s sender
+  FindsPartner s sender (Some receiver) = CanMeet s receiver sender
+
+  -- a receiver and a sender that meet; none where no two do
+  abbrev pub FindsMeeting : State F → Option (ℕ × ℕ) → Type 0
+  FindsMeeting s None = (sender : ℕ) → IsUnmet s sender
+  FindsMeeting s (Some met) = CanMeet s met.0 met.1

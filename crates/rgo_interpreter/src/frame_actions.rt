@@ -1,0 +1,119 @@
+//! What actions do to the frames of any machine.
+
+ghost use Rattle.std.specs.Prelude.{◌≡◌, ◌<◌, ℕ, length, IfSome, MatchOption};
+ghost use Rattle.rgo_memory.specs.declared.values.Value as the_value;
+ghost use Rattle.rgo_interpreter.specs.Acting.{stand_of, passed};
+ghost use Rattle.rgo_machine.specs.Actions as spec;
+
+use crate::machines::Stand;
+use rgo_ast::Place;
+use rgo_memory::Value;
+use rgo_typed::{Action, Base, Row, Type};
+use std::alloc::Global;
+
+/// The type of an action that gives no value. Allocates nothing.
+pub fn no_type(alloc: Global) -> Type
+    ensures { result ≡ spec.no_type }
+{
+    Type {
+        layers: Row::new(Vec::new(alloc)),
+        base: Base::Int,
+    }
+}
+
+/// Whether a value is true. One that is not a bool counts as false.
+#[inline(always)]
+pub fn is_true(value: Value) -> bool
+    ensures { result ≡ spec.is_true value }
+{
+    match value {
+        Value::Bool(b) => b,
+        _ => false,
+    }
+}
+
+/// Where a frame of type `F` stands whose next action is this one on these values, at a place of the text. A closed
+/// channel gives `blank`.
+pub fn at_channel<F>(action: Action, blank: Value, at: Place, values: &[Value]) -> Stand
+    ensures { (go_on : the_value.Value → F)
+        → result ≡ stand_of (spec.at_channel action blank at go_on values.now) }
+{
+    match (action, values) {
+        (Action::Recv, [channel]) => Stand::Receive {
+            channel: *channel,
+            blank,
+        },
+        (Action::Send, [channel, value]) => Stand::Send {
+            channel: *channel,
+            value: *value,
+            place: at,
+        },
+        (Action::Close, [channel]) => Stand::Close {
+            channel: *channel,
+            place: at,
+        },
+        (
+            Action::Int(_)
+            | Action::Bool(_)
+            | Action::Nil
+            | Action::Copy
+            | Action::Binary(_)
+            | Action::Neg
+            | Action::Not
+            | Action::IsNil
+            | Action::Len
+            | Action::Load(_)
+            | Action::Store(_)
+            | Action::At
+            | Action::Put
+            | Action::New(_)
+            | Action::Slice
+            | Action::Chan
+            | Action::Recv
+            | Action::Send
+            | Action::Close
+            | Action::Get(_)
+            | Action::Set(_),
+            _,
+        ) => Stand::Elsewhere,
+    }
+}
+
+/// The value with which a frame of type `F` continues after this action on these values, where it is an operation on a
+/// channel that gave this value: a send or a close gives nil.
+pub fn given<F>(action: Action, values: &[Value], value: Value) -> Option<Value>
+    ensures passes { (f : F) (blank : the_value.Value) (at : ℕ) (go_on : the_value.Value → F)
+        → MatchOption result (passed f value (spec.at_channel action blank at go_on values.now) ≡ f)
+        (λ v. passed f value (spec.at_channel action blank at go_on values.now) ≡ go_on v) }
+    ensures some { IfSome result (λ v. 0 < length values.now) }
+{
+    match (action, values) {
+        (Action::Recv, [_]) => Some(value),
+        (Action::Send, [_, _]) => Some(Value::Nil),
+        (Action::Close, [_]) => Some(Value::Nil),
+        (
+            Action::Int(_)
+            | Action::Bool(_)
+            | Action::Nil
+            | Action::Copy
+            | Action::Binary(_)
+            | Action::Neg
+            | Action::Not
+            | Action::IsNil
+            | Action::Len
+            | Action::Load(_)
+            | Action::Store(_)
+            | Action::At
+            | Action::Put
+            | Action::New(_)
+            | Action::Slice
+            | Action::Chan
+            | Action::Recv
+            | Action::Send
+            | Action::Close
+            | Action::Get(_)
+            | Action::Set(_),
+            _,
+        ) => None,
+    }
+}

@@ -1,7 +1,0 @@
-use Rattle.std.proofs.Common.{rules, arith}
-use Rattle.rgo_meaning.proofs.Stacks.{last_of}
-use Rattle.rgo_meaning.proofs.stack.Stack.last.Goals as goal
-
-pub returns : goal.returns
-returns g c =
-    search (rules, last_of c.deref.result.now c.args.count c.saturating_sub.result (omega (arith, c.deref.ensures.len)))

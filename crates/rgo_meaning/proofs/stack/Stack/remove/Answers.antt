@@ -1,6 +1,0 @@
-use Rattle.std.proofs.Common.{rules, arith}
-use Rattle.rgo_meaning.proofs.Stacks.{older_of}
-use Rattle.rgo_meaning.proofs.stack.Stack.remove.Goals as goal
-
-pub returns : goal.returns
-returns g c = search (rules, older_of c.self.inside.items.items c.args.count c.saturating_sub.result (omega arith))

@@ -1,7 +1,0 @@
-use Rattle.std.proofs.Common.{rules, arith}
-use Rattle.rgo_meaning.proofs.Stacks.{more_of}
-use Rattle.rgo_meaning.proofs.stack.Stack.repeat.Goals as goal
-
-pub returns : goal.returns
-returns g c =
-    search (rules, more_of c.self.inside.items.items c.args.count c.saturating_sub-from.result (omega arith))

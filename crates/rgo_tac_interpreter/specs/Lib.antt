@@ -1,0 +1,4 @@
+pub mod Making
+pub mod Quick
+pub mod Stretches
+pub mod Transfers
