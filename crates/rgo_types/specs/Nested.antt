@@ -21,7 +21,7 @@ use Rattle.rgo_typing_expressions.specs.Types.{type_of}
 use Rattle.rgo_typing_operations.specs.declared.results.Checked.{Checked}
 use Rattle.rgo_typing_statements.specs.Outcomes.{Outcome, Passes}
 use Rattle.rgo_typing_statements.specs.Statements.{Enclosing, in_block, all_sites, clause_sites, after_all, after_block, after_clause}
-use Rattle.rgo_typing_statements.specs.Statements.{in_a_loop, optional_nodes, optional_type, condition_sites}
+use Rattle.rgo_typing_statements.specs.Statements.{within_loop, optional_nodes, optional_type, condition_sites}
 use Rattle.rgo_typing_statements.specs.TypedStatements.{has_clause, branches, optional_term, typed_all, typed_clause}
 use Rattle.rgo_types.specs.Flow.{ends}
 use Rattle.rgo_types.specs.Views.{optional_shape_of, optional_term_of}
@@ -64,12 +64,12 @@ abbrev pub loop_sites : Enclosing → Context → Option Expr → tree.Clause �
 loop_sites f c test post body at =
     optional_nodes c test
     ++ (clause_sites f c post
-    ++ (all_sites (in_a_loop f) (in_block (after_clause c post)) body ++ condition_sites (optional_type c test) at))
+    ++ (all_sites (within_loop f) (in_block (after_clause c post)) body ++ condition_sites (optional_type c test) at))
 
 abbrev pub typed_loop : Enclosing → Context → Option Expr → tree.Clause → tree.Stmts → ℕ → Stmt
 typed_loop f c test post body at =
     typed_tree.Loop (optional_term c test)
-    (stmts_of (typed_all (in_a_loop f) (in_block (after_clause c post)) body)) (stmts_of (typed_clause f c post)) at
+    (stmts_of (typed_all (within_loop f) (in_block (after_clause c post)) body)) (stmts_of (typed_clause f c post)) at
 
 -- of a function with this result type, from where its body begins: its statements, and then its end
 abbrev pub body_outcome : Option «Type» → Context → tree.Function → Outcome

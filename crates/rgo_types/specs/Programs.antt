@@ -51,14 +51,14 @@ body_sites c f =
     all_sites (in_function c f) (at_body c f) (stmts_of f.body)
     ++ (f.end, node.End (is_some f.result_type) (ends (stmts_of f.body))) ∷ []
 
-abbrev pub decl_sites : Context → Decl → List Site
-decl_sites c (tree.Types types at) = []
-decl_sites c (tree.Vars vars at) = []
-decl_sites c (tree.Func f) = body_sites c f
+abbrev pub decl_body_sites : Context → Decl → List Site
+decl_body_sites c (tree.Types types at) = []
+decl_body_sites c (tree.Vars vars at) = []
+decl_body_sites c (tree.Func f) = body_sites c f
 
 abbrev pub bodies_sites : Context → List Decl → List Site
 bodies_sites c [] = []
-bodies_sites c (d ∷ l) = decl_sites c d ++ bodies_sites c l
+bodies_sites c (d ∷ l) = decl_body_sites c d ++ bodies_sites c l
 
 abbrev pub typed_function : Context → tree.Function → Function
 typed_function c f = record {

@@ -123,7 +123,7 @@ fn check_decl<'a>(
     functions: &mut Vec<Function>,
     decl: &'a Decl,
 ) -> Result<(), TypeError>
-    ensures checked { Checks result (spec.decl_sites top.now (decl_of decl.now)) }
+    ensures checked { Checks result (spec.decl_body_sites top.now (decl_of decl.now)) }
     ensures typed { OnOk result (map typed.function_of functions.new.items
         ≡ map typed.function_of functions.old.items ++ spec.typed_decl top.now (decl_of decl.now)) }
 {

@@ -11,6 +11,7 @@ use Rattle.rgo_typing_rules.specs.declared.meanings.Meaning.{Meaning}
 use Rattle.rgo_typing_rules.specs.declared.meanings.Meaning.TheVariants as meaning
 use Rattle.rgo_typing_rules.specs.declared.roles.Role.{Role}
 use Rattle.rgo_typing_rules.specs.declared.roles.Role.TheVariants as role
+use Rattle.rgo_typing_rules.specs.Builtins.{result_of}
 use Rattle.rgo_typing_rules.specs.Constants.{folded_shape, folded_shapes}
 use Rattle.rgo_typing_rules.specs.Nodes as node
 use Rattle.rgo_typing_rules.specs.Nodes.{Node, is_target, is_printed, wants_value}
@@ -108,9 +109,8 @@ call_typed : (p : Package) (r : Role) (c : Callee) (args : List Shape) → broke
     → is_typed r (call_shape p c) ≡ true
 call_typed p r (callee.Missing at) args h = absurd (true≢false (keeps rule.NoSuchName node.CallMissing h))
 call_typed p r callee.Nothing args h = absurd (true≢false (keeps rule.NotCall node.CallNothing h))
-call_typed p r callee.Printer args h = ap not (keeps rule.NoResult (node.Print r args) h)
-call_typed p r callee.Closer args h = ap not (keeps rule.NoResult (node.CallClose r args) h)
-call_typed p r callee.Length args h = refl
+call_typed p r (callee.Builtin b) args h =
+    result_typed r (result_of b) (keeps rule.NoResult (node.CallBuiltin b r args) h)
 call_typed p r (callee.Routine n) args h =
     result_typed r (signature_at p n).result_type (keeps rule.NoResult (node.Call r (signature_at p n) args) h)
 

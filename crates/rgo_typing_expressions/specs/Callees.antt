@@ -1,15 +1,18 @@
 -- Expressions without their parentheses, and what a callee is.
-use Rattle.std.specs.Prelude.{ℕ, Bool, true, false, ◌&&◌, List, Option, Some, None, if◌then◌else◌, bytes_eq, codes}
+use Rattle.std.specs.Prelude.{ℕ, Bool, true, false, ◌&&◌, List, Option, Some, None, is_none, bytes_eq}
 use Rattle.rgo_ast.specs.Tree as tree
 use Rattle.rgo_ast.specs.Tree.{Expr}
 use Rattle.rgo_ast.specs.declared.ops.UnaryOp.{UnaryOp}
 use Rattle.rgo_ast.specs.declared.ops.UnaryOp.TheVariants as unary
+use Rattle.rgo_typing_rules.specs.declared.builtins.Builtin as builtin
+use Rattle.rgo_typing_rules.specs.declared.builtins.Builtin.TheVariants.{Println}
+use Rattle.rgo_typing_rules.specs.Builtins.{of_fmt, named, name_of, result_of}
 use Rattle.rgo_typing_rules.specs.declared.meanings.Meaning.{Meaning}
 use Rattle.rgo_typing_rules.specs.declared.meanings.Meaning.TheVariants as meaning
 use Rattle.rgo_typing_rules.specs.declared.roles.Role.{Role}
 use Rattle.rgo_typing_rules.specs.declared.roles.Role.TheVariants as role
 use Rattle.rgo_typing_expressions.specs.declared.callees.Callee.{Callee}
-use Rattle.rgo_typing_expressions.specs.declared.callees.Callee.TheVariants.{Missing, Printer, Length, Closer, Routine, Nothing}
+use Rattle.rgo_typing_expressions.specs.declared.callees.Callee.TheVariants.{Missing, Builtin, Routine, Nothing}
 use Rattle.rgo_typing_expressions.specs.Packages.{Context}
 use Rattle.rgo_typing_expressions.specs.Scopes.{meaning_of}
 
@@ -22,13 +25,16 @@ abbrev pub named_callee : ℕ → Option Meaning → Callee
 named_callee at None = Missing at
 named_callee at (Some (meaning.Package false)) = Missing at
 named_callee at (Some (meaning.Function n)) = Routine n
-named_callee at (Some meaning.Len) = Length
-named_callee at (Some meaning.Close) = Closer
+named_callee at (Some (meaning.Builtin b)) = Builtin b
 named_callee at (Some _) = Nothing
+
+abbrev pub builtin_callee : Option builtin.Builtin → Callee
+builtin_callee None = Nothing
+builtin_callee (Some b) = Builtin b
 
 -- `fmt` followed by a function's name
 abbrev pub package_callee : ℕ → Option Meaning → List ℕ → Callee
-package_callee at (Some (meaning.Package true)) name = if bytes_eq name (codes "Println") then Printer else Nothing
+package_callee at (Some (meaning.Package true)) name = builtin_callee (named of_fmt name)
 package_callee at (Some (meaning.Package false)) name = Missing at
 package_callee at _ name = Nothing
 
@@ -62,7 +68,7 @@ abbrev pub is_package_selector : Context → Expr → Bool
 is_package_selector c f = bare_package_selector c (bare f)
 
 abbrev pub selects_println : Expr → Bool
-selects_println (tree.Select e field) = bytes_eq field.name (codes "Println")
+selects_println (tree.Select e field) = bytes_eq field.name (name_of Println)
 selects_println _ = false
 
 abbrev pub role_if : Bool → Role
@@ -73,8 +79,9 @@ role_if false = role.Value
 abbrev pub args_role : Context → Expr → Role
 args_role c f = role_if (is_package_selector c f && selects_println (bare f))
 
+-- a builtin that has a value has no effect
 abbrev pub has_effect : Callee → Bool
-has_effect Length = false
+has_effect (Builtin b) = is_none (result_of b)
 has_effect _ = true
 
 abbrev pub is_receive : UnaryOp → Bool
@@ -86,7 +93,7 @@ bare_may_stand c (tree.Called f args at) = has_effect (callee_of c f)
 bare_may_stand c (tree.Unary op e at) = is_receive op
 bare_may_stand c _ = false
 
--- a call other than of `len`, or a receive: it may be a statement
+-- a call other than of a builtin that has a value, or a receive: it may be a statement
 abbrev pub may_stand : Context → Expr → Bool
 may_stand c e = bare_may_stand c (bare e)
 

@@ -74,9 +74,7 @@ values_of (tree.an_element x e l) = tree.an_expr e (values_of l)
 
 abbrev pub call_node : Package → Role → Callee → List Shape → Node
 call_node p r (callee.Missing at) args = node.CallMissing
-call_node p r callee.Printer args = node.Print r args
-call_node p r callee.Length args = node.CallLen args
-call_node p r callee.Closer args = node.CallClose r args
+call_node p r (callee.Builtin b) args = node.CallBuiltin b r args
 call_node p r (callee.Routine n) args = node.Call r (signature_at p n) args
 call_node p r callee.Nothing args = node.CallNothing
 

@@ -9,6 +9,8 @@ use Rattle.rgo_typing_rules.specs.Types.{spelled}
 use Rattle.rgo_typing_rules.specs.declared.meanings.Meaning.{Meaning}
 use Rattle.rgo_typing_rules.specs.declared.meanings.Meaning.TheVariants as meaning
 use Rattle.rgo_typing_rules.specs.Meanings.{Signature}
+use Rattle.rgo_typing_rules.specs.declared.builtins.Builtin.{Builtin}
+use Rattle.rgo_typing_rules.specs.Builtins.{predeclared, named}
 use Rattle.rgo_scopes.specs.Blocks.{found, declared, entered, left, no_names}
 use Rattle.rgo_typing_expressions.specs.Packages.{Fields, Package, Scope, Context}
 pub use Rattle.rgo_typing_operations.specs.Types.{int, bool}
@@ -35,7 +37,11 @@ signature_at p n = get_or p.functions n no_signature
 abbrev pub local_at : Scope → ℕ → «Type»
 local_at g n = get_or g.types n int
 
--- the words that each program has: `int bool true false nil len close`, and `fmt`
+abbrev pub builtin_meaning : Option Builtin → Option Meaning
+builtin_meaning None = None
+builtin_meaning (Some b) = Some (meaning.Builtin b)
+
+-- the words that each program has: `int bool true false nil`, `fmt` and the predeclared builtins
 abbrev pub universe : Bool → List ℕ → Option Meaning
 universe imported name =
     if bytes_eq name (codes "int") then Some (meaning.Basic Int) else
@@ -43,9 +49,7 @@ universe imported name =
     (if bytes_eq name (codes "true") then Some (meaning.Truth true) else
     (if bytes_eq name (codes "false") then Some (meaning.Truth false) else
     (if bytes_eq name (codes "nil") then Some meaning.Nil else
-    (if bytes_eq name (codes "len") then Some meaning.Len else
-    (if bytes_eq name (codes "close") then Some meaning.Close else
-    (if bytes_eq name (codes "fmt") then Some (meaning.Package imported) else None)))))))
+    (if bytes_eq name (codes "fmt") then Some (meaning.Package imported) else builtin_meaning (named predeclared name))))))
 
 abbrev pub global_meaning_if : Package → Option Meaning → List ℕ → Option Meaning
 global_meaning_if p (Some m) name = Some m

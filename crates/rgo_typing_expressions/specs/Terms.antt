@@ -1,11 +1,13 @@
 -- The typed tree of an expression.
-use Rattle.std.specs.Prelude.{ℕ, zero, suc, ◌++◌, Bool, pos, List, [], ◌∷◌, drop, Option, Some, None}
+use Rattle.std.specs.Prelude.{ℕ, zero, suc, ◌++◌, pos, List, [], ◌∷◌, drop, Option, Some, None}
 use Rattle.rgo_ast.specs.Tree as tree
 use Rattle.rgo_ast.specs.Tree.{Expr, Exprs, Elements, Capacity}
+use Rattle.rgo_typed.specs.declared.actions.Action.{Action}
 use Rattle.rgo_typed.specs.declared.actions.Action.TheVariants as action
 use Rattle.rgo_typed.specs.declared.types.Type.{«Type»}
 use Rattle.rgo_typed.specs.Tree.{Term, Terms, Local, Apply, Build, Call, no_terms, a_term}
 use Rattle.rgo_typing_rules.specs.Types.{plain, slice_of, chan_of}
+use Rattle.rgo_typing_rules.specs.Builtins.{result_of, action_of}
 use Rattle.rgo_typing_rules.specs.Shapes as shape
 use Rattle.rgo_typing_rules.specs.Shapes.{Shape}
 use Rattle.rgo_typing_rules.specs.declared.meanings.Meaning.{Meaning}
@@ -49,9 +51,14 @@ abbrev pub result_or_int : Option «Type» → «Type»
 result_or_int None = int
 result_or_int (Some t) = t
 
+-- a call of a builtin; one without a value is only a statement, so that its `nil` is not used
+abbrev pub builtin_term : Option Action → Option «Type» → Terms → ℕ → Term
+builtin_term (Some a) (Some ty) args at = Apply a args ty at
+builtin_term _ _ args at = atom action.Nil int at
+
 abbrev pub call_term : Package → Callee → Terms → ℕ → Term
 call_term p (callee.Routine n) args at = Call n args (result_or_int (signature_at p n).result_type) at
-call_term p callee.Length args at = Apply action.Len args int at
+call_term p (callee.Builtin b) args at = builtin_term (action_of b) (result_of b) args at
 call_term p _ args at = atom action.Nil int at
 
 abbrev pub count : Terms → ℕ

@@ -9,6 +9,7 @@ use Rattle.rgo_typed.specs.declared.types.Base.TheVariants.{Pointer}
 use Rattle.rgo_typing_rules.specs.Types.{plain, slice_of, chan_of}
 use Rattle.rgo_typing_rules.specs.Shapes as shape
 use Rattle.rgo_typing_rules.specs.Shapes.{Shape}
+use Rattle.rgo_typing_rules.specs.Builtins.{result_of}
 use Rattle.rgo_typing_rules.specs.Constants.{folded_shapes, folded_shape}
 use Rattle.rgo_typing_rules.specs.declared.meanings.Meaning.{Meaning}
 use Rattle.rgo_typing_rules.specs.declared.meanings.Meaning.TheVariants as meaning
@@ -66,9 +67,7 @@ result_shape None = shape.NoResult
 result_shape (Some t) = shape.Value t
 
 abbrev pub call_shape : Package → Callee → Shape
-call_shape p callee.Printer = shape.NoResult
-call_shape p callee.Closer = shape.NoResult
-call_shape p callee.Length = shape.Value int
+call_shape p (callee.Builtin b) = result_shape (result_of b)
 call_shape p (callee.Routine n) = result_shape (signature_at p n).result_type
 call_shape p _ = shape.Untyped
 

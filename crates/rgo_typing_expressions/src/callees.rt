@@ -1,25 +1,21 @@
 //! What a callee is, and which expressions may be statements or be assigned to.
 #![tactic(auto)]
 
-ghost use Rattle.std.specs.Prelude.{◌≡◌, bytes_eq, codes};
+ghost use Rattle.std.specs.Prelude.{◌≡◌};
 ghost use Rattle.rgo_ast.specs.Views.{expr_of};
 ghost use Rattle.rgo_typing_expressions.specs.Callees as spec;
 
 use crate::checkers::Checker;
 use rgo_ast::{Expr, Place, UnaryOp};
-use rgo_typing_rules::{Meaning, Role};
+use rgo_typing_rules::{Builtin, Meaning, Role};
 
 /// What is called.
 #[derive(Clone, Copy)]
 pub enum Callee {
     /// A name that nothing declares, at this place.
     Missing(Place),
-    /// `fmt.Println`.
-    Printer,
-    /// `len`.
-    Length,
-    /// `close`.
-    Closer,
+    /// A builtin.
+    Builtin(Builtin),
     /// The function of this number.
     Routine(usize),
     /// What is no function.
@@ -36,12 +32,6 @@ pub fn bare(e: &Expr) -> &Expr
     }
 }
 
-fn is_println(name: &[u8]) -> bool
-    ensures { result ≡ bytes_eq name.now (codes "Println") }
-{
-    name == "Println".as_bytes()
-}
-
 /// What a name is as a callee.
 pub fn named_callee(at: Place, meaning: Option<Meaning>) -> Callee
     ensures { result ≡ spec.named_callee at meaning }
@@ -49,8 +39,7 @@ pub fn named_callee(at: Place, meaning: Option<Meaning>) -> Callee
     match meaning {
         None | Some(Meaning::Package(false)) => Callee::Missing(at),
         Some(Meaning::Function(number)) => Callee::Routine(number),
-        Some(Meaning::Len) => Callee::Length,
-        Some(Meaning::Close) => Callee::Closer,
+        Some(Meaning::Builtin(builtin)) => Callee::Builtin(builtin),
         Some(_) => Callee::Nothing,
     }
 }
@@ -59,13 +48,10 @@ fn package_callee(at: Place, meaning: Option<Meaning>, name: &[u8]) -> Callee
     ensures { result ≡ spec.package_callee at meaning name.now }
 {
     match meaning {
-        Some(Meaning::Package(true)) => {
-            if is_println(name) {
-                Callee::Printer
-            } else {
-                Callee::Nothing
-            }
-        }
+        Some(Meaning::Package(true)) => match Builtin::of_fmt(name) {
+            None => Callee::Nothing,
+            Some(builtin) => Callee::Builtin(builtin),
+        },
         Some(Meaning::Package(false)) => Callee::Missing(at),
         _ => Callee::Nothing,
     }
@@ -75,8 +61,18 @@ fn selects_println(e: &Expr) -> bool
     ensures { result ≡ spec.selects_println (expr_of e.now) }
 {
     match e {
-        Expr::Select(_, field) => is_println(field.name.bytes()),
+        Expr::Select(_, field) => field.name.bytes() == Builtin::Println.name().as_bytes(),
         _ => false,
+    }
+}
+
+/// Whether a call may have an effect. A builtin that has a value has none.
+fn has_effect(callee: Callee) -> bool
+    ensures { result ≡ spec.has_effect callee }
+{
+    match callee {
+        Callee::Builtin(builtin) => builtin.result_type().is_none(),
+        _ => true,
     }
 }
 
@@ -131,13 +127,13 @@ impl<'p, 'a> Checker<'p, 'a> {
         }
     }
 
-    /// Whether it is a call other than of `len`, or a receive, and so may be a statement (The Go
-    /// Programming Language Specification, "Expression statements").
+    /// Whether it is a call other than of a builtin that has a value, or a receive, and so may be a
+    /// statement (The Go Programming Language Specification, "Expression statements").
     pub fn may_stand(&self, e: &Expr) -> bool
         ensures { result ≡ spec.may_stand self.now (expr_of e.now) }
     {
         match bare(e) {
-            Expr::Call(f, _, _) => !matches!(self.resolve_callee(f), Callee::Length),
+            Expr::Call(f, _, _) => has_effect(self.resolve_callee(f)),
             Expr::Unary(op, _, _) => matches!(op, UnaryOp::Receive),
             _ => false,
         }

@@ -4,13 +4,12 @@
 ghost use Rattle.std.specs.Prelude.{◌≡◌, [], ◌∷◌, IfOk, map};
 ghost use Rattle.rgo_typed.specs.Tree as tree;
 ghost use Rattle.rgo_typed.specs.Views.{term_of};
-ghost use Rattle.rgo_typed.specs.declared.actions.Action.TheVariants.{Len, Nil};
+ghost use Rattle.rgo_typing_rules.specs.Builtins.{result_of, action_of};
 ghost use Rattle.rgo_typing_rules.specs.Nodes as node;
-ghost use Rattle.rgo_typing_rules.specs.Shapes as shape;
 ghost use Rattle.rgo_typing_rules.specs.Views.{shape_of, optional_kind_of, signature_of};
 ghost use Rattle.rgo_typing_expressions.specs.Checking.{call_place, call_node};
-ghost use Rattle.rgo_typing_expressions.specs.Results.{ChecksTo, Matches};
-ghost use Rattle.rgo_typing_expressions.specs.Scopes.{int, signature_at};
+ghost use Rattle.rgo_typing_expressions.specs.Results.{ChecksTo};
+ghost use Rattle.rgo_typing_expressions.specs.Scopes.{signature_at};
 ghost use Rattle.rgo_typing_expressions.specs.Terms as terms;
 ghost use Rattle.rgo_typing_expressions.specs.Types as types;
 
@@ -19,11 +18,9 @@ use crate::packages::Package;
 use crate::results::Values;
 use rgo_ast::Place;
 use rgo_typed::{Action, Base, Term, Type};
-use rgo_typing_nodes::{
-    check_close, check_length, check_missing, check_nothing, check_print, check_routine,
-};
+use rgo_typing_nodes::{check_builtin, check_missing, check_nothing, check_routine};
 use rgo_typing_operations::{Checked, atom, plain};
-use rgo_typing_rules::{Kind, Role, Shape, Signature, TypeError};
+use rgo_typing_rules::{Builtin, Kind, Role, Shape, Signature, TypeError};
 use std::alloc::{AllocError, Global};
 
 fn result_shape<'a>(result_type: Option<Kind<'a>>) -> Shape<'a>
@@ -72,57 +69,42 @@ fn routine<'a>(
     })
 }
 
-/// A call of `len`.
+/// The term of a call of a builtin. One without a value is only a statement, so that its `nil` is not used.
 #[tactic(auto, using(crate::proofs::Trees::terms))]
-fn length<'a>(alloc: Global, args: Values<'a>, at: Place) -> Result<Checked<'a>, TypeError>
-    ensures { ChecksTo result ((at, node.CallLen (map shape_of args.entry.shapes.items)) ∷ [])
-        (shape.Value int)
-        (tree.Apply Len (tree.terms_of (map term_of args.entry.terms.items)) int at) }
+fn builtin_term(
+    alloc: Global,
+    builtin: Builtin,
+    args: Vec<Term>,
+    at: Place,
+) -> Result<Term, AllocError>
+    ensures { IfOk result (λ t. term_of t ≡ terms.builtin_term (action_of builtin) (result_of builtin)
+        (tree.terms_of (map term_of args.items)) at) }
 {
-    check_length(at, &args.shapes)?;
-    let ty = plain(alloc, Base::Int);
-    Ok(Checked {
-        term: Term::Apply(Action::Len, args.terms, ty, at),
-        shape: Shape::Value(Kind::Plain(Base::Int)),
-    })
-}
-
-/// What has no value.
-fn nothing<'a>(alloc: Global, at: Place) -> Checked<'a>
-    ensures { Matches result shape.NoResult (terms.atom Nil int at) }
-{
-    Checked {
-        term: atom(alloc, Action::Nil, plain(alloc, Base::Int), at),
-        shape: Shape::NoResult,
+    match (builtin.action(), builtin.result_type()) {
+        (Some(action), Some(kind)) => Ok(Term::Apply(action, args, kind.to_type(alloc)?, at)),
+        _ => Ok(atom(alloc, Action::Nil, plain(alloc, Base::Int), at)),
     }
 }
 
-/// A call of `fmt.Println`.
-fn print<'a>(
+/// A call of a builtin.
+fn builtin_call<'a>(
     alloc: Global,
+    builtin: Builtin,
     role: Role,
-    args: &[Shape<'_>],
+    args: Values<'a>,
     at: Place,
 ) -> Result<Checked<'a>, TypeError>
-    ensures { ChecksTo result ((at, node.Print role (map shape_of args.now)) ∷ [])
-        shape.NoResult (terms.atom Nil int at) }
+    ensures { ChecksTo result
+        ((at, node.CallBuiltin builtin role (map shape_of args.entry.shapes.items)) ∷ [])
+        (types.result_shape (result_of builtin))
+        (terms.builtin_term (action_of builtin) (result_of builtin)
+        (tree.terms_of (map term_of args.entry.terms.items)) at) }
 {
-    check_print(at, role, args)?;
-    Ok(nothing(alloc, at))
-}
-
-/// A call of `close`.
-fn close<'a>(
-    alloc: Global,
-    role: Role,
-    args: &[Shape<'_>],
-    at: Place,
-) -> Result<Checked<'a>, TypeError>
-    ensures { ChecksTo result ((at, node.CallClose role (map shape_of args.now)) ∷ [])
-        shape.NoResult (terms.atom Nil int at) }
-{
-    check_close(at, role, args)?;
-    Ok(nothing(alloc, at))
+    check_builtin(at, builtin, role, &args.shapes)?;
+    Ok(Checked {
+        term: builtin_term(alloc, builtin, args.terms, at)?,
+        shape: result_shape(builtin.result_type()),
+    })
 }
 
 /// A call of the function of this number.
@@ -184,9 +166,7 @@ pub fn call<'a>(
             check_nothing(at)?;
             unreachable!();
         }
-        Callee::Printer => print(alloc, role, &args.shapes, at),
-        Callee::Closer => close(alloc, role, &args.shapes, at),
-        Callee::Length => length(alloc, args, at),
+        Callee::Builtin(builtin) => builtin_call(alloc, builtin, role, args, at),
         Callee::Routine(number) => numbered(alloc, globals, role, number, args, at),
     }
 }

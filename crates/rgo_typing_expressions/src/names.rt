@@ -1,10 +1,21 @@
 //! The names that each program has.
 
 ghost use Rattle.std.specs.Prelude.{◌≡◌};
-ghost use Rattle.rgo_typing_expressions.specs.Scopes.{universe};
+ghost use Rattle.rgo_typing_expressions.specs.Scopes.{builtin_meaning, universe};
+ghost use Rattle.rgo_typing_rules.specs.Builtins.{predeclared, named};
 
 use rgo_typed::Base;
-use rgo_typing_rules::Meaning;
+use rgo_typing_rules::{Builtin, Meaning};
+
+/// What the name of a predeclared builtin means.
+fn builtin_meaning(name: &[u8]) -> Option<Meaning>
+    ensures { result ≡ builtin_meaning (named predeclared name.now) }
+{
+    match Builtin::predeclared(name) {
+        None => None,
+        Some(builtin) => Some(Meaning::Builtin(builtin)),
+    }
+}
 
 /// What a name means that each program has.
 pub(crate) fn universe(imported: bool, name: &[u8]) -> Option<Meaning>
@@ -20,13 +31,9 @@ pub(crate) fn universe(imported: bool, name: &[u8]) -> Option<Meaning>
         Some(Meaning::Truth(false))
     } else if name == "nil".as_bytes() {
         Some(Meaning::Nil)
-    } else if name == "len".as_bytes() {
-        Some(Meaning::Len)
-    } else if name == "close".as_bytes() {
-        Some(Meaning::Close)
     } else if name == "fmt".as_bytes() {
         Some(Meaning::Package(imported))
     } else {
-        None
+        builtin_meaning(name)
     }
 }

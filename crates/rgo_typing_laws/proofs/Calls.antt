@@ -15,6 +15,8 @@ use Rattle.rgo_typing_rules.specs.Shapes as shape
 use Rattle.rgo_typing_rules.specs.Shapes.{Shape, fits, has_misfit, has_nil, has_pointer, is_bool_shape, is_chan_shape}
 use Rattle.rgo_typing_rules.specs.Shapes.{is_nil_shape, is_pointer_shape}
 use Rattle.rgo_typing_rules.specs.Constants.{folded_shape, folded_shapes}
+use Rattle.rgo_typing_rules.specs.declared.builtins.Builtin.TheVariants as builtin
+use Rattle.rgo_typing_rules.specs.Builtins.{result_of}
 use Rattle.rgo_typing_rules.specs.declared.meanings.Meaning.{Meaning}
 use Rattle.rgo_typing_rules.specs.declared.meanings.Meaning.TheVariants as meaning
 use Rattle.rgo_typing_rules.specs.declared.roles.Role.{Role}
@@ -125,12 +127,15 @@ module _ (c : Context) (d : Declared) (result : Option «Type») (locals : List 
   go_well f args at in_loop k h br =
       absurd (true≢false (keeps rule.GoTarget node.GoNothing (alone at node.GoNothing br)))
 
-  close_takes : (l : Exprs) (r : Role) → AllFit c d locals here l → broken (node.CallClose r (types_of c l)) ≡ None
+  close_takes : (l : Exprs) (r : Role) → AllFit c d locals here l
+      → broken (node.CallBuiltin builtin.Close r (types_of c l)) ≡ None
       → (types : List «Type») × HaveTypes d locals here (all_terms c [] l) types × Takes d action.Close types
-  close_takes tree.no_exprs r f br = absurd (true≢false (keeps rule.ArgCount (node.CallClose r []) br))
+  close_takes tree.no_exprs r f br =
+      absurd (true≢false (keeps rule.ArgCount (node.CallBuiltin builtin.Close r []) br))
   close_takes (tree.an_expr e tree.no_exprs) r f br =
       go (type_of c e) f.0
-      (not_false (is_chan_shape (type_of c e)) (keeps rule.NotChannel (node.CallClose r (type_of c e ∷ [])) br))
+      (not_false (is_chan_shape (type_of c e))
+      (keeps rule.NotChannel (node.CallBuiltin builtin.Close r (type_of c e ∷ [])) br))
     where
       go : (s : Shape) → Fits d locals here s (term_of c e) → is_chan_shape s ≡ true
           → (types : List «Type») × HaveTypes d locals here (one (term_of c e)) types × Takes d action.Close types
@@ -139,8 +144,9 @@ module _ (c : Context) (d : Declared) (result : Option «Type») (locals : List 
       go s h chan = absurd (true≢false (sym chan))
   close_takes (tree.an_expr e (tree.an_expr e2 l)) r f br =
       let shapes = types_of c (tree.an_expr e (tree.an_expr e2 l)) in
+      let call = node.CallBuiltin builtin.Close r shapes in
       let n : length shapes ≡ 1 =
-      eqb-true (length shapes) 1 (not_false (length shapes == 1) (keeps rule.ArgCount (node.CallClose r shapes) br)) in
+      eqb-true (length shapes) 1 (not_false (length shapes == 1) (keeps rule.ArgCount call br)) in
       absurd (omega arith)
 
   -- ---- prints
@@ -167,9 +173,7 @@ module _ (c : Context) (d : Declared) (result : Option «Type») (locals : List 
 
   call_no_text : (f : Callee) → is_text_shape (call_shape c.globals f) ≡ false
   call_no_text (callee.Routine n) = result_no_text (signature_at c.globals n).result_type
-  call_no_text callee.Printer = refl
-  call_no_text callee.Closer = refl
-  call_no_text callee.Length = refl
+  call_no_text (callee.Builtin b) = result_no_text (result_of b)
   call_no_text f = refl
 
   unary_no_text : (op : UnaryOp) (s : Shape) → is_text_shape (unary_shape op s) ≡ false
@@ -258,17 +262,17 @@ module _ (c : Context) (d : Declared) (result : Option «Type») (locals : List 
       → first_refusal (all_nodes c (role_if b) args) ≡ None
       → broken (call_node c.globals role.Alone f (types_of c args)) ≡ None → has_effect f ≡ true
       → Stays (env in_loop) here (call_stmt c.globals f args (all_terms c (wanted_of c.globals f) args) at)
-  call_well callee.Printer b args at in_loop k h br e =
-      let n = node.Print role.Alone (types_of c args) in
+  call_well (callee.Builtin builtin.Println) b args at in_loop k h br e =
+      let n = node.CallBuiltin builtin.Println role.Alone (types_of c args) in
       (print_well args b h (keeps rule.BareNil n br) (keeps rule.PrintType n br), refl)
-  call_well callee.Closer b args at in_loop k h br e =
+  call_well (callee.Builtin builtin.Close) b args at in_loop k h br e =
       (close_takes args role.Alone (well_terms c d locals here means structs args (role_if b) h) br, refl)
   call_well (callee.Routine n) b args at in_loop k h br e =
       let s = signature_at c.globals n in
       let call = node.Call role.Alone s (types_of c args) in
       routine_well n (all_terms c s.params args) at in_loop s.result_type refl k
       (arguments n args (role_if b) k h (keeps rule.NotAssignable call br) (keeps rule.ArgCount call br))
-  call_well callee.Length b args at in_loop k h br e = absurd (true≢false (sym e))
+  call_well (callee.Builtin builtin.Len) b args at in_loop k h br e = absurd (true≢false (sym e))
   call_well (callee.Missing name_at) b args at in_loop k h br e =
       absurd (true≢false (keeps rule.NoSuchName node.CallMissing br))
   call_well callee.Nothing b args at in_loop k h br e = absurd (true≢false (keeps rule.NotCall node.CallNothing br))

@@ -25,7 +25,7 @@ use Rattle.rgo_typing_expressions.specs.Terms.{with_type, term_of}
 use Rattle.rgo_typing_expressions.specs.Types.{type_of}
 use Rattle.rgo_typing_expressions.proofs.Typed.{typed_where_unbroken}
 use Rattle.rgo_typing_packages.specs.Names.{name_site, with_names}
-use Rattle.rgo_typing_statements.specs.Statements.{type_or, define_node, define_sites, after_define, var_sites, vars_sites}
+use Rattle.rgo_typing_statements.specs.Statements.{type_or, define_node, define_sites, after_define, var_sites, local_vars_sites}
 use Rattle.rgo_typing_statements.specs.Statements.{after_var, after_vars}
 use Rattle.rgo_typing_statements.specs.TypedStatements.{zeros, define_stmt, var_stmts, vars_stmts}
 use Rattle.rgo_wellformed.specs.TypeRules.{Declared, IsType}
@@ -156,12 +156,12 @@ module _ (d : Declared) (locals : List «Type») (result : Option «Type») wher
   var_well in_loop here c (tree.Inferred x e at) room st h = define_well in_loop here c x None e at tt room st h
 
   pub vars_well : (in_loop : Bool) (here : InScope) (c : Context) (vars : List LocalVar) → Room (after_vars c vars)
-      → Describes d c here → first_refusal (vars_sites c vars) ≡ None
+      → Describes d c here → first_refusal (local_vars_sites c vars) ≡ None
       → Steps in_loop here (after_vars c vars) (vars_stmts c vars)
   vars_well in_loop here c [] room st h = steps_none in_loop here c st
   vars_well in_loop here c (v ∷ vars) room st h =
       let c2 = after_var c v in
       steps_then in_loop here c2 (after_vars c2 vars) (var_stmts c v) (vars_stmts c2 vars)
       (var_well in_loop here c v (room_before c2 (after_vars c2 vars) (grows_vars c2 vars) room) st
-      (left (var_sites c v) (vars_sites c2 vars) h))
-      (λ next st2. vars_well in_loop next c2 vars room st2 (right (var_sites c v) (vars_sites c2 vars) h))
+      (left (var_sites c v) (local_vars_sites c2 vars) h))
+      (λ next st2. vars_well in_loop next c2 vars room st2 (right (var_sites c v) (local_vars_sites c2 vars) h))

@@ -10,6 +10,7 @@ use Rattle.rgo_typed.specs.declared.actions.Action.{Action}
 use Rattle.rgo_typed.specs.declared.types.Type.{«Type»}
 use Rattle.rgo_typed.specs.Tree as typed
 use Rattle.rgo_typed.specs.Tree.{Term, Terms, Stmt, stmts_of}
+use Rattle.rgo_typing_rules.specs.Builtins.{result_of, action_of}
 use Rattle.rgo_typing_expressions.specs.declared.callees.Callee.{Callee}
 use Rattle.rgo_typing_expressions.specs.declared.callees.Callee.TheVariants as callee
 use Rattle.rgo_typing_expressions.specs.Callees.{bare, callee_of, named_callee}
@@ -19,9 +20,9 @@ use Rattle.rgo_typing_expressions.specs.Terms.{term_of, all_terms, wanted_of, wi
 use Rattle.rgo_typing_expressions.specs.Terms.{result_or_int}
 use Rattle.rgo_typing_expressions.specs.Types.{type_of, result_shape}
 use Rattle.rgo_types.specs.Flow as source
-use Rattle.rgo_typing_statements.specs.Statements.{Enclosing, in_a_loop, in_block, assign_op, step_op}
+use Rattle.rgo_typing_statements.specs.Statements.{Enclosing, within_loop, in_block, assign_op, step_op}
 use Rattle.rgo_typing_statements.specs.Statements.{after, after_var, after_block, after_clause, header}
-use Rattle.rgo_typing_statements.specs.TypedStatements.{plain_stmt, bare_plain, call_stmt, called_stmt, write_of, stored, stored_by}
+use Rattle.rgo_typing_statements.specs.TypedStatements.{plain_stmt, bare_plain, call_stmt, called_stmt, builtin_stmt, write_of, stored, stored_by}
 use Rattle.rgo_typing_statements.specs.TypedStatements.{changed, changed_by, assign_stmt, step_stmt, go_stmt, zeros, var_stmts}
 use Rattle.rgo_typing_statements.specs.TypedStatements.{vars_stmts}
 use Rattle.rgo_typing_statements.specs.TypedStatements.{has_clause, headed, branches, optional_term, typed_stmt, typed_all}
@@ -59,12 +60,16 @@ called_flat : (n : ℕ) (terms : Terms) (at : ℕ) (o : Option «Type»)
 called_flat n terms at None = refl
 called_flat n terms at (Some t) = refl
 
+builtin_flat : (o : Option Action) (result : Option «Type») (args : Exprs) (terms : Terms) (at : ℕ)
+    → has_break (builtin_stmt o result args terms at) ≡ false
+builtin_flat None result args terms at = refl
+builtin_flat (Some a) None args terms at = refl
+builtin_flat (Some a) (Some ty) args terms at = refl
+
 call_flat : (p : Package) (f : Callee) (args : Exprs) (terms : Terms) (at : ℕ)
     → has_break (call_stmt p f args terms at) ≡ false
 call_flat p (callee.Routine n) args terms at = called_flat n terms at (signature_at p n).result_type
-call_flat p callee.Printer args terms at = refl
-call_flat p callee.Closer args terms at = refl
-call_flat p callee.Length args terms at = refl
+call_flat p (callee.Builtin b) args terms at = builtin_flat (action_of b) (result_of b) args terms at
 call_flat p f args terms at = refl
 
 plain_flat : (c : Context) (e : Expr) → has_break (bare_plain c e) ≡ false
@@ -156,7 +161,7 @@ mutual
       let c1 = header c init in
       let c2 = after_clause c1 post in
       headed_stays init (typed_clause f (in_block c) init)
-      (typed.Loop (optional_term c1 test) (stmts_of (typed_all (in_a_loop f) (in_block c2) body))
+      (typed.Loop (optional_term c1 test) (stmts_of (typed_all (within_loop f) (in_block c2) body))
       (stmts_of (typed_clause f c1 post)) at)
       (clause_stays init f (in_block c) (init_headers init q.0) (init_breaks init q.0)) refl
   stmt_stays (tree.Go x args at) f c q h =
@@ -227,10 +232,10 @@ mutual
   stmt_ends (tree.For init test post body at) f c q h =
       let c1 = header c init in
       let c2 = after_clause c1 post in
-      let typed_body = typed_all (in_a_loop f) (in_block c2) body in
+      let typed_body = typed_all (within_loop f) (in_block c2) body in
       headed_finish init (typed_clause f (in_block c) init)
       (typed.Loop (optional_term c1 test) (stmts_of typed_body) (stmts_of (typed_clause f c1 post)) at)
-      (loop_ends test c1 body typed_body h (all_stay body (in_a_loop f) (in_block c2) q.2))
+      (loop_ends test c1 body typed_body h (all_stay body (within_loop f) (in_block c2) q.2))
   stmt_ends (tree.Return value at) f c q h = refl
   stmt_ends (tree.Plain e) f c q h = absurd (true≢false (sym h))
   stmt_ends (tree.Send a b at) f c q h = absurd (true≢false (sym h))

@@ -1,6 +1,6 @@
 -- Where no node of an expression breaks a rule, its term is well-formed and has its type.
 use Rattle.std.proofs.Common.{◌≡◌, ◌<◌, ℕ, pos, Bool, true, false, List, [], ◌∷◌, length}
-use Rattle.std.proofs.Common.{Option, Some, None, is_some, refl, true≢false, bytes_eq, codes, if◌then◌else◌}
+use Rattle.std.proofs.Common.{Option, Some, None, is_some, refl, true≢false}
 use Rattle.rgo_ast.specs.Tree as tree
 use Rattle.rgo_ast.specs.Tree.{Expr, Exprs, Elements, Capacity}
 use Rattle.rgo_typed.specs.declared.actions.Action.TheVariants as action
@@ -12,6 +12,8 @@ use Rattle.rgo_typed.specs.Tree.{Term, Apply}
 use Rattle.rgo_typing_rules.specs.Types.{plain, slice_of, chan_of}
 use Rattle.rgo_typing_rules.specs.Shapes as shape
 use Rattle.rgo_typing_rules.specs.Shapes.{Shape, is_int_shape}
+use Rattle.rgo_typing_rules.specs.declared.builtins.Builtin.{Builtin}
+use Rattle.rgo_typing_rules.specs.Builtins.{of_fmt, named}
 use Rattle.rgo_typing_rules.specs.declared.meanings.Meaning.{Meaning}
 use Rattle.rgo_typing_rules.specs.declared.meanings.Meaning.TheVariants as meaning
 use Rattle.rgo_typing_rules.specs.declared.roles.Role.{Role}
@@ -21,7 +23,7 @@ use Rattle.rgo_typing_rules.specs.Rules.{broken}
 use Rattle.rgo_scopes.specs.Blocks.{found, no_names}
 use Rattle.rgo_typing_expressions.specs.declared.callees.Callee.TheVariants as callee
 use Rattle.rgo_typing_expressions.specs.Callees.{callee_of, bare_callee, named_callee, selected_callee}
-use Rattle.rgo_typing_expressions.specs.Callees.{package_callee, bare, args_role}
+use Rattle.rgo_typing_expressions.specs.Callees.{builtin_callee, package_callee, bare, args_role}
 use Rattle.rgo_typing_expressions.specs.Checking.{own, parts, nodes, all_nodes, element_nodes, capacity_nodes}
 use Rattle.rgo_typing_expressions.specs.Checking.{capacity_own, callee_nodes}
 use Rattle.rgo_typing_expressions.specs.Checking.{call_node, call_place, type_expr_sites, base_site, values_of}
@@ -102,11 +104,11 @@ module _ (c : Context) (d : Declared) (locals : List «Type») (here : InScope) 
   named_calls at (Some m) k = tt
 
   package_calls : (at : ℕ) (m : Option Meaning) (name : List ℕ) → Calls c.globals d (package_callee at m name)
-  package_calls at (Some (meaning.Package true)) name = by (bytes_eq name (codes "Println"))
+  package_calls at (Some (meaning.Package true)) name = by (named of_fmt name)
     where
-      by : (b : Bool) → Calls c.globals d (if b then callee.Printer else callee.Nothing)
-      by true = tt
-      by false = tt
+      by : (o : Option Builtin) → Calls c.globals d (builtin_callee o)
+      by None = tt
+      by (Some b) = tt
   package_calls at (Some (meaning.Package false)) name = tt
   package_calls at m name = tt
 

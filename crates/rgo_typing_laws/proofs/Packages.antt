@@ -15,7 +15,9 @@ use Rattle.rgo_typing_rules.specs.declared.meanings.Meaning.TheVariants as meani
 use Rattle.rgo_scopes.specs.Blocks.{found}
 use Rattle.rgo_typing_expressions.specs.Packages.{Package, Scope, Fields, Context}
 use Rattle.rgo_typing_expressions.specs.Scopes.{no_locals, with_local, resolved, base_of, basic_base, pointer_base}
-use Rattle.rgo_typing_expressions.specs.Scopes.{int, meaning_of, global_meaning_if, universe}
+use Rattle.rgo_typing_rules.specs.declared.builtins.Builtin.{Builtin}
+use Rattle.rgo_typing_rules.specs.Builtins.{predeclared, named as builtin_named}
+use Rattle.rgo_typing_expressions.specs.Scopes.{int, meaning_of, global_meaning_if, builtin_meaning, universe}
 use Rattle.rgo_typing_packages.specs.Names.{with_names, with_bindings}
 use Rattle.rgo_typing_packages.specs.Names as names
 use Rattle.rgo_typing_packages.specs.Packages.{outside_functions}
@@ -77,9 +79,11 @@ module _ (p : Package) (d : Declared)
       either (bytes_eq name (codes "true")) _ _ (tt, tt) (
       either (bytes_eq name (codes "false")) _ _ (tt, tt) (
       either (bytes_eq name (codes "nil")) _ _ (tt, tt) (
-      either (bytes_eq name (codes "len")) _ _ (tt, tt) (
-      either (bytes_eq name (codes "close")) _ _ (tt, tt) (
-      either (bytes_eq name (codes "fmt")) _ _ (tt, tt) (tt, tt))))))))
+      either (bytes_eq name (codes "fmt")) _ _ (tt, tt) (by (builtin_named predeclared name)))))))
+    where
+      by : (o : Option Builtin) → Exists (builtin_meaning o)
+      by None = (tt, tt)
+      by (Some b) = (tt, tt)
 
   meaning_exists : (name : List ℕ) → Exists (meaning_of c name)
   meaning_exists name = go (found name p.names) refl

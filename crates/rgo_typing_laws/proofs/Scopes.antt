@@ -7,12 +7,14 @@ use Rattle.std.specs.List.{AllByRecursion}
 use Rattle.std.specs.Option.{option_or}
 use Rattle.std.proofs.lemmas.Option.{slice_get-get_or}
 use Rattle.rgo_typed.specs.declared.types.Type.{«Type»}
+use Rattle.rgo_typing_rules.specs.declared.builtins.Builtin.{Builtin}
+use Rattle.rgo_typing_rules.specs.Builtins.{predeclared, named}
 use Rattle.rgo_typing_rules.specs.declared.meanings.Meaning.{Meaning}
 use Rattle.rgo_typing_rules.specs.declared.meanings.Meaning.TheVariants as meaning
 use Rattle.rgo_scopes.specs.Blocks.{found, found_in, found_outside}
 use Rattle.rgo_typing_expressions.specs.Packages.{Package, Scope, Context}
 use Rattle.rgo_typing_expressions.specs.Scopes.{with_local, inside, local_at, variable_at, meaning_of, meaning_if}
-use Rattle.rgo_typing_expressions.specs.Scopes.{global_meaning_if, universe, int, in_scope}
+use Rattle.rgo_typing_expressions.specs.Scopes.{global_meaning_if, builtin_meaning, universe, int, in_scope}
 use Rattle.rgo_typing_statements.specs.Statements.{in_block}
 use Rattle.rgo_wellformed.specs.TypeRules.{Declared, IsType}
 use Rattle.rgo_wellformed.specs.WellFormed.{InScope, is_in_scope}
@@ -174,9 +176,11 @@ module _ (c : Context) (d : Declared) (locals : List «Type») (here : InScope) 
       either (bytes_eq name (codes "true")) _ _ tt (
       either (bytes_eq name (codes "false")) _ _ tt (
       either (bytes_eq name (codes "nil")) _ _ tt (
-      either (bytes_eq name (codes "len")) _ _ tt (
-      either (bytes_eq name (codes "close")) _ _ tt (
-      either (bytes_eq name (codes "fmt")) _ _ tt tt)))))))
+      either (bytes_eq name (codes "fmt")) _ _ tt (by (named predeclared name)))))))
+    where
+      by : (o : Option Builtin) → Means c d locals here (builtin_meaning o)
+      by None = tt
+      by (Some b) = tt
 
   pub means : Describes d c here → Begins c.scope.types locals → (name : List ℕ)
       → Means c d locals here (meaning_of c name)

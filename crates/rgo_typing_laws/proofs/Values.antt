@@ -14,6 +14,7 @@ use Rattle.rgo_typing_rules.specs.Types.{element_of}
 use Rattle.rgo_typing_rules.specs.Shapes as shape
 use Rattle.rgo_typing_rules.specs.Shapes.{Shape, fits, has_misfit, is_slice_shape}
 use Rattle.rgo_typing_rules.specs.Meanings.{Signature}
+use Rattle.rgo_typing_rules.specs.declared.builtins.Builtin.TheVariants as builtin
 use Rattle.rgo_typing_rules.specs.declared.meanings.Meaning.{Meaning}
 use Rattle.rgo_typing_rules.specs.declared.meanings.Meaning.TheVariants as meaning
 use Rattle.rgo_typing_rules.specs.declared.roles.Role.{Role}
@@ -123,12 +124,13 @@ module _ (c : Context) (d : Declared) (locals : List «Type») (here : InScope) 
   routine_fits n terms at (Some t) is k h =
       ((refl, declared_signature (signature_at c.globals n), k.listed, h, is), subst (IsResult d) is k.result_type)
 
-  len_fits : (l : Exprs) (at : ℕ) → AllFit l → broken (node.CallLen (types_of c l)) ≡ None
+  len_fits : (l : Exprs) (r : Role) (at : ℕ) → AllFit l → broken (node.CallBuiltin builtin.Len r (types_of c l)) ≡ None
       → HasType d locals here (Apply action.Len (all_terms c [] l) int at) int
-  len_fits tree.no_exprs at f br = absurd (true≢false (keeps rule.ArgCount (node.CallLen []) br))
-  len_fits (tree.an_expr e tree.no_exprs) at f br =
+  len_fits tree.no_exprs r at f br =
+      absurd (true≢false (keeps rule.ArgCount (node.CallBuiltin builtin.Len r []) br))
+  len_fits (tree.an_expr e tree.no_exprs) r at f br =
       go (type_of c e) f.0 (not_false (is_slice_shape (type_of c e))
-      (keeps rule.NotIndexable (node.CallLen (type_of c e ∷ [])) br))
+      (keeps rule.NotIndexable (node.CallBuiltin builtin.Len r (type_of c e ∷ [])) br))
     where
       go : (s : Shape) → Fits d locals here s (term_of c e) → is_slice_shape s ≡ true
           → HasType d locals here (Apply action.Len (one (term_of c e)) int at) int
@@ -140,10 +142,11 @@ module _ (c : Context) (d : Declared) (locals : List «Type») (here : InScope) 
         (element_of u, ap (λ x. x ∷ []) (slice_is u slice), refl),
       )
       go s h slice = absurd (true≢false (sym slice))
-  len_fits (tree.an_expr e (tree.an_expr e2 l)) at f br =
+  len_fits (tree.an_expr e (tree.an_expr e2 l)) r at f br =
       let shapes = types_of c (tree.an_expr e (tree.an_expr e2 l)) in
+      let call = node.CallBuiltin builtin.Len r shapes in
       let n : length shapes ≡ 1 =
-      eqb-true (length shapes) 1 (not_false (length shapes == 1) (keeps rule.ArgCount (node.CallLen shapes) br)) in
+      eqb-true (length shapes) 1 (not_false (length shapes == 1) (keeps rule.ArgCount call br)) in
       absurd (omega arith)
 
   pub call_fits : (r : Role) (f : Callee) (l : Exprs) (at : ℕ) → Calls c.globals d f → AllFit l
@@ -155,5 +158,7 @@ module _ (c : Context) (d : Declared) (locals : List «Type») (here : InScope) 
       routine_fits n (all_terms c s.params l) at s.result_type refl k
       (arguments_have n l k fit (keeps rule.NotAssignable call br)
       (not_false (length (types_of c l) == length s.params) (keeps rule.ArgCount call br)))
-  call_fits r callee.Length l at k fit br = (len_fits l at fit br, tt)
+  call_fits r (callee.Builtin builtin.Len) l at k fit br = (len_fits l r at fit br, tt)
+  call_fits r (callee.Builtin builtin.Close) l at k fit br = tt
+  call_fits r (callee.Builtin builtin.Println) l at k fit br = tt
   call_fits r f l at k fit br = tt

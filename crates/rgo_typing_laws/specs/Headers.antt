@@ -1,5 +1,5 @@
--- The headers of `if` and `for` in the trees of the grammar: a simple statement precedes the condition, and the post
--- statement of a `for` declares nothing.
+-- What the grammar ensures for the headers of `if` and `for`, and trees alone do not: a simple statement precedes the condition, and
+-- the post statement of a `for` declares nothing. The law in Laws.antt needs this.
 use Rattle.std.specs.Prelude.{⊤}
 use Rattle.std.specs.List.{AllByRecursion}
 use Rattle.rgo_ast.specs.Tree.{Stmt, Stmts, Clause, Decl, Program, stmts_of}

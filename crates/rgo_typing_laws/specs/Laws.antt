@@ -1,4 +1,4 @@
--- Type soundness of the typing: the typed tree of a program in which no node breaks a rule is well-formed.
+-- Type soundness: the typed tree of a program in which no node breaks a rule is well-formed.
 use Rattle.std.specs.Prelude.{◌≡◌, List, None}
 use Rattle.std.specs.List.{AllByRecursion}
 use Rattle.rgo_ast.specs.Tree.{Program, Import, Decl}
@@ -21,13 +21,13 @@ TypedEnds =
     (program : Program) → ProgramHasHeaders program → first_refusal (sites_of program) ≡ None
     → AllByRecursion Ends (typed_program program).functions
 
--- every tree of the grammar has such headers
+-- every tree that the grammar derives has headers as in Headers.antt
 abbrev pub GrammarHasHeaders : Type 0
 GrammarHasHeaders =
     (l : List Lexeme) (imports : List Import) (decls : List Decl) → IsProgram l imports decls
     → AllByRecursion DeclHasHeaders decls
 
--- so both hold of every tree of the grammar
+-- hence both hold for every tree that the grammar derives
 abbrev pub ParsedIsWellFormed : Type 0
 ParsedIsWellFormed =
     (l : List Lexeme) (program : Program) → IsProgram l program.imports program.decls

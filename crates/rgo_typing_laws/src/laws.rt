@@ -1,4 +1,4 @@
-//! The laws of the typing.
+//! The law of type soundness as a function without code. The compiler does not call it.
 
 ghost use Rattle.rgo_typing_laws.specs.Laws.{
   GrammarHasHeaders,
@@ -8,8 +8,8 @@ ghost use Rattle.rgo_typing_laws.specs.Laws.{
   TypedIsWellFormed,
 };
 
-/// If no node of a program breaks a rule, then its typed tree is well-formed, and no function with a result reaches the
-/// end of its body. This holds of every program that is parsed from a text; of trees that no text parses to it does not.
+/// If no node of a program breaks a rule, then its typed tree is well-formed, and no function with a result reaches the end of its
+/// body. This holds for every tree that the grammar derives, and fails for some other trees, which no text parses to.
 pub fn well_formed_where_unbroken()
     ensures well_formed { TypedIsWellFormed }
     ensures ends { TypedEnds }

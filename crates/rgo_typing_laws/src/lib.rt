@@ -1,4 +1,5 @@
-//! Laws of the typing: the typed tree of a program that breaks no rule is well-formed.
+//! The law of type soundness: the typed tree of a program that breaks no rule is well-formed. rgo_run uses it for the programs that it
+//! lowers and runs.
 #![tactic(auto)]
 
 mod laws;

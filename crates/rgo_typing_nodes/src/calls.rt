@@ -10,7 +10,7 @@ ghost use Rattle.rgo_typing_rules.specs.Nodes as node;
 ghost use Rattle.rgo_typing_rules.specs.Views.{shape_of, signature_of};
 
 use rgo_ast::Place;
-use rgo_typing_rules::{Node, Role, Shape, Signature, TypeError, check_node};
+use rgo_typing_rules::{Builtin, Node, Role, Shape, Signature, TypeError, check_node};
 
 /// A call of a name that nothing declares.
 pub fn check_missing(at: Place) -> Result<(), TypeError>
@@ -40,27 +40,16 @@ pub fn check_routine<'t, 'p, 'v>(
     check_node(at, &node)
 }
 
-/// A call of `len`.
-pub fn check_length<'t, 'v>(at: Place, args: &'v [Shape<'t>]) -> Result<(), TypeError>
-    ensures { Checks result ((at, node.CallLen (map shape_of args.now)) ∷ []) }
+/// A call of a builtin.
+pub fn check_builtin<'t, 'v>(
+    at: Place,
+    builtin: Builtin,
+    role: Role,
+    args: &'v [Shape<'t>],
+) -> Result<(), TypeError>
+    ensures { Checks result ((at, node.CallBuiltin builtin role (map shape_of args.now)) ∷ []) }
 {
-    let node: Node<'t, 't, 'v> = Node::CallLen(args);
-    check_node(at, &node)
-}
-
-/// A call of `close`.
-pub fn check_close<'t, 'v>(at: Place, role: Role, args: &'v [Shape<'t>]) -> Result<(), TypeError>
-    ensures { Checks result ((at, node.CallClose role (map shape_of args.now)) ∷ []) }
-{
-    let node: Node<'t, 't, 'v> = Node::CallClose(role, args);
-    check_node(at, &node)
-}
-
-/// A call of `fmt.Println`.
-pub fn check_print<'t, 'v>(at: Place, role: Role, args: &'v [Shape<'t>]) -> Result<(), TypeError>
-    ensures { Checks result ((at, node.Print role (map shape_of args.now)) ∷ []) }
-{
-    let node: Node<'t, 't, 'v> = Node::Print(role, args);
+    let node: Node<'t, 't, 'v> = Node::CallBuiltin(builtin, role, args);
     check_node(at, &node)
 }
 

@@ -10,8 +10,7 @@ mod statements;
 mod values;
 
 pub use calls::{
-    check_close, check_go, check_go_nothing, check_length, check_missing, check_nothing,
-    check_print, check_routine,
+    check_builtin, check_go, check_go_nothing, check_missing, check_nothing, check_routine,
 };
 pub use declarations::{check_declared, check_end, check_import, check_text_end};
 pub use names::{check_base_name, check_name, check_pointed, check_type_name};

@@ -1,3 +1,4 @@
+pub mod Builtins
 pub mod Checks
 pub mod Constants
 pub mod Meanings

@@ -6,6 +6,7 @@ use Rattle.rgo_typed.specs.declared.types.Type.{«Type»}
 use Rattle.rgo_typing_rules.specs.declared.roles.Role.{Role}
 use Rattle.rgo_typing_rules.specs.declared.roles.Role.TheVariants as role
 use Rattle.rgo_typing_rules.specs.Shapes.{Shape}
+use Rattle.rgo_typing_rules.specs.declared.builtins.Builtin.{Builtin}
 use Rattle.rgo_typing_rules.specs.declared.meanings.Meaning.{Meaning}
 use Rattle.rgo_typing_rules.specs.Meanings.{Signature}
 
@@ -40,13 +41,11 @@ pub data Node : Type 0 where
   -- a literal by fields: the type of each element's field, where there is such a field; whether a
   -- field appears twice
   Keyed : Option (List (Option «Type»)) → Bool → List Shape → Node
-  -- calls: of a name that nothing declares; of what is no function; of a function; of the builtins; of `fmt.Println`
+  -- calls: of a name that nothing declares; of what is no function; of a function; of a builtin
   CallMissing : Node
   CallNothing : Node
   Call : Role → Signature → List Shape → Node
-  CallLen : List Shape → Node
-  CallClose : Role → List Shape → Node
-  Print : Role → List Shape → Node
+  CallBuiltin : Builtin → Role → List Shape → Node
   -- an expression statement: whether it is a call or receive that may be a statement
   Alone : Bool → Node
   -- a send statement: the channel and the value

@@ -1,5 +1,5 @@
--- The 34 rules on meaning. Each is a test of one node, which says whether the node breaks the rule. A node is
--- refused for the first rule that it breaks.
+-- The 34 rules on meaning. Each is a test of one node, which says whether the node breaks the rule. What a call of a
+-- builtin breaks is in the table of the builtins. A node is refused for the first rule that it breaks.
 use Rattle.std.specs.Prelude.{ℕ, Bool, true, false, not, ◌&&◌, ◌||◌, ◌==◌, ◌^◌, nat_lt, List, [], ◌∷◌, length}
 use Rattle.std.specs.List.{list_any}
 use Rattle.std.specs.Prelude.{Option, Some, None, is_some, is_none, if◌then◌else◌, codes}
@@ -12,12 +12,13 @@ use Rattle.rgo_typed.specs.declared.types.Type.{«Type»}
 use Rattle.rgo_typing_rules.specs.Types.{element_of}
 use Rattle.rgo_typing_rules.specs.Shapes as shape
 use Rattle.rgo_typing_rules.specs.Shapes.{Shape, is_int_shape, is_bool_shape, is_slice_shape, is_chan_shape, is_nil_shape}
-use Rattle.rgo_typing_rules.specs.Shapes.{fits, are_comparable, has_misfit, has_known_misfit, has_nil, has_pointer}
+use Rattle.rgo_typing_rules.specs.Shapes.{fits, are_comparable, has_misfit, has_known_misfit}
 use Rattle.rgo_typing_rules.specs.Constants.{is_zero, is_below_zero, is_out_of_range, folded_shapes, folded_shape}
 use Rattle.rgo_typing_rules.specs.declared.meanings.Meaning.{Meaning}
 use Rattle.rgo_typing_rules.specs.Meanings.{is_missing, is_value, is_struct, is_type}
 use Rattle.rgo_typing_rules.specs.declared.rules.Rule.{Rule}
 use Rattle.rgo_typing_rules.specs.declared.rules.Rule.TheVariants as rule
+use Rattle.rgo_typing_rules.specs.Builtins.{predeclared, named, call_breaks}
 use Rattle.rgo_typing_rules.specs.Nodes as node
 use Rattle.rgo_typing_rules.specs.Nodes.{Node, wants_value, is_printed, is_target}
 
@@ -32,15 +33,19 @@ redeclared (node.Import again path) = again
 redeclared (node.Declared again name) = again
 redeclared _ = false
 
+-- the reserved names other than those of builtins
 abbrev pub reserved : List (List ℕ)
 reserved =
     codes "int" ∷ codes "bool" ∷ codes "true" ∷ codes "false" ∷ codes "nil"
-    ∷ codes "new" ∷ codes "make" ∷ codes "len" ∷ codes "close" ∷ codes "cap"
-    ∷ codes "append" ∷ codes "fmt" ∷ codes "sync" ∷ codes "init" ∷ codes "_" ∷ []
+    ∷ codes "new" ∷ codes "make" ∷ codes "cap" ∷ codes "append" ∷ codes "fmt"
+    ∷ codes "sync" ∷ codes "init" ∷ codes "_" ∷ []
+
+abbrev pub is_reserved : List ℕ → Bool
+is_reserved name = is_some (named predeclared name) || list_any (λ k. bytes_eq k name) reserved
 
 -- ReservedName: a declaration of a reserved name
 abbrev pub reserved_name : Node → Bool
-reserved_name (node.Declared again name) = list_any (λ k. bytes_eq k name) reserved
+reserved_name (node.Declared again name) = is_reserved name
 reserved_name _ = false
 
 -- NoSuchName: a name that nothing in scope declares; `fmt` without its import
@@ -133,7 +138,6 @@ slice_compare _ = false
 abbrev pub bare_nil : Node → Bool
 bare_nil (node.Binary op a b) = compares are_nil (operands_of op) a b
 bare_nil (node.Define s) = is_nil_shape s
-bare_nil (node.Print r values) = has_nil values
 bare_nil _ = false
 
 abbrev pub misfits_returned : Option «Type» → Option Shape → Bool
@@ -180,18 +184,12 @@ abbrev pub no_such_field : Node → Bool
 no_such_field (node.Selector there) = not there
 no_such_field _ = false
 
--- there is a first argument, and it fails the test
-abbrev pub first_is_no : (Shape → Bool) → List Shape → Bool
-first_is_no test [] = false
-first_is_no test (s ∷ args) = not (test s)
-
 -- NotIndexable: an index or `len` on what is no slice, or an index that is no int
 abbrev pub not_indexable : Node → Bool
 not_indexable (node.Index a i) = not (is_slice_shape a && is_int_shape i)
-not_indexable (node.CallLen args) = first_is_no is_slice_shape args
 not_indexable _ = false
 
--- NotCall: a callee that is no function, `len`, `close` or `fmt.Println`
+-- NotCall: a callee that is no function and no builtin
 abbrev pub not_call : Node → Bool
 not_call node.CallNothing = true
 not_call _ = false
@@ -199,16 +197,12 @@ not_call _ = false
 -- ArgCount: a wrong number of arguments
 abbrev pub arg_count : Node → Bool
 arg_count (node.Call r signature args) = not (length args == length signature.params)
-arg_count (node.CallLen args) = not (length args == 1)
-arg_count (node.CallClose r args) = not (length args == 1)
 arg_count (node.Go signature args) = not (length args == length signature.params)
 arg_count _ = false
 
 -- NoResult: a call without result as a value
 abbrev pub no_result : Node → Bool
 no_result (node.Call r signature args) = is_none signature.result_type && wants_value r
-no_result (node.CallClose r args) = wants_value r
-no_result (node.Print r args) = wants_value r
 no_result _ = false
 
 -- NotStatement: an expression statement that is neither a call nor a receive, or is `len`, `new` or `make`
@@ -229,7 +223,6 @@ receives_no_channel _ s = false
 -- NotChannel: a send, receive or close on what is no channel
 abbrev pub not_channel : Node → Bool
 not_channel (node.Unary op s) = receives_no_channel op s
-not_channel (node.CallClose r args) = first_is_no is_chan_shape args
 not_channel (node.Send c s) = not (is_chan_shape c)
 not_channel _ = false
 
@@ -296,9 +289,8 @@ literal_fields (node.Literal fields values) = is_partial fields values
 literal_fields (node.Keyed fields twice values) = has_unknown fields || twice
 literal_fields _ = false
 
--- PrintType: `Println` of a pointer, slice or channel
+-- PrintType: `Println` of a pointer, slice or channel; only a call of a builtin breaks it
 abbrev pub print_type : Node → Bool
-print_type (node.Print r values) = has_pointer values
 print_type _ = false
 
 -- ReturnCount: a value returned where there is no result, or none where there is one
@@ -322,42 +314,47 @@ abbrev pub no_main : Node → Bool
 no_main (node.TextEnd has_main) = not has_main
 no_main _ = false
 
+-- whether a node other than a call of a builtin breaks the rule
+abbrev pub test_of : Rule → Node → Bool
+test_of rule.BadImport n = bad_import n
+test_of rule.Redeclared n = redeclared n
+test_of rule.ReservedName n = reserved_name n
+test_of rule.NoSuchName n = no_such_name n
+test_of rule.NotType n = not_type n
+test_of rule.StructByValue n = struct_by_value n
+test_of rule.PointerBase n = pointer_base n
+test_of rule.NotValue n = not_value n
+test_of rule.StringPlace n = string_place n
+test_of rule.Mismatch n = mismatch n
+test_of rule.SliceCompare n = slice_compare n
+test_of rule.BareNil n = bare_nil n
+test_of rule.NotAssignable n = not_assignable n
+test_of rule.NotPlace n = not_place n
+test_of rule.NoSuchField n = no_such_field n
+test_of rule.NotIndexable n = not_indexable n
+test_of rule.NotCall n = not_call n
+test_of rule.ArgCount n = arg_count n
+test_of rule.NoResult n = no_result n
+test_of rule.NotStatement n = not_statement n
+test_of rule.GoTarget n = go_target n
+test_of rule.NotChannel n = not_channel n
+test_of rule.NotBool n = not_bool n
+test_of rule.NotInt n = not_int n
+test_of rule.ConstRange n = const_range n
+test_of rule.ConstZeroDivisor n = const_zero_divisor n
+test_of rule.ConstIndex n = const_index n
+test_of rule.ConstSize n = const_size n
+test_of rule.LiteralFields n = literal_fields n
+test_of rule.PrintType n = print_type n
+test_of rule.ReturnCount n = return_count n
+test_of rule.MissingReturn n = missing_return n
+test_of rule.LoopOutside n = loop_outside n
+test_of rule.NoMain n = no_main n
+
 -- whether the node breaks the rule
 abbrev pub breaks : Rule → Node → Bool
-breaks rule.BadImport n = bad_import n
-breaks rule.Redeclared n = redeclared n
-breaks rule.ReservedName n = reserved_name n
-breaks rule.NoSuchName n = no_such_name n
-breaks rule.NotType n = not_type n
-breaks rule.StructByValue n = struct_by_value n
-breaks rule.PointerBase n = pointer_base n
-breaks rule.NotValue n = not_value n
-breaks rule.StringPlace n = string_place n
-breaks rule.Mismatch n = mismatch n
-breaks rule.SliceCompare n = slice_compare n
-breaks rule.BareNil n = bare_nil n
-breaks rule.NotAssignable n = not_assignable n
-breaks rule.NotPlace n = not_place n
-breaks rule.NoSuchField n = no_such_field n
-breaks rule.NotIndexable n = not_indexable n
-breaks rule.NotCall n = not_call n
-breaks rule.ArgCount n = arg_count n
-breaks rule.NoResult n = no_result n
-breaks rule.NotStatement n = not_statement n
-breaks rule.GoTarget n = go_target n
-breaks rule.NotChannel n = not_channel n
-breaks rule.NotBool n = not_bool n
-breaks rule.NotInt n = not_int n
-breaks rule.ConstRange n = const_range n
-breaks rule.ConstZeroDivisor n = const_zero_divisor n
-breaks rule.ConstIndex n = const_index n
-breaks rule.ConstSize n = const_size n
-breaks rule.LiteralFields n = literal_fields n
-breaks rule.PrintType n = print_type n
-breaks rule.ReturnCount n = return_count n
-breaks rule.MissingReturn n = missing_return n
-breaks rule.LoopOutside n = loop_outside n
-breaks rule.NoMain n = no_main n
+breaks r (node.CallBuiltin b role args) = call_breaks r b role args
+breaks r n = test_of r n
 
 -- all rules, in the order of their numbers
 abbrev pub rules : List Rule

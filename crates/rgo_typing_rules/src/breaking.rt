@@ -5,7 +5,8 @@ ghost use Rattle.std.specs.Prelude.{◌≡◌};
 ghost use Rattle.rgo_typing_rules.specs.Rules.{broken};
 ghost use Rattle.rgo_typing_rules.specs.Views.{node_of};
 
-use crate::call_rules::{called, close_called, len_called, printed, started};
+use crate::builtins::builtin_called;
+use crate::call_rules::{called, started};
 use crate::name_rules::{base_name, declared, import, is_struct, name, type_name};
 use crate::nodes::Node;
 use crate::operator_rules::{binary, indexed, sized, unary};
@@ -40,9 +41,7 @@ pub fn broken(node: &Node<'_, '_, '_>) -> Option<Rule>
         Node::CallMissing => Some(Rule::NoSuchName),
         Node::CallNothing => Some(Rule::NotCall),
         Node::Call(role, signature, args) => called(role, signature, args),
-        Node::CallLen(args) => len_called(args),
-        Node::CallClose(role, args) => close_called(role, args),
-        Node::Print(role, args) => printed(role, args),
+        Node::CallBuiltin(builtin, role, args) => builtin_called(builtin, role, args),
         Node::Alone(may_stand) => Rule::NotStatement.when(!may_stand),
         Node::Send(channel, value) => sent(channel, value),
         Node::Assign(at_place, left, right) => assigned(at_place, left, right),

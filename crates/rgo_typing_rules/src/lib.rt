@@ -2,6 +2,7 @@
 #![tactic(auto)]
 
 mod breaking;
+mod builtins;
 mod call_rules;
 mod checking;
 mod constants;
@@ -18,6 +19,7 @@ mod value_rules;
 mod values;
 
 pub use breaking::broken;
+pub use builtins::Builtin;
 pub use checking::check_node;
 pub use constants::{fold, fold_one};
 pub use errors::{TypeError, TypeRefusal};

@@ -1,5 +1,6 @@
 //! What names mean, and what functions take and return.
 
+use crate::builtins::Builtin;
 use crate::kinds::Kind;
 use rgo_typed::Base;
 
@@ -21,10 +22,8 @@ pub enum Meaning {
     Truth(bool),
     /// `nil`.
     Nil,
-    /// `len`.
-    Len,
-    /// `close`.
-    Close,
+    /// A predeclared builtin.
+    Builtin(Builtin),
     /// `fmt`, and whether it is imported.
     Package(bool),
 }

@@ -5,8 +5,9 @@ ghost use Rattle.std.specs.Prelude.{◌≡◌, codes, false};
 ghost use Rattle.std.specs.Str.{bytes_eq};
 ghost use Rattle.rgo_typing_rules.specs.Meanings.{is_struct};
 ghost use Rattle.rgo_typing_rules.specs.Nodes as spec;
-ghost use Rattle.rgo_typing_rules.specs.Rules.{broken, reserved_name};
+ghost use Rattle.rgo_typing_rules.specs.Rules.{broken, is_reserved};
 
+use crate::builtins::Builtin;
 use crate::meanings::Meaning;
 use crate::roles::Role;
 use crate::rules::Rule;
@@ -28,15 +29,16 @@ pub(crate) fn import(again: bool, path: &[u8]) -> Option<Rule>
     }
 }
 
-const RESERVED: [&[u8]; 15] = [
-    b"int", b"bool", b"true", b"false", b"nil", b"new", b"make", b"len", b"close", b"cap",
-    b"append", b"fmt", b"sync", b"init", b"_",
+/// The reserved names other than those of builtins.
+const RESERVED: [&[u8]; 13] = [
+    b"int", b"bool", b"true", b"false", b"nil", b"new", b"make", b"cap", b"append", b"fmt",
+    b"sync", b"init", b"_",
 ];
 
 fn is_reserved(name: &[u8]) -> bool
-    ensures { result ≡ reserved_name (spec.Declared false name.now) }
+    ensures { result ≡ is_reserved name.now }
 {
-    RESERVED.contains(&name)
+    Builtin::predeclared(name).is_some() || RESERVED.contains(&name)
 }
 
 pub(crate) fn declared(again: bool, name: &[u8]) -> Option<Rule>

@@ -1,5 +1,6 @@
 //! The nodes of a program that are checked against the rules.
 
+use crate::builtins::Builtin;
 use crate::kinds::Kind;
 use crate::meanings::{Meaning, Signature};
 use crate::roles::Role;
@@ -52,12 +53,8 @@ pub enum Node<'t, 'p, 'v> {
     CallNothing,
     /// A call of a function.
     Call(Role, &'p Signature<'t>, &'v [Shape<'t>]),
-    /// A call of `len`.
-    CallLen(&'v [Shape<'t>]),
-    /// A call of `close`.
-    CallClose(Role, &'v [Shape<'t>]),
-    /// A call of `fmt.Println`.
-    Print(Role, &'v [Shape<'t>]),
+    /// A call of a builtin.
+    CallBuiltin(Builtin, Role, &'v [Shape<'t>]),
     /// An expression statement: whether it is a call or receive that may be a statement.
     Alone(bool),
     /// A send statement: the channel and the value.

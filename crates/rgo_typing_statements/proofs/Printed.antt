@@ -7,7 +7,7 @@ use Rattle.rgo_ast.specs.declared.expressions.Expr.{Expr as CodeExpr}
 use Rattle.rgo_typed.specs.Tree.{Term, Terms, no_terms, a_term}
 use Rattle.rgo_typed.specs.declared.statements.Piece.{Piece}
 use Rattle.rgo_typing_expressions.specs.Callees.{bare}
-use Rattle.rgo_typing_statements.specs.TypedStatements.{pieces_of, piece_of, printed_terms, is_text, kept, unless_text}
+use Rattle.rgo_typing_statements.specs.TypedStatements.{pieces_of, piece_of, printed_terms, is_text, kept_operand, unless_text}
 use Rattle.rgo_typing_expressions.proofs.Lists.{terms_before, one_more}
 use Rattle.rgo_typing_packages.proofs.Lists.{opened}
 
@@ -22,7 +22,7 @@ no_items (a ∷ l) h = absurd (omega arith)
 pub one_less : {A : Type 0} (l : List A) (a : A) (m : List A) (j k : ℕ) → l ≡ a ∷ m → j + 1 ≡ k → k ≡ length l → j ≡ length m
 one_less l a m j k p q r = let n : length l ≡ length m + 1 = ap length p ∙ omega arith in omega arith
 
-is_kept : (b : Bool) (o : List Term) (t : Term) (more : Terms) → terms_before (o ++ kept b t) more ≡ terms_before o (unless_text b t more)
+is_kept : (b : Bool) (o : List Term) (t : Term) (more : Terms) → terms_before (o ++ kept_operand b t) more ≡ terms_before o (unless_text b t more)
 is_kept true o t more = ap (λ l. terms_before l more) (append-nil o)
 is_kept false o t more = one_more o t more
 
@@ -36,7 +36,7 @@ module _ (all : List CodeExpr) (i : ℕ) (e : CodeExpr) (q : e ≡ get_or all i 
 
   -- an operand that is kept unless it is a string
   pub one_operand : (o : List Term) (t : Term) (more : Terms)
-      → terms_before (o ++ kept (is_text (bare (expr_of e))) t) (printed_terms (exprs_of (map expr_of (drop (i + 1) all))) more)
+      → terms_before (o ++ kept_operand (is_text (bare (expr_of e))) t) (printed_terms (exprs_of (map expr_of (drop (i + 1) all))) more)
       ≡ terms_before o (printed_terms (exprs_of (map expr_of (drop i all))) (a_term t more))
   one_operand o t more =
       is_kept (is_text (bare (expr_of e))) o t (printed_terms (exprs_of (map expr_of (drop (i + 1) all))) more)

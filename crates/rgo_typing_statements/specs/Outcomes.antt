@@ -14,7 +14,7 @@ use Rattle.rgo_typing_rules.specs.declared.errors.TypeError.{TypeError}
 use Rattle.rgo_typing_expressions.specs.Packages.{Context}
 use Rattle.rgo_typing_expressions.specs.Scopes.{in_scope}
 use Rattle.rgo_typing_packages.specs.Names.{name_sites, with_names}
-use Rattle.rgo_typing_statements.specs.Statements.{define_sites, after_define, var_sites, after_var, vars_sites, after_vars}
+use Rattle.rgo_typing_statements.specs.Statements.{define_sites, after_define, var_sites, after_var, local_vars_sites, after_vars}
 use Rattle.rgo_typing_statements.specs.Statements.{Enclosing, stmt_sites, after}
 use Rattle.rgo_typing_statements.specs.TypedStatements.{define_stmt, zeros, var_stmts, vars_stmts, typed_stmt}
 
@@ -63,7 +63,7 @@ abbrev pub var_outcome : Context → LocalVar → Outcome
 var_outcome c v = record { sites = var_sites c v; after = after_var c v; typed = var_stmts c v }
 
 abbrev pub vars_outcome : Context → List LocalVar → Outcome
-vars_outcome c l = record { sites = vars_sites c l; after = after_vars c l; typed = vars_stmts c l }
+vars_outcome c l = record { sites = local_vars_sites c l; after = after_vars c l; typed = vars_stmts c l }
 
 -- where no node breaks a rule: the context after the statements, and their typed trees after those before
 pub record Passes (o : Outcome) (c : Context) (before all : List Stmt) : Type 0 where

@@ -33,8 +33,8 @@ pub record Enclosing : Type 0 where
   pub result_type : Option «Type»
   pub in_loop : Bool
 
-abbrev pub in_a_loop : Enclosing → Enclosing
-in_a_loop f = record { result_type = f.result_type; in_loop = true }
+abbrev pub within_loop : Enclosing → Enclosing
+within_loop f = record { result_type = f.result_type; in_loop = true }
 
 -- ---- contexts
 
@@ -45,8 +45,8 @@ in_block c = in_scope (inside c.scope) c
 abbrev pub out_of_block : Context → Context
 out_of_block c = in_scope (outside c.scope) c
 
-abbrev pub with_variable : Ident → «Type» → Context → Context
-with_variable x ty c = in_scope (with_local x.name ty c.scope) c
+abbrev pub with_local_variable : Ident → «Type» → Context → Context
+with_local_variable x ty c = in_scope (with_local x.name ty c.scope) c
 
 -- the type of a variable that is declared with this type, if any, and a value of this shape
 abbrev pub type_or : Option «Type» → Shape → «Type»
@@ -55,7 +55,7 @@ type_or (Some ty) s = ty
 
 -- a variable that is declared with a value
 abbrev pub after_define : Context → Ident → Option «Type» → Expr → Context
-after_define c x wanted e = with_variable x (type_or wanted (type_of c e)) c
+after_define c x wanted e = with_local_variable x (type_or wanted (type_of c e)) c
 
 abbrev pub after_var : Context → LocalVar → Context
 after_var c (tree.Zero b) = in_scope (with_binding c c.scope b) c
@@ -154,9 +154,9 @@ var_sites c (tree.Zero b) = binding_sites c c.scope b
 var_sites c (tree.Typed x ty e at) = type_expr_sites c ty ++ define_sites c x (Some (resolved c ty)) e at
 var_sites c (tree.Inferred x e at) = define_sites c x None e at
 
-abbrev pub vars_sites : Context → List LocalVar → List Site
-vars_sites c [] = []
-vars_sites c (v ∷ l) = var_sites c v ++ vars_sites (after_var c v) l
+abbrev pub local_vars_sites : Context → List LocalVar → List Site
+local_vars_sites c [] = []
+local_vars_sites c (v ∷ l) = var_sites c v ++ local_vars_sites (after_var c v) l
 
 abbrev pub go_site : Package → Callee → List Shape → ℕ → Site
 go_site p (callee.Missing name_at) args at = (name_at, node.CallMissing)
@@ -204,10 +204,10 @@ abbrev mutual
       clause_sites f (in_block c) init
       ++ (optional_nodes (header c init) test
       ++ (clause_sites f (header c init) post
-      ++ (all_sites (in_a_loop f) (in_block (after_clause (header c init) post)) body
+      ++ (all_sites (within_loop f) (in_block (after_clause (header c init) post)) body
       ++ condition_sites (optional_type (header c init) test) at)))
   stmt_sites f c (tree.Go x args at) = go_sites c x args at
-  stmt_sites f c (tree.Var vars at) = vars_sites c vars
+  stmt_sites f c (tree.Var vars at) = local_vars_sites c vars
   stmt_sites f c (tree.Return value at) = return_sites f.result_type c value at
   stmt_sites f c (tree.Break at) = (at, node.Branch f.in_loop) ∷ []
   stmt_sites f c (tree.Continue at) = (at, node.Branch f.in_loop) ∷ []

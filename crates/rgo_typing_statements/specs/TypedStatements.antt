@@ -12,6 +12,7 @@ use Rattle.rgo_typed.specs.declared.statements.Piece.TheVariants as piece
 use Rattle.rgo_typed.specs.declared.types.Type.{«Type»}
 use Rattle.rgo_typed.specs.Tree as typed
 use Rattle.rgo_typed.specs.Tree.{Term, Terms, Stmt, stmts_of, no_terms, a_term}
+use Rattle.rgo_typing_rules.specs.Builtins.{result_of, action_of}
 use Rattle.rgo_typing_rules.specs.Shapes as shape
 use Rattle.rgo_typing_rules.specs.Shapes.{Shape}
 use Rattle.rgo_typing_expressions.specs.Callees.{callee_of, named_callee, bare}
@@ -21,7 +22,7 @@ use Rattle.rgo_typing_expressions.specs.Terms.{term_of, all_terms, wanted_of, co
 use Rattle.rgo_typing_expressions.specs.Types.{type_of, call_shape}
 use Rattle.rgo_typing_expressions.specs.declared.callees.Callee.{Callee}
 use Rattle.rgo_typing_expressions.specs.declared.callees.Callee.TheVariants as callee
-use Rattle.rgo_typing_statements.specs.Statements.{Enclosing, in_a_loop, in_block, type_or, after_var, after, after_block, header, after_clause}
+use Rattle.rgo_typing_statements.specs.Statements.{Enclosing, within_loop, in_block, type_or, after_var, after, after_block, header, after_clause}
 use Rattle.rgo_typing_statements.specs.Statements.{assign_op, step_op}
 
 -- ---- prints and calls
@@ -44,9 +45,9 @@ unless_text true t l = l
 unless_text false t l = a_term t l
 
 -- the term of an operand, unless it is a string
-abbrev pub kept : Bool → Term → List Term
-kept true t = []
-kept false t = t ∷ []
+abbrev pub kept_operand : Bool → Term → List Term
+kept_operand true t = []
+kept_operand false t = t ∷ []
 
 -- the values of a print: all operands but the strings
 abbrev pub printed_terms : Exprs → Terms → Terms
@@ -60,10 +61,15 @@ called_stmt shape.NoResult (typed.Call n args ty at) = typed.Invoke n args at
 called_stmt shape.NoResult t = typed.Discard t
 called_stmt _ t = typed.Discard t
 
+-- a call of a builtin as a statement: a print where it has no action
+abbrev pub builtin_stmt : Option Action → Option «Type» → Exprs → Terms → ℕ → Stmt
+builtin_stmt None result args ts at = typed.Print (pieces_of args) (printed_terms args ts) at
+builtin_stmt (Some a) None args ts at = typed.Perform a ts at
+builtin_stmt (Some a) (Some ty) args ts at = typed.Discard (typed.Apply a ts ty at)
+
 -- a call as a statement, from its arguments
 abbrev pub call_stmt : Package → Callee → Exprs → Terms → ℕ → Stmt
-call_stmt p callee.Printer args ts at = typed.Print (pieces_of args) (printed_terms args ts) at
-call_stmt p callee.Closer args ts at = typed.Perform action.Close ts at
+call_stmt p (callee.Builtin b) args ts at = builtin_stmt (action_of b) (result_of b) args ts at
 call_stmt p c args ts at = called_stmt (call_shape p c) (call_term p c ts at)
 
 abbrev pub bare_plain : Context → Expr → Stmt
@@ -204,7 +210,7 @@ abbrev mutual
   typed_stmt f c (tree.For init test post body at) =
       headed (has_clause init) (typed_clause f (in_block c) init)
       (typed.Loop (optional_term (header c init) test)
-      (stmts_of (typed_all (in_a_loop f) (in_block (after_clause (header c init) post)) body))
+      (stmts_of (typed_all (within_loop f) (in_block (after_clause (header c init) post)) body))
       (stmts_of (typed_clause f (header c init) post)) at)
   typed_stmt f c (tree.Go x args at) = started c (named_callee x.at (meaning_of c x.name)) args at ∷ []
   typed_stmt f c (tree.Var vars at) = vars_stmts c vars

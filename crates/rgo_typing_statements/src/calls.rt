@@ -6,6 +6,7 @@ ghost use Rattle.rgo_ast.specs.Tree as ast;
 ghost use Rattle.rgo_ast.specs.Views.{expr_of};
 ghost use Rattle.rgo_typed.specs.Tree as tree;
 ghost use Rattle.rgo_typed.specs.Views.{stmt_of, term_of};
+ghost use Rattle.rgo_typing_rules.specs.Builtins.{result_of, action_of};
 ghost use Rattle.rgo_typing_rules.specs.Checks.{Checks};
 ghost use Rattle.rgo_typing_rules.specs.Nodes as node;
 ghost use Rattle.rgo_typing_rules.specs.Views.{shape_of};
@@ -20,15 +21,15 @@ ghost use Rattle.rgo_typing_statements.specs.TypedStatements as typed;
 
 use crate::prints::print;
 use rgo_ast::{Expr, Ident, Place};
-use rgo_typed::{Action, Stmt, Term};
+use rgo_typed::{Stmt, Term};
 use rgo_typing_expressions::{
     Callee, Checked, Checker, Package, Values, bare, call, named_callee, params_of,
 };
-use rgo_typing_nodes::{check_alone, check_close, check_go_nothing, check_missing, check_print};
-use rgo_typing_rules::{Role, Shape, Signature, TypeError};
+use rgo_typing_nodes::{check_alone, check_builtin, check_go_nothing, check_missing};
+use rgo_typing_rules::{Builtin, Role, Shape, Signature, TypeError};
 use std::alloc::{AllocError, Global};
 
-/// A call of a function or of `len`, for what it does.
+/// A call of a function, for what it does.
 #[tactic(auto, using(rgo_typing_expressions::proofs::Trees::terms))]
 fn routine(alloc: Global, called: Checked<'_>) -> Result<Stmt, AllocError>
     ensures { IfOk result (λ s. stmt_of s ≡ typed.called_stmt (shape_of called.entry.shape) (term_of called.entry.term)) }
@@ -39,6 +40,28 @@ fn routine(alloc: Global, called: Checked<'_>) -> Result<Stmt, AllocError>
             term => Ok(Stmt::Discard(Box::new(alloc, term)?)),
         },
         _ => Ok(Stmt::Discard(Box::new(alloc, called.term)?)),
+    }
+}
+
+/// A call of a builtin as a statement: a print where it has no action.
+#[tactic(auto, using(rgo_typing_expressions::proofs::Trees::terms))]
+fn builtin_stmt(
+    alloc: Global,
+    builtin: Builtin,
+    args: &[Expr],
+    terms: Vec<Term>,
+    at: Place,
+) -> Result<Stmt, AllocError>
+    ensures { IfOk result (λ s. stmt_of s ≡ typed.builtin_stmt (action_of builtin) (result_of builtin)
+        (ast.exprs_of (map expr_of args.now)) (tree.terms_of (map term_of terms.items)) at) }
+{
+    match (builtin.action(), builtin.result_type()) {
+        (None, _) => print(alloc, args, terms, at),
+        (Some(action), None) => Ok(Stmt::Perform(action, terms, at)),
+        (Some(action), Some(kind)) => {
+            let ty = kind.to_type(alloc)?;
+            Ok(Stmt::Discard(Box::new(alloc, Term::Apply(action, terms, ty, at))?))
+        }
     }
 }
 
@@ -57,13 +80,9 @@ fn call_stmt<'a>(
         (tree.terms_of (map term_of values.entry.terms.items)) at) }
 {
     match callee {
-        Callee::Printer => {
-            check_print(at, Role::Alone, &values.shapes)?;
-            Ok(print(alloc, args, values.terms, at)?)
-        }
-        Callee::Closer => {
-            check_close(at, Role::Alone, &values.shapes)?;
-            Ok(Stmt::Perform(Action::Close, values.terms, at))
+        Callee::Builtin(builtin) => {
+            check_builtin(at, builtin, Role::Alone, &values.shapes)?;
+            Ok(builtin_stmt(alloc, builtin, args, values.terms, at)?)
         }
         _ => {
             let called = call(alloc, globals, Role::Alone, callee, values, at)?;

@@ -30,7 +30,7 @@ fn declare_local<'a>(
     x: &'a Ident,
 ) -> Result<(), TypeError>
     ensures { ChecksInto result (name_site checker.old.scope x.now ∷ [])
-        checker.new (spec.with_variable x.now (kind_of kind.entry) checker.old) }
+        checker.new (spec.with_local_variable x.now (kind_of kind.entry) checker.old) }
 {
     check_name(checker.scope(), x)?;
     checker.declare(x.name.bytes(), kind)?;
@@ -113,7 +113,7 @@ fn declare_defined<'a>(
 ) -> Result<Kind<'a>, TypeError>
     ensures checked { ChecksInto result (name_site checker.old.scope x.now
         ∷ (at, spec.define_node (optional_kind_of wanted.entry) (shape_of shape.entry)) ∷ [])
-        checker.new (spec.with_variable x.now (spec.type_or (optional_kind_of wanted.entry) (shape_of shape.entry)) checker.old) }
+        checker.new (spec.with_local_variable x.now (spec.type_or (optional_kind_of wanted.entry) (shape_of shape.entry)) checker.old) }
     ensures kind { IfOk result (λ k. kind_of k ≡ spec.type_or (optional_kind_of wanted.entry) (shape_of shape.entry)) }
 {
     let kind = kind_or(wanted, shape);

@@ -48,7 +48,7 @@ fn pieces(alloc: Global, args: &[Expr]) -> Result<Row<Piece>, AllocError>
 /// Appends the term of an operand, unless it is a string.
 #[tactic(auto, using(std::proofs::lemmas::List::map_push))]
 fn keep(values: &mut Vec<Term>, is_text: bool, term: Term) -> Result<(), AllocError>
-    ensures { OnOk result (map term_of values.new.items ≡ map term_of values.old.items ++ spec.kept is_text (term_of term)) }
+    ensures { OnOk result (map term_of values.new.items ≡ map term_of values.old.items ++ spec.kept_operand is_text (term_of term)) }
 {
     if !is_text {
         values.push(term)?;

@@ -4,7 +4,7 @@
 ghost use Rattle.std.specs.Prelude.{◌≡◌, true};
 ghost use Rattle.rgo_ast.specs.Views.{stmt_of};
 ghost use Rattle.rgo_typing_statements.specs.Outcomes.{Appends, is_simple, stmt_outcome};
-ghost use Rattle.rgo_typing_statements.specs.Statements.{in_a_loop};
+ghost use Rattle.rgo_typing_statements.specs.Statements.{within_loop};
 ghost use Rattle.rgo_typing_statements.specs.Views.{enclosing_of};
 
 use crate::calls::{go, plain};
@@ -27,7 +27,7 @@ pub struct Enclosing<'a> {
 impl<'a> Enclosing<'a> {
     /// The same in a `for`.
     pub fn in_a_loop(self) -> Enclosing<'a>
-        ensures { enclosing_of result ≡ in_a_loop (enclosing_of self.entry) }
+        ensures { enclosing_of result ≡ within_loop (enclosing_of self.entry) }
     {
         Enclosing {
             result_type: self.result_type,

@@ -4,7 +4,7 @@ use Rattle.rgo_ast.specs.Views.{local_var_of}
 use Rattle.rgo_typing_rules.specs.Checks.{Refuses}
 use Rattle.rgo_typing_rules.specs.Sites.{first_refusal}
 use Rattle.rgo_typing_statements.specs.Outcomes.{var_outcome, vars_outcome}
-use Rattle.rgo_typing_statements.specs.Statements.{vars_sites, after_var}
+use Rattle.rgo_typing_statements.specs.Statements.{local_vars_sites, after_var}
 use Rattle.rgo_typing_packages.proofs.Lists.{opened_map}
 use Rattle.rgo_typing_statements.proofs.Turns.{refused_stmt, appended}
 use Rattle.rgo_typing_statements.proofs.locals.declare_vars.Goals as goal
@@ -16,7 +16,7 @@ returns-in_err-declare_var c =
     let v = c.var-item.result in
     let rest = map local_var_of (drop (c.loop-var.var-index + 1) c.args.vars.now) in
     let here = opened_map local_var_of c.args.vars.now c.loop-var.var-index v c.var-item.is (omega arith) in
-    let refuses : Refuses e (first_refusal (vars_sites c.args.checker.now (map local_var_of c.args.vars.now))) =
+    let refuses : Refuses e (first_refusal (local_vars_sites c.args.checker.now (map local_var_of c.args.vars.now))) =
     refused_stmt c.loop-var.invariant (local_var_of v) rest here
     (var_outcome k (local_var_of v)) (vars_outcome (after_var k (local_var_of v)) rest) refl e c.in_err-declare_var.ensures in
     search rules

@@ -5,7 +5,7 @@ use Rattle.rgo_ast.specs.Tree.{exprs_of}
 use Rattle.rgo_ast.specs.Views.{expr_of}
 use Rattle.rgo_typed.specs.Tree.{terms_of}
 use Rattle.rgo_typed.specs.Views.{term_of}
-use Rattle.rgo_typing_statements.specs.TypedStatements.{printed_terms, is_text, kept}
+use Rattle.rgo_typing_statements.specs.TypedStatements.{printed_terms, is_text, kept_operand}
 use Rattle.rgo_typing_expressions.specs.Callees.{bare}
 use Rattle.rgo_typing_expressions.proofs.Lists.{terms_before, no_more}
 use Rattle.rgo_typing_statements.proofs.Printed.{one_operand, printed_none, no_items, one_less}
@@ -26,7 +26,7 @@ loop-arg-preserved c =
     let more = terms_of (map term_of (into_iter_items c.next.new.self)) in
     let is : c.is_text.result ≡ is_text (bare (expr_of c.arg-item.result)) = c.is_text.ensures ∙ ap is_text c.bare.ensures in (
       ap (λ l. terms_before l (printed_terms (exprs_of (map expr_of (drop (c.loop-arg.arg-index + 1) c.args.args.now))) more)) c.in_ok-keep-in-Some.ensures
-          ∙ ap (λ b. terms_before (o ++ kept b t) (printed_terms (exprs_of (map expr_of (drop (c.loop-arg.arg-index + 1) c.args.args.now))) more)) is
+          ∙ ap (λ b. terms_before (o ++ kept_operand b t) (printed_terms (exprs_of (map expr_of (drop (c.loop-arg.arg-index + 1) c.args.args.now))) more)) is
           ∙ one_operand c.args.args.now c.loop-arg.arg-index c.arg-item.result c.arg-item.is (omega arith) o t more
           ∙ ap (λ l. terms_before o (printed_terms (exprs_of (map expr_of (drop c.loop-arg.arg-index c.args.args.now))) (terms_of (map term_of l)))) (sym c.in-Some.ensures.cases.0)
           ∙ c.loop-arg.invariant.0,
