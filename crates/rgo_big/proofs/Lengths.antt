@@ -4,18 +4,18 @@ use Rattle.std.specs.List.{flat_map, range_with_len}
 use Rattle.std.proofs.Math.Nat.{mod-lt}
 use Rattle.std.proofs.lemmas.Fmt.{length-decimal-le}
 use Rattle.std.proofs.lemmas.List.{length-append}
-use Rattle.rgo_big.specs.Big.{big_text, lists, main_text, numbered, starter, starters, summer, summers, sums}
+use Rattle.rgo_big.specs.Big.{big_text, lists, main_text, numbered_bytes, starter, starters, summer, summers, sums}
 
 -- bytes, a number, and what follows
 three_lengths : (a b c : List ℕ) → length (a ++ (b ++ c)) ≡ length a + (length b + length c)
 three_lengths a b c = let e = length-append a (b ++ c) in let f = length-append b c in omega (arith, e, f)
 
-number_length : (bytes : List ℕ) (n : ℕ) → n < 2 ^ 32 → length (numbered bytes n) ≤ length bytes + 10
+number_length : (bytes : List ℕ) (n : ℕ) → n < 2 ^ 32 → length (numbered_bytes bytes n) ≤ length bytes + 10
 number_length bytes n small =
     let ten = length-decimal-le 10 n (omega arith) (omega (arith, small)) (omega (arith, small)) in
     omega (arith, ten, length-append bytes (decimal n))
 
-digits_length : (bytes : List ℕ) (k : ℕ) → length (numbered bytes (k % 10 + 1)) ≤ length bytes + 2
+digits_length : (bytes : List ℕ) (k : ℕ) → length (numbered_bytes bytes (k % 10 + 1)) ≤ length bytes + 2
 digits_length bytes k =
     let below : k % 10 < 10 = mod-lt k (omega arith) in
     let two = length-decimal-le 2 (k % 10 + 1) (omega arith) (omega (arith, below)) (omega (arith, below)) in
@@ -23,8 +23,8 @@ digits_length bytes k =
 
 summer_length : (k : ℕ) → k < 2 ^ 32 → length (summer k) ≤ 52
 summer_length k small =
-    let first : length (numbered (codes "func f") k) ≤ 16 = number_length (codes "func f") k small in
-    let second : length (numbered (codes "(c chan int) { c <- sum(list(") (k % 10 + 1)) ≤ 31 =
+    let first : length (numbered_bytes (codes "func f") k) ≤ 16 = number_length (codes "func f") k small in
+    let second : length (numbered_bytes (codes "(c chan int) { c <- sum(list(") (k % 10 + 1)) ≤ 31 =
     digits_length (codes "(c chan int) { c <- sum(list(") k in
     let third : length (codes ")) }\n") ≡ 5 = refl in
     omega (
@@ -32,21 +32,21 @@ summer_length k small =
       first,
       second,
       third,
-      three_lengths (numbered (codes "func f") k)
-          (numbered (codes "(c chan int) { c <- sum(list(") (k % 10 + 1)) (codes ")) }\n"),
+      three_lengths (numbered_bytes (codes "func f") k)
+          (numbered_bytes (codes "(c chan int) { c <- sum(list(") (k % 10 + 1)) (codes ")) }\n"),
     )
 
 starter_length : (k : ℕ) → k < 2 ^ 32 → length (starter k) ≤ 19
 starter_length k small =
-    let first : length (numbered (codes "\tgo f") k) ≤ 15 = number_length (codes "\tgo f") k small in
+    let first : length (numbered_bytes (codes "\tgo f") k) ≤ 15 = number_length (codes "\tgo f") k small in
     let second : length (codes "(c)\n") ≡ 4 = refl in
-    omega (arith, first, second, length-append (numbered (codes "\tgo f") k) (codes "(c)\n"))
+    omega (arith, first, second, length-append (numbered_bytes (codes "\tgo f") k) (codes "(c)\n"))
 
 sums_length : (n : ℕ) → n < 2 ^ 32 → length (sums n) ≤ 87
 sums_length n small =
-    let first : length (numbered (codes "\ts := 0\n\tfor i := 0; i < ") n) ≤ 35 =
+    let first : length (numbered_bytes (codes "\ts := 0\n\tfor i := 0; i < ") n) ≤ 35 =
     number_length (codes "\ts := 0\n\tfor i := 0; i < ") n small in
-    let second : length (numbered (codes "; i++ {\n\t\ts += <-c\n\t}\n\tfmt.Println(") n) ≤ 45 =
+    let second : length (numbered_bytes (codes "; i++ {\n\t\ts += <-c\n\t}\n\tfmt.Println(") n) ≤ 45 =
     number_length (codes "; i++ {\n\t\ts += <-c\n\t}\n\tfmt.Println(") n small in
     let third : length (codes ", s)\n}\n") ≡ 7 = refl in
     omega (
@@ -54,11 +54,11 @@ sums_length n small =
       first,
       second,
       third,
-      three_lengths (numbered (codes "\ts := 0\n\tfor i := 0; i < ") n)
-          (numbered (codes "; i++ {\n\t\ts += <-c\n\t}\n\tfmt.Println(") n) (codes ", s)\n}\n"),
+      three_lengths (numbered_bytes (codes "\ts := 0\n\tfor i := 0; i < ") n)
+          (numbered_bytes (codes "; i++ {\n\t\ts += <-c\n\t}\n\tfmt.Println(") n) (codes ", s)\n}\n"),
     )
 
--- lines of which each has at most so many bytes
+-- lines with a bound on the bytes of each
 lines_length : (line : ℕ → List ℕ) (most : ℕ) → ((k : ℕ) → k < 2 ^ 32 → length (line k) ≤ most)
     → (count first : ℕ) → first + count ≤ 2 ^ 32
     → length (flat_map line (range_with_len first count)) ≤ most * count

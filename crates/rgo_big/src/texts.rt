@@ -1,12 +1,13 @@
-//! The large text, line by line.
+//! Writes the large text part by part, in the order of its definition (specs/Big.antt). rgo_run calls [`big_source`] and then treats
+//! the text like any other.
 
 ghost use Rattle.std.specs.Prelude.{◌≡◌, ◌++◌, ◌+◌, ◌*◌, ◌≤◌, IfOk, OnOk, decimal, length};
-ghost use Rattle.rgo_big.specs.Big.{big_text, main_text, numbered, starter, starters, summer, summers, sums};
+ghost use Rattle.rgo_big.specs.Big.{big_text, main_text, numbered_bytes, starter, starters, summer, summers, sums};
 
 use itoa::Buffer;
 use std::alloc::{AllocError, Global};
 
-/// What stands before the functions of the goroutines: lists, and the sum of one.
+/// The beginning of the text, the same for every number: a list type, and functions that build and sum a list.
 const LISTS: &[u8] =
     b"package main\n\nimport \"fmt\"\n\ntype N struct {\n\tv int\n\tnext *N\n}\n\nfunc list(n int) *N {\n\tvar l *N\n\tfor i := 0; i < n; i++ {\n\t\tl = &N{i, l}\n\t}\n\treturn l\n}\n\nfunc sum(l *N) int {\n\ts := 0\n\tfor l != nil {\n\t\ts += l.v\n\t\tl = l.next\n\t}\n\treturn s\n}\n\n";
 
@@ -23,15 +24,15 @@ fn write_number(text: &mut Vec<u8>, n: u32) -> Result<(), AllocError>
     text.extend_from_slice(buffer.format(n).as_bytes())
 }
 
-/// Some bytes, and a number after them.
+/// Appends some bytes and then a number.
 fn write_numbered(text: &mut Vec<u8>, bytes: &[u8], n: u32) -> Result<(), AllocError>
-    ensures { OnOk result (text.new.items ≡ text.old.items ++ numbered bytes.now n) }
+    ensures { OnOk result (text.new.items ≡ text.old.items ++ numbered_bytes bytes.now n) }
 {
     write(text, bytes)?;
     write_number(text, n)
 }
 
-/// The function of a goroutine.
+/// Appends the function of goroutine `k`.
 fn write_summer(text: &mut Vec<u8>, k: u32) -> Result<(), AllocError>
     ensures { OnOk result (text.new.items ≡ text.old.items ++ summer k) }
 {
@@ -41,7 +42,7 @@ fn write_summer(text: &mut Vec<u8>, k: u32) -> Result<(), AllocError>
     Ok(())
 }
 
-/// The functions of the first goroutines.
+/// Appends the functions of the first `n` goroutines.
 fn write_summers(text: &mut Vec<u8>, n: u32) -> Result<(), AllocError>
     ensures { OnOk result (text.new.items ≡ text.old.items ++ summers n) }
 {
@@ -51,7 +52,7 @@ fn write_summers(text: &mut Vec<u8>, n: u32) -> Result<(), AllocError>
     Ok(())
 }
 
-/// The start of a goroutine.
+/// Appends the statement that starts goroutine `k`.
 fn write_starter(text: &mut Vec<u8>, k: u32) -> Result<(), AllocError>
     ensures { OnOk result (text.new.items ≡ text.old.items ++ starter k) }
 {
@@ -60,7 +61,7 @@ fn write_starter(text: &mut Vec<u8>, k: u32) -> Result<(), AllocError>
     Ok(())
 }
 
-/// The starts of the first goroutines.
+/// Appends the statements that start the first `n` goroutines.
 fn write_starters(text: &mut Vec<u8>, n: u32) -> Result<(), AllocError>
     ensures { OnOk result (text.new.items ≡ text.old.items ++ starters n) }
 {
@@ -70,7 +71,7 @@ fn write_starters(text: &mut Vec<u8>, n: u32) -> Result<(), AllocError>
     Ok(())
 }
 
-/// What `main` does after the starts.
+/// Appends the rest of `main` after the starts: it receives all sums and prints `n` and their total.
 fn write_sums(text: &mut Vec<u8>, n: u32) -> Result<(), AllocError>
     ensures { OnOk result (text.new.items ≡ text.old.items ++ sums n) }
 {
@@ -80,7 +81,7 @@ fn write_sums(text: &mut Vec<u8>, n: u32) -> Result<(), AllocError>
     Ok(())
 }
 
-/// The function `main`.
+/// Appends the function `main`.
 fn write_main(text: &mut Vec<u8>, n: u32) -> Result<(), AllocError>
     ensures { OnOk result (text.new.items ≡ text.old.items ++ main_text n) }
 {
@@ -90,12 +91,14 @@ fn write_main(text: &mut Vec<u8>, n: u32) -> Result<(), AllocError>
     Ok(())
 }
 
-/// The text of a program with `n` goroutines beside `main`. The one of number `k`, counted from 0, makes a list of the
-/// numbers below `k % 10 + 1` and sends their sum to `main`, which prints `n` and the sum of all: 165 for each ten.
+/// The text of a program with `n` goroutines besides `main`. Goroutine `k`, counted from 0, makes a list of the numbers below
+/// `k % 10 + 1` and sends their sum to `main`, which prints `n` and the sum of all: 165 for each ten goroutines.
+///
+/// The text has at most 71 bytes per goroutine, plus 364.
 ///
 /// # Errors
 ///
-/// On allocation failure. The text has at most 71 bytes for each goroutine, and 364 more.
+/// If an allocation failed.
 pub fn big_source(alloc: Global, n: u32) -> Result<Vec<u8>, AllocError>
     ensures text { IfOk result (λ text. text.items ≡ big_text n) }
     ensures length { IfOk result (λ text. length text.items ≤ 71 * n + 364) }

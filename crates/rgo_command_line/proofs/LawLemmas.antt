@@ -11,9 +11,9 @@ use Rattle.std.proofs.lemmas.List.Sorted.{IsPermutation-map}
 use Rattle.std.proofs.lemmas.Slice.Eq.{bytes_eq-Decides}
 use Rattle.clap.specs.Words.{Text}
 use Rattle.rgo_command_line.specs.Commands.{command_of}
-use Rattle.rgo_command_line.specs.Laws.{ArePlain, AreWordsOf, AskExactly, AskToRun, Give, IsEnd, SetFlag, SetOptions}
+use Rattle.rgo_command_line.specs.Laws.{ArePlain, AreWordsOf, AskExactly, AskToRun, SetsOption, IsEnd, SetFlag, SetOptions}
 use Rattle.rgo_command_line.specs.Laws.{HoldNumber, joined}
-use Rattle.rgo_command_line.specs.Limits.{Fits, big_by, goroutine_bounds, limit_by, most_words, page_bounds, page_word_bounds}
+use Rattle.rgo_command_line.specs.Limits.{PagesFit, big_by, goroutine_bounds, limit_by, most_words, page_bounds, page_word_bounds}
 use Rattle.rgo_command_line.specs.Limits.{region_bounds, step_bounds, worker_bounds}
 use Rattle.rgo_command_line.specs.Numbers.{is_numeral, within}
 use Rattle.rgo_command_line.specs.declared.commands.Command.{Command}
@@ -51,7 +51,7 @@ record Sets (v : Values) (options : RunOptions) : Type 0 where
   is_regions : limit_by region_bounds (v (number regions)) ≡ Some options.sizes.regions
   is_workers : limit_by worker_bounds (v (number workers)) ≡ Some options.workers
   is_stats : is_some (v stats) ≡ options.stats
-  fits : Fits options.sizes
+  fits : PagesFit options.sizes
 
 fits_by : (n : ℕ) → nat_le n most_words ≡ true → n ≤ most_words
 fits_by n e = grind (arith, nat_tests, e)
@@ -509,7 +509,7 @@ ask_plain p words (program, ending, inr dashes, is) =
     ap command_of (is ∙ ap (λ e. program ∷ name_of p ∷ e) dashes) ∙ ended p program
 
 -- an option of which there are no words has no value
-none_given : (value : Option Text) (mine : List Text) → Give (codes "workers") value mine → mine ≡ []
+none_given : (value : Option Text) (mine : List Text) → SetsOption (codes "workers") value mine → mine ≡ []
     → is_some value ≡ false
 none_given None mine give empty = refl
 none_given (Some text) mine (inl give) empty = absurd (let one : [] ≡ (codes "--" ++ codes "workers") ∷ text ∷ [] = sym empty ∙ give in cc)

@@ -8,7 +8,7 @@ use Rattle.std.specs.Str.Parse.{ParsesUnsigned, digits_value}
 use Rattle.std.proofs.lemmas.Bool.{cases_lt}
 use Rattle.std.proofs.lemmas.Bool.Decides.{nat_tests}
 use Rattle.std.proofs.lemmas.Str.Parse.{numerals_by_value, parse_digits, tells_all_ascii_digits}
-use Rattle.rgo_command_line.specs.Numbers.{is_numeral, number_of, within}
+use Rattle.rgo_command_line.specs.Numbers.{is_numeral, numeral_value, within}
 
 same_test : (digits : List ℕ) → list_all is_ascii_digit digits ≡ all_ascii_digits digits
 same_test [] = refl
@@ -22,7 +22,7 @@ pub too_large : {E : Type 0} (least most : ℕ) (text : List ℕ) (error : E)
     → ParsesUnsigned 64 10 text (Err error)
     → is_numeral text ≡ true
     → most < 2 ^ 64
-    → within least most (number_of text) ≡ None
+    → within least most (numeral_value text) ≡ None
 too_large least most text error parses numeral fits =
     let parts = both (nat_lt 0 (length text)) (list_all is_ascii_digit text) numeral in
     let some : 0 < length text = grind (arith, nat_tests, parts.0) in

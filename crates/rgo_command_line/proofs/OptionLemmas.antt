@@ -12,7 +12,7 @@ use Rattle.std.proofs.lemmas.List.Sorted.{IsPermutation-trans, list_any-IsPermut
 use Rattle.std.proofs.lemmas.Map.Keys.{IsDistinct-IsPermutation, IsDistinct-tail}
 use Rattle.clap.specs.Words.{Row, Text}
 use Rattle.clap.specs.Walk.{has_row}
-use Rattle.rgo_command_line.specs.Laws.{Give, IsEnd, joined}
+use Rattle.rgo_command_line.specs.Laws.{SetsOption, IsEnd, joined}
 use Rattle.rgo_command_line.specs.Numbers.{is_numeral}
 use Rattle.rgo_command_line.proofs.OrderLemmas.{is_name, names, names_distinct, no_words, not_again, other_words}
 use Rattle.rgo_command_line.proofs.OrderLemmas.{same, same_flips, same_is, same_self, split, still_among}
@@ -27,7 +27,7 @@ use Rattle.rgo_command_line.proofs.WordLemmas.{kind_of_word, named, number, numb
 
 -- the words that give an option this value, or none
 abbrev pub Gives : Name → Option Text → List Text → Type 0
-Gives (number n) value words = Give (number_text n) value words
+Gives (number n) value words = SetsOption (number_text n) value words
 Gives stats None words = words ≡ []
 Gives stats (Some value) words = (value ≡ codes "true") × (words ≡ dashed stats ∷ [])
 

@@ -40,8 +40,8 @@ abbrev pub command_of : List Text → Option Command
 command_of words = if is_refused words then None else command_met (subcommand_of parser words)
 
 -- the command that the words ask for is returned, and `Usage` only where they ask for nothing
-abbrev pub Reads : List Text → Result Command WordsError → Type 0
-Reads words answer = MatchResult answer
+abbrev pub ReadsCommand : List Text → Result Command WordsError → Type 0
+ReadsCommand words answer = MatchResult answer
     (λ command. command_of words ≡ Some command)
     (λ error. error ≡ Usage → command_of words ≡ None)
 

@@ -3,7 +3,7 @@ use Rattle.std.specs.Prelude.{◌≡◌, ◌⊎◌, ◌↔◌, ℕ, Bool, true, 
 use Rattle.std.specs.Prelude.{IsPermutation}
 use Rattle.clap.specs.Words.{Text}
 use Rattle.rgo_command_line.specs.Commands.{command_of}
-use Rattle.rgo_command_line.specs.Limits.{Fits, big_by, default_options, goroutine_bounds, limit_by, page_bounds, page_word_bounds}
+use Rattle.rgo_command_line.specs.Limits.{PagesFit, big_by, default_options, goroutine_bounds, limit_by, page_bounds, page_word_bounds}
 use Rattle.rgo_command_line.specs.Limits.{region_bounds, step_bounds, worker_bounds}
 use Rattle.rgo_command_line.specs.declared.commands.Command.{Command}
 use Rattle.rgo_command_line.specs.declared.commands.Command.TheVariants.{Run, Check, Emit, Code, Big, Record, Replay, RunCode}
@@ -12,16 +12,16 @@ use Rattle.rgo_command_line.specs.declared.limits.RunOptions.{RunOptions}
 use Rattle.rgo_machine.specs.declared.limits.Limits.{Limits}
 use Rattle.rgo_machine.specs.declared.limits.Sizes.{Sizes}
 
--- the words that give the option of this name this value: `--name value`, `--name=value`, or none
-abbrev pub Give : Text → Option Text → List Text → Type 0
-Give name None words = words ≡ []
-Give name (Some value) words =
+-- the words that set the option of this name to this value: `--name value` or `--name=value`; without a value, no words
+abbrev pub SetsOption : Text → Option Text → List Text → Type 0
+SetsOption name None words = words ≡ []
+SetsOption name (Some value) words =
     (words ≡ (codes "--" ++ name) ∷ value ∷ [])
     ⊎ (words ≡ (codes "--" ++ (name ++ (codes "=" ++ value))) ∷ [])
 
--- the words set the number of this option: they give it a value, or they are none and it has its default
+-- the words set the number of this option: to a value, or without words to its default
 abbrev pub SetNumber : Text → Bounds → ℕ → List Text → Type 0
-SetNumber name bounds n words = (value : Option Text) × (limit_by bounds value ≡ Some n) × Give name value words
+SetNumber name bounds n words = (value : Option Text) × (limit_by bounds value ≡ Some n) × SetsOption name value words
 
 -- the word `--name` sets the flag of this name, and no words leave it unset
 abbrev pub SetFlag : Text → Bool → List Text → Type 0
@@ -51,7 +51,7 @@ pub record SetOptions (options : RunOptions) (words : List Text) : Type 0 where
   pub set_regions : SetNumber (codes "regions") region_bounds options.sizes.regions regions
   pub set_workers : SetNumber (codes "workers") worker_bounds options.workers workers
   pub set_stats : SetFlag (codes "stats") options.stats stats
-  pub fits : Fits options.sizes
+  pub fits : PagesFit options.sizes
   pub order : List (List Text)
   pub permuted : IsPermutation (steps ∷ goroutines ∷ pages ∷ page_words ∷ regions ∷ workers ∷ stats ∷ []) order
   pub whole : words ≡ joined order

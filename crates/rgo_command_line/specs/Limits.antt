@@ -4,7 +4,7 @@ use Rattle.std.specs.Prelude.{if◌then◌else◌, ◌||◌, is_some, option_map
 use Rattle.std.specs.Option.{option_map_or}
 use Rattle.std.specs.Str.{bytes_eq}
 use Rattle.clap.specs.Words.{Row, Text, first_of}
-use Rattle.rgo_command_line.specs.Numbers.{number_of, within}
+use Rattle.rgo_command_line.specs.Numbers.{numeral_value, within}
 use Rattle.rgo_command_line.specs.declared.limits.Bounds.{Bounds}
 use Rattle.rgo_command_line.specs.declared.limits.RunOptions.{RunOptions}
 use Rattle.rgo_machine.specs.declared.limits.Limits.{Limits}
@@ -40,35 +40,35 @@ IsBig n = (1 ≤ n) × (n ≤ most_big)
 abbrev pub most_words : ℕ
 most_words = 16777216
 
-abbrev pub LiesIn : Bounds → ℕ → Type 0
-LiesIn bounds n = (bounds.least ≤ n) × (n ≤ bounds.most)
+abbrev pub LiesInBounds : Bounds → ℕ → Type 0
+LiesInBounds bounds n = (bounds.least ≤ n) × (n ≤ bounds.most)
 
 -- each limit is one that its option takes
 pub record LimitsLieInBounds (limits : Limits) : Type 0 where
-  pub steps : LiesIn step_bounds limits.steps
-  pub goroutines : LiesIn goroutine_bounds limits.goroutines
+  pub steps : LiesInBounds step_bounds limits.steps
+  pub goroutines : LiesInBounds goroutine_bounds limits.goroutines
 
 -- each size is one that its option takes
 pub record SizesLieInBounds (sizes : Sizes) : Type 0 where
-  pub pages : LiesIn page_bounds sizes.pages
-  pub page_words : LiesIn page_word_bounds sizes.page_words
-  pub regions : LiesIn region_bounds sizes.regions
+  pub pages : LiesInBounds page_bounds sizes.pages
+  pub page_words : LiesInBounds page_word_bounds sizes.page_words
+  pub regions : LiesInBounds region_bounds sizes.regions
 
 -- all pages together have at most this many words
-abbrev pub Fits : Sizes → Type 0
-Fits sizes = sizes.pages * sizes.page_words ≤ most_words
+abbrev pub PagesFit : Sizes → Type 0
+PagesFit sizes = sizes.pages * sizes.page_words ≤ most_words
 
 -- each number is one that its option takes, and the pages are not too large together
 pub record LieInBounds (options : RunOptions) : Type 0 where
   pub limits : LimitsLieInBounds options.limits
   pub sizes : SizesLieInBounds options.sizes
-  pub workers : LiesIn worker_bounds options.workers
-  pub fits : Fits options.sizes
+  pub workers : LiesInBounds worker_bounds options.workers
+  pub fits : PagesFit options.sizes
 
 -- the limit that an option sets by its value; the default without one
 abbrev pub limit_by : Bounds → Option Text → Option ℕ
 limit_by bounds None = Some bounds.default
-limit_by bounds (Some text) = within bounds.least bounds.most (number_of text)
+limit_by bounds (Some text) = within bounds.least bounds.most (numeral_value text)
 
 -- the limit that the option of this name sets
 abbrev pub limit_of : Text → Bounds → List Row → Option ℕ
@@ -114,8 +114,8 @@ options_of rows =
     (sizes_of rows))
     (limits_of rows)
 
--- What the options of `record` set: those of `run` but for the number of workers and the counts. None where the words give
--- one of these.
+-- What the options of `record` set: those of `run` but for the number of workers and the counts. None if the words have one
+-- of these.
 abbrev pub recording_of : List Row → Option RunOptions
 recording_of rows =
     option_and_then (λ options. if is_some (first_of (codes "workers") rows) || options.stats then None else Some options)
@@ -130,9 +130,9 @@ default_options = record {
   stats = false;
 }
 
--- the number of goroutines that this word gives `big`, if it is one that it takes
+-- the number of goroutines that this word asks `big` for, if `big` takes it
 abbrev pub big_by : Text → Option ℕ
-big_by text = within 1 most_big (number_of text)
+big_by text = within 1 most_big (numeral_value text)
 
 -- the same, by what was found for the word
 abbrev pub big_of : List Row → Option ℕ

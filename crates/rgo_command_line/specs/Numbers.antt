@@ -10,8 +10,8 @@ abbrev pub is_numeral : List ℕ → Bool
 is_numeral text = nat_lt 0 (length text) && list_all is_ascii_digit text
 
 -- the number that the text writes, if it is one
-abbrev pub number_of : List ℕ → Option ℕ
-number_of text = if is_numeral text then Some (digits_value 10 text) else None
+abbrev pub numeral_value : List ℕ → Option ℕ
+numeral_value text = if is_numeral text then Some (digits_value 10 text) else None
 
 -- the number, where it is from `least` to `most`
 abbrev pub within : ℕ → ℕ → Option ℕ → Option ℕ

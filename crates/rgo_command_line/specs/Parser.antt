@@ -11,7 +11,7 @@ number_option name = record (new_rule name) { long = Some name; action = Some Se
 abbrev pub flag_option : Text → Rule
 flag_option name = record (new_rule name) { long = Some name; action = Some SetTrue }
 
--- a word that has to be there, and is no option
+-- a required word that is not an option
 abbrev pub required_word : Text → Rule
 required_word name = record (new_rule name) { action = Some Set; required = true }
 

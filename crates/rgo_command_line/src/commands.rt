@@ -2,7 +2,7 @@
 
 ghost use Rattle.std.specs.Prelude.{◌≡◌, IfOk, IfSome, map, string_bytes};
 ghost use Rattle.clap.specs.Words.{found_of, rows_of, subcommand_rows_of};
-ghost use Rattle.rgo_command_line.specs.Commands.{KeepsBounds, Reads, command_met, command_named};
+ghost use Rattle.rgo_command_line.specs.Commands.{KeepsBounds, ReadsCommand, command_met, command_named};
 ghost use Rattle.rgo_command_line.specs.declared.commands.WordsError.TheVariants.{NoMemory};
 
 use crate::limits::{RunOptions, big_of, options_of, recording_of};
@@ -34,7 +34,7 @@ pub enum Command {
     RunCode(RunOptions),
 }
 
-/// Why the words are no command.
+/// Why the words are not a command.
 #[derive(Clone, Copy, Debug, PartialEq, Eq, Error)]
 pub enum WordsError {
     /// Memory ran out. It may be returned for any words, also for those that ask for nothing.
@@ -71,6 +71,7 @@ fn command_named(name: &str, matches: &ArgMatches<'_>) -> Option<Command>
     }
 }
 
+/// `clap` accepts words without a subcommand, too, which ask for nothing.
 fn command_met(matches: &ArgMatches<'_>) -> Option<Command>
     ensures value { result ≡ command_met (subcommand_rows_of matches.now) }
     ensures bounds { IfSome result KeepsBounds }
@@ -96,11 +97,11 @@ fn command_met(matches: &ArgMatches<'_>) -> Option<Command>
 /// `--` may end the words.
 ///
 /// `big` takes a number of goroutines and no option: one or more decimal digits, from 1 to 10,000.
-/// A `--` may stand after the number or before it.
+/// A `--` may appear after the number or before it.
 ///
 /// `Usage` is returned only where they ask for nothing; `NoMemory` may be returned for any words.
 pub fn read_words(alloc: Global, words: &[String]) -> Result<Command, WordsError>
-    ensures asked { Reads (map string_bytes words.now) result }
+    ensures asked { ReadsCommand (map string_bytes words.now) result }
     ensures bounds { IfOk result KeepsBounds }
 {
     let parser = parser(alloc)?;

@@ -2,7 +2,7 @@
 
 ghost use Rattle.std.specs.Prelude.{◌≡◌, false, IfSome};
 ghost use Rattle.clap.specs.Words.{found_of, rows_of};
-ghost use Rattle.rgo_command_line.specs.Limits.{Fits, IsBig, LieInBounds, LiesIn, LimitsLieInBounds, SizesLieInBounds};
+ghost use Rattle.rgo_command_line.specs.Limits.{PagesFit, IsBig, LieInBounds, LiesInBounds, LimitsLieInBounds, SizesLieInBounds};
 ghost use Rattle.rgo_command_line.specs.Limits.{big_of, fitting, is_given, limit_of, limits_of, options_of, recording_of, sizes_of};
 
 use crate::numbers::number_within;
@@ -109,7 +109,7 @@ const MOST_WORDS: usize = 16_777_216;
 #[tactic(auto, using(crate::proofs::RowLemmas::first_value_rows))]
 fn limit(matches: &ArgMatches<'_>, name: &str, bounds: Bounds) -> Option<u64>
     ensures value { result ≡ limit_of name.now bounds (rows_of (found_of matches.now)) }
-    ensures range { LiesIn bounds bounds.default → IfSome result (LiesIn bounds) }
+    ensures range { LiesInBounds bounds bounds.default → IfSome result (LiesInBounds bounds) }
 {
     match matches.get_str(name) {
         Some(text) => number_within(text, bounds.least, bounds.most),
@@ -140,7 +140,7 @@ fn fitting(sizes: Sizes) -> Option<Sizes>
     requires { SizesLieInBounds sizes }
     ensures value { result ≡ fitting sizes }
     ensures same { IfSome result (λ kept. kept ≡ sizes) }
-    ensures fits { IfSome result Fits }
+    ensures fits { IfSome result PagesFit }
 {
     if sizes.pages * sizes.page_words <= MOST_WORDS {
         Some(sizes)
@@ -152,7 +152,7 @@ fn fitting(sizes: Sizes) -> Option<Sizes>
 fn sizes_of(matches: &ArgMatches<'_>) -> Option<Sizes>
     ensures value { result ≡ sizes_of (rows_of (found_of matches.now)) }
     ensures range { IfSome result SizesLieInBounds }
-    ensures fits { IfSome result Fits }
+    ensures fits { IfSome result PagesFit }
 {
     fitting(Sizes {
         page_words: limit(matches, "page-words", PAGE_WORDS)? as usize,
@@ -175,8 +175,8 @@ pub(crate) fn options_of(matches: &ArgMatches<'_>) -> Option<RunOptions>
     })
 }
 
-/// What the options of `record` set, which are those of `run` but for `--workers` and `--stats`; none where the words give
-/// one of these two.
+/// What the options of `record` set, which are those of `run` but for `--workers` and `--stats`; none if the words have one of
+/// these two. `clap` reads both commands in the same way, so these are refused here.
 #[tactic(auto, using(crate::proofs::RowLemmas::first_value_rows))]
 pub(crate) fn recording_of(matches: &ArgMatches<'_>) -> Option<RunOptions>
     ensures value { result ≡ recording_of (rows_of (found_of matches.now)) }

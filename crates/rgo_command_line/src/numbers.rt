@@ -3,7 +3,7 @@
 ghost use Rattle.std.specs.Prelude.{◌≡◌, ◌≤◌, IfSome, Some};
 ghost use Rattle.std.specs.Char.{is_ascii_digit};
 ghost use Rattle.std.specs.List.{list_all};
-ghost use Rattle.rgo_command_line.specs.Numbers.{is_numeral, number_of, within};
+ghost use Rattle.rgo_command_line.specs.Numbers.{is_numeral, numeral_value, within};
 
 fn are_digits(bytes: &[u8]) -> bool
     ensures { result ≡ list_all is_ascii_digit bytes.now }
@@ -32,7 +32,7 @@ fn in_range(number: u64, least: u64, most: u64) -> Option<u64>
 ///
 /// Leading zeros are allowed, a sign is not.
 pub(crate) fn number_within(text: &str, least: u64, most: u64) -> Option<u64>
-    ensures value { result ≡ within least most (number_of text.now) }
+    ensures value { result ≡ within least most (numeral_value text.now) }
     ensures range { IfSome result (λ number. (least ≤ number) × (number ≤ most)) }
 {
     // `parse` takes a sign.

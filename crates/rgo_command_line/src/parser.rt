@@ -1,4 +1,4 @@
-//! The command line as `clap` is given it.
+//! The command line as data of `clap`. Why not a parser of our own: docs/DECISIONS.md, "Errors and statuses".
 
 ghost use Rattle.std.specs.Prelude.{◌≡◌, IfOk, false};
 ghost use Rattle.clap.specs.Words.{app_of, rule_of};
@@ -24,7 +24,7 @@ fn flag_option<'a>(alloc: Global, name: &'a str) -> Arg<'a>
     Arg::new(alloc, name).long(name).action(ArgAction::SetTrue)
 }
 
-// A word that has to be there, and is no option.
+// A required word that is not an option.
 fn required_word<'a>(alloc: Global, name: &'a str) -> Arg<'a>
     ensures rule { rule_of result ≡ required_word name.entry.now }
     ensures local { result.global ≡ false }

@@ -1,4 +1,4 @@
--- The first bad lexeme: the first one that continues no program.
+-- The first bad lexeme: the first that cannot continue any program. Why: docs/DECISIONS.md, "Refusals".
 use Rattle.std.specs.Prelude.{◌≡◌, ℕ, ◌+◌, ◌<◌, ◌≤◌, List, ◌++◌, length, take}
 use Rattle.rgo_ast.specs.Tree.{Import, Decl}
 use Rattle.rgo_lexer.specs.Lexemes.{Lexeme}
@@ -9,8 +9,8 @@ abbrev pub Begins : List Lexeme → Type 0
 Begins l =
     (w : List Lexeme) × (imports : List Import) × (decls : List Decl) × IsProgram (l ++ w) imports decls
 
--- The first k lexemes begin a program and the first k + 1 do not; or there are only k, and they are
--- no program.
+-- Some program begins with the first k lexemes, and none with the first k + 1; or there are only k lexemes, and they are not a
+-- program.
 pub record IsFirstBad (l : List Lexeme) (k : ℕ) : Type 0 where
   pub within : k ≤ length l
   pub before : Begins (take k l)

@@ -1,5 +1,5 @@
--- The grammar: a case for each production. Each list of tokens includes its closing bracket; a `;`
--- before `)` or `}` may be left out.
+-- The grammar, with a case for each production: `IsProgram lexemes imports decls`. Each list of tokens includes its closing bracket;
+-- a `;` before `)` or `}` may be left out. Why: docs/DECISIONS.md, "Grammar".
 use Rattle.std.specs.Prelude.{◌≡◌, ℕ, ◌+◌, ◌≤◌, Bool, true, false, List, [], ◌∷◌, ◌++◌, Option, Some, None}
 use Rattle.rgo_ast.specs.declared.ops.BinaryOp.{BinaryOp}
 use Rattle.rgo_ast.specs.declared.ops.BinaryOp.TheVariants as op
@@ -69,7 +69,7 @@ level op.Ge = 3
 level op.And = 2
 level op.Or = 1
 
--- the unary operator that a terminal is
+-- the unary operator of a terminal, if it is one
 abbrev pub sign : Terminal → Option UnaryOp
 sign (Binary op.Add) = Some unary_op.Plus
 sign (Binary op.Sub) = Some unary_op.Minus
@@ -84,8 +84,8 @@ pub data IsMakeEnd : List Lexeme → Type 0 where
 
 -- `header`: the expression is between an `if` or `for` and its block, outside brackets.
 mutual
-  -- Expr = Unary | Expr binary Expr, whose operator binds at least as tightly as the level says.
-  -- All group to the left.
+  -- Expr = Unary | Expr binary Expr, whose operator binds at least as tightly as the level. All
+  -- operators group to the left.
   pub data IsExpr : Bool → ℕ → List Lexeme → tree.Expr → Type 0 where
     unary : {header : Bool} {least : ℕ} {x : List Lexeme} {v : tree.Expr} → IsUnary header x v
         → IsExpr header least x v
@@ -261,7 +261,7 @@ mutual
         → IsElse (tok Else i ∷ tok OpenBrace k ∷ y) (Some (tree.Block (stmts_of b) k.at))
 
   -- For = "for" [ Expr ] Block | "for" Simple ";" [ Expr ] ";" Simple Block, whose last Simple is
-  -- no `:=` .
+  -- not a `:=` .
   pub data IsFor : List Lexeme → tree.Stmt → Type 0 where
     while : (i k : Leaf) {x y : List Lexeme} {c : Option tree.Expr} {b : List tree.Stmt}
         {end : Leaf} → IsCondition x c

@@ -1,11 +1,11 @@
--- Laws of every list of lexemes: it is a program with one tree, or has one first bad lexeme.
+-- Laws of every list of lexemes: it is a program with exactly one tree, or has exactly one first bad lexeme.
 use Rattle.std.specs.Prelude.{◌≡◌, ℕ, ◌⊎◌, List}
 use Rattle.rgo_ast.specs.Tree.{Import, Decl}
 use Rattle.rgo_lexer.specs.Lexemes.{Lexeme}
 use Rattle.rgo_grammar.specs.Grammar.{IsProgram}
 use Rattle.rgo_grammar.specs.FirstBad.{IsFirstBad}
 
--- the grammar has no two trees of one list
+-- a list has at most one tree
 abbrev pub OneTree : Type 0
 OneTree = (l : List Lexeme) (imports imports' : List Import) (decls decls' : List Decl)
     → IsProgram l imports decls → IsProgram l imports' decls'
@@ -14,12 +14,12 @@ OneTree = (l : List Lexeme) (imports imports' : List Import) (decls decls' : Lis
 abbrev pub OneRefusal : Type 0
 OneRefusal = (l : List Lexeme) (k j : ℕ) → IsFirstBad l k → IsFirstBad l j → k ≡ j
 
--- no list is a program and has a first bad lexeme
+-- no list is a program and also has a first bad lexeme
 abbrev pub NeverBoth : Type 0
 NeverBoth = (l : List Lexeme) (imports : List Import) (decls : List Decl) (k : ℕ)
     → IsProgram l imports decls → IsFirstBad l k → ⊥
 
--- each list is the one or has the other
+-- each list is a program or has a first bad lexeme
 abbrev pub OneOfBoth : Type 0
 OneOfBoth = (l : List Lexeme)
     → ((imports : List Import) × (decls : List Decl) × IsProgram l imports decls)

@@ -1,6 +1,5 @@
--- How deeply a list of lexemes nests, by their terminals alone. An open level counts the bracket
--- that began it, its joints since its last `;` or `,`, and its `else` since its last `;` after a
--- `}`.
+-- How deeply a list of lexemes nests, by their terminals alone. The depth is the sum over all open levels; a level counts the bracket
+-- that began it, its joints since its last `;` or `,`, and its `else` since its last `;` after a `}`.
 use Rattle.std.specs.Prelude.{ℕ, ◌+◌, ◌≤◌, nat_lt, if◌then◌else◌, List, [], ◌∷◌, Option, Some, None, map, sum_by}
 use Rattle.rgo_lexer.specs.declared.terminals.Terminal.{Terminal}
 use Rattle.rgo_lexer.specs.declared.terminals.Terminal.TheVariants.{Binary, Bang, Ampersand, Arrow, OpenParen, CloseParen, OpenBracket, CloseBracket, OpenBrace, CloseBrace, Comma, Semicolon, Dot, Chan, Else, Other}
@@ -18,15 +17,15 @@ inner = record { brackets = 1; joints = 0; elses = 0 }
 abbrev pub weight : Level → ℕ
 weight v = v.brackets + v.joints + v.elses
 
--- In what follows the innermost level comes first.
+-- Below, the innermost level comes first.
 
 abbrev pub at_innermost : (Level → Level) → List Level → List Level
 at_innermost f [] = []
 at_innermost f (v ∷ s) = f v ∷ s
 
-abbrev pub outside : List Level → List Level
-outside [] = []
-outside (v ∷ s) = s
+abbrev pub outside_level : List Level → List Level
+outside_level [] = []
+outside_level (v ∷ s) = s
 
 abbrev pub joined : Level → Level
 joined v = record { brackets = v.brackets; joints = v.joints + 1; elses = v.elses }
@@ -37,12 +36,12 @@ branched v = record { brackets = v.brackets; joints = v.joints; elses = v.elses 
 abbrev pub separated : Level → Level
 separated v = record { brackets = v.brackets; joints = 0; elses = v.elses }
 
-abbrev pub ended : Level → Level
-ended v = record { brackets = v.brackets; joints = 0; elses = 0 }
+abbrev pub ended_level : Level → Level
+ended_level v = record { brackets = v.brackets; joints = 0; elses = 0 }
 
 -- a level after a `;`, by the terminal before the `;`
 abbrev pub after_semicolon : Terminal → Level → Level
-after_semicolon CloseBrace v = ended v
+after_semicolon CloseBrace v = ended_level v
 after_semicolon _ v = separated v
 
 -- The levels after a terminal, by the one before it. Joints are binary and unary operators, `.`,
@@ -51,9 +50,9 @@ abbrev pub levels_after : Terminal → Terminal → List Level → List Level
 levels_after before OpenParen s = inner ∷ s
 levels_after before OpenBracket s = inner ∷ s
 levels_after before OpenBrace s = inner ∷ s
-levels_after before CloseParen s = at_innermost joined (outside s)
-levels_after before CloseBracket s = at_innermost joined (outside s)
-levels_after before CloseBrace s = outside s
+levels_after before CloseParen s = at_innermost joined (outside_level s)
+levels_after before CloseBracket s = at_innermost joined (outside_level s)
+levels_after before CloseBrace s = outside_level s
 levels_after before (Binary o) s = at_innermost joined s
 levels_after before Bang s = at_innermost joined s
 levels_after before Ampersand s = at_innermost joined s
@@ -68,7 +67,7 @@ levels_after before _ s = s
 abbrev pub nesting : List Level → ℕ
 nesting s = sum_by weight s
 
--- the first of some terminals, counted from k, after which the nesting is above the limit
+-- the number, counted from k, of the first terminal after which the nesting exceeds the limit
 unfoldable pub deep_from : ℕ → Terminal → List Level → ℕ → List Terminal → Option ℕ
 deep_from limit before s k [] = None
 deep_from limit before s k (t ∷ l) =

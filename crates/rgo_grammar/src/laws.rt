@@ -1,8 +1,8 @@
-//! Laws of the grammar: what the definitions say of every list of lexemes.
+//! A law of the grammar, which holds for every list of lexemes. No code calls it.
 
 ghost use Rattle.rgo_grammar.specs.Laws.{OneTree, OneRefusal, NeverBoth, OneOfBoth};
 
-/// A list of lexemes is a program with one tree, or has one first lexeme that continues no program.
+/// Each list of lexemes is a program with exactly one tree, or has exactly one first bad lexeme.
 pub fn one_reading()
     ensures tree { OneTree }
     ensures refusal { OneRefusal }

@@ -1,7 +1,7 @@
-//! The grammar: which lists of lexemes are programs, with which tree, and where others go wrong.
+//! The grammar: which lists of lexemes are programs, with which tree, and at which lexeme the others fail.
 //!
-//! The code is `deep_at`, the check of nesting before the parser runs. The rest is definitions, and
-//! laws about them: a list of lexemes is one program, or has one first bad lexeme.
+//! The only code is `deep_at`, the check of nesting that rgo_parser makes before it parses. The rest is definitions, and the law that
+//! each list of lexemes is exactly one program or has exactly one first bad lexeme.
 #![tactic(auto)]
 
 mod laws;

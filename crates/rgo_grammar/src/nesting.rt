@@ -1,8 +1,9 @@
-//! How deeply lexemes nest.
+//! How deeply lexemes nest, by their terminals alone, so that it is known before the parser recurs. Whatever makes the parser recur,
+//! brackets, operators and `else`, counts, and the sum over all open levels is the depth. Why: docs/DECISIONS.md, "Grammar".
 
 ghost use Rattle.std.specs.Prelude.{◌≡◌, ◌<◌, ◌^◌, ◌∷◌, [], IfOk};
-ghost use Rattle.rgo_grammar.specs.Nesting.{nesting, weight, outermost, inner, at_innermost, outside};
-ghost use Rattle.rgo_grammar.specs.Nesting.{joined, branched, separated, ended, after_semicolon};
+ghost use Rattle.rgo_grammar.specs.Nesting.{nesting, weight, outermost, inner, at_innermost, outside_level};
+ghost use Rattle.rgo_grammar.specs.Nesting.{joined, branched, separated, ended_level, after_semicolon};
 ghost use Rattle.rgo_grammar.specs.Nesting.{levels_after, deep_at};
 
 use rgo_lexer::{Lexeme, Terminal};
@@ -12,11 +13,11 @@ use std::collections::VecDeque;
 /// An open level: the text itself, or the inside of a bracket.
 #[derive(Clone, Copy)]
 pub struct Level {
-    /// 1 if a bracket began it, else 0.
+    /// 1 if it is the inside of a bracket, 0 if it is the text.
     pub brackets: usize,
-    /// The number of operators and the like since its last `;` or `,`.
+    /// The number of joints (operators, suffixes, `chan`) since its last `;` or `,`, which end an expression.
     pub joints: usize,
-    /// The number of `else` since its last `;` after a `}`.
+    /// The number of `else` since its last `;` after a `}`, which ends an `if`.
     pub elses: usize,
 }
 
@@ -29,7 +30,7 @@ impl Level {
     }
 }
 
-// The open levels, the innermost first, with the sum of their weights.
+// The open levels, innermost first. Invariant: `total` is the sum of their weights, so that the depth needs no pass over them.
 #[derive(Drop)]
 struct Nesting {
     levels: VecDeque<Level>,
@@ -66,7 +67,7 @@ impl Nesting {
 
     fn close(&mut self)
         requires { self.old.total < 2 ^ 63 }
-        ensures { self.new.levels.items ≡ outside self.old.levels.items }
+        ensures { self.new.levels.items ≡ outside_level self.old.levels.items }
     {
         if let Some(level) = self.levels.pop_front() {
             self.total -= level.weight();
@@ -105,7 +106,7 @@ impl Nesting {
 
     fn end(&mut self)
         requires { self.old.total < 2 ^ 63 }
-        ensures { self.new.levels.items ≡ at_innermost ended self.old.levels.items }
+        ensures { self.new.levels.items ≡ at_innermost ended_level self.old.levels.items }
     {
         if let Some(level) = self.levels.front_mut() {
             self.total -= level.joints + level.elses;
@@ -114,7 +115,7 @@ impl Nesting {
         }
     }
 
-    // Continues with a terminal, after another.
+    // Takes the next terminal into account, by the one before it.
     fn pass(&mut self, before: Terminal, terminal: Terminal) -> Result<(), AllocError>
         requires { self.old.total < 2 ^ 63 }
         ensures { IfOk result (λ _. self.new.levels.items
@@ -145,8 +146,11 @@ impl Nesting {
     }
 }
 
-/// The number of the first lexeme, counted from 0, after which the lexemes nest deeper than the
-/// limit, if there is one. An error says that memory ran out.
+/// The number, from 0, of the first lexeme after which the lexemes nest deeper than the limit; `None` if they never do.
+///
+/// # Errors
+///
+/// If an allocation failed.
 pub fn deep_at<'a>(
     alloc: Global,
     limit: usize,

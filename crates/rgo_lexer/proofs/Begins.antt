@@ -25,12 +25,12 @@ begins_with-whole (c ∷ front) (b ∷ text) (suc n) e =
     let parts = and_parts (nat_eq c b) (begins_with (take n text) front) e in
     and_from (nat_eq c b) (begins_with text front) parts.0 (begins_with-whole front text n parts.1)
 
--- what the text begins with, so does a front that is no shorter
+-- if the text begins with some bytes, so does a front of it that is at least as long as they are
 pub begins_with-front : (front text : List ℕ) (n : ℕ) → length front ≤ n
     → begins_with text front ≡ true → begins_with (take n text) front ≡ true
 begins_with-front front text n le e = ap (bytes_eq front) (take-take (length front) n text le) ∙ e
 
--- the test against what it says
+-- the test decides its property
 pub begins_with-is : (front text : List ℕ) → begins_with text front ≡ true
     → take (length front) text ≡ front
 begins_with-is front text e = sym ((bytes_eq-Decides front (take (length front) text)).0 e)

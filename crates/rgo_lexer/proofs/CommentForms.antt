@@ -1,4 +1,4 @@
--- The comment at the front of a text: it fits, and is no token.
+-- The comment at the front of a text lies within it, and is not a token.
 use Rattle.std.proofs.Common.{◌≡◌, ℕ, suc, ◌+◌, ◌<◌, ◌≤◌, Bool, true, false, ◌||◌, not, cond, List, [], ◌∷◌, length, take, drop, Option, None, Some, IfSome, refl, sym, arith, length-drop, ⊎_elim}
 use Rattle.std.specs.Prelude.{option_map, codes, nat_eq}
 use Rattle.std.specs.List.{list_any, position_or_len}

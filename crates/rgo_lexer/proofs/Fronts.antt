@@ -120,7 +120,7 @@ front_stable (b ∷ rest) k (suc n) e =
     (string_stable text k (suc n)) (comment_no_piece text k (suc n))
     (begins_comment-whole text (suc n)) (operator_stable text k (suc n)) e
 
--- a byte that is no letter, digit or quote
+-- a byte other than a letter, a digit or a quote
 no_form : (letter digit quote : Bool) → not (letter || digit || quote) ≡ true → (letter ≡ false)
     × (digit ≡ false) × (quote ≡ false)
 no_form true digit quote h = absurd (false≢true h)

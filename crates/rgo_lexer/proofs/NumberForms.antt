@@ -3,7 +3,7 @@ use Rattle.std.proofs.Common.{◌≡◌, ℕ, true, List, ◌∷◌, take, Optio
 use Rattle.std.proofs.lemmas.Bool.{or_right}
 use Rattle.rgo_lexer.specs.Bytes.{is_letter, is_digit}
 use Rattle.rgo_lexer.specs.Words.{run_of}
-use Rattle.rgo_lexer.specs.Numbers.{number_at, number_front, number_of}
+use Rattle.rgo_lexer.specs.Numbers.{number_at, number_front, literal_value}
 use Rattle.rgo_lexer.specs.Front.{FitsIn, IsWidthIn}
 use Rattle.rgo_lexer.specs.declared.front.Front.TheVariants.{Piece}
 use Rattle.rgo_lexer.specs.declared.terminals.Terminal.{Terminal}
@@ -18,7 +18,7 @@ pub number_fits : (b : ℕ) (rest : List ℕ) → is_digit b ≡ true
     → FitsIn (b ∷ rest) (number_at (b ∷ rest))
 unfolding number_at
 number_fits b rest h =
-    front_fits (b ∷ rest) (run_of (b ∷ rest)) (number_of (take (run_of (b ∷ rest)) (b ∷ rest)))
+    front_fits (b ∷ rest) (run_of (b ∷ rest)) (literal_value (take (run_of (b ∷ rest)) (b ∷ rest)))
     (run_fits b rest (or_right (is_letter b) (is_digit b) h))
 
 again : (text : List ℕ) → number_at (take (run_of text) text) ≡ number_at text
@@ -34,5 +34,5 @@ pub number_stable : (text : List ℕ) (terminal : Terminal) (n : ℕ)
     → number_at text ≡ Piece terminal n → number_at (take n text) ≡ Piece terminal n
 unfolding number_at
 number_stable text terminal n e =
-    let width = width_is (run_of text) (number_of (take (run_of text) text)) terminal n e in
+    let width = width_is (run_of text) (literal_value (take (run_of text) text)) terminal n e in
     rw width (again text ∙ e ∙ ap (Piece terminal) width)

@@ -5,9 +5,9 @@ use Rattle.std.proofs.lemmas.List.{length-drop}
 use Rattle.rgo_lexer.specs.Front.{front_of}
 use Rattle.rgo_lexer.specs.Lexemes.{Lexeme, leaf, tok}
 use Rattle.rgo_lexer.specs.Semicolons.{ending_after, inserted}
-use Rattle.rgo_lexer.specs.Lexing.{LexesFrom, LexesAs, start_of, with_package_name}
+use Rattle.rgo_lexer.specs.Lexing.{LexesFrom, LexesAs, text_start, with_package_name}
 use Rattle.rgo_lexer.specs.Lexing.LexesFrom.{finish, blank, newline, piece}
-use Rattle.rgo_lexer.specs.Refusals.{RefusesFrom, Refuses, width, refusal, bad_utf8}
+use Rattle.rgo_lexer.specs.Refusals.{RefusesFrom, LexRefuses, width, refusal, bad_utf8}
 use Rattle.rgo_lexer.specs.Refusals.RefusesFrom.{here, later}
 use Rattle.rgo_lexer.specs.Laws.{NeverBoth, OneOfBoth, OneList, OneRefusal}
 use Rattle.rgo_lexer.specs.declared.front.Front.{Front}
@@ -153,14 +153,14 @@ pub one_of_both : OneOfBoth
 unfolding Either
 one_of_both text = by_case (cases_utf8 text)
   where
-    read : IsUtf8 text → Either (start_of text) None (drop (start_of text) text)
-        → ((lexemes : List Lexeme) × LexesAs text lexemes) ⊎ ((r : LexRefusal) × Refuses text r)
+    read : IsUtf8 text → Either (text_start text) None (drop (text_start text) text)
+        → ((lexemes : List Lexeme) × LexesAs text lexemes) ⊎ ((r : LexRefusal) × LexRefuses text r)
     read u (inl t) = inl (with_package_name t.0, (u, t.0, t.1, refl))
     read u (inr t) = inr (t.0, inl (u, t.1))
 
     by_case : IsUtf8 text ⊎ (¬ (IsUtf8 text)) → ((lexemes : List Lexeme) × LexesAs text lexemes)
-        ⊎ ((r : LexRefusal) × Refuses text r)
+        ⊎ ((r : LexRefusal) × LexRefuses text r)
     by_case (inl u) =
-        read u (either (length text) (start_of text) None (drop (start_of text) text)
-        (omega (arith, length-drop (start_of text) text)))
+        read u (either (length text) (text_start text) None (drop (text_start text) text)
+        (omega (arith, length-drop (text_start text) text)))
     by_case (inr u) = inr (bad_utf8 text, inr (u, refl))

@@ -120,7 +120,7 @@ parts_at_most n e (Some f) h = by_test (nat_le f.0 (length e.0)) refl h
     by_test false d h =
         let lt : length e.0 ≤ f.0 = grind (arith, nat_tests) in (omega (arith, h), h)
 
--- a front that is no shorter than what is found has the same longest entry
+-- a front at least as long as what is found has the same longest entry
 pub found-take : (table : List (List ℕ × Terminal)) (text : List ℕ) (n : ℕ)
     → IsAtMost n (longest_front table text)
     → longest_front table (take n text) ≡ longest_front table text

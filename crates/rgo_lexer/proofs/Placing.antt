@@ -1,4 +1,4 @@
--- Each lexeme of a text is a part of it, and so is a refused byte.
+-- Each lexeme of a text lies within it, and so does the byte of a lexical error.
 use Rattle.std.proofs.Common.{◌≡◌, ℕ, ◌+◌, ◌-◌, ◌<◌, ◌≤◌, Bool, true, false, cond, List, [], ◌∷◌, length, take, drop, codes, Option, None, Some, refl, sym, ap, subst, ◌∙◌, All, IfSome, arith, inl, inr}
 use Rattle.std.specs.Prelude.{◌==◌, slice_range}
 use Rattle.std.specs.Str.{bytes_eq}
@@ -12,9 +12,9 @@ use Rattle.rgo_lexer.specs.Lexemes.{Lexeme, leaf, tok}
 use Rattle.rgo_lexer.specs.Semicolons.{ending_after, inserted, may_end}
 use Rattle.rgo_lexer.specs.Bytes.{begins_with}
 use Rattle.rgo_lexer.specs.Laws.{OfText}
-use Rattle.rgo_lexer.specs.Lexing.{LexesFrom, byte_order_mark, start_of, IsLexemeOf, terminal_of, terminal_at_width, package_name, with_package_name}
+use Rattle.rgo_lexer.specs.Lexing.{LexesFrom, byte_order_mark, text_start, IsLexemeOf, terminal_of, terminal_at_width, package_name, with_package_name}
 use Rattle.rgo_lexer.specs.Lexing.LexesFrom.{finish, blank, newline, piece}
-use Rattle.rgo_lexer.specs.Refusals.{RefusesFrom, Fails, IsPlacedIn, width}
+use Rattle.rgo_lexer.specs.Refusals.{RefusesFrom, LexFails, IsPlacedIn, width}
 use Rattle.rgo_lexer.specs.Refusals.RefusesFrom.{here, later}
 use Rattle.rgo_lexer.specs.declared.front.Front.{Front}
 use Rattle.rgo_lexer.specs.declared.front.Front.TheVariants.{End, Blank, Newline, Piece, Refused}
@@ -138,13 +138,13 @@ with_name text (l ∷ m ∷ lexemes) h =
     (All-cons P named lexemes second (All-tail P m lexemes later))
 
 -- a text begins in itself
-pub start_within : (text : List ℕ) → start_of text ≤ length text
+pub start_within : (text : List ℕ) → text_start text ≤ length text
 start_within text =
     cond_both (begins_with text byte_order_mark) 3 0 (λ n. n ≤ length text)
     (λ e. begins_with-length byte_order_mark text e) (λ e. omega arith)
 
 pub named_of_text : (text : List ℕ) (found lexemes : List Lexeme)
-    → LexesFrom (start_of text) None (drop (start_of text) text) found
+    → LexesFrom (text_start text) None (drop (text_start text) text) found
     → lexemes ≡ with_package_name found → All (IsLexemeOf text) lexemes
 named_of_text text found lexemes t e =
     subst (All (IsLexemeOf text)) (sym e)
@@ -166,7 +166,7 @@ width_is (Refused kind offset) text n f e = cc
 pub passed_fits : (rest : List ℕ) (n : ℕ) → width (front_of rest) ≡ Some n → IsWidthIn rest n
 passed_fits rest n e = width_is (front_of rest) rest n (front_fits rest) e
 
--- a refused byte is in the text
+-- the byte of a lexical error lies within the text
 pub refusal_placed : (text : List ℕ) {at : ℕ} {rest : List ℕ} {r : LexRefusal}
     → RefusesFrom at rest r → drop at text ≡ rest → at ≤ length text → r.at < length text
 refusal_placed text {at} {rest} (here kind offset e) d le =
@@ -176,7 +176,7 @@ refusal_placed text {at} {rest} (later n e t) d le =
     refusal_placed text t (farther text rest at n d)
     (after text rest at n d le (passed_fits rest n e))
 
-pub placed : (text : List ℕ) (e : LexError) → Fails text e → IsPlacedIn text e
+pub placed : (text : List ℕ) (e : LexError) → LexFails text e → IsPlacedIn text e
 placed text error.NoMemory h = tt
 placed text (error.Refused r) (inl h) = refusal_placed text h.1 refl (start_within text)
 placed text (error.Refused r) (inr h) = rw h.1 (utf8_stops text h.0)

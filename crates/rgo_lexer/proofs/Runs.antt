@@ -11,7 +11,7 @@ none : (passes : Bool) (b : ℕ) → cond passes (1 + b) 0 ≤ 0 → 0 ≡ cond 
 none true b h = omega (arith, h)
 none false b h = refl
 
--- a front that is no shorter has the same bytes in front
+-- a front that is at least as long has the same bytes at its front
 pub prefix_len-take : (p : ℕ → Bool) (xs : List ℕ) (n : ℕ) → prefix_len p xs ≤ n
     → prefix_len p (take n xs) ≡ prefix_len p xs
 prefix_len-take p [] zero h = refl

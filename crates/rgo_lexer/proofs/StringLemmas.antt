@@ -3,7 +3,7 @@ use Rattle.std.proofs.Common.{◌≡◌, ℕ, zero, suc, ◌+◌, ◌≤◌, Boo
 use Rattle.std.specs.Prelude.{◌==◌, is_some}
 use Rattle.std.specs.List.{concat}
 use Rattle.std.proofs.lemmas.List.{length-take-le, drop-drop}
-use Rattle.rgo_lexer.specs.Strings.{items, escape_items, items_len, is_plain, escaped}
+use Rattle.rgo_lexer.specs.Strings.{items, escape_items, items_len, is_plain_byte, escaped}
 
 pub items_len-none : (text : List ℕ) → items text ≡ [] → items_len text ≡ 0
 unfolding items_len
@@ -44,7 +44,7 @@ escape_fits_by false letter text h = omega arith
 mutual
   fits : (text : List ℕ) → length (concat (items text)) ≤ length text
   fits [] = omega arith
-  fits (b ∷ text) = fits_by (is_plain b) (b == 92) b text (fits text) (escape_fits text)
+  fits (b ∷ text) = fits_by (is_plain_byte b) (b == 92) b text (fits text) (escape_fits text)
 
   escape_fits : (text : List ℕ) → length (concat (escape_items text)) ≤ length text + 1
   escape_fits [] = omega arith
@@ -95,9 +95,9 @@ mutual
       → items (take n text) ≡ items text
   kept [] zero h = refl
   kept [] (suc n) h = refl
-  kept (b ∷ text) zero h = none_by (is_plain b) (b == 92) b text h
+  kept (b ∷ text) zero h = none_by (is_plain_byte b) (b == 92) b text h
   kept (b ∷ text) (suc n) h =
-      kept_by (is_plain b) (b == 92) b text n h (kept text n) (escape_kept text n)
+      kept_by (is_plain_byte b) (b == 92) b text n h (kept text n) (escape_kept text n)
 
   escape_kept : (text : List ℕ) (n : ℕ) → length (concat (escape_items text)) ≤ n + 1
       → escape_items (take n text) ≡ escape_items text
@@ -107,7 +107,7 @@ mutual
   escape_kept (letter ∷ text) (suc n) h =
       escape_kept_by (is_some (escaped letter)) letter text n h (kept text n)
 
--- a front that is no shorter has the same items in front
+-- a front that is at least as long has the same items at its front
 pub items_len-take : (text : List ℕ) (n : ℕ) → items_len text ≤ n
     → items_len (take n text) ≡ items_len text
 unfolding items_len

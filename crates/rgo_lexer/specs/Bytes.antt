@@ -1,4 +1,4 @@
--- The kinds of byte that separators and tokens consist of.
+-- The classes of bytes that the forms of tokens and separators are made of.
 use Rattle.std.specs.Prelude.{ℕ, Bool, ◌||◌, ◌&&◌, nat_le, ◌==◌, List, length, take}
 use Rattle.std.specs.Str.{bytes_eq}
 use Rattle.rgo_lexer.specs.declared.front.Front.{Front}

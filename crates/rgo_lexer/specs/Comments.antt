@@ -25,7 +25,7 @@ is_newline b = b == 10
 abbrev pub acts_as : List ℕ → ℕ → Front
 acts_as text n = if list_any is_newline (take n text) then Newline n else Blank n
 
--- a comment without its `*/`, refused at its first byte
+-- a comment without its `*/`, rejected at its first byte
 abbrev pub open_comment : Front
 open_comment = Refused OpenComment 0
 

@@ -1,4 +1,4 @@
--- What a text begins with: a separator, a comment, a token, or what is refused.
+-- The front of a text: the one separator, comment, token or error that it begins with. Lexing.antt repeats it to the end.
 use Rattle.std.specs.Prelude.{◌≡◌, ℕ, ◌<◌, ◌≤◌, ◌==◌, if◌then◌else◌, List, [], ◌∷◌, length}
 use Rattle.rgo_lexer.specs.Bytes.{is_blank, is_letter, is_digit}
 use Rattle.rgo_lexer.specs.Words.{word_at}
@@ -9,7 +9,7 @@ use Rattle.rgo_lexer.specs.Operators.{operator_at}
 use Rattle.rgo_lexer.specs.declared.front.Front.{Front}
 use Rattle.rgo_lexer.specs.declared.front.Front.TheVariants.{End, Blank, Newline, Piece, Refused}
 
--- each the longest that its form allows
+-- `front_of text`: the front, as long as its form allows; the first bytes determine the form
 unfoldable pub front_of : List ℕ → Front
 front_of [] = End
 front_of (b ∷ rest) =
@@ -21,12 +21,12 @@ front_of (b ∷ rest) =
     else (if begins_comment (b ∷ rest) then comment_at (b ∷ rest)
     else operator_at (b ∷ rest))))))
 
--- n bytes, at least one, are a front of a text
+-- n is at least one and at most the length of the text
 pub record IsWidthIn (text : List ℕ) (n : ℕ) : Type 0 where
   pub some : 0 < n
   pub within : n ≤ length text
 
--- a separator or a token is part of the text, and so is a refused byte
+-- the bytes of a separator or a token, or the reported byte of an error, lie within the text
 abbrev pub FitsIn : List ℕ → Front → Type 0
 FitsIn text End = text ≡ []
 FitsIn text (Blank n) = IsWidthIn text n

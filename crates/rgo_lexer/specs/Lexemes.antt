@@ -1,4 +1,4 @@
--- Lexemes as plain data, what trees take from them, and the classes of terminals.
+-- Lexemes as plain data, the leaves that trees take from them, and the classes of terminals.
 use Rattle.std.specs.Prelude.{ℕ, ◌+◌, Bool, true, false, nat_eq, List, length, if◌then◌else◌}
 use Rattle.rgo_ast.specs.declared.ops.BinaryOp.{BinaryOp}
 use Rattle.rgo_ast.specs.declared.ops.BinaryOp.TheVariants as op
@@ -15,7 +15,7 @@ use Rattle.rgo_lexer.specs.declared.terminals.Terminal.TheVariants.{Import, Type
 use Rattle.rgo_lexer.specs.declared.terminals.Terminal.TheVariants.{Else, For, Return, Break, Continue, Other}
 use Rattle.rgo_lexer.specs.Strings.{string_of}
 
--- the place of a token, and the bytes that it consists of
+-- what a tree keeps of a token: its place and its bytes
 pub record Leaf : Type 0 where
   pub at : ℕ
   pub word : List ℕ
@@ -38,12 +38,12 @@ end_of l = l.leaf.at + length l.leaf.word
 abbrev pub ident : Leaf → Ident
 ident i = record { name = i.word; at = i.at }
 
--- the path that a string literal spells
+-- the import path of a string literal, with its place
 abbrev pub path : Leaf → ImportPath
 path i = record { path = string_of i.word; at = i.at }
 
--- The class of a terminal is the number of its form. Operators that occur in other places than the
--- rest of their form have a subclass. Terminals that share both occur in the same places.
+-- The class of a terminal is the number of its form. Operators that occur in other productions than the rest of their form also have
+-- a subclass. Terminals that share both occur in the same productions.
 abbrev pub class : Terminal → ℕ
 class Name = 0
 class Main = 1
@@ -99,13 +99,13 @@ subclass (Binary o) = binary_class o
 subclass (Assign o) = assign_class o
 subclass _ = 0
 
-abbrev pub same : Terminal → Terminal → Bool
-same k j = if nat_eq (class k) (class j) then nat_eq (subclass k) (subclass j) else false
+abbrev pub is_same_terminal : Terminal → Terminal → Bool
+is_same_terminal k j = if nat_eq (class k) (class j) then nat_eq (subclass k) (subclass j) else false
 
 -- a terminal that carries no value
-abbrev pub plain : Terminal → Bool
-plain (Number n) = false
-plain (Binary o) = false
-plain (Assign o) = false
-plain (Step o) = false
-plain _ = true
+abbrev pub is_plain_terminal : Terminal → Bool
+is_plain_terminal (Number n) = false
+is_plain_terminal (Binary o) = false
+is_plain_terminal (Assign o) = false
+is_plain_terminal (Step o) = false
+is_plain_terminal _ = true

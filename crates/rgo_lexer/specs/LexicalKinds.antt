@@ -1,21 +1,21 @@
--- The numbers and names of the kinds of lexical refusal.
+-- The numbers and names of the kinds of lexical error, as they are printed.
 use Rattle.std.specs.Prelude.{ℕ, List, codes}
 use Rattle.rgo_lexer.specs.declared.refusals.LexicalKind.{LexicalKind}
 use Rattle.rgo_lexer.specs.declared.refusals.LexicalKind.TheVariants.{BadUtf8, BadByte, BadNumber}
 use Rattle.rgo_lexer.specs.declared.refusals.LexicalKind.TheVariants.{BadEscape, OpenString, OpenComment}
 
-abbrev pub number_of : LexicalKind → ℕ
-number_of BadUtf8 = 1
-number_of BadByte = 2
-number_of BadNumber = 3
-number_of BadEscape = 4
-number_of OpenString = 5
-number_of OpenComment = 6
+abbrev pub lexical_kind_number : LexicalKind → ℕ
+lexical_kind_number BadUtf8 = 1
+lexical_kind_number BadByte = 2
+lexical_kind_number BadNumber = 3
+lexical_kind_number BadEscape = 4
+lexical_kind_number OpenString = 5
+lexical_kind_number OpenComment = 6
 
-abbrev pub name_of : LexicalKind → List ℕ
-name_of BadUtf8 = codes "BadUtf8"
-name_of BadByte = codes "BadByte"
-name_of BadNumber = codes "BadNumber"
-name_of BadEscape = codes "BadEscape"
-name_of OpenString = codes "OpenString"
-name_of OpenComment = codes "OpenComment"
+abbrev pub lexical_kind_name : LexicalKind → List ℕ
+lexical_kind_name BadUtf8 = codes "BadUtf8"
+lexical_kind_name BadByte = codes "BadByte"
+lexical_kind_name BadNumber = codes "BadNumber"
+lexical_kind_name BadEscape = codes "BadEscape"
+lexical_kind_name OpenString = codes "OpenString"
+lexical_kind_name OpenComment = codes "OpenComment"

@@ -1,4 +1,4 @@
--- The lexemes of a text.
+-- `LexesAs text lexemes`: the lexemes that the specification assigns to a text. Refusals.antt is its counterpart for the other texts.
 use Rattle.std.specs.Prelude.{◌≡◌, ℕ, ◌+◌, ◌<◌, ◌≤◌, ◌⊎◌, ◌==◌, List, [], ◌∷◌, ◌++◌, length, take, drop, codes, Option, None, Some, if◌then◌else◌, slice_range}
 use Rattle.std.specs.Str.{IsUtf8, bytes_eq}
 use Rattle.rgo_lexer.specs.Bytes.{begins_with}
@@ -10,8 +10,8 @@ use Rattle.rgo_lexer.specs.declared.front.Front.TheVariants.{End, Blank, Newline
 use Rattle.rgo_lexer.specs.declared.terminals.Terminal.{Terminal}
 use Rattle.rgo_lexer.specs.declared.terminals.Terminal.TheVariants.{Main, Semicolon}
 
--- The lexemes of a text from byte `at` on, where `rest` is left of it.
--- `ending` is where the last token ended, if the end of its line inserts a `;` there.
+-- The lexemes of a text from byte `at` on, where `rest` is the remaining text. `ending` is where the last token ended, if the end of
+-- its line inserts a `;` there.
 pub data LexesFrom : ℕ → Option ℕ → List ℕ → List Lexeme → Type 0 where
   finish : {at : ℕ} {ending : Option ℕ} {rest : List ℕ} → front_of rest ≡ End
       → LexesFrom at ending rest (inserted ending)
@@ -31,15 +31,15 @@ pub data LexesFrom : ℕ → Option ℕ → List ℕ → List Lexeme → Type 0 
 abbrev pub byte_order_mark : List ℕ
 byte_order_mark = 0xEF ∷ 0xBB ∷ 0xBF ∷ []
 
--- where a text begins: after a byte order mark at its very front
-abbrev pub start_of : List ℕ → ℕ
-start_of text = if begins_with text byte_order_mark then 3 else 0
+-- where lexing begins: after a byte order mark at the very front
+abbrev pub text_start : List ℕ → ℕ
+text_start text = if begins_with text byte_order_mark then 3 else 0
 
 -- the word `main` as the name of the package
 abbrev pub package_name : Lexeme → Lexeme
 package_name l = if bytes_eq l.leaf.word (codes "main") then tok Main l.leaf else l
 
--- the name of the package is the second lexeme of a text
+-- the second lexeme of a text is the name of the package
 abbrev pub with_package_name : List Lexeme → List Lexeme
 with_package_name [] = []
 with_package_name (l ∷ []) = l ∷ []
@@ -49,10 +49,10 @@ with_package_name (l ∷ m ∷ lexemes) = l ∷ package_name m ∷ lexemes
 abbrev pub LexesAs : List ℕ → List Lexeme → Type 0
 LexesAs text lexemes =
     IsUtf8 text × (found : List Lexeme)
-    × LexesFrom (start_of text) None (drop (start_of text) text) found
+    × LexesFrom (text_start text) None (drop (text_start text) text) found
     × (lexemes ≡ with_package_name found)
 
--- the terminal of what a text begins with, if that is a token of n bytes
+-- the terminal of a front that is a token of n bytes
 abbrev pub terminal_at_width : ℕ → Front → Option Terminal
 terminal_at_width n (Piece terminal width) = if width == n then Some terminal else None
 terminal_at_width n _ = None
@@ -61,7 +61,7 @@ terminal_at_width n _ = None
 unfoldable pub terminal_of : List ℕ → Option Terminal
 terminal_of word = terminal_at_width (length word) (front_of word)
 
--- the terminal of a word: that of the token that it is by itself, unless it is the package's name
+-- a lexeme with this word may have this terminal: that of the word as a token by itself, or that of the package's name for `main`
 abbrev pub IsSpelled : Terminal → List ℕ → Type 0
 IsSpelled terminal word =
     (terminal_of word ≡ Some terminal) ⊎ ((terminal ≡ Main) × (word ≡ codes "main"))

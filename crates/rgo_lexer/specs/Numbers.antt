@@ -14,11 +14,11 @@ abbrev pub begins_with_digit : ℕ → List ℕ → Bool
 begins_with_digit base [] = false
 begins_with_digit base (b ∷ l) = is_digit b base
 
--- a digit, or a `_` before one
+-- a digit, or a `_` with a digit after it
 abbrev pub may_occur : ℕ → ℕ → List ℕ → Bool
 may_occur base b after = is_digit b base || (b == 95 && begins_with_digit base after)
 
--- digits in a base, each perhaps with one `_` before it
+-- digits in a base, with an optional `_` before each
 abbrev pub are_digits : ℕ → List ℕ → Bool
 are_digits base [] = true
 are_digits base (b ∷ l) = may_occur base b l && are_digits base l
@@ -35,26 +35,26 @@ is_hexadecimal word =
     && nat_lt 2 (length word)
     && are_digits 16 (drop 2 word)
 
--- what a number and the digits of a text after it write in a base
+-- the value of a number followed by the digits of a text in a base
 abbrev pub value_after : ℕ → ℕ → List ℕ → ℕ
 value_after base number text =
     fold (λ n b. n * base + digit_value b) number (filter (λ b. is_digit b base) text)
 
--- what the digits of a text write in a base; a `_` counts for nothing
+-- the value of the digits of a text in a base; a `_` is skipped
 abbrev pub value_of : ℕ → List ℕ → ℕ
 value_of base text = value_after base 0 text
 
--- the number itself, if it is not too large
+-- the number, if it is at most the greatest `int`
 abbrev pub if_fits : ℕ → Option ℕ
 if_fits n = if nat_le n 9223372036854775807 then Some n else None
 
--- the number that a word writes, if it is a literal and not too large
-unfoldable pub number_of : List ℕ → Option ℕ
-number_of word =
+-- the value of a word, if it is a literal and its value is at most the greatest `int`
+unfoldable pub literal_value : List ℕ → Option ℕ
+literal_value word =
     if is_decimal word then if_fits (value_of 10 word)
     else (if is_hexadecimal word then if_fits (value_of 16 (drop 2 word)) else None)
 
--- a literal that is malformed or too large, refused at its first byte
+-- a literal that is malformed or too large, rejected at its first byte
 abbrev pub bad_number : Front
 bad_number = Refused BadNumber 0
 
@@ -63,7 +63,6 @@ abbrev pub number_front : ℕ → Option ℕ → Front
 number_front n None = bad_number
 number_front n (Some value) = Piece (Number value) n
 
--- the number at the front of a text that begins with a digit: all bytes at the front that may occur
--- in a word
+-- the number at the front of a text that begins with a digit; it extends over all bytes that may occur in a word
 unfoldable pub number_at : List ℕ → Front
-number_at text = number_front (run_of text) (number_of (take (run_of text) text))
+number_at text = number_front (run_of text) (literal_value (take (run_of text) text))

@@ -13,7 +13,7 @@ use Rattle.rgo_lexer.specs.declared.terminals.Terminal.TheVariants.{Step, OpenPa
 use Rattle.rgo_lexer.specs.declared.terminals.Terminal.TheVariants.{CloseBracket, OpenBrace, CloseBrace, Comma}
 use Rattle.rgo_lexer.specs.declared.terminals.Terminal.TheVariants.{Semicolon, Colon, Dot, Other}
 
--- Go's operators and punctuation, with their terminals
+-- all of Go's operators and punctuation, with their terminals
 abbrev pub operators : List (List ℕ × Terminal)
 operators =
     (codes "<<=", Other) ∷ (codes ">>=", Other) ∷ (codes "&^=", Other) ∷ (codes "...", Other)
@@ -38,7 +38,7 @@ abbrev pub longer : List ℕ × Terminal → Option (ℕ × Terminal) → Option
 longer e None = Some (length e.0, e.1)
 longer e (Some f) = if nat_le f.0 (length e.0) then Some (length e.0, e.1) else Some f
 
--- of the words in a table that a text begins with, the longest: its width and its terminal
+-- the longest word of a table that a text begins with: its width and its terminal
 abbrev pub longest_front : List (List ℕ × Terminal) → List ℕ → Option (ℕ × Terminal)
 longest_front [] text = None
 longest_front (e ∷ table) text =
@@ -54,7 +54,7 @@ longer_first (e ∷ table) =
 unfoldable pub operator_entry : List ℕ → Option (ℕ × Terminal)
 operator_entry text = longest_front operators text
 
--- the front of a text, by the operator that was found
+-- the front of a text, by the operator that was found; without one, the first byte begins no token
 abbrev pub operator_front : Option (ℕ × Terminal) → Front
 operator_front None = bad_byte
 operator_front (Some f) = Piece f.1 f.0

@@ -7,8 +7,8 @@ use Rattle.rgo_lexer.specs.declared.terminals.Terminal.TheVariants.{Name, Main, 
 use Rattle.rgo_lexer.specs.declared.terminals.Terminal.TheVariants.{CloseParen, CloseBracket, CloseBrace, Semicolon}
 use Rattle.rgo_lexer.specs.declared.terminals.Terminal.TheVariants.{Return, Break, Continue, Other}
 
--- A statement may end after names, literals, `++`, `--`, closing brackets, and the keywords
--- `break`, `continue`, `fallthrough` and `return`.
+-- A statement may end after a name, a literal, `++`, `--`, a closing bracket, and the keywords `break`, `continue`, `fallthrough` and
+-- `return`.
 unfoldable pub may_end : Terminal → List ℕ → Bool
 may_end Name word = true
 may_end Main word = true

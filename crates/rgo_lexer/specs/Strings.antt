@@ -6,7 +6,7 @@ use Rattle.rgo_lexer.specs.declared.front.Front.{Front}
 use Rattle.rgo_lexer.specs.declared.front.Front.TheVariants.{Piece, Refused}
 use Rattle.rgo_lexer.specs.declared.refusals.LexicalKind.TheVariants.{OpenString, BadEscape}
 
--- the byte that an escape's letter stands for: one of a b f n r t v \ "
+-- the value of an escape by its letter, which is one of a b f n r t v \ "
 abbrev pub escaped : ℕ → Option ℕ
 escaped letter =
     if letter == 97 then Some 7
@@ -20,17 +20,16 @@ escaped letter =
     else (if letter == 34 then Some 34
     else None))))))))
 
--- a byte that stands for itself: none of " \ and newline
-abbrev pub is_plain : ℕ → Bool
-is_plain b = not (b == 34 || b == 92 || b == 10)
+-- a byte that is its own value: any but " \ and newline
+abbrev pub is_plain_byte : ℕ → Bool
+is_plain_byte b = not (b == 34 || b == 92 || b == 10)
 
--- The items at the front of a text, up to the first byte that begins none: each is a plain byte, or
--- a backslash and an escape's letter.
+-- The items at the front of a text, up to the first byte that begins none. Each is a plain byte, or a backslash and an escape's letter.
 abbrev mutual
   pub items : List ℕ → List (List ℕ)
   items [] = []
   items (b ∷ text) =
-      if is_plain b then (b ∷ []) ∷ items text else (if b == 92 then escape_items text else [])
+      if is_plain_byte b then (b ∷ []) ∷ items text else (if b == 92 then escape_items text else [])
 
   -- the same after a backslash
   pub escape_items : List ℕ → List (List ℕ)
@@ -38,19 +37,19 @@ abbrev mutual
   escape_items (letter ∷ text) =
       if is_some (escaped letter) then (92 ∷ letter ∷ []) ∷ items text else []
 
--- the byte that an item stands for
+-- the value of an item
 abbrev pub item_value : List ℕ → ℕ
 item_value item =
     if length item == 2 then unwrap_or (escaped (slice_index item 1)) 0 else slice_index item 0
 
--- What the items of a text begin with: an item's width and the byte that it stands for, or none.
+-- the first item of a text: its width and its value, or none
 abbrev pub BeginsWithItem : List ℕ → Option (ℕ × ℕ) → Type 0
 BeginsWithItem text None = items text ≡ []
 BeginsWithItem text (Some item) =
     (items text ≡ take item.0 text ∷ items (drop item.0 text))
     × (item_value (take item.0 text) ≡ item.1)
 
--- the bytes that a string literal stands for
+-- the value of a string literal, in bytes
 unfoldable pub string_of : List ℕ → List ℕ
 string_of literal = map item_value (items (drop 1 literal))
 
@@ -58,16 +57,16 @@ string_of literal = map item_value (items (drop 1 literal))
 unfoldable pub items_len : List ℕ → ℕ
 items_len text = length (concat (items text))
 
--- a string without its closing quote, refused at its first byte
+-- a string without its closing quote, rejected at its first byte
 abbrev pub open_string : Front
 open_string = Refused OpenString 0
 
--- a backslash that no escape's letter follows, refused at the backslash
+-- a backslash without an escape's letter after it, rejected at the backslash
 abbrev pub bad_escape : ℕ → Front
 bad_escape offset = Refused BadEscape offset
 
--- What a string is whose items have n bytes, by what follows them: nothing, a quote, a newline, or
--- a backslash that begins no item.
+-- The front that is a string whose items have n bytes, by what follows them: nothing, a quote, a newline, or a backslash that begins
+-- no item.
 abbrev pub string_before : ℕ → List ℕ → Front
 string_before n [] = open_string
 string_before n (b ∷ rest) =

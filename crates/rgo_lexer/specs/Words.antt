@@ -11,7 +11,7 @@ use Rattle.rgo_lexer.specs.declared.terminals.Terminal.TheVariants.{Name, New, M
 use Rattle.rgo_lexer.specs.declared.terminals.Terminal.TheVariants.{Struct, Var, Func, Chan, Go, If, Else, For}
 use Rattle.rgo_lexer.specs.declared.terminals.Terminal.TheVariants.{Return, Break, Continue, Other}
 
--- a table of words with their terminals, as the code has it
+-- a table of words with their terminals, in the form that the code has it
 abbrev pub entries : List (Bor (List ℕ) × Terminal) → List (List ℕ × Terminal)
 entries table = map (λ e. (e.0.now, e.1)) table
 
@@ -20,7 +20,7 @@ abbrev pub looked_up : List (List ℕ × Terminal) → Terminal → List ℕ →
 looked_up [] default word = default
 looked_up (e ∷ table) default word = if bytes_eq word e.0 then e.1 else looked_up table default word
 
--- the words that are not names: Go's keywords, `new` and `make`
+-- the words that are not names: all of Go's keywords, `new` and `make`
 abbrev pub words : List (List ℕ × Terminal)
 words =
     (codes "break", Break) ∷ (codes "case", Other) ∷ (codes "chan", Chan)
@@ -41,7 +41,6 @@ word_terminal word = looked_up words Name word
 abbrev pub run_of : List ℕ → ℕ
 run_of text = prefix_len is_word_byte text
 
--- the word at the front of a text that begins with a letter: all bytes at the front that may occur
--- in one
+-- the word at the front of a text that begins with a letter; it extends over all bytes that may occur in a word
 unfoldable pub word_at : List ℕ → Front
 word_at text = Piece (word_terminal (take (run_of text) text)) (run_of text)

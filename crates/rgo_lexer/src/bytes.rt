@@ -1,10 +1,10 @@
-//! The kinds of byte that separators and tokens consist of.
+//! The classes of bytes that the forms of tokens and separators are made of. Every module of a form uses them.
 
 ghost use Rattle.std.specs.Prelude.{◌≡◌, ◌≤◌, length};
 ghost use Rattle.std.specs.List.{prefix_len};
 ghost use Rattle.rgo_lexer.specs.Bytes as bytes;
 
-/// Whether the byte separates tokens and ends no line.
+/// Whether the byte is white space within a line. A newline is not one: it may insert a `;`.
 pub(crate) fn is_blank(b: u8) -> bool
     ensures { result ≡ bytes.is_blank b }
 {
@@ -32,7 +32,8 @@ pub(crate) fn is_word_byte(b: u8) -> bool
     is_letter(b) || is_digit(b)
 }
 
-/// The number of bytes at the front that may occur in a word.
+/// The number of bytes at the front that may occur in a word. Words and numbers both end here, so `1x` is one malformed number and
+/// not a number and a name.
 pub(crate) fn run_len(text: &[u8]) -> usize
     ensures value { result ≡ prefix_len bytes.is_word_byte text.now }
     ensures within { result ≤ length text.now }

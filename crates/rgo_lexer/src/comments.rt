@@ -1,4 +1,5 @@
-//! Comments.
+//! Comments: one of the forms at the front of a text (`front`). They produce no token, but may act as a newline.
+//! Why: docs/DECISIONS.md, "Tokens".
 
 ghost use Rattle.std.specs.Prelude.{◌≡◌, ◌≤◌, ◌+◌, ◌<◌, length, IfSome};
 ghost use Rattle.std.specs.List.{position_or_len};
@@ -43,7 +44,7 @@ pub(crate) fn begins_comment(text: &[u8]) -> bool
     begins_line_comment(text) || text.starts_with(b"/*")
 }
 
-// A general comment of that length: it acts as a newline if it contains one, else as a space.
+// A general comment acts as a newline if it contains one, else as a space (The Go Programming Language Specification, "Comments").
 fn acts_as(text: &[u8], len: usize) -> Front
     requires { len ≤ length text.now }
     ensures { result ≡ acts_as text.now len }
@@ -55,7 +56,8 @@ fn acts_as(text: &[u8], len: usize) -> Front
     }
 }
 
-/// The comment at the front of a text that begins with one.
+/// The comment at the front of a text that begins with one. A comment to the end of the line does not include the newline, which may
+/// have to insert a `;`.
 #[tactic(auto, unfolding(crate::specs::Comments::comment_at))]
 pub(crate) fn comment(text: &[u8]) -> Front
     requires { 2 ≤ length text.now }

@@ -1,4 +1,6 @@
-//! What a text begins with: a separator, a comment, a token, or what is refused.
+//! The front of a text: the one separator, comment, token or error that it begins with. `lexer` repeats [`read_front`] to the end;
+//! the modules of the forms (`words`, `numbers`, `strings`, `comments`, `operators`) each recognise one.
+//! Why: docs/DECISIONS.md, "Tokens".
 
 ghost use Rattle.std.specs.Prelude.{◌≡◌};
 ghost use Rattle.rgo_lexer.specs.Front.{front_of, FitsIn};
@@ -15,19 +17,20 @@ use crate::words::word;
 /// The front of a text; widths and offsets are in bytes.
 #[derive(Clone, Copy, Debug, PartialEq, Eq)]
 pub enum Front {
-    /// Nothing: the text is over.
+    /// The text is empty.
     End,
-    /// A separator of that width that ends no line.
+    /// A separator of this width that acts as a space.
     Blank(usize),
-    /// A separator of that width that ends a line.
+    /// A separator of this width that acts as a newline, so that it may insert a `;`.
     Newline(usize),
-    /// A token of that width.
+    /// A token of this width.
     Piece(Terminal, usize),
-    /// What is refused: its kind, and the offset of the refused byte.
+    /// A lexical error: its kind, and the offset of the byte that is reported.
     Refused(LexicalKind, usize),
 }
 
-/// The front of the text, the longest that its form allows.
+/// The front of the text, as long as its form allows. The first bytes determine the form. Operators come last, so that `//` and `/*`
+/// begin comments and not a `/`.
 #[tactic(auto, using(crate::proofs::Fronts::fits), unfolding(crate::specs::Front::front_of))]
 pub(crate) fn read_front(text: &[u8]) -> Front
     ensures value { result ≡ front_of text.now }

@@ -1,9 +1,9 @@
-//! Laws of lexing: what the definitions say of every text.
+//! Laws of the definitions of lexing, which hold for every text. The compiler calls none of them.
 
 ghost use Rattle.rgo_lexer.specs.Laws.{NeverBoth, OneOfBoth, OneList, OneRefusal};
 ghost use Rattle.rgo_lexer.specs.Laws.{OfText, InOrder, LongestMatch};
 
-/// A text has either one list of lexemes or one refusal. Its lexemes are parts of it, in order.
+/// Each text has exactly one list of lexemes or exactly one refusal, never both. Its lexemes are parts of it, in order.
 pub fn one_reading()
     ensures never_both { NeverBoth }
     ensures one_of_both { OneOfBoth }

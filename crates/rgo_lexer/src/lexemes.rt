@@ -1,17 +1,17 @@
-//! Lexemes: what the lexer returns and the parser reads.
+//! Lexemes: the tokens with their places that `lex` returns and the parser reads.
 
 use crate::terminals::Terminal;
 use std::marker::Model;
 
 /// A token of a text with its place.
 ///
-/// An inserted `;` is at the end of the token before it, and its word is empty.
+/// An inserted `;` has the place where the token before it ends, and an empty word: no byte of the text belongs to it.
 #[derive(Drop)]
 pub struct Lexeme<'a> {
     pub terminal: Terminal,
-    /// The number of bytes before it.
+    /// Its place: the number of bytes of the text before it.
     pub at: usize,
-    /// The bytes of the text that it consists of.
+    /// Its bytes, borrowed from the text, so that a list of lexemes copies none.
     pub word: &'a [u8],
 }
 

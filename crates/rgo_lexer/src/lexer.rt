@@ -1,8 +1,9 @@
-//! The lexer's loop over a text.
+//! The loop of the lexer: takes one front after another from the text, and inserts semicolons at the ends of lines.
+//! Why: docs/DECISIONS.md, "Tokens".
 
 ghost use Rattle.std.specs.Prelude.{◌≡◌, ◌≤◌, None, All, IfErr, IfOk, drop, length};
-ghost use Rattle.rgo_lexer.specs.Lexing.{start_of, LexesAs, LexesFrom, with_package_name, IsLexemeOf};
-ghost use Rattle.rgo_lexer.specs.Refusals.{Fails, FailsFrom, IsPlacedIn};
+ghost use Rattle.rgo_lexer.specs.Lexing.{text_start, LexesAs, LexesFrom, with_package_name, IsLexemeOf};
+ghost use Rattle.rgo_lexer.specs.Refusals.{LexFails, FailsFrom, IsPlacedIn};
 
 use crate::front::{Front, read_front};
 use crate::lexemes::Lexeme;
@@ -14,7 +15,7 @@ use std::alloc::Global;
 /// The byte order mark in UTF-8.
 const BYTE_ORDER_MARK: &[u8] = b"\xEF\xBB\xBF";
 
-// The lexemes of the text from the byte `start` on.
+// The lexemes of the text from byte `start` on. Places are counted from the text's first byte, also if a byte order mark is skipped.
 fn lexemes_from<'a>(
     alloc: Global,
     text: &'a [u8],
@@ -56,9 +57,9 @@ fn lexemes_from<'a>(
     }
 }
 
-// Where a text begins: after a byte order mark at its very front.
+// Where lexing begins: after a byte order mark at the very front. Anywhere else a mark is a byte that begins no token.
 fn start_of(text: &[u8]) -> usize
-    ensures value { result ≡ start_of text.now }
+    ensures value { result ≡ text_start text.now }
     ensures within { result ≤ length text.now }
 {
     if text.starts_with(BYTE_ORDER_MARK) {
@@ -68,7 +69,8 @@ fn start_of(text: &[u8]) -> usize
     }
 }
 
-// Where the second lexeme is the word `main`, makes it the package's name.
+// Makes the word `main`, if it is the second lexeme, the terminal of the package's name. This depends on the position of a lexeme
+// and not on its bytes alone, so it is done when all lexemes are known.
 fn name_package<'a>(lexemes: &mut Vec<Lexeme<'a>>)
     ensures { lexemes.new.items ≡ with_package_name lexemes.old.items }
 {
@@ -79,14 +81,17 @@ fn name_package<'a>(lexemes: &mut Vec<Lexeme<'a>>)
     }
 }
 
-/// The lexemes of the text, in their order, the inserted `;` among them (The Go Programming
-/// Language Specification, "Lexical elements").
+/// The lexemes of the text in order, including the inserted `;` (The Go Programming Language Specification, "Lexical elements").
 ///
-/// An error is the refusal of the text, which then has no lexemes, or says that memory ran out.
+/// The whole text is tested for UTF-8 before anything else, so that error precedes every other one, wherever it is.
+///
+/// # Errors
+///
+/// `Refused`, with the first lexical error and its place in bytes; `NoMemory` if an allocation failed.
 #[tactic(auto, using(crate::proofs::Placing::placed))]
 pub fn lex<'a>(alloc: Global, text: &'a [u8]) -> Result<Vec<Lexeme<'a>>, LexError>
     ensures ok { IfOk result (λ lexemes. LexesAs text.now lexemes.items) }
-    ensures refused { IfErr result (Fails text.now) }
+    ensures refused { IfErr result (LexFails text.now) }
     ensures of_text { IfOk result (λ lexemes. All (IsLexemeOf text.now) lexemes.items) }
     ensures placed { IfErr result (IsPlacedIn text.now) }
 {

@@ -1,7 +1,7 @@
-//! The lexer: cuts the text of a program into lexemes, the inserted semicolons among them.
+//! The lexer: cuts the text of a program into lexemes, including the inserted semicolons.
 //!
-//! `lex` is the one function that the compiler calls, `Lexeme` what the grammar's definitions speak
-//! of. `unquoted` evaluates a string literal. The laws are about the definitions alone.
+//! The pipeline in rgo_run calls `lex`. The grammar and the parser work on `Lexeme`. `unquoted` evaluates a string literal: the lexer
+//! only checks literals, so that a lexeme borrows its bytes and needs no memory of its own. The laws are about the definitions alone.
 #![tactic(auto)]
 
 mod bytes;

@@ -1,9 +1,10 @@
-//! Integer literals and their values.
+//! Integer literals and their values: one of the forms at the front of a text (`front`).
+//! Why: docs/DECISIONS.md, "Tokens".
 
 ghost use Rattle.std.specs.Prelude.{◌≡◌, ◌≤◌, ◌+◌, ◌*◌, ◌^◌, ◌<◌, [], ◌∷◌};
 ghost use Rattle.rgo_lexer.specs.Numbers.{begins_with_digit, may_occur, are_digits};
 ghost use Rattle.rgo_lexer.specs.Numbers.{is_decimal, is_hexadecimal};
-ghost use Rattle.rgo_lexer.specs.Numbers.{value_after, value_of, if_fits, number_of, number_at};
+ghost use Rattle.rgo_lexer.specs.Numbers.{value_after, value_of, if_fits, literal_value, number_at};
 
 use crate::bytes::run_len;
 use crate::front::Front;
@@ -25,7 +26,7 @@ fn begins_with_digit(text: &[u8], base: u32) -> bool
     }
 }
 
-// Whether the byte is a digit, or a `_` before one.
+// Whether the byte is a digit, or a `_` with a digit after it.
 fn may_occur(b: u8, after: &[u8], base: u32) -> bool
     requires low { 2 ≤ base }
     requires high { base ≤ 36 }
@@ -68,7 +69,7 @@ fn is_hexadecimal(word: &[u8]) -> bool
         && are_digits(&word[2..], 16)
 }
 
-// The number with one more digit appended, if that is not too large.
+// The number with one more digit appended; `None` if it exceeds the greatest `int`.
 fn with_digit(number: u64, digit: u32, base: u32) -> Option<u64>
     ensures { result ≡ if_fits (number * base + digit) }
 {
@@ -95,7 +96,7 @@ fn with_byte(number: u64, b: u8, base: u32) -> Option<u64>
     }
 }
 
-// The number that the digits write, if that is not too large.
+// The value of the digits; `None` if it exceeds the greatest `int`.
 fn value_of(digits: &[u8], base: u32) -> Option<u64>
     requires low { 2 ≤ base }
     requires high { base ≤ 36 }
@@ -108,13 +109,12 @@ fn value_of(digits: &[u8], base: u32) -> Option<u64>
     Some(number)
 }
 
-// The number that an integer literal writes (The Go Programming Language Specification, "Integer
-// literals"): a decimal literal, or one in base 16 with `0x` or `0X`, each digit perhaps with a `_`
-// before it. None if the word is no such literal, or its number is above 9223372036854775807, the
-// greatest `int`.
-#[tactic(auto, unfolding(crate::specs::Numbers::number_of))]
+// The value of an integer literal (The Go Programming Language Specification, "Integer literals"): a decimal literal, or one in base
+// 16 with `0x` or `0X`, with an optional `_` before each digit. `None` if the word is not such a literal, or if its value exceeds
+// 9223372036854775807, the greatest `int`.
+#[tactic(auto, unfolding(crate::specs::Numbers::literal_value))]
 fn number_value(word: &[u8]) -> Option<u64>
-    ensures { result ≡ number_of word.now }
+    ensures { result ≡ literal_value word.now }
 {
     if is_decimal(word) {
         value_of(word, 10)
@@ -125,7 +125,8 @@ fn number_value(word: &[u8]) -> Option<u64>
     }
 }
 
-/// The number at the front of a text that begins with a digit.
+/// The number at the front of a text that begins with a digit. It extends over all bytes that may occur in a word; if these are not a
+/// literal as a whole, the error is at its first byte.
 #[tactic(auto, unfolding(crate::specs::Numbers::number_at))]
 pub(crate) fn number(text: &[u8]) -> Front
     ensures { result ≡ number_at text.now }

@@ -1,4 +1,4 @@
-//! Operators and punctuation.
+//! Operators and punctuation: the last of the forms at the front of a text (`front`).
 
 ghost use Rattle.std.specs.Prelude.{◌≡◌, IsTrue};
 ghost use Rattle.rgo_lexer.specs.Operators.{longer_first, longest_front, operator_entry, operator_at};
@@ -9,7 +9,8 @@ use crate::refusals::LexicalKind;
 use crate::terminals::Terminal;
 use rgo_ast::{AssignOp, BinaryOp, StepOp};
 
-// The Go Programming Language Specification, "Operators and punctuation"; the longer ones first.
+// All operators of The Go Programming Language Specification, "Operators and punctuation", also those that no production uses: the
+// longest match has to know them. The longer ones come first, which `longest_front` relies on.
 const OPERATORS: [(&[u8], Terminal); 48] = [
     (b"<<=", Terminal::Other),
     (b">>=", Terminal::Other),
@@ -61,8 +62,8 @@ const OPERATORS: [(&[u8], Terminal); 48] = [
     (b":", Terminal::Colon),
 ];
 
-// Of the words in a table, the first that the text begins with: its width and its terminal. In such
-// a table it is the longest.
+// The first word of a table that the text begins with: its width and its terminal. If no word of the table comes after a shorter one,
+// this is the longest match.
 fn longest_front(table: &[(&[u8], Terminal)], text: &[u8]) -> Option<(usize, Terminal)>
     requires { IsTrue (longer_first (entries table.now)) }
     ensures { result ≡ longest_front (entries table.now) text.now }
@@ -83,7 +84,7 @@ fn operator_entry(text: &[u8]) -> Option<(usize, Terminal)>
     longest_front(&OPERATORS, text)
 }
 
-/// The operator at the front of a text that begins with no other form.
+/// The operator at the front of a text that begins with no other form. If there is none, the first byte begins no token.
 #[tactic(auto, unfolding(crate::specs::Operators::operator_at))]
 pub(crate) fn operator(text: &[u8]) -> Front
     ensures { result ≡ operator_at text.now }

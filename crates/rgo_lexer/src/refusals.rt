@@ -1,22 +1,22 @@
-//! Lexical refusals: what is wrong with a text that cannot be cut into lexemes.
+//! Lexical errors: why a text cannot be cut into lexemes. Their numbers and names are printed. Why: docs/DECISIONS.md, "Tokens".
 
 ghost use Rattle.std.specs.Prelude.{◌≡◌};
-ghost use Rattle.rgo_lexer.specs.LexicalKinds.{number_of, name_of};
+ghost use Rattle.rgo_lexer.specs.LexicalKinds.{lexical_kind_number, lexical_kind_name};
 ghost use Rattle.rgo_lexer.specs.declared.refusals.LexError.TheVariants.{NoMemory};
 
 use std::alloc::{AllocError, AllocFailed};
 use thiserror::Error;
 
-/// The kinds of refusal.
+/// The kinds of lexical error.
 #[derive(Clone, Copy, Debug, PartialEq, Eq)]
 pub enum LexicalKind {
     /// A byte that belongs to no character of UTF-8.
     BadUtf8,
     /// A byte that begins neither a separator nor a token.
     BadByte,
-    /// A number that is malformed or above the greatest `int`.
+    /// A number that is malformed or exceeds the greatest `int`.
     BadNumber,
-    /// A backslash that begins no escape.
+    /// A backslash in a string that does not begin an escape.
     BadEscape,
     /// A string that is not closed on its line.
     OpenString,
@@ -25,9 +25,9 @@ pub enum LexicalKind {
 }
 
 impl LexicalKind {
-    /// Its number, from 1 on.
+    /// The number that is printed, from 1.
     pub fn number(self) -> u8
-        ensures { result ≡ number_of self }
+        ensures { result ≡ lexical_kind_number self }
     {
         match self {
             LexicalKind::BadUtf8 => 1,
@@ -39,9 +39,9 @@ impl LexicalKind {
         }
     }
 
-    /// Its name.
+    /// The name that is printed.
     pub fn name(self) -> &'static str
-        ensures { result.now ≡ name_of self }
+        ensures { result.now ≡ lexical_kind_name self }
     {
         match self {
             LexicalKind::BadUtf8 => "BadUtf8",
@@ -54,14 +54,14 @@ impl LexicalKind {
     }
 }
 
-/// What is wrong first with a text, and the number of bytes before it.
+/// The first lexical error of a text, and its place: the number of bytes before it.
 #[derive(Clone, Copy, Debug, PartialEq, Eq)]
 pub struct LexRefusal {
     pub kind: LexicalKind,
     pub at: usize,
 }
 
-/// Why there is no list of lexemes: memory ran out, or the text is refused.
+/// Why a text has no list of lexemes: memory ran out, or it has a lexical error.
 #[derive(Clone, Copy, Debug, PartialEq, Eq, Error)]
 pub enum LexError {
     #[error("out of memory")]

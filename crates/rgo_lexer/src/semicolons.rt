@@ -1,5 +1,5 @@
-//! The `;` that the end of a line inserts (The Go Programming Language Specification,
-//! "Semicolons").
+//! The `;` that the end of a line inserts (The Go Programming Language Specification, "Semicolons"). The lexer's loop keeps the place
+//! where the last token ended if a `;` may follow it, and resolves that at the next newline or at the end of the text.
 
 ghost use Rattle.std.specs.Prelude.{◌≡◌, ◌++◌, IfErr, OnOk};
 ghost use Rattle.rgo_lexer.specs.Semicolons as semicolons;
@@ -34,7 +34,7 @@ fn may_end(terminal: Terminal, word: &[u8]) -> bool
     }
 }
 
-/// The place `end` where a token ends, if a statement may end there.
+/// `end`, the place where a token ends, if a statement may end there; the loop keeps it until the line is over.
 pub(crate) fn ending_after(terminal: Terminal, word: &[u8], end: usize) -> Option<usize>
     ensures { result ≡ semicolons.ending_after terminal word.now end }
 {
@@ -45,8 +45,7 @@ pub(crate) fn ending_after(terminal: Terminal, word: &[u8], end: usize) -> Optio
     }
 }
 
-/// At the end of a line, appends a `;` at the place `ending` where the last token ended, if a
-/// statement may end there.
+/// At the end of a line, appends a `;` at `ending`, where the last token ended, if a statement may end there.
 pub(crate) fn insert_semicolon<'a>(
     lexemes: &mut Vec<Lexeme<'a>>,
     ending: Option<usize>,

@@ -1,7 +1,8 @@
-//! String literals and their values.
+//! String literals and their values: one of the forms at the front of a text (`front`). The inside of a string is a list of items, each
+//! a plain byte or an escape. Why: docs/DECISIONS.md, "Tokens".
 
 ghost use Rattle.std.specs.Prelude.{◌≡◌, ◌≤◌, ◌+◌, ◌<◌, ◌^◌, length, map, IfOk, IfSome};
-ghost use Rattle.rgo_lexer.specs.Strings.{escaped, is_plain, BeginsWithItem, items, items_len};
+ghost use Rattle.rgo_lexer.specs.Strings.{escaped, is_plain_byte, BeginsWithItem, items, items_len};
 ghost use Rattle.rgo_lexer.specs.Strings.{item_value, string_of, string_at, string_before};
 
 use crate::front::Front;
@@ -9,8 +10,7 @@ use crate::refusals::LexicalKind;
 use crate::terminals::Terminal;
 use std::alloc::{AllocError, Global};
 
-// The byte that an escape's letter stands for (The Go Programming Language Specification, "Rune
-// literals").
+// The value of an escape by its letter (The Go Programming Language Specification, "Rune literals").
 fn escaped(letter: u8) -> Option<u8>
     ensures { result ≡ escaped letter }
 {
@@ -28,14 +28,14 @@ fn escaped(letter: u8) -> Option<u8>
     }
 }
 
-// Whether the byte stands for itself in a string.
+// Whether the byte is an item by itself, and its own value.
 fn is_plain(b: u8) -> bool
-    ensures { result ≡ is_plain b }
+    ensures { result ≡ is_plain_byte b }
 {
     !matches!(b, b'"' | b'\\' | b'\n')
 }
 
-// The item at the front of a string's inside: its width, and the byte that it stands for.
+// The item at the front of a string's inside: its width and its value.
 fn item(text: &[u8]) -> Option<(usize, u8)>
     ensures value { BeginsWithItem text.now result }
     ensures within { IfSome result (λ item. (0 < item.0) × (item.0 ≤ length text.now)) }
@@ -52,7 +52,7 @@ fn item(text: &[u8]) -> Option<(usize, u8)>
     Some((2, byte))
 }
 
-// The number of bytes of the items at the front.
+// The number of bytes of all items at the front, up to a quote, a newline, a bad escape or the end.
 fn items_len(text: &[u8]) -> usize
     ensures value { result ≡ items_len text.now }
     ensures within { result ≤ length text.now }
@@ -64,7 +64,8 @@ fn items_len(text: &[u8]) -> usize
     at
 }
 
-// A string whose items have `len` bytes, by what follows them.
+// A string whose items have `len` bytes, by what follows them. A quote closes it. A backslash is a bad escape and is reported itself,
+// unless it is the last byte of the text. In all other cases the string is open, and its first quote is reported.
 fn string_before(len: usize, after: &[u8]) -> Front
     requires { len < 2 ^ 63 }
     ensures { result ≡ string_before len after.now }
@@ -90,7 +91,7 @@ pub(crate) fn string(text: &[u8]) -> Front
     string_before(len, &text[len + 1..])
 }
 
-// The bytes that the items at the front stand for.
+// The values of the items at the front.
 fn item_values(alloc: Global, text: &[u8]) -> Result<Vec<u8>, AllocError>
     ensures { IfOk result (λ values. values.items ≡ map item_value (items text.now)) }
 {
@@ -103,8 +104,8 @@ fn item_values(alloc: Global, text: &[u8]) -> Result<Vec<u8>, AllocError>
     Ok(values)
 }
 
-/// The bytes that a string literal stands for (The Go Programming Language Specification, "String
-/// literals").
+/// The value of a string literal, in bytes (The Go Programming Language Specification, "String literals"). The parser calls it for
+/// words that `lex` has accepted as strings; from any other word it drops a byte and evaluates the items that follow.
 #[tactic(auto, unfolding(crate::specs::Strings::string_of))]
 pub fn unquoted(alloc: Global, literal: &[u8]) -> Result<Vec<u8>, AllocError>
     ensures { IfOk result (λ value. value.items ≡ string_of literal.now) }

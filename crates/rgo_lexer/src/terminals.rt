@@ -1,16 +1,16 @@
-//! The terminals of the grammar: what it distinguishes of a token.
+//! The terminals of the grammar: as much of a token as the productions distinguish.
 
 ghost use Rattle.std.specs.Prelude.{◌≡◌};
-ghost use Rattle.rgo_lexer.specs.Lexemes.{class, subclass, same};
+ghost use Rattle.rgo_lexer.specs.Lexemes.{class, subclass, is_same_terminal};
 
 use rgo_ast::{AssignOp, BinaryOp, StepOp};
 
 /// The terminal of a token (The Go Programming Language Specification, "Tokens").
 #[derive(Clone, Copy, Debug, PartialEq, Eq)]
 pub enum Terminal {
-    /// A word that is neither a keyword nor `new` nor `make`.
+    /// A word other than a keyword, `new` and `make`.
     Name,
-    /// The word `main` as the second token of a text: the package's name.
+    /// The package's name: the word `main` as the second token of a text. Elsewhere `main` is a `Name`.
     Main,
     /// `new`
     New,
@@ -59,12 +59,12 @@ pub enum Terminal {
     Return,
     Break,
     Continue,
-    /// A token that occurs in no production.
+    /// A token of Go that occurs in no production of the subset. It is a token, so it is rejected by the parser and not by the lexer.
     Other,
 }
 
 impl Terminal {
-    // The number of its form.
+    // The number of its form, without what it carries.
     fn class(self) -> u8
         ensures { result ≡ class self }
     {
@@ -110,7 +110,8 @@ impl Terminal {
         }
     }
 
-    // Distinguishes operators of one form that occur in different places.
+    // Distinguishes the operators of a form that occur in other productions than the rest of it: `+`, `-` and `*` are also unary or
+    // begin a type, and `=` also begins an initial value.
     fn subclass(self) -> u8
         ensures { result ≡ subclass self }
     {
@@ -122,9 +123,9 @@ impl Terminal {
         }
     }
 
-    /// Whether it occurs in the same places as another: they differ at most in what they carry.
+    /// Whether it occurs in the same productions as another: they differ at most in what they carry.
     pub fn stands_as(self, other: Terminal) -> bool
-        ensures { result ≡ same other self }
+        ensures { result ≡ is_same_terminal other self }
     {
         other.class() == self.class() && other.subclass() == self.subclass()
     }

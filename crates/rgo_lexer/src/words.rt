@@ -1,4 +1,4 @@
-//! Words: names and keywords.
+//! Words, that is, names and keywords: one of the forms at the front of a text (`front`).
 
 ghost use Rattle.std.specs.Prelude.{◌≡◌};
 ghost use Rattle.rgo_lexer.specs.Words as words;
@@ -8,8 +8,8 @@ use crate::bytes::run_len;
 use crate::front::Front;
 use crate::terminals::Terminal;
 
-// The words that are not names: the keywords (The Go Programming Language Specification,
-// "Keywords"), and the two functions whose first operand is a type.
+// The words that are not names: all keywords (The Go Programming Language Specification, "Keywords"), also those that no production
+// uses, and `new` and `make`, whose first operand is a type. Why: docs/DECISIONS.md, "Grammar".
 const WORDS: [(&[u8], Terminal); 27] = [
     (b"break", Terminal::Break),
     (b"case", Terminal::Other),
@@ -60,7 +60,7 @@ fn word_terminal(word: &[u8]) -> Terminal
     looked_up(&WORDS, Terminal::Name, word)
 }
 
-/// The word at the front of a text that begins with a letter.
+/// The word at the front of a text that begins with a letter; it extends over all bytes that may occur in a word.
 #[tactic(auto, unfolding(crate::specs::Words::word_at))]
 pub(crate) fn word(text: &[u8]) -> Front
     ensures { result ≡ words.word_at text.now }

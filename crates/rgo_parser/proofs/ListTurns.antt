@@ -2,7 +2,7 @@
 use Rattle.std.proofs.Common.{◌≡◌, ℕ, ◌-◌, ◌<◌, Bool, true, false, cond, List, [], ◌∷◌, ◌++◌, Option, Some, None, refl, ap, ◌∙◌}
 use Rattle.std.proofs.lemmas.List.{map-append, append-nil}
 use Rattle.rgo_lexer.specs.declared.terminals.Terminal.{Terminal}
-use Rattle.rgo_lexer.specs.Lexemes.{Leaf, Lexeme, same}
+use Rattle.rgo_lexer.specs.Lexemes.{Leaf, Lexeme, is_same_terminal}
 use Rattle.rgo_grammar.specs.reading.Read.{Read, Done, Failed, Starving, At, ◌>>=◌, single, ended, listed, several}
 use Rattle.rgo_reader.specs.Lists.{closes, separated}
 use Rattle.rgo_reader.proofs.TypeTurns.{turn}
@@ -22,7 +22,7 @@ ended_by again found t m l false false = refl
 pub ended_is : {A : Type 0} (separator closer : Terminal) (again : List A → List Lexeme → Read (List A × Leaf)) (found : List A) (l : List Lexeme)
     → ended separator closer again found l ≡ (separated separator closer l >>= closed_or again found)
 ended_is separator closer again found [] = refl
-ended_is separator closer again found (t ∷ m) = ended_by again found t m (t ∷ m) (same closer t.terminal) (same separator t.terminal)
+ended_is separator closer again found (t ∷ m) = ended_by again found t m (t ∷ m) (is_same_terminal closer t.terminal) (is_same_terminal separator t.terminal)
 
 -- before an item: the end of the list, or the item and what comes after it
 abbrev pub lists_from : {A : Type 0} → Terminal → Terminal → (List Lexeme → Read (List A)) → (List A → List Lexeme → Read (List A × Leaf)) → List A
@@ -71,8 +71,8 @@ unfolding listed
 listed_more separator closer item n found [] h = ap (λ k. listed separator closer item k found []) (turn n h)
 listed_more separator closer item n found (t ∷ l) h =
     ap (λ k. listed separator closer item k found (t ∷ l)) (turn n h)
-    ∙ ap (λ r. cond (same closer t.terminal) (Done (found, t.leaf) l) r) (lists_by separator closer (item (t ∷ l)) (listed separator closer item (n - 1)) found)
-    ∙ closes_by separator closer item (listed separator closer item (n - 1)) found t l (t ∷ l) (same closer t.terminal)
+    ∙ ap (λ r. cond (is_same_terminal closer t.terminal) (Done (found, t.leaf) l) r) (lists_by separator closer (item (t ∷ l)) (listed separator closer item (n - 1)) found)
+    ∙ closes_by separator closer item (listed separator closer item (n - 1)) found t l (t ∷ l) (is_same_terminal closer t.terminal)
 
 pub several_starved : {A : Type 0} (separator closer : Terminal) (item : List Lexeme → Read A) (n : ℕ) (found : List A) (l : List Lexeme) → n ≡ 0
     → several separator closer item n found l ≡ Failed Starving
@@ -86,8 +86,8 @@ unfolding listed several
 several_more separator closer item n found [] h = ap (λ k. several separator closer item k found []) (turn n h)
 several_more separator closer item n found (t ∷ l) h =
     ap (λ k. several separator closer item k found (t ∷ l)) (turn n h)
-    ∙ ap (λ r. cond (same closer t.terminal) (Done (found, t.leaf) l) r) (items_by separator closer (item (t ∷ l)) (several separator closer item (n - 1)) found)
-    ∙ closes_items_by separator closer item (several separator closer item (n - 1)) found t l (t ∷ l) (same closer t.terminal)
+    ∙ ap (λ r. cond (is_same_terminal closer t.terminal) (Done (found, t.leaf) l) r) (items_by separator closer (item (t ∷ l)) (several separator closer item (n - 1)) found)
+    ∙ closes_items_by separator closer item (several separator closer item (n - 1)) found t l (t ∷ l) (is_same_terminal closer t.terminal)
 
 pub ruleset list_turns = (map-append, several_starved, several_more)
 

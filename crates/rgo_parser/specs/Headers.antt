@@ -1,4 +1,4 @@
--- The headers of `if` and `for`, as they are read up to the block.
+-- Reading functions for the headers of `if` and `for` up to the block; those of rgo_grammar read a header together with its block.
 use Rattle.std.specs.Prelude.{List, Option, Some, None}
 use Rattle.rgo_ast.specs.Tree.{Expr, Stmt}
 use Rattle.rgo_ast.specs.Views.{expr_of, boxed_expr_of, boxed_stmt_of}
@@ -16,11 +16,11 @@ abbrev pub head_of : Head → reading.Head
 head_of (head.Condition e) = reading.condition (expr_of e.value)
 head_of (head.Init s) = reading.init (boxed_stmt_of s)
 
--- the statement before the first `;`, and the condition
+-- a header of an `if` as data: the statement before the `;`, if any, and the condition
 abbrev pub if_of : IfHeader → Option Stmt × Expr
 if_of h = (boxed_stmt_of h.init, expr_of h.test.value)
 
--- the same, and the post statement
+-- a header of a `for` as data: the statement before the first `;`, the condition, and the post statement, if any
 abbrev pub for_of : ForHeader → Option Stmt × Option Expr × Option Stmt
 for_of h = (boxed_stmt_of h.init, boxed_expr_of h.test, boxed_stmt_of h.post)
 
@@ -30,7 +30,7 @@ if_parts s c = (s, c)
 abbrev pub for_parts : Option Stmt → Option Expr → Option Stmt → Option Stmt × Option Expr × Option Stmt
 for_parts s c p = (s, c, p)
 
--- In what follows `value` reads an expression of a header.
+-- Below, `value` reads an expression of a header.
 
 abbrev pub if_rest : (List Lexeme → Read Expr) → reading.Head → List Lexeme → Read (Option Stmt × Expr)
 if_rest value (reading.condition c) l = Done (None, c) l

@@ -1,4 +1,4 @@
--- A list that was read, as the reading functions have it.
+-- The result of reading a list, in the form that the reading functions of rgo_grammar have it.
 use Rattle.std.specs.Prelude.{List, map}
 use denote.Ref.{Bor}
 use Rattle.std.specs.declared.alloc.Global.{Global}

@@ -1,4 +1,4 @@
--- What holds of every list of lexemes, whatever parses it: it is one program, or has one refusal.
+-- Laws of every list of lexemes: it is exactly one program or has exactly one refusal.
 use Rattle.std.specs.Prelude.{◌≡◌, ℕ, ◌⊎◌, List}
 use Rattle.rgo_ast.specs.Tree.{Program}
 use Rattle.rgo_lexer.specs.Lexemes.{Lexeme}
@@ -12,12 +12,12 @@ OneTree = (end : ℕ) (lexemes : List Lexeme) (program other : Program)
 abbrev pub OneRefusal : Type 0
 OneRefusal = (lexemes : List Lexeme) (r other : ParseRefusal) → Refuses lexemes r → Refuses lexemes other → r ≡ other
 
--- no list is a program and has a refusal
+-- no list is a program and also has a refusal
 abbrev pub NeverBoth : Type 0
 NeverBoth = (end : ℕ) (lexemes : List Lexeme) (program : Program) (r : ParseRefusal)
     → IsParsed end lexemes program → Refuses lexemes r → ⊥
 
--- each list is the one or has the other
+-- each list is a program or has a refusal
 abbrev pub OneOfBoth : Type 0
 OneOfBoth = (end : ℕ) (lexemes : List Lexeme)
     → ((program : Program) × IsParsed end lexemes program) ⊎ ((r : ParseRefusal) × Refuses lexemes r)

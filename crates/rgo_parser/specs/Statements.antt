@@ -1,4 +1,4 @@
--- The parts of statements that are read without another statement.
+-- Reading functions for the parts of statements that contain no other statement; those of rgo_grammar read whole statements.
 use Rattle.std.specs.Prelude.{ℕ, false, true, List, [], ◌∷◌, Option, Some, None}
 use Rattle.rgo_ast.specs.declared.statements.Stmt.{Stmt as CodeStmt}
 use Rattle.rgo_ast.specs.Tree.{Stmt}
@@ -17,7 +17,7 @@ use Rattle.rgo_parser.specs.declared.openings.Else.TheVariants as code_else
 use Rattle.rgo_reader.specs.Agrees.{leaf_at}
 use Rattle.rgo_parser.specs.Headers.{for_header}
 
--- after the word `if`, of which only the place matters
+-- after the word `if`; only its place matters
 abbrev pub if_at : ℕ → Leaf → List Lexeme → Read Stmt
 if_at n i l = reading.if_stmt n (leaf_at i.at) l
 
@@ -25,12 +25,12 @@ if_at n i l = reading.if_stmt n (leaf_at i.at) l
 abbrev pub for_at : ℕ → Leaf → List Lexeme → Read Stmt
 for_at n i l = for_header (expr true n 1) l >>= λ h. reading.looped (reading.block n) i h.0 h.1 h.2
 
--- an empty statement leaves nothing
+-- the empty statement leaves nothing in the list
 abbrev pub stmt_list_of : Option CodeStmt → List Stmt
 stmt_list_of None = []
 stmt_list_of (Some s) = stmt_of s ∷ []
 
--- statements that were read, or what begins at a place
+-- statements that were read whole, or the kind of statement that begins at a place
 pub data Leading : Type 0 where
   Whole : List Stmt → Leading
   Block : ℕ → Leading

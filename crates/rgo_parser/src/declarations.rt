@@ -1,4 +1,4 @@
-//! Imports, and declarations of types, variables and functions.
+//! Imports, and declarations of types, package variables and functions. Only a function's block leads into the cycle of `statements`.
 
 ghost use Rattle.std.specs.Prelude.{◌≡◌, option_map};
 ghost use Rattle.rgo_ast.specs.Views.{type_expr_of, binding_of, type_spec_of, function_of, decl_of, import_of};
@@ -97,7 +97,7 @@ fn result_type(alloc: Global, reader: &mut Reader<'_, '_>, turns: usize) -> Read
     }
 }
 
-// A function after its `func`, which is at a place.
+// A function after its `func`, which is at `at`.
 fn func(alloc: Global, reader: &mut Reader<'_, '_>, turns: usize, at: usize) -> Read<Function>
     ensures { Agrees (λ f. tree.Func (function_of f)) result reader.new
         (reading.func turns (leaf_at at) reader.old) }

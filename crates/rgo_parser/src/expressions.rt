@@ -1,4 +1,5 @@
-//! Expressions, by precedence: the functions that read an expression within an expression.
+//! Expressions, by precedence climbing: the cycle of functions that read an expression within an expression. `turns` decreases
+//! around the cycle, so it ends; the bound that `parser` passes never runs out. Why: docs/DECISIONS.md, "Grammar".
 
 ghost use Rattle.std.specs.Prelude.{◌≡◌, ◌-◌, ◌<◌, ◌++◌, ◌∷◌, [], IfOk, false, map};
 ghost use Rattle.rgo_ast.specs.Views.{expr_of, element_of};
@@ -40,8 +41,8 @@ fn push_element(found: &mut Vec<Element>, field: Ident, value: Box<Expr>) -> Res
     Ok(())
 }
 
-/// An expression whose operators bind at least as tightly as `least`; `header` says that it is between
-/// `if` or `for` and its block, outside brackets.
+/// An expression whose operators bind at least as tightly as `least`. `header`: it is between `if` or `for` and its block, outside
+/// brackets, where no literal may begin, since its `{` would look like that of the block.
 #[tactic(auto, using(crate::proofs::ExprTurns::expr_turns))]
 #[cycle(expressions)]
 pub(crate) fn expr(
@@ -60,7 +61,8 @@ pub(crate) fn expr(
     climb(alloc, reader, header, turns - 1, least, left)
 }
 
-// The operators after an expression that bind at least as tightly as `least`.
+// The operators after an expression that bind at least as tightly as `least`. The right operand is read with a level one higher, so
+// operators of one level group to the left.
 #[tactic(auto, using(crate::proofs::ExprTurns::climb_turns))]
 #[cycle(expressions)]
 fn climb(
@@ -104,7 +106,7 @@ fn unary(alloc: Global, reader: &mut Reader<'_, '_>, header: bool, turns: usize)
     }
 }
 
-// A primary expression: an operand and what comes after it.
+// A primary expression: an operand and its suffixes.
 #[tactic(auto, using(crate::proofs::ExprTurns::primary_turns))]
 #[cycle(expressions)]
 fn primary(alloc: Global, reader: &mut Reader<'_, '_>, turns: usize) -> Read<Box<Expr>>
@@ -123,7 +125,7 @@ fn primary(alloc: Global, reader: &mut Reader<'_, '_>, turns: usize) -> Read<Box
     }
 }
 
-// What comes after a primary expression.
+// The suffixes of a primary expression: fields, indices and calls.
 #[tactic(auto, using(crate::proofs::ExprTurns::post_turns))]
 #[cycle(expressions)]
 fn post(
@@ -158,7 +160,7 @@ fn post(
     }
 }
 
-/// Expressions up to the lexeme that closes them.
+/// Expressions up to the lexeme that closes them. They are inside brackets, so literals are allowed in them even in a header.
 #[tactic(auto, using(crate::proofs::ListTurns::list_turns))]
 #[cycle(expressions)]
 pub(crate) fn exprs<'r, 'a>(

@@ -1,4 +1,5 @@
-//! The headers of `if` and `for`: what is between the keyword and the block.
+//! The headers of `if` and `for`: what is between the keyword and the block. They hold no block, so they are read outside the cycle
+//! of `statements`. Why: docs/DECISIONS.md, "Grammar".
 
 ghost use Rattle.std.specs.Prelude.{◌≡◌, true};
 ghost use Rattle.rgo_ast.specs.Views.{stmt_of, boxed_expr_of, boxed_stmt_of};
@@ -15,8 +16,8 @@ use rgo_lexer::Terminal;
 use rgo_reader::{Fault, Read, Reader};
 use std::alloc::Global;
 
-/// A header up to its block or its first `;`: a condition before a block, or a statement, which may be
-/// empty, and its `;`.
+/// The first part of a header: a condition before the block, or a statement, which may be empty, with its `;`. Which of them it is
+/// shows only at its end, so both are read as a simple statement.
 #[derive(Drop)]
 enum Head {
     Condition(Box<Expr>),
@@ -38,7 +39,7 @@ pub(crate) struct ForHeader {
     pub(crate) post: Option<Box<Stmt>>,
 }
 
-// The end of a head, after its statement.
+// Decides by the next lexeme what the statement was. Before a block only an expression can be a condition.
 fn head_end(reader: &mut Reader<'_, '_>, stmt: Box<Stmt>) -> Read<Head>
     ensures { Agrees headers.head_of result reader.new
         (reading.head_end_on (stmt_of stmt.value) reader.old (first_of reader.old)) }
@@ -59,7 +60,7 @@ fn head_end(reader: &mut Reader<'_, '_>, stmt: Box<Stmt>) -> Read<Head>
     }
 }
 
-// A header up to its block or its first `;`.
+// Reads the first part of a header.
 fn read_head(alloc: Global, reader: &mut Reader<'_, '_>, turns: usize) -> Read<Head>
     ensures { Agrees headers.head_of result reader.new
         (reading.head (reading_exprs.expr true turns 1) reader.old) }

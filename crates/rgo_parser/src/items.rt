@@ -1,4 +1,5 @@
-//! Lists and groups of what is read one by one.
+//! Lists and groups of items that are read one by one: parameters, fields, and the declarations between parentheses. Lists of
+//! expressions and of statements are in the files of their cycles.
 
 ghost use Rattle.std.specs.Prelude.{◌≡◌, [], map, ℕ, List};
 ghost use Rattle.rgo_grammar.specs.reading.Read as reading;
@@ -14,7 +15,7 @@ use std::alloc::Global;
 /// The items of a list, and the lexeme that closes it.
 pub(crate) type Listed<'r, 'a, T> = Read<(Vec<T>, &'r Lexeme<'a>)>;
 
-/// What is read one by one in a list.
+/// What a list consists of: `reads` is the reading function of the grammar that `read` agrees with.
 pub(crate) trait Item: Drop {
     ghost Tree: { Type 0 };
 
@@ -22,12 +23,13 @@ pub(crate) trait Item: Drop {
 
     ghost reads: { ℕ → List lexemes.Lexeme → reading.Read Tree };
 
-    /// One item.
+    /// Reads one item.
     fn read(alloc: Global, reader: &mut Reader<'_, '_>, turns: usize) -> Read<Self>
         ensures { Agrees tree_of result reader.new (reads turns reader.old) };
 }
 
-/// Items up to the lexeme that closes them.
+/// Items up to the lexeme that closes them; the last separator may be missing. `Starved` is never reached with the parser's bound,
+/// since each item takes at least one lexeme.
 #[tactic(auto, using(crate::proofs::ListTurns::list_turns))]
 pub(crate) fn list<'r, 'a, T: Item>(
     alloc: Global,
@@ -53,7 +55,8 @@ pub(crate) fn list<'r, 'a, T: Item>(
     Err(Fault::Starved)
 }
 
-/// One item, or a group of them in parentheses.
+/// One item, or a group of items in parentheses. A group of one has the same tree as that item alone.
+/// Why: docs/DECISIONS.md, "Grammar".
 pub(crate) fn group<T: Item>(
     alloc: Global,
     reader: &mut Reader<'_, '_>,

@@ -1,8 +1,8 @@
-//! What holds of every list of lexemes, whatever parses it.
+//! A law of the definitions of parsing, which holds for every list of lexemes. The compiler does not call it.
 
 ghost use Rattle.rgo_parser.specs.Laws.{OneTree, OneRefusal, NeverBoth, OneOfBoth};
 
-/// A list of lexemes is one program, or has one refusal.
+/// Each list of lexemes is exactly one program or has exactly one refusal, never both.
 pub fn one_answer()
     ensures tree { OneTree }
     ensures refusal { OneRefusal }

@@ -1,4 +1,4 @@
-//! Declarations of local variables.
+//! Declarations of local variables by `var`. They may have a value, unlike those of package variables (`declarations`).
 
 ghost use Rattle.std.specs.Prelude.{◌≡◌, false};
 ghost use Rattle.rgo_ast.specs.Tree as tree;
@@ -15,7 +15,7 @@ use rgo_lexer::{Lexeme, Terminal};
 use rgo_reader::{Fault, Read, Reader, ty, typed_names};
 use std::alloc::Global;
 
-// After the one name of a declaration and its type: an initial value, or nothing.
+// After the type of a declaration of one name: an initial value, or nothing.
 fn initial(
     alloc: Global,
     reader: &mut Reader<'_, '_>,
@@ -46,7 +46,7 @@ impl Item for LocalVar {
 
     ghost reads = { λ n. reading.local n (reading_exprs.expr false n 1) };
 
-    /// Names with their type or value.
+    /// Names with their type, or one name with its type and value, or with its value alone.
     fn read(alloc: Global, reader: &mut Reader<'_, '_>, turns: usize) -> Read<LocalVar> {
         let one = reader.name(alloc)?;
         let Some(lexeme) = reader.peek() else {

@@ -1,4 +1,5 @@
-//! Statements that hold no other, and what the others begin with.
+//! The beginnings of statements: those that hold no other statement are read whole, and the others up to where the cycle of
+//! `statements` takes over.
 
 ghost use Rattle.std.specs.Prelude.{◌≡◌, false};
 ghost use Rattle.rgo_ast.specs.Views.{stmt_of};
@@ -16,8 +17,7 @@ use rgo_lexer::Terminal;
 use rgo_reader::{Fault, Read, Reader};
 use std::alloc::Global;
 
-/// A statement that holds no other, which was read whole, or the place where another one begins, after its
-/// keyword or `{`.
+/// A statement that was read whole, or the keyword or `{` of one that holds statements, by its place.
 #[derive(Drop)]
 pub(crate) enum Leading {
     Empty,
@@ -27,8 +27,7 @@ pub(crate) enum Leading {
     For(usize),
 }
 
-/// What comes after the block of an `if`: nothing, an `if` after its keyword, or a block from its `{` on,
-/// with its place.
+/// What follows the block of an `if`: nothing, an `if` whose keyword was read, or a block whose `{` is next, each with its place.
 #[derive(Clone, Copy)]
 pub(crate) enum Else {
     None,
@@ -36,7 +35,7 @@ pub(crate) enum Else {
     Block(usize),
 }
 
-// A `return` statement after its keyword, which is at a place.
+// A `return` statement after its keyword, which is at `at`.
 fn returned(alloc: Global, reader: &mut Reader<'_, '_>, turns: usize, at: usize) -> Read<Stmt>
     ensures { Agrees stmt_of result reader.new
         (reading.return_on (reading_exprs.expr false turns 1) (leaf_at at) reader.old
@@ -54,7 +53,7 @@ fn returned(alloc: Global, reader: &mut Reader<'_, '_>, turns: usize, at: usize)
     }
 }
 
-// A `go` statement after its keyword, which is at a place.
+// A `go` statement after its keyword, which is at `at`.
 fn going(alloc: Global, reader: &mut Reader<'_, '_>, turns: usize, at: usize) -> Read<Stmt>
     ensures { Agrees stmt_of result reader.new
         (reading.going turns (reading_exprs.expr false turns 1) (leaf_at at) reader.old) }
@@ -65,7 +64,7 @@ fn going(alloc: Global, reader: &mut Reader<'_, '_>, turns: usize, at: usize) ->
     Ok(Stmt::Go(function, args, at))
 }
 
-/// A statement that holds no other, or what another one begins with.
+/// Reads a statement that holds no other, or the beginning of one that does.
 pub(crate) fn read_leading(
     alloc: Global,
     reader: &mut Reader<'_, '_>,
@@ -115,7 +114,7 @@ pub(crate) fn read_leading(
     }
 }
 
-/// What comes after the block of an `if`.
+/// Reads what follows the block of an `if`, up to the `if` or the block after `else`.
 pub(crate) fn else_word(reader: &mut Reader<'_, '_>) -> Read<Else>
     ensures { Agrees (λ x. x) result reader.new (statements.else_word reader.old) }
 {

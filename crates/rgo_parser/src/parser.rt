@@ -1,4 +1,7 @@
-//! Parsing the lexemes of a text.
+//! The parser's entry: checks the nesting of the lexemes, reads them as a program, and turns a failure into a refusal.
+//!
+//! Nesting comes first because the parser recurs: what it reads is nested at most `LIMIT` deep, so its recursion stays within the
+//! stack. Why: docs/DECISIONS.md, "Grammar".
 
 ghost use Rattle.std.specs.Prelude.{◌≡◌, IfErr, IfOk, MatchResult, Some, map};
 ghost use Rattle.rgo_ast.specs.Views.{decl_of, import_of, program_of};
@@ -16,17 +19,17 @@ use rgo_reader::{Fault, Reader};
 use std::alloc::{AllocError, Global};
 use thiserror::Error;
 
-/// How deep a program may nest.
+/// The greatest depth of nesting, in levels, joints and branches as rgo_grammar counts them.
 const LIMIT: usize = 200;
 
-/// Why lexemes are not a program: what is wrong first, and the number of the lexeme where it is, counted
-/// from 0. The number of all lexemes means the text's end.
+/// Why lexemes are not a program, with the number, from 0, of the first lexeme that is wrong. The number of all lexemes means the
+/// end of the text.
 #[derive(Clone, Copy, Debug, PartialEq, Eq, Error)]
 pub enum ParseRefusal {
-    /// No program continues with this lexeme.
+    /// No program begins with the lexemes up to and including this one.
     #[error("wrong syntax at token {at}")]
     Syntax { at: usize },
-    /// The program nests too deep from this lexeme on.
+    /// The nesting exceeds the limit after this lexeme.
     #[error("too deep at token {at}")]
     TooDeep { at: usize },
 }
@@ -48,8 +51,8 @@ impl From<AllocError> for ParseError {
     }
 }
 
-// The imports and the declarations of a whole list of lexemes, or the number of the first with which no
-// program continues. The outer error says that memory ran out.
+// The imports and declarations of a whole list of lexemes, or the number of the first bad one. The outer error means that memory ran
+// out. `Starved` cannot occur: the bound grows with the number of lexemes, and reading them takes fewer turns.
 fn whole(
     alloc: Global,
     lexemes: &[Lexeme<'_>],
@@ -67,8 +70,8 @@ fn whole(
     }
 }
 
-// The refusal of lexemes of which the one with number `deep` is the first that nests too deep. The error
-// says that memory ran out.
+// The refusal of lexemes of which the one with number `deep` is the first that nests too deep. Only those up to it are parsed, which
+// is safe. If one of them is bad, syntax is reported and not nesting. An error means that memory ran out.
 fn refusal(alloc: Global, lexemes: &[Lexeme<'_>], deep: usize) -> Result<ParseRefusal, AllocError>
     requires { Some deep ≡ deep_at limit lexemes.now }
     ensures { IfOk result (Refuses lexemes.now) }
@@ -84,7 +87,11 @@ fn refusal(alloc: Global, lexemes: &[Lexeme<'_>], deep: usize) -> Result<ParseRe
     Ok(ParseRefusal::Syntax { at })
 }
 
-/// The program that the lexemes of a text are; `end` is the length of the text.
+/// The program of a list of lexemes; `end` is the length of the text, where a missing `main` is reported.
+///
+/// # Errors
+///
+/// `Refused`, with the number of the first lexeme that is wrong; `NoMemory` if an allocation failed.
 pub fn parse(alloc: Global, end: Place, lexemes: &[Lexeme<'_>]) -> Result<Program, ParseError>
     ensures parsed { IfOk result (λ program. IsParsed end lexemes.now (program_of program)) }
     ensures refused { IfErr result (Fails lexemes.now) }

@@ -1,4 +1,4 @@
-//! Whole programs.
+//! Whole programs: the package clause, the imports, and the declarations. `parser` calls [`program`] once per list of lexemes.
 
 ghost use Rattle.std.specs.Prelude.{◌≡◌, [], map};
 ghost use Rattle.rgo_ast.specs.Views.{decl_of, import_of};
@@ -11,7 +11,7 @@ use rgo_lexer::{Lexeme, Terminal};
 use rgo_reader::{Fault, Read, Reader};
 use std::alloc::Global;
 
-// Declarations, each with its `;`, up to the end.
+// Declarations, each with its `;`, up to the end of the lexemes.
 #[tactic(auto, using(crate::proofs::DeclTurns::decl_turns))]
 fn decls(alloc: Global, reader: &mut Reader<'_, '_>, turns: usize) -> Read<Vec<Decl>>
     ensures { Agrees (λ x. map decl_of x.items) result reader.new
@@ -29,7 +29,7 @@ fn decls(alloc: Global, reader: &mut Reader<'_, '_>, turns: usize) -> Read<Vec<D
     Err(Fault::Starved)
 }
 
-// Declarations of imports, each with its `;`, as long as one is next.
+// Declarations of imports, each with its `;`, while one is next. An import after another declaration is a syntax error.
 #[tactic(auto, using(crate::proofs::DeclTurns::import_turns))]
 fn imports(alloc: Global, reader: &mut Reader<'_, '_>, turns: usize) -> Read<Vec<Import>>
     ensures { Agrees (λ x. map import_of x.items) result reader.new
@@ -51,7 +51,7 @@ fn imports(alloc: Global, reader: &mut Reader<'_, '_>, turns: usize) -> Read<Vec
     Err(Fault::Starved)
 }
 
-// `package main ;`, up to its last lexeme.
+// `package main ;`. It returns its last lexeme.
 fn head<'r, 'a>(reader: &mut Reader<'r, 'a>) -> Read<&'r Lexeme<'a>>
     ensures { Agrees leaf_in result reader.new (reading.head reader.old) }
 {

@@ -1,4 +1,5 @@
-//! Simple statements.
+//! Simple statements: those that may also be part of a header. They hold expressions but no statement, so `headers` and `openings`
+//! can read them outside the cycle of `statements`.
 
 ghost use Rattle.std.specs.Prelude.{◌≡◌};
 ghost use Rattle.rgo_ast.specs.Views.{stmt_of};
@@ -12,8 +13,8 @@ use rgo_lexer::Terminal;
 use rgo_reader::{Fault, Read, Reader, ident};
 use std::alloc::Global;
 
-/// A simple statement that begins with an expression; `header` says that it is between `if` or `for`
-/// and its block.
+/// A simple statement that begins with an expression. `header`: it is between `if` or `for` and its block, where no literal may
+/// begin, since its `{` would look like that of the block.
 pub(crate) fn valued(
     alloc: Global,
     reader: &mut Reader<'_, '_>,
@@ -46,7 +47,8 @@ pub(crate) fn valued(
     }
 }
 
-/// A simple statement that may be a definition; `header` as for `valued`.
+/// A simple statement that may be a definition; `header` as for `valued`. Only the second lexeme tells a definition from an
+/// expression, so this looks two ahead.
 pub(crate) fn defining(
     alloc: Global,
     reader: &mut Reader<'_, '_>,

@@ -1,4 +1,5 @@
-//! Statements and blocks: the functions that read a statement within a statement.
+//! Statements and blocks: the cycle of functions that read a statement within a statement. `turns` decreases around the cycle, so
+//! it ends; the bound that `parser` passes never runs out.
 
 ghost use Rattle.std.specs.Prelude.{◌≡◌};
 ghost use Rattle.rgo_ast.specs.Views.{stmt_of, boxed_stmt_of};
@@ -16,7 +17,7 @@ use rgo_lexer::Terminal;
 use rgo_reader::{Fault, Read, Reader, closes, separated};
 use std::alloc::Global;
 
-/// A statement, or none where it is empty.
+/// A statement, or `None` for the empty statement, which leaves nothing in the tree.
 #[tactic(auto, using(crate::proofs::StmtTurns::stmt_turns))]
 #[cycle(statements)]
 fn stmt(alloc: Global, reader: &mut Reader<'_, '_>, turns: usize) -> Read<Option<Stmt>>
@@ -37,7 +38,7 @@ fn stmt(alloc: Global, reader: &mut Reader<'_, '_>, turns: usize) -> Read<Option
     }
 }
 
-// An `if` statement after its keyword, which is at a place.
+// An `if` statement after its keyword, which is at `at`.
 #[tactic(auto, using(crate::proofs::StmtTurns::if_turns))]
 #[cycle(statements)]
 fn if_stmt(alloc: Global, reader: &mut Reader<'_, '_>, turns: usize, at: usize) -> Read<Stmt>
@@ -58,7 +59,7 @@ fn if_stmt(alloc: Global, reader: &mut Reader<'_, '_>, turns: usize, at: usize) 
     })
 }
 
-// After the block of an `if`.
+// The part of an `if` after its block.
 #[tactic(auto, using(crate::proofs::StmtTurns::else_turns))]
 #[cycle(statements)]
 fn otherwise(alloc: Global, reader: &mut Reader<'_, '_>, turns: usize) -> Read<Option<Box<Stmt>>>
@@ -78,7 +79,7 @@ fn otherwise(alloc: Global, reader: &mut Reader<'_, '_>, turns: usize) -> Read<O
     }
 }
 
-// A `for` statement after its keyword, which is at a place.
+// A `for` statement after its keyword, which is at `at`.
 #[tactic(auto, using(crate::proofs::StmtTurns::nodes))]
 #[cycle(statements)]
 fn for_stmt(alloc: Global, reader: &mut Reader<'_, '_>, turns: usize, at: usize) -> Read<Stmt>

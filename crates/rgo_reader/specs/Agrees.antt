@@ -1,4 +1,4 @@
--- What a reader returns agrees with what the reading functions read of the same lexemes, unless memory ran out.
+-- `Agrees`: code that reads from a `Reader` agrees with a reading function of rgo_grammar on the same lexemes, unless memory ran out.
 use Rattle.std.specs.Prelude.{◌≡◌, ◌≢◌, ℕ, List, [], Result, Ok, Err}
 use denote.Ref.{Bor}
 use Rattle.rgo_ast.specs.declared.names.Ident.{Ident}
@@ -12,7 +12,7 @@ stop_of left fault.NoMemory = Starving
 stop_of left fault.Syntax = At left
 stop_of left fault.Starved = Starving
 
--- by what of the result is compared, and the lexemes that are left
+-- `view` is the part of the result that is compared; the lexemes that are left have to agree, too
 abbrev pub Agrees : {X A : Type 0} → (X → A) → Result X Fault → List Lexeme → Read A → Type 0
 Agrees view (Ok x) left read = read ≡ Done (view x) left
 Agrees view (Err e) left read = e ≢ fault.NoMemory → read ≡ Failed (stop_of left e)
@@ -24,6 +24,6 @@ leaf_of i = record { at = i.at; word = i.name }
 abbrev pub leaf_in : Bor Lexeme → Leaf
 leaf_in l = l.now.leaf
 
--- a leaf of which only the place matters
+-- a leaf with a place and no word, where only the place matters
 abbrev pub leaf_at : ℕ → Leaf
 leaf_at at = record { at = at; word = [] }

@@ -1,4 +1,4 @@
--- The parts of an expression that are read without another expression: what comes before, between and after its operands.
+-- Reading functions for the parts of an expression that contain no other: what comes before, between and after its operands.
 use Rattle.std.specs.Prelude.{ℕ, nat_le, Bool, true, false, if◌then◌else◌, List, Option, Some, None}
 use Rattle.std.specs.declared.alloc.Global.{Global}
 use Rattle.std.specs.declared.boxed.Box.{Box}
@@ -30,7 +30,7 @@ use Rattle.rgo_reader.specs.declared.operands.Opening.TheVariants as code_openin
 abbrev pub boxed_of : Box code.Expr Global → tree.Expr
 boxed_of e = expr_of e.value
 
--- a binary operator that binds at least so tightly, with its place
+-- a binary operator that binds at least as tightly as a level, with its place
 abbrev pub operator_by : ℕ → Terminal → Leaf → List Lexeme → List Lexeme → Read (Option (BinaryOp × ℕ))
 operator_by least (Binary o) i l m = if nat_le least (level o) then Done (Some (o, i.at)) m else Done None l
 operator_by least _ i l m = Done None l
@@ -42,7 +42,7 @@ operator_on least l (Some x) = operator_by least x.0.terminal x.0.leaf l x.1
 abbrev pub operator : ℕ → List Lexeme → Read (Option (BinaryOp × ℕ))
 operator least l = operator_on least l (first_of l)
 
--- what comes before a unary expression; in a header no literal may begin
+-- the beginning of a unary expression; in a header no literal may begin
 abbrev pub ampersand : Bool → Leaf → List Lexeme → List Lexeme → Read Prefix
 ampersand true i l m = Failed (At l)
 ampersand false i l m = Done (prefix.Literal i.at) m
@@ -62,7 +62,7 @@ prefix_on header l (Some x) = prefix_by header x.0.terminal x.0.leaf l x.1
 abbrev pub read_prefix : Bool → List Lexeme → Read Prefix
 read_prefix header l = prefix_on header l (first_of l)
 
--- what comes after a primary expression
+-- the next suffix of a primary expression
 abbrev pub suffix_by : Terminal → Leaf → List Lexeme → List Lexeme → Read Suffix
 suffix_by Dot i l m = token Name m >>= given (λ j. suffix.Select (ident j))
 suffix_by OpenBracket i l m = Done (suffix.Index i.at) m
@@ -76,13 +76,13 @@ suffix_on l (Some x) = suffix_by x.0.terminal x.0.leaf l x.1
 abbrev pub read_suffix : List Lexeme → Read Suffix
 read_suffix l = suffix_on l (first_of l)
 
--- what is open where an operand holds an expression
+-- the part of an operand before the expression that it holds
 pub data Bracket : Type 0 where
   Paren : ℕ → Bracket
   MakeSlice : tree.TypeExpr → ℕ → Bracket
   MakeChan : tree.TypeExpr → ℕ → Bracket
 
--- an operand that is read whole, or one up to the expression that it holds
+-- an operand that was read whole, or the first half of one that holds an expression
 pub data Opening : Type 0 where
   Whole : tree.Expr → Opening
   Open : Bracket → Opening
@@ -102,7 +102,7 @@ whole v l = Done (Whole v) l
 abbrev pub plain_chan : tree.TypeExpr → Leaf → List Lexeme → Read Opening
 plain_chan t i l = Done (Whole (tree.MakeChan t tree.no_capacity i.at)) l
 
--- after the `,` after a channel's type: a capacity, or the end
+-- after the `,` that follows a channel's type: a capacity, or the end
 abbrev pub capacity_by : tree.TypeExpr → Leaf → Terminal → List Lexeme → List Lexeme → Read Opening
 capacity_by t i CloseParen l m = plain_chan t i m
 capacity_by t i _ l m = Done (Open (MakeChan t i.at)) l
@@ -160,7 +160,7 @@ opening_on n l (Some x) = opening_by n x.0.terminal x.0.leaf l x.1
 abbrev pub opening : ℕ → List Lexeme → Read Opening
 opening n l = opening_on n l (first_of l)
 
--- an operand from the end of the expression that it holds on
+-- the second half of an operand, after the expression that it holds
 abbrev pub closing : Bracket → tree.Expr → List Lexeme → Read tree.Expr
 closing (Paren at) v l = token CloseParen l >>= given (λ _. tree.Paren v at)
 closing (MakeSlice t at) v l = make_end l >>= given (λ _. tree.MakeSlice t v at)

@@ -1,9 +1,9 @@
-//! The reader of a text's lexemes, and what is read from it without an expression within: names and their
-//! types, the separators of lists, and what comes before, between and after the operands of expressions.
+//! The reader of a text's lexemes, and the parts of the grammar that contain no expression: names and types, the separators of
+//! lists, and what comes before, between and after the operands of expressions.
 //!
-//! Each function reads one part of the grammar from a `Reader`, and its contract says that it agrees with
-//! the reading function of rgo_grammar for that part. The parser, which stands on this crate, reads
-//! expressions, statements and declarations of such parts.
+//! Each function reads one part from a `Reader`, and its contract states that it agrees with the reading function of rgo_grammar for
+//! that part. rgo_parser is built on this crate. The two are apart because these parts are read without recursion through
+//! expressions, so the cycles of rgo_parser are small.
 #![tactic(auto)]
 
 mod lists;

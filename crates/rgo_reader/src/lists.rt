@@ -1,4 +1,4 @@
-//! What comes before and after an item of a list.
+//! The separators and ends of lists: what may come before and after an item. The parser's loops over items call these.
 
 ghost use Rattle.std.specs.Prelude.{◌≡◌};
 ghost use Rattle.rgo_reader.specs.Agrees.{Agrees};
@@ -7,7 +7,7 @@ ghost use Rattle.rgo_reader.specs.Lists.{closes, separated, ending_of};
 use crate::readers::{Fault, Read, Reader};
 use rgo_lexer::{Lexeme, Terminal};
 
-/// What comes before an item of a list: the lexeme that closes the list, or none.
+/// Before an item of a list: reads and returns the lexeme that closes the list, or returns `None` if an item is next.
 pub fn closes<'r, 'a>(reader: &mut Reader<'r, 'a>, closer: Terminal) -> Read<Option<&'r Lexeme<'a>>>
     ensures { Agrees ending_of result reader.new (closes closer reader.old) }
 {
@@ -21,7 +21,7 @@ pub fn closes<'r, 'a>(reader: &mut Reader<'r, 'a>, closer: Terminal) -> Read<Opt
     }
 }
 
-/// What follows an item of a list: the lexeme that closes the list, or none after a separator.
+/// After an item of a list: reads the lexeme that closes the list and returns it, or reads a separator and returns `None`.
 pub fn separated<'r, 'a>(
     reader: &mut Reader<'r, 'a>,
     separator: Terminal,

@@ -1,4 +1,5 @@
-//! Operands, up to the expression that they hold and from its end on.
+//! Operands, in two halves: up to the expression that they hold, and from its end on. rgo_parser reads the expression in between, so
+//! that these functions do not recur.
 
 ghost use Rattle.std.specs.Prelude.{◌≡◌, IfOk};
 ghost use Rattle.rgo_ast.specs.Tree as tree;
@@ -13,7 +14,7 @@ use rgo_ast::{Expr, TypeExpr};
 use rgo_lexer::{Lexeme, Terminal, unquoted};
 use std::alloc::{AllocError, Global};
 
-/// What is open where an operand holds an expression, with the operand's place.
+/// The part of an operand before the expression that it holds, with the operand's place.
 #[derive(Drop)]
 pub enum Bracket {
     /// `(`
@@ -24,7 +25,7 @@ pub enum Bracket {
     MakeChan(Box<TypeExpr>, usize),
 }
 
-/// An operand that was read whole, or one up to the expression that it holds.
+/// An operand that was read whole, or the first half of one that holds an expression.
 #[derive(Drop)]
 pub enum Opening {
     Whole(Box<Expr>),
@@ -41,7 +42,7 @@ fn new_at(alloc: Global, reader: &mut Reader<'_, '_>, at: usize) -> Read<Box<Exp
     Ok(Box::new(alloc, Expr::New(base, at))?)
 }
 
-// A channel with no capacity.
+// A channel without a capacity.
 #[tactic(auto, using(crate::proofs::Nodes::nodes))]
 fn plain_chan(alloc: Global, element: Box<TypeExpr>, at: usize) -> Result<Box<Expr>, AllocError>
     ensures { IfOk result
@@ -50,7 +51,7 @@ fn plain_chan(alloc: Global, element: Box<TypeExpr>, at: usize) -> Result<Box<Ex
     Ok(Box::new(alloc, Expr::MakeChan(Box::into_inner(element), None, at))?)
 }
 
-// After the `,` after a channel's type.
+// After the `,` that follows a channel's type: a capacity, or the end, since the last comma may be superfluous.
 fn capacity(
     alloc: Global,
     reader: &mut Reader<'_, '_>,
@@ -122,7 +123,7 @@ fn made(alloc: Global, reader: &mut Reader<'_, '_>, turns: usize, at: usize) -> 
     }
 }
 
-/// An operand, up to the expression that it holds.
+/// Reads an operand up to the expression that it holds.
 pub fn open_operand(alloc: Global, reader: &mut Reader<'_, '_>, turns: usize) -> Read<Opening>
     ensures { Agrees parts.opening_of result reader.new (parts.opening turns reader.old) }
 {
@@ -162,7 +163,7 @@ pub fn open_operand(alloc: Global, reader: &mut Reader<'_, '_>, turns: usize) ->
     }
 }
 
-// The end of a `make`, perhaps with a comma before it.
+// The end of a `make`, with an optional comma before it.
 fn make_end<'r, 'a>(reader: &mut Reader<'r, 'a>) -> Read<&'r Lexeme<'a>>
     ensures { Agrees leaf_in result reader.new (reading.make_end reader.old) }
 {
@@ -179,7 +180,7 @@ fn make_end<'r, 'a>(reader: &mut Reader<'r, 'a>) -> Read<&'r Lexeme<'a>>
     }
 }
 
-/// An operand from the end of the expression that it holds on.
+/// Reads the second half of an operand, after the expression that it holds.
 #[tactic(auto, using(crate::proofs::Nodes::nodes))]
 pub fn close_operand(
     alloc: Global,

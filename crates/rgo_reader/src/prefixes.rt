@@ -1,4 +1,4 @@
-//! Operators before and between the operands of an expression.
+//! Operators before and between the operands of an expression, with their precedence.
 
 ghost use Rattle.std.specs.Prelude.{◌≡◌};
 ghost use Rattle.rgo_grammar.specs.Grammar.{level};
@@ -10,7 +10,7 @@ use crate::readers::{Fault, Read, Reader};
 use rgo_ast::{BinaryOp, UnaryOp};
 use rgo_lexer::Terminal;
 
-/// What comes before a unary expression, with its place: a sign, the `&` of a literal, or nothing.
+/// The beginning of a unary expression, with its place: a sign, the `&` of a literal, or nothing.
 #[derive(Clone, Copy)]
 pub enum Prefix {
     None,
@@ -18,7 +18,7 @@ pub enum Prefix {
     Literal(usize),
 }
 
-/// How tightly an operator binds (The Go Programming Language Specification, "Operator
+/// The precedence of an operator, from 1 to 5, where 5 binds most tightly (The Go Programming Language Specification, "Operator
 /// precedence").
 pub fn level(op: BinaryOp) -> u8
     ensures { result ≡ level op }
@@ -33,8 +33,8 @@ pub fn level(op: BinaryOp) -> u8
     }
 }
 
-/// A binary operator that binds at least as tightly as `least`, with its place; none where no such
-/// operator is next.
+/// Reads a binary operator that binds at least as tightly as `least`, and returns it with its place. If none is next, it reads
+/// nothing: the operator belongs to an enclosing expression, or the expression has ended.
 pub fn operator(reader: &mut Reader<'_, '_>, least: u8) -> Option<(BinaryOp, usize)>
     ensures { parts.operator least reader.old ≡ Done result reader.new }
 {
@@ -49,7 +49,8 @@ pub fn operator(reader: &mut Reader<'_, '_>, least: u8) -> Option<(BinaryOp, usi
     Some((op, lexeme.at))
 }
 
-/// What comes before a unary expression; no literal may begin in a header.
+/// Reads the beginning of a unary expression. In a header `&` is a syntax error: the `{` of a literal would look like that of the
+/// block.
 pub fn read_prefix(reader: &mut Reader<'_, '_>, header: bool) -> Read<Prefix>
     ensures { Agrees (λ x. x) result reader.new (parts.read_prefix header reader.old) }
 {

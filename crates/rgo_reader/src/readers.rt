@@ -1,8 +1,8 @@
-//! The reader of a text's lexemes, and what it reads of single ones.
+//! The reader of a text's lexemes, and how it reads single ones.
 //!
-//! Each function that reads takes the reader, which it moves past what it has read. Where it fails, the
-//! reader is at the lexeme that is not allowed. Functions that repeat or recur take `turns`, a bound on
-//! both that is one less for each part; the parser passes a bound that no list of lexemes reaches.
+//! Each function that reads moves the reader past what it has read. After a failure the reader is at the first bad lexeme, which is
+//! how the parser learns its number. Functions that repeat or recur take `turns`, a bound that decreases with each part; the parser
+//! passes a bound that no list of lexemes exhausts.
 
 ghost use Rattle.std.specs.Prelude.{◌≡◌, ◌++◌, ◌∷◌, [], true, drop, length, IfOk, MatchOption, None, Some};
 ghost use Rattle.rgo_grammar.specs.reading.Read as reading;
@@ -22,7 +22,7 @@ pub enum Fault {
     NoMemory,
     /// The next lexeme is not allowed.
     Syntax,
-    /// The bound on the turns was too small.
+    /// The bound on the turns was too small. The parser proves that it never sees this.
     Starved,
 }
 
@@ -49,7 +49,7 @@ impl<T: Drop> From<AllocFailed<T>> for Fault {
 /// What was read, or why nothing was.
 pub type Read<T> = Result<T, Fault>;
 
-/// A text's lexemes from the next one on. Contracts see those that are left.
+/// The lexemes of a text from the next one on. In contracts a reader is the list of the lexemes that are left.
 #[derive(Drop)]
 pub struct Reader<'r, 'a> {
     lexemes: &'r [Lexeme<'a>],
@@ -66,21 +66,21 @@ impl<'r, 'a> Model for Reader<'r, 'a> {
 }
 
 impl<'r, 'a> Reader<'r, 'a> {
-    /// A reader that is at the first of these lexemes.
+    /// A reader at the first of these lexemes.
     pub fn new(lexemes: &'r [Lexeme<'a>]) -> Reader<'r, 'a>
         ensures { result ≡ lexemes.now }
     {
         Reader { lexemes, at: 0 }
     }
 
-    /// How many lexemes are left.
+    /// The number of lexemes that are left.
     pub fn left(&self) -> usize
         ensures { result ≡ length self.now }
     {
         self.lexemes.len().saturating_sub(self.at)
     }
 
-    /// The next lexeme, which stays the next.
+    /// The next lexeme, without reading it.
     pub fn peek(&self) -> Option<&'r Lexeme<'a>>
         ensures { MatchOption result (first_of self.now ≡ None)
             (λ l. first_of self.now ≡ Some (l.now, drop 1 self.now)) }
@@ -88,7 +88,7 @@ impl<'r, 'a> Reader<'r, 'a> {
         self.lexemes.get(self.at)
     }
 
-    /// The lexeme after the next.
+    /// The lexeme after the next, without reading either. No production needs to look further ahead.
     pub fn peek_second(&self) -> Option<&'r Lexeme<'a>>
         ensures { MatchOption result (first_of (drop 1 self.now) ≡ None)
             (λ l. first_of (drop 1 self.now) ≡ Some (l.now, drop 2 self.now)) }
@@ -105,7 +105,7 @@ impl<'r, 'a> Reader<'r, 'a> {
         }
     }
 
-    /// One lexeme, by its terminal.
+    /// Reads one lexeme, which must have this terminal; otherwise it reads nothing and fails.
     pub fn take(&mut self, terminal: Terminal) -> Read<&'r Lexeme<'a>>
         ensures { Agrees leaf_in result self.new (reading.token terminal self.old) }
     {
@@ -118,7 +118,7 @@ impl<'r, 'a> Reader<'r, 'a> {
         }
     }
 
-    /// A name.
+    /// Reads a name.
     pub fn name(&mut self, alloc: Global) -> Read<Ident>
         ensures { Agrees leaf_of result self.new (reading.token terminal.Name self.old) }
     {

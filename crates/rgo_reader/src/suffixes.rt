@@ -1,4 +1,4 @@
-//! What comes after a primary expression.
+//! The suffixes of a primary expression, up to the expressions in their brackets.
 
 ghost use Rattle.std.specs.Prelude.{◌≡◌};
 ghost use Rattle.rgo_grammar.specs.reading.Expressions as reading;
@@ -10,7 +10,7 @@ use rgo_ast::Ident;
 use rgo_lexer::Terminal;
 use std::alloc::Global;
 
-/// What comes after a primary expression: a field, the `[` of an index, the `(` of a call, or nothing.
+/// The next suffix of a primary expression: a field, the `[` of an index, the `(` of a call, or nothing.
 #[derive(Drop)]
 pub enum Suffix {
     None,
@@ -19,7 +19,7 @@ pub enum Suffix {
     Call(usize),
 }
 
-/// What comes after a primary expression.
+/// Reads the next suffix; a field is read whole, an index or a call up to and including its bracket.
 pub fn read_suffix(alloc: Global, reader: &mut Reader<'_, '_>) -> Read<Suffix>
     ensures { Agrees (λ x. x) result reader.new (parts.read_suffix reader.old) }
 {
@@ -43,7 +43,7 @@ pub fn read_suffix(alloc: Global, reader: &mut Reader<'_, '_>) -> Read<Suffix>
     }
 }
 
-/// Whether a name and a `:` are next.
+/// Whether a name and a `:` are next, which begin an element of a composite literal with its field.
 pub fn is_keyed(reader: &Reader<'_, '_>) -> bool
     ensures { result ≡ reading.is_keyed reader.now }
 {

@@ -1,4 +1,4 @@
-//! Names and types.
+//! Names and types, and the two together, as in parameters and fields.
 
 ghost use Rattle.std.specs.Prelude.{◌≡◌, ◌∷◌, []};
 ghost use Rattle.rgo_ast.specs.Views.{type_expr_of, binding_of};
@@ -46,7 +46,7 @@ pub fn ty(alloc: Global, reader: &mut Reader<'_, '_>, turns: usize) -> Read<Type
     }
 }
 
-// The names of a declaration, of which the first was read.
+// The names of a declaration after the first, which was read.
 #[tactic(auto, using(crate::proofs::TypeTurns::name_turns))]
 fn names(alloc: Global, reader: &mut Reader<'_, '_>, turns: usize, one: Ident) -> Read<Vec<Ident>>
     ensures { Agrees (λ x. x.items) result reader.new (reading.names turns (one ∷ []) reader.old) }
@@ -65,7 +65,8 @@ fn names(alloc: Global, reader: &mut Reader<'_, '_>, turns: usize, one: Ident) -
     Err(Fault::Starved)
 }
 
-/// The names of a declaration, of which the first was read, and their type.
+/// The names of a declaration, the first of which was read, and their type. The parser has to read the first name to tell a local
+/// declaration with a type from one with a value only.
 pub fn typed_names(
     alloc: Global,
     reader: &mut Reader<'_, '_>,

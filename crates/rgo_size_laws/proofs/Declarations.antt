@@ -7,7 +7,7 @@ use Rattle.rgo_ast.specs.declared.names.Ident.{Ident}
 use Rattle.rgo_lexer.specs.declared.terminals.Terminal.TheVariants.{Semicolon, CloseParen, OpenBrace}
 use Rattle.rgo_lexer.specs.Lexemes.{Lexeme, tok, ident}
 use Rattle.rgo_grammar.specs.Grammar as grammar
-use Rattle.rgo_grammar.specs.Grammar.{Listed, Each, IsBinding, IsTypeSpec, IsStmts, IsDecl}
+use Rattle.rgo_grammar.specs.Grammar.{Listed, Each, IsBinding, IsTypeSpec, IsDecl}
 use Rattle.rgo_typed.specs.declared.types.Type.{«Type»}
 use Rattle.rgo_typed.specs.declared.programs.Struct.{Struct}
 use Rattle.rgo_typed.specs.Tree.{Function}

@@ -7,7 +7,7 @@ use Rattle.rgo_lexer.specs.Comments.{comment_at}
 use Rattle.rgo_lexer.specs.Front.{front_of}
 use Rattle.rgo_lexer.specs.Lexemes.{Lexeme, leaf, tok}
 use Rattle.rgo_lexer.specs.Lexing.{LexesFrom, blank, finish, newline, piece}
-use Rattle.rgo_lexer.specs.Numbers.{number_at, number_of}
+use Rattle.rgo_lexer.specs.Numbers.{number_at, literal_value}
 use Rattle.rgo_lexer.specs.Operators.{operator_at, operator_entry}
 use Rattle.rgo_lexer.specs.Semicolons.{may_end}
 use Rattle.rgo_lexer.specs.Strings.{items_len, string_at}
@@ -22,7 +22,7 @@ use Rattle.rgo_grammar.specs.reading.Statements.{stmt}
 use Rattle.rgo_grammar.proofs.Whole.{parsed}
 use Rattle.rgo_typed.specs.declared.programs.Struct.{Struct}
 use Rattle.rgo_typed.specs.Tree as tree
-use Rattle.rgo_typed.specs.Tree.{Stmt, stmts_of}
+use Rattle.rgo_typed.specs.Tree.{stmts_of}
 use Rattle.rgo_lower.specs.Sizes.{most_fields, stmts_size, IsTooLarge}
 use Rattle.rgo_size_laws.specs.Examples.{loop_text, loop_lexemes, loop_program, of_structs, of_breaks, SizeExamples}
 
@@ -40,7 +40,7 @@ loop_found =
     tok CloseBrace (leaf 30 (codes "}")) ∷ tok Semicolon (leaf 31 []) ∷ []
 
 loop_from : LexesFrom 0 None loop_text loop_found
-unfolding front_of word_at word_terminal number_at number_of string_at items_len comment_at operator_at operator_entry may_end
+unfolding front_of word_at word_terminal number_at literal_value string_at items_len comment_at operator_at operator_entry may_end
 loop_from =
     piece Package 7 refl (blank 1 refl (piece Name 4 refl (newline 1 refl (piece Func 4 refl (blank 1 refl
     (piece Name 4 refl (piece OpenParen 1 refl (piece CloseParen 1 refl (piece OpenBrace 1 refl (piece For 3 refl

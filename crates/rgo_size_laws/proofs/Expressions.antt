@@ -7,7 +7,7 @@ use Rattle.rgo_lexer.specs.declared.terminals.Terminal.{Terminal}
 use Rattle.rgo_lexer.specs.declared.terminals.Terminal.TheVariants.{Binary, CloseParen, OpenParen, OpenBracket, CloseBracket, CloseBrace, Comma, Dot, Name}
 use Rattle.rgo_lexer.specs.Lexemes.{Lexeme, tok, ident}
 use Rattle.rgo_grammar.specs.Grammar as grammar
-use Rattle.rgo_grammar.specs.Grammar.{IsExpr, IsUnary, IsPrimary, IsExprs, IsElements, IsMakeEnd}
+use Rattle.rgo_grammar.specs.Grammar.{IsExpr, IsUnary, IsPrimary, IsExprs, IsElements}
 use Rattle.rgo_typing_expressions.specs.Packages.{Fields, Context}
 use Rattle.rgo_typing_expressions.specs.Callees.{callee_of}
 use Rattle.rgo_typing_expressions.specs.Scopes.{meaning_of}

@@ -2,7 +2,7 @@
 use Rattle.std.proofs.Common.{◌≡◌, ℕ, ◌+◌, ◌≤◌, List, [], ◌∷◌, length, Option, None, Some, refl, sym, ap, arith, length-append, length-drop}
 use Rattle.rgo_lexer.specs.Lexemes.{Lexeme}
 use Rattle.rgo_lexer.specs.Semicolons.{inserted}
-use Rattle.rgo_lexer.specs.Lexing.{LexesFrom, start_of, with_package_name}
+use Rattle.rgo_lexer.specs.Lexing.{LexesFrom, text_start, with_package_name}
 use Rattle.rgo_lexer.specs.Lexing.LexesFrom.{finish, blank, newline, piece}
 use Rattle.rgo_lexer.specs.declared.front.Front.TheVariants.{Newline, Piece}
 use Rattle.rgo_lexer.proofs.Fronts.{fits}
@@ -38,4 +38,4 @@ named_many (l ∷ m ∷ lexemes) = refl
 
 pub lexemes_few : LexemesAreFew
 lexemes_few text lexemes t =
-    omega (arith, ap length t.3, named_many t.1, few_from t.2, length-drop (start_of text) text)
+    omega (arith, ap length t.3, named_many t.1, few_from t.2, length-drop (text_start text) text)

@@ -11,6 +11,7 @@ use Rattle.rgo_typed.specs.declared.actions.Action.{Action}
 use Rattle.rgo_typed.specs.declared.types.Type.{«Type»}
 use Rattle.rgo_typed.specs.Tree as typed
 use Rattle.rgo_typed.specs.Tree.{Term, Terms}
+use Rattle.rgo_typing_rules.specs.Builtins.{result_of, action_of}
 use Rattle.rgo_typing_rules.specs.Shapes as shape
 use Rattle.rgo_typing_rules.specs.Shapes.{Shape}
 use Rattle.rgo_typing_expressions.specs.Callees.{bare, callee_of}
@@ -19,7 +20,7 @@ use Rattle.rgo_typing_expressions.specs.Terms.{term_of, all_terms, wanted_of, wi
 use Rattle.rgo_typing_expressions.specs.Types.{type_of, call_shape}
 use Rattle.rgo_typing_expressions.specs.declared.callees.Callee.{Callee}
 use Rattle.rgo_typing_expressions.specs.declared.callees.Callee.TheVariants as callee
-use Rattle.rgo_typing_statements.specs.TypedStatements.{is_text, unless_text, printed_terms, called_stmt, call_stmt, plain_stmt}
+use Rattle.rgo_typing_statements.specs.TypedStatements.{is_text, unless_text, printed_terms, called_stmt, builtin_stmt, call_stmt, plain_stmt}
 use Rattle.rgo_typing_statements.specs.TypedStatements.{go_stmt, ended, write_of, stored, stored_by, changed, changed_by, assign_stmt, with_result}
 use Rattle.rgo_lower.specs.Sizes.{term_size, terms_size, stmt_size}
 use Rattle.rgo_size_laws.proofs.Terms.{retyped, call_small}
@@ -44,10 +45,15 @@ called_small shape.NoResult (typed.Call n args ty at) = omega arith
 called_small shape.NoResult t = omega arith
 called_small s t = omega arith
 
+builtin_stmt_small : (o : Option Action) (result : Option «Type») (args : Exprs) (l : Terms) (at : ℕ)
+    → stmt_size (builtin_stmt o result args l at) ≤ terms_size l + 3
+builtin_stmt_small None result args l at = omega (arith, printed_small args l)
+builtin_stmt_small (Some a) None args l at = omega arith
+builtin_stmt_small (Some a) (Some ty) args l at = omega arith
+
 call_stmt_small : (p : Package) (f : Callee) (args : Exprs) (l : Terms) (at : ℕ)
     → stmt_size (call_stmt p f args l at) ≤ terms_size l + 3
-call_stmt_small p callee.Printer args l at = omega (arith, printed_small args l)
-call_stmt_small p callee.Closer args l at = omega arith
+call_stmt_small p (callee.Builtin b) args l at = builtin_stmt_small (action_of b) (result_of b) args l at
 call_stmt_small p f args l at = omega (arith, called_small (call_shape p f) (call_term p f l at), call_small p f l at)
 
 pub go_small : (f : Callee) (l : Terms) (at : ℕ) → stmt_size (go_stmt f l at) ≤ terms_size l + 3

@@ -17,7 +17,7 @@ use Rattle.rgo_typing_expressions.specs.Scopes.{meaning_of, resolved}
 use Rattle.rgo_typing_expressions.specs.Terms.{term_of, all_terms, wanted_of, constant, element_type}
 use Rattle.rgo_typing_expressions.specs.Types.{type_of}
 use Rattle.rgo_typing_statements.specs.Statements as source
-use Rattle.rgo_typing_statements.specs.Statements.{Enclosing, in_a_loop, in_block, out_of_block, header, type_or}
+use Rattle.rgo_typing_statements.specs.Statements.{Enclosing, within_loop, in_block, header, type_or}
 use Rattle.rgo_typing_statements.specs.Statements.{after, after_all, after_block, after_clause, after_var, after_vars}
 use Rattle.rgo_typing_statements.specs.TypedStatements.{zeros, define_stmt, var_stmts, vars_stmts, optional_term, has_clause}
 use Rattle.rgo_typing_statements.specs.TypedStatements.{headed, branches, typed_stmt, typed_all, typed_clause}
@@ -215,7 +215,7 @@ mutual
       omega (
         arith,
         condition_small test (in_block c),
-        stmts_small all (in_a_loop f) (in_block (in_block c)),
+        stmts_small all (within_loop f) (in_block (in_block c)),
         length-append x (tok OpenBrace k ∷ y),
       )
   for_small (grammar.IsFor.three i j k m {u = u} {v = v} {w = w} {y = y} {s = init} {p = post} {c = test} {b = body} s t p all)
@@ -224,14 +224,14 @@ mutual
       let c2 = after_clause c1 (clause_of post) in
       let first = typed_clause f (in_block c) (clause_of init) in
       let whole : Stmt = typed.Loop (optional_term c1 test)
-      (stmts_of (typed_all (in_a_loop f) (in_block c2) (tree.stmts_of body)))
+      (stmts_of (typed_all (within_loop f) (in_block c2) (tree.stmts_of body)))
       (stmts_of (typed_clause f c1 (clause_of post))) i.at in
       omega (
         arith,
         clause_small s f (in_block c),
         condition_small t c1,
         clause_small p f c1,
-        stmts_small all (in_a_loop f) (in_block c2),
+        stmts_small all (within_loop f) (in_block c2),
         headed_small (has_clause (clause_of init)) first whole,
         length-append u (tok Semicolon j ∷ (v ++ tok Semicolon k ∷ (w ++ tok OpenBrace m ∷ y))),
         length-append v (tok Semicolon k ∷ (w ++ tok OpenBrace m ∷ y)),

@@ -5,18 +5,20 @@ use Rattle.rgo_ast.specs.declared.ops.UnaryOp.{UnaryOp}
 use Rattle.rgo_ast.specs.declared.ops.UnaryOp.TheVariants as unary
 use Rattle.rgo_ast.specs.declared.ops.BinaryOp.{BinaryOp}
 use Rattle.rgo_ast.specs.declared.ops.BinaryOp.TheVariants as binary
+use Rattle.rgo_typed.specs.declared.actions.Action.{Action}
 use Rattle.rgo_typed.specs.declared.actions.Action.TheVariants as action
 use Rattle.rgo_typed.specs.declared.types.Type.{«Type»}
 use Rattle.rgo_typed.specs.Tree as typed
 use Rattle.rgo_typed.specs.Tree.{Term, Terms}
 use Rattle.rgo_typing_rules.specs.Shapes.{Shape, is_nil_shape}
 use Rattle.rgo_typing_rules.specs.Constants.{folded_shape, folded_shapes}
+use Rattle.rgo_typing_rules.specs.Builtins.{result_of, action_of}
 use Rattle.rgo_typing_rules.specs.declared.meanings.Meaning.{Meaning}
 use Rattle.rgo_typing_rules.specs.declared.meanings.Meaning.TheVariants as meaning
 use Rattle.rgo_typing_operations.specs.Types.{int, bool}
 use Rattle.rgo_typing_operations.specs.Terms.{one, with_type, constant_or_term, unary_term, negated, compared, operation, binary_term}
 use Rattle.rgo_typing_expressions.specs.Packages.{Package, Context}
-use Rattle.rgo_typing_expressions.specs.Terms.{with_first, with_known, name_term, field_term, call_term}
+use Rattle.rgo_typing_expressions.specs.Terms.{with_first, with_known, name_term, field_term, builtin_term, call_term}
 use Rattle.rgo_typing_expressions.specs.declared.callees.Callee.{Callee}
 use Rattle.rgo_typing_expressions.specs.declared.callees.Callee.TheVariants as callee
 use Rattle.rgo_lower.specs.Sizes.{term_size, terms_size}
@@ -46,10 +48,16 @@ pub field_small : (field : Option (ℕ × «Type»)) (t : Term) (at : ℕ)
 field_small None t at = omega arith
 field_small (Some field) t at = omega arith
 
+builtin_small : (o : Option Action) (result : Option «Type») (args : Terms) (at : ℕ)
+    → term_size (builtin_term o result args at) ≤ terms_size args + 3
+builtin_small None result args at = omega arith
+builtin_small (Some a) None args at = omega arith
+builtin_small (Some a) (Some ty) args at = omega arith
+
 pub call_small : (p : Package) (f : Callee) (args : Terms) (at : ℕ)
     → term_size (call_term p f args at) ≤ terms_size args + 3
 call_small p (callee.Routine n) args at = omega arith
-call_small p callee.Length args at = omega arith
+call_small p (callee.Builtin b) args at = builtin_small (action_of b) (result_of b) args at
 call_small p f args at = omega arith
 
 -- ---- operations

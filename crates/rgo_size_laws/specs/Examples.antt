@@ -1,4 +1,4 @@
--- A text with the count of its code, and programs that are too large.
+-- A text with the size of its code, and programs that are too large to be lowered.
 use Rattle.std.specs.Prelude.{◌≡◌, ◌↔◌, ℕ, ◌≤◌, codes, List, [], ◌∷◌, None, replicate}
 use Rattle.rgo_ast.specs.Tree as source
 use Rattle.rgo_ast.specs.Tree.{Program}
@@ -12,7 +12,7 @@ use Rattle.rgo_typed.specs.Tree.{Typed}
 use Rattle.rgo_types.specs.Programs.{typed_program}
 use Rattle.rgo_lower.specs.Sizes.{program_size, IsTooLarge}
 
--- a loop without end, in 31 bytes
+-- an endless loop, in 31 bytes
 abbrev pub loop_text : List ℕ
 loop_text = codes "package main\nfunc main(){for{}}"
 
@@ -38,7 +38,7 @@ loop_program = record {
   end = 31;
 }
 
--- structs without fields, and nothing else
+-- n structs without fields, and nothing else
 abbrev pub of_structs : ℕ → Typed
 of_structs n = record {
   structs = replicate n (record { name = codes "S"; fields = [] });
@@ -46,7 +46,7 @@ of_structs n = record {
   functions = [];
 }
 
--- one function of n statements `break`
+-- one function with n `break` statements
 abbrev pub of_breaks : ℕ → Typed
 of_breaks n = record {
   structs = [];
@@ -62,10 +62,10 @@ of_breaks n = record {
 }
 
 pub record SizeExamples : Type 0 where
-  -- the text has 13 lexemes, and the code of its program counts 14
+  -- the text has 13 lexemes, and the code of its program has size 14
   pub lexed : LexesAs loop_text loop_lexemes
   pub derived : IsProgram loop_lexemes loop_program.imports loop_program.decls
   pub counted : program_size (typed_program loop_program) ≡ 14
-  -- from this number on they are too many
+  -- the least number that is too large
   pub structs : (n : ℕ) → IsTooLarge (of_structs n) ↔ 4294967294 ≤ n
   pub breaks : (n : ℕ) → IsTooLarge (of_breaks n) ↔ 1431655764 ≤ n

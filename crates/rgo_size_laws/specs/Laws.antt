@@ -1,4 +1,4 @@
--- The count of a program's code is linear in the length of its text.
+-- The size of a program's code is linear in the length of its text: first lexemes by bytes, then code by lexemes.
 use Rattle.std.specs.Prelude.{ℕ, ◌+◌, ◌*◌, ◌^◌, ◌≤◌, List, length}
 use Rattle.rgo_ast.specs.Tree.{Program}
 use Rattle.rgo_lexer.specs.Lexemes.{Lexeme}
@@ -7,11 +7,11 @@ use Rattle.rgo_grammar.specs.Grammar.{IsProgram}
 use Rattle.rgo_types.specs.Programs.{typed_program}
 use Rattle.rgo_lower.specs.Sizes.{program_size, IsTooLarge}
 
--- at most one for each byte, and one more
+-- a text has at most one lexeme per byte, plus one
 abbrev pub LexemesAreFew : Type 0
 LexemesAreFew = (text : List ℕ) (lexemes : List Lexeme) → LexesAs text lexemes → length lexemes ≤ length text + 1
 
--- at most 12 for each lexeme, whether or not the program is valid
+-- the code has size at most 12 per lexeme, whether or not the program is valid
 abbrev pub SizeIsLinear : Type 0
 SizeIsLinear =
     (lexemes : List Lexeme) (program : Program) → IsProgram lexemes program.imports program.decls

@@ -3,7 +3,7 @@ use Rattle.std.proofs.Common.{◌≡◌, ℕ, zero, suc, inl, inr, false, List, 
 use Rattle.rgo_ast.specs.declared.names.ImportPath.{ImportPath}
 use Rattle.rgo_ast.specs.Tree.{Binding, TypeSpec}
 use Rattle.rgo_ast.specs.Tree as tree
-use Rattle.rgo_lexer.specs.{declared.terminals.Terminal.{Terminal, TheVariants.{Name, Text, OpenParen, CloseParen, OpenBrace, CloseBrace, Comma, Semicolon, Import}}, Lexemes.{Leaf, Lexeme, tok, same}}
+use Rattle.rgo_lexer.specs.{declared.terminals.Terminal.{Terminal, TheVariants.{Name, Text, OpenParen, CloseParen, OpenBrace, CloseBrace, Comma, Semicolon, Import}}, Lexemes.{Leaf, Lexeme, tok, is_same_terminal}}
 use Rattle.rgo_grammar.specs.Grammar.{IsPath, IsImport, IsTypeSpec, IsResult, IsBinding, IsType, IsStmts, IsDecl, IsProgram, Listed, Each, Each.{none as no_more, next}}
 use Rattle.rgo_grammar.specs.reading.{Read.{Reader, Done, ◌>>=◌, given, first_of, single}, Types.{a_type, binding}, Declarations.{group_by, group, import_path, type_spec, result_on, function, func, decls_on, decls, imports_by, imports_on, imports, program}}
 use Rattle.rgo_grammar.specs.Grammar as g
@@ -15,18 +15,18 @@ use Rattle.rgo_grammar.proofs.declarations.Program.{NoImport}
 -- ---- one item or a group
 
 module _ {A : Type 0} (n : ℕ) (Item : List Lexeme → A → Type 0) (item : Reader A)
-    (opens : (k : Terminal) → (same k Name ≡ false) × (same k Text ≡ false)
+    (opens : (k : Terminal) → (is_same_terminal k Name ≡ false) × (is_same_terminal k Text ≡ false)
     → (x : List Lexeme) (a : A) → Item x a → Opens k x)
     (reads : (x : List Lexeme) (a : A) → Item x a → (l : List Lexeme)
     → Meets (item (x ++ l)) (Done a l)) where
-  group_alone : (k : Terminal) (i : Leaf) (m : List Lexeme) → same OpenParen k ≡ false
+  group_alone : (k : Terminal) (i : Leaf) (m : List Lexeme) → is_same_terminal OpenParen k ≡ false
       → group_by item n k (tok k i ∷ m) m ≡ single (item (tok k i ∷ m))
   group_alone OpenParen i m e = cc
   group_alone _ i m e = refl
 
   group_open : (l : List Lexeme) → Opens OpenParen l → group item n l ≡ single (item l)
   group_open [] o = absurd o
-  group_open (t ∷ l) o = group_alone t.terminal t.leaf l (not_true (same OpenParen t.terminal) o)
+  group_open (t ∷ l) o = group_alone t.terminal t.leaf l (not_true (is_same_terminal OpenParen t.terminal) o)
 
   pub group_one : (x : List Lexeme) (a : A) (l : List Lexeme) → Item x a
       → Meets (group item n (x ++ l)) (Done (a ∷ []) l)
@@ -45,7 +45,7 @@ module _ {A : Type 0} (n : ℕ) (Item : List Lexeme → A → Type 0) (item : Re
 
 -- ---- imports
 
-path_opens : (k : Terminal) → (same k Name ≡ false) × (same k Text ≡ false)
+path_opens : (k : Terminal) → (is_same_terminal k Name ≡ false) × (is_same_terminal k Text ≡ false)
     → (x : List Lexeme) (p : ImportPath) → IsPath x p → Opens k x
 path_opens k e _ _ (g.string i) = rw e.1 refl
 
@@ -70,7 +70,7 @@ import_complete (g.group i k {y} {ps} d) n found again j l =
     (inr refl)
 
 no_import : (n : ℕ) (again : List tree.Import → Reader (List tree.Import))
-    (found : List tree.Import) (k : Terminal) (i : Leaf) (m : List Lexeme) → same Import k ≡ false
+    (found : List tree.Import) (k : Terminal) (i : Leaf) (m : List Lexeme) → is_same_terminal Import k ≡ false
     → imports_by n again found k i (tok k i ∷ m) m ≡ Done found (tok k i ∷ m)
 no_import n again found Import i m e = cc
 no_import n again found _ i m e = refl
@@ -96,7 +96,7 @@ imports_complete (next j {x} {y} {a} {all} p e) n (suc m) found l h =
 
 -- ---- declarations
 
-spec_opens : (k : Terminal) → (same k Name ≡ false) × (same k Text ≡ false)
+spec_opens : (k : Terminal) → (is_same_terminal k Name ≡ false) × (is_same_terminal k Text ≡ false)
     → (x : List Lexeme) (s : TypeSpec) → IsTypeSpec x s → Opens k x
 spec_opens k e _ _ (g.struct i j m {y} d) = rw e.0 refl
 
@@ -106,7 +106,7 @@ spec_reads n _ _ (g.struct i j k {y} {fs} d) l =
     let h = bindings_complete Semicolon CloseBrace refl refl d n l in
     meets_bind _ h.1
 
-var_opens : (k : Terminal) → (same k Name ≡ false) × (same k Text ≡ false)
+var_opens : (k : Terminal) → (is_same_terminal k Name ≡ false) × (is_same_terminal k Text ≡ false)
     → (x : List Lexeme) (b : Binding) → IsBinding x b → Opens k x
 var_opens k e x b h = binding_opens k e.0 x b h
 

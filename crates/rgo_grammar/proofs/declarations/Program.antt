@@ -1,7 +1,7 @@
 -- Reading whole programs is correct.
 use Rattle.std.proofs.Common.{◌≡◌, ℕ, zero, suc, ◌+◌, ◌*◌, ◌<◌, ◌≤◌, List, [], ◌∷◌, ◌++◌, length, refl, sym, ◌∙◌, ap, append_assoc, arith, append-nil}
 use Rattle.rgo_ast.specs.Tree as tree
-use Rattle.rgo_lexer.specs.{declared.terminals.Terminal.{Terminal, TheVariants.{Main, Semicolon, Package, Import, TypeWord, Var, Func}}, Lexemes.{same, Leaf, Lexeme, tok}}
+use Rattle.rgo_lexer.specs.{declared.terminals.Terminal.{Terminal, TheVariants.{Main, Semicolon, Package, Import, TypeWord, Var, Func}}, Lexemes.{is_same_terminal, Leaf, Lexeme, tok}}
 use Rattle.rgo_grammar.specs.Grammar.{IsImport, IsDecl, IsProgram, Each}
 use Rattle.rgo_grammar.specs.reading.{Read.{Reader, Read, Done, Failed, At, ◌>>=◌, given, token}, Declarations.{decl_by, decls, imports_by, imports, head, program}}
 use Rattle.rgo_grammar.specs.Grammar as g
@@ -37,7 +37,7 @@ closed_given f (accepts {a} p h) k = accepts (k a p) h
 closed_given f (rejects h) k = rejects h
 
 abbrev pub NoImport : List Lexeme → Type 0
-NoImport = NotNext (same Import)
+NoImport = NotNext (is_same_terminal Import)
 
 -- ---- the head
 

@@ -3,7 +3,7 @@ use Rattle.std.proofs.Common.{◌≡◌, ℕ, suc, ◌+◌, ◌<◌, ◌≤◌, 
 use Rattle.rgo_ast.specs.declared.names.Ident.{Ident}
 use Rattle.rgo_ast.specs.Tree.{elements_of}
 use Rattle.rgo_ast.specs.Tree as tree
-use Rattle.rgo_lexer.specs.{declared.terminals.Terminal.{Terminal, TheVariants.{Name, Ampersand, OpenBrace, CloseBrace, Comma, Colon}}, Lexemes.{Leaf, Lexeme, tok, ident, same}}
+use Rattle.rgo_lexer.specs.{declared.terminals.Terminal.{Terminal, TheVariants.{Name, Ampersand, OpenBrace, CloseBrace, Comma, Colon}}, Lexemes.{Leaf, Lexeme, tok, ident, is_same_terminal}}
 use Rattle.rgo_grammar.specs.Grammar.{Listed, IsExpr, IsUnary, IsElements, Listed.{none as none_item, last as last_item, more as next_item}, IsUnary.{literal, keyed as with_keys}, IsElements.{no_element, last_element, more_elements}}
 use Rattle.rgo_grammar.specs.reading.{Read.{Reader, ◌>>=◌, given, ended, listed, single, several}, Expressions.{element, elements_from, is_keyed, keyed, unkeyed, elements, literal as read_literal}}
 use Rattle.rgo_grammar.proofs.machine.{Table.{Sym, T, Unary, Bin, Elems, ElemsMore, KeyedMore, step, ElemsEnd, ElemsNamed, Post, then_all, bin_row, find, joined, next, post_row, row}, Runs.{run, closes}, Starts.{after_name, alike, name_ends}}
@@ -98,7 +98,7 @@ key_run i c m s = refl
 
 -- what is read after `& name {` with keys is a list of elements
 pub keyed_list : (n : ℕ) (inner : Reader tree.Expr) (i j : Leaf) (t : Lexeme) (l : List Lexeme)
-    → same CloseBrace t.terminal ≡ false
+    → is_same_terminal CloseBrace t.terminal ≡ false
     → keyed n inner i j (t ∷ l)
     ≡ (elements_from (suc n) inner [] (t ∷ l) >>= given
     (λ x. tree.Keyed (ident j) (elements_of x.0) i.at))

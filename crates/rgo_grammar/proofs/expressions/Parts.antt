@@ -4,7 +4,7 @@ use Rattle.std.proofs.Common.{◌≡◌, ℕ, suc, inr, true, false, List, ◌�
 use Rattle.rgo_ast.specs.declared.names.Ident.{Ident}
 use Rattle.rgo_ast.specs.Tree.{elements_of}
 use Rattle.rgo_ast.specs.Tree as tree
-use Rattle.rgo_lexer.specs.{declared.terminals.Terminal.{Terminal, TheVariants.{Name, CloseParen, Comma, CloseBrace, Colon}}, Lexemes.{Leaf, Lexeme, tok, ident, same}}
+use Rattle.rgo_lexer.specs.{declared.terminals.Terminal.{Terminal, TheVariants.{Name, CloseParen, Comma, CloseBrace, Colon}}, Lexemes.{Leaf, Lexeme, tok, ident, is_same_terminal}}
 use Rattle.rgo_grammar.specs.Grammar.{IsMakeEnd, IsElements, IsMakeEnd.{plain, comma}, IsElements.{no_element, last_element, more_elements}}
 use Rattle.rgo_grammar.specs.reading.{Read.{Reader, Done, ◌>>=◌, given}, Expressions.{make_end, capacity, capacity_by, sized, expr, elements_from, elements}}
 use Rattle.rgo_grammar.proofs.reading.Complete.{Meets, meets_then}
@@ -52,7 +52,7 @@ capacity_at inner t i (u ∷ l) h = capacity_else inner t i u.terminal (u ∷ l)
 -- what may close a list of expressions
 pub record Closer (closer : Terminal) : Type 0 where
   pub closes : Closes closer
-  pub other : same closer Comma ≡ false
+  pub other : is_same_terminal closer Comma ≡ false
   pub loose : level_of closer < 1
   pub unposted : posts closer ≡ false
 

@@ -2,7 +2,7 @@
 use Rattle.std.proofs.Common.{◌≡◌, ℕ, Bool, false, List, [], ◌∷◌, ◌++◌, Some, refl, append_assoc}
 use Rattle.rgo_ast.specs.declared.ops.{BinaryOp.{BinaryOp}, UnaryOp.{UnaryOp}}
 use Rattle.rgo_ast.specs.Tree as tree
-use Rattle.rgo_lexer.specs.{declared.terminals.Terminal.{Terminal, TheVariants.{Name, Binary, OpenParen, OpenBracket, CloseBracket, CloseBrace, Comma, Colon, Dot}}, Lexemes.{Leaf, Lexeme, tok, same}}
+use Rattle.rgo_lexer.specs.{declared.terminals.Terminal.{Terminal, TheVariants.{Name, Binary, OpenParen, OpenBracket, CloseBracket, CloseBrace, Comma, Colon, Dot}}, Lexemes.{Leaf, Lexeme, tok, is_same_terminal}}
 use Rattle.rgo_grammar.specs.Grammar.{sign, IsExpr, IsUnary, IsPrimary, IsExprs, IsExpr.{unary, binary}, IsUnary.{signed, literal, keyed, primary}, IsPrimary.{number, text, name, parens, new, make_slice, make_chan, make_sized, select, index, call}, IsExprs.{none, last, more}}
 use Rattle.rgo_grammar.specs.reading.Expressions.{is_keyed}
 use Rattle.rgo_grammar.proofs.reading.Next.{NotNext, next_append}
@@ -72,25 +72,25 @@ module _ (test : Terminal → Bool) (apart : Apart test) where
     primary_second (call i {x} {y} p d) =
         second_append test x (tok OpenParen i ∷ y) (primary_starts p) (primary_second p) apart.paren
 
-colon_apart : Apart (same Colon)
+colon_apart : Apart (is_same_terminal Colon)
 colon_apart = record { dot = refl; bracket = refl; paren = refl; operator = λ o. refl }
 
-second_unkeyed : (k : Terminal) (i j : Leaf) (l : List Lexeme) → same Colon k ≡ false
+second_unkeyed : (k : Terminal) (i j : Leaf) (l : List Lexeme) → is_same_terminal Colon k ≡ false
     → is_keyed (tok Name i ∷ tok k j ∷ l) ≡ false
 second_unkeyed Colon i j l e = cc
 second_unkeyed _ i j l e = refl
 
-named_unkeyed : (i : Leaf) (l : List Lexeme) → NotNext (same Colon) l
+named_unkeyed : (i : Leaf) (l : List Lexeme) → NotNext (is_same_terminal Colon) l
     → is_keyed (tok Name i ∷ l) ≡ false
 named_unkeyed i [] h = refl
 named_unkeyed i (t ∷ l) h = second_unkeyed t.terminal i t.leaf l h
 
-first_unkeyed : (k : Terminal) (i : Leaf) (l : List Lexeme) → name_then (same Colon) k l
+first_unkeyed : (k : Terminal) (i : Leaf) (l : List Lexeme) → name_then (is_same_terminal Colon) k l
     → is_keyed (tok k i ∷ l) ≡ false
 first_unkeyed Name i l h = named_unkeyed i l h
 first_unkeyed _ i l h = refl
 
-unkeyed : (l : List Lexeme) → SecondNot (same Colon) l → is_keyed l ≡ false
+unkeyed : (l : List Lexeme) → SecondNot (is_same_terminal Colon) l → is_keyed l ≡ false
 unkeyed [] h = refl
 unkeyed (t ∷ l) h = first_unkeyed t.terminal t.leaf l h
 
@@ -101,10 +101,10 @@ exprs_unkeyed (none j) l = refl
 exprs_unkeyed (last j {x} f) l =
     rw append_assoc
     (unkeyed (x ++ tok CloseBrace j ∷ l)
-    (second_append (same Colon) x (tok CloseBrace j ∷ l) (expr_starts f)
-    (second_not (same Colon) colon_apart f) refl))
+    (second_append (is_same_terminal Colon) x (tok CloseBrace j ∷ l) (expr_starts f)
+    (second_not (is_same_terminal Colon) colon_apart f) refl))
 exprs_unkeyed (more j {x} {y} f d) l =
     rw append_assoc
     (unkeyed (x ++ tok Comma j ∷ (y ++ l))
-    (second_append (same Colon) x (tok Comma j ∷ (y ++ l)) (expr_starts f)
-    (second_not (same Colon) colon_apart f) refl))
+    (second_append (is_same_terminal Colon) x (tok Comma j ∷ (y ++ l)) (expr_starts f)
+    (second_not (is_same_terminal Colon) colon_apart f) refl))

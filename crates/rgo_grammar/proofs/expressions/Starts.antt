@@ -4,13 +4,13 @@ use Rattle.rgo_ast.specs.declared.ops.{BinaryOp.{BinaryOp}, UnaryOp.{UnaryOp}}
 use Rattle.rgo_ast.specs.Tree as tree
 use Rattle.rgo_ast.specs.declared.ops.AssignOp.TheVariants as assign_op
 use Rattle.rgo_ast.specs.declared.ops.BinaryOp.TheVariants as op
-use Rattle.rgo_lexer.specs.{Lexemes.{Leaf, Lexeme, tok, same}, declared.terminals.Terminal.{Terminal, TheVariants.{Binary, Assign, Name, New, Make, Number, Text, Bang, Ampersand, Arrow, OpenParen, CloseParen, OpenBracket, CloseBracket, CloseBrace, Dot}}}
+use Rattle.rgo_lexer.specs.{Lexemes.{Leaf, Lexeme, tok, is_same_terminal}, declared.terminals.Terminal.{Terminal, TheVariants.{Binary, Assign, Name, New, Make, Number, Text, Bang, Ampersand, Arrow, OpenParen, CloseParen, OpenBracket, CloseBracket, CloseBrace, Dot}}}
 use Rattle.rgo_grammar.specs.Grammar.{IsExpr.{unary, binary}, IsPrimary.{number, text, name, parens, new, make_slice, make_chan, make_sized, select, index, call}, IsUnary.{signed, literal, keyed, primary}, IsExpr, level, sign, IsUnary, IsPrimary}
 use Rattle.rgo_grammar.specs.reading.Read.{Reader}
 use Rattle.rgo_grammar.proofs.machine.{Table.{Sym, Unary, Bin, step, both}, Runs.{run, closes}}
 use Rattle.rgo_grammar.proofs.reading.{Correct.{Empties}, Next.{IsNext, begins_append, next_also}}
 
--- how tightly a token binds as a binary operator; 0 for what is none
+-- the precedence of a token as a binary operator; 0 if it is not one
 abbrev pub level_of : Terminal → ℕ
 level_of (Binary o) = level o
 level_of _ = 0
@@ -95,7 +95,7 @@ expr_starts (binary o i {x} {y} l f g) = begins_append _ x (tok (Binary o) i ∷
 
 -- nothing that closes a list of expressions begins one
 abbrev pub Closes : Terminal → Type 0
-Closes k = (t : Terminal) → starts t ≡ true → not (same k t) ≡ true
+Closes k = (t : Terminal) → starts t ≡ true → not (is_same_terminal k t) ≡ true
 
 pub paren_closes : Closes CloseParen
 paren_closes CloseParen h = cc

@@ -2,7 +2,7 @@
 -- where it stops, it stops whatever follows.
 use Rattle.std.proofs.Common.{◌≡◌, Bool, true, false, ◌&&◌, cond, not, List, [], ◌∷◌, ◌++◌, Option, Some, None, refl, ◌∙◌, ap, append_assoc, inl, inr, ◌⊎◌, nat_eq}
 use Rattle.std.proofs.lemmas.Bool.{eqb-true}
-use Rattle.rgo_lexer.specs.{declared.terminals.Terminal.{Terminal}, Lexemes.{Leaf, Lexeme, tok, class, subclass, same}}
+use Rattle.rgo_lexer.specs.{declared.terminals.Terminal.{Terminal}, Lexemes.{Leaf, Lexeme, tok, class, subclass, is_same_terminal}}
 use Rattle.rgo_grammar.proofs.machine.Table.{Sym, Row, row, nullable, word, opens, closer, find, next, entered, step, closes_first, leads, fine, all_entries, and_then, after, all_nullable, entries_fine, skips, settled, both, join}
 
 unfoldable pub closes : List Sym → Bool
@@ -39,28 +39,28 @@ classes_same : (a b : Bool) → cond a b false ≡ true → a ≡ true
 classes_same true b e = refl
 classes_same false b e = cc
 
-pub same_class : (j k : Terminal) → same j k ≡ true → class j ≡ class k
+pub same_class : (j k : Terminal) → is_same_terminal j k ≡ true → class j ≡ class k
 same_class j k e =
     eqb-true (class j) (class k)
     (classes_same (nat_eq (class j) (class k)) (nat_eq (subclass j) (subclass k)) e)
 
-closer_same : (j k : Terminal) → same j k ≡ true → closer k ≡ closer j
+closer_same : (j k : Terminal) → is_same_terminal j k ≡ true → closer k ≡ closer j
 closer_same j k e = rw (same_class j k e) refl
 
 found_at : (p : Terminal → List Sym → Bool) (k j : Terminal) (b : List Sym) (r : Row) (a : List Sym)
-    (v : Bool) → same j k ≡ v → p j b ≡ true
-    → (find k r ≡ Some a → (i : Terminal) × (same i k ≡ true) × (p i a ≡ true))
-    → cond v (Some b) (find k r) ≡ Some a → (i : Terminal) × (same i k ≡ true) × (p i a ≡ true)
+    (v : Bool) → is_same_terminal j k ≡ v → p j b ≡ true
+    → (find k r ≡ Some a → (i : Terminal) × (is_same_terminal i k ≡ true) × (p i a ≡ true))
+    → cond v (Some b) (find k r) ≡ Some a → (i : Terminal) × (is_same_terminal i k ≡ true) × (p i a ≡ true)
 found_at p k j b r a true d h ih e = let f : b ≡ a = cc in (j, d, rw (← f) h)
 found_at p k j b r a false d h ih e = ih e
 
 all_found : (p : Terminal → List Sym → Bool) (k : Terminal) (r : Row) (a : List Sym)
     → all_entries p r ≡ true → find k r ≡ Some a
-    → (i : Terminal) × (same i k ≡ true) × (p i a ≡ true)
+    → (i : Terminal) × (is_same_terminal i k ≡ true) × (p i a ≡ true)
 all_found p k [] a h e = cc
 all_found p k ((j, b) ∷ r) a h e =
     let hs = both h in
-    found_at p k j b r a (same j k) refl hs.0 (λ d. all_found p k r a hs.1 d) e
+    found_at p k j b r a (is_same_terminal j k) refl hs.0 (λ d. all_found p k r a hs.1 d) e
 
 leads_append : (b s : List Sym) (o : Bool) → leads b o ≡ true → cond o (leads s true) true ≡ true
     → leads (b ++ s) true ≡ true

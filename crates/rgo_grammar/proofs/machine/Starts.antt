@@ -1,7 +1,7 @@
 -- What the machine does at a symbol, by the symbol's row: it takes a token, stops, or does the same
 -- as at another symbol.
 use Rattle.std.proofs.Common.{◌≡◌, Bool, true, false, cond, List, [], ◌∷◌, ◌++◌, Option, Some, None, refl, append_assoc}
-use Rattle.rgo_lexer.specs.{declared.terminals.Terminal.{Terminal}, Lexemes.{Leaf, Lexeme, tok, same}}
+use Rattle.rgo_lexer.specs.{declared.terminals.Terminal.{Terminal}, Lexemes.{Leaf, Lexeme, tok, is_same_terminal}}
 use Rattle.rgo_grammar.proofs.machine.{Table.{Sym, T, Bin, Post, Row, then_all, joined, post_row, bin_row, row, nullable, find, next, entered, step}, Runs.{Stopped, advance, run, closes}}
 
 pub takes : (x : Sym) (k : Terminal) (a : List Sym) (i : Leaf) (l : List Lexeme) (s : List Sym)
@@ -34,11 +34,11 @@ alike x y t l s e n = rw (e, n) refl
 
 -- one kind of token begins it
 pub one_start : (x : Sym) (k : Terminal) (a : List Sym) (t : Lexeme) (m : List Lexeme)
-    (s : List Sym) → next x t.terminal ≡ cond (same k t.terminal) (Some a) None → nullable x ≡ false
+    (s : List Sym) → next x t.terminal ≡ cond (is_same_terminal k t.terminal) (Some a) None → nullable x ≡ false
     → run (t ∷ m) (x ∷ s) ≡ run (t ∷ m) (T k ∷ (a ++ s))
 unfolding run step
 one_start x k a t m s e n =
-    rw (e, n) (elim (same k t.terminal) as
+    rw (e, n) (elim (is_same_terminal k t.terminal) as
     (λ v. advance (run m) (Stopped (t ∷ m)) (entered (cond v (Some a) None) s None) ≡ advance
     (run m) (Stopped (t ∷ m)) (entered (cond v (Some []) None) (a ++ s) None))
     [ true ↦ refl | false ↦ refl ])
@@ -49,7 +49,7 @@ entered_joined : (k : Terminal) (r q : Row) (after s : List Sym) (other : Option
     (entered (find k q) s other)
 entered_joined k [] q after s other = refl
 entered_joined k ((j, a) ∷ r) q after s other =
-    elim (same j k) as
+    elim (is_same_terminal j k) as
     (λ v. entered (cond v (Some (a ++ after)) (find k (joined (then_all r after) q))) s other
     ≡ entered (cond v (Some a) (find k r)) (after ++ s) (entered (find k q) s other)) [
       | true ↦ rw append_assoc refl
@@ -60,7 +60,7 @@ pub entered_then : (k : Terminal) (r : Row) (after s : List Sym)
     → entered (find k (then_all r after)) s None ≡ entered (find k r) (after ++ s) None
 entered_then k [] after s = refl
 entered_then k ((j, a) ∷ r) after s =
-    elim (same j k) as
+    elim (is_same_terminal j k) as
     (λ v. entered (cond v (Some (a ++ after)) (find k (then_all r after))) s None ≡ entered
     (cond v (Some a) (find k r)) (after ++ s) None)
     [ true ↦ rw append_assoc refl | false ↦ entered_then k r after s ]

@@ -6,7 +6,7 @@ use Rattle.std.proofs.lemmas.Bool.{eq-eqb}
 use Rattle.rgo_ast.specs.declared.ops.BinaryOp.TheVariants as op
 use Rattle.rgo_ast.specs.declared.ops.AssignOp.TheVariants as assign_op
 use Rattle.rgo_ast.specs.declared.ops.StepOp.TheVariants as step_op
-use Rattle.rgo_lexer.specs.{declared.terminals.Terminal.{Terminal, TheVariants.{Name, Main, New, Make, Number, Text, Binary, Bang, Ampersand, Arrow, Define, Assign, Step, OpenParen, CloseParen, OpenBracket, CloseBracket, OpenBrace, CloseBrace, Comma, Semicolon, Colon, Dot, Package, Import, TypeWord, Struct, Var, Func, Chan, Go, If, Else, For, Return, Break, Continue}}, Lexemes.{class, subclass, same}}
+use Rattle.rgo_lexer.specs.{declared.terminals.Terminal.{Terminal, TheVariants.{Name, Main, New, Make, Number, Text, Binary, Bang, Ampersand, Arrow, Define, Assign, Step, OpenParen, CloseParen, OpenBracket, CloseBracket, OpenBrace, CloseBrace, Comma, Semicolon, Colon, Dot, Package, Import, TypeWord, Struct, Var, Func, Chan, Go, If, Else, For, Return, Break, Continue}}, Lexemes.{class, subclass, is_same_terminal}}
 
 -- where a simple statement is: alone, in the header of an `if` or `for`, or after the second `;` of
 -- a `for`
@@ -41,7 +41,7 @@ header before_if = true
 header before_for = true
 header for_post = true
 
--- what follows a simple statement that is no expression
+-- what follows a simple statement other than an expression
 abbrev pub rest : Context → List Sym
 rest alone = []
 rest before_if = T Semicolon ∷ Unary true ∷ Bin true ∷ Block ∷ IfElse ∷ []
@@ -254,7 +254,7 @@ closer k = class k == 14 || (nat_le 16 (class k) && nat_le (class k) 21)
 
 abbrev pub find : Terminal → Row → Option (List Sym)
 find k [] = None
-find k ((j, a) ∷ r) = cond (same j k) (Some a) (find k r)
+find k ((j, a) ∷ r) = cond (is_same_terminal j k) (Some a) (find k r)
 
 abbrev pub next : Sym → Terminal → Option (List Sym)
 next x k = find k (row x)
@@ -301,7 +301,7 @@ abbrev empty : {A : Type 0} → List A → Bool
 empty [] = true
 empty (x ∷ l) = false
 
--- ---- the table is checked by computing: a test of each symbol, and what the test says
+-- ---- the table is checked by computing: a test of each symbol, and what the test implies
 
 -- a symbol that may be left out: no closer begins it, and nothing is its short text
 abbrev skipped : Sym → Bool
@@ -320,7 +320,7 @@ skips_or_settles x = cond (nullable x) (skipped x) (settles x (after (word x) (x
 abbrev checks : Sym → Bool
 checks x = cond (all_entries (λ k a. fine a (opens x)) (row x)) (skips_or_settles x) false
 
-pub same_self : (k : Terminal) → same k k ≡ true
+pub same_self : (k : Terminal) → is_same_terminal k k ≡ true
 same_self k = rw (eq-eqb (class k) (class k) refl) (eq-eqb (subclass k) (subclass k) refl)
 
 checked : (x : Sym) → checks x ≡ true

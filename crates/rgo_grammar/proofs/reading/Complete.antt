@@ -1,7 +1,7 @@
 -- What is proved of the grammar: what it derives is read as its tree. And how such facts are put
 -- together.
 use Rattle.std.proofs.Common.{◌≡◌, ℕ, zero, suc, ◌⊎◌, inl, inr, false, List, [], ◌∷◌, ◌++◌, refl, ◌∙◌, ap, append_assoc, append-nil, Bool, true, not}
-use Rattle.rgo_lexer.specs.{declared.terminals.Terminal.{Terminal}, Lexemes.{Leaf, Lexeme, tok, same}}
+use Rattle.rgo_lexer.specs.{declared.terminals.Terminal.{Terminal}, Lexemes.{Leaf, Lexeme, tok, is_same_terminal}}
 use Rattle.rgo_grammar.specs.Grammar.{Listed, Listed.{none, last, more}}
 use Rattle.rgo_grammar.specs.reading.Read.{several, Reader, Read, Done, Failed, Starving, ◌>>=◌, ended, listed, single}
 use Rattle.rgo_grammar.proofs.machine.Table.{same_self, closer}
@@ -33,13 +33,13 @@ bind_assoc (Failed s) f g = refl
 
 -- a token comes first that does not close
 abbrev pub Opens : Terminal → List Lexeme → Type 0
-Opens closer = IsNext (λ k. not (same closer k))
+Opens closer = IsNext (λ k. not (is_same_terminal closer k))
 
 pub not_true : (b : Bool) → not b ≡ true → b ≡ false
 not_true true h = cc
 not_true false h = refl
 
-module _ {A : Type 0} (separator closer : Terminal) (other : same closer separator ≡ false)
+module _ {A : Type 0} (separator closer : Terminal) (other : is_same_terminal closer separator ≡ false)
     (item : Reader (List A)) where
   pub listed_none : (n : ℕ) (found : List A) (j : Leaf) (l : List Lexeme)
       → Meets (listed separator closer item n found (tok closer j ∷ l)) (Done (found, j) l)
@@ -52,7 +52,7 @@ module _ {A : Type 0} (separator closer : Terminal) (other : same closer separat
       ≡ (item l >>= λ a. ended separator closer (listed separator closer item n) (found ++ a))
   unfolding listed
   listed_open n found [] o = absurd o
-  listed_open n found (t ∷ l) o = rw (not_true (same closer t.terminal) o) refl
+  listed_open n found (t ∷ l) o = rw (not_true (is_same_terminal closer t.terminal) o) refl
 
   pub listed_last : (n : ℕ) (found a : List A) (j : Leaf) (x l : List Lexeme)
       → Opens closer (x ++ tok closer j ∷ l)
@@ -78,7 +78,7 @@ module _ {A : Type 0} (separator closer : Terminal) (other : same closer separat
   )
 
 -- items that are read one by one
-module _ {A : Type 0} (separator closer : Terminal) (other : same closer separator ≡ false)
+module _ {A : Type 0} (separator closer : Terminal) (other : is_same_terminal closer separator ≡ false)
     (item : Reader A) where
   pub items_none : (n : ℕ) (found : List A) (j : Leaf) (l : List Lexeme)
       → (j' : Leaf) × Meets (several separator closer item n found (tok closer j ∷ l))
@@ -117,7 +117,7 @@ module _ {A : Type 0} (separator closer : Terminal) (other : same closer separat
 
 -- a list in the grammar is read as its items, if each item is that is followed by a separator or by
 -- what closes the list
-module _ {A : Type 0} (separator closer : Terminal) (other : same closer separator ≡ false)
+module _ {A : Type 0} (separator closer : Terminal) (other : is_same_terminal closer separator ≡ false)
     (Item : List Lexeme → A → Type 0)
     (item : Reader A)
     (opens : (x : List Lexeme) (a : A) → Item x a → Opens closer x)

@@ -1,7 +1,7 @@
 -- What is proved of each reading function: what it reads is in the grammar; the machine takes the
 -- same tokens, or stops at the same one; its turns are enough. And how such facts are put together.
 use Rattle.std.proofs.Common.{◌≡◌, ℕ, ◌+◌, ◌==◌, ◌||◌, ◌&&◌, nat_le, Bool, true, false, cond, get_or, List, [], ◌∷◌, ◌++◌, length, refl, sym, ◌∙◌, ap, append_assoc, arith, length-append}
-use Rattle.rgo_lexer.specs.{declared.terminals.Terminal.{Terminal, TheVariants.{Name, Main, New, Make, Number, Text, Binary, Bang, Ampersand, Arrow, Define, Assign, Step, OpenParen, CloseParen, OpenBracket, CloseBracket, OpenBrace, CloseBrace, Comma, Semicolon, Colon, Dot, Package, Import, TypeWord, Struct, Var, Func, Chan, Go, If, Else, For, Return, Break, Continue, Other}}, Lexemes.{Leaf, Lexeme, tok, class, same, plain}}
+use Rattle.rgo_lexer.specs.{declared.terminals.Terminal.{Terminal, TheVariants.{Name, Main, New, Make, Number, Text, Binary, Bang, Ampersand, Arrow, Define, Assign, Step, OpenParen, CloseParen, OpenBracket, CloseBracket, OpenBrace, CloseBrace, Comma, Semicolon, Colon, Dot, Package, Import, TypeWord, Struct, Var, Func, Chan, Go, If, Else, For, Return, Break, Continue, Other}}, Lexemes.{Leaf, Lexeme, tok, class, is_same_terminal, is_plain_terminal}}
 use Rattle.rgo_grammar.specs.reading.Read.{Reader, Read, Done, Failed, At, ◌>>=◌, given, token}
 use Rattle.rgo_grammar.proofs.machine.{Table.{Sym, T, step, same_self, nullable}, Runs.{Stopped, run, closes, same_class}, Starts.{stays}}
 
@@ -83,7 +83,7 @@ all =
     ∷ Semicolon ∷ Colon ∷ Dot ∷ Package ∷ Import ∷ TypeWord ∷ Struct ∷ Var ∷ Func ∷ Chan ∷ Go ∷ If
     ∷ Else ∷ For ∷ Return ∷ Break ∷ Continue ∷ Other ∷ []
 
-decoded : (k : Terminal) → plain k ≡ true → get_or all (class k) Other ≡ k
+decoded : (k : Terminal) → is_plain_terminal k ≡ true → get_or all (class k) Other ≡ k
 decoded (Number n) e = cc
 decoded (Binary o) e = cc
 decoded (Assign o) e = cc
@@ -93,17 +93,17 @@ decoded _ e = refl
 abbrev plain_class : ℕ → Bool
 plain_class n = nat_le n 3 || n == 5 || (nat_le 7 n && nat_le n 10) || nat_le 13 n
 
-plain_by_class : (k : Terminal) → plain k ≡ plain_class (class k)
+plain_by_class : (k : Terminal) → is_plain_terminal k ≡ plain_class (class k)
 plain_by_class (Number n) = refl
 plain_by_class (Binary o) = refl
 plain_by_class (Assign o) = refl
 plain_by_class (Step o) = refl
 plain_by_class _ = refl
 
-pub same_plain : (k j : Terminal) → plain k ≡ true → same k j ≡ true → j ≡ k
+pub same_plain : (k j : Terminal) → is_plain_terminal k ≡ true → is_same_terminal k j ≡ true → j ≡ k
 same_plain k j p e =
     let c : class k ≡ class j = same_class k j e in
-    let q : plain j ≡ true = plain_by_class j ∙ rw (← c) refl ∙ sym (plain_by_class k) ∙ p in
+    let q : is_plain_terminal j ≡ true = plain_by_class j ∙ rw (← c) refl ∙ sym (plain_by_class k) ∙ p in
     sym (decoded j q) ∙ rw (← c) refl ∙ decoded k p
 
 take_token : (k : Terminal) (i : Leaf) (l : List Lexeme) (s : List Sym)
@@ -112,7 +112,7 @@ unfolding run step
 take_token k i l s = rw same_self refl
 
 leave_token : (k : Terminal) (t : Lexeme) (l : List Lexeme) (s : List Sym)
-    → same k t.terminal ≡ false → run (t ∷ l) (T k ∷ s) ≡ Stopped (t ∷ l)
+    → is_same_terminal k t.terminal ≡ false → run (t ∷ l) (T k ∷ s) ≡ Stopped (t ∷ l)
 unfolding run step
 leave_token k t l s e = rw e refl
 
@@ -123,7 +123,7 @@ no_token k s = refl
 abbrev pub IsToken : Terminal → List Lexeme → Leaf → List Lexeme → Type 0
 IsToken k z i w = z ≡ tok k i ∷ []
 
-token_by : (k j : Terminal) (i : Leaf) (l : List Lexeme) (v : Bool) → plain k ≡ true → same k j ≡ v
+token_by : (k j : Terminal) (i : Leaf) (l : List Lexeme) (v : Bool) → is_plain_terminal k ≡ true → is_same_terminal k j ≡ v
     → Correct (T k ∷ [])
     (λ _. []) (IsToken k) (tok j i ∷ l) (cond v (Done i l) (Failed (At (tok j i ∷ l))))
 token_by k j i l true p e =
@@ -131,10 +131,10 @@ token_by k j i l true p e =
     done (tok j i ∷ []) refl (rw is refl) (λ s. rw is (take_token k i l s))
 token_by k j i l false p e = stops (λ s. leave_token k (tok j i) l s e)
 
-pub correct_token : (k : Terminal) {l : List Lexeme} → plain k ≡ true
+pub correct_token : (k : Terminal) {l : List Lexeme} → is_plain_terminal k ≡ true
     → Correct (T k ∷ []) (λ _. []) (IsToken k) l (token k l)
 correct_token k {l = []} p = stops (λ s. no_token k s)
-correct_token k {l = t ∷ l} p = token_by k t.terminal t.leaf l (same k t.terminal) p refl
+correct_token k {l = t ∷ l} p = token_by k t.terminal t.leaf l (is_same_terminal k t.terminal) p refl
 
 -- ---- one thing after another
 
@@ -157,7 +157,7 @@ correct_then {more = more} h g = correct_bind (correct_under more h) g
 -- a token first
 pub correct_token_then : {B : Type 0} (k : Terminal) {more : List Sym} {to : B → List Sym}
     {Q : List Lexeme → B → List Lexeme → Type 0} {l : List Lexeme} {f : Leaf → Reader B}
-    → plain k ≡ true
+    → is_plain_terminal k ≡ true
     → ((i : Leaf) (w : List Lexeme) → l ≡ tok k i ∷ w
     → Correct more to (λ x b u. Q (tok k i ∷ x) b u) w (f i w))
     → Correct (T k ∷ more) to Q l (token k l >>= f)
@@ -165,7 +165,7 @@ correct_token_then k p g = correct_then (correct_token k p) (λ z i w c e. rw e 
 
 -- a token alone, made into something
 pub correct_token_given : {B : Type 0} (k : Terminal) {Q : List Lexeme → B → List Lexeme → Type 0}
-    {l : List Lexeme} (f : Leaf → B) → plain k ≡ true
+    {l : List Lexeme} (f : Leaf → B) → is_plain_terminal k ≡ true
     → ((i : Leaf) (w : List Lexeme) → Q (tok k i ∷ []) (f i) w)
     → Correct (T k ∷ []) (λ _. []) Q l (token k l >>= given f)
 correct_token_given k f p g = correct_given f (correct_token k p) (λ z i w e. rw e (g i w))

@@ -1,6 +1,6 @@
 -- Reading lists and groups is correct, where reading an item is.
 use Rattle.std.proofs.Common.{◌≡◌, ℕ, zero, suc, ◌+◌, ◌<◌, ◌≤◌, ◌⊎◌, inl, inr, Bool, true, false, cond, List, [], ◌∷◌, ◌++◌, length, refl, sym, ◌∙◌, append_assoc, arith, append-nil}
-use Rattle.rgo_lexer.specs.{declared.terminals.Terminal.{Terminal, TheVariants.{OpenParen, CloseParen, Semicolon}}, Lexemes.{Leaf, Lexeme, tok, same, plain}}
+use Rattle.rgo_lexer.specs.{declared.terminals.Terminal.{Terminal, TheVariants.{OpenParen, CloseParen, Semicolon}}, Lexemes.{Leaf, Lexeme, tok, is_same_terminal, is_plain_terminal}}
 use Rattle.rgo_grammar.specs.Grammar.{Listed, Listed.{none, last, more}}
 use Rattle.rgo_grammar.specs.reading.{Read.{Reader, Done, Failed, At, ◌>>=◌, ended, listed, single, several}, Declarations.{group_by, group}}
 use Rattle.rgo_grammar.proofs.machine.{Table.{Sym, T, Row, row, nullable, closer}, Starts.{takes, refuses, stays, one_start}}
@@ -8,15 +8,15 @@ use Rattle.rgo_grammar.proofs.reading.Correct.{Correct, token_read, same_start, 
 
 -- a list's symbol and the one after an item of it, by their rows
 pub record ListSyms (separator closer : Terminal) (items : Row) (L E : Sym) : Type 0 where
-  pub plain_separator : plain separator ≡ true
-  pub plain_closer : plain closer ≡ true
+  pub plain_separator : is_plain_terminal separator ≡ true
+  pub plain_closer : is_plain_terminal closer ≡ true
   pub list_row : row L ≡ (closer, []) ∷ items
   pub list_stays : nullable L ≡ false
   pub end_row : row E ≡ (closer, []) ∷ (separator, L ∷ []) ∷ []
   pub end_stays : nullable E ≡ false
 
-pub list_syms : {separator closer : Terminal} {items : Row} {L E : Sym} → plain separator ≡ true
-    → plain closer ≡ true → row L ≡ (closer, []) ∷ items → nullable L ≡ false
+pub list_syms : {separator closer : Terminal} {items : Row} {L E : Sym} → is_plain_terminal separator ≡ true
+    → is_plain_terminal closer ≡ true → row L ≡ (closer, []) ∷ items → nullable L ≡ false
     → row E ≡ (closer, []) ∷ (separator, L ∷ []) ∷ [] → nullable E ≡ false
     → ListSyms separator closer items L E
 list_syms p q r n e m =
@@ -34,7 +34,7 @@ module _ {A : Type 0} {separator closer : Terminal} {items : Row} {L E : Sym}
     (item : Reader (List A)) (I : List Lexeme → List A → Type 0)
     (R : List Lexeme → List A → Leaf → Type 0)
     (bound : ℕ)
-    (item_c : (t : Lexeme) (l : List Lexeme) → length l < bound → same closer t.terminal ≡ false
+    (item_c : (t : Lexeme) (l : List Lexeme) → length l < bound → is_same_terminal closer t.terminal ≡ false
     → Correct (L ∷ []) (λ _. E ∷ []) (λ z a w. I z a) (t ∷ l) (item (t ∷ l)))
     (r_none : (j : Leaf) → R (tok closer j ∷ []) [] j)
     (r_last : (z : List Lexeme) (a : List A) (j : Leaf) → I z a → R (z ++ tok closer j ∷ []) a j)
@@ -46,9 +46,9 @@ module _ {A : Type 0} {separator closer : Terminal} {items : Row} {L E : Sym}
   AreListed found z x w = (new : List A) × (x.0 ≡ found ++ new) × R z new x.1
 
   ended_by : (again : List A → Reader (List A × Leaf)) (found new : List A) (l z : List Lexeme)
-      (k : Terminal) (i : Leaf) (w : List Lexeme) (c s : Bool) → same closer k ≡ c
-      → same separator k ≡ s → l ≡ z ++ tok k i ∷ w → I z new
-      → ((f : List A) → same separator k ≡ true
+      (k : Terminal) (i : Leaf) (w : List Lexeme) (c s : Bool) → is_same_terminal closer k ≡ c
+      → is_same_terminal separator k ≡ s → l ≡ z ++ tok k i ∷ w → I z new
+      → ((f : List A) → is_same_terminal separator k ≡ true
       → Correct (L ∷ []) (λ _. []) (AreListed f) w (again f w))
       → Correct (E ∷ []) (λ _. [])
       (λ x b u. AreListed found (z ++ x) b u) (tok k i ∷ w)
@@ -76,11 +76,11 @@ module _ {A : Type 0} {separator closer : Terminal} {items : Row} {L E : Sym}
       (λ x b u. AreListed found (z ++ x) b u) w (ended separator closer again (found ++ new) w)
   ended_correct again found new l z [] e h ih = stops (λ v. stays E v syms.end_stays)
   ended_correct again found new l z (t ∷ w) e h ih =
-      ended_by again found new l z t.terminal t.leaf w (same closer t.terminal)
-      (same separator t.terminal) refl refl e h (λ f _. ih f w (omega arith))
+      ended_by again found new l z t.terminal t.leaf w (is_same_terminal closer t.terminal)
+      (is_same_terminal separator t.terminal) refl refl e h (λ f _. ih f w (omega arith))
 
   listed_by : (again : List A → Reader (List A × Leaf)) (found : List A) (k : Terminal) (i : Leaf)
-      (l : List Lexeme) (c : Bool) → length l < bound → same closer k ≡ c
+      (l : List Lexeme) (c : Bool) → length l < bound → is_same_terminal closer k ≡ c
       → ((f : List A) (m : List Lexeme) → length m < length l + 1
       → Correct (L ∷ []) (λ _. []) (AreListed f) m (again f m))
       → Correct (L ∷ [])
@@ -102,7 +102,7 @@ module _ {A : Type 0} {separator closer : Terminal} {items : Row} {L E : Sym}
   listed_correct zero found l h b = absurd (omega arith)
   listed_correct (suc n) found [] h b = stops (λ v. stays L v syms.list_stays)
   listed_correct (suc n) found (t ∷ l) h b =
-      listed_by (listed separator closer item n) found t.terminal t.leaf l (same closer t.terminal)
+      listed_by (listed separator closer item n) found t.terminal t.leaf l (is_same_terminal closer t.terminal)
       (omega arith) refl (λ f m g. listed_correct n f m (omega arith) (omega arith))
 
 -- ---- items one by one
@@ -124,7 +124,7 @@ list_more z l i y m (a, e, h) g = rw e (more i h g)
 pub list_correct : {A : Type 0} {separator closer : Terminal} {items : Row} {L E : Sym}
     {Item : List Lexeme → A → Type 0} (item : Reader A) (bound : ℕ)
     → ListSyms separator closer items L E
-    → ((t : Lexeme) (l : List Lexeme) → length l < bound → same closer t.terminal ≡ false
+    → ((t : Lexeme) (l : List Lexeme) → length l < bound → is_same_terminal closer t.terminal ≡ false
     → Correct (L ∷ []) (λ _. E ∷ []) (λ z a w. Item z a) (t ∷ l) (item (t ∷ l)))
     → (n : ℕ) (l : List Lexeme) → length l < n → length l ≤ bound
     → Empties (L ∷ [])

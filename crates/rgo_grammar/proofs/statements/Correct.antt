@@ -2,7 +2,7 @@
 use Rattle.std.proofs.Common.{◌≡◌, ℕ, ◌+◌, ◌<◌, ◌≤◌, ◌⊎◌, inl, inr, Bool, true, false, List, [], ◌∷◌, ◌++◌, length, refl, append_assoc, ap, arith, None, zero, suc, ◌*◌}
 use Rattle.rgo_ast.specs.Tree.{stmts_of}
 use Rattle.rgo_ast.specs.Tree as tree
-use Rattle.rgo_lexer.specs.{declared.terminals.Terminal.{Terminal, TheVariants.{Name, OpenParen, CloseParen, OpenBrace, CloseBrace, Semicolon, Var, Go, If, For, Return, Break, Continue}}, Lexemes.{Leaf, Lexeme, tok, same}}
+use Rattle.rgo_lexer.specs.{declared.terminals.Terminal.{Terminal, TheVariants.{Name, OpenParen, CloseParen, OpenBrace, CloseBrace, Semicolon, Var, Go, If, For, Return, Break, Continue}}, Lexemes.{Leaf, Lexeme, tok, is_same_terminal}}
 use Rattle.rgo_grammar.specs.Grammar.{IsExprs, IsStmt, IsStmts, IsIf, IsStmt.{block as a_block, simple, if' as an_if, for' as a_for, go, return as returned, returns, break as broken, continue as continued}, IsStmts.{end, empty, last, more}}
 use Rattle.rgo_grammar.specs.reading.{Read.{Reader, Read, first_of, single}, Expressions.{expr, exprs}, Statements.{going, return_by, return_on, stmt_by, stmts, stmts_by, block_by, stmt, if_stmt, block}}
 use Rattle.rgo_grammar.proofs.machine.{Table.{alone, Sym, T, Args, Stmts, StmtEnd, Value, step, Bin, Unary, next, row, Block, IfHead}, Runs.{run, closes}, Starts.{entered_then, one_start}}
@@ -75,7 +75,7 @@ module _ (n m : ℕ) (small : m + 2 < n) (value_c : (h : Bool) → Values h (m +
       (stmts_c : Lists m stmts)
       (ifs : Leaf → Reader tree.Stmt) (ifs_c : Ifs (m + 1) ifs) where
     pub stmt_by_correct : (k : Terminal) (i : Leaf) (l : List Lexeme) → length l ≤ m
-        → same CloseBrace k ≡ false
+        → is_same_terminal CloseBrace k ≡ false
         → Correct (Stmts ∷ [])
         (λ _. StmtEnd ∷ []) ItemAt (tok k i ∷ l) (stmt_by n block stmts ifs k i (tok k i ∷ l) l)
     unfolding run step
@@ -129,7 +129,7 @@ abbrev StmtsAt : List Lexeme → List tree.Stmt × Leaf → Type 0
 StmtsAt z x = IsStmts z x.0 x.1
 
 stmts_by_correct : (one : Reader (List tree.Stmt)) (n : ℕ) (l : List Lexeme) → length l < n
-    → ((t : Lexeme) (m : List Lexeme) → length m < length l → same CloseBrace t.terminal ≡ false
+    → ((t : Lexeme) (m : List Lexeme) → length m < length l → is_same_terminal CloseBrace t.terminal ≡ false
     → Correct (Stmts ∷ []) (λ _. StmtEnd ∷ []) (λ z ss w. IsItem z ss) (t ∷ m) (one (t ∷ m)))
     → Empties (Stmts ∷ []) StmtsAt l (stmts_by one n l)
 stmts_by_correct one n l b h =
@@ -143,7 +143,7 @@ block_run [] s = refl
 block_run (t ∷ l) s = one_start Block OpenBrace (Stmts ∷ []) t l s refl refl
 
 block_by_correct : (one : Reader (List tree.Stmt)) (n : ℕ) (l : List Lexeme) → length l ≤ n
-    → ((t : Lexeme) (m : List Lexeme) → length m + 1 < length l → same CloseBrace t.terminal ≡ false
+    → ((t : Lexeme) (m : List Lexeme) → length m + 1 < length l → is_same_terminal CloseBrace t.terminal ≡ false
     → Correct (Stmts ∷ []) (λ _. StmtEnd ∷ []) (λ z ss w. IsItem z ss) (t ∷ m) (one (t ∷ m)))
     → Correct (Block ∷ []) (λ _. []) IsBlock l (block_by one n l)
 unfolding run step closes
@@ -158,7 +158,7 @@ mutual
   unfolding stmt
 
   pub stmt_correct : (n : ℕ) (t : Lexeme) (l : List Lexeme) → 4 * length (t ∷ l) + 4 ≤ n
-      → same CloseBrace t.terminal ≡ false
+      → is_same_terminal CloseBrace t.terminal ≡ false
       → Correct (Stmts ∷ []) (λ _. StmtEnd ∷ []) (λ z ss w. IsItem z ss) (t ∷ l) (stmt n (t ∷ l))
   stmt_correct zero t l b e = absurd (omega arith)
   stmt_correct (suc n) t l b e =

@@ -1,7 +1,7 @@
 -- Reading the headers of `if` and `for`, up to the block or the first `;`, is correct.
 use Rattle.std.proofs.Common.{◌≡◌, ℕ, ◌+◌, ◌≤◌, Bool, true, false, List, [], ◌∷◌, ◌++◌, length, refl, arith, append-nil, ap}
 use Rattle.rgo_ast.specs.Tree as tree
-use Rattle.rgo_lexer.specs.{declared.terminals.Terminal.{Terminal, TheVariants.{Arrow, Assign, Step, OpenBrace, Semicolon}}, Lexemes.{Leaf, Lexeme, tok, same}}
+use Rattle.rgo_lexer.specs.{declared.terminals.Terminal.{Terminal, TheVariants.{Arrow, Assign, Step, OpenBrace, Semicolon}}, Lexemes.{Leaf, Lexeme, tok, is_same_terminal}}
 use Rattle.rgo_grammar.specs.Grammar.{IsExpr, IsSimple, IsClause, IsSimple.{plain}, IsClause.{empty, some}}
 use Rattle.rgo_grammar.specs.reading.{Read.{Reader, Failed, At, first_of}, Statements.{Head, condition, init, head_before_block, head_end_by, head_end_on, head_by, head}}
 use Rattle.rgo_grammar.proofs.machine.{Table.{Context, before_if, before_for, Sym, Unary, Bin, Tail, Block, IfHead, IfElse, ForHead, Condition, rest, step}, Runs.{Stopped, run, closes}}
@@ -105,7 +105,7 @@ module _ (m : ℕ) (value : Reader tree.Expr) (value_c : Values true m value) wh
       (λ t m c. if_head_by t.terminal t.leaf m (omega (arith, b, ap length c)))
 
   pub for_head_correct : (k : Terminal) (i : Leaf) (l : List Lexeme) → length l + 1 ≤ m
-      → same OpenBrace k ≡ false
+      → is_same_terminal OpenBrace k ≡ false
       → Correct (ForHead ∷ []) (after_head false)
       (λ z h w. IsHead z h) (tok k i ∷ l) (head value (tok k i ∷ l))
   unfolding run step

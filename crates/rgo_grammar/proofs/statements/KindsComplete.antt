@@ -117,7 +117,7 @@ stmt_ends _ h = cc
 pub reads : (h : Bool) (n : ℕ) → ReadsExprs h (expr h n 1)
 reads h n x v e l d = expr_complete e n l d
 
--- ---- statements are told apart by their first tokens
+-- ---- the first tokens determine the kind of a statement
 
 -- an `if` or `for` from its keyword on
 abbrev pub if_at : ℕ → List Lexeme → Read tree.Stmt

@@ -3,7 +3,7 @@
 use Rattle.std.proofs.Common.{◌≡◌, inr, Bool, true, false, List, [], ◌∷◌, ◌++◌, refl, append_assoc, arith, ℕ, ◌⊎◌, inl}
 use Rattle.rgo_ast.specs.Tree as tree
 use Rattle.rgo_ast.specs.declared.ops.AssignOp.TheVariants as assign_op
-use Rattle.rgo_lexer.specs.{declared.terminals.Terminal.{Terminal, TheVariants.{Name, Arrow, Define, Assign, Step, OpenBrace, CloseBrace, Semicolon, OpenParen, CloseParen, Comma}}, Lexemes.{Leaf, Lexeme, tok, same, ident}}
+use Rattle.rgo_lexer.specs.{declared.terminals.Terminal.{Terminal, TheVariants.{Name, Arrow, Define, Assign, Step, OpenBrace, CloseBrace, Semicolon, OpenParen, CloseParen, Comma}}, Lexemes.{Leaf, Lexeme, tok, is_same_terminal, ident}}
 use Rattle.rgo_grammar.specs.Grammar.{IsExpr, IsSimple, IsType, IsLocal, Listed, IsSimple.{plain, send, step as stepped, assign, define}, IsNames.{one as one_name, more as more_names}, IsType.{named, pointer, slice, chan}, IsBinding.{binding as of_names}, IsLocal.{zero as zeroed, typed, inferred}}
 use Rattle.rgo_grammar.specs.reading.{Read.{Reader, Read, Done, first_of, ◌>>=◌, given, single}, Statements.{simple_by, simple_on, valued, named_by, named_on, defining_by, defining, initial_by, initial, local_on, local, vars_on}, Types.{a_type, bound}}
 use Rattle.rgo_grammar.proofs.reading.{Complete.{Meets, meets_bind, meets_then, Opens, listed_complete}, Next.{IsNext, NotNext, begins_append, next_other}}
@@ -38,18 +38,18 @@ ReadsExprs h value =
     (x : List Lexeme) (v : tree.Expr) → IsExpr h 1 x v → (l : List Lexeme) → EndsExpr l
     → Meets (value (x ++ l)) (Done v l)
 
-define_apart : Apart (same Define)
+define_apart : Apart (is_same_terminal Define)
 define_apart = record { dot = refl; bracket = refl; paren = refl; operator = λ o. refl }
 
 abbrev Undefined : List Lexeme → Type 0
-Undefined l = SecondNot (same Define) l
+Undefined l = SecondNot (is_same_terminal Define) l
 
 expr_undefined : {h : Bool} {x : List Lexeme} {v : tree.Expr} (z : List Lexeme) → IsExpr h 1 x v
-    → NotNext (same Define) z → Undefined (x ++ z)
+    → NotNext (is_same_terminal Define) z → Undefined (x ++ z)
 expr_undefined {x = x} z e h =
-    second_append (same Define) x z (expr_starts e) (second_not (same Define) define_apart e) h
+    second_append (is_same_terminal Define) x z (expr_starts e) (second_not (is_same_terminal Define) define_apart e) h
 
-ends_undefined : (k : Terminal) → ends k ≡ true → same Define k ≡ false
+ends_undefined : (k : Terminal) → ends k ≡ true → is_same_terminal Define k ≡ false
 ends_undefined Define h = cc
 ends_undefined _ h = refl
 
@@ -77,17 +77,17 @@ module _ (value : Reader tree.Expr) where
   simple_end a [] h = absurd h
   simple_end a (t ∷ l) h = simple_end_by a t.terminal t.leaf (t ∷ l) l h
 
-  second_by : (i : Leaf) (k : Terminal) (j : Leaf) (l m : List Lexeme) → same Define k ≡ false
+  second_by : (i : Leaf) (k : Terminal) (j : Leaf) (l m : List Lexeme) → is_same_terminal Define k ≡ false
       → named_by value i k j l m ≡ valued value l
   second_by i Define j l m h = cc
   second_by i _ j l m h = refl
 
-  second_on : (i : Leaf) (l m : List Lexeme) → NotNext (same Define) m
+  second_on : (i : Leaf) (l m : List Lexeme) → NotNext (is_same_terminal Define) m
       → named_on value i l (first_of m) ≡ valued value l
   second_on i l [] h = refl
   second_on i l (t ∷ m) h = second_by i t.terminal t.leaf l m h
 
-  undefined_by : (k : Terminal) (i : Leaf) (l m : List Lexeme) → name_then (same Define) k m
+  undefined_by : (k : Terminal) (i : Leaf) (l m : List Lexeme) → name_then (is_same_terminal Define) k m
       → defining_by value k i l m ≡ valued value l
   undefined_by Name i l m h = second_on i l m h
   undefined_by _ i l m h = refl

@@ -3,7 +3,7 @@ use Rattle.std.proofs.Common.{◌≡◌, ℕ, ◌+◌, ◌≤◌, Bool, true, fa
 use Rattle.rgo_ast.specs.declared.ops.AssignOp.{AssignOp}
 use Rattle.rgo_ast.specs.declared.ops.AssignOp.TheVariants as assign_op
 use Rattle.rgo_ast.specs.Tree as tree
-use Rattle.rgo_lexer.specs.{declared.terminals.Terminal.{Terminal, TheVariants.{Name, Arrow, Define, Assign, Step}}, Lexemes.{Leaf, Lexeme, tok, same}}
+use Rattle.rgo_lexer.specs.{declared.terminals.Terminal.{Terminal, TheVariants.{Name, Arrow, Define, Assign, Step}}, Lexemes.{Leaf, Lexeme, tok, is_same_terminal}}
 use Rattle.rgo_grammar.specs.Grammar.{IsExpr, IsSimple, IsSimple.{plain, send, step as stepped, assign, define}}
 use Rattle.rgo_grammar.specs.reading.{Read.{Reader, Read, ◌>>=◌, given, first_of}, Statements.{simple_by, simple_on, valued, named_by, named_on, defining}}
 use Rattle.rgo_grammar.proofs.machine.{Table.{Context, alone, for_post, Sym, Unary, Bin, Tail, Named, Post, Block, header, rest, then_all, plain_row, row, nullable, find, next, step, after, starts_row}, Runs.{run, closes}, Starts.{takes, passes, alike, starts_as, after_name, name_ends}}
@@ -51,7 +51,7 @@ assign_run c assign_op.Plain i l s = refl
 assign_run c _ i l s = refl
 
 -- what begins an expression, but for names
-starts_other : (h : Bool) (k : Terminal) (after named : List Sym) → same Name k ≡ false
+starts_other : (h : Bool) (k : Terminal) (after named : List Sym) → is_same_terminal Name k ≡ false
     → find k (starts_row h after named) ≡ find k (then_all (row (Unary h)) after)
 starts_other true k after named e = rw e refl
 starts_other false k after named e = rw e refl

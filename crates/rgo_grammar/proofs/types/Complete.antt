@@ -3,7 +3,7 @@ use Rattle.std.proofs.Common.{◌≡◌, ℕ, zero, suc, inl, inr, false, List, 
 use Rattle.rgo_ast.specs.declared.names.Ident.{Ident}
 use Rattle.rgo_ast.specs.Tree.{Binding}
 use Rattle.rgo_ast.specs.Tree as tree
-use Rattle.rgo_lexer.specs.{declared.terminals.Terminal.{Terminal, TheVariants.{Name, Comma}}, Lexemes.{Leaf, Lexeme, tok, ident, same}}
+use Rattle.rgo_lexer.specs.{declared.terminals.Terminal.{Terminal, TheVariants.{Name, Comma}}, Lexemes.{Leaf, Lexeme, tok, ident, is_same_terminal}}
 use Rattle.rgo_grammar.specs.Grammar.{IsNames, IsType, IsBinding, Listed, IsNames.{one, more}, IsType.{named, pointer, slice, chan}, IsBinding.{binding as of_names}}
 use Rattle.rgo_grammar.specs.reading.{Read.{Done, ◌>>=◌, given, token}, Types.{a_type, names_by, names, bound, binding, bindings}}
 use Rattle.rgo_grammar.proofs.reading.Complete.{Meets, meets_bind, meets_then, bind_assoc, Opens, listed_complete}
@@ -24,7 +24,7 @@ unfolding names
 names_end zero found l h = inl refl
 names_end (suc n) found [] h = inr refl
 names_end (suc n) found (t ∷ l) h = inr (by_terminal t.terminal t.leaf h) where
-  by_terminal : (k : Terminal) (i : Leaf) → same Comma k ≡ false
+  by_terminal : (k : Terminal) (i : Leaf) → is_same_terminal Comma k ≡ false
       → names_by (names n) found k (tok k i ∷ l) l ≡ Done found (tok k i ∷ l)
   by_terminal Comma i g = cc
   by_terminal _ i g = refl
@@ -57,13 +57,13 @@ binding_complete _ _ (of_names {x} {y} {ns} {t} h g) n l =
     (meets_bind _ (type_complete y t g n l)))
 
 -- a binding begins with a name
-pub binding_opens : (closer : Terminal) → same closer Name ≡ false → (x : List Lexeme) (b : Binding)
+pub binding_opens : (closer : Terminal) → is_same_terminal closer Name ≡ false → (x : List Lexeme) (b : Binding)
     → IsBinding x b → Opens closer x
 binding_opens closer e _ _ (of_names (one i) g) = rw e refl
 binding_opens closer e _ _ (of_names (more i j h) g) = rw e refl
 
-pub bindings_complete : (separator closer : Terminal) → same closer separator ≡ false
-    → same closer Name ≡ false → {y : List Lexeme} {bs : List Binding}
+pub bindings_complete : (separator closer : Terminal) → is_same_terminal closer separator ≡ false
+    → is_same_terminal closer Name ≡ false → {y : List Lexeme} {bs : List Binding}
     → Listed IsBinding separator closer y bs → (n : ℕ) (l : List Lexeme)
     → (j : Leaf) × Meets (bindings separator closer n (y ++ l)) (Done (bs, j) l)
 bindings_complete separator closer other name d n l =

@@ -3,7 +3,7 @@ use Rattle.std.proofs.Common.{◌≡◌, ℕ, zero, suc, ◌<◌, ◌≤◌, Lis
 use Rattle.rgo_ast.specs.declared.names.Ident.{Ident}
 use Rattle.rgo_ast.specs.declared.ops.BinaryOp.TheVariants as op
 use Rattle.rgo_ast.specs.Tree as tree
-use Rattle.rgo_lexer.specs.{declared.terminals.Terminal.{Terminal, TheVariants.{Name, Binary, OpenBracket, CloseBracket, Comma, Chan}}, Lexemes.{Leaf, Lexeme, tok, ident, same}}
+use Rattle.rgo_lexer.specs.{declared.terminals.Terminal.{Terminal, TheVariants.{Name, Binary, OpenBracket, CloseBracket, Comma, Chan}}, Lexemes.{Leaf, Lexeme, tok, ident, is_same_terminal}}
 use Rattle.rgo_grammar.specs.Grammar.{IsNames, IsType, IsBinding, Listed, IsNames.{one, more}, IsType.{named, pointer, slice, chan}, IsBinding.{binding as of_names}}
 use Rattle.rgo_grammar.specs.reading.{Read.{Reader}, Types.{type_by, a_type, names_by, names, typed_names, binding, bindings}}
 use Rattle.rgo_grammar.proofs.machine.{Table.{Sym, T, AType, NamesType, step}, Runs.{run, closes}, Starts.{alike}}
@@ -44,7 +44,7 @@ names_append x y j ns ms (more i k {x = x'} {ns = ns'} h) g =
 
 -- no `,` comes next
 abbrev pub NoComma : List Lexeme → Type 0
-NoComma = NotNext (same Comma)
+NoComma = NotNext (is_same_terminal Comma)
 
 -- the names after those of x
 abbrev AreNames : List Lexeme → List Lexeme → List Ident → List Lexeme → Type 0

@@ -71,7 +71,7 @@ decls_on n again found l (Some x) =
     decl_by n x.0.terminal x.0.leaf l x.1 >>= λ d w. token Semicolon w >>= λ _.
     again (found ++ d ∷ [])
 
--- declarations to the end, each by the first bound, after those that were found
+-- declarations up to the end, each read with the first bound, appended to those found so far
 unfoldable pub decls : ℕ → ℕ → List tree.Decl → List Lexeme → Read (List tree.Decl)
 decls n zero found l = Failed Starving
 decls n (suc m) found l = decls_on n (decls n m) found l (first_of l)

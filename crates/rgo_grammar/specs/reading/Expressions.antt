@@ -1,4 +1,4 @@
--- Reading expressions, by precedence.
+-- Reading expressions, by precedence climbing.
 use Rattle.std.specs.Prelude.{ℕ, zero, suc, ◌+◌, nat_le, Bool, true, false, if◌then◌else◌, List, [], ◌∷◌, Option}
 use Rattle.std.specs.Prelude.{Some, None}
 use Rattle.rgo_ast.specs.declared.ops.BinaryOp.TheVariants as op
@@ -85,7 +85,7 @@ new_at i l =
 abbrev pub parens : Reader tree.Expr → Leaf → List Lexeme → Read tree.Expr
 parens inner i l = inner l >>= λ v w. token CloseParen w >>= given (λ _. tree.Paren v i.at)
 
--- what a Primary begins with
+-- the operand that a Primary begins with
 abbrev pub operand_by : ℕ → Reader tree.Expr → Terminal → Leaf → List Lexeme
     → List Lexeme → Read tree.Expr
 operand_by n inner Name i l m = Done (tree.Name (ident i)) m
@@ -120,7 +120,7 @@ abbrev pub elements_from : ℕ → Reader tree.Expr → List (Ident × tree.Expr
     → Read (List (Ident × tree.Expr) × Leaf)
 elements_from n inner found l = several Comma CloseBrace (element inner) n found l
 
--- a name and a `:` come next
+-- the next token is a `:`, so that a name and a `:` begin an element
 abbrev pub is_colon : Option (Lexeme × List Lexeme) → Bool
 is_colon None = false
 is_colon (Some x) = by_terminal x.0.terminal where
@@ -154,7 +154,7 @@ elements n inner i j l = if is_keyed l then keyed n inner i j l else unkeyed n i
 abbrev pub literal : ℕ → Reader tree.Expr → Leaf → List Lexeme → Read tree.Expr
 literal n inner i l = token Name l >>= λ j w. token OpenBrace w >>= λ _. elements n inner i j
 
--- what follows a Primary
+-- the suffixes of a Primary
 abbrev pub called : ℕ → Reader tree.Expr → (tree.Expr → Reader tree.Expr) → tree.Expr → Leaf
     → List Lexeme → Read tree.Expr
 called n inner again v i l =
@@ -177,7 +177,7 @@ abbrev pub post_on : ℕ → Reader tree.Expr → (tree.Expr → Reader tree.Exp
 post_on n inner again v l None = Done v l
 post_on n inner again v l (Some x) = post_by n inner again v x.0.terminal x.0.leaf l x.1
 
--- `header`: no literal is allowed here
+-- `header`: no literal may begin here, since its `{` would look like that of a block
 abbrev pub literal_if : Bool → ℕ → Reader tree.Expr → Leaf → List Lexeme
     → List Lexeme → Read tree.Expr
 literal_if true n inner i l m = Failed (At l)

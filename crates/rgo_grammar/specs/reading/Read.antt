@@ -1,19 +1,19 @@
--- Reading functions: what one returns, one function after another, one token, lists.
+-- The vocabulary of reading functions: their results, sequencing, one token, and lists.
 use Rattle.std.specs.Prelude.{ℕ, zero, suc, if◌then◌else◌, List, [], ◌∷◌, ◌++◌, Option, Some, None}
-use Rattle.rgo_lexer.specs.{declared.terminals.Terminal.{Terminal}, Lexemes.{Leaf, Lexeme, same}}
+use Rattle.rgo_lexer.specs.{declared.terminals.Terminal.{Terminal}, Lexemes.{Leaf, Lexeme, is_same_terminal}}
 
--- why nothing was read: the tokens from the first one that is not allowed, or a bound on the turns
--- that was too small
+-- Why a reading function fails: the tokens from the first bad one on, or a bound on the turns that was too small. The bound makes
+-- the functions total; with the one that `parse` uses it never runs out.
 pub data Stop : Type 0 where
   At : List Lexeme → Stop
   Starving : Stop
 
--- a value and the tokens after it, or none
+-- a value and the tokens after it, or a failure
 pub data Read (A : Type 0) : Type 0 where
   Done : A → List Lexeme → Read A
   Failed : Stop → Read A
 
--- a function that reads a value from the front of a list
+-- a function that reads a value from the front of a list of tokens
 abbrev pub Reader : Type 0 → Type 0
 Reader A = List Lexeme → Read A
 
@@ -22,7 +22,7 @@ abbrev pub ◌>>=◌ : {A B : Type 0} → Read A → (A → Reader B) → Read B
 (Done a w) >>= f = f a w
 (Failed s) >>= f = Failed s
 
--- what was read, made into something
+-- success with a function of what was read
 abbrev pub given : {A B : Type 0} → (A → B) → A → List Lexeme → Read B
 given f a w = Done (f a) w
 
@@ -33,7 +33,7 @@ first_of (t ∷ l) = Some (t, l)
 -- one token
 abbrev pub token_on : Terminal → List Lexeme → Option (Lexeme × List Lexeme) → Read Leaf
 token_on k l None = Failed (At l)
-token_on k l (Some x) = if same k x.0.terminal then Done x.0.leaf x.1 else Failed (At l)
+token_on k l (Some x) = if is_same_terminal k x.0.terminal then Done x.0.leaf x.1 else Failed (At l)
 
 abbrev pub token : Terminal → List Lexeme → Read Leaf
 token k l = token_on k l (first_of l)
@@ -43,8 +43,8 @@ abbrev pub ended_on : {A : Type 0} → Terminal → Terminal → (List A → Rea
     → List A → List Lexeme → Option (Lexeme × List Lexeme) → Read (List A × Leaf)
 ended_on separator closer again found l None = Failed (At l)
 ended_on separator closer again found l (Some x) =
-    if same closer x.0.terminal then Done (found, x.0.leaf) x.1 else
-    (if same separator x.0.terminal then again found x.1 else Failed (At l))
+    if is_same_terminal closer x.0.terminal then Done (found, x.0.leaf) x.1 else
+    (if is_same_terminal separator x.0.terminal then again found x.1 else Failed (At l))
 
 abbrev pub ended : {A : Type 0} → Terminal → Terminal → (List A → Reader (List A × Leaf)) → List A
     → List Lexeme → Read (List A × Leaf)
@@ -55,10 +55,10 @@ abbrev pub listed_on : {A : Type 0} → Terminal → Terminal → Reader (List A
     → Option (Lexeme × List Lexeme) → Read (List A × Leaf)
 listed_on separator closer item again found l None = Failed (At l)
 listed_on separator closer item again found l (Some x) =
-    if same closer x.0.terminal then Done (found, x.0.leaf) x.1 else
+    if is_same_terminal closer x.0.terminal then Done (found, x.0.leaf) x.1 else
     (item l >>= λ a. ended separator closer again (found ++ a))
 
--- items up to what closes them, after those that were found
+-- items up to what closes them, appended to those found so far
 unfoldable pub listed : {A : Type 0} → Terminal → Terminal → Reader (List A) → ℕ → List A
     → List Lexeme → Read (List A × Leaf)
 listed separator closer item zero found l = Failed Starving
@@ -68,7 +68,7 @@ listed separator closer item (suc n) found l =
 abbrev pub single : {A : Type 0} → Read A → Read (List A)
 single m = m >>= given (λ a. a ∷ [])
 
--- items that are read one by one, up to what closes them, after those that were found
+-- items that are read one by one, up to what closes them, appended to those found so far
 unfoldable pub several : {A : Type 0} → Terminal → Terminal → Reader A → ℕ → List A
     → List Lexeme → Read (List A × Leaf)
 several separator closer item n found l = listed separator closer (λ m. single (item m)) n found l

@@ -6,9 +6,9 @@ use Rattle.rgo_ast.specs.Tree.{exprs_of, stmts_of, clause_of}
 use Rattle.rgo_lexer.specs.{declared.terminals.Terminal.{Terminal, TheVariants.{Name, Arrow, Define, Assign, Step, OpenParen}}, declared.terminals.Terminal.TheVariants.{CloseParen, OpenBrace, CloseBrace, Comma}, declared.terminals.Terminal.TheVariants.{Semicolon, Var, Go, If, Else, For, Return, Break}, declared.terminals.Terminal.TheVariants.{Continue}, Lexemes.{Leaf, Lexeme, ident}}
 use Rattle.rgo_grammar.specs.reading.{Read.{Reader, Read, Done, Failed, At, Starving, ◌>>=◌, given, first_of, token, listed, several}, Read.{Reader, single}, Types.{a_type, typed_names, bound}, Expressions.{expr, exprs}}
 
--- Below, `value` reads an expression: one of a header where the statement is in a header.
+-- Below, `value` reads an expression: that of a header if the statement is part of one.
 
--- what follows the first expression of a simple statement
+-- the rest of a simple statement after its first expression
 abbrev pub simple_by : Reader tree.Expr → tree.Expr → Terminal → Leaf → List Lexeme
     → List Lexeme → Read tree.Stmt
 simple_by value a Arrow i l m = value m >>= given (λ b. tree.Send a b i.at)
@@ -218,7 +218,7 @@ abbrev pub for_on : Reader (List tree.Stmt × Leaf) → Reader tree.Expr → Lea
 for_on block value i l None = Failed (At l)
 for_on block value i l (Some x) = for_by block value i x.0.terminal l
 
--- A statement, as a list: the empty statement is an empty list.
+-- A statement as a list; the empty statement is the empty list.
 abbrev pub stmt_by : ℕ → Reader (List tree.Stmt × Leaf) → Reader (List tree.Stmt × Leaf)
     → (Leaf → Reader tree.Stmt) → Terminal → Leaf → List Lexeme → List Lexeme
     → Read (List tree.Stmt)

@@ -35,7 +35,7 @@ abbrev pub names_on : (List Ident → Reader (List Ident)) → List Ident → Li
 names_on again found l None = Done found l
 names_on again found l (Some x) = names_by again found x.0.terminal l x.1
 
--- the names after those that were found
+-- more names of a list, appended to those found so far
 unfoldable pub names : ℕ → List Ident → List Lexeme → Read (List Ident)
 names zero found l = Failed Starving
 names (suc n) found l = names_on (names n) found l (first_of l)
@@ -43,7 +43,7 @@ names (suc n) found l = names_on (names n) found l (first_of l)
 abbrev pub bound : List Ident → tree.TypeExpr → Binding
 bound ns t = record { names = ns; ty = t }
 
--- names and their type, after those that were found
+-- more names of a list and their type, appended to those found so far
 abbrev pub typed_names : ℕ → List Ident → List Lexeme → Read Binding
 typed_names n found l = names n found l >>= λ ns w. a_type n w >>= given (bound ns)
 
