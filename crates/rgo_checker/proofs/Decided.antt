@@ -6,7 +6,7 @@ use Rattle.std.proofs.lemmas.Slice.Eq.{bytes_eq-Decides}
 use Rattle.std.specs.Bool.{Decides}
 use Rattle.rgo_tac.specs.declared.regions.Class.{Class}
 use Rattle.rgo_checker.specs.ClassTests.{same_class}
-use Rattle.rgo_checker.proofs.ClassLaws.{same_class_decided}
+use Rattle.rgo_checker.proofs.decides.ClassLaws.{same_class_decided}
 use Rattle.rgo_checker.proofs.Deciding.{decides_same, decides_less}
 use Rattle.rgo_checker.proofs.Listing.{contains_none, contains_here, contains_there, contains_cases}
 

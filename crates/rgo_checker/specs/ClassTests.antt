@@ -85,8 +85,8 @@ ArePlaces classes places =
     × (get nat_eq places k ≡ None → slice_get classes p ≡ Some (Name k) → ⊥)
 
 -- each name has one place
-abbrev pub AreDistinct : List Class → Type 0
-AreDistinct classes =
+abbrev pub AreDistinctClasses : List Class → Type 0
+AreDistinctClasses classes =
     (k p q : ℕ) → slice_get classes p ≡ Some (Name k) → slice_get classes q ≡ Some (Name k) → p ≡ q
 
 abbrev pub is_class : Option Class → Class → Bool

@@ -1,4 +1,4 @@
--- The places of names among classes, as far as a walk over them has come.
+-- The places of names among the first of some classes, while these are gone through.
 use Rattle.std.specs.Prelude.{◌≡◌, ◌<◌, ℕ, List, Option, Some, slice_get, nat_eq, if◌then◌else◌, MatchOption}
 use Rattle.std.specs.HashMap.{HashMap, get}
 use Rattle.rgo_tac.specs.declared.regions.Class.{Class}

@@ -166,7 +166,7 @@ abbrev pub with_first : Option «Type» → Option (List «Type») → Option (L
 with_first None rest = None
 with_first (Some t) rest = option_map (λ ts. t ∷ ts) rest
 
--- the types of the variables of these numbers, if there are such
+-- the types of the variables of these numbers, if all of them exist
 abbrev pub types_at : List «Type» → List ℕ → Option (List «Type»)
 types_at types [] = Some []
 types_at types (v ∷ vs) = with_first (slice_get types v) (types_at types vs)

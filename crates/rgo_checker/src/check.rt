@@ -14,7 +14,8 @@ use rgo_code::{Code, CodeRefusal};
 use std::alloc::{AllocError, Global};
 
 /// The least rule that is broken, and the first line that breaks it. The first rule is checked at all lines before the
-/// others are: these may then rely on numbers that exist, which bounds the memory that they need.
+/// others are: these may then rely on numbers that exist, which bounds the memory that they need. If a line breaks it, no
+/// other rule can be the least.
 fn find_broken(alloc: Global, code: &Code) -> Result<Option<CodeRefusal>, AllocError>
     requires { HasNumbers code.now }
     ensures { IfOk result (λ broken. MatchOption broken (IsChecked code.now)

@@ -22,7 +22,7 @@ pub(crate) fn same_class(a: Class, b: Class) -> bool
     }
 }
 
-/// The class of the variable of this number; `NoClass` if there is no such variable.
+/// The class of the variable of this number; `NoClass` if the function does not have it.
 pub(crate) fn class_at(f: &CodeFn<'_>, v: usize) -> Class
     ensures { result ≡ names.class_of f.now v }
 {

@@ -12,6 +12,7 @@ use rgo_code::{CodeFn, Rule};
 use rgo_region_sets::LiveNames;
 use std::alloc::{AllocError, Global};
 
+/// Whether a rule is kept at the entry, of which only three rules say anything.
 #[tactic(auto, unfolding(crate::specs::Instrs::EntryKept))]
 fn keeps(alloc: Global, rule: Rule, f: &CodeFn<'_>, live: &LiveNames) -> Result<bool, AllocError>
     requires { IsPrepared live.now f.now }

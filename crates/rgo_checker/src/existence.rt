@@ -1,14 +1,15 @@
-//! The walk over all lines for the first rule.
+//! The walk over all lines for the first rule. Each function walks over the lines of its part, in the order of the text, since
+//! the scan counts lines.
 
-ghost use Rattle.std.specs.Prelude.{◌≡◌, ◌∷◌, ◌++◌, [], ℕ, List, Some, length, map, slice_get, take, nat_lt, bytes_eq, IfOk, OnOk, MatchOption};
+ghost use Rattle.std.specs.Prelude.{◌≡◌, ◌&&◌, ◌∷◌, ◌++◌, [], ℕ, Bool, List, Some, length, map, slice_get, take, nat_lt, bytes_eq, IfOk, OnOk, MatchOption};
 ghost use Rattle.std.specs.Bool.{Decides};
 ghost use Rattle.rgo_code.specs.declared.rules.Line.TheVariants as line;
 ghost use Rattle.rgo_code.specs.declared.rules.Rule.TheVariants as rule;
-ghost use Rattle.rgo_code.specs.Checked.{IsFirstBroken, Keeps};
+ghost use Rattle.rgo_code.specs.Checked.{IsFirstBroken, KeepsRule};
 ghost use Rattle.rgo_code.specs.Code.{CodeFn as AnyFn};
 ghost use Rattle.rgo_checker.specs.Instrs.{InstrKept};
 ghost use Rattle.rgo_checker.specs.Lines as lines;
-ghost use Rattle.rgo_checker.specs.Naming.{AreNames, fn_names};
+ghost use Rattle.rgo_checker.specs.Naming.{AddsToNames, SetHasNames, fn_names};
 ghost use Rattle.rgo_checker.specs.Scan.{Walks, passed};
 ghost use Rattle.rgo_checker.specs.Sizes.{HasNumbers};
 ghost use Rattle.rgo_checker.specs.Tests as tests;
@@ -31,80 +32,46 @@ fn pass_existence(scan: &mut Scan, kept: bool)
     pass(scan, broken);
 }
 
-fn walk_struct<'a>(
-    code: &Code,
+/// The same at a line that declares a name: no line of its kind before it declares that, and what the line is about exists.
+fn pass_name<'a>(
     names: &mut Names<'a>,
-    s: &'a Struct,
+    name: &'a [u8],
+    exists: bool,
     scan: &mut Scan,
 ) -> Result<(), AllocError>
-    ensures names { OnOk result ((seen : List (List ℕ)) → AreNames names.old seen
-        → AreNames names.new (seen ++ s.now.name ∷ [])) }
-    ensures walks { OnOk result ((n : ℕ) → slice_get code.now.structs n ≡ Some s.now
-        → AreNames names.old (take n (map (λ s. s.name) code.now.structs))
-        → Walks code.now 1 2 (line.Struct n ∷ []) scan.old scan.new) }
+    ensures { OnOk result ((is_new : Bool) × AddsToNames names.old name.now is_new names.new
+        × (scan.new ≡ passed scan.old (tests.broken_if scan.old.limit rule.Exists (is_new && exists)))) }
 {
-    let is_new = add(names, s.name.bytes())?;
-    let exist = types_exist(code.tac(), s.fields.items());
-    pass_existence(scan, both(is_new, exist));
+    let is_new = add(names, name)?;
+    pass_existence(scan, both(is_new, exists));
     Ok(())
 }
 
 fn walk_structs(alloc: Global, code: &Code, scan: &mut Scan) -> Result<(), AllocError>
     ensures { OnOk result (Walks code.now 1 2 (lines.struct_lines code.now.structs) scan.old scan.new) }
 {
-    let structs = code.tac().structs();
+    let program = code.tac();
+    let structs = program.structs();
     let mut names = HashSet::new(alloc);
     for n in 0..structs.len() {
-        walk_struct(code, &mut names, &structs[n], scan)?;
+        let s = &structs[n];
+        let exist = types_exist(program, s.fields.items());
+        pass_name(&mut names, s.name.bytes(), exist, scan)?;
     }
-    Ok(())
-}
-
-fn walk_variable<'a>(
-    code: &Code,
-    names: &mut Names<'a>,
-    v: &'a Variable,
-    scan: &mut Scan,
-) -> Result<(), AllocError>
-    ensures names { OnOk result ((seen : List (List ℕ)) → AreNames names.old seen
-        → AreNames names.new (seen ++ v.now.name ∷ [])) }
-    ensures walks { OnOk result ((n : ℕ) → slice_get code.now.variables n ≡ Some v.now
-        → AreNames names.old (take n (map (λ v. v.name) code.now.variables))
-        → Walks code.now 1 2 (line.Variable n ∷ []) scan.old scan.new) }
-{
-    let is_new = add(names, v.name.bytes())?;
-    let exists = type_exists(code.tac(), &v.ty);
-    pass_existence(scan, both(is_new, exists));
     Ok(())
 }
 
 fn walk_variables(alloc: Global, code: &Code, scan: &mut Scan) -> Result<(), AllocError>
     ensures { OnOk result (Walks code.now 1 2 (lines.variable_lines code.now.variables) scan.old scan.new) }
 {
-    let variables = code.tac().variables();
+    let program = code.tac();
+    let variables = program.variables();
     let mut names = HashSet::new(alloc);
     for n in 0..variables.len() {
-        walk_variable(code, &mut names, &variables[n], scan)?;
+        let v = &variables[n];
+        let exists = type_exists(program, &v.ty);
+        pass_name(&mut names, v.name.bytes(), exists, scan)?;
     }
-    Ok(())
-}
-
-fn walk_head<'a>(
-    code: &Code,
-    names: &mut Names<'a>,
-    f: &CodeFn<'a>,
-    scan: &mut Scan,
-) -> Result<(), AllocError>
-    ensures names { OnOk result ((seen : List (List ℕ)) → AreNames names.old seen
-        → AreNames names.new (seen ++ f.now.name ∷ [])) }
-    ensures walks { OnOk result ((n : ℕ) → slice_get code.now.functions n ≡ Some f.now
-        → AreNames names.old (take n (fn_names code.now))
-        → Walks code.now 1 2 (line.Function n ∷ []) scan.old scan.new) }
-{
-    let function = f.tac();
-    let is_new = add(names, function.name().bytes())?;
-    let exists = head_exists(code.tac(), function);
-    pass_existence(scan, both(is_new, exists));
     Ok(())
 }
 
@@ -127,6 +94,7 @@ fn instr_is_kept(code: &Code, f: &CodeFn<'_>, at: usize) -> bool
     let function = f.tac();
     match function.op(at) {
         Some(op) => instr_exists(program, function, at, op),
+        // The walk has numbers of instructions only.
         None => true,
     }
 }
@@ -167,13 +135,15 @@ fn walk_function<'a>(
     f: &CodeFn<'a>,
     scan: &mut Scan,
 ) -> Result<(), AllocError>
-    ensures names { OnOk result ((seen : List (List ℕ)) → AreNames names.old seen
-        → AreNames names.new (seen ++ f.now.name ∷ [])) }
+    ensures names { OnOk result ((seen : List (List ℕ)) → SetHasNames names.old seen
+        → SetHasNames names.new (seen ++ f.now.name ∷ [])) }
     ensures walks { OnOk result ((n : ℕ) → slice_get code.now.functions n ≡ Some f.now
-        → AreNames names.old (take n (fn_names code.now))
+        → SetHasNames names.old (take n (fn_names code.now))
         → Walks code.now 1 2 (lines.fn_lines n f.now) scan.old scan.new) }
 {
-    walk_head(code, names, f, scan)?;
+    let function = f.tac();
+    let exists = head_exists(code.tac(), function);
+    pass_name(names, function.name().bytes(), exists, scan)?;
     walk_slots(code, f, scan);
     walk_entry(code, scan);
     walk_body(code, f, scan);
@@ -188,13 +158,14 @@ fn walk_number<'a>(
     scan: &mut Scan,
 ) -> Result<(), AllocError>
     ensures names { OnOk result ((f : AnyFn) → slice_get code.now.functions n ≡ Some f → (seen : List (List ℕ))
-        → AreNames names.old seen → AreNames names.new (seen ++ f.name ∷ [])) }
+        → SetHasNames names.old seen → SetHasNames names.new (seen ++ f.name ∷ [])) }
     ensures walks { OnOk result ((f : AnyFn) → slice_get code.now.functions n ≡ Some f
-        → AreNames names.old (take n (fn_names code.now))
+        → SetHasNames names.old (take n (fn_names code.now))
         → Walks code.now 1 2 (lines.fn_lines n f) scan.old scan.new) }
 {
     match code.function(n) {
         Some(f) => walk_function(code, names, &f, scan),
+        // The walk has numbers of functions only.
         None => Ok(()),
     }
 }
@@ -236,7 +207,7 @@ fn walk_last(code: &Code, scan: &mut Scan)
 /// The first line that breaks the first rule.
 pub(crate) fn walk_existence(alloc: Global, code: &Code) -> Result<Option<CodeRefusal>, AllocError>
     requires { HasNumbers code.now }
-    ensures { IfOk result (λ broken. MatchOption broken (Keeps code.now rule.Exists)
+    ensures { IfOk result (λ broken. MatchOption broken (KeepsRule code.now rule.Exists)
         (λ x. IsFirstBroken code.now x.rule x.line)) }
 {
     let mut scan = Scan {

@@ -70,6 +70,7 @@ fn action_exists(code: &Tac, action: Action) -> bool
     }
 }
 
+/// Whether a struct has a field of this number. A struct that is not declared is refused at the line of the variable.
 fn has_fields(code: &Tac, n: usize, k: usize) -> bool
     ensures { result ≡ tests.has_fields k (slice_get code.now.structs n) }
 {
@@ -88,6 +89,7 @@ fn pointed_by(f: &TacFn, a: u32) -> Option<usize>
     }
 }
 
+/// The same by a pointer. What is not a pointer breaks the second rule instead.
 fn variable_has_field(code: &Tac, f: &TacFn, k: usize, a: Option<u32>) -> bool
     ensures { result ≡ tests.variable_has_field code.now f.now k a }
 {
@@ -231,6 +233,7 @@ fn leaves(op: Op<'_>) -> bool
     }
 }
 
+/// The last instruction does not lead past the end of the function.
 fn ends_right(at: usize, count: usize, op: Op<'_>) -> bool
     requires { at < 2 ^ 63 }
     ensures { result ≡ tests.ends_right at count (operation_of op.entry) }

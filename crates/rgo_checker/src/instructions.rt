@@ -29,7 +29,7 @@ pub(crate) struct Site<'a> {
     pub at: usize,
 }
 
-/// The rule of this number.
+/// The rule of this number, which is from 1 to 14.
 pub(crate) fn rule_of(number: u8) -> Rule
     requires low { 1 ≤ number }
     requires high { number < 15 }
@@ -53,6 +53,7 @@ pub(crate) fn rule_of(number: u8) -> Rule
     }
 }
 
+/// Whether a rule is kept at an instruction. Two rules are about other lines alone.
 fn keeps(alloc: Global, rule: Rule, site: &Site<'_>, op: Op<'_>) -> Result<bool, AllocError>
     requires here { op_in (slice_get (erased_fn site.now.f.now).body site.now.at) ≡ Some (operation_of op) }
     requires small { site.now.at < 2 ^ 63 }
@@ -124,6 +125,7 @@ pub(crate) fn least_broken(
 {
     match site.f.tac().op(site.at) {
         Some(op) => least_broken_by(alloc, limit, site, op),
+        // A walk has numbers of instructions only.
         None => Ok(None),
     }
 }

@@ -4,7 +4,7 @@ ghost use Rattle.std.specs.Prelude.{◌≡◌, ℕ, Some, slice_get, nat_eq, IfO
 ghost use Rattle.rgo_tac.specs.declared.regions.Class.{Class as AnyClass};
 ghost use Rattle.std.specs.HashMap.{get};
 ghost use Rattle.rgo_code.specs.Names as names;
-ghost use Rattle.rgo_checker.specs.ClassTests.{AreDistinct, ArePlaces};
+ghost use Rattle.rgo_checker.specs.ClassTests.{AreDistinctClasses, ArePlaces};
 ghost use Rattle.rgo_checker.specs.Parameters.{placed};
 
 use rgo_code::{Class, CodeFn};
@@ -18,7 +18,7 @@ pub(crate) struct Parameters {
     pub classes: Vec<Class>,
     /// The place of each name among them.
     pub places: HashMap<u32, usize>,
-    ghost distinct: { AreDistinct classes.items },
+    ghost distinct: { AreDistinctClasses classes.items },
     ghost placed: { ArePlaces classes.items places },
 }
 

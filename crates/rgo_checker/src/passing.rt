@@ -32,6 +32,7 @@ fn is_passed_at(p: Option<usize>, passes: &[Class], class: Class) -> bool
 {
     match p {
         Some(p) => is_class_at(passes, p, class),
+        // Each name of a parameter or of the result is among the region parameters.
         None => true,
     }
 }
@@ -69,6 +70,7 @@ fn is_passed_for(
     is_passed_by(&parameters.places, passes, parameter, argument)
 }
 
+/// The same for the argument of this number. More arguments than parameters break the first rule instead.
 fn argument_passes(
     f: &CodeFn<'_>,
     callee: &CodeFn<'_>,
@@ -138,7 +140,7 @@ fn passes_right(
     from: &[u32],
     passes: &[Class],
 ) -> Result<bool, AllocError>
-    ensures { IfOk result (λ b. Decides b (rules.Passes f.now callee.now to from.now passes.now)) }
+    ensures { IfOk result (λ b. Decides b (rules.PassesClasses f.now callee.now to from.now passes.now)) }
 {
     let parameters = parameters_of(alloc, callee)?;
     let arguments = arguments_pass(f, callee, &parameters, passes, from);
@@ -192,6 +194,7 @@ fn start_of(op: Op<'_>) -> Option<Called<'_>>
     }
 }
 
+/// A function that does not exist breaks the first rule instead, here and below.
 fn call_passes(
     alloc: Global,
     code: &Code,

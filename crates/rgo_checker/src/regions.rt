@@ -193,7 +193,7 @@ fn given(
     }
 }
 
-/// Whether after an instruction the names are removed that die there. It creates what it must.
+/// Whether exactly the names that die after an instruction are removed there, where it creates what rule 9 asks for.
 pub(crate) fn removes_dead(
     alloc: Global,
     code: &Code,

@@ -45,7 +45,7 @@ fn last_line(code: &Code) -> usize
     first_line(code).saturating_add(lines)
 }
 
-/// Whether the code has so many lines that not all of them have numbers of 32 bits.
+/// Whether the number of some line, or of the end of the text, has more than 32 bits.
 pub(crate) fn is_too_large(code: &Code) -> bool
     ensures large { (result ≡ true) ↔ IsTooLarge code.now }
     ensures small { result ≡ false → HasNumbers code.now }

@@ -21,7 +21,7 @@ fn type_at(types: &[Type], v: u32) -> Option<&Type>
     }
 }
 
-/// The types of an action's operands, if these exist.
+/// The types of an action's operands, if these exist: the first rule has been checked before, so they do.
 fn types_at(types: &[Type], from: Operands) -> Option<Types<'_>>
     ensures { option_map types_in result ≡ tests.types_at types.now (numbers_of from) }
 {
@@ -100,6 +100,7 @@ fn parameters(f: &TacFn) -> &[Type]
     }
 }
 
+/// A function that does not exist breaks the first rule instead, here and below.
 fn arguments_fit(code: &Tac, f: &TacFn, n: u32, from: &[u32]) -> bool
     ensures { result ≡ tests.arguments_fit f.now (slice_get code.now.functions n) from.now }
 {

@@ -3,7 +3,7 @@
 ghost use Rattle.std.specs.Prelude.{◌≡◌, ◌∷◌, [], ℕ, Some, slice_get, IfOk, OnOk, MatchOption};
 ghost use Rattle.rgo_code.specs.declared.rules.Line.TheVariants as line;
 ghost use Rattle.rgo_code.specs.declared.rules.Rule.TheVariants as rule;
-ghost use Rattle.rgo_code.specs.Checked.{IsChecked, IsFirstBroken, Keeps};
+ghost use Rattle.rgo_code.specs.Checked.{IsChecked, IsFirstBroken, KeepsRule};
 ghost use Rattle.rgo_checker.specs.Lines.{slot_lines, instr_lines, fn_lines, functions_lines};
 ghost use Rattle.rgo_checker.specs.Scan.{Walks, passed};
 ghost use Rattle.rgo_checker.specs.Sizes.{HasNumbers};
@@ -131,6 +131,7 @@ fn walk_number(alloc: Global, code: &Code, n: usize, scan: &mut Scan) -> Result<
 {
     match code.function(n) {
         Some(f) => walk_function(alloc, code, &f, scan),
+        // The walk has numbers of functions only.
         None => Ok(()),
     }
 }
@@ -138,6 +139,7 @@ fn walk_number(alloc: Global, code: &Code, n: usize, scan: &mut Scan) -> Result<
 fn walk_functions(alloc: Global, code: &Code, scan: &mut Scan) -> Result<(), AllocError>
     ensures { OnOk result (Walks code.now 2 15 (functions_lines 0 code.now.functions) scan.old scan.new) }
 {
+    // For the proof: lists of names that ascend are equal exactly if they have the same names.
     code.ascends();
     for n in 0..code.len() {
         walk_number(alloc, code, n, scan)?;
@@ -148,7 +150,7 @@ fn walk_functions(alloc: Global, code: &Code, scan: &mut Scan) -> Result<(), All
 /// The least rule after the first that is broken, and the first line that breaks it.
 pub(crate) fn walk_rules(alloc: Global, code: &Code) -> Result<Option<CodeRefusal>, AllocError>
     requires numbers { HasNumbers code.now }
-    requires exists { Keeps code.now rule.Exists }
+    requires exists { KeepsRule code.now rule.Exists }
     ensures { IfOk result (λ broken. MatchOption broken (IsChecked code.now)
         (λ x. IsFirstBroken code.now x.rule x.line)) }
 {

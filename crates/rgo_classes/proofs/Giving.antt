@@ -8,11 +8,11 @@ use Rattle.rgo_tac.specs.declared.regions.Class.TheVariants as class
 use Rattle.rgo_tac.specs.declared.regions.Member.{Member}
 use Rattle.rgo_tac.specs.declared.regions.Member.TheVariants.{Global, Variable}
 use Rattle.rgo_tac.specs.Code.{TacFn}
-use Rattle.rgo_tac.specs.Joins.{is_pointer_like_in, is_pointer_like_type}
+use Rattle.rgo_tac.specs.Joins.{is_pointer_like_member, is_pointer_like_type}
 use Rattle.rgo_classes.specs.Classes.{AreNumbered}
 use Rattle.rgo_classes.specs.Joins.{IsPointerLike}
 use Rattle.rgo_classes.specs.Labels.{label_of}
-use Rattle.rgo_classes.specs.Naming.{Gives, Knows, Naming, class_in, given_to}
+use Rattle.rgo_classes.specs.Naming.{TakesNextName, HasClassAlready, Naming, class_in, given_to}
 use Rattle.rgo_classes.proofs.Gets.{get_cases, get_last, get_left}
 use Rattle.rgo_classes.proofs.Moving.{eq_cases}
 
@@ -35,19 +35,19 @@ one_name c j k e g = cc
 pub class_yes : (given : List Class) (labels : List ℕ) (f : TacFn) (m : Member) → IsPointerLike f m
     → class_in given labels f m ≡ given_to given (label_of labels m)
 class_yes given labels f m like =
-    cond-true (is_pointer_like_in f m) (given_to given (label_of labels m)) class.NoClass like
+    cond-true (is_pointer_like_member f m) (given_to given (label_of labels m)) class.NoClass like
 
-pub class_no : (given : List Class) (labels : List ℕ) (f : TacFn) (m : Member) → is_pointer_like_in f m ≡ false
+pub class_no : (given : List Class) (labels : List ℕ) (f : TacFn) (m : Member) → is_pointer_like_member f m ≡ false
     → class_in given labels f m ≡ class.NoClass
 class_no given labels f m plain =
-    cond-false (is_pointer_like_in f m) (given_to given (label_of labels m)) class.NoClass plain
+    cond-false (is_pointer_like_member f m) (given_to given (label_of labels m)) class.NoClass plain
 
 -- a member that has a class is pointer-like
 pub class_like : (given : List Class) (labels : List ℕ) (f : TacFn) (m : Member) (c : Class)
     → class_in given labels f m ≡ c → c ≢ class.NoClass → IsPointerLike f m
 class_like given labels f m c e some =
     ⊎_elim (λ l. l) (λ n. absurd (some (sym e ∙ class_no given labels f m n)))
-    (cases_Bool (is_pointer_like_in f m))
+    (cases_Bool (is_pointer_like_member f m))
 
 -- ---- before the first
 
@@ -162,7 +162,7 @@ module _ (labels : List ℕ) (f : TacFn) (members : List Member) (classes given 
         (λ l. class_yes given labels f x l ∙ sym (known (label_of labels x) (n.some i x e l))
         ∙ sym (class_yes After labels f x l))
         (λ p. class_no given labels f x p ∙ sym (class_no After labels f x p))
-        (cases_Bool (is_pointer_like_in f x))
+        (cases_Bool (is_pointer_like_member f x))
 
     new_below : (l k : ℕ) → given_to After l ≡ class.Name k → k < next + 1
     new_below l k e = ⊎_elim
@@ -229,7 +229,7 @@ module _ (labels : List ℕ) (f : TacFn) (members : List Member) (classes given 
   -- whichever of the two it is
   pub naming_more : (given' : List Class) (next' : ℕ) (c : Class) → IsPointerLike f m
       → label_of labels m < length given
-      → Knows given next (label_of labels m) given' next' c ⊎ Gives given next (label_of labels m) given' next' c
+      → HasClassAlready given next (label_of labels m) given' next' c ⊎ TakesNextName given next (label_of labels m) given' next' c
       → Naming labels f (members ++ m ∷ []) (classes ++ c ∷ []) given' next'
   naming_more given' next' c like inside h = ⊎_elim
       (λ k. rw (k.given_is, k.next_is)
@@ -242,7 +242,7 @@ pub naming_past : (labels : List ℕ) (f : TacFn) (members : List Member) (class
     → length f.variables ≤ v → Naming labels f members classes given next
     → Naming labels f (members ++ Variable v ∷ []) (classes ++ class.NoClass ∷ []) given next
 naming_past labels f members classes given next v past n =
-    let plain : is_pointer_like_in f (Variable v) ≡ false =
+    let plain : is_pointer_like_member f (Variable v) ≡ false =
     ap is_pointer_like_type (slice_get_past f.variables v past) in
     naming_kept labels f members classes given next n (Variable v) class.NoClass
     (sym (class_no given labels f (Variable v) plain)) (λ like. absurd (false≢true (sym plain ∙ like)))

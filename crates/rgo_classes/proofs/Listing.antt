@@ -10,7 +10,7 @@ use Rattle.rgo_tac.specs.declared.regions.Class.TheVariants as class
 use Rattle.rgo_tac.specs.declared.regions.Member.{Member}
 use Rattle.rgo_tac.specs.declared.regions.Member.TheVariants.{Variable, Result, Global}
 use Rattle.rgo_tac.specs.Code.{TacFn}
-use Rattle.rgo_classes.specs.Holding.{Among, HeldJoins, Holding, Holds}
+use Rattle.rgo_classes.specs.Holding.{Among, HeldJoins, Holding, IsOfClass}
 use Rattle.rgo_classes.specs.Joins.{IsPointerLike}
 use Rattle.rgo_classes.specs.Labels.{Also, AreFor, JoinsAlso, Pair}
 use Rattle.rgo_classes.specs.Same.{AreSame}
@@ -21,15 +21,15 @@ use Rattle.rgo_classes.proofs.Labelled.{among_within}
 abbrev pub Listed : Type 0
 Listed = Class × ℕ
 
-holds_left : (held : List Listed) (p : Listed) (c : Class) (m : Member) → Holds held c m
-    → Holds (held ++ p ∷ []) c m
+holds_left : (held : List Listed) (p : Listed) (c : Class) (m : Member) → IsOfClass held c m
+    → IsOfClass (held ++ p ∷ []) c m
 holds_left held p c (Variable v) h = Contains-append_left held (p ∷ []) (c, v) h
 holds_left held p c Result h = h
 holds_left held p c Global h = h
 
 -- the members of a class are those that were, and the new one
-holds_cases : (held : List Listed) (c : Class) (v : ℕ) (d : Class) (m : Member) → Holds (held ++ (c, v) ∷ []) d m
-    → Holds held d m ⊎ ((d ≡ c) × (m ≡ Variable v))
+holds_cases : (held : List Listed) (c : Class) (v : ℕ) (d : Class) (m : Member) → IsOfClass (held ++ (c, v) ∷ []) d m
+    → IsOfClass held d m ⊎ ((d ≡ c) × (m ≡ Variable v))
 holds_cases held c v d (Variable w) h =
     ⊎_elim (λ l. inl l)
     (λ e. inr (sym (ap (λ (q : Listed). q.0) e), ap Variable (sym (ap (λ (q : Listed). q.1) e))))
@@ -43,7 +43,7 @@ module _ (f : TacFn) (held : List Listed) (c : Class) (v : ℕ) where
     pub is : a ≡ Variable v
     pub some : c ≢ class.NoClass
     pub like : IsPointerLike f (Variable v)
-    pub other : (b ≡ Variable v) ⊎ (Holds held c b × IsPointerLike f b)
+    pub other : (b ≡ Variable v) ⊎ (IsOfClass held c b × IsPointerLike f b)
 
   abbrev pub Before : Relation
   Before = Among f (HeldJoins held)
@@ -60,16 +60,16 @@ module _ (f : TacFn) (held : List Listed) (c : Class) (v : ℕ) where
   after_cases a b r = ⊎_elim
       (λ x. ⊎_elim
       (λ y. inl ((r.0.0, r.0.1, x, y), r.1, r.2))
-      (λ y. inr (inr (fresh b a y r.2 (inr (subst (λ d. Holds held d a) y.0 x, r.1)))))
+      (λ y. inr (inr (fresh b a y r.2 (inr (subst (λ d. IsOfClass held d a) y.0 x, r.1)))))
       (holds_cases held c v r.0.0 b r.0.3))
       (λ x. ⊎_elim
-      (λ y. inr (inl (fresh a b x r.1 (inr (subst (λ d. Holds held d b) x.0 y, r.2)))))
+      (λ y. inr (inl (fresh a b x r.1 (inr (subst (λ d. IsOfClass held d b) x.0 y, r.2)))))
       (λ y. inr (inl (fresh a b x r.1 (inl y.1))))
       (holds_cases held c v r.0.0 b r.0.3))
       (holds_cases held c v r.0.0 a r.0.2)
     where
       fresh : (x y : Member) → (r.0.0 ≡ c) × (x ≡ Variable v) → IsPointerLike f x
-          → (y ≡ Variable v) ⊎ (Holds held c y × IsPointerLike f y) → Fresh x y
+          → (y ≡ Variable v) ⊎ (IsOfClass held c y × IsPointerLike f y) → Fresh x y
       fresh x y e like other = record {
         is = e.1;
         some = λ n. r.0.1 (e.0 ∙ n);
@@ -142,7 +142,7 @@ module _ (f : TacFn) (held : List Listed) (c : Class) (v : ℕ) where
             (let p : ◌≡◌ {A = Listed} (c, v) (class.Name q, w) = cc (is, s, same_Some v w e) in p)
             (Contains-push held (c, v))
 
-        alone : (b : Member) → Holds held c b → IsPointerLike f b → ⊥
+        alone : (b : Member) → IsOfClass held c b → IsPointerLike f b → ⊥
         alone (Variable w) m like = h.each k w (subst (λ d. Contains held (d, w)) is m) like none
         alone Result m like = m
         alone Global m like = cc
@@ -159,7 +159,7 @@ module _ (f : TacFn) (held : List Listed) (c : Class) (v : ℕ) where
     -- ---- it is joined with one of its class
 
     module _ (labels' : List ℕ) (fits : AreFor f old) (m : Member) (some : c ≢ class.NoClass)
-        (like : IsPointerLike f (Variable v)) (m_holds : Holds held c m) (m_like : IsPointerLike f m)
+        (like : IsPointerLike f (Variable v)) (m_holds : IsOfClass held c m) (m_like : IsPointerLike f m)
         (j : JoinsAlso labels (Pair (Variable v) m) labels') where
       abbrev Both : Relation
       Both = Either Before (Pair (Variable v) m)
@@ -172,8 +172,8 @@ module _ (f : TacFn) (held : List Listed) (c : Class) (v : ℕ) where
             (
               c,
               some,
-              subst (λ z. Holds (held ++ (c, v) ∷ []) c z) (sym e.0) (Contains-push held (c, v)),
-              subst (λ z. Holds (held ++ (c, v) ∷ []) c z) (sym e.1) (holds_left held (c, v) c m m_holds),
+              subst (λ z. IsOfClass (held ++ (c, v) ∷ []) c z) (sym e.0) (Contains-push held (c, v)),
+              subst (λ z. IsOfClass (held ++ (c, v) ∷ []) c z) (sym e.1) (holds_left held (c, v) c m m_holds),
             ),
             subst (IsPointerLike f) (sym e.0) like,
             subst (IsPointerLike f) (sym e.1) m_like,

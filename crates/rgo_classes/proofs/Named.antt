@@ -7,7 +7,7 @@ use Rattle.rgo_tac.specs.declared.regions.Class.TheVariants as class
 use Rattle.rgo_tac.specs.declared.regions.Member.{Member}
 use Rattle.rgo_tac.specs.declared.regions.Member.TheVariants.{Variable, Global}
 use Rattle.rgo_tac.specs.Code.{TacFn}
-use Rattle.rgo_tac.specs.Joins.{is_pointer_like_in}
+use Rattle.rgo_tac.specs.Joins.{is_pointer_like_member}
 use Rattle.rgo_classes.specs.declared.classes.Summary.{Summary}
 use Rattle.rgo_classes.specs.Classes.{AreNamed, Describes, InOneClass, variables_before}
 use Rattle.rgo_classes.specs.Joins.{IsPointerLike, Joins}
@@ -70,7 +70,7 @@ module _ (labels : List ℕ) (f : TacFn) (members : List Member) (classes given 
     none = λ i m at. (
       λ e like. some_class i m at like (class_is i m class.NoClass at e),
       λ plain. n.each i m at
-          ∙ ap Some (class_no given labels f m (false_from_ne_true (is_pointer_like_in f m) plain)),
+          ∙ ap Some (class_no given labels f m (false_from_ne_true (is_pointer_like_member f m) plain)),
     );
     global = λ i m at. (
       λ e. global_of i m at e,

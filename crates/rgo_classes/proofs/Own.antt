@@ -4,7 +4,7 @@ use Rattle.std.proofs.lemmas.Bool.{and_from, and_parts}
 use Rattle.std.proofs.lemmas.Option.{none-some, same_Some, some_pair_parts}
 use Rattle.rgo_tac.specs.declared.regions.Member.{Member}
 use Rattle.rgo_tac.specs.Code.{Op, Do, Call, Go, Print, Jump, Branch, Return, TacFn}
-use Rattle.rgo_tac.specs.Joins.{if_pointer_like, is_pointer_like_in, op_joins}
+use Rattle.rgo_tac.specs.Joins.{if_pointer_like, is_pointer_like_member, op_joins}
 use Rattle.rgo_classes.specs.Joins.{IsPointerLike}
 use Rattle.rgo_classes.specs.declared.classes.Summary.{Summary}
 use Rattle.rgo_classes.specs.Labels.{Pair}
@@ -25,19 +25,19 @@ own_of : (f : TacFn) (x : Option Two) (a b : Member) → if_pointer_like f x ≡
     → (x ≡ Some (a, b)) × IsPointerLike f a × IsPointerLike f b
 own_of f None a b e = absurd (none-some (a, b) e)
 own_of f (Some p) a b e =
-    let k = kept_on (is_pointer_like_in f p.0 && is_pointer_like_in f p.1) p (a, b) e in
+    let k = kept_on (is_pointer_like_member f p.0 && is_pointer_like_member f p.1) p (a, b) e in
     let same = same_Some p (a, b) k.1 in
-    let both = and_parts (is_pointer_like_in f p.0) (is_pointer_like_in f p.1) k.0 in (
+    let both = and_parts (is_pointer_like_member f p.0) (is_pointer_like_member f p.1) k.0 in (
       k.1,
-      sym (ap (λ (q : Two). is_pointer_like_in f q.0) same) ∙ both.0,
-      sym (ap (λ (q : Two). is_pointer_like_in f q.1) same) ∙ both.1,
+      sym (ap (λ (q : Two). is_pointer_like_member f q.0) same) ∙ both.0,
+      sym (ap (λ (q : Two). is_pointer_like_member f q.1) same) ∙ both.1,
     )
 
 of_own : (f : TacFn) (a b : Member) → IsPointerLike f a → IsPointerLike f b
     → if_pointer_like f (Some (a, b)) ≡ Some (a, b)
 of_own f a b la lb =
     ap (λ (t : Bool). if t then Some (a, b) else None)
-    (and_from (is_pointer_like_in f a) (is_pointer_like_in f b) la lb)
+    (and_from (is_pointer_like_member f a) (is_pointer_like_member f b) la lb)
 
 pub own_is : (f : TacFn) (op : Op) (a b : Member) → OwnJoins f op a b ↔ IsOwn f op a b
 own_is f op a b = (

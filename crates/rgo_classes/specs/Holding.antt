@@ -14,14 +14,14 @@ abbrev pub Among : TacFn → (Member → Member → Type 0) → Member → Membe
 Among f Joins a b = Joins a b × IsPointerLike f a × IsPointerLike f b
 
 -- of variables that are listed with their classes, and of the package variables: what is of a class
-abbrev pub Holds : List (Class × ℕ) → Class → Member → Type 0
-Holds held c (Variable v) = Contains held (c, v)
-Holds held c Result = ⊥
-Holds held c Global = c ≡ class.Global
+abbrev pub IsOfClass : List (Class × ℕ) → Class → Member → Type 0
+IsOfClass held c (Variable v) = Contains held (c, v)
+IsOfClass held c Result = ⊥
+IsOfClass held c Global = c ≡ class.Global
 
--- two of one class
+-- two members of one class
 abbrev pub HeldJoins : List (Class × ℕ) → Member → Member → Type 0
-HeldJoins held a b = (c : Class) × (c ≢ class.NoClass) × Holds held c a × Holds held c b
+HeldJoins held a b = (c : Class) × (c ≢ class.NoClass) × IsOfClass held c a × IsOfClass held c b
 
 -- a map from names of classes to pointer-like variables
 abbrev pub AreHolders : {S : Type 0} → TacFn → HashMap ℕ ℕ S → Type 0

@@ -5,19 +5,19 @@ use Rattle.rgo_tac.specs.declared.regions.Class.TheVariants as class
 use Rattle.rgo_tac.specs.declared.regions.Member.{Member}
 use Rattle.rgo_tac.specs.declared.regions.Member.TheVariants.{Variable, Result, Global}
 use Rattle.rgo_tac.specs.Code.{Op, Call, Go, Instr, TacFn, Do, Print, Jump, Branch, Return}
-use Rattle.rgo_tac.specs.Joins.{is_pointer_like_in, op_joins}
+use Rattle.rgo_tac.specs.Joins.{is_pointer_like_member, op_joins}
 use Rattle.rgo_classes.specs.declared.classes.Summary.{Summary}
 
--- In a call, a member of the caller stands for those parameters and that result of the callee which have a class: a
--- variable for the parameters that it is passed for, and for the result that goes to it; the package variables for
--- themselves.
+-- In a call, the member of the caller that corresponds to a parameter or the result of the callee, if that has a class: a
+-- variable corresponds to the parameters that it is passed for, and to the result that goes to it; the package variables
+-- correspond to themselves.
 abbrev pub StandsFor : Summary → (to : Option ℕ) → (from : List ℕ) → Class → Member → Type 0
 StandsFor s to from c (Variable v) =
     ((i : ℕ) × (slice_get s.params i ≡ Some c) × (slice_get from i ≡ Some v)) ⊎ ((s.result ≡ c) × (to ≡ Some v))
 StandsFor s to from c Result = ⊥
 StandsFor s to from c Global = c ≡ class.Global
 
--- two that stand for one class
+-- two that correspond to one class
 abbrev pub CallJoins : Option Summary → (to : Option ℕ) → (from : List ℕ) → Member → Member → Type 0
 CallJoins None to from a b = ⊥
 CallJoins (Some s) to from a b =
@@ -33,7 +33,7 @@ OpJoins summaries (Branch test target other) a b = op_joins (Branch test target 
 OpJoins summaries (Return value) a b = op_joins (Return value) ≡ Some (a, b)
 
 abbrev pub IsPointerLike : TacFn → Member → Type 0
-IsPointerLike f m = is_pointer_like_in f m ≡ true
+IsPointerLike f m = is_pointer_like_member f m ≡ true
 
 -- some instruction of the function joins the two, which are pointer-like
 pub record Joins (summaries : List Summary) (f : TacFn) (a b : Member) : Type 0 where

@@ -14,7 +14,7 @@ pub record AreRows (labels : List ℕ) (rows : List (List ℕ)) : Type 0 where
   pub labelled : (m : ℕ) → m < length labels → Contains (row_at rows (slice_index labels m)) m
   pub inside : (l m : ℕ) → Contains (row_at rows l) m → (m < length labels) × (slice_index labels m ≡ l)
 
--- these members are given a label
+-- these members get a label
 pub record Relabels (old new these : List ℕ) (label : ℕ) : Type 0 where
   pub size : length new ≡ length old
   pub now : (m : ℕ) → Contains these m → slice_index new m ≡ label

@@ -39,7 +39,7 @@ fn hold_name(
     }
 }
 
-/// Joins a variable with the others of its class.
+/// Joins a variable with the others of its class. Only pointers, slices and channels have one.
 fn hold(
     alloc: Global,
     function: &TacFn,
@@ -90,6 +90,7 @@ fn hold_arguments(
     for (i, variable) in from.iter().enumerate() {
         match class_at(params, i) {
             Some(class) => hold(alloc, function, labels, holders, class, *variable)?,
+            // More arguments than parameters: no typed code has such a call.
             None => {}
         }
     }

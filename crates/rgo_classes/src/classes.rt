@@ -27,7 +27,7 @@ pub struct Classes {
 }
 
 impl Classes {
-    /// The class of the variable of this number; `NoClass` if there is none.
+    /// The class of the variable of this number; `NoClass` if the function has none.
     pub fn of(&self, variable: u32) -> Class
         ensures { result ≡ slice_index_or self.now.variables variable class.NoClass }
     {
@@ -37,6 +37,7 @@ impl Classes {
         }
     }
 
+    /// The class of the result; `NoClass` if it is neither a pointer nor a slice nor a channel, or if there is none.
     pub fn of_result(&self) -> Class
         ensures { result ≡ self.now.result }
     {

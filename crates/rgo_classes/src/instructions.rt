@@ -30,7 +30,8 @@ fn join_own(
     }
 }
 
-/// Joins what a call of the function of this number joins.
+/// Joins what a call of the function of this number joins: nothing if there is no function of this number, as every function
+/// has a summary.
 fn join_called(
     alloc: Global,
     function: &TacFn,
@@ -102,6 +103,7 @@ pub fn join_body(
     for n in 0..function.len() {
         match function.op(n) {
             Some(op) => join_op(alloc, function, labels, summaries, op)?,
+            // Each number of the loop is that of an instruction.
             None => {}
         }
     }

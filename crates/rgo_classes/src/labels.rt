@@ -76,7 +76,7 @@ fn own_rows(alloc: Global, count: usize) -> Result<Vec<Vec<usize>>, AllocError>
     Ok(rows)
 }
 
-/// Gives members a label.
+/// Replaces the labels of members.
 fn relabel(labels: &mut [usize], members: &[usize], label: usize)
     requires inside { (m : ℕ) → Contains members.now m → m < length labels.old }
     ensures relabels { Relabels labels.old labels.new members.now label }
@@ -86,7 +86,7 @@ fn relabel(labels: &mut [usize], members: &[usize], label: usize)
     }
 }
 
-/// Moves the members of one label to another. Row l has the members of label l.
+/// Moves the members of one label to another. Row l has the members with label l. `rgo_summaries` joins its nodes by it, too.
 ///
 /// # Errors
 ///
@@ -115,7 +115,8 @@ pub fn merge(
 }
 
 #[tactic(auto, using(crate::proofs::Rows::label_in_rows))]
-/// Joins the classes of two members.
+/// Joins the classes of two members. The smaller one is relabelled, so that of n members none is relabelled more often than
+/// log n times.
 fn join_numbers(
     alloc: Global,
     labels: &mut [usize],
@@ -196,6 +197,7 @@ impl Labels {
         )
     }
 
+    /// The label of a member. Members have one label exactly if they are in one class.
     pub fn label(&self, member: Member) -> usize
         requires { IsIn self.now member }
         ensures label { result ≡ label_of self.now member }

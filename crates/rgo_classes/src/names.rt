@@ -7,7 +7,7 @@ ghost use Rattle.rgo_tac.specs.declared.regions.Member.{Member as AnyMember};
 ghost use Rattle.rgo_tac.specs.declared.regions.Member.TheVariants as member;
 ghost use Rattle.rgo_classes.specs.Classes.{AreNamed, variables_before};
 ghost use Rattle.rgo_classes.specs.Labels.{AreFor, label_of};
-ghost use Rattle.rgo_classes.specs.Naming.{AreLike, Gives, Knows, Naming};
+ghost use Rattle.rgo_classes.specs.Naming.{AreLike, TakesNextName, HasClassAlready, Naming};
 
 use crate::classes::Classes;
 use crate::labels::Labels;
@@ -15,14 +15,14 @@ use rgo_tac::{Class, Member, TacFn, is_pointer_like};
 use rgo_typed::Row;
 use std::alloc::{AllocError, Global};
 
-/// The class of a label, which is given the next name if it has none.
+/// The class of a label, which gets the next name if it has none.
 fn class_of(given: &mut [Class], next: &mut u32, label: usize) -> Class
     requires label { label < length given.old }
     requires next { next.old + 1 < 2 ^ 32 }
     ensures len { length given.new ≡ length given.old }
     ensures next { next.new ≤ next.old + 1 }
-    ensures class { Knows given.old next.old label given.new next.new result
-        ⊎ Gives given.old next.old label given.new next.new result }
+    ensures class { HasClassAlready given.old next.old label given.new next.new result
+        ⊎ TakesNextName given.old next.old label given.new next.new result }
 {
     match given[label] {
         Class::NoClass => {
@@ -85,7 +85,7 @@ fn name_variables(
     Ok(classes)
 }
 
-/// The classes that labels have before any name is given: that of the package variables alone has one.
+/// The classes that labels have before any of them has a name: only that of the package variables has one.
 fn only_global(alloc: Global, labels: &Labels) -> Result<Vec<Class>, AllocError>
     requires { 0 < length labels.now }
     ensures given { IfOk result (λ given. given.items

@@ -9,8 +9,8 @@ use Rattle.rgo_code.specs.declared.rules.Line.TheVariants as line
 use Rattle.rgo_code.specs.Code.{Slot, CodeInstr, CodeFn, Code}
 use Rattle.rgo_code.specs.Erasure.{erased_op, erased_fn, erased}
 use Rattle.rgo_code.specs.Exists.{InstrExists, StructExists, VariableExists, HeadExists, TypeExists, HasMain}
-use Rattle.rgo_code.specs.Types.{OpFits}
-use Rattle.rgo_code.specs.ClassRules.{SlotFits, ResultFits, JoinsAgree, GlobalsAgree, ReturnsAgree, CallsPass, StartsPass, EntryIsKnown}
+use Rattle.rgo_code.specs.Types.{IsWellTypedOp}
+use Rattle.rgo_code.specs.ClassRules.{SlotClassFitsType, ResultFits, JoinsAgree, GlobalsAgree, ReturnsAgree, CallsPass, StartsPass, EntryIsKnown}
 use Rattle.rgo_code.specs.NameRules.{CreatesUsed, ProtectsUsed, RemovesDead, EntryRemovesDead, LendsResult, EntryLendsResult, ReturnsHoldNothing}
 use Rattle.rgo_code.specs.Lines.{line_number}
 
@@ -18,7 +18,7 @@ use Rattle.rgo_code.specs.Lines.{line_number}
 
 abbrev pub KeptByInstr : Code → Rule → CodeFn → ℕ → CodeInstr → Type 0
 KeptByInstr code rule.Exists f i instr = InstrExists (erased code) (erased_fn f) i (erased_op instr.op)
-KeptByInstr code rule.Types f i instr = OpFits (erased code) (erased_fn f) (erased_op instr.op)
+KeptByInstr code rule.Types f i instr = IsWellTypedOp (erased code) (erased_fn f) (erased_op instr.op)
 KeptByInstr code rule.Joins f i instr = JoinsAgree f instr.op
 KeptByInstr code rule.Globals f i instr = GlobalsAgree f instr.op
 KeptByInstr code rule.Calls f i instr = CallsPass code f instr.op
@@ -45,7 +45,7 @@ KeptByHead code rule n f = ⊤
 
 abbrev pub KeptBySlot : Code → Rule → Slot → Type 0
 KeptBySlot code rule.Exists s = TypeExists (erased code) s.ty
-KeptBySlot code rule.Classes s = SlotFits s
+KeptBySlot code rule.Classes s = SlotClassFitsType s
 KeptBySlot code rule s = ⊤
 
 abbrev pub KeptByStruct : Code → Rule → ℕ → Struct → Type 0
@@ -82,12 +82,12 @@ KeptAt code rule (line.Instr n i) =
 KeptAt code rule (line.End n) = (f : CodeFn) → slice_get code.functions n ≡ Some f → KeptByEnd rule f
 KeptAt code rule line.AfterLast = KeptAfterLast code rule
 
-abbrev pub Keeps : Code → Rule → Type 0
-Keeps code rule = (line : Line) → KeptAt code rule line
+abbrev pub KeepsRule : Code → Rule → Type 0
+KeepsRule code rule = (line : Line) → KeptAt code rule line
 
 -- the code keeps all rules
 abbrev pub IsChecked : Code → Type 0
-IsChecked code = (rule : Rule) → Keeps code rule
+IsChecked code = (rule : Rule) → KeepsRule code rule
 
 -- the number of a rule
 abbrev pub rule_number : Rule → ℕ
@@ -111,5 +111,5 @@ pub record IsFirstBroken (code : Code) (broken : Rule) (number : ℕ) : Type 0 w
   pub at : Line
   pub numbered : line_number code at ≡ number
   pub is_broken : KeptAt code broken at → ⊥
-  pub least : (lesser : Rule) → rule_number lesser < rule_number broken → Keeps code lesser
+  pub least : (lesser : Rule) → rule_number lesser < rule_number broken → KeepsRule code lesser
   pub first : (before : Line) → line_number code before < number → KeptAt code broken before

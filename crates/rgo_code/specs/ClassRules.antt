@@ -13,12 +13,12 @@ use Rattle.rgo_code.specs.Names.{class_of, result_class, member_class, region_pa
 
 -- ---- rule 3: a variable or result has a class exactly where its type is pointer-like
 
-abbrev pub SlotFits : Slot → Type 0
-SlotFits s = (s.class ≢ NoClass) ↔ (is_pointer_like s.ty ≡ true)
+abbrev pub SlotClassFitsType : Slot → Type 0
+SlotClassFitsType s = (s.class ≢ NoClass) ↔ (is_pointer_like s.ty ≡ true)
 
 abbrev pub ResultFits : Option Slot → Type 0
 ResultFits None = ⊤
-ResultFits (Some s) = SlotFits s
+ResultFits (Some s) = SlotClassFitsType s
 
 -- ---- rules 4, 5 and 11: the two that an instruction joins have one class
 
@@ -91,7 +91,7 @@ IsPassedFor parameters passes Global argument = argument ≡ Global
 IsPassedFor parameters passes (Name k) argument =
     (p : ℕ) → slice_get parameters p ≡ Some (Name k) → slice_get passes p ≡ Some argument
 
-pub record Passes (f callee : CodeFn) (to : Option ℕ) (from : List ℕ) (passes : List Class) : Type 0 where
+pub record PassesClasses (f callee : CodeFn) (to : Option ℕ) (from : List ℕ) (passes : List Class) : Type 0 where
   pub len : length passes ≡ length (region_parameters callee)
   pub arguments : (i v : ℕ) → i < callee.params → slice_get from i ≡ Some v
       → IsPassedFor (region_parameters callee) passes (class_of callee i) (class_of f v)
@@ -100,12 +100,12 @@ pub record Passes (f callee : CodeFn) (to : Option ℕ) (from : List ℕ) (passe
 
 abbrev pub CallPasses : CodeFn → Option CodeFn → (to : Option ℕ) → (from : List ℕ) → (passes : List Class) → Type 0
 CallPasses f None to from passes = ⊤
-CallPasses f (Some callee) to from passes = Passes f callee to from passes
+CallPasses f (Some callee) to from passes = PassesClasses f callee to from passes
 
 -- a function that is started has no result
 abbrev pub StartPasses : CodeFn → Option CodeFn → (from : List ℕ) → (passes : List Class) → Type 0
 StartPasses f None from passes = ⊤
-StartPasses f (Some callee) from passes = (callee.result ≡ None) × Passes f callee None from passes
+StartPasses f (Some callee) from passes = (callee.result ≡ None) × PassesClasses f callee None from passes
 
 abbrev pub CallsPass : Code → CodeFn → CodeOp → Type 0
 CallsPass code f (Call to n from passes protects removes) = CallPasses f (slice_get code.functions n) to from passes

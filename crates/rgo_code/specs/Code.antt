@@ -14,9 +14,8 @@ pub record Slot : Type 0 where
   pub ty : «Type»
   pub class : Class
 
--- What an instruction does, as in three-address code. `removes` are the names that are removed after it, on the way
--- that
--- is taken; of a branch, `otherwise` are those of its other way.
+-- What an instruction does, as in three-address code. `removes` are the names that are removed after it; after a branch,
+-- `removes` if its variable is true, and `otherwise` if it is false.
 pub data CodeOp : Type 0 where
   Do : (to : Option ℕ) (action : Action) (from removes : List ℕ) → CodeOp
   -- `passes` has a class for each region parameter of the callee; `protects` are kept until it has returned

@@ -1,6 +1,5 @@
--- The first rule, on three-address code: numbers, names and targets exist, names differ within their kind, and there
--- is a
--- `main`.
+-- The first rule, on three-address code: numbers, names and targets exist, names differ within their kind, and a function
+-- `main` exists.
 use Rattle.std.specs.Prelude.{◌≡◌, ◌≢◌, ◌⊎◌, ◌<◌, ◌≤◌, ◌+◌, ℕ, Bool, true, false, List, [], ◌∷◌, map, take, length, Option, Some, None, Contains, slice_get, codes, is_some, ⊤}
 use Rattle.rgo_typed.specs.declared.actions.Action.{Action}
 use Rattle.rgo_typed.specs.declared.actions.Action.TheVariants as action
@@ -13,19 +12,19 @@ use Rattle.rgo_tac.specs.Flow.{reads, writes}
 
 -- ---- declarations
 
-abbrev pub signature_of : TacFn → Signature
-signature_of f = record { params = take f.params f.variables; result_type = f.result_type }
+abbrev pub tac_signature : TacFn → Signature
+tac_signature f = record { params = take f.params f.variables; result_type = f.result_type }
 
-abbrev pub declared_by : Tac → Declared
-declared_by code = record {
+abbrev pub declared_in_code : Tac → Declared
+declared_in_code code = record {
   structs = map (λ s. s.fields) code.structs;
   variables = map (λ v. v.ty) code.variables;
-  functions = map signature_of code.functions;
+  functions = map tac_signature code.functions;
 }
 
 -- the struct that the type names is declared
 abbrev pub TypeExists : Tac → «Type» → Type 0
-TypeExists code ty = IsType (declared_by code) ty
+TypeExists code ty = IsType (declared_in_code code) ty
 
 -- none of the names before it is the name of this number
 abbrev pub IsNew : List (List ℕ) → ℕ → Type 0
@@ -43,8 +42,8 @@ pub record HasMain (code : Tac) : Type 0 where
 -- ---- instructions
 
 -- the instruction reads or writes a variable
-abbrev pub Uses : Op → ℕ → Type 0
-Uses op v = Contains (reads op) v ⊎ (writes op ≡ Some v)
+abbrev pub UsesVariable : Op → ℕ → Type 0
+UsesVariable op v = Contains (reads op) v ⊎ (writes op ≡ Some v)
 
 abbrev pub ActionExists : Tac → Action → Type 0
 ActionExists code (action.New n) = n < length code.structs
@@ -70,15 +69,15 @@ ActionExists code action.Send = ⊤
 ActionExists code action.Close = ⊤
 
 -- if the variable is a pointer to a declared struct, that has a field k
-abbrev pub HasField : Tac → TacFn → (k : ℕ) → List ℕ → Type 0
-HasField code f k [] = ⊤
-HasField code f k (a ∷ others) =
+abbrev pub OperandHasField : Tac → TacFn → (k : ℕ) → List ℕ → Type 0
+OperandHasField code f k [] = ⊤
+OperandHasField code f k (a ∷ others) =
     (n : ℕ) (s : Struct) → slice_get f.variables a ≡ Some (pointer_to n) → slice_get code.structs n ≡ Some s
     → k < length s.fields
 
 abbrev pub FieldExists : Tac → TacFn → Action → List ℕ → Type 0
-FieldExists code f (action.Load k) from = HasField code f k from
-FieldExists code f (action.Store k) from = HasField code f k from
+FieldExists code f (action.Load k) from = OperandHasField code f k from
+FieldExists code f (action.Store k) from = OperandHasField code f k from
 FieldExists code f (action.Int k) from = ⊤
 FieldExists code f (action.Bool b) from = ⊤
 FieldExists code f action.Nil from = ⊤
@@ -132,7 +131,7 @@ leaves (Go n from) = false
 leaves (Print pieces from) = false
 
 pub record InstrExists (code : Tac) (f : TacFn) (i : ℕ) (op : Op) : Type 0 where
-  pub variables : (v : ℕ) → Uses op v → v < length f.variables
+  pub variables : (v : ℕ) → UsesVariable op v → v < length f.variables
   pub exists : OpExists code f op
   pub last : i + 1 ≡ length f.body → leaves op ≡ true
 

@@ -1,4 +1,4 @@
--- What the code's instructions say of regions, where there is such an instruction.
+-- What the code's instructions say of regions; nothing for a number that no instruction has.
 use Rattle.std.specs.Prelude.{ℕ, List, [], Option, Some, None}
 use Rattle.rgo_tac.specs.declared.regions.Class.{Class}
 use Rattle.rgo_code.specs.Code.{CodeOp, CodeInstr, Do, Call, Go, Print, Jump, Branch, Return}

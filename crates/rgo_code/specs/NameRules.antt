@@ -3,11 +3,11 @@ use Rattle.std.specs.Prelude.{◌≡◌, ◌↔◌, ◌⊎◌, ◌+◌, ℕ, Lis
 use Rattle.std.specs.List.Sorted.{IsStrictlyIncreasing}
 use Rattle.rgo_tac.specs.declared.regions.Class.TheVariants.{Name}
 use Rattle.rgo_code.specs.Code.{CodeOp, CodeInstr, CodeFn, Code, Call, Return, Do, Go, Print, Jump, Branch}
-use Rattle.rgo_code.specs.Names.{result_class, IsOwn, IsLiveName, Holds, Names, Gives, IsPassedTwice, IsParameterName, edges}
+use Rattle.rgo_code.specs.Names.{result_class, IsOwn, IsLiveName, Holds, UsesRegionName, LeavesToCallee, IsPassedTwice, IsParameterName, edges}
 
 -- rule 9: an instruction creates the own names that it uses and that are not held before it
 abbrev pub CreatesUsed : CodeFn → ℕ → CodeInstr → Type 0
-CreatesUsed f i instr = (k : ℕ) → Contains instr.creates k ↔ (IsOwn f k × Names f instr.op k × (Holds f k i → ⊥))
+CreatesUsed f i instr = (k : ℕ) → Contains instr.creates k ↔ (IsOwn f k × UsesRegionName f instr.op k × (Holds f k i → ⊥))
 
 -- rule 10: a call protects the names that it passes and that are live after it, the result's, or passed twice
 abbrev pub ProtectsUsed : CodeFn → ℕ → CodeOp → Type 0
@@ -23,7 +23,7 @@ ProtectsUsed f i (Return value) = ⊤
 
 -- what may be removed after an instruction: the names that are held or created before it and not left to a callee
 abbrev pub MayRemove : Code → CodeFn → ℕ → CodeInstr → ℕ → Type 0
-MayRemove code f i instr k = (Holds f k i ⊎ Contains instr.creates k) × (Gives code instr.op k → ⊥)
+MayRemove code f i instr k = (Holds f k i ⊎ Contains instr.creates k) × (LeavesToCallee code instr.op k → ⊥)
 
 -- rule 13: on each way the names are removed that are not held there
 abbrev pub RemovesDead : Code → CodeFn → ℕ → CodeInstr → Type 0

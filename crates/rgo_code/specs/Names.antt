@@ -8,7 +8,7 @@ use Rattle.rgo_tac.specs.declared.regions.Member.TheVariants as member
 use Rattle.rgo_flow.specs.Live.{Live}
 use Rattle.rgo_code.specs.Code.{Slot, CodeOp, CodeFn, Code, Do, Call, Go, Print, Jump, Branch, Return}
 use Rattle.rgo_code.specs.Erasure.{erased_op, erased_fn}
-use Rattle.rgo_code.specs.Exists.{Uses}
+use Rattle.rgo_code.specs.Exists.{UsesVariable}
 
 -- ---- classes
 
@@ -27,10 +27,10 @@ member_class f (member.Variable v) = class_of f v
 member_class f member.Result = result_class f
 member_class f member.Global = Global
 
-abbrev pub is_name : ℕ → Class → Bool
-is_name k (Name j) = nat_eq k j
-is_name k NoClass = false
-is_name k Global = false
+abbrev pub is_class_named : ℕ → Class → Bool
+is_class_named k (Name j) = nat_eq k j
+is_class_named k NoClass = false
+is_class_named k Global = false
 
 -- ---- region parameters
 
@@ -38,7 +38,7 @@ is_name k Global = false
 abbrev pub distinct_names : (seen classes : List Class) → List Class
 distinct_names seen [] = []
 distinct_names seen (Name k ∷ classes) =
-    if list_any (is_name k) seen then distinct_names seen classes else Name k ∷ distinct_names (Name k ∷ seen) classes
+    if list_any (is_class_named k) seen then distinct_names seen classes else Name k ∷ distinct_names (Name k ∷ seen) classes
 distinct_names seen (c ∷ classes) = distinct_names seen classes
 
 abbrev pub parameter_classes : ℕ → List Slot → List Class
@@ -71,9 +71,9 @@ abbrev pub Holds : CodeFn → (k i : ℕ) → Type 0
 Holds f k i = IsOwn f k × IsLiveName f k i
 
 -- the instruction uses a variable of class k
-pub record Names (f : CodeFn) (op : CodeOp) (k : ℕ) : Type 0 where
+pub record UsesRegionName (f : CodeFn) (op : CodeOp) (k : ℕ) : Type 0 where
   pub variable : ℕ
-  pub used : Uses (erased_op op) variable
+  pub used : UsesVariable (erased_op op) variable
   pub named : class_of f variable ≡ Name k
 
 -- ---- calls
@@ -93,15 +93,15 @@ pub record IsPassedForResult (callee : Option CodeFn) (passes : List Class) (k :
   pub passed : slice_get passes at ≡ Some (Name k)
 
 -- a call leaves it to the callee to remove k: it passes k, without protection, and not for the callee's result
-abbrev pub Gives : Code → CodeOp → ℕ → Type 0
-Gives code (Call to n from passes protects removes) k =
+abbrev pub LeavesToCallee : Code → CodeOp → ℕ → Type 0
+LeavesToCallee code (Call to n from passes protects removes) k =
     Contains passes (Name k) × (Contains protects k → ⊥) × (IsPassedForResult (slice_get code.functions n) passes k → ⊥)
-Gives code (Do to action from removes) k = ⊥
-Gives code (Go n from passes removes) k = ⊥
-Gives code (Print pieces from removes) k = ⊥
-Gives code (Jump target removes) k = ⊥
-Gives code (Branch test target removes other otherwise) k = ⊥
-Gives code (Return value) k = ⊥
+LeavesToCallee code (Do to action from removes) k = ⊥
+LeavesToCallee code (Go n from passes removes) k = ⊥
+LeavesToCallee code (Print pieces from removes) k = ⊥
+LeavesToCallee code (Jump target removes) k = ⊥
+LeavesToCallee code (Branch test target removes other otherwise) k = ⊥
+LeavesToCallee code (Return value) k = ⊥
 
 -- two region parameters are given k
 pub record IsPassedTwice (passes : List Class) (k : ℕ) : Type 0 where

@@ -7,7 +7,7 @@ use Rattle.rgo_typed.specs.declared.types.Type.{«Type»}
 use Rattle.rgo_tac.specs.Code.{Op, Instr, TacFn, Tac, Go, Do, Call, Print, Jump, Branch, Return}
 use Rattle.rgo_flow.specs.Live.{Live}
 use Rattle.rgo_code.specs.Exists.{TypeExists, InstrExists, StructExists, VariableExists, HeadExists, HasMain}
-use Rattle.rgo_code.specs.Types.{OpFits}
+use Rattle.rgo_code.specs.Types.{IsWellTypedOp}
 
 -- a function that is started has no result
 abbrev pub StartFits : Tac → Op → Type 0
@@ -22,7 +22,7 @@ StartFits code (Return value) = ⊤
 -- instruction i of a function
 pub record IsTypedInstr (code : Tac) (f : TacFn) (i : ℕ) (op : Op) : Type 0 where
   pub exists : InstrExists code f i op
-  pub fits : OpFits code f op
+  pub fits : IsWellTypedOp code f op
   pub start : StartFits code op
 
 -- function n; no variable but a parameter is live at its first instruction

@@ -24,6 +24,7 @@ impl Model for Checked {
 }
 
 impl Checked {
+    /// Code that is known to keep the rules: by the contract of `insert`, or by an `Ok` of `check_code`.
     pub fn new(code: Code) -> Checked
         requires { IsChecked code }
         ensures { result ≡ code }

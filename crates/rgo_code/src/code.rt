@@ -1,4 +1,5 @@
-//! Code: three-address code, and what each function says of regions.
+//! Code: three-address code, and beside it what each function says of regions. So the code without regions is at hand, for
+//! the analyses and for runs.
 
 ghost use Rattle.std.specs.Prelude.{◌≡◌, length, slice_get};
 ghost use Rattle.rgo_code.specs.Erasure.{erased};
@@ -77,7 +78,8 @@ impl Code {
         self.tac.functions().len()
     }
 
-    /// In each of its lists, a name is below the next one. For callers who rely on this; it does nothing.
+    /// Does nothing. Its clause states the invariant of the type, that in each list a name is below the next one, for callers
+    /// whose proof needs it.
     pub fn ascends(&self)
         ensures { Ascends self.now }
     {

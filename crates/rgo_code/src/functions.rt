@@ -47,6 +47,7 @@ fn class_at(classes: &[Class], n: usize) -> Class
     classes.get(n).copied().unwrap_or(Class::NoClass)
 }
 
+/// A note has every list. Of one that the instruction's kind does not have, nothing is seen, here and below.
 fn passes_by<'a>(kind: Kind, note: &'a Note) -> &'a [Class]
     ensures { (op : Op) → kind_of op ≡ kind → result.now ≡ passes_of (code_op op note.now) }
 {
@@ -114,7 +115,7 @@ impl<'a> CodeFn<'a> {
         self.tac
     }
 
-    /// The class of a variable; `NoClass` if there is no such variable.
+    /// The class of a variable; `NoClass` if the function does not have the variable.
     pub fn class_of(&self, variable: u32) -> Class
         ensures { result ≡ names.class_of self.now variable }
     {
@@ -124,7 +125,7 @@ impl<'a> CodeFn<'a> {
         }
     }
 
-    /// The class of the result; `NoClass` if there is none.
+    /// The class of the result; `NoClass` for a function without a result.
     pub fn result_class(&self) -> Class
         ensures { result ≡ names.result_class self.now }
     {
@@ -141,7 +142,8 @@ impl<'a> CodeFn<'a> {
         self.regions.entry.items()
     }
 
-    /// The kind of the instruction of this number, with its note.
+    /// The kind of the instruction of this number, with its note. Code may have fewer notes than instructions; an instruction
+    /// without one says nothing of regions.
     fn noted(&self, at: usize) -> Option<Noted<'a>>
         ensures { MatchOption result (SaysNothing (slice_get self.now.body at))
             (λ n. IsNoted (slice_get self.now.body at) n.kind n.note.now) }

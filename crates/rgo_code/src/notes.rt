@@ -8,13 +8,13 @@ use rgo_typed::Row;
 pub struct Note {
     /// The names that are created before the instruction.
     pub creates: Row<u32>,
-    /// Of a call or a goroutine's start: what is passed, for each region parameter of the callee.
+    /// For a call or the start of a goroutine: what is passed for each region parameter of the callee.
     pub passes: Row<Class>,
-    /// Of a call: the names that are kept until it has returned.
+    /// For a call: the names that are kept until it has returned.
     pub protects: Row<u32>,
-    /// The names that are removed after the instruction; after a branch, where the variable is true.
+    /// The names that are removed after the instruction; after a branch, if the variable is true.
     pub removes: Row<u32>,
-    /// Of a branch: the names that are removed where the variable is false.
+    /// For a branch: the names that are removed if the variable is false.
     pub otherwise: Row<u32>,
 }
 

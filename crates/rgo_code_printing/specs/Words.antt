@@ -1,4 +1,4 @@
--- The words of a code text: what stands between the spaces of its lines.
+-- The words of a code text, which are separated by spaces in its lines.
 use Rattle.std.specs.Prelude.{ℕ, ◌+◌, ◌/◌, ◌%◌, Bool, true, false, ◌||◌, ◌==◌, nat_lt, if◌then◌else◌}
 use Rattle.std.specs.Prelude.{List, [], ◌∷◌, ◌++◌, map, get_or, codes, decimal}
 use Rattle.std.specs.List.{join_with_byte, flat_map}
@@ -39,7 +39,7 @@ class_word (class.Name k) = region_word k
 abbrev pub name_at : List (List ℕ) → ℕ → List ℕ
 name_at names n = get_or names n []
 
--- `&&` and `||` are no operators of three-address code
+-- `&&` and `||` are not operators of three-address code
 abbrev pub operator_word : BinaryOp → List ℕ
 operator_word binary.Mul = codes "mul"
 operator_word binary.Div = codes "div"

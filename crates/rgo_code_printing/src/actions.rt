@@ -98,7 +98,8 @@ fn print_set(out: &mut Vec<u8>, name: &[u8], a: u32) -> Result<(), AllocError>
     print_variable_word(out, a)
 }
 
-/// An action with its operands. Nothing is printed of an action with other operands than it takes.
+/// An action with its operands. An action with other operands than it takes has no words, so nothing is printed of it; code
+/// that keeps the second rule has none.
 pub(crate) fn print_action(
     out: &mut Vec<u8>,
     code: &Code,

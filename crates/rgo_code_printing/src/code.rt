@@ -31,6 +31,7 @@ fn print_function_at(out: &mut Vec<u8>, code: &Code, n: usize) -> Result<(), All
 {
     match code.function(n) {
         Some(f) => print_function(out, code, &f),
+        // Only numbers of functions are printed.
         None => Ok(()),
     }
 }

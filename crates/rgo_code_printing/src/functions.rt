@@ -75,6 +75,7 @@ fn print_variable_at(
 {
     match item_at(f.tac().variables(), i as usize) {
         Some(ty) => print_variable_line(out, code, ty, f.class_of(i)),
+        // Only numbers of variables are printed.
         None => Ok(()),
     }
 }

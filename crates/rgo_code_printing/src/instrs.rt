@@ -68,6 +68,7 @@ fn print_instr_at(
 {
     match f.tac().op(i) {
         Some(op) => print_instr(out, code, i, f.tac().place(i), op, &lists_at(f, i)),
+        // Only numbers of instructions are printed.
         None => Ok(()),
     }
 }

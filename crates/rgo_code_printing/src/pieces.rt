@@ -10,6 +10,7 @@ use crate::words::{print, print_byte, print_variable};
 use rgo_typed::Piece;
 use std::alloc::AllocError;
 
+/// A digit in base 16, as `0` to `9` or `a` to `f`.
 fn hex_digit(d: u8) -> u8
     requires { d < 16 }
     ensures { result ≡ hex_digit d }
@@ -60,7 +61,7 @@ fn print_string(out: &mut Vec<u8>, bytes: &[u8]) -> Result<(), AllocError>
     print(out, b"\"")
 }
 
-/// The variable of this number among those that are printed.
+/// The variable of this number among those that are printed. A print of a program has as many as its pieces print.
 fn printed_variable(from: &[u32], n: usize) -> u32
     ensures { result ≡ get_or from.now n 0 }
 {

@@ -11,7 +11,7 @@ use rgo_code::Code;
 use rgo_typed::{Base, Layer, Type};
 use std::alloc::AllocError;
 
-/// The name of a number that follows those of `declared` names.
+/// The name of this number among those that are used and not declared; empty if there is none.
 fn unknown_name(names: &[Name], n: usize) -> &[u8]
     ensures { result.now ≡ name_at names.now n }
 {

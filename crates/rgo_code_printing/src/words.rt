@@ -70,6 +70,7 @@ pub(crate) fn print_class(out: &mut Vec<u8>, class: Class) -> Result<(), AllocEr
     }
 }
 
+/// `&&` and `||` have no word: they are not operators of three-address code.
 pub(crate) fn print_operator(out: &mut Vec<u8>, op: BinaryOp) -> Result<(), AllocError>
     ensures { OnOk result (out.new.items ≡ out.old.items ++ operator_word op) }
 {

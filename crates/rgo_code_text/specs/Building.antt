@@ -17,7 +17,7 @@ use Rattle.rgo_code_text.specs.Items as item
 use Rattle.rgo_code_text.specs.Numbers.{with_name}
 use Rattle.rgo_code_words.specs.Readers.{NamedType}
 use Rattle.rgo_code_printing.specs.Text.{Names}
-use Rattle.rgo_code_text.specs.Written.{Naming, NamesNothing, NamesStruct, NamesVariable, naming_of, number_of}
+use Rattle.rgo_code_text.specs.Written.{Naming, NamesNothing, NamesStruct, NamesVariable, naming_of, number_of_name}
 
 -- ---- the names of lines
 
@@ -159,7 +159,7 @@ names_in items = record {
 -- ---- numbers for names
 
 abbrev pub numbered_base : Names → Base → List ℕ → Base
-numbered_base n (base.Pointer k) name = base.Pointer (number_of n.structs name)
+numbered_base n (base.Pointer k) name = base.Pointer (number_of_name n.structs name)
 numbered_base n b name = b
 
 abbrev pub numbered_type : Names → NamedType → «Type»
@@ -169,9 +169,9 @@ abbrev pub numbered_slot : Names → NamedSlot → Slot
 numbered_slot n s = record { ty = numbered_type n s.ty; class = s.class }
 
 abbrev pub numbered_action : Names → Action → List ℕ → Action
-numbered_action n (action.New k) name = action.New (number_of n.structs name)
-numbered_action n (action.Get k) name = action.Get (number_of n.variables name)
-numbered_action n (action.Set k) name = action.Set (number_of n.variables name)
+numbered_action n (action.New k) name = action.New (number_of_name n.structs name)
+numbered_action n (action.Get k) name = action.Get (number_of_name n.variables name)
+numbered_action n (action.Set k) name = action.Set (number_of_name n.variables name)
 numbered_action n (action.Int k) name = action.Int k
 numbered_action n (action.Bool b) name = action.Bool b
 numbered_action n action.Nil name = action.Nil
@@ -194,8 +194,8 @@ numbered_action n action.Close name = action.Close
 abbrev pub numbered_op : Names → CodeOp → List ℕ → CodeOp
 numbered_op n (Do to action from removes) name = Do to (numbered_action n action name) from removes
 numbered_op n (Call to f from passes protects removes) name =
-    Call to (number_of n.functions name) from passes protects removes
-numbered_op n (Go f from passes removes) name = Go (number_of n.functions name) from passes removes
+    Call to (number_of_name n.functions name) from passes protects removes
+numbered_op n (Go f from passes removes) name = Go (number_of_name n.functions name) from passes removes
 numbered_op n (Print pieces from removes) name = Print pieces from removes
 numbered_op n (Jump target removes) name = Jump target removes
 numbered_op n (Branch test target removes other otherwise) name = Branch test target removes other otherwise

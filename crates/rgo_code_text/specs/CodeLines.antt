@@ -6,7 +6,7 @@ use Rattle.rgo_typed.specs.declared.programs.Variable.{Variable}
 use Rattle.rgo_code.specs.Code.{Slot, CodeInstr, CodeFn, Code}
 use Rattle.rgo_code_text.specs.Order.{Kind, OfHead, OfStruct, OfGlobal, OfFunction, OfSlot, OfEntry, OfInstr, OfEnd}
 use Rattle.rgo_code_printing.specs.Text.{Names, struct_words, global_words, result_words, slot_words, entry_words, instr_words}
-use Rattle.rgo_code_text.specs.Written.{type_uses, result_uses, struct_in, variable_in, function_in, SlotFits, InstrFits}
+use Rattle.rgo_code_text.specs.Written.{type_uses, result_uses, struct_of_op, variable_in, function_in, SlotFits, InstrFits}
 use Rattle.rgo_code_words.specs.Worded.{IsSmall, AreRegions}
 
 pub data Line : Type 0 where
@@ -80,7 +80,7 @@ uses_structs (Struct s) = flat_map type_uses s.fields
 uses_structs (Global v) = type_uses v.ty
 uses_structs (Function name params result) = result_uses result
 uses_structs (Var slot) = type_uses slot.ty
-uses_structs (Instr i instr) = struct_in instr.op
+uses_structs (Instr i instr) = struct_of_op instr.op
 uses_structs line = []
 
 abbrev pub uses_variables : Line → List ℕ

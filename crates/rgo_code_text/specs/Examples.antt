@@ -24,11 +24,11 @@ one_function name op place = record {
 
 pub record Examples : Type 0 where
   pub returns : IsPrintable (one_function (codes "main") (Return None) 7)
-  -- a keyword is no name
+  -- a keyword is not a name
   pub keyword : IsPrintable (one_function (codes "func") (Return None) 7) → ⊥
   -- a place has 32 bits
   pub place : IsPrintable (one_function (codes "main") (Return None) (2 ^ 32)) → ⊥
-  -- a piece prints a variable, and there is none
+  -- a piece prints a variable, and the print has none
   pub print : IsPrintable (one_function (codes "main") (Print (Value ∷ []) [] []) 7) → ⊥
   -- the longest text, and one that has a byte more
   pub longest : (text : List ℕ) → length text ≡ 2 ^ 32 - 3 → IsTooLarge text → ⊥

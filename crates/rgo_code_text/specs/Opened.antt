@@ -88,7 +88,7 @@ pub record HasOneMore (before after : Open) (instr : Instr) (named : NamedInstr)
   pub others : record (open_of after) { body = [] } ≡ record (open_of before) { body = [] }
 
 -- so few variables and instructions that a function can have them, with numbers of 32 bits
-pub record HasRoom (o : Open) : Type 0 where
+pub record FunctionHasRoom (o : Open) : Type 0 where
   pub types : length o.types.items + 2 < 2 ^ 32
   pub instrs : length o.instrs.items + 1 < 2 ^ 32
 

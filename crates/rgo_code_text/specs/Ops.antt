@@ -110,7 +110,7 @@ returning words = on_some (read_value (word_at words 1)) (λ value. unnamed (Ret
 abbrev pub of_length : ℕ → List (List ℕ) → Option NamedOp → Option NamedOp
 of_length n words op = if length words == n then op else None
 
--- an operation that is no print, by its words
+-- an operation other than a print, by its words
 abbrev pub read_op : List (List ℕ) → Option NamedOp
 read_op words =
     if bytes_eq (word_at words 0) (codes "call") then of_length 6 words (calling words)

@@ -33,7 +33,7 @@ pub record Stops (place : Place) (tail : List ℕ) : Type 0 where
   pub cut : tail ≡ bytes ++ 10 ∷ more
   pub none : HasNoItem place bytes
 
-pub record Ends (place : Place) (tail : List ℕ) : Type 0 where
+pub record CodeTextEnds (place : Place) (tail : List ℕ) : Type 0 where
   pub line : IsLine tail
   pub early : tail ≡ [] → ¬ (IsLast place)
 
@@ -46,7 +46,7 @@ pub record StopsAt (text : List ℕ) (n : ℕ) : Type 0 where
   pub leads : after_all before First ≡ Some place
   pub cut : text ≡ items_text before ++ tail
   pub number : length before + 1 ≡ n
-  pub stops : Stops place tail ⊎ Ends place tail
+  pub stops : Stops place tail ⊎ CodeTextEnds place tail
 
 -- an error of a text that is not too large is the first line without form, unless memory ran out
 abbrev pub StopsIn : List ℕ → ReadError → Type 0
@@ -54,7 +54,7 @@ StopsIn text error.NoMemory = ⊤
 StopsIn text error.TooLarge = ⊥
 StopsIn text (error.Refused r) = StopsAt text r.line
 
-abbrev pub Refuses : List ℕ → ReadError → Type 0
-Refuses text error.NoMemory = ⊤
-Refuses text error.TooLarge = IsTooLarge text
-Refuses text (error.Refused r) = IsFirstWithoutForm text r.line
+abbrev pub RefusesCodeText : List ℕ → ReadError → Type 0
+RefusesCodeText text error.NoMemory = ⊤
+RefusesCodeText text error.TooLarge = IsTooLarge text
+RefusesCodeText text (error.Refused r) = IsFirstWithoutForm text r.line

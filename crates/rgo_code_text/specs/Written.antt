@@ -38,12 +38,12 @@ ActionFits (action.Get n) = ⊤
 ActionFits (action.Set n) = ⊤
 
 -- without names; what has words in any way has words in each
-abbrev pub no_names : Names
-no_names = record { structs = []; variables = []; functions = [] }
+abbrev pub empty_names : Names
+empty_names = record { structs = []; variables = []; functions = [] }
 
 -- the action with these operands is an instruction
 abbrev pub IsInstruction : Action → Option ℕ → List ℕ → Type 0
-IsInstruction action to from = action_words no_names action to from ≢ []
+IsInstruction action to from = action_words empty_names action to from ≢ []
 
 abbrev pub OpFits : CodeOp → Type 0
 OpFits (Do to action from removes) =
@@ -125,14 +125,14 @@ variable_named (NamesStruct n) = []
 variable_named (NamesVariable n) = n ∷ []
 
 -- the struct, the package variable or the function of an instruction
-abbrev pub struct_in : CodeOp → List ℕ
-struct_in (Do to action from removes) = struct_named (naming_of action)
-struct_in (Call to f from passes protects removes) = []
-struct_in (Go f from passes removes) = []
-struct_in (Print pieces from removes) = []
-struct_in (Jump target removes) = []
-struct_in (Branch test target removes other otherwise) = []
-struct_in (Return value) = []
+abbrev pub struct_of_op : CodeOp → List ℕ
+struct_of_op (Do to action from removes) = struct_named (naming_of action)
+struct_of_op (Call to f from passes protects removes) = []
+struct_of_op (Go f from passes removes) = []
+struct_of_op (Print pieces from removes) = []
+struct_of_op (Jump target removes) = []
+struct_of_op (Branch test target removes other otherwise) = []
+struct_of_op (Return value) = []
 
 abbrev pub variable_in : CodeOp → List ℕ
 variable_in (Do to action from removes) = variable_named (naming_of action)
@@ -154,7 +154,7 @@ function_in (Return value) = []
 
 abbrev pub fn_structs : CodeFn → List ℕ
 fn_structs f =
-    result_uses f.result ++ (flat_map (λ s. type_uses s.ty) f.variables ++ flat_map (λ i. struct_in i.op) f.body)
+    result_uses f.result ++ (flat_map (λ s. type_uses s.ty) f.variables ++ flat_map (λ i. struct_of_op i.op) f.body)
 
 abbrev pub fn_variables : CodeFn → List ℕ
 fn_variables f = flat_map (λ i. variable_in i.op) f.body
@@ -163,12 +163,12 @@ abbrev pub fn_functions : CodeFn → List ℕ
 fn_functions f = flat_map (λ i. function_in i.op) f.body
 
 -- the numbers that the code uses, in the order of its text
-pub record Uses : Type 0 where
+pub record UsedNumbers : Type 0 where
   pub structs : List ℕ
   pub variables : List ℕ
   pub functions : List ℕ
 
-abbrev pub uses_of : Code → Uses
+abbrev pub uses_of : Code → UsedNumbers
 uses_of code = record {
   structs = flat_map (λ s. flat_map type_uses s.fields) code.structs
       ++ (flat_map (λ v. type_uses v.ty) code.variables ++ flat_map fn_structs code.functions);
@@ -177,12 +177,12 @@ uses_of code = record {
 }
 
 -- the number of the first of these names
-abbrev pub number_of : List (List ℕ) → List ℕ → ℕ
-number_of names name = position_or_len (λ known. bytes_eq known name) names
+abbrev pub number_of_name : List (List ℕ) → List ℕ → ℕ
+number_of_name names name = position_or_len (λ known. bytes_eq known name) names
 
 -- each is the number of the first one of its name
 abbrev pub AreFirst : List (List ℕ) → List ℕ → Type 0
-AreFirst names ns = All (λ n. (n < length names) × (number_of names (name_at names n) ≡ n)) ns
+AreFirst names ns = All (λ n. (n < length names) × (number_of_name names (name_at names n) ≡ n)) ns
 
 -- the names that are not known, in the order of their first use, each once
 abbrev pub unknown : (known names : List (List ℕ)) → List (List ℕ)

@@ -10,7 +10,7 @@ ghost use Rattle.rgo_code_text.specs.CodeLines as lines;
 ghost use Rattle.rgo_code_text.specs.CodeLines.{no_function, nothing, with_line, with_lines};
 ghost use Rattle.rgo_code_text.specs.Items.{ItemFits};
 ghost use Rattle.rgo_code_text.specs.Opened.{open_of, IsAligned, IsNumbered, building_of, AllAligned};
-ghost use Rattle.rgo_code_text.specs.Opened.{HasCode, HasOneMore, HasRoom, with_slot, with_instr};
+ghost use Rattle.rgo_code_text.specs.Opened.{HasCode, HasOneMore, FunctionHasRoom, with_slot, with_instr};
 ghost use Rattle.rgo_code_text.specs.Sizes.{AreFew, HaveNumbers};
 ghost use Rattle.rgo_code_text.specs.Views.{item_of, instr_of, named_slot_of};
 ghost use Rattle.rgo_code_words.specs.Views.{named_type_of};
@@ -44,7 +44,7 @@ struct Open {
     notes: Vec<Note>,
 }
 
-/// Code, as far as it is read.
+/// The code that the lines so far make.
 #[derive(Drop)]
 struct Building {
     structs: Vec<Struct>,
@@ -210,7 +210,7 @@ fn push_op(current: &mut Open, instr: Instr, named: NamedInstr<'_>) -> Result<()
 /// The next instruction of a function, with the numbers of what it names and of its lists.
 fn next_instr(tables: &Tables<'_>, current: &Open, op: &NamedOp<'_>) -> Instr
     requires names { HaveNumbers (names_now tables.now) }
-    requires room { HasRoom current.now }
+    requires room { FunctionHasRoom current.now }
     ensures { IsNumbered (names_now tables.now) op.now (length current.now.instrs.items) result }
 {
     let list = current.instrs.len() as u32;
@@ -224,7 +224,7 @@ fn add_instr(
 ) -> Result<(), AllocError>
     requires names { HaveNumbers (names_now tables.now) }
     requires aligned { IsAligned current.old }
-    requires room { HasRoom current.old }
+    requires room { FunctionHasRoom current.old }
     ensures function { OnOk result (open_of current.new
         ≡ with_instr (open_of current.old)
         (spec.numbered_instr (names_now tables.now) (instr_of named.entry) named.entry.op.name.now)) }
@@ -234,7 +234,8 @@ fn add_instr(
     push_op(current, instr, named)
 }
 
-/// A function that is not too large.
+/// The function with these parts. It cannot be too large: each variable and each instruction takes a byte of the text, which
+/// has at most `MOST_BYTES`.
 fn made(
     alloc: Global,
     name: Name,
@@ -262,7 +263,7 @@ fn made(
 
 /// A function that is complete, and what it says of regions.
 fn completed(alloc: Global, current: Open) -> Result<(TacFn, Regions), AllocError>
-    requires { HasRoom current }
+    requires { FunctionHasRoom current }
     ensures { IfOk result (λ f. code_fn f.0 f.1 ≡ open_of current) }
 {
     let Open {
@@ -298,7 +299,7 @@ fn completed(alloc: Global, current: Open) -> Result<(TacFn, Regions), AllocErro
 /// Ends the open function.
 fn close(alloc: Global, building: &mut Building) -> Result<(), AllocError>
     requires aligned { AllAligned building.old }
-    requires room { HasRoom building.old.current }
+    requires room { FunctionHasRoom building.old.current }
     ensures ended { OnOk result (building_of building.new ≡ with_line (building_of building.old) lines.End) }
     ensures aligned { OnOk result (AllAligned building.new) }
 {
@@ -318,7 +319,7 @@ fn add(
 ) -> Result<(), AllocError>
     requires names { HaveNumbers (names_now tables.now) }
     requires aligned { AllAligned building.old }
-    requires room { HasRoom building.old.current }
+    requires room { FunctionHasRoom building.old.current }
     ensures line { OnOk result (building_of building.new
         ≡ with_line (building_of building.old) (numbered (names_now tables.now) (item_of item.entry))) }
     ensures aligned { OnOk result (AllAligned building.new) }

@@ -113,7 +113,7 @@ fn slot<'t>(alloc: Global, ty: &'t [u8], word: &[u8]) -> Result<Option<NamedSlot
     }
 }
 
-/// `TYPE CLASS`, or `- -` where there is no result.
+/// `TYPE CLASS`, or `- -` for a function without a result.
 fn result<'t>(
     alloc: Global,
     ty: &'t [u8],

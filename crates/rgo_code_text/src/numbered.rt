@@ -5,7 +5,7 @@ ghost use Rattle.rgo_code_text.specs.Building as spec;
 ghost use Rattle.rgo_code_text.specs.Building.{names_now};
 ghost use Rattle.rgo_code_text.specs.Opened.{IsCopy, IsNumbered};
 ghost use Rattle.rgo_code_text.specs.Sizes.{HaveNumbers};
-ghost use Rattle.rgo_code_text.specs.Written.{number_of};
+ghost use Rattle.rgo_code_text.specs.Written.{number_of_name};
 ghost use Rattle.rgo_code_words.specs.Views.{named_type_of};
 
 use crate::numbers::{Numbers, Tables};
@@ -47,7 +47,7 @@ pub(crate) fn numbered_types(
 /// The number of a name, in 32 bits.
 fn small_number(numbers: &Numbers<'_>, name: &[u8]) -> u32
     requires { length numbers.now < 2 ^ 32 }
-    ensures { result ≡ number_of numbers.now name.now }
+    ensures { result ≡ number_of_name numbers.now name.now }
 {
     numbers.number(name) as u32
 }

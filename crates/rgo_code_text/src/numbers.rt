@@ -1,4 +1,5 @@
-//! The numbers of names: in the order of their declarations, and then of the first uses of those that are not declared.
+//! The numbers of names: in the order of their declarations, and then of the first uses of those that are not declared. A line
+//! may use what a later line declares, so all lines are read before any name gets its number.
 
 ghost use Rattle.std.specs.Prelude.{◌≡◌, ◌++◌, ◌∷◌, [], drop, length, map, OnOk, IfOk};
 ghost use Rattle.std.specs.List.{flat_map};
@@ -9,7 +10,7 @@ ghost use Rattle.rgo_code_text.specs.Building.{op_structs, op_variables, op_func
 ghost use Rattle.rgo_code_text.specs.Numbers.{with_name};
 ghost use Rattle.rgo_code_text.specs.Views.{item_of, named_slot_of, named_op_of};
 ghost use Rattle.rgo_code_words.specs.Views.{named_type_of};
-ghost use Rattle.rgo_code_text.specs.Written.{no_names, number_of};
+ghost use Rattle.rgo_code_text.specs.Written.{empty_names, number_of_name};
 
 use crate::items::{Item, NamedSlot};
 use crate::ops::NamedOp;
@@ -52,7 +53,8 @@ impl<'t> Numbers<'t> {
         }
     }
 
-    /// Adds a name, which may be there already.
+    /// Adds a name, which may be there already. Room in the list is taken first, so that the map and the list change together
+    /// or not at all.
     fn declare(&mut self, name: &'t [u8]) -> Result<(), AllocError>
         ensures { OnOk result (self.new ≡ self.old ++ name.now ∷ []) }
     {
@@ -78,9 +80,9 @@ impl<'t> Numbers<'t> {
         Ok(())
     }
 
-    /// The number of a name.
+    /// The number of a name. Callers ask for names that were declared or noted.
     pub(crate) fn number(&self, name: &[u8]) -> usize
-        ensures { result ≡ number_of self.now name.now }
+        ensures { result ≡ number_of_name self.now name.now }
     {
         match self.numbers.get(name) {
             Some(n) => *n,
@@ -213,7 +215,7 @@ fn note_all<'t>(tables: &mut Tables<'t>, items: &[Item<'t>]) -> Result<(), Alloc
 }
 
 pub(crate) fn no_tables<'t>(alloc: Global) -> Tables<'t>
-    ensures { names_now result ≡ no_names }
+    ensures { names_now result ≡ empty_names }
 {
     Tables {
         structs: Numbers::new(alloc),
@@ -237,7 +239,7 @@ pub(crate) fn number_names<'t>(
     tables: &mut Tables<'t>,
     items: &[Item<'t>],
 ) -> Result<Counts, AllocError>
-    requires { names_now tables.old ≡ no_names }
+    requires { names_now tables.old ≡ empty_names }
     ensures names { OnOk result (names_now tables.new ≡ names_in (map item_of items.now)) }
     ensures counts { IfOk result (λ counts. CountsAre counts (declared_in (map item_of items.now))) }
 {

@@ -121,7 +121,8 @@ fn is_print(text: &[u8]) -> bool
     text.starts_with(b"print ")
 }
 
-/// The operation of which these bytes are the words.
+/// The operation of which these bytes are the words. A print is tried first, since its strings may contain spaces; any other
+/// operation has at most six words.
 pub(crate) fn named_op(alloc: Global, text: &[u8]) -> Result<Option<NamedOp<'_>>, AllocError>
     ensures { IfOk result (λ r. IsRead NamedOpFits op_text text.now (option_map named_op_of r)) }
 {

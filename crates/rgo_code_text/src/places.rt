@@ -1,4 +1,5 @@
-//! Places of lines in a code text.
+//! Places of lines in a code text: which lines may be next. A line has a form only in its place, so that each text is refused at
+//! the first line with which no code continues.
 
 ghost use Rattle.std.specs.Prelude.{◌≡◌, ◌↔◌, IsTrue};
 ghost use Rattle.rgo_code_text.specs.Items as spec;

@@ -1,4 +1,5 @@
-//! Prints in a code text, as they are read.
+//! Prints in a code text, as they are read. Strings may contain spaces, so that a print is read from its two ends: the removals
+//! are its last word, and what is between is pieces.
 
 ghost use Rattle.std.specs.Prelude.{◌≡◌, ◌++◌, [], codes, IfOk};
 ghost use Rattle.std.specs.Option.{option_map};

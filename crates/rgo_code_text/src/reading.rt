@@ -7,9 +7,9 @@ ghost use Rattle.rgo_code_text.specs.declared.refusals.ReadError.TheVariants.{To
 ghost use Rattle.rgo_code_text.specs.Building.{code_of, names_now};
 ghost use Rattle.rgo_code_text.specs.Items.{ItemFits};
 ghost use Rattle.rgo_code_text.specs.Sizes.{AreFew, IsTooLarge};
-ghost use Rattle.rgo_code_text.specs.Walk.{AreItems, StepIs, StopsIn, Refuses};
+ghost use Rattle.rgo_code_text.specs.Walk.{AreItems, StepIs, StopsIn, RefusesCodeText};
 ghost use Rattle.rgo_code_text.specs.Views.{item_of};
-ghost use Rattle.rgo_code_text.specs.Written.{IsWritten, no_names};
+ghost use Rattle.rgo_code_text.specs.Written.{IsWritten, empty_names};
 
 use crate::building::code;
 use crate::items::{Item, read_item};
@@ -37,7 +37,8 @@ fn step<'t>(
     }
 }
 
-/// The items of a text's lines.
+/// The items of a text's lines. What follows the last newline has to be empty, so that a text that was cut is refused, and lines
+/// may not end where more have to follow.
 pub(crate) fn items(alloc: Global, text: &[u8]) -> Result<Vec<Item<'_>>, ReadError>
     requires { length text.now + 2 < 2 ^ 32 }
     ensures { MatchResult result (λ items. AreItems text.now (map item_of items.items)) (λ e. StopsIn text.now e) }
@@ -75,7 +76,7 @@ fn assembled<'t>(
 ) -> Result<Code, AllocError>
     requires fit { All ItemFits (map item_of items.items) }
     requires few { AreFew (map item_of items.items) }
-    requires empty { names_now tables.old ≡ no_names }
+    requires empty { names_now tables.old ≡ empty_names }
     ensures { IfOk result (λ c. c ≡ code_of (map item_of items.entry.items)) }
 {
     let counts = number_names(tables, &items)?;
@@ -95,7 +96,7 @@ fn code_in(alloc: Global, items: Vec<Item<'_>>) -> Result<Code, AllocError>
 /// The code of a text that is not too large.
 fn read_few(alloc: Global, text: &[u8]) -> Result<Code, ReadError>
     requires { length text.now + 2 < 2 ^ 32 }
-    ensures { MatchResult result (λ code. (text.now ≡ text_of code) × IsWritten code) (λ e. Refuses text.now e) }
+    ensures { MatchResult result (λ code. (text.now ≡ text_of code) × IsWritten code) (λ e. RefusesCodeText text.now e) }
 {
     let items = items(alloc, text)?;
     match code_in(alloc, items) {
@@ -104,7 +105,7 @@ fn read_few(alloc: Global, text: &[u8]) -> Result<Code, ReadError>
     }
 }
 
-/// The most bytes that a code text may have.
+/// The most bytes that a code text may have. Why: docs/DECISIONS.md, "Three-address code".
 const MOST_BYTES: usize = u32::MAX as usize - 2;
 
 /// The code of which this is the text.
@@ -114,7 +115,7 @@ const MOST_BYTES: usize = u32::MAX as usize - 2;
 /// `TooLarge` if it has 2³² - 2 bytes or more, which is known before anything is read. Else, if it is not the text of code,
 /// the number of the first line that has no form in its place; `NoMemory` on allocation failure.
 pub fn read_code(alloc: Global, text: &[u8]) -> Result<Code, ReadError>
-    ensures read { MatchResult result (λ code. (text.now ≡ text_of code) × IsWritten code) (λ e. Refuses text.now e) }
+    ensures read { MatchResult result (λ code. (text.now ≡ text_of code) × IsWritten code) (λ e. RefusesCodeText text.now e) }
     ensures large { (result ≡ Err TooLarge) ↔ IsTooLarge text.now }
 {
     if text.len() > MOST_BYTES {

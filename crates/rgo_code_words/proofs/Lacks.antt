@@ -4,7 +4,7 @@ use Rattle.std.specs.List.{All, join_with_byte, list_all}
 use Rattle.std.proofs.lemmas.Bool.Decides.{Decides-eqb, nat_tests}
 use Rattle.std.proofs.lemmas.Fmt.{decimal_by_steps}
 use Rattle.std.proofs.lemmas.List.Elements.{All-nil, All-cons, All-head, All-tail, All-append}
-use Rattle.rgo_code_words.specs.Worded.{is_name, is_word, is_word_byte, is_letter}
+use Rattle.rgo_code_words.specs.Worded.{is_name, is_word, is_code_word_byte, is_code_letter}
 
 abbrev pub Lacks : ℕ → List ℕ → Type 0
 Lacks c bytes = All (λ b. (b == c) ≡ false) bytes
@@ -95,22 +95,22 @@ pub lettered_from : (m letter k : ℕ) → m ≤ letter → m ≤ 48 → k < 2 ^
 lettered_from m letter k l h small =
     from_cons m letter (decimal k) l (from_less m 48 (decimal k) h (decimal_from k (omega (arith, small))))
 
-word_byte_from : (b : ℕ) → is_word_byte b ≡ true → 48 ≤ b
+word_byte_from : (b : ℕ) → is_code_word_byte b ≡ true → 48 ≤ b
 word_byte_from b e = grind (arith, nat_tests)
 
-letter_from : (b : ℕ) → is_letter b ≡ true → 48 ≤ b
+letter_from : (b : ℕ) → is_code_letter b ≡ true → 48 ≤ b
 letter_from b e = grind (arith, nat_tests)
 
-word_bytes_from : (bytes : List ℕ) → list_all is_word_byte bytes ≡ true → From 48 bytes
+word_bytes_from : (bytes : List ℕ) → list_all is_code_word_byte bytes ≡ true → From 48 bytes
 word_bytes_from [] e = from_nil 48
 word_bytes_from (b ∷ bytes) e =
-    let p = both_true (is_word_byte b) (list_all is_word_byte bytes) e in
+    let p = both_true (is_code_word_byte b) (list_all is_code_word_byte bytes) e in
     from_cons 48 b bytes (word_byte_from b p.0) (word_bytes_from bytes p.1)
 
 word_from : (bytes : List ℕ) → is_word bytes ≡ true → From 48 bytes
 word_from [] e = from_nil 48
 word_from (b ∷ bytes) e =
-    let p = both_true (is_letter b) (list_all is_word_byte bytes) e in
+    let p = both_true (is_code_letter b) (list_all is_code_word_byte bytes) e in
     from_cons 48 b bytes (letter_from b p.0) (word_bytes_from bytes p.1)
 
 pub name_from : (name : List ℕ) → is_name name ≡ true → From 48 name

@@ -14,11 +14,11 @@ use Rattle.rgo_code_printing.specs.Words.{value_count}
 -- ---- names
 
 -- a letter or `_`
-abbrev pub is_letter : ℕ → Bool
-is_letter b = (nat_le 65 b && nat_le b 90) || (nat_le 97 b && nat_le b 122) || b == 95
+abbrev pub is_code_letter : ℕ → Bool
+is_code_letter b = (nat_le 65 b && nat_le b 90) || (nat_le 97 b && nat_le b 122) || b == 95
 
-abbrev pub is_word_byte : ℕ → Bool
-is_word_byte b = is_letter b || (nat_le 48 b && nat_le b 57)
+abbrev pub is_code_word_byte : ℕ → Bool
+is_code_word_byte b = is_code_letter b || (nat_le 48 b && nat_le b 57)
 
 -- the keywords of Go
 abbrev pub keywords : List (List ℕ)
@@ -32,12 +32,12 @@ keywords =
 abbrev pub is_among : List (List ℕ) → List ℕ → Bool
 is_among names name = list_any (λ known. bytes_eq known name) names
 
--- a word of letters, digits and `_` that begins with no digit
+-- a word of letters, digits and `_` that does not begin with a digit
 abbrev pub is_word : List ℕ → Bool
 is_word [] = false
-is_word (b ∷ bytes) = is_letter b && list_all is_word_byte bytes
+is_word (b ∷ bytes) = is_code_letter b && list_all is_code_word_byte bytes
 
--- a word that is no keyword
+-- a word that is not a keyword
 unfoldable pub is_name : List ℕ → Bool
 is_name bytes = is_word bytes && not (is_among keywords bytes)
 

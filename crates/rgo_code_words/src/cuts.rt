@@ -39,7 +39,7 @@ pub fn cut(alloc: Global, line: &[u8], n: usize) -> Result<Vec<&[u8]>, AllocErro
     }
 }
 
-/// The word of this number.
+/// The word of this number; empty if there is none.
 pub fn word_at<'t>(words: &[&'t [u8]], n: usize) -> &'t [u8]
     ensures { result.now ≡ spec.word_at (nows words.now) n }
 {

@@ -1,4 +1,5 @@
-//! Words of a code text, as they are read: each exactly as it would be printed.
+//! Words of a code text, as they are read: each exactly as it would be printed, so that code has one text. The parser of std
+//! takes more, such as leading zeros and a sign; what it returns is printed again and compared.
 
 ghost use Rattle.std.specs.Prelude.{◌≡◌, ◌<◌, ◌^◌, ℕ, ℤ, Some, decimal};
 ghost use Rattle.std.specs.Fmt.{signed_decimal};
@@ -51,19 +52,19 @@ pub fn is(word: &[u8], text: &str) -> bool
 }
 
 fn is_letter(b: u8) -> bool
-    ensures { result ≡ spec.is_letter b }
+    ensures { result ≡ spec.is_code_letter b }
 {
     b.is_ascii_alphabetic() || b == b'_'
 }
 
 fn is_word_byte(b: u8) -> bool
-    ensures { result ≡ spec.is_word_byte b }
+    ensures { result ≡ spec.is_code_word_byte b }
 {
     is_letter(b) || b.is_ascii_digit()
 }
 
 fn are_word_bytes(bytes: &[u8]) -> bool
-    ensures { result ≡ list_all spec.is_word_byte bytes.now }
+    ensures { result ≡ list_all spec.is_code_word_byte bytes.now }
 {
     bytes.iter().all(|b| is_word_byte(*b))
 }
@@ -85,7 +86,7 @@ pub fn is_name(bytes: &[u8]) -> bool
     is_word(bytes) && !KEYWORDS.contains(&bytes)
 }
 
-/// Whether a number is printed so.
+/// Whether a number is printed as the word.
 fn is_number(word: &[u8], n: u32) -> bool
     ensures { result ≡ bytes_eq (decimal n) word.now }
 {

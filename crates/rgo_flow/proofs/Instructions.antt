@@ -6,7 +6,7 @@ use Rattle.rgo_graphs.proofs.Lists.{no_member}
 use Rattle.rgo_tac.specs.Code.{Op, Instr, TacFn}
 use Rattle.rgo_tac.specs.Flow.{reads, writes, leads_to}
 use Rattle.rgo_tac.specs.Ops.{op_in}
-use Rattle.rgo_flow.specs.Live.{read_by, written_by, led_to_by, Reads, Writes, Leads}
+use Rattle.rgo_flow.specs.Live.{read_by, written_by, led_to_by, ReadsVariable, WritesVariable, IsSuccessor}
 
 pub read_some : (i : Option Instr) (op : Op) → Some op ≡ op_in i → read_by i ≡ reads op
 read_some None op e = absurd (none-some op (sym e))
@@ -46,11 +46,11 @@ leading None at next h = absurd (no_member next h)
 leading (Some x) at next h = (x, refl)
 
 module _ (f : TacFn) (at : ℕ) where
-  pub reads_inside : (v : ℕ) → Reads f at v → at < length f.body
+  pub reads_inside : (v : ℕ) → ReadsVariable f at v → at < length f.body
   reads_inside v h = let x = reading (slice_get f.body at) v h in slice_get_within f.body at x.0 x.1
 
-  pub writes_inside : (v : ℕ) → Writes f at v → at < length f.body
+  pub writes_inside : (v : ℕ) → WritesVariable f at v → at < length f.body
   writes_inside v h = let x = writing (slice_get f.body at) v h in slice_get_within f.body at x.0 x.1
 
-  pub leads_inside : (next : ℕ) → Leads f at next → at < length f.body
+  pub leads_inside : (next : ℕ) → IsSuccessor f at next → at < length f.body
   leads_inside next h = let x = leading (slice_get f.body at) at next h in slice_get_within f.body at x.0 x.1

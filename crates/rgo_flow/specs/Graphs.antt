@@ -3,7 +3,7 @@ use Rattle.std.specs.Prelude.{◌≡◌, ◌⊎◌, ◌↔◌, ◌<◌, ◌+◌,
 use Rattle.rgo_graphs.specs.Rows.{Relates, rows_of}
 use Rattle.rgo_tac.specs.Code.{TacFn}
 use Rattle.rgo_flow.specs.declared.graphs.Graph.{Graph}
-use Rattle.rgo_flow.specs.Live.{Reads, Writes, Leads}
+use Rattle.rgo_flow.specs.Live.{ReadsVariable, WritesVariable, IsSuccessor}
 
 -- a path of n steps leads from i to a reading of v, with no writing of v before it
 abbrev pub IsReadIn : (successors reads writes : List (List ℕ)) → ℕ → ℕ → ℕ → Type 0
@@ -37,11 +37,11 @@ HasTargets row targets count = (j : ℕ) → Contains row j ↔ (Contains target
 
 -- where the instruction leads, if that is an instruction
 abbrev pub LeadsInside : TacFn → ℕ → ℕ → Type 0
-LeadsInside f i j = Leads f i j × (j < length f.body)
+LeadsInside f i j = IsSuccessor f i j × (j < length f.body)
 
 -- the rows of each instruction of a function
 pub record IsGraphOf (f : TacFn) (g : Graph) : Type 0 where
   pub graph : IsGraph g
   pub leads : (i j : ℕ) → Relates (rows_of g.successors.items) i j ↔ LeadsInside f i j
-  pub reads : (i v : ℕ) → Relates (rows_of g.reads.items) i v ↔ Reads f i v
-  pub writes : (i v : ℕ) → Relates (rows_of g.writes.items) i v ↔ Writes f i v
+  pub reads : (i v : ℕ) → Relates (rows_of g.reads.items) i v ↔ ReadsVariable f i v
+  pub writes : (i v : ℕ) → Relates (rows_of g.writes.items) i v ↔ WritesVariable f i v

@@ -4,7 +4,7 @@ use Rattle.std.specs.Prelude.{◌≡◌, ℕ, zero, suc, List, [], Option, Some,
 use Rattle.rgo_tac.specs.Code.{Instr, TacFn}
 use Rattle.rgo_tac.specs.Flow.{reads, writes, leads_to}
 
--- what an instruction reads and writes, and where it leads; nothing where there is no instruction
+-- what an instruction reads and writes, and where it leads; nothing for a number that no instruction has
 abbrev pub read_by : Option Instr → List ℕ
 read_by None = []
 read_by (Some i) = reads i.op
@@ -18,19 +18,19 @@ led_to_by at None = []
 led_to_by at (Some i) = leads_to i.op at
 
 module _ (f : TacFn) where
-  abbrev pub Reads : (at variable : ℕ) → Type 0
-  Reads at v = Contains (read_by (slice_get f.body at)) v
+  abbrev pub ReadsVariable : (at variable : ℕ) → Type 0
+  ReadsVariable at v = Contains (read_by (slice_get f.body at)) v
 
-  abbrev pub Writes : (at variable : ℕ) → Type 0
-  Writes at v = written_by (slice_get f.body at) ≡ Some v
+  abbrev pub WritesVariable : (at variable : ℕ) → Type 0
+  WritesVariable at v = written_by (slice_get f.body at) ≡ Some v
 
-  abbrev pub Leads : (at next : ℕ) → Type 0
-  Leads at next = Contains (led_to_by at (slice_get f.body at)) next
+  abbrev pub IsSuccessor : (at next : ℕ) → Type 0
+  IsSuccessor at next = Contains (led_to_by at (slice_get f.body at)) next
 
-  -- a path of so many steps leads to a reading, and no instruction before the last writes the variable
+  -- a path of n steps leads to an instruction that reads the variable, and none before it writes the variable
   abbrev pub IsReadAfter : (steps : ℕ) → (variable at : ℕ) → Type 0
-  IsReadAfter zero v at = Reads at v
-  IsReadAfter (suc n) v at = (Writes at v → ⊥) × (next : ℕ) × Leads at next × IsReadAfter n v next
+  IsReadAfter zero v at = ReadsVariable at v
+  IsReadAfter (suc n) v at = (WritesVariable at v → ⊥) × (next : ℕ) × IsSuccessor at next × IsReadAfter n v next
 
   abbrev pub Live : (variable at : ℕ) → Type 0
   Live v at = (steps : ℕ) × IsReadAfter steps v at

@@ -6,7 +6,7 @@ use Rattle.rgo_flow.specs.Uses.{IsFirstUse, IsRead, IsUnused}
 use Rattle.rgo_flow.specs.Blocks.{Blocks, IsHead, AreExits}
 use Rattle.rgo_flow.specs.Graphs.{LiveAt}
 
--- s is the first instruction of the block of one of the points, and this is the first use in that block
+-- s is the first instruction of a block that has one of the points, and this is the first use in that block
 pub record HeadUses (points : List ℕ) (wanted : FirstUse) (readers writers first last : List ℕ) (s : ℕ) : Type 0 where
   pub point : ℕ
   pub among : Contains points point

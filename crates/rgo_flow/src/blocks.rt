@@ -1,4 +1,5 @@
-//! Basic blocks.
+//! Basic blocks: runs of instructions that are entered at the first only and left at the last only. Liveness is solved
+//! between blocks, which are far fewer than instructions.
 
 ghost use Rattle.std.specs.Prelude.{◌≡◌, ◌<◌, ◌≤◌, ◌+◌, ◌↔◌, ◌∷◌, [], List, ◌^◌, ℕ, Bool, true, false, length, vec_len, Contains, slice_index, slice_index_or, IfOk};
 ghost use Rattle.rgo_graphs.specs.Rows.{IsTransposed, Relates, rows_of};
@@ -13,6 +14,7 @@ fn is_one(row: &[u32], x: usize) -> bool
     row.len() == 1 && row[0] as usize == x
 }
 
+/// Whether an instruction and the next one are in one block: each has no other neighbour on that side.
 fn joins_at(successors: &[Vec<u32>], before: &[Vec<u32>], i: usize) -> bool
     requires inside { i < length successors.now }
     requires size { length before.now ≡ length successors.now }
@@ -38,6 +40,7 @@ fn joins(
     Ok(joins)
 }
 
+/// The last instruction of the block of each, from the end backwards.
 fn lasts(alloc: Global, joins: &[bool]) -> Result<Vec<u32>, AllocError>
     requires few { length joins.now < 2 ^ 32 }
     ensures { IfOk result (λ last. Lasts joins.now last.items) }
@@ -55,6 +58,7 @@ fn lasts(alloc: Global, joins: &[bool]) -> Result<Vec<u32>, AllocError>
     Ok(lasts)
 }
 
+/// The first instruction of the block of each.
 fn firsts(alloc: Global, joins: &[bool]) -> Result<Vec<u32>, AllocError>
     requires few { length joins.now < 2 ^ 32 }
     ensures { IfOk result (λ first. Firsts joins.now first.items) }
@@ -81,6 +85,7 @@ pub struct Parts {
     pub exits: Vec<Vec<u32>>,
 }
 
+/// What follows the block that begins at this instruction; nothing if none begins there.
 fn exit_row(
     alloc: Global,
     successors: &[Vec<u32>],

@@ -3,7 +3,7 @@
 ghost use Rattle.std.specs.Prelude.{◌≡◌, ◌+◌, ◌↔◌, ◌<◌, ◌^◌, ℕ, Some, length, Contains, OnOk, IfOk};
 ghost use Rattle.rgo_graphs.specs.Rows.{Relates, rows_of};
 ghost use Rattle.rgo_tac.specs.Flow.{variables_of, targets_of};
-ghost use Rattle.rgo_flow.specs.Live.{Reads, Writes};
+ghost use Rattle.rgo_flow.specs.Live.{ReadsVariable, WritesVariable};
 ghost use Rattle.rgo_flow.specs.Graphs.{AddsTarget, HasTargets, IsGraphOf, LeadsInside};
 
 use rgo_tac::{ReadVariables, TacFn, Targets, leads_to, reads, writes};
@@ -66,6 +66,7 @@ fn variable_row(alloc: Global, variables: ReadVariables<'_>) -> Result<Vec<u32>,
     Ok(row)
 }
 
+/// The rows of an instruction, here and below. Numbers are those of instructions, so that there is an operation to ask.
 fn successor_row(alloc: Global, function: &TacFn, at: usize) -> Result<Vec<u32>, AllocError>
     ensures { IfOk result (λ row. (j : ℕ) → Contains row.items j ↔ LeadsInside function.now at j) }
 {
@@ -76,7 +77,7 @@ fn successor_row(alloc: Global, function: &TacFn, at: usize) -> Result<Vec<u32>,
 }
 
 fn read_row(alloc: Global, function: &TacFn, at: usize) -> Result<Vec<u32>, AllocError>
-    ensures { IfOk result (λ row. (v : ℕ) → Contains row.items v ↔ Reads function.now at v) }
+    ensures { IfOk result (λ row. (v : ℕ) → Contains row.items v ↔ ReadsVariable function.now at v) }
 {
     match function.op(at) {
         Some(op) => variable_row(alloc, reads(op)),
@@ -85,7 +86,7 @@ fn read_row(alloc: Global, function: &TacFn, at: usize) -> Result<Vec<u32>, Allo
 }
 
 fn written_at(function: &TacFn, at: usize) -> Option<u32>
-    ensures { (v : ℕ) → (result ≡ Some v) ↔ Writes function.now at v }
+    ensures { (v : ℕ) → (result ≡ Some v) ↔ WritesVariable function.now at v }
 {
     match function.op(at) {
         Some(op) => writes(op),
@@ -94,7 +95,7 @@ fn written_at(function: &TacFn, at: usize) -> Option<u32>
 }
 
 fn write_row(alloc: Global, function: &TacFn, at: usize) -> Result<Vec<u32>, AllocError>
-    ensures { IfOk result (λ row. (v : ℕ) → Contains row.items v ↔ Writes function.now at v) }
+    ensures { IfOk result (λ row. (v : ℕ) → Contains row.items v ↔ WritesVariable function.now at v) }
 {
     let mut row = Vec::new(alloc);
     if let Some(variable) = written_at(function, at) {

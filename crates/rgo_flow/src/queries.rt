@@ -8,6 +8,7 @@ ghost use Rattle.rgo_flow.specs.Table.{IsLive};
 use crate::table::Liveness;
 use crate::uses::{FirstUse, first_use, next_from};
 
+/// Whether a point is among these, which ascend.
 fn has(points: &[u32], point: u32) -> bool
     requires ascending { IsAscending points.now }
     requires point { point + 1 < 2 ^ 32 }
@@ -17,6 +18,7 @@ fn has(points: &[u32], point: u32) -> bool
     next_from(points, point) == point
 }
 
+/// Whether one of the blocks of a row is among the solved ones.
 fn enters(row: &[u32], solved: &[u32]) -> bool
     requires ascending { IsAscending solved.now }
     requires row { (j : ℕ) → Contains row.now j → j + 1 < 2 ^ 32 }
@@ -31,7 +33,8 @@ fn enters(row: &[u32], solved: &[u32]) -> bool
     false
 }
 
-/// Whether a variable that is read and written at these points is live into an instruction.
+/// Whether a variable that is read and written at these points is live into an instruction. Its first use in the rest of the
+/// block decides; without one, whether it is live into a block that may follow.
 fn live_by(
     exits: &[Vec<u32>],
     first: u32,
@@ -58,7 +61,8 @@ fn live_by(
 }
 
 impl Liveness {
-    /// Whether a variable is live into an instruction.
+    /// Whether a variable is live into an instruction. A variable is not if nothing reads or writes it, nor is any into an
+    /// instruction that the function does not have.
     pub fn is_live(&self, point: u32, variable: u32) -> bool
         ensures yes { result ≡ true → IsLive self.now variable point }
         ensures no { IsLive self.now variable point → result ≡ true }

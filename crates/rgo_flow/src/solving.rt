@@ -1,4 +1,5 @@
-//! The blocks that variables are live into.
+//! The blocks that variables are live into: for each variable a search backwards from the blocks that read it first, which
+//! stops at those that write it first.
 
 ghost use Rattle.std.specs.Prelude.{◌≡◌, ◌<◌, ◌≤◌, ◌+◌, ◌↔◌, ◌^◌, ◌⊎◌, ℕ, List, All, true, length, vec_len, Contains, slice_index, IfOk, OnOk};
 ghost use Rattle.rgo_graphs.specs.Rows.{AllAscending, IsAscending, IsTransposed, Relates, row_at, rows_of};
@@ -19,7 +20,7 @@ fn is_first_use(wanted: FirstUse, readers: &[u32], writers: &[u32], head: u32, l
     first_use(readers, writers, head, last) == wanted
 }
 
-/// The blocks among those of the points that go one wanted.
+/// The blocks of these points in which the first use of the variable is the wanted one.
 fn heads(
     alloc: Global,
     points: &[u32],
@@ -47,6 +48,7 @@ fn heads(
     Ok(heads)
 }
 
+/// In ascending order, in which queries search.
 fn sorted(mut row: Vec<u32>) -> Vec<u32>
     ensures ascending { IsAscending result.items }
     ensures same { (x : ℕ) → Contains result.items x ↔ Contains row.items x }
@@ -55,7 +57,8 @@ fn sorted(mut row: Vec<u32>) -> Vec<u32>
     row
 }
 
-/// The blocks that a variable, read and written at these points, is live into.
+/// The blocks that a variable, read and written at these points, is live into. The stamp is new for each variable, so that the
+/// marks of earlier searches need not be cleared.
 fn solve(
     alloc: Global,
     before: &[Vec<u32>],

@@ -13,6 +13,8 @@ pub enum FirstUse {
     Unused,
 }
 
+/// The first of these ascending points that is not before `from`. Without one it is a number that no instruction has, since a
+/// function has at most 2³² - 2.
 pub fn next_from(points: &[u32], from: u32) -> u32
     requires ascending { IsAscending points.now }
     ensures { IsNext points.now from result }
@@ -25,7 +27,8 @@ pub fn next_from(points: &[u32], from: u32) -> u32
     }
 }
 
-/// What the instructions from one to another do with a variable that is read and written at these.
+/// What the instructions from one to another do first with a variable that is read and written at these. An instruction that
+/// does both reads first.
 pub fn first_use(readers: &[u32], writers: &[u32], from: u32, to: u32) -> FirstUse
     requires readers { IsAscending readers.now }
     requires writers { IsAscending writers.now }

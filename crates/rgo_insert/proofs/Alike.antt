@@ -6,8 +6,8 @@ use Rattle.rgo_tac.specs.declared.regions.Class.TheVariants.{Name}
 use Rattle.rgo_flow.specs.Live.{Live}
 use Rattle.rgo_code.specs.Code.{CodeFn, CodeOp}
 use Rattle.rgo_code.specs.Erasure.{erased_fn, erased_op}
-use Rattle.rgo_code.specs.Exists.{Uses}
-use Rattle.rgo_code.specs.Names.{callee_regions, callee_result, class_of, distinct_names, parameter_classes, region_parameters, result_class, slot_class, Holds, IsLiveName, IsOwn, IsParameterName, IsPassedForResult, IsPassedTwice, Names}
+use Rattle.rgo_code.specs.Exists.{UsesVariable}
+use Rattle.rgo_code.specs.Names.{callee_regions, callee_result, class_of, distinct_names, parameter_classes, region_parameters, result_class, slot_class, Holds, IsLiveName, IsOwn, IsParameterName, IsPassedForResult, IsPassedTwice, UsesRegionName}
 
 pub record AreAlike (f g : CodeFn) : Type 0 where
   pub params : f.params ≡ g.params
@@ -57,10 +57,10 @@ module _ (f g : CodeFn) (like : AreAlike f g) where
   parameter_to : (k : ℕ) → IsParameterName f k → IsParameterName g k
   parameter_to k h = subst (λ l. Contains l (Name k)) same_parameters h
 
-  names_to : (o p : CodeOp) → erased_op o ≡ erased_op p → (k : ℕ) → Names f o k → Names g p k
+  names_to : (o p : CodeOp) → erased_op o ≡ erased_op p → (k : ℕ) → UsesRegionName f o k → UsesRegionName g p k
   names_to o p same k u = record {
     variable = u.variable;
-    used = subst (λ x. Uses x u.variable) same u.used;
+    used = subst (λ x. UsesVariable x u.variable) same u.used;
     named = sym (same_class u.variable) ∙ u.named;
   }
 
@@ -90,7 +90,7 @@ module _ (f g : CodeFn) (like : AreAlike f g) where
   pub parameter_name : (k : ℕ) → IsParameterName f k ↔ IsParameterName g k
   parameter_name k = (λ h. parameter_to f g like k h, λ h. parameter_to g f back k h)
 
-  pub names : (o p : CodeOp) → erased_op o ≡ erased_op p → (k : ℕ) → Names f o k ↔ Names g p k
+  pub names : (o p : CodeOp) → erased_op o ≡ erased_op p → (k : ℕ) → UsesRegionName f o k ↔ UsesRegionName g p k
   names o p same k = (λ h. names_to f g like o p same k h, λ h. names_to g f back p o (sym same) k h)
 
   pub needed : (k i : ℕ) (passes : List Class)

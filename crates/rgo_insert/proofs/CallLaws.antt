@@ -11,23 +11,23 @@ use Rattle.rgo_classes.specs.declared.classes.Summary.{Summary}
 use Rattle.rgo_classes.specs.Classes.{AreClasses, InOneClass}
 use Rattle.rgo_classes.specs.Joins.{IsPointerLike, Joins}
 use Rattle.rgo_classes.proofs.Chains.{contains}
-use Rattle.rgo_summaries.specs.Calls.{Called, callee_at, member, passed}
-use Rattle.rgo_summaries.specs.Names.{Names}
+use Rattle.rgo_summaries.specs.Calls.{CallParts, callee_at, member, passed}
+use Rattle.rgo_summaries.specs.Names.{SummaryNames}
 use Rattle.rgo_summaries.proofs.Naming.{InOne, together}
 use Rattle.rgo_summaries.proofs.Outer.{place, some_get}
 use Rattle.rgo_summaries.proofs.Standing.{Together, joined_by_call}
 use Rattle.rgo_code.specs.declared.notes.Regions.{Regions}
-use Rattle.rgo_code.specs.ClassRules.{IsPassedFor, Passes}
+use Rattle.rgo_code.specs.ClassRules.{IsPassedFor, PassesClasses}
 use Rattle.rgo_code.specs.Code.{CodeFn}
 use Rattle.rgo_code.specs.Names.{class_of, member_class, region_parameters}
 use Rattle.rgo_code.specs.Views.{code_fn}
 use Rattle.rgo_insert.specs.Bare.{classes_by}
-use Rattle.rgo_insert.specs.Passing.{actual_classes, formal_classes, ArePassed}
+use Rattle.rgo_insert.specs.Passing.{actual_classes, formal_classes, AreClassesPassed}
 use Rattle.rgo_insert.proofs.Formals.{actual_at, formal_at, formal_is, slots_long}
 use Rattle.rgo_insert.proofs.Members.{Placed, agree, class_in, global_of_class, like_of_class, placed_of_class, same_of_class, some_type}
 
 -- a call that fits its callee: arguments for its parameters, of their types, and a target for its result
-pub record CallFits (f g : TacFn) (call : Called) : Type 0 where
+pub record CallFits (f g : TacFn) (call : CallParts) : Type 0 where
   pub arguments : length call.from ≡ g.params
   pub params : g.params ≤ length g.variables
   pub target : (ty : «Type») → g.result_type ≡ Some ty → (d : ℕ) × (call.to ≡ Some d)
@@ -35,8 +35,8 @@ pub record CallFits (f g : TacFn) (call : Called) : Type 0 where
 
 module _ (code : Tac) (sums : List Summary) (f g : TacFn) (rf rg : Regions)
     (f_are : AreClasses sums f (classes_by rf)) (g_are : AreClasses sums g (classes_by rg))
-    (s : Summary) (names : Names (InOne sums g) g s)
-    (at : ℕ) (call : Called) (here : callee_at code f at ≡ Some (call, g))
+    (s : Summary) (names : SummaryNames (InOne sums g) g s)
+    (at : ℕ) (call : CallParts) (here : callee_at code f at ≡ Some (call, g))
     (known : slice_get sums call.function ≡ Some s)
     (fits : CallFits f g call) where
   abbrev caller : CodeFn
@@ -78,7 +78,7 @@ module _ (code : Tac) (sums : List Summary) (f g : TacFn) (rf rg : Regions)
       (joined_by_call code sums f at call g s m n (Variable v) b here known t e h own like))
 
   module _ (passes : List Class)
-      (are : ArePassed (formal_classes callee) (actual_classes caller call.to call.from) (region_parameters callee)
+      (are : AreClassesPassed (formal_classes callee) (actual_classes caller call.to call.from) (region_parameters callee)
       passes) where
     -- a member whose class has a name is passed a variable
     actual_of : (m k : ℕ) → 0 < m → m < g.params + 2 → class_there m ≡ class.Name k
@@ -125,7 +125,7 @@ module _ (code : Tac) (sums : List Summary) (f g : TacFn) (rf rg : Regions)
         named : class.Name k ≡ class.NoClass → ⊥
         named e = cc
 
-    pub passes_right : Passes caller callee call.to call.from passes
+    pub passes_right : PassesClasses caller callee call.to call.from passes
     passes_right = record {
       len = are.len;
       arguments = λ i v less e.

@@ -13,7 +13,7 @@ use Rattle.rgo_classes.proofs.Chains.{contains}
 use Rattle.rgo_summaries.proofs.Standing.{joined_own, pointer_like_joined}
 use Rattle.rgo_code.specs.declared.notes.Note.{Note}
 use Rattle.rgo_code.specs.declared.notes.Regions.{Regions}
-use Rattle.rgo_code.specs.ClassRules.{Agree, GlobalsAgree, JoinsAgree, OpAgrees, ResultFits, ReturnsAgree, SlotFits}
+use Rattle.rgo_code.specs.ClassRules.{Agree, GlobalsAgree, JoinsAgree, OpAgrees, ResultFits, ReturnsAgree, SlotClassFitsType}
 use Rattle.rgo_code.specs.Code.{CodeFn, CodeOp, Slot, Do, Call, Go, Print, Jump, Branch, Return}
 use Rattle.rgo_code.specs.Erasure.{erased_op}
 use Rattle.rgo_code.specs.Views.{code_fn, code_op, slot}
@@ -52,7 +52,7 @@ returns_agree f (Return value) h = h
 module _ (sums : List Summary) (f : TacFn) (r : Regions) (are : AreClasses sums f (classes_by r)) where
   -- ---- a class exactly where the type is pointer-like
 
-  pub slot_fits : (v : ℕ) (s : Slot) → slice_get (code_fn f r).variables v ≡ Some s → SlotFits s
+  pub slot_fits : (v : ℕ) (s : Slot) → slice_get (code_fn f r).variables v ≡ Some s → SlotClassFitsType s
   slot_fits v s e =
       let found = slot_found f r v s e in
       let p = variable_placed sums f r are v s.ty found.0 in (

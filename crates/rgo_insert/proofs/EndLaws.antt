@@ -21,10 +21,10 @@ use Rattle.rgo_code.specs.declared.notes.Note.{Note}
 use Rattle.rgo_code.specs.declared.notes.Regions.{Regions}
 use Rattle.rgo_code.specs.ClassRules.{EntryIsKnown}
 use Rattle.rgo_code.specs.Code.{CodeFn}
-use Rattle.rgo_code.specs.Exists.{Uses}
+use Rattle.rgo_code.specs.Exists.{UsesVariable}
 use Rattle.rgo_code.specs.Names.{class_of, parameter_classes, result_class, Holds}
 use Rattle.rgo_code.specs.NameRules.{CreatesUsed, HoldsNothing}
-use Rattle.rgo_code.specs.Types.{HasType}
+use Rattle.rgo_code.specs.Types.{VariableHasType}
 use Rattle.rgo_code.specs.Views.{code_fn, code_instr, slots}
 use Rattle.rgo_code.proofs.Erased.{fn_erased, op_erased}
 use Rattle.rgo_region_sets.proofs.Merges.{found}
@@ -52,7 +52,7 @@ entry_known f r params first k h =
 module _ (sums : List Summary) (f : TacFn) (r : Regions) (are : AreClasses sums f (classes_by r))
     (i : ℕ) (plain : Instr) (here : slice_get f.body i ≡ Some plain) (value : Option ℕ)
     (returns : plain.op ≡ Return value)
-    (typed : (v : ℕ) → value ≡ Some v → (t : «Type») × (f.result_type ≡ Some t) × HasType f v t) where
+    (typed : (v : ℕ) → value ≡ Some v → (t : «Type») × (f.result_type ≡ Some t) × VariableHasType f v t) where
   abbrev own : CodeFn
   own = code_fn f r
 
@@ -94,10 +94,10 @@ module _ (sums : List Summary) (f : TacFn) (r : Regions) (are : AreClasses sums 
       let live = subst (λ g. Live g v i) (fn_erased f r) h.1.live in
       h.0 (returned v k (live_here live.0 v live.1) h.1.named)
 
-  uses_value : (v : ℕ) → Uses plain.op v → value ≡ Some v
-  uses_value v u = by (subst (λ o. Uses o v) returns u)
+  uses_value : (v : ℕ) → UsesVariable plain.op v → value ≡ Some v
+  uses_value v u = by (subst (λ o. UsesVariable o v) returns u)
     where
-      by : Uses (Return value) v → value ≡ Some v
+      by : UsesVariable (Return value) v → value ≡ Some v
       by u = ⊎_elim (λ c. value_read value v c) (λ e. absurd (none-some v e)) u
 
   pub ends : (m : Note) → CreatesUsed own i (code_instr plain m) → HoldsNothing own i (code_instr plain m)
@@ -105,6 +105,6 @@ module _ (sums : List Summary) (f : TacFn) (r : Regions) (are : AreClasses sums 
     creates = nothing_in m.creates (λ k c.
         let p = (used k).0 c in
         p.0 (returned p.1.variable k
-        (uses_value p.1.variable (subst (λ o. Uses o p.1.variable) (op_erased plain.op m) p.1.used)) p.1.named));
+        (uses_value p.1.variable (subst (λ o. UsesVariable o p.1.variable) (op_erased plain.op m) p.1.used)) p.1.named));
     holds = holds_nothing;
   }

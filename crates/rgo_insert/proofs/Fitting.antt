@@ -9,11 +9,11 @@ use Rattle.rgo_tac.specs.declared.regions.Member.TheVariants.{Variable}
 use Rattle.rgo_tac.specs.Code.{TacFn, Tac, Go}
 use Rattle.rgo_tac.specs.Joins.{is_pointer_like_type}
 use Rattle.rgo_classes.specs.Joins.{IsPointerLike}
-use Rattle.rgo_summaries.specs.Calls.{Called, member, passed}
+use Rattle.rgo_summaries.specs.Calls.{CallParts, member, passed}
 use Rattle.rgo_summaries.proofs.Outer.{some_get}
-use Rattle.rgo_code.specs.Exists.{CallExists, StartExists, signature_of}
+use Rattle.rgo_code.specs.Exists.{CallExists, StartExists, tac_signature}
 use Rattle.rgo_code.specs.TypedCode.{StartFits}
-use Rattle.rgo_code.specs.Types.{ArgumentsFit, HaveTypes, HasType, TargetFits}
+use Rattle.rgo_code.specs.Types.{ArgumentsFit, VariablesHaveTypes, VariableHasType, TargetFits}
 use Rattle.rgo_insert.proofs.CallLaws.{CallFits}
 use Rattle.rgo_insert.proofs.Formals.{variable_is}
 use Rattle.rgo_insert.proofs.Members.{some_type}
@@ -29,7 +29,7 @@ typed_by None t e = absurd (none-some t e)
 typed_by (Some ty) t e = same_Some (Some ty) t e
 
 -- an argument has the type of its parameter
-argument_type : (f g : TacFn) (from : List ℕ) → HaveTypes f from (signature_of g).params → (i v : ℕ)
+argument_type : (f g : TacFn) (from : List ℕ) → VariablesHaveTypes f from (tac_signature g).params → (i v : ℕ)
     → slice_get from i ≡ Some v → slice_get (take g.params g.variables) i ≡ slice_get f.variables v
 argument_type f g from have i v e =
     typed_by (slice_get (take g.params g.variables) i) (slice_get f.variables v)
@@ -38,13 +38,13 @@ argument_type f g from have i v e =
     ∙ slice_get-map (slice_get f.variables) from i ∙ ap (option_map (slice_get f.variables)) e)
 
 module _ (f g : TacFn) (n : ℕ) (to : Option ℕ) (from : List ℕ) where
-  abbrev call : Called
+  abbrev call : CallParts
   call = record { to = to; function = n; from = from }
 
   module _ (arguments : length from ≡ g.params) (params : g.params ≤ length g.variables)
       (target : (ty : «Type») → g.result_type ≡ Some ty → (d : ℕ) × (to ≡ Some d))
-      (have : HaveTypes f from (signature_of g).params)
-      (returned : (d : ℕ) (ty : «Type») → to ≡ Some d → g.result_type ≡ Some ty → HasType f d ty) where
+      (have : VariablesHaveTypes f from (tac_signature g).params)
+      (returned : (d : ℕ) (ty : «Type») → to ≡ Some d → g.result_type ≡ Some ty → VariableHasType f d ty) where
     within : (i v : ℕ) → slice_get from i ≡ Some v → i < length (take g.params g.variables)
     within i v e =
         omega (arith, slice_get_within from i v e, arguments, length-take-le g.params g.variables params)

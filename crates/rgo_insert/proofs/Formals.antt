@@ -8,7 +8,7 @@ use Rattle.rgo_typed.specs.declared.types.Type.{«Type»}
 use Rattle.rgo_tac.specs.declared.regions.Class.{Class}
 use Rattle.rgo_tac.specs.declared.regions.Class.TheVariants.{NoClass}
 use Rattle.rgo_tac.specs.declared.regions.Member.TheVariants.{Variable}
-use Rattle.rgo_summaries.specs.Calls.{Called, member, passed}
+use Rattle.rgo_summaries.specs.Calls.{CallParts, member, passed}
 use Rattle.rgo_summaries.proofs.Outer.{get_last, get_left, place}
 use Rattle.rgo_code.specs.Code.{CodeFn, Slot}
 use Rattle.rgo_code.specs.Names.{class_of, member_class, parameter_classes, result_class, slot_class}
@@ -82,7 +82,7 @@ pub variable_is : (o : Option ℕ) (v : ℕ) → option_map Variable o ≡ Some 
 variable_is None v e = absurd (none-some (Variable v) e)
 variable_is (Some w) v e = let same : w ≡ v = cc in ap Some same
 
-module _ (f : CodeFn) (params : ℕ) (call : Called) (len : length call.from ≡ params) where
+module _ (f : CodeFn) (params : ℕ) (call : CallParts) (len : length call.from ≡ params) where
   abbrev actuals : List Class
   actuals = actual_classes f call.to call.from
 

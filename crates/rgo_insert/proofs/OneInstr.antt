@@ -13,7 +13,7 @@ use Rattle.rgo_code.specs.ClassRules.{CallPasses, CallsPass, StartPasses, Starts
 use Rattle.rgo_code.specs.Code.{Code, CodeFn, CodeInstr, CodeOp, Do, Call, Go, Print, Jump, Branch, Return}
 use Rattle.rgo_code.specs.Erasure.{erased_instr, erased_op}
 use Rattle.rgo_code.specs.Lists.{passes_of}
-use Rattle.rgo_code.specs.Names.{edges, result_class, Gives, Holds, IsLiveName, IsPassedForResult, IsPassedTwice}
+use Rattle.rgo_code.specs.Names.{edges, result_class, LeavesToCallee, Holds, IsLiveName, IsPassedForResult, IsPassedTwice}
 use Rattle.rgo_code.specs.NameRules.{protected_names, CreatesUsed, InstrAscends, MayRemove, ProtectsUsed, RemovesDead}
 use Rattle.rgo_region_sets.proofs.SameLists.{same_list}
 use Rattle.rgo_insert.proofs.Alike.{AreAlike, AreLikeCallees, holds, names, needed, own, passed_for_result}
@@ -108,7 +108,7 @@ Given functions (tac.Call to n from) passes protects k =
 Given functions op passes protects k = ⊥
 
 given_is : (code : Code) (op : CodeOp) (k : ℕ)
-    → Gives code op k ↔ Given code.functions (erased_op op) (passes_of op) (protected_names op) k
+    → LeavesToCallee code op k ↔ Given code.functions (erased_op op) (passes_of op) (protected_names op) k
 given_is code (Do to action from removes) k = (λ g. g, λ g. g)
 given_is code (Call to n from passes protects removes) k = (λ g. g, λ g. g)
 given_is code (Go n from passes removes) k = (λ g. g, λ g. g)
@@ -224,7 +224,7 @@ module _ (a b : Code) (f g : CodeFn) (i : ℕ) (x y : CodeInstr) (like : AreAlik
         (subst (λ l. Given b.functions (erased_op y.op) (passes_of y.op) l k) (sym same_protects) h)),
   )
 
-  same_gives : (k : ℕ) → Gives a x.op k ↔ Gives b y.op k
+  same_gives : (k : ℕ) → LeavesToCallee a x.op k ↔ LeavesToCallee b y.op k
   same_gives k =
       let p = given_is a x.op k in
       let q = given_is b y.op k in

@@ -6,9 +6,9 @@ use Rattle.std.proofs.lemmas.Option.{same_Some, none-some, slice_get_within}
 use Rattle.rgo_tac.specs.declared.regions.Class.{Class}
 use Rattle.rgo_tac.specs.declared.regions.Class.TheVariants.{Name}
 use Rattle.rgo_tac.specs.declared.regions.Member.TheVariants.{Variable}
-use Rattle.rgo_summaries.specs.Calls.{Called, member, passed}
+use Rattle.rgo_summaries.specs.Calls.{CallParts, member, passed}
 use Rattle.rgo_summaries.proofs.Outer.{some_get}
-use Rattle.rgo_code.specs.ClassRules.{IsPassedFor, Passes}
+use Rattle.rgo_code.specs.ClassRules.{IsPassedFor, PassesClasses}
 use Rattle.rgo_code.specs.Code.{CodeFn, Slot}
 use Rattle.rgo_code.specs.Names.{class_of, member_class, region_parameters, slot_class}
 use Rattle.rgo_insert.specs.Passing.{formal_classes}
@@ -27,7 +27,7 @@ lists_same (x ∷ xs) (y ∷ ys) e same =
     ∙ ap (λ zs. y ∷ zs) (lists_same xs ys (omega (arith, e)) (λ n. same (suc n)))
 
 -- what a call passes for the members of its callee
-pub record IsCalled (callee : CodeFn) (call : Called) : Type 0 where
+pub record IsCalled (callee : CodeFn) (call : CallParts) : Type 0 where
   pub arguments : length call.from ≡ callee.params
   pub params : callee.params ≤ length callee.variables
   pub target : is_some call.to ≡ is_some callee.result
@@ -43,7 +43,7 @@ slot_there None k e = absurd cc
 slot_there (Some s) k e = (s, refl)
 
 -- a member whose class has a name is passed a variable
-actual_of : (callee : CodeFn) (call : Called) (is : IsCalled callee call) (m k : ℕ) → 0 < m → m < callee.params + 2
+actual_of : (callee : CodeFn) (call : CallParts) (is : IsCalled callee call) (m k : ℕ) → 0 < m → m < callee.params + 2
     → member_class callee (member m) ≡ Name k → (v : ℕ) × (passed call m ≡ Some (Variable v))
 actual_of callee call is zero k some outer e = absurd (omega (arith, some))
 actual_of callee call is (suc zero) k some outer e =
@@ -55,7 +55,7 @@ actual_of callee call is (suc (suc i)) k some outer e =
     (a.0, ap (option_map Variable) a.1)
 
 -- what is passed for a member
-for_member : (f callee : CodeFn) (call : Called) (passes : List Class) → Passes f callee call.to call.from passes
+for_member : (f callee : CodeFn) (call : CallParts) (passes : List Class) → PassesClasses f callee call.to call.from passes
     → (m v : ℕ) → m < callee.params + 2 → passed call m ≡ Some (Variable v)
     → IsPassedFor (region_parameters callee) passes (member_class callee (member m)) (class_of f v)
 for_member f callee call passes p zero v outer e = absurd cc
@@ -69,9 +69,9 @@ for_name : (regions passes : List Class) (c : Class) (k : ℕ) (actual : Class) 
     → slice_get passes p ≡ Some actual
 for_name regions passes c k actual e h = subst (λ x. IsPassedFor regions passes x actual) e h
 
-module _ (f g one other : CodeFn) (call : Called) (like : AreAlike f g) (callees : AreAlike one other)
+module _ (f g one other : CodeFn) (call : CallParts) (like : AreAlike f g) (callees : AreAlike one other)
     (is : IsCalled one call) where
-  pub one_passing : (x y : List Class) → Passes f one call.to call.from x → Passes g other call.to call.from y → x ≡ y
+  pub one_passing : (x y : List Class) → PassesClasses f one call.to call.from x → PassesClasses g other call.to call.from y → x ≡ y
   one_passing x y px py =
       lists_same x y (px.len ∙ ap length (same_regions one other callees) ∙ sym py.len) (λ p c d at_x at_y.
       let within = slice_get_within x p c at_x in

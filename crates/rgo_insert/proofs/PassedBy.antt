@@ -7,9 +7,9 @@ use Rattle.std.proofs.lemmas.List.{length-map}
 use Rattle.std.proofs.lemmas.Option.{same_Some, none-some, slice_get-map, slice_get_within}
 use Rattle.rgo_tac.specs.declared.regions.Class.{Class}
 use Rattle.rgo_tac.specs.declared.regions.Class.TheVariants.{NoClass, Name}
-use Rattle.rgo_code.specs.Names.{is_name}
+use Rattle.rgo_code.specs.Names.{is_class_named}
 use Rattle.rgo_region_sets.proofs.Passed.{is_name_is, is_name_same}
-use Rattle.rgo_insert.specs.Passing.{chosen, passed_by, passed_for, AddsActual, AreActuals, ArePassed}
+use Rattle.rgo_insert.specs.Passing.{chosen, passed_by, passed_for, AddsActual, AreActuals, AreClassesPassed}
 
 module _ {S : Type 0} (old new : HashMap ℕ Class S) (name : ℕ) (actual : Class)
     (here : get nat_eq new name ≡ Some actual)
@@ -30,9 +30,9 @@ module _ {S : Type 0} (old new : HashMap ℕ Class S) (formals actuals : List Cl
 
   pub more_actuals : AreActuals new formals actuals (n + 1)
   more_actuals = record {
-    sound = λ k class e. sound_by k class (is_name k formal) refl (sym (adds k) ∙ e);
+    sound = λ k class e. sound_by k class (is_class_named k formal) refl (sym (adds k) ∙ e);
     complete = λ i k less e none. ⊎_elim
-        (λ before. kept (is_name k formal) k (are.complete i k before e) (sym (adds k) ∙ none))
+        (λ before. kept (is_class_named k formal) k (are.complete i k before e) (sym (adds k) ∙ none))
         (λ later. now k (same_Some formal (Name k) (sym at ∙ ap (slice_get formals) (same_place i less later) ∙ e))
         (sym (adds k) ∙ none))
         (cases_lt i n);
@@ -41,8 +41,8 @@ module _ {S : Type 0} (old new : HashMap ℕ Class S) (formals actuals : List Cl
       same_place : (i : ℕ) → i < n + 1 → n ≤ i → n ≡ i
       same_place i less later = omega (arith, less, later)
 
-      sound_by : (k : ℕ) (class : Class) (b : Bool) → is_name k formal ≡ b
-          → chosen (is_name k formal) actual (get nat_eq old k) ≡ Some class
+      sound_by : (k : ℕ) (class : Class) (b : Bool) → is_class_named k formal ≡ b
+          → chosen (is_class_named k formal) actual (get nat_eq old k) ≡ Some class
           → (i : ℕ) × (slice_get formals i ≡ Some (Name k)) × (get_or actuals i NoClass ≡ class)
       sound_by k class true is e = (
         n,
@@ -56,13 +56,13 @@ module _ {S : Type 0} (old new : HashMap ℕ Class S) (formals actuals : List Cl
       kept true k some none = none-some actual (sym none)
       kept false k some none = some none
 
-      now : (k : ℕ) → formal ≡ Name k → chosen (is_name k formal) actual (get nat_eq old k) ≡ None → ⊥
+      now : (k : ℕ) → formal ≡ Name k → chosen (is_class_named k formal) actual (get nat_eq old k) ≡ None → ⊥
       now k is none =
           none-some actual (sym none ∙ ap (λ b. chosen b actual (get nat_eq old k)) (is_name_same k formal is))
 
 module _ {S : Type 0} (found : HashMap ℕ Class S) (formals actuals regions : List Class)
     (are : AreActuals found formals actuals (length formals)) where
-  pub all_passed : ArePassed formals actuals regions (map (passed_by found) regions)
+  pub all_passed : AreClassesPassed formals actuals regions (map (passed_by found) regions)
   all_passed = record {
     len = length-map regions (passed_by found);
     each = λ p i k region formal.

@@ -5,7 +5,7 @@ use Rattle.std.specs.Prelude.{if◌then◌else◌}
 use Rattle.std.proofs.lemmas.Option.{same_Some, none-some}
 use Rattle.rgo_tac.specs.declared.regions.Class.{Class}
 use Rattle.rgo_tac.specs.declared.regions.Class.TheVariants.{NoClass, Global, Name}
-use Rattle.rgo_code.specs.Names.{distinct_names, is_name}
+use Rattle.rgo_code.specs.Names.{distinct_names, is_class_named}
 
 pub record IsNameOf (classes : List Class) (c : Class) : Type 0 where
   pub name : ℕ
@@ -22,7 +22,7 @@ name_of_one seen [] p c e = absurd (none-some c e)
 name_of_one seen (NoClass ∷ classes) p c e = later NoClass classes c (name_of_one seen classes p c e)
 name_of_one seen (Global ∷ classes) p c e = later Global classes c (name_of_one seen classes p c e)
 name_of_one seen (Name k ∷ classes) p c e =
-    by (list_any (is_name k) seen) p (name_of_one seen classes p c) (λ q. name_of_one (Name k ∷ seen) classes q c) e
+    by (list_any (is_class_named k) seen) p (name_of_one seen classes p c) (λ q. name_of_one (Name k ∷ seen) classes q c) e
   where
     by : (b : Bool) (q : ℕ) → (slice_get (distinct_names seen classes) q ≡ Some c → IsNameOf classes c)
         → ((r : ℕ) → slice_get (distinct_names (Name k ∷ seen) classes) r ≡ Some c → IsNameOf classes c)

@@ -10,12 +10,12 @@ use Rattle.rgo_flow.specs.Live.{led_to_by}
 use Rattle.rgo_code.specs.declared.notes.Note.{Note}
 use Rattle.rgo_code.specs.declared.notes.Regions.{Regions}
 use Rattle.rgo_code.specs.Code.{Code, CodeFn}
-use Rattle.rgo_code.specs.Names.{edges, Gives, Holds}
+use Rattle.rgo_code.specs.Names.{edges, LeavesToCallee, Holds}
 use Rattle.rgo_code.specs.NameRules.{protected_names, CreatesUsed, EntryLendsResult, EntryRemovesDead, InstrAscends, LendsResult, MayRemove, ProtectsUsed, RemovesDead}
 use Rattle.rgo_code.specs.Views.{code_instr, code_op}
 use Rattle.rgo_code.proofs.Erased.{fn_erased}
 use Rattle.rgo_region_sets.specs.Asked as asked
-use Rattle.rgo_region_sets.specs.Asked.{AreRemoved, Creates, EntryRemoves, IsGiven, Protects, way}
+use Rattle.rgo_region_sets.specs.Asked.{AreRemoved, Creates, EntryRemoves, Protects, way}
 use Rattle.rgo_region_sets.specs.Sets.{IsSet}
 use Rattle.rgo_insert.specs.Filled.{GivesFor, IsRight, ProtectsFor}
 use Rattle.rgo_insert.proofs.Alike.{AreAlike, AreLikeCallees, holds, needed, passed_for_result}
@@ -37,7 +37,7 @@ module _ (f : TacFn) (b : Regions) (entry : List ℕ) (notes : List Note) where
   module _ (bares : List CodeFn) (code : Code)
       (like : (n : ℕ) → AreLikeCallees (slice_get bares n) (slice_get code.functions n)) where
     given_is : (op : Op) (m : Note) (gives : List ℕ) → GivesFor bares op m.passes m.protects gives
-        → (k : ℕ) → Contains gives k ↔ Gives code (code_op op m) k
+        → (k : ℕ) → Contains gives k ↔ LeavesToCallee code (code_op op m) k
     given_is (Do to action from) m gives e k =
         (λ h. no_member k (subst (λ l. Contains l k) e h), λ h. absurd h)
     given_is (Call to n from) m gives e k =

@@ -6,7 +6,7 @@ use Rattle.rgo_tac.specs.Code.{Instr, TacFn}
 use Rattle.rgo_code.specs.declared.notes.Note.{Note}
 use Rattle.rgo_code.specs.declared.notes.Regions.{Regions}
 use Rattle.rgo_code.specs.Code.{CodeFn, CodeInstr, Slot}
-use Rattle.rgo_code.specs.Names.{class_of, slot_class, Names}
+use Rattle.rgo_code.specs.Names.{class_of, slot_class, UsesRegionName}
 use Rattle.rgo_code.specs.Views.{code_fn, code_instr, code_op, no_note, slots}
 use Rattle.rgo_code.proofs.Erased.{fn_erased, op_erased, types_erased}
 use Rattle.rgo_code.proofs.Parts.{instr_at}
@@ -64,7 +64,7 @@ module _ (f : TacFn) (b : Regions) (entry : List ℕ) (notes : List Note) where
 
   -- what instruction i uses
   pub uses : (i : ℕ) (plain : Instr) (n : Note) → slice_get f.body i ≡ Some plain → (k : ℕ)
-      → UsesName before (slice_get before.body i) k ↔ Names after (code_op plain.op n) k
+      → UsesName before (slice_get before.body i) k ↔ UsesRegionName after (code_op plain.op n) k
   uses i plain n here k =
       let m = get_or b.notes i no_note in
       let at : slice_get before.body i ≡ Some (code_instr plain m) =

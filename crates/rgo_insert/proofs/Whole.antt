@@ -7,7 +7,7 @@ use Rattle.rgo_typed.specs.declared.programs.Variable.{Variable}
 use Rattle.rgo_tac.specs.Code.{Op, Instr, TacFn, Tac, Do, Call, Go, Print, Jump, Branch, Return}
 use Rattle.rgo_classes.specs.declared.classes.Summary.{Summary}
 use Rattle.rgo_classes.specs.Classes.{AreClasses}
-use Rattle.rgo_summaries.specs.Calls.{Called, call_of}
+use Rattle.rgo_summaries.specs.Calls.{CallParts, call_of}
 use Rattle.rgo_summaries.specs.Families.{IsFamily}
 use Rattle.rgo_summaries.proofs.Naming.{names_of}
 use Rattle.rgo_summaries.proofs.Outer.{some_get}
@@ -19,12 +19,12 @@ use Rattle.rgo_code.specs.declared.rules.Line.TheVariants as line
 use Rattle.rgo_code.specs.declared.rules.Rule.{Rule}
 use Rattle.rgo_code.specs.declared.rules.Rule.TheVariants as rule
 use Rattle.rgo_code.specs.Checked.{IsChecked, KeptAfterLast, KeptByEnd, KeptByEntry, KeptByHead, KeptByInstr, KeptBySlot, KeptByStruct, KeptByVariable}
-use Rattle.rgo_code.specs.ClassRules.{CallsPass, CallPasses, OpAgrees, Passes, StartsPass, StartPasses}
+use Rattle.rgo_code.specs.ClassRules.{CallsPass, CallPasses, OpAgrees, PassesClasses, StartsPass, StartPasses}
 use Rattle.rgo_code.specs.Code.{Code, CodeFn, CodeInstr, Slot}
 use Rattle.rgo_code.specs.Erasure.{erased, erased_fn, erased_op}
 use Rattle.rgo_code.specs.NameRules.{Ascends, CreatesUsed, FnAscends, InstrAscends, ReturnsHoldNothing}
 use Rattle.rgo_code.specs.TypedCode.{IsTypedCode, IsTypedFn, IsTypedInstr, StartFits}
-use Rattle.rgo_code.specs.Types.{OpFits}
+use Rattle.rgo_code.specs.Types.{IsWellTypedOp}
 use Rattle.rgo_code.specs.Exists.{HasMain, HeadExists, InstrExists, StructExists, TypeExists, VariableExists}
 use Rattle.rgo_code.specs.Views.{code_body, code_fn, code_fns, code_instr, code_of, code_op, no_note, slot}
 use Rattle.rgo_code.proofs.Erased.{erasure_is_code, fn_erased, op_erased}
@@ -121,11 +121,11 @@ module _ (tac : Tac) (typed : IsTypedCode tac) (sums : List Summary) (family : I
           (subst (λ o. P tac f o) (sym (op_erased plain.op note)) h))
 
       -- a call or a start passes what its callee asks for
-      passes_by : (call : Called) (g : TacFn) → call_of plain.op ≡ Some call
+      passes_by : (call : CallParts) (g : TacFn) → call_of plain.op ≡ Some call
           → (known : slice_get tac.functions call.function ≡ Some g) → CallFits f g call
           → ArePassedTo (code_fn f p.b) (slice_get bares call.function) call.to call.from note.passes
           → (q : Part tac.functions sums bare filled are_bare are call.function g)
-          → Passes function (code_fn g (told q.b q.r.entry q.r.notes)) call.to call.from note.passes
+          → PassesClasses function (code_fn g (told q.b q.r.entry q.r.notes)) call.to call.from note.passes
       passes_by call g calls known fits passed q =
           let s = some_get sums call.function
           (omega (arith, slice_get_within tac.functions call.function g known, family.len)) in
@@ -139,7 +139,7 @@ module _ (tac : Tac) (typed : IsTypedCode tac) (sums : List Summary) (family : I
       calls_pass (Do to action from) e = tt
       calls_pass (Call to callee from) e =
           let exists = (subst (InstrExists tac f i) e typed_instr.exists).exists in
-          let fit = subst (OpFits tac f) e typed_instr.fits in
+          let fit = subst (IsWellTypedOp tac f) e typed_instr.fits in
           let q = part tac.functions sums bare filled are_bare are callee exists.callee exists.declared in
           let params = (typed.functions callee exists.callee exists.declared).head.params in
           let fits = call_fits tac f exists.callee callee exists.declared params to from exists fit.0 fit.1 in
@@ -158,7 +158,7 @@ module _ (tac : Tac) (typed : IsTypedCode tac) (sums : List Summary) (family : I
       starts_pass (Call to callee from) e = tt
       starts_pass (Go callee from) e =
           let exists = (subst (InstrExists tac f i) e typed_instr.exists).exists in
-          let fit = subst (OpFits tac f) e typed_instr.fits in
+          let fit = subst (IsWellTypedOp tac f) e typed_instr.fits in
           let start = subst (StartFits tac) e typed_instr.start in
           let q = part tac.functions sums bare filled are_bare are callee exists.callee exists.declared in
           let params = (typed.functions callee exists.callee exists.declared).head.params in
@@ -189,14 +189,14 @@ module _ (tac : Tac) (typed : IsTypedCode tac) (sums : List Summary) (family : I
       returns_hold_nothing (Branch test target other) e = tt
       returns_hold_nothing (Return value) e =
           ends sums f own p.classes i plain here value e
-          (λ v is. subst (OpFits tac f) (e ∙ ap Return is) typed_instr.fits) note used
+          (λ v is. subst (IsWellTypedOp tac f) (e ∙ ap Return is) typed_instr.fits) note used
 
       agrees : OpAgrees function instr.op
       agrees = op_agrees sums f own p.classes i plain note here
 
       kept_by_instr : (which : Rule) → KeptByInstr code which function i instr
       kept_by_instr rule.Exists = viewed (λ c g o. InstrExists c g i o) typed_instr.exists
-      kept_by_instr rule.Types = viewed (λ c g o. OpFits c g o) typed_instr.fits
+      kept_by_instr rule.Types = viewed (λ c g o. IsWellTypedOp c g o) typed_instr.fits
       kept_by_instr rule.Classes = tt
       kept_by_instr rule.Joins = joins_agree function instr.op agrees
       kept_by_instr rule.Globals = globals_agree function instr.op agrees

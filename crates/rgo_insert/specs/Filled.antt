@@ -12,7 +12,7 @@ use Rattle.rgo_region_sets.specs.Asked.{AreRemoved, Creates, EntryRemoves, IsGiv
 use Rattle.rgo_region_sets.specs.Sets.{IsSet}
 use Rattle.rgo_insert.specs.Passing.{PassesFor}
 
--- a call protects what the rule asks for, and nothing else protects
+-- a call protects what the rule asks for, and no other instruction protects any name
 abbrev pub ProtectsFor : CodeFn → (at : ℕ) → Op → (passes : List Class) → (protects : List ℕ) → Type 0
 ProtectsFor f at (Call to n from) passes protects = IsSet protects (Protects f at passes)
 ProtectsFor f at (Do to action from) passes protects = protects ≡ []
@@ -22,7 +22,7 @@ ProtectsFor f at (Jump target) passes protects = protects ≡ []
 ProtectsFor f at (Branch test target other) passes protects = protects ≡ []
 ProtectsFor f at (Return value) passes protects = protects ≡ []
 
--- a call leaves these to its callee, and nothing else leaves any
+-- a call leaves these names to its callee, and no other instruction leaves any
 abbrev pub GivesFor : List CodeFn → Op → (passes : List Class) → (protects gives : List ℕ) → Type 0
 GivesFor functions (Call to n from) passes protects gives =
     IsSet gives (IsGiven (slice_get functions n) passes protects)

@@ -12,7 +12,8 @@ HaveSameClasses a b =
     (n : ℕ) (f g : CodeFn) → slice_get a.functions n ≡ Some f → slice_get b.functions n ≡ Some g
     → classes_in f ≡ classes_in g
 
--- Of one three-address code with the same classes there is one code that keeps the rules.
+-- Two codes that keep the rules, with ascending lists, are equal if they have the same three-address code, undeclared names
+-- and classes.
 abbrev pub OneCode : Type 0
 OneCode =
     (a b : Code) → IsChecked a → IsChecked b → Ascends a → Ascends b → erased a ≡ erased b

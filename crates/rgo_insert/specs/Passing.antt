@@ -5,7 +5,7 @@ use Rattle.rgo_tac.specs.declared.regions.Class.{Class}
 use Rattle.rgo_tac.specs.declared.regions.Class.TheVariants.{NoClass, Name, Global}
 use Rattle.rgo_tac.specs.Code.{Op, Call, Go, Do, Print, Jump, Branch, Return}
 use Rattle.rgo_code.specs.Code.{CodeFn}
-use Rattle.rgo_code.specs.Names.{class_of, is_name, parameter_classes, region_parameters, result_class}
+use Rattle.rgo_code.specs.Names.{class_of, is_class_named, parameter_classes, region_parameters, result_class}
 
 -- the classes of the callee's parameters, then that of its result
 abbrev pub formal_classes : CodeFn → List Class
@@ -20,7 +20,7 @@ abbrev pub actual_classes : CodeFn → (to : Option ℕ) → (from : List ℕ) �
 actual_classes f to from = map (class_of f) from ++ target_class f to ∷ []
 
 -- for each region parameter, the class of an actual for a formal of this class
-pub record ArePassed (formals actuals regions passes : List Class) : Type 0 where
+pub record AreClassesPassed (formals actuals regions passes : List Class) : Type 0 where
   pub len : length passes ≡ length regions
   pub each : (p i k : ℕ) → slice_get regions p ≡ Some (Name k) → slice_get formals i ≡ Some (Name k)
       → (j : ℕ) × (slice_get formals j ≡ Some (Name k)) × (slice_get passes p ≡ Some (get_or actuals j NoClass))
@@ -29,7 +29,7 @@ abbrev pub ArePassedTo : (f : CodeFn) → (callee : Option CodeFn) → (to : Opt
     → Type 0
 ArePassedTo f None to from passes = passes ≡ []
 ArePassedTo f (Some callee) to from passes =
-    ArePassed (formal_classes callee) (actual_classes f to from) (region_parameters callee) passes
+    AreClassesPassed (formal_classes callee) (actual_classes f to from) (region_parameters callee) passes
 
 -- what an instruction passes, where the functions are these
 abbrev pub PassesFor : List CodeFn → CodeFn → Op → List Class → Type 0
@@ -48,9 +48,9 @@ abbrev pub chosen : Bool → Class → Option Class → Option Class
 chosen true class other = Some class
 chosen false class other = other
 
--- a formal is given its actual
+-- a formal gets its actual
 abbrev pub AddsActual : {S : Type 0} → HashMap ℕ Class S → HashMap ℕ Class S → (formal actual : Class) → Type 0
-AddsActual old new formal actual = (k : ℕ) → get nat_eq new k ≡ chosen (is_name k formal) actual (get nat_eq old k)
+AddsActual old new formal actual = (k : ℕ) → get nat_eq new k ≡ chosen (is_class_named k formal) actual (get nat_eq old k)
 
 -- the map has an actual for each name among the first formals
 pub record AreActuals {S : Type 0} (found : HashMap ℕ Class S) (formals actuals : List Class) (count : ℕ) : Type 0 where

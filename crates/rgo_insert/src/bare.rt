@@ -1,4 +1,5 @@
-//! Functions with their classes, of which nothing else is said yet.
+//! Functions with their classes, of which nothing else is said yet. A call passes regions by the classes of its callee, so the
+//! classes of all functions are known before any note is made.
 
 ghost use Rattle.std.specs.Prelude.{◌≡◌, length, slice_get, IfOk};
 ghost use Rattle.rgo_classes.specs.Classes.{AreClasses};

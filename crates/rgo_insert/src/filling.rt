@@ -28,6 +28,7 @@ fn notes_of(
     for at in 0..f.tac().len() {
         match f.tac().op(at) {
             Some(op) => notes.push(note_of(alloc, functions, f, live, at, op)?)?,
+            // Each number of the loop is that of an instruction.
             None => {}
         }
     }

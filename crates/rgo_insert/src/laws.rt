@@ -2,7 +2,7 @@
 
 ghost use Rattle.rgo_insert.specs.Laws.{OneCode};
 
-/// Of one three-address code, with the same classes, there is one code that keeps the rules.
+/// Two codes that keep the rules are equal if they have the same three-address code and the same classes.
 pub fn one_code()
     ensures { OneCode }
 {}

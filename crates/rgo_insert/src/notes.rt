@@ -65,7 +65,8 @@ fn gives_of(
     }
 }
 
-/// The note of an instruction.
+/// The note of an instruction. What it removes depends on what it leaves to its callee, and that on what it passes and
+/// protects, hence the order.
 pub(crate) fn note_of(
     alloc: Global,
     functions: &Bare<'_>,

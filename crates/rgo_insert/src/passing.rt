@@ -4,7 +4,7 @@ ghost use Rattle.std.specs.Prelude.{◌≡◌, Some, length, get_or, slice_get, 
 ghost use Rattle.rgo_tac.specs.declared.regions.Class.TheVariants.{NoClass};
 ghost use Rattle.rgo_tac.specs.Ops.{operation_of};
 ghost use Rattle.rgo_insert.specs.Passing as spec;
-ghost use Rattle.rgo_insert.specs.Passing.{AddsActual, AreActuals, ArePassed, ArePassedTo, PassesFor};
+ghost use Rattle.rgo_insert.specs.Passing.{AddsActual, AreActuals, AreClassesPassed, ArePassedTo, PassesFor};
 
 use crate::bare::Bare;
 use rgo_code::{Class, CodeFn};
@@ -70,7 +70,8 @@ fn add_actual(
     }
 }
 
-/// For each name among the formals, the class of one of its actuals. All of them have one class.
+/// For each name among the formals, the class of its last actual. All its actuals have one class, since classes join what is
+/// passed for one class of the callee.
 fn actuals_by_name(
     alloc: Global,
     formals: &[Class],
@@ -100,7 +101,7 @@ fn passes_for(
     actuals: &[Class],
     regions: &[Class],
 ) -> Result<Vec<Class>, AllocError>
-    ensures { IfOk result (λ passes. ArePassed formals.now actuals.now regions.now passes.items) }
+    ensures { IfOk result (λ passes. AreClassesPassed formals.now actuals.now regions.now passes.items) }
 {
     let found = actuals_by_name(alloc, formals, actuals)?;
     let mut passes = Vec::new(alloc);

@@ -18,6 +18,7 @@ use rgo_tac::Tac;
 use rgo_typed::Row;
 use std::alloc::{AllocError, Global};
 
+/// A program declares every name that its code uses.
 fn nothing_undeclared(alloc: Global) -> Undeclared
     ensures { result ≡ bare.nothing_undeclared }
 {
@@ -41,7 +42,7 @@ fn regions_of(alloc: Global, code: &Tac, summaries: &Summaries) -> Result<Vec<Re
     all_filled(alloc, functions, &bare)
 }
 
-/// A copy of the code, with these regions.
+/// A copy of the code, with these regions. The caller keeps its own, without regions.
 fn with_regions(alloc: Global, code: &Tac, regions: Vec<Regions>) -> Result<Code, AllocError>
     requires ascends { Ascends (code_of code.now bare.nothing_undeclared regions.items) }
     requires len { vec_len regions ≡ length code.now.functions }

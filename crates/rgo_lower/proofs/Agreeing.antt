@@ -8,7 +8,7 @@ use Rattle.rgo_typed.specs.declared.types.Type.{«Type»}
 use Rattle.rgo_typed.specs.Tree as tree
 use Rattle.rgo_typed.specs.Tree.{Term, Terms, Function}
 use Rattle.rgo_tac.specs.Code.{Op, Do, Call, TacFn}
-use Rattle.rgo_lower.specs.Lowered.{Point, after_value, after, OpAt, ActionAt, Scope, found, bool, pointer_to}
+use Rattle.rgo_lower.specs.Lowered.{Point, after_value, next_point, OpAt, ActionAt, LoweringScope, variable_of_local, bool_type, pointer_type}
 use Rattle.rgo_lower.specs.Lowered.{logic_branch, StoresAt, TermAt, TermsAt}
 use Rattle.rgo_simulation.proofs.Together.{some_injective}
 
@@ -59,7 +59,7 @@ module _ (f g : TacFn) where
   -- one instruction
   pub one : (p p2 : Point) (op op2 : Op) (place : ℕ) → p2 ≡ p → op2 ≡ op → OpAt f p.instr op place
       → OpAt g p2.instr op2 place
-      → Agree p (after p)
+      → Agree p (next_point p)
   one p p2 op op2 place at same x y = record {
     instrs = λ i from to.
         subst (λ j. slice_get g.body j ≡ slice_get f.body j) (sym (only p.instr i from to))
@@ -108,12 +108,12 @@ module _ (f g : TacFn) where
     }
     stores_same object object2 o (k ∷ fields) (d ∷ ds) (d2 ∷ ds2) e place p p2 at q q2 x y =
         let rest =
-        stores_same object object2 o fields ds ds2 (tail_same d d2 ds ds2 e) place (after p) (after p2) (ap after at) q q2
+        stores_same object object2 o fields ds ds2 (tail_same d d2 ds ds2 e) place (next_point p) (next_point p2) (ap next_point at) q q2
         x.1 y.1 in
         record {
           last = rest.last;
           code =
-              then p (after p) q
+              then p (next_point p) q
               (one p p2 _ _ place at (λ i. Do None (Store k) (o i ∷ head_same d d2 ds ds2 e i ∷ [])) x.0 y.0) rest.code;
         }
     stores_same object object2 o [] [] (d2 ∷ ds2) e place p p2 at q q2 x y = absurd y
@@ -121,11 +121,11 @@ module _ (f g : TacFn) where
     stores_same object object2 o _ _ ds2 e place p p2 at q q2 x y = absurd x
 
     mutual
-      pub term_same : (t : Term) (scope scope2 : Scope) → scope2 ≡ scope → (p p2 : Point) → p2 ≡ p
+      pub term_same : (t : Term) (scope scope2 : LoweringScope) → scope2 ≡ scope → (p p2 : Point) → p2 ≡ p
           → (d d2 : ℕ) (q q2 : Point) → TermAt functions f scope t p d q → TermAt functions g scope2 t p2 d2 q2
           → SameTerm p d d2 q q2
       term_same (tree.Local n) scope scope2 s p p2 at d d2 q q2 x y = record {
-        value = some_injective d2 d (sym y.0 ∙ ap (λ z. found z n) s ∙ x.0);
+        value = some_injective d2 d (sym y.0 ∙ ap (λ z. variable_of_local z n) s ∙ x.0);
         last = along q p q2 p2 x.1 y.1 at;
         code = nothing p q x.1;
       }
@@ -143,20 +143,20 @@ module _ (f g : TacFn) where
           let a = term_same left scope scope2 s p p2 at x.0 y.0 x.1 y.1 x.2 y.2 in
           let mid : Point = after_value x.1 in
           let b =
-          term_same right scope scope2 s (after mid) (after (after_value y.1)) (ap (λ z. after (after_value z)) a.last)
+          term_same right scope scope2 s (next_point mid) (next_point (after_value y.1)) (ap (λ z. next_point (after_value z)) a.last)
           x.4 y.4 x.5 y.5 x.7 y.7 in
           record {
             value = along d x.1.variable d2 y.1.variable x.9 y.9 (ap (λ (z : Point). z.variable) a.last);
-            last = along q (after x.5) q2 (after y.5) x.10 y.10 (ap after b.last);
+            last = along q (next_point x.5) q2 (next_point y.5) x.10 y.10 (ap next_point b.last);
             code =
-                ends p (after x.5) q
-                (then p x.1 (after x.5) a.code
-                (then x.1 mid (after x.5)
-                (one_action x.1 y.1 Copy (x.0 ∷ []) (y.0 ∷ []) bool place a.last (ap (λ z. z ∷ []) a.value) x.3 y.3)
-                (then mid (after mid) (after x.5)
+                ends p (next_point x.5) q
+                (then p x.1 (next_point x.5) a.code
+                (then x.1 mid (next_point x.5)
+                (one_action x.1 y.1 Copy (x.0 ∷ []) (y.0 ∷ []) bool_type place a.last (ap (λ z. z ∷ []) a.value) x.3 y.3)
+                (then mid (next_point mid) (next_point x.5)
                 (one mid (after_value y.1) _ _ place (ap after_value a.last)
                 (λ i. logic_branch logic ((a.last i).variable) ((a.last i).instr + 2) ((b.last i).instr + 1)) x.6 y.6)
-                (then (after mid) x.5 (after x.5) b.code
+                (then (next_point mid) x.5 (next_point x.5) b.code
                 (one x.5 y.5 _ _ place b.last (λ i. Do (Some ((a.last i).variable)) Copy (b.value i ∷ [])) x.8 y.8)))))
                 x.10;
           }
@@ -172,7 +172,7 @@ module _ (f g : TacFn) where
             code =
                 then p x.1 q a.code
                 (then x.1 (after_value x.1) q
-                (one_action x.1 y.1 (New n) [] [] (pointer_to n) place a.last refl x.3 y.3) b.code);
+                (one_action x.1 y.1 (New n) [] [] (pointer_type n) place a.last refl x.3 y.3) b.code);
           }
       term_same (tree.Call n arguments ty place) scope scope2 s p p2 at d d2 q q2 x y =
           let a = terms_same arguments scope scope2 s p p2 at x.0 y.0 x.1 y.1 x.2 y.2 in
@@ -187,7 +187,7 @@ module _ (f g : TacFn) where
                 x.7;
           }
 
-      pub terms_same : (ts : Terms) (scope scope2 : Scope) → scope2 ≡ scope → (p p2 : Point) → p2 ≡ p
+      pub terms_same : (ts : Terms) (scope scope2 : LoweringScope) → scope2 ≡ scope → (p p2 : Point) → p2 ≡ p
           → (ds ds2 : List ℕ) (q q2 : Point) → TermsAt functions f scope ts p ds q
           → TermsAt functions g scope2 ts p2 ds2 q2
           → SameTerm p ds ds2 q q2

@@ -10,9 +10,9 @@ use Rattle.rgo_typed.specs.Views.{stmt_of}
 use Rattle.rgo_wellformed.specs.WellFormed.{InScope, is_in_scope, Environment, in_a_loop, HasType, IsCondition, AreStmts, scope_after}
 use Rattle.rgo_tac.specs.Code.{Jump}
 use Rattle.rgo_lower.specs.declared.builder.Loop.{Loop}
-use Rattle.rgo_lower.specs.Lowered.{Point, after, OpAt, Scope, Target, bool, TestAt, ConditionAt, StmtsAt}
-use Rattle.rgo_lower.specs.Emitted.{Made, point_of, slot, with_placed, Grown, Whole, Completes, OpIsAdded, decides, jump_to}
-use Rattle.rgo_lower.specs.Emitted.{Knows, TermIsEmitted, Leads, environment_of, StmtIsEmitted, StmtsAreEmitted, TestIsEmitted, ConditionIsEmitted}
+use Rattle.rgo_lower.specs.Lowered.{Point, next_point, OpAt, LoweringScope, Target, bool_type, TestAt, ConditionAt, StmtsAt}
+use Rattle.rgo_lower.specs.Emitted.{BuilderParts, point_of, slot, with_placed, Grown, Whole, Completes, OpIsAdded, decides, jump_to}
+use Rattle.rgo_lower.specs.Emitted.{ScopeHasSlots, TermIsEmitted, AreLoopTargets, environment_of, StmtIsEmitted, StmtsAreEmitted, TestIsEmitted, ConditionIsEmitted}
 use Rattle.rgo_lower.specs.Shapes.{stmt_fits, stmts_fit}
 use Rattle.rgo_lower.specs.Sizes.{stmt_size, stmts_size}
 use Rattle.rgo_lower.proofs.Growing.{grown_same, grown_trans, earlier}
@@ -32,7 +32,7 @@ stays (tree.Declare m ty value place) g n h = or_true (nat_eq m n) (is_in_scope 
 stays (tree.Zero m ty place) g n h = or_true (nat_eq m n) (is_in_scope g n) h
 stays _ g n h = h
 
-pub none_emitted : (innermost : Option Loop) (a : Made) → StmtsAreEmitted tree.no_stmts innermost a a
+pub none_emitted : (innermost : Option Loop) (a : BuilderParts) → StmtsAreEmitted tree.no_stmts innermost a a
 none_emitted innermost a = record {
   grown = grown_same a;
   size = omega arith;
@@ -41,7 +41,7 @@ none_emitted innermost a = record {
   code = λ w in_loop g scope targets typed leads knows all. (scope, (refl, refl));
 }
 
-pub more_emitted : (s : Stmt) (all : Stmts) (innermost : Option Loop) (a b c : Made) → StmtIsEmitted s innermost a b
+pub more_emitted : (s : Stmt) (all : Stmts) (innermost : Option Loop) (a b c : BuilderParts) → StmtIsEmitted s innermost a b
     → StmtsAreEmitted all innermost b c → StmtsAreEmitted (tree.a_stmt s all) innermost a c
 more_emitted s all innermost a b c h hs = record {
   grown = grown_trans a b c h.grown hs.grown;
@@ -58,7 +58,7 @@ more_emitted s all innermost a b c h hs = record {
 abbrev all_stmts : List CodeStmt → Stmts
 all_stmts l = stmts_of (map stmt_of l)
 
-pub next_emitted : (items : List CodeStmt) (i : ℕ) (x : CodeStmt) (innermost : Option Loop) (a b new : Made)
+pub next_emitted : (items : List CodeStmt) (i : ℕ) (x : CodeStmt) (innermost : Option Loop) (a b new : BuilderParts)
     → i < length items → x ≡ get_or items i x → StmtIsEmitted (stmt_of x) innermost a b
     → StmtsAreEmitted (stmts_of (map stmt_of (drop (i + 1) items))) innermost b new
     → StmtsAreEmitted (stmts_of (map stmt_of (drop i items))) innermost a new
@@ -87,12 +87,12 @@ next_fits locals in_loop items i x lt is h =
     ∙ ap (λ z. stmt_fits locals in_loop (stmt_of z) && stmts_fit locals in_loop rest) (sym is) in
     sides (stmt_fits locals in_loop (stmt_of x)) (stmts_fit locals in_loop rest) (sym more ∙ h)
 
-pub end_emitted : (items : List CodeStmt) (i : ℕ) (innermost : Option Loop) (a : Made) → length items ≤ i
+pub end_emitted : (items : List CodeStmt) (i : ℕ) (innermost : Option Loop) (a : BuilderParts) → length items ≤ i
     → StmtsAreEmitted (stmts_of (map stmt_of (drop i items))) innermost a a
 end_emitted items i innermost a le =
     subst (λ z. StmtsAreEmitted z innermost a a) (sym (at_drop_all all_stmts items i le)) (none_emitted innermost a)
 
-pub block_emitted : (all : Stmts) (innermost : Option Loop) (a b : Made) → StmtsAreEmitted all innermost a b
+pub block_emitted : (all : Stmts) (innermost : Option Loop) (a b : BuilderParts) → StmtsAreEmitted all innermost a b
     → StmtIsEmitted (tree.Block all) innermost a b
 block_emitted all innermost a b h = record {
   grown = h.grown;
@@ -109,17 +109,17 @@ block_emitted all innermost a b h = record {
 
 -- ---- conditions
 
-pub test_emitted : (t : Term) (d other place : ℕ) (a b c : Made) → TermIsEmitted t a d b
+pub test_emitted : (t : Term) (d other place : ℕ) (a b c : BuilderParts) → TermIsEmitted t a d b
     → OpIsAdded b (decides And d (length b.lines + 1) other) place c → TestIsEmitted t other place a c
 test_emitted t d other place a b c h o = record {
   grown = grown_trans a b c h.grown o.grown;
   size = omega (arith, h.size, o.size);
   slots = o.slots ∙ h.slots;
   code = λ w g scope typed knows all.
-      (d, point_of b, h.code w g bool scope typed knows (earlier w b c o.grown all), o.instr w all, o.point);
+      (d, point_of b, h.code w g bool_type scope typed knows (earlier w b c o.grown all), o.instr w all, o.point);
 }
 
-pub no_condition : (other place : ℕ) (a : Made) → ConditionIsEmitted None other place a a
+pub no_condition : (other place : ℕ) (a : BuilderParts) → ConditionIsEmitted None other place a a
 no_condition other place a = record {
   grown = grown_same a;
   size = omega arith;
@@ -127,7 +127,7 @@ no_condition other place a = record {
   code = λ w in_loop g scope typed knows all. refl;
 }
 
-pub condition_emitted : (t : Term) (other place : ℕ) (a b : Made) → TestIsEmitted t other place a b
+pub condition_emitted : (t : Term) (other place : ℕ) (a b : BuilderParts) → TestIsEmitted t other place a b
     → ConditionIsEmitted (Some t) other place a b
 condition_emitted t other place a b h = record {
   grown = h.grown;
@@ -138,7 +138,7 @@ condition_emitted t other place a b h = record {
 
 -- ---- if
 
-module _ (test : Term) (body : Stmts) (place end : ℕ) (innermost : Option Loop) (a b c d e : Made)
+module _ (test : Term) (body : Stmts) (place end : ℕ) (innermost : Option Loop) (a b c d e : BuilderParts)
     (label : Fresh a end b) (branch : TestIsEmitted test end place b c) (inside : StmtsAreEmitted body innermost c d)
     (is : e ≡ with_placed d end) where
   if_ends : Placed d end e
@@ -152,8 +152,8 @@ module _ (test : Term) (body : Stmts) (place end : ℕ) (innermost : Option Loop
   if_kept env g typed n h =
       ap (λ z. get_or z n 0) if_ends.slots ∙ inside.kept env g typed n h ∙ ap (λ z. get_or z n 0) if_slots
 
-  if_test : (w : Whole) (g : InScope) (scope : Scope) → HasType w.declared w.locals g test bool
-      → Knows a.slots g scope → Completes w e
+  if_test : (w : Whole) (g : InScope) (scope : LoweringScope) → HasType w.declared w.locals g test bool_type
+      → ScopeHasSlots a.slots g scope → Completes w e
       → TestAt w.functions w.f scope test (length e.lines) place (point_of a) (point_of c)
   if_test w g scope typed knows all =
       let at_c = earlier w c d inside.grown (if_ends.completes w all) in
@@ -187,7 +187,7 @@ module _ (test : Term) (body : Stmts) (place end : ℕ) (innermost : Option Loop
 -- ---- if with else
 
 module _ (test : Term) (body other : Stmts) (place away end : ℕ) (innermost : Option Loop)
-    (b0 b1 b2 b3 b4 b5 b6 b7 b8 : Made) (first : Fresh b0 away b1) (second : Fresh b1 end b2)
+    (b0 b1 b2 b3 b4 b5 b6 b7 b8 : BuilderParts) (first : Fresh b0 away b1) (second : Fresh b1 end b2)
     (branch : TestIsEmitted test away place b2 b3) (inside : StmtsAreEmitted body innermost b3 b4)
     (jump : OpIsAdded b4 (jump_to end) place b5) (away_is : b6 ≡ with_placed b5 away)
     (outside : StmtsAreEmitted other innermost b6 b7) (end_is : b8 ≡ with_placed b7 end) where
@@ -215,7 +215,7 @@ module _ (test : Term) (body other : Stmts) (place away end : ℕ) (innermost : 
   slots_6 : b6.slots ≡ b4.slots
   slots_6 = goes_away.slots ∙ jump.slots
 
-  point_6 : point_of b6 ≡ after (point_of b4)
+  point_6 : point_of b6 ≡ next_point (point_of b4)
   point_6 = goes_away.point ∙ jump.point
 
   module _ (env : Environment) (g : InScope) (typed : AreStmts env g body) where
@@ -225,8 +225,8 @@ module _ (test : Term) (body other : Stmts) (place away end : ℕ) (innermost : 
     kept_8 : AreStmts env g other → (n : ℕ) → is_in_scope g n ≡ true → slot b8 n ≡ slot b0 n
     kept_8 typed2 n h = ap (λ z. get_or z n 0) else_ends.slots ∙ outside.kept env g typed2 n h ∙ kept_6 n h
 
-  else_test : (w : Whole) (g : InScope) (scope : Scope) → HasType w.declared w.locals g test bool
-      → Knows b0.slots g scope → Completes w b6
+  else_test : (w : Whole) (g : InScope) (scope : LoweringScope) → HasType w.declared w.locals g test bool_type
+      → ScopeHasSlots b0.slots g scope → Completes w b6
       → TestAt w.functions w.f scope test (length b4.lines + 1) place (point_of b0) (point_of b3)
   else_test w g scope typed knows at_6 =
       let at_4 = earlier w b4 b5 jump.grown (goes_away.completes w at_6) in
@@ -284,7 +284,7 @@ module _ (test : Term) (body other : Stmts) (place away end : ℕ) (innermost : 
 -- ---- loops
 
 module _ (test : Option Term) (body post : Stmts) (place start : ℕ) (l : Loop) (innermost : Option Loop)
-    (b0 b1 b2 b3 b4 b5 b6 b7 b8 b9 b10 : Made) (first : Fresh b0 start b1) (start_is : b2 ≡ with_placed b1 start)
+    (b0 b1 b2 b3 b4 b5 b6 b7 b8 b9 b10 : BuilderParts) (first : Fresh b0 start b1) (start_is : b2 ≡ with_placed b1 start)
     (second : Fresh b2 l.break_to b3) (third : Fresh b3 l.continue_to b4)
     (condition : ConditionIsEmitted test l.break_to place b4 b5) (inside : StmtsAreEmitted body (Some l) b5 b6)
     (next_is : b7 ≡ with_placed b6 l.continue_to) (behind : StmtsAreEmitted post innermost b7 b8)
@@ -370,7 +370,7 @@ module _ (test : Option Term) (body post : Stmts) (place start : ℕ) (l : Loop)
     abbrev loop_target : Target
     loop_target = record { break_to = length b10.lines; continue_to = length b6.lines }
 
-    body_leads : (targets : List Target) → Leads w true (Some l) (loop_target ∷ targets)
+    body_leads : (targets : List Target) → AreLoopTargets w true (Some l) (loop_target ∷ targets)
     body_leads targets e = (
       l,
       targets,
@@ -381,8 +381,8 @@ module _ (test : Option Term) (body post : Stmts) (place start : ℕ) (l : Loop)
       } ∷ targets,
     )
 
-    loop_condition : (in_loop : Bool) (g : InScope) (scope : Scope) → IsCondition (environment_of w in_loop) g test
-        → Knows b0.slots g scope
+    loop_condition : (in_loop : Bool) (g : InScope) (scope : LoweringScope) → IsCondition (environment_of w in_loop) g test
+        → ScopeHasSlots b0.slots g scope
         → ConditionAt w.functions w.f scope test (length b10.lines) place (point_of b0) (point_of b5)
     loop_condition in_loop g scope typed knows =
         subst (λ z. ConditionAt w.functions w.f scope test z place (point_of b0) (point_of b5)) break_leads

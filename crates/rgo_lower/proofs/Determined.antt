@@ -5,7 +5,7 @@ use Rattle.std.proofs.lemmas.Bool.{cases_lt}
 use Rattle.rgo_typed.specs.Tree.{Function, stmts_of}
 use Rattle.rgo_tac.specs.Code.{TacFn}
 use Rattle.rgo_lower.specs.Laws.{LoweringIsDetermined}
-use Rattle.rgo_lower.specs.Lowered.{Point, after, parameters, Target, closing_op, IsLoweredFn, AreLowered}
+use Rattle.rgo_lower.specs.Lowered.{Point, next_point, parameters, Target, closing_op, IsLoweredFn, AreLowered}
 use Rattle.rgo_lower.proofs.Agreeing.{Agree, then, one}
 use Rattle.rgo_lower.proofs.AgreeingStatements.{SameStmt, stmts_same}
 use Rattle.rgo_simulation.proofs.Together.{some_injective}
@@ -42,9 +42,9 @@ module _ (functions : List Function) (source : Function) (f g : TacFn) (x : IsLo
       stmts_same functions f g (stmts_of source.body) outside outside (parameters source.params)
       (parameters source.params) refl start start refl x.scope y.scope x.last y.last x.body y.body
 
-  whole : Agree f g start (after x.last)
+  whole : Agree f g start (next_point x.last)
   whole =
-      then f g start x.last (after x.last) (body_same.code refl)
+      then f g start x.last (next_point x.last) (body_same.code refl)
       (one f g x.last y.last _ _ source.end body_same.last
       (λ i. closing_op source.result_type ((body_same.last i).instr)) x.closing y.closing)
 

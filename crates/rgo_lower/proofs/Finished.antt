@@ -21,9 +21,9 @@ use Rattle.rgo_tac.specs.declared.code.Instr.TheVariants as instr
 use Rattle.rgo_tac.specs.Views.{op_of, body_of}
 use Rattle.rgo_lower.specs.declared.builder.Line.{Line}
 use Rattle.rgo_lower.specs.Sizes.{function_size, largest_of}
-use Rattle.rgo_lower.specs.Lowered.{Point, after, Scope, found, parameters, closing_op, StmtsAt, IsLoweredFn, AreLowered, IsLowered}
-use Rattle.rgo_lower.specs.Emitted.{Made, point_of, with_line, with_placed, Kept, Whole, Completes, OpIsAdded, always, jump_to, resolved}
-use Rattle.rgo_lower.specs.Emitted.{Knows, Leads, StmtsAreEmitted, leads_by, number_of, Begins, finished, FunctionIsLowered}
+use Rattle.rgo_lower.specs.Lowered.{Point, next_point, LoweringScope, variable_of_local, parameters, closing_op, StmtsAt, IsLoweredFn, AreLowered, IsLowered}
+use Rattle.rgo_lower.specs.Emitted.{BuilderParts, point_of, with_line, with_placed, Kept, Whole, Completes, OpIsAdded, always, jump_to, resolved}
+use Rattle.rgo_lower.specs.Emitted.{ScopeHasSlots, AreLoopTargets, StmtsAreEmitted, leads_by, number_of, FunctionCodeBegins, finished, FunctionIsLowered}
 use Rattle.rgo_lower.proofs.Growing.{grown_trans, earlier, kept_all, op_added, line_count}
 use Rattle.rgo_lower.proofs.Labels.{Fresh, placed, op_moved}
 
@@ -48,9 +48,9 @@ true_false e = cc
 -- one number more, n, than the first m
 module _ (m n : ℕ) where
   abbrev found_last : Bool → Option ℕ
-  found_last b = if b then Some m else found (parameters m) n
+  found_last b = if b then Some m else variable_of_local (parameters m) n
 
-  step_found : (a b : Bool) → nat_eq m n ≡ b → (a ≡ true → (n < m) × (found (parameters m) n ≡ Some n))
+  step_found : (a b : Bool) → nat_eq m n ≡ b → (a ≡ true → (n < m) × (variable_of_local (parameters m) n ≡ Some n))
       → a || b ≡ true → (n < suc m) × (found_last (nat_eq m n) ≡ Some n)
   step_found a true eb known h =
       let same = eqb-true m n eb in
@@ -61,27 +61,27 @@ module _ (m n : ℕ) where
       (omega (arith, lt), ap found_last eb ∙ there.1)
   step_found false false eb known h = absurd (true_false (sym h))
 
-  step_unknown : (a b : Bool) → nat_eq m n ≡ b → (a ≡ false → found (parameters m) n ≡ None) → a || b ≡ false
+  step_unknown : (a b : Bool) → nat_eq m n ≡ b → (a ≡ false → variable_of_local (parameters m) n ≡ None) → a || b ≡ false
       → found_last (nat_eq m n) ≡ None
   step_unknown true b eb unknown h = absurd (true_false h)
   step_unknown false true eb unknown h = absurd (true_false h)
   step_unknown false false eb unknown h = ap found_last eb ∙ unknown refl
 
 -- each of the first numbers is in scope, as itself
-first_found : (m n : ℕ) → is_in_scope (first_numbers m) n ≡ true → (n < m) × (found (parameters m) n ≡ Some n)
+first_found : (m n : ℕ) → is_in_scope (first_numbers m) n ≡ true → (n < m) × (variable_of_local (parameters m) n ≡ Some n)
 first_found zero n h = absurd (true_false (sym h))
 first_found (suc m) n h =
     step_found m n (is_in_scope (first_numbers m) n) (nat_eq m n) refl (first_found m n)
     (sym (in_longer (first_numbers m) m n) ∙ h)
 
-first_unknown : (m n : ℕ) → is_in_scope (first_numbers m) n ≡ false → found (parameters m) n ≡ None
+first_unknown : (m n : ℕ) → is_in_scope (first_numbers m) n ≡ false → variable_of_local (parameters m) n ≡ None
 first_unknown zero n h = refl
 first_unknown (suc m) n h =
     step_unknown m n (is_in_scope (first_numbers m) n) (nat_eq m n) refl (first_unknown m n)
     (sym (in_longer (first_numbers m) m n) ∙ h)
 
-parameters_known : (params : ℕ) (locals : List «Type») (b : Made) → params ≤ length locals → Begins params locals b
-    → Knows b.slots (first_numbers params) (parameters params)
+parameters_known : (params : ℕ) (locals : List «Type») (b : BuilderParts) → params ≤ length locals → FunctionCodeBegins params locals b
+    → ScopeHasSlots b.slots (first_numbers params) (parameters params)
 parameters_known params locals b within h = record {
   inside = λ n e.
       let there = first_found params n e in
@@ -92,7 +92,7 @@ parameters_known params locals b within h = record {
 
 -- ---- the end
 
-pub loop_closed : (a b c d : Made) (k place : ℕ) → Fresh a k b → c ≡ with_placed b k
+pub loop_closed : (a b c d : BuilderParts) (k place : ℕ) → Fresh a k b → c ≡ with_placed b k
     → d ≡ with_line c (instr.Jump k) place → OpIsAdded a (always (Jump (length a.lines))) place d
 loop_closed a b c d k place label is last =
     let jump = op_added c d (instr.Jump k) (jump_to k) place last (λ w all. refl) in
@@ -102,7 +102,7 @@ loop_closed a b c d k place label is last =
       grown = grown_trans a c d (there.grown a label.grown label.unmade) jump.grown;
       size = omega (arith, label.size, there.size, line_count c d (instr.Jump k) place last);
       slots = jump.slots ∙ there.slots ∙ label.slots;
-      point = jump.point ∙ ap after (there.point ∙ label.point);
+      point = jump.point ∙ ap next_point (there.point ∙ label.point);
       instr = λ w all.
           op_moved w.f (length c.lines) (length a.lines) _ _ place (jump.instr w all) (sym line)
           (ap Jump (there.leads w (earlier w c d jump.grown all) ∙ ap (λ (z : Point). z.instr) label.point));
@@ -131,7 +131,7 @@ module _ (leads : ℕ → ℕ) (lists : List (List ℕ)) (pieces : List (List Pi
   body_length [] = refl
   body_length (y ∷ l) = ap suc (body_length l)
 
-abbrev whole : Function → Made → (d : Declared) (functions : List Function) → d.functions ≡ map signature_of functions
+abbrev whole : Function → BuilderParts → (d : Declared) (functions : List Function) → d.functions ≡ map signature_of functions
     → Whole
 whole source b d functions signed = record {
   declared = d;
@@ -144,7 +144,7 @@ whole source b d functions signed = record {
   pieces = b.pieces;
 }
 
-completed : (source : Function) (b : Made) (d : Declared) (functions : List Function)
+completed : (source : Function) (b : BuilderParts) (d : Declared) (functions : List Function)
     (signed : d.functions ≡ map signature_of functions)
     → Completes (whole source b d functions signed) b
 completed source b d functions signed = record {
@@ -167,7 +167,7 @@ begins_with (x ∷ xs) (y ∷ ys) k = λ i. same (k 0 x refl) i ∷ begins_with 
     same : Some y ≡ Some x → y ≡ x
     same e = cc
 
-module _ (source : Function) (a b c : Made) (begins : Begins source.params source.locals a)
+module _ (source : Function) (a b c : BuilderParts) (begins : FunctionCodeBegins source.params source.locals a)
     (body : StmtsAreEmitted (stmts_of source.body) None a b)
     (closing : OpIsAdded b (always (closing_op source.result_type (length b.lines))) source.end c)
     (d : Declared) (functions : List Function) (signed : d.functions ≡ map signature_of functions)
@@ -184,10 +184,10 @@ module _ (source : Function) (a b c : Made) (begins : Begins source.params sourc
   start : point_of a ≡ record { instr = 0; variable = source.params }
   start = λ i. record { instr = length (begins.lines i); variable = variable_count i }
 
-  no_loop : Leads (whole source c d functions signed) false None []
+  no_loop : AreLoopTargets (whole source c d functions signed) false None []
   no_loop e = absurd (true_false (sym e))
 
-  lowered_body : (scope2 : Scope) × StmtsAt functions (finished source c) (stmts_of source.body) []
+  lowered_body : (scope2 : LoweringScope) × StmtsAt functions (finished source c) (stmts_of source.body) []
       (parameters source.params) (point_of a) scope2 (point_of b)
   lowered_body =
       body.code (whole source c d functions signed) false (first_numbers source.params) (parameters source.params) []
@@ -218,7 +218,7 @@ module _ (source : Function) (a b c : Made) (begins : Begins source.params sourc
     variables = ap (λ (z : Point). z.variable) closing.point;
   }
 
-pub function_lowered : (source : Function) (f : TacFn) (a b c : Made) → Begins source.params source.locals a
+pub function_lowered : (source : Function) (f : TacFn) (a b c : BuilderParts) → FunctionCodeBegins source.params source.locals a
     → StmtsAreEmitted (stmts_of source.body) None a b
     → OpIsAdded b (always (closing_op source.result_type (length b.lines))) source.end c → f ≡ finished source c
     → FunctionIsLowered source f
@@ -243,7 +243,7 @@ well_at d (g ∷ functions) zero f all e = subst (IsFunction d) (same e) all.0
     same e = cc
 well_at d (g ∷ functions) (suc i) f all e = well_at d functions i f all.1 e
 
-pub function_is : (source : Function) (b : Made) (f : TacFn) (name : List ℕ) (result_type : Option «Type»)
+pub function_is : (source : Function) (b : BuilderParts) (f : TacFn) (name : List ℕ) (result_type : Option «Type»)
     (variables : List «Type») (instrs : List CodeInstr) (places : List ℕ) (lists : List (List ℕ))
     (pieces : List (List Piece))
     → f ≡ record {

@@ -8,8 +8,8 @@ use Rattle.rgo_tac.specs.declared.code.Instr.{Instr}
 use Rattle.rgo_tac.specs.Code.{Op}
 use Rattle.rgo_tac.specs.Views.{op_of}
 use Rattle.rgo_lower.specs.declared.builder.Line.{Line}
-use Rattle.rgo_lower.specs.Lowered.{after, after_value, OpAt}
-use Rattle.rgo_lower.specs.Emitted.{Made, count, point_of, with_line, with_variable, with_list, with_pieces, with_label, with_placed, resolved}
+use Rattle.rgo_lower.specs.Lowered.{next_point, after_value, OpAt}
+use Rattle.rgo_lower.specs.Emitted.{BuilderParts, count, point_of, with_line, with_variable, with_list, with_pieces, with_label, with_placed, resolved}
 use Rattle.rgo_lower.specs.Emitted.{Kept, Grown, Whole, Completes, OpIsAdded, ValueIsAdded, always}
 
 -- ---- lists
@@ -39,7 +39,7 @@ one_more_before xs ys zs x is = sym (append_assoc xs (x ∷ []) zs) ∙ ap (λ z
 
 -- ---- growth
 
-pub grown_same : (a : Made) → Grown a a
+pub grown_same : (a : BuilderParts) → Grown a a
 grown_same a = record {
   lines = kept_all a.lines;
   variables = kept_all a.variables;
@@ -48,7 +48,7 @@ grown_same a = record {
   labels = kept_all a.labels;
 }
 
-pub grown_trans : (a b c : Made) → Grown a b → Grown b c → Grown a c
+pub grown_trans : (a b c : BuilderParts) → Grown a b → Grown b c → Grown a c
 grown_trans a b c h k = record {
   lines = λ i x e. k.lines i x (h.lines i x e);
   variables = λ i x e. k.variables i x (h.variables i x e);
@@ -58,7 +58,7 @@ grown_trans a b c h k = record {
 }
 
 -- what completes more completes less
-pub earlier : (w : Whole) (a b : Made) → Grown a b → Completes w b → Completes w a
+pub earlier : (w : Whole) (a b : BuilderParts) → Grown a b → Completes w b → Completes w a
 earlier w a b h c = record {
   lines = λ i x e. c.lines i x (h.lines i x e);
   variables = λ i x e. c.variables i x (h.variables i x e);
@@ -69,7 +69,7 @@ earlier w a b h c = record {
 
 -- ---- what a builder is given
 
-grown_line : (a : Made) (i : Instr) (place : ℕ) → Grown a (with_line a i place)
+grown_line : (a : BuilderParts) (i : Instr) (place : ℕ) → Grown a (with_line a i place)
 grown_line a i place = record {
   lines = kept_before a.lines (record { instr = i; place = place } ∷ []);
   variables = kept_all a.variables;
@@ -78,7 +78,7 @@ grown_line a i place = record {
   labels = kept_all a.labels;
 }
 
-grown_variable : (a : Made) (ty : «Type») → Grown a (with_variable a ty)
+grown_variable : (a : BuilderParts) (ty : «Type») → Grown a (with_variable a ty)
 grown_variable a ty = record {
   lines = kept_all a.lines;
   variables = kept_before a.variables (ty ∷ []);
@@ -87,7 +87,7 @@ grown_variable a ty = record {
   labels = kept_all a.labels;
 }
 
-pub grown_list : (a : Made) (l : List ℕ) → Grown a (with_list a l)
+pub grown_list : (a : BuilderParts) (l : List ℕ) → Grown a (with_list a l)
 grown_list a l = record {
   lines = kept_all a.lines;
   variables = kept_all a.variables;
@@ -96,7 +96,7 @@ grown_list a l = record {
   labels = kept_all a.labels;
 }
 
-pub grown_pieces : (a : Made) (l : List Piece) → Grown a (with_pieces a l)
+pub grown_pieces : (a : BuilderParts) (l : List Piece) → Grown a (with_pieces a l)
 grown_pieces a l = record {
   lines = kept_all a.lines;
   variables = kept_all a.variables;
@@ -107,19 +107,19 @@ grown_pieces a l = record {
 
 -- ---- how many there are
 
-pub line_count : (a b : Made) (i : Instr) (place : ℕ) → b ≡ with_line a i place → count b ≡ count a + 1
+pub line_count : (a b : BuilderParts) (i : Instr) (place : ℕ) → b ≡ with_line a i place → count b ≡ count a + 1
 line_count a b i place is = ap count is ∙ omega (arith, one_more a.lines (record { instr = i; place = place }))
 
-pub variable_count : (a b : Made) (ty : «Type») → b ≡ with_variable a ty → count b ≡ count a + 1
+pub variable_count : (a b : BuilderParts) (ty : «Type») → b ≡ with_variable a ty → count b ≡ count a + 1
 variable_count a b ty is = ap count is ∙ omega (arith, one_more a.variables ty)
 
-pub list_count : (a b : Made) (l : List ℕ) → b ≡ with_list a l → count b ≡ count a + 1
+pub list_count : (a b : BuilderParts) (l : List ℕ) → b ≡ with_list a l → count b ≡ count a + 1
 list_count a b l is = ap count is ∙ omega (arith, one_more a.lists l)
 
-pub pieces_count : (a b : Made) (l : List Piece) → b ≡ with_pieces a l → count b ≡ count a + 1
+pub pieces_count : (a b : BuilderParts) (l : List Piece) → b ≡ with_pieces a l → count b ≡ count a + 1
 pieces_count a b l is = ap count is ∙ omega (arith, one_more a.pieces l)
 
-pub label_count : (a b : Made) → b ≡ with_label a → count b ≡ count a + 1
+pub label_count : (a b : BuilderParts) → b ≡ with_label a → count b ≡ count a + 1
 label_count a b is = ap count is ∙ omega (arith, one_more a.labels None)
 
 same_length : {A : Type 0} (xs : List A) (i : ℕ) (v : A) → length (slice_set xs i v) ≡ length xs
@@ -127,13 +127,13 @@ same_length [] i v = refl
 same_length (x ∷ xs) zero v = refl
 same_length (x ∷ xs) (suc i) v = let rest = same_length xs i v in omega (arith, rest)
 
-pub placed_count : (a b : Made) (k : ℕ) → b ≡ with_placed a k → count b ≡ count a
+pub placed_count : (a b : BuilderParts) (k : ℕ) → b ≡ with_placed a k → count b ≡ count a
 placed_count a b k is = ap count is ∙ omega (arith, same_length a.labels k (Some (length a.lines)))
 
 -- ---- instructions with what they name
 
 -- an instruction at the end
-pub op_added : (a b : Made) (i : Instr) (op : Whole → Op) (place : ℕ) → b ≡ with_line a i place
+pub op_added : (a b : BuilderParts) (i : Instr) (op : Whole → Op) (place : ℕ) → b ≡ with_line a i place
     → ((w : Whole) → Completes w b → op_of w.lists w.pieces (resolved w.leads i) ≡ op w)
     → OpIsAdded a op place b
 op_added a b i op place is means =
@@ -141,18 +141,18 @@ op_added a b i op place is means =
     record {
       grown = subst (λ z. Grown a z) (sym is) (grown_line a i place);
       size = omega (arith, line_count a b i place is);
-      slots = ap (λ (z : Made). z.slots) is;
+      slots = ap (λ (z : BuilderParts). z.slots) is;
       point =
           ap point_of is
           ∙ (λ j. record { instr = one_more a.lines line j; variable = length a.variables });
       instr = λ w c.
-          c.lines (length a.lines) line (ap (λ (z : Made). slice_get z.lines (length a.lines)) is
+          c.lines (length a.lines) line (ap (λ (z : BuilderParts). slice_get z.lines (length a.lines)) is
           ∙ get_last a.lines line)
           ∙ ap (λ z. Some (record { op = z; place = place })) (means w c);
     }
 
 -- an instruction that gives a new variable its value
-pub value_added : (a b c : Made) (i : Instr) (op : ℕ → Op) (ty : «Type») (place d : ℕ) → d ≡ length a.variables
+pub value_added : (a b c : BuilderParts) (i : Instr) (op : ℕ → Op) (ty : «Type») (place d : ℕ) → d ≡ length a.variables
     → b ≡ with_variable a ty → c ≡ with_line b i place
     → ((w : Whole) → Completes w c → op_of w.lists w.pieces (resolved w.leads i) ≡ op d)
     → ValueIsAdded a op ty place d c
@@ -165,61 +165,61 @@ value_added a b c i op ty place d d_is b_is c_is means =
           (grown_trans a (with_variable a ty) (with_line (with_variable a ty) i place)
           (grown_variable a ty) (grown_line (with_variable a ty) i place));
       size = omega (arith, variable_count a b ty b_is, line_count b c i place c_is);
-      slots = ap (λ (z : Made). z.slots) new;
+      slots = ap (λ (z : BuilderParts). z.slots) new;
       variable = d_is;
       point =
           ap point_of new
           ∙ (λ j. record { instr = one_more a.lines line j; variable = one_more a.variables ty j });
       instr = λ w k.
           k.lines (length a.lines) line
-          (ap (λ (z : Made). slice_get z.lines (length a.lines)) new ∙ get_last a.lines line)
+          (ap (λ (z : BuilderParts). slice_get z.lines (length a.lines)) new ∙ get_last a.lines line)
           ∙ ap (λ z. Some (record { op = z; place = place })) (means w k ∙ ap op d_is);
       kind = λ w k.
           k.variables (length a.variables) ty
-          (ap (λ (z : Made). slice_get z.variables (length a.variables)) new ∙ get_last a.variables ty);
+          (ap (λ (z : BuilderParts). slice_get z.variables (length a.variables)) new ∙ get_last a.variables ty);
     }
 
 -- after a list was added
-pub op_after_list : (a b c : Made) (l : List ℕ) (op : Whole → Op) (place : ℕ) → b ≡ with_list a l
+pub op_after_list : (a b c : BuilderParts) (l : List ℕ) (op : Whole → Op) (place : ℕ) → b ≡ with_list a l
     → OpIsAdded b op place c → count c ≤ count a + 3 → OpIsAdded a op place c
 op_after_list a b c l op place is h few =
     let g = subst (λ z. Grown a z) (sym is) (grown_list a l) in
     record {
       grown = grown_trans a b c g h.grown;
       size = few;
-      slots = h.slots ∙ ap (λ (z : Made). z.slots) is;
-      point = h.point ∙ ap (λ z. after (point_of z)) is;
-      instr = λ w k. subst (λ (z : Made). OpAt w.f (length z.lines) (op w) place) is (h.instr w k);
+      slots = h.slots ∙ ap (λ (z : BuilderParts). z.slots) is;
+      point = h.point ∙ ap (λ z. next_point (point_of z)) is;
+      instr = λ w k. subst (λ (z : BuilderParts). OpAt w.f (length z.lines) (op w) place) is (h.instr w k);
     }
 
-pub value_after_list : (a b c : Made) (l : List ℕ) (op : ℕ → Op) (ty : «Type») (place d : ℕ) → b ≡ with_list a l
+pub value_after_list : (a b c : BuilderParts) (l : List ℕ) (op : ℕ → Op) (ty : «Type») (place d : ℕ) → b ≡ with_list a l
     → ValueIsAdded b op ty place d c → count c ≤ count a + 3 → ValueIsAdded a op ty place d c
 value_after_list a b c l op ty place d is h few =
     let g = subst (λ z. Grown a z) (sym is) (grown_list a l) in
     record {
       grown = grown_trans a b c g h.grown;
       size = few;
-      slots = h.slots ∙ ap (λ (z : Made). z.slots) is;
-      variable = h.variable ∙ ap (λ (z : Made). length z.variables) is;
+      slots = h.slots ∙ ap (λ (z : BuilderParts). z.slots) is;
+      variable = h.variable ∙ ap (λ (z : BuilderParts). length z.variables) is;
       point = h.point ∙ ap (λ z. after_value (point_of z)) is;
       instr = λ w k.
-          subst (λ (z : Made). OpAt w.f (length z.lines) (op (length z.variables)) place) is (h.instr w k);
-      kind = λ w k. subst (λ (z : Made). slice_get w.f.variables (length z.variables) ≡ Some ty) is (h.kind w k);
+          subst (λ (z : BuilderParts). OpAt w.f (length z.lines) (op (length z.variables)) place) is (h.instr w k);
+      kind = λ w k. subst (λ (z : BuilderParts). slice_get w.f.variables (length z.variables) ≡ Some ty) is (h.kind w k);
     }
 
 -- the list of this number in the finished function
-pub list_in : (w : Whole) (a b c : Made) (l : List ℕ) (n : ℕ) → n ≡ length a.lists → b ≡ with_list a l → Grown b c
+pub list_in : (w : Whole) (a b c : BuilderParts) (l : List ℕ) (n : ℕ) → n ≡ length a.lists → b ≡ with_list a l → Grown b c
     → Completes w c → get_or w.lists n [] ≡ l
 list_in w a b c l n n_is is g k =
     get_or_from_slice_get w.lists n l []
-    (k.lists n l (g.lists n l (ap (λ (z : Made). slice_get z.lists n) is ∙ ap (slice_get (a.lists ++ l ∷ [])) n_is
+    (k.lists n l (g.lists n l (ap (λ (z : BuilderParts). slice_get z.lists n) is ∙ ap (slice_get (a.lists ++ l ∷ [])) n_is
     ∙ get_last a.lists l)))
 
-pub pieces_in : (w : Whole) (a b c : Made) (l : List Piece) (n : ℕ) → n ≡ length a.pieces → b ≡ with_pieces a l
+pub pieces_in : (w : Whole) (a b c : BuilderParts) (l : List Piece) (n : ℕ) → n ≡ length a.pieces → b ≡ with_pieces a l
     → Grown b c → Completes w c → get_or w.pieces n [] ≡ l
 pieces_in w a b c l n n_is is g k =
     get_or_from_slice_get w.pieces n l []
-    (k.pieces n l (g.pieces n l (ap (λ (z : Made). slice_get z.pieces n) is ∙ ap (slice_get (a.pieces ++ l ∷ [])) n_is
+    (k.pieces n l (g.pieces n l (ap (λ (z : BuilderParts). slice_get z.pieces n) is ∙ ap (slice_get (a.pieces ++ l ∷ [])) n_is
     ∙ get_last a.pieces l)))
 
 -- ---- instructions with a list, with pieces
@@ -228,7 +228,7 @@ pieces_in w a b c l n n_is is g k =
 abbrev pub MeansWithList : Instr → (n : ℕ) → List ℕ → Op → Type 0
 MeansWithList i n l op = (w : Whole) → get_or w.lists n [] ≡ l → op_of w.lists w.pieces (resolved w.leads i) ≡ op
 
-pub op_with_list : (a b c : Made) (i : Instr) (op : Op) (l : List ℕ) (place n : ℕ) → n ≡ length a.lists
+pub op_with_list : (a b c : BuilderParts) (i : Instr) (op : Op) (l : List ℕ) (place n : ℕ) → n ≡ length a.lists
     → b ≡ with_list a l → c ≡ with_line b i place → MeansWithList i n l op → OpIsAdded a (always op) place c
 op_with_list a b c i op l place n n_is b_is c_is means =
     op_after_list a b c l (always op) place b_is
@@ -236,7 +236,7 @@ op_with_list a b c i op l place n n_is b_is c_is means =
     (list_in w a b c l n n_is b_is (subst (λ z. Grown b z) (sym c_is) (grown_line b i place)) k)))
     (omega (arith, list_count a b l b_is, line_count b c i place c_is))
 
-pub value_with_list : (a b c d : Made) (i : Instr) (op : ℕ → Op) (ty : «Type») (l : List ℕ) (place n to : ℕ)
+pub value_with_list : (a b c d : BuilderParts) (i : Instr) (op : ℕ → Op) (ty : «Type») (l : List ℕ) (place n to : ℕ)
     → n ≡ length a.lists → b ≡ with_list a l → to ≡ length b.variables → c ≡ with_variable b ty
     → d ≡ with_line c i place → MeansWithList i n l (op to) → ValueIsAdded a op ty place to d
 value_with_list a b c d i op ty l place n to n_is b_is to_is c_is d_is means =
@@ -247,7 +247,7 @@ value_with_list a b c d i op ty l place n to n_is b_is to_is c_is d_is means =
     (λ w k. means w (list_in w a b d l n n_is b_is (grown_trans b c d g g2) k)))
     (omega (arith, list_count a b l b_is, variable_count b c ty c_is, line_count c d i place d_is))
 
-pub op_with_pieces : (a b c d : Made) (i : Instr) (op : Op) (p : List Piece) (l : List ℕ) (place m n : ℕ)
+pub op_with_pieces : (a b c d : BuilderParts) (i : Instr) (op : Op) (p : List Piece) (l : List ℕ) (place m n : ℕ)
     → m ≡ length a.pieces → b ≡ with_pieces a p → n ≡ length b.lists → c ≡ with_list b l → d ≡ with_line c i place
     → ((w : Whole) → get_or w.pieces m [] ≡ p → get_or w.lists n [] ≡ l
     → op_of w.lists w.pieces (resolved w.leads i) ≡ op)
@@ -263,9 +263,9 @@ op_with_pieces a b c d i op p l place m n m_is b_is n_is c_is d_is means =
     record {
       grown = grown_trans a b d g all.grown;
       size = omega (arith, pieces_count a b p b_is, list_count b c l c_is, line_count c d i place d_is);
-      slots = all.slots ∙ ap (λ (z : Made). z.slots) b_is;
-      point = all.point ∙ ap (λ z. after (point_of z)) b_is;
-      instr = λ w k. subst (λ (z : Made). OpAt w.f (length z.lines) op place) b_is (all.instr w k);
+      slots = all.slots ∙ ap (λ (z : BuilderParts). z.slots) b_is;
+      point = all.point ∙ ap (λ z. next_point (point_of z)) b_is;
+      instr = λ w k. subst (λ (z : BuilderParts). OpAt w.f (length z.lines) op place) b_is (all.instr w k);
     }
 
 -- ---- results

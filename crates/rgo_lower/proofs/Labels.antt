@@ -5,8 +5,8 @@ use Rattle.std.proofs.lemmas.Option.{slice_get_past, slice_get_within}
 use Rattle.rgo_tac.specs.Code.{Op, TacFn}
 use Rattle.rgo_typed.specs.declared.actions.Logical.{Logical}
 use Rattle.rgo_typed.specs.declared.actions.Logical.TheVariants.{And, Or}
-use Rattle.rgo_lower.specs.Lowered.{Point, after, OpAt, logic_branch}
-use Rattle.rgo_lower.specs.Emitted.{Made, count, point_of, with_label, with_placed, Grown, Whole, Completes, OpIsAdded, branch_to, decides}
+use Rattle.rgo_lower.specs.Lowered.{Point, next_point, OpAt, logic_branch}
+use Rattle.rgo_lower.specs.Emitted.{BuilderParts, count, point_of, with_label, with_placed, Grown, Whole, Completes, OpIsAdded, branch_to, decides}
 use Rattle.rgo_lower.proofs.Growing.{kept_all, kept_before, get_last, grown_trans, label_count, placed_count}
 
 set_same : {A : Type 0} (xs : List A) (i : ℕ) (v : A) → i < length xs → slice_get (slice_set xs i v) i ≡ Some v
@@ -27,7 +27,7 @@ none_some o x e f = cc
 -- ---- making
 
 -- label k was made
-pub record Fresh (a : Made) (k : ℕ) (b : Made) : Type 0 where
+pub record Fresh (a : BuilderParts) (k : ℕ) (b : BuilderParts) : Type 0 where
   pub grown : Grown a b
   pub size : count b ≡ count a + 1
   pub slots : b.slots ≡ a.slots
@@ -35,7 +35,7 @@ pub record Fresh (a : Made) (k : ℕ) (b : Made) : Type 0 where
   pub unmade : slice_get a.labels k ≡ None
   pub waits : slice_get b.labels k ≡ Some None
 
-pub fresh : (a b : Made) (k : ℕ) → k ≡ length a.labels → b ≡ with_label a → Fresh a k b
+pub fresh : (a b : BuilderParts) (k : ℕ) → k ≡ length a.labels → b ≡ with_label a → Fresh a k b
 fresh a b k k_is is = record {
   grown = subst (λ z. Grown a z) (sym is) (record {
     lines = kept_all a.lines;
@@ -45,16 +45,16 @@ fresh a b k k_is is = record {
     labels = kept_before a.labels (None ∷ []);
   });
   size = label_count a b is;
-  slots = ap (λ (z : Made). z.slots) is;
+  slots = ap (λ (z : BuilderParts). z.slots) is;
   point = ap point_of is;
   unmade = slice_get_past a.labels k (omega (arith, k_is));
   waits =
-      ap (λ (z : Made). slice_get z.labels k) is ∙ ap (slice_get (a.labels ++ None ∷ [])) k_is
+      ap (λ (z : BuilderParts). slice_get z.labels k) is ∙ ap (slice_get (a.labels ++ None ∷ [])) k_is
       ∙ get_last a.labels None;
 }
 
 -- it was not there before either
-pub unmade_before : (a b : Made) (k : ℕ) → Grown a b → slice_get b.labels k ≡ None → slice_get a.labels k ≡ None
+pub unmade_before : (a b : BuilderParts) (k : ℕ) → Grown a b → slice_get b.labels k ≡ None → slice_get a.labels k ≡ None
 unmade_before a b k g e = cases (slice_get a.labels k) refl
   where
     cases : (o : Option (Option ℕ)) → slice_get a.labels k ≡ o → slice_get a.labels k ≡ None
@@ -62,22 +62,22 @@ unmade_before a b k g e = cases (slice_get a.labels k) refl
     cases (Some x) is = absurd (none_some (slice_get b.labels k) x e (g.labels k x is))
 
 -- a label that is there is not one that is made later
-pub apart : (a : Made) (j k : ℕ) → slice_get a.labels j ≡ Some None → slice_get a.labels k ≡ None → j ≢ k
+pub apart : (a : BuilderParts) (j k : ℕ) → slice_get a.labels j ≡ Some None → slice_get a.labels k ≡ None → j ≢ k
 apart a j k there unmade e = none_some (slice_get a.labels k) None unmade (ap (slice_get a.labels) (sym e) ∙ there)
 
 -- ---- placing
 
 -- label k, which was open, was placed
-pub record Placed (a : Made) (k : ℕ) (b : Made) : Type 0 where
+pub record Placed (a : BuilderParts) (k : ℕ) (b : BuilderParts) : Type 0 where
   pub size : count b ≡ count a
   pub slots : b.slots ≡ a.slots
   pub point : point_of b ≡ point_of a
   pub completes : (w : Whole) → Completes w b → Completes w a
   pub leads : (w : Whole) → Completes w b → w.leads k ≡ length a.lines
-  pub grown : (base : Made) → Grown base a → slice_get base.labels k ≡ None → Grown base b
+  pub grown : (base : BuilderParts) → Grown base a → slice_get base.labels k ≡ None → Grown base b
   pub others : (j : ℕ) (x : Option (Option ℕ)) → j ≢ k → slice_get a.labels j ≡ x → slice_get b.labels j ≡ x
 
-module _ (a : Made) (k : ℕ) (waits : slice_get a.labels k ≡ Some None) where
+module _ (a : BuilderParts) (k : ℕ) (waits : slice_get a.labels k ≡ Some None) where
   same_labels : (j : ℕ) → j ≢ k → slice_get (with_placed a k).labels j ≡ slice_get a.labels j
   same_labels j h = set_other a.labels k j (Some (length a.lines)) h
 
@@ -96,7 +96,7 @@ module _ (a : Made) (k : ℕ) (waits : slice_get a.labels k ≡ Some None) where
     labels = λ j t e. c.labels j t (same_labels j (not_placed j t e) ∙ e);
   }
 
-  around : (base : Made) → Grown base a → slice_get base.labels k ≡ None → Grown base (with_placed a k)
+  around : (base : BuilderParts) → Grown base a → slice_get base.labels k ≡ None → Grown base (with_placed a k)
   around base g unmade = record {
     lines = g.lines;
     variables = g.variables;
@@ -124,7 +124,7 @@ module _ (a : Made) (k : ℕ) (waits : slice_get a.labels k ≡ Some None) where
     others = λ j x h e. same_labels j h ∙ e;
   }
 
-pub placed : (a b : Made) (k : ℕ) → slice_get a.labels k ≡ Some None → b ≡ with_placed a k → Placed a k b
+pub placed : (a b : BuilderParts) (k : ℕ) → slice_get a.labels k ≡ Some None → b ≡ with_placed a k → Placed a k b
 placed a b k waits is = subst (λ z. Placed a k z) (sym is) (here a k waits)
 
 -- ---- instructions at another number
@@ -146,7 +146,7 @@ branches_is : (logic : Logical) (w : Whole) (test next other : ℕ)
 branches_is And w test next other = refl
 branches_is Or w test next other = refl
 
-pub branch_added : (logic : Logical) (test next other place : ℕ) (a b c d : Made) → Fresh a next b
+pub branch_added : (logic : Logical) (test next other place : ℕ) (a b c d : BuilderParts) → Fresh a next b
     → OpIsAdded b (branches logic test next other) place c → count c ≡ count b + 1 → d ≡ with_placed c next
     → OpIsAdded a (decides logic test (length a.lines + 1) other) place d
 branch_added logic test next other place a b c d label branch one is =
@@ -157,7 +157,7 @@ branch_added logic test next other place a b c d label branch one is =
       grown = there.grown a (grown_trans a b c label.grown branch.grown) label.unmade;
       size = omega (arith, label.size, one, there.size);
       slots = there.slots ∙ branch.slots ∙ label.slots;
-      point = there.point ∙ branch.point ∙ ap after label.point;
+      point = there.point ∙ branch.point ∙ ap next_point label.point;
       instr = λ w k.
           op_moved w.f (length b.lines) (length a.lines) _ _ place (branch.instr w (there.completes w k)) (sym line_b)
           (branches_is logic w test next other

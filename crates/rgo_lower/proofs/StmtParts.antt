@@ -8,14 +8,14 @@ use Rattle.rgo_typed.specs.declared.actions.Action.TheVariants.{Copy, Binary}
 use Rattle.rgo_typed.specs.declared.statements.Piece.{Piece}
 use Rattle.rgo_typed.specs.declared.types.Type.{«Type»}
 use Rattle.rgo_typed.specs.Tree as tree
-use Rattle.rgo_typed.specs.Tree.{Term, Terms, Change, Stmt, Stmts}
+use Rattle.rgo_typed.specs.Tree.{Term, Terms, Change, Stmt}
 use Rattle.rgo_wellformed.specs.WellFormed.{InScope, is_in_scope, IsStmt, scope_after}
 use Rattle.rgo_tac.specs.Code.{Do, Call, Go, Print, Jump, Return}
 use Rattle.rgo_lower.specs.declared.builder.Loop.{Loop}
 use Rattle.rgo_lower.specs.Sizes.{stmt_size}
-use Rattle.rgo_lower.specs.Lowered.{Point, after, OpAt, ActionAt, Scope, found, Target, zero_action, TermAt, StmtAt}
-use Rattle.rgo_lower.specs.Emitted.{Made, count, point_of, slot, with_slot, Grown, Whole, Completes, OpIsAdded, ValueIsAdded, always, acts, jump_to}
-use Rattle.rgo_lower.specs.Emitted.{Knows, TermIsEmitted, TermsAreEmitted, Leads, environment_of, StmtIsEmitted}
+use Rattle.rgo_lower.specs.Lowered.{Point, next_point, OpAt, ActionAt, LoweringScope, variable_of_local, Target, zero_action, TermAt, StmtAt}
+use Rattle.rgo_lower.specs.Emitted.{BuilderParts, count, point_of, slot, with_slot, Grown, Whole, Completes, OpIsAdded, ValueIsAdded, always, acts, jump_to}
+use Rattle.rgo_lower.specs.Emitted.{ScopeHasSlots, TermIsEmitted, TermsAreEmitted, AreLoopTargets, environment_of, StmtIsEmitted}
 use Rattle.rgo_lower.proofs.Growing.{grown_trans, earlier, kept_all}
 use Rattle.rgo_lower.proofs.Labels.{op_moved}
 use Rattle.rgo_lower.proofs.TermParts.{action_at, result_is}
@@ -25,30 +25,30 @@ use Rattle.rgo_lower.proofs.TermParts.{action_at, result_is}
 true_false : (b : Bool) → b ≡ true → b ≡ false → ⊥
 true_false b e f = cc
 
-pub knows_same : (xs ys : List ℕ) (g : InScope) (scope : Scope) → ys ≡ xs → Knows xs g scope → Knows ys g scope
-knows_same xs ys g scope e k = subst (λ z. Knows z g scope) (sym e) k
+pub knows_same : (xs ys : List ℕ) (g : InScope) (scope : LoweringScope) → ys ≡ xs → ScopeHasSlots xs g scope → ScopeHasSlots ys g scope
+knows_same xs ys g scope e k = subst (λ z. ScopeHasSlots z g scope) (sym e) k
 
 -- where the variables in scope keep their slots
-pub knows_kept : (xs ys : List ℕ) (g : InScope) (scope : Scope)
-    → ((n : ℕ) → is_in_scope g n ≡ true → get_or ys n 0 ≡ get_or xs n 0) → Knows xs g scope → Knows ys g scope
+pub knows_kept : (xs ys : List ℕ) (g : InScope) (scope : LoweringScope)
+    → ((n : ℕ) → is_in_scope g n ≡ true → get_or ys n 0 ≡ get_or xs n 0) → ScopeHasSlots xs g scope → ScopeHasSlots ys g scope
 knows_kept xs ys g scope kept k = record {
   inside = λ n e. k.inside n e ∙ ap Some (sym (kept n e));
   outside = k.outside;
 }
 
 -- one more variable, whose number was not in scope
-module _ (xs ys : List ℕ) (g : InScope) (scope : Scope) (n d : ℕ) (here : get_or ys n 0 ≡ d)
-    (others : (m : ℕ) → m ≢ n → get_or ys m 0 ≡ get_or xs m 0) (k : Knows xs g scope) where
+module _ (xs ys : List ℕ) (g : InScope) (scope : LoweringScope) (n d : ℕ) (here : get_or ys n 0 ≡ d)
+    (others : (m : ℕ) → m ≢ n → get_or ys m 0 ≡ get_or xs m 0) (k : ScopeHasSlots xs g scope) where
   more_inside : (m : ℕ) (b : Bool) → nat_eq n m ≡ b → b || is_in_scope g m ≡ true
-      → (if b then Some d else found scope m) ≡ Some (get_or ys m 0)
+      → (if b then Some d else variable_of_local scope m) ≡ Some (get_or ys m 0)
   more_inside m true e h = ap Some (sym here ∙ ap (λ z. get_or ys z 0) (eqb-true n m e))
   more_inside m false e h = k.inside m h ∙ ap Some (sym (others m (λ same. eqb-false n m e (sym same))))
 
-  more_outside : (m : ℕ) (b : Bool) → b || is_in_scope g m ≡ false → (if b then Some d else found scope m) ≡ None
+  more_outside : (m : ℕ) (b : Bool) → b || is_in_scope g m ≡ false → (if b then Some d else variable_of_local scope m) ≡ None
   more_outside m true h = absurd (true_false true refl h)
   more_outside m false h = k.outside m h
 
-  pub knows_more : Knows ys (n ∷ g) ((n, d) ∷ scope)
+  pub knows_more : ScopeHasSlots ys (n ∷ g) ((n, d) ∷ scope)
   knows_more = record {
     inside = λ m h. more_inside m (nat_eq n m) refl h;
     outside = λ m h. more_outside m (nat_eq n m) h;
@@ -57,16 +57,16 @@ module _ (xs ys : List ℕ) (g : InScope) (scope : Scope) (n d : ℕ) (here : ge
 -- ---- statements that declare nothing
 
 -- the code of such a statement was added
-pub record PlainIsEmitted (s : Stmt) (innermost : Option Loop) (old new : Made) : Type 0 where
+pub record PlainIsEmitted (s : Stmt) (innermost : Option Loop) (old new : BuilderParts) : Type 0 where
   pub grown : Grown old new
   pub size : count new ≤ count old + stmt_size s
   pub slots : new.slots ≡ old.slots
   pub code :
-      (w : Whole) (in_loop : Bool) (g : InScope) (scope : Scope) (targets : List Target)
-      → IsStmt (environment_of w in_loop) g s → Leads w in_loop innermost targets → Knows old.slots g scope
+      (w : Whole) (in_loop : Bool) (g : InScope) (scope : LoweringScope) (targets : List Target)
+      → IsStmt (environment_of w in_loop) g s → AreLoopTargets w in_loop innermost targets → ScopeHasSlots old.slots g scope
       → Completes w new → StmtAt w.functions w.f s targets scope (point_of old) scope (point_of new)
 
-pub plain : (s : Stmt) (innermost : Option Loop) (a b : Made) → ((g : InScope) → scope_after g s ≡ g)
+pub plain : (s : Stmt) (innermost : Option Loop) (a b : BuilderParts) → ((g : InScope) → scope_after g s ≡ g)
     → PlainIsEmitted s innermost a b → StmtIsEmitted s innermost a b
 plain s innermost a b same h = record {
   grown = h.grown;
@@ -76,11 +76,11 @@ plain s innermost a b same h = record {
   code = λ w in_loop g scope targets typed leads knows all. (
     scope,
     h.code w in_loop g scope targets typed leads knows all,
-    subst (λ z. Knows b.slots z scope) (sym (same g)) (knows_same a.slots b.slots g scope h.slots knows),
+    subst (λ z. ScopeHasSlots b.slots z scope) (sym (same g)) (knows_same a.slots b.slots g scope h.slots knows),
   );
 }
 
-pub assign_emitted : (n : ℕ) (value : Term) (place d : ℕ) (innermost : Option Loop) (a b c : Made)
+pub assign_emitted : (n : ℕ) (value : Term) (place d : ℕ) (innermost : Option Loop) (a b c : BuilderParts)
     → TermIsEmitted value a d b → OpIsAdded b (always (Do (Some (slot b n)) Copy (d ∷ []))) place c
     → StmtIsEmitted (tree.Assign n value place) innermost a c
 assign_emitted n value place d innermost a b c h o = plain _ innermost a c (λ g. refl) (record {
@@ -100,7 +100,7 @@ assign_emitted n value place d innermost a b c h o = plain _ innermost a c (λ g
 })
 
 pub perform_emitted : (action : Action) (operands : Terms) (place : ℕ) (ds : List ℕ) (innermost : Option Loop)
-    (a b c : Made) → TermsAreEmitted operands a ds b → OpIsAdded b (always (Do None action ds)) place c
+    (a b c : BuilderParts) → TermsAreEmitted operands a ds b → OpIsAdded b (always (Do None action ds)) place c
     → StmtIsEmitted (tree.Perform action operands place) innermost a c
 perform_emitted action operands place ds innermost a b c h o = plain _ innermost a c (λ g. refl) (record {
   grown = grown_trans a b c h.grown o.grown;
@@ -116,7 +116,7 @@ perform_emitted action operands place ds innermost a b c h o = plain _ innermost
   );
 })
 
-pub discard_emitted : (value : Term) (d : ℕ) (innermost : Option Loop) (a b : Made) → TermIsEmitted value a d b
+pub discard_emitted : (value : Term) (d : ℕ) (innermost : Option Loop) (a b : BuilderParts) → TermIsEmitted value a d b
     → StmtIsEmitted (tree.Discard value) innermost a b
 discard_emitted value d innermost a b h = plain _ innermost a b (λ g. refl) (record {
   grown = h.grown;
@@ -125,7 +125,7 @@ discard_emitted value d innermost a b h = plain _ innermost a b (λ g. refl) (re
   code = λ w in_loop g scope targets typed leads knows all. (d, h.code w g typed.0 scope typed.1 knows all, refl);
 })
 
-pub invoke_emitted : (n : ℕ) (arguments : Terms) (place : ℕ) (ds : List ℕ) (innermost : Option Loop) (a b c : Made)
+pub invoke_emitted : (n : ℕ) (arguments : Terms) (place : ℕ) (ds : List ℕ) (innermost : Option Loop) (a b c : BuilderParts)
     → TermsAreEmitted arguments a ds b → OpIsAdded b (always (Call None n ds)) place c
     → StmtIsEmitted (tree.Invoke n arguments place) innermost a c
 invoke_emitted n arguments place ds innermost a b c h o = plain _ innermost a c (λ g. refl) (record {
@@ -143,7 +143,7 @@ invoke_emitted n arguments place ds innermost a b c h o = plain _ innermost a c 
   );
 })
 
-pub go_emitted : (n : ℕ) (arguments : Terms) (place : ℕ) (ds : List ℕ) (innermost : Option Loop) (a b c : Made)
+pub go_emitted : (n : ℕ) (arguments : Terms) (place : ℕ) (ds : List ℕ) (innermost : Option Loop) (a b c : BuilderParts)
     → TermsAreEmitted arguments a ds b → OpIsAdded b (always (Go n ds)) place c
     → StmtIsEmitted (tree.Go n arguments place) innermost a c
 go_emitted n arguments place ds innermost a b c h o = plain _ innermost a c (λ g. refl) (record {
@@ -162,7 +162,7 @@ go_emitted n arguments place ds innermost a b c h o = plain _ innermost a c (λ 
 })
 
 pub print_emitted : (pieces : List Piece) (values : Terms) (place : ℕ) (ds : List ℕ) (innermost : Option Loop)
-    (a b c : Made) → TermsAreEmitted values a ds b → OpIsAdded b (always (Print pieces ds)) place c
+    (a b c : BuilderParts) → TermsAreEmitted values a ds b → OpIsAdded b (always (Print pieces ds)) place c
     → StmtIsEmitted (tree.Print pieces values place) innermost a c
 print_emitted pieces values place ds innermost a b c h o = plain _ innermost a c (λ g. refl) (record {
   grown = grown_trans a b c h.grown o.grown;
@@ -180,7 +180,7 @@ print_emitted pieces values place ds innermost a b c h o = plain _ innermost a c
 
 -- ---- updates
 
-module _ (change : Change) (innermost : Option Loop) (ds : List ℕ) (x d y : ℕ) (a b c e f g : Made)
+module _ (change : Change) (innermost : Option Loop) (ds : List ℕ) (x d y : ℕ) (a b c e f g : BuilderParts)
     (operands : TermsAreEmitted change.operands a ds b)
     (read : ValueIsAdded b (acts change.read ds) change.ty change.read_at x c)
     (value : TermIsEmitted change.value c d e)
@@ -228,7 +228,7 @@ module _ (change : Change) (innermost : Option Loop) (ds : List ℕ) (x d y : �
                 (value.code w s change.ty scope typed.4 (knows_same a.slots c.slots s scope slots_c knows) at_e),
             computed w at_f,
             written w all,
-            write.point ∙ ap after compute.point,
+            write.point ∙ ap next_point compute.point,
           ),
           refl,
         );
@@ -239,7 +239,7 @@ module _ (change : Change) (innermost : Option Loop) (ds : List ℕ) (x d y : �
 
 -- ---- jumps and returns
 
-pub break_emitted : (place : ℕ) (l : Loop) (a b : Made) → OpIsAdded a (jump_to l.break_to) place b
+pub break_emitted : (place : ℕ) (l : Loop) (a b : BuilderParts) → OpIsAdded a (jump_to l.break_to) place b
     → StmtIsEmitted (tree.Break place) (Some l) a b
 break_emitted place l a b o = plain _ (Some l) a b (λ g. refl) (record {
   grown = o.grown;
@@ -259,7 +259,7 @@ break_emitted place l a b o = plain _ (Some l) a b (λ g. refl) (record {
     some_is : (x y : Loop) → Some x ≡ Some y → x ≡ y
     some_is x y e = cc
 
-pub continue_emitted : (place : ℕ) (l : Loop) (a b : Made) → OpIsAdded a (jump_to l.continue_to) place b
+pub continue_emitted : (place : ℕ) (l : Loop) (a b : BuilderParts) → OpIsAdded a (jump_to l.continue_to) place b
     → StmtIsEmitted (tree.Continue place) (Some l) a b
 continue_emitted place l a b o = plain _ (Some l) a b (λ g. refl) (record {
   grown = o.grown;
@@ -279,7 +279,7 @@ continue_emitted place l a b o = plain _ (Some l) a b (λ g. refl) (record {
     some_is : (x y : Loop) → Some x ≡ Some y → x ≡ y
     some_is x y e = cc
 
-pub leave_emitted : (place : ℕ) (innermost : Option Loop) (a b : Made) → OpIsAdded a (always (Return None)) place b
+pub leave_emitted : (place : ℕ) (innermost : Option Loop) (a b : BuilderParts) → OpIsAdded a (always (Return None)) place b
     → StmtIsEmitted (tree.Return None place) innermost a b
 leave_emitted place innermost a b o = plain _ innermost a b (λ g. refl) (record {
   grown = o.grown;
@@ -288,7 +288,7 @@ leave_emitted place innermost a b o = plain _ innermost a b (λ g. refl) (record
   code = λ w in_loop g scope targets typed leads knows all. (o.instr w all, typed, refl, o.point);
 })
 
-pub return_emitted : (value : Term) (place d : ℕ) (innermost : Option Loop) (a b c : Made) → TermIsEmitted value a d b
+pub return_emitted : (value : Term) (place d : ℕ) (innermost : Option Loop) (a b c : BuilderParts) → TermIsEmitted value a d b
     → OpIsAdded b (always (Return (Some d))) place c
     → StmtIsEmitted (tree.Return (Some value) place) innermost a c
 return_emitted value place d innermost a b c h o = plain _ innermost a c (λ g. refl) (record {
@@ -310,7 +310,7 @@ return_emitted value place d innermost a b c h o = plain _ innermost a c (λ g. 
 -- ---- declarations
 
 -- a local variable comes into scope as the variable x
-pub record Declared (n x : ℕ) (a b : Made) : Type 0 where
+pub record Declared (n x : ℕ) (a b : BuilderParts) : Type 0 where
   pub grown : Grown a b
   pub size : count b ≡ count a
   pub locals : length b.slots ≡ length a.slots
@@ -318,7 +318,7 @@ pub record Declared (n x : ℕ) (a b : Made) : Type 0 where
   pub here : slot b n ≡ x
   pub others : (m : ℕ) → m ≢ n → slot b m ≡ slot a m
 
-declared_here : (n x : ℕ) (a : Made) → n < length a.slots → Declared n x a (with_slot a n x)
+declared_here : (n x : ℕ) (a : BuilderParts) → n < length a.slots → Declared n x a (with_slot a n x)
 declared_here n x a lt = record {
   grown = record {
     lines = kept_all a.lines;
@@ -334,14 +334,14 @@ declared_here n x a lt = record {
   others = λ m other. get_or-set_other a.slots n m x 0 other;
 }
 
-pub declared : (n x : ℕ) (a b : Made) → n < length a.slots → b ≡ with_slot a n x → Declared n x a b
+pub declared : (n x : ℕ) (a b : BuilderParts) → n < length a.slots → b ≡ with_slot a n x → Declared n x a b
 declared n x a b lt is = subst (λ z. Declared n x a z) (sym is) (declared_here n x a lt)
 
 -- a variable in scope is none that is not
 apart : (g : InScope) (n m : ℕ) → is_in_scope g n ≡ false → is_in_scope g m ≡ true → m ≢ n
 apart g n m out inside e = true_false (is_in_scope g m) inside (ap (is_in_scope g) e ∙ out)
 
-pub declare_emitted : (n : ℕ) (ty : «Type») (value : Term) (place d x : ℕ) (innermost : Option Loop) (a b c e : Made)
+pub declare_emitted : (n : ℕ) (ty : «Type») (value : Term) (place d x : ℕ) (innermost : Option Loop) (a b c e : BuilderParts)
     → TermIsEmitted value a d b → ValueIsAdded b (acts Copy (d ∷ [])) ty place x c → Declared n x c e
     → StmtIsEmitted (tree.Declare n ty value place) innermost a e
 declare_emitted n ty value place d x innermost a b c e h v s =
@@ -369,7 +369,7 @@ declare_emitted n ty value place d x innermost a b c e h v s =
           );
     }
 
-pub zero_emitted : (n : ℕ) (ty : «Type») (place x : ℕ) (innermost : Option Loop) (a b c : Made)
+pub zero_emitted : (n : ℕ) (ty : «Type») (place x : ℕ) (innermost : Option Loop) (a b c : BuilderParts)
     → ValueIsAdded a (acts (zero_action ty) []) ty place x b → Declared n x b c
     → StmtIsEmitted (tree.Zero n ty place) innermost a c
 zero_emitted n ty place x innermost a b c v s =

@@ -13,9 +13,9 @@ use Rattle.rgo_typed.specs.Views.{term_of}
 use Rattle.rgo_wellformed.specs.TypeRules.{Signature}
 use Rattle.rgo_wellformed.specs.WellFormed.{signature_of}
 use Rattle.rgo_tac.specs.Code.{Do, TacFn}
-use Rattle.rgo_lower.specs.Lowered.{Point, after, after_value, OpAt, ActionAt, bool, pointer_to, logic_branch, result_of, StoresAt, TermAt}
-use Rattle.rgo_lower.specs.Emitted.{Made, point_of, slot, Grown, Whole, Completes, OpIsAdded, ValueIsAdded, always, acts, calls, decides}
-use Rattle.rgo_lower.specs.Emitted.{Knows, TermIsEmitted, TermsAreEmitted, FieldsAreStored}
+use Rattle.rgo_lower.specs.Lowered.{Point, next_point, after_value, OpAt, ActionAt, bool_type, pointer_type, logic_branch, function_result_type, StoresAt, TermAt}
+use Rattle.rgo_lower.specs.Emitted.{BuilderParts, point_of, slot, Grown, Whole, Completes, OpIsAdded, ValueIsAdded, always, acts, calls, decides}
+use Rattle.rgo_lower.specs.Emitted.{ScopeHasSlots, TermIsEmitted, TermsAreEmitted, FieldsAreStored}
 use Rattle.rgo_lower.specs.Shapes.{term_fits, terms_fit}
 use Rattle.rgo_lower.specs.Sizes.{term_size, terms_size}
 use Rattle.rgo_lower.proofs.Growing.{grown_same, grown_trans, earlier}
@@ -23,7 +23,7 @@ use Rattle.rgo_lower.proofs.Labels.{Fresh, Placed, unmade_before, op_moved}
 
 -- ---- several terms
 
-pub none_emitted : (a : Made) → TermsAreEmitted tree.no_terms a [] a
+pub none_emitted : (a : BuilderParts) → TermsAreEmitted tree.no_terms a [] a
 none_emitted a = record {
   grown = grown_same a;
   size = omega arith;
@@ -32,7 +32,7 @@ none_emitted a = record {
   code = λ w g types scope h k c. (refl, refl);
 }
 
-pub more_emitted : (t : Term) (ts : Terms) (a b c : Made) (d : ℕ) (ds : List ℕ) → TermIsEmitted t a d b
+pub more_emitted : (t : Term) (ts : Terms) (a b c : BuilderParts) (d : ℕ) (ds : List ℕ) → TermIsEmitted t a d b
     → TermsAreEmitted ts b ds c → TermsAreEmitted (tree.a_term t ts) a (d ∷ ds) c
 more_emitted t ts a b c d ds h hs = record {
   grown = grown_trans a b c h.grown hs.grown;
@@ -44,14 +44,14 @@ more_emitted t ts a b c d ds h hs = record {
     ds,
     point_of b,
     h.code w g typed.0 scope typed.3 knows (earlier w b c hs.grown all),
-    hs.code w g typed.1 scope typed.4 (subst (λ z. Knows z g scope) (sym h.slots) knows) all,
+    hs.code w g typed.1 scope typed.4 (subst (λ z. ScopeHasSlots z g scope) (sym h.slots) knows) all,
     refl,
   );
 }
 
 -- ---- terms
 
-pub local_emitted : (a : Made) (n d : ℕ) → d ≡ slot a n → TermIsEmitted (tree.Local n) a d a
+pub local_emitted : (a : BuilderParts) (n d : ℕ) → d ≡ slot a n → TermIsEmitted (tree.Local n) a d a
 local_emitted a n d is = record {
   grown = grown_same a;
   size = omega arith;
@@ -60,12 +60,12 @@ local_emitted a n d is = record {
 }
 
 -- the instruction and the variable of an action
-pub action_at : (a b : Made) (action : Action) (from : List ℕ) (ty : «Type») (place d : ℕ) (w : Whole)
+pub action_at : (a b : BuilderParts) (action : Action) (from : List ℕ) (ty : «Type») (place d : ℕ) (w : Whole)
     → ValueIsAdded a (acts action from) ty place d b → Completes w b
     → ActionAt w.f (point_of a) action from ty place
 action_at a b action from ty place d w h c = record { instr = h.instr w c; variable = h.kind w c }
 
-pub apply_emitted : (action : Action) (parts : Terms) (ty : «Type») (place d : ℕ) (from : List ℕ) (a b c : Made)
+pub apply_emitted : (action : Action) (parts : Terms) (ty : «Type») (place d : ℕ) (from : List ℕ) (a b c : BuilderParts)
     → TermsAreEmitted parts a from b → ValueIsAdded b (acts action from) ty place d c
     → TermIsEmitted (tree.Apply action parts ty place) a d c
 apply_emitted action parts ty place d from a b c h v = record {
@@ -85,7 +85,7 @@ apply_emitted action parts ty place d from a b c h v = record {
 -- ---- calls
 
 result_in : (functions : List Function) (f : TacFn) (n : ℕ) (s : Signature)
-    → slice_get (map signature_of functions) n ≡ Some s → result_of functions f n ≡ Some s.result_type
+    → slice_get (map signature_of functions) n ≡ Some s → function_result_type functions f n ≡ Some s.result_type
 result_in [] f n s e = absurd (none e)
   where
     none : None ≡ Some s → ⊥
@@ -99,11 +99,11 @@ result_in (g ∷ functions) f (suc n) s e = result_in functions f n s e
 -- the result of a function that the program declares
 pub result_is : (w : Whole) (n : ℕ) (s : Signature) (result : Option «Type»)
     → slice_get w.declared.functions n ≡ Some s
-    → s.result_type ≡ result → result_of w.functions w.f n ≡ Some result
+    → s.result_type ≡ result → function_result_type w.functions w.f n ≡ Some result
 result_is w n s result e is =
     result_in w.functions w.f n s (ap (λ z. slice_get z n) (sym w.signed) ∙ e) ∙ ap Some is
 
-pub call_emitted : (n : ℕ) (arguments : Terms) (ty : «Type») (place d : ℕ) (from : List ℕ) (a b c : Made)
+pub call_emitted : (n : ℕ) (arguments : Terms) (ty : «Type») (place d : ℕ) (from : List ℕ) (a b c : BuilderParts)
     → TermsAreEmitted arguments a from b → ValueIsAdded b (calls n from) ty place d c
     → TermIsEmitted (tree.Call n arguments ty place) a d c
 call_emitted n arguments ty place d from a b c h v = record {
@@ -124,10 +124,10 @@ call_emitted n arguments ty place d from a b c h v = record {
 
 -- ---- objects
 
-pub none_stored : (object place : ℕ) (a : Made) → FieldsAreStored object [] [] place a a
+pub none_stored : (object place : ℕ) (a : BuilderParts) → FieldsAreStored object [] [] place a a
 none_stored object place a = record { grown = grown_same a; size = omega arith; slots = refl; code = λ w c. refl }
 
-pub more_stored : (object k d place : ℕ) (fields ds : List ℕ) (a b c : Made)
+pub more_stored : (object k d place : ℕ) (fields ds : List ℕ) (a b c : BuilderParts)
     → OpIsAdded a (always (Do None (Store k) (object ∷ d ∷ []))) place b → FieldsAreStored object fields ds place b c
     → FieldsAreStored object (k ∷ fields) (d ∷ ds) place a c
 more_stored object k d place fields ds a b c h hs = record {
@@ -140,8 +140,8 @@ more_stored object k d place fields ds a b c h hs = record {
   );
 }
 
-pub build_emitted : (n : ℕ) (parts : Terms) (fields : List ℕ) (place d : ℕ) (from : List ℕ) (a b c e : Made)
-    → TermsAreEmitted parts a from b → ValueIsAdded b (acts (New n) []) (pointer_to n) place d c
+pub build_emitted : (n : ℕ) (parts : Terms) (fields : List ℕ) (place d : ℕ) (from : List ℕ) (a b c e : BuilderParts)
+    → TermsAreEmitted parts a from b → ValueIsAdded b (acts (New n) []) (pointer_type n) place d c
     → FieldsAreStored d fields from place c e → TermIsEmitted (tree.Build n parts fields place) a d e
 build_emitted n parts fields place d from a b c e h v s = record {
   grown = grown_trans a b e h.grown (grown_trans b c e v.grown s.grown);
@@ -152,7 +152,7 @@ build_emitted n parts fields place d from a b c e h v s = record {
         from,
         point_of b,
         h.code w g typed.3 scope typed.4 knows (earlier w b c v.grown before),
-        action_at b c (New n) [] (pointer_to n) place d w v before,
+        action_at b c (New n) [] (pointer_type n) place d w v before,
         subst (λ z. StoresAt w.functions w.f z fields from place (after_value (point_of b)) (point_of e)) v.variable
             (subst (λ z. StoresAt w.functions w.f d fields from place z (point_of e)) v.point (s.code w all)),
         v.variable,
@@ -162,14 +162,14 @@ build_emitted n parts fields place d from a b c e h v s = record {
 -- ---- && and ||
 
 -- the label of the end is still open where it is placed
-pub logic_end : (logic : Logical) (right : Term) (place d r end : ℕ) (c e f g h : Made) → Fresh c end e
+pub logic_end : (logic : Logical) (right : Term) (place d r end : ℕ) (c e f g h : BuilderParts) → Fresh c end e
     → OpIsAdded e (decides logic d (length e.lines + 1) end) place f → TermIsEmitted right f r g
     → OpIsAdded g (always (Do (Some d) Copy (r ∷ []))) place h → slice_get h.labels end ≡ Some None
 logic_end logic right place d r end c e f g h label branch second store =
     store.grown.labels end None (second.grown.labels end None (branch.grown.labels end None label.waits))
 
-module _ (logic : Logical) (left right : Term) (place l d r end : ℕ) (a b c e f g h i : Made)
-    (first : TermIsEmitted left a l b) (copy : ValueIsAdded b (acts Copy (l ∷ [])) bool place d c)
+module _ (logic : Logical) (left right : Term) (place l d r end : ℕ) (a b c e f g h i : BuilderParts)
+    (first : TermIsEmitted left a l b) (copy : ValueIsAdded b (acts Copy (l ∷ [])) bool_type place d c)
     (label : Fresh c end e) (branch : OpIsAdded e (decides logic d (length e.lines + 1) end) place f)
     (second : TermIsEmitted right f r g) (store : OpIsAdded g (always (Do (Some d) Copy (r ∷ []))) place h)
     (ends : Placed h end i) where
@@ -179,8 +179,8 @@ module _ (logic : Logical) (left right : Term) (place l d r end : ℕ) (a b c e 
   e_to_h : Grown e h
   e_to_h = grown_trans e g h (grown_trans e f g branch.grown second.grown) store.grown
 
-  point_f : point_of f ≡ after (after_value (point_of b))
-  point_f = branch.point ∙ ap after (label.point ∙ copy.point)
+  point_f : point_of f ≡ next_point (after_value (point_of b))
+  point_f = branch.point ∙ ap next_point (label.point ∙ copy.point)
 
   line_e : length e.lines ≡ length b.lines + 1
   line_e = ap (λ (z : Point). z.instr) (label.point ∙ copy.point)
@@ -215,13 +215,13 @@ module _ (logic : Logical) (left right : Term) (place l d r end : ℕ) (a b c e 
         let at_c = earlier w c e label.grown (earlier w e f branch.grown at_f) in (
           l,
           point_of b,
-          first.code w s bool scope typed.1 knows (earlier w b c copy.grown at_c),
-          action_at b c Copy (l ∷ []) bool place d w copy at_c,
+          first.code w s bool_type scope typed.1 knows (earlier w b c copy.grown at_c),
+          action_at b c Copy (l ∷ []) bool_type place d w copy at_c,
           r,
           point_of g,
           branch_at w at_f (ends.leads w all),
           subst (λ z. TermAt w.functions w.f scope right z r (point_of g)) point_f
-              (second.code w s bool scope typed.2 (subst (λ z. Knows z s scope) (sym slots_f) knows) at_g),
+              (second.code w s bool_type scope typed.2 (subst (λ z. ScopeHasSlots z s scope) (sym slots_f) knows) at_g),
           op_moved w.f (length g.lines) (length g.lines) _ _ place (store.instr w at_h) refl
               (ap (λ z. Do (Some z) Copy (r ∷ [])) copy.variable),
           copy.variable,
@@ -231,7 +231,7 @@ module _ (logic : Logical) (left right : Term) (place l d r end : ℕ) (a b c e 
 
 -- ---- in the words of the code's loops
 
-pub next_stored : (object place i : ℕ) (fields from : List ℕ) (a b new : Made) → i < length fields
+pub next_stored : (object place i : ℕ) (fields from : List ℕ) (a b new : BuilderParts) → i < length fields
     → length fields ≡ length from
     → OpIsAdded a (always (Do None (Store (get_or fields i 0)) (object ∷ get_or from i 0 ∷ []))) place b
     → FieldsAreStored object (drop (i + 1) fields) (drop (i + 1) from) place b new
@@ -243,7 +243,7 @@ next_stored object place i fields from a b new lt same h rest =
     (more_stored object (get_or fields i 0) (get_or from i 0) place (drop (i + 1) fields) (drop (i + 1) from) a b new h
     rest))
 
-pub end_stored : (object place i : ℕ) (fields from : List ℕ) (a : Made) → length fields ≤ i
+pub end_stored : (object place i : ℕ) (fields from : List ℕ) (a : BuilderParts) → length fields ≤ i
     → length fields ≡ length from → FieldsAreStored object (drop i fields) (drop i from) place a a
 end_stored object place i fields from a le same =
     subst (λ z. FieldsAreStored object z (drop i from) place a a) (sym (at_drop_all (λ l. l) fields i le))
@@ -253,7 +253,7 @@ end_stored object place i fields from a le same =
 abbrev all_terms : List CodeTerm → Terms
 all_terms l = terms_of (map term_of l)
 
-pub next_emitted : (items : List CodeTerm) (i : ℕ) (x : CodeTerm) (a b new : Made) (d : ℕ) (ds : List ℕ)
+pub next_emitted : (items : List CodeTerm) (i : ℕ) (x : CodeTerm) (a b new : BuilderParts) (d : ℕ) (ds : List ℕ)
     → i < length items → x ≡ get_or items i x → TermIsEmitted (term_of x) a d b
     → TermsAreEmitted (terms_of (map term_of (drop (i + 1) items))) b ds new
     → TermsAreEmitted (terms_of (map term_of (drop i items))) a (d ∷ ds) new
@@ -288,7 +288,7 @@ next_fits items i x lt is h =
     at_drop_more (λ l. terms_fit (all_terms l)) items i x lt ∙ ap (λ z. term_fits (term_of z) && terms_fit rest) (sym is) in
     sides (term_fits (term_of x)) (terms_fit rest) (sym more ∙ h)
 
-pub end_emitted : (items : List CodeTerm) (i : ℕ) (a : Made) → length items ≤ i
+pub end_emitted : (items : List CodeTerm) (i : ℕ) (a : BuilderParts) → length items ≤ i
     → TermsAreEmitted (terms_of (map term_of (drop i items))) a [] a
 end_emitted items i a le =
     subst (λ z. TermsAreEmitted z a [] a) (sym (at_drop_all all_terms items i le)) (none_emitted a)

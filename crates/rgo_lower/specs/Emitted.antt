@@ -1,4 +1,4 @@
--- What a builder has been given: the code of terms and statements, between its state before and its state after.
+-- What was added to a builder: the code of terms and statements, between its state before and its state after.
 use Rattle.std.specs.Prelude.{◌≡◌, ℕ, ◌+◌, ◌*◌, ◌<◌, ◌≤◌, Bool, true, false, List, [], ◌∷◌, ◌++◌, length, map, take, get_or, slice_set}
 use Rattle.std.specs.Prelude.{Option, Some, None, slice_get}
 use Rattle.rgo_typed.specs.declared.actions.Action.{Action}
@@ -13,8 +13,8 @@ use Rattle.rgo_tac.specs.declared.code.Instr.{Instr}
 use Rattle.rgo_tac.specs.declared.code.Instr.TheVariants as code
 use Rattle.rgo_tac.specs.Code.{Op, Do, Call, Jump, Branch, TacFn}
 use Rattle.rgo_tac.specs.Views.{op_of, body_of}
-use Rattle.rgo_lower.specs.Lowered.{Point, after, after_value, OpAt, Scope, found, Target}
-use Rattle.rgo_lower.specs.Lowered.{bool, logic_branch, StoresAt, TestAt, ConditionAt, TermAt, TermsAt, StmtAt, StmtsAt, IsLoweredFn}
+use Rattle.rgo_lower.specs.Lowered.{Point, next_point, after_value, OpAt, LoweringScope, variable_of_local, Target}
+use Rattle.rgo_lower.specs.Lowered.{bool_type, logic_branch, StoresAt, TestAt, ConditionAt, TermAt, TermsAt, StmtAt, StmtsAt, IsLoweredFn}
 use Rattle.rgo_lower.specs.Shapes.{how_many}
 use Rattle.rgo_lower.specs.Sizes.{term_size, terms_size, value_size, stmt_size, stmts_size}
 use Rattle.rgo_lower.specs.declared.builder.Builder.{Builder}
@@ -24,7 +24,7 @@ use Rattle.rgo_lower.specs.declared.builder.Loop.{Loop}
 -- ---- builders
 
 -- the parts of a builder; targets of jumps are numbers of labels
-pub record Made : Type 0 where
+pub record BuilderParts : Type 0 where
   pub lines : List Line
   pub variables : List «Type»
   pub lists : List (List ℕ)
@@ -34,7 +34,7 @@ pub record Made : Type 0 where
   -- the variable of each local variable that is in scope
   pub slots : List ℕ
 
-abbrev pub made_of : Builder → Made
+abbrev pub made_of : Builder → BuilderParts
 made_of b = record {
   lines = b.lines.items;
   variables = b.variables.items;
@@ -45,37 +45,37 @@ made_of b = record {
 }
 
 -- where the builder is
-abbrev pub point_of : Made → Point
+abbrev pub point_of : BuilderParts → Point
 point_of b = record { instr = length b.lines; variable = length b.variables }
 
-abbrev pub slot : Made → ℕ → ℕ
+abbrev pub slot : BuilderParts → ℕ → ℕ
 slot b n = get_or b.slots n 0
 
-abbrev pub with_line : Made → Instr → (place : ℕ) → Made
+abbrev pub with_line : BuilderParts → Instr → (place : ℕ) → BuilderParts
 with_line b i place = record b { lines = b.lines ++ record { instr = i; place = place } ∷ [] }
 
-abbrev pub with_variable : Made → «Type» → Made
+abbrev pub with_variable : BuilderParts → «Type» → BuilderParts
 with_variable b ty = record b { variables = b.variables ++ ty ∷ [] }
 
-abbrev pub with_list : Made → List ℕ → Made
+abbrev pub with_list : BuilderParts → List ℕ → BuilderParts
 with_list b l = record b { lists = b.lists ++ l ∷ [] }
 
-abbrev pub with_pieces : Made → List Piece → Made
+abbrev pub with_pieces : BuilderParts → List Piece → BuilderParts
 with_pieces b l = record b { pieces = b.pieces ++ l ∷ [] }
 
 -- a label that is not placed yet
-abbrev pub with_label : Made → Made
+abbrev pub with_label : BuilderParts → BuilderParts
 with_label b = record b { labels = b.labels ++ None ∷ [] }
 
 -- the label leads to the next instruction
-abbrev pub with_placed : Made → ℕ → Made
+abbrev pub with_placed : BuilderParts → ℕ → BuilderParts
 with_placed b k = record b { labels = slice_set b.labels k (Some (length b.lines)) }
 
-abbrev pub with_slot : Made → ℕ → ℕ → Made
+abbrev pub with_slot : BuilderParts → ℕ → ℕ → BuilderParts
 with_slot b n d = record b { slots = slice_set b.slots n d }
 
 -- how many instructions, variables, lists, texts and labels it has, all together
-abbrev pub count : Made → ℕ
+abbrev pub count : BuilderParts → ℕ
 count b = length b.lines + length b.variables + length b.lists + length b.pieces + length b.labels
 
 -- ---- instructions
@@ -125,8 +125,8 @@ resolved leads (code.Return a) = code.Return a
 resolved leads code.Leave = code.Leave
 
 -- whatever the function's labels, lists and pieces are
-abbrev pub Encodes : Instr → Op → Type 0
-Encodes i op = (leads : ℕ → ℕ) (lists : List (List ℕ)) (pieces : List (List Piece)) → op_of lists pieces
+abbrev pub InstrEncodes : Instr → Op → Type 0
+InstrEncodes i op = (leads : ℕ → ℕ) (lists : List (List ℕ)) (pieces : List (List Piece)) → op_of lists pieces
     (resolved leads i) ≡ op
 
 -- ---- growth
@@ -136,7 +136,7 @@ abbrev pub Kept : {A : Type 0} → List A → List A → Type 0
 Kept {A} xs ys = (i : ℕ) (x : A) → slice_get xs i ≡ Some x → slice_get ys i ≡ Some x
 
 -- what was there is as it was, unplaced labels too
-pub record Grown (old new : Made) : Type 0 where
+pub record Grown (old new : BuilderParts) : Type 0 where
   pub lines : Kept old.lines new.lines
   pub variables : Kept old.variables new.variables
   pub lists : Kept old.lists new.lists
@@ -156,7 +156,7 @@ pub record Whole : Type 0 where
   pub pieces : List (List Piece)
 
 -- the function has all that the builder was given
-pub record Completes (w : Whole) (b : Made) : Type 0 where
+pub record Completes (w : Whole) (b : BuilderParts) : Type 0 where
   pub lines :
       (i : ℕ) (l : Line) → slice_get b.lines i ≡ Some l
       → OpAt w.f i (op_of w.lists w.pieces (resolved w.leads l.instr)) l.place
@@ -168,11 +168,11 @@ pub record Completes (w : Whole) (b : Made) : Type 0 where
 -- ---- single instructions
 
 -- an instruction was added; what it does may depend on where labels lead
-pub record OpIsAdded (old : Made) (op : Whole → Op) (place : ℕ) (new : Made) : Type 0 where
+pub record OpIsAdded (old : BuilderParts) (op : Whole → Op) (place : ℕ) (new : BuilderParts) : Type 0 where
   pub grown : Grown old new
   pub size : count new ≤ count old + 3
   pub slots : new.slots ≡ old.slots
-  pub point : point_of new ≡ after (point_of old)
+  pub point : point_of new ≡ next_point (point_of old)
   pub instr : (w : Whole) → Completes w new → OpAt w.f (length old.lines) (op w) place
 
 -- the same operation wherever labels lead
@@ -189,8 +189,8 @@ branch_to test inside other w = Branch test (w.leads inside) (w.leads other)
 abbrev pub decides : Logical → (test next other : ℕ) → Whole → Op
 decides logic test next other w = logic_branch logic test next (w.leads other)
 
--- an instruction was added that gives a new variable of this type its value
-pub record ValueIsAdded (old : Made) (op : ℕ → Op) (ty : «Type») (place d : ℕ) (new : Made) : Type 0 where
+-- an instruction was added whose value goes to a new variable of this type
+pub record ValueIsAdded (old : BuilderParts) (op : ℕ → Op) (ty : «Type») (place d : ℕ) (new : BuilderParts) : Type 0 where
   pub grown : Grown old new
   pub size : count new ≤ count old + 3
   pub slots : new.slots ≡ old.slots
@@ -210,32 +210,32 @@ calls n from to = Call (Some to) n from
 -- ---- terms
 
 -- the scope of the code has the variables in scope, each with its slot, and no others
-pub record Knows (slots : List ℕ) (g : InScope) (scope : Scope) : Type 0 where
-  pub inside : (n : ℕ) → is_in_scope g n ≡ true → found scope n ≡ Some (get_or slots n 0)
-  pub outside : (n : ℕ) → is_in_scope g n ≡ false → found scope n ≡ None
+pub record ScopeHasSlots (slots : List ℕ) (g : InScope) (scope : LoweringScope) : Type 0 where
+  pub inside : (n : ℕ) → is_in_scope g n ≡ true → variable_of_local scope n ≡ Some (get_or slots n 0)
+  pub outside : (n : ℕ) → is_in_scope g n ≡ false → variable_of_local scope n ≡ None
 
 -- the code of a well-formed term was added
-pub record TermIsEmitted (t : Term) (old : Made) (d : ℕ) (new : Made) : Type 0 where
+pub record TermIsEmitted (t : Term) (old : BuilderParts) (d : ℕ) (new : BuilderParts) : Type 0 where
   pub grown : Grown old new
   pub size : count new ≤ count old + term_size t
   pub slots : new.slots ≡ old.slots
   pub code :
-      (w : Whole) (g : InScope) (ty : «Type») (scope : Scope) → HasType w.declared w.locals g t ty
-      → Knows old.slots g scope → Completes w new
+      (w : Whole) (g : InScope) (ty : «Type») (scope : LoweringScope) → HasType w.declared w.locals g t ty
+      → ScopeHasSlots old.slots g scope → Completes w new
       → TermAt w.functions w.f scope t (point_of old) d (point_of new)
 
-pub record TermsAreEmitted (ts : Terms) (old : Made) (ds : List ℕ) (new : Made) : Type 0 where
+pub record TermsAreEmitted (ts : Terms) (old : BuilderParts) (ds : List ℕ) (new : BuilderParts) : Type 0 where
   pub grown : Grown old new
   pub size : count new ≤ count old + terms_size ts
   pub values : length ds ≡ how_many ts
   pub slots : new.slots ≡ old.slots
   pub code :
-      (w : Whole) (g : InScope) (types : List «Type») (scope : Scope) → HaveTypes w.declared w.locals g ts types
-      → Knows old.slots g scope → Completes w new
+      (w : Whole) (g : InScope) (types : List «Type») (scope : LoweringScope) → HaveTypes w.declared w.locals g ts types
+      → ScopeHasSlots old.slots g scope → Completes w new
       → TermsAt w.functions w.f scope ts (point_of old) ds (point_of new)
 
 -- the values were stored, one in each field of an object
-pub record FieldsAreStored (object : ℕ) (fields ds : List ℕ) (place : ℕ) (old new : Made) : Type 0 where
+pub record FieldsAreStored (object : ℕ) (fields ds : List ℕ) (place : ℕ) (old new : BuilderParts) : Type 0 where
   pub grown : Grown old new
   pub size : count new ≤ count old + length fields * 3
   pub slots : new.slots ≡ old.slots
@@ -246,8 +246,8 @@ pub record FieldsAreStored (object : ℕ) (fields ds : List ℕ) (place : ℕ) (
 -- ---- statements
 
 -- if there is a loop around, these are the labels of the innermost
-abbrev pub Leads : Whole → (in_loop : Bool) → Option Loop → List Target → Type 0
-Leads w in_loop innermost targets =
+abbrev pub AreLoopTargets : Whole → (in_loop : Bool) → Option Loop → List Target → Type 0
+AreLoopTargets w in_loop innermost targets =
     in_loop ≡ true
     → (l : Loop) × (outer : List Target) × (innermost ≡ Some l)
     × (targets ≡ record { break_to = w.leads l.break_to; continue_to = w.leads l.continue_to } ∷ outer)
@@ -257,7 +257,7 @@ environment_of w in_loop =
     record { declared = w.declared; locals = w.locals; result_type = w.f.result_type; in_loop = in_loop }
 
 -- the code of a well-formed statement was added; variables in scope keep their slots
-pub record StmtIsEmitted (s : Stmt) (innermost : Option Loop) (old new : Made) : Type 0 where
+pub record StmtIsEmitted (s : Stmt) (innermost : Option Loop) (old new : BuilderParts) : Type 0 where
   pub grown : Grown old new
   pub size : count new ≤ count old + stmt_size s
   pub locals : length new.slots ≡ length old.slots
@@ -265,13 +265,13 @@ pub record StmtIsEmitted (s : Stmt) (innermost : Option Loop) (old new : Made) :
       (e : Environment) (g : InScope) → IsStmt e g s → (n : ℕ) → is_in_scope g n ≡ true
       → slot new n ≡ slot old n
   pub code :
-      (w : Whole) (in_loop : Bool) (g : InScope) (scope : Scope) (targets : List Target)
-      → IsStmt (environment_of w in_loop) g s → Leads w in_loop innermost targets → Knows old.slots g scope
+      (w : Whole) (in_loop : Bool) (g : InScope) (scope : LoweringScope) (targets : List Target)
+      → IsStmt (environment_of w in_loop) g s → AreLoopTargets w in_loop innermost targets → ScopeHasSlots old.slots g scope
       → Completes w new
-      → (scope2 : Scope) × StmtAt w.functions w.f s targets scope (point_of old) scope2 (point_of new)
-      × Knows new.slots (scope_after g s) scope2
+      → (scope2 : LoweringScope) × StmtAt w.functions w.f s targets scope (point_of old) scope2 (point_of new)
+      × ScopeHasSlots new.slots (scope_after g s) scope2
 
-pub record StmtsAreEmitted (all : Stmts) (innermost : Option Loop) (old new : Made) : Type 0 where
+pub record StmtsAreEmitted (all : Stmts) (innermost : Option Loop) (old new : BuilderParts) : Type 0 where
   pub grown : Grown old new
   pub size : count new ≤ count old + stmts_size all
   pub locals : length new.slots ≡ length old.slots
@@ -279,32 +279,32 @@ pub record StmtsAreEmitted (all : Stmts) (innermost : Option Loop) (old new : Ma
       (e : Environment) (g : InScope) → AreStmts e g all → (n : ℕ) → is_in_scope g n ≡ true
       → slot new n ≡ slot old n
   pub code :
-      (w : Whole) (in_loop : Bool) (g : InScope) (scope : Scope) (targets : List Target)
-      → AreStmts (environment_of w in_loop) g all → Leads w in_loop innermost targets → Knows old.slots g scope
+      (w : Whole) (in_loop : Bool) (g : InScope) (scope : LoweringScope) (targets : List Target)
+      → AreStmts (environment_of w in_loop) g all → AreLoopTargets w in_loop innermost targets → ScopeHasSlots old.slots g scope
       → Completes w new
-      → (scope2 : Scope) × StmtsAt w.functions w.f all targets scope (point_of old) scope2 (point_of new)
+      → (scope2 : LoweringScope) × StmtsAt w.functions w.f all targets scope (point_of old) scope2 (point_of new)
 
 -- a condition, and the branch to a label where it is false
-pub record TestIsEmitted (t : Term) (other place : ℕ) (old new : Made) : Type 0 where
+pub record TestIsEmitted (t : Term) (other place : ℕ) (old new : BuilderParts) : Type 0 where
   pub grown : Grown old new
   pub size : count new ≤ count old + term_size t + 3
   pub slots : new.slots ≡ old.slots
   pub code :
-      (w : Whole) (g : InScope) (scope : Scope) → HasType w.declared w.locals g t bool → Knows old.slots g scope
+      (w : Whole) (g : InScope) (scope : LoweringScope) → HasType w.declared w.locals g t bool_type → ScopeHasSlots old.slots g scope
       → Completes w new → TestAt w.functions w.f scope t (w.leads other) place (point_of old) (point_of new)
 
 -- the same of a loop's condition, if there is one
-pub record ConditionIsEmitted (t : Option Term) (other place : ℕ) (old new : Made) : Type 0 where
+pub record ConditionIsEmitted (t : Option Term) (other place : ℕ) (old new : BuilderParts) : Type 0 where
   pub grown : Grown old new
   pub size : count new ≤ count old + value_size t + 3
   pub slots : new.slots ≡ old.slots
   pub code :
-      (w : Whole) (in_loop : Bool) (g : InScope) (scope : Scope) → IsCondition (environment_of w in_loop) g t
-      → Knows old.slots g scope → Completes w new
+      (w : Whole) (in_loop : Bool) (g : InScope) (scope : LoweringScope) → IsCondition (environment_of w in_loop) g t
+      → ScopeHasSlots old.slots g scope → Completes w new
       → ConditionAt w.functions w.f scope t (w.leads other) place (point_of old) (point_of new)
 
 -- the code of a statement was added that has nothing to do with loops around it
-abbrev pub IsEmitted : Stmt → Made → Made → Type 0
+abbrev pub IsEmitted : Stmt → BuilderParts → BuilderParts → Type 0
 IsEmitted s old new = (innermost : Option Loop) → StmtIsEmitted s innermost old new
 
 -- ---- functions
@@ -319,7 +319,7 @@ abbrev pub leads_by : List (Option ℕ) → ℕ → ℕ
 leads_by labels k = number_of (slice_get labels k)
 
 -- the code of a function before its first instruction
-pub record Begins (params : ℕ) (locals : List «Type») (b : Made) : Type 0 where
+pub record FunctionCodeBegins (params : ℕ) (locals : List «Type») (b : BuilderParts) : Type 0 where
   pub lines : b.lines ≡ []
   pub variables : b.variables ≡ take params locals
   pub size : count b ≤ params
@@ -327,7 +327,7 @@ pub record Begins (params : ℕ) (locals : List «Type») (b : Made) : Type 0 wh
   pub slots : (n : ℕ) → n < length locals → slot b n ≡ n
 
 -- the finished function
-abbrev pub finished : Function → Made → TacFn
+abbrev pub finished : Function → BuilderParts → TacFn
 finished source b = record {
   name = source.name;
   params = source.params;

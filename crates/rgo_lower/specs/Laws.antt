@@ -7,8 +7,8 @@ use Rattle.rgo_tac.specs.Code.{Tac}
 use Rattle.rgo_tac.specs.Tac.{tac, tac_start}
 use Rattle.rgo_lower.specs.Lowered.{IsLowered}
 
--- Each run of a program has a run of its code with the same print and end, a deadlock where it is one, and the other way
--- round; within any limits on goroutines and frames, too.
+-- Each run of a program has a run of its code with the same print and end, a deadlock where it is one, and vice versa; also
+-- within any limits on goroutines and frames.
 abbrev pub LoweringSimulates : Type 0
 LoweringSimulates =
     (program : Typed) (code : Tac) → IsLowered program code

@@ -1,7 +1,7 @@
 -- How large the code of a program is at most, counted over its tree, so that it is known before there is any code. What is
 -- counted are the instructions, variables, lists of variables, texts and labels of a function, all together: each of them
--- has a number of 32 bits below this count. The program of a text of n bytes counts at most 12 n + 12, as the laws of
--- rgo_size_laws say, so that of a text of at most 1,048,576 bytes is never too large.
+-- has a number of 32 bits below this count. The program of a text of n bytes counts at most 12 n + 12, by the law of
+-- rgo_size_laws, so the program of a text of at most 1,048,576 bytes is never too large.
 use Rattle.std.specs.Prelude.{ℕ, ◌+◌, ◌*◌, ◌^◌, ◌≤◌, max, List, [], ◌∷◌, length, Option, Some, None}
 use Rattle.rgo_typed.specs.declared.programs.Struct.{Struct}
 use Rattle.rgo_typed.specs.Tree as tree
@@ -69,6 +69,6 @@ program_size p =
     max (max (length p.structs) (most_fields p.structs))
     (max (length p.variables) (max (length p.functions) (largest_of p.functions)))
 
--- a count is too large for numbers of 32 bits, of which two are kept for what is no variable
+-- a count is too large for numbers of 32 bits, the two largest of which are not used as numbers of variables
 abbrev pub IsTooLarge : Typed → Type 0
 IsTooLarge p = 2 ^ 32 ≤ program_size p + 2

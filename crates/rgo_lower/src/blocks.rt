@@ -1,4 +1,5 @@
-//! The code of statements, and of those with statements in them.
+//! The code of statements. A block, an `if` and a loop contain statements, so their functions and `lower_stmt` call each
+//! other: one cycle, with nothing else in it.
 
 ghost use Rattle.std.specs.Prelude.{◌≡◌, ◌+◌, ◌<◌, ◌^◌, IfOk, map, length, is_some, true};
 ghost use Rattle.rgo_typed.specs.Tree as tree;
@@ -113,7 +114,7 @@ fn lower_if(
     b.place(end)
 }
 
-/// `if` with `else`.
+/// `if` with `else`. The block of the `if` ends with a jump over the other one.
 #[cycle(statements)]
 fn lower_if_else(
     b: &mut Builder,
@@ -140,7 +141,8 @@ fn lower_if_else(
     b.place(end)
 }
 
-/// A loop.
+/// A loop. `continue` leads to the post statement and not to the test. The post statement is lowered as one outside of the
+/// loop, since neither `break` nor `continue` is a post statement.
 #[cycle(statements)]
 fn lower_loop(
     b: &mut Builder,

@@ -1,4 +1,5 @@
-//! The code of a function while it is made.
+//! The code of a function while it is made. A jump leads to a label, whose instruction is known only when the label is
+//! placed. Why: docs/DECISIONS.md, "Three-address code".
 
 ghost use Rattle.std.specs.Prelude.{◌≡◌, ◌<◌, ◌^◌, [], ◌∷◌, IfOk, length, get_or};
 ghost use Rattle.rgo_typed.specs.declared.actions.Action.TheVariants as action;
@@ -101,7 +102,8 @@ impl Builder {
         Ok(number)
     }
 
-    /// Places a label at the next instruction. Does nothing if there is no such label.
+    /// Places a label at the next instruction. Callers place labels that they have made here; any other number would
+    /// change nothing.
     pub fn place(&mut self, label: u32) -> Result<(), AllocError>
         requires { count (made_of self.now) < 2 ^ 32 }
         ensures { IfOk result (λ done. made_of self.new ≡ with_placed (made_of self.old) label) }
@@ -113,7 +115,8 @@ impl Builder {
         Ok(())
     }
 
-    /// The variable of a local variable.
+    /// The variable of a local variable; 0 for a number that no local variable has, which no tree contains that is
+    /// lowered.
     pub fn variable_of(&self, n: usize) -> u32
         ensures { result ≡ slot (made_of self.now) n }
     {

@@ -4,7 +4,7 @@ ghost use Rattle.std.specs.Prelude.{◌≡◌, [], ◌∷◌, length, true};
 ghost use Rattle.rgo_tac.specs.Code.{Do};
 ghost use Rattle.rgo_tac.specs.Views.{computing};
 ghost use Rattle.rgo_typed.specs.declared.actions.Action.TheVariants.{Copy};
-ghost use Rattle.rgo_lower.specs.Emitted.{Encodes, acts};
+ghost use Rattle.rgo_lower.specs.Emitted.{InstrEncodes, acts};
 ghost use Rattle.rgo_lower.specs.Lowered as spec;
 ghost use Rattle.rgo_lower.specs.Shapes.{is_strict, returns_value, has_effect};
 
@@ -14,7 +14,7 @@ use rgo_typed::{Action, Base, Type};
 
 /// A copy between variables of a type.
 pub fn copy_instr(ty: &Type, to: u32, from: u32) -> Instr
-    ensures { Encodes result (Do (Some to) Copy (from ∷ [])) }
+    ensures { InstrEncodes result (Do (Some to) Copy (from ∷ [])) }
 {
     if !ty.layers.items().is_empty() {
         return Instr::Copy(to, from);
@@ -26,10 +26,10 @@ pub fn copy_instr(ty: &Type, to: u32, from: u32) -> Instr
     }
 }
 
-/// An operator on two variables; `&&` and `||` are terms of their own.
+/// An operator on two variables. `&&` and `||` cannot occur: they are terms of their own, with a branch.
 fn binary_instr(to: u32, op: BinaryOp, a: u32, b: u32) -> Instr
     requires { is_strict op ≡ true }
-    ensures { Encodes result (computing to op a b) }
+    ensures { InstrEncodes result (computing to op a b) }
 {
     match op {
         BinaryOp::Add => Instr::Add(to, a, b),
@@ -71,10 +71,11 @@ fn three_operands(from: &[u32]) -> (u32, u32, u32)
     (from[0], from[1], from[2])
 }
 
-/// The instruction of an action that returns a value of this type.
+/// The instruction of an action that returns a value of this type. The others cannot occur: a tree that is lowered has them
+/// in statements only (`returns_value`).
 pub fn value_instr(to: u32, action: Action, from: &[u32], ty: &Type) -> Instr
     requires { returns_value action (length from.now) ≡ true }
-    ensures { Encodes result (acts action from.now to) }
+    ensures { InstrEncodes result (acts action from.now to) }
 {
     match action {
         Action::Int(k) => Instr::Int(to, k),
@@ -105,10 +106,11 @@ pub fn value_instr(to: u32, action: Action, from: &[u32], ty: &Type) -> Instr
     }
 }
 
-/// The instruction of an action that returns no value.
+/// The instruction of an action that returns no value. The others cannot occur: a tree that is lowered has them in terms
+/// only (`has_effect`).
 pub fn effect_instr(action: Action, from: &[u32]) -> Instr
     requires { has_effect action (length from.now) ≡ true }
-    ensures { Encodes result (Do None action from.now) }
+    ensures { InstrEncodes result (Do None action from.now) }
 {
     match action {
         Action::Store(k) => {

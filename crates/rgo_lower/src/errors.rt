@@ -1,6 +1,6 @@
 //! Why a program is not lowered.
 
-/// Why there is no code.
+/// Why `lower` returned no code.
 #[derive(Clone, Copy, Debug, PartialEq, Eq)]
 pub enum LowerError {
     NoMemory,

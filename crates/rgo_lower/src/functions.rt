@@ -7,7 +7,7 @@ ghost use Rattle.rgo_tac.specs.Views.{body_of};
 ghost use Rattle.rgo_lower.specs.Lowered.{closing_op};
 ghost use Rattle.rgo_lower.specs.Shapes.{stmts_fit};
 ghost use Rattle.rgo_lower.specs.Sizes.{function_size};
-ghost use Rattle.rgo_lower.specs.Emitted.{count, made_of, always, OpIsAdded, Begins, finished, FunctionIsLowered};
+ghost use Rattle.rgo_lower.specs.Emitted.{count, made_of, always, OpIsAdded, FunctionCodeBegins, finished, FunctionIsLowered};
 
 use crate::blocks::lower_stmts;
 use crate::builder::Builder;
@@ -30,11 +30,12 @@ fn first_slots(alloc: Global, count: usize) -> Result<Vec<u32>, AllocError>
     Ok(slots)
 }
 
-/// The local variables of these types, of which the first are parameters: each has the variable of its own number.
+/// The local variables of these types, of which the first are parameters: each has the variable of its own number. Only the
+/// parameters have variables in the code yet; each other one gets its own where it is declared, before it is used.
 fn begin(alloc: Global, locals: &[Type], params: usize) -> Result<Builder, AllocError>
     requires params { params ≤ length locals.now }
     requires locals { length locals.now < 2 ^ 32 }
-    ensures { IfOk result (λ b. Begins params locals.now (made_of b)) }
+    ensures { IfOk result (λ b. FunctionCodeBegins params locals.now (made_of b)) }
 {
     Ok(Builder {
         alloc,
@@ -47,7 +48,8 @@ fn begin(alloc: Global, locals: &[Type], params: usize) -> Result<Builder, Alloc
     })
 }
 
-/// Adds the end of a function: a return, or, where it has a result, a jump to itself, which is never reached.
+/// Adds the end of a function: a return, or, where it has a result, a jump to itself, which is never reached. Why:
+/// docs/DECISIONS.md, "Three-address code".
 fn close(b: &mut Builder, result_type: &Option<Type>, end: Place) -> Result<(), AllocError>
     requires { count (made_of b.now) + 4 < 2 ^ 32 }
     ensures { IfOk result (λ done. OpIsAdded (made_of b.old)
@@ -63,7 +65,7 @@ fn close(b: &mut Builder, result_type: &Option<Type>, end: Place) -> Result<(), 
     }
 }
 
-/// A function that is not too large.
+/// The function with these parts. It cannot be too large: `lower` has counted the whole program before it made any code.
 fn made(
     alloc: Global,
     name: Name,

@@ -24,7 +24,7 @@ use rgo_typed::{Action, Piece, Type};
 use std::alloc::AllocError;
 
 impl Builder {
-    /// An action that gives a new variable of this type its value.
+    /// An action whose value goes to a new variable of this type, which is returned.
     pub fn give(
         &mut self,
         action: Action,
@@ -43,7 +43,7 @@ impl Builder {
         Ok(to)
     }
 
-    /// An action that gives no value.
+    /// An action without a value.
     pub fn act(&mut self, action: Action, from: &[u32], place: Place) -> Result<(), AllocError>
         requires { has_effect action (length from.now) ≡ true }
         ensures { IfOk result (λ done. OpIsAdded (made_of self.old) (always (op.Do None action from.now)) place
@@ -53,7 +53,8 @@ impl Builder {
         self.line(instr, place)
     }
 
-    /// A copy to a variable that is there. It takes the type of that variable.
+    /// A copy to an existing variable, whose type chooses the fastest kind of copy. All kinds mean the same, so that it does
+    /// not matter which one is taken for a number that no variable has.
     pub fn copy_to(&mut self, to: u32, from: u32, place: Place) -> Result<(), AllocError>
         ensures { IfOk result (λ done. OpIsAdded (made_of self.old)
             (always (op.Do (Some to) action.Copy (from ∷ []))) place (made_of self.new)) }

@@ -1,4 +1,5 @@
-//! How large the code of a program is at most, counted before it is made.
+//! How large the code of a program is at most, counted before it is made. Sums saturate: a count that exceeds a machine word
+//! is too large in any case. Why it is counted first: docs/DECISIONS.md, "Three-address code".
 
 ghost use Rattle.std.specs.Prelude.{◌≡◌, ◌↔◌, ◌+◌, ◌<◌, false, ◌-◌, ◌^◌, true, map, max, min};
 ghost use Rattle.rgo_typed.specs.Tree.{terms_of, stmts_of};
@@ -8,10 +9,11 @@ ghost use Rattle.rgo_lower.specs.Sizes.{IsTooLarge};
 
 use rgo_typed::{Function, Stmt, Struct, Term, Typed};
 
-/// The most that a count may be.
+/// The most that a count may be, so that all numbers below it have 32 bits and the two largest are free for other uses.
 const MOST: usize = u32::MAX as usize - 2;
 
-/// What the code of a term counts.
+/// What the code of a term counts. The constants, here and below, are what a part adds by itself; `specs/Sizes.antt` says of
+/// what they are made.
 #[cycle(terms)]
 #[tactic(auto, using(rgo_typed::proofs::Rows::rows))]
 fn term_size(term: &Term) -> usize

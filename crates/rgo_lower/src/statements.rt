@@ -1,4 +1,4 @@
-//! The code of statements without statements in them.
+//! The code of statements that contain no others.
 
 ghost use Rattle.std.specs.Prelude.{◌≡◌, ◌+◌, ◌<◌, ◌^◌, IfOk, map, Some, length, true, is_some};
 ghost use Rattle.rgo_typed.specs.Tree as tree;
@@ -15,7 +15,7 @@ use rgo_ast::{BinaryOp, Place};
 use rgo_typed::{Action, Logical, Piece, Term, Type};
 use std::alloc::AllocError;
 
-/// An assignment that computes first.
+/// An assignment that reads its place before it writes it, as `p.v += 7`.
 #[derive(Clone, Copy)]
 pub struct Change<'a> {
     pub operands: &'a Vec<Term>,
@@ -28,7 +28,7 @@ pub struct Change<'a> {
     pub at: Place,
 }
 
-/// A local variable begins with a value.
+/// A local variable begins with a value. It is a copy, since the value may be that of another local variable.
 pub fn declare(
     b: &mut Builder,
     n: usize,
@@ -59,7 +59,7 @@ pub fn declare_zero(b: &mut Builder, n: usize, ty: &Type, place: Place) -> Resul
     Ok(())
 }
 
-/// A local variable is given a value.
+/// An assignment to a local variable.
 pub fn assign(b: &mut Builder, n: usize, value: &Term, place: Place) -> Result<(), AllocError>
     requires room { count (made_of b.now) + term_size (term_of value.now) + 3 < 2 ^ 32 }
     requires shape { term_fits (term_of value.now) ≡ true }
@@ -71,7 +71,7 @@ pub fn assign(b: &mut Builder, n: usize, value: &Term, place: Place) -> Result<(
     b.copy_to(variable, d, place)
 }
 
-/// An action that gives no value.
+/// An action without a value.
 pub fn perform(
     b: &mut Builder,
     action: Action,
@@ -88,7 +88,8 @@ pub fn perform(
     b.act(action, &from, place)
 }
 
-/// An assignment that computes first: the operands, the read, the value, the operation, the write.
+/// An assignment that reads its place before it writes it. In the order of the language: the operands of the place, which are
+/// evaluated once, the read, the value, the operation, the write.
 pub fn update(b: &mut Builder, change: &Change<'_>) -> Result<(), AllocError>
     requires room { count (made_of b.now) + stmt_size (tree.Update (record {
       operands = terms_of (map term_of change.now.operands.now.items);
@@ -190,7 +191,7 @@ pub fn print(
     b.print(pieces, from, place)
 }
 
-/// A jump out of the innermost loop.
+/// A jump out of the innermost loop. A tree that is lowered has a loop around each `break`.
 pub fn break_out(b: &mut Builder, innermost: Option<Loop>, place: Place) -> Result<(), AllocError>
     requires { is_some innermost ≡ true }
     ensures { IfOk result (λ done. StmtIsEmitted (tree.Break place) innermost (made_of b.old) (made_of b.new)) }
@@ -201,7 +202,7 @@ pub fn break_out(b: &mut Builder, innermost: Option<Loop>, place: Place) -> Resu
     }
 }
 
-/// A jump to the post statement of the innermost loop.
+/// A jump to the post statement of the innermost loop. A tree that is lowered has a loop around each `continue`.
 pub fn continue_on(b: &mut Builder, innermost: Option<Loop>, place: Place) -> Result<(), AllocError>
     requires { is_some innermost ≡ true }
     ensures { IfOk result (λ done. StmtIsEmitted (tree.Continue place) innermost (made_of b.old) (made_of b.new)) }

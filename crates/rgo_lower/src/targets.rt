@@ -9,7 +9,7 @@ use rgo_tac::Instr;
 use rgo_typed::Row;
 use std::alloc::{AllocError, Global};
 
-/// Where a label leads.
+/// Where a label leads; 0 for one that was not placed, which no jump names when the function is finished.
 fn target_at(labels: &[Option<u32>], label: u32) -> u32
     ensures { result ≡ leads_by labels.now label }
 {

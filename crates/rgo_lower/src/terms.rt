@@ -24,7 +24,7 @@ use std::alloc::{AllocError, Global};
 
 /// The type of truth values.
 fn truth(alloc: Global) -> Type
-    ensures { result ≡ spec.bool }
+    ensures { result ≡ spec.bool_type }
 {
     Type {
         layers: Row::new(Vec::new(alloc)),
@@ -34,7 +34,7 @@ fn truth(alloc: Global) -> Type
 
 /// The type of pointers to the struct of this number.
 fn pointer_to(alloc: Global, number: usize) -> Type
-    ensures { result ≡ spec.pointer_to number }
+    ensures { result ≡ spec.pointer_type number }
 {
     Type {
         layers: Row::new(Vec::new(alloc)),
@@ -64,7 +64,7 @@ impl Builder {
         self.place(next)
     }
 
-    /// Stores the values in the fields of an object, one in each.
+    /// Stores the values in the fields of an object, one in each. Other goroutines cannot see the object yet.
     fn fill(
         &mut self,
         object: u32,
@@ -84,7 +84,8 @@ impl Builder {
     }
 }
 
-/// The code of a term. The result is the variable with its value.
+/// The code of a term. The result is the variable with its value. That of `&&` and `||` is a new variable: the left side's own
+/// may be a local variable, which the value of the right side must not overwrite.
 #[cycle(terms)]
 #[tactic(auto, using(rgo_typed::proofs::Rows::rows))]
 pub fn lower_term(b: &mut Builder, term: &Term) -> Result<u32, AllocError>

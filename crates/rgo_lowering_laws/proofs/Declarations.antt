@@ -8,7 +8,7 @@ use Rattle.rgo_wellformed.specs.WellFormed as typed
 use Rattle.rgo_wellformed.specs.WellFormed.{AreDistinct}
 use Rattle.rgo_tac.specs.Code.{TacFn}
 use Rattle.rgo_lower.specs.Lowered.{IsLoweredFn, AreLowered}
-use Rattle.rgo_code.specs.Exists.{signature_of, IsNew}
+use Rattle.rgo_code.specs.Exists.{tac_signature, IsNew}
 use Rattle.rgo_lowering_laws.proofs.Lists.{some_is, none_is, holds_there}
 
 -- ---- names
@@ -31,14 +31,14 @@ is_new names h n = λ m name lt e k. distinct_new names h m n name name lt e k r
 
 module _ (functions : List Function) where
   same_signature : (source : Function) (f : TacFn) → IsLoweredFn functions source f
-      → signature_of f ≡ typed.signature_of source
+      → tac_signature f ≡ typed.signature_of source
   same_signature source f h =
       let params : take f.params f.variables ≡ take source.params source.locals =
       ap (λ n. take n f.variables) h.params ∙ h.param_types in
       λ i. record { params = params i; result_type = h.result_type i }
 
   pub same_signatures : (sources : List Function) (fs : List TacFn) → AreLowered functions sources fs
-      → map signature_of fs ≡ map typed.signature_of sources
+      → map tac_signature fs ≡ map typed.signature_of sources
   same_signatures [] [] h = refl
   same_signatures (source ∷ sources) (f ∷ fs) h =
       let first = same_signature source f h.0 in

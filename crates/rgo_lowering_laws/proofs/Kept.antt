@@ -4,19 +4,19 @@ use Rattle.std.proofs.Common.{sym, ap, ◌∙◌, subst, arith}
 use Rattle.std.proofs.lemmas.Bool.{cases_lt}
 use Rattle.rgo_typed.specs.declared.types.Type.{«Type»}
 use Rattle.rgo_tac.specs.Code.{Op, Instr, TacFn, Tac}
-use Rattle.rgo_code.specs.Exists.{TypeExists, Uses, OpExists}
-use Rattle.rgo_code.specs.Types.{OpFits}
+use Rattle.rgo_code.specs.Exists.{TypeExists, UsesVariable, OpExists}
+use Rattle.rgo_code.specs.Types.{IsWellTypedOp}
 use Rattle.rgo_code.specs.TypedCode.{StartFits, IsTypedInstr}
-use Rattle.rgo_lower.specs.Lowered.{Point, after_value, after, OpAt}
+use Rattle.rgo_lower.specs.Lowered.{Point, after_value, next_point, OpAt}
 use Rattle.rgo_lowering_laws.specs.Laws.{PrintsFit}
 use Rattle.rgo_lowering_laws.proofs.Lists.{some_is}
 
 module _ (code : Tac) (f : TacFn) where
   -- the instruction keeps the rules at every index but the last of its function
   pub record Safe (op : Op) : Type 0 where
-    pub variables : (v : ℕ) → Uses op v → v < length f.variables
+    pub variables : (v : ℕ) → UsesVariable op v → v < length f.variables
     pub exists : OpExists code f op
-    pub fits : OpFits code f op
+    pub fits : IsWellTypedOp code f op
     pub start : StartFits code op
     pub prints : PrintsFit f op
 
@@ -79,7 +79,7 @@ module _ (code : Tac) (f : TacFn) where
 
   -- one instruction
   pub one : (p : Point) (op : Op) (place : ℕ) → OpAt f p.instr op place → p.instr + 1 < length f.body → Safe op
-      → Kept p (after p)
+      → Kept p (next_point p)
   one p op place at within s = record {
     grows = omega arith;
     instrs = λ i instr from to is. at_place p.instr i op place instr at from to is (right p.instr op within s);

@@ -6,7 +6,7 @@ use Rattle.rgo_typed.specs.Tree as tree
 use Rattle.rgo_typed.specs.Tree.{Function, Term, Stmt, Stmts, Change, stmts_of}
 use Rattle.rgo_tac.specs.Code.{Jump, TacFn}
 use Rattle.rgo_flow.specs.Live.{Live}
-use Rattle.rgo_lower.specs.Lowered.{Point, after_value, after, OpAt, Scope, found, parameters, Target}
+use Rattle.rgo_lower.specs.Lowered.{Point, after_value, next_point, OpAt, LoweringScope, variable_of_local, parameters, Target}
 use Rattle.rgo_lower.specs.Lowered.{TestAt, ConditionAt, UpdateAt, StmtAt, StmtsAt, closing_op, IsLoweredFn}
 use Rattle.rgo_lower.proofs.follows.Places.{Inside}
 use Rattle.rgo_lower.proofs.follows.Grows.{stmts_scopes}
@@ -19,14 +19,14 @@ use Rattle.rgo_lowering_laws.proofs.LiveTerms.{InRange, term, terms}
 -- ---- scopes
 
 -- v belongs to the new local variable, or to one that was in scope before it
-begun : (scope : Scope) (n x v : ℕ) → InRange ((n, x) ∷ scope) v → Or (x ∷ []) (InRange scope) v
+begun : (scope : LoweringScope) (n x v : ℕ) → InRange ((n, x) ∷ scope) v → Or (x ∷ []) (InRange scope) v
 begun scope n x v h = go (nat_eq n h.0) h.1
   where
-    go : (b : Bool) → (if b then Some x else found scope h.0) ≡ Some v → Or (x ∷ []) (InRange scope) v
+    go : (b : Bool) → (if b then Some x else variable_of_local scope h.0) ≡ Some v → Or (x ∷ []) (InRange scope) v
     go true e = inl (inl (sym (some_is x v e)))
     go false e = inr (h.0, e)
 
-range_inside : (a b : Scope) → Inside a b → (v : ℕ) → InRange a v → InRange b v
+range_inside : (a b : LoweringScope) → Inside a b → (v : ℕ) → InRange a v → InRange b v
 range_inside a b i v h = (h.0, i.has h.0 v h.1)
 
 parameters_below : (k v : ℕ) → InRange (parameters k) v → v < k
@@ -34,36 +34,36 @@ parameters_below zero v (n, e) = absurd (none_is v e)
 parameters_below (suc k) v (n, e) = go (λ r. parameters_below k v r) (nat_eq k n) e
   where
     go : (InRange (parameters k) v → v < k) → (b : Bool)
-        → (if b then Some k else found (parameters k) n) ≡ Some v → v < suc k
+        → (if b then Some k else variable_of_local (parameters k) n) ≡ Some v → v < suc k
     go below true e = let is = some_is k v e in omega (arith, is)
     go below false e = omega (arith, below (n, e))
 
 module _ (functions : List Function) (f : TacFn) where
   -- within n steps, only what is in scope is live at this instruction or point
-  abbrev Scoped : (n at : ℕ) → Scope → Type 0
+  abbrev Scoped : (n at : ℕ) → LoweringScope → Type 0
   Scoped n at scope = OnlyLive f n at (InRange scope)
 
-  abbrev At : ℕ → Point → Scope → Type 0
+  abbrev At : ℕ → Point → LoweringScope → Type 0
   At n p scope = Scoped n p.instr scope
 
-  same_at : (n : ℕ) (p q : Point) (scope scope2 : Scope) → scope2 ≡ scope → q ≡ p → At n q scope2 → At n p scope
+  same_at : (n : ℕ) (p q : Point) (scope scope2 : LoweringScope) → scope2 ≡ scope → q ≡ p → At n q scope2 → At n p scope
   same_at n p q scope scope2 e at k = subst (At n p) e (same_point f n p q (InRange scope2) at k)
 
   -- ---- parts of statements
 
-  test : (n : ℕ) (scope : Scope) (t : Term) (otherwise place : ℕ) (p q : Point)
+  test : (n : ℕ) (scope : LoweringScope) (t : Term) (otherwise place : ℕ) (p q : Point)
       → TestAt functions f scope t otherwise place p q → Scoped n otherwise scope → At n q scope → At n p scope
   test n scope t otherwise place p q h l k =
       let R = InRange scope in
       term functions f n scope t p h.0 h.1 h.2 R (λ v r. r)
-      (at_branch f n h.1.instr place R h.0 (h.1.instr + 1) otherwise h.3 (same_point f n (after h.1) q R h.4 k) l)
+      (at_branch f n h.1.instr place R h.0 (h.1.instr + 1) otherwise h.3 (same_point f n (next_point h.1) q R h.4 k) l)
 
-  condition : (n : ℕ) (scope : Scope) (t : Option Term) (otherwise place : ℕ) (p q : Point)
+  condition : (n : ℕ) (scope : LoweringScope) (t : Option Term) (otherwise place : ℕ) (p q : Point)
       → ConditionAt functions f scope t otherwise place p q → Scoped n otherwise scope → At n q scope → At n p scope
   condition n scope None otherwise place p q h l k = same_point f n p q (InRange scope) h k
   condition n scope (Some t) otherwise place p q h l k = test n scope t otherwise place p q h l k
 
-  update : (n : ℕ) (scope : Scope) (c : Change) (p q : Point) → UpdateAt functions f scope c p q → At n q scope
+  update : (n : ℕ) (scope : LoweringScope) (c : Change) (p q : Point) → UpdateAt functions f scope c p q → At n q scope
       → At n p scope
   update n scope c p q h k =
       let R = InRange scope in
@@ -71,7 +71,7 @@ module _ (functions : List Function) (f : TacFn) where
       let mid = h.5 in
       let x = mid.variable in
       let old = h.1.variable in
-      let end = same_point f n (after (after_value mid)) q R h.9 k in
+      let end = same_point f n (next_point (after_value mid)) q R h.9 k in
       let written =
       weaker f n (mid.instr + 1) (Or (h.0 ++ x ∷ []) R) (Or (x ∷ []) held) (last_apart h.0 x R)
       (at_next f n (mid.instr + 1) _ c.at R h.8 refl end) in
@@ -86,21 +86,21 @@ module _ (functions : List Function) (f : TacFn) where
       (at_write f n h.1.instr _ c.read_at held old h.3.instr refl refl read))
 
   -- an instruction that declares a local variable
-  declare : (n : ℕ) (local x : ℕ) (p q : Point) (scope scope2 : Scope) → scope2 ≡ (local, x) ∷ scope → q ≡ p
+  declare : (n : ℕ) (local x : ℕ) (p q : Point) (scope scope2 : LoweringScope) → scope2 ≡ (local, x) ∷ scope → q ≡ p
       → At n q scope2 → OnlyLive f n p.instr (Or (x ∷ []) (InRange scope))
   declare n local x p q scope scope2 e at k =
       weaker f n p.instr (InRange ((local, x) ∷ scope)) (Or (x ∷ []) (InRange scope)) (begun scope local x)
       (same_at n p q ((local, x) ∷ scope) scope2 e at k)
 
   -- at the end of a block, what is in scope around it is in scope as well
-  leave : (n : ℕ) (all : Stmts) (targets : List Target) (scope : Scope) (p : Point) (inner : Scope) (q : Point)
+  leave : (n : ℕ) (all : Stmts) (targets : List Target) (scope : LoweringScope) (p : Point) (inner : LoweringScope) (q : Point)
       → StmtsAt functions f all targets scope p inner q → At n q scope → At n q inner
   leave n all targets scope p inner q h k =
       weaker f n q.instr (InRange scope) (InRange inner)
       (range_inside scope inner (stmts_scopes functions f all targets scope p inner q h)) k
 
   -- a jump back takes a step, so there are no more turns than steps
-  turns : (n : ℕ) (p : Point) (last place : ℕ) (scope : Scope) → OpAt f last (Jump p.instr) place
+  turns : (n : ℕ) (p : Point) (last place : ℕ) (scope : LoweringScope) → OpAt f last (Jump p.instr) place
       → ((m : ℕ) → m ≤ n → Scoped m last scope → At m p scope) → At n p scope
   turns zero p last place scope at turn =
       turn 0 (omega arith)
@@ -114,18 +114,18 @@ module _ (functions : List Function) (f : TacFn) where
   -- ---- loops
 
   -- only what is in scope is live where `break` and `continue` of the innermost loop lead
-  abbrev Lands : ℕ → List Target → Scope → Type 0
+  abbrev Lands : ℕ → List Target → LoweringScope → Type 0
   Lands n [] scope = Unit {0}
   Lands n (t ∷ targets) scope = Scoped n t.break_to scope × Scoped n t.continue_to scope
 
-  lands_inside : (n : ℕ) (targets : List Target) (a b : Scope) → Inside a b → Lands n targets a → Lands n targets b
+  lands_inside : (n : ℕ) (targets : List Target) (a b : LoweringScope) → Inside a b → Lands n targets a → Lands n targets b
   lands_inside n [] a b i h = tt
   lands_inside n (t ∷ targets) a b i h = (
     weaker f n t.break_to (InRange a) (InRange b) (range_inside a b i) h.0,
     weaker f n t.continue_to (InRange a) (InRange b) (range_inside a b i) h.1,
   )
 
-  fewer_lands : (m n : ℕ) (targets : List Target) (scope : Scope) → m ≤ n → Lands n targets scope
+  fewer_lands : (m n : ℕ) (targets : List Target) (scope : LoweringScope) → m ≤ n → Lands n targets scope
       → Lands m targets scope
   fewer_lands m n [] scope le h = tt
   fewer_lands m n (t ∷ targets) scope le h =
@@ -134,7 +134,7 @@ module _ (functions : List Function) (f : TacFn) where
   -- ---- statements
 
   mutual
-    stmt : (s : Stmt) (targets : List Target) (scope : Scope) (p : Point) (scope2 : Scope) (q : Point)
+    stmt : (s : Stmt) (targets : List Target) (scope : LoweringScope) (p : Point) (scope2 : LoweringScope) (q : Point)
         → StmtAt functions f s targets scope p scope2 q
         → (n : ℕ) → Lands n targets scope → At n q scope2 → At n p scope
     stmt (tree.Block all) targets scope p scope2 q h n lands k =
@@ -150,10 +150,10 @@ module _ (functions : List Function) (f : TacFn) where
         (declare n x p.variable (after_value p) q scope scope2 h.2 h.3 k))
     stmt (tree.Assign x value place) targets scope p scope2 q h n lands k =
         term functions f n scope value p h.0 h.1 h.3 (InRange scope) (λ v r. r)
-        (at_next f n h.1.instr _ place (InRange scope) h.5 refl (same_at n (after h.1) q scope scope2 h.6 h.7 k))
+        (at_next f n h.1.instr _ place (InRange scope) h.5 refl (same_at n (next_point h.1) q scope scope2 h.6 h.7 k))
     stmt (tree.Perform action operands place) targets scope p scope2 q h n lands k =
         terms functions f n scope operands p h.0 h.1 h.2 (InRange scope) (λ v r. r)
-        (at_next f n h.1.instr _ place (InRange scope) h.3 refl (same_at n (after h.1) q scope scope2 h.4 h.5 k))
+        (at_next f n h.1.instr _ place (InRange scope) h.3 refl (same_at n (next_point h.1) q scope scope2 h.4 h.5 k))
     stmt (tree.Update c) targets scope p scope2 q h n lands k =
         update n scope c p q h.0 (same_at n q q scope scope2 h.1 refl k)
     stmt (tree.Discard value) targets scope p scope2 q h n lands k =
@@ -162,13 +162,13 @@ module _ (functions : List Function) (f : TacFn) where
         (same_at n q q scope scope2 h.2 refl k))
     stmt (tree.Invoke callee arguments place) targets scope p scope2 q h n lands k =
         terms functions f n scope arguments p h.0 h.1 h.2 (InRange scope) (λ v r. r)
-        (at_next f n h.1.instr _ place (InRange scope) h.3 refl (same_at n (after h.1) q scope scope2 h.5 h.6 k))
+        (at_next f n h.1.instr _ place (InRange scope) h.3 refl (same_at n (next_point h.1) q scope scope2 h.5 h.6 k))
     stmt (tree.Go callee arguments place) targets scope p scope2 q h n lands k =
         terms functions f n scope arguments p h.0 h.1 h.2 (InRange scope) (λ v r. r)
-        (at_next f n h.1.instr _ place (InRange scope) h.3 refl (same_at n (after h.1) q scope scope2 h.5 h.6 k))
+        (at_next f n h.1.instr _ place (InRange scope) h.3 refl (same_at n (next_point h.1) q scope scope2 h.5 h.6 k))
     stmt (tree.Print pieces values place) targets scope p scope2 q h n lands k =
         terms functions f n scope values p h.0 h.1 h.2 (InRange scope) (λ v r. r)
-        (at_next f n h.1.instr _ place (InRange scope) h.3 refl (same_at n (after h.1) q scope scope2 h.4 h.5 k))
+        (at_next f n h.1.instr _ place (InRange scope) h.3 refl (same_at n (next_point h.1) q scope scope2 h.4 h.5 k))
     stmt (tree.If t body place) targets scope p scope2 q h n lands k =
         let end = same_at n q q scope scope2 h.4 refl k in
         test n scope t q.instr place p h.0 h.2 end
@@ -177,8 +177,8 @@ module _ (functions : List Function) (f : TacFn) where
         let R = InRange scope in
         let end = same_at n q q scope scope2 h.8 refl k in
         let over =
-        stmts other targets scope (after h.1) h.3 q h.7 n lands
-        (leave n other targets scope (after h.1) h.3 q h.7 end) in
+        stmts other targets scope (next_point h.1) h.3 q h.7 n lands
+        (leave n other targets scope (next_point h.1) h.3 q h.7 end) in
         let jump = at_jump f n h.1.instr place R q.instr h.6 end in
         test n scope t (h.1.instr + 1) place p h.0 h.4 over
         (stmts body targets scope h.0 h.2 h.1 h.5 n lands (leave n body targets scope h.0 h.2 h.1 h.5 jump))
@@ -207,7 +207,7 @@ module _ (functions : List Function) (f : TacFn) where
         term functions f n scope value p h.0 h.1 h.3 (InRange scope) (λ v r. r)
         (at_return f n h.1.instr place (InRange scope) (Some h.0) h.4)
 
-    stmts : (all : Stmts) (targets : List Target) (scope : Scope) (p : Point) (scope2 : Scope) (q : Point)
+    stmts : (all : Stmts) (targets : List Target) (scope : LoweringScope) (p : Point) (scope2 : LoweringScope) (q : Point)
         → StmtsAt functions f all targets scope p scope2 q
         → (n : ℕ) → Lands n targets scope → At n q scope2 → At n p scope
     stmts tree.no_stmts targets scope p scope2 q h n lands k = same_at n p q scope scope2 h.0 h.1 k

@@ -6,14 +6,14 @@ use Rattle.rgo_typed.specs.declared.actions.Logical.TheVariants.{And, Or as OrEl
 use Rattle.rgo_typed.specs.Tree as tree
 use Rattle.rgo_typed.specs.Tree.{Function, Term, Terms}
 use Rattle.rgo_tac.specs.Code.{TacFn}
-use Rattle.rgo_lower.specs.Lowered.{Point, after_value, after, OpAt, Scope, found, logic_branch}
+use Rattle.rgo_lower.specs.Lowered.{Point, after_value, next_point, OpAt, LoweringScope, variable_of_local, logic_branch}
 use Rattle.rgo_lower.specs.Lowered.{StoresAt, TermAt, TermsAt}
 use Rattle.rgo_lowering_laws.proofs.Liveness.{Or, nothing_more, join, first_apart, OnlyLive, weaker, same_point}
 use Rattle.rgo_lowering_laws.proofs.Liveness.{at_write, at_next, at_branch}
 
 -- v is the variable of a local variable in scope
-abbrev pub InRange : Scope → ℕ → Type 0
-InRange scope v = (n : ℕ) × (found scope n ≡ Some v)
+abbrev pub InRange : LoweringScope → ℕ → Type 0
+InRange scope v = (n : ℕ) × (variable_of_local scope n ≡ Some v)
 
 stored : (object d : ℕ) (ds : List ℕ) (R : ℕ → Type 0) (v : ℕ) → Or (object ∷ d ∷ []) (Or (object ∷ []) (Or ds R)) v
     → Or (object ∷ []) (Or (d ∷ ds) R) v
@@ -43,7 +43,7 @@ module _ (functions : List Function) (f : TacFn) where
         weaker f n p.instr (Or (object ∷ d ∷ []) (Or (object ∷ []) (Or ds R))) (Or (object ∷ []) (Or (d ∷ ds) R))
         (stored object d ds R)
         (at_next f n p.instr _ place (Or (object ∷ []) (Or ds R)) h.0 refl
-        (stores object fields ds place (after p) q R h.1 k))
+        (stores object fields ds place (next_point p) q R h.1 k))
     stores object [] (d ∷ ds) place p q R h k = absurd h
     stores object (x ∷ fields) [] place p q R h k = absurd h
 
@@ -57,7 +57,7 @@ module _ (functions : List Function) (f : TacFn) where
         (at_branch f n i place (Or (d ∷ []) R) d end right at l (weaker f n right R (Or (d ∷ []) R) (λ v r. inr r) k))
 
     mutual
-      pub term : (scope : Scope) (t : Term) (p : Point) (d : ℕ) (q : Point) → TermAt functions f scope t p d q
+      pub term : (scope : LoweringScope) (t : Term) (p : Point) (d : ℕ) (q : Point) → TermAt functions f scope t p d q
           → (R : ℕ → Type 0) → ((v : ℕ) → InRange scope v → R v) → Only n q (Or (d ∷ []) R) → Only n p R
       term scope (tree.Local x) p d q h R sub k =
           weaker f n p.instr (Or (d ∷ []) R) R
@@ -69,12 +69,12 @@ module _ (functions : List Function) (f : TacFn) where
           (valued n d h.1.variable (after_value h.1) q R h.4 h.5 k))
       term scope (tree.Logic l left right place) p d q h R sub k =
           let x = h.1.variable in
-          let end = valued n d x (after h.5) q R h.9 h.10 k in
+          let end = valued n d x (next_point h.5) q R h.9 h.10 k in
           let last = at_write f n h.5.instr _ place R x h.8 refl refl end in
           let two : h.1.instr + 1 + 1 ≡ h.1.instr + 2 = omega arith in
           let from =
           subst (λ z. OnlyLive f n z R) two
-          (term scope right (after (after_value h.1)) h.4 h.5 h.7 R sub last) in
+          (term scope right (next_point (after_value h.1)) h.4 h.5 h.7 R sub last) in
           let branch = logic l (h.1.instr + 1) x (h.1.instr + 2) (h.5.instr + 1) place R h.6 from end in
           term scope left p h.0 h.1 h.2 R sub (at_write f n h.1.instr _ place R x h.3.instr refl refl branch)
       term scope (tree.Build s parts fields place) p d q h R sub k =
@@ -88,7 +88,7 @@ module _ (functions : List Function) (f : TacFn) where
           (at_write f n h.1.instr _ place R h.1.variable h.3 refl refl
           (valued n d h.1.variable (after_value h.1) q R h.6 h.7 k))
 
-      pub terms : (scope : Scope) (ts : Terms) (p : Point) (ds : List ℕ) (q : Point)
+      pub terms : (scope : LoweringScope) (ts : Terms) (p : Point) (ds : List ℕ) (q : Point)
           → TermsAt functions f scope ts p ds q → (R : ℕ → Type 0) → ((v : ℕ) → InRange scope v → R v)
           → Only n q (Or ds R) → Only n p R
       terms scope tree.no_terms p ds q h R sub k =

@@ -12,9 +12,9 @@ use Rattle.rgo_wellformed.specs.TypeRules.{IsType}
 use Rattle.rgo_wellformed.specs.WellFormed as typed
 use Rattle.rgo_wellformed.specs.WellFormed.{IsFunction, IsResult, IsWellFormed, AreStmts, AreDistinct, first_numbers}
 use Rattle.rgo_tac.specs.Code.{Instr, TacFn, Tac}
-use Rattle.rgo_lower.specs.Lowered.{Point, found, parameters, closing_op, IsLoweredFn, IsLowered}
+use Rattle.rgo_lower.specs.Lowered.{Point, variable_of_local, parameters, closing_op, IsLoweredFn, IsLowered}
 use Rattle.rgo_lower.proofs.follows.Grows.{tested_eq, stmts_grow}
-use Rattle.rgo_code.specs.Exists.{declared_by, TypeExists, StructExists, VariableExists, HasMain}
+use Rattle.rgo_code.specs.Exists.{declared_in_code, TypeExists, StructExists, VariableExists, HasMain}
 use Rattle.rgo_code.specs.TypedCode.{IsTypedFn}
 use Rattle.rgo_lowering_laws.specs.Laws.{LoweredIsTyped, LoweredPrints, PrintsFit}
 use Rattle.rgo_lowering_laws.proofs.Lists.{some_is, none_is, holds_there, taken_at}
@@ -26,18 +26,18 @@ use Rattle.rgo_lowering_laws.proofs.Declarations.{is_new, same_signatures, same_
 use Rattle.rgo_lowering_laws.proofs.LiveStatements.{writes_first}
 
 -- each parameter is the variable of the same number
-parameter_is : (k n d : ℕ) → found (parameters k) n ≡ Some d → (n ≡ d) × (n < k)
+parameter_is : (k n d : ℕ) → variable_of_local (parameters k) n ≡ Some d → (n ≡ d) × (n < k)
 parameter_is zero n d e = absurd (none_is d e)
 parameter_is (suc k) n d e = go (parameter_is k n d) (nat_eq k n) refl e
   where
-    go : (found (parameters k) n ≡ Some d → (n ≡ d) × (n < k)) → (b : Bool) → nat_eq k n ≡ b
-        → (if b then Some k else found (parameters k) n) ≡ Some d → (n ≡ d) × (n < suc k)
+    go : (variable_of_local (parameters k) n ≡ Some d → (n ≡ d) × (n < k)) → (b : Bool) → nat_eq k n ≡ b
+        → (if b then Some k else variable_of_local (parameters k) n) ≡ Some d → (n ≡ d) × (n < suc k)
     go before true t e =
         let same = tested_eq k n t in let is = some_is k d e in (sym same ∙ is, omega (arith, same))
     go before false t e = let r = before e in (r.0, omega (arith, r.1))
 
 module _ (program : Typed) (code : Tac) (w : IsWellFormed program) (h : IsLowered program code) where
-  same_declared : declared_by code ≡ typed.declared_by program
+  same_declared : declared_in_code code ≡ typed.declared_by program
   same_declared =
       let functions = same_signatures program.functions program.functions code.functions h.functions in
       λ i. record {
@@ -50,12 +50,12 @@ module _ (program : Typed) (code : Tac) (w : IsWellFormed program) (h : IsLowere
   exists t k = subst (λ d. IsType d t) (sym same_declared) k
 
   function_is : (n : ℕ) (source : Function) → slice_get program.functions n ≡ Some source
-      → IsFunction (declared_by code) source
+      → IsFunction (declared_in_code code) source
   function_is n source at =
       subst (λ d. IsFunction d source) (sym same_declared)
       (holds_there (IsFunction (typed.declared_by program)) program.functions n source at w.functions)
 
-  result_exists : (ty : Option «Type») → IsResult (declared_by code) ty → (t : «Type») → ty ≡ Some t
+  result_exists : (ty : Option «Type») → IsResult (declared_in_code code) ty → (t : «Type») → ty ≡ Some t
       → TypeExists code t
   result_exists None k t e = absurd (none_is t e)
   result_exists (Some u) k t e = subst (TypeExists code) (some_is u t e) k
@@ -82,7 +82,7 @@ module _ (program : Typed) (code : Tac) (w : IsWellFormed program) (h : IsLowere
       let is = function_is n s.source s.at in
       result_exists s.source.result_type is.result_type t (sym s.lowered.result_type ∙ e)
 
-  module _ (f : TacFn) (source : Function) (is : IsFunction (declared_by code) source)
+  module _ (f : TacFn) (source : Function) (is : IsFunction (declared_in_code code) source)
       (l : IsLoweredFn program.functions source f) where
     abbrev setting : Setting
     setting = record {
@@ -90,7 +90,7 @@ module _ (program : Typed) (code : Tac) (w : IsWellFormed program) (h : IsLowere
       code = code;
       f = f;
       locals = source.locals;
-      local_types = λ n t e. holds_there (IsType (declared_by code)) source.locals n t e is.locals;
+      local_types = λ n t e. holds_there (IsType (declared_in_code code)) source.locals n t e is.locals;
       result_types = result_types;
       params = params_fit;
     }
@@ -117,7 +117,7 @@ module _ (program : Typed) (code : Tac) (w : IsWellFormed program) (h : IsLowere
     kept =
         let body =
         subst (λ ty. AreStmts (record {
-          declared = declared_by code;
+          declared = declared_in_code code;
           locals = source.locals;
           result_type = ty;
           in_loop = false;
@@ -161,7 +161,7 @@ module _ (program : Typed) (code : Tac) (w : IsWellFormed program) (h : IsLowere
     typed_variable v t e =
         let within = slice_get_within f.variables v t e in
         ⊎_elim (λ less.
-        holds_there (IsType (declared_by code)) source.locals v t (sym (parameter_at v less) ∙ e) is.locals)
+        holds_there (IsType (declared_in_code code)) source.locals v t (sym (parameter_at v less) ∙ e) is.locals)
         (λ more. kept.variables v t more (omega (arith, within, l.variables)) e)
         (cases_lt v source.params)
 

@@ -7,14 +7,14 @@ use Rattle.rgo_typed.specs.declared.types.Base.TheVariants as base
 use Rattle.rgo_typed.specs.declared.types.Layer.{Layer}
 use Rattle.rgo_typed.specs.declared.types.Type.{«Type»}
 use Rattle.rgo_typed.specs.Tree as tree
-use Rattle.rgo_typed.specs.Tree.{Function, Term, Terms, Stmt, Stmts, Change}
+use Rattle.rgo_typed.specs.Tree.{Term, Stmt, Stmts, Change}
 use Rattle.rgo_wellformed.specs.TypeRules.{bool, Signature, Returns}
 use Rattle.rgo_wellformed.specs.WellFormed.{Environment, InScope, IsStmt, AreStmts, IsCondition, Updates}
 use Rattle.rgo_wellformed.specs.WellFormed.{scope_after}
 use Rattle.rgo_tac.specs.Code.{Op, Tac}
-use Rattle.rgo_code.specs.Exists.{declared_by, signature_of, TypeExists}
-use Rattle.rgo_code.specs.Types.{HasType, HaveTypes}
-use Rattle.rgo_lower.specs.Lowered.{Point, after_value, after, OpAt, Scope, found, Target, zero_action_in, zero_action}
+use Rattle.rgo_code.specs.Exists.{declared_in_code, tac_signature, TypeExists}
+use Rattle.rgo_code.specs.Types.{VariableHasType, VariablesHaveTypes}
+use Rattle.rgo_lower.specs.Lowered.{Point, after_value, next_point, OpAt, LoweringScope, variable_of_local, Target, zero_action_in, zero_action}
 use Rattle.rgo_lower.specs.Lowered.{TestAt, ConditionAt, UpdateAt, StmtAt, StmtsAt}
 use Rattle.rgo_lower.proofs.follows.Grows.{tested_eq}
 use Rattle.rgo_lowering_laws.proofs.Lists.{some_is}
@@ -28,7 +28,7 @@ use Rattle.rgo_lowering_laws.proofs.Terms.{HasTermType}
 
 -- a constant has the type of which it is the zero
 zero_returns_in : (c : Tac) (layers : List Layer) (b : Base)
-    → Returns (declared_by c) (zero_action_in layers b) [] (record { layers = layers; base = b })
+    → Returns (declared_in_code c) (zero_action_in layers b) [] (record { layers = layers; base = b })
 zero_returns_in c [] base.Int = (refl, refl)
 zero_returns_in c [] base.Bool = (refl, refl)
 zero_returns_in c [] (base.Pointer n) = (refl, refl)
@@ -37,7 +37,7 @@ zero_returns_in c (layer ∷ layers) b = (refl, refl)
 module _ (c : Setting) where
   abbrev pub environment : Bool → Environment
   environment in_loop = record {
-    declared = declared_by c.code;
+    declared = declared_in_code c.code;
     locals = c.locals;
     result_type = c.f.result_type;
     in_loop = in_loop;
@@ -51,23 +51,23 @@ module _ (c : Setting) where
   -- ---- scopes
 
   -- a local variable begins
-  begins : (scope : Scope) (n x : ℕ) (ty : «Type») → slice_get c.locals n ≡ Some ty → HasType c.f x ty
+  begins : (scope : LoweringScope) (n x : ℕ) (ty : «Type») → slice_get c.locals n ≡ Some ty → VariableHasType c.f x ty
       → Agrees c scope → Agrees c ((n, x) ∷ scope)
   begins scope n x ty known made agrees = record { has = λ m d t e there. go m d t (nat_eq n m) refl e there }
     where
-      go : (m d : ℕ) (t : «Type») (b : Bool) → nat_eq n m ≡ b → (if b then Some x else found scope m) ≡ Some d
-          → slice_get c.locals m ≡ Some t → HasType c.f d t
+      go : (m d : ℕ) (t : «Type») (b : Bool) → nat_eq n m ≡ b → (if b then Some x else variable_of_local scope m) ≡ Some d
+          → slice_get c.locals m ≡ Some t → VariableHasType c.f d t
       go m d t true same e there =
           let here = ap (slice_get c.locals) (tested_eq n m same) in
           let is = some_is ty t (sym known ∙ (here ∙ there)) in
-          subst (λ z. HasType c.f z t) (some_is x d e) (subst (HasType c.f x) is made)
+          subst (λ z. VariableHasType c.f z t) (some_is x d e) (subst (VariableHasType c.f x) is made)
       go m d t false same e there = agrees.has m d t e there
 
-  same_agrees : (scope scope2 : Scope) → scope2 ≡ scope → Agrees c scope → Agrees c scope2
+  same_agrees : (scope scope2 : LoweringScope) → scope2 ≡ scope → Agrees c scope → Agrees c scope2
   same_agrees scope scope2 e h = subst (Agrees c) (sym e) h
 
-  stmt_agrees : (b : Bool) (g : InScope) (s : Stmt) (targets : List Target) (scope : Scope) (p : Point)
-      (scope2 : Scope) (q : Point) → StmtAt c.functions c.f s targets scope p scope2 q → IsStmt (environment b) g s
+  stmt_agrees : (b : Bool) (g : InScope) (s : Stmt) (targets : List Target) (scope : LoweringScope) (p : Point)
+      (scope2 : LoweringScope) (q : Point) → StmtAt c.functions c.f s targets scope p scope2 q → IsStmt (environment b) g s
       → Agrees c scope → Agrees c scope2
   stmt_agrees b g (tree.Declare n ty value place) targets scope p scope2 q h w agrees =
       same_agrees ((n, h.1.variable) ∷ scope) scope2 h.5 (begins scope n h.1.variable ty w.0.1 h.3.variable agrees)
@@ -102,35 +102,35 @@ module _ (c : Setting) where
 
   -- ---- parts of statements
 
-  test_keeps : (scope : Scope) (g : InScope) (t : Term) (otherwise place : ℕ) (p q : Point)
+  test_keeps : (scope : LoweringScope) (g : InScope) (t : Term) (otherwise place : ℕ) (p q : Point)
       → TestAt c.functions c.f scope t otherwise place p q → HasTermType c g t bool → Agrees c scope
       → Inside c otherwise → Inside c q.instr → Keeps c p q
   test_keeps scope g t otherwise place p q h w agrees other within =
       let mid = h.1 in
-      let next = same_inside c (after mid) q h.4 within in
+      let next = same_inside c (next_point mid) q h.4 within in
       let a = term c scope g t p h.0 mid bool h.2 w agrees (inside c mid.instr _ place h.3) in
-      ends c.code c.f p (after mid) q
-      (chain c.code c.f p mid (after mid) a.code
+      ends c.code c.f p (next_point mid) q
+      (chain c.code c.f p mid (next_point mid) a.code
       (one c.code c.f mid _ place h.3 next
       (branch_is_safe c.f c.code h.0 (mid.instr + 1) otherwise a.value next other)))
       h.4
 
-  condition_keeps : (b : Bool) (scope : Scope) (g : InScope) (t : Option Term) (otherwise place : ℕ) (p q : Point)
+  condition_keeps : (b : Bool) (scope : LoweringScope) (g : InScope) (t : Option Term) (otherwise place : ℕ) (p q : Point)
       → ConditionAt c.functions c.f scope t otherwise place p q → IsCondition (environment b) g t → Agrees c scope
       → Inside c otherwise → Inside c q.instr → Keeps c p q
   condition_keeps b scope g None otherwise place p q h w agrees other within = nothing c.code c.f p q h
   condition_keeps b scope g (Some t) otherwise place p q h w agrees other within =
       test_keeps scope g t otherwise place p q h w agrees other within
 
-  update_keeps : (b : Bool) (scope : Scope) (g : InScope) (u : Change) (p q : Point)
+  update_keeps : (b : Bool) (scope : LoweringScope) (g : InScope) (u : Change) (p q : Point)
       → UpdateAt c.functions c.f scope u p q → Updates (environment b) g u → Agrees c scope → Inside c q.instr
       → Keeps c p q
   update_keeps b scope g u p q h w agrees within =
       let before = h.1 in
       let mid = h.5 in
-      let made : HasType c.f before.variable u.ty = h.3.variable in
-      let result : HasType c.f mid.variable u.ty = h.7.variable in
-      let end : Point = after (after_value mid) in
+      let made : VariableHasType c.f before.variable u.ty = h.3.variable in
+      let result : VariableHasType c.f mid.variable u.ty = h.7.variable in
+      let end : Point = next_point (after_value mid) in
       let at_end : Inside c (mid.instr + 1 + 1) = same_inside c end q h.9 within in
       let at_read = inside c before.instr _ u.read_at h.3.instr in
       let a = terms c scope g u.operands p h.0 before w.0 h.2 w.1 agrees at_read in
@@ -157,17 +157,17 @@ module _ (c : Setting) where
       h.9
 
   -- an instruction after operands
-  followed : (op : Op) (place : ℕ) (p mid q : Point) → Keeps c p mid → OpAt c.f mid.instr op place → q ≡ after mid
+  followed : (op : Op) (place : ℕ) (p mid q : Point) → Keeps c p mid → OpAt c.f mid.instr op place → q ≡ next_point mid
       → Inside c q.instr → Safe c.code c.f op → Keeps c p q
   followed op place p mid q code at e within safe =
-      ends c.code c.f p (after mid) q
-      (chain c.code c.f p mid (after mid) code
-      (one c.code c.f mid op place at (same_inside c (after mid) q e within) safe))
+      ends c.code c.f p (next_point mid) q
+      (chain c.code c.f p mid (next_point mid) code
+      (one c.code c.f mid op place at (same_inside c (next_point mid) q e within) safe))
       e
 
   -- one that writes the next variable
   declared : (op : Op) (place : ℕ) (ty : «Type») (p mid q : Point) → Keeps c p mid → OpAt c.f mid.instr op place
-      → q ≡ after_value mid → Inside c q.instr → Safe c.code c.f op → HasType c.f mid.variable ty
+      → q ≡ after_value mid → Inside c q.instr → Safe c.code c.f op → VariableHasType c.f mid.variable ty
       → TypeExists c.code ty → Keeps c p q
   declared op place ty p mid q code at e within safe made known =
       ends c.code c.f p (after_value mid) q
@@ -176,9 +176,9 @@ module _ (c : Setting) where
       e
 
   -- a call without a result, or a `go`
-  arguments_fit : (ds : List ℕ) (n : ℕ) (s : Signature) (callee : Callee c n s) → HaveTypes c.f ds s.params
-      → HaveTypes c.f ds (signature_of callee.callee).params
-  arguments_fit ds n s callee h = subst (λ (z : Signature). HaveTypes c.f ds z.params) (sym callee.is) h
+  arguments_fit : (ds : List ℕ) (n : ℕ) (s : Signature) (callee : Callee c n s) → VariablesHaveTypes c.f ds s.params
+      → VariablesHaveTypes c.f ds (tac_signature callee.callee).params
+  arguments_fit ds n s callee h = subst (λ (z : Signature). VariablesHaveTypes c.f ds z.params) (sym callee.is) h
 
   no_result : (n : ℕ) (s : Signature) (callee : Callee c n s) → s.result_type ≡ None
       → callee.callee.result_type ≡ None
@@ -187,8 +187,8 @@ module _ (c : Setting) where
   -- ---- statements
 
   mutual
-    stmt_keeps : (b : Bool) (g : InScope) (s : Stmt) (targets : List Target) (scope : Scope) (p : Point)
-        (scope2 : Scope) (q : Point) → StmtAt c.functions c.f s targets scope p scope2 q → IsStmt (environment b) g s
+    stmt_keeps : (b : Bool) (g : InScope) (s : Stmt) (targets : List Target) (scope : LoweringScope) (p : Point)
+        (scope2 : LoweringScope) (q : Point) → StmtAt c.functions c.f s targets scope p scope2 q → IsStmt (environment b) g s
         → Agrees c scope → TargetsExist targets → Inside c q.instr → Keeps c p q
     stmt_keeps b g (tree.Block all) targets scope p scope2 q h w agrees known within =
         stmts_keep b g all targets scope p h.0 q h.1 w agrees known within
@@ -243,7 +243,7 @@ module _ (c : Setting) where
     stmt_keeps b g (tree.IfElse test body other place) targets scope p scope2 q h w agrees known within =
         let mid = h.0 in
         let last = h.1 in
-        let over = stmts_keep b g other targets scope (after last) h.3 q h.7 w.2 agrees known within in
+        let over = stmts_keep b g other targets scope (next_point last) h.3 q h.7 w.2 agrees known within in
         let at_last = inside c last.instr _ place h.6 in
         let inner = stmts_keep b g body targets scope mid h.2 last h.5 w.1 agrees known at_last in
         let at_over : Inside c (last.instr + 1) = omega (arith, over.grows, within) in
@@ -251,7 +251,7 @@ module _ (c : Setting) where
         (test_keeps scope g test (last.instr + 1) place p mid h.4 w.0 agrees at_over
         (omega (arith, inner.grows, at_last)))
         (chain c.code c.f mid last q inner
-        (chain c.code c.f last (after last) q
+        (chain c.code c.f last (next_point last) q
         (one c.code c.f last _ place h.6 at_over (jump_is_safe c.f c.code q.instr within)) over))
     stmt_keeps b g (tree.Loop test body post place) targets scope p scope2 q h w agrees known within =
         let mid = h.0 in
@@ -283,8 +283,8 @@ module _ (c : Setting) where
         let a = term c scope g value p h.0 mid w.0 h.3 w.2 agrees (inside c mid.instr _ place h.4) in
         followed _ place p mid q a.code h.4 h.7 within (result_is_safe c.f c.code h.0 w.0 w.1 a.value)
 
-    pub stmts_keep : (b : Bool) (g : InScope) (all : Stmts) (targets : List Target) (scope : Scope) (p : Point)
-        (scope2 : Scope) (q : Point) → StmtsAt c.functions c.f all targets scope p scope2 q
+    pub stmts_keep : (b : Bool) (g : InScope) (all : Stmts) (targets : List Target) (scope : LoweringScope) (p : Point)
+        (scope2 : LoweringScope) (q : Point) → StmtsAt c.functions c.f all targets scope p scope2 q
         → AreStmts (environment b) g all → Agrees c scope → TargetsExist targets → Inside c q.instr → Keeps c p q
     stmts_keep b g tree.no_stmts targets scope p scope2 q h w agrees known within = nothing c.code c.f p q h.1
     stmts_keep b g (tree.a_stmt s all) targets scope p scope2 q h w agrees known within =

@@ -12,9 +12,9 @@ use Rattle.rgo_wellformed.specs.TypeRules.{bool, pointer_to, Signature}
 use Rattle.rgo_wellformed.specs.WellFormed as typed
 use Rattle.rgo_wellformed.specs.WellFormed.{InScope, MatchFields}
 use Rattle.rgo_tac.specs.Code.{Op, TacFn, Tac}
-use Rattle.rgo_code.specs.Exists.{declared_by, signature_of, TypeExists}
-use Rattle.rgo_code.specs.Types.{HasType, HaveTypes}
-use Rattle.rgo_lower.specs.Lowered.{Point, after_value, after, OpAt, Scope, found, logic_branch}
+use Rattle.rgo_code.specs.Exists.{declared_in_code, tac_signature, TypeExists}
+use Rattle.rgo_code.specs.Types.{VariableHasType, VariablesHaveTypes}
+use Rattle.rgo_lower.specs.Lowered.{Point, after_value, next_point, OpAt, LoweringScope, variable_of_local, logic_branch}
 use Rattle.rgo_lower.specs.Lowered.{StoresAt, TermAt, TermsAt}
 use Rattle.rgo_lowering_laws.proofs.Lists.{unmapped_at, head_same, tail_same}
 use Rattle.rgo_lowering_laws.proofs.Kept.{Safe, Kept, nothing, chain, ends, one, one_value}
@@ -35,8 +35,8 @@ pub record Setting : Type 0 where
 
 module _ (c : Setting) where
   -- the variable of a local variable has its type
-  pub record Agrees (scope : Scope) : Type 0 where
-    pub has : (n d : ℕ) (t : «Type») → found scope n ≡ Some d → slice_get c.locals n ≡ Some t → HasType c.f d t
+  pub record Agrees (scope : LoweringScope) : Type 0 where
+    pub has : (n d : ℕ) (t : «Type») → variable_of_local scope n ≡ Some d → slice_get c.locals n ≡ Some t → VariableHasType c.f d t
 
   -- an instruction of the function
   abbrev pub Inside : ℕ → Type 0
@@ -53,61 +53,61 @@ module _ (c : Setting) where
 
   -- the code from p to q keeps the rules, and its value, in d, has this type
   pub record Value (p : Point) (d : ℕ) (t : «Type») (q : Point) : Type 0 where
-    pub value : HasType c.f d t
+    pub value : VariableHasType c.f d t
     pub code : Keeps p q
 
   pub record Values (p : Point) (ds : List ℕ) (ts : List «Type») (q : Point) : Type 0 where
-    pub values : HaveTypes c.f ds ts
+    pub values : VariablesHaveTypes c.f ds ts
     pub code : Keeps p q
 
   -- a function that a well-formed tree calls
   pub record Callee (n : ℕ) (s : Signature) : Type 0 where
     pub callee : TacFn
     pub at : slice_get c.code.functions n ≡ Some callee
-    pub is : signature_of callee ≡ s
+    pub is : tac_signature callee ≡ s
 
-  pub callee_of : (n : ℕ) (s : Signature) → slice_get (declared_by c.code).functions n ≡ Some s → Callee n s
+  pub callee_of : (n : ℕ) (s : Signature) → slice_get (declared_in_code c.code).functions n ≡ Some s → Callee n s
   callee_of n s h =
-      let g = unmapped_at signature_of c.code.functions n s h in
+      let g = unmapped_at tac_signature c.code.functions n s h in
       record { callee = g.item; at = g.at; is = g.is }
 
   -- ---- objects
 
   -- one store for each element
-  stores : (n object : ℕ) (all : List «Type») → slice_get (declared_by c.code).structs n ≡ Some all
-      → HasType c.f object (pointer_to n) → (fields ds : List ℕ) (ts : List «Type») (place : ℕ) (p q : Point)
-      → StoresAt c.functions c.f object fields ds place p q → HaveTypes c.f ds ts → MatchFields all fields ts
+  stores : (n object : ℕ) (all : List «Type») → slice_get (declared_in_code c.code).structs n ≡ Some all
+      → VariableHasType c.f object (pointer_to n) → (fields ds : List ℕ) (ts : List «Type») (place : ℕ) (p q : Point)
+      → StoresAt c.functions c.f object fields ds place p q → VariablesHaveTypes c.f ds ts → MatchFields all fields ts
       → Inside q.instr → Keeps p q
   stores n object all known o [] [] ts place p q h has match within = nothing c.code c.f p q h
   stores n object all known o (k ∷ fields) (d ∷ ds) ts place p q h has match within =
-      let whole : HaveTypes c.f (d ∷ ds) (match.0 ∷ match.1) = subst (HaveTypes c.f (d ∷ ds)) match.2 has in
-      let value : HasType c.f d match.0 = head_same _ _ _ _ whole in
-      let others : HaveTypes c.f ds match.1 = tail_same _ _ _ _ whole in
-      let rest = stores n object all known o fields ds match.1 place (after p) q h.1 others match.4 within in
+      let whole : VariablesHaveTypes c.f (d ∷ ds) (match.0 ∷ match.1) = subst (VariablesHaveTypes c.f (d ∷ ds)) match.2 has in
+      let value : VariableHasType c.f d match.0 = head_same _ _ _ _ whole in
+      let others : VariablesHaveTypes c.f ds match.1 = tail_same _ _ _ _ whole in
+      let rest = stores n object all known o fields ds match.1 place (next_point p) q h.1 others match.4 within in
       let safe =
       effect_is_safe c.f c.code (Store k) (object ∷ d ∷ []) (pointer_to n ∷ match.0 ∷ [])
       (two_types c.f object d (pointer_to n) match.0 o value)
       (n, match.0, refl, (all, known, match.3)) in
-      chain c.code c.f p (after p) q
+      chain c.code c.f p (next_point p) q
       (one c.code c.f p _ place h.0 (omega (arith, rest.grows, within)) safe) rest
   stores n object all known o [] (d ∷ ds) ts place p q h has match within = absurd h
   stores n object all known o (k ∷ fields) [] ts place p q h has match within = absurd h
 
   -- ---- terms
 
-  logic_is_safe : (l : Logical) (d right end : ℕ) → HasType c.f d bool → Inside right → Inside end
+  logic_is_safe : (l : Logical) (d right end : ℕ) → VariableHasType c.f d bool → Inside right → Inside end
       → Safe c.code c.f (logic_branch l d right end)
   logic_is_safe And d right end h k m = branch_is_safe c.f c.code d right end h k m
   logic_is_safe Or d right end h k m = branch_is_safe c.f c.code d end right h m k
 
   abbrev pub HasTermType : InScope → Term → «Type» → Type 0
-  HasTermType g t ty = typed.HasType (declared_by c.code) c.locals g t ty
+  HasTermType g t ty = typed.HasType (declared_in_code c.code) c.locals g t ty
 
   abbrev pub HaveTermTypes : InScope → Terms → List «Type» → Type 0
-  HaveTermTypes g ts tys = typed.HaveTypes (declared_by c.code) c.locals g ts tys
+  HaveTermTypes g ts tys = typed.HaveTypes (declared_in_code c.code) c.locals g ts tys
 
   mutual
-    pub term : (scope : Scope) (g : InScope) (t : Term) (p : Point) (d : ℕ) (q : Point) (ty : «Type»)
+    pub term : (scope : LoweringScope) (g : InScope) (t : Term) (p : Point) (d : ℕ) (q : Point) (ty : «Type»)
         → TermAt c.functions c.f scope t p d q → HasTermType g t ty → Agrees scope → Inside q.instr → Value p d ty q
     term scope g (tree.Local n) p d q ty h w agrees within = record {
       value = agrees.has n d ty h.0 w.1;
@@ -121,7 +121,7 @@ module _ (c : Setting) where
         value_is_safe c.f c.code action h.0 w.2 mid.variable u a.values made
         (returns_type c.code action w.2 u w.4) in
         record {
-          value = subst (HasType c.f d) w.0 (subst (λ z. HasType c.f z u) (sym h.4) made);
+          value = subst (VariableHasType c.f d) w.0 (subst (λ z. VariableHasType c.f z u) (sym h.4) made);
           code =
               ends c.code c.f p (after_value mid) q
               (chain c.code c.f p mid (after_value mid) a.code
@@ -132,12 +132,12 @@ module _ (c : Setting) where
         let mid = h.1 in
         let last = h.5 in
         let x = mid.variable in
-        let made : HasType c.f x bool = h.3.variable in
-        let next : Point = after (after_value mid) in
+        let made : VariableHasType c.f x bool = h.3.variable in
+        let next : Point = next_point (after_value mid) in
         let a = term scope g left p h.0 mid bool h.2 w.1 agrees (inside mid.instr _ place h.3.instr) in
         let at_last = inside last.instr _ place h.8 in
         let b = term scope g right next h.4 last bool h.7 w.2 agrees at_last in
-        let at_end : Inside (last.instr + 1) = same_inside (after last) q h.10 within in
+        let at_end : Inside (last.instr + 1) = same_inside (next_point last) q h.10 within in
         let at_branch : Inside (mid.instr + 1) = omega (arith, b.code.grows, at_last) in
         let at_next : Inside (mid.instr + 1 + 1) = omega (arith, b.code.grows, at_last) in
         let at_right : Inside (mid.instr + 2) = omega (arith, b.code.grows, at_last) in
@@ -150,13 +150,13 @@ module _ (c : Setting) where
         let ended =
         one c.code c.f last _ place h.8 at_end (copy_is_safe c.f c.code h.4 x bool b.value made) in
         record {
-          value = subst (HasType c.f d) (sym w.0) (subst (λ z. HasType c.f z bool) (sym h.9) made);
+          value = subst (VariableHasType c.f d) (sym w.0) (subst (λ z. VariableHasType c.f z bool) (sym h.9) made);
           code =
-              ends c.code c.f p (after last) q
-              (chain c.code c.f p mid (after last) a.code
-              (chain c.code c.f mid (after_value mid) (after last) copied
-              (chain c.code c.f (after_value mid) next (after last) branched
-              (chain c.code c.f next last (after last) b.code ended))))
+              ends c.code c.f p (next_point last) q
+              (chain c.code c.f p mid (next_point last) a.code
+              (chain c.code c.f mid (after_value mid) (next_point last) copied
+              (chain c.code c.f (after_value mid) next (next_point last) branched
+              (chain c.code c.f next last (next_point last) b.code ended))))
               h.10;
         }
     term scope g (tree.Build n parts fields place) p d q ty h w agrees within =
@@ -166,11 +166,11 @@ module _ (c : Setting) where
         let a = terms scope g parts p h.0 mid w.3 h.2 w.4 agrees (inside mid.instr _ place h.3.instr) in
         let b = stores n x w.1 w.2 made fields h.0 w.3 place (after_value mid) q h.4 a.values w.5 within in
         let exists : TypeExists c.code (pointer_to n) =
-        slice_get_within (declared_by c.code).structs n w.1 w.2 in
+        slice_get_within (declared_in_code c.code).structs n w.1 w.2 in
         let safe =
         value_is_safe c.f c.code (New n) [] [] x (pointer_to n) refl made (refl, refl, exists) in
         record {
-          value = subst (HasType c.f d) (sym w.0) (subst (λ z. HasType c.f z (pointer_to n)) (sym h.5) made);
+          value = subst (VariableHasType c.f d) (sym w.0) (subst (λ z. VariableHasType c.f z (pointer_to n)) (sym h.5) made);
           code =
               chain c.code c.f p mid q a.code
               (chain c.code c.f mid (after_value mid) q
@@ -183,14 +183,14 @@ module _ (c : Setting) where
         let callee = callee_of n w.1 w.2 in
         let a = terms scope g arguments p h.0 mid w.1.params h.2 w.3 agrees (inside mid.instr _ place h.3) in
         let arguments_fit =
-        subst (λ (s : Signature). HaveTypes c.f h.0 s.params) (sym callee.is) a.values in
+        subst (λ (s : Signature). VariablesHaveTypes c.f h.0 s.params) (sym callee.is) a.values in
         let result : callee.callee.result_type ≡ Some u =
         ap (λ (s : Signature). s.result_type) callee.is ∙ w.4 in
         let safe =
         call_is_safe c.f c.code n callee.callee callee.at (c.params n callee.callee callee.at) h.0 mid.variable u
         arguments_fit result made in
         record {
-          value = subst (HasType c.f d) w.0 (subst (λ z. HasType c.f z u) (sym h.6) made);
+          value = subst (VariableHasType c.f d) w.0 (subst (λ z. VariableHasType c.f z u) (sym h.6) made);
           code =
               ends c.code c.f p (after_value mid) q
               (chain c.code c.f p mid (after_value mid) a.code
@@ -199,11 +199,11 @@ module _ (c : Setting) where
               h.7;
         }
 
-    pub terms : (scope : Scope) (g : InScope) (ts : Terms) (p : Point) (ds : List ℕ) (q : Point) (tys : List «Type»)
+    pub terms : (scope : LoweringScope) (g : InScope) (ts : Terms) (p : Point) (ds : List ℕ) (q : Point) (tys : List «Type»)
         → TermsAt c.functions c.f scope ts p ds q → HaveTermTypes g ts tys → Agrees scope → Inside q.instr
         → Values p ds tys q
     terms scope g tree.no_terms p ds q tys h w agrees within = record {
-      values = subst (λ z. HaveTypes c.f z tys) (sym h.0) (subst (HaveTypes c.f []) (sym w) refl);
+      values = subst (λ z. VariablesHaveTypes c.f z tys) (sym h.0) (subst (VariablesHaveTypes c.f []) (sym w) refl);
       code = nothing c.code c.f p q h.1;
     }
     terms scope g (tree.a_term t ts) p ds q tys h w agrees within =
@@ -212,7 +212,7 @@ module _ (c : Setting) where
         let a = term scope g t p h.0 mid w.0 h.3 w.3 agrees (omega (arith, b.code.grows, within)) in
         record {
           values =
-              subst (λ z. HaveTypes c.f z tys) (sym h.5)
-              (subst (HaveTypes c.f (h.0 ∷ h.1)) (sym w.2) (and_type c.f h.0 w.0 h.1 w.1 a.value b.values));
+              subst (λ z. VariablesHaveTypes c.f z tys) (sym h.5)
+              (subst (VariablesHaveTypes c.f (h.0 ∷ h.1)) (sym w.2) (and_type c.f h.0 w.0 h.1 w.1 a.value b.values));
           code = chain c.code c.f p mid q a.code b.code;
         }

@@ -5,7 +5,7 @@ use Rattle.rgo_typed.specs.declared.types.Type.{«Type»}
 use Rattle.rgo_wellformed.specs.WellFormed.{IsWellFormed, MatchPieces}
 use Rattle.rgo_tac.specs.Code.{Op, Instr, TacFn, Tac, Do, Call, Go, Print, Jump, Branch, Return}
 use Rattle.rgo_lower.specs.Lowered.{IsLowered}
-use Rattle.rgo_code.specs.Types.{HaveTypes}
+use Rattle.rgo_code.specs.Types.{VariablesHaveTypes}
 use Rattle.rgo_code.specs.TypedCode.{IsTypedCode}
 
 abbrev pub LoweredIsTyped : Type 0
@@ -13,7 +13,7 @@ LoweredIsTyped = (program : Typed) (code : Tac) → IsWellFormed program → IsL
 
 -- a print has a variable for each piece that prints one, of a type that can be printed
 abbrev pub PrintsFit : TacFn → Op → Type 0
-PrintsFit f (Print pieces from) = (types : List «Type») × HaveTypes f from types × MatchPieces pieces types
+PrintsFit f (Print pieces from) = (types : List «Type») × VariablesHaveTypes f from types × MatchPieces pieces types
 PrintsFit f (Do to action from) = ⊤
 PrintsFit f (Call to n from) = ⊤
 PrintsFit f (Go n from) = ⊤

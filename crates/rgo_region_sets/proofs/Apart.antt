@@ -7,7 +7,7 @@ use Rattle.std.proofs.lemmas.Bool.Decides.{nat_tests}
 use Rattle.std.proofs.lemmas.List.Elements.{Contains-get_or}
 use Rattle.std.proofs.lemmas.Option.{same_Some, slice_get_read, slice_get_within, slice_get-get_or, get_or_from_slice_get}
 use Rattle.rgo_region_sets.specs.declared.spans.Span.{Span}
-use Rattle.rgo_region_sets.specs.Spans.{Spans, IsSpanned, IsBefore, AreApart, HasBegun, AreBegun}
+use Rattle.rgo_region_sets.specs.Spans.{Spans, IsSpanned, IsSpanBefore, AreApart, SpanHasBegun, AreSpansBegun}
 
 less_or : (a b : ℕ) → (a < b) ⊎ (b ≤ a)
 less_or a b = grind arith
@@ -15,7 +15,7 @@ less_or a b = grind arith
 pub member_at : {A : Type 0} (xs : List A) (x : A) (h : Contains xs x) → slice_get xs h.0 ≡ Some x
 member_at xs x h = slice_get_read xs (length xs) h.0 x refl h.1 (sym h.2)
 
-earlier_has_begun : (k at : ℕ) (a b : Span) → IsBefore a b → HasBegun k at b → HasBegun k at a
+earlier_has_begun : (k at : ℕ) (a b : Span) → IsSpanBefore a b → SpanHasBegun k at b → SpanHasBegun k at a
 earlier_has_begun k at a b before begun = ⊎_elim
     (λ m. inl (omega (arith, before.0, m)))
     (λ f. ⊎_elim
@@ -43,13 +43,13 @@ less_passes n k f at l = grind (arith, nat_tests)
 from_passes : (n k f at : ℕ) → n ≡ k → f ≤ at → nat_lt n k || (nat_eq n k && nat_le f at) ≡ true
 from_passes n k f at e l = grind (arith, nat_tests)
 
-passed : (k at : ℕ) (s : Span) → has_begun k at s ≡ true → HasBegun k at s
+passed : (k at : ℕ) (s : Span) → has_begun k at s ≡ true → SpanHasBegun k at s
 passed k at s e = ⊎_elim
     (λ l. inl l)
     (λ g. inr (time_name s.name k s.from at e g, time_from s.name k s.from at e g))
     (less_or s.name k)
 
-passes : (k at : ℕ) (s : Span) → HasBegun k at s → has_begun k at s ≡ true
+passes : (k at : ℕ) (s : Span) → SpanHasBegun k at s → has_begun k at s ≡ true
 passes k at s h = ⊎_elim
     (λ l. less_passes s.name k s.from at l)
     (λ e. from_passes s.name k s.from at e.0 e.1)
@@ -70,7 +70,7 @@ begun_partitioned spans k at apart = λ i j d le within e.
 
 -- what a search finds
 pub begun_found : (spans : List Span) (k at n : ℕ) → n ≤ length spans
-    → IsPartitionPoint (λ s. has_begun k at s ≡ true) (λ s. has_begun k at s ≡ false) spans n → AreBegun spans k at n
+    → IsPartitionPoint (λ s. has_begun k at s ≡ true) (λ s. has_begun k at s ≡ false) spans n → AreSpansBegun spans k at n
 begun_found spans k at n bound point = record {
   bound = bound;
   begun = λ i s is before. passed k at s (subst (λ x. has_begun k at x ≡ true) (get_or_from_slice_get spans i s s is)
@@ -97,7 +97,7 @@ same_tells a b e = grind (arith, nat_tests)
 
 -- it decides: a span that has the instruction is no earlier one
 is_the_last : (spans : List Span) (k at n : ℕ) (last : Span) → AreApart spans → slice_get spans n ≡ Some last
-    → HasBegun k at last → ((j : ℕ) (s : Span) → slice_get spans j ≡ Some s → HasBegun k at s → j ≤ n)
+    → SpanHasBegun k at last → ((j : ℕ) (s : Span) → slice_get spans j ≡ Some s → SpanHasBegun k at s → j ≤ n)
     → IsSpanned spans k at → Spans last k at
 is_the_last spans k at n last apart there begun least h =
     let place = member_at spans h.span h.among in
@@ -115,7 +115,7 @@ is_the_last spans k at n last apart there begun least h =
     subst (λ s. Spans s k at) same h.spans)
     (less_or h.among.0 n)
 
-pub none_begun : (spans : List Span) (k at n : ℕ) → AreBegun spans k at n → n ≡ 0
+pub none_begun : (spans : List Span) (k at n : ℕ) → AreSpansBegun spans k at n → n ≡ 0
     → Decides false (IsSpanned spans k at)
 none_begun spans k at n found none = (
   λ e. absurd (false≢true e),
@@ -124,7 +124,7 @@ none_begun spans k at n found none = (
       absurd (omega (arith, before, none)),
 )
 
-module _ (spans : List Span) (k at n : ℕ) (d : Span) (apart : AreApart spans) (found : AreBegun spans k at n)
+module _ (spans : List Span) (k at n : ℕ) (d : Span) (apart : AreApart spans) (found : AreSpansBegun spans k at n)
     (some : n ≡ 0 → ⊥) where
   abbrev last : Span
   last = get_or spans (n - 1) d
@@ -132,7 +132,7 @@ module _ (spans : List Span) (k at n : ℕ) (d : Span) (apart : AreApart spans) 
   there : slice_get spans (n - 1) ≡ Some last
   there = slice_get-get_or spans (n - 1) d (omega (arith, some, found.bound))
 
-  begun : HasBegun k at last
+  begun : SpanHasBegun k at last
   begun = found.begun (n - 1) last there (omega (arith, some))
 
   decides : IsSpanned spans k at → Spans last k at

@@ -9,12 +9,12 @@ use Rattle.std.proofs.lemmas.List.Folds.{list_any-append}
 use Rattle.std.proofs.lemmas.Option.{none-some}
 use Rattle.rgo_tac.specs.declared.regions.Class.{Class}
 use Rattle.rgo_tac.specs.declared.regions.Class.TheVariants.{NoClass, Global, Name}
-use Rattle.rgo_code.specs.Names.{is_name, distinct_names}
+use Rattle.rgo_code.specs.Names.{is_class_named, distinct_names}
 use Rattle.rgo_region_sets.specs.Used.{name_of}
 use Rattle.rgo_region_sets.proofs.Naming.{name_is}
 
 abbrev pub SameNames : List Class → List Class → Type 0
-SameNames s t = (k : ℕ) → list_any (is_name k) s ≡ list_any (is_name k) t
+SameNames s t = (k : ℕ) → list_any (is_class_named k) s ≡ list_any (is_class_named k) t
 
 -- what counts of the classes before is which names are among them
 pub distinct_same : (s t cs : List Class) → SameNames s t → distinct_names s cs ≡ distinct_names t cs
@@ -23,9 +23,9 @@ distinct_same s t (NoClass ∷ cs) same = distinct_same s t cs same
 distinct_same s t (Global ∷ cs) same = distinct_same s t cs same
 distinct_same s t (Name k ∷ cs) same =
     ap (λ b. if b then distinct_names s cs else Name k ∷ distinct_names (Name k ∷ s) cs) (same k)
-    ∙ ap (λ l. if list_any (is_name k) t then l else Name k ∷ distinct_names (Name k ∷ s) cs)
+    ∙ ap (λ l. if list_any (is_class_named k) t then l else Name k ∷ distinct_names (Name k ∷ s) cs)
     (distinct_same s t cs same)
-    ∙ ap (λ l. if list_any (is_name k) t then distinct_names t cs else Name k ∷ l)
+    ∙ ap (λ l. if list_any (is_class_named k) t then distinct_names t cs else Name k ∷ l)
     (distinct_same (Name k ∷ s) (Name k ∷ t) cs (λ j. ap (λ b. nat_eq j k || b) (same j)))
 
 -- ---- one class
@@ -35,13 +35,13 @@ distinct_none s NoClass e = refl
 distinct_none s Global e = refl
 distinct_none s (Name k) e = absurd (none-some k (sym e))
 
-pub distinct_again : (s : List Class) (c : Class) (k : ℕ) → name_of c ≡ Some k → list_any (is_name k) s ≡ true
+pub distinct_again : (s : List Class) (c : Class) (k : ℕ) → name_of c ≡ Some k → list_any (is_class_named k) s ≡ true
     → distinct_names s (c ∷ []) ≡ []
 distinct_again s c k e seen =
     ap (λ d. distinct_names s (d ∷ [])) (name_is c k e)
     ∙ ap (λ b. if b then [] else Name k ∷ []) seen
 
-pub distinct_first : (s : List Class) (c : Class) (k : ℕ) → name_of c ≡ Some k → list_any (is_name k) s ≡ false
+pub distinct_first : (s : List Class) (c : Class) (k : ℕ) → name_of c ≡ Some k → list_any (is_class_named k) s ≡ false
     → distinct_names s (c ∷ []) ≡ c ∷ []
 distinct_first s c k e new =
     ap (λ d. distinct_names s (d ∷ [])) (name_is c k e)
@@ -59,28 +59,28 @@ or_turned true false = refl
 or_turned false true = refl
 or_turned false false = refl
 
-no_more : (s : List Class) (c : Class) → ((k : ℕ) → is_name k c ≡ false) → SameNames s (s ++ c ∷ [])
+no_more : (s : List Class) (c : Class) → ((k : ℕ) → is_class_named k c ≡ false) → SameNames s (s ++ c ∷ [])
 no_more s c none k =
-    sym (or_false (list_any (is_name k) s)) ∙ ap (λ b. list_any (is_name k) s || (b || false)) (sym (none k))
-    ∙ sym (list_any-append (is_name k) s (c ∷ []))
+    sym (or_false (list_any (is_class_named k) s)) ∙ ap (λ b. list_any (is_class_named k) s || (b || false)) (sym (none k))
+    ∙ sym (list_any-append (is_class_named k) s (c ∷ []))
 
 same_again : (a b : Bool) → (b ≡ true → a ≡ true) → a ≡ a || (b || false)
 same_again true b h = refl
 same_again false true h = absurd (false≢true (h refl))
 same_again false false h = refl
 
-again : (s : List Class) (k : ℕ) → list_any (is_name k) s ≡ true → SameNames s (s ++ Name k ∷ [])
+again : (s : List Class) (k : ℕ) → list_any (is_class_named k) s ≡ true → SameNames s (s ++ Name k ∷ [])
 again s k seen j =
-    same_again (list_any (is_name j) s) (nat_eq j k) (λ e. ap (λ n. list_any (is_name n) s) (same e) ∙ seen)
-    ∙ sym (list_any-append (is_name j) s (Name k ∷ []))
+    same_again (list_any (is_class_named j) s) (nat_eq j k) (λ e. ap (λ n. list_any (is_class_named n) s) (same e) ∙ seen)
+    ∙ sym (list_any-append (is_class_named j) s (Name k ∷ []))
   where
     same : nat_eq j k ≡ true → j ≡ k
     same e = grind (arith, nat_tests)
 
 turned : (s : List Class) (k : ℕ) → SameNames (Name k ∷ s) (s ++ Name k ∷ [])
-turned s k j = or_turned (nat_eq j k) (list_any (is_name j) s) ∙ sym (list_any-append (is_name j) s (Name k ∷ []))
+turned s k j = or_turned (nat_eq j k) (list_any (is_class_named j) s) ∙ sym (list_any-append (is_class_named j) s (Name k ∷ []))
 
-name_step : (s cs : List Class) (k : ℕ) (b : Bool) → list_any (is_name k) s ≡ b
+name_step : (s cs : List Class) (k : ℕ) (b : Bool) → list_any (is_class_named k) s ≡ b
     → (if b then distinct_names s cs else Name k ∷ distinct_names (Name k ∷ s) cs)
     ≡ (if b then [] else Name k ∷ []) ++ distinct_names (s ++ Name k ∷ []) cs
 name_step s cs k true e = distinct_same s (s ++ Name k ∷ []) cs (again s k e)
@@ -91,7 +91,7 @@ pub distinct_step : (s : List Class) (c : Class) (cs : List Class)
     → distinct_names s (c ∷ cs) ≡ distinct_names s (c ∷ []) ++ distinct_names (s ++ c ∷ []) cs
 distinct_step s NoClass cs = distinct_same s (s ++ NoClass ∷ []) cs (no_more s NoClass (λ k. refl))
 distinct_step s Global cs = distinct_same s (s ++ Global ∷ []) cs (no_more s Global (λ k. refl))
-distinct_step s (Name k) cs = name_step s cs k (list_any (is_name k) s) refl
+distinct_step s (Name k) cs = name_step s cs k (list_any (is_class_named k) s) refl
 
 -- a loop's step
 pub distinct_more : (classes out out' : List Class) (i : ℕ) (d : Class) → i < length classes

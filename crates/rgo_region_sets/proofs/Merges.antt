@@ -4,7 +4,7 @@ use Rattle.std.specs.List.{Contains}
 use Rattle.std.proofs.lemmas.Option.{same_Some, none-some, slice_get_within, slice_get-get_or, get_or_from_slice_get}
 use Rattle.std.proofs.lemmas.List.{length-append}
 use Rattle.rgo_region_sets.specs.declared.spans.Span.{Span}
-use Rattle.rgo_region_sets.specs.Spans.{Spans, AddsSpans, Precedes, IsBefore, AreApart, Continues, Follows, Meets}
+use Rattle.rgo_region_sets.specs.Spans.{Spans, AddsSpans, Precedes, IsSpanBefore, AreApart, Continues, SpanFollows, SpansMeet}
 use Rattle.rgo_region_sets.proofs.Apart.{member_at}
 
 less_or : (a b : ℕ) → (a < b) ⊎ (b ≤ a)
@@ -60,7 +60,7 @@ module _ {A : Type 0} where
 
 -- ---- a next span that is apart
 
-before_all : (a b c : Span) → IsBefore a b → IsBefore b c → IsBefore a c
+before_all : (a b c : Span) → IsSpanBefore a b → IsSpanBefore b c → IsSpanBefore a c
 before_all a b c ab bc = (
   omega (arith, ab.0, bc.0),
   λ e.
@@ -70,20 +70,20 @@ before_all a b c ab bc = (
 )
 
 pub apart_pushed : (spans : List Span) (next : Span) → AreApart spans
-    → ((a : Span) → slice_get spans (length spans - 1) ≡ Some a → IsBefore a next) → AreApart (spans ++ next ∷ [])
+    → ((a : Span) → slice_get spans (length spans - 1) ≡ Some a → IsSpanBefore a next) → AreApart (spans ++ next ∷ [])
 apart_pushed spans next apart after i j a b less at_i at_j = ⊎_elim
     (λ old.
     let within = slice_get_within spans j b old in
     ⊎_elim (λ o. apart i j a b less o old) (λ n. absurd (omega (arith, n.0, less, within)))
     (get_pushed spans next i a at_i))
     (λ new. ⊎_elim
-    (λ o. subst (IsBefore a) new.1 (last_first i a o))
+    (λ o. subst (IsSpanBefore a) new.1 (last_first i a o))
     (λ n. absurd (omega (arith, n.0, new.0, less)))
     (get_pushed spans next i a at_i))
     (get_pushed spans next j b at_j)
   where
     by_last : (i : ℕ) (a last : Span) → slice_get spans i ≡ Some a → slice_get spans (length spans - 1) ≡ Some last
-        → IsBefore a next
+        → IsSpanBefore a next
     by_last i a last at_a at_last =
         let within = slice_get_within spans i a at_a in
         ⊎_elim
@@ -92,17 +92,17 @@ apart_pushed spans next apart after i j a b less at_i at_j = ⊎_elim
         (after last at_last))
         (same_or i (length spans - 1))
 
-    last_first : (i : ℕ) (a : Span) → slice_get spans i ≡ Some a → IsBefore a next
+    last_first : (i : ℕ) (a : Span) → slice_get spans i ≡ Some a → IsSpanBefore a next
     last_first i a at_a =
         let within = slice_get_within spans i a at_a in
         by_last i a (get_or spans (length spans - 1) a) at_a
         (slice_get-get_or spans (length spans - 1) a (omega (arith, within)))
 
-pub not_met : (last next : Span) → Precedes last next → Meets false last next → IsBefore last next
+pub not_met : (last next : Span) → Precedes last next → SpansMeet false last next → IsSpanBefore last next
 not_met last next precedes apart = (precedes.0, λ e. (precedes.1 e, apart e))
 
 pub follows_pushed : (spans : List Span) (next later : Span) → Precedes next later
-    → Follows (spans ++ next ∷ []) later
+    → SpanFollows (spans ++ next ∷ []) later
 follows_pushed spans next later precedes a e = ⊎_elim
     (λ o.
     let within = slice_get_within spans (length (spans ++ next ∷ []) - 1) a o in
@@ -114,7 +114,7 @@ follows_pushed spans next later precedes a e = ⊎_elim
 
 module _ (spans : List Span) (n : ℕ) (last next : Span) (to : ℕ) (there : slice_get spans n ≡ Some last)
     (is : to ≡ max last.to next.to) (is_last : n + 1 ≡ length spans) (precedes : Precedes last next)
-    (met : Meets true last next) where
+    (met : SpansMeet true last next) where
   abbrev both : Span
   both = record { name = last.name; from = last.from; to = to }
 
@@ -127,7 +127,7 @@ module _ (spans : List Span) (n : ℕ) (last next : Span) (to : ℕ) (there : sl
       (λ new. ⊎_elim
       (λ o.
       let before = apart i n a last (omega (arith, less, new.0)) o.0 there in
-      subst (IsBefore a) new.1 (before.0, λ e. before.1 e))
+      subst (IsSpanBefore a) new.1 (before.0, λ e. before.1 e))
       (λ m. absurd (omega (arith, m.0, new.0, less)))
       (get_written spans n both i a at_i))
       (get_written spans n both j b at_j)
@@ -178,7 +178,7 @@ module _ (spans : List Span) (n : ℕ) (last next : Span) (to : ℕ) (there : sl
         h,
   )
 
-  both_follows : (later : Span) → Precedes next later → Follows (slice_set spans n both) later
+  both_follows : (later : Span) → Precedes next later → SpanFollows (slice_set spans n both) later
   both_follows later after a e = ⊎_elim
       (λ o. absurd (o.1 (omega (arith, is_last, as_long spans n both))))
       (λ m. subst (λ s. Precedes s later) m.1 (
@@ -199,7 +199,7 @@ continued_added spans count last next to is_count some read is met =
 -- ---- a next span
 
 module _ (spans : List Span) (count : ℕ) (last next : Span) (is_count : count ≡ length spans) (some : count ≡ 0 → ⊥)
-    (read : last ≡ get_or spans (count - 1) last) (follows : Follows spans next) where
+    (read : last ≡ get_or spans (count - 1) last) (follows : SpanFollows spans next) where
   there : slice_get spans (count - 1) ≡ Some last
   there = slice_get-get_or spans (count - 1) last (omega (arith, is_count, some)) ∙ ap Some (sym read)
 
@@ -209,12 +209,12 @@ module _ (spans : List Span) (count : ℕ) (last next : Span) (is_count : count 
   precedes : Precedes last next
   precedes = follows last at_the_end
 
-  pub apart_after : Meets false last next → AreApart spans → AreApart (spans ++ next ∷ [])
+  pub apart_after : SpansMeet false last next → AreApart spans → AreApart (spans ++ next ∷ [])
   apart_after apart before =
       apart_pushed spans next before
-      (λ a e. subst (λ s. IsBefore s next) (same_Some last a (sym at_the_end ∙ e)) (not_met last next precedes apart))
+      (λ a e. subst (λ s. IsSpanBefore s next) (same_Some last a (sym at_the_end ∙ e)) (not_met last next precedes apart))
 
-  module _ (to : ℕ) (is : to ≡ max last.to next.to) (met : Meets true last next) where
+  module _ (to : ℕ) (is : to ≡ max last.to next.to) (met : SpansMeet true last next) where
     abbrev joined : List Span
     joined = slice_set spans (count - 1) (record { name = last.name; from = last.from; to = to })
 
@@ -224,5 +224,5 @@ module _ (spans : List Span) (count : ℕ) (last next : Span) (is_count : count 
     pub joined_apart : AreApart spans → AreApart joined
     joined_apart = both_apart spans (count - 1) last next to there is (omega (arith, is_count, some)) precedes met
 
-    pub joined_ends : (later : Span) → Precedes next later → Follows joined later
+    pub joined_ends : (later : Span) → Precedes next later → SpanFollows joined later
     joined_ends = both_follows spans (count - 1) last next to there is (omega (arith, is_count, some)) precedes met

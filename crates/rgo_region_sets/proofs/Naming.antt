@@ -16,7 +16,7 @@ use Rattle.rgo_tac.specs.Flow.{reads, writes}
 use Rattle.rgo_tac.specs.Ops.{op_in}
 use Rattle.rgo_code.specs.Code.{CodeInstr, CodeFn}
 use Rattle.rgo_code.specs.Erasure.{erased_op, erased_instr, erased_fn}
-use Rattle.rgo_code.specs.Names.{class_of, Names}
+use Rattle.rgo_code.specs.Names.{class_of, UsesRegionName}
 use Rattle.rgo_region_sets.specs.Used.{name_of, UsesName, AddsName, AddsNames, AddsUsed}
 
 -- ---- names of classes
@@ -116,7 +116,7 @@ written_list (Some u) v = (
 )
 
 pub uses_of : (f : CodeFn) (i : CodeInstr) (names : List ℕ) → AddsUsed f [] names (erased_op i.op)
-    → (k : ℕ) → Contains names k ↔ Names f i.op k
+    → (k : ℕ) → Contains names k ↔ UsesRegionName f i.op k
 uses_of f i names h k = (
   λ m. ⊎_elim
       (λ o. absurd (no_member k o))

@@ -13,7 +13,7 @@ use Rattle.rgo_graphs.proofs.Lists.{take_cases, take_more_left, take_more_here}
 use Rattle.rgo_tac.specs.declared.regions.Class.{Class}
 use Rattle.rgo_tac.specs.declared.regions.Class.TheVariants.{NoClass, Global, Name}
 use Rattle.rgo_code.specs.Code.{CodeFn}
-use Rattle.rgo_code.specs.Names.{is_name, IsPassedTwice}
+use Rattle.rgo_code.specs.Names.{is_class_named, IsPassedTwice}
 use Rattle.rgo_region_sets.specs.Asked.{Protects, IsNeeded, AddsPassed}
 use Rattle.rgo_region_sets.specs.Seen.{IsSeen}
 use Rattle.rgo_region_sets.specs.Used.{name_of}
@@ -23,25 +23,25 @@ use Rattle.rgo_region_sets.proofs.Apart.{member_at}
 
 -- ---- tests on names
 
-pub is_name_same : (k : ℕ) (c : Class) → c ≡ Name k → is_name k c ≡ true
-is_name_same k c e = ap (is_name k) e ∙ same k where
+pub is_name_same : (k : ℕ) (c : Class) → c ≡ Name k → is_class_named k c ≡ true
+is_name_same k c e = ap (is_class_named k) e ∙ same k where
   same : (k : ℕ) → nat_eq k k ≡ true
   same k = grind (arith, nat_tests)
 
-pub is_name_is : (k : ℕ) (c : Class) → is_name k c ≡ true → c ≡ Name k
+pub is_name_is : (k : ℕ) (c : Class) → is_class_named k c ≡ true → c ≡ Name k
 is_name_is k NoClass e = absurd (false≢true e)
 is_name_is k Global e = absurd (false≢true e)
 is_name_is k (Name j) e = ap Name (same e) where
   same : nat_eq k j ≡ true → j ≡ k
   same e = grind (arith, nat_tests)
 
-pub seen_is : (classes : List Class) (k : ℕ) → list_any (is_name k) classes ≡ true → Contains classes (Name k)
+pub seen_is : (classes : List Class) (k : ℕ) → list_any (is_class_named k) classes ≡ true → Contains classes (Name k)
 seen_is classes k h =
-    let any = Any-from_list_any (is_name k) classes h in
+    let any = Any-from_list_any (is_class_named k) classes h in
     subst (Contains classes) (is_name_is k any.1 any.4) (any.0, any.2, any.3)
 
-pub is_seen : (classes : List Class) (k : ℕ) → Contains classes (Name k) → list_any (is_name k) classes ≡ true
-is_seen classes k h = list_any-from_Any (is_name k) classes (h.0, Name k, h.1, h.2, is_name_same k (Name k) refl)
+pub is_seen : (classes : List Class) (k : ℕ) → Contains classes (Name k) → list_any (is_class_named k) classes ≡ true
+is_seen classes k h = list_any-from_Any (is_class_named k) classes (h.0, Name k, h.1, h.2, is_name_same k (Name k) refl)
 
 -- ---- a class more
 
@@ -50,10 +50,10 @@ or_same true = refl
 or_same false = refl
 
 -- the test on a class is that on its name
-by_name : (c : Class) (j k : ℕ) → name_of c ≡ Some j → is_name k c ≡ nat_eq k j
-by_name c j k e = ap (is_name k) (name_is c j e)
+by_name : (c : Class) (j k : ℕ) → name_of c ≡ Some j → is_class_named k c ≡ nat_eq k j
+by_name c j k e = ap (is_class_named k) (name_is c j e)
 
-by_none : (c : Class) (k : ℕ) → name_of c ≡ None → is_name k c ≡ false
+by_none : (c : Class) (k : ℕ) → name_of c ≡ None → is_class_named k c ≡ false
 by_none NoClass k e = refl
 by_none Global k e = refl
 by_none (Name j) k e = absurd (none-some j (sym e))
@@ -63,16 +63,16 @@ pub seen_more : (seen seen' : BTreeSet ℕ) (classes : List Class) (c : Class) (
     → IsSeen seen' (classes ++ c ∷ [])
 seen_more seen seen' classes c j e adds before k =
     adds k ∙ ap (λ b. b || nat_eq k j) (before k)
-    ∙ ap (λ b. list_any (is_name k) classes || b)
+    ∙ ap (λ b. list_any (is_class_named k) classes || b)
     (sym (or_same (nat_eq k j)) ∙ ap (λ b. b || false) (sym (by_name c j k e)))
-    ∙ sym (list_any-append (is_name k) classes (c ∷ []))
+    ∙ sym (list_any-append (is_class_named k) classes (c ∷ []))
 
 pub seen_same : (seen : BTreeSet ℕ) (classes : List Class) (c : Class) → name_of c ≡ None → IsSeen seen classes
     → IsSeen seen (classes ++ c ∷ [])
 seen_same seen classes c e before k =
-    before k ∙ sym (or_same (list_any (is_name k) classes))
-    ∙ ap (λ b. list_any (is_name k) classes || (b || false)) (sym (by_none c k e))
-    ∙ sym (list_any-append (is_name k) classes (c ∷ []))
+    before k ∙ sym (or_same (list_any (is_class_named k) classes))
+    ∙ ap (λ b. list_any (is_class_named k) classes || (b || false)) (sym (by_none c k e))
+    ∙ sym (list_any-append (is_class_named k) classes (c ∷ []))
 
 -- ---- passed twice
 

@@ -8,7 +8,7 @@ use Rattle.rgo_tac.specs.declared.regions.Class.TheVariants.{Name}
 use Rattle.rgo_tac.specs.Code.{Op, Instr, Do, Call, Go, Print, Jump, Branch, Return}
 use Rattle.rgo_tac.specs.Flow.{leads_to}
 use Rattle.rgo_tac.specs.Ops.{op_in}
-use Rattle.rgo_flow.specs.Live.{read_by, Reads, Leads, Live, IsReadAfter, led_to_by}
+use Rattle.rgo_flow.specs.Live.{read_by, ReadsVariable, IsSuccessor, Live, IsReadAfter, led_to_by}
 use Rattle.rgo_graphs.specs.Rows.{rows_of}
 use Rattle.rgo_graphs.proofs.Lists.{member_one}
 use Rattle.rgo_code.specs.Code.{CodeInstr, CodeFn}
@@ -29,7 +29,7 @@ read_used : (f : CodeFn) (found : Option CodeInstr) (v k : ℕ) → class_of f v
 read_used f None v k named h = absurd (omega (arith, h.1))
 read_used f (Some i) v k named h = record { variable = v; used = inl h; named = named }
 
-pub reads_use : (f : CodeFn) (at v k : ℕ) → class_of f v ≡ Name k → Reads (erased_fn f) at v
+pub reads_use : (f : CodeFn) (at v k : ℕ) → class_of f v ≡ Name k → ReadsVariable (erased_fn f) at v
     → UsesName f (slice_get f.body at) k
 reads_use f at v k named h =
     read_used f (slice_get f.body at) v k named
@@ -37,13 +37,13 @@ reads_use f at v k named h =
 
 -- where an instruction leads to one instruction only, what is live before it and not there is read
 step_used : (f : CodeFn) (at next v k : ℕ) (steps : ℕ) → class_of f v ≡ Name k
-    → ((j : ℕ) → Leads (erased_fn f) at j → j ≡ next) → IsReadAfter (erased_fn f) steps v at
+    → ((j : ℕ) → IsSuccessor (erased_fn f) at j → j ≡ next) → IsReadAfter (erased_fn f) steps v at
     → (Live (erased_fn f) v next → ⊥) → UsesName f (slice_get f.body at) k
 step_used f at next v k zero named only h dead = reads_use f at v k named h
 step_used f at next v k (suc n) named only h dead =
     absurd (dead (n, subst (IsReadAfter (erased_fn f) n v) (only h.1 h.2) h.3))
 
-pub dies_used : (f : CodeFn) (at next k : ℕ) → ((j : ℕ) → Leads (erased_fn f) at j → j ≡ next) → IsLiveName f k at
+pub dies_used : (f : CodeFn) (at next k : ℕ) → ((j : ℕ) → IsSuccessor (erased_fn f) at j → j ≡ next) → IsLiveName f k at
     → (IsLiveName f k next → ⊥) → UsesName f (slice_get f.body at) k
 dies_used f at next k only live dead =
     step_used f at next live.variable k live.live.0 live.named only live.live.1
@@ -65,7 +65,7 @@ module _ (live : LiveNames) (f : CodeFn) (tables : AreLiveNames live f) (at next
   }
 
   -- of another instruction, which leads to one only
-  pub other_candidates : names ≡ used → ((j : ℕ) → Leads (erased_fn f) at j → j ≡ next) → AreCandidates f at next names
+  pub other_candidates : names ≡ used → ((j : ℕ) → IsSuccessor (erased_fn f) at j → j ≡ next) → AreCandidates f at next names
   other_candidates same only = record {
     known = λ k h. inr ((uses k).0 (subst (λ l. Contains l k) same h));
     used = λ k u. subst (λ l. Contains l k) (sym same) ((uses k).1 u);

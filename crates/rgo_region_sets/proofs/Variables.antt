@@ -13,7 +13,7 @@ use Rattle.rgo_code.specs.Code.{Slot, CodeFn}
 use Rattle.rgo_code.specs.Erasure.{erased_fn}
 use Rattle.rgo_code.specs.Names.{slot_class, class_of, IsLiveName}
 use Rattle.rgo_region_sets.specs.declared.spans.Span.{Span}
-use Rattle.rgo_region_sets.specs.Spans.{Spans, IsSpanned, AddsSpans, IsNamed, Precedes, AreOrdered, AreApart, Follows}
+use Rattle.rgo_region_sets.specs.Spans.{Spans, IsSpanned, AddsSpans, IsNamed, Precedes, AreOrdered, AreApart, SpanFollows}
 use Rattle.rgo_region_sets.specs.Used.{name_of}
 use Rattle.rgo_region_sets.proofs.Members.{spanned_later, spanned_here, spanned_cases}
 use Rattle.rgo_region_sets.proofs.Naming.{name_is, one_name, no_name}
@@ -89,7 +89,7 @@ none_apart i j a b less at_i at_j = absurd (none-some a at_i)
 pub none_merged : (k at : ℕ) → IsSpanned [] k at ↔ IsSpanned [] k at
 none_merged k at = (λ h. h, λ h. h)
 
-pub none_follows : (next : Span) → Follows [] next
+pub none_follows : (next : Span) → SpanFollows [] next
 none_follows next a e = absurd (none-some a e)
 
 pub merged_more : (spans old new : List Span) (i : ℕ) (d : Span) → i < length spans

@@ -1,7 +1,7 @@
 -- What the tables say of the live names of a function.
 use Rattle.std.specs.Prelude.{◌≡◌, ◌⊎◌, ◌↔◌, ℕ, List, Some, None, Contains, slice_get}
 use Rattle.rgo_graphs.specs.Rows.{Relates, rows_of}
-use Rattle.rgo_flow.specs.Live.{Leads}
+use Rattle.rgo_flow.specs.Live.{IsSuccessor}
 use Rattle.rgo_code.specs.Code.{CodeFn}
 use Rattle.rgo_code.specs.Erasure.{erased_fn}
 use Rattle.rgo_code.specs.Names.{IsLiveName}
@@ -30,16 +30,16 @@ pub record AreLiveNames (live : LiveNames) (f : CodeFn) : Type 0 where
   pub branches : (at : ℕ) (ways : ℕ × ℕ) → branch_at (erased_fn f) at ≡ Some ways
       → (b : ℕ) × IsRecorded live b at ways
 
--- rows of the tables tell what dies on the way from one instruction to another
+-- rows of the tables have what dies on the way from one instruction to another
 pub record IsKnown (live : LiveNames) (rows : List (List ℕ)) (at next : ℕ) : Type 0 where
   pub branch : ℕ
   pub point : slice_get live.points.items branch ≡ Some at
   pub dying : HasDying live rows branch at next
 
--- the rows tell it if the instruction is a branch; else it leads to `next` only
+-- the rows have it if the instruction is a branch; any other leads to `next` only
 pub record IsWay (live : LiveNames) (f : CodeFn) (rows : List (List ℕ)) (at next : ℕ) : Type 0 where
   pub known : (ways : ℕ × ℕ) → branch_at (erased_fn f) at ≡ Some ways → IsKnown live rows at next
-  pub only : branch_at (erased_fn f) at ≡ None → (j : ℕ) → Leads (erased_fn f) at j → j ≡ next
+  pub only : branch_at (erased_fn f) at ≡ None → (j : ℕ) → IsSuccessor (erased_fn f) at j → j ≡ next
 
 -- the new names are the old ones, and those that are live at one instruction and not at the other
 abbrev pub AddsDying : LiveNames → (old new : List ℕ) → (at next : ℕ) → Type 0

@@ -35,35 +35,35 @@ AreOrdered spans =
     (i : ℕ) (a b : Span) → slice_get spans i ≡ Some a → slice_get spans (i + 1) ≡ Some b → Precedes a b
 
 -- they are of different names, or do not overlap
-abbrev pub IsBefore : Span → Span → Type 0
-IsBefore a b = (a.name ≤ b.name) × (a.name ≡ b.name → (a.from ≤ b.from) × (a.to < b.from))
+abbrev pub IsSpanBefore : Span → Span → Type 0
+IsSpanBefore a b = (a.name ≤ b.name) × (a.name ≡ b.name → (a.from ≤ b.from) × (a.to < b.from))
 
 abbrev pub AreApart : List Span → Type 0
 AreApart spans =
-    (i j : ℕ) (a b : Span) → i < j → slice_get spans i ≡ Some a → slice_get spans j ≡ Some b → IsBefore a b
+    (i j : ℕ) (a b : Span) → i < j → slice_get spans i ≡ Some a → slice_get spans j ≡ Some b → IsSpanBefore a b
 
 -- the span is of a lesser name, or of this one and begins no later than the instruction
-abbrev pub HasBegun : (k at : ℕ) → Span → Type 0
-HasBegun k at s = (s.name < k) ⊎ ((s.name ≡ k) × (s.from ≤ at))
+abbrev pub SpanHasBegun : (k at : ℕ) → Span → Type 0
+SpanHasBegun k at s = (s.name < k) ⊎ ((s.name ≡ k) × (s.from ≤ at))
 
 -- so are the first spans, up to this number, and no others
-pub record AreBegun (spans : List Span) (k at count : ℕ) : Type 0 where
+pub record AreSpansBegun (spans : List Span) (k at count : ℕ) : Type 0 where
   pub bound : count ≤ length spans
-  pub begun : (i : ℕ) (s : Span) → slice_get spans i ≡ Some s → i < count → HasBegun k at s
-  pub only : (i : ℕ) (s : Span) → slice_get spans i ≡ Some s → HasBegun k at s → i < count
+  pub begun : (i : ℕ) (s : Span) → slice_get spans i ≡ Some s → i < count → SpanHasBegun k at s
+  pub only : (i : ℕ) (s : Span) → slice_get spans i ≡ Some s → SpanHasBegun k at s → i < count
 
 -- ---- merging
 
 -- the next span begins no later than right after the last one, which has its name; or it does not
-abbrev pub Meets : Bool → (last next : Span) → Type 0
-Meets true last next = (last.name ≡ next.name) × (next.from ≤ last.to + 1)
-Meets false last next = last.name ≡ next.name → last.to < next.from
+abbrev pub SpansMeet : Bool → (last next : Span) → Type 0
+SpansMeet true last next = (last.name ≡ next.name) × (next.from ≤ last.to + 1)
+SpansMeet false last next = last.name ≡ next.name → last.to < next.from
 
 -- the next span meets the last one, and does not begin before it
 abbrev pub Continues : Bool → (last next : Span) → Type 0
-Continues true last next = (last.from ≤ next.from) × Meets true last next
+Continues true last next = (last.from ≤ next.from) × SpansMeet true last next
 Continues false last next = ⊤
 
 -- the last of the spans, if there is one, precedes the next one
-abbrev pub Follows : List Span → Span → Type 0
-Follows spans next = (a : Span) → slice_get spans (length spans - 1) ≡ Some a → Precedes a next
+abbrev pub SpanFollows : List Span → Span → Type 0
+SpanFollows spans next = (a : Span) → slice_get spans (length spans - 1) ≡ Some a → Precedes a next

@@ -5,7 +5,7 @@ use Rattle.rgo_tac.specs.declared.regions.Class.TheVariants.{Name, NoClass, Glob
 use Rattle.rgo_tac.specs.Code.{Op}
 use Rattle.rgo_tac.specs.Flow.{reads, writes}
 use Rattle.rgo_code.specs.Code.{CodeInstr, CodeFn}
-use Rattle.rgo_code.specs.Names.{Names, class_of}
+use Rattle.rgo_code.specs.Names.{UsesRegionName, class_of}
 
 -- the name that a class is, if it is one
 abbrev pub name_of : Class → Option ℕ
@@ -13,10 +13,10 @@ name_of (Name k) = Some k
 name_of NoClass = None
 name_of Global = None
 
--- where there is an instruction, it uses a variable of class k
+-- the instruction, if it exists, uses a variable of class k
 abbrev pub UsesName : CodeFn → Option CodeInstr → ℕ → Type 0
 UsesName f None k = ⊥
-UsesName f (Some instr) k = Names f instr.op k
+UsesName f (Some instr) k = UsesRegionName f instr.op k
 
 -- the new names are the old ones, and that of the variable
 abbrev pub AddsName : CodeFn → (old new : List ℕ) → ℕ → Type 0

@@ -1,4 +1,5 @@
-//! The names that are live into a branch and not into one of its targets.
+//! The names that are live into a branch and not into one of its targets, found once for all branches of a function: a removal
+//! then looks them up by the branch.
 
 ghost use Rattle.std.specs.Prelude.{◌≡◌, ◌<◌, ◌^◌, ◌↔◌, ℕ, length, vec_len, Contains, IfOk};
 ghost use Rattle.rgo_graphs.specs.Rows.{IsAscending, Relates, rows_of};

@@ -1,4 +1,5 @@
-//! Which regions an instruction has to create, protect and remove.
+//! Which regions an instruction has to create, protect and remove. `rgo_insert` writes these sets into the code, and
+//! `rgo_checker` compares the lists of code with them.
 #![tactic(auto)]
 
 mod branches;

@@ -5,7 +5,7 @@ ghost use Rattle.rgo_region_sets.specs.declared.spans.Span.{Span};
 ghost use Rattle.rgo_flow.specs.Ranges.{IsCovered};
 ghost use Rattle.rgo_code.specs.Names.{IsLiveName};
 ghost use Rattle.rgo_region_sets.specs.Spans.{AddsSpans, AreApart, AreOrdered, IsNamed, IsSpanned, Spans};
-ghost use Rattle.rgo_region_sets.specs.Spans.{Continues, Follows, Meets, Precedes};
+ghost use Rattle.rgo_region_sets.specs.Spans.{Continues, SpanFollows, SpansMeet, Precedes};
 
 use crate::names::name_of;
 use crate::spans::Span;
@@ -15,7 +15,7 @@ use std::alloc::{AllocError, Global};
 
 /// Whether a span begins no later than right after the end of another one of its name.
 fn meets(last: Span, next: Span) -> bool
-    ensures { Meets result last next }
+    ensures { SpansMeet result last next }
 {
     last.name == next.name && next.from <= last.to.saturating_add(1)
 }
@@ -106,10 +106,10 @@ fn ordered(mut spans: Vec<Span>) -> Vec<Span>
 /// The next span, in their order.
 fn merge(merged: &mut Vec<Span>, next: Span) -> Result<(), AllocError>
     requires apart { AreApart merged.old.items }
-    requires follows { Follows merged.old.items next }
+    requires follows { SpanFollows merged.old.items next }
     ensures added { OnOk result (AddsSpans merged.old.items merged.new.items (Spans next)) }
     ensures apart { OnOk result (AreApart merged.new.items) }
-    ensures ends { OnOk result ((later : Span) → Precedes next later → Follows merged.new.items later) }
+    ensures ends { OnOk result ((later : Span) → Precedes next later → SpanFollows merged.new.items later) }
 {
     let count = merged.len();
     if count == 0 {

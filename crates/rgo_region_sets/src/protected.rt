@@ -21,7 +21,7 @@ fn is_needed(f: &CodeFn<'_>, live: &LiveNames, at: usize, first: bool, name: u32
     !first || !is_own(f, name) || live.is_live(at + 1, name)
 }
 
-/// A class that is passed.
+/// Adds the name of a class that is passed, if it has to be protected.
 fn protect(
     names: &mut Vec<u32>,
     seen: &mut BTreeSet<u32>,

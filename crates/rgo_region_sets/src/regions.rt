@@ -1,4 +1,4 @@
-//! The classes of which a caller passes the regions.
+//! Region parameters: the classes whose regions a caller passes.
 
 ghost use Rattle.std.specs.Prelude.{◌≡◌, ◌++◌, ◌∷◌, List, [], IfOk, OnOk};
 ghost use Rattle.rgo_code.specs.Names as names;
@@ -22,7 +22,7 @@ pub fn parameter_classes(alloc: Global, f: &CodeFn<'_>) -> Result<Vec<Class>, Al
     Ok(classes)
 }
 
-/// A name that was not seen before.
+/// Adds the class if it is a name that was not seen before.
 fn add_distinct(
     distinct: &mut Vec<Class>,
     seen: &mut BTreeSet<u32>,

@@ -32,7 +32,7 @@ fn add_all(names: &mut Vec<u32>, these: &[u32]) -> Result<(), AllocError>
     Ok(())
 }
 
-/// The place of a point.
+/// The place of a point; none for a number above those of 32 bits, which no instruction has.
 fn place_of(points: &[u32], at: usize) -> Option<usize>
     requires rising { IsStrictlyIncreasing points.now }
     ensures { (b : ℕ) → (slice_get points.now b ≡ Some at) ↔ (result ≡ Some b) }
@@ -46,7 +46,7 @@ fn place_of(points: &[u32], at: usize) -> Option<usize>
     }
 }
 
-/// Of a branch, the names that are live into it and not into the target of one of its ways.
+/// Adds the names that are live into a branch and not into the target of one of its ways.
 fn add_dying(
     names: &mut Vec<u32>,
     live: &LiveNames,
@@ -65,8 +65,8 @@ fn add_dying(
     }
 }
 
-/// The names that may have to be removed on a way: those that the instruction uses, and of a branch those that are live
-/// into it and not into the target.
+/// The names that may have to be removed on a way: those that the instruction uses, and at a branch those that are live into
+/// it and not into the target. On the only way of another instruction, what it does not use cannot die.
 fn may_die(
     alloc: Global,
     f: &CodeFn<'_>,
@@ -95,7 +95,7 @@ fn is_dead(f: &CodeFn<'_>, live: &LiveNames, gives: &[u32], next: usize, name: u
     is_own(f, name) && !has(gives, name) && !live.is_live(next, name)
 }
 
-/// Of these names the own ones that are not given and not live into the next instruction.
+/// Those of these names that are own, not given, and not live into the next instruction.
 fn dead(
     alloc: Global,
     f: &CodeFn<'_>,

@@ -1,7 +1,7 @@
 //! Spans of instructions in which names are live.
 
 ghost use Rattle.std.specs.Prelude.{Decides};
-ghost use Rattle.rgo_region_sets.specs.Spans.{AreApart, AreBegun, IsSpanned};
+ghost use Rattle.rgo_region_sets.specs.Spans.{AreApart, AreSpansBegun, IsSpanned};
 
 /// Instructions in a row, the last one included, in which a name is live.
 #[derive(Clone, Copy, Debug, PartialEq, Eq)]
@@ -14,7 +14,7 @@ pub struct Span {
 /// How many spans are of lesser names, or of this one and begin no later than the instruction.
 fn begun(spans: &[Span], name: u32, at: usize) -> usize
     requires apart { AreApart spans.now }
-    ensures { AreBegun spans.now name at result }
+    ensures { AreSpansBegun spans.now name at result }
 {
     spans.partition_point(|s| s.name < name || s.name == name && s.from as usize <= at)
 }

@@ -12,9 +12,9 @@ pub struct LiveNames {
     pub(crate) spans: Vec<Span>,
     /// The numbers of the branches.
     pub(crate) points: Vec<u32>,
-    /// For each branch, the spans of the names that are live into it, and not where its variable is true.
+    /// For each branch, the names that are live into it and not where it leads if its variable is true.
     pub(crate) taken: Vec<Vec<u32>>,
-    /// The same, where its variable is false.
+    /// The same if its variable is false.
     pub(crate) passed: Vec<Vec<u32>>,
     ghost apart: { AreApart spans.items },
     ghost rising: { IsStrictlyIncreasing points.items },

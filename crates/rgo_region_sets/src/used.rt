@@ -57,7 +57,7 @@ fn add_used(names: &mut Vec<u32>, f: &CodeFn<'_>, op: Op<'_>) -> Result<(), Allo
     add_written(names, f, writes(op))
 }
 
-/// The names that the instruction of this number uses.
+/// The names that the instruction of this number uses; none if the function does not have it.
 pub(crate) fn used_names(alloc: Global, f: &CodeFn<'_>, at: usize) -> Result<Vec<u32>, AllocError>
     ensures { IfOk result (λ names. IsSet names.items (UsesName f.now (slice_get f.now.body at))) }
 {

@@ -6,11 +6,11 @@ use Rattle.rgo_classes.proofs.Chains as chain
 use Rattle.rgo_summaries.specs.declared.nodes.Nodes.{Nodes}
 use Rattle.rgo_summaries.specs.declared.progress.Event.{Event}
 use Rattle.rgo_summaries.specs.declared.progress.Progress.{Progress}
-use Rattle.rgo_summaries.specs.Progress.{Adds, Also, SameIn, same_at}
+use Rattle.rgo_summaries.specs.Progress.{AddsJoins, Also, SameIn, same_at}
 use Rattle.rgo_summaries.proofs.Chains.{IsEquivalence}
 use Rattle.rgo_summaries.proofs.Progressing.{same_symmetric, same_transitive}
 
-pub adds_none : (p : Progress) (These : ℕ → ℕ → ℕ → Type 0) → ((f x y : ℕ) → These f x y → ⊥) → Adds p p These
+pub adds_none : (p : Progress) (These : ℕ → ℕ → ℕ → Type 0) → ((f x y : ℕ) → These f x y → ⊥) → AddsJoins p p These
 adds_none p These none = record {
   len = refl;
   sizes = λ f. refl;
@@ -22,7 +22,7 @@ adds_none p These none = record {
   counted = omega arith;
 }
 
-module _ (p q r : Progress) (These Those All : ℕ → ℕ → ℕ → Type 0) (one : Adds p q These) (other : Adds q r Those)
+module _ (p q r : Progress) (These Those All : ℕ → ℕ → ℕ → Type 0) (one : AddsJoins p q These) (other : AddsJoins q r Those)
     (split : (f x y : ℕ) → All f x y → These f x y ⊎ Those f x y) (left : (f x y : ℕ) → These f x y → All f x y)
     (right : (f x y : ℕ) → Those f x y → All f x y) where
   before : (f x y : ℕ) → Also p.nodes.items These f x y → AreSame (Also p.nodes.items All f) x y
@@ -37,7 +37,7 @@ module _ (p q r : Progress) (These Those All : ℕ → ℕ → ℕ → Type 0) (
       (λ t. chain.contains (Also p.nodes.items All f) x y (inr (right f x y t)))
       h
 
-  pub adds_more : Adds p r All
+  pub adds_more : AddsJoins p r All
   adds_more = record {
     len = other.len ∙ one.len;
     sizes = λ f. other.sizes f ∙ one.sizes f;

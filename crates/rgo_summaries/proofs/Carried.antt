@@ -7,8 +7,8 @@ use Rattle.rgo_classes.specs.declared.classes.Summary.{Summary}
 use Rattle.rgo_classes.specs.Joins.{IsPointerLike, Joins}
 use Rattle.rgo_classes.specs.Classes.{InOneClass}
 use Rattle.rgo_classes.specs.Same.{AreSame}
-use Rattle.rgo_summaries.specs.Calls.{Called, callee_at, passed}
-use Rattle.rgo_summaries.specs.Nodes.{Node, Own, Callee, IsOuter, JoinsOwn, JoinsPassed, Begins}
+use Rattle.rgo_summaries.specs.Calls.{CallParts, callee_at, passed}
+use Rattle.rgo_summaries.specs.Nodes.{Node, Own, Callee, IsOuter, JoinsOwn, JoinsPassed, JoinsAtFirst}
 use Rattle.rgo_summaries.specs.Spreading.{Spreads, first, carried, itself, turned, chained}
 use Rattle.rgo_classes.proofs.Chains as chain
 use Rattle.rgo_summaries.proofs.Chains.{IsEquivalence, least}
@@ -19,7 +19,7 @@ pub record Block (code : Tac) (kinds : ℕ → ℕ → Option Node) (Inside : �
   pub f : TacFn
   pub caller : slice_get code.functions n ≡ Some f
   pub at : ℕ
-  pub call : Called
+  pub call : CallParts
   pub callee : TacFn
   pub here : callee_at code f at ≡ Some (call, callee)
   pub calls : call.function ≡ g
@@ -36,7 +36,7 @@ AreEquivalences Related = (n : ℕ) → IsEquivalence (Related n)
 
 module _ (code : Tac) (sums : List Summary) (Related : ℕ → ℕ → ℕ → Type 0) where
   -- a member is in one class with one that is passed for a member related to this one
-  pub record Reaches (f : TacFn) (a : Member) (i : ℕ) (call : Called) (callee : TacFn) : Type 0 where
+  pub record Reaches (f : TacFn) (a : Member) (i : ℕ) (call : CallParts) (callee : TacFn) : Type 0 where
     pub through : ℕ
     pub actual : Member
     pub outer : IsOuter callee through
@@ -45,7 +45,7 @@ module _ (code : Tac) (sums : List Summary) (Related : ℕ → ℕ → ℕ → T
     pub pointer_like : IsPointerLike f actual
     pub chain : InOneClass sums f a actual
 
-  abbrev pub ReachesAt : TacFn → Member → ℕ → Option (Called × TacFn) → Type 0
+  abbrev pub ReachesAt : TacFn → Member → ℕ → Option (CallParts × TacFn) → Type 0
   ReachesAt f a i None = ⊥
   ReachesAt f a i (Some c) = Reaches f a i c.0 c.1
 
@@ -93,12 +93,12 @@ module _ (code : Tac) (sums : List Summary) (Related : ℕ → ℕ → ℕ → T
       ))
 
   module _ (equal : AreEquivalences Related) (speak : Speak code sums Related) where
-    at_call : (f : TacFn) (a : Member) (at i : ℕ) (call : Called) (callee : TacFn)
+    at_call : (f : TacFn) (a : Member) (at i : ℕ) (call : CallParts) (callee : TacFn)
         → callee_at code f at ≡ Some (call, callee)
         → Stands f a (Some (Callee at i)) ↔ Reaches f a i call callee
     at_call f a at i call callee e = (λ s. subst (ReachesAt f a i) e s, λ s. subst (ReachesAt f a i) (sym e) s)
 
-    reached : (f : TacFn) (a b : Member) (at i : ℕ) (call : Called) (callee : TacFn)
+    reached : (f : TacFn) (a b : Member) (at i : ℕ) (call : CallParts) (callee : TacFn)
         → callee_at code f at ≡ Some (call, callee) → slice_get code.functions call.function ≡ Some callee
         → IsOuter callee i → passed call i ≡ Some b → IsPointerLike f b → Reaches f a i call callee
         → InOneClass sums f a b
@@ -129,14 +129,14 @@ module _ (code : Tac) (sums : List Summary) (Related : ℕ → ℕ → ℕ → T
         known_here : (p : JoinsPassed code f kinds x y) → slice_get code.functions p.call.function ≡ Some p.callee
         known_here p = (call_here code f p.at p.call p.callee p.here).known
 
-    begins_means : (f : TacFn) (kinds : ℕ → Option Node) (x y : ℕ) → Begins code f kinds x y → Means f kinds x y
+    begins_means : (f : TacFn) (kinds : ℕ → Option Node) (x y : ℕ) → JoinsAtFirst code f kinds x y → Means f kinds x y
     begins_means f kinds x y h = ⊎_elim (λ j. own_means f kinds x y j) (λ j. passed_means f kinds x y j) h
 
-    same_means : (f : TacFn) (kinds : ℕ → Option Node) (x y : ℕ) → AreSame (Begins code f kinds) x y → Means f kinds x y
+    same_means : (f : TacFn) (kinds : ℕ → Option Node) (x y : ℕ) → AreSame (JoinsAtFirst code f kinds) x y → Means f kinds x y
     same_means f kinds x y s =
-        least (Begins code f kinds) (Means f kinds) (means_equal f kinds) (begins_means f kinds) x y s
+        least (JoinsAtFirst code f kinds) (Means f kinds) (means_equal f kinds) (begins_means f kinds) x y s
 
-    moved : (f : TacFn) (a : Member) (call : Called) (callee : TacFn) (i j : ℕ) → Related call.function i j
+    moved : (f : TacFn) (a : Member) (call : CallParts) (callee : TacFn) (i j : ℕ) → Related call.function i j
         → Reaches f a i call callee → Reaches f a j call callee
     moved f a call callee i j e r = record {
       through = r.through;
@@ -148,7 +148,7 @@ module _ (code : Tac) (sums : List Summary) (Related : ℕ → ℕ → ℕ → T
       chain = r.chain;
     }
 
-    carried_means : (f : TacFn) (kinds : ℕ → Option Node) (x y at i j : ℕ) (call : Called) (callee : TacFn)
+    carried_means : (f : TacFn) (kinds : ℕ → Option Node) (x y at i j : ℕ) (call : CallParts) (callee : TacFn)
         → callee_at code f at ≡ Some (call, callee) → kinds x ≡ Some (Callee at i) → kinds y ≡ Some (Callee at j)
         → Related call.function i j → Means f kinds x y
     carried_means f kinds x y at i j call callee here p q e =
@@ -175,7 +175,7 @@ module _ (code : Tac) (sums : List Summary) (Related : ℕ → ℕ → ℕ → T
           subst (Stands f a) q ((m f k a).0 (subst (Stands f a) (sym p) (chain.reflexive (Joins sums f) a a refl)))
 
       module _ (begun : (n x y : ℕ) (f : TacFn) → slice_get code.functions n ≡ Some f → First n x y
-          → AreSame (Begins code f (kinds n)) x y)
+          → AreSame (JoinsAtFirst code f (kinds n)) x y)
           (blocks : (g n base : ℕ) → Carries g n base → Block code kinds Inside g n base)
           (known : (g x y : ℕ) → Inside g x → Inside g y → Spreads First Inside Carries g x y → MeansIn g x y
           → Related g x y) where

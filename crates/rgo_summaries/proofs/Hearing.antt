@@ -11,7 +11,7 @@ use Rattle.rgo_summaries.specs.declared.nodes.Nodes.{Nodes}
 use Rattle.rgo_summaries.specs.declared.progress.Event.{Event}
 use Rattle.rgo_summaries.specs.declared.progress.Progress.{Progress}
 use Rattle.rgo_summaries.specs.declared.progress.Site.{Site}
-use Rattle.rgo_summaries.specs.Progress.{Adds, Also, Carries, HasRoom, Hears, Inside, IsProgress, IsSpread, Logged, SameIn, Two, seen_all, size_in, width_at, width_in}
+use Rattle.rgo_summaries.specs.Progress.{AddsJoins, Also, Carries, HasRoom, Hears, Inside, IsProgress, IsSpread, Logged, SameIn, Two, seen_all, size_in, width_at, width_in}
 use Rattle.rgo_summaries.specs.Spreading.{Spreads, first, carried, itself, turned, chained}
 use Rattle.rgo_summaries.specs.Views.{sites_of}
 use Rattle.rgo_summaries.proofs.Adding.{OneIn, adds_more, one_in}
@@ -20,8 +20,8 @@ use Rattle.rgo_summaries.proofs.Outer.{get_left}
 
 -- ---- callers hear of one event, one after another
 
-module _ (p q r : Progress) (sites : List Site) (s : Site) (e : Event) (one : Adds p q (Hears sites e))
-    (other : Adds q r (Two s.caller (s.base + e.one) (s.base + e.other))) where
+module _ (p q r : Progress) (sites : List Site) (s : Site) (e : Event) (one : AddsJoins p q (Hears sites e))
+    (other : AddsJoins q r (Two s.caller (s.base + e.one) (s.base + e.other))) where
   abbrev Longer : ℕ → ℕ → ℕ → Type 0
   Longer = Hears (sites ++ s ∷ []) e
 
@@ -56,7 +56,7 @@ module _ (p q r : Progress) (sites : List Site) (s : Site) (e : Event) (one : Ad
     other = t.2;
   }
 
-  pub hears_more : Adds p r Longer
+  pub hears_more : AddsJoins p r Longer
   hears_more =
       adds_more p q r (Hears sites e)
       (Two s.caller (s.base + e.one) (s.base + e.other)) Longer one other splits kept_left
@@ -64,11 +64,11 @@ module _ (p q r : Progress) (sites : List Site) (s : Site) (e : Event) (one : Ad
 
 -- the sites up to one, and this one
 pub hears_step : (p q r : Progress) (sites : List Site) (i : ℕ) (d : Site) (e : Event) → i < length sites
-    → Adds p q (Hears (take i sites) e)
-    → Adds q r (Two (get_or sites i d).caller ((get_or sites i d).base + e.one) ((get_or sites i d).base + e.other))
-    → Adds p r (Hears (take (i + 1) sites) e)
+    → AddsJoins p q (Hears (take i sites) e)
+    → AddsJoins q r (Two (get_or sites i d).caller ((get_or sites i d).base + e.one) ((get_or sites i d).base + e.other))
+    → AddsJoins p r (Hears (take (i + 1) sites) e)
 hears_step p q r sites i d e l one other =
-    subst (λ (s : List Site). Adds p r (Hears s e)) (sym (take_more sites i d l))
+    subst (λ (s : List Site). AddsJoins p r (Hears s e)) (sym (take_more sites i d l))
     (hears_more p q r (take i sites) (get_or sites i d) e one other)
 
 -- ---- events of the log
@@ -129,7 +129,7 @@ underway sites p is = record {
 
 module _ (sites : List (Vec Site Global)) (start now new : Progress) (next : ℕ) (e : Event)
     (u : Underway sites start now next) (event : slice_get now.log.items next ≡ Some e) (is : IsProgress new)
-    (adds : Adds now new (Hears (sites_of sites e.function) e)) where
+    (adds : AddsJoins now new (Hears (sites_of sites e.function) e)) where
   abbrev Follows : ℕ → ℕ → ℕ → Type 0
   Follows = Spreads (SameIn start.nodes.items) (Inside start.nodes.items) (Carries sites)
 

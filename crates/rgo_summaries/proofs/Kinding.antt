@@ -8,9 +8,9 @@ use Rattle.rgo_tac.specs.declared.regions.Member.{Member}
 use Rattle.rgo_classes.specs.Joins.{IsPointerLike}
 use Rattle.rgo_classes.specs.Labels.{number_of}
 use Rattle.rgo_summaries.specs.Beginning.{BeginsHere, OwnHere, PassedHere, own_in}
-use Rattle.rgo_summaries.specs.Calls.{Called, call_of, callee_at, member}
+use Rattle.rgo_summaries.specs.Calls.{CallParts, call_of, callee_at, member}
 use Rattle.rgo_summaries.specs.Kinds.{call_kinds, kinds_of, kinds_to, numbered, own, width_of}
-use Rattle.rgo_summaries.specs.Nodes.{Begins, Callee, IsOuter, JoinsOwn, JoinsPassed, Node, Own}
+use Rattle.rgo_summaries.specs.Nodes.{JoinsAtFirst, Callee, IsOuter, JoinsOwn, JoinsPassed, Node, Own}
 use Rattle.rgo_summaries.proofs.Outer.{get_last, get_left}
 use Rattle.rgo_summaries.proofs.Passing.{like_below, member_number}
 use Rattle.rgo_summaries.proofs.Standing.{call_here, pointer_like_joined}
@@ -80,7 +80,7 @@ module _ (code : Tac) (f : TacFn) where
   pub kinds_own : (to i : ℕ) → i < length f.variables + 2 → slice_get (kinds_to code f to) i ≡ Some (own i)
   kinds_own to i l = kinds_before 0 to i (own i) (omega arith) (numbered_get own (length f.variables + 2) i l)
 
-  module _ (at : ℕ) (call : Called) (callee : TacFn) (here : callee_at code f at ≡ Some (call, callee)) where
+  module _ (at : ℕ) (call : CallParts) (callee : TacFn) (here : callee_at code f at ≡ Some (call, callee)) where
     pub call_len : length (call_kinds at (callee_at code f at)) ≡ width_of callee
     call_len = ap (λ o. length (call_kinds at o)) here ∙ numbered_len (Callee at) (width_of callee)
 
@@ -145,12 +145,12 @@ module _ (code : Tac) (f : TacFn) where
     y_is = kind_of h.passes.actual y h.passes.pointer_like h.passes.y_is;
   }
 
-  pub begins : (at x y : ℕ) → BeginsHere code f at x y → Begins code f (slice_get (kinds_of code f)) x y
+  pub begins : (at x y : ℕ) → BeginsHere code f at x y → JoinsAtFirst code f (slice_get (kinds_of code f)) x y
   begins at x y h = ⊎_elim (λ o. inl (own_begins at x y o)) (λ p. inr (passed_begins at x y p)) h
 
 -- ---- a call joins nothing by itself
 
-call_joins_none : (op : Op) (call : Called) → call_of op ≡ Some call → op_joins op ≡ None
+call_joins_none : (op : Op) (call : CallParts) → call_of op ≡ Some call → op_joins op ≡ None
 call_joins_none (Call to n from) call e = refl
 call_joins_none (Go n from) call e = refl
 call_joins_none (Do to action from) call e = absurd (none-some call e)
@@ -159,7 +159,7 @@ call_joins_none (Jump target) call e = absurd (none-some call e)
 call_joins_none (Branch test target other) call e = absurd (none-some call e)
 call_joins_none (Return value) call e = absurd (none-some call e)
 
-pub no_own_in_call : (code : Tac) (f : TacFn) (at : ℕ) (call : Called) (callee : TacFn)
+pub no_own_in_call : (code : Tac) (f : TacFn) (at : ℕ) (call : CallParts) (callee : TacFn)
     → callee_at code f at ≡ Some (call, callee)
     → own_in f (slice_get f.body at) ≡ None
 no_own_in_call code f at call callee here =

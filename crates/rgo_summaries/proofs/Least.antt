@@ -8,11 +8,11 @@ use Rattle.rgo_classes.specs.declared.classes.Summary.{Summary}
 use Rattle.rgo_classes.specs.Joins.{IsPointerLike, Joins, CallJoins}
 use Rattle.rgo_classes.specs.Classes.{InOneClass}
 use Rattle.rgo_classes.specs.Same.{AreSame}
-use Rattle.rgo_summaries.specs.Calls.{Called, callee_at, member, passed}
+use Rattle.rgo_summaries.specs.Calls.{CallParts, callee_at, member, passed}
 use Rattle.rgo_classes.specs.Labels.{number_of}
 use Rattle.rgo_summaries.specs.Families.{IsFamily, IsLeastFamily, JoinsNoMore}
-use Rattle.rgo_summaries.specs.Names.{Names}
-use Rattle.rgo_summaries.specs.Nodes.{Node, Own, IsOuter, Begins}
+use Rattle.rgo_summaries.specs.Names.{SummaryNames}
+use Rattle.rgo_summaries.specs.Nodes.{Node, Own, IsOuter, JoinsAtFirst}
 use Rattle.rgo_summaries.specs.Spreading.{Spreads, first, carried, turned, chained}
 use Rattle.rgo_summaries.proofs.Carried.{AreEquivalences, Block, MeansIn, Speak, means_joins, spread_joins}
 use Rattle.rgo_classes.proofs.Chains as chain
@@ -28,7 +28,7 @@ number_member (suc (suc v)) = omega arith
 
 module _ (First : ℕ → ℕ → ℕ → Type 0) (Carries : ℕ → ℕ → ℕ → Type 0) where
   -- a call has nodes, which are joined to what is passed
-  pub record HasBlock (n : ℕ) (f : TacFn) (call : Called) (callee : TacFn) : Type 0 where
+  pub record HasBlock (n : ℕ) (f : TacFn) (call : CallParts) (callee : TacFn) : Type 0 where
     pub base : ℕ
     pub carries : Carries call.function n base
     pub passes : (i : ℕ) (a : Member) → IsOuter callee i → passed call i ≡ Some a → IsPointerLike f a
@@ -45,11 +45,11 @@ module _ (code : Tac) (kinds : ℕ → ℕ → Option Node) (First : ℕ → ℕ
     pub inner : (n i : ℕ) (f : TacFn) → slice_get code.functions n ≡ Some f → Inside n i
         → kinds n i ≡ Some (Own (member i))
     pub begun : (n x y : ℕ) (f : TacFn) → slice_get code.functions n ≡ Some f → First n x y
-        → AreSame (Begins code f (kinds n)) x y
+        → AreSame (JoinsAtFirst code f (kinds n)) x y
     pub blocks : (g n base : ℕ) → Carries g n base → Block code kinds Inside g n base
     pub own : (n at : ℕ) (f : TacFn) (instr : Instr) (a b : Member) → slice_get code.functions n ≡ Some f
         → slice_get f.body at ≡ Some instr → joins f instr.op ≡ Some (a, b) → First n (number_of a) (number_of b)
-    pub called : (n at : ℕ) (f callee : TacFn) (call : Called) → slice_get code.functions n ≡ Some f
+    pub called : (n at : ℕ) (f callee : TacFn) (call : CallParts) → slice_get code.functions n ≡ Some f
         → callee_at code f at ≡ Some (call, callee) → HasBlock First Carries n f call callee
     pub equal : AreEquivalences Now
     pub sound : (n x y : ℕ) → Now n x y → Spreads First Inside Carries n x y
@@ -60,7 +60,7 @@ module _ (code : Tac) (kinds : ℕ → ℕ → Option Node) (First : ℕ → ℕ
 
     module _ (family : List Summary) (len : length family ≡ length code.functions)
         (named : (n : ℕ) (f : TacFn) (s : Summary) → slice_get code.functions n ≡ Some f → slice_get family n ≡ Some s
-        → Names (Now n) f s) where
+        → SummaryNames (Now n) f s) where
       summary_of : (n : ℕ) (f : TacFn) → IsFn n f → (s : Summary) × (slice_get family n ≡ Some s)
       summary_of n f k = some_get family n (omega (arith, slice_get_within code.functions n f k, len))
 
@@ -79,13 +79,13 @@ module _ (code : Tac) (kinds : ℕ → ℕ → Option Node) (First : ℕ → ℕ
           n i j f (member i) (member j) k (solved.inner n i f k (solved.outer n i f k oi))
           (solved.inner n j f k (solved.outer n j f k oj)) (solved.sound n i j h)
 
-      call_summary : (o : Option Summary) (call : Called) (a b : Member) → CallJoins o call.to call.from a b
+      call_summary : (o : Option Summary) (call : CallParts) (a b : Member) → CallJoins o call.to call.from a b
           → (s : Summary) × (o ≡ Some s) × CallJoins (Some s) call.to call.from a b
       call_summary None call a b h = absurd h
       call_summary (Some s) call a b h = (s, refl, h)
 
       module _ (n : ℕ) (f : TacFn) (k : IsFn n f) where
-        by_block : (call : Called) (callee : TacFn) (i j : ℕ) (a b : Member) → HasBlock First Carries n f call callee
+        by_block : (call : CallParts) (callee : TacFn) (i j : ℕ) (a b : Member) → HasBlock First Carries n f call callee
             → IsFn call.function callee → IsOuter callee i → IsOuter callee j → Now call.function i j
             → passed call i ≡ Some a → passed call j ≡ Some b → IsPointerLike f a → IsPointerLike f b
             → Spreads First Inside Carries n (number_of a) (number_of b)

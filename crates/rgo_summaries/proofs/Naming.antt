@@ -6,13 +6,13 @@ use Rattle.rgo_tac.specs.declared.regions.Class.TheVariants as class
 use Rattle.rgo_tac.specs.declared.regions.Member.{Member}
 use Rattle.rgo_tac.specs.declared.regions.Member.TheVariants.{Global}
 use Rattle.rgo_tac.specs.Code.{TacFn}
-use Rattle.rgo_tac.specs.Joins.{is_pointer_like_in}
+use Rattle.rgo_tac.specs.Joins.{is_pointer_like_member}
 use Rattle.rgo_classes.specs.declared.classes.Summary.{Summary}
 use Rattle.rgo_classes.specs.Joins.{IsPointerLike, Joins}
 use Rattle.rgo_classes.specs.Classes.{AreNamed, Describes, InOneClass, outer_members}
 use Rattle.rgo_summaries.specs.Calls.{member}
 use Rattle.rgo_summaries.specs.Families.{outer_classes, JoinsNoMore}
-use Rattle.rgo_summaries.specs.Names.{class_at, Names}
+use Rattle.rgo_summaries.specs.Names.{class_at, SummaryNames}
 use Rattle.rgo_summaries.specs.Nodes.{IsOuter}
 use Rattle.rgo_classes.proofs.Chains as chain
 use Rattle.rgo_summaries.proofs.Chains.{IsEquivalence}
@@ -24,9 +24,9 @@ is_or_not true = inl refl
 is_or_not false = inr (λ e. cc)
 
 pub pointer_like_or_not : (f : TacFn) (m : Member) → IsPointerLike f m ⊎ (IsPointerLike f m → ⊥)
-pointer_like_or_not f m = is_or_not (is_pointer_like_in f m)
+pointer_like_or_not f m = is_or_not (is_pointer_like_member f m)
 
-module _ (Related : ℕ → ℕ → Type 0) (f : TacFn) (s : Summary) (names : Names Related f s) where
+module _ (Related : ℕ → ℕ → Type 0) (f : TacFn) (s : Summary) (names : SummaryNames Related f s) where
   -- a class other than none is one of a pointer-like member
   pub outer_by_class : (i : ℕ) (c : Class) → class_at s i ≡ Some c → c ≢ class.NoClass → IsOuter f i
   outer_by_class i c e some =
@@ -55,7 +55,7 @@ module _ (Related : ℕ → ℕ → Type 0) (f : TacFn) (s : Summary) (names : N
 
 pub names_along : (R S : ℕ → ℕ → Type 0) (f : TacFn) (s : Summary)
     → ((i j : ℕ) → IsOuter f i → IsOuter f j → R i j ↔ S i j)
-    → Names R f s → Names S f s
+    → SummaryNames R f s → SummaryNames S f s
 names_along R S f s same names = record {
   len = names.len;
   none = names.none;
@@ -123,7 +123,7 @@ module _ (Same : Member → Member → Type 0) (equal : IsEquivalence Same) (f :
       in
       (λ e. same.0 (at_i ∙ e ∙ sym at_j), λ h. sym at_i ∙ same.1 h ∙ at_j)
 
-  pub numbers_named : AreNamed Same f (outer_members f) (outer_classes s) → Names (ByNumber Same) f s
+  pub numbers_named : AreNamed Same f (outer_members f) (outer_classes s) → SummaryNames (ByNumber Same) f s
   numbers_named d = record {
     len = params_len d;
     none = names_none d;
@@ -131,7 +131,7 @@ module _ (Same : Member → Member → Type 0) (equal : IsEquivalence Same) (f :
     numbered = d.numbered;
   }
 
-  module _ (n : Names (ByNumber Same) f s) where
+  module _ (n : SummaryNames (ByNumber Same) f s) where
     described_none : (k : ℕ) (m : Member) → slice_get (outer_members f) k ≡ Some m
         → (slice_get (outer_classes s) k ≡ Some class.NoClass) ↔ (IsPointerLike f m → ⊥)
     described_none k m e =
@@ -197,16 +197,16 @@ in_one_class sums f = record {
 }
 
 pub names_of : (sums : List Summary) (f : TacFn) (s : Summary) → Describes sums f (outer_members f) (outer_classes s)
-    → Names (InOne sums f) f s
+    → SummaryNames (InOne sums f) f s
 names_of sums f s d = numbers_named (InOneClass sums f) (in_one_class sums f) f s d
 
-pub describes_of : (sums : List Summary) (f : TacFn) (s : Summary) → Names (InOne sums f) f s
+pub describes_of : (sums : List Summary) (f : TacFn) (s : Summary) → SummaryNames (InOne sums f) f s
     → Describes sums f (outer_members f) (outer_classes s)
 describes_of sums f s n = members_named (InOneClass sums f) (in_one_class sums f) f s n
 
 -- ---- of two equivalences one of which contains the other
 
-module _ (R S : ℕ → ℕ → Type 0) (f : TacFn) (s t : Summary) (ns : Names R f s) (nt : Names S f t)
+module _ (R S : ℕ → ℕ → Type 0) (f : TacFn) (s t : Summary) (ns : SummaryNames R f s) (nt : SummaryNames S f t)
     (less : (i j : ℕ) → IsOuter f i → IsOuter f j → R i j → S i j) where
   same_in_both : (i j : ℕ) (c : Class) → c ≢ class.NoClass → class_at s i ≡ Some c → class_at s j ≡ Some c
       → class_at t i ≡ class_at t j

@@ -12,9 +12,9 @@ use Rattle.rgo_classes.proofs.Labelled.{variable_below}
 use Rattle.rgo_summaries.specs.declared.beginning.Calling.{Calling}
 use Rattle.rgo_summaries.specs.declared.progress.Progress.{Progress}
 use Rattle.rgo_summaries.specs.Beginning.{Of, OwnHere, PassedFor, Passing, PassingBelow, own_in}
-use Rattle.rgo_summaries.specs.Calls.{Called, member, passed}
+use Rattle.rgo_summaries.specs.Calls.{CallParts, member, passed}
 use Rattle.rgo_summaries.specs.Kinds.{width_of}
-use Rattle.rgo_summaries.specs.Progress.{Adds, Two}
+use Rattle.rgo_summaries.specs.Progress.{AddsJoins, Two}
 use Rattle.rgo_summaries.specs.Views.{called}
 use Rattle.rgo_summaries.proofs.Adding.{adds_more, adds_none}
 
@@ -41,7 +41,7 @@ number_passed None k e = absurd (none-some k e)
 number_passed (Some m) k e = (m, refl, sym (same_Some (number_of m) k e))
 
 module _ (c : Calling) (number : ℕ) where
-  abbrev call : Called
+  abbrev call : CallParts
   call = called c.call
 
   module _ (actual : ℕ) (e : Some actual ≡ option_map number_of (passed call number)) where
@@ -84,15 +84,15 @@ module _ (c : Calling) (number : ℕ) where
 
 -- the same joins by another name
 pub adds_as : (p q : Progress) (These Those : ℕ → ℕ → ℕ → Type 0) → ((f x y : ℕ) → These f x y → Those f x y)
-    → ((f x y : ℕ) → Those f x y → These f x y) → Adds p q These → Adds p q Those
+    → ((f x y : ℕ) → Those f x y → These f x y) → AddsJoins p q These → AddsJoins p q Those
 adds_as p q These Those to from a =
     adds_more p p q (λ f x y. ⊥) These Those (adds_none p (λ f x y. ⊥) (λ f x y h. h)) a
     (λ f x y h. inr (from f x y h)) (λ f x y h. absurd h) to
 
 -- ---- all members
 
-module _ (p q r : Progress) (c : Calling) (n : ℕ) (one : Adds p q (PassingBelow c n))
-    (other : Adds q r (Passing c n)) where
+module _ (p q r : Progress) (c : Calling) (n : ℕ) (one : AddsJoins p q (PassingBelow c n))
+    (other : AddsJoins q r (Passing c n)) where
   abbrev More : ℕ → ℕ → ℕ → Type 0
   More = PassingBelow c (n + 1)
 
@@ -106,7 +106,7 @@ module _ (p q r : Progress) (c : Calling) (n : ℕ) (one : Adds p q (PassingBelo
       (λ l. inr (at_number f x y h.1.0 (omega (arith, l, h.1.1)) h.0 h.1.2))
       (cases_lt h.1.0 n)
 
-  pub passing_more : Adds p r More
+  pub passing_more : AddsJoins p r More
   passing_more =
       adds_more p q r (PassingBelow c n) (Passing c n) More one other split
       (λ f x y h. (h.0, (h.1.0, omega (arith, h.1.1), h.1.2)))

@@ -14,7 +14,7 @@ use Rattle.rgo_summaries.specs.declared.nodes.Nodes.{Nodes}
 use Rattle.rgo_summaries.specs.declared.progress.Event.{Event}
 use Rattle.rgo_summaries.specs.declared.progress.Progress.{Progress}
 use Rattle.rgo_summaries.specs.Joining.{AreNews, Crosses, IsNodes, JoinsNodes, Same, seen_count, some_count}
-use Rattle.rgo_summaries.specs.Progress.{Adds, Also, Inside, IsProgress, Logged, SameIn, Two, events_of, same_at, seen_all, size_at, size_in, width_at, width_in}
+use Rattle.rgo_summaries.specs.Progress.{AddsJoins, Also, Inside, IsProgress, Logged, SameIn, Two, events_of, same_at, seen_all, size_at, size_in, width_at, width_in}
 
 -- ---- lists in which one item is set
 
@@ -252,7 +252,7 @@ module _ (old new : Progress) (f : ℕ) (n m : Nodes) (a b : ℕ) (news : Option
       let long = ap (λ (l : List Event). length l) log ∙ length-append old.log.items (events_of f news) in
       omega (arith, sum, at, now, long, news_len news, j.counted)
 
-  pub progress_adds : Adds old new (Two f a b)
+  pub progress_adds : AddsJoins old new (Two f a b)
   progress_adds = record {
     len = ap (λ (l : List Nodes). length l) nodes ∙ length-set old.nodes.items f m;
     sizes = sizes;

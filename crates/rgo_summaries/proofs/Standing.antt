@@ -8,10 +8,10 @@ use Rattle.rgo_tac.specs.declared.regions.Class.TheVariants as class
 use Rattle.rgo_tac.specs.declared.regions.Member.{Member}
 use Rattle.rgo_tac.specs.declared.regions.Member.TheVariants.{Variable, Result, Global}
 use Rattle.rgo_tac.specs.Code.{Op, Do, Call, Go, Print, Jump, Branch, Return, Instr, TacFn, Tac}
-use Rattle.rgo_tac.specs.Joins.{op_joins, joins, if_pointer_like, is_pointer_like_in}
+use Rattle.rgo_tac.specs.Joins.{op_joins, joins, if_pointer_like, is_pointer_like_member}
 use Rattle.rgo_classes.specs.declared.classes.Summary.{Summary}
 use Rattle.rgo_classes.specs.Joins.{StandsFor, CallJoins, OpJoins, IsPointerLike, Joins}
-use Rattle.rgo_summaries.specs.Calls.{Called, call_of, call_in, callee_of, callee_at, passed}
+use Rattle.rgo_summaries.specs.Calls.{CallParts, call_of, call_in, callee_of, callee_at, passed}
 use Rattle.rgo_summaries.specs.Names.{class_at}
 
 -- two members of a callee have one class
@@ -22,10 +22,10 @@ pub record Together (s : Summary) (i j : ℕ) : Type 0 where
   pub second : class_at s j ≡ Some named
 
 -- what is passed for a member of a class
-abbrev pub OfClass : Summary → Called → Class → Member → Type 0
+abbrev pub OfClass : Summary → CallParts → Class → Member → Type 0
 OfClass s call c a = (i : ℕ) × (class_at s i ≡ Some c) × (passed call i ≡ Some a)
 
-pub stands : (s : Summary) (call : Called) (c : Class) (a : Member) → StandsFor s call.to call.from c a
+pub stands : (s : Summary) (call : CallParts) (c : Class) (a : Member) → StandsFor s call.to call.from c a
     → OfClass s call c a
 stands s call c (Variable v) h = ⊎_elim
     (λ p. (suc (suc p.0), p.1, ap (option_map Variable) p.2))
@@ -38,7 +38,7 @@ variable_back : (o : Option ℕ) (a : Member) → option_map Variable o ≡ Some
 variable_back None a e = absurd (none-some a e)
 variable_back (Some v) a e = (v, refl, sym (same_Some (Variable v) a e))
 
-pub stands_back : (s : Summary) (call : Called) (c : Class) (a : Member) (i : ℕ) → class_at s i ≡ Some c
+pub stands_back : (s : Summary) (call : CallParts) (c : Class) (a : Member) (i : ℕ) → class_at s i ≡ Some c
     → passed call i ≡ Some a
     → StandsFor s call.to call.from c a
 stands_back s call c a zero e p =
@@ -52,13 +52,13 @@ stands_back s call c a (suc (suc i)) e p =
 
 -- ---- what an instruction joins
 
-joins_of_call : (sums : List Summary) (op : Op) (call : Called) (a b : Member) → call_of op ≡ Some call
+joins_of_call : (sums : List Summary) (op : Op) (call : CallParts) (a b : Member) → call_of op ≡ Some call
     → CallJoins (slice_get sums call.function) call.to call.from a b → OpJoins sums op a b
 joins_of_call sums (Call to n from) call a b e h =
-    subst (λ (c : Called). CallJoins (slice_get sums c.function) c.to c.from a b)
+    subst (λ (c : CallParts). CallJoins (slice_get sums c.function) c.to c.from a b)
     (sym (same_Some (record { to = to; function = n; from = from }) call e)) h
 joins_of_call sums (Go n from) call a b e h =
-    subst (λ (c : Called). CallJoins (slice_get sums c.function) c.to c.from a b)
+    subst (λ (c : CallParts). CallJoins (slice_get sums c.function) c.to c.from a b)
     (sym (same_Some (record { to = None; function = n; from = from }) call e)) h
 joins_of_call sums (Do to action from) call a b e h = absurd (none-some call e)
 joins_of_call sums (Print pieces from) call a b e h = absurd (none-some call e)
@@ -77,7 +77,7 @@ joins_by_itself sums (Return value) a b e = e
 
 abbrev pub ByCall : List Summary → Op → Member → Member → Type 0
 ByCall sums op a b =
-    (call : Called) × (call_of op ≡ Some call) × CallJoins (slice_get sums call.function) call.to call.from a b
+    (call : CallParts) × (call_of op ≡ Some call) × CallJoins (slice_get sums call.function) call.to call.from a b
 
 pub either_joins : (sums : List Summary) (op : Op) (a b : Member) → OpJoins sums op a b → ByCall sums op a b
     ⊎ (op_joins op ≡ Some (a, b))
@@ -107,8 +107,8 @@ pointer_like_both : (f : TacFn) (o : Option Pair) (a b : Member) → if_pointer_
     → (o ≡ Some (a, b)) × IsPointerLike f a × IsPointerLike f b
 pointer_like_both f None a b e = absurd (none-some (a, b) e)
 pointer_like_both f (Some p) a b e =
-    let g = guarded (is_pointer_like_in f p.0 && is_pointer_like_in f p.1) p (a, b) e in
-    let both = and_both (is_pointer_like_in f p.0) (is_pointer_like_in f p.1) g.0 in (
+    let g = guarded (is_pointer_like_member f p.0 && is_pointer_like_member f p.1) p (a, b) e in
+    let both = and_both (is_pointer_like_member f p.0) (is_pointer_like_member f p.1) g.0 in (
       ap Some g.1,
       subst (λ (q : Pair). IsPointerLike f q.0) g.1 both.0,
       subst (λ (q : Pair). IsPointerLike f q.1) g.1 both.1,
@@ -124,40 +124,40 @@ guard_true x y p e g = ap (λ z. if z && y then Some p else None) e ∙ ap (λ z
 pub joined_pointer_like : (f : TacFn) (op : Op) (a b : Member) → op_joins op ≡ Some (a, b) → IsPointerLike f a
     → IsPointerLike f b → joins f op ≡ Some (a, b)
 joined_pointer_like f op a b e p q =
-    ap (if_pointer_like f) e ∙ guard_true (is_pointer_like_in f a) (is_pointer_like_in f b) (a, b) p q
+    ap (if_pointer_like f) e ∙ guard_true (is_pointer_like_member f a) (is_pointer_like_member f b) (a, b) p q
 
 -- ---- calls
 
 -- the parts of a call that is found
-pub record CallHere (code : Tac) (f : TacFn) (at : ℕ) (call : Called) (callee : TacFn) : Type 0 where
+pub record CallHere (code : Tac) (f : TacFn) (at : ℕ) (call : CallParts) (callee : TacFn) : Type 0 where
   pub instr : Instr
   pub here : slice_get f.body at ≡ Some instr
   pub calls : call_of instr.op ≡ Some call
   pub known : slice_get code.functions call.function ≡ Some callee
 
-abbrev pair_of : Called → TacFn → Called × TacFn
+abbrev pair_of : CallParts → TacFn → CallParts × TacFn
 pair_of c g = (c, g)
 
-with_function : (o : Option TacFn) (c call : Called) (callee : TacFn)
+with_function : (o : Option TacFn) (c call : CallParts) (callee : TacFn)
     → option_map (pair_of c) o ≡ Some (call, callee) → (c ≡ call) × (o ≡ Some callee)
 with_function None c call callee e = absurd (none-some (call, callee) e)
 with_function (Some g) c call callee e =
     let pair = same_Some (c, g) (call, callee) e in
-    (ap (λ (p : Called × TacFn). p.0) pair, ap (λ (p : Called × TacFn). Some p.1) pair)
+    (ap (λ (p : CallParts × TacFn). p.0) pair, ap (λ (p : CallParts × TacFn). Some p.1) pair)
 
-with_call : (code : Tac) (o : Option Called) (call : Called) (callee : TacFn) → callee_of code o ≡ Some (call, callee)
+with_call : (code : Tac) (o : Option CallParts) (call : CallParts) (callee : TacFn) → callee_of code o ≡ Some (call, callee)
     → (o ≡ Some call) × (slice_get code.functions call.function ≡ Some callee)
 with_call code None call callee e = absurd (none-some (call, callee) e)
 with_call code (Some c) call callee e =
     let w = with_function (slice_get code.functions c.function) c call callee e in
-    (ap Some w.0, ap (λ (k : Called). slice_get code.functions k.function) (sym w.0) ∙ w.1)
+    (ap Some w.0, ap (λ (k : CallParts). slice_get code.functions k.function) (sym w.0) ∙ w.1)
 
-with_instr : (o : Option Instr) (call : Called) → call_in o ≡ Some call
+with_instr : (o : Option Instr) (call : CallParts) → call_in o ≡ Some call
     → (instr : Instr) × (o ≡ Some instr) × (call_of instr.op ≡ Some call)
 with_instr None call e = absurd (none-some call e)
 with_instr (Some instr) call e = (instr, refl, e)
 
-pub call_here : (code : Tac) (f : TacFn) (at : ℕ) (call : Called) (callee : TacFn)
+pub call_here : (code : Tac) (f : TacFn) (at : ℕ) (call : CallParts) (callee : TacFn)
     → callee_at code f at ≡ Some (call, callee)
     → CallHere code f at call callee
 call_here code f at call callee e =
@@ -165,14 +165,14 @@ call_here code f at call callee e =
     let i = with_instr (slice_get f.body at) call w.0 in
     record { instr = i.0; here = i.1; calls = i.2; known = w.1 }
 
-pub call_found : (code : Tac) (f : TacFn) (at : ℕ) (call : Called) (callee : TacFn) → CallHere code f at call callee
+pub call_found : (code : Tac) (f : TacFn) (at : ℕ) (call : CallParts) (callee : TacFn) → CallHere code f at call callee
     → callee_at code f at ≡ Some (call, callee)
 call_found code f at call callee h =
     ap (λ o. callee_of code (call_in o)) h.here ∙ ap (callee_of code) h.calls
     ∙ ap (option_map (pair_of call)) h.known
 
 -- what a call joins by the classes of its callee
-pub joined_by_call : (code : Tac) (sums : List Summary) (f : TacFn) (at : ℕ) (call : Called) (callee : TacFn)
+pub joined_by_call : (code : Tac) (sums : List Summary) (f : TacFn) (at : ℕ) (call : CallParts) (callee : TacFn)
     (s : Summary)
     (i j : ℕ) (a b : Member) → callee_at code f at ≡ Some (call, callee) → slice_get sums call.function ≡ Some s
     → Together s i j → passed call i ≡ Some a → passed call j ≡ Some b → IsPointerLike f a → IsPointerLike f b

@@ -12,10 +12,10 @@ use Rattle.rgo_summaries.specs.declared.progress.Event.{Event}
 use Rattle.rgo_summaries.specs.declared.progress.Progress.{Progress}
 use Rattle.rgo_summaries.specs.declared.progress.Site.{Site}
 use Rattle.rgo_summaries.specs.Beginning.{AddsFn, AddsSites, AreBegun, BeginsAt, BeginsCall, BeginsFn, BeginsHere, HasBegun, IsSite, Of, OwnHere, PassedBelow, PassedFor, PassedHere, StepsIn, Unchanged, site}
-use Rattle.rgo_summaries.specs.Calls.{Called, callee_at}
+use Rattle.rgo_summaries.specs.Calls.{CallParts, callee_at}
 use Rattle.rgo_summaries.specs.Kinds.{call_kinds, kinds_of, kinds_to, width_of}
-use Rattle.rgo_summaries.specs.Nodes.{Begins, Node}
-use Rattle.rgo_summaries.specs.Progress.{Adds, Also, GrowsIn, IsProgress, SameIn, same_at, size_at, size_in, width_at, width_in}
+use Rattle.rgo_summaries.specs.Nodes.{JoinsAtFirst, Node}
+use Rattle.rgo_summaries.specs.Progress.{AddsJoins, Also, GrowsIn, IsProgress, SameIn, same_at, size_at, size_in, width_at, width_in}
 use Rattle.rgo_summaries.specs.Views.{sites_of}
 use Rattle.rgo_summaries.proofs.Adding.{OneIn, one_in}
 use Rattle.rgo_summaries.proofs.Chains.{least}
@@ -36,7 +36,7 @@ grows_none p n = record {
 }
 
 module _ (p q r : Progress) (n count : ℕ) (These : ℕ → ℕ → Type 0) (grows : GrowsIn p q n count)
-    (adds : Adds q r (Of n These)) where
+    (adds : AddsJoins q r (Of n These)) where
   other_only : (g : ℕ) → g ≢ n → (x y : ℕ) → SameIn r.nodes.items g x y → OneIn p.nodes.items g x y
   other_only g e x y s =
       least (Also q.nodes.items (Of n These) g) (OneIn p.nodes.items g) (one_in p.nodes.items g)
@@ -91,7 +91,7 @@ steps_as old new n k m These Those e to from s = record {
 module _ (code : Tac) (n : ℕ) (f : TacFn) (at : ℕ) (old new : List Nodes) (sites sites' : List (Vec Site Global))
     (known : slice_get code.functions n ≡ Some f) (size : size_in old n ≡ length (kinds_to code f at)) where
   -- a call
-  module _ (call : Called) (callee : TacFn) (here : callee_at code f at ≡ Some (call, callee))
+  module _ (call : CallParts) (callee : TacFn) (here : callee_at code f at ≡ Some (call, callee))
       (b : BeginsCall n f call callee old new sites sites') where
     abbrev Below : ℕ → ℕ → Type 0
     Below = PassedBelow f call callee (size_in old n) (width_of callee)
@@ -105,10 +105,10 @@ module _ (code : Tac) (n : ℕ) (f : TacFn) (at : ℕ) (old new : List Nodes) (s
       passes = subst (λ k. PassedFor f call callee k h.0 x y) size h.2;
     })
 
-    abbrev SameCall : Called → TacFn → Type 0
-    SameCall call' callee' = ◌≡◌ {A = Called × TacFn} (call', callee') (call, callee)
+    abbrev SameCall : CallParts → TacFn → Type 0
+    SameCall call' callee' = ◌≡◌ {A = CallParts × TacFn} (call', callee') (call, callee)
 
-    same_call : (call' : Called) (callee' : TacFn) → callee_at code f at ≡ Some (call', callee')
+    same_call : (call' : CallParts) (callee' : TacFn) → callee_at code f at ≡ Some (call', callee')
         → SameCall call' callee'
     same_call call' callee' e = same_Some (call', callee') (call, callee) (sym e ∙ here)
 
@@ -116,7 +116,7 @@ module _ (code : Tac) (n : ℕ) (f : TacFn) (at : ℕ) (old new : List Nodes) (s
     passed_below x y h =
         let same : SameCall h.call h.callee = same_call h.call h.callee h.here in
         let p : PassedFor f call callee (length (kinds_to code f at)) h.number x y =
-        subst (λ (c : Called × TacFn). PassedFor f c.0 c.1 (length (kinds_to code f at)) h.number x y) same h.passes
+        subst (λ (c : CallParts × TacFn). PassedFor f c.0 c.1 (length (kinds_to code f at)) h.number x y) same h.passes
         in (
           h.number,
           outer_width callee h.number p.outer,
@@ -148,10 +148,10 @@ module _ (code : Tac) (n : ℕ) (f : TacFn) (at : ℕ) (old new : List Nodes) (s
       only = λ g s c. ⊎_elim (λ d. inl d) (λ d. inr (is_site g s d.0 d.1)) (b.lists.only g s c);
     }
 
-    call_listed : (call' : Called) (callee' : TacFn) → callee_at code f at ≡ Some (call', callee')
+    call_listed : (call' : CallParts) (callee' : TacFn) → callee_at code f at ≡ Some (call', callee')
         → Contains (sites_of sites' call'.function) (site code f n at)
     call_listed call' callee' e =
-        let same = ap (λ (c : Called × TacFn). c.0.function) (same_call call' callee' e) in
+        let same = ap (λ (c : CallParts × TacFn). c.0.function) (same_call call' callee' e) in
         subst (λ g. Contains (sites_of sites' g) (site code f n at)) (sym same)
         (subst (λ k. Contains (sites_of sites' call.function) (record { caller = n; base = k })) size b.lists.here)
 
@@ -216,7 +216,7 @@ fn_begins code n f old new sites len a =
         size = ap size_at last ∙ a.are_own.size ∙ sym (kinds_first code f);
         width = ap width_at last ∙ a.are_own.width;
         sound = λ x y s.
-            chain.reflexive (Begins code f (slice_get (kinds_of code f))) x y
+            chain.reflexive (JoinsAtFirst code f (slice_get (kinds_of code f))) x y
             (a.are_own.alone x y (subst (λ k. same_at k x y) last s));
         met = λ at x y l h. absurd (omega (arith, l));
         called = λ at call callee l h. absurd (omega (arith, l));
@@ -227,10 +227,10 @@ module _ (code : Tac) (n : ℕ) (f : TacFn) (at : ℕ) (old mid new : List Nodes
     (sites sites1 sites2 : List (Vec Site Global))
     (b : BeginsFn code n f old mid sites sites1 at) (s : BeginsAt code n f at mid new sites1 sites2) where
   sound_here : (x y : ℕ) → Also mid (Of n (BeginsHere code f at)) n x y
-      → AreSame (Begins code f (slice_get (kinds_of code f))) x y
+      → AreSame (JoinsAtFirst code f (slice_get (kinds_of code f))) x y
   sound_here x y h = ⊎_elim
       (λ t. b.begun.sound x y t)
-      (λ (t : Of n (BeginsHere code f at) n x y). chain.contains (Begins code f (slice_get (kinds_of code f))) x y
+      (λ (t : Of n (BeginsHere code f at) n x y). chain.contains (JoinsAtFirst code f (slice_get (kinds_of code f))) x y
       (begins code f at x y t.1))
       h
 
@@ -251,7 +251,7 @@ module _ (code : Tac) (n : ℕ) (f : TacFn) (at : ℕ) (old mid new : List Nodes
       width = s.step.width ∙ b.begun.width;
       sound = λ x y h.
           chain.along (Also mid (Of n (BeginsHere code f at)) n)
-          (Begins code f (slice_get (kinds_of code f))) sound_here x y
+          (JoinsAtFirst code f (slice_get (kinds_of code f))) sound_here x y
           (s.step.only x y h);
       met = λ k x y l h. ⊎_elim
           (λ t. s.step.kept x y (b.begun.met k x y t h))
@@ -282,7 +282,7 @@ begun_kept code m f old new sites sites' to u a b = record {
   size = u.size ∙ b.size;
   width = u.width ∙ b.width;
   sound = λ x y s. ⊎_elim
-      (λ e. chain.reflexive (Begins code f (slice_get (kinds_of code f))) x y e)
+      (λ e. chain.reflexive (JoinsAtFirst code f (slice_get (kinds_of code f))) x y e)
       (λ t. b.sound x y t)
       (u.only x y s);
   met = λ at x y l h. u.kept x y (b.met at x y l h);

@@ -13,12 +13,12 @@ use Rattle.rgo_classes.specs.Same.{AreSame}
 use Rattle.rgo_summaries.specs.declared.nodes.Nodes.{Nodes}
 use Rattle.rgo_summaries.specs.declared.progress.Site.{Site}
 use Rattle.rgo_summaries.specs.Beginning.{AreBegun, HasBegun, IsSite, own_in}
-use Rattle.rgo_summaries.specs.Calls.{Called, callee_at, member}
+use Rattle.rgo_summaries.specs.Calls.{CallParts, callee_at, member}
 use Rattle.rgo_summaries.specs.Families.{IsLeastFamily, outer_classes}
 use Rattle.rgo_summaries.specs.Joining.{label_at, size_of}
 use Rattle.rgo_summaries.specs.Kinds.{kinds_of, kinds_to, width_of}
-use Rattle.rgo_summaries.specs.Names.{Names}
-use Rattle.rgo_summaries.specs.Nodes.{Begins, Callee, IsOuter, Node, Own}
+use Rattle.rgo_summaries.specs.Names.{SummaryNames}
+use Rattle.rgo_summaries.specs.Nodes.{JoinsAtFirst, Callee, IsOuter, Node, Own}
 use Rattle.rgo_summaries.specs.Progress.{Carries, HasRoom, Inside, IsSpread, SameIn, same_at, size_at, size_in, width_at, width_in}
 use Rattle.rgo_summaries.specs.Spreading.{Spreads, itself}
 use Rattle.rgo_summaries.specs.Views.{sites_of}
@@ -97,8 +97,8 @@ module _ (code : Tac) (begun : List Nodes) (sites : List (Vec Site Global)) (b :
     inside_own i l =
         kind_known n i f (Own (member i)) k (kinds_own code f (length f.body) i (omega (arith, l, has.width)))
 
-    begins : (x y : ℕ) → SameIn begun n x y → AreSame (Begins code f (kinds n)) x y
-    begins x y s = subst (λ o. AreSame (Begins code f (kind_at code o)) x y) (sym k) (has.sound x y s)
+    begins : (x y : ℕ) → SameIn begun n x y → AreSame (JoinsAtFirst code f (kinds n)) x y
+    begins x y s = subst (λ o. AreSame (JoinsAtFirst code f (kind_at code o)) x y) (sym k) (has.sound x y s)
 
     joined_own : (at : ℕ) (instr : Instr) (p q : Member) → slice_get f.body at ≡ Some instr
         → joins f instr.op ≡ Some (p, q)
@@ -107,7 +107,7 @@ module _ (code : Tac) (begun : List Nodes) (sites : List (Vec Site Global)) (b :
         has.met at (number_of p) (number_of q) (slice_get_within f.body at instr here)
         (inl (record { one = p; other = q; joined = ap (own_in f) here ∙ e; x_is = refl; y_is = refl }))
 
-    has_block : (at : ℕ) (callee : TacFn) (call : Called) → callee_at code f at ≡ Some (call, callee)
+    has_block : (at : ℕ) (callee : TacFn) (call : CallParts) → callee_at code f at ≡ Some (call, callee)
         → HasBlock (SameIn begun) (Carries sites) n f call callee
     has_block at callee call here = record {
       base = length (kinds_to code f at);
@@ -177,7 +177,7 @@ module _ (code : Tac) (begun : List Nodes) (sites : List (Vec Site Global)) (b :
       like_equal = record { reflexive = λ p. refl; symmetric = λ p q e. sym e; transitive = λ p q r e g. e ∙ g }
 
       names : (s : Summary) → AreNamed (AreLike m.labels.items) f (outer_members f) (outer_classes s)
-          → Names (OneIn final n) f s
+          → SummaryNames (OneIn final n) f s
       names s a =
           names_along Like (OneIn final n) f s like_now (numbers_named (AreLike m.labels.items) like_equal f s a)
 
@@ -186,7 +186,7 @@ module _ (code : Tac) (begun : List Nodes) (sites : List (Vec Site Global)) (b :
         → slice_get final n ≡ Some m
         → slice_get all n ≡ Some s → AreNamed (AreLike m.labels.items) f (outer_members f) (outer_classes s)) where
       named_now : (n : ℕ) (f : TacFn) (s : Summary) → slice_get code.functions n ≡ Some f → slice_get all n ≡ Some s
-          → Names (OneIn final n) f s
+          → SummaryNames (OneIn final n) f s
       named_now n f s k e =
           let m = some_get final n (omega (arith, slice_get_within code.functions n f k, final_len)) in
           names n f m.0 k m.1 s (named n f m.0 s k m.1 e)

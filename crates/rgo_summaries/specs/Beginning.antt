@@ -11,10 +11,10 @@ use Rattle.rgo_summaries.specs.declared.beginning.Calling.{Calling}
 use Rattle.rgo_summaries.specs.declared.nodes.Nodes.{Nodes}
 use Rattle.rgo_summaries.specs.declared.progress.Progress.{Progress}
 use Rattle.rgo_summaries.specs.declared.progress.Site.{Site}
-use Rattle.rgo_summaries.specs.Calls.{Called, callee_at, passed}
+use Rattle.rgo_summaries.specs.Calls.{CallParts, callee_at, passed}
 use Rattle.rgo_summaries.specs.Joining.{Same, size_of}
 use Rattle.rgo_summaries.specs.Kinds.{call_kinds, kinds_of, kinds_to, width_of}
-use Rattle.rgo_summaries.specs.Nodes.{Begins, IsOuter}
+use Rattle.rgo_summaries.specs.Nodes.{JoinsAtFirst, IsOuter}
 use Rattle.rgo_summaries.specs.Progress.{Also, SameIn, size_in, width_in}
 use Rattle.rgo_summaries.specs.Views.{called, sites_of}
 
@@ -40,7 +40,7 @@ pub record OwnHere (f : TacFn) (at x y : ℕ) : Type 0 where
   pub y_is : y ≡ number_of other
 
 -- a call with nodes from `base` on joins x, the node for the callee's member `number`, to y, what is passed for it
-pub record PassedFor (f : TacFn) (call : Called) (callee : TacFn) (base number x y : ℕ) : Type 0 where
+pub record PassedFor (f : TacFn) (call : CallParts) (callee : TacFn) (base number x y : ℕ) : Type 0 where
   pub actual : Member
   pub outer : IsOuter callee number
   pub passes : passed call number ≡ Some actual
@@ -49,12 +49,12 @@ pub record PassedFor (f : TacFn) (call : Called) (callee : TacFn) (base number x
   pub y_is : y ≡ number_of actual
 
 -- the same for some member of the callee below this number
-abbrev pub PassedBelow : TacFn → Called → TacFn → (base below x y : ℕ) → Type 0
+abbrev pub PassedBelow : TacFn → CallParts → TacFn → (base below x y : ℕ) → Type 0
 PassedBelow f call callee base below x y = (number : ℕ) × (number < below) × PassedFor f call callee base number x y
 
 -- the call at this place joins x, a node for a member of the callee, to y, what is passed for it
 pub record PassedHere (code : Tac) (f : TacFn) (at x y : ℕ) : Type 0 where
-  pub call : Called
+  pub call : CallParts
   pub callee : TacFn
   pub number : ℕ
   pub here : callee_at code f at ≡ Some (call, callee)
@@ -87,7 +87,7 @@ pub record IsSite (code : Tac) (g : ℕ) (s : Site) : Type 0 where
   pub f : TacFn
   pub caller : slice_get code.functions s.caller ≡ Some f
   pub at : ℕ
-  pub call : Called
+  pub call : CallParts
   pub callee : TacFn
   pub here : callee_at code f at ≡ Some (call, callee)
   pub calls : call.function ≡ g
@@ -106,9 +106,9 @@ pub record HasBegun (code : Tac) (n : ℕ) (f : TacFn) (nodes : List Nodes) (sit
     (to : ℕ) : Type 0 where
   pub size : size_in nodes n ≡ length (kinds_to code f to)
   pub width : width_in nodes n ≡ width_of f
-  pub sound : (x y : ℕ) → SameIn nodes n x y → AreSame (Begins code f (slice_get (kinds_of code f))) x y
+  pub sound : (x y : ℕ) → SameIn nodes n x y → AreSame (JoinsAtFirst code f (slice_get (kinds_of code f))) x y
   pub met : (at x y : ℕ) → at < to → BeginsHere code f at x y → SameIn nodes n x y
-  pub called : (at : ℕ) (call : Called) (callee : TacFn) → at < to → callee_at code f at ≡ Some (call, callee)
+  pub called : (at : ℕ) (call : CallParts) (callee : TacFn) → at < to → callee_at code f at ≡ Some (call, callee)
       → Contains (sites_of sites call.function) (site code f n at)
 
 -- a function has the same nodes, joined as they were
@@ -136,7 +136,7 @@ pub record Lists (old new : List (Vec Site Global)) (g : ℕ) (s : Site) : Type 
   pub only : (h : ℕ) (t : Site) → Contains (sites_of new h) t → Contains (sites_of old h) t ⊎ ((h ≡ g) × (t ≡ s))
 
 -- the call has its nodes, after those that the function had, its joins, and is listed
-pub record BeginsCall (n : ℕ) (f : TacFn) (call : Called) (callee : TacFn) (old new : List Nodes)
+pub record BeginsCall (n : ℕ) (f : TacFn) (call : CallParts) (callee : TacFn) (old new : List Nodes)
     (sites sites' : List (Vec Site Global)) : Type 0 where
   pub step : StepsIn old new n (width_of callee) (PassedBelow f call callee (size_in old n) (width_of callee))
   pub lists : Lists sites sites' call.function (record { caller = n; base = size_in old n })
@@ -146,7 +146,7 @@ pub record BeginsAt (code : Tac) (n : ℕ) (f : TacFn) (at : ℕ) (old new : Lis
     (sites sites' : List (Vec Site Global)) : Type 0 where
   pub step : StepsIn old new n (length (call_kinds at (callee_at code f at))) (BeginsHere code f at)
   pub sites_added : AddsSites code sites sites'
-  pub called : (call : Called) (callee : TacFn) → callee_at code f at ≡ Some (call, callee)
+  pub called : (call : CallParts) (callee : TacFn) → callee_at code f at ≡ Some (call, callee)
       → Contains (sites_of sites' call.function) (site code f n at)
 
 -- one function more, with nodes for its members

@@ -12,13 +12,13 @@ member (suc zero) = Result
 member (suc (suc v)) = Variable v
 
 -- a call: the variable for the result, the function and the arguments; the start of a goroutine has no result
-pub record Called : Type 0 where
+pub record CallParts : Type 0 where
   pub to : Option ℕ
   pub function : ℕ
   pub from : List ℕ
 
 -- the call that an instruction makes, or the goroutine that it starts
-abbrev pub call_of : Op → Option Called
+abbrev pub call_of : Op → Option CallParts
 call_of (Call to n from) = Some (record { to = to; function = n; from = from })
 call_of (Go n from) = Some (record { to = None; function = n; from = from })
 call_of (Do to action from) = None
@@ -28,21 +28,21 @@ call_of (Branch test target other) = None
 call_of (Return value) = None
 
 -- the same for an instruction, if it exists
-abbrev pub call_in : Option Instr → Option Called
+abbrev pub call_in : Option Instr → Option CallParts
 call_in None = None
 call_in (Some instr) = call_of instr.op
 
 -- a call with the function that it calls
-abbrev pub callee_of : Tac → Option Called → Option (Called × TacFn)
+abbrev pub callee_of : Tac → Option CallParts → Option (CallParts × TacFn)
 callee_of code None = None
 callee_of code (Some call) = option_map (λ callee. (call, callee)) (slice_get code.functions call.function)
 
 -- the call of this instruction, and the function that is called
-abbrev pub callee_at : Tac → TacFn → (at : ℕ) → Option (Called × TacFn)
+abbrev pub callee_at : Tac → TacFn → (at : ℕ) → Option (CallParts × TacFn)
 callee_at code f at = callee_of code (call_in (slice_get f.body at))
 
 -- the member of the caller that is passed for this member of the callee, or takes what it holds
-abbrev pub passed : Called → ℕ → Option Member
+abbrev pub passed : CallParts → ℕ → Option Member
 passed call zero = Some Global
 passed call (suc zero) = option_map Variable call.to
 passed call (suc (suc i)) = option_map Variable (slice_get call.from i)

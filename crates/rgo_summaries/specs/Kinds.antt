@@ -1,7 +1,7 @@
 -- The nodes of a function in order: its members, then those of its calls.
 use Rattle.std.specs.Prelude.{ℕ, zero, suc, ◌+◌, min, List, [], ◌∷◌, ◌++◌, Option, Some, None, length}
 use Rattle.rgo_tac.specs.Code.{TacFn, Tac}
-use Rattle.rgo_summaries.specs.Calls.{Called, callee_at, member}
+use Rattle.rgo_summaries.specs.Calls.{CallParts, callee_at, member}
 use Rattle.rgo_summaries.specs.Nodes.{Node, Own, Callee}
 
 -- callers see the members below it
@@ -18,7 +18,7 @@ abbrev pub own : ℕ → Node
 own number = Own (member number)
 
 -- the nodes of a call, one for each member of the callee that callers see
-abbrev pub call_kinds : (at : ℕ) → Option (Called × TacFn) → List Node
+abbrev pub call_kinds : (at : ℕ) → Option (CallParts × TacFn) → List Node
 call_kinds at None = []
 call_kinds at (Some c) = numbered (Callee at) (width_of c.1)
 

@@ -17,7 +17,7 @@ class_at s (suc zero) = Some s.result
 class_at s (suc (suc i)) = slice_get s.params i
 
 -- Members that callers see have one class exactly where they are related.
-pub record Names (Related : ℕ → ℕ → Type 0) (f : TacFn) (s : Summary) : Type 0 where
+pub record SummaryNames (Related : ℕ → ℕ → Type 0) (f : TacFn) (s : Summary) : Type 0 where
   pub len : length s.params ≡ f.params
   -- a member without a class is not pointer-like
   pub none : (i : ℕ) → i < f.params + 2 → (class_at s i ≡ Some class.NoClass) ↔ (IsPointerLike f (member i) → ⊥)

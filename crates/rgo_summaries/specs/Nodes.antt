@@ -4,9 +4,9 @@ use Rattle.rgo_tac.specs.declared.regions.Member.{Member}
 use Rattle.rgo_tac.specs.Code.{Instr, TacFn, Tac}
 use Rattle.rgo_tac.specs.Joins.{joins}
 use Rattle.rgo_classes.specs.Joins.{IsPointerLike}
-use Rattle.rgo_summaries.specs.Calls.{Called, callee_at, member, passed}
+use Rattle.rgo_summaries.specs.Calls.{CallParts, callee_at, member, passed}
 
--- what a node stands for; `at` is the number of the instruction that calls, `number` that of the callee's member
+-- what a node represents; `at` is the number of the instruction that calls, `number` that of the callee's member
 pub data Node : Type 0 where
   Own : Member → Node
   Callee : (at number : ℕ) → Node
@@ -29,7 +29,7 @@ pub record JoinsOwn (f : TacFn) (kinds : ℕ → Option Node) (x y : ℕ) : Type
 -- a call joins a member of the callee to the one that is passed for it
 pub record JoinsPassed (code : Tac) (f : TacFn) (kinds : ℕ → Option Node) (x y : ℕ) : Type 0 where
   pub at : ℕ
-  pub call : Called
+  pub call : CallParts
   pub callee : TacFn
   pub number : ℕ
   pub actual : Member
@@ -41,5 +41,5 @@ pub record JoinsPassed (code : Tac) (f : TacFn) (kinds : ℕ → Option Node) (x
   pub y_is : kinds y ≡ Some (Own actual)
 
 -- what is joined before anything is known of the callees
-abbrev pub Begins : Tac → TacFn → (ℕ → Option Node) → ℕ → ℕ → Type 0
-Begins code f kinds x y = JoinsOwn f kinds x y ⊎ JoinsPassed code f kinds x y
+abbrev pub JoinsAtFirst : Tac → TacFn → (ℕ → Option Node) → ℕ → ℕ → Type 0
+JoinsAtFirst code f kinds x y = JoinsOwn f kinds x y ⊎ JoinsPassed code f kinds x y

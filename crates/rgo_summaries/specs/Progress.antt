@@ -1,4 +1,4 @@
--- How far joins have come in all functions.
+-- What is joined so far in all functions, and what is still to be carried to callers.
 use Rattle.std.specs.Prelude.{◌≡◌, ◌≢◌, ◌⊎◌, ◌<◌, ◌≤◌, ◌+◌, ℕ, List, [], ◌∷◌, ◌++◌, Vec, Option, Some, None, length, slice_get, sum_by, Contains}
 use Rattle.std.specs.Global.{Global}
 use Rattle.rgo_classes.specs.Same.{AreSame}
@@ -68,7 +68,7 @@ abbrev pub seen_all : List Nodes → ℕ
 seen_all nodes = sum_by seen_count nodes
 
 -- these nodes are joined, no more than follows is joined, and the log grows
-pub record Adds (old new : Progress) (These : ℕ → ℕ → ℕ → Type 0) : Type 0 where
+pub record AddsJoins (old new : Progress) (These : ℕ → ℕ → ℕ → Type 0) : Type 0 where
   pub len : length new.nodes.items ≡ length old.nodes.items
   pub sizes : (f : ℕ) → size_in new.nodes.items f ≡ size_in old.nodes.items f
   pub widths : (f : ℕ) → width_in new.nodes.items f ≡ width_in old.nodes.items f

@@ -5,14 +5,14 @@ use Rattle.std.specs.Global.{Global}
 use Rattle.rgo_tac.specs.Code.{TacFn}
 use Rattle.rgo_summaries.specs.declared.calls.Call.{Call}
 use Rattle.rgo_summaries.specs.declared.progress.Site.{Site}
-use Rattle.rgo_summaries.specs.Calls.{Called}
+use Rattle.rgo_summaries.specs.Calls.{CallParts}
 
 -- a call, as the definitions see it
-abbrev pub called : Call → Called
+abbrev pub called : Call → CallParts
 called c = record { to = c.to; function = c.function; from = c.from.now }
 
 -- the same with the function that is called
-abbrev pub called_with : (Call × Bor TacFn) → Called × TacFn
+abbrev pub called_with : (Call × Bor TacFn) → CallParts × TacFn
 called_with c = (called c.0, c.1.now)
 
 -- the calls of this function

@@ -1,4 +1,5 @@
-//! The nodes of all functions, with the joins of each function's own instructions.
+//! The nodes of all functions, with the joins of each function's own instructions. Of its callees nothing is known yet; a call
+//! has nodes for them, which later joins reach by the list of calls.
 
 ghost use Rattle.std.specs.Prelude.{◌≡◌, ◌<◌, ◌≤◌, ◌+◌, ℕ, [], Some, length, slice_get, vec_len, Contains, IfOk, OnOk};
 ghost use Rattle.rgo_summaries.specs.declared.progress.Site.{Site as AnySite};
@@ -6,7 +7,7 @@ ghost use Rattle.rgo_summaries.specs.Beginning.{AddsFn, AreBegun, AreOwn, Begins
 ghost use Rattle.rgo_summaries.specs.Joining.{GrowsBy, IsNodes};
 ghost use Rattle.rgo_summaries.specs.Kinds as kinds;
 ghost use Rattle.rgo_summaries.specs.Kinds.{kinds_to};
-ghost use Rattle.rgo_summaries.specs.Progress.{Adds, GrowsIn, IsProgress, size_in};
+ghost use Rattle.rgo_summaries.specs.Progress.{AddsJoins, GrowsIn, IsProgress, size_in};
 ghost use Rattle.rgo_summaries.specs.Views.{called, sites_of};
 
 use crate::calls::{Call, callee_at, is_pointer_like, number_of, passed, width_of};
@@ -80,7 +81,7 @@ fn pass(
     requires inside { calling.base + number < size_in progress.old.nodes.items calling.caller }
     requires outer { number < kinds.width_of calling.callee.now }
     ensures is { OnOk result (IsProgress progress.new) }
-    ensures adds { OnOk result (Adds progress.old progress.new (Passing calling.entry number)) }
+    ensures adds { OnOk result (AddsJoins progress.old progress.new (Passing calling.entry number)) }
 {
     match passed(calling.call, number) {
         Some(actual) => {
@@ -96,13 +97,14 @@ fn pass(
     }
 }
 
+/// Joins the nodes of a call to what is passed for them.
 fn pass_all(alloc: Global, progress: &mut Progress, calling: Calling<'_>) -> Result<(), AllocError>
     requires is { IsProgress progress.old }
     requires own { length calling.function.now.variables + 2 ≤ size_in progress.old.nodes.items calling.caller }
     requires inside { calling.base + kinds.width_of calling.callee.now
         ≤ size_in progress.old.nodes.items calling.caller }
     ensures is { OnOk result (IsProgress progress.new) }
-    ensures adds { OnOk result (Adds progress.old progress.new
+    ensures adds { OnOk result (AddsJoins progress.old progress.new
         (PassingBelow calling.entry (kinds.width_of calling.entry.callee.now))) }
 {
     for number in 0..width_of(calling.callee) {
@@ -111,6 +113,7 @@ fn pass_all(alloc: Global, progress: &mut Progress, calling: Calling<'_>) -> Res
     Ok(())
 }
 
+/// The members that an instruction joins by itself.
 fn own_joins(function: &TacFn, at: usize) -> Option<(Member, Member)>
     ensures { result ≡ own_in function.now (slice_get function.now.body at) }
 {
@@ -120,6 +123,7 @@ fn own_joins(function: &TacFn, at: usize) -> Option<(Member, Member)>
     }
 }
 
+/// Joins what an instruction other than a call joins.
 fn begin_own(
     alloc: Global,
     progress: &mut Progress,
@@ -130,7 +134,7 @@ fn begin_own(
     requires is { IsProgress progress.old }
     requires own { length function.now.variables + 2 ≤ size_in progress.old.nodes.items n }
     ensures is { OnOk result (IsProgress progress.new) }
-    ensures adds { OnOk result (Adds progress.old progress.new (Of n (OwnHere function.now at))) }
+    ensures adds { OnOk result (AddsJoins progress.old progress.new (Of n (OwnHere function.now at))) }
 {
     match own_joins(function, at) {
         Some((one, other)) => join_in(alloc, progress, n, number_of(one), number_of(other)),
@@ -147,7 +151,7 @@ fn list(sites: &mut Vec<Vec<Site>>, function: usize, site: Site) -> Result<(), A
     Ok(())
 }
 
-/// Adds the nodes of a call.
+/// Adds the nodes of a call: one for each member of the callee that callers see, joined to what is passed for it.
 fn begin_call(
     alloc: Global,
     progress: &mut Progress,

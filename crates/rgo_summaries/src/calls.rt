@@ -4,7 +4,7 @@
 ghost use Rattle.std.specs.Prelude.{◌≡◌, slice_get};
 ghost use Rattle.std.specs.Option.{option_map};
 ghost use Rattle.rgo_tac.specs.Ops.{operation_of};
-ghost use Rattle.rgo_tac.specs.Joins.{is_pointer_like_in};
+ghost use Rattle.rgo_tac.specs.Joins.{is_pointer_like_member};
 ghost use Rattle.rgo_classes.specs.Labels as labels;
 ghost use Rattle.rgo_summaries.specs.Calls as spec;
 ghost use Rattle.rgo_summaries.specs.Calls.{call_in, member};
@@ -44,7 +44,7 @@ fn call_at(function: &TacFn, at: usize) -> Option<Call<'_>>
     }
 }
 
-/// The call of this instruction, and the function that is called.
+/// The call of this instruction, and the function that is called. A call of a function that does not exist joins nothing.
 pub(crate) fn callee_at<'a>(
     code: &'a Tac,
     function: &'a TacFn,
@@ -94,7 +94,7 @@ pub(crate) fn passed(call: Call<'_>, number: usize) -> Option<usize>
 
 /// Whether the member of this number is a pointer, a slice or a channel.
 pub(crate) fn is_pointer_like(function: &TacFn, number: usize) -> bool
-    ensures { result ≡ is_pointer_like_in function.now (member number) }
+    ensures { result ≡ is_pointer_like_member function.now (member number) }
 {
     match number {
         0 => true,

@@ -1,7 +1,7 @@
 //! The state of the analysis: the nodes of all functions, and a log of the joins that must be carried to callers.
 
 ghost use Rattle.std.specs.Prelude.{◌<◌, OnOk};
-ghost use Rattle.rgo_summaries.specs.Progress.{Adds, IsProgress, Two, size_in};
+ghost use Rattle.rgo_summaries.specs.Progress.{AddsJoins, IsProgress, Two, size_in};
 
 use crate::nodes::{Nodes, join};
 use std::alloc::{AllocError, Global};
@@ -22,6 +22,7 @@ pub(crate) struct Site {
     pub base: usize,
 }
 
+/// What is joined so far. The log only grows.
 #[derive(Drop)]
 pub(crate) struct Progress {
     pub nodes: Vec<Nodes>,
@@ -40,7 +41,7 @@ pub(crate) fn join_in(
     requires one { one < size_in progress.old.nodes.items function }
     requires other { other < size_in progress.old.nodes.items function }
     ensures is { OnOk result (IsProgress progress.new) }
-    ensures adds { OnOk result (Adds progress.old progress.new (Two function one other)) }
+    ensures adds { OnOk result (AddsJoins progress.old progress.new (Two function one other)) }
 {
     match join(alloc, &mut progress.nodes[function], one, other)? {
         Some((one, other)) => {

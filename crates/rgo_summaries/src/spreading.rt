@@ -2,7 +2,7 @@
 
 ghost use Rattle.std.specs.Prelude.{◌≡◌, ◌<◌, ◌+◌, ℕ, length, Contains, OnOk};
 ghost use Rattle.rgo_summaries.specs.declared.progress.Site.{Site};
-ghost use Rattle.rgo_summaries.specs.Progress.{Adds, HasRoom, Hears, IsProgress, IsSpread, size_in, width_in};
+ghost use Rattle.rgo_summaries.specs.Progress.{AddsJoins, HasRoom, Hears, IsProgress, IsSpread, size_in, width_in};
 ghost use Rattle.rgo_summaries.specs.Views.{sites_of};
 
 use crate::progress::{Event, Progress, Site, join_in};
@@ -19,7 +19,7 @@ fn carry(
     requires room { (s : Site) → Contains sites.now s → (s.base + event.one < size_in progress.old.nodes.items s.caller)
         × (s.base + event.other < size_in progress.old.nodes.items s.caller) }
     ensures is { OnOk result (IsProgress progress.new) }
-    ensures adds { OnOk result (Adds progress.old progress.new (Hears sites.now event)) }
+    ensures adds { OnOk result (AddsJoins progress.old progress.new (Hears sites.now event)) }
 {
     for site in sites {
         join_in(
@@ -33,7 +33,8 @@ fn carry(
     Ok(())
 }
 
-/// Carries every logged join to all callers. Joins in callers extend the log, so the loop also reaches their callers.
+/// Carries every logged join to all callers. Joins in callers extend the log, so the loop also reaches their callers. It ends,
+/// since each join that is logged leaves one class fewer of those that callers see.
 pub(crate) fn spread(
     alloc: Global,
     progress: &mut Progress,

@@ -20,17 +20,16 @@ use Rattle.rgo_memory.specs.Memory.{Memory}
 use Rattle.rgo_memory.specs.Perform.{perform}
 use Rattle.rgo_memory.specs.Values.{zero_in, zero_of}
 use Rattle.rgo_machine.specs.Actions.{no_type, effected, at_channel}
-use Rattle.rgo_machine.specs.Lines.{line_of}
+use Rattle.rgo_machine.specs.Lines.{printed_line}
 use Rattle.rgo_machine.specs.Machines.{Moves, Elsewhere}
 use Rattle.rgo_tac.specs.Code.{Do, Print}
 use Rattle.rgo_tac.specs.Frames as tac
-use Rattle.rgo_tac.specs.Frames.{values_of}
-use Rattle.rgo_tac.specs.Steps.{type_of}
+use Rattle.rgo_tac.specs.Steps.{destination_type}
 use Rattle.rgo_meaning.specs.Frames as source
 use Rattle.rgo_meaning.specs.Frames.{Todo, Perform, Affect, Settle, Create, Fill, Repeat, Give, Forget, Clear}
-use Rattle.rgo_meaning.specs.Frames.{Write, last_values, value_below, with_local}
+use Rattle.rgo_meaning.specs.Frames.{Write, last_values, value_below, with_local_value}
 use Rattle.rgo_meaning.specs.Steps.{giving, leaving}
-use Rattle.rgo_lower.specs.Lowered.{Point, after, pointer_to, zero_action_in, zero_action, Scope}
+use Rattle.rgo_lower.specs.Lowered.{Point, next_point, pointer_type, zero_action_in, zero_action, LoweringScope}
 use Rattle.rgo_lower.proofs.follows.Lists.{below_drop, below_take, below_append, below_le, get_map}
 use Rattle.rgo_lower.proofs.follows.Places.{Place, Loop, Begins}
 use Rattle.rgo_lower.proofs.follows.Grows.{same_inside, fits_grow}
@@ -55,7 +54,7 @@ zero_stands [] base.Bool blank place next = refl
 zero_stands [] (base.Pointer n) blank place next = refl
 zero_stands (layer ∷ layers) b blank place next = refl
 
-module _ (c : Setting) (loops : List Loop) (scope : Scope) (p : Point) (locals : List Value) where
+module _ (c : Setting) (loops : List Loop) (scope : LoweringScope) (p : Point) (locals : List Value) where
   abbrev Now : List ℕ → List Todo → Type 0
   Now held todo = Here c loops scope p held locals todo
 
@@ -76,7 +75,7 @@ module _ (c : Setting) (loops : List Loop) (scope : Scope) (p : Point) (locals :
       let rest = leads c todo loops i.1 h.todo.2 in
       let vs = last_values count (map (g c) held) in
       let next = λ (v : Value). giving frame count todo v in
-      let fit : (v : Value) → Fit c (next v) (tac.going c.frame (Some p.variable) v) =
+      let fit : (v : Value) → Fit c (next v) (tac.frame_after_instr c.frame (Some p.variable) v) =
       λ v. gives c h count v todo known rest in
       together c frame op place (instr_is c op place p h.function h.next i.0.instr)
       (stands_alike c action ty vs next (Some p.variable) from place kind (values_same c count held) fit)
@@ -92,7 +91,7 @@ module _ (c : Setting) (loops : List Loop) (scope : Scope) (p : Point) (locals :
       let rest = leads c todo loops i.1 h.todo.2 in
       let vs = last_values count (map (g c) held) in
       let next = λ (v : Value). leaving frame count todo v in
-      let fit : (v : Value) → Fit c (next v) (tac.going c.frame None v) =
+      let fit : (v : Value) → Fit c (next v) (tac.frame_after_instr c.frame None v) =
       λ v. passes c h count todo rest in
       together c frame op place (instr_is c op place p h.function h.next i.0)
       (stands_alike c action no_type vs next None from place refl (values_same c count held) fit)
@@ -120,7 +119,7 @@ module _ (c : Setting) (loops : List Loop) (scope : Scope) (p : Point) (locals :
   -- ---- objects
 
   -- making an object never traps, so the places need not be the same
-  made_alike : (next : Value → source.Frame) (next2 : Value → tac.Frame) (place : ℕ) (m : Memory)
+  made_alike : (next : Value → source.SourceFrame) (next2 : Value → tac.TacFrame) (place : ℕ) (m : Memory)
       → ((v : Value) → Fit c (next v) (next2 v)) → (s : Option Struct)
       → ActsAlike c (effected next 0 (made_struct s m)) (effected next2 place (made_struct s m))
   made_alike next next2 place m fit None = (refl, (c.f, fit _, c.below))
@@ -132,10 +131,10 @@ module _ (c : Setting) (loops : List Loop) (scope : Scope) (p : Point) (locals :
       let i = h.todo.1 in
       let frame = frame_of c locals held (Create struct ∷ todo) in
       let op = Do (Some p.variable) (New struct) [] in
-      let known = slice_get_within c.f.variables p.variable (pointer_to struct) i.1.variable in
+      let known = slice_get_within c.f.variables p.variable (pointer_type struct) i.1.variable in
       let rest = leads c todo loops i.2 h.todo.2 in
       let next = λ (v : Value). giving frame 0 todo v in
-      let next2 = λ (v : Value). tac.going c.frame (Some p.variable) v in
+      let next2 = λ (v : Value). tac.frame_after_instr c.frame (Some p.variable) v in
       let fit : (v : Value) → Fit c (next v) (next2 v) = λ v. gives c h 0 v todo known rest in
       let made = λ (m : Memory) (ss : List Struct). made_struct (slice_get ss struct) m in
       together c frame op i.0 (instr_is c op i.0 p h.function h.next i.1.instr) tt (λ e m.
@@ -173,8 +172,8 @@ module _ (c : Setting) (loops : List Loop) (scope : Scope) (p : Point) (locals :
       let op = Do None (Store k) from in
       let stored = value_below frame.values (length (k ∷ fields)) in
       let same : g c d ≡ stored = sym (get_map (g c) below (length fields) d Nil i.1.1) in
-      let fit : (v : Value) → Fit c (next v) (tac.going c.frame None v) =
-      λ v. jumps c h (c.frame.next + 1) loops scope (after p) held (map (g c) held) todo2 (ap (λ j. j + 1) h.next)
+      let fit : (v : Value) → Fit c (next v) (tac.frame_after_instr c.frame None v) =
+      λ v. jumps c h (c.frame.next + 1) loops scope (next_point p) held (map (g c) held) todo2 (ap (λ j. j + 1) h.next)
       (same_inside scope) h.fits h.loop h.below refl (h.todo.0, (i.0, i.1.3, i.2, i.3), h.todo.2) in
       together c frame op place (instr_is c op place p h.function h.next i.1.2) tt
       (λ e m. acts_alike c (Store k) no_type (g c object ∷ stored ∷ []) next None from place refl
@@ -207,8 +206,8 @@ module _ (c : Setting) (loops : List Loop) (scope : Scope) (p : Point) (locals :
 
   begun : (held : List ℕ) (n : ℕ) (v : Value) (before todo : List Todo) (b : Place) → Now held before
       → Begins c.program.functions c.f n scope p b → At c todo loops b.scope b.point b.held
-      → Fit c (record { locals = with_local locals n v; values = []; todo = todo })
-      (tac.going c.frame (Some p.variable) v)
+      → Fit c (record { locals = with_local_value locals n v; values = []; todo = todo })
+      (tac.frame_after_instr c.frame (Some p.variable) v)
   begun held n v before todo b h begin rest =
       begins c h n v todo begin.known
       begin.fresh
@@ -220,10 +219,10 @@ module _ (c : Setting) (loops : List Loop) (scope : Scope) (p : Point) (locals :
       let x = i.0 in
       let frame = frame_of c locals (d ∷ []) (Give n ∷ todo) in
       let op = Do (Some x) Copy (d ∷ []) in
-      let next : source.Frame = record { locals = with_local locals n (g c d); values = []; todo = todo } in
-      let fit : Fit c next (tac.going c.frame (Some x) (g c d)) =
+      let next : source.SourceFrame = record { locals = with_local_value locals n (g c d); values = []; todo = todo } in
+      let fit : Fit c next (tac.frame_after_instr c.frame (Some x) (g c d)) =
       ⊎_elim
-      (λ new. subst (λ z. Fit c next (tac.going c.frame (Some z) (g c d))) (sym new.0)
+      (λ new. subst (λ z. Fit c next (tac.frame_after_instr c.frame (Some z) (g c d))) (sym new.0)
       (begun (d ∷ []) n (g c d) (Give n ∷ todo) todo h.todo.0 h new.1 h.todo.2))
       (λ old. changes c h n x (g c d) todo old.known
       (leads c todo loops old.is h.todo.2)) i.3 in
@@ -235,9 +234,9 @@ module _ (c : Setting) (loops : List Loop) (scope : Scope) (p : Point) (locals :
       let i = h.todo.1 in
       let frame = frame_of c locals [] (Clear n ty ∷ todo) in
       let op = Do (Some p.variable) (zero_action ty) [] in
-      let kind = type_of c.code c.frame (Some p.variable) in
-      let next : source.Frame = record { locals = with_local locals n (zero_of ty); values = []; todo = todo } in
-      let going = λ (v : Value). tac.going c.frame (Some p.variable) v in
+      let kind = destination_type c.code c.frame (Some p.variable) in
+      let next : source.SourceFrame = record { locals = with_local_value locals n (zero_of ty); values = []; todo = todo } in
+      let going = λ (v : Value). tac.frame_after_instr c.frame (Some p.variable) v in
       together c frame op i.0 (instr_is c op i.0 p h.function h.next i.1.instr)
       (subst (λ s. StandsAlike c Elsewhere s) (sym (zero_stands ty.layers ty.base (zero_of kind) i.0 going)) tt)
       (λ e m. subst (λ effect. ActsAlike c (Moves m next) (effected going i.0 effect))
@@ -254,7 +253,7 @@ module _ (c : Setting) (loops : List Loop) (scope : Scope) (p : Point) (locals :
       let op = Print pieces (reverse (take count held)) in
       let rest = leads c todo loops i.2 h.todo.2 in
       together c frame op i.0 (instr_is c op i.0 p h.function h.next i.1) tt (λ e m. (
-        ap (line_of pieces) (values_same c count held),
+        ap (printed_line pieces) (values_same c count held),
         (
           c.f,
           passes c h count todo rest,

@@ -11,7 +11,7 @@ use Rattle.rgo_meaning.specs.Frames.{Todo, Evaluate, Execute, Sequence, When, Ch
 use Rattle.rgo_meaning.specs.Frames.{Again}
 use Rattle.rgo_meaning.specs.Steps.{when, chosen, tested}
 use Rattle.rgo_meaning.specs.Todos.{after_break, after_continue}
-use Rattle.rgo_lower.specs.Lowered.{Point, after, Scope}
+use Rattle.rgo_lower.specs.Lowered.{Point, next_point, LoweringScope}
 use Rattle.rgo_lower.proofs.follows.Places.{place_of, BodyAt, Loop, targets_of, loop_to}
 use Rattle.rgo_lower.proofs.follows.Grows.{same_inside, fits_grow, fits_inside, term_grows, stmts_grow, stmts_scopes}
 use Rattle.rgo_lower.proofs.follows.Grows.{variable_le}
@@ -20,7 +20,7 @@ use Rattle.rgo_lower.proofs.follows.Changes.{stays, jumped}
 use Rattle.rgo_lower.proofs.follows.Chains.{leads, breaks, continues}
 use Rattle.rgo_lower.proofs.follows.Steps.{Goal, stutter, instr_is, together}
 
-module _ (c : Setting) (loops : List Loop) (scope : Scope) (p : Point) (locals : List Value) where
+module _ (c : Setting) (loops : List Loop) (scope : LoweringScope) (p : Point) (locals : List Value) where
   abbrev Now : List ℕ → List Todo → Type 0
   Now held todo = Here c loops scope p held locals todo
 
@@ -45,14 +45,14 @@ module _ (c : Setting) (loops : List Loop) (scope : Scope) (p : Point) (locals :
           let i = h.todo.1 in
           let q = i.2 in
           let rest = leads c todo loops i.5 h.todo.2 in
-          let inside = stmts_scopes c.program.functions c.f body (targets_of loops) scope (after p) i.1 q i.4 in
-          jumped c h (p.instr + 1) loops scope (after p) (Sequence body ∷ Close ∷ todo) refl (same_inside scope) h.fits
+          let inside = stmts_scopes c.program.functions c.f body (targets_of loops) scope (next_point p) i.1 q i.4 in
+          jumped c h (p.instr + 1) loops scope (next_point p) (Sequence body ∷ Close ∷ todo) refl (same_inside scope) h.fits
           h.loop (place_of i.1 q [], (i.1, q, i.4, refl), (place_of scope q [], (scope, inside, h.loop, refl), rest))
       next false =
           let i = h.todo.1 in
           let q = i.2 in
           let rest = leads c todo loops i.5 h.todo.2 in
-          let grows = stmts_grow c.program.functions c.f body (targets_of loops) scope (after p) i.1 q i.4 in
+          let grows = stmts_grow c.program.functions c.f body (targets_of loops) scope (next_point p) i.1 q i.4 in
           jumped c h q.instr loops scope q todo refl (same_inside scope)
           (fits_grow c.f scope p.variable q.variable grows h.fits) h.loop rest
 
@@ -69,11 +69,11 @@ module _ (c : Setting) (loops : List Loop) (scope : Scope) (p : Point) (locals :
           let last = i.3 in
           let q = i.4 in
           let rest = leads c todo loops i.9 h.todo.2 in
-          let grows = stmts_grow c.program.functions c.f body (targets_of loops) scope (after p) i.1 last i.6 in
-          let grows2 = stmts_grow c.program.functions c.f other (targets_of loops) scope (after last) i.2 q i.8 in
-          let inside = stmts_scopes c.program.functions c.f body (targets_of loops) scope (after p) i.1 last i.6 in
+          let grows = stmts_grow c.program.functions c.f body (targets_of loops) scope (next_point p) i.1 last i.6 in
+          let grows2 = stmts_grow c.program.functions c.f other (targets_of loops) scope (next_point last) i.2 q i.8 in
+          let inside = stmts_scopes c.program.functions c.f body (targets_of loops) scope (next_point p) i.1 last i.6 in
           let fits = fits_grow c.f scope p.variable q.variable (omega (arith, grows, grows2)) h.fits in
-          jumped c h (p.instr + 1) loops scope (after p) (Sequence body ∷ Onward ∷ todo) refl (same_inside scope) h.fits
+          jumped c h (p.instr + 1) loops scope (next_point p) (Sequence body ∷ Onward ∷ todo) refl (same_inside scope) h.fits
           h.loop (
             place_of i.1 last [],
             (i.1, last, i.6, refl),
@@ -84,9 +84,9 @@ module _ (c : Setting) (loops : List Loop) (scope : Scope) (p : Point) (locals :
           let last = i.3 in
           let q = i.4 in
           let rest = leads c todo loops i.9 h.todo.2 in
-          let grows = stmts_grow c.program.functions c.f body (targets_of loops) scope (after p) i.1 last i.6 in
-          let inside = stmts_scopes c.program.functions c.f other (targets_of loops) scope (after last) i.2 q i.8 in
-          jumped c h (last.instr + 1) loops scope (after last) (Sequence other ∷ Close ∷ todo) refl
+          let grows = stmts_grow c.program.functions c.f body (targets_of loops) scope (next_point p) i.1 last i.6 in
+          let inside = stmts_scopes c.program.functions c.f other (targets_of loops) scope (next_point last) i.2 q i.8 in
+          jumped c h (last.instr + 1) loops scope (next_point last) (Sequence other ∷ Close ∷ todo) refl
           (same_inside scope) (fits_grow c.f scope p.variable last.variable grows h.fits) h.loop
           (place_of i.2 q [], (i.2, q, i.8, refl), (place_of scope q [], (scope, inside, h.loop, refl), rest))
 
@@ -178,8 +178,8 @@ module _ (c : Setting) (loops : List Loop) (scope : Scope) (p : Point) (locals :
           let l = loop_to scope q next in
           let rest = leads c todo loops i.8 h.todo.2 in
           let inner = targets_of (l ∷ loops) in
-          let grows = stmts_grow c.program.functions c.f body inner scope (after p) at.1 next at.4 in
-          jumped c h (p.instr + 1) (l ∷ loops) scope (after p) (Sequence body ∷ Again test body post ∷ todo) refl
+          let grows = stmts_grow c.program.functions c.f body inner scope (next_point p) at.1 next at.4 in
+          jumped c h (p.instr + 1) (l ∷ loops) scope (next_point p) (Sequence body ∷ Again test body post ∷ todo) refl
           (same_inside scope) h.fits (same_inside scope) (
             place_of at.1 next [],
             (at.1, next, at.4, refl),
@@ -189,7 +189,7 @@ module _ (c : Setting) (loops : List Loop) (scope : Scope) (p : Point) (locals :
                 head,
                 q,
                 i.3,
-                (after p, at.0, at.1, at.2, at.3, at.4, at.5, at.6, at.7),
+                (next_point p, at.0, at.1, at.2, at.3, at.4, at.5, at.6, at.7),
                 i.5,
                 omega (arith, grows, i.6),
                 h.loop,
@@ -208,14 +208,14 @@ module _ (c : Setting) (loops : List Loop) (scope : Scope) (p : Point) (locals :
           let l = loop_to scope q next in
           let rest = leads c todo loops i.8 h.todo.2 in
           let inner = targets_of (l ∷ loops) in
-          let grows = stmts_grow c.program.functions c.f body inner scope (after p) at.1 next at.4 in
+          let grows = stmts_grow c.program.functions c.f body inner scope (next_point p) at.1 next at.4 in
           let grows2 = stmts_grow c.program.functions c.f post (targets_of loops) scope next at.2 at.0 at.5 in
-          let end = variable_le (after at.0) q at.7 in
+          let end = variable_le (next_point at.0) q at.7 in
           let fits = fits_grow c.f scope p.variable q.variable (omega (arith, grows, grows2, end)) h.fits in
           jumped c h q.instr loops scope q todo refl (same_inside scope) fits h.loop rest
 
 -- the loop is the innermost one
-module _ (c : Setting) (l : Loop) (loops : List Loop) (scope : Scope) (p : Point) (locals : List Value)
+module _ (c : Setting) (l : Loop) (loops : List Loop) (scope : LoweringScope) (p : Point) (locals : List Value)
     (todo : List Todo) where
   -- after the body
   pub again_steps : (test : Option Term) (body post : Stmts)

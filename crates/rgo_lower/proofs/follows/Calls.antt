@@ -14,8 +14,8 @@ use Rattle.rgo_tac.specs.Frames as tac
 use Rattle.rgo_tac.specs.Tac as machine
 use Rattle.rgo_meaning.specs.Frames as source
 use Rattle.rgo_meaning.specs.Frames.{closing}
-use Rattle.rgo_meaning.specs.Source.{function_named, main_frames}
-use Rattle.rgo_lower.specs.Lowered.{Point, Scope, OpAt, parameters, found, closing_op, IsLoweredFn, AreLowered}
+use Rattle.rgo_meaning.specs.Source.{function_named, source_main_frames}
+use Rattle.rgo_lower.specs.Lowered.{Point, LoweringScope, OpAt, parameters, variable_of_local, closing_op, IsLoweredFn, AreLowered}
 use Rattle.rgo_lower.proofs.follows.Lists.{padded_long, padded_same, first_same}
 use Rattle.rgo_lower.proofs.follows.Places.{TodoAt, place_of}
 use Rattle.rgo_lower.proofs.follows.Grows.{some_same, tested_eq, stmts_grow}
@@ -43,12 +43,12 @@ record ParameterAt (count n d : ℕ) : Type 0 where
   same : d ≡ n
   below : n < count
 
-parameter_at : (count n d : ℕ) → found (parameters count) n ≡ Some d → ParameterAt count n d
+parameter_at : (count n d : ℕ) → variable_of_local (parameters count) n ≡ Some d → ParameterAt count n d
 parameter_at zero n d e = cc
 parameter_at (suc count) n d e = go (λ q. parameter_at count n d q) (nat_eq count n) refl e
   where
-    go : (found (parameters count) n ≡ Some d → ParameterAt count n d) → (b : Bool) → nat_eq count n ≡ b
-        → (if b then Some count else found (parameters count) n) ≡ Some d → ParameterAt (suc count) n d
+    go : (variable_of_local (parameters count) n ≡ Some d → ParameterAt count n d) → (b : Bool) → nat_eq count n ≡ b
+        → (if b then Some count else variable_of_local (parameters count) n) ≡ Some d → ParameterAt (suc count) n d
     go next true t q =
         let is = some_same count d q in
         let same = tested_eq count n t in record { same = sym is ∙ same; below = omega (arith, same) }
@@ -57,7 +57,7 @@ parameter_at (suc count) n d e = go (λ q. parameter_at count n d q) (nat_eq cou
 -- ---- first frames
 
 module _ (functions : List Function) (code : Tac) where
-  closing_at : (g : TacFn) (result : Option «Type») (scope : Scope) (p : Point) (place : ℕ)
+  closing_at : (g : TacFn) (result : Option «Type») (scope : LoweringScope) (p : Point) (place : ℕ)
       → OpAt g p.instr (closing_op result p.instr) place → g.result_type ≡ result
       → TodoAt functions g (closing result) [] scope p []
   closing_at g None scope p place instr is = record { place = place; instr = instr; is = is; none = refl }
@@ -74,7 +74,7 @@ module _ (functions : List Function) (code : Tac) where
 
     -- the first frames of a function and of its code, with the same arguments
     pub called_matched : (n : ℕ) (others : List Value) → slice_get code.functions n ≡ Some g → others ≡ arguments
-        → AreMatched functions code g (source.called s arguments) (tac.called g n others)
+        → AreMatched functions code g (source.new_source_frame s arguments) (tac.new_tac_frame g n others)
     called_matched n others here same =
         let scope = parameters s.params in
         let p : Point = record { instr = 0; variable = s.params } in
@@ -111,7 +111,7 @@ module _ (functions : List Function) (code : Tac) where
                 let r = parameter_at s.params a d e in
                 parameter_value a r.below
                 ∙ ap (λ vs. get_or (vs ++ drop (length vs) (map zero_of g.variables)) a Nil) (sym same)
-                ∙ ap (tac.value_at (tac.called g n others)) (sym r.same);
+                ∙ ap (tac.value_at (tac.new_tac_frame g n others)) (sym r.same);
             long = omega (arith, long, some, count);
           },
         )
@@ -121,7 +121,7 @@ module _ (functions : List Function) (code : Tac) where
   -- the functions from number n on
   pub mains : (sources : List Function) (fs : List TacFn) (n : ℕ) → AreLowered functions sources fs
       → ((i : ℕ) → slice_get fs i ≡ slice_get code.functions (n + i))
-      → Stacks functions code (main_frames (function_named (codes "main") sources)) (machine.main_frames fs n)
+      → Stacks functions code (source_main_frames (function_named (codes "main") sources)) (machine.tac_main_frames fs n)
   mains [] [] n h at = tt
   mains [] (g ∷ gs) n h at = absurd h
   mains (s ∷ ss) [] n h at = absurd h
@@ -133,9 +133,9 @@ module _ (functions : List Function) (code : Tac) where
       next i = at (suc i) ∙ ap (slice_get code.functions) (omega arith)
 
       go : (b c : Bool) → c ≡ b
-          → Stacks functions code (main_frames (function_named (codes "main") ss)) (machine.main_frames gs (suc n))
-          → Stacks functions code (main_frames (if b then Some s else function_named (codes "main") ss))
-          (if c then tac.called g n [] ∷ [] else machine.main_frames gs (suc n))
+          → Stacks functions code (source_main_frames (function_named (codes "main") ss)) (machine.tac_main_frames gs (suc n))
+          → Stacks functions code (source_main_frames (if b then Some s else function_named (codes "main") ss))
+          (if c then tac.new_tac_frame g n [] ∷ [] else machine.tac_main_frames gs (suc n))
       go true true e rest =
           let here = sym (at 0 ∙ ap (slice_get code.functions) (omega arith)) in
           (g, called_matched s g h.0 [] n [] here refl, tt)

@@ -7,10 +7,9 @@ use Rattle.rgo_typed.specs.declared.types.Type.{«Type»}
 use Rattle.rgo_typed.specs.Tree as tree
 use Rattle.rgo_typed.specs.Tree.{Function, Terms}
 use Rattle.rgo_tac.specs.Code as op
-use Rattle.rgo_tac.specs.Code.{TacFn}
 use Rattle.rgo_meaning.specs.Frames.{Todo, Perform, Affect, Enter, Start, Write, Again, Leave, Stay}
-use Rattle.rgo_meaning.specs.Todos.{count, after_break, after_continue}
-use Rattle.rgo_lower.specs.Lowered.{Point, after_value, after, OpAt, ActionAt, Scope, result_of, StoresAt, TermsAt}
+use Rattle.rgo_meaning.specs.Todos.{term_count, after_break, after_continue}
+use Rattle.rgo_lower.specs.Lowered.{Point, after_value, next_point, OpAt, ActionAt, LoweringScope, function_result_type, StoresAt, TermsAt}
 use Rattle.rgo_lower.proofs.follows.Lists.{onto, taken_back, dropped_back, get_onto}
 use Rattle.rgo_lower.proofs.follows.Settings.{Setting, At}
 use Rattle.rgo_lower.proofs.follows.Places.{Place, place_of, FillAt, CallAt, Fits, Loop, targets_of, InLoop}
@@ -25,15 +24,15 @@ module _ (c : Setting) where
       → At c todo loops q.scope q.point q.held
   leads todo loops e h = subst (λ (z : Place). At c todo loops z.scope z.point z.held) e h
 
-  pub terms_length : (ts : Terms) (scope : Scope) (p : Point) (ds : List ℕ) (q : Point)
-      → TermsAt functions c.f scope ts p ds q → count ts ≡ length ds
+  pub terms_length : (ts : Terms) (scope : LoweringScope) (p : Point) (ds : List ℕ) (q : Point)
+      → TermsAt functions c.f scope ts p ds q → term_count ts ≡ length ds
   terms_length tree.no_terms scope p ds q h = ap length (sym h.0)
   terms_length (tree.a_term t ts) scope p ds q h =
       ap suc (terms_length ts scope h.2 h.1 q h.4) ∙ ap length (sym h.5)
 
   -- ---- after the parts, whose values are on top
 
-  module _ (loops : List Loop) (scope : Scope) (mid : Point) (ds held : List ℕ) (n : ℕ) (e : n ≡ length ds)
+  module _ (loops : List Loop) (scope : LoweringScope) (mid : Point) (ds held : List ℕ) (n : ℕ) (e : n ≡ length ds)
       (todo : List Todo) where
     pub perform_todo : (action : Action) (ty : «Type») (place : ℕ) → ActionAt c.f mid action ds ty place
         → At c todo loops scope (after_value mid) (mid.variable ∷ held)
@@ -45,39 +44,39 @@ module _ (c : Setting) where
     )
 
     pub affect_todo : (action : Action) (place : ℕ) → OpAt c.f mid.instr (op.Do None action ds) place
-        → At c todo loops scope (after mid) held
+        → At c todo loops scope (next_point mid) held
         → At c (Affect action n place ∷ todo) loops scope mid (onto ds held)
     affect_todo action place at rest = (
-      place_of scope (after mid) (drop n (onto ds held)),
+      place_of scope (next_point mid) (drop n (onto ds held)),
       (subst (λ z. OpAt c.f mid.instr (op.Do None action z) place) (sym (taken_back ds held n e)) at, refl),
-      subst (λ z. At c todo loops scope (after mid) z) (sym (dropped_back ds held n e)) rest,
+      subst (λ z. At c todo loops scope (next_point mid) z) (sym (dropped_back ds held n e)) rest,
     )
 
     pub start_todo : (function place : ℕ) → OpAt c.f mid.instr (op.Go function ds) place
-        → result_of functions c.f function ≡ Some None → At c todo loops scope (after mid) held
+        → function_result_type functions c.f function ≡ Some None → At c todo loops scope (next_point mid) held
         → At c (Start function n ∷ todo) loops scope mid (onto ds held)
     start_todo function place at result rest = (
-      place_of scope (after mid) (drop n (onto ds held)),
+      place_of scope (next_point mid) (drop n (onto ds held)),
       (
         place,
         subst (λ z. OpAt c.f mid.instr (op.Go function z) place) (sym (taken_back ds held n e)) at,
         result,
         refl,
       ),
-      subst (λ z. At c todo loops scope (after mid) z) (sym (dropped_back ds held n e)) rest,
+      subst (λ z. At c todo loops scope (next_point mid) z) (sym (dropped_back ds held n e)) rest,
     )
 
     pub write_todo : (pieces : List Piece) (place : ℕ) → OpAt c.f mid.instr (op.Print pieces ds) place
-        → At c todo loops scope (after mid) held → At c (Write pieces n ∷ todo) loops scope mid (onto ds held)
+        → At c todo loops scope (next_point mid) held → At c (Write pieces n ∷ todo) loops scope mid (onto ds held)
     write_todo pieces place at rest = (
-      place_of scope (after mid) (drop n (onto ds held)),
+      place_of scope (next_point mid) (drop n (onto ds held)),
       (place, subst (λ z. OpAt c.f mid.instr (op.Print pieces z) place) (sym (taken_back ds held n e)) at, refl),
-      subst (λ z. At c todo loops scope (after mid) z) (sym (dropped_back ds held n e)) rest,
+      subst (λ z. At c todo loops scope (next_point mid) z) (sym (dropped_back ds held n e)) rest,
     )
 
     pub call_todo : (function : ℕ) (ty : «Type») (place : ℕ)
         → OpAt c.f mid.instr (op.Call (Some mid.variable) function ds) place
-        → slice_get c.f.variables mid.variable ≡ Some ty → result_of functions c.f function ≡ Some (Some ty)
+        → slice_get c.f.variables mid.variable ≡ Some ty → function_result_type functions c.f function ≡ Some (Some ty)
         → At c todo loops scope (after_value mid) (mid.variable ∷ held)
         → At c (Enter function n ∷ todo) loops scope mid (onto ds held)
     call_todo function ty place at kind result rest =
@@ -95,22 +94,22 @@ module _ (c : Setting) where
         )
 
     pub invoke_todo : (function place : ℕ) → OpAt c.f mid.instr (op.Call None function ds) place
-        → result_of functions c.f function ≡ Some None → At c todo loops scope (after mid) held
+        → function_result_type functions c.f function ≡ Some None → At c todo loops scope (next_point mid) held
         → At c (Enter function n ∷ todo) loops scope mid (onto ds held)
     invoke_todo function place at result rest =
         let same = taken_back ds held n e in
-        let b = place_of scope (after mid) (drop n (onto ds held)) in (
+        let b = place_of scope (next_point mid) (drop n (onto ds held)) in (
           b,
           subst (λ z. CallAt functions c.f z function n scope mid (onto ds held) b) (sym result)
               (place, subst (λ z. OpAt c.f mid.instr (op.Call None function z) place) (sym same) at, refl),
-          subst (λ z. At c todo loops scope (after mid) z) (sym (dropped_back ds held n e)) rest,
+          subst (λ z. At c todo loops scope (next_point mid) z) (sym (dropped_back ds held n e)) rest,
         )
 
   fields_length : (object : ℕ) (fields ds : List ℕ) (place : ℕ) (p q : Point)
       → StoresAt functions c.f object fields ds place p q → length fields ≡ length ds
   fields_length object [] [] place p q h = refl
   fields_length object (k ∷ fields) (d ∷ ds) place p q h =
-      ap suc (fields_length object fields ds place (after p) q h.1)
+      ap suc (fields_length object fields ds place (next_point p) q h.1)
   fields_length object [] (d ∷ ds) place p q h = absurd h
   fields_length object (k ∷ fields) [] place p q h = absurd h
 
@@ -120,16 +119,16 @@ module _ (c : Setting) where
       → FillAt functions c.f fields object p.instr (onto ds xs) place q
   fills object [] [] xs place p q h = ap (λ (z : Point). z.instr) h
   fills object (k ∷ fields) (d ∷ ds) xs place p q h =
-      let n = fields_length object fields ds place (after p) q h.1 in
+      let n = fields_length object fields ds place (next_point p) q h.1 in
       let found = get_onto ds (d ∷ xs) (length fields) 0 (omega (arith, n)) in
-      (d, found, h.0, fills object fields ds (d ∷ xs) place (after p) q h.1)
+      (d, found, h.0, fills object fields ds (d ∷ xs) place (next_point p) q h.1)
   fills object [] (d ∷ ds) xs place p q h = absurd h
   fills object (k ∷ fields) [] xs place p q h = absurd h
 
   -- ---- break and continue
 
   -- what is to do at a place to which a jump out of a loop's body leads
-  pub record Reached (todo : List Todo) (scope : Scope) (i : ℕ) : Type 0 where
+  pub record Reached (todo : List Todo) (scope : LoweringScope) (i : ℕ) : Type 0 where
     pub loops : List Loop
     pub point : Point
     pub at : At c todo loops scope point []
@@ -137,7 +136,7 @@ module _ (c : Setting) where
     pub fits : Fits c.f scope point.variable
     pub loop : InLoop loops scope
 
-  pub breaks : (todo : List Todo) (l : Loop) (loops : List Loop) (scope : Scope) (p : Point) (held : List ℕ)
+  pub breaks : (todo : List Todo) (l : Loop) (loops : List Loop) (scope : LoweringScope) (p : Point) (held : List ℕ)
       → At c todo (l ∷ loops) scope p held → Reached (after_break todo) l.scope l.target.break_to
   breaks [] l loops scope p held h = let no : l ∷ loops ≡ [] = h.none in cc
   breaks (Leave ∷ todo) l loops scope p [] h = absurd h
@@ -148,7 +147,7 @@ module _ (c : Setting) where
       let i = h.1 in
       let at = i.3 in
       let post_grows = stmts_grow functions c.f post (targets_of loops) l.scope p at.3 at.1 at.6 in
-      let end = variable_le (after at.1) i.1 at.8 in
+      let end = variable_le (next_point at.1) i.1 at.8 in
       record {
         loops = loops;
         point = i.1;
@@ -159,7 +158,7 @@ module _ (c : Setting) where
       }
   breaks (item ∷ todo) l loops scope p held h = breaks todo l loops h.0.scope h.0.point h.0.held h.2
 
-  pub continues : (todo : List Todo) (l : Loop) (loops : List Loop) (scope : Scope) (p : Point) (held : List ℕ)
+  pub continues : (todo : List Todo) (l : Loop) (loops : List Loop) (scope : LoweringScope) (p : Point) (held : List ℕ)
       → At c todo (l ∷ loops) scope p held → Reached (after_continue todo) l.scope l.target.continue_to
   continues [] l loops scope p held h = let no : l ∷ loops ≡ [] = h.none in cc
   continues (Leave ∷ todo) l loops scope p [] h = absurd h

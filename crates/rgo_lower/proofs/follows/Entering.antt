@@ -8,13 +8,13 @@ use Rattle.rgo_typed.specs.Tree.{Function}
 use Rattle.rgo_memory.specs.declared.values.Value.{Value}
 use Rattle.rgo_machine.specs.Machines.{AtCall, AtStart, Elsewhere}
 use Rattle.rgo_tac.specs.Code.{Call, Go, TacFn}
-use Rattle.rgo_tac.specs.Frames.{values_of, moved_to}
+use Rattle.rgo_tac.specs.Frames.{operand_values, moved_to}
 use Rattle.rgo_tac.specs.Steps as steps
 use Rattle.rgo_meaning.specs.Frames as source
 use Rattle.rgo_meaning.specs.Frames.{Todo, Enter, Start, last_values}
 use Rattle.rgo_meaning.specs.Stands as stands
-use Rattle.rgo_meaning.specs.Stands.{stand}
-use Rattle.rgo_lower.specs.Lowered.{Point, result_of, Scope}
+use Rattle.rgo_meaning.specs.Stands.{source_stand}
+use Rattle.rgo_lower.specs.Lowered.{Point, function_result_type, LoweringScope}
 use Rattle.rgo_lower.proofs.follows.Places.{CallAt, Loop}
 use Rattle.rgo_lower.proofs.follows.Grows.{some_same}
 use Rattle.rgo_lower.proofs.follows.Calls.{BothFound, both_found, called_matched}
@@ -24,14 +24,14 @@ use Rattle.rgo_lower.proofs.follows.Changes.{passes, gives}
 use Rattle.rgo_lower.proofs.follows.Chains.{leads}
 use Rattle.rgo_lower.proofs.follows.Steps.{StandsAlike, Goal, Next, instr_is, together, values_same}
 
-module _ (c : Setting) (loops : List Loop) (scope : Scope) (p : Point) (locals : List Value) (held : List ℕ)
+module _ (c : Setting) (loops : List Loop) (scope : LoweringScope) (p : Point) (locals : List Value) (held : List ℕ)
     (n count : ℕ) (todo : List Todo) where
   -- a frame before a call or a start
-  abbrev before : Todo → source.Frame
+  abbrev before : Todo → source.SourceFrame
   before item = frame_of c locals held (item ∷ todo)
 
   -- the frame that continues
-  abbrev rest : source.Frame
+  abbrev rest : source.SourceFrame
   rest = record { locals = locals; values = drop count (map (g c) held); todo = todo }
 
   abbrev from : List ℕ
@@ -49,15 +49,15 @@ module _ (c : Setting) (loops : List Loop) (scope : Scope) (p : Point) (locals :
   stands_called : (o : Option Function) (k : Option TacFn) (result : Option «Type»)
       → slice_get c.code.functions n ≡ k → BothFound c.program.functions o k → result_in o ≡ Some result
       → Awaits c.program.functions c.code c.f result rest c.frame
-      → StandsAlike c (stands.at_function AtCall o count todo (before (Enter n count)))
-      (steps.at_function (AtCall c.frame) n (values_of c.frame from) k)
+      → StandsAlike c (stands.at_source_function AtCall o count todo (before (Enter n count)))
+      (steps.at_tac_function (AtCall c.frame) n (operand_values c.frame from) k)
   stands_called None None result here found known awaits = cc
   stands_called None (Some k) result here found known awaits = absurd found
   stands_called (Some s) None result here found known awaits = absurd found
   stands_called (Some s) (Some k) result here found known awaits =
       let is : s.result_type ≡ result = some_same s.result_type result known in (
         k,
-        called_matched c.program.functions c.code s k found arguments n (values_of c.frame from)
+        called_matched c.program.functions c.code s k found arguments n (operand_values c.frame from)
             here (values_same c count held),
         (
           c.f,
@@ -68,12 +68,12 @@ module _ (c : Setting) (loops : List Loop) (scope : Scope) (p : Point) (locals :
 
   -- a frame before the call of a function that exists does nothing by itself
   never_elsewhere : (o : Option Function) (result : Option «Type») → result_in o ≡ Some result
-      → stands.at_function AtCall o count todo (before (Enter n count)) ≡ Elsewhere → ⊥
+      → stands.at_source_function AtCall o count todo (before (Enter n count)) ≡ Elsewhere → ⊥
   never_elsewhere None result known e = cc
   never_elsewhere (Some s) result known e = cc
 
   calls : (to : Option ℕ) (place : ℕ) (result : Option «Type») → Next c (Call to n from) place
-      → result_of c.program.functions c.f n ≡ Some result → Awaits c.program.functions c.code c.f result rest c.frame
+      → function_result_type c.program.functions c.f n ≡ Some result → Awaits c.program.functions c.code c.f result rest c.frame
       → Goal c (before (Enter n count))
   calls to place result next known awaits =
       let found = both_found c.program.functions c.program.functions c.code.functions n c.lowered.functions in
@@ -82,7 +82,7 @@ module _ (c : Setting) (loops : List Loop) (scope : Scope) (p : Point) (locals :
       (λ e m. absurd (never_elsewhere (slice_get c.program.functions n) result known e))
 
   enter_by : (h : Here c loops scope p held locals (Enter n count ∷ todo)) (result : Option (Option «Type»))
-      → result_of c.program.functions c.f n ≡ result
+      → function_result_type c.program.functions c.f n ≡ result
       → CallAt c.program.functions c.f result n count scope p held h.todo.0 → Goal c (before (Enter n count))
   enter_by h None e i = absurd i
   enter_by h (Some (Some ty)) e i =
@@ -103,14 +103,14 @@ module _ (c : Setting) (loops : List Loop) (scope : Scope) (p : Point) (locals :
       (passes c h count todo following))
 
   pub enter_steps : Here c loops scope p held locals (Enter n count ∷ todo) → Goal c (before (Enter n count))
-  enter_steps h = enter_by h (result_of c.program.functions c.f n) refl h.todo.1
+  enter_steps h = enter_by h (function_result_type c.program.functions c.f n) refl h.todo.1
 
   -- ---- starts
 
   stands_started : (o : Option Function) (k : Option TacFn) → slice_get c.code.functions n ≡ k
       → BothFound c.program.functions o k → Fit c rest (moved_to c.frame (c.frame.next + 1))
-      → StandsAlike c (stands.at_function AtStart o count todo (before (Start n count)))
-      (steps.at_function (AtStart (moved_to c.frame (c.frame.next + 1))) n (values_of c.frame from) k)
+      → StandsAlike c (stands.at_source_function AtStart o count todo (before (Start n count)))
+      (steps.at_tac_function (AtStart (moved_to c.frame (c.frame.next + 1))) n (operand_values c.frame from) k)
   stands_started None None here found fit = tt
   stands_started None (Some k) here found fit = absurd found
   stands_started (Some s) None here found fit = absurd found
@@ -118,7 +118,7 @@ module _ (c : Setting) (loops : List Loop) (scope : Scope) (p : Point) (locals :
     (c.f, fit, c.below),
     (
       k,
-      called_matched c.program.functions c.code s k found arguments n (values_of c.frame from)
+      called_matched c.program.functions c.code s k found arguments n (operand_values c.frame from)
           here (values_same c count held),
       tt,
     ),

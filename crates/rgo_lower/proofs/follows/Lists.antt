@@ -6,7 +6,7 @@ use Rattle.std.proofs.lemmas.List.{length-reverse}
 use Rattle.std.proofs.Math.Seq.{take-append_seam, drop-append_seam}
 use mathlib.Core.List.{reverse-cons}
 use Rattle.rgo_memory.specs.declared.values.Value.{Value}
-use Rattle.rgo_meaning.specs.Frames.{local_at, with_local}
+use Rattle.rgo_meaning.specs.Frames.{local_value, with_local_value}
 
 -- ---- what was put on top of others
 
@@ -117,14 +117,14 @@ get_map g [] j d x h = cc
 get_map g (y ∷ ds) zero d x h = let e : y ≡ d = cc in ap g e
 get_map g (y ∷ ds) (suc j) d x h = get_map g ds j d x h
 
-pub local_same : (locals : List Value) (n : ℕ) (v : Value) → local_at (with_local locals n v) n ≡ v
+pub local_same : (locals : List Value) (n : ℕ) (v : Value) → local_value (with_local_value locals n v) n ≡ v
 local_same [] zero v = refl
 local_same [] (suc n) v = local_same [] n v
 local_same (u ∷ locals) zero v = refl
 local_same (u ∷ locals) (suc n) v = local_same locals n v
 
 pub local_other : (locals : List Value) (n m : ℕ) (v : Value) → n ≢ m
-    → local_at (with_local locals n v) m ≡ local_at locals m
+    → local_value (with_local_value locals n v) m ≡ local_value locals m
 local_other [] zero zero v h = absurd (h refl)
 local_other [] zero (suc m) v h = refl
 local_other [] (suc n) zero v h = refl

@@ -2,7 +2,7 @@
 use Rattle.std.proofs.Common.{ℕ, suc, ◌+◌, List, [], ◌∷◌, Option, Some, None}
 use Rattle.rgo_typed.specs.Tree as tree
 use Rattle.rgo_typed.specs.Tree.{Term, Terms, Stmt, Stmts}
-use Rattle.rgo_meaning.specs.Frames.{Frame, Todo, Evaluate, Each, Fill, Repeat, Forget, Execute, Sequence, Close}
+use Rattle.rgo_meaning.specs.Frames.{SourceFrame, Todo, Evaluate, Each, Fill, Repeat, Forget, Execute, Sequence, Close}
 use Rattle.rgo_meaning.specs.Frames.{Onward, Turn, Test, Again}
 
 abbrev mutual
@@ -69,5 +69,5 @@ todo_size (Test test body post ∷ todo) = 0
 todo_size (Onward ∷ todo) = 0
 todo_size (item ∷ todo) = item_weight item + todo_size todo
 
-abbrev pub size : Frame → ℕ
+abbrev pub size : SourceFrame → ℕ
 size f = todo_size f.todo

@@ -13,9 +13,9 @@ use Rattle.rgo_machine.specs.Machines.{Moves}
 use Rattle.rgo_tac.specs.Code as op
 use Rattle.rgo_meaning.specs.Frames.{Todo, Evaluate, Each, Affect, Give, Forget, Clear, Enter, Start, Write}
 use Rattle.rgo_meaning.specs.Frames.{Execute, Sequence, When, Choose, Close, Turn}
-use Rattle.rgo_meaning.specs.Steps.{act}
-use Rattle.rgo_meaning.specs.Todos.{count, return_todo, update_todo}
-use Rattle.rgo_lower.specs.Lowered.{Point, after_value, after, OpAt, ActionAt, Scope, StmtsAt}
+use Rattle.rgo_meaning.specs.Steps.{source_act}
+use Rattle.rgo_meaning.specs.Todos.{term_count, return_todo, update_todo}
+use Rattle.rgo_lower.specs.Lowered.{Point, after_value, next_point, OpAt, ActionAt, LoweringScope, StmtsAt}
 use Rattle.rgo_lower.proofs.follows.Lists.{onto, twice_taken, twice_dropped, two_taken, one_more_taken}
 use Rattle.rgo_lower.proofs.follows.Lists.{one_more_dropped}
 use Rattle.rgo_lower.proofs.follows.Places.{place_of, Loop, targets_of}
@@ -27,7 +27,7 @@ use Rattle.rgo_lower.proofs.follows.Changes.{stays}
 use Rattle.rgo_lower.proofs.follows.Chains.{leads, terms_length, affect_todo, start_todo, write_todo, invoke_todo}
 use Rattle.rgo_lower.proofs.follows.Steps.{Goal, stutter, goes_on}
 
-module _ (c : Setting) (loops : List Loop) (scope : Scope) (p : Point) (locals : List Value) where
+module _ (c : Setting) (loops : List Loop) (scope : LoweringScope) (p : Point) (locals : List Value) where
   abbrev Now : List ℕ → List Todo → Type 0
   Now held todo = Here c loops scope p held locals todo
 
@@ -36,14 +36,14 @@ module _ (c : Setting) (loops : List Loop) (scope : Scope) (p : Point) (locals :
 
   -- the source goes on alone from a statement to what it leaves to do
   unfolds : (s : Stmt) (todo todo2 : List Todo) → Now [] (Execute s ∷ todo)
-      → ((m : Memory) → act c.program m (frame_of c locals [] (Execute s ∷ todo))
+      → ((m : Memory) → source_act c.program m (frame_of c locals [] (Execute s ∷ todo))
       ≡ Moves m (frame_of c locals [] todo2))
       → todo_size todo2 < todo_size (Execute s ∷ todo)
       → At c todo2 loops scope p [] → Steps [] (Execute s ∷ todo)
   unfolds s todo todo2 h moves smaller at = goes_on c h todo2 refl moves smaller at
 
   -- what follows a statement, where it leaves this scope and ends at q
-  after_stmt : (s : Stmt) (todo : List Todo) (h : Now [] (Execute s ∷ todo)) (scope2 : Scope) (q : Point)
+  after_stmt : (s : Stmt) (todo : List Todo) (h : Now [] (Execute s ∷ todo)) (scope2 : LoweringScope) (q : Point)
       → h.todo.1.0 ≡ scope2 → h.todo.1.1 ≡ q → At c todo loops scope2 q []
   after_stmt s todo h scope2 q e e2 =
       let i = h.todo.1 in
@@ -92,9 +92,9 @@ module _ (c : Setting) (loops : List Loop) (scope : Scope) (p : Point) (locals :
         place_of scope mid (t.0 ∷ []),
         (t.0, mid, t.3, refl),
         (
-          place_of scope (after mid) [],
+          place_of scope (next_point mid) [],
           (t.2, place, t.5, inr (record { known = t.4; is = refl })),
-          after_stmt (tree.Assign n value place) todo h scope (after mid) t.6 t.7,
+          after_stmt (tree.Assign n value place) todo h scope (next_point mid) t.6 t.7,
         ),
       )
 
@@ -105,14 +105,14 @@ module _ (c : Setting) (loops : List Loop) (scope : Scope) (p : Point) (locals :
       → Steps [] (Execute (tree.Perform action operands place) ∷ todo)
   perform_steps action operands place todo h =
       let t = h.todo.1.2 in
-      let n = count operands in
+      let n = term_count operands in
       unfolds (tree.Perform action operands place) todo (Each operands ∷ Affect action n place ∷ todo) h (λ m. refl)
       (omega arith) (
         place_of scope t.1 (onto t.0 []),
         (t.0, t.1, t.2, refl),
         affect_todo c loops scope t.1 t.0 [] n
             (terms_length c operands scope p t.0 t.1 t.2) todo action place t.3
-            (after_stmt (tree.Perform action operands place) todo h scope (after t.1) t.4 t.5),
+            (after_stmt (tree.Perform action operands place) todo h scope (next_point t.1) t.4 t.5),
       )
 
   invoke_steps : (function : ℕ) (arguments : Terms) (place : ℕ) (todo : List Todo)
@@ -120,14 +120,14 @@ module _ (c : Setting) (loops : List Loop) (scope : Scope) (p : Point) (locals :
       → Steps [] (Execute (tree.Invoke function arguments place) ∷ todo)
   invoke_steps function arguments place todo h =
       let t = h.todo.1.2 in
-      let n = count arguments in
+      let n = term_count arguments in
       unfolds (tree.Invoke function arguments place) todo (Each arguments ∷ Enter function n ∷ todo) h (λ m. refl)
       (omega arith) (
         place_of scope t.1 (onto t.0 []),
         (t.0, t.1, t.2, refl),
         invoke_todo c loops scope t.1 t.0 [] n
             (terms_length c arguments scope p t.0 t.1 t.2) todo function place t.3 t.4
-            (after_stmt (tree.Invoke function arguments place) todo h scope (after t.1) t.5 t.6),
+            (after_stmt (tree.Invoke function arguments place) todo h scope (next_point t.1) t.5 t.6),
       )
 
   go_steps : (function : ℕ) (arguments : Terms) (place : ℕ) (todo : List Todo)
@@ -135,14 +135,14 @@ module _ (c : Setting) (loops : List Loop) (scope : Scope) (p : Point) (locals :
       → Steps [] (Execute (tree.Go function arguments place) ∷ todo)
   go_steps function arguments place todo h =
       let t = h.todo.1.2 in
-      let n = count arguments in
+      let n = term_count arguments in
       unfolds (tree.Go function arguments place) todo (Each arguments ∷ Start function n ∷ todo) h (λ m. refl)
       (omega arith) (
         place_of scope t.1 (onto t.0 []),
         (t.0, t.1, t.2, refl),
         start_todo c loops scope t.1 t.0 [] n
             (terms_length c arguments scope p t.0 t.1 t.2) todo function place t.3 t.4
-            (after_stmt (tree.Go function arguments place) todo h scope (after t.1) t.5 t.6),
+            (after_stmt (tree.Go function arguments place) todo h scope (next_point t.1) t.5 t.6),
       )
 
   print_steps : (pieces : _) (values : Terms) (place : ℕ) (todo : List Todo)
@@ -150,14 +150,14 @@ module _ (c : Setting) (loops : List Loop) (scope : Scope) (p : Point) (locals :
       → Steps [] (Execute (tree.Print pieces values place) ∷ todo)
   print_steps pieces values place todo h =
       let t = h.todo.1.2 in
-      let n = count values in
+      let n = term_count values in
       unfolds (tree.Print pieces values place) todo (Each values ∷ Write pieces n ∷ todo) h (λ m. refl)
       (omega arith) (
         place_of scope t.1 (onto t.0 []),
         (t.0, t.1, t.2, refl),
         write_todo c loops scope t.1 t.0 [] n
             (terms_length c values scope p t.0 t.1 t.2) todo pieces place t.3
-            (after_stmt (tree.Print pieces values place) todo h scope (after t.1) t.4 t.5),
+            (after_stmt (tree.Print pieces values place) todo h scope (next_point t.1) t.4 t.5),
       )
 
   -- the operands are evaluated once, for the read and for the write
@@ -168,10 +168,10 @@ module _ (c : Setting) (loops : List Loop) (scope : Scope) (p : Point) (locals :
       let ds = t.0 in
       let start = t.1 in
       let mid = t.5 in
-      let n = count u.operands in
+      let n = term_count u.operands in
       let size = terms_length c u.operands scope p ds start t.2 in
       let all = onto ds [] in
-      let end = after (after_value mid) in
+      let end = next_point (after_value mid) in
       unfolds (tree.Update u) todo (update_todo u todo) h (λ m. refl) (omega arith) (
         place_of scope start all,
         (ds, start, t.2, refl),
@@ -330,7 +330,7 @@ module _ (c : Setting) (loops : List Loop) (scope : Scope) (p : Point) (locals :
 
 -- ---- every statement
 
-module _ (c : Setting) (scope : Scope) (p : Point) (locals : List Value) where
+module _ (c : Setting) (scope : LoweringScope) (p : Point) (locals : List Value) where
   pub execute_steps : (loops : List Loop) (s : Stmt) (todo : List Todo)
       → Here c loops scope p [] locals (Execute s ∷ todo) → Goal c (frame_of c locals [] (Execute s ∷ todo))
   execute_steps loops (tree.Block all) todo h = block_steps c loops scope p locals all todo h

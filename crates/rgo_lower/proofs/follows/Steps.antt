@@ -18,16 +18,16 @@ use Rattle.rgo_machine.specs.Machines.{Machine, Act, Moves, Stand, Elsewhere}
 use Rattle.rgo_simulation.specs.Follows.{ActAlike, StandAlike, Stutters, Together}
 use Rattle.rgo_tac.specs.Code.{Op, Do, TacFn}
 use Rattle.rgo_tac.specs.Frames as tac
-use Rattle.rgo_tac.specs.Frames.{value_at, values_of, moved_to}
+use Rattle.rgo_tac.specs.Frames.{operand_values}
 use Rattle.rgo_tac.specs.Steps as steps
-use Rattle.rgo_tac.specs.Steps.{function_of, instr_of, type_in, type_of}
+use Rattle.rgo_tac.specs.Steps.{function_of, instr_of, variable_type, destination_type}
 use Rattle.rgo_tac.specs.Tac as low
 use Rattle.rgo_meaning.specs.Frames as source
 use Rattle.rgo_meaning.specs.Frames.{Todo, last_values}
 use Rattle.rgo_meaning.specs.Source as high
-use Rattle.rgo_meaning.specs.Stands.{stand}
-use Rattle.rgo_meaning.specs.Steps.{act}
-use Rattle.rgo_lower.specs.Lowered.{Point, OpAt, Scope}
+use Rattle.rgo_meaning.specs.Stands.{source_stand}
+use Rattle.rgo_meaning.specs.Steps.{source_act}
+use Rattle.rgo_lower.specs.Lowered.{Point, OpAt, LoweringScope}
 use Rattle.rgo_lower.proofs.follows.Lists.{map-reverse}
 use Rattle.rgo_lower.proofs.follows.Places.{Loop}
 use Rattle.rgo_lower.proofs.follows.Grows.{same_inside}
@@ -64,21 +64,21 @@ module _ {F G : Type 0} (high : Machine F) (low : Machine G) (Matched : List F �
 -- ---- what is to be shown of a frame
 
 module _ (c : Setting) where
-  abbrev pub ActsAlike : Act source.Frame → Act tac.Frame → Type 0
+  abbrev pub ActsAlike : Act source.SourceFrame → Act tac.TacFrame → Type 0
   ActsAlike a b = ActAlike (high.source c.program) (low.tac c.code) (Goroutines c) c.callers c.lows a b
 
-  abbrev pub StandsAlike : Stand source.Frame → Stand tac.Frame → Type 0
+  abbrev pub StandsAlike : Stand source.SourceFrame → Stand tac.TacFrame → Type 0
   StandsAlike s t = StandAlike (high.source c.program) (low.tac c.code) (Goroutines c) c.callers c.lows s t
 
   -- the source moves alone, or both do the same
-  abbrev pub Goal : source.Frame → Type 0
+  abbrev pub Goal : source.SourceFrame → Type 0
   Goal frame =
       Stutters (high.source c.program) (low.tac c.code) (Goroutines c) c.callers c.lows size frame c.frame
       ⊎ Together (high.source c.program) (low.tac c.code) (Goroutines c) c.callers c.lows frame c.frame
 
   -- the source moves alone
-  pub stutter : (frame next : source.Frame) → stand c.program frame ≡ Elsewhere
-      → ((m : Memory) → act c.program m frame ≡ Moves m next) → Fit c next c.frame → size next < size frame
+  pub stutter : (frame next : source.SourceFrame) → source_stand c.program frame ≡ Elsewhere
+      → ((m : Memory) → source_act c.program m frame ≡ Moves m next) → Fit c next c.frame → size next < size frame
       → Goal frame
   stutter frame next elsewhere moves fit smaller =
       inl (record {
@@ -99,61 +99,61 @@ module _ (c : Setting) where
       ap (option_and_then (λ (h : TacFn). slice_get h.body c.frame.next)) function ∙ ap (slice_get c.f.body) next ∙ at
 
   -- both do the same, the code by its next instruction
-  pub together : (frame : source.Frame) (op : Op) (place : ℕ) → Next op place
-      → StandsAlike (stand c.program frame) (steps.stand_before c.code c.frame op place)
-      → (stand c.program frame ≡ Elsewhere → (m : Memory)
-      → ActsAlike (act c.program m frame) (steps.done c.code m c.frame op place))
+  pub together : (frame : source.SourceFrame) (op : Op) (place : ℕ) → Next op place
+      → StandsAlike (source_stand c.program frame) (steps.stand_before_op c.code c.frame op place)
+      → (source_stand c.program frame ≡ Elsewhere → (m : Memory)
+      → ActsAlike (source_act c.program m frame) (steps.act_of_op c.code m c.frame op place))
       → Goal frame
   together frame op place is stands acts = inr (record {
-    stands = subst (λ i. StandsAlike (stand c.program frame) (steps.stand_at c.code c.frame i)) (sym is) stands;
+    stands = subst (λ i. StandsAlike (source_stand c.program frame) (steps.stand_at_instr c.code c.frame i)) (sym is) stands;
     acts = λ elsewhere m.
-        subst (λ i. ActsAlike (act c.program m frame) (steps.done_at c.code m c.frame i)) (sym is) (acts elsewhere m);
+        subst (λ i. ActsAlike (source_act c.program m frame) (steps.done_at c.code m c.frame i)) (sym is) (acts elsewhere m);
   })
 
   -- ---- actions
 
   -- the values of the variables of an action
   pub values_same : (count : ℕ) (held : List ℕ)
-      → values_of c.frame (reverse (take count held)) ≡ last_values count (map (g c) held)
+      → operand_values c.frame (reverse (take count held)) ≡ last_values count (map (g c) held)
   values_same count held = map-reverse (g c) (take count held) ∙ ap reverse (sym (take-map (g c) count held))
 
   pub type_is : (d : ℕ) (ty : «Type») → function_of c.code c.frame ≡ Some c.f → slice_get c.f.variables d ≡ Some ty
-      → type_of c.code c.frame (Some d) ≡ ty
+      → destination_type c.code c.frame (Some d) ≡ ty
   type_is d ty function known =
-      ap (λ o. type_in o d) function ∙ get_or_from_slice_get c.f.variables d ty no_type known
+      ap (λ o. variable_type o d) function ∙ get_or_from_slice_get c.f.variables d ty no_type known
 
   -- both do an action on the same values
-  pub acts_alike : (action : Action) (ty : «Type») (vs : List Value) (next : Value → source.Frame) (to : Option ℕ)
-      (from : List ℕ) (place : ℕ) → type_of c.code c.frame to ≡ ty → values_of c.frame from ≡ vs
-      → ((v : Value) → Fit c (next v) (tac.going c.frame to v)) → (m : Memory)
+  pub acts_alike : (action : Action) (ty : «Type») (vs : List Value) (next : Value → source.SourceFrame) (to : Option ℕ)
+      (from : List ℕ) (place : ℕ) → destination_type c.code c.frame to ≡ ty → operand_values c.frame from ≡ vs
+      → ((v : Value) → Fit c (next v) (tac.frame_after_instr c.frame to v)) → (m : Memory)
       → ActsAlike (effected next place (perform c.program.structs action ty vs m))
-      (steps.done c.code m c.frame (Do to action from) place)
+      (steps.act_of_op c.code m c.frame (Do to action from) place)
   acts_alike action ty vs next to from place kind values fit m =
       let effect = perform c.program.structs action ty vs m in
-      subst (λ e. ActsAlike (effected next place effect) (effected (tac.going c.frame to) place e))
+      subst (λ e. ActsAlike (effected next place effect) (effected (tac.frame_after_instr c.frame to) place e))
       (λ i. perform (sym c.lowered.structs i) action (sym kind i) (sym values i) m)
       (effects_alike (high.source c.program) (low.tac c.code) (Goroutines c) c.callers c.lows next
-      (tac.going c.frame to) place effect (λ v. (c.f, fit v, c.below)))
+      (tac.frame_after_instr c.frame to) place effect (λ v. (c.f, fit v, c.below)))
 
   -- both are before an action on the same values
-  pub stands_alike : (action : Action) (ty : «Type») (vs : List Value) (next : Value → source.Frame) (to : Option ℕ)
-      (from : List ℕ) (place : ℕ) → type_of c.code c.frame to ≡ ty → values_of c.frame from ≡ vs
-      → ((v : Value) → Fit c (next v) (tac.going c.frame to v))
+  pub stands_alike : (action : Action) (ty : «Type») (vs : List Value) (next : Value → source.SourceFrame) (to : Option ℕ)
+      (from : List ℕ) (place : ℕ) → destination_type c.code c.frame to ≡ ty → operand_values c.frame from ≡ vs
+      → ((v : Value) → Fit c (next v) (tac.frame_after_instr c.frame to v))
       → StandsAlike (at_channel action (zero_of ty) place next vs)
-      (steps.stand_before c.code c.frame (Do to action from) place)
+      (steps.stand_before_op c.code c.frame (Do to action from) place)
   stands_alike action ty vs next to from place kind values fit =
       let before = at_channel action (zero_of ty) place next vs in
-      let next2 = tac.going c.frame to in
-      subst (λ t. StandsAlike before (at_channel action (zero_of t) place next2 (values_of c.frame from))) (sym kind)
+      let next2 = tac.frame_after_instr c.frame to in
+      subst (λ t. StandsAlike before (at_channel action (zero_of t) place next2 (operand_values c.frame from))) (sym kind)
       (subst (λ us. StandsAlike before (at_channel action (zero_of ty) place next2 us)) (sym values)
       (channels_alike (high.source c.program) (low.tac c.code) (Goroutines c) c.callers c.lows action (zero_of ty) place
       vs next next2 (λ v. (c.f, fit v, c.below))))
 
 -- the source goes on alone, with other things to do at the same point of the code, and the same values
-pub goes_on : (c : Setting) {loops : List Loop} {scope : Scope} {p : Point} {held : List ℕ} {locals : List Value}
+pub goes_on : (c : Setting) {loops : List Loop} {scope : LoweringScope} {p : Point} {held : List ℕ} {locals : List Value}
     {todo : List Todo} → Here c loops scope p held locals todo → (todo2 : List Todo)
-    → stand c.program (frame_of c locals held todo) ≡ Elsewhere
-    → ((m : Memory) → act c.program m (frame_of c locals held todo) ≡ Moves m (frame_of c locals held todo2))
+    → source_stand c.program (frame_of c locals held todo) ≡ Elsewhere
+    → ((m : Memory) → source_act c.program m (frame_of c locals held todo) ≡ Moves m (frame_of c locals held todo2))
     → todo_size todo2 < todo_size todo → At c todo2 loops scope p held → Goal c (frame_of c locals held todo)
 goes_on c {loops} {scope} {p} {held} {locals} {todo} h todo2 elsewhere moves smaller at =
     stutter c (frame_of c locals held todo) (frame_of c locals held todo2) elsewhere moves

@@ -14,8 +14,8 @@ use Rattle.rgo_tac.specs.Code.{Branch}
 use Rattle.rgo_tac.specs.Frames.{moved_to}
 use Rattle.rgo_meaning.specs.Frames.{Todo, Evaluate, Each, Perform, Settle, Decide, Create, Fill, Enter}
 use Rattle.rgo_meaning.specs.Steps.{decided}
-use Rattle.rgo_meaning.specs.Todos.{count}
-use Rattle.rgo_lower.specs.Lowered.{Point, after_value, after, OpAt, bool, logic_branch, Scope}
+use Rattle.rgo_meaning.specs.Todos.{term_count}
+use Rattle.rgo_lower.specs.Lowered.{Point, after_value, next_point, OpAt, bool_type, logic_branch, LoweringScope}
 use Rattle.rgo_lower.proofs.follows.Lists.{onto, dropped_back, below_le}
 use Rattle.rgo_lower.proofs.follows.Places.{place_of, Loop}
 use Rattle.rgo_lower.proofs.follows.Grows.{same_inside, fits_grow, term_grows, stores_keep}
@@ -24,7 +24,7 @@ use Rattle.rgo_lower.proofs.follows.Changes.{jumps, stays}
 use Rattle.rgo_lower.proofs.follows.Chains.{leads, terms_length, perform_todo, call_todo, fills}
 use Rattle.rgo_lower.proofs.follows.Steps.{Goal, stutter, instr_is, together, goes_on}
 
-module _ (c : Setting) (loops : List Loop) (scope : Scope) (p : Point) (locals : List Value) where
+module _ (c : Setting) (loops : List Loop) (scope : LoweringScope) (p : Point) (locals : List Value) where
   abbrev Now : List ℕ → List Todo → Type 0
   Now held todo = Here c loops scope p held locals todo
 
@@ -59,7 +59,7 @@ module _ (c : Setting) (loops : List Loop) (scope : Scope) (p : Point) (locals :
       let t = h.todo.1.2 in
       let ds = t.0 in
       let mid = t.1 in
-      let n = count parts in
+      let n = term_count parts in
       goes_on c h (Each parts ∷ Perform action n ty place ∷ todo) refl (λ m. refl)
       (omega arith) (
         place_of scope mid (onto ds held),
@@ -76,7 +76,7 @@ module _ (c : Setting) (loops : List Loop) (scope : Scope) (p : Point) (locals :
       let t = h.todo.1.2 in
       let ds = t.0 in
       let mid = t.1 in
-      let n = count arguments in
+      let n = term_count arguments in
       goes_on c h (Each arguments ∷ Enter function n ∷ todo) refl (λ m. refl) (omega arith) (
         place_of scope mid (onto ds held),
         (ds, mid, t.2, refl),
@@ -93,7 +93,7 @@ module _ (c : Setting) (loops : List Loop) (scope : Scope) (p : Point) (locals :
       let q = h.todo.1.1 in
       let ds = t.0 in
       let mid = t.1 in
-      let n = count parts in
+      let n = term_count parts in
       let all = onto ds held in
       let size = terms_length c parts scope p ds mid t.2 in
       let rest = after_term (tree.Build struct parts fields place) held todo h mid.variable q t.5 refl in
@@ -127,7 +127,7 @@ module _ (c : Setting) (loops : List Loop) (scope : Scope) (p : Point) (locals :
       let grows = term_grows c.program.functions c.f scope left p t.0 mid t.2 in
       let below = below_le p.variable mid.variable held grows h.below in
       let fits = fits_grow c.f scope p.variable mid.variable grows h.fits in
-      let known = slice_get_within c.f.variables mid.variable bool t.3.variable in
+      let known = slice_get_within c.f.variables mid.variable bool_type t.3.variable in
       let two : mid.instr + 2 ≡ mid.instr + 1 + 1 = omega arith in
       let op = λ (i : ℕ). logic_branch logic mid.variable i (last.instr + 1) in
       let branch = subst (λ i. OpAt c.f (mid.instr + 1) (op i) place) two t.6 in
@@ -139,9 +139,9 @@ module _ (c : Setting) (loops : List Loop) (scope : Scope) (p : Point) (locals :
           place_of scope (after_value mid) (mid.variable ∷ held),
           (mid.variable, place, t.3.instr, known, fits, below, after_value mid, refl, omega arith, omega arith, refl),
           (
-            place_of scope (after last) (mid.variable ∷ held),
+            place_of scope (next_point last) (mid.variable ∷ held),
             (t.4, last, place, branch, t.7, t.8, known, fits, below, refl),
-            after_term (tree.Logic logic left right place) held todo h mid.variable (after last) t.9 t.10,
+            after_term (tree.Logic logic left right place) held todo h mid.variable (next_point last) t.9 t.10,
           ),
         ),
       )
@@ -187,15 +187,15 @@ module _ (c : Setting) (loops : List Loop) (scope : Scope) (p : Point) (locals :
     goes_right =
         let i = h.todo.1 in
         let last = i.1 in
-        let grows = term_grows c.program.functions c.f scope right (after p) i.0 last i.4 in (
+        let grows = term_grows c.program.functions c.f scope right (next_point p) i.0 last i.4 in (
           c.f,
-          jumps c h (p.instr + 1) loops scope (after p) held
+          jumps c h (p.instr + 1) loops scope (next_point p) held
               (map (g c) held) (Evaluate right ∷ Settle ∷ todo) refl (same_inside scope) h.fits h.loop h.below.1 refl (
                 place_of scope last (i.0 ∷ held),
                 (i.0, last, i.4, refl),
                 (
                   h.todo.0,
-                  (d, i.2, i.5, i.6, i.7, i.8, after last, refl, omega arith, omega (arith, h.below.0, grows), i.9),
+                  (d, i.2, i.5, i.6, i.7, i.8, next_point last, refl, omega arith, omega (arith, h.below.0, grows), i.9),
                   h.todo.2,
                 ),
               ),
@@ -207,9 +207,9 @@ module _ (c : Setting) (loops : List Loop) (scope : Scope) (p : Point) (locals :
     goes_short =
         let i = h.todo.1 in
         let last = i.1 in
-        let grows = term_grows c.program.functions c.f scope right (after p) i.0 last i.4 in (
+        let grows = term_grows c.program.functions c.f scope right (next_point p) i.0 last i.4 in (
           c.f,
-          jumps c h (last.instr + 1) loops scope (after last)
+          jumps c h (last.instr + 1) loops scope (next_point last)
               (d ∷ held) (map (g c) (d ∷ held)) todo refl (same_inside scope)
               (fits_grow c.f scope p.variable last.variable grows h.fits) h.loop
               (below_le p.variable last.variable (d ∷ held) grows h.below) refl

@@ -10,7 +10,7 @@ use Rattle.rgo_simulation.specs.Simulations.{SameStates}
 use Rattle.rgo_simulation.proofs.Lift.{following_simulates, start_within}
 use Rattle.rgo_machine.specs.Limits.{deepest}
 use Rattle.rgo_tac.specs.Code as op
-use Rattle.rgo_tac.specs.Code.{TacFn, Tac}
+use Rattle.rgo_tac.specs.Code.{Tac}
 use Rattle.rgo_tac.specs.Frames as tac
 use Rattle.rgo_tac.specs.Tac as low
 use Rattle.rgo_meaning.specs.Frames as source
@@ -18,9 +18,9 @@ use Rattle.rgo_meaning.specs.Frames.{Todo, Evaluate, Each, Perform, Affect, Sett
 use Rattle.rgo_meaning.specs.Frames.{Forget, Clear, Enter, Start, Write, Execute, Sequence, When, Choose, Close, Onward}
 use Rattle.rgo_meaning.specs.Frames.{Turn, Test, Again, Leave, Stay}
 use Rattle.rgo_meaning.specs.Source as high
-use Rattle.rgo_meaning.specs.Source.{function_named, main_frames}
+use Rattle.rgo_meaning.specs.Source.{function_named, source_main_frames}
 use Rattle.rgo_lower.specs.Laws.{LoweringSimulates}
-use Rattle.rgo_lower.specs.Lowered.{Point, Scope, IsLowered}
+use Rattle.rgo_lower.specs.Lowered.{Point, LoweringScope, IsLowered}
 use Rattle.rgo_lower.proofs.follows.Places.{Loop}
 use Rattle.rgo_lower.proofs.follows.Grows.{same_inside}
 use Rattle.rgo_lower.proofs.follows.Size.{size}
@@ -37,7 +37,7 @@ use Rattle.rgo_lower.proofs.follows.Changes.{jumps}
 use Rattle.rgo_lower.proofs.follows.Steps.{Goal, instr_is, together}
 
 module _ (c : Setting) where
-  returned_nothing : (result : Option «Type») (callers : List source.Frame) (lows : List tac.Frame) → result ≡ None
+  returned_nothing : (result : Option «Type») (callers : List source.SourceFrame) (lows : List tac.TacFrame) → result ≡ None
       → CallersAt c.program.functions c.code result callers lows
       → ReturnAlike (high.source c.program) (low.tac c.code) (Goroutines c) None callers lows
   returned_nothing None [] [] e h = tt
@@ -46,8 +46,8 @@ module _ (c : Setting) where
   returned_nothing None (f ∷ callers) [] e h = absurd h
   returned_nothing (Some ty) callers lows e h = cc
 
-  returned_value : (result : Option «Type») (ty : «Type») (v : Value) (callers : List source.Frame)
-      (lows : List tac.Frame) → result ≡ Some ty → CallersAt c.program.functions c.code result callers lows
+  returned_value : (result : Option «Type») (ty : «Type») (v : Value) (callers : List source.SourceFrame)
+      (lows : List tac.TacFrame) → result ≡ Some ty → CallersAt c.program.functions c.code result callers lows
       → ReturnAlike (high.source c.program) (low.tac c.code) (Goroutines c) (Some v) callers lows
   returned_value (Some result) ty v [] [] e h = tt
   returned_value (Some result) ty v (f ∷ callers) (k ∷ lows) e h = (h.0, h.1 v, h.2)
@@ -55,7 +55,7 @@ module _ (c : Setting) where
   returned_value (Some result) ty v (f ∷ callers) [] e h = absurd h
   returned_value None ty v callers lows e h = cc
 
-  module _ (loops : List Loop) (scope : Scope) (p : Point) (locals : List Value) where
+  module _ (loops : List Loop) (scope : LoweringScope) (p : Point) (locals : List Value) where
     end_steps : (held : List ℕ) → Here c loops scope p held locals [] → Goal c (frame_of c locals held [])
     end_steps held h =
         let i = h.todo in
@@ -89,7 +89,7 @@ module _ (c : Setting) where
 
   -- ---- each thing to do
 
-  every_step : (ls : List Loop) (s : Scope) (p : Point) (vs : List Value) (held : List ℕ) (todo : List Todo)
+  every_step : (ls : List Loop) (s : LoweringScope) (p : Point) (vs : List Value) (held : List ℕ) (todo : List Todo)
       → Here c ls s p held vs todo → Goal c (frame_of c vs held todo)
   every_step ls s p vs held [] h = end_steps ls s p vs held h
   every_step ls s p vs held (Evaluate t ∷ todo) h = evaluate_steps c ls s p vs held t todo h
@@ -149,17 +149,17 @@ module _ (c : Setting) where
 
 -- ---- the beginning of a run
 
-few : (o : Option Function) → length (main_frames o) ≤ deepest
+few : (o : Option Function) → length (source_main_frames o) ≤ deepest
 few None = omega arith
 few (Some s) = omega arith
 
 -- ---- goroutines
 
 module _ (program : Typed) (code : Tac) (lowered : IsLowered program code) where
-  abbrev M : List source.Frame → List tac.Frame → Type 0
+  abbrev M : List source.SourceFrame → List tac.TacFrame → Type 0
   M fs gs = Stacks program.functions code fs gs
 
-  step : (frame : source.Frame) (callers : List source.Frame) (other : tac.Frame) (lows : List tac.Frame)
+  step : (frame : source.SourceFrame) (callers : List source.SourceFrame) (other : tac.TacFrame) (lows : List tac.TacFrame)
       → M (frame ∷ callers) (other ∷ lows)
       → Stutters (high.source program) (low.tac code) M callers lows size frame other
       ⊎ Together (high.source program) (low.tac code) M callers lows frame other
@@ -175,7 +175,7 @@ module _ (program : Typed) (code : Tac) (lowered : IsLowered program code) where
         lows = lows;
         below = h.2;
       } in
-      let with_values : List Value → source.Frame =
+      let with_values : List Value → source.SourceFrame =
       λ vs. record { locals = frame.locals; values = vs; todo = frame.todo } in
       subst
       (λ vs. Matches program.functions code h.0 a.0 a.1 a.2 a.3 (with_values vs) other
@@ -183,14 +183,14 @@ module _ (program : Typed) (code : Tac) (lowered : IsLowered program code) where
       ⊎ Together (high.source program) (low.tac code) M callers lows (with_values vs) other)
       a.4.values (λ k. every_step c a.0 a.1 a.2 frame.locals a.3 frame.todo k) a.4
 
-  callers_depth : (result : Option «Type») (fs : List source.Frame) (gs : List tac.Frame)
+  callers_depth : (result : Option «Type») (fs : List source.SourceFrame) (gs : List tac.TacFrame)
       → CallersAt program.functions code result fs gs → length gs ≡ length fs
   callers_depth result [] [] h = refl
   callers_depth result (f ∷ fs) (k ∷ gs) h = ap suc (callers_depth h.0.result_type fs gs h.2)
   callers_depth result [] (k ∷ gs) h = absurd h
   callers_depth result (f ∷ fs) [] h = absurd h
 
-  depth : (fs : List source.Frame) (gs : List tac.Frame) → M fs gs → length gs ≡ length fs
+  depth : (fs : List source.SourceFrame) (gs : List tac.TacFrame) → M fs gs → length gs ≡ length fs
   depth [] [] h = refl
   depth (f ∷ fs) (k ∷ gs) h = ap suc (callers_depth h.0.result_type fs gs h.2)
   depth [] (k ∷ gs) h = absurd h
@@ -215,5 +215,5 @@ pub lowering_simulates : LoweringSimulates
 lowering_simulates program code lowered =
     following_simulates (high.source program) (low.tac code) (Stacks program.functions code) size
     (follows program code lowered) (high.source_start program) (low.tac_start code) (starts program code lowered)
-    (start_within (opening program.variables) (main_frames (function_named (codes "main") program.functions))
+    (start_within (opening program.variables) (source_main_frames (function_named (codes "main") program.functions))
     (few (function_named (codes "main") program.functions)))

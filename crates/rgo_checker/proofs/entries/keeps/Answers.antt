@@ -3,7 +3,7 @@ use Rattle.std.specs.Bool.{Decides}
 use Rattle.rgo_code.specs.NameRules.{EntryLendsResult}
 use Rattle.rgo_checker.specs.ClassTests.{is_free}
 use Rattle.rgo_checker.specs.Instrs.{EntryKept}
-use Rattle.rgo_checker.proofs.LendingLaws.{entry_lends_decided}
+use Rattle.rgo_checker.proofs.decides.LendingLaws.{entry_lends_decided}
 use Rattle.rgo_checker.proofs.entries.keeps.Goals as goal
 
 pub returns-in-Entry : goal.returns-in-Entry

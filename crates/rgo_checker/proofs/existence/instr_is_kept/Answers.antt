@@ -4,8 +4,8 @@ use Rattle.rgo_tac.specs.Ops.{op_in, operation_of}
 use Rattle.rgo_code.specs.declared.rules.Rule.TheVariants as rule
 use Rattle.rgo_checker.specs.Tests.{instr_exists}
 use Rattle.rgo_checker.proofs.Deciding.{always}
-use Rattle.rgo_checker.proofs.ExistenceWalk.{no_instr}
-use Rattle.rgo_checker.proofs.InstrLaws.{exists_kept}
+use Rattle.rgo_checker.proofs.walks.ExistenceWalk.{no_instr}
+use Rattle.rgo_checker.proofs.decides.InstrLaws.{exists_kept}
 use Rattle.rgo_checker.proofs.existence.instr_is_kept.Goals as goal
 
 pub returns-in-Some : goal.returns-in-Some

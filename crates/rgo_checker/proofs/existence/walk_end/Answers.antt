@@ -1,4 +1,4 @@
-use Rattle.rgo_checker.proofs.ExistenceWalk.{end_walked}
+use Rattle.rgo_checker.proofs.walks.ExistenceWalk.{end_walked}
 use Rattle.rgo_checker.proofs.existence.walk_end.Goals as goal
 
 pub returns : goal.returns

@@ -1,4 +1,4 @@
-use Rattle.rgo_checker.proofs.ExistenceWalk.{entry_walked}
+use Rattle.rgo_checker.proofs.walks.ExistenceWalk.{entry_walked}
 use Rattle.rgo_checker.proofs.existence.walk_entry.Goals as goal
 
 pub returns : goal.returns

@@ -1,4 +1,4 @@
-use Rattle.rgo_checker.proofs.Outcome.{existence}
+use Rattle.rgo_checker.proofs.outcomes.Outcome.{existence}
 use Rattle.rgo_checker.proofs.existence.walk_existence.Goals as goal
 
 pub returns : goal.returns

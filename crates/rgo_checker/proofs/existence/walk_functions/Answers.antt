@@ -3,11 +3,11 @@ use Rattle.std.proofs.lemmas.List.{take_all}
 use Rattle.rgo_checker.specs.Lines.{functions_lines}
 use Rattle.rgo_checker.specs.Naming.{fn_names}
 use Rattle.rgo_checker.specs.Scan.{Walks}
-use Rattle.rgo_checker.proofs.ExistenceWalk.{name_at}
+use Rattle.rgo_checker.proofs.walks.ExistenceWalk.{name_at}
 use Rattle.rgo_checker.proofs.Getting.{there}
-use Rattle.rgo_checker.proofs.NamingLaws.{no_names, names_next}
-use Rattle.rgo_checker.proofs.Scanning.{walks_none}
-use Rattle.rgo_checker.proofs.WalkLaws.{functions_walked}
+use Rattle.rgo_checker.proofs.decides.NamingLaws.{no_names, names_next}
+use Rattle.rgo_checker.proofs.walks.Scanning.{walks_none}
+use Rattle.rgo_checker.proofs.walks.WalkLaws.{functions_walked}
 use Rattle.rgo_checker.proofs.existence.walk_functions.Goals as goal
 
 pub loop-n-init : goal.loop-n-init

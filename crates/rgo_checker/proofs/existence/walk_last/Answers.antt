@@ -1,6 +1,6 @@
 use Rattle.std.proofs.Common.{◌∙◌, ap}
 use Rattle.rgo_checker.specs.Tests.{has_main}
-use Rattle.rgo_checker.proofs.ExistenceWalk.{last_walked}
+use Rattle.rgo_checker.proofs.walks.ExistenceWalk.{last_walked}
 use Rattle.rgo_checker.proofs.existence.walk_last.Goals as goal
 
 pub returns : goal.returns

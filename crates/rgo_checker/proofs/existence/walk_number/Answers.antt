@@ -2,14 +2,14 @@ use Rattle.std.proofs.Common.{◌≡◌, ◌∙◌, ◌∷◌, ◌++◌, [], Som
 use Rattle.std.proofs.lemmas.Option.{same_Some, none-some}
 use Rattle.std.proofs.lemmas.Result.{on_ok_weaker}
 use Rattle.rgo_checker.specs.Lines.{fn_lines}
-use Rattle.rgo_checker.specs.Naming.{AreNames}
+use Rattle.rgo_checker.specs.Naming.{SetHasNames}
 use Rattle.rgo_checker.specs.Scan.{Walks}
 use Rattle.rgo_checker.proofs.existence.walk_number.Goals as goal
 
 pub returns-in-Some-clause-names : goal.returns-in-Some-clause-names
 returns-in-Some-clause-names c =
     on_ok_weaker c.walk_function.result
-    (λ e f there seen h. subst (λ x. AreNames c.walk_function.new.names (seen ++ x.name ∷ []))
+    (λ e f there seen h. subst (λ x. SetHasNames c.walk_function.new.names (seen ++ x.name ∷ []))
     (same_Some c.in-Some.f f (sym c.in-Some.is ∙ c.function.ensures ∙ there)) (e seen h))
     c.walk_function.ensures.names
 

@@ -2,7 +2,7 @@ use Rattle.std.proofs.Common.{◌∙◌, true, refl}
 use Rattle.rgo_tac.specs.Ops.{operation_of}
 use Rattle.rgo_checker.specs.Tests.{instr_exists, op_fits}
 use Rattle.rgo_checker.proofs.Deciding.{on_ok}
-use Rattle.rgo_checker.proofs.InstrLaws.{exists_kept, types_kept, joins_kept, globals_kept, returns_kept, calls_kept, starts_kept, lending_kept, endings_kept, classes_kept, entry_kept}
+use Rattle.rgo_checker.proofs.decides.InstrLaws.{exists_kept, types_kept, joins_kept, globals_kept, returns_kept, calls_kept, starts_kept, lending_kept, endings_kept, classes_kept, entry_kept}
 use Rattle.rgo_checker.proofs.instructions.keeps.Goals as goal
 
 pub returns-in-Exists : goal.returns-in-Exists

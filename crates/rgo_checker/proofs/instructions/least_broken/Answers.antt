@@ -1,7 +1,7 @@
 use Rattle.std.proofs.Common.{◌∙◌, slice_get, sym, ap}
 use Rattle.std.specs.Option.{option_map}
 use Rattle.rgo_tac.specs.Ops.{op_in, operation_of}
-use Rattle.rgo_checker.proofs.ExistenceWalk.{no_instr}
+use Rattle.rgo_checker.proofs.walks.ExistenceWalk.{no_instr}
 use Rattle.rgo_checker.proofs.instructions.least_broken.Goals as goal
 
 pub least_broken_by-requires-clause-here : goal.least_broken_by-requires-clause-here

@@ -1,7 +1,7 @@
 use Rattle.std.proofs.Common.{◌∙◌, sym, arith}
 use Rattle.std.proofs.lemmas.Bool.{false≢true}
 use Rattle.rgo_checker.specs.Instrs.{InstrKept}
-use Rattle.rgo_checker.proofs.RuleOrder.{more_kept, broken_here, none_broken, all_kept}
+use Rattle.rgo_checker.proofs.outcomes.RuleOrder.{more_kept, broken_here, none_broken, all_kept}
 use Rattle.rgo_checker.proofs.instructions.least_broken_by.Goals as goal
 
 pub returns-then-number-limit : goal.returns-then-number-limit

@@ -1,4 +1,4 @@
-use Rattle.rgo_checker.proofs.OneOutcome.{one_outcome}
+use Rattle.rgo_checker.proofs.outcomes.OneOutcome.{one_outcome}
 use Rattle.rgo_checker.proofs.laws.one_outcome.Goals as goal
 
 pub returns : goal.returns

@@ -1,4 +1,4 @@
-use Rattle.rgo_checker.proofs.NamingLaws.{adds_of}
+use Rattle.rgo_checker.proofs.decides.NamingLaws.{adds_of}
 use Rattle.rgo_checker.proofs.naming.add.Goals as goal
 
 pub returns-in-Ok : goal.returns-in-Ok

@@ -1,6 +1,6 @@
 use Rattle.std.proofs.Common.{subst}
 use Rattle.rgo_checker.specs.ClassTests.{ArePlaces}
-use Rattle.rgo_checker.proofs.PassingLaws.{distinct_of}
+use Rattle.rgo_checker.proofs.decides.PassingLaws.{distinct_of}
 use Rattle.rgo_checker.proofs.parameters.parameters_of.Goals as goal
 
 pub invariant_of-result : goal.invariant_of-result

@@ -1,6 +1,6 @@
 use Rattle.std.proofs.Common.{arith}
 use Rattle.rgo_checker.proofs.Getting.{there}
-use Rattle.rgo_checker.proofs.PlaceLaws.{places_more, places_all}
+use Rattle.rgo_checker.proofs.decides.PlaceLaws.{places_more, places_all}
 use Rattle.rgo_checker.proofs.parameters.places_of.Goals as goal
 
 pub loop-p-preserved : goal.loop-p-preserved

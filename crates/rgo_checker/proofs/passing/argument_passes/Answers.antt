@@ -1,6 +1,6 @@
 use Rattle.std.proofs.Common.{◌≡◌, ◌<◌, ◌∙◌, ap, arith}
 use Rattle.rgo_checker.proofs.Deciding.{always}
-use Rattle.rgo_checker.proofs.PassingLaws.{argument_decided}
+use Rattle.rgo_checker.proofs.decides.PassingLaws.{argument_decided}
 use Rattle.rgo_checker.proofs.passing.argument_passes.Goals as goal
 
 pub returns-then-i-params : goal.returns-then-i-params

@@ -3,7 +3,7 @@ use Rattle.std.proofs.lemmas.Bool.{false≢true}
 use Rattle.std.proofs.lemmas.Option.{slice_get-get_or, slice_get_within}
 use Rattle.rgo_checker.specs.ClassTests.{ArgumentPasses}
 use Rattle.rgo_checker.proofs.Deciding.{always, never}
-use Rattle.rgo_checker.proofs.PassingLaws.{more_pass}
+use Rattle.rgo_checker.proofs.decides.PassingLaws.{more_pass}
 use Rattle.rgo_checker.proofs.passing.arguments_pass.Goals as goal
 
 pub returns-then-not-passed : goal.returns-then-not-passed

@@ -3,7 +3,7 @@ use Rattle.std.specs.Option.{option_map}
 use Rattle.rgo_tac.specs.Ops.{operation_of}
 use Rattle.rgo_checker.specs.ClassTests.{called}
 use Rattle.rgo_checker.proofs.Deciding.{always, on_ok}
-use Rattle.rgo_checker.proofs.PassingLaws.{called_decided, no_call}
+use Rattle.rgo_checker.proofs.decides.PassingLaws.{called_decided, no_call}
 use Rattle.rgo_checker.proofs.passing.calls_pass.Goals as goal
 
 pub returns-in-Some : goal.returns-in-Some

@@ -1,7 +1,7 @@
 use Rattle.std.proofs.Common.{sym, subst}
 use Rattle.std.specs.Bool.{Decides}
 use Rattle.rgo_code.specs.ClassRules.{IsPassedFor}
-use Rattle.rgo_checker.proofs.PassingLaws.{passed_for_decided}
+use Rattle.rgo_checker.proofs.decides.PassingLaws.{passed_for_decided}
 use Rattle.rgo_checker.proofs.passing.is_passed_for.Goals as goal
 
 pub returns : goal.returns

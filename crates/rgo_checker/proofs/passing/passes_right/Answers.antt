@@ -1,7 +1,7 @@
 use Rattle.std.proofs.Common.{◌&&◌, ◌∙◌, length, nat_eq, sym, ap, subst}
 use Rattle.std.specs.Bool.{Decides}
-use Rattle.rgo_code.specs.ClassRules.{Passes}
-use Rattle.rgo_checker.proofs.PassingLaws.{passes_decided}
+use Rattle.rgo_code.specs.ClassRules.{PassesClasses}
+use Rattle.rgo_checker.proofs.decides.PassingLaws.{passes_decided}
 use Rattle.rgo_checker.proofs.passing.passes_right.Goals as goal
 
 pub returns : goal.returns
@@ -9,7 +9,7 @@ returns c =
     let classes = c.in_ok-parameters.parameters.classes.items in
     let arguments = c.arguments_pass-arguments.result in
     let target = c.target_passes-target.result in
-    subst (λ b. Decides b (Passes c.args.f.now c.args.callee.now c.args.to c.args.from.now c.args.passes.now))
+    subst (λ b. Decides b (PassesClasses c.args.f.now c.args.callee.now c.args.to c.args.from.now c.args.passes.now))
     (sym (c.all_three.ensures ∙ ap (λ b. b && (arguments && target))
     (c.same_len.ensures ∙ ap (λ cs. nat_eq (length c.args.passes.now) (length cs)) c.deref.ensures.value)))
     (passes_decided c.args.f.now c.args.callee.now c.args.to c.args.from.now classes c.args.passes.now

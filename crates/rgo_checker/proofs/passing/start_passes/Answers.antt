@@ -2,7 +2,7 @@ use Rattle.std.proofs.Common.{◌∙◌, ◌&&◌, slice_get, sym, subst}
 use Rattle.std.specs.Bool.{Decides}
 use Rattle.rgo_code.specs.ClassRules.{StartPasses}
 use Rattle.rgo_checker.proofs.Deciding.{always}
-use Rattle.rgo_checker.proofs.PassingLaws.{start_decided}
+use Rattle.rgo_checker.proofs.decides.PassingLaws.{start_decided}
 use Rattle.rgo_checker.proofs.passing.start_passes.Goals as goal
 
 pub returns-in_ok-passed-in-Some : goal.returns-in_ok-passed-in-Some

@@ -3,7 +3,7 @@ use Rattle.std.specs.Option.{option_map}
 use Rattle.rgo_tac.specs.Ops.{operation_of}
 use Rattle.rgo_checker.specs.ClassTests.{called}
 use Rattle.rgo_checker.proofs.Deciding.{always, on_ok}
-use Rattle.rgo_checker.proofs.PassingLaws.{started_decided, no_start}
+use Rattle.rgo_checker.proofs.decides.PassingLaws.{started_decided, no_start}
 use Rattle.rgo_checker.proofs.passing.starts_pass.Goals as goal
 
 pub returns-in-Some : goal.returns-in-Some

@@ -1,5 +1,5 @@
 use Rattle.rgo_checker.proofs.Deciding.{always}
-use Rattle.rgo_checker.proofs.PassingLaws.{target_decided, no_target}
+use Rattle.rgo_checker.proofs.decides.PassingLaws.{target_decided, no_target}
 use Rattle.rgo_checker.proofs.passing.target_passes.Goals as goal
 
 pub returns-in-Some : goal.returns-in-Some

@@ -1,6 +1,6 @@
 use Rattle.std.proofs.Common.{◌∙◌, bytes_eq, ap}
 use Rattle.rgo_tac.specs.Ops.{operation_of}
-use Rattle.rgo_checker.proofs.RegionLaws.{creates_kept}
+use Rattle.rgo_checker.proofs.decides.RegionLaws.{creates_kept}
 use Rattle.rgo_checker.proofs.regions.creates_used.Goals as goal
 
 pub creations-requires : goal.creations-requires

@@ -1,7 +1,7 @@
 use Rattle.std.proofs.Common.{◌∙◌, nat_eq, ap}
 use Rattle.std.specs.HashSet.{contains}
 use Rattle.std.specs.List.{list_all}
-use Rattle.rgo_checker.proofs.RegionLaws.{entry_known_kept}
+use Rattle.rgo_checker.proofs.decides.RegionLaws.{entry_known_kept}
 use Rattle.rgo_checker.proofs.regions.entry_known.Goals as goal
 
 pub holds_at_entry-requires : goal.holds_at_entry-requires

@@ -1,5 +1,5 @@
 use Rattle.std.proofs.Common.{◌∙◌, bytes_eq, ap}
-use Rattle.rgo_checker.proofs.RegionLaws.{entry_removes_kept}
+use Rattle.rgo_checker.proofs.decides.RegionLaws.{entry_removes_kept}
 use Rattle.rgo_checker.proofs.regions.entry_removes_dead.Goals as goal
 
 pub entry_removals-requires : goal.entry_removals-requires

@@ -2,7 +2,7 @@ use Rattle.std.proofs.Common.{◌∙◌, None, sym, subst}
 use Rattle.rgo_region_sets.specs.Sets.{IsSet}
 use Rattle.rgo_checker.specs.Regions.{GivenTo}
 use Rattle.rgo_checker.proofs.Deciding.{on_ok}
-use Rattle.rgo_checker.proofs.RegionLaws.{empty_set}
+use Rattle.rgo_checker.proofs.decides.RegionLaws.{empty_set}
 use Rattle.rgo_checker.proofs.regions.given.Goals as goal
 
 pub returns-in-Some : goal.returns-in-Some

@@ -5,7 +5,7 @@ use Rattle.std.specs.Bool.{Decides}
 use Rattle.std.specs.HashSet.{contains}
 use Rattle.rgo_typed.specs.declared.types.Type.{«Type»}
 use Rattle.rgo_tac.specs.declared.regions.Class.TheVariants.{Name}
-use Rattle.rgo_checker.proofs.RegionLaws.{names_more, parameters_all, no_parameters}
+use Rattle.rgo_checker.proofs.decides.RegionLaws.{names_more, parameters_all, no_parameters}
 use Rattle.rgo_checker.proofs.regions.parameter_names.Goals as goal
 
 pub loop-v-init : goal.loop-v-init

@@ -1,6 +1,6 @@
 use Rattle.std.proofs.Common.{◌∙◌, bytes_eq, true, sym, refl, ap}
 use Rattle.rgo_tac.specs.Ops.{operation_of}
-use Rattle.rgo_checker.proofs.RegionLaws.{protects_kept, no_call_kept}
+use Rattle.rgo_checker.proofs.decides.RegionLaws.{protects_kept, no_call_kept}
 use Rattle.rgo_checker.proofs.regions.protects_used.Goals as goal
 
 pub returns-then-not-is_call : goal.returns-then-not-is_call

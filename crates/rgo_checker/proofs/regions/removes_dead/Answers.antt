@@ -3,7 +3,7 @@ use Rattle.std.specs.List.Sorted.{IsStrictlyIncreasing}
 use Rattle.rgo_tac.specs.Ops.{operation_of}
 use Rattle.rgo_region_sets.specs.Sets.{IsSet}
 use Rattle.rgo_checker.specs.Regions.{GivenBy}
-use Rattle.rgo_checker.proofs.RegionLaws.{removes_kept, protects_rise}
+use Rattle.rgo_checker.proofs.decides.RegionLaws.{removes_kept, protects_rise}
 use Rattle.rgo_checker.proofs.regions.removes_dead.Goals as goal
 
 pub given-requires : goal.given-requires

@@ -2,7 +2,7 @@ use Rattle.std.proofs.Common.{◌≡◌, ◌∙◌, List, length, ap, arith}
 use Rattle.rgo_tac.specs.Code.{TacFn}
 use Rattle.rgo_code.specs.Lines.{lines_before}
 use Rattle.rgo_checker.specs.Sizes.{functions_lines}
-use Rattle.rgo_checker.proofs.Counting.{erased_lines}
+use Rattle.rgo_checker.proofs.walks.Counting.{erased_lines}
 use Rattle.rgo_checker.proofs.sizes.last_line.Goals as goal
 
 pub returns : goal.returns

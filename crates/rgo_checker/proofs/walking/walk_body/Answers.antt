@@ -4,8 +4,8 @@ use Rattle.rgo_code.specs.declared.rules.Line.TheVariants.{Instr as InstrLine}
 use Rattle.rgo_code.specs.Erasure.{erased_instr}
 use Rattle.rgo_checker.specs.Lines.{first_lines}
 use Rattle.rgo_checker.specs.Scan.{Walks}
-use Rattle.rgo_checker.proofs.Scanning.{walks_none}
-use Rattle.rgo_checker.proofs.WalkLaws.{walks_more}
+use Rattle.rgo_checker.proofs.walks.Scanning.{walks_none}
+use Rattle.rgo_checker.proofs.walks.WalkLaws.{walks_more}
 use Rattle.rgo_checker.proofs.walking.walk_body.Goals as goal
 
 pub loop-at-init : goal.loop-at-init

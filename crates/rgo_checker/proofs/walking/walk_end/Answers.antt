@@ -1,4 +1,4 @@
-use Rattle.rgo_checker.proofs.WalkLaws.{end_walked}
+use Rattle.rgo_checker.proofs.walks.WalkLaws.{end_walked}
 use Rattle.rgo_checker.proofs.walking.walk_end.Goals as goal
 
 pub returns : goal.returns

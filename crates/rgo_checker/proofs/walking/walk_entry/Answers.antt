@@ -1,4 +1,4 @@
-use Rattle.rgo_checker.proofs.WalkLaws.{entry_walked}
+use Rattle.rgo_checker.proofs.walks.WalkLaws.{entry_walked}
 use Rattle.rgo_checker.proofs.walking.walk_entry.Goals as goal
 
 pub returns : goal.returns

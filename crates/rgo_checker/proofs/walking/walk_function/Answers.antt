@@ -1,4 +1,4 @@
-use Rattle.rgo_checker.proofs.WalkLaws.{fn_walked}
+use Rattle.rgo_checker.proofs.walks.WalkLaws.{fn_walked}
 use Rattle.rgo_checker.proofs.walking.walk_function.Goals as goal
 
 pub walk_entry-requires : goal.walk_entry-requires

@@ -3,8 +3,8 @@ use Rattle.std.proofs.lemmas.List.{take_all}
 use Rattle.rgo_checker.specs.Lines.{functions_lines}
 use Rattle.rgo_checker.specs.Scan.{Walks}
 use Rattle.rgo_checker.proofs.Getting.{there}
-use Rattle.rgo_checker.proofs.Scanning.{walks_none}
-use Rattle.rgo_checker.proofs.WalkLaws.{functions_walked}
+use Rattle.rgo_checker.proofs.walks.Scanning.{walks_none}
+use Rattle.rgo_checker.proofs.walks.WalkLaws.{functions_walked}
 use Rattle.rgo_checker.proofs.walking.walk_functions.Goals as goal
 
 pub loop-n-init : goal.loop-n-init

@@ -1,6 +1,6 @@
 use Rattle.std.proofs.Common.{◌∙◌, ap}
 use Rattle.rgo_checker.specs.ClassTests.{result_fits}
-use Rattle.rgo_checker.proofs.WalkLaws.{head_walked}
+use Rattle.rgo_checker.proofs.walks.WalkLaws.{head_walked}
 use Rattle.rgo_checker.proofs.walking.walk_head.Goals as goal
 
 pub returns : goal.returns

@@ -1,4 +1,4 @@
-use Rattle.rgo_checker.proofs.WalkLaws.{instr_walked}
+use Rattle.rgo_checker.proofs.walks.WalkLaws.{instr_walked}
 use Rattle.rgo_checker.proofs.walking.walk_instr.Goals as goal
 
 pub returns : goal.returns

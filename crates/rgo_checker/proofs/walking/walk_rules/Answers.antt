@@ -1,5 +1,5 @@
 use Rattle.std.proofs.Common.{◌≡◌, ◌+◌, length, arith}
-use Rattle.rgo_checker.proofs.Outcome.{rules}
+use Rattle.rgo_checker.proofs.outcomes.Outcome.{rules}
 use Rattle.rgo_checker.proofs.walking.walk_rules.Goals as goal
 
 pub returns : goal.returns

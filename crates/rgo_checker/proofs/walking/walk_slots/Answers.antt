@@ -6,8 +6,8 @@ use Rattle.rgo_code.specs.declared.rules.Line.TheVariants.{Slot as SlotLine}
 use Rattle.rgo_checker.specs.ClassTests.{class_fits}
 use Rattle.rgo_checker.specs.Lines.{first_lines}
 use Rattle.rgo_checker.specs.Scan.{Walks}
-use Rattle.rgo_checker.proofs.Scanning.{walks_none}
-use Rattle.rgo_checker.proofs.WalkLaws.{walks_more, slot_walked}
+use Rattle.rgo_checker.proofs.walks.Scanning.{walks_none}
+use Rattle.rgo_checker.proofs.walks.WalkLaws.{walks_more, slot_walked}
 use Rattle.rgo_checker.proofs.walking.walk_slots.Goals as goal
 
 pub loop-v-init : goal.loop-v-init

@@ -8,7 +8,7 @@ use Rattle.rgo_code.specs.Views.{code_op}
 use Rattle.rgo_code_text.specs.Building.{names_now, numbered_op}
 use Rattle.rgo_code_text.specs.Opened.{open_of, ListsBelow, HasOneMore}
 use Rattle.rgo_code_text.specs.Views.{named_op_of}
-use Rattle.rgo_code_text.proofs.Opening.{instr_added, all_below, at_end, parts_same}
+use Rattle.rgo_code_text.proofs.code_of_lines.Opening.{instr_added, all_below, at_end, parts_same}
 use Rattle.rgo_code_words.proofs.Options.{on_ok}
 use Rattle.rgo_code_text.proofs.building.add_instr.Goals as goal
 

@@ -2,7 +2,7 @@ use Rattle.std.proofs.Common.{◌≡◌, ◌∙◌, ◌++◌, ◌∷◌, [], ap}
 use Rattle.rgo_code.specs.Code.{CodeFn}
 use Rattle.rgo_code.specs.Views.{slot, slots}
 use Rattle.rgo_code_text.specs.Opened.{open_of}
-use Rattle.rgo_code_text.proofs.Opening.{slots_push}
+use Rattle.rgo_code_text.proofs.code_of_lines.Opening.{slots_push}
 use Rattle.rgo_code_text.proofs.building.add_slot.Goals as goal
 
 pub returns-clause-function : goal.returns-clause-function

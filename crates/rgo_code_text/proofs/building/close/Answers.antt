@@ -2,8 +2,8 @@ use Rattle.std.proofs.Common.{◌≡◌, ◌∙◌, ◌++◌, ◌∷◌, [], ap,
 use Rattle.rgo_code.specs.Code.{CodeFn}
 use Rattle.rgo_code.specs.Views.{code_fns}
 use Rattle.rgo_code_text.specs.CodeLines.{Building, no_function}
-use Rattle.rgo_code_text.specs.Opened.{open_of, building_of, HasRoom}
-use Rattle.rgo_code_text.proofs.Opening.{fns_push}
+use Rattle.rgo_code_text.specs.Opened.{open_of, building_of, FunctionHasRoom}
+use Rattle.rgo_code_text.proofs.code_of_lines.Opening.{fns_push}
 use Rattle.rgo_code_text.proofs.building.close.Goals as goal
 
 pub returns-clause-ended : goal.returns-clause-ended
@@ -25,4 +25,4 @@ returns-clause-ended c =
     ∙ ap (λ (g : CodeFn). record old { functions = old.functions ++ old.current ∷ []; current = g }) current
 
 pub completed-requires : goal.completed-requires
-completed-requires c = subst HasRoom (sym c.replace-complete.ensures.value) c.requires.room
+completed-requires c = subst FunctionHasRoom (sym c.replace-complete.ensures.value) c.requires.room

@@ -9,8 +9,8 @@ use Rattle.rgo_code_text.specs.CodeLines.{Building, nothing, with_lines}
 use Rattle.rgo_code_printing.specs.Text.{Names}
 use Rattle.rgo_code_text.specs.Sizes.{HaveNumbers}
 use Rattle.rgo_code_text.specs.Views.{item_of}
-use Rattle.rgo_code_text.proofs.Fitting.{PartsFit, fits_ascends, all_fit, nothing_fits}
-use Rattle.rgo_code_text.proofs.Opening.{built_same}
+use Rattle.rgo_code_text.proofs.code_of_lines.Fitting.{PartsFit, fits_ascends, all_fit, nothing_fits}
+use Rattle.rgo_code_text.proofs.code_of_lines.Opening.{built_same}
 use Rattle.rgo_code_text.proofs.building.code.Goals as goal
 
 pub new-requires-5-clause-ascends : goal.new-requires-5-clause-ascends

@@ -5,8 +5,8 @@ use Rattle.std.proofs.lemmas.List.{length-map, map_push}
 use Rattle.rgo_code_text.specs.Building.{names_now, numbered}
 use Rattle.rgo_code_text.specs.CodeLines.{nothing, with_line, with_lines}
 use Rattle.rgo_code_text.specs.Views.{item_of}
-use Rattle.rgo_code_text.proofs.Few.{has_room}
-use Rattle.rgo_code_text.proofs.Opening.{lines_push}
+use Rattle.rgo_code_text.proofs.code_of_lines.Few.{has_room}
+use Rattle.rgo_code_text.proofs.code_of_lines.Opening.{lines_push}
 use Rattle.rgo_code_text.proofs.building.collected.Goals as goal
 
 pub loop-item-preserved : goal.loop-item-preserved

@@ -1,4 +1,4 @@
-use Rattle.rgo_code_text.proofs.Opening.{fn_completed}
+use Rattle.rgo_code_text.proofs.code_of_lines.Opening.{fn_completed}
 use Rattle.rgo_code_text.proofs.building.completed.Goals as goal
 
 pub returns : goal.returns

@@ -7,7 +7,7 @@ use Rattle.rgo_code_words.specs.Cuts.{nows, word_at}
 use Rattle.rgo_code_text.specs.Ops.{call_note, read_callee}
 use Rattle.rgo_code_words.specs.Readers.{read_value}
 use Rattle.rgo_code_text.specs.Views.{callee_of}
-use Rattle.rgo_code_text.proofs.CallNotes.{call_is}
+use Rattle.rgo_code_text.proofs.op_lines.CallNotes.{call_is}
 use Rattle.rgo_code_text.proofs.calls.call.Goals as goal
 
 pub returns-in_default : goal.returns-in_default

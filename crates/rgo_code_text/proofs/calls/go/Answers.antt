@@ -4,7 +4,7 @@ use Rattle.std.proofs.lemmas.List.{length-map}
 use Rattle.rgo_code_words.specs.Cuts.{nows, word_at}
 use Rattle.rgo_code_text.specs.Ops.{go_note, read_callee}
 use Rattle.rgo_code_text.specs.Views.{callee_of}
-use Rattle.rgo_code_text.proofs.CallNotes.{go_is}
+use Rattle.rgo_code_text.proofs.op_lines.CallNotes.{go_is}
 use Rattle.rgo_code_text.proofs.calls.go.Goals as goal
 
 pub returns-in_default : goal.returns-in_default

@@ -2,7 +2,7 @@ use Rattle.std.proofs.Common.{◌≡◌, ◌-◌, true, length, take, drop, Some
 use Rattle.std.specs.Option.{option_map}
 use Rattle.rgo_code_words.specs.Readers.{inside, seen}
 use Rattle.rgo_code_words.specs.Worded.{is_name}
-use Rattle.rgo_code_text.proofs.CallNotes.{callee_by}
+use Rattle.rgo_code_text.proofs.op_lines.CallNotes.{callee_by}
 use Rattle.rgo_code_words.proofs.ListFacts.{rest_of}
 use Rattle.rgo_code_text.proofs.calls.read_callee.Goals as goal
 

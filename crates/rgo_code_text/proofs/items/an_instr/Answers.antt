@@ -7,7 +7,7 @@ use Rattle.rgo_code_text.specs.Lines.{InstrFits}
 use Rattle.rgo_code_text.specs.Ops.{op_text, NamedOpFits}
 use Rattle.rgo_code_words.specs.Readers.{IsRead, read_number, read_lettered, read_regions}
 use Rattle.rgo_code_text.specs.Views.{named_op_of}
-use Rattle.rgo_code_text.proofs.Instrs.{wrong_count, wrong_index, wrong_place, wrong_creates, wrong_op, instr_is}
+use Rattle.rgo_code_text.proofs.op_lines.Instrs.{wrong_count, wrong_index, wrong_place, wrong_creates, wrong_op, instr_is}
 use Rattle.rgo_code_text.proofs.items.an_instr.Goals as goal
 
 pub returns-then-words-ne4 : goal.returns-then-words-ne4

@@ -6,7 +6,7 @@ use Rattle.rgo_code_words.specs.Cuts.{is_space, cut, nows}
 use Rattle.rgo_code_text.specs.Items.{ItemFits, item_line}
 use Rattle.rgo_code_words.specs.Readers.{IsRead}
 use Rattle.rgo_code_text.specs.Views.{item_of}
-use Rattle.rgo_code_text.proofs.LinesBack.{head_read, end_read}
+use Rattle.rgo_code_text.proofs.line_forms.LinesBack.{head_read, end_read}
 use Rattle.rgo_code_words.proofs.Options.{if_ok}
 use Rattle.rgo_code_text.proofs.items.read_item.Goals as goal
 

@@ -9,7 +9,7 @@ use Rattle.rgo_code_text.specs.Items.{Item, ItemFits, item_line}
 use Rattle.rgo_code_text.specs.Lines.{IsCut, InstrFits, spaces, struct_of, global_of, function_of, slot_of, entry_of}
 use Rattle.rgo_code_words.specs.Readers.{IsRead}
 use Rattle.rgo_code_text.specs.Views.{item_of}
-use Rattle.rgo_code_text.proofs.LinesBack.{struct_read, global_read, function_read, slot_read, entry_read, instr_read}
+use Rattle.rgo_code_text.proofs.line_forms.LinesBack.{struct_read, global_read, function_read, slot_read, entry_read, instr_read}
 use Rattle.rgo_code_words.proofs.Options.{if_ok}
 use Rattle.rgo_code_text.proofs.items.worded_item.Goals as goal
 

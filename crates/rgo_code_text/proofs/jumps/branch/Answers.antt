@@ -6,8 +6,8 @@ use Rattle.rgo_code.specs.declared.notes.Note.{Note}
 use Rattle.rgo_code_words.specs.Cuts.{nows, word_at}
 use Rattle.rgo_code_text.specs.Ops.{branch_of, removing}
 use Rattle.rgo_code_words.specs.Readers.{read_regions}
-use Rattle.rgo_code_text.proofs.ActionOps.{simple_op}
-use Rattle.rgo_code_text.proofs.CallNotes.{branch_is}
+use Rattle.rgo_code_text.proofs.op_lines.ActionOps.{simple_op}
+use Rattle.rgo_code_text.proofs.op_lines.CallNotes.{branch_is}
 use Rattle.rgo_code_text.proofs.jumps.branch.Goals as goal
 
 pub returns-in_default : goal.returns-in_default

@@ -4,8 +4,8 @@ use Rattle.rgo_tac.specs.declared.code.Instr.TheVariants as code
 use Rattle.rgo_code_words.specs.Cuts.{nows, word_at}
 use Rattle.rgo_code_text.specs.Ops.{removing}
 use Rattle.rgo_code_words.specs.Readers.{read_number, read_regions}
-use Rattle.rgo_code_text.proofs.ActionOps.{simple_op}
-use Rattle.rgo_code_text.proofs.CallNotes.{jump_is}
+use Rattle.rgo_code_text.proofs.op_lines.ActionOps.{simple_op}
+use Rattle.rgo_code_text.proofs.op_lines.CallNotes.{jump_is}
 use Rattle.rgo_code_text.proofs.jumps.jump.Goals as goal
 
 pub returns-in_default : goal.returns-in_default

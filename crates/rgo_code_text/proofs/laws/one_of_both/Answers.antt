@@ -1,4 +1,4 @@
-use Rattle.rgo_code_text.proofs.EachText as each
+use Rattle.rgo_code_text.proofs.readings.EachText as each
 use Rattle.rgo_code_text.proofs.laws.one_of_both.Goals as goal
 
 pub returns : goal.returns

@@ -1,4 +1,4 @@
-use Rattle.rgo_code_text.proofs.Refusing.{no_two}
+use Rattle.rgo_code_text.proofs.readings.Refusing.{no_two}
 use Rattle.rgo_code_text.proofs.laws.one_text.Goals as goal
 
 pub returns : goal.returns

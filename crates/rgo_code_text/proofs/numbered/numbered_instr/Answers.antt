@@ -1,5 +1,5 @@
 use Rattle.rgo_code_text.specs.Building.{names_now}
-use Rattle.rgo_code_text.proofs.PlainInstrs.{copy_numbered, plain_numbered}
+use Rattle.rgo_code_text.proofs.op_lines.PlainInstrs.{copy_numbered, plain_numbered}
 use Rattle.rgo_code_text.proofs.numbered.numbered_instr.Goals as goal
 
 pub returns-in-Copy : goal.returns-in-Copy

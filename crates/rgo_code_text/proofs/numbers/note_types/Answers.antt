@@ -4,7 +4,7 @@ use Rattle.std.proofs.lemmas.List.{at_drop_more}
 use Rattle.rgo_code_text.specs.Building.{names_now, with_structs, type_names}
 use Rattle.rgo_code_words.specs.Views.{named_type_of}
 use Rattle.rgo_code_words.specs.declared.types.NamedType.{NamedType as CodeType}
-use Rattle.rgo_code_text.proofs.Tables.{structs_append}
+use Rattle.rgo_code_text.proofs.naming.Tables.{structs_append}
 use Rattle.rgo_code_text.proofs.numbers.note_types.Goals as goal
 
 pub loop-named-preserved : goal.loop-named-preserved

@@ -2,7 +2,7 @@ use Rattle.std.proofs.Common.{◌≡◌, ◌∙◌, ap, map, length}
 use Rattle.rgo_code_text.specs.Building.{names_now, all_declared, declared_in}
 use Rattle.rgo_code_printing.specs.Text.{Names}
 use Rattle.rgo_code_text.specs.Views.{item_of}
-use Rattle.rgo_code_text.proofs.Tables.{all_declared_in, all_names_in}
+use Rattle.rgo_code_text.proofs.naming.Tables.{all_declared_in, all_names_in}
 use Rattle.rgo_code_text.proofs.numbers.number_names.Goals as goal
 
 pub returns-clause-names : goal.returns-clause-names

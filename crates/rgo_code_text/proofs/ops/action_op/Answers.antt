@@ -1,6 +1,6 @@
 use Rattle.std.proofs.Common.{◌∙◌}
 use Rattle.rgo_code_text.specs.Ops.{removing}
-use Rattle.rgo_code_text.proofs.ActionOps.{simple_op}
+use Rattle.rgo_code_text.proofs.op_lines.ActionOps.{simple_op}
 use Rattle.rgo_code_text.proofs.ops.action_op.Goals as goal
 
 pub returns : goal.returns

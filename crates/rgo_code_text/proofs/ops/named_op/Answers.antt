@@ -7,7 +7,7 @@ use Rattle.rgo_code_text.specs.Views.{named_op_of}
 use Rattle.rgo_code_text.specs.declared.ops.NamedOp.{NamedOp as CodeNamedOp}
 use Rattle.rgo_code_words.proofs.ListFacts.{rest_of}
 use Rattle.rgo_code_words.proofs.Options.{if_ok}
-use Rattle.rgo_code_text.proofs.OpTexts.{print_front, text_read}
+use Rattle.rgo_code_text.proofs.op_lines.OpTexts.{print_front, text_read}
 use Rattle.rgo_code_text.proofs.ops.named_op.Goals as goal
 
 pub returns-then-is_print : goal.returns-then-is_print

@@ -1,6 +1,6 @@
 use Rattle.std.proofs.Common.{inr, ◌-◌, ◌<◌, length, take, drop, ap, arith, length-drop}
 use Rattle.rgo_code_words.proofs.ListFacts.{rest_of}
-use Rattle.rgo_code_text.proofs.PrintWords.{space_here}
+use Rattle.rgo_code_text.proofs.op_lines.PrintWords.{space_here}
 use Rattle.rgo_code_text.proofs.prints.last_word.Goals as goal
 
 pub words-preserved : goal.words-preserved

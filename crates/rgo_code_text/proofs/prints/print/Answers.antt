@@ -7,7 +7,7 @@ use Rattle.rgo_code_words.specs.Pieces.{ArePieces}
 use Rattle.rgo_code_words.specs.Readers.{IsRead, read_regions}
 use Rattle.rgo_code_words.specs.Views.{pieces_of}
 use Rattle.rgo_code_words.proofs.ListFacts.{rest_of}
-use Rattle.rgo_code_text.proofs.PrintWords.{print_none, print_plain, print_pieces, print_wrong}
+use Rattle.rgo_code_text.proofs.op_lines.PrintWords.{print_none, print_plain, print_pieces, print_wrong}
 use Rattle.rgo_code_text.proofs.prints.print.Goals as goal
 
 pub returns-in_default : goal.returns-in_default

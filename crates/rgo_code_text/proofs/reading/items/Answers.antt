@@ -6,8 +6,8 @@ use Rattle.rgo_code_text.specs.declared.places.Place.{Place}
 use Rattle.rgo_code_text.specs.Views.{item_of}
 use Rattle.rgo_code_text.specs.Walk.{StepIs}
 use Rattle.rgo_code_words.proofs.ListFacts.{rest_of}
-use Rattle.rgo_code_text.proofs.Few.{line_fits}
-use Rattle.rgo_code_text.proofs.Walking.{ends_here, stops_here, goes_on}
+use Rattle.rgo_code_text.proofs.code_of_lines.Few.{line_fits}
+use Rattle.rgo_code_text.proofs.line_forms.Walking.{ends_here, stops_here, goes_on}
 use Rattle.rgo_code_text.proofs.reading.items.Goals as goal
 use Rattle.rgo_code_text.proofs.reading.items.Goals.{else-len-eq0-via-then-len-eq0+else-is_last, else-len-eq0-via-else-len-eq0}
 

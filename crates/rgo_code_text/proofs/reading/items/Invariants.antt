@@ -1,6 +1,6 @@
 use Rattle.std.proofs.Common.{◌-◌, length, map}
 use Rattle.rgo_code_text.specs.Views.{item_of}
-use Rattle.rgo_code_text.proofs.Walking.{ReadSoFar}
+use Rattle.rgo_code_text.proofs.line_forms.Walking.{ReadSoFar}
 use Rattle.rgo_code_text.proofs.reading.items.Given as goal
 
 abbrev pub invariant-lines : goal.invariant-lines

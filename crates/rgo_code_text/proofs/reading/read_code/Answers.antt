@@ -1,4 +1,4 @@
-use Rattle.rgo_code_text.proofs.Refusing.{too_large_exactly}
+use Rattle.rgo_code_text.proofs.readings.Refusing.{too_large_exactly}
 use Rattle.rgo_code_text.proofs.reading.read_code.Goals as goal
 
 pub returns-clause-large : goal.returns-clause-large

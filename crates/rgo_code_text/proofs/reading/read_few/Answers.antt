@@ -3,18 +3,18 @@ use Rattle.rgo_code.specs.Code.{Code}
 use Rattle.rgo_code_text.specs.Building.{code_of}
 use Rattle.rgo_code_printing.specs.Text.{text_of}
 use Rattle.rgo_code_text.specs.Views.{item_of}
-use Rattle.rgo_code_text.specs.Walk.{Refuses}
+use Rattle.rgo_code_text.specs.Walk.{RefusesCodeText}
 use Rattle.rgo_code_text.specs.Written.{IsWritten}
 use Rattle.rgo_code_words.proofs.Options.{handed_on}
-use Rattle.rgo_code_text.proofs.Few.{are_few}
-use Rattle.rgo_code_text.proofs.Refusing.{read_is, refuses}
+use Rattle.rgo_code_text.proofs.code_of_lines.Few.{are_few}
+use Rattle.rgo_code_text.proofs.readings.Refusing.{read_is, refuses}
 use Rattle.rgo_code_text.proofs.reading.read_few.Goals as goal
 
 pub returns-in_err-items : goal.returns-in_err-items
 returns-in_err-items c =
     let text = c.args.text.now in
     let e = c.in_err-items.field-0.0 in
-    handed_on c.from_residual.result (λ (code : Code). (text ≡ text_of code) × IsWritten code) (Refuses text) e
+    handed_on c.from_residual.result (λ (code : Code). (text ≡ text_of code) × IsWritten code) (RefusesCodeText text) e
     c.from_residual.ensures.1 (refuses text e c.in_err-items.ensures)
 
 pub returns-in-Ok : goal.returns-in-Ok

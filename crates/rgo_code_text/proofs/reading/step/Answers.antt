@@ -3,7 +3,7 @@ use Rattle.std.specs.Option.{option_map, IsSome}
 use Rattle.rgo_code_text.specs.Items.{ItemFits, item_line, after}
 use Rattle.rgo_code_words.specs.Readers.{IsRead}
 use Rattle.rgo_code_text.specs.Views.{item_of}
-use Rattle.rgo_code_text.proofs.ItemsOne.{items_one}
+use Rattle.rgo_code_text.proofs.line_forms.ItemsOne.{items_one}
 use Rattle.rgo_code_text.proofs.reading.step.Goals as goal
 
 pub returns : goal.returns

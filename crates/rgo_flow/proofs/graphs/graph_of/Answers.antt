@@ -3,7 +3,7 @@ use Rattle.std.specs.Global.{Global}
 use Rattle.rgo_graphs.specs.Rows.{Relates, rows_of}
 use Rattle.rgo_graphs.specs.RowsTo.{RowsTo}
 use Rattle.rgo_graphs.proofs.Growing.{rows_more}
-use Rattle.rgo_flow.specs.Live.{Reads, Writes}
+use Rattle.rgo_flow.specs.Live.{ReadsVariable, WritesVariable}
 use Rattle.rgo_flow.specs.Graphs.{LeadsInside}
 use Rattle.rgo_flow.proofs.Instructions.{reads_inside, writes_inside, leads_inside}
 use Rattle.rgo_flow.proofs.graphs.graph_of.Goals as goal
@@ -21,13 +21,13 @@ loop-at-preserved c =
           (sym c.in_ok-push.ensures.items)
           (rows_more c.loop-at.successors.items c.in_ok-row.row (λ i j. LeadsInside f i j) k
           (omega (arith, so_far.successors_len)) so_far.leads c.in_ok-row.ensures);
-      reads = subst (λ (l : List (Vec ℕ Global)). RowsTo l (λ i v. Reads f i v) (k + 1))
+      reads = subst (λ (l : List (Vec ℕ Global)). RowsTo l (λ i v. ReadsVariable f i v) (k + 1))
           (sym c.in_ok-push-2.ensures.items)
-          (rows_more c.loop-at.reads.items c.in_ok-row-2.row (λ i v. Reads f i v) k
+          (rows_more c.loop-at.reads.items c.in_ok-row-2.row (λ i v. ReadsVariable f i v) k
           (omega (arith, so_far.reads_len)) so_far.reads c.in_ok-row-2.ensures);
-      writes = subst (λ (l : List (Vec ℕ Global)). RowsTo l (λ i v. Writes f i v) (k + 1))
+      writes = subst (λ (l : List (Vec ℕ Global)). RowsTo l (λ i v. WritesVariable f i v) (k + 1))
           (sym c.in_ok-push-3.ensures.items)
-          (rows_more c.loop-at.writes.items c.in_ok-row-3.row (λ i v. Writes f i v) k
+          (rows_more c.loop-at.writes.items c.in_ok-row-3.row (λ i v. WritesVariable f i v) k
           (omega (arith, so_far.writes_len)) so_far.writes c.in_ok-row-3.ensures);
     }
 

@@ -1,7 +1,7 @@
 use Rattle.std.proofs.Common.{◌≡◌, ◌+◌, ◌<◌, ◌^◌, suc, true, is_some, length, drop, map}
 use Rattle.rgo_typed.specs.Tree.{stmts_of}
 use Rattle.rgo_typed.specs.Views.{stmt_of}
-use Rattle.rgo_lower.specs.Emitted.{Made, count, made_of, StmtsAreEmitted}
+use Rattle.rgo_lower.specs.Emitted.{BuilderParts, count, made_of, StmtsAreEmitted}
 use Rattle.rgo_lower.specs.Shapes.{stmts_fit}
 use Rattle.rgo_lower.specs.Sizes.{stmts_size}
 use Rattle.rgo_lower.proofs.Weights.{weight, weights}
@@ -15,7 +15,7 @@ invariant-lower_stmts-loop-stmt l = record {
       stmts_fit (length l.b.slots.items) (is_some l.innermost)
       (stmts_of (map stmt_of (drop l.stmt-index l.stmts.items))) ≡ true;
   rest :
-      (new : Made)
+      (new : BuilderParts)
       → StmtsAreEmitted (stmts_of (map stmt_of (drop l.stmt-index l.stmts.items))) l.innermost (made_of l.b) new
       → StmtsAreEmitted (stmts_of (map stmt_of l.stmts.items)) l.innermost (made_of l.fn.b) new;
 }

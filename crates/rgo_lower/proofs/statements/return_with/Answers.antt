@@ -1,6 +1,6 @@
 use Rattle.std.proofs.Common.{sym, subst}
 use Rattle.rgo_typed.specs.Tree as tree
-use Rattle.rgo_typed.specs.Tree.{Term, Change, terms_of}
+use Rattle.rgo_typed.specs.Tree.{Term}
 use Rattle.rgo_typed.specs.Views.{term_of, boxed_term_of}
 use Rattle.rgo_lower.specs.Emitted.{made_of, IsEmitted, TermIsEmitted}
 use Rattle.rgo_lower.proofs.Growing.{ok_map}

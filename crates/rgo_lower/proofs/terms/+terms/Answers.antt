@@ -4,7 +4,7 @@ use Rattle.rgo_typed.specs.declared.actions.Action.TheVariants.{Copy, New}
 use Rattle.rgo_tac.specs.Code.{Do}
 use Rattle.rgo_typed.specs.Tree.{terms_of}
 use Rattle.rgo_typed.specs.Views.{term_of}
-use Rattle.rgo_lower.specs.Lowered.{bool, pointer_to}
+use Rattle.rgo_lower.specs.Lowered.{bool_type, pointer_type}
 use Rattle.rgo_lower.specs.Emitted.{made_of, always, OpIsAdded, ValueIsAdded, FieldsAreStored, TermIsEmitted, TermsAreEmitted, acts, decides}
 use Rattle.rgo_lower.proofs.Growing.{one_more_before}
 use Rattle.rgo_lower.proofs.TermParts.{next_size, next_fits, apply_emitted, call_emitted, build_emitted, logic_emitted, next_emitted, end_emitted, logic_end}
@@ -55,7 +55,7 @@ lower_term-returns-in_ok-place-in-Logic t c =
     let b7 = made_of c.place.new.self in
     let first : TermIsEmitted (term_of x.left.value) b0 l b1 =
     subst (λ z. TermIsEmitted (term_of z) b0 l b1) c.deref-in-Logic.ensures c.in_ok-l-in-Logic.ensures in
-    let copy : ValueIsAdded b1 (acts Copy (l ∷ [])) bool x.place d b2 =
+    let copy : ValueIsAdded b1 (acts Copy (l ∷ [])) bool_type x.place d b2 =
     subst (λ z. ValueIsAdded b1 (acts Copy (l ∷ [])) z x.place d b2) c.truth.ensures c.in_ok-d-in-Logic.ensures in
     let label = fresh b2 b3 end c.in_ok-end-in-Logic.ensures.0 c.in_ok-end-in-Logic.ensures.1 in
     let branch : OpIsAdded b3 (decides x.logic d (length b3.lines + 1) end) x.place b4 =
@@ -82,7 +82,7 @@ lower_term-returns-in_ok-fill-in-Build t c =
     let b1 = made_of c.lower_terms-in-Build.new.b in
     let b2 = made_of c.give-in-Build.new.self in
     let b3 = made_of c.fill.new.self in
-    let new : ValueIsAdded b1 (acts (New x.number) []) (pointer_to x.number) x.place d b2 =
+    let new : ValueIsAdded b1 (acts (New x.number) []) (pointer_type x.number) x.place d b2 =
     subst (λ z. ValueIsAdded b1 (acts (New x.number) []) z x.place d b2) c.pointer_to-ty.ensures
     c.in_ok-object-in-Build.ensures in
     let fields : c.items.result.now ≡ x.fields = c.items.ensures in

@@ -1,7 +1,7 @@
 use Rattle.std.proofs.Common.{◌≡◌, true, ℕ, ◌+◌, ◌<◌, ◌^◌, List, ◌++◌, drop, map}
 use Rattle.rgo_typed.specs.Tree.{terms_of}
 use Rattle.rgo_typed.specs.Views.{term_of}
-use Rattle.rgo_lower.specs.Emitted.{Made, count, made_of, TermsAreEmitted}
+use Rattle.rgo_lower.specs.Emitted.{BuilderParts, count, made_of, TermsAreEmitted}
 use Rattle.rgo_lower.specs.Shapes.{terms_fit}
 use Rattle.rgo_lower.specs.Sizes.{terms_size}
 use Rattle.rgo_lower.proofs.terms.+terms.Given as goal
@@ -12,7 +12,7 @@ invariant-lower_terms-loop-term l = record {
   small : count (made_of l.b) + terms_size (terms_of (map term_of (drop l.term-index l.terms.items))) < 2 ^ 32;
   shape : terms_fit (terms_of (map term_of (drop l.term-index l.terms.items))) ≡ true;
   rest :
-      (new : Made) (ds : List ℕ)
+      (new : BuilderParts) (ds : List ℕ)
       → TermsAreEmitted (terms_of (map term_of (drop l.term-index l.terms.items))) (made_of l.b) ds new
       → TermsAreEmitted (terms_of (map term_of l.terms.items)) (made_of l.fn.b) (l.from.items ++ ds) new;
 }

@@ -1,6 +1,6 @@
 use Rattle.std.proofs.Common.{◌≡◌, List, length, sym, subst, arith}
 use Rattle.rgo_region_sets.specs.declared.spans.Span.{Span}
-use Rattle.rgo_region_sets.specs.Spans.{AreApart, Follows}
+use Rattle.rgo_region_sets.specs.Spans.{AreApart, SpanFollows}
 use Rattle.rgo_region_sets.proofs.Merges.{apart_after, follows_pushed, joined_added, joined_apart, joined_ends}
 use Rattle.rgo_region_sets.proofs.merging.merge.Goals as goal
 
@@ -33,5 +33,5 @@ returns-clause-apart c =
 
 pub returns-clause-ends : goal.returns-clause-ends
 returns-clause-ends c =
-    λ later precedes. subst (λ (l : List Span). Follows l later) (sym c.in_ok-push-2.ensures.items)
+    λ later precedes. subst (λ (l : List Span). SpanFollows l later) (sym c.in_ok-push-2.ensures.items)
     (follows_pushed c.args.merged.now.items c.args.next later precedes)

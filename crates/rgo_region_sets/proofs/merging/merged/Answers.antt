@@ -1,7 +1,7 @@
 use Rattle.std.proofs.Common.{◌↔◌, ℕ, List, [], sym, subst, arith}
 use Rattle.std.proofs.lemmas.Option.{slice_get-get_or}
 use Rattle.rgo_region_sets.specs.declared.spans.Span.{Span}
-use Rattle.rgo_region_sets.specs.Spans.{AreApart, Follows, IsSpanned}
+use Rattle.rgo_region_sets.specs.Spans.{AreApart, SpanFollows, IsSpanned}
 use Rattle.rgo_region_sets.proofs.Variables.{none_apart, none_merged, none_follows, merged_more, merged_all, next_precedes}
 use Rattle.rgo_region_sets.proofs.merging.merged.Goals as goal
 
@@ -11,7 +11,7 @@ loop-span-init c =
     record {
       apart = subst (λ (l : List Span). AreApart l) none none_apart;
       same = subst (λ (l : List Span). (k at : ℕ) → IsSpanned l k at ↔ IsSpanned [] k at) none none_merged;
-      follows = λ next e. subst (λ (l : List Span). Follows l next) none (none_follows next);
+      follows = λ next e. subst (λ (l : List Span). SpanFollows l next) none (none_follows next);
     }
 
 pub merge-requires-clause-follows : goal.merge-requires-clause-follows

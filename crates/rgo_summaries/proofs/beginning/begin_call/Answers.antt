@@ -2,7 +2,7 @@ use Rattle.std.proofs.Common.{subst}
 use Rattle.std.proofs.lemmas.Result.{on_ok_weaker}
 use Rattle.rgo_summaries.specs.Beginning.{Lists, Of, PassedBelow}
 use Rattle.rgo_summaries.specs.Kinds.{width_of}
-use Rattle.rgo_summaries.specs.Progress.{Adds, GrowsIn, size_in}
+use Rattle.rgo_summaries.specs.Progress.{AddsJoins, GrowsIn, size_in}
 use Rattle.rgo_summaries.specs.Views.{called}
 use Rattle.rgo_summaries.proofs.Steps.{steps}
 use Rattle.rgo_summaries.proofs.beginning.begin_call.Goals as goal
@@ -23,7 +23,7 @@ returns-clause-begins c =
     (λ adds. record {
       step =
           steps p q r n w (PassedBelow f call callee (size_in p.nodes.items n) w) grows
-          (subst (λ k. Adds q r (Of n (PassedBelow f call callee k w))) base adds);
+          (subst (λ k. AddsJoins q r (Of n (PassedBelow f call callee k w))) base adds);
       lists =
           subst (λ k. Lists c.args.sites.now.items c.list.new.sites.items c.args.call.function
           (record { caller = n; base = k }))

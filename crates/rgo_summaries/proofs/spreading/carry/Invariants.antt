@@ -1,9 +1,9 @@
 use Rattle.std.proofs.Common.{take}
-use Rattle.rgo_summaries.specs.Progress.{Adds, Hears, IsProgress}
+use Rattle.rgo_summaries.specs.Progress.{AddsJoins, Hears, IsProgress}
 use Rattle.rgo_summaries.proofs.spreading.carry.Given as goal
 
 abbrev pub invariant-loop-site : goal.invariant-loop-site
 invariant-loop-site l = record {
   is : IsProgress l.progress;
-  adds : Adds l.fn.progress l.progress (Hears (take l.site-index l.sites) l.event);
+  adds : AddsJoins l.fn.progress l.progress (Hears (take l.site-index l.sites) l.event);
 }

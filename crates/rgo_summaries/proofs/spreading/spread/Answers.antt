@@ -1,7 +1,7 @@
 use Rattle.std.proofs.Common.{◌<◌, length, refl, sym, subst, arith, List}
 use Rattle.std.proofs.lemmas.Option.{slice_get_read}
 use Rattle.rgo_summaries.specs.declared.progress.Site.{Site}
-use Rattle.rgo_summaries.specs.Progress.{Adds, Hears, width_in}
+use Rattle.rgo_summaries.specs.Progress.{AddsJoins, Hears, width_in}
 use Rattle.rgo_summaries.proofs.Hearing.{event_function, event_room, further, is_spread, room_kept, sites_here, underway}
 use Rattle.rgo_summaries.proofs.spreading.spread.Goals as goal
 
@@ -56,7 +56,7 @@ loop-next-preserved c =
     c.index-sites-event.is c.deref.ensures.value in
     further c.args.sites.now c.args.progress.now now c.carry.new.progress c.loop-next.next e u at
     c.in_ok-carry.ensures.is
-    (subst (λ (r : List Site). Adds now c.carry.new.progress (Hears r e)) (sym row) c.in_ok-carry.ensures.adds)
+    (subst (λ (r : List Site). AddsJoins now c.carry.new.progress (Hears r e)) (sym row) c.in_ok-carry.ensures.adds)
 
 pub returns : goal.returns
 returns c =

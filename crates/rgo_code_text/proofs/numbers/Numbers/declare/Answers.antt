@@ -4,7 +4,7 @@ use Rattle.indexmap.specs.IndexMap.{get_by, UpdatesBy}
 use Rattle.std.specs.Str.{bytes_eq}
 use Rattle.rgo_code_words.specs.Cuts.{nows}
 use Rattle.rgo_code_text.specs.Numbers.{first_of}
-use Rattle.rgo_code_text.proofs.Tables.{finds_kept, finds_added, nows_push, nows_length, copied_some}
+use Rattle.rgo_code_text.proofs.naming.Tables.{finds_kept, finds_added, nows_push, nows_length, copied_some}
 use Rattle.rgo_code_text.proofs.numbers.Numbers.declare.Goals as goal
 use Rattle.rgo_code_text.proofs.numbers.Numbers.declare.Goals.{then-is_none+in_ok-insert, else-is_none}
 

@@ -1,7 +1,7 @@
 use Rattle.std.proofs.Common.{◌∙◌, ◌++◌, ◌∷◌, [], sym, ap, arith, take, drop, ◌-◌, List, ℕ}
 use denote.Ref.{Bor}
 use Rattle.rgo_code_words.specs.Cuts.{nows}
-use Rattle.rgo_code_text.proofs.Tables.{names_more}
+use Rattle.rgo_code_text.proofs.naming.Tables.{names_more}
 use Rattle.rgo_code_text.proofs.numbers.Numbers.names_from.Goals as goal
 
 pub loop-n-preserved : goal.loop-n-preserved

@@ -4,7 +4,7 @@ use Rattle.indexmap.specs.IndexMap.{UpdatesBy}
 use Rattle.std.specs.Str.{bytes_eq}
 use Rattle.rgo_code_words.specs.Cuts.{nows}
 use Rattle.rgo_code_text.specs.Numbers.{first_of}
-use Rattle.rgo_code_text.proofs.Tables.{finds_added, nows_push, nows_length, copied_some, with_new, with_known}
+use Rattle.rgo_code_text.proofs.naming.Tables.{finds_added, nows_push, nows_length, copied_some, with_new, with_known}
 use Rattle.rgo_code_text.proofs.numbers.Numbers.note.Goals as goal
 
 pub invariant_of-self-then-is_none : goal.invariant_of-self-then-is_none

@@ -1,0 +1,14 @@
+-- Operations: their words, and what is read of these.
+pub mod ActionOps
+pub mod ActionsBack
+pub mod ActionsIs
+pub mod CallNotes
+pub mod EachPrint
+pub mod Instrs
+pub mod Notes
+pub mod OpTexts
+pub mod OpWords
+pub mod OpsBack
+pub mod PlainInstrs
+pub mod PrintWords
+pub mod TypeWords
