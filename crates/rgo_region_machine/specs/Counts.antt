@@ -1,4 +1,4 @@
--- What a run has made and done.
+-- What a run has made and done: the counts that `--stats` prints.
 use Rattle.std.specs.Prelude.{ℕ, ◌+◌, Bool, length, sum_by, count_by, nat_eq, if◌then◌else◌}
 use Rattle.rgo_region_machine.specs.Regions.{RegionInfo}
 use Rattle.rgo_region_machine.specs.States.{RegionState}

@@ -1,13 +1,13 @@
--- What each step with a region does. A step that names a region which is not live cannot be done.
+-- What each step with a region does. A step that names a region that is not live cannot be done.
 use Rattle.std.specs.Prelude.{ℕ, Bool, true, false, ◌||◌, List, [], ◌∷◌, ◌++◌, length, Option, Some, None}
 use Rattle.std.specs.Prelude.{slice_set, nat_eq, option_and_then, if◌then◌else◌}
 use Rattle.std.specs.List.{list_any}
 use Rattle.rgo_region_machine.specs.declared.regions.Region.{Region}
 use Rattle.rgo_region_machine.specs.declared.regions.Region.TheVariants.{Global as GlobalRegion, Numbered}
-use Rattle.rgo_region_machine.specs.Regions.{same_region, is_live, with_info, one_more, one_fewer, bound, unbind}
+use Rattle.rgo_region_machine.specs.Regions.{same_region, is_live, with_info, with_added_stake, one_fewer, bound, unbind}
 use Rattle.rgo_region_machine.specs.Regions.{removed_once, without}
 use Rattle.rgo_region_machine.specs.States.{Duty, Create, Share, Protect, Unprotect, Remove, EndBase}
-use Rattle.rgo_region_machine.specs.States.{Offer, Taken, Environment, Holder, RegionState, top_names, with_top, NoOffer, Standing}
+use Rattle.rgo_region_machine.specs.States.{Offer, Taken, RegionEnvironment, Holder, RegionState, top_names, with_top, NoOffer, Standing}
 
 -- the state with another holder
 abbrev pub attended : RegionState → ℕ → Holder → RegionState
@@ -15,16 +15,16 @@ attended s g h = record s { holders = slice_set s.holders g h }
 
 -- ---- protections
 
-abbrev pub with_protection : List Environment → Region → List Environment
+abbrev pub with_protection : List RegionEnvironment → Region → List RegionEnvironment
 with_protection [] r = []
 with_protection (e ∷ es) r = record e { protections = r ∷ e.protections } ∷ es
 
-abbrev pub without_protection : List Environment → Region → List Environment
+abbrev pub without_protection : List RegionEnvironment → Region → List RegionEnvironment
 without_protection [] r = []
 without_protection (e ∷ es) r = record e { protections = removed_once r e.protections } ∷ es
 
 -- whether a goroutine with this base and these environments protects the region
-abbrev pub guards : List Region → List Environment → Region → Bool
+abbrev pub guards : List Region → List RegionEnvironment → Region → Bool
 guards base [] r = list_any (same_region r) base
 guards base (e ∷ es) r = list_any (same_region r) e.protections || guards base es r
 
@@ -72,7 +72,7 @@ shared s g h (Numbered r) =
     (if list_any (nat_eq r) h.pending
     then Some (attended s g h)
     else Some (record (attended s g (record h { pending = r ∷ h.pending })) {
-      regions = with_info s.regions r one_more;
+      regions = with_info s.regions r with_added_stake;
     }))
     else None
 

@@ -14,9 +14,9 @@ use Rattle.rgo_memory.specs.Memory.{Channel, SliceObject}
 use Rattle.rgo_machine.specs.declared.limits.Sizes.{Sizes}
 use Rattle.rgo_machine.specs.declared.picks.End.TheVariants.{Exit}
 use Rattle.rgo_machine.specs.declared.picks.Pick.TheVariants.{One, Meet}
-use Rattle.rgo_machine.specs.declared.turns.Shortage.{Shortage}
-use Rattle.rgo_machine.specs.declared.turns.Shortage.TheVariants as shortage
-use Rattle.rgo_machine.specs.Lines.{line_of}
+use Rattle.rgo_machine.specs.declared.limits.Shortage.{Shortage}
+use Rattle.rgo_machine.specs.declared.limits.Shortage.TheVariants as shortage
+use Rattle.rgo_machine.specs.Lines.{printed_line}
 use Rattle.rgo_tac.specs.declared.regions.Class.{Class}
 use Rattle.rgo_tac.specs.declared.regions.Class.TheVariants.{NoClass, Name}
 use Rattle.rgo_code.specs.declared.code.Undeclared.{Undeclared}
@@ -24,7 +24,7 @@ use Rattle.rgo_code.specs.Code.{Slot, CodeOp, CodeInstr, CodeFn, Code, Do, Call,
 use Rattle.rgo_region_machine.specs.Counts.{Counts, counts_of}
 use Rattle.rgo_region_machine.specs.Machine.{Event, Instruct, Attend, TakePage, MakeOffer, Acknowledge, region_run}
 use Rattle.rgo_region_machine.specs.Objects.{data_pages, is_too_large}
-use Rattle.rgo_region_machine.specs.Room.{FitsIn, LacksIn, enough_pages, live_regions, pages_in_use, roomy_run}
+use Rattle.rgo_region_machine.specs.Room.{StateFitsIn, LacksIn, enough_pages, live_regions, pages_in_use, roomy_run}
 use Rattle.rgo_region_machine.specs.States.{Mark, Ended, Holder, RegionState}
 
 -- ---- code
@@ -257,7 +257,7 @@ both_live_run = Attend 0 ∷ TakePage 0 ∷ step ∷ Attend 0 ∷ TakePage 0 ∷
 abbrev pub one_live_run : List Event
 one_live_run = Attend 0 ∷ TakePage 0 ∷ step ∷ Attend 0 ∷ Attend 0 ∷ TakePage 0 ∷ step ∷ []
 
--- the size, the region, and so many pages for the object
+-- the size, the region, and n pages for the object
 abbrev pub taking : (pages : ℕ) → List Event
 taking pages = step ∷ Attend 0 ∷ replicate pages (TakePage 0)
 
@@ -282,14 +282,14 @@ outcome s = (s.plain.printed, s.mark, counts_of s)
 
 -- the number, printed
 abbrev pub line : ℕ → List ℕ
-line n = line_of (piece.Value ∷ []) (value.Int (pos n) ∷ [])
+line n = printed_line (piece.Value ∷ []) (value.Int (pos n) ∷ [])
 
 abbrev pub GivesIn : (page_words : ℕ) → Code → List Event → List ℕ → Option Mark → Counts → Type 0
 GivesIn page_words code events print mark counts =
     option_and_then (λ s. Some (outcome s)) (region_run code page_words events) ≡ Some (print, mark, counts)
 
-abbrev pub Gives : Code → List Event → List ℕ → Option Mark → Counts → Type 0
-Gives = GivesIn 16
+abbrev pub EventsLeadTo : Code → List Event → List ℕ → Option Mark → Counts → Type 0
+EventsLeadTo = GivesIn 16
 
 abbrev pub counts : (made removed taken returned steps objects goroutines : ℕ) → Counts
 counts made removed taken returned steps objects goroutines = record {
@@ -303,13 +303,13 @@ counts made removed taken returned steps objects goroutines = record {
 }
 
 pub record RegionExamples : Type 0 where
-  pub one : Gives one_object one_object_run (line 0) (Some (Ended Exit)) (counts 1 1 1 1 5 1 1)
-  pub twice : Gives passed_twice passed_twice_run (line 42) (Some (Ended Exit)) (counts 1 1 1 1 10 1 1)
-  pub meets : Gives sender_and_receiver meeting_run (line 5) (Some (Ended Exit)) (counts 1 1 1 1 8 1 2)
+  pub one : EventsLeadTo one_object one_object_run (line 0) (Some (Ended Exit)) (counts 1 1 1 1 5 1 1)
+  pub twice : EventsLeadTo passed_twice passed_twice_run (line 42) (Some (Ended Exit)) (counts 1 1 1 1 10 1 1)
+  pub meets : EventsLeadTo sender_and_receiver meeting_run (line 5) (Some (Ended Exit)) (counts 1 1 1 1 8 1 2)
   pub meets_otherwise
-      : Gives sender_and_receiver other_meeting_run (line 5) (Some (Ended Exit)) (counts 1 1 1 1 7 1 2)
-  pub before_base : Gives started_twice started_twice_run [] None (counts 1 0 1 0 3 1 2)
-  pub after_base : Gives started_twice (started_twice_run ++ (Attend 1 ∷ [])) [] None (counts 1 1 1 1 3 1 2)
+      : EventsLeadTo sender_and_receiver other_meeting_run (line 5) (Some (Ended Exit)) (counts 1 1 1 1 7 1 2)
+  pub before_base : EventsLeadTo started_twice started_twice_run [] None (counts 1 0 1 0 3 1 2)
+  pub after_base : EventsLeadTo started_twice (started_twice_run ++ (Attend 1 ∷ [])) [] None (counts 1 1 1 1 3 1 2)
   -- no object is made before its region and its page are there
   pub no_region : region_run one_object 16 (step ∷ []) ≡ None
   pub no_page : region_run one_object 16 (Attend 0 ∷ step ∷ []) ≡ None
@@ -335,7 +335,7 @@ HasPages code events fills reserved = option_and_then page_state (region_run cod
 
 -- the numbers, printed with a space between them
 abbrev pub line_of_two : ℕ → ℕ → List ℕ
-line_of_two m n = line_of (piece.Value ∷ piece.Value ∷ []) (value.Int (pos m) ∷ value.Int (pos n) ∷ [])
+line_of_two m n = printed_line (piece.Value ∷ piece.Value ∷ []) (value.Int (pos m) ∷ value.Int (pos n) ∷ [])
 
 pub record SpreadExamples : Type 0 where
   -- 257 cells in pages of 256 words: a lead page and two data pages
@@ -353,7 +353,7 @@ pub record SpreadExamples : Type 0 where
   pub too_few : region_run (long_slice 257 256 255) 256 (taking 2 ++ (step ∷ [])) ≡ None
   pub too_many : region_run (long_slice 257 256 255) 256 (taking 4) ≡ None
   -- 14 page numbers fit a page of 16 words beside the length and another word, and no more
-  pub most : Gives (long_slice 224 223 222) (long_slice_run 15) (line_of_two 9 0) (Some (Ended Exit))
+  pub most : EventsLeadTo (long_slice 224 223 222) (long_slice_run 15) (line_of_two 9 0) (Some (Ended Exit))
       (counts 1 1 15 15 10 1 1)
   pub over_most : region_run (long_slice 225 224 223) 16 (taking 1) ≡ None
   -- no object has more than 64 data pages
@@ -365,9 +365,9 @@ pub record SpreadExamples : Type 0 where
   pub reserved : HasPages (slice_between 17) (Attend 0 ∷ TakePage 0 ∷ step ∷ step ∷ TakePage 0 ∷ TakePage 0 ∷ [])
       ((Numbered 0, 2) ∷ []) 2
   pub own_page_filled : HasPages (slice_between 17) (slice_between_run 3) ((Numbered 0, 4) ∷ []) 0
-  pub own_page : Gives (slice_between 17) (slice_between_run 3) [] None (counts 1 0 4 0 4 3 1)
+  pub own_page : EventsLeadTo (slice_between 17) (slice_between_run 3) [] None (counts 1 0 4 0 4 3 1)
   -- pages that were taken for an object that is not made stay in its region
-  pub left : Gives (left_alone 17) left_alone_run [] (Some (Ended Exit)) (counts 1 0 1 0 3 0 2)
+  pub left : EventsLeadTo (left_alone 17) left_alone_run [] (Some (Ended Exit)) (counts 1 0 1 0 3 0 2)
 
 -- ---- the room that they use
 
@@ -377,7 +377,7 @@ sizes_of pages regions = record { page_words = 16; pages = pages; regions = regi
 abbrev pub used : RegionState → ℕ × ℕ
 used s = (pages_in_use s, live_regions s)
 
--- so many pages are in use after these events, and so many regions live
+-- how many pages are in use after these events, and how many regions are live
 abbrev pub Uses : Code → List Event → (pages regions : ℕ) → Type 0
 Uses code events pages regions =
     option_and_then (λ s. Some (used s)) (region_run code 16 events) ≡ Some (pages, regions)
@@ -386,7 +386,7 @@ Uses code events pages regions =
 abbrev pub HasRoomIn : Sizes → Code → List Event → Type 0
 HasRoomIn sizes code events = roomy_run code sizes events ≡ region_run code 16 events
 
--- so many pages are enough for what the run after these events has made and makes next
+-- how many pages are enough for what the run after these events has made and makes next
 abbrev pub IsEnough : Code → List Event → (pages : ℕ) → Type 0
 IsEnough code events pages =
     option_and_then (λ s. Some (enough_pages code 16 s)) (region_run code 16 events) ≡ Some pages
@@ -397,7 +397,7 @@ Lacks sizes code short events = IfSome (region_run code 16 events) (LacksIn code
 
 -- the state after these events fits
 abbrev pub FitsAfter : Sizes → Code → List Event → Type 0
-FitsAfter sizes code events = IfSome (region_run code 16 events) (FitsIn sizes)
+FitsAfter sizes code events = IfSome (region_run code 16 events) (StateFitsIn sizes)
 
 pub record RoomExamples : Type 0 where
   pub one : Uses one_object (Attend 0 ∷ TakePage 0 ∷ []) 1 1

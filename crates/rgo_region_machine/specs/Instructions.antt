@@ -6,13 +6,13 @@ use Rattle.rgo_machine.specs.declared.picks.End.{End}
 use Rattle.rgo_machine.specs.declared.picks.End.TheVariants.{Exit, Trap}
 use Rattle.rgo_machine.specs.declared.picks.Pick.{Pick}
 use Rattle.rgo_machine.specs.declared.picks.Pick.TheVariants.{One, Meet}
-use Rattle.rgo_tac.specs.Frames.{Frame}
+use Rattle.rgo_tac.specs.Frames.{TacFrame}
 use Rattle.rgo_tac.specs.Tac.{TacState}
 use Rattle.rgo_code.specs.Code.{CodeOp, CodeInstr, Code, Call, Go, Return, Do, Print, Jump, Branch}
 use Rattle.rgo_region_machine.specs.declared.regions.Region.{Region}
 use Rattle.rgo_region_machine.specs.Duties.{may_go}
 use Rattle.rgo_region_machine.specs.Objects.{making_region, new_object, touched, may_touch, allotted}
-use Rattle.rgo_region_machine.specs.Owed.{function_of, function_at, current, entry_removes, formals_of, result_of}
+use Rattle.rgo_region_machine.specs.Owed.{code_function, function_at, current, entry_removes, formals_of, function_result_class}
 use Rattle.rgo_region_machine.specs.Owed.{next_duties, removes_behind, caller_duties}
 use Rattle.rgo_region_machine.specs.Owed.{passed, passed_regions, given_names, twice}
 use Rattle.rgo_region_machine.specs.Regions.{without_all}
@@ -25,34 +25,34 @@ abbrev pub has_none : List Duty → Bool
 has_none [] = true
 has_none (d ∷ ds) = false
 
-abbrev pub touches : RegionState → Frame → Option CodeInstr → Bool
+abbrev pub touches : RegionState → TacFrame → Option CodeInstr → Bool
 touches s frame None = false
 touches s frame (Some i) = may_touch s (touched frame i.op)
 
 -- whether the goroutine owes nothing, and what it touches is live
-abbrev pub is_ready : Code → RegionState → Holder → List Frame → Bool
+abbrev pub is_ready : Code → RegionState → Holder → List TacFrame → Bool
 is_ready code s h [] = false
 is_ready code s h (frame ∷ callers) =
     has_none h.duties && may_go h.offer && touches s frame (current code frame)
 
--- ---- what is owed after it, and what names stand for
+-- ---- what is owed after it, and the regions of names
 
 -- the holder after an instruction of a frame that neither calls, starts nor returns
-abbrev pub holder_behind : Code → Holder → Frame → CodeOp → (next : List Frame) → Holder
+abbrev pub holder_behind : Code → Holder → TacFrame → CodeOp → (next : List TacFrame) → Holder
 holder_behind code h frame op next =
     record h { duties = map Remove (removes_behind frame op) ++ next_duties code next }
 
 -- the holder after an instruction of a frame, by the frames after it
-abbrev pub holder_after : Code → Holder → Frame → (callers : List Frame) → CodeOp → (next : List Frame) → Holder
+abbrev pub holder_after : Code → Holder → TacFrame → (callers : List TacFrame) → CodeOp → (next : List TacFrame) → Holder
 holder_after code h frame callers (Call to n from passes protects removes) next =
     record h {
       environments =
-          environment_of (result_of (function_of code n))
-          (passed (formals_of (function_of code n)) (passed_regions (top_names h.environments) passes))
+          environment_of (function_result_class (code_function code n))
+          (passed (formals_of (code_function code n)) (passed_regions (top_names h.environments) passes))
           ∷ with_top h.environments
           (without_all (top_names h.environments)
-          (given_names (result_of (function_of code n)) (formals_of (function_of code n)) passes protects));
-      duties = map Remove (entry_removes (function_of code n)) ++ next_duties code next;
+          (given_names (function_result_class (code_function code n)) (formals_of (code_function code n)) passes protects));
+      duties = map Remove (entry_removes (code_function code n)) ++ next_duties code next;
     }
 holder_after code h frame callers (Go n from passes removes) next =
     record h { pending = []; duties = map Remove removes ++ next_duties code next }
@@ -70,18 +70,18 @@ holder_after code h frame callers (Branch test target removes other otherwise) n
     holder_behind code h frame (Branch test target removes other otherwise) next
 
 -- the holder of the goroutine that an instruction starts, if it starts one; the pending stakes are its own
-abbrev pub child_holder : Code → Holder → CodeOp → (child : List Frame) → List Holder
+abbrev pub child_holder : Code → Holder → CodeOp → (child : List TacFrame) → List Holder
 child_holder code h (Go n from passes removes) child =
     let given = passed_regions (top_names h.environments) passes in
     record {
       stakes = h.pending;
       pending = [];
       environments =
-          environment_of (result_of (function_of code n)) (passed (formals_of (function_of code n)) given) ∷ [];
+          environment_of (function_result_class (code_function code n)) (passed (formals_of (code_function code n)) given) ∷ [];
       base = twice given;
       fills = [];
       reserved = 0;
-      duties = map Remove (entry_removes (function_of code n)) ++ next_duties code child;
+      duties = map Remove (entry_removes (code_function code n)) ++ next_duties code child;
       offer = NoOffer;
     } ∷ []
 child_holder code h (Do to action from removes) child = []
@@ -91,7 +91,7 @@ child_holder code h (Jump target removes) child = []
 child_holder code h (Branch test target removes other otherwise) child = []
 child_holder code h (Return value) child = []
 
-abbrev pub last_frames : List (List Frame) → List Frame
+abbrev pub last_frames : List (List TacFrame) → List TacFrame
 last_frames [] = []
 last_frames (f ∷ []) = f
 last_frames (f ∷ g ∷ fs) = last_frames (g ∷ fs)
@@ -114,15 +114,15 @@ abbrev pub printed_if : Option Mark → (old new : List ℕ) → List ℕ
 printed_if None old new = new
 printed_if (Some mark) old new = old
 
--- the three-address machine after an instruction: what is printed after the end is void, and the machine goes on
+-- the three-address machine after an instruction: what is printed after the end is void, and the machine continues
 abbrev pub plain_after : RegionState → TacState → TacState
 plain_after s next = record next { printed = printed_if s.mark s.plain.printed next.printed; ended = None }
 
 -- ---- one goroutine
 
--- by the holder and the owner that the object that it made gave
+-- by the holder and the owner after the object that it made was placed
 abbrev pub instructed_with
-    : Code → RegionState → ℕ → Frame → List Frame → CodeInstr → TacState → Holder × List Region → RegionState
+    : Code → RegionState → ℕ → TacFrame → List TacFrame → CodeInstr → TacState → Holder × List Region → RegionState
 instructed_with code s g frame callers i next given = record s {
   plain = plain_after s next;
   owners = s.owners ++ given.1;
@@ -135,23 +135,23 @@ instructed_with code s g frame callers i next given = record s {
 }
 
 abbrev pub some_instructed
-    : Code → RegionState → ℕ → Frame → List Frame → CodeInstr → TacState → Holder × List Region → Option RegionState
+    : Code → RegionState → ℕ → TacFrame → List TacFrame → CodeInstr → TacState → Holder × List Region → Option RegionState
 some_instructed code s g frame callers i next given = Some (instructed_with code s g frame callers i next given)
 
 abbrev pub instructed
-    : Code → ℕ → RegionState → ℕ → Holder → Frame → List Frame → TacState → CodeInstr → Option RegionState
+    : Code → ℕ → RegionState → ℕ → Holder → TacFrame → List TacFrame → TacState → CodeInstr → Option RegionState
 instructed code page_words s g h frame callers next i =
     option_and_then (some_instructed code s g frame callers i next)
     (allotted page_words h (making_region (function_at code frame) (top_names h.environments) i.op)
     (new_object s.plain next))
 
 abbrev pub instructed_at
-    : Code → ℕ → RegionState → ℕ → Holder → Frame → List Frame → TacState → Option RegionState
+    : Code → ℕ → RegionState → ℕ → Holder → TacFrame → List TacFrame → TacState → Option RegionState
 instructed_at code page_words s g h frame callers next =
     option_and_then (instructed code page_words s g h frame callers next) (current code frame)
 
 abbrev pub one_instructed
-    : Code → ℕ → RegionState → ℕ → Option Holder → List Frame → TacState → Option RegionState
+    : Code → ℕ → RegionState → ℕ → Option Holder → List TacFrame → TacState → Option RegionState
 one_instructed code page_words s g None frames next = None
 one_instructed code page_words s g (Some h) [] next = None
 one_instructed code page_words s g (Some h) (frame ∷ callers) next =
@@ -169,16 +169,16 @@ taken_offer (Standing channel) = Taken channel
 taken_offer NoOffer = NoOffer
 taken_offer (Taken channel) = Taken channel
 
-abbrev pub side_by : Code → Holder → Frame → List Frame → List Frame → Option CodeInstr → Holder
+abbrev pub side_by : Code → Holder → TacFrame → List TacFrame → List TacFrame → Option CodeInstr → Holder
 side_by code h frame callers next None = h
 side_by code h frame callers next (Some i) = holder_after code h frame callers i.op next
 
 -- one of the two
-abbrev pub side_after : Code → Holder → List Frame → List Frame → Holder
+abbrev pub side_after : Code → Holder → List TacFrame → List TacFrame → Holder
 side_after code h [] next = h
 side_after code h (frame ∷ callers) next = side_by code h frame callers next (current code frame)
 
--- the sender's offer stands, and is taken
+-- a meeting takes the sender's open offer
 abbrev pub both_instructed
     : Code → RegionState → (r t : ℕ) → (receiver sender : Option Holder) → TacState → Option RegionState
 both_instructed code s r t (Some receiver) (Some sender) next =

@@ -9,3 +9,4 @@ pub mod Owed
 pub mod Regions
 pub mod Room
 pub mod States
+pub mod Tallies

@@ -1,5 +1,5 @@
 -- The region machine: three-address code that runs with its regions. One event is one instruction, two that meet, or one
--- step with a region. There is no event that touches a region which is not live.
+-- step with a region. No event touches a region that is not live.
 use Rattle.std.specs.Prelude.{ℕ, ◌+◌, ◌&&◌, List, [], ◌∷◌, Option, Some, None}
 use Rattle.std.specs.Prelude.{slice_get, option_and_then, if◌then◌else◌}
 use Rattle.rgo_memory.specs.Memory.{Object}
@@ -7,7 +7,7 @@ use Rattle.rgo_machine.specs.declared.picks.Pick.{Pick}
 use Rattle.rgo_machine.specs.declared.picks.Pick.TheVariants.{One}
 use Rattle.rgo_machine.specs.Runs.{run}
 use Rattle.rgo_tac.specs.declared.regions.Class.TheVariants.{NoClass}
-use Rattle.rgo_tac.specs.Frames.{Frame}
+use Rattle.rgo_tac.specs.Frames.{TacFrame}
 use Rattle.rgo_tac.specs.Tac.{TacState, tac_start, tac_step}
 use Rattle.rgo_code.specs.Code.{CodeInstr, Code}
 use Rattle.rgo_code.specs.Erasure.{erased}
@@ -22,7 +22,7 @@ use Rattle.rgo_region_machine.specs.Owed.{function_at, current, next_duties}
 use Rattle.rgo_region_machine.specs.Regions.{is_live, with_info, one_page_more}
 use Rattle.rgo_region_machine.specs.States.{Holder, NoOffer, Mark, Stopped, RegionState, frames_of, environment_of, top_names}
 
--- Goroutines are given by their numbers.
+-- One step. Goroutines are identified by their numbers.
 pub data Event : Type 0 where
   -- an instruction, or two that meet
   Instruct : Pick → Event
@@ -31,7 +31,7 @@ pub data Event : Type 0 where
   TakePage : (goroutine : ℕ) → Event
   MakeOffer : (goroutine : ℕ) → Event
   Acknowledge : (goroutine : ℕ) → Event
-  -- an end that is no instruction's
+  -- an end that no instruction brings about
   Finish : Limit → Event
 
 -- the step of the three-address machine
@@ -63,28 +63,28 @@ page_before page_words s g h r object =
 abbrev pub takes_page : Code → ℕ → RegionState → ℕ → Holder → Region → Option RegionState
 takes_page code page_words s g h r = option_and_then (page_before page_words s g h r) (next_object code s g)
 
-abbrev pub page_for : Code → ℕ → RegionState → ℕ → Holder → Frame → CodeInstr → Option RegionState
+abbrev pub page_for : Code → ℕ → RegionState → ℕ → Holder → TacFrame → CodeInstr → Option RegionState
 page_for code page_words s g h frame i =
     option_and_then (takes_page code page_words s g h)
     (making_region (function_at code frame) (top_names h.environments) i.op)
 
-abbrev pub take_page : Code → ℕ → RegionState → ℕ → Holder → List Frame → Option RegionState
+abbrev pub take_page : Code → ℕ → RegionState → ℕ → Holder → List TacFrame → Option RegionState
 take_page code page_words s g h [] = None
 take_page code page_words s g h (frame ∷ callers) =
     option_and_then (page_for code page_words s g h frame) (current code frame)
 
 -- ---- the end
 
-abbrev pub kept : Option Mark → Limit → Option Mark
-kept None limit = Some (Stopped limit)
-kept (Some first) limit = Some first
+abbrev pub kept_mark : Option Mark → Limit → Option Mark
+kept_mark None limit = Some (Stopped limit)
+kept_mark (Some first) limit = Some first
 
 abbrev pub finished : RegionState → Limit → RegionState
-finished s limit = record s { mark = kept s.mark limit }
+finished s limit = record s { mark = kept_mark s.mark limit }
 
 -- ---- the machine
 
--- pages have so many words
+-- the state after an event, if it has a step; pages have this many words
 abbrev pub region_step : Code → (page_words : ℕ) → RegionState → Event → Option RegionState
 region_step code page_words s (Instruct pick) =
     option_and_then (instruct code page_words s pick) (plain_step code s.plain pick)
@@ -98,7 +98,7 @@ region_step code page_words s (Acknowledge g) =
     option_and_then (λ (h : Holder). acknowledge s g h h.offer) (slice_get s.holders g)
 region_step code page_words s (Finish limit) = Some (finished s limit)
 
-abbrev pub main_holder : Code → List Frame → Holder
+abbrev pub main_holder : Code → List TacFrame → Holder
 main_holder code frames = record {
   stakes = [];
   pending = [];
@@ -121,6 +121,6 @@ region_start code = record {
   mark = None;
 }
 
--- the state behind these events, if each has a step in its turn
+-- the state after these events, if each has a step in its turn
 abbrev pub region_run : Code → (page_words : ℕ) → List Event → Option RegionState
 region_run code page_words events = run (region_step code page_words) (region_start code) events

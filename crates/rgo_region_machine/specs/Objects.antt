@@ -8,7 +8,7 @@ use Rattle.rgo_memory.specs.declared.values.Value.TheVariants as value
 use Rattle.rgo_memory.specs.Memory.{Object, StructObject, SliceObject, Channel}
 use Rattle.rgo_tac.specs.declared.regions.Class.{Class}
 use Rattle.rgo_tac.specs.declared.regions.Class.TheVariants.{NoClass}
-use Rattle.rgo_tac.specs.Frames.{Frame, values_of}
+use Rattle.rgo_tac.specs.Frames.{TacFrame, operand_values}
 use Rattle.rgo_tac.specs.Tac.{TacState}
 use Rattle.rgo_code.specs.Code.{CodeOp, CodeFn, Do, Call, Go, Print, Jump, Branch, Return}
 use Rattle.rgo_code.specs.Names.{class_of}
@@ -94,8 +94,8 @@ touched_by action.Chan vs = None
 touched_by (action.Get n) vs = None
 touched_by (action.Set n) vs = None
 
-abbrev pub touched : Frame → CodeOp → Option ℕ
-touched frame (Do to action from removes) = touched_by action (values_of frame from)
+abbrev pub touched : TacFrame → CodeOp → Option ℕ
+touched frame (Do to action from removes) = touched_by action (operand_values frame from)
 touched frame (Call to n from passes protects removes) = None
 touched frame (Go n from passes removes) = None
 touched frame (Print pieces from removes) = None
@@ -116,14 +116,14 @@ may_touch s (Some o) = owner_live s (slice_get s.owners o)
 
 -- the words of an object: at least one for the cells of a struct and of a channel; one more for the length of a slice,
 -- two for what a channel is
-abbrev pub words : Object → ℕ
-words (StructObject cells) = max 1 (length cells)
-words (SliceObject cells) = 1 + length cells
-words (Channel capacity queue closed) = 2 + max 1 capacity
+abbrev pub object_words : Object → ℕ
+object_words (StructObject cells) = max 1 (length cells)
+object_words (SliceObject cells) = 1 + length cells
+object_words (Channel capacity queue closed) = 2 + max 1 capacity
 
 -- An object of more words than a page has is spread: over a lead page and data pages, which hold nothing else.
 abbrev pub is_spread : (page_words : ℕ) → Object → Bool
-is_spread page_words object = nat_lt page_words (words object)
+is_spread page_words object = nat_lt page_words (object_words object)
 
 -- the cells of an object: fields, elements, or the places of a buffer
 abbrev pub cells : Object → ℕ
@@ -151,9 +151,9 @@ abbrev pub with_fill : List (Region × ℕ) → Region → ℕ → List (Region 
 with_fill [] r n = (r, n) ∷ []
 with_fill (f ∷ fs) r n = if same_region f.0 r then (r, n) ∷ fs else f ∷ with_fill fs r n
 
-abbrev pub fits : (page_words : ℕ) → Option ℕ → ℕ → Bool
-fits page_words None n = false
-fits page_words (Some used) n = nat_le (used + n) page_words
+abbrev pub fits_in_page : (page_words : ℕ) → Option ℕ → ℕ → Bool
+fits_in_page page_words None n = false
+fits_in_page page_words (Some used) n = nat_le (used + n) page_words
 
 -- Whether a page is to be taken before this object: a spread object that is not too large has not all of its pages, or
 -- another one does not fit what is left of the own page.
@@ -161,7 +161,7 @@ abbrev pub wants_page : (page_words : ℕ) → (reserved : ℕ) → (used : Opti
 wants_page page_words reserved used object =
     if is_spread page_words object
     then not (is_too_large page_words object) && nat_le reserved (data_pages page_words object)
-    else not (fits page_words used (words object))
+    else not (fits_in_page page_words used (object_words object))
 
 -- The holder after that page was taken: it is reserved for the spread object, and the own page stays as it is; or else it
 -- is the own page, to be filled from its beginning.
@@ -176,8 +176,8 @@ with_page page_words h r object = record h {
 abbrev pub placed : (page_words : ℕ) → Holder → Region → Object → Option ℕ → Option (Holder × List Region)
 placed page_words h r object None = None
 placed page_words h r object (Some used) =
-    if nat_le (used + words object) page_words
-    then Some (record h { fills = with_fill h.fills r (used + words object) }, r ∷ []) else None
+    if nat_le (used + object_words object) page_words
+    then Some (record h { fills = with_fill h.fills r (used + object_words object) }, r ∷ []) else None
 
 -- A spread object that is not too large is placed in the pages reserved for it, when these are all.
 abbrev pub spread_out : (page_words : ℕ) → Holder → Region → Object → Option (Holder × List Region)

@@ -1,5 +1,5 @@
--- Offers: a send on an open channel without a buffer stands there until a receiver takes it, which the sender then
--- acknowledges. At most one stands at a channel.
+-- Offers: a send on an open channel without a buffer waits there until a receiver takes it, which the sender then
+-- acknowledges. At most one is open at a channel.
 use Rattle.std.specs.Prelude.{ℕ, Bool, false, List, [], ◌∷◌, Option, Some, None}
 use Rattle.std.specs.Prelude.{slice_get, nat_eq, option_and_then, if◌then◌else◌}
 use Rattle.std.specs.List.{list_any}
@@ -7,7 +7,7 @@ use Rattle.rgo_typed.specs.declared.actions.Action.TheVariants as action
 use Rattle.rgo_memory.specs.declared.values.Value.{Value}
 use Rattle.rgo_memory.specs.declared.values.Value.TheVariants as value
 use Rattle.rgo_memory.specs.Channels.{is_meeting_at}
-use Rattle.rgo_tac.specs.Frames.{Frame, values_of}
+use Rattle.rgo_tac.specs.Frames.{TacFrame, operand_values}
 use Rattle.rgo_code.specs.Code.{CodeOp, CodeInstr, Code, Do, Call, Go, Print, Jump, Branch, Return}
 use Rattle.rgo_region_machine.specs.Duties.{attended}
 use Rattle.rgo_region_machine.specs.Instructions.{is_ready}
@@ -20,8 +20,8 @@ abbrev pub open_channel : RegionState → List Value → Option ℕ
 open_channel s (value.Object o ∷ v ∷ []) = if is_meeting_at (slice_get s.plain.memory.heap o) then Some o else None
 open_channel s _ = None
 
-abbrev pub offered_channel : RegionState → Frame → CodeOp → Option ℕ
-offered_channel s frame (Do to action.Send from removes) = open_channel s (values_of frame from)
+abbrev pub offered_channel : RegionState → TacFrame → CodeOp → Option ℕ
+offered_channel s frame (Do to action.Send from removes) = open_channel s (operand_values frame from)
 offered_channel s frame (Do to (action.Int k) from removes) = None
 offered_channel s frame (Do to (action.Bool b) from removes) = None
 offered_channel s frame (Do to action.Nil from removes) = None
@@ -54,19 +54,19 @@ offers_on o NoOffer = false
 offers_on o (Standing p) = nat_eq o p
 offers_on o (Taken p) = nat_eq o p
 
--- an offer on a channel at which none stands
+-- an offer on a channel at which none is open
 abbrev pub offered : RegionState → ℕ → Holder → ℕ → Option RegionState
 offered s g h o =
     if list_any (λ (k : Holder). offers_on o k.offer) s.holders
     then None else Some (attended s g (record h { offer = Standing o }))
 
-abbrev pub offer_for : RegionState → ℕ → Holder → Frame → CodeInstr → Option RegionState
+abbrev pub offer_for : RegionState → ℕ → Holder → TacFrame → CodeInstr → Option RegionState
 offer_for s g h frame i = option_and_then (offered s g h) (offered_channel s frame i.op)
 
-abbrev pub offer_at : Code → RegionState → ℕ → Holder → Frame → Option RegionState
+abbrev pub offer_at : Code → RegionState → ℕ → Holder → TacFrame → Option RegionState
 offer_at code s g h frame = option_and_then (offer_for s g h frame) (current code frame)
 
-abbrev pub make_offer : Code → RegionState → ℕ → Holder → List Frame → Option RegionState
+abbrev pub make_offer : Code → RegionState → ℕ → Holder → List TacFrame → Option RegionState
 make_offer code s g h [] = None
 make_offer code s g h (frame ∷ callers) =
     if is_ready code s h (frame ∷ callers) then offer_at code s g h frame else None

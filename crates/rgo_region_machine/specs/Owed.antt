@@ -5,9 +5,9 @@ use Rattle.std.specs.List.{list_any}
 use Rattle.rgo_machine.specs.Actions.{is_true}
 use Rattle.rgo_tac.specs.declared.regions.Class.{Class}
 use Rattle.rgo_tac.specs.declared.regions.Class.TheVariants.{NoClass, Global, Name}
-use Rattle.rgo_tac.specs.Frames.{Frame, value_at}
+use Rattle.rgo_tac.specs.Frames.{TacFrame, value_at}
 use Rattle.rgo_code.specs.Code.{CodeOp, CodeInstr, CodeFn, Code, Do, Call, Go, Print, Jump, Branch, Return}
-use Rattle.rgo_code.specs.Names.{is_name, region_parameters, result_class}
+use Rattle.rgo_code.specs.Names.{is_class_named, region_parameters, result_class}
 use Rattle.rgo_region_machine.specs.declared.regions.Region.{Region}
 use Rattle.rgo_region_machine.specs.declared.regions.Region.TheVariants.{Global as GlobalRegion, Numbered}
 use Rattle.rgo_region_machine.specs.Regions.{same_region, Bindings, class_region}
@@ -15,18 +15,18 @@ use Rattle.rgo_region_machine.specs.States.{Duty, Create, Share, Protect, Unprot
 
 -- ---- the code of a frame
 
-abbrev pub function_of : Code → ℕ → Option CodeFn
-function_of code n = slice_get code.functions n
+abbrev pub code_function : Code → ℕ → Option CodeFn
+code_function code n = slice_get code.functions n
 
-abbrev pub function_at : Code → Frame → Option CodeFn
-function_at code frame = function_of code frame.function
+abbrev pub function_at : Code → TacFrame → Option CodeFn
+function_at code frame = code_function code frame.function
 
 abbrev pub current_in : Option CodeFn → ℕ → Option CodeInstr
 current_in None i = None
 current_in (Some f) i = slice_get f.body i
 
 -- the next instruction
-abbrev pub current : Code → Frame → Option CodeInstr
+abbrev pub current : Code → TacFrame → Option CodeInstr
 current code frame = current_in (function_at code frame) frame.next
 
 abbrev pub entry_removes : Option CodeFn → List ℕ
@@ -37,9 +37,9 @@ abbrev pub formals_of : Option CodeFn → List Class
 formals_of None = []
 formals_of (Some f) = region_parameters f
 
-abbrev pub result_of : Option CodeFn → Class
-result_of None = NoClass
-result_of (Some f) = result_class f
+abbrev pub function_result_class : Option CodeFn → Class
+function_result_class None = NoClass
+function_result_class (Some f) = result_class f
 
 -- ---- before an instruction
 
@@ -62,14 +62,14 @@ abbrev pub duties_before : Option CodeInstr → List Duty
 duties_before None = []
 duties_before (Some i) = map Create i.creates ++ duties_of_op i.op
 
-abbrev pub next_duties : Code → List Frame → List Duty
+abbrev pub next_duties : Code → List TacFrame → List Duty
 next_duties code [] = []
 next_duties code (frame ∷ callers) = duties_before (current code frame)
 
 -- ---- after an instruction
 
 -- the names that are removed on the way that a frame takes
-abbrev pub removes_behind : Frame → CodeOp → List ℕ
+abbrev pub removes_behind : TacFrame → CodeOp → List ℕ
 removes_behind frame (Do to action from removes) = removes
 removes_behind frame (Call to n from passes protects removes) = removes
 removes_behind frame (Go n from passes removes) = removes
@@ -94,7 +94,7 @@ duties_behind_call None = []
 duties_behind_call (Some i) = duties_behind i.op
 
 -- what is owed after a return to these callers; without one, the end of the goroutine's base
-abbrev pub caller_duties : Code → Holder → List Frame → List Duty
+abbrev pub caller_duties : Code → Holder → List TacFrame → List Duty
 caller_duties code h [] = map EndBase h.base
 caller_duties code h (caller ∷ callers) = duties_behind_call (current code caller)
 
@@ -117,7 +117,7 @@ same_class NoClass c = false
 same_class Global Global = true
 same_class Global NoClass = false
 same_class Global (Name k) = false
-same_class (Name k) c = is_name k c
+same_class (Name k) c = is_class_named k c
 
 -- the names that a call leaves to its callee: passed, not protected, and not for the callee's result
 abbrev pub given_names : (result : Class) → (formals passes : List Class) → (protects : List ℕ) → List ℕ

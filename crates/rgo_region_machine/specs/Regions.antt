@@ -31,8 +31,8 @@ with_info [] r change = []
 with_info (info ∷ infos) zero change = change info ∷ infos
 with_info (info ∷ infos) (suc r) change = info ∷ with_info infos r change
 
-abbrev pub one_more : RegionInfo → RegionInfo
-one_more info = record info { stakes = info.stakes + 1 }
+abbrev pub with_added_stake : RegionInfo → RegionInfo
+with_added_stake info = record info { stakes = info.stakes + 1 }
 
 abbrev pub one_fewer : RegionInfo → RegionInfo
 one_fewer info = record info { stakes = info.stakes - 1 }

@@ -4,8 +4,8 @@ use Rattle.std.specs.Prelude.{◌≡◌, ◌≤◌, ◌<◌, ◌+◌, ◌-◌, �
 use Rattle.std.specs.Prelude.{IsSome, length, max, slice_get, sum_by, nat_lt, if◌then◌else◌}
 use Rattle.rgo_machine.specs.declared.limits.Sizes.{Sizes}
 use Rattle.rgo_machine.specs.declared.picks.Pick.TheVariants.{One}
-use Rattle.rgo_machine.specs.declared.turns.Shortage.{Shortage}
-use Rattle.rgo_machine.specs.declared.turns.Shortage.TheVariants as shortage
+use Rattle.rgo_machine.specs.declared.limits.Shortage.{Shortage}
+use Rattle.rgo_machine.specs.declared.limits.Shortage.TheVariants as shortage
 use Rattle.rgo_machine.specs.Runs.{run}
 use Rattle.rgo_memory.specs.Memory.{Object}
 use Rattle.rgo_tac.specs.Tac.{TacState}
@@ -25,7 +25,7 @@ abbrev pub live_regions : RegionState → ℕ
 live_regions s = (counts_of s).made - (counts_of s).removed
 
 -- no more pages are in use, and no more regions live, than there may be
-pub record FitsIn (sizes : Sizes) (s : RegionState) : Type 0 where
+pub record StateFitsIn (sizes : Sizes) (s : RegionState) : Type 0 where
   pub pages : pages_in_use s ≤ sizes.pages
   pub regions : live_regions s ≤ sizes.regions
 
@@ -60,7 +60,7 @@ abbrev pub roomy_step : Code → Sizes → RegionState → Event → Option Regi
 roomy_step code sizes s event =
     if has_room sizes s event then region_step code sizes.page_words s event else None
 
--- the state behind these events, if each has a step with room in its turn
+-- the state after these events, if each has a step with room in its turn
 abbrev pub roomy_run : Code → Sizes → List Event → Option RegionState
 roomy_run code sizes events = run (roomy_step code sizes) (region_start code) events
 

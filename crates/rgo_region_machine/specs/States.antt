@@ -3,7 +3,7 @@
 use Rattle.std.specs.Prelude.{ℕ, List, [], ◌∷◌, Option, Some, None, slice_get}
 use Rattle.rgo_machine.specs.declared.picks.End.{End}
 use Rattle.rgo_tac.specs.declared.regions.Class.{Class}
-use Rattle.rgo_tac.specs.Frames.{Frame}
+use Rattle.rgo_tac.specs.Frames.{TacFrame}
 use Rattle.rgo_tac.specs.Tac.{TacState}
 use Rattle.rgo_region_machine.specs.declared.limits.Limit.{Limit}
 use Rattle.rgo_region_machine.specs.declared.regions.Region.{Region}
@@ -20,16 +20,16 @@ pub data Duty : Type 0 where
   -- removal
   EndBase : Region → Duty
 
--- a goroutine's offer on a channel without a buffer: none; it stands; a receiver has taken it, and the sender has not
--- acknowledged that
+-- a goroutine's offer on a channel without a buffer: none; one that is open; one that a receiver has taken and the sender
+-- has not acknowledged
 pub data Offer : Type 0 where
   NoOffer : Offer
   Standing : (channel : ℕ) → Offer
   Taken : (channel : ℕ) → Offer
 
--- What a frame knows of regions: the class of its function's result, whose region the caller lends; what its names stand
--- for; and the regions that its call protects, each once for each protection.
-pub record Environment : Type 0 where
+-- What a frame knows of regions: the class of its function's result, whose region the caller lends; the region that each of
+-- its names stands for; and the regions that its call protects, each once for each protection.
+pub record RegionEnvironment : Type 0 where
   pub lent : Class
   pub names : Bindings
   pub protections : List Region
@@ -41,7 +41,7 @@ pub record Holder : Type 0 where
   -- those in which it has taken one for a goroutine that it is about to start
   pub pending : List ℕ
   -- of each frame, the newest first
-  pub environments : List Environment
+  pub environments : List RegionEnvironment
   -- the regions given at two positions when it started, which it protects until its function has returned
   pub base : List Region
   -- the page of its own that it fills in a region: how many words of it are used
@@ -85,26 +85,26 @@ plain_at s printed = record s.plain { printed = printed; ended = end_in s.mark }
 
 -- ---- frames
 
-abbrev pub frames_in : Option (List Frame) → List Frame
+abbrev pub frames_in : Option (List TacFrame) → List TacFrame
 frames_in None = []
 frames_in (Some frames) = frames
 
-abbrev pub frames_of : TacState → ℕ → List Frame
+abbrev pub frames_of : TacState → ℕ → List TacFrame
 frames_of s g = frames_in (slice_get s.goroutines g)
 
 -- ---- environments
 
-abbrev pub environment_of : Class → Bindings → Environment
+abbrev pub environment_of : Class → Bindings → RegionEnvironment
 environment_of lent names = record { lent = lent; names = names; protections = [] }
 
-abbrev pub top_names : List Environment → Bindings
+abbrev pub top_names : List RegionEnvironment → Bindings
 top_names [] = []
 top_names (e ∷ es) = e.names
 
-abbrev pub with_top : List Environment → Bindings → List Environment
+abbrev pub with_top : List RegionEnvironment → Bindings → List RegionEnvironment
 with_top [] names = []
 with_top (e ∷ es) names = record e { names = names } ∷ es
 
-abbrev pub below : List Environment → List Environment
+abbrev pub below : List RegionEnvironment → List RegionEnvironment
 below [] = []
 below (e ∷ es) = es

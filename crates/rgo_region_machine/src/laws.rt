@@ -2,7 +2,7 @@
 
 ghost use Rattle.rgo_region_machine.specs.Examples.{RegionExamples, RoomExamples, SpreadExamples};
 
-/// Small runs: what they print, how they end and what they count; and steps that there are not.
+/// Small runs: what they print, how they end and what they count; and steps that are not possible.
 pub fn examples()
     ensures { RegionExamples }
 {}

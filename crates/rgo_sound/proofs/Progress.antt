@@ -6,23 +6,23 @@ use Rattle.std.proofs.Common.{rules}
 use Rattle.std.proofs.lemmas.Option.{slice_get_within, slice_get_past, same_Some}
 use Rattle.std.specs.List.{list_any}
 use Rattle.std.proofs.lemmas.Bool.Decides.{nat_tests}
-use Rattle.rgo_sound.proofs.Static.{standing_settled, named_bound}
+use Rattle.rgo_sound.proofs.names.Edges.{standing_settled, named_bound}
 use Rattle.rgo_sound.proofs.Tests.{split, eq_of, nat_eq_refl, nat_ne_sym}
 use Rattle.rgo_sound.proofs.Places.{get_set_other, get_set_same, get_some}
-use Rattle.rgo_sound.proofs.OneStep.{ReceivesAt, StandsAt, current_erased, met_with, stands_at_channel}
-use Rattle.rgo_sound.proofs.ErasureLemmas.{Always, Yields, yields, yields_none, yields_if, yields_then, yields_is}
-use Rattle.rgo_sound.proofs.Attends.{total_set, staked_live, duties_go, same_reflexive}
-use Rattle.rgo_sound.proofs.TypedSteps.{here, one_object}
-use Rattle.rgo_sound.proofs.ValueSteps.{Top, top_of}
-use Rattle.rgo_sound.proofs.Offers.{all_good_step, runs_are_good, touched_home, class_has_stake, at_send, alone_steady}
-use Rattle.rgo_sound.proofs.Offers.{SteadyActed, makes_at, making_class}
+use Rattle.rgo_sound.proofs.steps.OneStep.{ReceivesAt, StandsAt, current_erased, met_with, stands_at_channel}
+use Rattle.rgo_sound.proofs.plain.Steps.{Always, Yields, yields, yields_none, yields_if, yields_then, yields_is}
+use Rattle.rgo_sound.proofs.duties.Attends.{total_set, staked_live, duties_go, same_reflexive}
+use Rattle.rgo_sound.proofs.types.Steps.{here, one_object}
+use Rattle.rgo_sound.proofs.pointers.Steps.{Top, top_of}
+use Rattle.rgo_sound.proofs.offers.Offers.{all_good_step, runs_are_good, touched_home, class_has_stake, at_send, alone_steady}
+use Rattle.rgo_sound.proofs.offers.Offers.{SteadyActed, makes_at, making_class}
 use Rattle.rgo_code.specs.Checked.{IsChecked}
 use Rattle.rgo_code.specs.Code.{Branch, Call, Code, CodeInstr, CodeOp, Do, Go, Jump, Print, Return, Slot}
 use Rattle.rgo_code.specs.Erasure.{erased, erased_fn, erased_instr, erased_op}
-use Rattle.rgo_code.specs.Exists.{Uses}
+use Rattle.rgo_code.specs.Exists.{UsesVariable}
 use Rattle.rgo_code.specs.NameRules.{Ascends}
-use Rattle.rgo_code.specs.Names.{Names, class_of, slot_class}
-use Rattle.rgo_code.specs.Types.{DoFits, HasType, OpFits}
+use Rattle.rgo_code.specs.Names.{UsesRegionName, class_of, slot_class}
+use Rattle.rgo_code.specs.Types.{DoFits, VariableHasType, IsWellTypedOp}
 use Rattle.rgo_machine.specs.Machines.{AtCall, AtClose, AtReceive, AtSend, AtStart, Elsewhere, Stand}
 use Rattle.rgo_machine.specs.Machines.{alone as machine_alone, meet, met, met_by, picked, unless_ended}
 use Rattle.rgo_machine.specs.Runs.{run}
@@ -40,10 +40,10 @@ use Rattle.rgo_region_machine.specs.Instructions.{standing_at, touches}
 use Rattle.rgo_region_machine.specs.Machine.{Acknowledge, Attend, Event, Instruct, MakeOffer, TakePage, next_object}
 use Rattle.rgo_region_machine.specs.Machine.{object_made, page_for, page_taken, plain_step, region_step, take_page}
 use Rattle.rgo_region_machine.specs.Machine.{page_before, takes_page}
-use Rattle.rgo_region_machine.specs.Objects.{allotted, fill_of, fits, makes_object, making_region, may_touch}
+use Rattle.rgo_region_machine.specs.Objects.{allotted, fill_of, fits_in_page, makes_object, making_region, may_touch}
 use Rattle.rgo_region_machine.specs.Objects.{new_object, owner_live, placed, target_class, touched, wants_page}
 use Rattle.rgo_region_machine.specs.Objects.{data_pages, is_spread, is_too_large, most_data_pages, spread_out, with_fill}
-use Rattle.rgo_region_machine.specs.Objects.{with_page, words}
+use Rattle.rgo_region_machine.specs.Objects.{with_page, object_words}
 use Rattle.rgo_region_machine.specs.Offers.{acknowledge, make_offer, offer_at, offer_for, offered, offered_channel}
 use Rattle.rgo_region_machine.specs.Offers.{offers_on, open_channel}
 use Rattle.rgo_region_machine.specs.Owed.{current, current_in, function_at}
@@ -53,7 +53,7 @@ use Rattle.rgo_region_machine.specs.States.{Share, Standing, Taken, Unprotect, f
 use Rattle.rgo_region_machine.specs.States.{with_top}
 use Rattle.rgo_region_machine.specs.declared.regions.Region.{Region}
 use Rattle.rgo_region_machine.specs.declared.regions.Region.TheVariants.{Global as GlobalRegion, Numbered}
-use Rattle.rgo_sound.proofs.Acting.{after, Acted, alone, alone_is}
+use Rattle.rgo_sound.proofs.steps.Acting.{after, Acted, alone, alone_is}
 use Rattle.rgo_sound.specs.Good.{AllGood}
 use Rattle.rgo_sound.specs.Invariant.{Fine, GoodHolder, HasInstr, Settled}
 use Rattle.rgo_sound.specs.NextNames.{HasStake}
@@ -63,8 +63,8 @@ use Rattle.rgo_sound.specs.Progress.{CanInstruct, IsLike, IsRegionStep, NoStepMi
 use Rattle.rgo_sound.specs.Stakes.{is_in, one_if, total}
 use Rattle.rgo_tac.specs.Code.{Tac, TacFn}
 use Rattle.rgo_tac.specs.Flow.{writes}
-use Rattle.rgo_tac.specs.Frames.{Frame, going, value_at}
-use Rattle.rgo_tac.specs.Steps.{stand, stand_at, stand_before}
+use Rattle.rgo_tac.specs.Frames.{TacFrame, frame_after_instr, value_at}
+use Rattle.rgo_tac.specs.Steps.{tac_stand, stand_at_instr, stand_before_op}
 use Rattle.rgo_tac.specs.Tac.{TacState, tac}
 use Rattle.rgo_tac.specs.declared.regions.Class.{Class}
 use Rattle.rgo_tac.specs.declared.regions.Class.TheVariants.{Global, Name, NoClass}
@@ -89,7 +89,7 @@ running_of code p pick next e = go p.ended refl e
     go None q e = q
     go (Some end) q e = cc
 
-pub one_step : (code : Code) (p : TacState) (g : ℕ) (frames : List Frame) → p.ended ≡ None → slice_get p.goroutines g
+pub one_step : (code : Code) (p : TacState) (g : ℕ) (frames : List TacFrame) → p.ended ≡ None → slice_get p.goroutines g
     ≡ Some frames → plain_step code p (One g) ≡ option_map (after p g) (alone (erased code) p.memory frames)
 one_step code p g frames running at =
     ap (λ e. unless_ended e (picked (tac (erased code)) p (One g))) running
@@ -268,7 +268,7 @@ module _ (code : Code) (page_words : ℕ) (checked : IsChecked code) (written : 
 
   -- ---- a goroutine that is cleared is ready
 
-  ready_now : (s : RegionState) (g : ℕ) (h : Holder) (frame : Frame) (callers : List Frame) (instr : CodeInstr)
+  ready_now : (s : RegionState) (g : ℕ) (h : Holder) (frame : TacFrame) (callers : List TacFrame) (instr : CodeInstr)
       → AllGood code s → slice_get s.holders g ≡ Some h → frames_of s.plain g ≡ frame ∷ callers → current code frame
       ≡ Some instr → h.duties ≡ [] → may_go h.offer ≡ true → is_ready code s h (frame ∷ callers) ≡ true
   ready_now s g h frame callers instr all e at cur d m =
@@ -292,7 +292,7 @@ pub record HasTarget (f : TacFn) (to : Option ℕ) : Type 0 where
   pub variable : ℕ
   pub is : to ≡ Some variable
   pub ty : «Type»
-  pub typed : HasType f variable ty
+  pub typed : VariableHasType f variable ty
   pub like : is_pointer_like ty ≡ true
 
 pub made_pointer : (code : Tac) (f : TacFn) (to : Option ℕ) (action : Action) (operands : List «Type»)
@@ -333,8 +333,8 @@ slot_of [] (suc d) ty e = cc
 slot_of (s ∷ slots) zero ty e = (s, refl, cc)
 slot_of (s ∷ slots) (suc d) ty e = slot_of slots d ty e
 
-module _ (code : Code) (checked : IsChecked code) (s : RegionState) (g : ℕ) (h : Holder) (frame : Frame)
-    (callers : List Frame) (instr : CodeInstr) (all : AllGood code s) (e : slice_get s.holders g ≡ Some h)
+module _ (code : Code) (checked : IsChecked code) (s : RegionState) (g : ℕ) (h : Holder) (frame : TacFrame)
+    (callers : List TacFrame) (instr : CodeInstr) (all : AllGood code s) (e : slice_get s.holders g ≡ Some h)
     (at : slice_get s.plain.goroutines g ≡ Some (frame ∷ callers)) (cur : current code frame ≡ Some instr)
     (d : h.duties ≡ []) where
   pub top : Top code h frame callers
@@ -357,10 +357,10 @@ module _ (code : Code) (checked : IsChecked code) (s : RegionState) (g : ℕ) (h
       go Global q = (GlobalRegion, refl)
       go (Name k) q = some (bound top.f.names k) refl
         where
-          used : Uses (erased_op instr.op) d
+          used : UsesVariable (erased_op instr.op) d
           used = inr (ap (λ op. writes (erased_op op)) is ∙ t)
 
-          names : Names top.stands.fn instr.op k
+          names : UsesRegionName top.stands.fn instr.op k
           names = record { variable = d; used = used; named = q }
 
           some : (o : Option Region) → bound top.f.names k ≡ o → (r : Region) × (bound top.f.names k ≡ Some r)
@@ -374,8 +374,8 @@ module _ (code : Code) (checked : IsChecked code) (s : RegionState) (g : ℕ) (h
       → makes_object action ≡ true → HasTarget (erased_fn top.stands.fn) to
   target to action from removes is m = made_pointer (erased code) (erased_fn top.stands.fn) to action t.0 t.2 m
     where
-      t : OpFits (erased code) (erased_fn top.stands.fn) (erased_op (Do to action from removes))
-      t = subst (λ op. OpFits (erased code) (erased_fn top.stands.fn) (erased_op op)) is
+      t : IsWellTypedOp (erased code) (erased_fn top.stands.fn) (erased_op (Do to action from removes))
+      t = subst (λ op. IsWellTypedOp (erased code) (erased_fn top.stands.fn) (erased_op op)) is
           (checked rule.Types (line.Instr frame.function frame.next) top.stands.fn instr top.stands.is_fn there)
 
   -- and has a region for it
@@ -452,7 +452,7 @@ not_le : (a b : ℕ) → nat_le a b ≡ false → b < a
 not_le a b e = grind (arith, nat_tests)
 
 module _ (code : Code) (page_words : ℕ) (checked : IsChecked code) (written : Ascends code) (g : ℕ) where
-  steps_now : (s : RegionState) (h : Holder) (frame : Frame) (callers : List Frame) (instr : CodeInstr) (a : Acted)
+  steps_now : (s : RegionState) (h : Holder) (frame : TacFrame) (callers : List TacFrame) (instr : CodeInstr) (a : Acted)
       (given : Holder × List Region) → AllGood code s → slice_get s.holders g ≡ Some h → slice_get s.plain.goroutines g
       ≡ Some (frame ∷ callers) → current code frame ≡ Some instr → s.plain.ended ≡ None
       → alone (erased code) s.plain.memory (frame ∷ callers) ≡ Some a → h.duties ≡ [] → may_go h.offer ≡ true
@@ -470,7 +470,7 @@ module _ (code : Code) (page_words : ℕ) (checked : IsChecked code) (written : 
       ∙ ap (option_and_then (some_instructed code s g frame callers instr (after s.plain g a))) fits)
 
   -- a goroutine that owes nothing is to make the object x in region r
-  record MakesNow (s : RegionState) (h : Holder) (frame : Frame) (callers : List Frame) (instr : CodeInstr) (a : Acted)
+  record MakesNow (s : RegionState) (h : Holder) (frame : TacFrame) (callers : List TacFrame) (instr : CodeInstr) (a : Acted)
       (r : Region) (x : Object) : Type 0 where
     all : AllGood code s
     there : slice_get s.holders g ≡ Some h
@@ -483,7 +483,7 @@ module _ (code : Code) (page_words : ℕ) (checked : IsChecked code) (written : 
     making : making_region (function_at code frame) (top_names h.environments) instr.op ≡ Some r
     makes : new_object s.plain (after s.plain g a) ≡ Some x
 
-  module _ (frame : Frame) (callers : List Frame) (instr : CodeInstr) (a : Acted) (r : Region) (x : Object) where
+  module _ (frame : TacFrame) (callers : List TacFrame) (instr : CodeInstr) (a : Acted) (r : Region) (x : Object) where
     -- it has its place
     makes_at_once : (s : RegionState) (h : Holder) (given : Holder × List Region)
         → MakesNow s h frame callers instr a r x → allotted page_words h (Some r) (Some x) ≡ Some given
@@ -564,13 +564,13 @@ module _ (code : Code) (page_words : ℕ) (checked : IsChecked code) (written : 
 
     -- an object that is not spread: in the own page, if need be in a new one
     module _ (whole : is_spread page_words x ≡ false) where
-      in_own : (h : Holder) (used : ℕ) → fill_of h.fills r ≡ Some used → nat_le (used + words x) page_words ≡ true
+      in_own : (h : Holder) (used : ℕ) → fill_of h.fills r ≡ Some used → nat_le (used + object_words x) page_words ≡ true
           → allotted page_words h (Some r) (Some x) ≡ Some
-          (record h { fills = with_fill h.fills r (used + words x) }, r ∷ [])
+          (record h { fills = with_fill h.fills r (used + object_words x) }, r ∷ [])
       in_own h used w l =
           ap (λ b. if b then spread_out page_words h r x else placed page_words h r x (fill_of h.fills r)) whole
           ∙ ap (placed page_words h r x) w
-          ∙ ap (λ b. if b then Some (record h { fills = with_fill h.fills r (used + words x) }, r ∷ []) else None) l
+          ∙ ap (λ b. if b then Some (record h { fills = with_fill h.fills r (used + object_words x) }, r ∷ []) else None) l
 
       small_enough : (n p : ℕ) → nat_lt p n ≡ false → nat_le (0 + n) p ≡ true
       small_enough n p e = grind (arith, nat_tests)
@@ -579,23 +579,23 @@ module _ (code : Code) (page_words : ℕ) (checked : IsChecked code) (written : 
           → CanInstruct code page_words s (One g)
       can_whole s h k = by (fill_of h.fills r) refl
         where
-          new_page : fits page_words (fill_of h.fills r) (words x) ≡ false → CanInstruct code page_words s (One g)
+          new_page : fits_in_page page_words (fill_of h.fills r) (object_words x) ≡ false → CanInstruct code page_words s (One g)
           new_page n = makes_later s h k wants (λ k'. makes_at_once (paged s h) (with_page page_words h r x) _ k'
               (in_own (with_page page_words h r x) 0
               (ap (λ b. fill_of (if b then h.fills else with_fill h.fills r 0) r) whole ∙ fill_with h.fills r 0)
-              (small_enough (words x) page_words whole)))
+              (small_enough (object_words x) page_words whole)))
             where
               wants : wants_page page_words h.reserved (fill_of h.fills r) x ≡ true
               wants =
                   ap (λ b. if b then not (is_too_large page_words x) && nat_le h.reserved (data_pages page_words x) else
-                  not (fits page_words (fill_of h.fills r) (words x))) whole
+                  not (fits_in_page page_words (fill_of h.fills r) (object_words x))) whole
                   ∙ ap (λ b. not b) n
 
           by : (o : Option ℕ) → fill_of h.fills r ≡ o → CanInstruct code page_words s (One g)
-          by None w = new_page (ap (λ o. fits page_words o (words x)) w)
-          by (Some used) w = split (nat_le (used + words x) page_words)
+          by None w = new_page (ap (λ o. fits_in_page page_words o (object_words x)) w)
+          by (Some used) w = split (nat_le (used + object_words x) page_words)
               (λ t. makes_at_once s h _ k (in_own h used w t))
-              (λ n. new_page (ap (λ o. fits page_words o (words x)) w ∙ n))
+              (λ n. new_page (ap (λ o. fits_in_page page_words o (object_words x)) w ∙ n))
 
     -- a spread object: when all of its pages were taken
     module _ (spread : is_spread page_words x ≡ true) (small : is_too_large page_words x ≡ false) where
@@ -631,7 +631,7 @@ module _ (code : Code) (page_words : ℕ) (checked : IsChecked code) (written : 
               (λ t. makes_at_once s h _ k (in_pages h t))
               (λ f. makes_later s h k
               (ap (λ b. if b then not (is_too_large page_words x) && nat_le h.reserved (data_pages page_words x) else
-              not (fits page_words (fill_of h.fills r) (words x))) spread
+              not (fits_in_page page_words (fill_of h.fills r) (object_words x))) spread
               ∙ ap (λ b. not b && nat_le h.reserved (data_pages page_words x)) small
               ∙ wants_more (data_pages page_words x) h.reserved f)
               (λ k'. then_can k' (let e = ap Holder.reserved one_more in omega (arith, e, l))))
@@ -644,7 +644,7 @@ module _ (code : Code) (page_words : ℕ) (checked : IsChecked code) (written : 
       running : s.plain.ended ≡ None
       running = running_of code s.plain (One g) next step
 
-      at_instr : (frame : Frame) (callers : List Frame) → slice_get s.plain.goroutines g ≡ Some (frame ∷ callers)
+      at_instr : (frame : TacFrame) (callers : List TacFrame) → slice_get s.plain.goroutines g ≡ Some (frame ∷ callers)
           → (a : Acted) → alone (erased code) s.plain.memory (frame ∷ callers) ≡ Some a → after s.plain g a ≡ next
           → (instr : CodeInstr) → current code frame ≡ Some instr → CanInstruct code page_words s (One g)
       at_instr frame callers at a acts is instr cur = object (new_object s.plain (after s.plain g a)) refl
@@ -689,7 +689,7 @@ module _ (code : Code) (page_words : ℕ) (checked : IsChecked code) (written : 
                   )))
                   (λ n. n)
 
-      acted : (fr : List Frame) → slice_get s.plain.goroutines g ≡ Some fr → (o : Option Acted)
+      acted : (fr : List TacFrame) → slice_get s.plain.goroutines g ≡ Some fr → (o : Option Acted)
           → alone (erased code) s.plain.memory fr ≡ o → option_map (after s.plain g) o ≡ Some next
           → CanInstruct code page_words s (One g)
       acted fr q None w z = cc
@@ -705,24 +705,24 @@ module _ (code : Code) (page_words : ℕ) (checked : IsChecked code) (written : 
       none_step q = ap (λ e. unless_ended e (picked (tac (erased code)) s.plain (One g))) running
           ∙ ap (option_and_then (machine_alone (tac (erased code)) s.plain g)) q
 
-      frames : (o : Option (List Frame)) → slice_get s.plain.goroutines g ≡ o → CanInstruct code page_words s (One g)
+      frames : (o : Option (List TacFrame)) → slice_get s.plain.goroutines g ≡ o → CanInstruct code page_words s (One g)
       frames None q = let x : None ≡ Some next = sym (none_step q) ∙ step in cc
       frames (Some fr) q = acted fr q (alone (erased code) s.plain.memory fr) refl
           (sym (one_step code s.plain g fr running q) ∙ step)
 
 -- ---- a meeting
 
-pub frames_some : (o : Option (List Frame)) (frame : Frame) (callers : List Frame) → frames_in o ≡ frame ∷ callers → o
+pub frames_some : (o : Option (List TacFrame)) (frame : TacFrame) (callers : List TacFrame) → frames_in o ≡ frame ∷ callers → o
     ≡ Some (frame ∷ callers)
 frames_some None frame callers e = cc
 frames_some (Some fs) frame callers e = ap Some e
 
 -- where a goroutine stands that is to send
-pub stand_of : (code : Code) (p : TacState) (g o : ℕ) (st : StandsAtSend code p g o) → stand (erased code) st.frame
-    ≡ AtSend (value_at st.frame st.channel) (value_at st.frame st.sent) st.instr.place (going st.frame st.to value.Nil)
+pub stand_of : (code : Code) (p : TacState) (g o : ℕ) (st : StandsAtSend code p g o) → tac_stand (erased code) st.frame
+    ≡ AtSend (value_at st.frame st.channel) (value_at st.frame st.sent) st.instr.place (frame_after_instr st.frame st.to value.Nil)
 stand_of code p g o st =
-    ap (stand_at (erased code) st.frame) (current_erased code st.frame ∙ ap (option_map erased_instr) st.cur)
-    ∙ ap (λ op. stand_before (erased code) st.frame (erased_op op) st.instr.place) st.is
+    ap (stand_at_instr (erased code) st.frame) (current_erased code st.frame ∙ ap (option_map erased_instr) st.cur)
+    ∙ ap (λ op. stand_before_op (erased code) st.frame (erased_op op) st.instr.place) st.is
 
 find_offer : (hs : List Holder) (o : ℕ) → list_any (λ (k : Holder). offers_on o k.offer) hs ≡ true → (w : ℕ)
     × (k : Holder) × (slice_get hs w ≡ Some k) × (offers_on o k.offer ≡ true)
@@ -745,13 +745,13 @@ module _ (code : Code) (page_words : ℕ) (checked : IsChecked code) (written : 
   record AtChannel (s : RegionState) (h : Holder) : Type 0 where
     good : AllGood code s
     running : s.plain.ended ≡ None
-    frame : Frame
-    callers : List Frame
+    frame : TacFrame
+    callers : List TacFrame
     at : slice_get s.plain.goroutines r ≡ Some (frame ∷ callers)
     c : Value
     blank : Value
-    go_on : Value → Frame
-    stands : stand (erased code) frame ≡ AtReceive c blank go_on
+    go_on : Value → TacFrame
+    stands : tac_stand (erased code) frame ≡ AtReceive c blank go_on
     receives : ReceivesAt code (frame ∷ callers) c (λ v. go_on v ∷ callers)
     leads : c ≡ value.Object o
     meeting : is_meeting_at (slice_get s.plain.memory.heap o) ≡ true
@@ -778,17 +778,17 @@ module _ (code : Code) (page_words : ℕ) (checked : IsChecked code) (written : 
       stepped : region_step code page_words s (Instruct (Meet r w))
           ≡ both_instructed code s r w (slice_get s.holders r) (slice_get s.holders w)
           (met_with s.plain r w (x.go_on (value_at st.frame st.sent) ∷ x.callers)
-          (going st.frame st.to value.Nil ∷ st.callers))
+          (frame_after_instr st.frame st.to value.Nil ∷ st.callers))
       stepped = ap (option_and_then (instruct code page_words s (Meet r w)))
           (ap (λ e. unless_ended e (picked (tac (erased code)) s.plain (Meet r w))) x.running
           ∙ ap (λ b. if b then None else meet (tac (erased code)) s.plain r w) ne
           ∙ ap (option_and_then (λ f. option_and_then (met_by (tac (erased code)) s.plain r w f)
           (slice_get s.plain.goroutines w))) x.at
           ∙ ap (option_and_then (met_by (tac (erased code)) s.plain r w (x.frame ∷ x.callers))) at_w
-          ∙ ap (λ q. met s.plain r w x.callers st.callers q (stand (erased code) st.frame)) x.stands
+          ∙ ap (λ q. met s.plain r w x.callers st.callers q (tac_stand (erased code) st.frame)) x.stands
           ∙ ap (met s.plain r w x.callers st.callers (AtReceive x.c x.blank x.go_on)) (stand_of code s.plain w o st)
           ∙ ap (λ b. if b then Some (met_with s.plain r w (x.go_on (value_at st.frame st.sent) ∷ x.callers)
-          (going st.frame st.to value.Nil ∷ st.callers)) else None) meets)
+          (frame_after_instr st.frame st.to value.Nil ∷ st.callers)) else None) meets)
 
       ready_r : is_ready code s h (frames_of s.plain r) ≡ true
       ready_r = ap (is_ready code s h) (ap frames_in x.at ∙ x.receives.at)
@@ -806,14 +806,14 @@ module _ (code : Code) (page_words : ℕ) (checked : IsChecked code) (written : 
 
       done : both_instructed code s r w (slice_get s.holders r) (slice_get s.holders w)
           (met_with s.plain r w (x.go_on (value_at st.frame st.sent) ∷ x.callers)
-          (going st.frame st.to value.Nil ∷ st.callers)) ≡ both_instructed code s r w (Some h) (Some k)
+          (frame_after_instr st.frame st.to value.Nil ∷ st.callers)) ≡ both_instructed code s r w (Some h) (Some k)
           (met_with s.plain r w (x.go_on (value_at st.frame st.sent) ∷ x.callers)
-          (going st.frame st.to value.Nil ∷ st.callers))
+          (frame_after_instr st.frame st.to value.Nil ∷ st.callers))
       done = ap (λ q. both_instructed code s r w q (slice_get s.holders w)
           (met_with s.plain r w (x.go_on (value_at st.frame st.sent) ∷ x.callers)
-          (going st.frame st.to value.Nil ∷ st.callers))) x.there
+          (frame_after_instr st.frame st.to value.Nil ∷ st.callers))) x.there
           ∙ ap (λ q. both_instructed code s r w (Some h) q (met_with s.plain r w
-          (x.go_on (value_at st.frame st.sent) ∷ x.callers) (going st.frame st.to value.Nil ∷ st.callers))) e
+          (x.go_on (value_at st.frame st.sent) ∷ x.callers) (frame_after_instr st.frame st.to value.Nil ∷ st.callers))) e
 
   -- the sender, which is ready
   record Sends (s : RegionState) (k : Holder) : Type 0 where
@@ -972,7 +972,7 @@ module _ (code : Code) (page_words : ℕ) (checked : IsChecked code) (written : 
 
 -- ---- every pick
 
-get_holder : (s : RegionState) (code : Code) (g : ℕ) → AllGood code s → (fr : List Frame)
+get_holder : (s : RegionState) (code : Code) (g : ℕ) → AllGood code s → (fr : List TacFrame)
     → slice_get s.plain.goroutines g ≡ Some fr → (h : Holder) × (slice_get s.holders g ≡ Some h)
 get_holder s code g all fr e = get_some s.holders g (let a = slice_get_within s.plain.goroutines g fr e in let b =
     all.good.fine.as_many in omega (arith, a, b))
@@ -990,7 +990,7 @@ module _ (code : Code) (page_words : ℕ) (checked : IsChecked code) (written : 
       none_step q = ap (λ e. unless_ended e (picked (tac (erased code)) s.plain (One g))) running
           ∙ ap (option_and_then (machine_alone (tac (erased code)) s.plain g)) q
 
-      go : (o : Option (List Frame)) → slice_get s.plain.goroutines g ≡ o → CanInstruct code page_words s (One g)
+      go : (o : Option (List TacFrame)) → slice_get s.plain.goroutines g ≡ o → CanInstruct code page_words s (One g)
       go None q = let x : None ≡ Some next = sym (none_step q) ∙ step in cc
       go (Some fr) q =
           let h = get_holder s code g all fr q in
@@ -1007,8 +1007,8 @@ module _ (code : Code) (page_words : ℕ) (checked : IsChecked code) (written : 
       running : s.plain.ended ≡ None
       running = running_of code s.plain (Meet r u) next step
 
-      go : (b : Bool) → nat_eq r u ≡ b → (p : Option (List Frame)) → slice_get s.plain.goroutines r ≡ p
-          → (q : Option (List Frame)) → slice_get s.plain.goroutines u ≡ q
+      go : (b : Bool) → nat_eq r u ≡ b → (p : Option (List TacFrame)) → slice_get s.plain.goroutines r ≡ p
+          → (q : Option (List TacFrame)) → slice_get s.plain.goroutines u ≡ q
           → (if b then None else option_and_then (λ f. option_and_then (met_by (tac (erased code)) s.plain r u f) q) p)
           ≡ Some next → CanInstruct code page_words s (Meet r u)
       go true ne p ep q eq z = cc
@@ -1017,10 +1017,10 @@ module _ (code : Code) (page_words : ℕ) (checked : IsChecked code) (written : 
       go false ne (Some []) ep (Some b) eq z = cc
       go false ne (Some (f ∷ fs)) ep (Some []) eq z = cc
       go false ne (Some (f ∷ fs)) ep (Some (k ∷ ks)) eq z =
-          stands (stand (erased code) f) refl (stand (erased code) k) (stands_at_channel code f fs)
+          stands (tac_stand (erased code) f) refl (tac_stand (erased code) k) (stands_at_channel code f fs)
           (stands_at_channel code k ks) z
         where
-          stands : (x : Stand Frame) → stand (erased code) f ≡ x → (y : Stand Frame) → StandsAt code f fs x
+          stands : (x : Stand TacFrame) → tac_stand (erased code) f ≡ x → (y : Stand TacFrame) → StandsAt code f fs x
               → StandsAt code k ks y → met s.plain r u fs ks x y ≡ Some next → CanInstruct code page_words s (Meet r u)
           stands (AtReceive c blank go_on) ex (AtReceive d blank' go_on') ha hb z = cc
           stands (AtReceive c blank go_on) ex (AtClose d place go_on') ha hb z = cc

@@ -1,7 +1,7 @@
 -- What holds at the start of a run and is kept by each step holds after the run.
 use Rattle.std.proofs.Common.{◌≡◌, ℕ, List, [], ◌∷◌, Option, Some, None, subst, option_and_then}
 use Rattle.std.proofs.lemmas.Option.{same_Some}
-use Rattle.rgo_sound.proofs.ErasureLemmas.{Yields}
+use Rattle.rgo_sound.proofs.plain.Steps.{Yields}
 use Rattle.rgo_code.specs.Code.{Code}
 use Rattle.rgo_machine.specs.Runs.{run}
 use Rattle.rgo_region_machine.specs.Machine.{Event, region_step}

@@ -1,9 +1,9 @@
 -- The law of safety, from its parts.
-use Rattle.rgo_sound.proofs.Bullets.{all_removed, one_holding_name, stakes_counted}
-use Rattle.rgo_sound.proofs.Bounded.{regions_always}
-use Rattle.rgo_sound.proofs.Offers.{runs_are_good}
-use Rattle.rgo_sound.proofs.Paged.{pages_always}
-use Rattle.rgo_sound.proofs.ValueSteps.{pointers_stay}
+use Rattle.rgo_sound.proofs.names.Stakes.{all_removed, one_holding_name, stakes_counted}
+use Rattle.rgo_sound.proofs.counts.Regions.{regions_always}
+use Rattle.rgo_sound.proofs.offers.Offers.{runs_are_good}
+use Rattle.rgo_sound.proofs.counts.Pages.{pages_always}
+use Rattle.rgo_sound.proofs.pointers.Steps.{pointers_stay}
 use Rattle.rgo_sound.specs.Good.{AllGood}
 use Rattle.rgo_sound.specs.Safety.{Safety}
 

@@ -3,7 +3,7 @@ use Rattle.std.specs.List.{list_any}
 use Rattle.std.specs.Prelude.{List, None, Some, [], false, true, ℕ, ◌∷◌, ◌≡◌, ◌≤◌}
 use Rattle.rgo_region_machine.specs.Duties.{guards}
 use Rattle.rgo_region_machine.specs.Regions.{Bindings, bound, same_region}
-use Rattle.rgo_region_machine.specs.States.{Environment}
+use Rattle.rgo_region_machine.specs.States.{RegionEnvironment}
 use Rattle.rgo_region_machine.specs.declared.regions.Region.{Region}
 use Rattle.rgo_region_machine.specs.declared.regions.Region.TheVariants.{Numbered}
 use Rattle.rgo_sound.specs.Holding.{held}
@@ -15,38 +15,38 @@ abbrev pub AreUnique : Bindings → Type 0
 AreUnique [] = Unit {0}
 AreUnique (b ∷ bs) = (bound bs b.0 ≡ None) × AreUnique bs
 
-abbrev pub AreUniqueIn : List Environment → Type 0
+abbrev pub AreUniqueIn : List RegionEnvironment → Type 0
 AreUniqueIn [] = Unit {0}
 AreUniqueIn (f ∷ fs) = AreUnique f.names × AreUniqueIn fs
 
--- what the names stand for, and what is protected, the goroutine has a stake in
+-- the goroutine has a stake in each region that a name stands for, and in each that is protected
 abbrev pub NamesStaked : List ℕ → Bindings → Type 0
 NamesStaked stakes names = (k r : ℕ) → bound names k ≡ Some (Numbered r) → is_in r stakes ≡ true
 
 abbrev pub RegionsStaked : List ℕ → List Region → Type 0
 RegionsStaked stakes regions = (r : ℕ) → list_any (same_region (Numbered r)) regions ≡ true → is_in r stakes ≡ true
 
-abbrev pub AreStaked : List ℕ → List Environment → Type 0
+abbrev pub AreStaked : List ℕ → List RegionEnvironment → Type 0
 AreStaked stakes [] = Unit {0}
 AreStaked stakes (f ∷ fs) = NamesStaked stakes f.names × RegionsStaked stakes f.protections × AreStaked stakes fs
 
 -- up to the lowest frame that protects r, or else up to the top, there is one holding name for it
-abbrev pub IsHeldOnce : ℕ → List Region → List Environment → Type 0
+abbrev pub IsHeldOnce : ℕ → List Region → List RegionEnvironment → Type 0
 IsHeldOnce r base [] = list_any (same_region (Numbered r)) base ≡ true
 IsHeldOnce r base (f ∷ fs) = (guards base fs (Numbered r) ≡ false → held r (f ∷ fs) ≡ 1)
     × (guards base fs (Numbered r) ≡ true → IsHeldOnce r base fs)
 
 -- what is lent for a result is held below, or protected there
-abbrev pub IsLentBelow : List Region → Environment → List Environment → Type 0
+abbrev pub IsLentBelow : List Region → RegionEnvironment → List RegionEnvironment → Type 0
 IsLentBelow base f fs = (k r : ℕ) → f.lent ≡ Name k → bound f.names k ≡ Some (Numbered r) → guards base fs (Numbered r)
     ≡ false → 1 ≤ held r fs
 
-abbrev pub AreLentBelow : List Region → List Environment → Type 0
+abbrev pub AreLentBelow : List Region → List RegionEnvironment → Type 0
 AreLentBelow base [] = Unit {0}
 AreLentBelow base (f ∷ fs) = IsLentBelow base f fs × AreLentBelow base fs
 
 -- the part of the invariant that counts names
-pub record Core (stakes : List ℕ) (base : List Region) (environments : List Environment) : Type 0 where
+pub record NameInvariant (stakes : List ℕ) (base : List Region) (environments : List RegionEnvironment) : Type 0 where
   pub unique : AreUniqueIn environments
   pub staked : AreStaked stakes environments
   pub based : RegionsStaked stakes base

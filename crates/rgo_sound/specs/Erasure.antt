@@ -3,6 +3,7 @@ use Rattle.std.specs.Prelude.{List, None, Option, Some, [], option_map, unwrap_o
 use Rattle.rgo_code.specs.Code.{Code}
 use Rattle.rgo_code.specs.Erasure.{erased}
 use Rattle.rgo_machine.specs.Runs.{Leads}
+use Rattle.rgo_machine.specs.declared.limits.Sizes.{Sizes}
 use Rattle.rgo_machine.specs.declared.picks.End.{End}
 use Rattle.rgo_machine.specs.declared.picks.Pick.{Pick}
 use Rattle.rgo_region_machine.specs.Machine.{Acknowledge, Attend, Event, Finish, Instruct, MakeOffer, TakePage}
@@ -26,6 +27,10 @@ erased_picks code page_words s [] = []
 erased_picks code page_words s (event ∷ events) =
     event_picks s.mark event ++ unwrap_or (option_map (λ t. erased_picks code page_words t events)
     (region_step code page_words s event)) []
+
+-- the picks of a run, without its region steps
+abbrev pub picks_of : Code → Sizes → List Event → List Pick
+picks_of code sizes events = erased_picks code sizes.page_words (region_start code) events
 
 -- the end of a plain run and the end mark: an exit or a trap is both; another end mark is none of the plain run
 abbrev pub SameEnd : Option End → Option Mark → Type 0

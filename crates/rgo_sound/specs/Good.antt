@@ -7,13 +7,13 @@ use Rattle.rgo_region_machine.specs.Machine.{Event, region_start, region_step}
 use Rattle.rgo_region_machine.specs.States.{RegionState}
 use Rattle.rgo_sound.specs.Invariant.{Fine}
 use Rattle.rgo_sound.specs.Offers.{OffersFit}
-use Rattle.rgo_sound.specs.Types.{Typed}
+use Rattle.rgo_sound.specs.Types.{AreValuesTyped}
 use Rattle.rgo_sound.specs.Values.{ValuesStay}
 
 -- names and stakes, types, and where pointers lead
 pub record Good (code : Code) (s : RegionState) : Type 0 where
   pub fine : Fine code s
-  pub typed : Typed code s.plain
+  pub typed : AreValuesTyped code s.plain
   pub values : ValuesStay code s
 
 -- and offers

@@ -1,24 +1,24 @@
 -- Holding names: which names of a goroutine's frames keep its stake in a region.
 use Rattle.std.specs.Prelude.{Bool, Contains, List, Some, [], false, not, slice_get, ℕ, ◌&&◌, ◌+◌, ◌∷◌, ◌≡◌}
-use Rattle.rgo_code.specs.Names.{is_name}
+use Rattle.rgo_code.specs.Names.{is_class_named}
 use Rattle.rgo_region_machine.specs.Duties.{guards}
 use Rattle.rgo_region_machine.specs.Regions.{Bindings, same_region}
-use Rattle.rgo_region_machine.specs.States.{Environment, Holder, RegionState}
+use Rattle.rgo_region_machine.specs.States.{RegionEnvironment, Holder, RegionState}
 use Rattle.rgo_region_machine.specs.declared.regions.Region.TheVariants.{Numbered}
 use Rattle.rgo_sound.specs.Stakes.{one_if}
 use Rattle.rgo_tac.specs.declared.regions.Class.{Class}
 
 -- whether k is the function's own, and not its result's
 abbrev pub is_mine : Class → ℕ → Bool
-is_mine lent k = not (is_name k lent)
+is_mine lent k = not (is_class_named k lent)
 
--- how many own names stand for region r
+-- how many of the function's own names stand for region r
 abbrev pub held_in : Class → ℕ → Bindings → ℕ
 held_in lent r [] = 0
 held_in lent r (b ∷ bs) = one_if (is_mine lent b.0 && same_region (Numbered r) b.1) + held_in lent r bs
 
 -- the holding names of a goroutine's frames for region r
-abbrev pub held : ℕ → List Environment → ℕ
+abbrev pub held : ℕ → List RegionEnvironment → ℕ
 held r [] = 0
 held r (f ∷ fs) = held_in f.lent r f.names + held r fs
 

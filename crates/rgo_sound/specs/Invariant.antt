@@ -4,16 +4,16 @@ use Rattle.std.specs.Prelude.{Bool, Contains, List, None, Option, Some, [], fals
 use Rattle.std.specs.Prelude.{slice_get, suc, true, zero, ℕ, ◌+◌, ◌<◌, ◌∷◌, ◌≡◌, ◌≢◌}
 use Rattle.rgo_code.specs.Code.{Call, Code, CodeFn, CodeInstr, CodeOp, Go, Do, Print, Jump, Branch, Return}
 use Rattle.rgo_code.specs.NameRules.{protected_names}
-use Rattle.rgo_code.specs.Names.{Gives, Holds, IsOwn, result_class}
+use Rattle.rgo_code.specs.Names.{LeavesToCallee, Holds, IsOwn, result_class}
 use Rattle.rgo_region_machine.specs.Owed.{current, function_at, regions_named}
 use Rattle.rgo_region_machine.specs.Regions.{Bindings, RegionInfo, bound, removed_once, same_region, unbind}
-use Rattle.rgo_region_machine.specs.States.{Create, Duty, EndBase, Environment, Holder, Protect, RegionState, Remove}
+use Rattle.rgo_region_machine.specs.States.{Create, Duty, EndBase, RegionEnvironment, Holder, Protect, RegionState, Remove}
 use Rattle.rgo_region_machine.specs.States.{Share, Unprotect, frames_of, top_names}
 use Rattle.rgo_region_machine.specs.declared.regions.Region.{Region}
 use Rattle.rgo_region_machine.specs.declared.regions.Region.TheVariants.{Global as GlobalRegion, Numbered}
-use Rattle.rgo_sound.specs.Core.{Core}
+use Rattle.rgo_sound.specs.Core.{NameInvariant}
 use Rattle.rgo_sound.specs.Stakes.{holders_of, is_in, one_if, pending_of, times_in}
-use Rattle.rgo_tac.specs.Frames.{Frame}
+use Rattle.rgo_tac.specs.Frames.{TacFrame}
 use Rattle.rgo_tac.specs.declared.regions.Class.TheVariants.{Name}
 
 -- instruction i of a function
@@ -36,7 +36,7 @@ abbrev pub bound_times : Region → Bindings → List ℕ → ℕ
 bound_times r names [] = 0
 bound_times r names (k ∷ ks) = one_if (same_bound r (bound names k)) + bound_times r names ks
 
--- each region is protected as often as these names stand for it
+-- each region is protected as often as one of these names stands for it
 abbrev pub AreProtections : List Region → Bindings → List ℕ → Type 0
 AreProtections protections names ks = (r : Region) → times r protections ≡ bound_times r names ks
 
@@ -51,12 +51,12 @@ pub record Settled (fn : CodeFn) (i : ℕ) (instr : CodeInstr) (names : Bindings
     pub lent : (k : ℕ) → result_class fn ≡ Name k → bound names k ≢ None
     pub protections_fit : AreProtections protections names (protected_names instr.op)
 
--- what is there behind an instruction, before its removals: what a call gave is not there
+-- which names are bound after an instruction, before its removals: not those that a call gave to its callee
 pub record Left (code : Code) (fn : CodeFn) (i : ℕ) (instr : CodeInstr) (names : Bindings) : Type 0 where
-  pub there : (k : ℕ) → Holds fn k i → ¬ (Gives code instr.op k) → bound names k ≢ None
-  pub made : (k : ℕ) → Contains instr.creates k → ¬ (Gives code instr.op k) → bound names k ≢ None
+  pub there : (k : ℕ) → Holds fn k i → ¬ (LeavesToCallee code instr.op k) → bound names k ≢ None
+  pub made : (k : ℕ) → Contains instr.creates k → ¬ (LeavesToCallee code instr.op k) → bound names k ≢ None
   pub gone : (k : ℕ) → IsOwn fn k → ¬ (Holds fn k i) → ¬ (Contains instr.creates k) → bound names k ≡ None
-  pub given : (k : ℕ) → Gives code instr.op k → bound names k ≡ None
+  pub given : (k : ℕ) → LeavesToCallee code instr.op k → bound names k ≡ None
   pub lent : (k : ℕ) → result_class fn ≡ Name k → bound names k ≢ None
 
 -- ---- duties
@@ -65,7 +65,7 @@ pub record Left (code : Code) (fn : CodeFn) (i : ℕ) (instr : CodeInstr) (names
 abbrev pub IsFree : CodeFn → ℕ → ℕ → Type 0
 IsFree fn i k = IsOwn fn k × (¬ (Holds fn k i))
 
--- each duty can be done in its turn, and behind the last of them Then holds
+-- each duty can be done in its turn, and after the last of them `Then` holds
 abbrev pub IsReady : (ℕ → Type 0) → (Bindings → List Region → Type 0) → List Duty → Bindings → List Region → Type 0
 IsReady Free Then [] names protections = Then names protections
 IsReady Free Then (Create k ∷ duties) names protections =
@@ -88,7 +88,7 @@ abbrev pub at_most_one : ℕ → ℕ
 at_most_one zero = 0
 at_most_one (suc n) = 1
 
--- each region for which one of the names stands is pending, once, and no other is
+-- each region that one of the names stands for is pending, once, and no other is
 abbrev pub ArePending : List ℕ → Bindings → List ℕ → Type 0
 ArePending pending names ks = (r : ℕ) → times_in r pending ≡ at_most_one (bound_times (Numbered r) names ks)
 
@@ -97,7 +97,7 @@ abbrev pub with_pending : Region → List ℕ → List ℕ
 with_pending GlobalRegion pending = pending
 with_pending (Numbered r) pending = if list_any (nat_eq r) pending then pending else r ∷ pending
 
--- behind these duties the regions of the names ks are pending
+-- after these duties the regions of the names ks are pending
 abbrev pub Shares : List ℕ → List Duty → Bindings → List ℕ → Type 0
 Shares ks [] names pending = ArePending pending names ks
 Shares ks (Create k ∷ duties) names pending = (r : ℕ) → Shares ks duties ((k, Numbered r) ∷ unbind names k) pending
@@ -123,14 +123,14 @@ shared_before None = []
 shared_before (Some instr) = shared_names instr.op
 
 -- the names that a goroutine shares before its instruction
-abbrev pub to_share : Code → List Frame → List ℕ
+abbrev pub to_share : Code → List TacFrame → List ℕ
 to_share code [] = []
 to_share code (frame ∷ callers) = shared_before (current code frame)
 
 -- ---- a goroutine
 
 -- the top frame
-pub record Stands (code : Code) (frame : Frame) (f : Environment) (duties : List Duty) : Type 0 where
+pub record Stands (code : Code) (frame : TacFrame) (f : RegionEnvironment) (duties : List Duty) : Type 0 where
   pub fn : CodeFn
   pub is_fn : function_at code frame ≡ Some fn
   pub instr : CodeInstr
@@ -148,7 +148,7 @@ IsCall (Branch test target removes other otherwise) = ⊥
 IsCall (Return value) = ⊥
 
 -- a caller
-pub record Waits (code : Code) (frame : Frame) (f : Environment) : Type 0 where
+pub record Waits (code : Code) (frame : TacFrame) (f : RegionEnvironment) : Type 0 where
   pub fn : CodeFn
   pub is_fn : function_at code frame ≡ Some fn
   pub instr : CodeInstr
@@ -158,13 +158,13 @@ pub record Waits (code : Code) (frame : Frame) (f : Environment) : Type 0 where
   pub left : Left code fn frame.next instr f.names
   pub protections_fit : AreProtections f.protections f.names (protected_names instr.op)
 
-abbrev pub AllWait : Code → List Frame → List Environment → Type 0
+abbrev pub AllWait : Code → List TacFrame → List RegionEnvironment → Type 0
 AllWait code [] [] = Unit {0}
 AllWait code (frame ∷ frames) (f ∷ fs) = Waits code frame f × AllWait code frames fs
 AllWait code _ _ = ⊥
 
 -- what a goroutine's frames, environments, base and duties say of each other
-abbrev pub FramesFit : Code → List Region → List Frame → List Environment → List Duty → Type 0
+abbrev pub FramesFit : Code → List Region → List TacFrame → List RegionEnvironment → List Duty → Type 0
 FramesFit code base [] [] duties = duties ≡ map EndBase base
 FramesFit code base (frame ∷ callers) (f ∷ fs) duties = Stands code frame f duties × AllWait code callers fs
 FramesFit code base _ _ duties = ⊥
@@ -174,8 +174,8 @@ EachOnce [] = Unit {0}
 EachOnce (r ∷ rs) = (list_any (same_region r) rs ≡ false) × EachOnce rs
 
 -- what holds of each goroutine
-pub record GoodHolder (code : Code) (frames : List Frame) (h : Holder) : Type 0 where
-  pub core : Core h.stakes h.base h.environments
+pub record GoodHolder (code : Code) (frames : List TacFrame) (h : Holder) : Type 0 where
+  pub core : NameInvariant h.stakes h.base h.environments
   pub fit : FramesFit code h.base frames h.environments h.duties
   pub base_once : EachOnce h.base
   pub shares : Shares (to_share code frames) h.duties (top_names h.environments) h.pending

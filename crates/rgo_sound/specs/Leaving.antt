@@ -5,7 +5,7 @@ use Rattle.rgo_machine.specs.declared.picks.Pick.TheVariants.{Meet, One}
 use Rattle.rgo_region_machine.specs.Machine.{Acknowledge, Attend, Event, Finish, Instruct, MakeOffer, TakePage}
 use Rattle.rgo_region_machine.specs.Machine.{region_step}
 use Rattle.rgo_region_machine.specs.States.{Holder, RegionState}
-use Rattle.rgo_tac.specs.Frames.{Frame}
+use Rattle.rgo_tac.specs.Frames.{TacFrame}
 
 -- goroutine j takes part in the event
 abbrev pub TakesPart : Event → ℕ → Type 0
@@ -19,7 +19,7 @@ TakesPart (Finish limit) j = ⊥
 
 -- from s to t no other goroutine has changed
 pub record LeavesOthers (s t : RegionState) (event : Event) : Type 0 where
-  pub frames : (j : ℕ) (frames : List Frame) → (TakesPart event j → ⊥) → slice_get s.plain.goroutines j ≡ Some frames
+  pub frames : (j : ℕ) (frames : List TacFrame) → (TakesPart event j → ⊥) → slice_get s.plain.goroutines j ≡ Some frames
       → slice_get t.plain.goroutines j ≡ Some frames
   pub holders : (j : ℕ) (h : Holder) → (TakesPart event j → ⊥) → slice_get s.holders j ≡ Some h
       → slice_get t.holders j ≡ Some h

@@ -19,6 +19,7 @@ pub mod NextNames
 pub mod Offers
 pub mod Owners
 pub mod Progress
+pub mod RegionRuns
 pub mod Reserved
 pub mod Room
 pub mod Running

@@ -11,7 +11,7 @@ use Rattle.rgo_region_machine.specs.States.{Create, Duty, EndBase, Holder, Offer
 use Rattle.rgo_region_machine.specs.States.{NoOffer, Standing, Taken, Unprotect, frames_of, top_names}
 use Rattle.rgo_region_machine.specs.declared.regions.Region.{Region}
 use Rattle.rgo_region_machine.specs.declared.regions.Region.TheVariants.{Global as GlobalRegion, Numbered}
-use Rattle.rgo_tac.specs.Frames.{Frame}
+use Rattle.rgo_tac.specs.Frames.{TacFrame}
 
 -- a duty names a region
 abbrev pub DutyNames : Holder → Duty → Region → Type 0
@@ -23,7 +23,7 @@ DutyNames h (Remove k) r = bound (top_names h.environments) k ≡ Some r
 DutyNames h (EndBase q) r = q ≡ r
 
 -- an instruction names a region: it makes an object there, or touches one there
-abbrev pub InstructionNames : Code → RegionState → Holder → List Frame → Region → Type 0
+abbrev pub InstructionNames : Code → RegionState → Holder → List TacFrame → Region → Type 0
 InstructionNames code s h [] r = ⊥
 InstructionNames code s h (frame ∷ callers) r =
     (i : CodeInstr) × (current code frame ≡ Some i)

@@ -7,7 +7,7 @@ use Rattle.rgo_region_machine.specs.States.{Holder, NoOffer, Offer, RegionState,
 use Rattle.rgo_region_machine.specs.declared.regions.Region.{Region}
 use Rattle.rgo_region_machine.specs.declared.regions.Region.TheVariants.{Numbered}
 use Rattle.rgo_sound.specs.Stakes.{is_in}
-use Rattle.rgo_tac.specs.Frames.{Frame, value_at}
+use Rattle.rgo_tac.specs.Frames.{TacFrame, value_at}
 use Rattle.rgo_tac.specs.Tac.{TacState}
 use Rattle.rgo_typed.specs.declared.actions.Action.TheVariants.{Send}
 use Rattle.rgo_memory.specs.declared.values.Value.TheVariants as value
@@ -23,8 +23,8 @@ IsUnbuffered m o = (object : Object) × (slice_get m.heap o ≡ Some object) × 
 
 -- the goroutine is to send on this channel
 pub record StandsAtSend (code : Code) (p : TacState) (g o : ℕ) : Type 0 where
-  pub frame : Frame
-  pub callers : List Frame
+  pub frame : TacFrame
+  pub callers : List TacFrame
   pub at : frames_of p g ≡ frame ∷ callers
   pub instr : CodeInstr
   pub cur : current code frame ≡ Some instr
@@ -35,8 +35,8 @@ pub record StandsAtSend (code : Code) (p : TacState) (g o : ℕ) : Type 0 where
   pub is : instr.op ≡ Do to Send (channel ∷ sent ∷ []) removes
   pub channel_is : value_at frame channel ≡ value.Object o
 
--- a standing offer is that of the send at which its goroutine stands, which owes nothing; one that was taken is on a
--- channel in a region in which the goroutine has a stake
+-- an open offer belongs to the send that is its goroutine's next instruction, and the goroutine owes nothing; the channel of
+-- one that was taken is in a region in which the goroutine has a stake
 abbrev pub OfferFits : Code → RegionState → ℕ → Holder → Offer → Type 0
 OfferFits code s g h NoOffer = Unit {0}
 OfferFits code s g h (Standing o) = (h.duties ≡ []) × IsUnbuffered s.plain.memory o × StandsAtSend code s.plain g o

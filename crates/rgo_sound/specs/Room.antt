@@ -3,7 +3,7 @@ use Rattle.std.specs.Prelude.{◌≡◌, ◌++◌, List, Some}
 use Rattle.rgo_machine.specs.declared.limits.Sizes.{Sizes}
 use Rattle.rgo_code.specs.Code.{Code}
 use Rattle.rgo_region_machine.specs.Machine.{Event, region_run}
-use Rattle.rgo_region_machine.specs.Room.{FitsIn, roomy_run}
+use Rattle.rgo_region_machine.specs.Room.{StateFitsIn, roomy_run}
 use Rattle.rgo_region_machine.specs.States.{RegionState}
 
 pub record RoomIsKept : Type 0 where
@@ -13,4 +13,4 @@ pub record RoomIsKept : Type 0 where
   -- in each state that it went through, no more pages are in use, and no more regions live, than there may be
   pub fits : (code : Code) (sizes : Sizes) (before after : List Event) (s t : RegionState)
       → roomy_run code sizes (before ++ after) ≡ Some t → region_run code sizes.page_words before ≡ Some s
-      → FitsIn sizes s
+      → StateFitsIn sizes s

@@ -1,4 +1,4 @@
--- The three-address machine's part of a region run never ends: an end is a mark, and steps may follow it.
+-- The three-address machine's part of a region run is never at an end: the end is a mark, and steps may follow it.
 use Rattle.std.specs.Prelude.{◌≡◌, ℕ, None, Some}
 use Rattle.rgo_code.specs.Code.{Code}
 use Rattle.rgo_region_machine.specs.Machine.{Event, region_start, region_step}

@@ -47,7 +47,7 @@ most_names (f ∷ fs) = max (name_count f) (most_names fs)
 abbrev pub AllEnded : RegionState → Type 0
 AllEnded s = (g : ℕ) (h : Holder) → slice_get s.holders g ≡ Some h → HasEnded s g h
 
--- pages are bounded by objects, regions by names, and all regions are removed in the end
+-- pages are bounded by objects, regions by names, and all regions were removed when every goroutine has ended
 pub record CountsFit (code : Code) (page_words : ℕ) (s : RegionState) : Type 0 where
   pub pages : (counts_of s).taken ≤ enough_pages code page_words s
   pub regions : (counts_of s).made ≤ ((counts_of s).steps + (counts_of s).goroutines) * most_names code.functions

@@ -7,8 +7,8 @@ use Rattle.rgo_machine.specs.declared.picks.Pick.{Pick}
 use Rattle.rgo_memory.specs.Memory.{Channel, Memory, Object, SliceObject, StructObject}
 use Rattle.rgo_memory.specs.declared.values.Value.{Value}
 use Rattle.rgo_region_machine.specs.Machine.{plain_step}
-use Rattle.rgo_region_machine.specs.Owed.{current, function_at, function_of}
-use Rattle.rgo_tac.specs.Frames.{Frame}
+use Rattle.rgo_region_machine.specs.Owed.{current, function_at, code_function}
+use Rattle.rgo_tac.specs.Frames.{TacFrame}
 use Rattle.rgo_tac.specs.Tac.{TacState}
 use Rattle.rgo_typed.specs.Types.{is_pointer_like}
 use Rattle.rgo_typed.specs.declared.programs.Struct.{Struct}
@@ -52,13 +52,13 @@ pub record MemoryFits (code : Code) (kinds : List «Type») (m : Memory) : Type 
   pub variables : HaveKinds kinds (map (λ (v : Variable). v.ty) code.variables) m.variables
 
 -- each variable of a frame has its type
-abbrev pub FrameFits : Code → List «Type» → Frame → Type 0
+abbrev pub FrameFits : Code → List «Type» → TacFrame → Type 0
 FrameFits code kinds frame = (fn : CodeFn) × (function_at code frame ≡ Some fn)
     × HaveKinds kinds (erased_fn fn).variables frame.variables
 
 -- a caller waits at its call of the function above it
 abbrev pub IsCallOf : Code → CodeOp → CodeFn → Type 0
-IsCallOf code (Call to n from passes protects removes) fn = function_of code n ≡ Some fn
+IsCallOf code (Call to n from passes protects removes) fn = code_function code n ≡ Some fn
 IsCallOf code (Do to action from removes) fn = ⊥
 IsCallOf code (Go n from passes removes) fn = ⊥
 IsCallOf code (Print pieces from removes) fn = ⊥
@@ -66,24 +66,24 @@ IsCallOf code (Jump target removes) fn = ⊥
 IsCallOf code (Branch test target removes other otherwise) fn = ⊥
 IsCallOf code (Return value) fn = ⊥
 
-abbrev pub CalledFrom : Code → Frame → List Frame → Type 0
+abbrev pub CalledFrom : Code → TacFrame → List TacFrame → Type 0
 CalledFrom code frame [] = Unit {0}
 CalledFrom code frame (caller ∷ callers) = (fn : CodeFn) × (function_at code frame ≡ Some fn) × (call : CodeInstr)
     × (current code caller ≡ Some call) × IsCallOf code call.op fn
 
-abbrev pub FramesHaveKinds : Code → List «Type» → List Frame → Type 0
+abbrev pub FramesHaveKinds : Code → List «Type» → List TacFrame → Type 0
 FramesHaveKinds code kinds [] = Unit {0}
 FramesHaveKinds code kinds (frame ∷ callers) = FrameFits code kinds frame × CalledFrom code frame callers
     × FramesHaveKinds code kinds callers
 
 -- each value has its type
-pub record Typed (code : Code) (p : TacState) : Type 0 where
+pub record AreValuesTyped (code : Code) (p : TacState) : Type 0 where
   pub kinds : List «Type»
   pub memory : MemoryFits code kinds p.memory
-  pub frames : (g : ℕ) (frames : List Frame) → slice_get p.goroutines g ≡ Some frames
+  pub frames : (g : ℕ) (frames : List TacFrame) → slice_get p.goroutines g ≡ Some frames
       → FramesHaveKinds code kinds frames
 
 -- each step of the three-address machine keeps it
 abbrev pub TypesKeep : Type 0
-TypesKeep = (code : Code) (p q : TacState) (pick : Pick) → IsChecked code → Typed code p → plain_step code p pick
-    ≡ Some q → Typed code q
+TypesKeep = (code : Code) (p q : TacState) (pick : Pick) → IsChecked code → AreValuesTyped code p → plain_step code p pick
+    ≡ Some q → AreValuesTyped code q

@@ -8,12 +8,12 @@ use Rattle.rgo_memory.specs.Memory.{Memory, Object}
 use Rattle.rgo_memory.specs.declared.values.Value.{Value}
 use Rattle.rgo_region_machine.specs.Owed.{current, function_at}
 use Rattle.rgo_region_machine.specs.Regions.{Bindings, class_region}
-use Rattle.rgo_region_machine.specs.States.{Environment, Holder, RegionState, frames_of}
+use Rattle.rgo_region_machine.specs.States.{RegionEnvironment, Holder, RegionState, frames_of}
 use Rattle.rgo_region_machine.specs.declared.regions.Region.{Region}
 use Rattle.rgo_region_machine.specs.declared.regions.Region.TheVariants.{Global as GlobalRegion}
 use Rattle.rgo_sound.specs.Safety.{cells_of}
 use Rattle.rgo_sound.specs.Types.{Each}
-use Rattle.rgo_tac.specs.Frames.{Frame, value_at}
+use Rattle.rgo_tac.specs.Frames.{TacFrame, value_at}
 use Rattle.rgo_tac.specs.declared.regions.Class.{Class}
 use Rattle.rgo_tac.specs.declared.regions.Class.TheVariants.{NoClass}
 use Rattle.rgo_memory.specs.declared.values.Value.TheVariants as value
@@ -51,32 +51,32 @@ call_target (Branch test target removes other otherwise) = None
 call_target (Return value) = None
 
 -- of the top frame: what is live into its instruction
-abbrev pub TopLeads : Code → List Region → Frame → Bindings → Type 0
+abbrev pub TopLeads : Code → List Region → TacFrame → Bindings → Type 0
 TopLeads code owners frame names = (fn : CodeFn) → function_at code frame ≡ Some fn → (v : ℕ)
     → Live (erased_fn fn) v frame.next → LeadsHome owners names (class_of fn v) (value_at frame v)
 
 -- of a caller: what is live after its call, except the call's own target
-abbrev pub CallerLeads : Code → List Region → Frame → Bindings → Type 0
+abbrev pub CallerLeads : Code → List Region → TacFrame → Bindings → Type 0
 CallerLeads code owners frame names =
     (fn : CodeFn) (call : CodeInstr) → function_at code frame ≡ Some fn → current code frame ≡ Some call → (v : ℕ)
     → call_target call.op ≢ Some v → Live (erased_fn fn) v (frame.next + 1) →
     LeadsHome owners names (class_of fn v) (value_at frame v)
 
 -- what is lent for a result is the region of the variable that waits for it
-abbrev pub IsLinked : Code → Environment → Frame → Environment → Type 0
+abbrev pub IsLinked : Code → RegionEnvironment → TacFrame → RegionEnvironment → Type 0
 IsLinked code f caller d =
     (fn : CodeFn) (call : CodeInstr) (to : ℕ) → function_at code caller ≡ Some fn → current code caller ≡ Some call
     → call_target call.op ≡ Some to →
     f.lent ≢ NoClass → class_region f.names f.lent ≡ class_region d.names (class_of fn to)
 
-abbrev pub CallersLead : Code → List Region → Environment → List Frame → List Environment → Type 0
+abbrev pub CallersLead : Code → List Region → RegionEnvironment → List TacFrame → List RegionEnvironment → Type 0
 CallersLead code owners f [] [] = Unit {0}
 CallersLead code owners f [] (d ∷ ds) = ⊥
 CallersLead code owners f (caller ∷ callers) [] = ⊥
 CallersLead code owners f (caller ∷ callers) (d ∷ ds) =
     CallerLeads code owners caller d.names × IsLinked code f caller d × CallersLead code owners d callers ds
 
-abbrev pub FramesLead : Code → List Region → List Frame → List Environment → Type 0
+abbrev pub FramesLead : Code → List Region → List TacFrame → List RegionEnvironment → Type 0
 FramesLead code owners [] environments = Unit {0}
 FramesLead code owners (frame ∷ callers) [] = ⊥
 FramesLead code owners (frame ∷ callers) (f ∷ fs) = TopLeads code owners frame f.names

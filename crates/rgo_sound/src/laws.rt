@@ -55,7 +55,8 @@ pub fn no_step_missing()
     ensures { NoStepMissing }
 {}
 
-/// Stakes are counted, each is kept by one name, pointers stay in their regions, and all is removed in the end.
+/// Stakes are counted, each is kept by one name, pointers stay in their regions, and when every goroutine has ended, every
+/// region but Global was removed.
 pub fn safety()
     ensures { Safety }
 {}
@@ -91,7 +92,7 @@ pub fn owners_stay_made()
     ensures { OwnersStayMade }
 {}
 
-/// The three-address machine's part of a region run never ends.
+/// The three-address machine's part of a region run is never at an end: the end is a mark, and steps may follow it.
 pub fn runs_on()
     ensures { RunsOn }
 {}

@@ -2,7 +2,7 @@ use Rattle.std.proofs.Common.{◌≡◌, ◌≤◌, ◌∙◌, ap, arith, option
 use Rattle.std.proofs.lemmas.Option.{same_Some}
 use Rattle.rgo_machine.specs.declared.limits.Sizes.{Sizes}
 use Rattle.rgo_machine.specs.declared.picks.Pick.TheVariants.{One}
-use Rattle.rgo_machine.specs.declared.turns.Shortage.TheVariants as shortage
+use Rattle.rgo_machine.specs.declared.limits.Shortage.TheVariants as shortage
 use Rattle.rgo_tac.specs.Tac.{TacState}
 use Rattle.rgo_code.specs.Code.{Code}
 use Rattle.std.specs.Prelude.{IfSome}

@@ -1,4 +1,4 @@
-use Rattle.rgo_sound.proofs.StepExamples as lemmas
+use Rattle.rgo_sound.proofs.steps.Examples as lemmas
 use Rattle.rgo_sound.proofs.laws.examples.Goals as goal
 
 pub returns : goal.returns

@@ -1,4 +1,4 @@
-use Rattle.rgo_sound.proofs.Leaving as lemmas
+use Rattle.rgo_sound.proofs.steps.Leaving as lemmas
 use Rattle.rgo_sound.proofs.laws.others_stay.Goals as goal
 
 pub returns : goal.returns

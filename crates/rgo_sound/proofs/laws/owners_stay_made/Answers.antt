@@ -1,4 +1,4 @@
-use Rattle.rgo_sound.proofs.OwnersMade as lemmas
+use Rattle.rgo_sound.proofs.pointers.Owners as lemmas
 use Rattle.rgo_sound.proofs.laws.owners_stay_made.Goals as goal
 
 pub returns : goal.returns

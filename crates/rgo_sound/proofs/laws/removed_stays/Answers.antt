@@ -1,4 +1,4 @@
-use Rattle.rgo_sound.proofs.Counts.{removed_stays}
+use Rattle.rgo_sound.proofs.counts.Removed.{removed_stays}
 use Rattle.rgo_sound.proofs.laws.removed_stays.Goals as goal
 
 pub returns : goal.returns

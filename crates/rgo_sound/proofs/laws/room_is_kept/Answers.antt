@@ -1,4 +1,4 @@
-use Rattle.rgo_sound.proofs.Room.{room_is_kept}
+use Rattle.rgo_sound.proofs.counts.Room.{room_is_kept}
 use Rattle.rgo_sound.proofs.laws.room_is_kept.Goals as goal
 
 pub returns : goal.returns

@@ -1,4 +1,4 @@
-use Rattle.rgo_sound.proofs.Running as lemmas
+use Rattle.rgo_sound.proofs.plain.Running as lemmas
 use Rattle.rgo_sound.proofs.laws.runs_on.Goals as goal
 
 pub returns : goal.returns

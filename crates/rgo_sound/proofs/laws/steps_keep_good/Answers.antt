@@ -1,4 +1,4 @@
-use Rattle.rgo_sound.proofs.Offers.{steps_keep_good}
+use Rattle.rgo_sound.proofs.offers.Offers.{steps_keep_good}
 use Rattle.rgo_sound.proofs.laws.steps_keep_good.Goals as goal
 
 pub returns : goal.returns

@@ -1,4 +1,4 @@
-use Rattle.rgo_sound.proofs.TypedSteps.{types_keep}
+use Rattle.rgo_sound.proofs.types.Steps.{types_keep}
 use Rattle.rgo_sound.proofs.laws.types_keep.Goals as goal
 
 pub returns : goal.returns

@@ -1,4 +1,4 @@
-use Rattle.rgo_sound.proofs.Whole as lemmas
+use Rattle.rgo_sound.proofs.counts.Whole as lemmas
 use Rattle.rgo_sound.proofs.laws.whole_is_enough.Goals as goal
 
 pub returns : goal.returns

@@ -1,0 +1,14 @@
+-- Tallies as contracts know them.
+use Rattle.rgo_region_machine.specs.Counts.{Counts}
+use Rattle.rgo_region_machine.specs.declared.tallies.Tally.{Tally}
+
+abbrev pub counts_in : Tally → Counts
+counts_in t = record {
+  made = t.made;
+  removed = t.removed;
+  taken = t.taken;
+  returned = t.returned;
+  steps = t.steps;
+  objects = t.objects;
+  goroutines = t.goroutines;
+}

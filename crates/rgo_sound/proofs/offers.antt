@@ -1,0 +1,3 @@
+-- Offers and meetings: whose they are, and that their channels are live.
+pub mod Meets
+pub mod Offers
