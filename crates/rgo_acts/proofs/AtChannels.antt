@@ -4,9 +4,9 @@ use Rattle.std.proofs.lemmas.Option.{same_Some}
 use Rattle.rgo_sound.specs.Code.Code as code
 use Rattle.rgo_sound.specs.Code.Code.{CodeInstr, CodeOp}
 use Rattle.rgo_sound.specs.Code.Erasure.{erased_op}
-use Rattle.rgo_sound.specs.Code.Exists.{Uses}
+use Rattle.rgo_sound.specs.Code.Exists.{UsesVariable}
 use Rattle.rgo_core.specs.Channels.Records as sides
-use Rattle.rgo_core.specs.Channels.Records.{Free, Nowhere, Rec as SideRec, at_rest}
+use Rattle.rgo_core.specs.Channels.Records.{Free, Nowhere, Rec as SideRec}
 use Rattle.rgo_core.specs.Channels.Standing.{IsOfChannel}
 use Rattle.rgo_core_facts.proofs.ControlCode.{variables_exist}
 use Rattle.rgo_core_facts.proofs.ControlFrames.{all_in_code, offers_known}
@@ -17,7 +17,7 @@ use Rattle.rgo_core.specs.Frames.WordFrames.{WordFrame, bare, word_at}
 use Rattle.rgo_core.specs.Memory.Words.{all_words, base as base_of}
 use Rattle.rgo_core.specs.Rule.Views.{number_of}
 use Rattle.rgo_core_steps.specs.Seats.{SettlesBy, mine}
-use Rattle.rgo_sound.specs.RegionMachine.Owed.{current, function_of}
+use Rattle.rgo_sound.specs.RegionMachine.Owed.{current, code_function}
 use Rattle.rgo_sound.specs.RegionMachine.States.{Duty, NoOffer, Offer, Standing}
 use Rattle.rgo_sound.specs.Tac.Code as tac
 use Rattle.rgo_sound.specs.Tac.Code.{Op}
@@ -37,13 +37,13 @@ use Rattle.rgo_core.specs.Memory.declared.layout.TableSizes.{TableSizes}
 use Rattle.rgo_chan.specs.Before.{IsBeforeClose, IsBeforeReceive, IsBeforeSend, LiesIn}
 use Rattle.rgo_body.specs.Bodies.{frames_in}
 use Rattle.rgo_body.specs.Nexts.{IsDo, IsNextOf}
-use Rattle.rgo_body.specs.Programs.{Program}
-use Rattle.rgo_body.specs.Shows.{Shows, SideShows}
+use Rattle.rgo_body.specs.Programs.{CompactProgram}
+use Rattle.rgo_body.specs.Shows.{BodyShows, SideShows}
 use Rattle.rgo_body.specs.declared.bodies.Body.{Body}
 use Rattle.rgo_body.specs.declared.bodies.Side.{Side}
 use Rattle.rgo_body.specs.declared.bodies.Side.TheVariants.{AtRest, Offering, Tried}
 use Rattle.rgo_body.specs.declared.nexts.Next.{Next}
-use Rattle.rgo_acts.specs.Actors.{Stands, now}
+use Rattle.rgo_acts.specs.Actors.{IsActorOf, now}
 use Rattle.rgo_acts.specs.Runs.{Run}
 use Rattle.rgo_acts.specs.Talks.{CanTry}
 use Rattle.rgo_acts.specs.declared.actors.Actor.{Actor}
@@ -87,13 +87,13 @@ side_offers (Offering k) at o shown = let e = shown.1 in ap Offering (cc e)
 
 -- ---- a variable of the next instruction
 
-pub variable_there : (T : Setup) (g : ℕ) (c : Record) → Here T g c → {op : CodeOp} (here : IsAt T.code c op) (v : ℕ) → Uses (erased_op op) v
+pub variable_there : (T : Setup) (g : ℕ) (c : Record) → Here T g c → {op : CodeOp} (here : IsAt T.code c op) (v : ℕ) → UsesVariable (erased_op op) v
     → v < length here.w.variables
 variable_there T g c x {op} here v uses =
     let i = all_in_code T g c x 0 here.w (ap (λ (l : List WordFrame). slice_get l 0) here.frames) in
     let instr = same_Some i.instr here.instr (sym i.cur ∙ here.cur) in
     let exists = variables_exist T.code here.w.function here.w.next i.fn i.instr x.core.sound.checked i.in_fn i.at v
-    (subst (λ (o : CodeOp). Uses (erased_op o) v) (sym (ap (λ (y : CodeInstr). y.op) instr ∙ here.is)) uses) in
+    (subst (λ (o : CodeOp). UsesVariable (erased_op o) v) (sym (ap (λ (y : CodeInstr). y.op) instr ∙ here.is)) uses) in
     subst (λ m. v < m) (sym i.words) exists
 
 -- ---- the word of a control
@@ -121,7 +121,7 @@ module _ (r : Run) (a : Actor) (next : Next) (can : CanTry r a next) where
     ws = can.ready.is_next.ws;
     frames = can.stands.shows.frames ∙ can.ready.is_next.are;
     fn = next.function;
-    in_fn = ap (λ code. function_of code can.ready.is_next.w.function) can.stands.shows.code ∙ can.ready.is_next.in_fn;
+    in_fn = ap (λ code. code_function code can.ready.is_next.w.function) can.stands.shows.code ∙ can.ready.is_next.in_fn;
     instr = can.ready.is_next.instr;
     cur = ap (λ code. current code (bare can.ready.is_next.w)) can.stands.shows.code
         ∙ current_is r.program.code (frames_in a.body) next can.ready.is_next;
@@ -130,14 +130,14 @@ module _ (r : Run) (a : Actor) (next : Next) (can : CanTry r a next) where
     free = unposted.no_offer;
   }
 
-  pub has_variable : (v : ℕ) → Uses (operation_of next.op) v
+  pub has_variable : (v : ℕ) → UsesVariable (operation_of next.op) v
       → (w : WordFrame) × (ws : List WordFrame) × (frames_in a.body ≡ w ∷ ws) × (v < length w.variables)
   has_variable v uses = (
     can.ready.is_next.w,
     can.ready.is_next.ws,
     can.ready.is_next.are,
     variable_there r.setup (number_of a.seat.me) c can.stands.possible (here_as can.ready.is_next.instr.op refl) v
-        (subst (λ (op : Op). Uses op v) (sym can.ready.is_next.op) uses),
+        (subst (λ (op : Op). UsesVariable op v) (sym can.ready.is_next.op) uses),
   )
 
   pub has_operand : (to : Option ℕ) (act : Action) (from : List ℕ) (v : ℕ) → operation_of next.op ≡ tac.Do to act from → Contains from v
@@ -209,7 +209,7 @@ module _ (r : Run) (a : Actor) (next : Next) (can : CanTry r a next) where
 pub head_is : (v w : WordFrame) (vs ws : List WordFrame) → v ∷ vs ≡ w ∷ ws → v ≡ w
 head_is v w vs ws e = cc
 
-module _ (r : Run) (a : Actor) (s : Stands r a) (at : ℕ) (offers : a.body.side ≡ Offering at) where
+module _ (r : Run) (a : Actor) (s : IsActorOf r a) (at : ℕ) (offers : a.body.side ≡ Offering at) where
   abbrev g : ℕ
   g = number_of a.seat.me
 
@@ -291,8 +291,8 @@ accessed_same (suc k) q =
     record { prints = m.prints; first = m.first; children = m.children; refused = m.refused; share = m.share; owed = m.owed }
 
 -- the body still shows the record after accesses that have told something of its channel
-pub shows_offering : (T : Setup) (p : Program) (b : Body) (c : Record) (k : ℕ) (side : SideRec) (at : ℕ) → b.side ≡ Offering at
-    → Shows T p b c → side.hold ≡ Free → side.post ≡ sides.Offering at → Shows T p b (waited k c side)
+pub shows_offering : (T : Setup) (p : CompactProgram) (b : Body) (c : Record) (k : ℕ) (side : SideRec) (at : ℕ) → b.side ≡ Offering at
+    → BodyShows T p b c → side.hold ≡ Free → side.post ≡ sides.Offering at → BodyShows T p b (waited k c side)
 shows_offering T p b c k side at offers shows free post =
     let q = offer_at b.side at c.side c.frame.holder.offer offers shows.side in
     let m = accessed_same k c.clock in

@@ -25,7 +25,7 @@ use Rattle.rgo_core.specs.Rule.declared.accesses.Access.{Access}
 use Rattle.rgo_core.specs.Rule.declared.accesses.Kind.TheVariants.{CreateRegion, FreeSlot, LeaveRegion, ShareRegion}
 use Rattle.rgo_core_steps.proofs.Growing.{grew_then, told_accesses, told_grew, told_record}
 use Rattle.rgo_core_steps.specs.Counts.{IsLeaving, Leaving, by_first, created, created_with, ending, shared, sharing, tried_slot}
-use Rattle.rgo_core_steps.specs.Grown.{Grew}
+use Rattle.rgo_core_steps.specs.Grown.{SeatGrew}
 use Rattle.rgo_core_steps.specs.Searches.{Miss, missing}
 use Rattle.rgo_core_steps.specs.Seats.{HasPossible, Left, mine}
 use Rattle.rgo_counts.proofs.Vain.{full_law}
@@ -42,13 +42,13 @@ use Rattle.rgo_body.proofs.Showing.{like_shown}
 use Rattle.rgo_holding.specs.Holds.{region_at}
 use Rattle.rgo_holding.specs.declared.keys.Key.{Key}
 use Rattle.rgo_body.specs.Bodies.{owed}
-use Rattle.rgo_body.specs.Duties.{DoesLocal, HasDone, Leaves, LeavesIn, SharesIn, without_region}
-use Rattle.rgo_body.specs.Programs.{Program}
-use Rattle.rgo_body.specs.Shows.{LooksLike, Shows, SideShows}
-use Rattle.rgo_body.specs.Steps.{Becomes, Stays}
+use Rattle.rgo_body.specs.Duties.{DoesLocal, HasDoneDuty, StakeHasEnded, LeavesIn, SharesIn, without_region}
+use Rattle.rgo_body.specs.Programs.{CompactProgram}
+use Rattle.rgo_body.specs.Shows.{LooksLike, BodyShows, SideShows}
+use Rattle.rgo_body.specs.Steps.{Becomes, StillShows}
 use Rattle.rgo_body.specs.declared.bodies.Body.{Body}
 use Rattle.rgo_body.specs.declared.bodies.Side.{Side}
-use Rattle.rgo_acts.specs.Actors.{Stands, Went, distance, now}
+use Rattle.rgo_acts.specs.Actors.{IsActorOf, Went, distance, now}
 use Rattle.rgo_acts.specs.Attending.{HasAttended, HasWaited, IsAtDuty, IsShort}
 use Rattle.rgo_acts.specs.Runs.{Run}
 use Rattle.rgo_acts.specs.Shortages.{AllInUse}
@@ -65,7 +65,7 @@ module _ (r : Run) (a : Actor) (d : Duty) (before : IsAtDuty r a d) where
   owes_first = first r.setup r.program a.body (now r.setup a) d before.others before.stands.shows before.owes
 
 -- its next instruction is nearer
-pub nearer : (p : Program) (b e : Body) → HasDone b e → distance p e < distance p b
+pub nearer : (p : CompactProgram) (b e : Body) → HasDoneDuty b e → distance p e < distance p b
 nearer p b e done =
     let l : length (owed p.code e) ≡ length (e.queue.duties ++ later p.code b) =
     ap (λ (x : Body). length (e.queue.duties ++ later p.code x)) done.rest in
@@ -76,7 +76,7 @@ nearer p b e done =
 
 -- ---- without an access
 
-pub local_done : (r : Run) (a b : Actor) → Stands r a → b.seat ≡ a.seat → b.behind ≡ a.behind + 1 → DoesLocal r.program a.body b.body
+pub local_done : (r : Run) (a b : Actor) → IsActorOf r a → b.seat ≡ a.seat → b.behind ≡ a.behind + 1 → DoesLocal r.program a.body b.body
     → HasAttended r a b
 local_done r a b s seat behind does = record {
   acted = acted_local r a b 1 0 s seat behind does.0 (let e = ap (λ n. n.steps) does.2 in omega (arith, e));
@@ -84,7 +84,7 @@ local_done r a b s seat behind does = record {
   nearer = nearer r.program a.body b.body does.1;
 }
 
-pub has_waited : (r : Run) (a b : Actor) → Stands r a → b.seat ≡ a.seat → b.behind ≡ a.behind → Stays r.program a.body b.body
+pub has_waited : (r : Run) (a b : Actor) → IsActorOf r a → b.seat ≡ a.seat → b.behind ≡ a.behind → StillShows r.program a.body b.body
     → b.body ≡ record a.body { holding = b.body.holding } → HasWaited r a b
 has_waited r a b s seat behind stays is = record {
   acted = acted_none r a b s seat behind (stays r.setup (now r.setup a) s.shows);
@@ -93,7 +93,7 @@ has_waited r a b s seat behind stays is = record {
 
 -- a table without slots
 pub no_slots : (r : Run) (a b : Actor) (name : ℕ) (before : IsAtDuty r a (Create name)) → b.seat ≡ a.seat → b.behind ≡ a.behind
-    → Stays r.program a.body b.body → b.body ≡ record a.body { holding = b.body.holding } → r.sizes ≡ layout r.setup → r.sizes.slots ≡ 0
+    → StillShows r.program a.body b.body → b.body ≡ record a.body { holding = b.body.holding } → r.sizes ≡ layout r.setup → r.sizes.slots ≡ 0
     → IsShort r a b
 no_slots r a b name before seat behind stays is sizes none = record {
   waited = has_waited r a b before.stands seat behind stays is;
@@ -177,7 +177,7 @@ like_creates c d name slot ds l = record {
   refused = l.refused;
 }
 
-went_by : (r : Run) (a b : Actor) (es : List Access) → b.behind ≡ 0 → Grew accesses (first_of r.setup.code) a.seat.me es b.seat.me
+went_by : (r : Run) (a b : Actor) (es : List Access) → b.behind ≡ 0 → SeatGrew accesses (first_of r.setup.code) a.seat.me es b.seat.me
     → Continues (now r.setup a) (mine r.setup b.seat.me) 0 [] [] → Went r.setup a b 0 [] [] es
 went_by r a b es none grew follows =
     let e = now_at_once r.setup b none in record {
@@ -194,7 +194,7 @@ module _ (r : Run) (a b : Actor) (name : ℕ) (before : IsAtDuty r a (Create nam
   others = before.others ++ later r.program.code a.body
 
   pub created_done : (slot : ℕ) → SlotTaken r.setup r.sizes (now r.setup a) slot a.seat.me b.seat.me
-      → Shows r.setup r.program b.body (created (now r.setup a) slot) → HasDone a.body b.body → HasAttended r a b
+      → BodyShows r.setup r.program b.body (created (now r.setup a) slot) → HasDoneDuty a.body b.body → HasAttended r a b
   created_done slot taken shows done =
       let c = now r.setup a in
       let t = taken.1.took in
@@ -208,16 +208,16 @@ module _ (r : Run) (a b : Actor) (name : ℕ) (before : IsAtDuty r a (Create nam
             (subst (λ (e : Record). Continues c e 0 [] []) (sym after)
             (old_continues c (creates d name others slot) (let l = old_tries t.tries c in
             record { steps = l.steps; prints = l.prints; children = l.children; first = l.first })))
-            (subst (Shows r.setup r.program b.body) (sym after)
+            (subst (BodyShows r.setup r.program b.body) (sym after)
             (like_shown r.setup r.program b.body (creates c name others slot) (creates d name others slot)
-            (subst (Shows r.setup r.program b.body) (created_is c name slot others owes) shows)
+            (subst (BodyShows r.setup r.program b.body) (created_is c name slot others owes) shows)
             (like_creates c d name slot others like)));
         done = done;
         nearer = nearer r.program a.body b.body done;
       }
 
   pub created_short : AllSlotsTried r.setup r.sizes (now r.setup a) a.seat.me b.seat.me → r.sizes ≡ layout r.setup
-      → Stays r.program a.body b.body → b.body ≡ record a.body { holding = b.body.holding } → IsShort r a b
+      → StillShows r.program a.body b.body → b.body ≡ record a.body { holding = b.body.holding } → IsShort r a b
   created_short tried sizes stays is =
       let c = now r.setup a in
       let t = tried.tried in
@@ -234,7 +234,7 @@ module _ (r : Run) (a b : Actor) (name : ℕ) (before : IsAtDuty r a (Create nam
             es = full.es;
             went = went_by r a b full.es behind full.grew goes;
             stands = (acted_by r a b before.stands 0 [] [] full.es own behind full.grew possible goes
-                (subst (Shows r.setup r.program b.body) (sym after)
+                (subst (BodyShows r.setup r.program b.body) (sym after)
                 (like_shown r.setup r.program b.body c d (stays r.setup c before.stands.shows) like))).stands;
           };
           rest = is;
@@ -271,7 +271,7 @@ module _ (r : Run) (a : Actor) (name : ℕ) (before : IsAtDuty r a (Share name))
   pub shared_done : (b : Actor) → b.seat.table_id ≡ a.seat.table_id → b.behind ≡ 0 → HasPossible r.setup b.seat.me → (slot : ℕ) (k : Holder)
       → sharing (now r.setup a) ≡ Some (slot, k) → (i : ℕ) (f : ℕ → ℕ)
       → (n : ℕ) × Left r.setup ShareRegion i f (λ n d. d ≡ shared (now r.setup a)) a.seat.me n b.seat.me
-      → Shows r.setup r.program b.body (shared (now r.setup a)) → HasDone a.body b.body → HasAttended r a b
+      → BodyShows r.setup r.program b.body (shared (now r.setup a)) → HasDoneDuty a.body b.body → HasAttended r a b
   shared_done b own behind possible slot k is i f left shows done =
       let c = now r.setup a in
       let same : shared c ≡ with_holder c k = ap (λ o. option_map_or (λ (t : ℕ × Holder). with_holder c t.1) o c) is in
@@ -304,13 +304,13 @@ few_owed T g c slot x owes =
     let b = claims_few (λ p. slice_index x.words (state_at (layout T) p)) (layout T).pages slot in
     omega (arith, a, b)
 
-module _ (r : Run) (a b : Actor) (before : Stands r a) (own : b.seat.table_id ≡ a.seat.table_id) (behind : b.behind ≡ 0)
-    (possible : HasPossible r.setup b.seat.me) (done : HasDone a.body b.body) (slot : ℕ) (k : Holder) where
+module _ (r : Run) (a b : Actor) (before : IsActorOf r a) (own : b.seat.table_id ≡ a.seat.table_id) (behind : b.behind ≡ 0)
+    (possible : HasPossible r.setup b.seat.me) (done : HasDoneDuty a.body b.body) (slot : ℕ) (k : Holder) where
   -- it was not the last one
   pub left_done : (i found : ℕ) (f : ℕ → ℕ) (tells : ℕ → Record → Type 0)
       → Left r.setup LeaveRegion i f tells a.seat.me found b.seat.me
       → (tells found (mine r.setup b.seat.me) → mine r.setup b.seat.me ≡ leaves (now r.setup a) k slot)
-      → Shows r.setup r.program b.body (leaves (now r.setup a) k slot) → HasAttended r a b
+      → BodyShows r.setup r.program b.body (leaves (now r.setup a) k slot) → HasAttended r a b
   left_done i found f tells left is shows = record {
     acted = acted_one r a b before 0 [] [] LeaveRegion i found f tells (leaves (now r.setup a) k slot) own behind left possible is (record {
       accesses = refl;
@@ -330,7 +330,7 @@ module _ (r : Run) (a b : Actor) (before : Stands r a) (own : b.seat.table_id �
       → ChainGivenBack r.setup z slot (mine r.setup m) freed m n → freed ≡ (mine r.setup m).clock.owed → (j : ℕ)
       → (old : ℕ) × Left r.setup FreeSlot j (λ n. 0)
       (λ found d. d ≡ remembers (mine r.setup n) (with_give (mine r.setup n).memory Calm)) n old b.seat.me
-      → Shows r.setup r.program b.body (without_region (leaves (now r.setup a) k slot) freed) → HasAttended r a b
+      → BodyShows r.setup r.program b.body (without_region (leaves (now r.setup a) k slot) freed) → HasAttended r a b
   last_done i found f tells m n left pages is z freed given count j stored shows =
       let T = r.setup in
       let c = now r.setup a in
@@ -355,7 +355,7 @@ module _ (r : Run) (a b : Actor) (before : Stands r a) (own : b.seat.table_id �
         acted = acted_by r a b before 0 [] [] (xs ++ (given.made.es ++ ys)) own behind whole possible
             (subst (λ (x : Record). Continues c x 0 [] []) (sym after)
             (old_continues c d (record { steps = refl; prints = refl; children = refl; first = refl })))
-            (subst (Shows T r.program b.body) (sym after)
+            (subst (BodyShows T r.program b.body) (sym after)
             (like_shown T r.program b.body (without_region (leaves c k slot) freed) d shows (record {
               frame = refl;
               side = refl;
@@ -469,15 +469,15 @@ module _ (r : Run) (a : Actor) (d : Duty) (before : IsAtDuty r a d) (slot i foun
   pub owes_told : found ≡ 2 → (mine r.setup m).memory.give ≡ Owes slot
   owes_told two = ap (λ (x : Record). x.memory.give) (told_last (now r.setup a) slot found (mine r.setup m) told two).is
 
-  last_shows : (b : Body) → Leaves r.program a.body b → HasPossible r.setup m → (two : found ≡ 2)
-      → Shows r.setup r.program b (leaves (now r.setup a) (told_last (now r.setup a) slot found (mine r.setup m) told two).k slot)
+  last_shows : (b : Body) → StakeHasEnded r.program a.body b → HasPossible r.setup m → (two : found ≡ 2)
+      → BodyShows r.setup r.program b (leaves (now r.setup a) (told_last (now r.setup a) slot found (mine r.setup m) told two).k slot)
   last_shows b shows possible two =
       let t = told_last (now r.setup a) slot found (mine r.setup m) told two in
       shows r.setup (number_of a.seat.me) (now r.setup a) (mine r.setup m) slot t.k before.stands.possible before.stands.shows t.ends
       (same_goroutine (ap accesses t.is) possible) (ap (λ (x : Record). x.frame) t.is)
 
   pub all_gone : (b : Actor) (mid : Body) → b.seat.table_id ≡ a.seat.table_id → b.behind ≡ 0 → HasPossible r.setup b.seat.me
-      → (n : Me Record) → HasPossible r.setup m → HasDone a.body b.body → Leaves r.program a.body mid → (freed : ℕ)
+      → (n : Me Record) → HasPossible r.setup m → HasDoneDuty a.body b.body → StakeHasEnded r.program a.body mid → (freed : ℕ)
       → Becomes r.program mid b.body (λ T c. without_region c freed) → found ≡ 2 → (z : TableSizes)
       → ChainGivenBack r.setup z slot (mine r.setup m) freed m n → freed ≡ (mine r.setup m).clock.owed → (j : ℕ)
       → (old : ℕ) × Left r.setup FreeSlot j (λ n. 0)
@@ -490,7 +490,7 @@ module _ (r : Run) (a : Actor) (d : Duty) (before : IsAtDuty r a d) (slot i foun
       (becomes r.setup (leaves (now r.setup a) t.k slot) (last_shows mid shows possible_m two))
 
 pub others_stay : (r : Run) (a : Actor) (d : Duty) (before : IsAtDuty r a d) (b : Actor) → b.seat.table_id ≡ a.seat.table_id → b.behind ≡ 0
-    → HasPossible r.setup b.seat.me → HasDone a.body b.body → Leaves r.program a.body b.body → (slot i found : ℕ) (f : ℕ → ℕ)
+    → HasPossible r.setup b.seat.me → HasDoneDuty a.body b.body → StakeHasEnded r.program a.body b.body → (slot i found : ℕ) (f : ℕ → ℕ)
     → Left r.setup LeaveRegion i f (Leaving (now r.setup a) slot) a.seat.me found b.seat.me → found ≢ 2 → HasAttended r a b
 others_stay r a d before b own behind possible done shows slot i found f left some =
     let t = told_others (now r.setup a) slot found (mine r.setup b.seat.me) (told r a d before slot i found f b.seat.me left) some in
@@ -504,13 +504,13 @@ pub shared_by : (r : Run) (a : Actor) (name : ℕ) (before : IsAtDuty r a (Share
     → b.behind ≡ 0 → HasPossible r.setup b.seat.me → (slot : ℕ) (k : Holder) → sharing (now r.setup a) ≡ Some (slot, k)
     → (i : ℕ) (f : ℕ → ℕ) → (n : ℕ) × Left r.setup ShareRegion i f (λ n d. d ≡ shared (now r.setup a)) a.seat.me n b.seat.me
     → (e : Body) → e ≡ a.body
-    → ((T : Setup) (g : ℕ) (c : Record) → Here T g c → Shows T r.program e c → Shows T r.program b.body (shared c)) → HasDone e b.body
+    → ((T : Setup) (g : ℕ) (c : Record) → Here T g c → BodyShows T r.program e c → BodyShows T r.program b.body (shared c)) → HasDoneDuty e b.body
     → HasAttended r a b
 shared_by r a name before b own behind possible slot k is i f left e same shows done =
     shared_done r a name before b own behind possible slot k is i f left
     (shows r.setup (number_of a.seat.me) (now r.setup a) before.stands.possible
-    (subst (λ (x : Body). Shows r.setup r.program x (now r.setup a)) (sym same) before.stands.shows))
-    (subst (λ (x : Body). HasDone x b.body) same done)
+    (subst (λ (x : Body). BodyShows r.setup r.program x (now r.setup a)) (sym same) before.stands.shows))
+    (subst (λ (x : Body). HasDoneDuty x b.body) same done)
 
 -- the pages of a region that is gone can be counted
 pub returned_fits : (r : Run) (a : Actor) (d : Duty) (before : IsAtDuty r a d) → r.sizes ≡ layout r.setup → (slot i found : ℕ) (f : ℕ → ℕ)
@@ -524,7 +524,7 @@ returned_fits r a d before sizes slot i found f m left possible two freed count 
     let now_returned : counts.returned ≡ a.body.counts.returned = ap (λ (n : Counts). n.returned) same in
     omega arith
 
-pub done_more : (b mid e : Body) → HasDone b mid → e ≡ record mid { counts = e.counts } → HasDone b e
+pub done_more : (b mid e : Body) → HasDoneDuty b mid → e ≡ record mid { counts = e.counts } → HasDoneDuty b e
 done_more b mid e done same = record {
   first = done.first;
   queue = done.queue ∙ ap (λ (x : Body). done.first ∷ x.queue.duties) (sym same);
@@ -532,7 +532,7 @@ done_more b mid e done same = record {
       ∙ ap (λ (x : Body). record b { holding = x.holding; queue = x.queue; counts = e.counts }) (sym same);
 }
 
-pub done_first : (b mid e : Body) → HasDone mid e → mid ≡ record b { holding = mid.holding } → HasDone b e
+pub done_first : (b mid e : Body) → HasDoneDuty mid e → mid ≡ record b { holding = mid.holding } → HasDoneDuty b e
 done_first b mid e done same = record {
   first = done.first;
   queue = ap (λ (x : Body). x.queue.duties) (sym same) ∙ done.queue;
@@ -541,10 +541,10 @@ done_first b mid e done same = record {
 
 pub created_by_call : (r : Run) (a b : Actor) (name : ℕ) (before : IsAtDuty r a (Create name)) → b.seat.table_id ≡ a.seat.table_id
     → b.behind ≡ 0 → HasPossible r.setup b.seat.me → (slot : ℕ) → SlotTaken r.setup r.sizes (now r.setup a) slot a.seat.me b.seat.me
-    → r.sizes ≡ layout r.setup → is_in slot (now r.setup a).frame.holder.stakes ≡ false → (mid : Body) → Stays r.program a.body mid
+    → r.sizes ≡ layout r.setup → is_in slot (now r.setup a).frame.holder.stakes ≡ false → (mid : Body) → StillShows r.program a.body mid
     → mid ≡ record a.body { holding = mid.holding }
-    → ((T : Setup) (g : ℕ) (c : Record) → Here T g c → Shows T r.program mid c → slot < T.sizes.regions
-    → is_in slot c.frame.holder.stakes ≡ false → Shows T r.program b.body (created c slot)) → HasDone mid b.body
+    → ((T : Setup) (g : ℕ) (c : Record) → Here T g c → BodyShows T r.program mid c → slot < T.sizes.regions
+    → is_in slot c.frame.holder.stakes ≡ false → BodyShows T r.program b.body (created c slot)) → HasDoneDuty mid b.body
     → HasAttended r a b
 created_by_call r a b name before own behind possible slot taken sizes fresh mid stays same shows done =
     let many : r.sizes.slots ≡ r.setup.sizes.regions = ap (λ (z : TableSizes). z.slots) sizes in

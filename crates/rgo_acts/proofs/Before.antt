@@ -3,9 +3,9 @@ use Rattle.std.proofs.Common.{◌≡◌, ◌<◌, ◌-◌, ℕ, zero, suc, inl, 
 use Rattle.rgo_sound.specs.Code.Code as code
 use Rattle.rgo_sound.specs.Code.Code.{Code, CodeInstr, CodeOp}
 use Rattle.rgo_sound.specs.Code.Erasure.{erased_op}
-use Rattle.rgo_sound.specs.Code.Exists.{Uses}
+use Rattle.rgo_sound.specs.Code.Exists.{UsesVariable}
 use Rattle.rgo_core.specs.Frames.WordFrames.{WordFrame, bare, bare_all, word_at}
-use Rattle.rgo_sound.specs.RegionMachine.Owed.{current, current_in, function_of, next_duties}
+use Rattle.rgo_sound.specs.RegionMachine.Owed.{current, current_in, code_function, next_duties}
 use Rattle.rgo_sound.specs.RegionMachine.States.{Duty}
 use Rattle.rgo_sound.specs.Tac.Code as tac
 use Rattle.rgo_sound.specs.Tac.Code.{Op}
@@ -35,7 +35,7 @@ use Rattle.rgo_body.specs.declared.bodies.Body.{Body}
 use Rattle.rgo_body.specs.declared.bodies.Side.{Side}
 use Rattle.rgo_body.specs.declared.bodies.Side.TheVariants.{AtRest}
 use Rattle.rgo_body.specs.declared.nexts.Next.{Next}
-use Rattle.rgo_acts.specs.Actors.{Acted, now}
+use Rattle.rgo_acts.specs.Actors.{ActorActed, now}
 use Rattle.rgo_acts.specs.Ready.{IsBefore}
 use Rattle.rgo_acts.specs.Runs.{Run}
 use Rattle.rgo_acts.specs.declared.actors.Actor.{Actor}
@@ -71,7 +71,7 @@ module _ (r : Run) (a : Actor) (next : Next) (before : IsBefore r a next) where
     ws = before.ready.is_next.ws;
     frames = before.stands.shows.frames ∙ before.ready.is_next.are;
     fn = next.function;
-    in_fn = ap (λ code. function_of code before.ready.is_next.w.function) before.stands.shows.code ∙ before.ready.is_next.in_fn;
+    in_fn = ap (λ code. code_function code before.ready.is_next.w.function) before.stands.shows.code ∙ before.ready.is_next.in_fn;
     instr = before.ready.is_next.instr;
     cur = ap (λ code. current code (bare before.ready.is_next.w)) before.stands.shows.code
         ∙ current_is r.program.code (frames_in a.body) next before.ready.is_next;
@@ -96,7 +96,7 @@ module _ (r : Run) (a : Actor) (next : Next) (before : IsBefore r a next) where
   }
 
   -- a variable that it reads or writes exists
-  pub has_variable : (v : ℕ) → Uses (operation_of next.op) v
+  pub has_variable : (v : ℕ) → UsesVariable (operation_of next.op) v
       → (w : WordFrame) × (ws : List WordFrame) × (frames_in a.body ≡ w ∷ ws) × (v < length w.variables)
   has_variable v uses =
       let n = before.ready.is_next in
@@ -108,7 +108,7 @@ module _ (r : Run) (a : Actor) (next : Next) (before : IsBefore r a next) where
       let instr : i.instr ≡ n.instr = cc both in
       let exists = variables_exist r.setup.code n.w.function n.w.next i.fn i.instr
       before.stands.possible.core.sound.checked i.in_fn i.at v
-      (subst (λ (op : Op). Uses op v) (sym (ap (λ (x : CodeInstr). erased_op x.op) instr ∙ n.op)) uses) in
+      (subst (λ (op : Op). UsesVariable op v) (sym (ap (λ (x : CodeInstr). erased_op x.op) instr ∙ n.op)) uses) in
       (n.w, n.ws, n.are, subst (λ m. v < m) (sym i.words) exists)
 
 -- ---- the code's operation, by what is left of it where nothing is said of regions
@@ -206,7 +206,7 @@ module _ (r : Run) (a : Actor) (next : Next) (before : IsBefore r a next) where
       → b.seat.table_id ≡ a.seat.table_id → b.behind ≡ 0 → Left r.setup kind i f tells a.seat.me found b.seat.me
       → HasPossible r.setup b.seat.me
       → (tells found (mine r.setup b.seat.me) → mine r.setup b.seat.me ≡ acting r.setup.code (now r.setup a) word)
-      → Becomes r.program a.body b.body (λ T c. acting T.code c word) → Acted r a b 1 [] []
+      → Becomes r.program a.body b.body (λ T c. acting T.code c word) → ActorActed r a b 1 [] []
   acted_does b kind i found f tells word own none left possible is becomes =
       acted_one r a b before.stands 1 [] [] kind i found f tells (acting r.setup.code (now r.setup a) word) own none left possible is
       (acting_follows word) (becomes r.setup (now r.setup a) before.stands.shows)
@@ -236,7 +236,7 @@ module _ (r : Run) (a : Actor) (next : Next) (before : IsBefore r a next) where
   pub reads_it : (to : Option ℕ) (act : Action) (from : List ℕ) → operation_of next.op ≡ tac.Do to act from → (v : ℕ) → Contains from v
       → (w : WordFrame) × (ws : List WordFrame) × (frames_in a.body ≡ w ∷ ws) × (v < length w.variables)
   reads_it to act from e v there =
-      has_variable r a next before v (subst (λ (o : Op). Uses o v) (sym e) (inl there))
+      has_variable r a next before v (subst (λ (o : Op). UsesVariable o v) (sym e) (inl there))
 
   pub its_word : (v n : ℕ) → IsWord a.body v n → n ≡ word_at before.ready.is_next.w v
   its_word v n word = word before.ready.is_next.w before.ready.is_next.ws before.ready.is_next.are

@@ -20,7 +20,7 @@ use Rattle.rgo_core.specs.Core.{IsPossible, Setup}
 use Rattle.rgo_core.specs.Opening.{first_of}
 use Rattle.rgo_core.specs.Records.{Record, accesses, has_ended, steps_of}
 use Rattle.rgo_core_steps.specs.After.{Position, place_of, position_in}
-use Rattle.rgo_core_steps.specs.Ends.{Ends, Exits, IsFull, IsTooDeep, Trapped, Traps, ending}
+use Rattle.rgo_core_steps.specs.Ends.{GoroutineEndsRun, Exits, IsFull, IsTooDeep, Trapped, InstrTraps, ending}
 use Rattle.rgo_core_steps.specs.Seats.{HasPossible, Left, Settles, mine}
 use Rattle.rgo_core_steps.proofs.Growing.{told_accesses, told_found, told_grew, told_record}
 use Rattle.rgo_sound.specs.Machine.Limits.{deepest}
@@ -36,12 +36,12 @@ use Rattle.rgo_sound.specs.Tac.Code.{Instr}
 use Rattle.rgo_sound.specs.Tac.Ops.{operation_of, place_in}
 use Rattle.rgo_body.specs.Bodies.{frames_in}
 use Rattle.rgo_body.specs.Nexts.{IsNextOf}
-use Rattle.rgo_body.specs.Shows.{Shows}
+use Rattle.rgo_body.specs.Shows.{BodyShows}
 use Rattle.rgo_body.specs.declared.bodies.Body.{Body}
 use Rattle.rgo_body.specs.declared.nexts.Next.{Next}
 use Rattle.rgo_body.proofs.Showing.{like_shown}
-use Rattle.rgo_acts.specs.Actors.{Stands, now}
-use Rattle.rgo_acts.specs.Endings.{HasEnded, place_at}
+use Rattle.rgo_acts.specs.Actors.{IsActorOf, now}
+use Rattle.rgo_acts.specs.Endings.{ActorHasEnded, place_at}
 use Rattle.rgo_acts.specs.Ready.{IsBefore}
 use Rattle.rgo_acts.specs.Runs.{Run}
 use Rattle.rgo_acts.specs.declared.actors.Actor.{Actor}
@@ -86,7 +86,7 @@ abbrev pub SetsMark : (T : Setup) (a b : Actor) → Mark → (ends : Bool) → T
 SetsMark T a b mark ends = (n : ℕ) × ((ends ≡ true) ↔ (n < 2 ^ 63))
     × Left T EndRun clock_at (λ n. bit_or n (2 ^ 63)) (λ n d. d ≡ ending T.code (now T a) n mark) a.seat.me n b.seat.me
 
-module _ (r : Run) (a b : Actor) (stands : Stands r a) (own : b.seat.table_id ≡ a.seat.table_id) (at_once : b.behind ≡ 0)
+module _ (r : Run) (a b : Actor) (stands : IsActorOf r a) (own : b.seat.table_id ≡ a.seat.table_id) (at_once : b.behind ≡ 0)
     (possible : HasPossible r.setup b.seat.me) (mark : Mark) (ends : Bool) (sets : SetsMark r.setup a b mark ends) where
   abbrev T : Setup
   T = r.setup
@@ -95,7 +95,7 @@ module _ (r : Run) (a b : Actor) (stands : Stands r a) (own : b.seat.table_id �
   c = now T a
 
   ended_by : (k : ℕ) → ((n : ℕ) → IsEnding c (ending T.code c n mark) k n mark)
-      → ((n : ℕ) → Shows T r.program b.body (ending T.code c n mark)) → HasEnded r a b k mark ends
+      → ((n : ℕ) → BodyShows T r.program b.body (ending T.code c n mark)) → ActorHasEnded r a b k mark ends
   ended_by k is shows =
       let n = sets.0 in
       let left = sets.2 in
@@ -119,7 +119,7 @@ module _ (r : Run) (a b : Actor) (stands : Stands r a) (own : b.seat.table_id �
           alone = grew.alone;
           settles = subst (λ q. Settles T q b.seat.me) (sym at_once) tt;
           possible = subst (IsPossible T (number_of b.seat.me)) (sym e) possible;
-          shows = subst (Shows T r.program b.body) (sym (e ∙ after)) (shows n);
+          shows = subst (BodyShows T r.program b.body) (sym (e ∙ after)) (shows n);
         };
         late = λ late. (
           n,
@@ -135,17 +135,17 @@ module _ (r : Run) (a b : Actor) (stands : Stands r a) (own : b.seat.table_id �
 
 -- ---- what it leaves, where the run is seen by its fields
 
-module _ (s r : Run) (seen_is : s ≡ r) (a b : Actor) (stands : Stands r a) (own : b.seat.table_id ≡ a.seat.table_id) (at_once : b.behind ≡ 0)
+module _ (s r : Run) (seen_is : s ≡ r) (a b : Actor) (stands : IsActorOf r a) (own : b.seat.table_id ≡ a.seat.table_id) (at_once : b.behind ≡ 0)
     (possible : HasPossible s.setup b.seat.me) (ends : Bool) where
-  stands_it : Stands s a
-  stands_it = subst (λ (x : Run). Stands x a) (sym seen_is) stands
+  stands_it : IsActorOf s a
+  stands_it = subst (λ (x : Run). IsActorOf x a) (sym seen_is) stands
 
-  pub stopped : (why : Limit) → b.body ≡ a.body → SetsMark s.setup a b (Stopped why) ends → HasEnded r a b 0 (Stopped why) ends
+  pub stopped : (why : Limit) → b.body ≡ a.body → SetsMark s.setup a b (Stopped why) ends → ActorHasEnded r a b 0 (Stopped why) ends
   stopped why body sets =
-      subst (λ (x : Run). HasEnded x a b 0 (Stopped why) ends) seen_is
+      subst (λ (x : Run). ActorHasEnded x a b 0 (Stopped why) ends) seen_is
       (ended_by s a b stands_it own at_once possible (Stopped why) ends sets 0
       (λ n. ending_by_limit s.setup.code (now s.setup a) n why)
-      (λ n. subst (λ (k : Body). Shows s.setup s.program k (ending s.setup.code (now s.setup a) n (Stopped why))) (sym body)
+      (λ n. subst (λ (k : Body). BodyShows s.setup s.program k (ending s.setup.code (now s.setup a) n (Stopped why))) (sym body)
       (like_shown s.setup s.program a.body (now s.setup a) (ending s.setup.code (now s.setup a) n (Stopped why)) stands_it.shows
       (record {
         frame = refl;
@@ -162,10 +162,10 @@ module _ (s r : Run) (seen_is : s ≡ r) (a b : Actor) (stands : Stands r a) (ow
       }))))
 
   pub ended : (end : End)
-      → ((n : ℕ) → Shows s.setup s.program b.body (ending s.setup.code (now s.setup a) n (Ended end)))
-      → SetsMark s.setup a b (Ended end) ends → HasEnded r a b 1 (Ended end) ends
+      → ((n : ℕ) → BodyShows s.setup s.program b.body (ending s.setup.code (now s.setup a) n (Ended end)))
+      → SetsMark s.setup a b (Ended end) ends → ActorHasEnded r a b 1 (Ended end) ends
   ended end shows sets =
-      subst (λ (x : Run). HasEnded x a b 1 (Ended end) ends) seen_is
+      subst (λ (x : Run). ActorHasEnded x a b 1 (Ended end) ends) seen_is
       (ended_by s a b stands_it own at_once possible (Ended end) ends sets 1
       (λ n. ending_by_instruction s.setup.code (now s.setup a) n end) shows)
 
@@ -173,7 +173,7 @@ module _ (s r : Run) (seen_is : s ≡ r) (a b : Actor) (stands : Stands r a) (ow
 
 module _ (r : Run) (a : Actor) (next : Next) (before : IsBefore r a next) where
   pub deep_ends : (to : Option ℕ) (function : ℕ) (from : List ℕ) → operation_of next.op ≡ tac.Call to function from
-      → length (frames_in a.body) ≡ deepest → Ends r.setup (number_of a.seat.me) (now r.setup a) (Stopped limit.Calls)
+      → length (frames_in a.body) ≡ deepest → GoroutineEndsRun r.setup (number_of a.seat.me) (now r.setup a) (Stopped limit.Calls)
   deep_ends to function from is deep =
       let n = before.ready.is_next in
       let call = call_of n.instr.op to function from (n.op ∙ is) in
@@ -183,7 +183,7 @@ module _ (r : Run) (a : Actor) (next : Next) (before : IsBefore r a next) where
       IsTooDeep to function can.callee from call.0 call.1 call.2 at can.found (ap length before.stands.shows.frames ∙ deep) refl
 
   pub full_ends : (function : ℕ) (from : List ℕ) → operation_of next.op ≡ tac.Go function from → a.body.refused ≡ true
-      → Ends r.setup (number_of a.seat.me) (now r.setup a) (Stopped limit.Goroutines)
+      → GoroutineEndsRun r.setup (number_of a.seat.me) (now r.setup a) (Stopped limit.Goroutines)
   full_ends function from is refused =
       let n = before.ready.is_next in
       let go = go_of n.instr.op function from (n.op ∙ is) in
@@ -199,7 +199,7 @@ module _ (r : Run) (a : Actor) (next : Next) (before : IsBefore r a next) where
       absurd (omega (arith, many, one))
 
   pub exit_ends : (value : Option ℕ) → operation_of next.op ≡ tac.Return value → number_of a.seat.me ≡ 0
-      → length (frames_in a.body) ≡ 1 → Ends r.setup (number_of a.seat.me) (now r.setup a) (Ended the_end.Exit)
+      → length (frames_in a.body) ≡ 1 → GoroutineEndsRun r.setup (number_of a.seat.me) (now r.setup a) (Ended the_end.Exit)
   exit_ends value is main last =
       let n = before.ready.is_next in
       let op = return_of n.instr.op value (n.op ∙ is) in
@@ -210,7 +210,7 @@ module _ (r : Run) (a : Actor) (next : Next) (before : IsBefore r a next) where
 
 -- ---- the place of a trap
 
-module _ (r : Run) (a : Actor) (next : Next) (stands : Stands r a) (n : IsNextOf r.program.code (frames_in a.body) next) where
+module _ (r : Run) (a : Actor) (next : Next) (stands : IsActorOf r a) (n : IsNextOf r.program.code (frames_in a.body) next) where
   place_here : place_of r.setup.code (now r.setup a) ≡ n.instr.place
   place_here =
       let cur = ap (λ (k : code.Code). current k (bare n.w)) stands.shows.code ∙ current_is r.program.code (frames_in a.body) next n in
@@ -221,6 +221,6 @@ module _ (r : Run) (a : Actor) (next : Next) (stands : Stands r a) (n : IsNextOf
   place_there : place_at next ≡ n.instr.place
   place_there = ap place_in (slice_get-map erased_instr next.function.body next.at ∙ ap (option_map erased_instr) n.is_instr)
 
-  pub trap_ends : (trap : Trap) → Traps r.setup (now r.setup a) trap
-      → Ends r.setup (number_of a.seat.me) (now r.setup a) (Ended (the_end.Trap trap (place_at next)))
+  pub trap_ends : (trap : Trap) → InstrTraps r.setup (now r.setup a) trap
+      → GoroutineEndsRun r.setup (number_of a.seat.me) (now r.setup a) (Ended (the_end.Trap trap (place_at next)))
   trap_ends trap traps = Trapped trap traps (ap (λ p. Ended (the_end.Trap trap p)) (place_there ∙ sym place_here))

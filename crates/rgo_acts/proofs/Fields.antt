@@ -9,7 +9,7 @@ use Rattle.rgo_core.specs.Rule.Views.{number_of}
 use Rattle.rgo_core_steps.specs.Accesses.{Field, Length, LengthOfNil, Loads, Stores, ToField, ToVariable, Variable}
 use Rattle.rgo_core_steps.specs.Ends.{LoadsNil, StoresNil}
 use Rattle.rgo_core.specs.Next.{IsAt}
-use Rattle.rgo_core_facts.specs.MemoryWords.{HasField}
+use Rattle.rgo_core_facts.specs.MemoryWords.{PointerHasField}
 use Rattle.rgo_core_facts.proofs.Lying.{get_exists, len_lies, load_lies, loads_field, set_exists, store_lies, stores_field}
 use Rattle.rgo_sound.specs.Code.Code as code
 use Rattle.rgo_sound.specs.Code.Code.{CodeOp}
@@ -75,11 +75,11 @@ module _ (r : Run) (a : Actor) (next : Next) (before : IsBefore r a next) where
         (code.Do None (action.Store k) (p ∷ q ∷ []) (here_do r a next before None (action.Store k) (p ∷ q ∷ []) is).0)
     at_store q is = at_do r a next before None (action.Store k) (p ∷ q ∷ []) is
 
-    many : (op : CodeOp) (x : IsAt r.setup.code (now r.setup a) op) (f : HasField r.setup (now r.setup a) x p k) → n ≡ length f.struct.fields
+    many : (op : CodeOp) (x : IsAt r.setup.code (now r.setup a) op) (f : PointerHasField r.setup (now r.setup a) x p k) → n ≡ length f.struct.fields
     many op x f = fields r.setup a.body (now r.setup a) op x k f before.stands.shows before.ready.is_next
 
     -- the struct fits a page, or it is spread
-    whole_by : {op : CodeOp} (x : IsAt r.setup.code (now r.setup a) op) → HasField r.setup (now r.setup a) x p k
+    whole_by : {op : CodeOp} (x : IsAt r.setup.code (now r.setup a) op) → PointerHasField r.setup (now r.setup a) x p k
         → n ≤ r.setup.sizes.page_words → PointsToWhole r.setup (now r.setup a) x p
     whole_by x f few = record {
       number = f.number;
@@ -89,7 +89,7 @@ module _ (r : Run) (a : Actor) (next : Next) (before : IsBefore r a next) where
       fits = let m = many _ x f in omega (arith, few, m);
     }
 
-    spread_by : {op : CodeOp} (x : IsAt r.setup.code (now r.setup a) op) → HasField r.setup (now r.setup a) x p k
+    spread_by : {op : CodeOp} (x : IsAt r.setup.code (now r.setup a) op) → PointerHasField r.setup (now r.setup a) x p k
         → r.setup.sizes.page_words < n → PointsToSpread r.setup (now r.setup a) x p
     spread_by x f more = record {
       number = f.number;
@@ -100,12 +100,12 @@ module _ (r : Run) (a : Actor) (next : Next) (before : IsBefore r a next) where
     }
 
     loaded : (to : ℕ) (is : operation_of next.op ≡ tac.Do (Some to) (action.Load k) (p ∷ []))
-        → HasField r.setup (now r.setup a) (at_load to is) p k
+        → PointerHasField r.setup (now r.setup a) (at_load to is) p k
     loaded to is = loads_field r.setup (number_of a.seat.me) (now r.setup a) before.stands.possible to k p
         (here_do r a next before (Some to) (action.Load k) (p ∷ []) is).0 (at_load to is)
 
     stored : (q : ℕ) (is : operation_of next.op ≡ tac.Do None (action.Store k) (p ∷ q ∷ []))
-        → HasField r.setup (now r.setup a) (at_store q is) p k
+        → PointerHasField r.setup (now r.setup a) (at_store q is) p k
     stored q is = stores_field r.setup (number_of a.seat.me) (now r.setup a) before.stands.possible k p q
         (here_do r a next before None (action.Store k) (p ∷ q ∷ []) is).0 (at_store q is)
 

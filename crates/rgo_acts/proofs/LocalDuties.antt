@@ -2,11 +2,11 @@
 use Rattle.std.proofs.Common.{◌≡◌, ◌+◌, ◌∙◌, Bool, true, false, [], Option, Some, None, Result, Ok, Err, MatchOption, OnErr, OnOk, ap, is_ok, is_some, not, refl, sym, subst}
 use Rattle.rgo_holding.specs.declared.keys.Key.{Key}
 use Rattle.rgo_body.specs.Duties.{DoesLocal, LeavesIn}
-use Rattle.rgo_body.specs.Programs.{Program}
-use Rattle.rgo_body.specs.Shows.{Shows}
-use Rattle.rgo_body.specs.Steps.{Stays}
+use Rattle.rgo_body.specs.Programs.{CompactProgram}
+use Rattle.rgo_body.specs.Shows.{BodyShows}
+use Rattle.rgo_body.specs.Steps.{StillShows}
 use Rattle.rgo_body.specs.declared.bodies.Body.{Body}
-use Rattle.rgo_acts.specs.Actors.{Stands, now}
+use Rattle.rgo_acts.specs.Actors.{IsActorOf, now}
 use Rattle.rgo_acts.specs.Attending.{HasAttendedLocally}
 use Rattle.rgo_acts.specs.Runs.{Run}
 use Rattle.rgo_acts.specs.declared.actors.Actor.{Actor}
@@ -25,7 +25,7 @@ if_not_ok (Ok x) b P is said so = let e : true ≡ false = sym is ∙ so in absu
 if_not_ok (Err x) b P is said so = said
 
 -- a region stays, or a stake in it is to end
-module _ (p : Program) (b d : Body) where
+module _ (p : CompactProgram) (b d : Body) where
   abbrev Removes : Option Key → Type 0
   Removes key = MatchOption key (DoesLocal p b d) (λ k. (d ≡ b) × LeavesIn p b k)
 
@@ -37,15 +37,15 @@ module _ (p : Program) (b d : Body) where
   if_left None none is does so = let e : false ≡ true = is ∙ ap not so in absurd (cc e)
   if_left (Some k) none is does so = does.0
 
-pub same_stays : (p : Program) (b d : Body) → d ≡ b → Stays p b d
-same_stays p b d same T c s = subst (λ (x : Body). Shows T p x c) (sym same) s
+pub same_stays : (p : CompactProgram) (b d : Body) → d ≡ b → StillShows p b d
+same_stays p b d same T c s = subst (λ (x : Body). BodyShows T p x c) (sym same) s
 
 pub same_rest : (b d : Body) → d ≡ b → d ≡ record b { holding = d.holding }
 same_rest b d same = same ∙ ap (λ (x : Body). record b { holding = x.holding }) (sym same)
 
 -- ---- some duties are done
 
-pub none_attended : (r : Run) (a : Actor) → Stands r a → HasAttendedLocally r a a
+pub none_attended : (r : Run) (a : Actor) → IsActorOf r a → HasAttendedLocally r a a
 none_attended r a stands = record { acted = unchanged r a stands; rest = refl }
 
 module _ (r : Run) (first a b : Actor) (so_far : HasAttendedLocally r first a) (seat : b.seat ≡ a.seat) where
@@ -59,7 +59,7 @@ module _ (r : Run) (first a b : Actor) (so_far : HasAttendedLocally r first a) (
       }
 
   -- the next one is owed as before
-  pub next_owed : b.behind ≡ a.behind → Stays r.program a.body b.body → b.body ≡ record a.body { holding = b.body.holding }
+  pub next_owed : b.behind ≡ a.behind → StillShows r.program a.body b.body → b.body ≡ record a.body { holding = b.body.holding }
       → HasAttendedLocally r first b
   next_owed behind stays same = record {
     acted = acted_then r first a b 0 0 [] [] [] [] so_far.acted

@@ -14,11 +14,11 @@ use Rattle.rgo_core_steps.specs.Seats.{HasPossible, Left, mine}
 use Rattle.rgo_core_steps.proofs.Growing.{told_record}
 use Rattle.rgo_core_facts.proofs.Lying.{index_lies}
 use Rattle.rgo_body.specs.Bodies.{HasRoomBehind, IsReady}
-use Rattle.rgo_body.specs.Shows.{Shows}
+use Rattle.rgo_body.specs.Shows.{BodyShows}
 use Rattle.rgo_body.specs.declared.bodies.Body.{Body}
 use Rattle.rgo_body.specs.declared.nexts.Next.{Next}
 use Rattle.rgo_body.proofs.Showing.{like_shown}
-use Rattle.rgo_acts.specs.Actors.{Acted, now}
+use Rattle.rgo_acts.specs.Actors.{ActorActed, now}
 use Rattle.rgo_acts.specs.Elements.{HasLocated, HasMeasured}
 use Rattle.rgo_acts.specs.Ready.{IsBefore}
 use Rattle.rgo_acts.specs.Runs.{Run}
@@ -26,7 +26,7 @@ use Rattle.rgo_acts.specs.declared.actors.Actor.{Actor}
 use Rattle.rgo_acts.proofs.Standing.{acted_one, acted_then, now_at_once}
 
 -- before the instruction still, after an act that left the body as it was
-pub still_before : (r : Run) (a b : Actor) (next : Next) → IsBefore r a next → b.body ≡ a.body → Acted r a b 0 [] [] → HasMeasured r a b next
+pub still_before : (r : Run) (a b : Actor) (next : Next) → IsBefore r a next → b.body ≡ a.body → ActorActed r a b 0 [] [] → HasMeasured r a b next
 still_before r a b next before same acted = record {
   before = record {
     stands = acted.stands;
@@ -83,7 +83,7 @@ module _ (r : Run) (a : Actor) (next : Next) (before : IsBefore r a next) (addre
     knows : now r.setup b ≡ locates (now r.setup a) address cell (n - 1)
     knows = now_at_once r.setup b at_once ∙ tells.0
 
-    located_acted : Acted r a b 0 [] []
+    located_acted : ActorActed r a b 0 [] []
     located_acted =
         acted_one r a b before.stands 0 [] [] kind.LoadIndex i n (λ n. n)
         (λ n d. (d ≡ locates (now r.setup a) address cell (n - 1)) × (0 < n)
@@ -96,7 +96,7 @@ module _ (r : Run) (a : Actor) (next : Next) (before : IsBefore r a next) (addre
           children = refl;
           first = refl;
         })
-        (subst (λ (body : Body). Shows r.setup r.program body (locates (now r.setup a) address cell (n - 1))) (sym same)
+        (subst (λ (body : Body). BodyShows r.setup r.program body (locates (now r.setup a) address cell (n - 1))) (sym same)
         (like_shown r.setup r.program a.body (now r.setup a) (locates (now r.setup a) address cell (n - 1)) before.stands.shows (record {
           frame = refl;
           side = refl;

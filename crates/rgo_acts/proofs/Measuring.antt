@@ -25,12 +25,12 @@ use Rattle.rgo_sound.specs.Tac.Flow.{reads}
 use Rattle.rgo_sound.specs.Tac.Ops.{operation_of}
 use Rattle.rgo_sound.specs.Typed.declared.actions.Action.TheVariants as action
 use Rattle.rgo_body.specs.Bodies.{frames_in}
-use Rattle.rgo_body.specs.Shows.{Shows}
+use Rattle.rgo_body.specs.Shows.{BodyShows}
 use Rattle.rgo_body.specs.declared.bodies.Body.{Body}
 use Rattle.rgo_body.specs.declared.nexts.Next.{Next}
 use Rattle.rgo_body.proofs.Showing.{like_shown}
-use Rattle.rgo_acts.specs.Actors.{Acted, now}
-use Rattle.rgo_acts.specs.Elements.{HasElement, HasLocated, HasMeasured, HasNoElementHere, IsAtElementOf}
+use Rattle.rgo_acts.specs.Actors.{ActorActed, now}
+use Rattle.rgo_acts.specs.Elements.{ActorHasElement, HasLocated, HasMeasured, HasNoElementHere, IsAtElementOf}
 use Rattle.rgo_acts.specs.Ready.{IsBefore}
 use Rattle.rgo_acts.specs.Runs.{Run}
 use Rattle.rgo_acts.specs.Traps.{IsAtTrap}
@@ -83,7 +83,7 @@ module _ (r : Run) (a : Actor) (next : Next) (before : IsBefore r a next) (p q n
     knows : now r.setup b ≡ measures (now r.setup a) (n - 1) m
     knows = now_at_once r.setup b at_once ∙ tells.0
 
-    measured_acted : Acted r a b 0 [] []
+    measured_acted : ActorActed r a b 0 [] []
     measured_acted =
         acted_one r a b before.stands 0 [] [] kind.Load i m (λ n. n)
         (λ m d. (d ≡ measures (now r.setup a) (n - 1) m) × LieInPages r.setup (n - 1) (slice_words r.setup m))
@@ -95,7 +95,7 @@ module _ (r : Run) (a : Actor) (next : Next) (before : IsBefore r a next) (p q n
           children = refl;
           first = refl;
         })
-        (subst (λ (body : Body). Shows r.setup r.program body (measures (now r.setup a) (n - 1) m)) (sym same)
+        (subst (λ (body : Body). BodyShows r.setup r.program body (measures (now r.setup a) (n - 1) m)) (sym same)
         (like_shown r.setup r.program a.body (now r.setup a) (measures (now r.setup a) (n - 1) m) before.stands.shows (record {
           frame = refl;
           side = refl;
@@ -155,7 +155,7 @@ module _ (r : Run) (a : Actor) (next : Next) (before : IsBefore r a next) (p q n
     within_pages k less whole = let l = slice_lies r.setup (n - 1) m k all_lie (omega (arith, whole)) less in omega (arith, l)
 
     pub is_inside : (k : ℕ) → IsWord b.body q k → k < m → m < r.setup.sizes.page_words → (j : ℕ)
-        → j ≡ base (layout r.setup) + ((n - 1) + (1 + k)) → j < r.table.words → HasElement r a b next p q j
+        → j ≡ base (layout r.setup) + ((n - 1) + (1 + k)) → j < r.table.words → ActorHasElement r a b next p q j
     is_inside k index less whole j is inside = record {
       measured = has_measured;
       address = n - 1;
@@ -182,7 +182,7 @@ module _ (r : Run) (a : Actor) (next : Next) (before : IsBefore r a next) (p q n
             (its_slice x.w x.ws x.frames) (inside_slice k index less x.w x.ws x.frames) (omega (arith, spread)) refl
             (its_index k index x.w x.ws x.frames)
 
-    pub is_located : (k : ℕ) → IsWord b.body q k → k < m → (c : Actor) (j : ℕ) → HasLocated r b c next (n - 1) k j → HasElement r a c next p q j
+    pub is_located : (k : ℕ) → IsWord b.body q k → k < m → (c : Actor) (j : ℕ) → HasLocated r b c next (n - 1) k j → ActorHasElement r a c next p q j
     is_located k index less c j has =
         let body : c.body ≡ a.body = has.measured.body ∙ same in
         let word_in : (v x : ℕ) → IsWord a.body v x → (w : WordFrame) (ws : List WordFrame) → (now r.setup c).frame.frames ≡ w ∷ ws
@@ -210,7 +210,7 @@ module _ (r : Run) (a : Actor) (next : Next) (before : IsBefore r a next) (p q n
 -- ---- loads and stores of elements
 
 module _ (r : Run) (a b : Actor) (next : Next) (p q : ℕ) where
-  module _ (to j : ℕ) (e : operation_of next.op ≡ tac.Do (Some to) action.At (p ∷ q ∷ [])) (has : HasElement r a b next p q j) where
+  module _ (to j : ℕ) (e : operation_of next.op ≡ tac.Do (Some to) action.At (p ∷ q ∷ [])) (has : ActorHasElement r a b next p q j) where
     abbrev before_load : IsBefore r b next
     before_load = has.measured.before
 
@@ -220,7 +220,7 @@ module _ (r : Run) (a b : Actor) (next : Next) (p q : ℕ) where
         Element to p q has.address (here_do r b next before_load (Some to) action.At (p ∷ q ∷ []) e).0 x
         (has.points x.w x.ws x.frames) (has.within x.w x.ws x.frames).0 (has.within x.w x.ws x.frames).1
 
-  module _ (v j : ℕ) (e : operation_of next.op ≡ tac.Do None action.Put (p ∷ q ∷ v ∷ [])) (has : HasElement r a b next p q j) where
+  module _ (v j : ℕ) (e : operation_of next.op ≡ tac.Do None action.Put (p ∷ q ∷ v ∷ [])) (has : ActorHasElement r a b next p q j) where
     abbrev before_store : IsBefore r b next
     before_store = has.measured.before
 
@@ -249,5 +249,5 @@ module _ (r : Run) (a b : Actor) (next : Next) (p q : ℕ) where
             (rests r b next has.measured.before) (has.none x.w x.ws x.frames) refl,
       )
 
-  pub then_acted : (c : Actor) → HasMeasured r a b next → Acted r b c 1 [] [] → Acted r a c 1 [] []
+  pub then_acted : (c : Actor) → HasMeasured r a b next → ActorActed r b c 1 [] [] → ActorActed r a c 1 [] []
   then_acted c has acted = acted_then r a b c 0 1 [] [] [] [] has.acted acted

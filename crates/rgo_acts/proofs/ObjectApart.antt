@@ -18,7 +18,7 @@ use Rattle.rgo_core_facts.specs.MemoryObjects.{StoresNextApart, data_pages_of, f
 use Rattle.rgo_core_facts.proofs.DataPages.{less, not_less}
 use Rattle.rgo_core_facts.proofs.NewWords.{pages_are}
 use Rattle.rgo_core_facts.proofs.StoringApart.{stores_none_apart, stores_words_apart}
-use Rattle.rgo_core_steps.specs.Grown.{Grew}
+use Rattle.rgo_core_steps.specs.Grown.{SeatGrew}
 use Rattle.rgo_core_steps.specs.Layouts.{HasLayout}
 use Rattle.rgo_core_steps.specs.Making.{IsIndex, IsNewWordApart, filling_apart}
 use Rattle.rgo_core_steps.specs.Seats.{Settles, Stored, mine, settled}
@@ -254,6 +254,6 @@ module _ (T : Setup) (c : Record) (pages : List ℕ) (new : New) (p : IsPlacedAp
                 let same : table_words T.sizes.page_words object ≡ i + 1 = omega (arith, e, end) in
                 counted (with_new_object_apart T c object) (one_so_far.all end) (ap (λ k. accesses c + k) same)
 
-        pub one_grew : Grew accesses (first_of T.code) m (told_accesses accesses (first_of T.code) m w kind word l.0 (λ found. value) (λ found e. e ≡ filling_apart T (settled T q m) i) l.1) w
+        pub one_grew : SeatGrew accesses (first_of T.code) m (told_accesses accesses (first_of T.code) m w kind word l.0 (λ found. value) (λ found e. e ≡ filling_apart T (settled T q m) i) l.1) w
         one_grew =
             told_grew accesses (first_of T.code) m w kind word l.0 (λ found. value) (λ found e. e ≡ filling_apart T (settled T q m) i) l.1 one_count

@@ -10,20 +10,20 @@ use Rattle.rgo_core.specs.NewObjects.{reserved_address}
 use Rattle.rgo_core.specs.Opening.{first_of}
 use Rattle.rgo_core.specs.Records.{Record, accesses, steps_of, ticked}
 use Rattle.rgo_core_steps.specs.After.{Position, given, making, making_apart}
-use Rattle.rgo_core_steps.specs.Grown.{Grew}
+use Rattle.rgo_core_steps.specs.Grown.{SeatGrew}
 use Rattle.rgo_core_steps.specs.Seats.{HasPossible, mine}
 use Rattle.rgo_core_steps.proofs.After.{at, moving_is}
 use Rattle.rgo_sound.specs.Memory.Memory.{Object}
-use Rattle.rgo_sound.specs.RegionMachine.Objects.{words as words_of}
+use Rattle.rgo_sound.specs.RegionMachine.Objects.{object_words as words_of}
 use Rattle.rgo_sound.specs.RegionMachine.declared.regions.Region.{Region}
 use Rattle.rgo_holding.specs.Holds.{region_at}
 use Rattle.rgo_holding.specs.Known.{own_page, slot_of}
 use Rattle.rgo_holding.specs.declared.entries.Page.{Page}
-use Rattle.rgo_body.specs.Programs.{Program}
-use Rattle.rgo_body.specs.Shows.{Shows}
+use Rattle.rgo_body.specs.Programs.{CompactProgram}
+use Rattle.rgo_body.specs.Shows.{BodyShows}
 use Rattle.rgo_body.specs.declared.nexts.Next.{Next}
 use Rattle.rgo_body.proofs.Showing.{like_shown}
-use Rattle.rgo_acts.specs.Actors.{Acted, now}
+use Rattle.rgo_acts.specs.Actors.{ActorActed, now}
 use Rattle.rgo_acts.specs.Objects.{IsPlaced, IsPlacedApart}
 use Rattle.rgo_acts.specs.Ready.{IsBefore}
 use Rattle.rgo_acts.specs.Runs.{Run}
@@ -60,12 +60,12 @@ module _ (r : Run) (a : Actor) (next : Next) (before : IsBefore r a next) where
       }
 
 -- the body shows the record after it
-abbrev pub MadeShows : Program → (before after : Actor) → (new : New) → (end word : ℕ) → Type 0
+abbrev pub MadeShows : CompactProgram → (before after : Actor) → (new : New) → (end word : ℕ) → Type 0
 MadeShows p a b new end word =
-    (T : Setup) (c : Record) (f : Fill) (object : Object) (region : Region) → Shows T p a.body c
+    (T : Setup) (c : Record) (f : Fill) (object : Object) (region : Region) → BodyShows T p a.body c
     → region_at a.body.holding new.key ≡ Some region → f.slot ≡ slot_of T.sizes.regions region
     → f.fill + words_of object ≡ end → suc (f.page * T.sizes.page_words + f.fill) ≡ word
-    → Shows T p b.body (making T c f object)
+    → BodyShows T p b.body (making T c f object)
 
 module _ (s r : Run) (seen_is : s ≡ r) (a : Actor) (next : Next) (before : IsBefore r a next) (new : New) (page : Page)
     (placed : (region : Region) × (region_at a.body.holding new.key ≡ Some region)
@@ -79,11 +79,11 @@ module _ (s r : Run) (seen_is : s ≡ r) (a : Actor) (next : Next) (before : IsB
       × IsPlaced x.setup (now x.setup a) (slot_of x.setup.sizes.regions region) page new) (sym seen_is) placed
 
   pub made_here : (b : Actor) → b.seat.table_id ≡ a.seat.table_id → b.behind ≡ 0
-      → (grew : (es : List Access) × Grew accesses (first_of s.setup.code) a.seat.me es b.seat.me)
+      → (grew : (es : List Access) × SeatGrew accesses (first_of s.setup.code) a.seat.me es b.seat.me)
       → ((slot : ℕ) (p : IsPlaced s.setup (now s.setup a) slot page new)
       → mine s.setup b.seat.me ≡ with_new_object s.setup (now s.setup a) (own_page slot page) p.object.object)
       → HasPossible s.setup b.seat.me → (end word : ℕ) → MadeShows s.program a b new end word
-      → page.fill + new.words ≡ end → suc (page.page * s.setup.sizes.page_words + page.fill) ≡ word → Acted r a b 1 [] []
+      → page.fill + new.words ≡ end → suc (page.page * s.setup.sizes.page_words + page.fill) ≡ word → ActorActed r a b 1 [] []
   made_here b own at_once grew stored possible end word shows ends points =
       let region = placed_it.0 in
       let p = placed_it.2 in
@@ -95,7 +95,7 @@ module _ (s r : Run) (seen_is : s ≡ r) (a : Actor) (next : Next) (before : IsB
       let many = p.object.many in
       let shown = shows s.setup (now s.setup a) f object region before_it.stands.shows placed_it.1 refl
       (ap (λ n. page.fill + n) many ∙ ends) points in
-      subst (λ (x : Run). Acted x a b 1 [] []) seen_is
+      subst (λ (x : Run). ActorActed x a b 1 [] []) seen_is
       (acted_by s a b before_it.stands 1 [] [] grew.0 own at_once grew.1 possible
       (record {
         steps = ap steps_of e ∙ follows.steps;
@@ -103,7 +103,7 @@ module _ (s r : Run) (seen_is : s ≡ r) (a : Actor) (next : Next) (before : IsB
         children = ap (λ (d : Record). d.clock.children) e ∙ follows.children;
         first = ap (λ (d : Record). d.clock.first) e ∙ follows.first;
       })
-      (subst (λ (d : Record). Shows s.setup s.program b.body d) (sym e)
+      (subst (λ (d : Record). BodyShows s.setup s.program b.body d) (sym e)
       (like_shown s.setup s.program b.body (making s.setup (now s.setup a) f object) (with_new_object s.setup (now s.setup a) f object) shown
       (record {
         frame = refl;
@@ -148,8 +148,8 @@ module _ (r : Run) (a : Actor) (next : Next) (before : IsBefore r a next) where
       }
 
 -- the body shows the record after it
-abbrev pub ApartShows : Program → (before after : Actor) → (word : ℕ) → Type 0
-ApartShows p a b word = (T : Setup) (c : Record) → Shows T p a.body c → suc (reserved_address T c) ≡ word → Shows T p b.body (making_apart T c)
+abbrev pub ApartShows : CompactProgram → (before after : Actor) → (word : ℕ) → Type 0
+ApartShows p a b word = (T : Setup) (c : Record) → BodyShows T p a.body c → suc (reserved_address T c) ≡ word → BodyShows T p b.body (making_apart T c)
 
 module _ (s r : Run) (seen_is : s ≡ r) (a : Actor) (next : Next) (before : IsBefore r a next) (new : New) (pages : List ℕ)
     (placed : IsPlacedApart r.setup (now r.setup a) pages new) where
@@ -160,11 +160,11 @@ module _ (s r : Run) (seen_is : s ≡ r) (a : Actor) (next : Next) (before : IsB
   placed_apart = subst (λ (x : Run). IsPlacedApart x.setup (now x.setup a) pages new) (sym seen_is) placed
 
   pub apart_here : (b : Actor) → b.seat.table_id ≡ a.seat.table_id → b.behind ≡ 0
-      → (grew : (es : List Access) × Grew accesses (first_of s.setup.code) a.seat.me es b.seat.me)
+      → (grew : (es : List Access) × SeatGrew accesses (first_of s.setup.code) a.seat.me es b.seat.me)
       → ((p : IsPlacedApart s.setup (now s.setup a) pages new)
       → mine s.setup b.seat.me ≡ with_new_object_apart s.setup (now s.setup a) p.object.object)
       → HasPossible s.setup b.seat.me → (word : ℕ) → ApartShows s.program a b word
-      → suc (slice_index pages 0 * s.setup.sizes.page_words) ≡ word → Acted r a b 1 [] []
+      → suc (slice_index pages 0 * s.setup.sizes.page_words) ≡ word → ActorActed r a b 1 [] []
   apart_here b own at_once grew stored possible word shows points =
       let p = placed_apart in
       let object = p.object.object in
@@ -172,7 +172,7 @@ module _ (s r : Run) (seen_is : s ≡ r) (a : Actor) (next : Next) (before : IsB
       let follows = apart_continues s a next before_apart object in
       let address = ap (λ (ps : List ℕ). suc (slice_index ps 0 * s.setup.sizes.page_words)) p.reserved ∙ points in
       let shown = shows s.setup (now s.setup a) before_apart.stands.shows address in
-      subst (λ (x : Run). Acted x a b 1 [] []) seen_is
+      subst (λ (x : Run). ActorActed x a b 1 [] []) seen_is
       (acted_by s a b before_apart.stands 1 [] [] grew.0 own at_once grew.1 possible
       (record {
         steps = ap steps_of e ∙ follows.steps;
@@ -180,7 +180,7 @@ module _ (s r : Run) (seen_is : s ≡ r) (a : Actor) (next : Next) (before : IsB
         children = ap (λ (d : Record). d.clock.children) e ∙ follows.children;
         first = ap (λ (d : Record). d.clock.first) e ∙ follows.first;
       })
-      (subst (λ (d : Record). Shows s.setup s.program b.body d) (sym e)
+      (subst (λ (d : Record). BodyShows s.setup s.program b.body d) (sym e)
       (like_shown s.setup s.program b.body (making_apart s.setup (now s.setup a)) (with_new_object_apart s.setup (now s.setup a) object) shown
       (record {
         frame = refl;

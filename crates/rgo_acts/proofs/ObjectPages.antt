@@ -1,24 +1,24 @@
 -- The page for a new object: the goroutine's own one, or one that it claims.
-use Rattle.std.proofs.Common.{◌≡◌, ◌+◌, ◌<◌, ◌≤◌, ◌∙◌, ◌++◌, ℕ, Bool, true, false, suc, List, [], ◌∷◌, Option, Some, None, MatchOption, ap, sym, subst, refl, inl, inr, arith, if◌then◌else◌, length, length-append, nat_eq}
+use Rattle.std.proofs.Common.{◌≡◌, ◌+◌, ◌<◌, ◌≤◌, ◌∙◌, ◌++◌, ℕ, Bool, true, false, suc, List, [], ◌∷◌, Option, Some, None, MatchOption, ap, sym, subst, refl, inl, inr, arith, if◌then◌else◌, length, length-append}
 use Rattle.std.proofs.lemmas.List.{append-nil}
 use Rattle.std.specs.Option.{option_map}
 use Rattle.rgo_core.specs.Rule.Passes.{ChangesNothingBy}
 use Rattle.rgo_core.specs.Rule.Views.{number_of}
 use Rattle.rgo_core.specs.Rule.declared.accesses.Access.{Access}
 use Rattle.rgo_core.specs.Rule.declared.accesses.Kind.TheVariants.{ClaimPage}
-use Rattle.rgo_core_facts.specs.MemoryObjects.{HasNoRoom, NewObject, data_pages_of}
+use Rattle.rgo_core_facts.specs.MemoryObjects.{PageHasNoRoom, NewObject, data_pages_of}
 use Rattle.rgo_core_facts.proofs.DataPages.{less, not_less}
 use Rattle.rgo_core_facts.proofs.NewWords.{next_is_spread, wants_page, wants_reserved}
 use Rattle.rgo_core_facts.proofs.OwnPages.{claimed_page, own_pages}
 use Rattle.rgo_core_facts.proofs.Storing.{new_stays}
 use Rattle.rgo_core.specs.Channels.Records.{at_rest}
-use Rattle.rgo_core.specs.Memory.Records.{Fill, Idle, Rest, with_claim}
+use Rattle.rgo_core.specs.Memory.Records.{Idle, Rest, page_of, with_claim}
 use Rattle.rgo_core.specs.Memory.Words.{state_at}
 use Rattle.rgo_core.specs.Memory.declared.layout.TableSizes.{TableSizes}
 use Rattle.rgo_core.specs.Core.{Setup, layout}
 use Rattle.rgo_core.specs.Claims.{claims, reserves}
 use Rattle.rgo_core.specs.Records.{Record, accessed, steps_of}
-use Rattle.rgo_core_steps.specs.Making.{IsCalm, NeedsPage, next_is_spread as next_spread, page_of}
+use Rattle.rgo_core_steps.specs.Making.{IsCalm, NeedsPage, next_is_spread as next_spread}
 use Rattle.rgo_core_steps.specs.Pages.{takes_page, tried_page}
 use Rattle.rgo_core_steps.specs.Searches.{Miss, missing}
 use Rattle.rgo_core_steps.specs.Seats.{HasPossible, mine}
@@ -28,18 +28,18 @@ use Rattle.rgo_body.proofs.Pages.Vain.{full_law}
 use Rattle.rgo_sound.specs.RegionMachine.Counts.{Counts}
 use Rattle.rgo_sound.specs.RegionMachine.declared.regions.Region.{Region}
 use Rattle.rgo_holding.specs.Holds.{region_at}
-use Rattle.rgo_holding.specs.Known.{own_page, page_of as page_in, slot_of}
+use Rattle.rgo_holding.specs.Known.{own_page, slot_of}
 use Rattle.rgo_holding.specs.declared.entries.Page.{Page}
 use Rattle.rgo_holding.specs.declared.holding.Holding.{Holding}
 use Rattle.rgo_body.specs.Bodies.{HasRoomBehind, frames_in}
 use Rattle.rgo_body.specs.Nexts.{IsNextOf}
-use Rattle.rgo_body.specs.Programs.{Program}
-use Rattle.rgo_body.specs.Reserves.{Reserved}
-use Rattle.rgo_body.specs.Shows.{LooksLike, Shows}
+use Rattle.rgo_body.specs.Programs.{CompactProgram}
+use Rattle.rgo_body.specs.Reserves.{PageReserve}
+use Rattle.rgo_body.specs.Shows.{LooksLike, BodyShows}
 use Rattle.rgo_body.specs.declared.bodies.Body.{Body}
 use Rattle.rgo_body.specs.declared.nexts.Next.{Next}
 use Rattle.rgo_body.proofs.Showing.{like_shown}
-use Rattle.rgo_acts.specs.Actors.{Acted, Stands, now}
+use Rattle.rgo_acts.specs.Actors.{ActorActed, IsActorOf, now}
 use Rattle.rgo_acts.specs.Objects.{HasNoPage, HasNoRoomHere, HasNoRoomIn, HasPage, HasReserved, IsNew, IsSmall, opens}
 use Rattle.rgo_acts.specs.Ready.{IsBefore}
 use Rattle.rgo_acts.specs.Runs.{Run}
@@ -51,12 +51,8 @@ use Rattle.rgo_acts.proofs.Standing.{acted_by, acted_none, now_at_once}
 
 -- ---- own pages, as the holding and as the record have them
 
-pub page_same : (slot : ℕ) (fills : List Fill) → page_in slot fills ≡ page_of slot fills
-page_same slot [] = refl
-page_same slot (f ∷ fs) = ap (λ (o : Option Fill). if nat_eq slot f.slot then Some f else o) (page_same slot fs)
-
 pub no_room_in : (page_words words slot : ℕ) (own : Option Page) → HasNoRoomIn page_words words own
-    → HasNoRoom page_words words (option_map (own_page slot) own)
+    → PageHasNoRoom page_words words (option_map (own_page slot) own)
 no_room_in page_words words slot None none = tt
 no_room_in page_words words slot (Some page) none = none
 
@@ -166,7 +162,7 @@ length_one_more : (xs : List ℕ) (x : ℕ) → length (xs ++ x ∷ []) ≡ leng
 length_one_more xs x = omega (arith, length-append xs (x ∷ []))
 
 -- before the instruction still, where the body differs only in its regions, its counts and its reserved pages
-pub before_again : (r : Run) (a b : Actor) (next : Next) → IsBefore r a next → Stands r b
+pub before_again : (r : Run) (a b : Actor) (next : Next) → IsBefore r a next → IsActorOf r b
     → b.body ≡ record a.body { holding = b.body.holding; counts = b.body.counts; reserved = b.body.reserved }
     → b.body.counts.steps ≡ a.body.counts.steps → IsBefore r b next
 before_again r a b next before stands same steps = record {
@@ -197,11 +193,11 @@ module _ (r : Run) (a : Actor) (next : Next) (before : IsBefore r a next) (new :
   -- the goroutine has room on its own page
   pub has_own : (own : Option Page) (page : Page)
       → ((region : Region) → region_at a.body.holding new.key ≡ Some region
-      → option_map (own_page (slot_of T.sizes.regions region)) own ≡ page_in (slot_of T.sizes.regions region) c.memory.fills)
+      → option_map (own_page (slot_of T.sizes.regions region)) own ≡ page_of (slot_of T.sizes.regions region) c.memory.fills)
       → own ≡ Some page → page.fill + new.words ≤ T.sizes.page_words → 0 < new.words → HasPage r a a next new page
   has_own own page tells found room some =
       let is_page : page_of slot c.memory.fills ≡ Some (own_page slot page) =
-      sym (page_same slot c.memory.fills) ∙ sym (tells is.region is.at_key) ∙ ap (option_map (own_page slot)) found in
+      sym (tells is.region is.at_key) ∙ ap (option_map (own_page slot)) found in
       let its = own_pages T (number_of a.seat.me) c before.stands.possible slot (own_page slot page) is_page in
       record {
         before = before;
@@ -223,11 +219,11 @@ module _ (r : Run) (a : Actor) (next : Next) (before : IsBefore r a next) (new :
   -- it has not
   pub no_room_here : (own : Option Page)
       → ((region : Region) → region_at a.body.holding new.key ≡ Some region
-      → option_map (own_page (slot_of T.sizes.regions region)) own ≡ page_in (slot_of T.sizes.regions region) c.memory.fills)
+      → option_map (own_page (slot_of T.sizes.regions region)) own ≡ page_of (slot_of T.sizes.regions region) c.memory.fills)
       → HasNoRoomIn T.sizes.page_words new.words own → HasNoRoomHere r a new
   no_room_here own tells none region at =
       let s = slot_of T.sizes.regions region in
-      subst (HasNoRoom T.sizes.page_words new.words) (tells region at ∙ page_same s c.memory.fills)
+      subst (PageHasNoRoom T.sizes.page_words new.words) (tells region at)
       (no_room_in T.sizes.page_words new.words s own none)
 
   -- ---- a claim
@@ -269,9 +265,9 @@ module _ (r : Run) (a : Actor) (next : Next) (before : IsBefore r a next) (new :
           children = ap (λ (k : Record). k.clock.children) e ∙ x.children;
           first = ap (λ (k : Record). k.clock.first) e ∙ x.first;
         })
-        (subst (λ (k : Record). Shows T r.program b.body k) (sym e)
+        (subst (λ (k : Record). BodyShows T r.program b.body k) (sym e)
         (like_shown T r.program b.body c d
-        (subst (λ (k : Body). Shows T r.program k c) (sym body) before.stands.shows) (looks_like c d x))) in
+        (subst (λ (k : Body). BodyShows T r.program k c) (sym body) before.stands.shows) (looks_like c d x))) in
         let its : full.es ≡ acted.es =
         sym (same_back a.seat.me.0.seen acted.es full.es (sym acted.went.grew.seen ∙ full.grew.seen)) in
         record {
@@ -295,7 +291,7 @@ module _ (r : Run) (a : Actor) (next : Next) (before : IsBefore r a next) (new :
         (taken : takes_page T (missing tried_page c t.tries) page slot ≡ took (missing tried_page c t.tries))
         (goes : IsTaken (missing tried_page c t.tries) (linked (took (missing tried_page c t.tries))))
         (same : b.body ≡ record a.body { holding = b.body.holding; counts = b.body.counts; reserved = b.body.reserved })
-        (shown : Shows T r.program b.body (has_claimed T (missing tried_page c t.tries) page slot)) where
+        (shown : BodyShows T r.program b.body (has_claimed T (missing tried_page c t.tries) page slot)) where
       abbrev d : Record
       d = missing tried_page c t.tries
 
@@ -308,10 +304,10 @@ module _ (r : Run) (a : Actor) (next : Next) (before : IsBefore r a next) (new :
       n : now T b ≡ linked (took d)
       n = now_at_once T b at_once ∙ e
 
-      shown_so : Shows T r.program b.body (linked (took d))
-      shown_so = subst (λ (k : Record). Shows T r.program b.body (linked k)) taken shown
+      shown_so : BodyShows T r.program b.body (linked (took d))
+      shown_so = subst (λ (k : Record). BodyShows T r.program b.body (linked k)) taken shown
 
-      pub claim_acted : Acted r a b 0 [] []
+      pub claim_acted : ActorActed r a b 0 [] []
       claim_acted =
           acted_by r a b before.stands 0 [] [] t.made.es own at_once t.made.grew possible
           (record {
@@ -320,7 +316,7 @@ module _ (r : Run) (a : Actor) (next : Next) (before : IsBefore r a next) (new :
             children = ap (λ (k : Record). k.clock.children) e ∙ goes.children ∙ x.children;
             first = ap (λ (k : Record). k.clock.first) e ∙ goes.first ∙ x.first;
           })
-          (subst (λ (k : Record). Shows T r.program b.body k) (sym e) shown_so)
+          (subst (λ (k : Record). BodyShows T r.program b.body k) (sym e) shown_so)
 
       steps : b.body.counts.steps ≡ a.body.counts.steps
       steps = sym (ap (λ (s : Counts). s.steps) shown_so.share) ∙ goes.steps
@@ -348,8 +344,8 @@ module _ (r : Run) (a : Actor) (next : Next) (before : IsBefore r a next) (new :
     -- as its own one
     pub has_free : (page : ℕ) → region_at b.body.holding new.key ≡ Some is.region
         → (same : b.body ≡ record a.body { holding = b.body.holding; counts = b.body.counts })
-        → ((T : Setup) (c : Record) → Shows T r.program a.body c → next_spread T c ≡ false
-        → Shows T r.program b.body (has_claimed T c page (slot_of T.sizes.regions is.region)))
+        → ((T : Setup) (c : Record) → BodyShows T r.program a.body c → next_spread T c ≡ false
+        → BodyShows T r.program b.body (has_claimed T c page (slot_of T.sizes.regions is.region)))
         → new.words ≤ T.sizes.page_words → 0 < new.words
         → PageClaimed T z slot c page a.seat.me b.seat.me
         → HasPage r a b next new (record { page = page; fill = 0 })
@@ -364,7 +360,7 @@ module _ (r : Run) (a : Actor) (next : Next) (before : IsBefore r a next) (new :
         ap (λ (s : Bool). if s then reserves d page slot else claims d page slot) whole in
         let goes = taken_own d page slot in
         let all : b.body ≡ record a.body { holding = b.body.holding; counts = b.body.counts; reserved = b.body.reserved } =
-        same ∙ ap (λ (q : Reserved). record a.body { holding = b.body.holding; counts = b.body.counts; reserved = q })
+        same ∙ ap (λ (q : PageReserve). record a.body { holding = b.body.holding; counts = b.body.counts; reserved = q })
         (sym (ap (λ (k : Body). k.reserved) same)) in
         let shown = becomes T d (like_shown T r.program a.body c d before.stands.shows (looks_like c d x)) whole in
         record {
@@ -389,8 +385,8 @@ module _ (r : Run) (a : Actor) (next : Next) (before : IsBefore r a next) (new :
     pub has_more : (page : ℕ) → b.body.reserved.pages ≡ a.body.reserved.pages ++ page ∷ []
         → b.body.reserved.room + 1 ≡ a.body.reserved.room
         → (same : b.body ≡ record a.body { reserved = b.body.reserved; counts = record a.body.counts { taken = suc a.body.counts.taken } })
-        → ((T : Setup) (c : Record) (slot : ℕ) → Shows T r.program a.body c → next_spread T c ≡ true
-        → Shows T r.program b.body (has_claimed T c page slot))
+        → ((T : Setup) (c : Record) (slot : ℕ) → BodyShows T r.program a.body c → next_spread T c ≡ true
+        → BodyShows T r.program b.body (has_claimed T c page slot))
         → T.sizes.page_words < new.words
         → PageClaimed T z slot c page a.seat.me b.seat.me → HasReserved r a b next new 1
     has_more page pages room same becomes spread t =
@@ -427,19 +423,19 @@ module _ (r : Run) (a : Actor) (next : Next) (before : IsBefore r a next) (new :
 -- ---- the same, where the run is seen by its fields. The sizes are those of its table.
 
 abbrev TellsPage : Actor → New → Option Page → Type 0
-TellsPage a new own = (T : Setup) (p : Program) (c : Record) (region : Region) → Shows T p a.body c
+TellsPage a new own = (T : Setup) (p : CompactProgram) (c : Record) (region : Region) → BodyShows T p a.body c
     → region_at a.body.holding new.key ≡ Some region
-    → option_map (own_page (slot_of T.sizes.regions region)) own ≡ page_in (slot_of T.sizes.regions region) c.memory.fills
+    → option_map (own_page (slot_of T.sizes.regions region)) own ≡ page_of (slot_of T.sizes.regions region) c.memory.fills
 
 abbrev TellsSlot : Actor → New → ℕ → Type 0
-TellsSlot a new n = (T : Setup) (p : Program) (c : Record) (region : Region) → Shows T p a.body c
+TellsSlot a new n = (T : Setup) (p : CompactProgram) (c : Record) (region : Region) → BodyShows T p a.body c
     → region_at a.body.holding new.key ≡ Some region → n ≡ slot_of T.sizes.regions region
 
 -- the own page, if it has room
 module _ (r : Run) (a : Actor) (next : Next) (before : IsBefore r a next) (new : New) (is : IsNew r.setup (now r.setup a) a.body.holding new)
     (n : ℕ) (words : n ≡ r.setup.sizes.page_words) (own : Option Page) (tells : TellsPage a new own) where
   tells_here : (region : Region) → region_at a.body.holding new.key ≡ Some region
-      → option_map (own_page (slot_of r.setup.sizes.regions region)) own ≡ page_in (slot_of r.setup.sizes.regions region) (now r.setup a).memory.fills
+      → option_map (own_page (slot_of r.setup.sizes.regions region)) own ≡ page_of (slot_of r.setup.sizes.regions region) (now r.setup a).memory.fills
   tells_here region at = tells r.setup r.program (now r.setup a) region before.stands.shows at
 
   pub its_own_page : (found : Option Page)
@@ -486,8 +482,8 @@ module _ (s r : Run) (seen_is : s ≡ r) (a : Actor) (next : Next) (before : IsB
         → region_at b.body.holding new.key ≡ region_at a.body.holding new.key
         → b.body ≡ record a.body { holding = b.body.holding; counts = b.body.counts }
         → ((region : Region) → region_at a.body.holding new.key ≡ Some region
-        → (T : Setup) (c : Record) → Shows T s.program a.body c → next_spread T c ≡ false
-        → Shows T s.program b.body (has_claimed T c page (slot_of T.sizes.regions region)))
+        → (T : Setup) (c : Record) → BodyShows T s.program a.body c → next_spread T c ≡ false
+        → BodyShows T s.program b.body (has_claimed T c page (slot_of T.sizes.regions region)))
         → 0 < new.words → PageClaimed s.setup s.sizes n (now s.setup a) page a.seat.me b.seat.me
         → HasPage r a b next new (record { page = page; fill = 0 })
     claimed_here fits n tells page regions same becomes some t =
@@ -527,8 +523,8 @@ module _ (s r : Run) (seen_is : s ≡ r) (a : Actor) (next : Next) (before : IsB
         → b.body.reserved.pages ≡ a.body.reserved.pages ++ page ∷ []
         → b.body.reserved.room + 1 ≡ a.body.reserved.room
         → b.body ≡ record a.body { reserved = b.body.reserved; counts = record a.body.counts { taken = suc a.body.counts.taken } }
-        → ((T : Setup) (c : Record) (slot : ℕ) → Shows T s.program a.body c → next_spread T c ≡ true
-        → Shows T s.program b.body (has_claimed T c page slot))
+        → ((T : Setup) (c : Record) (slot : ℕ) → BodyShows T s.program a.body c → next_spread T c ≡ true
+        → BodyShows T s.program b.body (has_claimed T c page slot))
         → PageClaimed s.setup s.sizes n (now s.setup a) page a.seat.me b.seat.me → HasReserved r a b next new 1
     more_here spread n tells page pages room same becomes t =
         let at = tells s.setup s.program (now s.setup a) its_new.region before_it.stands.shows its_new.at_key in

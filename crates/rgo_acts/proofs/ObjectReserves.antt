@@ -13,11 +13,11 @@ use Rattle.rgo_core_facts.specs.MemoryObjects.{data_pages_of}
 use Rattle.rgo_core_facts.proofs.Lying.{pages_in_table}
 use Rattle.rgo_core_facts.proofs.OwnPages.{reserved_few, reserved_pages, room_lies}
 use Rattle.rgo_core_steps.proofs.Growing.{found_right, grew_then}
-use Rattle.rgo_body.specs.Steps.{Stays}
+use Rattle.rgo_body.specs.Steps.{StillShows}
 use Rattle.rgo_body.specs.declared.bodies.Body.{Body}
 use Rattle.rgo_body.specs.declared.nexts.Next.{Next}
 use Rattle.rgo_holding.specs.Holds.{region_at}
-use Rattle.rgo_acts.specs.Actors.{Acted, now}
+use Rattle.rgo_acts.specs.Actors.{ActorActed, now}
 use Rattle.rgo_acts.specs.Objects.{HasAllPages, HasNoMemory, HasNoPage, HasReserved, HasTooFewPages, IsAsBefore, IsNew, IsPlacedApart, IsSmall}
 use Rattle.rgo_acts.specs.Ready.{IsBefore}
 use Rattle.rgo_acts.specs.Runs.{Run}
@@ -66,11 +66,11 @@ module _ (r : Run) (a : Actor) (next : Next) (before : IsBefore r a next) (new :
 
   -- ---- room was made for them
 
-  module _ (d : Body) (as_before : IsAsBefore a.body d) (stays : Stays r.program a.body d) where
+  module _ (d : Body) (as_before : IsAsBefore a.body d) (stays : StillShows r.program a.body d) where
     abbrev b : Actor
     b = record a { body = d }
 
-    roomy_acted : Acted r a b 0 [] []
+    roomy_acted : ActorActed r a b 0 [] []
     roomy_acted = acted_none r a b before.stands refl refl (stays r.setup (now r.setup a) before.stands.shows)
 
     pub no_memory : HasNoMemory r a b

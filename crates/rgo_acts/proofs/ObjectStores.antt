@@ -13,7 +13,7 @@ use Rattle.rgo_core.specs.Memory.Words.{all_words, cell_at}
 use Rattle.rgo_core.specs.Core.{Setup, layout}
 use Rattle.rgo_core.specs.Opening.{first_of}
 use Rattle.rgo_core.specs.Records.{Record, accesses}
-use Rattle.rgo_core_steps.specs.Grown.{Grew}
+use Rattle.rgo_core_steps.specs.Grown.{SeatGrew}
 use Rattle.rgo_core_steps.specs.Making.{IsNewWord, filling}
 use Rattle.rgo_core_steps.specs.Seats.{Settles, Stored, mine, settled}
 use Rattle.rgo_core_steps.proofs.Growing.{told_accesses, told_grew, told_record}
@@ -21,7 +21,7 @@ use Rattle.rgo_core_steps.proofs.Settling.{settled_counts}
 use Rattle.rgo_holding.specs.Known.{own_page}
 use Rattle.rgo_holding.specs.declared.entries.Page.{Page}
 use Rattle.rgo_sound.specs.Memory.Memory.{Object}
-use Rattle.rgo_sound.specs.RegionMachine.Objects.{words as words_of}
+use Rattle.rgo_sound.specs.RegionMachine.Objects.{object_words as words_of}
 use Rattle.rgo_acts.specs.Objects.{IsPlaced, opens}
 use Rattle.rgo_acts.specs.declared.objects.New.{New}
 
@@ -95,7 +95,7 @@ module _ (T : Setup) (c : Record) (slot : ℕ) (page : Page) (new : New) (p : Is
               let same : words_of object ≡ i + 1 = omega (arith, many, end) in
               counted (with_new_object T c f object) (one_so_far.all end) (ap (λ n. accesses c + n) same)
 
-      pub one_grew : Grew accesses (first_of T.code) m (told_accesses accesses (first_of T.code) m w kind.Fill word l.0 (λ found. value) (λ found e. e ≡ filling T (settled T q m) i) l.1) w
+      pub one_grew : SeatGrew accesses (first_of T.code) m (told_accesses accesses (first_of T.code) m w kind.Fill word l.0 (λ found. value) (λ found e. e ≡ filling T (settled T q m) i) l.1) w
       one_grew =
           told_grew accesses (first_of T.code) m w kind.Fill word l.0 (λ found. value) (λ found e. e ≡ filling T (settled T q m) i) l.1 one_count
 

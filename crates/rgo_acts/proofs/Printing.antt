@@ -16,7 +16,7 @@ use Rattle.rgo_core_steps.specs.After.{piece, printing}
 use Rattle.rgo_core_steps.specs.Prints.{IsAtPrint}
 use Rattle.rgo_core_steps.specs.Seats.{HasPossible, Left}
 use Rattle.rgo_core_steps.proofs.After.{piece_is, printing_is}
-use Rattle.rgo_sound.specs.Machine.Lines.{line_of}
+use Rattle.rgo_sound.specs.Machine.Lines.{printed_line}
 use Rattle.rgo_sound.specs.Tac.Code as tac
 use Rattle.rgo_sound.specs.Tac.Ops.{operation_of}
 use Rattle.rgo_sound.specs.Memory.declared.values.Value.TheVariants as value
@@ -26,7 +26,7 @@ use Rattle.rgo_sound.specs.Typed.declared.types.Type.{«Type»}
 use Rattle.rgo_body.specs.Bodies.{frames_in}
 use Rattle.rgo_body.specs.Steps.{Becomes}
 use Rattle.rgo_body.specs.declared.nexts.Next.{Next}
-use Rattle.rgo_acts.specs.Actors.{Acted, now}
+use Rattle.rgo_acts.specs.Actors.{ActorActed, now}
 use Rattle.rgo_acts.specs.Prints.{drawn_of, value_in, values_in}
 use Rattle.rgo_acts.specs.Ready.{IsBefore}
 use Rattle.rgo_acts.specs.Runs.{Run}
@@ -55,16 +55,16 @@ module _ (r : Run) (a : Actor) (next : Next) (before : IsBefore r a next) (piece
     few = subst (λ n. n < 8796093022208) (sym before.stands.shows.prints) few;
   }
 
-  pub line_is : (bytes : List ℕ) → bytes ≡ line_of pieces (values_in next.function (frames_in a.body) from)
+  pub line_is : (bytes : List ℕ) → bytes ≡ printed_line pieces (values_in next.function (frames_in a.body) from)
       → bytes ≡ piece r.setup.code (now r.setup a)
   line_is bytes is =
-      is ∙ (ap (λ (fs : List WordFrame). line_of pieces (values_in next.function fs from)) before.ready.is_next.are
+      is ∙ (ap (λ (fs : List WordFrame). printed_line pieces (values_in next.function fs from)) before.ready.is_next.are
       ∙ sym (piece_is r.setup at_print))
 
   -- the record after it
   module _ (n : ℕ) where
     abbrev after : Record
-    after = printed_by r.setup (now r.setup a) at_print (line_of pieces (printed_values next.function before.ready.is_next.w from)) n
+    after = printed_by r.setup (now r.setup a) at_print (printed_line pieces (printed_values next.function before.ready.is_next.w from)) n
 
     after_is : printing r.setup.code (now r.setup a) n ≡ after
     after_is = printing_is r.setup at_print n
@@ -79,7 +79,7 @@ module _ (r : Run) (a : Actor) (next : Next) (before : IsBefore r a next) (piece
       first = ap (λ (c : Record). c.clock.first) after_is;
     }
       where
-        drawn : drawn_at n (line_of pieces (printed_values next.function before.ready.is_next.w from)) ≡ drawn_of p
+        drawn : drawn_at n (printed_line pieces (printed_values next.function before.ready.is_next.w from)) ≡ drawn_of p
         drawn =
             ap (λ (b : List ℕ). drawn_at n b) (sym (bytes ∙ piece_is r.setup at_print))
             ∙ (ap (λ (t : ℕ). record { ticket = t; bytes = p.bytes.items; is_void = has_ended n }) (sym ticket)
@@ -91,11 +91,11 @@ pub printed : (s r : Run) (is : s ≡ r) (a b : Actor) (next : Next) (before : I
     → (p : Print) → p.bytes.items ≡ piece r.setup.code (now r.setup a)
     → ((n : ℕ) × (p.ticket ≡ n % 2 ^ 63) × ((p.is_void ≡ true) ↔ (2 ^ 63 ≤ n))
     × Left s.setup kind.DrawTicket clock_at (λ n. (n + 1) % 2 ^ 64) (λ n d. d ≡ printing s.setup.code (now s.setup a) n) a.seat.me n b.seat.me)
-    → ((clock : ℕ) → Becomes s.program a.body b.body (λ T c. printing T.code c clock)) → Acted r a b 1 (drawn_of p ∷ []) []
+    → ((clock : ℕ) → Becomes s.program a.body b.body (λ T c. printing T.code c clock)) → ActorActed r a b 1 (drawn_of p ∷ []) []
 printed s r is a b next before pieces from e own at_once possible p bytes left becomes =
     let first = subst (λ (x : Run). IsBefore x a next) (sym is) before in
     let same = subst (λ (x : Run). p.bytes.items ≡ piece x.setup.code (now x.setup a)) (sym is) bytes in
-    subst (λ (x : Run). Acted x a b 1 (drawn_of p ∷ []) []) is
+    subst (λ (x : Run). ActorActed x a b 1 (drawn_of p ∷ []) []) is
     (acted_one s a b first.stands 1 (drawn_of p ∷ []) [] kind.DrawTicket clock_at left.0 (λ n. (n + 1) % 2 ^ 64)
     (λ n d. d ≡ printing s.setup.code (now s.setup a) n) (printing s.setup.code (now s.setup a) left.0) own at_once left.3 possible (λ t. t)
     (follows s a next first pieces from e left.0 p left.1 left.2 same)

@@ -2,36 +2,36 @@
 use Rattle.std.proofs.Common.{◌≡◌, ◌⊎◌, ◌∙◌, ◌++◌, ℕ, List, [], ◌∷◌, Option, Some, slice_get, refl, ap, sym, subst, inl, inr}
 use Rattle.std.proofs.lemmas.Option.{none-some, same_Some}
 use Rattle.rgo_sound.specs.Code.Code as code
-use Rattle.rgo_sound.specs.Code.Code.{CodeInstr, CodeOp}
+use Rattle.rgo_sound.specs.Code.Code.{CodeInstr}
 use Rattle.rgo_sound.specs.Code.Erasure.{erased_op}
 use Rattle.rgo_core.specs.Channels.Records.{Free, KnowsOf, Nothing, Nowhere, Offering, Reach, Reached, Rec as SideRec, Saw, Shut, Size, Sized, Stranded, Unknown, Unreached, at_rest}
 use Rattle.rgo_core.specs.Channels.Standing.{IsAt as IsAtChannel, IsOfChannel, OperatesOn}
-use Rattle.rgo_core.specs.Frames.Fits.{Fits, IsPast, IsShown}
+use Rattle.rgo_core.specs.Frames.Fits.{RecordFits, IsPast, IsShown}
 use Rattle.rgo_core.specs.Frames.Shown.{FramesShow}
 use Rattle.rgo_core.specs.Frames.Slots.{nameless, slot_duties}
 use Rattle.rgo_core.specs.Frames.WordFrames.{WordFrame, bare}
-use Rattle.rgo_core.proofs.Frames.Bookkeeping.{current_alike}
+use Rattle.rgo_core.proofs.Frames.regions.Bookkeeping.{current_alike}
 use Rattle.rgo_core_facts.proofs.ControlFrames.{all_in_code}
 use Rattle.rgo_sound.specs.RegionMachine.Owed.{current}
 use Rattle.rgo_sound.specs.RegionMachine.States.{Duty, Holder, NoOffer, Standing}
-use Rattle.rgo_sound.specs.Tac.Frames.{Frame}
+use Rattle.rgo_sound.specs.Tac.Frames.{TacFrame}
 use Rattle.rgo_sound.specs.Tac.Ops.{operation_of}
 use Rattle.rgo_sound.specs.Typed.declared.actions.Action.{Action}
-use Rattle.rgo_core.proofs.Parts.{I}
-use Rattle.rgo_core.proofs.Standing.{frame_at, side_at}
+use Rattle.rgo_core.proofs.image.Parts.{I}
+use Rattle.rgo_core.proofs.image.Standing.{frame_at, side_at}
 use Rattle.rgo_core.specs.Core.{Here, Setup, layout}
 use Rattle.rgo_core.specs.Channels.Positions.{place_at}
 use Rattle.rgo_core.specs.Next.{IsAt}
 use Rattle.rgo_core.specs.Records.{Record}
 use Rattle.rgo_core.specs.Rule.Views.{number_of}
 use Rattle.rgo_body.specs.Bodies.{frames_in}
-use Rattle.rgo_body.specs.Nexts.{HasNoNext, IsNextOf}
-use Rattle.rgo_body.specs.Programs.{Program}
-use Rattle.rgo_body.specs.Shows.{Shows}
+use Rattle.rgo_body.specs.Nexts.{FrameHasNoNext, IsNextOf}
+use Rattle.rgo_body.specs.Programs.{CompactProgram}
+use Rattle.rgo_body.specs.Shows.{BodyShows}
 use Rattle.rgo_body.specs.declared.bodies.Body.{Body}
 use Rattle.rgo_body.specs.declared.bodies.Side.TheVariants as side
 use Rattle.rgo_body.specs.declared.nexts.Next.{Next}
-use Rattle.rgo_acts.specs.Actors.{Acted, Stands, now}
+use Rattle.rgo_acts.specs.Actors.{ActorActed, IsActorOf, now}
 use Rattle.rgo_acts.specs.Resting.{IsAtTalk, IsTalk, RestsElsewhere}
 use Rattle.rgo_acts.specs.Runs.{Run}
 use Rattle.rgo_acts.specs.declared.actors.Actor.{Actor}
@@ -46,7 +46,7 @@ abbrev AtSome : Setup → Record → Type 0
 AtSome T c = (to : Option ℕ) × (act : Action) × (from removes : List ℕ) × IsOfChannel act × IsAt T.code c (code.Do to act from removes)
 
 module _ {T : Setup} {g : ℕ} {c : Record} (x : Here T g c) (no_offer : c.frame.holder.offer ≡ NoOffer) where
-  abbrev F : Fits T.code (I x).places.slot (I x).addresses x.s g c.frame
+  abbrev F : RecordFits T.code (I x).places.slot (I x).addresses x.s g c.frame
   F = (I x).frames.each g c.frame (frame_at x)
 
   shown : IsShown T.code (I x).places.slot (I x).addresses F.frames F.h c.frame
@@ -57,7 +57,7 @@ module _ {T : Setup} {g : ℕ} {c : Record} (x : Here T g c) (no_offer : c.frame
       absurd (let e : NoOffer ≡ Standing 0 = sym no_offer ∙ (ap (λ (k : Holder). k.offer) y.shown.holder ∙ ap nameless y.stood) in cc e)
 
   -- the frames of the record show those of the state
-  at_frames : (frame : Frame) (callers : List Frame) (instr : CodeInstr) (to : Option ℕ) (act : Action) (from removes : List ℕ)
+  at_frames : (frame : TacFrame) (callers : List TacFrame) (instr : CodeInstr) (to : Option ℕ) (act : Action) (from removes : List ℕ)
       → current T.code frame ≡ Some instr → instr.op ≡ code.Do to act from removes → c.frame.holder.duties ≡ []
       → (ws : List WordFrame) → c.frame.frames ≡ ws → FramesShow T.code (I x).addresses (frame ∷ callers) ws
       → IsAt T.code c (code.Do to act from removes)
@@ -91,7 +91,7 @@ module _ {T : Setup} {g : ℕ} {c : Record} (x : Here T g c) (no_offer : c.frame
         m.1,
         at_frames n.before.frame n.before.callers n.before.instr n.before.to m.0 n.before.from n.before.removes n.before.cur n.before.is none
             c.frame.frames refl
-            (subst (λ (fs : List Frame). FramesShow T.code (I x).addresses fs c.frame.frames) frames y.shown),
+            (subst (λ (fs : List TacFrame). FramesShow T.code (I x).addresses fs c.frame.frames) frames y.shown),
       )
 
   knows_some : c.side.post ≡ Nowhere → (a : ℕ) → KnowsOf c.side a → AtSome T c
@@ -133,13 +133,13 @@ rests_elsewhere T g c x free nowhere no_offer elsewhere =
 
 -- ---- the same of a body
 
-pub talks_as : (p : Program) (b : Body) (next : Next) → IsNextOf p.code (frames_in b) next → (t : IsAtTalk p b) → IsTalk (operation_of next.op)
+pub talks_as : (p : CompactProgram) (b : Body) (next : Next) → IsNextOf p.code (frames_in b) next → (t : IsAtTalk p b) → IsTalk (operation_of next.op)
 talks_as p b next n t =
     let frames : t.w ∷ t.ws ≡ n.w ∷ n.ws = sym t.frames ∙ n.are in
     let cur = sym t.cur ∙ (ap (λ w. current p.code (bare w)) (head_is t.w n.w t.ws n.ws frames) ∙ current_is p.code (frames_in b) next n) in
     subst IsTalk (ap (λ (i : CodeInstr). erased_op i.op) (same_Some t.instr n.instr cur) ∙ n.op) t.talks
 
-pub at_talk : (p : Program) (b : Body) (next : Next) → b.queue.duties ≡ [] → IsNextOf p.code (frames_in b) next → IsTalk (operation_of next.op)
+pub at_talk : (p : CompactProgram) (b : Body) (next : Next) → b.queue.duties ≡ [] → IsNextOf p.code (frames_in b) next → IsTalk (operation_of next.op)
     → IsAtTalk p b
 at_talk p b next empty n talks = record {
   queue = empty;
@@ -151,10 +151,10 @@ at_talk p b next empty n talks = record {
   talks = subst IsTalk (sym n.op) talks;
 }
 
-pub no_next : (p : Program) (b : Body) → HasNoNext p.code (frames_in b) → IsAtTalk p b → ⊥
+pub no_next : (p : CompactProgram) (b : Body) → FrameHasNoNext p.code (frames_in b) → IsAtTalk p b → ⊥
 no_next p b nothing t = absurd (none-some t.instr (sym (nothing t.w t.ws t.frames) ∙ t.cur))
 
-module _ (r : Run) (a : Actor) (s : Stands r a) (none : (at : ℕ) → a.body.side ≡ side.Offering at → ⊥)
+module _ (r : Run) (a : Actor) (s : IsActorOf r a) (none : (at : ℕ) → a.body.side ≡ side.Offering at → ⊥)
     (elsewhere : IsAtTalk r.program a.body → ⊥) where
   first_empty : (xs ys : List Duty) → xs ++ ys ≡ [] → xs ≡ []
   first_empty [] ys e = refl
@@ -179,11 +179,11 @@ module _ (r : Run) (a : Actor) (s : Stands r a) (none : (at : ℕ) → a.body.si
       rests_elsewhere r.setup (number_of a.seat.me) (now r.setup a) s.possible f.free f.nowhere f.no_offer body_talks
 
 -- it rests from now on
-pub rested : (s r : Run) (is : s ≡ r) (a b : Actor) → Stands r a → ((at : ℕ) → a.body.side ≡ side.Offering at → ⊥)
+pub rested : (s r : Run) (is : s ≡ r) (a b : Actor) → IsActorOf r a → ((at : ℕ) → a.body.side ≡ side.Offering at → ⊥)
     → (IsAtTalk s.program a.body → ⊥) → b.seat ≡ a.seat → b.behind ≡ a.behind
-    → ((T : Setup) (c : Record) → Shows T s.program a.body c → c.side ≡ at_rest → Shows T s.program b.body c) → Acted r a b 0 [] []
+    → ((T : Setup) (c : Record) → BodyShows T s.program a.body c → c.side ≡ at_rest → BodyShows T s.program b.body c) → ActorActed r a b 0 [] []
 rested s r is a b stands none elsewhere seat behind rests =
     acted_none r a b stands seat behind
-    (subst (λ (x : Run). Shows r.setup x.program b.body (now r.setup a)) is
-    (rests r.setup (now r.setup a) (subst (λ (x : Run). Shows r.setup x.program a.body (now r.setup a)) (sym is) stands.shows)
+    (subst (λ (x : Run). BodyShows r.setup x.program b.body (now r.setup a)) is
+    (rests r.setup (now r.setup a) (subst (λ (x : Run). BodyShows r.setup x.program a.body (now r.setup a)) (sym is) stands.shows)
     (body_rests r a stands none (λ t. elsewhere (subst (λ (x : Run). IsAtTalk x.program a.body) (sym is) t)))))

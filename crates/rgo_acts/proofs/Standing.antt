@@ -7,14 +7,14 @@ use Rattle.rgo_core.specs.Rule.declared.accesses.Kind.{Kind}
 use Rattle.rgo_core.specs.Core.{IsPossible, Setup}
 use Rattle.rgo_core.specs.Opening.{first_of}
 use Rattle.rgo_core.specs.Records.{ClockRec, Drawn, Record, accesses, steps_of}
-use Rattle.rgo_core_steps.specs.Grown.{Grew}
+use Rattle.rgo_core_steps.specs.Grown.{SeatGrew}
 use Rattle.rgo_core_steps.specs.Seats.{HasOne, HasPossible, Left, Settles, mine, settled, settled_by}
 use Rattle.rgo_core_steps.specs.Settled.{IsLocal}
 use Rattle.rgo_core_steps.proofs.Growing.{grew_none, grew_then, still_none, told_accesses, told_grew, told_record}
 use Rattle.rgo_core_steps.proofs.SettledLaws.{settled_kept, settled_laws}
-use Rattle.rgo_body.specs.Shows.{IsPossible as IsPossibleBody, Shows}
+use Rattle.rgo_body.specs.Shows.{IsPossible as IsPossibleBody, BodyShows}
 use Rattle.rgo_body.specs.Steps.{TakesLocal}
-use Rattle.rgo_acts.specs.Actors.{Acted, IsUnmoved, Stands, now}
+use Rattle.rgo_acts.specs.Actors.{ActorActed, IsUnmoved, IsActorOf, now}
 use Rattle.rgo_acts.specs.Runs.{Run}
 use Rattle.rgo_acts.specs.declared.actors.Actor.{Actor}
 
@@ -29,7 +29,7 @@ pub now_accesses : (T : Setup) (a : Actor) → accesses (now T a) ≡ accesses (
 now_accesses T a = ap (λ (k : ClockRec). k.accesses) (settled_kept T (number_of a.seat.me) a.behind (mine T a.seat.me)).clock
 
 -- what calls of the body ask
-pub its_body : (r : Run) (a : Actor) → Stands r a → IsPossibleBody r.program a.body
+pub its_body : (r : Run) (a : Actor) → IsActorOf r a → IsPossibleBody r.program a.body
 its_body r a s = record { T = r.setup; goroutine = number_of a.seat.me; c = now r.setup a; here = s.possible; shows = s.shows }
 
 -- how a record follows another by one access
@@ -49,12 +49,12 @@ pub record Continues (c d : Record) (n : ℕ) (draws : List Drawn) (starts : Lis
 
 -- ---- acts
 
-module _ (r : Run) (a b : Actor) (before : Stands r a) (n : ℕ) (draws : List Drawn) (starts : List ℕ) where
+module _ (r : Run) (a b : Actor) (before : IsActorOf r a) (n : ℕ) (draws : List Drawn) (starts : List ℕ) where
   -- some accesses
   pub acted_by : (es : List Access) → b.seat.table_id ≡ a.seat.table_id → b.behind ≡ 0
-      → Grew accesses (first_of r.setup.code) a.seat.me es b.seat.me → HasPossible r.setup b.seat.me
+      → SeatGrew accesses (first_of r.setup.code) a.seat.me es b.seat.me → HasPossible r.setup b.seat.me
       → Continues (now r.setup a) (mine r.setup b.seat.me) n draws starts
-      → Shows r.setup r.program b.body (mine r.setup b.seat.me) → Acted r a b n draws starts
+      → BodyShows r.setup r.program b.body (mine r.setup b.seat.me) → ActorActed r a b n draws starts
   acted_by es own none grew possible follows shows =
       let e = now_at_once r.setup b none in
       record {
@@ -71,7 +71,7 @@ module _ (r : Run) (a b : Actor) (before : Stands r a) (n : ℕ) (draws : List D
           alone = grew.alone;
           settles = subst (λ q. Settles r.setup q b.seat.me) (sym none) tt;
           possible = subst (IsPossible r.setup (number_of b.seat.me)) (sym e) possible;
-          shows = subst (Shows r.setup r.program b.body) (sym e) shows;
+          shows = subst (BodyShows r.setup r.program b.body) (sym e) shows;
         };
       }
 
@@ -79,7 +79,7 @@ module _ (r : Run) (a b : Actor) (before : Stands r a) (n : ℕ) (draws : List D
   pub acted_one : (kind : Kind) (i found : ℕ) (f : ℕ → ℕ) (tells : ℕ → Record → Type 0) (d : Record)
       → b.seat.table_id ≡ a.seat.table_id → b.behind ≡ 0 → Left r.setup kind i f tells a.seat.me found b.seat.me
       → HasPossible r.setup b.seat.me → (tells found (mine r.setup b.seat.me) → mine r.setup b.seat.me ≡ d)
-      → Follows (now r.setup a) d n draws starts → Shows r.setup r.program b.body d → Acted r a b n draws starts
+      → Follows (now r.setup a) d n draws starts → BodyShows r.setup r.program b.body d → ActorActed r a b n draws starts
   acted_one kind i found f tells d own none left possible is follows shows =
       let e = is (told_record accesses (first_of r.setup.code) a.seat.me b.seat.me kind i found f tells left) in
       acted_by (told_accesses accesses (first_of r.setup.code) a.seat.me b.seat.me kind i found f tells left) own none
@@ -92,20 +92,20 @@ module _ (r : Run) (a b : Actor) (before : Stands r a) (n : ℕ) (draws : List D
         children = ap (λ (c : Record). c.clock.children) e ∙ follows.children;
         first = ap (λ (c : Record). c.clock.first) e ∙ follows.first;
       })
-      (subst (Shows r.setup r.program b.body) (sym e) shows)
+      (subst (BodyShows r.setup r.program b.body) (sym e) shows)
 
 -- ---- acts without an access
 
 -- nothing has happened to the record
-pub acted_none : (r : Run) (a b : Actor) → Stands r a → b.seat ≡ a.seat → b.behind ≡ a.behind
-    → Shows r.setup r.program b.body (now r.setup a) → Acted r a b 0 [] []
+pub acted_none : (r : Run) (a b : Actor) → IsActorOf r a → b.seat ≡ a.seat → b.behind ≡ a.behind
+    → BodyShows r.setup r.program b.body (now r.setup a) → ActorActed r a b 0 [] []
 acted_none r a b s seat behind shows =
     let e : now r.setup b ≡ now r.setup a =
     ap (λ x. settled r.setup b.behind x.me) seat ∙ ap (λ q. settled r.setup q a.seat.me) behind in
     record {
       es = [];
       went = record {
-        grew = subst (λ x. Grew accesses (first_of r.setup.code) a.seat.me [] x.me) (sym seat)
+        grew = subst (λ x. SeatGrew accesses (first_of r.setup.code) a.seat.me [] x.me) (sym seat)
             (grew_none accesses (first_of r.setup.code) a.seat.me s.alone);
         steps = let k = ap steps_of e in omega (arith, k);
         prints = ap (λ (c : Record). c.clock.prints) e ∙ sym (append-nil (now r.setup a).clock.prints);
@@ -119,13 +119,13 @@ acted_none r a b s seat behind shows =
             (subst (λ q. Settles r.setup q a.seat.me) (sym behind) s.settles);
         possible = subst (λ x. IsPossible r.setup (number_of x.me) (now r.setup b)) (sym seat)
             (subst (IsPossible r.setup (number_of a.seat.me)) (sym e) s.possible);
-        shows = subst (Shows r.setup r.program b.body) (sym e) shows;
+        shows = subst (BodyShows r.setup r.program b.body) (sym e) shows;
       };
     }
 
 -- k local steps, n of them instructions
-pub acted_local : (r : Run) (a b : Actor) (k n : ℕ) → Stands r a → b.seat ≡ a.seat → b.behind ≡ a.behind + k
-    → TakesLocal r.program k a.body b.body → b.body.counts.steps ≡ a.body.counts.steps + n → Acted r a b n [] []
+pub acted_local : (r : Run) (a b : Actor) (k n : ℕ) → IsActorOf r a → b.seat ≡ a.seat → b.behind ≡ a.behind + k
+    → TakesLocal r.program k a.body b.body → b.body.counts.steps ≡ a.body.counts.steps + n → ActorActed r a b n [] []
 acted_local r a b k n s seat behind takes steps =
     let T : Setup = r.setup in
     let g : ℕ = number_of a.seat.me in
@@ -137,7 +137,7 @@ acted_local r a b k n s seat behind takes steps =
     record {
       es = [];
       went = record {
-        grew = subst (λ x. Grew accesses (first_of T.code) a.seat.me [] x.me) (sym seat)
+        grew = subst (λ x. SeatGrew accesses (first_of T.code) a.seat.me [] x.me) (sym seat)
             (grew_none accesses (first_of T.code) a.seat.me s.alone);
         steps = ap steps_of more ∙ (ap (λ q. q.steps) took.1.share ∙ (steps ∙ ap (λ m. m + n) (sym (ap (λ q. q.steps) s.shows.share))));
         prints = ap (λ (c : Record). c.clock.prints) more
@@ -152,13 +152,13 @@ acted_local r a b k n s seat behind takes steps =
             (subst (λ q. Settles T q a.seat.me) (sym behind) (settled_laws.settles T g a.behind k (mine T a.seat.me) s.settles took.0));
         possible = subst (λ x. IsPossible T (number_of x.me) (now T b)) (sym seat)
             (subst (IsPossible T g) (sym more) (settled_laws.possible T g k (now T a) s.possible took.0));
-        shows = subst (Shows T r.program b.body) (sym more) took.1;
+        shows = subst (BodyShows T r.program b.body) (sym more) took.1;
       };
     }
 
 -- one act, and then another
 pub acted_then : (r : Run) (a b c : Actor) (m n : ℕ) (ds es : List Drawn) (ss ts : List ℕ)
-    → Acted r a b m ds ss → Acted r b c n es ts → Acted r a c (m + n) (ds ++ es) (ts ++ ss)
+    → ActorActed r a b m ds ss → ActorActed r b c n es ts → ActorActed r a c (m + n) (ds ++ es) (ts ++ ss)
 acted_then r a b c m n ds es ss ts x y = record {
   es = x.es ++ y.es;
   went = record {
@@ -174,7 +174,7 @@ acted_then r a b c m n ds es ss ts x y = record {
 }
 
 -- nothing has moved by an act without an access or a local step
-pub unmoved_at : (r : Run) (a b : Actor) (acted : Acted r a b 0 [] []) → b.seat ≡ a.seat → b.behind ≡ a.behind
+pub unmoved_at : (r : Run) (a b : Actor) (acted : ActorActed r a b 0 [] []) → b.seat ≡ a.seat → b.behind ≡ a.behind
     → IsUnmoved r.setup a b acted.es
 unmoved_at r a b acted seat behind = record {
   words = still_none (number_of a.seat.me) acted.es

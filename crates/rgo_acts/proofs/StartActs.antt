@@ -8,7 +8,7 @@ use Rattle.rgo_sound.specs.Code.Code as code_op
 use Rattle.rgo_sound.specs.Code.Code.{Code, CodeFn, CodeOp, Go}
 use Rattle.rgo_core.specs.Frames.Children.{child_records}
 use Rattle.rgo_core.specs.Frames.Opening.{no_record}
-use Rattle.rgo_sound.specs.RegionMachine.Owed.{function_of}
+use Rattle.rgo_sound.specs.RegionMachine.Owed.{code_function}
 use Rattle.rgo_core.specs.Laws.{first_in}
 use Rattle.rgo_core_facts.specs.ControlCode.{CanCall, HasCallee}
 use Rattle.rgo_core_facts.proofs.ControlCode.{callees_exist}
@@ -24,13 +24,13 @@ use Rattle.rgo_core.specs.Next.{IsAt}
 use Rattle.rgo_core.specs.Opening.{first_of}
 use Rattle.rgo_core.specs.Records.{Record, accesses, begins_with, steps_of, with_child}
 use Rattle.rgo_core_steps.specs.After.{Position, child, child_at, child_by, position, starting}
-use Rattle.rgo_core_steps.specs.Ends.{Ends, IsFull}
+use Rattle.rgo_core_steps.specs.Ends.{GoroutineEndsRun, IsFull}
 use Rattle.rgo_core_steps.specs.Seats.{HasOne, HasPossible, Left, Settles, mine, other, settled}
 use Rattle.rgo_core_steps.specs.Starts.{HasDrawn, IsAtStart, Started, next_number, refusing}
 use Rattle.rgo_core_steps.proofs.After.{at, moving_is}
 use Rattle.rgo_core_steps.proofs.Growing.{told_record}
 use Rattle.rgo_core_steps.proofs.Parting.{started_law}
-use Rattle.rgo_body.specs.Shows.{Shows}
+use Rattle.rgo_body.specs.Shows.{BodyShows}
 use Rattle.rgo_body.specs.Steps.{Becomes}
 use Rattle.rgo_body.specs.declared.nexts.Next.{Next}
 use Rattle.rgo_sound.specs.Tac.Code as tac
@@ -51,7 +51,7 @@ abbrev Begins : Record → Type 0
 Begins e = (frame : FrameRec) × (e ≡ begins_with frame)
 
 child_by_begins : (code : Code) (c : Record) (w : WordFrame) (op : CodeOp) (e : Record) → child_by code c w op ≡ Some e → Begins e
-child_by_begins code c w (code_op.Go f from passes removes) e is = called (function_of code f) is
+child_by_begins code c w (code_op.Go f from passes removes) e is = called (code_function code f) is
   where
     first_of_callee : CodeFn → FrameRec
     first_of_callee callee =
@@ -161,7 +161,7 @@ module _ (r : Run) (a : Actor) (next : Next) (before : IsBefore r a next) (funct
         → b.seat.me ≡ (view ((number_of w, mine r.setup w) ∷ []) w.0.seen, [])
         → Becomes r.program a.body b.body (λ T d. starting T.code d n)
         → c.seat.table_id ≡ r.table → c.behind ≡ 0 → c.seat.me ≡ (view ((n, other r.setup w) ∷ []) w.0.seen, [])
-        → Shows r.setup r.program c.body (child r.setup.code (now r.setup a)) → HasStarted r a b n c
+        → BodyShows r.setup r.program c.body (child r.setup.code (now r.setup a)) → HasStarted r a b n c
     has_started own none me becomes child_own child_none child_me child_shows =
         let T = r.setup in
         let is : other T w ≡ child T.code (now T a) = (started_law T a.behind a.seat.me w n drawn.1).3 in
@@ -182,7 +182,7 @@ module _ (r : Run) (a : Actor) (next : Next) (before : IsBefore r a next) (funct
             settles = subst (λ q. Settles T q c.seat.me) (sym child_none) tt;
             possible = subst (λ (u : Me Record). IsPossible T (number_of u) (now T c)) (sym child_me)
                 (subst (IsPossible T n) (sym at_once) born);
-            shows = subst (Shows T r.program c.body) (sym (at_once ∙ is)) child_shows;
+            shows = subst (BodyShows T r.program c.body) (sym (at_once ∙ is)) child_shows;
           };
           settled = child_none;
           number = ap (λ (u : Me Record). number_of u) child_me;
@@ -222,6 +222,6 @@ module _ (r : Run) (a : Actor) (next : Next) (before : IsBefore r a next) (funct
       drawn.2 in (
         acted_one r a b before.stands 0 [] [] DrawNumber made_at drawn.0 next_number (λ found d. d ≡ refusing c) (refusing c) own none
             drawn.2 possible (λ same. same) refusing_follows (becomes T c before.stands.shows),
-        subst (λ (d : Record). Ends T (number_of b.seat.me) d (Stopped Goroutines)) (sym e)
+        subst (λ (d : Record). GoroutineEndsRun T (number_of b.seat.me) d (Stopped Goroutines)) (sym e)
             (IsFull at_start.function at_start.callee at_start.from at_start.passes at_start.removes still_at at_start.calls refl refl),
       )

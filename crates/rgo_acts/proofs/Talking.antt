@@ -1,7 +1,7 @@
 -- What is said of an operation on a channel, by what rgo_chan says of its try.
 use Rattle.std.proofs.Common.{◌+◌, ◌≡◌, ◌≢◌, ◌⊎◌, ◌%◌, ℕ, List, [], ◌∷◌, ◌++◌, Some, None, refl, ap, sym, subst, ◌∙◌, ⊎_elim, inr}
 use Rattle.rgo_core.specs.Channels.Records as sides
-use Rattle.rgo_core.specs.Channels.Records.{Free, Nowhere, Rec as SideRec, with_look, with_own_look, with_size}
+use Rattle.rgo_core.specs.Channels.Records.{Rec as SideRec, with_look, with_own_look, with_size}
 use Rattle.rgo_core.specs.Rule.Views.{number_of}
 use Rattle.rgo_core.specs.Rule.declared.accesses.Access.{Access}
 use Rattle.rgo_core.specs.AtChannels.{IsAtChannel}
@@ -19,15 +19,15 @@ use Rattle.rgo_chan.specs.declared.answers.Tried.{Tried}
 use Rattle.rgo_chan.specs.declared.answers.Tried.TheVariants.{Busy, Done, NotReady, Offered, Trap as Trapped}
 use Rattle.rgo_chan.proofs.Carrying.{at_send_as, closes_as, closes_there, receives_as, receives_there, sends_as, sends_there, there_as}
 use Rattle.rgo_chan.proofs.Looking.{look_hold, look_post, look_saw, own_hold, own_post, own_saw}
-use Rattle.rgo_body.specs.Programs.{Program}
-use Rattle.rgo_body.specs.Shows.{Shows}
+use Rattle.rgo_body.specs.Programs.{CompactProgram}
+use Rattle.rgo_body.specs.Shows.{BodyShows}
 use Rattle.rgo_body.specs.Steps.{Becomes}
 use Rattle.rgo_body.specs.declared.bodies.Body.{Body}
 use Rattle.rgo_body.specs.declared.bodies.Side.TheVariants.{Offering}
 use Rattle.rgo_body.specs.declared.nexts.Next.{Next}
-use Rattle.rgo_acts.specs.Actors.{Stands, now}
+use Rattle.rgo_acts.specs.Actors.{IsActorOf, now}
 use Rattle.rgo_acts.specs.Runs.{Run}
-use Rattle.rgo_acts.specs.Talks.{CanTry, Concludes, HasLost, IsWaiting, OfAcknowledgement, OfClose, OfReceive, Says, Talks, Tries}
+use Rattle.rgo_acts.specs.Talks.{CanTry, TryConcludes, HasLost, IsWaiting, OfAcknowledgement, OfClose, OfReceive, Says, Talks, TriesOperation}
 use Rattle.rgo_acts.specs.Traps.{IsAtTrap}
 use Rattle.rgo_acts.specs.Waits as waits
 use Rattle.rgo_acts.specs.declared.actors.Actor.{Actor}
@@ -63,27 +63,27 @@ module _ (r : Run) (a b : Actor) (next : Next) (can : CanTry r a next) (own : b.
   g = number_of a.seat.me
 
   -- the body shows the record after a try that has come to nothing
-  shows_looked : Tries r.program a.body b.body → (k size n : ℕ) → Shows T r.program b.body (waited k c (looked at c.side size n))
+  shows_looked : TriesOperation r.program a.body b.body → (k size n : ℕ) → BodyShows T r.program b.body (waited k c (looked at c.side size n))
   shows_looked tries k size n =
       let u = unposted r a next can in
       tries T c k (looked at c.side size n) can.stands.shows
       (look_hold (with_size c.side at size) at n ∙ u.free) (look_post (with_size c.side at size) at n ∙ u.nowhere)
 
-  shows_seen : Tries r.program a.body b.body → (k n : ℕ) → Shows T r.program b.body (waited k c (with_look c.side at n))
+  shows_seen : TriesOperation r.program a.body b.body → (k n : ℕ) → BodyShows T r.program b.body (waited k c (with_look c.side at n))
   shows_seen tries k n =
       let u = unposted r a next can in
       tries T c k (with_look c.side at n) can.stands.shows (look_hold c.side at n ∙ u.free) (look_post c.side at n ∙ u.nowhere)
 
   -- it is still at the channel
   still_there : IsAtChannel T c at → (k : ℕ) (side : SideRec) (list : ℕ → List Access) (p : Did T a.seat.me s list (waited k c side) b.seat.me t)
-      (shows : Shows T r.program b.body (waited k c side)) → side.post ≡ c.side.post → IsAtChannel T (now T b) at
+      (shows : BodyShows T r.program b.body (waited k c side)) → side.post ≡ c.side.post → IsAtChannel T (now T b) at
   still_there there k side list p shows post =
       there_as (now T b) (same_frame r a b can.stands own at_once possible k side p shows)
       (ap (λ (x : SideRec). x.post) (now_side r a b can.stands own at_once possible k side p shows) ∙ post) there
 
   -- ---- another goroutine was at the channel
 
-  module _ (there : IsAtChannel T c at) (tries : Tries r.program a.body b.body) where
+  module _ (there : IsAtChannel T c at) (tries : TriesOperation r.program a.body b.body) where
     lost_locked : (size k : ℕ) → k % 2 ≡ 1 → Did T a.seat.me s (looks at size k) (waited 2 c (looked at c.side size k)) b.seat.me t
         → HasLost r a b at
     lost_locked size k odd p =
@@ -135,7 +135,7 @@ module _ (r : Run) (a b : Actor) (next : Next) (can : CanTry r a next) (own : b.
   -- ---- sends
 
   pub sends_talk : (value : ℕ) → SendsAt T c at value → (answer : Tried) (t' : Talked)
-      → Sends T at c value answer a.seat.me s b.seat.me t → Concludes r.program a.body b.body at answer → Says at answer t' → Talks r a b 1 t'
+      → Sends T at c value answer a.seat.me s b.seat.me t → TryConcludes r.program a.body b.body at answer → Says at answer t' → Talks r a b 1 t'
   sends_talk value here (Done v) t' p body says =
       subst (Talks r a b 1) (sym says) (done r a b can.stands own at_once possible here.here (sends_there here) (4 + numbers r.setup p.1) 0 v p.0 p.8 body)
   sends_talk value here Offered t' p body says =
@@ -168,7 +168,7 @@ module _ (r : Run) (a b : Actor) (next : Next) (can : CanTry r a next) (own : b.
   -- ---- receives
 
   pub receives_talk : ReceivesAt T c at → (answer : Tried) (t' : Talked)
-      → Receives T at c answer a.seat.me s b.seat.me t → Concludes r.program a.body b.body at answer → Says at answer t'
+      → Receives T at c answer a.seat.me s b.seat.me t → TryConcludes r.program a.body b.body at answer → Says at answer t'
       → Talks r a b 1 t' × OfReceive t'
   receives_talk here (Done v) t' p body says =
       let result = ⊎_elim
@@ -199,7 +199,7 @@ module _ (r : Run) (a b : Actor) (next : Next) (can : CanTry r a next) (own : b.
   -- ---- closes
 
   pub closes_talk : ClosesAt T c at → (answer : Tried) (t' : Talked)
-      → Closes T at c answer a.seat.me s b.seat.me t → Concludes r.program a.body b.body at answer → Says at answer t'
+      → Closes T at c answer a.seat.me s b.seat.me t → TryConcludes r.program a.body b.body at answer → Says at answer t'
       → Talks r a b 1 t' × OfClose t'
   closes_talk here (Done v) t' p body says =
       subst (λ x. Talks r a b 1 x × OfClose x) (sym says)
@@ -226,7 +226,7 @@ module _ (r : Run) (a b : Actor) (next : Next) (can : CanTry r a next) (own : b.
 
 -- ---- on nil
 
-module _ (r : Run) (a b : Actor) (before : Stands r a) (own : b.seat.table_id ≡ a.seat.table_id) (me : b.seat.me ≡ a.seat.me)
+module _ (r : Run) (a b : Actor) (before : IsActorOf r a) (own : b.seat.table_id ≡ a.seat.table_id) (me : b.seat.me ≡ a.seat.me)
     (behind : b.behind ≡ a.behind) (body : b.body ≡ a.body) where
   pub send_on_nil : (value : ℕ) → IsBeforeSend r.setup (now r.setup a) 0 value → IsWaiting r a b None
   send_on_nil value is = record {
@@ -252,24 +252,24 @@ module _ (r : Run) (a b : Actor) (before : Stands r a) (own : b.seat.table_id �
 -- ---- acknowledgements
 
 -- what is said of an offer, and the body then
-abbrev pub SaysOfOffer : Program → (before after : Body) → (at : ℕ) → Tried → Talked → Type 0
+abbrev pub SaysOfOffer : CompactProgram → (before after : Body) → (at : ℕ) → Tried → Talked → Type 0
 SaysOfOffer p b d at (Done v) x = (x ≡ talked.Done at) × Becomes p b d (λ T c. acknowledging T.code c)
 SaysOfOffer p b d at Offered x = ⊥
 SaysOfOffer p b d at NotReady x = (x ≡ talked.Waits (Some at)) × (d ≡ b)
 SaysOfOffer p b d at (Busy k) x = (x ≡ talked.Lost at) × (d ≡ b)
 SaysOfOffer p b d at (Trapped e) x = (x ≡ talked.Trap SendClosed) × (d ≡ b)
 
-module _ (r : Run) (a b : Actor) (before : Stands r a) (own : b.seat.table_id ≡ a.seat.table_id) (at_once : b.behind ≡ 0)
+module _ (r : Run) (a b : Actor) (before : IsActorOf r a) (own : b.seat.table_id ≡ a.seat.table_id) (at_once : b.behind ≡ 0)
     (possible : HasPossible r.setup b.seat.me) (s t at : ℕ) (offers : a.body.side ≡ Offering at) where
   abbrev own_record : Record
   own_record = now r.setup a
 
   -- the body that has not changed shows the record still
-  shows_still : b.body ≡ a.body → (k n : ℕ) → Shows r.setup r.program b.body (waited k (now r.setup a) (with_own_look (now r.setup a).side at n))
+  shows_still : b.body ≡ a.body → (k n : ℕ) → BodyShows r.setup r.program b.body (waited k (now r.setup a) (with_own_look (now r.setup a).side at n))
   shows_still same k n =
       let q = posted r a before at offers in
       shows_offering r.setup r.program b.body (now r.setup a) k (with_own_look (now r.setup a).side at n) at (ap (λ (x : Body). x.side) same ∙ offers)
-      (subst (λ (x : Body). Shows r.setup r.program x (now r.setup a)) (sym same) before.shows)
+      (subst (λ (x : Body). BodyShows r.setup r.program x (now r.setup a)) (sym same) before.shows)
       (own_hold (now r.setup a).side at n ∙ q.free) (own_post (now r.setup a).side at n ∙ q.post)
 
   pub acknowledges_talk : IsAtSend r.setup (now r.setup a) → (answer : Tried) (x : Talked)
@@ -352,7 +352,7 @@ module _ (r : Run) (a b : Actor) (before : Stands r a) (own : b.seat.table_id �
       )
 
 -- the same where s is how the fields of the run have it
-module _ (s r : Run) (is : s ≡ r) (a b : Actor) (before : Stands r a) (own : b.seat.table_id ≡ a.seat.table_id) (at_once : b.behind ≡ 0)
+module _ (s r : Run) (is : s ≡ r) (a b : Actor) (before : IsActorOf r a) (own : b.seat.table_id ≡ a.seat.table_id) (at_once : b.behind ≡ 0)
     (possible : HasPossible s.setup b.seat.me) (m t at : ℕ) (offers : a.body.side ≡ Offering at) where
   pub acknowledges_there : (answer : Tried) (x : Talked)
       → Acknowledges s.setup at (mine s.setup a.seat.me) answer a.seat.me m b.seat.me t → SaysOfOffer s.program a.body b.body at answer x

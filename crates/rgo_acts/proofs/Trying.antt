@@ -13,27 +13,27 @@ use Rattle.rgo_core.specs.Opening.{first_of}
 use Rattle.rgo_core.specs.Records.{Record, accesses, steps_of}
 use Rattle.rgo_core_steps.specs.After.{acknowledging, committing}
 use Rattle.rgo_core_steps.specs.Calls.{Did, accessing, waited}
-use Rattle.rgo_core_steps.specs.Grown.{Found, Grew}
+use Rattle.rgo_core_steps.specs.Grown.{Found, SeatGrew}
 use Rattle.rgo_core_steps.specs.Seats.{HasOne, HasPossible, Settles, settled}
 use Rattle.rgo_core_steps.proofs.After.{acknowledging_is, committing_is}
 use Rattle.rgo_core_steps.proofs.Growing.{grew_none, made_found, made_still}
 use Rattle.rgo_chan.proofs.Carrying.{at_send_as, operates_as}
 use Rattle.rgo_sound.specs.Typed.declared.actions.Action.{Action}
-use Rattle.rgo_body.specs.Programs.{Program}
-use Rattle.rgo_body.specs.Shows.{Shows}
+use Rattle.rgo_body.specs.Programs.{CompactProgram}
+use Rattle.rgo_body.specs.Shows.{BodyShows}
 use Rattle.rgo_body.specs.Steps.{Becomes}
 use Rattle.rgo_body.specs.declared.bodies.Body.{Body}
 use Rattle.rgo_body.proofs.Showing.{like_shown}
-use Rattle.rgo_acts.specs.Actors.{Acted, IsUnmoved, Stands, Went, now}
+use Rattle.rgo_acts.specs.Actors.{ActorActed, IsUnmoved, IsActorOf, Went, now}
 use Rattle.rgo_acts.specs.Runs.{Run}
-use Rattle.rgo_acts.specs.Talks.{HasDone, HasOffered}
+use Rattle.rgo_acts.specs.Talks.{HasDoneOperation, HasOffered}
 use Rattle.rgo_acts.specs.declared.actors.Actor.{Actor}
 use Rattle.rgo_acts.proofs.AtChannels.{accessed_same, side_offers}
 use Rattle.rgo_acts.proofs.Standing.{Continues, acted_by, now_at_once}
 
 -- ---- what accesses count
 
-pub shows_accessing : (T : Setup) (p : Program) (b : Body) (c : Record) (k : ℕ) → Shows T p b c → Shows T p b (accessing k c)
+pub shows_accessing : (T : Setup) (p : CompactProgram) (b : Body) (c : Record) (k : ℕ) → BodyShows T p b c → BodyShows T p b (accessing k c)
 shows_accessing T p b c k shows =
     let m = accessed_same k c.clock in
     like_shown T p b c (accessing k c) shows (record {
@@ -108,18 +108,18 @@ still_cons a l same rest (suc i) x e = rest i x e
 
 -- ---- what they leave
 
-module _ (r : Run) (a b : Actor) (before : Stands r a) (own : b.seat.table_id ≡ a.seat.table_id) (at_once : b.behind ≡ 0)
+module _ (r : Run) (a b : Actor) (before : IsActorOf r a) (own : b.seat.table_id ≡ a.seat.table_id) (at_once : b.behind ≡ 0)
     (possible : HasPossible r.setup b.seat.me) {s t : ℕ} {list : ℕ → List Access} where
   -- these accesses, after which the record is d
   pub did_by : {d : Record} (n : ℕ) → Did r.setup a.seat.me s list d b.seat.me t → Continues (now r.setup a) d n [] []
-      → Shows r.setup r.program b.body d → Acted r a b n [] []
+      → BodyShows r.setup r.program b.body d → ActorActed r a b n [] []
   did_by {d} n p continues shows =
       acted_by r a b before n [] [] p.made.es own at_once p.made.grew possible
       (subst (λ (e : Record). Continues (now r.setup a) e n [] []) (sym p.made.after) continues)
-      (subst (Shows r.setup r.program b.body) (sym p.made.after) shows)
+      (subst (BodyShows r.setup r.program b.body) (sym p.made.after) shows)
 
   abbrev pub did : {d : Record} (n : ℕ) → Did r.setup a.seat.me s list d b.seat.me t → Continues (now r.setup a) d n [] []
-      → Shows r.setup r.program b.body d → Acted r a b n [] []
+      → BodyShows r.setup r.program b.body d → ActorActed r a b n [] []
   did {d} n p continues shows = record {
     es = p.made.es;
     went = record {
@@ -135,10 +135,10 @@ module _ (r : Run) (a b : Actor) (before : Stands r a) (own : b.seat.table_id �
   pub done : {to : Option ℕ} {action : Action} {others : List ℕ} {at : ℕ} (here : Operates r.setup (now r.setup a) to action others at)
       (there : IsAtChannel r.setup (now r.setup a) at) (k word v : ℕ) → v ≡ word
       → Did r.setup a.seat.me s list (committing r.setup.code (accessing k (now r.setup a)) word) b.seat.me t
-      → Becomes r.program a.body b.body (λ T d. committing T.code d v) → HasDone r a b 1 at
+      → Becomes r.program a.body b.body (λ T d. committing T.code d v) → HasDoneOperation r a b 1 at
   done here there k word v same p becomes = record {
     acted = did 1 p (committing_continues here k word)
-        (subst (λ x. Shows r.setup r.program b.body (committing r.setup.code (accessing k (now r.setup a)) x)) same
+        (subst (λ x. BodyShows r.setup r.program b.body (committing r.setup.code (accessing k (now r.setup a)) x)) same
         (becomes r.setup (accessing k (now r.setup a)) (shows_accessing r.setup r.program a.body (now r.setup a) k before.shows)));
     there = there;
   }
@@ -154,8 +154,8 @@ module _ (r : Run) (a b : Actor) (before : Stands r a) (own : b.seat.table_id �
 
   -- a try that has come to nothing
   module _ (k : ℕ) (side : SideRec) (p : Did r.setup a.seat.me s list (waited k (now r.setup a) side) b.seat.me t)
-      (shows : Shows r.setup r.program b.body (waited k (now r.setup a) side)) where
-    abbrev pub tried : Acted r a b 0 [] []
+      (shows : BodyShows r.setup r.program b.body (waited k (now r.setup a) side)) where
+    abbrev pub tried : ActorActed r a b 0 [] []
     tried = did 0 p (waited_continues k (now r.setup a) side) shows
 
     pub now_is : now r.setup b ≡ waited k (now r.setup a) side
@@ -179,14 +179,14 @@ module _ (r : Run) (a b : Actor) (before : Stands r a) (own : b.seat.table_id �
 
 -- ---- nothing was tried
 
-module _ (r : Run) (a b : Actor) (before : Stands r a) (own : b.seat.table_id ≡ a.seat.table_id) (me : b.seat.me ≡ a.seat.me)
+module _ (r : Run) (a b : Actor) (before : IsActorOf r a) (own : b.seat.table_id ≡ a.seat.table_id) (me : b.seat.me ≡ a.seat.me)
     (behind : b.behind ≡ a.behind) (body : b.body ≡ a.body) where
   pub nothing_is : now r.setup b ≡ now r.setup a
   nothing_is = ap (λ (x : Me Record). settled r.setup b.behind x) me ∙ ap (λ q. settled r.setup q a.seat.me) behind
 
   pub nothing_went : Went r.setup a b 0 [] [] []
   nothing_went = record {
-    grew = subst (Grew accesses (first_of r.setup.code) a.seat.me []) (sym me)
+    grew = subst (SeatGrew accesses (first_of r.setup.code) a.seat.me []) (sym me)
         (grew_none accesses (first_of r.setup.code) a.seat.me before.alone);
     steps = let k = ap steps_of nothing_is in omega (arith, k);
     prints = ap (λ (d : Record). d.clock.prints) nothing_is ∙ sym (append-nil (now r.setup a).clock.prints);
@@ -194,18 +194,18 @@ module _ (r : Run) (a b : Actor) (before : Stands r a) (own : b.seat.table_id �
     first = ap (λ (d : Record). d.clock.first) nothing_is;
   }
 
-  pub nothing_stands : Stands r b
+  pub nothing_stands : IsActorOf r b
   nothing_stands = record {
     own = own ∙ before.own;
     alone = subst (HasOne r.setup) (sym me) before.alone;
     settles = subst (Settles r.setup b.behind) (sym me) (subst (λ q. Settles r.setup q a.seat.me) (sym behind) before.settles);
     possible = subst (λ (x : Me Record). IsPossible r.setup (number_of x) (now r.setup b)) (sym me)
         (subst (IsPossible r.setup (number_of a.seat.me)) (sym nothing_is) before.possible);
-    shows = subst (λ (x : Body). Shows r.setup r.program x (now r.setup b)) (sym body)
-        (subst (Shows r.setup r.program a.body) (sym nothing_is) before.shows);
+    shows = subst (λ (x : Body). BodyShows r.setup r.program x (now r.setup b)) (sym body)
+        (subst (BodyShows r.setup r.program a.body) (sym nothing_is) before.shows);
   }
 
-  abbrev pub nothing : Acted r a b 0 [] []
+  abbrev pub nothing : ActorActed r a b 0 [] []
   nothing = record { es = []; went = nothing_went; stands = nothing_stands }
 
   pub nothing_moved : IsUnmoved r.setup a b []

@@ -15,7 +15,7 @@ use Rattle.rgo_core.specs.Rule.declared.accesses.Kind.TheVariants.{LoadControl, 
 use Rattle.rgo_core_steps.specs.Grown.{Found}
 use Rattle.rgo_sound.specs.Typed.declared.actions.Action.TheVariants.{Send}
 use Rattle.rgo_acts.specs.WaitExamples.{WaitExamples, place}
-use Rattle.rgo_acts.specs.Waits.{HasChanged, IsLocked, Loses, Offers, Receives, ReceivesOnNil, Sends, SendsOnNil, Waits}
+use Rattle.rgo_acts.specs.Waits.{HasChanged, IsLocked, Loses, Offers, Receives, ReceivesOnNil, Sends, SendsOnNil, WaitsAtChannel}
 
 -- the only access that was made is the one that found it
 found_one : (x : Access) (kind : Kind) (i n : ℕ) → Found 0 (x ∷ []) kind i n → (x.kind ≡ kind) × (x.found ≡ n)
@@ -31,7 +31,7 @@ found_one x kind i n f = by f.place f.there
 found_none : (kind : Kind) (i n : ℕ) → Found 0 [] kind i n → ⊥
 found_none kind i n f = some-ne-none f.access (sym f.there)
 
-unseen : (T : Setup) (c : Record) (at : ℕ) → Waits T 0 c [] (Some at) → ⊥
+unseen : (T : Setup) (c : Record) (at : ℕ) → WaitsAtChannel T 0 c [] (Some at) → ⊥
 unseen T c at (Sends k value size n is here size_is control_is full) = found_none LoadControl k n control_is
 unseen T c at (Receives k size n is here size_is control_is empty) = found_none LoadControl k n control_is
 unseen T c at (SendsOnNil value is before) = absurd (cc is)

@@ -10,7 +10,7 @@ use Rattle.rgo_core_steps.specs.Grown.{Found}
 use Rattle.rgo_core_steps.proofs.Growing.{found_left, found_right}
 use Rattle.rgo_chan.proofs.Carrying.{at_as, receives_as, sends_as, there_as}
 use Rattle.rgo_chan.proofs.Waiting.{lock_waits, nil_receive_waits, nil_send_waits, offer_waits, receive_waits, send_waits}
-use Rattle.rgo_acts.specs.Waits.{FoundNow, HasChanged, IsLocked, Loses, LosesBlocked, Offers, Receives, ReceivesOnNil, Sends, SendsOnNil, Waits, WaitsBlocked}
+use Rattle.rgo_acts.specs.Waits.{FoundNow, HasChanged, IsLocked, Loses, LosesBlocked, Offers, Receives, ReceivesOnNil, Sends, SendsOnNil, WaitsAtChannel, WaitsBlocked}
 
 found_now : (words : List ℕ) (g : ℕ) (es : List Access) (kind : Kind) (i n : ℕ) → FoundNow words g es → Found g es kind i n
     → slice_index words i ≡ n
@@ -34,7 +34,7 @@ loses_blocked T g c x es at now (HasChanged n k here control_is lock other) =
 -- ---- more accesses
 
 module _ (T : Setup) (g : ℕ) (c : Record) (xs ys : List Access) where
-  pub waits_right : (place : Option ℕ) → Waits T g c ys place → Waits T g c (xs ++ ys) place
+  pub waits_right : (place : Option ℕ) → WaitsAtChannel T g c ys place → WaitsAtChannel T g c (xs ++ ys) place
   waits_right place (Sends at value size n is here size_is control_is full) =
       Sends at value size n is here (found_right g xs ys Load (at + 1) size size_is) (found_right g xs ys LoadControl at n control_is) full
   waits_right place (Receives at size n is here size_is control_is empty) =
@@ -43,7 +43,7 @@ module _ (T : Setup) (g : ℕ) (c : Record) (xs ys : List Access) where
   waits_right place (ReceivesOnNil is before) = ReceivesOnNil is before
   waits_right place (Offers at n is own control_is shut one) = Offers at n is own (found_right g xs ys LoadControl at n control_is) shut one
 
-  pub waits_left : (place : Option ℕ) → Waits T g c xs place → Waits T g c (xs ++ ys) place
+  pub waits_left : (place : Option ℕ) → WaitsAtChannel T g c xs place → WaitsAtChannel T g c (xs ++ ys) place
   waits_left place (Sends at value size n is here size_is control_is full) =
       Sends at value size n is here (found_left g xs ys Load (at + 1) size size_is) (found_left g xs ys LoadControl at n control_is) full
   waits_left place (Receives at size n is here size_is control_is empty) =
@@ -68,7 +68,7 @@ module _ (T : Setup) (g : ℕ) (c d : Record) (es : List Access) (frame : d.fram
   post : d.side.post ≡ c.side.post
   post = ap (λ (k : SideRec). k.post) side
 
-  pub waits_as : (place : Option ℕ) → Waits T g c es place → Waits T g d es place
+  pub waits_as : (place : Option ℕ) → WaitsAtChannel T g c es place → WaitsAtChannel T g d es place
   waits_as place (Sends at value size n is here size_is control_is full) = Sends at value size n is (sends_as d frame here) size_is control_is full
   waits_as place (Receives at size n is here size_is control_is empty) = Receives at size n is (receives_as d frame here) size_is control_is empty
   waits_as place (SendsOnNil value is b) = SendsOnNil value is (record {

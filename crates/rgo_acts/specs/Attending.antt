@@ -1,11 +1,11 @@
 -- What an act leaves that attends to the first duty of a goroutine.
 use Rattle.std.specs.Prelude.{◌≡◌, ◌+◌, ◌<◌, List, [], ◌∷◌}
 use Rattle.rgo_body.specs.Bodies.{CanCount}
-use Rattle.rgo_body.specs.Duties.{HasDone}
+use Rattle.rgo_body.specs.Duties.{HasDoneDuty}
 use Rattle.rgo_body.specs.declared.bodies.Side.TheVariants.{AtRest}
 use Rattle.rgo_core.specs.Rule.Views.{number_of}
 use Rattle.rgo_sound.specs.RegionMachine.States.{Duty}
-use Rattle.rgo_acts.specs.Actors.{Acted, IsUnmoved, Stands, distance, now}
+use Rattle.rgo_acts.specs.Actors.{ActorActed, IsUnmoved, IsActorOf, distance, now}
 use Rattle.rgo_acts.specs.Runs.{Run}
 use Rattle.rgo_acts.specs.Shortages.{LacksSlot}
 use Rattle.rgo_acts.specs.declared.actors.Actor.{Actor}
@@ -14,7 +14,7 @@ use Rattle.rgo_acts.specs.declared.duties.Attended.TheVariants.{Done, NoMemory, 
 
 -- It owes this duty first, and knows of no channel; what the duty does can be counted.
 pub record IsAtDuty (r : Run) (a : Actor) (d : Duty) : Type 0 where
-  pub stands : Stands r a
+  pub stands : IsActorOf r a
   pub others : List Duty
   pub owes : a.body.queue.duties ≡ d ∷ others
   pub rests : a.body.side ≡ AtRest
@@ -24,19 +24,19 @@ pub record IsAtDuty (r : Run) (a : Actor) (d : Duty) : Type 0 where
 
 -- The first duty is done. Nothing else of the body has changed but what it has of regions and what it has counted.
 pub record HasAttended (r : Run) (a b : Actor) : Type 0 where
-  pub acted : Acted r a b 0 [] []
-  pub done : HasDone a.body b.body
+  pub acted : ActorActed r a b 0 [] []
+  pub done : HasDoneDuty a.body b.body
   pub nearer : distance r.program b.body < distance r.program a.body
 
 -- Some of its first duties are done, each by a local step. Nothing else of the body has changed but what it has of regions and what it
 -- has counted.
 pub record HasAttendedLocally (r : Run) (a b : Actor) : Type 0 where
-  pub acted : Acted r a b 0 [] []
+  pub acted : ActorActed r a b 0 [] []
   pub rest : b.body ≡ record a.body { holding = b.body.holding; queue = b.body.queue; counts = b.body.counts }
 
 -- It owes what it owed.
 pub record HasWaited (r : Run) (a b : Actor) : Type 0 where
-  pub acted : Acted r a b 0 [] []
+  pub acted : ActorActed r a b 0 [] []
   pub rest : b.body ≡ record a.body { holding = b.body.holding }
 
 -- No slot was free for the region that it is to create. It has changed no word.
@@ -45,7 +45,7 @@ pub record IsShort (r : Run) (a b : Actor) : Type 0 where
   pub unmoved : IsUnmoved r.setup a b waited.acted.es
   pub lacks : LacksSlot r.setup (number_of a.seat.me) (now r.setup b) waited.acted.es
 
-abbrev pub Attends : (r : Run) (a b : Actor) → Attended → Type 0
-Attends r a b Done = HasAttended r a b
-Attends r a b Short = IsShort r a b
-Attends r a b NoMemory = HasWaited r a b
+abbrev pub ActorAttends : (r : Run) (a b : Actor) → Attended → Type 0
+ActorAttends r a b Done = HasAttended r a b
+ActorAttends r a b Short = IsShort r a b
+ActorAttends r a b NoMemory = HasWaited r a b

@@ -8,7 +8,7 @@ use Rattle.rgo_core.specs.Core.{Setup}
 use Rattle.rgo_core.specs.Records.{Record}
 use Rattle.rgo_core_steps.specs.Counts.{IsCreating}
 use Rattle.rgo_sound.specs.RegionMachine.States.{Duty}
-use Rattle.rgo_acts.specs.Actors.{IsUnmoved, Stands}
+use Rattle.rgo_acts.specs.Actors.{IsUnmoved, IsActorOf}
 use Rattle.rgo_acts.specs.Attending.{HasAttended, HasWaited, IsAtDuty, IsShort}
 use Rattle.rgo_acts.specs.Runs.{Run}
 use Rattle.rgo_acts.specs.Shortages.{AllInUse, LacksPage, LacksSlot}
@@ -27,7 +27,7 @@ pub record DutyExamples : Type 0 where
   pub nothing_owed : (r : Run) (a : Actor) (d : Duty) → a.body.queue.duties ≡ [] → IsAtDuty r a d → ⊥
   pub other_first : (r : Run) (a : Actor) (d e : Duty) → (d ≡ e → ⊥) → IsAtDuty r a d → IsAtDuty r a e → ⊥
   -- nothing has happened
-  pub waits : (r : Run) (a : Actor) → Stands r a → HasWaited r a a
+  pub waits : (r : Run) (a : Actor) → IsActorOf r a → HasWaited r a a
   pub not_done : (r : Run) (a : Actor) → HasAttended r a a → ⊥
   -- a duty is either done or owed as before
   pub either : (r : Run) (a b : Actor) → HasAttended r a b → HasWaited r a b → ⊥

@@ -10,15 +10,15 @@ use Rattle.rgo_sound.specs.Tac.Code.{Do, Op}
 use Rattle.rgo_sound.specs.Tac.Ops.{operation_of}
 use Rattle.rgo_sound.specs.Typed.declared.actions.Action.TheVariants as action
 use Rattle.rgo_body.specs.declared.nexts.Next.{Next}
-use Rattle.rgo_acts.specs.Actors.{Acted, now}
+use Rattle.rgo_acts.specs.Actors.{ActorActed, now}
 use Rattle.rgo_acts.specs.Ready.{IsBefore}
 use Rattle.rgo_acts.specs.Runs.{Run}
 use Rattle.rgo_acts.specs.declared.actors.Actor.{Actor}
 
--- the goroutine is before its instruction as it was, and has loaded at most what tells where the word is
+-- the goroutine is before its instruction as it was, and has loaded at most what shows where the word is
 pub record HasMeasured (r : Run) (a b : Actor) (next : Next) : Type 0 where
   pub before : IsBefore r b next
-  pub acted : Acted r a b 0 [] []
+  pub acted : ActorActed r a b 0 [] []
   pub body : b.body ≡ a.body
 
 -- ---- spread objects
@@ -39,7 +39,7 @@ IsAtElementOf op p q = ((to : ℕ) × (op ≡ Do (Some to) action.At (p ∷ q �
     ⊎ ((r : ℕ) × (op ≡ Do None action.Put (p ∷ q ∷ r ∷ [])))
 
 -- the slice has the element, which lies in this word of the table
-pub record HasElement (r : Run) (a b : Actor) (next : Next) (p q word : ℕ) : Type 0 where
+pub record ActorHasElement (r : Run) (a b : Actor) (next : Next) (p q word : ℕ) : Type 0 where
   pub measured : HasMeasured r a b next
   pub address : ℕ
   pub points : (w : _) (ws : List _) → (now r.setup b).frame.frames ≡ w ∷ ws → word_at w p ≡ suc address

@@ -1,13 +1,12 @@
 -- New objects: what an act leaves that makes one, and what is known of it before its words are stored.
 use Rattle.std.specs.Prelude.{◌≡◌, ◌+◌, ◌*◌, ◌<◌, ◌≤◌, ◌==◌, ℕ, suc, List, Option, Some, None, [], if◌then◌else◌, length, slice_index}
 use Rattle.rgo_core.specs.Channels.Records.{at_rest}
-use Rattle.rgo_core_facts.specs.MemoryObjects.{HasNoRoom, NewObject, data_pages_of}
-use Rattle.rgo_core.specs.Memory.Records.{Rest}
+use Rattle.rgo_core_facts.specs.MemoryObjects.{PageHasNoRoom, NewObject, data_pages_of}
+use Rattle.rgo_core.specs.Memory.Records.{Rest, page_of}
 use Rattle.rgo_core.specs.Rule.Views.{number_of}
 use Rattle.rgo_core.specs.Core.{Setup}
 use Rattle.rgo_core.specs.Records.{Record}
-use Rattle.rgo_core_steps.specs.Ends.{Ends}
-use Rattle.rgo_core_steps.specs.Making.{page_of}
+use Rattle.rgo_core_steps.specs.Ends.{GoroutineEndsRun}
 use Rattle.rgo_holding.specs.Holds.{region_at}
 use Rattle.rgo_holding.specs.Known.{own_page, slot_of}
 use Rattle.rgo_holding.specs.declared.entries.Page.{Page}
@@ -21,7 +20,7 @@ use Rattle.rgo_sound.specs.RegionMachine.declared.limits.Limit.TheVariants.{Obje
 use Rattle.rgo_sound.specs.RegionMachine.declared.regions.Region.{Region}
 use Rattle.rgo_body.specs.declared.bodies.Body.{Body}
 use Rattle.rgo_body.specs.declared.nexts.Next.{Next}
-use Rattle.rgo_acts.specs.Actors.{Acted, IsUnmoved, now}
+use Rattle.rgo_acts.specs.Actors.{ActorActed, IsUnmoved, now}
 use Rattle.rgo_acts.specs.Ready.{IsBefore}
 use Rattle.rgo_acts.specs.Runs.{Run}
 use Rattle.rgo_acts.specs.Shortages.{LacksPage}
@@ -35,8 +34,8 @@ use Rattle.rgo_acts.specs.declared.objects.New.{New}
 
 -- The object has more data pages than an object may have, which is a cause to end the run.
 pub record IsTooLarge (r : Run) (a b : Actor) : Type 0 where
-  pub acted : Acted r a b 0 [] []
-  pub ends : Ends r.setup (number_of b.seat.me) (now r.setup b) (Stopped ObjectSize)
+  pub acted : ActorActed r a b 0 [] []
+  pub ends : GoroutineEndsRun r.setup (number_of b.seat.me) (now r.setup b) (Stopped ObjectSize)
 
 -- body d is b, but for the room in its list of reserved pages
 abbrev pub IsAsBefore : (before after : Body) → Type 0
@@ -44,31 +43,31 @@ IsAsBefore b d = d ≡ record b { reserved = record b.reserved { room = d.reserv
 
 -- It needs a page, and each was found in use. It is as it was, and has changed no word.
 pub record HasNoPage (r : Run) (a b : Actor) : Type 0 where
-  pub acted : Acted r a b 0 [] []
+  pub acted : ActorActed r a b 0 [] []
   pub unmoved : IsUnmoved r.setup a b acted.es
   pub body : IsAsBefore a.body b.body
   pub lacks : LacksPage r.setup (number_of a.seat.me) (now r.setup b) acted.es
 
 -- It has claimed pages for a spread object. It needs one more, and each was found in use.
 pub record HasTooFewPages (r : Run) (a b : Actor) : Type 0 where
-  pub acted : Acted r a b 0 [] []
+  pub acted : ActorActed r a b 0 [] []
   pub lacks : LacksPage r.setup (number_of a.seat.me) (now r.setup b) acted.es
 
 -- Memory ran out before it had made an access.
 pub record HasNoMemory (r : Run) (a b : Actor) : Type 0 where
-  pub acted : Acted r a b 0 [] []
+  pub acted : ActorActed r a b 0 [] []
   pub seat : b.seat ≡ a.seat
   pub body : IsAsBefore a.body b.body
 
-abbrev pub Makes : (r : Run) (a b : Actor) → Made → Type 0
-Makes r a b made.Done = Acted r a b 1 [] []
-Makes r a b (made.Trap trap) = IsAtTrap r a b trap
-Makes r a b made.TooLarge = IsTooLarge r a b
-Makes r a b made.Short = HasNoPage r a b
-Makes r a b made.Partly = HasTooFewPages r a b
-Makes r a b made.NoMemory = HasNoMemory r a b
+abbrev pub ActorMakes : (r : Run) (a b : Actor) → Made → Type 0
+ActorMakes r a b made.Done = ActorActed r a b 1 [] []
+ActorMakes r a b (made.Trap trap) = IsAtTrap r a b trap
+ActorMakes r a b made.TooLarge = IsTooLarge r a b
+ActorMakes r a b made.Short = HasNoPage r a b
+ActorMakes r a b made.Partly = HasTooFewPages r a b
+ActorMakes r a b made.NoMemory = HasNoMemory r a b
 
--- How many accesses it takes at the most to make an object with so many words, `before` of which are before its cells: a search and a
+-- How many accesses it takes at the most to make an object of this many words, `before` of which precede its cells: a search and a
 -- claim for each of its pages, and a store of each of its words and page numbers.
 abbrev pub most_steps : Setup → (words before : ℕ) → ℕ
 most_steps T words before = (data_pages_of T.sizes.page_words words before + 1) * (T.sizes.pages + 2)
@@ -88,7 +87,7 @@ pub record IsNew (T : Setup) (c : Record) (k : Holding) (new : New) : Type 0 whe
   pub few : new.before ≤ 2
   pub object : NewObject T c (slot_of T.sizes.regions region) new.words new.before (opens new.place new.value)
 
--- an object with so many words, `before` of which are before its cells, has no more data pages than an object may have
+-- an object of this many words, `before` of which precede its cells, has at most as many data pages as an object may have
 abbrev pub IsSmall : Setup → (words before : ℕ) → Type 0
 IsSmall T words before = data_pages_of T.sizes.page_words words before ≤ most_data_pages T.sizes.page_words
 
@@ -101,7 +100,7 @@ pub record Wants (T : Setup) (g : ℕ) (c : Record) (fn : CodeFn) (to words befo
   pub some : 0 < words
   pub few : before ≤ 2
   pub fits : IsSmall T words before → NewObject T c (slot_of T.sizes.regions region) words before (opens place value)
-  pub large : most_data_pages T.sizes.page_words < data_pages_of T.sizes.page_words words before → Ends T g c (Stopped ObjectSize)
+  pub large : most_data_pages T.sizes.page_words < data_pages_of T.sizes.page_words words before → GoroutineEndsRun T g c (Stopped ObjectSize)
 
 -- this is the object that the next instruction makes, and it is not too large
 pub record CanMake (r : Run) (a : Actor) (new : New) : Type 0 where
@@ -119,9 +118,9 @@ HasNoRoomIn n words (Some page) = n < page.fill + words
 -- the goroutine has no own page with room for it
 abbrev pub HasNoRoomHere : (r : Run) (a : Actor) → New → Type 0
 HasNoRoomHere r a new = (region : Region) → region_at a.body.holding new.key ≡ Some region
-    → HasNoRoom r.setup.sizes.page_words new.words (page_of (slot_of r.setup.sizes.regions region) (now r.setup a).memory.fills)
+    → PageHasNoRoom r.setup.sizes.page_words new.words (page_of (slot_of r.setup.sizes.regions region) (now r.setup a).memory.fills)
 
--- The words of the next object go behind what is filled of this page, its own one for this slot.
+-- The words of the next object go after what is filled of this page, its own one for this slot.
 pub record IsPlaced (T : Setup) (c : Record) (slot : ℕ) (page : Page) (new : New) : Type 0 where
   pub object : NewObject T c slot new.words new.before (opens new.place new.value)
   pub is_page : page_of slot c.memory.fills ≡ Some (own_page slot page)
@@ -134,7 +133,7 @@ pub record IsPlaced (T : Setup) (c : Record) (slot : ℕ) (page : Page) (new : N
 -- The goroutine is before its instruction, and this is the page for the object.
 pub record HasPage (r : Run) (a b : Actor) (next : Next) (new : New) (page : Page) : Type 0 where
   pub before : IsBefore r b next
-  pub acted : Acted r a b 0 [] []
+  pub acted : ActorActed r a b 0 [] []
   pub objects : b.body.counts.objects ≡ a.body.counts.objects
   pub region : Region
   pub at_key : region_at b.body.holding new.key ≡ Some region
@@ -145,7 +144,7 @@ pub record HasPage (r : Run) (a b : Actor) (next : Next) (new : New) (page : Pag
 -- The goroutine is before its instruction, and n pages more are reserved for the object.
 pub record HasReserved (r : Run) (a b : Actor) (next : Next) (new : New) (n : ℕ) : Type 0 where
   pub before : IsBefore r b next
-  pub acted : Acted r a b 0 [] []
+  pub acted : ActorActed r a b 0 [] []
   pub is_new : IsNew r.setup (now r.setup b) b.body.holding new
   pub pages : length b.body.reserved.pages ≡ length a.body.reserved.pages + n
   pub room : b.body.reserved.room + n ≡ a.body.reserved.room
@@ -168,7 +167,7 @@ pub record IsPlacedApart (T : Setup) (c : Record) (pages : List ℕ) (new : New)
 -- All pages of the next object, which is spread, are reserved, and the goroutine is before its instruction.
 pub record HasAllPages (r : Run) (a b : Actor) (next : Next) (new : New) : Type 0 where
   pub before : IsBefore r b next
-  pub acted : Acted r a b 0 [] []
+  pub acted : ActorActed r a b 0 [] []
   pub is_new : IsNew r.setup (now r.setup b) b.body.holding new
   pub all : length b.body.reserved.pages ≡ suc (data_pages_of r.setup.sizes.page_words new.words new.before)
   pub objects : b.body.counts.objects ≡ a.body.counts.objects

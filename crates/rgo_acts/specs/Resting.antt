@@ -14,7 +14,7 @@ use Rattle.rgo_core.specs.Core.{Here, Setup}
 use Rattle.rgo_core.specs.Next.{IsAt}
 use Rattle.rgo_core.specs.Records.{Record}
 use Rattle.rgo_body.specs.Bodies.{frames_in}
-use Rattle.rgo_body.specs.Programs.{Program}
+use Rattle.rgo_body.specs.Programs.{CompactProgram}
 use Rattle.rgo_body.specs.declared.bodies.Body.{Body}
 
 -- an operation on a channel
@@ -22,7 +22,7 @@ abbrev pub IsTalk : Op → Type 0
 IsTalk op = (to : Option ℕ) × (act : Action) × (from : List ℕ) × IsOfChannel act × (op ≡ Do to act from)
 
 -- the body owes no duty of its queue, and its newest frame is at such an operation
-pub record IsAtTalk (p : Program) (b : Body) : Type 0 where
+pub record IsAtTalk (p : CompactProgram) (b : Body) : Type 0 where
   pub queue : b.queue.duties ≡ []
   pub w : WordFrame
   pub ws : List WordFrame

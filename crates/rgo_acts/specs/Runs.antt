@@ -5,7 +5,7 @@ use Rattle.rgo_sound.specs.Machine.declared.limits.Limits.{Limits}
 use Rattle.rgo_core.specs.Memory.declared.layout.TableSizes.{TableSizes}
 use Rattle.rgo_core.specs.Core.{Setup}
 use Rattle.rgo_core_steps.specs.Layouts.{HasLayout}
-use Rattle.rgo_body.specs.Programs.{Program}
+use Rattle.rgo_body.specs.Programs.{CompactProgram}
 
 -- what its table was made for, the table, the sizes of it, the limits, and the program
 pub record Run : Type 0 where
@@ -13,7 +13,7 @@ pub record Run : Type 0 where
   pub table : TableId
   pub sizes : TableSizes
   pub limits : Limits
-  pub program : Program
+  pub program : CompactProgram
 
 -- all of one table
 pub record IsRun (r : Run) : Type 0 where

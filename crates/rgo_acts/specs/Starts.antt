@@ -7,7 +7,7 @@ use Rattle.rgo_core.specs.Records.{blank}
 use Rattle.rgo_core_steps.specs.After.{child as child_of}
 use Rattle.rgo_sound.specs.Machine.Limits.{most_goroutines}
 use Rattle.rgo_sound.specs.RegionMachine.declared.limits.Limit.TheVariants.{Goroutines}
-use Rattle.rgo_acts.specs.Actors.{Acted, Stands, now}
+use Rattle.rgo_acts.specs.Actors.{ActorActed, IsActorOf, now}
 use Rattle.rgo_acts.specs.Runs.{Run}
 use Rattle.rgo_acts.specs.Limits.{IsAtLimit}
 use Rattle.rgo_acts.specs.declared.actors.Actor.{Actor}
@@ -16,8 +16,8 @@ use Rattle.rgo_acts.specs.declared.starts.Outcome.TheVariants.{Refused, Started}
 
 -- It has started goroutine n, which is before its first instruction, and whose seat has seen what its own has.
 pub record HasStarted (r : Run) (a b : Actor) (n : ℕ) (child : Actor) : Type 0 where
-  pub acted : Acted r a b 1 [] (n ∷ [])
-  pub stands : Stands r child
+  pub acted : ActorActed r a b 1 [] (n ∷ [])
+  pub stands : IsActorOf r child
   pub settled : child.behind ≡ 0
   pub number : number_of child.seat.me ≡ n
   pub within : n < most_goroutines r.setup.limits
@@ -28,6 +28,6 @@ pub record HasStarted (r : Run) (a b : Actor) (n : ℕ) (child : Actor) : Type 0
   pub rests : (now r.setup child).side ≡ at_rest
 
 -- it has, or a number was refused to it
-abbrev pub Starts : Run → (before after : Actor) → Outcome → Type 0
-Starts r a b (Started n child) = HasStarted r a b n child
-Starts r a b Refused = IsAtLimit r a b Goroutines
+abbrev pub ActorStarts : Run → (before after : Actor) → Outcome → Type 0
+ActorStarts r a b (Started n child) = HasStarted r a b n child
+ActorStarts r a b Refused = IsAtLimit r a b Goroutines

@@ -13,31 +13,31 @@ use Rattle.rgo_chan.specs.declared.answers.Tried.TheVariants as tried
 use Rattle.rgo_sound.specs.Memory.declared.traps.Trap.{Trap}
 use Rattle.rgo_sound.specs.Memory.declared.traps.Trap.TheVariants.{CloseClosed, SendClosed}
 use Rattle.rgo_body.specs.Bodies.{HasRoomBehind, IsReady}
-use Rattle.rgo_body.specs.Programs.{Program}
-use Rattle.rgo_body.specs.Shows.{Shows}
+use Rattle.rgo_body.specs.Programs.{CompactProgram}
+use Rattle.rgo_body.specs.Shows.{BodyShows}
 use Rattle.rgo_body.specs.Steps.{Becomes}
 use Rattle.rgo_body.specs.declared.bodies.Body.{Body}
 use Rattle.rgo_body.specs.declared.bodies.Side.TheVariants.{Offering}
 use Rattle.rgo_body.specs.declared.nexts.Next.{Next}
-use Rattle.rgo_acts.specs.Actors.{Acted, IsUnmoved, Stands, now}
+use Rattle.rgo_acts.specs.Actors.{ActorActed, IsUnmoved, IsActorOf, now}
 use Rattle.rgo_acts.specs.Runs.{Run}
 use Rattle.rgo_acts.specs.Traps.{IsAtTrap}
-use Rattle.rgo_acts.specs.Waits.{Loses, Waits}
+use Rattle.rgo_acts.specs.Waits.{Loses, WaitsAtChannel}
 use Rattle.rgo_acts.specs.declared.actors.Actor.{Actor}
 use Rattle.rgo_acts.specs.declared.channels.Talked.{Talked}
 use Rattle.rgo_acts.specs.declared.channels.Talked.TheVariants as talked
 
 -- It owes nothing before this instruction, its next one, and has no offer; there is room for what it owes after it.
 pub record CanTry (r : Run) (a : Actor) (next : Next) : Type 0 where
-  pub stands : Stands r a
+  pub stands : IsActorOf r a
   pub ready : IsReady r.program a.body next
   pub none : (at : ℕ) → a.body.side ≡ Offering at → ⊥
   pub room : HasRoomBehind a.body next
   pub count : a.body.counts.steps + 1 < 18446744073709551616
 
 -- Its offer is at the channel whose control is word `at`. It owes nothing before its send; there is room for what it owes after it.
-pub record CanAcknowledge (r : Run) (a : Actor) (next : Next) (at : ℕ) : Type 0 where
-  pub stands : Stands r a
+pub record ActorCanAcknowledge (r : Run) (a : Actor) (next : Next) (at : ℕ) : Type 0 where
+  pub stands : IsActorOf r a
   pub ready : IsReady r.program a.body next
   pub offers : a.body.side ≡ Offering at
   pub room : HasRoomBehind a.body next
@@ -45,30 +45,30 @@ pub record CanAcknowledge (r : Run) (a : Actor) (next : Next) (at : ℕ) : Type 
 -- ---- what it leaves
 
 -- the operation has taken effect, as its nth instruction or by none
-pub record HasDone (r : Run) (a b : Actor) (n at : ℕ) : Type 0 where
-  pub acted : Acted r a b n [] []
+pub record HasDoneOperation (r : Run) (a b : Actor) (n at : ℕ) : Type 0 where
+  pub acted : ActorActed r a b n [] []
   pub there : IsAtChannel r.setup (now r.setup a) at
 
 -- its offer is there
 pub record HasOffered (r : Run) (a b : Actor) (at : ℕ) : Type 0 where
-  pub acted : Acted r a b 0 [] []
+  pub acted : ActorActed r a b 0 [] []
   pub offers : b.body.side ≡ Offering at
 
 -- the channel was not ready
 pub record IsWaiting (r : Run) (a b : Actor) (place : Option ℕ) : Type 0 where
-  pub acted : Acted r a b 0 [] []
+  pub acted : ActorActed r a b 0 [] []
   pub unmoved : IsUnmoved r.setup a b acted.es
-  pub waits : Waits r.setup (number_of a.seat.me) (now r.setup b) acted.es place
+  pub waits : WaitsAtChannel r.setup (number_of a.seat.me) (now r.setup b) acted.es place
 
 -- another goroutine was at it
 pub record HasLost (r : Run) (a b : Actor) (at : ℕ) : Type 0 where
-  pub acted : Acted r a b 0 [] []
+  pub acted : ActorActed r a b 0 [] []
   pub unmoved : IsUnmoved r.setup a b acted.es
   pub loses : Loses r.setup (number_of a.seat.me) (now r.setup b) acted.es at
 
--- all answers; what was done counts as n instructions
+-- all results; what was done counts as n instructions
 abbrev pub Talks : (r : Run) (a b : Actor) (n : ℕ) → Talked → Type 0
-Talks r a b n (talked.Done at) = HasDone r a b n at
+Talks r a b n (talked.Done at) = HasDoneOperation r a b n at
 Talks r a b n (talked.Offered at) = HasOffered r a b at
 Talks r a b n (talked.Waits place) = IsWaiting r a b place
 Talks r a b n (talked.Lost at) = HasLost r a b at
@@ -102,17 +102,17 @@ OfAcknowledgement (talked.Trap trap) = ⊤
 -- ---- the body after a try
 
 -- it shows a record that has made accesses and knows something of a channel that it has not locked
-abbrev pub Tries : Program → (before after : Body) → Type 0
-Tries p b d = (T : Setup) (c : Record) (n : ℕ) (side : sides.Rec) → Shows T p b c → side.hold ≡ sides.Free → side.post ≡ sides.Nowhere
-    → Shows T p d (waited n c side)
+abbrev pub TriesOperation : CompactProgram → (before after : Body) → Type 0
+TriesOperation p b d = (T : Setup) (c : Record) (n : ℕ) (side : sides.Rec) → BodyShows T p b c → side.hold ≡ sides.Free → side.post ≡ sides.Nowhere
+    → BodyShows T p d (waited n c side)
 
--- the same of each answer of a try
-abbrev pub Concludes : Program → (before after : Body) → (at : ℕ) → Tried → Type 0
-Concludes p b d at (tried.Done word) = Becomes p b d (λ T c. committing T.code c word)
-Concludes p b d at tried.Offered = Becomes p b d (λ T c. offers c at)
-Concludes p b d at tried.NotReady = Tries p b d
-Concludes p b d at (tried.Busy found) = Tries p b d
-Concludes p b d at (tried.Trap number) = Tries p b d
+-- the same of each result of a try
+abbrev pub TryConcludes : CompactProgram → (before after : Body) → (at : ℕ) → Tried → Type 0
+TryConcludes p b d at (tried.Done word) = Becomes p b d (λ T c. committing T.code c word)
+TryConcludes p b d at tried.Offered = Becomes p b d (λ T c. offers c at)
+TryConcludes p b d at tried.NotReady = TriesOperation p b d
+TryConcludes p b d at (tried.Busy found) = TriesOperation p b d
+TryConcludes p b d at (tried.Trap number) = TriesOperation p b d
 
 -- the trap with this number, if it is that of a channel that is closed
 pub record IsNumbered (number : ℕ) (trap : Trap) : Type 0 where

@@ -1,4 +1,4 @@
--- Goroutines that cannot continue at a channel, and such as can.
+-- Goroutines that cannot continue at a channel, and some that can.
 use Rattle.std.specs.Prelude.{◌≡◌, ◌+◌, ℕ, [], ◌∷◌, None, Some}
 use Rattle.rgo_chan.specs.Answers.{loads_control, looks}
 use Rattle.rgo_chan.specs.Examples.{before, on_nil}
@@ -16,7 +16,7 @@ use Rattle.rgo_sound.specs.Typed.declared.actions.Action.TheVariants.{Send}
 use Rattle.rgo_acts.specs.Resting.{IsTalk}
 use Rattle.rgo_acts.specs.Runs.{Run}
 use Rattle.rgo_acts.specs.Talks.{CanTry, IsNumbered, OfClose, OfReceive}
-use Rattle.rgo_acts.specs.Waits.{Loses, Waits}
+use Rattle.rgo_acts.specs.Waits.{Loses, WaitsAtChannel}
 use Rattle.rgo_acts.specs.declared.actors.Actor.{Actor}
 use Rattle.rgo_acts.specs.declared.channels.Talked.TheVariants as talked
 
@@ -27,10 +27,10 @@ place sizes limits = base (layout (sending sizes limits)) + 5
 pub record WaitExamples : Type 0 where
   -- the buffer has two cells and two values
   pub full : (sizes : Sizes) (limits : Limits)
-      → Waits (sending sizes limits) 0 before (looks (place sizes limits) 2 8 0) (Some (place sizes limits))
-  pub send_on_nil : (sizes : Sizes) (limits : Limits) → Waits (sending sizes limits) 0 on_nil [] None
+      → WaitsAtChannel (sending sizes limits) 0 before (looks (place sizes limits) 2 8 0) (Some (place sizes limits))
+  pub send_on_nil : (sizes : Sizes) (limits : Limits) → WaitsAtChannel (sending sizes limits) 0 on_nil [] None
   -- it has looked at no channel
-  pub unseen : (T : Setup) (c : Record) (at : ℕ) → Waits T 0 c [] (Some at) → ⊥
+  pub unseen : (T : Setup) (c : Record) (at : ℕ) → WaitsAtChannel T 0 c [] (Some at) → ⊥
   -- the control was 5 where its offer is
   pub locked : (T : Setup) → Loses T 0 offered (loads_control 700 5 0 ∷ []) 700
   -- it was 4

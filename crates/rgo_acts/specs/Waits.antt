@@ -12,19 +12,19 @@ use Rattle.rgo_core.specs.Core.{Here, Setup}
 use Rattle.rgo_core.specs.Records.{Record}
 use Rattle.rgo_core_steps.specs.Grown.{Found}
 use Rattle.rgo_chan.specs.Before.{IsBeforeReceive, IsBeforeSend, ReceivesAt, SendsAt}
-use Rattle.rgo_chan.specs.Ready.{IsEmpty, IsFull, IsOffered, IsOpen}
+use Rattle.rgo_chan.specs.Ready.{IsEmpty, IsBufferFull, IsOffered, IsOpen}
 
 -- Goroutine g, whose record is c, is before an operation that was not ready: a send on a full channel, a receive from an empty one, or
 -- either on nil; or its own offer was not taken. `place` is the word of the channel's control, if the channel is not nil.
-pub data Waits (T : Setup) (g : ℕ) (c : Record) (es : List Access) (place : Option ℕ) : Type 0 where
+pub data WaitsAtChannel (T : Setup) (g : ℕ) (c : Record) (es : List Access) (place : Option ℕ) : Type 0 where
   Sends : (at value size n : ℕ) → place ≡ Some at → SendsAt T c at value → Found g es Load (at + 1) size → Found g es LoadControl at n
-      → IsFull size n → Waits T g c es place
+      → IsBufferFull size n → WaitsAtChannel T g c es place
   Receives : (at size n : ℕ) → place ≡ Some at → ReceivesAt T c at → Found g es Load (at + 1) size → Found g es LoadControl at n
-      → IsEmpty size n → Waits T g c es place
-  SendsOnNil : (value : ℕ) → place ≡ None → IsBeforeSend T c 0 value → Waits T g c es place
-  ReceivesOnNil : place ≡ None → IsBeforeReceive T c 0 → Waits T g c es place
+      → IsEmpty size n → WaitsAtChannel T g c es place
+  SendsOnNil : (value : ℕ) → place ≡ None → IsBeforeSend T c 0 value → WaitsAtChannel T g c es place
+  ReceivesOnNil : place ≡ None → IsBeforeReceive T c 0 → WaitsAtChannel T g c es place
   Offers : (at n : ℕ) → place ≡ Some at → c.side.post ≡ Offering at → Found g es LoadControl at n → IsOpen n → IsOffered n
-      → Waits T g c es place
+      → WaitsAtChannel T g c es place
 
 -- Another goroutine was at the channel whose control is word `at`: the control was locked; or it was another one when it was to be
 -- locked than when it was loaded.
@@ -41,7 +41,7 @@ FoundNow words g es = (i : ℕ) (a : Access) → get_elem? es i ≡ some a → a
 -- then the goroutine is blocked
 abbrev pub WaitsBlocked : Type 0
 WaitsBlocked = (T : Setup) (g : ℕ) (c : Record) (x : Here T g c) (es : List Access) (place : Option ℕ) → FoundNow x.words g es
-    → Waits T g c es place → Blocked (moment x) g c.side
+    → WaitsAtChannel T g c es place → Blocked (moment x) g c.side
 
 abbrev pub LosesBlocked : Type 0
 LosesBlocked = (T : Setup) (g : ℕ) (c : Record) (x : Here T g c) (es : List Access) (at : ℕ) → FoundNow x.words g es

@@ -1,4 +1,5 @@
-//! Goroutines at the table.
+//! Goroutines at the table: a seat, a body, and where the next searches begin. The seat and the body change together, in the acts
+//! of this crate alone, so that the body shows the record of the seat between any two of them.
 ghost use Rattle.std.specs.Prelude.{◌≤◌};
 ghost use Rattle.rgo_acts.specs.ActorExamples.{ActorExamples};
 
@@ -18,7 +19,7 @@ pub struct Actor {
     pub body: Body,
 }
 
-/// Where a goroutine searches for free pages and for free slots. No clause speaks of these places, since a search goes once around
+/// Where a goroutine searches for free pages and for free slots. No clause speaks of these places: a search goes once around
 /// wherever it begins.
 #[derive(Clone, Copy)]
 pub struct Searches {
@@ -35,7 +36,7 @@ impl Searches {
         }
     }
 
-    /// A region was removed whose slot and pages this goroutine has given back, among them the page that it filled there, if it did.
+    /// A region was removed whose slot and pages this goroutine has returned, among them the page that it filled there, if it did.
     pub(crate) fn freed(&mut self, slot: u32, own: Option<Page>) {
         self.slots.near = slot;
         if let Some(own) = own {
@@ -46,14 +47,14 @@ impl Searches {
 
 /// Where the next search for one of several places begins.
 ///
-/// A goroutine that makes and removes regions in turn takes again what it gave back last: the cache of its processor has that still.
-/// Where that is in use, it searches behind the last place that it found: before that lies what it has often taken itself, and it
-/// would look at all of it again.
+/// A goroutine that makes and removes regions in turn takes again what it gave back last: the cache of its processor has that
+/// still. If that is in use, it searches after the last place that it found: it has often taken the places before that itself, and
+/// would look at all of them again.
 #[derive(Clone, Copy)]
 pub(crate) struct Search {
-    /// The place that was given back last, or the one behind what was found near it.
+    /// The place that was returned last, or the one after what was found near it.
     near: u32,
-    /// The place behind the last one that was found elsewhere.
+    /// The place after the last one that was found elsewhere.
     next: u32,
 }
 
@@ -65,7 +66,7 @@ fn lies_near(place: u32, first: u32) -> bool {
     place.wrapping_sub(first) < FEW
 }
 
-/// Where the few places from `first` on end, of so many.
+/// The end of the few places from `first` on, of `count` places.
 fn end_near(first: usize, count: usize) -> usize
     ensures { result ≤ count }
 {
@@ -112,11 +113,11 @@ impl Search {
     }
 }
 
-/// The golden ratio's part behind the point, in 2^-64.
+/// The fractional part of the golden ratio, in units of 2^-64.
 const GOLDEN: u64 = 0x9E37_79B9_7F4A_7C15;
 
-/// Where a goroutine begins to search among `count` places. Multiples of the golden ratio lie far from each other, however many there
-/// are, so that goroutines begin in cache lines of their own.
+/// Where a goroutine begins to search among `count` places. Multiples of the golden ratio lie far from each other, however many
+/// there are, so that goroutines begin in cache lines of their own.
 fn place_of(number: u64, count: usize) -> u32 {
     let share = number.wrapping_mul(GOLDEN) >> 32;
     u32::try_from(share.wrapping_mul(count as u64) >> 32).unwrap_or(0)
@@ -127,7 +128,7 @@ fn after(place: u32) -> u32 {
     place.wrapping_add(1)
 }
 
-/// Actors and runs that are as their definitions say, and such as are not.
+/// Actors and runs that meet their definitions, and some that do not.
 pub fn examples()
     ensures { ActorExamples }
 {}

@@ -1,5 +1,8 @@
 //! Instructions that load or store one word: a field, an element or the length of a slice, or a package variable. Each returns the
-//! trap by which its instruction ends the run instead.
+//! trap by which its instruction ends the run instead; the access itself cannot fail.
+//!
+//! The length of a slice, the number of fields of a struct and the page numbers of a spread object are fixed before anybody else
+//! knows its address. So what was found of them holds until the access, whatever others do meanwhile.
 ghost use Rattle.std.specs.Prelude.{◌≡◌, ◌<◌, ◌∷◌, [], List, Some, None, MatchOption, MatchResult, suc};
 ghost use Rattle.rgo_core.specs.Accesses.{IsAtSpread};
 ghost use Rattle.rgo_core.specs.Frames.WordFrames.{word_at};
@@ -9,8 +12,8 @@ ghost use Rattle.rgo_sound.specs.Tac.Ops.{operation_of};
 ghost use Rattle.rgo_sound.specs.Typed.declared.actions.Action.TheVariants as action;
 ghost use Rattle.rgo_body.specs.Bodies.{frames_in};
 ghost use Rattle.rgo_acts.specs.ActorExamples.{ElementExamples};
-ghost use Rattle.rgo_acts.specs.Actors.{Acted, now};
-ghost use Rattle.rgo_acts.specs.Elements.{HasElement, HasFieldHere, HasLocated, HasNoElementHere, IsAtElementOf, IsAtFieldOf};
+ghost use Rattle.rgo_acts.specs.Actors.{ActorActed, now};
+ghost use Rattle.rgo_acts.specs.Elements.{ActorHasElement, HasFieldHere, HasLocated, HasNoElementHere, IsAtElementOf, IsAtFieldOf};
 ghost use Rattle.rgo_acts.specs.Ready.{IsBefore};
 ghost use Rattle.rgo_acts.specs.Traps.{IsAtTrap};
 
@@ -33,7 +36,7 @@ fn take<L: Ledger>(
     requires before { IsBefore run.now actor.old next.now }
     requires inside { word < run.now.table.words }
     requires loads { Loads run.now.setup (now run.now.setup actor.old) word }
-    ensures { Acted run.now actor.old actor.new 1 [] [] }
+    ensures { ActorActed run.now actor.old actor.new 1 [] [] }
 {
     let found = cells::load(run.table, &mut actor.seat, actor.behind, word, steps);
     actor.behind = 0;
@@ -52,15 +55,15 @@ fn put<L: Ledger>(
     requires before { IsBefore run.now actor.old next.now }
     requires inside { word < run.now.table.words }
     requires stores { Stores run.now.setup (now run.now.setup actor.old) word value }
-    ensures { Acted run.now actor.old actor.new 1 [] [] }
+    ensures { ActorActed run.now actor.old actor.new 1 [] [] }
 {
     cells::store(run.table, &mut actor.seat, actor.behind, word, value, steps);
     actor.behind = 0;
     actor.body.acted(run.program, next, 0);
 }
 
-/// The word of a cell of the spread object at this address, which has so many words before its cells. The number of the cell's data
-/// page is loaded for that.
+/// The word of a cell of the spread object at this address, which has `before` words before its cells. Loads the number of the
+/// cell's data page, plus 1; it is never 0 once the object exists.
 fn locate<L: Ledger>(
     actor: &mut Actor,
     run: &Run<'_, '_>,
@@ -126,7 +129,7 @@ pub fn load_field<L: Ledger>(
 ) -> Result<(), Trap>
     requires before { IsBefore run.now actor.old next.now }
     requires is { operation_of next.now.op ≡ Do (Some to) (action.Load field) (from ∷ []) }
-    ensures { MatchResult result (λ _. Acted run.now actor.old actor.new 1 [] []) (λ trap. IsAtTrap run.now actor.old actor.new trap) }
+    ensures { MatchResult result (λ _. ActorActed run.now actor.old actor.new 1 [] []) (λ trap. IsAtTrap run.now actor.old actor.new trap) }
 {
     let pointer = actor.body.word(from);
     if pointer == 0 {
@@ -150,7 +153,7 @@ pub fn store_field<L: Ledger>(
 ) -> Result<(), Trap>
     requires before { IsBefore run.now actor.old next.now }
     requires is { operation_of next.now.op ≡ Do None (action.Store field) (to ∷ value ∷ []) }
-    ensures { MatchResult result (λ _. Acted run.now actor.old actor.new 1 [] []) (λ trap. IsAtTrap run.now actor.old actor.new trap) }
+    ensures { MatchResult result (λ _. ActorActed run.now actor.old actor.new 1 [] []) (λ trap. IsAtTrap run.now actor.old actor.new trap) }
 {
     let pointer = actor.body.word(to);
     if pointer == 0 {
@@ -174,7 +177,7 @@ pub fn length<L: Ledger>(
 )
     requires before { IsBefore run.now actor.old next.now }
     requires is { operation_of next.now.op ≡ Do (Some to) action.Len (from ∷ []) }
-    ensures { Acted run.now actor.old actor.new 1 [] [] }
+    ensures { ActorActed run.now actor.old actor.new 1 [] [] }
 {
     let slice = actor.body.word(from);
     if slice == 0 {
@@ -186,7 +189,8 @@ pub fn length<L: Ledger>(
     take(actor, run, next, run.cell(slice as usize - 1, 0), steps);
 }
 
-/// The word of element `index` of the slice in variable `slice`, whose length is loaded for that; `None` if there is no such element.
+/// The word of element `index` of the slice in variable `slice`, whose length is loaded first; `None` if there is no such element.
+/// A negative index is a large word, so one comparison finds both ends.
 fn element<L: Ledger>(
     actor: &mut Actor,
     run: &Run<'_, '_>,
@@ -198,7 +202,7 @@ fn element<L: Ledger>(
     requires before { IsBefore run.now actor.old next.now }
     requires at { IsAtElementOf (operation_of next.now.op) slice index }
     ensures { MatchOption result (HasNoElementHere run.now actor.old actor.new next.now slice index)
-        (HasElement run.now actor.old actor.new next.now slice index) }
+        (ActorHasElement run.now actor.old actor.new next.now slice index) }
 {
     let pointer = actor.body.word(slice);
     if pointer == 0 {
@@ -239,7 +243,7 @@ pub fn load_element<L: Ledger>(
 ) -> Result<(), Trap>
     requires before { IsBefore run.now actor.old next.now }
     requires is { operation_of next.now.op ≡ Do (Some to) action.At (slice ∷ index ∷ []) }
-    ensures { MatchResult result (λ _. Acted run.now actor.old actor.new 1 [] []) (λ trap. IsAtTrap run.now actor.old actor.new trap) }
+    ensures { MatchResult result (λ _. ActorActed run.now actor.old actor.new 1 [] []) (λ trap. IsAtTrap run.now actor.old actor.new trap) }
 {
     match element(actor, run, next, slice, index, steps) {
         Some(word) => {
@@ -262,7 +266,7 @@ pub fn store_element<L: Ledger>(
 ) -> Result<(), Trap>
     requires before { IsBefore run.now actor.old next.now }
     requires is { operation_of next.now.op ≡ Do None action.Put (slice ∷ index ∷ value ∷ []) }
-    ensures { MatchResult result (λ _. Acted run.now actor.old actor.new 1 [] []) (λ trap. IsAtTrap run.now actor.old actor.new trap) }
+    ensures { MatchResult result (λ _. ActorActed run.now actor.old actor.new 1 [] []) (λ trap. IsAtTrap run.now actor.old actor.new trap) }
 {
     match element(actor, run, next, slice, index, steps) {
         Some(word) => {
@@ -285,7 +289,7 @@ pub fn load_variable<L: Ledger>(
 )
     requires before { IsBefore run.now actor.old next.now }
     requires is { operation_of next.now.op ≡ Do (Some to) (action.Get variable) [] }
-    ensures { Acted run.now actor.old actor.new 1 [] [] }
+    ensures { ActorActed run.now actor.old actor.new 1 [] [] }
 {
     take(actor, run, next, run.variable(variable), steps);
 }
@@ -301,13 +305,13 @@ pub fn store_variable<L: Ledger>(
 )
     requires before { IsBefore run.now actor.old next.now }
     requires is { operation_of next.now.op ≡ Do None (action.Set variable) (from ∷ []) }
-    ensures { Acted run.now actor.old actor.new 1 [] [] }
+    ensures { ActorActed run.now actor.old actor.new 1 [] [] }
 {
     let value = actor.body.word(from);
     put(actor, run, next, run.variable(variable), value, steps);
 }
 
-/// Accesses to elements that are as their definitions say, and such as are not.
+/// Accesses to elements that meet their definitions, and some that do not.
 pub fn examples()
     ensures { ElementExamples }
 {}

@@ -1,5 +1,8 @@
 //! Operations on channels, and acknowledgements that an offer was taken. Each is tried once, and never waits: if the channel is not
 //! ready, or another goroutine is at it, the goroutine stays before its instruction.
+//!
+//! What a goroutine has found out about a channel lasts as long as it is before an operation on it, and no longer; [`tries_again`]
+//! keeps this. Why: docs/DECISIONS.md, "Goroutines over the table".
 ghost use Rattle.std.specs.Prelude.{◌≡◌, ◌+◌, ◌<◌, ◌≤◌, ◌^◌, ◌∷◌, [], ℕ, Option, false, true};
 ghost use Rattle.rgo_chan.specs.Before.{LiesIn, control_at};
 ghost use Rattle.rgo_core.specs.Core.{layout};
@@ -12,9 +15,9 @@ ghost use Rattle.rgo_body.specs.Bodies.{HasRoomBehind, IsReady};
 ghost use Rattle.rgo_body.specs.Nexts.{IsDo};
 ghost use Rattle.rgo_body.specs.Shows.{IsPossible};
 ghost use Rattle.rgo_body.specs.declared.bodies.Side.TheVariants.{AtRest, Offering};
-ghost use Rattle.rgo_acts.specs.Actors.{Acted, Stands};
+ghost use Rattle.rgo_acts.specs.Actors.{ActorActed, IsActorOf};
 ghost use Rattle.rgo_acts.specs.Resting.{IsAtTalk, IsTalk, RestsElsewhere};
-ghost use Rattle.rgo_acts.specs.Talks.{CanAcknowledge, CanTry, Concludes, IsNumbered, OfAcknowledgement, OfClose, OfReceive, Says, Talks};
+ghost use Rattle.rgo_acts.specs.Talks.{ActorCanAcknowledge, CanTry, TryConcludes, IsNumbered, OfAcknowledgement, OfClose, OfReceive, Says, Talks};
 ghost use Rattle.rgo_acts.specs.WaitExamples.{WaitExamples};
 ghost use Rattle.rgo_acts.specs.Waits.{LosesBlocked, WaitsBlocked};
 
@@ -36,9 +39,11 @@ pub enum Talked {
     /// The value of a send is offered at a channel without a buffer. The goroutine stays at the send until it has acknowledged that
     /// the offer was taken.
     Offered { at: usize },
-    /// The channel was not ready. It is nil if there is no control.
+    /// The channel was not ready when its control was loaded; `None` for a nil channel, which never is. It may be waited for, until
+    /// a word of the channel changes.
     Waits { at: Option<usize> },
-    /// Another goroutine had locked the channel, or has changed its control meanwhile.
+    /// Another goroutine had locked the channel, or has changed its control meanwhile. The operation may be tried again at once; it
+    /// is not tried again here, since other goroutines could keep such a loop going without end.
     Lost { at: usize },
     /// The operation traps.
     Trap(Trap),
@@ -102,12 +107,12 @@ fn is_at_channel(body: &Body, program: &Program<'_>) -> bool
     }
 }
 
-/// Whether the goroutine is to try an operation on a channel again. Otherwise it knows of no channel from here on: what it has found
-/// out about a channel lasts as long as it is before an operation on it.
+/// Whether the goroutine is to try an operation on a channel again. Otherwise it knows of no channel from here on: what it has
+/// found out about a channel lasts as long as it is before an operation on it.
 pub fn tries_again(actor: &mut Actor, run: &Run<'_, '_>) -> bool
-    requires stands { Stands run.now actor.old }
+    requires stands { IsActorOf run.now actor.old }
     requires none { (at : ℕ) → actor.old.body.side ≡ Offering at → ⊥ }
-    ensures acted { Acted run.now actor.old actor.new 0 [] [] }
+    ensures acted { ActorActed run.now actor.old actor.new 0 [] [] }
     ensures yes { result ≡ true → IsAtTalk run.now.program actor.new.body × (actor.new ≡ actor.old) }
     ensures no { result ≡ false → actor.new ≡ record actor.old { body = record actor.old.body { side = AtRest } } }
 {
@@ -121,7 +126,7 @@ pub fn tries_again(actor: &mut Actor, run: &Run<'_, '_>) -> bool
     false
 }
 
-/// The trap of a number that a try has returned.
+/// The trap of a number that a try has returned: 5, 6, or 7 for a close of nil.
 fn trap_numbered(number: u8) -> Trap
     ensures { IsNumbered number result }
 {
@@ -146,7 +151,7 @@ fn conclude(
     requires none { (at : ℕ) → body.old.side ≡ Offering at → ⊥ }
     requires room { HasRoomBehind body.old next.now }
     requires count { body.old.counts.steps + 1 < 2 ^ 64 }
-    ensures body { Concludes program.now body.old body.new at tried }
+    ensures body { TryConcludes program.now body.old body.new at tried }
     ensures says { Says at tried result }
 {
     match tried {
@@ -290,8 +295,8 @@ pub fn close<L: Ledger>(
     )
 }
 
-/// Asks whether the goroutine's offer was taken, at the channel with this control. If so, the send is done; the receiver has counted
-/// the instruction.
+/// Asks whether the goroutine's offer was taken, at the channel with this control. If so, the send is done, and the goroutine
+/// counts no instruction for it: the meeting was one step of the run, which the receiver has counted.
 pub fn acknowledge<L: Ledger>(
     actor: &mut Actor,
     run: &Run<'_, '_>,
@@ -299,7 +304,7 @@ pub fn acknowledge<L: Ledger>(
     at: usize,
     steps: &mut Steps<L>,
 ) -> Talked
-    requires before { CanAcknowledge run.now actor.old next.now at }
+    requires before { ActorCanAcknowledge run.now actor.old next.now at }
     ensures talks { Talks run.now actor.old actor.new 0 result }
     ensures only { OfAcknowledgement result }
     ensures steps { steps.new ≤ steps.old + 3 }
@@ -311,24 +316,25 @@ pub fn acknowledge<L: Ledger>(
             actor.body.acknowledged(run.program, next);
             Talked::Done { at }
         }
+        // `Offered` does not occur: an acknowledgement offers nothing.
         Tried::NotReady | Tried::Offered => Talked::Waits { at: Some(at) },
         Tried::Busy { .. } => Talked::Lost { at },
         Tried::Trap(_) => Talked::Trap(Trap::SendClosed),
     }
 }
 
-/// A goroutine that could not continue at a channel is blocked, as long as the words of its accesses are what it found.
+/// A goroutine that could not continue at a channel is blocked while the words of its accesses are what it found.
 pub fn blocked_laws()
     ensures waits { WaitsBlocked }
     ensures loses { LosesBlocked }
 {}
 
-/// What a goroutine knows of channels while it is before no operation on one.
+/// A goroutine that is not before an operation on a channel knows nothing of channels.
 pub fn rests_law()
     ensures { RestsElsewhere }
 {}
 
-/// Goroutines that cannot continue at a channel, and such as can.
+/// Goroutines that cannot continue at a channel, and some that can.
 pub fn examples()
     ensures { WaitExamples }
 {}

@@ -1,14 +1,18 @@
 //! Duties: the steps with regions that a goroutine owes around its instructions. It attends to the first one.
+//!
+//! Each duty is a step of its own in the run, so other goroutines may act between any two of them. What keeps this safe is that a
+//! stake for a new goroutine is taken before it starts, and that a goroutine's own stake ends after its last use of the region.
+//! Why: docs/DECISIONS.md, "Counts and pages as words".
 ghost use Rattle.std.specs.Prelude.{◌≡◌, ◌+◌, ◌<◌, [], ℕ, List, false, true};
 ghost use Rattle.rgo_body.specs.Duties.{DoesLocal, LeavesIn, OwesFirst};
 ghost use Rattle.rgo_body.specs.Queues.{duty_of};
 ghost use Rattle.rgo_body.specs.Shows.{IsPossible};
-ghost use Rattle.rgo_body.specs.Steps.{Stays};
+ghost use Rattle.rgo_body.specs.Steps.{StillShows};
 ghost use Rattle.rgo_body.specs.declared.bodies.Side.TheVariants.{AtRest};
 ghost use Rattle.rgo_sound.specs.RegionMachine.States as machine;
 ghost use Rattle.rgo_sound.specs.RegionMachine.declared.regions.Region.{Region};
-ghost use Rattle.rgo_acts.specs.Actors.{Stands};
-ghost use Rattle.rgo_acts.specs.Attending.{Attends, HasAttended, HasAttendedLocally, IsAtDuty};
+ghost use Rattle.rgo_acts.specs.Actors.{IsActorOf};
+ghost use Rattle.rgo_acts.specs.Attending.{ActorAttends, HasAttended, HasAttendedLocally, IsAtDuty};
 ghost use Rattle.rgo_acts.specs.DutyExamples.{DutyExamples};
 
 use crate::actors::Actor;
@@ -26,16 +30,17 @@ use std::sync::ledger::Ledger;
 pub enum Attended {
     /// It is done.
     Done,
-    /// It creates a region, and no slot was free. The goroutine owes it as before.
+    /// It creates a region, and each slot was found in use. The goroutine owes it as before; the run continues, since others may
+    /// free one.
     Short,
     /// Memory ran out. The goroutine owes it as before.
     NoMemory,
 }
 
-/// Attends to the first duty.
+/// Attends to the first duty, of which the caller knows that there is one.
 pub fn attend<L: Ledger>(actor: &mut Actor, run: &Run<'_, '_>, steps: &mut Steps<L>) -> Attended
     requires first { (d : machine.Duty) × IsAtDuty run.now actor.old d }
-    ensures { Attends run.now actor.old actor.new result }
+    ensures { ActorAttends run.now actor.old actor.new result }
 {
     match actor.body.duty() {
         Some(Duty::Create(name)) => return create(actor, run, name, steps),
@@ -44,15 +49,16 @@ pub fn attend<L: Ledger>(actor: &mut Actor, run: &Run<'_, '_>, steps: &mut Steps
         Some(Duty::Unprotect(name)) => unprotect(actor, run, name),
         Some(Duty::Remove(name)) => remove(actor, run, name, steps),
         Some(Duty::EndBase(_)) => end_base(actor, run, steps),
+        // The caller knows that there is one.
         None => unreachable!(),
     }
     Attended::Done
 }
 
-/// Attends to the first duties as long as they are local, and as `left` local steps more can be counted. Returns whether there are
-/// none left.
+/// Attends to the first duties while they are local, and while `left` local steps more can be counted. Returns whether none are
+/// left.
 pub(crate) fn attend_local(actor: &mut Actor, run: &Run<'_, '_>, left: usize) -> bool
-    requires stands { Stands run.now actor.old }
+    requires stands { IsActorOf run.now actor.old }
     requires rests { actor.old.body.side ≡ AtRest }
     requires behind { actor.old.behind + left < 18446744073709551616 }
     ensures attended { HasAttendedLocally run.now actor.old actor.new }
@@ -71,14 +77,14 @@ pub(crate) fn attend_local(actor: &mut Actor, run: &Run<'_, '_>, left: usize) ->
     true
 }
 
-/// Does the first duty if it is local. Returns whether it is done; the goroutine owes it as before where it is not local, or where
-/// memory runs out.
+/// Does the first duty if it needs no access. Returns whether it is done; if it needs one, or memory runs out, the goroutine owes
+/// it as before, and `attend` is for it.
 fn do_locally(body: &mut Body, program: &Program<'_>, duty: Duty) -> bool
     requires possible { IsPossible program.now body.old }
     requires first { OwesFirst body.old (duty_of duty) }
     requires rests { body.old.side ≡ AtRest }
     ensures done { result ≡ true → DoesLocal program.now body.old body.new }
-    ensures stays { result ≡ false → Stays program.now body.old body.new }
+    ensures stays { result ≡ false → StillShows program.now body.old body.new }
     ensures same { result ≡ false → body.new ≡ record body.old { holding = body.new.holding } }
 {
     match duty {
@@ -100,7 +106,7 @@ fn create<L: Ledger>(
     steps: &mut Steps<L>,
 ) -> Attended
     requires first { IsAtDuty run.now actor.old (machine.Create name) }
-    ensures { Attends run.now actor.old actor.new result }
+    ensures { ActorAttends run.now actor.old actor.new result }
 {
     match actor.body.room_to_create(run.program, name) {
         Ok(()) => {}
@@ -131,7 +137,7 @@ fn create<L: Ledger>(
 /// Protects a region.
 fn protect(actor: &mut Actor, run: &Run<'_, '_>, name: u32) -> Attended
     requires first { IsAtDuty run.now actor.old (machine.Protect name) }
-    ensures { Attends run.now actor.old actor.new result }
+    ensures { ActorAttends run.now actor.old actor.new result }
 {
     match actor.body.protect(run.program, name) {
         Ok(()) => {
@@ -196,7 +202,9 @@ fn end_base<L: Ledger>(actor: &mut Actor, run: &Run<'_, '_>, steps: &mut Steps<L
     }
 }
 
-/// Ends the stake in this region. If it was the last one, gives the pages of the region back, and then frees the slot.
+/// Ends the stake in this region. If it was the last one, returns the pages of the region, and then frees the slot: in the other
+/// order a new region could have the slot while its chain is still the old one. Nobody else does this, and it takes no memory, so
+/// it is done within the act.
 fn leave<L: Ledger>(actor: &mut Actor, run: &Run<'_, '_>, key: Key, steps: &mut Steps<L>)
     requires first { (d : machine.Duty) × IsAtDuty run.now actor.old d }
     requires leaves { LeavesIn run.now.program actor.old.body key }
@@ -225,7 +233,7 @@ fn leave<L: Ledger>(actor: &mut Actor, run: &Run<'_, '_>, key: Key, steps: &mut 
     }
 }
 
-/// Duties and shortages that are as their definitions say, and such as are not.
+/// Duties and shortages that meet their definitions, and some that do not.
 pub fn examples()
     ensures { DutyExamples }
 {}

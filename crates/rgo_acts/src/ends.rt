@@ -1,19 +1,19 @@
-//! Ends of the run: the return of `main`, a trap, and limits. Each returns whether this has ended the run; it has not if the run had
-//! ended before.
+//! Ends of the run: the return of `main`, a trap, and limits. Each sets the end mark, a bit that is never cleared, and returns
+//! whether this has ended the run; it has not if another goroutine had set the mark before. Either answer stays true.
 ghost use Rattle.std.specs.Prelude.{◌≡◌, ◌^◌, ◌<◌, ◌+◌, ◌∷◌, [], ℕ, List, Option, length, true};
 ghost use Rattle.rgo_body.specs.Bodies.{frames_in};
 ghost use Rattle.rgo_body.specs.Nexts.{IsNextOf};
 ghost use Rattle.rgo_body.specs.Steps.{HasRoomBack};
 ghost use Rattle.rgo_core.specs.Rule.Views.{number_of};
-ghost use Rattle.rgo_core_steps.specs.Ends.{Ends, Traps};
+ghost use Rattle.rgo_core_steps.specs.Ends.{GoroutineEndsRun, InstrTraps};
 ghost use Rattle.rgo_sound.specs.Machine.Limits.{deepest};
 ghost use Rattle.rgo_sound.specs.Machine.declared.picks.End.TheVariants as the_end;
 ghost use Rattle.rgo_sound.specs.RegionMachine.States.{Ended, Stopped};
 ghost use Rattle.rgo_sound.specs.Tac.Code.{Call, Go, Return};
 ghost use Rattle.rgo_sound.specs.Tac.Ops.{operation_of};
 ghost use Rattle.rgo_sound.specs.RegionMachine.declared.limits.Limit.TheVariants as limit;
-ghost use Rattle.rgo_acts.specs.Actors.{Stands, now};
-ghost use Rattle.rgo_acts.specs.Endings.{HasEnded, place_at};
+ghost use Rattle.rgo_acts.specs.Actors.{IsActorOf, now};
+ghost use Rattle.rgo_acts.specs.Endings.{ActorHasEnded, place_at};
 ghost use Rattle.rgo_acts.specs.Ready.{IsBefore};
 
 use crate::actors::Actor;
@@ -26,9 +26,9 @@ use rgo_sound::region_machine::Limit;
 
 /// A limit ends the run, for which the record of the goroutine shows the cause.
 pub fn stop(actor: &mut Actor, run: &Run<'_, '_>, limit: Limit) -> bool
-    requires stands { Stands run.now actor.old }
-    requires cause { Ends run.now.setup (number_of actor.old.seat.me) (now run.now.setup actor.old) (Stopped limit) }
-    ensures ended { HasEnded run.now actor.old actor.new 0 (Stopped limit) result }
+    requires stands { IsActorOf run.now actor.old }
+    requires cause { GoroutineEndsRun run.now.setup (number_of actor.old.seat.me) (now run.now.setup actor.old) (Stopped limit) }
+    ensures ended { ActorHasEnded run.now actor.old actor.new 0 (Stopped limit) result }
     ensures body { actor.new.body ≡ actor.old.body }
 {
     let ends = finish(
@@ -43,8 +43,8 @@ pub fn stop(actor: &mut Actor, run: &Run<'_, '_>, limit: Limit) -> bool
 
 /// Memory ran out.
 pub fn out_of_memory(actor: &mut Actor, run: &Run<'_, '_>) -> bool
-    requires stands { Stands run.now actor.old }
-    ensures ended { HasEnded run.now actor.old actor.new 0 (Stopped limit.Memory) result }
+    requires stands { IsActorOf run.now actor.old }
+    ensures ended { ActorHasEnded run.now actor.old actor.new 0 (Stopped limit.Memory) result }
     ensures body { actor.new.body ≡ actor.old.body }
 {
     stop(actor, run, Limit::Memory)
@@ -55,7 +55,7 @@ pub fn too_deep(actor: &mut Actor, run: &Run<'_, '_>, next: &Next<'_>) -> bool
     requires before { IsBefore run.now actor.old next.now }
     requires calls { (to : Option ℕ) × (n : ℕ) × (from : List ℕ) × (operation_of next.now.op ≡ Call to n from) }
     requires deep { length (frames_in actor.old.body) ≡ deepest }
-    ensures ended { HasEnded run.now actor.old actor.new 0 (Stopped limit.Calls) result }
+    ensures ended { ActorHasEnded run.now actor.old actor.new 0 (Stopped limit.Calls) result }
     ensures body { actor.new.body ≡ actor.old.body }
 {
     stop(actor, run, Limit::Calls)
@@ -66,7 +66,7 @@ pub fn too_many(actor: &mut Actor, run: &Run<'_, '_>, next: &Next<'_>) -> bool
     requires before { IsBefore run.now actor.old next.now }
     requires starts { (n : ℕ) × (from : List ℕ) × (operation_of next.now.op ≡ Go n from) }
     requires refused { actor.old.body.refused ≡ true }
-    ensures ended { HasEnded run.now actor.old actor.new 0 (Stopped limit.Goroutines) result }
+    ensures ended { ActorHasEnded run.now actor.old actor.new 0 (Stopped limit.Goroutines) result }
     ensures body { actor.new.body ≡ actor.old.body }
 {
     stop(actor, run, Limit::Goroutines)
@@ -74,11 +74,11 @@ pub fn too_many(actor: &mut Actor, run: &Run<'_, '_>, next: &Next<'_>) -> bool
 
 /// The next instruction traps.
 pub fn trap(actor: &mut Actor, run: &Run<'_, '_>, next: &Next<'_>, trap: Trap) -> bool
-    requires stands { Stands run.now actor.old }
+    requires stands { IsActorOf run.now actor.old }
     requires next { IsNextOf run.now.program.code (frames_in actor.old.body) next.now }
-    requires traps { Traps run.now.setup (now run.now.setup actor.old) trap }
+    requires traps { InstrTraps run.now.setup (now run.now.setup actor.old) trap }
     requires count { actor.old.body.counts.steps + 1 < 2 ^ 64 }
-    ensures { HasEnded run.now actor.old actor.new 1
+    ensures { ActorHasEnded run.now actor.old actor.new 1
         (Ended (the_end.Trap trap (place_at next.now))) result }
 {
     let place = next.function.tac().place(next.at);
@@ -100,7 +100,7 @@ pub fn exit(actor: &mut Actor, run: &Run<'_, '_>, next: &Next<'_>, value: Option
     requires main { number_of actor.old.seat.me ≡ 0 }
     requires last { length (frames_in actor.old.body) ≡ 1 }
     requires room { HasRoomBack run.now.program actor.old.body }
-    ensures { HasEnded run.now actor.old actor.new 1 (Ended the_end.Exit) result }
+    ensures { ActorHasEnded run.now actor.old actor.new 1 (Ended the_end.Exit) result }
 {
     let ends = finish(
         run.table,

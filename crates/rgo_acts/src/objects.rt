@@ -1,6 +1,9 @@
-//! New objects: structs, slices and channels. An object goes behind what is filled of the goroutine's own page in the region, or on a
-//! page that is claimed for it. One that has more words than a page is spread: all its pages are claimed first, a lead page and its
-//! data pages. Its words are stored one by one; with the last one it exists, and the instruction is done.
+//! New objects: structs, slices and channels. An object is placed after what is filled of the goroutine's own page in the region,
+//! or on a page that is claimed for it. One that has more words than a page is spread: all its pages are claimed first, a lead page
+//! and its data pages. Its words are stored one by one; with the last one it exists, and the instruction is done.
+//!
+//! Nobody else fills an own page or a reserved one, and nobody else knows the address of an object before its last store. So the
+//! stores need no lock, and their order does not matter.
 ghost use Rattle.std.specs.Prelude.{◌≡◌, ◌+◌, ◌-◌, ◌*◌, ◌/◌, ◌^◌, ◌<◌, ◌≤◌, ◌∷◌, [], ℕ, IfSome, List, MatchOption, MatchResult, Some, false, length, slice_get, suc, true};
 ghost use Rattle.rgo_core.specs.Rule.Views.{number_of};
 ghost use Rattle.rgo_core.specs.Rule.declared.accesses.Access.{Access};
@@ -9,7 +12,7 @@ ghost use Rattle.rgo_core_facts.specs.MemoryObjects.{all_struct_words, channel_w
 ghost use Rattle.rgo_core.specs.Opening.{first_of};
 ghost use Rattle.rgo_core.specs.Plans.{setup_of};
 ghost use Rattle.rgo_core.specs.Records.{accesses};
-ghost use Rattle.rgo_core_steps.specs.Grown.{Grew};
+ghost use Rattle.rgo_core_steps.specs.Grown.{SeatGrew};
 ghost use Rattle.rgo_core_steps.specs.Layouts.{HasLayout};
 ghost use Rattle.rgo_core_steps.specs.Making.{IsIndex, IsNewWordApart, filling_apart};
 ghost use Rattle.rgo_core_steps.specs.Seats.{HasOne, HasPossible, IsSeatOf, Settles, Stored, mine, settled};
@@ -24,7 +27,7 @@ ghost use Rattle.rgo_sound.specs.RegionMachine.declared.regions.Region.{Region};
 ghost use Rattle.rgo_sound.specs.Tac.Code.{Do};
 ghost use Rattle.rgo_sound.specs.Tac.Ops.{operation_of};
 ghost use Rattle.rgo_sound.specs.Typed.declared.actions.Action.TheVariants as action;
-ghost use Rattle.rgo_acts.specs.Actors.{Acted, now};
+ghost use Rattle.rgo_acts.specs.Actors.{ActorActed, now};
 ghost use Rattle.rgo_acts.specs.Locals.{IsBeyond};
 ghost use Rattle.rgo_acts.specs.ObjectExamples.{ObjectExamples};
 ghost use Rattle.rgo_acts.specs.Objects as spec;
@@ -52,15 +55,16 @@ pub enum Made {
     Trap(Trap),
     /// The object has more data pages than an object may have.
     TooLarge,
-    /// The object needs a page, and no page is free. None was claimed.
+    /// The object needs a page, and each page was found in use. None was claimed.
     Short,
-    /// Pages were claimed for the object, which is spread; it needs one more, and no page is free.
+    /// Pages were claimed for the object, which is spread; it needs one more, and each page was found in use. Those that were
+    /// claimed stay reserved for it, and the next try begins with them.
     Partly,
     /// Memory ran out before a page was claimed.
     NoMemory,
 }
 
-/// The object that the next instruction makes: its region, its words, and how many of them are before its cells. The word at `place`
+/// The object that the next instruction makes: its region, its words, and how many of them precede its cells. The word at `place`
 /// first holds `value`, and all others hold 0.
 #[derive(Clone, Copy)]
 pub(crate) struct New {
@@ -74,7 +78,7 @@ pub(crate) struct New {
 /// The least word that is a negative number.
 const FIRST_NEGATIVE: u64 = 9223372036854775808;
 
-/// How many data pages an object has with so many words, `before` of which are before its cells: none if it fits a page.
+/// How many data pages an object of `words` words has, `before` of which precede its cells: none if it fits a page.
 fn data_pages(page_words: usize, words: usize, before: usize) -> usize
     ensures { result ≡ data_pages_of page_words words before }
 {
@@ -136,7 +140,7 @@ fn store_words<L: Ledger>(
         (slot : ℕ) × spec.IsPlaced T (settled T behind seat.old.me) slot page new }
     ensures own { seat.new.table_id ≡ seat.old.table_id }
     ensures grew { let T = setup_of table.now.shared.key in
-        (es : List Access) × Grew accesses (first_of T.code) seat.old.me es seat.new.me }
+        (es : List Access) × SeatGrew accesses (first_of T.code) seat.old.me es seat.new.me }
     ensures stored { let T = setup_of table.now.shared.key in
         (slot : ℕ) (placed : spec.IsPlaced T (settled T behind seat.old.me) slot page new)
         → mine T seat.new.me ≡ with_new_object T (settled T behind seat.old.me) (own_page slot page) placed.object.object }
@@ -166,7 +170,7 @@ fn make_on<L: Ledger>(
     requires count { actor.old.body.counts.objects + 1 < 2 ^ 64 }
     requires placed { (region : Region) × (region_at actor.old.body.holding new.key ≡ Some region)
         × spec.IsPlaced run.now.setup (now run.now.setup actor.old) (slot_of run.now.setup.sizes.regions region) page new }
-    ensures acted { Acted run.now actor.old actor.new 1 [] [] }
+    ensures acted { ActorActed run.now actor.old actor.new 1 [] [] }
     ensures beyond { IsBeyond actor.old actor.new }
     ensures rests { actor.new.body.side ≡ AtRest }
     ensures cost { steps.new ≡ steps.old + new.words }
@@ -188,7 +192,7 @@ fn make_on<L: Ledger>(
         .made(run.program, next, new.key, end, address as u64 + 1);
 }
 
-/// The same, where nobody counts the accesses.
+/// The same, without counting the accesses.
 fn make_uncounted<L: Ledger>(
     actor: &mut Actor,
     run: &Run<'_, '_>,
@@ -204,7 +208,7 @@ fn make_uncounted<L: Ledger>(
         × spec.IsPlaced run.now.setup (now run.now.setup actor.old) (slot_of run.now.setup.sizes.regions region) page new }
     requires name { blank.name ≡ L.name }
     requires parts { (blank.parts ≡ L.parts) × (0 < blank.parts) }
-    ensures acted { Acted run.now actor.old actor.new 1 [] [] }
+    ensures acted { ActorActed run.now actor.old actor.new 1 [] [] }
     ensures beyond { IsBeyond actor.old actor.new }
     ensures rests { actor.new.body.side ≡ AtRest }
 {
@@ -304,7 +308,7 @@ fn make<L: Ledger>(
     requires some { 0 < new.words }
     requires pages { 0 < run.now.sizes.pages }
     requires count { (actor.old.body.counts.taken + 1 < 2 ^ 64) × (actor.old.body.counts.objects + 1 < 2 ^ 64) }
-    ensures made { spec.Makes run.now actor.old actor.new result }
+    ensures made { spec.ActorMakes run.now actor.old actor.new result }
     ensures cost { steps.new ≤ steps.old + (run.now.setup.sizes.pages + 2 + new.words) }
 {
     match page_for(actor, run, next, new, steps) {
@@ -359,8 +363,8 @@ fn reserve_page<L: Ledger>(
     }
 }
 
-/// Claims all pages of the next object, which is spread, that are not reserved for it yet. If it does not come to that, returns what
-/// came of the instruction.
+/// Claims all pages of the next object, which is spread, that are not reserved for it yet; if it cannot, returns what came of the
+/// instruction. Memory for their numbers is taken first, since a claim cannot be undone.
 fn reserve<L: Ledger>(
     actor: &mut Actor,
     run: &Run<'_, '_>,
@@ -375,7 +379,7 @@ fn reserve<L: Ledger>(
     requires pages { 0 < run.now.sizes.pages }
     requires count { actor.old.body.counts.taken + 65 < 2 ^ 64 }
     ensures made { MatchResult result
-        (λ _. spec.HasAllPages run.now actor.old actor.new next.now new) (spec.Makes run.now actor.old actor.new) }
+        (λ _. spec.HasAllPages run.now actor.old actor.new next.now new) (spec.ActorMakes run.now actor.old actor.new) }
     ensures cost { steps.new ≤ steps.old
         + (data_pages_of run.now.setup.sizes.page_words new.words new.before + 1) * (run.now.setup.sizes.pages + 2) }
 {
@@ -474,7 +478,7 @@ fn store_words_apart<L: Ledger>(
     requires placed { let T = setup_of table.now.shared.key in spec.IsPlacedApart T (settled T behind seat.old.me) pages.now new }
     ensures own { seat.new.table_id ≡ seat.old.table_id }
     ensures grew { let T = setup_of table.now.shared.key in
-        (es : List Access) × Grew accesses (first_of T.code) seat.old.me es seat.new.me }
+        (es : List Access) × SeatGrew accesses (first_of T.code) seat.old.me es seat.new.me }
     ensures stored { let T = setup_of table.now.shared.key in (placed : spec.IsPlacedApart T (settled T behind seat.old.me) pages.now new)
         → mine T seat.new.me ≡ with_new_object_apart T (settled T behind seat.old.me) placed.object.object }
     ensures possible { HasPossible (setup_of table.now.shared.key) seat.new.me }
@@ -508,7 +512,7 @@ fn make_in_reserved<L: Ledger>(
     requires spread { run.now.setup.sizes.page_words < new.words }
     requires small { spec.IsSmall run.now.setup new.words new.before }
     requires all { length actor.old.body.reserved.pages ≡ suc (data_pages_of run.now.setup.sizes.page_words new.words new.before) }
-    ensures acted { Acted run.now actor.old actor.new 1 [] [] }
+    ensures acted { ActorActed run.now actor.old actor.new 1 [] [] }
     ensures cost { steps.new ≡ steps.old + (new.words + data_pages_of run.now.setup.sizes.page_words new.words new.before) }
 {
     store_words_apart(
@@ -541,7 +545,7 @@ fn make_apart<L: Ledger>(
     requires small { spec.IsSmall run.now.setup new.words new.before }
     requires pages { 0 < run.now.sizes.pages }
     requires count { (actor.old.body.counts.taken + 65 < 2 ^ 64) × (actor.old.body.counts.objects + 1 < 2 ^ 64) }
-    ensures made { spec.Makes run.now actor.old actor.new result }
+    ensures made { spec.ActorMakes run.now actor.old actor.new result }
     ensures cost { steps.new ≤ steps.old + spec.most_steps run.now.setup new.words new.before }
 {
     match reserve(actor, run, next, new, steps) {
@@ -555,7 +559,7 @@ fn make_apart<L: Ledger>(
 
 // ---- any object
 
-/// The next object, of this many words, for variable `to`, unless it has too many data pages. So many words are before its cells. The
+/// The next object, of this many words, for variable `to`, unless it has too many data pages; `before` words precede its cells. The
 /// word at `place` first holds `value`, and all others hold 0.
 fn object_of(
     actor: &Actor,
@@ -577,6 +581,7 @@ fn object_of(
     if data_pages(page_words, words, before) > most_data_pages(page_words) {
         return None;
     }
+    // The record is possible, so the class of the variable has a region at this instruction.
     let Some(key) = actor.body.region_of(next, to) else {
         unreachable!();
     };
@@ -602,7 +607,7 @@ fn make_new<L: Ledger>(
     requires can { spec.CanMake run.now actor.old new }
     requires pages { 0 < run.now.sizes.pages }
     requires count { (actor.old.body.counts.taken + 65 < 2 ^ 64) × (actor.old.body.counts.objects + 1 < 2 ^ 64) }
-    ensures made { spec.Makes run.now actor.old actor.new result }
+    ensures made { spec.ActorMakes run.now actor.old actor.new result }
     ensures cost { steps.new ≤ steps.old + spec.most_steps run.now.setup new.words new.before }
 {
     let page_words = run.page_words();
@@ -612,7 +617,7 @@ fn make_new<L: Ledger>(
     make_apart(actor, run, next, new, steps)
 }
 
-/// Makes the next object, of this many words, for variable `to`. So many words are before its cells. The word at `place` first holds
+/// Makes the next object, of this many words, for variable `to`; `before` words precede its cells. The word at `place` first holds
 /// `value`, and all others hold 0.
 fn object<L: Ledger>(
     actor: &mut Actor,
@@ -630,7 +635,7 @@ fn object<L: Ledger>(
     requires wants { spec.Wants run.now.setup (number_of actor.old.seat.me) (now run.now.setup actor.old) next.now.function to words before place value }
     requires pages { 0 < run.now.sizes.pages }
     requires count { (actor.old.body.counts.taken + 65 < 2 ^ 64) × (actor.old.body.counts.objects + 1 < 2 ^ 64) }
-    ensures made { spec.Makes run.now actor.old actor.new result }
+    ensures made { spec.ActorMakes run.now actor.old actor.new result }
     ensures cost { steps.new ≤ steps.old + spec.most_steps run.now.setup words before }
 {
     match object_of(actor, run, next, to, words, before, place, value) {
@@ -645,6 +650,7 @@ fn struct_words(run: &Run<'_, '_>, number: usize) -> usize
 {
     match run.program.code().tac().structs().get(number) {
         Some(made) => made.fields.items().len().max(1),
+        // Checked code has no struct of another number.
         None => 1,
     }
 }
@@ -662,15 +668,15 @@ pub fn new_struct<L: Ledger>(
     requires is { operation_of next.now.op ≡ Do (Some to) (action.New number) [] }
     requires pages { 0 < run.now.sizes.pages }
     requires count { (actor.old.body.counts.taken + 65 < 2 ^ 64) × (actor.old.body.counts.objects + 1 < 2 ^ 64) }
-    ensures made { spec.Makes run.now actor.old actor.new result }
+    ensures made { spec.ActorMakes run.now actor.old actor.new result }
     ensures cost { steps.new ≤ steps.old + spec.most_steps run.now.setup (all_struct_words (slice_get run.now.setup.code.structs number)) 0 }
 {
     let words = struct_words(run, number);
     object(actor, run, next, to, words, 0, 0, 0, steps)
 }
 
-/// The next instruction makes a struct of this number, to which variable `to` points. Makes it if the own page has room, and returns
-/// whether it has.
+/// The next instruction makes a struct of this number, to which variable `to` points. Makes it if the own page has room, and
+/// returns whether it has. Otherwise nothing has changed, and the turn makes it with a page of its own or reports why not.
 pub(crate) fn new_at_hand(
     actor: &mut Actor,
     run: &Run<'_, '_>,
@@ -680,7 +686,7 @@ pub(crate) fn new_at_hand(
 ) -> bool
     requires before { IsBefore run.now actor.old next.now }
     requires is { (from : List ℕ) × (operation_of next.now.op ≡ Do (Some to) (action.New number) from) }
-    ensures acted { result ≡ true → Acted run.now actor.old actor.new 1 [] [] }
+    ensures acted { result ≡ true → ActorActed run.now actor.old actor.new 1 [] [] }
     ensures beyond { result ≡ true → IsBeyond actor.old actor.new }
     ensures rests { actor.new.body.side ≡ AtRest }
     ensures same { result ≡ false → actor.new ≡ actor.old }
@@ -689,6 +695,7 @@ pub(crate) fn new_at_hand(
         return false;
     }
     let words = struct_words(run, number);
+    // A struct that is too large ends the run, which is the turn's to report.
     let Some(new) = object_of(actor, run, next, to, words, 0, 0, 0) else {
         return false;
     };
@@ -718,7 +725,7 @@ pub fn new_slice<L: Ledger>(
     requires is { operation_of next.now.op ≡ Do (Some to) action.Slice (size ∷ []) }
     requires pages { 0 < run.now.sizes.pages }
     requires count { (actor.old.body.counts.taken + 65 < 2 ^ 64) × (actor.old.body.counts.objects + 1 < 2 ^ 64) }
-    ensures made { spec.Makes run.now actor.old actor.new result }
+    ensures made { spec.ActorMakes run.now actor.old actor.new result }
     ensures cost { steps.new ≤ steps.old + spec.most_steps run.now.setup (newest_word (frames_in actor.old.body) size + 1) 1 }
 {
     let elements = actor.body.word(size);
@@ -760,7 +767,7 @@ pub fn new_channel<L: Ledger>(
     requires pages { 0 < run.now.sizes.pages }
     requires small { run.now.setup.sizes.page_words ≤ 16777215 }
     requires count { (actor.old.body.counts.taken + 65 < 2 ^ 64) × (actor.old.body.counts.objects + 1 < 2 ^ 64) }
-    ensures made { spec.Makes run.now actor.old actor.new result }
+    ensures made { spec.ActorMakes run.now actor.old actor.new result }
     ensures cost { steps.new ≤ steps.old + spec.most_steps run.now.setup (channel_words_of (newest_word (frames_in actor.old.body) size)) 2 }
 {
     let capacity = actor.body.word(size);
@@ -780,7 +787,7 @@ pub fn new_channel<L: Ledger>(
     )
 }
 
-/// New objects that are as their definitions say, and such as are not.
+/// New objects that meet their definitions, and some that do not.
 pub fn examples()
     ensures { ObjectExamples }
 {}

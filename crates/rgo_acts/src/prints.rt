@@ -1,4 +1,5 @@
-//! Prints. All bytes of a print are there before its ticket is drawn, which gives it its place among all prints.
+//! Prints. All bytes of a print are there before its ticket is drawn, which decides its place among all prints: bytes for which
+//! memory ran out after the draw would be missing in the output. Why: docs/DECISIONS.md, "Tables of words".
 ghost use Rattle.std.specs.Prelude.{◌≡◌, ◌<◌, ◌∷◌, [], Contains, IfOk, MatchOption, None, OnErr, Some, slice_get};
 ghost use Rattle.rgo_core.specs.Frames.Prints.{typed_in};
 ghost use Rattle.rgo_core_steps.specs.After.{piece as piece_of};
@@ -6,7 +7,7 @@ ghost use Rattle.rgo_sound.specs.Tac.Code.{Print as PrintOp};
 ghost use Rattle.rgo_sound.specs.Tac.Flow.{reads};
 ghost use Rattle.rgo_sound.specs.Tac.Ops.{operation_of};
 ghost use Rattle.rgo_body.specs.Bodies.{frames_in};
-ghost use Rattle.rgo_acts.specs.Actors.{Acted, now};
+ghost use Rattle.rgo_acts.specs.Actors.{ActorActed, now};
 ghost use Rattle.rgo_acts.specs.Prints.{PrintExamples, drawn_of, value_in, values_in};
 ghost use Rattle.rgo_acts.specs.Ready.{IsBefore};
 
@@ -32,6 +33,7 @@ pub struct Print {
 fn value(ty: &Type, word: u64) -> Value
     ensures { result ≡ typed_in ty.now.layers ty.now.base word }
 {
+    // A print has ints and bools only; for a slice, a channel or a pointer any value will do.
     if !ty.layers.items().is_empty() {
         return Value::Nil;
     }
@@ -118,7 +120,7 @@ pub fn print_line(
     requires before { IsBefore run.now actor.old next.now }
     requires is { operation_of next.now.op ≡ PrintOp pieces.now from.now }
     requires few { actor.old.body.prints < 8796093022208 }
-    ensures printed { IfOk result (λ print. Acted run.now actor.old actor.new 1 (drawn_of print ∷ []) []) }
+    ensures printed { IfOk result (λ print. ActorActed run.now actor.old actor.new 1 (drawn_of print ∷ []) []) }
     ensures same { OnErr result (actor.new ≡ actor.old) }
 {
     let bytes = line(alloc, actor, run, next, pieces, from)?;

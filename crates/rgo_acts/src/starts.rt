@@ -1,10 +1,11 @@
-//! Starts of goroutines.
+//! Starts of goroutines. The body of the new one is made before its number is drawn: a number that was drawn cannot be returned.
+//! Its stakes were taken by duties before, so its regions stay from its first step on.
 ghost use Rattle.std.specs.Prelude.{◌≡◌, ◌+◌, ◌<◌, [], MatchResult, false};
 ghost use Rattle.rgo_sound.specs.Tac.Code.{Go};
 ghost use Rattle.rgo_sound.specs.Tac.Ops.{operation_of};
-ghost use Rattle.rgo_acts.specs.Actors.{Acted};
+ghost use Rattle.rgo_acts.specs.Actors.{ActorActed};
 ghost use Rattle.rgo_acts.specs.Ready.{IsBefore};
-ghost use Rattle.rgo_acts.specs.Starts.{Starts};
+ghost use Rattle.rgo_acts.specs.Starts.{ActorStarts};
 
 use crate::actors::{Actor, Searches};
 use crate::runs::Run;
@@ -16,7 +17,8 @@ use std::alloc::{AllocError, Global};
 pub enum Outcome {
     /// This one, with its number.
     Started(u64, Actor),
-    /// There are as many as there may be, which ends the run.
+    /// There are as many as there may be. The number that was drawn is lost, the record remembers the refusal, and the run is to
+    /// end.
     Refused,
 }
 
@@ -37,7 +39,7 @@ pub fn start(
     requires is { operation_of next.now.op ≡ Go function from.now }
     requires never { actor.old.body.refused ≡ false }
     requires count { actor.old.body.counts.goroutines + 1 < 18446744073709551616 }
-    ensures { MatchResult result (Starts run.now actor.old actor.new) (λ _. Acted run.now actor.old actor.new 0 [] []) }
+    ensures { MatchResult result (ActorStarts run.now actor.old actor.new) (λ _. ActorActed run.now actor.old actor.new 0 [] []) }
 {
     let body = match actor.body.child(alloc, run.program, next, function, from) {
         Ok(body) => body,

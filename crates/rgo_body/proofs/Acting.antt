@@ -15,19 +15,19 @@ use Rattle.rgo_core.specs.NewObjects.{reserved_address}
 use Rattle.rgo_core_steps.proofs.After.{position_by}
 use Rattle.rgo_core_steps.specs.Calls.{accessed_by, waited}
 use Rattle.rgo_core_steps.specs.After.{Position, acknowledging, acting, bytes_at, committing, given, making, making_apart, position, printing, starting}
-use Rattle.rgo_holding.specs.Holds.{Holds}
+use Rattle.rgo_holding.specs.Holds.{IsHoldingOf}
 use Rattle.rgo_sound.specs.Memory.Memory.{Object}
 use Rattle.rgo_sound.specs.RegionMachine.Counts.{Counts}
-use Rattle.rgo_sound.specs.RegionMachine.Objects.{words as words_in}
+use Rattle.rgo_sound.specs.RegionMachine.Objects.{object_words as words_in}
 use Rattle.rgo_sound.specs.RegionMachine.States.{Holder, NoOffer, Offer}
 use Rattle.rgo_stack.specs.Steps.{after_word}
 use Rattle.rgo_sound.specs.Tac.Ops.{operation_of}
 use Rattle.rgo_body.specs.Bodies.{IsReady}
 use Rattle.rgo_body.specs.Nexts.{IsDo, IsGo, IsPrint, removes_at, target_of}
-use Rattle.rgo_body.specs.Programs.{Program}
+use Rattle.rgo_body.specs.Programs.{CompactProgram}
 use Rattle.rgo_body.specs.Reserves.{none_reserved}
-use Rattle.rgo_body.specs.Shows.{Shows, SideShows}
-use Rattle.rgo_body.specs.Steps.{GoesOn}
+use Rattle.rgo_body.specs.Shows.{BodyShows, SideShows}
+use Rattle.rgo_body.specs.Steps.{BodyContinues}
 use Rattle.rgo_body.specs.declared.bodies.Body.{Body}
 use Rattle.rgo_body.specs.declared.bodies.Side.{Side}
 use Rattle.rgo_body.specs.declared.bodies.Side.TheVariants as side
@@ -37,8 +37,8 @@ use Rattle.rgo_body.proofs.Showing.{At, at, behind, behind_go, given_is, gone, g
 abbrev pub stepped : Counts → Counts
 stepped n = record n { steps = suc n.steps }
 
-module _ (T : Setup) (p : Program) (b m : Body) (c : Record) (next : Next) (word : ℕ) (s : Shows T p b c) (ready : IsReady p b next)
-    (goes : GoesOn p b m (after_word (target_of (operation_of next.op)) word) (removes_at next)) where
+module _ (T : Setup) (p : CompactProgram) (b m : Body) (c : Record) (next : Next) (word : ℕ) (s : BodyShows T p b c) (ready : IsReady p b next)
+    (goes : BodyContinues p b m (after_word (target_of (operation_of next.op)) word) (removes_at next)) where
   abbrev pub x : At T.code c next
   x = at T p b c next s ready.is_next
 
@@ -50,8 +50,8 @@ module _ (T : Setup) (p : Program) (b m : Body) (c : Record) (next : Next) (word
 
   -- what has not changed
 
-  pub kept_holds : Holds T.sizes.regions m.holding c.frame.holder c.memory.fills
-  kept_holds = subst (λ (d : Body). Holds T.sizes.regions d.holding c.frame.holder c.memory.fills) (sym goes.rest) s.holds
+  pub kept_holds : IsHoldingOf T.sizes.regions m.holding c.frame.holder c.memory.fills
+  kept_holds = subst (λ (d : Body). IsHoldingOf T.sizes.regions d.holding c.frame.holder c.memory.fills) (sym goes.rest) s.holds
 
   kept_side : SideShows m.side c.side c.frame.holder.offer
   kept_side = subst (λ (d : Body). SideShows d.side c.side c.frame.holder.offer) (sym goes.rest) s.side
@@ -95,16 +95,16 @@ module _ (T : Setup) (p : Program) (b m : Body) (c : Record) (next : Next) (word
         moves (λ q. record c { clock = ticked c.clock; frame = after_action T.code c.frame q.w q.ws q.instr (given q.instr.op) word })
         ∙ ap (λ f. record c { clock = ticked c.clock; frame = f }) does
 
-    pub acted_shows : Shows T p (record m { counts = stepped m.counts }) (acting T.code c word)
+    pub acted_shows : BodyShows T p (record m { counts = stepped m.counts }) (acting T.code c word)
     acted_shows =
-        subst (Shows T p (record m { counts = stepped m.counts })) (sym acting_is)
+        subst (BodyShows T p (record m { counts = stepped m.counts })) (sym acting_is)
         (gone_shows T p b m c next word s ready goes (ticked c.clock) c.frame.holder c.memory c.side
         (record m { counts = stepped m.counts }) refl refl refl kept_holds kept_side s.calm kept_reserved (ap stepped kept_share) kept_prints kept_refused)
 
     pub committed_shows : (known : SideShows side.AtRest at_rest c.frame.holder.offer)
-        → Shows T p (record m { counts = stepped m.counts; side = side.AtRest }) (committing T.code c word)
+        → BodyShows T p (record m { counts = stepped m.counts; side = side.AtRest }) (committing T.code c word)
     committed_shows known =
-        subst (Shows T p (record m { counts = stepped m.counts; side = side.AtRest }))
+        subst (BodyShows T p (record m { counts = stepped m.counts; side = side.AtRest }))
         (sym (ap (λ (d : Record). record d { side = at_rest }) acting_is))
         (gone_shows T p b m c next word s ready goes (ticked c.clock) c.frame.holder c.memory at_rest
         (record m { counts = stepped m.counts; side = side.AtRest }) refl refl refl kept_holds known s.calm kept_reserved
@@ -127,9 +127,9 @@ module _ (T : Setup) (p : Program) (b m : Body) (c : Record) (next : Next) (word
         }) (sym none)
         ∙ ap (λ f. record { clock = accessed c.clock; frame = acknowledged f; memory = c.memory; side = at_rest }) does
 
-    pub acknowledged_shows : word ≡ 0 → Shows T p (record m { side = side.AtRest }) (acknowledging T.code c)
+    pub acknowledged_shows : word ≡ 0 → BodyShows T p (record m { side = side.AtRest }) (acknowledging T.code c)
     acknowledged_shows none =
-        subst (Shows T p (record m { side = side.AtRest })) (sym (acknowledging_is none))
+        subst (BodyShows T p (record m { side = side.AtRest })) (sym (acknowledging_is none))
         (gone_shows T p b m c next word s ready goes (accessed c.clock) (record c.frame.holder { offer = NoOffer }) c.memory at_rest
         (record m { side = side.AtRest }) refl refl refl kept_holds (refl, refl) s.calm kept_reserved kept_share kept_prints kept_refused)
 
@@ -146,10 +146,10 @@ module _ (T : Setup) (p : Program) (b m : Body) (c : Record) (next : Next) (word
         (ap (λ t. after_op T.code c.frame.holder x.w x.ws x.instr.op (word_going x.w t word ∷ x.ws)) (sym none) ∙ does)
 
     pub printed_shows : (clock : ℕ) → to ≡ None
-        → Shows T p (record m { counts = stepped m.counts; prints = m.prints + 1 }) (printing T.code c clock)
+        → BodyShows T p (record m { counts = stepped m.counts; prints = m.prints + 1 }) (printing T.code c clock)
     printed_shows clock none =
         let bytes = bytes_at T.code (record { w = x.w; ws = x.ws; instr = x.instr }) in
-        subst (Shows T p (record m { counts = stepped m.counts; prints = m.prints + 1 })) (sym (printing_is clock none))
+        subst (BodyShows T p (record m { counts = stepped m.counts; prints = m.prints + 1 })) (sym (printing_is clock none))
         (gone_shows T p b m c next word s ready goes (with_print c.clock clock bytes) c.frame.holder c.memory c.side
         (record m { counts = stepped m.counts; prints = m.prints + 1 }) refl refl refl kept_holds kept_side s.calm kept_reserved
         (ap stepped kept_share) (length-append c.clock.prints (drawn_at clock bytes ∷ []) ∙ ap (λ n. n + 1) kept_prints) kept_refused)
@@ -184,10 +184,10 @@ module _ (T : Setup) (p : Program) (b m : Body) (c : Record) (next : Next) (word
 
     pub made_shows : (f : Fill) (object : Object) (d : Body) → suc (f.page * T.sizes.page_words + f.fill) ≡ word
         → d ≡ record m { holding = d.holding; counts = record m.counts { steps = suc m.counts.steps; objects = suc m.counts.objects } }
-        → Holds T.sizes.regions d.holding c.frame.holder (with_object c.memory f.slot (f.fill + words_in object)).fills
-        → Shows T p d (making T c f object)
+        → IsHoldingOf T.sizes.regions d.holding c.frame.holder (with_object c.memory f.slot (f.fill + words_in object)).fills
+        → BodyShows T p d (making T c f object)
     made_shows f object d same is holds =
-        subst (Shows T p d) (sym (making_is f object same))
+        subst (BodyShows T p d) (sym (making_is f object same))
         (gone_shows T p b m c next word s ready goes (record (ticked c.clock) {
           share = record c.clock.share { steps = suc c.clock.share.steps; objects = suc c.clock.share.objects };
         }) c.frame.holder (with_object c.memory f.slot (f.fill + words_in object)) c.side d
@@ -227,7 +227,7 @@ module _ (T : Setup) (p : Program) (b m : Body) (c : Record) (next : Next) (word
         }) does
 
     pub made_apart_shows : suc (reserved_address T c) ≡ word
-        → Shows T p (record m {
+        → BodyShows T p (record m {
           reserved = none_reserved;
           counts = record m.counts { steps = suc m.counts.steps; objects = suc m.counts.objects };
         }) (making_apart T c)
@@ -236,7 +236,7 @@ module _ (T : Setup) (p : Program) (b m : Body) (c : Record) (next : Next) (word
           reserved = none_reserved;
           counts = record m.counts { steps = suc m.counts.steps; objects = suc m.counts.objects };
         } in
-        subst (Shows T p d) (sym (making_apart_is same))
+        subst (BodyShows T p d) (sym (making_apart_is same))
         (gone_shows T p b m c next word s ready goes (record (ticked c.clock) {
           share = record c.clock.share { steps = suc c.clock.share.steps; objects = suc c.clock.share.objects };
         }) c.frame.holder (with_object_apart c.memory) c.side d refl refl refl kept_holds kept_side
@@ -262,10 +262,10 @@ module _ (T : Setup) (p : Program) (b m : Body) (c : Record) (next : Next) (word
           holding = d.holding;
           counts = record m.counts { steps = suc m.counts.steps; goroutines = suc m.counts.goroutines };
         }
-        → Holds T.sizes.regions d.holding (record c.frame.holder { pending = [] }) c.memory.fills
-        → Shows T p d (starting T.code c number)
+        → IsHoldingOf T.sizes.regions d.holding (record c.frame.holder { pending = [] }) c.memory.fills
+        → BodyShows T p d (starting T.code c number)
     started_shows number d none is holds =
-        subst (Shows T p d) (sym (starting_is number none))
+        subst (BodyShows T p d) (sym (starting_is number none))
         (gone_shows T p b m c next word s ready goes (with_child c.clock number) (record c.frame.holder { pending = [] }) c.memory c.side d
         (ap (λ (e : Body). e.stack) is) (ap (λ (e : Body). e.queue) is) (ap (λ (e : Body). e.is_expanded) is) holds
         (subst (λ (e : Body). SideShows e.side c.side c.frame.holder.offer) (sym is) kept_side) s.calm
@@ -282,8 +282,8 @@ no_offer side.AtRest known offer s none = s.1
 no_offer side.Tried known offer s none = s.2
 no_offer (side.Offering at) known offer s none = absurd (none at refl)
 
-pub rest_shows : (T : Setup) (p : Program) (b : Body) (c : Record) → ((at : ℕ) → b.side ≡ side.Offering at → ⊥) → Shows T p b c
-    → c.side ≡ at_rest → Shows T p (record b { side = side.AtRest }) c
+pub rest_shows : (T : Setup) (p : CompactProgram) (b : Body) (c : Record) → ((at : ℕ) → b.side ≡ side.Offering at → ⊥) → BodyShows T p b c
+    → c.side ≡ at_rest → BodyShows T p (record b { side = side.AtRest }) c
 rest_shows T p b c none s rests = record {
   code = s.code;
   belongs = s.belongs;
@@ -299,9 +299,9 @@ rest_shows T p b c none s rests = record {
 }
 
 -- an operation was not ready
-pub tried_shows : (T : Setup) (p : Program) (b : Body) (c : Record) (n : ℕ) (known : SideRec) → Shows T p b c
+pub tried_shows : (T : Setup) (p : CompactProgram) (b : Body) (c : Record) (n : ℕ) (known : SideRec) → BodyShows T p b c
     → ((at : ℕ) → b.side ≡ side.Offering at → ⊥) → known.hold ≡ sides.Free → known.post ≡ sides.Nowhere
-    → Shows T p (record b { side = side.Tried }) (waited n c known)
+    → BodyShows T p (record b { side = side.Tried }) (waited n c known)
 tried_shows T p b c n known s none free nowhere = record {
   code = s.code;
   belongs = s.belongs;

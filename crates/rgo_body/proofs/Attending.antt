@@ -13,18 +13,18 @@ use Rattle.rgo_core.specs.Frames.WordFrames.{bare_all}
 use Rattle.rgo_core.specs.Memory.Records.{Fill, Rec as MemoryRec, Reserved}
 use Rattle.rgo_core_steps.specs.Seats.{SettlesBy, settled_by}
 use Rattle.rgo_holding.specs.Changes.{Keeps}
-use Rattle.rgo_holding.specs.Holds.{Holds, region_at}
+use Rattle.rgo_holding.specs.Holds.{IsHoldingOf, region_at}
 use Rattle.rgo_holding.specs.declared.holding.Holding.{Holding}
 use Rattle.rgo_holding.specs.declared.keys.Key.{Key}
 use Rattle.rgo_sound.specs.RegionMachine.Owed.{next_duties}
 use Rattle.rgo_sound.specs.RegionMachine.Regions.{bound}
-use Rattle.rgo_sound.specs.RegionMachine.States.{Duty, Environment, Holder, top_names}
+use Rattle.rgo_sound.specs.RegionMachine.States.{Duty, RegionEnvironment, Holder, top_names}
 use Rattle.rgo_sound.specs.RegionMachine.declared.regions.Region.{Region}
 use Rattle.rgo_stack.specs.Stacks.{Belongs}
 use Rattle.rgo_body.specs.Bodies.{frames_in}
-use Rattle.rgo_body.specs.Duties.{DoesLocal, HasDone}
-use Rattle.rgo_body.specs.Programs.{Program}
-use Rattle.rgo_body.specs.Shows.{IsCalm, Shows, SideShows}
+use Rattle.rgo_body.specs.Duties.{DoesLocal, HasDoneDuty}
+use Rattle.rgo_body.specs.Programs.{CompactProgram}
+use Rattle.rgo_body.specs.Shows.{IsMemoryCalm, BodyShows, SideShows}
 use Rattle.rgo_body.specs.declared.bodies.Body.{Body}
 use Rattle.rgo_body.specs.declared.bodies.Side.{Side}
 use Rattle.rgo_body.specs.declared.bodies.Side.TheVariants as side
@@ -35,7 +35,7 @@ use Rattle.rgo_body.specs.declared.bodies.Side.TheVariants as side
 abbrev pub later : Code → Body → List Duty
 later code b = if b.is_expanded then [] else next_duties code (bare_all (frames_in b))
 
-module _ (T : Setup) (p : Program) (b : Body) (c : Record) (d : Duty) (ds : List Duty) (s : Shows T p b c)
+module _ (T : Setup) (p : CompactProgram) (b : Body) (c : Record) (d : Duty) (ds : List Duty) (s : BodyShows T p b c)
     (queue : b.queue.duties ≡ d ∷ ds) where
   pub first : c.frame.holder.duties ≡ d ∷ (ds ++ later p.code b)
   first = s.owes ∙ ap (λ l. l ++ later p.code b) queue
@@ -43,9 +43,9 @@ module _ (T : Setup) (p : Program) (b : Body) (c : Record) (d : Duty) (ds : List
   -- after the first one is done, by an access or without one: another holder and other pages are known
   module _ (e : Body) (done : e.queue.duties ≡ ds) (is : e ≡ record b { queue = e.queue; holding = e.holding; counts = e.counts }) where
     pub done_shows : (k : Holder) (clock : ClockRec) (memory : MemoryRec) → memory.reserved ≡ c.memory.reserved → k.duties ≡ ds ++ later p.code b
-        → k.offer ≡ c.frame.holder.offer → Holds T.sizes.regions e.holding k memory.fills → IsCalm memory clock.owed
+        → k.offer ≡ c.frame.holder.offer → IsHoldingOf T.sizes.regions e.holding k memory.fills → IsMemoryCalm memory clock.owed
         → clock.share ≡ e.counts → length clock.prints ≡ length c.clock.prints → clock.refused ≡ c.clock.refused
-        → Shows T p e (record c { clock = clock; frame = record c.frame { holder = k }; memory = memory })
+        → BodyShows T p e (record c { clock = clock; frame = record c.frame { holder = k }; memory = memory })
     done_shows k clock memory reserved duties offer holds calm share prints refused = record {
       code = s.code;
       belongs = subst (λ (x : Body). Belongs p.compact x.stack) (sym is) s.belongs;
@@ -65,13 +65,13 @@ module _ (T : Setup) (p : Program) (b : Body) (c : Record) (d : Duty) (ds : List
     pub local_shows : (g : ℕ) (k : Holder) → Here T g c → b.side ≡ side.AtRest → e.counts ≡ b.counts
         → local_duty (record c.frame.holder { duties = ds ++ later p.code b }) d ≡ Some k
         → k.duties ≡ ds ++ later p.code b → k.offer ≡ c.frame.holder.offer
-        → Holds T.sizes.regions e.holding k c.memory.fills
-        → SettlesBy T g 1 c × Shows T p e (settled_by T g 1 c)
+        → IsHoldingOf T.sizes.regions e.holding k c.memory.fills
+        → SettlesBy T g 1 c × BodyShows T p e (settled_by T g 1 c)
     local_shows g k here rests counts does duties offer holds =
         let known = subst (λ (x : Side). SideShows x c.side c.frame.holder.offer) rests s.side in
         let step = local_duty_steps T g c d (ds ++ later p.code b) k here known.0 first does in (
           step.settles,
-          subst (Shows T p e) (sym step.becomes)
+          subst (BodyShows T p e) (sym step.becomes)
               (done_shows k c.clock c.memory refl duties offer holds s.calm (s.share ∙ sym counts) refl refl),
         )
 
@@ -82,9 +82,9 @@ module _ (T : Setup) (p : Program) (b : Body) (c : Record) (d : Duty) (ds : List
 
 -- ---- a local duty, whatever the record
 
-module _ (p : Program) (b e : Body) (d : Duty) (ds : List Duty) (queue : b.queue.duties ≡ d ∷ ds) (done : e.queue.duties ≡ ds)
+module _ (p : CompactProgram) (b e : Body) (d : Duty) (ds : List Duty) (queue : b.queue.duties ≡ d ∷ ds) (done : e.queue.duties ≡ ds)
     (is : e ≡ record b { queue = e.queue; holding = e.holding; counts = e.counts }) where
-  pub has_done : HasDone b e
+  pub has_done : HasDoneDuty b e
   has_done = record { first = d; queue = queue ∙ ap (λ l. d ∷ l) (sym done); rest = is }
 
   -- what the holder is after it
@@ -93,9 +93,9 @@ module _ (p : Program) (b e : Body) (d : Duty) (ds : List Duty) (queue : b.queue
     pub does : local_duty (record c.frame.holder { duties = ds ++ later p.code b }) d ≡ Some after
     pub duties : after.duties ≡ ds ++ later p.code b
     pub offer : after.offer ≡ c.frame.holder.offer
-    pub holds : Holds T.sizes.regions e.holding after c.memory.fills
+    pub holds : IsHoldingOf T.sizes.regions e.holding after c.memory.fills
 
-  pub does_local : b.side ≡ side.AtRest → e.counts ≡ b.counts → ((T : Setup) (g : ℕ) (c : Record) → Here T g c → Shows T p b c → Becomes T c)
+  pub does_local : b.side ≡ side.AtRest → e.counts ≡ b.counts → ((T : Setup) (g : ℕ) (c : Record) → Here T g c → BodyShows T p b c → Becomes T c)
       → DoesLocal p b e
   does_local rests counts by = (
     (λ T g c here s. let x = by T g c here s in
@@ -121,16 +121,16 @@ no_key H o r e is = never (e ∙ ap (option_map Some) is)
 
 -- the key of a name, whatever the record
 abbrev pub IsKeyOf : Holding → Option Key → (name : ℕ) → Type 0
-IsKeyOf H o name = (slots : ℕ) (h : Holder) (fills : List Fill) → Holds slots H h fills
+IsKeyOf H o name = (slots : ℕ) (h : Holder) (fills : List Fill) → IsHoldingOf slots H h fills
     → option_map (region_at H) o ≡ option_map Some (bound (top_names h.environments) name)
 
-pub some_environment : (c : Record) (e : Environment) → HasNewest c e → 0 < length c.frame.holder.environments
-some_environment c e n = let l = ap (λ (es : List Environment). length es) n.environments in omega (arith, l)
+pub some_environment : (c : Record) (e : RegionEnvironment) → HasNewest c e → 0 < length c.frame.holder.environments
+some_environment c e n = let l = ap (λ (es : List RegionEnvironment). length es) n.environments in omega (arith, l)
 
 -- ---- memory alone
 
-pub with_holding : (T : Setup) (p : Program) (b : Body) (c : Record) (H : Holding) → Shows T p b c → Keeps b.holding H
-    → Shows T p (record b { holding = H }) c
+pub with_holding : (T : Setup) (p : CompactProgram) (b : Body) (c : Record) (H : Holding) → BodyShows T p b c → Keeps b.holding H
+    → BodyShows T p (record b { holding = H }) c
 with_holding T p b c H s keeps = record {
   code = s.code;
   belongs = s.belongs;

@@ -6,7 +6,7 @@ use Rattle.std.proofs.lemmas.List.{append-nil, length-append, length-map}
 use Rattle.std.proofs.lemmas.Option.{same_Some}
 use Rattle.rgo_sound.specs.Code.Code.{Branch, Call, Code, CodeFn, CodeInstr, CodeOp, Do, Go, Jump, Print, Return}
 use Rattle.rgo_sound.specs.Code.Erasure.{erased_op}
-use Rattle.rgo_sound.specs.Code.Exists.{Uses}
+use Rattle.rgo_sound.specs.Code.Exists.{UsesVariable}
 use Rattle.rgo_sound.specs.Code.Lists.{passes_of, protects_in, protects_of, removes_in, removes_of}
 use Rattle.rgo_sound.specs.Code.NameRules.{Ascends, protected_names}
 use Rattle.rgo_compact.specs.Bounds.{IsTarget}
@@ -26,11 +26,11 @@ use Rattle.rgo_core.specs.Memory.Records.{Fill}
 use Rattle.rgo_core_steps.specs.Ends.{ending}
 use Rattle.rgo_core_steps.specs.Seats.{SettlesBy, settled_by}
 use Rattle.rgo_holding.specs.Changes.{top_protections}
-use Rattle.rgo_holding.specs.Holds.{Holds}
+use Rattle.rgo_holding.specs.Holds.{IsHoldingOf}
 use Rattle.rgo_holding.specs.Passing.{calling}
 use Rattle.rgo_sound.specs.Machine.declared.picks.End.TheVariants.{Exit}
-use Rattle.rgo_sound.specs.RegionMachine.Owed.{caller_duties, current, duties_behind, duties_behind_call, entry_removes, formals_of, function_of, result_of}
-use Rattle.rgo_sound.specs.RegionMachine.States.{Duty, Ended, EndBase, Environment, Holder, Remove, Unprotect, below}
+use Rattle.rgo_sound.specs.RegionMachine.Owed.{caller_duties, current, duties_behind, duties_behind_call, entry_removes, formals_of, code_function, function_result_class}
+use Rattle.rgo_sound.specs.RegionMachine.States.{Duty, Ended, EndBase, RegionEnvironment, Holder, Remove, Unprotect, below}
 use Rattle.rgo_sound.specs.Values.{call_target}
 use Rattle.rgo_stack.proofs.Lookups.{places}
 use Rattle.rgo_stack.specs.Places.{CanContinue, CanReturn, IsCalledFor, WaitsFor}
@@ -41,8 +41,8 @@ use Rattle.rgo_sound.specs.Tac.Flow.{writes}
 use Rattle.rgo_sound.specs.Tac.Ops.{operation_of}
 use Rattle.rgo_body.specs.Bodies.{IsReady, frames_in}
 use Rattle.rgo_body.specs.Nexts.{IsNextOf, removes_at, result_target_of}
-use Rattle.rgo_body.specs.Programs.{IsProgram, Program}
-use Rattle.rgo_body.specs.Shows.{IsPossible, Shows}
+use Rattle.rgo_body.specs.Programs.{IsProgram, CompactProgram}
+use Rattle.rgo_body.specs.Shows.{IsPossible, BodyShows}
 use Rattle.rgo_body.specs.Steps.{HasBaseRoom, HasRoomBack}
 use Rattle.rgo_body.specs.declared.bodies.Body.{Body}
 use Rattle.rgo_body.specs.declared.bodies.Side.TheVariants as side
@@ -56,7 +56,7 @@ use Rattle.rgo_body.proofs.Transfers.{Stepped, counted, local_step, no_caller_be
 
 -- ---- calls
 
-pub protects_rise : (code : Code) (n i : ℕ) (fn : CodeFn) (instr : CodeInstr) → Ascends code → function_of code n ≡ Some fn
+pub protects_rise : (code : Code) (n i : ℕ) (fn : CodeFn) (instr : CodeInstr) → Ascends code → code_function code n ≡ Some fn
     → slice_get fn.body i ≡ Some instr → IsStrictlyIncreasing (protects_in (slice_get fn.body i))
 protects_rise code n i fn instr ascends found e =
     subst IsStrictlyIncreasing (same instr.op ∙ sym (ap protects_in e)) ((ascends n fn found).body i instr e).protects
@@ -70,24 +70,24 @@ protects_rise code n i fn instr ascends found e =
     same (Branch test target removes other otherwise) = refl
     same (Return value) = refl
 
-module _ (T : Setup) (p : Program) (b d : Body) (g : ℕ) (c : Record) (next : Next) (s : Shows T p b c) (ready : IsReady p b next)
+module _ (T : Setup) (p : CompactProgram) (b d : Body) (g : ℕ) (c : Record) (next : Next) (s : BodyShows T p b c) (ready : IsReady p b next)
     (rests : b.side ≡ side.AtRest) where
   abbrev pub x : At T.code c next
   x = at T p b c next s ready.is_next
 
   pub calls_shows : (to : Option ℕ) (f : ℕ) (from : List ℕ) (fn : CodeFn) → operation_of next.op ≡ tac.Call to f from
-      → function_of T.code f ≡ Some fn → Stepped b d (map Remove (entry_removes (function_of T.code f)))
+      → code_function T.code f ≡ Some fn → Stepped b d (map Remove (entry_removes (code_function T.code f)))
       → Belongs p.compact d.stack → frames_in d ≡ after_call fn f from (frames_in b)
-      → Holds T.sizes.regions d.holding
-      (calling c.frame.holder (result_of (function_of T.code f)) (formals_of (function_of T.code f)) (passes_of x.instr.op)
+      → IsHoldingOf T.sizes.regions d.holding
+      (calling c.frame.holder (function_result_class (code_function T.code f)) (formals_of (code_function T.code f)) (passes_of x.instr.op)
       (protects_of x.instr.op)) c.memory.fills
-      → SettlesBy T g 1 c × Shows T p d (settled_by T g 1 c)
+      → SettlesBy T g 1 c × BodyShows T p d (settled_by T g 1 c)
   calls_shows to f from fn op found k belongs frames holds =
       let is = call_of x.instr.op to f from (x.op ∙ op) in
       local_step T p b d g c next s ready rests (word_called fn f (words_of x.w from) ∷ x.w ∷ x.ws)
-      (calling c.frame.holder (result_of (function_of T.code f)) (formals_of (function_of T.code f)) (passes_of x.instr.op)
+      (calling c.frame.holder (function_result_class (code_function T.code f)) (formals_of (code_function T.code f)) (passes_of x.instr.op)
       (protects_of x.instr.op))
-      (map Remove (entry_removes (function_of T.code f))) k belongs
+      (map Remove (entry_removes (code_function T.code f))) k belongs
       (sym (frames ∙ ap (after_call fn f from) (sym s.frames ∙ x.are)))
       (not_exit g (word_called fn f (words_of x.w from)) (x.w ∷ x.ws))
       (ap (local_op T.code x.w x.ws) is
@@ -103,7 +103,7 @@ module _ (T : Setup) (p : Program) (b d : Body) (g : ℕ) (c : Record) (next : N
       a : IsAt T.code c (Return value)
       a = is_at T p b c next s ready rests (Return value) (return_of x.instr.op value (x.op ∙ op))
 
-      by_newest : (es : List Environment) → c.frame.holder.environments ≡ es → top_protections es ≡ []
+      by_newest : (es : List RegionEnvironment) → c.frame.holder.environments ≡ es → top_protections es ≡ []
       by_newest [] e = refl
       by_newest (n ∷ es) e = newest_unprotected T g c here (Return value) a refl n es e
 
@@ -116,7 +116,7 @@ module _ (T : Setup) (p : Program) (b d : Body) (g : ℕ) (c : Record) (next : N
   module _ (value : Option ℕ) (op : operation_of next.op ≡ tac.Return value)
       (k : Stepped b d (caller_duties T.code c.frame.holder (bare_all x.ws))) (belongs : Belongs p.compact d.stack)
       (frames : frames_in d ≡ after_return T.code value (frames_in b))
-      (holds : Holds T.sizes.regions d.holding back c.memory.fills) where
+      (holds : IsHoldingOf T.sizes.regions d.holding back c.memory.fills) where
     is : x.instr.op ≡ Return value
     is = return_of x.instr.op value (x.op ∙ op)
 
@@ -130,7 +130,7 @@ module _ (T : Setup) (p : Program) (b d : Body) (g : ℕ) (c : Record) (next : N
         ≡ (stepped T c (returned value) back (caller_duties T.code c.frame.holder (bare_all x.ws))).frame
     after = ap (λ o. after_op T.code c.frame.holder x.w x.ws o (returned value)) is
 
-    pub returns_shows : is_exit g (drop 1 (frames_in b)) ≡ false → SettlesBy T g 1 c × Shows T p d (settled_by T g 1 c)
+    pub returns_shows : is_exit g (drop 1 (frames_in b)) ≡ false → SettlesBy T g 1 c × BodyShows T p d (settled_by T g 1 c)
     returns_shows stays =
         local_step T p b d g c next s ready rests (returned value) back (caller_duties T.code c.frame.holder (bare_all x.ws)) k belongs are
         (by_callers x.ws (ap (λ fs. is_exit g (drop 1 fs)) (sym x.are ∙ s.frames) ∙ stays)) does after refl holds
@@ -141,9 +141,9 @@ module _ (T : Setup) (p : Program) (b d : Body) (g : ℕ) (c : Record) (next : N
         by_callers (caller ∷ ws) e = not_exit g _ ws
 
     -- the return of `main` ends the run
-    pub exit_shows : (clock : ℕ) → Shows T p d (ending T.code c clock (Ended Exit))
+    pub exit_shows : (clock : ℕ) → BodyShows T p d (ending T.code c clock (Ended Exit))
     exit_shows clock =
-        subst (Shows T p d) (sym ends)
+        subst (BodyShows T p d) (sym ends)
         (like_shown T p d (stepped T c (returned value) back (caller_duties T.code c.frame.holder (bare_all x.ws)))
         (record c {
           clock = with_end (instructed c.clock) clock (Ended Exit);
@@ -177,13 +177,13 @@ module _ (T : Setup) (p : Program) (b d : Body) (g : ℕ) (c : Record) (next : N
 
 -- ---- what a return asks of the stack
 
-module _ (p : Program) (b : Body) (next : Next) (y : IsPossible p b) (program : IsProgram p) (n : IsNextOf p.code (frames_in b) next)
+module _ (p : CompactProgram) (b : Body) (next : Next) (y : IsPossible p b) (program : IsProgram p) (n : IsNextOf p.code (frames_in b) next)
     (value : Option ℕ) (op : operation_of next.op ≡ tac.Return value) where
   has_value : (v : Option ℕ) → value ≡ v → IsTarget (length n.w.variables) v
   has_value None e = tt
   has_value (Some v) e =
       has_word p b next y program n v
-      (subst (λ o. Uses o v) (sym op) (inl (subst (λ (o : Option ℕ). Contains (option_to_list o) v) (sym e) (0, omega arith, refl))))
+      (subst (λ o. UsesVariable o v) (sym op) (inl (subst (λ (o : Option ℕ). Contains (option_to_list o) v) (sym e) (0, omega arith, refl))))
 
   pub can_return : (to : Option ℕ) (callers : List WordFrame) → n.ws ≡ callers → CanContinue p.compact to callers
       → CanReturn p.compact value to (frames_in b)
@@ -198,7 +198,7 @@ module _ (p : Program) (b : Body) (next : Next) (y : IsPossible p b) (program : 
 
 -- ---- the caller to which a function returns
 
-module _ (p : Program) (b : Body) (call : Next) (y : IsPossible p b) (program : IsProgram p)
+module _ (p : CompactProgram) (b : Body) (call : Next) (y : IsPossible p b) (program : IsProgram p)
     (n : IsNextOf p.code (drop 1 (frames_in b)) call) where
   pub second : (frames : List WordFrame) → drop 1 frames ≡ n.w ∷ n.ws → (w : WordFrame) × (frames ≡ w ∷ n.w ∷ n.ws)
   second [] e = cc
@@ -215,7 +215,7 @@ module _ (p : Program) (b : Body) (call : Next) (y : IsPossible p b) (program : 
 
   as_many : length n.w.variables ≡ length call.function.variables
   as_many = in_code.words ∙ ap (λ (fn : CodeFn). length fn.variables)
-      (same_Some in_code.fn call.function (sym in_code.in_fn ∙ ap (λ code. function_of code n.w.function) y.shows.code ∙ n.in_fn))
+      (same_Some in_code.fn call.function (sym in_code.in_fn ∙ ap (λ code. code_function code n.w.function) y.shows.code ∙ n.in_fn))
 
   -- it waits at a call of the function that runs
   pub called : IsCalledBy y.T.code newest n.w
@@ -269,17 +269,17 @@ module _ (p : Program) (b : Body) (call : Next) (y : IsPossible p b) (program : 
 pub tail_is : (w : WordFrame) (ws : List WordFrame) (frames : List WordFrame) → frames ≡ w ∷ ws → ws ≡ drop 1 frames
 tail_is w ws frames e = sym (ap (drop 1) e)
 
-module _ (T : Setup) (p : Program) (b d : Body) (g : ℕ) (c : Record) (next : Next) (y : IsPossible p b) (program : IsProgram p)
-    (here : Here T g c) (s : Shows T p b c) (ready : IsReady p b next) (rests : b.side ≡ side.AtRest) (value : Option ℕ)
+module _ (T : Setup) (p : CompactProgram) (b d : Body) (g : ℕ) (c : Record) (next : Next) (y : IsPossible p b) (program : IsProgram p)
+    (here : Here T g c) (s : BodyShows T p b c) (ready : IsReady p b next) (rests : b.side ≡ side.AtRest) (value : Option ℕ)
     (op : operation_of next.op ≡ tac.Return value) (belongs : Belongs p.compact d.stack)
-    (holding : (slots : ℕ) (h : Holder) (fills : List Fill) → Holds slots b.holding h fills → top_protections h.environments ≡ []
-    → Holds slots d.holding (record h { environments = below h.environments }) fills)
+    (holding : (slots : ℕ) (h : Holder) (fills : List Fill) → IsHoldingOf slots b.holding h fills → top_protections h.environments ≡ []
+    → IsHoldingOf slots d.holding (record h { environments = below h.environments }) fills)
     (expanded : d.is_expanded ≡ false) (side_is : d.side ≡ b.side) (counts : d.counts ≡ counted b.counts)
     (prints : d.prints ≡ b.prints) (reserved : d.reserved ≡ b.reserved) (refused : d.refused ≡ b.refused) where
   abbrev pub z : At T.code c next
   z = at T p b c next s ready.is_next
 
-  pub held : Holds T.sizes.regions d.holding (record c.frame.holder { environments = below c.frame.holder.environments }) c.memory.fills
+  pub held : IsHoldingOf T.sizes.regions d.holding (record c.frame.holder { environments = below c.frame.holder.environments }) c.memory.fills
   held = holding T.sizes.regions c.frame.holder c.memory.fills s.holds (unprotected T p b d g c next s ready rests here value op)
 
   z_callers : z.ws ≡ drop 1 (frames_in b)
@@ -316,16 +316,16 @@ module _ (T : Setup) (p : Program) (b d : Body) (g : ℕ) (c : Record) (next : N
     frames = stack T.code (is_called p b next y program ready.is_next value op T.code (result_target_of (operation_of call.op)) (n.w ∷ n.ws)
         (next_callers ∙ n.are) (waits_for p b call y program n T.code s.code))
 
-    pub comes_back : is_exit g (drop 1 (frames_in b)) ≡ false → SettlesBy T g 1 c × Shows T p d (settled_by T g 1 c)
+    pub comes_back : is_exit g (drop 1 (frames_in b)) ≡ false → SettlesBy T g 1 c × BodyShows T p d (settled_by T g 1 c)
     comes_back = returns_shows T p b d g c next s ready rests value op owes belongs frames held
 
-    pub comes_back_exit : (clock : ℕ) → Shows T p d (ending T.code c clock (Ended Exit))
+    pub comes_back_exit : (clock : ℕ) → BodyShows T p d (ending T.code c clock (Ended Exit))
     comes_back_exit = exit_shows T p b d g c next s ready rests value op owes belongs frames held
 
   -- from the first function
   module _ (last : caller_place (frames_in b) ≡ None)
       (stack : (code : Code) → IsCalledFor code None (frames_in b) → frames_in d ≡ after_return code value (frames_in b))
-      (queue : (h : Holder) (fills : List Fill) (slots : ℕ) → Holds slots d.holding h fills
+      (queue : (h : Holder) (fills : List Fill) (slots : ℕ) → IsHoldingOf slots d.holding h fills
       → d.queue.duties ≡ map EndBase h.base ++ b.queue.duties) where
     owes_base : Stepped b d (caller_duties T.code c.frame.holder (bare_all z.ws))
     owes_base = owing (map EndBase c.frame.holder.base)
@@ -337,14 +337,14 @@ module _ (T : Setup) (p : Program) (b d : Body) (g : ℕ) (c : Record) (next : N
     last_frames = stack T.code (is_called p b next y program ready.is_next value op T.code None []
         (next_callers ∙ no_caller_below (frames_in b) last) tt)
 
-    pub ends : is_exit g (drop 1 (frames_in b)) ≡ false → SettlesBy T g 1 c × Shows T p d (settled_by T g 1 c)
+    pub ends : is_exit g (drop 1 (frames_in b)) ≡ false → SettlesBy T g 1 c × BodyShows T p d (settled_by T g 1 c)
     ends = returns_shows T p b d g c next s ready rests value op owes_base belongs last_frames held
 
-    pub ends_exit : (clock : ℕ) → Shows T p d (ending T.code c clock (Ended Exit))
+    pub ends_exit : (clock : ℕ) → BodyShows T p d (ending T.code c clock (Ended Exit))
     ends_exit = exit_shows T p b d g c next s ready rests value op owes_base belongs last_frames held
 
 -- the room that was taken is enough
-pub room_enough : (p : Program) (b : Body) (call : Next) (y : IsPossible p b) (program : IsProgram p)
+pub room_enough : (p : CompactProgram) (b : Body) (call : Next) (y : IsPossible p b) (program : IsProgram p)
     → IsNextOf p.code (drop 1 (frames_in b)) call → HasRoomBack p b
     → length (protects_in (slice_get call.function.body call.at)) + length (removes_at call) ≤ b.queue.room
 room_enough p b call y program n room =
@@ -355,10 +355,10 @@ room_enough p b call y program n room =
     ∙ (λ i. length-map (protects_in (slice_get call.function.body call.at)) Unprotect i + length-map (removes_at call) Remove i))
     (room y.T y.c y.shows)
 
-pub base_room : (p : Program) (b d : Body) (next : Next) (y : IsPossible p b) (ready : IsReady p b next) (rests : b.side ≡ side.AtRest)
+pub base_room : (p : CompactProgram) (b d : Body) (next : Next) (y : IsPossible p b) (ready : IsReady p b next) (rests : b.side ≡ side.AtRest)
     (value : Option ℕ) (op : operation_of next.op ≡ tac.Return value) → caller_place (frames_in b) ≡ None → HasRoomBack p b
-    → ((slots : ℕ) (h : Holder) (fills : List Fill) → Holds slots b.holding h fills → top_protections h.environments ≡ []
-    → Holds slots d.holding (record h { environments = below h.environments }) fills)
+    → ((slots : ℕ) (h : Holder) (fills : List Fill) → IsHoldingOf slots b.holding h fills → top_protections h.environments ≡ []
+    → IsHoldingOf slots d.holding (record h { environments = below h.environments }) fills)
     → HasBaseRoom d.holding b.queue.room
 base_room p b d next y ready rests value op last room holding = (
   record y.c.frame.holder { environments = below y.c.frame.holder.environments },

@@ -18,8 +18,8 @@ use Rattle.rgo_sound.specs.Tac.Code as tac
 use Rattle.rgo_sound.specs.Tac.Ops.{operation_of}
 use Rattle.rgo_sound.specs.Typed.declared.actions.Action.{Action}
 use Rattle.rgo_body.specs.Bodies.{IsReady, frames_in}
-use Rattle.rgo_body.specs.Programs.{Program}
-use Rattle.rgo_body.specs.Shows.{Shows, SideShows}
+use Rattle.rgo_body.specs.Programs.{CompactProgram}
+use Rattle.rgo_body.specs.Shows.{BodyShows, SideShows}
 use Rattle.rgo_body.specs.declared.bodies.Body.{Body}
 use Rattle.rgo_body.specs.declared.bodies.Side.{Side}
 use Rattle.rgo_body.specs.declared.bodies.Side.TheVariants as side
@@ -45,10 +45,10 @@ computes_to code w ws (Jump target removes) t a f word e does = cc
 computes_to code w ws (Branch test target removes other otherwise) t a f word e does = cc
 computes_to code w ws (Return value) t a f word e does = cc
 
-module _ (T : Setup) (p : Program) (b d : Body) (g : ℕ) (c : Record) (next : Next) (word : ℕ) (s : Shows T p b c) (ready : IsReady p b next)
+module _ (T : Setup) (p : CompactProgram) (b d : Body) (g : ℕ) (c : Record) (next : Next) (word : ℕ) (s : BodyShows T p b c) (ready : IsReady p b next)
     (to : Option ℕ) (action : Action) (from : List ℕ) (op : operation_of next.op ≡ tac.Do to action from)
     (does : computed action (words_from (frames_in b) from) ≡ Some word) (rests : b.side ≡ side.AtRest)
-    (acted : Shows T p d (acting T.code c word)) where
+    (acted : BodyShows T p d (acting T.code c word)) where
   abbrev pub x : At T.code c next
   x = at T p b c next s ready.is_next
 
@@ -74,13 +74,13 @@ module _ (T : Setup) (p : Program) (b d : Body) (g : ℕ) (c : Record) (next : N
         frame = after_action T.code c.frame q.w q.ws q.instr (given q.instr.op) word;
       }) q c) (position_by T.code c x.w x.ws x.instr x.are x.cur)
 
-  pub computes_shows : SettlesBy T g 1 c × Shows T p d (settled_by T g 1 c)
+  pub computes_shows : SettlesBy T g 1 c × BodyShows T p d (settled_by T g 1 c)
   computes_shows = (
     step.settles,
-    subst (Shows T p d) (sym step.is)
+    subst (BodyShows T p d) (sym step.is)
         (like_shown T p d (record c { clock = ticked c.clock; frame = after_action T.code c.frame x.w x.ws x.instr (given x.instr.op) word })
         (record c { clock = instructed c.clock; frame = after_action T.code c.frame x.w x.ws x.instr (given x.instr.op) word })
-        (subst (Shows T p d) acting_is acted)
+        (subst (BodyShows T p d) acting_is acted)
         (record {
           frame = refl;
           side = refl;

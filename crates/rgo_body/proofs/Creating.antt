@@ -12,20 +12,19 @@ use Rattle.rgo_core_facts.proofs.ControlRegions.{nothing_kept}
 use Rattle.rgo_core_facts.specs.ControlDuties.{IsUnnamed}
 use Rattle.rgo_core_facts.specs.ControlRegions.{HasNothingOf}
 use Rattle.rgo_core.specs.Frames.WordFrames.{bare, bare_all}
-use Rattle.rgo_core.specs.Memory.Records.{Fill, Within}
+use Rattle.rgo_core.specs.Memory.Records.{Fill, Within, page_of}
 use Rattle.rgo_core_steps.specs.Counts.{created, created_with}
 use Rattle.rgo_holding.specs.Changes as changes
-use Rattle.rgo_holding.specs.Holds.{Holds}
-use Rattle.rgo_holding.specs.Known.{page_of}
+use Rattle.rgo_holding.specs.Holds.{IsHoldingOf}
 use Rattle.rgo_sound.specs.RegionMachine.Owed.{current, current_in, duties_before, duties_of_op, next_duties, regions_named}
 use Rattle.rgo_sound.specs.RegionMachine.States.{Create, Duty, Holder, Protect, Share}
 use Rattle.rgo_sound.specs.Stakes.{is_in, one_if, times_in}
 use Rattle.rgo_sound.specs.Tac.Code as tac
 use Rattle.rgo_body.specs.Bodies.{frames_in, owed}
 use Rattle.rgo_body.specs.Nexts.{IsNextOf}
-use Rattle.rgo_body.specs.Programs.{Program}
-use Rattle.rgo_body.specs.Reserves.{Reserved}
-use Rattle.rgo_body.specs.Shows.{IsCalm, IsPossible, Shows, SideShows}
+use Rattle.rgo_body.specs.Programs.{CompactProgram}
+use Rattle.rgo_body.specs.Reserves.{PageReserve}
+use Rattle.rgo_body.specs.Shows.{IsMemoryCalm, IsPossible, BodyShows, SideShows}
 use Rattle.rgo_stack.specs.Stacks.{Belongs}
 use Rattle.rgo_sound.specs.RegionMachine.Counts.{Counts}
 use Rattle.rgo_holding.specs.declared.holding.Holding.{Holding}
@@ -33,7 +32,7 @@ use Rattle.rgo_core.specs.Claims.{claims, reserves}
 use Rattle.rgo_core.specs.Memory.Records.{Idle, Rec as MemoryRec, with_claim}
 use Rattle.rgo_core_steps.specs.Making.{next_is_spread}
 use Rattle.rgo_pages.specs.Claiming.{has_claimed}
-use Rattle.rgo_body.specs.Steps.{Stays}
+use Rattle.rgo_body.specs.Steps.{StillShows}
 use Rattle.rgo_body.specs.declared.bodies.Body.{Body}
 use Rattle.rgo_body.specs.declared.nexts.Next.{Next}
 use Rattle.rgo_body.proofs.Attending.{attended, done_shows, first, later, some_environment}
@@ -72,25 +71,25 @@ is_new T g c slot here low out =
 
 -- ---- a region is created
 
-pub created_shows : (T : Setup) (p : Program) (b e : Body) (g : ℕ) (c : Record) (name slot : ℕ) (ds : List Duty) → Here T g c
-    → Shows T p b c → b.queue.duties ≡ Create name ∷ ds → e.queue.duties ≡ ds
+pub created_shows : (T : Setup) (p : CompactProgram) (b e : Body) (g : ℕ) (c : Record) (name slot : ℕ) (ds : List Duty) → Here T g c
+    → BodyShows T p b c → b.queue.duties ≡ Create name ∷ ds → e.queue.duties ≡ ds
     → e ≡ record b { queue = e.queue; holding = e.holding; counts = e.counts } → e.counts ≡ record b.counts { made = suc b.counts.made }
     → slot < T.sizes.regions → is_in slot c.frame.holder.stakes ≡ false
-    → ((slots : ℕ) (h : Holder) (fills : List Fill) → Holds slots b.holding h fills → changes.IsNew slots h fills slot
-    → Holds slots e.holding (changes.creating h name slot) fills)
-    → Shows T p e (created c slot)
+    → ((slots : ℕ) (h : Holder) (fills : List Fill) → IsHoldingOf slots b.holding h fills → changes.IsNew slots h fills slot
+    → IsHoldingOf slots e.holding (changes.creating h name slot) fills)
+    → BodyShows T p e (created c slot)
 created_shows T p b e g c name slot ds here s queue done is counts low out creates =
     let owes = first T p b c (Create name) ds s queue in
     let h : Holder = record (changes.creating c.frame.holder name slot) { duties = ds ++ later p.code b } in
     let clock : ClockRec = record (accessed c.clock) { share = record c.clock.share { made = suc c.clock.share.made } } in
-    subst (λ l. Shows T p e (created_with c slot l)) (sym owes)
+    subst (λ l. BodyShows T p e (created_with c slot l)) (sym owes)
     (done_shows T p b c (Create name) ds s queue e done is h clock c.memory refl refl refl
     (creates T.sizes.regions c.frame.holder c.memory.fills s.holds (is_new T g c slot here low out))
     record { make = s.calm.make; claim = s.calm.claim; give = s.calm.give; none = s.calm.none }
     (ap (λ (n : Counts). record n { made = suc n.made }) s.share ∙ sym counts) refl refl)
 
 -- some frame has its names
-pub names_exist : (p : Program) (b : Body) (name : ℕ) (y : IsPossible p b) → (ds : List Duty) × (b.queue.duties ≡ Create name ∷ ds)
+pub names_exist : (p : CompactProgram) (b : Body) (name : ℕ) (y : IsPossible p b) → (ds : List Duty) × (b.queue.duties ≡ Create name ∷ ds)
     → 0 < length y.c.frame.holder.environments
 names_exist p b name y owes =
     let n : IsUnnamed y.c name = attended y.T p b y.c (Create name) owes.0 y.shows owes.1 y.goroutine y.here in
@@ -106,15 +105,15 @@ pub no_more : (ds : List Duty) → ds ++ [] ≡ ds
 no_more [] = refl
 no_more (d ∷ ds) = ap (λ l. d ∷ l) (no_more ds)
 
-pub expands : (p : Program) (b d : Body) (next : Next) (n : IsNextOf p.code (frames_in b) next) → b.queue.duties ≡ []
+pub expands : (p : CompactProgram) (b d : Body) (next : Next) (n : IsNextOf p.code (frames_in b) next) → b.queue.duties ≡ []
     → b.is_expanded ≡ false → d ≡ record b { queue = d.queue; is_expanded = true }
     → d.queue.duties ≡ map Create (creates_in (slice_get next.function.body next.at)) ++ duties_of_op n.instr.op
-    → Stays p b d
+    → StillShows p b d
 expands p b d next n empty not_yet is queue T c s = record {
   code = s.code;
   belongs = subst (λ (x : Body). Belongs p.compact x.stack) (sym is) s.belongs;
   frames = s.frames ∙ sym (ap frames_in is);
-  holds = subst (λ (x : Body). Holds T.sizes.regions x.holding c.frame.holder c.memory.fills) (sym is) s.holds;
+  holds = subst (λ (x : Body). IsHoldingOf T.sizes.regions x.holding c.frame.holder c.memory.fills) (sym is) s.holds;
   reserved = s.reserved ∙ sym (ap (λ (x : Body). x.reserved.pages) is);
   owes = s.owes ∙ before ∙ sym queue ∙ sym (no_more d.queue.duties)
       ∙ ap (λ t. d.queue.duties ++ (if t then [] else next_duties p.code (bare_all (frames_in d)))) (sym (ap (λ (x : Body). x.is_expanded) is));
@@ -135,12 +134,12 @@ expands p b d next n empty not_yet is queue T c s = record {
         ∙ ap (λ o. map Create (creates_in o) ++ duties_of_op n.instr.op) (sym n.is_instr)
 
 -- only what is in its queue has moved
-pub requeued : (p : Program) (b d : Body) → d ≡ record b { queue = d.queue } → d.queue.duties ≡ b.queue.duties → Stays p b d
+pub requeued : (p : CompactProgram) (b d : Body) → d ≡ record b { queue = d.queue } → d.queue.duties ≡ b.queue.duties → StillShows p b d
 requeued p b d is queue T c s = record {
   code = s.code;
   belongs = subst (λ (x : Body). Belongs p.compact x.stack) (sym is) s.belongs;
   frames = s.frames ∙ sym (ap frames_in is);
-  holds = subst (λ (x : Body). Holds T.sizes.regions x.holding c.frame.holder c.memory.fills) (sym is) s.holds;
+  holds = subst (λ (x : Body). IsHoldingOf T.sizes.regions x.holding c.frame.holder c.memory.fills) (sym is) s.holds;
   reserved = s.reserved ∙ sym (ap (λ (x : Body). x.reserved.pages) is);
   owes = s.owes ∙ ap (λ l. l ++ later p.code b) (sym queue) ∙ sym (ap (λ (x : Body). d.queue.duties ++ later p.code x) is);
   side = subst (λ (x : Body). SideShows x.side c.side c.frame.holder.offer) (sym is) s.side;
@@ -172,10 +171,10 @@ go_duties (code.Return value) f l e = refl
 
 -- ---- memory and counts alone
 
-pub recounted : (T : Setup) (p : Program) (b : Body) (c : Record) (H : Holding) (R : Reserved) (n : Counts) (clock : ClockRec) (memory : MemoryRec)
-    → Shows T p b c → Holds T.sizes.regions H c.frame.holder memory.fills → memory.reserved.pages ≡ R.pages → IsCalm memory clock.owed → clock.share ≡ n
+pub recounted : (T : Setup) (p : CompactProgram) (b : Body) (c : Record) (H : Holding) (R : PageReserve) (n : Counts) (clock : ClockRec) (memory : MemoryRec)
+    → BodyShows T p b c → IsHoldingOf T.sizes.regions H c.frame.holder memory.fills → memory.reserved.pages ≡ R.pages → IsMemoryCalm memory clock.owed → clock.share ≡ n
     → length clock.prints ≡ length c.clock.prints → clock.refused ≡ c.clock.refused
-    → Shows T p (record b { holding = H; reserved = R; counts = n }) (record c { clock = clock; memory = memory })
+    → BodyShows T p (record b { holding = H; reserved = R; counts = n }) (record c { clock = clock; memory = memory })
 recounted T p b c H R n clock memory s holds reserved calm share prints refused = record {
   code = s.code;
   belongs = s.belongs;

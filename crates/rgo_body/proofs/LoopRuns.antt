@@ -10,19 +10,19 @@ use Rattle.rgo_core.specs.Frames.WordFrames.{bare_all}
 use Rattle.rgo_core.specs.Memory.Records.{Fill, Reserved}
 use Rattle.rgo_core.specs.Rule.Views.{Me, number_of}
 use Rattle.rgo_core_steps.specs.Seats.{HasOne, Settles, settled}
-use Rattle.rgo_holding.specs.Changes.{KnowsNone, Settles as HoldingSettles}
-use Rattle.rgo_holding.specs.Holds.{Holds}
+use Rattle.rgo_holding.specs.Changes.{KnowsNone, EnvironmentsSettle as HoldingSettles}
+use Rattle.rgo_holding.specs.Holds.{IsHoldingOf}
 use Rattle.rgo_stack.proofs.Loop.Making.{as_many}
-use Rattle.rgo_stack.specs.Loop.Comes.{Comes, HasMade, IsBetween}
+use Rattle.rgo_stack.specs.Loop.Comes.{SeatComes, HasMade, IsBetween}
 use Rattle.rgo_sound.specs.Machine.Limits.{deepest}
 use Rattle.rgo_sound.specs.RegionMachine.Counts.{Counts}
 use Rattle.rgo_sound.specs.RegionMachine.Owed.{next_duties}
-use Rattle.rgo_sound.specs.RegionMachine.States.{Environment, Holder, NoOffer}
+use Rattle.rgo_sound.specs.RegionMachine.States.{RegionEnvironment, Holder, NoOffer}
 use Rattle.rgo_stack.proofs.Frames.{as_deep}
 use Rattle.rgo_stack.specs.Stacks.{Belongs, BelongsAt, Stack, frames_at, frames_of}
 use Rattle.rgo_body.specs.Bodies.{frames_in}
-use Rattle.rgo_body.specs.Programs.{Program}
-use Rattle.rgo_body.specs.Shows.{Shows, SideShows}
+use Rattle.rgo_body.specs.Programs.{CompactProgram}
+use Rattle.rgo_body.specs.Shows.{BodyShows, SideShows}
 use Rattle.rgo_body.specs.declared.bodies.Body.{Body}
 use Rattle.rgo_body.specs.declared.bodies.Side.{Side}
 use Rattle.rgo_body.specs.declared.bodies.Side.TheVariants as side
@@ -41,11 +41,11 @@ few_frames fs s belongs = by_at s.at refl
         let room = belongs.room in
         omega (arith, many, deep, room)
 
-bare_known : (es : List Environment) → AllByRecursion IsBare es → AllByRecursion KnowsNone es
+bare_known : (es : List RegionEnvironment) → AllByRecursion IsBare es → AllByRecursion KnowsNone es
 bare_known [] k = tt
 bare_known (e ∷ es) k = (record { names = k.0.names; protections = k.0.protections }, bare_known es k.1)
 
-module _ (T : Setup) (p : Program) (b : Body) (m : Me Record) (q : ℕ) (s : Shows T p b (settled T q m))
+module _ (T : Setup) (p : CompactProgram) (b : Body) (m : Me Record) (q : ℕ) (s : BodyShows T p b (settled T q m))
     (empty : b.queue.duties ≡ []) (not_yet : b.is_expanded ≡ false) (rests : b.side ≡ side.AtRest) where
   known : ((settled T q m).side ≡ at_rest) × ((settled T q m).frame.holder.offer ≡ NoOffer)
   known = subst (λ (x : Side). SideShows x (settled T q m).side (settled T q m).frame.holder.offer) rests s.side
@@ -63,20 +63,20 @@ module _ (T : Setup) (p : Program) (b : Body) (m : Me Record) (q : ℕ) (s : Sho
     few = few_frames p.compact b.stack s.belongs;
   }
 
-  module _ (d : Body) (w : Me Record) (r n kept depth : ℕ) (comes : Comes T m q w r (frames_in d) n kept)
+  module _ (d : Body) (w : Me Record) (r n kept depth : ℕ) (comes : SeatComes T m q w r (frames_in d) n kept)
       (belongs : Belongs p.compact d.stack) (deep : depth ≡ length (frames_in d))
       (is : d ≡ record b { stack = d.stack; holding = d.holding; counts = record b.counts { steps = b.counts.steps + n } })
-      (settles : (es : List Environment) → HoldingSettles kept depth (settled T q m).frame.holder.environments es
-      → Holds T.sizes.regions d.holding (record (settled T q m).frame.holder { environments = es }) (settled T q m).memory.fills) where
+      (settles : (es : List RegionEnvironment) → HoldingSettles kept depth (settled T q m).frame.holder.environments es
+      → IsHoldingOf T.sizes.regions d.holding (record (settled T q m).frame.holder { environments = es }) (settled T q m).memory.fills) where
     made : HasMade (settled T q m) (settled T r w) n kept
     made = comes.made
 
     abbrev environs : Environs kept (settled T q m).frame.holder.environments (settled T r w).frame.holder.environments
     environs = comes.made.environs
 
-    shown_holds : Holds T.sizes.regions d.holding (settled T r w).frame.holder (settled T r w).memory.fills
+    shown_holds : IsHoldingOf T.sizes.regions d.holding (settled T r w).frame.holder (settled T r w).memory.fills
     shown_holds =
-        subst (λ (x : Holder × List Fill). Holds T.sizes.regions d.holding x.0 x.1) (λ i. (sym made.holder i, sym made.fills i))
+        subst (λ (x : Holder × List Fill). IsHoldingOf T.sizes.regions d.holding x.0 x.1) (λ i. (sym made.holder i, sym made.fills i))
         (settles (settled T r w).frame.holder.environments (record {
           above = environs.above;
           fresh = environs.fresh;
@@ -89,7 +89,7 @@ module _ (T : Setup) (p : Program) (b : Body) (m : Me Record) (q : ℕ) (s : Sho
           bare = bare_known environs.fresh environs.bare;
         }))
 
-    pub run_shows : Shows T p d (settled T r w)
+    pub run_shows : BodyShows T p d (settled T r w)
     run_shows = record {
       code = s.code;
       belongs = belongs;

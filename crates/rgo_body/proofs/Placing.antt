@@ -5,22 +5,22 @@ use Rattle.std.proofs.lemmas.Option.{same_Some}
 use Rattle.rgo_sound.specs.Code.Code.{Branch, Call, CodeOp, Do, Go, Jump, Print, Return}
 use Rattle.rgo_sound.specs.Code.Erasure.{erased_op}
 use Rattle.rgo_sound.specs.Code.Lists.{passes_of, protects_of, removes_of}
-use Rattle.rgo_sound.specs.Code.Exists.{Uses}
+use Rattle.rgo_sound.specs.Code.Exists.{UsesVariable}
 use Rattle.rgo_core_facts.proofs.ControlCode.{callees_exist, next_exists, variables_exist}
 use Rattle.rgo_core_facts.proofs.ControlFrames.{all_in_code}
 use Rattle.rgo_core_facts.specs.ControlCode.{CanCall, HasCallee, IsFollowed}
 use Rattle.rgo_core_facts.specs.ControlFrames.{IsInCode}
 use Rattle.rgo_compact.specs.Bounds.{IsTarget}
 use Rattle.rgo_sound.specs.Tac.Flow.{writes}
-use Rattle.rgo_sound.specs.RegionMachine.Owed.{function_of}
+use Rattle.rgo_sound.specs.RegionMachine.Owed.{code_function}
 use Rattle.rgo_stack.proofs.Lookups.{places}
-use Rattle.rgo_stack.specs.Places.{CanAdvance, CanCall as StackCanCall, CanJump, IsPlace, Takes}
+use Rattle.rgo_stack.specs.Places.{CanAdvance, FrameCanCall as StackCanCall, CanJump, IsPlace, FunctionTakes}
 use Rattle.rgo_stack.specs.Stacks.{newest_word, newest_words, words_from}
 use Rattle.rgo_sound.specs.Tac.Code as tac
 use Rattle.rgo_sound.specs.Tac.Ops.{operation_of}
 use Rattle.rgo_body.specs.Bodies.{frames_in}
 use Rattle.rgo_body.specs.Nexts.{FollowsOn, IsNextOf, target_of}
-use Rattle.rgo_body.specs.Programs.{IsProgram, Program}
+use Rattle.rgo_body.specs.Programs.{IsProgram, CompactProgram}
 use Rattle.rgo_body.specs.Shows.{IsPossible}
 use Rattle.rgo_body.specs.declared.bodies.Body.{Body}
 use Rattle.rgo_body.specs.declared.nexts.Next.{Next}
@@ -36,7 +36,7 @@ target_written (tac.Jump target) d e = cc
 target_written (tac.Branch test target other) d e = cc
 target_written (tac.Return value) d e = cc
 
-module _ (p : Program) (b : Body) (next : Next) (y : IsPossible p b) (program : IsProgram p) (n : IsNextOf p.code (frames_in b) next) where
+module _ (p : CompactProgram) (b : Body) (next : Next) (y : IsPossible p b) (program : IsProgram p) (n : IsNextOf p.code (frames_in b) next) where
   are : y.c.frame.frames ≡ n.w ∷ n.ws
   are = y.shows.frames ∙ n.are
 
@@ -44,7 +44,7 @@ module _ (p : Program) (b : Body) (next : Next) (y : IsPossible p b) (program : 
   in_code = all_in_code y.T y.goroutine y.c y.here 0 n.w (ap (λ fs. slice_get fs 0) are)
 
   same_fn : in_code.fn ≡ next.function
-  same_fn = same_Some in_code.fn next.function (sym in_code.in_fn ∙ ap (λ code. function_of code n.w.function) y.shows.code ∙ n.in_fn)
+  same_fn = same_Some in_code.fn next.function (sym in_code.in_fn ∙ ap (λ code. code_function code n.w.function) y.shows.code ∙ n.in_fn)
 
   -- the newest frame has a word for each variable of its function
   pub as_many : length n.w.variables ≡ length next.function.variables
@@ -54,11 +54,11 @@ module _ (p : Program) (b : Body) (next : Next) (y : IsPossible p b) (program : 
   instr_at = n.is_instr
 
   -- each variable of the next instruction has a word
-  pub has_word : (v : ℕ) → Uses (operation_of next.op) v → v < length n.w.variables
+  pub has_word : (v : ℕ) → UsesVariable (operation_of next.op) v → v < length n.w.variables
   has_word v uses =
       subst (λ k. v < k) (sym as_many)
       (variables_exist p.code n.w.function next.at next.function n.instr program.checked n.in_fn n.is_instr v
-      (subst (λ op. Uses op v) (sym n.op) uses))
+      (subst (λ op. UsesVariable op v) (sym n.op) uses))
 
   pub followed : IsFollowed next.function next.at n.instr.op
   followed = next_exists p.code n.w.function next.at next.function n.instr program.checked n.in_fn n.is_instr
@@ -120,7 +120,7 @@ module _ (p : Program) (b : Body) (next : Next) (y : IsPossible p b) (program : 
       → test < length (newest_words (frames_in b))
   has_test test target other op =
       subst (λ fs. test < length (newest_words fs)) (sym n.are)
-      (has_word test (subst (λ o. Uses o test) (sym op) (inl (0, omega arith, refl))))
+      (has_word test (subst (λ o. UsesVariable o test) (sym op) (inl (0, omega arith, refl))))
 
   -- ---- it calls a function
 
@@ -149,7 +149,7 @@ module _ (p : Program) (b : Body) (next : Next) (y : IsPossible p b) (program : 
       (callees_exist p.code n.w.function next.at next.function n.instr program.checked n.in_fn n.is_instr)
 
   pub takes_started : (f : ℕ) (from : List ℕ) → operation_of next.op ≡ tac.Go f from
-      → Takes p.compact f (length (words_from (frames_in b) from))
+      → FunctionTakes p.compact f (length (words_from (frames_in b) from))
   takes_started f from op =
       let y = can_start f from op in
       places.takes p.code p.compact f (length (words_from (frames_in b) from)) y.callee program.compact y.found

@@ -16,20 +16,20 @@ use Rattle.rgo_core.specs.Frames.Stakes.{ended, stake_ended}
 use Rattle.rgo_core.specs.Memory.Records.{Fill, dropped, without_slot}
 use Rattle.rgo_core_steps.specs.Counts.{by_first, ending}
 use Rattle.rgo_holding.specs.Changes as changes
-use Rattle.rgo_holding.specs.Holds.{Holds, region_at}
+use Rattle.rgo_holding.specs.Holds.{IsHoldingOf, region_at}
 use Rattle.rgo_holding.specs.declared.holding.Holding.{Holding}
 use Rattle.rgo_holding.specs.declared.keys.Key.{Key}
 use Rattle.rgo_sound.specs.RegionMachine.Duties.{guards}
 use Rattle.rgo_sound.specs.RegionMachine.Regions.{bound, removed_once, same_region, without}
-use Rattle.rgo_sound.specs.RegionMachine.States.{Create, Duty, EndBase, Environment, Holder, Protect, Remove, Share, Unprotect}
+use Rattle.rgo_sound.specs.RegionMachine.States.{Create, Duty, EndBase, RegionEnvironment, Holder, Protect, Remove, Share, Unprotect}
 use Rattle.rgo_sound.specs.RegionMachine.declared.regions.Region.{Region}
 use Rattle.rgo_sound.specs.RegionMachine.declared.regions.Region.TheVariants.{Global as GlobalRegion, Numbered}
-use Rattle.rgo_sound.proofs.Attends.{same_reflexive}
+use Rattle.rgo_sound.proofs.duties.Attends.{same_reflexive}
 use Rattle.rgo_sound.specs.Stakes.{is_in}
-use Rattle.rgo_body.specs.Duties.{DoesLocal, Forgets, Leaves, LeavesIn, OwesFirst, is_kept}
-use Rattle.rgo_body.specs.Programs.{Program}
+use Rattle.rgo_body.specs.Duties.{DoesLocal, Forgets, StakeHasEnded, LeavesIn, OwesFirst, is_kept}
+use Rattle.rgo_body.specs.Programs.{CompactProgram}
 use Rattle.rgo_body.specs.Queues.{duty_of}
-use Rattle.rgo_body.specs.Shows.{IsPossible, Shows}
+use Rattle.rgo_body.specs.Shows.{IsPossible, BodyShows}
 use Rattle.rgo_body.specs.declared.bodies.Body.{Body}
 use Rattle.rgo_body.specs.declared.bodies.Side.TheVariants as side
 use Rattle.rgo_body.specs.declared.queues.Duty.{Duty as DutyOf}
@@ -48,12 +48,12 @@ base_tail r q rs qs e = cc
 no_base : (r : Region) (rs : List Region) → ◌≡◌ {A = List Region} [] (r ∷ rs) → ⊥
 no_base r rs e = cc
 
-pub ends_rest : (k l : Holding) (o : Option Key) → changes.EndsBase k l o → (slots : ℕ) (h : Holder) (fills : List Fill) (r : Region)
-    (rest : List Region) → Holds slots k h fills → h.base ≡ r ∷ rest → Holds slots l (record h { base = rest }) fills
+pub ends_rest : (k l : Holding) (o : Option Key) → changes.HoldingEndsBase k l o → (slots : ℕ) (h : Holder) (fills : List Fill) (r : Region)
+    (rest : List Region) → IsHoldingOf slots k h fills → h.base ≡ r ∷ rest → IsHoldingOf slots l (record h { base = rest }) fills
 ends_rest k l None ends slots h fills r rest holds is = absurd (no_base r rest (sym (ends slots h fills holds).0 ∙ is))
 ends_rest k l (Some key) ends slots h fills r rest holds is =
     let x = ends slots h fills holds in
-    subst (λ rs. Holds slots l (record h { base = rs }) fills) (base_tail x.0 r x.1 rest (sym x.3 ∙ is)) x.4
+    subst (λ rs. IsHoldingOf slots l (record h { base = rs }) fills) (base_tail x.0 r x.1 rest (sym x.3 ∙ is)) x.4
 
 removed_first : (r : Region) (rest : List Region) → removed_once r (r ∷ rest) ≡ rest
 removed_first r rest = ap (λ t. if t then rest else r ∷ removed_once r rest) (same_reflexive r)
@@ -88,20 +88,20 @@ record Unkept (r : Region) : Type 0 where
   slot : ℕ
   is : r ≡ Numbered slot
 
-not_kept : (base : List Region) (es : List Environment) (r : Region) → is_kept base es r ≡ false → Unkept r
+not_kept : (base : List Region) (es : List RegionEnvironment) (r : Region) → is_kept base es r ≡ false → Unkept r
 not_kept base es GlobalRegion l = absurd (true≢false l)
 not_kept base es (Numbered q) l = record { slot = q; is = refl }
 
 -- ---- a name is removed
 
-module _ (p : Program) (b e : Body) (name : ℕ) (key : Key) (keyed : IsKeyOf b.holding (Some key) name) where
+module _ (p : CompactProgram) (b e : Body) (name : ℕ) (key : Key) (keyed : IsKeyOf b.holding (Some key) name) where
   abbrev pub TellsKept : Bool → Type 0
-  TellsKept kept = (slots : ℕ) (h : Holder) (fills : List Fill) (r : Region) → Holds slots b.holding h fills
+  TellsKept kept = (slots : ℕ) (h : Holder) (fills : List Fill) (r : Region) → IsHoldingOf slots b.holding h fills
       → region_at b.holding key ≡ Some r → kept ≡ is_kept h.base h.environments r
 
   pub removes_none : (ds : List Duty) (queue : b.queue.duties ≡ Remove name ∷ ds) (done : e.queue.duties ≡ ds)
       (is : e ≡ record b { queue = e.queue; holding = e.holding; counts = e.counts }) → b.side ≡ side.AtRest → e.counts ≡ b.counts
-      → ((slots : ℕ) (h : Holder) (fills : List Fill) → Holds slots b.holding h fills → Holds slots e.holding (changes.without_name h name) fills)
+      → ((slots : ℕ) (h : Holder) (fills : List Fill) → IsHoldingOf slots b.holding h fills → IsHoldingOf slots e.holding (changes.without_name h name) fills)
       → TellsKept true → DoesLocal p b e
   removes_none ds queue done is rests counts holds kept = does_local p b e (Remove name) ds queue done is rests counts
       (λ T g c here s.
@@ -142,12 +142,12 @@ module _ (p : Program) (b e : Body) (name : ℕ) (key : Key) (keyed : IsKeyOf b.
 
 -- the key of the first region of the base, whatever the record
 abbrev pub IsFirstBase : Holding → Key → Type 0
-IsFirstBase H key = (slots : ℕ) (h : Holder) (fills : List Fill) → Holds slots H h fills
+IsFirstBase H key = (slots : ℕ) (h : Holder) (fills : List Fill) → IsHoldingOf slots H h fills
     → (r : Region) × (rest : List Region) × (region_at H key ≡ Some r) × (h.base ≡ r ∷ rest)
 
-module _ (p : Program) (b e : Body) (region : Region) (key : Key) (keyed : IsFirstBase b.holding key) where
+module _ (p : CompactProgram) (b e : Body) (region : Region) (key : Key) (keyed : IsFirstBase b.holding key) where
   abbrev pub TellsKeptBase : Bool → Type 0
-  TellsKeptBase kept = (slots : ℕ) (h : Holder) (fills : List Fill) (r : Region) (rest : List Region) → Holds slots b.holding h fills
+  TellsKeptBase kept = (slots : ℕ) (h : Holder) (fills : List Fill) (r : Region) (rest : List Region) → IsHoldingOf slots b.holding h fills
       → region_at b.holding key ≡ Some r → h.base ≡ r ∷ rest → kept ≡ is_kept rest h.environments r
 
   -- what the first region of the base is, whatever the record
@@ -157,14 +157,14 @@ module _ (p : Program) (b e : Body) (region : Region) (key : Key) (keyed : IsFir
     base : c.frame.holder.base ≡ region ∷ rest
 
   first_of_base : (ds : List Duty) → b.queue.duties ≡ EndBase region ∷ ds → (T : Setup) (g : ℕ) (c : Record) → Here T g c
-      → Shows T p b c → FirstOf T c
+      → BodyShows T p b c → FirstOf T c
   first_of_base ds queue T g c here s =
       let a : IsOfBase T c region = attended T p b c (EndBase region) ds s queue g here in
       let k = keyed T.sizes.regions c.frame.holder c.memory.fills s.holds in
       let same = its_base T g c region k.0 (ds ++ later p.code b) k.1 here (first T p b c (EndBase region) ds s queue) a k.3 in
       record { rest = k.1; at = k.2 ∙ ap Some same; base = k.3 ∙ ap (λ r. r ∷ k.1) same }
 
-  is_kept_so : (kept : Bool) → TellsKeptBase kept → (T : Setup) (c : Record) → Shows T p b c → (f : FirstOf T c)
+  is_kept_so : (kept : Bool) → TellsKeptBase kept → (T : Setup) (c : Record) → BodyShows T p b c → (f : FirstOf T c)
       → is_kept (removed_once region c.frame.holder.base) c.frame.holder.environments region ≡ kept
   is_kept_so kept told T c s f =
       ap (λ rs. is_kept rs c.frame.holder.environments region) (ap (removed_once region) f.base ∙ removed_first region f.rest)
@@ -172,8 +172,8 @@ module _ (p : Program) (b e : Body) (region : Region) (key : Key) (keyed : IsFir
 
   pub ends_none : (ds : List Duty) (queue : b.queue.duties ≡ EndBase region ∷ ds) (done : e.queue.duties ≡ ds)
       (is : e ≡ record b { queue = e.queue; holding = e.holding; counts = e.counts }) → b.side ≡ side.AtRest → e.counts ≡ b.counts
-      → ((slots : ℕ) (h : Holder) (fills : List Fill) (r : Region) (rest : List Region) → Holds slots b.holding h fills → h.base ≡ r ∷ rest
-      → Holds slots e.holding (record h { base = rest }) fills)
+      → ((slots : ℕ) (h : Holder) (fills : List Fill) (r : Region) (rest : List Region) → IsHoldingOf slots b.holding h fills → h.base ≡ r ∷ rest
+      → IsHoldingOf slots e.holding (record h { base = rest }) fills)
       → TellsKeptBase true → DoesLocal p b e
   ends_none ds queue done is rests counts holds kept = does_local p b e (EndBase region) ds queue done is rests counts
       (λ T g c here s.
@@ -183,7 +183,7 @@ module _ (p : Program) (b e : Body) (region : Region) (key : Key) (keyed : IsFir
         does = local_end (record c.frame.holder { duties = ds ++ later p.code b }) region (is_kept_so true kept T c s f);
         duties = refl;
         offer = refl;
-        holds = subst (λ rs. Holds T.sizes.regions e.holding (record c.frame.holder { base = rs }) c.memory.fills)
+        holds = subst (λ rs. IsHoldingOf T.sizes.regions e.holding (record c.frame.holder { base = rs }) c.memory.fills)
             (sym (ap (removed_once region) f.base ∙ removed_first region f.rest))
             (holds T.sizes.regions c.frame.holder c.memory.fills region f.rest s.holds f.base);
       })
@@ -212,8 +212,8 @@ module _ (p : Program) (b e : Body) (region : Region) (key : Key) (keyed : IsFir
             );
       }
 
-pub no_first_base : (p : Program) (b : Body) (region : Region) → IsPossible p b → OwesFirst b (EndBase region)
-    → ((slots : ℕ) (h : Holder) (fills : List Fill) → Holds slots b.holding h fills → h.base ≡ []) → ⊥
+pub no_first_base : (p : CompactProgram) (b : Body) (region : Region) → IsPossible p b → OwesFirst b (EndBase region)
+    → ((slots : ℕ) (h : Holder) (fills : List Fill) → IsHoldingOf slots b.holding h fills → h.base ≡ []) → ⊥
 no_first_base p b region possible owes none =
     let a : IsOfBase possible.T possible.c region =
     attended possible.T p b possible.c (EndBase region) owes.0 possible.shows owes.1 possible.goroutine possible.here in
@@ -243,14 +243,14 @@ ended_is h (Numbered q) slot k e = by (guards h.base h.environments (Numbered q)
         }
 
 -- nothing is left of the slot
-unnamed_from : (slot : ℕ) (es : List Environment)
-    → ((i : ℕ) (e : Environment) → slice_get es i ≡ Some e → (k : ℕ) → bound e.names k ≢ Some (Numbered slot))
+unnamed_from : (slot : ℕ) (es : List RegionEnvironment)
+    → ((i : ℕ) (e : RegionEnvironment) → slice_get es i ≡ Some e → (k : ℕ) → bound e.names k ≢ Some (Numbered slot))
     → changes.IsUnnamed (Numbered slot) es
 unnamed_from slot [] none = tt
 unnamed_from slot (e ∷ es) none = (none 0 e refl, unnamed_from slot es (λ i f at. none (suc i) f at))
 
-pub unguarded_from : (slot : ℕ) (base : List Region) (es : List Environment) → list_any (same_region (Numbered slot)) base ≡ false
-    → ((i : ℕ) (e : Environment) → slice_get es i ≡ Some e → list_any (same_region (Numbered slot)) e.protections ≡ false)
+pub unguarded_from : (slot : ℕ) (base : List Region) (es : List RegionEnvironment) → list_any (same_region (Numbered slot)) base ≡ false
+    → ((i : ℕ) (e : RegionEnvironment) → slice_get es i ≡ Some e → list_any (same_region (Numbered slot)) e.protections ≡ false)
     → guards base es (Numbered slot) ≡ false
 unguarded_from slot base [] none each = none
 unguarded_from slot base (e ∷ es) none each =
@@ -266,18 +266,18 @@ unknown_from c slot n = record {
 pub staked_slot : (T : Setup) (c : Record) (r : Region) (slot : ℕ) → IsStaked T c r → r ≡ Numbered slot → slot < T.sizes.regions
 staked_slot T c r slot st is = (subst (IsStaked T c) is st).1
 
-module _ (T : Setup) (p : Program) (b d : Body) (g : ℕ) (c x : Record) (slot : ℕ) (k : Holder) (here : Here T g c) (s : Shows T p b c)
+module _ (T : Setup) (p : CompactProgram) (b d : Body) (g : ℕ) (c x : Record) (slot : ℕ) (k : Holder) (here : Here T g c) (s : BodyShows T p b c)
     (ends : ending c ≡ Some (slot, k)) (there : Here T g x) (same : x.frame ≡ (leaves c k slot).frame)
     (ds : List Duty) (done : d.queue.duties ≡ ds)
     (is : d ≡ record b { queue = d.queue; holding = d.holding; counts = d.counts }) (counts : d.counts ≡ b.counts) where
   -- the holding after names and protections are as the duty leaves them, of which the entry of the slot is then given up
   module _ (mid : Holding) (key : Key) (at : region_at mid key ≡ Some (Numbered slot))
-      (gives : (slots : ℕ) (h : Holder) (fills : List Fill) (q : ℕ) → Holds slots mid h fills → region_at mid key ≡ Some (Numbered q)
-      → changes.IsUnknown h q → Holds slots d.holding (changes.ending h q) (dropped q fills)) where
+      (gives : (slots : ℕ) (h : Holder) (fills : List Fill) (q : ℕ) → IsHoldingOf slots mid h fills → region_at mid key ≡ Some (Numbered q)
+      → changes.IsUnknown h q → IsHoldingOf slots d.holding (changes.ending h q) (dropped q fills)) where
     shows_after : (first_duty : Duty) (queue : b.queue.duties ≡ first_duty ∷ ds) (h : Holder)
         → k ≡ record h { stakes = without slot h.stakes } → h.duties ≡ ds ++ later p.code b → h.offer ≡ c.frame.holder.offer
         → slot < T.sizes.regions
-        → Holds T.sizes.regions mid h c.memory.fills → Shows T p d (leaves c k slot)
+        → IsHoldingOf T.sizes.regions mid h c.memory.fills → BodyShows T p d (leaves c k slot)
     shows_after first_duty queue h after duties offer low holds =
         let out : is_in slot k.stakes ≡ false = stake_ends c slot k ends in
         let holder : x.frame.holder ≡ k = ap (λ (f : _). f.holder) same in
@@ -286,7 +286,7 @@ module _ (T : Setup) (p : Program) (b d : Body) (g : ℕ) (c x : Record) (slot :
         record { unnamed = u.unnamed; unguarded = u.unguarded }) in
         done_shows T p b c first_duty ds s queue d done is k (accessed c.clock) (without_slot c.memory slot) refl
         (ap (λ (y : Holder). y.duties) after ∙ duties) (ap (λ (y : Holder). y.offer) after ∙ offer)
-        (subst (λ (y : Holder). Holds T.sizes.regions d.holding y (dropped slot c.memory.fills)) (sym after)
+        (subst (λ (y : Holder). IsHoldingOf T.sizes.regions d.holding y (dropped slot c.memory.fills)) (sym after)
         (gives T.sizes.regions h c.memory.fills slot holds at unknown))
         record { make = s.calm.make; claim = s.calm.claim; give = s.calm.give; none = s.calm.none } (s.share ∙ sym counts) refl refl
 
@@ -295,7 +295,7 @@ module _ (T : Setup) (p : Program) (b d : Body) (g : ℕ) (c x : Record) (slot :
     first_ends first_duty queue = sym (ap (by_first stake_ended c.frame.holder) (first T p b c first_duty ds s queue)) ∙ ends
 
     pub leaves_shows : (first_duty : DutyOf) (queue : b.queue.duties ≡ duty_of first_duty ∷ ds)
-        → Forgets b.holding mid first_duty → Shows T p d (leaves c k slot)
+        → Forgets b.holding mid first_duty → BodyShows T p d (leaves c k slot)
     leaves_shows (duty.Remove name) queue forgets =
         let n : IsUnprotected T c name = attended T p b c (Remove name) ds s queue g here in
         let h : Holder = unnamed (record c.frame.holder { duties = ds ++ later p.code b }) name in
@@ -308,7 +308,7 @@ module _ (T : Setup) (p : Program) (b d : Body) (g : ℕ) (c x : Record) (slot :
         let z = ended_is h r slot k (first_ends (EndBase r) queue) in
         let f = some_base c.frame.holder.base r (sym (first T p b c (EndBase r) ds s queue) ∙ duties_at_end T g c here a.frames) in
         shows_after (EndBase r) queue h z.after refl refl (staked_slot T c r slot a.staked z.region)
-        (subst (λ rs. Holds T.sizes.regions mid (record c.frame.holder { base = rs }) c.memory.fills)
+        (subst (λ rs. IsHoldingOf T.sizes.regions mid (record c.frame.holder { base = rs }) c.memory.fills)
         (sym (ap (removed_once r) f.1 ∙ removed_first r f.0))
         (forgets T.sizes.regions c.frame.holder c.memory.fills r f.0 s.holds f.1))
       where
@@ -329,14 +329,14 @@ first_is : (b : Body) (d : Duty) (ds : List Duty) (first_duty : DutyOf) (others 
     → b.queue.duties ≡ duty_of first_duty ∷ others → b.queue.duties ≡ duty_of first_duty ∷ ds
 first_is b d ds first_duty others queue is = is ∙ ap (λ (l : List Duty). duty_of first_duty ∷ drop 1 l) (sym is ∙ queue)
 
-pub leaves_after : (p : Program) (b d : Body) (key : Key) (l : LeavesIn p b key) (duty_now : Duty) (ds : List Duty) (mid : Holding)
+pub leaves_after : (p : CompactProgram) (b d : Body) (key : Key) (l : LeavesIn p b key) (duty_now : Duty) (ds : List Duty) (mid : Holding)
     → b.queue.duties ≡ duty_now ∷ ds → d.queue.duties ≡ ds
     → d ≡ record b { queue = d.queue; holding = d.holding; counts = d.counts } → d.counts ≡ b.counts
     → (f : DutyOf) → (others : List Duty) × (b.queue.duties ≡ duty_of f ∷ others)
     → Forgets b.holding mid f → changes.SameRegions b.holding mid
-    → ((slots : ℕ) (h : Holder) (fills : List Fill) (q : ℕ) → Holds slots mid h fills → region_at mid key ≡ Some (Numbered q)
-    → changes.IsUnknown h q → Holds slots d.holding (changes.ending h q) (dropped q fills))
-    → Leaves p b d
+    → ((slots : ℕ) (h : Holder) (fills : List Fill) (q : ℕ) → IsHoldingOf slots mid h fills → region_at mid key ≡ Some (Numbered q)
+    → changes.IsUnknown h q → IsHoldingOf slots d.holding (changes.ending h q) (dropped q fills))
+    → StakeHasEnded p b d
 leaves_after p b d key l duty_now ds mid queue done is counts f first_duty forgets regions gives T g c x slot k here s ends there same =
     let z = l.ends T g c here s in
     let slot_is : slot ≡ l.slot = (some_pair_parts slot l.slot k z.0 (sym ends ∙ z.1)).0 in

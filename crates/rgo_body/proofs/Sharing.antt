@@ -14,7 +14,7 @@ use Rattle.rgo_core.specs.Frames.Stakes.{shared_in, stake_shared}
 use Rattle.rgo_core.specs.Memory.Records.{Fill}
 use Rattle.rgo_core_steps.specs.Counts.{by_first, shared, sharing}
 use Rattle.rgo_holding.specs.Changes as changes
-use Rattle.rgo_holding.specs.Holds.{Holds, region_at}
+use Rattle.rgo_holding.specs.Holds.{IsHoldingOf, region_at}
 use Rattle.rgo_holding.specs.declared.keys.Key.{Key}
 use Rattle.rgo_sound.specs.RegionMachine.Duties.{unprotected, with_protection, without_protection}
 use Rattle.rgo_sound.specs.RegionMachine.Regions.{bound, same_region}
@@ -22,15 +22,15 @@ use Rattle.rgo_sound.specs.RegionMachine.States.{Duty, Holder, Protect, Share, U
 use Rattle.rgo_sound.specs.RegionMachine.declared.regions.Region.{Region}
 use Rattle.rgo_sound.specs.RegionMachine.declared.regions.Region.TheVariants.{Global as GlobalRegion, Numbered}
 use Rattle.rgo_body.specs.Duties.{DoesLocal, OwesFirst, SharesIn, has_share}
-use Rattle.rgo_body.specs.Programs.{Program}
-use Rattle.rgo_body.specs.Shows.{IsPossible, Shows}
+use Rattle.rgo_body.specs.Programs.{CompactProgram}
+use Rattle.rgo_body.specs.Shows.{IsPossible, BodyShows}
 use Rattle.rgo_body.specs.declared.bodies.Body.{Body}
 use Rattle.rgo_body.specs.declared.bodies.Side.TheVariants as side
 use Rattle.rgo_body.proofs.Attending.{IsKeyOf, attended, does_local, done_shows, first, later, no_key, some_environment, some_key, top_bound}
 
-module _ (p : Program) (b e : Body) (name : ℕ) (key : Key) (keyed : IsKeyOf b.holding (Some key) name) where
+module _ (p : CompactProgram) (b e : Body) (name : ℕ) (key : Key) (keyed : IsKeyOf b.holding (Some key) name) where
   -- the region of the key, whatever the record
-  pub its_region : (T : Setup) (c : Record) (s : Shows T p b c) (n : IsNamed T c name) → region_at b.holding key ≡ Some n.region
+  pub its_region : (T : Setup) (c : Record) (s : BodyShows T p b c) (n : IsNamed T c name) → region_at b.holding key ≡ Some n.region
   its_region T c s n = some_key b.holding key (bound (top_names c.frame.holder.environments) name) n.region
       (keyed T.sizes.regions c.frame.holder c.memory.fills s.holds) (top_bound T c name n)
 
@@ -38,8 +38,8 @@ module _ (p : Program) (b e : Body) (name : ℕ) (key : Key) (keyed : IsKeyOf b.
 
   pub protects : (ds : List Duty) (queue : b.queue.duties ≡ Protect name ∷ ds) (done : e.queue.duties ≡ ds)
       (is : e ≡ record b { queue = e.queue; holding = e.holding; counts = e.counts }) → b.side ≡ side.AtRest → e.counts ≡ b.counts
-      → ((slots : ℕ) (h : Holder) (fills : List Fill) (r : Region) → Holds slots b.holding h fills → region_at b.holding key ≡ Some r
-      → 0 < length h.environments → Holds slots e.holding (changes.protecting h r) fills)
+      → ((slots : ℕ) (h : Holder) (fills : List Fill) (r : Region) → IsHoldingOf slots b.holding h fills → region_at b.holding key ≡ Some r
+      → 0 < length h.environments → IsHoldingOf slots e.holding (changes.protecting h r) fills)
       → DoesLocal p b e
   protects ds queue done is rests counts holds = does_local p b e (Protect name) ds queue done is rests counts
       (λ T g c here s.
@@ -62,8 +62,8 @@ module _ (p : Program) (b e : Body) (name : ℕ) (key : Key) (keyed : IsKeyOf b.
 
   pub unprotects : (ds : List Duty) (queue : b.queue.duties ≡ Unprotect name ∷ ds) (done : e.queue.duties ≡ ds)
       (is : e ≡ record b { queue = e.queue; holding = e.holding; counts = e.counts }) → b.side ≡ side.AtRest → e.counts ≡ b.counts
-      → ((slots : ℕ) (h : Holder) (fills : List Fill) (r : Region) → Holds slots b.holding h fills → region_at b.holding key ≡ Some r
-      → changes.IsProtectedLast h r → Holds slots e.holding (unprotected h r) fills)
+      → ((slots : ℕ) (h : Holder) (fills : List Fill) (r : Region) → IsHoldingOf slots b.holding h fills → region_at b.holding key ≡ Some r
+      → changes.IsProtectedLast h r → IsHoldingOf slots e.holding (unprotected h r) fills)
       → DoesLocal p b e
   unprotects ds queue done is rests counts holds = does_local p b e (Unprotect name) ds queue done is rests counts
       (λ T g c here s.
@@ -88,7 +88,7 @@ module _ (p : Program) (b e : Body) (name : ℕ) (key : Key) (keyed : IsKeyOf b.
 
   -- what tells whether one is to be taken
   abbrev pub TellsShare : Bool → Type 0
-  TellsShare has = (slots : ℕ) (h : Holder) (fills : List Fill) (r : Region) → Holds slots b.holding h fills
+  TellsShare has = (slots : ℕ) (h : Holder) (fills : List Fill) (r : Region) → IsHoldingOf slots b.holding h fills
       → region_at b.holding key ≡ Some r → has ≡ has_share h.pending r
 
   pub shares_none : (ds : List Duty) (queue : b.queue.duties ≡ Share name ∷ ds) (done : e.queue.duties ≡ ds)
@@ -103,7 +103,7 @@ module _ (p : Program) (b e : Body) (name : ℕ) (key : Key) (keyed : IsKeyOf b.
             (sym (has T.sizes.regions c.frame.holder c.memory.fills n.region s.holds (its_region T c s n)));
         duties = refl;
         offer = refl;
-        holds = subst (λ H. Holds T.sizes.regions H c.frame.holder c.memory.fills) (sym same) s.holds;
+        holds = subst (λ H. IsHoldingOf T.sizes.regions H c.frame.holder c.memory.fills) (sym same) s.holds;
       })
 
   -- the slot in which one is to be taken
@@ -141,7 +141,7 @@ module _ (p : Program) (b e : Body) (name : ℕ) (key : Key) (keyed : IsKeyOf b.
       }
 
 -- no name that is protected or shared is without a key
-pub keyed_name : (p : Program) (b : Body) (name : ℕ) (d : Duty) → OwesFirst b d → IsPossible p b
+pub keyed_name : (p : CompactProgram) (b : Body) (name : ℕ) (d : Duty) → OwesFirst b d → IsPossible p b
     → ((T : Setup) (c : Record) → CanAttend T c d → IsNamed T c name)
     → IsKeyOf b.holding None name → ⊥
 keyed_name p b name d owes possible named keyed =
@@ -172,12 +172,12 @@ took_in h (Numbered q) slot k e = by (list_any (nat_eq q) h.pending) e
           after = sym z.1 ∙ ap (λ n. record h { pending = n ∷ h.pending }) z.0;
         }
 
-pub shared_shows : (T : Setup) (p : Program) (b e : Body) (g : ℕ) (c : Record) (name : ℕ) (ds : List Duty) (key : Key) → Here T g c
-    → (s : Shows T p b c) → (queue : b.queue.duties ≡ Share name ∷ ds) → (done : e.queue.duties ≡ ds)
+pub shared_shows : (T : Setup) (p : CompactProgram) (b e : Body) (g : ℕ) (c : Record) (name : ℕ) (ds : List Duty) (key : Key) → Here T g c
+    → (s : BodyShows T p b c) → (queue : b.queue.duties ≡ Share name ∷ ds) → (done : e.queue.duties ≡ ds)
     → (is : e ≡ record b { queue = e.queue; holding = e.holding; counts = e.counts }) → e.counts ≡ b.counts → (shares : SharesIn p b key)
-    → ((slots : ℕ) (h : Holder) (fills : List Fill) (q : ℕ) → Holds slots b.holding h fills → region_at b.holding key ≡ Some (Numbered q)
-    → Holds slots e.holding (changes.sharing h q) fills)
-    → Shows T p e (shared c)
+    → ((slots : ℕ) (h : Holder) (fills : List Fill) (q : ℕ) → IsHoldingOf slots b.holding h fills → region_at b.holding key ≡ Some (Numbered q)
+    → IsHoldingOf slots e.holding (changes.sharing h q) fills)
+    → BodyShows T p e (shared c)
 shared_shows T p b e g c name ds key here s queue done is counts shares holds =
     let n : IsNamed T c name = attended T p b c (Share name) ds s queue g here in
     let h : Holder = record c.frame.holder { duties = ds ++ later p.code b } in
@@ -185,15 +185,15 @@ shared_shows T p b e g c name ds key here s queue done is counts shares holds =
     let first_is = first T p b c (Share name) ds s queue in
     let took = took_in h n.region shares.slot x.0
     (sym (ap (by_first stake_shared c.frame.holder) first_is ∙ ap (option_and_then (shared_in h)) (top_bound T c name n)) ∙ x.1) in
-    subst (Shows T p e) (sym (ap (λ o. option_map_or (λ (t : ℕ × Holder). with_holder c t.1) o c) x.1))
+    subst (BodyShows T p e) (sym (ap (λ o. option_map_or (λ (t : ℕ × Holder). with_holder c t.1) o c) x.1))
     (done_shows T p b c (Share name) ds s queue e done is x.0 (accessed c.clock) c.memory refl
     (ap (λ (y : Holder). y.duties) took.after) (ap (λ (y : Holder). y.offer) took.after)
-    (subst (λ (y : Holder). Holds T.sizes.regions e.holding y c.memory.fills) (sym took.after)
+    (subst (λ (y : Holder). IsHoldingOf T.sizes.regions e.holding y c.memory.fills) (sym took.after)
     (holds T.sizes.regions c.frame.holder c.memory.fills shares.slot s.holds shares.region))
     s.calm (s.share ∙ sym counts) refl refl)
 
 -- a name that is protected has a key
-pub protected_key : (p : Program) (b : Body) (name : ℕ) (ds : List Duty) → IsPossible p b → b.queue.duties ≡ Protect name ∷ ds
+pub protected_key : (p : CompactProgram) (b : Body) (name : ℕ) (ds : List Duty) → IsPossible p b → b.queue.duties ≡ Protect name ∷ ds
     → IsKeyOf b.holding None name → ⊥
 protected_key p b name ds y queue key =
     let n : IsNamed y.T y.c name = attended y.T p b y.c (Protect name) ds y.shows queue y.goroutine y.here in

@@ -10,20 +10,20 @@ use Rattle.rgo_core.specs.Channels.Records.{Rec as SideRec}
 use Rattle.rgo_core.specs.Frames.WordFrames.{WordFrame, bare, bare_all, word_going}
 use Rattle.rgo_core.specs.Memory.Records.{Fill, Rec as MemoryRec}
 use Rattle.rgo_core_steps.specs.After.{given}
-use Rattle.rgo_holding.specs.Holds.{Holds}
+use Rattle.rgo_holding.specs.Holds.{IsHoldingOf}
 use Rattle.rgo_holding.specs.declared.holding.Holding.{Holding}
 use Rattle.rgo_sound.specs.RegionMachine.Instructions.{holder_after}
-use Rattle.rgo_sound.specs.RegionMachine.Owed.{current, current_in, function_of, next_duties}
+use Rattle.rgo_sound.specs.RegionMachine.Owed.{current, current_in, code_function, next_duties}
 use Rattle.rgo_sound.specs.RegionMachine.States.{Duty, Holder, Offer, Remove}
 use Rattle.rgo_stack.specs.Stacks.{Belongs, Stack, frames_of}
 use Rattle.rgo_stack.specs.Steps.{after_word}
 use Rattle.rgo_sound.specs.Tac.Ops.{operation_of}
 use Rattle.rgo_body.specs.Bodies.{IsReady, frames_in, owed}
 use Rattle.rgo_body.specs.Nexts.{IsDo, IsGo, IsNextOf, IsPrint, removes_at, target_of}
-use Rattle.rgo_body.specs.Programs.{Program}
+use Rattle.rgo_body.specs.Programs.{CompactProgram}
 use Rattle.rgo_body.specs.Queues.{Queue}
-use Rattle.rgo_body.specs.Shows.{IsCalm, LikeShown, Shows, SideShows}
-use Rattle.rgo_body.specs.Steps.{GoesOn}
+use Rattle.rgo_body.specs.Shows.{IsMemoryCalm, LikeShown, BodyShows, SideShows}
+use Rattle.rgo_body.specs.Steps.{BodyContinues}
 use Rattle.rgo_body.specs.declared.bodies.Body.{Body}
 use Rattle.rgo_body.specs.declared.nexts.Next.{Next}
 
@@ -34,8 +34,8 @@ like_shown T p b c d s like = record {
   code = s.code;
   belongs = s.belongs;
   frames = ap (λ (f : _). f.frames) like.frame ∙ s.frames;
-  holds = subst (λ (h : Holder). Holds T.sizes.regions b.holding h d.memory.fills) (sym (ap (λ (f : _). f.holder) like.frame))
-      (subst (λ (fills : List Fill). Holds T.sizes.regions b.holding c.frame.holder fills) (sym like.fills) s.holds);
+  holds = subst (λ (h : Holder). IsHoldingOf T.sizes.regions b.holding h d.memory.fills) (sym (ap (λ (f : _). f.holder) like.frame))
+      (subst (λ (fills : List Fill). IsHoldingOf T.sizes.regions b.holding c.frame.holder fills) (sym like.fills) s.holds);
   reserved = like.reserved ∙ s.reserved;
   owes = ap (λ (f : _). f.holder.duties) like.frame ∙ s.owes;
   side = subst (λ (o : Offer). SideShows b.side d.side o) (sym (ap (λ (f : _). f.holder.offer) like.frame))
@@ -52,10 +52,10 @@ like_shown T p b c d s like = record {
 }
 
 -- a body that has taken memory shows what it showed
-pub stays_shows : (T : Setup) (p : Program) (b : Body) (c : Record) (stack : Stack) (holding : Holding) (queue : Queue) → Shows T p b c
+pub stays_shows : (T : Setup) (p : CompactProgram) (b : Body) (c : Record) (stack : Stack) (holding : Holding) (queue : Queue) → BodyShows T p b c
     → frames_of stack ≡ frames_in b → Belongs p.compact stack → queue.duties ≡ b.queue.duties
-    → Holds T.sizes.regions holding c.frame.holder c.memory.fills
-    → Shows T p (record b { stack = stack; holding = holding; queue = queue }) c
+    → IsHoldingOf T.sizes.regions holding c.frame.holder c.memory.fills
+    → BodyShows T p (record b { stack = stack; holding = holding; queue = queue }) c
 stays_shows T p b c stack holding queue s frames belongs same holds = record {
   code = s.code;
   belongs = belongs;
@@ -89,7 +89,7 @@ pub record At (code : Code) (c : Record) (next : Next) : Type 0 where
   pub cur : current code (bare w) ≡ Some instr
   pub op : erased_op instr.op ≡ operation_of next.op
   pub removes : removes_of instr.op ≡ removes_at next
-  pub in_fn : function_of code w.function ≡ Some next.function
+  pub in_fn : code_function code w.function ≡ Some next.function
   pub passes : passes_of instr.op ≡ passes_in (slice_get next.function.body next.at)
   pub protects : protects_of instr.op ≡ protects_in (slice_get next.function.body next.at)
   pub otherwise : otherwise_of instr.op ≡ otherwise_in (slice_get next.function.body next.at)
@@ -99,7 +99,7 @@ pub current_is : (code : Code) (frames : List WordFrame) (next : Next) (n : IsNe
 current_is code frames next n =
     ap (λ f. current_in f n.w.next) n.in_fn ∙ ap (slice_get next.function.body) (sym n.at) ∙ n.is_instr
 
-pub at : (T : Setup) (p : Program) (b : Body) (c : Record) (next : Next) → Shows T p b c → IsNextOf p.code (frames_in b) next
+pub at : (T : Setup) (p : CompactProgram) (b : Body) (c : Record) (next : Next) → BodyShows T p b c → IsNextOf p.code (frames_in b) next
     → At T.code c next
 at T p b c next s n = record {
   w = n.w;
@@ -109,7 +109,7 @@ at T p b c next s n = record {
   cur = ap (λ code. current code (bare n.w)) s.code ∙ current_is p.code (frames_in b) next n;
   op = n.op;
   removes = sym (ap removes_in n.is_instr);
-  in_fn = ap (λ code. function_of code n.w.function) s.code ∙ n.in_fn;
+  in_fn = ap (λ code. code_function code n.w.function) s.code ∙ n.in_fn;
   passes = sym (ap passes_in n.is_instr);
   protects = sym (ap protects_in n.is_instr);
   otherwise = sym (ap otherwise_in n.is_instr);
@@ -135,7 +135,7 @@ pub owes_next : (code : Code) (b : Body) → b.queue.duties ≡ [] → b.is_expa
     → owed code b ≡ next_duties code (bare_all (frames_in b))
 owes_next code b empty not_yet = owes_first code b [] empty not_yet
 
-pub none_owed : (T : Setup) (p : Program) (b : Body) (c : Record) (next : Next) → Shows T p b c → IsReady p b next
+pub none_owed : (T : Setup) (p : CompactProgram) (b : Body) (c : Record) (next : Next) → BodyShows T p b c → IsReady p b next
     → c.frame.holder.duties ≡ []
 none_owed T p b c next s ready =
     s.owes
@@ -173,8 +173,8 @@ behind_go code h w ws (Branch test target removes other otherwise) next k = cc
 behind_go code h w ws (Return value) next k = cc
 
 -- what a body owes that has gone on
-pub owed_behind : (p : Program) (b m : Body) (after : List WordFrame → List WordFrame) (removes : List ℕ)
-    → GoesOn p b m after removes → b.queue.duties ≡ []
+pub owed_behind : (p : CompactProgram) (b m : Body) (after : List WordFrame → List WordFrame) (removes : List ℕ)
+    → BodyContinues p b m after removes → b.queue.duties ≡ []
     → owed p.code m ≡ map Remove removes ++ next_duties p.code (bare_all (frames_in m))
 owed_behind p b m after removes goes none =
     ap (λ e. m.queue.duties ++ (if e then [] else next_duties p.code (bare_all (frames_in m)))) (ap (λ (x : Body). x.is_expanded) goes.rest)
@@ -183,8 +183,8 @@ owed_behind p b m after removes goes none =
 
 -- ---- one that goes on. Its counts, and what it knows of channels, are d's.
 
-module _ (T : Setup) (p : Program) (b m : Body) (c : Record) (next : Next) (word : ℕ) (s : Shows T p b c) (ready : IsReady p b next)
-    (goes : GoesOn p b m (after_word (target_of (operation_of next.op)) word) (removes_at next)) where
+module _ (T : Setup) (p : CompactProgram) (b m : Body) (c : Record) (next : Next) (word : ℕ) (s : BodyShows T p b c) (ready : IsReady p b next)
+    (goes : BodyContinues p b m (after_word (target_of (operation_of next.op)) word) (removes_at next)) where
   abbrev pub x : At T.code c next
   x = at T p b c next s ready.is_next
 
@@ -217,8 +217,8 @@ module _ (T : Setup) (p : Program) (b m : Body) (c : Record) (next : Next) (word
 
   pub gone_shows : (k : ClockRec) (h : Holder) (memory : MemoryRec) (side : SideRec) (d : Body) → d.stack ≡ m.stack
       → d.queue ≡ m.queue → d.is_expanded ≡ m.is_expanded
-      → Holds T.sizes.regions d.holding h memory.fills → SideShows d.side side h.offer → IsCalm memory k.owed
-      → memory.reserved.pages ≡ d.reserved.pages → k.share ≡ d.counts → length k.prints ≡ d.prints → k.refused ≡ d.refused → Shows T p d (gone k h memory side)
+      → IsHoldingOf T.sizes.regions d.holding h memory.fills → SideShows d.side side h.offer → IsMemoryCalm memory k.owed
+      → memory.reserved.pages ≡ d.reserved.pages → k.share ≡ d.counts → length k.prints ≡ d.prints → k.refused ≡ d.refused → BodyShows T p d (gone k h memory side)
   gone_shows k h memory side d stack queue expanded holds side_shows calm reserved share prints refused = record {
     code = s.code;
     belongs = subst (Belongs p.compact) (sym stack) goes.belongs;

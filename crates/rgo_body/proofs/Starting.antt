@@ -13,23 +13,23 @@ use Rattle.rgo_core.specs.Channels.Records.{at_rest}
 use Rattle.rgo_core.specs.Frames.WordFrames.{bare_all, word_called, words_of}
 use Rattle.rgo_core_steps.proofs.After.{child_is}
 use Rattle.rgo_core_steps.specs.After.{child}
-use Rattle.rgo_holding.specs.Holds.{Holds}
-use Rattle.rgo_holding.specs.Passing.{ArePassed, Begins}
+use Rattle.rgo_holding.specs.Holds.{IsHoldingOf}
+use Rattle.rgo_holding.specs.Passing.{AreRegionsPassed, ChildHoldingBegins}
 use Rattle.rgo_holding.specs.declared.holding.Holding.{Holding}
 use Rattle.rgo_sound.specs.RegionMachine.Machine.{main_holder}
-use Rattle.rgo_sound.specs.RegionMachine.Owed.{entry_removes, formals_of, function_of, next_duties, passed_regions, result_of}
+use Rattle.rgo_sound.specs.RegionMachine.Owed.{entry_removes, formals_of, code_function, next_duties, passed_regions, function_result_class}
 use Rattle.rgo_sound.specs.RegionMachine.Regions.{Bindings, class_region}
 use Rattle.rgo_sound.specs.RegionMachine.States.{NoOffer, Remove, top_names}
 use Rattle.rgo_sound.specs.RegionMachine.declared.regions.Region.{Region}
 use Rattle.rgo_sound.specs.RegionMachine.declared.regions.Region.TheVariants.{Global as GlobalRegion, Numbered}
-use Rattle.rgo_sound.proofs.Others.{main_of}
+use Rattle.rgo_sound.proofs.steps.Each.{main_of}
 use Rattle.rgo_sound.specs.Stakes.{is_in}
 use Rattle.rgo_stack.specs.Stacks.{Belongs, Stack, frames_of}
 use Rattle.rgo_sound.specs.Tac.declared.regions.Class.{Class}
 use Rattle.rgo_body.specs.Bodies.{IsFresh, IsReady, frames_in}
-use Rattle.rgo_body.specs.Programs.{Program}
-use Rattle.rgo_body.specs.Reserves.{Reserved}
-use Rattle.rgo_body.specs.Shows.{Shows, SideShows}
+use Rattle.rgo_body.specs.Programs.{CompactProgram}
+use Rattle.rgo_body.specs.Reserves.{PageReserve}
+use Rattle.rgo_body.specs.Shows.{BodyShows, SideShows}
 use Rattle.rgo_body.specs.declared.bodies.Body.{Body}
 use Rattle.rgo_body.specs.declared.bodies.Side.{Side}
 use Rattle.rgo_body.specs.declared.bodies.Side.TheVariants as side
@@ -38,7 +38,7 @@ use Rattle.rgo_body.proofs.Showing.{at, none_owed, owes_first, owes_next}
 
 -- ---- the next instruction of a body that owes nothing
 
-module _ (T : Setup) (p : Program) (b : Body) (c : Record) (next : Next) (s : Shows T p b c) (ready : IsReady p b next)
+module _ (T : Setup) (p : CompactProgram) (b : Body) (c : Record) (next : Next) (s : BodyShows T p b c) (ready : IsReady p b next)
     (rests : b.side ≡ side.AtRest) where
   pub no_offer : c.frame.holder.offer ≡ NoOffer
   no_offer = (subst (λ (k : Side). SideShows k c.side c.frame.holder.offer) rests s.side).1
@@ -65,13 +65,13 @@ module _ (T : Setup) (p : Program) (b : Body) (c : Record) (next : Next) (s : Sh
 pub are_passed : (pending : List ℕ) (names : Bindings) (passes : List Class)
     → ((i : ℕ) (class : Class) (p : ℕ) → slice_get passes i ≡ Some class → class_region names class ≡ Some (Numbered p)
     → is_in p pending ≡ true)
-    → ArePassed pending (passed_regions names passes)
+    → AreRegionsPassed pending (passed_regions names passes)
 are_passed pending names [] shared = tt
 are_passed pending names (k ∷ ks) shared =
     by_region (class_region names k) refl (are_passed pending names ks (λ i class p e. shared (suc i) class p e))
   where
-    by_region : (o : Option Region) → class_region names k ≡ o → ArePassed pending (passed_regions names ks)
-        → ArePassed pending (o ∷ passed_regions names ks)
+    by_region : (o : Option Region) → class_region names k ≡ o → AreRegionsPassed pending (passed_regions names ks)
+        → AreRegionsPassed pending (o ∷ passed_regions names ks)
     by_region None e l = l
     by_region (Some GlobalRegion) e l = l
     by_region (Some (Numbered p)) e l = (shared 0 k p refl e, l)
@@ -121,26 +121,26 @@ if_ok (Err e) p f = tt
 
 -- ---- bodies
 
-module _ (T : Setup) (p : Program) (b : Body) (stack : Stack) (holding : Holding) (code : T.code ≡ p.code)
+module _ (T : Setup) (p : CompactProgram) (b : Body) (stack : Stack) (holding : Holding) (code : T.code ≡ p.code)
     (belongs : Belongs p.compact stack) where
   -- `main`
   pub first_shows : (n : ℕ) (fn : CodeFn) (slots : ℕ) → IsFresh stack holding [] 1 b → T.sizes.regions ≡ slots
       → main_words p.code.functions 0 ≡ word_called fn n [] ∷ [] → frames_of stack ≡ word_called fn n [] ∷ []
-      → Holds slots holding (main_holder T.code (bare_all (main_words T.code.functions 0))) []
-      → Shows T p b (first_of T.code)
+      → IsHoldingOf slots holding (main_holder T.code (bare_all (main_words T.code.functions 0))) []
+      → BodyShows T p b (first_of T.code)
   first_shows n fn slots fresh many main frames holds = record {
     code = code;
     belongs = subst (Belongs p.compact) (sym fresh.stack_is) belongs;
     frames = words;
-    holds = subst (λ k. Holds T.sizes.regions k (main_holder T.code (bare_all (main_words T.code.functions 0))) []) (sym fresh.holding_is)
-        (subst (λ z. Holds z holding (main_holder T.code (bare_all (main_words T.code.functions 0))) []) (sym many) holds);
+    holds = subst (λ k. IsHoldingOf T.sizes.regions k (main_holder T.code (bare_all (main_words T.code.functions 0))) []) (sym fresh.holding_is)
+        (subst (λ z. IsHoldingOf z holding (main_holder T.code (bare_all (main_words T.code.functions 0))) []) (sym many) holds);
     owes = ap (λ fs. next_duties T.code (bare_all fs)) words ∙ ap (λ k. next_duties k (bare_all (frames_in b))) code
         ∙ sym (owes_next p.code b fresh.queue fresh.expanded);
     side = subst (λ (k : Side). SideShows k at_rest NoOffer) (sym fresh.side) (refl, refl);
     calm = record { make = refl; claim = refl; give = refl; none = refl };
     share = sym fresh.counts;
     prints = sym fresh.prints;
-    reserved = sym (ap (λ (r : Reserved). r.pages) fresh.reserved);
+    reserved = sym (ap (λ (r : PageReserve). r.pages) fresh.reserved);
     refused = sym fresh.refused;
   }
     where
@@ -149,27 +149,27 @@ module _ (T : Setup) (p : Program) (b : Body) (stack : Stack) (holding : Holding
 
   -- a goroutine that was started
   pub child_shows : (c : Record) (f : ℕ) (callee : CodeFn) (from : List ℕ) (passes : List Class) (removes : List ℕ)
-      (a : IsAt T.code c (Go f from passes removes)) → function_of T.code f ≡ Some callee
-      → IsFresh stack holding (entry_removes (function_of p.code f)) 0 b
+      (a : IsAt T.code c (Go f from passes removes)) → code_function T.code f ≡ Some callee
+      → IsFresh stack holding (entry_removes (code_function p.code f)) 0 b
       → frames_of stack ≡ word_called callee f (words_of a.w from) ∷ []
-      → Begins T.sizes.regions holding c.frame.holder.pending (formals_of (function_of T.code f))
+      → ChildHoldingBegins T.sizes.regions holding c.frame.holder.pending (formals_of (code_function T.code f))
       (passed_regions (top_names c.frame.holder.environments) passes)
-      → Shows T p b (child T.code c)
+      → BodyShows T p b (child T.code c)
   child_shows c f callee from passes removes a is fresh frames begins =
-      subst (Shows T p b) (sym (child_is T a callee is)) (record {
+      subst (BodyShows T p b) (sym (child_is T a callee is)) (record {
         code = code;
         belongs = subst (Belongs p.compact) (sym fresh.stack_is) belongs;
         frames = words;
-        holds = subst (λ k. Holds T.sizes.regions k (child_of T c a f callee from).frame.holder []) (sym fresh.holding_is)
-            (begins (result_of (function_of T.code f)));
-        owes = ap (λ fs. map Remove (entry_removes (function_of T.code f)) ++ next_duties T.code (bare_all fs)) words
-            ∙ ap (λ k. map Remove (entry_removes (function_of k f)) ++ next_duties k (bare_all (frames_in b))) code
-            ∙ sym (owes_first p.code b (map Remove (entry_removes (function_of p.code f))) fresh.queue fresh.expanded);
+        holds = subst (λ k. IsHoldingOf T.sizes.regions k (child_of T c a f callee from).frame.holder []) (sym fresh.holding_is)
+            (begins (function_result_class (code_function T.code f)));
+        owes = ap (λ fs. map Remove (entry_removes (code_function T.code f)) ++ next_duties T.code (bare_all fs)) words
+            ∙ ap (λ k. map Remove (entry_removes (code_function k f)) ++ next_duties k (bare_all (frames_in b))) code
+            ∙ sym (owes_first p.code b (map Remove (entry_removes (code_function p.code f))) fresh.queue fresh.expanded);
         side = subst (λ (k : Side). SideShows k at_rest NoOffer) (sym fresh.side) (refl, refl);
         calm = record { make = refl; claim = refl; give = refl; none = refl };
         share = sym fresh.counts;
         prints = sym fresh.prints;
-        reserved = sym (ap (λ (r : Reserved). r.pages) fresh.reserved);
+        reserved = sym (ap (λ (r : PageReserve). r.pages) fresh.reserved);
         refused = sym fresh.refused;
       })
     where

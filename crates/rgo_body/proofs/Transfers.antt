@@ -8,16 +8,16 @@ use Rattle.rgo_sound.specs.Code.Lists.{otherwise_in, otherwise_of, removes_of}
 use Rattle.rgo_core.specs.Core.{Setup}
 use Rattle.rgo_core.specs.Records.{Record, instructed}
 use Rattle.rgo_core_facts.proofs.ControlFrames.{all_in_code}
-use Rattle.rgo_core.proofs.Frames.Bookkeeping.{bare_test}
+use Rattle.rgo_core.proofs.Frames.regions.Bookkeeping.{bare_test}
 use Rattle.rgo_core.specs.Frames.Local.{local_op}
 use Rattle.rgo_core.specs.Frames.Quiet.{is_exit}
 use Rattle.rgo_core.specs.Frames.Records.{Rec as FrameRec, after_op}
 use Rattle.rgo_core.specs.Frames.WordFrames.{WordFrame, bare, bare_all, is_set, word_at, word_moved}
 use Rattle.rgo_core_steps.specs.Seats.{SettlesBy, settled_by}
-use Rattle.rgo_holding.specs.Holds.{Holds}
+use Rattle.rgo_holding.specs.Holds.{IsHoldingOf}
 use Rattle.rgo_sound.specs.Machine.Limits.{deepest}
 use Rattle.rgo_sound.specs.RegionMachine.Counts.{Counts}
-use Rattle.rgo_sound.specs.RegionMachine.Owed.{current, current_in, function_of, next_duties}
+use Rattle.rgo_sound.specs.RegionMachine.Owed.{current, current_in, code_function, next_duties}
 use Rattle.rgo_sound.specs.RegionMachine.States.{Duty, Holder, Offer, Remove}
 use Rattle.rgo_stack.specs.Stacks.{Belongs, caller_place}
 use Rattle.rgo_stack.specs.declared.stacks.Place.{Place}
@@ -26,9 +26,9 @@ use Rattle.rgo_sound.specs.Tac.Code as tac
 use Rattle.rgo_sound.specs.Tac.Ops.{operation_of}
 use Rattle.rgo_body.specs.Bodies.{IsReady, frames_in}
 use Rattle.rgo_body.specs.Nexts.{IsNextAt, IsNextOf, instr_at, removes_at}
-use Rattle.rgo_body.specs.Programs.{Program}
-use Rattle.rgo_body.specs.Reserves.{Reserved}
-use Rattle.rgo_body.specs.Shows.{IsPossible, Shows, SideShows}
+use Rattle.rgo_body.specs.Programs.{CompactProgram}
+use Rattle.rgo_body.specs.Reserves.{PageReserve}
+use Rattle.rgo_body.specs.Shows.{IsPossible, BodyShows, SideShows}
 use Rattle.rgo_body.specs.Steps.{GoesTo}
 use Rattle.rgo_body.specs.declared.bodies.Body.{Body}
 use Rattle.rgo_body.specs.declared.bodies.Side.{Side}
@@ -61,15 +61,15 @@ pub record Stepped (b d : Body) (ds : List Duty) : Type 0 where
   pub reserved : d.reserved ≡ b.reserved
   pub refused : d.refused ≡ b.refused
 
-pub stepped_shows : (T : Setup) (p : Program) (b d : Body) (c : Record) (frames : List WordFrame) (h : Holder) (ds : List Duty)
-    → Shows T p b c → Stepped b d ds → Belongs p.compact d.stack → frames ≡ frames_in d
-    → h.offer ≡ c.frame.holder.offer → Holds T.sizes.regions d.holding h c.memory.fills → Shows T p d (stepped T c frames h ds)
+pub stepped_shows : (T : Setup) (p : CompactProgram) (b d : Body) (c : Record) (frames : List WordFrame) (h : Holder) (ds : List Duty)
+    → BodyShows T p b c → Stepped b d ds → Belongs p.compact d.stack → frames ≡ frames_in d
+    → h.offer ≡ c.frame.holder.offer → IsHoldingOf T.sizes.regions d.holding h c.memory.fills → BodyShows T p d (stepped T c frames h ds)
 stepped_shows T p b d c frames h ds s k belongs are offer holds = record {
   code = s.code;
   belongs = belongs;
   frames = are;
   holds = holds;
-  reserved = s.reserved ∙ sym (ap (λ (r : Reserved). r.pages) k.reserved);
+  reserved = s.reserved ∙ sym (ap (λ (r : PageReserve). r.pages) k.reserved);
   owes = ap (λ code. ds ++ next_duties code (bare_all frames)) s.code
       ∙ ap (λ fs. ds ++ next_duties p.code (bare_all fs)) are
       ∙ sym (owes_first p.code d ds k.queue k.expanded);
@@ -81,7 +81,7 @@ stepped_shows T p b d c frames h ds s k belongs are offer holds = record {
   refused = s.refused ∙ sym k.refused;
 }
 
-module _ (T : Setup) (p : Program) (b d : Body) (g : ℕ) (c : Record) (next : Next) (s : Shows T p b c) (ready : IsReady p b next)
+module _ (T : Setup) (p : CompactProgram) (b d : Body) (g : ℕ) (c : Record) (next : Next) (s : BodyShows T p b c) (ready : IsReady p b next)
     (rests : b.side ≡ side.AtRest) (frames : List WordFrame) (h : Holder) (ds : List Duty) (k : Stepped b d ds)
     (belongs : Belongs p.compact d.stack) (are : frames ≡ frames_in d) (stays : is_exit g frames ≡ false) where
   few : length frames ≤ deepest
@@ -94,21 +94,21 @@ module _ (T : Setup) (p : Program) (b d : Body) (g : ℕ) (c : Record) (next : N
   pub local_step : local_op T.code x.w x.ws x.instr.op ≡ Some frames
       → after_op T.code c.frame.holder x.w x.ws x.instr.op frames
       ≡ record { frames = frames; holder = record h { duties = ds ++ next_duties T.code (bare_all frames) } }
-      → h.offer ≡ c.frame.holder.offer → Holds T.sizes.regions d.holding h c.memory.fills
-      → SettlesBy T g 1 c × Shows T p d (settled_by T g 1 c)
+      → h.offer ≡ c.frame.holder.offer → IsHoldingOf T.sizes.regions d.holding h c.memory.fills
+      → SettlesBy T g 1 c × BodyShows T p d (settled_by T g 1 c)
   local_step does after offer holds =
       let step = step_is T g c (after_op T.code c.frame.holder x.w x.ws x.instr.op frames)
       (subst (λ (y : Side). SideShows y c.side c.frame.holder.offer) rests s.side).0 (none_owed T p b c next s ready)
       (local_is T.code c.frame x.w x.ws x.instr frames (none_owed T p b c next s ready) x.are x.cur does) stays few in (
         step.settles,
-        subst (Shows T p d)
+        subst (BodyShows T p d)
             (sym (step.is ∙ ap (λ (e : FrameRec). record c { clock = instructed c.clock; frame = e }) after))
             (stepped_shows T p b d c frames h ds s k belongs are offer holds),
       )
 
 -- ---- jumps and branches
 
-module _ (T : Setup) (p : Program) (b m : Body) (g : ℕ) (c : Record) (next : Next) (s : Shows T p b c) (ready : IsReady p b next)
+module _ (T : Setup) (p : CompactProgram) (b m : Body) (g : ℕ) (c : Record) (next : Next) (s : BodyShows T p b c) (ready : IsReady p b next)
     (rests : b.side ≡ side.AtRest) (target : ℕ) (removes : List ℕ) (goes : GoesTo p b m target removes) where
   abbrev pub y : At T.code c next
   y = at T p b c next s ready.is_next
@@ -130,14 +130,14 @@ module _ (T : Setup) (p : Program) (b m : Body) (g : ℕ) (c : Record) (next : N
         frames = word_moved y.w target ∷ y.ws;
         holder = record c.frame.holder { duties = map Remove removes ++ next_duties T.code (bare_all (word_moved y.w target ∷ y.ws)) };
       }
-      → SettlesBy T g 1 c × Shows T p m (settled_by T g 1 c)
+      → SettlesBy T g 1 c × BodyShows T p m (settled_by T g 1 c)
   leads does after =
       local_step T p b m g c next s ready rests (word_moved y.w target ∷ y.ws) c.frame.holder (map Remove removes) led_by goes.belongs
       (sym (goes.frames ∙ ap (after_jump target) (sym s.frames ∙ y.are))) (not_exit g (word_moved y.w target) y.ws) does after refl
-      (subst (λ (e : Body). Holds T.sizes.regions e.holding c.frame.holder c.memory.fills) (sym goes.rest) s.holds)
+      (subst (λ (e : Body). IsHoldingOf T.sizes.regions e.holding c.frame.holder c.memory.fills) (sym goes.rest) s.holds)
 
   pub jumps : operation_of next.op ≡ tac.Jump target → removes ≡ removes_at next
-      → SettlesBy T g 1 c × Shows T p m (settled_by T g 1 c)
+      → SettlesBy T g 1 c × BodyShows T p m (settled_by T g 1 c)
   jumps op names =
       let is = jump_of y.instr.op target (y.op ∙ op) in
       let same = y.removes ∙ sym names in
@@ -152,7 +152,7 @@ module _ (T : Setup) (p : Program) (b m : Body) (g : ℕ) (c : Record) (next : N
   pub branches : (test one other : ℕ) → operation_of next.op ≡ tac.Branch test one other
       → (chosen : Bool) → is_set (word_at y.w test) ≡ chosen → target ≡ (if chosen then one else other)
       → removes ≡ (if chosen then removes_at next else otherwise_in (slice_get next.function.body next.at))
-      → SettlesBy T g 1 c × Shows T p m (settled_by T g 1 c)
+      → SettlesBy T g 1 c × BodyShows T p m (settled_by T g 1 c)
   branches test one other op chosen set way names =
       let is = branch_of y.instr.op test one other (y.op ∙ op) in
       leads
@@ -206,18 +206,18 @@ no_caller_below (w ∷ []) e = refl
 no_caller_below (w ∷ caller ∷ ws) e = cc
 
 -- it is at an instruction
-pub caller_instr : (p : Program) (b : Body) (place : Place) → IsPossible p b → caller_place (frames_in b) ≡ Some place
+pub caller_instr : (p : CompactProgram) (b : Body) (place : Place) → IsPossible p b → caller_place (frames_in b) ≡ Some place
     → instr_at p.code place ≡ None → ⊥
 caller_instr p b place y e none =
     let two = has_two (frames_in b) place e in
     let known = all_in_code y.T y.goroutine y.c y.here 1 two.caller (ap (λ fs. slice_get fs 1) (y.shows.frames ∙ two.are)) in
     never known.instr (sym known.cur ∙ (ap (λ code. current code (bare two.caller)) y.shows.code
-    ∙ (λ i. current_in (function_of p.code (sym two.function i)) (sym two.next i))) ∙ none)
+    ∙ (λ i. current_in (code_function p.code (sym two.function i)) (sym two.next i))) ∙ none)
   where
     never : (i : CodeInstr) → ◌≡◌ {A = Option CodeInstr} (Some i) None → ⊥
     never i e = cc
 
-pub caller_next : (p : Program) (b : Body) (place : Place) (next : Next) → caller_place (frames_in b) ≡ Some place
+pub caller_next : (p : CompactProgram) (b : Body) (place : Place) (next : Next) → caller_place (frames_in b) ≡ Some place
     → IsNextAt p.code place next → IsNextOf p.code (drop 1 (frames_in b)) next
 caller_next p b place next e n =
     let two = has_two (frames_in b) place e in
@@ -225,7 +225,7 @@ caller_next p b place next e n =
       w = two.caller;
       ws = two.ws;
       are = ap (drop 1) two.are;
-      in_fn = ap (function_of p.code) (sym two.function) ∙ n.in_fn;
+      in_fn = ap (code_function p.code) (sym two.function) ∙ n.in_fn;
       at = n.at ∙ two.next;
       instr = n.instr;
       is_instr = n.is_instr;

@@ -9,7 +9,7 @@ use Rattle.rgo_sound.specs.Tally.{no_share}
 use Rattle.rgo_holding.specs.declared.holding.Holding.{Holding}
 use Rattle.rgo_stack.specs.Stacks.{Stack, frames_of}
 use Rattle.rgo_body.specs.Nexts.{IsNextOf, removes_at}
-use Rattle.rgo_body.specs.Programs.{Program}
+use Rattle.rgo_body.specs.Programs.{CompactProgram}
 use Rattle.rgo_body.specs.Reserves.{none_reserved}
 use Rattle.rgo_body.specs.declared.bodies.Body.{Body}
 use Rattle.rgo_body.specs.declared.bodies.Side.TheVariants.{AtRest}
@@ -23,7 +23,7 @@ abbrev pub owed : Code → Body → List Duty
 owed code b = b.queue.duties ++ (if b.is_expanded then [] else next_duties code (bare_all (frames_in b)))
 
 -- it owes nothing before this instruction, its next one
-pub record IsReady (p : Program) (b : Body) (next : Next) : Type 0 where
+pub record IsReady (p : CompactProgram) (b : Body) (next : Next) : Type 0 where
   pub queue : b.queue.duties ≡ []
   pub expanded : b.is_expanded ≡ true
   pub is_next : IsNextOf p.code (frames_in b) next

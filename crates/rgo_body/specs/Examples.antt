@@ -11,10 +11,10 @@ use Rattle.rgo_core.specs.Frames.Opening.{no_record}
 use Rattle.rgo_core.specs.Frames.WordFrames.{WordFrame}
 use Rattle.rgo_core.specs.Memory.Opening.{first_record}
 use Rattle.rgo_core.specs.Memory.Records.{Owes, with_give}
-use Rattle.rgo_core_facts.specs.MemoryWords.{HasField}
+use Rattle.rgo_core_facts.specs.MemoryWords.{PointerHasField}
 use Rattle.rgo_sound.specs.Code.Code.{CodeOp}
 use Rattle.rgo_sound.specs.RegionMachine.Examples.{int_slot, main_of, node}
-use Rattle.rgo_sound.specs.RegionMachine.States.{Environment, NoOffer, Standing}
+use Rattle.rgo_sound.specs.RegionMachine.States.{RegionEnvironment, NoOffer, Standing}
 use Rattle.rgo_sound.specs.RegionMachine.States as machine
 use Rattle.rgo_sound.specs.RegionMachine.declared.regions.Region.TheVariants.{Global as GlobalRegion, Numbered}
 use Rattle.rgo_sound.specs.Tally.{no_share}
@@ -26,10 +26,10 @@ use Rattle.rgo_sound.specs.Typed.declared.actions.Action.TheVariants as action
 use Rattle.rgo_body.specs.Bodies.{CanCount, frames_in}
 use Rattle.rgo_body.specs.Duties.{has_share, is_kept, without_region}
 use Rattle.rgo_body.specs.Fields.{PointsToFields}
-use Rattle.rgo_body.specs.Nexts.{AreNexts, FollowsOn, HasNoNext, IsDecoded, IsDo, IsNextOf, IsReturn, removes_at, target_of}
-use Rattle.rgo_body.specs.Programs.{Program, most_fields}
+use Rattle.rgo_body.specs.Nexts.{AreNexts, FollowsOn, FrameHasNoNext, IsDecoded, IsDo, IsNextOf, IsReturn, removes_at, target_of}
+use Rattle.rgo_body.specs.Programs.{CompactProgram, most_fields}
 use Rattle.rgo_body.specs.Queues.{duties_of}
-use Rattle.rgo_body.specs.Shows.{IsCalm, LooksLike, Shows, SideShows}
+use Rattle.rgo_body.specs.Shows.{IsMemoryCalm, LooksLike, BodyShows, SideShows}
 use Rattle.rgo_body.specs.declared.bodies.Body.{Body}
 use Rattle.rgo_body.specs.declared.bodies.Side.TheVariants as side
 use Rattle.rgo_body.specs.declared.nexts.Next.{Next}
@@ -72,7 +72,7 @@ abbrev pub with_pages : Record → List ℕ → Record
 with_pages c pages = record c { memory = record c.memory { reserved = record { slot = 5; pages = pages } } }
 
 -- a frame whose call protects the region of slot 3
-abbrev pub guarding : Environment
+abbrev pub guarding : RegionEnvironment
 guarding = record { lent = NoClass; names = []; protections = Numbered 3 ∷ [] }
 
 pub record BodyExamples : Type 0 where
@@ -83,18 +83,18 @@ pub record BodyExamples : Type 0 where
   pub offers_elsewhere : SideShows (side.Offering 700) (offering 703) (Standing 0) → ⊥
   pub tried : SideShows side.Tried at_rest NoOffer
   pub offers_when_tried : SideShows side.Tried (offering 700) NoOffer → ⊥
-  pub calm : IsCalm first_record 0
-  pub owing_pages : IsCalm first_record 2 → ⊥
-  pub giving_back : IsCalm (with_give first_record (Owes 3)) 0 → ⊥
+  pub calm : IsMemoryCalm first_record 0
+  pub owing_pages : IsMemoryCalm first_record 2 → ⊥
+  pub giving_back : IsMemoryCalm (with_give first_record (Owes 3)) 0 → ⊥
   -- what no body shows
   pub access : LooksLike nobody (looked nobody)
   pub instruction : LooksLike nobody (record nobody { clock = record nobody.clock { share = record no_share { steps = 1 } } }) → ⊥
   pub slot : LooksLike nobody (with_pages nobody [])
   pub page : LooksLike nobody (with_pages nobody (3 ∷ [])) → ⊥
   -- reserved pages, whatever else is shown
-  pub two : (T : Setup) (p : Program) (b : Body) (c : Record) → Shows T p b c → Shows T p (with_two b) (with_pages c (3 ∷ 7 ∷ []))
-  pub other_order : (T : Setup) (p : Program) (b : Body) (c : Record) → Shows T p (with_two b) (with_pages c (7 ∷ 3 ∷ [])) → ⊥
-  pub no_page : (T : Setup) (p : Program) (b : Body) (c : Record) → Shows T p (with_two b) (with_pages c []) → ⊥
+  pub two : (T : Setup) (p : CompactProgram) (b : Body) (c : Record) → BodyShows T p b c → BodyShows T p (with_two b) (with_pages c (3 ∷ 7 ∷ []))
+  pub other_order : (T : Setup) (p : CompactProgram) (b : Body) (c : Record) → BodyShows T p (with_two b) (with_pages c (7 ∷ 3 ∷ [])) → ⊥
+  pub no_page : (T : Setup) (p : CompactProgram) (b : Body) (c : Record) → BodyShows T p (with_two b) (with_pages c []) → ⊥
   pub gone : (without_region nobody 4).clock.share.returned ≡ 4
   pub removed : (without_region nobody 4).clock.share.removed ≡ 1
   -- counts
@@ -105,8 +105,8 @@ pub record BodyExamples : Type 0 where
   -- fields
   pub most : most_fields (node ∷ record node { fields = [] } ∷ []) ≡ 2
   pub no_struct : most_fields [] ≡ 0
-  pub a_field_more : (T : Setup) (p : Program) (b : Body) (c : Record) (next : Next) (op : CodeOp) (a : IsAt T.code c op) (v k : ℕ)
-      (f : HasField T c a v k) → Shows T p b c → IsNextOf p.code (frames_in b) next
+  pub a_field_more : (T : Setup) (p : CompactProgram) (b : Body) (c : Record) (next : Next) (op : CodeOp) (a : IsAt T.code c op) (v k : ℕ)
+      (f : PointerHasField T c a v k) → BodyShows T p b c → IsNextOf p.code (frames_in b) next
       → PointsToFields p next v (suc (length f.struct.fields)) → ⊥
   -- queues: the first duty is the last of the list
   pub order : duties_of (duty.Create 4 ∷ duty.Remove 3 ∷ []) ≡ machine.Remove 3 ∷ machine.Create 4 ∷ []
@@ -121,9 +121,9 @@ pub record BodyExamples : Type 0 where
   pub next : IsNextOf small at_start first_next
   pub elsewhere : IsNextOf small (frame_at 0 1 (7 ∷ 5 ∷ 0 ∷ []) ∷ []) first_next → ⊥
   pub without_frame : IsNextOf small [] first_next → ⊥
-  pub none : HasNoNext small []
-  pub past : HasNoNext small (frame_at 0 3 (7 ∷ 5 ∷ 0 ∷ []) ∷ [])
-  pub some : HasNoNext small at_start → ⊥
+  pub none : FrameHasNoNext small []
+  pub past : FrameHasNoNext small (frame_at 0 3 (7 ∷ 5 ∷ 0 ∷ []) ∷ [])
+  pub some : FrameHasNoNext small at_start → ⊥
   -- a table of instructions
   pub decoded : IsDecoded small (record { function = 0; next = 0 }) (Some first_next)
   pub at_another : IsDecoded small (record { function = 0; next = 1 }) (Some first_next) → ⊥

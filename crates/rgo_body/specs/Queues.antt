@@ -6,7 +6,7 @@ use Rattle.rgo_body.specs.declared.queues.Duty.TheVariants as duty
 use Rattle.rgo_body.specs.declared.queues.Kind.{Kind}
 use Rattle.rgo_body.specs.declared.queues.Kind.TheVariants as kind
 
--- the first duty comes first; there is room for so many more
+-- the first duty comes first; `room` is for how many more there is memory
 pub record Queue : Type 0 where
   pub duties : List machine.Duty
   pub room : ℕ

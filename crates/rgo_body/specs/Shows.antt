@@ -5,48 +5,48 @@ use Rattle.rgo_core.specs.Memory.Records.{Calm, Idle, Rec as MemoryRec, Rest}
 use Rattle.rgo_sound.specs.RegionMachine.States.{NoOffer, Offer, Standing}
 use Rattle.rgo_core.specs.Core.{Here, Setup}
 use Rattle.rgo_core.specs.Records.{Record}
-use Rattle.rgo_holding.specs.Holds.{Holds}
+use Rattle.rgo_holding.specs.Holds.{IsHoldingOf}
 use Rattle.rgo_stack.specs.Stacks.{Belongs}
 use Rattle.rgo_body.specs.Bodies.{frames_in, owed}
-use Rattle.rgo_body.specs.Programs.{Program}
+use Rattle.rgo_body.specs.Programs.{CompactProgram}
 use Rattle.rgo_body.specs.declared.bodies.Body.{Body}
 use Rattle.rgo_body.specs.declared.bodies.Side.{Side}
 use Rattle.rgo_body.specs.declared.bodies.Side.TheVariants as side
 
 -- What the goroutine knows of a channel, and its offer: nothing; what it found where an operation was not ready, and it has no offer;
--- or its offer stands there.
+-- or its offer is there.
 abbrev pub SideShows : Side → SideRec → Offer → Type 0
 SideShows side.AtRest known offer = (known ≡ at_rest) × (offer ≡ NoOffer)
 SideShows side.Tried known offer = (known.hold ≡ Free) × (known.post ≡ Nowhere) × (offer ≡ NoOffer)
 SideShows (side.Offering at) known offer = (known.hold ≡ Free) × (known.post ≡ Offering at) × (offer ≡ Standing 0)
 
--- no object is half made, no page is claimed and not linked, and no chain is given back
-pub record IsCalm (m : MemoryRec) (owed : ℕ) : Type 0 where
+-- no object is half made, no page is claimed and not linked, and no chain is being returned
+pub record IsMemoryCalm (m : MemoryRec) (owed : ℕ) : Type 0 where
   pub make : m.make ≡ Rest
   pub claim : m.claim ≡ Idle
   pub give : m.give ≡ Calm
   pub none : owed ≡ 0
 
-pub record Shows (T : Setup) (p : Program) (b : Body) (c : Record) : Type 0 where
+pub record BodyShows (T : Setup) (p : CompactProgram) (b : Body) (c : Record) : Type 0 where
   pub code : T.code ≡ p.code
   pub belongs : Belongs p.compact b.stack
   pub frames : c.frame.frames ≡ frames_in b
-  pub holds : Holds T.sizes.regions b.holding c.frame.holder c.memory.fills
+  pub holds : IsHoldingOf T.sizes.regions b.holding c.frame.holder c.memory.fills
   pub reserved : c.memory.reserved.pages ≡ b.reserved.pages
   pub owes : c.frame.holder.duties ≡ owed p.code b
   pub side : SideShows b.side c.side c.frame.holder.offer
-  pub calm : IsCalm c.memory c.clock.owed
+  pub calm : IsMemoryCalm c.memory c.clock.owed
   pub share : c.clock.share ≡ b.counts
   pub prints : length c.clock.prints ≡ b.prints
   pub refused : c.clock.refused ≡ b.refused
 
 -- the body shows the record that some goroutine has at some moment of some run
-pub record IsPossible (p : Program) (b : Body) : Type 0 where
+pub record IsPossible (p : CompactProgram) (b : Body) : Type 0 where
   pub T : Setup
   pub goroutine : ℕ
   pub c : Record
   pub here : Here T goroutine c
-  pub shows : Shows T p b c
+  pub shows : BodyShows T p b c
 
 -- d differs from c only in what no body shows: its accesses, what it has tried, measured and located, its children, the end that it has
 -- set, and the tickets of its prints
@@ -64,4 +64,4 @@ pub record LooksLike (c d : Record) : Type 0 where
   pub refused : d.clock.refused ≡ c.clock.refused
 
 abbrev pub LikeShown : Type 0
-LikeShown = (T : Setup) (p : Program) (b : Body) (c d : Record) → Shows T p b c → LooksLike c d → Shows T p b d
+LikeShown = (T : Setup) (p : CompactProgram) (b : Body) (c d : Record) → BodyShows T p b c → LooksLike c d → BodyShows T p b d

@@ -1,4 +1,5 @@
-//! Instructions that are done by accesses: what the body is after the last one.
+//! Instructions that are done by accesses: what the body is after the last one. These operations cannot fail: what they need was
+//! reserved before the access, which could not be undone.
 
 ghost use Rattle.std.specs.Prelude.{◌≡◌, ◌^◌, ◌+◌, ◌*◌, ◌<◌, ◌≤◌, ℕ, Some, false, suc, true, OnOk};
 ghost use Rattle.rgo_core.specs.Core.{Setup};
@@ -12,7 +13,7 @@ ghost use Rattle.rgo_sound.specs.Machine.declared.picks.End.TheVariants.{Trap};
 ghost use Rattle.rgo_sound.specs.Memory.Memory.{Object};
 ghost use Rattle.rgo_holding.specs.Holds.{region_at};
 ghost use Rattle.rgo_holding.specs.Known.{slot_of};
-ghost use Rattle.rgo_sound.specs.RegionMachine.Objects.{words as words_in};
+ghost use Rattle.rgo_sound.specs.RegionMachine.Objects.{object_words as words_in};
 ghost use Rattle.rgo_sound.specs.RegionMachine.declared.regions.Region.{Region};
 ghost use Rattle.rgo_stack.specs.Steps.{after_word};
 ghost use Rattle.rgo_sound.specs.RegionMachine.States.{Ended, Stopped};
@@ -20,8 +21,8 @@ ghost use Rattle.rgo_sound.specs.Tac.Ops.{operation_of};
 ghost use Rattle.rgo_body.specs.Bodies.{HasRoomBehind, IsReady};
 ghost use Rattle.rgo_body.specs.Nexts.{FollowsOn, IsDo, IsGo, IsPrint, removes_at, target_of};
 ghost use Rattle.rgo_body.specs.Reserves.{none_reserved};
-ghost use Rattle.rgo_body.specs.Shows.{IsPossible, Shows};
-ghost use Rattle.rgo_body.specs.Steps.{Becomes, GoesOn, IsRoomier};
+ghost use Rattle.rgo_body.specs.Shows.{IsPossible, BodyShows};
+ghost use Rattle.rgo_body.specs.Steps.{Becomes, BodyContinues, IsRoomier};
 
 use crate::bodies::Body;
 use crate::nexts::Next;
@@ -31,7 +32,8 @@ use rgo_holding::Key;
 use std::alloc::AllocError;
 
 impl Body {
-    /// Room for what is owed after its next instruction, which an access does: taken before the access.
+    /// Room for what is owed after its next instruction, which an access does. Taken before the access, since that cannot be
+    /// undone.
     ///
     /// # Errors
     ///
@@ -43,20 +45,20 @@ impl Body {
         self.queue.reserve(next.removes().len())
     }
 
-    /// It continues after its next instruction, which has given a variable this word, if it gives one.
+    /// It continues after its next instruction, which has written this word to its target variable, if it has one.
     pub(crate) fn go_on(&mut self, program: &Program<'_>, next: &Next<'_>, word: u64)
         requires possible { IsPossible program.now self.old }
         requires ready { IsReady program.now self.old next.now }
         requires follows { FollowsOn (operation_of next.now.op) }
         requires room { HasRoomBehind self.old next.now }
-        ensures { GoesOn program.now self.old self.new (after_word (target_of (operation_of next.now.op)) word) (removes_at next.now) }
+        ensures { BodyContinues program.now self.old self.new (after_word (target_of (operation_of next.now.op)) word) (removes_at next.now) }
     {
         self.stack.advance(program.compact(), next.target(), word);
         self.queue.put_all(Kind::Remove, next.removes());
         self.is_expanded = false;
     }
 
-    /// Its next instruction was an action, which has given this word, if it gives one.
+    /// Its next instruction was an action, which has written this word to its target variable, if it has one.
     pub fn acted(&mut self, program: &Program<'_>, next: &Next<'_>, word: u64)
         requires possible { IsPossible program.now self.old }
         requires ready { IsReady program.now self.old next.now }
@@ -77,9 +79,9 @@ impl Body {
         requires does { IsDo (operation_of next.now.op) }
         requires room { HasRoomBehind self.old next.now }
         requires count { (self.old.counts.steps + 1 < 2 ^ 64) × (self.old.counts.objects + 1 < 2 ^ 64) }
-        ensures shows { (T : Setup) (c : Record) (f : Fill) (object : Object) (region : Region) → Shows T program.now self.old c
+        ensures shows { (T : Setup) (c : Record) (f : Fill) (object : Object) (region : Region) → BodyShows T program.now self.old c
             → region_at self.old.holding key ≡ Some region → f.slot ≡ slot_of T.sizes.regions region → f.fill + words_in object ≡ end → suc (f.page * T.sizes.page_words + f.fill) ≡ word
-            → Shows T program.now self.new (making T c f object) }
+            → BodyShows T program.now self.new (making T c f object) }
         ensures side { self.new.side ≡ self.old.side }
         ensures not_yet { self.new.is_expanded ≡ false }
     {
@@ -95,8 +97,8 @@ impl Body {
         requires does { IsDo (operation_of next.now.op) }
         requires room { HasRoomBehind self.old next.now }
         requires count { (self.old.counts.steps + 1 < 2 ^ 64) × (self.old.counts.objects + 1 < 2 ^ 64) }
-        ensures shows { (T : Setup) (c : Record) → Shows T program.now self.old c → suc (reserved_address T c) ≡ word
-            → Shows T program.now self.new (making_apart T c) }
+        ensures shows { (T : Setup) (c : Record) → BodyShows T program.now self.old c → suc (reserved_address T c) ≡ word
+            → BodyShows T program.now self.new (making_apart T c) }
         ensures none { self.new.reserved ≡ none_reserved }
         ensures side { self.new.side ≡ self.old.side }
         ensures not_yet { self.new.is_expanded ≡ false }

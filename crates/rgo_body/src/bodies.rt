@@ -4,9 +4,9 @@ ghost use Rattle.std.specs.Prelude.{◌≡◌, ◌<◌, ◌∷◌, [], ℕ, List
 ghost use Rattle.rgo_core.specs.Frames.WordFrames.{WordFrame, word_at};
 ghost use Rattle.rgo_sound.specs.RegionMachine.States as machine;
 ghost use Rattle.rgo_body.specs.Bodies as spec;
-ghost use Rattle.rgo_body.specs.Nexts.{HasNoNext, IsNextOf};
+ghost use Rattle.rgo_body.specs.Nexts.{FrameHasNoNext, IsNextOf};
 ghost use Rattle.rgo_body.specs.Queues.{duty_of};
-ghost use Rattle.rgo_body.specs.Programs.{Program as Program_};
+ghost use Rattle.rgo_body.specs.Programs.{CompactProgram as Program_};
 ghost use Rattle.rgo_body.specs.Shows.{IsPossible};
 ghost use Rattle.rgo_holding.specs.Holds.{region_at};
 ghost use Rattle.rgo_sound.specs.RegionMachine.declared.regions.Region.TheVariants.{Numbered};
@@ -26,7 +26,7 @@ pub enum Side {
     AtRest,
     /// The operation at which it is was not ready when it was tried.
     Tried,
-    /// Its offer stands at the channel whose control is this word of the table.
+    /// Its offer is at the channel whose control is this word of the table: not taken, or taken and not acknowledged.
     Offering(usize),
 }
 
@@ -50,10 +50,10 @@ pub struct Body {
 }
 
 impl Body {
-    /// What its next step is, where it owes no duty; `None` where it has returned from its first function.
+    /// What its next step is, if it owes no duty; `None` if it has returned from its first function.
     #[inline(always)]
     pub fn next<'p, 'c>(&self, program: &'p Program<'c>) -> Option<&'p Next<'c>>
-        ensures { MatchOption result (HasNoNext program.now.code (spec.frames_in self.now))
+        ensures { MatchOption result (FrameHasNoNext program.now.code (spec.frames_in self.now))
             (λ n. IsNextOf program.now.code (spec.frames_in self.now) n.now) }
     {
         match self.stack.newest() {

@@ -3,7 +3,7 @@
 ghost use Rattle.std.specs.Prelude.{◌≡◌, ◌^◌, ◌+◌, ◌<◌, ◌≤◌, ◌++◌, ℕ, Err, List, MatchOption, None, OnErr, OnOk, Option, drop, false, length, map};
 ghost use Rattle.rgo_sound.specs.Machine.Limits.{deepest};
 ghost use Rattle.rgo_core.specs.Memory.Records.{Fill};
-ghost use Rattle.rgo_holding.specs.Holds.{Holds};
+ghost use Rattle.rgo_holding.specs.Holds.{IsHoldingOf};
 ghost use Rattle.rgo_sound.specs.RegionMachine.States.{EndBase, Holder};
 ghost use Rattle.rgo_stack.specs.Places.{CanJump};
 ghost use Rattle.rgo_stack.specs.Stacks.{caller_place};
@@ -13,7 +13,7 @@ ghost use Rattle.rgo_sound.specs.Tac.Ops.{operation_of};
 ghost use Rattle.rgo_body.specs.Bodies.{IsReady, frames_in};
 ghost use Rattle.rgo_body.specs.Nexts.{IsNextOf};
 ghost use Rattle.rgo_body.specs.Shows.{IsPossible};
-ghost use Rattle.rgo_body.specs.Steps.{ExitsSo, GoesTo, HasBaseRoom, HasRoomBack, IsRoomier, Stays, TakesLocal, TakesReturn};
+ghost use Rattle.rgo_body.specs.Steps.{ExitsSo, GoesTo, HasBaseRoom, HasRoomBack, IsRoomier, StillShows, TakesLocal, TakesReturn};
 ghost use Rattle.rgo_body.specs.declared.bodies.Side.TheVariants.{AtRest};
 
 use crate::bodies::Body;
@@ -27,7 +27,7 @@ use std::alloc::AllocError;
 /// The ends of the protections since a goroutine started come before all other duties.
 fn put_base(queue: &mut Queue, holding: &Holding)
     requires room { HasBaseRoom holding.now queue.old.room }
-    ensures { (h : Holder) (fills : List Fill) (slots : ℕ) → Holds slots holding.now h fills
+    ensures { (h : Holder) (fills : List Fill) (slots : ℕ) → IsHoldingOf slots holding.now h fills
         → queue.new.duties ≡ map EndBase h.base ++ queue.old.duties }
 {
     let mut i = holding.base_len();
@@ -35,6 +35,7 @@ fn put_base(queue: &mut Queue, holding: &Holding)
         i -= 1;
         match holding.base_region(i) {
             Some(region) => queue.put(Duty::EndBase(region)),
+            // `i` is less than the length of the base.
             None => unreachable!(),
         }
     }
@@ -85,7 +86,7 @@ impl Body {
         requires rests { self.old.side ≡ AtRest }
         requires count { self.old.counts.steps + 1 < 2 ^ 64 }
         ensures done { OnOk result (TakesLocal program.now 1 self.old self.new) }
-        ensures stays { OnErr result (Stays program.now self.old self.new) }
+        ensures stays { OnErr result (StillShows program.now self.old self.new) }
         ensures side { self.new.side ≡ self.old.side }
         ensures not_yet { OnOk result (self.new.is_expanded ≡ false) }
     {
@@ -112,7 +113,7 @@ impl Body {
         requires rests { self.old.side ≡ AtRest }
         requires count { self.old.counts.steps + 1 < 2 ^ 64 }
         ensures done { OnOk result (TakesLocal program.now 1 self.old self.new) }
-        ensures stays { OnErr result (Stays program.now self.old self.new) }
+        ensures stays { OnErr result (StillShows program.now self.old self.new) }
         ensures side { self.new.side ≡ self.old.side }
         ensures not_yet { OnOk result (self.new.is_expanded ≡ false) }
     {
@@ -128,7 +129,7 @@ impl Body {
     ///
     /// # Errors
     ///
-    /// [`NoCall::TooDeep`] only where it has as many frames as it may have, [`NoCall::NoMemory`] on allocation failure. Then
+    /// [`NoCall::TooDeep`] only if it has as many frames as it may have, [`NoCall::NoMemory`] on allocation failure. Then
     /// nothing has changed.
     pub fn call(
         &mut self,
@@ -144,7 +145,7 @@ impl Body {
         requires count { self.old.counts.steps + 1 < 2 ^ 64 }
         ensures done { OnOk result (TakesLocal program.now 1 self.old self.new) }
         ensures deep { result ≡ Err TooDeep → length (frames_in self.old) ≡ deepest }
-        ensures stays { OnErr result (Stays program.now self.old self.new) }
+        ensures stays { OnErr result (StillShows program.now self.old self.new) }
         ensures side { self.new.side ≡ self.old.side }
         ensures not_yet { OnOk result (self.new.is_expanded ≡ false) }
     {
@@ -175,7 +176,7 @@ impl Body {
         Ok(())
     }
 
-    /// The call at which the caller of its newest frame is; `None` where it has one frame.
+    /// The call at which the caller of its newest frame is; `None` if it has one frame.
     fn call_below<'p, 'c>(&self, program: &'p Program<'c>) -> Option<&'p Next<'c>>
         requires possible { IsPossible program.now self.now }
         ensures { MatchOption result (caller_place (frames_in self.now) ≡ None)
@@ -184,6 +185,7 @@ impl Body {
         let place = self.stack.caller()?;
         match program.next_at(place) {
             Some(next) => Some(next),
+            // A caller is at a call, which is an instruction of the program.
             None => unreachable!(),
         }
     }

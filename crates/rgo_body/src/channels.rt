@@ -1,4 +1,4 @@
-//! Operations on channels: what the body is after one was done, was not ready, or has put up an offer.
+//! Operations on channels: what the body is after one was done, was not ready, or has offered a value.
 
 ghost use Rattle.std.specs.Prelude.{◌≡◌, ◌^◌, ◌+◌, ◌<◌, ℕ};
 ghost use Rattle.rgo_core.specs.CommitMoves.{offers};
@@ -10,7 +10,7 @@ ghost use Rattle.rgo_core_steps.specs.Calls.{waited};
 ghost use Rattle.rgo_sound.specs.Tac.Ops.{operation_of};
 ghost use Rattle.rgo_body.specs.Bodies.{HasRoomBehind, IsReady};
 ghost use Rattle.rgo_body.specs.Nexts.{IsDo};
-ghost use Rattle.rgo_body.specs.Shows.{IsPossible, Shows};
+ghost use Rattle.rgo_body.specs.Shows.{IsPossible, BodyShows};
 ghost use Rattle.rgo_body.specs.Steps.{Becomes};
 ghost use Rattle.rgo_body.specs.declared.bodies.Side.TheVariants.{AtRest, Offering, Tried};
 
@@ -20,7 +20,7 @@ use crate::programs::Program;
 use crate::queues::Kind;
 
 impl Body {
-    /// Its operation has taken effect, and has given this word, if it gives one.
+    /// Its operation has taken effect, and has written this word to its target variable, if it has one.
     pub fn committed(&mut self, program: &Program<'_>, next: &Next<'_>, word: u64)
         requires possible { IsPossible program.now self.old }
         requires ready { IsReady program.now self.old next.now }
@@ -35,7 +35,7 @@ impl Body {
         self.side = Side::AtRest;
     }
 
-    /// It has acknowledged that its offer was taken. The receiver has counted the instruction.
+    /// It has acknowledged that its offer was taken. The receiver has counted the instruction, so this one does not.
     pub fn acknowledged(&mut self, program: &Program<'_>, next: &Next<'_>)
         requires possible { IsPossible program.now self.old }
         requires ready { IsReady program.now self.old next.now }
@@ -47,7 +47,7 @@ impl Body {
         self.side = Side::AtRest;
     }
 
-    /// Its offer stands at the channel with this control.
+    /// Its offer is now at the channel with this control; it stays at its send.
     pub fn offered(&mut self, program: &Program<'_>, at: usize)
         ensures { Becomes program.now self.old self.new (λ T c. offers c at) }
     {
@@ -57,17 +57,17 @@ impl Body {
     /// Its operation was tried, and was not ready.
     pub fn tried(&mut self, program: &Program<'_>)
         requires side { (at : ℕ) → self.old.side ≡ Offering at → ⊥ }
-        ensures { (T : Setup) (c : Record) (n : ℕ) (side : sides.Rec) → Shows T program.now self.old c
-            → side.hold ≡ sides.Free → side.post ≡ sides.Nowhere → Shows T program.now self.new (waited n c side) }
+        ensures { (T : Setup) (c : Record) (n : ℕ) (side : sides.Rec) → BodyShows T program.now self.old c
+            → side.hold ≡ sides.Free → side.post ≡ sides.Nowhere → BodyShows T program.now self.new (waited n c side) }
     {
         self.side = Side::Tried;
     }
 
-    /// It is at no operation on a channel, so it knows nothing of one.
+    /// It is not at an operation on a channel, so from here on it knows nothing of channels.
     pub fn rest(&mut self, program: &Program<'_>)
         requires side { (at : ℕ) → self.old.side ≡ Offering at → ⊥ }
-        ensures rests { (T : Setup) (c : Record) → Shows T program.now self.old c → c.side ≡ sides.at_rest
-            → Shows T program.now self.new c }
+        ensures rests { (T : Setup) (c : Record) → BodyShows T program.now self.old c → c.side ≡ sides.at_rest
+            → BodyShows T program.now self.new c }
         ensures same { self.new ≡ record self.old { side = AtRest } }
     {
         self.side = Side::AtRest;

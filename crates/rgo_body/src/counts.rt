@@ -1,4 +1,4 @@
-//! What a goroutine has made and done.
+//! What a goroutine has made and done. Each goroutine counts for itself, so that no word is shared for it; the driver adds up.
 
 ghost use Rattle.std.specs.Prelude.{◌≡◌, ◌↔◌, ◌^◌, ◌≤◌, ◌<◌, ◌+◌, ℕ, suc, true};
 ghost use Rattle.rgo_sound.specs.Tally.{no_share};

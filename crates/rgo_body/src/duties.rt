@@ -1,4 +1,8 @@
-//! What a goroutine owes around its instructions.
+//! What a goroutine owes around its instructions. Duties that end in a change of a shared count return the region, and the act at
+//! the table follows; all others are done here.
+//!
+//! The name of a first duty always stands for a region: the record is possible, and region safety says so of every run. So the
+//! early returns for a name without a region are never taken.
 
 ghost use Rattle.std.specs.Prelude.{◌≡◌, ◌++◌, Some, map, slice_get, ◌^◌, ◌+◌, ◌<◌, ◌∷◌, [], ℕ, List, MatchOption, OnErr, OnOk, false, true};
 ghost use Rattle.rgo_sound.specs.Code.Code.{CodeInstr};
@@ -9,12 +13,12 @@ ghost use Rattle.rgo_core_steps.specs.Counts.{IsSharing, created, shared};
 ghost use Rattle.rgo_core_steps.specs.Making.{next_is_spread};
 ghost use Rattle.rgo_holding.specs.Holds.{region_at};
 ghost use Rattle.rgo_holding.specs.Known.{slot_of};
-ghost use Rattle.rgo_holding.specs.Changes.{HasRoom, SameRegions};
+ghost use Rattle.rgo_holding.specs.Changes.{HoldingHasRoom, SameRegions};
 ghost use Rattle.rgo_pages.specs.Claiming.{has_claimed};
 ghost use Rattle.rgo_sound.specs.RegionMachine.Owed.{duties_of_op};
 ghost use Rattle.rgo_sound.specs.RegionMachine.States as machine;
 ghost use Rattle.rgo_core.specs.Memory.Records.{Fill};
-ghost use Rattle.rgo_holding.specs.Holds.{Holds};
+ghost use Rattle.rgo_holding.specs.Holds.{IsHoldingOf};
 ghost use Rattle.rgo_sound.specs.RegionMachine.declared.regions.Region.{Region as Region_};
 ghost use Rattle.rgo_sound.specs.RegionMachine.declared.regions.Region.TheVariants.{Numbered};
 ghost use Rattle.rgo_sound.specs.Stakes.{is_in};
@@ -23,8 +27,8 @@ ghost use Rattle.rgo_body.specs.Bodies.{CanCount, frames_in};
 ghost use Rattle.rgo_body.specs.Duties as spec;
 ghost use Rattle.rgo_body.specs.Nexts.{IsNextOf};
 ghost use Rattle.rgo_body.specs.Programs as spec_program;
-ghost use Rattle.rgo_body.specs.Shows.{IsPossible, Shows};
-ghost use Rattle.rgo_body.specs.Steps.{Becomes, Stays, TakesLocal};
+ghost use Rattle.rgo_body.specs.Shows.{IsPossible, BodyShows};
+ghost use Rattle.rgo_body.specs.Steps.{Becomes, StillShows, TakesLocal};
 ghost use Rattle.rgo_body.specs.declared.bodies.Side.TheVariants.{AtRest};
 
 use crate::bodies::Body;
@@ -38,7 +42,7 @@ use std::alloc::AllocError;
 
 /// Whether a goroutine needs no stake in a region for a coming child: it has taken one, or the region is Global.
 fn has_share(holding: &Holding, key: Key) -> bool
-    ensures { (slots : ℕ) (h : machine.Holder) (fills : List Fill) (r : Region_) → Holds slots holding.now h fills
+    ensures { (slots : ℕ) (h : machine.Holder) (fills : List Fill) (r : Region_) → IsHoldingOf slots holding.now h fills
         → region_at holding.now key ≡ Some r → result ≡ spec.has_share h.pending r }
 {
     match holding.region(key) {
@@ -49,7 +53,7 @@ fn has_share(holding: &Holding, key: Key) -> bool
 
 /// Whether a region stays when its name is removed: it is protected, or Global.
 fn is_kept(holding: &Holding, key: Key) -> bool
-    ensures { (slots : ℕ) (h : machine.Holder) (fills : List Fill) (r : Region_) → Holds slots holding.now h fills
+    ensures { (slots : ℕ) (h : machine.Holder) (fills : List Fill) (r : Region_) → IsHoldingOf slots holding.now h fills
         → region_at holding.now key ≡ Some r → result ≡ spec.is_kept h.base h.environments r }
 {
     match holding.region(key) {
@@ -60,7 +64,7 @@ fn is_kept(holding: &Holding, key: Key) -> bool
 
 /// The same of the first region of the base, when that protection ends.
 fn is_kept_beyond_base(holding: &Holding, key: Key) -> bool
-    ensures { (slots : ℕ) (h : machine.Holder) (fills : List Fill) (r : Region_) (rest : List Region_) → Holds slots holding.now h fills
+    ensures { (slots : ℕ) (h : machine.Holder) (fills : List Fill) (r : Region_) (rest : List Region_) → IsHoldingOf slots holding.now h fills
         → region_at holding.now key ≡ Some r → h.base ≡ r ∷ rest → result ≡ spec.is_kept rest h.environments r }
 {
     match holding.region(key) {
@@ -128,17 +132,17 @@ fn enqueue(queue: &mut Queue, next: &Next<'_>) -> Result<(), AllocError>
 }
 
 impl Body {
-    /// What it owes before its next instruction comes into its queue.
+    /// Puts what it owes before its next instruction into its queue.
     ///
     /// # Errors
     ///
-    /// On allocation failure. Then it owes what it owed.
+    /// On allocation failure. Then it owes what it owed before.
     pub fn expand(&mut self, program: &Program<'_>, next: &Next<'_>) -> Result<(), AllocError>
         requires next { IsNextOf program.now.code (frames_in self.old) next.now }
         requires empty { self.old.queue.duties ≡ [] }
         requires not_yet { self.old.is_expanded ≡ false }
         ensures expanded { OnOk result (self.new.is_expanded ≡ true) }
-        ensures stays { Stays program.now self.old self.new }
+        ensures stays { StillShows program.now self.old self.new }
         ensures same { self.new ≡ record self.old { queue = self.new.queue; is_expanded = self.new.is_expanded } }
     {
         match enqueue(&mut self.queue, next) {
@@ -159,9 +163,10 @@ impl Body {
         requires first { spec.OwesFirst self.old (machine.Protect name) }
         requires rests { self.old.side ≡ AtRest }
         ensures done { OnOk result (spec.DoesLocal program.now self.old self.new) }
-        ensures stays { OnErr result (Stays program.now self.old self.new) }
+        ensures stays { OnErr result (StillShows program.now self.old self.new) }
         ensures same { OnErr result (self.new ≡ record self.old { holding = self.new.holding }) }
     {
+        // The name of a first duty stands for a region.
         let Some(key) = self.holding.key(name) else {
             unreachable!();
         };
@@ -180,7 +185,7 @@ impl Body {
         requires rests { self.old.side ≡ AtRest }
         ensures { spec.DoesLocal program.now self.old self.new }
     {
-        // Each name that is protected stands for a region.
+        // Never taken: each name that is protected stands for a region.
         let Some(key) = self.holding.key(name) else {
             return;
         };
@@ -189,7 +194,7 @@ impl Body {
     }
 
     /// Its first duty takes a stake in the region of this name for a goroutine that is about to start. If it has taken one already,
-    /// or the region is Global, the duty is done. Else returns the region, in which a stake is to be taken.
+    /// or the region is Global, the duty is done. Otherwise returns the region, in which a stake is to be taken.
     pub fn share(&mut self, program: &Program<'_>, name: u32) -> Option<Key>
         requires possible { IsPossible program.now self.old }
         requires first { spec.OwesFirst self.old (machine.Share name) }
@@ -207,8 +212,8 @@ impl Body {
         Some(key)
     }
 
-    /// Its first duty removes the region of this name. If the region is Global, or the goroutine protects it, the duty is done. Else
-    /// returns the region, in which its stake is to end.
+    /// Its first duty removes the region of this name. If the region is Global, or the goroutine protects it, the duty is done.
+    /// Otherwise returns the region, in which its stake is to end.
     pub fn remove(&mut self, program: &Program<'_>, name: u32) -> Option<Key>
         requires possible { IsPossible program.now self.old }
         requires first { spec.OwesFirst self.old (machine.Remove name) }
@@ -227,8 +232,8 @@ impl Body {
         Some(key)
     }
 
-    /// Its first duty ends its protection of a region since it started. If it protects the region otherwise, the duty is done. Else
-    /// returns the region, in which its stake is to end.
+    /// Its first duty ends its protection of a region since it started. If it protects the region in another way, the duty is done.
+    /// Otherwise returns the region, in which its stake is to end.
     pub fn end_base(&mut self, program: &Program<'_>) -> Option<Key>
         requires possible { IsPossible program.now self.old }
         requires first { (region : Region_) × spec.OwesFirst self.old (machine.EndBase region) }
@@ -236,6 +241,7 @@ impl Body {
         ensures { MatchOption result (spec.DoesLocal program.now self.old self.new)
             (λ key. (self.new ≡ self.old) × spec.LeavesIn program.now self.old key) }
     {
+        // Never taken: the duty is owed for the first region of the base.
         let Some(key) = self.holding.first_base() else {
             return None;
         };
@@ -255,9 +261,9 @@ impl Body {
     pub fn room_to_create(&mut self, program: &Program<'_>, name: u32) -> Result<(), AllocError>
         requires possible { IsPossible program.now self.old }
         requires first { spec.OwesFirst self.old (machine.Create name) }
-        ensures room { OnOk result (HasRoom self.new.holding name) }
+        ensures room { OnOk result (HoldingHasRoom self.new.holding name) }
         ensures same { self.new ≡ record self.old { holding = self.new.holding } }
-        ensures stays { Stays program.now self.old self.new }
+        ensures stays { StillShows program.now self.old self.new }
     {
         self.holding.reserve(name)
     }
@@ -265,11 +271,11 @@ impl Body {
     /// Its first duty has created a region in this slot.
     pub fn created(&mut self, program: &Program<'_>, name: u32, slot: u32)
         requires first { spec.OwesFirst self.old (machine.Create name) }
-        requires room { HasRoom self.old.holding name }
+        requires room { HoldingHasRoom self.old.holding name }
         requires count { self.old.counts.made + 1 < 2 ^ 64 }
-        ensures shows { (T : Setup) (g : ℕ) (c : Record) → Here T g c → Shows T program.now self.old c → slot < T.sizes.regions
-            → is_in slot c.frame.holder.stakes ≡ false → Shows T program.now self.new (created c slot) }
-        ensures done { spec.HasDone self.old self.new }
+        ensures shows { (T : Setup) (g : ℕ) (c : Record) → Here T g c → BodyShows T program.now self.old c → slot < T.sizes.regions
+            → is_in slot c.frame.holder.stakes ≡ false → BodyShows T program.now self.new (created c slot) }
+        ensures done { spec.HasDoneDuty self.old self.new }
     {
         self.holding.create(name, slot);
         self.queue.pop();
@@ -280,9 +286,9 @@ impl Body {
     pub fn shared(&mut self, program: &Program<'_>, key: Key)
         requires first { (name : ℕ) × spec.OwesFirst self.old (machine.Share name) }
         requires shares { spec.SharesIn program.now self.old key }
-        ensures shows { (T : Setup) (g : ℕ) (c : Record) → Here T g c → Shows T program.now self.old c
-            → Shows T program.now self.new (shared c) }
-        ensures done { spec.HasDone self.old self.new }
+        ensures shows { (T : Setup) (g : ℕ) (c : Record) → Here T g c → BodyShows T program.now self.old c
+            → BodyShows T program.now self.new (shared c) }
+        ensures done { spec.HasDoneDuty self.old self.new }
     {
         self.holding.add_pending(key);
         self.queue.pop();
@@ -293,10 +299,11 @@ impl Body {
         requires possible { IsPossible program.now self.old }
         requires first { (d : machine.Duty) × spec.OwesFirst self.old d }
         requires leaves { spec.LeavesIn program.now self.old key }
-        ensures shows { spec.Leaves program.now self.old self.new }
-        ensures done { spec.HasDone self.old self.new }
+        ensures shows { spec.StakeHasEnded program.now self.old self.new }
+        ensures done { spec.HasDoneDuty self.old self.new }
         ensures counts { self.new.counts ≡ self.old.counts }
     {
+        // Never taken: the caller attends to a duty that is first in the queue.
         let Some(duty) = self.queue.first() else {
             return;
         };
@@ -305,7 +312,7 @@ impl Body {
         self.queue.pop();
     }
 
-    /// A region is gone, of which it has given these pages back.
+    /// A region is gone, of which it has returned this many pages.
     pub fn gave_back(&mut self, program: &Program<'_>, pages: u64)
         requires removed { self.old.counts.removed + 1 < 2 ^ 64 }
         requires returned { self.old.counts.returned + pages < 2 ^ 64 }
@@ -319,8 +326,8 @@ impl Body {
     pub fn claimed(&mut self, program: &Program<'_>, key: Key, page: u32)
         requires count { self.old.counts.taken + 1 < 2 ^ 64 }
         ensures shows { (region : Region_) → region_at self.old.holding key ≡ Some region
-            → (T : Setup) (c : Record) → Shows T program.now self.old c → next_is_spread T c ≡ false
-            → Shows T program.now self.new (has_claimed T c page (slot_of T.sizes.regions region)) }
+            → (T : Setup) (c : Record) → BodyShows T program.now self.old c → next_is_spread T c ≡ false
+            → BodyShows T program.now self.new (has_claimed T c page (slot_of T.sizes.regions region)) }
         ensures same { self.new ≡ record self.old { holding = self.new.holding; counts = self.new.counts } }
         ensures regions { SameRegions self.old.holding self.new.holding }
     {

@@ -5,16 +5,17 @@ ghost use Rattle.std.specs.Prelude.{◌≡◌, ◌^◌, ◌+◌, ◌<◌, ◌≤
 ghost use Rattle.rgo_sound.specs.Code.Names.{class_of};
 ghost use Rattle.rgo_core.specs.Core.{Setup};
 ghost use Rattle.rgo_core.specs.Records.{Record};
+ghost use Rattle.rgo_core.specs.Memory.Records.{page_of};
 ghost use Rattle.rgo_core_steps.specs.Making.{next_is_spread};
 ghost use Rattle.rgo_holding.specs.Holds.{region_at};
-ghost use Rattle.rgo_holding.specs.Known.{own_page, page_of, slot_of};
+ghost use Rattle.rgo_holding.specs.Known.{own_page, slot_of};
 ghost use Rattle.rgo_pages.specs.Claiming.{has_claimed};
 ghost use Rattle.rgo_sound.specs.RegionMachine.Regions.{class_region};
 ghost use Rattle.rgo_sound.specs.RegionMachine.States.{top_names};
 ghost use Rattle.rgo_sound.specs.RegionMachine.declared.regions.Region.{Region};
-ghost use Rattle.rgo_body.specs.Programs.{Program as Program_};
-ghost use Rattle.rgo_body.specs.Shows.{Shows};
-ghost use Rattle.rgo_body.specs.Steps.{Stays};
+ghost use Rattle.rgo_body.specs.Programs.{CompactProgram as Program_};
+ghost use Rattle.rgo_body.specs.Shows.{BodyShows};
+ghost use Rattle.rgo_body.specs.Steps.{StillShows};
 
 use crate::bodies::Body;
 use crate::nexts::Next;
@@ -25,7 +26,7 @@ use std::alloc::AllocError;
 impl Body {
     /// The region of the class of a variable of the newest frame.
     pub fn region_of(&self, next: &Next<'_>, variable: u32) -> Option<Key>
-        ensures { (T : Setup) (p : Program_) (c : Record) → Shows T p self.now c
+        ensures { (T : Setup) (p : Program_) (c : Record) → BodyShows T p self.now c
             → option_map (region_at self.now.holding) result
             ≡ option_map Some (class_region (top_names c.frame.holder.environments) (class_of next.now.function variable)) }
     {
@@ -34,7 +35,7 @@ impl Body {
 
     /// The page that it fills in a region.
     pub fn own_page(&self, key: Key) -> Option<Page>
-        ensures { (T : Setup) (p : Program_) (c : Record) (region : Region) → Shows T p self.now c
+        ensures { (T : Setup) (p : Program_) (c : Record) (region : Region) → BodyShows T p self.now c
             → region_at self.now.holding key ≡ Some region
             → option_map (own_page (slot_of T.sizes.regions region)) result
             ≡ page_of (slot_of T.sizes.regions region) c.memory.fills }
@@ -42,15 +43,16 @@ impl Body {
         self.holding.page(key)
     }
 
-    /// The slot of a region; Global has the one behind those of the others.
+    /// The slot of a region; Global has the one after those of the others.
     pub fn page_slot(&self, key: Key) -> u32
-        ensures { (T : Setup) (p : Program_) (c : Record) (region : Region) → Shows T p self.now c
+        ensures { (T : Setup) (p : Program_) (c : Record) (region : Region) → BodyShows T p self.now c
             → region_at self.now.holding key ≡ Some region → result ≡ slot_of T.sizes.regions region }
     {
         self.holding.slot(key)
     }
 
-    /// Room for this many pages more that are reserved for a spread object: taken before the first of them is claimed.
+    /// Room for the numbers of this many pages more for a spread object. Taken before the first of them is claimed, since a claim
+    /// cannot be undone.
     ///
     /// # Errors
     ///
@@ -58,7 +60,7 @@ impl Body {
     pub fn room_to_reserve(&mut self, more: usize) -> Result<(), AllocError>
         ensures room { OnOk result (more ≤ self.new.reserved.room) }
         ensures same { self.new ≡ record self.old { reserved = record self.old.reserved { room = self.new.reserved.room } } }
-        ensures stays { (p : Program_) → Stays p self.old self.new }
+        ensures stays { (p : Program_) → StillShows p self.old self.new }
     {
         self.reserved.reserve(more)
     }
@@ -67,8 +69,8 @@ impl Body {
     pub fn reserved_page(&mut self, program: &Program<'_>, page: u32)
         requires room { 1 ≤ self.old.reserved.room }
         requires count { self.old.counts.taken + 1 < 2 ^ 64 }
-        ensures shows { (T : Setup) (c : Record) (slot : ℕ) → Shows T program.now self.old c → next_is_spread T c ≡ true
-            → Shows T program.now self.new (has_claimed T c page slot) }
+        ensures shows { (T : Setup) (c : Record) (slot : ℕ) → BodyShows T program.now self.old c → next_is_spread T c ≡ true
+            → BodyShows T program.now self.new (has_claimed T c page slot) }
         ensures pages { self.new.reserved.pages ≡ self.old.reserved.pages ++ page ∷ [] }
         ensures room { self.new.reserved.room + 1 ≡ self.old.reserved.room }
         ensures same { self.new ≡ record self.old {

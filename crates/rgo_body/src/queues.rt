@@ -85,7 +85,7 @@ impl Queue {
         let _ = self.duties.pop();
     }
 
-    /// There is room for this many more.
+    /// Reserves room for this many more.
     ///
     /// # Errors
     ///
@@ -97,7 +97,7 @@ impl Queue {
         self.duties.reserve(more)
     }
 
-    /// There is room for this many more, and for that many.
+    /// Reserves room for the sum of both.
     ///
     /// # Errors
     ///

@@ -17,7 +17,7 @@ impl Model for Reserved {
     ghost use Rattle.std.specs.Vec.{vec_capacity, vec_len};
     ghost use Rattle.rgo_body.specs.Reserves as spec;
 
-    ghost Value = { spec.Reserved };
+    ghost Value = { spec.PageReserve };
 
     ghost view = { λ r. record {
       pages = r.pages.items;
@@ -40,7 +40,7 @@ impl Reserved {
         &self.pages
     }
 
-    /// There is room for this many more, and memory for no others.
+    /// Reserves room for exactly this many more.
     ///
     /// # Errors
     ///

@@ -6,7 +6,7 @@ ghost use Rattle.rgo_core.specs.Frames.Operators.{computed};
 ghost use Rattle.rgo_core.specs.Frames.WordFrames.{WordFrame, words_of};
 ghost use Rattle.rgo_core.specs.Rule.Views.{number_of};
 ghost use Rattle.rgo_core_steps.specs.Seats.{HasOne, Settles, settled};
-ghost use Rattle.rgo_stack.specs.Loop.Comes.{Comes};
+ghost use Rattle.rgo_stack.specs.Loop.Comes.{SeatComes};
 ghost use Rattle.rgo_stack.specs.Runs.{HasHalted};
 ghost use Rattle.rgo_stack.specs.Stacks.{newest_words, words_from};
 ghost use Rattle.rgo_sound.specs.Tac.Code as tac;
@@ -14,7 +14,7 @@ ghost use Rattle.rgo_sound.specs.Tac.Ops.{numbers_of, operation_of};
 ghost use Rattle.rgo_sound.specs.Typed.declared.actions.Action.{Action};
 ghost use Rattle.rgo_compact.specs.Bounds.{AreBelow};
 ghost use Rattle.rgo_body.specs.Bodies.{HasRoomBehind, IsReady, frames_in};
-ghost use Rattle.rgo_body.specs.Shows.{IsPossible, Shows};
+ghost use Rattle.rgo_body.specs.Shows.{IsPossible, BodyShows};
 ghost use Rattle.rgo_body.specs.Steps.{TakesLocal};
 ghost use Rattle.rgo_body.specs.declared.bodies.Side.TheVariants.{AtRest};
 
@@ -29,8 +29,8 @@ use rgo_stack::Ran;
 use rgo_stack::looping::Heap;
 
 impl Body {
-    /// Makes instructions that need at most an access to a word, at most `at_most`. It stops before that only where the goroutine has no
-    /// frame, or where the next instruction needs more, traps, or is a call for which there is no room.
+    /// Makes instructions that need at most an access to a word, at most `at_most`. It stops earlier only if the goroutine has no
+    /// frame, or if the next instruction needs more, traps, or is a call for which the stack has no room.
     pub fn run(
         &mut self,
         program: &Program<'_>,
@@ -43,15 +43,15 @@ impl Body {
         requires alone { HasOne heap.now.setup seat.old.me }
         requires settles { Settles heap.now.setup behind seat.old.me }
         requires possible { core.IsPossible heap.now.setup (number_of seat.old.me) (settled heap.now.setup behind seat.old.me) }
-        requires shows { Shows heap.now.setup program.now self.old (settled heap.now.setup behind seat.old.me) }
+        requires shows { BodyShows heap.now.setup program.now self.old (settled heap.now.setup behind seat.old.me) }
         requires empty { self.old.queue.duties ≡ [] }
         requires not_yet { self.old.is_expanded ≡ false }
         requires rests { self.old.side ≡ AtRest }
         requires count { self.old.counts.steps + at_most < 2 ^ 64 }
         requires behind { behind + at_most < 18446744073709551616 }
         ensures own { seat.new.table_id ≡ seat.old.table_id }
-        ensures comes { Comes heap.now.setup seat.old.me behind seat.new.me result.behind (frames_in self.new) result.done result.kept }
-        ensures shows { Shows heap.now.setup program.now self.new (settled heap.now.setup result.behind seat.new.me) }
+        ensures comes { SeatComes heap.now.setup seat.old.me behind seat.new.me result.behind (frames_in self.new) result.done result.kept }
+        ensures shows { BodyShows heap.now.setup program.now self.new (settled heap.now.setup result.behind seat.new.me) }
         ensures same { self.new ≡ record self.old {
           stack = self.new.stack;
           holding = self.new.holding;
@@ -69,7 +69,8 @@ impl Body {
         ran
     }
 
-    /// What an action gives that touches nothing but words; `None` where it traps, or touches anything else.
+    /// The value of an action that touches nothing but words; `None` if it traps, touches anything else, or has another number of
+    /// operands.
     pub fn computed(&self, action: Action, from: Operands) -> Option<u64>
         requires { AreBelow (length (newest_words (frames_in self.now))) (numbers_of from) }
         ensures { result ≡ computed action (words_from (frames_in self.now) (numbers_of from)) }
@@ -98,7 +99,7 @@ impl Body {
         }
     }
 
-    /// Its next instruction is an action that touches nothing but words, and gives this word.
+    /// Its next instruction is an action that touches nothing but words, and its value is this word.
     pub fn computes(&mut self, program: &Program<'_>, next: &Next<'_>, word: u64)
         requires possible { IsPossible program.now self.old }
         requires ready { IsReady program.now self.old next.now }

@@ -1,4 +1,5 @@
-//! How a goroutine begins.
+//! How a goroutine begins: `main`, or one that another goroutine starts. The body of a child is made from that of its parent before
+//! the start shows at the table.
 
 ghost use Rattle.std.specs.Prelude.{◌≡◌, ◌∷◌, [], ℕ, IfOk, Option, Some, MatchOption, bytes_eq, codes};
 ghost use Rattle.rgo_core.specs.Core.{Here, Setup};
@@ -7,11 +8,11 @@ ghost use Rattle.rgo_core.specs.Records.{Record};
 ghost use Rattle.rgo_core.specs.Frames.WordFrames.{word_called};
 ghost use Rattle.rgo_core_steps.specs.After.{child};
 ghost use Rattle.rgo_sound.specs.Code.Code.{CodeFn as FnRecord};
-ghost use Rattle.rgo_sound.specs.RegionMachine.Owed.{function_of};
+ghost use Rattle.rgo_sound.specs.RegionMachine.Owed.{code_function};
 ghost use Rattle.rgo_sound.specs.Tac.Code as tac;
 ghost use Rattle.rgo_sound.specs.Tac.Ops.{operation_of};
 ghost use Rattle.rgo_body.specs.Bodies.{IsFresh, IsReady};
-ghost use Rattle.rgo_body.specs.Shows.{IsPossible, Shows};
+ghost use Rattle.rgo_body.specs.Shows.{IsPossible, BodyShows};
 ghost use Rattle.rgo_body.specs.declared.bodies.Side.TheVariants.{AtRest};
 
 use crate::bodies::{Body, Side};
@@ -34,7 +35,7 @@ fn is_main(function: &CodeFn<'_>) -> bool
 
 /// The number of the function `main`.
 fn main_of(code: &Code) -> Option<usize>
-    ensures { MatchOption result (main_words code.now.functions 0 ≡ []) (λ n. (fn : FnRecord) × (function_of code.now n ≡ Some fn)
+    ensures { MatchOption result (main_words code.now.functions 0 ≡ []) (λ n. (fn : FnRecord) × (code_function code.now n ≡ Some fn)
         × (main_words code.now.functions 0 ≡ word_called fn n [] ∷ [])) }
 {
     for n in 0..code.len() {
@@ -44,6 +45,7 @@ fn main_of(code: &Code) -> Option<usize>
                     return Some(n);
                 }
             }
+            // Not reached: `n` is less than the number of functions.
             None => {}
         }
     }
@@ -84,8 +86,9 @@ impl Body {
     /// On allocation failure.
     pub fn new(alloc: Global, program: &Program<'_>, slots: u32) -> Result<Body, AllocError>
         ensures { IfOk result (λ b. (T : Setup) → T.code ≡ program.now.code → T.sizes.regions ≡ slots
-            → Shows T program.now b (first_of T.code)) }
+            → BodyShows T program.now b (first_of T.code)) }
     {
+        // Checked code has a function `main`.
         let Some(n) = main_of(program.code()) else {
             unreachable!();
         };
@@ -111,8 +114,8 @@ impl Body {
         requires ready { IsReady program.now self.now next.now }
         requires starts { operation_of next.now.op ≡ tac.Go function from.now }
         requires rests { self.now.side ≡ AtRest }
-        ensures { IfOk result (λ b. (T : Setup) (g : ℕ) (c : Record) → Here T g c → Shows T program.now self.now c
-            → Shows T program.now b (child T.code c)) }
+        ensures { IfOk result (λ b. (T : Setup) (g : ℕ) (c : Record) → Here T g c → BodyShows T program.now self.now c
+            → BodyShows T program.now b (child T.code c)) }
     {
         let callee = function as usize;
         let arguments = self.stack.words(alloc, from)?;

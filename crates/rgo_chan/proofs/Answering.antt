@@ -19,7 +19,7 @@ use Rattle.rgo_core_steps.specs.Seats.{Left, Stored, mine}
 use Rattle.rgo_core_steps.proofs.Calling.{did_as, did_one, did_then}
 use Rattle.rgo_chan.specs.Answers.{Holds, Looked, Receives, Sends, cell_word, commits, free_cell, loads_cell, locks, looked, looks, misses, numbers, reaches, stores_cell, without_oldest}
 use Rattle.rgo_chan.specs.Before.{ReceivesAt, SendsAt}
-use Rattle.rgo_chan.specs.Ready.{HasNoOffer, HasOffer, HasRoom, HasValue, IsDrained, IsUnlocked}
+use Rattle.rgo_chan.specs.Ready.{HasNoOffer, HasOffer, BufferHasRoom, HasValue, IsDrained, IsUnlocked}
 use Rattle.rgo_chan.specs.declared.answers.Tried.TheVariants.{Done, Offered}
 use Rattle.rgo_chan.proofs.Carrying.{committed_as, committed_counts, receives_as, type_as}
 use Rattle.rgo_chan.proofs.CellWords.{counted_both}
@@ -79,7 +79,7 @@ module _ (T : Setup) (at : ℕ) (c : Record) (size n : ℕ) (m v : Me Record) (s
       -- ---- the operation took effect
 
       module _ (z : Me Record) (e : ℕ) where
-        pub sent : (value : ℕ) → SendsAt T c at value → IsUnlocked n → HasRoom size n
+        pub sent : (value : ℕ) → SendsAt T c at value → IsUnlocked n → BufferHasRoom size n
             → (k x y : ℕ)
             × Did T w u
             (λ g. reaches T at size (free_cell size n) k g ++ stores_cell (cell_word T at size (free_cell size n) k) x value g

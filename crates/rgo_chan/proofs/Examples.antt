@@ -19,7 +19,7 @@ use Rattle.rgo_sound.specs.Typed.declared.actions.Action.TheVariants.{Recv, Send
 use Rattle.rgo_chan.specs.Answers.{Acknowledges, Closes, Sends, cell_word, commits, free_cell, loads_capacity, loads_control, locks, looked, looks, reaches, stores_cell}
 use Rattle.rgo_chan.specs.Before.{IsBeforeReceive, IsBeforeSend, SendsAt}
 use Rattle.rgo_core.specs.Memory.Words.{base}
-use Rattle.rgo_chan.specs.Ready.{IsClosed, IsFull, IsOffered}
+use Rattle.rgo_chan.specs.Ready.{IsClosed, IsBufferFull, IsOffered}
 use Rattle.rgo_chan.specs.Examples.{AnswerExamples, ReadyExamples, before, first_seat, loaded_seat, looked_seat, on_nil, with_offer}
 use Rattle.rgo_chan.specs.declared.answers.Tried.TheVariants.{Busy, Done, NotReady, Trap}
 
@@ -179,7 +179,7 @@ module _ (T : Setup) where
   ready : Sends T 700 before 3 NotReady (first_seat before) 5 (looked_seat before 4) 7 → ⊥
   ready a =
       let f = found_is 4 a.0 a.1 [] a.4.made.es a.4.made.grew.seen a.4.made.own in
-      ready_examples.not_full (subst (λ n. IsFull 2 n) (sym f.1) (subst (λ s. IsFull s a.1) (sym f.0) a.3))
+      ready_examples.not_full (subst (λ n. IsBufferFull 2 n) (sym f.1) (subst (λ s. IsBufferFull s a.1) (sym f.0) a.3))
 
   found_another : Sends T 700 before 3 (Busy 11) (first_seat before) 5 (looked_seat before 9) 7 → ⊥
   found_another a = ⊎_elim

@@ -1,7 +1,7 @@
 -- What tests of a control say.
 use Rattle.std.proofs.Common.{◌≡◌, ◌≢◌, ◌⊎◌, ◌%◌, ℕ, Bool, true, false, refl, ap, sym, ◌∙◌, ⊎_elim, arith}
 use Rattle.rgo_core.specs.Channels.Controls.{bit, closed_of}
-use Rattle.rgo_chan.specs.Ready.{HasNoOffer, HasOffer, HasRoom, HasValue, IsClosed, IsDrained, IsOpen, IsUnlocked}
+use Rattle.rgo_chan.specs.Ready.{HasNoOffer, HasOffer, BufferHasRoom, HasValue, IsClosed, IsDrained, IsOpen, IsUnlocked}
 
 module _ (b : Bool) (n : ℕ) where
   pub is_even : bit b ≡ n % 2 → b ≡ false → IsUnlocked n
@@ -17,10 +17,10 @@ module _ (b : Bool) (n : ℕ) where
   is_shut e f = sym e ∙ ap bit f
 
 module _ (size n : ℕ) where
-  pub has_room : HasRoom size n ⊎ HasNoOffer size n → size ≢ 0 → HasRoom size n
+  pub has_room : BufferHasRoom size n ⊎ HasNoOffer size n → size ≢ 0 → BufferHasRoom size n
   has_room r some = ⊎_elim (λ t. t) (λ t. absurd (some t.1)) r
 
-  pub no_offer : HasRoom size n ⊎ HasNoOffer size n → size ≡ 0 → HasNoOffer 0 n
+  pub no_offer : BufferHasRoom size n ⊎ HasNoOffer size n → size ≡ 0 → HasNoOffer 0 n
   no_offer r none = ⊎_elim (λ t. absurd (omega (arith, t.1, none))) (λ t. (t.0, refl, t.2)) r
 
   -- a receive that can take effect: the buffer has a value; or the channel is closed and nothing is left; or there is an offer

@@ -13,12 +13,12 @@ use Rattle.rgo_core.specs.Records.{Record}
 use Rattle.rgo_core_steps.specs.Accesses.{given_type}
 use Rattle.rgo_core_steps.specs.After.{committing}
 use Rattle.rgo_core_steps.specs.Calls.{Did, accessing, waited}
-use Rattle.rgo_core_steps.specs.Channels.{CanLoadCell, CanMeet, CanOffer, CanReceive, CanSend, CanStoreCell, found_by, value_by}
+use Rattle.rgo_core_steps.specs.Channels.{CanLoadCell, RecordCanMeet, CanOffer, CanReceive, CanSend, CanStoreCell, found_by, value_by}
 use Rattle.rgo_core_steps.specs.Seats.{Left, Stored, mine}
 use Rattle.rgo_core_steps.proofs.Calling.{did_as, did_one, did_then, left_record}
 use Rattle.rgo_chan.specs.Answers.{Holds, IsReached, cell_word, commits, free_cell, loads_cell, numbers, reaches, stores_cell}
 use Rattle.rgo_chan.specs.Before.{ReceivesAt, SendsAt}
-use Rattle.rgo_chan.specs.Ready.{HasNoOffer, HasOffer, HasRoom, HasValue}
+use Rattle.rgo_chan.specs.Ready.{HasNoOffer, HasOffer, BufferHasRoom, HasValue}
 use Rattle.rgo_chan.proofs.Carrying.{committed_as, committed_counts, receives_as, sends_as, type_as}
 use Rattle.rgo_chan.proofs.Cells.{next_spare}
 use Rattle.rgo_chan.proofs.CellWords.{reached_commit, reached_offer}
@@ -117,7 +117,7 @@ module _ (T : Setup) (at size n : ℕ) where
           (reached_offer T at size cell word c m v w s r u reach p.2),
     )
 
-  pub spare_cell : (cell : ℕ) → HasRoom size n → cell ≡ (head_of n + count_of n) % size → IsSpare n size cell
+  pub spare_cell : (cell : ℕ) → BufferHasRoom size n → cell ≡ (head_of n + count_of n) % size → IsSpare n size cell
   spare_cell cell room is = subst (λ i. IsSpare n size i) (sym is) (next_spare n size room.1)
 
   module _ (m v : Me Record) (held : Holds at size n (mine T m).side) (cell word : ℕ) where
@@ -143,7 +143,7 @@ module _ (T : Setup) (at size n : ℕ) where
       sized_is : (mine T v).side.size ≡ c.side.size
       sized_is = ap (λ (d : Record). d.side.size) is_stored
 
-      pub can_send : cell ≡ (head_of n + count_of n) % size → HasRoom size n → CanSend T (mine T v) at n
+      pub can_send : cell ≡ (head_of n + count_of n) % size → BufferHasRoom size n → CanSend T (mine T v) at n
       can_send is room = record {
         to = still.to;
         sent = still.sent;
@@ -255,7 +255,7 @@ module _ (T : Setup) (at n : ℕ) (m v : Me Record) (held : Holds at 0 n (mine T
   module _ (value : ℕ) (here : ReceivesAt T (mine T m) at)
       (a : Left T LoadCell word (λ x. x)
       (λ x d. d ≡ knows (mine T m) (with_hold (mine T m).side (Read at (found_by (mine T m).side.hold) 0 x))) m value v) where
-    pub can_meet : HasOffer 0 n → CanMeet T (mine T v) at n
+    pub can_meet : HasOffer 0 n → RecordCanMeet T (mine T v) at n
     can_meet offer =
         let x = yet T at 0 n m v held 0 word value here a in record {
           to = x.0;

@@ -2,11 +2,11 @@
 use Rattle.std.proofs.Common.{◌≡◌, ◌≢◌, ℕ, ◌+◌, ◌%◌, ◌<◌, ◌≤◌, List, ◌∷◌, Option, Some, map, slice_get, slice_index, refl, ap, sym, subst, ◌∙◌, inl, inr, ⊎_elim, arith, Contains}
 use Rattle.rgo_sound.specs.Code.Code.{CodeOp, Do}
 use Rattle.rgo_sound.specs.Code.Erasure.{erased_fn, erased_op}
-use Rattle.rgo_sound.specs.Code.Types.{HasType}
+use Rattle.rgo_sound.specs.Code.Types.{VariableHasType}
 use Rattle.rgo_sound.specs.Memory.declared.values.Value.TheVariants as value
 use Rattle.rgo_sound.specs.Memory.declared.values.Value.{Value}
 use Rattle.rgo_sound.specs.Tac.Flow.{reads}
-use Rattle.rgo_sound.specs.Tac.Frames.{value_at, values_of}
+use Rattle.rgo_sound.specs.Tac.Frames.{value_at, operand_values}
 use Rattle.rgo_sound.specs.Typed.declared.actions.Action.{Action}
 use Rattle.rgo_sound.specs.Typed.declared.types.Type.{«Type»}
 use Rattle.rgo_sound.specs.WellFormed.TypeRules.{chan_of}
@@ -15,15 +15,15 @@ use Rattle.rgo_core.proofs.Channels.Locks.{shown}
 use Rattle.rgo_core.specs.Channels.Channels.{phase_number}
 use Rattle.rgo_core.specs.Channels.Controls.{closed_of, count_of}
 use Rattle.rgo_core.specs.Channels.Deadlock as why
-use Rattle.rgo_core.specs.Channels.Deadlock.{Blocked, capacity_at, control_at}
+use Rattle.rgo_core.specs.Channels.Deadlock.{capacity_at, control_at}
 use Rattle.rgo_core.specs.Channels.Standing.{IsOfChannel}
-use Rattle.rgo_core.proofs.Frames.Operands.{pointer_law}
+use Rattle.rgo_core.proofs.Frames.shown.Operands.{pointer_law}
 use Rattle.rgo_core.specs.Frames.WordFrames.{word_at}
 use Rattle.rgo_core.specs.Memory.Accesses.{Before}
 use Rattle.rgo_sound.proofs.Places.{contains_here}
-use Rattle.rgo_core.proofs.AtChannels.{at_channel, calm, live, next, object, place_is}
-use Rattle.rgo_core.proofs.Operands.{before, rule}
-use Rattle.rgo_core.proofs.Standing.{at_instruction, side_at}
+use Rattle.rgo_core.proofs.channel_steps.AtChannels.{at_channel, calm, live, next, object, place_is}
+use Rattle.rgo_core.proofs.steps.Operands.{before, rule}
+use Rattle.rgo_core.proofs.image.Standing.{at_instruction, side_at}
 use Rattle.rgo_core.specs.Moments.{moment}
 use Rattle.rgo_core.specs.AtChannels.{Operates}
 use Rattle.rgo_core.specs.Core.{Here, Setup}
@@ -98,7 +98,7 @@ head_is u v xs ys e = cc
 
 module _ {T : Setup} {g : ℕ} {c : Record} (x : Here T g c) {to : Option ℕ} {action : Action} {channel : ℕ} {others removes : List ℕ}
     (of_channel : IsOfChannel action) (a : IsAt T.code c (Do to action (channel ∷ others) removes)) (nil : word_at a.w channel ≡ 0) where
-  typed : (t : «Type») × HasType (erased_fn a.fn) channel (chan_of t)
+  typed : (t : «Type») × VariableHasType (erased_fn a.fn) channel (chan_of t)
   typed =
       let t = rule x to action (channel ∷ others) removes a in
       let f = first_type T.code x.core.sound.checked x.s g x.core.sound.good action of_channel a.fn to t.0 t.2 in (
@@ -116,10 +116,10 @@ module _ {T : Setup} {g : ℕ} {c : Record} (x : Here T g c) {to : Option ℕ} {
         typed = typed.1;
       }) refl).0 nil
 
-  pub nil_before : Before T.code x.s g action (value.Nil ∷ values_of (at_instruction x a).before.frame others)
+  pub nil_before : Before T.code x.s g action (value.Nil ∷ operand_values (at_instruction x a).before.frame others)
   nil_before =
-      before x to action (channel ∷ others) removes a (value.Nil ∷ values_of (at_instruction x a).before.frame others)
-      (ap (λ (v : Value). v ∷ values_of (at_instruction x a).before.frame others) is_nil)
+      before x to action (channel ∷ others) removes a (value.Nil ∷ operand_values (at_instruction x a).before.frame others)
+      (ap (λ (v : Value). v ∷ operand_values (at_instruction x a).before.frame others) is_nil)
 
 pub nil_send_waits : NilSendWaits
 nil_send_waits T g c x value b =

@@ -1,4 +1,4 @@
--- What each operation on a channel answers, which accesses its goroutine has made for that, and what its record is then. `c` is the
+-- What each operation on a channel returns, which accesses its goroutine has made for that, and what its record is then. `c` is the
 -- record before them; m and w are what the seat knew before and knows after; s and t are the numbers of counted accesses.
 use Rattle.std.specs.Prelude.{◌≡◌, ◌≢◌, ◌⊎◌, ◌+◌, ◌-◌, ◌/◌, ◌%◌, ◌<◌, ◌≤◌, ℕ, List, [], ◌∷◌, ◌++◌, if◌then◌else◌}
 use Rattle.rgo_core.specs.Channels.Controls.{closed_of, control, count_of, extent, head_of, spreads, tail_words}
@@ -16,7 +16,7 @@ use Rattle.rgo_core.specs.Records.{Record}
 use Rattle.rgo_core_steps.specs.Accesses.{given_type}
 use Rattle.rgo_core_steps.specs.After.{acknowledging, committing}
 use Rattle.rgo_core_steps.specs.Calls.{Did, accessing, waited}
-use Rattle.rgo_chan.specs.Ready.{HasNoOffer, HasOffer, HasRoom, HasValue, IsClosed, IsDrained, IsEmpty, IsFull, IsOffered, IsOpen, IsTaken, IsUnlocked}
+use Rattle.rgo_chan.specs.Ready.{HasNoOffer, HasOffer, BufferHasRoom, HasValue, IsClosed, IsDrained, IsEmpty, IsBufferFull, IsOffered, IsOpen, IsTaken, IsUnlocked}
 use Rattle.rgo_chan.specs.declared.answers.Tried.{Tried}
 use Rattle.rgo_chan.specs.declared.answers.Tried.TheVariants.{Busy, Done, NotReady, Offered, Trap}
 
@@ -77,14 +77,14 @@ free_cell size n = (head_of n + count_of n) % size
 abbrev pub without_oldest : (size n : ℕ) → ℕ
 without_oldest size n = control (closed_of n) (count_of n - 1) ((head_of n + 1) % size)
 
--- ---- answers
+-- ---- results
 
 module _ (T : Setup) (at : ℕ) (c : Record) where
-  -- A value was put into a cell of the buffer; an offer was put up; the channel was full; it was locked, or the exchange found another
+  -- A value was put into a cell of the buffer; it was offered; the channel was full; it was locked, or the exchange found another
   -- control; it was closed.
   abbrev pub Sends : (value : ℕ) → Tried → (m : Me Record) (s : ℕ) → (w : Me Record) (t : ℕ) → Type 0
   Sends value (Done v) m s w t =
-      (v ≡ 0) × (size n k x y : ℕ) × IsUnlocked n × HasRoom size n
+      (v ≡ 0) × (size n k x y : ℕ) × IsUnlocked n × BufferHasRoom size n
       × Did T m s
       (λ g. looks at size n g ++ locks at n g ∷ reaches T at size (free_cell size n) k g
       ++ stores_cell (cell_word T at size (free_cell size n) k) x value g ∷ commits at y (n + 4) g ∷ [])
@@ -96,11 +96,11 @@ module _ (T : Setup) (at : ℕ) (c : Record) where
       ∷ commits at y (n + 4) g ∷ [])
       (offers (accessing (4 + numbers T 0) c) at) w t
   Sends value NotReady m s w t =
-      (size n : ℕ) × IsUnlocked n × IsFull size n
+      (size n : ℕ) × IsUnlocked n × IsBufferFull size n
       × Did T m s (looks at size n) (waited 2 c (looked at c.side size n)) w t
   Sends value (Busy k) m s w t =
       ((size : ℕ) × (k % 2 ≡ 1) × Did T m s (looks at size k) (waited 2 c (looked at c.side size k)) w t)
-      ⊎ ((size n : ℕ) × IsUnlocked n × (HasRoom size n ⊎ HasNoOffer size n) × (k ≢ n)
+      ⊎ ((size n : ℕ) × IsUnlocked n × (BufferHasRoom size n ⊎ HasNoOffer size n) × (k ≢ n)
       × Did T m s (λ g. looks at size n g ++ misses at k g ∷ []) (waited 3 c (looked at c.side size n)) w t)
   Sends value (Trap e) m s w t =
       (e ≡ 5) × (size n : ℕ) × IsUnlocked n × IsClosed n

@@ -58,6 +58,6 @@ control_at base channel = base + (channel - 1)
 abbrev pub LiesIn : Setup → (base channel : ℕ) → Type 0
 LiesIn T base channel = channel ≢ 0 → control_at base channel + 3 ≤ all_words (layout T)
 
--- the pages of the table begin at this word, and each has so many words, at least one
+-- the pages of the table begin at word `base`, and each has `words` words, at least one
 abbrev pub IsPaged : Setup → (base page_words : ℕ) → Type 0
 IsPaged T base page_words = (base ≡ base_of (layout T)) × (page_words ≡ T.sizes.page_words) × (0 < page_words)

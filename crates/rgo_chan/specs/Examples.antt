@@ -1,4 +1,4 @@
--- Controls that let an operation take effect, records before an operation, and answers; and such as are not.
+-- Controls that let an operation take effect, records before an operation, and results; and some that are not.
 use Rattle.std.specs.Prelude.{◌+◌, ℕ, [], ◌∷◌}
 use Rattle.rgo_core.specs.ChannelExamples.{sending, with_words}
 use Rattle.rgo_core.specs.Core.{Setup, layout}
@@ -11,7 +11,7 @@ use Rattle.rgo_sound.specs.Machine.declared.limits.Limits.{Limits}
 use Rattle.rgo_sound.specs.Machine.declared.limits.Sizes.{Sizes}
 use Rattle.rgo_chan.specs.Answers.{Acknowledges, Closes, Receives, Sends, loads_control, looked, looks}
 use Rattle.rgo_chan.specs.Before.{IsBeforeReceive, IsBeforeSend, LiesIn, SendsAt}
-use Rattle.rgo_chan.specs.Ready.{HasNoOffer, HasOffer, HasRoom, HasValue, IsClosed, IsDrained, IsEmpty, IsFull, IsOpen, IsUnlocked}
+use Rattle.rgo_chan.specs.Ready.{HasNoOffer, HasOffer, BufferHasRoom, HasValue, IsClosed, IsDrained, IsEmpty, IsBufferFull, IsOpen, IsUnlocked}
 use Rattle.rgo_chan.specs.declared.answers.Tried.TheVariants.{Busy, Done, NotReady, Trap}
 
 -- before a send of 3 on the channel with address 5, and on nil
@@ -43,11 +43,11 @@ pub record ReadyExamples : Type 0 where
   pub is_open : IsOpen 4
   pub not_open : IsOpen 6 → ⊥
   pub closed : IsClosed 6
-  pub room : HasRoom 2 4
-  pub no_room : HasRoom 2 8 → ⊥
-  pub full : IsFull 2 8
-  pub not_full : IsFull 2 4 → ⊥
-  pub offered_before : IsFull 0 4
+  pub room : BufferHasRoom 2 4
+  pub no_room : BufferHasRoom 2 8 → ⊥
+  pub full : IsBufferFull 2 8
+  pub not_full : IsBufferFull 2 4 → ⊥
+  pub offered_before : IsBufferFull 0 4
   pub no_offer : HasNoOffer 0 0
   pub an_offer : HasNoOffer 0 4 → ⊥
   -- a closed channel may have values

@@ -14,16 +14,16 @@ IsClosed n = closed_of n ≡ 1
 -- ---- sends
 
 -- the buffer has a free cell
-abbrev pub HasRoom : (size control : ℕ) → Type 0
-HasRoom size n = IsOpen n × (count_of n < size)
+abbrev pub BufferHasRoom : (size control : ℕ) → Type 0
+BufferHasRoom size n = IsOpen n × (count_of n < size)
 
 -- without a buffer: there is no offer
 abbrev pub HasNoOffer : (size control : ℕ) → Type 0
 HasNoOffer size n = IsOpen n × (size ≡ 0) × (count_of n ≡ 0)
 
 -- the buffer is full, or there is an offer already
-abbrev pub IsFull : (size control : ℕ) → Type 0
-IsFull size n = IsOpen n × (((0 < size) × (size ≤ count_of n)) ⊎ ((size ≡ 0) × (0 < count_of n)))
+abbrev pub IsBufferFull : (size control : ℕ) → Type 0
+IsBufferFull size n = IsOpen n × (((0 < size) × (size ≤ count_of n)) ⊎ ((size ≡ 0) × (0 < count_of n)))
 
 -- ---- receives
 

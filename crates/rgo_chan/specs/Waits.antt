@@ -1,4 +1,5 @@
--- What follows from the answers: why a goroutine is blocked, at a moment at which the words are what it found; and what it may do next.
+-- What follows from the results: why a goroutine is blocked, at a moment at which the words are what it found; and what it may do
+-- next.
 use Rattle.std.specs.Prelude.{◌≡◌, ◌+◌, ◌%◌, ℕ, slice_index}
 use Rattle.rgo_core.specs.Channels.Deadlock.{Blocked}
 use Rattle.rgo_core.specs.Channels.Records.{Free, Offering, Shut, Stranded}
@@ -11,7 +12,7 @@ use Rattle.rgo_core.specs.Records.{Record}
 use Rattle.rgo_core_steps.specs.Seats.{mine}
 use Rattle.rgo_chan.specs.Answers.{Acknowledges, Closes, Receives, Sends}
 use Rattle.rgo_chan.specs.Before.{ClosesAt, IsBeforeReceive, IsBeforeSend, ReceivesAt, SendsAt}
-use Rattle.rgo_chan.specs.Ready.{IsEmpty, IsFull, IsOffered, IsOpen}
+use Rattle.rgo_chan.specs.Ready.{IsEmpty, IsBufferFull, IsOffered, IsOpen}
 use Rattle.rgo_chan.specs.declared.answers.Tried.TheVariants.{Busy, NotReady, Offered, Trap}
 
 -- ---- blocked goroutines. Goroutine g has this record at a moment of the table with the words x.words.
@@ -19,7 +20,7 @@ use Rattle.rgo_chan.specs.declared.answers.Tried.TheVariants.{Busy, NotReady, Of
 -- a send was not ready
 abbrev pub SendWaits : Type 0
 SendWaits = (T : Setup) (g : ℕ) (c : Record) (x : Here T g c) (at value size n : ℕ) → SendsAt T c at value
-    → slice_index x.words (at + 1) ≡ size → slice_index x.words at ≡ n → IsFull size n → Blocked (moment x) g c.side
+    → slice_index x.words (at + 1) ≡ size → slice_index x.words at ≡ n → IsBufferFull size n → Blocked (moment x) g c.side
 
 -- a receive was not
 abbrev pub ReceiveWaits : Type 0

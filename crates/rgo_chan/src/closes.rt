@@ -1,4 +1,4 @@
-//! Closes, and acknowledgements of offers that were taken: these need no capacity.
+//! Closes, and acknowledgements of offers that were taken. Both are decided by the control alone, so neither loads the capacity.
 ghost use Rattle.std.specs.Prelude.{◌≡◌, ◌≢◌, ◌≤◌, ◌<◌, ◌+◌, ℕ};
 ghost use Rattle.rgo_chan.specs.Answers.{Acknowledges, Closes};
 ghost use Rattle.rgo_chan.specs.Before.{ClosesAt, IsBeforeClose, LiesIn, control_at};
@@ -18,7 +18,8 @@ use rgo_core_steps::channels::{commit_acknowledge, commit_close, control, lock, 
 use rgo_core_steps::counting::Steps;
 use std::sync::ledger::Ledger;
 
-/// A close of the channel whose control is word `at`.
+/// A close of the channel whose control is word `at`. The lock bit is tested first: the goroutine that has the lock is about to
+/// change what else the control shows.
 fn close_at<L: Ledger>(
     table: &RunTable,
     seat: &mut RunSeat,
@@ -60,8 +61,10 @@ fn close_at<L: Ledger>(
 /// word of the channel in the frame; the goroutine has made `behind` local steps since its last access.
 ///
 /// - `Done(0)`: the channel is closed now, and the instruction is made.
-/// - `Busy`: the control was locked, or the exchange found another.
+/// - `Busy`: the control was locked, or the exchange found another. The instruction is not made, and may be tried again.
 /// - `Trap(6)`: the channel had been closed. `Trap(7)`: it is nil, and no access was made.
+///
+/// Called by the goroutine itself, which must have no offer and no lock.
 pub fn close_channel<L: Ledger>(
     table: &RunTable,
     seat: &mut RunSeat,
@@ -99,6 +102,9 @@ pub fn close_channel<L: Ledger>(
 /// - `NotReady`: it is not taken yet.
 /// - `Busy`: the control was locked, or the exchange found another.
 /// - `Trap(5)`: the channel was closed before the offer was taken.
+///
+/// Called by the sender of the offer alone: from phase 2 nobody else can change the phase, so a taken offer stays taken until this
+/// call finds it. It makes no local steps before, since it stays at its send.
 pub fn acknowledge<L: Ledger>(
     table: &RunTable,
     seat: &mut RunSeat,
@@ -128,6 +134,7 @@ pub fn acknowledge<L: Ledger>(
         }
         return Tried::NotReady;
     }
+    // The own offer is at the channel, so its phase is 1 or 2; here it is 2. A close after that changes nothing for the send.
     let found = lock(table, seat, at, control);
     steps.tick();
     if found != control {

@@ -1,10 +1,10 @@
-//! What follows from the answers of operations on channels.
+//! What follows from the results of operations on channels.
 ghost use Rattle.rgo_chan.specs.CellExamples.{CellExamples};
 ghost use Rattle.rgo_chan.specs.Examples.{AnswerExamples, ReadyExamples};
 ghost use Rattle.rgo_sound.specs.Machine.declared.limits.Limits.{Limits};
 ghost use Rattle.rgo_chan.specs.Waits.{AcknowledgeThen, CloseThen, LockWaits, NilReceiveWaits, NilSendWaits, OfferWaits, ReceiveThen, ReceiveWaits, SendThen, SendWaits};
 
-/// A goroutine is blocked at a send, as long as the words are what it found.
+/// A goroutine is blocked at a send while the words are what it found.
 pub fn send_waits()
     ensures not_ready { SendWaits }
     ensures nil { NilSendWaits }
@@ -26,7 +26,7 @@ pub fn lock_waits()
     ensures { LockWaits }
 {}
 
-/// What a goroutine may do after each answer: try again, acknowledge, or end the run.
+/// What a goroutine may do after each result: try again, acknowledge, or end the run.
 pub fn next_laws()
     ensures send { SendThen }
     ensures receive { ReceiveThen }
@@ -34,7 +34,7 @@ pub fn next_laws()
     ensures acknowledge { AcknowledgeThen }
 {}
 
-/// Controls, records and answers that are so, and such as are not.
+/// Controls, records and results that meet the definitions, and some that do not.
 pub fn examples()
     ensures ready { ReadyExamples }
     ensures answers { AnswerExamples }

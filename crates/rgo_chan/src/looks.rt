@@ -1,4 +1,5 @@
-//! The first two accesses of a send and of a receive.
+//! The first two accesses of a send and of a receive: the capacity, then the control. In this order the answer is about the last
+//! word that was loaded, the control; the capacity never changes.
 ghost use Rattle.std.specs.Prelude.{◌≡◌, ◌≤◌, ◌+◌};
 ghost use Rattle.rgo_chan.specs.Answers.{Looked};
 ghost use Rattle.rgo_core.specs.AtChannels.{IsAtChannel};
@@ -20,7 +21,8 @@ pub(crate) struct Seen {
     pub(crate) control: u64,
 }
 
-/// Loads the capacity and the control.
+/// Loads the capacity and the control. The first load takes the local steps of the goroutine with it, so the second has none to
+/// take.
 pub(crate) fn look<L: Ledger>(
     table: &RunTable,
     seat: &mut RunSeat,

@@ -1,4 +1,5 @@
-//! Where a cell of a channel is: after the capacity, or if the channel is spread, in the data page whose number is loaded.
+//! Where a cell of a channel is: after the capacity, or if the channel is spread (its cells do not fit its page), in the data page
+//! whose number is loaded. The numbers were stored when the channel was made, and never change.
 ghost use Rattle.std.specs.Prelude.{◌≡◌, ◌≤◌, ◌<◌, ◌+◌};
 ghost use Rattle.rgo_chan.specs.Answers.{IsReached, numbers};
 ghost use Rattle.rgo_chan.specs.Before.{IsPaged};
@@ -25,7 +26,7 @@ pub(crate) struct Pages {
     pub(crate) words: usize,
 }
 
-/// The word of a cell. Of a spread channel the number of the cell's page is loaded for that.
+/// The word of a cell. If the channel is spread, loads the number of the cell's page, plus 1. Called under the lock.
 pub(crate) fn reach<L: Ledger>(
     table: &RunTable,
     seat: &mut RunSeat,

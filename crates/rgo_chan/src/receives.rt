@@ -1,4 +1,5 @@
-//! Receives.
+//! Receives: of the oldest value of a buffer, of another goroutine's offer, or of zero from a closed channel in which nothing is
+//! left.
 ghost use Rattle.std.specs.Prelude.{◌≡◌, ◌≢◌, ◌≤◌, ◌<◌, ◌+◌, ◌^◌, ℕ, suc, [], ◌∷◌, ◌++◌};
 ghost use Rattle.rgo_chan.specs.Answers.{Holds, Receives, cell_word, commits, loads_cell, numbers, reaches, without_oldest};
 ghost use Rattle.rgo_chan.specs.Before.{IsBeforeReceive, IsPaged, LiesIn, ReceivesAt, control_at};
@@ -24,7 +25,7 @@ use rgo_core_steps::channels::{commit_meet, commit_receive, commit_zero, load_ce
 use rgo_core_steps::counting::Steps;
 use std::sync::ledger::Ledger;
 
-/// Takes the oldest value of the buffer, under the lock.
+/// Takes the oldest value of the buffer, under the lock. The cell is loaded before the commit: after it, a sender may use the cell.
 fn pop<L: Ledger>(
     table: &RunTable,
     seat: &mut RunSeat,
@@ -65,7 +66,8 @@ fn pop<L: Ledger>(
     value
 }
 
-/// Takes the offer at a channel without a buffer, under the lock.
+/// Takes the offer at a channel without a buffer, under the lock. With the commit both goroutines make their instruction; the
+/// sender learns of it by its acknowledgement.
 fn take_offer<L: Ledger>(
     table: &RunTable,
     seat: &mut RunSeat,
@@ -142,22 +144,27 @@ fn receive_at<L: Ledger>(
         return Tried::Done(value);
     }
     if is_closed(control) {
+        // The control stays as it was. The store only unlocks it, and with that the receive takes effect.
         commit_zero(table, seat, at, control);
         steps.tick();
         return Tried::Done(0);
     }
+    // Not empty, no buffered value and not closed: what is left is an offer that was not taken.
     let value = take_offer(table, seat, pages, at, control, steps);
     Tried::Done(value)
 }
 
-/// Tries to receive, as the next instruction does. `base` is the word of the table that has address 0, `page_words` how many words a
-/// page has, and `channel` the word of the channel in the frame; the goroutine has made `behind` local steps since its last access.
+/// Tries to receive, as the next instruction does. `base` is the word of the table that has address 0, `page_words` how many words
+/// a page has, and `channel` the word of the channel in the frame; the goroutine has made `behind` local steps since its last
+/// access.
 ///
 /// - `Done(v)`: v is the oldest value of the buffer, or the value of an offer, or 0 since the channel is closed and nothing is left
 ///   in it. The instruction is made.
 /// - `NotReady`: the channel is open, and its buffer is empty or it has no offer that could be taken; or it is nil, and then no
 ///   access was made.
-/// - `Busy`: the control was locked, or the exchange found another.
+/// - `Busy`: the control was locked, or the exchange found another. The instruction is not made, and may be tried again.
+///
+/// Called by the goroutine itself, which must have no offer and no lock.
 pub fn receive<L: Ledger>(
     table: &RunTable,
     seat: &mut RunSeat,

@@ -1,8 +1,8 @@
-//! Sends.
+//! Sends: into a buffer, or as an offer at a channel without one.
 ghost use Rattle.std.specs.Prelude.{◌≡◌, ◌≢◌, ◌≤◌, ◌<◌, ◌+◌, ◌^◌, ℕ, suc, [], ◌∷◌, ◌++◌};
 ghost use Rattle.rgo_chan.specs.Answers.{Holds, Sends, cell_word, commits, free_cell as free_cell_of, numbers, reaches, stores_cell};
 ghost use Rattle.rgo_chan.specs.Before.{IsBeforeSend, IsPaged, LiesIn, SendsAt, control_at};
-ghost use Rattle.rgo_chan.specs.Ready.{HasNoOffer, HasRoom};
+ghost use Rattle.rgo_chan.specs.Ready.{HasNoOffer, BufferHasRoom};
 ghost use Rattle.rgo_chan.specs.declared.answers.Tried.TheVariants.{NotReady};
 ghost use Rattle.rgo_core.specs.CommitMoves.{offers};
 ghost use Rattle.rgo_core.specs.Core.{layout};
@@ -23,7 +23,7 @@ use rgo_core_steps::channels::{commit_offer, commit_send, lock, store_cell};
 use rgo_core_steps::counting::Steps;
 use std::sync::ledger::Ledger;
 
-/// Puts a value into the buffer, under the lock.
+/// Puts a value into the buffer, under the lock. The cell is stored before the commit: after it, a receiver may load the cell.
 fn push<L: Ledger>(
     table: &RunTable,
     seat: &mut RunSeat,
@@ -43,7 +43,7 @@ fn push<L: Ledger>(
     requires alone { HasOne (setup_of table.now.shared.key) seat.old.me }
     requires held { Holds at size control (mine (setup_of table.now.shared.key) seat.old.me).side }
     requires here { let T = setup_of table.now.shared.key in SendsAt T (mine T seat.old.me) at value }
-    requires room { HasRoom size control }
+    requires room { BufferHasRoom size control }
     ensures own { (seat.new.table_id ≡ seat.old.table_id) × (seat.new.id ≡ seat.old.id) }
     ensures steps { let T = setup_of table.now.shared.key in steps.new ≡ steps.old + numbers T size + 2 }
     ensures pushed { let T = setup_of table.now.shared.key in (k x y : ℕ)
@@ -62,7 +62,8 @@ fn push<L: Ledger>(
     steps.tick();
 }
 
-/// Puts a value up at a channel without a buffer, under the lock.
+/// Offers a value at a channel without a buffer, under the lock. The cell is stored before the commit: after it, a receiver may
+/// take the offer.
 fn offer<L: Ledger>(
     table: &RunTable,
     seat: &mut RunSeat,
@@ -97,7 +98,8 @@ fn offer<L: Ledger>(
     steps.tick();
 }
 
-/// A send on the channel whose control is word `at`.
+/// A send on the channel whose control is word `at`. That the channel is closed is tested before whether it is full: a send on a
+/// closed channel traps in either case.
 fn send_at<L: Ledger>(
     table: &RunTable,
     seat: &mut RunSeat,
@@ -145,14 +147,17 @@ fn send_at<L: Ledger>(
     Tried::Done(0)
 }
 
-/// Tries to send the next instruction's value. `base` is the word of the table that has address 0, `page_words` how many words a page
-/// has, and `channel` the word of the channel in the frame; the goroutine has made `behind` local steps since its last access.
+/// Tries to send the next instruction's value. `base` is the word of the table that has address 0, `page_words` how many words a
+/// page has, and `channel` the word of the channel in the frame; the goroutine has made `behind` local steps since its last access.
 ///
 /// - `Done(0)`: the value is in the buffer, and the instruction is made.
 /// - `Offered`: the value is offered, and the goroutine stays at the instruction until its offer was taken.
 /// - `NotReady`: the buffer is full, or there is an offer already; or the channel is nil, and then no access was made.
 /// - `Busy`: the control was locked, or the exchange found another.
 /// - `Trap(5)`: the channel is closed.
+///
+/// `Busy` means that the instruction is not made, and may be tried again. Called by the goroutine itself, which must have no offer
+/// and no lock.
 pub fn send<L: Ledger>(
     table: &RunTable,
     seat: &mut RunSeat,

@@ -10,14 +10,14 @@ use Rattle.rgo_core.specs.Clock.{Clock, has_ticket}
 use Rattle.rgo_core.specs.Examples.{CauseExamples, ClockExamples, CoreExamples, NumberExamples, RoomExamples, both_have_set, ended_then_printed, having_printed, late_mark, parent_and_child, second_then_first}
 use Rattle.rgo_core.specs.Numbers.{Numbers, has_child}
 use Rattle.rgo_core.proofs.Lists.{cond_other, one_if, word_new}
-use Rattle.rgo_core.proofs.Opening.{at_least_one, first_story, made_word}
+use Rattle.rgo_core.proofs.runs.Opening.{at_least_one, first_story, made_word}
 use Rattle.rgo_core.specs.Core.{layout}
 use Rattle.rgo_core.specs.Opening.{opening}
 use Rattle.rgo_sound.specs.Machine.Limits.{most_goroutines}
 use Rattle.rgo_sound.specs.RegionMachine.Machine.{Event}
 use Rattle.rgo_sound.specs.RegionMachine.Room.{has_room, pages_in_use, roomy_run}
 use Rattle.rgo_sound.proofs.Places.{length_set}
-use Rattle.rgo_sound.proofs.Room.{room_is_kept}
+use Rattle.rgo_sound.proofs.counts.Room.{room_is_kept}
 use Rattle.rgo_core.specs.Records.{ClockRec, Drawn, blank, drawn_at, end_bit, fresh, with_child, with_end, with_print, with_refusal}
 
 -- what holds of both goroutines

@@ -1,9 +1,9 @@
--- Loads and stores: fields of structs, elements and lengths of slices, and package variables. Each is the instruction, but for the load of
--- a length before an access to an element, which tells that the index is within it.
+-- Loads and stores: fields of structs, elements and lengths of slices, and package variables. Each is the instruction, but for the
+-- load of a length before an access to an element, which shows that the index is within it.
 use Rattle.std.specs.Prelude.{◌≡◌, ◌⊎◌, ◌+◌, ◌-◌, ◌/◌, ◌%◌, ◌<◌, ◌≤◌, ℕ, suc, List, [], ◌∷◌, length, Some, None, slice_get}
 use Rattle.rgo_sound.specs.Code.Code.{CodeOp, Do}
 use Rattle.rgo_sound.specs.Code.Erasure.{erased_fn}
-use Rattle.rgo_sound.specs.Code.Types.{HasType}
+use Rattle.rgo_sound.specs.Code.Types.{VariableHasType}
 use Rattle.rgo_sound.specs.Typed.declared.actions.Action.TheVariants as action
 use Rattle.rgo_sound.specs.Typed.declared.programs.Struct.{Struct}
 use Rattle.rgo_sound.specs.WellFormed.TypeRules.{pointer_to}
@@ -22,7 +22,7 @@ use Rattle.rgo_core.specs.Steps.{IsStill, Moves}
 -- the variable points to structs, and these fit a page
 pub record PointsToWhole (T : Setup) (c : Record) {op : CodeOp} (a : IsAt T.code c op) (p : ℕ) : Type 0 where
   pub number : ℕ
-  pub typed : HasType (erased_fn a.fn) p (pointer_to number)
+  pub typed : VariableHasType (erased_fn a.fn) p (pointer_to number)
   pub struct : Struct
   pub there : slice_get T.code.structs number ≡ Some struct
   pub fits : length struct.fields ≤ T.sizes.page_words
@@ -31,8 +31,8 @@ pub record PointsToWhole (T : Setup) (c : Record) {op : CodeOp} (a : IsAt T.code
 abbrev pub PointsToSpread : (T : Setup) (c : Record) {op : CodeOp} → IsAt T.code c op → (p : ℕ) → Type 0
 PointsToSpread T c a p = LeadsToSpread T.code T.sizes.page_words a.fn p
 
--- The record has read in which data page this cell of the spread object at this address lies, and has made no instruction since: the
--- cell is this word of the table.
+-- The record has read in which data page this cell of the spread object at this address lies, and has made no instruction since:
+-- the cell is this word of the table.
 pub record IsLocated (T : Setup) (c : Record) (address cell word : ℕ) : Type 0 where
   pub located : Located
   pub read : c.memory.located ≡ Some located
@@ -41,8 +41,8 @@ pub record IsLocated (T : Setup) (c : Record) (address cell word : ℕ) : Type 0
   pub of_cell : located.cell ≡ cell
   pub at : word ≡ cell_at (layout T) located.page (cell % T.sizes.page_words)
 
--- field k of the struct at this address is this word of the table: as far after the address, if the struct fits a page; or where it was
--- located
+-- field k of the struct at this address is this word of the table: as far after the address, if the struct fits a page; or where it
+-- was located
 abbrev pub IsFieldAt : (T : Setup) (c : Record) {op : CodeOp} → IsAt T.code c op → (p address k word : ℕ) → Type 0
 IsFieldAt T c a p address k word =
     (PointsToWhole T c a p × (word ≡ base (layout T) + (address + k))) ⊎ IsLocated T c address k word
@@ -99,7 +99,7 @@ IsWhole T inside = suc inside.measured.elements ≤ T.sizes.page_words
 abbrev pub IsSpreadOut : (T : Setup) {c : Record} {address index : ℕ} → IsInSlice c address index → Type 0
 IsSpreadOut T inside = T.sizes.page_words < suc inside.measured.elements
 
--- the element is this word of the table: behind the length, if the slice fits a page; or where it was located
+-- the element is this word of the table: after the length, if the slice fits a page; or where it was located
 abbrev pub IsElementAt : (T : Setup) (c : Record) (address index : ℕ) → IsInSlice c address index → (word : ℕ) → Type 0
 IsElementAt T c address index inside word =
     (IsWhole T inside × (word ≡ base (layout T) + (address + suc index))) ⊎ IsLocated T c address index word
@@ -120,8 +120,8 @@ PutMove = (T : Setup) (g : ℕ) (c : Record) (p q r address word : ℕ) (removes
 
 -- ---- page numbers
 
--- The next instruction accesses this cell of the spread object at this address; so many words of the object are before its cells. An index
--- is within the length, which was read.
+-- The next instruction accesses this cell of the spread object at this address; `before` words of the object precede its cells. An
+-- index is within the length, which was read.
 pub data IsAtSpread (T : Setup) (c : Record) (address before cell : ℕ) : Type 0 where
   LoadsField : (d k p : ℕ) (removes : List ℕ) (a : IsAt T.code c (Do (Some d) (action.Load k) (p ∷ []) removes)) → word_at a.w p ≡ suc address
       → PointsToSpread T c a p → before ≡ 0 → cell ≡ k → IsAtSpread T c address before cell

@@ -1,4 +1,4 @@
--- A goroutine at a channel, told by its record: before an operation on it, or with an offer there.
+-- A goroutine at a channel, by its record: before an operation on it, or with an offer there.
 use Rattle.std.specs.Prelude.{◌≡◌, ◌+◌, ◌⊎◌, ℕ, suc, List, ◌∷◌, Option}
 use Rattle.rgo_sound.specs.Code.Code.{Do}
 use Rattle.rgo_core_channels.specs.Records.{Offering, Rec as SideRec, at_rest}
@@ -10,7 +10,7 @@ use Rattle.rgo_core.specs.Core.{Setup, layout}
 use Rattle.rgo_core.specs.Next.{IsAt, acted}
 use Rattle.rgo_core.specs.Records.{Record, accessed}
 
--- The record is before this action on a channel, which is no nil, and on these other operands. `control` is the word of the
+-- The record is before this action on a channel, which is not nil, and on these other operands. `control` is the word of the
 -- channel's control.
 pub record Operates (T : Setup) (c : Record) (to : Option ℕ) (action : Action) (others : List ℕ) (control : ℕ) : Type 0 where
   pub channel : ℕ
@@ -33,7 +33,7 @@ IsAtChannel T c control =
 abbrev pub knows : Record → SideRec → Record
 knows c side = record c { clock = accessed c.clock; side = side }
 
--- its operation takes effect by an access, gives this word, and unlocks the channel
+-- its operation takes effect by an access, has this word as its value, and unlocks the channel
 abbrev pub commits : {T : Setup} {c : Record} {to : Option ℕ} {action : Action} {others : List ℕ} {control : ℕ}
     → Operates T c to action others control → (word : ℕ) → Record
 commits {T} {c} {to} a word = record (acted T.code c a.here to word) { side = at_rest }

@@ -6,8 +6,8 @@ use Rattle.rgo_sound.specs.Code.Erasure.{erased}
 use Rattle.rgo_sound.specs.Memory.Memory.{Object, SliceObject, StructObject}
 use Rattle.rgo_sound.specs.Memory.Values.{zero_of}
 use Rattle.rgo_sound.specs.Memory.declared.values.Value.TheVariants as value
-use Rattle.rgo_sound.specs.RegionMachine.Objects.{data_pages, is_spread, words}
-use Rattle.rgo_sound.specs.Tac.Steps.{type_of}
+use Rattle.rgo_sound.specs.RegionMachine.Objects.{data_pages, is_spread, object_words}
+use Rattle.rgo_sound.specs.Tac.Steps.{destination_type}
 use Rattle.rgo_sound.specs.Typed.Types.{is_pointer_like}
 use Rattle.rgo_sound.specs.Typed.declared.programs.Struct.{Struct}
 use Rattle.rgo_sound.specs.Typed.declared.types.Base.{Base}
@@ -23,11 +23,11 @@ use Rattle.rgo_core.specs.Records.{Record}
 
 -- ---- how many words follow an object's address at least
 
--- So many words of an object follow one another from its address on: all of them; or of a spread one those before its cells, and
+-- How many words of an object follow one another from its address on: all of them; or of a spread one those before its cells, and
 -- the numbers of its data pages.
 abbrev pub row_words : (page_words : ℕ) → Object → ℕ
 row_words page_words object =
-    if is_spread page_words object then words_before object + data_pages page_words object else words object
+    if is_spread page_words object then words_before object + data_pages page_words object else object_words object
 
 abbrev pub struct_words : (page_words : ℕ) → Option Struct → ℕ
 struct_words page_words None = 0
@@ -52,7 +52,7 @@ least_words page_words structs ty = least_words_in page_words structs ty.layers 
 
 -- ---- where a word of a type points
 
--- so many words from this address on are words of pages
+-- `object_words` words from this address on are words of pages
 abbrev pub LieInPages : Setup → (address words : ℕ) → Type 0
 LieInPages T address words = address + words ≤ T.sizes.pages * T.sizes.page_words
 
@@ -62,14 +62,14 @@ abbrev pub Points : Setup → «Type» → ℕ → Type 0
 Points T ty word =
     (address : ℕ) → is_pointer_like ty ≡ true → word ≡ suc address → LieInPages T address (least_words T.sizes.page_words T.code.structs ty)
 
--- the words that follow the address of a slice with so many elements
+-- the words that follow the address of a slice with this many elements
 abbrev pub slice_words : Setup → ℕ → ℕ
 slice_words T n = row_words T.sizes.page_words (SliceObject (replicate n value.Nil))
 
--- the type of the variable to which an instruction gives a word
+-- the type of the variable to which an instruction writes a word
 abbrev pub target_type : Setup → WordFrame → Option ℕ → «Type»
-target_type T w to = type_of (erased T.code) (bare w) to
+target_type T w to = destination_type (erased T.code) (bare w) to
 
--- the record after an instruction by an access, and where the word points that it gives
+-- the record after an instruction by an access, and where the word points that is its value
 abbrev pub Gives : (T : Setup) (c : Record) {op : CodeOp} → IsAt T.code c op → (to : Option ℕ) (word : ℕ) → Record → Type 0
 Gives T c a to word d = (d ≡ acted T.code c a to word) × Points T (target_type T a.w to) word

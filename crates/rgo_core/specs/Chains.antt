@@ -1,4 +1,4 @@
--- Accesses to the chains of pages: a claimed page is hung and linked; a chain is given back page by page. The region machine makes no
+-- Accesses to the chains of pages: a claimed page is hung and linked; a chain is returned page by page. The region machine makes no
 -- step.
 use Rattle.std.specs.Prelude.{◌≡◌, ◌<◌, ◌≤◌, ◌-◌, ℕ, suc}
 use Rattle.rgo_core_memory.specs.Records.{Calm, Gave, Giving, Got, Hung, Idle, Owes, Past, Rec as MemoryRec, with_claim, with_give}
@@ -7,7 +7,7 @@ use Rattle.rgo_core.specs.Core.{Setup, layout}
 use Rattle.rgo_core.specs.Records.{Record, accessed}
 use Rattle.rgo_core.specs.Steps.{Moves}
 
--- the record after an access that only its part of memory tells
+-- the record after an access that changes only its part of memory
 abbrev pub remembers : Record → MemoryRec → Record
 remembers c m = record c { clock = accessed c.clock; memory = m }
 
@@ -21,7 +21,7 @@ abbrev pub LinkMove : Type 0
 LinkMove = (T : Setup) (g : ℕ) (c : Record) (p r old : ℕ) → c.memory.claim ≡ Hung p r old
     → Moves T g c (next_at (layout T) p) (λ n. old) (λ n d. d ≡ remembers c (with_claim c.memory Idle))
 
--- The head of a chain that is given back is loaded: a page by its number plus 1, or 0. No more pages are owed than there are.
+-- The head of a chain that is being returned is loaded: a page by its number plus 1, or 0. No more pages are owed than there are.
 abbrev pub HeadMove : Type 0
 HeadMove = (T : Setup) (g : ℕ) (c : Record) (r : ℕ) → c.memory.give ≡ Owes r
     → Moves T g c (head_at (layout T) r) (λ n. n)

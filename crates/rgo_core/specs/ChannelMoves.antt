@@ -16,7 +16,7 @@ ControlMove = (T : Setup) (g : ℕ) (c : Record) (a : ℕ) → IsAtChannel T c a
     → Moves T g c a (λ n. n) (λ n d. (d ≡ knows c (with_look c.side a n)) × (n + 4 < 2 ^ 64)
     × ((size : ℕ) → c.side.size ≡ Sized a size → head_of n < extent size))
 
--- A goroutine loads the control of the channel at which its offer stands: the offer is not taken, or it is.
+-- A goroutine loads the control of the channel at which its offer is: the offer is not taken, or it is.
 abbrev pub OwnControlMove : Type 0
 OwnControlMove = (T : Setup) (g : ℕ) (c : Record) (a : ℕ) → c.side.post ≡ Offering a
     → Moves T g c a (λ n. n) (λ n d. (d ≡ knows c (with_own_look c.side a n)) × (n + 4 < 2 ^ 64)

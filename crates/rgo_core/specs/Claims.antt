@@ -2,9 +2,9 @@
 use Rattle.std.specs.Prelude.{◌≡◌, ◌+◌, ◌<◌, ◌≤◌, ◌==◌, ℕ, suc, false, true, List, length, Option, Some, if◌then◌else◌}
 use Rattle.rgo_sound.specs.Code.Code.{Do}
 use Rattle.rgo_sound.specs.Memory.Memory.{Object}
-use Rattle.rgo_sound.specs.RegionMachine.Objects.{is_spread, is_too_large, making_region, words as words_of}
+use Rattle.rgo_sound.specs.RegionMachine.Objects.{is_spread, is_too_large, making_region, object_words as words_of}
 use Rattle.rgo_sound.specs.RegionMachine.Room.{pages_of}
-use Rattle.rgo_sound.specs.RegionMachine.Owed.{function_of}
+use Rattle.rgo_sound.specs.RegionMachine.Owed.{code_function}
 use Rattle.rgo_sound.specs.RegionMachine.States.{top_names}
 use Rattle.rgo_sound.specs.RegionMachine.declared.regions.Region.{Region}
 use Rattle.rgo_sound.specs.Typed.declared.actions.Action.{Action}
@@ -38,7 +38,7 @@ abbrev pub ClaimMove : Type 0
 ClaimMove = (T : Setup) (g : ℕ) (c : Record) (to : Option ℕ) (act : Action) (from removes : List ℕ)
     (a : IsAt T.code c (Do to act from removes)) (object : Object) (by_slot : Region) (p : ℕ) → c.side ≡ at_rest
     → MakesObject T.code a.w to act from object
-    → making_region (function_of T.code a.w.function) (top_names c.frame.holder.environments) a.instr.op ≡ Some by_slot
+    → making_region (code_function T.code a.w.function) (top_names c.frame.holder.environments) a.instr.op ≡ Some by_slot
     → words_of object ≤ T.sizes.page_words
     → ((f : Fill) → Within f c.memory.fills → f.slot ≡ slot_number (layout T) by_slot → T.sizes.page_words < f.fill + words_of object)
     → c.memory.claim ≡ Idle → c.memory.make ≡ Rest → p < T.sizes.pages
@@ -51,7 +51,7 @@ abbrev pub ReserveMove : Type 0
 ReserveMove = (T : Setup) (g : ℕ) (c : Record) (to : Option ℕ) (act : Action) (from removes : List ℕ)
     (a : IsAt T.code c (Do to act from removes)) (object : Object) (by_slot : Region) (p : ℕ) → c.side ≡ at_rest
     → MakesObject T.code a.w to act from object
-    → making_region (function_of T.code a.w.function) (top_names c.frame.holder.environments) a.instr.op ≡ Some by_slot
+    → making_region (code_function T.code a.w.function) (top_names c.frame.holder.environments) a.instr.op ≡ Some by_slot
     → is_spread T.sizes.page_words object ≡ true → is_too_large T.sizes.page_words object ≡ false
     → length c.memory.reserved.pages < pages_of T.sizes.page_words object
     → c.memory.claim ≡ Idle → c.memory.make ≡ Rest → p < T.sizes.pages

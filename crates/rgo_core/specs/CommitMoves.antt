@@ -76,7 +76,7 @@ pub record IsAtSend (T : Setup) (c : Record) : Type 0 where
   pub removes : List ℕ
   pub is : instr.op ≡ Do to Send from removes
 
--- the sender, whose offer was taken, goes on; the meeting has counted its instruction
+-- the sender, whose offer was taken, continues; the meeting has counted its instruction
 abbrev pub acknowledges : (T : Setup) (c : Record) → IsAtSend T c → Record
 acknowledges T c a = record {
   clock = accessed c.clock;

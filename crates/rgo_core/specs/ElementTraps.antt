@@ -21,7 +21,7 @@ pub record IsOutside (c : Record) (address index : ℕ) : Type 0 where
   pub its : measured.address ≡ address
   pub beyond : measured.elements ≤ index
 
--- variable p is nil, or has a slice of which variable q is no index
+-- variable p is nil, or has a slice of which variable q is not an index
 abbrev pub HasNoElement : Record → WordFrame → (p q : ℕ) → Type 0
 HasNoElement c w p q = (word_at w p ≡ 0) ⊎ ((address : ℕ) × (word_at w p ≡ suc address) × IsOutside c address (word_at w q))
 

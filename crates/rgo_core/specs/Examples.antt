@@ -5,7 +5,7 @@ use Rattle.rgo_sound.specs.Machine.declared.limits.Limits.{Limits}
 use Rattle.rgo_sound.specs.Machine.declared.limits.Sizes.{Sizes}
 use Rattle.rgo_sound.specs.Machine.declared.picks.End.TheVariants.{Exit}
 use Rattle.rgo_sound.specs.RegionMachine.Machine.{Event, TakePage, region_start}
-use Rattle.rgo_sound.specs.RegionMachine.Room.{FitsIn, pages_in_use}
+use Rattle.rgo_sound.specs.RegionMachine.Room.{StateFitsIn, pages_in_use}
 use Rattle.rgo_sound.specs.RegionMachine.States.{Ended, Mark, RegionState, Stopped}
 use Rattle.rgo_sound.specs.RegionMachine.declared.limits.Limit.TheVariants.{Memory, Regions}
 use Rattle.rgo_sound.specs.Tally.{no_share}
@@ -16,7 +16,7 @@ use Rattle.rgo_core.specs.Core.{Core, Here, Setup}
 use Rattle.rgo_core.specs.Numbers.{Numbers}
 use Rattle.rgo_core.specs.Opening.{first_of, opening}
 use Rattle.rgo_core.specs.Records.{ClockRec, Record, all_counted, blank, counted, drawn_at, fresh, with_child, with_end, with_print, with_refusal}
-use Rattle.rgo_core.specs.Steps.{Goes}
+use Rattle.rgo_core.specs.Steps.{MakesRegionStep}
 use Rattle.rgo_core.specs.Story.{Story}
 
 -- a state that has printed these bytes, and the mark that it has
@@ -91,7 +91,7 @@ pub record RoomExamples : Type 0 where
   -- the run without a step
   pub none_yet : (T : Setup) → Story T.code T.sizes T.limits (opening T) (fresh ∷ []) [] (region_start T.code)
   -- more pages are in use, or more regions live, than there may be
-  pub crowded : (T : Setup) (words : List ℕ) (recs : List Record) (events : List Event) (k : Core T words recs events) → (FitsIn T.sizes k.0 → ⊥) → ⊥
+  pub crowded : (T : Setup) (words : List ℕ) (recs : List Record) (events : List Event) (k : Core T words recs events) → (StateFitsIn T.sizes k.0 → ⊥) → ⊥
   -- a page is taken where none is left
-  pub none_left : (T : Setup) (g : ℕ) (c d : Record) (x : Here T g c) (words : List ℕ) (recs : List Record) (p : Goes x words recs d)
+  pub none_left : (T : Setup) (g : ℕ) (c d : Record) (x : Here T g c) (words : List ℕ) (recs : List Record) (p : MakesRegionStep x words recs d)
       → p.event ≡ TakePage g → T.sizes.pages ≤ pages_in_use x.s → ⊥

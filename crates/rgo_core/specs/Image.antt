@@ -4,9 +4,9 @@ use Rattle.rgo_sound.specs.Code.Code.{Code}
 use Rattle.rgo_core_channels.specs.Channels.{Channels, Places}
 use Rattle.rgo_core_channels.specs.Positions.{cell_place, place_at}
 use Rattle.rgo_core_channels.specs.Records.{Rec as SideRec}
-use Rattle.rgo_core_frames.specs.Fits.{AllFit}
+use Rattle.rgo_core_frames.specs.Fits.{RecordsFit}
 use Rattle.rgo_core_memory.specs.Encoding.{address}
-use Rattle.rgo_core_memory.specs.Image.{Memory, Where, code_of}
+use Rattle.rgo_core_memory.specs.Image.{StateImage, Where, code_of}
 use Rattle.rgo_core_memory.specs.declared.layout.TableSizes.{TableSizes}
 use Rattle.rgo_sound.specs.Machine.declared.limits.Sizes.{Sizes}
 use Rattle.rgo_sound.specs.RegionMachine.States.{RegionState}
@@ -33,6 +33,6 @@ pub record Image (code : Code) (z : TableSizes) (words : List ℕ) (recs : List 
   pub at : Places
   pub addresses : List ℕ
   pub addressed : (o a : ℕ) → slice_get addresses o ≡ Some a → a ≡ address z places.start o
-  pub frames : AllFit code places.slot addresses s (map frame_of recs)
-  pub memory : Memory z words (map memory_of recs) s places
+  pub frames : RecordsFit code places.slot addresses s (map frame_of recs)
+  pub memory : StateImage z words (map memory_of recs) s places
   pub channels : ChannelsIn code z places words (map side_of recs) s at

@@ -1,4 +1,4 @@
--- The law of each access of a goroutine and of its steps without one. What a law asks is told by the goroutine's own record.
+-- The law of each access of a goroutine and of its steps without one. What a law asks can be read off the goroutine's own record.
 use Rattle.std.specs.Prelude.{◌≡◌, ◌<◌, ◌≤◌, ◌+◌, ◌%◌, ◌^◌, ℕ, bit_or, List, [], ◌∷◌, length, false, true, Option, Some}
 use Rattle.rgo_sound.specs.Code.Code.{Call, CodeFn, CodeOp, Go, Print}
 use Rattle.rgo_core_channels.specs.Records.{at_rest}
@@ -11,15 +11,15 @@ use Rattle.rgo_core_frames.specs.Records.{Rec as FrameRec, after_op}
 use Rattle.rgo_core_frames.specs.WordFrames.{word_called, word_moved, words_of}
 use Rattle.rgo_core_memory.specs.Words.{clock_at, made_at}
 use Rattle.rgo_sound.specs.Machine.Limits.{deepest, most_goroutines}
-use Rattle.rgo_sound.specs.Machine.Lines.{line_of}
+use Rattle.rgo_sound.specs.Machine.Lines.{printed_line}
 use Rattle.rgo_sound.specs.Machine.declared.picks.End.TheVariants.{Exit}
-use Rattle.rgo_sound.specs.RegionMachine.Owed.{function_of}
+use Rattle.rgo_sound.specs.RegionMachine.Owed.{code_function}
 use Rattle.rgo_sound.specs.RegionMachine.States.{Duty, Ended, Stopped}
 use Rattle.rgo_sound.specs.RegionMachine.declared.limits.Limit.{Limit}
 use Rattle.rgo_sound.specs.RegionMachine.declared.limits.Limit.TheVariants.{Calls, Goroutines}
 use Rattle.rgo_sound.specs.Tac.declared.regions.Class.{Class}
 use Rattle.rgo_sound.specs.Typed.declared.statements.Piece.{Piece}
-use Rattle.rgo_core.specs.Causes.{Stops}
+use Rattle.rgo_core.specs.Causes.{ReachesLimit}
 use Rattle.rgo_core.specs.Core.{Here, Setup}
 use Rattle.rgo_core.specs.Next.{IsAt}
 use Rattle.rgo_core.specs.Records.{ClockRec, Record, begins_with, instructed, with_child, with_end, with_print, with_refusal}
@@ -37,7 +37,7 @@ abbrev pub PrintMove : Type 0
 PrintMove = (T : Setup) (g : ℕ) (c : Record) (pieces : List Piece) (from removes : List ℕ)
     (a : IsAt T.code c (Print pieces from removes)) → c.side ≡ at_rest → length c.clock.prints < 2 ^ 43
     → Moves T g c clock_at (λ n. (n + 1) % 2 ^ 64)
-    (λ n d. d ≡ printed_by T c a (line_of pieces (printed_values a.fn a.w from)) n)
+    (λ n d. d ≡ printed_by T c a (printed_line pieces (printed_values a.fn a.w from)) n)
 
 -- the record after it has started goroutine n, and that goroutine's, which runs this function
 abbrev pub started_by : (T : Setup) (c : Record) {op : CodeOp} → IsAt T.code c op → (n : ℕ) → Record
@@ -58,7 +58,7 @@ child_of T c {op} a f callee from =
 -- record draws no further number after that.
 abbrev pub StartMove : Type 0
 StartMove = (T : Setup) (g : ℕ) (c : Record) (f : ℕ) (callee : CodeFn) (from : List ℕ) (passes : List Class) (removes : List ℕ)
-    (a : IsAt T.code c (Go f from passes removes)) → function_of T.code f ≡ Some callee → c.side ≡ at_rest → c.clock.refused ≡ false
+    (a : IsAt T.code c (Go f from passes removes)) → code_function T.code f ≡ Some callee → c.side ≡ at_rest → c.clock.refused ≡ false
     → MovesEither T g c made_at (λ n. (n + 1) % 2 ^ 64)
     (λ n d. (most_goroutines T.limits ≤ n) × (d ≡ record c { clock = with_refusal c.clock }))
     (λ n d new. (n < most_goroutines T.limits) × (d ≡ started_by T c a n) × (new ≡ child_of T c a f callee from))
@@ -85,18 +85,18 @@ ExitMove = (T : Setup) (g : ℕ) (c : Record) (e : FrameRec) → c.side ≡ at_r
 -- A run is ended for want of room, or because it met a limit, where whatever the rest of the table is the cause holds; memory may
 -- run out in any state.
 abbrev pub StopMove : Type 0
-StopMove = (T : Setup) (g : ℕ) (c : Record) (why : Limit) → ((x : Here T g c) → Stops T.code T.sizes T.limits why x.s)
+StopMove = (T : Setup) (g : ℕ) (c : Record) (why : Limit) → ((x : Here T g c) → ReachesLimit T.code T.sizes T.limits why x.s)
     → Moves T g c clock_at (λ n. bit_or n (2 ^ 63)) (λ n d. d ≡ record c { clock = with_end c.clock n (Stopped why) })
 
 -- a goroutine that has as many frames as it may calls a function
 abbrev pub CallsMove : Type 0
 CallsMove = (T : Setup) (g : ℕ) (c : Record) (to : Option ℕ) (f : ℕ) (callee : CodeFn) (from : List ℕ) (passes : List Class)
-    (protects removes : List ℕ) → IsAt T.code c (Call to f from passes protects removes) → function_of T.code f ≡ Some callee
+    (protects removes : List ℕ) → IsAt T.code c (Call to f from passes protects removes) → code_function T.code f ≡ Some callee
     → length c.frame.frames ≡ deepest
     → Moves T g c clock_at (λ n. bit_or n (2 ^ 63)) (λ n d. d ≡ record c { clock = with_end c.clock n (Stopped Calls) })
 
 -- a goroutine to which a number was refused starts another
 abbrev pub FullMove : Type 0
 FullMove = (T : Setup) (g : ℕ) (c : Record) (f : ℕ) (callee : CodeFn) (from : List ℕ) (passes : List Class) (removes : List ℕ)
-    → IsAt T.code c (Go f from passes removes) → function_of T.code f ≡ Some callee → c.clock.refused ≡ true
+    → IsAt T.code c (Go f from passes removes) → code_function T.code f ≡ Some callee → c.clock.refused ≡ true
     → Moves T g c clock_at (λ n. bit_or n (2 ^ 63)) (λ n d. d ≡ record c { clock = with_end c.clock n (Stopped Goroutines) })

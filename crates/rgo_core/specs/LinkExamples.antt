@@ -1,4 +1,5 @@
--- Records that are before an access to an element, and such as are not; what they know of lengths; and pages that are to be freed.
+-- Records that are before an access to an element, and some that are not; what they know of lengths; and pages that are to be
+-- freed.
 use Rattle.std.specs.Prelude.{◌≡◌, ◌+◌, ℕ, List, [], ◌∷◌, Some, slice_set}
 use Rattle.rgo_sound.specs.Code.Code.{Code, Do}
 use Rattle.rgo_core_memory.specs.Opening.{first_record, first_words}
@@ -10,7 +11,7 @@ use Rattle.rgo_sound.specs.Typed.declared.actions.Action.TheVariants.{At}
 use Rattle.rgo_core.specs.Accesses.{IsInSlice, measures}
 use Rattle.rgo_core.specs.ChannelExamples.{with_words}
 use Rattle.rgo_core.specs.ElementTraps.{IsOutside}
-use Rattle.rgo_core.specs.Links.{IsAtElement, Knows, Link, left_to_free}
+use Rattle.rgo_core.specs.Links.{IsAtElement, StillMeasured, Link, left_to_free}
 use Rattle.rgo_core.specs.Records.{Record, begins_with, instructed}
 use Rattle.rgo_core.specs.TraceExamples.{filled_words, tiny}
 
@@ -58,10 +59,10 @@ pub record LinkExamples : Type 0 where
   -- nothing is known after an instruction
   pub late : IsInSlice later 5 3 → ⊥
   -- the slice still has the length, or it has not
-  pub knows : Knows loading tiny (with_length 4) knowing four
-  pub changed : Knows loading tiny (with_length 5) knowing four → ⊥
-  -- and where the goroutine has gone on, this says nothing
-  pub gone : Knows loading tiny (with_length 5) later four
+  pub knows : StillMeasured loading tiny (with_length 4) knowing four
+  pub changed : StillMeasured loading tiny (with_length 5) knowing four → ⊥
+  -- once the goroutine has continued, this says nothing
+  pub gone : StillMeasured loading tiny (with_length 5) later four
   -- two pages are claimed for slot 0
   pub left : left_to_free tiny filled_words (Owes 0) ≡ 2
   pub left_after : left_to_free tiny filled_words (Past 0 1 2) ≡ 2

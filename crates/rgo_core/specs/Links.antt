@@ -3,9 +3,9 @@
 use Rattle.std.specs.Prelude.{◌≡◌, ◌≤◌, ◌<◌, ◌+◌, ◌/◌, ℕ, suc, Bool, false, true, List, [], ◌∷◌, length, Option, Some, None, slice_get, slice_index}
 use Rattle.rgo_sound.specs.Code.Code.{Code, CodeFn, CodeOp, Do}
 use Rattle.rgo_sound.specs.Code.Erasure.{erased_fn}
-use Rattle.rgo_sound.specs.Code.Types.{HasType}
+use Rattle.rgo_sound.specs.Code.Types.{VariableHasType}
 use Rattle.rgo_sound.specs.RegionMachine.Objects.{making_region}
-use Rattle.rgo_sound.specs.RegionMachine.Owed.{function_of}
+use Rattle.rgo_sound.specs.RegionMachine.Owed.{code_function}
 use Rattle.rgo_sound.specs.RegionMachine.States.{top_names}
 use Rattle.rgo_sound.specs.RegionMachine.declared.regions.Region.{Region}
 use Rattle.rgo_sound.specs.RegionMachine.declared.regions.Region.TheVariants.{Global as GlobalRegion, Numbered}
@@ -22,7 +22,7 @@ use Rattle.rgo_core_memory.specs.declared.layout.TableSizes.{TableSizes}
 use Rattle.rgo_core.specs.Next.{IsAt}
 use Rattle.rgo_core.specs.Records.{Record, steps_of}
 
--- the pages that are still claimed for the slot whose chain is given back
+-- the pages that are still claimed for the slot whose chain is being returned
 abbrev pub left_to_free : TableSizes → List ℕ → Give → ℕ
 left_to_free z words Calm = 0
 left_to_free z words (Owes r) = claimed_for z words r
@@ -38,7 +38,7 @@ pub data IsAtElement (code : Code) (c : Record) (address : ℕ) : Type 0 where
       → IsAtElement code c address
 
 -- Until its next instruction the goroutine is where it was when it read the length, and the slice still has it.
-pub record Knows (code : Code) (z : TableSizes) (words : List ℕ) (c : Record) (m : Measured) : Type 0 where
+pub record StillMeasured (code : Code) (z : TableSizes) (words : List ℕ) (c : Record) (m : Measured) : Type 0 where
   pub past : m.steps ≤ steps_of c
   pub before : m.steps ≡ steps_of c → IsAtElement code c m.address
   pub still : m.steps ≡ steps_of c → slice_index words (base z + m.address) ≡ m.elements
@@ -56,7 +56,7 @@ is_on_cell act = false
 -- the variable points to structs, and these are spread
 pub record LeadsToSpread (code : Code) (page_words : ℕ) (fn : CodeFn) (p : ℕ) : Type 0 where
   pub number : ℕ
-  pub typed : HasType (erased_fn fn) p (pointer_to number)
+  pub typed : VariableHasType (erased_fn fn) p (pointer_to number)
   pub struct : Struct
   pub there : slice_get code.structs number ≡ Some struct
   pub spread : page_words < length struct.fields
@@ -70,7 +70,7 @@ pub data IsAtCell (code : Code) (z : TableSizes) (words : List ℕ) (c : Record)
       → slice_index words (base z + (address + (0 + cell / z.page_words))) ≡ suc page → IsAtCell code z words c address cell page
   OfSlice : (to : Option ℕ) (act : Action) (p : ℕ) (others removes : List ℕ) (a : IsAt code c (Do to act (p ∷ others) removes))
       → is_on_cell act ≡ true → word_at a.w p ≡ suc address
-      → (u : «Type») → HasType (erased_fn a.fn) p (slice_of u) → cell < slice_index words (base z + address)
+      → (u : «Type») → VariableHasType (erased_fn a.fn) p (slice_of u) → cell < slice_index words (base z + address)
       → z.page_words ≤ slice_index words (base z + address)
       → slice_index words (base z + (address + (1 + cell / z.page_words))) ≡ suc page → IsAtCell code z words c address cell page
 
@@ -91,14 +91,14 @@ pub record IsMakingIn (code : Code) (z : TableSizes) (c : Record) (slot : ℕ) :
   pub op : CodeOp
   pub a : IsAt code c op
   pub by_slot : Region
-  pub making : making_region (function_of code a.w.function) (top_names c.frame.holder.environments) a.instr.op ≡ Some by_slot
+  pub making : making_region (code_function code a.w.function) (top_names c.frame.holder.environments) a.instr.op ≡ Some by_slot
   pub slotted : slot_number z by_slot ≡ slot
 
 -- ----
 
 pub record Link (code : Code) (z : TableSizes) (words : List ℕ) (c : Record) : Type 0 where
   pub owed : c.clock.owed ≡ left_to_free z words c.memory.give
-  pub knows : (m : Measured) → c.memory.measured ≡ Some m → Knows code z words c m
+  pub knows : (m : Measured) → c.memory.measured ≡ Some m → StillMeasured code z words c m
   pub finds : (l : Located) → c.memory.located ≡ Some l → Finds code z words c l
   pub reserved : 0 < length c.memory.reserved.pages → IsMakingIn code z c c.memory.reserved.slot
 

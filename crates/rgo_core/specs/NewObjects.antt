@@ -1,15 +1,15 @@
--- A new object: which one a goroutine's next instruction makes, told by its record, and the record after the stores of its words.
+-- A new object: which one a goroutine's next instruction makes, by its record, and the record after the stores of its words.
 use Rattle.std.specs.Prelude.{◌≡◌, ℕ, suc, ◌+◌, ◌*◌, ◌<◌, ◌^◌, bit_or, false, true, List, [], ◌∷◌, map, replicate, Option, Some, slice_get, slice_index}
 use Rattle.rgo_sound.specs.Code.Code.{Code, CodeOp, Do}
 use Rattle.rgo_sound.specs.Code.Erasure.{erased}
 use Rattle.rgo_sound.specs.Memory.Memory.{Channel, Object, SliceObject, StructObject}
 use Rattle.rgo_sound.specs.Memory.Values.{element_zero, zero_of}
-use Rattle.rgo_sound.specs.RegionMachine.Objects.{is_too_large, making_region, words as words_of}
-use Rattle.rgo_sound.specs.RegionMachine.Owed.{function_of}
+use Rattle.rgo_sound.specs.RegionMachine.Objects.{is_too_large, making_region, object_words as words_of}
+use Rattle.rgo_sound.specs.RegionMachine.Owed.{code_function}
 use Rattle.rgo_sound.specs.RegionMachine.States.{Stopped, top_names}
 use Rattle.rgo_sound.specs.RegionMachine.declared.limits.Limit.TheVariants.{ObjectSize}
 use Rattle.rgo_sound.specs.RegionMachine.declared.regions.Region.{Region}
-use Rattle.rgo_sound.specs.Tac.Steps.{type_of}
+use Rattle.rgo_sound.specs.Tac.Steps.{destination_type}
 use Rattle.rgo_sound.specs.Typed.declared.actions.Action.{Action}
 use Rattle.rgo_sound.specs.Typed.declared.actions.Action.TheVariants as action
 use Rattle.rgo_sound.specs.Typed.declared.programs.Struct.{Struct}
@@ -17,7 +17,7 @@ use Rattle.rgo_core_channels.specs.Records.{at_rest}
 use Rattle.rgo_core_frames.specs.Actions.{after_action}
 use Rattle.rgo_core_frames.specs.WordFrames.{WordFrame, bare, word_at}
 use Rattle.rgo_core_memory.specs.Encoding.{content, opening}
-use Rattle.rgo_core_memory.specs.Parts.{Covers, CoversApart, Makes, MakesApart}
+use Rattle.rgo_core_memory.specs.Parts.{Covers, CoversApart, RecordMakes, MakesApart}
 use Rattle.rgo_core_memory.specs.Records.{Fill, with_object, with_object_apart, with_word, with_word_apart}
 use Rattle.rgo_core_memory.specs.Spread.{spread_opening, spread_spot, table_words}
 use Rattle.rgo_core_memory.specs.Words.{cell_at, clock_at}
@@ -33,7 +33,7 @@ pub data ObjectOf (most : ℕ) (code : Code) (w : WordFrame) (to : Option ℕ) (
   AStruct : (n : ℕ) (made : Struct) → act ≡ action.New n → from ≡ [] → slice_get code.structs n ≡ Some made
       → object ≡ StructObject (map zero_of made.fields) → ObjectOf most code w to act from object
   ASlice : (p : ℕ) → act ≡ action.Slice → from ≡ p ∷ [] → word_at w p < 2 ^ 63
-      → object ≡ SliceObject (replicate (word_at w p) (element_zero (type_of (erased code) (bare w) to)))
+      → object ≡ SliceObject (replicate (word_at w p) (element_zero (destination_type (erased code) (bare w) to)))
       → ObjectOf most code w to act from object
   AChannel : (p : ℕ) → act ≡ action.Chan → from ≡ p ∷ [] → word_at w p < most
       → object ≡ Channel (word_at w p) [] false → ObjectOf most code w to act from object
@@ -60,7 +60,7 @@ word_apart T c object i = cell_at (layout T) (spread_spot T.sizes.page_words obj
 -- one word of a new object is stored, and not all of them
 abbrev pub WordMove : Type 0
 WordMove = (T : Setup) (g : ℕ) (c : Record) (f : Fill) (object : Object) (stored : List ℕ) (i : ℕ)
-    → Makes (layout T) c.memory f object stored → i < words_of object
+    → RecordMakes (layout T) c.memory f object stored → i < words_of object
     → Moves T g c (cell_at (layout T) f.page (f.fill + i)) (λ n. opening (content object i))
     (λ n d. d ≡ record c { clock = accessed c.clock; memory = with_word c.memory f object (i ∷ stored) })
 
@@ -77,8 +77,8 @@ abbrev pub ObjectMove : Type 0
 ObjectMove = (T : Setup) (g : ℕ) (c : Record) (to : Option ℕ) (act : Action) (from removes : List ℕ)
     (a : IsAt T.code c (Do to act from removes)) (object : Object) (by_slot : Region) (f : Fill) (stored : List ℕ) (last : ℕ)
     → c.side ≡ at_rest → MakesObject T.code a.w to act from object
-    → making_region (function_of T.code a.w.function) (top_names c.frame.holder.environments) a.instr.op ≡ Some by_slot
-    → f.slot ≡ slot_number (layout T) by_slot → Makes (layout T) c.memory f object stored → last < words_of object
+    → making_region (code_function T.code a.w.function) (top_names c.frame.holder.environments) a.instr.op ≡ Some by_slot
+    → f.slot ≡ slot_number (layout T) by_slot → RecordMakes (layout T) c.memory f object stored → last < words_of object
     → Covers object (last ∷ stored)
     → Moves T g c (cell_at (layout T) f.page (f.fill + last)) (λ n. opening (content object last))
     (λ n d. (d ≡ made_object T c a to f object) × LieInPages T (f.page * T.sizes.page_words + f.fill) (words_of object)
@@ -103,7 +103,7 @@ abbrev pub ObjectMoveApart : Type 0
 ObjectMoveApart = (T : Setup) (g : ℕ) (c : Record) (to : Option ℕ) (act : Action) (from removes : List ℕ)
     (a : IsAt T.code c (Do to act from removes)) (object : Object) (by_slot : Region) (stored : List ℕ) (last : ℕ)
     → c.side ≡ at_rest → MakesObject T.code a.w to act from object
-    → making_region (function_of T.code a.w.function) (top_names c.frame.holder.environments) a.instr.op ≡ Some by_slot
+    → making_region (code_function T.code a.w.function) (top_names c.frame.holder.environments) a.instr.op ≡ Some by_slot
     → MakesApart (layout T) c.memory object stored
     → last < table_words T.sizes.page_words object → CoversApart (layout T) object (last ∷ stored)
     → Moves T g c (word_apart T c object last) (λ n. spread_opening object c.memory.reserved.pages last)

@@ -1,9 +1,9 @@
--- Where a goroutine is, told by its record: before an instruction, owing nothing and with no offer.
+-- Where a goroutine is, by its record: before an instruction, owing nothing and with no offer.
 use Rattle.std.specs.Prelude.{◌≡◌, ℕ, List, [], ◌∷◌, Option, Some}
 use Rattle.rgo_sound.specs.Code.Code.{Code, CodeFn, CodeInstr, CodeOp}
 use Rattle.rgo_core_frames.specs.Actions.{after_action}
 use Rattle.rgo_core_frames.specs.WordFrames.{WordFrame, bare}
-use Rattle.rgo_sound.specs.RegionMachine.Owed.{current, function_of}
+use Rattle.rgo_sound.specs.RegionMachine.Owed.{current, code_function}
 use Rattle.rgo_sound.specs.RegionMachine.States.{NoOffer}
 use Rattle.rgo_core.specs.Records.{Record, ticked}
 
@@ -12,14 +12,14 @@ pub record IsAt (code : Code) (c : Record) (op : CodeOp) : Type 0 where
   pub ws : List WordFrame
   pub frames : c.frame.frames ≡ w ∷ ws
   pub fn : CodeFn
-  pub in_fn : function_of code w.function ≡ Some fn
+  pub in_fn : code_function code w.function ≡ Some fn
   pub instr : CodeInstr
   pub cur : current code (bare w) ≡ Some instr
   pub is : instr.op ≡ op
   pub none : c.frame.holder.duties ≡ []
   pub free : c.frame.holder.offer ≡ NoOffer
 
--- the record after an action by an access that gives this word
+-- the record after an action by an access whose value is this word
 abbrev pub acted : (code : Code) (c : Record) {op : CodeOp} → IsAt code c op → Option ℕ → ℕ → Record
 acted code c a to word = record c {
   clock = ticked c.clock;

@@ -29,6 +29,6 @@ first_of code = record (begins_with (main_frame code)) { clock = fresh }
 abbrev pub opening : Setup → List ℕ
 opening T = first_words (layout T)
 
-abbrev pub OpeningLaw : Type 0
-OpeningLaw = (T : Setup) → IsChecked T.code → Ascends T.code → ConstantsFit T.code
+abbrev pub TableOpeningLaw : Type 0
+TableOpeningLaw = (T : Setup) → IsChecked T.code → Ascends T.code → ConstantsFit T.code
     → most_goroutines T.limits ≤ 1000000 → Core T (opening T) (first_of T.code ∷ []) []

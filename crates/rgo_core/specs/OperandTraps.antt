@@ -1,4 +1,4 @@
--- Traps that the operands of an instruction tell: a field of nil, a division by zero, a negative size.
+-- Traps that follow from the operands of an instruction: a field of nil, a division by zero, a negative size.
 use Rattle.std.specs.Prelude.{◌≡◌, ◌⊎◌, ◌^◌, ◌≤◌, ℕ, bit_or, List, [], ◌∷◌, Some, None}
 use Rattle.rgo_sound.specs.Ast.declared.ops.BinaryOp.{BinaryOp}
 use Rattle.rgo_sound.specs.Ast.declared.ops.BinaryOp.TheVariants.{Div, Rem}

@@ -1,4 +1,4 @@
--- What a table is told, as the definitions want it.
+-- What is fixed when a table opens, in the terms of the definitions.
 use Rattle.rgo_core.specs.Core.{Setup}
 use Rattle.rgo_core.specs.declared.table.Plan.{Plan}
 

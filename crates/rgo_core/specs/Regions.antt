@@ -42,7 +42,7 @@ ShareMove = (T : Setup) (g : ℕ) (c : Record) (d : Duty) (ds : List Duty) (p : 
 abbrev pub leaves : Record → Holder → (slot : ℕ) → Record
 leaves c k p = record (with_holder c k) { memory = without_slot c.memory p }
 
--- and of the last one, in a region of so many pages, which the record now has to free
+-- and of the last one, in a region of this many pages, which the record now has to free
 abbrev pub leaves_last : Record → Holder → (slot pages : ℕ) → Record
 leaves_last c k p pages = record (with_holder c k) {
   clock = record (accessed c.clock) {

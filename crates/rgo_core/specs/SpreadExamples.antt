@@ -35,7 +35,7 @@ frame_of words = record { function = 0; next = 0; variables = words }
 abbrev pub elements : Limits → Setup
 elements limits = with_code loading limits
 
--- it has read that the slice at address 0 has so many elements, and loads element 2
+-- it has read that the slice at address 0 has this many elements, and loads element 2
 abbrev pub reads : (many : ℕ) → Record
 reads n = measures (with_words (1 ∷ 2 ∷ 0 ∷ [])) 0 n
 

@@ -22,7 +22,7 @@ pub record SameClock (c d : ClockRec) : Type 0 where
 module _ {T : Setup} {g : ℕ} {c : Record} (x : Here T g c) where
   -- The region machine makes a step, of which the goroutine counts what it adds. Its record is then d, and these words and records
   -- are the image, with their links.
-  pub record Goes (words : List ℕ) (recs : List Record) (d : Record) : Type 0 where
+  pub record MakesRegionStep (words : List ℕ) (recs : List Record) (d : Record) : Type 0 where
     pub event : Event
     pub next : RegionState
     pub steps : region_step T.code T.sizes.page_words x.s event ≡ Some next
@@ -36,21 +36,21 @@ module _ {T : Setup} {g : ℕ} {c : Record} (x : Here T g c) where
     pub links : Links T.code (layout T) words recs
 
   -- a step that neither prints nor ends the run, nor starts a goroutine
-  pub record Does (words : List ℕ) (d : Record) : Type 0 where
-    pub goes : Goes words (slice_set x.recs g d) d
+  pub record MakesQuietStep (words : List ℕ) (d : Record) : Type 0 where
+    pub goes : MakesRegionStep words (slice_set x.recs g d) d
     pub mark : goes.next.mark ≡ x.s.mark
     pub printed : goes.next.plain.printed ≡ x.s.plain.printed
     pub same : SameClock c.clock d.clock
 
   -- the region machine makes no step
-  pub record Stays (words : List ℕ) (d : Record) : Type 0 where
+  pub record MakesNoStep (words : List ℕ) (d : Record) : Type 0 where
     pub counted : counted_by d.clock ≡ counted_by c.clock
     pub same : SameClock c.clock d.clock
     pub image : Image T.code (layout T) words (slice_set x.recs g d) x.s
     pub links : Links T.code (layout T) words (slice_set x.recs g d)
 
   abbrev pub Steps : (words : List ℕ) → Record → Type 0
-  Steps words d = Does words d ⊎ Stays words d
+  Steps words d = MakesQuietStep words d ⊎ MakesNoStep words d
 
 -- ---- the rule's words, over this core
 
@@ -68,16 +68,16 @@ IsStill T = rule.Still {E = Event} accesses (Core T)
 -- ---- whatever the rest of the table is
 
 -- what goroutine g does where it finds n on word i
-abbrev pub Finds : (T : Setup) (g : ℕ) (c : Record) → (i : ℕ) → (Here T g c → ℕ → Type 0) → Type 0
-Finds T g c i P = (x : Here T g c) → slice_index x.words i < 18446744073709551616 → P x (slice_index x.words i)
+abbrev pub FindsWord : (T : Setup) (g : ℕ) (c : Record) → (i : ℕ) → (Here T g c → ℕ → Type 0) → Type 0
+FindsWord T g c i P = (x : Here T g c) → slice_index x.words i < 18446744073709551616 → P x (slice_index x.words i)
 
 -- an access to a word of memory
 abbrev pub AccessLaw : Type 0
 AccessLaw = (T : Setup) (g : ℕ) (c : Record) (i : ℕ) (f : ℕ → ℕ) (after : ℕ → Record) → 32 ≤ i
     → ((n : ℕ) → accesses (after n) ≡ suc (accesses c))
-    → Finds T g c i (λ x n. Steps x (slice_set x.words i (f n)) (after n))
+    → FindsWord T g c i (λ x n. Steps x (slice_set x.words i (f n)) (after n))
     → Moves T g c i f (λ n d. d ≡ after n)
 
 -- a step without one
 abbrev pub QuietLaw : Type 0
-QuietLaw = (T : Setup) (g : ℕ) (c d : Record) → ((x : Here T g c) → Does x x.words d) → IsStill T g c d
+QuietLaw = (T : Setup) (g : ℕ) (c d : Record) → ((x : Here T g c) → MakesQuietStep x x.words d) → IsStill T g c d

@@ -1,5 +1,5 @@
--- The run behind a table's words: which state it leads to, and what the clock, the number of goroutines and the counts of all
--- records say of it.
+-- The run that explains a table's words: which state it leads to, and what the clock, the number of goroutines and the counts of
+-- all records say of it.
 use Rattle.std.specs.Prelude.{◌≡◌, ◌≤◌, ℕ, true, List, length, take, Some, slice_index}
 use Rattle.rgo_sound.specs.Code.Code.{Code}
 use Rattle.rgo_core_memory.specs.Words.{made_at}

@@ -1,11 +1,11 @@
 -- Small runs as lists of accesses: how a table opens, prints, a region from its creation until its pages are free again, a meeting, and a
--- ring. After each access stand the words that are not 0.
+-- ring. After each access, the words that are not 0.
 use Rattle.std.specs.Prelude.{◌≡◌, ◌==◌, ◌+◌, ◌-◌, ◌%◌, ◌^◌, ℕ, suc, bit_or, true, false, List, [], ◌∷◌, replicate, pos, if◌then◌else◌, slice_set}
 use Rattle.rgo_sound.specs.Memory.Memory.{Object, SliceObject}
 use Rattle.rgo_sound.specs.Memory.declared.values.Value.TheVariants as value
 use Rattle.rgo_sound.specs.Machine.declared.picks.End.TheVariants.{Exit}
 use Rattle.rgo_sound.specs.RegionMachine.Counts.{Counts}
-use Rattle.rgo_sound.specs.RegionMachine.Objects.{words as words_of}
+use Rattle.rgo_sound.specs.RegionMachine.Objects.{object_words as words_of}
 use Rattle.rgo_sound.specs.RegionMachine.States.{Ended}
 use Rattle.rgo_sound.specs.Tally.{no_share}
 use Rattle.rgo_core_channels.specs.Controls.{closed_of, control, count_of, head_of}
@@ -84,7 +84,7 @@ hangs p = remembering (head_at tiny 0) (λ n. suc p) (λ n m. with_claim m (Hung
 abbrev pub links : ℕ → ℕ → Step
 links p old = remembering (next_at tiny p) (λ n. old) (λ n m. with_claim m Idle)
 
--- three elements that are 0, behind their number
+-- three elements that are 0, after their number
 abbrev pub three : Object
 three = SliceObject (replicate 3 (value.Int (pos 0)))
 
@@ -138,7 +138,7 @@ filling =
     ∷ tries_page 0 ∷ tries_page 1 ∷ hangs 1 ∷ links 1 1
     ∷ stores_word 1 0 [] ∷ stores_word 1 1 (0 ∷ []) ∷ stores_word 1 2 (1 ∷ 0 ∷ []) ∷ makes_it 1 3 ∷ []
 
--- its only stake ends, and its pages are given back
+-- its only stake ends, and its pages are returned
 abbrev pub giving_back : List Step
 giving_back =
     leaves_region ∷ loads_head ∷ loads_next 1 ∷ frees_page 1 1 ∷ loads_next 0 ∷ frees_page 0 0 ∷ clears_head ∷ frees_slot ∷ []
@@ -250,7 +250,7 @@ pub record TraceExamples : Type 0 where
       ∷ ((16, 1) ∷ (32, 1) ∷ (33, 1) ∷ (51, 1) ∷ (68, 2) ∷ (69, 2) ∷ (86, 2) ∷ (104, 3) ∷ (108, 3) ∷ []) ∷ []
   -- the second page is its own, and full
   pub own_page : (memory_in (records_at_last filling (first_words tiny) first_records)).fills ≡ record { slot = 0; page = 1; fill = 4 } ∷ []
-  -- ---- it is left, and its pages are given back; what was in cells and in links stays
+  -- ---- it is left, and its pages are returned; what was in cells and in links stays
   pub gives : words_of_each giving_back filled_words
       ≡ ((16, 1) ∷ (32, 1) ∷ (33, 1) ∷ (51, 1) ∷ (68, 1) ∷ (69, 2) ∷ (86, 2) ∷ (104, 3) ∷ (108, 3) ∷ [])
       ∷ ((16, 1) ∷ (32, 1) ∷ (33, 1) ∷ (51, 1) ∷ (68, 1) ∷ (69, 2) ∷ (86, 2) ∷ (104, 3) ∷ (108, 3) ∷ [])

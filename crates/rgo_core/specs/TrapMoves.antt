@@ -39,7 +39,7 @@ CloseNilMove = (T : Setup) (g : ℕ) (c : Record) (to : Option ℕ) (channel : �
     (a : IsAt T.code c (Do to Close (channel ∷ []) removes)) → word_at a.w channel ≡ 0
     → Moves T g c clock_at (λ n. bit_or n (2 ^ 63)) (λ n d. d ≡ trapped c n CloseNil a.instr.place)
 
--- a send whose offer stands at a channel that was found closed
+-- a send whose offer is at a channel that was found closed
 abbrev pub StrandedMove : Type 0
 StrandedMove = (T : Setup) (g : ℕ) (c : Record) (at : ℕ) (a : IsAtSend T c) → c.side.saw ≡ Stranded at
     → Moves T g c clock_at (λ n. bit_or n (2 ^ 63)) (λ n d. d ≡ trapped c n SendClosed a.instr.place)

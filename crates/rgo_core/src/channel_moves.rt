@@ -1,5 +1,5 @@
 //! What each access to a channel does to what the table shows: an operation looks at the control, locks it, loads or stores a cell,
-//! and takes effect with the store that unlocks. What a law asks is told by the goroutine's own record.
+//! and takes effect with the store that unlocks. What a law asks can be read off the goroutine's own record.
 
 ghost use Rattle.rgo_core.specs.ChannelExamples.{ChannelExamples};
 ghost use Rattle.rgo_core.specs.ChannelMoves.{CapacityMove, CellLoadMove, CellStoreMove, ControlMove, LockMove, OwnControlMove, PageNumberMove};
@@ -11,7 +11,7 @@ pub fn control_move()
     ensures { ControlMove }
 {}
 
-/// A sender loads the control of the channel at which its offer stands.
+/// A sender loads the control of the channel at which its offer is.
 pub fn own_control_move()
     ensures { OwnControlMove }
 {}
@@ -91,12 +91,12 @@ pub fn close_nil_move()
     ensures { CloseNilMove }
 {}
 
-/// A send whose offer stands at a channel that was closed ends the run.
+/// A send whose offer is at a channel that was closed, and was not taken, ends the run.
 pub fn stranded_move()
     ensures { StrandedMove }
 {}
 
-/// Records that are at a channel, and such as are not.
+/// Records that are at a channel, and some that are not.
 pub fn examples()
     ensures { ChannelExamples }
 {}

@@ -1,15 +1,15 @@
 //! What each access of a goroutine, and each of its steps without one, does to what the table shows.
 
-ghost use Rattle.rgo_core.specs.ClockSteps.{EndLaw, LookLaw, NumberLaw, TicketLaw};
+ghost use Rattle.rgo_core.specs.ClockSteps.{RunEndLaw, LookLaw, NumberLaw, TicketLaw};
 ghost use Rattle.rgo_core.specs.Examples.{CauseExamples, ClockExamples, CoreExamples, NumberExamples, RoomExamples};
 ghost use Rattle.rgo_core.specs.Laws.{CallsMove, ExitMove, FullMove, LocalStill, PrintMove, StartMove, StopMove};
-ghost use Rattle.rgo_core.specs.Opening.{OpeningLaw};
+ghost use Rattle.rgo_core.specs.Opening.{TableOpeningLaw};
 ghost use Rattle.rgo_core.specs.Possible.{FirstPossible, OccursPossible, PossibleExamples, StillPossible};
 ghost use Rattle.rgo_core.specs.Steps.{AccessLaw, QuietLaw};
 
 /// The run without a step explains the first words and the record of `main`.
 pub fn opening_law()
-    ensures { OpeningLaw }
+    ensures { TableOpeningLaw }
 {}
 
 /// The record of `main` is possible as a table opens, and a possible record stays so by an access and by a step without one.
@@ -36,7 +36,7 @@ pub fn ticket_law()
 
 /// The end of a run is set in the clock, and the first one is kept.
 pub fn end_law()
-    ensures { EndLaw }
+    ensures { RunEndLaw }
 {}
 
 /// The clock is loaded.
@@ -74,7 +74,7 @@ pub fn calls_move()
     ensures { CallsMove }
 {}
 
-/// A run is ended by the start of a goroutine where there are as many as there may be.
+/// A run is ended by the start of a goroutine when there are as many as there may be.
 pub fn full_move()
     ensures { FullMove }
 {}

@@ -1,5 +1,5 @@
 //! What each access to memory does to what the table shows: loads and stores, new objects, pages, chains and the counts of
-//! regions; and what ends the run in place of one. What a law asks is told by the goroutine's own record.
+//! regions; and what ends the run in place of one. What a law asks can be read off the goroutine's own record.
 ghost use Rattle.rgo_core.specs.Accesses.{AtMove, GetMove, IndexMove, LenMove, LenNilStill, LoadMove, MeasureMove, PutMove, SetMove, StoreMove};
 ghost use Rattle.rgo_core.specs.BoundExamples.{BoundExamples};
 ghost use Rattle.rgo_core.specs.Chains.{ClearMove, FreeMove, HangMove, HeadMove, LinkMove, NextMove, SlotMove};
@@ -112,7 +112,7 @@ pub fn size_trap_move()
     ensures { SizeTrapMove }
 {}
 
-/// So does an object that no page holds.
+/// So does an object that takes more data pages than an object may have.
 pub fn large_move()
     ensures { LargeMove }
 {}
@@ -147,12 +147,12 @@ pub fn share_move()
     ensures { ShareMove }
 {}
 
-/// A stake ends. If it was the last, the region goes, and its chain is to be given back.
+/// A stake ends. If it was the last, the region is removed, and its chain is to be returned.
 pub fn leave_move()
     ensures { LeaveMove }
 {}
 
-/// The head of a chain that is given back is loaded.
+/// The head of a chain that is being returned is loaded.
 pub fn head_move()
     ensures { HeadMove }
 {}

@@ -1,4 +1,5 @@
-//! A table of a run: how it opens and how it closes.
+//! A table of a run: how it opens and how it closes. The driver calls both: it opens the table before there is a goroutine, and
+//! closes it when all records are back on its own seat.
 ghost use mathlib.Core.Logic.{◌↔◌};
 ghost use Rattle.std.specs.Prelude.{◌≡◌, ◌≤◌, ◌<◌, ◌^◌, ℕ, true, [], ◌∷◌, IfOk, length};
 ghost use Rattle.std.specs.Mem.Slots.{IsFull, slots_items, slots_len};
@@ -29,7 +30,7 @@ use std::alloc::{AllocError, Global};
 use std::marker::Brand;
 use std::snapshot::Snapshot;
 
-/// What a table is told once. It has the code in proofs alone.
+/// What is fixed when a table opens. It has the code in proofs alone.
 #[derive(Drop)]
 pub struct Plan {
     pub code: Snapshot<Checked>,
@@ -95,7 +96,8 @@ pub fn open(
     seats::open::<Record, Plan, ByRuns>(alloc, words.as_slice(), &plan)
 }
 
-/// Whether the run has ended, by a load of the clock. Its first bits are how many tickets for prints were drawn.
+/// Whether the run has ended, by a load of the clock: `true` stays true, `false` may be outdated at once. The lower bits of the
+/// clock count the tickets for prints that were drawn.
 pub fn look(table: &RunTable, seat: &mut RunSeat) -> bool
     requires own { (seat.old.table_id ≡ table.now.shared.table_id) × (0 < table.now.shared.table_id.words) }
     requires alone { IsAlone (first_of table.now.shared.key.code.value) seat.old.me }

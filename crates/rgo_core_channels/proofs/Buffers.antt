@@ -16,7 +16,7 @@ use Rattle.rgo_sound.specs.Machine.Machines.{operated}
 use Rattle.rgo_sound.specs.RegionMachine.Duties.{may_go}
 use Rattle.rgo_sound.specs.RegionMachine.States.{Holder, NoOffer, RegionState}
 use Rattle.rgo_sound.proofs.Places.{get_set_same, get_snoc, length_set as length_slice_set}
-use Rattle.rgo_sound.specs.Tac.Frames.{going}
+use Rattle.rgo_sound.specs.Tac.Frames.{frame_after_instr}
 use Rattle.rgo_core_channels.specs.Channels.{Chan, channel, On, Calm, phase_number, OfferOf}
 use Rattle.rgo_core_memory.specs.Words.{put}
 use Rattle.rgo_core_channels.specs.Channels.{Unlocked, LockedBy, lock_bit, Places, count, cell_of, Channels}
@@ -180,7 +180,7 @@ send_is T g c mine o n i x size v next hold code free sizing shut room behind = 
         (ap may_go (no_offer T g c mine next free)) on.1 refl (with_object (m T g c mine) o (channel (pushed v k))) value.Nil
         (length_slice_set T.state.plain.memory.heap o (channel (pushed v k)))
         (ap (option_map (operated T.state.plain g next.before.callers
-        (λ _. going next.before.frame next.before.to value.Nil) next.before.instr.place))
+        (λ _. frame_after_instr next.before.frame next.before.to value.Nil) next.before.instr.place))
         sends);
     at = _;
     channels = commit T g c mine o n held k on next free (pushed v k) value.Nil (n + 4) (T.at.head o) refl word cells
@@ -268,7 +268,7 @@ receive_is T g c mine o n i x size next hold free sizing filled some_size at_hea
         (ap may_go (no_offer T g c mine next free)) on.1 refl
         (with_object (m T g c mine) o (channel (popped k queue))) v
         (length_slice_set T.state.plain.memory.heap o (channel (popped k queue)))
-        (ap (option_map (operated T.state.plain g next.before.callers (going next.before.frame next.before.to) 0))
+        (ap (option_map (operated T.state.plain g next.before.callers (frame_after_instr next.before.frame next.before.to) 0))
         receives);
     at = _;
     channels = commit T g c mine o n held k on next free (popped k queue) v
@@ -361,7 +361,7 @@ zero_is T g c mine o n size next hold free sizing shut empty = (
         (ap may_go (no_offer T g c mine next free)) on.1 refl
         (with_object (m T g c mine) o (channel k)) (blank_of next.before)
         (length_slice_set T.state.plain.memory.heap o (channel k))
-        (ap (option_map (operated T.state.plain g next.before.callers (going next.before.frame next.before.to) 0))
+        (ap (option_map (operated T.state.plain g next.before.callers (frame_after_instr next.before.frame next.before.to) 0))
         receives);
     at = _;
     channels = commit T g c mine o n held k on next free k (blank_of next.before) n (T.at.head o) refl
@@ -407,7 +407,7 @@ close_is T g c mine o n next hold free shut = (
         (with_object (m T g c mine) o (channel (closed_now k))) value.Nil
         (length_slice_set T.state.plain.memory.heap o (channel (closed_now k)))
         (ap (λ (e : Effect). Some (operated T.state.plain g next.before.callers
-        (λ _. going next.before.frame next.before.to value.Nil) next.before.instr.place e))
+        (λ _. frame_after_instr next.before.frame next.before.to value.Nil) next.before.instr.place e))
         closes);
     at = _;
     channels = commit T g c mine o n held k on next free (closed_now k) value.Nil (n + 2) (T.at.head o) refl word

@@ -12,8 +12,8 @@ use Rattle.rgo_sound.specs.Machine.declared.picks.Pick.TheVariants.{Meet, One}
 use Rattle.rgo_sound.specs.RegionMachine.Machine.{Acknowledge, Attend, Event, Finish, Instruct, MakeOffer, TakePage, region_step}
 use Rattle.rgo_sound.specs.RegionMachine.Objects.{may_touch}
 use Rattle.rgo_sound.specs.RegionMachine.States.{Holder, NoOffer, RegionState}
-use Rattle.rgo_sound.proofs.Leaving.{offers_stay, others_stay}
-use Rattle.rgo_sound.proofs.Offers.{steps_keep_good}
+use Rattle.rgo_sound.proofs.steps.Leaving.{offers_stay, others_stay}
+use Rattle.rgo_sound.proofs.offers.Offers.{steps_keep_good}
 use Rattle.rgo_sound.proofs.Places.{get_append_left, get_some}
 use Rattle.rgo_sound.specs.Good.{AllGood}
 use Rattle.rgo_sound.specs.Leaving.{ActsAlone, LeavesOthers, TakesPart}

@@ -10,8 +10,8 @@ use Rattle.rgo_sound.specs.Machine.declared.picks.End.TheVariants as the_end
 use Rattle.rgo_sound.specs.Machine.declared.picks.Pick.TheVariants.{One}
 use Rattle.rgo_sound.specs.Machine.Actions.{at_channel}
 use Rattle.rgo_sound.specs.Machine.Machines.{stepped, alone, picked, unless_ended, with_frames, trapped}
-use Rattle.rgo_sound.specs.Tac.Frames.{Frame, going}
-use Rattle.rgo_sound.specs.Tac.Steps.{stand, stand_at, stand_before}
+use Rattle.rgo_sound.specs.Tac.Frames.{TacFrame, frame_after_instr}
+use Rattle.rgo_sound.specs.Tac.Steps.{tac_stand, stand_at_instr, stand_before_op}
 use Rattle.rgo_sound.specs.Tac.Tac.{TacState, tac}
 use Rattle.rgo_sound.specs.Code.Code.{Code, CodeOp, Do}
 use Rattle.rgo_sound.specs.Code.Erasure.{erased, erased_instr, erased_op}
@@ -24,7 +24,7 @@ use Rattle.rgo_sound.specs.RegionMachine.Machine.{Instruct, region_step, plain_s
 use Rattle.rgo_sound.specs.RegionMachine.Objects.{makes_object, making_region, new_object, touched, touched_by, may_touch, allotted}
 use Rattle.rgo_sound.specs.RegionMachine.Owed.{current, function_at}
 use Rattle.rgo_sound.specs.RegionMachine.States.{Holder, Mark, RegionState, frames_in, frames_of, top_names}
-use Rattle.rgo_sound.proofs.OneStep.{current_erased}
+use Rattle.rgo_sound.proofs.steps.OneStep.{current_erased}
 use Rattle.rgo_sound.proofs.Places.{get_set_same}
 use Rattle.rgo_core_memory.specs.Accesses.{Before}
 use Rattle.rgo_core_channels.specs.Standing.{Next, passed, passed_holder, blank_of}
@@ -36,17 +36,17 @@ use Rattle.rgo_core_channels.proofs.Lists.{none_past}
 -- where the frame stands
 pub stands_is : (code : Code) (s : RegionState) (g : ℕ) (action : Action) (operands : List Value)
     (n : Before code s g action operands)
-    → stand (erased code) n.frame ≡ at_channel action (blank_of n) n.instr.place (going n.frame n.to) operands
+    → tac_stand (erased code) n.frame ≡ at_channel action (blank_of n) n.instr.place (frame_after_instr n.frame n.to) operands
 stands_is code s g action operands n =
-    ap (stand_at (erased code) n.frame) (current_erased code n.frame ∙ ap (option_map erased_instr) n.cur)
-    ∙ ap (λ (op : CodeOp). stand_before (erased code) n.frame (erased_op op) n.instr.place) n.is
-    ∙ ap (at_channel action (blank_of n) n.instr.place (going n.frame n.to)) n.operands
+    ap (stand_at_instr (erased code) n.frame) (current_erased code n.frame ∙ ap (option_map erased_instr) n.cur)
+    ∙ ap (λ (op : CodeOp). stand_before_op (erased code) n.frame (erased_op op) n.instr.place) n.is
+    ∙ ap (at_channel action (blank_of n) n.instr.place (frame_after_instr n.frame n.to)) n.operands
 
 -- the step of the three-address machine
 pub plain_is : (code : Code) (s : RegionState) (g : ℕ) (action : Action) (operands : List Value)
     (n : Before code s g action operands) → s.plain.ended ≡ None
     → plain_step code s.plain (One g) ≡ stepped (tac (erased code)) s.plain g n.frame n.callers
-    (at_channel action (blank_of n) n.instr.place (going n.frame n.to) operands)
+    (at_channel action (blank_of n) n.instr.place (frame_after_instr n.frame n.to) operands)
 plain_is code s g action operands n running =
     ap (λ e. unless_ended e (picked (tac (erased code)) s.plain (One g))) running
     ∙ ap (option_and_then (alone (tac (erased code)) s.plain g)) n.at
@@ -66,10 +66,10 @@ module _ (code : Code) (page_words : ℕ) (s : RegionState) (g : ℕ) (action : 
   abbrev h : Holder
   h = n.holder
 
-  abbrev frame : Frame
+  abbrev frame : TacFrame
   frame = n.before.frame
 
-  abbrev callers : List Frame
+  abbrev callers : List TacFrame
   callers = n.before.callers
 
   abbrev op' : CodeOp
@@ -113,7 +113,7 @@ module _ (code : Code) (page_words : ℕ) (s : RegionState) (g : ℕ) (action : 
   -- it gives a value
   pub does : makes_object action ≡ false → (m : Memory) (v : Value) → length m.heap ≡ length s.plain.memory.heap
       → stepped (tac (erased code)) s.plain g frame callers
-      (at_channel action (blank_of n.before) n.before.instr.place (going frame n.before.to) operands)
+      (at_channel action (blank_of n.before) n.before.instr.place (frame_after_instr frame n.before.to) operands)
       ≡ Some (record (with_frames s.plain g (passed n v)) { memory = m })
       → region_step code page_words s (Instruct (One g)) ≡ Some (after n m v)
   does makes m v same steps =
@@ -149,7 +149,7 @@ module _ (code : Code) (page_words : ℕ) (s : RegionState) (g : ℕ) (action : 
   -- it traps
   pub traps : makes_object action ≡ false → (trap : Trap) (at : ℕ)
       → stepped (tac (erased code)) s.plain g frame callers
-      (at_channel action (blank_of n.before) n.before.instr.place (going frame n.before.to) operands)
+      (at_channel action (blank_of n.before) n.before.instr.place (frame_after_instr frame n.before.to) operands)
       ≡ Some (trapped s.plain trap at)
       → region_step code page_words s (Instruct (One g)) ≡ Some (after_trap s trap at)
   traps makes trap at steps = instructs makes next refl step ∙ ap Some is

@@ -9,20 +9,20 @@ use Rattle.rgo_sound.specs.WellFormed.TypeRules.{chan_of, slice_of}
 use Rattle.rgo_sound.specs.Memory.Memory.{Object, StructObject, SliceObject, Channel}
 use Rattle.rgo_sound.specs.Memory.declared.values.Value.{Value}
 use Rattle.rgo_sound.specs.Memory.declared.values.Value.TheVariants as value
-use Rattle.rgo_sound.specs.Tac.Frames.{Frame}
+use Rattle.rgo_sound.specs.Tac.Frames.{TacFrame}
 use Rattle.rgo_sound.specs.Code.Checked.{IsChecked}
 use Rattle.rgo_sound.specs.Code.Code.{Code, CodeFn, Do}
 use Rattle.rgo_sound.specs.Code.Erasure.{erased, erased_fn, erased_op}
-use Rattle.rgo_sound.specs.Code.Types.{OpFits, DoFits}
+use Rattle.rgo_sound.specs.Code.Types.{IsWellTypedOp, DoFits}
 use Rattle.rgo_sound.specs.RegionMachine.Objects.{may_touch, owner_live, touched, touched_by}
 use Rattle.rgo_sound.specs.RegionMachine.States.{Taken, RegionState, frames_in}
 use Rattle.rgo_sound.specs.RegionMachine.declared.regions.Region.{Region}
-use Rattle.rgo_sound.proofs.Bullets.{has_stake}
-use Rattle.rgo_sound.proofs.Offers.{touched_home}
-use Rattle.rgo_sound.proofs.TypedSteps.{types, vars_kinds}
+use Rattle.rgo_sound.proofs.names.Stakes.{has_stake}
+use Rattle.rgo_sound.proofs.offers.Offers.{touched_home}
+use Rattle.rgo_sound.proofs.types.Steps.{types, vars_kinds}
 use Rattle.rgo_sound.proofs.Progress.{live_of}
-use Rattle.rgo_sound.proofs.Types.{object_of, pointer_no_chan}
-use Rattle.rgo_sound.proofs.ValueSteps.{Top, top_of}
+use Rattle.rgo_sound.proofs.types.Actions.{object_of, pointer_no_chan}
+use Rattle.rgo_sound.proofs.pointers.Steps.{Top, top_of}
 use Rattle.rgo_sound.specs.Good.{AllGood}
 use Rattle.rgo_sound.specs.Invariant.{GoodHolder}
 use Rattle.rgo_sound.specs.NextNames.{HasStake}
@@ -74,7 +74,7 @@ module _ (code : Code) (checked : IsChecked code) (s : RegionState) (g : ℕ) (a
 
   module _ (action : Action) (kind : IsOfChannel action) (o : ℕ) (vs : List Value)
       (n : Next code s g action (value.Object o ∷ vs)) where
-    abbrev frame : Frame
+    abbrev frame : TacFrame
     frame = n.before.frame
 
     abbrev kinds : List «Type»
@@ -85,7 +85,7 @@ module _ (code : Code) (checked : IsChecked code) (s : RegionState) (g : ℕ) (a
 
     is_channel : (k : Chan) × IsChan s.plain.memory o k
     is_channel =
-        let op : OpFits (erased code) (erased_fn fits.0.0) (erased_op (Do n.before.to action n.before.from n.before.removes))
+        let op : IsWellTypedOp (erased code) (erased_fn fits.0.0) (erased_op (Do n.before.to action n.before.from n.before.removes))
         = types code checked frame fits.0.0 n.before.instr fits.0.1 n.before.cur
         (Do n.before.to action n.before.from n.before.removes) n.before.is in
         let t = first_type action kind fits.0.0 n.before.to op.0 op.2 in

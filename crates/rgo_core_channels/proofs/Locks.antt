@@ -16,7 +16,7 @@ use Rattle.rgo_sound.proofs.Tests.{and_split, eq_of}
 use Rattle.rgo_core_channels.specs.Channels.{Chan, channel, On, Phase, Calm, Offered, Accepted, phase_number, OfferOf}
 use Rattle.rgo_core_channels.specs.Channels.{Lock, Unlocked, LockedBy, lock_bit, Places, count, Channels}
 use Rattle.rgo_core_channels.specs.Controls.{bit, control, closed_of, count_of, head_of, extent, tail_words}
-use Rattle.rgo_core_channels.specs.Moments.{Moment, Looks, Keeps}
+use Rattle.rgo_core_channels.specs.Moments.{Moment, LoadsWord, Keeps}
 use Rattle.rgo_core_channels.specs.Locking.{IsCell, IsSpare, LockLaw, CellLoadLaw, CellStoreLaw}
 use Rattle.rgo_core_channels.specs.Looking.{CapacityLaw, ControlLaw, OwnControlLaw}
 use Rattle.rgo_core_channels.specs.Records.{Rec, Free, Locked, Wrote, Read, HoldsAt, InCell, KnowsOf, Reach, Reached, Sized, Saw, Shut, Stranded, Offering}
@@ -78,7 +78,7 @@ module _ (T : Moment) (g : ℕ) (c : Rec) (mine : slice_get T.recs g ≡ Some c)
         T.state T.at
     looks = rw (set_own T.words i) to
 
-  capacity_looks : (o : ℕ) (k : Chan) → On T.state o k → IsAt T.code T.place T.state g c.post (T.place o) → Looks T g (T.place o + 1) (with_size c (T.place o))
+  capacity_looks : (o : ℕ) (k : Chan) → On T.state o k → IsAt T.code T.place T.state g c.post (T.place o) → LoadsWord T g (T.place o + 1) (with_size c (T.place o))
       × (T.place o + 2 + tail_words T.page_words (slice_index T.words (T.place o + 1)) ≤ length T.words)
       × (slice_index T.words (T.place o + 1) < 1073741820)
   capacity_looks o k on near =
@@ -98,7 +98,7 @@ module _ (T : Moment) (g : ℕ) (c : Rec) (mine : slice_get T.recs g ≡ Some c)
         (let e = K.capacities o k on in let i = K.small o k on in rw e i),
       )
 
-  control_looks : (o : ℕ) (k : Chan) → On T.state o k → IsAt T.code T.place T.state g c.post (T.place o) → Looks T g (T.place o) (with_look c (T.place o))
+  control_looks : (o : ℕ) (k : Chan) → On T.state o k → IsAt T.code T.place T.state g c.post (T.place o) → LoadsWord T g (T.place o) (with_look c (T.place o))
       × (slice_index T.words (T.place o) + 4 < 2 ^ 64)
       × (head_of (slice_index T.words (T.place o)) < extent k.capacity)
   control_looks o k on near = (looks (with_look c (T.place o) w) (T.place o) (go (closed_of w == 1) refl), small, within k.capacity refl)
@@ -143,7 +143,7 @@ module _ (T : Moment) (g : ℕ) (c : Rec) (mine : slice_get T.recs g ≡ Some c)
 
   -- a goroutine looks at the channel at which its offer stands
   own_looks : (o : ℕ) (k : Chan) → On T.state o k → c.post ≡ Offering (T.place o)
-      → Looks T g (T.place o) (with_own_look c (T.place o)) × (slice_index T.words (T.place o) + 4 < 2 ^ 64)
+      → LoadsWord T g (T.place o) (with_own_look c (T.place o)) × (slice_index T.words (T.place o) + 4 < 2 ^ 64)
   own_looks o k on post = (
     looks (with_own_look c (T.place o) w) (T.place o)
         (go (closed_of w == 1 && count_of w == 1) refl),
@@ -297,7 +297,7 @@ module _ (T : Moment) (g : ℕ) (c : Rec) (mine : slice_get T.recs g ≡ Some c)
 
   pub number_looks : (a i size : ℕ) → c.size ≡ Sized a size → i < extent size
       → (o : ℕ) × (k : Chan) × On T.state o k × (T.place o ≡ a) × (k.capacity ≡ size) × (T.cell o i < length T.words)
-      × ((j : ℕ) → Looks T g j (λ w. with_reach c a i (T.cell o i)))
+      × ((j : ℕ) → LoadsWord T g j (λ w. with_reach c a i (T.cell o i)))
   number_looks a i size sizing within =
       let s = K.sizes g a size c mine sizing in
       let o = s.0 in let k = s.1 in let on = s.2 in
@@ -323,7 +323,7 @@ module _ (T : Moment) (g : ℕ) (c : Rec) (mine : slice_get T.recs g ≡ Some c)
       )
 
   load_looks : (a n i size p : ℕ) → c.hold ≡ Locked a n → c.size ≡ Sized a size → i < extent size
-      → IsCell T.page_words c a size i p → Looks T g p (λ w. with_hold c (Read a n i w))
+      → IsCell T.page_words c a size i p → LoadsWord T g p (λ w. with_hold c (Read a n i w))
   load_looks a n i size p hold sizing within found =
       let w = slice_index T.words p in
       let s = K.sizes g a size c mine sizing in
@@ -427,14 +427,14 @@ module _ (T : Moment) (g : ℕ) (c : Rec) (mine : slice_get T.recs g ≡ Some c)
 pub capacity_is : CapacityLaw
 capacity_is T g c mine a at =
     let t = channel_at T g c mine a at in
-    subst (λ b. IsAt T.code T.place T.state g c.post b → Looks T g (b + 1) (with_size c b)
+    subst (λ b. IsAt T.code T.place T.state g c.post b → LoadsWord T g (b + 1) (with_size c b)
     × (b + 2 + tail_words T.page_words (slice_index T.words (b + 1)) ≤ length T.words)
     × (slice_index T.words (b + 1) < 1073741820)) t.3 (capacity_looks T g c mine t.0 t.1 t.2) at
 
 pub control_is : ControlLaw
 control_is T g c mine a at =
     let t = channel_at T g c mine a at in
-    let x = subst (λ b. IsAt T.code T.place T.state g c.post b → Looks T g b (with_look c b)
+    let x = subst (λ b. IsAt T.code T.place T.state g c.post b → LoadsWord T g b (with_look c b)
     × (slice_index T.words b + 4 < 2 ^ 64)
     × (head_of (slice_index T.words b) < extent t.1.capacity)) t.3 (control_looks T g c mine t.0 t.1 t.2) at in (
       x.0,
@@ -450,7 +450,7 @@ control_is T g c mine a at =
 pub own_control_is : OwnControlLaw
 own_control_is T g c mine a post =
     let t = offered_at T g c mine a post in
-    subst (λ b. c.post ≡ Offering b → Looks T g b (with_own_look c b) × (slice_index T.words b + 4 < 2 ^ 64)) t.3
+    subst (λ b. c.post ≡ Offering b → LoadsWord T g b (with_own_look c b) × (slice_index T.words b + 4 < 2 ^ 64)) t.3
     (own_looks T g c mine t.0 t.1 t.2) post
 
 pub lock_is_taken : LockLaw

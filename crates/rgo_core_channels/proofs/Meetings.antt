@@ -21,7 +21,7 @@ use Rattle.rgo_core_channels.specs.Channels.{holder_offer, Unlocked, count}
 use Rattle.rgo_core_channels.specs.Controls.{bit, control, closed_of, count_of, head_of}
 use Rattle.rgo_core_channels.specs.Moments.{Gains, Moment}
 use Rattle.rgo_core_channels.specs.After.{after_meeting}
-use Rattle.rgo_core_channels.specs.Meetings.{OfferLaw, MeetLaw, AcknowledgeLaw}
+use Rattle.rgo_core_channels.specs.Meetings.{ChannelOfferLaw, ChannelMeetLaw, ChannelAcknowledgeLaw}
 use Rattle.rgo_core_channels.specs.Records.{Rec, Locked, HoldsAt, InCell}
 use Rattle.rgo_core_channels.specs.Records.{Post, Nowhere, Offering, at_rest, offering}
 use Rattle.rgo_core_channels.specs.Standing.{Next, passed, passed_holder}
@@ -84,7 +84,7 @@ module _ (T : Moment) where
   other_holder : (g : ℕ) (h : Holder) (j : ℕ) → j ≢ g → Same T.state (attended T.state g h) j
   other_holder g h j ne = (refl, set_else T.state.holders g j h ne)
 
-pub offer_is : OfferLaw
+pub offer_is : ChannelOfferLaw
 offer_is T g c mine o n x v next hold code free sizing shut idle = (
   meeting,
   nobody,
@@ -270,7 +270,7 @@ acknowledges_at T g c mine o n k on own post gone hold = (
         let p : phase_number (T.at.phase o) ≡ 2 = ap phase_number accepted in
         omega arith
 
-pub acknowledge_is : AcknowledgeLaw
+pub acknowledge_is : ChannelAcknowledgeLaw
 acknowledge_is T g c mine a n post hold gone = by (offered_at T g c mine a post)
   where
     by : (o : ℕ) × (k : Chan) × On T.state o k × (T.place o ≡ a) × OfferOf (T.at.phase o) g
@@ -288,7 +288,7 @@ acknowledge_is T g c mine a n post hold gone = by (offered_at T g c mine a post)
               (attended T.state g (record t.0 { offer = NoOffer }))) is t.3,
         )
 
-pub meet_is : MeetLaw
+pub meet_is : ChannelMeetLaw
 meet_is T g c mine o n x next hold free sizing shut up = (
   t,
   v,

@@ -10,8 +10,8 @@ use Rattle.rgo_sound.specs.Memory.declared.values.Value.{Value}
 use Rattle.rgo_sound.specs.Memory.declared.values.Value.TheVariants as value
 use Rattle.rgo_sound.specs.Machine.declared.picks.Pick.TheVariants.{Meet}
 use Rattle.rgo_sound.specs.Machine.Machines.{AtReceive, picked, meet, met, met_by, unless_ended, with_frames}
-use Rattle.rgo_sound.specs.Tac.Frames.{Frame, going}
-use Rattle.rgo_sound.specs.Tac.Steps.{stand}
+use Rattle.rgo_sound.specs.Tac.Frames.{TacFrame, frame_after_instr}
+use Rattle.rgo_sound.specs.Tac.Steps.{tac_stand}
 use Rattle.rgo_sound.specs.Tac.Tac.{TacState, tac}
 use Rattle.rgo_sound.specs.Code.Code.{Code}
 use Rattle.rgo_sound.specs.Code.Erasure.{erased}
@@ -73,7 +73,7 @@ module _ (code : Code) (page_words : ℕ) (s : RegionState) (o : ℕ) (running :
       ∙ ap (λ b. if b then Some (attended s g (record h { offer = NoOffer })) else None) live
 
   -- what one side owes afterwards
-  side_is : (g : ℕ) (action : Action) (operands : List Value) (n : Next code s g action operands) (after : List Frame)
+  side_is : (g : ℕ) (action : Action) (operands : List Value) (n : Next code s g action operands) (after : List TacFrame)
       → side_after code n.holder (frames_of s.plain g) after
       ≡ record n.holder { duties = map Remove n.before.removes ++ next_duties code after }
   side_is g action operands n after =
@@ -105,10 +105,10 @@ module _ (code : Code) (page_words : ℕ) (s : RegionState) (o : ℕ) (running :
           ∙ ap (option_and_then (λ f. option_and_then (met_by (tac (erased code)) s.plain r t f)
           (slice_get s.plain.goroutines t))) n.before.at
           ∙ ap (option_and_then (met_by (tac (erased code)) s.plain r t (n.before.frame ∷ n.before.callers))) k.before.at
-          ∙ ap (λ q. met s.plain r t n.before.callers k.before.callers q (stand (erased code) k.before.frame))
+          ∙ ap (λ q. met s.plain r t n.before.callers k.before.callers q (tac_stand (erased code) k.before.frame))
           (stands_is code s r Recv (value.Object o ∷ []) n.before)
           ∙ ap (met s.plain r t n.before.callers k.before.callers
-          (AtReceive (value.Object o) (blank_of n.before) (going n.before.frame n.before.to)))
+          (AtReceive (value.Object o) (blank_of n.before) (frame_after_instr n.before.frame n.before.to)))
           (stands_is code s t Send (value.Object o ∷ v ∷ []) k.before)
           ∙ ap (λ b. if b then Some next else None) meets'
 

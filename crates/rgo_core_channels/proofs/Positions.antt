@@ -5,7 +5,7 @@ use Rattle.std.proofs.Math.Nat.{div-mul-le_self}
 use Rattle.std.proofs.lemmas.Nat.{le-div}
 use mathlib.Core.Logic.{dite}
 use native.Mathlib.Decide.{ℕ_discrete}
-use Rattle.rgo_sound.specs.RegionMachine.Objects.{data_pages, may_touch, owner_live, words as words_of}
+use Rattle.rgo_sound.specs.RegionMachine.Objects.{data_pages, may_touch, owner_live, object_words as words_of}
 use Rattle.rgo_sound.specs.RegionMachine.Regions.{is_live}
 use Rattle.rgo_sound.specs.RegionMachine.States.{RegionState}
 use Rattle.rgo_sound.specs.RegionMachine.declared.regions.Region.{Region}
@@ -14,18 +14,18 @@ use Rattle.rgo_core_memory.specs.declared.layout.TableSizes.{TableSizes}
 use Rattle.rgo_core_memory.specs.Encoding.{Spot, address}
 use Rattle.rgo_core_memory.specs.Facts.{StandsIn}
 use Rattle.rgo_core_memory.specs.Ground.{ground_of}
-use Rattle.rgo_core_memory.specs.Image.{Memory, Where, word_at}
+use Rattle.rgo_core_memory.specs.Image.{StateImage, Where, word_at}
 use Rattle.rgo_core_memory.specs.Records.{Rec as MemoryRec}
 use Rattle.rgo_core_memory.specs.Spread.{table_words, words_before}
 use Rattle.rgo_core_memory.specs.Words.{base, cell_at}
-use Rattle.rgo_core_memory.proofs.Addresses.{word_inside, words_apart}
-use Rattle.rgo_core_memory.proofs.Facts.{follow, spread_follow}
-use Rattle.rgo_core_memory.proofs.Spreads.{in_table, number_spot, spread_data}
+use Rattle.rgo_core_memory.proofs.objects.Addresses.{word_inside, words_apart}
+use Rattle.rgo_core_memory.proofs.image.Facts.{follow, spread_follow}
+use Rattle.rgo_core_memory.proofs.objects.Spreads.{in_table, number_spot, spread_data}
 use Rattle.rgo_core_memory.proofs.Writes.{in_pages}
 use Rattle.rgo_core_channels.specs.Channels.{Chan, On, channel, word_of}
 use Rattle.rgo_core_channels.specs.Controls.{extent, tail_words, spreads}
 use Rattle.rgo_core_channels.specs.Positions.{LayoutLaw, PageNumberLaw, cell_place, place_at}
-use Rattle.rgo_core_channels.specs.Moments.{Looks}
+use Rattle.rgo_core_channels.specs.Moments.{LoadsWord}
 use Rattle.rgo_core_channels.specs.Records.{with_reach}
 use Rattle.rgo_core_channels.proofs.Locks.{number_looks}
 
@@ -56,7 +56,7 @@ page_low m i n some l =
     omega (arith, b)
 
 module _ (z : TableSizes) (words : List ℕ) (recs : List MemoryRec) (s : RegionState) (places : Where)
-    (M : Memory z words recs s places) where
+    (M : StateImage z words recs s places) where
   module _ (o : ℕ) (k : Chan) (on : On s o k) where
     abbrev pub region : Region
     region = (channel_stands s o k on).0
@@ -181,14 +181,14 @@ layout_is z words recs s places M = record {
 
 pub page_number_is : PageNumberLaw
 page_number_is T g c mine z recs places a i size laid sizing sp within = (
-  subst (λ p. Looks T g (a + 2 + i / z.page_words) (λ w. with_reach c a i p)) cell_is (t.6 (a + 2 + i / z.page_words)),
+  subst (λ p. LoadsWord T g (a + 2 + i / z.page_words) (λ w. with_reach c a i p)) cell_is (t.6 (a + 2 + i / z.page_words)),
   subst (λ p. p < length T.words) here n.3,
   let e = found in omega (arith, e),
   subst (λ p. p < length T.words) cell_is t.5,
 )
   where
     t : (o : ℕ) × (k : Chan) × On T.state o k × (T.place o ≡ a) × (k.capacity ≡ size) × (T.cell o i < length T.words)
-        × ((j : ℕ) → Looks T g j (λ w. with_reach c a i (T.cell o i)))
+        × ((j : ℕ) → LoadsWord T g j (λ w. with_reach c a i (T.cell o i)))
     t = number_looks T g c mine a i size sizing within
 
     inside : i < extent t.1.capacity

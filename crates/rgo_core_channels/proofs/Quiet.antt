@@ -7,7 +7,7 @@ use Rattle.rgo_sound.specs.Memory.declared.values.Value.{Value}
 use Rattle.rgo_sound.specs.Memory.declared.values.Value.TheVariants as value
 use Rattle.rgo_sound.specs.Machine.declared.picks.End.{End}
 use Rattle.rgo_sound.specs.Code.Code.{Code}
-use Rattle.rgo_sound.specs.RegionMachine.Machine.{kept}
+use Rattle.rgo_sound.specs.RegionMachine.Machine.{kept_mark}
 use Rattle.rgo_sound.specs.RegionMachine.States.{Mark, RegionState}
 use Rattle.rgo_core_channels.specs.Channels.{Chan, Channels, On, Places, cell_of, word_of}
 use Rattle.rgo_core_channels.specs.Controls.{extent}
@@ -115,7 +115,7 @@ module _ (code : Code) (page_words : ℕ) (encode : Value → ℕ) (place : ℕ 
 
 pub finish_keeps : FinishKeeps
 finish_keeps code page_words encode place cell words recs s at limit K =
-    marked_keeps code page_words encode place cell words recs s at K s.plain.ended (kept s.mark limit) s.steps
+    marked_keeps code page_words encode place cell words recs s at K s.plain.ended (kept_mark s.mark limit) s.steps
 
 pub word_keeps : WordKeeps
 word_keeps code page_words encode place cell words recs s at i x far K = word_kept code page_words encode place cell words recs s at K i x far

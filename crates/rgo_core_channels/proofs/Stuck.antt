@@ -13,8 +13,8 @@ use Rattle.rgo_sound.specs.Machine.declared.picks.Pick.{Pick}
 use Rattle.rgo_sound.specs.Machine.declared.picks.Pick.TheVariants.{One, Meet}
 use Rattle.rgo_sound.specs.Machine.Machines.{AtReceive, AtSend, AtClose, AtCall, AtStart, Elsewhere, Stand, alone, meet, met, met_by, operated, picked, unless_ended}
 use Rattle.rgo_sound.specs.Machine.Machines.{with_frames}
-use Rattle.rgo_sound.specs.Tac.Frames.{Frame, going}
-use Rattle.rgo_sound.specs.Tac.Steps.{stand}
+use Rattle.rgo_sound.specs.Tac.Frames.{TacFrame, frame_after_instr}
+use Rattle.rgo_sound.specs.Tac.Steps.{tac_stand}
 use Rattle.rgo_sound.specs.Tac.Tac.{tac}
 use Rattle.rgo_sound.specs.Code.Code.{Code}
 use Rattle.rgo_sound.specs.Code.Erasure.{erased}
@@ -184,7 +184,7 @@ module _ (code : Code) (page_words : ℕ) (encode : Value → ℕ) (place : ℕ 
         go (Offered j) e = let z : phase_number (at.phase o) ≡ 1 = ap phase_number e in omega arith
         go (Accepted j) e = absurd (not_taken o j k on e)
 
-    known : (g : ℕ) (frames : List Frame) → slice_get s.plain.goroutines g ≡ Some frames → Known g
+    known : (g : ℕ) (frames : List TacFrame) → slice_get s.plain.goroutines g ≡ Some frames → Known g
     known g frames e =
         let c = get_some recs g (let a = slice_get_within s.plain.goroutines g frames e in let b = many in omega arith) in
         by c.0 c.1 (each g c.0 c.1)
@@ -237,7 +237,7 @@ module _ (code : Code) (page_words : ℕ) (encode : Value → ℕ) (place : ℕ 
       one_none : (g : ℕ) → plain_step code s.plain (One g) ≡ None
       one_none g = by (slice_get s.plain.goroutines g) refl
         where
-          by : (o : Option (List Frame)) → slice_get s.plain.goroutines g ≡ o → plain_step code s.plain (One g) ≡ None
+          by : (o : Option (List TacFrame)) → slice_get s.plain.goroutines g ≡ o → plain_step code s.plain (One g) ≡ None
           by None e = ap (λ x. unless_ended x (picked (tac (erased code)) s.plain (One g))) running
               ∙ ap (option_and_then (alone (tac (erased code)) s.plain g)) e
           by (Some frames) e = go (known g frames e)
@@ -246,20 +246,20 @@ module _ (code : Code) (page_words : ℕ) (encode : Value → ℕ) (place : ℕ 
               go (Ended q) = ap (λ x. unless_ended x (picked (tac (erased code)) s.plain (One g))) running
                   ∙ ap (option_and_then (alone (tac (erased code)) s.plain g)) q
               go (Sending d v st f) = plain_is code s g Send (d ∷ v ∷ []) st running
-                  ∙ ap (option_map (operated s.plain g st.callers (λ _. going st.frame st.to value.Nil) st.instr.place))
+                  ∙ ap (option_map (operated s.plain g st.callers (λ _. frame_after_instr st.frame st.to value.Nil) st.instr.place))
                   (send_none d v f)
               go (Receiving d st f) = plain_is code s g Recv (d ∷ []) st running
-                  ∙ ap (option_map (operated s.plain g st.callers (going st.frame st.to) 0))
+                  ∙ ap (option_map (operated s.plain g st.callers (frame_after_instr st.frame st.to) 0))
                   (receive_none d (blank_of st) f)
 
       meet_none : (r t : ℕ) → plain_step code s.plain (Meet r t) ≡ None
       meet_none r t = ap (λ x. unless_ended x (picked (tac (erased code)) s.plain (Meet r t))) running ∙ apart (r == t)
         where
-          both : (f g : List Frame) → slice_get s.plain.goroutines r ≡ Some f → slice_get s.plain.goroutines t ≡ Some g
+          both : (f g : List TacFrame) → slice_get s.plain.goroutines r ≡ Some f → slice_get s.plain.goroutines t ≡ Some g
               → met_by (tac (erased code)) s.plain r t f g ≡ None
           both f g e e' = by (known r f e) (known t g e')
             where
-              sender_there : (a b : Value) (c : ℕ) (d : Frame) (rs ss : List Frame) (q : Stand Frame)
+              sender_there : (a b : Value) (c : ℕ) (d : TacFrame) (rs ss : List TacFrame) (q : Stand TacFrame)
                   → met s.plain r t rs ss (AtSend a b c d) q ≡ None
               sender_there a b c d rs ss (AtReceive x y z) = refl
               sender_there a b c d rs ss (AtSend x y z w) = refl
@@ -269,24 +269,24 @@ module _ (code : Code) (page_words : ℕ) (encode : Value → ℕ) (place : ℕ 
               sender_there a b c d rs ss Elsewhere = refl
 
               -- a sender receives nothing
-              sender_first : (d v : Value) (st : Before code s r Send (d ∷ v ∷ [])) (g : List Frame)
+              sender_first : (d v : Value) (st : Before code s r Send (d ∷ v ∷ [])) (g : List TacFrame)
                   → met_by (tac (erased code)) s.plain r t (st.frame ∷ st.callers) g ≡ None
               sender_first d v st [] = refl
               sender_first d v st (h ∷ ss) =
-                  ap (λ q. met s.plain r t st.callers ss q (stand (erased code) h))
+                  ap (λ q. met s.plain r t st.callers ss q (tac_stand (erased code) h))
                   (stands_is code s r Send (d ∷ v ∷ []) st)
-                  ∙ sender_there d v st.instr.place (going st.frame st.to value.Nil) st.callers ss
-                  (stand (erased code) h)
+                  ∙ sender_there d v st.instr.place (frame_after_instr st.frame st.to value.Nil) st.callers ss
+                  (tac_stand (erased code) h)
 
               -- a receiver that stands before another goroutine
-              receiver_first : (d : Value) (st : Before code s r Recv (d ∷ [])) (h : Frame) (ss : List Frame)
-                  (q : Stand Frame) → stand (erased code) h ≡ q
+              receiver_first : (d : Value) (st : Before code s r Recv (d ∷ [])) (h : TacFrame) (ss : List TacFrame)
+                  (q : Stand TacFrame) → tac_stand (erased code) h ≡ q
                   → met_by (tac (erased code)) s.plain r t (st.frame ∷ st.callers) (h ∷ ss)
-                  ≡ met s.plain r t st.callers ss (AtReceive d (blank_of st) (going st.frame st.to)) q
+                  ≡ met s.plain r t st.callers ss (AtReceive d (blank_of st) (frame_after_instr st.frame st.to)) q
               receiver_first d st h ss q e =
-                  ap (λ x. met s.plain r t st.callers ss x (stand (erased code) h))
+                  ap (λ x. met s.plain r t st.callers ss x (tac_stand (erased code) h))
                   (stands_is code s r Recv (d ∷ []) st)
-                  ∙ ap (met s.plain r t st.callers ss (AtReceive d (blank_of st) (going st.frame st.to))) e
+                  ∙ ap (met s.plain r t st.callers ss (AtReceive d (blank_of st) (frame_after_instr st.frame st.to))) e
 
               by : Known r → Known t → met_by (tac (erased code)) s.plain r t f g ≡ None
               by (Ended q) y = ap (λ x. met_by (tac (erased code)) s.plain r t x g) (same_Some f [] (sym e ∙ q))
@@ -301,25 +301,25 @@ module _ (code : Code) (page_words : ℕ) (encode : Value → ℕ) (place : ℕ 
                   ∙ ap (met_by (tac (erased code)) s.plain r t (st.frame ∷ st.callers))
                   (same_Some g (st'.frame ∷ st'.callers) (sym e' ∙ st'.at))
                   ∙ receiver_first d st st'.frame st'.callers
-                  (AtReceive d' (blank_of st') (going st'.frame st'.to))
+                  (AtReceive d' (blank_of st') (frame_after_instr st'.frame st'.to))
                   (stands_is code s t Recv (d' ∷ []) st')
               by (Receiving d st x) (Sending d' v st' x') =
                   ap (λ x. met_by (tac (erased code)) s.plain r t x g) (same_Some f (st.frame ∷ st.callers) (sym e ∙ st.at))
                   ∙ ap (met_by (tac (erased code)) s.plain r t (st.frame ∷ st.callers))
                   (same_Some g (st'.frame ∷ st'.callers) (sym e' ∙ st'.at))
                   ∙ receiver_first d st st'.frame st'.callers
-                  (AtSend d' v st'.instr.place (going st'.frame st'.to value.Nil))
+                  (AtSend d' v st'.instr.place (frame_after_instr st'.frame st'.to value.Nil))
                   (stands_is code s t Send (d' ∷ v ∷ []) st')
-                  ∙ ap (λ b. if b then Some (with_frames (with_frames s.plain r (going st.frame st.to v ∷ st.callers)) t
-                  (going st'.frame st'.to value.Nil ∷ st'.callers)) else None) (meets_none d d' x x')
+                  ∙ ap (λ b. if b then Some (with_frames (with_frames s.plain r (frame_after_instr st.frame st.to v ∷ st.callers)) t
+                  (frame_after_instr st'.frame st'.to value.Nil ∷ st'.callers)) else None) (meets_none d d' x x')
 
-          senders : (f : List Frame) → slice_get s.plain.goroutines r ≡ Some f → (o : Option (List Frame))
+          senders : (f : List TacFrame) → slice_get s.plain.goroutines r ≡ Some f → (o : Option (List TacFrame))
               → slice_get s.plain.goroutines t ≡ o
               → option_and_then (met_by (tac (erased code)) s.plain r t f) o ≡ None
           senders f e None q = refl
           senders f e (Some g) q = both f g e q
 
-          receivers : (o : Option (List Frame)) → slice_get s.plain.goroutines r ≡ o
+          receivers : (o : Option (List TacFrame)) → slice_get s.plain.goroutines r ≡ o
               → option_and_then (λ f. option_and_then (met_by (tac (erased code)) s.plain r t f)
               (slice_get s.plain.goroutines t)) o ≡ None
           receivers None e = refl

@@ -16,7 +16,7 @@ use Rattle.rgo_sound.specs.RegionMachine.Instructions.{marked}
 use Rattle.rgo_core_channels.proofs.Quiet.{marked_keeps}
 use Rattle.rgo_sound.specs.RegionMachine.Machine.{Instruct, region_step}
 use Rattle.rgo_sound.specs.RegionMachine.States.{Holder}
-use Rattle.rgo_sound.specs.Tac.Frames.{going}
+use Rattle.rgo_sound.specs.Tac.Frames.{frame_after_instr}
 use Rattle.rgo_core_channels.specs.Channels.{Chan, On, Offered, OfferOf, holder_offer, Channels}
 use Rattle.rgo_core_channels.specs.Moments.{Moment}
 use Rattle.rgo_core_channels.specs.After.{after_trap}
@@ -64,7 +64,7 @@ module _ (T : Moment) (g : ℕ) (c : Rec) (mine : slice_get T.recs g ≡ Some c)
         traps T.code T.page_words T.state g Send (value.Object o ∷ v ∷ []) n T.running free on.1 refl SendClosed
             n.before.instr.place
             (ap (option_map (operated T.state.plain g n.before.callers
-            (λ _. going n.before.frame n.before.to value.Nil) n.before.instr.place))
+            (λ _. frame_after_instr n.before.frame n.before.to value.Nil) n.before.instr.place))
             (send_traps T.state.plain.memory o k on.0 v shut)),
         trap_kept T SendClosed n.before.instr.place,
       )
@@ -95,7 +95,7 @@ close_trap_is T g c mine o next free saw =
       traps T.code T.page_words T.state g Close (value.Object o ∷ []) n T.running
           (ap may_go (no_offer T g c mine n free)) on.1 refl CloseClosed n.before.instr.place
           (ap (λ (e : Effect). Some (operated T.state.plain g n.before.callers
-          (λ _. going n.before.frame n.before.to value.Nil) n.before.instr.place e))
+          (λ _. frame_after_instr n.before.frame n.before.to value.Nil) n.before.instr.place e))
           (close_traps T.state.plain.memory o k on.0 (closed_is T g c mine o k on saw))),
       trap_kept T CloseClosed n.before.instr.place,
     )

@@ -38,7 +38,7 @@ ReceiveLaw = Law (λ T g c. (o n i x size : ℕ) (next : Next T.code T.state g R
     × Gains T g (T.place o) (control (closed_of n) (count_of n - 1) ((head_of n + 1) % size)) at_rest
     (Instruct (One g)) (after next (with_object T.state.plain.memory o (channel (popped k queue))) v))
 
--- a receive from a closed channel in which nothing is left: it gives the zero of the type
+-- a receive from a closed channel in which nothing is left: its value is the zero of the type
 abbrev pub ZeroLaw : Type 0
 ZeroLaw = Law (λ T g c. (o n size : ℕ) (next : Next T.code T.state g Recv (value.Object o ∷ []))
     → c.hold ≡ Locked (T.place o) n → c.post ≡ Nowhere → c.size ≡ Sized (T.place o) size → closed_of n ≡ 1

@@ -1,4 +1,4 @@
--- The channels of a table: which state of the region machine its words, and what records have of channels, stand for.
+-- The channels of a table: which state of the region machine its words, and what records have of channels, represent.
 use Rattle.std.specs.Prelude.{◌≡◌, ℕ, zero, suc, ◌+◌, ◌%◌, ◌<◌, ◌≤◌, Bool, false, true, List, [], ◌∷◌, length}
 use Rattle.std.specs.Prelude.{Some, slice_get, slice_index}
 use Rattle.rgo_sound.specs.Typed.declared.actions.Action.TheVariants.{Send}
@@ -79,7 +79,7 @@ word_of place cell o zero = place o
 word_of place cell o (suc zero) = place o + 1
 word_of place cell o (suc (suc i)) = cell o i
 
--- `place` is the first word of each object, and `cell` the word of each cell of a channel; `encode` is how values stand in words
+-- `place` is the first word of each object, and `cell` the word of each cell of a channel; `encode` is the word of each value
 module _ (code : Code) (page_words : ℕ) (encode : Value → ℕ) (place : ℕ → ℕ) (cell : ℕ → ℕ → ℕ) where
   pub record Channels (words : List ℕ) (recs : List Rec) (s : RegionState) (at : Places) : Type 0 where
     -- what words hold
@@ -120,7 +120,7 @@ module _ (code : Code) (page_words : ℕ) (encode : Value → ℕ) (place : ℕ 
         → (o : ℕ) × (k : Chan) × On s o k × (place o ≡ a) × (k.closed ≡ true) × (at.phase o ≡ Offered g)
     -- a record that knows of a channel is at that channel
     pub knows : (g a : ℕ) (c : Rec) → slice_get recs g ≡ Some c → KnowsOf c a → IsAt code place s g c.post a
-    -- an offer is that of one goroutine, whose record stands at the channel; at its send, where it was not taken
+    -- an offer is that of one goroutine, whose record is at the channel; at its send, if it was not taken
     pub as_many : length recs ≡ length s.holders
     pub calm : (g : ℕ) (c : Rec) (h : Holder) → slice_get recs g ≡ Some c → slice_get s.holders g ≡ Some h
         → c.post ≡ Nowhere → h.offer ≡ NoOffer

@@ -1,4 +1,4 @@
--- Goroutines none of which can go on, as their records and the words say.
+-- Goroutines none of which can continue, as their records and the words say.
 use Rattle.std.specs.Prelude.{◌≡◌, ◌≢◌, ℕ, ◌+◌, ◌%◌, ◌<◌, [], ◌∷◌, Some, slice_get, slice_index}
 use Rattle.rgo_sound.specs.Typed.declared.actions.Action.TheVariants.{Recv, Send}
 use Rattle.rgo_sound.specs.Memory.declared.values.Value.{Value}
@@ -20,7 +20,8 @@ abbrev pub capacity_at : Moment → ℕ → ℕ
 capacity_at T o = slice_index T.words (T.place o + 1)
 
 -- Why goroutine g, whose record is c, does nothing: it has returned; its operation is on nil; the channel is full, or has an
--- offer already; it is empty, or has no offer that stands; the goroutine's own offer is not taken; or the control is locked.
+-- offer already; it is empty, or has no offer that could be taken; the goroutine's own offer is not taken; or the control is
+-- locked.
 pub data Blocked (T : Moment) (g : ℕ) (c : Rec) : Type 0 where
   Returned : c.post ≡ Nowhere → slice_get T.state.plain.goroutines g ≡ Some [] → Blocked T g c
   SendsOnNil : (v : Value) → c.post ≡ Nowhere → Before T.code T.state g Send (value.Nil ∷ v ∷ []) → Blocked T g c

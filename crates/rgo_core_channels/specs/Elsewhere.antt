@@ -16,7 +16,7 @@ use Rattle.rgo_core_channels.specs.Records.{Rec, at_rest}
 use Rattle.rgo_core_channels.specs.Standing.{Next}
 
 -- Other words, another state, another layout and encoding. Channels lie where they lay, with the words that they had; values in
--- them are encoded as they were; regions may have gone, and so many goroutines have started.
+-- them are encoded as they were; regions may have been removed, and this many goroutines have started.
 pub record Leaves (T : Moment) (words : List ℕ) (s : RegionState) (encode : Value → ℕ) (place : ℕ → ℕ)
     (cell : ℕ → ℕ → ℕ) (at : Places) (IsNew : ℕ → Chan → Type 0) (children : ℕ) : Type 0 where
   pub long : length words ≡ length T.words
@@ -53,7 +53,7 @@ abbrev pub IsMade : Option (ℕ × ℕ) → ℕ → Chan → Type 0
 IsMade None o k = ⊥
 IsMade (Some made) o k = (o ≡ made.0) × (k ≡ record { capacity = made.1; queue = []; closed = false })
 
--- A step of one goroutine that concerns no offer, and whose record knows nothing of channels. That the others go on as they
+-- A step of one goroutine that concerns no offer, and whose record knows nothing of channels. That the others continue as they
 -- were, and that the channels of which they know are not gone, is region safety's.
 abbrev pub EventLaw : Type 0
 EventLaw = (T : Moment) (g : ℕ) (event : Event) (words : List ℕ) (s : RegionState) (encode : Value → ℕ) (place : ℕ → ℕ)

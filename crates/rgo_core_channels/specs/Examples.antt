@@ -1,11 +1,11 @@
--- Controls, records and channels that are so, and such as are not.
+-- Controls, records and channels that meet the definitions, and some that do not.
 use Rattle.std.specs.Prelude.{◌≡◌, ◌+◌, ℕ, true, false, List, [], ◌∷◌, pos, nat_lt, slice_index, if◌then◌else◌}
 use Rattle.rgo_sound.specs.Memory.declared.values.Value.{Value}
 use Rattle.rgo_sound.specs.Memory.declared.values.Value.TheVariants as value
 use Rattle.rgo_sound.specs.Code.Code.{Code}
 use Rattle.rgo_sound.specs.RegionMachine.Machine.{region_start}
 use Rattle.rgo_core_memory.specs.declared.layout.TableSizes.{TableSizes}
-use Rattle.rgo_core_memory.specs.Image.{Memory, Where}
+use Rattle.rgo_core_memory.specs.Image.{StateImage, Where}
 use Rattle.rgo_core_memory.specs.Opening.{nowhere}
 use Rattle.rgo_core_memory.specs.Records.{Rec as MemoryRec}
 use Rattle.rgo_core_memory.specs.Spread.{lead_spot, spread_spot}
@@ -14,7 +14,7 @@ use Rattle.rgo_core_channels.specs.Channels.{Accepted, Calm, Chan, Channels, On,
 use Rattle.rgo_core_channels.specs.Controls.{bit, closed_of, control, count_of, extent, tail_words, head_of, spreads}
 use Rattle.rgo_core_channels.specs.Locking.{IsCell, IsSpare}
 use Rattle.rgo_core_channels.specs.Moments.{Moment}
-use Rattle.rgo_core_channels.specs.Positions.{Agrees, Layout, cell_place, place_at}
+use Rattle.rgo_core_channels.specs.Positions.{PositionsAgree, Layout, cell_place, place_at}
 use Rattle.rgo_core_channels.specs.Records.{Free, HoldsAt, InCell, KnowsOf, Locked, Read, Wrote, at_rest, offering, with_hold, with_lock, with_look, with_own_look, with_reach, with_size}
 use Rattle.rgo_core_channels.specs.Records.{Rec, Shut, Stranded}
 use Rattle.rgo_core_channels.specs.Standing.{IsOfChannel}
@@ -93,7 +93,7 @@ pub record ChannelExamples : Type 0 where
   pub fifth_cell : word_of (λ o. 10) long_cell 0 6 ≡ 4
   pub locked : lock_bit (LockedBy 4) ≡ 1
   pub unlocked : lock_bit Unlocked ≡ 0
-  -- a channel without a buffer: its control when an offer stands, and when it was taken
+  -- a channel without a buffer: its control with an offer, and when that was taken
   pub stands : control (bit false) (phase_number (Offered 4)) 0 ≡ 4
   pub taken : control (bit false) (phase_number (Accepted 4)) 0 ≡ 8
   pub none : control (bit false) (phase_number Calm) 0 ≡ 0
@@ -157,7 +157,7 @@ pub record ChannelExamples : Type 0 where
   pub other_row : (code : Code) (encode : Value → ℕ) (place : ℕ → ℕ) (cell : ℕ → ℕ → ℕ)
       (words : List ℕ) (recs : List Rec) (s : RegionState) (at : Places) → On s 0 ring → cell 0 1 ≡ place 0 + 4
       → Channels code 256 encode place cell words recs s at → ⊥
-  -- a record cannot have found a cell behind the last
+  -- a record cannot have found a cell after the last
   pub other_cell : (code : Code) (page_words : ℕ) (encode : Value → ℕ) (place : ℕ → ℕ) (cell : ℕ → ℕ → ℕ)
       (words : List ℕ) (s : RegionState) (at : Places) → ((o : ℕ) (k : Chan) → On s o k → k ≡ long)
       → Channels code page_words encode place cell words (with_reach at_rest 100 5 12 ∷ []) s at → ⊥
@@ -166,13 +166,13 @@ pub record ChannelExamples : Type 0 where
   pub first_cell : cell_place three_pages long_places 0 0 ≡ 106 + 8
   pub fifth_place : cell_place three_pages long_places 0 4 ≡ 106 + 4
   pub not_in_row : cell_place three_pages long_places 0 0 ≡ 106 + 2 → ⊥
-  -- where there is no channel, any positions do; a channel has no cell in a table without words
+  -- without a channel any positions will do; a channel has no cell in a table without words
   pub no_words : (code : Code) (z : TableSizes) (words : List ℕ) (places : Where) → Layout z words (region_start code) places
   pub no_table : (z : TableSizes) (s : RegionState) (places : Where) → On s 0 ring → Layout z [] s places → ⊥
-  pub agrees : (T : Moment) (z : TableSizes) (recs : List MemoryRec) (places : Where) → Memory z T.words recs T.state places
-      → ((o : ℕ) (k : Chan) → On T.state o k → ⊥) → Agrees T z recs places
+  pub agrees : (T : Moment) (z : TableSizes) (recs : List MemoryRec) (places : Where) → StateImage z T.words recs T.state places
+      → ((o : ℕ) (k : Chan) → On T.state o k → ⊥) → PositionsAgree T z recs places
   pub one_off : (T : Moment) (z : TableSizes) (recs : List MemoryRec) (places : Where) → On T.state 0 ring
-      → T.place 0 ≡ place_at z places 0 + 1 → Agrees T z recs places → ⊥
+      → T.place 0 ≡ place_at z places 0 + 1 → PositionsAgree T z recs places → ⊥
   -- ---- operations
   pub of_channel : IsOfChannel action.Recv
   pub of_none : IsOfChannel action.Len → ⊥

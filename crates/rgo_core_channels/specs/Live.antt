@@ -1,4 +1,4 @@
--- What a goroutine's next operation, and its offer, say of a channel: it is one, in a live region. This is what region safety gives.
+-- What a goroutine's next operation, and its offer, say of a channel: it is one, in a live region. This follows from region safety.
 use Rattle.std.specs.Prelude.{◌≡◌, ℕ, true, List, ◌∷◌, Some, slice_get}
 use Rattle.rgo_sound.specs.Typed.declared.actions.Action.{Action}
 use Rattle.rgo_sound.specs.Memory.declared.values.Value.{Value}

@@ -1,11 +1,11 @@
 -- Locking a channel, and its cells under the lock.
 use Rattle.std.specs.Prelude.{◌≡◌, ◌≢◌, ◌⊎◌, ℕ, suc, ◌+◌, ◌%◌, ◌<◌, ◌==◌, false, if◌then◌else◌}
 use Rattle.rgo_core_channels.specs.Controls.{count_of, extent, head_of, spreads}
-use Rattle.rgo_core_channels.specs.Moments.{Keeps, Law, Looks}
+use Rattle.rgo_core_channels.specs.Moments.{Keeps, Law, LoadsWord}
 use Rattle.rgo_core_channels.specs.Records.{Free, Locked, Reached, Read, Rec, Sized, Wrote, with_hold, with_lock}
 use Rattle.rgo_core_channels.specs.Standing.{IsAt}
 
--- by the control and the capacity the cell holds nothing: no value of the queue, and no offer that stands
+-- by the control and the capacity the cell holds nothing: no value of the queue, and no offer that was not taken
 abbrev pub IsSpare : (found capacity cell : ℕ) → Type 0
 IsSpare n capacity i = (i < extent capacity)
     × ((j : ℕ) → j < count_of n → 0 < capacity → (head_of n + j) % capacity ≢ i) × (capacity ≡ 0 → count_of n ≢ 1)
@@ -23,7 +23,7 @@ IsCell page_words c a capacity i w =
 -- a cell is loaded
 abbrev pub CellLoadLaw : Type 0
 CellLoadLaw = Law (λ T g c. (a n i size p : ℕ) → c.hold ≡ Locked a n → c.size ≡ Sized a size → i < extent size
-    → IsCell T.page_words c a size i p → Looks T g p (λ w. with_hold c (Read a n i w)))
+    → IsCell T.page_words c a size i p → LoadsWord T g p (λ w. with_hold c (Read a n i w)))
 
 -- a cell that holds nothing is stored
 abbrev pub CellStoreLaw : Type 0

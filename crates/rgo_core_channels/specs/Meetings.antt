@@ -1,4 +1,4 @@
--- Channels without a buffer: an offer is put up, a receiver takes it, and the sender acknowledges that it was taken.
+-- Channels without a buffer: a value is offered, a receiver takes it, and the sender acknowledges that it was taken.
 use Rattle.std.specs.List.{list_any}
 use Rattle.std.specs.Prelude.{◌≡◌, ◌≢◌, ℕ, ◌+◌, ◌-◌, true, false, [], ◌∷◌, Some, slice_get}
 use Rattle.rgo_sound.specs.Typed.declared.actions.Action.TheVariants.{Recv, Send}
@@ -17,8 +17,8 @@ use Rattle.rgo_core_channels.specs.Records.{Rec, Locked, Nowhere, Offering, Read
 use Rattle.rgo_core_channels.specs.Standing.{Next}
 
 -- an offer: the goroutine and its record stay at the send
-abbrev pub OfferLaw : Type 0
-OfferLaw = Law (λ T g c. (o n x : ℕ) (v : Value) (next : Next T.code T.state g Send (value.Object o ∷ v ∷ []))
+abbrev pub ChannelOfferLaw : Type 0
+ChannelOfferLaw = Law (λ T g c. (o n x : ℕ) (v : Value) (next : Next T.code T.state g Send (value.Object o ∷ v ∷ []))
     → c.hold ≡ Wrote (T.place o) n 0 x → T.encode v ≡ x → c.post ≡ Nowhere → c.size ≡ Sized (T.place o) 0
     → closed_of n ≡ 0 → count_of n ≡ 0
     → (is_meeting_at (slice_get T.state.plain.memory.heap o) ≡ true)
@@ -26,9 +26,9 @@ OfferLaw = Law (λ T g c. (o n x : ℕ) (v : Value) (next : Next T.code T.state 
     × Gains T g (T.place o) (n + 4) (offering (T.place o)) (MakeOffer g)
     (attended T.state g (record next.holder { offer = Standing o })))
 
--- A meeting, by the receiver. Goroutine t, whose offer stands, goes on in the state, and its record stays at its send.
-abbrev pub MeetLaw : Type 0
-MeetLaw = Law (λ T g c. (o n x : ℕ) (next : Next T.code T.state g Recv (value.Object o ∷ []))
+-- A meeting, by the receiver. Goroutine t, whose offer is there, continues in the state, and its record stays at its send.
+abbrev pub ChannelMeetLaw : Type 0
+ChannelMeetLaw = Law (λ T g c. (o n x : ℕ) (next : Next T.code T.state g Recv (value.Object o ∷ []))
     → c.hold ≡ Read (T.place o) n 0 x → c.post ≡ Nowhere → c.size ≡ Sized (T.place o) 0 → closed_of n ≡ 0
     → count_of n ≡ 1
     → (t : ℕ) × (v : Value) × (sends : Next T.code T.state t Send (value.Object o ∷ v ∷ [])) × (g ≢ t)
@@ -37,8 +37,8 @@ MeetLaw = Law (λ T g c. (o n x : ℕ) (next : Next T.code T.state g Recv (value
     × (is_meeting_at (slice_get T.state.plain.memory.heap o) ≡ true)
     × Gains T g (T.place o) (n + 4) at_rest (Instruct (Meet g t)) (after_meeting o next sends v))
 
--- an acknowledgement: the sender's record goes on
-abbrev pub AcknowledgeLaw : Type 0
-AcknowledgeLaw = Law (λ T g c. (a n : ℕ) → c.post ≡ Offering a → c.hold ≡ Locked a n → count_of n ≡ 2
+-- an acknowledgement: the sender's record continues
+abbrev pub ChannelAcknowledgeLaw : Type 0
+ChannelAcknowledgeLaw = Law (λ T g c. (a n : ℕ) → c.post ≡ Offering a → c.hold ≡ Locked a n → count_of n ≡ 2
     → (o : ℕ) × (h : Holder) × (T.place o ≡ a) × (slice_get T.state.holders g ≡ Some h) × (h.offer ≡ Taken o)
     × Gains T g a (n - 8) at_rest (Acknowledge g) (attended T.state g (record h { offer = NoOffer })))

@@ -37,8 +37,8 @@ Law P = (T : Moment) (g : ℕ) (c : Rec) → slice_get T.recs g ≡ Some c → P
 
 module _ (T : Moment) (g : ℕ) where
   -- word i is loaded, and what was found makes the record this: the state stays
-  abbrev pub Looks : (i : ℕ) → (ℕ → Rec) → Type 0
-  Looks i d = Channels T.code T.page_words T.encode T.place T.cell (slice_set T.words i (slice_index T.words i))
+  abbrev pub LoadsWord : (i : ℕ) → (ℕ → Rec) → Type 0
+  LoadsWord i d = Channels T.code T.page_words T.encode T.place T.cell (slice_set T.words i (slice_index T.words i))
       (slice_set T.recs g (d (slice_index T.words i))) T.state T.at
 
   -- word i becomes what f makes of what was found: the state stays
@@ -54,6 +54,6 @@ module _ (T : Moment) (g : ℕ) where
     pub channels : Channels T.code T.page_words T.encode T.place T.cell (slice_set T.words i x) (slice_set T.recs g d) t at
 
   -- the goroutine's instruction traps, and the same words and records are the image of the state after it
-  abbrev pub Traps : Trap → (place : ℕ) → Type 0
-  Traps trap at = (region_step T.code T.page_words T.state (Instruct (One g)) ≡ Some (after_trap T.state trap at))
+  abbrev pub GoroutineTraps : Trap → (place : ℕ) → Type 0
+  GoroutineTraps trap at = (region_step T.code T.page_words T.state (Instruct (One g)) ≡ Some (after_trap T.state trap at))
       × Channels T.code T.page_words T.encode T.place T.cell T.words T.recs (after_trap T.state trap at) T.at

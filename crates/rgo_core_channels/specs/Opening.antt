@@ -1,4 +1,4 @@
--- At the start there is no channel, and the first goroutine's record knows nothing of channels.
+-- At the start no channel exists, and the first goroutine's record knows nothing of channels.
 use Rattle.std.specs.Prelude.{ℕ, List, [], ◌∷◌}
 use Rattle.rgo_sound.specs.Memory.declared.values.Value.{Value}
 use Rattle.rgo_sound.specs.Code.Code.{Code}

@@ -3,12 +3,12 @@ use Rattle.std.specs.Prelude.{◌≡◌, ℕ, ◌+◌, ◌-◌, ◌/◌, ◌%◌
 use Rattle.rgo_sound.specs.RegionMachine.States.{RegionState}
 use Rattle.rgo_core_memory.specs.declared.layout.TableSizes.{TableSizes}
 use Rattle.rgo_core_memory.specs.Encoding.{address}
-use Rattle.rgo_core_memory.specs.Image.{Memory, Where, word_at}
+use Rattle.rgo_core_memory.specs.Image.{StateImage, Where, word_at}
 use Rattle.rgo_core_memory.specs.Records.{Rec as MemoryRec}
 use Rattle.rgo_core_memory.specs.Words.{base, cell_at}
 use Rattle.rgo_core_channels.specs.Channels.{Chan, On, word_of}
 use Rattle.rgo_core_channels.specs.Controls.{extent, tail_words, spreads}
-use Rattle.rgo_core_channels.specs.Moments.{Law, Looks, Moment}
+use Rattle.rgo_core_channels.specs.Moments.{Law, LoadsWord, Moment}
 use Rattle.rgo_core_channels.specs.Records.{Sized, with_reach}
 
 -- the position at which an object begins: that of its first word, or of its lead page
@@ -36,11 +36,11 @@ pub record Layout (z : TableSizes) (words : List ℕ) (s : RegionState) (places 
 -- they are so in each table
 abbrev pub LayoutLaw : Type 0
 LayoutLaw = (z : TableSizes) (words : List ℕ) (recs : List MemoryRec) (s : RegionState) (places : Where)
-    → Memory z words recs s places → Layout z words s places
+    → StateImage z words recs s places → Layout z words s places
 
 -- the positions of the moment are those of the memory of the table
-pub record Agrees (T : Moment) (z : TableSizes) (recs : List MemoryRec) (places : Where) : Type 0 where
-  pub memory : Memory z T.words recs T.state places
+pub record PositionsAgree (T : Moment) (z : TableSizes) (recs : List MemoryRec) (places : Where) : Type 0 where
+  pub memory : StateImage z T.words recs T.state places
   pub place : (o : ℕ) (k : Chan) → On T.state o k → T.place o ≡ place_at z places o
   pub cell : (o i : ℕ) (k : Chan) → On T.state o k → i < extent k.capacity → T.cell o i ≡ cell_place z places o i
 
@@ -48,8 +48,8 @@ pub record Agrees (T : Moment) (z : TableSizes) (recs : List MemoryRec) (places 
 -- one of that page, and of the table.
 abbrev pub PageNumberLaw : Type 0
 PageNumberLaw = Law (λ T g c. (z : TableSizes) (recs : List MemoryRec) (places : Where) (a i size : ℕ)
-    → Agrees T z recs places → c.size ≡ Sized a size → spreads z.page_words size ≡ true → i < extent size
-    → Looks T g (a + 2 + i / z.page_words) (λ w. with_reach c a i (cell_at z (w - 1) (i % z.page_words)))
+    → PositionsAgree T z recs places → c.size ≡ Sized a size → spreads z.page_words size ≡ true → i < extent size
+    → LoadsWord T g (a + 2 + i / z.page_words) (λ w. with_reach c a i (cell_at z (w - 1) (i % z.page_words)))
     × (a + 2 + i / z.page_words < length T.words)
     × (0 < slice_index T.words (a + 2 + i / z.page_words))
     × (cell_at z (slice_index T.words (a + 2 + i / z.page_words) - 1) (i % z.page_words) < length T.words))

@@ -20,12 +20,12 @@ pub data Reach : Type 0 where
   Unreached : Reach
   Reached : (at cell word : ℕ) → Reach
 
--- the channel at which its offer stands, or was taken and is not yet acknowledged
+-- the channel at which its offer is, or was taken and is not yet acknowledged
 pub data Post : Type 0 where
   Nowhere : Post
   Offering : (at : ℕ) → Post
 
--- a channel that it has found closed; or found closed while its own offer stands there, which nobody can take any more
+-- a channel that it has found closed; or found closed while its own offer is there, which nobody can take any more
 pub data Saw : Type 0 where
   Nothing : Saw
   Shut : (at : ℕ) → Saw
@@ -60,11 +60,11 @@ KnowsOf c a = ((n : ℕ) × HoldsAt c.hold a n) ⊎ (((n : ℕ) × (c.size ≡ S
 
 -- ---- what steps do to a record
 
--- it knows nothing of channels: so it is wherever its goroutine stands at no operation on one
+-- it knows nothing of channels: so it is whenever its goroutine is not at an operation on one
 abbrev pub at_rest : Rec
 at_rest = record { hold = Free; size = Unknown; reach = Unreached; post = Nowhere; saw = Nothing }
 
--- its offer stands there
+-- its offer is there
 abbrev pub offering : ℕ → Rec
 offering a = record { hold = Free; size = Unknown; reach = Unreached; post = Offering a; saw = Nothing }
 
@@ -82,7 +82,7 @@ with_reach c a i w = record c { reach = Reached a i w }
 abbrev pub with_look : Rec → (at found : ℕ) → Rec
 with_look c a n = if closed_of n == 1 then record c { saw = Shut a } else c
 
--- the control of the channel at which its offer stands was found to be n
+-- the control of the channel at which its offer is was found to be n
 abbrev pub with_own_look : Rec → (at found : ℕ) → Rec
 with_own_look c a n = if closed_of n == 1 && count_of n == 1 then record c { saw = Stranded a } else c
 

@@ -5,8 +5,8 @@ use Rattle.rgo_sound.specs.Typed.declared.actions.Action.TheVariants.{Recv, Send
 use Rattle.rgo_sound.specs.Memory.Values.{zero_of}
 use Rattle.rgo_sound.specs.Memory.declared.values.Value.{Value}
 use Rattle.rgo_sound.specs.Memory.declared.values.Value.TheVariants as value
-use Rattle.rgo_sound.specs.Tac.Frames.{Frame, going}
-use Rattle.rgo_sound.specs.Tac.Steps.{type_of}
+use Rattle.rgo_sound.specs.Tac.Frames.{TacFrame, frame_after_instr}
+use Rattle.rgo_sound.specs.Tac.Steps.{destination_type}
 use Rattle.rgo_sound.specs.Code.Code.{Code}
 use Rattle.rgo_sound.specs.Code.Erasure.{erased}
 use Rattle.rgo_sound.specs.RegionMachine.Owed.{next_duties}
@@ -28,7 +28,7 @@ abbrev pub OperatesOn : Code → RegionState → ℕ → ℕ → Type 0
 OperatesOn code s g o =
     (action : Action) × IsOfChannel action × (vs : List Value) × Next code s g action (value.Object o ∷ vs)
 
--- A goroutine is at the channel of that word: it is about to perform an operation on it; or, by its record, its offer stands or
+-- A goroutine is at the channel of that word: it is about to perform an operation on it; or, by its record, its offer is there or
 -- stood there. A sender whose offer was taken is past its send in the state, but not in its record.
 abbrev pub IsAt : (code : Code) (place : ℕ → ℕ) → RegionState → ℕ → Post → ℕ → Type 0
 IsAt code place s g post a =
@@ -36,15 +36,15 @@ IsAt code place s g post a =
 
 -- ---- what the instruction leaves
 
--- the zero of what it gives
+-- the zero of its value
 abbrev pub blank_of : {code : Code} {s : RegionState} {g : ℕ} {action : Action} {operands : List Value}
     → Before code s g action operands → Value
-blank_of {code} b = zero_of (type_of (erased code) b.frame b.to)
+blank_of {code} b = zero_of (destination_type (erased code) b.frame b.to)
 
 module _ {code : Code} {s : RegionState} {g : ℕ} {action : Action} {operands : List Value} where
   -- the goroutine's frames when the instruction has given this value
-  abbrev pub passed : Next code s g action operands → Value → List Frame
-  passed n v = going n.before.frame n.before.to v ∷ n.before.callers
+  abbrev pub passed : Next code s g action operands → Value → List TacFrame
+  passed n v = frame_after_instr n.before.frame n.before.to v ∷ n.before.callers
 
   -- what it then has of regions
   abbrev pub passed_holder : Next code s g action operands → Value → Holder

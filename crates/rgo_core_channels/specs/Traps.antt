@@ -4,22 +4,22 @@ use Rattle.rgo_sound.specs.Typed.declared.actions.Action.TheVariants.{Send, Clos
 use Rattle.rgo_sound.specs.Memory.declared.traps.Trap.TheVariants.{SendClosed, CloseClosed, CloseNil}
 use Rattle.rgo_sound.specs.Memory.declared.values.Value.{Value}
 use Rattle.rgo_sound.specs.Memory.declared.values.Value.TheVariants as value
-use Rattle.rgo_core_channels.specs.Moments.{Law, Traps}
+use Rattle.rgo_core_channels.specs.Moments.{Law, GoroutineTraps}
 use Rattle.rgo_core_channels.specs.Records.{Nowhere, Shut, Stranded}
 use Rattle.rgo_core_channels.specs.Standing.{Next}
 
--- a send on a channel that was found closed, or with an offer that stands at one
+-- a send on a channel that was found closed, or with an offer at one that was not taken
 abbrev pub SendTrapLaw : Type 0
 SendTrapLaw = Law (λ T g c. (o : ℕ) (v : Value) (next : Next T.code T.state g Send (value.Object o ∷ v ∷ []))
     → ((c.post ≡ Nowhere) × (c.saw ≡ Shut (T.place o))) ⊎ (c.saw ≡ Stranded (T.place o))
-    → Traps T g SendClosed next.before.instr.place)
+    → GoroutineTraps T g SendClosed next.before.instr.place)
 
 -- a close of a channel that was found closed
 abbrev pub CloseTrapLaw : Type 0
 CloseTrapLaw = Law (λ T g c. (o : ℕ) (next : Next T.code T.state g Close (value.Object o ∷ [])) → c.post ≡ Nowhere
-    → c.saw ≡ Shut (T.place o) → Traps T g CloseClosed next.before.instr.place)
+    → c.saw ≡ Shut (T.place o) → GoroutineTraps T g CloseClosed next.before.instr.place)
 
 -- a close of nil
 abbrev pub CloseNilLaw : Type 0
 CloseNilLaw = Law (λ T g c. (next : Next T.code T.state g Close (value.Nil ∷ [])) → c.post ≡ Nowhere
-    → Traps T g CloseNil next.before.instr.place)
+    → GoroutineTraps T g CloseNil next.before.instr.place)

@@ -1,4 +1,6 @@
-//! Controls of channels: what one says, and the one that an operation leaves.
+//! Controls of channels: what one says, and the one that an operation leaves. Bit 0 is the lock, bit 1 says that the channel is
+//! closed, bits 2 to 31 count the values, and bits 32 on are the cell of the oldest: all in one word, so that one exchange locks a
+//! channel as it was found.
 ghost use Rattle.std.specs.Prelude.{◌≡◌, ◌<◌, ◌≤◌, ◌^◌, ◌+◌, ◌-◌, ◌%◌, suc};
 ghost use Rattle.rgo_core_channels.specs.Controls.{bit, closed_of, control, count_of, extent, head_of, spreads};
 
@@ -16,7 +18,7 @@ pub fn is_closed(word: u64) -> bool
     word / 2 % 2 == 1
 }
 
-/// The number of values in the buffer. Without a buffer: 0 if there is no offer, 1 if one stands, 2 if it was taken.
+/// The number of values in the buffer. Without a buffer: 0 if there is no offer, 1 for an offer, 2 if it was taken.
 pub fn count(word: u64) -> u64
     ensures { result ≡ count_of word }
 {
@@ -45,7 +47,7 @@ pub fn is_spread(capacity: u64, page_words: u64) -> bool
     page_words < 2 + capacity.max(1)
 }
 
-/// The first cell that is free, where the buffer has room.
+/// The first cell that is free, if the buffer has room.
 pub fn free_cell(word: u64, capacity: u64) -> u64
     requires room { count_of word < capacity }
     ensures { result ≡ (head_of word + count_of word) % capacity }

@@ -8,7 +8,7 @@ ghost use Rattle.rgo_core_channels.specs.Positions.{LayoutLaw, PageNumberLaw};
 ghost use Rattle.rgo_core_channels.specs.Live.{OperandIsLive, TakenIsLive};
 ghost use Rattle.rgo_core_channels.specs.Locking.{CellLoadLaw, CellStoreLaw, LockLaw};
 ghost use Rattle.rgo_core_channels.specs.Looking.{CapacityLaw, ControlLaw, OwnControlLaw};
-ghost use Rattle.rgo_core_channels.specs.Meetings.{AcknowledgeLaw, MeetLaw, OfferLaw};
+ghost use Rattle.rgo_core_channels.specs.Meetings.{ChannelAcknowledgeLaw, ChannelMeetLaw, ChannelOfferLaw};
 ghost use Rattle.rgo_core_channels.specs.Opening.{Opens};
 ghost use Rattle.rgo_core_channels.specs.Traps.{CloseNilLaw, CloseTrapLaw, SendTrapLaw};
 
@@ -22,7 +22,7 @@ pub fn control_law()
     ensures { ControlLaw }
 {}
 
-/// A goroutine loads the control of the channel at which its offer stands.
+/// A goroutine loads the control of the channel at which its offer is.
 pub fn own_control_law()
     ensures { OwnControlLaw }
 {}
@@ -72,19 +72,19 @@ pub fn close_law()
     ensures { CloseLaw }
 {}
 
-/// An offer is put up.
+/// A value is offered.
 pub fn offer_law()
-    ensures { OfferLaw }
+    ensures { ChannelOfferLaw }
 {}
 
 /// A receiver takes an offer.
 pub fn meet_law()
-    ensures { MeetLaw }
+    ensures { ChannelMeetLaw }
 {}
 
 /// A sender acknowledges that its offer was taken.
 pub fn acknowledge_law()
-    ensures { AcknowledgeLaw }
+    ensures { ChannelAcknowledgeLaw }
 {}
 
 /// A send on a channel that was found closed traps.
@@ -102,7 +102,7 @@ pub fn close_nil_law()
     ensures { CloseNilLaw }
 {}
 
-/// Where each goroutine is blocked, as its record and the words say, the state is a deadlock.
+/// If each goroutine is blocked, as its record and the words say, the state is a deadlock.
 pub fn deadlock_law()
     ensures { DeadlockLaw }
 {}
@@ -137,7 +137,7 @@ pub fn opening_law()
     ensures { Opens }
 {}
 
-/// Controls, records and channels that are so, and such as are not.
+/// Controls, records and channels that meet the definitions, and some that do not.
 pub fn examples()
     ensures { ChannelExamples }
 {}

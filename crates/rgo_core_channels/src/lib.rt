@@ -7,7 +7,7 @@
 //! an access to such a cell the operation loads the number of its page.
 //!
 //! Each law of [`laws`] is about one state, and computes the region machine's step; that the channel is in a live region
-//! follows from region safety. [`controls`] reads and makes controls.
+//! follows from region safety. [`controls`] reads and makes controls. Why: docs/DECISIONS.md, "Operations on channels".
 #![tactic(auto)]
 
 pub mod controls;

@@ -18,11 +18,11 @@ use Rattle.rgo_sound.specs.RegionMachine.Regions.{bound, removed_once}
 use Rattle.rgo_sound.specs.RegionMachine.States.{Create, Duty, EndBase, Holder, NoOffer, Offer, Protect, RegionState, Remove, Share, Standing, Taken, Unprotect, frames_of, top_names}
 use Rattle.rgo_sound.specs.RegionMachine.declared.regions.Region.{Region}
 use Rattle.rgo_sound.specs.RegionMachine.declared.regions.Region.TheVariants.{Global as GlobalRegion, Numbered}
-use Rattle.rgo_sound.proofs.Acting.{after as acted_plain}
-use Rattle.rgo_sound.proofs.ErasureLemmas.{Yields, yields, yields_at, yields_from, yields_if, yields_is, yields_none, yields_then}
-use Rattle.rgo_sound.proofs.OneStep.{MeetDone, OneDone, gone_on, meet_done, one_done, receive_goes, send_goes}
+use Rattle.rgo_sound.proofs.steps.Acting.{after as acted_plain}
+use Rattle.rgo_sound.proofs.plain.Steps.{Yields, yields, yields_at, yields_from, yields_if, yields_is, yields_none, yields_then}
+use Rattle.rgo_sound.proofs.steps.OneStep.{MeetDone, OneDone, gone_on, meet_done, one_done, receive_goes, send_goes}
 use Rattle.rgo_sound.proofs.Places.{get_append_left, length_set}
-use Rattle.rgo_sound.specs.Tac.Frames.{Frame}
+use Rattle.rgo_sound.specs.Tac.Frames.{TacFrame}
 use Rattle.rgo_sound.specs.Tac.Tac.{TacState}
 use Rattle.rgo_core_facts.proofs.ControlUnprotects.{within_is}
 
@@ -79,14 +79,14 @@ module _ (s : RegionState) (all : MainHasNoBase s) where
   by_page g h k same n GlobalRegion = with_same (page_taken s g k GlobalRegion) g h k refl same n
   by_page g h k same n (Numbered r) = with_same (page_taken s g k (Numbered r)) g h k refl same n
 
-  by_take : (code : Code) (page_words g : ℕ) (h : Holder) → BasesFit g h → (frames : List Frame)
+  by_take : (code : Code) (page_words g : ℕ) (h : Holder) → BasesFit g h → (frames : List TacFrame)
       → Yields MainHasNoBase (take_page code page_words s g h frames)
   by_take code page_words g h n [] = yields_none
   by_take code page_words g h n (frame ∷ callers) = yields_then (page_for code page_words s g h frame) (current code frame)
       (λ i. yields_then (takes_page code page_words s g h) _ (λ r. yields_then (page_before page_words s g h r) _
       (λ object. yields_if _ _ _ (by_page g h (with_page page_words h r object) refl n r) yields_none)))
 
-  by_offer : (code : Code) (g : ℕ) (h : Holder) → BasesFit g h → (frames : List Frame)
+  by_offer : (code : Code) (g : ℕ) (h : Holder) → BasesFit g h → (frames : List TacFrame)
       → Yields MainHasNoBase (make_offer code s g h frames)
   by_offer code g h n [] = yields_none
   by_offer code g h n (frame ∷ callers) = yields_if _ _ _ (yields_then (offer_for s g h frame) (current code frame)
@@ -100,7 +100,7 @@ module _ (s : RegionState) (all : MainHasNoBase s) where
 
 -- ---- instructions
 
-after_same : (code : Code) (k : Holder) (frame : Frame) (callers : List Frame) (op : CodeOp) (next : List Frame)
+after_same : (code : Code) (k : Holder) (frame : TacFrame) (callers : List TacFrame) (op : CodeOp) (next : List TacFrame)
     → (holder_after code k frame callers op next).base ≡ k.base
 after_same code k frame callers (Do to action from removes) next = refl
 after_same code k frame callers (Call to n from passes protects removes) next = refl

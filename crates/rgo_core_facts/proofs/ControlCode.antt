@@ -3,15 +3,15 @@ use Rattle.std.proofs.Common.{◌≡◌, ◌≢◌, ◌<◌, ◌≤◌, ◌+◌,
 use Rattle.std.proofs.lemmas.List.{length-map}
 use Rattle.std.proofs.lemmas.Option.{slice_get_within}
 use Rattle.rgo_sound.specs.Code.Checked.{IsChecked}
-use Rattle.rgo_sound.specs.Code.ClassRules.{CallPasses, CallsPass, Passes, StartPasses, StartsPass}
+use Rattle.rgo_sound.specs.Code.ClassRules.{CallPasses, CallsPass, PassesClasses, StartPasses, StartsPass}
 use Rattle.rgo_sound.specs.Code.Code.{Branch, Call, Code, CodeFn, CodeInstr, CodeOp, Do, Go, Jump, Print, Return, Slot}
 use Rattle.rgo_sound.specs.Code.Erasure.{erased, erased_fn, erased_instr, erased_op}
 use Rattle.rgo_sound.specs.Code.Exists.{InstrExists, leaves}
-use Rattle.rgo_sound.specs.Code.Types.{OpFits}
+use Rattle.rgo_sound.specs.Code.Types.{IsWellTypedOp}
 use Rattle.rgo_sound.specs.Code.declared.rules.Line.TheVariants as line
 use Rattle.rgo_sound.specs.Code.declared.rules.Rule.TheVariants as rule
-use Rattle.rgo_sound.specs.RegionMachine.Owed.{function_of}
-use Rattle.rgo_sound.proofs.Ruled.{CallIsThere, StartIsThere, call_is_there, start_is_there}
+use Rattle.rgo_sound.specs.RegionMachine.Owed.{code_function}
+use Rattle.rgo_sound.proofs.names.Ruled.{CallIsThere, StartIsThere, call_is_there, start_is_there}
 use Rattle.rgo_core_facts.specs.ControlCode.{BodiesBegin, CalleesExist, HasCallee, IsFollowed, NextExists, ResultsReturned, ReturnsResult, VariablesExist}
 
 not_last : (i n : ℕ) (b : Bool) → b ≡ false → (i + 1 ≡ n → b ≡ true) → i < n → i + 1 < n
@@ -28,7 +28,7 @@ not_empty : (body : List CodeInstr) → body ≢ [] → 0 < length body
 not_empty [] none = absurd (none refl)
 not_empty (i ∷ body) none = omega arith
 
-module _ (code : Code) (n i : ℕ) (fn : CodeFn) (instr : CodeInstr) (checked : IsChecked code) (known : function_of code n ≡ Some fn)
+module _ (code : Code) (n i : ℕ) (fn : CodeFn) (instr : CodeInstr) (checked : IsChecked code) (known : code_function code n ≡ Some fn)
     (there : slice_get fn.body i ≡ Some instr) where
   exists : InstrExists (erased code) (erased_fn fn) i (erased_op instr.op)
   exists = checked rule.Exists (line.Instr n i) fn instr known there
@@ -61,7 +61,7 @@ module _ (code : Code) (n i : ℕ) (fn : CodeFn) (instr : CodeInstr) (checked : 
 
   -- ---- callees
 
-  parameters_fit : (m : ℕ) (callee : CodeFn) → function_of code m ≡ Some callee → callee.params ≤ length callee.variables
+  parameters_fit : (m : ℕ) (callee : CodeFn) → code_function code m ≡ Some callee → callee.params ≤ length callee.variables
   parameters_fit m callee found =
       let h = (checked rule.Exists (line.Function m) callee found).params in
       let l = length-map callee.variables (λ (s : Slot). s.ty) in omega (arith, h, l)
@@ -69,7 +69,7 @@ module _ (code : Code) (n i : ℕ) (fn : CodeFn) (instr : CodeInstr) (checked : 
   has_callee : (op : CodeOp) → instr.op ≡ op → HasCallee code op
   has_callee (Call to m from passes protects removes) is =
       let c : CallIsThere code to m from = call_is_there code to m from (exists_as (Call to m from passes protects removes) is).exists in
-      let p : Passes fn c.callee to from passes = subst (λ o. CallPasses fn o to from passes) c.found
+      let p : PassesClasses fn c.callee to from passes = subst (λ o. CallPasses fn o to from passes) c.found
       (subst (λ o. CallsPass code fn o) is (checked rule.Calls (line.Instr n i) fn instr known there)) in
       record {
         callee = c.callee;
@@ -81,7 +81,7 @@ module _ (code : Code) (n i : ℕ) (fn : CodeFn) (instr : CodeInstr) (checked : 
       }
   has_callee (Go m from passes removes) is =
       let c : StartIsThere code m from = start_is_there code m from (exists_as (Go m from passes removes) is).exists in
-      let p : (c.callee.result ≡ None) × Passes fn c.callee None from passes = subst (λ o. StartPasses fn o from passes) c.found
+      let p : (c.callee.result ≡ None) × PassesClasses fn c.callee None from passes = subst (λ o. StartPasses fn o from passes) c.found
       (subst (λ o. StartsPass code fn o) is (checked rule.Starts (line.Instr n i) fn instr known there)) in
       record {
         callee = c.callee;
@@ -99,8 +99,8 @@ module _ (code : Code) (n i : ℕ) (fn : CodeFn) (instr : CodeInstr) (checked : 
 
   -- ---- results
 
-  types_as : (op : CodeOp) → instr.op ≡ op → OpFits (erased code) (erased_fn fn) (erased_op op)
-  types_as op is = subst (λ (o : CodeOp). OpFits (erased code) (erased_fn fn) (erased_op o)) is
+  types_as : (op : CodeOp) → instr.op ≡ op → IsWellTypedOp (erased code) (erased_fn fn) (erased_op op)
+  types_as op is = subst (λ (o : CodeOp). IsWellTypedOp (erased code) (erased_fn fn) (erased_op o)) is
       (checked rule.Types (line.Instr n i) fn instr known there)
 
   returned : (value : Option ℕ) → instr.op ≡ Return value → is_some value ≡ is_some fn.result

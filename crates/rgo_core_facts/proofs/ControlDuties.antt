@@ -1,21 +1,21 @@
 -- What the first duty of a goroutine refers to.
 use Rattle.std.proofs.Common.{◌≡◌, ⊎_elim, ◌∙◌, ◌≤◌, ◌+◌, ◌||◌, ℕ, Bool, true, false, List, [], ◌∷◌, map, Some, slice_get, refl, sym, ap, subst, arith}
 use Rattle.std.specs.List.{list_any}
-use Rattle.rgo_core.proofs.Frames.SlotLemmas.{ends_slot}
-use Rattle.rgo_core.proofs.Frames.StakeDuties.{OwesFirst, owes_first, past_owes}
+use Rattle.rgo_core.proofs.Frames.regions.SlotLemmas.{ends_slot}
+use Rattle.rgo_core.proofs.Frames.regions.StakeDuties.{OwesFirst, owes_first, past_owes}
 use Rattle.rgo_core.specs.Frames.Shown.{FramesShow}
 use Rattle.rgo_core.specs.Frames.Slots.{slot, slot_duties, slot_duty, slot_environment, slot_environments}
 use Rattle.rgo_core.specs.Frames.WordFrames.{WordFrame}
 use Rattle.rgo_sound.specs.RegionMachine.Regions.{bound, same_region}
-use Rattle.rgo_sound.specs.RegionMachine.States.{Create, Duty, EndBase, Environment, Holder, Protect, Remove, Share, Unprotect, top_names}
+use Rattle.rgo_sound.specs.RegionMachine.States.{Create, Duty, EndBase, RegionEnvironment, Holder, Protect, Remove, Share, Unprotect, top_names}
 use Rattle.rgo_sound.specs.RegionMachine.declared.regions.Region.{Region}
-use Rattle.rgo_sound.proofs.Attends.{same_reflexive}
+use Rattle.rgo_sound.proofs.duties.Attends.{same_reflexive}
 use Rattle.rgo_sound.specs.Invariant.{FramesFit, IsFree, IsReady, Settled, times}
 use Rattle.rgo_sound.specs.Stakes.{one_if}
-use Rattle.rgo_sound.specs.Tac.Frames.{Frame}
+use Rattle.rgo_sound.specs.Tac.Frames.{TacFrame}
 use Rattle.rgo_core.specs.Core.{Here, Setup}
 use Rattle.rgo_core.specs.Records.{Record}
-use Rattle.rgo_core.proofs.Parts.{I}
+use Rattle.rgo_core.proofs.image.Parts.{I}
 use Rattle.rgo_core_facts.specs.ControlDuties.{CanAttend, DutiesAtEnd, DutiesKnown, HasNewest, IsNamed}
 use Rattle.rgo_core_facts.proofs.ControlPending.{some_region}
 use Rattle.rgo_core_facts.proofs.ControlRegions.{base_staked, names_staked}
@@ -61,7 +61,7 @@ module _ {T : Setup} {g : ℕ} {c : Record} (x : Here T g c) (y : Shown x (fitte
 
   -- ---- of a frame
 
-  module _ (e : Environment) (es : List Environment) (w : WordFrame) (ws : List WordFrame) (there : h.environments ≡ e ∷ es)
+  module _ (e : RegionEnvironment) (es : List RegionEnvironment) (w : WordFrame) (ws : List WordFrame) (there : h.environments ≡ e ∷ es)
       (frames : c.frame.frames ≡ w ∷ ws) where
     newest : HasNewest c (slot_environment s_of e)
     newest = record {
@@ -120,7 +120,7 @@ module _ {T : Setup} {g : ℕ} {c : Record} (x : Here T g c) (y : Shown x (fitte
   at_end (Unprotect k) ds frames there e = absurd (no_end (Unprotect k) ds h.base (λ r q. cc) e)
   at_end (Remove k) ds frames there e = absurd (no_end (Remove k) ds h.base (λ r q. cc) e)
 
-  by_frames : (frames : List Frame) (es : List Environment) (ws : List WordFrame) (d : Duty) (ds : List Duty) → h.environments ≡ es
+  by_frames : (frames : List TacFrame) (es : List RegionEnvironment) (ws : List WordFrame) (d : Duty) (ds : List Duty) → h.environments ≡ es
       → c.frame.frames ≡ ws → FramesShow T.code (I x).addresses frames ws → FramesFit T.code h.base frames es (d ∷ ds)
       → UnprotectsFit (d ∷ ds) (top_names es) (top_protections es) → CanAttend T c (slot_duty s_of d)
   by_frames [] [] [] d ds there is sh fit ends = at_end d ds is there fit
@@ -162,7 +162,7 @@ module _ {T : Setup} {g : ℕ} {c : Record} (x : Here T g c) (gone : c.frame.fra
   ends_shown y = by (fitted x).frames (fitted x).h.environments c.frame.frames gone y.shown
       (good_holder x (fitted x).frames (fitted x).h (fitted x).at (fitted x).there).fit
     where
-      by : (frames : List Frame) (es : List Environment) (ws : List WordFrame) → ws ≡ [] → FramesShow T.code (I x).addresses frames ws
+      by : (frames : List TacFrame) (es : List RegionEnvironment) (ws : List WordFrame) → ws ≡ [] → FramesShow T.code (I x).addresses frames ws
           → FramesFit T.code (fitted x).h.base frames es (fitted x).h.duties → OwesEnds
       by [] [] ws e sh fit =
           ap (λ (k : Holder). k.duties) y.holder ∙ ap (slot_duties (I x).places.slot) fit ∙ ends_slot (I x).places.slot (fitted x).h.base

@@ -5,14 +5,14 @@ use Rattle.std.specs.List.{list_any}
 use Rattle.rgo_sound.specs.Ast.declared.ops.BinaryOp.TheVariants.{And}
 use Rattle.rgo_sound.specs.Code.Code.{Branch, Call, CodeFn, CodeInstr, CodeOp, Do}
 use Rattle.rgo_sound.specs.Code.Erasure.{erased_op}
-use Rattle.rgo_sound.specs.Code.Exists.{Uses}
+use Rattle.rgo_sound.specs.Code.Exists.{UsesVariable}
 use Rattle.rgo_core.specs.Frames.WordFrames.{WordFrame}
 use Rattle.rgo_sound.specs.Machine.declared.limits.Limits.{Limits}
 use Rattle.rgo_sound.specs.Machine.declared.limits.Sizes.{Sizes}
 use Rattle.rgo_sound.specs.RegionMachine.Examples.{int_slot, passed_twice, plain}
-use Rattle.rgo_sound.specs.RegionMachine.Owed.{function_of}
+use Rattle.rgo_sound.specs.RegionMachine.Owed.{code_function}
 use Rattle.rgo_sound.specs.RegionMachine.Regions.{bound, class_region, same_region}
-use Rattle.rgo_sound.specs.RegionMachine.States.{Environment}
+use Rattle.rgo_sound.specs.RegionMachine.States.{RegionEnvironment}
 use Rattle.rgo_sound.specs.RegionMachine.declared.regions.Region.{Region}
 use Rattle.rgo_sound.specs.RegionMachine.declared.regions.Region.TheVariants.{Numbered}
 use Rattle.rgo_sound.proofs.Places.{contains_here, contains_one}
@@ -42,12 +42,12 @@ no_some y e = cc
 
 -- ---- code
 
-uses_zero : (v : ℕ) → Uses (erased_op (Branch 0 0 [] 0 [])) v → v < 1
+uses_zero : (v : ℕ) → UsesVariable (erased_op (Branch 0 0 [] 0 [])) v → v < 1
 uses_zero v (inl c) = let e = contains_one 0 v c in omega (arith, e)
 uses_zero v (inr e) = absurd (no_some v e)
 
 -- the called function has a result
-f_has_result : (h : CodeFn) → function_of passed_twice 0 ≡ Some h → false ≡ is_some h.result → ⊥
+f_has_result : (h : CodeFn) → code_function passed_twice 0 ≡ Some h → false ≡ is_some h.result → ⊥
 f_has_result h found e = true≢false (sym (e ∙ ap (λ (f : CodeFn). is_some f.result) (sym (same_Some called_fn h found))))
 
 pub code_examples : CodeExamples
@@ -127,9 +127,9 @@ frame_examples = record {
 one_stake : (p : ℕ) → is_in p (0 ∷ []) ≡ true → p ≡ 0
 one_stake p e = split (nat_eq p 0) (λ t. eq_of p 0 t) (λ n. absurd (true≢false (sym e ∙ ap (λ b. if b then true else false) n)))
 
-one_environment : (c : Record) (e : Environment) → c.frame.holder.environments ≡ one_name ∷ [] → HasEnvironment c e → one_name ≡ e
-one_environment c e is (zero, at) = same_Some one_name e (sym (ap (λ (l : List Environment). slice_get l 0) is) ∙ at)
-one_environment c e is (suc i, at) = absurd (no_some e (sym (ap (λ (l : List Environment). slice_get l (suc i)) is) ∙ at))
+one_environment : (c : Record) (e : RegionEnvironment) → c.frame.holder.environments ≡ one_name ∷ [] → HasEnvironment c e → one_name ≡ e
+one_environment c e is (zero, at) = same_Some one_name e (sym (ap (λ (l : List RegionEnvironment). slice_get l 0) is) ∙ at)
+one_environment c e is (suc i, at) = absurd (no_some e (sym (ap (λ (l : List RegionEnvironment). slice_get l (suc i)) is) ∙ at))
 
 one_binding : (k : ℕ) (r : Region) → bound one_name.names k ≡ Some r → (k ≡ 0) × (r ≡ Numbered 0)
 one_binding k r e = split (nat_eq 0 k)
@@ -139,10 +139,10 @@ one_binding k r e = split (nat_eq 0 k)
 abbrev first_environment : (stakes : List ℕ) → HasEnvironment (knowing stakes) one_name
 first_environment stakes = (0, refl)
 
-newest_is : (stakes : List ℕ) (e : Environment) → HasNewest (knowing stakes) e → one_name ≡ e
+newest_is : (stakes : List ℕ) (e : RegionEnvironment) → HasNewest (knowing stakes) e → one_name ≡ e
 newest_is stakes e n = head one_name e [] n.es n.environments
   where
-    head : (a b : Environment) (more others : List Environment) → a ∷ more ≡ b ∷ others → a ≡ b
+    head : (a b : RegionEnvironment) (more others : List RegionEnvironment) → a ∷ more ≡ b ∷ others → a ≡ b
     head a b more others e = cc
 
 newest : (stakes : List ℕ) → HasNewest (knowing stakes) one_name
@@ -163,10 +163,10 @@ module _ (sizes : Sizes) (limits : Limits) where
       unique = ((refl, tt), tt);
       names = λ e k r has b.
           subst (IsStaked T (knowing (0 ∷ [])))
-          (sym (one_binding k r (ap (λ (y : Environment). bound y.names k) (one_environment (knowing (0 ∷ [])) e refl has) ∙ b)).1)
+          (sym (one_binding k r (ap (λ (y : RegionEnvironment). bound y.names k) (one_environment (knowing (0 ∷ [])) e refl has) ∙ b)).1)
           (refl, low);
       protections = λ e r has a. absurd (true≢false
-          (sym (ap (λ (y : Environment). list_any (same_region r) y.protections) (one_environment (knowing (0 ∷ [])) e refl has) ∙ a)));
+          (sym (ap (λ (y : RegionEnvironment). list_any (same_region r) y.protections) (one_environment (knowing (0 ∷ [])) e refl has) ∙ a)));
       base = λ r a. absurd (true≢false (sym a));
       pending = λ p l. absurd (omega (arith, l));
       pages = λ f w. absurd (no_some f w.1);
@@ -174,9 +174,9 @@ module _ (sizes : Sizes) (limits : Limits) where
     knows_too_much = λ k. true≢false (sym (k.names one_name 0 (Numbered 0) (first_environment []) refl).0);
     nothing = record {
       names = λ e k has b.
-          let r = one_binding k (Numbered 1) (ap (λ (y : Environment). bound y.names k) (one_environment (knowing (0 ∷ [])) e refl has) ∙ b) in
+          let r = one_binding k (Numbered 1) (ap (λ (y : RegionEnvironment). bound y.names k) (one_environment (knowing (0 ∷ [])) e refl has) ∙ b) in
           other r.1;
-      protections = λ e has. sym (ap (λ (y : Environment). list_any (same_region (Numbered 1)) y.protections)
+      protections = λ e has. sym (ap (λ (y : RegionEnvironment). list_any (same_region (Numbered 1)) y.protections)
           (one_environment (knowing (0 ∷ [])) e refl has));
       base = refl;
       pending = refl;
@@ -187,15 +187,15 @@ module _ (sizes : Sizes) (limits : Limits) where
     passes_no_region = λ h. let r = h 0 (Name 1) refl in no_some r.0 r.1;
     creates = record { e = one_name; newest = newest (0 ∷ []); unbound = refl };
     creates_again = λ u.
-        no_some (Numbered 0) (sym (ap (λ (y : Environment). bound y.names 0) (newest_is (0 ∷ []) u.e u.newest) ∙ u.unbound));
+        no_some (Numbered 0) (sym (ap (λ (y : RegionEnvironment). bound y.names 0) (newest_is (0 ∷ []) u.e u.newest) ∙ u.unbound));
     removes = λ low. record {
       named = record { e = one_name; newest = newest (0 ∷ []); region = Numbered 0; bound = refl; staked = (refl, low) };
       none = refl;
     };
     shares_no_region = λ n.
-        no_some n.region (ap (λ (y : Environment). bound y.names 1) (newest_is (0 ∷ []) n.e n.newest) ∙ n.bound);
+        no_some n.region (ap (λ (y : RegionEnvironment). bound y.names 1) (newest_is (0 ∷ []) n.e n.newest) ∙ n.bound);
     unprotects_none = λ u. true≢false
-        (sym (ap (λ (y : Environment). list_any (same_region u.named.region) y.protections) (newest_is (0 ∷ []) u.named.e u.named.newest)
+        (sym (ap (λ (y : RegionEnvironment). list_any (same_region u.named.region) y.protections) (newest_is (0 ∷ []) u.named.e u.named.newest)
         ∙ u.protected));
     ends_early = λ b. frame_left at_call [] b.frames;
   }

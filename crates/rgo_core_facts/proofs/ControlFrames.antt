@@ -3,23 +3,23 @@ use Rattle.std.proofs.Common.{◌≡◌, ◌⊎◌, inl, inr, ⊎_elim, true, tr
 use Rattle.std.proofs.lemmas.Option.{same_Some}
 use Rattle.rgo_sound.specs.Code.Checked.{IsChecked}
 use Rattle.rgo_sound.specs.Code.Code.{Branch, Call, Code, CodeFn, CodeInstr, CodeOp, Do, Go, Jump, Print, Return}
-use Rattle.rgo_core.proofs.Frames.Bookkeeping.{current_alike}
+use Rattle.rgo_core.proofs.Frames.regions.Bookkeeping.{current_alike}
 use Rattle.rgo_core.specs.Frames.Local.{local_by, local_frames, local_instr, local_op, word_returned}
 use Rattle.rgo_core.specs.Frames.Records.{after_op}
 use Rattle.rgo_core.specs.Frames.Shown.{CallersShow, FramesShow, IsAlike}
 use Rattle.rgo_core.specs.Frames.Slots.{nameless, slot_duties}
 use Rattle.rgo_core.specs.Frames.WordFrames.{WordFrame, bare, word_at}
 use Rattle.rgo_sound.specs.RegionMachine.Duties.{may_go}
-use Rattle.rgo_sound.specs.RegionMachine.Owed.{current, current_in, function_of}
+use Rattle.rgo_sound.specs.RegionMachine.Owed.{current, current_in, code_function}
 use Rattle.rgo_sound.specs.RegionMachine.States.{Holder, NoOffer, Offer, Standing, Taken, frames_in}
 use Rattle.rgo_sound.specs.Offers.{OfferFits, StandsAtSend}
 use Rattle.rgo_sound.specs.Types.{CalledFrom, IsCallOf}
-use Rattle.rgo_sound.specs.Tac.Frames.{Frame}
+use Rattle.rgo_sound.specs.Tac.Frames.{TacFrame}
 use Rattle.rgo_sound.specs.Typed.declared.actions.Action.TheVariants.{Send}
 use Rattle.rgo_core.specs.CommitMoves.{IsAtSend}
 use Rattle.rgo_core.specs.Core.{Here, Setup}
 use Rattle.rgo_core.specs.Records.{Record}
-use Rattle.rgo_core.proofs.Parts.{I}
+use Rattle.rgo_core.proofs.image.Parts.{I}
 use Rattle.rgo_core_facts.specs.ControlCode.{HasCallee}
 use Rattle.rgo_core_facts.specs.ControlFrames.{CallersWait, FramesInCode, IsCalledBy, IsInCode, LastReturn, NextKnown, OffersKnown}
 use Rattle.rgo_core_facts.proofs.ControlCode.{callees_exist}
@@ -29,10 +29,10 @@ no_element : {X : Type 0} (y : X) → ◌≡◌ {A = Option X} None (Some y) →
 no_element y e = cc
 
 module _ (code : Code) (addresses : List ℕ) where
-  in_code : (frame : Frame) (w : WordFrame) → IsAlike frame w → IsPlaced code frame → (instr : CodeInstr)
+  in_code : (frame : TacFrame) (w : WordFrame) → IsAlike frame w → IsPlaced code frame → (instr : CodeInstr)
       → current code frame ≡ Some instr → IsInCode code w
   in_code frame w alike p instr cur =
-      let f : function_of code w.function ≡ Some p.0 = ap (function_of code) alike.function ∙ p.1 in
+      let f : code_function code w.function ≡ Some p.0 = ap (code_function code) alike.function ∙ p.1 in
       let now : current code (bare w) ≡ Some instr = current_alike code frame w alike ∙ cur in
       record {
         fn = p.0;
@@ -43,7 +43,7 @@ module _ (code : Code) (addresses : List ℕ) where
         words = alike.as_many ∙ p.2;
       }
 
-  callers_in_code : (frame : Frame) (callers : List Frame) (ws : List WordFrame) → CalledFrom code frame callers → ArePlaced code callers
+  callers_in_code : (frame : TacFrame) (callers : List TacFrame) (ws : List WordFrame) → CalledFrom code frame callers → ArePlaced code callers
       → CallersShow code addresses callers ws → (i : ℕ) (w : WordFrame) → slice_get ws i ≡ Some w → IsInCode code w
   callers_in_code frame [] [] from p sh i w e = absurd (no_element w e)
   callers_in_code frame [] (u ∷ ws) from p sh i w e = absurd sh
@@ -52,7 +52,7 @@ module _ (code : Code) (addresses : List ℕ) where
       subst (IsInCode code) (same_Some u w e) (in_code caller u sh.0.alike p.0 from.2 from.3)
   callers_in_code frame (caller ∷ callers) (u ∷ ws) from p sh (suc i) w e = callers_in_code caller callers ws p.1 p.2 sh.1 i w e
 
-  frames_in_code : (frames : List Frame) (ws : List WordFrame) → ArePlaced code frames → HasNewestInstr code frames
+  frames_in_code : (frames : List TacFrame) (ws : List WordFrame) → ArePlaced code frames → HasNewestInstr code frames
       → FramesShow code addresses frames ws → (i : ℕ) (w : WordFrame) → slice_get ws i ≡ Some w → IsInCode code w
   frames_in_code [] [] p n sh i w e = absurd (no_element w e)
   frames_in_code [] (u ∷ ws) p n sh i w e = absurd sh
@@ -63,8 +63,8 @@ module _ (code : Code) (addresses : List ℕ) where
 
   -- ---- a caller
 
-  waits_at : IsChecked code → (w caller : WordFrame) (fn cfn : CodeFn) (call : CodeInstr) → function_of code w.function ≡ Some fn
-      → function_of code caller.function ≡ Some cfn → slice_get cfn.body caller.next ≡ Some call → current code (bare caller) ≡ Some call
+  waits_at : IsChecked code → (w caller : WordFrame) (fn cfn : CodeFn) (call : CodeInstr) → code_function code w.function ≡ Some fn
+      → code_function code caller.function ≡ Some cfn → slice_get cfn.body caller.next ≡ Some call → current code (bare caller) ≡ Some call
       → (op : CodeOp) → call.op ≡ op → IsCallOf code op fn → IsCalledBy code w caller
   waits_at checked w caller fn cfn call known cknown there cur (Call to n from passes protects removes) is calls =
       let c = subst (HasCallee code) is (callees_exist code caller.function caller.next cfn call checked cknown there) in
@@ -91,7 +91,7 @@ module _ (code : Code) (addresses : List ℕ) where
   waits_at checked w caller fn cfn call known cknown there cur (Branch test target removes other otherwise) is calls = absurd calls
   waits_at checked w caller fn cfn call known cknown there cur (Return value) is calls = absurd calls
 
-  caller_waits : IsChecked code → (frames : List Frame) (w caller : WordFrame) (ws : List WordFrame) → ArePlaced code frames
+  caller_waits : IsChecked code → (frames : List TacFrame) (w caller : WordFrame) (ws : List WordFrame) → ArePlaced code frames
       → FramesShow code addresses frames (w ∷ caller ∷ ws) → IsCalledBy code w caller
   unfolding in_code
   caller_waits checked [] w caller ws p sh = absurd sh
@@ -99,7 +99,7 @@ module _ (code : Code) (addresses : List ℕ) where
   caller_waits checked (frame ∷ from ∷ callers) w caller ws p sh =
       let called = p.1 in
       let i = in_code from caller sh.1.0.alike p.2.0 called.2 called.3 in
-      waits_at checked w caller called.0 i.fn called.2 (ap (function_of code) sh.0.alike.function ∙ called.1) i.in_fn i.at i.cur
+      waits_at checked w caller called.0 i.fn called.2 (ap (code_function code) sh.0.alike.function ∙ called.1) i.in_fn i.at i.cur
       called.2.op refl called.4
 
 pub all_in_code : FramesInCode
@@ -136,7 +136,7 @@ next_known T g c x w ws is none free =
 -- ---- offers
 
 -- frames before a send, in words
-at_send : (T : Setup) (c : Record) (addresses : List ℕ) (frame : Frame) (callers : List Frame) (ws : List WordFrame) (instr : CodeInstr)
+at_send : (T : Setup) (c : Record) (addresses : List ℕ) (frame : TacFrame) (callers : List TacFrame) (ws : List WordFrame) (instr : CodeInstr)
     (to : Option ℕ) (from removes : List ℕ) → current T.code frame ≡ Some instr
     → instr.op ≡ Do to Send from removes
     → c.frame.frames ≡ ws → FramesShow T.code addresses (frame ∷ callers) ws → IsAtSend T c
@@ -176,7 +176,7 @@ module _ {T : Setup} {g : ℕ} {c : Record} (x : Here T g c) where
             is ∙ ap nameless e,
             ap (λ (k : Holder). k.duties) y.holder ∙ ap (slot_duties (I x).places.slot) f.0,
             at_send T c (I x).addresses s.frame s.callers c.frame.frames s.instr s.to (s.channel ∷ s.sent ∷ []) s.removes s.cur s.is refl
-                (subst (λ (fs : List Frame). FramesShow T.code (I x).addresses fs c.frame.frames) now y.shown),
+                (subst (λ (fs : List TacFrame). FramesShow T.code (I x).addresses fs c.frame.frames) now y.shown),
           )
 
   offer_past : Past x (fitted x).frames (fitted x).h → Known

@@ -1,32 +1,32 @@
 -- What a call or a start passes has a region.
 use Rattle.std.proofs.Common.{◌≡◌, ◌≢◌, ◌∙◌, ◌≤◌, ℕ, zero, suc, true, List, [], ◌∷◌, length, map, Option, Some, None, is_some, option_map, slice_get, Contains, refl, sym, ap, subst, arith}
 use Rattle.std.proofs.lemmas.Option.{same_Some}
-use Rattle.rgo_sound.specs.Code.ClassRules.{CallPasses, CallsPass, Passes, StartPasses, StartsPass}
+use Rattle.rgo_sound.specs.Code.ClassRules.{CallPasses, CallsPass, PassesClasses, StartPasses, StartsPass}
 use Rattle.rgo_sound.specs.Code.Code.{CodeFn, CodeOp, Go}
 use Rattle.rgo_sound.specs.Code.Erasure.{erased, erased_fn, erased_op}
-use Rattle.rgo_sound.specs.Code.Exists.{OpExists, Uses}
+use Rattle.rgo_sound.specs.Code.Exists.{OpExists, UsesVariable}
 use Rattle.rgo_sound.specs.Code.NameRules.{protected_names}
-use Rattle.rgo_sound.specs.Code.Names.{Names}
-use Rattle.rgo_sound.specs.Code.Types.{ArgumentsFit, OpFits, TargetFits}
+use Rattle.rgo_sound.specs.Code.Names.{UsesRegionName}
+use Rattle.rgo_sound.specs.Code.Types.{ArgumentsFit, IsWellTypedOp, TargetFits}
 use Rattle.rgo_sound.specs.Code.declared.rules.Line.TheVariants as line
 use Rattle.rgo_sound.specs.Code.declared.rules.Rule.TheVariants as rule
-use Rattle.rgo_core.proofs.Frames.SlotLemmas.{class_slot, top_slot}
+use Rattle.rgo_core.proofs.Frames.regions.SlotLemmas.{class_slot, top_slot}
 use Rattle.rgo_core.specs.Frames.Before.{IsBefore}
 use Rattle.rgo_core.specs.Frames.Slots.{slot, slot_environment, slot_environments, slot_names}
-use Rattle.rgo_sound.specs.RegionMachine.Owed.{function_of, regions_named}
+use Rattle.rgo_sound.specs.RegionMachine.Owed.{code_function, regions_named}
 use Rattle.rgo_sound.specs.RegionMachine.Regions.{Bindings, bound, class_region, same_region}
-use Rattle.rgo_sound.specs.RegionMachine.States.{Environment, Holder, top_names}
+use Rattle.rgo_sound.specs.RegionMachine.States.{RegionEnvironment, Holder, top_names}
 use Rattle.rgo_sound.specs.RegionMachine.declared.regions.Region.{Region}
 use Rattle.rgo_sound.specs.RegionMachine.declared.regions.Region.TheVariants.{Global as GlobalRegion, Numbered}
-use Rattle.rgo_sound.proofs.Attends.{same_reflexive}
-use Rattle.rgo_sound.proofs.Calls.{ArePassable}
-use Rattle.rgo_sound.proofs.Passable.{all_passable, call_reads, call_writes, go_reads}
+use Rattle.rgo_sound.proofs.duties.Attends.{same_reflexive}
+use Rattle.rgo_sound.proofs.calls.Passed.{ArePassable}
+use Rattle.rgo_sound.proofs.calls.Passable.{all_passable, call_reads, call_writes, go_reads}
 use Rattle.rgo_sound.proofs.Places.{head_is}
-use Rattle.rgo_sound.proofs.Ruled.{CallIsThere, StartIsThere, call_is_there, erased_found, start_is_there}
-use Rattle.rgo_sound.proofs.Shares.{at_most_one_is}
-use Rattle.rgo_sound.proofs.Starts.{in_of_times}
-use Rattle.rgo_sound.proofs.Static.{named_bound, standing_instr, standing_settled}
-use Rattle.rgo_sound.proofs.ValueSteps.{Top, top_of}
+use Rattle.rgo_sound.proofs.names.Ruled.{CallIsThere, StartIsThere, call_is_there, erased_found, start_is_there}
+use Rattle.rgo_sound.proofs.names.Pending.{at_most_one_is}
+use Rattle.rgo_sound.proofs.calls.Starts.{in_of_times}
+use Rattle.rgo_sound.proofs.names.Edges.{named_bound, standing_instr, standing_settled}
+use Rattle.rgo_sound.proofs.pointers.Steps.{Top, top_of}
 use Rattle.rgo_sound.specs.Invariant.{HasInstr, Settled, Shares, at_most_one, bound_times, same_bound, shared_before, shared_names, times, to_share}
 use Rattle.rgo_sound.specs.Stakes.{is_in, one_if, times_in}
 use Rattle.rgo_sound.specs.Tac.Code.{TacFn}
@@ -35,8 +35,8 @@ use Rattle.rgo_sound.specs.Tac.declared.regions.Class.TheVariants.{Global, Name,
 use Rattle.rgo_core.specs.Core.{Here, Setup}
 use Rattle.rgo_core.specs.Next.{IsAt}
 use Rattle.rgo_core.specs.Records.{Record}
-use Rattle.rgo_core.proofs.Parts.{I}
-use Rattle.rgo_core.proofs.Standing.{at_instruction}
+use Rattle.rgo_core.proofs.image.Parts.{I}
+use Rattle.rgo_core.proofs.image.Standing.{at_instruction}
 use Rattle.rgo_core_facts.specs.ControlRegions.{CallPassesRegions, HaveRegions, IsStaked, NewestUnprotected, StartPassesRegions, StartSharesRegions}
 use Rattle.rgo_core_facts.proofs.ControlPending.{some_region}
 use Rattle.rgo_core_facts.proofs.ControlRegions.{newest_names}
@@ -70,7 +70,7 @@ module _ {T : Setup} {g : ℕ} {c : Record} (x : Here T g c) {op : CodeOp} (a : 
   settled : Settled top.stands.fn B.frame.next a.instr top.f.names top.f.protections
   settled = standing_settled T.code B.frame top.f B.h.duties a.instr top.stands B.cur B.none
 
-  named : (k : ℕ) → Names top.stands.fn a.instr.op k → bound top.f.names k ≢ None
+  named : (k : ℕ) → UsesRegionName top.stands.fn a.instr.op k → bound top.f.names k ≢ None
   named k n = named_bound top.stands.fn B.frame.next k a.instr top.f.names
       (x.core.sound.checked rule.Creations (line.Instr B.frame.function B.frame.next) top.stands.fn a.instr top.stands.is_fn here)
       settled.there settled.made settled.lent n
@@ -91,12 +91,12 @@ module _ {T : Setup} {g : ℕ} {c : Record} (x : Here T g c) {op : CodeOp} (a : 
       ∙ ap (λ (ns : Bindings). class_region ns class) (top_slot (I x).places.slot B.h.environments)
       ∙ class_slot (I x).places.slot (top_names B.h.environments) class
       ∙ ap (option_map (slot (I x).places.slot))
-      (ap (λ (es : List Environment). class_region (top_names es) class) top.environments ∙ q.1) in
+      (ap (λ (es : List RegionEnvironment). class_region (top_names es) class) top.environments ∙ q.1) in
       (slot (I x).places.slot q.0, is, class_staked class (slot (I x).places.slot q.0) is)
 
-  module _ (n : ℕ) (callee : CodeFn) (to : Option ℕ) (from : List ℕ) (passes : List Class) (found : function_of T.code n ≡ Some callee) where
-    passable : ((v : ℕ) → Contains from v → Uses (erased_op a.instr.op) v) → ((d : ℕ) → to ≡ Some d → Uses (erased_op a.instr.op) d)
-        → length from ≡ callee.params → is_some to ≡ is_some callee.result → Passes top.stands.fn callee to from passes
+  module _ (n : ℕ) (callee : CodeFn) (to : Option ℕ) (from : List ℕ) (passes : List Class) (found : code_function T.code n ≡ Some callee) where
+    passable : ((v : ℕ) → Contains from v → UsesVariable (erased_op a.instr.op) v) → ((d : ℕ) → to ≡ Some d → UsesVariable (erased_op a.instr.op) d)
+        → length from ≡ callee.params → is_some to ≡ is_some callee.result → PassesClasses top.stands.fn callee to from passes
         → ArgumentsFit (erased_fn top.stands.fn) (Some (erased_fn callee)) from
         → TargetFits (erased_fn top.stands.fn) (Some (erased_fn callee)) to → ArePassable top.f.names passes
     passable read written args res fits types target =
@@ -116,7 +116,7 @@ call_passes T g c x to n from passes protects removes a =
         (x.core.sound.checked rule.Exists (line.Instr (B x a).frame.function (B x a).frame.next) (top x a).stands.fn a.instr
         (top x a).stands.is_fn (here x a)).exists)
 
-    fits : Passes (top x a).stands.fn there.callee to from passes
+    fits : PassesClasses (top x a).stands.fn there.callee to from passes
     fits = subst (λ o. CallPasses (top x a).stands.fn o to from passes) there.found
         (subst (λ o. CallsPass T.code (top x a).stands.fn o) a.is
         (x.core.sound.checked rule.Calls (line.Instr (B x a).frame.function (B x a).frame.next) (top x a).stands.fn a.instr
@@ -126,7 +126,7 @@ call_passes T g c x to n from passes protects removes a =
         × TargetFits (erased_fn (top x a).stands.fn) (Some (erased_fn there.callee)) to
     types = subst (λ (o : Option TacFn). ArgumentsFit (erased_fn (top x a).stands.fn) o from × TargetFits (erased_fn (top x a).stands.fn) o to)
         (erased_found T.code n there.callee there.found)
-        (subst (λ (o : CodeOp). OpFits (erased T.code) (erased_fn (top x a).stands.fn) (erased_op o)) a.is
+        (subst (λ (o : CodeOp). IsWellTypedOp (erased T.code) (erased_fn (top x a).stands.fn) (erased_op o)) a.is
         (x.core.sound.checked rule.Types (line.Instr (B x a).frame.function (B x a).frame.next) (top x a).stands.fn a.instr
         (top x a).stands.is_fn (here x a)))
 
@@ -144,7 +144,7 @@ start_passes T g c x n from passes removes a =
         (x.core.sound.checked rule.Exists (line.Instr (B x a).frame.function (B x a).frame.next) (top x a).stands.fn a.instr
         (top x a).stands.is_fn (here x a)).exists)
 
-    fits : (there.callee.result ≡ None) × Passes (top x a).stands.fn there.callee None from passes
+    fits : (there.callee.result ≡ None) × PassesClasses (top x a).stands.fn there.callee None from passes
     fits = subst (λ o. StartPasses (top x a).stands.fn o from passes) there.found
         (subst (λ o. StartsPass T.code (top x a).stands.fn o) a.is
         (x.core.sound.checked rule.Starts (line.Instr (B x a).frame.function (B x a).frame.next) (top x a).stands.fn a.instr
@@ -153,7 +153,7 @@ start_passes T g c x n from passes removes a =
     types : ArgumentsFit (erased_fn (top x a).stands.fn) (Some (erased_fn there.callee)) from
     types = subst (λ (o : Option TacFn). ArgumentsFit (erased_fn (top x a).stands.fn) o from)
         (erased_found T.code n there.callee there.found)
-        (subst (λ (o : CodeOp). OpFits (erased T.code) (erased_fn (top x a).stands.fn) (erased_op o)) a.is
+        (subst (λ (o : CodeOp). IsWellTypedOp (erased T.code) (erased_fn (top x a).stands.fn) (erased_op o)) a.is
         (x.core.sound.checked rule.Types (line.Instr (B x a).frame.function (B x a).frame.next) (top x a).stands.fn a.instr
         (top x a).stands.is_fn (here x a)))
 
@@ -242,4 +242,4 @@ newest_unprotected T g c x op a none e es is =
     let same : slot_environment (I x).places.slot f ≡ e = head_is (slot_environment (I x).places.slot f) e
     (slot_environments (I x).places.slot (top x a).fs) es
     (sym (ap (slot_environments (I x).places.slot) (top x a).environments) ∙ (sym (ap (λ (k : Holder). k.environments) (B x a).holder) ∙ is)) in
-    ap (λ (y : Environment). y.protections) (sym same) ∙ ap (map (slot (I x).places.slot)) empty
+    ap (λ (y : RegionEnvironment). y.protections) (sym same) ∙ ap (map (slot (I x).places.slot)) empty

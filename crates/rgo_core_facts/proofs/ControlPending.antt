@@ -5,9 +5,9 @@ use Rattle.rgo_sound.specs.RegionMachine.Regions.{Bindings, bound, same_region, 
 use Rattle.rgo_sound.specs.RegionMachine.States.{Create, Duty, EndBase, Protect, Remove, Share, Unprotect}
 use Rattle.rgo_sound.specs.RegionMachine.declared.regions.Region.{Region}
 use Rattle.rgo_sound.specs.RegionMachine.declared.regions.Region.TheVariants.{Global as GlobalRegion, Numbered}
-use Rattle.rgo_sound.proofs.CoreLemmas.{bound_unbind, bound_unbind_other}
-use Rattle.rgo_sound.proofs.Moves.{same_regions}
-use Rattle.rgo_sound.proofs.Shares.{at_most_one_some}
+use Rattle.rgo_sound.proofs.names.Core.{bound_unbind, bound_unbind_other}
+use Rattle.rgo_sound.proofs.duties.Moves.{same_regions}
+use Rattle.rgo_sound.proofs.names.Pending.{at_most_one_some}
 use Rattle.rgo_sound.proofs.Tests.{eq_of, split}
 use Rattle.rgo_sound.specs.Invariant.{IsReady, Shares, bound_times, same_bound, with_pending}
 use Rattle.rgo_sound.specs.Stakes.{one_if, times_in}

@@ -4,7 +4,7 @@ use Rattle.std.proofs.lemmas.Option.{same_Some}
 use Rattle.std.specs.Int.{from_bool}
 use Rattle.rgo_sound.specs.Code.Code.{CodeFn, CodeOp, Print, Slot}
 use Rattle.rgo_sound.specs.Code.Erasure.{erased, erased_fn, erased_op}
-use Rattle.rgo_sound.specs.Code.Types.{HasType, OpFits}
+use Rattle.rgo_sound.specs.Code.Types.{VariableHasType, IsWellTypedOp}
 use Rattle.rgo_sound.specs.Code.declared.rules.Line.TheVariants as line
 use Rattle.rgo_sound.specs.Code.declared.rules.Rule.TheVariants as rule
 use Rattle.rgo_core.specs.Frames.Before.{IsBefore}
@@ -13,9 +13,9 @@ use Rattle.rgo_core.specs.Frames.WordFrames.{word_at}
 use Rattle.rgo_core.specs.Frames.Words.{Shows}
 use Rattle.rgo_sound.specs.Memory.declared.values.Value.{Value}
 use Rattle.rgo_sound.specs.Memory.declared.values.Value.TheVariants as value
-use Rattle.rgo_sound.specs.RegionMachine.Owed.{current_in, function_at, function_of}
-use Rattle.rgo_sound.proofs.Passable.{slot_at}
-use Rattle.rgo_sound.proofs.TypedSteps.{var_kind}
+use Rattle.rgo_sound.specs.RegionMachine.Owed.{current_in, function_at, code_function}
+use Rattle.rgo_sound.proofs.calls.Passable.{slot_at}
+use Rattle.rgo_sound.proofs.types.Steps.{var_kind}
 use Rattle.rgo_sound.specs.Types.{HasKind}
 use Rattle.rgo_sound.specs.Tac.Flow.{reads}
 use Rattle.rgo_sound.specs.Tac.Frames.{value_at}
@@ -25,8 +25,8 @@ use Rattle.rgo_sound.specs.Typed.declared.types.Type.{«Type»}
 use Rattle.rgo_core.specs.Core.{Here, Setup}
 use Rattle.rgo_core.specs.Next.{IsAt}
 use Rattle.rgo_core.specs.Records.{Record}
-use Rattle.rgo_core.proofs.Parts.{I}
-use Rattle.rgo_core.proofs.Standing.{at_instruction}
+use Rattle.rgo_core.proofs.image.Parts.{I}
+use Rattle.rgo_core.proofs.image.Standing.{at_instruction}
 use Rattle.rgo_core_facts.specs.ControlPrints.{IsBoolWord, IsIntWord, IsPrinted, OperandsPrinted}
 
 zero_or_one : (b : Bool) (word : ℕ) → word ≡ from_bool b → (word ≡ 0) ⊎ (word ≡ 1)
@@ -50,16 +50,16 @@ module _ {T : Setup} {g : ℕ} {c : Record} (x : Here T g c) (pieces : List Piec
   there : slice_get a.fn.body a.w.next ≡ Some a.instr
   there = sym (ap (λ o. current_in o a.w.next) a.in_fn) ∙ a.cur
 
-  typed : OpFits (erased T.code) (erased_fn a.fn) (erased_op (Print pieces from removes))
-  typed = subst (λ (o : CodeOp). OpFits (erased T.code) (erased_fn a.fn) (erased_op o)) a.is
+  typed : IsWellTypedOp (erased T.code) (erased_fn a.fn) (erased_op (Print pieces from removes))
+  typed = subst (λ (o : CodeOp). IsWellTypedOp (erased T.code) (erased_fn a.fn) (erased_op o)) a.is
       (x.core.sound.checked rule.Types (line.Instr a.w.function a.w.next) a.fn a.instr a.in_fn there)
 
-  kind : (v : ℕ) (ty : «Type») → HasType (erased_fn a.fn) v ty → HasKind B.kinds ty (value_at B.frame v)
+  kind : (v : ℕ) (ty : «Type») → VariableHasType (erased_fn a.fn) v ty → HasKind B.kinds ty (value_at B.frame v)
   kind v ty t =
-      let at : function_at T.code B.frame ≡ Some a.fn = ap (function_of T.code) (sym B.newest.alike.function) ∙ a.in_fn in
+      let at : function_at T.code B.frame ≡ Some a.fn = ap (code_function T.code) (sym B.newest.alike.function) ∙ a.in_fn in
       let same : a.fn ≡ B.typed.0.0 = same_Some a.fn B.typed.0.0 (sym at ∙ B.typed.0.1) in
       var_kind B.kinds (erased_fn B.typed.0.0) B.frame B.typed.0.2 v ty
-      (subst (λ (f : CodeFn). HasType (erased_fn f) v ty) same t)
+      (subst (λ (f : CodeFn). VariableHasType (erased_fn f) v ty) same t)
 
   pub printed : (v : ℕ) → Contains from v → IsPrinted a.fn a.w v
   printed v within =

@@ -5,59 +5,59 @@ use Rattle.std.proofs.lemmas.Option.{same_Some, some_pair_parts}
 use Rattle.std.specs.List.{list_any}
 use Rattle.rgo_sound.specs.Code.Code.{Code}
 use Rattle.rgo_core.proofs.Frames.Before.{no_duties}
-use Rattle.rgo_core.proofs.Frames.LocalActs.{chained}
+use Rattle.rgo_core.proofs.Frames.steps.LocalActs.{chained}
 use Rattle.rgo_core.specs.Frames.Shown.{CallersShow, FramesShow}
 use Rattle.rgo_core.specs.Frames.Slots.{slot, slot_environment}
 use Rattle.rgo_core.specs.Frames.Stakes.{ended, stake_ended}
 use Rattle.rgo_core.specs.Frames.WordFrames.{WordFrame}
-use Rattle.rgo_core.proofs.Memory.Slots.{live_info}
-use Rattle.rgo_core.proofs.Memory.Stepped.{map_get}
-use Rattle.rgo_core.specs.Memory.Ground.{Held, Uses, held_of}
+use Rattle.rgo_core.proofs.Memory.regions.Slots.{live_info}
+use Rattle.rgo_core.proofs.Memory.image.Stepped.{map_get}
+use Rattle.rgo_core.specs.Memory.Ground.{Held, MayUseRegion, held_of}
 use Rattle.rgo_core.specs.Memory.Parts.{slot_of}
 use Rattle.rgo_core.specs.Memory.Records.{Fill, Within}
 use Rattle.rgo_sound.specs.RegionMachine.Duties.{guards}
 use Rattle.rgo_sound.specs.RegionMachine.Regions.{bound, removed_once, same_region, unbind, without}
-use Rattle.rgo_sound.specs.RegionMachine.States.{Create, Duty, EndBase, Environment, Holder, Protect, Remove, Share, Unprotect, frames_in, top_names, with_top}
+use Rattle.rgo_sound.specs.RegionMachine.States.{Create, Duty, EndBase, RegionEnvironment, Holder, Protect, Remove, Share, Unprotect, frames_in, top_names, with_top}
 use Rattle.rgo_sound.specs.RegionMachine.declared.regions.Region.{Region}
 use Rattle.rgo_sound.specs.RegionMachine.declared.regions.Region.TheVariants.{Global as GlobalRegion, Numbered}
-use Rattle.rgo_sound.proofs.Attends.{staked_live}
-use Rattle.rgo_sound.proofs.Bullets.{stakes_counted}
-use Rattle.rgo_sound.proofs.CoreLemmas.{not_in_without}
+use Rattle.rgo_sound.proofs.duties.Attends.{staked_live}
+use Rattle.rgo_sound.proofs.names.Stakes.{stakes_counted}
+use Rattle.rgo_sound.proofs.names.Core.{not_in_without}
 use Rattle.rgo_sound.specs.Core.{AreStaked, AreUniqueIn, RegionsStaked}
 use Rattle.rgo_sound.specs.Invariant.{AllWait, FramesFit, GoodHolder, Shares, to_share}
 use Rattle.rgo_sound.specs.Stakes.{is_in, times_in}
-use Rattle.rgo_sound.specs.Tac.Frames.{Frame}
+use Rattle.rgo_sound.specs.Tac.Frames.{TacFrame}
 use Rattle.rgo_core.specs.Core.{Here, Setup, layout}
 use Rattle.rgo_core.specs.Records.{Record}
-use Rattle.rgo_core.proofs.Parts.{I}
-use Rattle.rgo_core.proofs.Standing.{memory_at}
+use Rattle.rgo_core.proofs.image.Parts.{I}
+use Rattle.rgo_core.proofs.image.Standing.{memory_at}
 use Rattle.rgo_core_steps.specs.Counts.{by_first}
 use Rattle.rgo_core_facts.specs.ControlRegions.{HasEnvironment, HasNothingOf, IsStaked, KnowsRegions, NewestNames, NoStakeAtEnd, NothingKept, RegionsKnown, StakeEnds}
 use Rattle.rgo_core_facts.proofs.ControlPending.{none_pending_at_end, pending_bound}
 use Rattle.rgo_core_facts.proofs.ControlSlots.{all_unique_slotted, any_unslotted, bound_unslotted, environment_unslotted, in_mapped, in_unmapped, staked_at, times_unmapped}
 use Rattle.rgo_core_facts.proofs.ControlView.{Past, Seen, Shown, fitted, good_holder, seen, seen_good}
 
-all_wait_many : (code : Code) (frames : List Frame) (es : List Environment) → AllWait code frames es → length es ≡ length frames
+all_wait_many : (code : Code) (frames : List TacFrame) (es : List RegionEnvironment) → AllWait code frames es → length es ≡ length frames
 all_wait_many code [] [] w = refl
 all_wait_many code [] (e ∷ es) w = absurd w
 all_wait_many code (frame ∷ frames) [] w = absurd w
 all_wait_many code (frame ∷ frames) (e ∷ es) w = let n = all_wait_many code frames es w.1 in omega (arith, n)
 
-pub environments_many : (code : Code) (base : List Region) (frames : List Frame) (es : List Environment) (ds : List Duty)
+pub environments_many : (code : Code) (base : List Region) (frames : List TacFrame) (es : List RegionEnvironment) (ds : List Duty)
     → FramesFit code base frames es ds → length es ≡ length frames
 environments_many code base [] [] ds f = refl
 environments_many code base [] (e ∷ es) ds f = absurd f
 environments_many code base (frame ∷ frames) [] ds f = absurd f
 environments_many code base (frame ∷ frames) (e ∷ es) ds f = let n = all_wait_many code frames es f.1 in omega (arith, n)
 
-callers_many : (code : Code) (addresses : List ℕ) (frames : List Frame) (ws : List WordFrame) → CallersShow code addresses frames ws
+callers_many : (code : Code) (addresses : List ℕ) (frames : List TacFrame) (ws : List WordFrame) → CallersShow code addresses frames ws
     → length ws ≡ length frames
 callers_many code addresses [] [] sh = refl
 callers_many code addresses [] (w ∷ ws) sh = absurd sh
 callers_many code addresses (frame ∷ frames) [] sh = absurd sh
 callers_many code addresses (frame ∷ frames) (w ∷ ws) sh = let n = callers_many code addresses frames ws sh.1 in omega (arith, n)
 
-frames_many : (code : Code) (addresses : List ℕ) (frames : List Frame) (ws : List WordFrame) → FramesShow code addresses frames ws
+frames_many : (code : Code) (addresses : List ℕ) (frames : List TacFrame) (ws : List WordFrame) → FramesShow code addresses frames ws
     → length ws ≡ length frames
 frames_many code addresses [] [] sh = refl
 frames_many code addresses [] (w ∷ ws) sh = absurd sh
@@ -65,11 +65,11 @@ frames_many code addresses (frame ∷ frames) [] sh = absurd sh
 frames_many code addresses (frame ∷ frames) (w ∷ ws) sh = let n = callers_many code addresses frames ws sh.1 in omega (arith, n)
 
 -- a pending stake is in a region in which the goroutine has one
-pending_staked : (code : Code) (frames : List Frame) (h : Holder) → GoodHolder code frames h → (p : ℕ) → 0 < times_in p h.pending
+pending_staked : (code : Code) (frames : List TacFrame) (h : Holder) → GoodHolder code frames h → (p : ℕ) → 0 < times_in p h.pending
     → is_in p h.stakes ≡ true
 pending_staked code frames h good p l = go frames h.environments h.duties good.fit good.shares good.core.staked
   where
-    go : (frames : List Frame) (es : List Environment) (ds : List Duty) → FramesFit code h.base frames es ds
+    go : (frames : List TacFrame) (es : List RegionEnvironment) (ds : List Duty) → FramesFit code h.base frames es ds
         → Shares (to_share code frames) ds (top_names es) h.pending → AreStaked h.stakes es → is_in p h.stakes ≡ true
     go [] [] ds fit shares staked =
         let z = none_pending_at_end h.base p h.pending (subst (λ (d : List Duty). Shares [] d [] h.pending) fit shares) in
@@ -108,16 +108,16 @@ module _ {T : Setup} {g : ℕ} {c : Record} (x : Here T g c) where
       let q = in_unmapped s_of V.h.stakes p (ap (is_in p) (sym V.stakes) ∙ i) in
       subst (λ n. n < T.sizes.regions) q.1 (slot_low q.0 q.2)
 
-  environment_of : (e : Environment) → HasEnvironment c e
-      → (i : ℕ) × (f : Environment) × (slice_get V.h.environments i ≡ Some f) × (slot_environment s_of f ≡ e)
+  environment_of : (e : RegionEnvironment) → HasEnvironment c e
+      → (i : ℕ) × (f : RegionEnvironment) × (slice_get V.h.environments i ≡ Some f) × (slot_environment s_of f ≡ e)
   environment_of e (i, at) =
       let f = environment_unslotted s_of V.h.environments i e (ap (λ es. slice_get es i) (sym V.environments) ∙ at) in
       (i, f.0, f.1, f.2)
 
-  pub names_staked : (e : Environment) (k : ℕ) (r : Region) → HasEnvironment c e → bound e.names k ≡ Some r → IsStaked T c r
+  pub names_staked : (e : RegionEnvironment) (k : ℕ) (r : Region) → HasEnvironment c e → bound e.names k ≡ Some r → IsStaked T c r
   names_staked e k r has b =
       let f = environment_of e has in
-      let q = bound_unslotted s_of f.1.names k r (ap (λ (y : Environment). bound y.names k) f.3 ∙ b) in
+      let q = bound_unslotted s_of f.1.names k r (ap (λ (y : RegionEnvironment). bound y.names k) f.3 ∙ b) in
       region_staked q.0 r q.2
       (λ j is. (staked_at V.h.stakes V.h.environments f.0 f.1 (seen_good x).core.staked f.2).0 k j (q.1 ∙ ap Some is))
 
@@ -127,11 +127,11 @@ module _ {T : Setup} {g : ℕ} {c : Record} (x : Here T g c) where
       let q = any_unslotted s_of rs r e in
       region_staked q.0 r q.1 (λ j is. staked j (ap (λ y. list_any (same_region y) rs) (sym is) ∙ q.2))
 
-  protections_staked : (e : Environment) (r : Region) → HasEnvironment c e → list_any (same_region r) e.protections ≡ true → IsStaked T c r
+  protections_staked : (e : RegionEnvironment) (r : Region) → HasEnvironment c e → list_any (same_region r) e.protections ≡ true → IsStaked T c r
   protections_staked e r has a =
       let f = environment_of e has in
       listed_staked f.1.protections r (staked_at V.h.stakes V.h.environments f.0 f.1 (seen_good x).core.staked f.2).1
-      (ap (λ (y : Environment). list_any (same_region r) y.protections) f.3 ∙ a)
+      (ap (λ (y : RegionEnvironment). list_any (same_region r) y.protections) f.3 ∙ a)
 
   pub base_staked : (r : Region) → list_any (same_region r) c.frame.holder.base ≡ true → IsStaked T c r
   base_staked r a = listed_staked V.h.base r (seen_good x).core.based (ap (list_any (same_region r)) (sym V.base) ∙ a)
@@ -146,9 +146,9 @@ module _ {T : Setup} {g : ℕ} {c : Record} (x : Here T g c) where
   pages_staked f within =
       let w = (I x).memory.filled.fills g f (c.memory, memory_at x, within) in
       let held : w.0 ≡ held_of V.h = same_Some w.0 (held_of V.h) (sym w.2 ∙ map_get held_of x.s.holders g V.h V.there) in
-      by w.1 (subst (λ (y : Held). Uses y w.1) held w.3) w.4
+      by w.1 (subst (λ (y : Held). MayUseRegion y w.1) held w.3) w.4
     where
-      by : (r : Region) → Uses (held_of V.h) r → slot_of (layout T) s_of r ≡ f.slot
+      by : (r : Region) → MayUseRegion (held_of V.h) r → slot_of (layout T) s_of r ≡ f.slot
           → (f.slot ≡ T.sizes.regions) ⊎ IsStaked T c (Numbered f.slot)
       by GlobalRegion u e = inl (sym e)
       by (Numbered k) u e = inr (subst (λ n. IsStaked T c (Numbered n)) e (number_staked k u))
@@ -175,7 +175,7 @@ regions_known T g c x = record {
 pub newest_names : NewestNames
 newest_names T g c x k r b = by c.frame.holder.environments refl b
   where
-    by : (es : List Environment) → c.frame.holder.environments ≡ es → bound (top_names es) k ≡ Some r → IsStaked T c r
+    by : (es : List RegionEnvironment) → c.frame.holder.environments ≡ es → bound (top_names es) k ≡ Some r → IsStaked T c r
     by [] e b = absurd (none b)
       where
         none : None ≡ Some r → ⊥
@@ -245,7 +245,7 @@ stake_ends c slot k e = by c.frame.holder.duties e
 
 -- ---- at the end
 
-no_frames : (code : Code) (addresses : List ℕ) (frames : List Frame) (ws : List WordFrame) → ws ≡ [] → FramesShow code addresses frames ws
+no_frames : (code : Code) (addresses : List ℕ) (frames : List TacFrame) (ws : List WordFrame) → ws ≡ [] → FramesShow code addresses frames ws
     → frames ≡ []
 no_frames code addresses [] ws e sh = refl
 no_frames code addresses (frame ∷ frames) [] e sh = absurd sh
@@ -282,7 +282,7 @@ module _ {T : Setup} {g : ℕ} {c : Record} (x : Here T g c) (gone : c.frame.fra
         ap (λ (k : Holder). k.base) y.holder ∙ ap (map (slot (I x).places.slot)) base,
       )
     where
-      by : (frames : List Frame) (es : List Environment) (ds : List Duty) → frames ≡ [] → ds ≡ []
+      by : (frames : List TacFrame) (es : List RegionEnvironment) (ds : List Duty) → frames ≡ [] → ds ≡ []
           → FramesFit T.code (fitted x).h.base frames es ds → (fitted x).h.base ≡ []
       by [] [] ds e d fit = no_ends (fitted x).h.base (sym d ∙ fit)
       by [] (e ∷ es) ds q d fit = absurd fit

@@ -5,8 +5,8 @@ use Rattle.rgo_sound.specs.Ast.declared.ops.BinaryOp.TheVariants as binary
 use Rattle.rgo_sound.specs.Ast.declared.ops.BinaryOp.{BinaryOp}
 use Rattle.rgo_sound.specs.Code.Code.{Branch, Call, CodeOp, Do, Go, Jump, Print, Return}
 use Rattle.rgo_sound.specs.Code.Erasure.{erased, erased_fn, erased_op}
-use Rattle.rgo_sound.specs.Code.Exists.{declared_by}
-use Rattle.rgo_sound.specs.Code.Types.{DoFits, HaveTypes, OpFits, ReturnsType}
+use Rattle.rgo_sound.specs.Code.Exists.{declared_in_code}
+use Rattle.rgo_sound.specs.Code.Types.{DoFits, VariablesHaveTypes, IsWellTypedOp, ReturnsType}
 use Rattle.rgo_sound.specs.Code.declared.rules.Line.TheVariants as line
 use Rattle.rgo_sound.specs.Code.declared.rules.Rule.TheVariants as rule
 use Rattle.rgo_sound.specs.Tac.Code.{Tac, TacFn}
@@ -16,7 +16,7 @@ use Rattle.rgo_sound.specs.Typed.declared.types.Type.{«Type»}
 use Rattle.rgo_sound.specs.WellFormed.TypeRules.{Computes, Declared, Takes}
 use Rattle.rgo_core_facts.specs.ControlShapes.{ActionsShaped, HasShape, IsShaped}
 
-have_long : (f : TacFn) (vs : List ℕ) (tys : List «Type») → HaveTypes f vs tys → length vs ≡ length tys
+have_long : (f : TacFn) (vs : List ℕ) (tys : List «Type») → VariablesHaveTypes f vs tys → length vs ≡ length tys
 have_long f vs tys h = sym (length-map vs _) ∙ ap length h ∙ length-map tys _
 
 no_operator : (act : Action) → ((op : BinaryOp) → act ≡ action.Binary op → ⊥) → (op : BinaryOp) → act ≡ action.Binary op
@@ -101,12 +101,12 @@ without_value d action.Chan from tys l h = absurd h
 without_value d action.Recv from tys l h = absurd h
 without_value d (action.Get n) from tys l h = absurd h
 
-shaped : (code : Tac) (f : TacFn) (to : Option ℕ) (act : Action) (from : List ℕ) (tys : List «Type») → HaveTypes f from tys
+shaped : (code : Tac) (f : TacFn) (to : Option ℕ) (act : Action) (from : List ℕ) (tys : List «Type») → VariablesHaveTypes f from tys
     → DoFits code f to act tys → IsShaped to act from
-shaped code f None act from tys have fits = without_value (declared_by code) act from tys (have_long f from tys have) fits
+shaped code f None act from tys have fits = without_value (declared_in_code code) act from tys (have_long f from tys have) fits
 shaped code f (Some d) act from tys have fits = with_value code d act from tys fits.0 (have_long f from tys have) fits.2
 
-by_op : (code : Tac) (f : TacFn) (op : CodeOp) → OpFits code f (erased_op op) → HasShape op
+by_op : (code : Tac) (f : TacFn) (op : CodeOp) → IsWellTypedOp code f (erased_op op) → HasShape op
 by_op code f (Do to act from removes) fits = shaped code f to act from fits.0 fits.1 fits.2
 by_op code f (Call to n from passes protects removes) fits = tt
 by_op code f (Go n from passes removes) fits = tt

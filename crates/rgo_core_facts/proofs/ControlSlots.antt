@@ -2,14 +2,14 @@
 use Rattle.std.proofs.Common.{◌≡◌, ◌∙◌, ◌<◌, ◌||◌, ℕ, zero, suc, Bool, true, false, List, [], ◌∷◌, map, Some, None, option_map, if◌then◌else◌, nat_eq, slice_get, refl, sym, ap, subst, arith, true≢false}
 use Rattle.std.proofs.lemmas.Option.{same_Some, slice_get-map}
 use Rattle.std.specs.List.{list_any}
-use Rattle.rgo_core.proofs.Frames.LocalActs.{mapped}
-use Rattle.rgo_core.proofs.Frames.SlotLemmas.{bound_slot}
+use Rattle.rgo_core.proofs.Frames.steps.LocalActs.{mapped}
+use Rattle.rgo_core.proofs.Frames.regions.SlotLemmas.{bound_slot}
 use Rattle.rgo_core.specs.Frames.Slots.{slot, slot_environment, slot_environments, slot_names}
 use Rattle.rgo_sound.specs.RegionMachine.Regions.{Bindings, bound, same_region}
-use Rattle.rgo_sound.specs.RegionMachine.States.{Environment}
+use Rattle.rgo_sound.specs.RegionMachine.States.{RegionEnvironment}
 use Rattle.rgo_sound.specs.RegionMachine.declared.regions.Region.{Region}
-use Rattle.rgo_sound.proofs.Attends.{same_reflexive}
-use Rattle.rgo_sound.proofs.Moves.{same_regions}
+use Rattle.rgo_sound.proofs.duties.Attends.{same_reflexive}
+use Rattle.rgo_sound.proofs.duties.Moves.{same_regions}
 use Rattle.rgo_sound.proofs.Tests.{eq_of, nat_eq_refl, split}
 use Rattle.rgo_sound.specs.Core.{AreStaked, AreUnique, AreUniqueIn, NamesStaked, RegionsStaked}
 use Rattle.rgo_sound.specs.Stakes.{is_in, one_if, times_in}
@@ -89,25 +89,25 @@ module _ (slot_of : ℕ → ℕ) where
   unique_slotted [] u = tt
   unique_slotted (b ∷ bs) u = (unbound_slotted bs b.0 u.0, unique_slotted bs u.1)
 
-  pub all_unique_slotted : (es : List Environment) → AreUniqueIn es → AreUniqueIn (slot_environments slot_of es)
+  pub all_unique_slotted : (es : List RegionEnvironment) → AreUniqueIn es → AreUniqueIn (slot_environments slot_of es)
   all_unique_slotted [] u = tt
   all_unique_slotted (e ∷ es) u = (unique_slotted e.names u.0, all_unique_slotted es u.1)
 
   -- ---- environments
 
-  pub environment_unslotted : (es : List Environment) (i : ℕ) (e : Environment) → slice_get (slot_environments slot_of es) i ≡ Some e
-      → (f : Environment) × (slice_get es i ≡ Some f) × (slot_environment slot_of f ≡ e)
+  pub environment_unslotted : (es : List RegionEnvironment) (i : ℕ) (e : RegionEnvironment) → slice_get (slot_environments slot_of es) i ≡ Some e
+      → (f : RegionEnvironment) × (slice_get es i ≡ Some f) × (slot_environment slot_of f ≡ e)
   environment_unslotted es i e q =
       mapped (slot_environment slot_of) (slice_get es i) e (sym (slice_get-map (slot_environment slot_of) es i) ∙ q)
 
 -- what is staked in all environments, is in each
-pub staked_at : (stakes : List ℕ) (es : List Environment) (i : ℕ) (e : Environment) → AreStaked stakes es → slice_get es i ≡ Some e
+pub staked_at : (stakes : List ℕ) (es : List RegionEnvironment) (i : ℕ) (e : RegionEnvironment) → AreStaked stakes es → slice_get es i ≡ Some e
     → NamesStaked stakes e.names × RegionsStaked stakes e.protections
 staked_at stakes [] i e s q = absurd (none e q)
   where
-    none : (e : Environment) → None ≡ Some e → ⊥
+    none : (e : RegionEnvironment) → None ≡ Some e → ⊥
     none e q = cc
 staked_at stakes (f ∷ fs) zero e s q =
-    subst (λ (y : Environment). NamesStaked stakes y.names × RegionsStaked stakes y.protections)
+    subst (λ (y : RegionEnvironment). NamesStaked stakes y.names × RegionsStaked stakes y.protections)
     (same_Some f e q) (s.0, s.1)
 staked_at stakes (f ∷ fs) (suc i) e s q = staked_at stakes fs i e s.2 q

@@ -9,15 +9,15 @@ use Rattle.rgo_core.specs.Frames.Stakes.{ended, shared_in}
 use Rattle.rgo_core.specs.Frames.WordFrames.{WordFrame}
 use Rattle.rgo_sound.specs.RegionMachine.Duties.{guards, unprotected, with_protection}
 use Rattle.rgo_sound.specs.RegionMachine.Regions.{Bindings, without}
-use Rattle.rgo_sound.specs.RegionMachine.States.{Create, Duty, EndBase, Environment, Holder, Protect, Remove, Share, Unprotect, with_top}
+use Rattle.rgo_sound.specs.RegionMachine.States.{Create, Duty, EndBase, RegionEnvironment, Holder, Protect, Remove, Share, Unprotect, with_top}
 use Rattle.rgo_sound.specs.RegionMachine.declared.regions.Region.{Region}
 use Rattle.rgo_sound.specs.RegionMachine.declared.regions.Region.TheVariants.{Numbered}
 use Rattle.rgo_core.specs.Core.{Here, Setup}
 use Rattle.rgo_core.specs.Laws.{clock_after}
 use Rattle.rgo_core.specs.Records.{Record}
-use Rattle.rgo_core.proofs.Parts.{shallow}
+use Rattle.rgo_core.proofs.image.Parts.{shallow}
 use Rattle.rgo_core_facts.specs.ControlDuties.{CanAttend}
-use Rattle.rgo_core_facts.specs.ControlSteps.{DutyLaws, LocalDuty, NoneAfterExit, StepsTo, unbased, unnamed}
+use Rattle.rgo_core_facts.specs.ControlSteps.{DutyLaws, LocalDuty, NoneAfterExit, LocalStepTo, unbased, unnamed}
 use Rattle.rgo_core_facts.proofs.ControlBase.{main_has_no_base}
 use Rattle.rgo_core_facts.proofs.ControlDuties.{duties_at_end, duties_known}
 use Rattle.rgo_core_facts.proofs.ControlView.{seen}
@@ -67,7 +67,7 @@ module _ (T : Setup) (g : ℕ) (c : Record) (d : Duty) (ds : List Duty) (k : Hol
       ∙ ap (λ (o : Option Holder). option_and_then (unless_exit g) (option_map (λ h. record c.frame { holder = h }) o)) does
       ∙ ap (λ (b : Bool). if b then None else Some after) (none_after_exit T g c d ds x owed)
 
-  pub steps_to : StepsTo T g c k
+  pub steps_to : LocalStepTo T g c k
   steps_to = record {
     settles = (record { rests = rests; next = after; is = is_quiet; shallow = shallow x }, tt);
     becomes =
@@ -80,7 +80,7 @@ local_duty_steps T g c d ds k x rests owed does = steps_to T g c d ds k x rests 
 
 -- ---- holders
 
-guards_same : (base : List Region) (es : List Environment) (names : Bindings) (r : Region) → guards base (with_top es names) r ≡ guards base es r
+guards_same : (base : List Region) (es : List RegionEnvironment) (names : Bindings) (r : Region) → guards base (with_top es names) r ≡ guards base es r
 guards_same base [] names r = refl
 guards_same base (e ∷ es) names r = refl
 

@@ -18,20 +18,20 @@ use Rattle.rgo_sound.specs.RegionMachine.Instructions.{child_holder, holder_afte
 use Rattle.rgo_sound.specs.RegionMachine.Machine.{Acknowledge, Attend, Event, Finish, Instruct, MakeOffer, TakePage, main_holder, page_before, page_for, page_taken, region_start, region_step, take_page, takes_page}
 use Rattle.rgo_sound.specs.RegionMachine.Offers.{acknowledge, make_offer, offer_for, offered}
 use Rattle.rgo_sound.specs.RegionMachine.Objects.{with_page}
-use Rattle.rgo_sound.specs.RegionMachine.Owed.{caller_duties, current, current_in, duties_behind, duties_behind_call, duties_before, duties_of_op, entry_removes, function_of, next_duties, regions_named, removes_behind}
+use Rattle.rgo_sound.specs.RegionMachine.Owed.{caller_duties, current, current_in, duties_behind, duties_behind_call, duties_before, duties_of_op, entry_removes, code_function, next_duties, regions_named, removes_behind}
 use Rattle.rgo_sound.specs.RegionMachine.Regions.{Bindings, bound, removed_once, same_region}
-use Rattle.rgo_sound.specs.RegionMachine.States.{Create, Duty, EndBase, Environment, Holder, NoOffer, Offer, Protect, RegionState, Remove, Share, Standing, Taken, Unprotect, below, frames_in, frames_of, top_names}
+use Rattle.rgo_sound.specs.RegionMachine.States.{Create, Duty, EndBase, RegionEnvironment, Holder, NoOffer, Offer, Protect, RegionState, Remove, Share, Standing, Taken, Unprotect, below, frames_in, frames_of, top_names}
 use Rattle.rgo_sound.specs.RegionMachine.declared.regions.Region.{Region}
 use Rattle.rgo_sound.specs.RegionMachine.declared.regions.Region.TheVariants.{Global as GlobalRegion, Numbered}
-use Rattle.rgo_sound.proofs.Attends.{same_reflexive}
-use Rattle.rgo_sound.proofs.ErasureLemmas.{Yields, yields, yields_at, yields_from, yields_if, yields_is, yields_none, yields_then}
-use Rattle.rgo_sound.proofs.Moves.{times_removed}
-use Rattle.rgo_sound.proofs.Acting.{after as acted_plain}
-use Rattle.rgo_sound.proofs.OneStep.{MeetDone, OnFrom, OneDone, gone_on, meet_done, one_done, receive_goes, send_goes}
+use Rattle.rgo_sound.proofs.duties.Attends.{same_reflexive}
+use Rattle.rgo_sound.proofs.plain.Steps.{Yields, yields, yields_at, yields_from, yields_if, yields_is, yields_none, yields_then}
+use Rattle.rgo_sound.proofs.duties.Moves.{times_removed}
+use Rattle.rgo_sound.proofs.steps.Acting.{after as acted_plain}
+use Rattle.rgo_sound.proofs.steps.OneStep.{MeetDone, OnFrom, OneDone, gone_on, meet_done, one_done, receive_goes, send_goes}
 use Rattle.rgo_sound.proofs.Places.{get_append_cases}
 use Rattle.rgo_sound.specs.Invariant.{FramesFit, GoodHolder, IsCall, Waits, bound_times, same_bound, times}
 use Rattle.rgo_sound.specs.Stakes.{one_if}
-use Rattle.rgo_sound.specs.Tac.Frames.{Frame}
+use Rattle.rgo_sound.specs.Tac.Frames.{TacFrame}
 use Rattle.rgo_sound.specs.Tac.Tac.{TacState, tac_start}
 use Rattle.rgo_sound.specs.Code.Erasure.{erased}
 
@@ -108,11 +108,11 @@ before_none : (o : Option CodeInstr) → HasNoUnprotect (duties_before o)
 before_none None = tt
 before_none (Some i) = none_more (map Create i.creates) (duties_of_op i.op) (creates_none i.creates) (op_none i.op)
 
-next_none : (code : Code) (frames : List Frame) → HasNoUnprotect (next_duties code frames)
+next_none : (code : Code) (frames : List TacFrame) → HasNoUnprotect (next_duties code frames)
 next_none code [] = tt
 next_none code (frame ∷ callers) = before_none (current code frame)
 
-then_next : (code : Code) (ks : List ℕ) (frames : List Frame) → HasNoUnprotect (map Remove ks ++ next_duties code frames)
+then_next : (code : Code) (ks : List ℕ) (frames : List TacFrame) → HasNoUnprotect (map Remove ks ++ next_duties code frames)
 then_next code ks frames = none_more (map Remove ks) (next_duties code frames) (removes_none ks) (next_none code frames)
 
 -- after a call has returned
@@ -133,7 +133,7 @@ unprotects_fit (k ∷ ks) rest names protections enough none = λ r e.
 
 -- ---- a goroutine
 
-abbrev pub top_protections : List Environment → List Region
+abbrev pub top_protections : List RegionEnvironment → List Region
 top_protections [] = []
 top_protections (e ∷ es) = e.protections
 
@@ -185,11 +185,11 @@ module _ (s : RegionState) (all : AllEndProtections s) where
   by_share g h GlobalRegion n = with_none _ g h refl n
   by_share g h (Numbered r) n = yields_if _ _ _ (yields_if _ _ _ (with_none _ g h refl n) (with_none _ g _ refl n)) yields_none
 
-  same_top : (es : List Environment) (r : Region) → top_names (without_protection es r) ≡ top_names es
+  same_top : (es : List RegionEnvironment) (r : Region) → top_names (without_protection es r) ≡ top_names es
   same_top [] r = refl
   same_top (e ∷ es) r = refl
 
-  one_fewer : (es : List Environment) (r : Region) → top_protections (without_protection es r) ≡ removed_once r (top_protections es)
+  one_fewer : (es : List RegionEnvironment) (r : Region) → top_protections (without_protection es r) ≡ removed_once r (top_protections es)
   one_fewer [] r = refl
   one_fewer (e ∷ es) r = refl
 
@@ -219,14 +219,14 @@ module _ (s : RegionState) (all : AllEndProtections s) where
   by_page g k fits GlobalRegion = yields (page_taken s g k GlobalRegion) (with_one (page_taken s g k GlobalRegion) g k refl fits)
   by_page g k fits (Numbered r) = yields (page_taken s g k (Numbered r)) (with_one (page_taken s g k (Numbered r)) g k refl fits)
 
-  by_take : (code : Code) (page_words g : ℕ) (h : Holder) → slice_get s.holders g ≡ Some h → (frames : List Frame)
+  by_take : (code : Code) (page_words g : ℕ) (h : Holder) → slice_get s.holders g ≡ Some h → (frames : List TacFrame)
       → Yields AllEndProtections (take_page code page_words s g h frames)
   by_take code page_words g h there [] = yields_none
   by_take code page_words g h there (frame ∷ callers) = yields_then (page_for code page_words s g h frame) (current code frame)
       (λ i. yields_then (takes_page code page_words s g h) _ (λ r. yields_then (page_before page_words s g h r) _
       (λ object. yields_if _ _ _ (by_page g (with_page page_words h r object) (all g h there) r) yields_none)))
 
-  by_offer : (code : Code) (g : ℕ) (h : Holder) → slice_get s.holders g ≡ Some h → (frames : List Frame)
+  by_offer : (code : Code) (g : ℕ) (h : Holder) → slice_get s.holders g ≡ Some h → (frames : List TacFrame)
       → Yields AllEndProtections (make_offer code s g h frames)
   by_offer code g h there [] = yields_none
   by_offer code g h there (frame ∷ callers) = yields_if _ _ _ (yields_then (offer_for s g h frame) (current code frame)
@@ -245,9 +245,9 @@ append_assoc : (a b c : List Duty) → (a ++ b) ++ c ≡ a ++ (b ++ c)
 append_assoc [] b c = refl
 append_assoc (d ∷ a) b c = ap (λ l. d ∷ l) (append_assoc a b c)
 
-module _ (code : Code) (k : Holder) (frame : Frame) where
+module _ (code : Code) (k : Holder) (frame : TacFrame) where
   -- a return to a caller, whose call has protected what is now to be left
-  to_caller : (caller : Frame) (e : Environment) (es : List Environment) (next : List Frame) → Waits code caller e → below k.environments ≡ e ∷ es
+  to_caller : (caller : TacFrame) (e : RegionEnvironment) (es : List RegionEnvironment) (next : List TacFrame) → Waits code caller e → below k.environments ≡ e ∷ es
       → EndsProtections (record k { environments = below k.environments; duties = duties_behind_call (current code caller) ++ next_duties code next })
   to_caller caller e es next w is =
       subst (λ l. EndsProtections (record k { environments = l; duties = duties_behind_call (current code caller) ++ next_duties code next })) (sym is)
@@ -276,7 +276,7 @@ module _ (code : Code) (k : Holder) (frame : Frame) where
       by (Branch test target removes other otherwise) is = absurd (not_call (Branch test target removes other otherwise) is)
       by (Return value) is = absurd (not_call (Return value) is)
 
-  returns : (callers : List Frame) (es : List Environment) (ds : List Duty) (next : List Frame) → k.environments ≡ es
+  returns : (callers : List TacFrame) (es : List RegionEnvironment) (ds : List Duty) (next : List TacFrame) → k.environments ≡ es
       → FramesFit code k.base (frame ∷ callers) es ds
       → EndsProtections (record k { environments = below k.environments; duties = caller_duties code k callers ++ next_duties code next })
   returns [] es ds next is fit = none_fit (map EndBase k.base ++ next_duties code next) (none_more (map EndBase k.base) (next_duties code next) (ends_none k.base) (next_none code next)) _ _
@@ -284,14 +284,14 @@ module _ (code : Code) (k : Holder) (frame : Frame) where
   returns (caller ∷ callers) (e ∷ []) ds next is fit = absurd fit.1
   returns (caller ∷ callers) (e ∷ d ∷ es) ds next is fit = to_caller caller d es next fit.1.0 (ap below is)
 
-  goes_on : (ks : List ℕ) (next : List Frame) (names : Bindings) (protections : List Region)
+  goes_on : (ks : List ℕ) (next : List TacFrame) (names : Bindings) (protections : List Region)
       → UnprotectsFit (map Remove ks ++ next_duties code next) names protections
   goes_on ks next names protections = none_fit (map Remove ks ++ next_duties code next) (then_next code ks next) names protections
 
-  after : (callers : List Frame) (op : CodeOp) (next : List Frame) → FramesFit code k.base (frame ∷ callers) k.environments k.duties
+  after : (callers : List TacFrame) (op : CodeOp) (next : List TacFrame) → FramesFit code k.base (frame ∷ callers) k.environments k.duties
       → EndsProtections (holder_after code k frame callers op next)
   after callers (Do to action from removes) next fit = goes_on removes next _ _
-  after callers (Call to n from passes protects removes) next fit = goes_on (entry_removes (function_of code n)) next _ _
+  after callers (Call to n from passes protects removes) next fit = goes_on (entry_removes (code_function code n)) next _ _
   after callers (Go n from passes removes) next fit = goes_on removes next _ _
   after callers (Print pieces from removes) next fit = goes_on removes next _ _
   after callers (Jump target removes) next fit = goes_on removes next _ _
@@ -299,16 +299,16 @@ module _ (code : Code) (k : Holder) (frame : Frame) where
       goes_on (removes_behind frame (Branch test target removes other otherwise)) next _ _
   after callers (Return value) next fit = returns callers k.environments k.duties next refl fit
 
-  unless : (end : Option End) (callers : List Frame) (op : CodeOp) (next : List Frame) → EndsProtections k
+  unless : (end : Option End) (callers : List TacFrame) (op : CodeOp) (next : List TacFrame) → EndsProtections k
       → FramesFit code k.base (frame ∷ callers) k.environments k.duties
       → EndsProtections (unless_trapped end k (holder_after code k frame callers op next))
   unless None callers op next old fit = after callers op next fit
   unless (Some Exit) callers op next old fit = after callers op next fit
   unless (Some (Trap trap place)) callers op next old fit = old
 
-  child : (op : CodeOp) (frames : List Frame) (j : ℕ) (h : Holder) → slice_get (child_holder code k op frames) j ≡ Some h → EndsProtections h
+  child : (op : CodeOp) (frames : List TacFrame) (j : ℕ) (h : Holder) → slice_get (child_holder code k op frames) j ≡ Some h → EndsProtections h
   child (Go n from passes removes) frames zero h e = subst EndsProtections (same_Some _ h e)
-      (goes_on (entry_removes (function_of code n)) frames _ _)
+      (goes_on (entry_removes (code_function code n)) frames _ _)
   child (Go n from passes removes) frames (suc j) h e = absurd (no_holder h e)
   child (Do to action from removes) frames j h e = absurd (no_holder h e)
   child (Call to n from passes protects removes) frames j h e = absurd (no_holder h e)
@@ -341,7 +341,7 @@ module _ (code : Code) (page_words : ℕ) (s : RegionState) (sound : IsSound cod
         (get_append_cases (slice_set s.holders g own) (child_holder code x.given.0 x.instr.op (last_frames next.goroutines)) j h
         (ap (λ (y : RegionState). slice_get y.holders j) (sym x.is) ∙ e))
 
-  side_ends : {frames next : List Frame} → (y : OnFrom code frames next) (h : Holder) → EndsProtections (gone_on y h)
+  side_ends : {frames next : List TacFrame} → (y : OnFrom code frames next) (h : Holder) → EndsProtections (gone_on y h)
   side_ends y h = none_fit (map Remove (removes_behind y.frame y.instr.op) ++ next_duties code (y.frame' ∷ y.callers))
       (then_next code (removes_behind y.frame y.instr.op) (y.frame' ∷ y.callers)) (top_names h.environments) (top_protections h.environments)
 

@@ -5,11 +5,11 @@ use Rattle.std.proofs.lemmas.Nat.{le-div}
 use Rattle.std.proofs.Math.Nat.{div-mul-le_self, div-zero}
 use Rattle.rgo_sound.proofs.Tests.{split}
 use Rattle.rgo_sound.specs.Memory.Memory.{Channel, Object, SliceObject, StructObject}
-use Rattle.rgo_sound.specs.RegionMachine.Objects.{cells, data_pages, is_spread, words as words_of}
+use Rattle.rgo_sound.specs.RegionMachine.Objects.{cells, data_pages, is_spread, object_words as words_of}
 use Rattle.rgo_core.specs.Memory.Spread.{words_before}
-use Rattle.rgo_core.proofs.Memory.Spreads.{spread_data, whole_of}
+use Rattle.rgo_core.proofs.Memory.objects.Spreads.{spread_data, whole_of}
 use Rattle.rgo_core.specs.Bounds.{row_words}
-use Rattle.rgo_core.proofs.Bounds.{spread_row, whole_row}
+use Rattle.rgo_core.proofs.image.Bounds.{spread_row, whole_row}
 use Rattle.rgo_core_facts.specs.MemoryObjects.{data_pages_of}
 
 pub less : (m n : ℕ) → m < n → nat_lt m n ≡ true

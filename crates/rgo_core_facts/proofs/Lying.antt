@@ -4,12 +4,12 @@ use Rattle.std.proofs.lemmas.List.{length-map, length-replicate}
 use Rattle.std.proofs.lemmas.Option.{none-some, same_Some, slice_get-map, slice_get_within}
 use Rattle.rgo_sound.specs.Code.Code.{CodeFn, CodeOp}
 use Rattle.rgo_sound.specs.Code.Erasure.{erased, erased_fn, erased_op}
-use Rattle.rgo_sound.specs.Code.Exists.{declared_by}
-use Rattle.rgo_sound.specs.Code.Types.{DoFits, HasType}
-use Rattle.rgo_sound.specs.RegionMachine.Owed.{function_of}
+use Rattle.rgo_sound.specs.Code.Exists.{declared_in_code}
+use Rattle.rgo_sound.specs.Code.Types.{DoFits, VariableHasType}
+use Rattle.rgo_sound.specs.RegionMachine.Owed.{code_function}
 use Rattle.rgo_sound.proofs.Places.{contains_here}
 use Rattle.rgo_sound.proofs.Progress.{live_of}
-use Rattle.rgo_sound.proofs.TypedSteps.{var_kind}
+use Rattle.rgo_sound.proofs.types.Steps.{var_kind}
 use Rattle.rgo_sound.proofs.Tests.{split}
 use Rattle.rgo_sound.specs.Memory.Memory.{Object, SliceObject, StructObject}
 use Rattle.rgo_sound.specs.Memory.Values.{zero_of}
@@ -35,20 +35,20 @@ use Rattle.rgo_core.specs.Core.{Here, Setup, layout}
 use Rattle.rgo_core.specs.Links.{BeforeLoad, BeforeStore, IsAtElement}
 use Rattle.rgo_core.specs.Next.{IsAt}
 use Rattle.rgo_core.specs.Records.{Record, memory_of}
-use Rattle.rgo_core.proofs.AtChannels.{channel_type}
-use Rattle.rgo_core.proofs.Bounds.{LeadsToLive, leads_in, spread_row, whole_row}
-use Rattle.rgo_core.proofs.MakesObject.{first_type}
-use Rattle.rgo_core.proofs.Operands as operands
-use Rattle.rgo_core.proofs.Parts.{I}
-use Rattle.rgo_core.proofs.Slices.{at_slice}
-use Rattle.rgo_core.proofs.Standing.{at_instruction}
-use Rattle.rgo_core_facts.specs.MemoryWords.{ChannelLies, ElementLies, GetExists, HasField, IndexLies, LenLies, LoadLies, LoadsField, OperandPoints, PagesInTable, SetExists, SliceLies, StoreLies, StoresField}
+use Rattle.rgo_core.proofs.channel_steps.AtChannels.{channel_type}
+use Rattle.rgo_core.proofs.image.Bounds.{LeadsToLive, leads_in, spread_row, whole_row}
+use Rattle.rgo_core.proofs.new_objects.MakesObject.{first_type}
+use Rattle.rgo_core.proofs.steps.Operands as operands
+use Rattle.rgo_core.proofs.image.Parts.{I}
+use Rattle.rgo_core.proofs.accesses.Slices.{at_slice}
+use Rattle.rgo_core.proofs.image.Standing.{at_instruction}
+use Rattle.rgo_core_facts.specs.MemoryWords.{ChannelLies, ElementLies, GetExists, PointerHasField, IndexLies, LenLies, LoadLies, LoadsField, OperandPoints, PagesInTable, SetExists, SliceLies, StoreLies, StoresField}
 use Rattle.rgo_core_facts.proofs.DataPages.{less, number_in_row, row_whole}
 
 -- ---- operands
 
 module _ {T : Setup} {g : ℕ} {c : Record} (x : Here T g c) {op : CodeOp} (a : IsAt T.code c op) (v : ℕ) (ty : «Type»)
-    (read : Contains (reads (erased_op op)) v) (typed : HasType (erased_fn a.fn) v ty) where
+    (read : Contains (reads (erased_op op)) v) (typed : VariableHasType (erased_fn a.fn) v ty) where
   abbrev b : IsBefore T.code (I x).places.slot (I x).addresses x.s g c.frame a.w a.ws a.instr
   b = (at_instruction x a).before
 
@@ -58,8 +58,8 @@ module _ {T : Setup} {g : ℕ} {c : Record} (x : Here T g c) {op : CodeOp} (a : 
   kind : HasKind b.kinds ty (value_at b.frame v)
   kind =
       let fits = b.typed.0 in
-      let same : a.fn ≡ fits.0 = same_Some a.fn fits.0 (sym a.in_fn ∙ (ap (function_of T.code) b.newest.alike.function ∙ fits.1)) in
-      var_kind b.kinds (erased_fn fits.0) b.frame fits.2 v ty (subst (λ (f : CodeFn). HasType (erased_fn f) v ty) same typed)
+      let same : a.fn ≡ fits.0 = same_Some a.fn fits.0 (sym a.in_fn ∙ (ap (code_function T.code) b.newest.alike.function ∙ fits.1)) in
+      var_kind b.kinds (erased_fn fits.0) b.frame fits.2 v ty (subst (λ (f : CodeFn). VariableHasType (erased_fn f) v ty) same typed)
 
   live : LeadsToLive x.s (value_at b.frame v)
   live o e = let s = b.staked v o read_there e in (s.0, s.1, live_of x.s b.h s.0 s.2)
@@ -83,8 +83,8 @@ field_there None fields k t e at = absurd (none-some fields e)
 field_there (Some s) fields k t e at =
     (s, refl, slice_get_within s.fields k t (ap (λ (l : List «Type»). slice_get l k) (same_Some s.fields fields e) ∙ at))
 
-field_of : (T : Setup) (c : Record) {op : CodeOp} (a : IsAt T.code c op) (p n k : ℕ) (t : «Type») → HasType (erased_fn a.fn) p (pointer_to n)
-    → FieldOf (declared_by (erased T.code)) n k t → HasField T c a p k
+field_of : (T : Setup) (c : Record) {op : CodeOp} (a : IsAt T.code c op) (p n k : ℕ) (t : «Type») → VariableHasType (erased_fn a.fn) p (pointer_to n)
+    → FieldOf (declared_in_code (erased T.code)) n k t → PointerHasField T c a p k
 field_of T c a p n k t typed f =
     let s = field_there (slice_get T.code.structs n) f.0 k t (sym (slice_get-map (λ (s : Struct). s.fields) T.code.structs n) ∙ f.1) f.2 in
     record { number = n; typed = typed; struct = s.0; there = s.1; low = s.2 }
@@ -105,8 +105,8 @@ pub same_number : (m n : ℕ) → pointer_to m ≡ pointer_to n → m ≡ n
 same_number m n e = let b : base.Pointer m ≡ base.Pointer n = ap (λ (t : «Type»). t.base) e in cc b
 
 -- the struct type of a variable is one
-same_fields : (T : Setup) (c : Record) {op : CodeOp} (a : IsAt T.code c op) (p k number : ℕ) (struct : Struct) (f : HasField T c a p k)
-    → HasType (erased_fn a.fn) p (pointer_to number) → slice_get T.code.structs number ≡ Some struct → k < length struct.fields
+same_fields : (T : Setup) (c : Record) {op : CodeOp} (a : IsAt T.code c op) (p k number : ℕ) (struct : Struct) (f : PointerHasField T c a p k)
+    → VariableHasType (erased_fn a.fn) p (pointer_to number) → slice_get T.code.structs number ≡ Some struct → k < length struct.fields
 same_fields T c a p k number struct f typed there =
     let n = same_number f.number number (same_Some (pointer_to f.number) (pointer_to number) (sym f.typed ∙ typed)) in
     let s = same_Some f.struct struct (sym f.there ∙ (ap (slice_get T.code.structs) n ∙ there)) in
@@ -119,8 +119,8 @@ row_of : (T : Setup) (number : ℕ) (struct : Struct) → slice_get T.code.struc
     → struct_words T.sizes.page_words (slice_get T.code.structs number) ≡ row_words T.sizes.page_words (StructObject (map zero_of struct.fields))
 row_of T number struct there = ap (struct_words T.sizes.page_words) there
 
-module _ (T : Setup) (c : Record) {op : CodeOp} (a : IsAt T.code c op) (p k address word : ℕ) (f : HasField T c a p k) (number : ℕ) (struct : Struct)
-    (typed : HasType (erased_fn a.fn) p (pointer_to number)) (there : slice_get T.code.structs number ≡ Some struct)
+module _ (T : Setup) (c : Record) {op : CodeOp} (a : IsAt T.code c op) (p k address word : ℕ) (f : PointerHasField T c a p k) (number : ℕ) (struct : Struct)
+    (typed : VariableHasType (erased_fn a.fn) p (pointer_to number)) (there : slice_get T.code.structs number ≡ Some struct)
     (points : Points T (pointer_to number) word) (is : word ≡ suc address) where
   abbrev object : Object
   object = StructObject (map zero_of struct.fields)

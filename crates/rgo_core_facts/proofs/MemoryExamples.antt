@@ -8,20 +8,20 @@ use Rattle.rgo_core.specs.Memory.Records.{Across, Amid, Fill, Rest}
 use Rattle.rgo_sound.specs.Machine.declared.limits.Limits.{Limits}
 use Rattle.rgo_sound.specs.Memory.Memory.{Channel, Object, SliceObject, StructObject}
 use Rattle.rgo_sound.specs.RegionMachine.Examples.{node, plain}
-use Rattle.rgo_sound.specs.RegionMachine.Objects.{cells, data_pages, is_spread, is_too_large, most_data_pages, words as words_of}
+use Rattle.rgo_sound.specs.RegionMachine.Objects.{cells, data_pages, is_spread, is_too_large, most_data_pages, object_words as words_of}
 use Rattle.rgo_sound.specs.RegionMachine.declared.regions.Region.TheVariants.{Global as GlobalRegion, Numbered}
 use Rattle.rgo_sound.proofs.Places.{head_is}
 use Rattle.rgo_sound.specs.Typed.declared.actions.Action.TheVariants as action
 use Rattle.rgo_sound.specs.Typed.declared.programs.Struct.{Struct}
 use Rattle.rgo_sound.specs.WellFormed.TypeRules.{pointer_to}
 use Rattle.rgo_core.specs.Memory.Encoding.{Spot}
-use Rattle.rgo_core.proofs.Memory.Spreads.{spread_data}
+use Rattle.rgo_core.proofs.Memory.objects.Spreads.{spread_data}
 use Rattle.rgo_core.specs.ChannelExamples.{with_words}
 use Rattle.rgo_core.specs.Core.{Setup}
 use Rattle.rgo_core.specs.Records.{Record}
 use Rattle.rgo_core_facts.specs.MemoryExamples.{ObjectExamples, PlaceExamples, at_load, at_three, loading_fields, making_slices, newest, three}
 use Rattle.rgo_core_facts.specs.MemoryObjects.{HasWords, NewObject, OfChannel, OfSlice, OfStruct, StoresNext, StoresNextApart}
-use Rattle.rgo_core_facts.specs.MemoryWords.{HasField}
+use Rattle.rgo_core_facts.specs.MemoryWords.{PointerHasField}
 use Rattle.rgo_core_facts.proofs.DataPages.{less}
 use Rattle.rgo_core_facts.proofs.Lying.{same_number}
 use Rattle.rgo_core_facts.proofs.NewWords.{makes_slice}
@@ -107,7 +107,7 @@ one_cell T c word value s = ⊎_elim
     no_number T.sizes.page_words (Channel 0 [] false) few spread small)
     s.new.making
 
-no_third : (limits : Limits) → HasField (loading_fields limits) (with_words (6 ∷ 0 ∷ [])) (at_load limits) 0 2 → ⊥
+no_third : (limits : Limits) → PointerHasField (loading_fields limits) (with_words (6 ∷ 0 ∷ [])) (at_load limits) 0 2 → ⊥
 no_third limits f =
     let n = same_number 0 f.number (same_Some (pointer_to 0) (pointer_to f.number) f.typed) in
     let s = same_Some node f.struct (ap (slice_get (node ∷ [])) n ∙ f.there) in

@@ -8,20 +8,20 @@ use Rattle.std.specs.Option.{option_map_or}
 use Rattle.rgo_sound.specs.Code.Code.{CodeFn, CodeOp, Do}
 use Rattle.rgo_sound.specs.Code.Erasure.{erased, erased_fn}
 use Rattle.rgo_sound.specs.Code.Names.{class_of}
-use Rattle.rgo_sound.specs.Code.Types.{DoFits, HaveTypes}
+use Rattle.rgo_sound.specs.Code.Types.{DoFits, VariablesHaveTypes}
 use Rattle.rgo_sound.specs.Memory.Memory.{Channel, Object, SliceObject, StructObject}
 use Rattle.rgo_sound.specs.Memory.Values.{base_zero, element_zero, element_zero_in, zero_in, zero_of}
 use Rattle.rgo_sound.specs.Memory.declared.values.Value.{Value}
-use Rattle.rgo_sound.specs.RegionMachine.Objects.{cells, is_spread, makes_object, making_region, most_data_pages, target_class, words as words_of}
-use Rattle.rgo_sound.specs.RegionMachine.Owed.{function_at, function_of}
+use Rattle.rgo_sound.specs.RegionMachine.Objects.{cells, is_spread, makes_object, making_region, most_data_pages, target_class, object_words as words_of}
+use Rattle.rgo_sound.specs.RegionMachine.Owed.{function_at, code_function}
 use Rattle.rgo_sound.specs.RegionMachine.Regions.{Bindings, class_region}
 use Rattle.rgo_sound.specs.RegionMachine.States.{Holder, top_names}
 use Rattle.rgo_sound.specs.RegionMachine.declared.regions.Region.{Region}
-use Rattle.rgo_sound.proofs.Offers.{makes_at}
+use Rattle.rgo_sound.proofs.offers.Offers.{makes_at}
 use Rattle.rgo_sound.proofs.Places.{get_some}
 use Rattle.rgo_sound.proofs.Progress.{HasTarget, region_there, target, top}
 use Rattle.rgo_sound.specs.Tac.Code.{Tac, TacFn}
-use Rattle.rgo_sound.specs.Tac.Steps.{type_of}
+use Rattle.rgo_sound.specs.Tac.Steps.{destination_type}
 use Rattle.rgo_sound.specs.Typed.declared.actions.Action.{Action}
 use Rattle.rgo_sound.specs.Typed.declared.actions.Action.TheVariants as action
 use Rattle.rgo_sound.specs.Typed.declared.programs.Struct.{Struct}
@@ -34,20 +34,20 @@ use Rattle.rgo_core.specs.Frames.Before.{IsBefore}
 use Rattle.rgo_core.specs.Frames.Makes.{MakesAt}
 use Rattle.rgo_core.specs.Frames.Slots.{slot, slot_names}
 use Rattle.rgo_core.specs.Frames.WordFrames.{bare, word_at}
-use Rattle.rgo_core.proofs.Frames.Making.{region_law}
-use Rattle.rgo_core.proofs.Frames.SlotLemmas.{class_slot, top_slot}
+use Rattle.rgo_core.proofs.Frames.regions.Making.{region_law}
+use Rattle.rgo_core.proofs.Frames.regions.SlotLemmas.{class_slot, top_slot}
 use Rattle.rgo_core.specs.Memory.Encoding.{content, opening}
 use Rattle.rgo_core.specs.Core.{Here, Setup, layout}
 use Rattle.rgo_core.specs.NewObjects.{AChannel, ASlice, AStruct, slot_number}
 use Rattle.rgo_core.specs.Next.{IsAt}
 use Rattle.rgo_core.specs.Records.{Record}
-use Rattle.rgo_core.proofs.Encodings.{small_word}
-use Rattle.rgo_core.proofs.NewObjects.{slot_is}
-use Rattle.rgo_core.proofs.Operands as operands
-use Rattle.rgo_core.proofs.Parts.{I}
-use Rattle.rgo_core.proofs.Standing.{at_instruction}
-use Rattle.rgo_core_steps.specs.Making.{page_of}
-use Rattle.rgo_core_facts.specs.MemoryObjects.{HasNoRoom, HasRegion, MakesChannel, MakesIn, MakesSlice, MakesStruct, NextIsSpread, PagesAre, WantsPage, WantsReserved, all_struct_words, channel_opens, slice_opens}
+use Rattle.rgo_core.proofs.image.Encodings.{small_word}
+use Rattle.rgo_core.proofs.new_objects.NewObjects.{slot_is}
+use Rattle.rgo_core.proofs.steps.Operands as operands
+use Rattle.rgo_core.proofs.image.Parts.{I}
+use Rattle.rgo_core.proofs.image.Standing.{at_instruction}
+use Rattle.rgo_core.specs.Memory.Records.{page_of}
+use Rattle.rgo_core_facts.specs.MemoryObjects.{PageHasNoRoom, HasRegion, MakesChannel, MakesIn, MakesSlice, MakesStruct, NextIsSpread, PagesAre, WantsPage, WantsReserved, all_struct_words, channel_opens, slice_opens}
 use Rattle.rgo_core_steps.proofs.Making.{next_object_is}
 use Rattle.rgo_core_facts.proofs.DataPages.{less, not_less, pages_so}
 use Rattle.rgo_core_facts.proofs.OwnPages.{one_page, slot_low}
@@ -88,7 +88,7 @@ module _ {T : Setup} {g : ℕ} {c : Record} (x : Here T g c) (to : Option ℕ) (
         (ap makes_at a.is ∙ makes)
 
     fn_is : function_at T.code b.frame ≡ Some a.fn
-    fn_is = ap (function_of T.code) (sym b.newest.alike.function) ∙ a.in_fn
+    fn_is = ap (code_function T.code) (sym b.newest.alike.function) ∙ a.in_fn
 
     abbrev by_slot : Region
     by_slot = slot (I x).places.slot in_state.0
@@ -105,7 +105,7 @@ module _ {T : Setup} {g : ℕ} {c : Record} (x : Here T g c) (to : Option ℕ) (
         its_target.is makes) ∙ in_state.1))
 
     makes_in : MakesIn T c a by_slot
-    makes_in = making_class (function_of T.code a.w.function) a.fn (top_names c.frame.holder.environments) a.instr.op to act from removes d
+    makes_in = making_class (code_function T.code a.w.function) a.fn (top_names c.frame.holder.environments) a.instr.op to act from removes d
         a.in_fn a.is its_target.is makes ∙ in_class
 
 pub has_region : HasRegion
@@ -167,7 +167,7 @@ new_takes code f (Some d) n tys fits =
     let m = length-map code.structs (λ (s : Struct). s.fields) in
     (r.0, omega (arith, l, m))
 
-none_taken : (f : TacFn) (from : List ℕ) (tys : List «Type») → tys ≡ [] → HaveTypes f from tys → from ≡ []
+none_taken : (f : TacFn) (from : List ℕ) (tys : List «Type») → tys ≡ [] → VariablesHaveTypes f from tys → from ≡ []
 none_taken f [] tys e h = refl
 none_taken f (v ∷ vs) tys e h =
     let w : slice_get f.variables v ∷ map (slice_get f.variables) vs ≡ [] = h ∙ ap (map Some) e in cc w
@@ -217,7 +217,7 @@ makes_struct T g c x to n from removes a r makes =
 
 pub makes_slice : MakesSlice
 makes_slice T c to p removes a r makes small = record {
-  object = SliceObject (replicate (word_at a.w p) (element_zero (type_of (erased T.code) (bare a.w) to)));
+  object = SliceObject (replicate (word_at a.w p) (element_zero (destination_type (erased T.code) (bare a.w) to)));
   next = record {
     to = to;
     act = action.Slice;
@@ -229,11 +229,11 @@ makes_slice T c to p removes a r makes small = record {
     in_region = makes;
     in_slot = refl;
   };
-  many = ap (λ (n : ℕ). 1 + n) (length-replicate (word_at a.w p) (element_zero (type_of (erased T.code) (bare a.w) to)))
+  many = ap (λ (n : ℕ). 1 + n) (length-replicate (word_at a.w p) (element_zero (destination_type (erased T.code) (bare a.w) to)))
       ∙ (let e : 1 + word_at a.w p ≡ suc (word_at a.w p) = omega arith in e);
   split = λ more.
-      let l = length-replicate (word_at a.w p) (element_zero (type_of (erased T.code) (bare a.w) to)) in omega (arith, l);
-  opens = λ i low. slice_so (word_at a.w p) (type_of (erased T.code) (bare a.w) to) i small;
+      let l = length-replicate (word_at a.w p) (element_zero (destination_type (erased T.code) (bare a.w) to)) in omega (arith, l);
+  opens = λ i low. slice_so (word_at a.w p) (destination_type (erased T.code) (bare a.w) to) i small;
 }
 
 pub makes_channel : MakesChannel
@@ -264,7 +264,7 @@ wants_page T g c x slot words before first new fits lacks = record {
   fits = let m = new.many in omega (arith, m, fits);
   full = λ f within its.
       let no_room : T.sizes.page_words < f.fill + words =
-      subst (HasNoRoom T.sizes.page_words words) (ap (λ (s : ℕ). page_of s c.memory.fills) (sym its) ∙ one_page x f within) lacks in
+      subst (PageHasNoRoom T.sizes.page_words words) (ap (λ (s : ℕ). page_of s c.memory.fills) (sym its) ∙ one_page x f within) lacks in
       let m = new.many in omega (arith, no_room, m);
 }
 

@@ -5,33 +5,33 @@ use Rattle.rgo_sound.specs.Code.Code.{CodeInstr, Do}
 use Rattle.rgo_sound.specs.RegionMachine.Duties.{may_go}
 use Rattle.rgo_sound.specs.RegionMachine.Owed.{current}
 use Rattle.rgo_sound.specs.RegionMachine.States.{Holder}
-use Rattle.rgo_sound.specs.Tac.Frames.{Frame}
+use Rattle.rgo_sound.specs.Tac.Frames.{TacFrame}
 use Rattle.rgo_sound.specs.Typed.declared.actions.Action.TheVariants.{Send}
 use Rattle.rgo_core.specs.Channels.Channels.{Accepted, Calm, Chan, Offered, OfferOf, On, Phase, channel, holder_offer}
 use Rattle.rgo_core.specs.Channels.Positions.{place_at}
 use Rattle.rgo_core.specs.Channels.Records.{Offering}
-use Rattle.rgo_core.specs.Frames.Fits.{Fits, IsPast, IsShown}
+use Rattle.rgo_core.specs.Frames.Fits.{RecordFits, IsPast, IsShown}
 use Rattle.rgo_core.specs.Frames.Shown.{FramesShow}
 use Rattle.rgo_core.specs.Frames.WordFrames.{WordFrame}
-use Rattle.rgo_core.proofs.Frames.Bookkeeping.{current_alike}
+use Rattle.rgo_core.proofs.Frames.regions.Bookkeeping.{current_alike}
 use Rattle.rgo_core.specs.Memory.Encoding.{address}
 use Rattle.rgo_core.specs.CommitMoves.{IsAtSend}
 use Rattle.rgo_core.specs.Core.{Here, Setup, layout}
 use Rattle.rgo_core.specs.Records.{Record, memory_of}
-use Rattle.rgo_core.proofs.AtChannels.{standing_or_taken}
-use Rattle.rgo_core.proofs.Bounds.{lies_in}
-use Rattle.rgo_core.proofs.Leaving.{channel_stands}
-use Rattle.rgo_core.proofs.Parts.{I}
-use Rattle.rgo_core.proofs.Standing.{frame_at, side_at}
+use Rattle.rgo_core.proofs.channel_steps.AtChannels.{standing_or_taken}
+use Rattle.rgo_core.proofs.image.Bounds.{lies_in}
+use Rattle.rgo_core.proofs.channel_steps.Leaving.{channel_stands}
+use Rattle.rgo_core.proofs.image.Parts.{I}
+use Rattle.rgo_core.proofs.image.Standing.{frame_at, side_at}
 use Rattle.rgo_core_facts.specs.MemoryWords.{OfferLies}
 use Rattle.rgo_core_facts.proofs.DataPages.{row_least}
 
 module _ {T : Setup} {g : ℕ} {c : Record} (x : Here T g c) where
-  abbrev F : Fits T.code (I x).places.slot (I x).addresses x.s g c.frame
+  abbrev F : RecordFits T.code (I x).places.slot (I x).addresses x.s g c.frame
   F = (I x).frames.each g c.frame (frame_at x)
 
   -- a record that shows a frame before a send is before it
-  before_send : (frame : Frame) (callers : List Frame) (instr : CodeInstr) (to : Option ℕ) (from removes : List ℕ)
+  before_send : (frame : TacFrame) (callers : List TacFrame) (instr : CodeInstr) (to : Option ℕ) (from removes : List ℕ)
       → current T.code frame ≡ Some instr → instr.op ≡ Do to Send from removes → (shown : List WordFrame) → c.frame.frames ≡ shown
       → FramesShow T.code (I x).addresses (frame ∷ callers) shown → IsAtSend T c
   before_send frame callers instr to from removes cur is [] e h = absurd h
@@ -68,7 +68,7 @@ module _ {T : Setup} {g : ℕ} {c : Record} (x : Here T g c) where
         let n = ((I x).channels.waits there.0 g there.1 there.2 phase).1 in
         before_send n.before.frame n.before.callers n.before.instr n.before.to n.before.from n.before.removes n.before.cur n.before.is
         c.frame.frames refl
-        (subst (λ (fs : List Frame). FramesShow T.code (I x).addresses fs c.frame.frames)
+        (subst (λ (fs : List TacFrame). FramesShow T.code (I x).addresses fs c.frame.frames)
         (same_Some F.frames (n.before.frame ∷ n.before.callers) (sym F.at ∙ n.before.at)) shown.shown)
 
     by : (p : Phase) → (I x).at.phase there.0 ≡ p → OfferOf p g → Shown ⊎ Past → IsAtSend T c

@@ -2,29 +2,29 @@
 use Rattle.std.proofs.Common.{◌≡◌, ⊎_elim, ℕ, zero, suc, ◌<◌, ◌≤◌, Bool, true, false, List, [], ◌∷◌, Some, if◌then◌else◌, length, nat_eq, nat_lt, map, slice_get, slice_index, refl, ap, sym, subst, ◌∙◌, arith}
 use Rattle.std.proofs.lemmas.Bool.Decides.{nat_tests}
 use Rattle.std.proofs.lemmas.Option.{none-some, same_Some}
-use Rattle.rgo_sound.proofs.Room.{room_is_kept}
+use Rattle.rgo_sound.proofs.counts.Room.{room_is_kept}
 use Rattle.rgo_sound.proofs.Tests.{split}
 use Rattle.rgo_sound.specs.RegionMachine.Regions.{is_live}
 use Rattle.rgo_sound.specs.RegionMachine.Room.{pages_of}
 use Rattle.rgo_sound.specs.RegionMachine.declared.regions.Region.{Region}
 use Rattle.rgo_sound.specs.RegionMachine.declared.regions.Region.TheVariants.{Numbered}
 use Rattle.rgo_sound.specs.Memory.Memory.{Object}
-use Rattle.rgo_core.proofs.Frames.Reserving.{reserved_law}
+use Rattle.rgo_core.proofs.Frames.regions.Reserving.{reserved_law}
 use Rattle.rgo_core.specs.Frames.Before.{IsBefore}
 use Rattle.rgo_core.specs.Memory.Ground.{Held, ground_of, held_of}
 use Rattle.rgo_core.specs.Memory.Parts.{Living, slot_of}
-use Rattle.rgo_core.specs.Memory.Records.{Amid, Claim, Claims, Fill, Idle, Make, Owns, Rest, Within, dropped}
-use Rattle.rgo_core.proofs.Memory.Slots.{region_living, uses_live}
-use Rattle.rgo_core.proofs.Memory.Steadies.{steady_of}
-use Rattle.rgo_core.proofs.Memory.Stepped.{map_get}
+use Rattle.rgo_core.specs.Memory.Records.{Amid, PageClaim, Claims, Fill, Idle, Make, Owns, Rest, Within, dropped, page_of}
+use Rattle.rgo_core.proofs.Memory.regions.Slots.{region_living, uses_live}
+use Rattle.rgo_core.proofs.Memory.image.Steadies.{steady_of}
+use Rattle.rgo_core.proofs.Memory.image.Stepped.{map_get}
 use Rattle.rgo_core.proofs.Memory.Writes.{pages_apart}
 use Rattle.rgo_core.specs.Core.{Here, Setup, layout}
 use Rattle.rgo_core.specs.Records.{Record, memory_of}
-use Rattle.rgo_core.proofs.MakesObject.{at, b}
-use Rattle.rgo_core.proofs.NextObject.{next_is}
-use Rattle.rgo_core.proofs.Parts.{I}
-use Rattle.rgo_core.proofs.Standing.{memory_at}
-use Rattle.rgo_core_steps.specs.Making.{MakesNext, page_of}
+use Rattle.rgo_core.proofs.new_objects.MakesObject.{at, b}
+use Rattle.rgo_core.proofs.new_objects.NextObject.{next_is}
+use Rattle.rgo_core.proofs.image.Parts.{I}
+use Rattle.rgo_core.proofs.image.Standing.{memory_at}
+use Rattle.rgo_core_steps.specs.Making.{RecordMakesNext}
 use Rattle.rgo_core_steps.proofs.Making.{page_in}
 use Rattle.rgo_core_facts.specs.MemoryPages.{ClaimedPage, FreeOfSlots, IsOwnPage, OneOwnPage, OwnPages, ReservedFew, ReservedPages, RoomLies}
 use Rattle.rgo_core_facts.proofs.DataPages.{pages_so}
@@ -104,7 +104,7 @@ reserved_pages T g c x i low =
     (I x).memory.own.ranged p (omega (arith, claimed))
 
 -- the region machine has as many reserved as the record, for the object that the next instruction makes
-module _ {T : Setup} {g : ℕ} {c : Record} (x : Here T g c) (object : Object) (slot : ℕ) (next : MakesNext T c object slot) where
+module _ {T : Setup} {g : ℕ} {c : Record} (x : Here T g c) (object : Object) (slot : ℕ) (next : RecordMakesNext T c object slot) where
   abbrev before : IsBefore T.code (I x).places.slot (I x).addresses x.s g c.frame next.here.w next.here.ws next.here.instr
   before = b x next.to next.act next.from next.removes next.here object
 
@@ -135,8 +135,8 @@ room_lies T page fill n low fits = let p = pages_apart page T.sizes.pages T.size
 
 -- ---- nothing is made or claimed
 
-no_claim : (claim : Claim) (slot : ℕ) → claim ≡ Idle → Claims claim slot → ⊥
-no_claim claim slot e claims = subst (λ (y : Claim). Claims y slot) e claims
+no_claim : (claim : PageClaim) (slot : ℕ) → claim ≡ Idle → Claims claim slot → ⊥
+no_claim claim slot e claims = subst (λ (y : PageClaim). Claims y slot) e claims
 
 no_object : (make : Make) (f : Fill) (object : Object) (stored : List ℕ) → make ≡ Rest → make ≡ Amid f object stored → ⊥
 no_object make f object stored e made = let w : Rest ≡ Amid f object stored = sym e ∙ made in cc w

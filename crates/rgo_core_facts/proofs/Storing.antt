@@ -3,20 +3,20 @@ use Rattle.std.proofs.Common.{◌≡◌, inl, inr, ℕ, zero, suc, ◌+◌, ◌<
 use Rattle.std.proofs.lemmas.Bool.Decides.{nat_tests}
 use Rattle.rgo_sound.specs.Code.Code.{Code, CodeOp, Do}
 use Rattle.rgo_sound.specs.Memory.Memory.{Object}
-use Rattle.rgo_sound.specs.RegionMachine.Objects.{making_region, words as words_of}
-use Rattle.rgo_sound.specs.RegionMachine.Owed.{function_of}
+use Rattle.rgo_sound.specs.RegionMachine.Objects.{making_region, object_words as words_of}
+use Rattle.rgo_sound.specs.RegionMachine.Owed.{code_function}
 use Rattle.rgo_sound.specs.RegionMachine.States.{top_names}
 use Rattle.rgo_core.specs.Frames.Records.{Rec as FrameRec}
 use Rattle.rgo_core.specs.Memory.Pages.{times}
-use Rattle.rgo_core.specs.Memory.Records.{Amid, Fill, with_word}
+use Rattle.rgo_core.specs.Memory.Records.{Amid, Fill, page_of, with_word}
 use Rattle.rgo_core.specs.Memory.Words.{cell_at}
-use Rattle.rgo_core.proofs.Memory.Chains.{times_else, times_first}
+use Rattle.rgo_core.proofs.Memory.pages.Chains.{times_else, times_first}
 use Rattle.rgo_core.specs.Core.{Setup, layout}
 use Rattle.rgo_core.specs.NewObjects.{made_object}
 use Rattle.rgo_core.specs.Next.{IsAt}
 use Rattle.rgo_core.specs.Records.{Record, accessed}
 use Rattle.rgo_core_steps.specs.After.{making}
-use Rattle.rgo_core_steps.specs.Making.{IsMaking, IsNewWord, MakesNext, covers, filling, page_of, stored_in}
+use Rattle.rgo_core_steps.specs.Making.{IsMaking, IsNewWord, RecordMakesNext, covers, filling, stored_in}
 use Rattle.rgo_core_steps.proofs.After.{making_is}
 use Rattle.rgo_core_steps.proofs.Making.{filling_is}
 use Rattle.rgo_core_facts.specs.MemoryObjects.{AtStays, NewObject, NewStays, StoresNext, StoresNone, StoresWords, making_after, numbers_below, storing, with_new_object}
@@ -82,7 +82,7 @@ stays code c d op same a = record {
 pub at_stays : AtStays
 at_stays = stays
 
-abbrev pub next_stays : (T : Setup) (c d : Record) (object : Object) (slot : ℕ) → d.frame ≡ c.frame → MakesNext T c object slot → MakesNext T d object slot
+abbrev pub next_stays : (T : Setup) (c d : Record) (object : Object) (slot : ℕ) → d.frame ≡ c.frame → RecordMakesNext T c object slot → RecordMakesNext T d object slot
 next_stays T c d object slot same next = record {
   to = next.to;
   act = next.act;
@@ -92,7 +92,7 @@ next_stays T c d object slot same next = record {
   makes = next.makes;
   region = next.region;
   in_region =
-      ap (λ (f : FrameRec). making_region (function_of T.code next.here.w.function) (top_names f.holder.environments) next.here.instr.op) same
+      ap (λ (f : FrameRec). making_region (code_function T.code next.here.w.function) (top_names f.holder.environments) next.here.instr.op) same
       ∙ next.in_region;
   in_slot = next.in_slot;
 }
@@ -122,7 +122,7 @@ module _ (T : Setup) (c : Record) (slot words before : ℕ) (first : ℕ → ℕ
   d = storing c f object n
 
   -- the record is before the same instruction
-  abbrev next : MakesNext T d object slot
+  abbrev next : RecordMakesNext T d object slot
   next = next_stays T c d object slot refl new.next
 
   word : IsNewWord T d n (cell_at (layout T) f.page (f.fill + n)) (first n)

@@ -2,7 +2,7 @@
 use Rattle.std.proofs.Common.{◌≡◌, ◌⊎◌, inl, inr, ℕ, zero, suc, ◌+◌, ◌-◌, ◌/◌, ◌<◌, ◌≤◌, Bool, true, false, List, ◌∷◌, length, if◌then◌else◌, nat_lt, slice_index, refl, ap, sym, ◌∙◌, arith}
 use Rattle.std.proofs.lemmas.Bool.Decides.{nat_tests}
 use Rattle.rgo_sound.specs.Memory.Memory.{Object}
-use Rattle.rgo_sound.specs.RegionMachine.Objects.{cells, data_pages, most_data_pages, words as words_of}
+use Rattle.rgo_sound.specs.RegionMachine.Objects.{cells, data_pages, most_data_pages, object_words as words_of}
 use Rattle.rgo_core.specs.Memory.Encoding.{Spot, content, opening}
 use Rattle.rgo_core.specs.Memory.Records.{Across, Rest, with_word_apart}
 use Rattle.rgo_core.specs.Memory.Spread.{spread_opening, spread_spot, table_words, words_before}
@@ -11,7 +11,7 @@ use Rattle.rgo_core.specs.Core.{Setup, layout}
 use Rattle.rgo_core.specs.NewObjects.{made_apart}
 use Rattle.rgo_core.specs.Records.{Record, accessed}
 use Rattle.rgo_core_steps.specs.After.{making_apart}
-use Rattle.rgo_core_steps.specs.Making.{IsNewWordApart, MakesNext, covers, filling_apart, stored_in}
+use Rattle.rgo_core_steps.specs.Making.{IsNewWordApart, RecordMakesNext, covers, filling_apart, stored_in}
 use Rattle.rgo_core_steps.proofs.After.{making_apart_is}
 use Rattle.rgo_core_steps.proofs.Making.{filling_apart_is}
 use Rattle.rgo_core_facts.specs.MemoryObjects.{NewObject, StoresNextApart, StoresNoneApart, StoresWordsApart, data_pages_of, first_of, making_after_apart, numbers_below, spot_of, storing_apart, with_new_object_apart}
@@ -69,7 +69,7 @@ module _ (T : Setup) (c : Record) (slot words before : ℕ) (first : ℕ → ℕ
   pages = c.memory.reserved.pages
 
   -- the record is before the same instruction
-  abbrev next : MakesNext T d object slot
+  abbrev next : RecordMakesNext T d object slot
   next = next_stays T c d object slot refl new.next
 
   data_are : data_pages T.sizes.page_words object ≡ data_pages_of T.sizes.page_words words before

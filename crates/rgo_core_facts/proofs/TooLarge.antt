@@ -5,13 +5,13 @@ use Rattle.rgo_sound.specs.Code.Code.{Do}
 use Rattle.rgo_sound.specs.Code.Erasure.{erased}
 use Rattle.rgo_sound.specs.Memory.Memory.{Channel, Object, SliceObject, StructObject}
 use Rattle.rgo_sound.specs.Memory.Values.{element_zero, zero_of}
-use Rattle.rgo_sound.specs.RegionMachine.Objects.{cells, is_too_large, most_data_pages, words as words_of}
-use Rattle.rgo_sound.specs.Tac.Steps.{type_of}
+use Rattle.rgo_sound.specs.RegionMachine.Objects.{cells, is_too_large, most_data_pages, object_words as words_of}
+use Rattle.rgo_sound.specs.Tac.Steps.{destination_type}
 use Rattle.rgo_sound.specs.Typed.declared.actions.Action.{Action}
 use Rattle.rgo_core.specs.Frames.WordFrames.{bare, word_at}
 use Rattle.rgo_core.specs.NewObjects.{AChannel, ASlice, AStruct}
 use Rattle.rgo_core.specs.Next.{IsAt}
-use Rattle.rgo_core.proofs.Ending.{too_large as larger}
+use Rattle.rgo_core.proofs.clock.Ending.{too_large as larger}
 use Rattle.rgo_core_facts.specs.MemoryObjects.{OfChannel, OfSlice, OfStruct, TooLarge, data_pages_of}
 use Rattle.rgo_core_facts.proofs.DataPages.{less, pages_so}
 use Rattle.rgo_core_facts.proofs.NewWords.{struct_many, struct_split, struct_there}
@@ -31,7 +31,7 @@ too_large T g c x to act from removes a words before (OfStruct n ea en eb) large
     (too_many T.sizes.page_words (StructObject (map zero_of s.1.fields)) words before (many ∙ sym en)
     (λ more. let e = struct_split T.code.structs n s.1 s.2 (omega (arith, more, en)) in omega (arith, e, en, eb)) large)
 too_large T g c x to act from removes a words before (OfSlice p ea ef small en eb) large =
-    let ty = type_of (erased T.code) (bare a.w) to in
+    let ty = destination_type (erased T.code) (bare a.w) to in
     let many = length-replicate (word_at a.w p) (element_zero ty) in
     larger x to act from removes a (SliceObject (replicate (word_at a.w p) (element_zero ty))) (ASlice p ea ef small refl)
     (too_many T.sizes.page_words (SliceObject (replicate (word_at a.w p) (element_zero ty))) words before (omega (arith, en, many))

@@ -3,21 +3,21 @@ use Rattle.std.specs.Prelude.{◌≡◌, ◌<◌, ◌≤◌, ◌+◌, ℕ, List,
 use Rattle.rgo_sound.specs.Code.Checked.{IsChecked}
 use Rattle.rgo_sound.specs.Code.Code.{Branch, Call, Code, CodeFn, CodeInstr, CodeOp, Do, Go, Jump, Print, Return}
 use Rattle.rgo_sound.specs.Code.Erasure.{erased_op}
-use Rattle.rgo_sound.specs.Code.Exists.{Uses}
+use Rattle.rgo_sound.specs.Code.Exists.{UsesVariable}
 use Rattle.rgo_sound.specs.Code.Names.{region_parameters}
-use Rattle.rgo_sound.specs.RegionMachine.Owed.{function_of}
+use Rattle.rgo_sound.specs.RegionMachine.Owed.{code_function}
 use Rattle.rgo_sound.specs.Tac.declared.regions.Class.{Class}
 
 -- P holds of each instruction of each function of checked code; i is its number in the body
 abbrev pub OfInstructions : (Code → CodeFn → (i : ℕ) → CodeOp → Type 0) → Type 0
-OfInstructions P = (code : Code) (n i : ℕ) (fn : CodeFn) (instr : CodeInstr) → IsChecked code → function_of code n ≡ Some fn
+OfInstructions P = (code : Code) (n i : ℕ) (fn : CodeFn) (instr : CodeInstr) → IsChecked code → code_function code n ≡ Some fn
     → slice_get fn.body i ≡ Some instr → P code fn i instr.op
 
 -- ---- variables and targets
 
 -- the instruction reads and writes variables of its function
 abbrev pub UsesVariables : CodeFn → CodeOp → Type 0
-UsesVariables fn op = (v : ℕ) → Uses (erased_op op) v → v < length fn.variables
+UsesVariables fn op = (v : ℕ) → UsesVariable (erased_op op) v → v < length fn.variables
 
 -- what may follow it is an instruction of the same body
 abbrev pub IsFollowed : CodeFn → (i : ℕ) → CodeOp → Type 0
@@ -44,7 +44,7 @@ ReturnsResult fn (Branch test target removes other otherwise) = ⊤
 -- Function n exists and takes these arguments and regions. It has a result exactly if a variable waits for one.
 pub record CanCall (code : Code) (to : Option ℕ) (n : ℕ) (from : List ℕ) (passes : List Class) : Type 0 where
   pub callee : CodeFn
-  pub found : function_of code n ≡ Some callee
+  pub found : code_function code n ≡ Some callee
   pub arguments : length from ≡ callee.params
   pub parameters : callee.params ≤ length callee.variables
   pub regions : length passes ≡ length (region_parameters callee)
@@ -76,4 +76,4 @@ ResultsReturned = OfInstructions (λ code fn i op. ReturnsResult fn op)
 
 -- each function has a first instruction
 abbrev pub BodiesBegin : Type 0
-BodiesBegin = (code : Code) (n : ℕ) (fn : CodeFn) → IsChecked code → function_of code n ≡ Some fn → 0 < length fn.body
+BodiesBegin = (code : Code) (n : ℕ) (fn : CodeFn) → IsChecked code → code_function code n ≡ Some fn → 0 < length fn.body

@@ -1,9 +1,9 @@
--- What the first duty of a goroutine refers to, told by its record.
+-- What the first duty of a goroutine refers to, by its record.
 use Rattle.std.specs.List.{list_any}
 use Rattle.std.specs.Prelude.{◌≡◌, ℕ, true, List, [], ◌∷◌, map, Some, None}
 use Rattle.rgo_core.specs.Frames.WordFrames.{WordFrame}
 use Rattle.rgo_sound.specs.RegionMachine.Regions.{bound, same_region}
-use Rattle.rgo_sound.specs.RegionMachine.States.{Create, Duty, EndBase, Environment, Protect, Remove, Share, Unprotect}
+use Rattle.rgo_sound.specs.RegionMachine.States.{Create, Duty, EndBase, RegionEnvironment, Protect, Remove, Share, Unprotect}
 use Rattle.rgo_sound.specs.RegionMachine.declared.regions.Region.{Region}
 use Rattle.rgo_core.specs.Core.{Setup}
 use Rattle.rgo_core.specs.Records.{Record}
@@ -11,24 +11,24 @@ use Rattle.rgo_core_facts.specs.ControlFrames.{OfRecords}
 use Rattle.rgo_core_facts.specs.ControlRegions.{IsStaked}
 
 -- there is a newest frame, with this environment
-pub record HasNewest (c : Record) (e : Environment) : Type 0 where
+pub record HasNewest (c : Record) (e : RegionEnvironment) : Type 0 where
   pub w : WordFrame
   pub ws : List WordFrame
   pub frames : c.frame.frames ≡ w ∷ ws
-  pub es : List Environment
+  pub es : List RegionEnvironment
   pub environments : c.frame.holder.environments ≡ e ∷ es
 
--- in the newest frame the name stands for a region
+-- in the newest frame the name is bound to a region
 pub record IsNamed (T : Setup) (c : Record) (k : ℕ) : Type 0 where
-  pub e : Environment
+  pub e : RegionEnvironment
   pub newest : HasNewest c e
   pub region : Region
   pub bound : bound e.names k ≡ Some region
   pub staked : IsStaked T c region
 
--- it does not stand for one
+-- it is not bound to one
 pub record IsUnnamed (c : Record) (k : ℕ) : Type 0 where
-  pub e : Environment
+  pub e : RegionEnvironment
   pub newest : HasNewest c e
   pub unbound : bound e.names k ≡ None
 

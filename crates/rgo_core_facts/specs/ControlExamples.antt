@@ -7,7 +7,7 @@ use Rattle.rgo_core.specs.Frames.WordFrames.{WordFrame}
 use Rattle.rgo_sound.specs.Machine.declared.limits.Limits.{Limits}
 use Rattle.rgo_sound.specs.Machine.declared.limits.Sizes.{Sizes}
 use Rattle.rgo_sound.specs.RegionMachine.Examples.{int_slot, main_of, passed_twice, plain}
-use Rattle.rgo_sound.specs.RegionMachine.States.{Create, EndBase, Environment, Remove, Share, Unprotect}
+use Rattle.rgo_sound.specs.RegionMachine.States.{Create, EndBase, RegionEnvironment, Remove, Share, Unprotect}
 use Rattle.rgo_sound.specs.RegionMachine.declared.regions.Region.TheVariants.{Global as GlobalRegion, Numbered}
 use Rattle.rgo_sound.specs.Tac.declared.regions.Class.TheVariants.{Name, NoClass}
 use Rattle.rgo_sound.specs.Typed.declared.actions.Action.TheVariants as action
@@ -40,8 +40,8 @@ at_call = record { function = 1; next = 3; variables = 21 ∷ 6 ∷ 0 ∷ [] }
 abbrev pub at_entry : WordFrame
 at_entry = record { function = 0; next = 0; variables = 6 ∷ 6 ∷ 0 ∷ 0 ∷ 0 ∷ [] }
 
--- name 0 stands for the region of slot 0
-abbrev pub one_name : Environment
+-- name 0 is bound to the region of slot 0
+abbrev pub one_name : RegionEnvironment
 one_name = record { lent = NoClass; names = (0, Numbered 0) ∷ []; protections = [] }
 
 -- a goroutine at that call, with these stakes, which knows the region of slot 0 by name 0

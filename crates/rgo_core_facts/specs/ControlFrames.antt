@@ -1,10 +1,10 @@
--- Where the frames of a goroutine are in the code, told by its record.
+-- Where the frames of a goroutine are in the code, by its record.
 use Rattle.std.specs.Prelude.{◌≡◌, ◌⊎◌, ℕ, List, [], ◌∷◌, length, Option, Some, is_some, slice_get}
 use Rattle.rgo_sound.specs.Code.Code.{Call, Code, CodeFn, CodeInstr, CodeOp, Return}
 use Rattle.rgo_core.specs.Frames.Local.{local}
 use Rattle.rgo_core.specs.Frames.Records.{Rec as FrameRec}
 use Rattle.rgo_core.specs.Frames.WordFrames.{WordFrame, bare}
-use Rattle.rgo_sound.specs.RegionMachine.Owed.{current, function_of}
+use Rattle.rgo_sound.specs.RegionMachine.Owed.{current, code_function}
 use Rattle.rgo_sound.specs.RegionMachine.States.{NoOffer, Standing}
 use Rattle.rgo_sound.specs.Tac.declared.regions.Class.{Class}
 use Rattle.rgo_core.specs.CommitMoves.{IsAtSend}
@@ -21,7 +21,7 @@ OfRecords P = (T : Setup) (g : ℕ) (c : Record) → Here T g c → P T c
 -- the frame is at this instruction of this function, and has a word for each of its variables
 pub record IsInCode (code : Code) (w : WordFrame) : Type 0 where
   pub fn : CodeFn
-  pub in_fn : function_of code w.function ≡ Some fn
+  pub in_fn : code_function code w.function ≡ Some fn
   pub instr : CodeInstr
   pub at : slice_get fn.body w.next ≡ Some instr
   pub cur : current code (bare w) ≡ Some instr
@@ -35,7 +35,7 @@ FramesInCode = OfRecords (λ T c. (i : ℕ) (w : WordFrame) → slice_get c.fram
 -- the function has one.
 pub record IsCalledBy (code : Code) (w caller : WordFrame) : Type 0 where
   pub fn : CodeFn
-  pub in_fn : function_of code w.function ≡ Some fn
+  pub in_fn : code_function code w.function ≡ Some fn
   pub call : CodeInstr
   pub cur : current code (bare caller) ≡ Some call
   pub to : Option ℕ
@@ -45,7 +45,7 @@ pub record IsCalledBy (code : Code) (w caller : WordFrame) : Type 0 where
   pub protects : List ℕ
   pub removes : List ℕ
   pub is : call.op ≡ Call to n from passes protects removes
-  pub calls : function_of code n ≡ Some fn
+  pub calls : code_function code n ≡ Some fn
   pub result : is_some to ≡ is_some fn.result
 
 abbrev pub CallersWait : Type 0

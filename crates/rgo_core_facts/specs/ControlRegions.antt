@@ -1,11 +1,11 @@
--- Which regions a goroutine knows, told by its record. Each is Global, or has a slot of the table in which the goroutine has a stake.
+-- Which regions a goroutine knows, by its record. Each is Global, or has a slot of the table in which the goroutine has a stake.
 use Rattle.std.specs.List.{list_any}
 use Rattle.std.specs.Prelude.{◌≡◌, ◌≢◌, ◌⊎◌, ◌<◌, ℕ, true, false, List, [], ◌∷◌, length, Some, slice_get}
 use Rattle.rgo_sound.specs.Code.Code.{Call, CodeOp, Go}
 use Rattle.rgo_sound.specs.Code.NameRules.{protected_names}
 use Rattle.rgo_core.specs.Memory.Records.{Fill, Within}
 use Rattle.rgo_sound.specs.RegionMachine.Regions.{bound, class_region, same_region}
-use Rattle.rgo_sound.specs.RegionMachine.States.{Environment, Holder, top_names}
+use Rattle.rgo_sound.specs.RegionMachine.States.{RegionEnvironment, Holder, top_names}
 use Rattle.rgo_sound.specs.RegionMachine.declared.regions.Region.{Region}
 use Rattle.rgo_sound.specs.RegionMachine.declared.regions.Region.TheVariants.{Global as GlobalRegion, Numbered}
 use Rattle.rgo_sound.specs.Core.{AreUniqueIn}
@@ -25,7 +25,7 @@ IsStaked T c GlobalRegion = Unit {0}
 IsStaked T c (Numbered p) = (is_in p c.frame.holder.stakes ≡ true) × (p < T.sizes.regions)
 
 -- this is the environment of one of its frames
-abbrev pub HasEnvironment : Record → Environment → Type 0
+abbrev pub HasEnvironment : Record → RegionEnvironment → Type 0
 HasEnvironment c e = (i : ℕ) × (slice_get c.frame.holder.environments i ≡ Some e)
 
 pub record KnowsRegions (T : Setup) (c : Record) : Type 0 where
@@ -34,8 +34,8 @@ pub record KnowsRegions (T : Setup) (c : Record) : Type 0 where
   pub as_many : length c.frame.holder.environments ≡ length c.frame.frames
   pub unique : AreUniqueIn c.frame.holder.environments
   -- what it knows of any region, it knows of one in which it has a stake
-  pub names : (e : Environment) (k : ℕ) (r : Region) → HasEnvironment c e → bound e.names k ≡ Some r → IsStaked T c r
-  pub protections : (e : Environment) (r : Region) → HasEnvironment c e → list_any (same_region r) e.protections ≡ true
+  pub names : (e : RegionEnvironment) (k : ℕ) (r : Region) → HasEnvironment c e → bound e.names k ≡ Some r → IsStaked T c r
+  pub protections : (e : RegionEnvironment) (r : Region) → HasEnvironment c e → list_any (same_region r) e.protections ≡ true
       → IsStaked T c r
   pub base : (r : Region) → list_any (same_region r) c.frame.holder.base ≡ true → IsStaked T c r
   pub pending : (p : ℕ) → 0 < times_in p c.frame.holder.pending → IsStaked T c (Numbered p)
@@ -52,8 +52,8 @@ NewestNames = OfRecords (λ T c. (k : ℕ) (r : Region) → bound (top_names c.f
 
 -- nothing is left of the slot: no name, no protection, no stake for a child and no own page
 pub record HasNothingOf (c : Record) (slot : ℕ) : Type 0 where
-  pub names : (e : Environment) (k : ℕ) → HasEnvironment c e → bound e.names k ≢ Some (Numbered slot)
-  pub protections : (e : Environment) → HasEnvironment c e → list_any (same_region (Numbered slot)) e.protections ≡ false
+  pub names : (e : RegionEnvironment) (k : ℕ) → HasEnvironment c e → bound e.names k ≢ Some (Numbered slot)
+  pub protections : (e : RegionEnvironment) → HasEnvironment c e → list_any (same_region (Numbered slot)) e.protections ≡ false
   pub base : list_any (same_region (Numbered slot)) c.frame.holder.base ≡ false
   pub pending : times_in slot c.frame.holder.pending ≡ 0
   pub pages : (f : Fill) → Within f c.memory.fills → f.slot ≢ slot
@@ -93,5 +93,5 @@ StartSharesRegions = OfRecords (λ T c. (n : ℕ) (from : List ℕ) (passes : Li
 
 -- At an instruction that protects nothing the newest frame has no protections.
 abbrev pub NewestUnprotected : Type 0
-NewestUnprotected = OfRecords (λ T c. (op : CodeOp) → IsAt T.code c op → protected_names op ≡ [] → (e : Environment) (es : List Environment)
+NewestUnprotected = OfRecords (λ T c. (op : CodeOp) → IsAt T.code c op → protected_names op ≡ [] → (e : RegionEnvironment) (es : List RegionEnvironment)
     → c.frame.holder.environments ≡ e ∷ es → e.protections ≡ [])

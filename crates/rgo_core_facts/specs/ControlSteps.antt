@@ -22,13 +22,13 @@ NoneAfterExit = (T : Setup) (g : ℕ) (c : Record) (d : Duty) (ds : List Duty) �
     → is_exit g c.frame.frames ≡ false
 
 -- The next step of the goroutine is a local one. Its record has this holder after it, and is else the same.
-pub record StepsTo (T : Setup) (g : ℕ) (c : Record) (k : Holder) : Type 0 where
+pub record LocalStepTo (T : Setup) (g : ℕ) (c : Record) (k : Holder) : Type 0 where
   pub settles : SettlesBy T g 1 c
   pub becomes : settled_by T g 1 c ≡ record c { frame = record c.frame { holder = k } }
 
 abbrev pub LocalDuty : Type 0
 LocalDuty = (T : Setup) (g : ℕ) (c : Record) (d : Duty) (ds : List Duty) (k : Holder) → Here T g c → c.side ≡ at_rest
-    → c.frame.holder.duties ≡ d ∷ ds → local_duty (record c.frame.holder { duties = ds }) d ≡ Some k → StepsTo T g c k
+    → c.frame.holder.duties ≡ d ∷ ds → local_duty (record c.frame.holder { duties = ds }) d ≡ Some k → LocalStepTo T g c k
 
 -- ---- what a duty leaves of a holder, which has the others left
 

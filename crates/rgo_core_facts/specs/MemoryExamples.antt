@@ -17,9 +17,9 @@ use Rattle.rgo_core.specs.ChannelExamples.{sending, with_words}
 use Rattle.rgo_core.specs.Core.{Setup, layout}
 use Rattle.rgo_core.specs.Next.{IsAt}
 use Rattle.rgo_core.specs.Records.{Record, begins_with}
-use Rattle.rgo_core_facts.specs.MemoryObjects.{HasNoRoom, HasWords, MakesIn, MakingRegion, NewObject, StoresNext, StoresNextApart, all_struct_words, channel_opens, channel_words, data_pages_of, first_of, numbers_below, slice_opens, spot_of, storing, storing_apart}
+use Rattle.rgo_core_facts.specs.MemoryObjects.{PageHasNoRoom, HasWords, MakesIn, MakingRegion, NewObject, StoresNext, StoresNextApart, all_struct_words, channel_opens, channel_words, data_pages_of, first_of, numbers_below, slice_opens, spot_of, storing, storing_apart}
 use Rattle.rgo_core_facts.specs.MemoryPages.{IsOwnPage}
-use Rattle.rgo_core_facts.specs.MemoryWords.{HasField, OffersAt}
+use Rattle.rgo_core_facts.specs.MemoryWords.{PointerHasField, OffersAt}
 
 -- two pages of four words, and one region beside Global
 abbrev pub two_pages : Sizes
@@ -123,9 +123,9 @@ pub record ObjectExamples : Type 0 where
   pub fits_page : data_pages_of 4 4 1 ≡ 0
   pub two_data_pages : data_pages_of 4 8 1 ≡ 2
   pub three_data_pages : data_pages_of 4 10 1 ≡ 3
-  pub no_page : HasNoRoom 4 1 None
-  pub no_room : HasNoRoom 4 3 (Some half_full)
-  pub room : HasNoRoom 4 2 (Some half_full) → ⊥
+  pub no_page : PageHasNoRoom 4 1 None
+  pub no_room : PageHasNoRoom 4 3 (Some half_full)
+  pub room : PageHasNoRoom 4 2 (Some half_full) → ⊥
   pub stored : numbers_below 3 ≡ 2 ∷ 1 ∷ 0 ∷ []
   pub amid : two_stored.memory.make ≡ Amid half_full (Channel 4 [] false) (1 ∷ 0 ∷ [])
   pub accesses : two_stored.clock.accesses ≡ 2
@@ -155,8 +155,8 @@ pub record PlaceExamples : Type 0 where
   pub of_other_slot : (limits : Limits) → IsOwnPage (making_slices limits) 0 half_full → ⊥
   pub no_such_page : (limits : Limits) → IsOwnPage (making_slices limits) 1 (record half_full { page = 2 }) → ⊥
   pub overfull : (limits : Limits) → IsOwnPage (making_slices limits) 1 (record half_full { fill = 5 }) → ⊥
-  pub has_field : (limits : Limits) → HasField (loading_fields limits) (with_words (6 ∷ 0 ∷ [])) (at_load limits) 0 1
-  pub no_third : (limits : Limits) → HasField (loading_fields limits) (with_words (6 ∷ 0 ∷ [])) (at_load limits) 0 2 → ⊥
+  pub has_field : (limits : Limits) → PointerHasField (loading_fields limits) (with_words (6 ∷ 0 ∷ [])) (at_load limits) 0 1
+  pub no_third : (limits : Limits) → PointerHasField (loading_fields limits) (with_words (6 ∷ 0 ∷ [])) (at_load limits) 0 2 → ⊥
   -- an offer at the channel with address 5, the last that fits
   pub offers : (limits : Limits) → let T = sending two_pages limits in OffersAt T (with_words (6 ∷ 3 ∷ [])) (base (layout T) + 5)
   pub beyond : (limits : Limits) → let T = sending two_pages limits in OffersAt T (with_words (7 ∷ 3 ∷ [])) (base (layout T) + 6) → ⊥

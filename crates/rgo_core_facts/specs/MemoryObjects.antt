@@ -4,8 +4,8 @@ use Rattle.std.specs.Prelude.{◌≡◌, ◌+◌, ◌-◌, ◌/◌, ◌%◌, ◌
 use Rattle.rgo_sound.specs.Code.Code.{Code, CodeOp, Do}
 use Rattle.rgo_sound.specs.Code.Names.{class_of}
 use Rattle.rgo_sound.specs.Memory.Memory.{Object}
-use Rattle.rgo_sound.specs.RegionMachine.Objects.{cells, data_pages, makes_object, making_region, most_data_pages, words as words_of}
-use Rattle.rgo_sound.specs.RegionMachine.Owed.{function_of}
+use Rattle.rgo_sound.specs.RegionMachine.Objects.{cells, data_pages, makes_object, making_region, most_data_pages, object_words as words_of}
+use Rattle.rgo_sound.specs.RegionMachine.Owed.{code_function}
 use Rattle.rgo_sound.specs.RegionMachine.Regions.{class_region}
 use Rattle.rgo_sound.specs.RegionMachine.States.{top_names}
 use Rattle.rgo_sound.specs.RegionMachine.declared.limits.Limit.TheVariants.{ObjectSize}
@@ -15,24 +15,24 @@ use Rattle.rgo_sound.specs.Typed.declared.actions.Action.TheVariants as action
 use Rattle.rgo_sound.specs.Typed.declared.programs.Struct.{Struct}
 use Rattle.rgo_core.specs.Frames.WordFrames.{WordFrame, word_at}
 use Rattle.rgo_core.specs.Memory.Encoding.{Spot, content, opening}
-use Rattle.rgo_core.specs.Memory.Records.{Across, Amid, Fill, Make, Rest}
+use Rattle.rgo_core.specs.Memory.Records.{Across, Amid, Fill, Make, Rest, page_of}
 use Rattle.rgo_core.specs.Memory.Spread.{table_words}
 use Rattle.rgo_core.specs.Memory.Words.{cell_at}
-use Rattle.rgo_core.specs.Causes.{Stops}
+use Rattle.rgo_core.specs.Causes.{ReachesLimit}
 use Rattle.rgo_core.specs.Core.{Here, Setup, layout}
 use Rattle.rgo_core.specs.NewObjects.{slot_number}
 use Rattle.rgo_core.specs.Next.{IsAt}
 use Rattle.rgo_core.specs.Records.{Record}
 use Rattle.rgo_core_steps.specs.After.{making, making_apart}
-use Rattle.rgo_core_steps.specs.Making.{IsIndex, IsNewWord, IsNewWordApart, MakesNext, NeedsOwnPage, NeedsReserved, filling, filling_apart, next_is_spread, page_of}
+use Rattle.rgo_core_steps.specs.Making.{IsIndex, IsNewWord, IsNewWordApart, RecordMakesNext, NeedsOwnPage, NeedsReserved, filling, filling_apart, next_is_spread}
 
 -- ---- the region
 
 -- the region, by its slot, in which an instruction makes an object
 abbrev pub MakesIn : (T : Setup) (c : Record) {op : CodeOp} → IsAt T.code c op → Region → Type 0
-MakesIn T c a r = making_region (function_of T.code a.w.function) (top_names c.frame.holder.environments) a.instr.op ≡ Some r
+MakesIn T c a r = making_region (code_function T.code a.w.function) (top_names c.frame.holder.environments) a.instr.op ≡ Some r
 
--- It is the region of the class of variable d, to which the instruction gives a pointer to the object.
+-- It is the region of the class of variable d, to which the instruction writes a pointer to the object.
 pub record MakingRegion (T : Setup) (c : Record) {op : CodeOp} (a : IsAt T.code c op) (d : ℕ) : Type 0 where
   pub region : Region
   pub in_class : class_region (top_names c.frame.holder.environments) (class_of a.fn d) ≡ Some region
@@ -46,11 +46,11 @@ HasRegion = (T : Setup) (g : ℕ) (c : Record) → Here T g c → (to : Option �
 
 -- ---- its words
 
--- The next instruction makes an object with this number of words in the region of this slot. If there are several, so many are before its
--- cells. Word i first holds `first i`.
+-- The next instruction makes an object with this number of words in the region of this slot. If there are several, `before` of them
+-- precede its cells. Word i first holds `first i`.
 pub record NewObject (T : Setup) (c : Record) (slot words before : ℕ) (first : ℕ → ℕ) : Type 0 where
   pub object : Object
-  pub next : MakesNext T c object slot
+  pub next : RecordMakesNext T c object slot
   pub many : words_of object ≡ words
   pub split : 1 < words → cells object + before ≡ words
   pub opens : (i : ℕ) → i < words → opening (content object i) ≡ first i
@@ -102,7 +102,7 @@ NewStays = (T : Setup) (c d : Record) (slot words before : ℕ) (first : ℕ →
 
 -- ---- an object that is spread
 
--- how many data pages an object has with so many words, `before` of which are before its cells
+-- how many data pages an object of this many words has, `before` of which precede its cells
 abbrev pub data_pages_of : (page_words words before : ℕ) → ℕ
 data_pages_of n words before = if nat_lt n words then (words - before - 1) / n + 1 else 0
 
@@ -125,19 +125,19 @@ abbrev pub TooLarge : Type 0
 TooLarge = (T : Setup) (g : ℕ) (c : Record) (x : Here T g c) (to : Option ℕ) (act : Action) (from removes : List ℕ)
     (a : IsAt T.code c (Do to act from removes)) (words before : ℕ) → HasWords T.code a.w act from words before
     → most_data_pages T.sizes.page_words < data_pages_of T.sizes.page_words words before
-    → Stops T.code T.sizes T.limits ObjectSize x.s
+    → ReachesLimit T.code T.sizes T.limits ObjectSize x.s
 
 -- ---- its page
 
 -- this own page does not have room for an object with this number of words, or there is no own page
-abbrev pub HasNoRoom : (page_words words : ℕ) → Option Fill → Type 0
-HasNoRoom n words None = Unit {0}
-HasNoRoom n words (Some f) = n < f.fill + words
+abbrev pub PageHasNoRoom : (page_words words : ℕ) → Option Fill → Type 0
+PageHasNoRoom n words None = Unit {0}
+PageHasNoRoom n words (Some f) = n < f.fill + words
 
 -- an object that fits a page then needs one
 abbrev pub WantsPage : Type 0
 WantsPage = (T : Setup) (g : ℕ) (c : Record) → Here T g c → (slot words before : ℕ) (first : ℕ → ℕ) → NewObject T c slot words before first
-    → words ≤ T.sizes.page_words → HasNoRoom T.sizes.page_words words (page_of slot c.memory.fills) → NeedsOwnPage T c slot
+    → words ≤ T.sizes.page_words → PageHasNoRoom T.sizes.page_words words (page_of slot c.memory.fills) → NeedsOwnPage T c slot
 
 -- whether the next object is spread: if it has more words than a page
 abbrev pub NextIsSpread : Type 0
@@ -209,7 +209,7 @@ with_new_object_apart T c object = record (making_apart T c) {
   clock = record (making_apart T c).clock { accesses = c.clock.accesses + table_words T.sizes.page_words object };
 }
 
--- Where word n goes of an object with so many words, `before` of which are before its cells, in these pages, the lead page first. The
+-- Where word n of an object of this many words goes, `before` of which precede its cells, in these pages, the lead page first. The
 -- numbers of the data pages come after the words.
 abbrev pub spot_of : (page_words words before : ℕ) → List ℕ → (n : ℕ) → Spot
 spot_of page_words words before pages n =

@@ -1,11 +1,10 @@
 -- The own pages of a goroutine and those that it has reserved, and what of its memory has to be at rest before a stake ends.
 use Rattle.std.specs.Prelude.{◌≡◌, ◌+◌, ◌*◌, ◌<◌, ◌≤◌, ℕ, suc, Some, length, slice_index}
 use Rattle.rgo_core.specs.Memory.Events.{IsFreeOf}
-use Rattle.rgo_core.specs.Memory.Records.{Fill, Idle, Rec, Rest, Within, with_page}
+use Rattle.rgo_core.specs.Memory.Records.{Fill, Idle, Rec, Rest, Within, page_of, with_page}
 use Rattle.rgo_core.specs.Bounds.{LieInPages}
 use Rattle.rgo_core.specs.Core.{Here, Setup}
 use Rattle.rgo_core.specs.Records.{Record}
-use Rattle.rgo_core_steps.specs.Making.{page_of}
 use Rattle.rgo_core_facts.specs.MemoryObjects.{NewObject, data_pages_of}
 
 -- an own page for this slot is a page, and no more of it is filled than it has
@@ -33,7 +32,7 @@ abbrev pub ReservedPages : Type 0
 ReservedPages = (T : Setup) (g : ℕ) (c : Record) → Here T g c → (i : ℕ) → i < length c.memory.reserved.pages
     → slice_index c.memory.reserved.pages i < T.sizes.pages
 
--- and there are no more of them than a lead page and the data pages of the object that is made next
+-- and there are at most as many of them as a lead page and the data pages of the object that is made next
 abbrev pub ReservedFew : Type 0
 ReservedFew = (T : Setup) (g : ℕ) (c : Record) → Here T g c → (slot words before : ℕ) (first : ℕ → ℕ) → NewObject T c slot words before first
     → length c.memory.reserved.pages ≤ suc (data_pages_of T.sizes.page_words words before)

@@ -3,7 +3,7 @@
 use Rattle.std.specs.Prelude.{◌≡◌, ◌+◌, ◌/◌, ◌<◌, ◌≤◌, ℕ, suc, List, [], ◌∷◌, Option, Some, None, Contains, length, slice_get}
 use Rattle.rgo_sound.specs.Code.Code.{CodeOp, Do}
 use Rattle.rgo_sound.specs.Code.Erasure.{erased_fn, erased_op}
-use Rattle.rgo_sound.specs.Code.Types.{HasType}
+use Rattle.rgo_sound.specs.Code.Types.{VariableHasType}
 use Rattle.rgo_sound.specs.Tac.Flow.{reads}
 use Rattle.rgo_sound.specs.Typed.declared.actions.Action.{Action}
 use Rattle.rgo_sound.specs.Typed.declared.actions.Action.TheVariants as action
@@ -27,7 +27,7 @@ use Rattle.rgo_core.specs.Records.{Record}
 -- a variable of this type that the next instruction reads points where it may
 abbrev pub OperandPoints : Type 0
 OperandPoints = (T : Setup) (g : ℕ) (c : Record) → Here T g c → (op : CodeOp) (a : IsAt T.code c op) (v : ℕ) (ty : «Type»)
-    → Contains (reads (erased_op op)) v → HasType (erased_fn a.fn) v ty → Points T ty (word_at a.w v)
+    → Contains (reads (erased_op op)) v → VariableHasType (erased_fn a.fn) v ty → Points T ty (word_at a.w v)
 
 -- words of pages are words of the table
 abbrev pub PagesInTable : Type 0
@@ -36,20 +36,20 @@ PagesInTable = (T : Setup) (address n : ℕ) → LieInPages T address n → base
 -- ---- fields, elements and lengths
 
 -- The variable points to structs of this type, which have this field. They fit a page, or are spread.
-pub record HasField (T : Setup) (c : Record) {op : CodeOp} (a : IsAt T.code c op) (p k : ℕ) : Type 0 where
+pub record PointerHasField (T : Setup) (c : Record) {op : CodeOp} (a : IsAt T.code c op) (p k : ℕ) : Type 0 where
   pub number : ℕ
-  pub typed : HasType (erased_fn a.fn) p (pointer_to number)
+  pub typed : VariableHasType (erased_fn a.fn) p (pointer_to number)
   pub struct : Struct
   pub there : slice_get T.code.structs number ≡ Some struct
   pub low : k < length struct.fields
 
 abbrev pub LoadsField : Type 0
 LoadsField = (T : Setup) (g : ℕ) (c : Record) → Here T g c → (d k p : ℕ) (removes : List ℕ)
-    (a : IsAt T.code c (Do (Some d) (action.Load k) (p ∷ []) removes)) → HasField T c a p k
+    (a : IsAt T.code c (Do (Some d) (action.Load k) (p ∷ []) removes)) → PointerHasField T c a p k
 
 abbrev pub StoresField : Type 0
 StoresField = (T : Setup) (g : ℕ) (c : Record) → Here T g c → (k p q : ℕ) (removes : List ℕ)
-    (a : IsAt T.code c (Do None (action.Store k) (p ∷ q ∷ []) removes)) → HasField T c a p k
+    (a : IsAt T.code c (Do None (action.Store k) (p ∷ q ∷ []) removes)) → PointerHasField T c a p k
 
 -- a struct that fits a page, up to the field that is loaded
 abbrev pub LoadLies : Type 0

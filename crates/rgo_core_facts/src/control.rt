@@ -35,7 +35,7 @@ pub fn bodies_begin()
     ensures { BodiesBegin }
 {}
 
-/// Each action has the operands that it needs, and a variable exactly if it gives a value.
+/// Each action has the operands that it needs, and a target variable exactly if it has a value.
 pub fn actions_shaped()
     ensures { ActionsShaped }
 {}
@@ -100,7 +100,7 @@ pub fn start_passes_regions()
     ensures { StartPassesRegions }
 {}
 
-/// What the first duty names is there.
+/// What the first duty names exists.
 pub fn duties_known()
     ensures { DutiesKnown }
 {}

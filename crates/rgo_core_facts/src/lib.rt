@@ -1,8 +1,8 @@
-//! What the record of a goroutine tells of its table, at every moment of a run: where the words that its next instruction
-//! accesses lie, which object it makes and where, and which regions it knows.
+//! What follows from the record of a goroutine, at every moment of a run: where the words that its next instruction accesses lie,
+//! which object it makes and where, and which regions it knows.
 //!
 //! A fact holds of each record that a goroutine of some table may have. So code that runs a goroutine may use it without looking
-//! at the table.
+//! at the table, and an arm of its code that a fact excludes needs no test. Why: docs/DECISIONS.md, "Goroutines over the table".
 #![tactic(auto)]
 
 pub mod control;

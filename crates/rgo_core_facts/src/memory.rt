@@ -184,7 +184,7 @@ pub fn free_of_slots()
     ensures { FreeOfSlots }
 {}
 
-/// New objects, own pages and offers that are so, and such as are not.
+/// New objects, own pages and offers that meet the definitions, and some that do not.
 pub fn examples()
     ensures objects { ObjectExamples }
     ensures places { PlaceExamples }

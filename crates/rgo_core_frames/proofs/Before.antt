@@ -1,6 +1,6 @@
 -- What a record says of the machine before an instruction.
 use Rattle.std.proofs.Common.{◌≡◌, ◌⊎◌, ℕ, List, [], ◌∷◌, Some, refl, sym, ap, ◌∙◌, subst, inl, inr, slice_get}
-use Rattle.rgo_sound.specs.Tac.Frames.{Frame}
+use Rattle.rgo_sound.specs.Tac.Frames.{TacFrame}
 use Rattle.rgo_sound.specs.Code.Checked.{IsChecked}
 use Rattle.rgo_sound.specs.Code.Code.{Code, CodeInstr}
 use Rattle.std.proofs.Common.{true≢false}
@@ -10,13 +10,13 @@ use Rattle.rgo_sound.specs.RegionMachine.States.{Duty, Holder, NoOffer, Offer, R
 use Rattle.rgo_sound.specs.Good.{AllGood}
 use Rattle.rgo_core_frames.specs.Before.{IsBefore}
 use Rattle.rgo_core_frames.specs.BeforeLaws.{BeforeLaw, MayGo}
-use Rattle.rgo_core_frames.specs.Fits.{Fits, IsPast, IsShown}
+use Rattle.rgo_core_frames.specs.Fits.{RecordFits, IsPast, IsShown}
 use Rattle.rgo_core_frames.specs.Records.{Rec}
 use Rattle.rgo_core_frames.specs.Shown.{FramesShow}
 use Rattle.rgo_core_frames.specs.Slots.{nameless, slot_duties}
 use Rattle.rgo_core_frames.specs.WordFrames.{WordFrame, bare}
-use Rattle.rgo_core_frames.proofs.Bookkeeping.{current_alike}
-use Rattle.rgo_core_frames.proofs.Showing.{reads_show}
+use Rattle.rgo_core_frames.proofs.regions.Bookkeeping.{current_alike}
+use Rattle.rgo_core_frames.proofs.shown.Showing.{reads_show}
 use Rattle.rgo_core_frames.proofs.Standing.{reads_staked}
 
 pub no_offer : (o : Offer) → nameless o ≡ NoOffer → o ≡ NoOffer
@@ -29,14 +29,14 @@ no_duties slot_of [] e = refl
 no_duties slot_of (d ∷ ds) e = cc
 
 before_at : (code : Code) (s : RegionState) (slot_of : ℕ → ℕ) (addresses : List ℕ) (g : ℕ) (c : Rec) (w : WordFrame)
-    (ws : List WordFrame) (instr : CodeInstr) → IsChecked code → AllGood code s → (frames : List Frame) (h : Holder)
+    (ws : List WordFrame) (instr : CodeInstr) → IsChecked code → AllGood code s → (frames : List TacFrame) (h : Holder)
     → slice_get s.plain.goroutines g ≡ Some frames → slice_get s.holders g ≡ Some h
     → IsShown code slot_of addresses frames h c → c.frames ≡ w ∷ ws → current code (bare w) ≡ Some instr
     → c.holder.duties ≡ [] → IsBefore code slot_of addresses s g c w ws instr
 before_at code s slot_of addresses g c w ws instr checked good frames h at there shown is cur none =
     by frames at (subst (FramesShow code addresses frames) is shown.shown)
   where
-    by : (frames : List Frame) → slice_get s.plain.goroutines g ≡ Some frames → FramesShow code addresses frames (w ∷ ws)
+    by : (frames : List TacFrame) → slice_get s.plain.goroutines g ≡ Some frames → FramesShow code addresses frames (w ∷ ws)
         → IsBefore code slot_of addresses s g c w ws instr
     by [] at f = absurd f
     by (frame ∷ callers) at f =
@@ -64,7 +64,7 @@ before_at code s slot_of addresses g c w ws instr checked good frames h at there
 pub before_law : BeforeLaw
 before_law x w ws instr is cur none free = go f.fits
   where
-    f : Fits x.code x.slot_of x.addresses x.s x.g x.c
+    f : RecordFits x.code x.slot_of x.addresses x.s x.g x.c
     f = x.all.each x.g x.c x.is_c
 
     go : IsShown x.code x.slot_of x.addresses f.frames f.h x.c ⊎ IsPast x.code x.slot_of x.addresses f.frames f.h x.c

@@ -4,37 +4,37 @@ use Rattle.std.proofs.Common.{slice_get, slice_set, nat_eq, nat_lt, arith}
 use Rattle.std.proofs.lemmas.Option.{same_Some}
 use Rattle.std.specs.List.{list_any}
 use Rattle.rgo_sound.specs.Memory.Memory.{Memory}
-use Rattle.rgo_sound.specs.Tac.Frames.{Frame}
+use Rattle.rgo_sound.specs.Tac.Frames.{TacFrame}
 use Rattle.rgo_sound.specs.Code.Code.{Code}
 use Rattle.rgo_sound.specs.RegionMachine.declared.regions.Region.{Region}
 use Rattle.rgo_sound.specs.RegionMachine.declared.regions.Region.TheVariants.{Numbered}
 use Rattle.rgo_sound.specs.RegionMachine.Regions.{RegionInfo, has_stakes, is_live, same_region}
-use Rattle.rgo_sound.specs.RegionMachine.States.{Environment, Holder, RegionState, frames_of}
-use Rattle.rgo_sound.proofs.Attends.{total_at, staked_live}
+use Rattle.rgo_sound.specs.RegionMachine.States.{RegionEnvironment, Holder, RegionState, frames_of}
+use Rattle.rgo_sound.proofs.duties.Attends.{total_at, staked_live}
 use Rattle.rgo_sound.proofs.Places.{get_set_other, get_set_same, get_some, length_set, get_front}
 use Rattle.rgo_sound.proofs.Tests.{eq_of, split}
 use Rattle.rgo_sound.specs.Core.{AreStaked, RegionsStaked}
 use Rattle.rgo_sound.specs.Invariant.{Fine, GoodHolder}
 use Rattle.rgo_sound.specs.Stakes.{times_in}
-use Rattle.rgo_core_frames.specs.Fits.{AllFit, Fits, IsPast, IsShown, ObjectsDiffer, SlotsDiffer}
+use Rattle.rgo_core_frames.specs.Fits.{RecordsFit, RecordFits, IsPast, IsShown, ObjectsDiffer, SlotsDiffer}
 use Rattle.rgo_core_frames.specs.Records.{Rec}
 use Rattle.rgo_core_frames.specs.Shown.{CallersShow, FramesShow, LiveShow}
 use Rattle.rgo_core_frames.specs.WordFrames.{WordFrame, word_at}
-use Rattle.rgo_core_frames.proofs.WordLemmas.{shows_more}
+use Rattle.rgo_core_frames.proofs.shown.WordLemmas.{shows_more}
 use Rattle.rgo_sound.specs.Values.{call_target}
 use Rattle.rgo_sound.specs.Tac.Frames.{value_at}
 use Rattle.std.proofs.Common.{◌++◌, append-nil, length-append}
 use Rattle.rgo_sound.proofs.Places.{get_append_last, get_snoc}
-use Rattle.rgo_core_frames.proofs.SlotLemmas.{ProtectionsLive}
+use Rattle.rgo_core_frames.proofs.regions.SlotLemmas.{ProtectionsLive}
 
 -- ---- more objects
 
 module _ (code : Code) (slot_of : ℕ → ℕ) (addresses more : List ℕ) where
-  live_more : (but : Option ℕ) (i : ℕ) (frame : Frame) (w : WordFrame) → LiveShow code addresses but i frame w
+  live_more : (but : Option ℕ) (i : ℕ) (frame : TacFrame) (w : WordFrame) → LiveShow code addresses but i frame w
       → LiveShow code (addresses ++ more) but i frame w
   live_more but i frame w h fn is v b l = shows_more addresses more (value_at frame v) (word_at w v) (h fn is v b l)
 
-  pub callers_more : (callers : List Frame) (ws : List WordFrame) → CallersShow code addresses callers ws
+  pub callers_more : (callers : List TacFrame) (ws : List WordFrame) → CallersShow code addresses callers ws
       → CallersShow code (addresses ++ more) callers ws
   callers_more [] [] h = tt
   callers_more [] (w ∷ ws) h = h
@@ -47,7 +47,7 @@ module _ (code : Code) (slot_of : ℕ → ℕ) (addresses more : List ℕ) where
     callers_more callers ws h.1,
   )
 
-  pub frames_more : (frames : List Frame) (ws : List WordFrame) → FramesShow code addresses frames ws
+  pub frames_more : (frames : List TacFrame) (ws : List WordFrame) → FramesShow code addresses frames ws
       → FramesShow code (addresses ++ more) frames ws
   frames_more [] [] h = tt
   frames_more [] (w ∷ ws) h = h
@@ -55,11 +55,11 @@ module _ (code : Code) (slot_of : ℕ → ℕ) (addresses more : List ℕ) where
   frames_more (frame ∷ callers) (w ∷ ws) h =
       (record { alike = h.0.alike; shows = live_more None frame.next frame w h.0.shows }, callers_more callers ws h.1)
 
-  pub shown_more : (frames : List Frame) (h : Holder) (c : Rec) → IsShown code slot_of addresses frames h c
+  pub shown_more : (frames : List TacFrame) (h : Holder) (c : Rec) → IsShown code slot_of addresses frames h c
       → IsShown code slot_of (addresses ++ more) frames h c
   shown_more frames h c x = record { calm = x.calm; shown = frames_more frames c.frames x.shown; holder = x.holder }
 
-  either_more : (frames : List Frame) (h : Holder) (c : Rec)
+  either_more : (frames : List TacFrame) (h : Holder) (c : Rec)
       → IsShown code slot_of addresses frames h c ⊎ IsPast code slot_of addresses frames h c
       → IsShown code slot_of (addresses ++ more) frames h c ⊎ IsPast code slot_of (addresses ++ more) frames h c
   either_more frames h c (inl x) = inl (shown_more frames h c x)
@@ -86,19 +86,19 @@ module _ (code : Code) (slot_of : ℕ → ℕ) (addresses more : List ℕ) where
 
 -- in which only goroutine g has other frames and another holder, and others may have been started
 pub record Changes
-    (s t : RegionState) (g : ℕ) (frames : List Frame) (h : Holder) (started : List (List Frame)) (children : List Holder)
+    (s t : RegionState) (g : ℕ) (frames : List TacFrame) (h : Holder) (started : List (List TacFrame)) (children : List Holder)
     : Type 0 where
   pub goroutines : t.plain.goroutines ≡ slice_set s.plain.goroutines g frames ++ started
   pub holders : t.holders ≡ slice_set s.holders g h ++ children
 
-module _ (code : Code) (slot_of : ℕ → ℕ) (addresses more : List ℕ) (s t : RegionState) (g : ℕ) (frames : List Frame) (h : Holder)
-    (frames' : List Frame) (h' : Holder) (started : List (List Frame)) (children : List Holder)
+module _ (code : Code) (slot_of : ℕ → ℕ) (addresses more : List ℕ) (s t : RegionState) (g : ℕ) (frames : List TacFrame) (h : Holder)
+    (frames' : List TacFrame) (h' : Holder) (started : List (List TacFrame)) (children : List Holder)
     (at : slice_get s.plain.goroutines g ≡ Some frames) (there : slice_get s.holders g ≡ Some h)
     (changes : Changes s t g frames' h' started children) where
-  abbrev Stand : List Frame → Holder → Rec → Type 0
+  abbrev Stand : List TacFrame → Holder → Rec → Type 0
   Stand frames h c = IsShown code slot_of (addresses ++ more) frames h c ⊎ IsPast code slot_of (addresses ++ more) frames h c
 
-  here : (c : Rec) → Stand frames' h' c → Fits code slot_of (addresses ++ more) t g c
+  here : (c : Rec) → Stand frames' h' c → RecordFits code slot_of (addresses ++ more) t g c
   here c f = record {
     frames = frames';
     at = ap (λ gs. slice_get gs g) changes.goroutines
@@ -110,7 +110,7 @@ module _ (code : Code) (slot_of : ℕ → ℕ) (addresses more : List ℕ) (s t 
     fits = f;
   }
 
-  other : (j : ℕ) (c : Rec) → nat_eq g j ≡ false → Fits code slot_of addresses s j c → Fits code slot_of (addresses ++ more) t j c
+  other : (j : ℕ) (c : Rec) → nat_eq g j ≡ false → RecordFits code slot_of addresses s j c → RecordFits code slot_of (addresses ++ more) t j c
   other j c n f = record {
     frames = f.frames;
     at = ap (λ gs. slice_get gs j) changes.goroutines
@@ -122,19 +122,19 @@ module _ (code : Code) (slot_of : ℕ → ℕ) (addresses more : List ℕ) (s t 
     fits = either_more code slot_of addresses more f.frames f.h c f.fits;
   }
 
-  module _ (records : List Rec) (c d : Rec) (all : AllFit code slot_of addresses s records) (e : slice_get records g ≡ Some c)
+  module _ (records : List Rec) (c d : Rec) (all : RecordsFit code slot_of addresses s records) (e : slice_get records g ≡ Some c)
       (f : Stand frames' h' d) where
-    old_fits : (j : ℕ) (x : Rec) → slice_get (slice_set records g d) j ≡ Some x → Fits code slot_of (addresses ++ more) t j x
+    old_fits : (j : ℕ) (x : Rec) → slice_get (slice_set records g d) j ≡ Some x → RecordFits code slot_of (addresses ++ more) t j x
     old_fits j x q = split (nat_eq g j)
-        (λ y. let gj = eq_of g j y in subst (λ i. Fits code slot_of (addresses ++ more) t i x) gj
-        (subst (λ z. Fits code slot_of (addresses ++ more) t g z)
+        (λ y. let gj = eq_of g j y in subst (λ i. RecordFits code slot_of (addresses ++ more) t i x) gj
+        (subst (λ z. RecordFits code slot_of (addresses ++ more) t g z)
         (same_Some d x (sym (get_set_same records g c d e) ∙ ap (slice_get (slice_set records g d)) gj ∙ q)) (here d f)))
         (λ n. other j x n (all.each j x (sym (get_set_other records g j d n) ∙ q)))
 
     -- no goroutine was started
     pub all_fit_after : started ≡ [] → children ≡ [] → length (addresses ++ more) ≡ length t.plain.memory.heap
         → SlotsDiffer slot_of t.regions → ObjectsDiffer (addresses ++ more) t.regions t.owners
-        → AllFit code slot_of (addresses ++ more) t (slice_set records g d)
+        → RecordsFit code slot_of (addresses ++ more) t (slice_set records g d)
     all_fit_after none no_child laid slots places = record {
       as_many = length_set records g d ∙ all.as_many ∙ sym (length_set s.holders g h')
           ∙ sym (ap length (changes.holders ∙ ap (λ ks. slice_set s.holders g h' ++ ks) no_child ∙ append-nil _));
@@ -145,10 +145,10 @@ module _ (code : Code) (slot_of : ℕ → ℕ) (addresses more : List ℕ) (s t 
     }
 
     -- one was started
-    pub all_fit_child : (child : List Frame) (k : Holder) (r : Rec) → started ≡ child ∷ [] → children ≡ k ∷ []
+    pub all_fit_child : (child : List TacFrame) (k : Holder) (r : Rec) → started ≡ child ∷ [] → children ≡ k ∷ []
         → length s.plain.goroutines ≡ length s.holders → IsShown code slot_of (addresses ++ more) child k r
         → length (addresses ++ more) ≡ length t.plain.memory.heap → SlotsDiffer slot_of t.regions
-        → ObjectsDiffer (addresses ++ more) t.regions t.owners → AllFit code slot_of (addresses ++ more) t (slice_set records g d ++ r ∷ [])
+        → ObjectsDiffer (addresses ++ more) t.regions t.owners → RecordsFit code slot_of (addresses ++ more) t (slice_set records g d ++ r ∷ [])
     all_fit_child child k r one one_child even shows laid slots places = record {
       as_many =
           let a = length-append (slice_set records g d) (r ∷ []) in
@@ -164,7 +164,7 @@ module _ (code : Code) (slot_of : ℕ → ℕ) (addresses more : List ℕ) (s t 
       addresses_differ = places;
     }
       where
-        last : (j : ℕ) → j ≡ length (slice_set records g d) → Fits code slot_of (addresses ++ more) t j r
+        last : (j : ℕ) → j ≡ length (slice_set records g d) → RecordFits code slot_of (addresses ++ more) t j r
         last j q = record {
           frames = child;
           at = ap (λ gs. slice_get gs j) (changes.goroutines ∙ ap (λ x. slice_set s.plain.goroutines g frames' ++ x) one)
@@ -178,19 +178,19 @@ module _ (code : Code) (slot_of : ℕ → ℕ) (addresses more : List ℕ) (s t 
         }
 
         by : (j : ℕ) (x : Rec) → (slice_get (slice_set records g d) j ≡ Some x) ⊎ ((j ≡ length (slice_set records g d)) × (x ≡ r))
-            → Fits code slot_of (addresses ++ more) t j x
+            → RecordFits code slot_of (addresses ++ more) t j x
         by j x (inl q) = old_fits j x q
-        by j x (inr (q, is)) = subst (λ z. Fits code slot_of (addresses ++ more) t j z) (sym is) (last j q)
+        by j x (inr (q, is)) = subst (λ z. RecordFits code slot_of (addresses ++ more) t j z) (sym is) (last j q)
 
 -- the same where nothing but one goroutine has changed
-pub all_fit_kept : (code : Code) (slot_of : ℕ → ℕ) (addresses : List ℕ) (s t : RegionState) (g : ℕ) (frames : List Frame) (h : Holder)
-    (frames' : List Frame) (h' : Holder) → slice_get s.plain.goroutines g ≡ Some frames → slice_get s.holders g ≡ Some h
+pub all_fit_kept : (code : Code) (slot_of : ℕ → ℕ) (addresses : List ℕ) (s t : RegionState) (g : ℕ) (frames : List TacFrame) (h : Holder)
+    (frames' : List TacFrame) (h' : Holder) → slice_get s.plain.goroutines g ≡ Some frames → slice_get s.holders g ≡ Some h
     → Changes s t g frames' h' [] [] → t.plain.memory ≡ s.plain.memory → t.regions ≡ s.regions → t.owners ≡ s.owners
-    → (records : List Rec) (c d : Rec) → AllFit code slot_of addresses s records → slice_get records g ≡ Some c
+    → (records : List Rec) (c d : Rec) → RecordsFit code slot_of addresses s records → slice_get records g ≡ Some c
     → IsShown code slot_of addresses frames' h' d ⊎ IsPast code slot_of addresses frames' h' d
-    → AllFit code slot_of addresses t (slice_set records g d)
+    → RecordsFit code slot_of addresses t (slice_set records g d)
 all_fit_kept code slot_of addresses s t g frames h frames' h' at there changes memory regions owners records c d all e f =
-    subst (λ l. AllFit code slot_of l t (slice_set records g d)) (append-nil addresses)
+    subst (λ l. RecordsFit code slot_of l t (slice_set records g d)) (append-nil addresses)
     (all_fit_after code slot_of addresses [] s t g frames h frames' h' [] [] at there changes records c d all e
     (subst (λ l. IsShown code slot_of l frames' h' d ⊎ IsPast code slot_of l frames' h' d) (sym (append-nil addresses)) f)
     refl refl
@@ -229,7 +229,7 @@ module _ (code : Code) (s : RegionState) (fine : Fine code s) (g : ℕ) (h : Hol
 
     module _ (slot_of : ℕ → ℕ) (differ : (r q : ℕ) → is_live s.regions (Numbered r) ≡ true
         → is_live s.regions (Numbered q) ≡ true → slot_of r ≡ slot_of q → r ≡ q) where
-      protections_live_in : (es : List Environment) → AreStaked h.stakes es → ProtectionsLive slot_of s.regions differ es
+      protections_live_in : (es : List RegionEnvironment) → AreStaked h.stakes es → ProtectionsLive slot_of s.regions differ es
       protections_live_in [] k = tt
       protections_live_in (e ∷ es) k = (staked_regions e.protections k.1, protections_live_in es k.2)
 

@@ -5,8 +5,8 @@ use Rattle.rgo_sound.specs.RegionMachine.Instructions.{marked, printed_if}
 use Rattle.rgo_sound.specs.RegionMachine.Machine.{Event, region_step}
 use Rattle.rgo_sound.specs.RegionMachine.Regions.{RegionInfo}
 use Rattle.rgo_sound.specs.RegionMachine.States.{Holder, Mark, RegionState}
-use Rattle.rgo_sound.proofs.Leaving.{offers_stay, others_stay}
-use Rattle.rgo_core_frames.specs.Fits.{AllFit}
+use Rattle.rgo_sound.proofs.steps.Leaving.{offers_stay, others_stay}
+use Rattle.rgo_core_frames.specs.Fits.{RecordsFit}
 use Rattle.rgo_core_frames.specs.Records.{Rec}
 use Rattle.rgo_core_frames.specs.Steps.{HasStep, LeavesRest, StaysElse, steps_after}
 
@@ -19,7 +19,7 @@ leaves_rest code page_words s t event e = record {
 
 pub has_step : (code : Code) (page_words : ℕ) (slot_of : ℕ → ℕ) (addresses : List ℕ) (s : RegionState) (event : Event)
     (regions : List RegionInfo) (mark : Option Mark) (records : List Rec) (t : RegionState)
-    → region_step code page_words s event ≡ Some t → AllFit code slot_of addresses t records → StaysElse s t
+    → region_step code page_words s event ≡ Some t → RecordsFit code slot_of addresses t records → StaysElse s t
     → t.regions ≡ regions → t.mark ≡ mark → t.steps ≡ steps_after s.steps event
     → HasStep code page_words slot_of addresses s event regions mark records
 has_step code page_words slot_of addresses s event regions mark records t e fit same regions_are mark_is counted = record {
@@ -37,7 +37,7 @@ has_step code page_words slot_of addresses s event regions mark records t e fit 
 pub has_still_step : (code : Code) (page_words : ℕ) (slot_of : ℕ → ℕ) (addresses : List ℕ) (s : RegionState)
     (event : Event) (records : List Rec) (holders : List Holder)
     → region_step code page_words s event ≡ Some (record s { holders = holders })
-    → AllFit code slot_of addresses (record s { holders = holders }) records → s.steps ≡ steps_after s.steps event
+    → RecordsFit code slot_of addresses (record s { holders = holders }) records → s.steps ≡ steps_after s.steps event
     → HasStep code page_words slot_of addresses s event s.regions s.mark records
 has_still_step code page_words slot_of addresses s event records holders e fit counted =
     has_step code page_words slot_of addresses s event s.regions s.mark records (record s { holders = holders }) e fit

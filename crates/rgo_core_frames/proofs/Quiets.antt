@@ -8,16 +8,16 @@ use Rattle.rgo_sound.proofs.Machine.Items.{set_twice}
 use Rattle.rgo_sound.specs.RegionMachine.Machine.{region_step}
 use Rattle.rgo_sound.specs.RegionMachine.States.{RegionState, Duty}
 use Rattle.rgo_sound.proofs.Places.{get_set_same}
-use Rattle.rgo_core_frames.specs.Fits.{AllFit}
+use Rattle.rgo_core_frames.specs.Fits.{RecordsFit}
 use Rattle.rgo_core_frames.specs.Local.{local}
 use Rattle.rgo_core_frames.specs.Constants.{ConstantsFit}
 use Rattle.rgo_core_frames.specs.LocalLaws.{event_of, end_by_frames, end_of, event_by}
 use Rattle.rgo_core_frames.specs.Quiet.{HasQuietRun, QuietLaw, is_exit, quiet, quiet_events, quiets, unless_exit, OnlyOne}
 use Rattle.rgo_core_frames.specs.Records.{Rec}
-use Rattle.rgo_core_frames.specs.Steps.{StaysElse, LeavesRest, StepsTo}
-use Rattle.rgo_sound.proofs.Acting.{set_same}
-use Rattle.rgo_core_frames.proofs.LocalActs.{chained}
-use Rattle.rgo_core_frames.proofs.LocalSteps.{local_law}
+use Rattle.rgo_core_frames.specs.Steps.{StaysElse, LeavesRest, RegionStepsTo}
+use Rattle.rgo_sound.proofs.steps.Acting.{set_same}
+use Rattle.rgo_core_frames.proofs.steps.LocalActs.{chained}
+use Rattle.rgo_core_frames.proofs.steps.LocalSteps.{local_law}
 use Rattle.rgo_sound.specs.Leaving.{ActsAlone, TakesPart}
 use Rattle.rgo_core_frames.specs.States.{Here}
 use Rattle.rgo_core_frames.specs.WordFrames.{WordFrame}
@@ -87,7 +87,7 @@ only_both g s t u a b = record {
 
 -- one step, and then q
 one_more : (x : Here) (q : ℕ) (y d : Rec) → quiet x.code x.g x.c ≡ Some y → is_exit x.g y.frames ≡ false
-    → (k : StepsTo x (event_of x.g x.c) x.s.regions (marked x.s.mark (end_of x.g x.c y)) (slice_set x.records x.g y))
+    → (k : RegionStepsTo x (event_of x.g x.c) x.s.regions (marked x.s.mark (end_of x.g x.c y)) (slice_set x.records x.g y))
     → HasQuietRun x.code x.page_words x.slot_of x.addresses k.state x.g (quiet_events x.code x.g q y)
     (slice_set (slice_set x.records x.g y) x.g d)
     → HasQuietRun x.code x.page_words x.slot_of x.addresses x.s x.g (quiet_events x.code x.g (suc q) x.c)
@@ -99,7 +99,7 @@ one_more x q y d e no_exit k more =
       runs = ap (option_and_then (λ (u : RegionState). run (region_step x.code x.page_words) u (quiet_events x.code x.g q y))) k.steps
           ∙ more.runs;
       sound = more.sound;
-      fit = subst (AllFit x.code x.slot_of x.addresses more.state) (set_twice x.records x.g y d) more.fit;
+      fit = subst (RecordsFit x.code x.slot_of x.addresses more.state) (set_twice x.records x.g y d) more.fit;
       same = both_stay x.s k.state more.state k.same more.same;
       only = only_both x.g x.s k.state more.state (only_one x.g x.c.holder.duties x.s k.state k.rest) more.only;
       regions_are = more.regions_are ∙ k.regions_are;
@@ -108,7 +108,7 @@ one_more x q y d e no_exit k more =
     })
 
 -- where the record is after one step
-abbrev next_here : (x : Here) (y : Rec) (k : StepsTo x (event_of x.g x.c) x.s.regions (marked x.s.mark (end_of x.g x.c y))
+abbrev next_here : (x : Here) (y : Rec) (k : RegionStepsTo x (event_of x.g x.c) x.s.regions (marked x.s.mark (end_of x.g x.c y))
     (slice_set x.records x.g y)) → Here
 next_here x y k = record {
   code = x.code;
@@ -131,7 +131,7 @@ runs_quiet zero x d constants e = record {
   state = x.s;
   runs = refl;
   sound = x.sound;
-  fit = subst (AllFit x.code x.slot_of x.addresses x.s)
+  fit = subst (RecordsFit x.code x.slot_of x.addresses x.s)
       (sym (set_same x.records x.g x.c x.is_c) ∙ ap (slice_set x.records x.g) (same_Some x.c d e)) x.all;
   same = record { memory = refl; printed = refl; owners = refl; global_pages = refl };
   only = record {

@@ -3,10 +3,10 @@ use Rattle.std.proofs.Common.{◌≡◌, ℕ, Some}
 use Rattle.rgo_sound.specs.Code.Code.{Code}
 use Rattle.rgo_sound.specs.RegionMachine.Machine.{Event, region_step}
 use Rattle.rgo_sound.specs.RegionMachine.States.{RegionState}
-use Rattle.rgo_sound.proofs.ErasureLemmas.{yields_is}
-use Rattle.rgo_sound.proofs.Offers.{all_good_start, all_good_step}
-use Rattle.rgo_sound.proofs.OwnersMade.{owners_stay_made}
-use Rattle.rgo_sound.proofs.Running.{runs_on}
+use Rattle.rgo_sound.proofs.plain.Steps.{yields_is}
+use Rattle.rgo_sound.proofs.offers.Offers.{all_good_start, all_good_step}
+use Rattle.rgo_sound.proofs.pointers.Owners.{owners_stay_made}
+use Rattle.rgo_sound.proofs.plain.Running.{runs_on}
 use Rattle.rgo_core_frames.specs.States.{IsSound, SoundStays}
 
 pub next_sound : (code : Code) (page_words : ℕ) (s t : RegionState) (event : Event) → IsSound code s

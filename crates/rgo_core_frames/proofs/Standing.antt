@@ -2,7 +2,7 @@
 use Rattle.std.proofs.Common.{◌≡◌, ℕ, true, List, ◌∷◌, Option, Some, None, refl, ap, ◌∙◌, subst, slice_get, Contains}
 use Rattle.rgo_sound.specs.Memory.declared.values.Value.TheVariants as value
 use Rattle.rgo_sound.specs.Tac.Flow.{reads}
-use Rattle.rgo_sound.specs.Tac.Frames.{Frame, value_at}
+use Rattle.rgo_sound.specs.Tac.Frames.{TacFrame, value_at}
 use Rattle.rgo_sound.specs.Code.Checked.{IsChecked}
 use Rattle.rgo_sound.specs.Code.Code.{Code, CodeInstr}
 use Rattle.rgo_sound.specs.Code.Erasure.{erased_op}
@@ -11,17 +11,17 @@ use Rattle.rgo_sound.specs.RegionMachine.declared.regions.Region.{Region}
 use Rattle.rgo_sound.specs.RegionMachine.Objects.{may_touch, owner_live, touched}
 use Rattle.rgo_sound.specs.RegionMachine.Owed.{current}
 use Rattle.rgo_sound.specs.RegionMachine.States.{Holder, RegionState, frames_in}
-use Rattle.rgo_sound.proofs.Leads.{reads_home}
-use Rattle.rgo_sound.proofs.Offers.{class_has_stake, touched_home}
+use Rattle.rgo_sound.proofs.pointers.Variables.{reads_home}
+use Rattle.rgo_sound.proofs.offers.Offers.{class_has_stake, touched_home}
 use Rattle.rgo_sound.proofs.Progress.{live_of}
-use Rattle.rgo_sound.proofs.ValueSteps.{Top, top_of}
+use Rattle.rgo_sound.proofs.pointers.Steps.{Top, top_of}
 use Rattle.rgo_sound.specs.Good.{Good}
 use Rattle.rgo_sound.specs.Invariant.{GoodHolder}
 use Rattle.rgo_sound.specs.NextNames.{HasStake}
 use Rattle.rgo_sound.specs.Values.{FramesLead, LeadsHome}
 use Rattle.rgo_core_frames.specs.Fits.{IsOfLive}
 
-module _ (code : Code) (s : RegionState) (g : ℕ) (h : Holder) (frame : Frame) (callers : List Frame) (instr : CodeInstr)
+module _ (code : Code) (s : RegionState) (g : ℕ) (h : Holder) (frame : TacFrame) (callers : List TacFrame) (instr : CodeInstr)
     (checked : IsChecked code) (good : Good code s) (there : slice_get s.holders g ≡ Some h)
     (at : slice_get s.plain.goroutines g ≡ Some (frame ∷ callers)) (cur : current code frame ≡ Some instr) where
   abbrev pub top : Top code h frame callers

@@ -9,7 +9,7 @@ use Rattle.rgo_sound.specs.RegionMachine.declared.regions.Region.{Region}
 use Rattle.rgo_sound.specs.NextNames.{HasStake}
 use Rattle.rgo_sound.specs.Types.{FramesHaveKinds, MemoryFits}
 use Rattle.rgo_sound.specs.Tac.Flow.{reads}
-use Rattle.rgo_sound.specs.Tac.Frames.{Frame, value_at}
+use Rattle.rgo_sound.specs.Tac.Frames.{TacFrame, value_at}
 use Rattle.rgo_sound.specs.Typed.declared.types.Type.{«Type»}
 use Rattle.std.specs.Prelude.{Contains, List, Some, [], slice_get, true, ℕ, ◌∷◌, ◌≡◌}
 use Rattle.rgo_core_frames.specs.Records.{Rec}
@@ -23,8 +23,8 @@ use Rattle.rgo_core_frames.specs.Words.{Shows}
 pub record IsBefore
     (code : Code) (slot_of : ℕ → ℕ) (addresses : List ℕ) (s : RegionState) (g : ℕ) (c : Rec) (w : WordFrame)
     (ws : List WordFrame) (instr : CodeInstr) : Type 0 where
-  pub frame : Frame
-  pub callers : List Frame
+  pub frame : TacFrame
+  pub callers : List TacFrame
   pub h : Holder
   pub at : slice_get s.plain.goroutines g ≡ Some (frame ∷ callers)
   pub there : slice_get s.holders g ≡ Some h

@@ -1,4 +1,4 @@
--- When a goroutine is before an instruction, told by its record.
+-- When a goroutine is before an instruction, by its record.
 use Rattle.rgo_sound.specs.Code.Code.{CodeInstr}
 use Rattle.rgo_sound.specs.RegionMachine.Duties.{may_go}
 use Rattle.rgo_sound.specs.RegionMachine.Owed.{current}
@@ -8,7 +8,7 @@ use Rattle.rgo_core_frames.specs.Before.{IsBefore}
 use Rattle.rgo_core_frames.specs.States.{Here}
 use Rattle.rgo_core_frames.specs.WordFrames.{WordFrame, bare}
 
--- its record has no offer; or it has one that was not taken, which only the words of the channel can tell
+-- its record has no offer; or it has one that was not taken, which only the words of the channel show
 abbrev pub MayGo : Here → Type 0
 MayGo x =
     (x.c.holder.offer ≡ NoOffer) ⊎ ((h : Holder) → slice_get x.s.holders x.g ≡ Some h → may_go h.offer ≡ true)

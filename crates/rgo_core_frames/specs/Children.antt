@@ -1,14 +1,14 @@
 -- The start of a goroutine: the parent's record, and the child's.
 use Rattle.rgo_sound.specs.Code.Code.{Code, CodeFn, CodeOp, Go}
 use Rattle.rgo_sound.specs.RegionMachine.Instructions.{child_holder}
-use Rattle.rgo_sound.specs.RegionMachine.Owed.{function_of}
+use Rattle.rgo_sound.specs.RegionMachine.Owed.{code_function}
 use Rattle.rgo_sound.specs.RegionMachine.States.{Holder}
 use Rattle.rgo_sound.specs.Tac.declared.regions.Class.{Class}
 use Rattle.std.specs.Prelude.{List, Some, [], map, slice_set, ℕ, ◌++◌, ◌∷◌, ◌≡◌}
 use Rattle.rgo_core_frames.specs.Prints.{gone_on}
 use Rattle.rgo_core_frames.specs.Records.{Rec}
 use Rattle.rgo_core_frames.specs.States.{AtInstruction}
-use Rattle.rgo_core_frames.specs.Steps.{Performs}
+use Rattle.rgo_core_frames.specs.Steps.{PerformsInstr}
 use Rattle.rgo_core_frames.specs.WordFrames.{WordFrame, bare_all, word_called, words_of}
 
 -- the records of the goroutine that an instruction starts, if it starts one
@@ -19,7 +19,7 @@ child_records code h op frames =
 abbrev pub GoLaw : Type 0
 GoLaw =
     (x : AtInstruction) (n : ℕ) (callee : CodeFn) (from : List ℕ) (passes : List Class) (removes : List ℕ)
-    → x.instr.op ≡ Go n from passes removes → function_of x.here.code n ≡ Some callee
-    → Performs x x.here.addresses x.here.s.plain.memory [] (x.before.h, [])
+    → x.instr.op ≡ Go n from passes removes → code_function x.here.code n ≡ Some callee
+    → PerformsInstr x x.here.addresses x.here.s.plain.memory [] (x.before.h, [])
     (slice_set x.here.records x.here.g (gone_on x)
     ++ child_records x.here.code x.here.c.holder x.instr.op (word_called callee n (words_of x.w from) ∷ []))

@@ -19,7 +19,7 @@ created_in c k ds p = record c {
   };
 }
 
--- `after` gives the next region slot p, and leaves those of the regions that were created before
+-- `after` maps the next region to slot p, and leaves the slots of the regions that were created before
 pub record GivesSlot (s : RegionState) (before after : ℕ → ℕ) (p : ℕ) : Type 0 where
   pub new : after (length s.regions) ≡ p
   pub old : (r : ℕ) → r < length s.regions → after r ≡ before r

@@ -15,12 +15,12 @@ use Rattle.rgo_sound.specs.RegionMachine.declared.regions.Region.TheVariants.{Gl
 use Rattle.rgo_sound.specs.RegionMachine.Examples.{code_of, int_slot, main_of, passed_twice, plain}
 use Rattle.rgo_sound.specs.Machine.declared.picks.Pick.TheVariants.{One}
 use Rattle.rgo_sound.specs.RegionMachine.Machine.{Attend, Instruct, TakePage, region_start}
-use Rattle.rgo_sound.specs.RegionMachine.Owed.{function_of}
+use Rattle.rgo_sound.specs.RegionMachine.Owed.{code_function}
 use Rattle.rgo_sound.specs.RegionMachine.Regions.{RegionInfo}
 use Rattle.rgo_sound.specs.RegionMachine.States.{Create, Duty, Holder, RegionState, Remove, Share, Standing}
 use Rattle.rgo_core_frames.specs.Creations.{GivesSlot}
-use Rattle.rgo_core_frames.specs.Fits.{AllFit, ObjectsDiffer, SlotsDiffer}
-use Rattle.rgo_core_frames.specs.Ints.{IntFits, ObjectIntsFit}
+use Rattle.rgo_core_frames.specs.Fits.{RecordsFit, ObjectsDiffer, SlotsDiffer}
+use Rattle.rgo_core_frames.specs.Ints.{ValueFitsWord, ObjectIntsFit}
 use Rattle.rgo_core_frames.specs.Local.{local_duty}
 use Rattle.rgo_core_frames.specs.Constants.{ConstantsFit}
 use Rattle.rgo_core_frames.specs.LocalLaws.{end_by_frames}
@@ -53,7 +53,7 @@ abbrev pub seen : Rec → Seen
 seen c = seen_in c.frames c.holder.duties
 
 abbrev pub main_at : Code → ℕ → Option Rec
-main_at code n = option_map (main_record code n) (function_of code n)
+main_at code n = option_map (main_record code n) (code_function code n)
 
 abbrev pub Sees : Code → ℕ → ℕ → List ℕ → ℕ → List Duty → Type 0
 Sees code n q variables next duties =
@@ -69,7 +69,7 @@ two_regions n = record { stakes = 1; pages = 0 } ∷ record { stakes = n; pages 
 abbrev pub two_owners : List Region
 two_owners = Numbered 0 ∷ Numbered 1 ∷ []
 
--- a goroutine with a stake in region 0, for which name 3 stands, and which it protects or does not; it has filled 5 words of its
+-- a goroutine with a stake in region 0, to which name 3 is bound, and which it protects or does not; it has filled 5 words of its
 -- own page there, and has reserved two pages
 abbrev pub one_name : List Region → Holder
 one_name protections = record {
@@ -84,7 +84,7 @@ one_name protections = record {
   offer = Standing 7;
 }
 
--- goroutine 0 as above has taken a page of 4 words in Global, for a slice of so many elements
+-- goroutine 0 as above has taken a page of 4 words in Global, for a slice of this many elements
 abbrev pub after_one : Code → (elements : ℕ) → RegionState
 after_one code elements =
     page_after 4 (region_start code) 0 (one_name []) GlobalRegion (SliceObject (replicate elements value.Nil))
@@ -97,7 +97,7 @@ pages_in s = option_map (λ (h : Holder). (h.fills, h.reserved)) (slice_get s.ho
 abbrev pub some_frame : WordFrame
 some_frame = record { function = 1; next = 4; variables = 5 ∷ 0 ∷ [] }
 
--- name 1 stands for region 5
+-- name 1 is bound to region 5
 abbrev pub small_table : NameTable
 small_table = None ∷ Some (Numbered 5) ∷ []
 
@@ -138,12 +138,12 @@ pub record RecordExamples : Type 0 where
   pub fills : (slotted (λ r. r + 6) (one_name [])).fills ≡ []
   pub reserved : (slotted (λ r. r + 6) (one_name [])).reserved ≡ 0
   pub one_slot : SlotsDiffer (λ r. 0) (two_regions 1) → ⊥
-  -- the slot of a region that is gone is given again
+  -- the slot of a region that was removed is used again
   pub slot_again : SlotsDiffer (λ r. 0) (two_regions 0)
   pub one_address : ObjectsDiffer (9 ∷ 9 ∷ []) (two_regions 1) two_owners → ⊥
   pub address_again : ObjectsDiffer (9 ∷ 9 ∷ []) (two_regions 0) two_owners
   -- a goroutine without a record
-  pub missing : (code : Code) (slot_of : ℕ → ℕ) → AllFit code slot_of [] (region_start code) [] → ⊥
+  pub missing : (code : Code) (slot_of : ℕ → ℕ) → RecordsFit code slot_of [] (region_start code) [] → ⊥
   -- the removal of name 3 ends the stake, unless a caller protects the region
   pub ends : option_map (λ (x : ℕ × Holder). x.0) (stake_ended (one_name []) (Remove 3)) ≡ Some 0
   pub spares : stake_ended (one_name (Numbered 0 ∷ [])) (Remove 3) ≡ None
@@ -179,7 +179,7 @@ pub record RecordExamples : Type 0 where
 abbrev pub one_constant : ℤ → Code
 one_constant k = code_of [] (main_of (int_slot ∷ []) (plain (Do (Some 0) (action.Int k) [] []) ∷ []) ∷ [])
 
--- `main` of a code that passes one object twice: an int, and then a region is owed, whose creation is no local step
+-- `main` of a code that passes one object twice: an int, and then a region is owed, whose creation is not a local step
 pub record LocalExamples : Type 0 where
   pub begins : Sees passed_twice 1 0 (0 ∷ 0 ∷ 0 ∷ []) 0 []
   pub computes : Sees passed_twice 1 1 (21 ∷ 0 ∷ 0 ∷ []) 1 (Create 0 ∷ [])
@@ -190,11 +190,11 @@ pub record LocalExamples : Type 0 where
 -- ---- ints
 
 pub record IntExamples : Type 0 where
-  pub largest : IntFits (value.Int (pos 9223372036854775807))
-  pub larger : IntFits (value.Int (pos 9223372036854775808)) → ⊥
-  pub smallest : IntFits (value.Int (negsuc 9223372036854775807))
-  pub smaller : IntFits (value.Int (negsuc 9223372036854775808)) → ⊥
-  pub pointer : IntFits (value.Object 9223372036854775808)
+  pub largest : ValueFitsWord (value.Int (pos 9223372036854775807))
+  pub larger : ValueFitsWord (value.Int (pos 9223372036854775808)) → ⊥
+  pub smallest : ValueFitsWord (value.Int (negsuc 9223372036854775807))
+  pub smaller : ValueFitsWord (value.Int (negsuc 9223372036854775808)) → ⊥
+  pub pointer : ValueFitsWord (value.Object 9223372036854775808)
   pub slice : ObjectIntsFit (SliceObject (value.Int (pos 3) ∷ value.Nil ∷ []))
   pub wide_cell : ObjectIntsFit (StructObject (value.Int (pos 9223372036854775808) ∷ [])) → ⊥
   pub wide_channel : ObjectIntsFit (Channel 9223372036854775808 [] false) → ⊥

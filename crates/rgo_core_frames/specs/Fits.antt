@@ -1,4 +1,4 @@
--- How records stand for the goroutines of the region machine.
+-- How records represent the goroutines of the region machine.
 use Rattle.rgo_sound.specs.Code.Code.{Code, CodeInstr, Do}
 use Rattle.rgo_sound.specs.Memory.declared.values.Value.TheVariants.{Nil}
 use Rattle.rgo_sound.specs.RegionMachine.Duties.{may_go}
@@ -8,7 +8,7 @@ use Rattle.rgo_sound.specs.RegionMachine.Regions.{RegionInfo, is_live}
 use Rattle.rgo_sound.specs.RegionMachine.States.{Holder, RegionState, Standing, Taken}
 use Rattle.rgo_sound.specs.RegionMachine.declared.regions.Region.TheVariants.{Numbered}
 use Rattle.rgo_sound.specs.RegionMachine.declared.regions.Region.{Region}
-use Rattle.rgo_sound.specs.Tac.Frames.{Frame, going}
+use Rattle.rgo_sound.specs.Tac.Frames.{TacFrame, frame_after_instr}
 use Rattle.rgo_sound.specs.Typed.declared.actions.Action.TheVariants.{Send}
 use Rattle.std.specs.Prelude.{List, Option, Some, [], length, slice_get, true, ℕ, ◌∷◌, ◌≡◌, ◌⊎◌}
 use Rattle.rgo_core_frames.specs.Records.{Rec}
@@ -17,16 +17,16 @@ use Rattle.rgo_core_frames.specs.Slots.{slotted}
 
 -- a goroutine of these frames, which has nothing to acknowledge, and its record
 pub record IsShown
-    (code : Code) (slot_of : ℕ → ℕ) (addresses : List ℕ) (frames : List Frame) (h : Holder) (c : Rec) : Type 0 where
+    (code : Code) (slot_of : ℕ → ℕ) (addresses : List ℕ) (frames : List TacFrame) (h : Holder) (c : Rec) : Type 0 where
   pub calm : may_go h.offer ≡ true
   pub shown : FramesShow code addresses frames c.frames
   pub holder : c.holder ≡ slotted slot_of h
 
 -- a goroutine whose offer was taken is past its send; its record is still before it
 pub record IsPast
-    (code : Code) (slot_of : ℕ → ℕ) (addresses : List ℕ) (frames : List Frame) (h : Holder) (c : Rec) : Type 0 where
-  pub frame : Frame
-  pub callers : List Frame
+    (code : Code) (slot_of : ℕ → ℕ) (addresses : List ℕ) (frames : List TacFrame) (h : Holder) (c : Rec) : Type 0 where
+  pub frame : TacFrame
+  pub callers : List TacFrame
   pub before : Holder
   pub instr : CodeInstr
   pub at : current code frame ≡ Some instr
@@ -38,13 +38,13 @@ pub record IsPast
   pub offer : ℕ
   pub owes_nothing : before.duties ≡ []
   pub stood : before.offer ≡ Standing offer
-  pub frames_are : frames ≡ going frame to Nil ∷ callers
+  pub frames_are : frames ≡ frame_after_instr frame to Nil ∷ callers
   pub holder_is : h ≡ record (holder_after code before frame callers instr.op frames) { offer = Taken offer }
   pub shown : IsShown code slot_of addresses (frame ∷ callers) before c
 
--- the record c stands for goroutine g
-pub record Fits (code : Code) (slot_of : ℕ → ℕ) (addresses : List ℕ) (s : RegionState) (g : ℕ) (c : Rec) : Type 0 where
-  pub frames : List Frame
+-- the record c represents goroutine g
+pub record RecordFits (code : Code) (slot_of : ℕ → ℕ) (addresses : List ℕ) (s : RegionState) (g : ℕ) (c : Rec) : Type 0 where
+  pub frames : List TacFrame
   pub at : slice_get s.plain.goroutines g ≡ Some frames
   pub h : Holder
   pub there : slice_get s.holders g ≡ Some h
@@ -65,10 +65,10 @@ ObjectsDiffer addresses regions owners =
     (o p a : ℕ) → IsOfLive regions owners o → IsOfLive regions owners p → slice_get addresses o ≡ Some a
     → slice_get addresses p ≡ Some a → o ≡ p
 
--- the records stand for the goroutines of the state
-pub record AllFit (code : Code) (slot_of : ℕ → ℕ) (addresses : List ℕ) (s : RegionState) (records : List Rec) : Type 0 where
+-- the records represent the goroutines of the state
+pub record RecordsFit (code : Code) (slot_of : ℕ → ℕ) (addresses : List ℕ) (s : RegionState) (records : List Rec) : Type 0 where
   pub as_many : length records ≡ length s.holders
-  pub each : (g : ℕ) (c : Rec) → slice_get records g ≡ Some c → Fits code slot_of addresses s g c
+  pub each : (g : ℕ) (c : Rec) → slice_get records g ≡ Some c → RecordFits code slot_of addresses s g c
   pub laid : length addresses ≡ length s.plain.memory.heap
   pub slots_differ : SlotsDiffer slot_of s.regions
   pub addresses_differ : ObjectsDiffer addresses s.regions s.owners

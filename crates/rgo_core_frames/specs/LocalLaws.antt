@@ -11,7 +11,7 @@ use Rattle.rgo_core_frames.specs.Constants.{ConstantsFit}
 use Rattle.rgo_core_frames.specs.Local.{local}
 use Rattle.rgo_core_frames.specs.Records.{Rec}
 use Rattle.rgo_core_frames.specs.States.{Here}
-use Rattle.rgo_core_frames.specs.Steps.{StepsTo}
+use Rattle.rgo_core_frames.specs.Steps.{RegionStepsTo}
 use Rattle.rgo_core_frames.specs.WordFrames.{WordFrame}
 
 -- the event of a goroutine's next local step
@@ -36,7 +36,7 @@ end_of g c d = end_by_frames g c.holder.duties d.frames
 abbrev pub LocalLaw : Type 0
 LocalLaw =
     (x : Here) (d : Rec) → ConstantsFit x.code → local x.code x.c ≡ Some d
-    → StepsTo x (event_of x.g x.c) x.s.regions (marked x.s.mark (end_of x.g x.c d)) (slice_set x.records x.g d)
+    → RegionStepsTo x (event_of x.g x.c) x.s.regions (marked x.s.mark (end_of x.g x.c d)) (slice_set x.records x.g d)
 
 -- it keeps the stakes, those that are pending, and the offer
 pub record KeepsStakes (c d : Rec) : Type 0 where

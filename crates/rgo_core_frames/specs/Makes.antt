@@ -1,8 +1,8 @@
--- In which region the next instruction makes an object, told by the record.
+-- In which region the next instruction makes an object, by its record.
 use Rattle.std.specs.Prelude.{List, None, Some, [], true, ◌∷◌, ◌≡◌}
 use Rattle.rgo_sound.specs.Code.Code.{Code, CodeInstr}
 use Rattle.rgo_sound.specs.RegionMachine.Objects.{making_region}
-use Rattle.rgo_sound.specs.RegionMachine.Owed.{current, function_at, function_of}
+use Rattle.rgo_sound.specs.RegionMachine.Owed.{current, function_at, code_function}
 use Rattle.rgo_sound.specs.RegionMachine.Regions.{is_live}
 use Rattle.rgo_sound.specs.RegionMachine.States.{top_names}
 use Rattle.rgo_sound.specs.RegionMachine.declared.regions.Region.{Region}
@@ -23,13 +23,13 @@ pub record MakesAt (x : AtInstruction) (by_slot : Region) : Type 0 where
 abbrev pub RegionLaw : Type 0
 RegionLaw =
     (x : AtInstruction) (by_slot : Region)
-    → making_region (function_of x.here.code x.w.function) (top_names x.here.c.holder.environments) x.instr.op
+    → making_region (code_function x.here.code x.w.function) (top_names x.here.c.holder.environments) x.instr.op
     ≡ Some by_slot → MakesAt x by_slot
 
--- such an instruction is no local step
+-- such an instruction is not a local step
 abbrev pub MakingLaw : Type 0
 MakingLaw =
     (code : Code) (c : Rec) (w : WordFrame) (ws : List WordFrame) (instr : CodeInstr) (by_slot : Region)
     → c.holder.duties ≡ [] → c.frames ≡ w ∷ ws → current code (bare w) ≡ Some instr
-    → making_region (function_of code w.function) (top_names c.holder.environments) instr.op ≡ Some by_slot
+    → making_region (code_function code w.function) (top_names c.holder.environments) instr.op ≡ Some by_slot
     → local code c ≡ None

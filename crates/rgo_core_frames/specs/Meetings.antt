@@ -15,7 +15,7 @@ use Rattle.std.specs.Prelude.{List, Option, Some, [], false, slice_get, slice_se
 use Rattle.rgo_core_frames.specs.Actions.{acted, after_action}
 use Rattle.rgo_core_frames.specs.Records.{Rec}
 use Rattle.rgo_core_frames.specs.States.{AtInstruction, Here}
-use Rattle.rgo_core_frames.specs.Steps.{StepsTo}
+use Rattle.rgo_core_frames.specs.Steps.{RegionStepsTo}
 use Rattle.rgo_core_frames.specs.WordFrames.{WordFrame, bare, word_at}
 use Rattle.rgo_core_frames.specs.Words.{Shows}
 
@@ -26,27 +26,27 @@ offering c = record c { holder = record c.holder { offer = Standing 0 } }
 abbrev pub acknowledged : Rec → Rec
 acknowledged c = record c { holder = record c.holder { offer = NoOffer } }
 
--- A send on an open channel without a buffer, on which no offer stands: the words of the channel have to tell that.
-abbrev pub OfferLaw : Type 0
-OfferLaw =
+-- A send on an open channel without a buffer, on which there is no offer: the words of the channel have to show that.
+abbrev pub FrameOfferLaw : Type 0
+FrameOfferLaw =
     (x : AtInstruction) (to : Option ℕ) (channel sent : ℕ) (removes : List ℕ) (o : ℕ)
     → x.instr.op ≡ Do to Send (channel ∷ sent ∷ []) removes → value_at x.before.frame channel ≡ value.Object o
     → is_meeting_at (slice_get x.here.s.plain.memory.heap o) ≡ true
     → list_any (λ (k : Holder). offers_on o k.offer) x.here.s.holders ≡ false
-    → StepsTo x.here (MakeOffer x.here.g) x.here.s.regions x.here.s.mark
+    → RegionStepsTo x.here (MakeOffer x.here.g) x.here.s.regions x.here.s.mark
     (slice_set x.here.records x.here.g (offering x.here.c))
 
--- A receiver takes the offer of goroutine t, which stands on its channel; the sender's record stays. The word that it receives has to
+-- A receiver takes the offer of goroutine t, which is at its channel; the sender's record stays. The word that it receives has to
 -- show what is sent.
-abbrev pub MeetLaw : Type 0
-MeetLaw =
+abbrev pub FrameMeetLaw : Type 0
+FrameMeetLaw =
     (x : AtInstruction) (t : ℕ) (to : Option ℕ) (channel : ℕ) (removes : List ℕ) (o word : ℕ) (k : Holder)
     → x.here.c.holder.offer ≡ NoOffer → x.instr.op ≡ Do to Recv (channel ∷ []) removes
     → value_at x.before.frame channel ≡ value.Object o
     → is_meeting_at (slice_get x.here.s.plain.memory.heap o) ≡ true → slice_get x.here.s.holders t ≡ Some k
     → k.offer ≡ Standing o
     → ((y : StandsAtSend x.here.code x.here.s.plain t o) → Shows x.here.addresses (value_at y.frame y.sent) word)
-    → StepsTo x.here (Instruct (Meet x.here.g t)) x.here.s.regions x.here.s.mark (acted x to word)
+    → RegionStepsTo x.here (Instruct (Meet x.here.g t)) x.here.s.regions x.here.s.mark (acted x to word)
 
 -- the word that a sender's record sends shows what the sender sends
 abbrev pub SentLaw : Type 0
@@ -55,11 +55,11 @@ SentLaw =
     → x.instr.op ≡ Do to Send (channel ∷ sent ∷ []) removes → (y : StandsAtSend x.here.code x.here.s.plain x.here.g o)
     → Shows x.here.addresses (value_at y.frame y.sent) (word_at x.w sent)
 
--- a sender whose offer was taken goes on; that it was taken, the words of the channel tell
-abbrev pub AcknowledgeLaw : Type 0
-AcknowledgeLaw =
+-- a sender whose offer was taken continues; the words of the channel show that it was taken
+abbrev pub FrameAcknowledgeLaw : Type 0
+FrameAcknowledgeLaw =
     (x : Here) (w : WordFrame) (ws : List WordFrame) (instr : CodeInstr) (to : Option ℕ) (from removes : List ℕ)
     (o : ℕ) (h : Holder) → slice_get x.s.holders x.g ≡ Some h → h.offer ≡ Taken o → x.c.frames ≡ w ∷ ws
     → current x.code (bare w) ≡ Some instr → instr.op ≡ Do to Send from removes
-    → StepsTo x (Acknowledge x.g) x.s.regions x.s.mark
+    → RegionStepsTo x (Acknowledge x.g) x.s.regions x.s.mark
     (slice_set x.records x.g (acknowledged (after_action x.code x.c w ws instr to 0)))

@@ -2,11 +2,11 @@
 use Rattle.rgo_sound.specs.Code.Code.{Code, CodeFn}
 use Rattle.rgo_sound.specs.Code.Erasure.{erased, erased_fn}
 use Rattle.rgo_sound.specs.RegionMachine.Machine.{main_holder, region_start}
-use Rattle.rgo_sound.specs.Tac.Frames.{called}
-use Rattle.rgo_sound.specs.Tac.Tac.{main_frames}
+use Rattle.rgo_sound.specs.Tac.Frames.{new_tac_frame}
+use Rattle.rgo_sound.specs.Tac.Tac.{tac_main_frames}
 use Rattle.rgo_sound.specs.RegionMachine.States.{NoOffer}
 use Rattle.std.specs.Prelude.{[], ℕ, ◌∷◌, ◌≡◌}
-use Rattle.rgo_core_frames.specs.Fits.{AllFit}
+use Rattle.rgo_core_frames.specs.Fits.{RecordsFit}
 use Rattle.rgo_core_frames.specs.Records.{Rec}
 use Rattle.rgo_core_frames.specs.WordFrames.{bare_all, word_called}
 
@@ -32,8 +32,8 @@ no_record = record {
   };
 }
 
-abbrev pub OpeningLaw : Type 0
-OpeningLaw =
+abbrev pub FrameOpeningLaw : Type 0
+FrameOpeningLaw =
     (code : Code) (slot_of : ℕ → ℕ) (n : ℕ) (main : CodeFn)
-    → main_frames (erased code).functions 0 ≡ called (erased_fn main) n [] ∷ []
-    → AllFit code slot_of [] (region_start code) (main_record code n main ∷ [])
+    → tac_main_frames (erased code).functions 0 ≡ new_tac_frame (erased_fn main) n [] ∷ []
+    → RecordsFit code slot_of [] (region_start code) (main_record code n main ∷ [])

@@ -1,10 +1,10 @@
 -- What the words of operands say: which int they are, and which object they point to.
 use Rattle.rgo_sound.specs.Code.Code.{CodeFn}
 use Rattle.rgo_sound.specs.Code.Erasure.{erased_fn, erased_op}
-use Rattle.rgo_sound.specs.Code.Types.{HasType}
+use Rattle.rgo_sound.specs.Code.Types.{VariableHasType}
 use Rattle.rgo_sound.specs.Memory.declared.values.Value.TheVariants as value
 use Rattle.rgo_sound.specs.Memory.declared.values.Value.{Value}
-use Rattle.rgo_sound.specs.RegionMachine.Owed.{function_of}
+use Rattle.rgo_sound.specs.RegionMachine.Owed.{code_function}
 use Rattle.rgo_sound.specs.RegionMachine.States.{Holder, RegionState}
 use Rattle.rgo_sound.specs.RegionMachine.declared.regions.Region.{Region}
 use Rattle.rgo_sound.specs.NextNames.{HasStake}
@@ -21,9 +21,9 @@ use Rattle.rgo_core_frames.specs.WordFrames.{word_at}
 -- a variable of this type that the instruction reads
 pub record IsOperand (x : AtInstruction) (v : ℕ) (ty : «Type») : Type 0 where
   pub fn : CodeFn
-  pub is_fn : function_of x.here.code x.w.function ≡ Some fn
+  pub is_fn : code_function x.here.code x.w.function ≡ Some fn
   pub read : Contains (reads (erased_op x.instr.op)) v
-  pub typed : HasType (erased_fn fn) v ty
+  pub typed : VariableHasType (erased_fn fn) v ty
 
 abbrev pub IntLaw : Type 0
 IntLaw =

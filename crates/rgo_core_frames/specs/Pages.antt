@@ -6,7 +6,7 @@ use Rattle.rgo_sound.specs.RegionMachine.Owed.{function_at}
 use Rattle.rgo_sound.specs.RegionMachine.States.{Holder, RegionState, top_names}
 use Rattle.rgo_sound.specs.RegionMachine.declared.regions.Region.{Region}
 use Rattle.std.specs.Prelude.{Some, true, ℕ, ◌≡◌}
-use Rattle.rgo_core_frames.specs.Fits.{AllFit}
+use Rattle.rgo_core_frames.specs.Fits.{RecordsFit}
 use Rattle.rgo_core_frames.specs.States.{AtInstruction}
 use Rattle.rgo_core_frames.specs.Steps.{LeavesRest}
 
@@ -22,7 +22,7 @@ after_page x r object = page_after x.here.page_words x.here.s x.here.g x.before.
 -- the region machine takes this page, and the records fit after it
 pub record TakesPage (x : AtInstruction) (r : Region) (object : Object) : Type 0 where
   pub steps : region_step x.here.code x.here.page_words x.here.s (TakePage x.here.g) ≡ Some (after_page x r object)
-  pub fit : AllFit x.here.code x.here.slot_of x.here.addresses (after_page x r object) x.here.records
+  pub fit : RecordsFit x.here.code x.here.slot_of x.here.addresses (after_page x r object) x.here.records
   pub rest : LeavesRest x.here.s (after_page x r object) (TakePage x.here.g)
 
 -- The next instruction makes this object in region r, and it wants a page there, as the memory's part says: it does not fit the

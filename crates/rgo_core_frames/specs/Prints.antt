@@ -1,9 +1,9 @@
 -- A print: its bytes from the words and the static types of its operands.
 use Rattle.rgo_sound.specs.Code.Code.{CodeFn, Print, Slot}
-use Rattle.rgo_sound.specs.Machine.Lines.{line_of}
+use Rattle.rgo_sound.specs.Machine.Lines.{printed_line}
 use Rattle.rgo_sound.specs.Memory.declared.values.Value.TheVariants as value
 use Rattle.rgo_sound.specs.Memory.declared.values.Value.{Value}
-use Rattle.rgo_sound.specs.RegionMachine.Owed.{function_of}
+use Rattle.rgo_sound.specs.RegionMachine.Owed.{code_function}
 use Rattle.rgo_sound.specs.Typed.declared.statements.Piece.{Piece}
 use Rattle.rgo_sound.specs.Typed.declared.types.Base.TheVariants as base
 use Rattle.rgo_sound.specs.Typed.declared.types.Layer.{Layer}
@@ -12,7 +12,7 @@ use Rattle.std.specs.Prelude.{List, None, Option, Some, [], map, slice_get, slic
 use Rattle.rgo_core_frames.specs.Records.{Rec, after_op}
 use Rattle.rgo_sound.specs.Typed.declared.types.Base.{Base}
 use Rattle.rgo_core_frames.specs.States.{AtInstruction}
-use Rattle.rgo_core_frames.specs.Steps.{Performs}
+use Rattle.rgo_core_frames.specs.Steps.{PerformsInstr}
 use Rattle.rgo_core_frames.specs.WordFrames.{WordFrame, is_set, word_at, word_moved}
 
 -- the value of an int or a bool that a word shows, by its type
@@ -35,6 +35,6 @@ gone_on x = after_op x.here.code x.here.c.holder x.w x.ws x.instr.op (word_moved
 abbrev pub PrintLaw : Type 0
 PrintLaw =
     (x : AtInstruction) (fn : CodeFn) (pieces : List Piece) (from removes : List ℕ)
-    → x.instr.op ≡ Print pieces from removes → function_of x.here.code x.w.function ≡ Some fn
-    → Performs x x.here.addresses x.here.s.plain.memory (line_of pieces (printed_values fn x.w from)) (x.before.h, [])
+    → x.instr.op ≡ Print pieces from removes → code_function x.here.code x.w.function ≡ Some fn
+    → PerformsInstr x x.here.addresses x.here.s.plain.memory (printed_line pieces (printed_values fn x.w from)) (x.before.h, [])
     (slice_set x.here.records x.here.g (gone_on x))

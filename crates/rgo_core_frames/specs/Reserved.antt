@@ -1,4 +1,4 @@
--- Which goroutines have reserved pages, told by their records: only those that owe nothing and make a spread object next.
+-- Which goroutines have reserved pages, by their records: only those that owe nothing and make a spread object next.
 use Rattle.rgo_sound.specs.Memory.Memory.{Object}
 use Rattle.rgo_sound.specs.RegionMachine.Machine.{Event, next_object, region_run}
 use Rattle.rgo_sound.specs.RegionMachine.Objects.{allotted, is_spread}

@@ -1,6 +1,6 @@
 -- What a goroutine has of the regions, by the slots of these regions in place of their numbers.
 use Rattle.rgo_sound.specs.RegionMachine.Regions.{Bindings}
-use Rattle.rgo_sound.specs.RegionMachine.States.{Create, Duty, EndBase, Environment, Holder, NoOffer, Offer, Protect, Remove, Share, Standing, Taken, Unprotect}
+use Rattle.rgo_sound.specs.RegionMachine.States.{Create, Duty, EndBase, RegionEnvironment, Holder, NoOffer, Offer, Protect, Remove, Share, Standing, Taken, Unprotect}
 use Rattle.rgo_sound.specs.RegionMachine.declared.regions.Region.TheVariants.{Global as GlobalRegion, Numbered}
 use Rattle.rgo_sound.specs.RegionMachine.declared.regions.Region.{Region}
 use Rattle.std.specs.Prelude.{List, [], map, ℕ}
@@ -17,10 +17,10 @@ module _ (slot_of : ℕ → ℕ) where
   abbrev pub slot_names : Bindings → Bindings
   slot_names names = map slot_of_name names
 
-  abbrev pub slot_environment : Environment → Environment
+  abbrev pub slot_environment : RegionEnvironment → RegionEnvironment
   slot_environment e = record { lent = e.lent; names = slot_names e.names; protections = map slot e.protections }
 
-  abbrev pub slot_environments : List Environment → List Environment
+  abbrev pub slot_environments : List RegionEnvironment → List RegionEnvironment
   slot_environments es = map slot_environment es
 
   abbrev pub slot_duty : Duty → Duty

@@ -1,7 +1,7 @@
 -- The duties of a goroutine that touch the count of a region: the end of a stake, and a stake for a coming child.
 use Rattle.rgo_sound.specs.RegionMachine.Duties.{guards}
 use Rattle.rgo_sound.specs.RegionMachine.Machine.{Attend}
-use Rattle.rgo_sound.specs.RegionMachine.Regions.{RegionInfo, bound, is_live, one_fewer, one_more, removed_once, unbind, with_info, without}
+use Rattle.rgo_sound.specs.RegionMachine.Regions.{RegionInfo, bound, is_live, one_fewer, with_added_stake, removed_once, unbind, with_info, without}
 use Rattle.rgo_sound.specs.RegionMachine.States.{Create, Duty, EndBase, Holder, Protect, Remove, Share, Unprotect, top_names, with_top}
 use Rattle.rgo_sound.specs.RegionMachine.declared.regions.Region.TheVariants.{Global as GlobalRegion, Numbered}
 use Rattle.rgo_sound.specs.RegionMachine.declared.regions.Region.{Region}
@@ -64,8 +64,8 @@ abbrev pub StakesChange : Here → (Holder → Duty → Option (ℕ × Holder)) 
 StakesChange x by p change records =
     ChangesStakes x.code x.page_words x.slot_of x.addresses x.s x.g p by change records
 
-abbrev pub EndLaw : Type 0
-EndLaw =
+abbrev pub StakeEndLaw : Type 0
+StakeEndLaw =
     (x : Here) (d : Duty) (ds : List Duty) (p : ℕ) (k : Holder) → x.c.holder.duties ≡ d ∷ ds
     → stake_ended (record x.c.holder { duties = ds }) d ≡ Some (p, k)
     → StakesChange x stake_ended p one_fewer (slice_set x.records x.g (record x.c { holder = k }))
@@ -74,4 +74,4 @@ abbrev pub ShareLaw : Type 0
 ShareLaw =
     (x : Here) (d : Duty) (ds : List Duty) (p : ℕ) (k : Holder) → x.c.holder.duties ≡ d ∷ ds
     → stake_shared (record x.c.holder { duties = ds }) d ≡ Some (p, k)
-    → StakesChange x stake_shared p one_more (slice_set x.records x.g (record x.c { holder = k }))
+    → StakesChange x stake_shared p with_added_stake (slice_set x.records x.g (record x.c { holder = k }))

@@ -1,4 +1,4 @@
--- States of runs of checked code, as the laws want them; and one record among those that stand for such a state.
+-- States of runs of checked code, as the laws want them; and one record among those that represent such a state.
 use Rattle.rgo_sound.specs.Code.Checked.{IsChecked}
 use Rattle.rgo_sound.specs.Code.Code.{Code, CodeInstr}
 use Rattle.rgo_sound.specs.Code.NameRules.{Ascends}
@@ -9,7 +9,7 @@ use Rattle.rgo_sound.specs.Owners.{OwnersMade}
 use Rattle.rgo_sound.specs.Running.{IsRunning}
 use Rattle.std.specs.Prelude.{List, Some, slice_get, ℕ, ◌≡◌}
 use Rattle.rgo_core_frames.specs.Before.{IsBefore}
-use Rattle.rgo_core_frames.specs.Fits.{AllFit}
+use Rattle.rgo_core_frames.specs.Fits.{RecordsFit}
 use Rattle.rgo_core_frames.specs.Records.{Rec}
 use Rattle.rgo_core_frames.specs.WordFrames.{WordFrame}
 
@@ -27,8 +27,8 @@ pub record SoundStays : Type 0 where
   pub step : (code : Code) (page_words : ℕ) (s t : RegionState) (event : Event) → IsSound code s
       → region_step code page_words s event ≡ Some t → IsSound code t
 
--- What the laws have in common: c is the record of goroutine g, one of the records that stand for the goroutines of a state. `slot_of`
--- has the slot of each region, and `addresses` the address of each object.
+-- What the laws have in common: c is the record of goroutine g, one of the records that represent the goroutines of a state.
+-- `slot_of` has the slot of each region, and `addresses` the address of each object.
 pub record Here : Type 0 where
   pub code : Code
   pub page_words : ℕ
@@ -39,7 +39,7 @@ pub record Here : Type 0 where
   pub g : ℕ
   pub c : Rec
   pub sound : IsSound code s
-  pub all : AllFit code slot_of addresses s records
+  pub all : RecordsFit code slot_of addresses s records
   pub is_c : slice_get records g ≡ Some c
 
 -- and it is before an instruction, owes nothing, and has nothing to acknowledge: w is its newest frame, ws are the callers'

@@ -9,7 +9,7 @@ use Rattle.rgo_sound.specs.RegionMachine.States.{Holder, Mark, RegionState}
 use Rattle.rgo_sound.specs.RegionMachine.declared.regions.Region.{Region}
 use Rattle.rgo_sound.specs.Leaving.{ActsAlone, LeavesOthers}
 use Rattle.std.specs.Prelude.{List, Option, Some, slice_get, ℕ, ◌++◌, ◌≡◌, ◌+◌}
-use Rattle.rgo_core_frames.specs.Fits.{AllFit}
+use Rattle.rgo_core_frames.specs.Fits.{RecordsFit}
 use Rattle.rgo_core_frames.specs.Records.{Rec}
 use Rattle.rgo_core_frames.specs.States.{AtInstruction, Here}
 
@@ -42,7 +42,7 @@ pub record HasStep
     (regions : List RegionInfo) (mark : Option Mark) (records : List Rec) : Type 0 where
   pub state : RegionState
   pub steps : region_step code page_words s event ≡ Some state
-  pub fit : AllFit code slot_of addresses state records
+  pub fit : RecordsFit code slot_of addresses state records
   pub same : StaysElse s state
   pub rest : LeavesRest s state event
   pub regions_are : state.regions ≡ regions
@@ -50,8 +50,8 @@ pub record HasStep
   pub counted : state.steps ≡ steps_after s.steps event
 
 -- the same from here
-abbrev pub StepsTo : Here → Event → List RegionInfo → Option Mark → List Rec → Type 0
-StepsTo x event regions mark records = HasStep x.code x.page_words x.slot_of x.addresses x.s event regions mark records
+abbrev pub RegionStepsTo : Here → Event → List RegionInfo → Option Mark → List Rec → Type 0
+RegionStepsTo x event regions mark records = HasStep x.code x.page_words x.slot_of x.addresses x.s event regions mark records
 
 -- The region machine has this instruction of goroutine g, and these records fit after it. The memory, the print and the
 -- owners are then these, and the goroutine's own pages and reserved pages those of `given`; nothing else has changed but
@@ -61,7 +61,7 @@ pub record HasInstruction
     (bytes : List ℕ) (given : Holder × List Region) (records : List Rec) : Type 0 where
   pub state : RegionState
   pub steps : region_step code page_words s (Instruct (One g)) ≡ Some state
-  pub fit : AllFit code slot_of addresses state records
+  pub fit : RecordsFit code slot_of addresses state records
   pub rest : LeavesRest s state (Instruct (One g))
   pub memory_is : state.plain.memory ≡ memory
   pub printed : state.plain.printed ≡ printed_if s.mark s.plain.printed (s.plain.printed ++ bytes)
@@ -74,7 +74,7 @@ pub record HasInstruction
   pub reserved : (h : Holder) → slice_get state.holders g ≡ Some h → h.reserved ≡ given.0.reserved
 
 -- the same of the instruction that comes next; `addresses` are those of the objects after it
-abbrev pub Performs : AtInstruction → (addresses : List ℕ) → Memory → (bytes : List ℕ) → Holder × List Region
+abbrev pub PerformsInstr : AtInstruction → (addresses : List ℕ) → Memory → (bytes : List ℕ) → Holder × List Region
     → List Rec → Type 0
-Performs x addresses memory bytes given records =
+PerformsInstr x addresses memory bytes given records =
     HasInstruction x.here.code x.here.page_words x.here.slot_of addresses x.here.s x.here.g memory bytes given records

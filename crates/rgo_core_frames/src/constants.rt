@@ -66,7 +66,7 @@ fn function_fits(f: &TacFn)
     }
 }
 
-/// Each constant of the code is one of 64 bits. For callers who rely on this; it only looks at each instruction.
+/// Each constant of the code is one of 64 bits. For callers that rely on this; it only walks over the instructions.
 pub fn constants_fit(code: &Code)
     ensures { ConstantsFit code.now }
 {

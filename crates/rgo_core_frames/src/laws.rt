@@ -1,6 +1,6 @@
-//! What the record of a goroutine says of the region machine, and that records stand for its goroutines after each step.
+//! What the record of a goroutine says of the region machine, and that records represent its goroutines after each step.
 
-ghost use Rattle.rgo_core_frames.specs.Actions.{ActionLaw, LoadLaw};
+ghost use Rattle.rgo_core_frames.specs.Actions.{ActionLaw, FrameLoadLaw};
 ghost use Rattle.rgo_core_frames.specs.BeforeLaws.{BeforeLaw};
 ghost use Rattle.rgo_core_frames.specs.Children.{GoLaw};
 ghost use Rattle.rgo_core_frames.specs.Creations.{CreateLaw};
@@ -9,16 +9,16 @@ ghost use Rattle.rgo_core_frames.specs.Examples.{FrameExamples};
 ghost use Rattle.rgo_core_frames.specs.Ints.{IntsStay};
 ghost use Rattle.rgo_core_frames.specs.LocalLaws.{LocalLaw, StakesStay};
 ghost use Rattle.rgo_core_frames.specs.Makes.{MakingLaw, RegionLaw};
-ghost use Rattle.rgo_core_frames.specs.Meetings.{AcknowledgeLaw, MeetLaw, OfferLaw, SentLaw};
+ghost use Rattle.rgo_core_frames.specs.Meetings.{FrameAcknowledgeLaw, FrameMeetLaw, FrameOfferLaw, SentLaw};
 ghost use Rattle.rgo_core_frames.specs.NameTables.{TableLaws};
-ghost use Rattle.rgo_core_frames.specs.Opening.{OpeningLaw};
+ghost use Rattle.rgo_core_frames.specs.Opening.{FrameOpeningLaw};
 ghost use Rattle.rgo_core_frames.specs.Operands.{IntLaw, PointerLaw};
 ghost use Rattle.rgo_core_frames.specs.Pages.{PageLaw};
 ghost use Rattle.rgo_core_frames.specs.Prints.{PrintLaw};
 ghost use Rattle.rgo_core_frames.specs.Quiet.{QuietLaw};
 ghost use Rattle.rgo_core_frames.specs.Reserved.{ReservedLaw};
 ghost use Rattle.rgo_core_frames.specs.Stacks.{StackLaws};
-ghost use Rattle.rgo_core_frames.specs.Stakes.{EndLaw, ShareLaw};
+ghost use Rattle.rgo_core_frames.specs.Stakes.{StakeEndLaw, ShareLaw};
 ghost use Rattle.rgo_core_frames.specs.States.{SoundStays};
 
 /// A state of a run of checked code is sound: the first is, and each step keeps it.
@@ -26,14 +26,14 @@ pub fn sound_stays()
     ensures { SoundStays }
 {}
 
-/// Ints of a run fit in words, where the constants of the code do: at the start, and after each step.
+/// Ints of a run fit in words if the constants of the code do: at the start, and after each step.
 pub fn ints_stay()
     ensures { IntsStay }
 {}
 
-/// The record of `main` stands for it as a run begins.
+/// The record of `main` represents it as a run begins.
 pub fn opening_law()
-    ensures { OpeningLaw }
+    ensures { FrameOpeningLaw }
 {}
 
 /// What a record says of the machine before an instruction.
@@ -56,7 +56,7 @@ pub fn region_law()
     ensures { RegionLaw }
 {}
 
-/// An instruction that makes an object is no local step.
+/// An instruction that makes an object is not a local step.
 pub fn making_law()
     ensures { MakingLaw }
 {}
@@ -83,7 +83,7 @@ pub fn action_law()
 
 /// A load, given what memory says of the word that was found.
 pub fn load_law()
-    ensures { LoadLaw }
+    ensures { FrameLoadLaw }
 {}
 
 /// A print writes the bytes of its words.
@@ -91,14 +91,14 @@ pub fn print_law()
     ensures { PrintLaw }
 {}
 
-/// A goroutine starts, and its record stands for it.
+/// A goroutine starts, and its record represents it.
 pub fn go_law()
     ensures { GoLaw }
 {}
 
 /// A stake ends.
 pub fn end_law()
-    ensures { EndLaw }
+    ensures { StakeEndLaw }
 {}
 
 /// A stake is taken for a coming child.
@@ -123,7 +123,7 @@ pub fn reserved_law()
 
 /// An offer is made.
 pub fn offer_law()
-    ensures { OfferLaw }
+    ensures { FrameOfferLaw }
 {}
 
 /// Which word a sender sends.
@@ -133,12 +133,12 @@ pub fn sent_law()
 
 /// A receiver takes an offer.
 pub fn meet_law()
-    ensures { MeetLaw }
+    ensures { FrameMeetLaw }
 {}
 
-/// A sender whose offer was taken goes on.
+/// A sender whose offer was taken continues.
 pub fn acknowledge_law()
-    ensures { AcknowledgeLaw }
+    ensures { FrameAcknowledgeLaw }
 {}
 
 /// An action traps.
@@ -146,7 +146,7 @@ pub fn trap_law()
     ensures { TrapLaw }
 {}
 
-/// A run ends by no instruction.
+/// A run ends, and not by an instruction.
 pub fn finish_law()
     ensures { FinishLaw }
 {}

@@ -1,9 +1,9 @@
 //! The frames of a table of words: how the records of goroutines, with words in place of values and slots in place of regions,
-//! stand for the frames and the stakes of the region machine, and what each step does to a record.
+//! represent the frames and the stakes of the region machine, and what each step does to a record.
 //!
-//! Each law of [`laws`] is about one state: where the record of a goroutine is before a step, the region machine has that step,
-//! and the records after it stand for the goroutines of the state after it. [`words`] has the operators as they run on words, and [`constants`] what the
-//! laws ask of a code's constants.
+//! Each law of [`laws`] is about one state: if the record of a goroutine is before a step, the region machine has that step, and
+//! the records after it represent the goroutines of the state after it. [`words`] has the operators as they run on words, and
+//! [`constants`] what the laws ask of a code's constants. Why: docs/DECISIONS.md, "Tables of words".
 #![tactic(auto)]
 
 pub mod constants;

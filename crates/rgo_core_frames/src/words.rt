@@ -1,4 +1,4 @@
-//! Operators on words.
+//! Operators on words. A word has no kind: what it stands for follows from the type of its variable, so these never ask.
 
 ghost use Rattle.std.specs.Prelude.{◌≡◌};
 ghost use Rattle.rgo_core_frames.specs.Operators.{binary_on_words, negated_word, word_of};
@@ -18,7 +18,7 @@ pub fn word(value: Value) -> u64
     }
 }
 
-/// What a binary operator gives for two words; none where it traps.
+/// The value of a binary operator for two words; none if it traps.
 #[inline(always)]
 pub fn binary(op: BinaryOp, x: u64, y: u64) -> Option<u64>
     ensures { result ≡ binary_on_words op x y }

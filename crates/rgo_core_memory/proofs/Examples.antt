@@ -3,7 +3,7 @@ use Rattle.std.proofs.Common.{◌≡◌, ℕ, ◌<◌, ◌≤◌, ◌==◌, Bool
 use Rattle.std.proofs.lemmas.Bool.Decides.{nat_tests}
 use Rattle.rgo_core_memory.specs.Examples.{MemoryExamples, first_alone}
 use Rattle.rgo_core_memory.specs.Opening.{first_record}
-use Rattle.rgo_core_memory.specs.Records.{Fill, Has, Rec}
+use Rattle.rgo_core_memory.specs.Records.{Fill, HasRecord, Rec}
 
 apart : (a b : ℕ) → a ≡ b → a < b → ⊥
 apart a b e h = omega arith
@@ -103,10 +103,10 @@ examples = record {
         by true = omega arith
         by false = omega arith
 
-    no_record : (g : ℕ) (c : Rec) → Has [] g c → ⊥
+    no_record : (g : ℕ) (c : Rec) → HasRecord [] g c → ⊥
     no_record g c e = cc
 
-    nothing : (f : Fill) (c : Rec) → Has (first_record ∷ []) 0 c → (k : ℕ) × (slice_get c.fills k ≡ Some f) → ⊥
+    nothing : (f : Fill) (c : Rec) → HasRecord (first_record ∷ []) 0 c → (k : ℕ) × (slice_get c.fills k ≡ Some f) → ⊥
     nothing f c e has = no has.0 (ap (λ (x : Rec). slice_get x.fills has.0) (same e) ∙ has.1)
       where
         same : Some first_record ≡ Some c → first_record ≡ c

@@ -12,17 +12,17 @@ use Rattle.rgo_sound.specs.Typed.declared.types.Base.{Base}
 use Rattle.rgo_sound.specs.Typed.declared.types.Base.TheVariants as base
 use Rattle.rgo_sound.specs.Typed.declared.types.Layer.{Layer}
 use Rattle.rgo_core_memory.specs.declared.layout.TableSizes.{TableSizes}
-use Rattle.rgo_core_memory.specs.Words.{Words, Shows, put, all_words, clock_at, made_at, state_at, next_at, count_at, head_at, cell_at, variable_at}
+use Rattle.rgo_core_memory.specs.Words.{Words, ListHasWords, put, all_words, clock_at, made_at, state_at, next_at, count_at, head_at, cell_at, variable_at}
 use Rattle.rgo_core_memory.specs.Encoding.{encode}
-use Rattle.rgo_core_memory.specs.Records.{Fill, Rest, Amid, Idle, Got, Hung, Calm, Past, Gave, Rec, Has, Owns, Claims, Closes, Gives}
-use Rattle.rgo_core_memory.specs.Ground.{Held, Stands}
+use Rattle.rgo_core_memory.specs.Records.{Fill, Rest, Amid, Idle, Got, Hung, Calm, Past, Gave, Rec, HasRecord, Owns, Claims, ClosesSlot, ReturnsChain}
+use Rattle.rgo_core_memory.specs.Ground.{Held, IsLiveObject}
 use Rattle.rgo_core_memory.specs.Pages.{Free, Chained, Claimed, times}
 use Rattle.rgo_core_memory.specs.Parts.{Vacant, Living, Closing}
 use Rattle.rgo_core_memory.specs.Opening.{first_record, Opens}
-use Rattle.rgo_core_memory.proofs.Paging.{none_at}
+use Rattle.rgo_core_memory.proofs.pages.Paging.{none_at}
 use Rattle.rgo_core_memory.proofs.Puts.{put_here, put_else}
 use Rattle.rgo_core_memory.proofs.Rows.{below}
-use Rattle.rgo_core_memory.proofs.Steadies.{map_back}
+use Rattle.rgo_core_memory.proofs.image.Steadies.{map_back}
 use Rattle.rgo_core_memory.proofs.Writes.{writes_count, writes_made}
 use Rattle.rgo_core_memory.specs.Records.{Across}
 use Rattle.rgo_core_memory.specs.Records.{Within}
@@ -39,7 +39,7 @@ many (suc n) = ap suc (many n)
 abbrev nothing : Words
 nothing = record { clock = 0; made = 0; state = λ p. 0; next = λ p. 0; count = λ r. 0; head = λ r. 0; variable = λ n. 0; cell = λ p o. 0 }
 
-shows_nothing : (z : TableSizes) → Shows z (replicate (all_words z) 0) nothing
+shows_nothing : (z : TableSizes) → ListHasWords z (replicate (all_words z) 0) nothing
 shows_nothing z = record {
   wide = many (all_words z);
   clock = zeros (all_words z) clock_at;
@@ -61,7 +61,7 @@ zero_code a [] base.Bool = refl
 zero_code a [] (base.Pointer n) = refl
 zero_code a (l ∷ ls) b = refl
 
-only : (g : ℕ) (c : Rec) → Has (first_record ∷ []) g c → first_record ≡ c
+only : (g : ℕ) (c : Rec) → HasRecord (first_record ∷ []) g c → first_record ≡ c
 only zero c e = same_Some first_record c e
 only (suc g) c e = cc
 
@@ -71,7 +71,7 @@ nobody_owns g f w = go w.2.0 (ap (λ (l : List Fill). slice_get l w.2.0) (ap (λ
     go : (i : ℕ) → slice_get [] i ≡ Some f → ⊥
     go i e = cc
 
-none_stands : (owners : List Region) (regions : List RegionInfo) (o : ℕ) (object : Object) (r : Region) → Stands [] owners regions o object r → ⊥
+none_stands : (owners : List Region) (regions : List RegionInfo) (o : ℕ) (object : Object) (r : Region) → IsLiveObject [] owners regions o object r → ⊥
 none_stands owners regions o object r s = go o s.there
   where
     go : (i : ℕ) → slice_get [] i ≡ Some object → ⊥
@@ -146,7 +146,7 @@ opens code z enough =
         living = λ s k l e. let y : Vacant ≡ Living k = e in absurd (cc y);
         closing = λ s g l e. let y : Vacant ≡ Closing g = e in absurd (cc y);
         lives = λ k info e l. absurd (none_made k info e);
-        closes = λ g s c h q. absurd (subst (λ (y : Rec). Closes y.give s) (sym (only g c h)) q);
+        closes = λ g s c h q. absurd (subst (λ (y : Rec). ClosesSlot y.give s) (sym (only g c h)) q);
       };
       pages = record {
         is_free = λ p e. refl;
@@ -159,7 +159,7 @@ opens code z enough =
         tops = λ r. inl refl;
         gots = λ g p r c h q. let y : Idle ≡ Got p r = ap (λ (c : Rec). c.claim) (only g c h) ∙ q in absurd (cc y);
         hungs = λ g p r o c h q. let y : Idle ≡ Hung p r o = ap (λ (c : Rec). c.claim) (only g c h) ∙ q in absurd (cc y);
-        cursors = λ g r n c h q. absurd (subst (λ (y : Rec). Gives y.give r n) (sym (only g c h)) q);
+        cursors = λ g r n c h q. absurd (subst (λ (y : Rec). ReturnsChain y.give r n) (sym (only g c h)) q);
         pasts = λ g r p q c h m. let y : Calm ≡ Past r (suc p) q = ap (λ (c : Rec). c.give) (only g c h) ∙ m in absurd (cc y);
         gaves = λ g r c h m. let y : Calm ≡ Gave r = ap (λ (c : Rec). c.give) (only g c h) ∙ m in absurd (cc y);
       };

@@ -6,7 +6,7 @@ use Rattle.std.proofs.lemmas.List.{get_or-set_same, get_or-set_other}
 use mathlib.Core.Logic.{dite}
 use native.Mathlib.Decide.{ℕ_discrete}
 use Rattle.rgo_core_memory.specs.declared.layout.TableSizes.{TableSizes}
-use Rattle.rgo_core_memory.specs.Words.{Words, Shows, put, put_two, clock_at, made_at, state_at, next_at, count_at, head_at, cell_at, variable_at}
+use Rattle.rgo_core_memory.specs.Words.{Words, ListHasWords, put, put_two, clock_at, made_at, state_at, next_at, count_at, head_at, cell_at, variable_at}
 use Rattle.rgo_core_memory.proofs.Puts.{put_here, put_else}
 
 pub pages_apart : (p q s : ℕ) → p < q → p * s + s ≤ q * s
@@ -34,8 +34,8 @@ other words i j x n = get_or-set_other words i j x 0 n
 here : (words : List ℕ) (i x : ℕ) → i < length words → slice_index (set words i x) i ≡ x
 here words i x h = get_or-set_same words i x 0 h
 
-module _ (z : TableSizes) (words : List ℕ) (w : Words) (k : Shows z words w) where
-  pub writes_clock : (x : ℕ) → Shows z (set words clock_at x) (record w { clock = x })
+module _ (z : TableSizes) (words : List ℕ) (w : Words) (k : ListHasWords z words w) where
+  pub writes_clock : (x : ℕ) → ListHasWords z (set words clock_at x) (record w { clock = x })
   writes_clock x = let wide = k.wide in record {
     wide = length-set words clock_at x ∙ k.wide;
     clock = here words clock_at x (omega arith);
@@ -48,7 +48,7 @@ module _ (z : TableSizes) (words : List ℕ) (w : Words) (k : Shows z words w) w
     variable = λ n l. other words clock_at (variable_at z n) x (omega arith) ∙ k.variable n l;
   }
 
-  pub writes_made : (x : ℕ) → Shows z (set words made_at x) (record w { made = x })
+  pub writes_made : (x : ℕ) → ListHasWords z (set words made_at x) (record w { made = x })
   writes_made x = let wide = k.wide in record {
     wide = length-set words made_at x ∙ k.wide;
     clock = other words made_at clock_at x (omega arith) ∙ k.clock;
@@ -61,7 +61,7 @@ module _ (z : TableSizes) (words : List ℕ) (w : Words) (k : Shows z words w) w
     variable = λ n l. other words made_at (variable_at z n) x (omega arith) ∙ k.variable n l;
   }
 
-  pub writes_state : (p x : ℕ) → p < z.pages → Shows z (set words (state_at z p) x) (record w { state = put w.state p x })
+  pub writes_state : (p x : ℕ) → p < z.pages → ListHasWords z (set words (state_at z p) x) (record w { state = put w.state p x })
   writes_state p x h = let wide = k.wide in record {
     wide = length-set words (state_at z p) x ∙ k.wide;
     clock = other words (state_at z p) clock_at x (omega arith) ∙ k.clock;
@@ -76,7 +76,7 @@ module _ (z : TableSizes) (words : List ℕ) (w : Words) (k : Shows z words w) w
     variable = λ n l. other words (state_at z p) (variable_at z n) x (omega arith) ∙ k.variable n l;
   }
 
-  pub writes_next : (p x : ℕ) → p < z.pages → Shows z (set words (next_at z p) x) (record w { next = put w.next p x })
+  pub writes_next : (p x : ℕ) → p < z.pages → ListHasWords z (set words (next_at z p) x) (record w { next = put w.next p x })
   writes_next p x h = let wide = k.wide in record {
     wide = length-set words (next_at z p) x ∙ k.wide;
     clock = other words (next_at z p) clock_at x (omega arith) ∙ k.clock;
@@ -91,7 +91,7 @@ module _ (z : TableSizes) (words : List ℕ) (w : Words) (k : Shows z words w) w
     variable = λ n l. other words (next_at z p) (variable_at z n) x (omega arith) ∙ k.variable n l;
   }
 
-  pub writes_count : (r x : ℕ) → r < suc z.slots → Shows z (set words (count_at z r) x) (record w { count = put w.count r x })
+  pub writes_count : (r x : ℕ) → r < suc z.slots → ListHasWords z (set words (count_at z r) x) (record w { count = put w.count r x })
   writes_count r x h = let wide = k.wide in record {
     wide = length-set words (count_at z r) x ∙ k.wide;
     clock = other words (count_at z r) clock_at x (omega arith) ∙ k.clock;
@@ -106,7 +106,7 @@ module _ (z : TableSizes) (words : List ℕ) (w : Words) (k : Shows z words w) w
     variable = λ n l. other words (count_at z r) (variable_at z n) x (omega arith) ∙ k.variable n l;
   }
 
-  pub writes_head : (r x : ℕ) → r < suc z.slots → Shows z (set words (head_at z r) x) (record w { head = put w.head r x })
+  pub writes_head : (r x : ℕ) → r < suc z.slots → ListHasWords z (set words (head_at z r) x) (record w { head = put w.head r x })
   writes_head r x h = let wide = k.wide in record {
     wide = length-set words (head_at z r) x ∙ k.wide;
     clock = other words (head_at z r) clock_at x (omega arith) ∙ k.clock;
@@ -121,7 +121,7 @@ module _ (z : TableSizes) (words : List ℕ) (w : Words) (k : Shows z words w) w
     variable = λ n l. other words (head_at z r) (variable_at z n) x (omega arith) ∙ k.variable n l;
   }
 
-  pub writes_cell : (p o x : ℕ) → p < z.pages → o < z.page_words → Shows z (set words (cell_at z p o) x) (record w { cell = put_two w.cell p o x })
+  pub writes_cell : (p o x : ℕ) → p < z.pages → o < z.page_words → ListHasWords z (set words (cell_at z p o) x) (record w { cell = put_two w.cell p o x })
   writes_cell p o x h in_page = let wide = k.wide in let inside = in_pages z.pages p z.page_words o h in_page in record {
     wide = length-set words (cell_at z p o) x ∙ k.wide;
     clock = other words (cell_at z p o) clock_at x (omega arith) ∙ k.clock;
@@ -140,7 +140,7 @@ module _ (z : TableSizes) (words : List ℕ) (w : Words) (k : Shows z words w) w
     variable = λ n l. other words (cell_at z p o) (variable_at z n) x (omega arith) ∙ k.variable n l;
   }
 
-  pub writes_variable : (n x : ℕ) → n < z.variables → Shows z (set words (variable_at z n) x) (record w { variable = put w.variable n x })
+  pub writes_variable : (n x : ℕ) → n < z.variables → ListHasWords z (set words (variable_at z n) x) (record w { variable = put w.variable n x })
   writes_variable n x h = let wide = k.wide in record {
     wide = length-set words (variable_at z n) x ∙ k.wide;
     clock = other words (variable_at z n) clock_at x (omega arith) ∙ k.clock;

@@ -10,16 +10,16 @@ use Rattle.rgo_sound.specs.Memory.declared.values.Value.TheVariants as value
 use Rattle.rgo_sound.specs.RegionMachine.Machine.{Instruct, region_step}
 use Rattle.rgo_sound.specs.RegionMachine.Owed.{current}
 use Rattle.rgo_sound.specs.RegionMachine.States.{RegionState}
-use Rattle.rgo_sound.specs.Tac.Frames.{Frame, values_of}
+use Rattle.rgo_sound.specs.Tac.Frames.{TacFrame, operand_values}
 use Rattle.rgo_core_memory.specs.declared.layout.TableSizes.{TableSizes}
 use Rattle.rgo_core_memory.specs.Words.{variable_at}
 use Rattle.rgo_core_memory.specs.Records.{Rec}
-use Rattle.rgo_core_memory.specs.Image.{Where, Memory, word_at, code_of}
+use Rattle.rgo_core_memory.specs.Image.{Where, StateImage, word_at, code_of}
 
 -- goroutine g performs this action on these operands next
 pub record Before (code : Code) (s : RegionState) (g : ℕ) (action : Action) (values : List Value) : Type 0 where
-  pub frame : Frame
-  pub callers : List Frame
+  pub frame : TacFrame
+  pub callers : List TacFrame
   pub at : slice_get s.plain.goroutines g ≡ Some (frame ∷ callers)
   pub instr : CodeInstr
   pub cur : current code frame ≡ Some instr
@@ -27,61 +27,61 @@ pub record Before (code : Code) (s : RegionState) (g : ℕ) (action : Action) (v
   pub from : List ℕ
   pub removes : List ℕ
   pub is : instr.op ≡ Do to action from removes
-  pub operands : values_of frame from ≡ values
+  pub operands : operand_values frame from ≡ values
 
 -- ---- stores: the word of the cell that the instruction writes becomes the value's
 
 abbrev pub StoreKeeps : Type 0
 StoreKeeps = (code : Code) (z : TableSizes) (words : List ℕ) (recs : List Rec) (s t : RegionState) (g o n : ℕ)
     (v : Value) (cells : List Value)
-    → (places : Where) → Memory z words recs s places → region_step code z.page_words s (Instruct (One g)) ≡ Some t
+    → (places : Where) → StateImage z words recs s places → region_step code z.page_words s (Instruct (One g)) ≡ Some t
     → Before code s g (action.Store n) (value.Object o ∷ v ∷ [])
     → slice_get s.plain.memory.heap o ≡ Some (StructObject cells)
-    → n < length cells → Memory z (slice_set words (word_at z places o n) (code_of z places v)) recs t places
+    → n < length cells → StateImage z (slice_set words (word_at z places o n) (code_of z places v)) recs t places
 
 abbrev pub PutKeeps : Type 0
 PutKeeps = (code : Code) (z : TableSizes) (words : List ℕ) (recs : List Rec) (s t : RegionState) (g o n : ℕ)
     (v : Value) (cells : List Value)
-    → (places : Where) → Memory z words recs s places → region_step code z.page_words s (Instruct (One g)) ≡ Some t
+    → (places : Where) → StateImage z words recs s places → region_step code z.page_words s (Instruct (One g)) ≡ Some t
     → Before code s g action.Put (value.Object o ∷ value.Int (pos n) ∷ v ∷ [])
     → slice_get s.plain.memory.heap o ≡ Some (SliceObject cells)
-    → n < length cells → Memory z (slice_set words (word_at z places o (suc n)) (code_of z places v)) recs t places
+    → n < length cells → StateImage z (slice_set words (word_at z places o (suc n)) (code_of z places v)) recs t places
 
 abbrev pub SetKeeps : Type 0
 SetKeeps = (code : Code) (z : TableSizes) (words : List ℕ) (recs : List Rec) (s t : RegionState) (g n : ℕ) (v : Value)
-    → (places : Where) → Memory z words recs s places → region_step code z.page_words s (Instruct (One g)) ≡ Some t
+    → (places : Where) → StateImage z words recs s places → region_step code z.page_words s (Instruct (One g)) ≡ Some t
     → Before code s g (action.Set n) (v ∷ []) → n < length s.plain.memory.variables
-    → Memory z (slice_set words (variable_at z n) (code_of z places v)) recs t places
+    → StateImage z (slice_set words (variable_at z n) (code_of z places v)) recs t places
 
 -- ---- loads: the word is the value's that the instruction reads
 
 abbrev pub LoadReads : Type 0
 LoadReads = (code : Code) (z : TableSizes) (words : List ℕ) (recs : List Rec) (s t : RegionState) (g o n : ℕ)
     (v : Value) (cells : List Value)
-    → (places : Where) → Memory z words recs s places → region_step code z.page_words s (Instruct (One g)) ≡ Some t
+    → (places : Where) → StateImage z words recs s places → region_step code z.page_words s (Instruct (One g)) ≡ Some t
     → Before code s g (action.Load n) (value.Object o ∷ []) → slice_get s.plain.memory.heap o ≡ Some (StructObject cells)
     → slice_get cells n ≡ Some v → (slice_index words (word_at z places o n) ≡ code_of z places v)
-    × Memory z words recs t places
+    × StateImage z words recs t places
 
 abbrev pub AtReads : Type 0
 AtReads = (code : Code) (z : TableSizes) (words : List ℕ) (recs : List Rec) (s t : RegionState) (g o n : ℕ) (v : Value)
     (cells : List Value)
-    → (places : Where) → Memory z words recs s places → region_step code z.page_words s (Instruct (One g)) ≡ Some t
+    → (places : Where) → StateImage z words recs s places → region_step code z.page_words s (Instruct (One g)) ≡ Some t
     → Before code s g action.At (value.Object o ∷ value.Int (pos n) ∷ [])
     → slice_get s.plain.memory.heap o ≡ Some (SliceObject cells)
     → slice_get cells n ≡ Some v → (slice_index words (word_at z places o (suc n)) ≡ code_of z places v)
-    × Memory z words recs t places
+    × StateImage z words recs t places
 
 abbrev pub LenReads : Type 0
 LenReads = (code : Code) (z : TableSizes) (words : List ℕ) (recs : List Rec) (s t : RegionState) (g o : ℕ)
     (cells : List Value)
-    → (places : Where) → Memory z words recs s places → region_step code z.page_words s (Instruct (One g)) ≡ Some t
+    → (places : Where) → StateImage z words recs s places → region_step code z.page_words s (Instruct (One g)) ≡ Some t
     → Before code s g action.Len (value.Object o ∷ []) → slice_get s.plain.memory.heap o ≡ Some (SliceObject cells)
     → (slice_index words (word_at z places o 0) ≡ code_of z places (value.Int (pos (length cells))))
-    × Memory z words recs t places
+    × StateImage z words recs t places
 
 abbrev pub GetReads : Type 0
 GetReads = (code : Code) (z : TableSizes) (words : List ℕ) (recs : List Rec) (s t : RegionState) (g n : ℕ) (v : Value)
-    → (places : Where) → Memory z words recs s places → region_step code z.page_words s (Instruct (One g)) ≡ Some t
+    → (places : Where) → StateImage z words recs s places → region_step code z.page_words s (Instruct (One g)) ≡ Some t
     → Before code s g (action.Get n) [] → slice_get s.plain.memory.variables n ≡ Some v
-    → (slice_index words (variable_at z n) ≡ code_of z places v) × Memory z words recs t places
+    → (slice_index words (variable_at z n) ≡ code_of z places v) × StateImage z words recs t places

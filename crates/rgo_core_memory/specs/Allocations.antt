@@ -9,19 +9,19 @@ use Rattle.rgo_sound.specs.Memory.Memory.{Object, StructObject, SliceObject, Cha
 use Rattle.rgo_sound.specs.Memory.Values.{zero_of, element_zero}
 use Rattle.rgo_sound.specs.Memory.declared.values.Value.TheVariants as value
 use Rattle.rgo_sound.specs.RegionMachine.Machine.{Instruct, region_step}
-use Rattle.rgo_sound.specs.RegionMachine.Objects.{words as words_in, making_region}
+use Rattle.rgo_sound.specs.RegionMachine.Objects.{object_words as words_in, making_region}
 use Rattle.rgo_sound.specs.RegionMachine.Owed.{function_at}
 use Rattle.rgo_sound.specs.RegionMachine.States.{Holder, RegionState, top_names}
 use Rattle.rgo_sound.specs.RegionMachine.declared.regions.Region.{Region}
 use Rattle.rgo_sound.specs.Good.{AllGood}
-use Rattle.rgo_sound.specs.Tac.Steps.{type_of}
+use Rattle.rgo_sound.specs.Tac.Steps.{destination_type}
 use Rattle.rgo_core_memory.specs.declared.layout.TableSizes.{TableSizes}
 use Rattle.rgo_core_memory.specs.Words.{put, cell_at}
 use Rattle.rgo_core_memory.specs.Encoding.{content, opening}
-use Rattle.rgo_core_memory.specs.Records.{Fill, Rec, Has, with_word, with_object, with_word_apart, with_object_apart}
-use Rattle.rgo_core_memory.specs.Parts.{slot_of, Makes, MakesApart, Covers, CoversApart}
+use Rattle.rgo_core_memory.specs.Records.{Fill, Rec, HasRecord, with_word, with_object, with_word_apart, with_object_apart}
+use Rattle.rgo_core_memory.specs.Parts.{slot_of, RecordMakes, MakesApart, Covers, CoversApart}
 use Rattle.rgo_core_memory.specs.Spread.{lead_spot, spread_spot, spread_opening, table_words}
-use Rattle.rgo_core_memory.specs.Image.{Where, Memory}
+use Rattle.rgo_core_memory.specs.Image.{Where, StateImage}
 use Rattle.rgo_core_memory.specs.Accesses.{Before}
 
 -- the object that the goroutine makes next
@@ -31,7 +31,7 @@ MakesNext code s g h r object =
     × (object ≡ StructObject (map zero_of made.fields))
     × (making_region (function_at code b.frame) (top_names h.environments) b.instr.op ≡ Some r))
     ⊎ ((n : ℕ) × (b : Before code s g action.Slice (value.Int (pos n) ∷ []))
-    × (object ≡ SliceObject (replicate n (element_zero (type_of (erased code) b.frame b.to))))
+    × (object ≡ SliceObject (replicate n (element_zero (destination_type (erased code) b.frame b.to))))
     × (making_region (function_at code b.frame) (top_names h.environments) b.instr.op ≡ Some r))
     ⊎ ((n : ℕ) × (b : Before code s g action.Chan (value.Int (pos n) ∷ []))
     × (object ≡ Channel n [] false)
@@ -41,17 +41,17 @@ MakesNext code s g h r object =
 abbrev pub WordKeeps : Type 0
 WordKeeps = (z : TableSizes) (words : List ℕ) (recs : List Rec) (s : RegionState) (g i : ℕ) (c : Rec) (f : Fill)
     (object : Object) (stored : List ℕ)
-    → (places : Where) → Memory z words recs s places → Has recs g c → Makes z c f object stored → i < words_in object
-    → Memory z (slice_set words (cell_at z f.page (f.fill + i)) (opening (content object i))) (slice_set recs g
+    → (places : Where) → StateImage z words recs s places → HasRecord recs g c → RecordMakes z c f object stored → i < words_in object
+    → StateImage z (slice_set words (cell_at z f.page (f.fill + i)) (opening (content object i))) (slice_set recs g
     (with_word c f object (i ∷ stored))) s places
 
 -- the same of a spread object: the word and the place are those of the reserved pages
 abbrev pub WordKeepsApart : Type 0
 WordKeepsApart = (z : TableSizes) (words : List ℕ) (recs : List Rec) (s : RegionState) (g i : ℕ) (c : Rec)
     (object : Object) (stored : List ℕ)
-    → (places : Where) → Memory z words recs s places → Has recs g c → MakesApart z c object stored
+    → (places : Where) → StateImage z words recs s places → HasRecord recs g c → MakesApart z c object stored
     → i < table_words z.page_words object
-    → Memory z (slice_set words (cell_at z (spread_spot z.page_words object c.reserved.pages i).page
+    → StateImage z (slice_set words (cell_at z (spread_spot z.page_words object c.reserved.pages i).page
     (spread_spot z.page_words object c.reserved.pages i).offset) (spread_opening object c.reserved.pages i))
     (slice_set recs g (with_word_apart c object (i ∷ stored))) s places
 
@@ -59,12 +59,12 @@ WordKeepsApart = (z : TableSizes) (words : List ℕ) (recs : List Rec) (s : Regi
 abbrev pub AllocationKeeps : Type 0
 AllocationKeeps = (code : Code) (z : TableSizes) (words : List ℕ) (recs : List Rec) (s t : RegionState) (g i : ℕ)
     (h : Holder) (r : Region) (c : Rec) (f : Fill)
-    (object : Object) (stored : List ℕ) → AllGood code s → (places : Where) → Memory z words recs s places
-    → slice_get s.holders g ≡ Some h → Has recs g c
-    → MakesNext code s g h r object → slot_of z places.slot r ≡ f.slot → Makes z c f object stored
+    (object : Object) (stored : List ℕ) → AllGood code s → (places : Where) → StateImage z words recs s places
+    → slice_get s.holders g ≡ Some h → HasRecord recs g c
+    → MakesNext code s g h r object → slot_of z places.slot r ≡ f.slot → RecordMakes z c f object stored
     → i < words_in object → Covers object (i ∷ stored)
     → region_step code z.page_words s (Instruct (One g)) ≡ Some t
-    → Memory z (slice_set words (cell_at z f.page (f.fill + i)) (opening (content object i)))
+    → StateImage z (slice_set words (cell_at z f.page (f.fill + i)) (opening (content object i)))
     (slice_set recs g (with_object c f.slot (f.fill + words_in object))) t
     (record places {
       spot = put places.spot (length s.plain.memory.heap)
@@ -76,12 +76,12 @@ AllocationKeeps = (code : Code) (z : TableSizes) (words : List ℕ) (recs : List
 abbrev pub AllocationKeepsApart : Type 0
 AllocationKeepsApart = (code : Code) (z : TableSizes) (words : List ℕ) (recs : List Rec) (s t : RegionState) (g i : ℕ)
     (h : Holder) (r : Region) (c : Rec)
-    (object : Object) (stored : List ℕ) → AllGood code s → (places : Where) → Memory z words recs s places
-    → slice_get s.holders g ≡ Some h → Has recs g c
+    (object : Object) (stored : List ℕ) → AllGood code s → (places : Where) → StateImage z words recs s places
+    → slice_get s.holders g ≡ Some h → HasRecord recs g c
     → MakesNext code s g h r object → slot_of z places.slot r ≡ c.reserved.slot → MakesApart z c object stored
     → i < table_words z.page_words object → CoversApart z object (i ∷ stored)
     → region_step code z.page_words s (Instruct (One g)) ≡ Some t
-    → Memory z (slice_set words (cell_at z (spread_spot z.page_words object c.reserved.pages i).page
+    → StateImage z (slice_set words (cell_at z (spread_spot z.page_words object c.reserved.pages i).page
     (spread_spot z.page_words object c.reserved.pages i).offset) (spread_opening object c.reserved.pages i))
     (slice_set recs g (with_object_apart c)) t
     (record places {

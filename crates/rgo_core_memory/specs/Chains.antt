@@ -5,22 +5,22 @@ use Rattle.rgo_sound.specs.RegionMachine.States.{RegionState}
 use Rattle.rgo_sound.specs.Good.{AllGood}
 use Rattle.rgo_core_memory.specs.declared.layout.TableSizes.{TableSizes}
 use Rattle.rgo_core_memory.specs.Words.{put, state_at, next_at, count_at, head_at}
-use Rattle.rgo_core_memory.specs.Records.{Idle, Got, Hung, Calm, Owes, Giving, Past, Gave, Located, Measured, Rec, Has, with_claim, with_give, with_located, with_measured, with_tried_page, with_tried_slot}
+use Rattle.rgo_core_memory.specs.Records.{Idle, Got, Hung, Calm, Owes, Giving, Past, Gave, Located, Measured, Rec, HasRecord, with_claim, with_give, with_located, with_measured, with_tried_page, with_tried_slot}
 use Rattle.rgo_core_memory.specs.Pages.{Free, Chained}
 use Rattle.rgo_core_memory.specs.Parts.{Vacant}
-use Rattle.rgo_core_memory.specs.Image.{Where, Memory}
+use Rattle.rgo_core_memory.specs.Image.{Where, StateImage}
 
 -- P holds of every image and every record of a goroutine in it
 abbrev pub Keeps : ((z : TableSizes) (words : List ℕ) (recs : List Rec) (s : RegionState) (places : Where) (g : ℕ)
     (c : Rec) → Type 0) → Type 0
 Keeps P = (code : Code) (z : TableSizes) (words : List ℕ) (recs : List Rec) (s : RegionState) (places : Where) (g : ℕ)
     (c : Rec)
-    → AllGood code s → Memory z words recs s places → Has recs g c → P z words recs s places g c
+    → AllGood code s → StateImage z words recs s places → HasRecord recs g c → P z words recs s places g c
 
 -- the claimed page becomes the head of its slot's chain
 abbrev pub HangKeeps : Type 0
 HangKeeps = Keeps (λ z words recs s places g c. (p r : ℕ) → c.claim ≡ Got p r
-    → Memory z (slice_set words (head_at z r) (suc p)) (slice_set recs g (with_claim c (Hung p r (slice_index words
+    → StateImage z (slice_set words (head_at z r) (suc p)) (slice_set recs g (with_claim c (Hung p r (slice_index words
     (head_at z r))))) s
     (record places {
       at = put places.at p (Chained r);
@@ -34,22 +34,22 @@ HangKeeps = Keeps (λ z words recs s places g c. (p r : ℕ) → c.claim ≡ Got
 -- its next word is stored
 abbrev pub LinkKeeps : Type 0
 LinkKeeps = Keeps (λ z words recs s places g c. (p r old : ℕ) → c.claim ≡ Hung p r old
-    → Memory z (slice_set words (next_at z p) old) (slice_set recs g (with_claim c Idle)) s places)
+    → StateImage z (slice_set words (next_at z p) old) (slice_set recs g (with_claim c Idle)) s places)
 
--- of a chain that is given back: the head is loaded
+-- of a chain that is being returned: the head is loaded
 abbrev pub HeadKeeps : Type 0
 HeadKeeps = Keeps (λ z words recs s places g c. (r : ℕ) → c.give ≡ Owes r
-    → Memory z words (slice_set recs g (with_give c (Giving r (slice_index words (head_at z r))))) s places)
+    → StateImage z words (slice_set recs g (with_give c (Giving r (slice_index words (head_at z r))))) s places)
 
 -- a page's next is loaded
 abbrev pub NextKeeps : Type 0
 NextKeeps = Keeps (λ z words recs s places g c. (r p : ℕ) → c.give ≡ Giving r (suc p)
-    → Memory z words (slice_set recs g (with_give c (Past r (suc p) (slice_index words (next_at z p))))) s places)
+    → StateImage z words (slice_set recs g (with_give c (Past r (suc p) (slice_index words (next_at z p))))) s places)
 
 -- the page is free again
 abbrev pub FreeKeeps : Type 0
 FreeKeeps = Keeps (λ z words recs s places g c. (r p q : ℕ) → c.give ≡ Past r (suc p) q
-    → Memory z (slice_set words (state_at z p) 0) (slice_set recs g (with_give c (Giving r q))) s
+    → StateImage z (slice_set words (state_at z p) 0) (slice_set recs g (with_give c (Giving r q))) s
     (record places {
       at = put places.at p Free;
       chain = put places.chain r (drop 1
@@ -60,32 +60,32 @@ FreeKeeps = Keeps (λ z words recs s places g c. (r p q : ℕ) → c.give ≡ Pa
 -- no page is left: the head is cleared
 abbrev pub ClearKeeps : Type 0
 ClearKeeps = Keeps (λ z words recs s places g c. (r : ℕ) → c.give ≡ Giving r 0
-    → Memory z (slice_set words (head_at z r) 0) (slice_set recs g (with_give c (Gave r))) s places)
+    → StateImage z (slice_set words (head_at z r) 0) (slice_set recs g (with_give c (Gave r))) s places)
 
 -- and the slot is free again
 abbrev pub SlotKeeps : Type 0
 SlotKeeps = Keeps (λ z words recs s places g c. (r : ℕ) → c.give ≡ Gave r
-    → Memory z (slice_set words (count_at z r) 0) (slice_set recs g (with_give c Calm)) s
+    → StateImage z (slice_set words (count_at z r) 0) (slice_set recs g (with_give c Calm)) s
     (record places { uses = put places.uses r Vacant }))
 
 -- a page, or a slot, was found in use
 abbrev pub TriedPageKeeps : Type 0
 TriedPageKeeps = Keeps (λ z words recs s places g c. (p : ℕ) → p < z.pages → slice_index words (state_at z p) ≢ 0
-    → Memory z words (slice_set recs g (with_tried_page c p)) s places)
+    → StateImage z words (slice_set recs g (with_tried_page c p)) s places)
 
 abbrev pub TriedSlotKeeps : Type 0
 TriedSlotKeeps = Keeps (λ z words recs s places g c. (r : ℕ) → r < z.slots → slice_index words (count_at z r) ≢ 0
-    → Memory z words (slice_set recs g (with_tried_slot c r)) s places)
+    → StateImage z words (slice_set recs g (with_tried_slot c r)) s places)
 
 -- a call begins: what the last one found is forgotten
 abbrev pub ForgetKeeps : Type 0
-ForgetKeeps = Keeps (λ z words recs s places g c. Memory z words (slice_set recs g
+ForgetKeeps = Keeps (λ z words recs s places g c. StateImage z words (slice_set recs g
     (record c { tried_pages = []; tried_slots = [] })) s places)
 
 -- the length of a slice was read
 abbrev pub MeasuredKeeps : Type 0
-MeasuredKeeps = Keeps (λ z words recs s places g c. (m : Measured) → Memory z words (slice_set recs g (with_measured c m)) s places)
+MeasuredKeeps = Keeps (λ z words recs s places g c. (m : Measured) → StateImage z words (slice_set recs g (with_measured c m)) s places)
 
 -- the number of a data page was read
 abbrev pub LocatedKeeps : Type 0
-LocatedKeeps = Keeps (λ z words recs s places g c. (l : Located) → Memory z words (slice_set recs g (with_located c l)) s places)
+LocatedKeeps = Keeps (λ z words recs s places g c. (l : Located) → StateImage z words (slice_set recs g (with_located c l)) s places)

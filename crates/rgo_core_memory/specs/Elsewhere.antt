@@ -4,19 +4,19 @@ use Rattle.std.specs.Prelude.{◌≡◌, ℕ, List, slice_set}
 use Rattle.rgo_sound.specs.RegionMachine.States.{RegionState}
 use Rattle.rgo_core_memory.specs.declared.layout.TableSizes.{TableSizes}
 use Rattle.rgo_core_memory.specs.Ground.{ground_of}
-use Rattle.rgo_core_memory.specs.Image.{Where, Memory}
+use Rattle.rgo_core_memory.specs.Image.{Where, StateImage}
 use Rattle.rgo_core_memory.specs.Records.{Rec}
 use Rattle.rgo_core_memory.specs.Words.{clock_at, made_at}
 
 abbrev pub ClockKeeps : Type 0
 ClockKeeps = (z : TableSizes) (words : List ℕ) (recs : List Rec) (s : RegionState) (places : Where) (n : ℕ)
-    → Memory z words recs s places → Memory z (slice_set words clock_at n) recs s places
+    → StateImage z words recs s places → StateImage z (slice_set words clock_at n) recs s places
 
 abbrev pub NumberKeeps : Type 0
 NumberKeeps = (z : TableSizes) (words : List ℕ) (recs : List Rec) (s : RegionState) (places : Where) (n : ℕ)
-    → Memory z words recs s places → Memory z (slice_set words made_at n) recs s places
+    → StateImage z words recs s places → StateImage z (slice_set words made_at n) recs s places
 
 -- the image speaks of a state only by what memory shows of it
 abbrev pub GroundKeeps : Type 0
 GroundKeeps = (z : TableSizes) (words : List ℕ) (recs : List Rec) (s t : RegionState) (places : Where)
-    → ground_of t ≡ ground_of s → Memory z words recs s places → Memory z words recs t places
+    → ground_of t ≡ ground_of s → StateImage z words recs s places → StateImage z words recs t places

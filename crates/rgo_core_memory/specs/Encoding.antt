@@ -31,7 +31,7 @@ content (Channel capacity queue closed) zero = None
 content (Channel capacity queue closed) (suc zero) = Some (value.Int (pos capacity))
 content (Channel capacity queue closed) (suc (suc i)) = None
 
--- a value that is no pointer
+-- a value other than a pointer
 abbrev pub IsPlain : Value → Type 0
 IsPlain (value.Int n) = Unit {0}
 IsPlain (value.Bool b) = Unit {0}
@@ -44,6 +44,6 @@ opening None = 0
 opening (Some v) = encode (λ o. 0) v
 
 -- the object that is the other with another value in one word
-pub record Changes (object : Object) (i : ℕ) (v : Value) (after : Object) : Type 0 where
+pub record ChangesWord (object : Object) (i : ℕ) (v : Value) (after : Object) : Type 0 where
   pub here : content after i ≡ Some v
   pub there : (j : ℕ) → (j ≡ i → ⊥) → content after j ≡ content object j

@@ -3,7 +3,7 @@ use Rattle.std.specs.Prelude.{◌≡◌, ◌≢◌, ◌⊎◌, ℕ, suc, ◌+◌
 use Rattle.std.specs.List.{list_any}
 use Rattle.rgo_sound.specs.Memory.Memory.{Object}
 use Rattle.rgo_sound.specs.Code.Code.{Code, CodeInstr}
-use Rattle.rgo_sound.specs.Tac.Frames.{Frame}
+use Rattle.rgo_sound.specs.Tac.Frames.{TacFrame}
 use Rattle.rgo_sound.specs.RegionMachine.Duties.{guards}
 use Rattle.rgo_sound.specs.RegionMachine.Machine.{Attend, TakePage, next_object, region_step}
 use Rattle.rgo_sound.specs.RegionMachine.Objects.{is_spread, making_region}
@@ -15,31 +15,31 @@ use Rattle.rgo_sound.specs.RegionMachine.declared.regions.Region.TheVariants.{Nu
 use Rattle.rgo_sound.specs.Good.{AllGood}
 use Rattle.rgo_core_memory.specs.declared.layout.TableSizes.{TableSizes}
 use Rattle.rgo_core_memory.specs.Words.{put, state_at, count_at}
-use Rattle.rgo_core_memory.specs.Records.{Fill, Rest, Amid, Idle, Calm, Owes, Rec, Has, Claims, with_page, with_give, without_slot}
+use Rattle.rgo_core_memory.specs.Records.{Fill, Rest, Amid, Idle, Calm, Owes, Rec, HasRecord, Claims, with_page, with_give, without_slot}
 use Rattle.rgo_core_memory.specs.Parts.{slot_of, Living, Closing}
 use Rattle.rgo_core_memory.specs.Ground.{ground_of, taken_of}
 use Rattle.rgo_core_memory.specs.Pages.{Claimed}
-use Rattle.rgo_core_memory.specs.Image.{Where, Memory}
+use Rattle.rgo_core_memory.specs.Image.{Where, StateImage}
 use Rattle.rgo_core_memory.specs.Records.{with_reserved}
 
 -- a region is created at a slot that was found free
 abbrev pub CreateKeeps : Type 0
 CreateKeeps = (code : Code) (z : TableSizes) (words : List ℕ) (recs : List Rec) (s t : RegionState) (g name r : ℕ)
     (h : Holder) (ds : List Duty)
-    → AllGood code s → (places : Where) → Memory z words recs s places → slice_get s.holders g ≡ Some h
+    → AllGood code s → (places : Where) → StateImage z words recs s places → slice_get s.holders g ≡ Some h
     → h.duties ≡ Create name ∷ ds
     → region_step code z.page_words s (Attend g) ≡ Some t → r < z.slots → slice_index words (count_at z r) ≡ 0
-    → Memory z (slice_set words (count_at z r) 2) recs t
+    → StateImage z (slice_set words (count_at z r) 2) recs t
     (record places { slot = put places.slot (length s.regions) r; uses = put places.uses r (Living (length s.regions)) })
 
 -- a stake is taken for a goroutine that is about to start
 abbrev pub ShareKeeps : Type 0
 ShareKeeps = (code : Code) (z : TableSizes) (words : List ℕ) (recs : List Rec) (s t : RegionState) (g name j : ℕ)
     (h : Holder) (ds : List Duty)
-    → (places : Where) → Memory z words recs s places → slice_get s.holders g ≡ Some h → h.duties ≡ Share name ∷ ds
+    → (places : Where) → StateImage z words recs s places → slice_get s.holders g ≡ Some h → h.duties ≡ Share name ∷ ds
     → bound (top_names h.environments) name ≡ Some (Numbered j) → list_any (nat_eq j) h.pending ≡ false
     → region_step code z.page_words s (Attend g) ≡ Some t
-    → Memory z (slice_set words (count_at z (places.slot j)) (slice_index words (count_at z
+    → StateImage z (slice_set words (count_at z (places.slot j)) (slice_index words (count_at z
     (places.slot j)) + 1)) recs t places
 
 -- the goroutine's next duty ends its stake in this region
@@ -60,29 +60,29 @@ IsFreeOf c s = (Claims c.claim s → ⊥) × ((f : Fill) (object : Object) (stor
 abbrev pub LeaveKeeps : Type 0
 LeaveKeeps = (code : Code) (z : TableSizes) (words : List ℕ) (recs : List Rec) (s t : RegionState) (g j : ℕ)
     (h : Holder) (c : Rec)
-    → AllGood code s → (places : Where) → Memory z words recs s places → slice_get s.holders g ≡ Some h → Has recs g c
+    → AllGood code s → (places : Where) → StateImage z words recs s places → slice_get s.holders g ≡ Some h → HasRecord recs g c
     → Leaves h j
     → region_step code z.page_words s (Attend g) ≡ Some t → IsFreeOf c (places.slot j)
     → c.reserved.pages ≡ [] → slice_index words (count_at z (places.slot j)) ≢ 2
-    → Memory z (slice_set words (count_at z (places.slot j)) (slice_index words (count_at z (places.slot j)) - 1))
+    → StateImage z (slice_set words (count_at z (places.slot j)) (slice_index words (count_at z (places.slot j)) - 1))
     (slice_set recs g (without_slot c (places.slot j))) t places
 
--- the last one ends: the region goes, and its chain is to be given back
+-- the last one ends: the region is removed, and its chain is to be returned
 abbrev pub LastLeaveKeeps : Type 0
 LastLeaveKeeps = (code : Code) (z : TableSizes) (words : List ℕ) (recs : List Rec) (s t : RegionState) (g j : ℕ)
     (h : Holder) (c : Rec)
-    → AllGood code s → (places : Where) → Memory z words recs s places → slice_get s.holders g ≡ Some h → Has recs g c
+    → AllGood code s → (places : Where) → StateImage z words recs s places → slice_get s.holders g ≡ Some h → HasRecord recs g c
     → Leaves h j
     → region_step code z.page_words s (Attend g) ≡ Some t → IsFreeOf c (places.slot j) → c.reserved.pages ≡ []
     → c.give ≡ Calm
     → slice_index words (count_at z (places.slot j)) ≡ 2
-    → Memory z (slice_set words (count_at z (places.slot j)) (slice_index words (count_at z (places.slot j)) - 1))
+    → StateImage z (slice_set words (count_at z (places.slot j)) (slice_index words (count_at z (places.slot j)) - 1))
     (slice_set recs g (with_give (without_slot c (places.slot j)) (Owes (places.slot j)))) t
     (record places { uses = put places.uses (places.slot j) (Closing g) })
 
 -- the goroutine's next instruction makes an object in this region
-abbrev pub MakesIn : Code → RegionState → ℕ → Holder → Region → Type 0
-MakesIn code s g h r = (frame : Frame) × (callers : List Frame) × (instr : CodeInstr)
+abbrev pub NextMakesObjectIn : Code → RegionState → ℕ → Holder → Region → Type 0
+NextMakesObjectIn code s g h r = (frame : TacFrame) × (callers : List TacFrame) × (instr : CodeInstr)
     × (slice_get s.plain.goroutines g ≡ Some (frame ∷ callers))
     × (current code frame ≡ Some instr)
     × (making_region (function_at code frame) (top_names h.environments) instr.op ≡ Some r)
@@ -96,11 +96,11 @@ NextIsSpread code page_words s g b = (object : Object) × (next_object code s g 
 abbrev pub PageKeeps : Type 0
 PageKeeps = (code : Code) (z : TableSizes) (words : List ℕ) (recs : List Rec) (s t : RegionState) (g p : ℕ)
     (h : Holder) (r : Region) (c : Rec)
-    → AllGood code s → (places : Where) → Memory z words recs s places → slice_get s.holders g ≡ Some h → Has recs g c
-    → MakesIn code s g h r → NextIsSpread code z.page_words s g false
+    → AllGood code s → (places : Where) → StateImage z words recs s places → slice_get s.holders g ≡ Some h → HasRecord recs g c
+    → NextMakesObjectIn code s g h r → NextIsSpread code z.page_words s g false
     → region_step code z.page_words s (TakePage g) ≡ Some t → c.claim ≡ Idle → c.make ≡ Rest → p < z.pages
     → slice_index words (state_at z p) ≡ 0
-    → Memory z (slice_set words (state_at z p) (suc (slot_of z places.slot r))) (slice_set recs g (with_page c p
+    → StateImage z (slice_set words (state_at z p) (suc (slot_of z places.slot r))) (slice_set recs g (with_page c p
     (slot_of z places.slot r))) t
     (record places { at = put places.at p (Claimed g); page = put places.page (taken_of (ground_of s)) p })
 
@@ -108,11 +108,11 @@ PageKeeps = (code : Code) (z : TableSizes) (words : List ℕ) (recs : List Rec) 
 abbrev pub ReservedPageKeeps : Type 0
 ReservedPageKeeps = (code : Code) (z : TableSizes) (words : List ℕ) (recs : List Rec) (s t : RegionState) (g p : ℕ)
     (h : Holder) (r : Region) (c : Rec)
-    → AllGood code s → (places : Where) → Memory z words recs s places → slice_get s.holders g ≡ Some h → Has recs g c
-    → MakesIn code s g h r → NextIsSpread code z.page_words s g true
+    → AllGood code s → (places : Where) → StateImage z words recs s places → slice_get s.holders g ≡ Some h → HasRecord recs g c
+    → NextMakesObjectIn code s g h r → NextIsSpread code z.page_words s g true
     → (0 < length c.reserved.pages → c.reserved.slot ≡ slot_of z places.slot r)
     → region_step code z.page_words s (TakePage g) ≡ Some t → c.claim ≡ Idle → c.make ≡ Rest → p < z.pages
     → slice_index words (state_at z p) ≡ 0
-    → Memory z (slice_set words (state_at z p) (suc (slot_of z places.slot r))) (slice_set recs g (with_reserved c p
+    → StateImage z (slice_set words (state_at z p) (suc (slot_of z places.slot r))) (slice_set recs g (with_reserved c p
     (slot_of z places.slot r))) t
     (record places { at = put places.at p (Claimed g); page = put places.page (taken_of (ground_of s)) p })

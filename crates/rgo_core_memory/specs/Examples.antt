@@ -1,4 +1,4 @@
--- A small table: where its words are, how it opens, and what is no image.
+-- A small table: where its words are, how it opens, and what is not an image.
 use Rattle.std.specs.Prelude.{◌≡◌, ℕ, suc, ◌==◌, true, false, if◌then◌else◌, List, [], ◌∷◌, Some, None, pos, negsuc, length, replicate, slice_index}
 use Rattle.rgo_sound.specs.Memory.Memory.{Channel, Object, SliceObject, StructObject}
 use Rattle.rgo_core_memory.specs.Spread.{spread_opening, spread_spot, table_words, words_before}
@@ -7,13 +7,13 @@ use Rattle.rgo_sound.specs.Memory.declared.values.Value.TheVariants as value
 use Rattle.rgo_sound.specs.RegionMachine.States.{RegionState}
 use Rattle.rgo_core_memory.specs.declared.layout.TableSizes.{TableSizes}
 use Rattle.rgo_core_memory.specs.Encoding.{Spot, address, content, encode}
-use Rattle.rgo_core_memory.specs.Image.{Memory}
+use Rattle.rgo_core_memory.specs.Image.{StateImage}
 use Rattle.rgo_core_memory.specs.Opening.{first_record, first_words, nowhere}
 use Rattle.rgo_core_memory.specs.Owed.{owed}
-use Rattle.rgo_core_memory.specs.Pages.{Chain}
+use Rattle.rgo_core_memory.specs.Pages.{PageChain}
 use Rattle.rgo_core_memory.specs.Parts.{Closing, Living, Own, Use, Vacant, pages_at}
-use Rattle.rgo_core_memory.specs.Records.{Calm, Claims, Closes, Fill, Giving, Gives, Got, Idle, Owes, Owns, Past, Rec, with_page, without_slot}
-use Rattle.rgo_core_memory.specs.Words.{Shows, Words, all_words, base, cell_at, clock_at, count_at, head_at, made_at, next_at, state_at, variable_at}
+use Rattle.rgo_core_memory.specs.Records.{Calm, Claims, ClosesSlot, Fill, Giving, ReturnsChain, Got, Idle, Owes, Owns, Past, Rec, with_page, without_slot}
+use Rattle.rgo_core_memory.specs.Words.{ListHasWords, Words, all_words, base, cell_at, clock_at, count_at, head_at, made_at, next_at, state_at, variable_at}
 
 -- one page of four words, one slot for a region, one package variable
 abbrev pub small : TableSizes
@@ -37,7 +37,7 @@ start o = record { page = 2; offset = 1 }
 abbrev pub long : Object
 long = SliceObject (replicate 257 value.Nil)
 
--- slot 0 is given back by goroutine 5, slot 1 has region 7, the others are free
+-- the chain of slot 0 is returned by goroutine 5, slot 1 has region 7, the others are free
 abbrev pub uses : ℕ → Use
 uses s = if s == 0 then Closing 5 else (if s == 1 then Living 7 else Vacant)
 
@@ -71,9 +71,9 @@ pub record MemoryExamples : Type 0 where
   pub one : slice_index (first_words small) made_at ≡ 1
   pub free : slice_index (first_words small) (count_at small 0) ≡ 0
   pub global : slice_index (first_words small) (count_at small 1) ≡ 2
-  -- without Global's count, and without `main`, the words are no image
-  pub no_global : (s : RegionState) → Memory small no_words (first_record ∷ []) s nowhere → ⊥
-  pub no_main : (w : Words) → w.made ≡ 1 → Shows small no_words w → ⊥
+  -- without Global's count, and without `main`, the words are not an image
+  pub no_global : (s : RegionState) → StateImage small no_words (first_record ∷ []) s nowhere → ⊥
+  pub no_main : (w : Words) → w.made ≡ 1 → ListHasWords small no_words w → ⊥
   -- ---- values and words
   pub minus_one : encode (λ o. 0) (value.Int (negsuc 0)) ≡ 18446744073709551615
   pub truth : encode (λ o. 0) (value.Bool true) ≡ 1
@@ -87,9 +87,9 @@ pub record MemoryExamples : Type 0 where
   pub capacity : content (Channel 2 (value.Nil ∷ []) false) 1 ≡ Some (value.Int (pos 2))
   pub buffer : content (Channel 2 (value.Nil ∷ []) false) 2 ≡ None
   -- ---- pages and chains
-  pub chain : Chain link 1 (0 ∷ 1 ∷ [])
-  pub no_chain : Chain link 2 (0 ∷ 1 ∷ []) → ⊥
-  pub short_chain : Chain link 1 (0 ∷ []) → ⊥
+  pub chain : PageChain link 1 (0 ∷ 1 ∷ [])
+  pub no_chain : PageChain link 2 (0 ∷ 1 ∷ []) → ⊥
+  pub short_chain : PageChain link 1 (0 ∷ []) → ⊥
   pub claimed : pages_at states 3 0 ≡ 2
   pub claimed_other : pages_at states 3 1 ≡ 1
   pub to_give : owed uses states 3 2 ≡ 2
@@ -118,7 +118,7 @@ pub record MemoryExamples : Type 0 where
   pub keeps : (without_slot with_one 0).fills ≡ with_one.fills
   pub claims : Claims (Got 3 1) 1
   pub claims_not : Claims Idle 1 → ⊥
-  pub closes : Closes (Owes 4) 4
-  pub closes_not : Closes Calm 4 → ⊥
-  pub gives : Gives (Giving 4 2) 4 2
-  pub gives_not : Gives (Past 4 2 0) 4 3 → ⊥
+  pub closes : ClosesSlot (Owes 4) 4
+  pub closes_not : ClosesSlot Calm 4 → ⊥
+  pub gives : ReturnsChain (Giving 4 2) 4 2
+  pub gives_not : ReturnsChain (Past 4 2 0) 4 3 → ⊥

@@ -2,7 +2,7 @@
 use Rattle.std.specs.Prelude.{◌≡◌, ◌≢◌, ℕ, suc, ◌+◌, ◌/◌, ◌%◌, ◌<◌, ◌≤◌, false, true, List, length, None, slice_set, slice_index}
 use Rattle.rgo_sound.specs.Code.Code.{Code}
 use Rattle.rgo_sound.specs.Memory.Memory.{Object}
-use Rattle.rgo_sound.specs.RegionMachine.Objects.{words as words_in, cells, data_pages, is_spread}
+use Rattle.rgo_sound.specs.RegionMachine.Objects.{object_words as words_in, cells, data_pages, is_spread}
 use Rattle.rgo_core_memory.specs.Spread.{table_words, words_before}
 use Rattle.rgo_sound.specs.RegionMachine.Regions.{is_live}
 use Rattle.rgo_sound.specs.RegionMachine.Room.{live_regions, pages_in_use}
@@ -13,26 +13,26 @@ use Rattle.rgo_sound.specs.Good.{AllGood}
 use Rattle.rgo_core_memory.specs.declared.layout.TableSizes.{TableSizes}
 use Rattle.rgo_core_memory.specs.Words.{cell_at, base, all_words, count_at, state_at}
 use Rattle.rgo_core_memory.specs.Encoding.{address, content}
-use Rattle.rgo_core_memory.specs.Records.{Fill, Rec, Has, Owns}
-use Rattle.rgo_core_memory.specs.Ground.{Ground, Stands, ground_of, stored, taken_of}
+use Rattle.rgo_core_memory.specs.Records.{Fill, Rec, HasRecord, Owns}
+use Rattle.rgo_core_memory.specs.Ground.{Ground, IsLiveObject, ground_of, stored, taken_of}
 use Rattle.rgo_core_memory.specs.Pages.{times}
-use Rattle.rgo_core_memory.specs.Image.{Where, Image, Memory, word_at}
+use Rattle.rgo_core_memory.specs.Image.{Where, MemoryImage, StateImage, word_at}
 
 -- the object is in a live region of the state
 abbrev pub StandsIn : RegionState → ℕ → Object → Region → Type 0
-StandsIn s o object r = Stands s.plain.memory.heap s.owners s.regions o object r
+StandsIn s o object r = IsLiveObject s.plain.memory.heap s.owners s.regions o object r
 
 -- two live objects of one address are one
 abbrev pub OneAddress : Type 0
 OneAddress = (z : TableSizes) (words : List ℕ) (recs : List Rec) (s : RegionState) (places : Where)
-    → Memory z words recs s places
+    → StateImage z words recs s places
     → (o p : ℕ) (a b : Object) (r q : Region) → StandsIn s o a r → StandsIn s p b q
     → address z places.start o ≡ address z places.start p → o ≡ p
 
 -- the words of an object that is not spread follow one another from its address on, in the table
 abbrev pub WordsFollow : Type 0
 WordsFollow = (z : TableSizes) (words : List ℕ) (recs : List Rec) (s : RegionState) (places : Where)
-    → Memory z words recs s places
+    → StateImage z words recs s places
     → (o i : ℕ) (object : Object) (r : Region) → StandsIn s o object r → is_spread z.page_words object ≡ false
     → i < words_in object → (word_at z places o i ≡ base z + (address z places.start o + i)) × (word_at z places o i < all_words z)
 
@@ -40,7 +40,7 @@ WordsFollow = (z : TableSizes) (words : List ℕ) (recs : List Rec) (s : RegionS
 -- lead to its cells.
 abbrev pub SpreadFollows : Type 0
 SpreadFollows = (z : TableSizes) (words : List ℕ) (recs : List Rec) (s : RegionState) (places : Where)
-    → Memory z words recs s places
+    → StateImage z words recs s places
     → (o : ℕ) (object : Object) (r : Region) → StandsIn s o object r → is_spread z.page_words object ≡ true
     → (pages : List ℕ)
     × ((i : ℕ) → i < words_before object → word_at z places o i ≡ base z + (address z places.start o + i))
@@ -52,7 +52,7 @@ SpreadFollows = (z : TableSizes) (words : List ℕ) (recs : List Rec) (s : Regio
 -- the count of a live region is small
 abbrev pub CountIsSmall : Type 0
 CountIsSmall = (code : Code) (z : TableSizes) (words : List ℕ) (recs : List Rec) (s : RegionState) (places : Where)
-    (j : ℕ) → AllGood code s → Memory z words recs s places
+    (j : ℕ) → AllGood code s → StateImage z words recs s places
     → is_live s.regions (Numbered j) ≡ true
     → slice_index words (count_at z (places.slot j)) ≤ suc (length s.holders + length s.holders)
 
@@ -60,40 +60,40 @@ CountIsSmall = (code : Code) (z : TableSizes) (words : List ℕ) (recs : List Re
 -- created
 abbrev pub AllFound : Type 0
 AllFound = (z : TableSizes) (words : List ℕ) (recs : List Rec) (s : RegionState) (places : Where)
-    → Memory z words recs s places → (g : ℕ) (c : Rec) → Has recs g c
+    → StateImage z words recs s places → (g : ℕ) (c : Rec) → HasRecord recs g c
     → (((p : ℕ) → p < z.pages → 0 < times p c.tried_pages) → z.pages ≤ taken_of (ground_of s))
     × (((r : ℕ) → r < z.slots → 0 < times r c.tried_slots) → z.slots ≤ length s.regions)
 
 -- where a page is free, fewer are in use than there are; where a slot is, fewer regions are live
 abbrev pub SomeLeft : Type 0
 SomeLeft = (z : TableSizes) (words : List ℕ) (recs : List Rec) (s : RegionState) (places : Where)
-    → Memory z words recs s places
+    → StateImage z words recs s places
     → ((p : ℕ) → p < z.pages → slice_index words (state_at z p) ≡ 0 → pages_in_use s < z.pages)
     × ((r : ℕ) → r < z.slots → slice_index words (count_at z r) ≡ 0 → live_regions s < z.slots)
 
 -- a word that the object does not determine may be written: any of a channel but its capacity
 abbrev pub UntoldKeeps : Type 0
 UntoldKeeps = (z : TableSizes) (words : List ℕ) (recs : List Rec) (x : Ground) (places : Where)
-    → Image z words recs x places → (o : ℕ) (object : Object) (r : Region)
-    → Stands x.heap x.owners x.regions o object r → (i v : ℕ) → i < words_in object → content object i ≡ None
-    → Image z (slice_set words (word_at z places o i) v) recs x places
+    → MemoryImage z words recs x places → (o : ℕ) (object : Object) (r : Region)
+    → IsLiveObject x.heap x.owners x.regions o object r → (i v : ℕ) → i < words_in object → content object i ≡ None
+    → MemoryImage z (slice_set words (word_at z places o i) v) recs x places
 
 -- and a channel may change in what its words do not say
 abbrev pub QueueKeeps : Type 0
 QueueKeeps = (z : TableSizes) (words : List ℕ) (recs : List Rec) (x : Ground) (places : Where)
-    → Image z words recs x places → (o : ℕ) (object : Object) (r : Region)
-    → Stands x.heap x.owners x.regions o object r → (after : Object) → words_in after ≡ words_in object
+    → MemoryImage z words recs x places → (o : ℕ) (object : Object) (r : Region)
+    → IsLiveObject x.heap x.owners x.regions o object r → (after : Object) → words_in after ≡ words_in object
     → cells after ≡ cells object → ((j : ℕ)
     → content after j ≡ content object j)
-    → Image z words recs (stored x o after) places
+    → MemoryImage z words recs (stored x o after) places
 
 -- no two words of objects, page numbers among them, are one word of the list, and none is a word above the fill of an own page
 abbrev pub WordsDiffer : Type 0
 WordsDiffer = (z : TableSizes) (words : List ℕ) (recs : List Rec) (x : Ground) (places : Where)
-    → Image z words recs x places
-    → ((o p i j : ℕ) (a b : Object) (r q : Region) → Stands x.heap x.owners x.regions o a r
-    → Stands x.heap x.owners x.regions p b q
+    → MemoryImage z words recs x places
+    → ((o p i j : ℕ) (a b : Object) (r q : Region) → IsLiveObject x.heap x.owners x.regions o a r
+    → IsLiveObject x.heap x.owners x.regions p b q
     → i < table_words z.page_words a → j < table_words z.page_words b → (o ≡ p → i ≡ j → ⊥) → word_at z places o i ≢ word_at z places p j)
-    × ((g o i j : ℕ) (f : Fill) (a : Object) (r : Region) → Owns recs g f → Stands x.heap x.owners x.regions o a r
+    × ((g o i j : ℕ) (f : Fill) (a : Object) (r : Region) → Owns recs g f → IsLiveObject x.heap x.owners x.regions o a r
     → i < table_words z.page_words a → f.fill + j < z.page_words
     → cell_at z f.page (f.fill + j) ≢ word_at z places o i)

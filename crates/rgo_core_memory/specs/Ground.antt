@@ -5,7 +5,7 @@ use Rattle.rgo_sound.specs.Memory.declared.values.Value.{Value}
 use Rattle.rgo_sound.specs.Memory.declared.values.Value.TheVariants as value
 use Rattle.rgo_sound.specs.Memory.Memory.{Object}
 use Rattle.rgo_sound.specs.RegionMachine.Objects.{with_fill}
-use Rattle.rgo_sound.specs.RegionMachine.Regions.{RegionInfo, is_live, with_info, one_more, one_fewer, one_page_more, without}
+use Rattle.rgo_sound.specs.RegionMachine.Regions.{RegionInfo, is_live, with_info, with_added_stake, one_fewer, one_page_more, without}
 use Rattle.rgo_sound.specs.RegionMachine.States.{Holder, RegionState}
 use Rattle.rgo_sound.specs.RegionMachine.declared.regions.Region.{Region}
 use Rattle.rgo_sound.specs.RegionMachine.declared.regions.Region.TheVariants.{Global as GlobalRegion, Numbered}
@@ -41,7 +41,7 @@ ground_of s = record {
 }
 
 -- object o is this one, and its region is live
-pub record Stands (heap : List Object) (owners : List Region) (regions : List RegionInfo) (o : ℕ) (object : Object)
+pub record IsLiveObject (heap : List Object) (owners : List Region) (regions : List RegionInfo) (o : ℕ) (object : Object)
     (r : Region) : Type 0 where
   pub there : slice_get heap o ≡ Some object
   pub owner : slice_get owners o ≡ Some r
@@ -52,9 +52,9 @@ abbrev pub taken_of : Ground → ℕ
 taken_of x = x.global_pages + sum_by (λ info. info.pages) x.regions
 
 -- a region that a goroutine may use: Global, or one in which it has a stake
-abbrev pub Uses : Held → Region → Type 0
-Uses h GlobalRegion = Unit {0}
-Uses h (Numbered k) = is_in k h.stakes ≡ true
+abbrev pub MayUseRegion : Held → Region → Type 0
+MayUseRegion h GlobalRegion = Unit {0}
+MayUseRegion h (Numbered k) = is_in k h.stakes ≡ true
 
 -- ---- what steps do
 
@@ -106,7 +106,7 @@ created x g h = record x {
 }
 
 abbrev pub shared : Ground → ℕ → Ground
-shared x k = record x { regions = with_info x.regions k one_more }
+shared x k = record x { regions = with_info x.regions k with_added_stake }
 
 abbrev pub left : Ground → ℕ → Held → ℕ → Ground
 left x g h k = record x {

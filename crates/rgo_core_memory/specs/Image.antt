@@ -2,13 +2,13 @@
 use Rattle.std.specs.Prelude.{ℕ, List, length}
 use Rattle.rgo_sound.specs.RegionMachine.States.{RegionState}
 use Rattle.rgo_core_memory.specs.declared.layout.TableSizes.{TableSizes}
-use Rattle.rgo_core_memory.specs.Words.{Words, Shows, cell_at}
+use Rattle.rgo_core_memory.specs.Words.{Words, ListHasWords, cell_at}
 use Rattle.rgo_sound.specs.Memory.declared.values.Value.{Value}
 use Rattle.rgo_core_memory.specs.Encoding.{Spot, address, encode}
 use Rattle.rgo_core_memory.specs.Records.{Rec}
 use Rattle.rgo_core_memory.specs.Ground.{Ground, ground_of, taken_of}
 use Rattle.rgo_core_memory.specs.Pages.{Place, Pages}
-use Rattle.rgo_core_memory.specs.Parts.{Lies, Own, Filled, Use, Counts, Paged, Taken}
+use Rattle.rgo_core_memory.specs.Parts.{Lies, Own, OwnPagesFilled, Use, SlotCounts, Paged, Taken}
 
 -- what the words and records do not say
 pub record Where : Type 0 where
@@ -27,20 +27,20 @@ pub record Where : Type 0 where
   -- the page of each step that took one
   pub page : ℕ → ℕ
 
-pub record Image (z : TableSizes) (words : List ℕ) (recs : List Rec) (x : Ground) (a : Where) : Type 0 where
+pub record MemoryImage (z : TableSizes) (words : List ℕ) (recs : List Rec) (x : Ground) (a : Where) : Type 0 where
   pub w : Words
-  pub shows : Shows z words w
+  pub shows : ListHasWords z words w
   pub lies : Lies z w.variable w.cell x.variables x.heap x.owners x.regions a.spot a.start
   pub own : Own z w.state w.cell recs x.heap x.owners x.regions a.slot a.spot
-  pub filled : Filled z recs x.held (length x.regions) a.slot
-  pub counts : Counts z w.count a.top recs x.regions a.slot a.uses
+  pub filled : OwnPagesFilled z recs x.held (length x.regions) a.slot
+  pub counts : SlotCounts z w.count a.top recs x.regions a.slot a.uses
   pub pages : Pages w.state w.next w.head recs a.at a.chain a.link a.top
   pub paged : Paged z w.state x.regions x.global_pages a.slot
   pub taken : Taken z w.state w.count recs (taken_of x) (length x.regions) a.slot a.page
 
 -- the same of a state
-abbrev pub Memory : TableSizes → List ℕ → List Rec → RegionState → Where → Type 0
-Memory z words recs s places = Image z words recs (ground_of s) places
+abbrev pub StateImage : TableSizes → List ℕ → List Rec → RegionState → Where → Type 0
+StateImage z words recs s places = MemoryImage z words recs (ground_of s) places
 
 -- the position of an object's word, and the word of a value
 abbrev pub word_at : TableSizes → Where → ℕ → ℕ → ℕ

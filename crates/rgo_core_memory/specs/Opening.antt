@@ -5,7 +5,7 @@ use Rattle.rgo_sound.specs.RegionMachine.Machine.{region_start}
 use Rattle.rgo_core_memory.specs.declared.layout.TableSizes.{TableSizes}
 use Rattle.rgo_core_memory.specs.Words.{all_words, count_at, made_at}
 use Rattle.rgo_core_memory.specs.Records.{Rec, Rest, Idle, Calm}
-use Rattle.rgo_core_memory.specs.Image.{Where, Memory}
+use Rattle.rgo_core_memory.specs.Image.{Where, StateImage}
 use Rattle.rgo_core_memory.specs.Pages.{Free}
 use Rattle.rgo_core_memory.specs.Parts.{Vacant}
 
@@ -42,4 +42,4 @@ nowhere = record {
 
 abbrev pub Opens : Type 0
 Opens = (code : Code) (z : TableSizes) → length code.variables ≤ z.variables
-    → Memory z (first_words z) (first_record ∷ []) (region_start code) nowhere
+    → StateImage z (first_words z) (first_record ∷ []) (region_start code) nowhere

@@ -6,9 +6,9 @@ use Rattle.rgo_sound.specs.RegionMachine.States.{RegionState}
 use Rattle.rgo_sound.specs.Good.{AllGood}
 use Rattle.rgo_core_memory.specs.declared.layout.TableSizes.{TableSizes}
 use Rattle.rgo_core_memory.specs.Words.{put, state_at, count_at}
-use Rattle.rgo_core_memory.specs.Records.{Past, Gave, Rec, Has}
+use Rattle.rgo_core_memory.specs.Records.{Past, Gave, Rec, HasRecord}
 use Rattle.rgo_core_memory.specs.Parts.{Use, Vacant, Living, Closing, pages_at}
-use Rattle.rgo_core_memory.specs.Image.{Where, Memory}
+use Rattle.rgo_core_memory.specs.Image.{Where, StateImage}
 
 -- of a slot with n pages
 abbrev pub owed_at : Use → ℕ → ℕ
@@ -27,17 +27,17 @@ to_free z words uses = owed uses (λ p. slice_index words (state_at z p)) z.page
 -- the end of the last stake, a page that is freed, and a slot that is freed
 pub record StillOwed : Type 0 where
   pub leave : (z : TableSizes) (words : List ℕ) (recs : List Rec) (s : RegionState) (places : Where)
-      → Memory z words recs s places
+      → StateImage z words recs s places
       → (g j n : ℕ) (info : RegionInfo) → slice_get s.regions j ≡ Some info → 0 < info.stakes
       → to_free z (slice_set words (count_at z (places.slot j)) n) (put places.uses (places.slot j)
       (Closing g)) ≡ to_free z words places.uses + info.pages
   pub free : (code : Code) (z : TableSizes) (words : List ℕ) (recs : List Rec) (s : RegionState) (places : Where)
-      → AllGood code s → Memory z words recs s places
-      → (g r p q : ℕ) (c : Rec) → Has recs g c → c.give ≡ Past r (suc p) q
+      → AllGood code s → StateImage z words recs s places
+      → (g r p q : ℕ) (c : Rec) → HasRecord recs g c → c.give ≡ Past r (suc p) q
       → suc (to_free z (slice_set words (state_at z p) 0) places.uses) ≡ to_free z words places.uses
   pub slot : (code : Code) (z : TableSizes) (words : List ℕ) (recs : List Rec) (s : RegionState) (places : Where)
-      → AllGood code s → Memory z words recs s places
-      → (g r : ℕ) (c : Rec) → Has recs g c → c.give ≡ Gave r
+      → AllGood code s → StateImage z words recs s places
+      → (g r : ℕ) (c : Rec) → HasRecord recs g c → c.give ≡ Gave r
       → to_free z (slice_set words (count_at z r) 0) (put places.uses r Vacant) ≡ to_free z words places.uses
 
 -- ---- slot by slot
@@ -48,23 +48,23 @@ claimed_for z words s = pages_at (λ p. slice_index words (state_at z p)) z.page
 
 pub record StillClaimed : Type 0 where
   -- for a live region its pages
-  pub live : (z : TableSizes) (words : List ℕ) (recs : List Rec) (s : RegionState) (places : Where) → Memory z words recs s places
+  pub live : (z : TableSizes) (words : List ℕ) (recs : List Rec) (s : RegionState) (places : Where) → StateImage z words recs s places
       → (j : ℕ) (info : RegionInfo) → slice_get s.regions j ≡ Some info → 0 < info.stakes
       → info.pages ≡ claimed_for z words (places.slot j)
   -- a page that is freed is one less for its slot alone
   pub free : (code : Code) (z : TableSizes) (words : List ℕ) (recs : List Rec) (s : RegionState) (places : Where)
-      → AllGood code s → Memory z words recs s places
-      → (g r p q : ℕ) (c : Rec) → Has recs g c → c.give ≡ Past r (suc p) q
+      → AllGood code s → StateImage z words recs s places
+      → (g r p q : ℕ) (c : Rec) → HasRecord recs g c → c.give ≡ Past r (suc p) q
       → (suc (claimed_for z (slice_set words (state_at z p) 0) r) ≡ claimed_for z words r)
       × ((t : ℕ) → t ≢ r → claimed_for z (slice_set words (state_at z p) 0) t ≡ claimed_for z words t)
   -- a page that is claimed is one more for its slot alone
-  pub claim : (z : TableSizes) (words : List ℕ) (recs : List Rec) (s : RegionState) (places : Where) → Memory z words recs s places
+  pub claim : (z : TableSizes) (words : List ℕ) (recs : List Rec) (s : RegionState) (places : Where) → StateImage z words recs s places
       → (p r t : ℕ) → p < z.pages → slice_index words (state_at z p) ≡ 0 → t ≢ r
       → claimed_for z (slice_set words (state_at z p) (suc r)) t ≡ claimed_for z words t
-  -- none is left where the chain was given back
+  -- none is left if the chain was returned
   pub none : (code : Code) (z : TableSizes) (words : List ℕ) (recs : List Rec) (s : RegionState) (places : Where)
-      → AllGood code s → Memory z words recs s places
-      → (g r : ℕ) (c : Rec) → Has recs g c → c.give ≡ Gave r → claimed_for z words r ≡ 0
+      → AllGood code s → StateImage z words recs s places
+      → (g r : ℕ) (c : Rec) → HasRecord recs g c → c.give ≡ Gave r → claimed_for z words r ≡ 0
   -- no other word counts
   pub beside : (z : TableSizes) (words : List ℕ) (i n : ℕ) → ((p : ℕ) → p < z.pages → i ≢ state_at z p)
       → (t : ℕ) → claimed_for z (slice_set words i n) t ≡ claimed_for z words t

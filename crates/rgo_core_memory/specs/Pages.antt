@@ -1,6 +1,6 @@
 -- Pages, the chains on which they are, and who is at work on them.
 use Rattle.std.specs.Prelude.{◌≡◌, ◌⊎◌, ℕ, suc, ◌<◌, ◌≤◌, ◌==◌, List, [], ◌∷◌, if◌then◌else◌}
-use Rattle.rgo_core_memory.specs.Records.{Rec, Has, Got, Hung, Past, Gave, Gives}
+use Rattle.rgo_core_memory.specs.Records.{Rec, HasRecord, Got, Hung, Past, Gave, ReturnsChain}
 
 -- where a page is: free, on the chain of a slot, or claimed by a goroutine
 pub data Place : Type 0 where
@@ -13,9 +13,9 @@ times x [] = 0
 times x (y ∷ ys) = if y == x then suc (times x ys) else times x ys
 
 -- from this head the links lead through these pages
-abbrev pub Chain : (ℕ → ℕ) → ℕ → List ℕ → Type 0
-Chain link h [] = h ≡ 0
-Chain link h (p ∷ ps) = (h ≡ suc p) × Chain link (link p) ps
+abbrev pub PageChain : (ℕ → ℕ) → ℕ → List ℕ → Type 0
+PageChain link h [] = h ≡ 0
+PageChain link h (p ∷ ps) = (h ≡ suc p) × PageChain link (link p) ps
 
 -- Beside the words: where each page is, the chain of each slot, the true next of each page, which is in its word or in the
 -- record of its claimer, and the true head of each chain, which is in its word or in the record of its giver.
@@ -24,16 +24,16 @@ pub record Pages (states nexts heads : ℕ → ℕ) (recs : List Rec) (at : ℕ 
   where
     pub is_free : (p : ℕ) → at p ≡ Free → states p ≡ 0
     pub is_chained : (p r : ℕ) → at p ≡ Chained r → (states p ≡ suc r) × (0 < times p (chain r))
-    pub is_claimed : (p g : ℕ) → at p ≡ Claimed g → (r : ℕ) × (c : Rec) × Has recs g c × (c.claim ≡ Got p r)
+    pub is_claimed : (p g : ℕ) → at p ≡ Claimed g → (r : ℕ) × (c : Rec) × HasRecord recs g c × (c.claim ≡ Got p r)
         × (states p ≡ suc r)
     pub on : (r p : ℕ) → 0 < times p (chain r) → at p ≡ Chained r
     pub once : (r p : ℕ) → times p (chain r) ≤ 1
-    pub chains : (r : ℕ) → Chain link (top r) (chain r)
-    pub links : (p r : ℕ) → at p ≡ Chained r → (nexts p ≡ link p) ⊎ ((g : ℕ) × (c : Rec) × Has recs g c
+    pub chains : (r : ℕ) → PageChain link (top r) (chain r)
+    pub links : (p r : ℕ) → at p ≡ Chained r → (nexts p ≡ link p) ⊎ ((g : ℕ) × (c : Rec) × HasRecord recs g c
         × (c.claim ≡ Hung p r (link p)))
-    pub tops : (r : ℕ) → (top r ≡ heads r) ⊎ ((g : ℕ) × (c : Rec) × Has recs g c × Gives c.give r (top r))
-    pub gots : (g p r : ℕ) (c : Rec) → Has recs g c → c.claim ≡ Got p r → (at p ≡ Claimed g) × (states p ≡ suc r)
-    pub hungs : (g p r old : ℕ) (c : Rec) → Has recs g c → c.claim ≡ Hung p r old → (at p ≡ Chained r) × (link p ≡ old)
-    pub cursors : (g r h : ℕ) (c : Rec) → Has recs g c → Gives c.give r h → top r ≡ h
-    pub pasts : (g r p q : ℕ) (c : Rec) → Has recs g c → c.give ≡ Past r (suc p) q → link p ≡ q
-    pub gaves : (g r : ℕ) (c : Rec) → Has recs g c → c.give ≡ Gave r → (heads r ≡ 0) × (chain r ≡ [])
+    pub tops : (r : ℕ) → (top r ≡ heads r) ⊎ ((g : ℕ) × (c : Rec) × HasRecord recs g c × ReturnsChain c.give r (top r))
+    pub gots : (g p r : ℕ) (c : Rec) → HasRecord recs g c → c.claim ≡ Got p r → (at p ≡ Claimed g) × (states p ≡ suc r)
+    pub hungs : (g p r old : ℕ) (c : Rec) → HasRecord recs g c → c.claim ≡ Hung p r old → (at p ≡ Chained r) × (link p ≡ old)
+    pub cursors : (g r h : ℕ) (c : Rec) → HasRecord recs g c → ReturnsChain c.give r h → top r ≡ h
+    pub pasts : (g r p q : ℕ) (c : Rec) → HasRecord recs g c → c.give ≡ Past r (suc p) q → link p ≡ q
+    pub gaves : (g r : ℕ) (c : Rec) → HasRecord recs g c → c.give ≡ Gave r → (heads r ≡ 0) × (chain r ≡ [])

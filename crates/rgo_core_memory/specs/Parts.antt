@@ -3,15 +3,15 @@ use Rattle.std.specs.Prelude.{◌≡◌, ◌≢◌, ◌⊎◌, ℕ, zero, suc, �
 use Rattle.std.specs.Prelude.{slice_get, slice_index}
 use Rattle.rgo_sound.specs.Memory.declared.values.Value.{Value}
 use Rattle.rgo_sound.specs.Memory.Memory.{Object}
-use Rattle.rgo_sound.specs.RegionMachine.Objects.{words, fill_of, data_pages, is_spread, is_too_large}
+use Rattle.rgo_sound.specs.RegionMachine.Objects.{object_words, fill_of, data_pages, is_spread, is_too_large}
 use Rattle.rgo_sound.specs.RegionMachine.Room.{pages_of}
 use Rattle.rgo_sound.specs.RegionMachine.Regions.{RegionInfo}
 use Rattle.rgo_sound.specs.RegionMachine.declared.regions.Region.{Region}
 use Rattle.rgo_sound.specs.RegionMachine.declared.regions.Region.TheVariants.{Global as GlobalRegion, Numbered}
 use Rattle.rgo_core_memory.specs.declared.layout.TableSizes.{TableSizes}
 use Rattle.rgo_core_memory.specs.Encoding.{Spot, address, encode, content, IsPlain, opening}
-use Rattle.rgo_core_memory.specs.Ground.{Held, Stands, Uses}
-use Rattle.rgo_core_memory.specs.Records.{Fill, Rest, Amid, Across, Rec, Has, Within, Owns, Claims, Closes}
+use Rattle.rgo_core_memory.specs.Ground.{Held, IsLiveObject, MayUseRegion}
+use Rattle.rgo_core_memory.specs.Records.{Fill, Rest, Amid, Across, Rec, HasRecord, Within, Owns, Claims, ClosesSlot}
 use Rattle.rgo_core_memory.specs.Spread.{lead_spot, table_words, spread_spot, spread_opening}
 use Rattle.rgo_core_memory.specs.Pages.{times}
 
@@ -25,26 +25,26 @@ pub record SpreadOver (z : TableSizes) (cell : ℕ → ℕ → ℕ) (spots : ℕ
     pub many : length pages ≡ pages_of z.page_words object
     pub laid : (i : ℕ) → i < table_words z.page_words object → spots i ≡ spread_spot z.page_words object pages i
     pub numbers : (j : ℕ) → j < data_pages z.page_words object
-        → cell (spots (words object + j)).page (spots (words object + j)).offset ≡ suc (slice_index pages (suc j))
+        → cell (spots (object_words object + j)).page (spots (object_words object + j)).offset ≡ suc (slice_index pages (suc j))
 
 pub record Lies (z : TableSizes) (variable : ℕ → ℕ) (cell : ℕ → ℕ
     → ℕ) (values : List Value) (heap : List Object) (owners : List Region)
     (regions : List RegionInfo) (spot : ℕ → ℕ → Spot) (start : ℕ → Spot) : Type 0 where
   -- each word of a live object is a word of a page
-  pub inside : (o i : ℕ) (object : Object) (r : Region) → Stands heap owners regions o object r
+  pub inside : (o i : ℕ) (object : Object) (r : Region) → IsLiveObject heap owners regions o object r
       → i < table_words z.page_words object → ((spot o i).page < z.pages) × ((spot o i).offset < z.page_words)
   -- and holds its value
-  pub shows : (o i : ℕ) (object : Object) (r : Region) (v : Value) → Stands heap owners regions o object r
+  pub shows : (o i : ℕ) (object : Object) (r : Region) (v : Value) → IsLiveObject heap owners regions o object r
       → content object i ≡ Some v → cell (spot o i).page (spot o i).offset ≡ encode (address z start) v
   -- no two words share one
-  pub apart : (o p i j : ℕ) (object other : Object) (r s : Region) → Stands heap owners regions o object r
-      → Stands heap owners regions p other s → i < table_words z.page_words object → j < table_words z.page_words other
+  pub apart : (o p i j : ℕ) (object other : Object) (r s : Region) → IsLiveObject heap owners regions o object r
+      → IsLiveObject heap owners regions p other s → i < table_words z.page_words object → j < table_words z.page_words other
       → (spot o i).page ≡ (spot p j).page
       → (spot o i).offset ≡ (spot p j).offset → (o ≡ p) × (i ≡ j)
   -- an object that is not spread lies in one row
-  pub row : (o i : ℕ) (object : Object) (r : Region) → Stands heap owners regions o object r
-      → is_spread z.page_words object ≡ false → i < words object → ((spot o i).page ≡ (start o).page) × ((spot o i).offset ≡ (start o).offset + i)
-  pub spread : (o : ℕ) (object : Object) (r : Region) → Stands heap owners regions o object r
+  pub row : (o i : ℕ) (object : Object) (r : Region) → IsLiveObject heap owners regions o object r
+      → is_spread z.page_words object ≡ false → i < object_words object → ((spot o i).page ≡ (start o).page) × ((spot o i).offset ≡ (start o).offset + i)
+  pub spread : (o : ℕ) (object : Object) (r : Region) → IsLiveObject heap owners regions o object r
       → is_spread z.page_words object ≡ true → (pages : List ℕ) × SpreadOver z cell (spot o) (start o) object pages
   pub variables : (n : ℕ) (v : Value) → slice_get values n ≡ Some v
       → (n < z.variables) × (variable n ≡ encode (address z start) v)
@@ -60,9 +60,9 @@ slot_of z slot (Numbered k) = slot k
 
 -- an object that is being made: what of it is stored
 pub record Amidst (z : TableSizes) (cell : ℕ → ℕ → ℕ) (f : Fill) (object : Object) (stored : List ℕ) : Type 0 where
-  pub fits : f.fill + words object ≤ z.page_words
+  pub fits : f.fill + object_words object ≤ z.page_words
   pub plain : (i : ℕ) (v : Value) → content object i ≡ Some v → IsPlain v
-  pub laid : (i : ℕ) → i < words object → 0 < times i stored → cell f.page (f.fill + i) ≡ opening (content object i)
+  pub laid : (i : ℕ) → i < object_words object → 0 < times i stored → cell f.page (f.fill + i) ≡ opening (content object i)
 
 -- the same of a spread object, in these pages
 pub record Strewn (z : TableSizes) (cell : ℕ → ℕ → ℕ) (pages : List ℕ) (object : Object) (stored : List ℕ) : Type 0 where
@@ -78,15 +78,15 @@ pub record Strewn (z : TableSizes) (cell : ℕ → ℕ → ℕ) (pages : List �
 pub record Apart (z : TableSizes) (states : ℕ → ℕ) (cell : ℕ → ℕ → ℕ) (recs : List Rec) (heap : List Object)
     (owners : List Region) (regions : List RegionInfo) (spot : ℕ → ℕ → Spot) : Type 0 where
   pub nobody : (g o i : ℕ) (f : Fill) (object : Object) (r : Region) → Owns recs g f
-      → Stands heap owners regions o object r → is_spread z.page_words object ≡ true
+      → IsLiveObject heap owners regions o object r → is_spread z.page_words object ≡ true
       → i < table_words z.page_words object → (spot o i).page ≢ f.page
-  pub claimed : (g p : ℕ) (c : Rec) → Has recs g c → Within p c.reserved.pages → states p ≡ suc c.reserved.slot
-  pub unowned : (g h p : ℕ) (c : Rec) (f : Fill) → Has recs g c → Within p c.reserved.pages → Owns recs h f → f.page ≢ p
-  pub once : (g h k l p : ℕ) (c d : Rec) → Has recs g c → Has recs h d → slice_get c.reserved.pages k ≡ Some p
+  pub claimed : (g p : ℕ) (c : Rec) → HasRecord recs g c → Within p c.reserved.pages → states p ≡ suc c.reserved.slot
+  pub unowned : (g h p : ℕ) (c : Rec) (f : Fill) → HasRecord recs g c → Within p c.reserved.pages → Owns recs h f → f.page ≢ p
+  pub once : (g h k l p : ℕ) (c d : Rec) → HasRecord recs g c → HasRecord recs h d → slice_get c.reserved.pages k ≡ Some p
       → slice_get d.reserved.pages l ≡ Some p → (g ≡ h) × (k ≡ l)
-  pub empty : (g o i p : ℕ) (c : Rec) (object : Object) (r : Region) → Has recs g c → Within p c.reserved.pages
-      → Stands heap owners regions o object r → i < table_words z.page_words object → (spot o i).page ≢ p
-  pub strewn : (g : ℕ) (c : Rec) (object : Object) (stored : List ℕ) → Has recs g c → c.make ≡ Across object stored
+  pub empty : (g o i p : ℕ) (c : Rec) (object : Object) (r : Region) → HasRecord recs g c → Within p c.reserved.pages
+      → IsLiveObject heap owners regions o object r → i < table_words z.page_words object → (spot o i).page ≢ p
+  pub strewn : (g : ℕ) (c : Rec) (object : Object) (stored : List ℕ) → HasRecord recs g c → c.make ≡ Across object stored
       → Strewn z cell c.reserved.pages object stored
 
 pub record Own (z : TableSizes) (states : ℕ → ℕ) (cell : ℕ → ℕ
@@ -96,7 +96,7 @@ pub record Own (z : TableSizes) (states : ℕ → ℕ) (cell : ℕ → ℕ
   -- a page is claimed for a slot that there is; the last one is Global's
   pub for_slots : (p : ℕ) → states p ≤ suc z.slots
   -- a word of an object lies in a page of its region
-  pub homes : (o i : ℕ) (object : Object) (r : Region) → Stands heap owners regions o object r
+  pub homes : (o i : ℕ) (object : Object) (r : Region) → IsLiveObject heap owners regions o object r
       → i < table_words z.page_words object → states (spot o i).page ≡ suc (slot_of z slot r)
   -- own pages are claimed for their slot, and nobody else's
   pub claimed : (g : ℕ) (f : Fill) → Owns recs g f → states f.page ≡ suc f.slot
@@ -104,16 +104,16 @@ pub record Own (z : TableSizes) (states : ℕ → ℕ) (cell : ℕ → ℕ
   pub room : (g : ℕ) (f : Fill) → Owns recs g f → f.fill ≤ z.page_words
   -- nothing lies above the fill
   pub under : (g o i : ℕ) (f : Fill) (object : Object) (r : Region) → Owns recs g f
-      → Stands heap owners regions o object r
+      → IsLiveObject heap owners regions o object r
       → i < table_words z.page_words object → (spot o i).page ≡ f.page → (spot o i).offset < f.fill
-  pub amids : (g : ℕ) (c : Rec) (f : Fill) (object : Object) (stored : List ℕ) → Has recs g c
+  pub amids : (g : ℕ) (c : Rec) (f : Fill) (object : Object) (stored : List ℕ) → HasRecord recs g c
       → c.make ≡ Amid f object stored → Within f c.fills × Amidst z cell f object stored
   pub apart : Apart z states cell recs heap owners regions spot
 
 -- the goroutine makes this object, and these of its words were stored
-abbrev pub Makes : TableSizes → Rec → Fill → Object → List ℕ → Type 0
-Makes z c f object stored = (c.make ≡ Amid f object stored)
-    ⊎ ((c.make ≡ Rest) × (stored ≡ []) × Within f c.fills × (f.fill + words object ≤ z.page_words)
+abbrev pub RecordMakes : TableSizes → Rec → Fill → Object → List ℕ → Type 0
+RecordMakes z c f object stored = (c.make ≡ Amid f object stored)
+    ⊎ ((c.make ≡ Rest) × (stored ≡ []) × Within f c.fills × (f.fill + object_words object ≤ z.page_words)
     × ((i : ℕ) (v : Value) → content object i ≡ Some v → IsPlain v))
 
 -- the same of a spread object
@@ -125,7 +125,7 @@ MakesApart z c object stored = (c.make ≡ Across object stored)
 
 -- all of its words
 abbrev pub Covers : Object → List ℕ → Type 0
-Covers object stored = (i : ℕ) → i < words object → 0 < times i stored
+Covers object stored = (i : ℕ) → i < object_words object → 0 < times i stored
 
 -- the page numbers of a spread object too
 abbrev pub CoversApart : TableSizes → Object → List ℕ → Type 0
@@ -135,49 +135,49 @@ CoversApart z object stored = (i : ℕ) → i < table_words z.page_words object 
 
 -- the goroutine uses a region of that slot
 abbrev pub StakeAt : TableSizes → List Held → (ℕ → ℕ) → ℕ → ℕ → Type 0
-StakeAt z held slot g s = (h : Held) × (r : Region) × (slice_get held g ≡ Some h) × Uses h r × (slot_of z slot r ≡ s)
+StakeAt z held slot g s = (h : Held) × (r : Region) × (slice_get held g ≡ Some h) × MayUseRegion h r × (slot_of z slot r ≡ s)
 
 -- creations: how many regions were made
-pub record Filled (z : TableSizes) (recs : List Rec) (held : List Held) (creations : ℕ) (slot : ℕ → ℕ) : Type 0 where
+pub record OwnPagesFilled (z : TableSizes) (recs : List Rec) (held : List Held) (creations : ℕ) (slot : ℕ → ℕ) : Type 0 where
   -- an own page is of a region that the goroutine uses, and filled as the goroutine has filled it
   pub fills : (g : ℕ) (f : Fill) → Owns recs g f
-      → (h : Held) × (r : Region) × (slice_get held g ≡ Some h) × Uses h r × (slot_of z slot r ≡ f.slot)
+      → (h : Held) × (r : Region) × (slice_get held g ≡ Some h) × MayUseRegion h r × (slot_of z slot r ≡ f.slot)
       × (fill_of h.fills r ≡ Some f.fill)
   -- what it has filled of a region that it uses is an own page
-  pub owned : (g n : ℕ) (h : Held) (r : Region) → slice_get held g ≡ Some h → Uses h r → fill_of h.fills r ≡ Some n
+  pub owned : (g n : ℕ) (h : Held) (r : Region) → slice_get held g ≡ Some h → MayUseRegion h r → fill_of h.fills r ≡ Some n
       → (f : Fill) × Owns recs g f × (f.slot ≡ slot_of z slot r) × (f.fill ≡ n)
   -- one page of each slot
   pub single : (g : ℕ) (e f : Fill) → Owns recs g e → Owns recs g f → e.slot ≡ f.slot → e ≡ f
   -- pages are claimed where there is a stake
-  pub claims : (g s : ℕ) (c : Rec) → Has recs g c → Claims c.claim s → StakeAt z held slot g s
+  pub claims : (g s : ℕ) (c : Rec) → HasRecord recs g c → Claims c.claim s → StakeAt z held slot g s
   -- the reserved pages are as many as the goroutine has reserved, in a region that it uses
-  pub reserved : (g : ℕ) (c : Rec) → Has recs g c → 0 < length c.reserved.pages
-      → (h : Held) × (r : Region) × (slice_get held g ≡ Some h) × Uses h r × (slot_of z slot r ≡ c.reserved.slot)
+  pub reserved : (g : ℕ) (c : Rec) → HasRecord recs g c → 0 < length c.reserved.pages
+      → (h : Held) × (r : Region) × (slice_get held g ≡ Some h) × MayUseRegion h r × (slot_of z slot r ≡ c.reserved.slot)
       × (h.reserved ≡ length c.reserved.pages)
   pub recorded : (g : ℕ) (h : Held) → slice_get held g ≡ Some h → 0 < h.reserved
-      → (c : Rec) × Has recs g c × (h.reserved ≡ length c.reserved.pages)
+      → (c : Rec) × HasRecord recs g c × (h.reserved ≡ length c.reserved.pages)
   -- what was filled was made
   pub made : (g k n : ℕ) (h : Held) → slice_get held g ≡ Some h → fill_of h.fills (Numbered k) ≡ Some n → k < creations
 
 -- ---- counts
 
--- what a slot is used for: nothing, a region, or a region that has gone, whose chain a goroutine gives back
+-- what a slot is used for: nothing, a region, or a region that was removed, whose chain a goroutine returns
 pub data Use : Type 0 where
   Vacant : Use
   Living : (region : ℕ) → Use
   Closing : (goroutine : ℕ) → Use
 
-pub record Counts (z : TableSizes) (counts top : ℕ → ℕ) (recs : List Rec) (regions : List RegionInfo) (slot : ℕ
+pub record SlotCounts (z : TableSizes) (counts top : ℕ → ℕ) (recs : List Rec) (regions : List RegionInfo) (slot : ℕ
     → ℕ) (uses : ℕ → Use) : Type 0 where
   pub global : counts z.slots ≡ 2
   pub vacant : (s : ℕ) → s < z.slots → uses s ≡ Vacant → (counts s ≡ 0) × (top s ≡ 0)
   pub living : (s k : ℕ) → s < z.slots → uses s ≡ Living k
       → (slot k ≡ s) × (info : RegionInfo) × (slice_get regions k ≡ Some info) × (0 < info.stakes)
       × (counts s ≡ suc info.stakes)
-  pub closing : (s g : ℕ) → s < z.slots → uses s ≡ Closing g → (counts s ≡ 1) × (c : Rec) × Has recs g c × Closes c.give s
+  pub closing : (s g : ℕ) → s < z.slots → uses s ≡ Closing g → (counts s ≡ 1) × (c : Rec) × HasRecord recs g c × ClosesSlot c.give s
   pub lives : (k : ℕ) (info : RegionInfo) → slice_get regions k ≡ Some info → 0 < info.stakes
       → (slot k < z.slots) × (uses (slot k) ≡ Living k)
-  pub closes : (g s : ℕ) (c : Rec) → Has recs g c → Closes c.give s → (s < z.slots) × (uses s ≡ Closing g)
+  pub closes : (g s : ℕ) (c : Rec) → HasRecord recs g c → ClosesSlot c.give s → (s < z.slots) × (uses s ≡ Closing g)
 
 -- ---- how many pages a region has
 
@@ -196,10 +196,10 @@ pub record Paged (z : TableSizes) (states : ℕ → ℕ) (regions : List RegionI
 -- ---- what was taken and created
 
 abbrev pub TriedPage : List Rec → ℕ → Type 0
-TriedPage recs p = (g : ℕ) × (c : Rec) × Has recs g c × (0 < times p c.tried_pages)
+TriedPage recs p = (g : ℕ) × (c : Rec) × HasRecord recs g c × (0 < times p c.tried_pages)
 
 abbrev pub TriedSlot : List Rec → ℕ → Type 0
-TriedSlot recs s = (g : ℕ) × (c : Rec) × Has recs g c × (0 < times s c.tried_slots)
+TriedSlot recs s = (g : ℕ) × (c : Rec) × HasRecord recs g c × (0 < times s c.tried_slots)
 
 -- Each page that is claimed, or that a record found claimed, was taken by a step of its own; each slot that is in use, or that a
 -- record found in use, has a region of its own.

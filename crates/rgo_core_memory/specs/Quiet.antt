@@ -10,11 +10,11 @@ use Rattle.rgo_sound.specs.RegionMachine.Regions.{bound, unbind, removed_once}
 use Rattle.rgo_sound.specs.RegionMachine.States.{Duty, Create, Share, Protect, Unprotect, Remove, EndBase, Holder, RegionState, top_names, with_top}
 use Rattle.rgo_sound.specs.RegionMachine.declared.regions.Region.{Region}
 use Rattle.rgo_sound.specs.RegionMachine.declared.regions.Region.TheVariants.{Global as GlobalRegion, Numbered}
-use Rattle.rgo_sound.specs.Tac.Frames.{Frame}
+use Rattle.rgo_sound.specs.Tac.Frames.{TacFrame}
 use Rattle.rgo_core_memory.specs.declared.layout.TableSizes.{TableSizes}
 use Rattle.rgo_core_memory.specs.Records.{Rec}
 use Rattle.rgo_core_memory.specs.Opening.{first_record}
-use Rattle.rgo_core_memory.specs.Image.{Where, Memory}
+use Rattle.rgo_core_memory.specs.Image.{Where, StateImage}
 
 -- a region that is Global, or that the goroutine protects
 abbrev pub Spared : Holder → Region → Type 0
@@ -48,7 +48,7 @@ IsGo (Return value) = ⊥
 -- the event changes no word of memory; t is the state after it
 abbrev pub IsQuiet : Code → RegionState → RegionState → Event → Type 0
 IsQuiet code s t (Instruct (One g)) = (t.plain.memory ≡ s.plain.memory)
-    × ((frame : Frame) (callers : List Frame) (instr : CodeInstr)
+    × ((frame : TacFrame) (callers : List TacFrame) (instr : CodeInstr)
     → slice_get s.plain.goroutines g ≡ Some (frame ∷ callers) → current code frame ≡ Some instr → IsGo instr.op → ⊥)
 IsQuiet code s t (Instruct (Meet r u)) = Unit {0}
 IsQuiet code s t (Attend g) = (h : Holder) (d : Duty) (ds : List Duty) → slice_get s.holders g ≡ Some h
@@ -60,14 +60,14 @@ IsQuiet code s t (Finish limit) = Unit {0}
 
 abbrev pub QuietKeeps : Type 0
 QuietKeeps = (code : Code) (z : TableSizes) (words : List ℕ) (recs : List Rec) (s t : RegionState) (e : Event)
-    (places : Where) → Memory z words recs s places
-    → region_step code z.page_words s e ≡ Some t → IsQuiet code s t e → Memory z words recs t places
+    (places : Where) → StateImage z words recs s places
+    → region_step code z.page_words s e ≡ Some t → IsQuiet code s t e → StateImage z words recs t places
 
 -- a goroutine starts, whose record has nothing of memory yet
 abbrev pub StartKeeps : Type 0
 StartKeeps = (code : Code) (z : TableSizes) (words : List ℕ) (recs : List Rec) (s t : RegionState) (g : ℕ)
-    (places : Where) → Memory z words recs s places
+    (places : Where) → StateImage z words recs s places
     → region_step code z.page_words s (Instruct (One g)) ≡ Some t
-    → (frame : Frame) (callers : List Frame) (instr : CodeInstr)
+    → (frame : TacFrame) (callers : List TacFrame) (instr : CodeInstr)
     → slice_get s.plain.goroutines g ≡ Some (frame ∷ callers) → current code frame ≡ Some instr
-    → IsGo instr.op → t.plain.memory ≡ s.plain.memory → Memory z words (recs ++ first_record ∷ []) t places
+    → IsGo instr.op → t.plain.memory ≡ s.plain.memory → StateImage z words (recs ++ first_record ∷ []) t places

@@ -1,6 +1,6 @@
 -- What the record of a goroutine has of memory: its own pages, the object that it makes, the page that it claims, and the
--- chain that it gives back.
-use Rattle.std.specs.Prelude.{◌≡◌, ℕ, List, [], ◌∷◌, ◌++◌, Option, Some, slice_get, nat_eq, if◌then◌else◌}
+-- chain that it returns.
+use Rattle.std.specs.Prelude.{◌≡◌, ℕ, List, [], ◌∷◌, ◌++◌, Option, None, Some, slice_get, nat_eq, if◌then◌else◌}
 use Rattle.rgo_sound.specs.Memory.Memory.{Object}
 
 -- an own page, claimed for a slot, and how many words of it are filled
@@ -14,7 +14,7 @@ pub record Reserved : Type 0 where
   pub slot : ℕ
   pub pages : List ℕ
 
--- nothing; an object behind what is filled of an own page, with the numbers of its words stored so far; or the same of a
+-- nothing; an object after what is filled of an own page, with the numbers of its words stored so far; or the same of a
 -- spread object, in the reserved pages
 pub data Make : Type 0 where
   Rest : Make
@@ -22,12 +22,12 @@ pub data Make : Type 0 where
   Across : (object : Object) (stored : List ℕ) → Make
 
 -- nothing; a page that is claimed for a slot; or one that was put at its head before `old`, with its next word not yet stored
-pub data Claim : Type 0 where
-  Idle : Claim
-  Got : (page slot : ℕ) → Claim
-  Hung : (page slot old : ℕ) → Claim
+pub data PageClaim : Type 0 where
+  Idle : PageClaim
+  Got : (page slot : ℕ) → PageClaim
+  Hung : (page slot old : ℕ) → PageClaim
 
--- Nothing; or the chain of a slot is being given back: its head is not loaded yet; the next page is known, by its number plus 1, or
+-- Nothing; or the chain of a slot is being returned: its head is not loaded yet; the next page is known, by its number plus 1, or
 -- 0 for none; so is the page after it; or all pages are free and the head is 0.
 pub data Give : Type 0 where
   Calm : Give
@@ -54,7 +54,7 @@ pub record Rec : Type 0 where
   pub fills : List Fill
   pub reserved : Reserved
   pub make : Make
-  pub claim : Claim
+  pub claim : PageClaim
   pub give : Give
   -- the page states and the counts that its call found not 0
   pub tried_pages : List ℕ
@@ -65,39 +65,44 @@ pub record Rec : Type 0 where
   pub located : Option Located
 
 -- goroutine g has this record
-abbrev pub Has : List Rec → ℕ → Rec → Type 0
-Has recs g c = slice_get recs g ≡ Some c
+abbrev pub HasRecord : List Rec → ℕ → Rec → Type 0
+HasRecord recs g c = slice_get recs g ≡ Some c
 
 abbrev pub Within : {A : Type 0} → A → List A → Type 0
 Within x l = (k : ℕ) × (slice_get l k ≡ Some x)
 
 -- the own page is that goroutine's
 abbrev pub Owns : List Rec → ℕ → Fill → Type 0
-Owns recs g f = (c : Rec) × Has recs g c × Within f c.fills
+Owns recs g f = (c : Rec) × HasRecord recs g c × Within f c.fills
 
--- the chain of the slot is given back, from this page on
-abbrev pub Gives : Give → ℕ → ℕ → Type 0
-Gives Calm r h = ⊥
-Gives (Owes s) r h = ⊥
-Gives (Gave s) r h = ⊥
-Gives (Giving s c) r h = (s ≡ r) × (c ≡ h)
-Gives (Past s c q) r h = (s ≡ r) × (c ≡ h)
+-- the chain of the slot is being returned, from this page on
+abbrev pub ReturnsChain : Give → ℕ → ℕ → Type 0
+ReturnsChain Calm r h = ⊥
+ReturnsChain (Owes s) r h = ⊥
+ReturnsChain (Gave s) r h = ⊥
+ReturnsChain (Giving s c) r h = (s ≡ r) × (c ≡ h)
+ReturnsChain (Past s c q) r h = (s ≡ r) × (c ≡ h)
 
 -- the slot is closed by this
-abbrev pub Closes : Give → ℕ → Type 0
-Closes Calm r = ⊥
-Closes (Owes s) r = s ≡ r
-Closes (Giving s c) r = s ≡ r
-Closes (Past s c q) r = s ≡ r
-Closes (Gave s) r = s ≡ r
+abbrev pub ClosesSlot : Give → ℕ → Type 0
+ClosesSlot Calm r = ⊥
+ClosesSlot (Owes s) r = s ≡ r
+ClosesSlot (Giving s c) r = s ≡ r
+ClosesSlot (Past s c q) r = s ≡ r
+ClosesSlot (Gave s) r = s ≡ r
 
 -- a page is claimed for the slot by this
-abbrev pub Claims : Claim → ℕ → Type 0
+abbrev pub Claims : PageClaim → ℕ → Type 0
 Claims Idle r = ⊥
 Claims (Got p s) r = s ≡ r
 Claims (Hung p s o) r = s ≡ r
 
 -- ---- what steps do to a record
+
+-- the first own page of a slot
+abbrev pub page_of : (slot : ℕ) → List Fill → Option Fill
+page_of s [] = None
+page_of s (f ∷ fs) = if nat_eq s f.slot then Some f else page_of s fs
 
 -- the own pages of other slots
 abbrev pub dropped : ℕ → List Fill → List Fill
@@ -113,7 +118,7 @@ abbrev pub with_reserved : Rec → ℕ → ℕ → Rec
 with_reserved c p s =
     record c { reserved = record { slot = s; pages = c.reserved.pages ++ p ∷ [] }; claim = Got p s }
 
-abbrev pub with_claim : Rec → Claim → Rec
+abbrev pub with_claim : Rec → PageClaim → Rec
 with_claim c claim = record c { claim = claim }
 
 abbrev pub with_give : Rec → Give → Rec

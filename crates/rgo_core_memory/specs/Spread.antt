@@ -1,16 +1,16 @@
 -- Where the words of a spread object are. The numbers of its data pages, which its lead page has, come after its other words.
 use Rattle.std.specs.Prelude.{ℕ, suc, ◌+◌, ◌-◌, ◌/◌, ◌%◌, List, nat_lt, slice_index, if◌then◌else◌}
 use Rattle.rgo_sound.specs.Memory.Memory.{Object}
-use Rattle.rgo_sound.specs.RegionMachine.Objects.{cells, data_pages, words}
+use Rattle.rgo_sound.specs.RegionMachine.Objects.{cells, data_pages, object_words}
 use Rattle.rgo_core_memory.specs.Encoding.{Spot, content, opening}
 
 -- how many words of pages an object takes: of a spread one, the page numbers too
 abbrev pub table_words : (page_words : ℕ) → Object → ℕ
-table_words page_words object = words object + data_pages page_words object
+table_words page_words object = object_words object + data_pages page_words object
 
 -- the words of an object before its cells
 abbrev pub words_before : Object → ℕ
-words_before object = words object - cells object
+words_before object = object_words object - cells object
 
 -- ---- an object that is spread over these pages, the lead page first
 
@@ -26,11 +26,11 @@ abbrev pub spread_spot : (page_words : ℕ) → Object → List ℕ → ℕ → 
 spread_spot page_words object pages i =
     if nat_lt i (words_before object) then lead_spot pages i
     else
-    (if nat_lt i (words object)
+    (if nat_lt i (object_words object)
     then cell_spot page_words pages (i - words_before object)
-    else lead_spot pages (words_before object + (i - words object)))
+    else lead_spot pages (words_before object + (i - object_words object)))
 
 -- the first value of word i; a page number is stored plus 1
 abbrev pub spread_opening : Object → List ℕ → ℕ → ℕ
 spread_opening object pages i =
-    if nat_lt i (words object) then opening (content object i) else suc (slice_index pages (i - words object + 1))
+    if nat_lt i (object_words object) then opening (content object i) else suc (slice_index pages (i - object_words object + 1))

@@ -58,7 +58,7 @@ abbrev pub all_words : TableSizes → ℕ
 all_words z = base z + (z.pages * z.page_words + z.variables)
 
 -- the list has these words
-pub record Shows (z : TableSizes) (words : List ℕ) (w : Words) : Type 0 where
+pub record ListHasWords (z : TableSizes) (words : List ℕ) (w : Words) : Type 0 where
   pub wide : length words ≡ all_words z
   pub clock : slice_index words clock_at ≡ w.clock
   pub made : slice_index words made_at ≡ w.made

@@ -1,11 +1,11 @@
-//! What each atomic step on the table's memory keeps.
+//! What each atomic access to the table's memory keeps.
 
 ghost use Rattle.rgo_core_memory.specs.Allocations.{AllocationKeeps, AllocationKeepsApart, WordKeeps, WordKeepsApart};
 ghost use Rattle.rgo_core_memory.specs.Chains.{ClearKeeps, ForgetKeeps, FreeKeeps, HangKeeps, HeadKeeps, LinkKeeps, LocatedKeeps, MeasuredKeeps, NextKeeps, SlotKeeps, TriedPageKeeps, TriedSlotKeeps};
 ghost use Rattle.rgo_core_memory.specs.Elsewhere.{ClockKeeps, GroundKeeps, NumberKeeps};
 ghost use Rattle.rgo_core_memory.specs.Examples.{MemoryExamples};
 ghost use Rattle.rgo_core_memory.specs.Events.{CreateKeeps, LastLeaveKeeps, LeaveKeeps, PageKeeps, ReservedPageKeeps, ShareKeeps};
-ghost use Rattle.rgo_core_memory.specs.Laws.{AtLaw, GetLaw, LenLaw, LoadLaw, PutLaw, SetLaw, StoreLaw};
+ghost use Rattle.rgo_core_memory.specs.Laws.{AtLaw, GetLaw, LenLaw, MemoryLoadLaw, PutLaw, SetLaw, StoreLaw};
 ghost use Rattle.rgo_core_memory.specs.Opening.{Opens};
 ghost use Rattle.rgo_core_memory.specs.Facts.{AllFound, CountIsSmall, OneAddress, QueueKeeps, SomeLeft, SpreadFollows, UntoldKeeps, WordsFollow};
 ghost use Rattle.rgo_core_memory.specs.Quiet.{QuietKeeps, StartKeeps};
@@ -15,7 +15,7 @@ ghost use Rattle.rgo_core_memory.specs.Owed.{StillClaimed, StillOwed};
 
 /// A load of a field reads what the instruction reads.
 pub fn load_law()
-    ensures { LoadLaw }
+    ensures { MemoryLoadLaw }
 {}
 
 /// A load of an element reads what the instruction reads.
@@ -118,7 +118,7 @@ pub fn last_leave_law()
     ensures { LastLeaveKeeps }
 {}
 
-/// The head of a chain that is given back is loaded.
+/// The head of a chain that is being returned is loaded.
 pub fn head_law()
     ensures { HeadKeeps }
 {}
@@ -148,7 +148,7 @@ pub fn opening_law()
     ensures { Opens }
 {}
 
-/// A step that shows in no word of memory.
+/// A step that changes no word of memory.
 pub fn quiet_law()
     ensures { QuietKeeps }
 {}
@@ -168,7 +168,7 @@ pub fn row_law()
     ensures { WordsFollow }
 {}
 
-/// Where a page is free, fewer are in use than there are; the same of slots.
+/// If a page is free, fewer are in use than there are; the same of slots.
 pub fn left_law()
     ensures { SomeLeft }
 {}
@@ -238,7 +238,7 @@ pub fn located_law()
     ensures { LocatedKeeps }
 {}
 
-/// The clock is no word of memory.
+/// The clock is not a word of memory.
 pub fn clock_law()
     ensures { ClockKeeps }
 {}
@@ -253,7 +253,7 @@ pub fn ground_law()
     ensures { GroundKeeps }
 {}
 
-/// A small table: where its words are, how it opens, and what is no image.
+/// A small table: where its words are, how it opens, and words and records that are not an image.
 pub fn examples()
     ensures { MemoryExamples }
 {}

@@ -1,8 +1,11 @@
-//! Where the words of a table are. Of each position the contract says that it is the one that the image of a state uses.
+//! Where the words of a table are. The contract of each position says that it is the one that the image of a state uses.
+//!
+//! Word 0 is the clock, and word 16 the number of goroutines. These two and each row begin at least 16 words after what comes
+//! before them, so that no two share a cache line; within a row words lie side by side. Why: docs/DECISIONS.md, "Tables of words".
 ghost use Rattle.std.specs.Prelude.{◌≡◌, ◌<◌, ◌≤◌, ◌^◌, ◌+◌, suc};
 ghost use Rattle.rgo_core_memory.specs.Words.{all_words as words_in_all, cell_at as cell_is_at, count_at as count_is_at, head_at as head_is_at, next_at as next_is_at, state_at as state_is_at, variable_at as variable_is_at};
 
-/// How large a table is: its pages, each of so many words; its slots for regions beside Global, which has the slot behind
+/// How large a table is: its pages, and the words of each; its slots for regions, not counting that of Global, which comes after
 /// them; and its package variables.
 #[derive(Clone, Copy)]
 pub struct TableSizes {
@@ -24,7 +27,7 @@ pub fn all_words(sizes: &TableSizes) -> usize
         + (sizes.pages * sizes.page_words + sizes.variables)
 }
 
-/// The word with the state of a page: 0 if it is free, or else the slot for which it is claimed, plus 1.
+/// The word with the state of a page: 0 if it is free, otherwise the slot for which it is claimed, plus 1.
 pub fn state_at(sizes: &TableSizes, page: usize) -> usize
     requires fits { words_in_all sizes.now ≤ 2 ^ 32 }
     requires page { page < sizes.now.pages }
@@ -42,7 +45,7 @@ pub fn next_at(sizes: &TableSizes, page: usize) -> usize
     48 + sizes.pages + page
 }
 
-/// The word with the count of a slot: 0 if it is free, 1 while its chain is given back, n + 1 for a region with n stakes.
+/// The word with the count of a slot: 0 if it is free, 1 while its chain is being returned, n + 1 for a region with n stakes.
 pub fn count_at(sizes: &TableSizes, slot: usize) -> usize
     requires fits { words_in_all sizes.now ≤ 2 ^ 32 }
     requires slot { slot ≤ sizes.now.slots }

@@ -14,9 +14,9 @@ use Rattle.rgo_core.specs.Core.{Core, Setup, layout}
 use Rattle.rgo_core.specs.Next.{IsAt}
 use Rattle.rgo_core.specs.Records.{Record, accesses, instructed}
 use Rattle.rgo_core.specs.Steps.{Moves}
-use Rattle.rgo_core.proofs.ClockLifts.{look_law}
-use Rattle.rgo_core.proofs.Accesses.{get_move, len_move, len_nil_still, load_move, set_move, store_move}
-use Rattle.rgo_core.proofs.Elements.{at_move, put_move}
+use Rattle.rgo_core.proofs.clock.ClockLifts.{look_law}
+use Rattle.rgo_core.proofs.accesses.Accesses.{get_move, len_move, len_nil_still, load_move, set_move, store_move}
+use Rattle.rgo_core.proofs.accesses.Elements.{at_move, put_move}
 use Rattle.rgo_core_steps.specs.Accesses.{Element, Field, Length, LengthOfNil, Loads, Stores, ToElement, ToField, ToVariable, Variable, given_type}
 use Rattle.rgo_core_steps.specs.After.{Position, acting, given}
 use Rattle.rgo_core_steps.proofs.After.{acting_is, position_is}

@@ -10,10 +10,10 @@ use Rattle.rgo_core.specs.Frames.Prints.{printed_values}
 use Rattle.rgo_core.specs.Frames.Records.{after_op}
 use Rattle.rgo_core.specs.Frames.WordFrames.{WordFrame, bare, word_moved}
 use Rattle.rgo_core.specs.Memory.Records.{Fill, with_object, with_object_apart}
-use Rattle.rgo_sound.specs.Machine.Lines.{line_of}
+use Rattle.rgo_sound.specs.Machine.Lines.{printed_line}
 use Rattle.rgo_sound.specs.Memory.Memory.{Object}
-use Rattle.rgo_sound.specs.RegionMachine.Objects.{words as words_in}
-use Rattle.rgo_sound.specs.RegionMachine.Owed.{current, function_of}
+use Rattle.rgo_sound.specs.RegionMachine.Objects.{object_words as words_in}
+use Rattle.rgo_sound.specs.RegionMachine.Owed.{current, code_function}
 use Rattle.rgo_sound.specs.Tac.declared.regions.Class.{Class}
 use Rattle.rgo_sound.specs.Typed.declared.actions.Action.{Action}
 use Rattle.rgo_sound.specs.Typed.declared.statements.Piece.{Piece}
@@ -113,15 +113,15 @@ making_apart_is T {c} {to} a =
 -- ---- prints and starts
 
 module _ (T : Setup) {c : Record} {pieces : List Piece} {from removes : List ℕ} (a : IsAt T.code c (Print pieces from removes)) where
-  bytes_are : bytes_at T.code (at a) ≡ line_of pieces (printed_values a.fn a.w from)
+  bytes_are : bytes_at T.code (at a) ≡ printed_line pieces (printed_values a.fn a.w from)
   bytes_are =
       ap (λ (f : Option CodeFn). option_map_or (λ (fn : CodeFn). bytes_in fn a.w a.instr.op) f []) a.in_fn
       ∙ ap (bytes_in a.fn a.w) a.is
 
-  pub piece_is : piece T.code c ≡ line_of pieces (printed_values a.fn a.w from)
+  pub piece_is : piece T.code c ≡ printed_line pieces (printed_values a.fn a.w from)
   piece_is = ap (λ (p : Option Position). option_map_or (bytes_at T.code) p []) (position_is a) ∙ bytes_are
 
-  pub printing_is : (n : ℕ) → printing T.code c n ≡ printed_by T c a (line_of pieces (printed_values a.fn a.w from)) n
+  pub printing_is : (n : ℕ) → printing T.code c n ≡ printed_by T c a (printed_line pieces (printed_values a.fn a.w from)) n
   printing_is n = moving_is a (λ p. after (bytes_at T.code p) p) ∙ ap (λ (b : List ℕ). after b (at a)) bytes_are
     where
       after : List ℕ → Position → Record
@@ -137,7 +137,7 @@ module _ (T : Setup) {c : Record} {f : ℕ} {from removes : List ℕ} {passes : 
     frame = after_op T.code c.frame.holder p.w p.ws p.instr.op (word_moved p.w (p.w.next + 1) ∷ p.ws);
   })
 
-  pub child_is : (callee : CodeFn) → function_of T.code f ≡ Some callee → child T.code c ≡ child_of T c a f callee from
+  pub child_is : (callee : CodeFn) → code_function T.code f ≡ Some callee → child T.code c ≡ child_of T c a f callee from
   child_is callee is =
       ap (λ (p : Option Position). option_map_or (child_at T.code c) p (begins_with no_record)) (position_is a)
       ∙ ap (λ (op : CodeOp). unwrap (child_by T.code c a.w op)) a.is

@@ -9,12 +9,12 @@ use Rattle.rgo_core.specs.CommitMoves.{Receives, offers}
 use Rattle.rgo_core.specs.Core.{Core, Setup}
 use Rattle.rgo_core.specs.Records.{Record}
 use Rattle.rgo_core.specs.Steps.{Moves}
-use Rattle.rgo_core.proofs.ChannelMoves as laws
-use Rattle.rgo_core.proofs.Commits as commit_laws
-use Rattle.rgo_core.proofs.Meetings as meeting_laws
+use Rattle.rgo_core.proofs.channel_steps.Moves as laws
+use Rattle.rgo_core.proofs.channel_steps.Commits as commit_laws
+use Rattle.rgo_core.proofs.channel_steps.Meetings as meeting_laws
 use Rattle.rgo_core_steps.specs.Accesses.{given_type}
 use Rattle.rgo_core_steps.specs.After.{acknowledging, committing}
-use Rattle.rgo_core_steps.specs.Channels.{CanAcknowledge, CanClose, CanLoadCell, CanMeet, CanOffer, CanReachCell, CanReceive, CanReceiveZero, CanSend, CanStoreCell, ShowsCapacity, ShowsControl, ShowsOwnControl, ShowsPage, found_by, value_by}
+use Rattle.rgo_core_steps.specs.Channels.{CanAcknowledge, CanClose, CanLoadCell, RecordCanMeet, CanOffer, CanReachCell, CanReceive, CanReceiveZero, CanSend, CanStoreCell, ShowsCapacity, ShowsControl, ShowsOwnControl, ShowsPage, found_by, value_by}
 use Rattle.rgo_sound.specs.Typed.declared.actions.Action.TheVariants.{Recv}
 use Rattle.rgo_core_steps.proofs.Accesses.{given_type_is}
 use Rattle.rgo_core_steps.proofs.After.{acknowledging_is, committing_is}
@@ -119,7 +119,7 @@ module _ (T : Setup) (g : ℕ) (c : Record) where
   offer_commits at n can =
       meeting_laws.offer_move T g c can.to can.sent at n can.here can.wrote can.sized can.is_open can.none
 
-  pub meet_commits : (at n : ℕ) → CanMeet T c at n → Moves T g c at (λ w. n + 4) Received
+  pub meet_commits : (at n : ℕ) → RecordCanMeet T c at n → Moves T g c at (λ w. n + 4) Received
   meet_commits at n can =
       tells_more T g c at (λ w. n + 4) (received_is can.here (ap value_by can.read))
       (meeting_laws.meet_move T g c can.to at n can.value can.here can.read can.sized can.is_open can.offered)

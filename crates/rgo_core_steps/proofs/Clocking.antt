@@ -10,14 +10,14 @@ use Rattle.rgo_core.specs.Core.{Setup}
 use Rattle.rgo_core.specs.Records.{Record, instructed, with_end}
 use Rattle.rgo_core.specs.Steps.{Moves}
 use Rattle.rgo_core.specs.TrapMoves.{trapped}
-use Rattle.rgo_core.proofs.ElementTraps.{at_trap_move, put_trap_move}
-use Rattle.rgo_core.proofs.Ending.{calls_move, full_move, stop_move}
-use Rattle.rgo_core.proofs.Local.{exit_move}
-use Rattle.rgo_core.proofs.OperandTraps.{divide_trap_move, load_trap_move, size_trap_move, store_trap_move}
-use Rattle.rgo_core.proofs.Printing.{print_move}
-use Rattle.rgo_core.proofs.TrapMoves.{close_nil_move, close_trap_move, send_trap_move, stranded_move}
+use Rattle.rgo_core.proofs.accesses.ElementTraps.{at_trap_move, put_trap_move}
+use Rattle.rgo_core.proofs.clock.Ending.{calls_move, full_move, stop_move}
+use Rattle.rgo_core.proofs.steps.Local.{exit_move}
+use Rattle.rgo_core.proofs.clock.OperandTraps.{divide_trap_move, load_trap_move, size_trap_move, store_trap_move}
+use Rattle.rgo_core.proofs.clock.Printing.{print_move}
+use Rattle.rgo_core.proofs.channel_steps.TrapMoves.{close_nil_move, close_trap_move, send_trap_move, stranded_move}
 use Rattle.rgo_core_steps.specs.After.{place_of, printing}
-use Rattle.rgo_core_steps.specs.Ends.{Closes, ClosesNil, Divides, Ends, Exits, HasBadSize, IsFull, IsTooDeep, Loads, LoadsNil, Meets, Offers, Sends, Stores, StoresNil, Trapped, Traps, WantsMemory, ending}
+use Rattle.rgo_core_steps.specs.Ends.{Closes, ClosesNil, Divides, GoroutineEndsRun, Exits, HasBadSize, IsFull, IsTooDeep, Loads, LoadsNil, Meets, Offers, Sends, Stores, StoresNil, Trapped, InstrTraps, WantsMemory, ending}
 use Rattle.rgo_core_steps.specs.Prints.{IsAtPrint}
 use Rattle.rgo_core_steps.proofs.After.{place_by, place_is, printing_is}
 use Rattle.rgo_core_steps.proofs.Telling.{tells_more}
@@ -42,7 +42,7 @@ module _ (T : Setup) (g : ℕ) (c : Record) where
       → Marks (λ n. trapped c n trap (place_of T.code c))
   traps_at trap place is = marks_as _ _ (λ n. ap (trapped c n trap) (sym is))
 
-  trap_moves : (trap : Trap) → Traps T c trap → Marks (λ n. trapped c n trap (place_of T.code c))
+  trap_moves : (trap : Trap) → InstrTraps T c trap → Marks (λ n. trapped c n trap (place_of T.code c))
   trap_moves trap (Sends to sent at a saw is) =
       subst (λ (t : Trap). Marks (λ n. trapped c n t (place_of T.code c))) (sym is)
       (traps_at _ a.here.instr.place (place_is a.here) (send_trap_move T g c to sent at a saw))
@@ -79,7 +79,7 @@ module _ (T : Setup) (g : ℕ) (c : Record) where
   exits_as e n is =
       ap (λ (o : Option FrameRec). record c { clock = with_end (instructed c.clock) n (Ended the_end.Exit); frame = unwrap_or o c.frame }) (sym is)
 
-  pub end_moves : (mark : Mark) → Ends T g c mark → Marks (λ n. ending T.code c n mark)
+  pub end_moves : (mark : Mark) → GoroutineEndsRun T g c mark → Marks (λ n. ending T.code c n mark)
   end_moves mark (Exits e rests none loc exits is) =
       subst (λ (m : Mark). Marks (λ n. ending T.code c n m)) (sym is)
       (marks_as _ _ (λ n. exits_as e n loc) (exit_move T g c e rests none loc exits))

@@ -12,8 +12,8 @@ use Rattle.rgo_core.specs.Core.{Core, IsPossible, Setup}
 use Rattle.rgo_core.specs.Opening.{first_of}
 use Rattle.rgo_core.specs.Records.{Record, accesses}
 use Rattle.rgo_core.specs.Steps.{MovesEither}
-use Rattle.rgo_core.proofs.Possible.{is_possible}
-use Rattle.rgo_core.proofs.Starting.{start_move}
+use Rattle.rgo_core.proofs.runs.Possible.{is_possible}
+use Rattle.rgo_core.proofs.goroutines.Starting.{start_move}
 use Rattle.rgo_core_steps.specs.After.{child, starting}
 use Rattle.rgo_core_steps.specs.Seats.{HasPossible, mine, other, rest_of, settled}
 use Rattle.rgo_core_steps.specs.Starts.{HasDrawn, IsAtStart, next_number, refusing}

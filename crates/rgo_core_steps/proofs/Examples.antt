@@ -13,7 +13,7 @@ use Rattle.rgo_core.specs.Core.{Setup}
 use Rattle.rgo_core.specs.Opening.{opening}
 use Rattle.rgo_core.specs.Records.{ClockRec, Drawn, Record, drawn_at}
 use Rattle.rgo_core.proofs.Lists.{word_new}
-use Rattle.rgo_core_steps.specs.Ends.{Closes, ClosesNil, Divides, Ends, Exits, HasBadSize, IsFull, IsTooDeep, Loads, LoadsNil, Meets, Offers, Sends, Stores, StoresNil, Trapped, Traps, WantsMemory}
+use Rattle.rgo_core_steps.specs.Ends.{Closes, ClosesNil, Divides, GoroutineEndsRun, Exits, HasBadSize, IsFull, IsTooDeep, Loads, LoadsNil, Meets, Offers, Sends, Stores, StoresNil, Trapped, InstrTraps, WantsMemory}
 use Rattle.rgo_core_steps.specs.Examples.{AfterExamples, EndExamples, OutcomeExamples, SeatExamples, StartExamples, idle, parent, printed_first, printed_late, printed_second, setter}
 use Rattle.rgo_core_steps.specs.Outcomes.{EndsOnce, HasDrawnAt, HasSet, PrintsInOrder}
 use Rattle.rgo_core_steps.proofs.Outcomes.{long_enough}
@@ -53,7 +53,7 @@ after_examples = record {
   no_start = λ T p. no_rows p.here.w p.here.ws p.here.frames;
 }
 
-no_trap : (T : Setup) (trap : Trap) → Traps T idle trap → ⊥
+no_trap : (T : Setup) (trap : Trap) → InstrTraps T idle trap → ⊥
 no_trap T trap (Sends to sent at a saw is) = no_rows a.here.w a.here.ws a.here.frames
 no_trap T trap (Offers at a saw is) = no_rows a.w a.ws a.frames
 no_trap T trap (Closes to at a saw is) = no_rows a.here.w a.here.ws a.here.frames
@@ -65,7 +65,7 @@ no_trap T trap (StoresNil k p q removes a rests nil is) = no_rows a.w a.ws a.fra
 no_trap T trap (Divides op d p q removes a divides rests none is) = no_rows a.w a.ws a.frames
 no_trap T trap (HasBadSize act d p removes a makes rests big is) = no_rows a.w a.ws a.frames
 
-no_exit : (T : Setup) (g : ℕ) → Ends T g idle (Ended the_end.Exit) → ⊥
+no_exit : (T : Setup) (g : ℕ) → GoroutineEndsRun T g idle (Ended the_end.Exit) → ⊥
 no_exit T g (Exits e rests none loc exits is) = let z : None ≡ Some e = loc in cc z
 no_exit T g (Trapped trap traps is) = no_trap T trap traps
 no_exit T g (IsTooDeep to f callee from passes protects removes a calls deep is) = no_rows a.w a.ws a.frames

@@ -12,7 +12,7 @@ use Rattle.rgo_core.specs.Rule.declared.accesses.Kind.{Kind}
 use Rattle.rgo_core.proofs.Rule.Histories.{by_append, by_own, by_some}
 use Rattle.rgo_core.proofs.Rule.Lists.{append_at, at_append}
 use Rattle.std.proofs.lemmas.Bool.Decides.{nat_tests}
-use Rattle.rgo_core_steps.specs.Grown.{Found, Grew, Made, own_by}
+use Rattle.rgo_core_steps.specs.Grown.{Found, SeatGrew, Made, own_by}
 
 -- ---- accesses of one goroutine that change no word
 
@@ -147,7 +147,7 @@ module _ {R : Type 0} (accesses : R → ℕ) (blank : R) where
         let c = l.1.others in
         omega arith
 
-    pub told_grew : accesses (record_of blank w) ≡ suc (accesses (record_of blank m)) → Grew accesses blank m told_accesses w
+    pub told_grew : accesses (record_of blank w) ≡ suc (accesses (record_of blank m)) → SeatGrew accesses blank m told_accesses w
     told_grew one = record {
       alone = l.0;
       same = ap number_in l.1.alone.0;
@@ -180,7 +180,7 @@ module _ {R : Type 0} (accesses : R → ℕ) (blank : R) where
 
   -- ---- several accesses
 
-  pub grew_none : (m : Me R) → IsAlone blank m → Grew accesses blank m [] m
+  pub grew_none : (m : Me R) → IsAlone blank m → SeatGrew accesses blank m [] m
   grew_none m alone = record {
     alone = alone;
     same = refl;
@@ -189,8 +189,8 @@ module _ {R : Type 0} (accesses : R → ℕ) (blank : R) where
     counts = λ any. absurd (omega (arith, any));
   }
 
-  pub grew_then : (m v w : Me R) (xs ys : List Access) → Grew accesses blank m xs v → Grew accesses blank v ys w
-      → Grew accesses blank m (xs ++ ys) w
+  pub grew_then : (m v w : Me R) (xs ys : List Access) → SeatGrew accesses blank m xs v → SeatGrew accesses blank v ys w
+      → SeatGrew accesses blank m (xs ++ ys) w
   grew_then m v w xs ys a b =
       let both = by_append (number_of m) xs ys in
       let same : accesses_by (number_of v) ys ≡ accesses_by (number_of m) ys = ap (λ g. accesses_by g ys) a.same in
@@ -219,12 +219,12 @@ module _ {R : Type 0} (accesses : R → ℕ) (blank : R) where
       counted : 0 < accesses_by (number_of m) (xs ++ ys) → accesses (record_of blank w) ≡ accesses_by (number_of m) w.0.seen
       counted any = own (accesses_by (number_of v) ys) refl any ∙ ap (λ g. accesses_by g w.0.seen) a.same
 
-  pub still_then : (m v w : Me R) (xs ys : List Access) → Grew accesses blank m xs v → ChangesNothingBy (number_of m) xs
+  pub still_then : (m v w : Me R) (xs ys : List Access) → SeatGrew accesses blank m xs v → ChangesNothingBy (number_of m) xs
       → ChangesNothingBy (number_of v) ys → ChangesNothingBy (number_of m) (xs ++ ys)
   still_then m v w xs ys a p q =
       still_append (number_of m) xs ys p (subst (λ g. ChangesNothingBy g ys) a.same q)
 
-  pub found_then : (m v : Me R) (xs ys : List Access) (kind : Kind) (i n : ℕ) → Grew accesses blank m xs v
+  pub found_then : (m v : Me R) (xs ys : List Access) (kind : Kind) (i n : ℕ) → SeatGrew accesses blank m xs v
       → Found (number_of v) ys kind i n → Found (number_of m) (xs ++ ys) kind i n
   found_then m v xs ys kind i n a s =
       found_right (number_of m) xs ys kind i n (subst (λ g. Found g ys kind i n) a.same s)

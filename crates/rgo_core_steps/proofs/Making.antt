@@ -9,9 +9,9 @@ use Rattle.rgo_sound.specs.Memory.Memory.{Channel, Object, SliceObject, StructOb
 use Rattle.rgo_sound.specs.Memory.Values.{base_zero, element_zero, element_zero_in, zero_in, zero_of}
 use Rattle.rgo_sound.specs.Memory.declared.values.Value.{Value}
 use Rattle.rgo_sound.specs.Memory.declared.values.Value.TheVariants as value
-use Rattle.rgo_sound.specs.RegionMachine.Objects.{is_spread, words as words_of}
+use Rattle.rgo_sound.specs.RegionMachine.Objects.{is_spread, object_words as words_of}
 use Rattle.rgo_sound.specs.RegionMachine.declared.regions.Region.{Region}
-use Rattle.rgo_sound.specs.Tac.Steps.{type_of}
+use Rattle.rgo_sound.specs.Tac.Steps.{destination_type}
 use Rattle.rgo_sound.specs.Typed.declared.actions.Action.{Action}
 use Rattle.rgo_sound.specs.Typed.declared.programs.Struct.{Struct}
 use Rattle.rgo_sound.specs.Typed.declared.types.Base.{Base}
@@ -23,17 +23,17 @@ use Rattle.rgo_core.proofs.Channels.Lists.{get_replicated}
 use Rattle.rgo_core.specs.Frames.WordFrames.{WordFrame, bare, word_at}
 use Rattle.rgo_core.specs.Memory.Encoding.{IsPlain, content, opening}
 use Rattle.rgo_core.specs.Memory.Pages.{times}
-use Rattle.rgo_core.specs.Memory.Parts.{Makes}
-use Rattle.rgo_core.specs.Memory.Records.{Fill, Rest, Within, with_word}
+use Rattle.rgo_core.specs.Memory.Parts.{RecordMakes}
+use Rattle.rgo_core.specs.Memory.Records.{Fill, Rest, Within, page_of, with_word}
 use Rattle.rgo_core.specs.Memory.Words.{cell_at}
 use Rattle.rgo_core.specs.Bounds.{Points}
 use Rattle.rgo_core.specs.Core.{Setup, layout}
 use Rattle.rgo_core.specs.NewObjects.{AChannel, ASlice, AStruct, MakesObject, slot_number}
 use Rattle.rgo_core.specs.Records.{Record, accessed}
 use Rattle.rgo_core.specs.Steps.{Moves}
-use Rattle.rgo_core.proofs.Objects.{object_move, word_move}
+use Rattle.rgo_core.proofs.new_objects.Objects.{object_move, word_move}
 use Rattle.rgo_core_steps.specs.After.{Position, making}
-use Rattle.rgo_core_steps.specs.Making.{IsNewWord, IsPlaced, MakesNext, NewPoints, covers, filling, filling_apart, next_is_spread, next_object, next_page, next_slot, object_in, object_of, page_of, region_at, sized, stored_in, struct_of, with_new_word, with_new_word_apart}
+use Rattle.rgo_core_steps.specs.Making.{IsNewWord, IsPlaced, RecordMakesNext, NewPoints, covers, filling, filling_apart, next_is_spread, next_object, next_page, next_slot, object_in, object_of, region_at, sized, stored_in, struct_of, with_new_word, with_new_word_apart}
 use Rattle.rgo_core_steps.proofs.Accesses.{given_type_is}
 use Rattle.rgo_core_steps.proofs.After.{making_is, position_is}
 use Rattle.rgo_core_steps.proofs.Telling.{tells_more}
@@ -49,13 +49,13 @@ object_is code w to act from object (AStruct n made ea ef es eo) =
     (λ i. object_of code w to (ea i) from) ∙ (ap (λ (y : Option Struct). option_map struct_of y) es ∙ ap (λ (o : Object). Some o) (sym eo))
 object_is code w to act from object (ASlice p ea ef small eo) =
     (λ i. object_of code w to (ea i) (ef i))
-    ∙ (sized_is (word_at w p) (2 ^ 63) (SliceObject (replicate (word_at w p) (element_zero (type_of (erased code) (bare w) to)))) small
+    ∙ (sized_is (word_at w p) (2 ^ 63) (SliceObject (replicate (word_at w p) (element_zero (destination_type (erased code) (bare w) to)))) small
     ∙ ap (λ (o : Object). Some o) (sym eo))
 object_is code w to act from object (AChannel p ea ef small eo) =
     (λ i. object_of code w to (ea i) (ef i))
     ∙ (sized_is (word_at w p) 1073741820 (Channel (word_at w p) [] false) small ∙ ap (λ (o : Object). Some o) (sym eo))
 
-module _ {T : Setup} {c : Record} {object : Object} {slot : ℕ} (m : MakesNext T c object slot) where
+module _ {T : Setup} {c : Record} {object : Object} {slot : ℕ} (m : RecordMakesNext T c object slot) where
   pub next_object_is : next_object T c ≡ Some object
   next_object_is =
       ap (λ (p : Option Position). option_and_then (λ (q : Position). object_in T.code q.w q.instr.op) p) (position_is m.here)
@@ -135,7 +135,7 @@ pub object_plain : (code : Code) (w : WordFrame) (to : Option ℕ) (act : Action
 object_plain code w to act from object (AStruct n made ea ef es eo) i v e =
     struct_plain made.fields i v (ap (λ (o : Object). content o i) (sym eo) ∙ e)
 object_plain code w to act from object (ASlice p ea ef small eo) i v e =
-    slice_plain (word_at w p) (type_of (erased code) (bare w) to) i v (ap (λ (o : Object). content o i) (sym eo) ∙ e)
+    slice_plain (word_at w p) (destination_type (erased code) (bare w) to) i v (ap (λ (o : Object). content o i) (sym eo) ∙ e)
 object_plain code w to act from object (AChannel p ea ef small eo) i v e =
     channel_plain (word_at w p) i v (ap (λ (o : Object). content o i) (sym eo) ∙ e)
 
@@ -156,7 +156,7 @@ covers_all (suc n) stored e i low = by (times n stored == 0) refl (λ rest l. co
         (at_last i n low)
 
 module _ {T : Setup} (g : ℕ) {c : Record} {i word value : ℕ} (k : IsNewWord T c i word value) where
-  makes : Makes (layout T) c.memory k.page k.object (stored_in c.memory.make)
+  makes : RecordMakes (layout T) c.memory k.page k.object (stored_in c.memory.make)
   makes = ⊎_elim
       (λ (t : (c.memory.make ≡ Rest) × (k.page.fill + words_of k.object ≤ T.sizes.page_words)). inr (
         t.0,

@@ -12,8 +12,8 @@ use Rattle.rgo_core.specs.Core.{Setup, layout}
 use Rattle.rgo_core.specs.NewObjects.{reserved_address, word_apart}
 use Rattle.rgo_core.specs.Records.{Record, accessed}
 use Rattle.rgo_core.specs.Steps.{Moves}
-use Rattle.rgo_core.proofs.ObjectsApart.{object_move_apart}
-use Rattle.rgo_core.proofs.WordsApart.{word_move_apart}
+use Rattle.rgo_core.proofs.new_objects.ObjectsApart.{object_move_apart}
+use Rattle.rgo_core.proofs.new_objects.WordsApart.{word_move_apart}
 use Rattle.rgo_core_steps.specs.After.{making_apart}
 use Rattle.rgo_core_steps.specs.Making.{IsNewWordApart, IsPlacedApart, NewPointsApart, covers, filling_apart, stored_in}
 use Rattle.rgo_core_steps.proofs.Accesses.{given_type_is}

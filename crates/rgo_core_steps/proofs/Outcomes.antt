@@ -24,10 +24,10 @@ use Rattle.rgo_core.specs.Opening.{first_of, opening}
 use Rattle.rgo_core.specs.Records.{ClockRec, Drawn, Record, accesses, clock_of, end_bit}
 use Rattle.rgo_core.specs.Causes.{IsCause}
 use Rattle.rgo_core.specs.Runs.{Marked}
-use Rattle.rgo_core.proofs.Clocks.{no_le, room}
+use Rattle.rgo_core.proofs.clock.Clocks.{no_le, room}
 use Rattle.rgo_core.proofs.Lists.{cond_same, get_of, one_if, word_new, word_same}
-use Rattle.rgo_core.proofs.Opening.{made_word, opening_law}
-use Rattle.rgo_core.proofs.Stories.{few}
+use Rattle.rgo_core.proofs.runs.Opening.{made_word, opening_law}
+use Rattle.rgo_core.proofs.runs.Stories.{few}
 use Rattle.rgo_core_steps.specs.Outcomes.{EndsOnce, FamilyLaw, FirstLaw, HasDrawnAt, HasFamily, HasSet, OpensWith, OutcomeLaw, PrintsInOrder}
 use Rattle.rgo_core_steps.proofs.Sums.{counts_it, part_of, parts_of, who_of}
 

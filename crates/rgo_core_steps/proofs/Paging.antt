@@ -2,7 +2,7 @@
 use prog.Atomic.{either}
 use Rattle.std.proofs.Common.{◌≡◌, ⊎_elim, ℕ, suc, ◌+◌, ◌<◌, ◌≤◌, ◌==◌, Bool, true, false, nat_lt, if◌then◌else◌, add-one, ap, sym, subst, ◌∙◌, arith}
 use Rattle.std.proofs.lemmas.Bool.Decides.{nat_tests}
-use Rattle.rgo_sound.specs.RegionMachine.Objects.{words as words_of}
+use Rattle.rgo_sound.specs.RegionMachine.Objects.{object_words as words_of}
 use Rattle.rgo_core.specs.Memory.Records.{Giving, Got, Hung, Past, with_claim, with_give}
 use Rattle.rgo_core.specs.Memory.Words.{head_at, next_at, state_at}
 use Rattle.rgo_core.specs.Chains.{frees, remembers}
@@ -11,9 +11,9 @@ use Rattle.rgo_core.specs.Core.{Setup, layout}
 use Rattle.rgo_core.specs.NewObjects.{slot_number}
 use Rattle.rgo_core.specs.Records.{Record}
 use Rattle.rgo_core.specs.Steps.{Moves}
-use Rattle.rgo_core.proofs.Chains.{free_move, hang_move, next_move}
-use Rattle.rgo_core.proofs.Claims.{claim_move}
-use Rattle.rgo_core.proofs.Reserves.{reserve_move}
+use Rattle.rgo_core.proofs.pages.Chains.{free_move, hang_move, next_move}
+use Rattle.rgo_core.proofs.pages.Claims.{claim_move}
+use Rattle.rgo_core.proofs.pages.Reserves.{reserve_move}
 use Rattle.rgo_core_steps.specs.Making.{IsCalm, NeedsOwnPage, NeedsPage, NeedsReserved, next_is_spread}
 use Rattle.rgo_core_steps.specs.Pages.{tried_page, tries_page}
 use Rattle.rgo_core_steps.proofs.Making.{next_is_spread_is}

@@ -9,7 +9,7 @@ use Rattle.rgo_core.specs.Rule.Views.{IsAlone, Me, record_of}
 use Rattle.rgo_core.specs.Rule.declared.accesses.Access.{Access}
 use Rattle.rgo_core.specs.Rule.declared.accesses.Kind.{Kind}
 use Rattle.rgo_core_steps.specs.Grown.{Made}
-use Rattle.rgo_core_steps.specs.Searches.{AreTaken, Miss, Took, TookOne, Tried, TriedAll, around, misses, missing, places_of, upward}
+use Rattle.rgo_core_steps.specs.Searches.{AreTaken, Miss, TookFreePlace, TookOne, Tried, TriedAll, around, misses, missing, places_of, upward}
 use Rattle.rgo_core_steps.proofs.Growing.{made_none, made_one, made_then}
 
 -- ---- the order
@@ -121,11 +121,11 @@ module _ {R : Type 0} (accesses : R → ℕ) (blank : R) where
         }
 
     pub took_one : (c : R) (p new : ℕ) (hit : R → R) (m w : Me R) → Made accesses blank m (λ g. access g kind (at p) 0 new ∷ []) (hit c) w
-        → Took accesses blank kind at missed c [] p new hit m w
+        → TookFreePlace accesses blank kind at missed c [] p new hit m w
     took_one c p new hit m w made = record { tries = []; are = refl; taken = tt; made = made }
 
     pub took_then : (c : R) (xs ys : List ℕ) (p new : ℕ) (hit : R → R) (m v w : Me R) → Tried accesses blank kind at missed c xs m v
-        → Took accesses blank kind at missed (record_of blank v) ys p new hit v w → Took accesses blank kind at missed c (xs ++ ys) p new hit m w
+        → TookFreePlace accesses blank kind at missed (record_of blank v) ys p new hit v w → TookFreePlace accesses blank kind at missed c (xs ++ ys) p new hit m w
     took_then c xs ys p new hit m v w a b =
         let d : hit (missing missed (record_of blank v) b.tries) ≡ hit (missing missed c (a.tries ++ b.tries)) =
         ap hit (ap (λ (e : R). missing missed e b.tries) a.made.after ∙ sym (missing_append missed c a.tries b.tries)) in
@@ -149,7 +149,7 @@ module _ {R : Type 0} (accesses : R → ℕ) (blank : R) where
     -- ---- a search of all n places, which begins at `start`
 
     module _ (c : R) (n start : ℕ) (low : start < n) where
-      pub took_start : (new : ℕ) (hit : R → R) (m w : Me R) → Took accesses blank kind at missed c [] start new hit m w
+      pub took_start : (new : ℕ) (hit : R → R) (m w : Me R) → TookFreePlace accesses blank kind at missed c [] start new hit m w
           → TookOne accesses blank kind at missed c n start new hit m w
       took_start new hit m w took = record {
         start = start;
@@ -162,7 +162,7 @@ module _ {R : Type 0} (accesses : R → ℕ) (blank : R) where
 
       module _ (m v : Me R) (first : ℕ) (next : first ≡ suc start) (missed_first : Tried accesses blank kind at missed c (start ∷ []) m v) where
         pub took_above : (p new : ℕ) (hit : R → R) (w : Me R) → first ≤ p → p < n
-            → Took accesses blank kind at missed (record_of blank v) (upward first (p - first)) p new hit v w
+            → TookFreePlace accesses blank kind at missed (record_of blank v) (upward first (p - first)) p new hit v w
             → TookOne accesses blank kind at missed c n p new hit m w
         took_above p new hit w above below took = record {
           start = start;
@@ -184,7 +184,7 @@ module _ {R : Type 0} (accesses : R → ℕ) (blank : R) where
           whole = around_parts start n low ∙ ap (λ k. start ∷ (upward k (n - k) ++ upward 0 start)) (sym next)
 
           pub took_below : (p new : ℕ) (hit : R → R) (w : Me R) → p < start
-              → Took accesses blank kind at missed (record_of blank u) (upward 0 (p - 0)) p new hit u w
+              → TookFreePlace accesses blank kind at missed (record_of blank u) (upward 0 (p - 0)) p new hit u w
               → TookOne accesses blank kind at missed c n p new hit m w
           took_below p new hit w below took =
               let all : start - 0 ≡ start = omega arith in
@@ -222,8 +222,8 @@ module _ {R : Type 0} (accesses : R → ℕ) (blank : R) where
             (upward_next first p above ∙ (let e : suc p - first ≡ p + 1 - first = omega arith in ap (upward first) e))
             (tried_then c (upward first (p - first)) (p ∷ []) m v w tried one)
 
-        pub took_here : (hit : R → R) → Took accesses blank kind at missed (record_of blank v) [] p new hit v w
-            → Took accesses blank kind at missed c (upward first (p - first)) p new hit m w
-        took_here hit took = subst (λ (l : List ℕ). Took accesses blank kind at missed c l p new hit m w)
+        pub took_here : (hit : R → R) → TookFreePlace accesses blank kind at missed (record_of blank v) [] p new hit v w
+            → TookFreePlace accesses blank kind at missed c (upward first (p - first)) p new hit m w
+        took_here hit took = subst (λ (l : List ℕ). TookFreePlace accesses blank kind at missed c l p new hit m w)
             (append-nil (upward first (p - first)))
             (took_then c (upward first (p - first)) [] p new hit m v w tried took)

@@ -7,7 +7,7 @@ use Rattle.rgo_sound.specs.RegionMachine.States.{Duty}
 use Rattle.rgo_core.specs.Core.{Setup}
 use Rattle.rgo_core.specs.Laws.{clock_after}
 use Rattle.rgo_core.specs.Records.{ClockRec, Record}
-use Rattle.rgo_core.proofs.Possible.{still_possible}
+use Rattle.rgo_core.proofs.runs.Possible.{still_possible}
 use Rattle.rgo_core_steps.specs.Seats.{SettlesBy, settled_by, settled_once}
 use Rattle.rgo_core_steps.specs.Settled.{IsLocal, SettledLaws, with_steps}
 use Rattle.rgo_core_steps.proofs.Settling.{once_is, settled_still}

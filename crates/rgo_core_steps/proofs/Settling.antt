@@ -11,7 +11,7 @@ use Rattle.rgo_core.specs.Core.{Core, Setup}
 use Rattle.rgo_core.specs.Laws.{clock_after}
 use Rattle.rgo_core.specs.Records.{ClockRec, Record, accesses}
 use Rattle.rgo_core.specs.Steps.{IsStill, Moves, MovesEither}
-use Rattle.rgo_core.proofs.Local.{local_still}
+use Rattle.rgo_core.proofs.steps.Local.{local_still}
 use Rattle.rgo_sound.specs.RegionMachine.States.{Duty}
 use Rattle.rgo_sound.proofs.Places.{length_set}
 use Rattle.rgo_core_steps.specs.Seats.{IsQuiet, Settles, SettlesBy, mine, settled, settled_by, settled_once}

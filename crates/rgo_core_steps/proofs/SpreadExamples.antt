@@ -6,7 +6,7 @@ use Rattle.rgo_sound.specs.Code.Code.{CodeInstr, CodeOp, Do}
 use Rattle.rgo_sound.specs.Machine.declared.limits.Limits.{Limits}
 use Rattle.rgo_sound.specs.Memory.Memory.{Object}
 use Rattle.rgo_sound.specs.RegionMachine.Examples.{int_slot, main_of, plain, slot_of}
-use Rattle.rgo_sound.specs.RegionMachine.Objects.{is_spread, is_too_large, words as words_of}
+use Rattle.rgo_sound.specs.RegionMachine.Objects.{is_spread, is_too_large, object_words as words_of}
 use Rattle.rgo_sound.specs.RegionMachine.Owed.{current}
 use Rattle.rgo_sound.specs.RegionMachine.Room.{pages_of}
 use Rattle.rgo_sound.specs.RegionMachine.declared.regions.Region.TheVariants.{Global as GlobalRegion}
@@ -23,14 +23,14 @@ use Rattle.rgo_core.specs.NewObjects.{ASlice}
 use Rattle.rgo_core.specs.Next.{IsAt}
 use Rattle.rgo_core.specs.Records.{Record}
 use Rattle.rgo_core_steps.specs.Accesses.{Element, Field, Length, Loads, Variable}
-use Rattle.rgo_core_steps.specs.Making.{IsPlacedApart, MakesNext}
+use Rattle.rgo_core_steps.specs.Making.{IsPlacedApart, RecordMakesNext}
 use Rattle.rgo_core_steps.specs.Searches.{upward}
 use Rattle.rgo_core_steps.specs.SpreadExamples.{ReachExamples, ReservedExamples, SpreadExamples, StrewnExamples, all_pages, amid, ints, late, located, measured, reading, slicing, storing, the_element, the_slice}
 use Rattle.rgo_core_steps.proofs.Making.{next_object_is}
 
 -- ---- new objects
 
-abbrev makes : (limits : Limits) (n : ℕ) (pages : List ℕ) (make : Make) → n < 2 ^ 63 → MakesNext (slicing limits) (amid n pages make) (ints n) 2
+abbrev makes : (limits : Limits) (n : ℕ) (pages : List ℕ) (make : Make) → n < 2 ^ 63 → RecordMakesNext (slicing limits) (amid n pages make) (ints n) 2
 makes limits n pages make small = record {
   to = Some 1;
   act = action.Slice;
@@ -59,7 +59,7 @@ less a b l m = omega (arith, l, m)
 
 -- the object that it makes is that slice
 its : (limits : Limits) (n : ℕ) (pages : List ℕ) (make : Make) → n < 2 ^ 63 → (object : Object) (slot : ℕ)
-    → MakesNext (slicing limits) (amid n pages make) object slot → ints n ≡ object
+    → RecordMakesNext (slicing limits) (amid n pages make) object slot → ints n ≡ object
 its limits n pages make small object slot m =
     same_Some (ints n) object (sym (next_object_is (makes limits n pages make small)) ∙ next_object_is m)
 

@@ -12,7 +12,7 @@ use Rattle.rgo_core.specs.Core.{Setup, layout}
 use Rattle.rgo_core.specs.Records.{Record}
 use Rattle.rgo_core.specs.Regions.{with_holder}
 use Rattle.rgo_core.specs.Steps.{Moves}
-use Rattle.rgo_core.proofs.Regions.{create_move, leave_move, share_move}
+use Rattle.rgo_core.proofs.regions.Regions.{create_move, leave_move, share_move}
 use Rattle.rgo_core_steps.specs.Counts.{IsCreating, IsLeaving, IsSharing, Leaving, by_first, created_with, shared, tried_slot, tries_slot}
 use Rattle.rgo_core_steps.proofs.Telling.{tells_more}
 

@@ -14,7 +14,7 @@ use Rattle.rgo_core.specs.Next.{IsAt}
 use Rattle.rgo_core.specs.Records.{Record}
 use Rattle.rgo_core_steps.specs.After.{Position, given, position}
 
--- the type of the variable to which the next instruction gives a word
+-- the type of the variable to which the next instruction writes a word
 abbrev pub given_type : Setup → Record → «Type»
 given_type T c = option_map_or (λ (p : Position). target_type T p.w (given p.instr.op)) (position T.code c) int
 

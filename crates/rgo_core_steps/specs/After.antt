@@ -12,10 +12,10 @@ use Rattle.rgo_core.specs.Frames.Prints.{printed_values}
 use Rattle.rgo_core.specs.Frames.Records.{after_op}
 use Rattle.rgo_core.specs.Frames.WordFrames.{WordFrame, bare, word_called, word_moved, words_of}
 use Rattle.rgo_core.specs.Memory.Records.{Fill, with_object, with_object_apart}
-use Rattle.rgo_sound.specs.Machine.Lines.{line_of}
+use Rattle.rgo_sound.specs.Machine.Lines.{printed_line}
 use Rattle.rgo_sound.specs.Memory.Memory.{Object}
-use Rattle.rgo_sound.specs.RegionMachine.Objects.{words as words_in}
-use Rattle.rgo_sound.specs.RegionMachine.Owed.{current, function_of}
+use Rattle.rgo_sound.specs.RegionMachine.Objects.{object_words as words_in}
+use Rattle.rgo_sound.specs.RegionMachine.Owed.{current, code_function}
 use Rattle.rgo_core.specs.Core.{Setup}
 use Rattle.rgo_core.specs.Laws.{first_in}
 use Rattle.rgo_core.specs.NewObjects.{reserved_address}
@@ -46,7 +46,7 @@ place_of code c = option_map_or (λ p. p.instr.place) (position code c) 0
 
 -- ---- actions
 
--- the variable that an action gives a word
+-- the variable to which an action writes a word
 abbrev pub given : CodeOp → Option ℕ
 given (Do to action from removes) = to
 given (Call to n from passes protects removes) = None
@@ -56,14 +56,14 @@ given (Jump target removes) = None
 given (Branch test target removes other otherwise) = None
 given (Return value) = None
 
--- after an action that gives this word, or gives none
+-- after an action that has this word as its value, or has none
 abbrev pub acting : Code → Record → (word : ℕ) → Record
 acting code c word = moving code c (λ p. record c {
   clock = ticked c.clock;
   frame = after_action code c.frame p.w p.ws p.instr (given p.instr.op) word;
 })
 
--- after the commit of an operation on a channel that gives this word: the channel is unlocked
+-- after the commit of an operation on a channel that has this word as its value: the channel is unlocked
 abbrev pub committing : Code → Record → (word : ℕ) → Record
 committing code c word = record (acting code c word) { side = at_rest }
 
@@ -100,7 +100,7 @@ making_apart T c = moving T.code c (λ p. record c {
 
 -- the bytes of a print
 abbrev pub bytes_in : CodeFn → WordFrame → CodeOp → List ℕ
-bytes_in fn w (Print pieces from removes) = line_of pieces (printed_values fn w from)
+bytes_in fn w (Print pieces from removes) = printed_line pieces (printed_values fn w from)
 bytes_in fn w (Do to action from removes) = []
 bytes_in fn w (Call to n from passes protects removes) = []
 bytes_in fn w (Go n from passes removes) = []
@@ -109,7 +109,7 @@ bytes_in fn w (Branch test target removes other otherwise) = []
 bytes_in fn w (Return value) = []
 
 abbrev pub bytes_at : Code → Position → List ℕ
-bytes_at code p = option_map_or (λ fn. bytes_in fn p.w p.instr.op) (function_of code p.w.function) []
+bytes_at code p = option_map_or (λ fn. bytes_in fn p.w p.instr.op) (code_function code p.w.function) []
 
 -- the bytes that the next instruction prints
 abbrev pub piece : Code → Record → List ℕ
@@ -133,7 +133,7 @@ starting code c n = moving code c (λ p. record c {
 abbrev pub child_by : Code → Record → WordFrame → CodeOp → Option Record
 child_by code c w (Go f from passes removes) = option_map
     (λ callee. begins_with (first_in (child_records code c.frame.holder (Go f from passes removes) (word_called callee f (words_of w from) ∷ []))))
-    (function_of code f)
+    (code_function code f)
 child_by code c w (Do to action from removes) = None
 child_by code c w (Call to n from passes protects removes) = None
 child_by code c w (Print pieces from removes) = None

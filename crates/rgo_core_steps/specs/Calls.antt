@@ -26,7 +26,7 @@ abbrev pub accessed_by : ℕ → ClockRec → ClockRec
 accessed_by zero c = c
 accessed_by (suc k) c = accessed (accessed_by k c)
 
--- after k accesses that are no instructions
+-- after k accesses that are not instructions
 abbrev pub accessing : ℕ → Record → Record
 accessing k c = record c { clock = accessed_by k c.clock }
 

@@ -1,4 +1,4 @@
--- What each access to a channel asks: records that may make it, and such as may not.
+-- What each access to a channel asks: records that may make it, and some that may not.
 use Rattle.std.specs.Prelude.{◌+◌, ℕ, [], ◌∷◌, None, Some}
 use Rattle.rgo_sound.specs.Code.Code.{CodeOp, Do}
 use Rattle.rgo_core.specs.Channels.Records.{Free, Hold, Locked, Read, Sized, Wrote, at_rest, offering, with_reach}
@@ -10,7 +10,7 @@ use Rattle.rgo_core.specs.AtChannels.{knows}
 use Rattle.rgo_core.specs.ChannelExamples.{with_words}
 use Rattle.rgo_core.specs.Core.{Setup, layout}
 use Rattle.rgo_core.specs.Records.{Record}
-use Rattle.rgo_core_steps.specs.Channels.{CanAcknowledge, CanClose, CanLoadCell, CanMeet, CanOffer, CanReachCell, CanReceive, CanReceiveZero, CanSend, CanStoreCell, ShowsPage}
+use Rattle.rgo_core_steps.specs.Channels.{CanAcknowledge, CanClose, CanLoadCell, RecordCanMeet, CanOffer, CanReachCell, CanReceive, CanReceiveZero, CanSend, CanStoreCell, ShowsPage}
 use Rattle.rgo_core_steps.specs.MemoryExamples.{doing}
 use Rattle.rgo_core_steps.specs.SpreadExamples.{eight}
 
@@ -89,8 +89,8 @@ pub record ChannelExamples : Type 0 where
   pub occupied : (T : Setup) (c : Record) (at : ℕ) → CanOffer T c at 4 → ⊥
   pub buffered : (T : Setup) (at : ℕ) → CanOffer T (at_work at (Wrote at 0 0 3) 2) at 0 → ⊥
   pub meets : (sizes : Sizes) (limits : Limits) → let T = doing the_receive sizes limits in
-      CanMeet T (at_work (control_in T) (Read (control_in T) 4 0 9) 0) (control_in T) 4
-  pub gone : (T : Setup) (c : Record) (at : ℕ) → CanMeet T c at 8 → ⊥
+      RecordCanMeet T (at_work (control_in T) (Read (control_in T) 4 0 9) 0) (control_in T) 4
+  pub gone : (T : Setup) (c : Record) (at : ℕ) → RecordCanMeet T c at 8 → ⊥
   pub acknowledges : (sizes : Sizes) (limits : Limits) (at : ℕ) → CanAcknowledge (doing the_send sizes limits) (offering_at at 8) at 8
   pub not_taken : (T : Setup) (c : Record) (at : ℕ) → CanAcknowledge T c at 4 → ⊥
   -- the offer is at another channel

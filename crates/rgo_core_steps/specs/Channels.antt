@@ -136,7 +136,7 @@ pub record CanOffer (T : Setup) (c : Record) (at n : ℕ) : Type 0 where
   pub none : count_of n ≡ 0
 
 -- The next instruction receives from a channel without a buffer on which there is an offer, and the word of its value was loaded.
-pub record CanMeet (T : Setup) (c : Record) (at n : ℕ) : Type 0 where
+pub record RecordCanMeet (T : Setup) (c : Record) (at n : ℕ) : Type 0 where
   pub to : Option ℕ
   pub value : ℕ
   pub here : Operates T c to Recv [] at

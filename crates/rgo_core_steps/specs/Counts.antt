@@ -63,7 +63,7 @@ abbrev pub shared : Record → Record
 shared c = option_map_or (λ (t : ℕ × Holder). with_holder c t.1) (sharing c) c
 
 -- The first duty ends the stake in the region of this slot. There is no claimed page of it that is not linked and no half made
--- object of it, and no chain is being given back.
+-- object of it, and no chain is being returned.
 pub record IsLeaving (c : Record) (slot : ℕ) : Type 0 where
   pub holder : Holder
   pub is : ending c ≡ Some (slot, holder)

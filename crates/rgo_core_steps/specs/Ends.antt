@@ -13,7 +13,7 @@ use Rattle.rgo_sound.specs.Machine.declared.picks.End.{End}
 use Rattle.rgo_sound.specs.Machine.declared.picks.End.TheVariants as the_end
 use Rattle.rgo_sound.specs.Memory.declared.traps.Trap.{Trap}
 use Rattle.rgo_sound.specs.Memory.declared.traps.Trap.TheVariants.{BadSize, CloseClosed, CloseNil, DivideZero, IndexRange, NilPointer, SendClosed}
-use Rattle.rgo_sound.specs.RegionMachine.Owed.{function_of}
+use Rattle.rgo_sound.specs.RegionMachine.Owed.{code_function}
 use Rattle.rgo_sound.specs.RegionMachine.States.{Ended, Mark, Stopped}
 use Rattle.rgo_sound.specs.RegionMachine.declared.limits.Limit.{Limit}
 use Rattle.rgo_sound.specs.RegionMachine.declared.limits.Limit.TheVariants as limit
@@ -21,7 +21,7 @@ use Rattle.rgo_sound.specs.Tac.declared.regions.Class.{Class}
 use Rattle.rgo_sound.specs.Typed.declared.actions.Action.{Action}
 use Rattle.rgo_sound.specs.Typed.declared.actions.Action.TheVariants as action
 use Rattle.rgo_core.specs.AtChannels.{Operates}
-use Rattle.rgo_core.specs.Causes.{Stops as StopsBy}
+use Rattle.rgo_core.specs.Causes.{ReachesLimit as StopsBy}
 use Rattle.rgo_core.specs.CommitMoves.{IsAtSend}
 use Rattle.rgo_core.specs.Core.{Here, Setup}
 use Rattle.rgo_core.specs.ElementTraps.{HasNoElement}
@@ -54,50 +54,50 @@ ending code c n (Stopped limit) = record c { clock = with_end c.clock n (Stopped
 -- ---- traps
 
 -- the next instruction traps
-pub data Traps (T : Setup) (c : Record) (trap : Trap) : Type 0 where
+pub data InstrTraps (T : Setup) (c : Record) (trap : Trap) : Type 0 where
   -- a send on a channel that was found closed
   Sends : (to : Option ℕ) (sent at : ℕ) → Operates T c to action.Send (sent ∷ []) at → c.side.saw ≡ Shut at
-      → trap ≡ SendClosed → Traps T c trap
-  -- the same where the offer of the goroutine stands
-  Offers : (at : ℕ) → IsAtSend T c → c.side.saw ≡ Stranded at → trap ≡ SendClosed → Traps T c trap
+      → trap ≡ SendClosed → InstrTraps T c trap
+  -- the same with the offer of the goroutine there
+  Offers : (at : ℕ) → IsAtSend T c → c.side.saw ≡ Stranded at → trap ≡ SendClosed → InstrTraps T c trap
   -- a close of a channel that was found closed
   Closes : (to : Option ℕ) (at : ℕ) → Operates T c to action.Close [] at → c.side.saw ≡ Shut at
-      → trap ≡ CloseClosed → Traps T c trap
+      → trap ≡ CloseClosed → InstrTraps T c trap
   ClosesNil : (to : Option ℕ) (channel : ℕ) (removes : List ℕ) (a : IsAt T.code c (Do to action.Close (channel ∷ []) removes))
-      → word_at a.w channel ≡ 0 → trap ≡ CloseNil → Traps T c trap
+      → word_at a.w channel ≡ 0 → trap ≡ CloseNil → InstrTraps T c trap
   -- a load or a store of an element that the slice does not have
   Loads : (d p q : ℕ) (removes : List ℕ) (a : IsAt T.code c (Do (Some d) action.At (p ∷ q ∷ []) removes)) → c.side ≡ at_rest
-      → HasNoElement c a.w p q → trap ≡ IndexRange → Traps T c trap
+      → HasNoElement c a.w p q → trap ≡ IndexRange → InstrTraps T c trap
   Stores : (p q r : ℕ) (removes : List ℕ) (a : IsAt T.code c (Do None action.Put (p ∷ q ∷ r ∷ []) removes)) → c.side ≡ at_rest
-      → HasNoElement c a.w p q → trap ≡ IndexRange → Traps T c trap
+      → HasNoElement c a.w p q → trap ≡ IndexRange → InstrTraps T c trap
   -- a load or a store of a field of nil
   LoadsNil : (d k p : ℕ) (removes : List ℕ) (a : IsAt T.code c (Do (Some d) (action.Load k) (p ∷ []) removes)) → c.side ≡ at_rest
-      → word_at a.w p ≡ 0 → trap ≡ NilPointer → Traps T c trap
+      → word_at a.w p ≡ 0 → trap ≡ NilPointer → InstrTraps T c trap
   StoresNil : (k p q : ℕ) (removes : List ℕ) (a : IsAt T.code c (Do None (action.Store k) (p ∷ q ∷ []) removes)) → c.side ≡ at_rest
-      → word_at a.w p ≡ 0 → trap ≡ NilPointer → Traps T c trap
+      → word_at a.w p ≡ 0 → trap ≡ NilPointer → InstrTraps T c trap
   -- a quotient or a remainder by zero
   Divides : (op : BinaryOp) (d p q : ℕ) (removes : List ℕ) (a : IsAt T.code c (Do (Some d) (action.Binary op) (p ∷ q ∷ []) removes))
-      → (op ≡ Div) ⊎ (op ≡ Rem) → c.side ≡ at_rest → word_at a.w q ≡ 0 → trap ≡ DivideZero → Traps T c trap
+      → (op ≡ Div) ⊎ (op ≡ Rem) → c.side ≡ at_rest → word_at a.w q ≡ 0 → trap ≡ DivideZero → InstrTraps T c trap
   -- a new slice or channel of a negative size
   HasBadSize : (act : Action) (d p : ℕ) (removes : List ℕ) (a : IsAt T.code c (Do (Some d) act (p ∷ []) removes))
-      → (act ≡ action.Slice) ⊎ (act ≡ action.Chan) → c.side ≡ at_rest → 2 ^ 63 ≤ word_at a.w p → trap ≡ BadSize → Traps T c trap
+      → (act ≡ action.Slice) ⊎ (act ≡ action.Chan) → c.side ≡ at_rest → 2 ^ 63 ≤ word_at a.w p → trap ≡ BadSize → InstrTraps T c trap
 
 -- ---- ends
 
-pub data Ends (T : Setup) (g : ℕ) (c : Record) (mark : Mark) : Type 0 where
+pub data GoroutineEndsRun (T : Setup) (g : ℕ) (c : Record) (mark : Mark) : Type 0 where
   -- `main` returns
   Exits : (e : FrameRec) → c.side ≡ at_rest → c.frame.holder.duties ≡ [] → local T.code c.frame ≡ Some e
-      → is_exit g e.frames ≡ true → mark ≡ Ended the_end.Exit → Ends T g c mark
-  Trapped : (trap : Trap) → Traps T c trap → mark ≡ Ended (the_end.Trap trap (place_of T.code c)) → Ends T g c mark
+      → is_exit g e.frames ≡ true → mark ≡ Ended the_end.Exit → GoroutineEndsRun T g c mark
+  Trapped : (trap : Trap) → InstrTraps T c trap → mark ≡ Ended (the_end.Trap trap (place_of T.code c)) → GoroutineEndsRun T g c mark
   -- a call of a goroutine that has as many frames as it may
   IsTooDeep : (to : Option ℕ) (f : ℕ) (callee : CodeFn) (from : List ℕ) (passes : List Class) (protects removes : List ℕ)
-      → IsAt T.code c (Call to f from passes protects removes) → function_of T.code f ≡ Some callee
-      → length c.frame.frames ≡ deepest → mark ≡ Stopped limit.Calls → Ends T g c mark
+      → IsAt T.code c (Call to f from passes protects removes) → code_function T.code f ≡ Some callee
+      → length c.frame.frames ≡ deepest → mark ≡ Stopped limit.Calls → GoroutineEndsRun T g c mark
   -- a start of a goroutine for which a number was refused
   IsFull : (f : ℕ) (callee : CodeFn) (from : List ℕ) (passes : List Class) (removes : List ℕ)
-      → IsAt T.code c (Go f from passes removes) → function_of T.code f ≡ Some callee
-      → c.clock.refused ≡ true → mark ≡ Stopped limit.Goroutines → Ends T g c mark
+      → IsAt T.code c (Go f from passes removes) → code_function T.code f ≡ Some callee
+      → c.clock.refused ≡ true → mark ≡ Stopped limit.Goroutines → GoroutineEndsRun T g c mark
   -- memory has run out
-  WantsMemory : mark ≡ Stopped limit.Memory → Ends T g c mark
+  WantsMemory : mark ≡ Stopped limit.Memory → GoroutineEndsRun T g c mark
   -- any limit that the run meets whatever the rest of the table is
-  Meets : (why : Limit) → ((x : Here T g c) → StopsBy T.code T.sizes T.limits why x.s) → mark ≡ Stopped why → Ends T g c mark
+  Meets : (why : Limit) → ((x : Here T g c) → StopsBy T.code T.sizes T.limits why x.s) → mark ≡ Stopped why → GoroutineEndsRun T g c mark

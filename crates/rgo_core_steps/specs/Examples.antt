@@ -14,7 +14,7 @@ use Rattle.rgo_core.specs.Core.{Setup}
 use Rattle.rgo_core.specs.Opening.{opening}
 use Rattle.rgo_core.specs.Records.{Record, begins_with, blank, instructed, looked, steps_of, with_child, with_end, with_print}
 use Rattle.rgo_core_steps.specs.After.{acting, given, piece}
-use Rattle.rgo_core_steps.specs.Ends.{Ends, Traps, ending, mark_of}
+use Rattle.rgo_core_steps.specs.Ends.{GoroutineEndsRun, InstrTraps, ending, mark_of}
 use Rattle.rgo_core_steps.specs.Outcomes.{EndsOnce, HasFamily, OpensWith, PrintsInOrder}
 use Rattle.rgo_core_steps.specs.Prints.{IsAtPrint}
 use Rattle.rgo_core_steps.specs.Seats.{HasOne, HasTwo, IsQuiet, mine, other, settled, settled_once}
@@ -65,9 +65,9 @@ pub record AfterExamples : Type 0 where
 pub record EndExamples : Type 0 where
   pub mark : mark_of (given_mark.Stopped Memory) ≡ Stopped Memory
   -- memory may run out at any time; a trap needs an instruction, and an exit is the return of `main`
-  pub memory : (T : Setup) (g : ℕ) (c : Record) → Ends T g c (Stopped Memory)
-  pub no_trap : (T : Setup) (trap : Trap) → Traps T idle trap → ⊥
-  pub no_exit : (T : Setup) (g : ℕ) → Ends T g idle (Ended the_end.Exit) → ⊥
+  pub memory : (T : Setup) (g : ℕ) (c : Record) → GoroutineEndsRun T g c (Stopped Memory)
+  pub no_trap : (T : Setup) (trap : Trap) → InstrTraps T idle trap → ⊥
+  pub no_exit : (T : Setup) (g : ℕ) → GoroutineEndsRun T g idle (Ended the_end.Exit) → ⊥
   -- a trap counts its instruction, a limit does not
   pub counted : (code : Code) (c : Record) (n place : ℕ)
       → steps_of (ending code c n (Ended (the_end.Trap SendClosed place))) ≡ suc (steps_of c)
@@ -85,7 +85,7 @@ pub record StartExamples : Type 0 where
 
 -- ---- outcomes
 
--- a goroutine that has ended the run, and such as have printed: before another, after it, and after the end
+-- a goroutine that has ended the run, and some that have printed: before another, after it, and after the end
 abbrev pub setter : Record
 setter = record idle { clock = with_end blank 0 (Ended the_end.Exit) }
 

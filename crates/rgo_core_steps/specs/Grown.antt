@@ -18,7 +18,7 @@ own_by g (a ∷ es) = if is_number g a.by then a ∷ own_by g es else own_by g e
 module _ {R : Type 0} (accesses : R → ℕ) (blank : R) where
   -- The seat has one record, as before, of the same goroutine, and has seen the accesses es more. The record counts those of its
   -- goroutine; if there are any, the seat has seen all that the record counts.
-  pub record Grew (m : Me R) (es : List Access) (w : Me R) : Type 0 where
+  pub record SeatGrew (m : Me R) (es : List Access) (w : Me R) : Type 0 where
     pub alone : IsAlone blank w
     pub same : number_of w ≡ number_of m
     pub seen : w.0.seen ≡ m.0.seen ++ es
@@ -29,7 +29,7 @@ module _ {R : Type 0} (accesses : R → ℕ) (blank : R) where
   -- accesses by its number.
   pub record Made (m : Me R) (made : ℕ → List Access) (d : R) (w : Me R) : Type 0 where
     pub es : List Access
-    pub grew : Grew m es w
+    pub grew : SeatGrew m es w
     pub own : own_by (number_of m) es ≡ made (number_of m)
     pub after : record_of blank w ≡ d
 
@@ -48,11 +48,11 @@ counted c = c.accesses
 
 -- an addition by goroutine 1, after which its seat has seen what goroutine 0 did
 pub record GrownExamples : Type 0 where
-  pub grew : Grew counted new_adder (view ((1, new_adder) ∷ []) [], []) three (view ((1, child_record) ∷ []) three, [])
+  pub grew : SeatGrew counted new_adder (view ((1, new_adder) ∷ []) [], []) three (view ((1, child_record) ∷ []) three, [])
   -- the record counts an access that the seat has not seen
-  pub not_grew : Grew counted new_adder (view ((1, new_adder) ∷ []) [], []) two (view ((1, child_record) ∷ []) two, []) → ⊥
+  pub not_grew : SeatGrew counted new_adder (view ((1, new_adder) ∷ []) [], []) two (view ((1, child_record) ∷ []) two, []) → ⊥
   -- the seat has the record of another goroutine
-  pub another : Grew counted new_adder (view ((0, new_adder) ∷ []) [], []) [] (view ((1, new_adder) ∷ []) [], []) → ⊥
+  pub another : SeatGrew counted new_adder (view ((0, new_adder) ∷ []) [], []) [] (view ((1, new_adder) ∷ []) [], []) → ⊥
   pub own : own_by 1 three ≡ adds 1 1 ∷ []
   pub made : Made counted new_adder (view ((1, new_adder) ∷ []) [], []) (λ g. access g DrawTicket 0 1 2 ∷ []) child_record
       (view ((1, child_record) ∷ []) three, [])

@@ -1,17 +1,17 @@
 -- New objects: which one the next instruction of a goroutine makes, in which slot, and at the end of which page or in which reserved
 -- pages; and the record after each store of one of its words.
 use Rattle.std.specs.Option.{option_map, option_map_or}
-use Rattle.std.specs.Prelude.{◌≡◌, ◌⊎◌, ◌<◌, ◌≤◌, ◌+◌, ◌*◌, ◌==◌, ◌^◌, ℕ, zero, suc, Bool, true, false, List, [], ◌∷◌, Option, Some, None, if◌then◌else◌, length, map, nat_eq, nat_lt, option_and_then, replicate, slice_get}
+use Rattle.std.specs.Prelude.{◌≡◌, ◌⊎◌, ◌<◌, ◌≤◌, ◌+◌, ◌*◌, ◌==◌, ◌^◌, ℕ, zero, suc, Bool, true, false, List, [], ◌∷◌, Option, Some, None, if◌then◌else◌, length, map, nat_lt, option_and_then, replicate, slice_get}
 use Rattle.rgo_sound.specs.Code.Code.{Branch, Call, Code, CodeOp, Do, Go, Jump, Print, Return}
 use Rattle.rgo_sound.specs.Code.Erasure.{erased}
 use Rattle.rgo_sound.specs.Memory.Memory.{Channel, Object, SliceObject, StructObject}
 use Rattle.rgo_sound.specs.Memory.Values.{element_zero, zero_of}
-use Rattle.rgo_sound.specs.RegionMachine.Objects.{is_spread, is_too_large, making_region, words as words_of}
-use Rattle.rgo_sound.specs.RegionMachine.Owed.{function_of}
+use Rattle.rgo_sound.specs.RegionMachine.Objects.{is_spread, is_too_large, making_region, object_words as words_of}
+use Rattle.rgo_sound.specs.RegionMachine.Owed.{code_function}
 use Rattle.rgo_sound.specs.RegionMachine.Room.{pages_of}
 use Rattle.rgo_sound.specs.RegionMachine.States.{top_names}
 use Rattle.rgo_sound.specs.RegionMachine.declared.regions.Region.{Region}
-use Rattle.rgo_sound.specs.Tac.Steps.{type_of}
+use Rattle.rgo_sound.specs.Tac.Steps.{destination_type}
 use Rattle.rgo_sound.specs.Typed.declared.actions.Action.{Action}
 use Rattle.rgo_sound.specs.Typed.declared.actions.Action.TheVariants as action
 use Rattle.rgo_sound.specs.Typed.declared.programs.Struct.{Struct}
@@ -19,7 +19,7 @@ use Rattle.rgo_core.specs.Channels.Records.{at_rest}
 use Rattle.rgo_core.specs.Frames.WordFrames.{WordFrame, bare, word_at}
 use Rattle.rgo_core.specs.Memory.Encoding.{content, opening}
 use Rattle.rgo_core.specs.Memory.Pages.{times}
-use Rattle.rgo_core.specs.Memory.Records.{Across, Amid, Fill, Idle, Make, Rec as MemoryRec, Rest, Within, with_word, with_word_apart}
+use Rattle.rgo_core.specs.Memory.Records.{Across, Amid, Fill, Idle, Make, Rec as MemoryRec, Rest, Within, page_of, with_word, with_word_apart}
 use Rattle.rgo_core.specs.Memory.Spread.{spread_opening, table_words}
 use Rattle.rgo_core.specs.Memory.Words.{cell_at}
 use Rattle.rgo_core.specs.Bounds.{LieInPages, Points, row_words}
@@ -44,7 +44,7 @@ abbrev pub object_of : Code → WordFrame → Option ℕ → Action → List ℕ
 object_of code w to (action.New n) from = option_map struct_of (slice_get code.structs n)
 object_of code w to action.Slice [] = None
 object_of code w to action.Slice (p ∷ ps) = sized (word_at w p) (2 ^ 63)
-    (SliceObject (replicate (word_at w p) (element_zero (type_of (erased code) (bare w) to))))
+    (SliceObject (replicate (word_at w p) (element_zero (destination_type (erased code) (bare w) to))))
 object_of code w to action.Chan [] = None
 object_of code w to action.Chan (p ∷ ps) = sized (word_at w p) 1073741820 (Channel (word_at w p) [] false)
 object_of code w to _ from = None
@@ -65,23 +65,18 @@ next_object T c = option_and_then (λ (p : Position). object_in T.code p.w p.ins
 -- ---- its slot and its page
 
 abbrev pub region_at : Setup → Record → Position → Option Region
-region_at T c p = making_region (function_of T.code p.w.function) (top_names c.frame.holder.environments) p.instr.op
+region_at T c p = making_region (code_function T.code p.w.function) (top_names c.frame.holder.environments) p.instr.op
 
 -- the slot of the region in which the next instruction makes an object
 abbrev pub next_slot : Setup → Record → Option ℕ
 next_slot T c = option_map (slot_number (layout T)) (option_and_then (region_at T c) (position T.code c))
-
--- the first own page of a slot
-abbrev pub page_of : (slot : ℕ) → List Fill → Option Fill
-page_of s [] = None
-page_of s (f ∷ fs) = if nat_eq s f.slot then Some f else page_of s fs
 
 -- the own page at whose end the words of the next object go
 abbrev pub next_page : Setup → Record → Option Fill
 next_page T c = option_and_then (λ (s : ℕ). page_of s c.memory.fills) (next_slot T c)
 
 -- the goroutine's next instruction makes this object in the region of this slot
-pub record MakesNext (T : Setup) (c : Record) (object : Object) (slot : ℕ) : Type 0 where
+pub record RecordMakesNext (T : Setup) (c : Record) (object : Object) (slot : ℕ) : Type 0 where
   pub to : Option ℕ
   pub act : Action
   pub from : List ℕ
@@ -89,7 +84,7 @@ pub record MakesNext (T : Setup) (c : Record) (object : Object) (slot : ℕ) : T
   pub here : IsAt T.code c (Do to act from removes)
   pub makes : MakesObject T.code here.w to act from object
   pub region : Region
-  pub in_region : making_region (function_of T.code here.w.function) (top_names c.frame.holder.environments) here.instr.op ≡ Some region
+  pub in_region : making_region (code_function T.code here.w.function) (top_names c.frame.holder.environments) here.instr.op ≡ Some region
   pub in_slot : slot_number (layout T) region ≡ slot
 
 -- ---- a page is needed
@@ -97,14 +92,14 @@ pub record MakesNext (T : Setup) (c : Record) (object : Object) (slot : ℕ) : T
 -- The object fits a page, and not what is left of an own page of that slot.
 pub record NeedsOwnPage (T : Setup) (c : Record) (slot : ℕ) : Type 0 where
   pub object : Object
-  pub next : MakesNext T c object slot
+  pub next : RecordMakesNext T c object slot
   pub fits : words_of object ≤ T.sizes.page_words
   pub full : (f : Fill) → Within f c.memory.fills → f.slot ≡ slot → T.sizes.page_words < f.fill + words_of object
 
 -- The object is spread, and not all of its pages are reserved.
 pub record NeedsReserved (T : Setup) (c : Record) (slot : ℕ) : Type 0 where
   pub object : Object
-  pub next : MakesNext T c object slot
+  pub next : RecordMakesNext T c object slot
   pub spread : is_spread T.sizes.page_words object ≡ true
   pub small : is_too_large T.sizes.page_words object ≡ false
   pub more : length c.memory.reserved.pages < pages_of T.sizes.page_words object
@@ -138,7 +133,7 @@ IsMaking n m f object = ((m.make ≡ Rest) × (f.fill + words_of object ≤ n)) 
 pub record IsNewWord (T : Setup) (c : Record) (i word value : ℕ) : Type 0 where
   pub object : Object
   pub slot : ℕ
-  pub next : MakesNext T c object slot
+  pub next : RecordMakesNext T c object slot
   pub page : Fill
   pub is_page : page_of slot c.memory.fills ≡ Some page
   pub making : IsMaking T.sizes.page_words c.memory page object
@@ -178,7 +173,7 @@ NewPoints T c i = (object : Object) (f : Fill) → next_object T c ≡ Some obje
 pub record IsNewWordApart (T : Setup) (c : Record) (i word value : ℕ) : Type 0 where
   pub object : Object
   pub slot : ℕ
-  pub next : MakesNext T c object slot
+  pub next : RecordMakesNext T c object slot
   pub spread : is_spread T.sizes.page_words object ≡ true
   pub small : is_too_large T.sizes.page_words object ≡ false
   pub all : length c.memory.reserved.pages ≡ pages_of T.sizes.page_words object
@@ -201,7 +196,7 @@ with_new_word_apart T c object i =
 abbrev pub filling_apart : Setup → Record → (i : ℕ) → Record
 filling_apart T c i = option_map_or (λ (object : Object). with_new_word_apart T c object i) (next_object T c) c
 
--- so many words from its address on lie in pages as follow it, and a pointer to it points where it may
+-- the words that follow its address lie in pages, and a pointer to it points where it may
 abbrev pub IsPlacedApart : Setup → Record → Object → Type 0
 IsPlacedApart T c object = LieInPages T (reserved_address T c) (row_words T.sizes.page_words object)
     × Points T (given_type T c) (suc (reserved_address T c))

@@ -3,7 +3,7 @@ use Rattle.std.specs.Prelude.{◌≡◌, ◌+◌, ℕ, true, false, List, [], �
 use Rattle.rgo_sound.specs.Code.Code.{Code, CodeOp, Do}
 use Rattle.rgo_core.specs.Frames.Opening.{no_record}
 use Rattle.rgo_core.specs.Frames.WordFrames.{WordFrame}
-use Rattle.rgo_core.specs.Memory.Records.{Fill}
+use Rattle.rgo_core.specs.Memory.Records.{Fill, page_of}
 use Rattle.rgo_core.specs.Rule.declared.accesses.Kind.TheVariants.{CreateRegion}
 use Rattle.rgo_core.specs.Rule.Histories.{access}
 use Rattle.rgo_sound.specs.Memory.Memory.{Channel, Object, StructObject}
@@ -20,7 +20,7 @@ use Rattle.rgo_core.specs.Regions.{creates}
 use Rattle.rgo_core_steps.specs.Accesses.{LengthOfNil, Loads, Stores}
 use Rattle.rgo_core_steps.specs.Counts.{IsCreating, IsLeaving, IsSharing, tried_slot, tries_slot}
 use Rattle.rgo_core_steps.specs.Examples.{idle}
-use Rattle.rgo_core_steps.specs.Making.{IsCalm, MakesNext, covers, next_object, next_slot, object_of, page_of}
+use Rattle.rgo_core_steps.specs.Making.{IsCalm, RecordMakesNext, covers, next_object, next_slot, object_of}
 use Rattle.rgo_core_steps.specs.Pages.{tried_page, tries_page}
 use Rattle.rgo_core_steps.specs.Searches.{AreTaken, Miss, around, misses, missing, places_of, upward}
 
@@ -71,7 +71,7 @@ pub record MakingExamples : Type 0 where
   -- without a frame nothing is made, loaded or stored
   pub nothing : (T : Setup) → next_object T idle ≡ None
   pub nowhere : (T : Setup) → next_slot T idle ≡ None
-  pub makes_none : (T : Setup) (object : Object) (slot : ℕ) → MakesNext T idle object slot → ⊥
+  pub makes_none : (T : Setup) (object : Object) (slot : ℕ) → RecordMakesNext T idle object slot → ⊥
   pub loads_none : (T : Setup) (word : ℕ) → Loads T idle word → ⊥
   pub stores_none : (T : Setup) (word value : ℕ) → Stores T idle word value → ⊥
   pub calm : IsCalm idle

@@ -51,7 +51,7 @@ pub record PrintsInOrder (recs : List Record) (printed : List ℕ) : Type 0 wher
 -- ---- a closed table
 
 -- the run to which the words and records of a table have led
-pub record Outcome (T : Setup) (words : List ℕ) (recs : List Record) : Type 0 where
+pub record TableOutcome (T : Setup) (words : List ℕ) (recs : List Record) : Type 0 where
   pub events : List Event
   pub s : RegionState
   pub leads : limited_run T.code T.sizes.page_words T.limits events ≡ Some s
@@ -63,11 +63,11 @@ pub record Outcome (T : Setup) (words : List ℕ) (recs : List Record) : Type 0 
   pub counts : counts_of s ≡ all_counted (map clock_of recs)
 
 -- one run explains the words of a table that was closed, and leads to these records
-abbrev pub Closes : (T : Setup) (words : List ℕ) (v : View Record) → Type 0
-Closes T words v = Closing accesses (Core T) (opening T) words v
+abbrev pub ClosesTable : (T : Setup) (words : List ℕ) (v : View Record) → Type 0
+ClosesTable T words v = Closing accesses (Core T) (opening T) words v
 
 abbrev pub OutcomeLaw : Type 0
-OutcomeLaw = (T : Setup) (words : List ℕ) (v : View Record) (end : Closes T words v) → Outcome T words end.recs
+OutcomeLaw = (T : Setup) (words : List ℕ) (v : View Record) (end : ClosesTable T words v) → TableOutcome T words end.recs
 
 -- the view has the record of `main`, and with each record those of the goroutines that it has started
 pub record HasFamily (v : View Record) : Type 0 where
@@ -77,7 +77,7 @@ pub record HasFamily (v : View Record) : Type 0 where
 
 -- such a view has the record of every goroutine
 abbrev pub FamilyLaw : Type 0
-FamilyLaw = (T : Setup) (words : List ℕ) (v : View Record) (end : Closes T words v) → HasFamily v
+FamilyLaw = (T : Setup) (words : List ℕ) (v : View Record) (end : ClosesTable T words v) → HasFamily v
     → (g : ℕ) (c : Record) → slice_get end.recs g ≡ Some c → Has v.records g c
 
 -- ---- a new table

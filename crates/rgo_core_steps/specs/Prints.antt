@@ -1,4 +1,4 @@
--- Prints, as the record of a goroutine tells them.
+-- Prints, as the record of a goroutine has them.
 use Rattle.std.specs.Prelude.{◌≡◌, ◌<◌, ℕ, List, length}
 use Rattle.rgo_sound.specs.Code.Code.{Print}
 use Rattle.rgo_core.specs.Channels.Records.{at_rest}

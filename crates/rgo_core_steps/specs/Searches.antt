@@ -53,7 +53,7 @@ module _ {R : Type 0} (accesses : R → ℕ) (blank : R) (kind : Kind) (at : ℕ
     pub made : Made accesses blank m (misses kind at tries) (missing missed c tries) w
 
   -- The same; and then it has found place p free, and has left `new` there. `hit` is what that does to its record.
-  pub record Took (c : R) (places : List ℕ) (p new : ℕ) (hit : R → R) (m w : Me R) : Type 0 where
+  pub record TookFreePlace (c : R) (places : List ℕ) (p new : ℕ) (hit : R → R) (m w : Me R) : Type 0 where
     pub tries : List Miss
     pub are : places_of tries ≡ places
     pub taken : AreTaken tries
@@ -72,4 +72,4 @@ module _ {R : Type 0} (accesses : R → ℕ) (blank : R) (kind : Kind) (at : ℕ
     pub before : List ℕ
     pub after : List ℕ
     pub order : around start n ≡ before ++ p ∷ after
-    pub took : Took c before p new hit m w
+    pub took : TookFreePlace c before p new hit m w

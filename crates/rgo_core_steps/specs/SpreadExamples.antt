@@ -72,7 +72,7 @@ pub record ReservedExamples (limits : Limits) : Type 0 where
   pub not_reserved : (slot : ℕ) → NeedsReserved (slicing limits) (reserving 7 []) slot → ⊥
   -- its data pages are more than six
   pub too_large : (slot : ℕ) → NeedsReserved (slicing limits) (reserving 49 []) slot → ⊥
-  -- the page is reserved behind the others, or is the own page
+  -- the page is reserved after the others, or is the own page
   pub takes : takes_page (slicing limits) (reserving 9 (3 ∷ [])) 1 2 ≡ reserves (reserving 9 (3 ∷ [])) 1 2
   pub pages : (takes_page (slicing limits) (reserving 9 (3 ∷ [])) 1 2).memory.reserved.pages ≡ 3 ∷ 1 ∷ []
   pub takes_own : takes_page (slicing limits) (reserving 7 []) 1 2 ≡ claims (reserving 7 []) 1 2
@@ -86,7 +86,7 @@ pub record StrewnExamples (limits : Limits) : Type 0 where
   -- the number of page 1, plus 1
   pub number : (new : IsNewWordApart (slicing limits) (storing (0 ∷ [])) 10 (cell_at (layout (slicing limits)) 3 1) 2) × IsIndex new
   pub not_plus : (word : ℕ) → IsNewWordApart (slicing limits) (storing (0 ∷ [])) 10 word 1 → ⊥
-  -- an element is no page number
+  -- an element is not a page number
   pub no_number : (word value : ℕ) (new : IsNewWordApart (slicing limits) (storing (0 ∷ [])) 9 word value) → IsIndex new → ⊥
   pub none_more : (word value : ℕ) → IsNewWordApart (slicing limits) (storing (0 ∷ [])) 12 word value → ⊥
   -- a page is not reserved yet
@@ -115,7 +115,7 @@ reading limits = record {
   limits = limits;
 }
 
--- before that, for element 8 of a slice with so many at address 24, whose length was read
+-- before that, for element 8 of a slice with that many at address 24, whose length was read
 abbrev pub measured : (elements : ℕ) → Record
 measured n = measures (with_words (25 ∷ 8 ∷ 0 ∷ [])) 24 n
 

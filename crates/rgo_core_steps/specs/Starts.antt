@@ -7,7 +7,7 @@ use Rattle.rgo_core.specs.Rule.Steps.{ToldChild}
 use Rattle.rgo_core.specs.Rule.Views.{Me, number_of}
 use Rattle.rgo_core.specs.Rule.declared.accesses.Kind.TheVariants.{DrawNumber}
 use Rattle.rgo_sound.specs.Machine.Limits.{most_goroutines}
-use Rattle.rgo_sound.specs.RegionMachine.Owed.{function_of}
+use Rattle.rgo_sound.specs.RegionMachine.Owed.{code_function}
 use Rattle.rgo_sound.specs.Tac.declared.regions.Class.{Class}
 use Rattle.rgo_core.specs.Core.{Setup}
 use Rattle.rgo_core.specs.Next.{IsAt}
@@ -23,7 +23,7 @@ pub record IsAtStart (T : Setup) (c : Record) : Type 0 where
   pub passes : List Class
   pub removes : List ℕ
   pub here : IsAt T.code c (Go function from passes removes)
-  pub calls : function_of T.code function ≡ Some callee
+  pub calls : code_function T.code function ≡ Some callee
   pub rests : c.side ≡ at_rest
   pub never : c.clock.refused ≡ false
 

@@ -1,10 +1,10 @@
-//! Accesses to the words of a channel. `at` is the word of its control; the word after it has the capacity, and the cells follow, or
-//! if the channel is spread, the numbers of the data pages that have the cells.
+//! Accesses to the words of a channel. `at` is the word of its control; the word after it has the capacity, and the cells follow,
+//! or if the channel is spread, the numbers of the data pages that have the cells.
 //!
 //! A goroutine operates on a channel in these steps, each of which is one access:
 //! 1. It loads the capacity and the control: [`capacity`], [`control`]; [`own_control`] where its own offer is at the channel.
 //! 2. It exchanges the unlocked control for the locked one: [`lock`]. If another goroutine has changed the control since, the
-//!    exchange changes nothing, and the goroutine begins again.
+//!    exchange changes nothing, and what the goroutine has decided is void: it may begin again with step 1.
 //! 3. Under the lock it loads a cell or stores one that holds nothing: [`load_cell`], [`store_cell`]. Of a spread channel it first
 //!    loads the number of the cell's page: [`page_number`].
 //! 4. It stores the unlocked control of the channel after the operation. With this store the operation takes effect:
@@ -13,6 +13,8 @@
 //!
 //! All other goroutines find a locked control between 2 and 4. `behind` is how many local steps the goroutine has made since its
 //! last access. Between the accesses of one operation, and while its offer is at a channel, it makes none.
+//!
+//! Each call is made by the goroutine whose record is on the seat. Why: docs/DECISIONS.md, "Operations on channels".
 ghost use Rattle.std.specs.Prelude.{◌≡◌, ◌+◌, ◌-◌, ◌/◌, ◌%◌, ◌^◌, ◌<◌, ◌==◌, ℕ};
 ghost use prog.Atomic.{either};
 ghost use Rattle.rgo_core.specs.AtChannels.{IsAtChannel, knows};
@@ -25,7 +27,7 @@ ghost use Rattle.rgo_core.specs.Rule.declared.accesses.Kind.TheVariants as kind;
 ghost use Rattle.rgo_core_steps.specs.Accesses.{given_type};
 ghost use Rattle.rgo_core_steps.specs.After.{acknowledging, committing};
 ghost use Rattle.rgo_core_steps.specs.ChannelExamples.{ChannelExamples};
-ghost use Rattle.rgo_core_steps.specs.Channels.{CanAcknowledge, CanClose, CanLoadCell, CanMeet, CanOffer, CanReachCell, CanReceive, CanReceiveZero, CanSend, CanStoreCell, ShowsCapacity, ShowsControl, ShowsOwnControl, ShowsPage, found_by, value_by};
+ghost use Rattle.rgo_core_steps.specs.Channels.{CanAcknowledge, CanClose, CanLoadCell, RecordCanMeet, CanOffer, CanReachCell, CanReceive, CanReceiveZero, CanSend, CanStoreCell, ShowsCapacity, ShowsControl, ShowsOwnControl, ShowsPage, found_by, value_by};
 ghost use Rattle.rgo_core_steps.specs.Seats.{HasOne, HasPossible, IsSeatOf, Left, Settles, Stored, mine, settled};
 
 use rgo_core::channels::controls::without_oldest;
@@ -36,8 +38,8 @@ use std::marker::Brand;
 
 // ---- loads
 
-/// Loads the control, before the goroutine decides whether its operation can take effect. A goroutine calls it that is before an
-/// operation on the channel, or whose offer is there.
+/// Loads the control, before the goroutine decides whether its operation can take effect. The goroutine is before an operation on
+/// the channel, or its offer is there. An unlocked control may change at once; one that shows a closed channel stays closed.
 pub fn control(table: &RunTable, seat: &mut RunSeat, behind: u64, at: usize) -> u64
     requires own { IsSeatOf seat.old.table_id table.now.shared.table_id at }
     requires alone { HasOne (setup_of table.now.shared.key) seat.old.me }
@@ -52,7 +54,8 @@ pub fn control(table: &RunTable, seat: &mut RunSeat, behind: u64, at: usize) -> 
     load::<Record, Plan, ByRuns, Brand, _>(table, seat, at, &behind)
 }
 
-/// Loads the control of the channel at which the goroutine's own offer is: was it taken?
+/// Loads the control of the channel at which the goroutine's own offer is, to see whether it was taken. A taken offer stays taken
+/// until this goroutine acknowledges it.
 pub fn own_control(table: &RunTable, seat: &mut RunSeat, at: usize) -> u64
     requires own { IsSeatOf seat.old.table_id table.now.shared.table_id at }
     requires alone { HasOne (setup_of table.now.shared.key) seat.old.me }
@@ -83,7 +86,9 @@ pub fn capacity(table: &RunTable, seat: &mut RunSeat, behind: u64, at: usize) ->
 
 // ---- the lock
 
-/// Locks the channel, if its control is still `control`, which is unlocked. Returns what the control was.
+/// Locks the channel, if its control is still `control`, which is unlocked. Returns what the control was: the channel is locked by
+/// the caller exactly if this equals `control`. Anything else means that another goroutine has operated on the channel or has it
+/// locked.
 pub fn lock(table: &RunTable, seat: &mut RunSeat, at: usize, control: u64) -> u64
     requires own { IsSeatOf seat.old.table_id table.now.shared.table_id at }
     requires alone { HasOne (setup_of table.now.shared.key) seat.old.me }
@@ -240,7 +245,7 @@ pub fn commit_meet(table: &RunTable, seat: &mut RunSeat, at: usize, control: u64
     requires own { IsSeatOf seat.old.table_id table.now.shared.table_id at }
     requires fits { control + 4 < 2 ^ 64 }
     requires alone { HasOne (setup_of table.now.shared.key) seat.old.me }
-    requires ready { let T = setup_of table.now.shared.key in CanMeet T (mine T seat.old.me) at control }
+    requires ready { let T = setup_of table.now.shared.key in RecordCanMeet T (mine T seat.old.me) at control }
     ensures own { (seat.new.table_id ≡ seat.old.table_id) × (seat.new.id ≡ seat.old.id) }
     ensures stored { let T = setup_of table.now.shared.key in let c = mine T seat.old.me in
         Stored T kind.Commit at (control + 4) (committing T.code c (value_by c.side.hold)) seat.old.me seat.new.me }

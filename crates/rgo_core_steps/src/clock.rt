@@ -1,9 +1,12 @@
 //! The clock, word 0 of a table: prints draw their tickets from its low 63 bits, and bit 63 says that the run has ended.
 //!
-//! 1. A goroutine that prints finishes the piece, then adds 1: the number found is its ticket. No other access gives a piece its
-//!    place, so that no two pieces have one ticket.
+//! 1. A goroutine that prints finishes the piece, then adds 1: the number found is its ticket. No other access draws a
+//!    ticket, so no two pieces have the same one.
 //! 2. A goroutine that ends the run sets bit 63. Who found it clear has ended the run; all later ones change nothing.
 //! 3. A ticket that was drawn after that is void: its piece is not part of the print.
+//!
+//! The end is one bit of the same word, set by an `or`: one access draws a ticket and shows whether the print still counts, and no
+//! access has to be tried again. Why: docs/DECISIONS.md, "Tables of words".
 //!
 //! `behind` is how many local steps the goroutine has made since its last access. The code does not use it.
 ghost use Rattle.std.specs.Prelude.{◌≡◌, ◌≤◌, ◌<◌, ◌+◌, ◌%◌, ◌^◌, ℕ, bit_or, true};
@@ -14,7 +17,7 @@ ghost use Rattle.rgo_core.specs.Memory.Words.{clock_at};
 ghost use Rattle.rgo_core.specs.Rule.Views.{number_of};
 ghost use Rattle.rgo_core.specs.Rule.declared.accesses.Kind.TheVariants as kind;
 ghost use Rattle.rgo_core_steps.specs.After.{piece as piece_of, printing};
-ghost use Rattle.rgo_core_steps.specs.Ends.{Ends, ending, mark_of};
+ghost use Rattle.rgo_core_steps.specs.Ends.{GoroutineEndsRun, ending, mark_of};
 ghost use Rattle.rgo_core_steps.specs.Prints.{IsAtPrint};
 ghost use Rattle.rgo_core_steps.specs.Seats.{HasOne, HasPossible, IsSeatOf, Left, Settles, settled};
 
@@ -64,8 +67,8 @@ pub fn ticket(table: &RunTable, seat: &mut RunSeat, behind: u64, piece: &[u8]) -
     }
 }
 
-/// Loads the clock, and returns whether the run has ended. A goroutine that has made local steps since its last access has them
-/// in the run by this, without an instruction that needs an access.
+/// Loads the clock, and returns whether the run has ended: `true` stays true, `false` may be outdated at once. The load puts the
+/// local steps since the goroutine's last access into the run, without an instruction that needs an access.
 pub fn look(table: &RunTable, seat: &mut RunSeat, behind: u64) -> bool
     requires own { IsSeatOf seat.old.table_id table.now.shared.table_id clock_at }
     requires alone { HasOne (setup_of table.now.shared.key) seat.old.me }
@@ -84,7 +87,7 @@ pub fn finish(table: &RunTable, seat: &mut RunSeat, behind: u64, mark: Mark) -> 
     requires own { IsSeatOf seat.old.table_id table.now.shared.table_id clock_at }
     requires alone { HasOne (setup_of table.now.shared.key) seat.old.me }
     requires settles { Settles (setup_of table.now.shared.key) behind seat.old.me }
-    requires cause { Ends (setup_of table.now.shared.key) (number_of seat.old.me)
+    requires cause { GoroutineEndsRun (setup_of table.now.shared.key) (number_of seat.old.me)
         (settled (setup_of table.now.shared.key) behind seat.old.me) (mark_of mark) }
     ensures own { (seat.new.table_id ≡ seat.old.table_id) × (seat.new.id ≡ seat.old.id) }
     ensures ended { (n : ℕ) × ((result ≡ true) ↔ (n < 2 ^ 63))

@@ -1,10 +1,13 @@
 //! The count of a slot: 0 while the slot is free, n + 1 for a region with n stakes, 1 while the pages of a region without stakes
-//! are given back.
+//! are returned.
 //!
 //! 1. `create` exchanges 0 for 2: the goroutine that finds 0 has the slot, for a region with its own stake.
 //! 2. `share` adds 1 before a goroutine starts that uses the region, so that its stake is there from its first step on.
-//! 3. `leave` subtracts 1. The goroutine that finds 2 ended the last stake: it alone gives the pages back.
+//! 3. `leave` subtracts 1. The goroutine that finds 2 ended the last stake: it alone returns the pages.
 //! 4. `free_slot` stores 0, after the pages are free and the head of their chain is 0.
+//!
+//! A count other than 0 is never taken by `create`, so the slot stays with its region until step 4. Each call is made by the
+//! goroutine whose record is on the seat. Why: docs/DECISIONS.md, "Counts and pages as words".
 ghost use Rattle.std.specs.Prelude.{◌≡◌, ◌<◌, ◌≤◌, ◌+◌, ◌-◌, ◌%◌, ◌^◌, ◌==◌, ℕ, false};
 ghost use prog.Atomic.{either};
 ghost use Rattle.rgo_sound.specs.Stakes.{is_in};
@@ -24,7 +27,8 @@ use rgo_core::rule::steps::{compare_exchange, fetch_add, fetch_sub, store};
 use rgo_core::table::{ByRuns, Plan, RunSeat, RunTable};
 use std::marker::Brand;
 
-/// Whether a slot looks free, to nobody in particular: another goroutine may take it at once. It serves to begin a search.
+/// Whether a slot looks free. A hint where to begin a search: another goroutine may take the slot at once, and the load is not part
+/// of the history. Anybody may call it, with no seat.
 pub fn looks_free(table: &RunTable, sizes: &TableSizes, slot: usize) -> bool
     requires layout { HasLayout (setup_of table.now.shared.key) sizes.now table.now.shared.table_id }
     requires slot { slot < sizes.now.slots }
@@ -33,7 +37,7 @@ pub fn looks_free(table: &RunTable, sizes: &TableSizes, slot: usize) -> bool
 }
 
 /// Takes a slot for the region that the first duty creates, if the count found is 0: the goroutine has no stake in a region of the
-/// slot before. If it is not, the record remembers that.
+/// slot before. Otherwise nothing changes, and the record remembers that this slot was found in use.
 pub fn create(
     table: &RunTable,
     seat: &mut RunSeat,
@@ -90,7 +94,7 @@ pub fn share(
 }
 
 /// Ends a stake of the goroutine: the first duty. It was the last where the count found is 2; then the pages of the region are to
-/// be given back.
+/// be returned.
 pub fn leave(
     table: &RunTable,
     seat: &mut RunSeat,

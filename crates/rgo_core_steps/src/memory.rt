@@ -2,7 +2,8 @@
 //! loaded before an access to one of its elements, and the number of a data page before one to a cell of a spread object; and each
 //! word of a new object is stored once before the object exists.
 //!
-//! Only the goroutine itself may use these calls, and only where its record says that the access is due.
+//! Only the goroutine itself may use these calls, and only if its record says that the access is its next one. No word is locked: a
+//! load finds what the last store to the word has left, whoever made it. Why: docs/DECISIONS.md, "Tables of words".
 ghost use Rattle.std.specs.Prelude.{◌≡◌, ◌+◌, ◌-◌, ◌/◌, ◌%◌, ◌<◌, ℕ};
 ghost use Rattle.rgo_core.specs.Accesses.{IsAtSpread, locates, measures};
 ghost use Rattle.rgo_core.specs.Bounds.{LieInPages, Points, slice_words};
@@ -39,8 +40,8 @@ pub fn load(table: &RunTable, seat: &mut RunSeat, behind: u64, word: usize) -> u
     steps::load::<Record, Plan, ByRuns, Brand, _>(table, seat, word, &behind)
 }
 
-/// Takes the length of nil as the next instruction: it is 0, and no word is loaded for it. By a load of the clock the instruction
-/// is in the run.
+/// Takes the length of nil as the next instruction: it is 0, and no word is loaded for it. A load of the clock puts the
+/// instruction into the run.
 pub fn length_of_nil(table: &RunTable, seat: &mut RunSeat, behind: u64)
     requires own { IsSeatOf seat.old.table_id table.now.shared.table_id clock_at }
     requires alone { HasOne (setup_of table.now.shared.key) seat.old.me }
@@ -56,8 +57,8 @@ pub fn length_of_nil(table: &RunTable, seat: &mut RunSeat, behind: u64)
     steps::load::<Record, Plan, ByRuns, Brand, _>(table, seat, 0, &behind);
 }
 
-/// Loads the length of the slice at this address, before the next instruction loads or stores one of its elements. They all lie in
-/// pages, or if the slice is spread, the numbers of its data pages do.
+/// Loads the length of the slice at this address, before the next instruction loads or stores one of its elements. The elements all
+/// lie in pages; if the slice is spread, the numbers of its data pages do. The length never changes.
 pub fn measure(
     table: &RunTable,
     seat: &mut RunSeat,
@@ -80,7 +81,7 @@ pub fn measure(
 }
 
 /// Loads the number of the data page, plus 1, that has a cell of the spread object at this address, before the next instruction loads
-/// or stores the cell. So many words of the object are before its cells.
+/// or stores the cell. `before` words of the object precede its cells.
 pub fn index(
     table: &RunTable,
     seat: &mut RunSeat,
@@ -174,7 +175,7 @@ pub fn zero_apart(
     steps::store::<Record, Plan, ByRuns, Brand, _>(table, seat, word, value, &(index, behind));
 }
 
-/// Stores the number of a data page, plus 1, in the lead page of the object: word `index`, behind the words of the object.
+/// Stores the number of a data page, plus 1, in the lead page of the object: word `index`, after the words of the object.
 pub fn set_index(
     table: &RunTable,
     seat: &mut RunSeat,

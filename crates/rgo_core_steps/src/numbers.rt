@@ -1,6 +1,8 @@
 //! Numbers of goroutines, word 16 of a table: a goroutine that starts another adds 1, and the number found is that of the new
 //! one. At the limit of goroutines none starts, and the goroutine that wanted one ends the run.
 //!
+//! A number that was drawn at the limit is lost. It is not subtracted again: another goroutine may have drawn in between.
+//!
 //! `behind` is how many local steps the goroutine has made since its last access. The code does not use it.
 ghost use Rattle.std.specs.Prelude.{◌≡◌, IfSome};
 ghost use Rattle.rgo_core.specs.Core.{IsPossible};
@@ -16,7 +18,8 @@ use rgo_sound::machine::Limits;
 use std::marker::Brand;
 
 /// Draws a number for the goroutine that the next instruction starts, and returns it. The seat then has its record beside that of
-/// the goroutine that started it. `None` if there are as many goroutines as there may be.
+/// the goroutine that started it. `None` if there are as many goroutines as there may be; the
+/// record remembers that it was refused.
 pub fn number(table: &RunTable, seat: &mut RunSeat, behind: u64, limits: &Limits) -> Option<u64>
     requires own { IsSeatOf seat.old.table_id table.now.shared.table_id made_at }
     requires limits { limits.now ≡ table.now.shared.key.limits }

@@ -4,14 +4,16 @@
 //! A claim:
 //! 1. `claim` exchanges state 0 for the slot plus 1: the goroutine that finds 0 has the page.
 //! 2. `hang` swaps the head for this page, and remembers the old head. Others may hang pages before it at once.
-//! 3. `link` stores the old head as the page's next word. Nobody reads it before: only a region without stakes is given back, and
-//!    the claimer has one.
+//! 3. `link` stores the old head as the page's next word. Nobody reads it before: only the chain of a region without stakes is
+//!    read, and the claimer has one.
 //!
-//! A chain is given back by the goroutine whose `leave` was the last:
+//! A chain is returned by the goroutine whose `leave` was the last:
 //! 1. `head` loads the first page.
 //! 2. For each page `next` loads the page after it; then `free` stores state 0. In the other order the page could be claimed, and
 //!    its next word be stored, before it is loaded.
 //! 3. `clear` stores head 0. Only then may `free_slot` let another region have the slot.
+//!
+//! Each call is made by the goroutine whose record is on the seat. Why: docs/DECISIONS.md, "Counts and pages as words".
 ghost use Rattle.std.specs.Prelude.{◌≡◌, ◌<◌, ◌≤◌, ◌+◌, ◌^◌, ◌==◌, ℕ, suc};
 ghost use prog.Atomic.{either};
 ghost use Rattle.rgo_core.specs.Chains.{frees, remembers};
@@ -30,7 +32,8 @@ use rgo_core::rule::steps::{compare_exchange, load, store, swap};
 use rgo_core::table::{ByRuns, Plan, RunSeat, RunTable};
 use std::marker::Brand;
 
-/// Whether a page looks free, to nobody in particular: another goroutine may claim it at once. It serves to begin a search.
+/// Whether a page looks free. A hint where to begin a search: another goroutine may claim the page at once, and the load is not
+/// part of the history. Anybody may call it, with no seat.
 pub fn looks_free(table: &RunTable, sizes: &TableSizes, page: usize) -> bool
     requires layout { HasLayout (setup_of table.now.shared.key) sizes.now table.now.shared.table_id }
     requires page { page < sizes.now.pages }
@@ -38,8 +41,9 @@ pub fn looks_free(table: &RunTable, sizes: &TableSizes, page: usize) -> bool
     table.shared.peek(state_at(sizes, page)) == 0
 }
 
-/// Claims a page for the slot of the region in which the next instruction makes an object, if its state is found 0: the own page there,
-/// or a page that is reserved for the object, if that is spread. If the state is not 0, the record remembers that.
+/// Claims a page for the slot of the region in which the next instruction makes an object, if its state is found 0: the own page
+/// there, or a page that is reserved for the object, if that is spread. If the state is not 0, nothing changes, and the record
+/// remembers that this page was found in use.
 pub fn claim(
     table: &RunTable,
     seat: &mut RunSeat,
@@ -119,7 +123,7 @@ pub fn link(
     store::<Record, Plan, ByRuns, Brand, _>(table, seat, next_at(sizes, page), old, &slot);
 }
 
-/// Loads the head of a chain that is given back: its first page by number plus 1, or 0.
+/// Loads the head of a chain that is being returned: its first page by number plus 1, or 0. Nobody puts a page on it any more.
 pub fn head(table: &RunTable, seat: &mut RunSeat, sizes: &TableSizes, slot: usize) -> u64
     requires own { seat.old.table_id ≡ table.now.shared.table_id }
     requires layout { HasLayout (setup_of table.now.shared.key) sizes.now table.now.shared.table_id }
@@ -137,7 +141,7 @@ pub fn head(table: &RunTable, seat: &mut RunSeat, sizes: &TableSizes, slot: usiz
     load::<Record, Plan, ByRuns, Brand, _>(table, seat, head_at(sizes, slot), &slot)
 }
 
-/// Loads the page after this one in a chain that is given back, by its number plus 1; 0 after the last.
+/// Loads the page after this one in a chain that is being returned, by its number plus 1; 0 after the last.
 pub fn next(
     table: &RunTable,
     seat: &mut RunSeat,
@@ -160,7 +164,7 @@ pub fn next(
     load::<Record, Plan, ByRuns, Brand, _>(table, seat, next_at(sizes, page), &(slot, page))
 }
 
-/// Frees a page of a chain that is given back, once the page after it is known.
+/// Frees a page of a chain that is being returned, once the page after it is known.
 pub fn free(
     table: &RunTable,
     seat: &mut RunSeat,
@@ -183,7 +187,7 @@ pub fn free(
     store::<Record, Plan, ByRuns, Brand, _>(table, seat, state_at(sizes, page), 0, &(slot, next));
 }
 
-/// Clears the head of a chain of which no page is left.
+/// Clears the head of a chain once all its pages are free.
 pub fn clear(table: &RunTable, seat: &mut RunSeat, sizes: &TableSizes, slot: usize)
     requires own { seat.old.table_id ≡ table.now.shared.table_id }
     requires layout { HasLayout (setup_of table.now.shared.key) sizes.now table.now.shared.table_id }

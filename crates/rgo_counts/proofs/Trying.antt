@@ -13,7 +13,7 @@ use Rattle.rgo_core.specs.Core.{Setup}
 use Rattle.rgo_core.specs.Opening.{first_of}
 use Rattle.rgo_core.specs.Records.{Record, accesses}
 use Rattle.rgo_core_steps.specs.Counts.{IsCreating, created, created_with, tried_slot, tries_slot}
-use Rattle.rgo_core_steps.specs.Searches.{Miss, Took, Tried, missing}
+use Rattle.rgo_core_steps.specs.Searches.{Miss, TookFreePlace, Tried, missing}
 use Rattle.rgo_core_steps.specs.Seats.{Left, Settles, mine, settled}
 use Rattle.rgo_core_steps.proofs.Searching.{found_free, found_taken, took_above, took_below, took_one, tried_all, tried_one}
 use Rattle.rgo_core_steps.proofs.Settling.{settled_counts}
@@ -55,7 +55,7 @@ module _ (T : Setup) (z : TableSizes) (q : ℕ) (m : Me Record) (p n : ℕ) (w :
       some (ap suc counts))
 
   pub slot_taken : n ≡ 0 → IsCreating (settled T q m)
-      → Took accesses (first_of T.code) CreateRegion (count_at z) tried_slot (settled T q m) [] p 2 (λ d. created d p) m w
+      → TookFreePlace accesses (first_of T.code) CreateRegion (count_at z) tried_slot (settled T q m) [] p 2 (λ d. created d p) m w
   slot_taken none creates =
       took_one accesses (first_of T.code) CreateRegion (count_at z) tried_slot (settled T q m) p 2 (λ d. created d p) m w
       (found_free accesses (first_of T.code) CreateRegion (count_at z p) 2 (created (settled T q m) p) (tried_slot (settled T q m) p) m n w l

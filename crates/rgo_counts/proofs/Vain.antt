@@ -4,13 +4,13 @@ use Rattle.std.proofs.lemmas.Bool.Decides.{nat_tests}
 use Rattle.rgo_core.specs.Rule.declared.accesses.Kind.TheVariants.{CreateRegion}
 use Rattle.rgo_core.specs.Memory.Pages.{times}
 use Rattle.rgo_core.specs.Memory.Words.{count_at}
-use Rattle.rgo_core.proofs.Memory.Chains.{times_first}
+use Rattle.rgo_core.proofs.Memory.pages.Chains.{times_first}
 use Rattle.rgo_core.specs.Opening.{first_of}
 use Rattle.rgo_core.specs.Records.{Record, accesses}
 use Rattle.rgo_core_steps.specs.Counts.{tried_slot}
 use Rattle.rgo_core_steps.specs.Searches.{Miss, missing, places_of}
 use Rattle.rgo_core_steps.proofs.Covering.{Among, found_each, tried_each, tried_long, tried_still}
-use Rattle.rgo_counts.specs.Creation.{FullLaw}
+use Rattle.rgo_counts.specs.Creation.{FullSlotsLaw}
 
 times_more : (s p : ℕ) (ps : List ℕ) → 0 < times s ps → 0 < times s (p ∷ ps)
 times_more s p ps h = grind (arith, nat_tests, h)
@@ -30,7 +30,7 @@ remembers s (t ∷ ts) c a = ⊎_elim
     (λ (b : Among s (places_of ts)). remembers s ts (tried_slot c t.place) b)
     a
 
-pub full_law : FullLaw
+pub full_law : FullSlotsLaw
 full_law T z c m w t = record {
   es = t.tried.made.es;
   grew = t.tried.made.grew;

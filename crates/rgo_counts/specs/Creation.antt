@@ -12,8 +12,8 @@ use Rattle.rgo_core.specs.Core.{Setup}
 use Rattle.rgo_core.specs.Opening.{first_of}
 use Rattle.rgo_core.specs.Records.{Record, accesses}
 use Rattle.rgo_core_steps.specs.Counts.{created, tried_slot}
-use Rattle.rgo_core_steps.specs.Grown.{Found, Grew}
-use Rattle.rgo_core_steps.specs.Searches.{Took, TookOne, Tried, TriedAll, upward}
+use Rattle.rgo_core_steps.specs.Grown.{Found, SeatGrew}
+use Rattle.rgo_core_steps.specs.Searches.{TookFreePlace, TookOne, Tried, TriedAll, upward}
 use Rattle.rgo_core_steps.specs.Seats.{mine}
 
 -- The goroutine of seat m, whose record is c after its local steps, has exchanged the counts of slots, each at most once: it found
@@ -36,16 +36,16 @@ abbrev pub SlotsTried : Setup → TableSizes → (first end : ℕ) → (c : Reco
 SlotsTried T z first end c None m w =
     Tried accesses (first_of T.code) CreateRegion (count_at z) tried_slot c (upward first (end - first)) m w
 SlotsTried T z first end c (Some s) m w = (first ≤ s) × (s < end)
-    × Took accesses (first_of T.code) CreateRegion (count_at z) tried_slot c (upward first (s - first)) s 2 (λ d. created d s) m w
+    × TookFreePlace accesses (first_of T.code) CreateRegion (count_at z) tried_slot c (upward first (s - first)) s 2 (λ d. created d s) m w
 
 -- A search in vain made one exchange for each slot, and changed no word. Each slot was found in use, and the record remembers it.
 pub record FullSlots (T : Setup) (z : TableSizes) (c : Record) (m w : Me Record) : Type 0 where
   pub es : List Access
-  pub grew : Grew accesses (first_of T.code) m es w
+  pub grew : SeatGrew accesses (first_of T.code) m es w
   pub made : accesses_by (number_of m) es ≡ z.slots
   pub still : ChangesNothingBy (number_of m) es
   pub found : (s : ℕ) → s < z.slots → (n : ℕ) × (n ≢ 0) × Found (number_of m) es CreateRegion (count_at z s) n
   pub remembered : (s : ℕ) → s < z.slots → 0 < times s (mine T w).memory.tried_slots
 
-abbrev pub FullLaw : Type 0
-FullLaw = (T : Setup) (z : TableSizes) (c : Record) (m w : Me Record) → AllSlotsTried T z c m w → FullSlots T z c m w
+abbrev pub FullSlotsLaw : Type 0
+FullSlotsLaw = (T : Setup) (z : TableSizes) (c : Record) (m w : Me Record) → AllSlotsTried T z c m w → FullSlots T z c m w

@@ -4,6 +4,9 @@
 //!    nothing, and it is not counted as a step. There is at most one for each slot.
 //! 2. From there on once around, the count of each slot is exchanged, 2 for 0, until a count is found 0. That slot is the region's.
 //! 3. If none is found 0, each count was found in use by an exchange of this call, and the record remembers each slot.
+//!
+//! An exchange that finds a count other than 0 shows that the slot is in use at that moment. It is not tried again in this call, so
+//! the call ends after at most one exchange for each slot. Why: docs/DECISIONS.md, "Counts and pages as words".
 ghost use Rattle.std.specs.Prelude.{◌≡◌, ◌<◌, ◌≤◌, ◌+◌, ◌-◌, ◌≢◌, ℕ, false, IfErr, IfOk, IfSome};
 ghost use Rattle.rgo_core.specs.Opening.{first_of};
 ghost use Rattle.rgo_core.specs.Plans.{setup_of};
@@ -12,7 +15,7 @@ ghost use Rattle.rgo_sound.specs.Stakes.{is_in};
 ghost use Rattle.rgo_core_steps.specs.Counts.{IsCreating};
 ghost use Rattle.rgo_core_steps.specs.Layouts.{HasLayout};
 ghost use Rattle.rgo_core_steps.specs.Seats.{HasOne, HasPossible, Settles, mine, settled};
-ghost use Rattle.rgo_counts.specs.Creation.{AllSlotsTried, FullLaw, SlotOrNone, SlotTaken, SlotsTried};
+ghost use Rattle.rgo_counts.specs.Creation.{AllSlotsTried, FullSlotsLaw, SlotOrNone, SlotTaken, SlotsTried};
 
 use rgo_core::memory::layout::TableSizes;
 use rgo_core::table::{RunSeat, RunTable};
@@ -20,12 +23,13 @@ use rgo_core_steps::counting::Steps;
 use rgo_core_steps::counts;
 use std::sync::ledger::Ledger;
 
-/// No slot is free.
+/// Each slot was found in use, at its own exchange. That all were in use at one moment does not follow; the driver finds that out
+/// by a pass over all goroutines.
 #[derive(Clone, Copy, Debug, PartialEq, Eq)]
 pub struct NoSlot;
 
-/// Creates the region of the first duty, and returns its slot, in which the goroutine has no stake before. The search begins at
-/// slot 0.
+/// Creates the region of the first duty, and returns its slot, in which the goroutine had no stake before. The search begins at
+/// slot 0. Called by the goroutine that owes the duty.
 pub fn create<L: Ledger>(
     table: &RunTable,
     seat: &mut RunSeat,
@@ -53,7 +57,8 @@ pub fn create<L: Ledger>(
     create_at(table, seat, behind, sizes, 0, steps)
 }
 
-/// The same, where the search begins at slot `from`, or at slot 0 if there is no such slot.
+/// The same, but the search begins at slot `from`, or at slot 0 if there is no such slot. Where it begins is a hint: no clause
+/// depends on it.
 pub fn create_from<L: Ledger>(
     table: &RunTable,
     seat: &mut RunSeat,
@@ -88,7 +93,7 @@ pub fn create_from<L: Ledger>(
 
 /// What a search in vain shows: each slot was found in use at an exchange of the call.
 pub fn full_law()
-    ensures { FullLaw }
+    ensures { FullSlotsLaw }
 {}
 
 /// Creates a region, where the looks begin at this slot.
@@ -123,7 +128,8 @@ fn create_at<L: Ledger>(
     }
 }
 
-/// Takes a free slot, if there is one.
+/// Takes a free slot, if an exchange finds one. The first exchange takes the local steps of the goroutine with it, so the others
+/// have none to take.
 fn take<L: Ledger>(
     table: &RunTable,
     seat: &mut RunSeat,
@@ -158,7 +164,8 @@ fn take<L: Ledger>(
     }
 }
 
-/// Where the exchanges begin: at the first slot that looks free, from `from` on once around; if none does, at `from`.
+/// Where the exchanges begin: at the first slot that looks free, from `from` on once around; if none does, at `from`. The exchanges
+/// are made in that case, too: a look is not part of the history of the table, so it cannot show that a slot is in use.
 fn beginning(table: &RunTable, sizes: &TableSizes, from: usize) -> usize
     requires layout { HasLayout (setup_of table.now.shared.key) sizes.now table.now.shared.table_id }
     requires from { from < sizes.now.slots }

@@ -1,10 +1,14 @@
 //! Stakes in regions, each by one access of the count of a slot, which is one more than the stakes in its region.
 //!
-//! 1. A goroutine that has a stake adds 1 for one that it is about to start (`share`). So the count is at least 3 from before the start
-//!    on, until one of the two leaves.
-//! 2. Whoever ends a stake subtracts 1 (`leave`). Who finds more than 2 is not the last: another goroutine has a stake still, and will
-//!    find what is left. Who finds 2 is the last; no goroutine has a stake from then on, and so none accesses the count.
-//! 3. The last one gives the pages back, and stores 0 (`free_slot`). Then another goroutine's `create` may find the slot free.
+//! 1. A goroutine that has a stake adds 1 for one that it is about to start (`share`). So the count is at least 3 from before the
+//!    start on, until one of the two leaves.
+//! 2. Whoever ends a stake subtracts 1 (`leave`). Who finds more than 2 is not the last: another goroutine has a stake still, and
+//!    will find what is left. Who finds 2 is the last; no goroutine has a stake from then on, and so none accesses the count.
+//! 3. The last one returns the pages, and stores 0 (`free_slot`). Then another goroutine's `create` may find the slot free.
+//!
+//! Each function is called by the goroutine whose record is on the seat, in its own turn. None can fail: an addition or subtraction
+//! is never refused, and the slot is freed when nobody else accesses its count. Why: docs/DECISIONS.md, "Counts and pages as
+//! words".
 ghost use Rattle.std.specs.Prelude.{◌≡◌, ◌<◌, ◌+◌, ◌-◌, ◌%◌, ◌^◌, ℕ};
 ghost use mathlib.Core.Logic.{◌↔◌};
 ghost use Rattle.rgo_core.specs.Chains.{remembers};
@@ -27,13 +31,15 @@ use std::sync::ledger::Ledger;
 /// Who has a stake in a region after a goroutine has left it.
 #[derive(Clone, Copy, Debug, PartialEq, Eq)]
 pub enum Left {
-    /// At least one goroutine has.
+    /// At least one goroutine had one at the moment of the subtraction.
     Others,
-    /// None has. The goroutine is to give the pages back, and then to free the slot.
+    /// None has, and none will: only a goroutine with a stake can share it. The caller alone returns the pages, and then frees the
+    /// slot.
     Last,
 }
 
-/// Takes the stake of a goroutine that is about to start: the first duty.
+/// Takes the stake of a goroutine that is about to start: the first duty. The starter takes it, before the start: if the new
+/// goroutine did so itself, the last stake of the others might end before its first step.
 pub fn share<L: Ledger>(
     table: &RunTable,
     seat: &mut RunSeat,
@@ -60,7 +66,7 @@ pub fn share<L: Ledger>(
     counts::share(table, seat, behind, sizes, slot as usize);
 }
 
-/// Ends a stake of the goroutine: the first duty. `Last` comes exactly where the count was found to be 2.
+/// Ends a stake of the goroutine: the first duty. Returns `Last` exactly if the count was found to be 2.
 pub fn leave<L: Ledger>(
     table: &RunTable,
     seat: &mut RunSeat,
@@ -88,7 +94,8 @@ pub fn leave<L: Ledger>(
     if found == 2 { Left::Last } else { Left::Others }
 }
 
-/// Frees the slot of a region whose pages were given back.
+/// Frees the slot of a region whose pages were returned. This comes last: a region that took the slot earlier would put its pages
+/// on the old chain.
 pub fn free_slot<L: Ledger>(
     table: &RunTable,
     seat: &mut RunSeat,

@@ -9,8 +9,8 @@ use Rattle.rgo_crew.specs.declared.over.Tally.{Tally}
 use Rattle.rgo_crew.specs.declared.over.Why.{Why}
 use Rattle.rgo_crew.specs.declared.over.Why.TheVariants as why
 use Rattle.rgo_goroutine.specs.declared.goroutine.Goroutine.{Goroutine}
-use Rattle.rgo_goroutine.specs.declared.turning.Stop.{Stop}
-use Rattle.rgo_goroutine.specs.declared.turning.Stop.TheVariants as stop
+use Rattle.rgo_goroutine.specs.declared.turning.TableTurnEnd.{TableTurnEnd}
+use Rattle.rgo_goroutine.specs.declared.turning.TableTurnEnd.TheVariants as stop
 use Rattle.rgo_sound.specs.Machine.declared.picks.End.TheVariants.{Exit, Trap}
 use Rattle.rgo_sound.specs.RegionMachine.Counts.{Counts}
 
@@ -21,7 +21,7 @@ ending_of (Ended (Trap trap at)) = ending.Trap trap
 ending_of (Stopped limit) = ending.Limit limit
 
 -- the stop, without words of the table and places of the text
-abbrev pub why_of : Stop → Why
+abbrev pub why_of : TableTurnEnd → Why
 why_of stop.Went = why.Went
 why_of (stop.Blocked at) = why.Blocked
 why_of (stop.Lost at) = why.Lost
@@ -67,8 +67,8 @@ abbrev pub ended_by : Goroutine → List (ℕ × Ending)
 ended_by go = ended_as go.number go.first
 
 -- the tickets of the prints are the numbers from 0 on, in order
-abbrev pub AreNumbered : List Print → Type 0
-AreNumbered prints = (k : ℕ) (print : Print) → slice_get prints k ≡ Some print → print.ticket ≡ k
+abbrev pub AreTicketsNumbered : List Print → Type 0
+AreTicketsNumbered prints = (k : ℕ) (print : Print) → slice_get prints k ≡ Some print → print.ticket ≡ k
 
 -- the bytes of one print after another
 abbrev pub joined : List Print → List ℕ

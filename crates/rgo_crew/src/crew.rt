@@ -7,7 +7,7 @@ ghost use Rattle.rgo_core.specs.Memory.Words.{clock_at};
 ghost use Rattle.rgo_core.specs.Rule.Views.{view};
 ghost use Rattle.rgo_core_steps.specs.Seats.{IsSeatOf};
 ghost use Rattle.rgo_goroutine.specs.Goroutines.{IsOf};
-ghost use Rattle.rgo_goroutine.specs.Instructions.{HasPages};
+ghost use Rattle.rgo_goroutine.specs.Instructions.{TableHasPages};
 
 use crate::errors::CrewError;
 use crate::over::{Over, Tally};
@@ -16,7 +16,7 @@ use rgo_core_steps::counting::Steps;
 use rgo_goroutine::acts::prints::Print;
 use rgo_goroutine::acts::runs::Run;
 use rgo_goroutine::goroutine::Goroutine;
-use rgo_goroutine::turning::{Stop, Turned};
+use rgo_goroutine::turning::{TableTurnEnd, Turned};
 use std::alloc::{AllocError, Global};
 use std::marker::{Brand, Model};
 use std::sync::ledger::{Blank, Ledger};
@@ -37,13 +37,13 @@ impl<'r, 'c> Model for Crew<'r, 'c> {
     ghost use Rattle.rgo_core_steps.specs.Seats.{IsSeatOf};
     ghost use Rattle.rgo_goroutine.specs.Acts.Runs as runs;
     ghost use Rattle.rgo_goroutine.specs.Goroutines.{IsOf};
-    ghost use Rattle.rgo_goroutine.specs.Instructions.{HasPages};
+    ghost use Rattle.rgo_goroutine.specs.Instructions.{TableHasPages};
 
     ghost Value = { runs.Run };
 
     ghost view = { λ c. c.run.now };
 
-    ghost invariant = { λ c. IsSeatOf c.seat.table_id c.run.now.table clock_at × HasPages c.run.now
+    ghost invariant = { λ c. IsSeatOf c.seat.table_id c.run.now.table clock_at × TableHasPages c.run.now
         × All (IsOf c.run.now) c.goroutines.items };
 }
 
@@ -68,7 +68,7 @@ fn turn<L: Ledger>(
     steps: &mut Steps<L>,
 ) -> Option<Turned>
     requires of { IsOf run.now goroutine.old }
-    requires pages { HasPages run.now }
+    requires pages { TableHasPages run.now }
     ensures of { IsOf run.now goroutine.new }
     ensures within { IfSome result (λ turned. turned.steps ≤ slice) }
 {
@@ -78,7 +78,7 @@ fn turn<L: Ledger>(
     Some(goroutine.turn(alloc, run, slice, steps))
 }
 
-/// What a goroutine has started and printed comes to the ends of these lists. Returns how many it has started.
+/// Moves what a goroutine has started and printed to the ends of these lists. Returns how many it has started.
 fn collect(
     alloc: Global,
     run: &Run<'_, '_>,
@@ -95,7 +95,7 @@ fn collect(
     goroutine.adopt(alloc, run, born)
 }
 
-/// The goroutine at this place has a turn. What it has printed and started comes to the ends of these lists.
+/// The goroutine at this place has a turn. What it has printed and started moves to the ends of these lists.
 fn turn_one<L: Ledger>(
     alloc: Global,
     run: &Run<'_, '_>,
@@ -108,7 +108,7 @@ fn turn_one<L: Ledger>(
 ) -> Result<(Turned, usize), CrewError>
     requires all { All (IsOf run.now) goroutines.old }
     requires born { All (IsOf run.now) born.old.items }
-    requires pages { HasPages run.now }
+    requires pages { TableHasPages run.now }
     ensures all { All (IsOf run.now) goroutines.new }
     ensures born { All (IsOf run.now) born.new.items }
     ensures within { IfOk result (λ t. t.0.steps ≤ slice) }
@@ -150,7 +150,7 @@ fn turn_at<L: Ledger>(
     steps: &mut Steps<L>,
 ) -> Result<(Turned, usize), CrewError>
     requires all { All (IsOf run.now) goroutines.old.items }
-    requires pages { HasPages run.now }
+    requires pages { TableHasPages run.now }
     ensures all { All (IsOf run.now) goroutines.new.items }
     ensures within { IfOk result (λ t. t.0.steps ≤ slice) }
 {
@@ -208,9 +208,10 @@ impl Patience {
             self.late = self.late.saturating_add(1);
         }
         let is_idle = match turned.stop {
-            Stop::Ended | Stop::Stopped(_) | Stop::NoMemory => return false,
-            Stop::Short(_) => true,
-            Stop::Went | Stop::Blocked { .. } | Stop::Lost { .. } => !turned.moved,
+            TableTurnEnd::Ended | TableTurnEnd::Stopped(_) | TableTurnEnd::NoMemory => return false,
+            TableTurnEnd::Short(_) => true,
+            TableTurnEnd::Went | TableTurnEnd::Blocked { .. } | TableTurnEnd::Lost { .. } =>
+                !turned.moved,
         };
         if !is_idle {
             self.idle = 0;
@@ -231,7 +232,7 @@ fn turn_counted<L: Ledger>(
     blank: Blank,
 )
     requires of { IsOf run.now goroutine.old }
-    requires pages { HasPages run.now }
+    requires pages { TableHasPages run.now }
     requires name { blank.name ≡ L.name }
     requires parts { (blank.parts ≡ L.parts) × (0 < blank.parts) }
     ensures { IsOf run.now goroutine.new }
@@ -249,10 +250,10 @@ fn turn_counted<L: Ledger>(
     }
 }
 
-/// The same. Its accesses to the table are counted for nobody.
+/// The same, without counting its accesses to the table.
 fn turn_on(alloc: Global, run: &Run<'_, '_>, goroutine: &mut Goroutine, slice: u32)
     requires of { IsOf run.now goroutine.old }
-    requires pages { HasPages run.now }
+    requires pages { TableHasPages run.now }
     ensures { IsOf run.now goroutine.new }
 {
     turn_counted::<Brand>(alloc, run, goroutine, slice, Blank::new(1));
@@ -267,7 +268,7 @@ fn turn_all_on<R: Threads + Sync>(
     slice: u32,
 )
     requires all { All (IsOf run.now) goroutines.old }
-    requires pages { HasPages run.now }
+    requires pages { TableHasPages run.now }
     ensures { All (IsOf run.now) goroutines.new }
 {
     let count = goroutines.len();
@@ -279,13 +280,13 @@ fn turn_all_on<R: Threads + Sync>(
         goroutines,
         count,
         &|_: usize, goroutine: &mut Goroutine|
-            requires { IsOf run.now goroutine.old × HasPages run.now }
+            requires { IsOf run.now goroutine.old × TableHasPages run.now }
             ensures { IsOf run.entry.now goroutine.new }
         { turn_on(alloc, run, goroutine, slice) },
     );
 }
 
-/// What the goroutines have started and printed comes to the ends of these lists.
+/// Moves what the goroutines have started and printed to the ends of these lists.
 fn collect_all(
     alloc: Global,
     run: &Run<'_, '_>,
@@ -314,7 +315,7 @@ fn turn_each<R: Threads + Sync>(
     prints: &mut Vec<Print>,
 ) -> Result<(), AllocError>
     requires all { All (IsOf run.now) goroutines.old.items }
-    requires pages { HasPages run.now }
+    requires pages { TableHasPages run.now }
     ensures all { All (IsOf run.now) goroutines.new.items }
 {
     let mut born = Vec::new(alloc);
@@ -346,7 +347,7 @@ impl<'r, 'c> Crew<'r, 'c> {
         requires own { IsSeatOf seat.table_id run.now.table clock_at }
         requires first { seat.me ≡ (view ((0, first_of run.now.setup.code) ∷ []) [], []) }
         requires possible { IsPossible run.now.setup 0 (first_of run.now.setup.code) }
-        requires pages { HasPages run.now }
+        requires pages { TableHasPages run.now }
         ensures { IfOk result (λ c. c ≡ run.now) }
     {
         let main = Goroutine::main_goroutine(alloc, run, &mut seat)?;

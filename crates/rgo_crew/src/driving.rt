@@ -2,7 +2,7 @@
 ghost use Rattle.std.specs.Prelude.{◌≡◌, ◌+◌, ◌<◌, ◌≤◌, ◌^◌, IfOk};
 ghost use Rattle.std.specs.Mem.Slots.{IsFull, slots_len};
 ghost use Rattle.rgo_core.specs.Memory.Words.{all_words};
-ghost use Rattle.rgo_crew.specs.Overs.{AreNumbered};
+ghost use Rattle.rgo_crew.specs.Overs.{AreTicketsNumbered};
 
 use crate::crew::Crew;
 use crate::errors::CrewError;
@@ -27,8 +27,9 @@ pub enum Course<'c> {
     Rounds(u32),
     /// In this order: each turn is that of the goroutine at a place, of up to this many instructions.
     Turns(&'c [(usize, u32)]),
-    /// In rounds until there are this many goroutines, and then each of them in a thread of its own, by turns of up to so many
-    /// instructions. Goroutines that have found nothing to do in their threads for long have a round, before all have threads again.
+    /// In rounds until there are this many goroutines (the first number), and then each of them in a thread of its own, by turns of
+    /// up to as many instructions as the second says. Goroutines that have found nothing to do in their threads for long have a
+    /// round, before all have threads again.
     Threads { goroutines: usize, slice: u32 },
 }
 
@@ -38,12 +39,13 @@ const MOST_ROUNDS: u64 = 1 << 40;
 /// The most rounds of a run after its end.
 const MOST_LATE: u64 = 1 << 10;
 
-/// When a run is over because a goroutine lacks a page or a slot.
+/// When a run is over because a goroutine lacks a page or a slot: a test may want to see the lack itself, or what comes once others
+/// have freed some.
 #[derive(Clone, Copy, PartialEq, Eq)]
 enum Lack {
     /// At once.
     Ends,
-    /// When no other goroutine continues.
+    /// Only if nothing has moved in the whole round.
     Waits,
 }
 
@@ -148,7 +150,8 @@ fn rounds<L: Ledger>(
     Ok(Ending::Unfinished)
 }
 
-/// Rounds until the run is over. After those at which there are this many goroutines, each of them has turns in a thread of its own.
+/// Rounds until the run is over. After those at which there are this many goroutines, each of them has turns in a thread of its
+/// own.
 fn threaded<R: Threads + Sync, L: Ledger>(
     rt: &R,
     alloc: Global,
@@ -293,7 +296,7 @@ pub fn drive<R: Threads + Sync>(
     limits: Limits,
     course: Course<'_>,
 ) -> Result<Over, CrewError>
-    ensures { IfOk result (λ over. AreNumbered over.prints.items) }
+    ensures { IfOk result (λ over. AreTicketsNumbered over.prints.items) }
 {
     let variables = code.code().tac().variables().len();
     let layout = TableSizes {

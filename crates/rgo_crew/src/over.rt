@@ -2,13 +2,13 @@
 ghost use Rattle.std.specs.Prelude.{◌≡◌, ◌++◌, true, IfOk, OnOk};
 ghost use Rattle.rgo_goroutine.specs.Acts.Runs as runs;
 ghost use Rattle.rgo_goroutine.specs.Goroutines.{IsOf, record_of};
-ghost use Rattle.rgo_crew.specs.Overs.{AreNumbered, added, ended_by, ending_of, joined, no_tally, tally_of, why_of};
+ghost use Rattle.rgo_crew.specs.Overs.{AreTicketsNumbered, added, ended_by, ending_of, joined, no_tally, tally_of, why_of};
 
 use rgo_core_steps::clock::Mark;
 use rgo_goroutine::acts::prints::Print;
 use rgo_goroutine::body::Counts;
 use rgo_goroutine::goroutine::Goroutine;
-use rgo_goroutine::turning::Stop;
+use rgo_goroutine::turning::TableTurnEnd;
 use rgo_sound::machine::{End, Shortage};
 use rgo_sound::memory::Trap;
 use rgo_sound::region_machine::Limit;
@@ -88,17 +88,17 @@ fn ending_of(mark: Mark) -> Ending
 
 impl Why {
     /// That of this stop.
-    pub fn of(stop: Stop) -> Why
+    pub fn of(stop: TableTurnEnd) -> Why
         ensures { result ≡ why_of stop }
     {
         match stop {
-            Stop::Went => Why::Went,
-            Stop::Blocked { .. } => Why::Blocked,
-            Stop::Lost { .. } => Why::Lost,
-            Stop::Ended => Why::Ended,
-            Stop::Stopped(mark) => Why::Over(ending_of(mark)),
-            Stop::Short(shortage) => Why::Over(Ending::Short(shortage)),
-            Stop::NoMemory => Why::Over(Ending::NoMemory),
+            TableTurnEnd::Went => Why::Went,
+            TableTurnEnd::Blocked { .. } => Why::Blocked,
+            TableTurnEnd::Lost { .. } => Why::Lost,
+            TableTurnEnd::Ended => Why::Ended,
+            TableTurnEnd::Stopped(mark) => Why::Over(ending_of(mark)),
+            TableTurnEnd::Short(shortage) => Why::Over(Ending::Short(shortage)),
+            TableTurnEnd::NoMemory => Why::Over(Ending::NoMemory),
         }
     }
 }
@@ -152,7 +152,7 @@ impl Tally {
 
 /// Whether the tickets of these prints are the numbers from 0 on, in order.
 pub(crate) fn are_numbered(prints: &[Print]) -> bool
-    ensures { result ≡ true → AreNumbered prints.now }
+    ensures { result ≡ true → AreTicketsNumbered prints.now }
 {
     for i in 0..prints.len() {
         if prints[i].ticket != i as u64 {

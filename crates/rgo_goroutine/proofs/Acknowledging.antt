@@ -5,22 +5,22 @@ use Rattle.rgo_sound.specs.Code.Code.{Code}
 use Rattle.rgo_core.specs.Frames.WordFrames.{bare}
 use Rattle.rgo_sound.specs.RegionMachine.Owed.{current}
 use Rattle.rgo_acts.specs.Body.Bodies.{HasRoomBehind, frames_in}
-use Rattle.rgo_acts.specs.Body.Nexts.{HasNoNext, IsNextOf}
-use Rattle.rgo_acts.specs.Body.Steps.{Stays}
+use Rattle.rgo_acts.specs.Body.Nexts.{FrameHasNoNext, IsNextOf}
+use Rattle.rgo_acts.specs.Body.Steps.{StillShows}
 use Rattle.rgo_acts.specs.Body.declared.bodies.Body.{Body}
 use Rattle.rgo_acts.specs.Body.declared.bodies.Side.TheVariants.{Offering}
 use Rattle.rgo_acts.specs.Body.declared.nexts.Next.{Next}
-use Rattle.rgo_acts.specs.Actors.{Stands}
+use Rattle.rgo_acts.specs.Actors.{IsActorOf}
 use Rattle.rgo_acts.specs.Runs.{Run}
-use Rattle.rgo_acts.specs.Talks.{CanAcknowledge, Talks}
+use Rattle.rgo_acts.specs.Talks.{ActorCanAcknowledge, Talks}
 use Rattle.rgo_acts.specs.declared.actors.Actor.{Actor}
 use Rattle.rgo_acts.specs.declared.channels.Talked.{Talked}
 use Rattle.rgo_acts.proofs.AtChannels.{at_send, offers_owe_nothing}
-use Rattle.rgo_goroutine.specs.Acting.{Acts, Goes}
-use Rattle.rgo_goroutine.specs.Instructions.{HasTalked, Instructs}
+use Rattle.rgo_goroutine.specs.Acting.{GoroutineActs, MayMakeInstructions}
+use Rattle.rgo_goroutine.specs.Instructions.{HasTalked, MakesInstruction}
 use Rattle.rgo_goroutine.specs.declared.goroutine.Goroutine.{Goroutine}
-use Rattle.rgo_goroutine.specs.declared.turning.Stop.{Stop}
-use Rattle.rgo_goroutine.specs.declared.turning.Stop.TheVariants as stop
+use Rattle.rgo_goroutine.specs.declared.turning.TableTurnEnd.{TableTurnEnd}
+use Rattle.rgo_goroutine.specs.declared.turning.TableTurnEnd.TheVariants as stop
 use Rattle.rgo_goroutine.specs.declared.turning.Turning.{Turning}
 use Rattle.rgo_goroutine.proofs.Joining.{instructs_then}
 use Rattle.rgo_goroutine.proofs.Resting.{StaysPut, put_by, put_halts, put_on}
@@ -30,7 +30,7 @@ was_ok (Ok x) P is p = p
 was_ok (Err e) P is p = cc
 
 -- it is at its send
-pub has_next : (r : Run) (a : Actor) → Stands r a → (at : ℕ) → a.body.side ≡ Offering at → HasNoNext r.program.code (frames_in a.body) → ⊥
+pub has_next : (r : Run) (a : Actor) → IsActorOf r a → (at : ℕ) → a.body.side ≡ Offering at → FrameHasNoNext r.program.code (frames_in a.body) → ⊥
 has_next r a stands at offers nothing =
     let x = (at_send r a stands at offers).send in
     none-some x.instr
@@ -38,8 +38,8 @@ has_next r a stands at offers nothing =
     ∙ (ap (λ (code : Code). current code (bare x.w)) (sym stands.shows.code) ∙ x.cur))
 
 -- there is room for what follows it, and its body knows that it owes nothing before it
-module _ (r : Run) (old : Goroutine) (d : Body) (t : Turning) (goes : Goes r old t.left) (noted : t.changed.count < 8)
-    (stays : Stays r.program old.actor.body d)
+module _ (r : Run) (old : Goroutine) (d : Body) (t : Turning) (goes : MayMakeInstructions r old t.left) (noted : t.changed.count < 8)
+    (stays : StillShows r.program old.actor.body d)
     (same : d ≡ record old.actor.body { queue = d.queue; is_expanded = d.is_expanded }) where
   abbrev pub mid : Goroutine
   mid = record old { actor = record old.actor { body = d } }
@@ -47,17 +47,17 @@ module _ (r : Run) (old : Goroutine) (d : Body) (t : Turning) (goes : Goes r old
   put : StaysPut r old.actor mid.actor
   put = put_by r old.actor d goes.stands stays
 
-  pub room_acts : Acts r old mid t t None
+  pub room_acts : GoroutineActs r old mid t t None
   room_acts = put_on r old mid.actor t goes put (omega (arith, noted))
 
-  pub no_room : Instructs r old mid t t (Some stop.NoMemory)
+  pub no_room : MakesInstruction r old mid t t (Some stop.NoMemory)
   no_room = put_halts r old mid.actor t goes put noted
 
-  pub room_then : (new : Goroutine) (u : Turning) (answer : Option Stop) → Instructs r mid new t u answer → Instructs r old new t u answer
+  pub room_then : (new : Goroutine) (u : Turning) (answer : Option TableTurnEnd) → MakesInstruction r mid new t u answer → MakesInstruction r old new t u answer
   room_then new u answer y = instructs_then r old mid new t t u answer room_acts (omega arith) y
 
   pub can_ask : (next : Next) (at : ℕ) → old.actor.body.side ≡ Offering at → IsNextOf r.program.code (frames_in old.actor.body) next
-      → d.is_expanded ≡ true → HasRoomBehind d next → CanAcknowledge r mid.actor next at
+      → d.is_expanded ≡ true → HasRoomBehind d next → ActorCanAcknowledge r mid.actor next at
   can_ask next at offers is_next expanded room =
       let offers_still = ap (λ (x : Body). x.side) same ∙ offers in
       record {

@@ -7,10 +7,10 @@ use Rattle.rgo_acts.specs.Body.declared.bodies.Side.{Side}
 use Rattle.rgo_acts.specs.Body.declared.bodies.Side.TheVariants.{AtRest, Offering}
 use Rattle.rgo_acts.specs.Body.declared.queues.Duty.{Duty as DutyOf}
 use Rattle.rgo_acts.specs.Runs.{Run}
-use Rattle.rgo_goroutine.specs.Acting.{Acts, Goes}
+use Rattle.rgo_goroutine.specs.Acting.{GoroutineActs, MayMakeInstructions}
 use Rattle.rgo_goroutine.specs.Instructions.{HasAttendedAll, HasAttendedOne}
 use Rattle.rgo_goroutine.specs.declared.goroutine.Goroutine.{Goroutine}
-use Rattle.rgo_goroutine.specs.declared.turning.Stop.{Stop}
+use Rattle.rgo_goroutine.specs.declared.turning.TableTurnEnd.{TableTurnEnd}
 use Rattle.rgo_goroutine.specs.declared.turning.Turning.{Turning}
 use Rattle.rgo_goroutine.proofs.Advancing.{told_same}
 use Rattle.rgo_goroutine.proofs.Joining.{acts_then}
@@ -35,12 +35,12 @@ fewer b d one = let e = ap (λ (ds : List Duty). length ds) one.queue in omega (
 -- ---- some are done
 
 pub record HasAttendedSome (r : Run) (old go : Goroutine) (t u : Turning) : Type 0 where
-  pub acts : Acts r old go t u None
+  pub acts : GoroutineActs r old go t u None
   pub same : u ≡ record t { moved = u.moved }
   pub rests : go.actor.body.side ≡ AtRest
   pub expanded : go.actor.body.is_expanded ≡ old.actor.body.is_expanded
 
-pub none_yet : (r : Run) (old : Goroutine) (t : Turning) → Goes r old t.left → t.changed.count < 8 → old.actor.body.side ≡ AtRest
+pub none_yet : (r : Run) (old : Goroutine) (t : Turning) → MayMakeInstructions r old t.left → t.changed.count < 8 → old.actor.body.side ≡ AtRest
     → HasAttendedSome r old old t t
 none_yet r old t goes noted rests = record {
   acts = acts_none r old t goes (omega (arith, noted));
@@ -51,16 +51,16 @@ none_yet r old t goes noted rests = record {
 
 -- one more
 module _ (r : Run) (old go : Goroutine) (t u v : Turning) (has : HasAttendedSome r old go t u) where
-  pub also : (new : Goroutine) (answer : Option Stop) → Acts r go new u v answer → Acts r old new t v answer
+  pub also : (new : Goroutine) (answer : Option TableTurnEnd) → GoroutineActs r go new u v answer → GoroutineActs r old new t v answer
   also new answer acts = acts_then r old go new t u v answer has.acts acts
 
   pub also_same : v ≡ record u { moved = v.moved } → v ≡ record t { moved = v.moved }
   also_same same = told_same t u v u.moved v.moved has.same same
 
-  pub one_more : (new : Goroutine) (answer : Option Stop) → answer ≡ None → Acts r go new u v answer → v ≡ record u { moved = v.moved }
+  pub one_more : (new : Goroutine) (answer : Option TableTurnEnd) → answer ≡ None → GoroutineActs r go new u v answer → v ≡ record u { moved = v.moved }
       → HasAttendedOne go.actor.body new.actor.body → HasAttendedSome r old new t v
   one_more new answer is acts same one = record {
-    acts = subst (λ (a : Option Stop). Acts r old new t v a) is (also new answer acts);
+    acts = subst (λ (a : Option TableTurnEnd). GoroutineActs r old new t v a) is (also new answer acts);
     same = also_same same;
     rests = one.rests;
     expanded = one.expanded ∙ has.expanded;

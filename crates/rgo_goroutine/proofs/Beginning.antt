@@ -16,11 +16,11 @@ use Rattle.rgo_acts.specs.Runs.{Run}
 use Rattle.rgo_acts.specs.declared.actors.Actor.{Actor}
 use Rattle.rgo_acts.proofs.Before.{return_of}
 use Rattle.rgo_acts.proofs.LocalActs.{none_done, roomier_ready, roomier_shows}
-use Rattle.rgo_goroutine.specs.Acting.{Acts, EndsIn, Goes}
-use Rattle.rgo_goroutine.specs.Goroutines.{AllStand, drawn_by, fresh}
-use Rattle.rgo_goroutine.specs.Instructions.{Instructs}
+use Rattle.rgo_goroutine.specs.Acting.{GoroutineActs, EndsIn, MayMakeInstructions}
+use Rattle.rgo_goroutine.specs.Goroutines.{AreChildren, drawn_by, fresh}
+use Rattle.rgo_goroutine.specs.Instructions.{MakesInstruction}
 use Rattle.rgo_goroutine.specs.declared.goroutine.Goroutine.{Goroutine}
-use Rattle.rgo_goroutine.specs.declared.turning.Stop.{Stop}
+use Rattle.rgo_goroutine.specs.declared.turning.TableTurnEnd.{TableTurnEnd}
 use Rattle.rgo_goroutine.specs.declared.turning.Turning.{Turning}
 use Rattle.rgo_goroutine.proofs.Concluding.{Counts, ended, uncounted}
 use Rattle.rgo_goroutine.proofs.Joining.{instructs_then}
@@ -28,8 +28,8 @@ use Rattle.rgo_goroutine.proofs.Keeping.{IsSame}
 use Rattle.rgo_goroutine.proofs.Lifting.{goes_as, moved_as, moves}
 
 -- nothing was made, printed or started
-same_acts : (r : Run) (old new : Goroutine) (t u : Turning) → Goes r old t.left → t.changed.count < 8 → Counts t u 0 0 → IsSame old new
-    → act.Acted r old.actor new.actor 0 [] [] → Acts r old new t u None
+same_acts : (r : Run) (old new : Goroutine) (t u : Turning) → MayMakeInstructions r old t.left → t.changed.count < 8 → Counts t u 0 0 → IsSame old new
+    → act.ActorActed r old.actor new.actor 0 [] [] → GoroutineActs r old new t u None
 same_acts r old new t u goes noted counts same acted = record {
   acted = record {
     n = 0;
@@ -41,15 +41,15 @@ same_acts r old new t u goes noted counts same acted = record {
     still = λ e. absurd (moves u.moved counts.moved e);
   };
   goes = goes_as r old new 0 [] [] acted t.left u.left goes counts.left (omega arith) same.number
-      (subst (AllStand r) (sym same.children) goes.all) same.first;
+      (subst (AreChildren r) (sym same.children) goes.all) same.first;
   noted = (let c = counts.changed in omega (arith, c, noted));
   concludes = acted.went.first;
 }
 
 -- the run is over after that
-pub same_ends : (r : Run) (old mid new : Goroutine) (t u : Turning) (why : Stop) → Goes r old t.left → t.changed.count < 8
-    → Counts t u 0 0 → IsSame old mid → act.Acted r old.actor mid.actor 0 [] [] → EndsIn r mid new 0 why
-    → Instructs r old new t u (Some why)
+pub same_ends : (r : Run) (old mid new : Goroutine) (t u : Turning) (why : TableTurnEnd) → MayMakeInstructions r old t.left → t.changed.count < 8
+    → Counts t u 0 0 → IsSame old mid → act.ActorActed r old.actor mid.actor 0 [] [] → EndsIn r mid new 0 why
+    → MakesInstruction r old new t u (Some why)
 same_ends r old mid new t u why goes noted counts same acted ends =
     let first = same_acts r old mid t u goes noted counts same acted in
     let left = counts.left in
@@ -76,5 +76,5 @@ returning r a m next value before roomier is =
       count = let same = ap (λ (b : Body). b.counts.steps) roomier in let count = before.count in omega (arith, same, count);
     }
 
-pub roomier : (r : Run) (a : Actor) (m : Body) → act.Stands r a → IsRoomier a.body m → act.Acted r a (record a { body = m }) 0 [] []
+pub roomier : (r : Run) (a : Actor) (m : Body) → act.IsActorOf r a → IsRoomier a.body m → act.ActorActed r a (record a { body = m }) 0 [] []
 roomier r a m stands same = none_done r a (record a { body = m }) stands refl refl (roomier_shows r.program a.body m same)

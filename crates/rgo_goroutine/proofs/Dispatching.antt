@@ -8,11 +8,11 @@ use Rattle.rgo_acts.specs.Body.declared.nexts.Next.{Next}
 use Rattle.rgo_acts.specs.Actors as act
 use Rattle.rgo_acts.specs.Runs.{Run}
 use Rattle.rgo_acts.specs.declared.actors.Actor.{Actor}
-use Rattle.rgo_goroutine.specs.Acting.{Acts, StopsBy}
-use Rattle.rgo_goroutine.specs.Instructions.{CanAct, CanCountMore, Instructs, IsAt, IsNear}
+use Rattle.rgo_goroutine.specs.Acting.{GoroutineActs, StopsBy}
+use Rattle.rgo_goroutine.specs.Instructions.{CanAct, CanCountMore, MakesInstruction, IsAt, IsNear}
 use Rattle.rgo_goroutine.specs.declared.goroutine.Goroutine.{Goroutine}
-use Rattle.rgo_goroutine.specs.declared.turning.Stop.{Stop}
-use Rattle.rgo_goroutine.specs.declared.turning.Stop.TheVariants as stop
+use Rattle.rgo_goroutine.specs.declared.turning.TableTurnEnd.{TableTurnEnd}
+use Rattle.rgo_goroutine.specs.declared.turning.TableTurnEnd.TheVariants as stop
 use Rattle.rgo_goroutine.specs.declared.turning.Turning.{Turning}
 use Rattle.rgo_goroutine.proofs.Concluding.{Counts, counted, made, no_answer, only_told, refused, unmoved}
 use Rattle.rgo_goroutine.proofs.Joining.{acts_then, instructs_then, near_acts}
@@ -20,7 +20,7 @@ use Rattle.rgo_goroutine.proofs.Lifting.{goes_on, stops}
 
 -- it has come near, and what it does cannot be counted
 pub near_halts : (r : Run) (old mid : Goroutine) (t : Turning) → IsNear r old mid t.left → t.changed.count < 8
-    → Instructs r old mid t t (Some stop.NoMemory)
+    → MakesInstruction r old mid t t (Some stop.NoMemory)
 near_halts r old mid t near noted =
     let acts = near_acts r old mid t near (omega (arith, noted)) in
     record {
@@ -29,8 +29,8 @@ near_halts r old mid t near noted =
     }
 
 -- it has come near, and then makes the instruction
-pub near_then : (r : Run) (old mid new : Goroutine) (t u : Turning) (answer : Option Stop) → IsNear r old mid t.left
-    → t.changed.count < 8 → Instructs r mid new t u answer → Instructs r old new t u answer
+pub near_then : (r : Run) (old mid new : Goroutine) (t u : Turning) (answer : Option TableTurnEnd) → IsNear r old mid t.left
+    → t.changed.count < 8 → MakesInstruction r mid new t u answer → MakesInstruction r old new t u answer
 near_then r old mid new t u answer near noted y =
     instructs_then r old mid new t t u answer (near_acts r old mid t near (omega (arith, noted))) (omega arith) y
 
@@ -51,23 +51,23 @@ can_act r old mid next t at near rests counts noted = record {
 }
 
 -- an instruction that memory may refuse
-pub unless : {E : Type 0} (r : Run) (old : Goroutine) (b : Actor) (next : Next) (t u : Turning) (answer : Option Stop)
+pub unless : {E : Type 0} (r : Run) (old : Goroutine) (b : Actor) (next : Next) (t u : Turning) (answer : Option TableTurnEnd)
     (done : Result (Unit {0}) E) → CanAct r old next t
-    → MatchResult done (λ _. act.Acted r old.actor b 1 [] []) (λ _. act.Acted r old.actor b 0 [] [])
+    → MatchResult done (λ _. act.ActorActed r old.actor b 1 [] []) (λ _. act.ActorActed r old.actor b 0 [] [])
     → (IsOk done → (answer ≡ None) × (u ≡ record t { left = t.left - 1; moved = true }))
-    → (IsErr done → (answer ≡ Some stop.NoMemory) × (u ≡ record t { moved = true })) → Instructs r old (record old { actor = b }) t u answer
+    → (IsErr done → (answer ≡ Some stop.NoMemory) × (u ≡ record t { moved = true })) → MakesInstruction r old (record old { actor = b }) t u answer
 unless r old b next t u answer (Ok x) can did ok err =
     let e = ok refl in
-    subst (λ (a : Option Stop). Instructs r old (record old { actor = b }) t u a) (sym e.0)
+    subst (λ (a : Option TableTurnEnd). MakesInstruction r old (record old { actor = b }) t u a) (sym e.0)
     (made r old b t u can.at.goes can.noted 1 0 did (counted t u 1 can.at.some e.1) (omega arith) (omega arith))
 unless r old b next t u answer (Err x) can did ok err =
     let e = err refl in
-    subst (λ (a : Option Stop). Instructs r old (record old { actor = b }) t u a) (sym e.0)
+    subst (λ (a : Option TableTurnEnd). MakesInstruction r old (record old { actor = b }) t u a) (sym e.0)
     (refused r old b t u can.at.goes can.noted did (only_told t u e.1))
 
 -- it has come near, and then its actor has acted
 module _ (r : Run) (old mid : Goroutine) (b : Actor) (t u : Turning) (near : IsNear r old mid t.left) (noted : t.changed.count < 8) where
-  pub near_goes_on : act.Acted r mid.actor b 0 [] [] → Counts t u 0 0 → Acts r old (record mid { actor = b }) t u None
+  pub near_goes_on : act.ActorActed r mid.actor b 0 [] [] → Counts t u 0 0 → GoroutineActs r old (record mid { actor = b }) t u None
   near_goes_on acted counts =
       acts_then r old mid (record mid { actor = b }) t t u None (near_acts r old mid t near (omega (arith, noted)))
       (goes_on r mid b t u near.goes 0 acted counts.left
@@ -75,8 +75,8 @@ module _ (r : Run) (old mid : Goroutine) (b : Actor) (t u : Turning) (near : IsN
       (let c = counts.changed in omega (arith, c, noted))
       counts.moved)
 
-  pub near_stops : (why : Stop) (acted : act.Acted r mid.actor b 0 [] []) → Counts t u 0 0
-      → StopsBy r mid (record mid { actor = b }) acted.es why → Acts r old (record mid { actor = b }) t u (Some why)
+  pub near_stops : (why : TableTurnEnd) (acted : act.ActorActed r mid.actor b 0 [] []) → Counts t u 0 0
+      → StopsBy r mid (record mid { actor = b }) acted.es why → GoroutineActs r old (record mid { actor = b }) t u (Some why)
   near_stops why acted counts by =
       acts_then r old mid (record mid { actor = b }) t t u (Some why) (near_acts r old mid t near (omega (arith, noted)))
       (stops r mid b t u near.goes 0 acted counts.left
@@ -85,9 +85,9 @@ module _ (r : Run) (old mid : Goroutine) (b : Actor) (t u : Turning) (near : IsN
       counts.moved why by)
 
 -- the same, where nothing has moved by then
-pub near_rests : (r : Run) (old mid : Goroutine) (b : Actor) (t : Turning) → IsNear r old mid t.left → t.changed.count < 8 → (why : Stop)
-    (acted : act.Acted r mid.actor b 0 [] []) → act.IsUnmoved r.setup mid.actor b acted.es
-    → StopsBy r mid (record mid { actor = b }) acted.es why → Acts r old (record mid { actor = b }) t t (Some why)
+pub near_rests : (r : Run) (old mid : Goroutine) (b : Actor) (t : Turning) → IsNear r old mid t.left → t.changed.count < 8 → (why : TableTurnEnd)
+    (acted : act.ActorActed r mid.actor b 0 [] []) → act.IsUnmoved r.setup mid.actor b acted.es
+    → StopsBy r mid (record mid { actor = b }) acted.es why → GoroutineActs r old (record mid { actor = b }) t t (Some why)
 near_rests r old mid b t near noted why acted rests by =
     acts_then r old mid (record mid { actor = b }) t t t (Some why) (near_acts r old mid t near (omega (arith, noted)))
     (unmoved r mid b t t near.goes noted why acted rests by refl).acts

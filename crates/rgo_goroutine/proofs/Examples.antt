@@ -17,10 +17,10 @@ use Rattle.rgo_goroutine.specs.Examples.{PassingExamples, TurnExamples, end_at}
 use Rattle.rgo_goroutine.specs.Goroutines.{bytes_in, rows, valid}
 use Rattle.rgo_goroutine.specs.Instructions.{IsNear}
 use Rattle.rgo_goroutine.specs.Passing.{Gathers}
-use Rattle.rgo_goroutine.specs.Turns.{FoundEnd, HasTurned, Stops}
+use Rattle.rgo_goroutine.specs.Turns.{FoundEnd, HasTurned, TurnStops}
 use Rattle.rgo_goroutine.specs.declared.goroutine.Child.{Child}
 use Rattle.rgo_goroutine.specs.declared.goroutine.Goroutine.{Goroutine}
-use Rattle.rgo_goroutine.specs.declared.turning.Stop.TheVariants as stop
+use Rattle.rgo_goroutine.specs.declared.turning.TableTurnEnd.TheVariants as stop
 use Rattle.rgo_goroutine.specs.declared.turning.Turned.{Turned}
 use Rattle.rgo_goroutine.proofs.Handing.{one_valid, one_void}
 use Rattle.rgo_goroutine.proofs.Looking.{near_same}
@@ -43,7 +43,7 @@ not_its (n, late, f) =
     not_zero
     (ap (λ (a : Access). a.by) (its (access 1 EndRun 0 9223372036854775813 9223372036854775813) f.access f.place f.there) ∙ f.own)
 
-not_early : (r : Run) (old new : Goroutine) → bytes_in new.prints.items < 65536 → Stops r old new 10 3 0 [] stop.Went → ⊥
+not_early : (r : Run) (old new : Goroutine) → bytes_in new.prints.items < 65536 → TurnStops r old new 10 3 0 [] stop.Went → ⊥
 not_early r old new few (first, inl (inl all)) = absurd (omega (arith, all))
 not_early r old new few (first, inl (inr told)) = absurd (omega (arith, told))
 not_early r old new few (first, inr (inl much)) = absurd (omega (arith, few, much))

@@ -13,17 +13,17 @@ use Rattle.rgo_core.specs.Core.{IsPossible}
 use Rattle.rgo_core.specs.Opening.{first_of}
 use Rattle.rgo_core.specs.Records.{Drawn, Record, accesses, looked, steps_of}
 use Rattle.rgo_core_steps.specs.Ends.{mark_of}
-use Rattle.rgo_core_steps.specs.Grown.{Grew}
+use Rattle.rgo_core_steps.specs.Grown.{SeatGrew}
 use Rattle.rgo_core_steps.specs.Seats.{HasOne, HasPossible, Left, Settles, mine}
 use Rattle.rgo_core_steps.proofs.Growing.{told_accesses, told_found, told_grew, told_record, told_still}
-use Rattle.rgo_acts.specs.Body.Shows.{Shows}
+use Rattle.rgo_acts.specs.Body.Shows.{BodyShows}
 use Rattle.rgo_acts.proofs.Body.Showing.{like_shown}
-use Rattle.rgo_acts.specs.Actors.{Stands, now}
+use Rattle.rgo_acts.specs.Actors.{IsActorOf, now}
 use Rattle.rgo_acts.specs.Runs.{Run}
 use Rattle.rgo_acts.specs.declared.prints.Print.{Print}
 use Rattle.rgo_acts.proofs.Standing.{now_at_once}
-use Rattle.rgo_goroutine.specs.Goroutines.{AllStand, IsChild, IsOf, drawn_by, fresh, is_valid, numbers, record_of, rows, valid}
-use Rattle.rgo_goroutine.specs.Passing.{AreBorn, IsBorn, Looks}
+use Rattle.rgo_goroutine.specs.Goroutines.{AreChildren, IsChild, IsOf, drawn_by, fresh, is_valid, numbers, record_of, rows, valid}
+use Rattle.rgo_goroutine.specs.Passing.{AreBorn, IsBorn, LoadsClock}
 use Rattle.rgo_goroutine.specs.declared.goroutine.Child.{Child}
 use Rattle.rgo_goroutine.specs.declared.goroutine.Goroutine.{Goroutine}
 
@@ -67,13 +67,13 @@ pub one_row : (r : Run) (child : Child) → IsChild r child → child.actor.seat
 one_row r child is =
     is.stands.alone.0 ∙ ap (λ n. (n, mine r.setup child.actor.seat.me) ∷ []) (sym is.number)
 
-child_at : (r : Run) (before later : List Child) (child : Child) → AllStand r (before ++ child ∷ later) → IsChild r child
+child_at : (r : Run) (before later : List Child) (child : Child) → AreChildren r (before ++ child ∷ later) → IsChild r child
 child_at r [] later child all = all.0
 child_at r (c ∷ before) later child all = child_at r before later child all.1
 
-pub child_in : (r : Run) (children before later : List Child) (child : Child) → before ++ child ∷ later ≡ children → AllStand r children
+pub child_in : (r : Run) (children before later : List Child) (child : Child) → before ++ child ∷ later ≡ children → AreChildren r children
     → IsChild r child
-child_in r children before later child e all = child_at r before later child (subst (AllStand r) (sym e) all)
+child_in r children before later child e all = child_at r before later child (subst (AreChildren r) (sym e) all)
 
 -- the goroutine of a child
 pub is_born : (r : Run) (child : Child) (go : Goroutine) → IsChild r child → go.actor ≡ child.actor → go.number ≡ child.number
@@ -86,7 +86,7 @@ is_born r child go is actor number prints children first =
     let no_prints = ap (λ k. k.prints) blank_clock in
     record {
       of = record {
-        stands = subst (Stands r) (sym actor) is.stands;
+        stands = subst (IsActorOf r) (sym actor) is.stands;
         number = number ∙ (is.number ∙ sym (ap (λ a. number_of a.seat.me) actor));
         settled = ap (λ a. a.behind) actor ∙ is.settled;
         gathered = [];
@@ -94,7 +94,7 @@ is_born r child go is actor number prints children first =
         few = let none = ap (λ (ds : List Drawn). length ds) no_prints in omega (arith, none);
         adopted = [];
         children = ap (λ k. k.children) blank_clock ∙ sym (ap (λ (cs : List Child). numbers cs ++ []) children);
-        all = subst (AllStand r) (sym children) tt;
+        all = subst (AreChildren r) (sym children) tt;
         first = ap (λ k. k.first) blank_clock ∙ sym (ap (option_map mark_of) first);
       };
       actor = actor;
@@ -110,7 +110,7 @@ has_words z = omega arith
 
 pub main_of : (r : Run) (go : Goroutine) → go.actor.seat.me ≡ (view ((0, first_of r.setup.code) ∷ []) [], [])
     → go.actor.seat.table_id ≡ r.table → go.actor.behind ≡ 0 → go.number ≡ 0 → go.prints.items ≡ [] → go.children.items ≡ []
-    → go.first ≡ None → IsPossible r.setup 0 (first_of r.setup.code) → Shows r.setup r.program go.actor.body (first_of r.setup.code)
+    → go.first ≡ None → IsPossible r.setup 0 (first_of r.setup.code) → BodyShows r.setup r.program go.actor.body (first_of r.setup.code)
     → IsOf r go
 main_of r go me own behind number prints children first possible shows =
     let T = r.setup in
@@ -123,7 +123,7 @@ main_of r go me own behind number prints children first possible shows =
         settles = subst (λ q. Settles T q go.actor.seat.me) (sym behind) tt;
         possible = subst (λ (m : Me Record). IsPossible T (number_of m) (now T go.actor)) (sym me)
             (subst (IsPossible T 0) (sym now_is) possible);
-        shows = subst (Shows T r.program go.actor.body) (sym now_is) shows;
+        shows = subst (BodyShows T r.program go.actor.body) (sym now_is) shows;
       };
       number = number ∙ sym (ap (λ (m : Me Record). number_of m) me);
       settled = behind;
@@ -132,7 +132,7 @@ main_of r go me own behind number prints children first possible shows =
       few = let none = ap (λ (d : Record). length d.clock.prints) c in omega (arith, none);
       adopted = [];
       children = ap (λ (d : Record). d.clock.children) c ∙ sym (ap (λ (cs : List Child). numbers cs ++ []) children);
-      all = subst (AllStand r) (sym children) tt;
+      all = subst (AreChildren r) (sym children) tt;
       first = ap (λ (d : Record). d.clock.first) c ∙ sym (ap (option_map mark_of) first);
     }
 
@@ -148,7 +148,7 @@ module _ (r : Run) (go d : Goroutine) (of : IsOf r go) (rest : d ≡ record go {
   after : record_of r.setup d ≡ looked (record_of r.setup go)
   after = told_record accesses (first_of r.setup.code) go.actor.seat.me d.actor.seat.me Load clock_at n (λ k. k) tells left
 
-  grew : Grew accesses (first_of r.setup.code) go.actor.seat.me
+  grew : SeatGrew accesses (first_of r.setup.code) go.actor.seat.me
       (told_accesses accesses (first_of r.setup.code) go.actor.seat.me d.actor.seat.me Load clock_at n (λ k. k) tells left)
       d.actor.seat.me
   grew =
@@ -163,9 +163,9 @@ module _ (r : Run) (go d : Goroutine) (of : IsOf r go) (rest : d ≡ record go {
       let prints : fresh d ≡ fresh go = ap fresh rest in
       let children : d.children.items ≡ go.children.items = ap (λ (k : Goroutine). k.children.items) rest in
       let now_is : now T d.actor ≡ looked (record_of T go) = now_at_once T d.actor behind ∙ after in
-      let shows : Shows T r.program go.actor.body (looked (record_of T go)) =
+      let shows : BodyShows T r.program go.actor.body (looked (record_of T go)) =
       like_shown T r.program go.actor.body (record_of T go) (looked (record_of T go))
-      (subst (Shows T r.program go.actor.body) (now_at_once T go.actor of.settled) of.stands.shows)
+      (subst (BodyShows T r.program go.actor.body) (now_at_once T go.actor of.settled) of.stands.shows)
       (record {
         frame = refl;
         side = refl;
@@ -185,8 +185,8 @@ module _ (r : Run) (go d : Goroutine) (of : IsOf r go) (rest : d ≡ record go {
           alone = left.0;
           settles = subst (λ q. Settles T q d.actor.seat.me) (sym behind) tt;
           possible = subst (IsPossible T (number_of d.actor.seat.me)) (sym (now_at_once T d.actor behind)) possible;
-          shows = subst (λ (c : Record). Shows T r.program d.actor.body c) (sym now_is)
-              (subst (λ b. Shows T r.program b (looked (record_of T go))) (sym body) shows);
+          shows = subst (λ (c : Record). BodyShows T r.program d.actor.body c) (sym now_is)
+              (subst (λ b. BodyShows T r.program b (looked (record_of T go))) (sym body) shows);
         };
         number = ap (λ (k : Goroutine). k.number) rest ∙ (of.number ∙ sym grew.same);
         settled = behind;
@@ -199,12 +199,12 @@ module _ (r : Run) (go d : Goroutine) (of : IsOf r go) (rest : d ≡ record go {
         adopted = of.adopted;
         children = ap (λ (c : Record). c.clock.children) after
             ∙ (of.children ∙ ap (λ (cs : List Child). numbers cs ++ of.adopted) (sym children));
-        all = subst (AllStand r) (sym children) of.all;
+        all = subst (AreChildren r) (sym children) of.all;
         first = ap (λ (c : Record). c.clock.first) after
             ∙ (of.first ∙ sym (ap (λ (k : Goroutine). option_map mark_of k.first) rest));
       }
 
-  pub looks : (ended : Bool) → (ended ≡ true) ↔ (2 ^ 63 ≤ n) → Looks r go d ended
+  pub looks : (ended : Bool) → (ended ≡ true) ↔ (2 ^ 63 ≤ n) → LoadsClock r go d ended
   looks ended end = record {
     es = told_accesses accesses (first_of r.setup.code) go.actor.seat.me d.actor.seat.me Load clock_at n (λ k. k) tells left;
     grew = grew;
@@ -224,7 +224,7 @@ pub adopted_of : (r : Run) (go d : Goroutine) → IsOf r go → d ≡ record go 
 adopted_of r go d of rest none =
     let actor = ap (λ (k : Goroutine). k.actor) rest in
     record {
-      stands = subst (Stands r) (sym actor) of.stands;
+      stands = subst (IsActorOf r) (sym actor) of.stands;
       number = ap (λ (k : Goroutine). k.number) rest ∙ (of.number ∙ sym (ap (λ a. number_of a.seat.me) actor));
       settled = ap (λ a. a.behind) actor ∙ of.settled;
       gathered = of.gathered;
@@ -237,7 +237,7 @@ adopted_of r go d of rest none =
       adopted = numbers go.children.items ++ of.adopted;
       children = ap (λ a. (mine r.setup a.seat.me).clock.children) actor
           ∙ (of.children ∙ sym (ap (λ (cs : List Child). numbers cs ++ (numbers go.children.items ++ of.adopted)) none));
-      all = subst (AllStand r) (sym none) tt;
+      all = subst (AreChildren r) (sym none) tt;
       first = ap (λ a. (mine r.setup a.seat.me).clock.first) actor
           ∙ (of.first ∙ sym (ap (λ (k : Goroutine). option_map mark_of k.first) rest));
     }
@@ -248,7 +248,7 @@ gathered_of r go d of rest none =
     let actor = ap (λ (k : Goroutine). k.actor) rest in
     let children : d.children.items ≡ go.children.items = ap (λ (k : Goroutine). k.children.items) rest in
     record {
-      stands = subst (Stands r) (sym actor) of.stands;
+      stands = subst (IsActorOf r) (sym actor) of.stands;
       number = ap (λ (k : Goroutine). k.number) rest ∙ (of.number ∙ sym (ap (λ a. number_of a.seat.me) actor));
       settled = ap (λ a. a.behind) actor ∙ of.settled;
       gathered = of.gathered ++ fresh go;
@@ -262,7 +262,7 @@ gathered_of r go d of rest none =
       adopted = of.adopted;
       children = ap (λ a. (mine r.setup a.seat.me).clock.children) actor
           ∙ (of.children ∙ ap (λ (cs : List Child). numbers cs ++ of.adopted) (sym children));
-      all = subst (AllStand r) (sym children) of.all;
+      all = subst (AreChildren r) (sym children) of.all;
       first = ap (λ a. (mine r.setup a.seat.me).clock.first) actor
           ∙ (of.first ∙ sym (ap (λ (k : Goroutine). option_map mark_of k.first) rest));
     }

@@ -9,13 +9,13 @@ use Rattle.rgo_acts.specs.Talks.{CanTry, Talks}
 use Rattle.rgo_acts.specs.Traps.{IsAtTrap}
 use Rattle.rgo_acts.specs.declared.actors.Actor.{Actor}
 use Rattle.rgo_acts.specs.declared.channels.Talked.{Talked}
-use Rattle.rgo_goroutine.specs.Acting.{Goes}
+use Rattle.rgo_goroutine.specs.Acting.{MayMakeInstructions}
 use Rattle.rgo_goroutine.specs.Instructions.{CanAct, HasComeTo, HasTalked, IsAt}
 use Rattle.rgo_goroutine.specs.declared.goroutine.Goroutine.{Goroutine}
 use Rattle.rgo_goroutine.specs.declared.turning.Turning.{Turning}
 
 -- one more instruction can be counted
-pub few_steps : (r : Run) (go : Goroutine) (left : ℕ) → Goes r go left → go.actor.body.counts.steps + 1 < 18446744073709551616
+pub few_steps : (r : Run) (go : Goroutine) (left : ℕ) → MayMakeInstructions r go left → go.actor.body.counts.steps + 1 < 18446744073709551616
 few_steps r go left goes =
     let s = ap (λ (n : _). n.steps) goes.stands.shows.share in
     let room = goes.room in
@@ -41,7 +41,7 @@ try_of r go next left at = record {
 
 module _ (r : Run) (go : Goroutine) (next : Next) (t : Turning) (can : CanAct r go next t) (b : Actor) where
   pub come_to : (done : Result (Unit {0}) Trap)
-      → MatchResult done (λ _. act.Acted r go.actor b 1 [] []) (λ trap. IsAtTrap r go.actor b trap)
+      → MatchResult done (λ _. act.ActorActed r go.actor b 1 [] []) (λ trap. IsAtTrap r go.actor b trap)
       → HasComeTo r go (record go { actor = b }) t done
   come_to done did = record {
     come = record { goes = can.at.goes; some = can.at.some; noted = can.noted; rest = refl };

@@ -7,22 +7,22 @@ use Rattle.rgo_core.specs.Rule.declared.accesses.Kind.{Kind}
 use Rattle.rgo_core.specs.Core.{Setup}
 use Rattle.rgo_core.specs.Opening.{first_of}
 use Rattle.rgo_core.specs.Records.{Drawn, Record, accesses}
-use Rattle.rgo_core_steps.specs.Grown.{Found, Grew}
+use Rattle.rgo_core_steps.specs.Grown.{Found, SeatGrew}
 use Rattle.rgo_core_steps.proofs.Growing.{found_right, grew_then, still_then}
-use Rattle.rgo_sound.specs.Machine.declared.turns.Shortage.{Shortage}
-use Rattle.rgo_sound.specs.Machine.declared.turns.Shortage.TheVariants as shortage
+use Rattle.rgo_sound.specs.Machine.declared.limits.Shortage.{Shortage}
+use Rattle.rgo_sound.specs.Machine.declared.limits.Shortage.TheVariants as shortage
 use Rattle.rgo_acts.specs.Runs.{Run}
 use Rattle.rgo_acts.specs.Shortages.{AllInUse}
-use Rattle.rgo_acts.specs.Waits.{Loses, Waits}
+use Rattle.rgo_acts.specs.Waits.{Loses, WaitsAtChannel}
 use Rattle.rgo_acts.proofs.Waiting.{loses_right, waits_right}
-use Rattle.rgo_goroutine.specs.Acting.{Acted, Acts, Concludes, Moved, Rests, SameFirst, StopsBy, record_now, room_in}
+use Rattle.rgo_goroutine.specs.Acting.{GoroutineActed, GoroutineActs, ActConcludes, GoroutineMoved, GoroutineRests, SameFirst, StopsBy, record_now, room_in}
 use Rattle.rgo_goroutine.specs.Goroutines.{fresh, numbers}
-use Rattle.rgo_goroutine.specs.Instructions.{Instructs, IsNear}
+use Rattle.rgo_goroutine.specs.Instructions.{MakesInstruction, IsNear}
 use Rattle.rgo_goroutine.specs.Turns.{FoundEnd, LacksFor}
 use Rattle.rgo_goroutine.specs.declared.goroutine.Child.{Child}
 use Rattle.rgo_goroutine.specs.declared.goroutine.Goroutine.{Goroutine}
-use Rattle.rgo_goroutine.specs.declared.turning.Stop.{Stop}
-use Rattle.rgo_goroutine.specs.declared.turning.Stop.TheVariants as stop
+use Rattle.rgo_goroutine.specs.declared.turning.TableTurnEnd.{TableTurnEnd}
+use Rattle.rgo_goroutine.specs.declared.turning.TableTurnEnd.TheVariants as stop
 use Rattle.rgo_goroutine.specs.declared.turning.Turning.{Turning}
 
 -- ---- what was found is found among more accesses
@@ -50,7 +50,7 @@ numbers_append (x ∷ xs) ys = ap (λ (l : List ℕ). l ++ x.number ∷ []) (num
 -- ---- two acts
 
 module _ (r : Run) (a b c : Goroutine) where
-  pub moved_then : (m n : ℕ) (xs es : List Access) → Moved r a b m xs → Moved r b c n es → Moved r a c (m + n) (xs ++ es)
+  pub moved_then : (m n : ℕ) (xs es : List Access) → GoroutineMoved r a b m xs → GoroutineMoved r b c n es → GoroutineMoved r a c (m + n) (xs ++ es)
   moved_then m n xs es x y = record {
     grew = grew_then accesses (first_of r.setup.code) a.actor.seat.me b.actor.seat.me c.actor.seat.me xs es x.grew y.grew;
     steps = let p = x.steps in let q = y.steps in omega (arith, p, q);
@@ -66,14 +66,14 @@ module _ (r : Run) (a b c : Goroutine) where
         ∙ ap (λ (l : List ℕ). l ++ (record_now r a).clock.children) (sym (numbers_append x.starts y.starts))));
   }
 
-  pub rests_then : (xs es : List Access) → Grew accesses (first_of r.setup.code) a.actor.seat.me xs b.actor.seat.me → Rests r a b xs
-      → Rests r b c es → Rests r a c (xs ++ es)
+  pub rests_then : (xs es : List Access) → SeatGrew accesses (first_of r.setup.code) a.actor.seat.me xs b.actor.seat.me → GoroutineRests r a b xs
+      → GoroutineRests r b c es → GoroutineRests r a c (xs ++ es)
   rests_then xs es grew x y = record {
     words = still_then accesses (first_of r.setup.code) a.actor.seat.me b.actor.seat.me c.actor.seat.me xs es grew x.words y.words;
     frame = y.frame ∙ x.frame;
   }
 
-  abbrev pub acted_join : (t v u : Turning) (x : Acted r a b t v) (y : Acted r b c v u) → Acted r a c t u
+  abbrev pub acted_join : (t v u : Turning) (x : GoroutineActed r a b t v) (y : GoroutineActed r b c v u) → GoroutineActed r a c t u
   acted_join t v u x y = record {
     n = x.n + y.n;
     es = x.es ++ y.es;
@@ -86,11 +86,11 @@ module _ (r : Run) (a b c : Goroutine) where
         (f.0, (let p = f.1 in let q = s.1 in omega (arith, p, q)), rests_then x.es y.es x.moved.grew f.2 s.2);
   }
 
-  pub stops_more : (xs es : List Access) → Grew accesses (first_of r.setup.code) a.actor.seat.me xs b.actor.seat.me → SameFirst r a b
-      → (why : Stop) → StopsBy r b c es why → StopsBy r a c (xs ++ es) why
+  pub stops_more : (xs es : List Access) → SeatGrew accesses (first_of r.setup.code) a.actor.seat.me xs b.actor.seat.me → SameFirst r a b
+      → (why : TableTurnEnd) → StopsBy r b c es why → StopsBy r a c (xs ++ es) why
   stops_more xs es grew same why by = its why by
     where
-      its : (why : Stop) → StopsBy r b c es why → StopsBy r a c (xs ++ es) why
+      its : (why : TableTurnEnd) → StopsBy r b c es why → StopsBy r a c (xs ++ es) why
       its stop.Went (first, inl much) = (first ∙ same, inl much)
       its stop.Went (first, inr end) = (
         first ∙ same,
@@ -99,7 +99,7 @@ module _ (r : Run) (a b c : Goroutine) where
       its (stop.Blocked at) (first, waits) = (
         first ∙ same,
         waits_right r.setup (number_of a.actor.seat.me) (record_now r c) xs es at
-            (subst (λ g. Waits r.setup g (record_now r c) es at) grew.same waits),
+            (subst (λ g. WaitsAtChannel r.setup g (record_now r c) es at) grew.same waits),
       )
       its (stop.Lost at) (first, loses) = (
         first ∙ same,
@@ -115,7 +115,7 @@ module _ (r : Run) (a b c : Goroutine) where
       )
       its stop.NoMemory first = first ∙ same
 
-  pub acts_then : (t v u : Turning) (answer : Option Stop) → Acts r a b t v None → Acts r b c v u answer → Acts r a c t u answer
+  pub acts_then : (t v u : Turning) (answer : Option TableTurnEnd) → GoroutineActs r a b t v None → GoroutineActs r b c v u answer → GoroutineActs r a c t u answer
   acts_then t v u answer x y = record {
     acted = acted_join t v u x.acted y.acted;
     goes = y.goes;
@@ -123,19 +123,19 @@ module _ (r : Run) (a b c : Goroutine) where
     concludes = its answer y.concludes;
   }
     where
-      its : (answer : Option Stop) → Concludes r b c y.acted.es answer → Concludes r a c (x.acted.es ++ y.acted.es) answer
+      its : (answer : Option TableTurnEnd) → ActConcludes r b c y.acted.es answer → ActConcludes r a c (x.acted.es ++ y.acted.es) answer
       its None first = first ∙ x.concludes
       its (Some why) by = stops_more x.acted.es y.acted.es x.acted.moved.grew x.concludes why by
 
-  pub instructs_then : (t v u : Turning) (answer : Option Stop) → Acts r a b t v None → room_in v ≤ room_in t → Instructs r b c v u answer
-      → Instructs r a c t u answer
+  pub instructs_then : (t v u : Turning) (answer : Option TableTurnEnd) → GoroutineActs r a b t v None → room_in v ≤ room_in t → MakesInstruction r b c v u answer
+      → MakesInstruction r a c t u answer
   instructs_then t v u answer x less y = record {
     acts = acts_then t v u answer x y.acts;
     progress = λ e. let p = y.progress e in omega (arith, p, less);
   }
 
 -- it has come near
-pub near_acts : (r : Run) (a b : Goroutine) (t : Turning) → IsNear r a b t.left → t.changed.count ≤ 8 → Acts r a b t t None
+pub near_acts : (r : Run) (a b : Goroutine) (t : Turning) → IsNear r a b t.left → t.changed.count ≤ 8 → GoroutineActs r a b t t None
 near_acts r a b t near within = record {
   acted = record {
     n = 0;

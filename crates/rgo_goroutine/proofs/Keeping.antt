@@ -6,13 +6,13 @@ use Rattle.rgo_acts.specs.Actors as act
 use Rattle.rgo_acts.specs.Runs.{Run}
 use Rattle.rgo_acts.specs.declared.prints.Print.{Print}
 use Rattle.rgo_core.specs.Rule.declared.accesses.Access.{Access}
-use Rattle.rgo_goroutine.specs.Acting.{Concludes, Goes, SameFirst, StopsBy}
-use Rattle.rgo_goroutine.specs.Goroutines.{AllStand, HoldsMuch, IsChild, drawn_by, fresh}
-use Rattle.rgo_goroutine.specs.Instructions.{Instructs}
+use Rattle.rgo_goroutine.specs.Acting.{ActConcludes, MayMakeInstructions, SameFirst, StopsBy}
+use Rattle.rgo_goroutine.specs.Goroutines.{AreChildren, HoldsMuch, IsChild, drawn_by, fresh}
+use Rattle.rgo_goroutine.specs.Instructions.{MakesInstruction}
 use Rattle.rgo_goroutine.specs.declared.goroutine.Child.{Child}
 use Rattle.rgo_goroutine.specs.declared.goroutine.Goroutine.{Goroutine}
-use Rattle.rgo_goroutine.specs.declared.turning.Stop.{Stop}
-use Rattle.rgo_goroutine.specs.declared.turning.Stop.TheVariants as stop
+use Rattle.rgo_goroutine.specs.declared.turning.TableTurnEnd.{TableTurnEnd}
+use Rattle.rgo_goroutine.specs.declared.turning.TableTurnEnd.TheVariants as stop
 use Rattle.rgo_goroutine.specs.declared.turning.Turning.{Turning}
 use Rattle.rgo_goroutine.proofs.Concluding.{Counts, no_answer}
 use Rattle.rgo_goroutine.proofs.Lifting.{goes_as, moved_as, moves}
@@ -24,8 +24,8 @@ pub record IsSame (old new : Goroutine) : Type 0 where
   pub number : new.number ≡ old.number
   pub first : new.first ≡ old.first
 
-pub same_halts : (r : Run) (old new : Goroutine) (t u : Turning) → Goes r old t.left → t.changed.count < 8 → IsSame old new
-    → (acted : act.Acted r old.actor new.actor 0 [] []) → Counts t u 0 0 → Instructs r old new t u (Some stop.NoMemory)
+pub same_halts : (r : Run) (old new : Goroutine) (t u : Turning) → MayMakeInstructions r old t.left → t.changed.count < 8 → IsSame old new
+    → (acted : act.ActorActed r old.actor new.actor 0 [] []) → Counts t u 0 0 → MakesInstruction r old new t u (Some stop.NoMemory)
 same_halts r old new t u goes noted same acted counts = record {
   acts = record {
     acted = record {
@@ -38,7 +38,7 @@ same_halts r old new t u goes noted same acted counts = record {
       still = λ e. absurd (moves u.moved counts.moved e);
     };
     goes = goes_as r old new 0 [] [] acted t.left u.left goes counts.left (omega arith) same.number
-        (subst (AllStand r) (sym same.children) goes.all) same.first;
+        (subst (AreChildren r) (sym same.children) goes.all) same.first;
     noted = (let c = counts.changed in omega (arith, c, noted));
     concludes = acted.went.first;
   };
@@ -46,15 +46,15 @@ same_halts r old new t u goes noted same acted counts = record {
 }
 
 -- one print more, after which the turn is over if it has printed much
-much_concludes : (r : Run) (old new : Goroutine) (es : List Access) (answer : Option Stop) → SameFirst r old new
-    → MatchOption answer ⊤ (λ why. (why ≡ stop.Went) × HoldsMuch new) → Concludes r old new es answer
+much_concludes : (r : Run) (old new : Goroutine) (es : List Access) (answer : Option TableTurnEnd) → SameFirst r old new
+    → MatchOption answer ⊤ (λ why. (why ≡ stop.Went) × HoldsMuch new) → ActConcludes r old new es answer
 much_concludes r old new es None same much = same
 much_concludes r old new es (Some why) same (is, much) = subst (StopsBy r old new es) (sym is) (same, inl much)
 
-pub printed_on : (r : Run) (old new : Goroutine) (t u : Turning) → Goes r old t.left → t.changed.count < 8 → (print : Print)
+pub printed_on : (r : Run) (old new : Goroutine) (t u : Turning) → MayMakeInstructions r old t.left → t.changed.count < 8 → (print : Print)
     → new.prints.items ≡ old.prints.items ++ print ∷ [] → new.children.items ≡ old.children.items → new.number ≡ old.number
-    → new.first ≡ old.first → act.Acted r old.actor new.actor 1 (drawn_by print ∷ []) [] → Counts t u 1 0 → (answer : Option Stop)
-    → MatchOption answer ⊤ (λ why. (why ≡ stop.Went) × HoldsMuch new) → Instructs r old new t u answer
+    → new.first ≡ old.first → act.ActorActed r old.actor new.actor 1 (drawn_by print ∷ []) [] → Counts t u 1 0 → (answer : Option TableTurnEnd)
+    → MatchOption answer ⊤ (λ why. (why ≡ stop.Went) × HoldsMuch new) → MakesInstruction r old new t u answer
 printed_on r old new t u goes noted print prints children number first acted counts answer much = record {
   acts = record {
     acted = record {
@@ -68,7 +68,7 @@ printed_on r old new t u goes noted print prints children number first acted cou
       still = λ e. absurd (moves u.moved counts.moved e);
     };
     goes = goes_as r old new 1 (drawn_by print ∷ []) [] acted t.left u.left goes counts.left (omega arith) number
-        (subst (AllStand r) (sym children) goes.all) first;
+        (subst (AreChildren r) (sym children) goes.all) first;
     noted = (let c = counts.changed in omega (arith, c, noted));
     concludes = much_concludes r old new acted.es answer acted.went.first much;
   };
@@ -76,14 +76,14 @@ printed_on r old new t u goes noted print prints children number first acted cou
 }
 
 -- one goroutine more
-all_with : (r : Run) (children : List Child) (child : Child) → AllStand r children → IsChild r child → AllStand r (children ++ child ∷ [])
+all_with : (r : Run) (children : List Child) (child : Child) → AreChildren r children → IsChild r child → AreChildren r (children ++ child ∷ [])
 all_with r [] child all is = (is, tt)
 all_with r (c ∷ cs) child all is = (all.0, all_with r cs child all.1 is)
 
-pub started_on : (r : Run) (old new : Goroutine) (t u : Turning) → Goes r old t.left → t.changed.count < 8 → (child : Child)
+pub started_on : (r : Run) (old new : Goroutine) (t u : Turning) → MayMakeInstructions r old t.left → t.changed.count < 8 → (child : Child)
     → IsChild r child → new.prints.items ≡ old.prints.items → new.children.items ≡ old.children.items ++ child ∷ []
-    → new.number ≡ old.number → new.first ≡ old.first → act.Acted r old.actor new.actor 1 [] (child.number ∷ []) → Counts t u 1 0
-    → Instructs r old new t u None
+    → new.number ≡ old.number → new.first ≡ old.first → act.ActorActed r old.actor new.actor 1 [] (child.number ∷ []) → Counts t u 1 0
+    → MakesInstruction r old new t u None
 started_on r old new t u goes noted child is prints children number first acted counts = record {
   acts = record {
     acted = record {
@@ -95,7 +95,7 @@ started_on r old new t u goes noted child is prints children number first acted 
       still = λ e. absurd (moves u.moved counts.moved e);
     };
     goes = goes_as r old new 1 [] (child ∷ []) acted t.left u.left goes counts.left (omega arith) number
-        (subst (AllStand r) (sym children) (all_with r old.children.items child goes.all is)) first;
+        (subst (AreChildren r) (sym children) (all_with r old.children.items child goes.all is)) first;
     noted = (let c = counts.changed in omega (arith, c, noted));
     concludes = acted.went.first;
   };

@@ -9,28 +9,28 @@ use Rattle.rgo_core.specs.Memory.Words.{count_at, state_at}
 use Rattle.rgo_core.specs.Core.{Setup, layout}
 use Rattle.rgo_core.specs.Records.{Record, looked}
 use Rattle.rgo_core_steps.proofs.Growing.{found_left}
-use Rattle.rgo_core_steps.specs.Making.{MakesNext, NeedsPage}
+use Rattle.rgo_core_steps.specs.Making.{RecordMakesNext, NeedsPage}
 use Rattle.rgo_sound.specs.Memory.Memory.{Object}
-use Rattle.rgo_sound.specs.Machine.declared.turns.Shortage.{Shortage}
-use Rattle.rgo_sound.specs.Machine.declared.turns.Shortage.TheVariants as shortage
+use Rattle.rgo_sound.specs.Machine.declared.limits.Shortage.{Shortage}
+use Rattle.rgo_sound.specs.Machine.declared.limits.Shortage.TheVariants as shortage
 use Rattle.rgo_acts.proofs.Chan.Carrying.{at_as}
 use Rattle.rgo_acts.specs.Runs.{Run}
 use Rattle.rgo_acts.specs.Shortages.{AllInUse, LacksPage, LacksSlot}
-use Rattle.rgo_acts.specs.Waits.{Loses, Waits}
+use Rattle.rgo_acts.specs.Waits.{Loses, WaitsAtChannel}
 use Rattle.rgo_acts.proofs.Waiting.{loses_as, loses_left, waits_as, waits_left}
 use Rattle.rgo_goroutine.specs.Acting.{IsOverFor, SameFirst, record_now}
 use Rattle.rgo_goroutine.specs.Goroutines.{bytes_in, record_of}
 use Rattle.rgo_goroutine.specs.Turns as turns
-use Rattle.rgo_goroutine.specs.Turns.{IsOver, LacksFor, Stops}
+use Rattle.rgo_goroutine.specs.Turns.{IsOver, LacksFor, TurnStops}
 use Rattle.rgo_goroutine.specs.declared.goroutine.Goroutine.{Goroutine}
-use Rattle.rgo_goroutine.specs.declared.turning.Stop.{Stop}
-use Rattle.rgo_goroutine.specs.declared.turning.Stop.TheVariants as stop
+use Rattle.rgo_goroutine.specs.declared.turning.TableTurnEnd.{TableTurnEnd}
+use Rattle.rgo_goroutine.specs.declared.turning.TableTurnEnd.TheVariants as stop
 use Rattle.rgo_goroutine.specs.declared.turning.Turning.{Turning}
 
 -- ---- its record is c, then looked c, and its accesses are xs, then xs ++ ys
 
 module _ (T : Setup) (g : ℕ) (c : Record) (xs ys : List Access) where
-  waits_last : (place : Option ℕ) → Waits T g c xs place → Waits T g (looked c) (xs ++ ys) place
+  waits_last : (place : Option ℕ) → WaitsAtChannel T g c xs place → WaitsAtChannel T g (looked c) (xs ++ ys) place
   waits_last place w = waits_left T g (looked c) xs ys place (waits_as T g c (looked c) xs refl refl place w)
 
   loses_last : (at : ℕ) → Loses T g c xs at → Loses T g (looked c) (xs ++ ys) at
@@ -39,7 +39,7 @@ module _ (T : Setup) (g : ℕ) (c : Record) (xs ys : List Access) where
   in_use_last : (kind : Kind) (at : ℕ → ℕ) (n : ℕ) → AllInUse g xs kind at n → AllInUse g (xs ++ ys) kind at n
   in_use_last kind at n all k less = let f = all k less in (f.0, f.1, found_left g xs ys kind (at k) f.0 f.2)
 
-  next_lasts : (object : Object) (slot : ℕ) → MakesNext T c object slot → MakesNext T (looked c) object slot
+  next_lasts : (object : Object) (slot : ℕ) → RecordMakesNext T c object slot → RecordMakesNext T (looked c) object slot
   next_lasts object slot n = record {
     to = n.to;
     act = n.act;
@@ -98,7 +98,7 @@ module _ (r : Run) (old mid new : Goroutine) (u : Turning) (slice n : ℕ) (xs y
   same_first : SameFirst r old mid → turns.SameFirst r old new
   same_first same = ap (λ (d : Record). d.clock.first) after ∙ (same ∙ ap (λ (d : Record). d.clock.first) before)
 
-  pub stops_last : (why : Stop) → IsOverFor r old mid u xs why → Stops r old new slice n u.changed.count (xs ++ ys) why
+  pub stops_last : (why : TableTurnEnd) → IsOverFor r old mid u xs why → TurnStops r old new slice n u.changed.count (xs ++ ys) why
   stops_last stop.Went (same, inl (inl none)) = (same_first same, inl (inl (all none)))
   stops_last stop.Went (same, inl (inr many)) = (same_first same, inl (inr many))
   stops_last stop.Went (same, inr (inl much)) = (same_first same, inr (inl (subst (λ ps. 65536 ≤ bytes_in ps) (sym kept) much)))
@@ -108,7 +108,7 @@ module _ (r : Run) (old mid new : Goroutine) (u : Turning) (slice n : ℕ) (xs y
   )
   stops_last (stop.Blocked at) (same, waits) = (
     same_first same,
-    subst (λ (d : Record). Waits T g d (xs ++ ys) at) (sym after) (waits_last T g c xs ys at waits),
+    subst (λ (d : Record). WaitsAtChannel T g d (xs ++ ys) at) (sym after) (waits_last T g c xs ys at waits),
   )
   stops_last (stop.Lost at) (same, loses) = (
     same_first same,

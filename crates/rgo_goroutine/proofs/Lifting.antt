@@ -8,15 +8,15 @@ use Rattle.rgo_core_steps.specs.Ends.{mark_of}
 use Rattle.rgo_core_steps.proofs.Growing.{found_then, grew_then}
 use Rattle.rgo_acts.specs.Actors as act
 use Rattle.rgo_acts.specs.Actors.{now}
-use Rattle.rgo_acts.specs.Endings.{HasEnded}
+use Rattle.rgo_acts.specs.Endings.{ActorHasEnded}
 use Rattle.rgo_acts.specs.Runs.{Run}
 use Rattle.rgo_acts.specs.declared.actors.Actor.{Actor}
-use Rattle.rgo_goroutine.specs.Acting.{Acted, Acts, EndsIn, Goes, Moved, StopsBy, record_now}
-use Rattle.rgo_goroutine.specs.Goroutines.{AllStand, fresh, numbers}
+use Rattle.rgo_goroutine.specs.Acting.{GoroutineActed, GoroutineActs, EndsIn, MayMakeInstructions, GoroutineMoved, StopsBy, record_now}
+use Rattle.rgo_goroutine.specs.Goroutines.{AreChildren, fresh, numbers}
 use Rattle.rgo_goroutine.specs.declared.goroutine.Child.{Child}
 use Rattle.rgo_goroutine.specs.declared.goroutine.Goroutine.{Goroutine}
-use Rattle.rgo_goroutine.specs.declared.turning.Stop.{Stop}
-use Rattle.rgo_goroutine.specs.declared.turning.Stop.TheVariants as stop
+use Rattle.rgo_goroutine.specs.declared.turning.TableTurnEnd.{TableTurnEnd}
+use Rattle.rgo_goroutine.specs.declared.turning.TableTurnEnd.TheVariants as stop
 use Rattle.rgo_goroutine.specs.declared.turning.Turning.{Turning}
 
 pub moves : (b : Bool) → b ≡ true → b ≡ false → ⊥
@@ -24,8 +24,8 @@ moves true e f = cc
 moves false e f = cc
 
 module _ (r : Run) (old new : Goroutine) (n : ℕ) (draws : List Drawn) (starts : List Child)
-    (acted : act.Acted r old.actor new.actor n draws (numbers starts)) where
-  pub moved_as : fresh new ≡ fresh old ++ draws → new.children.items ≡ old.children.items ++ starts → Moved r old new n acted.es
+    (acted : act.ActorActed r old.actor new.actor n draws (numbers starts)) where
+  pub moved_as : fresh new ≡ fresh old ++ draws → new.children.items ≡ old.children.items ++ starts → GoroutineMoved r old new n acted.es
   moved_as drawn newborn = record {
     grew = acted.went.grew;
     steps = acted.went.steps;
@@ -37,8 +37,8 @@ module _ (r : Run) (old new : Goroutine) (n : ℕ) (draws : List Drawn) (starts 
     started = acted.went.children;
   }
 
-  pub goes_as : (left more : ℕ) → Goes r old left → left ≡ more + n → length draws ≤ n → new.number ≡ old.number
-      → AllStand r new.children.items → new.first ≡ old.first → Goes r new more
+  pub goes_as : (left more : ℕ) → MayMakeInstructions r old left → left ≡ more + n → length draws ≤ n → new.number ≡ old.number
+      → AreChildren r new.children.items → new.first ≡ old.first → MayMakeInstructions r new more
   goes_as left more goes less few number all first = record {
     stands = acted.stands;
     number = number ∙ (goes.number ∙ sym acted.went.grew.same);
@@ -50,19 +50,19 @@ module _ (r : Run) (old new : Goroutine) (n : ℕ) (draws : List Drawn) (starts 
   }
 
 -- the actor has acted, and nothing else of the goroutine has changed
-module _ (r : Run) (old : Goroutine) (b : Actor) (t u : Turning) (goes : Goes r old t.left) (n : ℕ)
-    (acted : act.Acted r old.actor b n [] []) (left : t.left ≡ u.left + n) (noted : t.changed.count ≤ u.changed.count)
+module _ (r : Run) (old : Goroutine) (b : Actor) (t u : Turning) (goes : MayMakeInstructions r old t.left) (n : ℕ)
+    (acted : act.ActorActed r old.actor b n [] []) (left : t.left ≡ u.left + n) (noted : t.changed.count ≤ u.changed.count)
     (within : u.changed.count ≤ 8) (moved : u.moved ≡ true) where
   abbrev pub its : Goroutine
   its = record old { actor = b }
 
-  pub plain_moved : Moved r old its n acted.es
+  pub plain_moved : GoroutineMoved r old its n acted.es
   plain_moved = moved_as r old its n [] [] acted (sym (append-nil (fresh old))) (sym (append-nil old.children.items))
 
-  pub plain_goes : Goes r its u.left
+  pub plain_goes : MayMakeInstructions r its u.left
   plain_goes = goes_as r old its n [] [] acted t.left u.left goes left (omega arith) refl goes.all refl
 
-  abbrev pub plain_acted : Acted r old its t u
+  abbrev pub plain_acted : GoroutineActed r old its t u
   plain_acted = record {
     n = n;
     es = acted.es;
@@ -72,17 +72,17 @@ module _ (r : Run) (old : Goroutine) (b : Actor) (t u : Turning) (goes : Goes r 
     still = λ e. absurd (moves u.moved moved e);
   }
 
-  pub goes_on : Acts r old its t u None
+  pub goes_on : GoroutineActs r old its t u None
   goes_on = record { acted = plain_acted; goes = plain_goes; noted = within; concludes = acted.went.first }
 
-  pub stops : (why : Stop) → StopsBy r old its acted.es why → Acts r old its t u (Some why)
+  pub stops : (why : TableTurnEnd) → StopsBy r old its acted.es why → GoroutineActs r old its t u (Some why)
   stops why by = record { acted = plain_acted; goes = plain_goes; noted = within; concludes = by }
 
 -- ---- ends of the run
 
 -- first an act by which nothing was made, and then the end
-pub ended_after : (r : Run) (a b c : Actor) (n : ℕ) (mark : _) (ends : Bool) → act.Acted r a b 0 [] [] → HasEnded r b c n mark ends
-    → HasEnded r a c n mark ends
+pub ended_after : (r : Run) (a b c : Actor) (n : ℕ) (mark : _) (ends : Bool) → act.ActorActed r a b 0 [] [] → ActorHasEnded r b c n mark ends
+    → ActorHasEnded r a c n mark ends
 ended_after r a b c n mark ends x y = record {
   es = x.es ++ y.es;
   grew = grew_then accesses (first_of r.setup.code) a.seat.me b.seat.me c.seat.me x.es y.es x.went.grew y.grew;
@@ -98,7 +98,7 @@ ended_after r a b c n mark ends x y = record {
   stands = y.stands;
 }
 
-pub ends_after : (r : Run) (old : Goroutine) (b : Actor) (new : Goroutine) (n : ℕ) (why : Stop) → act.Acted r old.actor b 0 [] []
+pub ends_after : (r : Run) (old : Goroutine) (b : Actor) (new : Goroutine) (n : ℕ) (why : TableTurnEnd) → act.ActorActed r old.actor b 0 [] []
     → EndsIn r (record old { actor = b }) new n why → EndsIn r old new n why
 ends_after r old b new n why acted e = record {
   mark = e.mark;
@@ -108,9 +108,9 @@ ends_after r old b new n why acted e = record {
   is = e.is;
 }
 
-module _ (r : Run) (old new : Goroutine) (t u : Turning) (goes : Goes r old t.left) (n : ℕ) (why : Stop) (e : EndsIn r old new n why)
+module _ (r : Run) (old new : Goroutine) (t u : Turning) (goes : MayMakeInstructions r old t.left) (n : ℕ) (why : TableTurnEnd) (e : EndsIn r old new n why)
     (left : t.left ≡ u.left + n) (noted : t.changed.count ≤ u.changed.count) (within : u.changed.count ≤ 8) (moved : u.moved ≡ true) where
-  end_moved : Moved r old new n e.ended.es
+  end_moved : GoroutineMoved r old new n e.ended.es
   end_moved = record {
     grew = e.ended.grew;
     steps = e.ended.steps;
@@ -127,13 +127,13 @@ module _ (r : Run) (old new : Goroutine) (t u : Turning) (goes : Goes r old t.le
   first_by true first = first
   first_by false first = first ∙ goes.first
 
-  end_goes : Goes r new u.left
+  end_goes : MayMakeInstructions r new u.left
   end_goes = record {
     stands = e.ended.stands;
     number = ap (λ (go : Goroutine). go.number) e.rest ∙ (goes.number ∙ sym e.ended.grew.same);
     few = let f = goes.few in let s = e.ended.steps in let p = ap length e.ended.prints in omega (arith, f, s, p);
     room = let room = goes.room in let s = e.ended.steps in omega (arith, room, s, left);
-    all = subst (λ (go : Goroutine). AllStand r go.children.items) (sym e.rest) goes.all;
+    all = subst (λ (go : Goroutine). AreChildren r go.children.items) (sym e.rest) goes.all;
     first = first_by e.ends e.ended.first ∙ ap (option_map mark_of) (sym (ap (λ (go : Goroutine). go.first) e.rest));
   }
 
@@ -143,7 +143,7 @@ module _ (r : Run) (old new : Goroutine) (t u : Turning) (goes : Goes r old t.le
   stops_by true is same first = subst (StopsBy r old new e.ended.es) (sym same) first
   stops_by false is same first = subst (StopsBy r old new e.ended.es) (sym same) (first, inr (e.ended.late is))
 
-  pub ends_by : Acts r old new t u (Some why)
+  pub ends_by : GoroutineActs r old new t u (Some why)
   ends_by = record {
     acted = record {
       n = n;

@@ -8,15 +8,15 @@ use Rattle.rgo_core.specs.Opening.{first_of}
 use Rattle.rgo_core.specs.Records.{Record, accesses, looked}
 use Rattle.rgo_core_steps.specs.Seats.{HasPossible, Left, mine, settled}
 use Rattle.rgo_core_steps.proofs.Growing.{told_accesses, told_grew, told_record, told_still}
-use Rattle.rgo_acts.specs.Body.Shows.{Shows}
+use Rattle.rgo_acts.specs.Body.Shows.{BodyShows}
 use Rattle.rgo_acts.specs.Body.declared.bodies.Body.{Body}
 use Rattle.rgo_acts.proofs.Body.Showing.{like_shown}
 use Rattle.rgo_acts.specs.Actors as act
-use Rattle.rgo_acts.specs.Actors.{Stands, now}
+use Rattle.rgo_acts.specs.Actors.{IsActorOf, now}
 use Rattle.rgo_acts.specs.Runs.{Run}
 use Rattle.rgo_acts.specs.declared.actors.Actor.{Actor}
 use Rattle.rgo_acts.proofs.Standing.{acted_none, acted_one, now_accesses, now_at_once, unmoved_at}
-use Rattle.rgo_goroutine.specs.Acting.{Goes, HasCaughtUp}
+use Rattle.rgo_goroutine.specs.Acting.{MayMakeInstructions, HasCaughtUp}
 use Rattle.rgo_goroutine.specs.Goroutines.{fresh}
 use Rattle.rgo_goroutine.specs.Instructions.{IsNear}
 use Rattle.rgo_goroutine.specs.declared.goroutine.Goroutine.{Goroutine}
@@ -41,7 +41,7 @@ module _ (r : Run) (old : Goroutine) (b : Actor) (own : b.seat.table_id ≡ old.
   now_looked : now r.setup b ≡ looked c
   now_looked = now_at_once r.setup b at_once ∙ is_looked
 
-  looked_acted : Stands r a → act.Acted r a b 0 [] []
+  looked_acted : IsActorOf r a → act.ActorActed r a b 0 [] []
   looked_acted stands =
       acted_one r a b stands 0 [] [] kind.Load clock_at look.0 (λ n. n) (λ n d. d ≡ looked c) (looked c) own at_once look.1 possible
       (λ t. t)
@@ -52,7 +52,7 @@ module _ (r : Run) (old : Goroutine) (b : Actor) (own : b.seat.table_id ≡ old.
         children = refl;
         first = refl;
       })
-      (subst (λ (x : Body). Shows r.setup r.program x (looked c)) (sym body)
+      (subst (λ (x : Body). BodyShows r.setup r.program x (looked c)) (sym body)
       (like_shown r.setup r.program a.body c (looked c) stands.shows (record {
         frame = refl;
         side = refl;
@@ -67,7 +67,7 @@ module _ (r : Run) (old : Goroutine) (b : Actor) (own : b.seat.table_id ≡ old.
         refused = refl;
       })))
 
-  pub caught_up : (left : ℕ) → Goes r old left → HasCaughtUp r old its left
+  pub caught_up : (left : ℕ) → MayMakeInstructions r old left → HasCaughtUp r old its left
   caught_up left goes =
       let acted = looked_acted goes.stands in
       record {
@@ -101,7 +101,7 @@ module _ (r : Run) (old : Goroutine) (b : Actor) (own : b.seat.table_id ≡ old.
 pub caught_up_at : (r : Run) (T : Setup) (is : T ≡ r.setup) (old : Goroutine) (b : Actor) → b.seat.table_id ≡ old.actor.seat.table_id
     → b.behind ≡ 0 → b.body ≡ old.actor.body → HasPossible T b.seat.me
     → ((n : ℕ) × Left T kind.Load clock_at (λ n. n) (λ n d. d ≡ looked (settled T old.actor.behind old.actor.seat.me)) old.actor.seat.me n
-    b.seat.me) → (left : ℕ) → Goes r old left → HasCaughtUp r old (record old { actor = b }) left
+    b.seat.me) → (left : ℕ) → MayMakeInstructions r old left → HasCaughtUp r old (record old { actor = b }) left
 caught_up_at r T is old b own at_once body possible look left goes =
     caught_up r old b own at_once body (subst (λ (S : Setup). HasPossible S b.seat.me) is possible)
     (subst (λ (S : Setup). (n : ℕ) × Left S kind.Load clock_at (λ n. n)
@@ -119,7 +119,7 @@ near_by r old new left up = record {
   first = up.first;
 }
 
-pub near_same : (r : Run) (old : Goroutine) (left : ℕ) → Goes r old left → old.actor.behind < 4611686018427387904 → IsNear r old old left
+pub near_same : (r : Run) (old : Goroutine) (left : ℕ) → MayMakeInstructions r old left → old.actor.behind < 4611686018427387904 → IsNear r old old left
 near_same r old left goes near =
     let acted = acted_none r old.actor old.actor goes.stands refl refl goes.stands.shows in
     let still = unmoved_at r old.actor old.actor acted refl refl in

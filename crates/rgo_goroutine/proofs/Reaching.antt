@@ -2,8 +2,8 @@
 use Rattle.std.proofs.Common.{◌≡◌, ◌<◌, ◌∙◌, ℕ, Bool, true, false, [], Option, Some, None, Ok, Err, Result, ap, arith, refl, sym}
 use Rattle.std.specs.Result.{OnOk, is_ok}
 use Rattle.rgo_acts.specs.Body.Bodies.{HasRoomBehind, frames_in}
-use Rattle.rgo_acts.specs.Body.Nexts.{HasNoNext, IsNextOf}
-use Rattle.rgo_acts.specs.Body.Programs.{Program}
+use Rattle.rgo_acts.specs.Body.Nexts.{FrameHasNoNext, IsNextOf}
+use Rattle.rgo_acts.specs.Body.Programs.{CompactProgram}
 use Rattle.rgo_acts.specs.Body.Steps.{IsRoomier}
 use Rattle.rgo_acts.specs.Body.declared.bodies.Body.{Body}
 use Rattle.rgo_acts.specs.Body.declared.bodies.Side.{Side}
@@ -14,19 +14,19 @@ use Rattle.rgo_acts.specs.Resting.{IsAtTalk}
 use Rattle.rgo_acts.specs.Runs.{Run}
 use Rattle.rgo_acts.specs.declared.actors.Actor.{Actor}
 use Rattle.rgo_acts.proofs.LocalActs.{roomier_ready, roomier_shows}
-use Rattle.rgo_goroutine.specs.Acting.{Acts, Goes, StopsBy}
-use Rattle.rgo_goroutine.specs.Instructions.{Instructs, IsAt}
+use Rattle.rgo_goroutine.specs.Acting.{GoroutineActs, MayMakeInstructions, StopsBy}
+use Rattle.rgo_goroutine.specs.Instructions.{MakesInstruction, IsAt}
 use Rattle.rgo_goroutine.specs.declared.goroutine.Goroutine.{Goroutine}
-use Rattle.rgo_goroutine.specs.declared.turning.Stop.{Stop}
-use Rattle.rgo_goroutine.specs.declared.turning.Stop.TheVariants as stop
+use Rattle.rgo_goroutine.specs.declared.turning.TableTurnEnd.{TableTurnEnd}
+use Rattle.rgo_goroutine.specs.declared.turning.TableTurnEnd.TheVariants as stop
 use Rattle.rgo_goroutine.specs.declared.turning.Turning.{Turning}
 use Rattle.rgo_goroutine.proofs.Concluding.{no_answer}
 use Rattle.rgo_goroutine.proofs.Joining.{acts_then, instructs_then}
 use Rattle.rgo_goroutine.proofs.Resting.{is_over, put_by, put_on}
 
 -- the turn is over then
-pub over_then : (r : Run) (old new : Goroutine) (t : Turning) (acts : Acts r old new t t None) (why : Stop)
-    → StopsBy r old new acts.acted.es why → Instructs r old new t t (Some why)
+pub over_then : (r : Run) (old new : Goroutine) (t : Turning) (acts : GoroutineActs r old new t t None) (why : TableTurnEnd)
+    → StopsBy r old new acts.acted.es why → MakesInstruction r old new t t (Some why)
 over_then r old new t acts why by = record {
   acts = record { acted = acts.acted; goes = acts.goes; noted = acts.noted; concludes = by };
   progress = λ e. absurd (no_answer why e);
@@ -45,7 +45,7 @@ pub record IsKept (a b : Actor) : Type 0 where
 no_offer : (s : Side) (at : ℕ) → s ≡ AtRest → s ≡ Offering at → ⊥
 no_offer s at e f = let h : AtRest ≡ Offering at = sym e ∙ f in cc h
 
-module _ (p : Program) (a b : Actor) (empty : a.body.queue.duties ≡ []) (expanded : a.body.is_expanded ≡ true)
+module _ (p : CompactProgram) (a b : Actor) (empty : a.body.queue.duties ≡ []) (expanded : a.body.is_expanded ≡ true)
     (none : (at : ℕ) → a.body.side ≡ Offering at → ⊥) where
   pub kept : (again : Bool) → (again ≡ true → IsAtTalk p b.body × (b ≡ a))
       → (again ≡ false → b ≡ record a { body = record a.body { side = AtRest } }) → IsKept a b
@@ -76,14 +76,14 @@ after_ok (Err x) P said ok = let e : false ≡ true = ok in absurd (cc e)
 
 -- ---- before the instruction: it has forgotten a channel if it is at none, and makes room for what it owes after it
 
-module _ (r : Run) (old : Goroutine) (b : Actor) (t : Turning) (goes : Goes r old t.left)
-    (some : (0 < t.left) × (t.changed.count < 8)) (k : IsKept old.actor b) (acted : act.Acted r old.actor b 0 [] []) where
-  kept_acts : Acts r old (record old { actor = b }) t t None
+module _ (r : Run) (old : Goroutine) (b : Actor) (t : Turning) (goes : MayMakeInstructions r old t.left)
+    (some : (0 < t.left) × (t.changed.count < 8)) (k : IsKept old.actor b) (acted : act.ActorActed r old.actor b 0 [] []) where
+  kept_acts : GoroutineActs r old (record old { actor = b }) t t None
   kept_acts =
       put_on r old b t goes (record { seat = k.seat; behind = k.behind; stands = acted.stands })
       (let less = some.1 in omega (arith, less))
 
-  pub has_ended : HasNoNext r.program.code (frames_in b.body) → Instructs r old (record old { actor = b }) t t (Some stop.Ended)
+  pub has_ended : FrameHasNoNext r.program.code (frames_in b.body) → MakesInstruction r old (record old { actor = b }) t t (Some stop.Ended)
   has_ended nothing =
       over_then r old (record old { actor = b }) t kept_acts stop.Ended
       (kept_acts.concludes, is_over r b acted.stands nothing k.empty)
@@ -92,13 +92,13 @@ module _ (r : Run) (old : Goroutine) (b : Actor) (t : Turning) (goes : Goes r ol
     abbrev with_room : Goroutine
     with_room = record old { actor = record b { body = m } }
 
-    roomy_acts : Acts r old with_room t t None
+    roomy_acts : GoroutineActs r old with_room t t None
     roomy_acts =
         acts_then r old (record old { actor = b }) with_room t t t None kept_acts
         (put_on r (record old { actor = b }) (record b { body = m }) t kept_acts.goes
         (put_by r b m acted.stands (roomier_shows r.program b.body m roomier)) kept_acts.noted)
 
-    pub lacks_memory : Instructs r old with_room t t (Some stop.NoMemory)
+    pub lacks_memory : MakesInstruction r old with_room t t (Some stop.NoMemory)
     lacks_memory = over_then r old with_room t roomy_acts stop.NoMemory roomy_acts.concludes
 
     pub is_at : (next : Next) → IsNextOf r.program.code (frames_in b.body) next → HasRoomBehind m next → IsAt r with_room next t.left
@@ -110,6 +110,6 @@ module _ (r : Run) (old : Goroutine) (b : Actor) (t : Turning) (goes : Goes r ol
       room = room;
     }
 
-    pub and_then : (new : Goroutine) (u : Turning) (answer : Option Stop) → Instructs r with_room new t u answer
-        → Instructs r old new t u answer
+    pub and_then : (new : Goroutine) (u : Turning) (answer : Option TableTurnEnd) → MakesInstruction r with_room new t u answer
+        → MakesInstruction r old new t u answer
     and_then new u answer y = instructs_then r old with_room new t t u answer roomy_acts (omega arith) y

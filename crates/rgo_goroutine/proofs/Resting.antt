@@ -9,26 +9,26 @@ use Rattle.rgo_core.specs.Frames.WordFrames.{WordFrame, bare, bare_all}
 use Rattle.rgo_core.specs.Rule.Views.{number_of}
 use Rattle.rgo_core.specs.Opening.{first_of}
 use Rattle.rgo_core.specs.Records.{Record, accesses, steps_of}
-use Rattle.rgo_core_steps.specs.Grown.{Grew}
+use Rattle.rgo_core_steps.specs.Grown.{SeatGrew}
 use Rattle.rgo_core_steps.specs.Seats.{settled}
 use Rattle.rgo_core_steps.proofs.Growing.{grew_none}
 use Rattle.rgo_sound.specs.RegionMachine.Owed.{current, next_duties}
 use Rattle.rgo_sound.specs.RegionMachine.States.{Duty}
 use Rattle.rgo_acts.specs.Body.Bodies.{frames_in, owed}
-use Rattle.rgo_acts.specs.Body.Nexts.{HasNoNext}
-use Rattle.rgo_acts.specs.Body.Steps.{Stays}
+use Rattle.rgo_acts.specs.Body.Nexts.{FrameHasNoNext}
+use Rattle.rgo_acts.specs.Body.Steps.{StillShows}
 use Rattle.rgo_acts.specs.Body.declared.bodies.Body.{Body}
-use Rattle.rgo_acts.specs.Actors.{Stands, now}
+use Rattle.rgo_acts.specs.Actors.{IsActorOf, now}
 use Rattle.rgo_acts.specs.Runs.{Run}
 use Rattle.rgo_acts.specs.declared.actors.Actor.{Actor}
 use Rattle.rgo_acts.proofs.LocalActs.{none_done}
-use Rattle.rgo_goroutine.specs.Acting.{Acted, Acts, Goes, Moved, Rests, SameFirst, StopsBy, record_now}
+use Rattle.rgo_goroutine.specs.Acting.{GoroutineActed, GoroutineActs, MayMakeInstructions, GoroutineMoved, GoroutineRests, SameFirst, StopsBy, record_now}
 use Rattle.rgo_goroutine.specs.Goroutines.{fresh}
-use Rattle.rgo_goroutine.specs.Instructions.{Instructs}
+use Rattle.rgo_goroutine.specs.Instructions.{MakesInstruction}
 use Rattle.rgo_goroutine.specs.Turns.{IsOver}
 use Rattle.rgo_goroutine.specs.declared.goroutine.Goroutine.{Goroutine}
-use Rattle.rgo_goroutine.specs.declared.turning.Stop.{Stop}
-use Rattle.rgo_goroutine.specs.declared.turning.Stop.TheVariants as stop
+use Rattle.rgo_goroutine.specs.declared.turning.TableTurnEnd.{TableTurnEnd}
+use Rattle.rgo_goroutine.specs.declared.turning.TableTurnEnd.TheVariants as stop
 use Rattle.rgo_goroutine.specs.declared.turning.Turning.{Turning}
 use Rattle.rgo_goroutine.proofs.Concluding.{no_answer}
 use Rattle.rgo_goroutine.proofs.Lifting.{moves}
@@ -38,10 +38,10 @@ use Rattle.rgo_goroutine.proofs.Lifting.{moves}
 pub record StaysPut (r : Run) (a b : Actor) : Type 0 where
   pub seat : b.seat ≡ a.seat
   pub behind : b.behind ≡ a.behind
-  pub stands : Stands r b
+  pub stands : IsActorOf r b
 
 -- its body shows what it showed
-pub put_by : (r : Run) (a : Actor) (d : Body) → Stands r a → Stays r.program a.body d → StaysPut r a (record a { body = d })
+pub put_by : (r : Run) (a : Actor) (d : Body) → IsActorOf r a → StillShows r.program a.body d → StaysPut r a (record a { body = d })
 put_by r a d stands stays = record {
   seat = refl;
   behind = refl;
@@ -49,17 +49,17 @@ put_by r a d stands stays = record {
 }
 
 -- it is still of the run
-pub put_with : (r : Run) (a b : Actor) (d : Body) → b ≡ record a { body = d } → Stands r b → StaysPut r a b
+pub put_with : (r : Run) (a b : Actor) (d : Body) → b ≡ record a { body = d } → IsActorOf r b → StaysPut r a b
 put_with r a b d is stands = record {
   seat = ap (λ (x : Actor). x.seat) is;
   behind = ap (λ (x : Actor). x.behind) is;
   stands = stands;
 }
 
-pub put_same : (r : Run) (a b : Actor) → b ≡ a → Stands r a → StaysPut r a b
-put_same r a b is stands = put_with r a b a.body is (subst (Stands r) (sym is) stands)
+pub put_same : (r : Run) (a b : Actor) → b ≡ a → IsActorOf r a → StaysPut r a b
+put_same r a b is stands = put_with r a b a.body is (subst (IsActorOf r) (sym is) stands)
 
-module _ (r : Run) (old : Goroutine) (b : Actor) (t : Turning) (goes : Goes r old t.left) (put : StaysPut r old.actor b) where
+module _ (r : Run) (old : Goroutine) (b : Actor) (t : Turning) (goes : MayMakeInstructions r old t.left) (put : StaysPut r old.actor b) where
   abbrev pub its : Goroutine
   its = record old { actor = b }
 
@@ -69,9 +69,9 @@ module _ (r : Run) (old : Goroutine) (b : Actor) (t : Turning) (goes : Goes r ol
   pub put_first : SameFirst r old its
   put_first = ap (λ (c : Record). c.clock.first) now_is
 
-  pub put_moved : Moved r old its 0 []
+  pub put_moved : GoroutineMoved r old its 0 []
   put_moved = record {
-    grew = subst (λ x. Grew accesses (first_of r.setup.code) old.actor.seat.me [] x.me) (sym put.seat)
+    grew = subst (λ x. SeatGrew accesses (first_of r.setup.code) old.actor.seat.me [] x.me) (sym put.seat)
         (grew_none accesses (first_of r.setup.code) old.actor.seat.me goes.stands.alone);
     steps = let e = ap steps_of now_is in omega (arith, e);
     draws = [];
@@ -82,7 +82,7 @@ module _ (r : Run) (old : Goroutine) (b : Actor) (t : Turning) (goes : Goes r ol
     started = ap (λ (c : Record). c.clock.children) now_is;
   }
 
-  pub put_goes : Goes r its t.left
+  pub put_goes : MayMakeInstructions r its t.left
   put_goes = record {
     stands = put.stands;
     number = goes.number ∙ sym (ap (λ x. number_of x.me) put.seat);
@@ -93,10 +93,10 @@ module _ (r : Run) (old : Goroutine) (b : Actor) (t : Turning) (goes : Goes r ol
     first = put_first ∙ goes.first;
   }
 
-  pub put_rests : Rests r old its []
+  pub put_rests : GoroutineRests r old its []
   put_rests = record { words = λ i x there own. absurd (some-ne-none x (sym there)); frame = ap (λ (c : Record). c.frame) now_is }
 
-  abbrev pub put_acted : Acted r old its t t
+  abbrev pub put_acted : GoroutineActed r old its t t
   put_acted = record {
     n = 0;
     es = [];
@@ -106,13 +106,13 @@ module _ (r : Run) (old : Goroutine) (b : Actor) (t : Turning) (goes : Goes r ol
     still = λ e. (e, refl, put_rests);
   }
 
-  pub put_on : t.changed.count ≤ 8 → Acts r old its t t None
+  pub put_on : t.changed.count ≤ 8 → GoroutineActs r old its t t None
   put_on within = record { acted = put_acted; goes = put_goes; noted = within; concludes = put_first }
 
-  pub put_stops : (why : Stop) → StopsBy r old its [] why → t.changed.count ≤ 8 → Acts r old its t t (Some why)
+  pub put_stops : (why : TableTurnEnd) → StopsBy r old its [] why → t.changed.count ≤ 8 → GoroutineActs r old its t t (Some why)
   put_stops why by within = record { acted = put_acted; goes = put_goes; noted = within; concludes = by }
 
-  pub put_halts : t.changed.count < 8 → Instructs r old its t t (Some stop.NoMemory)
+  pub put_halts : t.changed.count < 8 → MakesInstruction r old its t t (Some stop.NoMemory)
   put_halts noted = record {
     acts = put_stops stop.NoMemory put_first (omega (arith, noted));
     progress = λ e. absurd (no_answer stop.NoMemory e);
@@ -120,8 +120,8 @@ module _ (r : Run) (old : Goroutine) (b : Actor) (t : Turning) (goes : Goes r ol
 
 -- ---- the turn has been told first that something may have moved
 
-pub acts_moved : (r : Run) (old new : Goroutine) (t v u : Turning) (answer : Option Stop) → v ≡ record t { moved = true }
-    → Acts r old new v u answer → Acts r old new t u answer
+pub acts_moved : (r : Run) (old new : Goroutine) (t v u : Turning) (answer : Option TableTurnEnd) → v ≡ record t { moved = true }
+    → GoroutineActs r old new v u answer → GoroutineActs r old new t u answer
 acts_moved r old new t v u answer e y =
     let left = ap (λ (x : Turning). x.left) e in
     let changed = ap (λ (x : Turning). x.changed.count) e in
@@ -139,8 +139,8 @@ acts_moved r old new t v u answer e y =
       concludes = y.concludes;
     }
 
-pub goes_moved : (r : Run) (go : Goroutine) (t v : Turning) → v ≡ record t { moved = true } → Goes r go t.left → Goes r go v.left
-goes_moved r go t v e goes = subst (λ n. Goes r go n) (sym (ap (λ (x : Turning). x.left) e)) goes
+pub goes_moved : (r : Run) (go : Goroutine) (t v : Turning) → v ≡ record t { moved = true } → MayMakeInstructions r go t.left → MayMakeInstructions r go v.left
+goes_moved r go t v e goes = subst (λ n. MayMakeInstructions r go n) (sym (ap (λ (x : Turning). x.left) e)) goes
 
 -- ---- its first function has returned
 
@@ -153,7 +153,7 @@ owes_nothing code b empty none =
     either true = refl
     either false = refl
 
-pub is_over : (r : Run) (a : Actor) → Stands r a → HasNoNext r.program.code (frames_in a.body) → a.body.queue.duties ≡ []
+pub is_over : (r : Run) (a : Actor) → IsActorOf r a → FrameHasNoNext r.program.code (frames_in a.body) → a.body.queue.duties ≡ []
     → IsOver (now r.setup a)
 is_over r a stands nothing empty =
     let none = no_frame (now r.setup a).frame.frames refl in

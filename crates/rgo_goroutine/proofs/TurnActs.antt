@@ -5,7 +5,7 @@ use Rattle.rgo_core.specs.Channels.Records.{Free, Rec as SideRec}
 use Rattle.rgo_core.specs.Rule.declared.accesses.Access.{Access}
 use Rattle.rgo_core.specs.Opening.{first_of}
 use Rattle.rgo_core.specs.Records.{Drawn, Record, accesses, steps_of}
-use Rattle.rgo_core_steps.specs.Grown.{Grew}
+use Rattle.rgo_core_steps.specs.Grown.{SeatGrew}
 use mathlib.Core.Option.{some-ne-none}
 use Rattle.rgo_core_steps.proofs.Growing.{grew_none}
 use Rattle.rgo_sound.specs.RegionMachine.States.{Offer}
@@ -14,13 +14,13 @@ use Rattle.rgo_acts.specs.Body.declared.bodies.Side.{Side}
 use Rattle.rgo_acts.specs.Body.declared.bodies.Side.TheVariants as side
 use Rattle.rgo_acts.specs.Runs.{Run}
 use Rattle.rgo_acts.proofs.Standing.{now_accesses, now_at_once}
-use Rattle.rgo_goroutine.specs.Acting.{Acts, Goes, HasCaughtUp, IsOverFor, Moved, Proceeds, StopsBy, record_now}
+use Rattle.rgo_goroutine.specs.Acting.{GoroutineActs, MayMakeInstructions, HasCaughtUp, IsOverFor, GoroutineMoved, Proceeds, StopsBy, record_now}
 use Rattle.rgo_goroutine.specs.Goroutines.{IsOf, fresh, numbers, record_of}
-use Rattle.rgo_goroutine.specs.Turns.{HasTurned, IsStill, IsTidy, Stops, Turns}
+use Rattle.rgo_goroutine.specs.Turns.{HasTurned, IsStill, IsTidy, TurnStops, GoroutineTurns}
 use Rattle.rgo_goroutine.specs.declared.goroutine.Goroutine.{Goroutine}
 use Rattle.rgo_goroutine.specs.declared.turning.Changed.{Changed}
-use Rattle.rgo_goroutine.specs.declared.turning.Stop.{Stop}
-use Rattle.rgo_goroutine.specs.declared.turning.Stop.TheVariants as stop
+use Rattle.rgo_goroutine.specs.declared.turning.TableTurnEnd.{TableTurnEnd}
+use Rattle.rgo_goroutine.specs.declared.turning.TableTurnEnd.TheVariants as stop
 use Rattle.rgo_goroutine.specs.declared.turning.Turned.{Turned}
 use Rattle.rgo_goroutine.specs.declared.turning.Turning.{Turning}
 use Rattle.rgo_goroutine.proofs.Joining.{moved_then, numbers_append, rests_then}
@@ -32,7 +32,7 @@ use Rattle.rgo_goroutine.proofs.Lasting.{stops_last}
 pub now_is : (r : Run) (go : Goroutine) → go.actor.behind ≡ 0 → record_now r go ≡ record_of r.setup go
 now_is r go settled = now_at_once r.setup go.actor settled
 
-pub goes_of : (r : Run) (go : Goroutine) (slice : ℕ) → IsOf r go → steps_of (record_of r.setup go) + slice < 8796093022208 → Goes r go slice
+pub goes_of : (r : Run) (go : Goroutine) (slice : ℕ) → IsOf r go → steps_of (record_of r.setup go) + slice < 8796093022208 → MayMakeInstructions r go slice
 goes_of r go slice of room =
     let e = now_is r go of.settled in
     let s = ap steps_of e in
@@ -47,7 +47,7 @@ goes_of r go slice of room =
 
 -- ---- nothing done yet
 
-pub acts_none : (r : Run) (go : Goroutine) (t : Turning) → Goes r go t.left → t.changed.count ≤ 8 → Acts r go go t t None
+pub acts_none : (r : Run) (go : Goroutine) (t : Turning) → MayMakeInstructions r go t.left → t.changed.count ≤ 8 → GoroutineActs r go go t t None
 acts_none r go t goes within = record {
   acted = record {
     n = 0;
@@ -71,12 +71,12 @@ acts_none r go t goes within = record {
   concludes = refl;
 }
   where
-    grew_same : Grew accesses (first_of r.setup.code) go.actor.seat.me [] go.actor.seat.me
+    grew_same : SeatGrew accesses (first_of r.setup.code) go.actor.seat.me [] go.actor.seat.me
     grew_same = grew_none accesses (first_of r.setup.code) go.actor.seat.me goes.stands.alone
 
 -- ---- the turn is over
 
-over_by : (r : Run) (old new : Goroutine) (u : Turning) (es : List Access) (why : Stop) → StopsBy r old new es why → IsOverFor r old new u es why
+over_by : (r : Run) (old new : Goroutine) (u : Turning) (es : List Access) (why : TableTurnEnd) → StopsBy r old new es why → IsOverFor r old new u es why
 over_by r old new u es stop.Went (first, end) = (first, inr end)
 over_by r old new u es (stop.Blocked at) by = by
 over_by r old new u es (stop.Lost at) by = by
@@ -85,14 +85,14 @@ over_by r old new u es (stop.Stopped mark) by = by
 over_by r old new u es (stop.Short why) by = by
 over_by r old new u es stop.NoMemory by = by
 
-pub stopped : (r : Run) (old new : Goroutine) (t u : Turning) (why : Stop) → Acts r old new t u (Some why) → Proceeds r old new t u why
+pub stopped : (r : Run) (old new : Goroutine) (t u : Turning) (why : TableTurnEnd) → GoroutineActs r old new t u (Some why) → Proceeds r old new t u why
 stopped r old new t u why acts = record {
   acted = acts.acted;
   goes = acts.goes;
   over = over_by r old new u acts.acted.es why acts.concludes;
 }
 
-pub used_up : (r : Run) (old new : Goroutine) (t u : Turning) → Acts r old new t u None → (u.left ≡ 0) ⊎ (u.changed.count ≡ 8)
+pub used_up : (r : Run) (old new : Goroutine) (t u : Turning) → GoroutineActs r old new t u None → (u.left ≡ 0) ⊎ (u.changed.count ≡ 8)
     → Proceeds r old new t u stop.Went
 used_up r old new t u acts full = record { acted = acts.acted; goes = acts.goes; over = (acts.concludes, inl full) }
 
@@ -103,7 +103,7 @@ side_free side.AtRest k o shows = ap (λ (x : SideRec). x.hold) shows.0
 side_free side.Tried k o shows = shows.0
 side_free (side.Offering at) k o shows = shows.0
 
-pub tidy : (r : Run) (go : Goroutine) (left : ℕ) → Goes r go left → go.actor.behind ≡ 0 → IsTidy (record_of r.setup go)
+pub tidy : (r : Run) (go : Goroutine) (left : ℕ) → MayMakeInstructions r go left → go.actor.behind ≡ 0 → IsTidy (record_of r.setup go)
 tidy r go left goes settled = subst IsTidy (now_is r go settled) (record {
   hold = side_free go.actor.body.side (record_now r go).side (record_now r go).frame.holder.offer goes.stands.shows.side;
   make = goes.stands.shows.calm.make;
@@ -113,12 +113,12 @@ tidy r go left goes settled = subst IsTidy (now_is r go settled) (record {
 
 -- ---- a whole turn: it proceeds from `old` to `mid`, and then loads the clock
 
-module _ (r : Run) (old mid new : Goroutine) (t u : Turning) (why : Stop) (of : IsOf r old) (p : Proceeds r old mid t u why)
+module _ (r : Run) (old mid new : Goroutine) (t u : Turning) (why : TableTurnEnd) (of : IsOf r old) (p : Proceeds r old mid t u why)
     (up : HasCaughtUp r mid new u.left) where
   abbrev es : List Access
   es = p.acted.es ++ up.es
 
-  all_moved : Moved r old new (p.acted.n + 0) es
+  all_moved : GoroutineMoved r old new (p.acted.n + 0) es
   all_moved = moved_then r old mid new p.acted.n 0 p.acted.es up.es p.acted.moved up.moved
 
   old_is : record_now r old ≡ record_of r.setup old
@@ -169,7 +169,7 @@ module _ (r : Run) (old mid new : Goroutine) (t u : Turning) (why : Stop) (of : 
       let some = up.some in
       omega (arith, a, b, first, some)
 
-  pub turns_are : Turns r old new p.acted.n es
+  pub turns_are : GoroutineTurns r old new p.acted.n es
   turns_are = record {
     grew = all_moved.grew;
     some = accesses_are;
@@ -194,7 +194,7 @@ module _ (r : Run) (old mid new : Goroutine) (t u : Turning) (why : Stop) (of : 
         },
       )
 
-  pub stops_are : (slice n : ℕ) → (u.left ≡ 0 → n ≡ slice) → Stops r old new slice n u.changed.count es why
+  pub stops_are : (slice n : ℕ) → (u.left ≡ 0 → n ≡ slice) → TurnStops r old new slice n u.changed.count es why
   stops_are slice n all = stops_last r old mid new u slice n p.acted.es up.es old_is (sym new_is ∙ up.is) all
       (ap (λ (go : Goroutine). go.prints.items) up.rest) why p.over
 
@@ -207,13 +207,13 @@ has_turned r old mid new t u turned of p up steps moved changed =
     let made : p.acted.n ≡ turned.steps = omega (arith, left, steps) in
     record {
       es = es r old mid new t u turned.stop of p up;
-      turns = subst (λ (n : ℕ). Turns r old new n (es r old mid new t u turned.stop of p up)) made
+      turns = subst (λ (n : ℕ). GoroutineTurns r old new n (es r old mid new t u turned.stop of p up)) made
           (turns_are r old mid new t u turned.stop of p up);
       within = omega (arith, steps);
       still = λ none.
           let s = still_are r old mid new t u turned.stop of p up (sym moved ∙ none) in
           (sym made ∙ s.0, s.1);
-      stops = subst (λ (k : Changed). Stops r old new t.left turned.steps k.count (es r old mid new t u turned.stop of p up) turned.stop)
+      stops = subst (λ (k : Changed). TurnStops r old new t.left turned.steps k.count (es r old mid new t u turned.stop of p up) turned.stop)
           (sym changed)
           (stops_are r old mid new t u turned.stop of p up t.left turned.steps (λ none. omega (arith, steps, none)));
     }

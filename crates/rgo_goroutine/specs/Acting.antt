@@ -8,35 +8,35 @@ use Rattle.rgo_core.specs.Opening.{first_of}
 use Rattle.rgo_core.specs.Records.{Drawn, Record, accesses, looked, steps_of}
 use Rattle.rgo_core_steps.specs.Ends.{mark_of}
 use Rattle.rgo_core_steps.specs.declared.clock.Mark.{Mark}
-use Rattle.rgo_core_steps.specs.Grown.{Grew}
-use Rattle.rgo_acts.specs.Actors.{Stands, now}
-use Rattle.rgo_acts.specs.Endings.{HasEnded}
+use Rattle.rgo_core_steps.specs.Grown.{SeatGrew}
+use Rattle.rgo_acts.specs.Actors.{IsActorOf, now}
+use Rattle.rgo_acts.specs.Endings.{ActorHasEnded}
 use Rattle.rgo_acts.specs.Runs.{Run}
-use Rattle.rgo_acts.specs.Waits.{Loses, Waits}
-use Rattle.rgo_goroutine.specs.Goroutines.{AllStand, HoldsMuch, fresh, numbers}
+use Rattle.rgo_acts.specs.Waits.{Loses, WaitsAtChannel}
+use Rattle.rgo_goroutine.specs.Goroutines.{AreChildren, HoldsMuch, fresh, numbers}
 use Rattle.rgo_goroutine.specs.Turns.{FoundEnd, IsOver, LacksFor}
 use Rattle.rgo_goroutine.specs.declared.goroutine.Child.{Child}
 use Rattle.rgo_goroutine.specs.declared.goroutine.Goroutine.{Goroutine}
-use Rattle.rgo_goroutine.specs.declared.turning.Stop.{Stop}
-use Rattle.rgo_goroutine.specs.declared.turning.Stop.TheVariants as stop
+use Rattle.rgo_goroutine.specs.declared.turning.TableTurnEnd.{TableTurnEnd}
+use Rattle.rgo_goroutine.specs.declared.turning.TableTurnEnd.TheVariants as stop
 use Rattle.rgo_goroutine.specs.declared.turning.Turning.{Turning}
 
 abbrev pub record_now : Run → Goroutine → Record
 record_now r go = now r.setup go.actor
 
 -- It is of this run, and may make `left` instructions more without coming near to what can be counted.
-pub record Goes (r : Run) (go : Goroutine) (left : ℕ) : Type 0 where
-  pub stands : Stands r go.actor
+pub record MayMakeInstructions (r : Run) (go : Goroutine) (left : ℕ) : Type 0 where
+  pub stands : IsActorOf r go.actor
   pub number : go.number ≡ number_of go.actor.seat.me
   pub few : length (record_now r go).clock.prints ≤ steps_of (record_now r go)
   pub room : steps_of (record_now r go) + left < 8796093022208
-  pub all : AllStand r go.children.items
+  pub all : AreChildren r go.children.items
   pub first : (record_now r go).clock.first ≡ option_map mark_of go.first
 
 -- From one moment of a turn to another: its seat has seen the accesses es more, its own among them; it has made n instructions; what
--- it has drawn and started comes to what was not yet taken from it. What is said of the end mark is said apart.
-pub record Moved (r : Run) (old new : Goroutine) (n : ℕ) (es : List Access) : Type 0 where
-  pub grew : Grew accesses (first_of r.setup.code) old.actor.seat.me es new.actor.seat.me
+-- it has drawn and started comes to what was not yet taken from it. The end mark is a matter of its own.
+pub record GoroutineMoved (r : Run) (old new : Goroutine) (n : ℕ) (es : List Access) : Type 0 where
+  pub grew : SeatGrew accesses (first_of r.setup.code) old.actor.seat.me es new.actor.seat.me
   pub steps : steps_of (record_now r new) ≡ steps_of (record_now r old) + n
   pub draws : List Drawn
   pub fresh : fresh new ≡ fresh old ++ draws
@@ -46,19 +46,19 @@ pub record Moved (r : Run) (old new : Goroutine) (n : ℕ) (es : List Access) : 
   pub started : (record_now r new).clock.children ≡ numbers starts ++ (record_now r old).clock.children
 
 -- its accesses changed no word, and its frames and what it has of regions are as before
-pub record Rests (r : Run) (old new : Goroutine) (es : List Access) : Type 0 where
+pub record GoroutineRests (r : Run) (old new : Goroutine) (es : List Access) : Type 0 where
   pub words : ChangesNothingBy (number_of old.actor.seat.me) es
   pub frame : (record_now r new).frame ≡ (record_now r old).frame
 
 -- What an act has in common, whatever it came to: it has made as many instructions as the turn has less of, and where nothing has
 -- moved by then, it has left all as it was.
-pub record Acted (r : Run) (old new : Goroutine) (t u : Turning) : Type 0 where
+pub record GoroutineActed (r : Run) (old new : Goroutine) (t u : Turning) : Type 0 where
   pub n : ℕ
   pub es : List Access
-  pub moved : Moved r old new n es
+  pub moved : GoroutineMoved r old new n es
   pub left : t.left ≡ u.left + n
   pub noted : t.changed.count ≤ u.changed.count
-  pub still : u.moved ≡ false → (t.moved ≡ false) × (n ≡ 0) × Rests r old new es
+  pub still : u.moved ≡ false → (t.moved ≡ false) × (n ≡ 0) × GoroutineRests r old new es
 
 abbrev pub SameFirst : Run → (old new : Goroutine) → Type 0
 SameFirst r old new = (record_now r new).clock.first ≡ (record_now r old).clock.first
@@ -70,10 +70,10 @@ abbrev pub room_in : Turning → ℕ
 room_in t = t.left + (8 - t.changed.count)
 
 -- why the turn is over after it; es are the accesses of the act
-abbrev pub StopsBy : (r : Run) (old new : Goroutine) (es : List Access) → Stop → Type 0
+abbrev pub StopsBy : (r : Run) (old new : Goroutine) (es : List Access) → TableTurnEnd → Type 0
 StopsBy r old new es stop.Went = SameFirst r old new × (HoldsMuch new ⊎ FoundEnd (number_of old.actor.seat.me) es)
 StopsBy r old new es (stop.Blocked at) =
-    SameFirst r old new × Waits r.setup (number_of old.actor.seat.me) (record_now r new) es at
+    SameFirst r old new × WaitsAtChannel r.setup (number_of old.actor.seat.me) (record_now r new) es at
 StopsBy r old new es (stop.Lost at) =
     SameFirst r old new × Loses r.setup (number_of old.actor.seat.me) (record_now r new) es at
 StopsBy r old new es stop.Ended = SameFirst r old new × IsOver (record_now r new)
@@ -83,25 +83,25 @@ StopsBy r old new es (stop.Short why) =
 StopsBy r old new es stop.NoMemory = SameFirst r old new
 
 -- the turn continues, or is over
-abbrev pub Concludes : (r : Run) (old new : Goroutine) (es : List Access) → Option Stop → Type 0
-Concludes r old new es None = SameFirst r old new
-Concludes r old new es (Some why) = StopsBy r old new es why
+abbrev pub ActConcludes : (r : Run) (old new : Goroutine) (es : List Access) → Option TableTurnEnd → Type 0
+ActConcludes r old new es None = SameFirst r old new
+ActConcludes r old new es (Some why) = StopsBy r old new es why
 
-pub record Acts (r : Run) (old new : Goroutine) (t u : Turning) (answer : Option Stop) : Type 0 where
-  pub acted : Acted r old new t u
-  pub goes : Goes r new u.left
+pub record GoroutineActs (r : Run) (old new : Goroutine) (t u : Turning) (answer : Option TableTurnEnd) : Type 0 where
+  pub acted : GoroutineActed r old new t u
+  pub goes : MayMakeInstructions r new u.left
   pub noted : u.changed.count ≤ 8
-  pub concludes : Concludes r old new acted.es answer
+  pub concludes : ActConcludes r old new acted.es answer
 
 -- the turn may do less than before
-abbrev pub Progresses : (t u : Turning) → Type 0
-Progresses t u = room_in u < room_in t
+abbrev pub TurnProgresses : (t u : Turning) → Type 0
+TurnProgresses t u = room_in u < room_in t
 
 -- ---- several acts
 
 -- The turn was over for this reason, by its last act, or since all its instructions were made, or since its list of changed channels is
 -- full.
-abbrev pub IsOverFor : (r : Run) (old new : Goroutine) (u : Turning) (es : List Access) → Stop → Type 0
+abbrev pub IsOverFor : (r : Run) (old new : Goroutine) (u : Turning) (es : List Access) → TableTurnEnd → Type 0
 IsOverFor r old new u es stop.Went =
     SameFirst r old new × (((u.left ≡ 0) ⊎ (u.changed.count ≡ 8)) ⊎ (HoldsMuch new ⊎ FoundEnd (number_of old.actor.seat.me) es))
 IsOverFor r old new u es (stop.Blocked at) = StopsBy r old new es (stop.Blocked at)
@@ -111,18 +111,18 @@ IsOverFor r old new u es (stop.Stopped mark) = StopsBy r old new es (stop.Stoppe
 IsOverFor r old new u es (stop.Short why) = StopsBy r old new es (stop.Short why)
 IsOverFor r old new u es stop.NoMemory = StopsBy r old new es stop.NoMemory
 
-pub record Proceeds (r : Run) (old new : Goroutine) (t u : Turning) (why : Stop) : Type 0 where
-  pub acted : Acted r old new t u
-  pub goes : Goes r new u.left
+pub record Proceeds (r : Run) (old new : Goroutine) (t u : Turning) (why : TableTurnEnd) : Type 0 where
+  pub acted : GoroutineActed r old new t u
+  pub goes : MayMakeInstructions r new u.left
   pub over : IsOverFor r old new u acted.es why
 
 -- ---- ends of the run
 
 -- It has set the end mark, as its nth instruction or by none, and has ended the run by this unless the run had ended before.
-pub record EndsIn (r : Run) (old new : Goroutine) (n : ℕ) (why : Stop) : Type 0 where
+pub record EndsIn (r : Run) (old new : Goroutine) (n : ℕ) (why : TableTurnEnd) : Type 0 where
   pub mark : Mark
   pub ends : Bool
-  pub ended : HasEnded r old.actor new.actor n (mark_of mark) ends
+  pub ended : ActorHasEnded r old.actor new.actor n (mark_of mark) ends
   pub rest : new ≡ record old { actor = new.actor; first = if ends then Some mark else old.first }
   pub is : why ≡ (if ends then stop.Stopped mark else stop.Went)
 
@@ -131,9 +131,9 @@ pub record EndsIn (r : Run) (old new : Goroutine) (n : ℕ) (why : Stop) : Type 
 -- It has loaded the clock, and its record has all its local steps.
 pub record HasCaughtUp (r : Run) (old new : Goroutine) (left : ℕ) : Type 0 where
   pub es : List Access
-  pub moved : Moved r old new 0 es
-  pub rests : Rests r old new es
-  pub goes : Goes r new left
+  pub moved : GoroutineMoved r old new 0 es
+  pub rests : GoroutineRests r old new es
+  pub goes : MayMakeInstructions r new left
   pub settled : new.actor.behind ≡ 0
   pub rest : new ≡ record old { actor = new.actor }
   pub body : new.actor.body ≡ old.actor.body

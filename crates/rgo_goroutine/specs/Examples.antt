@@ -1,4 +1,4 @@
--- Goroutines and turns that are as their definitions say, and such as are not.
+-- Goroutines and turns that meet their definitions, and some that do not.
 use Rattle.std.specs.Prelude.{◌≡◌, ◌<◌, ◌≤◌, ℕ, true, false, List, [], ◌∷◌, length}
 use Rattle.rgo_core.specs.Core.{Setup}
 use Rattle.rgo_core.specs.Records.{Record, begins_with}
@@ -10,19 +10,19 @@ use Rattle.rgo_core.specs.Rule.Histories.{access}
 use Rattle.rgo_core.specs.Rule.Views.{number_of}
 use Rattle.rgo_core.specs.Rule.declared.accesses.Access.{Access}
 use Rattle.rgo_core.specs.Rule.declared.accesses.Kind.TheVariants.{ClaimPage, EndRun}
-use Rattle.rgo_sound.specs.Machine.declared.turns.Shortage.TheVariants as shortage
+use Rattle.rgo_sound.specs.Machine.declared.limits.Shortage.TheVariants as shortage
 use Rattle.rgo_sound.specs.RegionMachine.States.{Duty}
 use Rattle.rgo_acts.specs.Actors.{now}
 use Rattle.rgo_acts.specs.Runs.{Run}
 use Rattle.rgo_acts.specs.declared.prints.Print.{Print}
-use Rattle.rgo_goroutine.specs.Acting.{Goes}
+use Rattle.rgo_goroutine.specs.Acting.{MayMakeInstructions}
 use Rattle.rgo_goroutine.specs.Goroutines.{IsChild, IsOf, IsTidy, all_seen, bytes_in, numbers, rows, valid}
 use Rattle.rgo_goroutine.specs.Instructions.{IsNear}
 use Rattle.rgo_goroutine.specs.Passing.{Adopts, AreBorn, Gathers}
-use Rattle.rgo_goroutine.specs.Turns.{FoundEnd, HasTurned, IsOver, LacksFor, Stops, Turns}
+use Rattle.rgo_goroutine.specs.Turns.{FoundEnd, HasTurned, IsOver, LacksFor, TurnStops, GoroutineTurns}
 use Rattle.rgo_goroutine.specs.declared.goroutine.Child.{Child}
 use Rattle.rgo_goroutine.specs.declared.goroutine.Goroutine.{Goroutine}
-use Rattle.rgo_goroutine.specs.declared.turning.Stop.TheVariants as stop
+use Rattle.rgo_goroutine.specs.declared.turning.TableTurnEnd.TheVariants as stop
 use Rattle.rgo_goroutine.specs.declared.turning.Turned.{Turned}
 
 -- goroutine 1 has set the end mark, when this was the clock
@@ -31,16 +31,16 @@ end_at clock = access 1 EndRun 0 clock clock ∷ []
 
 pub record TurnExamples : Type 0 where
   -- a turn makes an access of its own
-  pub no_access : (r : Run) (go : Goroutine) (n : ℕ) (es : List Access) → Turns r go go n es → ⊥
+  pub no_access : (r : Run) (go : Goroutine) (n : ℕ) (es : List Access) → GoroutineTurns r go go n es → ⊥
   -- and no more instructions than it was given
   pub too_many : (r : Run) (old new : Goroutine) (slice : ℕ) (turned : Turned) → slice < turned.steps → HasTurned r old new slice turned → ⊥
   -- it has made all its instructions, or its list of changed channels is full
-  pub used_up : (r : Run) (go : Goroutine) → Stops r go go 10 10 0 [] stop.Went
-  pub told_all : (r : Run) (go : Goroutine) → Stops r go go 10 3 8 [] stop.Went
+  pub used_up : (r : Run) (go : Goroutine) → TurnStops r go go 10 10 0 [] stop.Went
+  pub told_all : (r : Run) (go : Goroutine) → TurnStops r go go 10 3 8 [] stop.Went
   -- or it has printed much
-  pub printed_much : (r : Run) (go : Goroutine) → 65536 ≤ bytes_in go.prints.items → Stops r go go 10 3 0 [] stop.Went
+  pub printed_much : (r : Run) (go : Goroutine) → 65536 ≤ bytes_in go.prints.items → TurnStops r go go 10 3 0 [] stop.Went
   -- it has made fewer, has printed little, and nothing ended
-  pub too_early : (r : Run) (old new : Goroutine) → bytes_in new.prints.items < 65536 → Stops r old new 10 3 0 [] stop.Went → ⊥
+  pub too_early : (r : Run) (old new : Goroutine) → bytes_in new.prints.items < 65536 → TurnStops r old new 10 3 0 [] stop.Went → ⊥
   -- the run had ended: bit 63 of the clock was set
   pub found_end : FoundEnd 1 (end_at 9223372036854775813)
   pub found_none : FoundEnd 1 (end_at 5) → ⊥
@@ -50,13 +50,13 @@ pub record TurnExamples : Type 0 where
   pub owing : (c : Record) (d : Duty) (ds : List Duty) → c.frame.holder.duties ≡ d ∷ ds → IsOver c → ⊥
   pub locked : (c : Record) → (c.side.hold ≡ Free → ⊥) → IsTidy c → ⊥
   -- it is near as it is, or has changed a word since
-  pub near : (r : Run) (go : Goroutine) (left : ℕ) → Goes r go left → go.actor.behind < 4611686018427387904 → IsNear r go go left
+  pub near : (r : Run) (go : Goroutine) (left : ℕ) → MayMakeInstructions r go left → go.actor.behind < 4611686018427387904 → IsNear r go go left
   pub changed : (r : Run) (old new : Goroutine) (left : ℕ) (near : IsNear r old new left) → number_of old.actor.seat.me ≡ 1
       → near.es ≡ access 1 EndRun 0 5 6 ∷ [] → ⊥
   -- it has claimed a page, even if it then lacks the next one
   pub claimed : (r : Run) (old new : Goroutine) (slice : ℕ) (turned : Turned) (h : HasTurned r old new slice turned)
       → number_of old.actor.seat.me ≡ 1 → h.es ≡ access 1 ClaimPage 40 0 1 ∷ [] → turned.moved ≡ false → ⊥
-  -- the size of an object is no shortage
+  -- the size of an object is not a shortage
   pub too_large : (T : Setup) (g : ℕ) (c : Record) (es : List Access) → LacksFor shortage.ObjectSize T g c es → ⊥
 
 pub record PassingExamples : Type 0 where
@@ -81,7 +81,7 @@ pub record PassingExamples : Type 0 where
       → new.children.items ≡ child ∷ later → Adopts r old new list longer_list n → ⊥
   -- one goroutine more than there were children
   pub one_more : (r : Run) (go : Goroutine) → AreBorn r [] (go ∷ []) → ⊥
-  -- the prints come behind those that were there
+  -- the prints come after those that were there
   pub swapped : (old new : Goroutine) (p q : Print) → (p ≡ q → ⊥) → p.is_void ≡ false → old.prints.items ≡ p ∷ []
       → Gathers old new (q ∷ []) (p ∷ q ∷ []) 1 → ⊥
   -- its record has local steps to take

@@ -9,7 +9,7 @@ use Rattle.rgo_core.specs.Core.{Setup}
 use Rattle.rgo_core.specs.Records.{Drawn, Record, blank, steps_of}
 use Rattle.rgo_core_steps.specs.Ends.{mark_of}
 use Rattle.rgo_core_steps.specs.Seats.{mine}
-use Rattle.rgo_acts.specs.Actors.{Stands, now}
+use Rattle.rgo_acts.specs.Actors.{IsActorOf, now}
 use Rattle.rgo_acts.specs.Runs.{Run}
 use Rattle.rgo_acts.specs.declared.prints.Print.{Print}
 use Rattle.rgo_goroutine.specs.declared.goroutine.Child.{Child}
@@ -50,7 +50,7 @@ abbrev pub all_seen : List Child → List (List Access)
 all_seen [] = []
 all_seen (child ∷ later) = child.actor.seat.me.0.seen ∷ all_seen later
 
--- no channel is locked, no object half made, no page claimed and not linked, and no chain given back
+-- no channel is locked, no object half made, no page claimed and not linked, and no chain being returned
 pub record IsTidy (c : Record) : Type 0 where
   pub hold : c.side.hold ≡ Free
   pub make : c.memory.make ≡ Rest
@@ -59,20 +59,20 @@ pub record IsTidy (c : Record) : Type 0 where
 
 -- a goroutine that was started, and has done nothing yet
 pub record IsChild (r : Run) (child : Child) : Type 0 where
-  pub stands : Stands r child.actor
+  pub stands : IsActorOf r child.actor
   pub settled : child.actor.behind ≡ 0
   pub number : child.number ≡ number_of child.actor.seat.me
   pub blank : (now r.setup child.actor).clock ≡ blank
   pub tidy : IsTidy (now r.setup child.actor)
 
-abbrev pub AllStand : Run → List Child → Type 0
-AllStand r [] = Unit {0}
-AllStand r (child ∷ later) = IsChild r child × AllStand r later
+abbrev pub AreChildren : Run → List Child → Type 0
+AreChildren r [] = Unit {0}
+AreChildren r (child ∷ later) = IsChild r child × AreChildren r later
 
 -- The goroutine is of this run, and between two turns: its record has all its local steps. What was not gathered are the last prints of
 -- its record, and what was not adopted the last goroutines that it has started.
 pub record IsOf (r : Run) (go : Goroutine) : Type 0 where
-  pub stands : Stands r go.actor
+  pub stands : IsActorOf r go.actor
   pub number : go.number ≡ number_of go.actor.seat.me
   pub settled : go.actor.behind ≡ 0
   pub gathered : List Drawn
@@ -81,7 +81,7 @@ pub record IsOf (r : Run) (go : Goroutine) : Type 0 where
   pub few : length (record_of r.setup go).clock.prints ≤ steps_of (record_of r.setup go)
   pub adopted : List ℕ
   pub children : (record_of r.setup go).clock.children ≡ numbers go.children.items ++ adopted
-  pub all : AllStand r go.children.items
+  pub all : AreChildren r go.children.items
   pub first : (record_of r.setup go).clock.first ≡ option_map mark_of go.first
 
 -- ---- what is taken from it

@@ -16,22 +16,22 @@ use Rattle.rgo_acts.specs.Traps.{IsAtTrap}
 use Rattle.rgo_acts.specs.declared.channels.Talked.{Talked}
 use Rattle.rgo_acts.specs.Body.declared.nexts.Next.{Next}
 use Rattle.rgo_acts.specs.Runs.{Run}
-use Rattle.rgo_goroutine.specs.Acting.{Acts, Goes, Moved, Progresses, Rests, SameFirst}
-use Rattle.rgo_goroutine.specs.declared.turning.Stop.{Stop}
+use Rattle.rgo_goroutine.specs.Acting.{GoroutineActs, MayMakeInstructions, GoroutineMoved, TurnProgresses, GoroutineRests, SameFirst}
+use Rattle.rgo_goroutine.specs.declared.turning.TableTurnEnd.{TableTurnEnd}
 use Rattle.rgo_goroutine.specs.declared.turning.Turning.{Turning}
 use Rattle.rgo_goroutine.specs.declared.goroutine.Goroutine.{Goroutine}
 
--- It owes nothing before this instruction, its next one, and has no offer; there is room for what it owes after it, and the turn has
--- instructions left.
+-- It owes nothing before this instruction, its next one, and has no offer; there is room for what it owes after it, and the turn
+-- has instructions left.
 pub record IsAt (r : Run) (go : Goroutine) (next : Next) (left : ℕ) : Type 0 where
-  pub goes : Goes r go left
+  pub goes : MayMakeInstructions r go left
   pub some : 0 < left
   pub ready : IsReady r.program go.actor.body next
   pub none : (at : ℕ) → go.actor.body.side ≡ Offering at → ⊥
   pub room : HasRoomBehind go.actor.body next
 
 -- its table has pages, and a channel's control can count the words of 64 of them, which a channel may have as data pages
-pub record HasPages (r : Run) : Type 0 where
+pub record TableHasPages (r : Run) : Type 0 where
   pub some : 0 < r.sizes.pages
   pub small : r.setup.sizes.page_words ≤ 16777215
 
@@ -89,7 +89,7 @@ IsOfWord action.Recv = ⊥
 IsOfWord action.Send = ⊥
 IsOfWord action.Close = ⊥
 
--- the instruction is no operation on a channel
+-- the instruction is not an operation on a channel
 abbrev pub IsElsewhere : Op → Type 0
 IsElsewhere (Do to action from) = IsOfChannel action → ⊥
 IsElsewhere (Call to function from) = ⊤
@@ -99,8 +99,8 @@ IsElsewhere (Jump target) = ⊤
 IsElsewhere (Branch test target other) = ⊤
 IsElsewhere (Return value) = ⊤
 
--- It may make this instruction, which is no operation on a channel: it knows of no channel, what it does can be counted, and the turn
--- has room for it.
+-- It may make this instruction, which is not an operation on a channel: it knows of no channel, what it does can be counted, and
+-- the turn has room for it.
 pub record CanAct (r : Run) (go : Goroutine) (next : Next) (t : Turning) : Type 0 where
   pub at : IsAt r go next t.left
   pub rests : go.actor.body.side ≡ AtRest
@@ -109,15 +109,15 @@ pub record CanAct (r : Run) (go : Goroutine) (next : Next) (t : Turning) : Type 
   pub noted : t.changed.count < 8
 
 -- The act was made, and the turn may do less than before if it continues.
-pub record Instructs (r : Run) (old new : Goroutine) (t u : Turning) (answer : Option Stop) : Type 0 where
-  pub acts : Acts r old new t u answer
-  pub progress : answer ≡ None → Progresses t u
+pub record MakesInstruction (r : Run) (old new : Goroutine) (t u : Turning) (answer : Option TableTurnEnd) : Type 0 where
+  pub acts : GoroutineActs r old new t u answer
+  pub progress : answer ≡ None → TurnProgresses t u
 
 -- ---- where an act is made first, and what it came to is seen then
 
 -- its actor has come from `first` to here
 pub record HasCome (r : Run) (first go : Goroutine) (t : Turning) : Type 0 where
-  pub goes : Goes r first t.left
+  pub goes : MayMakeInstructions r first t.left
   pub some : 0 < t.left
   pub noted : t.changed.count < 8
   pub rest : go ≡ record first { actor = go.actor }
@@ -125,11 +125,11 @@ pub record HasCome (r : Run) (first go : Goroutine) (t : Turning) : Type 0 where
 -- by an instruction that may trap
 pub record HasComeTo (r : Run) (first go : Goroutine) (t : Turning) (done : Result (Unit {0}) Trap) : Type 0 where
   pub come : HasCome r first go t
-  pub did : MatchResult done (λ _. act.Acted r first.actor go.actor 1 [] []) (λ trap. IsAtTrap r first.actor go.actor trap)
+  pub did : MatchResult done (λ _. act.ActorActed r first.actor go.actor 1 [] []) (λ trap. IsAtTrap r first.actor go.actor trap)
 
 -- by an operation on a channel, which makes n instructions if it takes effect
 pub record HasTalked (r : Run) (first go : Goroutine) (t : Turning) (n : ℕ) (talked : Talked) : Type 0 where
-  pub goes : Goes r first t.left
+  pub goes : MayMakeInstructions r first t.left
   pub some : 0 < t.left
   pub noted : t.changed.count < 8
   pub few : n ≤ 1
@@ -139,9 +139,9 @@ pub record HasTalked (r : Run) (first go : Goroutine) (t : Turning) (n : ℕ) (t
 -- The local steps since its last access are not too many to be counted, and its body is as before. It has changed no word.
 pub record IsNear (r : Run) (old new : Goroutine) (left : ℕ) : Type 0 where
   pub es : List Access
-  pub moved : Moved r old new 0 es
-  pub rests : Rests r old new es
-  pub goes : Goes r new left
+  pub moved : GoroutineMoved r old new 0 es
+  pub rests : GoroutineRests r old new es
+  pub goes : MayMakeInstructions r new left
   pub near : new.actor.behind < 4611686018427387904
   pub rest : new ≡ record old { actor = new.actor }
   pub body : new.actor.body ≡ old.actor.body

@@ -8,7 +8,7 @@ use Rattle.rgo_core.specs.Rule.declared.accesses.Access.{Access}
 use Rattle.rgo_core.specs.Rule.declared.accesses.Kind.TheVariants.{Load}
 use Rattle.rgo_core.specs.Opening.{first_of}
 use Rattle.rgo_core.specs.Records.{accesses, looked}
-use Rattle.rgo_core_steps.specs.Grown.{Found, Grew}
+use Rattle.rgo_core_steps.specs.Grown.{Found, SeatGrew}
 use Rattle.rgo_acts.specs.Runs.{Run}
 use Rattle.rgo_acts.specs.declared.prints.Print.{Print}
 use Rattle.rgo_goroutine.specs.Goroutines.{IsOf, record_of, valid}
@@ -52,9 +52,9 @@ pub record Gathers (old new : Goroutine) (list longer_list : List Print) (n : â„
 -- ---- what it has seen
 
 -- It has loaded the clock, which says whether the run has ended.
-pub record Looks (r : Run) (old new : Goroutine) (ended : Bool) : Type 0 where
+pub record LoadsClock (r : Run) (old new : Goroutine) (ended : Bool) : Type 0 where
   pub es : List Access
-  pub grew : Grew accesses (first_of r.setup.code) old.actor.seat.me es new.actor.seat.me
+  pub grew : SeatGrew accesses (first_of r.setup.code) old.actor.seat.me es new.actor.seat.me
   pub words : ChangesNothingBy (number_of old.actor.seat.me) es
   pub clock : â„•
   pub found : Found (number_of old.actor.seat.me) es Load clock_at clock

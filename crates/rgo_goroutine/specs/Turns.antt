@@ -9,24 +9,24 @@ use Rattle.rgo_core.specs.Core.{Setup}
 use Rattle.rgo_core.specs.Opening.{first_of}
 use Rattle.rgo_core.specs.Records.{Drawn, Record, accesses, steps_of}
 use Rattle.rgo_core_steps.specs.Ends.{mark_of}
-use Rattle.rgo_core_steps.specs.Grown.{Found, Grew}
-use Rattle.rgo_sound.specs.Machine.declared.turns.Shortage.{Shortage}
-use Rattle.rgo_sound.specs.Machine.declared.turns.Shortage.TheVariants as shortage
+use Rattle.rgo_core_steps.specs.Grown.{Found, SeatGrew}
+use Rattle.rgo_sound.specs.Machine.declared.limits.Shortage.{Shortage}
+use Rattle.rgo_sound.specs.Machine.declared.limits.Shortage.TheVariants as shortage
 use Rattle.rgo_acts.specs.Runs.{Run}
 use Rattle.rgo_acts.specs.Shortages.{LacksPage, LacksSlot}
-use Rattle.rgo_acts.specs.Waits.{Loses, Waits}
+use Rattle.rgo_acts.specs.Waits.{Loses, WaitsAtChannel}
 use Rattle.rgo_goroutine.specs.Goroutines.{HoldsMuch, fresh, numbers, record_of}
 pub use Rattle.rgo_goroutine.specs.Goroutines.{IsTidy}
 use Rattle.rgo_goroutine.specs.declared.goroutine.Child.{Child}
 use Rattle.rgo_goroutine.specs.declared.goroutine.Goroutine.{Goroutine}
-use Rattle.rgo_goroutine.specs.declared.turning.Stop.{Stop}
-use Rattle.rgo_goroutine.specs.declared.turning.Stop.TheVariants as stop
+use Rattle.rgo_goroutine.specs.declared.turning.TableTurnEnd.{TableTurnEnd}
+use Rattle.rgo_goroutine.specs.declared.turning.TableTurnEnd.TheVariants as stop
 use Rattle.rgo_goroutine.specs.declared.turning.Turned.{Turned}
 
--- Its seat has seen the accesses es more, its own among them, at least one. It has made n instructions; its prints, and the goroutines
--- that it has started, come to those that it had.
-pub record Turns (r : Run) (old new : Goroutine) (n : ℕ) (es : List Access) : Type 0 where
-  pub grew : Grew accesses (first_of r.setup.code) old.actor.seat.me es new.actor.seat.me
+-- Its seat has seen the accesses es more, its own among them, at least one. It has made n instructions; its prints, and the
+-- goroutines that it has started, come to those that it had.
+pub record GoroutineTurns (r : Run) (old new : Goroutine) (n : ℕ) (es : List Access) : Type 0 where
+  pub grew : SeatGrew accesses (first_of r.setup.code) old.actor.seat.me es new.actor.seat.me
   pub some : accesses (record_of r.setup old) < accesses (record_of r.setup new)
   pub steps : steps_of (record_of r.setup new) ≡ steps_of (record_of r.setup old) + n
   pub draws : List Drawn
@@ -36,7 +36,7 @@ pub record Turns (r : Run) (old new : Goroutine) (n : ℕ) (es : List Access) : 
   pub newborn : new.children.items ≡ old.children.items ++ starts
   pub started : (record_of r.setup new).clock.children ≡ numbers starts ++ (record_of r.setup old).clock.children
 
--- its accesses changed no word, and it stands where it stood
+-- its accesses changed no word, and its frames are as they were
 pub record IsStill (r : Run) (old new : Goroutine) (es : List Access) : Type 0 where
   pub words : ChangesNothingBy (number_of old.actor.seat.me) es
   pub frame : (record_of r.setup new).frame ≡ (record_of r.setup old).frame
@@ -59,25 +59,25 @@ LacksFor shortage.Pages T g c es = LacksPage T g c es
 LacksFor shortage.Regions T g c es = LacksSlot T g c es
 LacksFor shortage.ObjectSize T g c es = ⊥
 
--- Why the turn was over, of which n instructions were made, at most `slice`, and whose list of changed channels has so many of its
--- eight entries. es are the accesses that its seat has seen since.
-abbrev pub Stops : (r : Run) (old new : Goroutine) (slice n changed : ℕ) (es : List Access) → Stop → Type 0
-Stops r old new slice n changed es stop.Went =
+-- Why the turn was over, of which n instructions were made, at most `slice`, and whose list of changed channels has `changed` of
+-- its eight entries. es are the accesses that its seat has seen since.
+abbrev pub TurnStops : (r : Run) (old new : Goroutine) (slice n changed : ℕ) (es : List Access) → TableTurnEnd → Type 0
+TurnStops r old new slice n changed es stop.Went =
     SameFirst r old new × (((n ≡ slice) ⊎ (changed ≡ 8)) ⊎ (HoldsMuch new ⊎ FoundEnd (number_of old.actor.seat.me) es))
-Stops r old new slice n changed es (stop.Blocked at) =
-    SameFirst r old new × Waits r.setup (number_of old.actor.seat.me) (record_of r.setup new) es at
-Stops r old new slice n changed es (stop.Lost at) =
+TurnStops r old new slice n changed es (stop.Blocked at) =
+    SameFirst r old new × WaitsAtChannel r.setup (number_of old.actor.seat.me) (record_of r.setup new) es at
+TurnStops r old new slice n changed es (stop.Lost at) =
     SameFirst r old new × Loses r.setup (number_of old.actor.seat.me) (record_of r.setup new) es at
-Stops r old new slice n changed es stop.Ended = SameFirst r old new × IsOver (record_of r.setup new)
-Stops r old new slice n changed es (stop.Stopped mark) = (record_of r.setup new).clock.first ≡ Some (mark_of mark)
-Stops r old new slice n changed es (stop.Short why) =
+TurnStops r old new slice n changed es stop.Ended = SameFirst r old new × IsOver (record_of r.setup new)
+TurnStops r old new slice n changed es (stop.Stopped mark) = (record_of r.setup new).clock.first ≡ Some (mark_of mark)
+TurnStops r old new slice n changed es (stop.Short why) =
     SameFirst r old new × LacksFor why r.setup (number_of old.actor.seat.me) (record_of r.setup new) es
-Stops r old new slice n changed es stop.NoMemory = SameFirst r old new
+TurnStops r old new slice n changed es stop.NoMemory = SameFirst r old new
 
 -- what a turn leaves
 pub record HasTurned (r : Run) (old new : Goroutine) (slice : ℕ) (turned : Turned) : Type 0 where
   pub es : List Access
-  pub turns : Turns r old new turned.steps es
+  pub turns : GoroutineTurns r old new turned.steps es
   pub within : turned.steps ≤ slice
   pub still : turned.moved ≡ false → (turned.steps ≡ 0) × IsStill r old new es
-  pub stops : Stops r old new slice turned.steps turned.changed.count es turned.stop
+  pub stops : TurnStops r old new slice turned.steps turned.changed.count es turned.stop

@@ -1,4 +1,5 @@
-//! Goroutines between turns: where they begin and end, and what their driver takes from them.
+//! Goroutines between turns: where they begin and end, and what their driver takes from them. Only the driver calls these
+//! functions, while the goroutine has no turn.
 ghost use mathlib.Core.Logic.{◌↔◌};
 ghost use Rattle.std.specs.Prelude.{◌≡◌, ◌+◌, ◌≤◌, ◌<◌, ◌-◌, ◌++◌, ◌∷◌, [], ℕ, List, IfErr, IfOk, MatchResult, None, length, true, vec_capacity, vec_len};
 ghost use Rattle.std.specs.List.{All};
@@ -9,8 +10,8 @@ ghost use Rattle.rgo_core.specs.Rule.Passes.{after_pass};
 ghost use Rattle.rgo_core.specs.Rule.Views.{longer, view};
 ghost use Rattle.rgo_core_steps.specs.Seats.{IsSeatOf};
 ghost use Rattle.rgo_acts.specs.Runs as runs;
-ghost use Rattle.rgo_goroutine.specs.Goroutines.{AllStand, IsOf, all_seen, bytes_in, record_of, rows, valid};
-ghost use Rattle.rgo_goroutine.specs.Passing.{Adopts, AreBorn, Gathers, Looks};
+ghost use Rattle.rgo_goroutine.specs.Goroutines.{AreChildren, IsOf, all_seen, bytes_in, record_of, rows, valid};
+ghost use Rattle.rgo_goroutine.specs.Passing.{Adopts, AreBorn, Gathers, LoadsClock};
 ghost use Rattle.rgo_goroutine.specs.declared.goroutine.Goroutine as spec;
 
 use rgo_acts::actors::{Actor, Searches};
@@ -30,15 +31,15 @@ pub struct Goroutine {
     pub(crate) actor: Actor,
     /// Its number; that of `main` is 0.
     pub(crate) number: u64,
-    /// What it has printed that was not gathered, the oldest first.
+    /// What it has printed and the driver has not gathered, the oldest first.
     pub(crate) prints: Vec<Print>,
-    /// The goroutines that it has started and that were not adopted, the oldest first.
+    /// The goroutines that it has started and the driver has not adopted, the oldest first.
     pub(crate) children: Vec<Child>,
-    /// How the run ended, if this goroutine ended it.
+    /// How the run ended, if this goroutine ended it: its mark was the first. At most one goroutine of a run has this.
     pub(crate) first: Option<Mark>,
 }
 
-/// The bytes of prints that may come of one turn. A turn that has printed as many is over.
+/// A turn is over once its prints have this many bytes, so that a round never holds much more of each goroutine.
 pub(crate) const MOST_PRINTED: usize = 65_536;
 
 /// A goroutine that was started, with its number.
@@ -48,7 +49,7 @@ pub(crate) struct Child {
     pub(crate) number: u64,
 }
 
-/// Whether these prints have as many bytes as may come of one turn.
+/// Whether these prints have as many bytes as end a turn.
 pub(crate) fn hold_much(prints: &[Print]) -> bool
     ensures { (result ≡ true) ↔ (65536 ≤ bytes_in prints.now) }
 {
@@ -82,7 +83,7 @@ fn move_valid(prints: &mut Vec<Print>, into: &mut Vec<Print>)
 /// Makes goroutines of children, at the end of a list.
 fn raise(alloc: Global, run: &Run<'_, '_>, children: &mut Vec<Child>, into: &mut Vec<Goroutine>)
     requires room { vec_len children.old ≤ vec_capacity into.old - vec_len into.old }
-    requires stand { AllStand run.now children.old.items }
+    requires stand { AreChildren run.now children.old.items }
     ensures born { (more : List spec.Goroutine) × (into.new.items ≡ into.old.items ++ more)
         × AreBorn run.now children.old.items more }
     ensures none { children.new.items ≡ [] }
@@ -95,7 +96,7 @@ fn raise(alloc: Global, run: &Run<'_, '_>, children: &mut Vec<Child>, into: &mut
 
 /// The records of goroutines that were started come to the seat of their driver, the oldest first.
 fn hand_over(run: &Run<'_, '_>, started: &mut Vec<Child>, seat: &mut RunSeat)
-    requires stand { AllStand run.now started.old.items }
+    requires stand { AreChildren run.now started.old.items }
     requires own { IsSeatOf seat.old.table_id run.now.table clock_at }
     ensures own { (seat.new.table_id ≡ seat.old.table_id) × (seat.new.id ≡ seat.old.id) }
     ensures records { seat.new.me.0.records ≡ seat.old.me.0.records ++ rows run.now.setup started.old.items }
@@ -227,8 +228,8 @@ impl Goroutine {
         }
     }
 
-    /// What it has printed since the last call comes to the list's end, in its order, but for prints that are void. Returns how many
-    /// prints came.
+    /// What it has printed since the last call moves to the end of the list, in its order, except prints that are void. Returns how
+    /// many prints came.
     ///
     /// # Errors
     ///
@@ -248,17 +249,18 @@ impl Goroutine {
         }
     }
 
-    /// Whether the run has ended. Its seat has then seen all accesses of its own.
+    /// Whether the run has ended: `true` stays true, `false` was so at the load. The seat has then seen all accesses of its
+    /// goroutine.
     pub fn look(&mut self, run: &Run<'_, '_>) -> bool
         requires of { IsOf run.now self.old }
         ensures of { IsOf run.now self.new }
-        ensures looks { Looks run.now self.old self.new result }
+        ensures looks { LoadsClock run.now self.old self.new result }
     {
         run.fits();
         clock::look(run.table(), &mut self.actor.seat, 0)
     }
 
-    /// Its record comes to the seat of its driver. What it had printed was gathered, and what it had started was adopted.
+    /// Its record moves to the seat of its driver. The caller has gathered what it had printed and adopted what it had started.
     pub fn retire(self, run: &Run<'_, '_>, seat: &mut RunSeat)
         requires of { IsOf run.now self }
         requires own { IsSeatOf seat.old.table_id run.now.table clock_at }
@@ -272,9 +274,9 @@ impl Goroutine {
         seats::join(run.table(), seat, self.actor.seat);
     }
 
-    /// Its record comes to the seat of its driver, and after it the records of the goroutines that it had started and that were not
-    /// adopted. What it had printed and was not gathered is lost but for its record. It takes no memory, so that a driver can close the
-    /// table also where `gather` or `adopt` was refused memory.
+    /// Its record moves to the seat of its driver, and after it the records of the goroutines that it had started and that were not
+    /// adopted. Prints that were not gathered are lost, but for what its record says of them. It takes no memory, so a driver can
+    /// close the table even if `gather` or `adopt` was refused memory.
     pub fn give_up(self, run: &Run<'_, '_>, seat: &mut RunSeat)
         requires of { IsOf run.now self }
         requires own { IsSeatOf seat.old.table_id run.now.table clock_at }
@@ -290,7 +292,7 @@ impl Goroutine {
         hand_over(run, &mut started, seat);
     }
 
-    /// It and its driver have then seen what either had seen.
+    /// It and its driver have then seen what either had seen. In a pass the driver learns by this what each goroutine has found.
     pub fn meet(&mut self, run: &Run<'_, '_>, seat: &mut RunSeat)
         requires of { IsOf run.now self.old }
         requires own { IsSeatOf seat.old.table_id run.now.table clock_at }

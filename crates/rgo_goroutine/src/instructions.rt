@@ -1,28 +1,32 @@
-//! The next instruction of a goroutine, before which it owes nothing.
+//! The next instruction of a goroutine, before which it owes nothing. An instruction that is refused memory, a page or a slot is
+//! not made and can be made in a later turn; one that traps or meets a limit sets the end mark.
+//!
+//! The arms that are `unreachable` are of actions and operands that checked code does not have there: each function requires its
+//! action, and the table of actions says how many operands that has.
 ghost use Rattle.std.specs.Prelude.{◌≡◌, ◌+◌, ◌-◌, ◌∷◌, ◌<◌, ◌≤◌, ◌^◌, ℕ, ⊤, IsErr, IsOk, List, MatchOption, MatchResult, None, Option, Some, [], if◌then◌else◌, is_some, length, true};
 ghost use Rattle.rgo_core.specs.Channels.Standing.{IsOfChannel};
 ghost use Rattle.rgo_acts.specs.Facts.ControlShapes.{IsShaped, operand_count};
 ghost use Rattle.rgo_core.specs.Rule.Views.{number_of};
-ghost use Rattle.rgo_core_steps.specs.Ends.{Ends, Traps};
+ghost use Rattle.rgo_core_steps.specs.Ends.{GoroutineEndsRun, InstrTraps};
 ghost use Rattle.rgo_sound.specs.RegionMachine.Objects.{makes_object};
 ghost use Rattle.rgo_sound.specs.RegionMachine.States.{Stopped};
 ghost use Rattle.rgo_sound.specs.Tac.Code.{Call, Do, Go, Print, Return};
 ghost use Rattle.rgo_sound.specs.Tac.Ops.{numbers_of, operation_of};
 ghost use Rattle.rgo_acts.specs.Body.Bodies.{CanCount, frames_in};
 ghost use Rattle.rgo_acts.specs.Body.declared.bodies.Side.TheVariants as side;
-ghost use Rattle.rgo_acts.specs.Actors.{Acted, Stands, now};
-ghost use Rattle.rgo_acts.specs.Objects.{Makes};
+ghost use Rattle.rgo_acts.specs.Actors.{ActorActed, IsActorOf, now};
+ghost use Rattle.rgo_acts.specs.Objects.{ActorMakes};
 ghost use Rattle.rgo_acts.specs.Ready.{IsBefore};
 ghost use Rattle.rgo_acts.specs.Talks.{CanTry, Talks};
 ghost use Rattle.rgo_acts.specs.Traps.{IsAtTrap};
-ghost use Rattle.rgo_goroutine.specs.Acting.{EndsIn, Goes};
+ghost use Rattle.rgo_goroutine.specs.Acting.{EndsIn, MayMakeInstructions};
 ghost use Rattle.rgo_goroutine.specs.Goroutines.{HoldsMuch};
-ghost use Rattle.rgo_goroutine.specs.Instructions.{CanAct, HasComeTo, HasPages, HasTalked, Instructs, IsAt, IsElsewhere, IsOfWord};
+ghost use Rattle.rgo_goroutine.specs.Instructions.{CanAct, HasComeTo, TableHasPages, HasTalked, MakesInstruction, IsAt, IsElsewhere, IsOfWord};
 ghost use Rattle.rgo_goroutine.specs.declared.goroutine.Goroutine.{Goroutine as Goroutine_};
-ghost use Rattle.rgo_goroutine.specs.declared.turning.Stop.TheVariants as stop;
+ghost use Rattle.rgo_goroutine.specs.declared.turning.TableTurnEnd.TheVariants as stop;
 
 use crate::goroutine::{Child, Goroutine, MOST_PRINTED, hold_much};
-use crate::turning::{Stop, Turning};
+use crate::turning::{TableTurnEnd, Turning};
 use rgo_acts::actors::Actor;
 use rgo_acts::body::{Next, NoCall};
 use rgo_acts::channels::{self, Talked};
@@ -48,22 +52,22 @@ impl Goroutine {
         run: &Run<'_, '_>,
         turning: &mut Turning,
         steps: &mut Steps<L>,
-    ) -> Option<Stop>
-        requires goes { Goes run.now self.old turning.old.left }
-        requires pages { HasPages run.now }
+    ) -> Option<TableTurnEnd>
+        requires goes { MayMakeInstructions run.now self.old turning.old.left }
+        requires pages { TableHasPages run.now }
         requires some { (0 < turning.old.left) × (turning.old.changed.count < 8) }
         requires empty { self.old.actor.body.queue.duties ≡ [] }
         requires expanded { self.old.actor.body.is_expanded ≡ true }
         requires none { (at : ℕ) → self.old.actor.body.side ≡ side.Offering at → ⊥ }
-        ensures { Instructs run.now self.old self.new turning.old turning.new result }
+        ensures { MakesInstruction run.now self.old self.new turning.old turning.new result }
     {
         // It knows of no channel unless it tries again.
         let _ = channels::tries_again(&mut self.actor, run);
         let Some(next) = self.actor.body.next(run.program()) else {
-            return Some(Stop::Ended);
+            return Some(TableTurnEnd::Ended);
         };
         if self.actor.body.room_behind(next).is_err() {
-            return Some(Stop::NoMemory);
+            return Some(TableTurnEnd::NoMemory);
         }
         if let Op::Do { action, from, .. } = next.op {
             match action {
@@ -93,7 +97,8 @@ impl Goroutine {
         self.dispatch(alloc, run, next, turning, steps)
     }
 
-    /// An instruction that is no operation on a channel.
+    /// An instruction other than an operation on a channel. A count that is about to overflow its 64 bits is reported as want of
+    /// memory.
     fn dispatch<L: Ledger>(
         &mut self,
         alloc: Global,
@@ -101,17 +106,17 @@ impl Goroutine {
         next: &Next<'_>,
         turning: &mut Turning,
         steps: &mut Steps<L>,
-    ) -> Option<Stop>
+    ) -> Option<TableTurnEnd>
         requires at { IsAt run.now self.old next.now turning.old.left }
-        requires pages { HasPages run.now }
+        requires pages { TableHasPages run.now }
         requires noted { turning.old.changed.count < 8 }
         requires rests { self.old.actor.body.side ≡ side.AtRest }
         requires elsewhere { IsElsewhere (operation_of next.now.op) }
-        ensures { Instructs run.now self.old self.new turning.old turning.new result }
+        ensures { MakesInstruction run.now self.old self.new turning.old turning.new result }
     {
         self.come_near(run);
         if !self.can_count(run) {
-            return Some(Stop::NoMemory);
+            return Some(TableTurnEnd::NoMemory);
         }
         self.perform(alloc, run, next, turning, steps)
     }
@@ -124,11 +129,11 @@ impl Goroutine {
         next: &Next<'_>,
         turning: &mut Turning,
         steps: &mut Steps<L>,
-    ) -> Option<Stop>
+    ) -> Option<TableTurnEnd>
         requires can { CanAct run.now self.old next.now turning.old }
-        requires pages { HasPages run.now }
+        requires pages { TableHasPages run.now }
         requires elsewhere { IsElsewhere (operation_of next.now.op) }
-        ensures { Instructs run.now self.old self.new turning.old turning.new result }
+        ensures { MakesInstruction run.now self.old self.new turning.old turning.new result }
     {
         match next.op {
             Op::Do { to, action, from } => self.act(run, next, to, action, from, turning, steps),
@@ -161,12 +166,12 @@ impl Goroutine {
         from: Operands,
         turning: &mut Turning,
         steps: &mut Steps<L>,
-    ) -> Option<Stop>
+    ) -> Option<TableTurnEnd>
         requires can { CanAct run.now self.old next.now turning.old }
-        requires pages { HasPages run.now }
+        requires pages { TableHasPages run.now }
         requires is { operation_of next.now.op ≡ Do to action (numbers_of from) }
         requires elsewhere { IsOfChannel action → ⊥ }
-        ensures { Instructs run.now self.old self.new turning.old turning.new result }
+        ensures { MakesInstruction run.now self.old self.new turning.old turning.new result }
     {
         match action {
             Action::Int(_)
@@ -190,6 +195,7 @@ impl Goroutine {
             Action::New(_) | Action::Slice | Action::Chan => {
                 self.make(run, next, to, action, from, turning, steps)
             }
+            // `instruct` has left these to `talk`.
             Action::Recv | Action::Send | Action::Close => unreachable!(),
         }
     }
@@ -204,18 +210,19 @@ impl Goroutine {
         from: Operands,
         turning: &mut Turning,
         steps: &mut Steps<L>,
-    ) -> Option<Stop>
+    ) -> Option<TableTurnEnd>
         requires can { CanAct run.now self.old next.now turning.old }
         requires is { operation_of next.now.op ≡ Do to action (numbers_of from) }
         requires shape { IsShaped to action (numbers_of from) }
         requires accesses { IsOfWord action }
-        ensures { Instructs run.now self.old self.new turning.old turning.new result }
+        ensures { MakesInstruction run.now self.old self.new turning.old turning.new result }
     {
         let done = access_word(&mut self.actor, run, next, to, action, from, steps);
         self.unless_trapped(run, done, turning)
     }
 
-    /// Makes an object. Where a page is needed and none is free, nothing has moved unless others were claimed for it.
+    /// Makes an object. If a page is needed and each was found in use, nothing has moved, unless others were claimed for it before.
+    /// The run does not end here: another goroutine may return a page, so the driver decides.
     fn make<L: Ledger>(
         &mut self,
         run: &Run<'_, '_>,
@@ -225,13 +232,13 @@ impl Goroutine {
         from: Operands,
         turning: &mut Turning,
         steps: &mut Steps<L>,
-    ) -> Option<Stop>
+    ) -> Option<TableTurnEnd>
         requires can { CanAct run.now self.old next.now turning.old }
-        requires pages { HasPages run.now }
+        requires pages { TableHasPages run.now }
         requires is { operation_of next.now.op ≡ Do to action (numbers_of from) }
         requires shape { IsShaped to action (numbers_of from) }
         requires makes { makes_object action ≡ true }
-        ensures { Instructs run.now self.old self.new turning.old turning.new result }
+        ensures { MakesInstruction run.now self.old self.new turning.old turning.new result }
     {
         let made = make_object(&mut self.actor, run, next, to, action, from, steps);
         match made {
@@ -247,14 +254,14 @@ impl Goroutine {
                 turning.move_on();
                 Some(self.stop(run, Limit::ObjectSize))
             }
-            Made::Short => Some(Stop::Short(Shortage::Pages)),
+            Made::Short => Some(TableTurnEnd::Short(Shortage::Pages)),
             Made::Partly => {
                 turning.move_on();
-                Some(Stop::Short(Shortage::Pages))
+                Some(TableTurnEnd::Short(Shortage::Pages))
             }
             Made::NoMemory => {
                 turning.move_on();
-                Some(Stop::NoMemory)
+                Some(TableTurnEnd::NoMemory)
             }
         }
     }
@@ -268,13 +275,13 @@ impl Goroutine {
         from: Operands,
         turning: &mut Turning,
         steps: &mut Steps<L>,
-    ) -> Option<Stop>
+    ) -> Option<TableTurnEnd>
         requires at { IsAt run.now self.old next.now turning.old.left }
         requires noted { turning.old.changed.count < 8 }
         requires is { (to : Option ℕ) × (operation_of next.now.op ≡ Do to action (numbers_of from)) }
         requires shape { length (numbers_of from) ≡ operand_count action }
         requires of_channel { IsOfChannel action }
-        ensures { Instructs run.now self.old self.new turning.old turning.new result }
+        ensures { MakesInstruction run.now self.old self.new turning.old turning.new result }
     {
         let talked = operate(&mut self.actor, run, next, action, from, steps);
         self.after_talk(run, talked, 1, turning)
@@ -287,10 +294,10 @@ impl Goroutine {
         talked: Talked,
         done: u32,
         turning: &mut Turning,
-    ) -> Option<Stop>
+    ) -> Option<TableTurnEnd>
         requires talked { (first : Goroutine_) × HasTalked run.now first self.old turning.old done talked }
         ensures { (first : Goroutine_) → HasTalked run.now first self.old turning.old done talked
-            → Instructs run.now first self.new turning.old turning.new result }
+            → MakesInstruction run.now first self.new turning.old turning.new result }
     {
         match talked {
             Talked::Done { at } => {
@@ -302,8 +309,8 @@ impl Goroutine {
                 turning.note(at, 0);
                 None
             }
-            Talked::Waits { at } => Some(Stop::Blocked { at }),
-            Talked::Lost { at } => Some(Stop::Lost { at }),
+            Talked::Waits { at } => Some(TableTurnEnd::Blocked { at }),
+            Talked::Lost { at } => Some(TableTurnEnd::Lost { at }),
             Talked::Trap(trap) => {
                 turning.count(1);
                 Some(self.trap(run, trap))
@@ -319,10 +326,10 @@ impl Goroutine {
         function: u32,
         from: &[u32],
         turning: &mut Turning,
-    ) -> Option<Stop>
+    ) -> Option<TableTurnEnd>
         requires can { CanAct run.now self.old next.now turning.old }
         requires is { (to : Option ℕ) × (operation_of next.now.op ≡ Call to function from.now) }
-        ensures { Instructs run.now self.old self.new turning.old turning.new result }
+        ensures { MakesInstruction run.now self.old self.new turning.old turning.new result }
     {
         match locals::call(&mut self.actor, run, next, function, from) {
             Ok(()) => {
@@ -335,7 +342,7 @@ impl Goroutine {
             }
             Err(NoCall::NoMemory) => {
                 turning.move_on();
-                Some(Stop::NoMemory)
+                Some(TableTurnEnd::NoMemory)
             }
         }
     }
@@ -349,10 +356,10 @@ impl Goroutine {
         function: u32,
         from: &[u32],
         turning: &mut Turning,
-    ) -> Option<Stop>
+    ) -> Option<TableTurnEnd>
         requires can { CanAct run.now self.old next.now turning.old }
         requires is { operation_of next.now.op ≡ Go function from.now }
-        ensures { Instructs run.now self.old self.new turning.old turning.new result }
+        ensures { MakesInstruction run.now self.old self.new turning.old turning.new result }
     {
         if self.actor.body.is_refused() {
             turning.move_on();
@@ -360,7 +367,7 @@ impl Goroutine {
         }
         if self.children.reserve(1).is_err() {
             turning.move_on();
-            return Some(Stop::NoMemory);
+            return Some(TableTurnEnd::NoMemory);
         }
         match starts::start(alloc, &mut self.actor, run, next, function, from) {
             Ok(Outcome::Started(number, actor)) => {
@@ -374,13 +381,13 @@ impl Goroutine {
             }
             Err(_) => {
                 turning.move_on();
-                Some(Stop::NoMemory)
+                Some(TableTurnEnd::NoMemory)
             }
         }
     }
 
     /// A number was refused before: the run ends.
-    fn too_many(&mut self, run: &Run<'_, '_>, next: &Next<'_>) -> Stop
+    fn too_many(&mut self, run: &Run<'_, '_>, next: &Next<'_>) -> TableTurnEnd
         requires before { IsBefore run.now self.old.actor next.now }
         requires starts { (n : ℕ) × (from : List ℕ) × (operation_of next.now.op ≡ Go n from) }
         requires refused { self.old.actor.body.refused ≡ true }
@@ -399,14 +406,14 @@ impl Goroutine {
         pieces: &[Piece],
         from: &[u32],
         turning: &mut Turning,
-    ) -> Option<Stop>
+    ) -> Option<TableTurnEnd>
         requires can { CanAct run.now self.old next.now turning.old }
         requires is { operation_of next.now.op ≡ Print pieces.now from.now }
-        ensures { Instructs run.now self.old self.new turning.old turning.new result }
+        ensures { MakesInstruction run.now self.old self.new turning.old turning.new result }
     {
         if self.prints.reserve(1).is_err() {
             turning.move_on();
-            return Some(Stop::NoMemory);
+            return Some(TableTurnEnd::NoMemory);
         }
         match prints::print_line(alloc, &mut self.actor, run, next, pieces, from) {
             Ok(print) => {
@@ -416,18 +423,18 @@ impl Goroutine {
             }
             Err(_) => {
                 turning.move_on();
-                Some(Stop::NoMemory)
+                Some(TableTurnEnd::NoMemory)
             }
         }
     }
 
-    /// The turn is over after a print if what it has printed is much, so that no round holds too much of it. The prints before the turn
-    /// were gathered, so the bytes printed in it tell when to look at all of them.
-    fn unless_much(&self, turning: &Turning) -> Option<Stop>
+    /// The turn is over after a print if it has printed much, so that no round holds too much of it. Prints of earlier turns are
+    /// mostly gathered, so all of them are looked at only once this turn has printed as much.
+    fn unless_much(&self, turning: &Turning) -> Option<TableTurnEnd>
         ensures { MatchOption result ⊤ (λ why. (why ≡ stop.Went) × HoldsMuch self.now) }
     {
         if turning.printed >= MOST_PRINTED && hold_much(self.prints.as_slice()) {
-            Some(Stop::Went)
+            Some(TableTurnEnd::Went)
         } else {
             None
         }
@@ -440,10 +447,10 @@ impl Goroutine {
         next: &Next<'_>,
         value: Option<u32>,
         turning: &mut Turning,
-    ) -> Option<Stop>
+    ) -> Option<TableTurnEnd>
         requires can { CanAct run.now self.old next.now turning.old }
         requires is { operation_of next.now.op ≡ Return value }
-        ensures { Instructs run.now self.old self.new turning.old turning.new result }
+        ensures { MakesInstruction run.now self.old self.new turning.old turning.new result }
     {
         if self.number == 0 && self.actor.body.depth() == 1 {
             return self.exit(run, next, value, turning);
@@ -461,16 +468,16 @@ impl Goroutine {
         next: &Next<'_>,
         value: Option<u32>,
         turning: &mut Turning,
-    ) -> Option<Stop>
+    ) -> Option<TableTurnEnd>
         requires can { CanAct run.now self.old next.now turning.old }
         requires is { operation_of next.now.op ≡ Return value }
         requires main { self.old.number ≡ 0 }
         requires last { length (frames_in self.old.actor.body) ≡ 1 }
-        ensures { Instructs run.now self.old self.new turning.old turning.new result }
+        ensures { MakesInstruction run.now self.old self.new turning.old turning.new result }
     {
         if self.actor.body.room_to_return(run.program()).is_err() {
             turning.move_on();
-            return Some(Stop::NoMemory);
+            return Some(TableTurnEnd::NoMemory);
         }
         let ended = ends::exit(&mut self.actor, run, next, value);
         turning.count(1);
@@ -483,10 +490,10 @@ impl Goroutine {
         run: &Run<'_, '_>,
         done: Result<(), Trap>,
         turning: &mut Turning,
-    ) -> Option<Stop>
+    ) -> Option<TableTurnEnd>
         requires come { (first : Goroutine_) × HasComeTo run.now first self.old turning.old done }
         ensures { (first : Goroutine_) → HasComeTo run.now first self.old turning.old done
-            → Instructs run.now first self.new turning.old turning.new result }
+            → MakesInstruction run.now first self.new turning.old turning.new result }
     {
         turning.count(1);
         match done {
@@ -496,12 +503,13 @@ impl Goroutine {
     }
 
     /// The next instruction traps: the run ends.
-    fn trap(&mut self, run: &Run<'_, '_>, trap: Trap) -> Stop
-        requires stands { Stands run.now self.old.actor }
-        requires traps { Traps run.now.setup (now run.now.setup self.old.actor) trap }
+    fn trap(&mut self, run: &Run<'_, '_>, trap: Trap) -> TableTurnEnd
+        requires stands { IsActorOf run.now self.old.actor }
+        requires traps { InstrTraps run.now.setup (now run.now.setup self.old.actor) trap }
         requires count { self.old.actor.body.counts.steps + 1 < 2 ^ 64 }
         ensures { EndsIn run.now self.old self.new 1 result }
     {
+        // The end mark makes the instruction that traps. Until it is set, the goroutine is at that instruction.
         let Some(next) = self.actor.body.next(run.program()) else {
             unreachable!()
         };
@@ -511,30 +519,31 @@ impl Goroutine {
     }
 
     /// A limit ends the run.
-    fn stop(&mut self, run: &Run<'_, '_>, limit: Limit) -> Stop
-        requires stands { Stands run.now self.old.actor }
-        requires cause { Ends run.now.setup (number_of self.old.actor.seat.me) (now run.now.setup self.old.actor) (Stopped limit) }
+    fn stop(&mut self, run: &Run<'_, '_>, limit: Limit) -> TableTurnEnd
+        requires stands { IsActorOf run.now self.old.actor }
+        requires cause { GoroutineEndsRun run.now.setup (number_of self.old.actor.seat.me) (now run.now.setup self.old.actor) (Stopped limit) }
         ensures { EndsIn run.now self.old self.new 0 result }
     {
         let ended = ends::stop(&mut self.actor, run, limit);
         self.over(Mark::Stopped(limit), ended)
     }
 
-    /// It has set the end mark, and has ended the run by this unless the run had ended before.
-    fn over(&mut self, mark: Mark, ended: bool) -> Stop
+    /// It has set the end mark, and has ended the run by this unless another goroutine had set it before. In that case its turn is
+    /// over like any other, since why the run ended is reported by the goroutine that was first.
+    fn over(&mut self, mark: Mark, ended: bool) -> TableTurnEnd
         ensures is { result ≡ (if ended then stop.Stopped mark else stop.Went) }
         ensures same { self.new ≡ record self.old { first = if ended then Some mark else self.old.first } }
     {
         if !ended {
-            return Stop::Went;
+            return TableTurnEnd::Went;
         }
         self.first = Some(mark);
-        Stop::Stopped(mark)
+        TableTurnEnd::Stopped(mark)
     }
 }
 
 /// An instruction was made, or memory refused it.
-fn unless_refused(done: Result<(), AllocError>, turning: &mut Turning) -> Option<Stop>
+fn unless_refused(done: Result<(), AllocError>, turning: &mut Turning) -> Option<TableTurnEnd>
     requires { 0 < turning.old.left }
     ensures made { IsOk done → (result ≡ None) × (turning.new ≡ record turning.old { left = turning.old.left - 1; moved = true }) }
     ensures refused { IsErr done → (result ≡ Some stop.NoMemory) × (turning.new ≡ record turning.old { moved = true }) }
@@ -546,7 +555,7 @@ fn unless_refused(done: Result<(), AllocError>, turning: &mut Turning) -> Option
         }
         Err(_) => {
             turning.move_on();
-            Some(Stop::NoMemory)
+            Some(TableTurnEnd::NoMemory)
         }
     }
 }
@@ -584,7 +593,7 @@ fn all_three(from: Operands) -> (u32, u32, u32)
     }
 }
 
-/// The variable that an action gives a value.
+/// The variable to which the value of an action is written.
 fn target(to: Option<u32>) -> u32
     requires { is_some to ≡ true }
     ensures { to ≡ Some result }
@@ -609,7 +618,7 @@ fn access_word<L: Ledger>(
     requires is { operation_of next.now.op ≡ Do to action (numbers_of from) }
     requires shape { IsShaped to action (numbers_of from) }
     requires accesses { IsOfWord action }
-    ensures { MatchResult result (λ _. Acted run.now actor.old actor.new 1 [] []) (λ trap. IsAtTrap run.now actor.old actor.new trap) }
+    ensures { MatchResult result (λ _. ActorActed run.now actor.old actor.new 1 [] []) (λ trap. IsAtTrap run.now actor.old actor.new trap) }
 {
     match action {
         Action::Load(field) => {
@@ -673,12 +682,12 @@ fn make_object<L: Ledger>(
     steps: &mut Steps<L>,
 ) -> Made
     requires before { IsBefore run.now actor.old next.now }
-    requires pages { HasPages run.now }
+    requires pages { TableHasPages run.now }
     requires is { operation_of next.now.op ≡ Do to action (numbers_of from) }
     requires shape { IsShaped to action (numbers_of from) }
     requires makes { makes_object action ≡ true }
     requires count { CanCount actor.old.body.counts }
-    ensures { Makes run.now actor.old actor.new result }
+    ensures { ActorMakes run.now actor.old actor.new result }
 {
     match action {
         Action::New(kind) => objects::new_struct(actor, run, next, target(to), kind, steps),

@@ -1,15 +1,17 @@
-//! The turn of a goroutine.
+//! The turn of a goroutine: a chain of acts, up to as many instructions as it was given. It ends with a load of the clock, so that
+//! after a turn the record has all local steps. The reason of the last act is the reason of the turn, and it was true at the
+//! accesses of that act; a caller that needs it of one moment makes a pass.
 ghost use Rattle.std.specs.Prelude.{◌≡◌, ◌+◌, ◌-◌, ◌∷◌, ◌<◌, ◌≤◌, [], ℕ, List, OnOk, Some, None, false, true, ◌↔◌};
 ghost use Rattle.rgo_core.specs.Records.{steps_of};
 ghost use Rattle.rgo_acts.specs.Body.Bodies.{HasRoomBehind, frames_in};
 ghost use Rattle.rgo_acts.specs.Body.Nexts.{IsNextOf};
-ghost use Rattle.rgo_acts.specs.Body.Steps.{Stays};
+ghost use Rattle.rgo_acts.specs.Body.Steps.{StillShows};
 ghost use Rattle.rgo_acts.specs.Body.declared.bodies.Side.TheVariants as side;
-ghost use Rattle.rgo_sound.specs.Machine.declared.turns.Shortage.TheVariants as shortage;
+ghost use Rattle.rgo_sound.specs.Machine.declared.limits.Shortage.TheVariants as shortage;
 ghost use Rattle.rgo_sound.specs.RegionMachine.States.{Duty};
-ghost use Rattle.rgo_acts.specs.Actors.{Stands};
-ghost use Rattle.rgo_goroutine.specs.Acting.{Acts, Goes, Proceeds, HasCaughtUp};
-ghost use Rattle.rgo_goroutine.specs.Instructions.{CanCountMore, HasAttendedAll, HasAttendedOne, HasPages, Instructs, IsNear, IsReadyToExpand, OwesNothing};
+ghost use Rattle.rgo_acts.specs.Actors.{IsActorOf};
+ghost use Rattle.rgo_goroutine.specs.Acting.{GoroutineActs, MayMakeInstructions, Proceeds, HasCaughtUp};
+ghost use Rattle.rgo_goroutine.specs.Instructions.{CanCountMore, HasAttendedAll, HasAttendedOne, TableHasPages, MakesInstruction, IsNear, IsReadyToExpand, OwesNothing};
 ghost use Rattle.rgo_goroutine.specs.Examples.{PassingExamples, TurnExamples};
 ghost use Rattle.rgo_goroutine.specs.Goroutines.{IsOf, record_of};
 ghost use Rattle.rgo_goroutine.specs.Turns.{HasTurned, IsTidy};
@@ -27,26 +29,27 @@ use std::sync::ledger::Ledger;
 
 /// Why a turn was over.
 #[derive(Clone, Copy, Debug, PartialEq, Eq)]
-pub enum Stop {
-    /// It has made as many instructions as it was given, has listed as many changed channels or printed as many bytes as a turn may, or
-    /// would have ended the run, which had ended before.
+pub enum TableTurnEnd {
+    /// It has made as many instructions as it was given, has listed as many changed channels or printed as many bytes as a turn
+    /// may, or would have ended the run, which had ended before.
     Went,
-    /// The operation on a channel at which it is was not ready. `at` is the word of the channel's control; `None` for a nil channel.
+    /// The operation on a channel at which it is was not ready. `at` is the word of the channel's control; `None` for a nil
+    /// channel.
     Blocked { at: Option<usize> },
-    /// Another goroutine had locked the channel, or changed its control meanwhile. It is to be tried again.
+    /// Another goroutine had locked the channel, or changed its control meanwhile. It may be tried again at once.
     Lost { at: usize },
     /// Its first function has returned, and it owes nothing.
     Ended,
     /// It has ended the run.
     Stopped(Mark),
-    /// No page or no slot was free. Nothing has ended.
+    /// Each page, or each slot, was found in use. Nothing has ended: the driver decides, since another goroutine may free one.
     Short(Shortage),
     /// Memory ran out before its next step. Nothing has ended.
     NoMemory,
 }
 
-/// The channels that a turn has changed, by the words of their controls, of which a table has no more than 2^32, so that goroutines that
-/// wait there can be woken. It is a hint: no contract says which words it has.
+/// The channels that a turn has changed, by the words of their controls, of which a table has no more than 2^32, so that goroutines
+/// that wait there can be woken. It is a hint: no contract says which words it has.
 #[derive(Clone, Copy)]
 pub struct Changed {
     pub(crate) at: [u32; 8],
@@ -60,7 +63,7 @@ pub struct Turned {
     pub steps: u32,
     /// Whether it may have changed a word of the table or its own frames.
     pub moved: bool,
-    pub stop: Stop,
+    pub stop: TableTurnEnd,
     pub changed: Changed,
 }
 
@@ -85,7 +88,7 @@ impl Turning {
         self.moved = true;
     }
 
-    /// It has made an instruction more, which has printed so many bytes.
+    /// It has made an instruction more, which has printed this many bytes.
     pub(crate) fn count_print(&mut self, bytes: usize)
         requires { 0 < self.old.left }
         ensures { self.new ≡ record self.old { left = self.old.left - 1; moved = true; printed = self.new.printed } }
@@ -101,8 +104,8 @@ impl Turning {
         self.moved = true;
     }
 
-    /// It has changed the channel whose control is this word, by an act of `made` instructions. The word is listed once; an act of no
-    /// instruction lists it again, so that a turn of such acts ends by its list.
+    /// It has changed the channel whose control is this word, by an act of `made` instructions. The word is listed once; an act of
+    /// no instruction lists it again, so that a turn of such acts ends by its list.
     pub(crate) fn note(&mut self, at: usize, made: u32)
         requires { self.old.changed.count < 8 }
         ensures count { (self.old.changed.count ≤ self.new.changed.count) × (self.new.changed.count ≤ self.old.changed.count + 1) }
@@ -117,7 +120,8 @@ impl Turning {
 }
 
 impl Goroutine {
-    /// A turn: up to `slice` instructions.
+    /// A turn: up to `slice` instructions. Called by the worker that has this goroutine, at any time between its turns; it waits
+    /// for nobody. After the end of the run a turn may still take steps, which are late and whose prints are void.
     pub fn turn<L: Ledger>(
         &mut self,
         alloc: Global,
@@ -126,7 +130,7 @@ impl Goroutine {
         steps: &mut Steps<L>,
     ) -> Turned
         requires of { IsOf run.now self.old }
-        requires pages { HasPages run.now }
+        requires pages { TableHasPages run.now }
         requires count { steps_of (record_of run.now.setup self.old) + slice < 8796093022208 }
         ensures of { IsOf run.now self.new }
         ensures turned { HasTurned run.now self.old self.new slice result }
@@ -148,36 +152,37 @@ impl Goroutine {
         }
     }
 
-    /// Its record takes its local steps, by a load of the clock.
+    /// Puts its local steps into the run, by a load of the clock. Without it two goroutines could not be compared between turns,
+    /// and one that only computes would never see that the run has ended.
     fn catch_up(&mut self, run: &Run<'_, '_>)
-        requires stands { Stands run.now self.old.actor }
-        ensures { (left : ℕ) → Goes run.now self.old left → HasCaughtUp run.now self.old self.new left }
+        requires stands { IsActorOf run.now self.old.actor }
+        ensures { (left : ℕ) → MayMakeInstructions run.now self.old left → HasCaughtUp run.now self.old self.new left }
     {
         run.fits();
         look(run.table(), &mut self.actor.seat, self.actor.behind);
         self.actor.behind = 0;
     }
 
-    /// Its record takes its local steps if they are many.
+    /// Puts its local steps into the run if they are many, so that their count fits a word.
     pub(crate) fn come_near(&mut self, run: &Run<'_, '_>)
-        requires stands { Stands run.now self.old.actor }
-        ensures { (left : ℕ) → Goes run.now self.old left → IsNear run.now self.old self.new left }
+        requires stands { IsActorOf run.now self.old.actor }
+        ensures { (left : ℕ) → MayMakeInstructions run.now self.old left → IsNear run.now self.old self.new left }
     {
         if self.actor.behind >= 1 << 62 {
             self.catch_up(run);
         }
     }
 
-    /// Acts until it may do no more in this turn, or cannot go on.
+    /// Acts until it may do no more in this turn, or cannot continue.
     fn proceed<L: Ledger>(
         &mut self,
         alloc: Global,
         run: &Run<'_, '_>,
         turning: &mut Turning,
         steps: &mut Steps<L>,
-    ) -> Stop
-        requires goes { Goes run.now self.old turning.old.left }
-        requires pages { HasPages run.now }
+    ) -> TableTurnEnd
+        requires goes { MayMakeInstructions run.now self.old turning.old.left }
+        requires pages { TableHasPages run.now }
         requires noted { turning.old.changed.count ≤ 8 }
         ensures { Proceeds run.now self.old self.new turning.old turning.new result }
     {
@@ -186,21 +191,22 @@ impl Goroutine {
                 return stop;
             }
         }
-        Stop::Went
+        TableTurnEnd::Went
     }
 
-    /// Makes some instructions, or an offer at a channel; before that it attends to what it owes. Returns why the turn is over, if it is.
+    /// Makes some instructions, or an offer at a channel; before that it attends to what it owes. Returns why the turn is over, if
+    /// it is.
     fn advance<L: Ledger>(
         &mut self,
         alloc: Global,
         run: &Run<'_, '_>,
         turning: &mut Turning,
         steps: &mut Steps<L>,
-    ) -> Option<Stop>
-        requires goes { Goes run.now self.old turning.old.left }
-        requires pages { HasPages run.now }
+    ) -> Option<TableTurnEnd>
+        requires goes { MayMakeInstructions run.now self.old turning.old.left }
+        requires pages { TableHasPages run.now }
         requires some { (0 < turning.old.left) × (turning.old.changed.count < 8) }
-        ensures { Instructs run.now self.old self.new turning.old turning.new result }
+        ensures { MakesInstruction run.now self.old self.new turning.old turning.new result }
     {
         if let Side::Offering(at) = self.actor.body.side() {
             return self.acknowledge(run, at, turning, steps);
@@ -227,11 +233,11 @@ impl Goroutine {
         run: &Run<'_, '_>,
         turning: &mut Turning,
         steps: &mut Steps<L>,
-    ) -> Option<Stop>
-        requires goes { Goes run.now self.old turning.old.left }
+    ) -> Option<TableTurnEnd>
+        requires goes { MayMakeInstructions run.now self.old turning.old.left }
         requires noted { turning.old.changed.count < 8 }
         requires none { (at : ℕ) → self.old.actor.body.side ≡ side.Offering at → ⊥ }
-        ensures acts { Acts run.now self.old self.new turning.old turning.new result }
+        ensures acts { GoroutineActs run.now self.old self.new turning.old turning.new result }
         ensures same { turning.new ≡ record turning.old { moved = turning.new.moved } }
         ensures ready { result ≡ None → OwesNothing self.new.actor.body }
     {
@@ -261,11 +267,11 @@ impl Goroutine {
         run: &Run<'_, '_>,
         turning: &mut Turning,
         steps: &mut Steps<L>,
-    ) -> Option<Stop>
-        requires goes { Goes run.now self.old turning.old.left }
+    ) -> Option<TableTurnEnd>
+        requires goes { MayMakeInstructions run.now self.old turning.old.left }
         requires noted { turning.old.changed.count < 8 }
         requires none { (at : ℕ) → self.old.actor.body.side ≡ side.Offering at → ⊥ }
-        ensures acts { Acts run.now self.old self.new turning.old turning.new result }
+        ensures acts { GoroutineActs run.now self.old self.new turning.old turning.new result }
         ensures same { turning.new ≡ record turning.old { moved = turning.new.moved } }
         ensures done { result ≡ None → HasAttendedAll self.old.actor.body self.new.actor.body }
     {
@@ -281,11 +287,11 @@ impl Goroutine {
         run: &Run<'_, '_>,
         turning: &mut Turning,
         steps: &mut Steps<L>,
-    ) -> Option<Stop>
-        requires goes { Goes run.now self.old turning.old.left }
+    ) -> Option<TableTurnEnd>
+        requires goes { MayMakeInstructions run.now self.old turning.old.left }
         requires noted { turning.old.changed.count < 8 }
         requires rests { self.old.actor.body.side ≡ side.AtRest }
-        ensures acts { Acts run.now self.old self.new turning.old turning.new result }
+        ensures acts { GoroutineActs run.now self.old self.new turning.old turning.new result }
         ensures same { turning.new ≡ record turning.old { moved = turning.new.moved } }
         ensures done { result ≡ None → HasAttendedAll self.old.actor.body self.new.actor.body }
     {
@@ -297,34 +303,34 @@ impl Goroutine {
         None
     }
 
-    /// Attends to the first duty. Where no slot is free, nothing has moved.
+    /// Attends to the first duty. If each slot was found in use, nothing has moved.
     fn attend<L: Ledger>(
         &mut self,
         run: &Run<'_, '_>,
         turning: &mut Turning,
         steps: &mut Steps<L>,
-    ) -> Option<Stop>
-        requires goes { Goes run.now self.old turning.old.left }
+    ) -> Option<TableTurnEnd>
+        requires goes { MayMakeInstructions run.now self.old turning.old.left }
         requires noted { turning.old.changed.count < 8 }
         requires rests { self.old.actor.body.side ≡ side.AtRest }
         requires first { (d : Duty) × (ds : List Duty) × (self.old.actor.body.queue.duties ≡ d ∷ ds) }
-        ensures acts { Acts run.now self.old self.new turning.old turning.new result }
+        ensures acts { GoroutineActs run.now self.old self.new turning.old turning.new result }
         ensures same { turning.new ≡ record turning.old { moved = turning.new.moved } }
         ensures done { result ≡ None → HasAttendedOne self.old.actor.body self.new.actor.body }
     {
         self.come_near(run);
         if !self.can_count(run) {
-            return Some(Stop::NoMemory);
+            return Some(TableTurnEnd::NoMemory);
         }
         match duties::attend(&mut self.actor, run, steps) {
             Attended::Done => {
                 turning.move_on();
                 None
             }
-            Attended::Short => Some(Stop::Short(Shortage::Regions)),
+            Attended::Short => Some(TableTurnEnd::Short(Shortage::Regions)),
             Attended::NoMemory => {
                 turning.move_on();
-                Some(Stop::NoMemory)
+                Some(TableTurnEnd::NoMemory)
             }
         }
     }
@@ -336,30 +342,32 @@ impl Goroutine {
         at: usize,
         turning: &mut Turning,
         steps: &mut Steps<L>,
-    ) -> Option<Stop>
-        requires goes { Goes run.now self.old turning.old.left }
+    ) -> Option<TableTurnEnd>
+        requires goes { MayMakeInstructions run.now self.old turning.old.left }
         requires some { (0 < turning.old.left) × (turning.old.changed.count < 8) }
         requires offers { self.old.actor.body.side ≡ side.Offering at }
-        ensures { Instructs run.now self.old self.new turning.old turning.new result }
+        ensures { MakesInstruction run.now self.old self.new turning.old turning.new result }
     {
+        // Its offer keeps it at its send, so it has a next instruction.
         let Some(next) = self.actor.body.next(run.program()) else {
             unreachable!()
         };
         if room_behind_offer(&mut self.actor.body, run.program(), next).is_err() {
-            return Some(Stop::NoMemory);
+            return Some(TableTurnEnd::NoMemory);
         }
         let talked = channels::acknowledge(&mut self.actor, run, next, at, steps);
         self.after_talk(run, talked, 0, turning)
     }
 
-    /// Executes instructions up to the next one that is not executed at once.
+    /// Executes instructions up to the next one that the loop cannot make. A goroutine that tries a channel again, or has an offer
+    /// there, is left where it is.
     fn execute(&mut self, run: &Run<'_, '_>, turning: &mut Turning)
-        requires goes { Goes run.now self.old turning.old.left }
+        requires goes { MayMakeInstructions run.now self.old turning.old.left }
         requires noted { turning.old.changed.count < 8 }
         requires none { (at : ℕ) → self.old.actor.body.side ≡ side.Offering at → ⊥ }
         requires empty { self.old.actor.body.queue.duties ≡ [] }
         requires not_yet { self.old.actor.body.is_expanded ≡ false }
-        ensures acts { Acts run.now self.old self.new turning.old turning.new None }
+        ensures acts { GoroutineActs run.now self.old self.new turning.old turning.new None }
         ensures none { (at : ℕ) → self.new.actor.body.side ≡ side.Offering at → ⊥ }
         ensures noted { turning.new.changed ≡ turning.old.changed }
         ensures fewer { turning.new.left ≤ turning.old.left }
@@ -374,32 +382,32 @@ impl Goroutine {
         turning.count(done as u32);
     }
 
-    /// What comes before the next instruction comes into the queue of duties.
-    fn expand(&mut self, run: &Run<'_, '_>, turning: &mut Turning) -> Option<Stop>
-        requires goes { Goes run.now self.old turning.old.left }
+    /// Puts what is owed before the next instruction into the queue of duties.
+    fn expand(&mut self, run: &Run<'_, '_>, turning: &mut Turning) -> Option<TableTurnEnd>
+        requires goes { MayMakeInstructions run.now self.old turning.old.left }
         requires noted { turning.old.changed.count < 8 }
         requires still { IsReadyToExpand self.old.actor.body }
-        ensures acts { Acts run.now self.old self.new turning.old turning.new result }
+        ensures acts { GoroutineActs run.now self.old self.new turning.old turning.new result }
         ensures same { turning.new ≡ record turning.old { moved = true } }
         ensures expanded { result ≡ None → (self.new.actor.body.is_expanded ≡ true) × (self.new.actor.body.side ≡ self.old.actor.body.side) }
     {
         turning.move_on();
         let Some(next) = self.actor.body.next(run.program()) else {
-            return Some(Stop::Ended);
+            return Some(TableTurnEnd::Ended);
         };
         match locals::expand(&mut self.actor, run, next) {
             Ok(()) => None,
-            Err(_) => Some(Stop::NoMemory),
+            Err(_) => Some(TableTurnEnd::NoMemory),
         }
     }
 }
 
-/// Room for what is owed after the send at which a body has an offer. It owes nothing before the send; where it has not looked for this
-/// yet, it does so now.
+/// Room for what is owed after the send at which a body has an offer. It owes nothing before the send; if that is not in its queue
+/// yet, it is put there now.
 ///
 /// # Errors
 ///
-/// On allocation failure. Then it owes what it owed.
+/// On allocation failure. Then it owes what it owed before.
 fn room_behind_offer(
     body: &mut Body,
     program: &Program<'_>,
@@ -409,7 +417,7 @@ fn room_behind_offer(
     requires empty { body.old.queue.duties ≡ [] }
     ensures expanded { OnOk result (body.new.is_expanded ≡ true) }
     ensures room { OnOk result (HasRoomBehind body.new next.now) }
-    ensures stays { Stays program.now body.old body.new }
+    ensures stays { StillShows program.now body.old body.new }
     ensures same { body.new ≡ record body.old { queue = body.new.queue; is_expanded = body.new.is_expanded } }
 {
     if body.is_expanded() {
@@ -451,7 +459,7 @@ impl Changed {
     }
 }
 
-/// Goroutines and turns that are as their definitions say, and such as are not.
+/// Goroutines and turns that meet their definitions, and some that do not.
 pub fn examples()
     ensures turns { TurnExamples }
     ensures passing { PassingExamples }

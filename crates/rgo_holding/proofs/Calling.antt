@@ -4,7 +4,7 @@ use Rattle.std.proofs.lemmas.Option.{none-some, same_Some}
 use Rattle.rgo_core_memory.specs.Records.{Fill}
 use Rattle.rgo_sound.specs.RegionMachine.Owed.{given_names, passed, passed_regions}
 use Rattle.rgo_sound.specs.RegionMachine.Regions.{Bindings, bound, class_region, without_all}
-use Rattle.rgo_sound.specs.RegionMachine.States.{Environment, Holder, environment_of, top_names, with_top}
+use Rattle.rgo_sound.specs.RegionMachine.States.{RegionEnvironment, Holder, environment_of, top_names, with_top}
 use Rattle.rgo_sound.specs.RegionMachine.declared.regions.Region.{Region}
 use Rattle.rgo_sound.specs.RegionMachine.declared.regions.Region.TheVariants.{Global as GlobalRegion, Numbered}
 use Rattle.rgo_sound.proofs.Tests.{nat_eq_refl}
@@ -14,9 +14,9 @@ use Rattle.rgo_holding.specs.declared.entries.Entry.{Entry}
 use Rattle.rgo_holding.specs.declared.frames.Frames.{Frames}
 use Rattle.rgo_holding.specs.declared.holding.Holding.{Holding}
 use Rattle.rgo_holding.specs.declared.keys.Key.{Key}
-use Rattle.rgo_holding.specs.Holds.{Holds, Shows, entry_at, region_at}
+use Rattle.rgo_holding.specs.Holds.{IsHoldingOf, HoldingShows, entry_at, region_at}
 use Rattle.rgo_holding.specs.Known.{entry_region, global_key, region_of}
-use Rattle.rgo_holding.specs.Naming.{Changed, Enters, SameTables, cleared, with_named}
+use Rattle.rgo_holding.specs.Naming.{Changed, NamedFrameEnters, SameTables, cleared, with_named}
 use Rattle.rgo_holding.specs.Passing.{IsPrepared, calling, class_key, key_for}
 use Rattle.rgo_holding.specs.Tables.{Keys, NamesStand, StandFor, StartWithin, key_in, keys_at, named, named_in, newest_keys}
 use Rattle.rgo_holding.proofs.EntryLemmas.{slot_if}
@@ -24,8 +24,8 @@ use Rattle.rgo_holding.proofs.Moving.{moved, renamed_shows}
 use Rattle.rgo_holding.proofs.NameLemmas.{entered, stand_cleared}
 
 -- nothing has changed but memory
-pub same_tables_show : (k : Holding) (f : Frames) (slots : ℕ) (h : Holder) (fills : List Fill) → Holds slots k h fills
-    → SameTables k.frames f → Holds slots (record k { frames = f }) h fills
+pub same_tables_show : (k : Holding) (f : Frames) (slots : ℕ) (h : Holder) (fills : List Fill) → IsHoldingOf slots k h fills
+    → SameTables k.frames f → IsHoldingOf slots (record k { frames = f }) h fills
 same_tables_show k f slots h fills shows same =
     moved k f slots h.environments h.environments h.base h.pending h.stakes fills shows (same.depth ∙ shows.depth)
     (subst (λ ks. StartWithin ks (reverse f.tables.items)) (sym same.keys)
@@ -35,11 +35,11 @@ same_tables_show k f slots h fills shows same =
     (λ r. refl)
 
 -- the newest frame's keys stand for its names
-pub newest_stand : (k : Holding) (slots : ℕ) (h : Holder) (fills : List Fill) → Holds slots k h fills
+pub newest_stand : (k : Holding) (slots : ℕ) (h : Holder) (fills : List Fill) → IsHoldingOf slots k h fills
     → StandFor (region_at k) (newest_keys k.frames) (top_names h.environments)
 newest_stand k slots h fills shows = go h.environments shows.depth shows.names
   where
-    go : (es : List Environment) → k.frames.depth ≡ length es → NamesStand (region_at k) (named k.frames) es
+    go : (es : List RegionEnvironment) → k.frames.depth ≡ length es → NamesStand (region_at k) (named k.frames) es
         → StandFor (region_at k) (newest_keys k.frames) (top_names es)
     go [] d s = λ n. ap (λ fs. option_map (region_at k) (key_in (keys_at fs k.frames.depth) n)) s
     go (e ∷ es) d s = subst (λ n. StandFor (region_at k) (keys_at (named k.frames) n) e.names) (sym d) s.0
@@ -113,9 +113,9 @@ module _ (region : Key → Option Region) (global : region global_key ≡ Some G
 
 pub enter_shows : (k : Holding) (f g : Frames) (formals passes : List Class) (protects : List ℕ) (lent : Class)
     → IsPrepared k formals passes
-    → Changed k.frames f (λ keys. cleared keys (given_names lent formals passes protects)) → Enters f g k.callee.items
-    → (slots : ℕ) (h : Holder) (fills : List Fill) → Holds slots k h fills
-    → Holds slots (record k { frames = g }) (calling h lent formals passes protects) fills
+    → Changed k.frames f (λ keys. cleared keys (given_names lent formals passes protects)) → NamedFrameEnters f g k.callee.items
+    → (slots : ℕ) (h : Holder) (fills : List Fill) → IsHoldingOf slots k h fills
+    → IsHoldingOf slots (record k { frames = g }) (calling h lent formals passes protects) fills
 enter_shows k f g formals passes protects lent prepared changed enters slots h fills shows =
     moved (record k { frames = f }) g slots left
     (environment_of lent (passed formals (passed_regions (top_names h.environments) passes)) ∷ left) h.base h.pending
@@ -131,13 +131,13 @@ enter_shows k f g formals passes protects lent prepared changed enters slots h f
     given : List ℕ
     given = given_names lent formals passes protects
 
-    left : List Environment
+    left : List RegionEnvironment
     left = with_top h.environments (without_all (top_names h.environments) (given_names lent formals passes protects))
 
-    called : Environment
+    called : RegionEnvironment
     called = environment_of lent (passed formals (passed_regions (top_names h.environments) passes))
 
-    after : Shows slots (record k { frames = f })
+    after : HoldingShows slots (record k { frames = f })
         (with_top h.environments (without_all (top_names h.environments) (given_names lent formals passes protects)))
         h.base h.pending h.stakes fills
     after = renamed_shows k f slots h fills shows (λ keys. cleared keys (given_names lent formals passes protects))

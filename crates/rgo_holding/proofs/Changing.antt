@@ -1,7 +1,7 @@
 -- What each operation on one entry does to what a goroutine has.
 use Rattle.std.proofs.Common.{◌≡◌, ◌≢◌, ◌<◌, ◌+◌, ◌-◌, ℕ, Bool, true, false, ◌||◌, List, ◌∷◌, Option, Some, None, Vec, Global, ap, arith, if◌then◌else◌, length, map, nat_eq, nat_lt, option_map, refl, reverse, slice_set, subst, sym, ◌∙◌}
 use Rattle.std.specs.List.{list_any}
-use Rattle.rgo_core_memory.specs.Records.{Fill, dropped, raised}
+use Rattle.rgo_core_memory.specs.Records.{Fill, dropped, page_of, raised}
 use Rattle.rgo_sound.specs.RegionMachine.Duties.{guards, unprotected, with_protection, without_protection}
 use Rattle.rgo_sound.specs.RegionMachine.States.{Holder}
 use Rattle.rgo_sound.specs.RegionMachine.declared.regions.Region.{Region}
@@ -14,8 +14,8 @@ use Rattle.rgo_holding.specs.declared.entries.Page.{Page}
 use Rattle.rgo_holding.specs.declared.holding.Holding.{Holding}
 use Rattle.rgo_holding.specs.declared.keys.Key.{Key}
 use Rattle.rgo_holding.specs.Changes.{IsProtectedLast, protecting, sharing}
-use Rattle.rgo_holding.specs.Holds.{Holds, entry_at, region_at}
-use Rattle.rgo_holding.specs.Known.{entry_region, own_page, page_of, protections_of, region_of, slot_of}
+use Rattle.rgo_holding.specs.Holds.{IsHoldingOf, entry_at, region_at}
+use Rattle.rgo_holding.specs.Known.{entry_region, own_page, protections_of, region_of, slot_of}
 use Rattle.rgo_holding.proofs.CountLemmas.{base_protections, filled, guarded, one_other, one_same, page_dropped, page_filled, page_raised, protected_fewer, protected_more, region_slot, unraised}
 use Rattle.rgo_holding.proofs.HoldLemmas.{entry_changed, protecting_length, protecting_names, unprotecting_length, unprotecting_names}
 
@@ -33,7 +33,7 @@ pub slot_entry : (k : Holding) (key : Key) (e : Entry) (r : Region) → entry_at
 slot_entry k key e r at is = sym (region_slot k.slots e.slot) ∙ ap (slot_of k.slots) (region_entry k key e r at is)
 
 module _ (k : Holding) (key : Key) (e : Entry) (v : Vec Entry Global) (at : entry_at k key ≡ Some e) (slots : ℕ) (h : Holder)
-    (fills : List Fill) (shows : Holds slots k h fills) where
+    (fills : List Fill) (shows : IsHoldingOf slots k h fills) where
   abbrev q : ℕ → Region
   q s = region_of k.slots s
 
@@ -43,7 +43,7 @@ module _ (k : Holding) (key : Key) (e : Entry) (v : Vec Entry Global) (at : entr
       (is : v.items ≡ slice_set k.entries.items key.0 (record e { protections = n })) (r : Region)
       (region : region_at k key ≡ Some r) where
     pub protect_shows : n ≡ e.protections + 1 → 0 < length h.environments
-        → Holds slots (record k { entries = v }) (protecting h r) fills
+        → IsHoldingOf slots (record k { entries = v }) (protecting h r) fills
     protect_shows more some =
         let same = region_entry k key e r at region in
         let es = with_protection h.environments r in
@@ -60,7 +60,7 @@ module _ (k : Holding) (key : Key) (e : Entry) (v : Vec Entry Global) (at : entr
         (shows.pages key e at) (λ s n. refl) (shows.pending_are.shared key e at) (shows.pending_are.rounds key e at) (λ s n. refl)
 
     pub unprotect_shows : n ≡ e.protections - 1 → IsProtectedLast h r
-        → Holds slots (record k { entries = v }) (unprotected h r) fills
+        → IsHoldingOf slots (record k { entries = v }) (unprotected h r) fills
     unprotect_shows fewer last =
         let same = region_entry k key e r at region in
         let es = without_protection h.environments r in
@@ -79,7 +79,7 @@ module _ (k : Holding) (key : Key) (e : Entry) (v : Vec Entry Global) (at : entr
     -- the first of the base ends
     pub end_shows : n ≡ e.protections - 1 → (rest : List Region) (bases : Vec Key Global) → h.base ≡ r ∷ rest
         → map (region_at k) (reverse bases.items) ≡ map Some rest
-        → Holds slots (record k { entries = v; base = bases }) (record h { base = rest }) fills
+        → IsHoldingOf slots (record k { entries = v; base = bases }) (record h { base = rest }) fills
     end_shows fewer rest bases first others =
         let same = region_entry k key e r at region in
         let one : one_if (same_region (q e.slot) r) ≡ 1 = ap (λ x. one_if (same_region x r)) same ∙ one_same r in
@@ -96,7 +96,7 @@ module _ (k : Holding) (key : Key) (e : Entry) (v : Vec Entry Global) (at : entr
   -- ---- stakes
 
   pub share_shows : (used : e.used ≡ true) → v.items ≡ slice_set k.entries.items key.0 (record e { shared = k.round })
-      → (p : ℕ) → region_at k key ≡ Some (Numbered p) → Holds slots (record k { entries = v }) (sharing h p) fills
+      → (p : ℕ) → region_at k key ≡ Some (Numbered p) → IsHoldingOf slots (record k { entries = v }) (sharing h p) fills
   share_shows used is p region =
       let slot = slot_entry k key e (Numbered p) at region in
       entry_changed k key e (record e { shared = k.round }) v at refl used is slots h.environments h.base h.pending h.stakes
@@ -112,7 +112,7 @@ module _ (k : Holding) (key : Key) (e : Entry) (v : Vec Entry Global) (at : entr
   module _ (page : Option Page) (used : e.used ≡ true)
       (is : v.items ≡ slice_set k.entries.items key.0 (record e { page = page })) where
     pub page_shows : (filleds : List Fill) → option_map (own_page e.slot) page ≡ page_of e.slot filleds
-        → ((s : ℕ) → s ≢ e.slot → page_of s filleds ≡ page_of s fills) → Holds slots (record k { entries = v }) h filleds
+        → ((s : ℕ) → s ≢ e.slot → page_of s filleds ≡ page_of s fills) → IsHoldingOf slots (record k { entries = v }) h filleds
     page_shows filleds here others =
         entry_changed k key e (record e { page = page }) v at refl used is slots h.environments h.base h.pending h.stakes
         fills shows h.environments h.base k.base h.pending filleds refl shows.names shows.base_is (shows.counted key e at)
@@ -120,11 +120,11 @@ module _ (k : Holding) (key : Key) (e : Entry) (v : Vec Entry Global) (at : entr
 
   pub claim_shows : (page : ℕ) → e.used ≡ true
       → v.items ≡ slice_set k.entries.items key.0 (record e { page = Some (record { page = page; fill = 0 }) }) → (r : Region)
-      → region_at k key ≡ Some r → Holds slots (record k { entries = v }) h
+      → region_at k key ≡ Some r → IsHoldingOf slots (record k { entries = v }) h
       (record { slot = slot_of slots r; page = page; fill = 0 } ∷ dropped (slot_of slots r) fills)
   claim_shows page used is r region =
       let slot : e.slot ≡ slot_of slots r = slot_entry k key e r at region ∙ ap (λ s. slot_of s r) shows.slots_are in
-      subst (λ s. Holds slots (record k { entries = v }) h (record { slot = s; page = page; fill = 0 } ∷ dropped s fills)) slot
+      subst (λ s. IsHoldingOf slots (record k { entries = v }) h (record { slot = s; page = page; fill = 0 } ∷ dropped s fills)) slot
       (page_shows (Some (record { page = page; fill = 0 })) used is (record { slot = e.slot; page = page; fill = 0 } ∷ dropped e.slot fills)
       (sym (ap (λ b. if b then Some (record { slot = e.slot; page = page; fill = 0 }) else page_of e.slot (dropped e.slot fills))
       (nat_eq_refl e.slot)))
@@ -133,10 +133,10 @@ module _ (k : Holding) (key : Key) (e : Entry) (v : Vec Entry Global) (at : entr
 
   pub fill_shows : (page : Page) (words : ℕ) → e.used ≡ true → e.page ≡ Some page
       → v.items ≡ slice_set k.entries.items key.0 (record e { page = Some (record { page = page.page; fill = words }) }) → (r : Region)
-      → region_at k key ≡ Some r → Holds slots (record k { entries = v }) h (raised (slot_of slots r) words fills)
+      → region_at k key ≡ Some r → IsHoldingOf slots (record k { entries = v }) h (raised (slot_of slots r) words fills)
   fill_shows page words used there is r region =
       let slot : e.slot ≡ slot_of slots r = slot_entry k key e r at region ∙ ap (λ s. slot_of s r) shows.slots_are in
-      subst (λ s. Holds slots (record k { entries = v }) h (raised s words fills)) slot
+      subst (λ s. IsHoldingOf slots (record k { entries = v }) h (raised s words fills)) slot
       (page_shows (Some (record { page = page.page; fill = words })) used is (raised e.slot words fills)
       (ap (λ o. option_map (filled words) (option_map (own_page e.slot) o)) (sym there)
       ∙ ap (option_map (filled words)) (shows.pages key e at) ∙ sym (page_filled e.slot words fills))
@@ -144,16 +144,16 @@ module _ (k : Holding) (key : Key) (e : Entry) (v : Vec Entry Global) (at : entr
 
   -- where there is no own page, nothing is filled
   pub no_fill_shows : (words : ℕ) → e.page ≡ None → (r : Region) → region_at k key ≡ Some r
-      → Holds slots k h (raised (slot_of slots r) words fills)
+      → IsHoldingOf slots k h (raised (slot_of slots r) words fills)
   no_fill_shows words none r region =
       let slot : e.slot ≡ slot_of slots r = slot_entry k key e r at region ∙ ap (λ s. slot_of s r) shows.slots_are in
       let gone : page_of (slot_of slots r) fills ≡ None =
       ap (λ s. page_of s fills) (sym slot) ∙ sym (shows.pages key e at) ∙ ap (option_map (own_page e.slot)) none in
-      subst (λ fs. Holds slots k h fs) (sym (unraised (slot_of slots r) words fills gone)) shows
+      subst (λ fs. IsHoldingOf slots k h fs) (sym (unraised (slot_of slots r) words fills gone)) shows
 
 -- the first of the base is protected otherwise, too, if it has more than one protection
 pub beyond_base : (k : Holding) (key : Key) (e : Entry) (slots : ℕ) (h : Holder) (fills : List Fill) (r : Region)
-    (rest : List Region) → entry_at k key ≡ Some e → Holds slots k h fills → region_at k key ≡ Some r → h.base ≡ r ∷ rest
+    (rest : List Region) → entry_at k key ≡ Some e → IsHoldingOf slots k h fills → region_at k key ≡ Some r → h.base ≡ r ∷ rest
     → nat_lt 1 e.protections ≡ guards rest h.environments r
 beyond_base k key e slots h fills r rest at shows region first =
     more e.protections (protections_of r h.environments rest) count ∙ guarded rest h.environments r

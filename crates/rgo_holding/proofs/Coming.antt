@@ -2,12 +2,12 @@
 use Rattle.std.proofs.Common.{◌≡◌, ◌≢◌, ◌≤◌, ◌<◌, ℕ, Bool, true, false, ◌||◌, List, [], ◌∷◌, Option, Some, None, Vec, Global, ap, arith, if◌then◌else◌, length, map, nat_eq, option_map, refl, reverse, slice_set, subst, sym, true≢false, ◌∙◌}
 use Rattle.std.proofs.lemmas.Option.{none-some, same_Some}
 use Rattle.std.specs.List.{AllByRecursion, list_any}
-use Rattle.rgo_core_memory.specs.Records.{Fill, dropped}
+use Rattle.rgo_core_memory.specs.Records.{Fill, dropped, page_of}
 use Rattle.rgo_sound.specs.RegionMachine.Regions.{bound, same_region, unbind, without}
-use Rattle.rgo_sound.specs.RegionMachine.States.{Environment, Holder}
+use Rattle.rgo_sound.specs.RegionMachine.States.{RegionEnvironment, Holder}
 use Rattle.rgo_sound.specs.RegionMachine.declared.regions.Region.{Region}
 use Rattle.rgo_sound.specs.RegionMachine.declared.regions.Region.TheVariants.{Global as GlobalRegion, Numbered}
-use Rattle.rgo_sound.proofs.CoreLemmas.{in_without}
+use Rattle.rgo_sound.proofs.names.Core.{in_without}
 use Rattle.rgo_sound.proofs.Tests.{nat_eq_refl, ne_of, split}
 use Rattle.rgo_sound.specs.Stakes.{is_in}
 use Rattle.rgo_holding.specs.declared.entries.Entry.{Entry}
@@ -16,8 +16,8 @@ use Rattle.rgo_holding.specs.declared.holding.Holding.{Holding}
 use Rattle.rgo_holding.specs.declared.keys.Key.{Key}
 use Rattle.rgo_holding.specs.Changes.{IsNew, IsSpare, IsUnknown, creating, ending}
 use Rattle.rgo_holding.specs.Entries.{new_entry}
-use Rattle.rgo_holding.specs.Holds.{Holds, Shows, entry_at, region_at}
-use Rattle.rgo_holding.specs.Known.{entry_of, entry_region, global_key, if_used, own_page, page_of, protections_of, region_of}
+use Rattle.rgo_holding.specs.Holds.{IsHoldingOf, HoldingShows, entry_at, region_at}
+use Rattle.rgo_holding.specs.Known.{entry_of, entry_region, global_key, if_used, own_page, protections_of, region_of}
 use Rattle.rgo_holding.specs.Naming.{Changed}
 use Rattle.rgo_holding.specs.Tables.{named, newest_keys}
 use Rattle.rgo_holding.proofs.Changing.{region_entry}
@@ -29,10 +29,10 @@ use Rattle.rgo_holding.proofs.NameLemmas.{names_but, names_kept, names_same, sta
 -- ---- what is kept beside it may change
 
 pub reshown : (k : Holding) (v : Vec Entry Global) (free : Vec Key Global) (next : Option Key)
-    (passed callee : Vec (Option Key) Global) (slots : ℕ) (es : List Environment) (base : List Region)
+    (passed callee : Vec (Option Key) Global) (slots : ℕ) (es : List RegionEnvironment) (base : List Region)
     (pending stakes : List ℕ) (fills : List Fill) → ((j : Key) → entry_of v.items j ≡ entry_at k j)
-    → Shows slots k es base pending stakes fills
-    → Shows slots (record k { entries = v; free = free; next = next; passed = passed; callee = callee }) es base pending
+    → HoldingShows slots k es base pending stakes fills
+    → HoldingShows slots (record k { entries = v; free = free; next = next; passed = passed; callee = callee }) es base pending
     stakes fills
 reshown k v free next passed callee slots es base pending stakes fills same h =
     let regions : (j : Key) → option_map (entry_region k.slots) (entry_of v.items j) ≡ region_at k j =
@@ -95,8 +95,8 @@ base_but before after gone keep (key ∷ keys) (r ∷ base) none is = λ i.
 
 pub leave_shows : (k : Holding) (key : Key) (e : Entry) (v : Vec Entry Global) (free : Vec Key Global)
     → entry_at k key ≡ Some e → v.items ≡ slice_set k.entries.items key.0 (record e { used = false })
-    → (slots : ℕ) (h : Holder) (fills : List Fill) (p : ℕ) → Holds slots k h fills → region_at k key ≡ Some (Numbered p)
-    → IsUnknown h p → Holds slots (record k { entries = v; free = free }) (ending h p) (dropped p fills)
+    → (slots : ℕ) (h : Holder) (fills : List Fill) (p : ℕ) → IsHoldingOf slots k h fills → region_at k key ≡ Some (Numbered p)
+    → IsUnknown h p → IsHoldingOf slots (record k { entries = v; free = free }) (ending h p) (dropped p fills)
 leave_shows k key e v free at is slots h fills p shows region unknown = record {
   slots_are = shows.slots_are;
   depth = shows.depth;
@@ -189,12 +189,12 @@ module _ (k : Holding) (key : Key) (v : Vec Entry Global) (slot : ℕ) (spare : 
   new_region other = ap (option_map (entry_region k.slots)) new_here ∙ ap Some (region_numbered k.slots slot other)
 
   -- its region becomes known, of which nothing was
-  pub known_shows : (slots : ℕ) (es : List Environment) (base : List Region) (pending old stakes : List ℕ) (fills : List Fill)
-      (next : Option Key) → Shows slots k es base pending old fills → slot ≢ k.slots
+  pub known_shows : (slots : ℕ) (es : List RegionEnvironment) (base : List Region) (pending old stakes : List ℕ) (fills : List Fill)
+      (next : Option Key) → HoldingShows slots k es base pending old fills → slot ≢ k.slots
       → ((a : Key) (x : Entry) → entry_at k a ≡ Some x → x.slot ≢ slot)
       → protections_of (Numbered slot) es base ≡ 0 → list_any (nat_eq slot) pending ≡ false → page_of slot fills ≡ None
       → is_in slot stakes ≡ true → ((s : ℕ) → is_in s old ≡ true → is_in s stakes ≡ true)
-      → Shows slots (record k { entries = v; next = next }) es base pending stakes fills
+      → HoldingShows slots (record k { entries = v; next = next }) es base pending stakes fills
   known_shows slots es base pending old stakes fills next shows other fresh unguarded unshared no_page staked more = record {
     slots_are = shows.slots_are;
     depth = shows.depth;
@@ -222,8 +222,8 @@ module _ (k : Holding) (key : Key) (v : Vec Entry Global) (slot : ℕ) (spare : 
       each P here there = each_put (entry_at k) (λ j. entry_of v.items j) key (Some (new_entry slot)) puts_new (λ a x. P x)
           (λ f same. subst P (same_Some (new_entry slot) f same) here) (λ a x n old. there a x old)
 
-      every : (es : List Environment)
-          → AllByRecursion (λ (e : Environment). (n : ℕ) (r : Region) → bound e.names n ≡ Some r → Unit {0}) es
+      every : (es : List RegionEnvironment)
+          → AllByRecursion (λ (e : RegionEnvironment). (n : ℕ) (r : Region) → bound e.names n ≡ Some r → Unit {0}) es
       every [] = tt
       every (e ∷ es) = (λ n r b. tt, every es)
 
@@ -273,9 +273,9 @@ module _ (k : Holding) (key : Key) (v : Vec Entry Global) (slot : ℕ) (spare : 
 
 pub create_shows : (k : Holding) (key : Key) (v : Vec Entry Global) (f : Frames) (name slot : ℕ) → IsSpare k.entries.items key
     → v.items ≡ slice_set k.entries.items key.0 (new_entry slot) → name < length (newest_keys k.frames)
-    → (slots : ℕ) (h : Holder) (fills : List Fill) → Holds slots k h fills → IsNew slots h fills slot
+    → (slots : ℕ) (h : Holder) (fills : List Fill) → IsHoldingOf slots k h fills → IsNew slots h fills slot
     → Changed k.frames f (λ keys. slice_set keys name (Some key))
-    → Holds slots (record k { frames = f; entries = v; next = None }) (creating h name slot) fills
+    → IsHoldingOf slots (record k { frames = f; entries = v; next = None }) (creating h name slot) fills
 create_shows k key v f name slot spare is room slots h fills shows new changed =
     renamed_shows (record k { entries = v; next = None }) f slots (record h { stakes = slot ∷ h.stakes }) fills
     (known_shows k key v slot spare is slots h.environments h.base h.pending h.stakes (slot ∷ h.stakes) fills None shows

@@ -2,18 +2,18 @@
 use Rattle.std.proofs.Common.{◌≡◌, ◌≢◌, ◌≤◌, ◌<◌, ◌+◌, ℕ, Bool, true, false, ◌||◌, List, [], ◌∷◌, ◌++◌, Some, None, ap, arith, if◌then◌else◌, length, nat_eq, nat_lt, option_map, refl, sym, true≢false, ◌∙◌}
 use Rattle.std.proofs.lemmas.Option.{none-some}
 use Rattle.std.specs.List.{AllByRecursion, list_any}
-use Rattle.rgo_core_memory.specs.Records.{Fill, dropped, raised}
+use Rattle.rgo_core_memory.specs.Records.{Fill, dropped, page_of, raised}
 use Rattle.rgo_sound.specs.RegionMachine.Duties.{guards, with_protection, without_protection}
 use Rattle.rgo_sound.specs.RegionMachine.Regions.{Bindings, same_region}
-use Rattle.rgo_sound.specs.RegionMachine.States.{Environment, below, with_top}
+use Rattle.rgo_sound.specs.RegionMachine.States.{RegionEnvironment, below, with_top}
 use Rattle.rgo_sound.specs.RegionMachine.declared.regions.Region.{Region}
 use Rattle.rgo_sound.specs.RegionMachine.declared.regions.Region.TheVariants.{Global as GlobalRegion, Numbered}
-use Rattle.rgo_sound.proofs.Moves.{times_removed}
+use Rattle.rgo_sound.proofs.duties.Moves.{times_removed}
 use Rattle.rgo_sound.proofs.Tests.{eq_of, nat_eq_refl, ne_of}
 use Rattle.rgo_sound.specs.Invariant.{times}
 use Rattle.rgo_sound.specs.Stakes.{one_if}
 use Rattle.rgo_holding.specs.Changes.{KnowsNone, top_protections}
-use Rattle.rgo_holding.specs.Known.{page_of, protections_of, region_of, slot_of}
+use Rattle.rgo_holding.specs.Known.{protections_of, region_of, slot_of}
 
 -- ---- regions by their slots
 
@@ -49,7 +49,7 @@ one_same r = ap one_if (same_self r)
 pub one_other : (slots s t : ℕ) → s ≢ t → one_if (same_region (region_of slots s) (region_of slots t)) ≡ 0
 one_other slots s t n = ap one_if (region_same slots s t ∙ ne_of s t n)
 
-pub protected_more : (q r : Region) (es : List Environment) (base : List Region) → 0 < length es
+pub protected_more : (q r : Region) (es : List RegionEnvironment) (base : List Region) → 0 < length es
     → protections_of q (with_protection es r) base ≡ one_if (same_region q r) + protections_of q es base
 protected_more q r [] base some = absurd (omega (arith, some))
 protected_more q r (e ∷ es) base some = omega arith
@@ -62,7 +62,7 @@ any_times r (s ∷ ss) h = go (same_region r s) (list_any (same_region r) ss) h 
     go true b e f = omega arith
     go false b e f = let l = f e in omega (arith, l)
 
-pub protected_fewer : (q r : Region) (es : List Environment) (base : List Region)
+pub protected_fewer : (q r : Region) (es : List RegionEnvironment) (base : List Region)
     → list_any (same_region r) (top_protections es) ≡ true
     → protections_of q (without_protection es r) base + one_if (same_region q r) ≡ protections_of q es base
 protected_fewer q r [] base h = absurd (true≢false (sym h))
@@ -87,18 +87,18 @@ times_any q (r ∷ rs) =
     ∙ (λ i. positive_one (same_region q r) i || times_any q rs i)
 
 -- a region is guarded exactly if it has a protection
-pub guarded : (base : List Region) (es : List Environment) (q : Region)
+pub guarded : (base : List Region) (es : List RegionEnvironment) (q : Region)
     → nat_lt 0 (protections_of q es base) ≡ guards base es q
 guarded base [] q = times_any q base
 guarded base (e ∷ es) q =
     positive_sum (times q e.protections) (protections_of q es base)
     ∙ (λ i. times_any q e.protections i || guarded base es q i)
 
-pub unguarded_none : (base : List Region) (es : List Environment) (q : Region) → guards base es q ≡ false
+pub unguarded_none : (base : List Region) (es : List RegionEnvironment) (q : Region) → guards base es q ≡ false
     → protections_of q es base ≡ 0
 unguarded_none base es q h = let e = guarded base es q ∙ h in grind arith
 
-pub guarded_base : (base : List Region) (es : List Environment) (q : Region) → guards base es q ≡ false
+pub guarded_base : (base : List Region) (es : List RegionEnvironment) (q : Region) → guards base es q ≡ false
     → list_any (same_region q) base ≡ false
 guarded_base base [] q h = h
 guarded_base base (e ∷ es) q h = guarded_base base es q (last (list_any (same_region q) e.protections) (guards base es q) h)
@@ -107,22 +107,22 @@ guarded_base base (e ∷ es) q h = guarded_base base es q (last (list_any (same_
     last true b e = absurd (true≢false e)
     last false b e = e
 
-pub renamed_protections : (q : Region) (es : List Environment) (names : Bindings) (base : List Region)
+pub renamed_protections : (q : Region) (es : List RegionEnvironment) (names : Bindings) (base : List Region)
     → protections_of q (with_top es names) base ≡ protections_of q es base
 renamed_protections q [] names base = refl
 renamed_protections q (e ∷ es) names base = refl
 
-pub below_protections : (q : Region) (es : List Environment) (base : List Region) → top_protections es ≡ []
+pub below_protections : (q : Region) (es : List RegionEnvironment) (base : List Region) → top_protections es ≡ []
     → protections_of q (below es) base ≡ protections_of q es base
 below_protections q [] base none = refl
 below_protections q (e ∷ es) base none = sym (ap (λ ps. times q ps + protections_of q es base) none ∙ omega arith)
 
-pub base_protections : (q r : Region) (es : List Environment) (rest : List Region)
+pub base_protections : (q r : Region) (es : List RegionEnvironment) (rest : List Region)
     → protections_of q es (r ∷ rest) ≡ one_if (same_region q r) + protections_of q es rest
 base_protections q r [] rest = refl
 base_protections q r (e ∷ es) rest = let x = base_protections q r es rest in omega (arith, x)
 
-pub bare_protections : (q : Region) (fresh es : List Environment) (base : List Region) → AllByRecursion KnowsNone fresh
+pub bare_protections : (q : Region) (fresh es : List RegionEnvironment) (base : List Region) → AllByRecursion KnowsNone fresh
     → protections_of q (fresh ++ es) base ≡ protections_of q es base
 bare_protections q [] es base bare = refl
 bare_protections q (e ∷ fresh) es base bare =
@@ -130,8 +130,8 @@ bare_protections q (e ∷ fresh) es base bare =
     let y : times q e.protections ≡ 0 = ap (times q) bare.0.protections in
     omega (arith, x, y)
 
-pub above_protections : (q : Region) (above es : List Environment) (base : List Region)
-    → AllByRecursion (λ (e : Environment). e.protections ≡ []) above
+pub above_protections : (q : Region) (above es : List RegionEnvironment) (base : List Region)
+    → AllByRecursion (λ (e : RegionEnvironment). e.protections ≡ []) above
     → protections_of q (above ++ es) base ≡ protections_of q es base
 above_protections q [] es base none = refl
 above_protections q (e ∷ above) es base none =

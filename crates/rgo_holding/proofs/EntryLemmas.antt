@@ -6,7 +6,7 @@ use Rattle.rgo_sound.proofs.Places.{get_set_other, get_set_same}
 use Rattle.rgo_sound.proofs.Tests.{eq_of, nat_eq_refl, split}
 use Rattle.rgo_holding.specs.declared.entries.Entry.{Entry}
 use Rattle.rgo_holding.specs.declared.keys.Key.{Key}
-use Rattle.rgo_holding.specs.Known.{SlotsDiffer, entry_of, entry_region, global_key, if_used, region_of}
+use Rattle.rgo_holding.specs.Known.{KeySlotsDiffer, entry_of, entry_region, global_key, if_used, region_of}
 
 pub same_key : (a b : Key) → nat_eq a.0 b.0 ≡ true → a ≡ b
 same_key a b t = λ i. record { 0 = eq_of a.0 b.0 t i }
@@ -56,7 +56,7 @@ abbrev pub slot_if : Option Entry → Option ℕ
 slot_if o = option_map (λ (e : Entry). e.slot) o
 
 -- another key has another slot
-pub apart : (entry : Key → Option Entry) (slots : ℕ) → SlotsDiffer entry slots → (key a : Key) (e x : Entry)
+pub apart : (entry : Key → Option Entry) (slots : ℕ) → KeySlotsDiffer entry slots → (key a : Key) (e x : Entry)
     → entry key ≡ Some e → entry a ≡ Some x → nat_eq key.0 a.0 ≡ false → x.slot ≢ e.slot
 apart entry slots differ key a e x at there n same =
     let k = differ.unique key a e.slot (ap slot_if at) (ap slot_if there ∙ ap Some same) in
@@ -70,7 +70,7 @@ slots_put before after key e f puts at same j = split (nat_eq key.0 j.0)
     (λ n. ap slot_if (puts j ∙ ap (λ b. if b then Some f else before j) n))
 
 pub differ_same : (before after : Key → Option Entry) (slots : ℕ) → ((j : Key) → slot_if (after j) ≡ slot_if (before j))
-    → SlotsDiffer before slots → SlotsDiffer after slots
+    → KeySlotsDiffer before slots → KeySlotsDiffer after slots
 differ_same before after slots same differ = record {
   unique = λ a b s x y. differ.unique a b s (sym (same a) ∙ x) (sym (same b) ∙ y);
   global = same global_key ∙ differ.global;

@@ -2,7 +2,7 @@
 use Rattle.std.proofs.Common.{◌≡◌, ◌≢◌, ◌≤◌, ℕ, true, List, [], Option, Some, None, Vec, Global, ap, arith, nat_eq, option_map, refl, reverse, subst, sym, ◌∙◌}
 use Rattle.std.proofs.lemmas.Option.{none-some, same_Some}
 use Rattle.std.specs.List.{list_any}
-use Rattle.rgo_core_memory.specs.Records.{Fill}
+use Rattle.rgo_core_memory.specs.Records.{Fill, page_of}
 use Rattle.rgo_sound.specs.RegionMachine.States.{Holder}
 use Rattle.rgo_sound.specs.RegionMachine.declared.regions.Region.{Region}
 use Rattle.rgo_sound.specs.Stakes.{is_in}
@@ -10,8 +10,8 @@ use Rattle.rgo_holding.specs.declared.entries.Entry.{Entry}
 use Rattle.rgo_holding.specs.declared.holding.Holding.{Holding}
 use Rattle.rgo_holding.specs.declared.keys.Key.{Key}
 use Rattle.rgo_holding.specs.Entries.{forgotten}
-use Rattle.rgo_holding.specs.Holds.{Holds, entry_at, region_at}
-use Rattle.rgo_holding.specs.Known.{entry_of, entry_region, own_page, page_of, protections_of, region_of}
+use Rattle.rgo_holding.specs.Holds.{IsHoldingOf, entry_at, region_at}
+use Rattle.rgo_holding.specs.Known.{entry_of, entry_region, own_page, protections_of, region_of}
 use Rattle.rgo_holding.specs.Tables.{named}
 use Rattle.rgo_holding.proofs.EntryLemmas.{differ_same, map_same, regions_same, slot_if}
 use Rattle.rgo_holding.proofs.NameLemmas.{names_same}
@@ -21,8 +21,8 @@ slot_forgotten None = refl
 slot_forgotten (Some e) = refl
 
 pub forgotten_shows : (k : Holding) (v : Vec Entry Global) → ((j : Key) → entry_of v.items j ≡ forgotten (entry_at k j))
-    → (slots : ℕ) (h : Holder) (fills : List Fill) → Holds slots k h fills
-    → Holds slots (record k { entries = v; round = 1 }) (record h { pending = [] }) fills
+    → (slots : ℕ) (h : Holder) (fills : List Fill) → IsHoldingOf slots k h fills
+    → IsHoldingOf slots (record k { entries = v; round = 1 }) (record h { pending = [] }) fills
 forgotten_shows k v same slots h fills shows = record {
   slots_are = shows.slots_are;
   depth = shows.depth;

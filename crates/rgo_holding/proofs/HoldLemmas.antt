@@ -1,16 +1,16 @@
 -- What a goroutine has is still shown after the entry of one region has changed.
 use Rattle.std.proofs.Common.{◌≡◌, ◌≢◌, ◌≤◌, ℕ, true, List, [], ◌∷◌, Option, Some, None, Vec, Global, ap, if◌then◌else◌, length, map, nat_eq, option_map, refl, reverse, slice_set, subst, sym, ◌∙◌}
 use Rattle.std.specs.List.{list_any}
-use Rattle.rgo_core_memory.specs.Records.{Fill}
+use Rattle.rgo_core_memory.specs.Records.{Fill, page_of}
 use Rattle.rgo_sound.specs.RegionMachine.Duties.{with_protection, without_protection}
-use Rattle.rgo_sound.specs.RegionMachine.States.{Environment}
+use Rattle.rgo_sound.specs.RegionMachine.States.{RegionEnvironment}
 use Rattle.rgo_sound.specs.RegionMachine.declared.regions.Region.{Region}
 use Rattle.rgo_sound.specs.Stakes.{is_in}
 use Rattle.rgo_holding.specs.declared.entries.Entry.{Entry}
 use Rattle.rgo_holding.specs.declared.holding.Holding.{Holding}
 use Rattle.rgo_holding.specs.declared.keys.Key.{Key}
-use Rattle.rgo_holding.specs.Holds.{Shows, entry_at, region_at}
-use Rattle.rgo_holding.specs.Known.{entry_of, entry_region, own_page, page_of, protections_of, region_of}
+use Rattle.rgo_holding.specs.Holds.{HoldingShows, entry_at, region_at}
+use Rattle.rgo_holding.specs.Known.{entry_of, entry_region, own_page, protections_of, region_of}
 use Rattle.rgo_holding.specs.Tables.{NamesStand, named}
 use Rattle.rgo_holding.proofs.EntryLemmas.{Puts, apart, differ_same, each_put, map_same, put_entry, regions_same, slot_if, slots_put, used_entry}
 use Rattle.rgo_holding.proofs.NameLemmas.{names_same}
@@ -32,8 +32,8 @@ module _ (k : Holding) (key : Key) (e f : Entry) (v : Vec Entry Global) (at : en
   pub regions_kept : (j : Key) → option_map (entry_region k.slots) (after j) ≡ region_at k j
   regions_kept = regions_same (entry_at k) after k.slots slots_kept
 
-  module _ (slots : ℕ) (es : List Environment) (base : List Region) (pending : List ℕ) (stakes : List ℕ)
-      (fills : List Fill) (h : Shows slots k es base pending stakes fills) where
+  module _ (slots : ℕ) (es : List RegionEnvironment) (base : List Region) (pending : List ℕ) (stakes : List ℕ)
+      (fills : List Fill) (h : HoldingShows slots k es base pending stakes fills) where
     -- of each other entry
     other : (P : Key → Entry → Type 0) → P key f
         → ((a : Key) (x : Entry) → x.slot ≢ e.slot → entry_at k a ≡ Some x → P a x)
@@ -45,7 +45,7 @@ module _ (k : Holding) (key : Key) (e f : Entry) (v : Vec Entry Global) (at : en
         the_same : (x y : Entry) → Some x ≡ Some y → x ≡ y
         the_same x y e = cc
 
-    pub entry_changed : (environments : List Environment) (regions : List Region) (bases : Vec Key Global)
+    pub entry_changed : (environments : List RegionEnvironment) (regions : List Region) (bases : Vec Key Global)
         (pendings : List ℕ) (filleds : List Fill)
         → length environments ≡ length es
         → NamesStand (region_at k) (named k.frames) environments
@@ -58,7 +58,7 @@ module _ (k : Holding) (key : Key) (e f : Entry) (v : Vec Entry Global) (at : en
         → (e.slot ≢ k.slots → nat_eq f.shared k.round ≡ list_any (nat_eq e.slot) pendings)
         → f.shared ≤ k.round
         → ((s : ℕ) → s ≢ e.slot → list_any (nat_eq s) pendings ≡ list_any (nat_eq s) pending)
-        → Shows slots (record k { entries = v; base = bases }) environments regions pendings stakes filleds
+        → HoldingShows slots (record k { entries = v; base = bases }) environments regions pendings stakes filleds
     entry_changed environments regions bases pendings filleds deep names base_is count counts page pages shared round sharers =
         record {
           slots_are = h.slots_are;
@@ -89,20 +89,20 @@ module _ (k : Holding) (key : Key) (e f : Entry) (v : Vec Entry Global) (at : en
 
 -- ---- the environments' names, where protections change
 
-pub protecting_names : (region : Key → Option Region) (r : Region) (es : List Environment) (k : Holding)
+pub protecting_names : (region : Key → Option Region) (r : Region) (es : List RegionEnvironment) (k : Holding)
     → NamesStand region (named k.frames) es → NamesStand region (named k.frames) (with_protection es r)
 protecting_names region r [] k h = h
 protecting_names region r (e ∷ es) k h = h
 
-pub unprotecting_names : (region : Key → Option Region) (r : Region) (es : List Environment) (k : Holding)
+pub unprotecting_names : (region : Key → Option Region) (r : Region) (es : List RegionEnvironment) (k : Holding)
     → NamesStand region (named k.frames) es → NamesStand region (named k.frames) (without_protection es r)
 unprotecting_names region r [] k h = h
 unprotecting_names region r (e ∷ es) k h = h
 
-pub protecting_length : (r : Region) (es : List Environment) → length (with_protection es r) ≡ length es
+pub protecting_length : (r : Region) (es : List RegionEnvironment) → length (with_protection es r) ≡ length es
 protecting_length r [] = refl
 protecting_length r (e ∷ es) = refl
 
-pub unprotecting_length : (r : Region) (es : List Environment) → length (without_protection es r) ≡ length es
+pub unprotecting_length : (r : Region) (es : List RegionEnvironment) → length (without_protection es r) ≡ length es
 unprotecting_length r [] = refl
 unprotecting_length r (e ∷ es) = refl

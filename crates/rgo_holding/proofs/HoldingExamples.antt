@@ -3,18 +3,19 @@ use Rattle.std.proofs.Common.{◌≡◌, ◌≢◌, ◌⊎◌, ◌≤◌, ℕ, z
 use Rattle.std.proofs.lemmas.Option.{none-some, same_Some}
 use Rattle.std.specs.List.{AllByRecursion}
 use Rattle.rgo_sound.specs.RegionMachine.Regions.{bound}
-use Rattle.rgo_sound.specs.RegionMachine.States.{Environment}
+use Rattle.rgo_sound.specs.RegionMachine.States.{RegionEnvironment}
 use Rattle.rgo_sound.specs.RegionMachine.declared.regions.Region.{Region}
 use Rattle.rgo_sound.specs.Stakes.{is_in}
 use Rattle.rgo_sound.specs.RegionMachine.declared.regions.Region.TheVariants.{Global as GlobalRegion, Numbered}
+use Rattle.rgo_core_memory.specs.Records.{page_of}
 use Rattle.rgo_holding.specs.declared.entries.Entry.{Entry}
 use Rattle.rgo_holding.specs.declared.holding.Holding.{Holding}
 use Rattle.rgo_holding.specs.declared.keys.Key.{Key}
-use Rattle.rgo_holding.specs.Changes.{Settles}
+use Rattle.rgo_holding.specs.Changes.{EnvironmentsSettle}
 use Rattle.rgo_holding.specs.Entries.{new_entry}
 use Rattle.rgo_holding.specs.Examples.{HoldingExamples, bare, doubled, entries, frame, naming, page_two, pages, region, second, third}
-use Rattle.rgo_holding.specs.Holds.{Shows}
-use Rattle.rgo_holding.specs.Known.{AreCounted, ArePending, HavePages, SlotsDiffer, entry_of, global_key, own_page, page_of, protections_of, region_of, slot_in}
+use Rattle.rgo_holding.specs.Holds.{HoldingShows}
+use Rattle.rgo_holding.specs.Known.{AreCounted, AreStakesPending, HavePages, KeySlotsDiffer, entry_of, global_key, own_page, protections_of, region_of, slot_in}
 use Rattle.rgo_holding.specs.Tables.{Named, StandFor}
 
 -- what holds of both entries in use
@@ -59,19 +60,19 @@ bound_naming zero e = none-some (Numbered 3) e
 bound_naming (suc zero) e = cc
 bound_naming (suc (suc k)) e = none-some (Numbered 3) (sym (ap (λ b. if b then Some (Numbered 2) else None) (beyond k)) ∙ e)
 
-fewer : Settles 1 2 (bare ∷ naming ∷ []) (naming ∷ []) → ⊥
+fewer : EnvironmentsSettle 1 2 (bare ∷ naming ∷ []) (naming ∷ []) → ⊥
 fewer s = let l = s.depth_is in omega (arith, l)
 
-guarded_above : Settles 0 1 (naming ∷ []) (bare ∷ []) → ⊥
+guarded_above : EnvironmentsSettle 0 1 (naming ∷ []) (bare ∷ []) → ⊥
 guarded_above s = go s.above s.stayed s.before_is s.kept_are s.unguarded
   where
-    go : (above stayed : List Environment) → naming ∷ [] ≡ above ++ stayed → length stayed ≡ 0
-        → AllByRecursion (λ (e : Environment). e.protections ≡ []) above → ⊥
+    go : (above stayed : List RegionEnvironment) → naming ∷ [] ≡ above ++ stayed → length stayed ≡ 0
+        → AllByRecursion (λ (e : RegionEnvironment). e.protections ≡ []) above → ⊥
     go [] stayed e l u = let x = ap length e in omega (arith, x, l)
     go (a ∷ above) stayed e l u = no_protections (ap (λ ps. ps) (first e ∙ u.0))
       where
         first : naming ∷ [] ≡ a ∷ (above ++ stayed) → naming.protections ≡ a.protections
-        first e = ap (λ (e : Environment). e.protections) (head e)
+        first e = ap (λ (e : RegionEnvironment). e.protections) (head e)
           where
             head : naming ∷ [] ≡ a ∷ (above ++ stayed) → naming ≡ a
             head e = cc
@@ -79,13 +80,13 @@ guarded_above s = go s.above s.stayed s.before_is s.kept_are s.unguarded
         no_protections : ◌≡◌ {A = List Region} (Numbered 2 ∷ []) [] → ⊥
         no_protections e = cc
 
-as_many : (k : Holding) → Shows 4 k (bare ∷ []) [] [] [] [] → Shows 4 k (bare ∷ bare ∷ []) [] [] [] [] → ⊥
+as_many : (k : Holding) → HoldingShows 4 k (bare ∷ []) [] [] [] [] → HoldingShows 4 k (bare ∷ bare ∷ []) [] [] [] [] → ⊥
 as_many k one two = let a = one.depth in let b = two.depth in omega (arith, a, b)
 
-same_slot : SlotsDiffer (entry_of doubled) 4 → ⊥
+same_slot : KeySlotsDiffer (entry_of doubled) 4 → ⊥
 same_slot d = let e = ap (λ (key : Key). key.0) (d.unique second third 2 refl refl) in omega (arith, e)
 
-no_global : SlotsDiffer (entry_of entries) 5 → ⊥
+no_global : KeySlotsDiffer (entry_of entries) 5 → ⊥
 no_global d = let e = same_Some 4 5 d.global in omega (arith, e)
 
 one_more : AreCounted (entry_of entries) 4 (naming ∷ naming ∷ []) [] → ⊥
@@ -94,7 +95,7 @@ one_more c = let e = c second page_two refl in omega (arith, e)
 own_none : HavePages (entry_of entries) [] → ⊥
 own_none h = none-some (record { slot = 2; page = 7; fill = 5 }) (sym (h second page_two refl))
 
-pending : ArePending (entry_of entries) 4 1 (2 ∷ []) → ⊥
+pending : AreStakesPending (entry_of entries) 4 1 (2 ∷ []) → ⊥
 pending p = true≢false (sym (p.shared second page_two refl (λ e. omega (arith, e))))
 
 pub examples : HoldingExamples

@@ -2,24 +2,24 @@
 use Rattle.std.proofs.Common.{◌≡◌, ◌-◌, ℕ, List, [], ◌∷◌, ◌++◌, None, ap, arith, length, refl, slice_set, subst, sym, ◌∙◌}
 use Rattle.rgo_core_memory.specs.Records.{Fill}
 use Rattle.rgo_sound.specs.RegionMachine.Regions.{Bindings, unbind}
-use Rattle.rgo_sound.specs.RegionMachine.States.{Environment, Holder, below, top_names, with_top}
+use Rattle.rgo_sound.specs.RegionMachine.States.{RegionEnvironment, Holder, below, top_names, with_top}
 use Rattle.rgo_sound.specs.RegionMachine.declared.regions.Region.{Region}
 use Rattle.rgo_holding.specs.declared.frames.Frames.{Frames}
 use Rattle.rgo_holding.specs.declared.holding.Holding.{Holding}
-use Rattle.rgo_holding.specs.Changes.{Settles, renamed, top_protections, without_name}
-use Rattle.rgo_holding.specs.Holds.{Holds, Shows, region_at}
+use Rattle.rgo_holding.specs.Changes.{EnvironmentsSettle, renamed, top_protections, without_name}
+use Rattle.rgo_holding.specs.Holds.{IsHoldingOf, HoldingShows, region_at}
 use Rattle.rgo_holding.specs.Known.{protections_of}
-use Rattle.rgo_holding.specs.Naming.{Changed, ComesBack, Cuts, SameNames, changed_at, cut}
+use Rattle.rgo_holding.specs.Naming.{Changed, NamedFrameReturns, Cuts, SameNames, changed_at, cut}
 use Rattle.rgo_holding.specs.Tables.{IsOrdered, Keys, NamesStand, StandFor, key_in, keys_at, named, named_below, newest_keys}
 use Rattle.rgo_holding.proofs.CountLemmas.{above_protections, bare_protections, below_protections, renamed_protections}
 use Rattle.rgo_holding.proofs.NameLemmas.{change_newest, same_newest, settled, stand_unbound}
 
 -- other frames, where each region has as many protections
-pub moved : (k : Holding) (f : Frames) (slots : ℕ) (es others : List Environment) (base : List Region)
-    (pending stakes : List ℕ) (fills : List Fill) → Shows slots k es base pending stakes fills → f.depth ≡ length others
+pub moved : (k : Holding) (f : Frames) (slots : ℕ) (es others : List RegionEnvironment) (base : List Region)
+    (pending stakes : List ℕ) (fills : List Fill) → HoldingShows slots k es base pending stakes fills → f.depth ≡ length others
     → IsOrdered f → NamesStand (region_at k) (named f) others
     → ((r : Region) → protections_of r others base ≡ protections_of r es base)
-    → Shows slots (record k { frames = f }) others base pending stakes fills
+    → HoldingShows slots (record k { frames = f }) others base pending stakes fills
 moved k f slots es others base pending stakes fills h depth ordered names same = record {
   slots_are = h.slots_are;
   depth = depth;
@@ -33,16 +33,16 @@ moved k f slots es others base pending stakes fills h depth ordered names same =
   staked = h.staked;
 }
 
-renamed_length : (es : List Environment) (names : Bindings) → length (with_top es names) ≡ length es
+renamed_length : (es : List RegionEnvironment) (names : Bindings) → length (with_top es names) ≡ length es
 renamed_length [] names = refl
 renamed_length (e ∷ es) names = refl
 
 -- the newest frame has other names
-pub renamed_shows : (k : Holding) (f : Frames) (slots : ℕ) (h : Holder) (fills : List Fill) → Holds slots k h fills
+pub renamed_shows : (k : Holding) (f : Frames) (slots : ℕ) (h : Holder) (fills : List Fill) → IsHoldingOf slots k h fills
     → (change : Keys → Keys) (names : Bindings → Bindings) → Changed k.frames f change → change [] ≡ []
     → ((bs : Bindings) → StandFor (region_at k) (newest_keys k.frames) bs
     → StandFor (region_at k) (change (newest_keys k.frames)) (names bs))
-    → Holds slots (record k { frames = f }) (renamed h names) fills
+    → IsHoldingOf slots (record k { frames = f }) (renamed h names) fills
 renamed_shows k f slots h fills shows change names changed none stands =
     moved k f slots h.environments (with_top h.environments (names (top_names h.environments))) h.base h.pending h.stakes
     fills shows
@@ -50,7 +50,7 @@ renamed_shows k f slots h fills shows change names changed none stands =
     (go h.environments shows.depth shows.names)
     (λ r. renamed_protections r h.environments (names (top_names h.environments)) h.base)
   where
-    go : (es : List Environment) → k.frames.depth ≡ length es → NamesStand (region_at k) (named k.frames) es
+    go : (es : List RegionEnvironment) → k.frames.depth ≡ length es → NamesStand (region_at k) (named k.frames) es
         → NamesStand (region_at k) (named f) (with_top es (names (top_names es)))
     go [] d s = changed.named ∙ ap (changed_at k.frames.depth change) s
     go (e ∷ es) d s = subst (λ l. NamesStand (region_at k) l (record e { names = names e.names } ∷ es))
@@ -59,28 +59,28 @@ renamed_shows k f slots h fills shows change names changed none stands =
         (subst (λ n. StandFor (region_at k) (keys_at (named k.frames) n) e.names
         → StandFor (region_at k) (change (keys_at (named k.frames) n)) (names e.names)) d (stands e.names)) s)
 
-pub unbind_shows : (k : Holding) (f : Frames) (slots : ℕ) (h : Holder) (fills : List Fill) → Holds slots k h fills
+pub unbind_shows : (k : Holding) (f : Frames) (slots : ℕ) (h : Holder) (fills : List Fill) → IsHoldingOf slots k h fills
     → (name : ℕ) → Changed k.frames f (λ keys. slice_set keys name None)
-    → Holds slots (record k { frames = f }) (without_name h name) fills
+    → IsHoldingOf slots (record k { frames = f }) (without_name h name) fills
 unbind_shows k f slots h fills shows name changed =
     renamed_shows k f slots h fills shows (λ keys. slice_set keys name None) (λ bs. unbind bs name) changed refl
     (λ bs s. stand_unbound (region_at k) (newest_keys k.frames) bs name s)
 
 -- ---- returns
 
-pub back_shows : (k : Holding) (f : Frames) (slots : ℕ) (h : Holder) (fills : List Fill) → Holds slots k h fills
-    → ComesBack k.frames f → top_protections h.environments ≡ []
-    → Holds slots (record k { frames = f }) (record h { environments = below h.environments }) fills
+pub back_shows : (k : Holding) (f : Frames) (slots : ℕ) (h : Holder) (fills : List Fill) → IsHoldingOf slots k h fills
+    → NamedFrameReturns k.frames f → top_protections h.environments ≡ []
+    → IsHoldingOf slots (record k { frames = f }) (record h { environments = below h.environments }) fills
 back_shows k f slots h fills shows back none =
     moved k f slots h.environments (below h.environments) h.base h.pending h.stakes fills shows
     (back.depth ∙ ap (λ n. n - 1) shows.depth ∙ fewer h.environments) (back.ordered shows.ordered)
     (go h.environments shows.depth shows.names) (λ r. below_protections r h.environments h.base none)
   where
-    fewer : (es : List Environment) → length es - 1 ≡ length (below es)
+    fewer : (es : List RegionEnvironment) → length es - 1 ≡ length (below es)
     fewer [] = omega arith
     fewer (e ∷ es) = omega arith
 
-    go : (es : List Environment) → k.frames.depth ≡ length es → NamesStand (region_at k) (named k.frames) es
+    go : (es : List RegionEnvironment) → k.frames.depth ≡ length es → NamesStand (region_at k) (named k.frames) es
         → NamesStand (region_at k) (named f) (below es)
     go [] d s = back.named shows.ordered ∙ ap (λ l. named_below l k.frames.depth) s
     go (e ∷ es) d s = subst (λ l. NamesStand (region_at k) l es)
@@ -88,9 +88,9 @@ back_shows k f slots h fills shows back none =
 
 -- ---- local steps in a row
 
-pub settle_shows : (k : Holding) (f : Frames) (slots : ℕ) (h : Holder) (fills : List Fill) (es : List Environment)
-    (kept many : ℕ) → Holds slots k h fills → Cuts k.frames f kept many → Settles kept many h.environments es
-    → Holds slots (record k { frames = f }) (record h { environments = es }) fills
+pub settle_shows : (k : Holding) (f : Frames) (slots : ℕ) (h : Holder) (fills : List Fill) (es : List RegionEnvironment)
+    (kept many : ℕ) → IsHoldingOf slots k h fills → Cuts k.frames f kept many → EnvironmentsSettle kept many h.environments es
+    → IsHoldingOf slots (record k { frames = f }) (record h { environments = es }) fills
 settle_shows k f slots h fills es kept many shows cuts settles =
     moved k f slots h.environments es h.base h.pending h.stakes fills shows (cuts.depth ∙ sym settles.depth_is)
     (cuts.ordered shows.ordered)
@@ -107,8 +107,8 @@ settle_shows k f slots h fills es kept many shows cuts settles =
 -- ---- memory
 
 -- no name has changed
-pub reserved_shows : (k : Holding) (f : Frames) (slots : ℕ) (h : Holder) (fills : List Fill) → Holds slots k h fills
-    → (k.frames.depth ≡ 0 → ⊥) → SameNames k.frames f → Holds slots (record k { frames = f }) h fills
+pub reserved_shows : (k : Holding) (f : Frames) (slots : ℕ) (h : Holder) (fills : List Fill) → IsHoldingOf slots k h fills
+    → (k.frames.depth ≡ 0 → ⊥) → SameNames k.frames f → IsHoldingOf slots (record k { frames = f }) h fills
 reserved_shows k f slots h fills shows some same =
     moved k f slots h.environments h.environments h.base h.pending h.stakes fills shows (same.depth ∙ shows.depth)
     same.ordered

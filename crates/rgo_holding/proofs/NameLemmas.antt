@@ -3,9 +3,9 @@ use Rattle.std.proofs.Common.{◌≡◌, ◌≢◌, ◌≤◌, ◌<◌, ℕ, zer
 use Rattle.std.proofs.lemmas.Option.{none-some, same_Some}
 use Rattle.std.specs.List.{AllByRecursion}
 use Rattle.rgo_sound.specs.RegionMachine.Regions.{Bindings, bound, unbind, without_all}
-use Rattle.rgo_sound.specs.RegionMachine.States.{Environment}
+use Rattle.rgo_sound.specs.RegionMachine.States.{RegionEnvironment}
 use Rattle.rgo_sound.specs.RegionMachine.declared.regions.Region.{Region}
-use Rattle.rgo_sound.proofs.CoreLemmas.{bound_unbind, bound_unbind_other}
+use Rattle.rgo_sound.proofs.names.Core.{bound_unbind, bound_unbind_other}
 use Rattle.rgo_sound.proofs.Tests.{eq_of, ne_of, split}
 use Rattle.rgo_holding.specs.declared.keys.Key.{Key}
 use Rattle.rgo_holding.specs.Changes.{IsUnnamed, KnowsNone}
@@ -77,7 +77,7 @@ module _ (region : Key → Option Region) where
   -- ---- frames
 
   -- the frames have tables of no greater height than there are frames
-  height_within : (f : Named) (fs : List Named) (es : List Environment) → NamesStand region (f ∷ fs) es → f.height ≤ length es
+  height_within : (f : Named) (fs : List Named) (es : List RegionEnvironment) → NamesStand region (f ∷ fs) es → f.height ≤ length es
   height_within f fs [] h = absurd (no_cons h)
     where
       no_cons : ◌≡◌ {A = List Named} (f ∷ fs) [] → ⊥
@@ -87,7 +87,7 @@ module _ (region : Key → Option Region) where
       (λ n. let below = height_within f fs es (subst (λ l. NamesStand region l es)
       (ap (λ b. if b then fs else f ∷ fs) n) h.1) in omega (arith, below))
 
-  above_none : (fs : List Named) (es : List Environment) (n : ℕ) → NamesStand region fs es → length es < n
+  above_none : (fs : List Named) (es : List RegionEnvironment) (n : ℕ) → NamesStand region fs es → length es < n
       → (keys_at fs n ≡ []) × (named_below fs n ≡ fs)
   above_none [] es n h l = (refl, refl)
   above_none (f ∷ fs) es n h l =
@@ -96,7 +96,7 @@ module _ (region : Key → Option Region) where
       (ap (λ b. if b then f.keys else []) other, ap (λ b. if b then fs else f ∷ fs) other)
 
   -- the newest frame's keys are changed, and so are its names
-  pub change_newest : (fs : List Named) (change : Keys → Keys) (e : Environment) (es : List Environment) (names : Bindings)
+  pub change_newest : (fs : List Named) (change : Keys → Keys) (e : RegionEnvironment) (es : List RegionEnvironment) (names : Bindings)
       → change [] ≡ [] → (StandFor region (keys_at fs (suc (length es))) e.names
       → StandFor region (change (keys_at fs (suc (length es)))) names)
       → NamesStand region fs (e ∷ es)
@@ -135,7 +135,7 @@ module _ (region : Key → Option Region) where
           )
 
   -- the newest frame has the same names by other keys
-  pub same_newest : (fs gs : List Named) (es : List Environment)
+  pub same_newest : (fs gs : List Named) (es : List RegionEnvironment)
       → ((k : ℕ) → key_in (keys_at gs (length es)) k ≡ key_in (keys_at fs (length es)) k)
       → named_below gs (length es) ≡ named_below fs (length es) → 0 < length es → NamesStand region fs es
       → NamesStand region gs es
@@ -146,7 +146,7 @@ module _ (region : Key → Option Region) where
   )
 
   -- a frame is entered
-  pub entered : (fs : List Named) (keys : Keys) (e : Environment) (es : List Environment) → StandFor region keys e.names
+  pub entered : (fs : List Named) (keys : Keys) (e : RegionEnvironment) (es : List RegionEnvironment) → StandFor region keys e.names
       → NamesStand region fs es → NamesStand region (with_named (suc (length es)) keys fs) (e ∷ es)
   entered fs [] e es s h =
       let none = above_none fs es (suc (length es)) h (omega arith) in (
@@ -172,18 +172,18 @@ module _ (region : Key → Option Region) where
       ap (λ b. cut kept (if b then fs else f ∷ fs)) t ∙ sym (ap (λ b. if b then cut kept fs else f ∷ fs) above))
       (λ x. ap (λ b. cut kept (if b then fs else f ∷ fs)) x)
 
-  cut_within : (fs : List Named) (es : List Environment) → NamesStand region fs es → cut (length es) fs ≡ fs
+  cut_within : (fs : List Named) (es : List RegionEnvironment) → NamesStand region fs es → cut (length es) fs ≡ fs
   cut_within [] es h = refl
   cut_within (f ∷ fs) es h =
       let l = height_within f fs es h in
       let within : nat_lt (length es) f.height ≡ false = grind arith in
       ap (λ b. if b then cut (length es) fs else f ∷ fs) within
 
-  longer : (above es : List Environment) → length es ≤ length (above ++ es)
+  longer : (above es : List RegionEnvironment) → length es ≤ length (above ++ es)
   longer [] es = omega arith
   longer (e ∷ above) es = let l = longer above es in omega (arith, l)
 
-  left_below : (fs : List Named) (above es : List Environment) → NamesStand region fs (above ++ es)
+  left_below : (fs : List Named) (above es : List RegionEnvironment) → NamesStand region fs (above ++ es)
       → NamesStand region (cut (length es) fs) es
   left_below fs [] es h = subst (λ l. NamesStand region l es) (sym (cut_within fs es h)) h
   left_below fs (e ∷ above) es h =
@@ -191,7 +191,7 @@ module _ (region : Key → Option Region) where
       subst (λ x. NamesStand region x es) (cut_below fs (length es) (suc (length (above ++ es))) (omega (arith, l)))
       (left_below (named_below fs (suc (length (above ++ es)))) above es h.1)
 
-  bare_above : (fs : List Named) (fresh es : List Environment) → AllByRecursion KnowsNone fresh → NamesStand region fs es
+  bare_above : (fs : List Named) (fresh es : List RegionEnvironment) → AllByRecursion KnowsNone fresh → NamesStand region fs es
       → NamesStand region fs (fresh ++ es)
   bare_above fs [] es bare h = h
   bare_above fs (e ∷ fresh) es bare h =
@@ -201,7 +201,7 @@ module _ (region : Key → Option Region) where
         subst (λ l. NamesStand region l (fresh ++ es)) (sym none.1) below,
       )
 
-  pub settled : (fs : List Named) (above fresh stayed : List Environment) → AllByRecursion KnowsNone fresh
+  pub settled : (fs : List Named) (above fresh stayed : List RegionEnvironment) → AllByRecursion KnowsNone fresh
       → NamesStand region fs (above ++ stayed) → NamesStand region (cut (length stayed) fs) (fresh ++ stayed)
   settled fs above fresh stayed bare h = bare_above (cut (length stayed) fs) fresh stayed bare (left_below fs above stayed h)
 
@@ -229,11 +229,11 @@ module _ (before after : Key → Option Region) (Keep : Region → Type 0)
           let u = stand_used before keys names k key h e in
           ap (option_map after) e ∙ ap Some (keep key u.0 u.1 (all k u.0 u.2)) ∙ ap (option_map Some) (sym u.2)
 
-  abbrev pub AllKept : List Environment → Type 0
-  AllKept es = AllByRecursion (λ (e : Environment). (k : ℕ) (r : Region) → bound e.names k ≡ Some r → Keep r) es
+  abbrev pub AllKept : List RegionEnvironment → Type 0
+  AllKept es = AllByRecursion (λ (e : RegionEnvironment). (k : ℕ) (r : Region) → bound e.names k ≡ Some r → Keep r) es
 
   -- the keys of regions that are kept are good after it
-  pub names_kept : (fs : List Named) (es : List Environment) → AllKept es → NamesStand before fs es → NamesStand after fs es
+  pub names_kept : (fs : List Named) (es : List RegionEnvironment) → AllKept es → NamesStand before fs es → NamesStand after fs es
   names_kept fs [] all h = h
   names_kept fs (e ∷ es) all h = (
     stand_kept (keys_at fs (suc (length es))) e.names all.0 h.0,
@@ -242,23 +242,23 @@ module _ (before after : Key → Option Region) (Keep : Region → Type 0)
 
 -- no key has changed
 pub names_same : (before after : Key → Option Region) → ((key : Key) → after key ≡ before key) → (fs : List Named)
-    (es : List Environment) → NamesStand before fs es → NamesStand after fs es
+    (es : List RegionEnvironment) → NamesStand before fs es → NamesStand after fs es
 names_same before after same fs es h =
     names_kept before after (λ r. Unit {0}) (λ key r e u. same key ∙ e) fs es (all es) h
   where
-    all : (es : List Environment)
-        → AllByRecursion (λ (e : Environment). (k : ℕ) (r : Region) → bound e.names k ≡ Some r → Unit {0}) es
+    all : (es : List RegionEnvironment)
+        → AllByRecursion (λ (e : RegionEnvironment). (k : ℕ) (r : Region) → bound e.names k ≡ Some r → Unit {0}) es
     all [] = tt
     all (e ∷ es) = (λ k r b. tt, all es)
 
 -- the keys of all regions but one are good
 pub names_but : (before after : Key → Option Region) (gone : Region)
     → ((key : Key) (r : Region) → before key ≡ Some r → r ≢ gone → after key ≡ Some r) → (fs : List Named)
-    (es : List Environment) → IsUnnamed gone es → NamesStand before fs es → NamesStand after fs es
+    (es : List RegionEnvironment) → IsUnnamed gone es → NamesStand before fs es → NamesStand after fs es
 names_but before after gone keep fs es unnamed h =
     names_kept before after (λ r. r ≢ gone) keep fs es (all es unnamed) h
   where
-    all : (es : List Environment) → IsUnnamed gone es
-        → AllByRecursion (λ (e : Environment). (k : ℕ) (r : Region) → bound e.names k ≡ Some r → r ≢ gone) es
+    all : (es : List RegionEnvironment) → IsUnnamed gone es
+        → AllByRecursion (λ (e : RegionEnvironment). (k : ℕ) (r : Region) → bound e.names k ≡ Some r → r ≢ gone) es
     all [] u = tt
     all (e ∷ es) u = (λ k r b same. u.0 k (b ∙ ap Some same), all es u.1)

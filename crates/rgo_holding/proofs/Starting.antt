@@ -20,11 +20,11 @@ use Rattle.rgo_holding.specs.declared.holding.Holding.{Holding}
 use Rattle.rgo_holding.specs.declared.keys.Key.{Key}
 use Rattle.rgo_holding.specs.Changes.{IsSpare}
 use Rattle.rgo_holding.specs.Entries.{new_entry}
-use Rattle.rgo_holding.specs.Holds.{Holds, Shows, entry_at, region_at}
+use Rattle.rgo_holding.specs.Holds.{IsHoldingOf, HoldingShows, entry_at, region_at}
 use Rattle.rgo_holding.specs.Known.{entry_of, entry_region, global_key, region_of}
 use Rattle.rgo_holding.specs.Learning.{AreGiven, IsGiven, Learned, ShowsFresh, SlotsKnown, StillOf, Tracks}
 use Rattle.rgo_holding.specs.Naming.{NamesFirst}
-use Rattle.rgo_holding.specs.Passing.{ArePassed, Begins, key_for}
+use Rattle.rgo_holding.specs.Passing.{AreRegionsPassed, ChildHoldingBegins, key_for}
 use Rattle.rgo_holding.specs.Tables.{Keys, NamesStand, key_in, newest_keys}
 use Rattle.rgo_holding.proofs.Calling.{given_stand, global_at, head_same, newest_stand, tail_same}
 use Rattle.rgo_holding.proofs.Changing.{region_entry}
@@ -181,8 +181,8 @@ learned_more slots stakes k l known after keys others given i key d push in_rang
 pub base_shows : (k : Holding) (key : Key) (e : Entry) (v : Vec Entry Global) (bases : Vec Key Global) (n : ℕ)
     → entry_at k key ≡ Some e → e.used ≡ true → v.items ≡ slice_set k.entries.items key.0 (record e { protections = n })
     → bases.items ≡ k.base.items ++ key ∷ [] → n ≡ e.protections + 1 → (slots : ℕ) (h : Holder) (fills : List Fill) (r : Region)
-    → Holds slots k h fills → region_at k key ≡ Some r
-    → Holds slots (record k { entries = v; base = bases }) (record h { base = r ∷ h.base }) fills
+    → IsHoldingOf slots k h fills → region_at k key ≡ Some r
+    → IsHoldingOf slots (record k { entries = v; base = bases }) (record h { base = r ∷ h.base }) fills
 base_shows k key e v bases n at used is push more slots h fills r shows region =
     let q = λ (s : ℕ). region_of k.slots s in
     let same = region_entry k key e r at region in
@@ -287,7 +287,7 @@ twice_known slots stakes k known tracks is keys given found all e found_is =
 -- ---- what is passed
 
 -- a region that a name stands for does not have the slot of Global
-name_apart : (k : Holding) (slots : ℕ) (h : Holder) (fills : List Fill) → Holds slots k h fills → (n p : ℕ)
+name_apart : (k : Holding) (slots : ℕ) (h : Holder) (fills : List Fill) → IsHoldingOf slots k h fills → (n p : ℕ)
     → bound (top_names h.environments) n ≡ Some (Numbered p) → p ≢ slots
 name_apart k slots h fills shows n p is = go (key_in (newest_keys k.frames) n)
     (newest_stand k slots h fills shows n ∙ ap (option_map Some) is)
@@ -299,8 +299,8 @@ name_apart k slots h fills shows n p is = go (key_in (newest_keys k.frames) n)
         let slot = numbered_slot k.slots there.0.slot p there.2 in
         λ x. slot.1 (slot.0 ∙ x ∙ sym shows.slots_are)
 
-pub given_fit : (k : Holding) (slots : ℕ) (h : Holder) (fills : List Fill) → Holds slots k h fills → (passes : List Class)
-    → ArePassed h.pending (passed_regions (top_names h.environments) passes)
+pub given_fit : (k : Holding) (slots : ℕ) (h : Holder) (fills : List Fill) → IsHoldingOf slots k h fills → (passes : List Class)
+    → AreRegionsPassed h.pending (passed_regions (top_names h.environments) passes)
     → AreGiven slots h.pending (passed_regions (top_names h.environments) passes)
 given_fit k slots h fills shows [] all = tt
 given_fit k slots h fills shows (NoClass ∷ passes) all = (tt, given_fit k slots h fills shows passes all)
@@ -312,8 +312,8 @@ given_fit k slots h fills shows (Name n ∷ passes) all =
     rest = passed_regions (top_names h.environments) passes
 
     go : (o : Option Region) → bound (top_names h.environments) n ≡ o
-        → ArePassed h.pending (o ∷ passed_regions (top_names h.environments) passes)
-        → (ArePassed h.pending (passed_regions (top_names h.environments) passes)
+        → AreRegionsPassed h.pending (o ∷ passed_regions (top_names h.environments) passes)
+        → (AreRegionsPassed h.pending (passed_regions (top_names h.environments) passes)
         → AreGiven slots h.pending (passed_regions (top_names h.environments) passes))
         → IsGiven slots h.pending (bound (top_names h.environments) n)
         × AreGiven slots h.pending (passed_regions (top_names h.environments) passes)
@@ -328,16 +328,16 @@ pub child_shows : (k : Holding) (f : Frames) (slots : ℕ) (pending : List ℕ) 
     (base : List Region) (keys : List (Option Key)) (names : Keys) → ShowsFresh slots k base pending → base ≡ twice given
     → map (option_map (region_at k)) keys ≡ map (option_map Some) given
     → ((n : ℕ) → key_in names n ≡ key_for formals keys n) → k.frames.tables.items ≡ [] → NamesFirst k.frames f names
-    → Begins slots (record k { frames = f }) pending formals given
+    → ChildHoldingBegins slots (record k { frames = f }) pending formals given
 child_shows k f slots pending formals given base keys names fresh is keys_are passed_are none first result =
-    subst (λ b. Shows slots (record k { frames = f }) (environment_of result (passed formals given) ∷ []) b [] pending []) is
+    subst (λ b. HoldingShows slots (record k { frames = f }) (environment_of result (passed formals given) ∷ []) b [] pending []) is
     (moved k f slots (environment_of result [] ∷ []) (environment_of result (passed formals given) ∷ []) base [] pending []
     shows (first.depth ∙ shows.depth) (first.ordered none)
     (subst (λ l. NamesStand (region_at k) l (environment_of result (passed formals given) ∷ [])) (sym (first.named none))
     (λ n. ap (option_map (region_at k)) (passed_are n) ∙ given_stand (region_at k) formals keys given keys_are n, refl))
     (λ r. refl))
   where
-    shows : Shows slots k (environment_of result [] ∷ []) base [] pending []
+    shows : HoldingShows slots k (environment_of result [] ∷ []) base [] pending []
     shows = fresh (environment_of result []) refl refl
 
 -- ---- steps of the loops
@@ -366,13 +366,13 @@ regions_more names passes i d regions others r push l old new =
 pub bases_more : (slots : ℕ) (stakes : List ℕ) (k l : Holding) (known : ℕ → Option Key) (found : List ℕ) (i d : ℕ) (key : Key)
     → i < length found → Tracks k known → ShowsFresh slots k (map Numbered (reverse (take i found))) stakes
     → SlotsKnown slots known found → known (get_or found i d) ≡ Some key
-    → ((slots : ℕ) (h : Holder) (fills : List Fill) (r : Region) → Holds slots k h fills → region_at k key ≡ Some r
-    → Holds slots l (record h { base = r ∷ h.base }) fills)
+    → ((slots : ℕ) (h : Holder) (fills : List Fill) (r : Region) → IsHoldingOf slots k h fills → region_at k key ≡ Some r
+    → IsHoldingOf slots l (record h { base = r ∷ h.base }) fills)
     → ShowsFresh slots l (map Numbered (reverse (take (i + 1) found))) stakes
 bases_more slots stakes k l known found i d key within tracks shows apart at adds e names protections =
     let h = shows e names protections in
     let other = slot_apart found i d within apart in
-    subst (λ b. Shows slots l (e ∷ []) b [] stakes [])
+    subst (λ b. HoldingShows slots l (e ∷ []) b [] stakes [])
     (sym (ap (λ ps. map Numbered (reverse ps)) (take_more found i d within)
     ∙ ap (map Numbered) (reverse-append (take i found) (get_or found i d ∷ []))))
     (adds slots (record {

@@ -1,24 +1,23 @@
 -- What calls do to a goroutine's holder and own pages, and what they ask of them.
 use Rattle.std.specs.List.{AllByRecursion, list_any}
 use Rattle.std.specs.Prelude.{◌≡◌, ◌≢◌, ◌<◌, ◌++◌, ℕ, true, false, List, [], ◌∷◌, Option, Some, None, length, nat_eq, slice_get}
-use Rattle.rgo_core_memory.specs.Records.{Fill}
+use Rattle.rgo_core_memory.specs.Records.{Fill, page_of}
 use Rattle.rgo_sound.specs.RegionMachine.Duties.{guards, with_protection}
 use Rattle.rgo_sound.specs.RegionMachine.Regions.{Bindings, bound, same_region, unbind, without}
-use Rattle.rgo_sound.specs.RegionMachine.States.{Environment, Holder, top_names, with_top}
+use Rattle.rgo_sound.specs.RegionMachine.States.{RegionEnvironment, Holder, top_names, with_top}
 use Rattle.rgo_sound.specs.RegionMachine.declared.regions.Region.{Region}
 use Rattle.rgo_sound.specs.RegionMachine.declared.regions.Region.TheVariants.{Numbered}
 use Rattle.rgo_sound.specs.Stakes.{is_in}
 use Rattle.rgo_holding.specs.declared.entries.Entry.{Entry}
 use Rattle.rgo_holding.specs.declared.holding.Holding.{Holding}
 use Rattle.rgo_holding.specs.declared.keys.Key.{Key}
-use Rattle.rgo_holding.specs.Holds.{Holds, region_at}
-use Rattle.rgo_holding.specs.Known.{page_of}
+use Rattle.rgo_holding.specs.Holds.{IsHoldingOf, region_at}
 use Rattle.rgo_holding.specs.Tables.{newest_keys}
 
 -- ---- calls that change neither
 
 abbrev pub Keeps : Holding → Holding → Type 0
-Keeps k l = (slots : ℕ) (h : Holder) (fills : List Fill) → Holds slots k h fills → Holds slots l h fills
+Keeps k l = (slots : ℕ) (h : Holder) (fills : List Fill) → IsHoldingOf slots k h fills → IsHoldingOf slots l h fills
 
 -- each key is that of the same region, or of none
 abbrev pub SameRegions : Holding → Holding → Type 0
@@ -37,7 +36,7 @@ without_name h k = renamed h (λ names. unbind names k)
 abbrev pub protecting : Holder → Region → Holder
 protecting h r = record h { environments = with_protection h.environments r }
 
-abbrev pub top_protections : List Environment → List Region
+abbrev pub top_protections : List RegionEnvironment → List Region
 top_protections [] = []
 top_protections (e ∷ es) = e.protections
 
@@ -64,8 +63,8 @@ abbrev pub ending : Holder → (slot : ℕ) → Holder
 ending h p = record h { stakes = without p h.stakes }
 
 -- no environment binds a name to it
-abbrev pub IsUnnamed : Region → List Environment → Type 0
-IsUnnamed r es = AllByRecursion (λ (e : Environment). (k : ℕ) → bound e.names k ≢ Some r) es
+abbrev pub IsUnnamed : Region → List RegionEnvironment → Type 0
+IsUnnamed r es = AllByRecursion (λ (e : RegionEnvironment). (k : ℕ) → bound e.names k ≢ Some r) es
 
 -- it is neither named nor protected
 pub record IsUnknown (h : Holder) (slot : ℕ) : Type 0 where
@@ -82,7 +81,7 @@ abbrev pub IsSpare : List Entry → Key → Type 0
 IsSpare entries key = (e : Entry) × (slice_get entries key.0 ≡ Some e) × (e.used ≡ false)
 
 -- there is a key for it, and a place for its name
-pub record HasRoom (k : Holding) (name : ℕ) : Type 0 where
+pub record HoldingHasRoom (k : Holding) (name : ℕ) : Type 0 where
   pub key : Key
   pub next : k.next ≡ Some key
   pub spare : IsSpare k.entries.items key
@@ -91,33 +90,33 @@ pub record HasRoom (k : Holding) (name : ℕ) : Type 0 where
 -- ---- the base
 
 -- the first region that is protected since the start, and the holder without it
-abbrev pub EndsBase : Holding → Holding → Option Key → Type 0
-EndsBase k l None = (slots : ℕ) (h : Holder) (fills : List Fill) → Holds slots k h fills
-    → (h.base ≡ []) × Holds slots l h fills
-EndsBase k l (Some key) = (slots : ℕ) (h : Holder) (fills : List Fill) → Holds slots k h fills
+abbrev pub HoldingEndsBase : Holding → Holding → Option Key → Type 0
+HoldingEndsBase k l None = (slots : ℕ) (h : Holder) (fills : List Fill) → IsHoldingOf slots k h fills
+    → (h.base ≡ []) × IsHoldingOf slots l h fills
+HoldingEndsBase k l (Some key) = (slots : ℕ) (h : Holder) (fills : List Fill) → IsHoldingOf slots k h fills
     → (r : Region) × (rest : List Region) × (region_at k key ≡ Some r) × (h.base ≡ r ∷ rest)
-    × Holds slots l (record h { base = rest }) fills
+    × IsHoldingOf slots l (record h { base = rest }) fills
 
 abbrev pub FirstBase : Holding → Option Key → Type 0
-FirstBase k None = (slots : ℕ) (h : Holder) (fills : List Fill) → Holds slots k h fills → h.base ≡ []
-FirstBase k (Some key) = (slots : ℕ) (h : Holder) (fills : List Fill) → Holds slots k h fills
+FirstBase k None = (slots : ℕ) (h : Holder) (fills : List Fill) → IsHoldingOf slots k h fills → h.base ≡ []
+FirstBase k (Some key) = (slots : ℕ) (h : Holder) (fills : List Fill) → IsHoldingOf slots k h fills
     → (r : Region) × (rest : List Region) × (region_at k key ≡ Some r) × (h.base ≡ r ∷ rest)
 
 -- ---- after local steps in a row
 
 -- an environment of a frame that knows no region
-pub record KnowsNone (e : Environment) : Type 0 where
+pub record KnowsNone (e : RegionEnvironment) : Type 0 where
   pub names : e.names ≡ []
   pub protections : e.protections ≡ []
 
 -- The oldest `kept` environments are as they were. Those that were above them protected nothing; those above them now know no region.
-pub record Settles (kept depth : ℕ) (before after : List Environment) : Type 0 where
-  pub above : List Environment
-  pub fresh : List Environment
-  pub stayed : List Environment
+pub record EnvironmentsSettle (kept depth : ℕ) (before after : List RegionEnvironment) : Type 0 where
+  pub above : List RegionEnvironment
+  pub fresh : List RegionEnvironment
+  pub stayed : List RegionEnvironment
   pub before_is : before ≡ above ++ stayed
   pub after_is : after ≡ fresh ++ stayed
   pub kept_are : length stayed ≡ kept
   pub depth_is : length after ≡ depth
-  pub unguarded : AllByRecursion (λ (e : Environment). e.protections ≡ []) above
+  pub unguarded : AllByRecursion (λ (e : RegionEnvironment). e.protections ≡ []) above
   pub bare : AllByRecursion KnowsNone fresh

@@ -1,20 +1,20 @@
 -- Where the definitions hold and where they do not.
 use Rattle.std.specs.Option.{option_map}
 use Rattle.std.specs.Prelude.{◌≡◌, ℕ, false, List, [], ◌∷◌, Option, Some, None}
-use Rattle.rgo_core_memory.specs.Records.{Fill}
-use Rattle.rgo_sound.specs.RegionMachine.States.{Environment, Holder, NoOffer, environment_of}
+use Rattle.rgo_core_memory.specs.Records.{Fill, page_of}
+use Rattle.rgo_sound.specs.RegionMachine.States.{RegionEnvironment, Holder, NoOffer, environment_of}
 use Rattle.rgo_sound.specs.RegionMachine.declared.regions.Region.{Region}
 use Rattle.rgo_sound.specs.RegionMachine.declared.regions.Region.TheVariants.{Global as GlobalRegion, Numbered}
 use Rattle.rgo_sound.specs.Tac.declared.regions.Class.TheVariants.{NoClass, Name}
 use Rattle.rgo_holding.specs.declared.entries.Entry.{Entry}
 use Rattle.rgo_holding.specs.declared.holding.Holding.{Holding}
 use Rattle.rgo_holding.specs.declared.keys.Key.{Key}
-use Rattle.rgo_holding.specs.Changes.{IsProtectedLast, IsUnnamed, Settles}
+use Rattle.rgo_holding.specs.Changes.{IsProtectedLast, IsUnnamed, EnvironmentsSettle}
 use Rattle.rgo_holding.specs.Entries.{new_entry}
-use Rattle.rgo_holding.specs.Holds.{Shows}
-use Rattle.rgo_holding.specs.Known.{AreCounted, ArePending, AreStaked, HavePages, SlotsDiffer, entry_of, entry_region, global_key, page_of, protections_of, region_of, slot_of}
+use Rattle.rgo_holding.specs.Holds.{HoldingShows}
+use Rattle.rgo_holding.specs.Known.{AreCounted, AreStakesPending, AreKeysStaked, HavePages, KeySlotsDiffer, entry_of, entry_region, global_key, protections_of, region_of, slot_of}
 use Rattle.rgo_holding.specs.Naming.{changed_at, cleared, cut, with_named}
-use Rattle.rgo_holding.specs.Passing.{ArePassed, key_for}
+use Rattle.rgo_holding.specs.Passing.{AreRegionsPassed, key_for}
 use Rattle.rgo_holding.specs.Tables.{Named, NamesStand, StandFor, StartWithin, key_in, keys_at, named_in}
 
 -- ---- a table of four slots: Global is known, and a region in slot 2, of which it has a page and which it protects once
@@ -40,13 +40,13 @@ pages = record { slot = 2; page = 7; fill = 5 } ∷ []
 
 -- ---- frames: the first names the region in slot 2 by 1, and protects it; the second knows none
 
-abbrev pub naming : Environment
+abbrev pub naming : RegionEnvironment
 naming = record { lent = NoClass; names = (1, Numbered 2) ∷ []; protections = Numbered 2 ∷ [] }
 
-abbrev pub bare : Environment
+abbrev pub bare : RegionEnvironment
 bare = environment_of NoClass []
 
-abbrev pub holder_of : List Environment → Holder
+abbrev pub holder_of : List RegionEnvironment → Holder
 holder_of es = record { stakes = 2 ∷ []; pending = []; environments = es; base = []; fills = []; reserved = 0; duties = []; offer = NoOffer }
 
 abbrev pub frame : (height : ℕ) → Named
@@ -78,29 +78,29 @@ pub record HoldingExamples : Type 0 where
   pub wrong_height : NamesStand region (frame 2 ∷ []) (bare ∷ naming ∷ []) → ⊥
   pub too_many : NamesStand region (frame 1 ∷ []) [] → ⊥
   -- entries
-  pub differ : SlotsDiffer (entry_of entries) 4
-  pub same_slot : SlotsDiffer (entry_of doubled) 4 → ⊥
-  pub no_global : SlotsDiffer (entry_of entries) 5 → ⊥
+  pub differ : KeySlotsDiffer (entry_of entries) 4
+  pub same_slot : KeySlotsDiffer (entry_of doubled) 4 → ⊥
+  pub no_global : KeySlotsDiffer (entry_of entries) 5 → ⊥
   pub protections : protections_of (Numbered 2) (bare ∷ naming ∷ []) (Numbered 2 ∷ []) ≡ 2
   pub counted : AreCounted (entry_of entries) 4 (bare ∷ naming ∷ []) []
   pub one_more : AreCounted (entry_of entries) 4 (naming ∷ naming ∷ []) [] → ⊥
   pub own : HavePages (entry_of entries) pages
   pub own_none : HavePages (entry_of entries) [] → ⊥
   pub first_page : page_of 2 (record { slot = 3; page = 1; fill = 0 } ∷ pages) ≡ Some (record { slot = 2; page = 7; fill = 5 })
-  pub none_pending : ArePending (entry_of entries) 4 1 []
-  pub pending : ArePending (entry_of entries) 4 1 (2 ∷ []) → ⊥
-  pub staked : AreStaked (entry_of entries) 4 (2 ∷ [])
-  pub no_stake : AreStaked (entry_of entries) 4 (3 ∷ []) → ⊥
+  pub none_pending : AreStakesPending (entry_of entries) 4 1 []
+  pub pending : AreStakesPending (entry_of entries) 4 1 (2 ∷ []) → ⊥
+  pub staked : AreKeysStaked (entry_of entries) 4 (2 ∷ [])
+  pub no_stake : AreKeysStaked (entry_of entries) 4 (3 ∷ []) → ⊥
   -- it says how many frames there are
-  pub as_many : (k : Holding) → Shows 4 k (bare ∷ []) [] [] [] [] → Shows 4 k (bare ∷ bare ∷ []) [] [] [] [] → ⊥
+  pub as_many : (k : Holding) → HoldingShows 4 k (bare ∷ []) [] [] [] [] → HoldingShows 4 k (bare ∷ bare ∷ []) [] [] [] [] → ⊥
   -- changes
   pub last : IsProtectedLast (holder_of (naming ∷ bare ∷ [])) (Numbered 2)
   pub not_last : IsProtectedLast (holder_of (bare ∷ naming ∷ [])) (Numbered 2) → ⊥
   pub named : IsUnnamed (Numbered 2) (bare ∷ naming ∷ []) → ⊥
   pub unnamed : IsUnnamed (Numbered 3) (bare ∷ naming ∷ [])
-  pub settles : Settles 1 3 (bare ∷ naming ∷ []) (bare ∷ bare ∷ naming ∷ [])
-  pub guarded_above : Settles 0 1 (naming ∷ []) (bare ∷ []) → ⊥
-  pub fewer : Settles 1 2 (bare ∷ naming ∷ []) (naming ∷ []) → ⊥
+  pub settles : EnvironmentsSettle 1 3 (bare ∷ naming ∷ []) (bare ∷ bare ∷ naming ∷ [])
+  pub guarded_above : EnvironmentsSettle 0 1 (naming ∷ []) (bare ∷ []) → ⊥
+  pub fewer : EnvironmentsSettle 1 2 (bare ∷ naming ∷ []) (naming ∷ []) → ⊥
   pub cuts : cut 1 (frame 3 ∷ frame 2 ∷ frame 1 ∷ []) ≡ frame 1 ∷ []
   pub clears : changed_at 2 (λ keys. cleared keys (1 ∷ [])) (frame 2 ∷ []) ≡ record { height = 2; keys = None ∷ None ∷ [] } ∷ []
   pub clears_below : changed_at 3 (λ keys. cleared keys (1 ∷ [])) (frame 2 ∷ []) ≡ frame 2 ∷ []
@@ -108,5 +108,5 @@ pub record HoldingExamples : Type 0 where
   -- what is passed
   pub passes : key_for (NoClass ∷ Name 5 ∷ Name 5 ∷ []) (Some third ∷ Some second ∷ Some global_key ∷ []) 5 ≡ Some second
   pub passes_none : key_for (Name 5 ∷ []) (None ∷ []) 5 ≡ None
-  pub shared : ArePassed (2 ∷ []) (Some (Numbered 2) ∷ Some GlobalRegion ∷ None ∷ [])
-  pub not_shared : ArePassed (3 ∷ []) (Some (Numbered 2) ∷ []) → ⊥
+  pub shared : AreRegionsPassed (2 ∷ []) (Some (Numbered 2) ∷ Some GlobalRegion ∷ None ∷ [])
+  pub not_shared : AreRegionsPassed (3 ∷ []) (Some (Numbered 2) ∷ []) → ⊥

@@ -3,12 +3,12 @@
 use Rattle.std.specs.Option.{option_map}
 use Rattle.std.specs.Prelude.{◌≡◌, ℕ, List, Option, Some, length, map, reverse}
 use Rattle.rgo_core_memory.specs.Records.{Fill}
-use Rattle.rgo_sound.specs.RegionMachine.States.{Environment, Holder}
+use Rattle.rgo_sound.specs.RegionMachine.States.{RegionEnvironment, Holder}
 use Rattle.rgo_sound.specs.RegionMachine.declared.regions.Region.{Region}
 use Rattle.rgo_holding.specs.declared.entries.Entry.{Entry}
 use Rattle.rgo_holding.specs.declared.holding.Holding.{Holding}
 use Rattle.rgo_holding.specs.declared.keys.Key.{Key}
-use Rattle.rgo_holding.specs.Known.{AreCounted, ArePending, AreStaked, HavePages, SlotsDiffer, entry_of, entry_region}
+use Rattle.rgo_holding.specs.Known.{AreCounted, AreStakesPending, AreKeysStaked, HavePages, KeySlotsDiffer, entry_of, entry_region}
 use Rattle.rgo_holding.specs.Tables.{IsOrdered, NamesStand, named}
 
 abbrev pub entry_at : Holding → Key → Option Entry
@@ -18,8 +18,8 @@ entry_at k key = entry_of k.entries.items key
 abbrev pub region_at : Holding → Key → Option Region
 region_at k key = option_map (entry_region k.slots) (entry_at k key)
 
-pub record Shows
-    (slots : ℕ) (k : Holding) (es : List Environment) (base : List Region) (pending stakes : List ℕ) (fills : List Fill)
+pub record HoldingShows
+    (slots : ℕ) (k : Holding) (es : List RegionEnvironment) (base : List Region) (pending stakes : List ℕ) (fills : List Fill)
     : Type 0 where
   pub slots_are : k.slots ≡ slots
   pub depth : k.frames.depth ≡ length es
@@ -27,12 +27,12 @@ pub record Shows
   pub names : NamesStand (region_at k) (named k.frames) es
   -- the first one is the last in the list
   pub base_is : map (region_at k) (reverse k.base.items) ≡ map Some base
-  pub differ : SlotsDiffer (entry_at k) k.slots
+  pub differ : KeySlotsDiffer (entry_at k) k.slots
   pub counted : AreCounted (entry_at k) k.slots es base
   pub pages : HavePages (entry_at k) fills
-  pub pending_are : ArePending (entry_at k) k.slots k.round pending
-  pub staked : AreStaked (entry_at k) k.slots stakes
+  pub pending_are : AreStakesPending (entry_at k) k.slots k.round pending
+  pub staked : AreKeysStaked (entry_at k) k.slots stakes
 
 -- The goroutine has this holder and these own pages. `slots` is the slot of Global.
-abbrev pub Holds : (slots : ℕ) → Holding → Holder → List Fill → Type 0
-Holds slots k h fills = Shows slots k h.environments h.base h.pending h.stakes fills
+abbrev pub IsHoldingOf : (slots : ℕ) → Holding → Holder → List Fill → Type 0
+IsHoldingOf slots k h fills = HoldingShows slots k h.environments h.base h.pending h.stakes fills

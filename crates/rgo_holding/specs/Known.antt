@@ -2,8 +2,8 @@
 use Rattle.std.specs.List.{list_any}
 use Rattle.std.specs.Option.{option_map}
 use Rattle.std.specs.Prelude.{◌≡◌, ◌≢◌, ◌<◌, ◌≤◌, ◌+◌, ℕ, true, List, [], ◌∷◌, Option, Some, None, if◌then◌else◌, nat_eq, slice_get}
-use Rattle.rgo_core_memory.specs.Records.{Fill}
-use Rattle.rgo_sound.specs.RegionMachine.States.{Environment}
+use Rattle.rgo_core_memory.specs.Records.{Fill, page_of}
+use Rattle.rgo_sound.specs.RegionMachine.States.{RegionEnvironment}
 use Rattle.rgo_sound.specs.RegionMachine.declared.regions.Region.{Region}
 use Rattle.rgo_sound.specs.RegionMachine.declared.regions.Region.TheVariants.{Global as GlobalRegion, Numbered}
 use Rattle.rgo_sound.specs.Invariant.{times}
@@ -28,7 +28,7 @@ global_key = record { 0 = 0 }
 
 -- ---- slots
 
--- Global has the slot behind those of the others
+-- Global has the slot after those of the others
 abbrev pub region_of : (slots slot : ℕ) → Region
 region_of slots s = if nat_eq s slots then GlobalRegion else Numbered s
 
@@ -42,30 +42,25 @@ entry_region slots e = region_of slots e.slot
 -- ---- what the machine counts
 
 -- the protections that it has in all frames and since the start
-abbrev pub protections_of : Region → List Environment → List Region → ℕ
+abbrev pub protections_of : Region → List RegionEnvironment → List Region → ℕ
 protections_of r [] base = times r base
 protections_of r (e ∷ es) base = times r e.protections + protections_of r es base
-
--- the first own page of a slot
-abbrev pub page_of : (slot : ℕ) → List Fill → Option Fill
-page_of s [] = None
-page_of s (f ∷ fs) = if nat_eq s f.slot then Some f else page_of s fs
 
 abbrev pub own_page : (slot : ℕ) → Page → Fill
 own_page s p = record { slot = s; page = p.page; fill = p.fill }
 
--- ---- entries tell what the machine knows
+-- ---- entries have what the machine knows
 
 module _ (entry : Key → Option Entry) where
   abbrev pub slot_in : Key → Option ℕ
   slot_in key = option_map (λ (e : Entry). e.slot) (entry key)
 
   -- no two keys have one slot, and Global has its own key
-  pub record SlotsDiffer (slots : ℕ) : Type 0 where
+  pub record KeySlotsDiffer (slots : ℕ) : Type 0 where
     pub unique : (a b : Key) (s : ℕ) → slot_in a ≡ Some s → slot_in b ≡ Some s → a ≡ b
     pub global : slot_in global_key ≡ Some slots
 
-  abbrev pub AreCounted : (slots : ℕ) → List Environment → (base : List Region) → Type 0
+  abbrev pub AreCounted : (slots : ℕ) → List RegionEnvironment → (base : List Region) → Type 0
   AreCounted slots es base =
       (a : Key) (e : Entry) → entry a ≡ Some e → e.protections ≡ protections_of (region_of slots e.slot) es base
 
@@ -73,12 +68,12 @@ module _ (entry : Key → Option Entry) where
   HavePages fills = (a : Key) (e : Entry) → entry a ≡ Some e → option_map (own_page e.slot) e.page ≡ page_of e.slot fills
 
   -- A stake is pending if it was taken in this round. A round ends when a goroutine is started.
-  pub record ArePending (slots round : ℕ) (pending : List ℕ) : Type 0 where
+  pub record AreStakesPending (slots round : ℕ) (pending : List ℕ) : Type 0 where
     pub shared : (a : Key) (e : Entry) → entry a ≡ Some e → e.slot ≢ slots
         → nat_eq e.shared round ≡ list_any (nat_eq e.slot) pending
     pub rounds : (a : Key) (e : Entry) → entry a ≡ Some e → e.shared ≤ round
     pub positive : 0 < round
 
-  abbrev pub AreStaked : (slots : ℕ) → (stakes : List ℕ) → Type 0
-  AreStaked slots stakes =
+  abbrev pub AreKeysStaked : (slots : ℕ) → (stakes : List ℕ) → Type 0
+  AreKeysStaked slots stakes =
       (a : Key) (e : Entry) → entry a ≡ Some e → e.slot ≢ slots → is_in e.slot stakes ≡ true

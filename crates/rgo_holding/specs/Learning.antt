@@ -2,14 +2,14 @@
 use Rattle.std.specs.List.{AllByRecursion}
 use Rattle.std.specs.Option.{option_map}
 use Rattle.std.specs.Prelude.{◌≡◌, ◌≢◌, ◌⊎◌, ℕ, true, List, [], ◌∷◌, Option, Some, None, map}
-use Rattle.rgo_sound.specs.RegionMachine.States.{Environment}
+use Rattle.rgo_sound.specs.RegionMachine.States.{RegionEnvironment}
 use Rattle.rgo_sound.specs.RegionMachine.declared.regions.Region.{Region}
 use Rattle.rgo_sound.specs.RegionMachine.declared.regions.Region.TheVariants.{Global as GlobalRegion, Numbered}
 use Rattle.rgo_sound.specs.Stakes.{is_in}
 use Rattle.rgo_holding.specs.declared.entries.Entry.{Entry}
 use Rattle.rgo_holding.specs.declared.holding.Holding.{Holding}
 use Rattle.rgo_holding.specs.declared.keys.Key.{Key}
-use Rattle.rgo_holding.specs.Holds.{Shows, entry_at, region_at}
+use Rattle.rgo_holding.specs.Holds.{HoldingShows, entry_at, region_at}
 use Rattle.rgo_holding.specs.Known.{slot_in}
 
 -- `known` has the keys of all its regions but Global, by their slots
@@ -27,7 +27,7 @@ SlotsKnown slots known ps = AllByRecursion (λ p. (p ≢ slots) × (known p ≢ 
 
 -- before it has run, a goroutine has one frame without names
 abbrev pub ShowsFresh : (slots : ℕ) → Holding → (base : List Region) → (stakes : List ℕ) → Type 0
-ShowsFresh slots k base stakes = (e : Environment) → e.names ≡ [] → e.protections ≡ [] → Shows slots k (e ∷ []) base [] stakes []
+ShowsFresh slots k base stakes = (e : RegionEnvironment) → e.names ≡ [] → e.protections ≡ [] → HoldingShows slots k (e ∷ []) base [] stakes []
 
 -- the goroutine may be given this: it has a stake in it, or it is Global or nothing
 abbrev pub IsGiven : (slots : ℕ) → (stakes : List ℕ) → Option Region → Type 0

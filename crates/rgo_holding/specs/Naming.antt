@@ -30,7 +30,7 @@ abbrev pub changed_at : (height : ℕ) → (Keys → Keys) → List Named → Li
 changed_at n change [] = []
 changed_at n change (f ∷ fs) = (if nat_eq f.height n then record f { keys = change f.keys } else f) ∷ fs
 
--- there is memory for a frame with so many names
+-- there is memory for a frame with this many names
 pub record HasFrameRoom (f : Frames) (names : ℕ) : Type 0 where
   pub table : vec_len f.tables < vec_capacity f.tables
   pub keys : vec_len f.keys + names ≤ vec_capacity f.keys
@@ -72,13 +72,13 @@ abbrev pub with_named : ℕ → Keys → List Named → List Named
 with_named height [] fs = fs
 with_named height (key ∷ keys) fs = record { height = height; keys = key ∷ keys } ∷ fs
 
-pub record Enters (f g : Frames) (keys : Keys) : Type 0 where
+pub record NamedFrameEnters (f g : Frames) (keys : Keys) : Type 0 where
   pub named : named g ≡ with_named (f.depth + 1) keys (named f)
   pub depth : g.depth ≡ f.depth + 1
   pub ordered : IsOrdered f → IsOrdered g
 
 -- the newest frame goes
-pub record ComesBack (f g : Frames) : Type 0 where
+pub record NamedFrameReturns (f g : Frames) : Type 0 where
   pub named : IsOrdered f → named g ≡ named_below (named f) f.depth
   pub depth : g.depth ≡ f.depth - 1
   pub ordered : IsOrdered f → IsOrdered g

@@ -11,7 +11,7 @@ use Rattle.rgo_sound.specs.Tac.declared.regions.Class.TheVariants.{NoClass, Glob
 use Rattle.rgo_holding.specs.declared.holding.Holding.{Holding}
 use Rattle.rgo_holding.specs.declared.keys.Key.{Key}
 use Rattle.rgo_holding.specs.Known.{global_key}
-use Rattle.rgo_holding.specs.Holds.{Shows}
+use Rattle.rgo_holding.specs.Holds.{HoldingShows}
 use Rattle.rgo_holding.specs.Naming.{HasFrameRoom}
 use Rattle.rgo_holding.specs.Tables.{Keys, key_in, newest_keys}
 
@@ -64,13 +64,13 @@ pub record IsPrepared (k : Holding) (formals passes : List Class) : Type 0 where
 -- ---- a start
 
 -- each of these regions is Global or pending
-abbrev pub ArePassed : (pending : List ℕ) → List (Option Region) → Type 0
-ArePassed pending [] = Unit {0}
-ArePassed pending (None ∷ given) = ArePassed pending given
-ArePassed pending (Some GlobalRegion ∷ given) = ArePassed pending given
-ArePassed pending (Some (Numbered p) ∷ given) = (is_in p pending ≡ true) × ArePassed pending given
+abbrev pub AreRegionsPassed : (pending : List ℕ) → List (Option Region) → Type 0
+AreRegionsPassed pending [] = Unit {0}
+AreRegionsPassed pending (None ∷ given) = AreRegionsPassed pending given
+AreRegionsPassed pending (Some GlobalRegion ∷ given) = AreRegionsPassed pending given
+AreRegionsPassed pending (Some (Numbered p) ∷ given) = (is_in p pending ≡ true) × AreRegionsPassed pending given
 
 -- the goroutine that a start with these regions makes: the pending stakes are its own
-abbrev pub Begins : (slots : ℕ) → Holding → (pending : List ℕ) → (formals : List Class) → List (Option Region) → Type 0
-Begins slots k pending formals given =
-    (result : Class) → Shows slots k (environment_of result (passed formals given) ∷ []) (twice given) [] pending []
+abbrev pub ChildHoldingBegins : (slots : ℕ) → Holding → (pending : List ℕ) → (formals : List Class) → List (Option Region) → Type 0
+ChildHoldingBegins slots k pending formals given =
+    (result : Class) → HoldingShows slots k (environment_of result (passed formals given) ∷ []) (twice given) [] pending []

@@ -1,8 +1,8 @@
--- What the names of a goroutine's frames stand for, in tables that are kept only for frames that have bound a name.
+-- Which regions the names of a goroutine's frames are bound to, in tables that are kept only for frames that have bound a name.
 use Rattle.std.specs.Option.{option_map}
 use Rattle.std.specs.Prelude.{◌≡◌, ◌≤◌, ℕ, suc, List, [], ◌∷◌, Option, Some, None, drop, if◌then◌else◌, length, nat_eq, reverse, slice_get, take}
 use Rattle.rgo_sound.specs.RegionMachine.Regions.{Bindings, bound}
-use Rattle.rgo_sound.specs.RegionMachine.States.{Environment}
+use Rattle.rgo_sound.specs.RegionMachine.States.{RegionEnvironment}
 use Rattle.rgo_sound.specs.RegionMachine.declared.regions.Region.{Region}
 use Rattle.rgo_holding.specs.declared.frames.Frames.{Frames}
 use Rattle.rgo_holding.specs.declared.frames.Table.{Table}
@@ -58,13 +58,13 @@ named_below (f ∷ fs) n = if nat_eq f.height n then fs else f ∷ fs
 abbrev pub newest_keys : Frames → Keys
 newest_keys f = keys_at (named f) f.depth
 
--- ---- what they stand for; `region` has the region of each key that is in use
+-- ---- what they are bound to; `region` has the region of each key that is in use
 
 abbrev pub StandFor : (region : Key → Option Region) → Keys → Bindings → Type 0
 StandFor region keys names = (k : ℕ) → option_map region (key_in keys k) ≡ option_map Some (bound names k)
 
--- each frame's keys stand for what its environment binds
-abbrev pub NamesStand : (region : Key → Option Region) → List Named → List Environment → Type 0
+-- each frame's keys are those of the regions that its environment binds
+abbrev pub NamesStand : (region : Key → Option Region) → List Named → List RegionEnvironment → Type 0
 NamesStand region fs [] = fs ≡ []
 NamesStand region fs (e ∷ es) =
     StandFor region (keys_at fs (suc (length es))) e.names × NamesStand region (named_below fs (suc (length es))) es

@@ -1,4 +1,5 @@
-//! Calls, as far as regions go.
+//! Calls: which regions the names of a callee are bound to, and which names the caller gives up. What a call needs is computed and
+//! memory for it taken by `prepare_call`, before anything changes; `enter` then cannot fail.
 
 ghost use Rattle.std.specs.List.Sorted.{IsStrictlyIncreasing};
 ghost use Rattle.std.specs.Prelude.{◌≡◌, ℕ, [], List, OnOk, map};
@@ -6,7 +7,7 @@ ghost use Rattle.rgo_core_memory.specs.Records.{Fill};
 ghost use Rattle.rgo_sound.specs.RegionMachine.Owed as owed;
 ghost use Rattle.rgo_sound.specs.RegionMachine.States.{Holder};
 ghost use Rattle.rgo_holding.specs.Changes.{Keeps, SameRegions};
-ghost use Rattle.rgo_holding.specs.Holds.{Holds};
+ghost use Rattle.rgo_holding.specs.Holds.{IsHoldingOf};
 ghost use Rattle.rgo_holding.specs.Passing as spec;
 ghost use Rattle.rgo_holding.specs.Naming.{Changed, KeepsRoom, cleared};
 ghost use Rattle.rgo_holding.specs.Tables.{IsOrdered, key_in};
@@ -28,7 +29,7 @@ fn class_key(keys: &[Option<Key>], class: Class) -> Option<Key>
     }
 }
 
-/// A name has this key.
+/// Binds a name to this key.
 ///
 /// # Errors
 ///
@@ -44,7 +45,7 @@ fn bind(keys: &mut Vec<Option<Key>>, name: u32, key: Key) -> Result<(), AllocErr
     Ok(())
 }
 
-/// A name has the key that is passed for it, if one is. The first of two equal names counts.
+/// Binds a name to the key that is passed for it, if one is. The first of two equal names counts.
 ///
 /// # Errors
 ///
@@ -80,7 +81,7 @@ pub(crate) fn passed_keys(
     Ok(())
 }
 
-/// The names of a called function have the keys that are passed for them.
+/// Binds the names of a called function to the keys that are passed for them.
 ///
 /// # Errors
 ///
@@ -102,7 +103,7 @@ pub(crate) fn pass(
     Ok(())
 }
 
-/// Whether two classes are one; the class of what has none is no class.
+/// Whether two classes are the same; `NoClass` is not the same as anything.
 fn same_class(a: Class, b: Class) -> bool
     ensures { result ≡ owed.same_class a b }
 {
@@ -169,8 +170,8 @@ impl Holding {
     pub fn enter(&mut self, formals: &[Class], passes: &[Class], protects: &[u32], lent: Class)
         requires prepared { spec.IsPrepared self.old formals.now passes.now }
         requires rises { IsStrictlyIncreasing protects.now }
-        ensures calls { (slots : ℕ) (h : Holder) (fills : List Fill) → Holds slots self.old h fills
-            → Holds slots self.new (spec.calling h lent formals.now passes.now protects.now) fills }
+        ensures calls { (slots : ℕ) (h : Holder) (fills : List Fill) → IsHoldingOf slots self.old h fills
+            → IsHoldingOf slots self.new (spec.calling h lent formals.now passes.now protects.now) fills }
         ensures regions { SameRegions self.old self.new }
     {
         leave_given(&mut self.frames, lent, formals, passes, protects);

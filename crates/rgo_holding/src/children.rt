@@ -1,4 +1,5 @@
-//! Goroutines that are started, as far as regions go.
+//! What a goroutine that is started has of regions. It is made from the holding of its parent, before the start shows at the table,
+//! and shares nothing with it.
 
 ghost use Rattle.std.specs.HashMap.{get};
 ghost use Rattle.std.specs.Option.{option_map};
@@ -12,9 +13,9 @@ ghost use Rattle.rgo_sound.specs.RegionMachine.declared.regions.Region.TheVarian
 ghost use Rattle.rgo_sound.specs.Stakes.{is_in};
 ghost use Rattle.rgo_holding.specs.Changes.{SameRegions};
 ghost use Rattle.rgo_holding.specs.Entries.{Key as KeyRecord};
-ghost use Rattle.rgo_holding.specs.Holds.{Holds, region_at};
+ghost use Rattle.rgo_holding.specs.Holds.{IsHoldingOf, region_at};
 ghost use Rattle.rgo_holding.specs.Learning as spec;
-ghost use Rattle.rgo_holding.specs.Passing.{ArePassed, Begins};
+ghost use Rattle.rgo_holding.specs.Passing.{AreRegionsPassed, ChildHoldingBegins};
 
 use crate::calls::pass;
 use crate::entries::{entry_of, new_entry, put, spare_key};
@@ -39,7 +40,8 @@ fn key_of(known: &Known, slot: usize) -> Option<Key>
     }
 }
 
-/// The regions that are given at two positions, each once, the last first.
+/// The regions that are given at two positions, each once, the last first. A goroutine protects these from its start to its end,
+/// since each of two names would otherwise end its one stake.
 ///
 /// # Errors
 ///
@@ -79,7 +81,7 @@ fn twice(alloc: Global, regions: &[Option<Region>]) -> Result<Vec<usize>, AllocE
 impl Holding {
     /// The region of a class of the newest frame.
     fn region_of(&self, class: Class) -> Option<Region>
-        ensures { (slots : ℕ) (h : Holder) (fills : List Fill) → Holds slots self.now h fills
+        ensures { (slots : ℕ) (h : Holder) (fills : List Fill) → IsHoldingOf slots self.now h fills
             → result ≡ class_region (top_names h.environments) class }
     {
         match self.key_of(class) {
@@ -98,7 +100,7 @@ impl Holding {
         alloc: Global,
         passes: &[Class],
     ) -> Result<Vec<Option<Region>>, AllocError>
-        ensures { IfOk result (λ v. (slots : ℕ) (h : Holder) (fills : List Fill) → Holds slots self.now h fills
+        ensures { IfOk result (λ v. (slots : ℕ) (h : Holder) (fills : List Fill) → IsHoldingOf slots self.now h fills
             → v.items ≡ owed.passed_regions (top_names h.environments) passes.now) }
     {
         let mut regions = Vec::new(alloc);
@@ -193,10 +195,10 @@ impl Holding {
     ///
     /// # Errors
     ///
-    /// On allocation failure, and where protections of the region run out.
+    /// On allocation failure, or if the count of protections of the region would overflow.
     fn add_base(&mut self, key: Key) -> Result<(), AllocError>
-        ensures adds { OnOk result ((slots : ℕ) (h : Holder) (fills : List Fill) (r : RegionRecord) → Holds slots self.old h fills
-            → region_at self.old key ≡ Some r → Holds slots self.new (record h { base = r ∷ h.base }) fills) }
+        ensures adds { OnOk result ((slots : ℕ) (h : Holder) (fills : List Fill) (r : RegionRecord) → IsHoldingOf slots self.old h fills
+            → region_at self.old key ≡ Some r → IsHoldingOf slots self.new (record h { base = r ∷ h.base }) fills) }
         ensures tracks { OnOk result ((known : ℕ → Option KeyRecord) → spec.Tracks self.old known → spec.Tracks self.new known) }
         ensures regions { OnOk result (SameRegions self.old self.new) }
         ensures kept { (self.new.slots ≡ self.old.slots) × (self.new.frames ≡ self.old.frames) }
@@ -226,6 +228,7 @@ impl Holding {
         ensures kept { (self.new.slots ≡ self.old.slots) × (self.new.frames ≡ self.old.frames) }
     {
         for slot in found {
+            // Never taken: each region that is given was learned before.
             let Some(key) = key_of(known, *slot) else {
                 continue;
             };
@@ -245,9 +248,9 @@ impl Holding {
         formals: &[Class],
         passes: &[Class],
     ) -> Result<Holding, AllocError>
-        ensures { IfOk result (λ k. (slots : ℕ) (h : Holder) (fills : List Fill) → Holds slots self.now h fills
-            → ArePassed h.pending (owed.passed_regions (top_names h.environments) passes.now)
-            → Begins slots k h.pending formals.now (owed.passed_regions (top_names h.environments) passes.now)) }
+        ensures { IfOk result (λ k. (slots : ℕ) (h : Holder) (fills : List Fill) → IsHoldingOf slots self.now h fills
+            → AreRegionsPassed h.pending (owed.passed_regions (top_names h.environments) passes.now)
+            → ChildHoldingBegins slots k h.pending formals.now (owed.passed_regions (top_names h.environments) passes.now)) }
     {
         let given = self.passed_regions(alloc, passes)?;
         let found = twice(alloc, &given)?;

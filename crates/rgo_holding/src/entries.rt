@@ -89,7 +89,7 @@ fn is_spare(entries: &[Entry], key: Key) -> bool
 ///
 /// # Errors
 ///
-/// On allocation failure, and where keys run out.
+/// On allocation failure, or if keys run out.
 fn add_spare(entries: &mut Vec<Entry>) -> Result<Key, AllocError>
     ensures same { (key : spec.Key) → entry_is entries.new.items key ≡ entry_is entries.old.items key }
     ensures spare { IfOk result (IsSpare entries.new.items) }
@@ -105,7 +105,7 @@ fn add_spare(entries: &mut Vec<Entry>) -> Result<Key, AllocError>
 ///
 /// # Errors
 ///
-/// On allocation failure, and where keys run out. Then no entry has changed.
+/// On allocation failure, or if keys run out. Then no entry has changed.
 pub(crate) fn spare_key(entries: &mut Vec<Entry>, free: &mut Vec<Key>) -> Result<Key, AllocError>
     ensures same { (key : spec.Key) → entry_is entries.new.items key ≡ entry_is entries.old.items key }
     ensures spare { IfOk result (IsSpare entries.new.items) }

@@ -1,4 +1,5 @@
-//! What the names of frames stand for.
+//! Which regions the names of frames are bound to. The keys of all frames are in one list, those of the newest last; a frame that
+//! has bound no name has no table, so that a call which passes no region changes only the depth.
 
 ghost use Rattle.std.specs.Prelude.{◌≡◌, ◌<◌, [], Some, None, OnOk, OnErr, IfOk, length, slice_set};
 ghost use Rattle.rgo_holding.specs.Naming as spec;
@@ -121,7 +122,7 @@ impl Frames {
         }
     }
 
-    /// The newest frame, whose keys begin here, has a place for a name.
+    /// Makes a place for a name of the newest frame, whose keys begin here.
     ///
     /// # Errors
     ///
@@ -158,7 +159,8 @@ impl Frames {
         Ok(start)
     }
 
-    /// A name of the newest frame has another key, or none.
+    /// Binds a name of the newest frame to another key, or to none. A name without a place has no key already, so nothing is to be
+    /// done for it; a caller that binds one has made its place by `reserve_name`.
     #[inline(always)]
     pub(crate) fn set(&mut self, name: u32, key: Option<Key>)
         ensures set { IsOrdered self.old → spec.Changed self.old self.new (λ keys. slice_set keys name key) }
@@ -175,7 +177,7 @@ impl Frames {
         }
     }
 
-    /// Memory for a new frame with so many names.
+    /// Memory for a new frame with `names` names.
     ///
     /// # Errors
     ///
@@ -195,14 +197,14 @@ impl Frames {
     /// A new frame, with these keys.
     pub(crate) fn enter(&mut self, keys: &[Option<Key>])
         requires room { spec.HasFrameRoom self.old (length keys.now) }
-        ensures { spec.Enters self.old self.new keys.now }
+        ensures { spec.NamedFrameEnters self.old self.new keys.now }
     {
         self.depth += 1;
         if keys.is_empty() {
             return;
         }
         let start = self.keys.len();
-        // There is memory for both.
+        // This cannot fail: memory for both was taken by `reserve_frame`.
         if self.keys.extend_from_slice(keys).is_ok() {
             self.tables.push_reserved(Table {
                 height: self.depth,
@@ -222,7 +224,7 @@ impl Frames {
         }
     }
 
-    /// The newest table goes.
+    /// Drops the newest table.
     fn drop_table(&mut self)
         ensures { spec.Drops self.old self.new }
     {
@@ -231,9 +233,9 @@ impl Frames {
         }
     }
 
-    /// The newest frame goes.
+    /// Drops the newest frame.
     pub(crate) fn come_back(&mut self)
-        ensures { spec.ComesBack self.old self.new }
+        ensures { spec.NamedFrameReturns self.old self.new }
     {
         if let Some(start) = self.start() {
             self.tables.pop();
@@ -242,7 +244,8 @@ impl Frames {
         self.depth = self.depth.saturating_sub(1);
     }
 
-    /// The frames above the oldest `kept` go, and others come which have bound no name. There are then `depth` frames.
+    /// The loop has left the frames above the oldest `kept`, and has entered others which have bound no name. There are now `depth`
+    /// frames.
     pub(crate) fn settle(&mut self, kept: usize, depth: usize)
         ensures { spec.Cuts self.old self.new kept depth }
     {

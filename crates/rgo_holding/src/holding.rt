@@ -1,21 +1,24 @@
 //! What a goroutine has of regions.
+//!
+//! The clauses speak of keys of regions that the goroutine knows, whose entries are in use. So the early returns for a key without
+//! such an entry are never taken by a goroutine at the table.
 
 ghost use Rattle.std.specs.List.{list_any};
 ghost use Rattle.std.specs.Option.{option_map};
 ghost use Rattle.std.specs.Prelude.{◌≡◌, ◌<◌, ◌∷◌, ℕ, [], List, None, Some, IfOk, OnOk, OnErr, length, nat_eq, slice_get};
 ghost use Rattle.rgo_sound.specs.Code.Code.{Code as CodeRecord};
-ghost use Rattle.rgo_core_memory.specs.Records.{Fill, dropped, raised};
+ghost use Rattle.rgo_core_memory.specs.Records.{Fill, dropped, page_of, raised};
 ghost use Rattle.rgo_sound.specs.RegionMachine.Duties.{guards as guards_in, unprotected};
 ghost use Rattle.rgo_sound.specs.RegionMachine.Machine.{main_holder};
 ghost use Rattle.rgo_sound.specs.RegionMachine.Regions.{bound, class_region};
-ghost use Rattle.rgo_sound.specs.RegionMachine.States.{Environment, Holder, below, top_names};
+ghost use Rattle.rgo_sound.specs.RegionMachine.States.{RegionEnvironment, Holder, below, top_names};
 ghost use Rattle.rgo_sound.specs.RegionMachine.declared.regions.Region.{Region as RegionRecord};
 ghost use Rattle.rgo_sound.specs.RegionMachine.declared.regions.Region.TheVariants.{Numbered};
-ghost use Rattle.rgo_sound.specs.Tac.Frames.{Frame};
+ghost use Rattle.rgo_sound.specs.Tac.Frames.{TacFrame};
 ghost use Rattle.rgo_holding.specs.Changes as spec;
-ghost use Rattle.rgo_holding.specs.Holds.{Holds, region_at};
+ghost use Rattle.rgo_holding.specs.Holds.{IsHoldingOf, region_at};
 ghost use Rattle.rgo_holding.specs.Learning.{ShowsFresh, Tracks};
-ghost use Rattle.rgo_holding.specs.Known.{own_page, page_of, slot_of};
+ghost use Rattle.rgo_holding.specs.Known.{own_page, slot_of};
 
 use crate::entries::{Entry, Page, entry_of, forget_rounds, new_entry, put, spare_key};
 use crate::frames::{Frames, key_of};
@@ -39,7 +42,8 @@ pub struct Holding {
     /// What is passed at the next call, and the names of the function that is called.
     pub(crate) passed: Vec<Option<Key>>,
     pub(crate) callee: Vec<Option<Key>>,
-    /// One more than the goroutines that it has started, or started again from 1.
+    /// One more than the goroutines that it has started; after the largest number it begins again at 1. A stake is pending for the
+    /// next child if its entry has this number, so that a start makes all of them the child's at once.
     round: u64,
     /// The slot of Global.
     pub(crate) slots: u32,
@@ -52,7 +56,7 @@ impl Holding {
     ///
     /// On allocation failure.
     pub fn new(alloc: Global, slots: u32) -> Result<Holding, AllocError>
-        ensures { IfOk result (λ k. (code : CodeRecord) (frames : List Frame) → Holds slots k (main_holder code frames) []) }
+        ensures { IfOk result (λ k. (code : CodeRecord) (frames : List TacFrame) → IsHoldingOf slots k (main_holder code frames) []) }
     {
         Holding::bare(alloc, slots)
     }
@@ -84,10 +88,10 @@ impl Holding {
         })
     }
 
-    /// The key of the region that a name of the newest frame stands for.
+    /// The key of the region that a name of the newest frame is bound to.
     #[inline(always)]
     pub fn key(&self, name: u32) -> Option<Key>
-        ensures { (slots : ℕ) (h : Holder) (fills : List Fill) → Holds slots self.now h fills
+        ensures { (slots : ℕ) (h : Holder) (fills : List Fill) → IsHoldingOf slots self.now h fills
             → option_map (region_at self.now) result ≡ option_map Some (bound (top_names h.environments) name) }
     {
         key_of(self.frames.newest(), name)
@@ -95,7 +99,7 @@ impl Holding {
 
     /// The key of the region of a class of the newest frame.
     pub fn key_of(&self, class: Class) -> Option<Key>
-        ensures { (slots : ℕ) (h : Holder) (fills : List Fill) → Holds slots self.now h fills
+        ensures { (slots : ℕ) (h : Holder) (fills : List Fill) → IsHoldingOf slots self.now h fills
             → option_map (region_at self.now) result ≡ option_map Some (class_region (top_names h.environments) class) }
     {
         match class {
@@ -108,7 +112,7 @@ impl Holding {
     /// The slot of a region.
     #[inline(always)]
     pub fn slot(&self, key: Key) -> u32
-        ensures any { (slots : ℕ) (h : Holder) (fills : List Fill) (r : RegionRecord) → Holds slots self.now h fills
+        ensures any { (slots : ℕ) (h : Holder) (fills : List Fill) (r : RegionRecord) → IsHoldingOf slots self.now h fills
             → region_at self.now key ≡ Some r → result ≡ slot_of slots r }
         ensures numbered { (p : ℕ) → region_at self.now key ≡ Some (Numbered p) → result ≡ p }
     {
@@ -138,11 +142,11 @@ impl Holding {
     ///
     /// # Errors
     ///
-    /// When protections of a region run out. Then nothing has changed.
+    /// If the count of protections of the region would overflow. Then nothing has changed.
     pub fn protect(&mut self, key: Key) -> Result<(), AllocError>
         ensures protects { OnOk result ((slots : ℕ) (h : Holder) (fills : List Fill) (r : RegionRecord)
-            → Holds slots self.old h fills → region_at self.old key ≡ Some r → 0 < length h.environments
-            → Holds slots self.new (spec.protecting h r) fills) }
+            → IsHoldingOf slots self.old h fills → region_at self.old key ≡ Some r → 0 < length h.environments
+            → IsHoldingOf slots self.new (spec.protecting h r) fills) }
         ensures kept { OnErr result (spec.Keeps self.old self.new) }
         ensures regions { spec.SameRegions self.old self.new }
     {
@@ -159,8 +163,8 @@ impl Holding {
 
     /// The newest frame ends one of its protections of a region.
     pub fn unprotect(&mut self, key: Key)
-        ensures unprotects { (slots : ℕ) (h : Holder) (fills : List Fill) (r : RegionRecord) → Holds slots self.old h fills
-            → region_at self.old key ≡ Some r → spec.IsProtectedLast h r → Holds slots self.new (unprotected h r) fills }
+        ensures unprotects { (slots : ℕ) (h : Holder) (fills : List Fill) (r : RegionRecord) → IsHoldingOf slots self.old h fills
+            → region_at self.old key ≡ Some r → spec.IsProtectedLast h r → IsHoldingOf slots self.new (unprotected h r) fills }
         ensures regions { spec.SameRegions self.old self.new }
     {
         let Some(mut entry) = entry_of(&self.entries, key) else {
@@ -172,7 +176,7 @@ impl Holding {
 
     /// Whether a region is protected.
     pub fn guards(&self, key: Key) -> bool
-        ensures { (slots : ℕ) (h : Holder) (fills : List Fill) (r : RegionRecord) → Holds slots self.now h fills
+        ensures { (slots : ℕ) (h : Holder) (fills : List Fill) (r : RegionRecord) → IsHoldingOf slots self.now h fills
             → region_at self.now key ≡ Some r → result ≡ guards_in h.base h.environments r }
     {
         match entry_of(&self.entries, key) {
@@ -181,9 +185,9 @@ impl Holding {
         }
     }
 
-    /// The first region that is protected since the start is no longer so; `None` where none is left.
+    /// The first region that is protected since the start is no longer so; `None` if none is left.
     pub fn end_base(&mut self) -> Option<Key>
-        ensures ends { spec.EndsBase self.old self.new result }
+        ensures ends { spec.HoldingEndsBase self.old self.new result }
         ensures regions { spec.SameRegions self.old self.new }
     {
         let key = self.base.pop()?;
@@ -194,7 +198,7 @@ impl Holding {
         Some(key)
     }
 
-    /// The first region that is protected since the start; `None` where none is left.
+    /// The first region that is protected since the start; `None` if none is left.
     pub fn first_base(&self) -> Option<Key>
         ensures { spec.FirstBase self.now result }
     {
@@ -207,7 +211,7 @@ impl Holding {
     /// Whether the first region that is protected since the start is protected otherwise, too.
     pub fn guards_beyond_base(&self, key: Key) -> bool
         ensures { (slots : ℕ) (h : Holder) (fills : List Fill) (r : RegionRecord) (rest : List RegionRecord)
-            → Holds slots self.now h fills → region_at self.now key ≡ Some r → h.base ≡ r ∷ rest
+            → IsHoldingOf slots self.now h fills → region_at self.now key ≡ Some r → h.base ≡ r ∷ rest
             → result ≡ guards_in rest h.environments r }
     {
         match entry_of(&self.entries, key) {
@@ -218,14 +222,14 @@ impl Holding {
 
     /// How many regions are protected since the start.
     pub fn base_len(&self) -> usize
-        ensures { (slots : ℕ) (h : Holder) (fills : List Fill) → Holds slots self.now h fills → result ≡ length h.base }
+        ensures { (slots : ℕ) (h : Holder) (fills : List Fill) → IsHoldingOf slots self.now h fills → result ≡ length h.base }
     {
         self.base.len()
     }
 
     /// The region that is `i`-th among those that are protected since the start.
     pub fn base_region(&self, i: usize) -> Option<Region>
-        ensures { (slots : ℕ) (h : Holder) (fills : List Fill) → Holds slots self.now h fills → result ≡ slice_get h.base i }
+        ensures { (slots : ℕ) (h : Holder) (fills : List Fill) → IsHoldingOf slots self.now h fills → result ≡ slice_get h.base i }
     {
         let last = self.base.len();
         if last <= i {
@@ -236,23 +240,23 @@ impl Holding {
 
     // ---- names
 
-    /// A name of the newest frame no longer stands for a region.
+    /// A name of the newest frame is no longer bound to a region.
     pub fn unbind(&mut self, name: u32)
-        ensures unbinds { (slots : ℕ) (h : Holder) (fills : List Fill) → Holds slots self.old h fills
-            → Holds slots self.new (spec.without_name h name) fills }
+        ensures unbinds { (slots : ℕ) (h : Holder) (fills : List Fill) → IsHoldingOf slots self.old h fills
+            → IsHoldingOf slots self.new (spec.without_name h name) fills }
         ensures regions { spec.SameRegions self.old self.new }
     {
         self.frames.set(name, None);
     }
 
-    /// Memory for a region that is about to be created, by a name of the newest frame.
+    /// Memory for a region that is about to be created, by a name of the newest frame. Taken before the access that creates it.
     ///
     /// # Errors
     ///
-    /// On allocation failure, and where there is no frame. Nothing has changed, whatever the result.
+    /// On allocation failure, or if there is no frame. Nothing has changed, whatever the result.
     pub fn reserve(&mut self, name: u32) -> Result<(), AllocError>
         ensures kept { spec.Keeps self.old self.new }
-        ensures room { OnOk result (spec.HasRoom self.new name) }
+        ensures room { OnOk result (spec.HoldingHasRoom self.new name) }
         ensures regions { spec.SameRegions self.old self.new }
     {
         if self.frames.depth == 0 {
@@ -266,10 +270,11 @@ impl Holding {
 
     /// A region was created in this slot, by a name of the newest frame.
     pub fn create(&mut self, name: u32, slot: u32)
-        requires room { spec.HasRoom self.old name }
-        ensures { (slots : ℕ) (h : Holder) (fills : List Fill) → Holds slots self.old h fills
-            → spec.IsNew slots h fills slot → Holds slots self.new (spec.creating h name slot) fills }
+        requires room { spec.HoldingHasRoom self.old name }
+        ensures { (slots : ℕ) (h : Holder) (fills : List Fill) → IsHoldingOf slots self.old h fills
+            → spec.IsNew slots h fills slot → IsHoldingOf slots self.new (spec.creating h name slot) fills }
     {
+        // The caller has taken memory by `reserve`, so there is a key.
         let Some(key) = self.next else {
             return;
         };
@@ -280,24 +285,24 @@ impl Holding {
 
     // ---- stakes
 
-    /// The stake in a region has ended. The key is good for nothing now.
+    /// The stake in a region has ended. The key must not be used any more: its entry may come to be that of another region.
     pub fn leave(&mut self, key: Key)
-        ensures { (slots : ℕ) (h : Holder) (fills : List Fill) (p : ℕ) → Holds slots self.old h fills
+        ensures { (slots : ℕ) (h : Holder) (fills : List Fill) (p : ℕ) → IsHoldingOf slots self.old h fills
             → region_at self.old key ≡ Some (Numbered p) → spec.IsUnknown h p
-            → Holds slots self.new (spec.ending h p) (dropped p fills) }
+            → IsHoldingOf slots self.new (spec.ending h p) (dropped p fills) }
     {
         let Some(mut entry) = entry_of(&self.entries, key) else {
             return;
         };
         entry.used = false;
         put(&mut self.entries, key, entry);
-        // Without memory the entry is not used again.
+        // Without memory the entry is merely not used again.
         let _ = self.free.push(key);
     }
 
     /// Whether a stake in a region is taken for the next goroutine that is started.
     pub fn is_pending(&self, key: Key) -> bool
-        ensures { (slots : ℕ) (h : Holder) (fills : List Fill) (p : ℕ) → Holds slots self.now h fills
+        ensures { (slots : ℕ) (h : Holder) (fills : List Fill) (p : ℕ) → IsHoldingOf slots self.now h fills
             → region_at self.now key ≡ Some (Numbered p) → result ≡ list_any (nat_eq p) h.pending }
     {
         match entry_of(&self.entries, key) {
@@ -308,8 +313,8 @@ impl Holding {
 
     /// A stake in a region is taken for the next goroutine that is started.
     pub fn add_pending(&mut self, key: Key)
-        ensures adds { (slots : ℕ) (h : Holder) (fills : List Fill) (p : ℕ) → Holds slots self.old h fills
-            → region_at self.old key ≡ Some (Numbered p) → Holds slots self.new (spec.sharing h p) fills }
+        ensures adds { (slots : ℕ) (h : Holder) (fills : List Fill) (p : ℕ) → IsHoldingOf slots self.old h fills
+            → region_at self.old key ≡ Some (Numbered p) → IsHoldingOf slots self.new (spec.sharing h p) fills }
         ensures regions { spec.SameRegions self.old self.new }
     {
         let Some(mut entry) = entry_of(&self.entries, key) else {
@@ -321,8 +326,8 @@ impl Holding {
 
     /// A goroutine was started: the pending stakes are its own.
     pub fn clear_pending(&mut self)
-        ensures clears { (slots : ℕ) (h : Holder) (fills : List Fill) → Holds slots self.old h fills
-            → Holds slots self.new (record h { pending = [] }) fills }
+        ensures clears { (slots : ℕ) (h : Holder) (fills : List Fill) → IsHoldingOf slots self.old h fills
+            → IsHoldingOf slots self.new (record h { pending = [] }) fills }
         ensures regions { spec.SameRegions self.old self.new }
     {
         match self.round.checked_add(1) {
@@ -339,7 +344,7 @@ impl Holding {
     /// The goroutine's own page in a region.
     #[inline(always)]
     pub fn page(&self, key: Key) -> Option<Page>
-        ensures { (slots : ℕ) (h : Holder) (fills : List Fill) (r : RegionRecord) → Holds slots self.now h fills
+        ensures { (slots : ℕ) (h : Holder) (fills : List Fill) (r : RegionRecord) → IsHoldingOf slots self.now h fills
             → region_at self.now key ≡ Some r → option_map (own_page (slot_of slots r)) result ≡ page_of (slot_of slots r) fills }
     {
         match entry_of(&self.entries, key) {
@@ -350,8 +355,8 @@ impl Holding {
 
     /// A page was claimed for a region; no word of it is filled.
     pub fn claimed(&mut self, key: Key, page: u32)
-        ensures claims { (slots : ℕ) (h : Holder) (fills : List Fill) (r : RegionRecord) → Holds slots self.old h fills
-            → region_at self.old key ≡ Some r → Holds slots self.new h
+        ensures claims { (slots : ℕ) (h : Holder) (fills : List Fill) (r : RegionRecord) → IsHoldingOf slots self.old h fills
+            → region_at self.old key ≡ Some r → IsHoldingOf slots self.new h
             (record { slot = slot_of slots r; page = page; fill = 0 } ∷ dropped (slot_of slots r) fills) }
         ensures regions { spec.SameRegions self.old self.new }
     {
@@ -362,11 +367,11 @@ impl Holding {
         put(&mut self.entries, key, entry);
     }
 
-    /// So many words of the own page in a region are filled.
+    /// `words` words of the own page in a region are filled now.
     #[inline(always)]
     pub fn fill(&mut self, key: Key, words: u32)
-        ensures fills { (slots : ℕ) (h : Holder) (fills : List Fill) (r : RegionRecord) → Holds slots self.old h fills
-            → region_at self.old key ≡ Some r → Holds slots self.new h (raised (slot_of slots r) words fills) }
+        ensures fills { (slots : ℕ) (h : Holder) (fills : List Fill) (r : RegionRecord) → IsHoldingOf slots self.old h fills
+            → region_at self.old key ≡ Some r → IsHoldingOf slots self.new h (raised (slot_of slots r) words fills) }
         ensures regions { spec.SameRegions self.old self.new }
     {
         let Some(mut entry) = entry_of(&self.entries, key) else {
@@ -386,8 +391,8 @@ impl Holding {
 
     /// The newest function has returned. It protects nothing.
     pub fn come_back(&mut self)
-        ensures returns { (slots : ℕ) (h : Holder) (fills : List Fill) → Holds slots self.old h fills
-            → spec.top_protections h.environments ≡ [] → Holds slots self.new (record h { environments = below h.environments }) fills }
+        ensures returns { (slots : ℕ) (h : Holder) (fills : List Fill) → IsHoldingOf slots self.old h fills
+            → spec.top_protections h.environments ≡ [] → IsHoldingOf slots self.new (record h { environments = below h.environments }) fills }
         ensures regions { spec.SameRegions self.old self.new }
     {
         self.frames.come_back();
@@ -397,8 +402,8 @@ impl Holding {
     /// know no region. There are now `depth` frames.
     #[inline(always)]
     pub fn settle(&mut self, kept: usize, depth: usize)
-        ensures settles { (slots : ℕ) (h : Holder) (fills : List Fill) (es : List Environment) → Holds slots self.old h fills
-            → spec.Settles kept depth h.environments es → Holds slots self.new (record h { environments = es }) fills }
+        ensures settles { (slots : ℕ) (h : Holder) (fills : List Fill) (es : List RegionEnvironment) → IsHoldingOf slots self.old h fills
+            → spec.EnvironmentsSettle kept depth h.environments es → IsHoldingOf slots self.new (record h { environments = es }) fills }
         ensures regions { spec.SameRegions self.old self.new }
     {
         self.frames.settle(kept, depth);

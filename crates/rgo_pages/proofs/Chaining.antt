@@ -17,7 +17,7 @@ use Rattle.rgo_core_steps.specs.Searches.{Miss, misses, missing}
 use Rattle.rgo_core_steps.specs.Seats.{Left, Stored, mine}
 use Rattle.rgo_core_steps.proofs.Growing.{made_one, made_then}
 use Rattle.rgo_pages.specs.Claiming.{Hooked, PageClaimed, PageTaken}
-use Rattle.rgo_pages.specs.Releasing.{ChainGiven, ChainGivenBack, Freed, Leads, OneFreed, freed_one, freeing, gave_back, giving}
+use Rattle.rgo_pages.specs.Releasing.{ChainGiven, ChainGivenBack, Freed, LinksLeadTo, OneFreed, freed_one, freeing, gave_back, giving}
 
 module _ (T : Setup) (z : TableSizes) (slot : ℕ) where
   abbrev HasMade : Me Record → (ℕ → List Access) → Record → Me Record → Type 0
@@ -130,7 +130,7 @@ module _ (T : Setup) (z : TableSizes) (slot : ℕ) where
         (remembers (mine T m) (with_give (mine T m).memory (Giving slot n))) a (λ e. e) refl);
   }
 
-  leads_more : (h : ℕ) (fs : List Freed) (f : Freed) (cursor : ℕ) → Leads h fs cursor → cursor ≡ suc f.page → Leads h (fs ++ f ∷ []) f.next
+  leads_more : (h : ℕ) (fs : List Freed) (f : Freed) (cursor : ℕ) → LinksLeadTo h fs cursor → cursor ≡ suc f.page → LinksLeadTo h (fs ++ f ∷ []) f.next
   leads_more h [] f cursor l e = (l ∙ e, refl)
   leads_more h (x ∷ fs) f cursor l e = (l.0, leads_more x.next fs f cursor l.1 e)
 

@@ -1,9 +1,9 @@
 -- Examples of claims and of chains that are given back.
 use Rattle.std.proofs.Common.{◌≡◌, ℕ, List, [], ◌∷◌, length, refl, arith}
 use Rattle.rgo_pages.specs.Examples.{PageExamples}
-use Rattle.rgo_pages.specs.Releasing.{Freed, Leads}
+use Rattle.rgo_pages.specs.Releasing.{Freed, LinksLeadTo}
 
-begins : (from : ℕ) (fs : List Freed) → from ≡ 0 → Leads from fs 0 → length fs ≡ 3 → ⊥
+begins : (from : ℕ) (fs : List Freed) → from ≡ 0 → LinksLeadTo from fs 0 → length fs ≡ 3 → ⊥
 begins from [] zero leads count = omega (arith, count)
 begins from (f ∷ fs) zero leads count = let e = leads.0 in omega (arith, e, zero)
 

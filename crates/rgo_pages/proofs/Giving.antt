@@ -3,8 +3,8 @@ use Rattle.std.specs.Option.{option_map, option_map_or}
 use Rattle.std.proofs.Common.{◌≡◌, ◌≢◌, ◌⊎◌, ◌==◌, ℕ, Bool, true, false, List, [], ◌∷◌, Option, Some, None, if◌then◌else◌, unwrap_or, inl, inr, ⊎_elim, refl, ap}
 use Rattle.rgo_sound.specs.Code.Code.{Branch, Call, Code, CodeFn, CodeOp, Do, Go, Jump, Print, Return}
 use Rattle.rgo_sound.specs.Memory.Memory.{Object}
-use Rattle.rgo_sound.specs.RegionMachine.Objects.{words as words_in}
-use Rattle.rgo_sound.specs.RegionMachine.Owed.{function_of}
+use Rattle.rgo_sound.specs.RegionMachine.Objects.{object_words as words_in}
+use Rattle.rgo_sound.specs.RegionMachine.Owed.{code_function}
 use Rattle.rgo_sound.specs.RegionMachine.States.{Create, Duty, EndBase, Ended, Holder, Mark, Protect, Remove, Share, Stopped, Unprotect}
 use Rattle.rgo_core.specs.Frames.Opening.{no_record}
 use Rattle.rgo_core.specs.Frames.Children.{child_records}
@@ -93,7 +93,7 @@ born frame (Some callee) = refl
 children : (code : Code) (c : Record) (w : WordFrame) (op : CodeOp) → (unwrap_or (child_by code c w op) (begins_with no_record)).memory.give ≡ Calm
 children code c w (Go f from passes removes) =
     born (λ callee. first_in (child_records code c.frame.holder (Go f from passes removes) (word_called callee f (words_of w from) ∷ [])))
-    (function_of code f)
+    (code_function code f)
 children code c w (Do to action from removes) = refl
 children code c w (Call to n from passes protects removes) = refl
 children code c w (Print pieces from removes) = refl

@@ -3,12 +3,12 @@ use Rattle.std.proofs.Common.{◌≡◌, ℕ, suc, ◌<◌, List, Some, map, sli
 use Rattle.rgo_sound.specs.RegionMachine.Machine.{Event}
 use Rattle.rgo_core.specs.Memory.Ground.{ground_of}
 use Rattle.rgo_core.specs.Memory.Image.{Where}
-use Rattle.rgo_core.specs.Memory.Records.{Closes, Give, Gives, Has, Past}
+use Rattle.rgo_core.specs.Memory.Records.{ClosesSlot, Give, ReturnsChain, HasRecord, Past}
 use Rattle.rgo_core.specs.Memory.Words.{count_at, state_at}
-use Rattle.rgo_core.proofs.Memory.Chaining.{first_at}
-use Rattle.rgo_core.proofs.Memory.Slots.{one_closes}
-use Rattle.rgo_core.proofs.Memory.Steadies.{steady_of}
-use Rattle.rgo_core.proofs.Memory.Stepped.{map_get}
+use Rattle.rgo_core.proofs.Memory.pages.Chaining.{first_at}
+use Rattle.rgo_core.proofs.Memory.regions.Slots.{one_closes}
+use Rattle.rgo_core.proofs.Memory.image.Steadies.{steady_of}
+use Rattle.rgo_core.proofs.Memory.image.Stepped.{map_get}
 use Rattle.rgo_sound.specs.RegionMachine.States.{RegionState}
 use Rattle.rgo_core.specs.Core.{CoreAt, Setup, layout}
 use Rattle.rgo_core.specs.Records.{Record, memory_of}
@@ -19,15 +19,15 @@ module _ {T : Setup} {words : List ℕ} {recs : List Record} {events : List Even
   abbrev places : Where
   places = k.image.places
 
-  own : Has (map memory_of recs) g c.memory
+  own : HasRecord (map memory_of recs) g c.memory
   own = map_get memory_of recs g c is
 
-  alone : (h : ℕ) (d : Record) (slot : ℕ) → slice_get recs h ≡ Some d → Closes c.memory.give slot → Closes d.memory.give slot → g ≡ h
+  alone : (h : ℕ) (d : Record) (slot : ℕ) → slice_get recs h ≡ Some d → ClosesSlot c.memory.give slot → ClosesSlot d.memory.give slot → g ≡ h
   alone h d slot there closes also =
       one_closes (layout T) words (map memory_of recs) (ground_of s) places k.image.memory slot h g d.memory c.memory
       (map_get memory_of recs h d there) also own closes
 
-  unstaked : (slot : ℕ) → Closes c.memory.give slot
+  unstaked : (slot : ℕ) → ClosesSlot c.memory.give slot
       → (slot < T.sizes.regions) × (slice_index words (count_at (layout T) slot) ≡ 1)
   unstaked slot closes =
       let a = k.image.memory.counts.closes g slot c.memory own closes in
@@ -39,9 +39,9 @@ module _ {T : Setup} {words : List ℕ} {recs : List Record} {events : List Even
       → (page < T.sizes.pages) × (slice_index words (state_at (layout T) page) ≡ suc slot)
   claimed slot page next past =
       let m = k.image.memory in
-      let closes : Closes c.memory.give slot = subst (λ (y : Give). Closes y slot) (sym past) refl in
+      let closes : ClosesSlot c.memory.give slot = subst (λ (y : Give). ClosesSlot y slot) (sym past) refl in
       let at = first_at (layout T) words (map memory_of recs) (ground_of s) places m (steady_of T.code s k.sound.good) g c.memory own slot closes
-      page (m.pages.cursors g slot (suc page) c.memory own (subst (λ (y : Give). Gives y slot (suc page)) (sym past) (refl, refl))) in
+      page (m.pages.cursors g slot (suc page) c.memory own (subst (λ (y : Give). ReturnsChain y slot (suc page)) (sym past) (refl, refl))) in
       let state = (m.pages.is_chained page slot at).0 in
       let low : page < T.sizes.pages = m.own.ranged page (omega (arith, state)) in
       (low, m.shows.state page low ∙ state)

@@ -11,9 +11,9 @@ use Rattle.rgo_core.specs.Claims.{claims, reserves}
 use Rattle.rgo_core.specs.Core.{Setup}
 use Rattle.rgo_core.specs.Opening.{first_of}
 use Rattle.rgo_core.specs.Records.{Record, accesses}
-use Rattle.rgo_core_steps.specs.Making.{IsCalm, MakesNext, NeedsPage, next_is_spread}
+use Rattle.rgo_core_steps.specs.Making.{IsCalm, RecordMakesNext, NeedsPage, next_is_spread}
 use Rattle.rgo_core_steps.specs.Pages.{takes_page, tried_page, tries_page}
-use Rattle.rgo_core_steps.specs.Searches.{Miss, Took, Tried, missing}
+use Rattle.rgo_core_steps.specs.Searches.{Miss, TookFreePlace, Tried, missing}
 use Rattle.rgo_core_steps.specs.Seats.{Left, Settles, mine, settled}
 use Rattle.rgo_core_steps.proofs.Searching.{found_free, found_taken, took_above, took_below, took_one, tried_all, tried_one}
 use Rattle.rgo_core_steps.proofs.Settling.{settled_counts}
@@ -25,7 +25,7 @@ pub missing_calm : (ts : List Miss) (c : Record) → IsCalm c → IsCalm (missin
 missing_calm [] c calm = calm
 missing_calm (t ∷ ts) c calm = missing_calm ts (tried_page c t.place) (record { side = calm.side; claim = calm.claim; make = calm.make })
 
-one_next : (T : Setup) (s p : ℕ) (c : Record) (object : Object) → MakesNext T c object s → MakesNext T (tried_page c p) object s
+one_next : (T : Setup) (s p : ℕ) (c : Record) (object : Object) → RecordMakesNext T c object s → RecordMakesNext T (tried_page c p) object s
 one_next T s p c object next = record {
   to = next.to;
   act = next.act;
@@ -102,7 +102,7 @@ module _ (T : Setup) (z : TableSizes) (slot q : ℕ) (m : Me Record) (p n : ℕ)
       m n w l some (ap suc counts))
 
   pub page_taken : n ≡ 0
-      → Took accesses (first_of T.code) ClaimPage (state_at z) tried_page (settled T q m) [] p (slot + 1) (λ d. takes_page T d p slot) m w
+      → TookFreePlace accesses (first_of T.code) ClaimPage (state_at z) tried_page (settled T q m) [] p (slot + 1) (λ d. takes_page T d p slot) m w
   page_taken none =
       took_one accesses (first_of T.code) ClaimPage (state_at z) tried_page (settled T q m) p (slot + 1) (λ d. takes_page T d p slot) m w
       (found_free accesses (first_of T.code) ClaimPage (state_at z p) (slot + 1) (takes_page T (settled T q m) p slot) (tried_page (settled T q m) p)

@@ -12,9 +12,9 @@ use Rattle.rgo_core.specs.Memory.declared.layout.TableSizes.{TableSizes}
 use Rattle.rgo_core.specs.Core.{Setup}
 use Rattle.rgo_core.specs.Opening.{first_of}
 use Rattle.rgo_core.specs.Records.{Record, accessed, accesses}
-use Rattle.rgo_core_steps.specs.Grown.{Found, Grew, Made}
+use Rattle.rgo_core_steps.specs.Grown.{Found, SeatGrew, Made}
 use Rattle.rgo_core_steps.specs.Pages.{takes_page, tried_page}
-use Rattle.rgo_core_steps.specs.Searches.{AreTaken, Miss, Took, TookOne, Tried, TriedAll, around, misses, missing, places_of, upward}
+use Rattle.rgo_core_steps.specs.Searches.{AreTaken, Miss, TookFreePlace, TookOne, Tried, TriedAll, around, misses, missing, places_of, upward}
 use Rattle.rgo_core_steps.specs.Seats.{mine}
 
 -- The goroutine of seat m, whose record is c after its local steps, has exchanged the states of pages, each at most once: it found
@@ -37,7 +37,7 @@ abbrev pub PagesTried : Setup → TableSizes → (slot first end : ℕ) → (c :
 PagesTried T z s first end c None m w =
     Tried accesses (first_of T.code) ClaimPage (state_at z) tried_page c (upward first (end - first)) m w
 PagesTried T z s first end c (Some p) m w = (first ≤ p) × (p < end)
-    × Took accesses (first_of T.code) ClaimPage (state_at z) tried_page c (upward first (p - first)) p (s + 1) (λ d. takes_page T d p s) m w
+    × TookFreePlace accesses (first_of T.code) ClaimPage (state_at z) tried_page c (upward first (p - first)) p (s + 1) (λ d. takes_page T d p s) m w
 
 -- the record after a page is claimed for a slot, hung on its chain and linked
 abbrev pub has_claimed : Setup → Record → (page slot : ℕ) → Record
@@ -78,11 +78,11 @@ pub record PageClaimed (T : Setup) (z : TableSizes) (slot : ℕ) (c : Record) (p
 -- A search in vain made one exchange for each page, and changed no word. Each page was found in use, and the record remembers it.
 pub record FullPages (T : Setup) (z : TableSizes) (c : Record) (m w : Me Record) : Type 0 where
   pub es : List Access
-  pub grew : Grew accesses (first_of T.code) m es w
+  pub grew : SeatGrew accesses (first_of T.code) m es w
   pub made : accesses_by (number_of m) es ≡ z.pages
   pub still : ChangesNothingBy (number_of m) es
   pub found : (p : ℕ) → p < z.pages → (n : ℕ) × (n ≢ 0) × Found (number_of m) es ClaimPage (state_at z p) n
   pub remembered : (p : ℕ) → p < z.pages → 0 < times p (mine T w).memory.tried_pages
 
-abbrev pub FullLaw : Type 0
-FullLaw = (T : Setup) (z : TableSizes) (c : Record) (m w : Me Record) → AllPagesTried T z c m w → FullPages T z c m w
+abbrev pub FullPagesLaw : Type 0
+FullPagesLaw = (T : Setup) (z : TableSizes) (c : Record) (m w : Me Record) → AllPagesTried T z c m w → FullPages T z c m w

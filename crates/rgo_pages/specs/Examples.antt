@@ -1,4 +1,4 @@
--- The definitions of claims and of chains that are given back, each where it holds and where it must not.
+-- The definitions of claims and of chains that are returned, each where it holds and where it must not.
 use Rattle.std.specs.Prelude.{◌≡◌, List, [], ◌∷◌, Some}
 use Rattle.rgo_sound.specs.Code.Code.{Do}
 use Rattle.rgo_sound.specs.Machine.declared.limits.Limits.{Limits}
@@ -14,7 +14,7 @@ use Rattle.rgo_core.specs.Core.{Setup}
 use Rattle.rgo_core.specs.Records.{Record, begins_with}
 use Rattle.rgo_core_steps.specs.MemoryExamples.{doing}
 use Rattle.rgo_pages.specs.Claiming.{PageClaimed, has_claimed}
-use Rattle.rgo_pages.specs.Releasing.{ChainGivenBack, Freed, Leads, freeing, gave_back, giving}
+use Rattle.rgo_pages.specs.Releasing.{ChainGivenBack, Freed, LinksLeadTo, freeing, gave_back, giving}
 
 -- two pages of a chain, the second of which is the last
 abbrev pub two_pages : List Freed
@@ -40,11 +40,11 @@ abbrev pub spread_slice : Record
 spread_slice = with_words (9 ∷ 0 ∷ [])
 
 pub record PageExamples : Type 0 where
-  pub chain : Leads 3 two_pages 0
+  pub chain : LinksLeadTo 3 two_pages 0
   -- it begins with another page
-  pub elsewhere : Leads 4 two_pages 0 → ⊥
+  pub elsewhere : LinksLeadTo 4 two_pages 0 → ⊥
   -- its last page is linked to another one
-  pub unended : Leads 3 two_pages 1 → ⊥
+  pub unended : LinksLeadTo 3 two_pages 1 → ⊥
   -- the next word of a page is loaded before the page is freed
   pub order : freeing small two_pages 6 ≡ access 6 LoadNext 60 5 5 ∷ access 6 FreePage 34 7 0 ∷ access 6 LoadNext 62 0 0
       ∷ access 6 FreePage 36 7 0 ∷ []

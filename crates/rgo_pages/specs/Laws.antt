@@ -1,10 +1,10 @@
--- Who gives the pages of a region back, and when: what holds at each moment of a table.
+-- Who returns the pages of a region, and when: what holds at each moment of a table.
 use Rattle.std.specs.Prelude.{◌≡◌, ◌≢◌, ◌⊎◌, ◌<◌, ℕ, suc, List, Some, slice_get, slice_index}
 use Rattle.rgo_sound.specs.Code.Code.{Code}
 use Rattle.rgo_sound.specs.RegionMachine.Machine.{Event}
 use Rattle.rgo_sound.specs.RegionMachine.States.{Mark}
 use Rattle.rgo_core.specs.Channels.Records.{Rec as SideRec}
-use Rattle.rgo_core.specs.Memory.Records.{Calm, Claim, Closes, Owes, Past, with_claim}
+use Rattle.rgo_core.specs.Memory.Records.{Calm, PageClaim, ClosesSlot, Owes, Past, with_claim}
 use Rattle.rgo_core.specs.Memory.Words.{count_at, state_at}
 use Rattle.rgo_core.specs.Accesses.{locates, measures}
 use Rattle.rgo_core.specs.AtChannels.{knows}
@@ -26,11 +26,11 @@ AtEach P = (T : Setup) (words : List ℕ) (recs : List Record) (events : List Ev
     → Core T words recs events → slice_get recs g ≡ Some c → P T words recs g c
 
 pub record ReleaseLaw : Type 0 where
-  -- at most one goroutine gives back the chain of a slot
-  pub one : AtEach (λ T words recs g c. (h : ℕ) (d : Record) (slot : ℕ) → slice_get recs h ≡ Some d → Closes c.memory.give slot
-      → Closes d.memory.give slot → g ≡ h)
+  -- at most one goroutine returns the chain of a slot
+  pub one : AtEach (λ T words recs g c. (h : ℕ) (d : Record) (slot : ℕ) → slice_get recs h ≡ Some d → ClosesSlot c.memory.give slot
+      → ClosesSlot d.memory.give slot → g ≡ h)
   -- while it does, the region of the slot has no stake, and the slot is not free
-  pub none : AtEach (λ T words recs g c. (slot : ℕ) → Closes c.memory.give slot
+  pub none : AtEach (λ T words recs g c. (slot : ℕ) → ClosesSlot c.memory.give slot
       → (slot < T.sizes.regions) × (slice_index words (count_at (layout T) slot) ≡ 1))
   -- a page that it is about to free is claimed for that slot
   pub its : AtEach (λ T words recs g c. (slot page next : ℕ) → c.memory.give ≡ Past slot (suc page) next
@@ -38,11 +38,11 @@ pub record ReleaseLaw : Type 0 where
 
 -- ---- how a record comes to give a chain back
 
--- what it gives back is the same
+-- the chain that it returns is the same
 abbrev pub GivesTheSame : Record → Record → Type 0
 GivesTheSame c d = d.memory.give ≡ c.memory.give
 
--- The records after the accesses of goroutines, but those to a chain that is given back, and after local steps.
+-- The records after the accesses of goroutines, except those to a chain that is being returned, and after local steps.
 pub record GiveLaw : Type 0 where
   -- a leave that has found the last stake begins it
   pub leave : (c d : Record) (slot n : ℕ) → Leaving c slot n d
@@ -51,7 +51,7 @@ pub record GiveLaw : Type 0 where
   pub create : (c : Record) (slot n : ℕ) → GivesTheSame c (tries_slot c slot n)
   pub share : (c : Record) → GivesTheSame c (shared c)
   pub claim : (T : Setup) (c : Record) (page slot n : ℕ) → GivesTheSame c (tries_page T c page slot n)
-  pub hook : (c : Record) (claim : Claim) → GivesTheSame c (remembers c (with_claim c.memory claim))
+  pub hook : (c : Record) (claim : PageClaim) → GivesTheSame c (remembers c (with_claim c.memory claim))
   pub look : (c : Record) → GivesTheSame c (looked c)
   pub act : (code : Code) (c : Record) (word : ℕ) → GivesTheSame c (acting code c word)
   pub measure : (c : Record) (address elements : ℕ) → GivesTheSame c (measures c address elements)
@@ -67,5 +67,5 @@ pub record GiveLaw : Type 0 where
   pub offer : (c : Record) (at : ℕ) → GivesTheSame c (offers c at)
   pub acknowledge : (code : Code) (c : Record) → GivesTheSame c (acknowledging code c)
   pub local : (T : Setup) (g q : ℕ) (c : Record) → GivesTheSame c (settled_by T g q c)
-  -- a goroutine that starts gives nothing back
+  -- a goroutine that starts returns no chain
   pub child : (code : Code) (c : Record) → (child code c).memory.give ≡ Calm

@@ -1,4 +1,4 @@
--- What a chain that is given back leaves.
+-- What the return of a chain leaves.
 use Rattle.std.specs.Prelude.{◌≡◌, ◌≤◌, ◌+◌, ◌-◌, ◌*◌, ℕ, suc, List, [], ◌∷◌, ◌++◌, length}
 use Rattle.rgo_core.specs.Rule.Histories.{access}
 use Rattle.rgo_core.specs.Rule.Views.{Me}
@@ -20,9 +20,9 @@ pub record Freed : Type 0 where
   pub state : ℕ
 
 -- from this link on each page is the one before it linked to, up to this link
-abbrev pub Leads : (from : ℕ) → List Freed → (to : ℕ) → Type 0
-Leads from [] to = from ≡ to
-Leads from (f ∷ fs) to = (from ≡ suc f.page) × Leads f.next fs to
+abbrev pub LinksLeadTo : (from : ℕ) → List Freed → (to : ℕ) → Type 0
+LinksLeadTo from [] to = from ≡ to
+LinksLeadTo from (f ∷ fs) to = (from ≡ suc f.page) × LinksLeadTo f.next fs to
 
 -- what goroutine g does with the pages: it loads the next word of each before it frees it
 abbrev pub freeing : TableSizes → List Freed → (g : ℕ) → List Access
@@ -55,13 +55,13 @@ giving c s n cursor = record c {
 pub record ChainGiven (T : Setup) (z : TableSizes) (slot : ℕ) (c : Record) (n cursor : ℕ) (m w : Me Record) : Type 0 where
   pub head : ℕ
   pub freed : List Freed
-  pub chain : Leads head freed cursor
+  pub chain : LinksLeadTo head freed cursor
   pub count : length freed ≡ n
   pub low : n ≤ c.clock.owed
   pub made : Made accesses (first_of T.code) m (λ g. access g LoadHead (head_at z slot) head head ∷ freeing z freed g)
       (giving c slot n cursor) w
 
--- the record after it has given back all pages that it owed, those of the chain of this slot
+-- the record after it has returned all pages that it owed, those of the chain of this slot
 abbrev pub gave_back : Record → (slot : ℕ) → Record
 gave_back c s = record c {
   clock = record c.clock {
@@ -78,7 +78,7 @@ pub record ChainGivenBack (T : Setup) (z : TableSizes) (slot : ℕ) (c : Record)
   pub head : ℕ
   pub freed : List Freed
   pub cleared : ℕ
-  pub chain : Leads head freed 0
+  pub chain : LinksLeadTo head freed 0
   pub count : length freed ≡ n
   pub made : Made accesses (first_of T.code) m
       (λ g. access g LoadHead (head_at z slot) head head ∷ freeing z freed g ++ access g ClearHead (head_at z slot) cleared 0 ∷ [])

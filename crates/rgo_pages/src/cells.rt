@@ -1,12 +1,15 @@
 //! Words of objects and package variables, each by one access.
 //!
-//! 1. The goroutine that makes an object stores each of its words once (`zero`), in whatever order. Nobody else has its address before
-//!    the last of these stores. Of a spread object it stores the words in several pages (`zero_apart`), and in the lead page the numbers
-//!    of the data pages (`set_index`).
-//! 2. From then on each goroutine that has come to know the address, and has a stake in the region, loads and stores the words (`load`,
-//!    `store`). None is locked: a load finds what the last store to the word has stored, whoever made it.
-//! 3. Before a goroutine accesses an element it loads the length of the slice (`measure`), which is never stored again; and before it
-//!    accesses a cell of a spread object, the number of the cell's page (`index`), which is not either.
+//! 1. The goroutine that makes an object stores each of its words once (`zero`), in whatever order. Nobody else has its address
+//!    before the last of these stores. Of a spread object it stores the words in several pages (`zero_apart`), and in the lead page
+//!    the numbers of the data pages (`set_index`).
+//! 2. From then on each goroutine that has come to know the address, and has a stake in the region, loads and stores the words
+//!    (`load`, `store`). None is locked: a load finds what the last store to the word has stored, whoever made it.
+//! 3. Before a goroutine accesses an element it loads the length of the slice (`measure`), which is never stored again; and before
+//!    it accesses a cell of a spread object, the number of the cell's page (`index`), which is not either.
+//!
+//! Each function is called by the goroutine whose record is on the seat, in its own turn, and only if its next instruction makes
+//! this access. What `load` returns was the value of the word at one moment of the call. Why: docs/DECISIONS.md, "Tables of words".
 ghost use Rattle.std.specs.Prelude.{◌≡◌, ◌+◌, ◌-◌, ◌/◌, ◌%◌, ◌<◌, ℕ};
 ghost use Rattle.rgo_core.specs.Accesses.{IsAtSpread, locates, measures};
 ghost use Rattle.rgo_core.specs.Bounds.{LieInPages, Points, slice_words};
@@ -27,7 +30,7 @@ use rgo_core_steps::memory;
 use std::sync::ledger::Ledger;
 
 /// Stores the first value of word `index` of the object that the next instruction makes. With the last word, in whatever order they
-/// are stored, the object exists and the instruction is done.
+/// are stored, the object exists and the instruction is done. Until then nobody else has its address.
 pub fn zero<L: Ledger>(
     table: &RunTable,
     seat: &mut RunSeat,
@@ -53,8 +56,8 @@ pub fn zero<L: Ledger>(
     memory::zero(table, seat, behind, word, value, index);
 }
 
-/// The same of a word of a spread object, which lies in the pages that are reserved for it. The numbers of its data pages have to be
-/// stored, too.
+/// The same of a word of a spread object, which lies in the pages that are reserved for it. The numbers of its data pages have to
+/// be stored, too.
 pub fn zero_apart<L: Ledger>(
     table: &RunTable,
     seat: &mut RunSeat,
@@ -80,7 +83,7 @@ pub fn zero_apart<L: Ledger>(
     memory::zero_apart(table, seat, behind, word, value, index);
 }
 
-/// Stores the number of a data page, plus 1, in the lead page of the object: word `index`, behind the words of the object.
+/// Stores the number of a data page, plus 1, in the lead page of the object: word `index`, after the words of the object.
 pub fn set_index<L: Ledger>(
     table: &RunTable,
     seat: &mut RunSeat,
@@ -132,8 +135,8 @@ pub fn load<L: Ledger>(
     memory::load(table, seat, behind, word)
 }
 
-/// Takes the length of nil as the next instruction: it is 0, and no word is loaded for it. By a load of the clock the instruction
-/// is in the run.
+/// Takes the length of nil as the next instruction: it is 0, and no word is loaded for it. A load of the clock puts the instruction
+/// into the run.
 pub fn length_of_nil<L: Ledger>(
     table: &RunTable,
     seat: &mut RunSeat,
@@ -182,8 +185,8 @@ pub fn measure<L: Ledger>(
     memory::measure(table, seat, behind, word, address)
 }
 
-/// Loads the number of the data page, plus 1, that has a cell of the spread object at this address, before the next instruction loads
-/// or stores the cell. So many words of the object are before its cells.
+/// Loads the number of the data page, plus 1, that has a cell of the spread object at this address, before the next instruction
+/// loads or stores the cell. `before` words of the object precede its cells.
 pub fn index<L: Ledger>(
     table: &RunTable,
     seat: &mut RunSeat,

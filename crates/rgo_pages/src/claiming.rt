@@ -5,13 +5,16 @@
 //! 2. From there on once around, the state of each page is exchanged, the slot plus 1 for 0, until a state is found 0.
 //! 3. That page is swapped in as the head of the chain, and the head found becomes its next word.
 //! 4. If no state is found 0, each page was found in use by an exchange of this call, and the record remembers each page.
+//!
+//! An exchange that finds a state other than 0 shows that the page is in use at that moment. It is not tried again in this call, so
+//! the call ends after at most one exchange for each page. Why: docs/DECISIONS.md, "Counts and pages as words".
 ghost use Rattle.std.specs.Prelude.{◌≡◌, ◌<◌, ◌≤◌, ◌+◌, ◌-◌, ℕ, IfErr, IfOk, IfSome};
 ghost use Rattle.rgo_core.specs.Plans.{setup_of};
 ghost use Rattle.rgo_core.specs.Memory.Records.{Got};
 ghost use Rattle.rgo_core_steps.specs.Layouts.{HasLayout};
 ghost use Rattle.rgo_core_steps.specs.Making.{IsCalm, NeedsPage};
 ghost use Rattle.rgo_core_steps.specs.Seats.{HasOne, HasPossible, Settles, mine, settled};
-ghost use Rattle.rgo_pages.specs.Claiming.{AllPagesTried, FullLaw, Hooked, PageClaimed, PageOrNone, PagesTried};
+ghost use Rattle.rgo_pages.specs.Claiming.{AllPagesTried, FullPagesLaw, Hooked, PageClaimed, PageOrNone, PagesTried};
 
 use rgo_core::memory::layout::TableSizes;
 use rgo_core::table::{RunSeat, RunTable};
@@ -19,12 +22,14 @@ use rgo_core_steps::counting::Steps;
 use rgo_core_steps::pages;
 use std::sync::ledger::Ledger;
 
-/// No page is free.
+/// Each page was found in use, at its own exchange. That all were in use at one moment does not follow; the driver finds that out
+/// by a pass over all goroutines.
 #[derive(Clone, Copy, Debug, PartialEq, Eq)]
 pub struct NoPage;
 
 /// Claims a page for the slot of the region in which the next instruction makes an object: the own page there, or if the object is
-/// spread, one that is reserved for it. The search begins at page 0.
+/// spread, one that is reserved for it. The search begins at page 0. Called by the goroutine itself, which has a stake in the
+/// region.
 pub fn claim<L: Ledger>(
     table: &RunTable,
     seat: &mut RunSeat,
@@ -52,7 +57,8 @@ pub fn claim<L: Ledger>(
     claim_at(table, seat, behind, sizes, slot, 0, steps)
 }
 
-/// The same, where the search begins at page `from`, or at page 0 if there is no such page.
+/// The same, but the search begins at page `from`, or at page 0 if there is no such page. Where it begins is a hint: no clause
+/// depends on it.
 pub fn claim_from<L: Ledger>(
     table: &RunTable,
     seat: &mut RunSeat,
@@ -87,7 +93,7 @@ pub fn claim_from<L: Ledger>(
 
 /// What a search in vain shows: each page was found in use at an exchange of the call.
 pub fn full_law()
-    ensures { FullLaw }
+    ensures { FullPagesLaw }
 {}
 
 /// Claims a page, where the looks begin at this one.
@@ -133,7 +139,9 @@ fn claim_at<L: Ledger>(
     }
 }
 
-/// Puts a page that was taken at the head of the chain of its slot.
+/// Puts a page that was taken at the head of the chain of its slot. The swap cannot fail, whatever others put on the chain at the
+/// same time. Between the two accesses the page's next word is wrong, and nobody reads it: a chain is read only when no stake is
+/// left, and the caller has one.
 fn hook<L: Ledger>(
     table: &RunTable,
     seat: &mut RunSeat,
@@ -160,7 +168,8 @@ fn hook<L: Ledger>(
     pages::link(table, seat, sizes, page, slot, head);
 }
 
-/// Takes a free page, if there is one.
+/// Takes a free page, if an exchange finds one. The first exchange takes the local steps of the goroutine with it, so the others
+/// have none to take.
 fn take<L: Ledger>(
     table: &RunTable,
     seat: &mut RunSeat,
@@ -195,7 +204,8 @@ fn take<L: Ledger>(
     }
 }
 
-/// Where the exchanges begin: at the first page that looks free, from `from` on once around; if none does, at `from`.
+/// Where the exchanges begin: at the first page that looks free, from `from` on once around; if none does, at `from`. The exchanges
+/// are made in that case, too: a look is not part of the history of the table, so it cannot show that a page is in use.
 fn beginning(table: &RunTable, sizes: &TableSizes, from: usize) -> usize
     requires layout { HasLayout (setup_of table.now.shared.key) sizes.now table.now.shared.table_id }
     requires from { from < sizes.now.pages }

@@ -1,7 +1,7 @@
-//! Who gives the pages of a region back, and when.
+//! Who returns the pages of a region, and when.
 //!
 //! A page changes its owner by two accesses alone. `claim` exchanges its state from 0, so that no page is claimed that is claimed for
-//! a region already; and `free` stores 0. A goroutine may free a page only while its record says that it gives back the chain of a
+//! a region already; and `free` stores 0. A goroutine may free a page only while its record says that it returns the chain of a
 //! slot. The record comes to say so by `leave` where that found the last stake, and by no other access; it stops with `free_slot`.
 ghost use Rattle.rgo_pages.specs.Examples.{PageExamples};
 ghost use Rattle.rgo_pages.specs.Laws.{GiveLaw, ReleaseLaw};
@@ -12,7 +12,7 @@ pub fn release_law()
     ensures { ReleaseLaw }
 {}
 
-/// A leave that found the last stake makes a record give back the chain of a slot, and no other access does.
+/// A record comes to return the chain of a slot by a leave that found the last stake, and by no other access.
 pub fn give_law()
     ensures { GiveLaw }
 {}

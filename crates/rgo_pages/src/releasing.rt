@@ -1,6 +1,10 @@
-//! The pages of a region without stakes are given back, by the goroutine that ended the last one: from the head of the chain on, the
+//! The pages of a region without stakes are returned, by the goroutine that ended the last one: from the head of the chain on, the
 //! next word of each page is loaded before the page is freed, and the head is cleared at last. The slot is freed after that, by
 //! `free_slot` of `rgo_counts`.
+//!
+//! Nobody else accesses the chain meanwhile: to claim a page for the slot takes a stake, of which none is left, and no new region
+//! has the slot before it is freed. Only pages that were freed may be claimed again, for other slots. Why: docs/DECISIONS.md,
+//! "Counts and pages as words".
 ghost use Rattle.std.specs.Prelude.{◌≡◌, ◌<◌, ◌≤◌, ◌+◌, ◌*◌, ℕ, suc, [], ◌∷◌};
 ghost use Rattle.rgo_core.specs.Opening.{first_of};
 ghost use Rattle.rgo_core.specs.Plans.{setup_of};
@@ -17,7 +21,8 @@ use rgo_core_steps::counting::Steps;
 use rgo_core_steps::pages;
 use std::sync::ledger::Ledger;
 
-/// Gives back the pages of a region whose last stake this goroutine has ended, and returns how many: as many as its record owes.
+/// Frees the pages of a region whose last stake this goroutine has ended, and returns how many: as many as its record still has to
+/// free, so the loop ends. The head is cleared once, at the end, since nobody reads it before.
 pub fn release<L: Ledger>(
     table: &RunTable,
     seat: &mut RunSeat,
@@ -50,7 +55,8 @@ pub fn release<L: Ledger>(
     freed
 }
 
-/// Frees the first page that is left of a chain, and returns the link to the page after it.
+/// Frees the first page that is left of a chain, and returns the link to the page after it. The link is loaded first: once the page
+/// is free, another goroutine may claim it and store its next word.
 fn free_page<L: Ledger>(
     table: &RunTable,
     seat: &mut RunSeat,

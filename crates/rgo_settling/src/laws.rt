@@ -1,11 +1,11 @@
 //! What a record is after local steps, and after a run of the loop.
 
 ghost use Rattle.rgo_settling.specs.Examples.{SettlingExamples};
-ghost use Rattle.rgo_settling.specs.Settling.{PathLaw, RunLaw, UnguardedLaw};
+ghost use Rattle.rgo_settling.specs.Settling.{SettlingPathLaw, RunLaw, UnguardedLaw};
 
 /// A path of instructions.
 pub fn path_law()
-    ensures { PathLaw }
+    ensures { SettlingPathLaw }
 {}
 
 /// A run of the loop.

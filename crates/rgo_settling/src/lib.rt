@@ -1,5 +1,5 @@
 //! The loop over simple instructions makes local steps of the record of a goroutine. These laws say what the record is after
-//! them, so that the next access of the goroutine takes them into the run.
+//! them, so that the next access of the goroutine takes them into the run. Between two accesses no other goroutine sees them.
 #![tactic(auto)]
 
 pub mod laws;

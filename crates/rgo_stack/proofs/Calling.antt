@@ -6,27 +6,27 @@ use Rattle.std.proofs.lemmas.Option.{same_Some}
 use Rattle.std.specs.Option.{option_map}
 use Rattle.std.specs.Prelude.{IfSome}
 use Rattle.rgo_sound.specs.Code.Code.{Call, Code, CodeFn, CodeOp}
-use Rattle.rgo_sound.specs.RegionMachine.Owed.{function_of}
+use Rattle.rgo_sound.specs.RegionMachine.Owed.{code_function}
 use Rattle.rgo_sound.specs.Values.{call_target}
 use Rattle.rgo_core.specs.Frames.Stacks.{frames_in, newest}
 use Rattle.rgo_core.specs.Frames.WordFrames.{WordFrame, word_at, word_called, word_going, word_resumed_at, word_resumed_by, words_of}
-use Rattle.rgo_core.proofs.Frames.Stacking.{stack_laws}
+use Rattle.rgo_core.proofs.Frames.shown.Stacking.{stack_laws}
 use Rattle.rgo_compact.specs.Bounds.{IsTarget}
 use Rattle.rgo_compact.specs.declared.positions.Caller.{Caller}
 use Rattle.rgo_compact.specs.declared.positions.Position.{Position}
 use Rattle.rgo_compact.specs.Functions.{CompactFn, IsCompact}
 use Rattle.rgo_compact.specs.Runs.{frame_at}
-use Rattle.rgo_compact.specs.Stack.{Enters, HasCallers, IsFull, IsStack, caller_frame, callers_in, given_back, no_caller, resumed_position, shown, stack_frame}
+use Rattle.rgo_compact.specs.Stack.{StackEnters, HasCallers, IsStackFull, IsStack, caller_frame, callers_in, given_back, no_caller, resumed_position, shown, stack_frame}
 use Rattle.rgo_compact.proofs.Transferring.{back_shows, callers_grow, enters_stack, same_callee, same_value}
-use Rattle.rgo_stack.specs.Places.{CanCall, CanReturn, IsCalledFor, IsPlace, Takes}
+use Rattle.rgo_stack.specs.Places.{FrameCanCall, CanReturn, IsCalledFor, IsPlace, FunctionTakes}
 use Rattle.rgo_stack.specs.Steps.{after_call, after_return}
 use Rattle.rgo_stack.proofs.Frames.{among_words, below_top}
 
 -- ---- calls
 
 pub enters_shows : (code : Code) (fs : List CompactFn) (fn : CodeFn) (n : ℕ) (p q : Position) (arguments old new : List ℕ)
-    (callers kept : List Caller) → IsCompact code fs → function_of code n ≡ Some fn → p.top ≤ length old
-    → Enters fs n p q arguments old new callers kept
+    (callers kept : List Caller) → IsCompact code fs → code_function code n ≡ Some fn → p.top ≤ length old
+    → StackEnters fs n p q arguments old new callers kept
     → shown new kept q ≡ after_call fn n arguments (shown old callers p)
 enters_shows code fs fn n p q arguments old new callers kept compact known within e =
     let f = frame_at p.function p.next (drop p.base (take p.top old)) in
@@ -42,20 +42,20 @@ enters_shows code fs fn n p q arguments old new callers kept compact known withi
 
 -- the stack after it
 pub entered : (fs : List CompactFn) (n : ℕ) (p q : Position) (arguments old new : List ℕ) (callers kept : List Caller)
-    → IsStack fs callers p → CanCall fs n (length arguments) (shown old callers p)
-    → Enters fs n p q arguments old new callers kept → IsStack fs kept q
+    → IsStack fs callers p → FrameCanCall fs n (length arguments) (shown old callers p)
+    → StackEnters fs n p q arguments old new callers kept → IsStack fs kept q
 entered fs n p q arguments old new callers kept stack can e =
     enters_stack fs n p q arguments old new callers kept can.0.f can.0.call stack can.0.known can.0.at can.0.waits e
 
 pub as_many_callers : (fs : List CompactFn) (n : ℕ) (p q : Position) (arguments old new : List ℕ) (callers kept : List Caller)
-    → Enters fs n p q arguments old new callers kept → length kept ≡ length callers
+    → StackEnters fs n p q arguments old new callers kept → length kept ≡ length callers
 as_many_callers fs n p q arguments old new callers kept e =
     ap length e.keeps ∙ length-set callers p.depth (record { function = p.function; next = p.next; base = p.base })
 
 -- there is room
 pub not_full : (fs : List CompactFn) (n : ℕ) (f : CompactFn) (arguments : List ℕ) (words callers : ℕ) (p : Position)
-    → slice_get fs n ≡ Some f → Takes fs n (length arguments) → p.top + f.size ≤ words → p.depth < callers
-    → IsFull fs n arguments words callers p → ⊥
+    → slice_get fs n ≡ Some f → FunctionTakes fs n (length arguments) → p.top + f.size ≤ words → p.depth < callers
+    → IsStackFull fs n arguments words callers p → ⊥
 not_full fs n f arguments words callers p known takes room depth full =
     by (full f known fits)
   where

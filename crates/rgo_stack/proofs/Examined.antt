@@ -9,7 +9,7 @@ use Rattle.rgo_compact.specs.declared.operations.Operation.TheVariants as op
 use Rattle.rgo_compact.specs.Functions.{CompactFn}
 use Rattle.rgo_compact.specs.Stack.{IsCallOrStop}
 use Rattle.rgo_stack.specs.Examples.{StackExamples, both, calling, compact_calling, nested, outer}
-use Rattle.rgo_stack.specs.Places.{IsAtCall, IsCalledFor, IsPlace, Takes}
+use Rattle.rgo_stack.specs.Places.{IsFrameAtCall, IsCalledFor, IsPlace, FunctionTakes}
 use Rattle.rgo_stack.specs.Stacks.{Belongs}
 
 abbrev only : CompactFn
@@ -25,7 +25,7 @@ no_place_2 place =
 no_place_3 : IsPlace compact_calling 0 (1 + 1) → ⊥
 no_place_3 = no_place_2
 
-takes_two : Takes compact_calling 0 3 → ⊥
+takes_two : FunctionTakes compact_calling 0 3 → ⊥
 takes_two takes =
     let fits = takes.fits in
     let same : takes.f.size ≡ 2 = ap (λ (k : CompactFn). k.size) (sym (same_Some only takes.f takes.known)) in
@@ -49,7 +49,7 @@ at_return b =
     let has = b.frames.0.below.0 in
     leaves has.frame.f has.call has.frame.known has.at has.waits
 
-not_called : IsAtCall compact_calling (outer 1) → ⊥
+not_called : IsFrameAtCall compact_calling (outer 1) → ⊥
 not_called c = leaves c.f c.call c.known c.at c.waits
 
 for_another : IsCalledFor calling (Some 1) both → ⊥

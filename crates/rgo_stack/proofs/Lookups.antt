@@ -3,7 +3,7 @@ use Rattle.std.proofs.Common.{◌≡◌, ◌<◌, ◌≤◌, ◌∙◌, ℕ, Lis
 use Rattle.std.proofs.lemmas.Option.{same_Some, slice_get_within}
 use Rattle.rgo_sound.specs.Code.Code.{Branch, Call, Code, CodeFn, CodeInstr, CodeOp, Return}
 use Rattle.rgo_sound.specs.Tac.declared.regions.Class.{Class}
-use Rattle.rgo_sound.specs.RegionMachine.Owed.{current, current_in, function_of}
+use Rattle.rgo_sound.specs.RegionMachine.Owed.{current, current_in, code_function}
 use Rattle.rgo_core.specs.Frames.WordFrames.{WordFrame, bare}
 use Rattle.rgo_sound.proofs.Places.{get_some}
 use Rattle.rgo_compact.specs.declared.operations.Operation.{Operation}
@@ -11,7 +11,7 @@ use Rattle.rgo_compact.specs.Functions.{CompactFn, IsCompact, IsCompactFn}
 use Rattle.rgo_compact.specs.Operations.{StandsFor}
 use Rattle.rgo_compact.specs.Stack.{IsCallOrStop}
 use Rattle.rgo_compact.proofs.Shapes.{IsPlain, Shape, call, invoke, leave, return_of, shape, stop, straight, one_way}
-use Rattle.rgo_stack.specs.Places.{IsAtCall, IsPlace, PlaceLaws, Takes}
+use Rattle.rgo_stack.specs.Places.{IsFrameAtCall, IsPlace, PlaceLaws, FunctionTakes}
 
 -- function n, compact
 pub record Has (code : Code) (fs : List CompactFn) (n : ℕ) (fn : CodeFn) : Type 0 where
@@ -20,7 +20,7 @@ pub record Has (code : Code) (fs : List CompactFn) (n : ℕ) (fn : CodeFn) : Typ
   pub is : IsCompactFn code n f
   pub same : is.fn ≡ fn
 
-pub has : (code : Code) (fs : List CompactFn) (n : ℕ) (fn : CodeFn) → IsCompact code fs → function_of code n ≡ Some fn
+pub has : (code : Code) (fs : List CompactFn) (n : ℕ) (fn : CodeFn) → IsCompact code fs → code_function code n ≡ Some fn
     → Has code fs n fn
 has code fs n fn compact known =
     let within = slice_get_within code.functions n fn known in
@@ -29,7 +29,7 @@ has code fs n fn compact known =
     let is = compact.each n f.0 f.1 in
     record { f = f.0; known = f.1; is = is; same = same_Some is.fn fn (sym is.known ∙ known) }
 
-place : (code : Code) (fs : List CompactFn) (n next : ℕ) (fn : CodeFn) → IsCompact code fs → function_of code n ≡ Some fn
+place : (code : Code) (fs : List CompactFn) (n next : ℕ) (fn : CodeFn) → IsCompact code fs → code_function code n ≡ Some fn
     → next < length fn.body → IsPlace fs n next
 place code fs n next fn compact known within =
     let h = has code fs n fn compact known in
@@ -37,8 +37,8 @@ place code fs n next fn compact known within =
     let same = ap (λ (k : CodeFn). length k.body) h.same in
     record { f = h.f; known = h.known; within = omega (arith, within, len, same) }
 
-takes : (code : Code) (fs : List CompactFn) (n arguments : ℕ) (fn : CodeFn) → IsCompact code fs → function_of code n ≡ Some fn
-    → arguments ≤ length fn.variables → Takes fs n arguments
+takes : (code : Code) (fs : List CompactFn) (n arguments : ℕ) (fn : CodeFn) → IsCompact code fs → code_function code n ≡ Some fn
+    → arguments ≤ length fn.variables → FunctionTakes fs n arguments
 takes code fs n arguments fn compact known within =
     let h = has code fs n fn compact known in
     let size = h.is.size in
@@ -91,19 +91,19 @@ waits_at code arguments body at x instr to n from passes protects removes found 
 -- the function of a current instruction
 pub record Found (code : Code) (n i : ℕ) (instr : CodeInstr) : Type 0 where
   pub fn : CodeFn
-  pub known : function_of code n ≡ Some fn
+  pub known : code_function code n ≡ Some fn
   pub at : slice_get fn.body i ≡ Some instr
 
-found_in : (code : Code) (n i : ℕ) (instr : CodeInstr) (o : Option CodeFn) → function_of code n ≡ o
+found_in : (code : Code) (n i : ℕ) (instr : CodeInstr) (o : Option CodeFn) → code_function code n ≡ o
     → current_in o i ≡ Some instr → Found code n i instr
 found_in code n i instr None e found = let no : None ≡ Some instr = found in cc
 found_in code n i instr (Some fn) e found = record { fn = fn; known = e; at = found }
 
 is_at_call : (code : Code) (fs : List CompactFn) (w : WordFrame) (instr : CodeInstr) (to : Option ℕ) (n : ℕ)
     (from : List ℕ) (passes : List Class) (protects removes : List ℕ) → IsCompact code fs
-    → current code (bare w) ≡ Some instr → instr.op ≡ Call to n from passes protects removes → IsAtCall fs w
+    → current code (bare w) ≡ Some instr → instr.op ≡ Call to n from passes protects removes → IsFrameAtCall fs w
 is_at_call code fs w instr to n from passes protects removes compact found op =
-    let x = found_in code w.function w.next instr (function_of code w.function) refl found in
+    let x = found_in code w.function w.next instr (code_function code w.function) refl found in
     let h = has code fs w.function x.fn compact x.known in
     let within = slice_get_within x.fn.body w.next instr x.at in
     let len = h.is.len in

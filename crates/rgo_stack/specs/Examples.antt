@@ -6,7 +6,7 @@ use Rattle.rgo_core.specs.Frames.WordFrames.{WordFrame}
 use Rattle.rgo_compact.specs.declared.operations.Operation.TheVariants as op
 use Rattle.rgo_compact.specs.Functions.{CompactFn}
 use Rattle.rgo_compact.specs.Runs.{frame_at}
-use Rattle.rgo_stack.specs.Places.{CanAdvance, CanReturn, IsAtCall, IsCalledFor, IsPlace, Takes}
+use Rattle.rgo_stack.specs.Places.{CanAdvance, CanReturn, IsFrameAtCall, IsCalledFor, IsPlace, FunctionTakes}
 use Rattle.rgo_stack.specs.Stacks.{Belongs, Stack, caller_place, frames_of, newest_place, newest_word, words_from}
 use Rattle.rgo_stack.specs.Steps.{after_call, after_jump, after_return, after_word}
 
@@ -52,10 +52,10 @@ pub record StackExamples : Type 0 where
   -- what is asked of the code
   pub place : IsPlace compact_calling 0 1
   pub no_place : IsPlace compact_calling 0 2 → ⊥
-  pub takes : Takes compact_calling 0 2
-  pub takes_fewer : Takes compact_calling 0 3 → ⊥
-  pub at_call : IsAtCall compact_calling (outer 0)
-  pub not_at_call : IsAtCall compact_calling (outer 1) → ⊥
+  pub takes : FunctionTakes compact_calling 0 2
+  pub takes_fewer : FunctionTakes compact_calling 0 3 → ⊥
+  pub at_call : IsFrameAtCall compact_calling (outer 0)
+  pub not_at_call : IsFrameAtCall compact_calling (outer 1) → ⊥
   pub advances : CanAdvance compact_calling (Some 1) (outer 0 ∷ [])
   pub no_variable : CanAdvance compact_calling (Some 2) (outer 0 ∷ []) → ⊥
   pub last : CanAdvance compact_calling (Some 1) (outer 1 ∷ []) → ⊥

@@ -1,12 +1,12 @@
-//! Calls and returns.
+//! Calls and returns. Room is made before anything changes, so a call that is refused memory can be made later.
 
 ghost use Rattle.std.specs.Prelude.{◌≡◌, ◌+◌, ◌<◌, ◌≤◌, ◌↔◌, Err, Some, OnErr, OnOk, length};
 ghost use Rattle.rgo_sound.specs.Code.Code.{Code, CodeFn};
 ghost use Rattle.rgo_sound.specs.Machine.Limits.{deepest};
-ghost use Rattle.rgo_sound.specs.RegionMachine.Owed.{function_of};
+ghost use Rattle.rgo_sound.specs.RegionMachine.Owed.{code_function};
 ghost use Rattle.rgo_compact.specs.Functions.{IsCompact};
 ghost use Rattle.rgo_stack.specs.declared.calls.NoCall.TheVariants as no_call;
-ghost use Rattle.rgo_stack.specs.Places.{CanCall, CanReturn, IsCalledFor};
+ghost use Rattle.rgo_stack.specs.Places.{FrameCanCall, CanReturn, IsCalledFor};
 ghost use Rattle.rgo_stack.specs.Stacks as spec;
 ghost use Rattle.rgo_stack.specs.Steps.{after_call, after_return};
 
@@ -41,6 +41,7 @@ impl Stack {
         ensures at { self.new.at ≡ self.old.at }
         ensures belongs { spec.Belongs compact.now self.new }
     {
+        // No memory has as many words as a `usize` counts.
         let Some(needed) = p.top.checked_add(size) else {
             return Err(AllocError);
         };
@@ -52,17 +53,18 @@ impl Stack {
     ///
     /// # Errors
     ///
-    /// [`NoCall::TooDeep`] exactly where the goroutine has as many frames as it may have; else [`NoCall::NoMemory`] on
+    /// [`NoCall::TooDeep`] exactly if the goroutine has as many frames as it may have; otherwise [`NoCall::NoMemory`] on
     /// allocation failure. The frames are then as before.
     pub fn call(&mut self, compact: &CompactCode, n: u32, from: &[u32]) -> Result<(), NoCall>
         requires belongs { spec.Belongs compact.now self.old }
-        requires can { CanCall compact.now n (length from.now) (spec.frames_of self.old) }
-        ensures called { OnOk result ((code : Code) (fn : CodeFn) → IsCompact code compact.now → function_of code n ≡ Some fn
+        requires can { FrameCanCall compact.now n (length from.now) (spec.frames_of self.old) }
+        ensures called { OnOk result ((code : Code) (fn : CodeFn) → IsCompact code compact.now → code_function code n ≡ Some fn
             → spec.frames_of self.new ≡ after_call fn n from.now (spec.frames_of self.old)) }
         ensures deep { (result ≡ Err no_call.TooDeep) ↔ (length (spec.frames_of self.old) ≡ deepest) }
         ensures refused { OnErr result (spec.frames_of self.new ≡ spec.frames_of self.old) }
         ensures belongs { spec.Belongs compact.now self.new }
     {
+        // A goroutine that calls has a frame.
         let Some(p) = self.at else {
             unreachable!();
         };
@@ -87,6 +89,7 @@ impl Stack {
                 self.at = Some(q);
                 Ok(())
             }
+            // There is room now, and checked code calls functions that exist, with as many arguments as they have parameters.
             None => unreachable!(),
         }
     }
@@ -100,6 +103,7 @@ impl Stack {
             → spec.frames_of self.new ≡ after_return code value (spec.frames_of self.old) }
         ensures belongs { spec.Belongs compact.now self.new }
     {
+        // A goroutine that returns has a frame.
         let Some(p) = self.at else {
             unreachable!();
         };

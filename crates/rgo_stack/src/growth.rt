@@ -1,4 +1,5 @@
-//! More room on a stack. It doubles, so that the time for it is in proportion to the calls.
+//! More room on a stack. It doubles, so that the time spent on growing is proportional to the calls. The first list of callers is
+//! short, since many goroutines call little and wait.
 
 ghost use Rattle.std.specs.Prelude.{◌≡◌, ◌+◌, ◌<◌, ◌≤◌, OnOk, length, take};
 ghost use Rattle.rgo_sound.specs.Machine.Limits.{deepest};

@@ -2,13 +2,13 @@
 
 ghost use Rattle.std.specs.Prelude.{◌≡◌, ◌<◌, ◌≤◌, ◌∷◌, ℕ, List, Some, [], IfOk, drop, get_or, length, map, take};
 ghost use Rattle.rgo_sound.specs.Code.Code.{Code, CodeFn};
-ghost use Rattle.rgo_sound.specs.RegionMachine.Owed.{function_of};
+ghost use Rattle.rgo_sound.specs.RegionMachine.Owed.{code_function};
 ghost use Rattle.rgo_core.specs.Frames.Stacks.{frames_in};
 ghost use Rattle.rgo_core.specs.Frames.WordFrames.{word_called};
 ghost use Rattle.rgo_compact.specs.Functions.{CompactFn, IsCompact};
 ghost use Rattle.rgo_compact.specs.Runs.{word_or_zero};
 ghost use Rattle.rgo_compact.specs.Stack.{callers_in};
-ghost use Rattle.rgo_stack.specs.Places.{Takes};
+ghost use Rattle.rgo_stack.specs.Places.{FunctionTakes};
 ghost use Rattle.rgo_stack.specs.Stacks as spec;
 
 use rgo_compact::{Caller, CompactCode, Position, function_of};
@@ -70,7 +70,7 @@ fn word_or_zero(variables: &[u64], v: u32) -> u64
     }
 }
 
-/// The newest caller of so many.
+/// The newest of `depth` callers.
 fn place_of(callers: &[Caller], depth: usize) -> Option<Place>
     requires { depth ≤ length callers.now }
     ensures { (words : List ℕ) → result ≡ spec.newest_place (frames_in words (callers_in callers.now depth)) }
@@ -108,9 +108,9 @@ impl Stack {
         n: usize,
         arguments: Vec<u64>,
     ) -> Result<Stack, AllocError>
-        requires { Takes compact.now n (length arguments.items) }
+        requires { FunctionTakes compact.now n (length arguments.items) }
         ensures frames { IfOk result (λ s. (code : Code) (fn : CodeFn) → IsCompact code compact.now
-            → function_of code n ≡ Some fn → spec.frames_of s ≡ word_called fn n arguments.items ∷ []) }
+            → code_function code n ≡ Some fn → spec.frames_of s ≡ word_called fn n arguments.items ∷ []) }
         ensures belongs { IfOk result (λ s. spec.Belongs compact.now s) }
     {
         let size = function_of(compact.functions(), n).size();
@@ -184,6 +184,7 @@ impl Stack {
     {
         match self.at {
             Some(p) => word_at(&self.words, p.base, p.top, v),
+            // The caller asks for a variable of the newest frame, so there is one.
             None => unreachable!(),
         }
     }

@@ -1,4 +1,3 @@
 pub mod TableRuns
-pub mod RegionRuns
 pub mod Laws
 pub mod Examples

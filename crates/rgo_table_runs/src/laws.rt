@@ -1,4 +1,4 @@
-//! What the run behind a table is, and what the claim on the whole program says of it.
+//! What the run that explains a closed table is, and what the claim on the whole program says of it.
 
 ghost use Rattle.rgo_table_runs.specs.claims.Examples.{ClaimExamples};
 ghost use Rattle.rgo_table_runs.specs.claims.Laws.{GivesClaim, RunsAsCode};
@@ -15,16 +15,17 @@ pub fn rows_law()
     ensures { RowsAreAll }
 {}
 
-/// How a driver comes to have what it must have at the close: a view with a family has the rows of all goroutines, their shares by number
-/// add up to what all have counted, and prints of which each was given out or waits for the one before it were all given out.
+/// How a driver comes to have what it must have at the close: a view with a family has the rows of all goroutines, their shares by
+/// number add up to what all have counted, and prints of which each was given out or waits for the one before it were all given
+/// out.
 pub fn gathering_laws()
     ensures rows { FamilyIsAll }
     ensures shares { SharesAreAll }
     ensures prints { GatheredAreGiven }
 {}
 
-/// A driver that follows each goroutine, from its start until it has retired, loses none of them and none of their prints: not by a turn,
-/// by gathering, by adopting, or by the order in which it keeps them.
+/// A driver that follows each goroutine, from its start until it has retired, loses none of them and none of their prints: not by a
+/// turn, by gathering, by adopting, or by the order in which it keeps them.
 pub fn members_laws()
     ensures order { KeptByOrder }
     ensures turn { KeptByTurn }
@@ -33,14 +34,14 @@ pub fn members_laws()
     ensures close { AllRetired }
 {}
 
-/// The run behind a closed table is a run of the program, which has ended as its driver says; and what the claim on the whole program
-/// says of it.
+/// The run that explains a closed table is a run of the program, which has ended as its driver says; and what the claim on the
+/// whole program says of it.
 pub fn closing_law()
     ensures runs { ClosedRuns }
     ensures claims { ClosedClaims }
 {}
 
-/// What a look and a turn tell of a goroutine in a pass, and that it stays so.
+/// What a look and a turn show of a goroutine in a pass, and that it stays so.
 pub fn pass_laws()
     ensures look { KnowsByLook }
     ensures turn { PassesByTurn }
@@ -52,7 +53,7 @@ pub fn deadlock_law()
     ensures { FindsDeadlock }
 {}
 
-/// After a pass in which a goroutine lacked a page or a slot there is none for it: as many are in use as there are.
+/// After a pass in which a goroutine lacked a page or a slot, there is none for it: as many are in use as there are.
 pub fn shortage_law()
     ensures { FindsShortage }
 {}

@@ -3,11 +3,11 @@ use Rattle.std.proofs.Common.{refl, subst}
 use Rattle.std.specs.Prelude.{◌≡◌, List, Some}
 use Rattle.rgo_sound.specs.RegionMachine.Machine.{Event}
 use Rattle.rgo_sound.specs.RegionMachine.Room.{roomy_run}
-use Rattle.rgo_sound.proofs.Offers.{names_only_live}
-use Rattle.rgo_sound.proofs.Room.{room_is_kept}
+use Rattle.rgo_sound.proofs.offers.Offers.{names_only_live}
+use Rattle.rgo_sound.proofs.counts.Room.{room_is_kept}
 use Rattle.rgo_sound.proofs.Safe.{safety}
 use Rattle.rgo_table_runs.specs.claims.Laws.{GivesClaim, RunsAsCode}
-use Rattle.rgo_table_runs.specs.claims.TableRuns.{picks_of}
+use Rattle.rgo_sound.specs.Erasure.{picks_of}
 
 pub runs_as_code : RunsAsCode
 runs_as_code code sizes limits end tally old new t = (

@@ -11,9 +11,10 @@ use Rattle.rgo_sound.specs.RegionMachine.Machine.{Acknowledge, Attend, Event, Fi
 use Rattle.rgo_sound.specs.RegionMachine.States.{Mark, RegionState}
 use Rattle.rgo_sound.specs.Erasure.{erased_picks, event_picks}
 use Rattle.rgo_sound.specs.Tally.{share_of, share_of_plain}
-use Rattle.rgo_sound.proofs.ErasureLemmas.{Follows}
-use Rattle.rgo_sound.proofs.Tally.{none_of_holder, tally_adds}
-use Rattle.rgo_table_runs.proofs.claims.Erased.{one_step, first, follows, none_before}
+use Rattle.rgo_sound.proofs.plain.Steps.{Follows}
+use Rattle.rgo_sound.proofs.counts.Tally.{none_of_holder, tally_adds}
+use Rattle.rgo_core.proofs.runs.Runs.{first_step, one_step}
+use Rattle.rgo_table_runs.proofs.claims.Erased.{follows, none_before}
 
 module _ (code : Code) (page_words : ℕ) (limits : Limits) where
   one_counted : (s t : RegionState) (e : Event) → region_step code page_words s e ≡ Some t → Follows code page_words s e t → length (event_picks None e) + s.steps ≡ t.steps
@@ -31,7 +32,7 @@ module _ (code : Code) (page_words : ℕ) (limits : Limits) where
       → length (erased_picks code page_words s events) + s.steps ≡ t.steps
   counted [] s t none e = let z : s.steps ≡ t.steps = ap (λ (u : RegionState). u.steps) (same_Some s t e) in omega arith
   counted (event ∷ events) s t none e =
-      let f = first code page_words limits (limited_step code page_words limits) s t event events e in
+      let f = first_step (limited_step code page_words limits) s t event events e in
       let one = one_step code page_words limits s f.0 event f.1 in
       let rest = counted events f.0 t none f.2 in
       let now = one_counted s f.0 event one.0 (follows code page_words limits s f.0 event one.0) in

@@ -1,11 +1,12 @@
 -- A run with regions within the limits, and the run within them that it erases to.
-use Rattle.std.proofs.Common.{◌≡◌, ℕ, Bool, true, false, List, [], ◌∷◌, ◌++◌, Option, Some, None, refl, ap, sym, subst, ◌∙◌, append_assoc}
+use Rattle.std.proofs.Common.{◌≡◌, ℕ, true, List, [], ◌∷◌, ◌++◌, Option, Some, None, refl, ap, sym, subst, ◌∙◌, append_assoc}
 use Rattle.std.proofs.lemmas.Option.{same_Some}
 use Rattle.std.proofs.lemmas.List.{append-nil}
-use Rattle.std.specs.Prelude.{option_and_then, option_map, unwrap_or, if◌then◌else◌}
+use Rattle.std.specs.Prelude.{option_and_then, option_map, unwrap_or}
 use Rattle.rgo_sound.specs.Code.Code.{Code}
 use Rattle.rgo_sound.specs.Code.Erasure.{erased}
-use Rattle.rgo_core.specs.Runs.{if_in_limits, limited_step}
+use Rattle.rgo_core.specs.Runs.{limited_step}
+use Rattle.rgo_core.proofs.runs.Runs.{first_step, one_step}
 use Rattle.rgo_sound.specs.Machine.Limits.{LeadsWithin, is_within}
 use Rattle.rgo_sound.specs.Machine.Limits as plain
 use Rattle.rgo_sound.specs.Machine.Runs.{run}
@@ -14,46 +15,19 @@ use Rattle.rgo_sound.specs.Machine.declared.picks.End.{End}
 use Rattle.rgo_sound.specs.Machine.declared.picks.Pick.{Pick}
 use Rattle.rgo_sound.proofs.Machine.Runs.{limited}
 use Rattle.rgo_sound.specs.RegionMachine.Instructions.{marked, printed_if}
-use Rattle.rgo_sound.specs.RegionMachine.Machine.{Acknowledge, Attend, Event, Finish, Instruct, MakeOffer, TakePage, kept, region_step}
+use Rattle.rgo_sound.specs.RegionMachine.Machine.{Acknowledge, Attend, Event, Finish, Instruct, MakeOffer, TakePage, kept_mark, region_step}
 use Rattle.rgo_sound.specs.RegionMachine.States.{Mark, Ended, RegionState}
 use Rattle.rgo_sound.specs.Erasure.{erased_picks, event_picks}
-use Rattle.rgo_sound.proofs.ErasureLemmas.{Follows, step_follows, yields_is}
+use Rattle.rgo_sound.proofs.plain.Steps.{Follows, step_follows, yields_is}
 use Rattle.rgo_sound.specs.Tac.Tac.{TacState, tac}
 
 module _ (code : Code) (page_words : ℕ) (limits : Limits) where
   pub follows : (s t : RegionState) (e : Event) → region_step code page_words s e ≡ Some t → Follows code page_words s e t
   follows s t e is = yields_is {P = Follows code page_words s e} (region_step code page_words s e) t (step_follows code page_words s e) is
 
-  -- a step within the limits is a step, and leads to a state within them
-  pub one_step : (s t : RegionState) (e : Event) → limited_step code page_words limits s e ≡ Some t → (region_step code page_words s e ≡ Some t) × (is_within limits t.plain ≡ true)
-  one_step s t e is = go (region_step code page_words s e) is
-    where
-      pick : (b : Bool) (u : RegionState) → is_within limits u.plain ≡ b → (if b then Some u else None) ≡ Some t → (Some u ≡ Some t) × (is_within limits t.plain ≡ true)
-      pick true u w q = (q, ap (λ (v : RegionState). is_within limits v.plain) (sym (same_Some u t q)) ∙ w)
-      pick false u w q = absurd (cc q)
-
-      go : (o : Option RegionState) → option_and_then (if_in_limits code page_words limits) o ≡ Some t → (o ≡ Some t) × (is_within limits t.plain ≡ true)
-      go None q = absurd (cc q)
-      go (Some u) q = pick (is_within limits u.plain) u refl q
-
-  -- the first step of a run
-  pub first : {S E : Type 0} (step : S → E → Option S) (s t : S) (e : E) (es : List E) → run step s (e ∷ es) ≡ Some t → (u : S) × (step s e ≡ Some u) × (run step u es ≡ Some t)
-  first {S = S} {E = E} step s t e es leads = go (step s e) leads
-    where
-      go : (o : Option S) → option_and_then (λ u. run step u es) o ≡ Some t → (u : S) × (o ≡ Some u) × (run step u es ≡ Some t)
-      go None q = absurd (cc q)
-      go (Some u) q = (u, refl, q)
-
-  -- a run within the limits is a run
-  pub runs : (events : List Event) (s t : RegionState) → run (limited_step code page_words limits) s events ≡ Some t → run (region_step code page_words) s events ≡ Some t
-  runs [] s t e = e
-  runs (event ∷ events) s t e =
-      let f = first (limited_step code page_words limits) s t event events e in
-      ap (option_and_then (λ u. run (region_step code page_words) u events)) (one_step s f.0 event f.1).0 ∙ runs events f.0 t f.2
-
   mark_kept : (s t : RegionState) (e : Event) (m : Mark) → s.mark ≡ Some m → Follows code page_words s e t → t.mark ≡ Some m
   mark_kept s t (Instruct pick) m is f = f.2.mark ∙ ap (λ n. marked n f.0.ended) is
-  mark_kept s t (Finish limit) m is f = f.1 ∙ ap (λ n. kept n limit) is
+  mark_kept s t (Finish limit) m is f = f.1 ∙ ap (λ n. kept_mark n limit) is
   mark_kept s t (Attend g) m is f = f.mark ∙ is
   mark_kept s t (TakePage g) m is f = f.mark ∙ is
   mark_kept s t (MakeOffer g) m is f = f.mark ∙ is
@@ -63,8 +37,8 @@ module _ (code : Code) (page_words : ℕ) (limits : Limits) where
   pub mark_stays : (events : List Event) (s t : RegionState) (m : Mark) → s.mark ≡ Some m → run (limited_step code page_words limits) s events ≡ Some t → t.mark ≡ Some m
   mark_stays [] s t m is e = ap (λ (u : RegionState). u.mark) (sym (same_Some s t e)) ∙ is
   mark_stays (event ∷ events) s t m is e =
-      let f = first (limited_step code page_words limits) s t event events e in
-      mark_stays events f.0 t m (mark_kept s f.0 event m is (follows s f.0 event (one_step s f.0 event f.1).0)) f.2
+      let f = first_step (limited_step code page_words limits) s t event events e in
+      mark_stays events f.0 t m (mark_kept s f.0 event m is (follows s f.0 event (one_step code page_words limits s f.0 event f.1).0)) f.2
 
   pub none_before : (events : List Event) (s t : RegionState) → t.mark ≡ None → run (limited_step code page_words limits) s events ≡ Some t → s.mark ≡ None
   none_before events s t none e = go s.mark refl
@@ -91,8 +65,8 @@ module _ (code : Code) (page_words : ℕ) (limits : Limits) where
       → LeadsWithin (tac (erased code)) limits s.plain (erased_picks code page_words s events) t.plain
   erases [] s t none e = ap (λ (u : RegionState). Some u.plain) (same_Some s t e)
   erases (event ∷ events) s t none e =
-      let f = first (limited_step code page_words limits) s t event events e in
-      let one = one_step s f.0 event f.1 in
+      let f = first_step (limited_step code page_words limits) s t event events e in
+      let one = one_step code page_words limits s f.0 event f.1 in
       let rest = erases events f.0 t none f.2 in
       let open_yet = none_before (event ∷ events) s t none e in
       let then_too = none_before events f.0 t none f.2 in
@@ -108,7 +82,7 @@ module _ (code : Code) (page_words : ℕ) (limits : Limits) where
           let same = instructed s u pick open_yet f on in
           let step = limited (tac (erased code)) limits s.plain u.plain pick (f.1 ∙ ap (λ (p : TacState). Some p) (sym same)) w in
           ap (option_and_then (λ v. run (plain.limited_step (tac (erased code)) limits) v (erased_picks code page_words u events))) step ∙ rest
-      by_event (Finish limit) u f w open_yet then_too rest = let z : kept None limit ≡ None = ap (λ m. kept m limit) (sym open_yet) ∙ (sym f.1 ∙ then_too) in absurd (cc z)
+      by_event (Finish limit) u f w open_yet then_too rest = let z : kept_mark None limit ≡ None = ap (λ m. kept_mark m limit) (sym open_yet) ∙ (sym f.1 ∙ then_too) in absurd (cc z)
       by_event (Attend g) u f w open_yet then_too rest = subst (λ (p : TacState). LeadsWithin (tac (erased code)) limits p (erased_picks code page_words u events) t.plain) f.plain rest
       by_event (TakePage g) u f w open_yet then_too rest = subst (λ (p : TacState). LeadsWithin (tac (erased code)) limits p (erased_picks code page_words u events) t.plain) f.plain rest
       by_event (MakeOffer g) u f w open_yet then_too rest = subst (λ (p : TacState). LeadsWithin (tac (erased code)) limits p (erased_picks code page_words u events) t.plain) f.plain rest
@@ -118,8 +92,8 @@ module _ (code : Code) (page_words : ℕ) (limits : Limits) where
   pub plain_on : (events : List Event) (s t : RegionState) → s.plain.ended ≡ None → run (limited_step code page_words limits) s events ≡ Some t → t.plain.ended ≡ None
   plain_on [] s t none e = ap (λ (u : RegionState). u.plain.ended) (sym (same_Some s t e)) ∙ none
   plain_on (event ∷ events) s t none e =
-      let f = first (limited_step code page_words limits) s t event events e in
-      plain_on events f.0 t (by_event event f.0 (follows s f.0 event (one_step s f.0 event f.1).0)) f.2
+      let f = first_step (limited_step code page_words limits) s t event events e in
+      plain_on events f.0 t (by_event event f.0 (follows s f.0 event (one_step code page_words limits s f.0 event f.1).0)) f.2
     where
       by_event : (event : Event) (u : RegionState) → Follows code page_words s event u → u.plain.ended ≡ None
       by_event (Instruct pick) u f = ap (λ (p : TacState). p.ended) f.2.plain
@@ -138,8 +112,8 @@ module _ (code : Code) (page_words : ℕ) (limits : Limits) where
       last None = append-nil (event_picks s.mark e)
       last (Some u) = append-nil (event_picks s.mark e)
   picks_then (x ∷ events) s t e leads =
-      let f = first (limited_step code page_words limits) s t x events leads in
-      let one = one_step s f.0 x f.1 in
+      let f = first_step (limited_step code page_words limits) s t x events leads in
+      let one = one_step code page_words limits s f.0 x f.1 in
       let rest = picks_then events f.0 t e f.2 in
       subst (λ (o : Option RegionState). event_picks s.mark x ++ unwrap_or (option_map (λ u. erased_picks code page_words u (events ++ e ∷ [])) o) []
       ≡ (event_picks s.mark x ++ unwrap_or (option_map (λ u. erased_picks code page_words u events) o) []) ++ event_picks t.mark e) (sym one.0)

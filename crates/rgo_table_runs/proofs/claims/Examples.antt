@@ -2,14 +2,14 @@
 use Rattle.std.proofs.Common.{◌≡◌, ◌<◌, ℕ, max, List, [], ◌∷◌, ◌++◌, Option, Some, None, refl, ap, sym, subst, ◌∙◌, arith}
 use Rattle.std.proofs.lemmas.List.{append-nil}
 use Rattle.rgo_sound.specs.Code.Code.{Code}
-use Rattle.rgo_driver.specs.declared.ends.RunEnd.TheVariants.{NoMemory, NoRoom}
+use Rattle.rgo_sound.specs.Machine.declared.ends.RunEnd.TheVariants.{NoMemory, NoRoom}
 use Rattle.rgo_sound.specs.Machine.declared.limits.Limits.{Limits}
 use Rattle.rgo_sound.specs.Machine.declared.limits.Sizes.{Sizes}
-use Rattle.rgo_sound.specs.Machine.declared.turns.Shortage.{Shortage}
+use Rattle.rgo_sound.specs.Machine.declared.limits.Shortage.{Shortage}
 use Rattle.rgo_sound.specs.RegionMachine.Counts.{counts_of}
 use Rattle.rgo_sound.specs.RegionMachine.Machine.{region_start}
 use Rattle.rgo_sound.specs.RegionMachine.Room.{LacksIn, roomy_run}
-use Rattle.rgo_sound.proofs.Room.{room_is_kept}
+use Rattle.rgo_sound.proofs.counts.Room.{room_is_kept}
 use Rattle.rgo_table_runs.specs.claims.Examples.{ClaimExamples}
 use Rattle.rgo_table_runs.specs.claims.TableRuns.{TableRun}
 use Rattle.rgo_table_runs.proofs.claims.Claimed.{gives_claim}

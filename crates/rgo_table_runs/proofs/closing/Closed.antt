@@ -6,16 +6,16 @@ use Rattle.rgo_core.proofs.Lists.{get_of}
 use Rattle.rgo_core.specs.Core.{CoreAt, Setup, layout}
 use Rattle.rgo_core.specs.Links.{left_to_free}
 use Rattle.rgo_core.specs.Records.{ClockRec, Drawn, Record, all_counted, clock_of}
-use Rattle.rgo_core.proofs.Memory.Stepped.{map_get}
+use Rattle.rgo_core.proofs.Memory.image.Stepped.{map_get}
 use Rattle.rgo_core.specs.Rule.Lists.{flattened}
 use Rattle.rgo_core.specs.Rule.Views.{Has, Rows}
 use Rattle.rgo_core.specs.Rule.declared.accesses.View.{View}
-use Rattle.rgo_core_steps.specs.Outcomes.{Closes}
-use Rattle.rgo_driver.specs.declared.ends.RunEnd.{RunEnd}
-use Rattle.rgo_driver.specs.declared.ends.RunEnd.TheVariants as run_end
+use Rattle.rgo_core_steps.specs.Outcomes.{ClosesTable}
+use Rattle.rgo_sound.specs.Machine.declared.ends.RunEnd.{RunEnd}
+use Rattle.rgo_sound.specs.Machine.declared.ends.RunEnd.TheVariants as run_end
 use Rattle.rgo_sound.specs.RegionMachine.Counts.{Counts}
 use Rattle.rgo_sound.specs.RegionMachine.States.{Ended, Mark, RegionState, Stopped}
-use Rattle.rgo_table_runs.specs.closing.Ends.{Ends, GaveOut, IsFirst, end_of}
+use Rattle.rgo_table_runs.specs.closing.Ends.{TableRunEnds, GaveOut, IsFirst, end_of}
 use Rattle.rgo_table_runs.specs.closing.Laws.{ClosedClaims, ClosedRuns, HasClosed, RowsAreAll, last_state, whole_run}
 use Rattle.rgo_table_runs.specs.closing.Prints.{AllGiven, bytes_of}
 use Rattle.rgo_table_runs.specs.closing.Rows.{AreAll, all_shares}
@@ -37,7 +37,7 @@ find_clock recs g c e = by (slice_get recs g) refl
         none_map (r ∷ rs) zero e = cc
         none_map (r ∷ rs) (suc g) e = none_map rs g e
 
-module _ {T : Setup} {words : List ℕ} {v : View Record} (e : Closes T words v) (rows : Rows Record) (all : AreAll v rows) where
+module _ {T : Setup} {words : List ℕ} {v : View Record} (e : ClosesTable T words v) (rows : Rows Record) (all : AreAll v rows) where
   abbrev pub at_last : CoreAt T words e.recs (whole_run e) (last_state e)
   at_last = e.account.explains.1
 
@@ -96,7 +96,7 @@ module _ {T : Setup} {words : List ℕ} {v : View Record} (e : Closes T words v)
 
     -- the end is of a mark, or the driver's own
     by : (first : Option Mark) (end : RunEnd) → IsFirst rows first
-        → Ends T.code T.sizes T.limits tested (all_shares rows).steps s first end → GaveOut rows given end old new → Run end
+        → TableRunEnds T.code T.sizes T.limits tested (all_shares rows).steps s first end → GaveOut rows given end old new → Run end
     by first run_end.NoMemory f w gave =
         by_memory T.code T.sizes T.limits words (map clock_of e.recs) (whole_run e) s at_last.story old new (length given) begins.0
         (subst (λ (b : List ℕ). Appends old new b) begins.1 gave)

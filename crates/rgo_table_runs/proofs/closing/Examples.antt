@@ -4,7 +4,7 @@ use Rattle.std.proofs.lemmas.Option.{same_Some}
 use mathlib.Core.Option.{some, some-injective, some-ne-none}
 use lib.ListN.{get_elem?}
 use Rattle.rgo_core.proofs.Lists.{elem_of}
-use Rattle.rgo_core.proofs.Opening.{opening_law}
+use Rattle.rgo_core.proofs.runs.Opening.{opening_law}
 use Rattle.rgo_core.specs.Core.{Core, Setup}
 use Rattle.rgo_core.specs.Opening.{first_of, opening}
 use Rattle.rgo_core.specs.Records.{Drawn, Record, accesses, blank, drawn_at, fresh, with_end, with_print}
@@ -15,8 +15,8 @@ use Rattle.rgo_core.specs.Rule.Lists.{flattened}
 use Rattle.rgo_core.specs.Rule.Views.{Has, view}
 use Rattle.rgo_sound.specs.Code.Checked.{IsChecked}
 use Rattle.rgo_sound.specs.Code.NameRules.{Ascends}
-use Rattle.rgo_core_steps.specs.Outcomes.{Closes}
-use Rattle.rgo_driver.specs.declared.ends.RunEnd.TheVariants.{NoMemory}
+use Rattle.rgo_core_steps.specs.Outcomes.{ClosesTable}
+use Rattle.rgo_sound.specs.Machine.declared.ends.RunEnd.TheVariants.{NoMemory}
 use Rattle.rgo_sound.specs.Machine.Limits.{most_goroutines}
 use Rattle.rgo_sound.specs.Machine.declared.picks.End.TheVariants.{Exit}
 use Rattle.rgo_sound.specs.RegionMachine.Counts.{Counts}
@@ -26,7 +26,7 @@ use Rattle.rgo_sound.specs.RegionMachine.declared.limits.Limit.TheVariants.{Memo
 use Rattle.rgo_table_runs.specs.closing.Examples.{ClosingExamples, family, main_alone, parent, printers, with_clock}
 use Rattle.rgo_table_runs.specs.closing.Gathering.{IsIn}
 use Rattle.rgo_table_runs.specs.closing.Laws.{HasClosed}
-use Rattle.rgo_table_runs.specs.closing.Members.{HasNumber, HasPrinted, IsListed, IsOneOf, Member, retired}
+use Rattle.rgo_table_runs.specs.closing.Members.{SomeHasNumber, HasPrinted, IsListed, IsOneOf, Member, retired}
 use Rattle.rgo_table_runs.specs.closing.Prints.{AllGiven, IsPrint}
 use Rattle.rgo_table_runs.specs.closing.Rows.{AreAll}
 
@@ -115,7 +115,7 @@ module _ (T : Setup) (checked : IsChecked T.code) (ascends : Ascends T.code) (co
   abbrev main : Record
   main = first_of T.code
 
-  opened : Closes T (opening T) (view ((0, main) ∷ []) [])
+  opened : ClosesTable T (opening T) (view ((0, main) ∷ []) [])
   opened = record {
     recs = main ∷ [];
     history = [];
@@ -138,7 +138,7 @@ module _ (T : Setup) (checked : IsChecked T.code) (ascends : Ascends T.code) (co
       moments zero l = (main ∷ [], opening_law T checked ascends constants few)
       moments (suc k) l = absurd (omega arith)
 
-  pub closed_at_once : (e : Closes T (opening T) (view ((0, main) ∷ []) []))
+  pub closed_at_once : (e : ClosesTable T (opening T) (view ((0, main) ∷ []) []))
       × HasClosed T (opening T) (view ((0, main) ∷ []) []) e ((0, main) ∷ []) [] None 0 NoMemory None None
   closed_at_once = (
     opened,
@@ -246,7 +246,7 @@ closing_examples = record {
       (λ (t : IsIn [] (drawn_at 1 (7 ∷ 8 ∷ []))). some-ne-none (drawn_at 1 (7 ∷ 8 ∷ [])) (sym t.1))
       (k.prints (retired (0, first_printer)) (drawn_at 1 (7 ∷ 8 ∷ [])) (0, refl) (0, refl) refl);
   lost_child = λ k. ⊎_elim
-      (λ (t : HasNumber (map retired ((0, parent) ∷ [])) 1).
+      (λ (t : SomeHasNumber (map retired ((0, parent) ∷ [])) 1).
       let z = one_only (retired (0, parent)) (λ j m. m.number ≡ 0) refl t.1.0 t.0 t.1.1 in let n = t.2 in omega (arith, z, n))
       (λ (t : IsListed [] 1). no_child t.0 1 t.1)
       (k.children (retired (0, parent)) 1 (0, refl) (0, refl));

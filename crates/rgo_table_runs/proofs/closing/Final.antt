@@ -7,16 +7,16 @@ use Rattle.std.proofs.lemmas.Grind.{common_steps}
 use Rattle.std.specs.Io.KnownBytes.{Appends}
 use Rattle.rgo_sound.specs.Code.Code.{Code}
 use Rattle.rgo_sound.specs.Code.Erasure.{erased}
-use Rattle.rgo_core.proofs.Runs.{run_then}
-use Rattle.rgo_core.specs.Causes.{IsCause, Stops}
+use Rattle.rgo_core.proofs.runs.Runs.{one_step, run_then, runs_too}
+use Rattle.rgo_core.specs.Causes.{IsCause, ReachesLimit}
 use Rattle.rgo_core.specs.Records.{ClockRec, all_counted}
 use Rattle.rgo_core.specs.Runs.{Marked, Printed, limited_run, limited_step}
 use Rattle.rgo_core.specs.Story.{Story}
 use Rattle.rgo_core.specs.Rule.Lists.{flattened}
-use Rattle.rgo_driver.specs.Runs as driver
-use Rattle.rgo_driver.specs.Runs.{AppendsSome, Gives}
-use Rattle.rgo_driver.specs.declared.ends.RunEnd.{RunEnd}
-use Rattle.rgo_driver.specs.declared.ends.RunEnd.TheVariants as run_end
+use Rattle.rgo_sound.specs.Machine.Ends as driver
+use Rattle.rgo_sound.specs.Machine.Ends.{AppendsSome, RunPrints}
+use Rattle.rgo_sound.specs.Machine.declared.ends.RunEnd.{RunEnd}
+use Rattle.rgo_sound.specs.Machine.declared.ends.RunEnd.TheVariants as run_end
 use Rattle.rgo_sound.proofs.Machine.Runs.{leads_joined, leads_one, limited}
 use Rattle.rgo_sound.specs.Machine.Deadlocks.{IsDeadlock}
 use Rattle.rgo_sound.specs.Machine.Limits.{LeadsWithin, is_within}
@@ -24,21 +24,21 @@ use Rattle.rgo_sound.specs.Machine.declared.limits.Limits.{Limits}
 use Rattle.rgo_sound.specs.Machine.declared.limits.Sizes.{Sizes}
 use Rattle.rgo_sound.specs.Machine.declared.picks.End.{End}
 use Rattle.rgo_sound.specs.Machine.declared.picks.Pick.{Pick}
-use Rattle.rgo_sound.specs.Machine.declared.turns.Shortage.{Shortage}
+use Rattle.rgo_sound.specs.Machine.declared.limits.Shortage.{Shortage}
 use Rattle.rgo_sound.specs.RegionMachine.Counts.{Counts}
 use Rattle.rgo_sound.specs.RegionMachine.Instructions.{marked, printed_if}
-use Rattle.rgo_sound.specs.RegionMachine.Machine.{Acknowledge, Attend, Event, Finish, Instruct, MakeOffer, TakePage, kept, region_run, region_start, region_step}
+use Rattle.rgo_sound.specs.RegionMachine.Machine.{Acknowledge, Attend, Event, Finish, Instruct, MakeOffer, TakePage, kept_mark, region_run, region_start, region_step}
 use Rattle.rgo_sound.specs.RegionMachine.Room.{LacksIn, roomy_run}
 use Rattle.rgo_sound.specs.RegionMachine.States.{Ended, Mark, RegionState, Stopped, end_in, plain_at}
 use Rattle.rgo_sound.specs.RegionMachine.declared.limits.Limit.{Limit}
 use Rattle.rgo_sound.specs.RegionMachine.declared.limits.Limit.TheVariants as limit
-use Rattle.rgo_sound.proofs.ErasureLemmas.{Follows}
-use Rattle.rgo_sound.specs.Erasure.{event_picks}
+use Rattle.rgo_sound.proofs.plain.Steps.{Follows}
+use Rattle.rgo_sound.specs.Erasure.{event_picks, picks_of}
 use Rattle.rgo_sound.specs.Tac.Tac.{TacState, tac, tac_start}
-use Rattle.rgo_table_runs.specs.claims.TableRuns.{TableRun, picks_of}
+use Rattle.rgo_table_runs.specs.claims.TableRuns.{TableRun}
 use Rattle.rgo_table_runs.specs.closing.Ends.{end_of_limit}
 use Rattle.rgo_table_runs.proofs.claims.Counted.{counted}
-use Rattle.rgo_table_runs.proofs.claims.Erased.{erases, follows, one_step, picks_then, plain_on, runs}
+use Rattle.rgo_table_runs.proofs.claims.Erased.{erases, follows, picks_then, plain_on}
 
 -- the run without what is said of its end
 record Bare (code : Code) (sizes : Sizes) (limits : Limits) (whole : List Event) (print : List ℕ) : Type 0 where
@@ -69,8 +69,8 @@ some_steps : (n : ℕ) → 0 < max 1 n
 some_steps n = grind (arith, nat_tests, common_steps)
 
 module _ (code : Code) (sizes : Sizes) (limits : Limits) where
-  ends_by : (l : Limit) (n : ℕ) (s : RegionState) → s.plain.ended ≡ None → Stops code sizes limits l s
-      → driver.Ends (tac (erased code)) limits 0 n s.plain (end_of_limit l)
+  ends_by : (l : Limit) (n : ℕ) (s : RegionState) → s.plain.ended ≡ None → ReachesLimit code sizes limits l s
+      → driver.RunEndsAs (tac (erased code)) limits 0 n s.plain (end_of_limit l)
   ends_by limit.Pages n s on cause = on
   ends_by limit.Regions n s on cause = on
   ends_by limit.ObjectSize n s on cause = on
@@ -78,7 +78,7 @@ module _ (code : Code) (sizes : Sizes) (limits : Limits) where
   ends_by limit.Goroutines n s on cause = (on, cause)
   ends_by limit.Memory n s on cause = tt
 
-  gives_by : (l : Limit) (print : List ℕ) (old new : Option (List ℕ)) → Appends old new print → Gives (end_of_limit l) print old new
+  gives_by : (l : Limit) (print : List ℕ) (old new : Option (List ℕ)) → Appends old new print → RunPrints (end_of_limit l) print old new
   gives_by limit.Pages print old new a = a
   gives_by limit.Regions print old new a = a
   gives_by limit.ObjectSize print old new a = a
@@ -86,7 +86,7 @@ module _ (code : Code) (sizes : Sizes) (limits : Limits) where
   gives_by limit.Goroutines print old new a = a
   gives_by limit.Memory print old new a = a
 
-  lacks_by : (l : Limit) (why : Shortage) (s : RegionState) → end_of_limit l ≡ run_end.NoRoom why → Stops code sizes limits l s → LacksIn code sizes why s
+  lacks_by : (l : Limit) (why : Shortage) (s : RegionState) → end_of_limit l ≡ run_end.NoRoom why → ReachesLimit code sizes limits l s → LacksIn code sizes why s
   lacks_by limit.Pages why s e cause = subst (λ (w : Shortage). LacksIn code sizes w s) (ap (room_of why) e) cause
   lacks_by limit.Regions why s e cause = subst (λ (w : Shortage). LacksIn code sizes w s) (ap (room_of why) e) cause
   lacks_by limit.ObjectSize why s e cause = subst (λ (w : Shortage). LacksIn code sizes w s) (ap (room_of why) e) cause
@@ -101,7 +101,7 @@ module _ (code : Code) (sizes : Sizes) (limits : Limits) where
     events = events;
     late = late;
     state = s;
-    run = runs code sizes.page_words limits events (region_start code) s leads;
+    run = runs_too code sizes.page_words limits events (region_start code) s leads;
     more = more;
     plain = s.plain;
     ran = erases code sizes.page_words limits events (region_start code) s none leads;
@@ -131,7 +131,7 @@ module _ (code : Code) (sizes : Sizes) (limits : Limits) where
       not_still e = let q : Some (Ended end) ≡ None = sym m.marked ∙ (e ∙ m.unmarked) in absurd (cc q)
 
       go : (e : Event) → m.event ≡ e → Follows code sizes.page_words m.state e m.next → (b : Bare code sizes limits whole print) × (b.plain.ended ≡ Some end)
-      go (Finish l) is f = let q : Some (Ended end) ≡ kept None l = sym m.marked ∙ (f.1 ∙ ap (λ n. kept n l) m.unmarked) in absurd (cc q)
+      go (Finish l) is f = let q : Some (Ended end) ≡ kept_mark None l = sym m.marked ∙ (f.1 ∙ ap (λ n. kept_mark n l) m.unmarked) in absurd (cc q)
       go (Attend g) is f = absurd (not_still f.mark)
       go (TakePage g) is f = absurd (not_still f.mark)
       go (MakeOffer g) is f = absurd (not_still f.mark)
@@ -145,7 +145,7 @@ module _ (code : Code) (sizes : Sizes) (limits : Limits) where
               events = m.first ++ m.event ∷ [];
               late = m.rest;
               state = m.next;
-              run = runs code sizes.page_words limits (m.first ++ m.event ∷ []) (region_start code) m.next leads;
+              run = runs_too code sizes.page_words limits (m.first ++ m.event ∷ []) (region_start code) m.next leads;
               more = append_assoc m.first (m.event ∷ []) m.rest ∙ sym m.is;
               plain = f.0;
               ran = subst (λ (l : List Pick). LeadsWithin (tac (erased code)) limits (tac_start (erased code)) l f.0) (sym picks)
@@ -185,7 +185,7 @@ module _ (code : Code) (sizes : Sizes) (limits : Limits) where
     -- the run of the program, by the bare run and what ended it
     with_end : (end : RunEnd) (old new : Option (List ℕ)) (print : List ℕ) (b : Bare code sizes limits events print) (tested : ℕ)
         → tested ≤ length (picks_of code sizes b.events) → ((end ≡ run_end.NoMemory → ⊥) → print ≡ flattened k.before)
-        → driver.Ends (tac (erased code)) limits tested (length (picks_of code sizes b.events)) b.plain end → Gives end print old new
+        → driver.RunEndsAs (tac (erased code)) limits tested (length (picks_of code sizes b.events)) b.plain end → RunPrints end print old new
         → ((why : Shortage) → end ≡ run_end.NoRoom why → LacksIn code sizes why b.state) → WholeRun events s end (all_counted recs) old new
     with_end end old new print b tested early whole ends gives lacks = (
       record {
@@ -194,7 +194,7 @@ module _ (code : Code) (sizes : Sizes) (limits : Limits) where
         state = b.state;
         last = s;
         run = b.run;
-        more = ap (region_run code sizes.page_words) b.more ∙ runs code sizes.page_words limits events (region_start code) s k.leads;
+        more = ap (region_run code sizes.page_words) b.more ∙ runs_too code sizes.page_words limits events (region_start code) s k.leads;
         room = ap (roomy_run code sizes) b.more ∙ k.room;
         made = k.shares;
         silent = λ q. k.clock.print ∙ (sym (whole q) ∙ (sym b.says ∙ sym b.printed));
@@ -205,7 +205,7 @@ module _ (code : Code) (sizes : Sizes) (limits : Limits) where
         tested = tested;
         early = early;
         ends = ends;
-        gives = subst (λ (p : List ℕ). Gives end p old new) (sym b.says) gives;
+        gives = subst (λ (p : List ℕ). RunPrints end p old new) (sym b.says) gives;
         lacks = lacks;
       },
       b.more,

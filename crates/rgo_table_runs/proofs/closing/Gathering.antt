@@ -10,11 +10,11 @@ use Rattle.rgo_core.specs.Records.{Drawn, Record}
 use Rattle.rgo_core.specs.Rule.Views.{Has, Rows}
 use Rattle.rgo_core.specs.Rule.declared.accesses.View.{View}
 use Rattle.rgo_core_steps.proofs.Outcomes.{family_law, outcome_law}
-use Rattle.rgo_core_steps.specs.Outcomes.{Closes, HasDrawnAt, Outcome}
+use Rattle.rgo_core_steps.specs.Outcomes.{ClosesTable, HasDrawnAt, TableOutcome}
 use Rattle.rgo_sound.specs.RegionMachine.Counts.{Counts}
 use Rattle.rgo_sound.specs.Tally.{counts_plus, no_share}
 use Rattle.rgo_table_runs.specs.closing.Gathering.{AreGathered, FamilyIsAll, GatheredAreGiven, IsIn, SharesAreAll, numbered, numbered_from, sum_of}
-use Rattle.rgo_table_runs.specs.closing.Prints.{InOrder, IsPrint}
+use Rattle.rgo_table_runs.specs.closing.Prints.{TicketsInOrder, IsPrint}
 use Rattle.rgo_table_runs.specs.closing.Rows.{AreAll, all_shares}
 use Rattle.rgo_table_runs.proofs.closing.Closed.{has_row, is_there}
 use Rattle.rgo_table_runs.proofs.closing.Rows.{all_rows, low, record_in}
@@ -139,9 +139,9 @@ at_most a t h = grind (arith, nat_tests)
 fewer : (a t : ℕ) → nat_le a t ≡ false → t < a
 fewer a t h = grind (arith, nat_tests)
 
-module _ (T : Setup) (words : List ℕ) (v : View Record) (e : Closes T words v) (rows : Rows Record) (given waiting : List Drawn)
-    (all : AreAll v rows) (order : InOrder rows given) (k : AreGathered rows given waiting) where
-  abbrev outcome : Outcome T words e.recs
+module _ (T : Setup) (words : List ℕ) (v : View Record) (e : ClosesTable T words v) (rows : Rows Record) (given waiting : List Drawn)
+    (all : AreAll v rows) (order : TicketsInOrder rows given) (k : AreGathered rows given waiting) where
+  abbrev outcome : TableOutcome T words e.recs
   outcome = outcome_law T words v e
 
   print_at : (g i : ℕ) (d : Drawn) → HasDrawnAt e.recs g i d → IsPrint rows d

@@ -6,7 +6,7 @@ use Rattle.rgo_core.proofs.Lists.{elem_of, get_of}
 use Rattle.rgo_core.specs.Records.{ClockRec, Drawn, Record, blank}
 use Rattle.rgo_core.specs.Rule.Views.{Has, Rows}
 use Rattle.rgo_table_runs.specs.closing.Gathering.{IsIn}
-use Rattle.rgo_table_runs.specs.closing.Members.{AllRetired, HasNumber, HasPlayed, HasPrinted, IsListed, IsOneOf, KeptByAdopting, KeptByGathering, KeptByOrder, KeptByTurn, Member, NoneIsLost, WasGathered, WereAdopted, retired}
+use Rattle.rgo_table_runs.specs.closing.Members.{AllRetired, SomeHasNumber, HasPlayed, HasPrinted, IsListed, IsOneOf, KeptByAdopting, KeptByGathering, KeptByOrder, KeptByTurn, Member, NoneIsLost, WasGathered, WereAdopted, retired}
 
 -- ---- lists
 
@@ -63,7 +63,7 @@ module _ (front rest : List Member) (m n : Member) (number : n.number ≡ m.numb
   abbrev new_ones : List Member
   new_ones = front ++ n ∷ rest
 
-  same_number : (h : ℕ) → HasNumber old_ones h → HasNumber new_ones h
+  same_number : (h : ℕ) → SomeHasNumber old_ones h → SomeHasNumber new_ones h
   same_number h (x, one, is) = ⊎_elim
       (λ (e : m ≡ x). (n, the_middle front rest n, number ∙ (ap (λ (y : Member). y.number) e ∙ is)))
       (λ (t : (y : Member) → IsOneOf (front ++ y ∷ rest) x). (x, t n, is))
@@ -73,7 +73,7 @@ pub kept_by_order : KeptByOrder
 kept_by_order ms ns taken given k s = record {
   main = (k.main.0, s.there k.main.0 k.main.1, k.main.2);
   children = λ m h one listed. ⊎_elim
-      (λ (t : HasNumber ms h). inl (t.0, s.there t.0 t.1, t.2))
+      (λ (t : SomeHasNumber ms h). inl (t.0, s.there t.0 t.1, t.2))
       (λ (t : IsListed m.unborn h). inr t)
       (k.children m h (s.back m one) listed);
   prints = λ m d one printed valid. ⊎_elim
@@ -87,11 +87,11 @@ module _ (front rest : List Member) (m n : Member) (taken : List Drawn) (p : Has
   abbrev its : IsOneOf (front ++ m ∷ rest) m
   its = the_middle front rest m
 
-  started_by : (h : ℕ) → IsListed n.its.clock.children h → HasNumber (front ++ n ∷ rest) h ⊎ IsListed n.unborn h
+  started_by : (h : ℕ) → IsListed n.its.clock.children h → SomeHasNumber (front ++ n ∷ rest) h ⊎ IsListed n.unborn h
   started_by h t = ⊎_elim
       (λ (s : In p.starts h). inr (subst (λ (l : List ℕ). IsListed l h) (sym p.unborn) (listed (p.starts ++ m.unborn) h (in_left p.starts m.unborn h s))))
       (λ (s : In m.its.clock.children h). ⊎_elim
-      (λ (q : HasNumber (front ++ m ∷ rest) h). inl (same_number front rest m n p.number h q))
+      (λ (q : SomeHasNumber (front ++ m ∷ rest) h). inl (same_number front rest m n p.number h q))
       (λ (q : IsListed m.unborn h). inr (subst (λ (l : List ℕ). IsListed l h) (sym p.unborn)
       (listed (p.starts ++ m.unborn) h (in_right p.starts m.unborn h (unlisted m.unborn h q)))))
       (k.children m h its (listed m.its.clock.children h s)))
@@ -116,10 +116,10 @@ module _ (front rest : List Member) (m n : Member) (taken : List Drawn) (p : Has
   played = record {
     main = same_number front rest m n p.number 0 k.main;
     children = λ x h one t. ⊎_elim
-        (λ (e : n ≡ x). subst (λ (y : Member). HasNumber (front ++ n ∷ rest) h ⊎ IsListed y.unborn h) e
+        (λ (e : n ≡ x). subst (λ (y : Member). SomeHasNumber (front ++ n ∷ rest) h ⊎ IsListed y.unborn h) e
         (started_by h (subst (λ (y : Member). IsListed y.its.clock.children h) (sym e) t)))
         (λ (q : (y : Member) → IsOneOf (front ++ y ∷ rest) x). ⊎_elim
-        (λ (s : HasNumber (front ++ m ∷ rest) h). inl (same_number front rest m n p.number h s))
+        (λ (s : SomeHasNumber (front ++ m ∷ rest) h). inl (same_number front rest m n p.number h s))
         (λ (s : IsListed x.unborn h). inr s)
         (k.children x h (q m) t))
         (in_middle front rest n x one);
@@ -158,11 +158,11 @@ module _ (front rest : List Member) (m n : Member) (taken given : List Drawn) (w
     main = same_number front rest m n number_kept 0 k.main;
     children = λ x h one t. ⊎_elim
         (λ (e : n ≡ x). ⊎_elim
-        (λ (s : HasNumber (front ++ m ∷ rest) h). inl (same_number front rest m n number_kept h s))
+        (λ (s : SomeHasNumber (front ++ m ∷ rest) h). inl (same_number front rest m n number_kept h s))
         (λ (s : IsListed m.unborn h). inr (subst (λ (y : Member). IsListed y.unborn h) (sym w.is ∙ e) s))
         (k.children m h (the_middle front rest m) (subst (λ (y : Member). IsListed y.its.clock.children h) (sym (sym w.is ∙ e)) t)))
         (λ (q : (y : Member) → IsOneOf (front ++ y ∷ rest) x). ⊎_elim
-        (λ (s : HasNumber (front ++ m ∷ rest) h). inl (same_number front rest m n number_kept h s))
+        (λ (s : SomeHasNumber (front ++ m ∷ rest) h). inl (same_number front rest m n number_kept h s))
         (λ (s : IsListed x.unborn h). inr s)
         (k.children x h (q m) t))
         (in_middle front rest n x one);
@@ -195,12 +195,12 @@ module _ (front rest more : List Member) (m n : Member) (taken : List Drawn) (w 
   abbrev all_then : List Member
   all_then = (front ++ n ∷ rest) ++ more
 
-  still_number : (h : ℕ) → HasNumber (front ++ m ∷ rest) h → HasNumber all_then h
+  still_number : (h : ℕ) → SomeHasNumber (front ++ m ∷ rest) h → SomeHasNumber all_then h
   still_number h q =
       let s = same_number front rest m n adopted_number h q in
       (s.0, in_left (front ++ n ∷ rest) more s.0 s.1, s.2)
 
-  new_number : (h : ℕ) → HasNumber more h → HasNumber all_then h
+  new_number : (h : ℕ) → SomeHasNumber more h → SomeHasNumber all_then h
   new_number h q = (q.0, in_right (front ++ n ∷ rest) more q.0 q.1, q.2)
 
   no_child : (c : ClockRec) → c ≡ blank → (h : ℕ) → IsListed c.children h → ⊥
@@ -209,15 +209,15 @@ module _ (front rest more : List Member) (m n : Member) (taken : List Drawn) (w 
   no_print : (c : ClockRec) → c ≡ blank → (d : Drawn) → (i : ℕ) × (slice_get c.prints i ≡ Some d) → ⊥
   no_print c e d t = let z : None ≡ Some d = subst (λ (y : ClockRec). slice_get y.prints t.0 ≡ Some d) e t.1 in cc z
 
-  children_of : (x : Member) (h : ℕ) → IsOneOf all_then x → IsListed x.its.clock.children h → HasNumber all_then h ⊎ IsListed x.unborn h
+  children_of : (x : Member) (h : ℕ) → IsOneOf all_then x → IsListed x.its.clock.children h → SomeHasNumber all_then h ⊎ IsListed x.unborn h
   children_of x h one t = ⊎_elim
       (λ (o : IsOneOf (front ++ n ∷ rest) x). ⊎_elim
       (λ (e : n ≡ x). inl (⊎_elim
-      (λ (s : HasNumber (front ++ m ∷ rest) h). still_number h s)
+      (λ (s : SomeHasNumber (front ++ m ∷ rest) h). still_number h s)
       (λ (s : IsListed m.unborn h). new_number h (w.all h s))
       (k.children m h (the_middle front rest m) (subst (λ (y : Member). IsListed y.its.clock.children h) (sym (sym w.is ∙ e)) t))))
       (λ (q : (y : Member) → IsOneOf (front ++ y ∷ rest) x). ⊎_elim
-      (λ (s : HasNumber (front ++ m ∷ rest) h). inl (still_number h s))
+      (λ (s : SomeHasNumber (front ++ m ∷ rest) h). inl (still_number h s))
       (λ (s : IsListed x.unborn h). inr s)
       (k.children x h (q m) t))
       (in_middle front rest n x o))
@@ -278,7 +278,7 @@ all_retired v taken k = (
         let t = row_of v.records v.records k.main.0 k.main.1 in
         (k.main.0.its, subst (λ (n : ℕ). Has v.records n k.main.0.its) k.main.2 t.0);
     children = λ g h i c has at. ⊎_elim
-        (λ (q : HasNumber (map retired v.records) h).
+        (λ (q : SomeHasNumber (map retired v.records) h).
         let t = row_of v.records v.records q.0 q.1 in (q.0.its, subst (λ (n : ℕ). Has v.records n q.0.its) q.2 t.0))
         (λ (q : IsListed [] h). let z : None ≡ Some h = q.1 in absurd (cc z))
         (k.children (retired (g, c)) h (member_of v.records v.records g c has) (i, at));

@@ -12,7 +12,7 @@ use Rattle.rgo_core.specs.Rule.Lists.{flattened}
 use Rattle.rgo_core.specs.Rule.Views.{Has, Rows}
 use Rattle.rgo_sound.specs.RegionMachine.States.{Mark, RegionState}
 use Rattle.rgo_table_runs.specs.closing.Ends.{IsFirst}
-use Rattle.rgo_table_runs.specs.closing.Prints.{AllGiven, InOrder, IsPrint, bytes_in, bytes_of}
+use Rattle.rgo_table_runs.specs.closing.Prints.{AllGiven, TicketsInOrder, IsPrint, bytes_in, bytes_of}
 use Rattle.rgo_table_runs.proofs.closing.Rows.{some_part}
 
 -- ---- lists
@@ -101,7 +101,7 @@ module _ (words : List ℕ) (recs : List ClockRec) (s : RegionState) (before lat
     there = subst (λ (x : ClockRec). get_elem? x.prints i ≡ some d) (sym is) at;
   }
 
-  module _ (given : List Drawn) (order : InOrder rows given) where
+  module _ (given : List Drawn) (order : TicketsInOrder rows given) where
     -- what went out is a beginning of the pieces
     pub first_pieces : (length given ≤ length before) × (bytes_of given ≡ flattened (take (length given) before))
     first_pieces =

@@ -11,7 +11,7 @@ use Rattle.rgo_core.specs.Records.{ClockRec, Record, all_counted, clock_of, coun
 use Rattle.rgo_core.specs.Rule.Views.{Has, Rows, view}
 use Rattle.rgo_core.specs.Rule.declared.accesses.View.{View}
 use Rattle.rgo_core_steps.proofs.Outcomes.{family_law}
-use Rattle.rgo_core_steps.specs.Outcomes.{Closes}
+use Rattle.rgo_core_steps.specs.Outcomes.{ClosesTable}
 use Rattle.rgo_sound.specs.Tally.{counts_plus}
 use Rattle.rgo_table_runs.specs.closing.Rows.{AreAll, all_shares}
 
@@ -114,12 +114,12 @@ elem_map [] i r e = absurd (some-ne-none r (sym e))
 elem_map (q ∷ rows) zero r e = ap (λ (x : ℕ × Record). some x.1) (some-injective q r e)
 elem_map (q ∷ rows) (suc i) r e = elem_map rows i r e
 
-module _ (T : Setup) (words : List ℕ) (v : View Record) (e : Closes T words v) (rows : Rows Record) (all : AreAll v rows) where
+module _ (T : Setup) (words : List ℕ) (v : View Record) (e : ClosesTable T words v) (rows : Rows Record) (all : AreAll v rows) where
   pub is_there : (g : ℕ) (c : Record) → Has rows g c → get_elem? e.recs g ≡ some c
   is_there g c has = (e.here g c (all.here g c has)).0
 
   -- the table closed with these rows alone
-  abbrev with_rows : Closes T words (view rows v.seen)
+  abbrev with_rows : ClosesTable T words (view rows v.seen)
   with_rows = record {
     recs = e.recs;
     history = e.history;

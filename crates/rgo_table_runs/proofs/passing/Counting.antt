@@ -2,21 +2,21 @@
 use Rattle.std.proofs.Common.{◌≡◌, ◌≢◌, ◌⊎◌, ℕ, zero, suc, ◌+◌, ◌-◌, ◌<◌, ◌≤◌, List, [], ◌∷◌, length, Some, slice_get, slice_index, sum_by, count_by, refl, ap, sym, subst, ◌∙◌, inl, inr, arith}
 use mathlib.Core.Logic.{dite}
 use native.Mathlib.Decide.{ℕ_discrete}
-use Rattle.rgo_core.proofs.Memory.InUse.{below, below_here, below_more, live_many, live_sum, page_here, page_more, sum_more, sum_one, sum_split, zero_plus}
+use Rattle.rgo_core.proofs.Memory.pages.InUse.{below, below_here, below_more, live_many, live_sum, page_here, page_more, sum_more, sum_one, sum_split, zero_plus}
 use Rattle.rgo_core.specs.Memory.Ground.{Ground}
-use Rattle.rgo_core.specs.Memory.Image.{Image, Where}
-use Rattle.rgo_core.specs.Memory.Pages.{Chain, Chained, Claimed, Free, Place, times}
+use Rattle.rgo_core.specs.Memory.Image.{MemoryImage, Where}
+use Rattle.rgo_core.specs.Memory.Pages.{PageChain, Chained, Claimed, Free, Place, times}
 use Rattle.rgo_core.specs.Memory.Parts.{Closing, Living, Use, Vacant, pages_at}
-use Rattle.rgo_core.specs.Memory.Records.{Calm, Closes, Give, Got, Has, Idle, Rec}
+use Rattle.rgo_core.specs.Memory.Records.{Calm, ClosesSlot, Give, Got, HasRecord, Idle, Rec}
 use Rattle.rgo_core.specs.Memory.Words.{count_at, state_at}
 use Rattle.rgo_core.specs.Memory.declared.layout.TableSizes.{TableSizes}
 use Rattle.rgo_sound.specs.RegionMachine.Counts.{is_removed, pages_if_removed}
 use Rattle.rgo_sound.specs.RegionMachine.Regions.{RegionInfo}
 
-module _ (z : TableSizes) (words : List ℕ) (recs : List Rec) (x : Ground) (places : Where) (k : Image z words recs x places)
-    (calm : (g : ℕ) (c : Rec) → Has recs g c → (c.give ≡ Calm) × (c.claim ≡ Idle)) where
+module _ (z : TableSizes) (words : List ℕ) (recs : List Rec) (x : Ground) (places : Where) (k : MemoryImage z words recs x places)
+    (calm : (g : ℕ) (c : Rec) → HasRecord recs g c → (c.give ≡ Calm) × (c.claim ≡ Idle)) where
   not_closing : (s g : ℕ) → s < z.slots → places.uses s ≡ Closing g → ⊥
-  not_closing s g l e = let t = k.counts.closing s g l e in subst (λ (y : Give). Closes y s) (calm g t.1 t.2).0 t.3
+  not_closing s g l e = let t = k.counts.closing s g l e in subst (λ (y : Give). ClosesSlot y s) (calm g t.1 t.2).0 t.3
 
   -- a slot with pages is that of a live region, or of Global
   abbrev IsUsed : ℕ → Type 0
@@ -31,7 +31,7 @@ module _ (z : TableSizes) (words : List ℕ) (recs : List Rec) (x : Ground) (pla
   some_chained p [] h e = omega arith
   some_chained p (y ∷ ys) h e = cc e
 
-  some_top : (link : ℕ → ℕ) (h : ℕ) (l : List ℕ) → Chain link h l → h ≡ 0 → l ≡ []
+  some_top : (link : ℕ → ℕ) (h : ℕ) (l : List ℕ) → PageChain link h l → h ≡ 0 → l ≡ []
   some_top link h [] c e = refl
   some_top link h (p ∷ ps) c e = absurd (let a = c.0 in omega (arith, a, e))
 

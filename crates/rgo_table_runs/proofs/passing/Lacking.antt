@@ -1,37 +1,37 @@
 -- A goroutine that lacks a page or a slot is about to take one in the state of the run.
 use Rattle.std.proofs.Common.{◌≡◌, inl, inr, ℕ, zero, suc, ◌+◌, ◌<◌, ◌≤◌, true, false, List, ◌∷◌, Some, length, slice_get, refl, ap, sym, subst, ◌∙◌, ⊎_elim, arith}
 use Rattle.std.proofs.lemmas.Option.{same_Some}
-use Rattle.rgo_core.proofs.MakesObject.{Made, at, b, made as it_makes}
-use Rattle.rgo_core.proofs.NewObjects.{slot_is}
-use Rattle.rgo_core.proofs.Parts.{I}
-use Rattle.rgo_core.proofs.Standing.{frame_at, memory_at}
+use Rattle.rgo_core.proofs.new_objects.MakesObject.{Made, at, b, made as it_makes}
+use Rattle.rgo_core.proofs.new_objects.NewObjects.{slot_is}
+use Rattle.rgo_core.proofs.image.Parts.{I}
+use Rattle.rgo_core.proofs.image.Standing.{frame_at, memory_at}
 use Rattle.rgo_core.specs.Core.{Here, Setup, layout}
 use Rattle.rgo_core.specs.NewObjects.{slot_number}
 use Rattle.rgo_core.specs.Records.{Record}
-use Rattle.rgo_core.proofs.Frames.Creating.{create_duty}
-use Rattle.rgo_core.proofs.Frames.Making.{region_law}
-use Rattle.rgo_core.proofs.Frames.StakeDuties.{OwesFirst, owes_first, past_owes}
+use Rattle.rgo_core.proofs.Frames.regions.Creating.{create_duty}
+use Rattle.rgo_core.proofs.Frames.regions.Making.{region_law}
+use Rattle.rgo_core.proofs.Frames.regions.StakeDuties.{OwesFirst, owes_first, past_owes}
 use Rattle.rgo_core.specs.Frames.Before.{IsBefore}
-use Rattle.rgo_core.specs.Frames.Fits.{Fits, IsPast, IsShown}
+use Rattle.rgo_core.specs.Frames.Fits.{RecordFits, IsPast, IsShown}
 use Rattle.rgo_core.specs.Frames.Makes.{MakesAt}
-use Rattle.rgo_core.proofs.Memory.Attending.{makes_used}
-use Rattle.rgo_core.proofs.Memory.Existing.{page_exists, reserved_page_exists}
-use Rattle.rgo_core.proofs.Memory.Stepped.{map_get}
-use Rattle.rgo_core.specs.Memory.Events.{MakesIn}
+use Rattle.rgo_core.proofs.Memory.regions.Attending.{makes_used}
+use Rattle.rgo_core.proofs.Memory.image.Existing.{page_exists, reserved_page_exists}
+use Rattle.rgo_core.proofs.Memory.image.Stepped.{map_get}
+use Rattle.rgo_core.specs.Memory.Events.{NextMakesObjectIn}
 use Rattle.rgo_core.specs.Memory.Ground.{held_of}
 use Rattle.rgo_core.specs.Memory.Parts.{slot_of}
-use Rattle.rgo_core.specs.Memory.Exists.{Settled}
+use Rattle.rgo_core.specs.Memory.Exists.{HolderSettled}
 use Rattle.rgo_core.specs.Memory.Records.{Fill, Rec as MemoryRec, Within}
 use Rattle.rgo_core_steps.specs.Counts.{IsCreating}
-use Rattle.rgo_core_steps.specs.Making.{MakesNext, NeedsPage}
+use Rattle.rgo_core_steps.specs.Making.{RecordMakesNext, NeedsPage}
 use Rattle.rgo_sound.specs.Memory.Memory.{Object}
 use Rattle.rgo_sound.specs.RegionMachine.Machine.{TakePage, region_step}
-use Rattle.rgo_sound.specs.RegionMachine.Objects.{data_pages, is_spread, is_too_large, words as words_of}
+use Rattle.rgo_sound.specs.RegionMachine.Objects.{data_pages, is_spread, is_too_large, object_words as words_of}
 use Rattle.rgo_sound.specs.RegionMachine.Room.{pages_of}
 use Rattle.rgo_sound.specs.RegionMachine.States.{Create, Duty, Holder, RegionState}
 
 -- the page of an object that the next instruction makes
-module _ {T : Setup} {g : ℕ} {c : Record} (x : Here T g c) (slot : ℕ) (object : Object) (n : MakesNext T c object slot) where
+module _ {T : Setup} {g : ℕ} {c : Record} (x : Here T g c) (slot : ℕ) (object : Object) (n : RecordMakesNext T c object slot) where
   abbrev before : IsBefore T.code (I x).places.slot (I x).addresses x.s g c.frame n.here.w n.here.ws n.here.instr
   before = b x n.to n.act n.from n.removes n.here object
 
@@ -41,13 +41,13 @@ module _ {T : Setup} {g : ℕ} {c : Record} (x : Here T g c) (slot : ℕ) (objec
   in_slot : slot_of (layout T) (I x).places.slot region.region ≡ slot
   in_slot = sym (slot_is (layout T) (I x).places.slot region.region) ∙ (ap (slot_number (layout T)) region.slot_is ∙ n.in_slot)
 
-  makes_in : MakesIn T.code x.s g before.h region.region
+  makes_in : NextMakesObjectIn T.code x.s g before.h region.region
   makes_in = (before.frame, before.callers, n.here.instr, before.at, before.cur, region.makes)
 
   it : Made x n.to n.act n.from n.removes n.here object
   it = it_makes x n.to n.act n.from n.removes n.here object n.makes
 
-  settled : Settled x.s g before.h
+  settled : HolderSettled x.s g before.h
   settled = record { running = x.core.sound.running; there = before.there; owes = before.none; free = before.free }
 
   abbrev Takes : Type 0
@@ -85,7 +85,7 @@ takes_page x slot (inl n) = takes_own x slot n.object n.next n.fits n.full
 takes_page x slot (inr n) = takes_reserved x slot n.object n.next n.spread n.small n.more
 
 module _ {T : Setup} {g : ℕ} {c : Record} (x : Here T g c) (creates : IsCreating c) where
-  abbrev fitted : Fits T.code (I x).places.slot (I x).addresses x.s g c.frame
+  abbrev fitted : RecordFits T.code (I x).places.slot (I x).addresses x.s g c.frame
   fitted = (I x).frames.each g c.frame (frame_at x)
 
   shown : IsShown T.code (I x).places.slot (I x).addresses fitted.frames fitted.h c.frame

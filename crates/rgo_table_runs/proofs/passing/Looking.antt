@@ -14,11 +14,11 @@ use Rattle.rgo_core.specs.Rule.Passes.{HasLooked}
 use Rattle.rgo_core.specs.Rule.Views.{Has, Rows}
 use Rattle.rgo_core.specs.Rule.declared.accesses.Access.{Access}
 use Rattle.rgo_core.specs.Rule.declared.accesses.View.{View}
-use Rattle.rgo_core_steps.specs.Outcomes.{Closes}
-use Rattle.rgo_sound.specs.Machine.declared.turns.Shortage.{Shortage}
+use Rattle.rgo_core_steps.specs.Outcomes.{ClosesTable}
+use Rattle.rgo_sound.specs.Machine.declared.limits.Shortage.{Shortage}
 use Rattle.rgo_goroutine.specs.Acts.Waits.{FoundNow}
 use Rattle.rgo_table_runs.specs.passing.Passes.{AllPassed}
-use Rattle.rgo_table_runs.specs.passing.Turns.{HadTurn, HasPassed, Over, Stands, Still}
+use Rattle.rgo_table_runs.specs.passing.Turns.{HadTurn, HasPassed, Over, HasStopped, Still}
 use Rattle.rgo_table_runs.proofs.closing.Closed.{has_row}
 use Rattle.rgo_table_runs.proofs.passing.Turning.{stays_passed}
 use Rattle.rgo_core.proofs.Lists.{get_of}
@@ -39,7 +39,7 @@ none_later g n early later rest before history is all own whole =
     let d : accesses_by g history ≡ accesses_by g (before ++ rest) = ap (accesses_by g) all in
     omega arith
 
-module _ {T : Setup} {words : List ℕ} {v : View Record} (e : Closes T words v) (rows : Rows Record) (before : List Access)
+module _ {T : Setup} {words : List ℕ} {v : View Record} (e : ClosesTable T words v) (rows : Rows Record) (before : List Access)
     (lack : ℕ → Option Shortage) (k : AllPassed T v rows before lack) where
   -- what followed, up to the close
   abbrev pub since : List Access
@@ -52,7 +52,7 @@ module _ {T : Setup} {words : List ℕ} {v : View Record} (e : Closes T words v)
   passed g c has = subst (λ (l : List Access). HasPassed T before l g c (lack g)) e.seen.1
       (stays_passed T before v.seen e.seen.0 g c (lack g) (k.each g c has))
 
-  looked_by : (g : ℕ) (c : Record) → get_elem? e.recs g ≡ some c → Stands T before e.history g c (lack g)
+  looked_by : (g : ℕ) (c : Record) → get_elem? e.recs g ≡ some c → HasStopped T before e.history g c (lack g)
       → HasLooked accesses before e.history g c
   looked_by g c there (Over is known over) = record {
     front = [];

@@ -5,7 +5,7 @@ use Rattle.rgo_sound.specs.Code.Erasure.{erased}
 use Rattle.rgo_goroutine.proofs.Acts.Waiting.{loses_blocked, waits_blocked}
 use Rattle.rgo_goroutine.specs.Acts.Shortages.{AllInUse}
 use Rattle.rgo_goroutine.specs.Acts.Waits.{FoundNow}
-use Rattle.rgo_core.proofs.Parts.{I}
+use Rattle.rgo_core.proofs.image.Parts.{I}
 use Rattle.rgo_core.specs.Core.{Here, Setup, layout}
 use Rattle.rgo_core.specs.Moments.{moment}
 use Rattle.rgo_core.specs.Records.{Record, memory_of, side_of}
@@ -20,16 +20,16 @@ use Rattle.rgo_core.specs.Rule.declared.accesses.Access.{Access}
 use Rattle.rgo_core.specs.Rule.declared.accesses.Kind.{Kind}
 use Rattle.rgo_core.specs.Rule.declared.accesses.View.{View}
 use Rattle.rgo_goroutine.specs.Turns.{IsTidy}
-use Rattle.rgo_core_steps.specs.Outcomes.{Closes}
+use Rattle.rgo_core_steps.specs.Outcomes.{ClosesTable}
 use Rattle.rgo_sound.specs.Machine.Deadlocks.{IsDeadlock}
-use Rattle.rgo_sound.specs.Machine.declared.turns.Shortage.{Shortage}
-use Rattle.rgo_sound.specs.Machine.declared.turns.Shortage.TheVariants as shortage
+use Rattle.rgo_sound.specs.Machine.declared.limits.Shortage.{Shortage}
+use Rattle.rgo_sound.specs.Machine.declared.limits.Shortage.TheVariants as shortage
 use Rattle.rgo_sound.specs.RegionMachine.Room.{LacksIn}
 use Rattle.rgo_sound.specs.Tac.Tac.{tac}
 use Rattle.rgo_table_runs.specs.closing.Laws.{last_state, whole_run}
 use Rattle.rgo_table_runs.specs.passing.Laws.{FindsDeadlock, FindsShortage}
 use Rattle.rgo_table_runs.specs.passing.Passes.{AllPassed}
-use Rattle.rgo_table_runs.specs.passing.Turns.{HadTurn, Over, Stands, StandsStill, Still}
+use Rattle.rgo_table_runs.specs.passing.Turns.{HadTurn, Over, HasStopped, StandsStill, Still}
 use Rattle.rgo_table_runs.proofs.closing.Closed.{has_row, is_there}
 use Rattle.rgo_table_runs.proofs.passing.Counting.{pages_used, slots_used}
 use Rattle.rgo_table_runs.proofs.passing.Lacking.{owes_creation, takes_page}
@@ -51,7 +51,7 @@ in_use_now words g es kind at n now all k l e =
     let f = t.2 in
     t.1 (sym f.found ∙ (now f.place f.access f.there f.own ∙ (ap (slice_index words) f.word ∙ e)))
 
-module _ {T : Setup} {words : List ℕ} {v : View Record} (e : Closes T words v) (rows : Rows Record) (before : List Access)
+module _ {T : Setup} {words : List ℕ} {v : View Record} (e : ClosesTable T words v) (rows : Rows Record) (before : List Access)
     (lack : ℕ → Option Shortage) (k : AllPassed T v rows before lack) where
   -- each goroutine at the close
   abbrev here : (g : ℕ) (c : Record) → slice_get e.recs g ≡ Some c → Here T g c
@@ -67,7 +67,7 @@ module _ {T : Setup} {words : List ℕ} {v : View Record} (e : Closes T words v)
   tidy : (g : ℕ) (c : Record) → slice_get e.recs g ≡ Some c → IsTidy c
   tidy g c there = (k.each g c (has_row e rows k.all g c there)).tidy
 
-  blocked_by : (g : ℕ) (c : Record) (there : slice_get e.recs g ≡ Some c) → lack g ≡ None → Stands T before e.history g c (lack g)
+  blocked_by : (g : ℕ) (c : Record) (there : slice_get e.recs g ≡ Some c) → lack g ≡ None → HasStopped T before e.history g c (lack g)
       → Blocked (moment (here g c there)) g c.side
   blocked_by g c there none (Over is known over) = over_blocked (here g c there) over
   blocked_by g c there none (Still t stands) = ⊎_elim
@@ -117,7 +117,7 @@ module _ {T : Setup} {words : List ℕ} {v : View Record} (e : Closes T words v)
     pub lacks : (why : Shortage) → lack g ≡ Some why → LacksIn T.code T.sizes why (last_state e)
     lacks why is = by (passed e rows before lack k g c has).stands
       where
-        by : Stands T before e.history g c (lack g) → LacksIn T.code T.sizes why (last_state e)
+        by : HasStopped T before e.history g c (lack g) → LacksIn T.code T.sizes why (last_state e)
         by (Over none known over) = let z : None ≡ Some why = sym none ∙ is in absurd (cc z)
         by (Still t stands) = by_kind why t (subst (λ (o : Option Shortage). StandsStill T g c t.turn o) is stands)
 

@@ -2,7 +2,7 @@
 use Rattle.std.proofs.Common.{◌≡◌, ℕ, true, false, List, [], ◌∷◌, Some, slice_get, refl, ap, sym, subst, ◌∙◌, ⊎_elim}
 use Rattle.std.proofs.lemmas.Option.{same_Some}
 use Rattle.rgo_sound.specs.Code.Code.{Code}
-use Rattle.rgo_core.proofs.Standing.{frame_at, side_at}
+use Rattle.rgo_core.proofs.image.Standing.{frame_at, side_at}
 use Rattle.rgo_core.specs.Core.{Here, Setup}
 use Rattle.rgo_core.specs.Moments.{moment}
 use Rattle.rgo_core.specs.Records.{Record}
@@ -10,22 +10,22 @@ use Rattle.rgo_core.specs.Channels.Channels.{Accepted, Calm, Chan, Offered, Offe
 use Rattle.rgo_core.specs.Channels.Deadlock as why
 use Rattle.rgo_core.specs.Channels.Deadlock.{Blocked}
 use Rattle.rgo_core.specs.Channels.Records.{Nowhere, Offering, Post}
-use Rattle.rgo_core.specs.Frames.Fits.{Fits, IsPast, IsShown}
+use Rattle.rgo_core.specs.Frames.Fits.{RecordFits, IsPast, IsShown}
 use Rattle.rgo_core.specs.Frames.Shown.{FramesShow}
 use Rattle.rgo_core.specs.Frames.WordFrames.{WordFrame}
 use Rattle.rgo_sound.specs.RegionMachine.Duties.{may_go}
 use Rattle.rgo_sound.specs.RegionMachine.States.{Holder}
-use Rattle.rgo_sound.specs.Tac.Frames.{Frame}
+use Rattle.rgo_sound.specs.Tac.Frames.{TacFrame}
 use Rattle.rgo_goroutine.specs.Turns.{IsOver}
 
 -- no words of frames stand for no frames
-shown_none : (code : Code) (addresses : List ℕ) (frames : List Frame) (ws : List WordFrame) → ws ≡ [] → FramesShow code addresses frames ws
+shown_none : (code : Code) (addresses : List ℕ) (frames : List TacFrame) (ws : List WordFrame) → ws ≡ [] → FramesShow code addresses frames ws
     → frames ≡ []
 shown_none code addresses [] ws e k = refl
 shown_none code addresses (f ∷ fs) ws e k = absurd (subst (FramesShow code addresses (f ∷ fs)) e k)
 
 module _ {T : Setup} {g : ℕ} {c : Record} (x : Here T g c) (over : IsOver c) where
-  abbrev fitted : Fits T.code x.core.image.places.slot x.core.image.addresses x.s g c.frame
+  abbrev fitted : RecordFits T.code x.core.image.places.slot x.core.image.addresses x.s g c.frame
   fitted = x.core.image.frames.each g c.frame (frame_at x)
 
   not_past : IsPast T.code x.core.image.places.slot x.core.image.addresses fitted.frames fitted.h c.frame → ⊥

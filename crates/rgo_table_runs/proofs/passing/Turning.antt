@@ -5,20 +5,20 @@ use Rattle.rgo_core.specs.Records.{accesses}
 use Rattle.rgo_core.specs.Rule.Histories.{accesses_by}
 use Rattle.rgo_core.specs.Rule.Views.{number_of}
 use Rattle.rgo_core.specs.Rule.declared.accesses.Access.{Access}
-use Rattle.rgo_sound.specs.Machine.declared.turns.Shortage.{Shortage}
+use Rattle.rgo_sound.specs.Machine.declared.limits.Shortage.{Shortage}
 use Rattle.rgo_goroutine.specs.Acts.Runs.{Run}
 use Rattle.rgo_goroutine.specs.Goroutines.{record_of}
-use Rattle.rgo_goroutine.specs.Turns.{Stops}
+use Rattle.rgo_goroutine.specs.Turns.{TurnStops}
 use Rattle.rgo_goroutine.specs.declared.goroutine.Goroutine.{Goroutine}
-use Rattle.rgo_goroutine.specs.declared.turning.Stop.{Stop}
-use Rattle.rgo_goroutine.specs.declared.turning.Stop.TheVariants as stop
+use Rattle.rgo_goroutine.specs.declared.turning.TableTurnEnd.{TableTurnEnd}
+use Rattle.rgo_goroutine.specs.declared.turning.TableTurnEnd.TheVariants as stop
 use Rattle.rgo_table_runs.specs.passing.Laws.{KnowsByLook, PassesByTurn, StaysPassed, Tells}
-use Rattle.rgo_table_runs.specs.passing.Turns.{HadTurn, Over, Stands, StandsStill, Still}
+use Rattle.rgo_table_runs.specs.passing.Turns.{HadTurn, Over, HasStopped, StandsStill, Still}
 
 pub stays_passed : StaysPassed
 stays_passed T before history more g c lack k = record { tidy = k.tidy; stands = by k.stands }
   where
-    by : Stands T before history g c lack → Stands T before (history ++ more) g c lack
+    by : HasStopped T before history g c lack → HasStopped T before (history ++ more) g c lack
     by (Over is known over) = Over is known over
     by (Still t stands) = Still (record {
       had = t.had;
@@ -56,8 +56,8 @@ knows_by_look = record {
 turn_some : (a b n : ℕ) → b ≡ a + n → a < b → 0 < n
 turn_some a b n e f = omega arith
 
-stands_for : (r : Run) (old new : Goroutine) (slice n changed : ℕ) (es : List Access) (lack : Option Shortage) (why : Stop) → Tells why lack
-    → Stops r old new slice n changed es why → StandsStill r.setup (number_of old.actor.seat.me) (record_of r.setup new) es lack
+stands_for : (r : Run) (old new : Goroutine) (slice n changed : ℕ) (es : List Access) (lack : Option Shortage) (why : TableTurnEnd) → Tells why lack
+    → TurnStops r old new slice n changed es why → StandsStill r.setup (number_of old.actor.seat.me) (record_of r.setup new) es lack
 stands_for r old new slice n changed es lack (stop.Blocked at) is s =
     subst (λ (o : Option Shortage). StandsStill r.setup (number_of old.actor.seat.me) (record_of r.setup new) es o) (sym is) (inl (at, s.1))
 stands_for r old new slice n changed es lack (stop.Lost at) is s =

@@ -1,17 +1,18 @@
--- How the claim on the whole program follows from the run behind a table.
+-- How the claim on the whole program follows from the run that explains a table.
 use Rattle.std.specs.Prelude.{◌≡◌, ℕ, List, Option}
 use Rattle.rgo_sound.specs.Code.Checked.{IsChecked}
 use Rattle.rgo_sound.specs.Code.Code.{Code}
 use Rattle.rgo_sound.specs.Code.Erasure.{erased}
 use Rattle.rgo_sound.specs.Code.NameRules.{Ascends}
-use Rattle.rgo_driver.specs.Runs.{RunsFreely}
-use Rattle.rgo_driver.specs.declared.ends.RunEnd.{RunEnd}
+use Rattle.rgo_sound.specs.Machine.Ends.{RunsFreely}
+use Rattle.rgo_sound.specs.Machine.declared.ends.RunEnd.{RunEnd}
 use Rattle.rgo_sound.specs.Machine.declared.limits.Limits.{Limits}
 use Rattle.rgo_sound.specs.Machine.declared.limits.Sizes.{Sizes}
 use Rattle.rgo_sound.specs.RegionMachine.Counts.{Counts}
 use Rattle.rgo_sound.specs.Tac.Tac.{tac, tac_start}
-use Rattle.rgo_table_runs.specs.claims.RegionRuns.{CodeRuns}
-use Rattle.rgo_table_runs.specs.claims.TableRuns.{TableRun, picks_of}
+use Rattle.rgo_sound.specs.RegionRuns.{CodeRuns}
+use Rattle.rgo_sound.specs.Erasure.{picks_of}
+use Rattle.rgo_table_runs.specs.claims.TableRuns.{TableRun}
 
 -- It is a run of the three-address code, with the picks of its events.
 abbrev pub RunsAsCode : Type 0

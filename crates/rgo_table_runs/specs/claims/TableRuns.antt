@@ -1,25 +1,20 @@
--- The run behind a table, up to its end and beyond: what the claim on the whole program takes from it.
+-- The run that explains a table, up to its end and beyond: what the claim on the whole program takes from it.
 use Rattle.std.specs.Prelude.{◌≡◌, ◌≤◌, ℕ, List, ◌++◌, length, Option, Some}
 use Rattle.rgo_sound.specs.Code.Code.{Code}
 use Rattle.rgo_sound.specs.Code.Erasure.{erased}
-use Rattle.rgo_driver.specs.Runs.{Ends, Gives}
-use Rattle.rgo_driver.specs.declared.ends.RunEnd.{RunEnd}
-use Rattle.rgo_driver.specs.declared.ends.RunEnd.TheVariants.{NoMemory, NoRoom}
+use Rattle.rgo_sound.specs.Machine.Ends.{RunEndsAs, RunPrints}
+use Rattle.rgo_sound.specs.Machine.declared.ends.RunEnd.{RunEnd}
+use Rattle.rgo_sound.specs.Machine.declared.ends.RunEnd.TheVariants.{NoMemory, NoRoom}
 use Rattle.rgo_sound.specs.Machine.Limits.{LeadsWithin}
 use Rattle.rgo_sound.specs.Machine.declared.limits.Limits.{Limits}
 use Rattle.rgo_sound.specs.Machine.declared.limits.Sizes.{Sizes}
-use Rattle.rgo_sound.specs.Machine.declared.picks.Pick.{Pick}
-use Rattle.rgo_sound.specs.Machine.declared.turns.Shortage.{Shortage}
+use Rattle.rgo_sound.specs.Machine.declared.limits.Shortage.{Shortage}
 use Rattle.rgo_sound.specs.RegionMachine.Counts.{Counts, counts_of}
-use Rattle.rgo_sound.specs.RegionMachine.Machine.{Event, region_run, region_start}
+use Rattle.rgo_sound.specs.RegionMachine.Machine.{Event, region_run}
 use Rattle.rgo_sound.specs.RegionMachine.Room.{LacksIn, roomy_run}
 use Rattle.rgo_sound.specs.RegionMachine.States.{RegionState, plain_at}
-use Rattle.rgo_sound.specs.Erasure.{erased_picks}
+use Rattle.rgo_sound.specs.Erasure.{picks_of}
 use Rattle.rgo_sound.specs.Tac.Tac.{TacState, tac, tac_start}
-
--- the picks of a run, without its region steps
-abbrev pub picks_of : Code → Sizes → List Event → List Pick
-picks_of code sizes events = erased_picks code sizes.page_words (region_start code) events
 
 -- A run with regions. Without them it is a run within the limits, which ends so, for its cause; its print was given out.
 pub record TableRun (code : Code) (sizes : Sizes) (limits : Limits) (end : RunEnd) (tally : Counts) (old new : Option (List ℕ)) : Type 0 where
@@ -44,6 +39,6 @@ pub record TableRun (code : Code) (sizes : Sizes) (limits : Limits) (end : RunEn
   -- the steps that were made when the limit of steps was last tested
   pub tested : ℕ
   pub early : tested ≤ length (picks_of code sizes events)
-  pub ends : Ends (tac (erased code)) limits tested (length (picks_of code sizes events)) plain end
-  pub gives : Gives end plain.printed old new
+  pub ends : RunEndsAs (tac (erased code)) limits tested (length (picks_of code sizes events)) plain end
+  pub gives : RunPrints end plain.printed old new
   pub lacks : (why : Shortage) → end ≡ NoRoom why → LacksIn code sizes why state

@@ -5,13 +5,13 @@ use Rattle.rgo_sound.specs.Code.Code.{Code}
 use Rattle.rgo_sound.specs.Code.Erasure.{erased}
 use Rattle.rgo_core.specs.Records.{Drawn, Record}
 use Rattle.rgo_core.specs.Rule.Views.{Has, Rows}
-use Rattle.rgo_driver.specs.Runs.{AppendsSome}
-use Rattle.rgo_driver.specs.declared.ends.RunEnd.{RunEnd}
-use Rattle.rgo_driver.specs.declared.ends.RunEnd.TheVariants as run_end
+use Rattle.rgo_sound.specs.Machine.Ends.{AppendsSome}
+use Rattle.rgo_sound.specs.Machine.declared.ends.RunEnd.{RunEnd}
+use Rattle.rgo_sound.specs.Machine.declared.ends.RunEnd.TheVariants as run_end
 use Rattle.rgo_sound.specs.Machine.Deadlocks.{IsDeadlock}
 use Rattle.rgo_sound.specs.Machine.declared.limits.Limits.{Limits}
 use Rattle.rgo_sound.specs.Machine.declared.limits.Sizes.{Sizes}
-use Rattle.rgo_sound.specs.Machine.declared.turns.Shortage.TheVariants as shortage
+use Rattle.rgo_sound.specs.Machine.declared.limits.Shortage.TheVariants as shortage
 use Rattle.rgo_sound.specs.RegionMachine.Room.{LacksIn}
 use Rattle.rgo_sound.specs.RegionMachine.States.{Ended, Mark, RegionState, Stopped}
 use Rattle.rgo_sound.specs.RegionMachine.declared.limits.Limit.{Limit}
@@ -40,16 +40,16 @@ end_of (Stopped limit) = end_of_limit limit
 
 -- `steps` were made by the end, and `tested` when the limit of steps was tested before
 module _ (code : Code) (sizes : Sizes) (limits : Limits) (tested steps : ℕ) (s : RegionState) where
-  -- The mark tells it. Where there is none, the driver ends the run: for a deadlock, since so many steps were made, or for want of
+  -- The mark says it. Without a mark, the driver ends the run: for a deadlock, because the steps were spent, or for want of
   -- pages or regions. That it has no memory, or cannot write, goes before all this.
-  abbrev pub Ends : Option Mark → RunEnd → Type 0
-  Ends first run_end.NoMemory = ⊤
-  Ends first run_end.WriteFault = ⊤
-  Ends (Some mark) end = end_of mark ≡ end
-  Ends None run_end.Deadlock = IsDeadlock (tac (erased code)) s.plain
-  Ends None run_end.StepsSpent = (limits.steps ≤ steps) × (tested ≤ steps) × (tested < max 1 limits.steps)
-  Ends None (run_end.NoRoom why) = LacksIn code sizes why s
-  Ends None end = ⊥
+  abbrev pub TableRunEnds : Option Mark → RunEnd → Type 0
+  TableRunEnds first run_end.NoMemory = ⊤
+  TableRunEnds first run_end.WriteFault = ⊤
+  TableRunEnds (Some mark) end = end_of mark ≡ end
+  TableRunEnds None run_end.Deadlock = IsDeadlock (tac (erased code)) s.plain
+  TableRunEnds None run_end.StepsSpent = (limits.steps ≤ steps) × (tested ≤ steps) × (tested < max 1 limits.steps)
+  TableRunEnds None (run_end.NoRoom why) = LacksIn code sizes why s
+  TableRunEnds None end = ⊥
 
 -- ---- what was given out
 

@@ -9,8 +9,8 @@ use Rattle.rgo_core.specs.Records.{ClockRec, Record, begins_with, blank, drawn_a
 use Rattle.rgo_core.specs.Frames.Constants.{ConstantsFit}
 use Rattle.rgo_core.specs.Frames.Opening.{no_record}
 use Rattle.rgo_core.specs.Rule.Views.{Rows, view}
-use Rattle.rgo_core_steps.specs.Outcomes.{Closes}
-use Rattle.rgo_driver.specs.declared.ends.RunEnd.TheVariants as run_end
+use Rattle.rgo_core_steps.specs.Outcomes.{ClosesTable}
+use Rattle.rgo_sound.specs.Machine.declared.ends.RunEnd.TheVariants as run_end
 use Rattle.rgo_sound.specs.Machine.Limits.{most_goroutines}
 use Rattle.rgo_sound.specs.Machine.declared.limits.Limits.{Limits}
 use Rattle.rgo_sound.specs.Machine.declared.limits.Sizes.{Sizes}
@@ -18,11 +18,11 @@ use Rattle.rgo_sound.specs.Machine.declared.picks.End.TheVariants.{Exit}
 use Rattle.rgo_sound.specs.RegionMachine.States.{Ended, RegionState, Stopped}
 use Rattle.rgo_sound.specs.RegionMachine.declared.limits.Limit.TheVariants.{Calls, Memory}
 use Rattle.rgo_sound.specs.Tally.{no_share}
-use Rattle.rgo_table_runs.specs.closing.Ends.{Ends, GaveOut, IsFirst, end_of}
+use Rattle.rgo_table_runs.specs.closing.Ends.{TableRunEnds, GaveOut, IsFirst, end_of}
 use Rattle.rgo_table_runs.specs.closing.Gathering.{AreGathered, HasShares, numbered, sum_of}
 use Rattle.rgo_table_runs.specs.closing.Laws.{HasClosed}
 use Rattle.rgo_table_runs.specs.closing.Members.{NoneIsLost, retired}
-use Rattle.rgo_table_runs.specs.closing.Prints.{AllGiven, InOrder, bytes_of}
+use Rattle.rgo_table_runs.specs.closing.Prints.{AllGiven, TicketsInOrder, bytes_of}
 use Rattle.rgo_table_runs.specs.closing.Rows.{AreAll, all_shares}
 
 -- a goroutine with this clock
@@ -68,9 +68,9 @@ pub record ClosingExamples : Type 0 where
   -- it could have been given out
   pub withheld : AreGathered printers (drawn_at 0 (9 ∷ []) ∷ []) (drawn_at 1 (7 ∷ 8 ∷ []) ∷ []) → ⊥
   pub ungathered : AreGathered printers (drawn_at 0 (9 ∷ []) ∷ []) [] → ⊥
-  pub in_order : InOrder printers (drawn_at 0 (9 ∷ []) ∷ drawn_at 1 (7 ∷ 8 ∷ []) ∷ [])
-  pub by_place : InOrder printers (drawn_at 1 (7 ∷ 8 ∷ []) ∷ drawn_at 0 (9 ∷ []) ∷ []) → ⊥
-  pub void : (rows : Rows Record) → InOrder rows (drawn_at 9223372036854775808 (9 ∷ []) ∷ []) → ⊥
+  pub in_order : TicketsInOrder printers (drawn_at 0 (9 ∷ []) ∷ drawn_at 1 (7 ∷ 8 ∷ []) ∷ [])
+  pub by_place : TicketsInOrder printers (drawn_at 1 (7 ∷ 8 ∷ []) ∷ drawn_at 0 (9 ∷ []) ∷ []) → ⊥
+  pub void : (rows : Rows Record) → TicketsInOrder rows (drawn_at 9223372036854775808 (9 ∷ []) ∷ []) → ⊥
   pub none_left : AllGiven main_alone []
   pub one_left : AllGiven printers (drawn_at 0 (9 ∷ []) ∷ []) → ⊥
   pub bytes : bytes_of (drawn_at 0 (9 ∷ []) ∷ drawn_at 1 (7 ∷ 8 ∷ []) ∷ []) ≡ 9 ∷ 7 ∷ 8 ∷ []
@@ -86,11 +86,11 @@ pub record ClosingExamples : Type 0 where
   pub another : IsFirst exited (Some (Stopped Memory)) → ⊥
   pub too_deep : end_of (Stopped Calls) ≡ run_end.CallsTooDeep
   -- it has made the five steps that it may make, three when that was tested before
-  pub spent : (code : Code) (sizes : Sizes) (limits : Limits) (s : RegionState) → limits.steps ≡ 5 → Ends code sizes limits 3 5 s None run_end.StepsSpent
-  pub unspent : (code : Code) (sizes : Sizes) (limits : Limits) (s : RegionState) → limits.steps ≡ 5 → Ends code sizes limits 3 4 s None run_end.StepsSpent → ⊥
+  pub spent : (code : Code) (sizes : Sizes) (limits : Limits) (s : RegionState) → limits.steps ≡ 5 → TableRunEnds code sizes limits 3 5 s None run_end.StepsSpent
+  pub unspent : (code : Code) (sizes : Sizes) (limits : Limits) (s : RegionState) → limits.steps ≡ 5 → TableRunEnds code sizes limits 3 4 s None run_end.StepsSpent → ⊥
   -- it says that a run has exited that no goroutine has ended
-  pub unended : (code : Code) (sizes : Sizes) (limits : Limits) (s : RegionState) → Ends code sizes limits 3 4 s None (run_end.Ended Exit) → ⊥
-  pub ended : (code : Code) (sizes : Sizes) (limits : Limits) (s : RegionState) → Ends code sizes limits 3 4 s (Some (Ended Exit)) (run_end.Ended Exit)
+  pub unended : (code : Code) (sizes : Sizes) (limits : Limits) (s : RegionState) → TableRunEnds code sizes limits 3 4 s None (run_end.Ended Exit) → ⊥
+  pub ended : (code : Code) (sizes : Sizes) (limits : Limits) (s : RegionState) → TableRunEnds code sizes limits 3 4 s (Some (Ended Exit)) (run_end.Ended Exit)
   -- ---- what was given out
   pub gave : GaveOut printers (drawn_at 0 (9 ∷ []) ∷ drawn_at 1 (7 ∷ 8 ∷ []) ∷ []) run_end.Deadlock (Some (6 ∷ [])) (Some (6 ∷ 9 ∷ 7 ∷ 8 ∷ []))
   -- only where memory ran out may a print be left
@@ -101,8 +101,8 @@ pub record ClosingExamples : Type 0 where
   -- ---- the whole
   -- a table that is closed as it was opened
   pub closed : (T : Setup) → IsChecked T.code → Ascends T.code → ConstantsFit T.code → most_goroutines T.limits ≤ 1000000
-      → (e : Closes T (opening T) (view ((0, first_of T.code) ∷ []) []))
+      → (e : ClosesTable T (opening T) (view ((0, first_of T.code) ∷ []) []))
       × HasClosed T (opening T) (view ((0, first_of T.code) ∷ []) []) e ((0, first_of T.code) ∷ []) [] None 0 run_end.NoMemory None None
   -- it has no row
-  pub nobody : (T : Setup) (words : List ℕ) (e : Closes T words (view [] [])) (rows : Rows Record)
+  pub nobody : (T : Setup) (words : List ℕ) (e : ClosesTable T words (view [] [])) (rows : Rows Record)
       → HasClosed T words (view [] []) e rows [] None 0 run_end.NoMemory None None → ⊥

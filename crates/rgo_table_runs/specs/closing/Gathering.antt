@@ -8,10 +8,10 @@ use Rattle.rgo_core.specs.Records.{Drawn, Record}
 use Rattle.rgo_core.specs.Memory.Records.{Calm}
 use Rattle.rgo_core.specs.Rule.Views.{Has, Rows}
 use Rattle.rgo_core.specs.Rule.declared.accesses.View.{View}
-use Rattle.rgo_core_steps.specs.Outcomes.{Closes, HasFamily}
+use Rattle.rgo_core_steps.specs.Outcomes.{ClosesTable, HasFamily}
 use Rattle.rgo_sound.specs.RegionMachine.Counts.{Counts}
 use Rattle.rgo_sound.specs.Tally.{counts_plus, no_share}
-use Rattle.rgo_table_runs.specs.closing.Prints.{AllGiven, InOrder, IsPrint}
+use Rattle.rgo_table_runs.specs.closing.Prints.{AllGiven, TicketsInOrder, IsPrint}
 use Rattle.rgo_table_runs.specs.closing.Rows.{AreAll, all_shares}
 
 -- ---- rows
@@ -27,7 +27,7 @@ numbered recs = numbered_from 0 recs
 -- If the view of the seat with which a table was closed has the record of `main`, and with each record those of the goroutines that it
 -- has started, and if none of these has a chain to give back, then it has the rows of all goroutines.
 abbrev pub FamilyIsAll : Type 0
-FamilyIsAll = (T : Setup) (words : List ℕ) (v : View Record) (e : Closes T words v) → HasFamily v
+FamilyIsAll = (T : Setup) (words : List ℕ) (v : View Record) (e : ClosesTable T words v) → HasFamily v
     → ((g : ℕ) (c : Record) → Has v.records g c → c.memory.give ≡ Calm) → AreAll v (numbered e.recs)
 
 -- ---- what they have counted
@@ -46,7 +46,7 @@ pub record HasShares (v : View Record) (shares : List Counts) : Type 0 where
 
 -- Their sum is what all goroutines have counted.
 abbrev pub SharesAreAll : Type 0
-SharesAreAll = (T : Setup) (words : List ℕ) (v : View Record) (e : Closes T words v) (rows : Rows Record) (shares : List Counts)
+SharesAreAll = (T : Setup) (words : List ℕ) (v : View Record) (e : ClosesTable T words v) (rows : Rows Record) (shares : List Counts)
     → AreAll v rows → HasShares v shares → sum_of shares ≡ all_shares rows
 
 -- ---- what they have printed
@@ -61,5 +61,5 @@ pub record AreGathered (rows : Rows Record) (given waiting : List Drawn) : Type 
 
 -- Then none waits: all were given out.
 abbrev pub GatheredAreGiven : Type 0
-GatheredAreGiven = (T : Setup) (words : List ℕ) (v : View Record) (e : Closes T words v) (rows : Rows Record) (given waiting : List Drawn)
-    → AreAll v rows → InOrder rows given → AreGathered rows given waiting → AllGiven rows given
+GatheredAreGiven = (T : Setup) (words : List ℕ) (v : View Record) (e : ClosesTable T words v) (rows : Rows Record) (given waiting : List Drawn)
+    → AreAll v rows → TicketsInOrder rows given → AreGathered rows given waiting → AllGiven rows given

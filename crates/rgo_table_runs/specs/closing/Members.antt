@@ -21,8 +21,8 @@ abbrev pub IsOneOf : List Member → Member → Type 0
 IsOneOf ms m = (i : ℕ) × (get_elem? ms i ≡ some m)
 
 -- one of these has this number
-abbrev pub HasNumber : List Member → ℕ → Type 0
-HasNumber ms n = (m : Member) × IsOneOf ms m × (m.number ≡ n)
+abbrev pub SomeHasNumber : List Member → ℕ → Type 0
+SomeHasNumber ms n = (m : Member) × IsOneOf ms m × (m.number ≡ n)
 
 abbrev pub IsListed : List ℕ → ℕ → Type 0
 IsListed ns n = (i : ℕ) × (slice_get ns i ≡ Some n)
@@ -33,22 +33,22 @@ HasPrinted c d = (i : ℕ) × (slice_get c.clock.prints i ≡ Some d)
 -- Nobody and nothing was lost: `main` is one of the members, and so is each goroutine that one of them has started, unless it was not yet
 -- adopted; each print that is not void was taken, unless it was not yet gathered; and nothing else was taken.
 pub record NoneIsLost (ms : List Member) (taken : List Drawn) : Type 0 where
-  pub main : HasNumber ms 0
-  pub children : (m : Member) (h : ℕ) → IsOneOf ms m → IsListed m.its.clock.children h → HasNumber ms h ⊎ IsListed m.unborn h
+  pub main : SomeHasNumber ms 0
+  pub children : (m : Member) (h : ℕ) → IsOneOf ms m → IsListed m.its.clock.children h → SomeHasNumber ms h ⊎ IsListed m.unborn h
   pub prints : (m : Member) (d : Drawn) → IsOneOf ms m → HasPrinted m.its d → d.is_void ≡ false → IsIn taken d ⊎ IsIn m.fresh d
   pub are : (d : Drawn) → IsIn taken d → (d.is_void ≡ false) × (m : Member) × IsOneOf ms m × HasPrinted m.its d
 
 -- ---- what keeps it
 
 -- the same members and prints, in whatever order
-pub record AreSame (ms ns : List Member) (taken given : List Drawn) : Type 0 where
+pub record AreSameMembers (ms ns : List Member) (taken given : List Drawn) : Type 0 where
   pub there : (m : Member) → IsOneOf ms m → IsOneOf ns m
   pub back : (m : Member) → IsOneOf ns m → IsOneOf ms m
   pub still : (d : Drawn) → IsIn taken d → IsIn given d
   pub before : (d : Drawn) → IsIn given d → IsIn taken d
 
 abbrev pub KeptByOrder : Type 0
-KeptByOrder = (ms ns : List Member) (taken given : List Drawn) → NoneIsLost ms taken → AreSame ms ns taken given → NoneIsLost ns given
+KeptByOrder = (ms ns : List Member) (taken given : List Drawn) → NoneIsLost ms taken → AreSameMembers ms ns taken given → NoneIsLost ns given
 
 -- A member has had a turn: what it has printed and started comes to what was not yet taken from it.
 pub record HasPlayed (m n : Member) : Type 0 where
@@ -78,7 +78,7 @@ KeptByGathering = (front rest : List Member) (m n : Member) (taken given : List 
 -- Those that it had started were adopted: they have printed and started nothing yet.
 pub record WereAdopted (m n : Member) (more : List Member) : Type 0 where
   pub is : n ≡ record m { unborn = [] }
-  pub all : (h : ℕ) → IsListed m.unborn h → HasNumber more h
+  pub all : (h : ℕ) → IsListed m.unborn h → SomeHasNumber more h
   pub new : (c : Member) → IsOneOf more c → (c.its.clock ≡ blank) × (c.fresh ≡ []) × (c.unborn ≡ [])
 
 abbrev pub KeptByAdopting : Type 0

@@ -15,7 +15,7 @@ pub record IsPrint (rows : Rows Record) (d : Drawn) : Type 0 where
   pub there : get_elem? its.clock.prints place ≡ some d
 
 -- the prints with the tickets from 0 on, each once and in order, none of them void
-pub record InOrder (rows : Rows Record) (given : List Drawn) : Type 0 where
+pub record TicketsInOrder (rows : Rows Record) (given : List Drawn) : Type 0 where
   pub are : (i : ℕ) (d : Drawn) → get_elem? given i ≡ some d → IsPrint rows d
   pub next : (i : ℕ) (d : Drawn) → get_elem? given i ≡ some d → d.ticket ≡ i
   pub valid : (i : ℕ) (d : Drawn) → get_elem? given i ≡ some d → d.is_void ≡ false

@@ -8,10 +8,10 @@ use Rattle.rgo_core.specs.Rule.Histories.{access}
 use Rattle.rgo_core.specs.Rule.Views.{view}
 use Rattle.rgo_core.specs.Rule.declared.accesses.Access.{Access}
 use Rattle.rgo_core.specs.Rule.declared.accesses.Kind.TheVariants.{Load}
-use Rattle.rgo_sound.specs.Machine.declared.turns.Shortage.{Shortage}
-use Rattle.rgo_sound.specs.Machine.declared.turns.Shortage.TheVariants.{ObjectSize, Pages, Regions}
-use Rattle.rgo_goroutine.specs.Acts.Waits.{Waits}
-use Rattle.rgo_goroutine.specs.declared.turning.Stop.TheVariants as stop
+use Rattle.rgo_sound.specs.Machine.declared.limits.Shortage.{Shortage}
+use Rattle.rgo_sound.specs.Machine.declared.limits.Shortage.TheVariants.{ObjectSize, Pages, Regions}
+use Rattle.rgo_goroutine.specs.Acts.Waits.{WaitsAtChannel}
+use Rattle.rgo_goroutine.specs.declared.turning.TableTurnEnd.TheVariants as stop
 use Rattle.rgo_table_runs.specs.passing.Laws.{Tells}
 use Rattle.rgo_table_runs.specs.passing.Passes.{AllPassed}
 use Rattle.rgo_table_runs.specs.passing.Turns.{HadTurn, HasPassed, IsKnown, StandsStill}
@@ -31,10 +31,10 @@ pub record PassingExamples : Type 0 where
   pub had_turn : HadTurn [] (look ∷ []) 1 (looked idle)
   -- it has changed a word
   pub changed : (k : HadTurn [] (access 1 Load 0 5 6 ∷ []) 1 (looked idle)) → k.turn ≡ access 1 Load 0 5 6 ∷ [] → ⊥
-  -- the history does not go on from the one before
+  -- the history does not continue the one before
   pub before : (g : ℕ) (c : Record) → HadTurn (look ∷ []) [] g c → ⊥
-  pub waits : (T : Setup) (g : ℕ) (c : Record) (es : List Access) (place : Option ℕ) → Waits T g c es place → StandsStill T g c es None
-  -- the size of an object is no reason to stand still
+  pub waits : (T : Setup) (g : ℕ) (c : Record) (es : List Access) (place : Option ℕ) → WaitsAtChannel T g c es place → StandsStill T g c es None
+  -- the size of an object is not a reason not to move
   pub too_large : (T : Setup) (g : ℕ) (c : Record) (es : List Access) → StandsStill T g c es (Some ObjectSize) → ⊥
   pub over : (T : Setup) → HasPassed T [] [] 0 idle None
   -- it has locked a channel

@@ -7,18 +7,18 @@ use Rattle.rgo_core.specs.Rule.Passes.{ChangesNothingBy}
 use Rattle.rgo_core.specs.Rule.Views.{Has, Rows, number_of}
 use Rattle.rgo_core.specs.Rule.declared.accesses.Access.{Access}
 use Rattle.rgo_core.specs.Rule.declared.accesses.View.{View}
-use Rattle.rgo_core_steps.specs.Outcomes.{Closes}
+use Rattle.rgo_core_steps.specs.Outcomes.{ClosesTable}
 use Rattle.rgo_sound.specs.Machine.Deadlocks.{IsDeadlock}
-use Rattle.rgo_sound.specs.Machine.declared.turns.Shortage.{Shortage}
+use Rattle.rgo_sound.specs.Machine.declared.limits.Shortage.{Shortage}
 use Rattle.rgo_sound.specs.RegionMachine.Room.{LacksIn}
 use Rattle.rgo_sound.specs.Tac.Tac.{tac}
 use Rattle.rgo_goroutine.specs.Acts.Runs.{Run}
 use Rattle.rgo_goroutine.specs.Goroutines.{record_of}
-use Rattle.rgo_goroutine.specs.Passing.{Looks}
+use Rattle.rgo_goroutine.specs.Passing.{LoadsClock}
 use Rattle.rgo_goroutine.specs.Turns.{HasTurned, IsTidy}
 use Rattle.rgo_goroutine.specs.declared.goroutine.Goroutine.{Goroutine}
-use Rattle.rgo_goroutine.specs.declared.turning.Stop.{Stop}
-use Rattle.rgo_goroutine.specs.declared.turning.Stop.TheVariants as stop
+use Rattle.rgo_goroutine.specs.declared.turning.TableTurnEnd.{TableTurnEnd}
+use Rattle.rgo_goroutine.specs.declared.turning.TableTurnEnd.TheVariants as stop
 use Rattle.rgo_goroutine.specs.declared.turning.Turned.{Turned}
 use Rattle.rgo_table_runs.specs.closing.Laws.{last_state}
 use Rattle.rgo_table_runs.specs.passing.Passes.{AllPassed}
@@ -28,13 +28,13 @@ use Rattle.rgo_table_runs.specs.passing.Turns.{HasPassed, IsKnown}
 
 -- If no goroutine could continue, and none lacked anything, the run is in a deadlock.
 abbrev pub FindsDeadlock : Type 0
-FindsDeadlock = (T : Setup) (words : List ℕ) (v : View Record) (e : Closes T words v) (rows : Rows Record) (before : List Access)
+FindsDeadlock = (T : Setup) (words : List ℕ) (v : View Record) (e : ClosesTable T words v) (rows : Rows Record) (before : List Access)
     (lack : ℕ → Option Shortage) → AllPassed T v rows before lack → ((g : ℕ) (c : Record) → Has rows g c → lack g ≡ None)
     → IsDeadlock (tac (erased T.code)) (last_state e).plain
 
 -- If one lacked a page or a slot, there was none: at one moment as many were in use as there are.
 abbrev pub FindsShortage : Type 0
-FindsShortage = (T : Setup) (words : List ℕ) (v : View Record) (e : Closes T words v) (rows : Rows Record) (before : List Access)
+FindsShortage = (T : Setup) (words : List ℕ) (v : View Record) (e : ClosesTable T words v) (rows : Rows Record) (before : List Access)
     (lack : ℕ → Option Shortage) → AllPassed T v rows before lack
     → (g : ℕ) (c : Record) (why : Shortage) → Has rows g c → lack g ≡ Some why → LacksIn T.code T.sizes why (last_state e)
 
@@ -42,12 +42,12 @@ FindsShortage = (T : Setup) (words : List ℕ) (v : View Record) (e : Closes T w
 
 -- All accesses of a goroutine are known when it has looked, and stay so.
 pub record KnowsByLook : Type 0 where
-  pub looks : (r : Run) (old new : Goroutine) (ended : Bool) → Looks r old new ended
+  pub looks : (r : Run) (old new : Goroutine) (ended : Bool) → LoadsClock r old new ended
       → IsKnown new.actor.seat.me.0.seen (number_of old.actor.seat.me) (accesses (record_of r.setup new))
   pub stays : (before more : List Access) (g n : ℕ) → IsKnown before g n → IsKnown (before ++ more) g n
 
--- why the turn was over tells what the goroutine lacks
-abbrev pub Tells : Stop → Option Shortage → Type 0
+-- why the turn was over says what the goroutine lacks
+abbrev pub Tells : TableTurnEnd → Option Shortage → Type 0
 Tells (stop.Blocked at) lack = lack ≡ None
 Tells (stop.Lost at) lack = lack ≡ None
 Tells (stop.Short why) lack = lack ≡ Some why

@@ -5,7 +5,7 @@ use Rattle.rgo_core.specs.Records.{Record}
 use Rattle.rgo_core.specs.Rule.Views.{Has, Rows}
 use Rattle.rgo_core.specs.Rule.declared.accesses.Access.{Access}
 use Rattle.rgo_core.specs.Rule.declared.accesses.View.{View}
-use Rattle.rgo_sound.specs.Machine.declared.turns.Shortage.{Shortage}
+use Rattle.rgo_sound.specs.Machine.declared.limits.Shortage.{Shortage}
 use Rattle.rgo_table_runs.specs.closing.Rows.{AreAll}
 use Rattle.rgo_table_runs.specs.passing.Turns.{HasPassed}
 

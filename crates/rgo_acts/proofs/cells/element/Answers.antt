@@ -6,7 +6,7 @@ use Rattle.rgo_core.specs.Links.{IsAtElement}
 use Rattle.rgo_core.specs.Memory.Words.{base}
 use Rattle.rgo_sound.specs.Tac.Ops.{operation_of}
 use Rattle.rgo_acts.specs.Actors.{now}
-use Rattle.rgo_acts.specs.Elements.{HasElement, HasLocated, HasNoElementHere}
+use Rattle.rgo_acts.specs.Elements.{ActorHasElement, HasLocated, HasNoElementHere}
 use Rattle.rgo_acts.specs.Ready.{IsBefore}
 use Rattle.rgo_acts.specs.Runs.{Run}
 use Rattle.rgo_acts.proofs.Before.{has_variable}
@@ -73,7 +73,7 @@ returns-then-elements-page_words g c =
     let at = subst (λ (r : Run). c.cell.result ≡ base (layout r.setup) + ((c.word-pointer.result - 1) + (1 + c.word-index.result)))
     (sym c.run.view_is) c.cell.ensures.at in
     let inside = subst (λ (r : Run). c.cell.result < r.table.words) (sym c.run.view_is) c.cell.ensures.inside in
-    subst (λ (r : Run). HasElement r a b c.args.next.now c.args.slice c.args.index c.cell.result) c.run.view_is
+    subst (λ (r : Run). ActorHasElement r a b c.args.next.now c.args.slice c.args.index c.cell.result) c.run.view_is
     (is_inside _ a c.args.next.now before c.args.slice c.args.index c.word-pointer.result c.requires.at c.word-pointer.ensures
     c.if-pointer-eq0.false b c.cell-first.result c.measure-elements.result c.measure-elements.ensures.own.0 refl refl
     c.measure-elements.ensures.possible c.measure-elements.ensures.leaves c.word-index.result c.word-index.ensures c.if-index-elements.false
@@ -110,7 +110,7 @@ returns g c =
     let before = subst (λ (r : Run). IsBefore r a c.args.next.now) (sym c.run.view_is) c.requires.before in
     let has = subst (λ (r : Run). HasLocated r b c.locate.new.actor c.args.next.now (c.word-pointer.result - 1) c.word-index.result c.locate.result)
     (sym c.run.view_is) c.locate.ensures in
-    subst (λ (r : Run). HasElement r a c.locate.new.actor c.args.next.now c.args.slice c.args.index c.locate.result) c.run.view_is
+    subst (λ (r : Run). ActorHasElement r a c.locate.new.actor c.args.next.now c.args.slice c.args.index c.locate.result) c.run.view_is
     (is_located _ a c.args.next.now before c.args.slice c.args.index c.word-pointer.result c.requires.at c.word-pointer.ensures
     c.if-pointer-eq0.false b c.cell-first.result c.measure-elements.result c.measure-elements.ensures.own.0 refl refl
     c.measure-elements.ensures.possible c.measure-elements.ensures.leaves c.word-index.result c.word-index.ensures c.if-index-elements.false

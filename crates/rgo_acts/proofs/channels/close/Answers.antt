@@ -7,7 +7,7 @@ use Rattle.rgo_sound.proofs.Places.{contains_here}
 use Rattle.rgo_sound.specs.Typed.declared.actions.Action.TheVariants.{Close}
 use Rattle.rgo_acts.specs.Actors.{now}
 use Rattle.rgo_acts.specs.Runs.{Run}
-use Rattle.rgo_acts.specs.Talks.{Concludes}
+use Rattle.rgo_acts.specs.Talks.{TryConcludes}
 use Rattle.rgo_acts.proofs.AtChannels.{before_close, has_operand, lies, place_fits}
 use Rattle.rgo_acts.proofs.Talking.{close_on_nil, closes_talk}
 use Rattle.rgo_acts.proofs.channels.close.Goals as goal
@@ -60,7 +60,7 @@ returns-clause-talks g c =
     (subst (λ (x : Run). Closes x.setup (control_at c.base-base.result c.word-pointer.result) (now x.setup a) c.close_channel-tried.result a.seat.me c.args.steps.now
     c.close_channel-tried.new.seat.me c.close_channel-tried.new.steps) c.run.view_is
     (c.close_channel-tried.ensures.answers c.if-pointer-eq0.false))
-    (subst (λ (x : Run). Concludes x.program a.body c.conclude.new.body (control_at c.base-base.result c.word-pointer.result) c.close_channel-tried.result) c.run.view_is
+    (subst (λ (x : Run). TryConcludes x.program a.body c.conclude.new.body (control_at c.base-base.result c.word-pointer.result) c.close_channel-tried.result) c.run.view_is
     c.conclude.ensures.body)
     c.conclude.ensures.says).0
 
@@ -77,6 +77,6 @@ returns-clause-only g c =
     (subst (λ (x : Run). Closes x.setup (control_at c.base-base.result c.word-pointer.result) (now x.setup a) c.close_channel-tried.result a.seat.me c.args.steps.now
     c.close_channel-tried.new.seat.me c.close_channel-tried.new.steps) c.run.view_is
     (c.close_channel-tried.ensures.answers c.if-pointer-eq0.false))
-    (subst (λ (x : Run). Concludes x.program a.body c.conclude.new.body (control_at c.base-base.result c.word-pointer.result) c.close_channel-tried.result) c.run.view_is
+    (subst (λ (x : Run). TryConcludes x.program a.body c.conclude.new.body (control_at c.base-base.result c.word-pointer.result) c.close_channel-tried.result) c.run.view_is
     c.conclude.ensures.body)
     c.conclude.ensures.says).1

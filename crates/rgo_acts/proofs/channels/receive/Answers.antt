@@ -7,7 +7,7 @@ use Rattle.rgo_sound.proofs.Places.{contains_here}
 use Rattle.rgo_sound.specs.Typed.declared.actions.Action.TheVariants.{Recv}
 use Rattle.rgo_acts.specs.Actors.{now}
 use Rattle.rgo_acts.specs.Runs.{Run}
-use Rattle.rgo_acts.specs.Talks.{Concludes}
+use Rattle.rgo_acts.specs.Talks.{TryConcludes}
 use Rattle.rgo_acts.proofs.AtChannels.{before_receive, has_operand, has_words, lies, place_fits}
 use Rattle.rgo_acts.proofs.Talking.{receive_on_nil, receives_talk}
 use Rattle.rgo_acts.proofs.channels.receive.Goals as goal
@@ -73,7 +73,7 @@ returns-clause-talks g c =
     (subst (λ (x : Run). Receives x.setup (control_at c.base-base.result c.word-pointer.result) (now x.setup a) c.receive-tried.result a.seat.me c.args.steps.now
     c.receive-tried.new.seat.me c.receive-tried.new.steps) c.run.view_is
     (c.receive-tried.ensures.answers c.if-pointer-eq0.false))
-    (subst (λ (x : Run). Concludes x.program a.body c.conclude.new.body (control_at c.base-base.result c.word-pointer.result) c.receive-tried.result) c.run.view_is
+    (subst (λ (x : Run). TryConcludes x.program a.body c.conclude.new.body (control_at c.base-base.result c.word-pointer.result) c.receive-tried.result) c.run.view_is
     c.conclude.ensures.body)
     c.conclude.ensures.says).0
 
@@ -90,6 +90,6 @@ returns-clause-only g c =
     (subst (λ (x : Run). Receives x.setup (control_at c.base-base.result c.word-pointer.result) (now x.setup a) c.receive-tried.result a.seat.me c.args.steps.now
     c.receive-tried.new.seat.me c.receive-tried.new.steps) c.run.view_is
     (c.receive-tried.ensures.answers c.if-pointer-eq0.false))
-    (subst (λ (x : Run). Concludes x.program a.body c.conclude.new.body (control_at c.base-base.result c.word-pointer.result) c.receive-tried.result) c.run.view_is
+    (subst (λ (x : Run). TryConcludes x.program a.body c.conclude.new.body (control_at c.base-base.result c.word-pointer.result) c.receive-tried.result) c.run.view_is
     c.conclude.ensures.body)
     c.conclude.ensures.says).1

@@ -7,7 +7,7 @@ use Rattle.rgo_sound.proofs.Places.{contains_here, contains_there}
 use Rattle.rgo_sound.specs.Typed.declared.actions.Action.TheVariants.{Send}
 use Rattle.rgo_acts.specs.Actors.{now}
 use Rattle.rgo_acts.specs.Runs.{Run}
-use Rattle.rgo_acts.specs.Talks.{Concludes}
+use Rattle.rgo_acts.specs.Talks.{TryConcludes}
 use Rattle.rgo_acts.proofs.AtChannels.{before_send, has_operand, has_words, lies, place_fits}
 use Rattle.rgo_acts.proofs.Talking.{send_on_nil, sends_talk}
 use Rattle.rgo_acts.proofs.channels.send.Goals as goal
@@ -81,6 +81,6 @@ returns-clause-talks g c =
     (subst (λ (x : Run). Sends x.setup (control_at c.base-base.result c.word-pointer.result) (now x.setup a) c.word-word.result c.send-tried.result a.seat.me c.args.steps.now
     c.send-tried.new.seat.me c.send-tried.new.steps) c.run.view_is
     (c.send-tried.ensures.answers c.if-pointer-eq0.false))
-    (subst (λ (x : Run). Concludes x.program a.body c.conclude.new.body (control_at c.base-base.result c.word-pointer.result) c.send-tried.result) c.run.view_is
+    (subst (λ (x : Run). TryConcludes x.program a.body c.conclude.new.body (control_at c.base-base.result c.word-pointer.result) c.send-tried.result) c.run.view_is
     c.conclude.ensures.body)
     c.conclude.ensures.says

@@ -2,7 +2,7 @@ use Rattle.std.proofs.Common.{◌+◌, ◌∙◌, List, ap, arith, length, refl,
 use Rattle.rgo_sound.specs.RegionMachine.States.{Duty}
 use Rattle.rgo_body.specs.Duties.{DoesLocal}
 use Rattle.rgo_body.specs.Shows.{IsPossible}
-use Rattle.rgo_body.specs.Steps.{Stays}
+use Rattle.rgo_body.specs.Steps.{StillShows}
 use Rattle.rgo_body.specs.declared.bodies.Body.{Body}
 use Rattle.rgo_acts.specs.Runs.{Run}
 use Rattle.rgo_acts.proofs.LocalDuties.{next_owed, none_attended, one_attended}
@@ -28,7 +28,7 @@ returns-then-not-do_locally-clause-attended c =
     let a = c.loop-duty.actor in
     let b = record a { body = c.do_locally.new.body } in
     next_owed c.args.run.now c.args.actor.now a b c.loop-duty.invariant.attended refl refl
-    (subst (λ (r : Run). Stays r.program a.body b.body) c.run.view_is (c.do_locally.ensures.stays c.if-not-do_locally.true))
+    (subst (λ (r : Run). StillShows r.program a.body b.body) c.run.view_is (c.do_locally.ensures.stays c.if-not-do_locally.true))
     (c.do_locally.ensures.same c.if-not-do_locally.true)
 
 pub loop-duty-preserved : goal.loop-duty-preserved

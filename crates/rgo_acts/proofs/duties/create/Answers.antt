@@ -1,7 +1,7 @@
 use Rattle.std.proofs.Common.{◌++◌, refl, subst, sym}
 use Rattle.rgo_sound.specs.RegionMachine.States.{Create}
 use Rattle.rgo_body.proofs.Attending.{later}
-use Rattle.rgo_body.specs.Steps.{Stays}
+use Rattle.rgo_body.specs.Steps.{StillShows}
 use Rattle.rgo_acts.specs.Attending.{HasAttended, IsAtDuty, IsShort}
 use Rattle.rgo_acts.specs.Runs.{Run}
 use Rattle.rgo_acts.proofs.Attending.{created_by_call, created_short, has_waited, no_slots, owes_first}
@@ -12,7 +12,7 @@ returns-in-Err g c =
     let a = c.args.actor.now in
     let b = record a { body = c.room_to_create.new.self } in
     has_waited c.args.run.now a b c.requires.first.stands refl refl
-    (subst (λ (r : Run). Stays r.program a.body b.body) c.run.view_is c.room_to_create.ensures.stays) c.room_to_create.ensures.same
+    (subst (λ (r : Run). StillShows r.program a.body b.body) c.run.view_is c.room_to_create.ensures.stays) c.room_to_create.ensures.same
 
 pub returns-then-run-eq0 : goal.returns-then-run-eq0
 returns-then-run-eq0 g c =

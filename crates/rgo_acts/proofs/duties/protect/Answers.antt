@@ -1,6 +1,6 @@
 use Rattle.std.proofs.Common.{◌+◌, refl, subst}
 use Rattle.rgo_body.specs.Duties.{DoesLocal}
-use Rattle.rgo_body.specs.Steps.{Stays}
+use Rattle.rgo_body.specs.Steps.{StillShows}
 use Rattle.rgo_acts.specs.Runs.{Run}
 use Rattle.rgo_acts.proofs.Attending.{has_waited, local_done}
 use Rattle.rgo_acts.proofs.duties.protect.Goals as goal
@@ -17,4 +17,4 @@ returns-in-Err c =
     let a = c.args.actor.now in
     let b = record a { body = c.protect.new.self } in
     has_waited c.args.run.now a b c.requires.first.stands refl refl
-    (subst (λ (r : Run). Stays r.program a.body b.body) c.run.view_is c.in-Err.ensures.stays) c.in-Err.ensures.same
+    (subst (λ (r : Run). StillShows r.program a.body b.body) c.run.view_is c.in-Err.ensures.stays) c.in-Err.ensures.same

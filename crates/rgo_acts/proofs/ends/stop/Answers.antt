@@ -1,6 +1,6 @@
 use Rattle.std.proofs.Common.{refl, subst, sym}
 use Rattle.rgo_core.specs.Rule.Views.{number_of}
-use Rattle.rgo_core_steps.specs.Ends.{Ends}
+use Rattle.rgo_core_steps.specs.Ends.{GoroutineEndsRun}
 use Rattle.rgo_sound.specs.RegionMachine.States.{Stopped}
 use Rattle.rgo_acts.specs.Actors.{now}
 use Rattle.rgo_acts.specs.Runs.{Run}
@@ -9,7 +9,7 @@ use Rattle.rgo_acts.proofs.ends.stop.Goals as goal
 
 pub finish-ends-requires-clause-cause : goal.finish-ends-requires-clause-cause
 finish-ends-requires-clause-cause c =
-    subst (λ (x : Run). Ends x.setup (number_of c.args.actor.now.seat.me) (now x.setup c.args.actor.now) (Stopped c.args.limit))
+    subst (λ (x : Run). GoroutineEndsRun x.setup (number_of c.args.actor.now.seat.me) (now x.setup c.args.actor.now) (Stopped c.args.limit))
     (sym c.run.view_is) c.requires.cause
 
 pub returns-clause-ended : goal.returns-clause-ended

@@ -3,7 +3,7 @@ use Rattle.rgo_core.specs.Rule.declared.accesses.Access.{Access}
 use Rattle.rgo_core.specs.Opening.{first_of}
 use Rattle.rgo_core.specs.Plans.{setup_of}
 use Rattle.rgo_core.specs.Records.{accesses}
-use Rattle.rgo_core_steps.specs.Grown.{Grew}
+use Rattle.rgo_core_steps.specs.Grown.{SeatGrew}
 use Rattle.rgo_core_steps.specs.Seats.{HasOne, HasPossible, Settles, settled}
 use Rattle.rgo_holding.specs.Known.{own_page}
 use Rattle.rgo_acts.specs.Objects.{IsPlaced}
@@ -20,7 +20,7 @@ invariant-loop-i g l =
       settles : Settles T l.left l.seat.me;
       so_far : (slot : ℕ) (p : IsPlaced T c slot l.page l.new)
           → IsSoFar T c (own_page slot l.page) p.object.object l.new.words l.i (settled T l.left l.seat.me);
-      grew : (es : List Access) × Grew accesses (first_of T.code) l.fn.seat.me es l.seat.me;
+      grew : (es : List Access) × SeatGrew accesses (first_of T.code) l.fn.seat.me es l.seat.me;
       possible : 0 < l.i → HasPossible T l.seat.me;
       left : 0 < l.i → l.left ≡ 0;
       counted : l.steps ≡ l.fn.steps + l.i;

@@ -4,7 +4,7 @@ use Rattle.rgo_core.specs.Opening.{first_of}
 use Rattle.rgo_core.specs.Plans.{setup_of}
 use Rattle.rgo_core.specs.Records.{accesses}
 use Rattle.rgo_core_facts.specs.MemoryObjects.{data_pages_of}
-use Rattle.rgo_core_steps.specs.Grown.{Grew}
+use Rattle.rgo_core_steps.specs.Grown.{SeatGrew}
 use Rattle.rgo_core_steps.specs.Seats.{HasOne, HasPossible, Settles, settled}
 use Rattle.rgo_acts.specs.Objects.{IsPlacedApart}
 use Rattle.rgo_acts.proofs.ObjectApart.{IsSoFarApart}
@@ -21,7 +21,7 @@ invariant-loop-i g l =
       so_far : (p : IsPlacedApart T c l.pages l.new)
           → IsSoFarApart T c p.object.object (l.new.words + data_pages_of T.sizes.page_words l.new.words l.new.before) l.i
           (settled T l.left l.seat.me);
-      grew : (es : List Access) × Grew accesses (first_of T.code) l.fn.seat.me es l.seat.me;
+      grew : (es : List Access) × SeatGrew accesses (first_of T.code) l.fn.seat.me es l.seat.me;
       possible : 0 < l.i → HasPossible T l.seat.me;
       left : 0 < l.i → l.left ≡ 0;
       counted : l.steps ≡ l.fn.steps + l.i;

@@ -1,4 +1,4 @@
-use Rattle.rgo_core.proofs.Meetings as lemmas
+use Rattle.rgo_core.proofs.channel_steps.Meetings as lemmas
 use Rattle.rgo_core.proofs.channel_moves.acknowledge_move.Goals as goal
 
 pub returns : goal.returns

@@ -1,4 +1,4 @@
-use Rattle.rgo_core.proofs.ChannelMoves as lemmas
+use Rattle.rgo_core.proofs.channel_steps.Moves as lemmas
 use Rattle.rgo_core.proofs.channel_moves.control_move.Goals as goal
 
 pub returns : goal.returns

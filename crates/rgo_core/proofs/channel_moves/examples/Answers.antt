@@ -1,4 +1,4 @@
-use Rattle.rgo_core.proofs.ChannelExamples as lemmas
+use Rattle.rgo_core.proofs.channel_steps.Examples as lemmas
 use Rattle.rgo_core.proofs.channel_moves.examples.Goals as goal
 
 pub returns : goal.returns

@@ -1,4 +1,4 @@
-use Rattle.rgo_core.proofs.TrapMoves as lemmas
+use Rattle.rgo_core.proofs.channel_steps.TrapMoves as lemmas
 use Rattle.rgo_core.proofs.channel_moves.send_trap_move.Goals as goal
 
 pub returns : goal.returns

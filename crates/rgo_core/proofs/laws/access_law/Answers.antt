@@ -1,4 +1,4 @@
-use Rattle.rgo_core.proofs.Lift.{access_law as is}
+use Rattle.rgo_core.proofs.steps.Lift.{access_law as is}
 use Rattle.rgo_core.proofs.laws.access_law.Goals as goal
 
 pub returns : goal.returns

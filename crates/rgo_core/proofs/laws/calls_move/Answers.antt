@@ -1,4 +1,4 @@
-use Rattle.rgo_core.proofs.Ending.{calls_move as is}
+use Rattle.rgo_core.proofs.clock.Ending.{calls_move as is}
 use Rattle.rgo_core.proofs.laws.calls_move.Goals as goal
 
 pub returns : goal.returns

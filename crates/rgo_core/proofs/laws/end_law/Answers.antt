@@ -1,4 +1,4 @@
-use Rattle.rgo_core.proofs.ClockLifts.{end_law as is}
+use Rattle.rgo_core.proofs.clock.ClockLifts.{end_law as is}
 use Rattle.rgo_core.proofs.laws.end_law.Goals as goal
 
 pub returns : goal.returns

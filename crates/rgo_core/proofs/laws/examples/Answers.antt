@@ -1,5 +1,5 @@
 use Rattle.rgo_core.proofs.Examples as lemmas
-use Rattle.rgo_core.proofs.Possible.{possible_examples}
+use Rattle.rgo_core.proofs.runs.Possible.{possible_examples}
 use Rattle.rgo_core.proofs.laws.examples.Goals as goal
 
 pub returns-clause-clock : goal.returns-clause-clock

@@ -1,4 +1,4 @@
-use Rattle.rgo_core.proofs.Ending.{full_move as is}
+use Rattle.rgo_core.proofs.clock.Ending.{full_move as is}
 use Rattle.rgo_core.proofs.laws.full_move.Goals as goal
 
 pub returns : goal.returns

@@ -1,4 +1,4 @@
-use Rattle.rgo_core.proofs.Local.{local_still as is}
+use Rattle.rgo_core.proofs.steps.Local.{local_still as is}
 use Rattle.rgo_core.proofs.laws.local_still.Goals as goal
 
 pub returns : goal.returns

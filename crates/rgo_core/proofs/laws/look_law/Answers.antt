@@ -1,4 +1,4 @@
-use Rattle.rgo_core.proofs.ClockLifts.{look_law as is}
+use Rattle.rgo_core.proofs.clock.ClockLifts.{look_law as is}
 use Rattle.rgo_core.proofs.laws.look_law.Goals as goal
 
 pub returns : goal.returns

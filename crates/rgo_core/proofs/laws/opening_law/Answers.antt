@@ -1,4 +1,4 @@
-use Rattle.rgo_core.proofs.Opening.{opening_law as is}
+use Rattle.rgo_core.proofs.runs.Opening.{opening_law as is}
 use Rattle.rgo_core.proofs.laws.opening_law.Goals as goal
 
 pub returns : goal.returns

@@ -1,4 +1,4 @@
-use Rattle.rgo_core.proofs.Possible as lemmas
+use Rattle.rgo_core.proofs.runs.Possible as lemmas
 use Rattle.rgo_core.proofs.laws.possible_laws.Goals as goal
 
 pub returns-clause-first : goal.returns-clause-first

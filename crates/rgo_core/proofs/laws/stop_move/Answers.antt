@@ -1,4 +1,4 @@
-use Rattle.rgo_core.proofs.Ending.{stop_move as is}
+use Rattle.rgo_core.proofs.clock.Ending.{stop_move as is}
 use Rattle.rgo_core.proofs.laws.stop_move.Goals as goal
 
 pub returns : goal.returns

@@ -1,4 +1,4 @@
-use Rattle.rgo_core.proofs.ElementTraps.{at_trap_move}
+use Rattle.rgo_core.proofs.accesses.ElementTraps.{at_trap_move}
 use Rattle.rgo_core.proofs.memory_moves.at_trap_move.Goals as goal
 
 pub returns : goal.returns

@@ -1,4 +1,4 @@
-use Rattle.rgo_core.proofs.BoundExamples as lemmas
+use Rattle.rgo_core.proofs.image.BoundExamples as lemmas
 use Rattle.rgo_core.proofs.memory_moves.bounds.Goals as goal
 
 pub returns : goal.returns

@@ -1,4 +1,4 @@
-use Rattle.rgo_core.proofs.Chains.{clear_move}
+use Rattle.rgo_core.proofs.pages.Chains.{clear_move}
 use Rattle.rgo_core.proofs.memory_moves.clear_move.Goals as goal
 
 pub returns : goal.returns

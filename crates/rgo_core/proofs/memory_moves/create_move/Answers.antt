@@ -1,4 +1,4 @@
-use Rattle.rgo_core.proofs.Regions.{create_move}
+use Rattle.rgo_core.proofs.regions.Regions.{create_move}
 use Rattle.rgo_core.proofs.memory_moves.create_move.Goals as goal
 
 pub returns : goal.returns

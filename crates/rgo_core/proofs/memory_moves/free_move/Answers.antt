@@ -1,4 +1,4 @@
-use Rattle.rgo_core.proofs.Chains.{free_move}
+use Rattle.rgo_core.proofs.pages.Chains.{free_move}
 use Rattle.rgo_core.proofs.memory_moves.free_move.Goals as goal
 
 pub returns : goal.returns

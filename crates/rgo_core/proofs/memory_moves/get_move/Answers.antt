@@ -1,4 +1,4 @@
-use Rattle.rgo_core.proofs.Accesses.{get_move}
+use Rattle.rgo_core.proofs.accesses.Accesses.{get_move}
 use Rattle.rgo_core.proofs.memory_moves.get_move.Goals as goal
 
 pub returns : goal.returns

@@ -1,4 +1,4 @@
-use Rattle.rgo_core.proofs.Chains.{head_move}
+use Rattle.rgo_core.proofs.pages.Chains.{head_move}
 use Rattle.rgo_core.proofs.memory_moves.head_move.Goals as goal
 
 pub returns : goal.returns

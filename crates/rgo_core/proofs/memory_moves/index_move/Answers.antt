@@ -1,4 +1,4 @@
-use Rattle.rgo_core.proofs.Indexes.{index_move}
+use Rattle.rgo_core.proofs.accesses.Indexes.{index_move}
 use Rattle.rgo_core.proofs.memory_moves.index_move.Goals as goal
 
 pub returns : goal.returns

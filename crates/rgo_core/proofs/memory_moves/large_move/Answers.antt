@@ -1,4 +1,4 @@
-use Rattle.rgo_core.proofs.Ending.{large_move}
+use Rattle.rgo_core.proofs.clock.Ending.{large_move}
 use Rattle.rgo_core.proofs.memory_moves.large_move.Goals as goal
 
 pub returns : goal.returns

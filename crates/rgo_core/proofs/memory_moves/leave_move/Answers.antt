@@ -1,4 +1,4 @@
-use Rattle.rgo_core.proofs.Regions.{leave_move}
+use Rattle.rgo_core.proofs.regions.Regions.{leave_move}
 use Rattle.rgo_core.proofs.memory_moves.leave_move.Goals as goal
 
 pub returns : goal.returns

@@ -1,4 +1,4 @@
-use Rattle.rgo_core.proofs.Accesses.{len_nil_still}
+use Rattle.rgo_core.proofs.accesses.Accesses.{len_nil_still}
 use Rattle.rgo_core.proofs.memory_moves.len_nil_still.Goals as goal
 
 pub returns : goal.returns

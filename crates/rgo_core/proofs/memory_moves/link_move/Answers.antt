@@ -1,4 +1,4 @@
-use Rattle.rgo_core.proofs.Chains.{link_move}
+use Rattle.rgo_core.proofs.pages.Chains.{link_move}
 use Rattle.rgo_core.proofs.memory_moves.link_move.Goals as goal
 
 pub returns : goal.returns

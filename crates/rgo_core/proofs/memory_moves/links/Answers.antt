@@ -1,4 +1,4 @@
-use Rattle.rgo_core.proofs.LinkExamples as lemmas
+use Rattle.rgo_core.proofs.accesses.LinkExamples as lemmas
 use Rattle.rgo_core.proofs.memory_moves.links.Goals as goal
 
 pub returns : goal.returns

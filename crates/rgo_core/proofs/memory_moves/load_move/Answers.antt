@@ -1,4 +1,4 @@
-use Rattle.rgo_core.proofs.Accesses.{load_move}
+use Rattle.rgo_core.proofs.accesses.Accesses.{load_move}
 use Rattle.rgo_core.proofs.memory_moves.load_move.Goals as goal
 
 pub returns : goal.returns

@@ -1,4 +1,4 @@
-use Rattle.rgo_core.proofs.OperandTraps.{load_trap_move}
+use Rattle.rgo_core.proofs.clock.OperandTraps.{load_trap_move}
 use Rattle.rgo_core.proofs.memory_moves.load_trap_move.Goals as goal
 
 pub returns : goal.returns

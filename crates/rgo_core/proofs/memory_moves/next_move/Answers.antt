@@ -1,4 +1,4 @@
-use Rattle.rgo_core.proofs.Chains.{next_move}
+use Rattle.rgo_core.proofs.pages.Chains.{next_move}
 use Rattle.rgo_core.proofs.memory_moves.next_move.Goals as goal
 
 pub returns : goal.returns

@@ -1,4 +1,4 @@
-use Rattle.rgo_core.proofs.ObjectsApart as lemmas
+use Rattle.rgo_core.proofs.new_objects.ObjectsApart as lemmas
 use Rattle.rgo_core.proofs.memory_moves.object_move_apart.Goals as goal
 
 pub returns : goal.returns

@@ -1,4 +1,4 @@
-use Rattle.rgo_core.proofs.ElementTraps.{put_trap_move}
+use Rattle.rgo_core.proofs.accesses.ElementTraps.{put_trap_move}
 use Rattle.rgo_core.proofs.memory_moves.put_trap_move.Goals as goal
 
 pub returns : goal.returns

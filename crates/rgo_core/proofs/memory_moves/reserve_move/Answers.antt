@@ -1,4 +1,4 @@
-use Rattle.rgo_core.proofs.Reserves as lemmas
+use Rattle.rgo_core.proofs.pages.Reserves as lemmas
 use Rattle.rgo_core.proofs.memory_moves.reserve_move.Goals as goal
 
 pub returns : goal.returns

@@ -1,4 +1,4 @@
-use Rattle.rgo_core.proofs.Regions.{share_move}
+use Rattle.rgo_core.proofs.regions.Regions.{share_move}
 use Rattle.rgo_core.proofs.memory_moves.share_move.Goals as goal
 
 pub returns : goal.returns

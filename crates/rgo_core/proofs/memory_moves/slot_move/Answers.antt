@@ -1,4 +1,4 @@
-use Rattle.rgo_core.proofs.Chains.{slot_move}
+use Rattle.rgo_core.proofs.pages.Chains.{slot_move}
 use Rattle.rgo_core.proofs.memory_moves.slot_move.Goals as goal
 
 pub returns : goal.returns

@@ -1,4 +1,4 @@
-use Rattle.rgo_core.proofs.SpreadExamples as lemmas
+use Rattle.rgo_core.proofs.pages.SpreadExamples as lemmas
 use Rattle.rgo_core.proofs.memory_moves.spread.Goals as goal
 
 pub returns : goal.returns

@@ -1,4 +1,4 @@
-use Rattle.rgo_core.proofs.Accesses.{store_move}
+use Rattle.rgo_core.proofs.accesses.Accesses.{store_move}
 use Rattle.rgo_core.proofs.memory_moves.store_move.Goals as goal
 
 pub returns : goal.returns

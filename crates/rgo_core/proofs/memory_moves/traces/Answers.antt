@@ -1,4 +1,4 @@
-use Rattle.rgo_core.proofs.Traces.{trace_examples}
+use Rattle.rgo_core.proofs.runs.Traces.{trace_examples}
 use Rattle.rgo_core.proofs.memory_moves.traces.Goals as goal
 
 pub returns : goal.returns

@@ -1,4 +1,4 @@
-use Rattle.rgo_core.proofs.Objects.{word_move}
+use Rattle.rgo_core.proofs.new_objects.Objects.{word_move}
 use Rattle.rgo_core.proofs.memory_moves.word_move.Goals as goal
 
 pub returns : goal.returns

@@ -1,8 +1,8 @@
 use Rattle.rgo_core_rule.specs.Views.{number_of, record_of}
 use Rattle.rgo_core.specs.Opening.{first_of}
 use Rattle.rgo_core.specs.Plans.{setup_of}
-use Rattle.rgo_core.proofs.ClockLifts.{look_law}
-use Rattle.rgo_core.proofs.Possible.{is_possible}
+use Rattle.rgo_core.proofs.clock.ClockLifts.{look_law}
+use Rattle.rgo_core.proofs.runs.Possible.{is_possible}
 use Rattle.rgo_core.proofs.table.look.Goals as goal
 
 pub load-requires-clause-asks : goal.load-requires-clause-asks

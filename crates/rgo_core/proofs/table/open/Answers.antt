@@ -7,8 +7,8 @@ use Rattle.rgo_core.specs.Core.{IsPossible}
 use Rattle.rgo_core.specs.Opening.{first_of}
 use Rattle.rgo_core.specs.Plans.{setup_of}
 use Rattle.rgo_core.specs.declared.table.Plan.{Plan}
-use Rattle.rgo_core.proofs.Opening.{opens_by}
-use Rattle.rgo_core.proofs.Possible.{opens_possible}
+use Rattle.rgo_core.proofs.runs.Opening.{opens_by}
+use Rattle.rgo_core.proofs.runs.Possible.{opens_possible}
 use Rattle.rgo_core.proofs.table.open.Goals as goal
 
 pub open-requires-clause-explains : goal.open-requires-clause-explains

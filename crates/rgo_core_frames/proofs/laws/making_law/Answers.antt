@@ -1,4 +1,4 @@
-use Rattle.rgo_core_frames.proofs.Making.{making_law}
+use Rattle.rgo_core_frames.proofs.regions.Making.{making_law}
 use Rattle.rgo_core_frames.proofs.laws.making_law.Goals as goal
 
 pub returns : goal.returns

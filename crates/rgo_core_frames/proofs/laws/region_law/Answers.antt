@@ -1,4 +1,4 @@
-use Rattle.rgo_core_frames.proofs.Making.{region_law}
+use Rattle.rgo_core_frames.proofs.regions.Making.{region_law}
 use Rattle.rgo_core_frames.proofs.laws.region_law.Goals as goal
 
 pub returns : goal.returns

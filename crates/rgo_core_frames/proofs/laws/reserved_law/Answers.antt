@@ -1,4 +1,4 @@
-use Rattle.rgo_core_frames.proofs.Reserving.{reserved_law}
+use Rattle.rgo_core_frames.proofs.regions.Reserving.{reserved_law}
 use Rattle.rgo_core_frames.proofs.laws.reserved_law.Goals as goal
 
 pub returns : goal.returns

@@ -1,4 +1,4 @@
-use Rattle.rgo_core_frames.proofs.Sending.{sent_law}
+use Rattle.rgo_core_frames.proofs.shown.Sending.{sent_law}
 use Rattle.rgo_core_frames.proofs.laws.sent_law.Goals as goal
 
 pub returns : goal.returns

@@ -1,4 +1,4 @@
-use Rattle.rgo_core_memory.proofs.Elsewhere as lemmas
+use Rattle.rgo_core_memory.proofs.image.Elsewhere as lemmas
 use Rattle.rgo_core_memory.proofs.laws.number_law.Goals as goal
 
 pub returns : goal.returns

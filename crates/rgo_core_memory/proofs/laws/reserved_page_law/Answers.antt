@@ -1,4 +1,4 @@
-use Rattle.rgo_core_memory.proofs.Attending.{reserved_page_keeps}
+use Rattle.rgo_core_memory.proofs.regions.Attending.{reserved_page_keeps}
 use Rattle.rgo_core_memory.proofs.laws.reserved_page_law.Goals as goal
 
 pub returns : goal.returns

@@ -1,4 +1,4 @@
-use Rattle.rgo_core_memory.proofs.Facts.{spread_follow}
+use Rattle.rgo_core_memory.proofs.image.Facts.{spread_follow}
 use Rattle.rgo_core_memory.proofs.laws.spread_follows_law.Goals as goal
 
 pub returns : goal.returns

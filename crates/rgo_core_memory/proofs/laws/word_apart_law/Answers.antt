@@ -1,4 +1,4 @@
-use Rattle.rgo_core_memory.proofs.Allocating.{word_keeps_apart}
+use Rattle.rgo_core_memory.proofs.objects.Allocating.{word_keeps_apart}
 use Rattle.rgo_core_memory.proofs.laws.word_apart_law.Goals as goal
 
 pub returns : goal.returns

@@ -7,7 +7,7 @@ use Rattle.rgo_core_steps.specs.Counts.{tries_slot}
 use Rattle.rgo_core_steps.proofs.Lefts.{left_as}
 use Rattle.rgo_core.specs.Rule.Views.{number_of}
 use Rattle.rgo_core.specs.Plans.{setup_of}
-use Rattle.rgo_core.proofs.Possible.{is_possible}
+use Rattle.rgo_core.proofs.runs.Possible.{is_possible}
 use Rattle.rgo_core_steps.proofs.Staking.{create_moves}
 use Rattle.rgo_core_steps.proofs.Layouts.{count_low}
 use Rattle.rgo_core_steps.proofs.Settling.{settles}

@@ -1,7 +1,7 @@
 use Rattle.std.proofs.Common.{arith}
 use Rattle.rgo_core.specs.Rule.Views.{number_of}
 use Rattle.rgo_core.specs.Plans.{setup_of}
-use Rattle.rgo_core.proofs.Possible.{is_possible}
+use Rattle.rgo_core.proofs.runs.Possible.{is_possible}
 use Rattle.rgo_core_steps.proofs.Staking.{share_moves}
 use Rattle.rgo_core_steps.proofs.Layouts.{count_low}
 use Rattle.rgo_core_steps.proofs.Settling.{settles}

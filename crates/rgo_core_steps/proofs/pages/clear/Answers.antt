@@ -5,8 +5,8 @@ use Rattle.rgo_core.specs.Chains.{remembers}
 use Rattle.rgo_core.specs.Memory.Words.{head_at}
 use Rattle.rgo_core.specs.Memory.Records.{Gave, with_give}
 use Rattle.rgo_core.specs.Plans.{setup_of}
-use Rattle.rgo_core.proofs.Possible.{is_possible}
-use Rattle.rgo_core.proofs.Chains.{clear_move}
+use Rattle.rgo_core.proofs.runs.Possible.{is_possible}
+use Rattle.rgo_core.proofs.pages.Chains.{clear_move}
 use Rattle.rgo_core_steps.proofs.Lefts.{stored_after}
 use Rattle.rgo_core_steps.proofs.Layouts.{head_low}
 use Rattle.rgo_core_steps.specs.Seats.{mine}

@@ -4,7 +4,7 @@ use Rattle.rgo_core.specs.Rule.declared.accesses.Kind.TheVariants as kind
 use Rattle.rgo_core.specs.Chains.{frees}
 use Rattle.rgo_core.specs.Memory.Words.{state_at}
 use Rattle.rgo_core.specs.Plans.{setup_of}
-use Rattle.rgo_core.proofs.Possible.{is_possible}
+use Rattle.rgo_core.proofs.runs.Possible.{is_possible}
 use Rattle.rgo_core_steps.proofs.Paging.{free_moves}
 use Rattle.rgo_core_steps.proofs.Lefts.{stored_after}
 use Rattle.rgo_core_steps.proofs.Layouts.{state_low}

@@ -5,8 +5,8 @@ use Rattle.rgo_core.specs.Chains.{remembers}
 use Rattle.rgo_core.specs.Memory.Words.{head_at}
 use Rattle.rgo_core.specs.Memory.Records.{Giving, with_give}
 use Rattle.rgo_core.specs.Plans.{setup_of}
-use Rattle.rgo_core.proofs.Possible.{is_possible}
-use Rattle.rgo_core.proofs.Chains.{head_move}
+use Rattle.rgo_core.proofs.runs.Possible.{is_possible}
+use Rattle.rgo_core.proofs.pages.Chains.{head_move}
 use Rattle.rgo_core_steps.proofs.Lefts.{left_as}
 use Rattle.rgo_core_steps.proofs.Layouts.{head_low}
 use Rattle.rgo_core_steps.specs.Seats.{mine}

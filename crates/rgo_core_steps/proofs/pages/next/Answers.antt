@@ -5,7 +5,7 @@ use Rattle.rgo_core.specs.Chains.{remembers}
 use Rattle.rgo_core.specs.Memory.Words.{next_at}
 use Rattle.rgo_core.specs.Memory.Records.{Past, with_give}
 use Rattle.rgo_core.specs.Plans.{setup_of}
-use Rattle.rgo_core.proofs.Possible.{is_possible}
+use Rattle.rgo_core.proofs.runs.Possible.{is_possible}
 use Rattle.rgo_core_steps.proofs.Paging.{next_moves}
 use Rattle.rgo_core_steps.proofs.Lefts.{left_after}
 use Rattle.rgo_core_steps.proofs.Layouts.{next_low}

@@ -1,6 +1,6 @@
 use Rattle.std.proofs.Common.{subst}
-use Rattle.rgo_crew.specs.Overs.{AreNumbered}
+use Rattle.rgo_crew.specs.Overs.{AreTicketsNumbered}
 use Rattle.rgo_crew.proofs.driving.drive.Goals as goal
 
 pub returns : goal.returns
-returns g c = subst AreNumbered c.deref.ensures.value (c.are_numbered.ensures c.if-not-are_numbered.false)
+returns g c = subst AreTicketsNumbered c.deref.ensures.value (c.are_numbered.ensures c.if-not-are_numbered.false)

@@ -1,10 +1,10 @@
 use Rattle.std.proofs.Common.{◌≡◌, ◌<◌, ◌∙◌, ◌++◌, List, [], ◌∷◌, ap, append_assoc, refl, reverse, subst, sym}
-use Rattle.std.proofs.lemmas.List.{append-nil, reverse-reverse}
+use Rattle.std.proofs.lemmas.List.{reverse-reverse}
 use Rattle.atomic_table.specs.Seated.{TableId}
 use Rattle.rgo_core.specs.Memory.Words.{clock_at}
 use Rattle.rgo_core.specs.Rule.Passes.{after_pass}
 use Rattle.rgo_core.specs.Rule.declared.accesses.Access.{Access}
-use Rattle.rgo_goroutine.specs.Goroutines.{AllStand, all_seen, rows}
+use Rattle.rgo_goroutine.specs.Goroutines.{AreChildren, all_seen, rows}
 use Rattle.rgo_goroutine.specs.declared.goroutine.Child.{Child}
 use Rattle.rgo_goroutine.proofs.Handing.{last_first, one_row}
 use Rattle.rgo_goroutine.proofs.goroutine.hand_over.Goals as goal
@@ -16,7 +16,7 @@ loop-child-init c =
     record {
       table = refl;
       id = refl;
-      stand = subst (AllStand c.args.run.now) (sym all) c.requires.stand;
+      stand = subst (AreChildren c.args.run.now) (sym all) c.requires.stand;
       records = ap (λ (l : List Child). c.args.seat.now.me.0.records ++ rows T l) all;
       seen = ap (λ (l : List Child). after_pass c.args.seat.now.me.0.seen (all_seen l)) all;
       slots = refl;
@@ -26,7 +26,7 @@ pub join-requires : goal.join-requires
 join-requires c =
     let l = c.loop-child in
     let taken = last_first l.started.items c.pop.new.self.items c.in-Some.child c.in-Some.ensures.items in
-    let all = subst (AllStand c.args.run.now) taken l.invariant.stand in
+    let all = subst (AreChildren c.args.run.now) taken l.invariant.stand in
     let table = sym c.table.ensures.table in
     let inside = subst (λ (t : TableId). clock_at < t.words) table c.requires.own.1 in
     record {
@@ -44,7 +44,7 @@ loop-child-preserved c =
     let later = reverse c.pop.new.self.items in
     let taken : reverse l.started.items ≡ child ∷ later =
     last_first l.started.items c.pop.new.self.items child c.in-Some.ensures.items in
-    let all = subst (AllStand r) taken l.invariant.stand in
+    let all = subst (AreChildren r) taken l.invariant.stand in
     let joined = c.join.ensures in
     record {
       table = joined.own.0 ∙ l.invariant.table;

@@ -1,6 +1,6 @@
 use Rattle.std.proofs.Common.{◌≡◌, ◌++◌, reverse, vec_len}
 use Rattle.rgo_core.specs.Rule.Passes.{after_pass}
-use Rattle.rgo_goroutine.specs.Goroutines.{AllStand, all_seen, rows}
+use Rattle.rgo_goroutine.specs.Goroutines.{AreChildren, all_seen, rows}
 use Rattle.rgo_goroutine.proofs.goroutine.hand_over.Given as goal
 
 -- what has come, and what is still to come, from the end
@@ -8,7 +8,7 @@ abbrev pub invariant-loop-child : goal.invariant-loop-child
 invariant-loop-child l = record {
   table : l.seat.table_id ≡ l.fn.seat.table_id;
   id : l.seat.id ≡ l.fn.seat.id;
-  stand : AllStand l.run (reverse l.started.items);
+  stand : AreChildren l.run (reverse l.started.items);
   records : l.seat.me.0.records ++ rows l.run.setup (reverse l.started.items)
       ≡ l.fn.seat.me.0.records ++ rows l.run.setup l.fn.started.items;
   seen : after_pass l.seat.me.0.seen (all_seen (reverse l.started.items)) ≡ after_pass l.fn.seat.me.0.seen (all_seen l.fn.started.items);

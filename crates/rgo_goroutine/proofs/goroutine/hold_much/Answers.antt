@@ -1,4 +1,4 @@
-use Rattle.std.proofs.Common.{◌≡◌, ◌+◌, ◌≤◌, List, [], ◌∷◌, ap, arith, length, refl}
+use Rattle.std.proofs.Common.{◌≡◌, List, [], ◌∷◌, ap, arith, length, refl}
 use Rattle.rgo_acts.specs.declared.prints.Print.{Print}
 use Rattle.rgo_goroutine.specs.Goroutines.{bytes_in}
 use Rattle.rgo_goroutine.proofs.goroutine.hold_much.Goals as goal

@@ -1,8 +1,8 @@
-use Rattle.std.proofs.Common.{suc, inl, sym, ap, ◌∙◌, subst}
+use Rattle.std.proofs.Common.{inl, sym, ap, subst}
 use Rattle.rgo_core_steps.specs.After.{making_apart}
 use Rattle.rgo_sound.specs.RegionMachine.Counts.{Counts}
-use Rattle.rgo_body.specs.Reserves.{Reserved}
-use Rattle.rgo_body.specs.Shows.{Shows}
+use Rattle.rgo_body.specs.Reserves.{PageReserve}
+use Rattle.rgo_body.specs.Shows.{BodyShows}
 use Rattle.rgo_body.specs.declared.bodies.Body.{Body}
 use Rattle.rgo_body.proofs.Acting.{made_apart_shows}
 use Rattle.rgo_body.proofs.bodies.Body.made_apart.Goals as goal
@@ -10,7 +10,7 @@ use Rattle.rgo_body.proofs.bodies.Body.made_apart.Goals as goal
 pub returns-clause-shows : goal.returns-clause-shows
 returns-clause-shows c T r s word =
     let m = c.go_on.new.self in
-    subst (λ (x : Reserved × Counts). Shows T c.args.program.now (record m { reserved = x.0; counts = x.1 }) (making_apart T r))
+    subst (λ (x : PageReserve × Counts). BodyShows T c.args.program.now (record m { reserved = x.0; counts = x.1 }) (making_apart T r))
     (λ i. (sym c.clear.ensures i, sym c.add_object.ensures i))
     (made_apart_shows T c.args.program.now c.args.self.now m r c.args.next.now c.args.word s c.requires.ready c.go_on.ensures
     (inl c.requires.does) word)

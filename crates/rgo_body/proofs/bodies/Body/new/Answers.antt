@@ -3,9 +3,9 @@ use Rattle.rgo_sound.specs.Code.Code.{Code}
 use Rattle.rgo_compact.specs.Functions.{IsCompact}
 use Rattle.rgo_core.specs.Opening.{main_words}
 use Rattle.rgo_core.specs.Frames.WordFrames.{bare_all, word_called}
-use Rattle.rgo_sound.specs.RegionMachine.Owed.{function_of}
+use Rattle.rgo_sound.specs.RegionMachine.Owed.{code_function}
 use Rattle.rgo_stack.proofs.Lookups.{places}
-use Rattle.rgo_stack.specs.Places.{Takes}
+use Rattle.rgo_stack.specs.Places.{FunctionTakes}
 use Rattle.rgo_stack.specs.Stacks.{Belongs}
 use Rattle.rgo_body.proofs.Starting.{first_shows, has_main, if_ok}
 use Rattle.rgo_body.proofs.bodies.Body.new.Goals as goal
@@ -18,15 +18,15 @@ new-requires-2 c =
     let p = c.args.program.now in
     let found = c.in-Some.ensures in
     let none : length c.new.result.items ≡ 0 = ap length c.new.ensures.items in
-    subst (λ fs. Takes fs c.in-Some.n (length c.new.result.items)) (sym c.compact.ensures.compact)
+    subst (λ fs. FunctionTakes fs c.in-Some.n (length c.new.result.items)) (sym c.compact.ensures.compact)
     (places.takes p.code p.compact c.in-Some.n (length c.new.result.items) found.0 c.compact.ensures.program.compact
-    (ap (λ code. function_of code c.in-Some.n) (sym c.code.ensures.code) ∙ found.1) (omega (arith, none)))
+    (ap (λ code. code_function code c.in-Some.n) (sym c.code.ensures.code) ∙ found.1) (omega (arith, none)))
 
 pub returns : goal.returns
 returns c =
     let p = c.args.program.now in
     let found = c.in-Some.ensures in
-    let known = ap (λ code. function_of code c.in-Some.n) (sym c.code.ensures.code) ∙ found.1 in
+    let known = ap (λ code. code_function code c.in-Some.n) (sym c.code.ensures.code) ∙ found.1 in
     if_ok c.with_frame.result c.with_frame.ensures (λ b fresh T code many.
     first_shows T p b _ _ code
     (subst (λ fs. Belongs fs c.in_ok-stack.stack) c.compact.ensures.compact c.in_ok-stack.ensures.belongs)

@@ -1,7 +1,7 @@
 use Rattle.std.proofs.Common.{ap, arith, sym, ◌∙◌}
-use Rattle.rgo_sound.specs.Machine.declared.turns.Shortage.TheVariants.{Regions}
+use Rattle.rgo_sound.specs.Machine.declared.limits.Shortage.TheVariants.{Regions}
 use Rattle.rgo_acts.specs.Body.declared.bodies.Body.{Body}
-use Rattle.rgo_goroutine.specs.declared.turning.Stop.TheVariants as stop
+use Rattle.rgo_goroutine.specs.declared.turning.TableTurnEnd.TheVariants as stop
 use Rattle.rgo_goroutine.proofs.Concluding.{only_told, told_as}
 use Rattle.rgo_goroutine.proofs.Dispatching.{near_goes_on, near_halts, near_rests, near_stops}
 use Rattle.rgo_goroutine.proofs.goroutine.Goroutine.attend.Goals as goal

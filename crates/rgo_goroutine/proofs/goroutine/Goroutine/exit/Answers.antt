@@ -1,7 +1,7 @@
 use Rattle.std.proofs.Common.{Some, if◌then◌else◌, refl, subst, sym}
 use Rattle.rgo_sound.specs.Machine.declared.picks.End.TheVariants.{Exit}
 use Rattle.rgo_core_steps.specs.declared.clock.Mark.TheVariants.{Ended}
-use Rattle.rgo_goroutine.specs.Instructions.{Instructs}
+use Rattle.rgo_goroutine.specs.Instructions.{MakesInstruction}
 use Rattle.rgo_goroutine.specs.declared.goroutine.Goroutine.{Goroutine as Goroutine_}
 use Rattle.rgo_goroutine.proofs.Beginning.{returning, roomier}
 use Rattle.rgo_goroutine.proofs.Concluding.{counted, ended_then, only_told, refused}
@@ -31,7 +31,7 @@ returns c =
     let old = c.args.self.now in
     let b = record old.actor { body = c.room_to_return.new.self } in
     let mark = Ended Exit in
-    subst (λ (g : Goroutine_). Instructs r old g c.args.turning.now c.count.new.self (Some c.over.result)) (sym c.over.ensures.same)
+    subst (λ (g : Goroutine_). MakesInstruction r old g c.args.turning.now c.count.new.self (Some c.over.result)) (sym c.over.ensures.same)
     (ended_then r old (record old { actor = c.exit-ended.new.actor; first = if c.exit-ended.result then Some mark else old.first })
     c.args.turning.now c.count.new.self c.requires.can.at.goes c.requires.can.noted b 1 c.over.result
     (roomier r old.actor c.room_to_return.new.self c.requires.can.at.goes.stands c.room_to_return.ensures.same)

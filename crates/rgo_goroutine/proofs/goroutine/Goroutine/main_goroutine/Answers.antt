@@ -4,8 +4,8 @@ use Rattle.rgo_core.specs.Memory.declared.layout.TableSizes.{TableSizes}
 use Rattle.rgo_core.specs.Rule.Views.{Me, rows_of, view}
 use Rattle.rgo_core.specs.Opening.{first_of}
 use Rattle.rgo_core.specs.Records.{Record}
-use Rattle.rgo_acts.specs.Body.Programs.{Program}
-use Rattle.rgo_acts.specs.Body.Shows.{Shows}
+use Rattle.rgo_acts.specs.Body.Programs.{CompactProgram}
+use Rattle.rgo_acts.specs.Body.Shows.{BodyShows}
 use Rattle.rgo_acts.specs.Body.declared.bodies.Body.{Body}
 use Rattle.rgo_acts.specs.declared.actors.Actor.{Actor}
 use Rattle.rgo_goroutine.proofs.Handing.{main_of}
@@ -24,13 +24,13 @@ returns-in-Ok-clause-main c =
     let seat = c.part-seat.ensures.new in
     let me = ap (λ (a : Actor). a.seat.me) actor
     ∙ (seat.1 ∙ ap (λ (m : Me Record). (view (rows_of 0 m.0.records) m.0.seen, [])) c.requires.first) in
-    let shows = c.in-Ok.ensures T (sym c.fits.ensures.code ∙ ap (λ (p : Program). p.code) (sym c.program.ensures))
+    let shows = c.in-Ok.ensures T (sym c.fits.ensures.code ∙ ap (λ (p : CompactProgram). p.code) (sym c.program.ensures))
     (sym (c.slots.ensures ∙ ap (λ (z : TableSizes). z.slots) c.fits.ensures.layout.sizes)) in (
       main_of r go me (ap (λ (a : Actor). a.seat.table_id) actor ∙ (seat.0 ∙ c.requires.own.0)) (ap (λ (a : Actor). a.behind) actor)
           c.new-in-Ok.ensures.number c.new-in-Ok.ensures.prints c.new-in-Ok.ensures.children c.new-in-Ok.ensures.first
           c.requires.possible
-          (subst (λ (b : Body). Shows T r.program b (first_of T.code)) (sym (ap (λ (a : Actor). a.body) actor))
-          (subst (λ (p : Program). Shows T p c.in-Ok.body (first_of T.code)) c.program.ensures shows)),
+          (subst (λ (b : Body). BodyShows T r.program b (first_of T.code)) (sym (ap (λ (a : Actor). a.body) actor))
+          (subst (λ (p : CompactProgram). BodyShows T p c.in-Ok.body (first_of T.code)) c.program.ensures shows)),
       c.new-in-Ok.ensures.number,
       me ∙ sym c.requires.first,
     )

@@ -1,6 +1,6 @@
 use Rattle.std.proofs.Common.{arith, refl}
-use Rattle.rgo_goroutine.specs.declared.turning.Stop.TheVariants as stop
-use Rattle.rgo_sound.specs.Machine.declared.turns.Shortage.TheVariants.{Pages}
+use Rattle.rgo_goroutine.specs.declared.turning.TableTurnEnd.TheVariants as stop
+use Rattle.rgo_sound.specs.Machine.declared.limits.Shortage.TheVariants.{Pages}
 use Rattle.rgo_goroutine.proofs.Concluding.{counted, ended_then, halted, made, only_told, refused, unmoved}
 use Rattle.rgo_goroutine.proofs.goroutine.Goroutine.make.Goals as goal
 

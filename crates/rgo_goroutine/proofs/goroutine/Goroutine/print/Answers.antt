@@ -1,5 +1,5 @@
 use Rattle.std.proofs.Common.{List, [], ◌∷◌, ◌++◌, ◌∙◌, ap, refl, subst, sym}
-use Rattle.rgo_acts.specs.Actors.{Acted}
+use Rattle.rgo_acts.specs.Actors.{ActorActed}
 use Rattle.rgo_acts.specs.declared.actors.Actor.{Actor}
 use Rattle.rgo_acts.specs.declared.prints.Print.{Print}
 use Rattle.rgo_acts.proofs.LocalActs.{unchanged}
@@ -31,6 +31,6 @@ returns-in-Err c =
     (record c.args.self.now { actor = c.print_line.new.actor; prints = c.reserve.new.self }) c.args.turning.now c.move_on-in-Err.new.self
     c.requires.can.at.goes c.requires.can.noted
     (record { prints = c.reserve.ensures.items; children = refl; number = refl; first = refl })
-    (subst (λ (a : Actor). Acted c.args.run.now c.args.self.now.actor a 0 [] []) (sym c.in-Err.ensures.same)
+    (subst (λ (a : Actor). ActorActed c.args.run.now c.args.self.now.actor a 0 [] []) (sym c.in-Err.ensures.same)
     (unchanged c.args.run.now c.args.self.now.actor c.requires.can.at.goes.stands))
     (only_told c.args.turning.now c.move_on-in-Err.new.self c.move_on-in-Err.ensures)

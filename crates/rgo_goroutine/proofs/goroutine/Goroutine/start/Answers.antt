@@ -2,7 +2,7 @@ use Rattle.std.proofs.Common.{List, [], ◌∷◌, ◌++◌, ◌∙◌, ap, refl
 use Rattle.rgo_core.specs.Channels.Records.{Rec as SideRec}
 use Rattle.rgo_core.specs.Memory.Records.{Rec as MemoryRec}
 use Rattle.rgo_goroutine.specs.declared.goroutine.Child.{Child}
-use Rattle.rgo_acts.specs.Starts.{Starts}
+use Rattle.rgo_acts.specs.Starts.{ActorStarts}
 use Rattle.rgo_acts.specs.declared.starts.Outcome.{Outcome}
 use Rattle.rgo_acts.proofs.LocalActs.{unchanged}
 use Rattle.rgo_goroutine.proofs.Beginning.{same_ends}
@@ -25,13 +25,13 @@ returns-then-is_err c =
 
 pub stop-requires-clause-cause : goal.stop-requires-clause-cause
 stop-requires-clause-cause c =
-    (subst (λ (o : Outcome). Starts c.args.run.now c.args.self.now.actor c.start.new.actor o) c.in-Ok-Refused.field-0-is
+    (subst (λ (o : Outcome). ActorStarts c.args.run.now c.args.self.now.actor c.start.new.actor o) c.in-Ok-Refused.field-0-is
     c.in-Ok-Refused.ensures).1
 
 pub returns-in-Ok-Started : goal.returns-in-Ok-Started
 returns-in-Ok-Started c =
     let has =
-    subst (λ (o : Outcome). Starts c.args.run.now c.args.self.now.actor c.start.new.actor o) c.in-Ok-Started.field-0-is
+    subst (λ (o : Outcome). ActorStarts c.args.run.now c.args.self.now.actor c.start.new.actor o) c.in-Ok-Started.field-0-is
     c.in-Ok-Started.ensures in
     started_on c.args.run.now c.args.self.now
     (record c.args.self.now { actor = c.start.new.actor; children = c.push_reserved.new.self }) c.args.turning.now c.count.new.self
@@ -54,7 +54,7 @@ returns-in-Ok-Started c =
 pub returns-in-Ok-Refused : goal.returns-in-Ok-Refused
 returns-in-Ok-Refused c =
     let at =
-    subst (λ (o : Outcome). Starts c.args.run.now c.args.self.now.actor c.start.new.actor o) c.in-Ok-Refused.field-0-is
+    subst (λ (o : Outcome). ActorStarts c.args.run.now c.args.self.now.actor c.start.new.actor o) c.in-Ok-Refused.field-0-is
     c.in-Ok-Refused.ensures in
     same_ends c.args.run.now c.args.self.now
     (record c.args.self.now { actor = c.start.new.actor; children = c.reserve.new.self }) c.stop.new.self c.args.turning.now

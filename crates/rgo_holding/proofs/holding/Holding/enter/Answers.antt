@@ -1,5 +1,5 @@
 use Rattle.std.proofs.Common.{length, subst, sym}
-use Rattle.rgo_holding.specs.Naming.{Enters, HasFrameRoom}
+use Rattle.rgo_holding.specs.Naming.{NamedFrameEnters, HasFrameRoom}
 use Rattle.rgo_holding.proofs.Calling.{enter_shows}
 use Rattle.rgo_holding.proofs.holding.Holding.enter.Goals as goal
 
@@ -13,4 +13,4 @@ pub returns-clause-calls : goal.returns-clause-calls
 returns-clause-calls c = λ slots h fills shows.
     enter_shows c.args.self.now c.leave_given.new.frames c.enter.new.self c.args.formals.now c.args.passes.now
     c.args.protects.now c.args.lent c.requires.prepared (c.leave_given.ensures.clears shows.ordered)
-    (subst (Enters c.leave_given.new.frames c.enter.new.self) c.deref.ensures.value c.enter.ensures) slots h fills shows
+    (subst (NamedFrameEnters c.leave_given.new.frames c.enter.new.self) c.deref.ensures.value c.enter.ensures) slots h fills shows

@@ -3,8 +3,8 @@ use Rattle.std.proofs.lemmas.List.{take_at}
 use Rattle.std.proofs.lemmas.Option.{slice_get_within}
 use Rattle.rgo_compact.specs.declared.positions.Caller.{Caller}
 use Rattle.rgo_compact.specs.Functions.{CompactFn}
-use Rattle.rgo_compact.specs.Stack.{Enters, IsStack, shown}
-use Rattle.rgo_stack.specs.Places.{CanCall}
+use Rattle.rgo_compact.specs.Stack.{StackEnters, IsStack, shown}
+use Rattle.rgo_stack.specs.Places.{FrameCanCall}
 use Rattle.rgo_stack.specs.Stacks.{Stack}
 use Rattle.rgo_stack.specs.Steps.{after_call}
 use Rattle.rgo_stack.proofs.Calling.{as_many_callers, entered, enters_shows}
@@ -21,7 +21,7 @@ pub function_of-requires : goal.function_of-requires
 function_of-requires c =
     let a = c.args in
     let was = seen _ a.self.now c.in-Some.p c.in-Some.is c.self.view_is in
-    let can = subst (CanCall a.compact.now a.n (length a.from.now)) (sym was) c.requires.can in
+    let can = subst (FrameCanCall a.compact.now a.n (length a.from.now)) (sym was) c.requires.can in
     subst (λ (fs : List CompactFn). a.n < length fs) (sym c.functions-functions.ensures)
     (slice_get_within a.compact.now a.n can.1.f can.1.known)
 
@@ -48,13 +48,13 @@ returns c =
     let is_callers = take_at callers (drop (length callers) here.callers.items) here.callers.len deep in
     let was = seen _ c.make_room.new.self p at c.self-2.view_is ∙ c.make_room.ensures.frames in
     let b = belongs_at fs _ c.make_room.new.self p at c.self-2.view_is c.make_room.ensures.belongs in
-    let can = subst (CanCall fs a.n (length a.from.now)) (sym was) c.requires.can in
-    let enters : Enters fs a.n p q a.from.now here.words.items words here.callers.items callers =
-    subst (λ (k : List CompactFn). Enters k a.n p q a.from.now here.words.items words here.callers.items callers)
+    let can = subst (FrameCanCall fs a.n (length a.from.now)) (sym was) c.requires.can in
+    let enters : StackEnters fs a.n p q a.from.now here.words.items words here.callers.items callers =
+    subst (λ (k : List CompactFn). StackEnters k a.n p q a.from.now here.words.items words here.callers.items callers)
     c.functions-functions.ensures
-    (subst (λ (l : List ℕ). Enters c.functions-functions.result.now a.n p q a.from.now l words here.callers.items callers)
+    (subst (λ (l : List ℕ). StackEnters c.functions-functions.result.now a.n p q a.from.now l words here.callers.items callers)
     c.deref_mut.ensures.value
-    (subst (λ (k : List Caller). Enters c.functions-functions.result.now a.n p q a.from.now c.deref_mut.result.now words k callers)
+    (subst (λ (k : List Caller). StackEnters c.functions-functions.result.now a.n p q a.from.now c.deref_mut.result.now words k callers)
     c.deref_mut-2.ensures.value c.in-Some-enter.ensures.enters.1)) in
     let top = c.in-Some-enter.ensures.enters.0 in
     let same = c.enter.ensures.len in

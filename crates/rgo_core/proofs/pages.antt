@@ -1,0 +1,7 @@
+-- Accesses that claim pages, reserve them, and give chains back.
+pub mod Chains
+pub mod Claims
+pub mod Reserves
+pub mod Room
+pub mod SpreadExamples
+pub mod Unreserved

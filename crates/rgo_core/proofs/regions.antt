@@ -1,0 +1,4 @@
+-- Accesses to the counts of regions.
+pub mod Duties
+pub mod Regions
+pub mod Stakes

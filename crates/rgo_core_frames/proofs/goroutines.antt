@@ -1,0 +1,4 @@
+-- Starts, offers and ends.
+pub mod Ending
+pub mod Offering
+pub mod Starting

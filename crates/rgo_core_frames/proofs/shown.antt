@@ -1,0 +1,8 @@
+-- What words of frames show of values, frames and constants.
+pub mod ConstantLemmas
+pub mod Operands
+pub mod Sending
+pub mod Showing
+pub mod Stacking
+pub mod Tables
+pub mod WordLemmas

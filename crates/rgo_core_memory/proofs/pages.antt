@@ -1,0 +1,11 @@
+-- Pages: claimed, filled, on chains, and given back.
+pub mod Chaining
+pub mod Chains
+pub mod Claiming
+pub mod InUse
+pub mod Owing
+pub mod Paging
+pub mod Refilling
+pub mod Releases
+pub mod Reserving
+pub mod Trying
