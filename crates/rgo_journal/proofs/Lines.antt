@@ -5,7 +5,7 @@ use Rattle.rgo_code_words.proofs.Options.{not_none, mapped}
 use Rattle.rgo_journal.specs.declared.picks.TacPick.{TacPick}
 use Rattle.rgo_journal.specs.declared.picks.TacPick.TheVariants.{One, Meet, Case, CaseMeet}
 use Rattle.rgo_journal.specs.Reading.{after_front, number_to, two_numbers, three_numbers, or_else, read_one, read_meet, read_case, read_case_meet, read_pick}
-use Rattle.rgo_journal.specs.Text.{Fits, pick_line}
+use Rattle.rgo_journal.specs.Text.{PickFits, pick_line}
 use Rattle.rgo_journal.proofs.Fronts.{after_sound, number_to_back, number_to_sound, two_back, two_sound, three_back, three_sound}
 
 -- ---- numbers with a newline, and what follows
@@ -27,7 +27,7 @@ three_and a b c rest =
 
 -- ---- read back
 
-pub pick_back : (p : TacPick) (rest : List ℕ) → Fits p → read_pick (pick_line p ++ rest) ≡ Some (p, rest)
+pub pick_back : (p : TacPick) (rest : List ℕ) → PickFits p → read_pick (pick_line p ++ rest) ≡ Some (p, rest)
 pick_back (One g) rest f =
     ap read_one (one_and g rest) ∙ ap (option_map (λ a. (One a.0, a.1))) (number_to_back 10 g rest (omega arith) f)
 pick_back (Meet r s) rest f =
@@ -42,7 +42,7 @@ pick_back (CaseMeet g k s) rest f =
 
 pub record PickIs (bytes : List ℕ) (p : TacPick) (rest : List ℕ) : Type 0 where
   pub cut : bytes ≡ pick_line p ++ rest
-  pub fits : Fits p
+  pub fits : PickFits p
 
 one_sound : (bytes tail : List ℕ) (p : TacPick) (rest : List ℕ) → bytes ≡ codes "one " ++ tail → read_one tail ≡ Some (p, rest)
     → PickIs bytes p rest

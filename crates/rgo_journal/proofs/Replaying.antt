@@ -19,19 +19,19 @@ use Rattle.rgo_journal.specs.declared.replays.ReplayEnd.{ReplayEnd}
 use Rattle.rgo_journal.specs.declared.replays.ReplayEnd.TheVariants.{Ended, Deadlock, Unfinished, Foreign, WriteFault, NoMemory}
 use Rattle.rgo_journal.specs.Laws.{IsWhole, OneReplay, SameSteps}
 use Rattle.rgo_journal.specs.Picks.{journal_pick, taken}
-use Rattle.rgo_journal.specs.Replays.{Ends, Gives, Replays, Takes, Takes1, TakesSome}
+use Rattle.rgo_journal.specs.Replays.{ReplayEndsAs, ReplayPrints, Replays, TakesPicks, Takes1, TakesFirstPicks}
 
 -- ---- one after the other
 
 one_more : (code : Tac) (picks : List TacPick) (i : ℕ) (d : TacPick) (s t : TacState) → i < length picks
-    → TakesSome code picks i s → taken code s (get_or picks i d) ≡ Some t → TakesSome code picks (i + 1) t
+    → TakesFirstPicks code picks i s → taken code s (get_or picks i d) ≡ Some t → TakesFirstPicks code picks (i + 1) t
 one_more code picks i d s t l so_far e =
-    subst (λ ps. Takes code ps t) (sym (take_more picks i d l))
+    subst (λ ps. TakesPicks code ps t) (sym (take_more picks i d l))
     (joined (taken code) (tac_start code) s t (take i picks) (get_or picks i d ∷ []) so_far (single (taken code) s t (get_or picks i d) e))
 
-pub all_taken : (code : Tac) (picks : List TacPick) (i : ℕ) (s : TacState) → length picks ≤ i → TakesSome code picks i s
-    → Takes code picks s
-all_taken code picks i s l so_far = subst (λ ps. Takes code ps s) (take_all i picks l) so_far
+pub all_taken : (code : Tac) (picks : List TacPick) (i : ℕ) (s : TacState) → length picks ≤ i → TakesFirstPicks code picks i s
+    → TakesPicks code picks s
+all_taken code picks i s l so_far = subst (λ ps. TakesPicks code ps s) (take_all i picks l) so_far
 
 is_taken : (b : Bool) (s t : TacState) (next : Option TacState) → Takes1 (Ok b) s t next → b ≡ true → next ≡ Some t
 is_taken true s t next e is = e
@@ -39,8 +39,8 @@ is_taken false s t next e is = absurd (true≢false (sym is))
 
 -- the same, as the code has it
 pub next_taken : (code other : Tac) (picks : List TacPick) (i : ℕ) (d : TacPick) (s t : TacState) (b : Bool) → other ≡ code
-    → i < length picks → TakesSome code picks i s → Takes1 (Ok b) s t (taken other s (get_or picks i d)) → b ≡ true
-    → TakesSome code picks (i + 1) t
+    → i < length picks → TakesFirstPicks code picks i s → Takes1 (Ok b) s t (taken other s (get_or picks i d)) → b ≡ true
+    → TakesFirstPicks code picks (i + 1) t
 next_taken code other picks i d s t b same l so_far e is =
     one_more code picks i d s t l so_far
     (subst (λ k. taken k s (get_or picks i d) ≡ Some t) same (is_taken b s t (taken other s (get_or picks i d)) e is))
@@ -51,12 +51,12 @@ at_number P [] i d h = tt
 at_number P (p ∷ picks) zero d h = h
 at_number P (p ∷ picks) (suc i) d h = at_number P picks i d h
 
-pub all_some : (code : Tac) (picks : List TacPick) (s : TacState) → Takes code picks s → (n : ℕ) × TakesSome code picks n s
+pub all_some : (code : Tac) (picks : List TacPick) (s : TacState) → TakesPicks code picks s → (n : ℕ) × TakesFirstPicks code picks n s
 all_some code picks s all =
-    (length picks, subst (λ ps. Takes code ps s) (sym (take_all (length picks) picks (omega arith))) all)
+    (length picks, subst (λ ps. TakesPicks code ps s) (sym (take_all (length picks) picks (omega arith))) all)
 
-some_taken : (code : Tac) (picks : List TacPick) (s : TacState) (end : ReplayEnd) → Ends code picks s end
-    → (n : ℕ) × TakesSome code picks n s
+some_taken : (code : Tac) (picks : List TacPick) (s : TacState) (end : ReplayEnd) → ReplayEndsAs code picks s end
+    → (n : ℕ) × TakesFirstPicks code picks n s
 some_taken code picks s (Ended e) ends = all_some code picks s ends.0
 some_taken code picks s Deadlock ends = all_some code picks s ends.0
 some_taken code picks s Unfinished ends = all_some code picks s ends.0
@@ -65,7 +65,7 @@ some_taken code picks s WriteFault ends = ends
 some_taken code picks s NoMemory ends = ends
 
 gives_whole : (end : ReplayEnd) (print : List ℕ) (old new : Option (List ℕ)) → (end ≡ WriteFault → ⊥)
-    → Appends old new print → Gives end print old new
+    → Appends old new print → ReplayPrints end print old new
 gives_whole (Ended e) print old new kept grown = grown
 gives_whole Deadlock print old new kept grown = grown
 gives_whole Unfinished print old new kept grown = grown
@@ -74,12 +74,12 @@ gives_whole WriteFault print old new kept grown = absurd (kept refl)
 gives_whole NoMemory print old new kept grown = grown
 
 pub replayed : (code : Tac) (picks : List TacPick) (s : TacState) (end : ReplayEnd) (old new : Option (List ℕ))
-    → Ends code picks s end → (end ≡ WriteFault → ⊥) → Appends old new s.printed → Replays code picks end old new
+    → ReplayEndsAs code picks s end → (end ≡ WriteFault → ⊥) → Appends old new s.printed → Replays code picks end old new
 replayed code picks s end old new ends kept grown =
     record { state = s; ends = ends; gives = gives_whole end s.printed old new kept grown }
 
 pub not_written : (code : Tac) (picks : List TacPick) (s : TacState) (end : ReplayEnd) (n : ℕ) (old new : Option (List ℕ))
-    → Ends code picks s end → Appends old new (take n s.printed) → Replays code picks WriteFault old new
+    → ReplayEndsAs code picks s end → Appends old new (take n s.printed) → Replays code picks WriteFault old new
 not_written code picks s end n old new ends grown =
     record { state = s; ends = some_taken code picks s end ends; gives = (n, grown) }
 
@@ -129,15 +129,15 @@ module _ {S E : Type 0} (step : S → E → Option S) where
       (λ v p q. past v t u es i n p none (omega (arith, l)) (omega (arith, m)) q)
 
 module _ (code : Tac) (picks : List TacPick) where
-  same_state : (s t : TacState) (ps : List TacPick) → Takes code ps s → Takes code ps t → s ≡ t
+  same_state : (s t : TacState) (ps : List TacPick) → TakesPicks code ps s → TakesPicks code ps t → s ≡ t
   same_state s t ps p q = some_same s t (sym p ∙ q)
 
-  not_all : (s t : TacState) (i : ℕ) → Takes code picks s → Ends code picks t (Foreign i) → ⊥
+  not_all : (s t : TacState) (i : ℕ) → TakesPicks code picks s → ReplayEndsAs code picks t (Foreign i) → ⊥
   not_all s t i all foreign =
       past (taken code) (tac_start code) t s picks i (length picks) foreign.1 foreign.2 foreign.0 foreign.0
-      (subst (λ ps. Takes code ps s) (sym (take_all (length picks) picks (omega arith))) all)
+      (subst (λ ps. TakesPicks code ps s) (sym (take_all (length picks) picks (omega arith))) all)
 
-  same_foreign : (s t : TacState) (i j : ℕ) → Ends code picks s (Foreign i) → Ends code picks t (Foreign j)
+  same_foreign : (s t : TacState) (i j : ℕ) → ReplayEndsAs code picks s (Foreign i) → ReplayEndsAs code picks t (Foreign j)
       → (Foreign i ≡ Foreign j) × (s ≡ t)
   same_foreign s t i j p q = by (cases_lt i j) (cases_lt j i)
     where
@@ -146,12 +146,12 @@ module _ (code : Tac) (picks : List TacPick) where
       by (inr l) (inl m) = absurd (past (taken code) (tac_start code) t s picks j i q.1 q.2 q.0 m p.1)
       by (inr l) (inr m) =
           let same : i ≡ j = omega (arith, l, m) in
-          (ap Foreign same, same_state s t (take j picks) (subst (λ n. TakesSome code picks n s) same p.1) q.1)
+          (ap Foreign same, same_state s t (take j picks) (subst (λ n. TakesFirstPicks code picks n s) same p.1) q.1)
 
   ended_not : (s t : TacState) (e : End) → s ≡ t → s.ended ≡ Some e → t.ended ≡ None → ⊥
   ended_not s t e same p q = not_none e (sym q ∙ sym (ap (λ v. v.ended) same) ∙ p)
 
-  one_end : (a b : ReplayEnd) (s t : TacState) → IsWhole a → IsWhole b → Ends code picks s a → Ends code picks t b
+  one_end : (a b : ReplayEnd) (s t : TacState) → IsWhole a → IsWhole b → ReplayEndsAs code picks s a → ReplayEndsAs code picks t b
       → (a ≡ b) × (s ≡ t)
   one_end (Ended e) (Ended f) s t v w p q =
       let same = same_state s t picks p.0 q.0 in

@@ -10,17 +10,17 @@ use Rattle.rgo_journal.specs.declared.picks.TacPick.{TacPick}
 use Rattle.rgo_journal.specs.declared.picks.TacPick.TheVariants.{One, Meet, Case, CaseMeet}
 use Rattle.rgo_journal.specs.Forms.{HasNoFirst, HasNoPick}
 use Rattle.rgo_journal.specs.Reading.{after_front, read_pick, seen}
-use Rattle.rgo_journal.specs.Text.{Fits, IsJournal, first_line, journal, last_line, pick_line, pick_lines}
+use Rattle.rgo_journal.specs.Text.{PickFits, IsJournal, first_line, journal, last_line, pick_line, pick_lines}
 use Rattle.rgo_journal.proofs.Fronts.{after_back, after_sound}
 use Rattle.rgo_journal.proofs.Lines.{pick_back, pick_sound}
 
 -- the picks whose lines have been read, and what follows them
 pub record ReadSoFar (bytes : List ℕ) (picks : List TacPick) (rest : List ℕ) : Type 0 where
-  pub fit : All Fits picks
+  pub fit : All PickFits picks
   pub cut : bytes ≡ first_line ++ (pick_lines picks ++ rest)
 
 pub begins : (bytes rest : List ℕ) → after_front first_line bytes ≡ Some rest → ReadSoFar bytes [] rest
-begins bytes rest e = record { fit = All-nil Fits; cut = after_sound first_line bytes rest e }
+begins bytes rest e = record { fit = All-nil PickFits; cut = after_sound first_line bytes rest e }
 
 pub no_first : (bytes : List ℕ) → after_front first_line bytes ≡ None → HasNoFirst bytes
 no_first bytes e s = not_none s.0 (sym e ∙ ap (after_front first_line) s.1 ∙ after_back first_line s.0)
@@ -54,7 +54,7 @@ pub goes_on : (bytes : List ℕ) (picks more : List TacPick) (rest : List ℕ) (
 goes_on bytes picks more rest p next s e pushed =
     let is = pick_sound rest p next e in
     let longer : ReadSoFar bytes (picks ++ p ∷ []) next = record {
-      fit = All-push Fits picks p s.fit is.fits;
+      fit = All-push PickFits picks p s.fit is.fits;
       cut = s.cut ∙ ap (λ t. first_line ++ (pick_lines picks ++ t)) is.cut ∙ ap (λ t. first_line ++ t) (one_more picks p next);
     } in
     rw pushed longer

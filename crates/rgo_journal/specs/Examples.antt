@@ -1,8 +1,8 @@
--- Journals, and texts that are none.
+-- Journals, and texts that are not journals.
 use Rattle.std.specs.Prelude.{◌≡◌, ◌^◌, [], ◌∷◌, codes}
 use Rattle.rgo_journal.specs.declared.picks.TacPick.TheVariants.{One, Meet, Case, CaseMeet}
-use Rattle.rgo_journal.specs.Forms.{IsFirstWithoutForm}
-use Rattle.rgo_journal.specs.Text.{Fits, IsJournal, journal}
+use Rattle.rgo_journal.specs.Forms.{IsFirstBadJournalLine}
+use Rattle.rgo_journal.specs.Text.{PickFits, IsJournal, journal}
 
 pub record Examples : Type 0 where
   pub empty : journal [] ≡ codes "rgo picks 1\ntext\n"
@@ -12,10 +12,10 @@ pub record Examples : Type 0 where
   -- the last line ends in a newline, too
   pub open_end : IsJournal (codes "rgo picks 1\none 0\ntext") (One 0 ∷ []) 22 → ⊥
   -- a number has 32 bits
-  pub large : Fits (One (2 ^ 32)) → ⊥
-  pub no_first : IsFirstWithoutForm (codes "rgo picks 2\ntext\n") 1
-  pub nothing : IsFirstWithoutForm [] 1
+  pub large : PickFits (One (2 ^ 32)) → ⊥
+  pub no_first : IsFirstBadJournalLine (codes "rgo picks 2\ntext\n") 1
+  pub nothing : IsFirstBadJournalLine [] 1
   -- the text ends before the last line
-  pub early : IsFirstWithoutForm (codes "rgo picks 1\none 0\n") 3
+  pub early : IsFirstBadJournalLine (codes "rgo picks 1\none 0\n") 3
   -- the first line has a form
-  pub later : IsFirstWithoutForm (codes "rgo picks 1\none 00\ntext\n") 1 → ⊥
+  pub later : IsFirstBadJournalLine (codes "rgo picks 1\none 00\ntext\n") 1 → ⊥

@@ -3,7 +3,7 @@ use Rattle.std.specs.Prelude.{◌≡◌, ◌⊎◌, ◌+◌, ℕ, List, ◌++◌
 use Rattle.rgo_journal.specs.declared.errors.PicksError.{PicksError}
 use Rattle.rgo_journal.specs.declared.errors.PicksError.TheVariants as error
 use Rattle.rgo_journal.specs.declared.picks.TacPick.{TacPick}
-use Rattle.rgo_journal.specs.Text.{Fits, first_line, last_line, pick_line, pick_lines}
+use Rattle.rgo_journal.specs.Text.{PickFits, first_line, last_line, pick_line, pick_lines}
 
 -- the bytes begin with this line
 abbrev pub StartWith : List ℕ → List ℕ → Type 0
@@ -18,17 +18,17 @@ HasNoFirst bytes = StartWith bytes first_line → ⊥
 pub record HasNoPick (bytes : List ℕ) (line : ℕ) : Type 0 where
   pub before : List TacPick
   pub tail : List ℕ
-  pub fit : All Fits before
+  pub fit : All PickFits before
   pub cut : bytes ≡ first_line ++ (pick_lines before ++ tail)
   pub number : line ≡ length before + 2
-  pub no_pick : (p : TacPick) → Fits p → StartWith tail (pick_line p) → ⊥
+  pub no_pick : (p : TacPick) → PickFits p → StartWith tail (pick_line p) → ⊥
   pub no_last : StartWith tail last_line → ⊥
 
 -- lines are counted from 1
-abbrev pub IsFirstWithoutForm : List ℕ → ℕ → Type 0
-IsFirstWithoutForm bytes line = ((line ≡ 1) × HasNoFirst bytes) ⊎ HasNoPick bytes line
+abbrev pub IsFirstBadJournalLine : List ℕ → ℕ → Type 0
+IsFirstBadJournalLine bytes line = ((line ≡ 1) × HasNoFirst bytes) ⊎ HasNoPick bytes line
 
 -- why the bytes do not begin with a journal, unless memory ran out
-abbrev pub Refuses : List ℕ → PicksError → Type 0
-Refuses bytes error.NoMemory = ⊤
-Refuses bytes (error.Refused refusal) = IsFirstWithoutForm bytes refusal.line
+abbrev pub RefusesJournal : List ℕ → PicksError → Type 0
+RefusesJournal bytes error.NoMemory = ⊤
+RefusesJournal bytes (error.Refused refusal) = IsFirstBadJournalLine bytes refusal.line

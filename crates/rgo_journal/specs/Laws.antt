@@ -7,32 +7,32 @@ use Rattle.rgo_tac.specs.Tac.{TacState, tac_start, tac_step}
 use Rattle.rgo_journal.specs.declared.picks.TacPick.{TacPick}
 use Rattle.rgo_journal.specs.declared.replays.ReplayEnd.{ReplayEnd}
 use Rattle.rgo_journal.specs.declared.replays.ReplayEnd.TheVariants.{WriteFault, NoMemory}
-use Rattle.rgo_journal.specs.Forms.{IsFirstWithoutForm}
+use Rattle.rgo_journal.specs.Forms.{IsFirstBadJournalLine}
 use Rattle.rgo_journal.specs.Picks.{journal_pick}
-use Rattle.rgo_journal.specs.Replays.{Ends, Takes}
-use Rattle.rgo_journal.specs.Text.{Fits, IsJournal, journal}
+use Rattle.rgo_journal.specs.Replays.{ReplayEndsAs, TakesPicks}
+use Rattle.rgo_journal.specs.Text.{PickFits, IsJournal, journal}
 
 -- What was printed is read: a journal, whatever follows it, has its picks and no others, and no line of it lacks a form.
 pub record ReadBack : Type 0 where
-  pub is : (picks : List TacPick) (text : List ℕ) → All Fits picks
+  pub is : (picks : List TacPick) (text : List ℕ) → All PickFits picks
       → IsJournal (journal picks ++ text) picks (length (journal picks))
   pub one : (bytes : List ℕ) (a b : List TacPick) (m n : ℕ) → IsJournal bytes a m → IsJournal bytes b n
       → (a ≡ b) × (m ≡ n)
-  pub not_both : (bytes : List ℕ) (a : List TacPick) (n line : ℕ) → IsJournal bytes a n → IsFirstWithoutForm bytes line → ⊥
-  pub one_refusal : (bytes : List ℕ) (m n : ℕ) → IsFirstWithoutForm bytes m → IsFirstWithoutForm bytes n → m ≡ n
+  pub not_both : (bytes : List ℕ) (a : List TacPick) (n line : ℕ) → IsJournal bytes a n → IsFirstBadJournalLine bytes line → ⊥
+  pub one_refusal : (bytes : List ℕ) (m n : ℕ) → IsFirstBadJournalLine bytes m → IsFirstBadJournalLine bytes n → m ≡ n
 
 -- The picks of a run of the machine, as a journal has them, are taken with the same steps.
 abbrev pub SameSteps : Type 0
 SameSteps = (code : Tac) (picks : List Pick) (s : TacState) → Leads (tac_step code) (tac_start code) picks s
-    → Takes code (map journal_pick picks) s
+    → TakesPicks code (map journal_pick picks) s
 
--- an end that is neither a failed write nor a want of memory
+-- an end that is neither a failed write nor an allocation failure
 abbrev pub IsWhole : ReplayEnd → Type 0
 IsWhole WriteFault = ⊥
 IsWhole NoMemory = ⊥
 IsWhole _ = Unit {0}
 
--- Picks can be replayed on code with one end only.
+-- A replay of picks on code can end in one way only.
 abbrev pub OneReplay : Type 0
 OneReplay = (code : Tac) (picks : List TacPick) (a b : ReplayEnd) (s t : TacState) → IsWhole a → IsWhole b
-    → Ends code picks s a → Ends code picks t b → (a ≡ b) × (s ≡ t)
+    → ReplayEndsAs code picks s a → ReplayEndsAs code picks t b → (a ≡ b) × (s ≡ t)

@@ -12,34 +12,34 @@ use Rattle.rgo_journal.specs.declared.replays.ReplayEnd.TheVariants.{Ended, Dead
 use Rattle.rgo_journal.specs.Picks.{taken}
 
 -- all of these picks are taken, each with a step in its turn, and lead from the start of the code to this state
-abbrev pub Takes : Tac → List TacPick → TacState → Type 0
-Takes code picks s = Leads (taken code) (tac_start code) picks s
+abbrev pub TakesPicks : Tac → List TacPick → TacState → Type 0
+TakesPicks code picks s = Leads (taken code) (tac_start code) picks s
 
 -- the first n are taken
-abbrev pub TakesSome : Tac → List TacPick → (n : ℕ) → TacState → Type 0
-TakesSome code picks n s = Takes code (take n picks) s
+abbrev pub TakesFirstPicks : Tac → List TacPick → (n : ℕ) → TacState → Type 0
+TakesFirstPicks code picks n s = TakesPicks code (take n picks) s
 
 -- why a replay of these picks ended so, after the picks that led to this state
-abbrev pub Ends : Tac → List TacPick → TacState → ReplayEnd → Type 0
-Ends code picks s (Ended e) = Takes code picks s × (s.ended ≡ Some e)
-Ends code picks s Deadlock = Takes code picks s × IsDeadlock (tac code) s
-Ends code picks s Unfinished = Takes code picks s × (s.ended ≡ None) × (IsDeadlock (tac code) s → ⊥)
+abbrev pub ReplayEndsAs : Tac → List TacPick → TacState → ReplayEnd → Type 0
+ReplayEndsAs code picks s (Ended e) = TakesPicks code picks s × (s.ended ≡ Some e)
+ReplayEndsAs code picks s Deadlock = TakesPicks code picks s × IsDeadlock (tac code) s
+ReplayEndsAs code picks s Unfinished = TakesPicks code picks s × (s.ended ≡ None) × (IsDeadlock (tac code) s → ⊥)
 -- the pick of this number, from 0, has no step after those before it, or one of those ended the run
-Ends code picks s (Foreign index) =
-    (index < length picks) × TakesSome code picks index s × IfSome (slice_get picks index) (λ p. taken code s p ≡ None)
-Ends code picks s WriteFault = (n : ℕ) × TakesSome code picks n s
-Ends code picks s NoMemory = (n : ℕ) × TakesSome code picks n s
+ReplayEndsAs code picks s (Foreign index) =
+    (index < length picks) × TakesFirstPicks code picks index s × IfSome (slice_get picks index) (λ p. taken code s p ≡ None)
+ReplayEndsAs code picks s WriteFault = (n : ℕ) × TakesFirstPicks code picks n s
+ReplayEndsAs code picks s NoMemory = (n : ℕ) × TakesFirstPicks code picks n s
 
 -- the sink took what was printed; the first bytes of it, some or all, where a write failed
-abbrev pub Gives : ReplayEnd → List ℕ → (old new : Option (List ℕ)) → Type 0
-Gives WriteFault print old new = (n : ℕ) × Appends old new (take n print)
-Gives _ print old new = Appends old new print
+abbrev pub ReplayPrints : ReplayEnd → List ℕ → (old new : Option (List ℕ)) → Type 0
+ReplayPrints WriteFault print old new = (n : ℕ) × Appends old new (take n print)
+ReplayPrints _ print old new = Appends old new print
 
 -- the picks were replayed so, and what they printed was given out
 pub record Replays (code : Tac) (picks : List TacPick) (end : ReplayEnd) (old new : Option (List ℕ)) : Type 0 where
   pub state : TacState
-  pub ends : Ends code picks state end
-  pub gives : Gives end state.printed old new
+  pub ends : ReplayEndsAs code picks state end
+  pub gives : ReplayPrints end state.printed old new
 
 -- one pick was taken, or has no step; where it has none, and on allocation failure, nothing changed
 abbrev pub Takes1 : Result Bool AllocError → (before after : TacState) → Option TacState → Type 0

@@ -6,11 +6,11 @@ use Rattle.rgo_journal.specs.declared.picks.TacPick.{TacPick}
 use Rattle.rgo_journal.specs.declared.picks.TacPick.TheVariants.{One, Meet, Case, CaseMeet}
 
 -- each number of the pick has 32 bits
-abbrev pub Fits : TacPick → Type 0
-Fits (One g) = IsSmall g
-Fits (Meet r s) = IsSmall r × IsSmall s
-Fits (Case g k) = IsSmall g × IsSmall k
-Fits (CaseMeet g k s) = IsSmall g × IsSmall k × IsSmall s
+abbrev pub PickFits : TacPick → Type 0
+PickFits (One g) = IsSmall g
+PickFits (Meet r s) = IsSmall r × IsSmall s
+PickFits (Case g k) = IsSmall g × IsSmall k
+PickFits (CaseMeet g k s) = IsSmall g × IsSmall k × IsSmall s
 
 -- its line, with the newline
 abbrev pub pick_line : TacPick → List ℕ
@@ -35,6 +35,6 @@ journal picks = first_line ++ (pick_lines picks ++ last_line)
 
 -- the first n of these bytes are the journal of these picks
 pub record IsJournal (bytes : List ℕ) (picks : List TacPick) (n : ℕ) : Type 0 where
-  pub fit : All Fits picks
+  pub fit : All PickFits picks
   pub within : n ≤ length bytes
   pub text_is : take n bytes ≡ journal picks

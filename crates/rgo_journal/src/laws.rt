@@ -3,8 +3,8 @@
 ghost use Rattle.rgo_journal.specs.Examples.{Examples};
 ghost use Rattle.rgo_journal.specs.Laws.{OneReplay, ReadBack, SameSteps};
 
-/// A journal that is read gives back the picks that it was printed from, whatever follows it, and a text has one journal at
-/// its beginning or one first line without form, never both.
+/// Reading a journal returns the picks that it was printed from, whatever follows it. A text has one journal at its beginning,
+/// or one first line without form, never both.
 pub fn read_back()
     ensures { ReadBack }
 {}
@@ -14,12 +14,12 @@ pub fn same_steps()
     ensures { SameSteps }
 {}
 
-/// Picks can be replayed on code with one end only.
+/// A replay of picks on code can end in one way only.
 pub fn one_replay()
     ensures { OneReplay }
 {}
 
-/// Journals, and texts that are none.
+/// Journals, and texts that are not journals.
 pub fn examples()
     ensures { Examples }
 {}

@@ -5,7 +5,7 @@
 //! | line | pick |
 //! |---|---|
 //! | `one G` | goroutine `G` steps alone |
-//! | `meet R S` | receiver `R` and sender `S` go on together, at a channel without a buffer |
+//! | `meet R S` | receiver `R` and sender `S` step together, at a channel without a buffer |
 //! | `case G K` | goroutine `G` takes case `K` of a `select`, alone |
 //! | `casemeet G K S` | goroutine `G` takes case `K`, a receive, together with sender `S` |
 //!

@@ -13,7 +13,7 @@ use rgo_machine::Pick;
 pub enum TacPick {
     /// A goroutine steps alone.
     One(u32),
-    /// A receiver and a sender go on together.
+    /// A receiver and a sender step together.
     Meet(u32, u32),
     /// A goroutine takes the case of this number in a `select`, alone.
     Case(u32, u32),

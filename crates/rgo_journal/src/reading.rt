@@ -2,7 +2,7 @@
 
 ghost use Rattle.std.specs.Prelude.{◌≡◌, ◌<◌, length, MatchResult};
 ghost use Rattle.rgo_code_words.specs.Readers as words;
-ghost use Rattle.rgo_journal.specs.Forms.{Refuses};
+ghost use Rattle.rgo_journal.specs.Forms.{RefusesJournal};
 ghost use Rattle.rgo_journal.specs.Reading as spec;
 ghost use Rattle.rgo_journal.specs.Reading.{seen, seen_two, seen_three};
 ghost use Rattle.rgo_journal.specs.Text.{IsJournal};
@@ -24,7 +24,7 @@ pub struct Picks {
     pub rest: usize,
 }
 
-/// What follows these bytes at the front, if they are there.
+/// What follows `front`, if the bytes begin with it.
 fn after<'t>(bytes: &'t [u8], front: &[u8]) -> Option<&'t [u8]>
     ensures { words.seen result ≡ spec.after_front front.now bytes.now }
 {
@@ -35,7 +35,8 @@ fn after<'t>(bytes: &'t [u8], front: &[u8]) -> Option<&'t [u8]>
     }
 }
 
-/// The number before the first such byte, and what follows that byte.
+/// The number before the first such byte, and what follows that byte; none where the byte is missing, since a line without its
+/// newline has no form.
 fn number_to<'t>(bytes: &'t [u8], byte: u8) -> Option<(u32, &'t [u8])>
     ensures { seen result ≡ spec.number_to byte bytes.now }
 {
@@ -134,7 +135,7 @@ fn read_pick<'t>(bytes: &'t [u8]) -> Option<(TacPick, &'t [u8])>
 ///
 /// If the text does not begin with a journal, with the number of the first line that has no form; on allocation failure.
 pub fn read_picks(alloc: Global, bytes: &[u8]) -> Result<Picks, PicksError>
-    ensures { MatchResult result (λ picks. IsJournal bytes.now picks.list picks.rest) (λ e. Refuses bytes.now e) }
+    ensures { MatchResult result (λ picks. IsJournal bytes.now picks.list picks.rest) (λ e. RefusesJournal bytes.now e) }
 {
     let Some(lines) = after(bytes, b"rgo picks 1\n") else {
         return Err(PicksError::Refused(PicksText { line: 1 }));

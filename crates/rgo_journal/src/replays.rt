@@ -1,16 +1,19 @@
-//! Replays: the picks of a journal, taken again.
+//! Replays: the picks of a journal, taken again on the three-address machine, without regions. Why: docs/DECISIONS.md, "Errors
+//! and statuses".
 
 ghost use Rattle.std.specs.Prelude.{◌≡◌, true};
 ghost use Rattle.rgo_outside.specs.Causes.{Rose};
 ghost use Rattle.rgo_tac.specs.Tac as tac;
 ghost use Rattle.rgo_journal.specs.declared.replays.ReplayEnd.TheVariants.{WriteFault};
 ghost use Rattle.rgo_journal.specs.Picks as spec;
-ghost use Rattle.rgo_journal.specs.Replays.{Ends, Replays, Takes, Takes1};
+ghost use Rattle.rgo_journal.specs.Replays.{ReplayEndsAs, Replays, TakesPicks, Takes1};
 
 use crate::picks::{TacPick, machine_pick};
-use rgo_machine::{End, Stepped};
+use rgo_interpreter::Stepped;
+use rgo_machine::End;
 use rgo_outside::{Sink, write_all};
-use rgo_tac::{Tac, TacState, tac_printed, tac_start, tac_step, tac_stuck};
+use rgo_tac::Tac;
+use rgo_tac_interpreter::{TacState, tac_printed, tac_start, tac_step, tac_stuck};
 use std::alloc::{AllocError, Global};
 
 /// How a replay ended.
@@ -44,10 +47,10 @@ fn take_pick(alloc: Global, state: &mut TacState<'_>, pick: TacPick) -> Result<b
     }
 }
 
-/// What the state says in which all picks have been taken.
+/// How a replay ended whose picks were all taken, by its last state.
 fn end_of(alloc: Global, state: &TacState<'_>, picks: &[TacPick]) -> ReplayEnd
-    requires { Takes state.now.code.now picks.now state.now.state }
-    ensures ends { Ends state.now.code.now picks.now state.now.state result }
+    requires { TakesPicks state.now.code.now picks.now state.now.state }
+    ensures ends { ReplayEndsAs state.now.code.now picks.now state.now.state result }
     ensures whole { result ≡ WriteFault → ⊥ }
 {
     if let Some(end) = state.state.ended {
@@ -63,7 +66,7 @@ fn end_of(alloc: Global, state: &TacState<'_>, picks: &[TacPick]) -> ReplayEnd
 /// Takes the picks one after the other.
 fn take_picks(alloc: Global, state: &mut TacState<'_>, picks: &[TacPick]) -> ReplayEnd
     requires { state.old.state ≡ tac.tac_start state.old.code.now }
-    ensures ends { Ends state.old.code.now picks.now state.new.state result }
+    ensures ends { ReplayEndsAs state.old.code.now picks.now state.new.state result }
     ensures whole { result ≡ WriteFault → ⊥ }
 {
     for index in 0..picks.len() {

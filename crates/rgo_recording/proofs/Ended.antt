@@ -5,9 +5,9 @@ use Rattle.rgo_machine.specs.declared.limits.Sizes.{Sizes}
 use Rattle.rgo_tac.specs.Tac.{tac, tac_start}
 use Rattle.rgo_code.specs.Code.{Code}
 use Rattle.rgo_code.specs.Erasure.{erased}
-use Rattle.rgo_driver.specs.Runs.{RunsTo}
-use Rattle.rgo_driver.specs.declared.ends.RunEnd.{RunEnd}
-use Rattle.rgo_journal.specs.Replays.{Takes}
+use Rattle.rgo_round_robin.specs.Runs.{RunsTo}
+use Rattle.rgo_machine.specs.declared.ends.RunEnd.{RunEnd}
+use Rattle.rgo_journal.specs.Replays.{TakesPicks}
 use Rattle.rgo_recording.specs.declared.recorders.Recorder.{Recorder}
 use Rattle.rgo_recording.specs.Notes.{picks_of}
 use Rattle.rgo_recording.specs.Recorders.{view_of}
@@ -29,8 +29,8 @@ records code sizes limits old new q end fixed x = record {
       lacks = x.left.lacks;
     };
   };
-  noted = subst (λ c. Takes (erased c) (picks_of q.notes) x.runs.state) (λ i. (fixed i).0)
-      (subst (λ l. Takes (erased q.world.code.now) (picks_of q.notes) (record x.runs.state { printed = l }))
+  noted = subst (λ c. TakesPicks (erased c) (picks_of q.notes) x.runs.state) (λ i. (fixed i).0)
+      (subst (λ l. TakesPicks (erased q.world.code.now) (picks_of q.notes) (record x.runs.state { printed = l }))
       (sym x.whole) x.left.leaves.lead.takes);
   fit = x.left.leaves.lead.fit;
   fixed = fixed;

@@ -8,15 +8,15 @@ use Rattle.rgo_machine.specs.declared.limits.Limits.{Limits}
 use Rattle.rgo_machine.specs.declared.limits.Sizes.{Sizes}
 use Rattle.rgo_machine.specs.declared.picks.End.{End}
 use Rattle.rgo_machine.specs.declared.picks.Pick.TheVariants.{One}
-use Rattle.rgo_machine.specs.declared.turns.Shortage.{Shortage}
-use Rattle.rgo_machine.specs.declared.turns.Shortage.TheVariants as shortage
+use Rattle.rgo_machine.specs.declared.limits.Shortage.{Shortage}
+use Rattle.rgo_machine.specs.declared.limits.Shortage.TheVariants as shortage
 use Rattle.rgo_machine.specs.Deadlocks.{HasReturnedOrWaits, IsDeadlock, WaitsAt}
-use Rattle.rgo_machine.specs.Limits.{IsAtCall, IsAtStart, IsFull, IsTooDeep}
+use Rattle.rgo_machine.specs.Limits.{IsAtCall, IsAtStart, IsFull, IsCallTooDeep}
 use Rattle.rgo_machine.specs.Machines.{Machine, Stand, State, alone, step_by, unless_ended}
 use Rattle.rgo_machine.specs.Machines.{AtCall, AtClose, AtReceive, AtSend, AtStart, Elsewhere}
 use Rattle.rgo_machine.proofs.Waiting.{deadlocks_wait, no_step}
-use Rattle.rgo_tac.specs.Frames.{Frame}
-use Rattle.rgo_tac.specs.Steps.{stand}
+use Rattle.rgo_tac.specs.Frames.{TacFrame}
+use Rattle.rgo_tac.specs.Steps.{tac_stand}
 use Rattle.rgo_tac.specs.Tac.{TacState, tac}
 use Rattle.rgo_code.specs.Checked.{IsChecked}
 use Rattle.rgo_code.specs.Code.{Code}
@@ -28,13 +28,13 @@ use Rattle.rgo_region_machine.specs.Objects.{new_object, with_page}
 use Rattle.rgo_region_machine.specs.Owed.{current, next_duties}
 use Rattle.rgo_region_machine.specs.States.{Create, Duty, RegionState, frames_in, frames_of}
 use Rattle.rgo_region_machine.specs.States as spec
-use Rattle.rgo_sound.proofs.ErasureLemmas.{Yields, yields, yields_if, yields_none, yields_then}
+use Rattle.rgo_sound.proofs.plain.Steps.{Yields, yields, yields_if, yields_none, yields_then}
 use Rattle.rgo_sound.proofs.Places.{get_some}
-use Rattle.rgo_sound.proofs.OneStep.{StandsAt, stands_at_channel}
-use Rattle.rgo_driver.specs.declared.ends.RunEnd.TheVariants as run_end
-use Rattle.rgo_world.specs.declared.worlds.World.{World}
-use Rattle.rgo_world.specs.Worlds.{Lacks, OwesNext, Stands}
-use Rattle.rgo_world.proofs.Meeting.{receiver_owes_none, sender_owes_none}
+use Rattle.rgo_sound.proofs.steps.OneStep.{StandsAt, stands_at_channel}
+use Rattle.rgo_machine.specs.declared.ends.RunEnd.TheVariants as run_end
+use Rattle.rgo_region_interpreter.specs.declared.worlds.World.{World}
+use Rattle.rgo_region_interpreter.specs.Worlds.{WorldLacks, OwesNext, IsWorldAt}
+use Rattle.rgo_region_interpreter.proofs.stepping.Meeting.{receiver_owes_none, sender_owes_none}
 use Rattle.rgo_recording.specs.declared.recording.Recorded.{Recorded}
 use Rattle.rgo_recording.specs.Recordings.{Records}
 
@@ -67,7 +67,7 @@ module _ {F : Type 0} (machine : Machine F) (s : State F) where
   start_goes m (AtCall next callee) is waits = is
   start_goes m Elsewhere is waits = is
 
-  pub deep_goes_on : IsTooDeep machine s → IsDeadlock machine s → ⊥
+  pub deep_goes_on : IsCallTooDeep machine s → IsDeadlock machine s → ⊥
   deep_goes_on deep = no_deadlock (record {
     goroutine = deep.goroutine;
     frames = deep.frame ∷ deep.callers;
@@ -118,7 +118,7 @@ module _ (code : Code) (page_words : ℕ) (s : RegionState) (g : ℕ) where
   makes h r (Some next) is = yields_then (page_before page_words s g h r) (new_object s.plain next)
       (λ object. yields_if _ _ _ (yields (page_taken s g (with_page page_words h r object) r) (next, is)) yields_none)
 
-  page_steps : (h : spec.Holder) (frames : List Frame) → Yields (λ _. Steps) (take_page code page_words s g h frames)
+  page_steps : (h : spec.Holder) (frames : List TacFrame) → Yields (λ _. Steps) (take_page code page_words s g h frames)
   page_steps h [] = record { fact = tt }
   page_steps h (frame ∷ callers) = yields_then (page_for code page_words s g h frame) (current code frame)
       (λ i. yields_then (takes_page code page_words s g h) _
@@ -132,7 +132,7 @@ module _ (code : Code) (page_words : ℕ) (s : RegionState) (g : ℕ) where
 -- ---- regions: a goroutine that owes a creation is before no receive or send, since these create nothing
 
 module _ (code : Code) (checked : IsChecked code) where
-  waits_owes : (m : Memory) (frame : Frame) (callers : List Frame) (at : Stand Frame) → StandsAt code frame callers at
+  waits_owes : (m : Memory) (frame : TacFrame) (callers : List TacFrame) (at : Stand TacFrame) → StandsAt code frame callers at
       → WaitsAt m at → next_duties code (frame ∷ callers) ≡ []
   waits_owes m frame callers (AtReceive channel blank next) x waits =
       receiver_owes_none code checked (frame ∷ callers) channel (λ v. next v ∷ callers) x
@@ -147,12 +147,12 @@ module _ (code : Code) (checked : IsChecked code) where
   owing_goes : (p : TacState) (g : ℕ) → (next_duties code (frames_of p g) ≡ [] → ⊥) → Goes (tac (erased code)) p
   owing_goes p g owes = by (slice_get p.goroutines g) refl
     where
-      at : (frames : List Frame) → HasReturnedOrWaits (tac (erased code)) p.memory frames → next_duties code frames ≡ []
+      at : (frames : List TacFrame) → HasReturnedOrWaits (tac (erased code)) p.memory frames → next_duties code frames ≡ []
       at [] waits = refl
       at (frame ∷ callers) waits =
-          waits_owes p.memory frame callers (stand (erased code) frame) (stands_at_channel code frame callers) waits
+          waits_owes p.memory frame callers (tac_stand (erased code) frame) (stands_at_channel code frame callers) waits
 
-      by : (o : Option (List Frame)) → slice_get p.goroutines g ≡ o → Goes (tac (erased code)) p
+      by : (o : Option (List TacFrame)) → slice_get p.goroutines g ≡ o → Goes (tac (erased code)) p
       by None there = absurd (owes (ap (λ o. next_duties code (frames_in o)) there))
       by (Some frames) there = record {
         goroutine = g;
@@ -168,10 +168,10 @@ none_left (suc n) xs e = ap (drop (suc n)) e
 -- ---- a world that lacks room
 
 module _ (w : World) (given : List ℕ) (p : TacState) (running : p.ended ≡ None) where
-  unmarked : (at : Stands w given p) → at.reaches.state.mark ≡ None
+  unmarked : (at : IsWorldAt w given p) → at.reaches.state.mark ≡ None
   unmarked at = at.unstopped (sym (ap (λ v. v.ended) at.reaches.is) ∙ running)
 
-  creating_goes : (at : Stands w given p) (g k : ℕ) (h : spec.Holder) (duties : List Duty)
+  creating_goes : (at : IsWorldAt w given p) (g k : ℕ) (h : spec.Holder) (duties : List Duty)
       → slice_get at.reaches.state.holders g ≡ Some h → h.duties ≡ Create k ∷ duties
       → Goes (tac (erased w.code.now)) at.reaches.state.plain
   creating_goes at g k h duties there owed =
@@ -183,7 +183,7 @@ module _ (w : World) (given : List ℕ) (p : TacState) (running : p.ended ≡ No
       owing_goes w.code.now at.reaches.checked s.plain g
       (λ none. let left = sym owed ∙ owes.left ∙ none_left c.0.done _ none in cc)
 
-  lacking_goes : (why : Shortage) (lacks : Lacks w why given p) → Goes (tac (erased w.code.now)) lacks.0.reaches.state.plain
+  lacking_goes : (why : Shortage) (lacks : WorldLacks w why given p) → Goes (tac (erased w.code.now)) lacks.0.reaches.state.plain
   lacking_goes shortage.Pages lacks =
       let s = lacks.0.reaches.state in
       let x = taking_steps w.code.now w.sizes.page_words s lacks.1.0 lacks.1.1 in
@@ -195,7 +195,7 @@ module _ (w : World) (given : List ℕ) (p : TacState) (running : p.ended ≡ No
 
 -- whatever was given out and printed before
 lacking_goes_on : (w : World) (given print : List ℕ) (why : Shortage) (t : TacState)
-    → Lacks w why given (record t { printed = print }) → IsDeadlock (tac (erased w.code.now)) t → ⊥
+    → WorldLacks w why given (record t { printed = print }) → IsDeadlock (tac (erased w.code.now)) t → ⊥
 lacking_goes_on w given print why t lacks dead =
     let x = lacking_goes w given (record t { printed = print }) dead.0 why lacks in
     x.goes (subst (λ m. HasReturnedOrWaits (tac (erased w.code.now)) m x.frames)

@@ -7,8 +7,8 @@ use Rattle.std.specs.declared.alloc.AllocError.{AllocError}
 use Rattle.rgo_machine.specs.declared.limits.Limits.{Limits}
 use Rattle.rgo_machine.specs.declared.limits.Sizes.{Sizes}
 use Rattle.rgo_machine.specs.declared.picks.Pick.TheVariants as machine
-use Rattle.rgo_machine.specs.declared.turns.Turned.{Turned}
-use Rattle.rgo_machine.specs.declared.turns.Stop.TheVariants as stop
+use Rattle.rgo_interpreter.specs.declared.turns.Turned.{Turned}
+use Rattle.rgo_interpreter.specs.declared.turns.TurnEnd.TheVariants as stop
 use Rattle.rgo_machine.specs.Limits.{LeadsWithin}
 use Rattle.rgo_machine.specs.Runs.{run}
 use Rattle.rgo_machine.proofs.Printing.{prefixed, step_before}
@@ -20,16 +20,16 @@ use Rattle.rgo_code.specs.Erasure.{erased}
 use Rattle.rgo_journal.specs.declared.picks.TacPick.{TacPick}
 use Rattle.rgo_journal.specs.declared.picks.TacPick.TheVariants.{One, Meet}
 use Rattle.rgo_journal.specs.Picks.{taken}
-use Rattle.rgo_journal.specs.Replays.{Takes}
-use Rattle.rgo_journal.specs.Text.{Fits}
-use Rattle.rgo_driver.specs.Running as driver
-use Rattle.rgo_world.specs.Views as world
-use Rattle.rgo_world.specs.Works.{Starts}
-use Rattle.rgo_world.specs.Worlds.{Reaches, Stands}
-use Rattle.rgo_world.proofs.Standing.{starts_stand}
+use Rattle.rgo_journal.specs.Replays.{TakesPicks}
+use Rattle.rgo_journal.specs.Text.{PickFits}
+use Rattle.rgo_round_robin.specs.Running as driver
+use Rattle.rgo_region_interpreter.specs.Views as world
+use Rattle.rgo_region_interpreter.specs.Works.{WorldStarts}
+use Rattle.rgo_region_interpreter.specs.Worlds.{WorldReaches, IsWorldAt}
+use Rattle.rgo_region_interpreter.proofs.stepping.Standing.{starts_stand}
 use Rattle.rgo_recording.specs.declared.recorders.Recorder.{Recorder}
 use Rattle.rgo_recording.specs.Notes.{picks_of}
-use Rattle.rgo_recording.specs.Recorders.{LeadTo, Shows, view_of}
+use Rattle.rgo_recording.specs.Recorders.{LeadTo, RecorderShows, view_of}
 
 -- ---- the picks
 
@@ -52,7 +52,7 @@ turn_alike code g (suc n) s =
 
 -- the steps of a goroutine lead on, within whatever limits
 pub turn_leads : (code : Code) (limits : Limits) (picks : List TacPick) (g n : ℕ) (given : List ℕ) (s t : TacState)
-    → Fits (One g) → LeadTo code picks given s
+    → PickFits (One g) → LeadTo code picks given s
     → LeadsWithin (tac (erased code)) limits s (replicate n (machine.One g)) t
     → LeadTo code (picks ++ replicate n (One g)) given t
 turn_leads code limits picks g n given s t fits lead leads = record {
@@ -61,26 +61,26 @@ turn_leads code limits picks g n given s t fits lead leads = record {
       (turn_alike (erased code) g n (before given s)
       ∙ is_run (tac (erased code)) limits (before given s) (before given t) (replicate n (machine.One g))
       (prefixed (tac (erased code)) limits given s t (replicate n (machine.One g)) leads));
-  fit = All-append Fits picks (replicate n (One g)) lead.fit (All-replicate Fits n (One g) fits);
+  fit = All-append PickFits picks (replicate n (One g)) lead.fit (All-replicate PickFits n (One g) fits);
 }
 
 -- and so does a meeting
 pub meeting_leads : (code : Code) (picks : List TacPick) (r q : ℕ) (given : List ℕ) (s t : TacState)
-    → Fits (Meet r q) → LeadTo code picks given s → tac_step (erased code) s (machine.Meet r q) ≡ Some t
+    → PickFits (Meet r q) → LeadTo code picks given s → tac_step (erased code) s (machine.Meet r q) ≡ Some t
     → LeadTo code (picks ++ Meet r q ∷ []) given t
 meeting_leads code picks r q given s t fits lead steps = record {
   takes = joined (taken (erased code)) (tac_start (erased code)) (before given s) (before given t) picks
       (Meet r q ∷ []) lead.takes
       (single (taken (erased code)) (before given s) (before given t) (Meet r q)
       (step_before (tac (erased code)) given s (machine.Meet r q) ∙ ap (option_map (before given)) steps));
-  fit = All-append Fits picks (Meet r q ∷ []) lead.fit (All-cons Fits (Meet r q) [] fits (All-nil Fits));
+  fit = All-append PickFits picks (Meet r q ∷ []) lead.fit (All-cons PickFits (Meet r q) [] fits (All-nil PickFits));
 }
 
 -- what was printed is given out
 pub leads_cleared : (code : Code) (picks : List TacPick) (given : List ℕ) (s : TacState) → LeadTo code picks given s
     → LeadTo code picks (given ++ s.printed) (record s { printed = [] })
 leads_cleared code picks given s lead = record {
-  takes = subst (λ l. Takes (erased code) picks (record s { printed = l })) (sym (append-nil (given ++ s.printed)))
+  takes = subst (λ l. TakesPicks (erased code) picks (record s { printed = l })) (sym (append-nil (given ++ s.printed)))
       lead.takes;
   fit = lead.fit;
 }
@@ -92,12 +92,12 @@ leads_as code code' picks picks' given s same so lead =
     subst (λ c. LeadTo c picks' given s) (sym same) (subst (λ l. LeadTo code l given s) (sym so) lead)
 
 -- where the run begins, nothing is noted
-pub begins : (code : Code) (sizes : Sizes) (r : Recorder) → Starts code sizes r.world → picks_of r.notes ≡ []
-    → Shows r [] (tac_start (erased code))
+pub begins : (code : Code) (sizes : Sizes) (r : Recorder) → WorldStarts code sizes r.world → picks_of r.notes ≡ []
+    → RecorderShows r [] (tac_start (erased code))
 begins code sizes r starts none = record {
   stands = starts_stand code sizes r.world starts;
   lead = leads_as code r.world.code.now [] (picks_of r.notes) [] (tac_start (erased code)) starts.code_is none
-      (record { takes = refl; fit = All-nil Fits });
+      (record { takes = refl; fit = All-nil PickFits });
 }
 
 -- the pick that there was room for is the one that was asked for
@@ -108,17 +108,17 @@ same_pick P asked pick of_asked is = subst (λ o. IfSome o P) is of_asked
 
 -- the recorder q after a turn of the world of r, which was noted
 pub turn_noted : (r q : Recorder) (limits : Limits) (g at_most : ℕ) (turned : Turned) (pick : TacPick) (room : List TacPick)
-    → picks_of q.notes ≡ room ++ replicate turned.steps pick → room ≡ picks_of r.notes → (pick ≡ One g) × Fits pick
+    → picks_of q.notes ≡ room ++ replicate turned.steps pick → room ≡ picks_of r.notes → (pick ≡ One g) × PickFits pick
     → q.world.code.now ≡ r.world.code.now
-    → ((given : List ℕ) (s : TacState) → Stands r.world given s → driver.GoesOn limits s
-    → driver.TakesTurn (world.view_of q.world) (tac (erased r.world.code.now)) limits given s g at_most turned)
-    → (given : List ℕ) (s : TacState) → Shows r given s → driver.GoesOn limits s
-    → driver.TakesTurn (view_of q) (tac (erased r.world.code.now)) limits given s g at_most turned
+    → ((given : List ℕ) (s : TacState) → IsWorldAt r.world given s → driver.RunContinues limits s
+    → driver.RunTakesTurn (world.view_of q.world) (tac (erased r.world.code.now)) limits given s g at_most turned)
+    → (given : List ℕ) (s : TacState) → RecorderShows r given s → driver.RunContinues limits s
+    → driver.RunTakesTurn (view_of q) (tac (erased r.world.code.now)) limits given s g at_most turned
 turn_noted r q limits g at_most turned pick room is kept one same takes given s at on =
     let x = takes given s at.stands on in
     let noted : picks_of q.notes ≡ picks_of r.notes ++ replicate turned.steps (One g) =
     is ∙ (λ i. kept i ++ replicate turned.steps (one.0 i)) in
-    let fits : Fits (One g) = subst Fits one.0 one.1 in
+    let fits : PickFits (One g) = subst PickFits one.0 one.1 in
     let lead = leads_as r.world.code.now q.world.code.now (picks_of r.notes ++ replicate turned.steps (One g))
     (picks_of q.notes) given x.state same noted
     (turn_leads r.world.code.now limits (picks_of r.notes) g turned.steps given s x.state fits at.lead x.turns.leads) in
@@ -134,8 +134,8 @@ turn_noted r q limits g at_most turned pick room is kept one same takes given s 
 -- a turn without steps, for which there is no room
 pub turn_refused : (r q : Recorder) (limits : Limits) (g at_most : ℕ) → q.world ≡ r.world
     → picks_of q.notes ≡ picks_of r.notes
-    → (given : List ℕ) (s : TacState) → Shows r given s → driver.GoesOn limits s
-    → driver.TakesTurn (view_of q) (tac (erased r.world.code.now)) limits given s g at_most
+    → (given : List ℕ) (s : TacState) → RecorderShows r given s → driver.RunContinues limits s
+    → driver.RunTakesTurn (view_of q) (tac (erased r.world.code.now)) limits given s g at_most
     (record { steps = 0; stop = stop.NoMemory })
 turn_refused r q limits g at_most same noted given s at on = record {
   state = s;
@@ -148,7 +148,7 @@ turn_refused r q limits g at_most same noted given s at on = record {
   };
   print = ap (λ v. v.printed) at.stands.reaches.is ∙ sym (ap (λ w. w.state.printed) same);
   leaves = record {
-    reaches = subst (λ w. Reaches w given s) (sym same) at.stands.reaches;
+    reaches = subst (λ w. WorldReaches w given s) (sym same) at.stands.reaches;
     lead = leads_as r.world.code.now q.world.code.now (picks_of r.notes) (picks_of q.notes) given s
         (ap (λ w. w.code.now) same) noted at.lead;
   };
@@ -159,14 +159,14 @@ turn_refused r q limits g at_most same noted given s at on = record {
 -- ---- meetings
 
 module _ (r q : Recorder) (receiver sender : ℕ) (same : q.world.code.now ≡ r.world.code.now) (given : List ℕ)
-    (s : TacState) (at : Shows r given s) where
+    (s : TacState) (at : RecorderShows r given s) where
   pub met_noted : (pick : TacPick) (room : List TacPick) → picks_of q.notes ≡ room ++ replicate 1 pick
-      → room ≡ picks_of r.notes → (pick ≡ Meet receiver sender) × Fits pick
+      → room ≡ picks_of r.notes → (pick ≡ Meet receiver sender) × PickFits pick
       → driver.TriesMeeting (world.view_of q.world) (tac (erased r.world.code.now)) given s receiver sender (Ok true)
       → driver.TriesMeeting (view_of q) (tac (erased r.world.code.now)) given s receiver sender (Ok true)
   met_noted pick room is kept one tries =
       let noted : picks_of q.notes ≡ picks_of r.notes ++ Meet receiver sender ∷ [] = is ∙ (λ i. kept i ++ one.0 i ∷ []) in
-      let fits : Fits (Meet receiver sender) = subst Fits one.0 one.1 in (
+      let fits : PickFits (Meet receiver sender) = subst PickFits one.0 one.1 in (
         tries.0,
         tries.1,
         record {
@@ -189,7 +189,7 @@ module _ (r q : Recorder) (receiver sender : ℕ) (same : q.world.code.now ≡ r
   )
 
   pub meeting_failed : (e : AllocError) → picks_of q.notes ≡ picks_of r.notes
-      → Reaches q.world given s × (s.printed ≡ q.world.state.printed)
+      → WorldReaches q.world given s × (s.printed ≡ q.world.state.printed)
       → driver.TriesMeeting (view_of q) (tac (erased r.world.code.now)) given s receiver sender (Err e)
   meeting_failed e kept tries = (
     record {

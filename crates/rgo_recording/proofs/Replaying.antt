@@ -4,21 +4,21 @@ use Rattle.std.specs.Io.KnownBytes.{Appends}
 use Rattle.std.proofs.lemmas.Option.{same_Some}
 use Rattle.rgo_machine.specs.declared.limits.Limits.{Limits}
 use Rattle.rgo_machine.specs.declared.picks.End.{End}
-use Rattle.rgo_machine.specs.declared.turns.Shortage.{Shortage}
+use Rattle.rgo_machine.specs.declared.limits.Shortage.{Shortage}
 use Rattle.rgo_machine.specs.Deadlocks.{IsDeadlock}
 use Rattle.rgo_tac.specs.Code.{Tac}
 use Rattle.rgo_tac.specs.Tac.{TacState, tac}
 use Rattle.rgo_code.specs.Erasure.{erased}
-use Rattle.rgo_driver.specs.Rounds.{all_of}
-use Rattle.rgo_driver.specs.Runs.{Ends}
-use Rattle.rgo_driver.specs.declared.ends.RunEnd.{RunEnd}
-use Rattle.rgo_driver.specs.declared.ends.RunEnd.TheVariants as run_end
+use Rattle.rgo_round_robin.specs.Rounds.{all_of}
+use Rattle.rgo_machine.specs.Ends.{RunEndsAs}
+use Rattle.rgo_machine.specs.declared.ends.RunEnd.{RunEnd}
+use Rattle.rgo_machine.specs.declared.ends.RunEnd.TheVariants as run_end
 use Rattle.rgo_journal.specs.declared.picks.TacPick.{TacPick}
 use Rattle.rgo_journal.specs.declared.replays.ReplayEnd.{ReplayEnd}
 use Rattle.rgo_journal.specs.declared.replays.ReplayEnd.TheVariants as replay_end
 use Rattle.rgo_journal.specs.Laws.{IsWhole}
 use Rattle.rgo_journal.specs.Replays as replays
-use Rattle.rgo_journal.specs.Replays.{Takes}
+use Rattle.rgo_journal.specs.Replays.{TakesPicks}
 use Rattle.rgo_journal.proofs.Replaying.{one_replay}
 use Rattle.rgo_recording.specs.Notes.{picks_of}
 use Rattle.rgo_recording.specs.Laws.{RecordedReplays, ReplaysAs}
@@ -26,12 +26,12 @@ use Rattle.rgo_recording.proofs.Going.{deep_goes_on, full_goes_on, recorded_goes
 
 -- ---- how the replay ends
 
-module _ (code : Tac) (picks : List TacPick) (t : TacState) (takes : Takes code picks t) (e : ReplayEnd) (s : TacState)
-    (is_whole : IsWhole e) (ends : replays.Ends code picks s e) where
-  same_end : (a : ReplayEnd) → IsWhole a → replays.Ends code picks t a → (e ≡ a) × (s ≡ t)
+module _ (code : Tac) (picks : List TacPick) (t : TacState) (takes : TakesPicks code picks t) (e : ReplayEnd) (s : TacState)
+    (is_whole : IsWhole e) (ends : replays.ReplayEndsAs code picks s e) where
+  same_end : (a : ReplayEnd) → IsWhole a → replays.ReplayEndsAs code picks t a → (e ≡ a) × (s ≡ t)
   same_end a w is = one_replay code picks e a s t is_whole w ends is
 
-  same_state : Takes code picks s → s ≡ t
+  same_state : TakesPicks code picks s → s ≡ t
   same_state also = same_Some s t (sym also ∙ takes)
 
   -- the run has not ended
@@ -57,7 +57,7 @@ module _ (code : Tac) (picks : List TacPick) (t : TacState) (takes : Takes code 
   unfinished open_yet goes_on = (same_end replay_end.Unfinished tt (takes, open_yet, goes_on)).0
 
   -- by how the run ended, after so many steps; one that lacked room could go on without its regions
-  pub replays_as : (limits : Limits) (before steps : ℕ) (end : RunEnd) → Ends (tac code) limits before steps t end
+  pub replays_as : (limits : Limits) (before steps : ℕ) (end : RunEnd) → RunEndsAs (tac code) limits before steps t end
       → ((why : Shortage) → end ≡ run_end.NoRoom why → IsDeadlock (tac code) t → ⊥) → ReplaysAs end e
   replays_as limits before steps (run_end.Ended end) is room = (same_end (replay_end.Ended end) tt (takes, is)).0
   replays_as limits before steps run_end.Deadlock is room = (same_end replay_end.Deadlock tt (takes, is)).0
@@ -84,15 +84,15 @@ module _ (code : Tac) (picks : List TacPick) (t : TacState) (takes : Takes code 
 
   -- so it comes to the same state
   pub comes : (x : ReplayEnd) → e ≡ x → s ≡ t
-  comes (replay_end.Ended end) is = same_state (subst (replays.Ends code picks s) is ends).0
-  comes replay_end.Deadlock is = same_state (subst (replays.Ends code picks s) is ends).0
-  comes replay_end.Unfinished is = same_state (subst (replays.Ends code picks s) is ends).0
+  comes (replay_end.Ended end) is = same_state (subst (replays.ReplayEndsAs code picks s) is ends).0
+  comes replay_end.Deadlock is = same_state (subst (replays.ReplayEndsAs code picks s) is ends).0
+  comes replay_end.Unfinished is = same_state (subst (replays.ReplayEndsAs code picks s) is ends).0
   comes (replay_end.Foreign index) is = absurd (never_foreign index is)
   comes replay_end.WriteFault is = absurd (subst IsWhole is is_whole)
   comes replay_end.NoMemory is = absurd (subst IsWhole is is_whole)
 
 pub whole_gives : (e : ReplayEnd) → IsWhole e → (print : List ℕ) (before after : Option (List ℕ))
-    → replays.Gives e print before after → Appends before after print
+    → replays.ReplayPrints e print before after → Appends before after print
 whole_gives (replay_end.Ended end) w print before after g = g
 whole_gives replay_end.Deadlock w print before after g = g
 whole_gives replay_end.Unfinished w print before after g = g

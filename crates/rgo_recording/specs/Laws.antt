@@ -5,9 +5,9 @@ use Rattle.rgo_machine.specs.declared.limits.Limits.{Limits}
 use Rattle.rgo_machine.specs.declared.limits.Sizes.{Sizes}
 use Rattle.rgo_code.specs.Code.{Code}
 use Rattle.rgo_code.specs.Erasure.{erased}
-use Rattle.rgo_driver.specs.Runs.{Gives}
-use Rattle.rgo_driver.specs.declared.ends.RunEnd.{RunEnd}
-use Rattle.rgo_driver.specs.declared.ends.RunEnd.TheVariants as run_end
+use Rattle.rgo_machine.specs.Ends.{RunPrints}
+use Rattle.rgo_machine.specs.declared.ends.RunEnd.{RunEnd}
+use Rattle.rgo_machine.specs.declared.ends.RunEnd.TheVariants as run_end
 use Rattle.rgo_journal.specs.Laws.{IsWhole}
 use Rattle.rgo_journal.specs.Replays.{Replays}
 use Rattle.rgo_journal.specs.declared.replays.ReplayEnd.{ReplayEnd}
@@ -29,11 +29,11 @@ ReplaysAs (run_end.NoRoom shortage) e = e ≡ replay_end.Unfinished
 ReplaysAs run_end.WriteFault e = ⊤
 ReplaysAs run_end.NoMemory e = ⊤
 
--- the replay ends so, and gives out what the run has printed
+-- the replay ends so, and writes what the run has printed
 pub record ReplaysTheRun (end : RunEnd) (old new : Option (List ℕ)) (e : ReplayEnd) (before after : Option (List ℕ)) : Type 0 where
   pub ends : ReplaysAs end e
   pub bytes : List ℕ
-  pub ran : Gives end bytes old new
+  pub ran : RunPrints end bytes old new
   pub replayed : Appends before after bytes
 
 -- What was noted of a run is replayed as that run, by each replay in which memory suffices and no write fails.

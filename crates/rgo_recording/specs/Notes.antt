@@ -14,5 +14,5 @@ abbrev pub picks_of : Notes → List TacPick
 picks_of notes = picks_in notes.list.items
 
 -- one note more needs no memory
-abbrev pub HasRoom : Notes → Type 0
-HasRoom notes = vec_len notes.list < vec_capacity notes.list
+abbrev pub NotesHaveRoom : Notes → Type 0
+NotesHaveRoom notes = vec_len notes.list < vec_capacity notes.list

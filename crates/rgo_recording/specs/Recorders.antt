@@ -2,40 +2,40 @@
 -- were noted lead to where it is.
 use Rattle.std.specs.Prelude.{ℕ, List, ◌++◌, All}
 use Rattle.rgo_machine.specs.declared.limits.Sizes.{Sizes}
-use Rattle.rgo_tac.specs.Frames.{Frame}
+use Rattle.rgo_tac.specs.Frames.{TacFrame}
 use Rattle.rgo_tac.specs.Tac.{TacState, tac}
 use Rattle.rgo_code.specs.Code.{Code}
 use Rattle.rgo_code.specs.Erasure.{erased}
 use Rattle.rgo_journal.specs.declared.picks.TacPick.{TacPick}
-use Rattle.rgo_journal.specs.Replays.{Takes}
-use Rattle.rgo_journal.specs.Text.{Fits}
-use Rattle.rgo_driver.specs.Running.{View}
-use Rattle.rgo_world.specs.Worlds.{Lacks, Reaches, Stands}
+use Rattle.rgo_journal.specs.Replays.{TakesPicks}
+use Rattle.rgo_journal.specs.Text.{PickFits}
+use Rattle.rgo_round_robin.specs.Running.{View}
+use Rattle.rgo_region_interpreter.specs.Worlds.{WorldLacks, WorldReaches, IsWorldAt}
 use Rattle.rgo_recording.specs.declared.recorders.Recorder.{Recorder}
 use Rattle.rgo_recording.specs.Notes.{picks_of}
 
 -- These picks are a run of the code without its regions, and it leads to this state, where the print is all that was ever
--- printed: what was given out before, and what has not been yet. Each can stand in a journal.
+-- printed: what was given out before, and what has not been yet. Each can be in a journal.
 pub record LeadTo (code : Code) (picks : List TacPick) (given : List ℕ) (s : TacState) : Type 0 where
-  pub takes : Takes (erased code) picks (record s { printed = given ++ s.printed })
-  pub fit : All Fits picks
+  pub takes : TakesPicks (erased code) picks (record s { printed = given ++ s.printed })
+  pub fit : All PickFits picks
 
 -- the run is at this state, and so are the picks that were noted
-pub record Shows (r : Recorder) (given : List ℕ) (s : TacState) : Type 0 where
-  pub stands : Stands r.world given s
+pub record RecorderShows (r : Recorder) (given : List ℕ) (s : TacState) : Type 0 where
+  pub stands : IsWorldAt r.world given s
   pub lead : LeadTo r.world.code.now (picks_of r.notes) given s
 
 -- what still holds of it once memory has run out
-pub record Leaves (r : Recorder) (given : List ℕ) (s : TacState) : Type 0 where
-  pub reaches : Reaches r.world given s
+pub record RecorderLeaves (r : Recorder) (given : List ℕ) (s : TacState) : Type 0 where
+  pub reaches : WorldReaches r.world given s
   pub lead : LeadTo r.world.code.now (picks_of r.notes) given s
 
-abbrev pub view_of : Recorder → View Frame (Code × Sizes)
+abbrev pub view_of : Recorder → View TacFrame (Code × Sizes)
 view_of r = record {
   machine = tac (erased r.world.code.now);
-  shows = Shows r;
-  leaves = Leaves r;
-  lacks = Lacks r.world;
+  shows = RecorderShows r;
+  leaves = RecorderLeaves r;
+  lacks = WorldLacks r.world;
   print = r.world.state.printed;
   fixed = (r.world.code.now, r.world.sizes);
 }

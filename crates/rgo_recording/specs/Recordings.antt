@@ -5,10 +5,10 @@ use Rattle.rgo_machine.specs.declared.limits.Sizes.{Sizes}
 use Rattle.rgo_tac.specs.Tac.{tac, tac_start}
 use Rattle.rgo_code.specs.Code.{Code}
 use Rattle.rgo_code.specs.Erasure.{erased}
-use Rattle.rgo_journal.specs.Replays.{Takes}
-use Rattle.rgo_journal.specs.Text.{Fits}
-use Rattle.rgo_driver.specs.Runs.{RunsTo}
-use Rattle.rgo_world.specs.Views.{view_of}
+use Rattle.rgo_journal.specs.Replays.{TakesPicks}
+use Rattle.rgo_journal.specs.Text.{PickFits}
+use Rattle.rgo_round_robin.specs.Runs.{RunsTo}
+use Rattle.rgo_region_interpreter.specs.Views.{view_of}
 use Rattle.rgo_recording.specs.declared.recording.Recorded.{Recorded}
 use Rattle.rgo_recording.specs.Notes.{picks_of}
 
@@ -17,8 +17,8 @@ pub record Records (code : Code) (sizes : Sizes) (limits : Limits) (old new : Op
   -- it has ended as a run in rounds does
   pub runs : RunsTo (view_of r.world) (tac (erased code)) limits [] (tac_start (erased code)) r.end old new
   -- the picks that were noted are a run of the code without its regions, to the same state
-  pub noted : Takes (erased code) (picks_of r.notes) runs.runs.state
-  -- and each can stand in a journal
-  pub fit : All Fits (picks_of r.notes)
+  pub noted : TakesPicks (erased code) (picks_of r.notes) runs.runs.state
+  -- and each can be in a journal
+  pub fit : All PickFits (picks_of r.notes)
   -- it is one of this code, in regions of these sizes
   pub fixed : ◌≡◌ {A = Code × Sizes} (r.world.code.now, r.world.sizes) (code, sizes)

@@ -1,12 +1,12 @@
 //! What is noted of a run: its picks, in the order in which they were taken.
 
 ghost use Rattle.std.specs.Prelude.{◌≡◌, ◌++◌, [], Some, replicate, IfSome};
-ghost use Rattle.rgo_recording.specs.Notes.{HasRoom, picks_in, picks_of};
+ghost use Rattle.rgo_recording.specs.Notes.{NotesHaveRoom, picks_in, picks_of};
 
 use rgo_journal::TacPick;
 use std::alloc::Global;
 
-/// A pick that was taken so many times in a row.
+/// A pick that was taken `times` times in a row.
 #[derive(Clone, Copy, Debug, PartialEq, Eq)]
 pub struct Note {
     pub pick: TacPick,
@@ -36,10 +36,11 @@ impl Notes {
         &self.list
     }
 
-    /// Takes the room for one note more, of this pick if there is one. Returns it; `None` where there is none, or no room.
+    /// Takes the room for one more note, of this pick if there is one, and returns the pick; `None` without a pick or without
+    /// memory. Called before the steps, so that none of them goes unnoted.
     pub(crate) fn prepare(&mut self, pick: Option<TacPick>) -> Option<TacPick>
         ensures same { IfSome result (λ p. pick ≡ Some p) }
-        ensures room { IfSome result (λ p. HasRoom self.new) }
+        ensures room { IfSome result (λ p. NotesHaveRoom self.new) }
         ensures picks { picks_of self.new ≡ picks_of self.old }
     {
         let pick = pick?;
@@ -49,9 +50,9 @@ impl Notes {
         }
     }
 
-    /// The pick was taken so many times, one after the other. There is room for a note.
+    /// The pick was taken `times` times, one after the other. `prepare` has taken the room for a note.
     pub(crate) fn note(&mut self, pick: TacPick, times: usize)
-        requires { HasRoom self.old }
+        requires { NotesHaveRoom self.old }
         ensures { picks_of self.new ≡ picks_of self.old ++ replicate times pick }
     {
         if times == 0 {

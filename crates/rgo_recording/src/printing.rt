@@ -9,7 +9,7 @@ use crate::notes::{Note, Notes};
 use rgo_journal::print_pick;
 use std::alloc::{AllocError, Global};
 
-/// The line of a pick, so many times.
+/// The line of a pick, `times` times.
 fn print_times(out: &mut Vec<u8>, line: &[u8], times: usize) -> Result<(), AllocError>
     ensures { (pick : Pick) → line.now ≡ pick_line pick
         → OnOk result (out.new.items ≡ out.old.items ++ pick_lines (replicate times pick)) }

@@ -2,15 +2,16 @@
 
 ghost use Rattle.std.specs.Prelude.{◌≡◌, IfSome};
 ghost use Rattle.rgo_journal.specs.declared.picks.TacPick.TheVariants.{One, Meet};
-ghost use Rattle.rgo_journal.specs.Text.{Fits};
+ghost use Rattle.rgo_journal.specs.Text.{PickFits};
 
 use crate::notes::Notes;
 use rgo_code::Code;
-use rgo_driver::Running;
+use rgo_interpreter::{Stand, TurnEnd, Turned};
 use rgo_journal::TacPick;
-use rgo_machine::{Limits, Sizes, Stand, Stop, Turned};
-use rgo_tac::Frame;
-use rgo_world::World;
+use rgo_machine::{Limits, Sizes};
+use rgo_region_interpreter::World;
+use rgo_round_robin::Running;
+use rgo_tac_interpreter::Frame;
 use std::alloc::{AllocError, Global};
 
 /// A run with its regions, and what is noted of it: all its steps, from its start.
@@ -20,10 +21,10 @@ pub struct Recorder<'a> {
     pub notes: Notes,
 }
 
-/// The pick of a goroutine that steps alone. `None` where its number has more than 32 bits, which none has: far fewer
-/// goroutines can be started.
+/// The pick of a goroutine that steps alone. `None` if its number has more than 32 bits, which does not occur: far fewer goroutines
+/// can be started.
 fn one(g: usize) -> Option<TacPick>
-    ensures { IfSome result (λ pick. (pick ≡ One g) × Fits pick) }
+    ensures { IfSome result (λ pick. (pick ≡ One g) × PickFits pick) }
 {
     match u32::try_from(g) {
         Ok(g) => Some(TacPick::One(g)),
@@ -33,7 +34,7 @@ fn one(g: usize) -> Option<TacPick>
 
 /// The pick of a receiver and a sender that meet, in the same way.
 fn meeting(receiver: usize, sender: usize) -> Option<TacPick>
-    ensures { IfSome result (λ pick. (pick ≡ Meet receiver sender) × Fits pick) }
+    ensures { IfSome result (λ pick. (pick ≡ Meet receiver sender) × PickFits pick) }
 {
     let Ok(receiver) = u32::try_from(receiver) else {
         return None;
@@ -80,7 +81,7 @@ impl<'a> Running for Recorder<'a> {
         let Some(pick) = self.notes.prepare(one(g)) else {
             return Turned {
                 steps: 0,
-                stop: Stop::NoMemory,
+                stop: TurnEnd::NoMemory,
             };
         };
         let turned = self.world.turn(alloc, limits, g, at_most);

@@ -3,16 +3,16 @@
 ghost use Rattle.std.specs.Prelude.{◌≡◌, true, IfOk, OnErr};
 ghost use Rattle.rgo_outside.specs.Causes.{Rose};
 ghost use Rattle.rgo_outside.specs.Pieces.{AddsOnly};
-ghost use Rattle.rgo_driver.specs.Lines.{IsLineEnd};
+ghost use Rattle.rgo_round_robin.specs.Lines.{IsLineEnd};
 ghost use Rattle.rgo_recording.specs.Recordings.{Records};
 
 use crate::notes::Notes;
 use crate::recorders::Recorder;
 use rgo_code::Checked;
-use rgo_driver::{RunEnd, run};
-use rgo_machine::{Limits, Sizes};
+use rgo_machine::{Limits, RunEnd, Sizes};
 use rgo_outside::Sink;
-use rgo_world::World;
+use rgo_region_interpreter::World;
+use rgo_round_robin::run;
 use std::alloc::{AllocError, Global};
 
 /// A run that has ended, and what was noted of it.

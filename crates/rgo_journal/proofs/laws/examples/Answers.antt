@@ -3,15 +3,15 @@ use Rattle.std.specs.Fmt.{digits}
 use Rattle.std.specs.Prelude.{All}
 use Rattle.std.proofs.lemmas.List.Elements.{All-cons, All-nil}
 use Rattle.rgo_journal.specs.declared.picks.TacPick.TheVariants.{One}
-use Rattle.rgo_journal.specs.Forms.{IsFirstWithoutForm}
-use Rattle.rgo_journal.specs.Text.{Fits, first_line}
+use Rattle.rgo_journal.specs.Forms.{IsFirstBadJournalLine}
+use Rattle.rgo_journal.specs.Text.{PickFits, first_line}
 use Rattle.rgo_journal.proofs.Walking.{no_more}
 use Rattle.rgo_journal.proofs.laws.examples.Goals as goal
 
-one_fits : All Fits (One 0 ∷ [])
-one_fits = All-cons Fits (One 0) [] (omega arith) (All-nil Fits)
+one_fits : All PickFits (One 0 ∷ [])
+one_fits = All-cons PickFits (One 0) [] (omega arith) (All-nil PickFits)
 
-not_first : IsFirstWithoutForm (codes "rgo picks 1\none 00\ntext\n") 1 → ⊥
+not_first : IsFirstBadJournalLine (codes "rgo picks 1\none 00\ntext\n") 1 → ⊥
 not_first (inl none) = none.1 (codes "one 00\ntext\n", refl)
 not_first (inr s) = omega (arith, s.number)
 

@@ -1,6 +1,6 @@
 use Rattle.std.proofs.Common.{[], ◌∙◌, subst}
 use Rattle.rgo_code.specs.Erasure.{erased}
-use Rattle.rgo_driver.specs.Runs.{RunsTo}
+use Rattle.rgo_round_robin.specs.Runs.{RunsTo}
 use Rattle.rgo_tac.specs.Tac.{tac, tac_start}
 use Rattle.rgo_recording.specs.Recorders.{view_of}
 use Rattle.rgo_recording.proofs.Ended.{records}

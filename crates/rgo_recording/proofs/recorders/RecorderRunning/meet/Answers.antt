@@ -3,11 +3,11 @@ use Rattle.std.specs.Prelude.{alloc_error}
 use Rattle.rgo_machine.specs.declared.limits.Sizes.{Sizes}
 use Rattle.rgo_code.specs.Code.{Code}
 use Rattle.rgo_code.specs.Erasure.{erased}
-use Rattle.rgo_driver.specs.Running.{TriesMeeting}
+use Rattle.rgo_round_robin.specs.Running.{TriesMeeting}
 use Rattle.rgo_journal.specs.declared.picks.TacPick.TheVariants.{Meet}
-use Rattle.rgo_journal.specs.Text.{Fits}
+use Rattle.rgo_journal.specs.Text.{PickFits}
 use Rattle.rgo_tac.specs.Tac.{tac}
-use Rattle.rgo_world.specs.Views as world
+use Rattle.rgo_region_interpreter.specs.Views as world
 use Rattle.rgo_recording.specs.Notes.{picks_of}
 use Rattle.rgo_recording.proofs.Leading.{meeting_failed, met_noted, not_met, same_pick}
 use Rattle.rgo_recording.proofs.recorders.RecorderRunning.meet.Goals as goal
@@ -31,7 +31,7 @@ returns-in-Ok-true-clause-meets c = λ given s at on.
     met_noted c.args.self.now (record { world = c.meet.new.self; notes = c.note.new.self }) c.args.receiver c.args.sender
     (ap (λ (x : Code × Sizes). x.0) c.meet.ensures.fixed) given s at c.in-Some.pick (picks_of c.prepare.new.self) c.note.ensures
     c.in-Some.ensures.picks
-    (same_pick (λ pick. (pick ≡ Meet c.args.receiver c.args.sender) × Fits pick) c.meeting.result c.in-Some.pick
+    (same_pick (λ pick. (pick ≡ Meet c.args.receiver c.args.sender) × PickFits pick) c.meeting.result c.in-Some.pick
     c.meeting.ensures c.in-Some.ensures.same)
     (subst (λ b. TriesMeeting (world.view_of c.meet.new.self) (tac (erased c.args.self.now.world.code.now)) given s
     c.args.receiver c.args.sender (Ok b)) c.in-Ok-true.field-0-test (c.in-Ok-true.ensures.meets given s at.stands on))

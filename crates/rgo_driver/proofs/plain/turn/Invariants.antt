@@ -1,8 +1,0 @@
-use Rattle.rgo_machine.specs.declared.turns.Stop.TheVariants.{Spent}
-use Rattle.rgo_machine.specs.Turns.{Turns}
-use Rattle.rgo_driver.proofs.plain.turn.Given as goal
-
-abbrev pub invariant-loop-taken : goal.invariant-loop-taken
-invariant-loop-taken g l =
-    Turns (g.M.Machine.machine l.machine) l.limits l.initial.state l.state l.g l.taken
-    (record { steps = l.taken; stop = Spent })

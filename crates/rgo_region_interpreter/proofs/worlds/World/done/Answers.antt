@@ -1,0 +1,20 @@
+use Rattle.std.proofs.Common.{◌≡◌, Some, None, sym, ap, ◌∙◌, slice_get}
+use Rattle.std.proofs.lemmas.Option.{slice_get_past}
+use Rattle.rgo_region_interpreter.specs.Works.{done_in}
+use Rattle.rgo_region_interpreter.proofs.owing.Attending.{found}
+use Rattle.rgo_region_interpreter.proofs.worlds.World.done.Goals as goal
+
+pub returns-in-Some : goal.returns-in-Some
+returns-in-Some c =
+    let item = c.in-Some.ensures.lookup in
+    let there : slice_get c.args.self.now.holders.items c.args.g ≡ Some c.in-Some.holder.now =
+    ap (λ l. slice_get l c.args.g) (sym c.deref.ensures.value)
+    ∙ found c.deref.result.now c.args.g c.in-Some.holder.now item.3.0 item.1 in
+    sym (ap done_in there)
+
+pub returns-in-None : goal.returns-in-None
+returns-in-None c =
+    let none : slice_get c.args.self.now.holders.items c.args.g ≡ None =
+    ap (λ l. slice_get l c.args.g) (sym c.deref.ensures.value)
+    ∙ slice_get_past c.deref.result.now c.args.g c.in-None.ensures.lookup.3 in
+    sym (ap done_in none)

@@ -1,6 +1,0 @@
-use Rattle.rgo_world.specs.Works.{SameRun}
-use Rattle.rgo_world.proofs.Preparing.{CreatesSo}
-use Rattle.rgo_world.proofs.worlds.World.create_all.Given as goal
-
-abbrev pub invariant-loop-i : goal.invariant-loop-i
-invariant-loop-i l = CreatesSo l.fn.self l.self l.g l.names l.i × SameRun l.fn.self l.self

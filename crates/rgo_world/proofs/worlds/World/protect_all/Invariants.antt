@@ -1,6 +1,0 @@
-use Rattle.rgo_world.specs.Works.{SameRun}
-use Rattle.rgo_world.proofs.Preparing.{ProtectsSo}
-use Rattle.rgo_world.proofs.worlds.World.protect_all.Given as goal
-
-abbrev pub invariant-loop-i : goal.invariant-loop-i
-invariant-loop-i l = ProtectsSo l.fn.self l.self l.g l.created l.names l.i × SameRun l.fn.self l.self

@@ -1,8 +1,0 @@
-use Rattle.std.proofs.Common.{◌-◌}
-use Rattle.rgo_world.specs.Works.{SameRun}
-use Rattle.rgo_world.proofs.Rooms.{AllRoomier}
-use Rattle.rgo_world.proofs.worlds.World.take_pages.Given as goal
-
-abbrev pub invariant-loop : goal.invariant-loop
-invariant-loop l = AllRoomier l.fn.self l.self l.g l.next l.making l.region (l.end - l.counter)
-    × SameRun l.fn.self l.self

@@ -1,8 +1,0 @@
-//! Small examples.
-
-ghost use Rattle.rgo_world.specs.Extents.{ExtentExamples};
-
-/// How many pages are taken before objects of some sizes.
-pub fn extent_examples()
-    ensures { ExtentExamples }
-{}
