@@ -7,7 +7,7 @@ use Rattle.rgo_core.specs.Core.{Setup}
 use Rattle.rgo_core.specs.Records.{Drawn, Record}
 use Rattle.rgo_core.specs.Rule.Views.{Has, Rows}
 use Rattle.rgo_core.specs.Rule.declared.accesses.View.{View}
-use Rattle.rgo_core_steps.specs.Outcomes.{Closes, HasFamily}
+use Rattle.rgo_core_steps.specs.Outcomes.{ClosesTable, HasFamily}
 use Rattle.rgo_sound.specs.RegionMachine.Counts.{Counts}
 use Rattle.rgo_sound.specs.RegionMachine.States.{Mark}
 use Rattle.rgo_table_runs.proofs.closing.Closed.{has_row}
@@ -15,13 +15,13 @@ use Rattle.rgo_table_runs.proofs.closing.Gathering.{family_is_all, gathered_are_
 use Rattle.rgo_table_runs.proofs.closing.Members.{all_retired}
 use Rattle.rgo_table_runs.specs.closing.Ends.{IsFirst}
 use Rattle.rgo_table_runs.specs.closing.Gathering.{IsIn, numbered}
-use Rattle.rgo_table_runs.specs.closing.Prints.{AllGiven, InOrder, IsPrint}
+use Rattle.rgo_table_runs.specs.closing.Prints.{AllGiven, TicketsInOrder, IsPrint}
 use Rattle.rgo_table_runs.specs.closing.Rows.{AreAll}
 use Rattle.rgo_runtime.specs.Closing.{AreInOrder, ClosesAnyway, ClosesWhole, ClosesWith}
 use Rattle.rgo_runtime.specs.Crews.{AreRetired}
 use Rattle.rgo_runtime.proofs.Leaving.{family_left, has_shares, in_either, in_left}
 
-module _ (T : Setup) (words : List ℕ) (v : View Record) (e : Closes T words v) (shares : List Counts) (first : Option Mark)
+module _ (T : Setup) (words : List ℕ) (v : View Record) (e : ClosesTable T words v) (shares : List Counts) (first : Option Mark)
     (given waiting : List Drawn) (turns : AreInOrder given) (gone : AreRetired v.records shares first) where
   abbrev rows : Rows Record
   rows = numbered e.recs
@@ -60,7 +60,7 @@ module _ (T : Setup) (words : List ℕ) (v : View Record) (e : Closes T words v)
     given_is : (i : ℕ) (d : Drawn) → get_elem? given i ≡ some d → (d.is_void ≡ false) × IsPrint v.records d
     given_is i d at = are d (in_left given waiting d (i, at))
 
-    in_order : InOrder rows given
+    in_order : TicketsInOrder rows given
     in_order = record {
       are = λ i d at. print_there (all_of family) d (given_is i d at).1;
       next = turns;

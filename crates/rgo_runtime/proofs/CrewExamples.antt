@@ -14,7 +14,7 @@ use Rattle.rgo_table_runs.specs.Goroutine.declared.goroutine.Goroutine.{Goroutin
 use Rattle.rgo_sound.specs.RegionMachine.Counts.{Counts}
 use Rattle.rgo_sched.specs.Rounds.{EachTurned}
 use Rattle.rgo_sound.specs.Tally.{no_share}
-use Rattle.rgo_table_runs.specs.closing.Members.{HasNumber, IsListed, Member, NoneIsLost, retired}
+use Rattle.rgo_table_runs.specs.closing.Members.{SomeHasNumber, IsListed, Member, NoneIsLost, retired}
 use Rattle.rgo_runtime.proofs.Leaving.{In, in_cons, nobody_lost, nobody_then, none_in}
 use Rattle.rgo_runtime.proofs.Crewing.{none_retired}
 use Rattle.rgo_runtime.proofs.CrewPasses.{pass_length}
@@ -22,8 +22,8 @@ use Rattle.rgo_runtime.specs.Crew.{Crew, HasPassedAll, WholeCrewExamples, all_me
 use Rattle.rgo_runtime.specs.Crews.{AreRetired, CrewExamples, IsGiven, IsNewborn, IsOfCrew, Keeps, KeepsMembers, NobodyIsLost, drawn, its_goroutine, main_itself, main_with_child, marked, member_of, members, newborn, turning}
 use Rattle.rgo_runtime.specs.Parking.{values_of}
 use Rattle.rgo_runtime.specs.Passing.{IsBehind}
-use Rattle.rgo_runtime.specs.Turns.{TakesTurn, Turn}
-use Rattle.rgo_runtime.specs.declared.passes.Passed.{Passed}
+use Rattle.rgo_runtime.specs.Turns.{TurnIsTaken, Turn}
+use Rattle.rgo_runtime.specs.declared.deadlock.Passed.{Passed}
 
 -- a list of one
 only : {A : Type 0} (a x : A) → In (a ∷ []) x → a ≡ x
@@ -63,11 +63,11 @@ child_comes : KeepsMembers (main_with_child ∷ []) (adopter ∷ newborn 1 ∷ [
 child_comes others taken k = nobody_then main_with_child adopter [] (newborn 1 ∷ []) others taken refl refl listed
     (λ x one. sym (ap (λ (y : Member). y.its.clock) (only (newborn 1) x one))) k
   where
-    listed : (h : ℕ) → IsListed (1 ∷ []) h → HasNumber (newborn 1 ∷ []) h ⊎ IsListed [] h
+    listed : (h : ℕ) → IsListed (1 ∷ []) h → SomeHasNumber (newborn 1 ∷ []) h ⊎ IsListed [] h
     listed h (zero, e) = inl (newborn 1, (0, refl), same_Some 1 h e)
     listed h (suc i, e) = let z : None ≡ Some h = e in absurd (cc z)
 
-not_one : HasNumber (adopter ∷ []) 1 → ⊥
+not_one : SomeHasNumber (adopter ∷ []) 1 → ⊥
 not_one (m, one, is) =
     let z : 0 ≡ 1 = ap (λ (y : Member). y.number) (only adopter m one) ∙ is in
     omega (arith, z)
@@ -76,7 +76,7 @@ child_lost : KeepsMembers (main_with_child ∷ []) (adopter ∷ []) → ⊥
 child_lost keeps =
     let k : NobodyIsLost (adopter ∷ []) [] = keeps [] [] with_child in
     ⊎_elim
-    (λ (q : HasNumber (adopter ∷ []) 1). not_one q)
+    (λ (q : SomeHasNumber (adopter ∷ []) 1). not_one q)
     (λ (q : IsListed [] 1). none_listed 1 q.0 q.1)
     (k.children adopter 1 (0, refl) (0, refl))
 
@@ -117,7 +117,7 @@ not_counted k = ⊎_elim
     (k.its 0 main_itself (0, refl))
 
 one_had_none : (t : Turn) (given after : List Turn) (answers : List Bool) → AllZip (IsGiven 5) (t ∷ []) given
-    → EachTurned TakesTurn given after answers → after ≡ [] → ⊥
+    → EachTurned TurnIsTaken given after answers → after ≡ [] → ⊥
 one_had_none t [] after answers gives turned none = gives
 one_had_none t (x ∷ xs) [] answers gives turned none = turned
 one_had_none t (x ∷ xs) (y ∷ ys) answers gives turned none = absurd (cc none)

@@ -14,12 +14,12 @@ use Rattle.rgo_table_runs.specs.Goroutine.Goroutines.{IsOf, IsTidy, record_of}
 use Rattle.rgo_table_runs.specs.Goroutine.Turns.{IsOver}
 use Rattle.rgo_table_runs.specs.Goroutine.declared.goroutine.Goroutine.{Goroutine}
 use Rattle.rgo_table_runs.specs.closing.Members.{Member, retired}
-use Rattle.rgo_runtime.specs.Crew.{Crew, HasPassedAll, IsCrew, KeepsAll}
+use Rattle.rgo_runtime.specs.Crew.{Crew, HasPassedAll, IsRunCrew, KeepsAll}
 use Rattle.rgo_runtime.specs.Crews.{AreRetired, IsOfCrew, Keeps, MayTurn, drawn, its_goroutine, its_member, marked, member_of, members, turning}
 use Rattle.rgo_runtime.specs.Parking.{values_of}
 use Rattle.rgo_runtime.specs.Passing.{HasLookedOnce, HasMet, IsBehind, IsPass, IsTidyIn, MayHaveTurned}
 use Rattle.rgo_runtime.specs.Turns.{Turn, first_turn}
-use Rattle.rgo_runtime.specs.declared.passes.Passed.{Passed}
+use Rattle.rgo_runtime.specs.declared.deadlock.Passed.{Passed}
 use Rattle.rgo_runtime.proofs.Keeps.{keeps_beside, keeps_moved, keeps_pass, keeps_then}
 use Rattle.rgo_runtime.proofs.Sweeps.{all_both, zip_keeps, zip_length}
 
@@ -151,7 +151,7 @@ pub record CrewHasPassed (c : Crew) (before after : List Goroutine) (table : Tab
   pub back : ready ≡ map (first_turn c.run) (reverse after)
 
 module _ (c : Crew) (before after : List Goroutine) (table : TableId) (me : Me Record) (ready : List Turn) (passed : Passed)
-    (k : CrewHasPassed c before after table me ready passed) (crew : IsCrew c) where
+    (k : CrewHasPassed c before after table me ready passed) (crew : IsRunCrew c) where
   abbrev now : Crew
   now = record c { table = table; me = me; ready = ready }
 
@@ -184,7 +184,7 @@ module _ (c : Crew) (before after : List Goroutine) (table : TableId) (me : Me R
       subst (All (IsOfCrew c.run n)) (sym k.back)
       (All-map (IsOfCrew c.run n) (first_turn c.run) (reverse after) (All-permutation P after (reverse after) (IsPermutation-reverse after) all))
 
-  pub crew_passed : IsCrew now
+  pub crew_passed : IsRunCrew now
   crew_passed = record {
     seat = subst (λ (id : TableId). IsSeatOf id c.run.table clock_at) (sym k.same) crew.seat;
     pages = crew.pages;

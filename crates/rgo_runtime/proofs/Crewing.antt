@@ -14,19 +14,19 @@ use Rattle.rgo_core.specs.Rule.Views.{Has, Rows, view}
 use Rattle.rgo_core_steps.specs.Seats.{IsSeatOf, mine}
 use Rattle.rgo_core_steps.specs.declared.clock.Mark.{Mark}
 use Rattle.rgo_table_runs.specs.Goroutine.Acts.declared.actors.Actor.{Actor}
-use Rattle.rgo_table_runs.specs.Goroutine.Instructions.{HasPages}
+use Rattle.rgo_table_runs.specs.Goroutine.Instructions.{TableHasPages}
 use Rattle.rgo_table_runs.specs.Goroutine.Turns.{IsOver}
 use Rattle.rgo_table_runs.specs.Goroutine.declared.goroutine.Goroutine.{Goroutine}
 use Rattle.rgo_sound.specs.RegionMachine.Counts.{Counts}
 use Rattle.rgo_sched.specs.Rounds.{RoundOf}
 use Rattle.rgo_sound.specs.Tally.{no_share}
 use Rattle.rgo_table_runs.specs.closing.Members.{Member, NoneIsLost, retired}
-use Rattle.rgo_runtime.specs.Crew.{Crew, IsCrew, KeepsAll, all_members}
+use Rattle.rgo_runtime.specs.Crew.{Crew, IsRunCrew, KeepsAll, all_members}
 use Rattle.rgo_runtime.specs.Crews.{AreRetired, IsNewborn, IsOfCrew, Keeps, drawn, its_member, marked, members, turning}
 use Rattle.rgo_outside.specs.Pieces.{AddsOnly}
 use Rattle.rgo_runtime.specs.Parking.{values_of}
 use Rattle.rgo_runtime.specs.Printing.{IsPieceOf}
-use Rattle.rgo_runtime.specs.Turns.{TakesTurn, Turn}
+use Rattle.rgo_runtime.specs.Turns.{TurnIsTaken, Turn}
 use Rattle.rgo_runtime.proofs.Keeps.{begins, crew_round, keeps_beside, keeps_nothing, keeps_permuted, keeps_round, keeps_then}
 use Rattle.rgo_runtime.proofs.Leaving.{none_in}
 use Rattle.rgo_runtime.proofs.Moving.{kept_then}
@@ -35,10 +35,10 @@ use Rattle.rgo_runtime.proofs.Moving.{kept_then}
 
 -- each has had a turn, or none
 abbrev pub MayHaveTurns : (before after : List Turn) → Type 0
-MayHaveTurns before after = ((went : Bool) × RoundOf TakesTurn before after went) ⊎ (after ≡ before)
+MayHaveTurns before after = ((went : Bool) × RoundOf TurnIsTaken before after went) ⊎ (after ≡ before)
 
 pub round_ends : {E A : Type 0} (before after : Vec Turn A) (result : Result Bool E)
-    → IfOk result (λ went. RoundOf TakesTurn before.items after.items went) → IfErr result (λ _. after ≡ before)
+    → IfOk result (λ went. RoundOf TurnIsTaken before.items after.items went) → IfErr result (λ _. after ≡ before)
     → MayHaveTurns before.items after.items
 round_ends before after (Ok went) ok err = inl (went, ok)
 round_ends before after (Err e) ok err = inr (ap (λ v. v.items) err)
@@ -105,10 +105,10 @@ place_kept ts i x y p b c r t u within is keeps =
 pub record Changes (old new : Crew) : Type 0 where
   pub rest : new ≡ record old { ready = new.ready; born = new.born; waiting = new.waiting }
   pub len : length new.ready ≡ length old.ready
-  pub crew : IsCrew new
+  pub crew : IsRunCrew new
   pub kept : KeepsAll old new
 
-pub changes_none : (c old : Crew) → c ≡ old → IsCrew c → Changes old c
+pub changes_none : (c old : Crew) → c ≡ old → IsRunCrew c → Changes old c
 changes_none c old same crew =
     subst (λ (x : Crew). Changes x c) same
     (record { rest = refl; len = refl; crew = crew; kept = keeps_nothing (all_members c) (drawn c.waiting) })
@@ -194,8 +194,8 @@ module _ (r : Run) (go : Goroutine) (number : go.number ≡ 0) where
   main = record { run = r; goroutine = go; slice = 0; turned = None }
 
   pub main_is_crew : (c : Crew) (n : ℕ) → c.run ≡ r → c.ready ≡ main ∷ [] → c.parked ≡ [] → c.born ≡ [] → c.me.0.records ≡ []
-      → IsSeatOf c.table c.run.table clock_at → HasPages c.run → c.shares ≡ [] ++ replicate n no_share → 0 < length c.shares → c.first ≡ None
-      → IsCrew c
+      → IsSeatOf c.table c.run.table clock_at → TableHasPages c.run → c.shares ≡ [] ++ replicate n no_share → 0 < length c.shares → c.first ≡ None
+      → IsRunCrew c
   main_is_crew c n run ready parked born rows seat pages shares room first =
       let P = IsOfCrew c.run (length c.shares) in
       record {

@@ -18,20 +18,20 @@ use Rattle.rgo_core.specs.Rule.Views.{Me, Rows, longer, number_of, view}
 use Rattle.rgo_core.specs.Rule.declared.accesses.Access.{Access}
 use Rattle.rgo_core_steps.specs.Seats.{mine}
 use Rattle.rgo_table_runs.proofs.Goroutine.Joining.{numbers_append}
-use Rattle.rgo_table_runs.specs.Goroutine.Goroutines.{AllStand, IsChild, IsOf, IsTidy, drawn_by, fresh, numbers, record_of, valid}
+use Rattle.rgo_table_runs.specs.Goroutine.Goroutines.{AreChildren, IsChild, IsOf, IsTidy, drawn_by, fresh, numbers, record_of, valid}
 use Rattle.rgo_table_runs.specs.Goroutine.Passing.{Adopts, AreBorn, Gathers, IsBorn}
-use Rattle.rgo_table_runs.specs.Goroutine.Turns.{HasTurned, IsOver, Stops}
-use Rattle.rgo_table_runs.specs.Goroutine.declared.turning.Stop.TheVariants.{Ended}
+use Rattle.rgo_table_runs.specs.Goroutine.Turns.{HasTurned, IsOver, TurnStops}
+use Rattle.rgo_table_runs.specs.Goroutine.declared.turning.TableTurnEnd.TheVariants.{Ended}
 use Rattle.rgo_table_runs.specs.Goroutine.declared.goroutine.Child.{Child}
 use Rattle.rgo_table_runs.specs.Goroutine.declared.goroutine.Goroutine.{Goroutine}
 use Rattle.rgo_table_runs.specs.Goroutine.declared.turning.Turned.{Turned}
 use Rattle.rgo_sched.specs.Rounds.{EachTurned, RoundOf}
 use Rattle.rgo_table_runs.proofs.closing.Members.{kept_by_adopting, kept_by_gathering, kept_by_order, kept_by_turn}
-use Rattle.rgo_table_runs.specs.closing.Members.{AreSame, HasNumber, HasPlayed, HasPrinted, IsListed, IsOneOf, Member, NoneIsLost, WasGathered, WereAdopted}
+use Rattle.rgo_table_runs.specs.closing.Members.{AreSameMembers, SomeHasNumber, HasPlayed, HasPrinted, IsListed, IsOneOf, Member, NoneIsLost, WasGathered, WereAdopted}
 use Rattle.rgo_runtime.specs.Crews.{IsNewborn, IsOfCrew, Keeps, drawn, its_member, member_of, members, turning}
 use Rattle.rgo_runtime.specs.Passing.{HasLookedOnce, HasMet, HasTurnedOnce, IsPass, MayHaveTurned}
-use Rattle.rgo_runtime.specs.Turns.{TakesTurn, Turn}
-use Rattle.rgo_runtime.specs.declared.passes.Passed.{Passed}
+use Rattle.rgo_runtime.specs.Turns.{TurnIsTaken, Turn}
+use Rattle.rgo_runtime.specs.declared.deadlock.Passed.{Passed}
 use Rattle.rgo_runtime.proofs.Sweeps.{zip_keeps}
 
 -- ---- lists
@@ -119,7 +119,7 @@ pub keeps_then : (a b c : List Member) (t u v : List Drawn) → Keeps a t b u �
 keeps_then a b c t u v first second others given k = second others given (first others given k)
 
 -- the same members and prints in any order
-pub keeps_same : (a b : List Member) (t u : List Drawn) → AreSame a b t u → Keeps a t b u
+pub keeps_same : (a b : List Member) (t u : List Drawn) → AreSameMembers a b t u → Keeps a t b u
 keeps_same a b t u same others given k =
     kept_by_order (a ++ others) (b ++ others) (given ++ t) (given ++ u) k (record {
       there = λ m is. in_beside a b others m (same.there m) is;
@@ -215,48 +215,48 @@ module _ (r : Run) (old new : Goroutine) (slice : ℕ) (turned : Turned) (has : 
       let played = played_turn (same_number was.number is.number) in
       (played, keeps_played (member_of r.setup old) (member_of r.setup new) t played)
 
-pub played_task : (before after : Turn) (went : Bool) → TakesTurn before after went → HasPlayed (its_member before) (its_member after)
+pub played_task : (before after : Turn) (went : Bool) → TurnIsTaken before after went → HasPlayed (its_member before) (its_member after)
 played_task before after went takes =
     subst (λ (r : Run). HasPlayed (its_member before) (member_of r.setup after.goroutine)) (sym (ap (λ (x : Turn). x.run) takes.rest))
     (played_turn before.run before.goroutine after.goroutine before.slice takes.turned takes.has takes.number)
 
-pub keeps_task : (before after : Turn) (went : Bool) (t : List Drawn) → TakesTurn before after went
+pub keeps_task : (before after : Turn) (went : Bool) (t : List Drawn) → TurnIsTaken before after went
     → Keeps (its_member before ∷ []) t (its_member after ∷ []) t
 keeps_task before after went t takes = keeps_played (its_member before) (its_member after) t (played_task before after went takes)
 
-pub keeps_tasks : (olds news : List Turn) (t : List Drawn) → AllZip (λ x y. (went : Bool) × TakesTurn x y went) olds news
+pub keeps_tasks : (olds news : List Turn) (t : List Drawn) → AllZip (λ x y. (went : Bool) × TurnIsTaken x y went) olds news
     → Keeps (turning olds) t (turning news) t
 keeps_tasks olds news t zip =
-    keeps_all (λ x y. (went : Bool) × TakesTurn x y went) its_member t (λ x y takes. keeps_task x y takes.0 t takes.1) olds news zip
+    keeps_all (λ x y. (went : Bool) × TurnIsTaken x y went) its_member t (λ x y takes. keeps_task x y takes.0 t takes.1) olds news zip
 
-pub keeps_round : (before after : List Turn) (went : Bool) (t : List Drawn) → RoundOf TakesTurn before after went
+pub keeps_round : (before after : List Turn) (went : Bool) (t : List Drawn) → RoundOf TurnIsTaken before after went
     → Keeps (turning before) t (turning after) t
-keeps_round before after went t round = keeps_tasks before after t (zip_turned TakesTurn before after round.answers round.turned)
+keeps_round before after went t round = keeps_tasks before after t (zip_turned TurnIsTaken before after round.answers round.turned)
 
 abbrev said : Turned → Option Turned → Turned
 said other None = other
 said other (Some turned) = turned
 
 -- a goroutine whose turn says that it has ended is over
-ended_task : (r : Run) (before after : Turn) (went : Bool) → TakesTurn before after went → before.run ≡ r → (turned : Turned)
+ended_task : (r : Run) (before after : Turn) (went : Bool) → TurnIsTaken before after went → before.run ≡ r → (turned : Turned)
     → after.turned ≡ Some turned → turned.stop ≡ Ended → IsOver (record_of r.setup after.goroutine)
 ended_task r before after went takes is turned says stop =
     let same : takes.turned ≡ turned = ap (said takes.turned) (sym (ap (λ (x : Turn). x.turned) takes.rest) ∙ says) in
-    let stops : Stops before.run before.goroutine after.goroutine before.slice takes.turned.steps takes.turned.changed.count takes.has.es Ended
-    = subst (Stops before.run before.goroutine after.goroutine before.slice takes.turned.steps takes.turned.changed.count takes.has.es)
+    let stops : TurnStops before.run before.goroutine after.goroutine before.slice takes.turned.steps takes.turned.changed.count takes.has.es Ended
+    = subst (TurnStops before.run before.goroutine after.goroutine before.slice takes.turned.steps takes.turned.changed.count takes.has.es)
     (ap (λ (x : Turned). x.stop) same ∙ stop) takes.has.stops in
     subst (λ (x : Run). IsOver (record_of x.setup after.goroutine)) is stops.1
 
 -- all are of the run as before, and each number has its place
-pub crew_round : (r : Run) (n : ℕ) (before after : List Turn) (went : Bool) → RoundOf TakesTurn before after went → All (IsOfCrew r n) before
+pub crew_round : (r : Run) (n : ℕ) (before after : List Turn) (went : Bool) → RoundOf TurnIsTaken before after went → All (IsOfCrew r n) before
     → All (IsOfCrew r n) after
 crew_round r n before after went round all =
-    zip_keeps (λ x y. (b : Bool) × TakesTurn x y b) (IsOfCrew r n)
+    zip_keeps (λ x y. (b : Bool) × TurnIsTaken x y b) (IsOfCrew r n)
     (λ x y takes crew. record {
       run = ap (λ (z : Turn). z.run) takes.1.rest ∙ crew.run;
       place = subst (λ (k : ℕ). k < n) (sym takes.1.number) crew.place;
       ended = ended_task r x y takes.0 takes.1 crew.run;
-    }) before after (zip_turned TakesTurn before after round.answers round.turned) all
+    }) before after (zip_turned TurnIsTaken before after round.answers round.turned) all
 
 -- ---- meetings, looks and passes
 
@@ -416,7 +416,7 @@ module _ (r : Run) (old new : Goroutine) (list longer : List Print) (n : ℕ) (o
 -- ---- goroutines that were adopted
 
 born_number : (r : Run) (children : List Child) (gos : List Goroutine) → AreBorn r children gos → (h : ℕ) → In (numbers children) h
-    → HasNumber (members r.setup gos) h
+    → SomeHasNumber (members r.setup gos) h
 born_number r [] gos are h t = absurd (none_in h t)
 born_number r (c ∷ cs) [] are h t = absurd are
 born_number r (c ∷ cs) (g ∷ gos) are h t = ⊎_elim
@@ -440,7 +440,7 @@ is_newborn r child go is born =
       children = born.children;
     }
 
-all_newborn : (r : Run) (children : List Child) (gos : List Goroutine) → AllStand r children → AreBorn r children gos → All (IsNewborn r) gos
+all_newborn : (r : Run) (children : List Child) (gos : List Goroutine) → AreChildren r children → AreBorn r children gos → All (IsNewborn r) gos
 all_newborn r [] [] stand are = All-nil (IsNewborn r)
 all_newborn r [] (g ∷ gos) stand are = absurd are
 all_newborn r (c ∷ cs) [] stand are = absurd are

@@ -12,11 +12,11 @@ use Rattle.rgo_core.specs.Core.{Setup}
 use Rattle.rgo_core.specs.Records.{ClockRec, Drawn, Record, blank}
 use Rattle.rgo_core.specs.Rule.Views.{Has, Rows}
 use Rattle.rgo_core_steps.specs.Ends.{mark_of}
-use Rattle.rgo_core_steps.specs.Outcomes.{Closes, HasFamily}
+use Rattle.rgo_core_steps.specs.Outcomes.{ClosesTable, HasFamily}
 use Rattle.rgo_core_steps.specs.Seats.{mine, settled}
 use Rattle.rgo_core_steps.specs.declared.clock.Mark as clock
 use Rattle.rgo_core.specs.Rule.declared.accesses.View.{View}
-use Rattle.rgo_table_runs.specs.Goroutine.Goroutines.{AllStand, IsTidy, numbers, rows}
+use Rattle.rgo_table_runs.specs.Goroutine.Goroutines.{AreChildren, IsTidy, numbers, rows}
 use Rattle.rgo_table_runs.specs.Goroutine.declared.goroutine.Child.{Child}
 use Rattle.rgo_sound.specs.RegionMachine.Counts.{Counts}
 use Rattle.rgo_sound.specs.RegionMachine.States.{Mark}
@@ -26,7 +26,7 @@ use Rattle.rgo_sound.specs.Tally.{no_share}
 use Rattle.rgo_table_runs.proofs.closing.Members.{kept_by_order}
 use Rattle.rgo_table_runs.specs.closing.Ends.{IsFirst}
 use Rattle.rgo_table_runs.specs.closing.Gathering.{HasShares, IsIn}
-use Rattle.rgo_table_runs.specs.closing.Members.{AreSame, HasNumber, HasPrinted, IsListed, IsOneOf, Member, NoneIsLost, retired}
+use Rattle.rgo_table_runs.specs.closing.Members.{AreSameMembers, SomeHasNumber, HasPrinted, IsListed, IsOneOf, Member, NoneIsLost, retired}
 use Rattle.rgo_table_runs.specs.closing.Prints.{IsPrint}
 use Rattle.rgo_runtime.specs.Crews.{AreRetired, Keeps, KeepsMembers, NobodyIsLost, marked}
 
@@ -268,7 +268,7 @@ module _ (rs kids : Rows Record) (n : ℕ) (c : Record) (kids_are : AreNew kids)
       (slice_get_cases shares n).1
 
 -- the children of a goroutine
-pub children_new : (r : Run) (children : List Child) → AllStand r children → AreNew (rows r.setup children)
+pub children_new : (r : Run) (children : List Child) → AreChildren r children → AreNew (rows r.setup children)
 children_new r [] stand g d t = absurd (none_in (g, d) t)
 children_new r (child ∷ later) stand g d t = ⊎_elim
     (λ (e : (child.number, mine r.setup child.actor.seat.me) ≡ (g, d)).
@@ -297,7 +297,7 @@ one_retires m rs r is others given k =
 
 -- m becomes n and goes behind the old ones, and what it has started and is not adopted comes with it or stays so
 module _ (m n : Member) (old kids others : List Member) (taken : List Drawn) (number : n.number ≡ m.number) (its : n.its ≡ m.its)
-    (all : (h : ℕ) → IsListed m.unborn h → HasNumber kids h ⊎ IsListed n.unborn h) (new : (x : Member) → IsOneOf kids x → x.its.clock ≡ blank)
+    (all : (h : ℕ) → IsListed m.unborn h → SomeHasNumber kids h ⊎ IsListed n.unborn h) (new : (x : Member) → IsOneOf kids x → x.its.clock ≡ blank)
     (k : NobodyIsLost (m ∷ (old ++ others)) taken) where
   abbrev come : List Member
   come = (old ++ n ∷ kids) ++ others
@@ -315,26 +315,26 @@ module _ (m n : Member) (old kids others : List Member) (taken : List Drawn) (nu
       (λ (s : In others x). in_right (old ++ n ∷ kids) others x s)
       (in_either old others x t)
 
-  still_number : (h : ℕ) → HasNumber (m ∷ (old ++ others)) h → HasNumber come h
+  still_number : (h : ℕ) → SomeHasNumber (m ∷ (old ++ others)) h → SomeHasNumber come h
   still_number h (x, one, is) = ⊎_elim
       (λ (e : m ≡ x). (n, its_one, number ∙ ap (λ (y : Member). y.number) e ∙ is))
       (λ (t : IsOneOf (old ++ others) x). (x, still_one x t, is))
       (in_cons m (old ++ others) x one)
 
-  kid_number : (h : ℕ) → HasNumber kids h → HasNumber come h
+  kid_number : (h : ℕ) → SomeHasNumber kids h → SomeHasNumber come h
   kid_number h (x, one, is) = (x, left_one x (in_right old (n ∷ kids) x (in_rest n kids x one)), is)
 
-  of_others : (x : Member) (h : ℕ) → IsOneOf (old ++ others) x → IsListed x.its.clock.children h → HasNumber come h ⊎ IsListed x.unborn h
+  of_others : (x : Member) (h : ℕ) → IsOneOf (old ++ others) x → IsListed x.its.clock.children h → SomeHasNumber come h ⊎ IsListed x.unborn h
   of_others x h t at = ⊎_elim
-      (λ (q : HasNumber (m ∷ (old ++ others)) h). inl (still_number h q))
+      (λ (q : SomeHasNumber (m ∷ (old ++ others)) h). inl (still_number h q))
       (λ (q : IsListed x.unborn h). inr q)
       (k.children x h (in_rest m (old ++ others) x t) at)
 
-  of_itself : (h : ℕ) → IsListed n.its.clock.children h → HasNumber come h ⊎ IsListed n.unborn h
+  of_itself : (h : ℕ) → IsListed n.its.clock.children h → SomeHasNumber come h ⊎ IsListed n.unborn h
   of_itself h at = ⊎_elim
-      (λ (q : HasNumber (m ∷ (old ++ others)) h). inl (still_number h q))
+      (λ (q : SomeHasNumber (m ∷ (old ++ others)) h). inl (still_number h q))
       (λ (q : IsListed m.unborn h). ⊎_elim
-      (λ (c : HasNumber kids h). inl (kid_number h c))
+      (λ (c : SomeHasNumber kids h). inl (kid_number h c))
       (λ (u : IsListed n.unborn h). inr u)
       (all h q))
       (k.children m h (0, refl) (subst (λ (c : Record). IsListed c.clock.children h) its at))
@@ -342,12 +342,12 @@ module _ (m n : Member) (old kids others : List Member) (taken : List Drawn) (nu
   of_kids : (x : Member) (h : ℕ) → IsOneOf kids x → IsListed x.its.clock.children h → ⊥
   of_kids x h t at = let z : None ≡ Some h = subst (λ (y : ClockRec). slice_get y.children at.0 ≡ Some h) (new x t) at.1 in cc z
 
-  children_of : (x : Member) (h : ℕ) → IsOneOf come x → IsListed x.its.clock.children h → HasNumber come h ⊎ IsListed x.unborn h
+  children_of : (x : Member) (h : ℕ) → IsOneOf come x → IsListed x.its.clock.children h → SomeHasNumber come h ⊎ IsListed x.unborn h
   children_of x h t at = ⊎_elim
       (λ (l : IsOneOf (old ++ n ∷ kids) x). ⊎_elim
       (λ (s : IsOneOf old x). of_others x h (in_left old others x s) at)
       (λ (s : IsOneOf (n ∷ kids) x). ⊎_elim
-      (λ (e : n ≡ x). subst (λ (y : Member). HasNumber come h ⊎ IsListed y.unborn h) e
+      (λ (e : n ≡ x). subst (λ (y : Member). SomeHasNumber come h ⊎ IsListed y.unborn h) e
       (of_itself h (subst (λ (y : Member). IsListed y.its.clock.children h) (sym e) at)))
       (λ (q : IsOneOf kids x). absurd (of_kids x h q at))
       (in_cons n kids x s))
@@ -368,7 +368,7 @@ module _ (m n : Member) (old kids others : List Member) (taken : List Drawn) (nu
   }
 
 -- each child has a row
-pub child_row : (T : Setup) (children : List Child) (h : ℕ) → In (numbers children) h → HasNumber (map retired (rows T children)) h
+pub child_row : (T : Setup) (children : List Child) (h : ℕ) → In (numbers children) h → SomeHasNumber (map retired (rows T children)) h
 child_row T [] h t = absurd (none_in h t)
 child_row T (child ∷ later) h t = ⊎_elim
     (λ (s : In (numbers later) h).
@@ -390,7 +390,7 @@ as_member [] g c t = absurd (none_in (g, c) t)
 as_member (r ∷ rs) g c (zero, e) = (0, ap (λ (x : ℕ × Record). some (retired x)) (some-injective r (g, c) e))
 as_member (r ∷ rs) g c (suc i, e) = in_rest (retired r) (map retired rs) (retired (g, c)) (as_member rs g c (i, e))
 
-pub given_up : (r : Run) (m : Member) (children : List Child) (rs : Rows Record) → m.unborn ≡ numbers children → AllStand r children
+pub given_up : (r : Run) (m : Member) (children : List Child) (rs : Rows Record) → m.unborn ≡ numbers children → AreChildren r children
     → KeepsMembers (m ∷ map retired rs) (map retired (rs ++ (m.number, m.its) ∷ rows r.setup children))
 given_up r m children rs unborn stand others taken k =
     subst (λ (l : List Member). NobodyIsLost (l ++ others) taken) (sym (map-append retired rs ((m.number, m.its) ∷ rows r.setup children)))
@@ -406,17 +406,17 @@ pub nobody_lost : (ms : List Member) (taken : List Drawn) → NoneIsLost ms take
 nobody_lost ms taken k = record { main = k.main; children = k.children; are = k.are }
 
 -- the same members and prints, in whatever order
-pub nobody_by_order : (ms ns : List Member) (taken given : List Drawn) → NobodyIsLost ms taken → AreSame ms ns taken given → NobodyIsLost ns given
+pub nobody_by_order : (ms ns : List Member) (taken given : List Drawn) → NobodyIsLost ms taken → AreSameMembers ms ns taken given → NobodyIsLost ns given
 nobody_by_order ms ns taken given k s = record {
   main = (k.main.0, s.there k.main.0 k.main.1, k.main.2);
   children = λ m h one at. ⊎_elim
-      (λ (t : HasNumber ms h). inl (t.0, s.there t.0 t.1, t.2))
+      (λ (t : SomeHasNumber ms h). inl (t.0, s.there t.0 t.1, t.2))
       (λ (t : IsListed m.unborn h). inr t)
       (k.children m h (s.back m one) at);
   are = λ d t. let a = k.are d (s.before d t) in (a.0, a.1, s.there a.1 a.2, a.3);
 }
 
-row_numbered : (rs : Rows Record) (h : ℕ) → HasNumber (map retired rs) h → (c : Record) × Has rs h c
+row_numbered : (rs : Rows Record) (h : ℕ) → SomeHasNumber (map retired rs) h → (c : Record) × Has rs h c
 row_numbered rs h (m, one, is) =
     let r = row_of rs m one in
     (r.1, subst (λ (g : ℕ). Has rs g r.1) (sym (ap (λ (y : Member). y.number) r.3) ∙ is) r.2)
@@ -428,7 +428,7 @@ family_left v taken k = (
   record {
     main = row_numbered v.records 0 k.main;
     children = λ g h i c has at. ⊎_elim
-        (λ (q : HasNumber (map retired v.records) h). row_numbered v.records h q)
+        (λ (q : SomeHasNumber (map retired v.records) h). row_numbered v.records h q)
         (λ (q : IsListed [] h). let z : None ≡ Some h = q.1 in absurd (cc z))
         (k.children (retired (g, c)) h (as_member v.records g c has) (i, at));
   },
@@ -459,7 +459,7 @@ room_keeps rs shares n first k = record { tidy = k.tidy; is_first = k.is_first; 
         (k.its g c has)
 
 -- at the close each goroutine has one row
-pub has_shares : (T : Setup) (words : List ℕ) (v : View Record) (e : Closes T words v) (shares : List Counts) (first : Option Mark)
+pub has_shares : (T : Setup) (words : List ℕ) (v : View Record) (e : ClosesTable T words v) (shares : List Counts) (first : Option Mark)
     → AreRetired v.records shares first → HasShares v shares
 has_shares T words v e shares first k = record {
   its = λ g c has. ⊎_elim

@@ -17,7 +17,7 @@ pub mod Passing
 pub mod Playing
 pub mod RunExamples
 pub mod Running
-pub mod Stock
+pub mod Snapshots
 pub mod Summing
 pub mod Sweeps
 pub mod TaskExamples

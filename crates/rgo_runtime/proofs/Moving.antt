@@ -14,11 +14,11 @@ use Rattle.rgo_core.specs.Records.{Drawn, Record}
 use Rattle.rgo_core.specs.Rule.Views.{Has, Me, Rows}
 use Rattle.rgo_table_runs.specs.Goroutine.Goroutines.{record_of}
 use Rattle.rgo_table_runs.specs.Goroutine.Turns.{IsOver}
-use Rattle.rgo_table_runs.specs.Goroutine.declared.turning.Stop.TheVariants.{Ended}
+use Rattle.rgo_table_runs.specs.Goroutine.declared.turning.TableTurnEnd.TheVariants.{Ended}
 use Rattle.rgo_table_runs.specs.Goroutine.declared.turning.Turned.{Turned}
 use Rattle.rgo_table_runs.specs.Goroutine.declared.goroutine.Goroutine.{Goroutine}
 use Rattle.rgo_table_runs.specs.closing.Members.{Member, retired}
-use Rattle.rgo_runtime.specs.Crew.{Crew, IsCrew, KeepsAll, all_members}
+use Rattle.rgo_runtime.specs.Crew.{Crew, IsRunCrew, KeepsAll, all_members}
 use Rattle.rgo_runtime.specs.Crews.{AreRetired, IsNewborn, IsOfCrew, Keeps, drawn, its_member, marked, member_of, members, turning}
 use Rattle.rgo_runtime.specs.Parking.{TakesAll, elsewhere, values_at, values_of}
 use Rattle.rgo_runtime.specs.Turns.{Turn}
@@ -118,7 +118,7 @@ kept_then a b c first second =
     keeps_then (all_members a) (all_members b) (all_members c) (drawn a.waiting) (drawn b.waiting) (drawn c.waiting) first second
 
 module _ (c : Crew) (ready : List Turn) (parked : List (ℕ × Turn)) (same : IsPermutation (c.ready ++ values_of c.parked) (ready ++ values_of parked)) where
-  pub crew_turns : IsCrew c → IsCrew (record c { ready = ready; parked = parked })
+  pub crew_turns : IsRunCrew c → IsRunCrew (record c { ready = ready; parked = parked })
   crew_turns is =
       let P = IsOfCrew c.run (length c.shares) in
       let all = All-permutation P (c.ready ++ values_of c.parked) (ready ++ values_of parked) same
@@ -167,7 +167,7 @@ keeps_retired xs ys x b c r s t taken kept =
 
 -- who has retired is not ready: x, whose goroutine is go
 module _ (c : Crew) (ys : List Turn) (x : Turn) (table : TableId) (me : Me Record) (shares : List Counts) (first : Option Mark)
-    (taken : IsPermutation c.ready (x ∷ ys)) (is : IsCrew c) where
+    (taken : IsPermutation c.ready (x ∷ ys)) (is : IsRunCrew c) where
   abbrev its : All (IsOfCrew c.run (length c.shares)) (x ∷ ys)
   its = All-permutation (IsOfCrew c.run (length c.shares)) c.ready (x ∷ ys) taken is.ready
 
@@ -193,7 +193,7 @@ module _ (c : Crew) (ys : List Turn) (x : Turn) (table : TableId) (me : Me Recor
       → (AreRetired c.me.0.records c.shares (marked c.first) → AreRetired me.0.records shares (marked first))
       → (go : Goroutine) → go ≡ x.goroutine → MatchOption x.turned ⊥ (λ turned. turned.stop ≡ Ended)
       → me.0.records ≡ c.me.0.records ++ (go.number, record_of c.run.setup go) ∷ []
-      → IsCrew (record c { table = table; me = me; ready = ys; shares = shares; first = first })
+      → IsRunCrew (record c { table = table; me = me; ready = ys; shares = shares; first = first })
   crew_retired same places more go its_goroutine ended records = record {
     seat = subst (λ (id : TableId). IsSeatOf id c.run.table clock_at) (sym same) is.seat;
     pages = is.pages;
@@ -238,7 +238,7 @@ last_newborn r born left go last all =
 
 -- in another order
 module _ (c : Crew) (ready : List Turn) (born : List Goroutine) (stay : ready ≡ c.ready) (same : IsPermutation c.born born) where
-  pub crew_born : IsCrew c → IsCrew (record c { ready = ready; born = born })
+  pub crew_born : IsRunCrew c → IsRunCrew (record c { ready = ready; born = born })
   crew_born is = record {
     seat = is.seat;
     pages = is.pages;
@@ -265,14 +265,14 @@ module _ (c : Crew) (ready : List Turn) (born : List Goroutine) (stay : ready �
 module _ (c : Crew) (ready : List Turn) (left : List Goroutine) (go : Goroutine) (x : Turn) (shares : List Counts) (n : ℕ)
     (come : ready ≡ c.ready ++ x ∷ []) (last : c.born ≡ left ++ go ∷ [])
     (turns : x ≡ record { run = c.run; goroutine = go; slice = 0; turned = None })
-    (more : shares ≡ c.shares ++ replicate n no_share) (is : IsCrew c) where
+    (more : shares ≡ c.shares ++ replicate n no_share) (is : IsRunCrew c) where
   long : length c.shares ≤ length shares
   long = omega (arith, ap length more, length-append c.shares (replicate n no_share))
 
   wider : (t : Turn) → IsOfCrew c.run (length c.shares) t → IsOfCrew c.run (length shares) t
   wider t of = let p = of.place in let l = long in record { run = of.run; place = omega (arith, p, l); ended = of.ended }
 
-  pub crew_welcomed : go.number < length shares → IsCrew (record c { ready = ready; born = left; shares = shares })
+  pub crew_welcomed : go.number < length shares → IsRunCrew (record c { ready = ready; born = left; shares = shares })
   crew_welcomed place = record {
     seat = is.seat;
     pages = is.pages;

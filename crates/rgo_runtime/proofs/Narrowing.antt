@@ -2,19 +2,19 @@
 use Rattle.std.proofs.Common.{◌≡◌, ◌≤◌, ◌<◌, ◌*◌, ℕ, zero, suc, Bool, List, Option, refl, subst, arith}
 use Rattle.rgo_core.specs.Image.{table_sizes}
 use Rattle.rgo_core.specs.Memory.Words.{all_words}
-use Rattle.rgo_driver.specs.Runs.{RunsFreely}
-use Rattle.rgo_driver.specs.declared.ends.RunEnd.{RunEnd}
-use Rattle.rgo_driver.specs.declared.ends.RunEnd.TheVariants as run_end
+use Rattle.rgo_sound.specs.Machine.Ends.{RunsFreely}
+use Rattle.rgo_sound.specs.Machine.declared.ends.RunEnd.{RunEnd}
+use Rattle.rgo_sound.specs.Machine.declared.ends.RunEnd.TheVariants as run_end
 use Rattle.rgo_sound.specs.Code.Code.{Code}
 use Rattle.rgo_sound.specs.Code.Erasure.{erased}
 use Rattle.rgo_sound.specs.Machine.declared.limits.Limits.{Limits}
 use Rattle.rgo_sound.specs.Machine.declared.limits.Sizes.{Sizes}
-use Rattle.rgo_sound.specs.Machine.declared.turns.Shortage.{Shortage}
+use Rattle.rgo_sound.specs.Machine.declared.limits.Shortage.{Shortage}
 use Rattle.rgo_sound.specs.RegionMachine.Counts.{Counts}
-use Rattle.rgo_sound.specs.RegionMachine.Room.{FitsIn}
+use Rattle.rgo_sound.specs.RegionMachine.Room.{StateFitsIn}
 use Rattle.rgo_sound.specs.RegionMachine.States.{RegionState}
 use Rattle.rgo_sound.specs.Tac.Tac.{TacState, tac, tac_start}
-use Rattle.rgo_table_runs.specs.claims.RegionRuns.{CodeRuns, RegionRun}
+use Rattle.rgo_sound.specs.RegionRuns.{CodeRuns, RegionRun}
 use Rattle.rgo_runtime.specs.Runs.{FailsIf}
 use Rattle.rgo_runtime.specs.Sizing.{IsNarrower, SizingExamples, unless_short}
 
@@ -30,7 +30,7 @@ fits_still code few sizes most one narrow fits =
     let same : few.pages * few.page_words ≡ 1 * sizes.page_words = λ i. one i * narrow.page_words i in
     omega (arith, one, narrow.pages, narrow.regions, more, same, fits)
 
-fits_wider : (few sizes : Sizes) (s : RegionState) → IsNarrower few sizes → FitsIn few s → FitsIn sizes s
+fits_wider : (few sizes : Sizes) (s : RegionState) → IsNarrower few sizes → StateFitsIn few s → StateFitsIn sizes s
 fits_wider few sizes s narrow fits = record {
   pages = omega (arith, fits.pages, narrow.pages);
   regions = omega (arith, fits.regions, narrow.regions);

@@ -8,12 +8,12 @@ use Rattle.rgo_core.specs.Rule.Histories.{accesses_by}
 use Rattle.rgo_core.specs.Rule.Views.{number_of}
 use Rattle.rgo_core.specs.Rule.declared.accesses.Access.{Access}
 use Rattle.rgo_core_steps.specs.Seats.{mine}
-use Rattle.rgo_sound.specs.Machine.declared.turns.Shortage.TheVariants.{Pages, Regions}
+use Rattle.rgo_sound.specs.Machine.declared.limits.Shortage.TheVariants.{Pages, Regions}
 use Rattle.rgo_table_runs.specs.Goroutine.Acts.Runs.{Run}
 use Rattle.rgo_table_runs.specs.Goroutine.Goroutines.{record_of}
 use Rattle.rgo_table_runs.specs.Goroutine.declared.goroutine.Goroutine.{Goroutine}
-use Rattle.rgo_table_runs.specs.Goroutine.declared.turning.Stop.{Stop}
-use Rattle.rgo_table_runs.specs.Goroutine.declared.turning.Stop.TheVariants as stop
+use Rattle.rgo_table_runs.specs.Goroutine.declared.turning.TableTurnEnd.{TableTurnEnd}
+use Rattle.rgo_table_runs.specs.Goroutine.declared.turning.TableTurnEnd.TheVariants as stop
 use Rattle.rgo_table_runs.specs.Goroutine.declared.turning.Turned.{Turned}
 use Rattle.rgo_table_runs.specs.passing.Laws.{Tells}
 use Rattle.rgo_table_runs.specs.passing.Turns.{IsKnown}
@@ -33,7 +33,7 @@ none_before_none [] since is = refl
 none_before_none (a ∷ before) since is = cc is
 
 -- why a turn was over tells one thing
-one_lack : (why : Stop) → Tells why None → Tells why (Some Pages) → ⊥
+one_lack : (why : TableTurnEnd) → Tells why None → Tells why (Some Pages) → ⊥
 one_lack stop.Went p q = p
 one_lack (stop.Blocked at) p q = cc q
 one_lack (stop.Lost at) p q = cc q
@@ -43,7 +43,7 @@ one_lack (stop.Short why) p q = cc p
 one_lack stop.NoMemory p q = p
 
 outrun : (turned : Turned) → turned.moved ≡ false → turned.stop ≡ stop.Lost 8 → IsStuck turned None
-outrun turned still lost = (still, subst (λ (s : Stop). Tells s None) (sym lost) refl)
+outrun turned still lost = (still, subst (λ (s : TableTurnEnd). Tells s None) (sym lost) refl)
 
 no_slots : Contains (None ∷ Some Pages ∷ []) (Some Regions) → ⊥
 no_slots (zero, within, is) = cc is
@@ -96,7 +96,7 @@ passing = record {
   not_still = λ r old new k one. let none = (k.1.turns.still k.2).0 in omega (arith, none, one);
   stuck = outrun;
   not_stuck = λ turned lack moved k. let still = k.0 in cc;
-  comes = λ turned ended lack k. subst (λ (s : Stop). Tells s lack) ended k.1;
+  comes = λ turned ended lack k. subst (λ (s : TableTurnEnd). Tells s lack) ended k.1;
   not_comes = λ turned still lost comes. comes None (outrun turned still lost);
   one = λ turned p q. one_lack turned.stop p.1 q.1;
   stays = λ r go. inl refl;

@@ -13,7 +13,7 @@ use Rattle.rgo_core.specs.Rule.declared.accesses.Access.{Access}
 use Rattle.rgo_core.specs.Rule.declared.accesses.Kind.TheVariants.{Load}
 use Rattle.rgo_table_runs.specs.Goroutine.Acts.Runs.{Run}
 use Rattle.rgo_table_runs.specs.Goroutine.Goroutines.{IsOf, IsTidy, record_of}
-use Rattle.rgo_table_runs.specs.Goroutine.Passing.{Looks}
+use Rattle.rgo_table_runs.specs.Goroutine.Passing.{LoadsClock}
 use Rattle.rgo_table_runs.specs.Goroutine.declared.goroutine.Goroutine.{Goroutine}
 use Rattle.rgo_table_runs.specs.passing.Turns.{IsKnown}
 use Rattle.rgo_table_runs.proofs.passing.Turning.{knows_by_look}
@@ -129,7 +129,7 @@ module _ (T : Setup) (a b c d : Goroutine) (before between after es : List Acces
 -- ---- a look between two meetings
 
 module _ (r : Run) (a b c d : Goroutine) (before between after : List Access) (ended : Bool) (first : Meets r.setup a b before between)
-    (looks : Looks r b c ended) (second : Meets r.setup c d between after) (behind : IsBehind before a) where
+    (looks : LoadsClock r b c ended) (second : Meets r.setup c d between after) (behind : IsBehind before a) where
   look_again : MeetsAgain r.setup a b c d before between after looks.es
   look_again = record { first = first; more = looks.grew.seen; second = second }
 

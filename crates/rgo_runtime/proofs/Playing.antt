@@ -18,8 +18,8 @@ use Rattle.rgo_runtime.specs.Crew.{Crew, HasPassedAll, KeepsAll, all_members}
 use Rattle.rgo_runtime.specs.Crews.{drawn}
 use Rattle.rgo_runtime.specs.Printing as printing
 use Rattle.rgo_runtime.specs.Printing.{AreFrom, GivesOut, GivesSome}
-use Rattle.rgo_runtime.specs.Runs.{EndsFor, GoesOn, NoneIsNext}
-use Rattle.rgo_runtime.specs.declared.passes.Passed.{Passed}
+use Rattle.rgo_runtime.specs.Runs.{EndsFor, CrewContinues, NoneIsNext}
+use Rattle.rgo_runtime.specs.declared.deadlock.Passed.{Passed}
 use Rattle.rgo_runtime.specs.declared.runs.Why.{Why}
 use Rattle.rgo_runtime.specs.declared.runs.Why.TheVariants.{Memory, Over, Steps, Stuck, Write}
 use Rattle.rgo_runtime.proofs.Keeps.{keeps_out}
@@ -74,7 +74,7 @@ module _ (before after : Crew) (was now : Option (List ℕ)) (rest : after ≡ r
   abbrev same : all_members before ≡ all_members after
   same = sym (ap all_members rest)
 
-  pub goes_out : GivesOut before.waiting before.next after.waiting after.next was now → GoesOn before was after now
+  pub goes_out : GivesOut before.waiting before.next after.waiting after.next was now → CrewContinues before was after now
   goes_out gives old given h =
       let many : length (given ++ drawn gives.given) ≡ length given + length gives.given =
       length-append given (drawn gives.given) ∙ ap (λ (n : ℕ). length given + n) (length-map gives.given drawn_by) in (
@@ -120,7 +120,7 @@ none_next (p ∷ ps) next none d (suc i, at) is =
 -- ---- one step after another
 
 -- nothing goes out
-pub goes_quietly : (before after : Crew) (out : Option (List ℕ)) → KeepsAll before after → after.next ≡ before.next → GoesOn before out after out
+pub goes_quietly : (before after : Crew) (out : Option (List ℕ)) → KeepsAll before after → after.next ≡ before.next → CrewContinues before out after out
 goes_quietly before after out kept next old given h = (
   given,
   record {
@@ -132,10 +132,10 @@ goes_quietly before after out kept next old given h = (
   },
 )
 
-pub goes_then : (a b c : Crew) (was mid now : Option (List ℕ)) → GoesOn a was b mid → GoesOn b mid c now → GoesOn a was c now
+pub goes_then : (a b c : Crew) (was mid now : Option (List ℕ)) → CrewContinues a was b mid → CrewContinues b mid c now → CrewContinues a was c now
 goes_then a b c was mid now first second old given h = let k = first old given h in second old k.0 k.1
 
-pub ends_then : (why : Why) (a b c : Crew) (was mid now : Option (List ℕ)) → GoesOn a was b mid → EndsFor why b mid c now → EndsFor why a was c now
+pub ends_then : (why : Why) (a b c : Crew) (was mid now : Option (List ℕ)) → CrewContinues a was b mid → EndsFor why b mid c now → EndsFor why a was c now
 ends_then Memory a b c was mid now first second = goes_then a b c was mid now first second
 ends_then Write a b c was mid now first second = λ old given h. let k = first old given h in second old k.0 k.1
 ends_then Over a b c was mid now first second = (goes_then a b c was mid now first second.0, second.1)
@@ -143,9 +143,9 @@ ends_then Steps a b c was mid now first second = (goes_then a b c was mid now fi
 ends_then (Stuck passed) a b c was mid now first second = (goes_then a b c was mid now first second.0, second.1)
 
 -- the same of what a step has come to: none, or why the run is over
-pub comes_then : (result : Option Why) (a b c : Crew) (was mid now : Option (List ℕ)) → GoesOn a was b mid
-    → MatchOption result (GoesOn b mid c now) (λ why. EndsFor why b mid c now)
-    → MatchOption result (GoesOn a was c now) (λ why. EndsFor why a was c now)
+pub comes_then : (result : Option Why) (a b c : Crew) (was mid now : Option (List ℕ)) → CrewContinues a was b mid
+    → MatchOption result (CrewContinues b mid c now) (λ why. EndsFor why b mid c now)
+    → MatchOption result (CrewContinues a was c now) (λ why. EndsFor why a was c now)
 comes_then None a b c was mid now first second = goes_then a b c was mid now first second
 comes_then (Some why) a b c was mid now first second = ends_then why a b c was mid now first second
 
@@ -159,7 +159,7 @@ still_none_next before after waiting next none d at is =
 -- all that were parked were woken, and had a pass
 module _ (a b c : Crew) (passed : Passed) (woken : b ≡ record a { ready = b.ready; parked = b.parked }) (kept : KeepsAll a b)
     (still_kept : KeepsAll b c) (has : HasPassedAll b c passed) where
-  pub passes : (out : Option (List ℕ)) → GoesOn a out c out
+  pub passes : (out : Option (List ℕ)) → CrewContinues a out c out
   passes out = goes_quietly a c out (kept_then a b c kept still_kept) (ap (λ x. x.next) has.rest ∙ ap (λ x. x.next) woken)
 
   pub is_stuck : NoneIsNext a → b.parked ≡ [] → a.born ≡ [] → (out : Option (List ℕ)) → EndsFor (Stuck passed) a out c out

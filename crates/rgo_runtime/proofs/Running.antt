@@ -11,12 +11,12 @@ use Rattle.rgo_core.specs.Core.{Setup}
 use Rattle.rgo_core.specs.Records.{Drawn, Record}
 use Rattle.rgo_core.specs.Rule.Views.{Rows}
 use Rattle.rgo_core_steps.specs.Ends.{mark_of}
-use Rattle.rgo_core_steps.specs.Outcomes.{Closes}
+use Rattle.rgo_core_steps.specs.Outcomes.{ClosesTable}
 use Rattle.rgo_core_steps.specs.declared.clock.Mark as clock
 use Rattle.rgo_core_steps.specs.declared.clock.Mark.TheVariants as given
 use Rattle.rgo_sound.specs.RegionMachine.declared.limits.Limit.TheVariants as limit
-use Rattle.rgo_driver.specs.declared.ends.RunEnd.{RunEnd}
-use Rattle.rgo_driver.specs.declared.ends.RunEnd.TheVariants as run_end
+use Rattle.rgo_sound.specs.Machine.declared.ends.RunEnd.{RunEnd}
+use Rattle.rgo_sound.specs.Machine.declared.ends.RunEnd.TheVariants as run_end
 use Rattle.rgo_table_runs.specs.Goroutine.Acts.Runs.{Run}
 use Rattle.rgo_table_runs.specs.Goroutine.Acts.declared.prints.Print.{Print}
 use Rattle.rgo_table_runs.specs.Goroutine.declared.goroutine.Goroutine.{Goroutine}
@@ -27,27 +27,27 @@ use Rattle.rgo_sound.specs.RegionMachine.Counts.{Counts}
 use Rattle.rgo_sound.specs.RegionMachine.States.{Mark, RegionState}
 use Rattle.rgo_table_runs.proofs.closing.Closed.{closed_claims}
 use Rattle.rgo_table_runs.proofs.closing.Members.{kept_by_order}
-use Rattle.rgo_table_runs.specs.claims.RegionRuns.{CodeRuns}
-use Rattle.rgo_table_runs.specs.closing.Ends.{Ends, GaveOut, end_of}
+use Rattle.rgo_sound.specs.RegionRuns.{CodeRuns}
+use Rattle.rgo_table_runs.specs.closing.Ends.{TableRunEnds, GaveOut, end_of}
 use Rattle.rgo_table_runs.specs.closing.Gathering.{numbered, sum_of}
 use Rattle.rgo_table_runs.specs.closing.Laws.{last_state}
-use Rattle.rgo_table_runs.specs.closing.Members.{AreSame, Member, NoneIsLost, retired}
+use Rattle.rgo_table_runs.specs.closing.Members.{AreSameMembers, Member, NoneIsLost, retired}
 use Rattle.rgo_table_runs.specs.closing.Prints.{AllGiven, bytes_of}
 use Rattle.rgo_table_runs.specs.closing.Rows.{all_shares}
-use Rattle.rgo_runtime.specs.Closing.{AreInOrder, ClosesWith, Tells}
-use Rattle.rgo_runtime.specs.Crew.{Crew, IsCrew, all_members}
+use Rattle.rgo_runtime.specs.Closing.{AreInOrder, ClosesWith, PassReports}
+use Rattle.rgo_runtime.specs.Crew.{Crew, IsRunCrew, all_members}
 use Rattle.rgo_runtime.specs.Crews.{AreRetired, IsOfCrew, NobodyIsLost, drawn, its_goroutine, marked, member_of, members, turning}
 use Rattle.rgo_runtime.specs.Leaving.{HaveAllLeft}
 use Rattle.rgo_runtime.specs.Parking.{values_of}
 use Rattle.rgo_runtime.specs.Runs.{EndsFor, FailsIf, HasGiven, HasGivenSome, NoneIsNext, end_by, is_spent, settled_end, unmarked_end}
-use Rattle.rgo_runtime.specs.Shares.{counts_in}
+use Rattle.rgo_sound.specs.RegionMachine.Tallies.{counts_in}
 use Rattle.rgo_runtime.specs.Turns.{Turn}
-use Rattle.rgo_runtime.specs.declared.passes.Passed.{Passed}
-use Rattle.rgo_runtime.specs.declared.passes.Passed.TheVariants.{Lacks, Moved, Still}
+use Rattle.rgo_runtime.specs.declared.deadlock.Passed.{Passed}
+use Rattle.rgo_runtime.specs.declared.deadlock.Passed.TheVariants.{Lacks, Moved, Still}
 use Rattle.rgo_runtime.specs.declared.retiring.Left.{Left}
 use Rattle.rgo_runtime.specs.declared.runs.Why.{Why}
 use Rattle.rgo_runtime.specs.declared.runs.Why.TheVariants.{Memory, Over, Steps, Stuck, Write}
-use Rattle.rgo_runtime.specs.declared.shares.Tally.{Tally}
+use Rattle.rgo_sound.specs.RegionMachine.declared.tallies.Tally.{Tally}
 use Rattle.rgo_runtime.proofs.Closing.{closes_anyway, closes_whole}
 use Rattle.rgo_runtime.proofs.Leaving.{In, in_either, in_left, in_right, nobody_by_order, nobody_lost, none_in}
 use Rattle.rgo_runtime.proofs.Telling.{in_map, in_order, map_in, pass_tells}
@@ -165,7 +165,7 @@ module _ (made : Counts) (most : ℕ) where
 
 -- a mark that was set tells the end
 by_mark : (code : Code) (sizes : Sizes) (limits : Limits) (steps : ℕ) (s : RegionState) (mark : Mark) (end : RunEnd) → end_of mark ≡ end
-    → Ends code sizes limits 0 steps s (Some mark) end
+    → TableRunEnds code sizes limits 0 steps s (Some mark) end
 by_mark code sizes limits steps s mark (run_end.Ended end) q = q
 by_mark code sizes limits steps s mark run_end.Deadlock q = q
 by_mark code sizes limits steps s mark run_end.CallsTooDeep q = q
@@ -192,7 +192,7 @@ gave_all rows given run_end.NoMemory old new all out = out
 
 -- ---- when all goroutines have left
 
-module _ (c : Crew) (left : Left) (k : IsCrew c) (gone : HaveAllLeft c left) where
+module _ (c : Crew) (left : Left) (k : IsRunCrew c) (gone : HaveAllLeft c left) where
   abbrev T : Setup
   T = c.run.setup
 
@@ -238,10 +238,10 @@ module _ (c : Crew) (left : Left) (k : IsCrew c) (gone : HaveAllLeft c left) whe
       (in_either (members T gone.gone) before m t)
 
   -- they are the members of the crew
-  same_ones : (taken : List Drawn) → AreSame (all_members c) (left_ones ++ []) taken taken
+  same_ones : (taken : List Drawn) → AreSameMembers (all_members c) (left_ones ++ []) taken taken
   same_ones taken =
-      subst (λ (l : List Member). AreSame (all_members c) l taken taken) (sym (append-nil left_ones))
-      (subst (λ (l : List Member). AreSame l left_ones taken taken) (sym all_are)
+      subst (λ (l : List Member). AreSameMembers (all_members c) l taken taken) (sym (append-nil left_ones))
+      (subst (λ (l : List Member). AreSameMembers l left_ones taken taken) (sym all_are)
       (record { there = there; back = back; still = λ d t. t; before = λ d t. t }))
 
   nobody : (taken : List Drawn) → NoneIsLost (all_members c) taken → NobodyIsLost (map retired left.seat.me.0.records) taken
@@ -262,7 +262,7 @@ module _ (c : Crew) (left : Left) (k : IsCrew c) (gone : HaveAllLeft c left) whe
       (kept_by_order (all_members c) (left_ones ++ []) (taken ++ []) (taken ++ []) come (same_ones (taken ++ [])))))
 
   -- and the table is closed
-  module _ (words : List ℕ) (e : Closes T words left.seat.me.0)
+  module _ (words : List ℕ) (e : ClosesTable T words left.seat.me.0)
       (counted : AreRetired left.seat.me.0.records left.shares (marked left.first)) (was now : Option (List ℕ)) where
     abbrev rows : Rows Record
     rows = numbered e.recs
@@ -271,7 +271,7 @@ module _ (c : Crew) (left : Left) (k : IsCrew c) (gone : HaveAllLeft c left) whe
     Has given = ClosesWith T words left.seat.me.0 e left.shares (marked left.first) given
 
     abbrev EndsAs : Option Mark → RunEnd → Type 0
-    EndsAs first end = Ends T.code T.sizes T.limits 0 (all_shares rows).steps (last_state e) first end
+    EndsAs first end = TableRunEnds T.code T.sizes T.limits 0 (all_shares rows).steps (last_state e) first end
 
     abbrev RunsAs : RunEnd → Type 0
     RunsAs end = CodeRuns T.code T.sizes T.limits end (sum_of left.shares) was now
@@ -322,7 +322,7 @@ module _ (c : Crew) (left : Left) (k : IsCrew c) (gone : HaveAllLeft c left) whe
           let total : made.steps ≡ (all_shares rows).steps = ap (λ (n : Counts). n.steps) (is ∙ has.sum) in
           (subst (λ n. T.limits.steps ≤ n) total (spent_is made T.limits.steps q).0, omega arith, omega arith)
 
-      stuck : (passed : Passed) (made : Counts) → Tells T words left.seat.me.0 e passed → EndsAs None (unmarked_end (Stuck passed) made T.limits.steps)
+      stuck : (passed : Passed) (made : Counts) → PassReports T words left.seat.me.0 e passed → EndsAs None (unmarked_end (Stuck passed) made T.limits.steps)
       stuck Still made t = t
       stuck (Lacks why) made t = t
       stuck Moved made t = tt
@@ -359,15 +359,15 @@ none_yet start was waiting next none = record {
 }
 
 -- K is what the table was made for, and S what its run was asked for.
-pub code_runs : (c : Crew) (left : Left) → IsCrew c → HaveAllLeft c left → (K S : Setup) → c.run.setup ≡ K → K ≡ S → (words : List ℕ)
-    → Closes K words left.seat.me.0 → AreRetired left.seat.me.0.records left.shares (marked left.first) → (was now : Option (List ℕ))
+pub code_runs : (c : Crew) (left : Left) → IsRunCrew c → HaveAllLeft c left → (K S : Setup) → c.run.setup ≡ K → K ≡ S → (words : List ℕ)
+    → ClosesTable K words left.seat.me.0 → AreRetired left.seat.me.0.records left.shares (marked left.first) → (was now : Option (List ℕ))
     → (why : Why) (start : Crew) → EndsFor why start was c now → start.waiting ≡ [] → start.next ≡ 0 → NoneIsLost (all_members start) []
     → (tally : Tally) → counts_in tally ≡ sum_of left.shares → (end : RunEnd)
     → end ≡ end_by why left.is_whole left.first (counts_in tally) S.limits.steps
     → CodeRuns S.code S.sizes S.limits end (counts_in tally) was now
 code_runs c left k gone K S of_table asked words e counted was now why start f waiting next none tally total end is =
-    let at_close : Closes c.run.setup words left.seat.me.0 =
-    subst (λ (T : Setup). Closes T words left.seat.me.0) (sym of_table) e in
+    let at_close : ClosesTable c.run.setup words left.seat.me.0 =
+    subst (λ (T : Setup). ClosesTable T words left.seat.me.0) (sym of_table) e in
     let ended = ended_so c left k gone words at_close counted was now why start f (none_yet start was waiting next none) (counts_in tally) total in
     subst (λ (x : RunEnd). CodeRuns S.code S.sizes S.limits x (counts_in tally) was now) (sym is)
     (subst

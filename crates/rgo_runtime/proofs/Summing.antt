@@ -1,7 +1,7 @@
 -- Lists of shares: one more place, and their sums.
 use Rattle.std.proofs.Common.{◌≡◌, ◌+◌, ◌*◌, ◌<◌, ◌≤◌, ℕ, List, [], ◌∷◌, ◌++◌, append_assoc, drop, get_or, length, replicate, ap, sym, ◌∙◌}
 use Rattle.std.proofs.lemmas.List.{at_drop_all, at_drop_more, replicate_more}
-use Rattle.rgo_core.proofs.Counting.{plus_assoc, plus_none}
+use Rattle.rgo_core.proofs.goroutines.Counting.{plus_assoc, plus_none}
 use Rattle.rgo_sound.specs.RegionMachine.Counts.{Counts}
 use Rattle.rgo_sound.specs.Tally.{counts_plus}
 use Rattle.rgo_table_runs.specs.closing.Gathering.{sum_of}

@@ -12,27 +12,27 @@ use Rattle.rgo_core.specs.Records.{Record}
 use Rattle.rgo_core.specs.Rule.Views.{Has, number_of}
 use Rattle.rgo_core.specs.Rule.declared.accesses.Access.{Access}
 use Rattle.rgo_core.specs.Rule.declared.accesses.View.{View}
-use Rattle.rgo_core_steps.specs.Outcomes.{Closes}
+use Rattle.rgo_core_steps.specs.Outcomes.{ClosesTable}
 use Rattle.rgo_table_runs.specs.Goroutine.Acts.Runs.{Run}
 use Rattle.rgo_table_runs.specs.Goroutine.Goroutines.{IsOf, record_of}
 use Rattle.rgo_table_runs.specs.Goroutine.declared.goroutine.Goroutine.{Goroutine}
 use Rattle.rgo_sound.proofs.Tests.{eq_of}
-use Rattle.rgo_sound.specs.Machine.declared.turns.Shortage.{Shortage}
+use Rattle.rgo_sound.specs.Machine.declared.limits.Shortage.{Shortage}
 use Rattle.rgo_table_runs.proofs.closing.Closed.{has_row}
 use Rattle.rgo_table_runs.proofs.passing.Passed.{finds_deadlock, finds_shortage}
 use Rattle.rgo_table_runs.specs.closing.Gathering.{numbered}
 use Rattle.rgo_table_runs.specs.closing.Rows.{AreAll}
 use Rattle.rgo_table_runs.specs.passing.Passes.{AllPassed}
 use Rattle.rgo_table_runs.specs.passing.Turns.{HasPassed, Over}
-use Rattle.rgo_runtime.specs.Closing.{PassTells, Tells}
-use Rattle.rgo_runtime.specs.Crew.{Crew, HasPassedAll, IsCrew}
+use Rattle.rgo_runtime.specs.Closing.{PassTells, PassReports}
+use Rattle.rgo_runtime.specs.Crew.{Crew, HasPassedAll, IsRunCrew}
 use Rattle.rgo_runtime.specs.Crews.{its_goroutine}
 use Rattle.rgo_runtime.specs.Leaving.{HaveAllLeft, row_of}
 use Rattle.rgo_runtime.specs.Parking.{values_of}
 use Rattle.rgo_runtime.specs.Passing.{AllStoodStill, HasPassedWith, IsBehind, IsPass, PassComesTo}
 use Rattle.rgo_runtime.specs.Turns.{Turn}
-use Rattle.rgo_runtime.specs.declared.passes.Passed.{Passed}
-use Rattle.rgo_runtime.specs.declared.passes.Passed.TheVariants.{Lacks, Moved, Still}
+use Rattle.rgo_runtime.specs.declared.deadlock.Passed.{Passed}
+use Rattle.rgo_runtime.specs.declared.deadlock.Passed.TheVariants.{Lacks, Moved, Still}
 use Rattle.rgo_runtime.specs.declared.retiring.Left.{Left}
 use Rattle.rgo_runtime.proofs.Leaving.{In, in_cons, in_either, in_rest, in_right, none_in}
 
@@ -133,8 +133,8 @@ none_lack (go ∷ gos) (lack ∷ lacks) none g = by (none_lack gos lacks (λ x t
 
 -- ---- at the close
 
-module _ (before c : Crew) (passed : Passed) (left : Left) (words : List ℕ) (e : Closes c.run.setup words left.seat.me.0)
-    (h : HasPassedAll before c passed) (k : IsCrew c) (none_parked : c.parked ≡ []) (none_born : c.born ≡ []) (gone : HaveAllLeft c left)
+module _ (before c : Crew) (passed : Passed) (left : Left) (words : List ℕ) (e : ClosesTable c.run.setup words left.seat.me.0)
+    (h : HasPassedAll before c passed) (k : IsRunCrew c) (none_parked : c.parked ≡ []) (none_born : c.born ≡ []) (gone : HaveAllLeft c left)
     (whole : left.is_whole ≡ true) (all : AreAll left.seat.me.0 (numbered e.recs)) where
   abbrev T : Setup
   T = c.run.setup
@@ -225,7 +225,7 @@ module _ (before c : Crew) (passed : Passed) (left : Left) (words : List ℕ) (e
   same_list : (go : Goroutine) → In h.after go → In h.after go
   same_list go t = t
 
-  still : AllStoodStill c.run pass.before c.me.0.seen pass.looked h.after Still → Tells T words v e Still
+  still : AllStoodStill c.run pass.before c.me.0.seen pass.looked h.after Still → PassReports T words v e Still
   still s = finds_deadlock T words v e (numbered e.recs) pass.before (first_lack h.after s.lacks)
       (all_passed h.after s.lacks s.passes same_list same_list)
       (λ g d has. none_lack h.after s.lacks (λ l t. All-contains (λ lack. lack ≡ None) s.lacks l s.are (contains_of s.lacks l t)) g)
@@ -262,11 +262,11 @@ module _ (before c : Crew) (passed : Passed) (left : Left) (words : List ℕ) (e
     its_lack : first_lack gos lacks one.0.number ≡ Some why
     its_lack = ap (λ (b : Bool). if b then Some why else first_lack h.after s.lacks one.0.number) (same_number one.0.number)
 
-    lacks_it : Tells T words v e (Lacks why)
+    lacks_it : PassReports T words v e (Lacks why)
     lacks_it = finds_shortage T words v e (numbered e.recs) pass.before (first_lack gos lacks) (all_passed gos lacks zip of are)
         one.0.number (record_of T one.0) why its_row its_lack
 
-  tells : (p : Passed) → PassComesTo c.run pass.before c.me.0.seen pass.looked h.after p → Tells T words v e p
+  tells : (p : Passed) → PassComesTo c.run pass.before c.me.0.seen pass.looked h.after p → PassReports T words v e p
   tells Moved s = tt
   tells Still s = still s
   tells (Lacks why) s = lacks_it why s

@@ -8,7 +8,7 @@ use Rattle.rgo_core.specs.Records.{Record, accesses, steps_of}
 use Rattle.rgo_core.specs.Rule.Histories.{accesses_by}
 use Rattle.rgo_core.specs.Rule.Views.{number_of}
 use Rattle.rgo_core.specs.Rule.declared.accesses.Access.{Access}
-use Rattle.rgo_sound.specs.Machine.declared.turns.Shortage.{Shortage}
+use Rattle.rgo_sound.specs.Machine.declared.limits.Shortage.{Shortage}
 use Rattle.rgo_table_runs.specs.Goroutine.Acts.Runs.{Run}
 use Rattle.rgo_table_runs.specs.Goroutine.Goroutines.{IsTidy, record_of}
 use Rattle.rgo_table_runs.specs.Goroutine.Turns.{HasTurned}
@@ -16,9 +16,9 @@ use Rattle.rgo_table_runs.specs.Goroutine.declared.goroutine.Goroutine.{Goroutin
 use Rattle.rgo_table_runs.specs.Goroutine.declared.turning.Turned.{Turned}
 use Rattle.rgo_table_runs.specs.passing.Turns.{HasPassed, IsKnown}
 use Rattle.rgo_table_runs.proofs.passing.Turning.{passes_by_turn, stays_passed}
-use Rattle.rgo_runtime.specs.declared.passes.Passed.{Passed}
-use Rattle.rgo_runtime.specs.declared.passes.Passed.TheVariants.{Lacks, Moved, Still}
-use Rattle.rgo_runtime.specs.Passing.{AreLacks, ComesTo, HasComeTo, HasPassedBy, HasPassedWith, HasStoodStill, HasTurnedOnce, IsBehind, IsKnownBy, IsStuck, MayHaveTurned, OneMoved, PassComesTo, TurnsBetween, is_moved, joined_with, seen_by}
+use Rattle.rgo_runtime.specs.declared.deadlock.Passed.{Passed}
+use Rattle.rgo_runtime.specs.declared.deadlock.Passed.TheVariants.{Lacks, Moved, Still}
+use Rattle.rgo_runtime.specs.Passing.{AreLacks, TurnComesTo, TurnHasComeTo, HasPassedBy, HasPassedWith, HasStoodStill, HasTurnedOnce, IsBehind, IsKnownBy, IsStuck, MayHaveTurned, OneMoved, PassComesTo, TurnsBetween, is_moved, joined_with, seen_by}
 use Rattle.rgo_runtime.proofs.Passing.{Meets, MeetsAgain, after_is, first_seen, known_after, now_behind, then_seen}
 use Rattle.rgo_runtime.proofs.Sweeps.{zip_push, zip_weaker}
 
@@ -87,18 +87,18 @@ module _ (r : Run) (a b c d : Goroutine) (before between after : List Access) (t
       (subst (λ (x : Record). HasPassed r.setup start (seen_by c) (number_of b.actor.seat.me) x lack) (sym m.second.met.its)
       (passed_then start front lack is known stuck)))
 
-  turn_passed : (passed : Passed) → ComesTo turned passed → (start front : List Access) → before ≡ start ++ front → IsKnownBy r.setup start a
+  turn_passed : (passed : Passed) → TurnComesTo turned passed → (start front : List Access) → before ≡ start ++ front → IsKnownBy r.setup start a
       → HasPassedBy r.setup start after d passed
   turn_passed Moved comes start front is known = tt
   turn_passed Still comes start front is known = passed_with start front None is known comes
   turn_passed (Lacks why) comes start front is known = passed_with start front (Some why) is known comes
 
-  turn_comes : (passed : Passed) → ComesTo turned passed → HasComeTo r passed a d
+  turn_comes : (passed : Passed) → TurnComesTo turned passed → TurnHasComeTo r passed a d
   turn_comes Moved comes = inr (turned, turned_once, comes)
   turn_comes Still comes = (turned, turned_once, comes)
   turn_comes (Lacks why) comes = (turned, turned_once, comes)
 
-  pub turns_between : (passed : Passed) → ComesTo turned passed → TurnsBetween r before after a d passed
+  pub turns_between : (passed : Passed) → TurnComesTo turned passed → TurnsBetween r before after a d passed
   turns_between passed comes = record {
     come = turn_comes passed comes;
     es = m.turns.es;
@@ -130,20 +130,20 @@ unchanged r go = inl refl
 pub may_turn : (r : Run) (old new : Goroutine) → HasStoodStill r old new → MayHaveTurned r old new
 may_turn r old new k = inr (k.0, k.1)
 
-pub may_have : (r : Run) (passed : Passed) (old new : Goroutine) → HasComeTo r passed old new → MayHaveTurned r old new
+pub may_have : (r : Run) (passed : Passed) (old new : Goroutine) → TurnHasComeTo r passed old new → MayHaveTurned r old new
 may_have r Moved old new (inl none) = inl none.same
 may_have r Moved old new (inr k) = inr (k.0, k.1)
 may_have r Still old new k = inr (k.0, k.1)
 may_have r (Lacks why) old new k = inr (k.0, k.1)
 
-pub still_by : (r : Run) (passed : Passed) (old new : Goroutine) → is_moved passed ≡ false → HasComeTo r passed old new → HasStoodStill r old new
+pub still_by : (r : Run) (passed : Passed) (old new : Goroutine) → is_moved passed ≡ false → TurnHasComeTo r passed old new → HasStoodStill r old new
 still_by r Moved old new e k = absurd (cc e)
 still_by r Still old new e k = (k.0, k.1, k.2.0)
 still_by r (Lacks why) old new e k = (k.0, k.1, k.2.0)
 
 -- a goroutine whose turn moved is one of them
 pub one_moved : (r : Run) (olds gos : List Goroutine) (i : ℕ) (old new : Goroutine) (passed : Passed) → is_moved passed ≡ true → i < length olds
-    → i < length gos → old ≡ get_or olds i old → HasComeTo r passed old new → OneMoved r olds (set gos i new)
+    → i < length gos → old ≡ get_or olds i old → TurnHasComeTo r passed old new → OneMoved r olds (set gos i new)
 one_moved r olds gos i old new Still e l k at come = absurd (cc e)
 one_moved r olds gos i old new (Lacks why) e l k at come = absurd (cc e)
 one_moved r olds gos i old new Moved e l k at come = record {

@@ -8,7 +8,7 @@ use Rattle.rgo_core.specs.Opening.{first_of, opening}
 use Rattle.rgo_core.specs.Records.{Drawn, Record, drawn_at}
 use Rattle.rgo_core.specs.Rule.Views.{view}
 use Rattle.rgo_core.specs.Rule.declared.accesses.View.{View}
-use Rattle.rgo_core_steps.specs.Outcomes.{Closes}
+use Rattle.rgo_core_steps.specs.Outcomes.{ClosesTable}
 use Rattle.rgo_sound.specs.Code.Checked.{IsChecked}
 use Rattle.rgo_sound.specs.Code.Erasure.{erased}
 use Rattle.rgo_sound.specs.Code.NameRules.{Ascends}
@@ -22,13 +22,13 @@ use Rattle.rgo_table_runs.specs.closing.Ends.{IsFirst}
 use Rattle.rgo_table_runs.specs.closing.Gathering.{IsIn, numbered, sum_of}
 use Rattle.rgo_table_runs.specs.closing.Laws.{last_state}
 use Rattle.rgo_table_runs.specs.closing.Members.{NoneIsLost, retired}
-use Rattle.rgo_table_runs.specs.closing.Prints.{AllGiven, InOrder}
+use Rattle.rgo_table_runs.specs.closing.Prints.{AllGiven, TicketsInOrder}
 use Rattle.rgo_table_runs.specs.closing.Rows.{AreAll, all_shares}
-use Rattle.rgo_runtime.specs.Crew.{Crew, HasPassedAll, IsCrew}
+use Rattle.rgo_runtime.specs.Crew.{Crew, HasPassedAll, IsRunCrew}
 use Rattle.rgo_runtime.specs.Crews.{AreRetired, NobodyIsLost}
 use Rattle.rgo_runtime.specs.Leaving.{HaveAllLeft}
-use Rattle.rgo_runtime.specs.declared.passes.Passed.{Passed}
-use Rattle.rgo_runtime.specs.declared.passes.Passed.TheVariants.{Lacks, Moved, Still}
+use Rattle.rgo_runtime.specs.declared.deadlock.Passed.{Passed}
+use Rattle.rgo_runtime.specs.declared.deadlock.Passed.TheVariants.{Lacks, Moved, Still}
 use Rattle.rgo_runtime.specs.declared.retiring.Left.{Left}
 
 -- ---- rows, prints and shares
@@ -44,39 +44,39 @@ pub record AreInTurn (given waiting : List Drawn) : Type 0 where
 
 -- The rows of a closed table, the prints that have gone out, the sum of the shares, and how the run was ended: they are of all goroutines.
 -- Where memory was refused, there may be prints that have not gone out.
-pub record ClosesWith (T : Setup) (words : List ℕ) (v : View Record) (e : Closes T words v) (shares : List Counts) (first : Option Mark)
+pub record ClosesWith (T : Setup) (words : List ℕ) (v : View Record) (e : ClosesTable T words v) (shares : List Counts) (first : Option Mark)
     (given : List Drawn) : Type 0 where
   pub all : AreAll v (numbered e.recs)
-  pub order : InOrder (numbered e.recs) given
+  pub order : TicketsInOrder (numbered e.recs) given
   pub is_first : IsFirst (numbered e.recs) first
   pub sum : sum_of shares ≡ all_shares (numbered e.recs)
 
 -- Where nobody is lost, the seat of the driver has them.
 abbrev pub ClosesAnyway : Type 0
-ClosesAnyway = (T : Setup) (words : List ℕ) (v : View Record) (e : Closes T words v) (shares : List Counts) (first : Option Mark)
+ClosesAnyway = (T : Setup) (words : List ℕ) (v : View Record) (e : ClosesTable T words v) (shares : List Counts) (first : Option Mark)
     (given waiting : List Drawn) → NobodyIsLost (map retired v.records) (given ++ waiting) → AreInOrder given
     → AreRetired v.records shares first → ClosesWith T words v e shares first given
 
 -- Where no print is lost either, all prints have gone out.
 abbrev pub ClosesWhole : Type 0
-ClosesWhole = (T : Setup) (words : List ℕ) (v : View Record) (e : Closes T words v) (shares : List Counts) (first : Option Mark)
+ClosesWhole = (T : Setup) (words : List ℕ) (v : View Record) (e : ClosesTable T words v) (shares : List Counts) (first : Option Mark)
     (given waiting : List Drawn) → NoneIsLost (map retired v.records) (given ++ waiting) → AreInTurn given waiting
     → AreRetired v.records shares first → ClosesWith T words v e shares first given × AllGiven (numbered e.recs) given
 
--- ---- what a pass tells
+-- ---- what follows from a pass
 
--- how the run behind a closed table stands, by what the last pass of its goroutines has come to
-abbrev pub Tells : (T : Setup) (words : List ℕ) (v : View Record) → Closes T words v → Passed → Type 0
-Tells T words v e Moved = ⊤
-Tells T words v e Still = IsDeadlock (tac (erased T.code)) (last_state e).plain
-Tells T words v e (Lacks why) = LacksIn T.code T.sizes why (last_state e)
+-- how the run of a closed table has ended, by what the last pass of its goroutines has come to
+abbrev pub PassReports : (T : Setup) (words : List ℕ) (v : View Record) → ClosesTable T words v → Passed → Type 0
+PassReports T words v e Moved = ⊤
+PassReports T words v e Still = IsDeadlock (tac (erased T.code)) (last_state e).plain
+PassReports T words v e (Lacks why) = LacksIn T.code T.sizes why (last_state e)
 
 -- After a pass in which nothing moved all goroutines leave, the table is closed, and the run is in a deadlock, or lacks what one of them
 -- lacked.
 abbrev pub PassTells : Type 0
-PassTells = (before c : Crew) (passed : Passed) (left : Left) (words : List ℕ) (e : Closes c.run.setup words left.seat.me.0)
-    → HasPassedAll before c passed → IsCrew c → c.parked ≡ [] → c.born ≡ [] → HaveAllLeft c left → left.is_whole ≡ true
-    → AreAll left.seat.me.0 (numbered e.recs) → Tells c.run.setup words left.seat.me.0 e passed
+PassTells = (before c : Crew) (passed : Passed) (left : Left) (words : List ℕ) (e : ClosesTable c.run.setup words left.seat.me.0)
+    → HasPassedAll before c passed → IsRunCrew c → c.parked ≡ [] → c.born ≡ [] → HaveAllLeft c left → left.is_whole ≡ true
+    → AreAll left.seat.me.0 (numbered e.recs) → PassReports c.run.setup words left.seat.me.0 e passed
 
 -- ---- examples
 
@@ -87,8 +87,8 @@ pub record ClosingExamples : Type 0 where
   pub out_of_turn : AreInTurn (drawn_at 1 (9 ∷ []) ∷ []) [] → ⊥
   -- a table that is closed as it was opened
   pub closed : (T : Setup) → IsChecked T.code → Ascends T.code → ConstantsFit T.code → most_goroutines T.limits ≤ 1000000
-      → (e : Closes T (opening T) (view ((0, first_of T.code) ∷ []) []))
+      → (e : ClosesTable T (opening T) (view ((0, first_of T.code) ∷ []) []))
       × ClosesWith T (opening T) (view ((0, first_of T.code) ∷ []) []) e ((first_of T.code).clock.share ∷ []) None []
   -- a print has gone out that nobody has printed
-  pub made_up : (T : Setup) (words : List ℕ) (e : Closes T words (view [] [])) (shares : List Counts) (d : Drawn)
+  pub made_up : (T : Setup) (words : List ℕ) (e : ClosesTable T words (view [] [])) (shares : List Counts) (d : Drawn)
       → ClosesWith T words (view [] []) e shares None (d ∷ []) → ⊥

@@ -10,7 +10,7 @@ use Rattle.rgo_core.specs.Rule.Views.{Has, Me}
 use Rattle.rgo_core_steps.specs.Seats.{IsSeatOf}
 use Rattle.rgo_core_steps.specs.declared.clock.Mark.{Mark}
 use Rattle.rgo_table_runs.specs.Goroutine.Goroutines.{IsOf}
-use Rattle.rgo_table_runs.specs.Goroutine.Instructions.{HasPages}
+use Rattle.rgo_table_runs.specs.Goroutine.Instructions.{TableHasPages}
 use Rattle.rgo_table_runs.specs.Goroutine.Turns.{IsOver}
 use Rattle.rgo_table_runs.specs.Goroutine.declared.goroutine.Goroutine.{Goroutine}
 use Rattle.rgo_sound.specs.RegionMachine.Counts.{Counts}
@@ -19,7 +19,7 @@ use Rattle.rgo_runtime.specs.Crews.{AreRetired, IsNewborn, IsOfCrew, Keeps, draw
 use Rattle.rgo_runtime.specs.Parking.{values_of}
 use Rattle.rgo_runtime.specs.Passing.{IsBehind, IsPass}
 use Rattle.rgo_runtime.specs.Turns.{Turn}
-use Rattle.rgo_runtime.specs.declared.passes.Passed.{Passed}
+use Rattle.rgo_runtime.specs.declared.deadlock.Passed.{Passed}
 
 pub record Crew : Type 0 where
   pub run : Run
@@ -38,9 +38,9 @@ pub record Crew : Type 0 where
   pub first : Option Mark
 
 -- all goroutines of the run are of it, and what is known of those that have retired is so
-pub record IsCrew (c : Crew) : Type 0 where
+pub record IsRunCrew (c : Crew) : Type 0 where
   pub seat : IsSeatOf c.table c.run.table clock_at
-  pub pages : HasPages c.run
+  pub pages : TableHasPages c.run
   pub ready : All (IsOfCrew c.run (length c.shares)) c.ready
   pub parked : All (IsOfCrew c.run (length c.shares)) (values_of c.parked)
   pub born : All (IsNewborn c.run) c.born
@@ -68,12 +68,12 @@ pub record HasPassedAll (old new : Crew) (passed : Passed) : Type 0 where
   pub rest : new ≡ record old { ready = new.ready; me = new.me }
 
 pub record WholeCrewExamples : Type 0 where
-  pub nobody : (c : Crew) → IsSeatOf c.table c.run.table clock_at → HasPages c.run → c.ready ≡ [] → c.parked ≡ [] → c.born ≡ []
-      → c.me.0.records ≡ [] → c.shares ≡ [] → c.first ≡ None → IsCrew c
+  pub nobody : (c : Crew) → IsSeatOf c.table c.run.table clock_at → TableHasPages c.run → c.ready ≡ [] → c.parked ≡ [] → c.born ≡ []
+      → c.me.0.records ≡ [] → c.shares ≡ [] → c.first ≡ None → IsRunCrew c
   -- one has no place for what it counts
-  pub no_place : (c : Crew) (t : Turn) → c.ready ≡ t ∷ [] → c.shares ≡ [] → IsCrew c → ⊥
+  pub no_place : (c : Crew) (t : Turn) → c.ready ≡ t ∷ [] → c.shares ≡ [] → IsRunCrew c → ⊥
   -- one has retired that has a frame
-  pub not_over : (c : Crew) (r : Record) → c.me.0.records ≡ (0, r) ∷ [] → (r.frame.frames ≡ [] → ⊥) → IsCrew c → ⊥
+  pub not_over : (c : Crew) (r : Record) → c.me.0.records ≡ (0, r) ∷ [] → (r.frame.frames ≡ [] → ⊥) → IsRunCrew c → ⊥
   -- one that was ready is lost
   pub lost : (c : Crew) (go : Goroutine) → NoneIsLost (member_of c.run.setup go ∷ []) (drawn c.waiting) → c.ready ≡ [] → c.parked ≡ []
       → c.born ≡ [] → c.me.0.records ≡ [] → (old : Crew) → all_members old ≡ member_of c.run.setup go ∷ [] → old.waiting ≡ c.waiting

@@ -13,7 +13,7 @@ use Rattle.rgo_core_steps.specs.declared.clock.Mark as clock
 use Rattle.rgo_table_runs.specs.Goroutine.Goroutines.{IsOf, IsTidy, drawn_by, fresh, numbers, record_of}
 use Rattle.rgo_table_runs.specs.Goroutine.Turns.{IsOver}
 use Rattle.rgo_table_runs.specs.Goroutine.declared.goroutine.Goroutine.{Goroutine}
-use Rattle.rgo_table_runs.specs.Goroutine.declared.turning.Stop.TheVariants.{Ended}
+use Rattle.rgo_table_runs.specs.Goroutine.declared.turning.TableTurnEnd.TheVariants.{Ended}
 use Rattle.rgo_table_runs.specs.Goroutine.declared.turning.Turned.{Turned}
 use Rattle.rgo_sound.specs.RegionMachine.Counts.{Counts}
 use Rattle.rgo_sound.specs.RegionMachine.States.{Mark}
@@ -21,8 +21,8 @@ use Rattle.rgo_sched.specs.Rounds.{RoundOf}
 use Rattle.rgo_sound.specs.Tally.{no_share}
 use Rattle.rgo_table_runs.specs.closing.Ends.{IsFirst}
 use Rattle.rgo_table_runs.specs.closing.Gathering.{IsIn}
-use Rattle.rgo_table_runs.specs.closing.Members.{HasNumber, HasPrinted, IsListed, IsOneOf, Member, NoneIsLost}
-use Rattle.rgo_runtime.specs.Turns.{TakesTurn, Turn}
+use Rattle.rgo_table_runs.specs.closing.Members.{SomeHasNumber, HasPrinted, IsListed, IsOneOf, Member, NoneIsLost}
+use Rattle.rgo_runtime.specs.Turns.{TurnIsTaken, Turn}
 
 -- ---- members
 
@@ -46,8 +46,8 @@ Keeps old before new after = (others : List Member) (given : List Drawn) → Non
 -- Nobody was lost, though prints may have been: `main` is one of the members, and so is each goroutine that one of them has started, unless
 -- it was not yet adopted; and what was taken are prints of theirs that are not void.
 pub record NobodyIsLost (ms : List Member) (taken : List Drawn) : Type 0 where
-  pub main : HasNumber ms 0
-  pub children : (m : Member) (h : ℕ) → IsOneOf ms m → IsListed m.its.clock.children h → HasNumber ms h ⊎ IsListed m.unborn h
+  pub main : SomeHasNumber ms 0
+  pub children : (m : Member) (h : ℕ) → IsOneOf ms m → IsListed m.its.clock.children h → SomeHasNumber ms h ⊎ IsListed m.unborn h
   pub are : (d : Drawn) → IsIn taken d → (d.is_void ≡ false) × (m : Member) × IsOneOf ms m × HasPrinted m.its d
 
 -- What a part of a driver has done with these members: whatever other members there are, and whatever prints were taken, nobody was lost
@@ -79,17 +79,17 @@ pub record IsOfCrew (r : Run) (n : ℕ) (t : Turn) : Type 0 where
   -- what its last turn says is so
   pub ended : (turned : Turned) → t.turned ≡ Some turned → turned.stop ≡ Ended → IsOver (record_of r.setup t.goroutine)
 
--- the same turn, which may execute up to so many instructions
+-- the same turn, which may execute up to `slice` instructions
 abbrev pub IsGiven : ℕ → (before after : Turn) → Type 0
 IsGiven slice before after = (after ≡ record before { slice = after.slice }) × (after.slice ≤ slice)
 
--- Each of these was given up to so many instructions, and then had one turn.
+-- Each of these was given a time slice of at most `slice` instructions, and then had one turn.
 pub record HaveTurned (slice : ℕ) (before : List Turn) : Type 0 where
   pub given : List Turn
   pub after : List Turn
   pub went : Bool
   pub gives : AllZip (IsGiven slice) before given
-  pub turned : RoundOf TakesTurn given after went
+  pub turned : RoundOf TurnIsTaken given after went
 
 -- one that was started, and has had no turn
 pub record IsNewborn (r : Run) (go : Goroutine) : Type 0 where

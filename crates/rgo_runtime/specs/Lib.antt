@@ -1,5 +1,3 @@
--- of the crates below, for those above
-pub use Rattle.rgo_table_runs.specs as TableRuns
 pub mod Boxes
 pub mod Closing
 pub mod Crew
@@ -9,6 +7,5 @@ pub mod Parking
 pub mod Passing
 pub mod Printing
 pub mod Runs
-pub mod Shares
 pub mod Sizing
 pub mod Turns

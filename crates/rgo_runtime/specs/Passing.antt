@@ -7,18 +7,18 @@ use Rattle.rgo_core.specs.Rule.Views.{Has, Me, number_of, view}
 use Rattle.rgo_core.specs.Rule.Histories.{access}
 use Rattle.rgo_core.specs.Rule.declared.accesses.Kind.TheVariants.{Load}
 use Rattle.rgo_core.specs.Rule.declared.accesses.Access.{Access}
-use Rattle.rgo_sound.specs.Machine.declared.turns.Shortage.{Shortage}
-use Rattle.rgo_sound.specs.Machine.declared.turns.Shortage.TheVariants.{Pages, Regions}
+use Rattle.rgo_sound.specs.Machine.declared.limits.Shortage.{Shortage}
+use Rattle.rgo_sound.specs.Machine.declared.limits.Shortage.TheVariants.{Pages, Regions}
 use Rattle.rgo_table_runs.specs.Goroutine.Acts.Runs.{Run}
 use Rattle.rgo_table_runs.specs.Goroutine.Goroutines.{IsTidy, record_of}
 use Rattle.rgo_table_runs.specs.Goroutine.Turns.{HasTurned}
 use Rattle.rgo_table_runs.specs.Goroutine.declared.goroutine.Goroutine.{Goroutine}
-use Rattle.rgo_table_runs.specs.Goroutine.declared.turning.Stop.TheVariants.{Ended, Lost}
+use Rattle.rgo_table_runs.specs.Goroutine.declared.turning.TableTurnEnd.TheVariants.{Ended, Lost}
 use Rattle.rgo_table_runs.specs.Goroutine.declared.turning.Turned.{Turned}
 use Rattle.rgo_table_runs.specs.passing.Laws.{Tells}
 use Rattle.rgo_table_runs.specs.passing.Turns.{HasPassed, IsKnown}
-use Rattle.rgo_runtime.specs.declared.passes.Passed.{Passed}
-use Rattle.rgo_runtime.specs.declared.passes.Passed.TheVariants.{Lacks, Moved, Still}
+use Rattle.rgo_runtime.specs.declared.deadlock.Passed.{Passed}
+use Rattle.rgo_runtime.specs.declared.deadlock.Passed.TheVariants.{Lacks, Moved, Still}
 
 -- ---- what has been seen
 
@@ -94,10 +94,10 @@ joined_with passed Still = passed
 joined_with passed (Lacks why) = Lacks why
 
 -- what a turn has come to
-abbrev pub ComesTo : Turned → Passed → Type 0
-ComesTo turned Moved = (lack : Option Shortage) → IsStuck turned lack → ⊥
-ComesTo turned Still = IsStuck turned None
-ComesTo turned (Lacks why) = IsStuck turned (Some why)
+abbrev pub TurnComesTo : Turned → Passed → Type 0
+TurnComesTo turned Moved = (lack : Option Shortage) → IsStuck turned lack → ⊥
+TurnComesTo turned Still = IsStuck turned None
+TurnComesTo turned (Lacks why) = IsStuck turned (Some why)
 
 -- It had no turn, since it has made too many instructions to count another.
 pub record HasNoTurn (r : Run) (old new : Goroutine) : Type 0 where
@@ -105,10 +105,10 @@ pub record HasNoTurn (r : Run) (old new : Goroutine) : Type 0 where
   pub many : 2 ^ 42 < steps_of (record_of r.setup old)
 
 -- Its turn has come to this. If it had no turn, that counts as moved.
-abbrev pub HasComeTo : Run → Passed → (old new : Goroutine) → Type 0
-HasComeTo r Moved old new = HasNoTurn r old new ⊎ ((turned : Turned) × HasTurnedOnce r old new turned × ComesTo turned Moved)
-HasComeTo r Still old new = (turned : Turned) × HasTurnedOnce r old new turned × ComesTo turned Still
-HasComeTo r (Lacks why) old new = (turned : Turned) × HasTurnedOnce r old new turned × ComesTo turned (Lacks why)
+abbrev pub TurnHasComeTo : Run → Passed → (old new : Goroutine) → Type 0
+TurnHasComeTo r Moved old new = HasNoTurn r old new ⊎ ((turned : Turned) × HasTurnedOnce r old new turned × TurnComesTo turned Moved)
+TurnHasComeTo r Still old new = (turned : Turned) × HasTurnedOnce r old new turned × TurnComesTo turned Still
+TurnHasComeTo r (Lacks why) old new = (turned : Turned) × HasTurnedOnce r old new turned × TurnComesTo turned (Lacks why)
 
 -- ---- passes
 
@@ -124,7 +124,7 @@ HasPassedBy T before seen go (Lacks why) = HasPassedWith T before seen go (Some 
 
 -- The goroutine has a turn between two meetings with its driver, which had seen `before` and has then seen `after`; or it has none.
 pub record TurnsBetween (r : Run) (before after : List Access) (old new : Goroutine) (passed : Passed) : Type 0 where
-  pub come : HasComeTo r passed old new
+  pub come : TurnHasComeTo r passed old new
   pub es : List Access
   pub seen : after ≡ before ++ es
   pub behind : IsBehind after new
@@ -152,7 +152,7 @@ pub record OneMoved (r : Run) (old new : List Goroutine) : Type 0 where
   pub is : Goroutine
   pub of_old : Contains old was
   pub of_new : Contains new is
-  pub moved : HasComeTo r Moved was is
+  pub moved : TurnHasComeTo r Moved was is
 
 -- what a pass has come to
 abbrev pub PassComesTo : Run → (before seen : List Access) → (old new : List Goroutine) → Passed → Type 0
@@ -205,16 +205,16 @@ pub record PassingExamples : Type 0 where
   -- it has moved
   pub not_stuck : (turned : Turned) (lack : Option Shortage) → turned.moved ≡ true → IsStuck turned lack → ⊥
   -- it has returned from its first function: it is to retire
-  pub comes : (turned : Turned) → turned.stop ≡ Ended → ComesTo turned Moved
-  pub not_comes : (turned : Turned) → turned.moved ≡ false → turned.stop ≡ Lost 8 → ComesTo turned Moved → ⊥
+  pub comes : (turned : Turned) → turned.stop ≡ Ended → TurnComesTo turned Moved
+  pub not_comes : (turned : Turned) → turned.moved ≡ false → turned.stop ≡ Lost 8 → TurnComesTo turned Moved → ⊥
   -- its turn cannot have come to two things
-  pub one : (turned : Turned) → ComesTo turned Still → ComesTo turned (Lacks Pages) → ⊥
+  pub one : (turned : Turned) → TurnComesTo turned Still → TurnComesTo turned (Lacks Pages) → ⊥
   pub stays : (r : Run) (go : Goroutine) → MayHaveTurned r go go
   -- its number has changed
   pub not_stays : (r : Run) (old new : Goroutine) → (new.number ≡ old.number → ⊥) → HasNoTurn r old new → ⊥
-  pub counts : (r : Run) (go : Goroutine) → 2 ^ 42 < steps_of (record_of r.setup go) → HasComeTo r Moved go go
+  pub counts : (r : Run) (go : Goroutine) → 2 ^ 42 < steps_of (record_of r.setup go) → TurnHasComeTo r Moved go go
   -- it had no turn
-  pub not_counts : (r : Run) (go : Goroutine) → HasComeTo r Still go go → ⊥
+  pub not_counts : (r : Run) (go : Goroutine) → TurnHasComeTo r Still go go → ⊥
   pub none_between : (r : Run) (seen : List Access) (go : Goroutine) → 2 ^ 42 < steps_of (record_of r.setup go) → IsBehind seen go
       → TurnsBetween r seen seen go go Moved
   -- its driver has seen less than before

@@ -6,12 +6,12 @@ use Rattle.rgo_core.specs.Records.{Drawn}
 use Rattle.rgo_core_steps.specs.Ends.{mark_of}
 use Rattle.rgo_core_steps.specs.declared.clock.Mark.{Mark}
 use Rattle.rgo_core_steps.specs.declared.clock.Mark.TheVariants as clock
-use Rattle.rgo_driver.specs.Runs.{AppendsSome}
+use Rattle.rgo_sound.specs.Machine.Ends.{AppendsSome}
 use Rattle.rgo_outside.specs.Causes.{Rose}
 use Rattle.rgo_sound.specs.RegionMachine.Counts.{Counts}
 use Rattle.rgo_sound.specs.Tally.{no_share}
-use Rattle.rgo_driver.specs.declared.ends.RunEnd.{RunEnd}
-use Rattle.rgo_driver.specs.declared.ends.RunEnd.TheVariants as run_end
+use Rattle.rgo_sound.specs.Machine.declared.ends.RunEnd.{RunEnd}
+use Rattle.rgo_sound.specs.Machine.declared.ends.RunEnd.TheVariants as run_end
 use Rattle.rgo_table_runs.specs.Goroutine.Acts.declared.prints.Print.{Print}
 use Rattle.rgo_sound.specs.Machine.declared.limits.Sizes.{Sizes}
 use Rattle.rgo_sound.specs.Machine.declared.picks.End.TheVariants.{Exit}
@@ -22,11 +22,11 @@ use Rattle.rgo_table_runs.specs.closing.Prints.{bytes_of}
 use Rattle.rgo_runtime.specs.Closing.{AreInOrder}
 use Rattle.rgo_runtime.specs.Crew.{Crew, HasPassedAll, all_members}
 use Rattle.rgo_runtime.specs.Crews.{drawn}
-use Rattle.rgo_runtime.specs.declared.passes.Passed.TheVariants.{Lacks, Moved, Still}
+use Rattle.rgo_runtime.specs.declared.deadlock.Passed.TheVariants.{Lacks, Moved, Still}
 use Rattle.rgo_runtime.specs.declared.runs.Why.{Why}
 use Rattle.rgo_runtime.specs.declared.runs.Why.TheVariants.{Memory, Over, Steps, Stuck, Write}
 
--- the sizes of a table for code with so many package variables
+-- the sizes of a table for code with this many package variables
 abbrev pub sizes_with : Sizes → ℕ → TableSizes
 sizes_with sizes variables = record {
   pages = sizes.pages;
@@ -50,8 +50,8 @@ pub record HasGivenSome (c : Crew) (given : List Drawn) (old now : Option (List 
   pub out : AppendsSome old now (bytes_of given)
 
 -- whatever had gone out before, all is well after it
-abbrev pub GoesOn : (before : Crew) (was : Option (List ℕ)) (after : Crew) (now : Option (List ℕ)) → Type 0
-GoesOn before was after now = (old : Option (List ℕ)) (given : List Drawn) → HasGiven before given old was
+abbrev pub CrewContinues : (before : Crew) (was : Option (List ℕ)) (after : Crew) (now : Option (List ℕ)) → Type 0
+CrewContinues before was after now = (old : Option (List ℕ)) (given : List Drawn) → HasGiven before given old was
     → (more : List Drawn) × HasGiven after more old now
 
 -- no print that waits could go out
@@ -59,21 +59,21 @@ abbrev pub NoneIsNext : Crew → Type 0
 NoneIsNext c = (d : Drawn) → IsIn (drawn c.waiting) d → d.ticket ≡ c.next → ⊥
 
 -- what the driver knows when it ends a run for this reason
-abbrev pub Knows : Crew → Why → Type 0
-Knows c Memory = ⊤
-Knows c Write = ⊤
-Knows c Over = NoneIsNext c
-Knows c Steps = NoneIsNext c
-Knows c (Stuck passed) = NoneIsNext c × (before : Crew) × HasPassedAll before c passed × (c.parked ≡ []) × (c.born ≡ [])
+abbrev pub DriverKnows : Crew → Why → Type 0
+DriverKnows c Memory = ⊤
+DriverKnows c Write = ⊤
+DriverKnows c Over = NoneIsNext c
+DriverKnows c Steps = NoneIsNext c
+DriverKnows c (Stuck passed) = NoneIsNext c × (before : Crew) × HasPassedAll before c passed × (c.parked ≡ []) × (c.born ≡ [])
 
 -- whatever had gone out before, the run has ended well for this reason
 abbrev pub EndsFor : Why → (before : Crew) (was : Option (List ℕ)) (after : Crew) (now : Option (List ℕ)) → Type 0
 EndsFor Write before was after now = (old : Option (List ℕ)) (given : List Drawn) → HasGiven before given old was
     → (more : List Drawn) × HasGivenSome after more old now
-EndsFor Memory before was after now = GoesOn before was after now
-EndsFor Over before was after now = GoesOn before was after now × Knows after Over
-EndsFor Steps before was after now = GoesOn before was after now × Knows after Steps
-EndsFor (Stuck passed) before was after now = GoesOn before was after now × Knows after (Stuck passed)
+EndsFor Memory before was after now = CrewContinues before was after now
+EndsFor Over before was after now = CrewContinues before was after now × DriverKnows after Over
+EndsFor Steps before was after now = CrewContinues before was after now × DriverKnows after Steps
+EndsFor (Stuck passed) before was after now = CrewContinues before was after now × DriverKnows after (Stuck passed)
 
 -- a write failed exactly if this is so, by the faults of the sink before and now, and nothing was written after it
 pub record FailsIf (is_so : Type 0) (before now : ℕ) (is_broken : Bool) : Type 0 where
@@ -112,7 +112,7 @@ end_by (Stuck passed) whole first made most = settled_end whole first (unmarked_
 
 -- ---- examples
 
--- one goroutine has executed so many instructions
+-- one goroutine has executed this many instructions
 abbrev pub alone : ℕ → Counts
 alone steps = record no_share { steps = steps; goroutines = 1 }
 
@@ -123,7 +123,7 @@ pub record RunExamples : Type 0 where
   -- the second print has gone out before the first
   pub out_of_order : (c : Crew) (d : Drawn) (old now : Option (List ℕ)) → d.ticket ≡ 1 → HasGiven c (d ∷ []) old now → ⊥
   pub some_out_of_order : (c : Crew) (d : Drawn) (old now : Option (List ℕ)) → d.ticket ≡ 1 → HasGivenSome c (d ∷ []) old now → ⊥
-  pub nothing_done : (c : Crew) (now : Option (List ℕ)) → GoesOn c now c now
+  pub nothing_done : (c : Crew) (now : Option (List ℕ)) → CrewContinues c now c now
   pub none_waits : (c : Crew) → c.waiting ≡ [] → NoneIsNext c
   -- the first that waits could go out
   pub one_waits : (c : Crew) (print : Print) → c.waiting ≡ print ∷ [] → print.ticket ≡ c.next → NoneIsNext c → ⊥

@@ -1,9 +1,9 @@
 -- Tables that are smaller than a run may have.
 use Rattle.std.specs.Prelude.{◌≡◌, ◌≤◌, ◌<◌}
-use Rattle.rgo_driver.specs.declared.ends.RunEnd.{RunEnd}
-use Rattle.rgo_driver.specs.declared.ends.RunEnd.TheVariants as run_end
+use Rattle.rgo_sound.specs.Machine.declared.ends.RunEnd.{RunEnd}
+use Rattle.rgo_sound.specs.Machine.declared.ends.RunEnd.TheVariants as run_end
 use Rattle.rgo_sound.specs.Machine.declared.limits.Sizes.{Sizes}
-use Rattle.rgo_sound.specs.Machine.declared.turns.Shortage.TheVariants as shortage
+use Rattle.rgo_sound.specs.Machine.declared.limits.Shortage.TheVariants as shortage
 
 -- no more pages, of the same size, and no more regions
 pub record IsNarrower (few sizes : Sizes) : Type 0 where

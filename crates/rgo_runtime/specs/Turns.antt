@@ -3,7 +3,7 @@ use Rattle.std.specs.Prelude.{◌≡◌, ◌+◌, ◌<◌, ℕ, Bool, Option, No
 use Rattle.rgo_core.specs.Records.{steps_of}
 use Rattle.rgo_table_runs.specs.Goroutine.Acts.Runs.{Run}
 use Rattle.rgo_table_runs.specs.Goroutine.Goroutines.{IsOf, IsTidy, record_of}
-use Rattle.rgo_table_runs.specs.Goroutine.Instructions.{HasPages}
+use Rattle.rgo_table_runs.specs.Goroutine.Instructions.{TableHasPages}
 use Rattle.rgo_table_runs.specs.Goroutine.Turns.{HasTurned}
 use Rattle.rgo_table_runs.specs.Goroutine.declared.goroutine.Goroutine.{Goroutine}
 use Rattle.rgo_table_runs.specs.Goroutine.declared.turning.Turned.{Turned}
@@ -24,11 +24,11 @@ first_turn r go = record { run = r; goroutine = go; slice = 0; turned = None }
 pub record CanTurn (t : Turn) : Type 0 where
   pub of : IsOf t.run t.goroutine
   pub tidy : IsTidy (record_of t.run.setup t.goroutine)
-  pub pages : HasPages t.run
+  pub pages : TableHasPages t.run
   pub few : steps_of (record_of t.run.setup t.goroutine) + t.slice < 8796093022208
 
 -- It has had its turn, and says whether anything may have moved. It has no other one before it is given instructions again.
-pub record TakesTurn (before after : Turn) (went : Bool) : Type 0 where
+pub record TurnIsTaken (before after : Turn) (went : Bool) : Type 0 where
   pub turned : Turned
   pub rest : after ≡ record before { goroutine = after.goroutine; slice = 0; turned = Some turned }
   pub has : HasTurned before.run before.goroutine after.goroutine before.slice turned
@@ -37,12 +37,12 @@ pub record TakesTurn (before after : Turn) (went : Bool) : Type 0 where
 
 pub record TurningExamples : Type 0 where
   pub has_turned : (before : Turn) (go : Goroutine) (turned : Turned) → HasTurned before.run before.goroutine go before.slice turned
-      → go.number ≡ before.goroutine.number → TakesTurn before (record before { goroutine = go; slice = 0; turned = Some turned }) turned.moved
+      → go.number ≡ before.goroutine.number → TurnIsTaken before (record before { goroutine = go; slice = 0; turned = Some turned }) turned.moved
   -- it does not say what it has done
-  pub silent : (before after : Turn) (went : Bool) → after.turned ≡ None → TakesTurn before after went → ⊥
+  pub silent : (before after : Turn) (went : Bool) → after.turned ≡ None → TurnIsTaken before after went → ⊥
   -- it has another number
-  pub renumbered : (before after : Turn) (went : Bool) → before.goroutine.number ≡ 1 → after.goroutine.number ≡ 2 → TakesTurn before after went → ⊥
+  pub renumbered : (before after : Turn) (went : Bool) → before.goroutine.number ≡ 1 → after.goroutine.number ≡ 2 → TurnIsTaken before after went → ⊥
   -- it may go on with the instructions that it was given
-  pub goes_on : (before after : Turn) (went : Bool) → after.slice ≡ 1 → TakesTurn before after went → ⊥
+  pub goes_on : (before after : Turn) (went : Bool) → after.slice ≡ 1 → TurnIsTaken before after went → ⊥
   -- its prints could not be numbered
   pub too_many : (t : Turn) → t.slice ≡ 8796093022208 → CanTurn t → ⊥

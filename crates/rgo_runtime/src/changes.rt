@@ -1,5 +1,10 @@
-//! The words that the turns of a round have changed: whoever waits there is worth waking. No clause speaks of them, and no result rests
-//! on them: a goroutine that nobody has woken has its turn in the next pass.
+//! The words that the turns of a round have changed: whoever is parked there is worth waking.
+//!
+//! Invariant: after `sort`, the list has each word as often as there are turns of the last round that have changed it, in ascending order.
+//! Only the driver's thread uses it, from `clear` after the turns of one round to `clear` after those of the next.
+//!
+//! No clause speaks of these words, and no result rests on them: a goroutine that nobody has woken has a turn in the next check for a
+//! deadlock. A word too few costs time, and never an answer.
 
 use rgo_table_runs::goroutine::turning::Turned;
 use std::alloc::{AllocError, Global};
@@ -37,7 +42,7 @@ impl Changes {
         Ok(())
     }
 
-    /// Those of all turns have been added.
+    /// Sorts the words. After those of all turns were added.
     pub fn sort(&mut self) {
         self.words.sort_unstable();
     }
@@ -46,13 +51,15 @@ impl Changes {
         self.words.as_slice()
     }
 
-    /// Whether another turn than this one has changed a word, if they are sorted.
+    /// Whether another turn than this one has changed a word. After `sort`.
     pub fn are_by_others(&self, turned: &Turned, at: usize) -> bool {
         let Ok(word) = u32::try_from(at) else {
+            // Cannot be: a goroutine waits at a word of the table, of which there are at most 2^32, or at none.
             return false;
         };
         match self.words.as_slice().binary_search(&word) {
             Ok(place) => {
+                // If this turn has changed the word, it is in the list once for it: another one beside it is of another turn.
                 !turned.changed.channels().contains(&word)
                     || self.has_at(place.wrapping_add(1), word)
                     || self.has_at(place.wrapping_sub(1), word)

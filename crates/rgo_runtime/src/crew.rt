@@ -1,7 +1,11 @@
-//! The goroutines of a run, as their driver keeps them.
+//! The goroutines of a run, as their driver keeps them: the run queue, those that are parked, and those that were just started.
 //!
-//! A goroutine is in one of four places: ready for a turn in the next round, parked at a word of the table, just born, or retired, where
-//! its record is at the driver's seat. It is never in none: each step below says so by its clause `kept`.
+//! Invariant: a goroutine is in one of four places: in the run queue (`ready`), parked at a word of the table (`parked`), just started
+//! (`born`), or retired, and then its record is at the driver's seat. It is never in none: each step below says so by its clause `kept`.
+//! Whoever is in the run queue or parked has a place in `shares`, and a goroutine retires only after all was taken from it.
+//!
+//! Only the driver's thread calls these functions, between rounds. Worker threads run inside `turn_all` alone, with one goroutine each,
+//! so what a function returns is true until the next round begins.
 ghost use Rattle.std.specs.Prelude.{◌≡◌, ◌≤◌, ◌<◌, ◌+◌, ◌∷◌, ◌++◌, [], ℕ, IfErr, IfOk, MatchOption, MatchResult, OnErr, OnOk, length, map, replicate, reverse, slice_index_or, true, vec_capacity};
 ghost use Rattle.rgo_runtime.specs.Crew as spec;
 ghost use Rattle.std.specs.List.{All, AllZip};
@@ -11,8 +15,8 @@ ghost use Rattle.rgo_core.specs.Memory.Words.{clock_at};
 ghost use Rattle.rgo_core.specs.Rule.Views.{view};
 ghost use Rattle.rgo_core_steps.specs.Seats.{IsSeatOf};
 ghost use Rattle.rgo_table_runs.specs.Goroutine.Goroutines.{IsOf};
-ghost use Rattle.rgo_table_runs.specs.Goroutine.Instructions.{HasPages};
-ghost use Rattle.rgo_table_runs.specs.Goroutine.declared.turning.Stop.TheVariants.{Ended};
+ghost use Rattle.rgo_table_runs.specs.Goroutine.Instructions.{TableHasPages};
+ghost use Rattle.rgo_table_runs.specs.Goroutine.declared.turning.TableTurnEnd.TheVariants.{Ended};
 ghost use Rattle.rgo_outside.specs.Causes.{HasCause};
 ghost use Rattle.rgo_outside.specs.Pieces.{AddsOnly};
 ghost use Rattle.rgo_runtime.specs.Boxes.{in_boxes};
@@ -21,19 +25,21 @@ ghost use Rattle.rgo_runtime.specs.Crews.{HaveTurned, IsGiven, IsOfCrew, MayTurn
 ghost use Rattle.rgo_runtime.specs.Leaving.{HaveAllLeft, turn_row};
 ghost use Rattle.rgo_runtime.specs.Printing.{GivesOut, GivesSome, IsPieceOf};
 ghost use Rattle.rgo_runtime.specs.Turns as turns;
-ghost use Rattle.rgo_runtime.specs.Turns.{TakesTurn};
-ghost use Rattle.rgo_runtime.specs.declared.crew.Next.TheVariants.{Retired};
+ghost use Rattle.rgo_runtime.specs.Turns.{TurnIsTaken};
+ghost use Rattle.rgo_runtime.specs.declared.crew.Status.TheVariants.{Retired};
 ghost use Rattle.rgo_sched.specs.Rounds.{RoundOf};
 ghost use Rattle.rgo_sound.specs.Tally.{no_share};
 ghost use Rattle.rgo_table_runs.specs.closing.Members.{NoneIsLost};
 
 use crate::changes::Changes;
-use crate::paces::is_first;
+use crate::deadlock::{Passed, check_uncounted};
 use crate::parking::Parked;
-use crate::passes::{Passed, pass_uncounted};
-use crate::printing::Outgoing;
-use crate::retiring::{Left, Stock, dismiss_born, dismiss_parked, dismiss_turns, note, retire};
+use crate::printing::PrintQueue;
+use crate::retiring::{
+    Left, Snapshot, retire, retire_newborns, retire_parked, retire_turns, save_counts,
+};
 use crate::shares::Shares;
+use crate::time_slices::is_early;
 use crate::turns::Turn;
 use rgo_core::table::RunSeat;
 use rgo_core_steps::clock::Mark;
@@ -41,15 +47,15 @@ use rgo_outside::{Gate, Sink, WriteFault};
 use rgo_sched::round;
 use rgo_table_runs::goroutine::acts::runs::Run;
 use rgo_table_runs::goroutine::goroutine::Goroutine;
-use rgo_table_runs::goroutine::turning::{Stop, Turned};
+use rgo_table_runs::goroutine::turning::{TableTurnEnd, Turned};
 use std::alloc::{AllocError, AllocFailed, Global};
 use std::marker::Model;
 use std::thread::Threads;
 
-/// Those that wait at a nil channel are parked here. No word has this address, so only a pass wakes them.
+/// Goroutines that wait at a nil channel are parked here. No word has this address, so only a check for a deadlock wakes them.
 const NOWHERE: usize = usize::MAX;
 
-/// The goroutines of a run, and the seat of their driver.
+/// The goroutines of a run, and the seat of their driver. `born` is empty between rounds, unless memory was refused.
 #[derive(Drop)]
 pub struct Crew<'r, 'c> {
     run: &'r Run<'r, 'c>,
@@ -58,7 +64,7 @@ pub struct Crew<'r, 'c> {
     ready: Vec<Turn<'r, 'c>>,
     parked: Parked<Turn<'r, 'c>>,
     born: Vec<Goroutine>,
-    outgoing: Outgoing,
+    prints: PrintQueue,
     shares: Shares,
     first: Option<Mark>,
 }
@@ -75,29 +81,29 @@ impl<'r, 'c> Model for Crew<'r, 'c> {
       ready = c.ready.items;
       parked = c.parked;
       born = c.born.items;
-      waiting = c.outgoing.waiting.items;
-      next = c.outgoing.next;
+      waiting = c.prints.waiting.items;
+      next = c.prints.next;
       shares = c.shares;
       first = c.first;
     } };
 
-    ghost invariant = { λ c. spec.IsCrew (record {
+    ghost invariant = { λ c. spec.IsRunCrew (record {
       run = c.run.now;
       table = c.seat.table_id;
       me = c.seat.me;
       ready = c.ready.items;
       parked = c.parked;
       born = c.born.items;
-      waiting = c.outgoing.waiting.items;
-      next = c.outgoing.next;
+      waiting = c.prints.waiting.items;
+      next = c.prints.next;
       shares = c.shares;
       first = c.first;
     }) };
 }
 
-/// What a round has come to. No clause speaks of it: it says what is worth doing next, and no result may rest on it.
+/// What a round has come to. No clause speaks of it: it decides what is worth doing next, and no result may rest on it.
 #[derive(Clone, Copy)]
-pub struct Came {
+pub struct RoundSummary {
     /// Whether anything may have changed.
     pub moved: bool,
     /// Whether each turn executed all that it was given, and none printed.
@@ -110,17 +116,18 @@ pub struct Came {
     pub lacks_memory: bool,
 }
 
-/// What becomes of a goroutine after its turn.
-enum Next {
+/// Where a goroutine is after its turn: in the run queue, parked at this address, or retired.
+enum Status {
     Ready,
     Parked(usize),
     Retired,
 }
 
 /// Whether a goroutine is parked whose turn has ended at a channel that was not ready: unless another turn of the round has changed that
-/// channel, which may have been after it had looked. In the first rounds it has one more turn if it has moved, so that all are there.
-fn is_parked(turned: &Turned, at: Option<usize>, changes: &Changes, number: u64) -> bool {
-    if turned.moved && is_first(number) {
+/// channel. That turn may have changed it after this goroutine had looked, and then nothing would wake it before the next check for a
+/// deadlock. In the first rounds it has one more turn if it has moved, so that small programs show their goroutines beside each other.
+fn should_park(turned: &Turned, at: Option<usize>, changes: &Changes, number: u64) -> bool {
+    if turned.moved && is_early(number) {
         return false;
     }
     match at {
@@ -129,36 +136,41 @@ fn is_parked(turned: &Turned, at: Option<usize>, changes: &Changes, number: u64)
     }
 }
 
-/// What becomes of a goroutine after its turn in the round of this number.
-fn next_of(turn: &Turn<'_, '_>, changes: &Changes, number: u64) -> Next
+/// Where a goroutine is after its turn in the round of this number. True once all turns of the round are over and `changes` is sorted.
+fn status_after(turn: &Turn<'_, '_>, changes: &Changes, number: u64) -> Status
     ensures taken { result ≡ Retired → (turn.now.goroutine.prints.items ≡ []) × (turn.now.goroutine.children.items ≡ []) }
     ensures ended { result ≡ Retired → MatchOption turn.now.turned ⊥ (λ turned. turned.stop ≡ Ended) }
 {
     let Some(turned) = turn.turned() else {
-        return Next::Ready;
+        // Cannot be: each of those that are asked for had a turn in this round.
+        return Status::Ready;
     };
     match turned.stop {
-        Stop::Ended if turn.goroutine().new_prints() == 0 && turn.goroutine().new_children() == 0 =>
-            { Next::Retired }
-        Stop::Blocked { at } if is_parked(turned, at, changes, number) => {
-            Next::Parked(at.unwrap_or(NOWHERE))
+        TableTurnEnd::Ended
+            if turn.goroutine().new_prints() == 0 && turn.goroutine().new_children() == 0 => {
+            Status::Retired
         }
-        Stop::Went
-        | Stop::Blocked { .. }
-        | Stop::Lost { .. }
-        | Stop::Ended
-        | Stop::Stopped(_)
-        | Stop::Short(_)
-        | Stop::NoMemory => Next::Ready,
+        TableTurnEnd::Blocked { at } if should_park(turned, at, changes, number) => {
+            Status::Parked(at.unwrap_or(NOWHERE))
+        }
+        // `Ended` with prints or children that were not taken cannot be here: `collect_all` has taken them.
+        TableTurnEnd::Went
+        | TableTurnEnd::Blocked { .. }
+        | TableTurnEnd::Lost { .. }
+        | TableTurnEnd::Ended
+        | TableTurnEnd::Stopped(_)
+        | TableTurnEnd::Short(_)
+        | TableTurnEnd::NoMemory => Status::Ready,
     }
 }
 
-/// The goroutines of these turns, the last first.
+/// Takes all goroutines out of the run queue for a check for a deadlock, the last first. The queue keeps its room, so that
+/// `refill_ready` needs no memory.
 ///
 /// # Errors
 ///
 /// On allocation failure. Then nothing has changed.
-fn take_out<'r, 'c>(
+fn drain_ready<'r, 'c>(
     alloc: Global,
     run: &'r Run<'r, 'c>,
     ready: &mut Vec<Turn<'r, 'c>>,
@@ -178,15 +190,15 @@ fn take_out<'r, 'c>(
     Ok(goroutines)
 }
 
-/// These goroutines come to a list without turns that has room for them, the last first.
-fn put_back<'r, 'c>(
+/// Puts the goroutines of `drain_ready` back into the run queue, which is empty and has room for them, the last first.
+fn refill_ready<'r, 'c>(
     alloc: Global,
     run: &'r Run<'r, 'c>,
     mut goroutines: Vec<Box<Goroutine>>,
     ready: &mut Vec<Turn<'r, 'c>>,
 )
     requires rest { All (MayTurn run.now) (in_boxes goroutines.items) }
-    requires pages { HasPages run.now }
+    requires pages { TableHasPages run.now }
     requires none { ready.old.items ≡ [] }
     requires room { length goroutines.items ≤ vec_capacity ready.old }
     ensures back { ready.new.items ≡ map (turns.first_turn run.now) (reverse (in_boxes goroutines.items)) }
@@ -196,12 +208,12 @@ fn put_back<'r, 'c>(
     }
 }
 
-/// A goroutine that was born, in a box. It has a place for its share.
+/// A goroutine that was started, in a box. It has a place for what it will count.
 ///
 /// # Errors
 ///
 /// On allocation failure. Then there is no new place, and the error returns the goroutine.
-fn admit(
+fn box_newborn(
     alloc: Global,
     goroutine: Goroutine,
     shares: &mut Shares,
@@ -223,12 +235,12 @@ fn admit(
     }
 }
 
-/// The goroutine of `main` in a box, at a new table. The record of `main` goes from the driver's seat to a seat of the goroutine.
+/// Starts `main` at a new table, before any round. The record of `main` goes from the driver's seat to a seat of the goroutine.
 ///
 /// # Errors
 ///
 /// On allocation failure. Then the driver's seat has it.
-fn boxed_main(
+fn spawn_main(
     alloc: Global,
     run: &Run<'_, '_>,
     seat: &mut RunSeat,
@@ -253,15 +265,15 @@ fn boxed_main(
 }
 
 impl<'r, 'c> Crew<'r, 'c> {
-    /// How many are ready.
+    /// The length of the run queue.
     pub fn ready(&self) -> usize
         ensures { result ≡ length self.now.ready }
     {
         self.ready.len()
     }
 
-    /// Each that is ready may execute up to this many instructions in its next turn.
-    fn set_slices(&mut self, slice: u32)
+    /// Gives each goroutine of the run queue a time slice: its next turn may execute up to this many instructions.
+    fn set_time_slices(&mut self, slice: u32)
         ensures kept { KeepsAll self.old self.new }
         ensures given { AllZip (IsGiven slice) self.old.ready self.new.ready }
         ensures run { self.new.run ≡ self.old.run }
@@ -272,7 +284,7 @@ impl<'r, 'c> Crew<'r, 'c> {
         }
     }
 
-    /// Each that is ready has a turn. Returns whether any may have moved.
+    /// Each goroutine of the run queue has a turn, on the caller's thread or on workers. Returns whether any may have moved.
     ///
     /// # Errors
     ///
@@ -286,7 +298,7 @@ impl<'r, 'c> Crew<'r, 'c> {
     ) -> Result<bool, AllocError>
         requires workers { (1 ≤ workers) × (workers ≤ 64) }
         ensures kept { KeepsAll self.old self.new }
-        ensures turned { IfOk result (λ went. RoundOf TakesTurn self.old.ready self.new.ready went) }
+        ensures turned { IfOk result (λ went. RoundOf TurnIsTaken self.old.ready self.new.ready went) }
         ensures same { OnErr result (self.new ≡ self.old) }
         ensures run { self.new.run ≡ self.old.run }
         ensures next { self.new.next ≡ self.old.next }
@@ -294,7 +306,7 @@ impl<'r, 'c> Crew<'r, 'c> {
         round(rt, &mut self.ready, workers, number, gate)
     }
 
-    /// What those that are ready have printed and started is taken from them.
+    /// Takes from the goroutines of the run queue what they have printed, and the goroutines that they have started. After their turns.
     ///
     /// # Errors
     ///
@@ -305,12 +317,12 @@ impl<'r, 'c> Crew<'r, 'c> {
         ensures next { self.new.next ≡ self.old.next }
     {
         for i in 0..self.ready.len() {
-            self.ready[i].collect(&mut self.outgoing.waiting, &mut self.born)?;
+            self.ready[i].collect(&mut self.prints.waiting, &mut self.born)?;
         }
         Ok(())
     }
 
-    /// The one at this place of those that are ready is parked. Without memory for that it stays ready.
+    /// Parks the goroutine at this place of the run queue. Without memory for that it stays ready, which costs time and nothing else.
     fn park(&mut self, place: usize, at: usize)
         requires { place < length self.old.ready }
         ensures kept { KeepsAll self.old self.new }
@@ -325,8 +337,8 @@ impl<'r, 'c> Crew<'r, 'c> {
         }
     }
 
-    /// The one at this place of those that are ready retires. It has ended, and has no prints that were not gathered, and no children that
-    /// were not adopted.
+    /// Retires the goroutine at this place of the run queue. It has ended, has no prints that were not gathered, and no children that were
+    /// not adopted.
     fn retire(&mut self, place: usize)
         requires place { place < length self.old.ready }
         requires empty { (t : turns.Turn) → t ≡ slice_index_or self.old.ready place t
@@ -349,9 +361,9 @@ impl<'r, 'c> Crew<'r, 'c> {
         );
     }
 
-    /// Of those that had a turn in this round, the first `turns` that are ready, those that wait are parked, and those that have ended
-    /// retire.
-    fn sort_out(&mut self, changes: &Changes, turns: usize, number: u64)
+    /// Parks those that wait, and retires those that have ended, of the first `turns` in the run queue, which had turns in this round. It
+    /// goes from the last to the first, since one that leaves is replaced by the last of the queue.
+    fn park_and_retire(&mut self, changes: &Changes, turns: usize, number: u64)
         ensures kept { KeepsAll self.old self.new }
         ensures run { self.new.run ≡ self.old.run }
         ensures next { self.new.next ≡ self.old.next }
@@ -359,20 +371,20 @@ impl<'r, 'c> Crew<'r, 'c> {
         let mut place = turns.min(self.ready.len());
         while place > 0 {
             place -= 1;
-            match next_of(&self.ready[place], changes, number) {
-                Next::Ready => {}
-                Next::Parked(at) => self.park(place, at),
-                Next::Retired => self.retire(place),
+            match status_after(&self.ready[place], changes, number) {
+                Status::Ready => {}
+                Status::Parked(at) => self.park(place, at),
+                Status::Retired => self.retire(place),
             }
         }
     }
 
-    /// Those that were born are ready, and have places for their shares.
+    /// Puts the goroutines that were started in this round into the run queue. They have places for what they count.
     ///
     /// # Errors
     ///
     /// On allocation failure. Then some of them are.
-    fn welcome(&mut self) -> Result<(), AllocError>
+    fn enqueue_newborns(&mut self) -> Result<(), AllocError>
         ensures none { OnOk result (self.new.born ≡ []) }
         ensures kept { KeepsAll self.old self.new }
         ensures run { self.new.run ≡ self.old.run }
@@ -381,7 +393,7 @@ impl<'r, 'c> Crew<'r, 'c> {
         self.ready.reserve(self.born.len())?;
         self.born.reverse();
         while let Some(goroutine) = self.born.pop() {
-            match admit(self.alloc, goroutine, &mut self.shares) {
+            match box_newborn(self.alloc, goroutine, &mut self.shares) {
                 Ok(boxed) => {
                     self.ready
                         .push_reserved(Turn::new(self.alloc, self.run, boxed));
@@ -395,7 +407,7 @@ impl<'r, 'c> Crew<'r, 'c> {
         Ok(())
     }
 
-    /// Those that are parked at this word are ready.
+    /// Wakes those that are parked at this word: they are in the run queue again.
     ///
     /// # Errors
     ///
@@ -408,7 +420,7 @@ impl<'r, 'c> Crew<'r, 'c> {
         self.parked.unpark(at, &mut self.ready)
     }
 
-    /// All that are parked are ready.
+    /// Wakes all that are parked. Before a check for a deadlock, and before an exact count of instructions.
     ///
     /// # Errors
     ///
@@ -422,40 +434,41 @@ impl<'r, 'c> Crew<'r, 'c> {
         self.parked.unpark_all(&mut self.ready)
     }
 
-    /// What the turns of those that are ready, of up to `slice` instructions, have come to, and which words they have changed. Their prints
-    /// have been collected.
+    /// What the turns of this round, of up to `slice` instructions, have come to, and which words they have changed. After the prints were
+    /// collected, and before anybody is woken or parked: then the run queue has exactly those that had turns.
     ///
     /// # Errors
     ///
     /// On allocation failure.
-    fn look_over(
+    fn summarize(
         &self,
         moved: bool,
         slice: u32,
         changes: &mut Changes,
-    ) -> Result<Came, AllocError> {
+    ) -> Result<RoundSummary, AllocError> {
         changes.clear();
-        let mut came = Came {
+        let mut summary = RoundSummary {
             moved,
-            all_used: self.outgoing.waiting.is_empty(),
+            all_used: self.prints.waiting.is_empty(),
             steps: 0,
             is_over: false,
             lacks_memory: false,
         };
         for turn in &self.ready {
             if let Some(turned) = turn.turned() {
-                came.all_used = came.all_used && turned.steps >= slice;
-                came.steps = came.steps.saturating_add(u64::from(turned.steps));
-                came.is_over = came.is_over || turn.goroutine().first().is_some();
-                came.lacks_memory = came.lacks_memory || turned.stop == Stop::NoMemory;
+                summary.all_used = summary.all_used && turned.steps >= slice;
+                summary.steps = summary.steps.saturating_add(u64::from(turned.steps));
+                summary.is_over = summary.is_over || turn.goroutine().first().is_some();
+                summary.lacks_memory = summary.lacks_memory
+                    || turned.stop == TableTurnEnd::NoMemory;
                 changes.add(turned)?;
             }
         }
         changes.sort();
-        Ok(came)
+        Ok(summary)
     }
 
-    /// Those that are parked at these words are ready.
+    /// Wakes those that are parked at these words.
     ///
     /// # Errors
     ///
@@ -471,14 +484,14 @@ impl<'r, 'c> Crew<'r, 'c> {
         Ok(())
     }
 
-    /// A round: each that is ready has a turn of up to `slice` instructions. What they have printed waits, what they have started is ready,
-    /// and so are those that wait at words that they have changed; those that have ended retire, and those that wait are parked. These words
-    /// are left in `changes`, whatever was there before, so that a list serves for all rounds.
+    /// A round: each goroutine of the run queue has a turn of up to `slice` instructions. What they have printed waits. Those that they have
+    /// started, and those that wait at words that they have changed, are in the run queue after it; those that have ended retire, and those
+    /// that wait are parked. The changed words are left in `changes`, whatever was there before, so that one list serves for all rounds.
     ///
     /// # Errors
     ///
     /// On allocation failure. Then some of this was not done.
-    pub fn play<H: Threads + Sync, G: Gate + Sync>(
+    pub fn run_round<H: Threads + Sync, G: Gate + Sync>(
         &mut self,
         rt: &H,
         workers: u32,
@@ -486,7 +499,7 @@ impl<'r, 'c> Crew<'r, 'c> {
         number: u64,
         gate: &G,
         changes: &mut Changes,
-    ) -> Result<Came, AllocError>
+    ) -> Result<RoundSummary, AllocError>
         requires workers { (1 ≤ workers) × (workers ≤ 64) }
         ensures kept { KeepsAll self.old self.new }
         ensures turned { OnOk result (HaveTurned slice self.old.ready) }
@@ -494,63 +507,65 @@ impl<'r, 'c> Crew<'r, 'c> {
         ensures run { self.new.run ≡ self.old.run }
         ensures next { self.new.next ≡ self.old.next }
     {
-        self.set_slices(slice);
+        self.set_time_slices(slice);
         let moved = self.turn_all(rt, workers, number, gate)?;
         self.collect_all()?;
-        let came = self.look_over(moved, slice, changes)?;
-        // Those that waited before this round are woken first, so that they are not parked again.
+        let summary = self.summarize(moved, slice, changes)?;
+        // Those that waited before this round are woken first, and come after the first `turns`, so that they are not parked again.
         let turns = self.ready.len();
         self.wake_each(changes.words())?;
-        self.sort_out(changes, turns, number);
-        self.welcome()?;
-        Ok(came)
+        self.park_and_retire(changes, turns, number);
+        self.enqueue_newborns()?;
+        Ok(summary)
     }
 
-    /// A pass over all that are ready, if none is parked and none was just born.
+    /// The check for a deadlock, over the run queue, in which all are that have not retired: none is parked and none was just started. What
+    /// it finds was true at one moment. It stays true if nothing moved, since then no goroutine can change anything any more.
     ///
     /// # Errors
     ///
     /// On allocation failure. Then nothing has changed.
-    pub fn pass(&mut self) -> Result<Passed, AllocError>
+    pub fn check_dead(&mut self) -> Result<Passed, AllocError>
         requires settled { (self.old.parked ≡ []) × (self.old.born ≡ []) }
         ensures kept { KeepsAll self.old self.new }
         ensures passed { IfOk result (HasPassedAll self.old self.new) }
         ensures same { OnErr result (self.new ≡ self.old) }
     {
-        let mut goroutines = take_out(self.alloc, self.run, &mut self.ready)?;
-        let passed = pass_uncounted(
+        let mut goroutines = drain_ready(self.alloc, self.run, &mut self.ready)?;
+        let passed = check_uncounted(
             self.alloc,
             self.run,
             goroutines.as_mut_slice(),
             &mut self.seat,
         );
-        put_back(self.alloc, self.run, goroutines, &mut self.ready);
+        refill_ready(self.alloc, self.run, goroutines, &mut self.ready);
         Ok(passed)
     }
 
-    /// What those that are ready and those that have retired have counted so far, and how one of them has ended the run.
+    /// What those in the run queue and those that have retired have counted so far, and how one of them has ended the run. Between rounds,
+    /// and if none is parked, these are all goroutines.
     ///
     /// # Errors
     ///
     /// On allocation failure.
-    pub fn stock(&self) -> Result<Stock, AllocError>
-        ensures { IfOk result (λ stock. AreRetired (self.now.me.0.records ++ map (turn_row self.now.run.setup) self.now.ready)
-            stock.shares (marked stock.first)) }
+    pub fn snapshot(&self) -> Result<Snapshot, AllocError>
+        ensures { IfOk result (λ snapshot. AreRetired (self.now.me.0.records ++ map (turn_row self.now.run.setup) self.now.ready)
+            snapshot.shares (marked snapshot.first)) }
     {
-        let mut stock = Stock {
+        let mut snapshot = Snapshot {
             shares: self.shares.copy(self.alloc)?,
             first: self.first,
         };
         for turn in &self.ready {
-            note(turn.goroutine(), &mut stock.shares, &mut stock.first);
+            save_counts(turn.goroutine(), &mut snapshot.shares, &mut snapshot.first);
         }
-        Ok(stock)
+        Ok(snapshot)
     }
 
-    /// All goroutines retire, or are given up.
-    pub fn finish(self) -> Left
+    /// Retires all goroutines, or gives them up. After the run is over.
+    pub fn retire_all(self) -> Left
         ensures left { HaveAllLeft self.entry result }
-        ensures crew { spec.IsCrew self.entry }
+        ensures crew { spec.IsRunCrew self.entry }
         ensures retired { AreRetired result.seat.me.0.records result.shares (marked result.first) }
     {
         let Crew {
@@ -560,7 +575,7 @@ impl<'r, 'c> Crew<'r, 'c> {
             ready,
             parked,
             born,
-            outgoing: _,
+            prints: _,
             shares,
             first,
         } = self;
@@ -570,18 +585,18 @@ impl<'r, 'c> Crew<'r, 'c> {
             first,
             is_whole: true,
         };
-        dismiss_turns(run, ready, &mut left);
-        dismiss_parked(run, parked, &mut left);
-        dismiss_born(run, born, &mut left);
+        retire_turns(run, ready, &mut left);
+        retire_parked(run, parked, &mut left);
+        retire_newborns(run, born, &mut left);
         left
     }
 
-    /// Writes the prints whose turn it is.
+    /// Writes the prints whose turn it is. Between rounds, so that no other thread writes.
     ///
     /// # Errors
     ///
     /// Where a write failed.
-    pub fn give_out<K: Sink>(&mut self, out: &mut K) -> Result<(), WriteFault>
+    pub fn flush_prints<K: Sink>(&mut self, out: &mut K) -> Result<(), WriteFault>
         ensures given { OnOk result (GivesOut self.old.waiting self.old.next self.new.waiting self.new.next
             (K.contents out.old) (K.contents out.new)) }
         ensures part { OnErr result (GivesSome self.old.waiting self.old.next (K.contents out.old) (K.contents out.new)) }
@@ -590,12 +605,12 @@ impl<'r, 'c> Crew<'r, 'c> {
         ensures pieces { AddsOnly (IsPieceOf self.old.waiting) (K.pieces out.old) (K.pieces out.new) }
         ensures rest { self.new ≡ record self.old { waiting = self.new.waiting; next = self.new.next } }
     {
-        self.outgoing.give_out(out)
+        self.prints.flush(out)
     }
 }
 
 impl<'r, 'c> Crew<'r, 'c> {
-    /// That of a run that begins: `main` alone, ready for its first turn.
+    /// The goroutines of a run that begins: `main` alone, in the run queue.
     ///
     /// # Errors
     ///
@@ -608,7 +623,7 @@ impl<'r, 'c> Crew<'r, 'c> {
         requires own { IsSeatOf seat.table_id run.now.table clock_at }
         requires first { seat.me ≡ (view ((0, first_of run.now.setup.code) ∷ []) [], []) }
         requires possible { IsPossible run.now.setup 0 (first_of run.now.setup.code) }
-        requires pages { HasPages run.now }
+        requires pages { TableHasPages run.now }
         ensures begun { IfOk result (λ c. (c.run ≡ run.now) × (c.waiting ≡ []) × (c.next ≡ 0) × NoneIsLost (all_members c) []) }
         ensures back { IfErr result (λ s. (s.table_id ≡ seat.table_id) × (s.me ≡ seat.me)) }
     {
@@ -622,7 +637,7 @@ impl<'r, 'c> Crew<'r, 'c> {
             Ok(()) => {}
             Err(_) => return Err(seat),
         }
-        match boxed_main(alloc, run, &mut seat) {
+        match spawn_main(alloc, run, &mut seat) {
             Ok(main) => {
                 ready.push_reserved(Turn::new(alloc, run, main));
                 Ok(Crew {
@@ -632,7 +647,7 @@ impl<'r, 'c> Crew<'r, 'c> {
                     ready,
                     parked: Parked::new(alloc),
                     born: Vec::new(alloc),
-                    outgoing: Outgoing::new(alloc),
+                    prints: PrintQueue::new(alloc),
                     shares,
                     first: None,
                 })
@@ -642,7 +657,7 @@ impl<'r, 'c> Crew<'r, 'c> {
     }
 }
 
-/// Crews, and such as are none.
+/// Examples of crews, and of values that are not.
 pub fn examples()
     ensures { WholeCrewExamples }
 {}

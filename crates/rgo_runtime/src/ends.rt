@@ -1,11 +1,10 @@
-//! How a run has ended, by the mark that a goroutine has set at its table.
+//! How a run has ended, by the mark that a goroutine has set at its table. The first mark that is set is the run's; later ones fail.
 ghost use Rattle.std.specs.Prelude.{◌≡◌};
 ghost use Rattle.rgo_core_steps.specs.Ends.{mark_of};
 ghost use Rattle.rgo_table_runs.specs.closing.Ends as spec;
 
 use rgo_core_steps::clock::Mark;
-use rgo_driver::RunEnd;
-use rgo_sound::machine::Shortage;
+use rgo_sound::machine::{RunEnd, Shortage};
 use rgo_sound::region_machine::Limit;
 
 fn end_of_limit(limit: Limit) -> RunEnd
@@ -21,7 +20,7 @@ fn end_of_limit(limit: Limit) -> RunEnd
     }
 }
 
-/// The end that a mark says.
+/// The end of a run whose mark this is.
 pub fn end_of(mark: Mark) -> RunEnd
     ensures { result ≡ spec.end_of (mark_of mark) }
 {

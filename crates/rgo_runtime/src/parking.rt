@@ -1,4 +1,10 @@
-//! Goroutines that are parked until a word of the table changes.
+//! Goroutines that are parked until a word of the table changes, by the address of the word (`semaroot` in Go's runtime).
+//!
+//! Invariant: `count` is how many values all groups have together. An address has one group, the oldest first; a group from which all were
+//! woken stays as an empty one, since its channel is likely to be waited at again.
+//!
+//! Only the driver's thread parks and wakes, between rounds, when no goroutine runs: no lock is needed, and a value that was parked is
+//! there until the next `unpark` of its address, whatever workers do.
 ghost use Rattle.std.specs.Prelude.{◌≡◌, ◌==◌, ◌++◌, ◌∷◌, [], ◌<◌, ◌≤◌, ◌-◌, IfErr, IfOk, IsPermutation, MatchOption, None, OnErr, OnOk, length, nat_eq, vec_capacity, vec_len};
 ghost use Rattle.indexmap.specs.IndexMap.{get};
 ghost use Rattle.rgo_runtime.specs.Parking.{ParkingExamples, TakesAll, elsewhere, pairs_of, values_at, values_of};
@@ -39,7 +45,7 @@ impl<T: Drop> Model for Parked<T> {
 }
 
 /// Begins a group at an address that has none.
-fn begin<T: Drop>(
+fn new_group<T: Drop>(
     alloc: Global,
     groups: &mut Groups<T>,
     at: usize,
@@ -59,12 +65,13 @@ fn begin<T: Drop>(
         Ok(()) => {}
         Err(failed) => return Err(failed),
     }
+    // There is room: it was reserved above.
     groups.insert(at, group).unwrap();
     Ok(())
 }
 
 /// Adds a value to the group of an address.
-fn join<T: Drop>(
+fn add_to_group<T: Drop>(
     alloc: Global,
     groups: &mut Groups<T>,
     at: usize,
@@ -79,7 +86,7 @@ fn join<T: Drop>(
             Ok(()) => Ok(()),
             Err(failed) => Err(failed),
         },
-        None => match begin(alloc, groups, at, value) {
+        None => match new_group(alloc, groups, at, value) {
             Ok(()) => Ok(()),
             Err(failed) => Err(failed),
         },
@@ -87,7 +94,7 @@ fn join<T: Drop>(
 }
 
 /// The list of a group that was woken keeps its memory for those that are parked there next, unless it is long or there are many groups.
-fn tidy_up<T: Drop>(alloc: Global, group: &mut Vec<T>, is_few: bool)
+fn trim_group<T: Drop>(alloc: Global, group: &mut Vec<T>, is_few: bool)
     requires { group.old.items ≡ [] }
     ensures { group.new.items ≡ [] }
 {
@@ -97,7 +104,7 @@ fn tidy_up<T: Drop>(alloc: Global, group: &mut Vec<T>, is_few: bool)
 }
 
 /// Moves the group of an address to the end of a list. Returns how many came.
-fn leave<T: Drop>(
+fn take_group<T: Drop>(
     alloc: Global,
     groups: &mut Groups<T>,
     at: usize,
@@ -115,7 +122,7 @@ fn leave<T: Drop>(
             let count = group.len();
             match into.append(group) {
                 Ok(()) => {
-                    tidy_up(alloc, group, is_few);
+                    trim_group(alloc, group, is_few);
                     Ok(count)
                 }
                 Err(error) => Err(error),
@@ -126,12 +133,13 @@ fn leave<T: Drop>(
 }
 
 /// Moves all groups to the end of a list that has room for them.
-fn move_all<T: Drop>(groups: &mut Groups<T>, into: &mut Vec<T>)
+fn take_all_groups<T: Drop>(groups: &mut Groups<T>, into: &mut Vec<T>)
     requires { length (pairs_of groups.old.entries) ≤ vec_capacity into.old - vec_len into.old }
     ensures moved { TakesAll (pairs_of groups.old.entries) into.old.items into.new.items }
     ensures none { groups.new.entries ≡ [] }
 {
     while let Some((_, mut group)) = groups.pop() {
+        // There is room for all: the caller has reserved it.
         into.append(&mut group).unwrap();
     }
 }
@@ -148,7 +156,7 @@ impl<T: Drop> Parked<T> {
         }
     }
 
-    /// How many are parked.
+    /// How many are parked, until the next call that parks or wakes.
     pub fn len(&self) -> usize
         ensures { result ≡ length self.now }
     {
@@ -173,9 +181,10 @@ impl<T: Drop> Parked<T> {
         ensures same { OnErr result (self.new ≡ self.old) }
     {
         let Some(count) = self.count.checked_add(1) else {
+            // Cannot be: as many values do not fit in memory.
             return Err(AllocFailed { value });
         };
-        match join(self.alloc, &mut self.groups, at, value) {
+        match add_to_group(self.alloc, &mut self.groups, at, value) {
             Ok(()) => {
                 self.count = count;
                 Ok(())
@@ -195,7 +204,7 @@ impl<T: Drop> Parked<T> {
         ensures same { OnErr result (self.new ≡ self.old) }
         ensures kept { OnErr result (into.new.items ≡ into.old.items) }
     {
-        match leave(self.alloc, &mut self.groups, at, into) {
+        match take_group(self.alloc, &mut self.groups, at, into) {
             Ok(count) => {
                 self.count -= count;
                 Ok(())
@@ -231,7 +240,7 @@ impl<T: Drop> Parked<T> {
     {
         match into.reserve(self.count) {
             Ok(()) => {
-                move_all(&mut self.groups, into);
+                take_all_groups(&mut self.groups, into);
                 self.count = 0;
                 Ok(())
             }

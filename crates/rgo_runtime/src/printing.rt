@@ -1,4 +1,10 @@
 //! Prints that were gathered from goroutines, and go out in the order of their tickets.
+//!
+//! Invariant: the prints with tickets below `next` have gone out, each once and whole; those that wait have other tickets, in any order.
+//! A goroutine draws its ticket at the table, at the moment of the print, but the driver gathers prints only after a turn. So the print
+//! with a lower ticket may come later, and the others wait for it.
+//!
+//! Only the driver's thread gathers and writes, between rounds. So the bytes of two prints never mix.
 ghost use Rattle.std.specs.Prelude.{◌≡◌, ◌++◌, [], IfOk, IsPermutation, OnErr, OnOk, true};
 ghost use Rattle.std.specs.List.Sorted.{IsNonDecreasingBy};
 ghost use Rattle.rgo_outside.specs.Causes.{HasCause};
@@ -9,16 +15,16 @@ use rgo_outside::{Sink, WriteFault, write_all};
 use rgo_table_runs::goroutine::acts::prints::Print;
 use std::alloc::{AllocError, Global};
 
-/// Prints that wait until all prints with lower tickets have gone out.
+/// A queue of prints that wait until all prints with lower tickets have gone out.
 #[derive(Drop)]
-pub struct Outgoing {
+pub struct PrintQueue {
     pub(crate) waiting: Vec<Print>,
     /// The first ticket whose print has not gone out. It passes the end of a `u64` once the print with the last ticket is out.
     pub(crate) next: u128,
 }
 
-/// Puts prints in the order of their tickets.
-fn sort(prints: &mut Vec<Print>)
+/// Puts prints in the order of their tickets. No two prints of a run have the same.
+fn sort_by_ticket(prints: &mut Vec<Print>)
     ensures same { IsPermutation prints.old.items prints.new.items }
     ensures sorted { IsNonDecreasingBy ticket_of prints.new.items }
 {
@@ -26,7 +32,11 @@ fn sort(prints: &mut Vec<Print>)
 }
 
 /// Writes the prints whose turn it is, from this ticket on, and removes them. Returns the first ticket that had no print.
-fn give<K: Sink>(waiting: &mut Vec<Print>, from: u128, out: &mut K) -> Result<u128, WriteFault>
+fn write_in_order<K: Sink>(
+    waiting: &mut Vec<Print>,
+    from: u128,
+    out: &mut K,
+) -> Result<u128, WriteFault>
     requires { IsNonDecreasingBy ticket_of waiting.old.items }
     ensures given { IfOk result (λ next.
         GivesOut waiting.old.items from waiting.new.items next (K.contents out.old) (K.contents out.new)) }
@@ -53,13 +63,13 @@ fn give<K: Sink>(waiting: &mut Vec<Print>, from: u128, out: &mut K) -> Result<u1
     Ok(next)
 }
 
-impl Outgoing {
+impl PrintQueue {
     /// None waits, and none has gone out.
-    pub fn new(alloc: Global) -> Outgoing
+    pub fn new(alloc: Global) -> PrintQueue
         ensures waiting { result.waiting.items ≡ [] }
         ensures next { result.next ≡ 0 }
     {
-        Outgoing {
+        PrintQueue {
             waiting: Vec::new(alloc),
             next: 0,
         }
@@ -85,7 +95,7 @@ impl Outgoing {
     /// # Errors
     ///
     /// Where a write failed. Nothing more was written then.
-    pub fn give_out<K: Sink>(&mut self, out: &mut K) -> Result<(), WriteFault>
+    pub fn flush<K: Sink>(&mut self, out: &mut K) -> Result<(), WriteFault>
         ensures given { OnOk result (GivesOut self.old.waiting.items self.old.next self.new.waiting.items self.new.next
             (K.contents out.old) (K.contents out.new)) }
         ensures part { OnErr result (GivesSome self.old.waiting.items self.old.next (K.contents out.old) (K.contents out.new)) }
@@ -93,8 +103,8 @@ impl Outgoing {
         ensures broken { OnErr result (K.broken out.new ≡ true) }
         ensures pieces { AddsOnly (IsPieceOf self.old.waiting.items) (K.pieces out.old) (K.pieces out.new) }
     {
-        sort(&mut self.waiting);
-        match give(&mut self.waiting, self.next, out) {
+        sort_by_ticket(&mut self.waiting);
+        match write_in_order(&mut self.waiting, self.next, out) {
             Ok(next) => {
                 self.next = next;
                 Ok(())
@@ -104,7 +114,7 @@ impl Outgoing {
     }
 }
 
-/// Prints of which one is missing.
+/// Examples of prints, of which one is missing.
 pub fn examples()
     ensures { PrintingExamples }
 {}

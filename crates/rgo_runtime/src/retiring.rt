@@ -1,4 +1,10 @@
 //! Goroutines that have no more turns: what their driver keeps of them.
+//!
+//! Invariant (`AreRetired`): none of those that have retired has anything under way; what each has counted is in `shares`, at the place of
+//! its number; and `first` is how one of them has ended the run, if one has. At most one goroutine of a run sets such a mark.
+//!
+//! Only the driver's thread calls these functions, between rounds. `retire` and `give_up` take the goroutine itself, so it has no turn
+//! afterwards.
 ghost use Rattle.std.specs.Prelude.{◌≡◌, ◌⊎◌, ◌<◌, ◌∷◌, ◌++◌, [], IsPermutation, List, MatchOption, Some, length, map, reverse, slice_set};
 ghost use Rattle.std.specs.List.{All};
 ghost use Rattle.rgo_table_runs.specs.Goroutine.Acts.Runs as runs;
@@ -22,8 +28,8 @@ use rgo_core_steps::clock::Mark;
 use rgo_table_runs::goroutine::acts::runs::Run;
 use rgo_table_runs::goroutine::goroutine::Goroutine;
 
-/// Puts what the goroutine has counted at its place, and records how it has ended the run, if it has.
-pub(crate) fn note(goroutine: &Goroutine, shares: &mut Shares, first: &mut Option<Mark>)
+/// Puts what the goroutine has counted at its place, and records how it has ended the run, if it has. Exact between two of its turns.
+pub(crate) fn save_counts(goroutine: &Goroutine, shares: &mut Shares, first: &mut Option<Mark>)
     ensures share { (r : runs.Run) → IsOf r goroutine.now → shares.new
         ≡ slice_set shares.old goroutine.now.number (record_of r.setup goroutine.now).clock.share }
     ensures first { MatchOption goroutine.now.first (first.new ≡ first.old) (λ mark. first.new ≡ Some mark) }
@@ -58,7 +64,7 @@ pub fn retire(
     ensures kept { Keeps (member_of run.now.setup goroutine ∷ map retired seat.old.me.0.records) []
         (map retired seat.new.me.0.records) [] }
 {
-    note(&goroutine, shares, first);
+    save_counts(&goroutine, shares, first);
     goroutine.retire(run, seat);
 }
 
@@ -88,13 +94,13 @@ pub fn give_up(
     ensures kept { KeepsMembers (member_of run.now.setup goroutine ∷ map retired seat.old.me.0.records)
         (map retired seat.new.me.0.records) }
 {
-    note(&goroutine, shares, first);
+    save_counts(&goroutine, shares, first);
     goroutine.give_up(run, seat);
 }
 
 /// What goroutines have counted, each share at the place of its goroutine's number, and how one of them has ended the run.
 #[derive(Drop)]
-pub struct Stock {
+pub struct Snapshot {
     pub shares: Shares,
     pub first: Option<Mark>,
 }
@@ -108,12 +114,13 @@ pub struct Left {
     pub shares: Shares,
     /// How one of them has ended the run, if one has.
     pub first: Option<Mark>,
-    /// Whether nothing of them is lost. Where memory was refused, prints are that were not gathered.
+    /// Whether nothing of them is lost. If memory was refused, prints may be that were not gathered.
     pub is_whole: bool,
 }
 
-/// A goroutine retires. If its prints were not gathered, or its children not adopted, it is given up.
-pub(crate) fn dismiss(run: &Run<'_, '_>, goroutine: Goroutine, left: &mut Left)
+/// Retires a goroutine. If its prints were not gathered, or its children not adopted, or it has no place, as after memory was refused, it
+/// is given up.
+pub(crate) fn retire_or_give_up(run: &Run<'_, '_>, goroutine: Goroutine, left: &mut Left)
     requires of { IsOf run.now goroutine }
     requires tidy { IsTidy (record_of run.now.setup goroutine) }
     requires place { (goroutine.number < length left.old.shares)
@@ -142,8 +149,8 @@ pub(crate) fn dismiss(run: &Run<'_, '_>, goroutine: Goroutine, left: &mut Left)
     }
 }
 
-/// The goroutines of these turns retire or are given up, the last first.
-pub(crate) fn dismiss_turns<'r, 'c>(
+/// Retires the goroutines of the run queue, or gives them up, the last first.
+pub(crate) fn retire_turns<'r, 'c>(
     run: &'r Run<'r, 'c>,
     mut turns: Vec<Turn<'r, 'c>>,
     left: &mut Left,
@@ -153,12 +160,12 @@ pub(crate) fn dismiss_turns<'r, 'c>(
     ensures { HaveLeft run.now.setup (reverse (map its_goroutine turns.entry.items)) left.old left.new }
 {
     while let Some(turn) = turns.pop() {
-        dismiss(run, turn.into_goroutine(), left);
+        retire_or_give_up(run, turn.into_goroutine(), left);
     }
 }
 
-/// So do those that are parked.
-pub(crate) fn dismiss_parked<'r, 'c>(
+/// Retires those that are parked, or gives them up.
+pub(crate) fn retire_parked<'r, 'c>(
     run: &'r Run<'r, 'c>,
     mut parked: Parked<Turn<'r, 'c>>,
     left: &mut Left,
@@ -169,27 +176,27 @@ pub(crate) fn dismiss_parked<'r, 'c>(
         × HaveLeft run.now.setup gone left.old left.new }
 {
     while let Some(group) = parked.pop() {
-        dismiss_turns(run, group, left);
+        retire_turns(run, group, left);
     }
 }
 
-/// So do those that were just born.
-pub(crate) fn dismiss_born(run: &Run<'_, '_>, mut born: Vec<Goroutine>, left: &mut Left)
+/// Retires those that were just started, or gives them up. They have counted nothing, so they need no place.
+pub(crate) fn retire_newborns(run: &Run<'_, '_>, mut born: Vec<Goroutine>, left: &mut Left)
     requires all { All (IsNewborn run.now) born.items }
     requires own { IsSeatOf left.old.seat.table_id run.now.table clock_at }
     ensures { HaveLeft run.now.setup (reverse born.items) left.old left.new }
 {
     while let Some(goroutine) = born.pop() {
-        dismiss(run, goroutine, left);
+        retire_or_give_up(run, goroutine, left);
     }
 }
 
-/// Members that a driver keeps, and such as it loses.
+/// Examples of members that a driver keeps, and of some that it loses.
 pub fn examples()
     ensures { CrewExamples }
 {}
 
-/// What is left of goroutines, and what cannot be.
+/// Examples of what is left of goroutines, and of what cannot be.
 pub fn leaving_examples()
     ensures { LeavingExamples }
 {}

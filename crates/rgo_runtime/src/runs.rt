@@ -1,29 +1,34 @@
-//! Runs of checked code, each over a table of its own.
+//! The scheduler: rounds of turns over one table, until the run is over, and how it has ended.
+//!
+//! Invariant between rounds (`CrewContinues`): no goroutine and no print is lost; the prints that have gone out are those with the lowest
+//! tickets, in order. Once prints were flushed, the next one is not among those that wait (`NoneIsNext`).
+//!
+//! One thread, the driver's, runs all of this file. A goroutine ends the run by a mark at the table; the driver ends it for the other
+//! reasons (`Why`), between rounds, and a mark goes before these.
 ghost use Rattle.std.specs.Prelude.{◌≡◌, ◌≤◌, ◌<◌, ◌^◌, ◌+◌, ◌*◌, ◌↔◌, true, [], IfOk, MatchResult, OnErr, Some, None, MatchOption, List, Option, ℕ};
 ghost use Rattle.rgo_core.specs.Image.{table_sizes};
 ghost use Rattle.rgo_core.specs.Memory.Words.{all_words as words_in_all};
-ghost use Rattle.rgo_driver.specs.declared.ends.RunEnd.TheVariants as run_end;
-ghost use Rattle.rgo_runtime.specs.Runs.{EndsFor, FailsIf, GoesOn, NoneIsNext, RunExamples, end_by, is_spent, sizes_with, unmarked_end};
-ghost use Rattle.rgo_runtime.specs.Shares.{counts_in};
+ghost use Rattle.rgo_sound.specs.Machine.declared.ends.RunEnd.TheVariants as run_end;
+ghost use Rattle.rgo_runtime.specs.Runs.{EndsFor, FailsIf, CrewContinues, NoneIsNext, RunExamples, end_by, is_spent, sizes_with, unmarked_end};
+ghost use Rattle.rgo_sound.specs.RegionMachine.Tallies.{counts_in};
 ghost use Rattle.rgo_runtime.specs.declared.runs.Why.TheVariants as why;
 ghost use Rattle.rgo_sound.specs.Machine.Limits.{most_goroutines};
-ghost use Rattle.rgo_table_runs.specs.claims.RegionRuns.{CodeRuns};
+ghost use Rattle.rgo_sound.specs.RegionRuns.{CodeRuns};
 
 use crate::changes::Changes;
-use crate::crew::{Came, Crew};
+use crate::crew::{Crew, RoundSummary};
+use crate::deadlock::Passed;
 use crate::ends::end_of;
-use crate::paces::Pace;
-use crate::passes::Passed;
 use crate::retiring::Left;
-use crate::shares::Tally;
-use crate::sizing::{smaller, unless_short};
+use crate::sizing::{smaller_table, unless_short};
+use crate::time_slices::Pace;
 use rgo_core::memory::layout::TableSizes;
 use rgo_core::table::{close, open};
 use rgo_core_steps::clock::Mark;
-use rgo_driver::RunEnd;
 use rgo_outside::{Gate, Sink};
 use rgo_sound::code::Checked;
-use rgo_sound::machine::{Limits, Sizes};
+use rgo_sound::machine::{Limits, RunEnd, Sizes};
+use rgo_sound::region_machine::Tally;
 use rgo_table_runs::goroutine::acts::runs::Run;
 use rgo_table_runs::goroutine::body::Program;
 use std::alloc::{AllocError, Global};
@@ -45,15 +50,15 @@ pub(crate) enum Why {
     Write,
     /// A goroutine has ended the run.
     Over,
-    /// As many instructions were executed as may be.
+    /// The limit of instructions was reached.
     Steps,
     /// In a pass over all goroutines nothing moved.
     Stuck(Passed),
 }
 
-/// What a driver remembers from round to round.
+/// What the scheduler keeps from round to round.
 #[derive(Drop)]
-struct Course {
+struct Scheduler {
     pace: Pace,
     /// The number of the next round.
     number: u64,
@@ -63,19 +68,20 @@ struct Course {
     changes: Changes,
 }
 
-/// The exact number of instructions that were executed, when all that were parked are ready.
-fn count(crew: &mut Crew<'_, '_>) -> Result<u128, AllocError>
-    ensures kept { (out : Option (List ℕ)) → GoesOn crew.old out crew.new out }
+/// The exact number of instructions that were executed until now. It wakes all that are parked, since only the run queue is counted.
+fn count_steps(crew: &mut Crew<'_, '_>) -> Result<u128, AllocError>
+    ensures kept { (out : Option (List ℕ)) → CrewContinues crew.old out crew.new out }
     ensures rest { crew.new ≡ record crew.old { ready = crew.new.ready; parked = crew.new.parked } }
 {
     crew.wake_all()?;
-    Ok(crew.stock()?.shares.total().steps)
+    Ok(crew.snapshot()?.shares.total().steps)
 }
 
-/// Counts exactly where so many may have been executed that the run is over. Returns why it is over, or `None` if it goes on.
-fn spend(crew: &mut Crew<'_, '_>, most: u64, steps: &mut u64) -> Option<Why>
+/// Tests the limit of steps. `steps` is an upper bound; only if it reaches the limit, all are counted exactly. Returns why the run is over,
+/// or `None` if it continues.
+fn check_step_limit(crew: &mut Crew<'_, '_>, most: u64, steps: &mut u64) -> Option<Why>
     requires next { NoneIsNext crew.old }
-    ensures ends { (out : Option (List ℕ)) → MatchOption result (GoesOn crew.old out crew.new out)
+    ensures ends { (out : Option (List ℕ)) → MatchOption result (CrewContinues crew.old out crew.new out)
         (λ why. EndsFor why crew.old out crew.new out) }
     ensures rest { crew.new ≡ record crew.old { ready = crew.new.ready; parked = crew.new.parked } }
     ensures other { result ≡ Some why.Write → ⊥ }
@@ -83,22 +89,24 @@ fn spend(crew: &mut Crew<'_, '_>, most: u64, steps: &mut u64) -> Option<Why>
     if *steps < most {
         return None;
     }
-    let exact = match count(crew) {
+    let exact = match count_steps(crew) {
         Ok(exact) => exact,
         Err(_) => return Some(Why::Memory),
     };
     if exact >= u128::from(most) {
         return Some(Why::Steps);
     }
+    // It fits: it is below `most`.
     *steps = exact as u64;
     None
 }
 
-/// A pass over all goroutines. If nothing moves in it, the run is over.
-fn stand(crew: &mut Crew<'_, '_>) -> Option<Why>
+/// Wakes all and checks for a deadlock. If nothing moves in it, the run is over. Only after a round in which nothing moved, so that a run
+/// that gets on never pays for it.
+fn check_dead(crew: &mut Crew<'_, '_>) -> Option<Why>
     requires next { NoneIsNext crew.old }
     requires born { crew.old.born ≡ [] }
-    ensures ends { (out : Option (List ℕ)) → MatchOption result (GoesOn crew.old out crew.new out)
+    ensures ends { (out : Option (List ℕ)) → MatchOption result (CrewContinues crew.old out crew.new out)
         (λ why. EndsFor why crew.old out crew.new out) }
     ensures run { crew.new.run ≡ crew.old.run }
     ensures other { result ≡ Some why.Write → ⊥ }
@@ -107,7 +115,7 @@ fn stand(crew: &mut Crew<'_, '_>) -> Option<Why>
         Ok(()) => {}
         Err(_) => return Some(Why::Memory),
     }
-    match crew.pass() {
+    match crew.check_dead() {
         Ok(passed) => match passed {
             Passed::Moved => None,
             Passed::Still | Passed::Lacks(_) => Some(Why::Stuck(passed)),
@@ -116,66 +124,73 @@ fn stand(crew: &mut Crew<'_, '_>) -> Option<Why>
     }
 }
 
-/// What becomes of the run after a round whose prints have gone out, and that has come to this. Where nothing moved in it there is a pass.
-fn settle(crew: &mut Crew<'_, '_>, came: Came, most: u64, steps: &mut u64) -> Option<Why>
+/// Whether the run is over after a round that has come to this, and why. After the prints were flushed.
+fn check_end(
+    crew: &mut Crew<'_, '_>,
+    summary: RoundSummary,
+    most: u64,
+    steps: &mut u64,
+) -> Option<Why>
     requires next { NoneIsNext crew.old }
     requires born { crew.old.born ≡ [] }
-    ensures ends { (out : Option (List ℕ)) → MatchOption result (GoesOn crew.old out crew.new out)
+    ensures ends { (out : Option (List ℕ)) → MatchOption result (CrewContinues crew.old out crew.new out)
         (λ why. EndsFor why crew.old out crew.new out) }
     ensures run { crew.new.run ≡ crew.old.run }
     ensures other { result ≡ Some why.Write → ⊥ }
 {
-    if came.is_over {
+    if summary.is_over {
         return Some(Why::Over);
     }
-    if came.lacks_memory {
+    if summary.lacks_memory {
         return Some(Why::Memory);
     }
-    match spend(crew, most, steps) {
+    match check_step_limit(crew, most, steps) {
         Some(why) => return Some(why),
         None => {}
     }
-    if came.moved {
+    if summary.moved {
         return None;
     }
-    stand(crew)
+    check_dead(crew)
 }
 
-/// A round, and a pass if nothing moved in it. Returns why the run is over, or `None` if it goes on.
-fn advance<H: Threads + Sync, K: Sink, G: Gate + Sync>(
+/// One round, and a check for a deadlock if nothing moved in it. Returns why the run is over, or `None` if it continues.
+fn schedule_once<H: Threads + Sync, K: Sink, G: Gate + Sync>(
     rt: &H,
     crew: &mut Crew<'_, '_>,
     most: u64,
     workers: u32,
-    course: &mut Course,
+    sched: &mut Scheduler,
     out: &mut K,
     gate: &G,
 ) -> Option<Why>
     requires workers { (1 ≤ workers) × (workers ≤ 64) }
-    ensures ends { MatchOption result (GoesOn crew.old (K.contents out.old) crew.new (K.contents out.new))
+    ensures ends { MatchOption result (CrewContinues crew.old (K.contents out.old) crew.new (K.contents out.new))
         (λ why. EndsFor why crew.old (K.contents out.old) crew.new (K.contents out.new)) }
     ensures run { crew.new.run ≡ crew.old.run }
     ensures fault { FailsIf (result ≡ Some why.Write) (K.faults out.old) (K.faults out.new) (K.broken out.new) }
 {
     let ready = crew.ready();
-    let slice = course.pace.slice(ready, most.saturating_sub(course.steps));
-    let workers = course.pace.workers(workers, ready, slice, course.number);
-    let came = match crew.play(rt, workers, slice, course.number, gate, &mut course.changes) {
-        Ok(came) => came,
+    let slice = sched
+        .pace
+        .time_slice(ready, most.saturating_sub(sched.steps));
+    let workers = sched.pace.workers(workers, ready, slice, sched.number);
+    let summary = match crew.run_round(rt, workers, slice, sched.number, gate, &mut sched.changes) {
+        Ok(summary) => summary,
         Err(_) => return Some(Why::Memory),
     };
-    course.number = course.number.saturating_add(1);
-    course.pace.after(came.all_used);
-    course.steps = course.steps.saturating_add(came.steps);
-    match crew.give_out(out) {
+    sched.number = sched.number.saturating_add(1);
+    sched.pace.after(summary.all_used);
+    sched.steps = sched.steps.saturating_add(summary.steps);
+    match crew.flush_prints(out) {
         Ok(()) => {}
         Err(_) => return Some(Why::Write),
     }
-    settle(crew, came, most, &mut course.steps)
+    check_end(crew, summary, most, &mut sched.steps)
 }
 
-/// The goroutines have their turns until the run is over.
-fn play<H: Threads + Sync, K: Sink, G: Gate + Sync>(
+/// The loop of the scheduler: rounds until the run is over.
+fn schedule<H: Threads + Sync, K: Sink, G: Gate + Sync>(
     rt: &H,
     alloc: Global,
     crew: &mut Crew<'_, '_>,
@@ -189,19 +204,19 @@ fn play<H: Threads + Sync, K: Sink, G: Gate + Sync>(
     ensures run { crew.new.run ≡ crew.old.run }
     ensures fault { FailsIf (result ≡ why.Write) (K.faults out.old) (K.faults out.new) (K.broken out.new) }
 {
-    let mut course = Course {
+    let mut sched = Scheduler {
         pace: Pace::new(),
         number: 1,
         steps: 0,
         changes: Changes::new(alloc),
     };
     for _ in 0..u64::MAX {
-        match advance(rt, crew, most, workers, &mut course, out, gate) {
+        match schedule_once(rt, crew, most, workers, &mut sched, out, gate) {
             Some(why) => return why,
             None => {}
         }
     }
-    // No run has so many rounds.
+    // Cannot be: no run has as many rounds.
     Why::Memory
 }
 
@@ -214,8 +229,7 @@ fn is_spent(made: &Tally, most: u64) -> bool
     made.steps >= most && (made.steps - most) / 1_000 < made.goroutines
 }
 
-/// How a run that has made this has ended, where no goroutine has ended it. The cases that answer want of memory for another reason do
-/// not arise.
+/// How a run that has made this has ended, if no goroutine has ended it.
 fn unmarked_end(why: Why, made: &Tally, most: u64) -> RunEnd
     ensures { result ≡ unmarked_end why (counts_in made.now) most }
 {
@@ -223,13 +237,16 @@ fn unmarked_end(why: Why, made: &Tally, most: u64) -> RunEnd
         Why::Stuck(passed) => match passed {
             Passed::Still => RunEnd::Deadlock,
             Passed::Lacks(lack) => RunEnd::NoRoom(lack),
+            // Cannot be: `check_dead` ends no run in which something moved.
             Passed::Moved => RunEnd::NoMemory,
         },
         Why::Steps => if is_spent(made, most) {
             RunEnd::StepsSpent
         } else {
+            // Cannot be: a time slice is at most a goroutine's share of what is left, or 1,000.
             RunEnd::NoMemory
         },
+        // `Over` cannot be: whoever ends the run has set a mark. For the others `end_of_run` has answered.
         Why::Over | Why::Memory | Why::Write => RunEnd::NoMemory,
     }
 }
@@ -253,7 +270,7 @@ fn end_of_run(why: Why, is_whole: bool, first: Option<Mark>, made: &Tally, most:
     }
 }
 
-/// Whether the table of a run may have these sizes, for code with so many package variables: at least one page, at most 16,777,215
+/// Whether the table of a run may have these sizes, for code with this many package variables: at least one page, at most 16,777,215
 /// words for each, and at most 2^32 words in all.
 pub fn has_table(sizes: &Sizes, variables: usize) -> bool
     ensures { (result ≡ true) ↔ ((0 < sizes.now.pages) × (sizes.now.page_words ≤ 16777215)
@@ -268,8 +285,8 @@ pub fn has_table(sizes: &Sizes, variables: usize) -> bool
 ///
 /// # Errors
 ///
-/// If there is no memory for the table, the program or `main`. Then nothing has gone out. Where memory is refused later, the run ends so.
-fn run_in<H: Threads + Sync, K: Sink, G: Gate + Sync>(
+/// If there is no memory for the table, the program or `main`. Then nothing has gone out. If memory is refused later, the run ends for that.
+fn run_on_table<H: Threads + Sync, K: Sink, G: Gate + Sync>(
     rt: &H,
     alloc: Global,
     code: &Checked,
@@ -302,8 +319,8 @@ fn run_in<H: Threads + Sync, K: Sink, G: Gate + Sync>(
         let run = Run::new(&table, layout, limits, &program);
         match Crew::new(alloc, &run, seat) {
             Ok(mut crew) => {
-                let why = play(rt, alloc, &mut crew, limits.steps, workers, out, gate);
-                (crew.finish(), why)
+                let why = schedule(rt, alloc, &mut crew, limits.steps, workers, out, gate);
+                (crew.retire_all(), why)
             }
             Err(_) => return Err(AllocError),
         }
@@ -327,7 +344,7 @@ fn run_in<H: Threads + Sync, K: Sink, G: Gate + Sync>(
 ///
 /// # Errors
 ///
-/// If there is no memory for the table, the program or `main`. Then nothing has gone out. Where memory is refused later, the run ends so.
+/// If there is no memory for the table, the program or `main`. Then nothing has gone out. If memory is refused later, the run ends for that.
 pub fn run<H: Threads + Sync, K: Sink, G: Gate + Sync>(
     rt: &H,
     alloc: Global,
@@ -348,17 +365,17 @@ pub fn run<H: Threads + Sync, K: Sink, G: Gate + Sync>(
     ensures fault { IfOk result (λ o. FailsIf (o.end ≡ run_end.WriteFault) (K.faults out.old) (K.faults out.new) (K.broken out.new)) }
     ensures none { OnErr result (out.new ≡ out.old) }
 {
-    let Some(few) = smaller(code.code(), sizes) else {
-        return run_in(rt, alloc, code, sizes, limits, workers, out, gate);
+    let Some(few) = smaller_table(code.code(), sizes) else {
+        return run_on_table(rt, alloc, code, sizes, limits, workers, out, gate);
     };
-    let Outcome { end, tally } = run_in(rt, alloc, code, few, limits, workers, out, gate)?;
+    let Outcome { end, tally } = run_on_table(rt, alloc, code, few, limits, workers, out, gate)?;
     Ok(Outcome {
         end: unless_short(end),
         tally,
     })
 }
 
-/// What a driver knows while it plays, why it ends a run, and what must not pass for it.
+/// Examples of what a driver knows during a run, of why it ends one, and of what must not count as such.
 pub fn examples()
     ensures { RunExamples }
 {}

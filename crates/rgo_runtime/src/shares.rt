@@ -1,31 +1,17 @@
 //! What goroutines that have retired have counted, each share at the place of its goroutine's number.
+//!
+//! Invariant: the list has fewer than 2^40 shares, each of `u64`s, so the sums fit in `u128`s. A place whose goroutine has not retired yet
+//! has counts of zero. Only the driver's thread uses it; while a goroutine has turns, its counts are its own, and no two threads add to
+//! the same number.
 ghost use Rattle.std.specs.Prelude.{◌≡◌, ◌<◌, ◌++◌, ◌↔◌, [], ℕ, IfOk, OnErr, OnOk, length, replicate, slice_set, true};
-ghost use Rattle.rgo_runtime.specs.Shares.{counts_in};
+ghost use Rattle.rgo_sound.specs.RegionMachine.Tallies.{counts_in};
 ghost use Rattle.rgo_sound.specs.Tally.{no_share};
 ghost use Rattle.rgo_table_runs.specs.closing.Gathering.{sum_of};
 
+use rgo_sound::region_machine::Tally;
 use rgo_table_runs::goroutine::body::Counts;
 use std::alloc::{AllocError, Global};
 use std::marker::Model;
-
-/// What a run has made and done. The sums of a million shares fit.
-#[derive(Clone, Copy, Debug, PartialEq, Eq)]
-pub struct Tally {
-    /// Regions that were created, but for Global.
-    pub made: u128,
-    /// Regions that were removed.
-    pub removed: u128,
-    /// Pages that were taken, those of Global among them.
-    pub taken: u128,
-    /// Pages of regions that were removed.
-    pub returned: u128,
-    /// Instructions that were executed; two that meet are one.
-    pub steps: u128,
-    /// Objects that were made.
-    pub objects: u128,
-    /// Goroutines, `main` included.
-    pub goroutines: u128,
-}
 
 /// The list of shares is shorter than this, so that the sums fit.
 const MOST: usize = 1 << 40;
@@ -114,6 +100,7 @@ impl Shares {
         ensures same { OnErr result (self.new ≡ self.old) }
     {
         let Ok(number) = usize::try_from(number) else {
+            // Cannot be where a `usize` has 64 bits.
             return Err(AllocError);
         };
         if number >= MOST - 1 {
@@ -137,7 +124,7 @@ impl Shares {
         (number as u128) < (self.shares.len() as u128)
     }
 
-    /// Puts what the goroutine of this number has counted at its place. If it has no place, nothing changes.
+    /// Puts what the goroutine of this number has counted at its place. One that has no place has counted nothing, so nothing changes then.
     pub fn set(&mut self, number: u64, counts: &Counts)
         ensures { self.new ≡ slice_set self.old number counts.now }
     {
@@ -148,7 +135,7 @@ impl Shares {
         }
     }
 
-    /// The sum of all.
+    /// The sum of all: that of the run once all goroutines have retired.
     pub fn total(&self) -> Tally
         ensures { counts_in result ≡ sum_of self.now }
     {

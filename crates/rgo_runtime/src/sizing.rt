@@ -1,16 +1,15 @@
 //! How large the table of a run is. A table has all its words from its beginning, whether or not they are used. Code that makes no
-//! object, and so no channel, takes no page, and the run begins sooner without its pages.
+//! object, and so no channel, takes no page, and the run begins sooner without its pages. Nothing here is shared: it reads checked code.
 ghost use Rattle.std.specs.Prelude.{◌≡◌, ◌<◌, IfSome};
 ghost use Rattle.rgo_runtime.specs.Sizing.{IsNarrower, SizingExamples, unless_short};
 
-use rgo_driver::RunEnd;
 use rgo_sound::code::{Code, CodeFn};
-use rgo_sound::machine::Sizes;
+use rgo_sound::machine::{RunEnd, Sizes};
 use rgo_sound::tac::Op;
 use rgo_sound::typed::Action;
 
 /// Whether an action makes an object.
-fn makes(action: Action) -> bool {
+fn action_allocates(action: Action) -> bool {
     match action {
         Action::New(_) | Action::Slice | Action::Chan => true,
         Action::Int(_)
@@ -35,9 +34,9 @@ fn makes(action: Action) -> bool {
 }
 
 /// Whether an instruction makes one.
-fn is_maker(op: Op<'_>) -> bool {
+fn op_allocates(op: Op<'_>) -> bool {
     match op {
-        Op::Do { action, .. } => makes(action),
+        Op::Do { action, .. } => action_allocates(action),
         Op::Call { .. }
         | Op::Go { .. }
         | Op::Print { .. }
@@ -48,13 +47,14 @@ fn is_maker(op: Op<'_>) -> bool {
 }
 
 /// Whether some instruction of a function makes an object, or a region is created before one.
-fn has_maker(function: &CodeFn<'_>) -> bool {
+fn function_allocates(function: &CodeFn<'_>) -> bool {
     for at in 0..function.tac().len() {
         if !function.creates(at).is_empty() {
             return true;
         }
+        // There is one: `at` is below the length.
         if let Some(op) = function.tac().op(at) {
-            if is_maker(op) {
+            if op_allocates(op) {
                 return true;
             }
         }
@@ -63,10 +63,11 @@ fn has_maker(function: &CodeFn<'_>) -> bool {
 }
 
 /// Whether some function of the code has such an instruction.
-fn code_has_maker(code: &Code) -> bool {
+fn code_allocates(code: &Code) -> bool {
     for n in 0..code.len() {
+        // There is one: `n` is below the length.
         if let Some(function) = code.function(n) {
-            if has_maker(&function) {
+            if function_allocates(&function) {
                 return true;
             }
         }
@@ -75,12 +76,12 @@ fn code_has_maker(code: &Code) -> bool {
 }
 
 /// The sizes of a smaller table for code that makes nothing; `None` for any other code.
-pub(crate) fn smaller(code: &Code, sizes: Sizes) -> Option<Sizes>
+pub(crate) fn smaller_table(code: &Code, sizes: Sizes) -> Option<Sizes>
     requires { 0 < sizes.pages }
     ensures narrower { IfSome result (λ few. IsNarrower few sizes) }
     ensures one { IfSome result (λ few. few.pages ≡ 1) }
 {
-    if code_has_maker(code) {
+    if code_allocates(code) {
         return None;
     }
     Some(Sizes {
@@ -90,12 +91,13 @@ pub(crate) fn smaller(code: &Code, sizes: Sizes) -> Option<Sizes>
     })
 }
 
-/// How a run in a smaller table has ended. That it lacked room would say nothing of the larger one: it is then given as want of memory.
+/// How a run in a smaller table has ended. That it lacked room would say nothing of the larger one: it is then reported as want of memory.
 /// Code that makes nothing does not end so.
 pub(crate) fn unless_short(end: RunEnd) -> RunEnd
     ensures { result ≡ unless_short end }
 {
     match end {
+        // Cannot be: code that makes no object claims no page and no slot.
         RunEnd::NoRoom(_) => RunEnd::NoMemory,
         RunEnd::Ended(_)
         | RunEnd::Deadlock
@@ -107,7 +109,7 @@ pub(crate) fn unless_short(end: RunEnd) -> RunEnd
     }
 }
 
-/// Sizes of which one is narrower, and ends in a smaller table.
+/// Examples of sizes of which one is narrower, and of ends in a smaller table.
 pub fn examples()
     ensures { SizingExamples }
 {}

@@ -1,9 +1,13 @@
-//! A goroutine with what a worker needs to give it a turn.
+//! A goroutine with what a worker needs to give it a turn: the task of a round.
+//!
+//! Invariant (`CanTurn`): the goroutine is of this run and at rest, and after its next turn it has executed fewer than 2^43 instructions,
+//! so that its counts and the tickets of its prints fit. A turn has its goroutine for itself: a worker takes it by `&mut`, and the driver
+//! reads what it has done only after all turns of the round are over.
 ghost use Rattle.std.specs.Prelude.{◌≡◌, ◌+◌, ◌∷◌, ◌<◌, ◌≤◌, [], None, OnOk, Some};
 ghost use Rattle.std.specs.List.{All};
 ghost use Rattle.rgo_core.specs.Records.{steps_of};
 ghost use Rattle.rgo_table_runs.specs.Goroutine.Goroutines.{IsOf, IsTidy, record_of};
-ghost use Rattle.rgo_table_runs.specs.Goroutine.Instructions.{HasPages};
+ghost use Rattle.rgo_table_runs.specs.Goroutine.Instructions.{TableHasPages};
 ghost use Rattle.rgo_table_runs.specs.Goroutine.Turns.{HasTurned};
 ghost use Rattle.rgo_runtime.specs.Crews.{IsNewborn, Keeps, drawn, its_member, members};
 ghost use Rattle.rgo_runtime.specs.Turns as spec;
@@ -55,7 +59,7 @@ impl<'r, 'c> Turn<'r, 'c> {
     pub fn new(alloc: Global, run: &'r Run<'r, 'c>, goroutine: Box<Goroutine>) -> Turn<'r, 'c>
         requires of { IsOf run.now goroutine.value }
         requires tidy { IsTidy (record_of run.now.setup goroutine.value) }
-        requires pages { HasPages run.now }
+        requires pages { TableHasPages run.now }
         requires few { steps_of (record_of run.now.setup goroutine.value) < 8796093022208 }
         ensures { result ≡ spec.first_turn run.now goroutine.value }
     {
@@ -68,7 +72,7 @@ impl<'r, 'c> Turn<'r, 'c> {
         }
     }
 
-    /// Its next turn may execute this many instructions; none, if it could then have executed too many in all.
+    /// Sets its time slice: its next turn may execute this many instructions; none, if it could then have executed too many in all.
     pub fn set_slice(&mut self, slice: u32)
         ensures rest { self.new ≡ record self.old { slice = self.new.slice } }
         ensures within { self.new.slice ≤ slice }
@@ -77,11 +81,12 @@ impl<'r, 'c> Turn<'r, 'c> {
         self.slice = if done < MOST_STEPS && u64::from(slice) < MOST_STEPS - done {
             slice
         } else {
+            // Cannot be in a run of the program: the limit of steps is at most 2^42, and it was tested after the round before.
             0
         };
     }
 
-    /// What its last turn has done.
+    /// What its last turn has done; `None` before the first. It stays so until the next turn.
     pub fn turned(&self) -> &Option<Turned>
         ensures { result.now ≡ self.now.turned }
     {
@@ -96,7 +101,7 @@ impl<'r, 'c> Turn<'r, 'c> {
         self.goroutine.as_ref()
     }
 
-    /// What it has printed and started comes to the ends of these lists.
+    /// Takes what it has printed, and the goroutines that it has started, to the ends of these lists. After its turn.
     ///
     /// # Errors
     ///
@@ -158,7 +163,7 @@ fn turn_counted<L: Ledger>(
     blank: Blank,
 ) -> Turned
     requires of { IsOf run.now goroutine.old }
-    requires pages { HasPages run.now }
+    requires pages { TableHasPages run.now }
     requires few { steps_of (record_of run.now.setup goroutine.old) + slice < 8796093022208 }
     requires name { blank.name ≡ L.name }
     requires parts { (blank.parts ≡ L.parts) × (0 < blank.parts) }
@@ -172,7 +177,7 @@ fn turn_counted<L: Ledger>(
 /// A turn whose accesses to the table are counted for nobody.
 fn turn_once(alloc: Global, run: &Run<'_, '_>, goroutine: &mut Goroutine, slice: u32) -> Turned
     requires of { IsOf run.now goroutine.old }
-    requires pages { HasPages run.now }
+    requires pages { TableHasPages run.now }
     requires few { steps_of (record_of run.now.setup goroutine.old) + slice < 8796093022208 }
     ensures of { IsOf run.now goroutine.new }
     ensures tidy { IsTidy (record_of run.now.setup goroutine.new) }
@@ -182,7 +187,7 @@ fn turn_once(alloc: Global, run: &Run<'_, '_>, goroutine: &mut Goroutine, slice:
 }
 
 impl<'r, 'c> Task for Turn<'r, 'c> {
-    ghost goes = { spec.TakesTurn };
+    ghost goes = { spec.TurnIsTaken };
 
     /// A turn of as many instructions as it was given.
     fn turn(&mut self) -> bool {
@@ -193,7 +198,7 @@ impl<'r, 'c> Task for Turn<'r, 'c> {
     }
 }
 
-/// Turns that are as their definitions say, and such as are not.
+/// Examples of turns, and of values that are not.
 pub fn examples()
     ensures { spec.TurningExamples }
 {}

@@ -9,10 +9,10 @@ returns-clause-retired c k =
     let go = c.args.goroutine in
     let r = c.args.run.now in
     let its = record_of r.setup go in
-    let how = noted go.first c.args.first.now c.note.new.first its.clock.first c.note.ensures.first c.requires.of.first in
-    rw (c.give_up.ensures.records, c.note.ensures.share r c.requires.of)
+    let how = noted go.first c.args.first.now c.save_counts.new.first its.clock.first c.save_counts.ensures.first c.requires.of.first in
+    rw (c.give_up.ensures.records, c.save_counts.ensures.share r c.requires.of)
     (retired_either c.args.seat.now.me.0.records (rows r.setup go.children.items) go.number its (children_new r go.children.items c.requires.of.all) c.args.shares.now
-    (marked c.args.first.now) (marked c.note.new.first) c.requires.tidy how k c.requires.place)
+    (marked c.args.first.now) (marked c.save_counts.new.first) c.requires.tidy how k c.requires.place)
 
 pub returns-clause-kept : goal.returns-clause-kept
 returns-clause-kept c =

@@ -13,8 +13,8 @@ invariant-loop-i l = record {
     ready = l.self-inside.ready.items;
     parked = l.self-inside.parked;
     born = l.self-inside.born.items;
-    waiting = l.self-inside.outgoing.waiting.items;
-    next = l.self-inside.outgoing.next;
+    waiting = l.self-inside.prints.waiting.items;
+    next = l.self-inside.prints.next;
     shares = l.self-inside.shares;
     first = l.self-inside.first;
   });

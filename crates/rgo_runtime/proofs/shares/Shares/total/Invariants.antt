@@ -1,5 +1,5 @@
 use Rattle.rgo_runtime.proofs.Summing.{SumsTo, Within}
-use Rattle.rgo_runtime.specs.Shares.{counts_in}
+use Rattle.rgo_sound.specs.RegionMachine.Tallies.{counts_in}
 use Rattle.rgo_runtime.proofs.shares.Shares.total.Given as goal
 
 -- what has been summed, and that it fits

@@ -1,5 +1,0 @@
-use Rattle.rgo_runtime.proofs.Crewing.{pieces_written}
-use Rattle.rgo_runtime.proofs.crew.Crew.give_out.Goals as goal
-
-pub returns-clause-pieces : goal.returns-clause-pieces
-returns-clause-pieces g c = pieces_written _ _ _ _ c.self.view_is c.give_out.ensures.pieces

@@ -1,0 +1,19 @@
+use Rattle.std.proofs.Common.{◌∙◌, arith}
+use Rattle.rgo_runtime.proofs.Moving.{kept_then}
+use Rattle.rgo_runtime.proofs.crew.Crew.park_and_retire.Goals as goal
+
+pub loop-place-preserved-in-Parked : goal.loop-place-preserved-in-Parked
+loop-place-preserved-in-Parked c = record {
+  kept = kept_then c.args.self.now c.loop-place.self c.park.new.self c.loop-place.invariant.kept c.park.ensures.kept;
+  run = c.park.ensures.run ∙ c.loop-place.invariant.run;
+  next = c.park.ensures.next ∙ c.loop-place.invariant.next;
+  place = omega (arith, c.park.ensures.left, c.loop-place.invariant.place, c.loop-place-test.true);
+}
+
+pub loop-place-preserved : goal.loop-place-preserved
+loop-place-preserved c = record {
+  kept = kept_then c.args.self.now c.loop-place.self c.retire.new.self c.loop-place.invariant.kept c.retire.ensures.kept;
+  run = c.retire.ensures.run ∙ c.loop-place.invariant.run;
+  next = c.retire.ensures.next ∙ c.loop-place.invariant.next;
+  place = omega (arith, c.retire.ensures.left, c.loop-place.invariant.place, c.loop-place-test.true);
+}

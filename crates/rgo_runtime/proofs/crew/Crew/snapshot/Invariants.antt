@@ -1,0 +1,12 @@
+use Rattle.std.proofs.Common.{◌≡◌, ◌++◌, length, map, take}
+use Rattle.rgo_runtime.specs.Crews.{AreRetired, marked}
+use Rattle.rgo_runtime.specs.Leaving.{turn_row}
+use Rattle.rgo_runtime.proofs.crew.Crew.snapshot.Given as goal
+
+-- what those that have retired have counted, and those whose turns were passed
+abbrev pub invariant-loop-turn : goal.invariant-loop-turn
+invariant-loop-turn l = record {
+  places : length l.snapshot.shares ≡ length l.fn.self.shares;
+  retired : AreRetired (l.fn.self.me.0.records ++ map (turn_row l.fn.self.run.setup) (take l.turn-index l.fn.self.ready))
+      l.snapshot.shares (marked l.snapshot.first);
+}

@@ -1,0 +1,5 @@
+use Rattle.rgo_runtime.proofs.PassExamples.{passing}
+use Rattle.rgo_runtime.proofs.deadlock.examples.Goals as goal
+
+pub returns : goal.returns
+returns c = passing

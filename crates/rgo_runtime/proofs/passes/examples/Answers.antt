@@ -1,5 +1,0 @@
-use Rattle.rgo_runtime.proofs.PassExamples.{passing}
-use Rattle.rgo_runtime.proofs.passes.examples.Goals as goal
-
-pub returns : goal.returns
-returns c = passing
