@@ -1,4 +1,5 @@
-//! The program: its words, its standard streams, and its status.
+//! The program: passes its words and standard streams to `rgo` of rgo_run, and exits with the status that this returns. `rgo` is
+//! generic in its streams, so that tests can call it with others.
 #![tactic(auto)]
 
 use rgo_outside::{NoGate, StdSink, StdSource};
@@ -14,7 +15,7 @@ fn words(rt: &HostRuntime) -> io::Result<Vec<String>> {
 fn main(rt: HostRuntime) -> ExitCode {
     let words = match words(&rt) {
         Ok(words) => words,
-        // Words that are not UTF-8 name no command.
+        // Words that are not UTF-8 name no command, so `rgo` gets none and reports its usage, with status 64.
         Err(error) if error.kind() == ErrorKind::InvalidData => Vec::new(rt.alloc()),
         Err(_) => {
             let _ = rt.eprintln("rgo: out of memory");

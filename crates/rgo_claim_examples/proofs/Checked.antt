@@ -14,7 +14,7 @@ use Rattle.rgo_wellformed.specs.TypeRules.{int, pointer_to}
 use Rattle.rgo_tac.specs.declared.regions.Class.{Class}
 use Rattle.rgo_tac.specs.declared.regions.Class.TheVariants.{Global, Name, NoClass}
 use Rattle.rgo_tac.specs.Code as tac
-use Rattle.rgo_tac.specs.Code.{Op, TacFn}
+use Rattle.rgo_tac.specs.Code.{Op}
 use Rattle.rgo_tac.specs.Flow.{reads, writes}
 use Rattle.rgo_flow.specs.Live.{IsReadAfter}
 use Rattle.rgo_code.specs.Checked.{IsChecked, KeptAt, KeptAfterLast, KeptByEnd, KeptByEntry, KeptByHead}
@@ -22,8 +22,8 @@ use Rattle.rgo_code.specs.Checked.{KeptByInstr, KeptBySlot, KeptByStruct}
 use Rattle.rgo_code.specs.NameRules.{LendsResult}
 use Rattle.rgo_code.specs.Code.{Code, CodeFn, CodeInstr}
 use Rattle.rgo_code.specs.Erasure.{erased_fn}
-use Rattle.rgo_code.specs.Exists.{Uses}
-use Rattle.rgo_code.specs.Names.{Holds, Names, class_of}
+use Rattle.rgo_code.specs.Exists.{UsesVariable}
+use Rattle.rgo_code.specs.Names.{Holds, UsesRegionName, class_of}
 use Rattle.rgo_code.specs.declared.rules.Line.{Line}
 use Rattle.rgo_code.specs.declared.rules.Line.TheVariants as line
 use Rattle.rgo_code.specs.declared.rules.Rule.{Rule}
@@ -63,7 +63,7 @@ in_all test (y ∷ ys) x all (zero, less, is) = subst (λ z. test z ≡ true) is
 in_all test (y ∷ ys) x all (suc k, less, is) =
     in_all test ys x (and_parts (test y) (list_all test ys) all).1 (k, omega (arith, less), is)
 
-pub used_below : (n : ℕ) (op : Op) (v : ℕ) → uses_below n op ≡ true → Uses op v → v < n
+pub used_below : (n : ℕ) (op : Op) (v : ℕ) → uses_below n op ≡ true → UsesVariable op v → v < n
 used_below n op v all (inl read) =
     ltb-true v n (in_all (λ v. nat_lt v n) (reads op) v (and_parts (list_all (λ v. nat_lt v n) (reads op)) _ all).0 read)
 used_below n op v all (inr written) =
@@ -191,7 +191,7 @@ not_three k (inl h) = not_at_3 k h
 not_three k (inr c) = nothing k c
 
 -- what an instruction names is 0
-only_zero : (op : _) (k : ℕ) → Names main op k → k ≡ 0
+only_zero : (op : _) (k : ℕ) → UsesRegionName main op k → k ≡ 0
 only_zero op k n = class_zero (0 ∷ []) n.variable k n.named
 
 none_written : (v : ℕ) → None ≡ Some v → ⊥
@@ -266,7 +266,7 @@ created : AllAt (KeptByInstr code rule.Creations main) main.body
 created = (
   λ k. (
     λ c. let is = contains_one 0 k c in
-        (no_name k, subst (Names main _) is (record { variable = 0; used = inr refl; named = refl }), not_at_0 k),
+        (no_name k, subst (UsesRegionName main _) is (record { variable = 0; used = inr refl; named = refl }), not_at_0 k),
     λ all. subst (Contains (0 ∷ [])) (sym (only_zero _ k all.1)) (contains_here 0 []),
   ),
   (

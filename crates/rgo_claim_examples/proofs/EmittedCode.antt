@@ -9,7 +9,7 @@ use Rattle.rgo_code.specs.Erasure.{erased, erased_fn}
 use Rattle.rgo_code_printing.specs.Text.{text_of}
 use Rattle.rgo_run.specs.CodeVerdicts.{code_limit}
 use Rattle.rgo_run.specs.Compiled.{IsCodeText, IsCompiled, IsCompiledFrom}
-use Rattle.rgo_run.specs.Constants.{ConstantsFit, FnFits, InstrFits}
+use Rattle.rgo_run.specs.Constants.{TacConstantsFit, TacFnFits, TacInstrFits}
 use Rattle.rgo_run.proofs.Accepting.{emitted_passes}
 use Rattle.rgo_run.proofs.OneCompiled.{one_compiled}
 use Rattle.rgo_run.proofs.VerdictLemmas.{one_program}
@@ -27,9 +27,9 @@ made = code_with (0 ∷ [])
 is_compiled : IsCompiled object_text made
 is_compiled = record { program = one_object; is_program = object_is_program; from = compiled }
 
-instrs_fit : FnFits (erased_fn (main_with (0 ∷ [])))
+instrs_fit : TacFnFits (erased_fn (main_with (0 ∷ [])))
 instrs_fit =
-    All-from_recursion InstrFits (erased_fn (main_with (0 ∷ []))).body (
+    All-from_recursion TacInstrFits (erased_fn (main_with (0 ∷ []))).body (
       (omega arith, tt),
       (
         (omega arith, tt),
@@ -40,11 +40,11 @@ instrs_fit =
       ),
     )
 
-fit : ConstantsFit (erased made)
-fit = All-from_recursion FnFits (erased made).functions (instrs_fit, tt)
+fit : TacConstantsFit (erased made)
+fit = All-from_recursion TacFnFits (erased made).functions (instrs_fit, tt)
 
-small : ConstantsFit (erased (placed_at (2 ^ 32 - 1)))
-small = All-cons FnFits _ [] (All-cons InstrFits _ [] (omega arith, tt) (All-nil InstrFits)) (All-nil FnFits)
+small : TacConstantsFit (erased (placed_at (2 ^ 32 - 1)))
+small = All-cons TacFnFits _ [] (All-cons TacInstrFits _ [] (omega arith, tt) (All-nil TacInstrFits)) (All-nil TacFnFits)
 
 short : length (text_of made) ≤ code_limit
 unfolding text_of digits
@@ -72,5 +72,5 @@ emitted_examples = record {
   other = other;
   small = small;
   large = λ h.
-      let first = All-head InstrFits _ [] (All-head FnFits _ [] h) in omega (arith, first.0);
+      let first = All-head TacInstrFits _ [] (All-head TacFnFits _ [] h) in omega (arith, first.0);
 }

@@ -16,7 +16,7 @@ use Rattle.rgo_code.specs.Checked.{KeptAt, KeptAfterLast, KeptByEnd, KeptByEntry
 use Rattle.rgo_code.specs.Code.{CodeFn, CodeInstr}
 use Rattle.rgo_code.specs.Erasure.{erased, erased_fn}
 use Rattle.rgo_code.specs.NameRules.{Ascends, FnAscends, InstrAscends, LendsResult}
-use Rattle.rgo_code.specs.Names.{Holds, Names}
+use Rattle.rgo_code.specs.Names.{Holds, UsesRegionName}
 use Rattle.rgo_code.specs.declared.rules.Line.{Line}
 use Rattle.rgo_code.specs.declared.rules.Line.TheVariants as line
 use Rattle.rgo_code.specs.declared.rules.Rule.{Rule}
@@ -33,7 +33,7 @@ use Rattle.rgo_claim_examples.proofs.Lowered.{endless_lowered}
 held : (k i : ℕ) → Holds endless_main k i → ⊥
 held k i h = no_name k h.1.named
 
-named : (op : _) (k : ℕ) → Names endless_main op k → ⊥
+named : (op : _) (k : ℕ) → UsesRegionName endless_main op k → ⊥
 named op k n = no_name k n.named
 
 not_left : (k i : ℕ) → Holds endless_main k i ⊎ Contains [] k → ⊥

@@ -12,10 +12,10 @@ use Rattle.rgo_machine.specs.Machines.{step_by}
 use Rattle.rgo_machine.specs.Runs.{IsBlocked}
 use Rattle.rgo_tac.specs.Code.{Tac}
 use Rattle.rgo_tac.specs.Tac.{TacState, tac, tac_start, tac_step}
-use Rattle.rgo_driver.specs.declared.ends.RunEnd.{RunEnd}
-use Rattle.rgo_driver.specs.declared.ends.RunEnd.TheVariants as run_end
+use Rattle.rgo_machine.specs.declared.ends.RunEnd.{RunEnd}
+use Rattle.rgo_machine.specs.declared.ends.RunEnd.TheVariants as run_end
 use Rattle.rgo_command_line.specs.Limits.{default_options}
-use Rattle.rgo_claim_examples.specs.Ends.{EndExamples, Gives, line, prints, receiver, waiting}
+use Rattle.rgo_claim_examples.specs.Ends.{EndExamples, FreeRunPrints, line, prints, receiver, waiting}
 use Rattle.rgo_claim_examples.proofs.Quiet.{limited_is_of}
 use Rattle.rgo_claim_examples.proofs.Search.{all_within, found}
 
@@ -45,7 +45,7 @@ abbrev always : Tac → (TacState → Bool) → Bool
 always code test = all_within (limited_step (tac code) default_options.limits) test 10 (tac_start code)
 
 module _ (code : Tac) (test : TacState → Bool) (all : always code test ≡ true) (end : RunEnd) (print : List ℕ)
-    (run : Gives code end print) where
+    (run : FreeRunPrints code end print) where
   passes : test run.state ≡ true
   passes =
       (found (tac code) (limited_step (tac code) default_options.limits) (limited_is_of (tac code) default_options.limits)
@@ -60,14 +60,14 @@ sees print (Some (Trap trap place)) next = false
 abbrev prints_rightly : TacState → Bool
 prints_rightly s = sees s.printed s.ended (tac_step prints s (One 0))
 
-other_print : Gives prints (run_end.Ended Exit) (line false) → ⊥
+other_print : FreeRunPrints prints (run_end.Ended Exit) (line false) → ⊥
 other_print run =
     let p = passes prints prints_rightly refl (run_end.Ended Exit) (line false) run in
     let exited = subst (λ e. sees run.state.printed e (tac_step prints run.state (One 0)) ≡ true) run.ends p in
     let other = subst (λ bytes. bytes_eq bytes (line true) ≡ true) (sym run.gives) exited in
     true≢false (sym other)
 
-no_deadlock : (print : List ℕ) → Gives prints run_end.Deadlock print → ⊥
+no_deadlock : (print : List ℕ) → FreeRunPrints prints run_end.Deadlock print → ⊥
 no_deadlock print run =
     let p = passes prints prints_rightly refl run_end.Deadlock print run in
     let going = subst (λ e. sees run.state.printed e (tac_step prints run.state (One 0)) ≡ true) run.ends.0 p in
@@ -77,7 +77,7 @@ abbrev is_going : Option End → Bool
 is_going None = true
 is_going (Some e) = false
 
-no_exit : (print : List ℕ) → Gives receiver (run_end.Ended Exit) print → ⊥
+no_exit : (print : List ℕ) → FreeRunPrints receiver (run_end.Ended Exit) print → ⊥
 no_exit print run =
     let p = passes receiver (λ s. is_going s.ended) refl (run_end.Ended Exit) print run in
     true≢false (sym (subst (λ e. is_going e ≡ true) run.ends p))

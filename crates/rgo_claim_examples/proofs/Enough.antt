@@ -15,18 +15,18 @@ use Rattle.rgo_machine.specs.declared.picks.Pick.TheVariants.{One}
 use Rattle.rgo_machine.specs.Limits.{LeadsWithin, deepest}
 use Rattle.rgo_machine.specs.Runs.{run}
 use Rattle.rgo_tac.specs.Code.{Tac}
-use Rattle.rgo_tac.specs.Frames.{Frame}
+use Rattle.rgo_tac.specs.Frames.{TacFrame}
 use Rattle.rgo_tac.specs.Tac.{TacState, tac, tac_start}
 use Rattle.rgo_lower.specs.Lowered.{IsLowered}
 use Rattle.rgo_lower.proofs.Determined.{lowering_is_determined}
 use Rattle.rgo_code.specs.Code.{Code}
 use Rattle.rgo_code.specs.Erasure.{erased}
 use Rattle.rgo_region_machine.specs.Machine.{Event, next_object, object_made, plain_step, region_run, region_start}
-use Rattle.rgo_region_machine.specs.Objects.{cells, data_pages, is_spread, new_object, words}
+use Rattle.rgo_region_machine.specs.Objects.{cells, data_pages, is_spread, new_object, object_words}
 use Rattle.rgo_region_machine.specs.States.{RegionState}
-use Rattle.rgo_sound.proofs.Whole.{whole_is_enough}
+use Rattle.rgo_sound.proofs.counts.Whole.{whole_is_enough}
 use Rattle.rgo_sound.specs.Safety.{most_names}
-use Rattle.rgo_driver.specs.declared.ends.RunEnd.TheVariants as run_end
+use Rattle.rgo_machine.specs.declared.ends.RunEnd.TheVariants as run_end
 use Rattle.rgo_command_line.specs.declared.limits.RunOptions.{RunOptions}
 use Rattle.rgo_run.specs.Compiled.{IsCompiledFrom}
 use Rattle.rgo_run.specs.Headline.{NeverEnds, Suffices}
@@ -48,13 +48,13 @@ all_at test (y ∷ ys) zero x all at =
 all_at test (y ∷ ys) (suc i) x all at = all_at test ys i x (and_parts (test y) (list_all test ys) all).1 at
 
 -- an object that fits a page is not spread, and has no data pages
-not_spread : (page_words : ℕ) (object : Object) → words object ≤ page_words → is_spread page_words object ≡ false
-not_spread page_words object small = not_below page_words (words object) small
+not_spread : (page_words : ℕ) (object : Object) → object_words object ≤ page_words → is_spread page_words object ≡ false
+not_spread page_words object small = not_below page_words (object_words object) small
   where
     not_below : (m n : ℕ) → n ≤ m → nat_lt m n ≡ false
     not_below m n l = grind arith
 
-no_data_pages : (page_words : ℕ) (object : Object) → words object ≤ page_words → data_pages page_words object ≡ 0
+no_data_pages : (page_words : ℕ) (object : Object) → object_words object ≤ page_words → data_pages page_words object ≡ 0
 no_data_pages page_words object small =
     ap (λ b. if b then (cells object - 1) / page_words + 1 else 0) (not_spread page_words object small)
 
@@ -62,10 +62,10 @@ module _ (options : RunOptions) (code : Tac) (steps : ℕ) where
   -- what the search finds of a state
   record HasRoom (t : TacState) (picks : List Pick) : Type 0 where
     short : length picks < steps
-    shallow : (g : ℕ) (frames : List Frame) → slice_get t.goroutines g ≡ Some frames → length frames < deepest
+    shallow : (g : ℕ) (frames : List TacFrame) → slice_get t.goroutines g ≡ Some frames → length frames < deepest
     few : length t.goroutines < options.limits.goroutines
     objects : length t.memory.heap + length t.goroutines ≤ options.sizes.pages
-    small : (o : ℕ) (object : Object) → slice_get t.memory.heap o ≡ Some object → words object ≤ options.sizes.page_words
+    small : (o : ℕ) (object : Object) → slice_get t.memory.heap o ≡ Some object → object_words object ≤ options.sizes.page_words
     regions : (steps + length t.goroutines) * most_variables code.functions ≤ options.sizes.regions
 
   of_test : (t : TacState) (picks : List Pick) → length picks < steps
@@ -81,7 +81,7 @@ module _ (options : RunOptions) (code : Tac) (steps : ℕ) where
         few = ltb-true (length t.goroutines) options.limits.goroutines b.0;
         objects = leb-true (length t.memory.heap + length t.goroutines) options.sizes.pages c.0;
         small =
-            λ o object at. leb-true (words object) options.sizes.page_words
+            λ o object at. leb-true (object_words object) options.sizes.page_words
             (all_at (is_small options.sizes) t.memory.heap o object d.0 at);
         regions =
             leb-true ((steps + length t.goroutines) * most_variables code.functions) options.sizes.regions d.1;
@@ -160,7 +160,7 @@ module _ (options : RunOptions) (code : Tac) (steps : ℕ) where
 
         -- the object that a step makes from here is in a state of a longer run
         no_large : (g : ℕ) (next : TacState) (object : Object) → plain_step made s.plain (One g) ≡ Some next
-            → new_object s.plain next ≡ Some object → words object ≤ options.sizes.page_words
+            → new_object s.plain next ≡ Some object → object_words object ≤ options.sizes.page_words
         no_large g next object e at =
             let one = quiet_of (tac (erased made)) s.plain (One g) next e in
             let longer = joined made options.sizes.page_words (PlainRun.picks plain) (One g ∷ [])
@@ -172,11 +172,11 @@ module _ (options : RunOptions) (code : Tac) (steps : ℕ) where
         none_next object e = cc
 
         next_small : (g : ℕ) (object : Object) → next_object made s g ≡ Some object
-            → words object ≤ options.sizes.page_words
+            → object_words object ≤ options.sizes.page_words
         next_small g object = by (plain_step made s.plain (One g)) refl
           where
             by : (o : Option TacState) → plain_step made s.plain (One g) ≡ o → object_made s o ≡ Some object
-                → words object ≤ options.sizes.page_words
+                → object_words object ≤ options.sizes.page_words
             by None e at = absurd (none_next object at)
             by (Some next) e at = no_large g next object e at
 

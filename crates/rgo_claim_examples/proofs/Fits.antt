@@ -7,9 +7,9 @@ use Rattle.rgo_machine.specs.declared.limits.Limits.{Limits}
 use Rattle.rgo_machine.specs.declared.limits.Sizes.{Sizes}
 use Rattle.rgo_machine.specs.Limits.{deepest}
 use Rattle.rgo_tac.specs.Code.{TacFn, Tac}
-use Rattle.rgo_tac.specs.Frames.{Frame}
+use Rattle.rgo_tac.specs.Frames.{TacFrame}
 use Rattle.rgo_tac.specs.Tac.{TacState, tac, tac_start}
-use Rattle.rgo_region_machine.specs.Objects.{words}
+use Rattle.rgo_region_machine.specs.Objects.{object_words}
 use Rattle.rgo_claim_examples.proofs.Quiet.{quiet_step}
 use Rattle.rgo_claim_examples.proofs.Search.{all_within}
 
@@ -18,13 +18,13 @@ abbrev pub most_variables : List TacFn → ℕ
 most_variables [] = 0
 most_variables (f ∷ fs) = max (length f.variables + 1) (most_variables fs)
 
-abbrev pub is_shallow : List Frame → Bool
+abbrev pub is_shallow : List TacFrame → Bool
 is_shallow frames = nat_lt (length frames) deepest
 
 abbrev pub is_small : Sizes → Object → Bool
-is_small sizes object = nat_le (words object) sizes.page_words
+is_small sizes object = nat_le (object_words object) sizes.page_words
 
--- whether a state within so many steps has room
+-- whether a state has room, in a run of at most this number of steps
 abbrev pub has_room : Limits → Sizes → (steps names : ℕ) → TacState → Bool
 has_room limits sizes steps names s =
     list_all is_shallow s.goroutines
@@ -33,7 +33,7 @@ has_room limits sizes steps names s =
     && (list_all (is_small sizes) s.memory.heap
     && nat_le ((steps + length s.goroutines) * names) sizes.regions)))
 
--- whether every state of every run has room, and no run has so many steps
+-- whether every state of every run has room, and every run has fewer steps than this
 abbrev pub fits : Limits → Sizes → (steps : ℕ) → Tac → Bool
 fits limits sizes steps code =
     nat_le steps limits.steps

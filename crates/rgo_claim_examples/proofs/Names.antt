@@ -8,14 +8,14 @@ use Rattle.rgo_tac.specs.declared.regions.Class.{Class}
 use Rattle.rgo_tac.specs.declared.regions.Class.TheVariants.{Global, Name, NoClass}
 use Rattle.rgo_code.specs.Code.{CodeFn, Slot}
 use Rattle.rgo_code.specs.Erasure.{erased_fn}
-use Rattle.rgo_code.specs.Names.{distinct_names, is_name, result_class}
+use Rattle.rgo_code.specs.Names.{distinct_names, is_class_named, result_class}
 use Rattle.rgo_sound.specs.Safety.{most_names, name_count}
 use Rattle.rgo_claim_examples.proofs.Fits.{most_variables}
 
 no_more : (seen classes : List Class) → length (distinct_names seen classes) ≤ length classes
 no_more seen [] = omega arith
 no_more seen (Name k ∷ classes) =
-    by (list_any (is_name k) seen) (no_more seen classes) (no_more (Name k ∷ seen) classes)
+    by (list_any (is_class_named k) seen) (no_more seen classes) (no_more (Name k ∷ seen) classes)
   where
     by : (b : Bool) → length (distinct_names seen classes) ≤ length classes
         → length (distinct_names (Name k ∷ seen) classes) ≤ length classes

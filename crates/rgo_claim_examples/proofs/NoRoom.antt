@@ -12,10 +12,10 @@ use Rattle.rgo_machine.specs.declared.picks.Pick.TheVariants.{One}
 use Rattle.rgo_tac.specs.declared.regions.Class.{Class}
 use Rattle.rgo_tac.specs.declared.regions.Class.TheVariants.{Global, Name, NoClass}
 use Rattle.rgo_tac.specs.Code.{Tac, TacFn}
-use Rattle.rgo_tac.specs.Frames.{Frame}
+use Rattle.rgo_tac.specs.Frames.{TacFrame}
 use Rattle.rgo_tac.specs.Tac.{TacState, tac, tac_start}
 use Rattle.rgo_lower.proofs.Determined.{lowering_is_determined}
-use Rattle.rgo_code.specs.ClassRules.{SlotFits}
+use Rattle.rgo_code.specs.ClassRules.{SlotClassFitsType}
 use Rattle.rgo_code.specs.Code.{Code, CodeFn, CodeInstr, Slot}
 use Rattle.rgo_code.specs.Erasure.{erased, erased_fn}
 use Rattle.rgo_code.specs.Names.{distinct_names, slot_class}
@@ -26,7 +26,7 @@ use Rattle.rgo_region_machine.specs.Machine.{region_run, region_start, region_st
 use Rattle.rgo_region_machine.specs.Objects.{new_object}
 use Rattle.rgo_region_machine.specs.States.{Holder, RegionState, frames_of}
 use Rattle.rgo_region_machine.specs.declared.regions.Region.{Region}
-use Rattle.rgo_sound.proofs.ErasureLemmas.{Yields, yields_none, yields_then}
+use Rattle.rgo_sound.proofs.plain.Steps.{Yields, yields_none, yields_then}
 use Rattle.rgo_sound.specs.Safety.{most_names, name_count}
 use Rattle.rgo_command_line.specs.Limits.{default_options}
 use Rattle.rgo_run.specs.Compiled.{IsCompiledFrom}
@@ -66,7 +66,7 @@ all_of : (slots : List Slot) → ((v : ℕ) (s : Slot) → slice_get slots v ≡
 all_of [] each = tt
 all_of (s ∷ slots) each = (each 0 s refl, all_of slots (λ v t at. each (suc v) t at))
 
-class_none : (s : Slot) → SlotFits s → is_pointer_like s.ty ≡ false → s.class ≡ NoClass
+class_none : (s : Slot) → SlotClassFitsType s → is_pointer_like s.ty ≡ false → s.class ≡ NoClass
 class_none s fits plain = by s.class refl
   where
     by : (c : Class) → s.class ≡ c → s.class ≡ NoClass
@@ -163,11 +163,11 @@ module _ (made : Code) (compiled : IsCompiledFrom no_object made) where
       none_taken g h r =
           subst (λ o. Yields Never (option_and_then (page_before page_words s g h r) o)) (sym (none_next g)) yields_none
 
-      none_for : (g : ℕ) (h : Holder) (frame : Frame) (i : CodeInstr)
+      none_for : (g : ℕ) (h : Holder) (frame : TacFrame) (i : CodeInstr)
           → Yields Never (page_for made page_words s g h frame i)
       none_for g h frame i = yields_then (takes_page made page_words s g h) _ (λ r. none_taken g h r)
 
-      none_at : (g : ℕ) (h : Holder) (frames : List Frame) → Yields Never (take_page made page_words s g h frames)
+      none_at : (g : ℕ) (h : Holder) (frames : List TacFrame) → Yields Never (take_page made page_words s g h frames)
       none_at g h [] = yields_none
       none_at g h (frame ∷ callers) =
           yields_then (page_for made page_words s g h frame) _ (λ i. none_for g h frame i)

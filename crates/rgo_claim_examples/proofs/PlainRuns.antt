@@ -13,8 +13,8 @@ use Rattle.rgo_region_machine.specs.Machine.{region_step}
 use Rattle.rgo_region_machine.specs.States.{RegionState}
 use Rattle.rgo_sound.specs.Tally.{share_of}
 use Rattle.rgo_sound.specs.Tally.{share_of_plain}
-use Rattle.rgo_sound.proofs.ErasureLemmas.{Follows, Keeps, Yields, step_follows}
-use Rattle.rgo_sound.proofs.Tally.{none_of_holder, tally_adds}
+use Rattle.rgo_sound.proofs.plain.Steps.{Follows, Keeps, Yields, step_follows}
+use Rattle.rgo_sound.proofs.counts.Tally.{none_of_holder, tally_adds}
 use Rattle.rgo_claim_examples.proofs.Quiet.{quiet, quiet_of, quiet_step}
 
 -- ---- one event

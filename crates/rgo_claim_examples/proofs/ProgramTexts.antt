@@ -11,7 +11,7 @@ use Rattle.rgo_lexer.specs.Comments.{comment_at}
 use Rattle.rgo_lexer.specs.Front.{front_of}
 use Rattle.rgo_lexer.specs.Lexemes.{Lexeme, leaf, tok}
 use Rattle.rgo_lexer.specs.Lexing.{LexesFrom, blank, finish, newline, piece, with_package_name}
-use Rattle.rgo_lexer.specs.Numbers.{number_at, number_of}
+use Rattle.rgo_lexer.specs.Numbers.{number_at, literal_value}
 use Rattle.rgo_lexer.specs.Operators.{operator_at, operator_entry}
 use Rattle.rgo_lexer.specs.Semicolons.{may_end}
 use Rattle.rgo_lexer.specs.Strings.{items_len, string_at, string_of}
@@ -70,7 +70,7 @@ object_found =
     tok Semicolon (leaf 127 []) ∷ []
 
 object_lexed : LexesFrom 0 None object_text object_found
-unfolding front_of word_at word_terminal number_at number_of string_at items_len comment_at operator_at operator_entry may_end
+unfolding front_of word_at word_terminal number_at literal_value string_at items_len comment_at operator_at operator_entry may_end
 object_lexed =
     piece Package 7 refl (blank 1 refl (piece Name 4 refl (newline 1 refl (newline 1 refl (piece Import 6 refl
     (blank 1 refl (piece Text 5 refl (newline 1 refl (newline 1 refl (piece TypeWord 4 refl (blank 1 refl
@@ -107,7 +107,7 @@ object_typed : one_object ≡ typed_program object_tree
 unfolding string_of listed several a_type names expr stmt decls imports
 object_typed = refl
 
-pub object_is_program : verdicts.IsProgram object_text one_object
+pub object_is_program : verdicts.IsTypedProgram object_text one_object
 object_is_program = record {
   tree = object_tree;
   is_well_typed = record {
@@ -166,7 +166,7 @@ list_found =
     tok Semicolon (leaf 247 []) ∷ []
 
 list_lexed : LexesFrom 0 None list_text list_found
-unfolding front_of word_at word_terminal number_at number_of string_at items_len comment_at operator_at operator_entry may_end
+unfolding front_of word_at word_terminal number_at literal_value string_at items_len comment_at operator_at operator_entry may_end
 list_lexed =
     piece Package 7 refl (blank 1 refl (piece Name 4 refl (newline 1 refl (newline 1 refl (piece Import 6 refl
     (blank 1 refl (piece Text 5 refl (newline 1 refl (newline 1 refl (piece TypeWord 4 refl (blank 1 refl
@@ -218,7 +218,7 @@ list_typed : linked_list ≡ typed_program list_tree
 unfolding string_of listed several a_type names expr stmt decls imports
 list_typed = refl
 
-pub list_is_program : verdicts.IsProgram list_text linked_list
+pub list_is_program : verdicts.IsTypedProgram list_text linked_list
 list_is_program = record {
   tree = list_tree;
   is_well_typed = record {
@@ -292,7 +292,7 @@ tree_found =
     tok Semicolon (leaf 350 []) ∷ []
 
 tree_lexed : LexesFrom 0 None tree_text tree_found
-unfolding front_of word_at word_terminal number_at number_of string_at items_len comment_at operator_at operator_entry may_end
+unfolding front_of word_at word_terminal number_at literal_value string_at items_len comment_at operator_at operator_entry may_end
 tree_lexed =
     piece Package 7 refl (blank 1 refl (piece Name 4 refl (newline 1 refl (newline 1 refl (piece Import 6 refl
     (blank 1 refl (piece Text 5 refl (newline 1 refl (newline 1 refl (piece TypeWord 4 refl (blank 1 refl
@@ -353,7 +353,7 @@ tree_typed : binary_tree ≡ typed_program tree_tree
 unfolding string_of listed several a_type names expr stmt decls imports
 tree_typed = refl
 
-pub tree_is_program : verdicts.IsProgram tree_text binary_tree
+pub tree_is_program : verdicts.IsTypedProgram tree_text binary_tree
 tree_is_program = record {
   tree = tree_tree;
   is_well_typed = record {
@@ -395,7 +395,7 @@ sender_found =
     tok Semicolon (leaf 127 []) ∷ tok CloseBrace (leaf 128 (codes "}")) ∷ tok Semicolon (leaf 129 []) ∷ []
 
 sender_lexed : LexesFrom 0 None sender_text sender_found
-unfolding front_of word_at word_terminal number_at number_of string_at items_len comment_at operator_at operator_entry may_end
+unfolding front_of word_at word_terminal number_at literal_value string_at items_len comment_at operator_at operator_entry may_end
 sender_lexed =
     piece Package 7 refl (blank 1 refl (piece Name 4 refl (newline 1 refl (newline 1 refl (piece Import 6 refl
     (blank 1 refl (piece Text 5 refl (newline 1 refl (newline 1 refl (piece Func 4 refl (blank 1 refl
@@ -434,7 +434,7 @@ sender_typed : sender ≡ typed_program sender_tree
 unfolding string_of listed several a_type names expr stmt decls imports
 sender_typed = refl
 
-pub sender_is_program : verdicts.IsProgram sender_text sender
+pub sender_is_program : verdicts.IsTypedProgram sender_text sender
 sender_is_program = record {
   tree = sender_tree;
   is_well_typed = record {

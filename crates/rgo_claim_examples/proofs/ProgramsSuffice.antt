@@ -73,7 +73,7 @@ too_few_steps enough =
     enough.steps one_object_code one_object_lowered 0 (One 0 ∷ One 0 ∷ One 0 ∷ One 0 ∷ []) _ refl
     (refl, omega arith, omega arith)
 
--- `main` stands before the start of the other goroutine
+-- `main` is before the start of the other goroutine
 too_few_goroutines : Suffices (with_limits 1000 1) (of_program sender) → ⊥
 too_few_goroutines enough =
     enough.goroutines sender_code sender_lowered 0 (One 0 ∷ One 0 ∷ One 0 ∷ []) _ refl

@@ -9,28 +9,28 @@ use Rattle.rgo_machine.specs.declared.picks.End.{End}
 use Rattle.rgo_machine.specs.declared.picks.End.TheVariants.{Exit, Trap}
 use Rattle.rgo_machine.specs.declared.picks.Pick.{Pick}
 use Rattle.rgo_machine.specs.declared.picks.Pick.TheVariants as machine
-use Rattle.rgo_machine.specs.declared.turns.Shortage.TheVariants as shortage
+use Rattle.rgo_machine.specs.declared.limits.Shortage.TheVariants as shortage
 use Rattle.rgo_tac.specs.Tac.{TacState, tac, tac_start}
 use Rattle.rgo_code.specs.Code.{Code}
 use Rattle.rgo_code.specs.Erasure.{erased}
 use Rattle.rgo_lower.specs.Lowered.{IsLowered}
 use Rattle.rgo_lower.proofs.Determined.{lowering_is_determined}
-use Rattle.rgo_driver.specs.Runs.{Ends, RunsFreely}
-use Rattle.rgo_driver.specs.declared.ends.RunEnd.{RunEnd}
-use Rattle.rgo_driver.specs.declared.ends.RunEnd.TheVariants as run_end
+use Rattle.rgo_machine.specs.Ends.{RunEndsAs, RunsFreely}
+use Rattle.rgo_machine.specs.declared.ends.RunEnd.{RunEnd}
+use Rattle.rgo_machine.specs.declared.ends.RunEnd.TheVariants as run_end
 use Rattle.rgo_command_line.specs.Commands.{command_of}
 use Rattle.rgo_command_line.specs.Limits.{default_options}
 use Rattle.rgo_command_line.specs.declared.commands.Command.TheVariants.{Record}
 use Rattle.rgo_journal.specs.declared.picks.TacPick.{TacPick}
 use Rattle.rgo_journal.specs.declared.picks.TacPick.TheVariants.{One}
-use Rattle.rgo_journal.specs.Replays.{Takes}
-use Rattle.rgo_journal.specs.Text.{Fits, IsJournal, journal}
+use Rattle.rgo_journal.specs.Replays.{TakesPicks}
+use Rattle.rgo_journal.specs.Text.{PickFits, IsJournal, journal}
 use Rattle.rgo_journal.proofs.OneJournal.{read_back}
 use Rattle.rgo_run.specs.Endings.{line_of, status_of, status_of_run}
-use Rattle.rgo_run.specs.Recorded.{IsOfNoRun, Noted, RecordHeadline, RecordedText, Records, Says, nothing, part, rest, whole}
+use Rattle.rgo_run.specs.Recorded.{IsOfNoRun, Noted, RecordHeadline, RecordedText, RecordsText, ReportsJournal, nothing, part, rest, whole}
 use Rattle.rgo_run.specs.Runs.{IsCodeFor, IsRunnable, Runnable, of_code, of_program}
 use Rattle.rgo_run.specs.Texts.{IsRead}
-use Rattle.rgo_run.specs.Verdicts.{IsProgram}
+use Rattle.rgo_run.specs.Verdicts.{IsTypedProgram}
 use Rattle.rgo_run.specs.declared.endings.Ending.TheVariants.{Ran}
 use Rattle.rgo_run.specs.declared.endings.TextKind.TheVariants as text_kind
 use Rattle.rgo_run.proofs.RecordLemmas.{headline_of_records}
@@ -93,7 +93,7 @@ noted words err = record {
     held = λ no_fault. refl;
   };
   takes = refl;
-  fit = All-replicate Fits 5 (One 0) (ltb-true 0 (2 ^ 32) refl);
+  fit = All-replicate PickFits 5 (One 0) (ltb-true 0 (2 ^ 32) refl);
   goes_on = λ why is dead. cc;
 }
 
@@ -106,7 +106,7 @@ module _ (words : List (List ℕ)) (asked : command_of words ≡ Some (Record de
     held = refl;
   }
 
-  records : Records default_options object_text 0 (left_by words (journal picks)).out (left_by words (journal picks)).err
+  records : RecordsText default_options object_text 0 (left_by words (journal picks)).out (left_by words (journal picks)).err
   records = (
     journal picks,
     inl (record {
@@ -121,7 +121,7 @@ module _ (words : List (List ℕ)) (asked : command_of words ≡ Some (Record de
   recorded : RecordHeadline default_options (left_by words (journal picks))
   recorded = headline_of_records (left_by words (journal picks)) default_options object_text read records
 
--- ---- what is none
+-- ---- calls that violate the claim
 
 not_zero : IsOfNoRun 0 → ⊥
 not_zero (inl e) = cc
@@ -153,7 +153,7 @@ told : (words : List (List ℕ)) (err : List ℕ) (h : RecordHeadline default_op
 told words err h = by h.recorded
   where
     of : (r : RecordedText default_options (left_by words err) h.said)
-        → Says r.records.picks r.records.ending 0 (left_by words err).err h.said → Tells words err h
+        → ReportsJournal r.records.picks r.records.ending 0 (left_by words err).err h.said → Tells words err h
     of r (whole is) =
         let t = run_told r.text r.records.ending 0 (rest h.said (left_by words err).err) not_zero r.records.reports in
         record {
@@ -182,7 +182,7 @@ no_journal found line e = true≢false (ap is_empty e)
 abbrev fewer : List TacPick
 fewer = drop 1 picks
 
-fewer_fit : Fits (One 0)
+fewer_fit : PickFits (One 0)
 fewer_fit = ltb-true 0 (2 ^ 32) refl
 
 -- what begins with one journal begins with no other
@@ -191,12 +191,12 @@ same_picks : (found : List TacPick) (line : List ℕ) → IsJournal (journal fou
 same_picks found line is e =
     (read_back.one (journal found ++ line) found fewer (length (journal found)) (length (journal fewer)) is
     (subst (λ b. IsJournal b fewer (length (journal fewer))) (append-nil (journal fewer) ∙ e)
-    (read_back.is fewer [] (All-replicate Fits 4 (One 0) fewer_fit)))).0
+    (read_back.is fewer [] (All-replicate PickFits 4 (One 0) fewer_fit)))).0
 
 code_of_text : (text : List ℕ) (what : Runnable) (other : Code) → text ≡ object_text → IsRunnable text_kind.Go text what
     → IsCodeFor what other → erased other ≡ one_object_code
 code_of_text text (of_program program) other same is compiled_to =
-    let one = one_program object_text program one_object (subst (λ t. IsProgram t program) same is.1) object_is_program in
+    let one = one_program object_text program one_object (subst (λ t. IsTypedProgram t program) same is.1) object_is_program in
     lowering_is_determined one_object one_object_code (erased other) one_object_lowered
     (subst (λ p. IsLowered p (erased other)) one compiled_to.lowered)
 code_of_text text (of_code given) other same is compiled_to = absurd (let wrong = is.0 in cc)
@@ -205,7 +205,7 @@ abbrev end_after : Option TacState → Option End
 end_after o = option_and_then (λ (s : TacState). s.ended) o
 
 -- four picks do not lead to the exit
-not_yet : (s : TacState) → Takes one_object_code fewer s → s.ended ≡ Some Exit → ⊥
+not_yet : (s : TacState) → TakesPicks one_object_code fewer s → s.ended ≡ Some Exit → ⊥
 not_yet s takes ended = let both : None ≡ Some Exit = ap end_after takes ∙ ended in cc
 
 lost : (words : List (List ℕ)) → RecordHeadline default_options (left_by words (journal fewer)) → ⊥
@@ -218,9 +218,9 @@ lost words h =
     let plain = code_of_text t.text.text run.what run.runs.code t.text.is_text run.is_what run.runs.is_code in
     let end = exited run.run_end (sym (ap status_of run.is_end) ∙ t.status) in
     not_yet run.runs.runs.state
-    (subst (λ c. Takes c fewer run.runs.runs.state) plain
-    (subst (λ l. Takes (erased run.runs.code) l run.runs.runs.state) found r.noted.takes))
-    (subst (λ e. Ends (tac (erased run.runs.code)) default_options.limits run.runs.runs.tested
+    (subst (λ c. TakesPicks c fewer run.runs.runs.state) plain
+    (subst (λ l. TakesPicks (erased run.runs.code) l run.runs.runs.state) found r.noted.takes))
+    (subst (λ e. RunEndsAs (tac (erased run.runs.code)) default_options.limits run.runs.runs.tested
     (length run.runs.runs.picks) run.runs.runs.state e) end run.runs.runs.ends)
 
 pub record_examples : RecordExamples

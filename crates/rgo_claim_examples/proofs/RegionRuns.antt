@@ -5,8 +5,8 @@ use Rattle.std.proofs.lemmas.Bool.{leb-true, ltb-true}
 use Rattle.rgo_machine.specs.declared.limits.Sizes.{Sizes}
 use Rattle.rgo_machine.specs.declared.picks.End.TheVariants.{Exit}
 use Rattle.rgo_machine.specs.declared.picks.Pick.TheVariants.{One}
-use Rattle.rgo_machine.specs.declared.turns.Shortage.{Shortage}
-use Rattle.rgo_machine.specs.declared.turns.Shortage.TheVariants as shortage
+use Rattle.rgo_machine.specs.declared.limits.Shortage.{Shortage}
+use Rattle.rgo_machine.specs.declared.limits.Shortage.TheVariants as shortage
 use Rattle.rgo_tac.specs.Tac.{TacState, tac, tac_start}
 use Rattle.rgo_code.specs.Erasure.{erased}
 use Rattle.rgo_region_machine.specs.Counts.{counts_of}
@@ -14,15 +14,15 @@ use Rattle.rgo_region_machine.specs.Machine.{Attend, Event, Instruct, TakePage, 
 use Rattle.rgo_region_machine.specs.Room.{roomy_run, LacksIn}
 use Rattle.rgo_region_machine.specs.States.{RegionState, plain_at}
 use Rattle.rgo_sound.specs.Safety.{IsSafe}
-use Rattle.rgo_sound.proofs.Room.{room_is_kept}
+use Rattle.rgo_sound.proofs.counts.Room.{room_is_kept}
 use Rattle.rgo_sound.proofs.Safe.{safety}
-use Rattle.rgo_sound.proofs.Offers.{names_only_live}
-use Rattle.rgo_driver.specs.declared.ends.RunEnd.{RunEnd}
-use Rattle.rgo_driver.specs.declared.ends.RunEnd.TheVariants as run_end
+use Rattle.rgo_sound.proofs.offers.Offers.{names_only_live}
+use Rattle.rgo_machine.specs.declared.ends.RunEnd.{RunEnd}
+use Rattle.rgo_machine.specs.declared.ends.RunEnd.TheVariants as run_end
 use Rattle.rgo_command_line.specs.Limits.{default_options}
 use Rattle.rgo_run.specs.Headline.{Suffices}
 use Rattle.rgo_run.specs.Runs.{of_program}
-use Rattle.rgo_run.specs.TableRuns.claims.RegionRuns.{NamesLive, RegionRun}
+use Rattle.rgo_sound.specs.RegionRuns.{NamesLive, RegionRun}
 use Rattle.rgo_claim_examples.specs.Programs.{one_object}
 use Rattle.rgo_claim_examples.specs.RegionRuns.{RegionRunExamples, code}
 use Rattle.rgo_claim_examples.specs.States.{sizes}

@@ -8,14 +8,14 @@ use Rattle.rgo_memory.specs.Memory.{Object}
 use Rattle.rgo_memory.specs.declared.values.Value.{Value}
 use Rattle.rgo_memory.specs.declared.values.Value.TheVariants as value
 use Rattle.rgo_machine.specs.declared.picks.Pick.TheVariants.{One}
-use Rattle.rgo_machine.specs.declared.turns.Shortage.TheVariants as shortage
+use Rattle.rgo_machine.specs.declared.limits.Shortage.TheVariants as shortage
 use Rattle.rgo_tac.specs.Tac.{TacState}
 use Rattle.rgo_region_machine.specs.declared.regions.Region.{Region}
 use Rattle.rgo_region_machine.specs.declared.regions.Region.TheVariants.{Numbered}
 use Rattle.rgo_region_machine.specs.Examples.{long_slice, one_object, taking}
 use Rattle.rgo_region_machine.specs.Machine.{TakePage, plain_step, region_run, region_start, region_step}
 use Rattle.rgo_region_machine.specs.Objects.{data_pages, making_region, most_data_pages, new_object, touched}
-use Rattle.rgo_tac.specs.Frames.{Frame}
+use Rattle.rgo_tac.specs.Frames.{TacFrame}
 use Rattle.rgo_code.specs.Code.{CodeInstr}
 use Rattle.rgo_region_machine.specs.Owed.{current, function_at}
 use Rattle.rgo_region_machine.specs.Regions.{RegionInfo}
@@ -26,7 +26,7 @@ use Rattle.rgo_region_machine.specs.Room.{MakesTooLarge, LacksIn}
 use Rattle.rgo_sound.specs.Safety.{CountsFit, IsSafe, PointersStay, cells_of}
 use Rattle.rgo_sound.specs.Stakes.{HasEnded, holders_of, pending_of}
 use Rattle.rgo_sound.proofs.Places.{contains_here, contains_one}
-use Rattle.rgo_run.specs.TableRuns.claims.RegionRuns.{NamesLive}
+use Rattle.rgo_sound.specs.RegionRuns.{NamesLive}
 use Rattle.rgo_claim_examples.specs.States as example
 use Rattle.rgo_claim_examples.specs.States.{RoomExamples, StateExamples, main_at, sizes}
 
@@ -105,7 +105,7 @@ named_twice safe = let e : 2 ≡ 1 = safe.names 0 _ 0 refl (contains_here 0 []) 
 too_many_pages : IsSafe one_object 16 example.too_many_pages → ⊥
 too_many_pages safe = let e : 2 ≤ 1 = safe.counts.pages in omega (arith, e)
 
--- `main` stands before an instruction, so it has not ended
+-- `main` is before an instruction, so it has not ended
 spread_pages : CountsFit one_object 16 (example.with_pages 8)
 spread_pages = record {
   pages = leb-true 8 8 refl;
@@ -163,22 +163,22 @@ no_object : (o : ℕ) → ◌≡◌ {A = Option ℕ} None (Some o) → ⊥
 no_object o e = cc
 
 -- what an instruction of `one_object` names is region 0, with a stake of the goroutine
-abbrev NamesFirst : RegionState → Frame → CodeInstr → Type 0
+abbrev NamesFirst : RegionState → TacFrame → CodeInstr → Type 0
 NamesFirst s frame i =
     (r : Region)
     → (making_region (function_at one_object frame) (top_names maker.environments) i.op ≡ Some r)
     ⊎ ((o : ℕ) × (touched frame i.op ≡ Some o) × (slice_get s.owners o ≡ Some r))
     → HasStake s maker r
 
-of_instr : (s : RegionState) (frame : Frame) (i : CodeInstr) → current one_object frame ≡ Some i → NamesFirst s frame i
+of_instr : (s : RegionState) (frame : TacFrame) (i : CodeInstr) → current one_object frame ≡ Some i → NamesFirst s frame i
     → (r : Region) → InstructionNames one_object s maker (frame ∷ []) r → HasStake s maker r
 of_instr s frame i is names r named =
     subst (NamesFirst s frame) (same_Some i named.0 (sym is ∙ named.1)) names r named.2
 
-abbrev first_frame : Frame
+abbrev first_frame : TacFrame
 first_frame = record { function = 0; next = 0; variables = value.Nil ∷ value.Nil ∷ value.Nil ∷ [] }
 
-abbrev load_frame : Frame
+abbrev load_frame : TacFrame
 load_frame = record { function = 0; next = 2; variables = value.Object 0 ∷ value.Object 0 ∷ value.Nil ∷ [] }
 
 made : (i : CodeInstr) → current one_object first_frame ≡ Some i → NamesFirst example.at_home first_frame i
@@ -256,7 +256,7 @@ no_page_yet lacks = by lacks.0 lacks.1
     by zero some = true≢false (sym some)
     by (suc g) some = true≢false (sym some)
 
--- the state before a slice of so many elements, of whose pages so many are taken
+-- the state before a slice of this number of elements, with this number of its pages taken
 abbrev before_slice : (n last other pages : ℕ) → RegionState
 before_slice n last other pages =
     unwrap_or (region_run (long_slice n last other) 16 (taking pages)) (region_start (long_slice n last other))

@@ -22,8 +22,8 @@ use Rattle.rgo_parser.specs.Parsing.{limit}
 use Rattle.rgo_typing_rules.specs.Rules.{broken}
 use Rattle.rgo_typing_rules.specs.Sites.{first_refusal}
 use Rattle.rgo_types.specs.Programs.{sites_of}
-use Rattle.rgo_run.specs.Verdicts.{IsProgram, Refused}
-use Rattle.rgo_run.specs.declared.endings.Ending.TheVariants.{Lexical}
+use Rattle.rgo_run.specs.Verdicts.{IsTypedProgram, Refused}
+use Rattle.rgo_run.specs.declared.refusals.TextRefusal.TheVariants.{Lexical}
 use Rattle.rgo_run.proofs.VerdictLemmas.{one_verdict}
 use Rattle.rgo_claim_examples.specs.Programs.{endless}
 use Rattle.rgo_claim_examples.proofs.ProgramTexts.{object_is_program, list_is_program, tree_is_program, sender_is_program}
@@ -106,7 +106,7 @@ unbroken : first_refusal (sites_of surface) ≡ None
 unfolding broken
 unbroken = refl
 
-is_program : IsProgram endless_text endless
+is_program : IsTypedProgram endless_text endless
 is_program = record {
   tree = surface;
   is_well_typed =
@@ -137,7 +137,7 @@ text_examples = record {
   goroutines = sender_is_program;
   is_program = is_program;
   no_other = λ program is. one_verdict.one_program endless_text program endless is is_program;
-  not_refused = λ ending r. one_verdict.never_both endless_text ending (is_program.tree, is_program.is_well_typed) r;
+  not_refused = λ why r. one_verdict.never_both endless_text why (is_program.tree, is_program.is_well_typed) r;
   refused = refused;
   does_not_pass = λ p. one_verdict.never_both bad_text (Lexical (record { kind = BadByte; at = 0 })) p refused;
 }

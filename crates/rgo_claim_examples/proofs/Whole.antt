@@ -21,15 +21,15 @@ use Rattle.rgo_tac.specs.Tac.{TacState, tac, tac_start}
 use Rattle.rgo_lower.specs.Lowered.{IsLowered}
 use Rattle.rgo_lower.proofs.Determined.{lowering_is_determined}
 use Rattle.rgo_code.specs.Erasure.{erased}
-use Rattle.rgo_driver.specs.declared.ends.RunEnd.{RunEnd}
-use Rattle.rgo_driver.specs.declared.ends.RunEnd.TheVariants as run_end
-use Rattle.rgo_driver.specs.Runs.{RunsFreely}
+use Rattle.rgo_machine.specs.declared.ends.RunEnd.{RunEnd}
+use Rattle.rgo_machine.specs.declared.ends.RunEnd.TheVariants as run_end
+use Rattle.rgo_machine.specs.Ends.{RunsFreely}
 use Rattle.rgo_command_line.specs.Limits.{default_options}
-use Rattle.rgo_run.specs.Calls.{Grew}
+use Rattle.rgo_run.specs.Calls.{SinkGrew}
 use Rattle.rgo_run.specs.Endings.{status_of_run}
 use Rattle.rgo_run.specs.Headline.{Complete, IsOwnEnd, RunsWhole, Suffices}
 use Rattle.rgo_run.specs.Runs.{of_program}
-use Rattle.rgo_run.specs.Verdicts.{IsProgram}
+use Rattle.rgo_run.specs.Verdicts.{IsTypedProgram}
 use Rattle.rgo_run.specs.declared.endings.TextKind.TheVariants as text_kind
 use Rattle.rgo_claim_examples.specs.Programs.{one_object, linked_list, binary_tree, sender}
 use Rattle.rgo_claim_examples.specs.Texts.{object_text, list_text, tree_text, sender_text}
@@ -41,7 +41,7 @@ use Rattle.rgo_claim_examples.proofs.ProgramsSuffice.{programs_suffice}
 use Rattle.rgo_claim_examples.proofs.Quiet.{limited_is_of}
 use Rattle.rgo_claim_examples.proofs.Search.{all_below, all_next, all_within, found, leads_to}
 
--- ---- a state that is no end but an exit
+-- ---- a state whose only possible end is an exit
 
 always_below : (test : ℕ → Bool) (n : ℕ) → ((k : ℕ) → test k ≡ true) → all_below test n ≡ true
 always_below test zero each = refl
@@ -117,7 +117,7 @@ module _ (program : Typed) (code : Tac) (steps : ℕ) (print : List ℕ) (lowere
   exits other is run_end.WriteFault old new own run = absurd own
   exits other is run_end.NoMemory old new own run = absurd own
 
-  runs_to_exit : (text : List ℕ) → IsProgram text program → Suffices default_options (of_program program) → RunsToExit text print
+  runs_to_exit : (text : List ℕ) → IsTypedProgram text program → Suffices default_options (of_program program) → RunsToExit text print
   runs_to_exit text is_program enough call claim same asked read out err =
       by (complete.run text_kind.Go default_options asked read out err (of_program program) (refl, is_program) enough)
     where
@@ -125,7 +125,7 @@ module _ (program : Typed) (code : Tac) (steps : ℕ) (print : List ℕ) (lowere
       complete = subst (Complete call) same claim.complete
 
       by : RunsWhole text_kind.Go default_options call text (of_program program) ⊎ (call.status ≡ 11)
-          → ((call.status ≡ 0) × Grew call.out print) ⊎ (call.status ≡ 11)
+          → ((call.status ≡ 0) × SinkGrew call.out print) ⊎ (call.status ≡ 11)
       by (inr e) = inr e
       by (inl whole) =
           let x = exits (erased whole.runs.code) whole.runs.is_code.lowered whole.run_end call.out.old call.out.new

@@ -1,8 +1,8 @@
--- The code with regions to which `one_object` is compiled, and code to which it is not.
+-- The compiled code of `one_object`, and code that is not.
 use Rattle.std.specs.Prelude.{ℕ, List, [], ◌∷◌, Some, None}
 use Rattle.rgo_typed.specs.declared.actions.Action.TheVariants as action
 use Rattle.rgo_typed.specs.declared.statements.Piece.TheVariants as piece
-use Rattle.rgo_machine.specs.declared.turns.Shortage.TheVariants as shortage
+use Rattle.rgo_machine.specs.declared.limits.Shortage.TheVariants as shortage
 use Rattle.rgo_tac.specs.declared.regions.Class.TheVariants.{Name}
 use Rattle.rgo_code.specs.Code.{Code, CodeFn, CodeInstr, CodeOp, Do, Jump, Print, Return}
 use Rattle.rgo_region_machine.specs.Examples.{code_of, int_slot, main_of, node_slot}
@@ -37,7 +37,7 @@ endless_made = code_of [] (endless_main ∷ [])
 pub record CompiledExamples : Type 0 where
   pub compiled : IsCompiledFrom one_object (code_with (0 ∷ []))
   pub endless : IsCompiledFrom endless endless_made
-  -- a region more than one name is created for, and none
+  -- one region too many is created, and none is
   pub padded : IsCompiledFrom one_object (code_with (0 ∷ 0 ∷ [])) → ⊥
   pub uncreated : IsCompiledFrom one_object (code_with []) → ⊥
   -- without a page, without a region, and in pages of one word, some run lacks room

@@ -1,5 +1,5 @@
--- The code text of `one_object`, which `code` accepts; a text that is not its code text; places that a code text can say,
--- and one that it cannot.
+-- The code text of `one_object`, which `code` accepts; a text that is not its code text; places that a code text can express, and one
+-- that it cannot.
 use Rattle.std.specs.Prelude.{ℕ, ◌^◌, ◌-◌, [], ◌∷◌, None}
 use Rattle.rgo_code.specs.Code.{Code, Return}
 use Rattle.rgo_code.specs.Erasure.{erased}
@@ -7,7 +7,7 @@ use Rattle.rgo_code_printing.specs.Text.{text_of}
 use Rattle.rgo_region_machine.specs.Examples.{code_of, main_of}
 use Rattle.rgo_run.specs.CodeVerdicts.{CodePasses}
 use Rattle.rgo_run.specs.Compiled.{IsCodeText}
-use Rattle.rgo_run.specs.Constants.{ConstantsFit}
+use Rattle.rgo_run.specs.Constants.{TacConstantsFit}
 use Rattle.rgo_claim_examples.specs.CompiledCode.{at, code_with}
 use Rattle.rgo_claim_examples.specs.Texts.{object_text}
 
@@ -19,5 +19,5 @@ pub record EmittedExamples : Type 0 where
   pub printed : IsCodeText object_text (text_of (code_with (0 ∷ [])))
   pub passes : CodePasses (text_of (code_with (0 ∷ [])))
   pub other : IsCodeText object_text (text_of (code_with [])) → ⊥
-  pub small : ConstantsFit (erased (placed_at (2 ^ 32 - 1)))
-  pub large : ConstantsFit (erased (placed_at (2 ^ 32))) → ⊥
+  pub small : TacConstantsFit (erased (placed_at (2 ^ 32 - 1)))
+  pub large : TacConstantsFit (erased (placed_at (2 ^ 32))) → ⊥

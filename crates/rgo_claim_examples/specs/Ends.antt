@@ -1,5 +1,5 @@
--- Two small pieces of three-address code: one prints a truth value, and one waits for what nobody sends. Which ends their runs
--- have, and which they do not.
+-- Two small pieces of three-address code, and which ends their runs have: one prints a truth value, and one waits for a value that
+-- nobody sends.
 use Rattle.std.specs.Prelude.{ℕ, Bool, codes, true, false, pos, List, [], ◌∷◌, map, Some, None}
 use Rattle.rgo_typed.specs.declared.actions.Action.TheVariants as action
 use Rattle.rgo_typed.specs.declared.statements.Piece.TheVariants as piece
@@ -9,12 +9,12 @@ use Rattle.rgo_memory.specs.Memory.{Channel}
 use Rattle.rgo_memory.specs.declared.values.Value.TheVariants as value
 use Rattle.rgo_machine.specs.declared.picks.End.TheVariants.{Exit}
 use Rattle.rgo_machine.specs.Deadlocks.{IsDeadlock}
-use Rattle.rgo_machine.specs.Lines.{line_of}
+use Rattle.rgo_machine.specs.Lines.{printed_line}
 use Rattle.rgo_tac.specs.Code.{Op, Tac, Do, Print, Return}
 use Rattle.rgo_tac.specs.Tac.{TacState, tac, tac_start}
-use Rattle.rgo_driver.specs.declared.ends.RunEnd.{RunEnd}
-use Rattle.rgo_driver.specs.declared.ends.RunEnd.TheVariants as run_end
-use Rattle.rgo_driver.specs.Runs.{RunsFreely}
+use Rattle.rgo_machine.specs.declared.ends.RunEnd.{RunEnd}
+use Rattle.rgo_machine.specs.declared.ends.RunEnd.TheVariants as run_end
+use Rattle.rgo_machine.specs.Ends.{RunsFreely}
 use Rattle.rgo_command_line.specs.Limits.{default_options}
 
 -- `main` alone, with these variables and instructions
@@ -47,7 +47,7 @@ receiver =
 
 -- the line of a truth value
 abbrev pub line : Bool → List ℕ
-line b = line_of (piece.Value ∷ []) (value.Bool b ∷ [])
+line b = printed_line (piece.Value ∷ []) (value.Bool b ∷ [])
 
 -- the receiver before its receive
 abbrev pub waiting : TacState
@@ -60,18 +60,18 @@ waiting = record {
   ended = None;
 }
 
--- a run of the code within the default limits ends so, and has printed this
-abbrev pub Gives : Tac → RunEnd → List ℕ → Type 0
-Gives code end print = RunsFreely (tac code) default_options.limits (tac_start code) end (Some []) (Some print)
+-- some run of the code within the default limits has this end and this print
+abbrev pub FreeRunPrints : Tac → RunEnd → List ℕ → Type 0
+FreeRunPrints code end print = RunsFreely (tac code) default_options.limits (tac_start code) end (Some []) (Some print)
 
 pub record EndExamples : Type 0 where
   pub waits : IsDeadlock (tac receiver) waiting
   -- a step is left, or the run has ended
   pub has_step : IsDeadlock (tac receiver) (tac_start receiver) → ⊥
   pub has_ended : IsDeadlock (tac receiver) (record waiting { ended = Some Exit }) → ⊥
-  pub exits : Gives prints (run_end.Ended Exit) (line true)
-  pub deadlocks : Gives receiver run_end.Deadlock []
+  pub exits : FreeRunPrints prints (run_end.Ended Exit) (line true)
+  pub deadlocks : FreeRunPrints receiver run_end.Deadlock []
   -- no other print, no other end
-  pub other_print : Gives prints (run_end.Ended Exit) (line false) → ⊥
-  pub no_deadlock : (print : List ℕ) → Gives prints run_end.Deadlock print → ⊥
-  pub no_exit : (print : List ℕ) → Gives receiver (run_end.Ended Exit) print → ⊥
+  pub other_print : FreeRunPrints prints (run_end.Ended Exit) (line false) → ⊥
+  pub no_deadlock : (print : List ℕ) → FreeRunPrints prints run_end.Deadlock print → ⊥
+  pub no_exit : (print : List ℕ) → FreeRunPrints receiver (run_end.Ended Exit) print → ⊥

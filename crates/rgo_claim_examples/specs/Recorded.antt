@@ -1,4 +1,4 @@
--- A call of `record` that runs the program with one object, and calls that it never leaves so.
+-- A call of `record` that runs the program with one object, and outcomes that the claim of `record` excludes.
 use Rattle.std.specs.Prelude.{◌≡◌, ℕ, false, List, [], codes, drop, replicate, Some}
 use Rattle.rgo_command_line.specs.Commands.{command_of}
 use Rattle.rgo_command_line.specs.Limits.{default_options}
@@ -32,7 +32,7 @@ pub record ExamplesFor (words : List (List ℕ)) : Type 0 where
   -- no journal
   pub silent : RecordHeadline default_options (left_by words []) → ⊥
   pub leaves_none : LeavesJournal (left_by words []) object_text → ⊥
-  -- the journal of a run in which a pick is lost
+  -- a journal that lacks the first pick
   pub lost : RecordHeadline default_options (left_by words (journal (drop 1 picks))) → ⊥
 
 abbrev pub RecordExamples : Type 0

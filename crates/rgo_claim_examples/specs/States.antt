@@ -1,12 +1,12 @@
--- States of the region machine in which something is wrong, states in which nothing is, and what each definition says of
--- them. The code is that of `rgo_region_machine`'s examples.
+-- States of the region machine that violate a definition of region safety, and states that satisfy them all. The code is that of
+-- `rgo_region_machine`'s examples.
 use Rattle.std.specs.Prelude.{◌≡◌, ℕ, false, pos, replicate, List, [], ◌∷◌, Some, None}
 use Rattle.rgo_memory.specs.Memory.{Channel, Object, SliceObject, StructObject}
 use Rattle.rgo_memory.specs.declared.values.Value.TheVariants as value
 use Rattle.rgo_machine.specs.declared.limits.Sizes.{Sizes}
-use Rattle.rgo_machine.specs.declared.turns.Shortage.TheVariants as shortage
+use Rattle.rgo_machine.specs.declared.limits.Shortage.TheVariants as shortage
 use Rattle.rgo_tac.specs.declared.regions.Class.TheVariants.{NoClass}
-use Rattle.rgo_tac.specs.Frames.{Frame}
+use Rattle.rgo_tac.specs.Frames.{TacFrame}
 use Rattle.rgo_code.specs.Code.{Code}
 use Rattle.rgo_region_machine.specs.declared.regions.Region.{Region}
 use Rattle.rgo_region_machine.specs.declared.regions.Region.TheVariants.{Numbered}
@@ -16,19 +16,19 @@ use Rattle.rgo_region_machine.specs.Regions.{Bindings, RegionInfo}
 use Rattle.rgo_region_machine.specs.States.{Duty, Holder, NoOffer, RegionState, Remove, Taken}
 use Rattle.rgo_sound.specs.Safety.{CountsFit, IsSafe}
 use Rattle.rgo_region_machine.specs.Room.{LacksIn}
-use Rattle.rgo_run.specs.TableRuns.claims.RegionRuns.{NamesLive}
+use Rattle.rgo_sound.specs.RegionRuns.{NamesLive}
 
 -- ---- parts of states
 
 -- `main` of `one_object` before its instruction `next`
-abbrev pub main_at : (next : ℕ) → List Frame
+abbrev pub main_at : (next : ℕ) → List TacFrame
 main_at next = record {
   function = 0;
   next = next;
   variables = value.Nil ∷ value.Nil ∷ value.Nil ∷ [];
 } ∷ []
 
--- a goroutine with these stakes, for whose regions these names stand, and with these duties
+-- a goroutine with these stakes, these bindings of names to regions, and these duties
 abbrev pub holder : List ℕ → Bindings → List Duty → Holder
 holder stakes names duties = record {
   stakes = stakes;
@@ -45,7 +45,7 @@ abbrev pub region : (stakes pages : ℕ) → RegionInfo
 region stakes pages = record { stakes = stakes; pages = pages }
 
 -- `main` alone, at these frames, with these objects in these regions
-abbrev pub state_at : List Frame → List Object → List Region → List RegionInfo → Holder → RegionState
+abbrev pub state_at : List TacFrame → List Object → List Region → List RegionInfo → Holder → RegionState
 state_at frames heap owners regions main = record {
   plain =
       record { memory = record { heap = heap; variables = [] }; goroutines = frames ∷ []; printed = []; ended = None };
@@ -63,7 +63,7 @@ state heap owners regions main = state_at (main_at 0) heap owners regions main
 
 -- ---- states
 
--- an object of region 0 that points into itself, and that of a live region
+-- an object of region 0, which is live, that points into its own region
 abbrev pub at_home : RegionState
 at_home =
     state (StructObject (value.Object 0 ∷ []) ∷ []) (Numbered 0 ∷ []) (region 1 1 ∷ [])
@@ -90,7 +90,7 @@ named_twice = state [] [] (region 1 0 ∷ []) (holder (0 ∷ []) ((0, Numbered 0
 abbrev pub too_many_pages : RegionState
 too_many_pages = state [] [] (region 1 2 ∷ []) (holder (0 ∷ []) ((0, Numbered 0) ∷ []) [])
 
--- a slice of 40 elements in a region of so many pages; the next object is a structure
+-- a slice of 40 elements in a region with this number of pages; the next object is a struct
 abbrev pub with_pages : (pages : ℕ) → RegionState
 with_pages pages =
     state (SliceObject (replicate 40 (value.Int (pos 0))) ∷ []) (Numbered 0 ∷ []) (region 1 pages ∷ [])
@@ -159,7 +159,7 @@ sizes page_words pages regions = record { page_words = page_words; pages = pages
 abbrev pub created : List Event
 created = Attend 0 ∷ []
 
--- these events lead to a state that is so
+-- these events lead to a state with this property
 abbrev pub Comes : Code → (page_words : ℕ) → List Event → (RegionState → Type 0) → Type 0
 Comes code page_words events Holds =
     (s : RegionState) × (region_run code page_words events ≡ Some s) × Holds s
@@ -170,9 +170,9 @@ pub record RoomExamples : Type 0 where
   pub one_region : LacksIn one_object (sizes 16 1 1) shortage.Regions (region_start one_object) → ⊥
   pub no_page : Comes one_object 16 created (LacksIn one_object (sizes 16 0 1) shortage.Pages)
   pub one_page : Comes one_object 16 created (λ s. LacksIn one_object (sizes 16 1 1) shortage.Pages s → ⊥)
-  -- no page is wanted before the region is there
+  -- no page is needed before the region exists
   pub no_page_yet : LacksIn one_object (sizes 16 0 1) shortage.Pages (region_start one_object) → ⊥
-  -- of the three pages of a slice that is spread, the third is wanted and not there; and none is wanted after it
+  -- a slice that is spread over three pages lacks the third one, and needs none after it
   pub no_data_page : Comes (long_slice 17 16 15) 16 (taking 2) (LacksIn (long_slice 17 16 15) (sizes 16 2 1) shortage.Pages)
   pub all_pages : Comes (long_slice 17 16 15) 16 (taking 3)
       (λ s. LacksIn (long_slice 17 16 15) (sizes 16 3 1) shortage.Pages s → ⊥)

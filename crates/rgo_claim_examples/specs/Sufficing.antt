@@ -1,4 +1,4 @@
--- Programs of which no run meets a limit or lacks room, and programs of which some run does.
+-- Programs of which no run reaches a limit or lacks room, and programs of which some run does.
 use Rattle.std.specs.Prelude.{ℕ}
 use Rattle.rgo_typed.specs.Tree.{Typed}
 use Rattle.rgo_tac.specs.Code.{Tac}
@@ -9,7 +9,7 @@ use Rattle.rgo_run.specs.Headline.{Suffices}
 use Rattle.rgo_run.specs.Runs.{of_program}
 use Rattle.rgo_claim_examples.specs.Programs.{one_object, linked_list, binary_tree, sender, endless, no_object}
 
--- The program has code, and the options that `run` has without words suffice for it.
+-- the program has code, and the default options of `run` suffice for it
 pub record SufficesByDefault (program : Typed) : Type 0 where
   pub code : Tac
   pub lowered : IsLowered program code
@@ -33,6 +33,6 @@ pub record ProgramsSuffice : Type 0 where
   pub no_room : Suffices without_room (of_program no_object)
   -- no options suffice for a program that never ends
   pub never_ends : (options : RunOptions) → Suffices options (of_program endless) → ⊥
-  -- the run of five steps meets a limit of four, and that of two goroutines a limit of one
+  -- a run of five steps reaches a limit of four, and one with two goroutines reaches a limit of one
   pub too_few_steps : Suffices (with_limits 4 1) (of_program one_object) → ⊥
   pub too_few_goroutines : Suffices (with_limits 1000 1) (of_program sender) → ⊥

@@ -1,10 +1,10 @@
--- A text that is a program, and one that is refused.
+-- Texts that are programs, and one that is rejected.
 use Rattle.std.specs.Prelude.{◌≡◌, ℕ, codes, List, ◌++◌}
 use Rattle.rgo_lexer.specs.declared.refusals.LexicalKind.TheVariants.{BadByte}
 use Rattle.rgo_typed.specs.Tree.{Typed}
-use Rattle.rgo_run.specs.declared.endings.Ending.{Ending}
-use Rattle.rgo_run.specs.declared.endings.Ending.TheVariants.{Lexical}
-use Rattle.rgo_run.specs.Verdicts.{IsProgram, Passes, Refused}
+use Rattle.rgo_run.specs.declared.refusals.TextRefusal.{TextRefusal}
+use Rattle.rgo_run.specs.declared.refusals.TextRefusal.TheVariants.{Lexical}
+use Rattle.rgo_run.specs.Verdicts.{IsTypedProgram, IsValidProgram, Refused}
 use Rattle.rgo_claim_examples.specs.Programs.{one_object, linked_list, binary_tree, sender, endless}
 
 -- ---- the texts of programs
@@ -34,7 +34,7 @@ sender_text =
     codes "package main\n\nimport \"fmt\"\n\nfunc send(c chan int) {\n\tc <- 7\n}\n\nfunc main() {\n"
     ++ (codes "\tc := make(chan int)\n\tgo send(c)\n\tfmt.Println(<-c)\n}\n")
 
--- the loop without end
+-- an endless loop
 abbrev pub endless_text : List ℕ
 endless_text = codes "package main\n\nfunc main() {\n\tfor {\n\t}\n}\n"
 
@@ -44,13 +44,13 @@ bad_text = codes "?"
 
 pub record TextExamples : Type 0 where
   -- the texts of programs for which the default options suffice
-  pub object : IsProgram object_text one_object
-  pub list : IsProgram list_text linked_list
-  pub tree : IsProgram tree_text binary_tree
-  pub goroutines : IsProgram sender_text sender
-  pub is_program : IsProgram endless_text endless
+  pub object : IsTypedProgram object_text one_object
+  pub list : IsTypedProgram list_text linked_list
+  pub tree : IsTypedProgram tree_text binary_tree
+  pub goroutines : IsTypedProgram sender_text sender
+  pub is_program : IsTypedProgram endless_text endless
   -- it has no other program, and no refusal
-  pub no_other : (program : Typed) → IsProgram endless_text program → program ≡ endless
-  pub not_refused : (ending : Ending) → Refused endless_text ending → ⊥
+  pub no_other : (program : Typed) → IsTypedProgram endless_text program → program ≡ endless
+  pub not_refused : (why : TextRefusal) → Refused endless_text why → ⊥
   pub refused : Refused bad_text (Lexical (record { kind = BadByte; at = 0 }))
-  pub does_not_pass : Passes bad_text → ⊥
+  pub does_not_pass : IsValidProgram bad_text → ⊥

@@ -1,4 +1,4 @@
-//! What holds of the examples.
+//! The examples as theorems; no code calls these functions. Each is about one file of `specs`.
 
 ghost use Rattle.rgo_claim_examples.specs.CompiledCode.{CompiledExamples};
 ghost use Rattle.rgo_claim_examples.specs.EmittedCode.{EmittedExamples};
@@ -10,20 +10,19 @@ ghost use Rattle.rgo_claim_examples.specs.Sufficing.{ProgramsSuffice};
 ghost use Rattle.rgo_claim_examples.specs.Texts.{TextExamples};
 ghost use Rattle.rgo_claim_examples.specs.Whole.{TextsRun};
 
-/// No run of the four programs meets a default limit, or lacks a page, a region or the room for an object; one that makes
-/// no object needs no room at all. For a program that never ends no options are enough, and there are limits that are too
-/// low for two of the four.
+/// No run of the four programs reaches a default limit, or lacks a page, a region or the room for an object. A program that makes no
+/// object needs no room at all. For a program that never ends no options suffice, and for two of the four some limits are too low.
 pub fn programs_suffice()
     ensures { ProgramsSuffice }
 {}
 
-/// A program and the code to which it is compiled; code to which it is not; and sizes of which some run wants more.
+/// A program and its compiled code; code that is not its compiled code; and sizes that are too small for some run.
 pub fn compiled_examples()
     ensures { CompiledExamples }
 {}
 
-/// The code text that `emit` prints of a program, which passes, and a text that it does not print; places that a code text
-/// can say, and one that it cannot.
+/// The code text that `emit` prints for a program, which `code` accepts, and a text that it does not print; places that a code text
+/// can express, and one that it cannot.
 pub fn emitted_examples()
     ensures { EmittedExamples }
 {}
@@ -39,30 +38,30 @@ pub fn room_examples()
     ensures { RoomExamples }
 {}
 
-/// A deadlock, and states that are none; the one end and the one print of a run, and others.
+/// A deadlock, and states that are not deadlocks; the end and the print of a run, and ends and prints that it does not have.
 pub fn end_examples()
     ensures { EndExamples }
 {}
 
-/// A run with regions to its exit, one to a state in which a region is missing, and what no run with regions comes to.
+/// A run with regions to its exit, one to a state in which a region is missing, and states that no run with regions reaches.
 pub fn region_run_examples()
     ensures { RegionRunExamples }
 {}
 
-/// The texts of the four programs, and of one that never ends, which has no other program and no refusal; and a text that
-/// is refused and is none.
+/// The texts of the four programs; the text of one that never ends, which has no other program and no refusal; and a text that is
+/// rejected and has no program.
 pub fn text_examples()
     ensures { TextExamples }
 {}
 
-/// By the headline, a call that runs one of the four texts with the default options, and in which nothing fails, prints
-/// the one number of that text and ends with status 0, or ends with 11.
+/// By the headline, a call that runs one of the four texts with the default options, and in which no read or write fails, prints the
+/// number that the text computes and returns 0, or returns 11.
 pub fn texts_run()
     ensures { TextsRun }
 {}
 
-/// A call of `record` with the journal of its run, of which a replay does the same; one without a journal, and one whose
-/// journal has lost a pick, which are none of `record`.
+/// A call of `record` with the journal of its run, and its replay, which does the same. A call without a journal, and one whose journal
+/// lacks a pick, violate the claim of `record`.
 pub fn record_examples()
     ensures { RecordExamples }
 {}

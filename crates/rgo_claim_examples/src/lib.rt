@@ -1,5 +1,5 @@
-//! Examples of what the claim rests on: programs for which the default options suffice, and for each definition of the
-//! claim something that it holds of and something that it does not.
+//! Examples for the definitions in the claim of rgo_run: programs for which the default options suffice, and for each definition
+//! something that satisfies it and something that does not. They show that no definition is empty or trivial.
 #![tactic(auto)]
 
 mod laws;

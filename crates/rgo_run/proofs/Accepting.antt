@@ -1,7 +1,7 @@
 -- What `emit` prints, `code` accepts.
 use Rattle.std.proofs.Common.{refl, ap}
 use Rattle.rgo_code.specs.declared.code.Undeclared.{Undeclared}
-use Rattle.rgo_code_text.proofs.Ruled.{rules_suffice}
+use Rattle.rgo_code_text.proofs.readings.Ruled.{rules_suffice}
 use Rattle.rgo_run.specs.Accepted.{EmittedPasses}
 use Rattle.rgo_run.proofs.Printed.{printable}
 

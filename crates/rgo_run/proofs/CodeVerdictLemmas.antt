@@ -6,13 +6,13 @@ use Rattle.rgo_code.specs.Code.{Code}
 use Rattle.rgo_code.specs.declared.rules.CodeRefusal.{CodeRefusal}
 use Rattle.rgo_code.specs.declared.rules.Rule.{Rule}
 use Rattle.rgo_code_text.specs.Forms.{IsText, IsFirstWithoutForm}
-use Rattle.rgo_code_text.proofs.EachText.{one_of_both as text_or_line}
-use Rattle.rgo_code_text.proofs.OneRefusal.{one_refusal as forms}
-use Rattle.rgo_code_text.proofs.Refusing.{no_two}
-use Rattle.rgo_checker.proofs.OneOutcome.{one_outcome}
-use Rattle.rgo_checker.proofs.SomeOutcome.{some_outcome}
-use Rattle.rgo_run.specs.declared.endings.Ending.{Ending}
-use Rattle.rgo_run.specs.declared.endings.Ending.TheVariants.{CodeTooLong, NoForm, Breaks}
+use Rattle.rgo_code_text.proofs.readings.EachText.{one_of_both as text_or_line}
+use Rattle.rgo_code_text.proofs.readings.OneRefusal.{one_refusal as forms}
+use Rattle.rgo_code_text.proofs.readings.Refusing.{no_two}
+use Rattle.rgo_checker.proofs.outcomes.OneOutcome.{one_outcome}
+use Rattle.rgo_checker.proofs.outcomes.SomeOutcome.{some_outcome}
+use Rattle.rgo_run.specs.declared.refusals.CodeTextRefusal.{CodeTextRefusal}
+use Rattle.rgo_run.specs.declared.refusals.CodeTextRefusal.TheVariants.{TooLong, NoForm, Breaks}
 use Rattle.rgo_run.specs.CodeVerdicts.{code_limit, IsTextOfCode, CodePasses, CodeBreaks, CodeRefused, OneCodeVerdict}
 
 pub one_code : (text : List ℕ) (a b : Code) → IsTextOfCode text a → IsTextOfCode text b → a ≡ b
@@ -33,31 +33,26 @@ same_break text p q a b =
     (subst (λ c. IsFirstBroken c p.rule p.line) code a.broken) b.broken in
     same_refusal p q both.0 both.1
 
-pub one_refusal : (text : List ℕ) (a b : Ending) → CodeRefused text a → CodeRefused text b → a ≡ b
-one_refusal text CodeTooLong CodeTooLong r s = refl
-one_refusal text CodeTooLong (NoForm n) r s = absurd (omega (arith, s.0))
-one_refusal text CodeTooLong (Breaks q) r s = absurd (omega (arith, s.is_text.within))
-one_refusal text (NoForm m) CodeTooLong r s = absurd (omega (arith, r.0))
+pub one_refusal : (text : List ℕ) (a b : CodeTextRefusal) → CodeRefused text a → CodeRefused text b → a ≡ b
+one_refusal text TooLong TooLong r s = refl
+one_refusal text TooLong (NoForm n) r s = absurd (omega (arith, s.0))
+one_refusal text TooLong (Breaks q) r s = absurd (omega (arith, s.is_text.within))
+one_refusal text (NoForm m) TooLong r s = absurd (omega (arith, r.0))
 one_refusal text (NoForm m) (NoForm n) r s = ap NoForm (forms.one text m n r.1 s.1)
 one_refusal text (NoForm m) (Breaks q) r s = absurd (has_form text s.code m s.is_text r.1)
-one_refusal text (Breaks p) CodeTooLong r s = absurd (omega (arith, r.is_text.within))
+one_refusal text (Breaks p) TooLong r s = absurd (omega (arith, r.is_text.within))
 one_refusal text (Breaks p) (NoForm n) r s = absurd (has_form text r.code n r.is_text s.1)
 one_refusal text (Breaks p) (Breaks q) r s = same_break text p q r s
-one_refusal text CodeTooLong _ r s = absurd s
-one_refusal text (NoForm m) _ r s = absurd s
-one_refusal text (Breaks p) _ r s = absurd s
-one_refusal text _ b r s = absurd r
 
-pub never_both : (text : List ℕ) (a : Ending) → CodePasses text → CodeRefused text a → ⊥
-never_both text CodeTooLong p r = omega (arith, p.is_text.within)
+pub never_both : (text : List ℕ) (a : CodeTextRefusal) → CodePasses text → CodeRefused text a → ⊥
+never_both text TooLong p r = omega (arith, p.is_text.within)
 never_both text (NoForm n) p r = has_form text p.code n p.is_text r.1
 never_both text (Breaks q) p r =
     one_outcome.not_both r.code q.rule q.line
     (subst (λ c. IsChecked c) (one_code text p.code r.code p.is_text r.is_text) p.checked) r.broken
-never_both text _ p r = r
 
 abbrev Verdict : List ℕ → Type 0
-Verdict text = CodePasses text ⊎ ((why : Ending) × CodeRefused text why)
+Verdict text = CodePasses text ⊎ ((why : CodeTextRefusal) × CodeRefused text why)
 
 module _ (text : List ℕ) where
   -- the text of code passes, or breaks a rule
@@ -73,7 +68,7 @@ module _ (text : List ℕ) where
   within short (inr line) = inr (NoForm line.0, (short, line.1))
 
   by_length : (code_limit < length text) ⊎ (length text ≤ code_limit) → Verdict text
-  by_length (inl long) = inr (CodeTooLong, long)
+  by_length (inl long) = inr (TooLong, long)
   by_length (inr short) = within short (text_or_line text)
 
 pub one_code_verdict : OneCodeVerdict

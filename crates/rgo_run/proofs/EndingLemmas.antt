@@ -1,43 +1,25 @@
 -- What endings and statuses exclude.
-use Rattle.std.proofs.Common.{◌≡◌, ◌⊎◌, inl, inr, Bool, true, false, ◌||◌, ℕ, List, Option, Some, Result, Ok, Err, IfOk, MatchResult, refl, sym, ap, ◌∙◌, subst, true≢false}
+use Rattle.std.proofs.Common.{◌≡◌, ◌⊎◌, inl, inr, Bool, true, false, ◌||◌, ℕ, List, Option, refl, sym, ap, ◌∙◌, subst, true≢false}
 use Rattle.std.specs.Prelude.{◌==◌}
-use Rattle.std.specs.declared.alloc.AllocError.{AllocError}
 use Rattle.rgo_machine.specs.declared.picks.End.TheVariants as the_end
-use Rattle.rgo_machine.specs.declared.turns.Shortage.TheVariants as shortage
-use Rattle.rgo_driver.specs.declared.ends.RunEnd.{RunEnd}
-use Rattle.rgo_driver.specs.declared.ends.RunEnd.TheVariants as run_end
+use Rattle.rgo_machine.specs.declared.limits.Shortage.TheVariants as shortage
+use Rattle.rgo_machine.specs.declared.ends.RunEnd.{RunEnd}
+use Rattle.rgo_machine.specs.declared.ends.RunEnd.TheVariants as run_end
 use Rattle.rgo_run.specs.declared.endings.TextKind.{TextKind}
 use Rattle.rgo_run.specs.declared.endings.TextKind.TheVariants as text_kind
 use Rattle.rgo_run.specs.declared.endings.Ending.{Ending}
-use Rattle.rgo_run.specs.declared.endings.Ending.TheVariants.{Valid, Ran, Usage, ReadFault, TooLong, CodeTooLong}
-use Rattle.rgo_run.specs.declared.endings.Ending.TheVariants.{Lexical, Syntax, Nesting, Typing, NoForm, Breaks, WriteFault, NoMemory}
-use Rattle.rgo_run.specs.Calls.{SinkUse}
-use Rattle.rgo_run.specs.Endings.{line_of_run, stats_lines, status_of, status_of_run, is_run_status}
-use Rattle.rgo_run.specs.Reports.{Reports, Tells, Writes, in_short}
-use Rattle.rgo_runtime.specs.declared.shares.Tally.{Tally}
+use Rattle.rgo_run.specs.declared.endings.Ending.TheVariants.{Valid, Ran, Usage, ReadFault, Refused, CodeRefused, WriteFault, NoMemory}
+use Rattle.rgo_run.specs.Endings.{status_of, status_of_run, is_run_status}
+use Rattle.rgo_run.specs.Reports.{in_short}
+use Rattle.rgo_region_machine.specs.declared.tallies.Tally.{Tally}
 use Rattle.rgo_run.specs.Headline.{EndsEmit, EndsRun, IsWriteFault}
-use Rattle.rgo_run.specs.CodeVerdicts.{CodeRefused}
 use Rattle.rgo_run.specs.Texts.{RefusedAs}
-use Rattle.rgo_run.specs.Verdicts.{Refused}
 
 -- a refusal has status 1
-text_refused : (text : List ℕ) (e : Ending) → Refused text e → status_of e ≡ 1
-text_refused text TooLong r = refl
-text_refused text (Lexical refusal) r = refl
-text_refused text (Syntax at) r = refl
-text_refused text (Nesting at) r = refl
-text_refused text (Typing refusal) r = refl
-text_refused text _ r = absurd r
-
-code_refused : (text : List ℕ) (e : Ending) → CodeRefused text e → status_of e ≡ 1
-code_refused text CodeTooLong r = refl
-code_refused text (NoForm line) r = refl
-code_refused text (Breaks refusal) r = refl
-code_refused text _ r = absurd r
-
 pub refused_status : (kind : TextKind) (text : List ℕ) (e : Ending) → RefusedAs kind text e → status_of e ≡ 1
-refused_status text_kind.Go text e r = text_refused text e r
-refused_status text_kind.Code text e r = code_refused text e r
+refused_status text_kind.Go text (Refused why) r = refl
+refused_status text_kind.Code text (CodeRefused why) r = refl
+refused_status _ text _ r = absurd r
 
 -- the statuses of runs: those of runs alone, and 0, 10 and 11
 abbrev pub has_run_status : ℕ → Bool
@@ -85,7 +67,7 @@ IsLate n = (n ≡ 64 → ⊥) × (n ≡ 9 → ⊥)
 pub run_is_late : (end : RunEnd) → IsLate (status_of_run end)
 run_is_late end = (no_run_status 64 refl end, no_run_status 9 refl end)
 
--- why a text was not run: a refusal, or want of memory
+-- why a text was not run: a refusal, or a lack of memory
 pub failing_late : (e : Ending) → (e ≡ NoMemory) ⊎ (status_of e ≡ 1) → IsLate (status_of e)
 failing_late e (inl is) = subst (λ x. IsLate (status_of x)) (sym is) (λ s. cc, λ s. cc)
 failing_late e (inr is) = subst IsLate (sym is) (λ s. cc, λ s. cc)
@@ -96,7 +78,7 @@ failing_ten e (inr is) ten = let wrong = sym is ∙ ten in cc
 
 -- ---- endings
 
--- an ending with status 1 is none with another status
+-- an ending with status 1 differs from those with another status
 pub not_one : (e other : Ending) → status_of e ≡ 1 → (status_of other ≡ 1 → ⊥) → e ≡ other → ⊥
 not_one e other s differs is = differs (subst (λ x. status_of x ≡ 1) is s)
 
@@ -116,14 +98,8 @@ read_fault ReadFault s = refl
 read_fault (Ran kind end stats) s = absurd (no_run_status 9 refl end s)
 read_fault Valid s = cc
 read_fault Usage s = cc
-read_fault TooLong s = cc
-read_fault (Lexical refusal) s = cc
-read_fault (Syntax at) s = cc
-read_fault (Nesting at) s = cc
-read_fault (Typing refusal) s = cc
-read_fault CodeTooLong s = cc
-read_fault (NoForm line) s = cc
-read_fault (Breaks refusal) s = cc
+read_fault (Refused why) s = cc
+read_fault (CodeRefused why) s = cc
 read_fault WriteFault s = cc
 read_fault NoMemory s = cc
 
@@ -134,14 +110,8 @@ write_fault WriteFault s = inr refl
 write_fault ReadFault s = cc
 write_fault Valid s = cc
 write_fault Usage s = cc
-write_fault TooLong s = cc
-write_fault (Lexical refusal) s = cc
-write_fault (Syntax at) s = cc
-write_fault (Nesting at) s = cc
-write_fault (Typing refusal) s = cc
-write_fault CodeTooLong s = cc
-write_fault (NoForm line) s = cc
-write_fault (Breaks refusal) s = cc
+write_fault (Refused why) s = cc
+write_fault (CodeRefused why) s = cc
 write_fault NoMemory s = cc
 
 pub run_of_status : (e : Ending) → is_run_status (status_of e) ≡ true
@@ -151,26 +121,9 @@ run_of_status Valid s = cc
 run_of_status NoMemory s = cc
 run_of_status Usage s = cc
 run_of_status ReadFault s = cc
-run_of_status TooLong s = cc
-run_of_status (Lexical refusal) s = cc
-run_of_status (Syntax at) s = cc
-run_of_status (Nesting at) s = cc
-run_of_status (Typing refusal) s = cc
-run_of_status CodeTooLong s = cc
-run_of_status (NoForm line) s = cc
-run_of_status (Breaks refusal) s = cc
+run_of_status (Refused why) s = cc
+run_of_status (CodeRefused why) s = cc
 run_of_status WriteFault s = cc
-
--- the lines of a run, with what it has made, were written, or there was no memory for them
-pub stats_reported : {S : Type 0} (bytes_of : S → List ℕ) (kind : TextKind) (text : List ℕ) (end : RunEnd) (tally : Tally)
-    (lines : Result S AllocError) (status answer : ℕ) (err : SinkUse) → status ≡ status_of_run end
-    → IfOk lines (λ s. bytes_of s ≡ stats_lines tally (line_of_run kind text end))
-    → MatchResult lines (λ s. Writes (bytes_of s) status answer err) (λ e. Tells text (in_short (Ran kind end (Some tally))) answer err)
-    → Reports text (Ran kind end (Some tally)) answer err
-stats_reported bytes_of kind text end tally (Ok s) status answer err same is writes =
-    inl (subst (λ n. Writes (stats_lines tally (line_of_run kind text end)) n answer err) same
-    (subst (λ bytes. Writes bytes status answer err) is writes))
-stats_reported bytes_of kind text end tally (Err e) status answer err same is writes = inr (tt, writes)
 
 -- ---- endings in short
 
@@ -185,7 +138,7 @@ short_of_run kind run_end.StepsSpent stats = inl refl
 short_of_run kind run_end.GoroutinesSpent stats = inl refl
 short_of_run kind run_end.NoMemory stats = inl refl
 
--- what is reported for want of memory: that, or that a write has failed
+-- what is reported if there is no memory for the lines: that memory ran out, or that a write failed
 pub short_is : (e : Ending) → (in_short e ≡ NoMemory) ⊎ ((status_of e ≡ 10) × (status_of (in_short e) ≡ 10))
 short_is (Ran kind end stats) = by (short_of_run kind end stats)
   where
@@ -197,18 +150,12 @@ short_is (Ran kind end stats) = by (short_of_run kind end stats)
 short_is Valid = inl refl
 short_is Usage = inl refl
 short_is ReadFault = inl refl
-short_is TooLong = inl refl
-short_is CodeTooLong = inl refl
-short_is (Lexical refusal) = inl refl
-short_is (Syntax at) = inl refl
-short_is (Nesting at) = inl refl
-short_is (Typing refusal) = inl refl
-short_is (NoForm line) = inl refl
-short_is (Breaks refusal) = inl refl
+short_is (Refused why) = inl refl
+short_is (CodeRefused why) = inl refl
 short_is WriteFault = inl refl
 short_is NoMemory = inl refl
 
--- that memory ran out, of an ending that is no failed write
+-- for an ending other than a failed write: that memory ran out
 pub short_without_fault : (e : Ending) → (status_of e ≡ 10 → ⊥) → in_short e ≡ NoMemory
 short_without_fault e other = by (short_is e)
   where

@@ -5,10 +5,10 @@ use Rattle.std.specs.Io.KnownBytes.{Appends}
 use Rattle.rgo_machine.specs.declared.limits.Limits.{Limits}
 use Rattle.rgo_tac.specs.Tac.{TacState}
 use Rattle.rgo_region_machine.specs.Counts.{Counts, counts_of}
-use Rattle.rgo_runtime.specs.declared.shares.Tally.{Tally}
-use Rattle.rgo_driver.specs.Runs.{Gives}
-use Rattle.rgo_driver.specs.declared.ends.RunEnd.{RunEnd}
-use Rattle.rgo_driver.specs.declared.ends.RunEnd.TheVariants as run_end
+use Rattle.rgo_region_machine.specs.declared.tallies.Tally.{Tally}
+use Rattle.rgo_machine.specs.Ends.{RunPrints}
+use Rattle.rgo_machine.specs.declared.ends.RunEnd.{RunEnd}
+use Rattle.rgo_machine.specs.declared.ends.RunEnd.TheVariants as run_end
 use Rattle.rgo_command_line.specs.declared.commands.Command.{Command}
 use Rattle.rgo_command_line.specs.declared.commands.Command.TheVariants.{Run, Check, Emit, Code, Big, Record, Replay, RunCode}
 use Rattle.rgo_command_line.specs.declared.limits.RunOptions.{RunOptions}
@@ -18,13 +18,14 @@ use Rattle.rgo_big.specs.Big.{big_text}
 use Rattle.rgo_run.specs.declared.endings.TextKind.{TextKind}
 use Rattle.rgo_run.specs.declared.endings.TextKind.TheVariants as text_kind
 use Rattle.rgo_run.specs.declared.endings.Ending.{Ending}
-use Rattle.rgo_run.specs.declared.endings.Ending.TheVariants.{Valid, Ran, Usage, ReadFault, TooLong, CodeTooLong}
-use Rattle.rgo_run.specs.declared.endings.Ending.TheVariants.{WriteFault, NoMemory}
-use Rattle.rgo_run.specs.Calls.{AsksRun, Call, Asks, IsRun, SinkUse, SourceFailed, SourceHeld, IsUntouched, kind_of, run_of}
+use Rattle.rgo_run.specs.declared.endings.Ending.TheVariants.{Valid, Ran, Usage, ReadFault, Refused, CodeRefused, WriteFault, NoMemory}
+use Rattle.rgo_run.specs.declared.refusals.CodeTextRefusal.TheVariants as code_refusal
+use Rattle.rgo_run.specs.declared.refusals.TextRefusal.TheVariants as refusal
+use Rattle.rgo_run.specs.Calls.{AsksRun, Call, AsksForCommand, IsRunCall, SinkUse, SourceFailed, SourceHeld, IsUntouched, kind_of, run_of_command}
 use Rattle.rgo_run.specs.Endings.{status_of, is_run_status, is_fault_status}
-use Rattle.rgo_run.specs.Reports.{Tells, HasPlace, Reports, in_short}
-use Rattle.rgo_run.specs.Runs.{HasSourceRun, IsOneRun, IsSaid, Runnable, RunsTo, of_code, of_program}
-use Rattle.rgo_run.specs.Texts.{AcceptedBy, IsTextOf, IsRead, AskSome, NotRead, PassesAs, ReadTooMuch, Checks, FailsAs, Performs}
+use Rattle.rgo_run.specs.Reports.{ReportsEnding, HasPlace, Reports, in_short}
+use Rattle.rgo_run.specs.Runs.{HasSourceRun, IsOneRun, IsSaid, Runnable, TextRunsTo, of_code, of_program}
+use Rattle.rgo_run.specs.Texts.{AcceptedBy, IsTextOf, IsRead, AskSome, NotRead, PassesAs, ReadTooMuch, ChecksText, FailsAs, PerformsCommand}
 use Rattle.rgo_run.specs.Headline.{EndsEmit, EndsRun, Headline, IsWriteFault}
 use Rattle.rgo_run.proofs.EndingLemmas.{refused_status, run_of_status, short_of_refusal}
 use Rattle.rgo_run.proofs.ClaimLemmas.{OnlyChecks, Outcome, accepted, ran, emitted, refused, no_memory, Went}
@@ -34,7 +35,7 @@ use Rattle.rgo_run.proofs.ClaimLemmas.{emit_ends, unknown, untouched, usage, val
 
 -- ---- calls that read their text, or had no memory for that
 
-headline_told : (call : Call) (text : List ℕ) (e : Ending) → Went call text e → Tells text e call.status call.err → Headline call
+headline_told : (call : Call) (text : List ℕ) (e : Ending) → Went call text e → ReportsEnding text e call.status call.err → Headline call
 headline_told call text e went t = record {
   text = text;
   is_text = went.is_text;
@@ -66,7 +67,7 @@ headline_told call text e went t = record {
 
 -- where no write failed, the whole print was given out
 pub whole_print : (end : RunEnd) (print : List ℕ) (old new : Option (List ℕ)) → (end ≡ run_end.WriteFault → ⊥)
-    → Gives end print old new → Appends old new print
+    → RunPrints end print old new → Appends old new print
 whole_print run_end.WriteFault print old new n g = absurd (n refl)
 whole_print (run_end.Ended end) print old new n g = g
 whole_print run_end.Deadlock print old new n g = g
@@ -95,8 +96,8 @@ nothing_said false made = (tt, tt)
 
 -- a run of which the lines had no memory counts as one that ran out of memory
 abbrev pub no_line_run : (kind : TextKind) (options : RunOptions) (text : List ℕ) (out : SinkUse) (e : Ending)
-    (r : RunsTo kind options text e out) → (r.run_end ≡ run_end.WriteFault → ⊥)
-    → RunsTo kind options text (Ran kind run_end.NoMemory None) out
+    (r : TextRunsTo kind options text e out) → (r.run_end ≡ run_end.WriteFault → ⊥)
+    → TextRunsTo kind options text (Ran kind run_end.NoMemory None) out
 no_line_run kind options text out e r no_fault = record {
   what = r.what;
   is_what = r.is_what;
@@ -137,8 +138,8 @@ no_line_run kind options text out e r no_fault = record {
 
 -- a run in which a write failed, of which nothing else is said
 abbrev unsaid_run : (kind : TextKind) (options : RunOptions) (text : List ℕ) (out : SinkUse) (e : Ending)
-    (r : RunsTo kind options text e out) → r.run_end ≡ run_end.WriteFault
-    → RunsTo kind options text (Ran kind run_end.WriteFault None) out
+    (r : TextRunsTo kind options text e out) → r.run_end ≡ run_end.WriteFault
+    → TextRunsTo kind options text (Ran kind run_end.WriteFault None) out
 unsaid_run kind options text out e r fault = record {
   what = r.what;
   is_what = r.is_what;
@@ -159,23 +160,23 @@ no_place WriteFault ends h = h
 no_place _ ends h = ends
 
 -- words that ask for a run ask for something
-run_asks : (call : Call) (kind : TextKind) (options : RunOptions) → IsRun call kind options → AskSome call.words
+run_asks : (call : Call) (kind : TextKind) (options : RunOptions) → IsRunCall call kind options → AskSome call.words
 run_asks call kind options r = by_command (command_of call.words) refl r
   where
     by_command : (asked : Option Command) → command_of call.words ≡ asked
-        → option_and_then run_of asked ≡ Some (kind, options) → AskSome call.words
+        → option_and_then run_of_command asked ≡ Some (kind, options) → AskSome call.words
     by_command (Some command) is r = (command, is)
     by_command None is r = cc
 
 -- the lines of a run had no memory
 module _ (call : Call) (text : List ℕ) (e : Ending) (went : Went call text e) (kind : TextKind) (options : RunOptions)
-    (c : IsRun call kind options) (r : RunsTo kind options text e call.out)
-    (one : (Asks call (Record options) → ⊥) → IsOneRun r.runs) where
-  is_one_still : (no_fault : r.run_end ≡ run_end.WriteFault → ⊥) → (Asks call (Record options) → ⊥)
+    (c : IsRunCall call kind options) (r : TextRunsTo kind options text e call.out)
+    (one : (AsksForCommand call (Record options) → ⊥) → IsOneRun r.runs) where
+  is_one_still : (no_fault : r.run_end ≡ run_end.WriteFault → ⊥) → (AsksForCommand call (Record options) → ⊥)
       → IsOneRun (no_line_run kind options text call.out e r no_fault).runs
   is_one_still no_fault unrecorded = record { same = (one unrecorded).same; spent = λ x. cc }
 
-  without_memory : (r.run_end ≡ run_end.WriteFault → ⊥) → Tells text NoMemory call.status call.err → Headline call
+  without_memory : (r.run_end ≡ run_end.WriteFault → ⊥) → ReportsEnding text NoMemory call.status call.err → Headline call
   without_memory no_fault t =
       headline_told call text (Ran kind run_end.NoMemory None) (record {
         is_text = went.is_text;
@@ -184,7 +185,7 @@ module _ (call : Call) (text : List ℕ) (e : Ending) (went : Went call text e) 
         outcome = ran kind options c (no_line_run kind options text call.out e r no_fault) (is_one_still no_fault);
       }) t
 
-  no_line_of_run : (end : RunEnd) → r.run_end ≡ end → Tells text (in_short (Ran kind end r.stats)) call.status call.err → Headline call
+  no_line_of_run : (end : RunEnd) → r.run_end ≡ end → ReportsEnding text (in_short (Ran kind end r.stats)) call.status call.err → Headline call
   no_line_of_run run_end.WriteFault is t =
       headline_told call text (Ran kind run_end.WriteFault None) (record {
         is_text = went.is_text;
@@ -202,21 +203,21 @@ module _ (call : Call) (text : List ℕ) (e : Ending) (went : Went call text e) 
 
 -- a refusal whose line had no memory
 no_line_of_refusal : (call : Call) (text : List ℕ) (e : Ending) → Went call text e → status_of e ≡ 1 → IsUntouched call.out
-    → Tells text (in_short e) call.status call.err → Headline call
+    → ReportsEnding text (in_short e) call.status call.err → Headline call
 no_line_of_refusal call text e went refusal o t =
     headline_told call text NoMemory (record {
       is_text = went.is_text;
       held = went.held;
       asks = inr refl;
       outcome = no_memory refl o;
-    }) (subst (λ x. Tells text x call.status call.err) (short_of_refusal e refusal) t)
+    }) (subst (λ x. ReportsEnding text x call.status call.err) (short_of_refusal e refusal) t)
 
 no_line : (call : Call) (text : List ℕ) (e : Ending) → Went call text e → Outcome call text e → HasPlace e
-    → Tells text (in_short e) call.status call.err → Headline call
+    → ReportsEnding text (in_short e) call.status call.err → Headline call
 no_line call text e went (accepted is command c k p o) h t = absurd (subst HasPlace is h)
 no_line call text e went (ran kind options c r one) h t =
     no_line_of_run call text e went kind options c r one r.run_end refl
-    (subst (λ x. Tells text (in_short x) call.status call.err) r.is_end t)
+    (subst (λ x. ReportsEnding text (in_short x) call.status call.err) r.is_end t)
 no_line call text e went (emitted c em) h t = absurd (no_place e (emit_ends call text e em) h)
 no_line call text e went (refused command c f o) h t = no_line_of_refusal call text e went (refused_status (kind_of command) text e f) o t
 no_line call text e went (no_memory is o) h t = absurd (subst HasPlace is h)
@@ -225,28 +226,28 @@ pub headline_of : (call : Call) (text : List ℕ) (e : Ending) → Went call tex
 headline_of call text e went (inl t) = headline_told call text e went t
 headline_of call text e went (inr t) = no_line call text e went went.outcome t.0 t.1
 
--- a text that was not accepted, for a refusal or for want of memory
-failed_outcome : (call : Call) (command : Command) (text : List ℕ) (e : Ending) → Asks call command
+-- a text that was not accepted, for a refusal or for lack of memory
+failed_outcome : (call : Call) (command : Command) (text : List ℕ) (e : Ending) → AsksForCommand call command
     → FailsAs (kind_of command) text e → IsUntouched call.out → Outcome call text e
 failed_outcome call command text NoMemory c f u = no_memory refl u
 failed_outcome call command text e c f u = refused command c f u
 
-checked_outcome : (call : Call) (command : Command) (text : List ℕ) (e : Ending) → Asks call command
+checked_outcome : (call : Call) (command : Command) (text : List ℕ) (e : Ending) → AsksForCommand call command
     → OnlyChecks command → (PassesAs (kind_of command) text → AcceptedBy command text)
-    → Checks (kind_of command) text e → IsUntouched call.out → Outcome call text e
+    → ChecksText (kind_of command) text e → IsUntouched call.out → Outcome call text e
 checked_outcome call command text Valid c only by p u = accepted refl command c only (by p) u
 checked_outcome call command text e c only by p u = failed_outcome call command text e c p u
 
-performed_outcome : (call : Call) (command : Command) (text : List ℕ) (e : Ending) → Asks call command
-    → Performs command text e call.out → Outcome call text e
+performed_outcome : (call : Call) (command : Command) (text : List ℕ) (e : Ending) → AsksForCommand call command
+    → PerformsCommand command text e call.out → Outcome call text e
 performed_outcome call Check text e c p = checked_outcome call Check text e c tt (λ passes. passes) p.0 p.1
 performed_outcome call Code text e c p = checked_outcome call Code text e c tt (λ passes. passes) p.0 p.1
-performed_outcome call (Run options) text e c (inl r) = ran text_kind.Go options (ap (option_and_then run_of) c) r.0 (λ _. r.1)
+performed_outcome call (Run options) text e c (inl r) = ran text_kind.Go options (ap (option_and_then run_of_command) c) r.0 (λ _. r.1)
 performed_outcome call (Run options) text e c (inr f) = failed_outcome call (Run options) text e c f.0 f.1
 performed_outcome call (RunCode options) text e c (inl r) =
-    ran text_kind.Code options (ap (option_and_then run_of) c) r.0 (λ _. r.1)
+    ran text_kind.Code options (ap (option_and_then run_of_command) c) r.0 (λ _. r.1)
 performed_outcome call (RunCode options) text e c (inr f) = failed_outcome call (RunCode options) text e c f.0 f.1
-performed_outcome call (Big n) text e c (inl r) = ran text_kind.Go default_options (ap (option_and_then run_of) c) r.0 (λ _. r.1)
+performed_outcome call (Big n) text e c (inl r) = ran text_kind.Go default_options (ap (option_and_then run_of_command) c) r.0 (λ _. r.1)
 performed_outcome call (Big n) text e c (inr f) = failed_outcome call (Big n) text e c f.0 f.1
 performed_outcome call Replay text e c p = absurd p
 performed_outcome call (Record options) text e c p = absurd p
@@ -255,7 +256,7 @@ performed_outcome call Emit text e c (inr f) = failed_outcome call Emit text e c
 
 -- a call whose text was read
 pub headline_of_text : (call : Call) (command : Command) (text : List ℕ) (e : Ending)
-    → IsRead call.words call.source command text → Performs command text e call.out
+    → IsRead call.words call.source command text → PerformsCommand command text e call.out
     → Reports text e call.status call.err → Headline call
 headline_of_text call command text e read performs reports =
     headline_of call text e (record {
@@ -267,17 +268,17 @@ headline_of_text call command text e read performs reports =
 
 -- a call that has run a program with these options, and recorded it
 pub headline_of_recorded : (call : Call) (options : RunOptions) (text : List ℕ) (e : Ending)
-    → IsRead call.words call.source (Record options) text → RunsTo text_kind.Go options text e call.out
+    → IsRead call.words call.source (Record options) text → TextRunsTo text_kind.Go options text e call.out
     → Reports text e call.status call.err → Headline call
 headline_of_recorded call options text e read runs reports =
     headline_of call text e (record {
       is_text = subst (λ o. IsTextOf o call.source.left text) (sym read.asked) read.is_text;
       held = read.held;
       asks = inl (Record options, read.asked);
-      outcome = ran text_kind.Go options (ap (option_and_then run_of) read.asked) runs (λ unrecorded. absurd (unrecorded read.asked));
+      outcome = ran text_kind.Go options (ap (option_and_then run_of_command) read.asked) runs (λ unrecorded. absurd (unrecorded read.asked));
     }) reports
 
--- or not, since the text was refused or memory ran out
+-- or not, since the text was rejected or memory ran out
 pub headline_of_unrecorded : (call : Call) (options : RunOptions) (text : List ℕ) (e : Ending)
     → IsRead call.words call.source (Record options) text → FailsAs text_kind.Go text e → IsUntouched call.out
     → Reports text e call.status call.err → Headline call
@@ -325,12 +326,12 @@ pub record IsOutside (e : Ending) : Type 0 where
   pub not_ran : (kind : TextKind) (end : RunEnd) (stats : Option Tally) → e ≡ Ran kind end stats → ⊥
 
 -- a call that did not read its text: its words ask for nothing, or a read failed
-headline_outside : (call : Call) (e : Ending) → IsOutside e → IsUntouched call.out → Tells (some_text (command_of call.words) call.source.left) e call.status call.err
+headline_outside : (call : Call) (e : Ending) → IsOutside e → IsUntouched call.out → ReportsEnding (some_text (command_of call.words) call.source.left) e call.status call.err
     → (e ≡ Usage → command_of call.words ≡ None)
     → (command_of call.words ≡ None → (e ≡ Usage) ⊎ (e ≡ NoMemory))
     → (e ≡ ReadFault → SourceFailed call.source)
     → (is_fault_status (status_of e) ≡ false → SourceHeld call.source)
-    → ((command : Command) → Asks call command → (SourceFailed call.source → ⊥) → ⊥)
+    → ((command : Command) → AsksForCommand call command → (SourceFailed call.source → ⊥) → ⊥)
     → Headline call
 headline_outside call e outside u t of_usage to_usage of_fault kept only = record {
   text = some_text (command_of call.words) call.source.left;
@@ -385,7 +386,7 @@ fault_outside = record {
   not_ran = λ kind end stats x. cc;
 }
 
-none_asked : (call : Call) → command_of call.words ≡ None → (command : Command) → Asks call command → ⊥
+none_asked : (call : Call) → command_of call.words ≡ None → (command : Command) → AsksForCommand call command → ⊥
 none_asked call n command c = cc
 
 some_asked : (call : Call) → AskSome call.words → command_of call.words ≡ None → ⊥
@@ -409,9 +410,10 @@ headline_of_words call Usage n u (inl t) =
 headline_of_words call ReadFault n u (inl t) =
     headline_outside call ReadFault fault_outside u t (λ x. cc) (λ none. absurd (some_asked call n.0 none)) (λ _. n.1)
     (λ s. cc) (λ command c no. no n.1)
-headline_of_words call TooLong n u (inl t) = headline_told call n.text TooLong (too_much call TooLong n u) t
-headline_of_words call CodeTooLong n u (inl t) =
-    headline_told call n.text CodeTooLong (too_much call CodeTooLong n u) t
+headline_of_words call (Refused refusal.TooLong) n u (inl t) =
+    headline_told call n.text (Refused refusal.TooLong) (too_much call (Refused refusal.TooLong) n u) t
+headline_of_words call (CodeRefused code_refusal.TooLong) n u (inl t) =
+    headline_told call n.text (CodeRefused code_refusal.TooLong) (too_much call (CodeRefused code_refusal.TooLong) n u) t
 headline_of_words call NoMemory n u (inl t) =
     headline_told call (some_text (command_of call.words) call.source.left) NoMemory (record {
       is_text = is_some_text (command_of call.words) call.source.left;
@@ -421,16 +423,16 @@ headline_of_words call NoMemory n u (inl t) =
     }) t
 headline_of_words call Usage n u (inr t) = absurd t.0
 headline_of_words call ReadFault n u (inr t) = absurd t.0
-headline_of_words call TooLong n u (inr t) = absurd t.0
-headline_of_words call CodeTooLong n u (inr t) = absurd t.0
+headline_of_words call (Refused refusal.TooLong) n u (inr t) = absurd t.0
+headline_of_words call (CodeRefused code_refusal.TooLong) n u (inr t) = absurd t.0
 headline_of_words call NoMemory n u (inr t) = absurd t.0
 headline_of_words call _ n u t = absurd n
 
--- ---- what a status alone says
+-- ---- what a status alone implies
 
-told_run : (call : Call) (text : List ℕ) (e : Ending) → Tells text e call.status call.err
+told_run : (call : Call) (text : List ℕ) (e : Ending) → ReportsEnding text e call.status call.err
     → ((kind : TextKind) (end : RunEnd) (stats : Option Tally) → e ≡ Ran kind end stats
-    → (options : RunOptions) × IsRun call kind options)
+    → (options : RunOptions) × IsRunCall call kind options)
     → is_run_status call.status ≡ true → AsksRun call.words
 told_run call text e (inl t) r s =
     let run = run_of_status e (subst (λ n. is_run_status n ≡ true) t.0 s) in

@@ -11,7 +11,7 @@ use Rattle.rgo_lexer.specs.Comments.{begins_comment, comment_at}
 use Rattle.rgo_lexer.specs.Front.{front_of}
 use Rattle.rgo_lexer.specs.Lexemes.{Lexeme, class}
 use Rattle.rgo_lexer.specs.Lexing.{LexesAs, IsLexemeOf, IsSpelled, terminal_at_width, terminal_of}
-use Rattle.rgo_lexer.specs.Numbers.{number_at, number_front, number_of}
+use Rattle.rgo_lexer.specs.Numbers.{number_at, number_front, literal_value}
 use Rattle.rgo_lexer.specs.Operators.{operator_at, operators}
 use Rattle.rgo_lexer.specs.Strings.{string_at, string_before, items_len}
 use Rattle.rgo_lexer.specs.Words.{word_at, word_terminal, words, looked_up, run_of}
@@ -23,7 +23,7 @@ use Rattle.rgo_lexer.specs.declared.refusals.LexicalKind.TheVariants.{OpenString
 use Rattle.rgo_lexer.proofs.CommentForms.{comment_no_piece}
 use Rattle.rgo_lexer.proofs.OperatorForms.{operator_longest}
 use Rattle.rgo_lexer.proofs.Placing.{of_text}
-use Rattle.rgo_code_words.specs.Worded.{is_name, is_word, is_word_byte, is_letter, is_among, keywords}
+use Rattle.rgo_code_words.specs.Worded.{is_name, is_word, is_code_word_byte, is_code_letter, is_among, keywords}
 
 abbrev pub IsName : List ℕ → Type 0
 IsName word = is_name word ≡ true
@@ -115,7 +115,7 @@ by_tests n false false false false false false w m s c o a b d e h = absurd (e h
 
 no_number : (text : List ℕ) (n : ℕ) → number_at text ≡ Piece Name n → ⊥
 unfolding number_at
-no_number text n h = go (number_of (take (run_of text) text)) h
+no_number text n h = go (literal_value (take (run_of text) text)) h
   where
     go : (o : Option ℕ) → number_front (run_of text) o ≡ Piece Name n → ⊥
     go None k = cc
@@ -158,10 +158,10 @@ is_named (b ∷ rest) h =
     let run : run_of text ≡ length text = cc in
     let whole : take (run_of text) text ≡ text = take_all (run_of text) text (omega (arith, run)) in
     let terminal : word_terminal (take (run_of text) text) ≡ Name = cc in
-    let pass = all_pass is_word_byte text run in
+    let pass = all_pass is_code_word_byte text run in
     and_from (is_word text) (not (is_among keywords text))
-    (and_from (is_letter b) (list_all is_word_byte rest) found.0
-    (and_parts (is_word_byte b) (list_all is_word_byte rest) pass).1)
+    (and_from (is_code_letter b) (list_all is_code_word_byte rest) found.0
+    (and_parts (is_code_word_byte b) (list_all is_code_word_byte rest) pass).1)
     (not_from_false (is_among keywords text) (no_keyword text (ap word_terminal (sym whole) ∙ terminal)))
 
 -- ---- lexemes

@@ -8,7 +8,7 @@ use Rattle.rgo_tac.specs.declared.regions.Class.{Class}
 use Rattle.rgo_tac.specs.declared.regions.Class.TheVariants as class
 use Rattle.rgo_tac.specs.declared.regions.Member.{Member}
 use Rattle.rgo_tac.specs.Code.{Tac, TacFn}
-use Rattle.rgo_tac.specs.Joins.{is_pointer_like_in}
+use Rattle.rgo_tac.specs.Joins.{is_pointer_like_member}
 use Rattle.rgo_lower.proofs.Determined.{lowering_is_determined}
 use Rattle.rgo_classes.specs.declared.classes.Summary.{Summary}
 use Rattle.rgo_classes.specs.Classes.{AreNamed, AreNumbered, Describes, InOneClass, all_members, outer_members}
@@ -24,7 +24,7 @@ use Rattle.rgo_run.specs.Compiled.{OneCompiled}
 
 -- ---- lists
 
--- a position at which there is none is past the end
+-- a position without an item is past the end
 past : {A : Type 0} (c : List A) (n : ℕ) → slice_get c n ≡ None → length c ≤ n
 past {A} c n none = of ((slice_get_cases c n).1)
   where
@@ -57,7 +57,7 @@ record JoinsAs (a b : List Class) : Type 0 where
 abbrev AreSameBefore : List Class → List Class → ℕ → Type 0
 AreSameBefore a b n = (i : ℕ) → i < n → slice_get a i ≡ slice_get b i
 
--- where all classes before are the same, a name is none that is less
+-- if all classes before a position are the same, neither class at it has a name less than the other's
 not_less : (a b : List Class) (i k l : ℕ) → JoinsAs a b → JoinsAs b a → AreSameBefore a b i
     → slice_get a i ≡ Some (class.Name k) → slice_get b i ≡ Some (class.Name l) → k < l → ⊥
 not_less a b i k l x y before at_a at_b less =
@@ -123,9 +123,9 @@ member_at ms cs i c len at = there ms i (subst (λ n. i < n) len (slice_get_with
 
 -- a member that is not without a class is pointer-like
 has_class : (f : TacFn) (m : Member) → ((IsPointerLike f m → ⊥) → ⊥) → IsPointerLike f m
-has_class f m not = by (is_pointer_like_in f m) refl
+has_class f m not = by (is_pointer_like_member f m) refl
   where
-    by : (b : Bool) → is_pointer_like_in f m ≡ b → is_pointer_like_in f m ≡ true
+    by : (b : Bool) → is_pointer_like_member f m ≡ b → is_pointer_like_member f m ≡ true
     by true e = e
     by false e = absurd (not (λ like. let both = sym like ∙ e in cc))
 

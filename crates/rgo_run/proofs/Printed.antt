@@ -26,24 +26,24 @@ use Rattle.rgo_classes.specs.declared.classes.Summary.{Summary}
 use Rattle.rgo_code.specs.declared.rules.Line.TheVariants as line
 use Rattle.rgo_code.specs.declared.rules.Rule.TheVariants as rule
 use Rattle.rgo_code.specs.Checked.{IsChecked}
-use Rattle.rgo_code.specs.ClassRules.{CallsPass, StartsPass, CallPasses, StartPasses, Passes}
+use Rattle.rgo_code.specs.ClassRules.{CallsPass, StartsPass, CallPasses, StartPasses, PassesClasses}
 use Rattle.rgo_code.specs.Code.{Slot, CodeOp, CodeInstr, CodeFn, Code, Do, Call, Go, Print, Jump, Branch, Return}
 use Rattle.rgo_code.specs.Erasure.{erased_op, erased_instr, erased_fn, erased}
-use Rattle.rgo_code.specs.Exists.{declared_by, Uses, OpExists}
+use Rattle.rgo_code.specs.Exists.{declared_in_code, UsesVariable, OpExists}
 use Rattle.rgo_code.specs.NameRules.{ProtectsUsed}
 use Rattle.rgo_code.specs.Names.{edges, slot_class}
 use Rattle.rgo_code.specs.Types as types
-use Rattle.rgo_code.specs.Types.{HaveTypes, ReturnsType, DoFits}
+use Rattle.rgo_code.specs.Types.{VariablesHaveTypes, ReturnsType, DoFits}
 use Rattle.rgo_code_printing.specs.Text.{text_of}
 use Rattle.rgo_code_text.specs.Printable.{ActionPrints, OpPrints, InstrPrints, FnPrints, IsPrintable}
 use Rattle.rgo_code_text.specs.Written.{SlotFits}
-use Rattle.rgo_code_text.proofs.RuledUses.{each}
+use Rattle.rgo_code_text.proofs.readings.RuledUses.{each}
 use Rattle.rgo_code_words.specs.Worded.{AreNames, IsSmall, AreSmall, ClassFits, ValueFits, values_in}
 use Rattle.rgo_insert.specs.Inserted.{HasClasses}
 use Rattle.rgo_run.specs.CodeVerdicts.{code_limit}
 use Rattle.rgo_run.specs.Compiled.{IsCompiled}
 use Rattle.rgo_run.specs.Constants as constants
-use Rattle.rgo_run.specs.Constants.{ConstantsFit}
+use Rattle.rgo_run.specs.Constants.{TacConstantsFit}
 use Rattle.rgo_run.proofs.NameWords.{IsName, names_spelled}
 use Rattle.rgo_run.proofs.ProgramLemmas.{programs_are_well_formed}
 use Rattle.rgo_run.proofs.RegionNumbers.{of_each, slot_fits, result_fits, entry_small, creates_small, removes_small, passes_fit}
@@ -85,7 +85,7 @@ counted (piece.Text bytes ∷ pieces) ts h = omega (arith, counted pieces ts h)
 counted (piece.Value ∷ pieces) ts h =
     let long = ap length h.2 in omega (arith, long, counted pieces h.1 h.4)
 
-as_many : (f : TacFn) (from : List ℕ) (ts : List «Type») → HaveTypes f from ts → length from ≡ length ts
+as_many : (f : TacFn) (from : List ℕ) (ts : List «Type») → VariablesHaveTypes f from ts → length from ≡ length ts
 as_many f from ts e = sym (length-map from (slice_get f.variables)) ∙ ap length e ∙ length-map ts Some
 
 some_mapped : {A B : Type 0} (f : A → B) (o : Option A) → is_some (option_map f o) ≡ is_some o
@@ -104,7 +104,7 @@ result_slot (Some s) h = h s refl
 module _ (code : Code) (checked : IsChecked code) (short : length (text_of code) ≤ code_limit) (family : List Summary)
     (classes : HasClasses family code) (prints : (n : ℕ) (f : TacFn) → slice_get (erased code).functions n ≡ Some f → (i : ℕ)
     (op : Op) (place : ℕ) → slice_get f.body i ≡ Some (record { op = op; place = place }) → PrintsFit f op) where
-  field_small : (n k : ℕ) (t : «Type») → HasField (declared_by (erased code)) n k t → IsSmall k
+  field_small : (n k : ℕ) (t : «Type») → HasField (declared_in_code (erased code)) n k t → IsSmall k
   field_small n k t has =
       let s = unmapped_at (λ (s : Struct). s.fields) code.structs n has.0 has.1 in
       let within = slice_get_within has.0 k t has.2 in
@@ -112,14 +112,14 @@ module _ (code : Code) (checked : IsChecked code) (short : length (text_of code)
       omega (arith, within, long, fields_within code n s.0 s.1, short)
 
   returns_print : (a : Action) (operands : List «Type») (t : «Type») → ReturnsType (erased code) a operands t
-      → constants.ActionFits a → ActionPrints a
+      → constants.TacActionFits a → ActionPrints a
   returns_print (action.Int k) operands t h p = p
   returns_print (action.Load k) operands t h p = field_small h.0 k t h.2
   returns_print (action.Store k) operands t h p = absurd h
   returns_print _ operands t h p = tt
 
-  takes_print : (a : Action) (operands : List «Type») → Takes (declared_by (erased code)) a operands
-      → constants.ActionFits a → ActionPrints a
+  takes_print : (a : Action) (operands : List «Type») → Takes (declared_in_code (erased code)) a operands
+      → constants.TacActionFits a → ActionPrints a
   takes_print (action.Int k) operands h p = p
   takes_print (action.Load k) operands h p = absurd h
   takes_print (action.Store k) operands h p = field_small h.0 k h.1 h.3
@@ -133,7 +133,7 @@ module _ (code : Code) (checked : IsChecked code) (short : length (text_of code)
     few_instrs = omega (arith, fn_within code n f there, short)
 
     does_print : (to : Option ℕ) (a : Action) (operands : List «Type»)
-        → DoFits (erased code) (erased_fn f) to a operands → constants.ActionFits a → ActionPrints a
+        → DoFits (erased code) (erased_fn f) to a operands → constants.TacActionFits a → ActionPrints a
     does_print None a operands h p = takes_print a operands h p
     does_print (Some d) a operands h p = returns_print a operands h.0 h.2 p
 
@@ -153,7 +153,7 @@ module _ (code : Code) (checked : IsChecked code) (short : length (text_of code)
           (checked rule.Creations (line.Instr n i) f instr there here)
           (checked rule.Removals (line.Instr n i) f instr there here)
 
-      used : (v : ℕ) → Uses (erased_op instr.op) v → IsSmall v
+      used : (v : ℕ) → UsesVariable (erased_op instr.op) v → IsSmall v
       used v u =
           let within = (checked rule.Exists (line.Instr n i) f instr there here).variables v u in
           omega (arith, within, length-map f.variables (λ (s : Slot). s.ty), few)
@@ -163,7 +163,7 @@ module _ (code : Code) (checked : IsChecked code) (short : length (text_of code)
 
       called : (to : Option ℕ) (from : List ℕ) (passes : List _) (m : ℕ) (callee : TacFn)
           → slice_get (erased code).functions m ≡ Some callee → length from ≡ callee.params
-          → is_some to ≡ is_some callee.result_type → ((g : CodeFn) → slice_get code.functions m ≡ Some g → Passes f g to from passes)
+          → is_some to ≡ is_some callee.result_type → ((g : CodeFn) → slice_get code.functions m ≡ Some g → PassesClasses f g to from passes)
           → All ClassFits passes
       called to from passes m callee declared long target p =
           let g = unmapped_at erased_fn code.functions m callee declared in
@@ -172,8 +172,8 @@ module _ (code : Code) (checked : IsChecked code) (short : length (text_of code)
           (target ∙ (sym (ap (λ (h : TacFn). is_some h.result_type) g.2) ∙ some_mapped (λ (s : Slot). s.ty) g.0.result))
           (p g.0 g.1)
 
-      by : (op : CodeOp) → ((v : ℕ) → Uses (erased_op op) v → IsSmall v) → OpExists (erased code) (erased_fn f) (erased_op op)
-          → types.OpFits (erased code) (erased_fn f) (erased_op op) → constants.OpFits (erased_op op)
+      by : (op : CodeOp) → ((v : ℕ) → UsesVariable (erased_op op) v → IsSmall v) → OpExists (erased code) (erased_fn f) (erased_op op)
+          → types.IsWellTypedOp (erased code) (erased_fn f) (erased_op op) → constants.TacOpFits (erased_op op)
           → PrintsFit (erased_fn f) (erased_op op)
           → ((j : ℕ) (names : List ℕ) → Contains (edges op i) (j, names) → AreSmall names) → CallsPass code f op
           → StartsPass code f op → ProtectsUsed f i op → OpPrints op
@@ -219,7 +219,7 @@ module _ (code : Code) (checked : IsChecked code) (short : length (text_of code)
       )
       by (Return value) u x t c q r calls starts protects = read_small value (λ v h. u v (inl h))
 
-      instr_prints : constants.InstrFits (erased_instr instr) → InstrPrints instr
+      instr_prints : constants.TacInstrFits (erased_instr instr) → InstrPrints instr
       instr_prints c = (
         c.0,
         creates,
@@ -231,7 +231,7 @@ module _ (code : Code) (checked : IsChecked code) (short : length (text_of code)
             (checked rule.Protections (line.Instr n i) f instr there here),
       )
 
-    fn_prints : constants.FnFits (erased_fn f) → FnPrints f
+    fn_prints : constants.TacFnFits (erased_fn f) → FnPrints f
     fn_prints c = record {
       params = omega (arith, params_fit n f there, few);
       result = result_slot f.result (λ s e.
@@ -241,16 +241,16 @@ module _ (code : Code) (checked : IsChecked code) (short : length (text_of code)
       indexes = omega (arith, few_instrs);
       body = each InstrPrints f.body (λ i instr here.
           instr_prints i instr here
-          (item constants.InstrFits (erased_fn f).body i (erased_instr instr) (mapped_at erased_instr f.body i instr here) c));
+          (item constants.TacInstrFits (erased_fn f).body i (erased_instr instr) (mapped_at erased_instr f.body i instr here) c));
     }
 
-  fns_print : ConstantsFit (erased code) → All FnPrints code.functions
+  fns_print : TacConstantsFit (erased code) → All FnPrints code.functions
   fns_print c = each FnPrints code.functions (λ n f there.
       fn_prints n f there
-      (item constants.FnFits (erased code).functions n (erased_fn f) (mapped_at erased_fn code.functions n f there) c))
+      (item constants.TacFnFits (erased code).functions n (erased_fn f) (mapped_at erased_fn code.functions n f there) c))
 
 pub printable : (text : List ℕ) (code : Code) → IsCompiled text code → length (text_of code) ≤ code_limit
-    → ConstantsFit (erased code) → IsPrintable code
+    → TacConstantsFit (erased code) → IsPrintable code
 printable text code is short c =
     let lowered = is.from.lowered in
     let names = named text code is in

@@ -11,10 +11,11 @@ use Rattle.rgo_tac.specs.Tac.{tac, tac_start}
 use Rattle.rgo_code.specs.Code.{Code}
 use Rattle.rgo_code.specs.Erasure.{erased}
 use Rattle.rgo_region_machine.specs.Counts.{Counts, counts_of}
-use Rattle.rgo_driver.specs.Rounds.{all_of}
-use Rattle.rgo_driver.specs.Runs.{Runs, RunsFreely}
-use Rattle.rgo_driver.specs.declared.ends.RunEnd.{RunEnd}
-use Rattle.rgo_driver.specs.declared.ends.RunEnd.TheVariants as run_end
+use Rattle.rgo_round_robin.specs.Rounds.{all_of}
+use Rattle.rgo_round_robin.specs.Runs.{Runs}
+use Rattle.rgo_machine.specs.Ends.{RunsFreely}
+use Rattle.rgo_machine.specs.declared.ends.RunEnd.{RunEnd}
+use Rattle.rgo_machine.specs.declared.ends.RunEnd.TheVariants as run_end
 use Rattle.rgo_journal.specs.declared.picks.TacPick.{TacPick}
 use Rattle.rgo_journal.specs.Text.{journal}
 use Rattle.rgo_recording.specs.declared.recording.Recorded.{Recorded}
@@ -24,19 +25,21 @@ use Rattle.rgo_recording.proofs.Going.{recorded_goes_on}
 use Rattle.rgo_command_line.specs.declared.commands.Command.TheVariants.{Record}
 use Rattle.rgo_command_line.specs.declared.limits.RunOptions.{RunOptions}
 use Rattle.rgo_run.specs.declared.endings.Ending.{Ending}
-use Rattle.rgo_run.specs.declared.endings.Ending.TheVariants.{Ran, NoMemory, Usage, ReadFault, TooLong, CodeTooLong}
+use Rattle.rgo_run.specs.declared.endings.Ending.TheVariants.{Ran, NoMemory, Usage, ReadFault, Refused, CodeRefused}
+use Rattle.rgo_run.specs.declared.refusals.CodeTextRefusal.TheVariants as code_refusal
+use Rattle.rgo_run.specs.declared.refusals.TextRefusal.TheVariants as refusal
 use Rattle.rgo_run.specs.declared.endings.TextKind.TheVariants as text_kind
-use Rattle.rgo_run.specs.Calls.{Asks, Call, SinkUse, Failed, Held, Grew, IsUntouched, sink_use}
+use Rattle.rgo_run.specs.Calls.{AsksForCommand, Call, SinkUse, Failed, SinkHeld, SinkGrew, IsUntouched, sink_use}
 use Rattle.rgo_run.specs.Compiled.{IsCompiledFrom}
 use Rattle.rgo_run.specs.Endings.{line_of, status_of}
 use Rattle.rgo_run.specs.Headline.{EndsRun}
-use Rattle.rgo_run.specs.Recorded.{IsCut, IsOfNoRun, Keeps, KeepsNotes, Noted, RecordHeadline, Records, ReportsKept, Says, WritesJournal}
-use Rattle.rgo_run.specs.Recorded.{after, nothing, part, rest, whole}
-use Rattle.rgo_run.specs.Reports.{Reports, Writes, in_short}
+use Rattle.rgo_run.specs.Recorded.{IsCutEnding, IsOfNoRun, KeepsJournal, KeepsNotes, Noted, RecordHeadline, RecordsText, ReportsKept, ReportsJournal, WritesJournal}
+use Rattle.rgo_run.specs.Recorded.{call_after, nothing, part, rest, whole}
+use Rattle.rgo_run.specs.Reports.{Reports, WritesLine, in_short}
 use Rattle.rgo_run.specs.Runs.{IsSaid, of_program}
-use Rattle.rgo_runtime.specs.TableRuns.claims.RegionRuns.{RegionRun}
-use Rattle.rgo_run.specs.Texts.{Fails, IsRead, NotRead}
-use Rattle.rgo_run.specs.Verdicts.{IsProgram}
+use Rattle.rgo_sound.specs.RegionRuns.{RegionRun}
+use Rattle.rgo_run.specs.Texts.{FailsAs, IsRead, NotRead}
+use Rattle.rgo_run.specs.Verdicts.{IsTypedProgram}
 use Rattle.rgo_run.proofs.EndingLemmas.{IsLate, failing_late, failing_ten, fault_of_run, one_is_no_run, refused_status, run_is_late}
 use Rattle.rgo_run.proofs.EndingLemmas.{short_fault, short_is_late, short_is_no_refusal, short_status}
 use Rattle.rgo_run.proofs.HeadlineLemmas.{headline_of_recorded, headline_of_unrecorded, headline_of_words, no_line_run}
@@ -55,8 +58,8 @@ grew_after (Some x) (Some y) new said bytes p q = subst (λ l. Appends (Some l) 
 -- the same of a write that may have failed, with the counts of the sink before both
 writes_after : (old mid new : Option (List ℕ)) (before between now : ℕ) (broken : Bool) (said line : List ℕ)
     (status answer : ℕ) → Appends old mid said → between ≡ before
-    → Writes line status answer (sink_use mid new between now broken)
-    → Writes line status answer (rest said (sink_use old new before now broken))
+    → WritesLine line status answer (sink_use mid new between now broken)
+    → WritesLine line status answer (rest said (sink_use old new before now broken))
 writes_after old mid new before between now broken said line status answer grew held (inl w) =
     inl (w.0, grew_after old mid new said line grew w.1, w.2 ∙ held)
 writes_after old mid new before between now broken said line status answer grew held (inr w) = inr (
@@ -101,7 +104,7 @@ take_nothing (suc n) = refl
 
 -- after the first bytes of the journal nothing follows
 part_reported : (text : List ℕ) (e : Ending) (status : ℕ) (err : SinkUse) (said : List ℕ) → status ≡ 10 → Failed err
-    → Grew err said → Reports text e status (rest said err)
+    → SinkGrew err said → Reports text e status (rest said err)
 part_reported text e status err said ten failed grew = inl (inr (
   ten,
   record { counted = failed.counted; broken = failed.broken },
@@ -110,18 +113,18 @@ part_reported text e status err said ten failed grew = inl (inr (
 ))
 
 says_part : (picks : List TacPick) (e : Ending) (status : ℕ) (err : SinkUse) (bytes : List ℕ)
-    → (bytes ≡ journal picks) ⊎ (IsCut e × (bytes ≡ [])) → status ≡ 10 → Failed err → (n : ℕ)
-    → Says picks e status err (take n bytes)
+    → (bytes ≡ journal picks) ⊎ (IsCutEnding e × (bytes ≡ [])) → status ≡ 10 → Failed err → (n : ℕ)
+    → ReportsJournal picks e status err (take n bytes)
 says_part picks e status err bytes (inl is) ten failed n = part ten failed n (ap (take n) is)
 says_part picks e status err bytes (inr cut) ten failed n = nothing cut.0 (ap (take n) cut.1 ∙ take_nothing n)
 
 says_all : (picks : List TacPick) (e : Ending) (status : ℕ) (err : SinkUse) (bytes : List ℕ)
-    → (bytes ≡ journal picks) ⊎ (IsCut e × (bytes ≡ [])) → Says picks e status err bytes
+    → (bytes ≡ journal picks) ⊎ (IsCutEnding e × (bytes ≡ [])) → ReportsJournal picks e status err bytes
 says_all picks e status err bytes (inl is) = whole is
 says_all picks e status err bytes (inr cut) = nothing cut.0 cut.1
 
-pub refuses : (options : RunOptions) (text : List ℕ) (e : Ending) (status : ℕ) (out err : SinkUse) → Fails text e
-    → IsUntouched out → Reports text e status err → Records options text status out err
+pub refuses : (options : RunOptions) (text : List ℕ) (e : Ending) (status : ℕ) (out err : SinkUse) → FailsAs text_kind.Go text e
+    → IsUntouched out → Reports text e status err → RecordsText options text status out err
 refuses options text e status out err fails untouched reports = (
   [],
   inr (record { ending = e; fails = fails; untouched = untouched; silent = refl; reports = reports }),
@@ -129,17 +132,17 @@ refuses options text e status out err fails untouched reports = (
 
 -- where there was no memory to begin, there was nothing to write
 no_run_kept : (options : RunOptions) (text : List ℕ) (e : Ending) (bytes : List ℕ) (status : ℕ) (out err : SinkUse)
-    → e ≡ NoMemory → IsUntouched out → bytes ≡ [] → ReportsKept text e bytes status err → Records options text status out err
+    → e ≡ NoMemory → IsUntouched out → bytes ≡ [] → ReportsKept text e bytes status err → RecordsText options text status out err
 no_run_kept options text e bytes status out err is untouched empty (inl reports) =
     refuses options text NoMemory status out err tt untouched
     (subst (λ e. Reports text e status err) is
     (subst (λ sink. Reports text e status sink) (ap (λ b. rest b err) empty ∙ rest_nothing err) reports))
 no_run_kept options text e bytes status out err is untouched empty (inr (ten, failed, n, grew)) =
     refuses options text NoMemory status out err tt untouched
-    (inl (inr (ten, failed, 0, subst (Grew err) (ap (take n) empty ∙ take_nothing n) grew)))
+    (inl (inr (ten, failed, 0, subst (SinkGrew err) (ap (take n) empty ∙ take_nothing n) grew)))
 
 pub records_kept : (options : RunOptions) (text : List ℕ) (e : Ending) (bytes : List ℕ) (status : ℕ) (out err : SinkUse)
-    → Keeps options text e bytes out → ReportsKept text e bytes status err → Records options text status out err
+    → KeepsJournal options text e bytes out → ReportsKept text e bytes status err → RecordsText options text status out err
 records_kept options text e bytes status out err (inl (picks, noted, is)) (inl reports) = (
   bytes,
   inl (record {
@@ -170,8 +173,8 @@ pub kept_whole : (end : RunEnd) (picks : List TacPick) (e : Ending) (bytes : Lis
 kept_whole end picks e bytes is written = inl (is, inl written)
 
 pub kept_cut : (end : RunEnd) (picks : List TacPick) (e : Ending) (bytes : List ℕ) → e ≡ Ran text_kind.Go end None
-    → IsCut (Ran text_kind.Go end None) → bytes ≡ [] → KeepsNotes end picks e bytes
-kept_cut end picks e bytes is cut empty = inl (is, inr (subst IsCut (sym is) cut, empty))
+    → IsCutEnding (Ran text_kind.Go end None) → bytes ≡ [] → KeepsNotes end picks e bytes
+kept_cut end picks e bytes is cut empty = inl (is, inr (subst IsCutEnding (sym is) cut, empty))
 
 pub kept_none : (end : RunEnd) (picks : List TacPick) (e : Ending) (bytes : List ℕ) → (end ≡ run_end.WriteFault → ⊥)
     → e ≡ Ran text_kind.Go run_end.NoMemory None → bytes ≡ [] → KeepsNotes end picks e bytes
@@ -195,10 +198,10 @@ runs_freely code limits end old new x = record {
   gives = x.gives;
 }
 
-module _ (options : RunOptions) (text : List ℕ) (program : Typed) (code : Code) (is_program : IsProgram text program)
+module _ (options : RunOptions) (text : List ℕ) (program : Typed) (code : Code) (is_program : IsTypedProgram text program)
     (compiled : IsCompiledFrom program code) (r : Recorded) (out : SinkUse)
     (records : recording.Records code options.sizes options.limits out.old out.new r) (plain : options.stats ≡ false)
-    (failed : r.end ≡ run_end.WriteFault → Failed out) (held : (r.end ≡ run_end.WriteFault → ⊥) → Held out) where
+    (failed : r.end ≡ run_end.WriteFault → Failed out) (held : (r.end ≡ run_end.WriteFault → ⊥) → SinkHeld out) where
   ended : Ended r.world records.runs.before (record records.runs.runs.state { printed = r.world.state.printed }) r.end
   ended = ended_so r.world records.runs.before
       (record records.runs.runs.state { printed = r.world.state.printed }) r.end records.runs.left.leaves
@@ -245,7 +248,7 @@ module _ (options : RunOptions) (text : List ℕ) (program : Typed) (code : Code
   }
 
   -- what was kept of it
-  pub keeps_noted : (e : Ending) (bytes : List ℕ) → KeepsNotes r.end (picks_of r.notes) e bytes → Keeps options text e bytes out
+  pub keeps_noted : (e : Ending) (bytes : List ℕ) → KeepsNotes r.end (picks_of r.notes) e bytes → KeepsJournal options text e bytes out
   keeps_noted e bytes (inl (is, kept)) = inl (
     picks_of r.notes,
     subst (λ e. Noted options text e out (picks_of r.notes)) (sym is) noted_run,
@@ -254,13 +257,13 @@ module _ (options : RunOptions) (text : List ℕ) (program : Typed) (code : Code
   keeps_noted e bytes (inr (no_fault, is, empty)) = inl (
     picks_of r.notes,
     subst (λ e. Noted options text e out (picks_of r.notes)) (sym is) (noted_cut no_fault),
-    inr (subst IsCut (sym is) tt, empty),
+    inr (subst IsCutEnding (sym is) tt, empty),
   )
 
 -- ---- the status
 
--- a refusal, or want of memory
-pub failing : (text : List ℕ) (e : Ending) → Fails text e → (e ≡ NoMemory) ⊎ (status_of e ≡ 1)
+-- a refusal, or a lack of memory
+pub failing : (text : List ℕ) (e : Ending) → FailsAs text_kind.Go text e → (e ≡ NoMemory) ⊎ (status_of e ≡ 1)
 failing text NoMemory f = inl refl
 failing text e f = inr (refused_status text_kind.Go text e f)
 
@@ -270,7 +273,7 @@ reported_late text e n err late (inl (inr w)) = subst IsLate (sym w.0) (λ s. cc
 reported_late text e n err late (inr (h, inl w)) = subst IsLate (sym w.0) (short_is_late e)
 reported_late text e n err late (inr (h, inr w)) = subst IsLate (sym w.0) (λ s. cc, λ s. cc)
 
-records_late : (options : RunOptions) (text : List ℕ) (n : ℕ) (out err : SinkUse) → Records options text n out err
+records_late : (options : RunOptions) (text : List ℕ) (n : ℕ) (out err : SinkUse) → RecordsText options text n out err
     → IsLate n
 records_late options text n out err (said, inl r) =
     reported_late text r.ending n (rest said err)
@@ -278,11 +281,11 @@ records_late options text n out err (said, inl r) =
 records_late options text n out err (said, inr r) =
     reported_late text r.ending n err (failing_late r.ending (failing text r.ending r.fails)) r.reports
 
-pub not_usage : (options : RunOptions) (text : List ℕ) (n : ℕ) (out err : SinkUse) → Records options text n out err
+pub not_usage : (options : RunOptions) (text : List ℕ) (n : ℕ) (out err : SinkUse) → RecordsText options text n out err
     → n ≡ 64 → ⊥
 not_usage options text n out err r = (records_late options text n out err r).0
 
-pub not_read : (options : RunOptions) (text : List ℕ) (n : ℕ) (out err : SinkUse) → Records options text n out err
+pub not_read : (options : RunOptions) (text : List ℕ) (n : ℕ) (out err : SinkUse) → RecordsText options text n out err
     → n ≡ 9 → ⊥
 not_read options text n out err r = (records_late options text n out err r).1
 
@@ -294,7 +297,7 @@ broke : (said : List ℕ) (err : SinkUse) → Failed (rest said err) → Broke e
 broke said err f = (f.counted, f.broken)
 
 -- a write failed, where the answer says so
-pub write_failed : (options : RunOptions) (text : List ℕ) (n : ℕ) (out err : SinkUse) → Records options text n out err
+pub write_failed : (options : RunOptions) (text : List ℕ) (n : ℕ) (out err : SinkUse) → RecordsText options text n out err
     → n ≡ 10 → Broke out ⊎ Broke err
 write_failed options text n out err (said, inl r) ten = by r.reports
   where
@@ -348,19 +351,19 @@ failing_of_no_run e (inr is) = inl is
 
 -- a call that has read its text
 pub headline_of_records : (call : Call) (options : RunOptions) (text : List ℕ)
-    → IsRead call.words call.source (Record options) text → Records options text call.status call.out call.err
+    → IsRead call.words call.source (Record options) text → RecordsText options text call.status call.out call.err
     → RecordHeadline options call
 headline_of_records call options text read (said, inl r) = record {
   said = said;
-  as_run = headline_of_recorded (after said call) options text r.ending read_after r.noted.runs r.reports;
+  as_run = headline_of_recorded (call_after said call) options text r.ending read_after r.noted.runs r.reports;
   recorded = inl (record { text = text; is_text = read.is_text; records = r });
 }
   where
-    read_after : IsRead (after said call).words (after said call).source (Record options) text
+    read_after : IsRead (call_after said call).words (call_after said call).source (Record options) text
     read_after = read
 headline_of_records call options text read (said, inr r) = record {
   said = [];
-  as_run = headline_of_unrecorded (after [] call) options text r.ending read r.fails r.untouched
+  as_run = headline_of_unrecorded (call_after [] call) options text r.ending read r.fails r.untouched
       (subst (λ sink. Reports text r.ending call.status sink) (sym (rest_nothing call.err)) r.reports);
   recorded = inr (
     ending_of_no_run text r.ending call.status call.err (failing_of_no_run r.ending (failing text r.ending r.fails)) r.reports,
@@ -368,21 +371,21 @@ headline_of_records call options text read (said, inr r) = record {
   );
 }
 
-unread_of_no_run : (call : Call) (options : RunOptions) (e : Ending) → Asks call (Record options)
+unread_of_no_run : (call : Call) (options : RunOptions) (e : Ending) → AsksForCommand call (Record options)
     → NotRead call.words call.source e → IsOfNoRun (status_of e)
 unread_of_no_run call options Usage asked n = absurd (let none = sym n.0 ∙ asked in cc)
 unread_of_no_run call options ReadFault asked n = inr (inl refl)
-unread_of_no_run call options TooLong asked n = inl refl
-unread_of_no_run call options CodeTooLong asked n = inl refl
+unread_of_no_run call options (Refused refusal.TooLong) asked n = inl refl
+unread_of_no_run call options (CodeRefused code_refusal.TooLong) asked n = inl refl
 unread_of_no_run call options NoMemory asked n = inr (inr (inr refl))
 unread_of_no_run call options _ asked n = absurd n
 
 -- a call that has read nothing
 pub record_of_words : (call : Call) (options : RunOptions) (e : Ending) → NotRead call.words call.source e
-    → IsUntouched call.out → Reports [] e call.status call.err → Asks call (Record options) → RecordHeadline options call
+    → IsUntouched call.out → Reports [] e call.status call.err → AsksForCommand call (Record options) → RecordHeadline options call
 record_of_words call options e n u t asked = record {
   said = [];
-  as_run = headline_of_words (after [] call) e n u
+  as_run = headline_of_words (call_after [] call) e n u
       (subst (λ sink. Reports [] e call.status sink) (sym (rest_nothing call.err)) t);
   recorded = inr (ending_of_no_run [] e call.status call.err (unread_of_no_run call options e asked n) t, refl);
 }

@@ -5,16 +5,16 @@ use Rattle.rgo_run.proofs.RecordLemmas.{short_of_no_run}
 use Rattle.std.specs.Io.KnownBytes.{Appends, append_known}
 use Rattle.std.proofs.lemmas.Option.{same_Some}
 use Rattle.rgo_machine.specs.declared.picks.End.TheVariants as the_end
-use Rattle.rgo_machine.specs.declared.turns.Shortage.TheVariants as shortage
+use Rattle.rgo_machine.specs.declared.limits.Shortage.TheVariants as shortage
 use Rattle.rgo_tac.specs.Code.{Tac}
 use Rattle.rgo_tac.specs.Tac.{tac, tac_start}
 use Rattle.rgo_code.specs.Code.{Code}
 use Rattle.rgo_code.specs.Erasure.{erased}
 use Rattle.rgo_lower.specs.Lowered.{IsLowered}
 use Rattle.rgo_lower.proofs.Determined.{lowering_is_determined}
-use Rattle.rgo_driver.specs.Runs as driver
-use Rattle.rgo_driver.specs.declared.ends.RunEnd.{RunEnd}
-use Rattle.rgo_driver.specs.declared.ends.RunEnd.TheVariants as run_end
+use Rattle.rgo_machine.specs.Ends as driver
+use Rattle.rgo_machine.specs.declared.ends.RunEnd.{RunEnd}
+use Rattle.rgo_machine.specs.declared.ends.RunEnd.TheVariants as run_end
 use Rattle.rgo_journal.specs.declared.picks.TacPick.{TacPick}
 use Rattle.rgo_journal.specs.declared.replays.ReplayEnd.{ReplayEnd}
 use Rattle.rgo_journal.specs.declared.replays.ReplayEnd.TheVariants as replay_end
@@ -27,19 +27,22 @@ use Rattle.rgo_recording.proofs.Replaying.{comes, replays_as, whole_gives}
 use Rattle.rgo_command_line.specs.declared.commands.Command.TheVariants.{Record, Replay}
 use Rattle.rgo_command_line.specs.declared.limits.RunOptions.{RunOptions}
 use Rattle.rgo_run.specs.declared.endings.Ending.{Ending}
-use Rattle.rgo_run.specs.declared.endings.Ending.TheVariants.{Ran, TooLong, CodeTooLong, ReadFault, Lexical, Syntax, Nesting, Typing, NoMemory}
+use Rattle.rgo_run.specs.declared.endings.Ending.TheVariants.{Ran, ReadFault, CodeRefused, NoMemory}
+use Rattle.rgo_run.specs.declared.endings.Ending.TheVariants as the_ending
+use Rattle.rgo_run.specs.declared.refusals.CodeTextRefusal.TheVariants as code_refusal
+use Rattle.rgo_run.specs.declared.refusals.TextRefusal.{TextRefusal}
 use Rattle.rgo_run.specs.declared.endings.TextKind.TheVariants as text_kind
 use Rattle.rgo_run.specs.declared.replaying.ReplayEnding.{ReplayEnding}
 use Rattle.rgo_run.specs.declared.replaying.ReplayEnding.TheVariants.{NoJournal, Replayed, Other}
-use Rattle.rgo_run.specs.Calls.{Asks, Call, SinkUse, Grew, IsUntouched}
+use Rattle.rgo_run.specs.Calls.{AsksForCommand, Call, SinkUse, SinkGrew, IsUntouched}
 use Rattle.rgo_run.specs.CodeVerdicts.{code_limit}
 use Rattle.rgo_run.specs.Endings.{line_of, status_of, status_of_run}
 use Rattle.rgo_run.specs.RecordLaws.{AnswersAs, IsUnhindered, LeavesJournal, RecordedIsReplayed, ReplaysCall, is_own_status}
-use Rattle.rgo_run.specs.Recorded.{IsCut, IsOfNoRun, Noted, RecordHeadline, RecordedText, RecordsRun, Says, nothing, part, rest, whole}
+use Rattle.rgo_run.specs.Recorded.{IsCutEnding, IsOfNoRun, Noted, RecordHeadline, RecordedText, RecordsRun, ReportsJournal, nothing, part, rest, whole}
 use Rattle.rgo_run.specs.Replayed.{Claim, EndsOn, IsReadWhole, IsSplit, NotReplayed, ReadsNothing, ReplayHeadline, ReplaysTo, ReportsReplay, status_of_end, status_of_replay}
 use Rattle.rgo_run.specs.Reports.{Reports}
 use Rattle.rgo_run.specs.Runs.{IsCodeFor, IsCodeOf, IsRunnable, Runnable, of_code, of_program}
-use Rattle.rgo_run.specs.Verdicts.{Passes, Refused}
+use Rattle.rgo_run.specs.Verdicts.{IsValidProgram, Refused}
 use Rattle.rgo_run.proofs.VerdictLemmas.{never_both, one_program}
 
 -- ---- the bytes on `err`
@@ -98,13 +101,13 @@ replay_status text e n err ok (inr (h, inr w)) = absurd (ok.1 w.0)
 
 -- what the report of a run answers and writes, where the status is that of a run
 pub run_told : (text : List ℕ) (e : Ending) (n : ℕ) (err : SinkUse) → (IsOfNoRun n → ⊥) → Reports text e n err
-    → (n ≡ status_of e) × Grew err (line_of text e)
+    → (n ≡ status_of e) × SinkGrew err (line_of text e)
 run_told text e n err of_run (inl (inl w)) = (w.0, w.1)
 run_told text e n err of_run (inl (inr w)) = absurd (of_run (inr (inr (inl w.0))))
 run_told text e n err of_run (inr (h, inl w)) = absurd (of_run (subst IsOfNoRun (sym w.0) (short_of_no_run e)))
 run_told text e n err of_run (inr (h, inr w)) = absurd (of_run (inr (inr (inl w.0))))
 
-pub cut_is_of_no_run : (e : Ending) → IsCut e → IsOfNoRun (status_of e)
+pub cut_is_of_no_run : (e : Ending) → IsCutEnding e → IsOfNoRun (status_of e)
 cut_is_of_no_run (Ran kind run_end.NoMemory stats) cut = inr (inr (inr refl))
 cut_is_of_no_run (Ran kind run_end.WriteFault stats) cut = inr (inr (inl refl))
 cut_is_of_no_run _ cut = absurd cut
@@ -128,7 +131,7 @@ code_of_run text (of_program program) code plain is compiled of =
     (subst (λ p. IsLowered p plain) (one_program text of.program program of.is_program is.1) of.lowered)
 code_of_run text (of_code given) code plain is compiled of = absurd (let wrong = is.0 in cc)
 
-passes_of : (text : List ℕ) (what : Runnable) → IsRunnable text_kind.Go text what → Passes text
+passes_of : (text : List ℕ) (what : Runnable) → IsRunnable text_kind.Go text what → IsValidProgram text
 passes_of text (of_program program) is = (is.1.tree, is.1.is_well_typed)
 passes_of text (of_code given) is = absurd (let wrong = is.0 in cc)
 
@@ -138,7 +141,7 @@ left_is : (left : Option (List ℕ)) (given bytes : List ℕ) → left ≡ Some 
 left_is None given bytes is at = absurd (let wrong = is in cc)
 left_is (Some l) given bytes is at = at ∙ same_Some l given is
 
-run_gives : (end : RunEnd) → IsRunStatus end → (print : List ℕ) (old new : Option (List ℕ)) → driver.Gives end print old new
+run_gives : (end : RunEnd) → IsRunStatus end → (print : List ℕ) (old new : Option (List ℕ)) → driver.RunPrints end print old new
     → Appends old new print
 run_gives (run_end.Ended e) s print old new g = g
 run_gives run_end.Deadlock s print old new g = g
@@ -188,7 +191,7 @@ module _ (options : RunOptions) (recorded replayed : Call) (text : List ℕ) (en
       record {
         bytes = run.state.printed;
         ran = run_gives noted.runs.run_end by_itself run.state.printed recorded.out.old recorded.out.new run.gives;
-        replays = subst (λ bytes. Grew replayed.out bytes) (ap (λ v. v.printed) same)
+        replays = subst (λ bytes. SinkGrew replayed.out bytes) (ap (λ v. v.printed) same)
             (whole_gives e w again.state.printed replayed.out.old replayed.out.new again.gives);
         answers = subst (λ n. AnswersAs n replayed.status) (sym ran_so)
             (subst (λ n. AnswersAs (status_of_run noted.runs.run_end) n) (sym is)
@@ -214,21 +217,17 @@ module _ (options : RunOptions) (recorded replayed : Call) (text : List ℕ) (en
       drop_past (x ∷ a) b = drop_past a b
 
   -- the text after it is valid
-  refused : (bytes after : List ℕ) → bytes ≡ journal picks ++ text → (e : Ending) (found : List TacPick)
-      → IsSplit bytes found after → Refused after e → ⊥
-  refused bytes after is e found split why =
-      never_both text e (passes_of text noted.runs.what noted.runs.is_what)
-      (subst (λ t. Refused t e) (text_after bytes after found is split).1 why)
+  refused : (bytes after : List ℕ) → bytes ≡ journal picks ++ text → (why : TextRefusal) (found : List TacPick)
+      → IsSplit bytes found after → Refused after why → ⊥
+  refused bytes after is why found split r =
+      never_both text why (passes_of text noted.runs.what noted.runs.is_what)
+      (subst (λ t. Refused t why) (text_after bytes after found is split).1 r)
 
   refuses_not : (bytes : List ℕ) (after : List ℕ) → bytes ≡ journal picks ++ text → (e : Ending)
       → IsUnhindered (status_of e) → NotReplayed bytes after e → ⊥
   refuses_not bytes after is NoMemory fine n = fine.2 refl
-  refuses_not bytes after is TooLong fine n = refused bytes after is TooLong n.0 n.1 n.2
-  refuses_not bytes after is (Lexical why) fine n = refused bytes after is (Lexical why) n.0 n.1 n.2
-  refuses_not bytes after is (Syntax at) fine n = refused bytes after is (Syntax at) n.0 n.1 n.2
-  refuses_not bytes after is (Nesting at) fine n = refused bytes after is (Nesting at) n.0 n.1 n.2
-  refuses_not bytes after is (Typing why) fine n = refused bytes after is (Typing why) n.0 n.1 n.2
-  refuses_not bytes after is _ fine n = n.2
+  refuses_not bytes after is (the_ending.Refused why) fine n = refused bytes after is why n.0 n.1 n.2
+  refuses_not bytes after is _ fine n = n
 
   by_end : (bytes after : List ℕ) → bytes ≡ journal picks ++ text → (e : ReplayEnding)
       → replayed.status ≡ status_of_replay e → EndsOn bytes after e replayed.out → ReplaysCall recorded replayed
@@ -247,7 +246,7 @@ module _ (options : RunOptions) (recorded replayed : Call) (text : List ℕ) (en
       → ReadsNothing replayed bytes e → ⊥
   by_reading bytes (Other ReadFault) status left within n = ok.0 status
   by_reading bytes (Other NoMemory) status left within n = ok.2 status
-  by_reading bytes (Other CodeTooLong) status left within n =
+  by_reading bytes (Other (CodeRefused code_refusal.TooLong)) status left within n =
       let is = left_is replayed.source.left (journal picks ++ text) bytes left n.0 in
       absurd (past bytes is n.1)
     where
@@ -269,7 +268,7 @@ module _ (options : RunOptions) (recorded replayed : Call) (text : List ℕ) (en
           status r.1
       by (inr r) = absurd (by_reading h.bytes h.ending status left within r.0)
 
-  of_claim : Asks replayed Replay → Claim replayed → replayed.source.left ≡ Some (journal picks ++ text)
+  of_claim : AsksForCommand replayed Replay → Claim replayed → replayed.source.left ≡ Some (journal picks ++ text)
       → length (journal picks ++ text) ≤ code_limit → ReplaysCall recorded replayed
   of_claim asked (inl c) left within = of_headline c.1 left within
   of_claim asked (inr (inl (given, asks, h))) left within =
@@ -283,14 +282,14 @@ leaves : (options : RunOptions) (recorded : Call) (text said : List ℕ)
     → LeavesJournal recorded text
 leaves options recorded text said r of_run = by r.says
   where
-    told : (recorded.status ≡ status_of r.ending) × Grew (rest said recorded.err) (line_of text r.ending)
+    told : (recorded.status ≡ status_of r.ending) × SinkGrew (rest said recorded.err) (line_of text r.ending)
     told = run_told text r.ending recorded.status (rest said recorded.err) of_run r.reports
 
-    by : Says r.picks r.ending recorded.status recorded.err said → LeavesJournal recorded text
+    by : ReportsJournal r.picks r.ending recorded.status recorded.err said → LeavesJournal recorded text
     by (whole is) = record {
       picks = r.picks;
       line = line_of text r.ending;
-      wrote = subst (λ b. Grew recorded.err (b ++ line_of text r.ending)) is
+      wrote = subst (λ b. SinkGrew recorded.err (b ++ line_of text r.ending)) is
           (grown recorded.err.old recorded.err.new said (line_of text r.ending) told.1);
       replays = λ replayed asked claim left within ok.
           of_claim options recorded replayed text r.ending r.picks r.noted of_run told.0 ok asked claim left within;

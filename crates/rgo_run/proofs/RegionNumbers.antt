@@ -8,7 +8,7 @@ use Rattle.rgo_tac.specs.declared.regions.Class.{Class}
 use Rattle.rgo_tac.specs.declared.regions.Class.TheVariants.{NoClass, Global, Name}
 use Rattle.rgo_summaries.specs.Calls.{member}
 use Rattle.rgo_classes.specs.Classes.{AreNumbered}
-use Rattle.rgo_code.specs.ClassRules.{IsPassedFor, Passes}
+use Rattle.rgo_code.specs.ClassRules.{IsPassedFor, PassesClasses}
 use Rattle.rgo_code.specs.Code.{Slot, CodeInstr, CodeFn, Code}
 use Rattle.rgo_code.specs.NameRules.{CreatesUsed, RemovesDead, EntryRemovesDead}
 use Rattle.rgo_code.specs.Names.{slot_class, class_of, result_class, member_class, parameter_classes, region_parameters, IsParameterName, edges}
@@ -107,7 +107,7 @@ module _ (f : CodeFn) (numbered : AreNumbered (map (λ (s : Slot). s.class) f.va
   -- what is passed has the class of an argument, or of the variable for the result
   module _ (callee : CodeFn) (to : Option ℕ) (from : List ℕ) (passes : List Class)
       (long : length from ≡ callee.params) (params : callee.params ≤ length callee.variables)
-      (target : is_some to ≡ is_some callee.result) (p : Passes f callee to from passes) where
+      (target : is_some to ≡ is_some callee.result) (p : PassesClasses f callee to from passes) where
     passed_as : (parameter actual : Class) (n at : ℕ) → parameter ≡ Name n
         → IsPassedFor (region_parameters callee) passes parameter actual
         → slice_get (region_parameters callee) at ≡ Some (Name n) → slice_get passes at ≡ Some actual

@@ -5,7 +5,7 @@ use Rattle.std.proofs.Common.{◌∙◌, subst, arith}
 use Rattle.std.specs.Prelude.{IsSome, option_and_then}
 use Rattle.rgo_machine.specs.declared.limits.Sizes.{Sizes}
 use Rattle.rgo_machine.specs.declared.picks.Pick.TheVariants.{One}
-use Rattle.rgo_machine.specs.declared.turns.Shortage.TheVariants as shortage
+use Rattle.rgo_machine.specs.declared.limits.Shortage.TheVariants as shortage
 use Rattle.rgo_tac.specs.Tac.{TacState}
 use Rattle.rgo_code.specs.Checked.{IsChecked}
 use Rattle.rgo_code.specs.Code.{Code}
@@ -14,11 +14,11 @@ use Rattle.rgo_region_machine.specs.Machine.{Event, TakePage, next_object, objec
 use Rattle.rgo_region_machine.specs.Objects.{new_object}
 use Rattle.rgo_region_machine.specs.Room.{enough_pages, most_next, most_of, pages_before, pages_of}
 use Rattle.rgo_region_machine.specs.States.{RegionState}
-use Rattle.rgo_sound.proofs.Bounded.{regions_to_come}
-use Rattle.rgo_sound.proofs.ErasureLemmas.{Follows, Yields, step_follows}
+use Rattle.rgo_sound.proofs.counts.Regions.{regions_to_come}
+use Rattle.rgo_sound.proofs.plain.Steps.{Follows, Yields, step_follows}
 use Rattle.rgo_sound.proofs.Safe.{safety}
-use Rattle.rgo_sound.proofs.Tally.{tally_adds}
-use Rattle.rgo_world.proofs.Attending.{leads_append}
+use Rattle.rgo_sound.proofs.counts.Tally.{tally_adds}
+use Rattle.rgo_region_interpreter.proofs.owing.Attending.{leads_append}
 use Rattle.rgo_run.specs.Headline.{AlwaysHas}
 use Rattle.rgo_run.specs.Runs.{IsCodeFor, Runnable, of_code, of_program}
 use Rattle.rgo_run.specs.Sufficing.{Always, FewPages, FewSteps, FewSuffice}

@@ -1,10 +1,10 @@
--- What the parts of the compiler say of a text, as the endings that report it.
+-- What the stages of the compiler find out about a text, and the endings that report it.
 use Rattle.std.proofs.Common.{◌≡◌, ℕ, ◌+◌, ◌*◌, ◌<◌, ◌≤◌, inl, List, [], length, Option, None, Some, IfSome, refl, ap, arith, subst, sym, ◌∙◌, append-nil}
 use Rattle.rgo_outside.specs.Moves.{ReadsAll, GivesTooMany}
 use Rattle.rgo_outside.specs.declared.whole.ReadEnd.{ReadEnd}
 use Rattle.rgo_outside.specs.declared.whole.ReadEnd.TheVariants as read
 use Rattle.rgo_outside.proofs.ToldLemmas.{ReadsAll-told, GivesTooMany-told}
-use Rattle.rgo_lexer.specs.Refusals.{Fails as LexFails}
+use Rattle.rgo_lexer.specs.Refusals.{LexFails}
 use Rattle.rgo_lexer.specs.declared.refusals.LexError.{LexError}
 use Rattle.rgo_lexer.specs.declared.refusals.LexError.TheVariants as lex
 use Rattle.rgo_ast.specs.Tree.{Program}
@@ -14,7 +14,7 @@ use Rattle.rgo_typing_rules.specs.declared.errors.TypeError.{TypeError}
 use Rattle.rgo_typing_rules.specs.declared.errors.TypeError.TheVariants as type
 use Rattle.rgo_typed.specs.Tree.{Typed}
 use Rattle.rgo_types.specs.Programs.{sites_of}
-use Rattle.rgo_machine.specs.declared.turns.Shortage.{Shortage}
+use Rattle.rgo_machine.specs.declared.limits.Shortage.{Shortage}
 use Rattle.rgo_machine.specs.Deadlocks.{IsDeadlock}
 use Rattle.rgo_machine.specs.Limits.{LeadsWithin}
 use Rattle.rgo_machine.specs.declared.picks.Pick.{Pick}
@@ -24,11 +24,11 @@ use Rattle.rgo_meaning.specs.Source.{source, source_start}
 use Rattle.rgo_tac.specs.Code.{Tac}
 use Rattle.rgo_tac.specs.Tac.{TacState, tac, tac_start}
 use Rattle.rgo_lower.proofs.follows.Whole.{lowering_simulates}
-use Rattle.rgo_driver.specs.Runs.{Ends, RunsFreely}
-use Rattle.rgo_driver.specs.declared.ends.RunEnd.{RunEnd}
-use Rattle.rgo_driver.specs.declared.ends.RunEnd.TheVariants.{Deadlock, NoRoom, StepsSpent, WriteFault}
-use Rattle.rgo_sound.proofs.Offers.{names_only_live}
-use Rattle.rgo_sound.proofs.Room.{room_is_kept}
+use Rattle.rgo_machine.specs.Ends.{RunEndsAs, RunsFreely}
+use Rattle.rgo_machine.specs.declared.ends.RunEnd.{RunEnd}
+use Rattle.rgo_machine.specs.declared.ends.RunEnd.TheVariants.{Deadlock, NoRoom, StepsSpent, WriteFault}
+use Rattle.rgo_sound.proofs.offers.Offers.{names_only_live}
+use Rattle.rgo_sound.proofs.counts.Room.{room_is_kept}
 use Rattle.rgo_sound.proofs.Safe.{safety}
 use Rattle.rgo_command_line.specs.Commands.{command_of}
 use Rattle.rgo_command_line.specs.declared.commands.Command.{Command}
@@ -48,11 +48,11 @@ use Rattle.rgo_region_machine.specs.Counts.{counts_of}
 use Rattle.rgo_region_machine.specs.Machine.{Event, region_run}
 use Rattle.rgo_region_machine.specs.Room.{roomy_run, LacksIn}
 use Rattle.rgo_region_machine.specs.States.{RegionState, plain_at}
-use Rattle.rgo_runtime.specs.TableRuns.claims.RegionRuns.{RegionRun}
-use Rattle.rgo_runtime.specs.TableRuns.claims.TableRuns.{picks_of}
-use Rattle.rgo_runtime.specs.declared.shares.Tally.{Tally}
+use Rattle.rgo_sound.specs.RegionRuns.{RegionRun}
+use Rattle.rgo_sound.specs.Erasure.{picks_of}
+use Rattle.rgo_region_machine.specs.declared.tallies.Tally.{Tally}
 use Rattle.rgo_code_printing.specs.Text.{text_of}
-use Rattle.rgo_code_text.specs.Walk.{Refuses as ReadFails}
+use Rattle.rgo_code_text.specs.Walk.{RefusesCodeText as ReadFails}
 use Rattle.rgo_code_text.specs.declared.refusals.ReadError.{ReadError}
 use Rattle.rgo_code_text.specs.declared.refusals.ReadError.TheVariants as reading
 use Rattle.rgo_checker.specs.Outcomes.{CheckFails}
@@ -61,14 +61,18 @@ use Rattle.rgo_checker.specs.declared.errors.CheckError.TheVariants as check
 use Rattle.rgo_run.specs.declared.endings.TextKind.{TextKind}
 use Rattle.rgo_run.specs.declared.endings.TextKind.TheVariants as text_kind
 use Rattle.rgo_run.specs.declared.endings.Ending.{Ending}
-use Rattle.rgo_run.specs.declared.endings.Ending.TheVariants.{Ran, Usage}
+use Rattle.rgo_run.specs.declared.endings.Ending.TheVariants.{Ran, Usage, Valid}
+use Rattle.rgo_run.specs.declared.refusals.CodeTextError.{CodeTextError}
+use Rattle.rgo_run.specs.declared.refusals.CodeTextError.TheVariants as code_text
+use Rattle.rgo_run.specs.declared.refusals.TextError.{TextError}
+use Rattle.rgo_run.specs.declared.refusals.TextError.TheVariants as text_failure
 use Rattle.rgo_run.specs.Compiled.{IsCompiled, WritesCode}
-use Rattle.rgo_run.specs.Constants.{ConstantsFit}
-use Rattle.rgo_run.specs.Calls.{SourceUse, SourceFailed, SourceHeld, SinkUse, Failed, Held, kind_of}
-use Rattle.rgo_run.specs.Errors.{command_error, read_error, too_long, lex_error, type_error, reading_error, check_error}
+use Rattle.rgo_run.specs.Constants.{TacConstantsFit}
+use Rattle.rgo_run.specs.Calls.{SourceUse, SourceFailed, SourceHeld, SinkUse, Failed, SinkHeld, kind_of}
+use Rattle.rgo_run.specs.Errors.{command_error, read_error, too_long, lex_error, type_error, reading_error, check_error, text_error, code_text_error}
 use Rattle.rgo_run.specs.Runs.{HasSourceRun, IsCodeFor, IsRunnable, IsSaid, Runnable, SourceRun, of_code, of_program}
 use Rattle.rgo_run.specs.CodeVerdicts.{IsTextOfCode, code_limit, CodePasses}
-use Rattle.rgo_run.specs.Texts.{IsRead, IsTextOf, NotRead, ReadTooMuch, RefusedAs, Fails, FailsAs, Performs, RunsOrFails, limit_of}
+use Rattle.rgo_run.specs.Texts.{IsRead, IsTextOf, NotRead, ReadTooMuch, RefusedAs, ChecksText, CodeFails, SourceFailsAs, FailsAs, PerformsCommand, RunsOrFails, byte_limit}
 use Rattle.rgo_run.specs.Verdicts.{IsTree, text_limit}
 use Rattle.rgo_run.proofs.Accepting.{emitted_passes}
 use Rattle.rgo_run.proofs.CodeLengths.{lines_take_bytes}
@@ -91,17 +95,17 @@ left_is_text (Big n) left text reads is = absurd (reads n refl)
 
 -- the bytes that were read to the end are the text
 pub all_read : (command : Command) (w : List (List ℕ)) (source : SourceUse) (rest : Option (List ℕ)) (bytes : List ℕ)
-    → command_of w ≡ Some command → Reads command → ReadsAll (limit_of (kind_of command)) source.left rest bytes
+    → command_of w ≡ Some command → Reads command → ReadsAll (byte_limit (kind_of command)) source.left rest bytes
     → SourceHeld source → IsRead w source command bytes
 all_read command w source rest bytes asked reads read held = record {
   asked = asked;
   is_text = left_is_text command source.left bytes reads
-      (ReadsAll-told (limit_of (kind_of command)) source.left rest bytes (λ text. bytes ≡ text) read refl);
+      (ReadsAll-told (byte_limit (kind_of command)) source.left rest bytes (λ text. bytes ≡ text) read refl);
   within = read.within;
   held = held;
 }
 
--- the large text is none too long
+-- the large text is within the limit
 pub big_read : (n : ℕ) (w : List (List ℕ)) (source : SourceUse) (text : List ℕ) → command_of w ≡ Some (Big n)
     → IsBig n → text ≡ big_text n → length text ≤ 71 * n + 364 → SourceHeld source → IsRead w source (Big n) text
 big_read n w source text asked few is short held = record {
@@ -117,17 +121,17 @@ longer : (limit : ℕ) (left rest : Option (List ℕ)) → GivesTooMany limit le
 longer limit None rest gave = (gave.0, tt, omega (arith, gave.1))
 longer limit (Some text) rest gave = (text, refl, GivesTooMany-told limit (Some text) rest gave)
 
--- such a text is refused
-too_long_refused : (kind : TextKind) (text : List ℕ) → limit_of kind < length text
+-- such a text is rejected
+too_long_refused : (kind : TextKind) (text : List ℕ) → byte_limit kind < length text
     → RefusedAs kind text (too_long kind)
 too_long_refused text_kind.Go text h = h
 too_long_refused text_kind.Code text h = h
 
 too_much : (command : Command) (w : List (List ℕ)) (source : SourceUse) (rest : Option (List ℕ))
     → command_of w ≡ Some command → Reads command → SourceHeld source
-    → GivesTooMany (limit_of (kind_of command)) source.left rest → ReadTooMuch w source (too_long (kind_of command))
+    → GivesTooMany (byte_limit (kind_of command)) source.left rest → ReadTooMuch w source (too_long (kind_of command))
 too_much command w source rest asked reads held gave =
-    let t = longer (limit_of (kind_of command)) source.left rest gave in
+    let t = longer (byte_limit (kind_of command)) source.left rest gave in
     record {
       command = command;
       asked = asked;
@@ -142,7 +146,7 @@ not_read : (kind : TextKind) (w : List (List ℕ)) (source : SourceUse) → Read
 not_read text_kind.Go w source much = much
 not_read text_kind.Code w source much = much
 
-pub limit_is_small : (kind : TextKind) → limit_of kind ≤ code_limit
+pub limit_is_small : (kind : TextKind) → byte_limit kind ≤ code_limit
 limit_is_small text_kind.Go = omega arith
 limit_is_small text_kind.Code = omega arith
 
@@ -155,7 +159,7 @@ pub no_text : (command : Command) (w : List (List ℕ)) (source : SourceUse) (re
     → command_of w ≡ Some command
     → Reads command
     → (end ≡ read.Fault → SourceFailed source)
-    → (end ≡ read.TooLong → SourceHeld source × GivesTooMany (limit_of (kind_of command)) source.left rest)
+    → (end ≡ read.TooLong → SourceHeld source × GivesTooMany (byte_limit (kind_of command)) source.left rest)
     → (end ≡ read.NoMemory → SourceHeld source) → NotRead w source (read_error (kind_of command) end)
 no_text command w source rest read.Fault asked reads fault long memory = ((command, asked), fault refl)
 no_text command w source rest read.TooLong asked reads fault long memory =
@@ -169,24 +173,40 @@ no_usage text_kind.Code read.TooLong x = cc
 no_usage kind read.NoMemory x = cc
 
 pub lex_fails : (text : List ℕ) (error : LexError) → length text ≤ text_limit → LexFails text error
-    → Fails text (lex_error error)
+    → SourceFailsAs text (lex_error error)
 lex_fails text lex.NoMemory within fails = tt
 lex_fails text (lex.Refused refusal) within fails = (within, fails)
 
 pub type_fails : (text : List ℕ) (tree : Program) (error : TypeError) → IsTree text tree
-    → TypeRefuses error (first_refusal (sites_of tree)) → Fails text (type_error error)
+    → TypeRefuses error (first_refusal (sites_of tree)) → SourceFailsAs text (type_error error)
 type_fails text tree type.NoMemory is_tree fails = tt
 type_fails text tree (type.Refused refusal) is_tree fails = record { tree = tree; is_tree = is_tree; broken = fails }
+
+-- ---- the endings that report why there is no program, or no code
+
+pub text_fails : (text : List ℕ) (error : TextError) → SourceFailsAs text error → FailsAs text_kind.Go text (text_error error)
+text_fails text text_failure.NoMemory fails = tt
+text_fails text (text_failure.Refused why) fails = fails
+
+pub code_text_fails : (text : List ℕ) (error : CodeTextError) → CodeFails text error
+    → FailsAs text_kind.Code text (code_text_error error)
+code_text_fails text code_text.NoMemory fails = tt
+code_text_fails text (code_text.Refused why) fails = fails
+
+pub checks_in_vain : (kind : TextKind) (text : List ℕ) (e : Ending) → FailsAs kind text e → ChecksText kind text e
+checks_in_vain text_kind.Go text Valid fails = absurd fails
+checks_in_vain text_kind.Code text Valid fails = absurd fails
+checks_in_vain kind text e fails = fails
 
 -- ---- the run of a program
 
 of_deadlock : (code : Tac) (limits : Limits) (before steps : ℕ) (t : TacState) (end : RunEnd)
-    → Ends (tac code) limits before steps t end → end ≡ Deadlock → IsDeadlock (tac code) t
-of_deadlock code limits before steps t end h d = subst (λ e. Ends (tac code) limits before steps t e) d h
+    → RunEndsAs (tac code) limits before steps t end → end ≡ Deadlock → IsDeadlock (tac code) t
+of_deadlock code limits before steps t end h d = subst (λ e. RunEndsAs (tac code) limits before steps t e) d h
 
 -- the run of the program that a run of its code follows
 followed : (limits : Limits) (program : Typed) (code : Tac) (before steps : ℕ) (end : RunEnd) (t : TacState)
-    → Ends (tac code) limits before steps t end
+    → RunEndsAs (tac code) limits before steps t end
     → RunsWithinAs limits (tac code) t (source program) (source_start program) → SourceRun limits program end t
 followed limits program code before steps end t ends run = record {
   picks = run.1;
@@ -226,7 +246,7 @@ region_run_of code sizes end t events state checked ascends leads is printed lac
 -- the run of the program, if one is run, that a run of its code follows
 pub followed_if : (what : Runnable) (code : code.Code) (limits : Limits) (before : ℕ) (picks : List Pick) (end : RunEnd) (t : TacState)
     → IsCodeFor what code → LeadsWithin (tac (erased code)) limits (tac_start (erased code)) picks t
-    → Ends (tac (erased code)) limits before (length picks) t end → HasSourceRun what limits end t
+    → RunEndsAs (tac (erased code)) limits before (length picks) t end → HasSourceRun what limits end t
 followed_if (of_program program) code limits before picks end t is ran ends =
     followed limits program (erased code) before (length picks) end t ends
     ((lowering_simulates program (erased code) is.lowered).backward_within limits picks t ran)
@@ -238,7 +258,7 @@ pub ran : (kind : TextKind) (options : RunOptions) (text : List ℕ) (what : Run
     → (regions : RegionRun code options.sizes end runs.state) → runs.picks ≡ picks_of code options.sizes regions.events
     → (end ≡ StepsSpent → (counts_of regions.last).steps < options.limits.steps + 1000 * (counts_of regions.last).goroutines)
     → IsSaid options.stats end (counts_of regions.last) stats
-    → (end ≡ WriteFault → Failed out) → ((end ≡ WriteFault → ⊥) → Held out)
+    → (end ≡ WriteFault → Failed out) → ((end ≡ WriteFault → ⊥) → SinkHeld out)
     → RunsOrFails kind options text (Ran kind end stats) out
 ran kind options text what code end stats out is_what is_code runs regions same spent said failed held = inl (
   record {
@@ -264,7 +284,7 @@ ran kind options text what code end stats out is_what is_code runs regions same 
 -- ---- code that is printed
 
 pub emitted : (text : List ℕ) (code : code.Code) (bytes : List ℕ) (e : Ending) (out : SinkUse) → IsCompiled text code
-    → bytes ≡ text_of code → ConstantsFit (erased code) → WritesCode bytes e out → Performs Emit text e out
+    → bytes ≡ text_of code → TacConstantsFit (erased code) → WritesCode bytes e out → PerformsCommand Emit text e out
 emitted text code bytes e out is is_text fits writes = inl (
   bytes,
   record {
@@ -281,13 +301,13 @@ emitted text code bytes e out is is_text fits writes = inl (
 -- ---- code texts
 
 pub read_fails : (text : List ℕ) (error : ReadError) → length text ≤ code_limit → ReadFails text error
-    → FailsAs text_kind.Code text (reading_error error)
+    → CodeFails text (reading_error error)
 read_fails text reading.NoMemory within fails = tt
 read_fails text reading.TooLarge within fails = absurd (omega (arith, within, fails))
 read_fails text (reading.Refused refusal) within fails = (within, fails)
 
 pub check_fails : (text : List ℕ) (c : code.Code) (error : CheckError) → IsTextOfCode text c → CheckFails error c
-    → FailsAs text_kind.Code text (check_error error)
+    → CodeFails text (check_error error)
 check_fails text c check.NoMemory is fails = tt
 check_fails text c check.TooLarge is fails =
     let long = lines_take_bytes c in

@@ -4,7 +4,7 @@ use Rattle.std.proofs.lemmas.Bool.{cases_lt}
 use Rattle.rgo_lexer.specs.declared.refusals.LexRefusal.{LexRefusal}
 use Rattle.rgo_lexer.specs.Lexemes.{Lexeme}
 use Rattle.rgo_lexer.specs.Lexing.{LexesAs}
-use Rattle.rgo_lexer.specs.Refusals.{Refuses as LexRefuses}
+use Rattle.rgo_lexer.specs.Refusals.{LexRefuses}
 use Rattle.rgo_lexer.proofs.OneReading as lexer
 use Rattle.rgo_ast.specs.Tree.{Program}
 use Rattle.rgo_parser.specs.Parsing.{IsParsed, Refuses}
@@ -14,10 +14,10 @@ use Rattle.rgo_typing_rules.specs.Sites.{first_refusal}
 use Rattle.rgo_typing_rules.specs.declared.errors.TypeRefusal.{TypeRefusal}
 use Rattle.rgo_typed.specs.Tree.{Typed}
 use Rattle.rgo_types.specs.Programs.{sites_of, typed_program}
-use Rattle.rgo_run.specs.declared.endings.Ending.{Ending}
-use Rattle.rgo_run.specs.declared.endings.Ending.TheVariants.{TooLong, Lexical, Syntax, Nesting, Typing}
-use Rattle.rgo_run.specs.Positions.{place_of}
-use Rattle.rgo_run.specs.Verdicts.{text_limit, IsTree, IsWellTyped, Passes, IsProgram, IsRefused, IsMistyped, Refused, OneVerdict}
+use Rattle.rgo_run.specs.declared.refusals.TextRefusal.{TextRefusal}
+use Rattle.rgo_run.specs.declared.refusals.TextRefusal.TheVariants.{TooLong, Lexical, Syntax, Nesting, Typing}
+use Rattle.rgo_run.specs.Positions.{lexeme_place}
+use Rattle.rgo_run.specs.Verdicts.{text_limit, IsTree, IsWellTyped, IsValidProgram, IsTypedProgram, IsRefused, IsMistyped, Refused, OneVerdict}
 use Rattle.rgo_parser.proofs.Answered as parser
 
 -- what was said of one list of lexemes is said of the other
@@ -28,7 +28,7 @@ one_tree : (text : List ℕ) (p q : Program) → IsTree text p → IsTree text q
 one_tree text p q a b =
     parser.one_tree (length text) b.lexemes p q (moved text a.lexemes b.lexemes (λ t. IsParsed (length text) t p) a.lexed b.lexed a.parsed) b.parsed
 
-pub one_program : (text : List ℕ) (p q : Typed) → IsProgram text p → IsProgram text q → p ≡ q
+pub one_program : (text : List ℕ) (p q : Typed) → IsTypedProgram text p → IsTypedProgram text q → p ≡ q
 one_program text p q a b = a.typed ∙ ap typed_program (one_tree text a.tree b.tree a.is_well_typed.is_tree b.is_well_typed.is_tree) ∙ sym b.typed
 
 -- a tree has no lexical refusal, and no refusal of its lexemes
@@ -49,15 +49,14 @@ not_mistyped : (text : List ℕ) (tree : Program) (refusal : TypeRefusal) → Is
 not_mistyped text tree refusal a w = let broken = moved_rule text tree refusal a.is_tree w in let none = a.unbroken in cc
 
 -- what is within the rules breaks none
-keeps : (text : List ℕ) (tree : Program) (why : Ending) → IsWellTyped text tree → Refused text why → ⊥
+keeps : (text : List ℕ) (tree : Program) (why : TextRefusal) → IsWellTyped text tree → Refused text why → ⊥
 keeps text tree TooLong a r = omega (arith, a.is_tree.within)
 keeps text tree (Lexical refusal) a r = not_lexical text tree refusal a.is_tree r.1
 keeps text tree (Syntax at) a r = not_refused text tree (parse.Syntax r.0) r.0 at a.is_tree r.1
 keeps text tree (Nesting at) a r = not_refused text tree (parse.TooDeep r.0) r.0 at a.is_tree r.1
 keeps text tree (Typing refusal) a r = not_mistyped text tree refusal a r
-keeps text tree _ a r = r
 
-pub never_both : (text : List ℕ) (why : Ending) → Passes text → Refused text why → ⊥
+pub never_both : (text : List ℕ) (why : TextRefusal) → IsValidProgram text → Refused text why → ⊥
 never_both text why t r = keeps text t.0 why t.1 r
 
 -- one lexical refusal
@@ -71,8 +70,8 @@ same_refusal text r s j k a b v w =
 
 same_place : (text : List ℕ) (r s : ParseRefusal) (j k a b : ℕ) → IsRefused text r j a → IsRefused text s k b → j ≡ k → a ≡ b
 same_place text r s j k a b v w e =
-    v.place ∙ ap (λ l. place_of text l j) (lexer.one_list text v.lexemes w.lexemes v.lexed w.lexed)
-    ∙ ap (λ n. place_of text w.lexemes n) e ∙ sym w.place
+    v.place ∙ ap (λ l. lexeme_place text l j) (lexer.one_list text v.lexemes w.lexemes v.lexed w.lexed)
+    ∙ ap (λ n. lexeme_place text w.lexemes n) e ∙ sym w.place
 
 same_syntax : (text : List ℕ) (j k a b : ℕ) → IsRefused text (parse.Syntax j) j a → IsRefused text (parse.Syntax k) k b → Syntax a ≡ Syntax b
 same_syntax text j k a b v w =
@@ -99,7 +98,7 @@ refusal_or r (Some s) = s
 same_rule : (text : List ℕ) (p q : TypeRefusal) → IsMistyped text p → IsMistyped text q → Typing p ≡ Typing q
 same_rule text p q v w = ap (λ r. Typing (refusal_or p r)) (sym (moved_rule text w.tree p w.is_tree v) ∙ w.broken)
 
-pub one_refusal : (text : List ℕ) (a b : Ending) → Refused text a → Refused text b → a ≡ b
+pub one_refusal : (text : List ℕ) (a b : TextRefusal) → Refused text a → Refused text b → a ≡ b
 one_refusal text TooLong TooLong r s = refl
 one_refusal text TooLong (Lexical q) r s = absurd (omega (arith, s.0))
 one_refusal text TooLong (Syntax b) r s = absurd (omega (arith, s.1.within))
@@ -125,26 +124,20 @@ one_refusal text (Typing p) (Lexical q) r s = absurd (not_lexical text r.tree q 
 one_refusal text (Typing p) (Syntax b) r s = absurd (not_refused text r.tree (parse.Syntax s.0) s.0 b r.is_tree s.1)
 one_refusal text (Typing p) (Nesting b) r s = absurd (not_refused text r.tree (parse.TooDeep s.0) s.0 b r.is_tree s.1)
 one_refusal text (Typing p) (Typing q) r s = same_rule text p q r s
-one_refusal text TooLong _ r s = absurd s
-one_refusal text (Lexical p) _ r s = absurd s
-one_refusal text (Syntax a) _ r s = absurd s
-one_refusal text (Nesting a) _ r s = absurd s
-one_refusal text (Typing p) _ r s = absurd s
-one_refusal text _ b r s = absurd r
 
 abbrev pub Judged : List ℕ → Type 0
-Judged text = Passes text ⊎ ((why : Ending) × Refused text why)
+Judged text = IsValidProgram text ⊎ ((why : TextRefusal) × Refused text why)
 
 of_rule : (text : List ℕ) (tree : Program) (broken : Option TypeRefusal) → IsTree text tree → first_refusal (sites_of tree) ≡ broken → Judged text
 of_rule text tree None t e = inl (tree, record { is_tree = t; unbroken = e })
 of_rule text tree (Some r) t e = inr (Typing r, record { tree = tree; is_tree = t; broken = e })
 
-refused_at : (text : List ℕ) (lexemes : List Lexeme) (r : ParseRefusal) (k : ℕ) → length text ≤ text_limit → LexesAs text lexemes → Refuses lexemes r → IsRefused text r k (place_of text lexemes k)
+refused_at : (text : List ℕ) (lexemes : List Lexeme) (r : ParseRefusal) (k : ℕ) → length text ≤ text_limit → LexesAs text lexemes → Refuses lexemes r → IsRefused text r k (lexeme_place text lexemes k)
 refused_at text lexemes r k h t w = record { within = h; lexemes = lexemes; lexed = t; refused = w; place = refl }
 
 of_refusal : (text : List ℕ) (lexemes : List Lexeme) (r : ParseRefusal) → length text ≤ text_limit → LexesAs text lexemes → Refuses lexemes r → Judged text
-of_refusal text lexemes (parse.Syntax k) h t w = inr (Syntax (place_of text lexemes k), (k, refused_at text lexemes (parse.Syntax k) k h t w))
-of_refusal text lexemes (parse.TooDeep k) h t w = inr (Nesting (place_of text lexemes k), (k, refused_at text lexemes (parse.TooDeep k) k h t w))
+of_refusal text lexemes (parse.Syntax k) h t w = inr (Syntax (lexeme_place text lexemes k), (k, refused_at text lexemes (parse.Syntax k) k h t w))
+of_refusal text lexemes (parse.TooDeep k) h t w = inr (Nesting (lexeme_place text lexemes k), (k, refused_at text lexemes (parse.TooDeep k) k h t w))
 
 of_answer : (text : List ℕ) (lexemes : List Lexeme) → length text ≤ text_limit → LexesAs text lexemes
     → ((tree : Program) × IsParsed (length text) lexemes tree) ⊎ ((r : ParseRefusal) × Refuses lexemes r) → Judged text

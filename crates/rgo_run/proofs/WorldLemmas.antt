@@ -1,24 +1,24 @@
 -- A world in which a recorded run has ended: the run of the region machine.
 use Rattle.std.proofs.Common.{◌≡◌, ℕ, List, ◌++◌, refl, sym, ◌∙◌, subst}
 use Rattle.rgo_machine.specs.declared.limits.Sizes.{Sizes}
-use Rattle.rgo_machine.specs.declared.turns.Shortage.{Shortage}
+use Rattle.rgo_machine.specs.declared.limits.Shortage.{Shortage}
 use Rattle.rgo_tac.specs.Tac.{TacState}
 use Rattle.rgo_code.specs.Code.{Code}
-use Rattle.rgo_driver.specs.declared.ends.RunEnd.{RunEnd}
-use Rattle.rgo_driver.specs.declared.ends.RunEnd.TheVariants as run_end
+use Rattle.rgo_machine.specs.declared.ends.RunEnd.{RunEnd}
+use Rattle.rgo_machine.specs.declared.ends.RunEnd.TheVariants as run_end
 use Rattle.rgo_region_machine.specs.Room.{LacksIn}
-use Rattle.rgo_runtime.specs.TableRuns.claims.RegionRuns.{RegionRun}
-use Rattle.rgo_world.specs.declared.worlds.World.{World}
-use Rattle.rgo_world.specs.Worlds.{Lacks, Reaches}
+use Rattle.rgo_sound.specs.RegionRuns.{RegionRun}
+use Rattle.rgo_region_interpreter.specs.declared.worlds.World.{World}
+use Rattle.rgo_region_interpreter.specs.Worlds.{WorldLacks, WorldReaches}
 use Rattle.rgo_run.proofs.TextLemmas.{region_run_of}
 
 -- by one run of the region machine: why there was no room
 pub record Ended (w : World) (before : List ℕ) (p : TacState) (end : RunEnd) : Type 0 where
-  pub reaches : Reaches w before p
+  pub reaches : WorldReaches w before p
   pub lacks : (why : Shortage) → end ≡ run_end.NoRoom why → LacksIn w.code.now w.sizes why reaches.state
 
-pub ended_so : (w : World) (before : List ℕ) (p : TacState) (end : RunEnd) → Reaches w before p
-    → ((why : Shortage) → end ≡ run_end.NoRoom why → Lacks w why before p) → Ended w before p end
+pub ended_so : (w : World) (before : List ℕ) (p : TacState) (end : RunEnd) → WorldReaches w before p
+    → ((why : Shortage) → end ≡ run_end.NoRoom why → WorldLacks w why before p) → Ended w before p end
 ended_so w before p (run_end.NoRoom why) left lacks =
     let l = lacks why refl in
     record { reaches = l.0.reaches; lacks = λ other is. subst (λ x. LacksIn w.code.now w.sizes x l.0.reaches.state) (same other is) l.1 }

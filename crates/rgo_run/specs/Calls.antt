@@ -1,7 +1,8 @@
--- One call of `rgo`, by what it was given and what it left.
+-- One call of `rgo` as data: what it was given and what it left. All claims of the headline are about such a record.
 use Rattle.std.specs.Prelude.{◌≡◌, ℕ, Bool, true, List, [], Option, Some, None, option_and_then}
 use Rattle.std.specs.Io.KnownBytes.{Appends}
 use Rattle.rgo_outside.specs.Causes.{Rose}
+use Rattle.rgo_outside.specs.declared.sinks.Sink as sinks
 use Rattle.rgo_command_line.specs.declared.commands.Command.{Command}
 use Rattle.rgo_command_line.specs.declared.commands.Command.TheVariants.{Run, Check, Emit, Code, Big, Record, Replay, RunCode}
 use Rattle.rgo_command_line.specs.declared.limits.RunOptions.{RunOptions}
@@ -10,13 +11,13 @@ use Rattle.rgo_command_line.specs.Limits.{default_options}
 use Rattle.rgo_run.specs.declared.endings.TextKind.{TextKind}
 use Rattle.rgo_run.specs.declared.endings.TextKind.TheVariants as text_kind
 
--- what the source had left, where it reports it, and its count of faults before and after
+-- the source in a call: the bytes it had left, if it reports them, and its count of faults before and after
 pub record SourceUse : Type 0 where
   pub left : Option (List ℕ)
   pub faults_old : ℕ
   pub faults_new : ℕ
 
--- what a sink held before and after, where it reports it, its count of faults, and whether its last write failed
+-- a sink in a call: what it held before and after, if it reports that, its count of faults, and whether its last write failed
 pub record SinkUse : Type 0 where
   pub old : Option (List ℕ)
   pub new : Option (List ℕ)
@@ -36,6 +37,11 @@ sink_use old new faults_old faults_new broken = record {
   broken = broken;
 }
 
+-- the use of a sink, from its ghost state before and after the call
+abbrev pub use_of : {S : Type 0} → sinks.Ghosts S → (old new : S) → SinkUse
+use_of sink old new =
+    sink_use (sink.contents old) (sink.contents new) (sink.faults old) (sink.faults new) (sink.broken new)
+
 pub record Call : Type 0 where
   pub words : List (List ℕ)
   pub source : SourceUse
@@ -43,44 +49,44 @@ pub record Call : Type 0 where
   pub err : SinkUse
   pub status : ℕ
 
--- the kind of text that a command is about; a journal with the text that follows it may be as long as a code text
+-- the kind of text that a command reads; a journal with the text after it may be as long as a code text
 abbrev pub kind_of : Command → TextKind
 kind_of Code = text_kind.Code
 kind_of Replay = text_kind.Code
 kind_of (RunCode options) = text_kind.Code
 kind_of _ = text_kind.Go
 
--- what kind of text a command runs, if any, and with which options: for `big` those that `run` sets without options
-abbrev pub run_of : Command → Option (TextKind × RunOptions)
-run_of (Run options) = Some (text_kind.Go, options)
-run_of (RunCode options) = Some (text_kind.Code, options)
-run_of (Record options) = Some (text_kind.Go, options)
-run_of (Big n) = Some (text_kind.Go, default_options)
-run_of _ = None
+-- what kind of text a command runs, if any, and with which options; `big` uses the defaults of `run`
+abbrev pub run_of_command : Command → Option (TextKind × RunOptions)
+run_of_command (Run options) = Some (text_kind.Go, options)
+run_of_command (RunCode options) = Some (text_kind.Code, options)
+run_of_command (Record options) = Some (text_kind.Go, options)
+run_of_command (Big n) = Some (text_kind.Go, default_options)
+run_of_command _ = None
 
 -- the words ask for a run of a text of this kind, with these options
 abbrev pub AsksRunWith : List (List ℕ) → TextKind → RunOptions → Type 0
-AsksRunWith words kind options = option_and_then run_of (command_of words) ≡ Some (kind, options)
+AsksRunWith words kind options = option_and_then run_of_command (command_of words) ≡ Some (kind, options)
 
 -- the words ask for a run, of some kind and with some options
 abbrev pub AsksRun : List (List ℕ) → Type 0
 AsksRun words = (kind : TextKind) × (options : RunOptions) × AsksRunWith words kind options
 
--- the words ask for this
-abbrev pub Asks : Call → Command → Type 0
-Asks call command = command_of call.words ≡ Some command
+-- the words ask for this command
+abbrev pub AsksForCommand : Call → Command → Type 0
+AsksForCommand call command = command_of call.words ≡ Some command
 
-abbrev pub IsRun : Call → TextKind → RunOptions → Type 0
-IsRun call kind options = AsksRunWith call.words kind options
+abbrev pub IsRunCall : Call → TextKind → RunOptions → Type 0
+IsRunCall call kind options = AsksRunWith call.words kind options
 
 abbrev pub IsCheck : Call → Type 0
-IsCheck call = Asks call Check
+IsCheck call = AsksForCommand call Check
 
 abbrev pub IsEmit : Call → Type 0
-IsEmit call = Asks call Emit
+IsEmit call = AsksForCommand call Emit
 
 abbrev pub IsCode : Call → Type 0
-IsCode call = Asks call Code
+IsCode call = AsksForCommand call Code
 
 -- a read failed
 abbrev pub SourceFailed : SourceUse → Type 0
@@ -96,13 +102,13 @@ pub record Failed (sink : SinkUse) : Type 0 where
   pub broken : sink.broken ≡ true
 
 -- no write failed
-abbrev pub Held : SinkUse → Type 0
-Held sink = sink.faults_new ≡ sink.faults_old
+abbrev pub SinkHeld : SinkUse → Type 0
+SinkHeld sink = sink.faults_new ≡ sink.faults_old
 
--- the sink holds these bytes after what it held, where it reports it
-abbrev pub Grew : SinkUse → List ℕ → Type 0
-Grew sink bytes = Appends sink.old sink.new bytes
+-- these bytes were appended to what the sink held, if it reports that
+abbrev pub SinkGrew : SinkUse → List ℕ → Type 0
+SinkGrew sink bytes = Appends sink.old sink.new bytes
 
 -- nothing was written
 abbrev pub IsUntouched : SinkUse → Type 0
-IsUntouched sink = Grew sink [] × Held sink
+IsUntouched sink = SinkGrew sink [] × SinkHeld sink

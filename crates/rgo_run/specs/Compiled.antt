@@ -1,4 +1,4 @@
--- The code with regions that a text is compiled to, and its text.
+-- `IsCompiled`: the code with regions of a text's program. `Emits`: how `emit` prints it.
 use Rattle.std.specs.Prelude.{◌≡◌, ◌≤◌, ℕ, List, take, length}
 use Rattle.rgo_typed.specs.Tree.{Typed}
 use Rattle.rgo_lower.specs.Lowered.{IsLowered}
@@ -13,12 +13,12 @@ use Rattle.rgo_insert.specs.Inserted.{HasClasses}
 use Rattle.rgo_code_printing.specs.Text.{text_of}
 use Rattle.rgo_run.specs.declared.endings.Ending.{Ending}
 use Rattle.rgo_run.specs.declared.endings.Ending.TheVariants.{Valid, WriteFault}
-use Rattle.rgo_run.specs.Calls.{SinkUse, Failed, Grew, Held}
+use Rattle.rgo_run.specs.Calls.{SinkUse, Failed, SinkGrew, SinkHeld}
 use Rattle.rgo_run.specs.CodeVerdicts.{code_limit, CodePasses}
-use Rattle.rgo_run.specs.Verdicts.{IsProgram}
+use Rattle.rgo_run.specs.Verdicts.{IsTypedProgram}
 
--- The code keeps all rules, and in each of its lists the names ascend. Without its regions it is the program's three-address
--- code, and its classes are those that the functions have under the least summaries.
+-- The code keeps all rules, and its lists of names are ascending. Without regions it is the program's three-address code. Its
+-- classes are those of the functions under the least summaries, which makes the code unique.
 pub record IsCompiledFrom (program : Typed) (code : Code) : Type 0 where
   pub lowered : IsLowered program (erased code)
   pub family : List Summary
@@ -28,28 +28,28 @@ pub record IsCompiledFrom (program : Typed) (code : Code) : Type 0 where
   pub checked : IsChecked code
   pub ascends : Ascends code
 
--- a program is compiled to one code
+-- a program has at most one compiled code
 abbrev pub OneCompiled : Type 0
 OneCompiled = (program : Typed) (a b : Code) → IsCompiledFrom program a → IsCompiledFrom program b → a ≡ b
 
 pub record IsCompiled (text : List ℕ) (code : Code) : Type 0 where
   pub program : Typed
-  pub is_program : IsProgram text program
+  pub is_program : IsTypedProgram text program
   pub from : IsCompiledFrom program code
 
--- These bytes are the text of that code. If they are no more than a code text may have, then as a code text they pass.
+-- The bytes are the text of the program's code. If they are within the limit of a code text, `code` accepts them.
 pub record IsCodeText (text bytes : List ℕ) : Type 0 where
   pub code : Code
   pub compiled : IsCompiled text code
   pub is_text : bytes ≡ text_of code
   pub accepted : length bytes ≤ code_limit → CodePasses bytes
 
--- the bytes were written; or a write failed, and the first of them were
+-- the bytes were written; or a write failed after a front part of them
 abbrev pub WritesCode : List ℕ → Ending → SinkUse → Type 0
-WritesCode bytes Valid out = Grew out bytes × Held out
-WritesCode bytes WriteFault out = Failed out × (n : ℕ) × Grew out (take n bytes)
+WritesCode bytes Valid out = SinkGrew out bytes × SinkHeld out
+WritesCode bytes WriteFault out = Failed out × (n : ℕ) × SinkGrew out (take n bytes)
 WritesCode bytes _ out = ⊥
 
--- the text's code was printed so
+-- the text has a code, and this is how its text was written
 abbrev pub Emits : List ℕ → Ending → SinkUse → Type 0
 Emits text ending out = (bytes : List ℕ) × IsCodeText text bytes × WritesCode bytes ending out

@@ -1,7 +1,3 @@
--- of the crates below, for those above
-pub use Rattle.rgo_runtime.specs.TableRuns as TableRuns
-pub use Rattle.rgo_runtime.specs.Shares as Shares
-pub use Rattle.rgo_runtime.specs.declared.shares.Tally as Tally
 pub mod Accepted
 pub mod Calls
 pub mod CodeVerdicts

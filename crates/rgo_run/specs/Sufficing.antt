@@ -1,7 +1,7 @@
--- How many pages and regions are enough for every run of a program, or of code of its own.
+-- The law on sizes: how many pages and regions are enough for every run of a program or of given code.
 use Rattle.std.specs.Prelude.{◌≡◌, ◌≤◌, ◌+◌, ◌*◌, List, Some}
 use Rattle.rgo_machine.specs.declared.limits.Sizes.{Sizes}
-use Rattle.rgo_machine.specs.declared.turns.Shortage.TheVariants as shortage
+use Rattle.rgo_machine.specs.declared.limits.Shortage.TheVariants as shortage
 use Rattle.rgo_code.specs.Code.{Code}
 use Rattle.rgo_region_machine.specs.Counts.{counts_of}
 use Rattle.rgo_region_machine.specs.Machine.{Event, region_run}
@@ -11,23 +11,22 @@ use Rattle.rgo_sound.specs.Safety.{most_names}
 use Rattle.rgo_run.specs.Headline.{AlwaysHas}
 use Rattle.rgo_run.specs.Runs.{IsCodeFor, Runnable}
 
--- every state of every run of its code with regions is so
+-- the property holds in every state of every run of its code with regions
 abbrev pub Always : Sizes → Runnable → (Code → RegionState → Type 0) → Type 0
 Always sizes what Holds =
     (code : Code) (events : List Event) (s : RegionState) → IsCodeFor what code
     → region_run code sizes.page_words events ≡ Some s → Holds code s
 
--- The pages of its objects, and for each goroutine those of the largest object, made or next, are at most the pages. Where no
--- object is spread, that is the number of objects and goroutines.
+-- The pages of all objects, plus for each goroutine those of the largest object that was made or is next, are at most the pages
+-- allowed. If no object is spread over several pages, that sum is the number of objects and goroutines.
 abbrev pub FewPages : Sizes → Code → RegionState → Type 0
 FewPages sizes code s = enough_pages code sizes.page_words s ≤ sizes.pages
 
--- steps and goroutines together, times the most region names of one function, are at most the regions
+-- steps plus goroutines, times the most region names of one function, are at most the regions allowed
 abbrev pub FewSteps : Sizes → Code → RegionState → Type 0
 FewSteps sizes code s = ((counts_of s).steps + (counts_of s).goroutines) * most_names code.functions ≤ sizes.regions
 
--- Where the objects of every run have as few pages, no run wants a page that there is not; where every run takes as few
--- steps, none wants a region.
+-- if `FewPages` holds throughout, no run lacks a page; if `FewSteps` does, no run lacks a region
 pub record FewSuffice : Type 0 where
   pub pages : (sizes : Sizes) (what : Runnable) → Always sizes what (FewPages sizes)
       → AlwaysHas sizes what shortage.Pages

@@ -1,22 +1,22 @@
-//! What each command does with a text.
+//! What each command does with a text that was read: [`perform`] returns the ending, which `top` reports. What it writes to `out`
+//! goes out here; nothing here writes to `err`.
 
-ghost use Rattle.std.specs.Prelude.{◌≡◌, ℕ, List, IfErr, IfOk};
+ghost use Rattle.std.specs.Prelude.{◌≡◌, ℕ, List, IfOk};
 ghost use Rattle.rgo_code.specs.Erasure.{erased};
 ghost use Rattle.rgo_code_printing.specs.Text.{text_of};
 ghost use Rattle.rgo_command_line.specs.Commands.{KeepsBounds};
 ghost use Rattle.rgo_command_line.specs.Limits.{LieInBounds};
-ghost use Rattle.rgo_driver.specs.declared.ends.RunEnd.{RunEnd};
+ghost use Rattle.rgo_machine.specs.declared.ends.RunEnd.{RunEnd};
 ghost use Rattle.rgo_command_line.specs.declared.commands.Command.TheVariants.{Check, Emit, Record, Replay};
 ghost use Rattle.rgo_command_line.specs.declared.limits.RunOptions.{RunOptions};
 ghost use Rattle.rgo_run.specs.declared.endings.TextKind.TheVariants as text_kind;
-ghost use Rattle.rgo_run.specs.Calls.{kind_of, sink_use};
-ghost use Rattle.rgo_run.specs.declared.endings.Ending.TheVariants.{NoMemory};
+ghost use Rattle.rgo_run.specs.Calls.{kind_of, use_of};
 ghost use Rattle.rgo_run.specs.Compiled.{IsCompiled, WritesCode};
-ghost use Rattle.rgo_run.specs.Constants.{ConstantsFit};
+ghost use Rattle.rgo_run.specs.Constants.{TacConstantsFit};
 ghost use Rattle.rgo_run.specs.Endings.{status_of};
 ghost use Rattle.rgo_run.specs.Runs.{IsCodeFor, IsRunnable, IsSaid, Runnable};
-ghost use Rattle.rgo_runtime.specs.Shares.{counts_in};
-ghost use Rattle.rgo_run.specs.Texts.{Checks, Performs, RunsOrFails};
+ghost use Rattle.rgo_region_machine.specs.Tallies.{counts_in};
+ghost use Rattle.rgo_run.specs.Texts.{ChecksText, PerformsCommand, RunsOrFails};
 
 use crate::constants::constants_fit;
 use crate::endings::{Ending, TextKind};
@@ -25,9 +25,9 @@ use rgo_code::{Checked, Code};
 use rgo_code_printing::print_code;
 use rgo_command_line::{Command, RunOptions};
 use rgo_outside::{Gate, Sink, write_all};
+use rgo_region_machine::Tally;
 use rgo_runtime::runs::{has_table, run};
-use rgo_runtime::shares::Tally;
-use std::alloc::Global;
+use std::alloc::{AllocError, Global};
 use std::thread::Threads;
 
 /// The kind of text that a command is about.
@@ -35,31 +35,31 @@ pub(crate) fn kind_of(command: Command) -> TextKind
     ensures { result ≡ kind_of command }
 {
     match command {
-        // A journal with the text that follows it may be as long as a code text.
+        // `replay` reads a journal before its text, so both together are allowed the length of a code text.
         Command::Code | Command::Replay | Command::RunCode(_) => TextKind::Code,
         _ => TextKind::Go,
     }
 }
 
-// Checks a text.
 fn check_only(alloc: Global, text: &[u8]) -> Ending
-    ensures { Checks text_kind.Go text.now result }
+    ensures { ChecksText text_kind.Go text.now result }
 {
     match check_text(alloc, text) {
         Ok(_) => Ending::Valid,
-        Err(why) => why,
+        Err(error) => Ending::from(error),
     }
 }
 
-// What is said of a run that has made this.
+// The counts to report, if `--stats` asked for them.
 fn stats_of(options: RunOptions, made: Tally) -> Option<Tally>
     ensures { (end : RunEnd) → IsSaid options.stats end (counts_in made) result }
 {
     if options.stats { Some(made) } else { None }
 }
 
-// Runs the code with regions of a text of this kind. Where a table cannot have so many words, that ends as a want of memory does: no
-// text of at most 67,108,864 bytes has so many package variables.
+// Runs the code with regions of a text of this kind. A table that would have too many words counts as a lack of memory. In fact
+// the options leave room enough, and no text of at most 67,108,864 bytes has enough package variables to matter; testing is
+// simpler than proving that. Why: docs/DECISIONS.md, "The driver of a run".
 fn run_code<H: Threads + Sync, K: Sink, G: Gate + Sync>(
     rt: &H,
     alloc: Global,
@@ -71,8 +71,7 @@ fn run_code<H: Threads + Sync, K: Sink, G: Gate + Sync>(
 ) -> Ending
     requires { LieInBounds options }
     ensures performs { (text : List ℕ) (what : Runnable) → IsRunnable kind text what → IsCodeFor what code.now
-        → RunsOrFails kind options text result (sink_use (K.contents out.old) (K.contents out.new)
-        (K.faults out.old) (K.faults out.new) (K.broken out.new)) }
+        → RunsOrFails kind options text result (use_of K.Sink out.old out.new) }
     ensures refused { status_of result ≡ 1 → out.new ≡ out.old }
 {
     if !has_table(&options.sizes, code.code().tac().variables().len()) {
@@ -97,7 +96,6 @@ fn run_code<H: Threads + Sync, K: Sink, G: Gate + Sync>(
     }
 }
 
-// Runs a text.
 fn run_text<H: Threads + Sync, K: Sink, G: Gate + Sync>(
     rt: &H,
     alloc: Global,
@@ -107,17 +105,15 @@ fn run_text<H: Threads + Sync, K: Sink, G: Gate + Sync>(
     gate: &G,
 ) -> Ending
     requires { LieInBounds options }
-    ensures performs { RunsOrFails text_kind.Go options text.now result (sink_use (K.contents out.old)
-        (K.contents out.new) (K.faults out.old) (K.faults out.new) (K.broken out.new)) }
+    ensures performs { RunsOrFails text_kind.Go options text.now result (use_of K.Sink out.old out.new) }
     ensures refused { status_of result ≡ 1 → out.new ≡ out.old }
 {
     match compile(alloc, text) {
         Ok(code) => run_code(rt, alloc, TextKind::Go, options, &code, out, gate),
-        Err(why) => why,
+        Err(error) => Ending::from(error),
     }
 }
 
-// Runs the code of a code text.
 fn run_code_text<H: Threads + Sync, K: Sink, G: Gate + Sync>(
     rt: &H,
     alloc: Global,
@@ -127,20 +123,17 @@ fn run_code_text<H: Threads + Sync, K: Sink, G: Gate + Sync>(
     gate: &G,
 ) -> Ending
     requires { LieInBounds options }
-    ensures performs { RunsOrFails text_kind.Code options text.now result (sink_use (K.contents out.old)
-        (K.contents out.new) (K.faults out.old) (K.faults out.new) (K.broken out.new)) }
+    ensures performs { RunsOrFails text_kind.Code options text.now result (use_of K.Sink out.old out.new) }
     ensures refused { status_of result ≡ 1 → out.new ≡ out.old }
 {
     match read_checked(alloc, text) {
         Ok(code) => run_code(rt, alloc, TextKind::Code, options, &code, out, gate),
-        Err(why) => why,
+        Err(error) => Ending::from(error),
     }
 }
 
-// Writes the text of code.
 fn write_code<K: Sink>(out: &mut K, bytes: &[u8]) -> Ending
-    ensures { WritesCode bytes.now result (sink_use (K.contents out.old) (K.contents out.new) (K.faults out.old)
-        (K.faults out.new) (K.broken out.new)) }
+    ensures { WritesCode bytes.now result (use_of K.Sink out.old out.new) }
 {
     if write_all(out, bytes).is_ok() {
         Ending::Valid
@@ -149,58 +142,51 @@ fn write_code<K: Sink>(out: &mut K, bytes: &[u8]) -> Ending
     }
 }
 
-// The text of code, which a code text can say. That it cannot, since a place takes more than 32 bits, ends as a want of memory
-// does: no text of at most 1,048,576 bytes has such places.
-fn code_text(alloc: Global, code: &Code) -> Result<Vec<u8>, Ending>
+// The text of some code. A place of more than 32 bits, which code texts cannot express, counts as a lack of memory; in fact no
+// text of at most 1,048,576 bytes has such a place.
+fn code_text(alloc: Global, code: &Code) -> Result<Vec<u8>, AllocError>
     ensures text { IfOk result (λ bytes. bytes.items ≡ text_of code.now) }
-    ensures fits { IfOk result (λ bytes. ConstantsFit (erased code.now)) }
-    ensures err { IfErr result (λ why. why ≡ NoMemory) }
+    ensures fits { IfOk result (λ bytes. TacConstantsFit (erased code.now)) }
 {
     if !constants_fit(code.tac()) {
-        return Err(Ending::NoMemory);
+        return Err(AllocError);
     }
-    match print_code(alloc, code) {
-        Ok(bytes) => Ok(bytes),
-        Err(_) => Err(Ending::NoMemory),
-    }
+    let bytes = print_code(alloc, code)?;
+    Ok(bytes)
 }
 
-// Prints code.
 fn emit_code<K: Sink>(alloc: Global, code: &Checked, out: &mut K) -> Ending
-    ensures performs { (text : List ℕ) → IsCompiled text code.now → Performs Emit text result
-        (sink_use (K.contents out.old) (K.contents out.new) (K.faults out.old) (K.faults out.new) (K.broken out.new)) }
+    ensures performs { (text : List ℕ) → IsCompiled text code.now → PerformsCommand Emit text result
+        (use_of K.Sink out.old out.new) }
     ensures refused { status_of result ≡ 1 → out.new ≡ out.old }
 {
     match code_text(alloc, code.code()) {
         Ok(bytes) => write_code(out, &bytes),
-        Err(why) => why,
+        Err(_) => Ending::NoMemory,
     }
 }
 
-// Prints the code of a text.
 fn emit_text<K: Sink>(alloc: Global, text: &[u8], out: &mut K) -> Ending
-    ensures performs { Performs Emit text.now result (sink_use (K.contents out.old) (K.contents out.new)
-        (K.faults out.old) (K.faults out.new) (K.broken out.new)) }
+    ensures performs { PerformsCommand Emit text.now result (use_of K.Sink out.old out.new) }
     ensures refused { status_of result ≡ 1 → out.new ≡ out.old }
 {
     match compile(alloc, text) {
         Ok(code) => emit_code(alloc, &code, out),
-        Err(why) => why,
+        Err(error) => Ending::from(error),
     }
 }
 
-// Checks a code text.
 fn check_code_text(alloc: Global, text: &[u8]) -> Ending
-    ensures { Checks text_kind.Code text.now result }
+    ensures { ChecksText text_kind.Code text.now result }
 {
     match read_checked(alloc, text) {
         Ok(_) => Ending::Valid,
-        Err(why) => why,
+        Err(error) => Ending::from(error),
     }
 }
 
-/// Does what the command says with a text: checks it, runs it, or prints its code. `replay` is not among these commands, since
-/// its places are those of a part of what it reads.
+/// Performs a command other than `record` and `replay` on its text. Those two report for themselves: `record` writes a journal
+/// before its report, and the places of `replay` are relative to the text after its journal.
 pub(crate) fn perform<H: Threads + Sync, K: Sink, G: Gate + Sync>(
     rt: &H,
     alloc: Global,
@@ -212,8 +198,7 @@ pub(crate) fn perform<H: Threads + Sync, K: Sink, G: Gate + Sync>(
     requires bounds { KeepsBounds command }
     requires other { command ≡ Replay → ⊥ }
     requires unrecorded { (options : RunOptions) → command ≡ Record options → ⊥ }
-    ensures performs { Performs command text.now result (sink_use (K.contents out.old)
-        (K.contents out.new) (K.faults out.old) (K.faults out.new) (K.broken out.new)) }
+    ensures performs { PerformsCommand command text.now result (use_of K.Sink out.old out.new) }
     ensures checked { command ≡ Check → out.new ≡ out.old }
     ensures refused { status_of result ≡ 1 → out.new ≡ out.old }
 {

@@ -1,10 +1,12 @@
-//! Whether a code text can say the constants and the places of code. Its integers have 64 bits and its strings consist of
-//! bytes whatever it is, so that only its places are tested.
+//! Whether a code text can express the constants and places of some code; `emit` asks this before it prints.
+//!
+//! Only places are tested at run time: integers have 64 bits and strings consist of bytes in the compiler's own types, so the
+//! functions without a result are proofs of that.
 
 ghost use Rattle.std.specs.Prelude.{◌≡◌, ◌<◌, ◌^◌, All, IfSome, slice_get, Decides};
 ghost use Rattle.rgo_code_words.specs.Worded.{IsSmall, PieceFits};
 ghost use Rattle.rgo_tac.specs.Ops.{operation_of};
-ghost use Rattle.rgo_run.specs.Constants.{ActionFits, OpFits, InstrFits, FnFits, ConstantsFit};
+ghost use Rattle.rgo_run.specs.Constants.{TacActionFits, TacOpFits, TacInstrFits, TacFnFits, TacConstantsFit};
 
 use rgo_tac::{Op, Tac, TacFn};
 use rgo_typed::{Action, Piece};
@@ -39,7 +41,7 @@ fn pieces_fit(pieces: &[Piece])
 }
 
 fn action_fits(action: Action)
-    ensures { ActionFits action }
+    ensures { TacActionFits action }
 {
     match action {
         Action::Int(_)
@@ -67,7 +69,7 @@ fn action_fits(action: Action)
 }
 
 fn op_fits(op: Op<'_>)
-    ensures { OpFits (operation_of op.entry) }
+    ensures { TacOpFits (operation_of op.entry) }
 {
     match op {
         Op::Do { action, .. } => action_fits(action),
@@ -76,9 +78,9 @@ fn op_fits(op: Op<'_>)
     }
 }
 
-/// Whether the place of an instruction has 32 bits.
+/// Whether the place of an instruction fits 32 bits. An index past the end has no place, so nothing is wrong with it.
 fn instr_fits(f: &TacFn, n: usize) -> bool
-    ensures { Decides result (IfSome (slice_get f.now.body n) InstrFits) }
+    ensures { Decides result (IfSome (slice_get f.now.body n) TacInstrFits) }
 {
     match f.op(n) {
         Some(op) => {
@@ -89,9 +91,9 @@ fn instr_fits(f: &TacFn, n: usize) -> bool
     }
 }
 
-/// Whether the places of a function's instructions have 32 bits.
+/// Whether the places of a function's instructions fit 32 bits.
 fn function_fits(f: &TacFn) -> bool
-    ensures { Decides result (FnFits f.now) }
+    ensures { Decides result (TacFnFits f.now) }
 {
     for n in 0..f.len() {
         if !instr_fits(f, n) {
@@ -101,9 +103,10 @@ fn function_fits(f: &TacFn) -> bool
     true
 }
 
-/// Whether all places of the code have 32 bits.
+/// Whether all places of the code fit 32 bits. Code of a text of at most 1,048,576 bytes always passes, since a place is an offset
+/// in that text; the function is total so that its callers need no proof of where code came from.
 pub(crate) fn constants_fit(code: &Tac) -> bool
-    ensures { Decides result (ConstantsFit code.now) }
+    ensures { Decides result (TacConstantsFit code.now) }
 {
     let functions = code.functions();
     for n in 0..functions.len() {

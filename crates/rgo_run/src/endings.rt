@@ -1,25 +1,23 @@
-//! How a call of `rgo` ends.
+//! How a call of `rgo` ends: what [`crate::commands`] returns and [`crate::report`] reports. The definitions of a status and of a
+//! line are functions of this type (specs/Endings.antt). Why: docs/DECISIONS.md, "Errors and statuses".
 
-ghost use Rattle.std.specs.Prelude.{◌≡◌};
-ghost use Rattle.rgo_run.specs.Errors.{check_error, command_error, lex_error, memory_error, reading_error, type_error};
+ghost use Rattle.std.specs.Prelude.{◌≡◌, None};
+ghost use Rattle.rgo_run.specs.declared.endings.Ending.TheVariants.{NoMemory};
+ghost use Rattle.rgo_run.specs.declared.endings.TextKind.TheVariants as text_kind;
+ghost use Rattle.rgo_run.specs.Errors.{code_text_error, command_error, text_error};
 
-use rgo_ast::Place;
-use rgo_checker::CheckError;
-use rgo_code::CodeRefusal;
-use rgo_code_text::ReadError;
+use crate::refusals::{CodeTextError, CodeTextRefusal, TextError, TextRefusal};
 use rgo_command_line::WordsError;
-use rgo_driver::RunEnd;
-use rgo_lexer::{LexError, LexRefusal};
-use rgo_runtime::shares::Tally;
-use rgo_typing_rules::{TypeError, TypeRefusal};
+use rgo_machine::RunEnd;
+use rgo_region_machine::Tally;
 use std::alloc::AllocError;
 
-/// What kind of text a command is about, which determines how places of it are reported.
+/// The kind of text that a command is about. It determines how places are reported.
 #[derive(Clone, Copy, Debug, PartialEq, Eq)]
 pub enum TextKind {
-    /// A text of Go, the source of a program. Its places are bytes from its beginning, and are reported as a line and a column.
+    /// The source of a program. Its places are offsets in bytes, and are reported as a line and a column.
     Go,
-    /// A code text. Its places are the numbers that its instructions have after their `@`, and are reported as they are.
+    /// A code text. Its places are the numbers that its instructions have after `@`, and are reported unchanged.
     Code,
 }
 
@@ -27,10 +25,9 @@ pub enum TextKind {
 /// text, in bytes from its beginning; after the run of a code text, those of its instructions.
 #[derive(Clone, Copy, Debug, PartialEq, Eq)]
 pub enum Ending {
-    /// The text was to be checked, or its code to be printed: it is valid, and that is done.
+    /// The text is valid, and it was only to be checked, or its code was printed.
     Valid,
-    /// The program or the code of a text of this kind was run: how its run ended, and what it has made, where that was
-    /// asked for.
+    /// The program or code of a text of this kind was run: how the run ended, and its counts if `--stats` asked for them.
     Ran {
         kind: TextKind,
         end: RunEnd,
@@ -40,32 +37,27 @@ pub enum Ending {
     Usage,
     /// A read of the source failed.
     ReadFault,
-    /// The source gave more bytes than a text may have.
-    TooLong,
-    /// The source gave more bytes than a code text may have.
-    CodeTooLong,
-    /// The text has no lexemes: what is wrong first, and where.
-    Lexical(LexRefusal),
-    /// The text is not a program: where the first token is with which no program continues.
-    Syntax {
-        at: Place,
-    },
-    /// The program is nested too deep: where the first token is after which it is.
-    Nesting {
-        at: Place,
-    },
-    /// The program breaks a typing rule: the first that it breaks, and where.
-    Typing(TypeRefusal),
-    /// The text is that of no code: the number of its first line without form, from 1.
-    NoForm {
-        line: u32,
-    },
-    /// The code breaks a rule: the least that it breaks, and the number of the first line that does.
-    Breaks(CodeRefusal),
+    /// The text is not a valid program.
+    Refused(TextRefusal),
+    /// The code text is malformed, or its code breaks a rule.
+    CodeRefused(CodeTextRefusal),
     /// A write of the code to `out` failed.
     WriteFault,
-    /// Memory ran out, and there was no run.
+    /// Memory ran out before a run. If it ran out in a run, the ending is `Ran` with `RunEnd::NoMemory`.
     NoMemory,
+}
+
+impl Ending {
+    /// The ending of a recorded or replayed run. Neither command has `--stats`, and the text is always the source of a program.
+    pub(crate) fn of_run(end: RunEnd) -> Ending
+        ensures { result ≡ Ending.Ran text_kind.Go end None }
+    {
+        Ending::Ran {
+            kind: TextKind::Go,
+            end,
+            stats: None,
+        }
+    }
 }
 
 impl From<WordsError> for Ending {
@@ -79,57 +71,32 @@ impl From<WordsError> for Ending {
     }
 }
 
-impl From<ReadError> for Ending {
-    ghost from_gives = { λ error ending. ending ≡ reading_error error };
+impl From<TextError> for Ending {
+    ghost from_gives = { λ error ending. ending ≡ text_error error };
 
-    fn from(error: ReadError) -> Ending {
+    fn from(error: TextError) -> Ending {
         match error {
-            ReadError::Refused(refusal) => Ending::NoForm { line: refusal.line },
-            ReadError::TooLarge => Ending::CodeTooLong,
-            ReadError::NoMemory => Ending::NoMemory,
+            TextError::Refused(refusal) => Ending::Refused(refusal),
+            TextError::NoMemory => Ending::NoMemory,
         }
     }
 }
 
-impl From<CheckError> for Ending {
-    ghost from_gives = { λ error ending. ending ≡ check_error error };
+impl From<CodeTextError> for Ending {
+    ghost from_gives = { λ error ending. ending ≡ code_text_error error };
 
-    fn from(error: CheckError) -> Ending {
+    fn from(error: CodeTextError) -> Ending {
         match error {
-            CheckError::Refused(refusal) => Ending::Breaks(refusal),
-            // Each line of a code text takes a byte at least, so the text of such code is longer than a code text may be.
-            CheckError::TooLarge => Ending::CodeTooLong,
-            CheckError::NoMemory => Ending::NoMemory,
-        }
-    }
-}
-
-impl From<LexError> for Ending {
-    ghost from_gives = { λ error ending. ending ≡ lex_error error };
-
-    fn from(error: LexError) -> Ending {
-        match error {
-            LexError::Refused(refusal) => Ending::Lexical(refusal),
-            LexError::NoMemory => Ending::NoMemory,
+            CodeTextError::Refused(refusal) => Ending::CodeRefused(refusal),
+            CodeTextError::NoMemory => Ending::NoMemory,
         }
     }
 }
 
 impl From<AllocError> for Ending {
-    ghost from_gives = { λ error ending. ending ≡ memory_error error };
+    ghost from_gives = { λ _ ending. ending ≡ NoMemory };
 
     fn from(_error: AllocError) -> Ending {
         Ending::NoMemory
-    }
-}
-
-impl From<TypeError> for Ending {
-    ghost from_gives = { λ error ending. ending ≡ type_error error };
-
-    fn from(error: TypeError) -> Ending {
-        match error {
-            TypeError::Refused(refusal) => Ending::Typing(refusal),
-            TypeError::NoMemory => Ending::NoMemory,
-        }
     }
 }

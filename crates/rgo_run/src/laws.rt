@@ -1,4 +1,4 @@
-//! What holds of the definitions by themselves.
+//! Laws that follow from the definitions alone. The compiler calls none of these functions: each is a theorem for the reader.
 
 ghost use Rattle.rgo_run.specs.Accepted.{EmittedPasses};
 ghost use Rattle.rgo_run.specs.CodeVerdicts.{OneCodeVerdict};
@@ -8,18 +8,18 @@ ghost use Rattle.rgo_run.specs.Programs.{NoProgramIsTooLarge, ProgramsAreWellFor
 ghost use Rattle.rgo_run.specs.Sufficing.{FewSuffice};
 ghost use Rattle.rgo_run.specs.Verdicts.{OneVerdict};
 
-/// Each text is one program at most, and is within the rules or has one refusal, and never both.
+/// Each text is at most one program; it is valid or has exactly one refusal, never both.
 pub fn one_verdict()
     ensures { OneVerdict }
 {}
 
-/// Each code text is the text of one code at most; it is that of code that keeps all rules, or has one refusal, never both.
+/// Each code text is the text of at most one code; it passes or has exactly one refusal, never both.
 pub fn one_code_verdict()
     ensures { OneCodeVerdict }
 {}
 
-/// The text of a program's code is one that `code` accepts, if it is within the limit and can say the constants and places
-/// of the code: integers of 64 bits, strings of bytes, and places of 32 bits. Those of the code that `emit` prints it can.
+/// `code` accepts the text of a program's code, if the text is within the limit and can express the code's constants and places:
+/// integers of 64 bits, strings of bytes, and places of 32 bits. `emit` prints only code whose constants and places it can express.
 pub fn emitted_passes()
     ensures { EmittedPasses }
 {}
@@ -29,25 +29,26 @@ pub fn programs_are_well_formed()
     ensures { ProgramsAreWellFormed }
 {}
 
-/// The program of no text is too large to be lowered, so that lowering fails only where memory runs out.
+/// No text has a program that is too large to be lowered, so lowering fails only when memory runs out.
 pub fn no_program_is_too_large()
     ensures { NoProgramIsTooLarge }
 {}
 
-/// A program is compiled to one code, so there is one text that `emit` may print of it.
+/// The code of a program is unique, so `emit` may print only one text for it.
 pub fn one_compiled()
     ensures { OneCompiled }
 {}
 
-/// No run of a program lacks a page if, in each state of any of its runs, there are as many as the objects have, and for each
-/// goroutine as many as the largest object has that was made or is next. None lacks a region if there are as many regions as
-/// steps and goroutines in any of its runs, times the most region names of one function.
+/// How many pages and regions suffice. No run of a program lacks a page if, in each state of each run, `--pages` is at least the
+/// number of pages of all objects plus, for each goroutine, the pages of the largest object that was made or is next. No run lacks
+/// a region if `--regions` is at least the steps and goroutines of any run, times the most region names of one function.
 pub fn few_suffice()
     ensures { FewSuffice }
 {}
 
-/// `replay` of the journal that `record` wrote, followed by its text, writes the same bytes. It answers the same status if the
-/// run came to its own end, and 13 if the run was cut off; if its steps were spent, the answer may be 3.
+/// `replay` of a journal that `record` wrote, followed by the text, writes the same bytes. Its status is that of the recorded run
+/// if this reached its own end, and 13 if it was cut off. If it was cut off because its steps were spent, the status may be 3:
+/// the run may have been deadlocked by then.
 pub fn recorded_is_replayed()
     ensures { RecordedIsReplayed }
 {}

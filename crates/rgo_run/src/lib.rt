@@ -9,6 +9,7 @@ mod laws;
 mod pipeline;
 mod positions;
 mod recording;
+mod refusals;
 mod replaying;
 mod report;
 mod top;
@@ -19,13 +20,13 @@ pub use laws::{
     one_verdict, programs_are_well_formed, recorded_is_replayed,
 };
 pub use pipeline::{compile, lower_text};
+pub use refusals::{CodeTextError, CodeTextRefusal, TextError, TextRefusal};
 pub use replaying::ReplayEnding;
 pub use rgo_code::{CodeRefusal, Rule as CodeRule};
 pub use rgo_command_line::Command;
-pub use rgo_driver::RunEnd;
 pub use rgo_journal::ReplayEnd;
 pub use rgo_lexer::{LexRefusal, LexicalKind};
-pub use rgo_machine::{End, Limits};
+pub use rgo_machine::{End, Limits, RunEnd};
 pub use rgo_memory::Trap;
 pub use rgo_typing_rules::{Rule, TypeRefusal};
 pub use top::rgo;

@@ -1,4 +1,5 @@
-//! Places of a text as its readers count them: by lines and columns.
+//! The line and the column of a place, for the lines that [`crate::report`] writes. The compiler itself only uses byte offsets.
+//! Why: docs/DECISIONS.md, "Texts and places".
 
 ghost use Rattle.std.specs.Prelude.{◌≡◌, ◌≤◌, ◌<◌, ◌^◌, ◌==◌, length, count_by};
 ghost use Rattle.std.specs.List.{suffix_len};
@@ -18,7 +19,7 @@ fn newlines(bytes: &[u8]) -> usize
     bytes.iter().filter(|b| **b == b'\n').count()
 }
 
-// How many bytes follow the last newline.
+// The number of bytes after the last newline: the column, counted from 0, of a place after these bytes.
 fn since_newline(bytes: &[u8]) -> usize
     ensures value { result ≡ suffix_len is_in_line bytes.now }
     ensures within { result ≤ length bytes.now }
@@ -34,8 +35,7 @@ fn since_newline(bytes: &[u8]) -> usize
     count
 }
 
-/// The line and the column of a place, which is a number of bytes from the text's beginning; of one
-/// after its end, those of the end.
+/// The line and the column of a place, which is an offset in bytes. A place after the end of the text has the position of the end.
 pub(crate) fn position_of(text: &[u8], place: usize) -> Position
     requires { length text.now < 2 ^ 63 }
     ensures { result ≡ position_of text.now place }

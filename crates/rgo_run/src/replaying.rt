@@ -1,29 +1,31 @@
-//! Journals and the texts that follow them, replayed.
+//! The command `replay`: splits what was read into a journal and a text, repeats the picks on the text's three-address code, and
+//! reports the ending. It runs the code without regions, since a pick selects steps of that machine.
+//! Why: docs/DECISIONS.md, "The recorded run".
 
 ghost use Rattle.std.specs.Prelude.{◌≡◌, ◌⊎◌, ◌<◌, ◌^◌, ◌++◌, length, List, ℕ, true, codes, string_bytes, IfOk};
 ghost use Rattle.rgo_outside.specs.Causes.{Rose};
-ghost use Rattle.rgo_run.specs.Calls.{sink_use};
+ghost use Rattle.rgo_run.specs.Calls.{use_of};
 ghost use Rattle.rgo_run.specs.Endings.{numbered_line, status_of};
 ghost use Rattle.rgo_run.specs.declared.endings.Ending as endings;
 ghost use Rattle.rgo_run.specs.Replayed.{EndsOn, IsSplit, ReplaysBytes, ReportsReplay, error_of};
 
-use crate::endings::{Ending, TextKind};
+use crate::endings::Ending;
 use crate::pipeline::lower_text;
-use crate::report::{report, trap_line, write, write_no_memory, write_or_no_memory};
+use crate::report::{report, write, write_or_no_memory};
 use rgo_journal::{PicksError, ReplayEnd, TacPick, read_picks, replay};
-use rgo_machine::End;
+use rgo_machine::RunEnd;
 use rgo_outside::Sink;
 use std::alloc::{AllocError, Global};
 
 /// How a call of `replay` ended.
 #[derive(Clone, Copy, Debug, PartialEq, Eq)]
 pub enum ReplayEnding {
-    /// What was read does not begin with a journal: the number of the first line without form, from 1.
+    /// The bytes do not begin with a journal: the number, from 1, of the first malformed line.
     NoJournal { line: usize },
-    /// The journal's picks were replayed.
+    /// The bytes were a journal and a valid text; how the replay of the picks ended.
     Replayed(ReplayEnd),
-    /// Nothing was replayed, for a reason that other commands have, too. Places are those of the text that follows the
-    /// journal.
+    /// Nothing was replayed, for a reason that other commands have, too. Places are in bytes from the beginning of the text after
+    /// the journal.
     Other(Ending),
 }
 
@@ -38,53 +40,47 @@ impl From<PicksError> for ReplayEnding {
     }
 }
 
-/// Replays picks on the code of a text.
 fn replay_text<K: Sink>(alloc: Global, text: &[u8], picks: &[TacPick], out: &mut K) -> ReplayEnding
-    ensures { (bytes : List ℕ) → IsSplit bytes picks.now text.now → EndsOn bytes text.now result (sink_use (K.contents out.old)
-        (K.contents out.new) (K.faults out.old) (K.faults out.new) (K.broken out.new)) }
+    ensures { (bytes : List ℕ) → IsSplit bytes picks.now text.now → EndsOn bytes text.now result (use_of K.Sink out.old out.new) }
 {
     match lower_text(alloc, text) {
         Ok(code) => ReplayEnding::Replayed(replay(alloc, &code, picks, out)),
-        Err(why) => ReplayEnding::Other(why),
+        Err(error) => ReplayEnding::Other(Ending::from(error)),
     }
 }
 
-/// What is wrong with a line of a journal.
+/// A message with the number of a line of the journal.
 fn journal_line(alloc: Global, line: u128, message: &str) -> Result<String, AllocError>
     ensures { IfOk result (λ text. string_bytes text ≡ numbered_line line (message.now ++ codes "\n")) }
 {
     format!(in alloc; "rgo: line {line}: {message}\n")
 }
 
-/// Writes how a replay ended.
+/// Reports how a replay ended. If the replay reached the end of a run, it reports that as `run` does. The pick with number
+/// `index`, from 0, is in line `index + 2`: line 1 is the journal's head.
 fn report_end<E: Sink>(alloc: Global, text: &[u8], end: ReplayEnd, err: &mut E) -> u8
     requires { length text.now < 2 ^ 63 }
-    ensures { ReportsReplay text.now (ReplayEnding.Replayed end) result (sink_use (E.contents err.old)
-        (E.contents err.new) (E.faults err.old) (E.faults err.new) (E.broken err.new)) }
+    ensures { ReportsReplay text.now (ReplayEnding.Replayed end) result (use_of E.Sink err.old err.new) }
 {
     match end {
-        ReplayEnd::Ended(End::Exit) => 0,
-        ReplayEnd::Ended(End::Trap(trap, at)) => {
-            let line = trap_line(alloc, TextKind::Go, text, trap, at);
-            write_or_no_memory(err, line, 2)
-        }
-        ReplayEnd::Deadlock => write(err, b"rgo: deadlock\n", 3),
+        ReplayEnd::Ended(end) => report(alloc, text, Ending::of_run(RunEnd::Ended(end)), err),
+        ReplayEnd::Deadlock => report(alloc, text, Ending::of_run(RunEnd::Deadlock), err),
         ReplayEnd::Unfinished => write(err, b"rgo: replay unfinished\n", 13),
         ReplayEnd::Foreign { index } => {
             let line = journal_line(alloc, index as u128 + 2, "pick");
             write_or_no_memory(err, line, 1)
         }
-        ReplayEnd::WriteFault => write(err, b"rgo: write failed\n", 10),
-        ReplayEnd::NoMemory => write_no_memory(err),
+        ReplayEnd::WriteFault => report(alloc, text, Ending::of_run(RunEnd::WriteFault), err),
+        ReplayEnd::NoMemory => report(alloc, text, Ending::of_run(RunEnd::NoMemory), err),
     }
 }
 
-/// Writes the line of an ending, and returns its status. On allocation failure for the line, it writes that memory ran out.
+/// Writes the line of an ending and returns its status; if there is no memory for the line, it reports that memory ran out.
+/// `written` holds because `Other` is returned only before anything is written.
 fn report_replay<E: Sink>(alloc: Global, text: &[u8], ending: ReplayEnding, err: &mut E) -> u8
     requires short { length text.now < 2 ^ 63 }
     requires written { (e : endings.Ending) → ending ≡ ReplayEnding.Other e → status_of e ≡ 10 → ⊥ }
-    ensures { ReportsReplay text.now ending result (sink_use (E.contents err.old) (E.contents err.new)
-        (E.faults err.old) (E.faults err.new) (E.broken err.new)) }
+    ensures { ReportsReplay text.now ending result (use_of E.Sink err.old err.new) }
 {
     match ending {
         ReplayEnding::NoJournal { line } => {
@@ -96,8 +92,8 @@ fn report_replay<E: Sink>(alloc: Global, text: &[u8], ending: ReplayEnding, err:
     }
 }
 
-/// Replays the journal with which the bytes begin on the code of the text that follows it, reports the ending, and returns
-/// its status.
+/// Performs `replay` on the bytes that were read, and returns the status. If they do not begin with a journal, no text is known, and
+/// the report is about an empty one: its line has the number of a line of the journal, not a place.
 pub(crate) fn replay_bytes<K: Sink, E: Sink>(
     alloc: Global,
     bytes: &[u8],
@@ -105,9 +101,7 @@ pub(crate) fn replay_bytes<K: Sink, E: Sink>(
     err: &mut E,
 ) -> u8
     requires { length bytes.now < 2 ^ 63 }
-    ensures replays { ReplaysBytes bytes.now (sink_use (K.contents out.old) (K.contents out.new) (K.faults out.old)
-        (K.faults out.new) (K.broken out.new)) (sink_use (E.contents err.old)
-        (E.contents err.new) (E.faults err.old) (E.faults err.new) (E.broken err.new)) result }
+    ensures replays { ReplaysBytes bytes.now (use_of K.Sink out.old out.new) (use_of E.Sink err.old err.new) result }
     ensures not_usage { result ≡ 64 → ⊥ }
     ensures not_read { result ≡ 9 → ⊥ }
     ensures write_failed { result ≡ 10

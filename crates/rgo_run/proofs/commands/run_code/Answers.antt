@@ -1,6 +1,6 @@
 use Rattle.std.proofs.Common.{◌+◌, ◌*◌, ◌<◌, subst, sym}
 use Rattle.rgo_region_machine.specs.Counts.{Counts}
-use Rattle.rgo_run.specs.Calls.{sink_use}
+use Rattle.rgo_run.specs.Calls.{use_of}
 use Rattle.rgo_run.specs.Runs.{IsSaid}
 use Rattle.rgo_run.proofs.TextLemmas.{ran}
 use Rattle.rgo_run.proofs.commands.run_code.Goals as goal
@@ -10,8 +10,7 @@ returns-in-Ok-clause-performs g c = λ text what is_what is_code.
     let options = c.args.options in
     let outcome = c.in-Ok.outcome in
     let new = c.run.new.out in
-    let out = sink_use (g.K.Sink.contents c.args.out.now) (g.K.Sink.contents new) (g.K.Sink.faults c.args.out.now)
-    (g.K.Sink.faults new) (g.K.Sink.broken new) in
+    let out = use_of g.K.Sink c.args.out.now new in
     let is = c.in-Ok.ensures.runs in
     let made = is.made in
     ran c.args.kind options text what c.args.code.now outcome.end c.stats_of.result out is_what is_code is.runs is.regions is.same

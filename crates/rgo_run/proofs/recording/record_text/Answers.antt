@@ -1,7 +1,8 @@
 use Rattle.std.proofs.Common.{refl}
 use Rattle.std.proofs.KnownBytes.{Appends-nil}
-use Rattle.rgo_run.specs.Calls.{sink_use}
+use Rattle.rgo_run.specs.Calls.{use_of}
 use Rattle.rgo_run.proofs.RecordLemmas.{records_kept, refuses, write_failed}
+use Rattle.rgo_run.proofs.TextLemmas.{text_fails}
 use Rattle.rgo_run.proofs.recording.record_text.Goals as goal
 
 pub returns-in-Ok-clause-records : goal.returns-in-Ok-clause-records
@@ -17,7 +18,7 @@ returns-in-Ok-clause-write_failed g c =
 
 pub returns-in-Err-clause-records : goal.returns-in-Err-clause-records
 returns-in-Err-clause-records g c =
-    refuses c.args.options c.args.text.now c.in-Err.why c.report.result
-    (sink_use (g.K.Sink.contents c.args.out.now) (g.K.Sink.contents c.args.out.now) (g.K.Sink.faults c.args.out.now)
-    (g.K.Sink.faults c.args.out.now) (g.K.Sink.broken c.args.out.now)) _ c.in-Err.ensures.err (Appends-nil _, refl)
+    refuses c.args.options c.args.text.now c.from.result c.report.result
+    (use_of g.K.Sink c.args.out.now c.args.out.now) _
+    (rw c.from.ensures (text_fails c.args.text.now c.in-Err.error c.in-Err.ensures.err)) (Appends-nil _, refl)
     c.report.ensures

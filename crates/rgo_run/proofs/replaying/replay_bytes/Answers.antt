@@ -1,6 +1,6 @@
 use Rattle.std.proofs.Common.{◌-◌, [], take, drop, length, refl}
 use Rattle.std.proofs.KnownBytes.{Appends-nil}
-use Rattle.rgo_run.specs.Calls.{sink_use}
+use Rattle.rgo_run.specs.Calls.{use_of}
 use Rattle.rgo_run.proofs.ReplayLemmas.{error_ends, error_not_written, not_read, not_usage, not_written, split_at, write_failed}
 use Rattle.rgo_run.proofs.replaying.replay_bytes.Goals as goal
 
@@ -26,8 +26,7 @@ returns-in-Err-clause-replays g c = record {
   text = [];
   ending = c.from.result;
   ends = rw c.from.ensures (error_ends c.args.bytes.now c.in-Err.error
-      (sink_use (g.K.Sink.contents c.args.out.now) (g.K.Sink.contents c.args.out.now) (g.K.Sink.faults c.args.out.now)
-      (g.K.Sink.faults c.args.out.now) (g.K.Sink.broken c.args.out.now))
+      (use_of g.K.Sink c.args.out.now c.args.out.now)
       c.in-Err.ensures (Appends-nil _, refl));
   told = c.report_replay-in-Err.ensures;
 }
