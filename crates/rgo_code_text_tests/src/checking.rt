@@ -1,4 +1,4 @@
-//! The checker on code texts that break a rule or have a line without form: which rule, and at which line.
+//! The checker on code texts that break a rule or have a malformed line: which rule, and at which line.
 
 use crate::checks::same;
 use crate::code_texts::{bytes, cuts, forms, rules, texts};
@@ -18,7 +18,7 @@ fn checked(alloc: Global, code: &Code) -> Result<(u8, u32), Fail> {
     }
 }
 
-/// The rule that is broken and its line: rule 0 if a line has no form, and 0 and 0 if the text keeps all rules.
+/// The rule that is broken and its line: rule 0 if a line is malformed, and 0 and 0 if the text keeps all rules.
 fn reported(alloc: Global, text: &str) -> Result<(u8, u32), Fail> {
     match read_code(alloc, text.as_bytes()) {
         Ok(code) => checked(alloc, &code),

@@ -1,4 +1,4 @@
-//! What the tests share.
+//! The comparisons that all tests of code texts make.
 
 use rgo_code_printing::print_code;
 use rgo_code_text::{ReadError, read_code};
@@ -7,12 +7,12 @@ use std::fmt::Debug;
 use std::process::Abort;
 use std::test::Fail;
 
-/// Ends the test, with this label, unless the value is the wanted one.
+/// Ends the test with this label unless the value is the expected one.
 pub fn same<R: Abort, T: PartialEq + Debug>(rt: &R, label: &str, found: &T, wanted: &T) {
     assert_eq!(rt; found, wanted, "at {label}");
 }
 
-/// A text as it is printed after it was read, or the line that is refused.
+/// A text as it is printed after it was read, or the line that is rejected.
 fn shown(alloc: Global, text: &[u8]) -> Result<String, Fail> {
     match read_code(alloc, text) {
         Ok(code) => {
@@ -26,14 +26,14 @@ fn shown(alloc: Global, text: &[u8]) -> Result<String, Fail> {
     }
 }
 
-/// The text is read, and printed as it was.
+/// The text can be read, and is printed unchanged.
 pub fn is_read<R: Abort + AllocGlobal>(rt: &R, text: &str) -> Result<(), Fail> {
     let again = shown(rt.alloc(), text.as_bytes())?;
     assert_eq!(rt; again.as_str(), text);
     Ok(())
 }
 
-/// The text is refused at this line.
+/// The text is rejected at this line.
 pub fn is_refused<R: Abort + AllocGlobal>(rt: &R, text: &str, line: u32) -> Result<(), Fail> {
     let again = shown(rt.alloc(), text.as_bytes())?;
     let wanted = format!(in rt.alloc(); "{line}")?;

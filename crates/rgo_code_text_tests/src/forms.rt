@@ -1,4 +1,4 @@
-//! Texts of code.
+//! Code texts of each form, read and printed again.
 
 use crate::checks::{is_read, with_line};
 use std::test::Fail;

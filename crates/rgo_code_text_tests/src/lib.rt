@@ -1,4 +1,4 @@
-//! The tests of code texts: texts that are read and printed again, texts that are refused, and code that breaks a rule.
+//! The tests of code texts: texts that are read and printed again, texts that are rejected, and code that breaks a rule.
 #![tactic(auto)]
 
 #[cfg(test)]

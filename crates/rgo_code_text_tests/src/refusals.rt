@@ -1,4 +1,4 @@
-//! Texts that are not the text of code.
+//! Texts that are not the text of code, with the line that is rejected.
 
 use crate::checks::{is_refused, with_line};
 use std::test::Fail;
@@ -48,7 +48,7 @@ const TEXTS: [(&str, u32); 33] = [
     ),
 ];
 
-/// Line 6 of the text has no form.
+/// Line 6 of the text is malformed.
 const LINES: [&str; 48] = [
     "",
     "nil",

@@ -1,5 +1,5 @@
-//! Tests of compact code: programs of a text are compiled, decoded and run by the loop up to what it does not do. Their
-//! results and the numbers of instructions were worked out by hand.
+//! Tests of compact code: programs are compiled, decoded and run by the loop up to the first instruction that it leaves to others.
+//! The results and the numbers of instructions were worked out by hand.
 #![tactic(auto)]
 
 #[cfg(test)]

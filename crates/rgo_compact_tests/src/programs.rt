@@ -1,4 +1,4 @@
-//! Programs.
+//! The programs that `runs` runs, and where their results are.
 
 /// Recursive calls. `main` is function 2; the Fibonacci number is its variable 1.
 pub(crate) const FIBONACCI: &str = "\

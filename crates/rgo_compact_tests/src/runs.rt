@@ -1,4 +1,4 @@
-//! Runs of compact code.
+//! Runs of compact code in two parts: the second has to continue exactly where the first stopped.
 
 use crate::programs::{CALLS, COLLATZ, FIBONACCI, SUM, TRAP};
 use rgo_compact::{Caller, decode, run, start};
@@ -69,7 +69,7 @@ static ROWS: [(&str, usize, usize, u32, u64); 7] = [
     (CALLS, 1, 29, 0, 5),
 ];
 
-/// The loop stops at the first print or trap, after so many instructions, wherever it stopped in between.
+/// The loop stops at the first print or trap, after that many instructions, wherever it stopped in between.
 #[test]
 fn programs_run_to_their_first_print(rt: HostRuntime) -> Result<(), Fail> {
     let alloc = rt.alloc();
@@ -103,7 +103,7 @@ fn programs_run_to_their_first_print(rt: HostRuntime) -> Result<(), Fail> {
     Ok(())
 }
 
-/// A call for which there is no room is not done: what it needs is left as it was, and the caller is still at it.
+/// A call for which the stack has no room is not done: what it needs is left as it was, and the caller is still at it.
 #[test]
 fn calls_without_room_are_not_done(rt: HostRuntime) -> Result<(), Fail> {
     let alloc = rt.alloc();

@@ -17,7 +17,7 @@ pub(crate) struct Room {
     pub goroutines: usize,
 }
 
-/// Room for all that a program wants.
+/// Room for all that any program of these tests needs.
 pub(crate) const ROOMY: Room = Room {
     page_words: 256,
     pages: 1000,

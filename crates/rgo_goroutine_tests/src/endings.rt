@@ -311,7 +311,7 @@ static ROWS: [Row; 13] = [
     },
 ];
 
-/// A program ends so after it has printed this, however long turns are.
+/// A program has this end and this print, however long turns are.
 fn ends<R: Threads + Abort + AllocGlobal + Sync>(
     rt: &R,
     number: usize,

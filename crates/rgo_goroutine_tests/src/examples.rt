@@ -70,7 +70,7 @@ fn outcome_of(alloc: Global, over: &Over) -> Result<String, AllocError> {
     )
 }
 
-/// A program prints its lines and comes to what its row says, however long turns are.
+/// A program prints its lines and ends as its row says, however long turns are.
 fn holds<R: Threads + Abort + AllocGlobal + Sync>(rt: &R, row: &str) -> Result<(), Fail> {
     let Some(row) = row_of(row) else {
         return Err(Fail::from("a row without form"));
@@ -94,7 +94,7 @@ fn holds<R: Threads + Abort + AllocGlobal + Sync>(rt: &R, row: &str) -> Result<(
     Ok(())
 }
 
-/// Each program of a table does, and there are some.
+/// The same for each program of a table, which must not be empty.
 fn all_hold<R: Threads + Abort + AllocGlobal + Sync>(rt: &R, table: &str) -> Result<(), Fail> {
     let Some(rows) = table.strip_prefix("\n> ") else {
         return Err(Fail::from("a table without rows"));

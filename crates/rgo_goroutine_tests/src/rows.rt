@@ -49,7 +49,7 @@ func main() {
 }
 ";
 
-/// A send at an offer that stands at a closed channel, and a close of that channel.
+/// A send whose offer is at a channel that is closed, and a close of that channel.
 const CLOSES: &str = "\
 package main
 
@@ -195,7 +195,7 @@ fn go<R: Threads + Abort + AllocGlobal + Sync>(
     Ok(over)
 }
 
-/// What is lacked in a turn is lacked in the next one, too, while nobody gives it back.
+/// What is lacked in a turn is lacked in the next one, too, while nobody frees it.
 #[test]
 fn pages_and_slots_are_spent(rt: HostRuntime) -> Result<(), Fail> {
     let pages = Why::Over(Ending::Short(Shortage::Pages));
@@ -229,7 +229,7 @@ fn pages_and_slots_are_spent(rt: HostRuntime) -> Result<(), Fail> {
     Ok(())
 }
 
-/// Once another goroutine has given back a page or a slot, the goroutine that lacked it continues.
+/// Once another goroutine has freed a page or a slot, the goroutine that lacked it continues.
 #[test]
 fn pages_and_slots_come_back(rt: HostRuntime) -> Result<(), Fail> {
     for (room, shortage) in [
@@ -324,7 +324,7 @@ fn a_turn_that_prints_much_is_over(rt: HostRuntime) -> Result<(), Fail> {
     Ok(())
 }
 
-/// The first end mark stands: what the other goroutine prints after it is void, and its trap comes too late.
+/// The first end mark counts: what the other goroutine prints after it is void, and its trap comes too late.
 #[test]
 fn the_first_end_stands(rt: HostRuntime) -> Result<(), Fail> {
     let over = go(

@@ -95,7 +95,7 @@ const NARROW: Room = Room {
     goroutines: 9,
 };
 
-/// The program with so many numbers and this channel.
+/// The program with this many numbers and this channel.
 fn sender(alloc: Global, count: &str, channel: &str) -> Result<String, AllocError> {
     let mut text = String::new(alloc);
     text.push_str(BEFORE)?;
@@ -106,7 +106,7 @@ fn sender(alloc: Global, count: &str, channel: &str) -> Result<String, AllocErro
     Ok(text)
 }
 
-/// The program ends so in as many threads as it has goroutines.
+/// Runs the program with a thread for each goroutine, and compares its print, its end and its counts.
 fn ends<R: Threads + Abort + AllocGlobal + Sync>(
     rt: &R,
     text: &str,

@@ -29,7 +29,7 @@ fn two_regions(alloc: Global) -> Result<Holding, AllocError> {
     Ok(holding)
 }
 
-/// The slots of the regions of the first six names, and 99 for a name that stands for none.
+/// The slots of the regions of the first six names, and 99 for a name that is bound to none.
 fn slots_of(holding: &Holding) -> [u32; 6] {
     let mut slots = [99; 6];
     for name in 0..6 {

@@ -1,4 +1,4 @@
-//! Goroutines that are parked, here numbers.
+//! Parking and waking goroutines, for which numbers are used here.
 
 use rgo_runtime::parking::Parked;
 use std::test::Fail;

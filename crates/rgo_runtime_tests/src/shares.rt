@@ -1,10 +1,10 @@
-//! What goroutines have counted.
+//! Sums of what each goroutine has counted for itself.
 
 use rgo_runtime::goroutine::body::Counts;
 use rgo_runtime::shares::Shares;
 use std::test::Fail;
 
-/// So many steps, and nothing else.
+/// This many steps, and nothing else.
 fn with_steps(steps: u64) -> Counts {
     Counts {
         made: 0,

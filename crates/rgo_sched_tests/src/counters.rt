@@ -8,7 +8,7 @@ use std::process::Abort;
 use std::test::Fail;
 use std::thread::Threads;
 
-/// Counts its turns, and goes on in all but the last.
+/// Counts its turns, and continues in all but the last.
 #[derive(Drop)]
 struct Counter {
     number: u32,
@@ -25,7 +25,7 @@ impl Task for Counter {
     }
 }
 
-/// Counters with numbers from 0 on, each of which goes on in none of its turns, but the one numbered `longest`, whose
+/// Counters with numbers from 0 on, each of which continues after none of its turns, but the one numbered `longest`, whose
 /// third turn is its last.
 fn counters(alloc: Global, count: u32, longest: u32) -> Result<Vec<Counter>, AllocError> {
     let mut tasks = Vec::new(alloc);

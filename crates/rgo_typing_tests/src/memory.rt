@@ -3,7 +3,8 @@
 use crate::checks::same;
 use crate::typed_trees::{name_of, two, ty};
 use rgo_ast::BinaryOp;
-use rgo_memory::{Effect, Memory, Trap, Value, close, meets_at, perform, receive, send, zero};
+use rgo_interpreter::{Effect, Memory, close, meets_at, perform, receive, send};
+use rgo_memory::{Trap, Value, zero};
 use rgo_typed::{Action, Base, Layer, Row, Struct, Type, Variable};
 use std::alloc::Global;
 use std::process::Abort;
@@ -14,7 +15,7 @@ type Step<'a> = (Action, &'a [Value], Option<Effect>);
 /// The effect of an action without a value.
 const DONE: Option<Effect> = Some(Effect::Gives(Value::Nil));
 
-/// The answer of an operation on a channel that is not ready.
+/// The result of an operation on a channel that is not ready.
 const WAITS: Option<Effect> = None;
 
 const NIL: Value = Value::Nil;
@@ -256,7 +257,7 @@ fn fields_are_read_and_written(rt: HostRuntime) -> Result<(), Fail> {
     steps_hold(&rt, &mut memory, &[], Base::Int, &FIELDS)
 }
 
-/// After the first of two objects was taken away.
+/// Actions after the first of two objects was taken away: on it they return `nil` or do nothing, and its number is not used again.
 static TAKEN_AWAY: [Step<'static>; 7] = [
     (Action::Load(0), &[FIRST], Some(Effect::Gives(NIL))),
     (Action::Store(0), &[FIRST, Value::Int(1)], DONE),

@@ -6,7 +6,7 @@ use rgo_ast::Program;
 use rgo_scopes::Scopes;
 use rgo_typed::Base;
 use rgo_typing_expressions::{Checker, Package, bare};
-use rgo_typing_rules::{Kind, Meaning, Role, Rule, Shape, TypeError, TypeRefusal};
+use rgo_typing_rules::{Builtin, Kind, Meaning, Role, Rule, Shape, TypeError, TypeRefusal};
 use std::alloc::Global;
 use std::test::Fail;
 
@@ -73,7 +73,12 @@ fn local_variables_hide_other_meanings(rt: HostRuntime) -> Result<(), Fail> {
     let globals = package(rt.alloc());
     let mut checker = Checker::new(rt.alloc(), &globals);
     let found = checker.meaning(b"len");
-    same(&rt, "len", &matches!(found, Some(Meaning::Len)), &true);
+    same(
+        &rt,
+        "len",
+        &matches!(found, Some(Meaning::Builtin(Builtin::Len))),
+        &true,
+    );
     let found = checker.meaning(b"fmt");
     same(
         &rt,

@@ -10,7 +10,7 @@ use crate::typed_trees::name_of;
 use plain::Row;
 use rgo_ast::{BinaryOp, Ident, TypeExpr, UnaryOp};
 use rgo_typed::{Base, Layer};
-use rgo_typing_rules::{Kind, Node, Role, Rule, Shape, Signature, broken, fold, fold_one};
+use rgo_typing_rules::{Builtin, Kind, Node, Role, Rule, Shape, Signature, broken, fold, fold_one};
 use samples::{Sample, node_of};
 use std::alloc::Global;
 use std::process::Abort;
@@ -112,11 +112,11 @@ fn calls_break_their_rules(rt: HostRuntime) -> Result<(), Fail> {
 
 fn builtins_break<'a>(args: &'a [Shape<'a>]) -> [Option<Rule>; 5] {
     [
-        broken(&Node::CallLen(args)),
-        broken(&Node::CallClose(Role::Alone, args)),
-        broken(&Node::CallClose(Role::Value, args)),
-        broken(&Node::Print(Role::Alone, args)),
-        broken(&Node::Print(Role::Printed, args)),
+        broken(&Node::CallBuiltin(Builtin::Len, Role::Value, args)),
+        broken(&Node::CallBuiltin(Builtin::Close, Role::Alone, args)),
+        broken(&Node::CallBuiltin(Builtin::Close, Role::Value, args)),
+        broken(&Node::CallBuiltin(Builtin::Println, Role::Alone, args)),
+        broken(&Node::CallBuiltin(Builtin::Println, Role::Printed, args)),
     ]
 }
 

@@ -1,5 +1,7 @@
-//! Lines after the head that break rules on meaning, worked out from the words of the rules. Before the `|` are the
-//! place and the rule with its number and name; a `~` stands for a newline.
+//! Texts that break rules on meaning, as `tools/marked_tables.py --table` writes them.
+//!
+//! Before the first `|` is what a check finds: the place, and `syntax` or the rule with its number and name, or `ok`. A `~`
+//! stands for a newline.
 
 /// Declarations, and the names of types.
 pub(super) const DECLARATIONS: &str = "\

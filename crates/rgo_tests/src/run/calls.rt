@@ -12,7 +12,7 @@ use std::thread::Threads;
 pub(super) const HEAD: &str = "package main\nimport \"fmt\"\ntype N struct { v int; p *N }\n";
 
 /// How many bytes a read returns at most, and which read, which write to `out` and which write to
-/// `err` fail, counted from 1. A 0 stands for none.
+/// `err` fail, counted from 1; 0 means that none fails.
 #[derive(Clone, Copy)]
 pub(super) struct Outside(
     pub(super) usize,

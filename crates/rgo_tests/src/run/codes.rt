@@ -264,7 +264,7 @@ end
 rgo: @0: trap 3 DivideZero
 ";
 
-/// Other code texts, and what is none.
+/// Other code texts, and texts that are not code texts.
 pub(super) const OTHERS: &str = "
 > rgo runcode --steps 1000 // a loop without an end
 rgo code 1

@@ -1,4 +1,4 @@
-//! Texts that run or are refused.
+//! Texts that run or are rejected.
 
 /// Lines after the head, as a table of calls.
 pub(super) const LINES: &str = "

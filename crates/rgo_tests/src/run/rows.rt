@@ -9,15 +9,15 @@
 //! what is reported
 //! ```
 //!
-//! A row begins after an empty line. The remark may be missing, and so may `!` with what follows. Several calls may stand on
-//! the first line, with `|` between them.
+//! A row begins after an empty line. The remark may be missing, and so may `!` with what follows. The first line may contain several
+//! calls, with `|` between them.
 
 use super::calls::{Outside, expect};
 use std::alloc::AllocError;
 use std::process::Abort;
 use std::thread::Threads;
 
-/// Calls, and what is wanted of each.
+/// Calls, and what is expected of each.
 #[derive(Clone, Copy)]
 struct Row<'a> {
     calls: &'a str,
@@ -48,7 +48,7 @@ fn row_of(row: &str) -> Option<Row<'_>> {
     })
 }
 
-/// What is called for a row without form: words that no call has, of which no report is wanted.
+/// The call for a malformed row: words that no row has, so that the test fails there.
 fn not_a_row(row: &str) -> Row<'_> {
     Row {
         calls: "not a row",
@@ -77,8 +77,7 @@ fn is_called<R: Threads + Abort + AllocGlobal + Sync>(
     Ok(())
 }
 
-/// Calls `rgo` as each row of a table says, with a text whose lines are between these others, and ends the test where it
-/// does something else.
+/// Calls `rgo` for each row of a table, with the row's lines between `before` and `after`, and ends the test at the first difference.
 pub(super) fn are_called<R: Threads + Abort + AllocGlobal + Sync>(
     rt: &R,
     before: &str,

@@ -1,5 +1,7 @@
-//! A text for each rule on meaning, and texts that pass, worked out from the words of the rules. Before the `|` is
-//! what a check finds: the place, and `syntax` or the rule with its number and name, or `ok`. A `~` stands for a newline.
+//! A text for each rule on meaning, and texts that pass, as `tools/marked_tables.py --table` writes them.
+//!
+//! Before the first `|` is what a check finds: the place, and `syntax` or the rule with its number and name, or `ok`. A `~`
+//! stands for a newline.
 
 /// For each rule a line after the head that breaks it, and the nearest that passes.
 pub(super) const RULES: &str = "\

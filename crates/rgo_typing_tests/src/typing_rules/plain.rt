@@ -5,7 +5,7 @@ use super::samples::Sample::{self, *};
 use rgo_ast::{BinaryOp, UnaryOp};
 use rgo_typed::Base;
 use rgo_typing_rules::Rule::{self, *};
-use rgo_typing_rules::{Meaning, Role};
+use rgo_typing_rules::{Builtin, Meaning, Role};
 
 pub(super) type Row = (Rule, Sample, Sample);
 
@@ -69,7 +69,7 @@ pub(super) static NAMES: [Row; 14] = [
     ),
     (
         NotValue,
-        Name(Role::Alone, Some(Meaning::Len)),
+        Name(Role::Alone, Some(Meaning::Builtin(Builtin::Len))),
         Name(Role::Alone, VARIABLE),
     ),
     (
