@@ -4,7 +4,8 @@
     tools/code_vectors.py --table | --check
 
 `--table` writes the tables to crates/rgo_code_text_tests/src/code_texts/, and `--check` fails if those are others. What has to
-be reported comes from tools/code_text.py. Each table is made from texts in tools/code_texts, which keep all rules:
+be reported comes from tools/code_text.py. Each table is made from texts in tools/code_texts, which keep all rules. All these
+texts, and the programs beside them, are written for the tests of `emit`, too, to crates/rgo_compile_tests/src/inserted/.
 
 - EXISTENCE, TYPES, CLASSES and REGIONS: a line of `all.code` is replaced, so that a rule is broken. There is a row, or
   several, for each rule but the fourteenth and each kind of line at which it can be broken.
@@ -26,6 +27,7 @@ from code_text import FORMS, GLOBAL_JOINS, JOINS, OPERATORS
 TOP = pathlib.Path(__file__).resolve().parent.parent
 TEXTS = TOP / "tools" / "code_texts"
 TABLES = TOP / "crates" / "rgo_code_text_tests" / "src" / "code_texts"
+INSERTED = TOP / "crates" / "rgo_compile_tests" / "src" / "inserted"
 
 WORDS = list(FORMS)
 WITH_EDGE = [word for word in WORDS if word != "return"]
@@ -358,8 +360,23 @@ def file_of(head, *tables_of_file):
     return "\n".join([f"//! {head}, as `tools/code_vectors.py --table` writes them.\n", *tables_of_file])
 
 
+def constants(kind):
+    """The files of `code_texts` that end so, each as a constant."""
+    for path in sorted(TEXTS.glob(f"*.{kind}")):
+        text = "".join(f"{literal(line)[1:-1]}\n" for line in path.read_text(encoding="ascii").splitlines())
+        yield f"pub(crate) const {path.stem.upper()}: &str = \"\\\n{text}\";\n"
+
+
 def tables():
     """The files with the tables."""
+    yield INSERTED / "codes.rt", file_of("The code texts of programs, from `tools/code_texts`", *constants("code"))
+    yield INSERTED / "programs.rt", file_of("Programs, from `tools/code_texts`", *constants("go"))
+    for name, text in tables_of_texts():
+        yield TABLES / name, text
+
+
+def tables_of_texts():
+    """The files with what has to be reported of texts."""
     every = lines_of("all")
     yield "texts.rt", file_of("Code texts that keep all rules", *map(text_table, ["all", *NAMES]))
     doc = "The number of a line of ALL, what replaces it, the rule that is then broken, and the line that breaks it."
@@ -386,18 +403,18 @@ def rows_of(file):
     return {name: ast.literal_eval(rows) for name, rows in found}
 
 
-def is_written(name, text):
+def is_written(path, text):
     """Whether the file of tables has this text."""
-    return (TABLES / name).is_file() and (TABLES / name).read_text(encoding="utf-8") == text
+    return path.is_file() and path.read_text(encoding="utf-8") == text
 
 
 def main(words):
     if words == ["--table"]:
         TABLES.mkdir(exist_ok=True)
-        for name, text in tables():
-            (TABLES / name).write_text(text, encoding="utf-8")
+        for path, text in tables():
+            path.write_text(text, encoding="utf-8")
     elif words == ["--check"]:
-        if not all(is_written(name, text) for name, text in tables()):
+        if not all(is_written(path, text) for path, text in tables()):
             raise command.Stop(1, "the tables are not those of today: run tools/code_vectors.py --table")
     else:
         raise command.WrongWords

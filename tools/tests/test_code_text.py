@@ -303,7 +303,7 @@ class WithTheProgram(unittest.TestCase):
 
     def test_programs_of_the_page_on_regions(self):
         self.need("emit", (TEXTS / "field.go").read_bytes())
-        page = (TOP / "docs" / "REGIONS.md").read_text()
+        page = (TOP / "docs" / "REGION_INFERENCE.md").read_text()
         pairs = re.findall(r"```go\n(package main\n[^`]*)```\n\n```\n(rgo code 1\n[^`]*)```\n", page)
         self.assertEqual(5, len(pairs))
         for program, code in pairs:

@@ -65,17 +65,17 @@ def of_a_margin(line):
 
 
 def limits():
-    """The numbers in the README's table of options, and the most frames of a goroutine."""
-    readme = TOP.joinpath("README.md").read_text(encoding="utf-8")
+    """The numbers in the table of options, and the most frames of a goroutine."""
+    page = TOP.joinpath("docs", "COMMAND_LINE.md").read_text(encoding="utf-8")
     language = TOP.joinpath("docs", "LANGUAGE.md").read_text(encoding="utf-8")
-    options = [" ".join(row) for row in rows(readme[readme.index("| option of `run` |") :])]
+    options = [" ".join(row) for row in rows(page[page.index("| option of `run` |") :])]
     return set().union(*map(numbers, options)) | numbers(re.search(r"^\| frames .*$", language, re.MULTILINE)[0])
 
 
 def statuses():
-    """The statuses that the README lists."""
-    readme = TOP.joinpath("README.md").read_text(encoding="utf-8")
-    return {int(row[0]) for row in rows(readme[readme.index("| status |") :])}
+    """The statuses that the page on the command line lists."""
+    page = TOP.joinpath("docs", "COMMAND_LINE.md").read_text(encoding="utf-8")
+    return {int(row[0]) for row in rows(page[page.index("| status |") :])}
 
 
 class Text(unittest.TestCase):
@@ -110,7 +110,7 @@ class Text(unittest.TestCase):
         self.assertEqual(set(), {path.name for path in EXAMPLES.glob("*.go")} - named)
 
     def test_the_table_of_ten_programs(self):
-        found = rows(sections(REGIONS.read_text(encoding="utf-8"), "###")["Ten programs"])
+        found = rows(sections(REGIONS.read_text(encoding="utf-8"), "##")["Ten programs"])
         self.assertEqual(10, len(found))
         for program, _, *said in found:
             with self.subTest(program):

@@ -15,7 +15,6 @@ import error_pages
 from error_pages import PAGES, TOP
 
 ROW = re.compile(r"^\| (.+) \|$", re.MULTILINE)
-LINK = re.compile(r"\]\(([^)#:]+\.md|)(?:#([\w-]+))?\)")
 # The rule of code texts that is never the least that is broken. Its page has the message of another one.
 NEVER = "code 14 Endings"
 
@@ -43,10 +42,10 @@ def code_rules():
 
 
 def messages():
-    """The titles of all messages of the README and of docs/LANGUAGE.md, with their statuses and what they say of them."""
+    """The titles of all messages of docs/COMMAND_LINE.md and docs/LANGUAGE.md, with their statuses and what they say of them."""
     rules = rows(TOP / "docs" / "LANGUAGE.md", "## The rules")
     traps = rows(TOP / "docs" / "LANGUAGE.md", "### Traps")
-    table = TOP.joinpath("README.md").read_text(encoding="utf-8").split("| status | line on standard error | meaning |\n")[1]
+    table = TOP.joinpath("docs", "COMMAND_LINE.md").read_text(encoding="utf-8").split("| status | line on standard error | meaning |\n")[1]
     for status, line, meaning in map(cells, ROW.findall(table.split("\n\n")[0])[1:]):
         said = re.sub("^rgo: (L:C: |line L: )?", "", line.strip("`"))
         if said.startswith("@N: "):
@@ -83,12 +82,6 @@ def all_pages():
 def pages(of_code):
     """All pages about code texts, or all others."""
     return [page for page in all_pages() if error_pages.is_of_code(page) == of_code]
-
-
-def anchors(path):
-    """What follows the `#` in links to the headings of a document."""
-    headings = re.findall(r"^#+ (.+)$", path.read_text(encoding="utf-8"), re.MULTILINE)
-    return {re.sub(r"[^\w -]", "", heading.lower()).replace(" ", "-") for heading in headings}
 
 
 class Form(unittest.TestCase):
@@ -144,14 +137,6 @@ class Form(unittest.TestCase):
                 if rule:
                     # Rule 14, too, is broken, although another one is reported.
                     self.assertNotEqual([], list(code_text.RULES[int(rule[1]) - 1](code_text.read(page.example))))
-
-    def test_links_lead_to_files_and_headings(self):
-        for path in TOP.joinpath("docs").rglob("*.md"):
-            for link, anchor in LINK.findall(path.read_text(encoding="utf-8")):
-                with self.subTest(f"{path.name}: {link}#{anchor}"):
-                    to = path.parent / link if link else path
-                    self.assertTrue(to.is_file())
-                    self.assertIn(anchor, {"", *anchors(to)})
 
 
 class WithTheProgram(unittest.TestCase):
@@ -215,24 +200,28 @@ class WithTheProgram(unittest.TestCase):
     def test_corrected_code_texts_pass(self):
         self.check_corrected(self.pages_of_code())
 
-    def test_the_readme_shows_what_happens(self):
-        readme = TOP.joinpath("README.md").read_text(encoding="utf-8")
-        shown = [block for language, block in error_pages.BLOCK.findall(readme) if not language and block.startswith("$ ")]
-        commands = [part.split("\n", 1) for block in shown for part in re.split(r"^\$ ", block, flags=re.MULTILINE)[1:]]
-        self.assertGreaterEqual(len(commands), 4)
-        for command, output in commands:
-            with self.subTest(command):
-                env = {**os.environ, "PATH": f"{self.room}/bin:{os.environ['PATH']}", "RGO": f"{self.room}/bin/rgo"}
-                ran = subprocess.run(
-                    ["sh", "-c", command.replace("./rgo ", "rgo ")],
-                    stdout=subprocess.PIPE,
-                    stderr=subprocess.STDOUT,
-                    cwd=TOP,
-                    env=env,
-                    timeout=300,
-                    check=False,
-                )
-                self.assertEqual(output, ran.stdout.decode())
+    def test_the_documents_show_what_happens(self):
+        for name, least in [("README.md", 4), ("docs/COMMAND_LINE.md", 3), ("docs/TOOLS.md", 2)]:
+            text = TOP.joinpath(name).read_text(encoding="utf-8")
+            shown = [block for language, block in error_pages.BLOCK.findall(text) if not language and block.startswith("$ ")]
+            commands = [part.split("\n", 1) for block in shown for part in re.split(r"^\$ ", block, flags=re.MULTILINE)[1:]]
+            self.assertGreaterEqual(len(commands), least)
+            for command, output in commands:
+                with self.subTest(name, command=command):
+                    self.assertEqual(output, self.printed_by(command))
+
+    def printed_by(self, command):
+        """What a command of a document prints, at the top of the repository."""
+        ran = subprocess.run(
+            ["sh", "-c", command.replace("./rgo ", "rgo ")],
+            stdout=subprocess.PIPE,
+            stderr=subprocess.STDOUT,
+            cwd=TOP,
+            env={**os.environ, "PATH": f"{self.room}/bin:{os.environ['PATH']}", "RGO": f"{self.room}/bin/rgo"},
+            timeout=300,
+            check=False,
+        )
+        return ran.stdout.decode()
 
     def test_what_the_grammar_leaves_out_has_a_syntax_error(self):
         page = PAGES.joinpath("syntax.md").read_text(encoding="utf-8")

@@ -1,4 +1,4 @@
-"""Tests what reads the proofs' sources: tools/wrong-bodies and tools/definitions."""
+"""Tests what reads the proofs' sources: tools/wrong-bodies, tools/definitions and tools/homes."""
 
 import importlib.machinery
 import importlib.util
@@ -34,10 +34,10 @@ class WrongBodies(unittest.TestCase):
 
     def test_the_changed_function_is_named_as_by_the_prover(self):
         # A function; a method beside its type; one of another file; one of a trait with a parameter; a table.
-        self.assertEqual(["turns::wake"], self.changed("rgo_driver", "channel_that_changed_wakes_nobody"))
-        self.assertEqual(["worlds::World::share"], self.changed("rgo_world", "a_child_has_no_stakes"))
+        self.assertEqual(["turns::wake"], self.changed("rgo_round_robin", "channel_that_changed_wakes_nobody"))
+        self.assertEqual(["worlds::World::share"], self.changed("rgo_region_interpreter", "a_child_has_no_stakes"))
         self.assertEqual(["expressions::Expr::place"], self.changed("rgo_ast", "selector_at_its_operand"))
-        self.assertEqual(["endings::EndingFromTypeError::from"], self.changed("rgo_run", "rule_is_reported_at_another_place"))
+        self.assertEqual(["refusals::TextErrorFromTypeError::from"], self.changed("rgo_run", "rule_is_reported_at_another_place"))
         self.assertEqual([None], self.changed("rgo_lexer", "goto_is_a_name"))
 
 
@@ -47,9 +47,9 @@ class Definitions(unittest.TestCase):
         found = {path.relative_to(tool.CRATES).as_posix(): names for path, names in tool.reached({}).items()}
         # The claim's own words, one of a file that code uses, too, and a case of a type.
         self.assertLessEqual({"Headline", "Suffices", "AlwaysHas"}, found["rgo_run/specs/Headline.antt"])
-        # What a crate hands on of one below it.
-        self.assertEqual({"NamesLive", "RegionRun"}, found["rgo_table_runs/specs/claims/RegionRuns.antt"])
-        room = {"pages_in_use", "live_regions", "FitsIn", "MakesTooLarge", "LacksIn"}
+        # What it says of the run with regions.
+        self.assertEqual({"NamesLive", "RegionRun"}, found["rgo_sound/specs/RegionRuns.antt"])
+        room = {"pages_in_use", "live_regions", "StateFitsIn", "MakesTooLarge", "LacksIn"}
         # How many pages are enough.
         room |= {"pages_of", "pages_before", "most_of", "most_next", "most_pages", "object_pages", "enough_pages"}
         self.assertEqual(room, found["rgo_region_machine/specs/Room.antt"])
@@ -59,6 +59,24 @@ class Definitions(unittest.TestCase):
         # How the claim is proved is no part of it.
         self.assertNotIn("rgo_core/specs/Core.antt", found)
         self.assertTrue(all(any(path.startswith(f"{crate}/") for crates in tool.CHAPTERS.values() for crate in crates) for path in found))
+
+
+class Homes(unittest.TestCase):
+    tool = loaded("homes")
+    # How many names of the definitions that the headline is made of may have several homes.
+    MOST = 20
+
+    def test_few_names_of_what_the_headline_is_made_of_have_several_homes(self):
+        shared = self.tool.several(self.tool.homes(self.tool.trusted()))
+        self.assertLessEqual(len(shared), self.MOST, " ".join(shared))
+
+    def test_what_is_counted(self):
+        found = self.tool.homes()
+        # A type in a block, and a definition; but no field of a record, and no function of code.
+        self.assertIn("rgo_typed", found["Term"])
+        self.assertIn("rgo_run", found["Claim"])
+        self.assertNotIn("read_at", found)
+        self.assertNotIn("main", found)
 
 
 class Answers(unittest.TestCase):

@@ -219,7 +219,7 @@ class Shown(unittest.TestCase):
             self.assertEqual([line for line in lines(CALLS_LIST) if f" {name}: " in line], listed(text, code, name))
 
     def test_what_the_documents_show(self):
-        for document in ["README.md", "docs/REGIONS.md"]:
+        for document in ["docs/TOOLS.md", "docs/REGIONS.md"]:
             page = (TOP / document).read_text(encoding="utf-8")
             shown = SHOWN.findall(page)
             self.assertNotEqual([], shown)

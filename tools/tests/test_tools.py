@@ -27,9 +27,13 @@ WRONG = {
     "examples": ["--tables", "a b"],
     "explain": ["a b", "--all"],
     "fail": ["--most x", "--most -1", "--moist 1"],
+    "figures": ["x", "--wright"],
+    "homes": ["x", "--names"],
     "install": ["a b"],
     "journal": ["", "a.go b.go", "--steps 0 a.go", "--workers 1 a.go"],
+    "links": ["x", "--all"],
     "listing": ["a.go b.code", "--all a"],
+    "marked_tables.py": ["", "--tables"],
     "mutate": ["x", "--texts 0", "--show x"],
     "quick": ["--all", "a b"],
     "regions": ["--all a.go", "--warn --list a.go", "--journal a.picks a.go"],
@@ -41,6 +45,7 @@ WRONG = {
     "test-rgo": ["x"],
     "test-tools": ["--all"],
     "test-workers": ["a b", "--all"],
+    "touches": ["", "--", "-x", "--write Len"],
     "wrong-bodies": ["--all", "--changed a b"],
 }
 # Words with a file, F, that is missing or a folder, and the status.
