@@ -5,14 +5,14 @@ use Rattle.rgo_core.specs.Rule.Views.{number_of}
 use Rattle.rgo_core.specs.Rule.declared.accesses.Access.{Access}
 use Rattle.rgo_core.specs.Rule.declared.accesses.Kind.{Kind}
 use Rattle.rgo_core.specs.Core.{IsPossible, Setup}
-use Rattle.rgo_core.specs.Opening.{first_of}
+use Rattle.rgo_core.specs.runs.Opening.{first_of}
 use Rattle.rgo_core.specs.Records.{ClockRec, Drawn, Record, accesses, steps_of}
 use Rattle.rgo_core_steps.specs.Grown.{SeatGrew}
-use Rattle.rgo_core_steps.specs.Seats.{HasOne, HasPossible, Left, Settles, mine, settled, settled_by}
+use Rattle.rgo_core_steps.specs.Seats.{HasOne, HasPossible, HasAccessed, Settles, mine, settled, settled_by}
 use Rattle.rgo_core_steps.specs.Settled.{IsLocal}
-use Rattle.rgo_core_steps.proofs.Growing.{grew_none, grew_then, still_none, told_accesses, told_grew, told_record}
-use Rattle.rgo_core_steps.proofs.SettledLaws.{settled_kept, settled_laws}
-use Rattle.rgo_body.specs.Shows.{IsPossible as IsPossibleBody, BodyShows}
+use Rattle.rgo_core_steps.proofs.accesses.Growing.{grew_none, grew_then, still_none, told_accesses, told_grew, told_record}
+use Rattle.rgo_core_steps.proofs.record_steps.SettledLaws.{settled_kept, settled_laws}
+use Rattle.rgo_body.specs.Shows.{BodyIsPossible as IsPossibleBody, BodyShows}
 use Rattle.rgo_body.specs.Steps.{TakesLocal}
 use Rattle.rgo_acts.specs.Actors.{ActorActed, IsUnmoved, IsActorOf, now}
 use Rattle.rgo_acts.specs.Runs.{Run}
@@ -77,7 +77,7 @@ module _ (r : Run) (a b : Actor) (before : IsActorOf r a) (n : ℕ) (draws : Lis
 
   -- one access, after which the record is d
   pub acted_one : (kind : Kind) (i found : ℕ) (f : ℕ → ℕ) (tells : ℕ → Record → Type 0) (d : Record)
-      → b.seat.table_id ≡ a.seat.table_id → b.behind ≡ 0 → Left r.setup kind i f tells a.seat.me found b.seat.me
+      → b.seat.table_id ≡ a.seat.table_id → b.behind ≡ 0 → HasAccessed r.setup kind i f tells a.seat.me found b.seat.me
       → HasPossible r.setup b.seat.me → (tells found (mine r.setup b.seat.me) → mine r.setup b.seat.me ≡ d)
       → Follows (now r.setup a) d n draws starts → BodyShows r.setup r.program b.body d → ActorActed r a b n draws starts
   acted_one kind i found f tells d own none left possible is follows shows =

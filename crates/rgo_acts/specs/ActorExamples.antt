@@ -10,8 +10,8 @@ use Rattle.rgo_body.specs.Programs.{CompactProgram}
 use Rattle.rgo_body.specs.declared.bodies.Body.{Body}
 use Rattle.rgo_body.specs.declared.nexts.Next.{Next}
 use Rattle.rgo_acts.specs.Actors.{ActorActed, IsActorOf, distance, now}
-use Rattle.rgo_acts.specs.Elements.{ActorHasElement, HasLocated, HasMeasured, HasNoElementHere, IsAtElementOf, IsAtFieldOf}
-use Rattle.rgo_acts.specs.Ready.{IsBefore}
+use Rattle.rgo_acts.specs.Elements.{ActorHasElement, HasLocated, HasMeasured, HasNoElementHere, IsElementAccess, IsAtFieldOf}
+use Rattle.rgo_acts.specs.Ready.{ActorIsBefore}
 use Rattle.rgo_acts.specs.Runs.{IsRun, Run}
 use Rattle.rgo_acts.specs.Starts.{HasStarted}
 use Rattle.rgo_acts.specs.declared.actors.Actor.{Actor}
@@ -31,17 +31,17 @@ pub record ActorExamples : Type 0 where
   -- a run with other limits than its table was made for
   pub other_limits : (r : Run) (limits : Limits) → IsRun r → (limits ≡ r.limits → ⊥) → IsRun (record r { limits = limits }) → ⊥
   -- it owes a duty
-  pub owing : (r : Run) (a : Actor) (next : Next) (d : Duty) (ds : List Duty) → a.body.queue.duties ≡ d ∷ ds → IsBefore r a next → ⊥
+  pub owing : (r : Run) (a : Actor) (next : Next) (d : Duty) (ds : List Duty) → a.body.queue.duties ≡ d ∷ ds → ActorIsBefore r a next → ⊥
   pub near : (p : CompactProgram) (b : Body) → b.queue.duties ≡ [] → b.is_expanded ≡ true → distance p b ≡ 0
   pub far : (p : CompactProgram) (b : Body) → b.is_expanded ≡ false → distance p b ≡ 0 → ⊥
 
 pub record ElementExamples : Type 0 where
-  pub load : IsAtElementOf (Do (Some 2) action.At (0 ∷ 1 ∷ [])) 0 1
-  pub store : IsAtElementOf (Do None action.Put (0 ∷ 1 ∷ 2 ∷ [])) 0 1
+  pub load : IsElementAccess (Do (Some 2) action.At (0 ∷ 1 ∷ [])) 0 1
+  pub store : IsElementAccess (Do None action.Put (0 ∷ 1 ∷ 2 ∷ [])) 0 1
   -- the index in place of the slice
-  pub swapped : IsAtElementOf (Do (Some 2) action.At (0 ∷ 1 ∷ [])) 1 0 → ⊥
+  pub swapped : IsElementAccess (Do (Some 2) action.At (0 ∷ 1 ∷ [])) 1 0 → ⊥
   -- a field
-  pub field : IsAtElementOf (Do (Some 2) (action.Load 1) (0 ∷ [])) 0 1 → ⊥
+  pub field : IsElementAccess (Do (Some 2) (action.Load 1) (0 ∷ [])) 0 1 → ⊥
   -- another body
   pub changed : (r : Run) (a b : Actor) (next : Next) → (b.body ≡ a.body → ⊥) → HasMeasured r a b next → ⊥
   -- a word that the table does not have

@@ -4,11 +4,11 @@ use Rattle.rgo_core.specs.Rule.Passes.{ChangesNothingBy}
 use Rattle.rgo_core.specs.Rule.Views.{number_of}
 use Rattle.rgo_core.specs.Rule.declared.accesses.Access.{Access}
 use Rattle.rgo_core.specs.Core.{IsPossible, Setup}
-use Rattle.rgo_core.specs.Opening.{first_of}
+use Rattle.rgo_core.specs.runs.Opening.{first_of}
 use Rattle.rgo_core.specs.Records.{Drawn, Record, accesses, steps_of}
 use Rattle.rgo_core_steps.specs.Grown.{SeatGrew}
 use Rattle.rgo_core_steps.specs.Seats.{HasOne, Settles, settled}
-use Rattle.rgo_body.specs.Bodies.{owed}
+use Rattle.rgo_body.specs.Bodies.{owed_by_body}
 use Rattle.rgo_body.specs.Programs.{CompactProgram}
 use Rattle.rgo_body.specs.Shows.{BodyShows}
 use Rattle.rgo_body.specs.declared.bodies.Body.{Body}
@@ -49,4 +49,4 @@ pub record IsUnmoved (T : Setup) (a b : Actor) (es : List Access) : Type 0 where
 
 -- how far its next instruction is: the duties before it, and whether these are still to be put into its queue
 abbrev pub distance : CompactProgram → Body → ℕ
-distance p b = length (owed p.code b) + (if b.is_expanded then 0 else 1)
+distance p b = length (owed_by_body p.code b) + (if b.is_expanded then 0 else 1)

@@ -1,9 +1,9 @@
 -- Accesses to elements of slices, before which the length is loaded, and to fields. Where the object is spread, the number of the data
 -- page is loaded, too.
 use Rattle.std.specs.Prelude.{◌≡◌, ◌⊎◌, ◌<◌, ℕ, suc, List, [], ◌∷◌, Some, None}
-use Rattle.rgo_core.specs.Frames.WordFrames.{word_at}
-use Rattle.rgo_core.specs.Accesses.{IsElementAt, IsInSlice, IsLocated}
-use Rattle.rgo_core.specs.ElementTraps.{HasNoElement}
+use Rattle.rgo_core.specs.Frames.shown.WordFrames.{frame_word}
+use Rattle.rgo_core.specs.moves.Cells.{IsElementAt, IsInSlice, IsLocated}
+use Rattle.rgo_core.specs.moves.ElementTraps.{HasNoElement}
 use Rattle.rgo_core.specs.Records.{steps_of}
 use Rattle.rgo_core_steps.specs.Accesses.{Loads, Stores}
 use Rattle.rgo_sound.specs.Tac.Code.{Do, Op}
@@ -11,13 +11,13 @@ use Rattle.rgo_sound.specs.Tac.Ops.{operation_of}
 use Rattle.rgo_sound.specs.Typed.declared.actions.Action.TheVariants as action
 use Rattle.rgo_body.specs.declared.nexts.Next.{Next}
 use Rattle.rgo_acts.specs.Actors.{ActorActed, now}
-use Rattle.rgo_acts.specs.Ready.{IsBefore}
+use Rattle.rgo_acts.specs.Ready.{ActorIsBefore}
 use Rattle.rgo_acts.specs.Runs.{Run}
 use Rattle.rgo_acts.specs.declared.actors.Actor.{Actor}
 
 -- the goroutine is before its instruction as it was, and has loaded at most what shows where the word is
 pub record HasMeasured (r : Run) (a b : Actor) (next : Next) : Type 0 where
-  pub before : IsBefore r b next
+  pub before : ActorIsBefore r b next
   pub acted : ActorActed r a b 0 [] []
   pub body : b.body ≡ a.body
 
@@ -34,18 +34,18 @@ pub record HasLocated (r : Run) (a b : Actor) (next : Next) (address cell word :
 -- ---- elements
 
 -- an instruction on an element of the slice in variable p, whose index is in variable q
-abbrev pub IsAtElementOf : Op → (p q : ℕ) → Type 0
-IsAtElementOf op p q = ((to : ℕ) × (op ≡ Do (Some to) action.At (p ∷ q ∷ [])))
+abbrev pub IsElementAccess : Op → (p q : ℕ) → Type 0
+IsElementAccess op p q = ((to : ℕ) × (op ≡ Do (Some to) action.At (p ∷ q ∷ [])))
     ⊎ ((r : ℕ) × (op ≡ Do None action.Put (p ∷ q ∷ r ∷ [])))
 
 -- the slice has the element, which lies in this word of the table
 pub record ActorHasElement (r : Run) (a b : Actor) (next : Next) (p q word : ℕ) : Type 0 where
   pub measured : HasMeasured r a b next
   pub address : ℕ
-  pub points : (w : _) (ws : List _) → (now r.setup b).frame.frames ≡ w ∷ ws → word_at w p ≡ suc address
+  pub points : (w : _) (ws : List _) → (now r.setup b).frame.frames ≡ w ∷ ws → frame_word w p ≡ suc address
   pub within : (w : _) (ws : List _) → (now r.setup b).frame.frames ≡ w ∷ ws
-      → (inside : IsInSlice (now r.setup b) address (word_at w q))
-      × IsElementAt r.setup (now r.setup b) address (word_at w q) inside word
+      → (inside : IsInSlice (now r.setup b) address (frame_word w q))
+      × IsElementAt r.setup (now r.setup b) address (frame_word w q) inside word
   pub inside : word < r.table.words
 
 -- it has not
@@ -65,6 +65,6 @@ pub record HasFieldHere (r : Run) (a b : Actor) (next : Next) (p k word : ℕ) :
   pub measured : HasMeasured r a b next
   pub loads : (to : ℕ) → operation_of next.op ≡ Do (Some to) (action.Load k) (p ∷ []) → Loads r.setup (now r.setup b) word
   pub stores : (q value : ℕ) → operation_of next.op ≡ Do None (action.Store k) (p ∷ q ∷ [])
-      → ((w : _) (ws : List _) → (now r.setup b).frame.frames ≡ w ∷ ws → value ≡ word_at w q)
+      → ((w : _) (ws : List _) → (now r.setup b).frame.frames ≡ w ∷ ws → value ≡ frame_word w q)
       → Stores r.setup (now r.setup b) word value
   pub inside : word < r.table.words

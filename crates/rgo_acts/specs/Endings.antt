@@ -6,7 +6,7 @@ use Rattle.rgo_core.specs.Memory.Words.{clock_at}
 use Rattle.rgo_core.specs.Rule.Views.{number_of}
 use Rattle.rgo_core.specs.Rule.declared.accesses.Access.{Access}
 use Rattle.rgo_core.specs.Rule.declared.accesses.Kind.TheVariants.{EndRun}
-use Rattle.rgo_core.specs.Opening.{first_of}
+use Rattle.rgo_core.specs.runs.Opening.{first_of}
 use Rattle.rgo_core.specs.Records.{accesses, steps_of}
 use Rattle.rgo_core_steps.specs.Grown.{Found, SeatGrew}
 use Rattle.rgo_sound.specs.RegionMachine.States.{Mark}
@@ -16,8 +16,8 @@ use Rattle.rgo_acts.specs.Runs.{Run}
 use Rattle.rgo_acts.specs.declared.actors.Actor.{Actor}
 
 -- the place of an instruction in the text of the program
-abbrev pub place_at : Next → ℕ
-place_at next = place_in (slice_get (erased_fn next.function).body next.at)
+abbrev pub place_of_next : Next → ℕ
+place_of_next next = place_in (slice_get (erased_fn next.function).body next.at)
 
 -- It has set the end mark, as its nth instruction or by none, and is of the run as before. `ends` says whether this has ended the run:
 -- then it has set this mark first.

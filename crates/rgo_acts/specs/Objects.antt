@@ -7,8 +7,8 @@ use Rattle.rgo_core.specs.Rule.Views.{number_of}
 use Rattle.rgo_core.specs.Core.{Setup}
 use Rattle.rgo_core.specs.Records.{Record}
 use Rattle.rgo_core_steps.specs.Ends.{GoroutineEndsRun}
-use Rattle.rgo_holding.specs.Holds.{region_at}
-use Rattle.rgo_holding.specs.Known.{own_page, slot_of}
+use Rattle.rgo_holding.specs.Holds.{region_of_key}
+use Rattle.rgo_holding.specs.Known.{own_page, slot_or_global}
 use Rattle.rgo_holding.specs.declared.entries.Page.{Page}
 use Rattle.rgo_holding.specs.declared.holding.Holding.{Holding}
 use Rattle.rgo_sound.specs.Code.Code.{CodeFn}
@@ -21,7 +21,7 @@ use Rattle.rgo_sound.specs.RegionMachine.declared.regions.Region.{Region}
 use Rattle.rgo_body.specs.declared.bodies.Body.{Body}
 use Rattle.rgo_body.specs.declared.nexts.Next.{Next}
 use Rattle.rgo_acts.specs.Actors.{ActorActed, IsUnmoved, now}
-use Rattle.rgo_acts.specs.Ready.{IsBefore}
+use Rattle.rgo_acts.specs.Ready.{ActorIsBefore}
 use Rattle.rgo_acts.specs.Runs.{Run}
 use Rattle.rgo_acts.specs.Shortages.{LacksPage}
 use Rattle.rgo_acts.specs.Traps.{IsAtTrap}
@@ -80,12 +80,12 @@ abbrev pub opens : (place value i : ℕ) → ℕ
 opens place value i = if i == place then value else 0
 
 -- the next instruction makes this object, in a region that is known by its key
-pub record IsNew (T : Setup) (c : Record) (k : Holding) (new : New) : Type 0 where
+pub record IsNextObject (T : Setup) (c : Record) (k : Holding) (new : New) : Type 0 where
   pub region : Region
-  pub at_key : region_at k new.key ≡ Some region
-  pub low : slot_of T.sizes.regions region ≤ T.sizes.regions
+  pub at_key : region_of_key k new.key ≡ Some region
+  pub low : slot_or_global T.sizes.regions region ≤ T.sizes.regions
   pub few : new.before ≤ 2
-  pub object : NewObject T c (slot_of T.sizes.regions region) new.words new.before (opens new.place new.value)
+  pub object : NewObject T c (slot_or_global T.sizes.regions region) new.words new.before (opens new.place new.value)
 
 -- an object of this many words, `before` of which precede its cells, has at most as many data pages as an object may have
 abbrev pub IsSmall : Setup → (words before : ℕ) → Type 0
@@ -96,15 +96,15 @@ IsSmall T words before = data_pages_of T.sizes.page_words words before ≤ most_
 pub record Wants (T : Setup) (g : ℕ) (c : Record) (fn : CodeFn) (to words before place value : ℕ) : Type 0 where
   pub region : Region
   pub in_class : class_region (top_names c.frame.holder.environments) (class_of fn to) ≡ Some region
-  pub low : slot_of T.sizes.regions region ≤ T.sizes.regions
+  pub low : slot_or_global T.sizes.regions region ≤ T.sizes.regions
   pub some : 0 < words
   pub few : before ≤ 2
-  pub fits : IsSmall T words before → NewObject T c (slot_of T.sizes.regions region) words before (opens place value)
+  pub fits : IsSmall T words before → NewObject T c (slot_or_global T.sizes.regions region) words before (opens place value)
   pub large : most_data_pages T.sizes.page_words < data_pages_of T.sizes.page_words words before → GoroutineEndsRun T g c (Stopped ObjectSize)
 
 -- this is the object that the next instruction makes, and it is not too large
 pub record CanMake (r : Run) (a : Actor) (new : New) : Type 0 where
-  pub is_new : IsNew r.setup (now r.setup a) a.body.holding new
+  pub is_new : IsNextObject r.setup (now r.setup a) a.body.holding new
   pub small : IsSmall r.setup new.words new.before
   pub some : 0 < new.words
 
@@ -117,11 +117,11 @@ HasNoRoomIn n words (Some page) = n < page.fill + words
 
 -- the goroutine has no own page with room for it
 abbrev pub HasNoRoomHere : (r : Run) (a : Actor) → New → Type 0
-HasNoRoomHere r a new = (region : Region) → region_at a.body.holding new.key ≡ Some region
-    → PageHasNoRoom r.setup.sizes.page_words new.words (page_of (slot_of r.setup.sizes.regions region) (now r.setup a).memory.fills)
+HasNoRoomHere r a new = (region : Region) → region_of_key a.body.holding new.key ≡ Some region
+    → PageHasNoRoom r.setup.sizes.page_words new.words (page_of (slot_or_global r.setup.sizes.regions region) (now r.setup a).memory.fills)
 
 -- The words of the next object go after what is filled of this page, its own one for this slot.
-pub record IsPlaced (T : Setup) (c : Record) (slot : ℕ) (page : Page) (new : New) : Type 0 where
+pub record IsPlacedInPage (T : Setup) (c : Record) (slot : ℕ) (page : Page) (new : New) : Type 0 where
   pub object : NewObject T c slot new.words new.before (opens new.place new.value)
   pub is_page : page_of slot c.memory.fills ≡ Some (own_page slot page)
   pub room : page.fill + new.words ≤ T.sizes.page_words
@@ -132,27 +132,27 @@ pub record IsPlaced (T : Setup) (c : Record) (slot : ℕ) (page : Page) (new : N
 
 -- The goroutine is before its instruction, and this is the page for the object.
 pub record HasPage (r : Run) (a b : Actor) (next : Next) (new : New) (page : Page) : Type 0 where
-  pub before : IsBefore r b next
+  pub before : ActorIsBefore r b next
   pub acted : ActorActed r a b 0 [] []
   pub objects : b.body.counts.objects ≡ a.body.counts.objects
   pub region : Region
-  pub at_key : region_at b.body.holding new.key ≡ Some region
-  pub placed : IsPlaced r.setup (now r.setup b) (slot_of r.setup.sizes.regions region) page new
+  pub at_key : region_of_key b.body.holding new.key ≡ Some region
+  pub placed : IsPlacedInPage r.setup (now r.setup b) (slot_or_global r.setup.sizes.regions region) page new
 
 -- ---- the pages of a spread object
 
 -- The goroutine is before its instruction, and n pages more are reserved for the object.
 pub record HasReserved (r : Run) (a b : Actor) (next : Next) (new : New) (n : ℕ) : Type 0 where
-  pub before : IsBefore r b next
+  pub before : ActorIsBefore r b next
   pub acted : ActorActed r a b 0 [] []
-  pub is_new : IsNew r.setup (now r.setup b) b.body.holding new
+  pub is_new : IsNextObject r.setup (now r.setup b) b.body.holding new
   pub pages : length b.body.reserved.pages ≡ length a.body.reserved.pages + n
   pub room : b.body.reserved.room + n ≡ a.body.reserved.room
   pub taken : b.body.counts.taken ≡ a.body.counts.taken + n
   pub objects : b.body.counts.objects ≡ a.body.counts.objects
 
 -- The words of the next object, which is spread, go into these pages, the lead page first. All of them are reserved.
-pub record IsPlacedApart (T : Setup) (c : Record) (pages : List ℕ) (new : New) : Type 0 where
+pub record IsSpreadOverPages (T : Setup) (c : Record) (pages : List ℕ) (new : New) : Type 0 where
   pub slot : ℕ
   pub object : NewObject T c slot new.words new.before (opens new.place new.value)
   pub spread : T.sizes.page_words < new.words
@@ -166,8 +166,8 @@ pub record IsPlacedApart (T : Setup) (c : Record) (pages : List ℕ) (new : New)
 
 -- All pages of the next object, which is spread, are reserved, and the goroutine is before its instruction.
 pub record HasAllPages (r : Run) (a b : Actor) (next : Next) (new : New) : Type 0 where
-  pub before : IsBefore r b next
+  pub before : ActorIsBefore r b next
   pub acted : ActorActed r a b 0 [] []
-  pub is_new : IsNew r.setup (now r.setup b) b.body.holding new
+  pub is_new : IsNextObject r.setup (now r.setup b) b.body.holding new
   pub all : length b.body.reserved.pages ≡ suc (data_pages_of r.setup.sizes.page_words new.words new.before)
   pub objects : b.body.counts.objects ≡ a.body.counts.objects

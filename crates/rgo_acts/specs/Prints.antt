@@ -2,8 +2,8 @@
 use Rattle.std.specs.Prelude.{◌≡◌, ℕ, true, false, List, [], ◌∷◌, None, map, slice_get}
 use lib.IntN.{pos}
 use Rattle.rgo_sound.specs.Code.Code.{CodeFn}
-use Rattle.rgo_core.specs.Frames.Prints.{typed_value}
-use Rattle.rgo_core.specs.Frames.WordFrames.{WordFrame}
+use Rattle.rgo_core.specs.Frames.steps.Prints.{typed_value}
+use Rattle.rgo_core.specs.Frames.shown.WordFrames.{WordFrame}
 use Rattle.rgo_sound.specs.Memory.declared.values.Value.{Value}
 use Rattle.rgo_sound.specs.Memory.declared.values.Value.TheVariants as value
 use Rattle.rgo_body.specs.Stack.Stacks.{newest_word}

@@ -2,8 +2,8 @@
 use Rattle.std.specs.Prelude.{◌≡◌, ◌+◌, ◌<◌, ℕ, [], Option, Some, ⊤}
 use Rattle.rgo_core.specs.Channels.Records as sides
 use Rattle.rgo_core.specs.Rule.Views.{number_of}
-use Rattle.rgo_core.specs.AtChannels.{IsAtChannel}
-use Rattle.rgo_core.specs.CommitMoves.{offers}
+use Rattle.rgo_core.specs.ties.AtChannels.{IsAtChannel}
+use Rattle.rgo_core.specs.moves.Commits.{offers}
 use Rattle.rgo_core.specs.Core.{Setup}
 use Rattle.rgo_core.specs.Records.{Record}
 use Rattle.rgo_core_steps.specs.After.{committing}
@@ -12,7 +12,7 @@ use Rattle.rgo_chan.specs.declared.answers.Tried.{Tried}
 use Rattle.rgo_chan.specs.declared.answers.Tried.TheVariants as tried
 use Rattle.rgo_sound.specs.Memory.declared.traps.Trap.{Trap}
 use Rattle.rgo_sound.specs.Memory.declared.traps.Trap.TheVariants.{CloseClosed, SendClosed}
-use Rattle.rgo_body.specs.Bodies.{HasRoomBehind, IsReady}
+use Rattle.rgo_body.specs.Bodies.{HasRoomBehind, BodyIsReady}
 use Rattle.rgo_body.specs.Programs.{CompactProgram}
 use Rattle.rgo_body.specs.Shows.{BodyShows}
 use Rattle.rgo_body.specs.Steps.{Becomes}
@@ -30,7 +30,7 @@ use Rattle.rgo_acts.specs.declared.channels.Talked.TheVariants as talked
 -- It owes nothing before this instruction, its next one, and has no offer; there is room for what it owes after it.
 pub record CanTry (r : Run) (a : Actor) (next : Next) : Type 0 where
   pub stands : IsActorOf r a
-  pub ready : IsReady r.program a.body next
+  pub ready : BodyIsReady r.program a.body next
   pub none : (at : ℕ) → a.body.side ≡ Offering at → ⊥
   pub room : HasRoomBehind a.body next
   pub count : a.body.counts.steps + 1 < 18446744073709551616
@@ -38,7 +38,7 @@ pub record CanTry (r : Run) (a : Actor) (next : Next) : Type 0 where
 -- Its offer is at the channel whose control is word `at`. It owes nothing before its send; there is room for what it owes after it.
 pub record ActorCanAcknowledge (r : Run) (a : Actor) (next : Next) (at : ℕ) : Type 0 where
   pub stands : IsActorOf r a
-  pub ready : IsReady r.program a.body next
+  pub ready : BodyIsReady r.program a.body next
   pub offers : a.body.side ≡ Offering at
   pub room : HasRoomBehind a.body next
 
@@ -103,7 +103,7 @@ OfAcknowledgement (talked.Trap trap) = ⊤
 
 -- it shows a record that has made accesses and knows something of a channel that it has not locked
 abbrev pub TriesOperation : CompactProgram → (before after : Body) → Type 0
-TriesOperation p b d = (T : Setup) (c : Record) (n : ℕ) (side : sides.Rec) → BodyShows T p b c → side.hold ≡ sides.Free → side.post ≡ sides.Nowhere
+TriesOperation p b d = (T : Setup) (c : Record) (n : ℕ) (side : sides.ChannelRec) → BodyShows T p b c → side.hold ≡ sides.Free → side.post ≡ sides.Nowhere
     → BodyShows T p d (waited n c side)
 
 -- the same of each result of a try

@@ -6,9 +6,9 @@ use Rattle.rgo_core.specs.Channels.Deadlock.{Blocked}
 use Rattle.rgo_core.specs.Channels.Records.{Offering}
 use Rattle.rgo_core.specs.Rule.declared.accesses.Access.{Access}
 use Rattle.rgo_core.specs.Rule.declared.accesses.Kind.TheVariants.{Load, LoadControl, LockChannel}
-use Rattle.rgo_core.specs.Moments.{moment}
-use Rattle.rgo_core.specs.AtChannels.{IsAtChannel}
-use Rattle.rgo_core.specs.Core.{Here, Setup}
+use Rattle.rgo_core.specs.ties.Moments.{moment}
+use Rattle.rgo_core.specs.ties.AtChannels.{IsAtChannel}
+use Rattle.rgo_core.specs.Core.{Situation, Setup}
 use Rattle.rgo_core.specs.Records.{Record}
 use Rattle.rgo_core_steps.specs.Grown.{Found}
 use Rattle.rgo_chan.specs.Before.{IsBeforeReceive, IsBeforeSend, ReceivesAt, SendsAt}
@@ -40,9 +40,9 @@ FoundNow words g es = (i : ℕ) (a : Access) → get_elem? es i ≡ some a → a
 
 -- then the goroutine is blocked
 abbrev pub WaitsBlocked : Type 0
-WaitsBlocked = (T : Setup) (g : ℕ) (c : Record) (x : Here T g c) (es : List Access) (place : Option ℕ) → FoundNow x.words g es
+WaitsBlocked = (T : Setup) (g : ℕ) (c : Record) (x : Situation T g c) (es : List Access) (place : Option ℕ) → FoundNow x.words g es
     → WaitsAtChannel T g c es place → Blocked (moment x) g c.side
 
 abbrev pub LosesBlocked : Type 0
-LosesBlocked = (T : Setup) (g : ℕ) (c : Record) (x : Here T g c) (es : List Access) (at : ℕ) → FoundNow x.words g es
+LosesBlocked = (T : Setup) (g : ℕ) (c : Record) (x : Situation T g c) (es : List Access) (at : ℕ) → FoundNow x.words g es
     → Loses T g c es at → Blocked (moment x) g c.side

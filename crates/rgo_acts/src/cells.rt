@@ -4,17 +4,17 @@
 //! The length of a slice, the number of fields of a struct and the page numbers of a spread object are fixed before anybody else
 //! knows its address. So what was found of them holds until the access, whatever others do meanwhile.
 ghost use Rattle.std.specs.Prelude.{◌≡◌, ◌<◌, ◌∷◌, [], List, Some, None, MatchOption, MatchResult, suc};
-ghost use Rattle.rgo_core.specs.Accesses.{IsAtSpread};
-ghost use Rattle.rgo_core.specs.Frames.WordFrames.{word_at};
+ghost use Rattle.rgo_core.specs.moves.Cells.{IsAtSpread};
+ghost use Rattle.rgo_core.specs.Frames.shown.WordFrames.{frame_word};
 ghost use Rattle.rgo_core_steps.specs.Accesses.{Loads, Stores};
 ghost use Rattle.rgo_sound.specs.Tac.Code.{Do};
 ghost use Rattle.rgo_sound.specs.Tac.Ops.{operation_of};
 ghost use Rattle.rgo_sound.specs.Typed.declared.actions.Action.TheVariants as action;
-ghost use Rattle.rgo_body.specs.Bodies.{frames_in};
+ghost use Rattle.rgo_body.specs.Bodies.{frames_of_body};
 ghost use Rattle.rgo_acts.specs.ActorExamples.{ElementExamples};
 ghost use Rattle.rgo_acts.specs.Actors.{ActorActed, now};
-ghost use Rattle.rgo_acts.specs.Elements.{ActorHasElement, HasFieldHere, HasLocated, HasNoElementHere, IsAtElementOf, IsAtFieldOf};
-ghost use Rattle.rgo_acts.specs.Ready.{IsBefore};
+ghost use Rattle.rgo_acts.specs.Elements.{ActorHasElement, HasFieldHere, HasLocated, HasNoElementHere, IsElementAccess, IsAtFieldOf};
+ghost use Rattle.rgo_acts.specs.Ready.{ActorIsBefore};
 ghost use Rattle.rgo_acts.specs.Traps.{IsAtTrap};
 
 use crate::actors::Actor;
@@ -33,7 +33,7 @@ fn take<L: Ledger>(
     word: usize,
     steps: &mut Steps<L>,
 )
-    requires before { IsBefore run.now actor.old next.now }
+    requires before { ActorIsBefore run.now actor.old next.now }
     requires inside { word < run.now.table.words }
     requires loads { Loads run.now.setup (now run.now.setup actor.old) word }
     ensures { ActorActed run.now actor.old actor.new 1 [] [] }
@@ -52,7 +52,7 @@ fn put<L: Ledger>(
     value: u64,
     steps: &mut Steps<L>,
 )
-    requires before { IsBefore run.now actor.old next.now }
+    requires before { ActorIsBefore run.now actor.old next.now }
     requires inside { word < run.now.table.words }
     requires stores { Stores run.now.setup (now run.now.setup actor.old) word value }
     ensures { ActorActed run.now actor.old actor.new 1 [] [] }
@@ -73,7 +73,7 @@ fn locate<L: Ledger>(
     cell: usize,
     steps: &mut Steps<L>,
 ) -> usize
-    requires before { IsBefore run.now actor.old next.now }
+    requires before { ActorIsBefore run.now actor.old next.now }
     requires spread { IsAtSpread run.now.setup (now run.now.setup actor.old) address before cell }
     ensures { HasLocated run.now actor.old actor.new next.now address cell result }
 {
@@ -104,9 +104,9 @@ fn field_word<L: Ledger>(
     field: usize,
     steps: &mut Steps<L>,
 ) -> usize
-    requires before { IsBefore run.now actor.old next.now }
+    requires before { ActorIsBefore run.now actor.old next.now }
     requires at { IsAtFieldOf (operation_of next.now.op) pointer field }
-    requires points { (w : _) (ws : List _) → frames_in actor.old.body ≡ w ∷ ws → word_at w pointer ≡ suc address }
+    requires points { (w : _) (ws : List _) → frames_of_body actor.old.body ≡ w ∷ ws → frame_word w pointer ≡ suc address }
     ensures { HasFieldHere run.now actor.old actor.new next.now pointer field result }
 {
     let fields = run.program.fields_at(next, pointer);
@@ -127,7 +127,7 @@ pub fn load_field<L: Ledger>(
     from: u32,
     steps: &mut Steps<L>,
 ) -> Result<(), Trap>
-    requires before { IsBefore run.now actor.old next.now }
+    requires before { ActorIsBefore run.now actor.old next.now }
     requires is { operation_of next.now.op ≡ Do (Some to) (action.Load field) (from ∷ []) }
     ensures { MatchResult result (λ _. ActorActed run.now actor.old actor.new 1 [] []) (λ trap. IsAtTrap run.now actor.old actor.new trap) }
 {
@@ -151,7 +151,7 @@ pub fn store_field<L: Ledger>(
     value: u32,
     steps: &mut Steps<L>,
 ) -> Result<(), Trap>
-    requires before { IsBefore run.now actor.old next.now }
+    requires before { ActorIsBefore run.now actor.old next.now }
     requires is { operation_of next.now.op ≡ Do None (action.Store field) (to ∷ value ∷ []) }
     ensures { MatchResult result (λ _. ActorActed run.now actor.old actor.new 1 [] []) (λ trap. IsAtTrap run.now actor.old actor.new trap) }
 {
@@ -175,7 +175,7 @@ pub fn length<L: Ledger>(
     from: u32,
     steps: &mut Steps<L>,
 )
-    requires before { IsBefore run.now actor.old next.now }
+    requires before { ActorIsBefore run.now actor.old next.now }
     requires is { operation_of next.now.op ≡ Do (Some to) action.Len (from ∷ []) }
     ensures { ActorActed run.now actor.old actor.new 1 [] [] }
 {
@@ -199,8 +199,8 @@ fn element<L: Ledger>(
     index: u32,
     steps: &mut Steps<L>,
 ) -> Option<usize>
-    requires before { IsBefore run.now actor.old next.now }
-    requires at { IsAtElementOf (operation_of next.now.op) slice index }
+    requires before { ActorIsBefore run.now actor.old next.now }
+    requires at { IsElementAccess (operation_of next.now.op) slice index }
     ensures { MatchOption result (HasNoElementHere run.now actor.old actor.new next.now slice index)
         (ActorHasElement run.now actor.old actor.new next.now slice index) }
 {
@@ -241,7 +241,7 @@ pub fn load_element<L: Ledger>(
     index: u32,
     steps: &mut Steps<L>,
 ) -> Result<(), Trap>
-    requires before { IsBefore run.now actor.old next.now }
+    requires before { ActorIsBefore run.now actor.old next.now }
     requires is { operation_of next.now.op ≡ Do (Some to) action.At (slice ∷ index ∷ []) }
     ensures { MatchResult result (λ _. ActorActed run.now actor.old actor.new 1 [] []) (λ trap. IsAtTrap run.now actor.old actor.new trap) }
 {
@@ -264,7 +264,7 @@ pub fn store_element<L: Ledger>(
     value: u32,
     steps: &mut Steps<L>,
 ) -> Result<(), Trap>
-    requires before { IsBefore run.now actor.old next.now }
+    requires before { ActorIsBefore run.now actor.old next.now }
     requires is { operation_of next.now.op ≡ Do None action.Put (slice ∷ index ∷ value ∷ []) }
     ensures { MatchResult result (λ _. ActorActed run.now actor.old actor.new 1 [] []) (λ trap. IsAtTrap run.now actor.old actor.new trap) }
 {
@@ -287,7 +287,7 @@ pub fn load_variable<L: Ledger>(
     variable: usize,
     steps: &mut Steps<L>,
 )
-    requires before { IsBefore run.now actor.old next.now }
+    requires before { ActorIsBefore run.now actor.old next.now }
     requires is { operation_of next.now.op ≡ Do (Some to) (action.Get variable) [] }
     ensures { ActorActed run.now actor.old actor.new 1 [] [] }
 {
@@ -303,7 +303,7 @@ pub fn store_variable<L: Ledger>(
     from: u32,
     steps: &mut Steps<L>,
 )
-    requires before { IsBefore run.now actor.old next.now }
+    requires before { ActorIsBefore run.now actor.old next.now }
     requires is { operation_of next.now.op ≡ Do None (action.Set variable) (from ∷ []) }
     ensures { ActorActed run.now actor.old actor.new 1 [] [] }
 {

@@ -4,16 +4,16 @@
 //! What a goroutine has found out about a channel lasts as long as it is before an operation on it, and no longer; [`tries_again`]
 //! keeps this. Why: docs/DECISIONS.md, "Goroutines over the table".
 ghost use Rattle.std.specs.Prelude.{◌≡◌, ◌+◌, ◌<◌, ◌≤◌, ◌^◌, ◌∷◌, [], ℕ, Option, false, true};
-ghost use Rattle.rgo_chan.specs.Before.{LiesIn, control_at};
+ghost use Rattle.rgo_chan.specs.Before.{LiesIn, control_of_channel};
 ghost use Rattle.rgo_core.specs.Core.{layout};
 ghost use Rattle.rgo_core.specs.Channels.Standing.{IsOfChannel};
 ghost use Rattle.rgo_core.specs.Memory.Words.{base as base_of};
 ghost use Rattle.rgo_sound.specs.Tac.Code.{Do};
 ghost use Rattle.rgo_sound.specs.Tac.Ops.{operation_of};
 ghost use Rattle.rgo_sound.specs.Typed.declared.actions.Action.TheVariants as action;
-ghost use Rattle.rgo_body.specs.Bodies.{HasRoomBehind, IsReady};
+ghost use Rattle.rgo_body.specs.Bodies.{HasRoomBehind, BodyIsReady};
 ghost use Rattle.rgo_body.specs.Nexts.{IsDo};
-ghost use Rattle.rgo_body.specs.Shows.{IsPossible};
+ghost use Rattle.rgo_body.specs.Shows.{BodyIsPossible};
 ghost use Rattle.rgo_body.specs.declared.bodies.Side.TheVariants.{AtRest, Offering};
 ghost use Rattle.rgo_acts.specs.Actors.{ActorActed, IsActorOf};
 ghost use Rattle.rgo_acts.specs.Resting.{IsAtTalk, IsTalk, RestsElsewhere};
@@ -145,8 +145,8 @@ fn conclude(
     at: usize,
     tried: Tried,
 ) -> Talked
-    requires possible { IsPossible program.now body.old }
-    requires ready { IsReady program.now body.old next.now }
+    requires possible { BodyIsPossible program.now body.old }
+    requires ready { BodyIsReady program.now body.old next.now }
     requires does { IsDo (operation_of next.now.op) }
     requires none { (at : ℕ) → body.old.side ≡ Offering at → ⊥ }
     requires room { HasRoomBehind body.old next.now }

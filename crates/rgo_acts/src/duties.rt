@@ -6,7 +6,7 @@
 ghost use Rattle.std.specs.Prelude.{◌≡◌, ◌+◌, ◌<◌, [], ℕ, List, false, true};
 ghost use Rattle.rgo_body.specs.Duties.{DoesLocal, LeavesIn, OwesFirst};
 ghost use Rattle.rgo_body.specs.Queues.{duty_of};
-ghost use Rattle.rgo_body.specs.Shows.{IsPossible};
+ghost use Rattle.rgo_body.specs.Shows.{BodyIsPossible};
 ghost use Rattle.rgo_body.specs.Steps.{StillShows};
 ghost use Rattle.rgo_body.specs.declared.bodies.Side.TheVariants.{AtRest};
 ghost use Rattle.rgo_sound.specs.RegionMachine.States as machine;
@@ -80,7 +80,7 @@ pub(crate) fn attend_local(actor: &mut Actor, run: &Run<'_, '_>, left: usize) ->
 /// Does the first duty if it needs no access. Returns whether it is done; if it needs one, or memory runs out, the goroutine owes
 /// it as before, and `attend` is for it.
 fn do_locally(body: &mut Body, program: &Program<'_>, duty: Duty) -> bool
-    requires possible { IsPossible program.now body.old }
+    requires possible { BodyIsPossible program.now body.old }
     requires first { OwesFirst body.old (duty_of duty) }
     requires rests { body.old.side ≡ AtRest }
     ensures done { result ≡ true → DoesLocal program.now body.old body.new }

@@ -1,7 +1,7 @@
 //! Ends of the run: the return of `main`, a trap, and limits. Each sets the end mark, a bit that is never cleared, and returns
 //! whether this has ended the run; it has not if another goroutine had set the mark before. Either answer stays true.
 ghost use Rattle.std.specs.Prelude.{◌≡◌, ◌^◌, ◌<◌, ◌+◌, ◌∷◌, [], ℕ, List, Option, length, true};
-ghost use Rattle.rgo_body.specs.Bodies.{frames_in};
+ghost use Rattle.rgo_body.specs.Bodies.{frames_of_body};
 ghost use Rattle.rgo_body.specs.Nexts.{IsNextOf};
 ghost use Rattle.rgo_body.specs.Steps.{HasRoomBack};
 ghost use Rattle.rgo_core.specs.Rule.Views.{number_of};
@@ -13,8 +13,8 @@ ghost use Rattle.rgo_sound.specs.Tac.Code.{Call, Go, Return};
 ghost use Rattle.rgo_sound.specs.Tac.Ops.{operation_of};
 ghost use Rattle.rgo_sound.specs.RegionMachine.declared.limits.Limit.TheVariants as limit;
 ghost use Rattle.rgo_acts.specs.Actors.{IsActorOf, now};
-ghost use Rattle.rgo_acts.specs.Endings.{ActorHasEnded, place_at};
-ghost use Rattle.rgo_acts.specs.Ready.{IsBefore};
+ghost use Rattle.rgo_acts.specs.Endings.{ActorHasEnded, place_of_next};
+ghost use Rattle.rgo_acts.specs.Ready.{ActorIsBefore};
 
 use crate::actors::Actor;
 use crate::runs::Run;
@@ -52,9 +52,9 @@ pub fn out_of_memory(actor: &mut Actor, run: &Run<'_, '_>) -> bool
 
 /// The next instruction is a call, and the goroutine has as many frames as it may have.
 pub fn too_deep(actor: &mut Actor, run: &Run<'_, '_>, next: &Next<'_>) -> bool
-    requires before { IsBefore run.now actor.old next.now }
+    requires before { ActorIsBefore run.now actor.old next.now }
     requires calls { (to : Option ℕ) × (n : ℕ) × (from : List ℕ) × (operation_of next.now.op ≡ Call to n from) }
-    requires deep { length (frames_in actor.old.body) ≡ deepest }
+    requires deep { length (frames_of_body actor.old.body) ≡ deepest }
     ensures ended { ActorHasEnded run.now actor.old actor.new 0 (Stopped limit.Calls) result }
     ensures body { actor.new.body ≡ actor.old.body }
 {
@@ -63,7 +63,7 @@ pub fn too_deep(actor: &mut Actor, run: &Run<'_, '_>, next: &Next<'_>) -> bool
 
 /// The next instruction starts a goroutine, and a number was refused.
 pub fn too_many(actor: &mut Actor, run: &Run<'_, '_>, next: &Next<'_>) -> bool
-    requires before { IsBefore run.now actor.old next.now }
+    requires before { ActorIsBefore run.now actor.old next.now }
     requires starts { (n : ℕ) × (from : List ℕ) × (operation_of next.now.op ≡ Go n from) }
     requires refused { actor.old.body.refused ≡ true }
     ensures ended { ActorHasEnded run.now actor.old actor.new 0 (Stopped limit.Goroutines) result }
@@ -75,11 +75,11 @@ pub fn too_many(actor: &mut Actor, run: &Run<'_, '_>, next: &Next<'_>) -> bool
 /// The next instruction traps.
 pub fn trap(actor: &mut Actor, run: &Run<'_, '_>, next: &Next<'_>, trap: Trap) -> bool
     requires stands { IsActorOf run.now actor.old }
-    requires next { IsNextOf run.now.program.code (frames_in actor.old.body) next.now }
+    requires next { IsNextOf run.now.program.code (frames_of_body actor.old.body) next.now }
     requires traps { InstrTraps run.now.setup (now run.now.setup actor.old) trap }
     requires count { actor.old.body.counts.steps + 1 < 2 ^ 64 }
     ensures { ActorHasEnded run.now actor.old actor.new 1
-        (Ended (the_end.Trap trap (place_at next.now))) result }
+        (Ended (the_end.Trap trap (place_of_next next.now))) result }
 {
     let place = next.function.tac().place(next.at);
     let ends = finish(
@@ -95,10 +95,10 @@ pub fn trap(actor: &mut Actor, run: &Run<'_, '_>, next: &Next<'_>, trap: Trap) -
 
 /// `main` returns.
 pub fn exit(actor: &mut Actor, run: &Run<'_, '_>, next: &Next<'_>, value: Option<u32>) -> bool
-    requires before { IsBefore run.now actor.old next.now }
+    requires before { ActorIsBefore run.now actor.old next.now }
     requires returns { operation_of next.now.op ≡ Return value }
     requires main { number_of actor.old.seat.me ≡ 0 }
-    requires last { length (frames_in actor.old.body) ≡ 1 }
+    requires last { length (frames_of_body actor.old.body) ≡ 1 }
     requires room { HasRoomBack run.now.program actor.old.body }
     ensures { ActorHasEnded run.now actor.old actor.new 1 (Ended the_end.Exit) result }
 {

@@ -8,20 +8,20 @@ ghost use Rattle.std.specs.Prelude.{◌≡◌, ◌+◌, ◌-◌, ◌*◌, ◌/�
 ghost use Rattle.rgo_core.specs.Rule.Views.{number_of};
 ghost use Rattle.rgo_core.specs.Rule.declared.accesses.Access.{Access};
 ghost use Rattle.rgo_core.specs.Rule.declared.accesses.Kind.{Kind};
-ghost use Rattle.rgo_core_facts.specs.MemoryObjects.{all_struct_words, channel_words as channel_words_of, data_pages_of, first_of as first_value_of, spot_of, with_new_object, with_new_object_apart};
-ghost use Rattle.rgo_core.specs.Opening.{first_of};
-ghost use Rattle.rgo_core.specs.Plans.{setup_of};
+ghost use Rattle.rgo_core_facts.specs.MemoryObjects.{all_struct_words, channel_words as channel_words_of, data_pages_of, first_held as first_value_of, spot_of, with_new_object, with_new_object_apart};
+ghost use Rattle.rgo_core.specs.runs.Opening.{first_of};
+ghost use Rattle.rgo_core.specs.runs.Plans.{setup_of};
 ghost use Rattle.rgo_core.specs.Records.{accesses};
 ghost use Rattle.rgo_core_steps.specs.Grown.{SeatGrew};
 ghost use Rattle.rgo_core_steps.specs.Layouts.{HasLayout};
 ghost use Rattle.rgo_core_steps.specs.Making.{IsIndex, IsNewWordApart, filling_apart};
 ghost use Rattle.rgo_core_steps.specs.Seats.{HasOne, HasPossible, IsSeatOf, Settles, Stored, mine, settled};
 ghost use Rattle.rgo_core.specs.Channels.Records.{at_rest};
-ghost use Rattle.rgo_body.specs.Bodies.{frames_in};
+ghost use Rattle.rgo_body.specs.Bodies.{frames_of_body};
 ghost use Rattle.rgo_body.specs.Stack.Stacks.{newest_word};
 ghost use Rattle.rgo_body.specs.declared.bodies.Side.TheVariants.{AtRest};
-ghost use Rattle.rgo_holding.specs.Holds.{region_at};
-ghost use Rattle.rgo_holding.specs.Known.{own_page, slot_of};
+ghost use Rattle.rgo_holding.specs.Holds.{region_of_key};
+ghost use Rattle.rgo_holding.specs.Known.{own_page, slot_or_global};
 ghost use Rattle.rgo_sound.specs.RegionMachine.Objects.{most_data_pages as most_data_pages_of};
 ghost use Rattle.rgo_sound.specs.RegionMachine.declared.regions.Region.{Region};
 ghost use Rattle.rgo_sound.specs.Tac.Code.{Do};
@@ -29,9 +29,9 @@ ghost use Rattle.rgo_sound.specs.Tac.Ops.{operation_of};
 ghost use Rattle.rgo_sound.specs.Typed.declared.actions.Action.TheVariants as action;
 ghost use Rattle.rgo_acts.specs.Actors.{ActorActed, now};
 ghost use Rattle.rgo_acts.specs.Locals.{IsBeyond};
-ghost use Rattle.rgo_acts.specs.ObjectExamples.{ObjectExamples};
+ghost use Rattle.rgo_acts.specs.ObjectExamples.{PlacementExamples};
 ghost use Rattle.rgo_acts.specs.Objects as spec;
-ghost use Rattle.rgo_acts.specs.Ready.{IsBefore};
+ghost use Rattle.rgo_acts.specs.Ready.{ActorIsBefore};
 
 use crate::actors::Actor;
 use crate::runs::Run;
@@ -137,12 +137,12 @@ fn store_words<L: Ledger>(
     requires alone { HasOne (setup_of table.now.shared.key) seat.old.me }
     requires settles { Settles (setup_of table.now.shared.key) behind seat.old.me }
     requires placed { let T = setup_of table.now.shared.key in
-        (slot : ℕ) × spec.IsPlaced T (settled T behind seat.old.me) slot page new }
+        (slot : ℕ) × spec.IsPlacedInPage T (settled T behind seat.old.me) slot page new }
     ensures own { seat.new.table_id ≡ seat.old.table_id }
     ensures grew { let T = setup_of table.now.shared.key in
         (es : List Access) × SeatGrew accesses (first_of T.code) seat.old.me es seat.new.me }
     ensures stored { let T = setup_of table.now.shared.key in
-        (slot : ℕ) (placed : spec.IsPlaced T (settled T behind seat.old.me) slot page new)
+        (slot : ℕ) (placed : spec.IsPlacedInPage T (settled T behind seat.old.me) slot page new)
         → mine T seat.new.me ≡ with_new_object T (settled T behind seat.old.me) (own_page slot page) placed.object.object }
     ensures possible { HasPossible (setup_of table.now.shared.key) seat.new.me }
     ensures cost { steps.new ≡ steps.old + new.words }
@@ -165,11 +165,11 @@ fn make_on<L: Ledger>(
     page: Page,
     steps: &mut Steps<L>,
 )
-    requires before { IsBefore run.now actor.old next.now }
+    requires before { ActorIsBefore run.now actor.old next.now }
     requires does { (to : _) × (act : _) × (from : List ℕ) × (operation_of next.now.op ≡ Do to act from) }
     requires count { actor.old.body.counts.objects + 1 < 2 ^ 64 }
-    requires placed { (region : Region) × (region_at actor.old.body.holding new.key ≡ Some region)
-        × spec.IsPlaced run.now.setup (now run.now.setup actor.old) (slot_of run.now.setup.sizes.regions region) page new }
+    requires placed { (region : Region) × (region_of_key actor.old.body.holding new.key ≡ Some region)
+        × spec.IsPlacedInPage run.now.setup (now run.now.setup actor.old) (slot_or_global run.now.setup.sizes.regions region) page new }
     ensures acted { ActorActed run.now actor.old actor.new 1 [] [] }
     ensures beyond { IsBeyond actor.old actor.new }
     ensures rests { actor.new.body.side ≡ AtRest }
@@ -201,11 +201,11 @@ fn make_uncounted<L: Ledger>(
     page: Page,
     blank: Blank,
 )
-    requires before { IsBefore run.now actor.old next.now }
+    requires before { ActorIsBefore run.now actor.old next.now }
     requires does { (to : _) × (act : _) × (from : List ℕ) × (operation_of next.now.op ≡ Do to act from) }
     requires count { actor.old.body.counts.objects + 1 < 2 ^ 64 }
-    requires placed { (region : Region) × (region_at actor.old.body.holding new.key ≡ Some region)
-        × spec.IsPlaced run.now.setup (now run.now.setup actor.old) (slot_of run.now.setup.sizes.regions region) page new }
+    requires placed { (region : Region) × (region_of_key actor.old.body.holding new.key ≡ Some region)
+        × spec.IsPlacedInPage run.now.setup (now run.now.setup actor.old) (slot_or_global run.now.setup.sizes.regions region) page new }
     requires name { blank.name ≡ L.name }
     requires parts { (blank.parts ≡ L.parts) × (0 < blank.parts) }
     ensures acted { ActorActed run.now actor.old actor.new 1 [] [] }
@@ -224,8 +224,8 @@ fn claim_page<L: Ledger>(
     new: New,
     steps: &mut Steps<L>,
 ) -> Option<Page>
-    requires before { IsBefore run.now actor.old next.now }
-    requires new { spec.IsNew run.now.setup (now run.now.setup actor.old) actor.old.body.holding new }
+    requires before { ActorIsBefore run.now actor.old next.now }
+    requires new { spec.IsNextObject run.now.setup (now run.now.setup actor.old) actor.old.body.holding new }
     requires fits { new.words ≤ run.now.setup.sizes.page_words }
     requires some { 0 < new.words }
     requires full { spec.HasNoRoomHere run.now actor.old new }
@@ -258,8 +258,8 @@ fn claim_page<L: Ledger>(
 
 /// The own page, if it has room for the next object.
 fn own_page_for(actor: &Actor, run: &Run<'_, '_>, next: &Next<'_>, new: New) -> Option<Page>
-    requires before { IsBefore run.now actor.now next.now }
-    requires new { spec.IsNew run.now.setup (now run.now.setup actor.now) actor.now.body.holding new }
+    requires before { ActorIsBefore run.now actor.now next.now }
+    requires new { spec.IsNextObject run.now.setup (now run.now.setup actor.now) actor.now.body.holding new }
     requires fits { new.words ≤ run.now.setup.sizes.page_words }
     requires some { 0 < new.words }
     ensures { MatchOption result (spec.HasNoRoomHere run.now actor.now new)
@@ -277,8 +277,8 @@ fn page_for<L: Ledger>(
     new: New,
     steps: &mut Steps<L>,
 ) -> Option<Page>
-    requires before { IsBefore run.now actor.old next.now }
-    requires new { spec.IsNew run.now.setup (now run.now.setup actor.old) actor.old.body.holding new }
+    requires before { ActorIsBefore run.now actor.old next.now }
+    requires new { spec.IsNextObject run.now.setup (now run.now.setup actor.old) actor.old.body.holding new }
     requires fits { new.words ≤ run.now.setup.sizes.page_words }
     requires some { 0 < new.words }
     requires pages { 0 < run.now.sizes.pages }
@@ -301,9 +301,9 @@ fn make<L: Ledger>(
     new: New,
     steps: &mut Steps<L>,
 ) -> Made
-    requires before { IsBefore run.now actor.old next.now }
+    requires before { ActorIsBefore run.now actor.old next.now }
     requires does { (to : _) × (act : _) × (from : List ℕ) × (operation_of next.now.op ≡ Do to act from) }
-    requires new { spec.IsNew run.now.setup (now run.now.setup actor.old) actor.old.body.holding new }
+    requires new { spec.IsNextObject run.now.setup (now run.now.setup actor.old) actor.old.body.holding new }
     requires fits { new.words ≤ run.now.setup.sizes.page_words }
     requires some { 0 < new.words }
     requires pages { 0 < run.now.sizes.pages }
@@ -330,8 +330,8 @@ fn reserve_page<L: Ledger>(
     new: New,
     steps: &mut Steps<L>,
 ) -> bool
-    requires before { IsBefore run.now actor.old next.now }
-    requires new { spec.IsNew run.now.setup (now run.now.setup actor.old) actor.old.body.holding new }
+    requires before { ActorIsBefore run.now actor.old next.now }
+    requires new { spec.IsNextObject run.now.setup (now run.now.setup actor.old) actor.old.body.holding new }
     requires spread { run.now.setup.sizes.page_words < new.words }
     requires small { spec.IsSmall run.now.setup new.words new.before }
     requires more { length actor.old.body.reserved.pages ≤ data_pages_of run.now.setup.sizes.page_words new.words new.before }
@@ -372,8 +372,8 @@ fn reserve<L: Ledger>(
     new: New,
     steps: &mut Steps<L>,
 ) -> Result<(), Made>
-    requires before { IsBefore run.now actor.old next.now }
-    requires new { spec.IsNew run.now.setup (now run.now.setup actor.old) actor.old.body.holding new }
+    requires before { ActorIsBefore run.now actor.old next.now }
+    requires new { spec.IsNextObject run.now.setup (now run.now.setup actor.old) actor.old.body.holding new }
     requires spread { run.now.setup.sizes.page_words < new.words }
     requires small { spec.IsSmall run.now.setup new.words new.before }
     requires pages { 0 < run.now.sizes.pages }
@@ -475,11 +475,11 @@ fn store_words_apart<L: Ledger>(
     requires layout { HasLayout (setup_of table.now.shared.key) sizes.now table.now.shared.table_id }
     requires alone { HasOne (setup_of table.now.shared.key) seat.old.me }
     requires settles { Settles (setup_of table.now.shared.key) behind seat.old.me }
-    requires placed { let T = setup_of table.now.shared.key in spec.IsPlacedApart T (settled T behind seat.old.me) pages.now new }
+    requires placed { let T = setup_of table.now.shared.key in spec.IsSpreadOverPages T (settled T behind seat.old.me) pages.now new }
     ensures own { seat.new.table_id ≡ seat.old.table_id }
     ensures grew { let T = setup_of table.now.shared.key in
         (es : List Access) × SeatGrew accesses (first_of T.code) seat.old.me es seat.new.me }
-    ensures stored { let T = setup_of table.now.shared.key in (placed : spec.IsPlacedApart T (settled T behind seat.old.me) pages.now new)
+    ensures stored { let T = setup_of table.now.shared.key in (placed : spec.IsSpreadOverPages T (settled T behind seat.old.me) pages.now new)
         → mine T seat.new.me ≡ with_new_object_apart T (settled T behind seat.old.me) placed.object.object }
     ensures possible { HasPossible (setup_of table.now.shared.key) seat.new.me }
     ensures cost { let T = setup_of table.now.shared.key in
@@ -505,10 +505,10 @@ fn make_in_reserved<L: Ledger>(
     new: New,
     steps: &mut Steps<L>,
 )
-    requires before { IsBefore run.now actor.old next.now }
+    requires before { ActorIsBefore run.now actor.old next.now }
     requires does { (to : _) × (act : _) × (from : List ℕ) × (operation_of next.now.op ≡ Do to act from) }
     requires count { actor.old.body.counts.objects + 1 < 2 ^ 64 }
-    requires new { spec.IsNew run.now.setup (now run.now.setup actor.old) actor.old.body.holding new }
+    requires new { spec.IsNextObject run.now.setup (now run.now.setup actor.old) actor.old.body.holding new }
     requires spread { run.now.setup.sizes.page_words < new.words }
     requires small { spec.IsSmall run.now.setup new.words new.before }
     requires all { length actor.old.body.reserved.pages ≡ suc (data_pages_of run.now.setup.sizes.page_words new.words new.before) }
@@ -538,9 +538,9 @@ fn make_apart<L: Ledger>(
     new: New,
     steps: &mut Steps<L>,
 ) -> Made
-    requires before { IsBefore run.now actor.old next.now }
+    requires before { ActorIsBefore run.now actor.old next.now }
     requires does { (to : _) × (act : _) × (from : List ℕ) × (operation_of next.now.op ≡ Do to act from) }
-    requires new { spec.IsNew run.now.setup (now run.now.setup actor.old) actor.old.body.holding new }
+    requires new { spec.IsNextObject run.now.setup (now run.now.setup actor.old) actor.old.body.holding new }
     requires spread { run.now.setup.sizes.page_words < new.words }
     requires small { spec.IsSmall run.now.setup new.words new.before }
     requires pages { 0 < run.now.sizes.pages }
@@ -571,7 +571,7 @@ fn object_of(
     place: usize,
     value: u64,
 ) -> Option<New>
-    requires before { IsBefore run.now actor.now next.now }
+    requires before { ActorIsBefore run.now actor.now next.now }
     requires wants { spec.Wants run.now.setup (number_of actor.now.seat.me) (now run.now.setup actor.now) next.now.function to words before place value }
     ensures object { MatchOption result
         (most_data_pages_of run.now.setup.sizes.page_words < data_pages_of run.now.setup.sizes.page_words words before) (spec.CanMake run.now actor.now) }
@@ -602,7 +602,7 @@ fn make_new<L: Ledger>(
     new: New,
     steps: &mut Steps<L>,
 ) -> Made
-    requires before { IsBefore run.now actor.old next.now }
+    requires before { ActorIsBefore run.now actor.old next.now }
     requires does { (to : _) × (act : _) × (from : List ℕ) × (operation_of next.now.op ≡ Do to act from) }
     requires can { spec.CanMake run.now actor.old new }
     requires pages { 0 < run.now.sizes.pages }
@@ -630,7 +630,7 @@ fn object<L: Ledger>(
     value: u64,
     steps: &mut Steps<L>,
 ) -> Made
-    requires before { IsBefore run.now actor.old next.now }
+    requires before { ActorIsBefore run.now actor.old next.now }
     requires does { (to : _) × (act : _) × (from : List ℕ) × (operation_of next.now.op ≡ Do to act from) }
     requires wants { spec.Wants run.now.setup (number_of actor.old.seat.me) (now run.now.setup actor.old) next.now.function to words before place value }
     requires pages { 0 < run.now.sizes.pages }
@@ -664,7 +664,7 @@ pub fn new_struct<L: Ledger>(
     number: usize,
     steps: &mut Steps<L>,
 ) -> Made
-    requires before { IsBefore run.now actor.old next.now }
+    requires before { ActorIsBefore run.now actor.old next.now }
     requires is { operation_of next.now.op ≡ Do (Some to) (action.New number) [] }
     requires pages { 0 < run.now.sizes.pages }
     requires count { (actor.old.body.counts.taken + 65 < 2 ^ 64) × (actor.old.body.counts.objects + 1 < 2 ^ 64) }
@@ -684,7 +684,7 @@ pub(crate) fn new_at_hand(
     to: u32,
     number: usize,
 ) -> bool
-    requires before { IsBefore run.now actor.old next.now }
+    requires before { ActorIsBefore run.now actor.old next.now }
     requires is { (from : List ℕ) × (operation_of next.now.op ≡ Do (Some to) (action.New number) from) }
     ensures acted { result ≡ true → ActorActed run.now actor.old actor.new 1 [] [] }
     ensures beyond { result ≡ true → IsBeyond actor.old actor.new }
@@ -721,12 +721,12 @@ pub fn new_slice<L: Ledger>(
     size: u32,
     steps: &mut Steps<L>,
 ) -> Made
-    requires before { IsBefore run.now actor.old next.now }
+    requires before { ActorIsBefore run.now actor.old next.now }
     requires is { operation_of next.now.op ≡ Do (Some to) action.Slice (size ∷ []) }
     requires pages { 0 < run.now.sizes.pages }
     requires count { (actor.old.body.counts.taken + 65 < 2 ^ 64) × (actor.old.body.counts.objects + 1 < 2 ^ 64) }
     ensures made { spec.ActorMakes run.now actor.old actor.new result }
-    ensures cost { steps.new ≤ steps.old + spec.most_steps run.now.setup (newest_word (frames_in actor.old.body) size + 1) 1 }
+    ensures cost { steps.new ≤ steps.old + spec.most_steps run.now.setup (newest_word (frames_of_body actor.old.body) size + 1) 1 }
 {
     let elements = actor.body.word(size);
     if elements >= FIRST_NEGATIVE {
@@ -762,13 +762,13 @@ pub fn new_channel<L: Ledger>(
     size: u32,
     steps: &mut Steps<L>,
 ) -> Made
-    requires before { IsBefore run.now actor.old next.now }
+    requires before { ActorIsBefore run.now actor.old next.now }
     requires is { operation_of next.now.op ≡ Do (Some to) action.Chan (size ∷ []) }
     requires pages { 0 < run.now.sizes.pages }
     requires small { run.now.setup.sizes.page_words ≤ 16777215 }
     requires count { (actor.old.body.counts.taken + 65 < 2 ^ 64) × (actor.old.body.counts.objects + 1 < 2 ^ 64) }
     ensures made { spec.ActorMakes run.now actor.old actor.new result }
-    ensures cost { steps.new ≤ steps.old + spec.most_steps run.now.setup (channel_words_of (newest_word (frames_in actor.old.body) size)) 2 }
+    ensures cost { steps.new ≤ steps.old + spec.most_steps run.now.setup (channel_words_of (newest_word (frames_of_body actor.old.body) size)) 2 }
 {
     let capacity = actor.body.word(size);
     if capacity >= FIRST_NEGATIVE {
@@ -789,5 +789,5 @@ pub fn new_channel<L: Ledger>(
 
 /// New objects that meet their definitions, and some that do not.
 pub fn examples()
-    ensures { ObjectExamples }
+    ensures { PlacementExamples }
 {}

@@ -1,15 +1,15 @@
 //! Prints. All bytes of a print are there before its ticket is drawn, which decides its place among all prints: bytes for which
 //! memory ran out after the draw would be missing in the output. Why: docs/DECISIONS.md, "Tables of words".
 ghost use Rattle.std.specs.Prelude.{◌≡◌, ◌<◌, ◌∷◌, [], Contains, IfOk, MatchOption, None, OnErr, Some, slice_get};
-ghost use Rattle.rgo_core.specs.Frames.Prints.{typed_in};
+ghost use Rattle.rgo_core.specs.Frames.steps.Prints.{typed_in};
 ghost use Rattle.rgo_core_steps.specs.After.{piece as piece_of};
 ghost use Rattle.rgo_sound.specs.Tac.Code.{Print as PrintOp};
 ghost use Rattle.rgo_sound.specs.Tac.Flow.{reads};
 ghost use Rattle.rgo_sound.specs.Tac.Ops.{operation_of};
-ghost use Rattle.rgo_body.specs.Bodies.{frames_in};
+ghost use Rattle.rgo_body.specs.Bodies.{frames_of_body};
 ghost use Rattle.rgo_acts.specs.Actors.{ActorActed, now};
 ghost use Rattle.rgo_acts.specs.Prints.{PrintExamples, drawn_of, value_in, values_in};
-ghost use Rattle.rgo_acts.specs.Ready.{IsBefore};
+ghost use Rattle.rgo_acts.specs.Ready.{ActorIsBefore};
 
 use crate::actors::Actor;
 use crate::runs::Run;
@@ -56,9 +56,9 @@ fn type_at(types: &[Type], n: u32) -> Option<&Type>
 
 /// The value of a variable that the next instruction reads.
 fn operand(actor: &Actor, run: &Run<'_, '_>, next: &Next<'_>, variable: u32) -> Value
-    requires before { IsBefore run.now actor.now next.now }
+    requires before { ActorIsBefore run.now actor.now next.now }
     requires reads { Contains (reads (operation_of next.now.op)) variable }
-    ensures { result ≡ value_in next.now.function (frames_in actor.now.body) variable }
+    ensures { result ≡ value_in next.now.function (frames_of_body actor.now.body) variable }
 {
     match type_at(next.function.tac().variables(), variable) {
         Some(ty) => value(ty, actor.body.word(variable)),
@@ -74,9 +74,9 @@ fn operands(
     next: &Next<'_>,
     from: &[u32],
 ) -> Result<Vec<Value>, AllocError>
-    requires before { IsBefore run.now actor.now next.now }
+    requires before { ActorIsBefore run.now actor.now next.now }
     requires reads { reads (operation_of next.now.op) ≡ from.now }
-    ensures { IfOk result (λ values. values.items ≡ values_in next.now.function (frames_in actor.now.body) from.now) }
+    ensures { IfOk result (λ values. values.items ≡ values_in next.now.function (frames_of_body actor.now.body) from.now) }
 {
     let mut values = Vec::with_capacity(alloc, from.len())?;
     for i in 0..from.len() {
@@ -94,7 +94,7 @@ fn line(
     pieces: &[Piece],
     from: &[u32],
 ) -> Result<Vec<u8>, AllocError>
-    requires before { IsBefore run.now actor.now next.now }
+    requires before { ActorIsBefore run.now actor.now next.now }
     requires is { operation_of next.now.op ≡ PrintOp pieces.now from.now }
     ensures { IfOk result (λ bytes. bytes.items ≡ piece_of run.now.setup.code (now run.now.setup actor.now)) }
 {
@@ -117,7 +117,7 @@ pub fn print_line(
     pieces: &[Piece],
     from: &[u32],
 ) -> Result<Print, AllocError>
-    requires before { IsBefore run.now actor.old next.now }
+    requires before { ActorIsBefore run.now actor.old next.now }
     requires is { operation_of next.now.op ≡ PrintOp pieces.now from.now }
     requires few { actor.old.body.prints < 8796093022208 }
     ensures printed { IfOk result (λ print. ActorActed run.now actor.old actor.new 1 (drawn_of print ∷ []) []) }

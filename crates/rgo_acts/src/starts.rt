@@ -4,7 +4,7 @@ ghost use Rattle.std.specs.Prelude.{◌≡◌, ◌+◌, ◌<◌, [], MatchResult
 ghost use Rattle.rgo_sound.specs.Tac.Code.{Go};
 ghost use Rattle.rgo_sound.specs.Tac.Ops.{operation_of};
 ghost use Rattle.rgo_acts.specs.Actors.{ActorActed};
-ghost use Rattle.rgo_acts.specs.Ready.{IsBefore};
+ghost use Rattle.rgo_acts.specs.Ready.{ActorIsBefore};
 ghost use Rattle.rgo_acts.specs.Starts.{ActorStarts};
 
 use crate::actors::{Actor, Searches};
@@ -35,7 +35,7 @@ pub fn start(
     function: u32,
     from: &[u32],
 ) -> Result<Outcome, AllocError>
-    requires before { IsBefore run.now actor.old next.now }
+    requires before { ActorIsBefore run.now actor.old next.now }
     requires is { operation_of next.now.op ≡ Go function from.now }
     requires never { actor.old.body.refused ≡ false }
     requires count { actor.old.body.counts.goroutines + 1 < 18446744073709551616 }

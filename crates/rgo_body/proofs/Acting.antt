@@ -4,15 +4,15 @@ use Rattle.std.specs.Option.{option_map_or}
 use Rattle.std.proofs.lemmas.List.{length-append}
 use Rattle.rgo_core.specs.Core.{Setup}
 use Rattle.rgo_core.specs.Records.{ClockRec, Record, accessed, drawn_at, ticked, with_child, with_print}
-use Rattle.rgo_core.specs.Channels.Records.{Rec as SideRec, at_rest}
+use Rattle.rgo_core.specs.Channels.Records.{ChannelRec as SideRec, at_rest}
 use Rattle.rgo_core.specs.Channels.Records as sides
-use Rattle.rgo_core.specs.Frames.Actions.{after_action}
-use Rattle.rgo_core.specs.Frames.Meetings.{acknowledged}
+use Rattle.rgo_core.specs.Frames.steps.Actions.{after_action}
+use Rattle.rgo_core.specs.Frames.goroutines.Meetings.{acknowledged}
 use Rattle.rgo_core.specs.Frames.Records.{after_op}
-use Rattle.rgo_core.specs.Frames.WordFrames.{WordFrame, bare_all, word_going, word_moved}
-use Rattle.rgo_core.specs.Memory.Records.{Fill, Rec as MemoryRec, with_object, with_object_apart}
-use Rattle.rgo_core.specs.NewObjects.{reserved_address}
-use Rattle.rgo_core_steps.proofs.After.{position_by}
+use Rattle.rgo_core.specs.Frames.shown.WordFrames.{WordFrame, bare_all, word_going, word_moved}
+use Rattle.rgo_core.specs.Memory.Records.{Fill, Rec as MemoryRec, with_object_in_page, with_object_apart}
+use Rattle.rgo_core.specs.moves.NewObjects.{reserved_address}
+use Rattle.rgo_core_steps.proofs.record_steps.After.{position_by}
 use Rattle.rgo_core_steps.specs.Calls.{accessed_by, waited}
 use Rattle.rgo_core_steps.specs.After.{Position, acknowledging, acting, bytes_at, committing, given, making, making_apart, position, printing, starting}
 use Rattle.rgo_holding.specs.Holds.{IsHoldingOf}
@@ -22,8 +22,8 @@ use Rattle.rgo_sound.specs.RegionMachine.Objects.{object_words as words_in}
 use Rattle.rgo_sound.specs.RegionMachine.States.{Holder, NoOffer, Offer}
 use Rattle.rgo_stack.specs.Steps.{after_word}
 use Rattle.rgo_sound.specs.Tac.Ops.{operation_of}
-use Rattle.rgo_body.specs.Bodies.{IsReady}
-use Rattle.rgo_body.specs.Nexts.{IsDo, IsGo, IsPrint, removes_at, target_of}
+use Rattle.rgo_body.specs.Bodies.{BodyIsReady}
+use Rattle.rgo_body.specs.Nexts.{IsDo, IsGoOp, IsPrint, removes_at, action_target}
 use Rattle.rgo_body.specs.Programs.{CompactProgram}
 use Rattle.rgo_body.specs.Reserves.{none_reserved}
 use Rattle.rgo_body.specs.Shows.{BodyShows, SideShows}
@@ -37,8 +37,8 @@ use Rattle.rgo_body.proofs.Showing.{At, at, behind, behind_go, given_is, gone, g
 abbrev pub stepped : Counts → Counts
 stepped n = record n { steps = suc n.steps }
 
-module _ (T : Setup) (p : CompactProgram) (b m : Body) (c : Record) (next : Next) (word : ℕ) (s : BodyShows T p b c) (ready : IsReady p b next)
-    (goes : BodyContinues p b m (after_word (target_of (operation_of next.op)) word) (removes_at next)) where
+module _ (T : Setup) (p : CompactProgram) (b m : Body) (c : Record) (next : Next) (word : ℕ) (s : BodyShows T p b c) (ready : BodyIsReady p b next)
+    (goes : BodyContinues p b m (after_word (action_target (operation_of next.op)) word) (removes_at next)) where
   abbrev pub x : At T.code c next
   x = at T p b c next s ready.is_next
 
@@ -77,10 +77,10 @@ module _ (T : Setup) (p : CompactProgram) (b m : Body) (c : Record) (next : Next
   goes_to k h memory known = gone T p b m c next word s ready goes k h memory known
 
   pub none_printed : IsPrint (operation_of next.op) → to ≡ None
-  none_printed k = given_is x.instr.op ∙ ap target_of (x.op ∙ k.2)
+  none_printed k = given_is x.instr.op ∙ ap action_target (x.op ∙ k.2)
 
-  pub none_started : IsGo (operation_of next.op) → to ≡ None
-  none_started k = given_is x.instr.op ∙ ap target_of (x.op ∙ k.2)
+  pub none_started : IsGoOp (operation_of next.op) → to ≡ None
+  none_started k = given_is x.instr.op ∙ ap action_target (x.op ∙ k.2)
 
   -- an action or a print
   module _ (kind : IsDo (operation_of next.op) ⊎ IsPrint (operation_of next.op)) where
@@ -158,39 +158,39 @@ module _ (T : Setup) (p : CompactProgram) (b m : Body) (c : Record) (next : Next
     making_is : (f : Fill) (object : Object) → suc (f.page * T.sizes.page_words + f.fill) ≡ word
         → making T c f object ≡ goes_to (record (ticked c.clock) {
           share = record c.clock.share { steps = suc c.clock.share.steps; objects = suc c.clock.share.objects };
-        }) c.frame.holder (with_object c.memory f.slot (f.fill + words_in object)) c.side
+        }) c.frame.holder (with_object_in_page c.memory f.slot (f.fill + words_in object)) c.side
     making_is f object same =
         moves (λ q. record c {
           clock = record (ticked c.clock) {
             share = record c.clock.share { steps = suc c.clock.share.steps; objects = suc c.clock.share.objects };
           };
           frame = after_action T.code c.frame q.w q.ws q.instr (given q.instr.op) (suc (f.page * T.sizes.page_words + f.fill));
-          memory = with_object c.memory f.slot (f.fill + words_in object);
+          memory = with_object_in_page c.memory f.slot (f.fill + words_in object);
         })
         ∙ ap (λ n. record c {
           clock = record (ticked c.clock) {
             share = record c.clock.share { steps = suc c.clock.share.steps; objects = suc c.clock.share.objects };
           };
           frame = after_action T.code c.frame x.w x.ws x.instr to n;
-          memory = with_object c.memory f.slot (f.fill + words_in object);
+          memory = with_object_in_page c.memory f.slot (f.fill + words_in object);
         }) same
         ∙ ap (λ r. record c {
           clock = record (ticked c.clock) {
             share = record c.clock.share { steps = suc c.clock.share.steps; objects = suc c.clock.share.objects };
           };
           frame = r;
-          memory = with_object c.memory f.slot (f.fill + words_in object);
+          memory = with_object_in_page c.memory f.slot (f.fill + words_in object);
         }) does
 
     pub made_shows : (f : Fill) (object : Object) (d : Body) → suc (f.page * T.sizes.page_words + f.fill) ≡ word
         → d ≡ record m { holding = d.holding; counts = record m.counts { steps = suc m.counts.steps; objects = suc m.counts.objects } }
-        → IsHoldingOf T.sizes.regions d.holding c.frame.holder (with_object c.memory f.slot (f.fill + words_in object)).fills
+        → IsHoldingOf T.sizes.regions d.holding c.frame.holder (with_object_in_page c.memory f.slot (f.fill + words_in object)).fills
         → BodyShows T p d (making T c f object)
     made_shows f object d same is holds =
         subst (BodyShows T p d) (sym (making_is f object same))
         (gone_shows T p b m c next word s ready goes (record (ticked c.clock) {
           share = record c.clock.share { steps = suc c.clock.share.steps; objects = suc c.clock.share.objects };
-        }) c.frame.holder (with_object c.memory f.slot (f.fill + words_in object)) c.side d
+        }) c.frame.holder (with_object_in_page c.memory f.slot (f.fill + words_in object)) c.side d
         (ap (λ (e : Body). e.stack) is) (ap (λ (e : Body). e.queue) is) (ap (λ (e : Body). e.is_expanded) is) holds
         (subst (λ (e : Body). SideShows e.side c.side c.frame.holder.offer) (sym is) kept_side)
         (record { make = refl; claim = s.calm.claim; give = s.calm.give; none = s.calm.none })
@@ -244,7 +244,7 @@ module _ (T : Setup) (p : CompactProgram) (b m : Body) (c : Record) (next : Next
         (ap (λ (n : Counts). record n { steps = suc n.steps; objects = suc n.objects }) kept_share) kept_prints kept_refused)
 
   -- a start
-  module _ (kind : IsGo (operation_of next.op)) where
+  module _ (kind : IsGoOp (operation_of next.op)) where
     starting_is : (number : ℕ) → to ≡ None
         → starting T.code c number ≡ goes_to (with_child c.clock number) (record c.frame.holder { pending = [] }) c.memory c.side
     starting_is number none =
@@ -255,7 +255,7 @@ module _ (T : Setup) (p : CompactProgram) (b m : Body) (c : Record) (next : Next
         ∙ ap (λ f. record c { clock = with_child c.clock number; frame = f })
         (ap (λ t. after_op T.code c.frame.holder x.w x.ws x.instr.op (word_going x.w t word ∷ x.ws)) (sym none)
         ∙ ap (λ (h : Holder). record { frames = frames; holder = h })
-        (behind_go T.code c.frame.holder x.w x.ws x.instr.op (bare_all frames) (subst IsGo (sym x.op) kind)))
+        (behind_go T.code c.frame.holder x.w x.ws x.instr.op (bare_all frames) (subst IsGoOp (sym x.op) kind)))
 
     pub started_shows : (number : ℕ) (d : Body) → to ≡ None
         → d ≡ record m {

@@ -3,17 +3,17 @@ use Rattle.std.proofs.Common.{◌≡◌, ◌++◌, ◌<◌, ℕ, List, [], ◌�
 use Rattle.std.specs.Option.{option_map}
 use Rattle.std.proofs.lemmas.Option.{same_Some}
 use Rattle.rgo_sound.specs.Code.Code.{Code}
-use Rattle.rgo_core.specs.Core.{Here, Setup}
+use Rattle.rgo_core.specs.Core.{Situation, Setup}
 use Rattle.rgo_core.specs.Records.{ClockRec, Record}
 use Rattle.rgo_core_facts.proofs.ControlDuties.{duties_known}
 use Rattle.rgo_core_facts.proofs.ControlSteps.{local_duty_steps}
-use Rattle.rgo_core_facts.specs.ControlDuties.{CanAttend, HasNewest, IsNamed}
-use Rattle.rgo_core.specs.Frames.Local.{local_duty}
-use Rattle.rgo_core.specs.Frames.WordFrames.{bare_all}
+use Rattle.rgo_core_facts.specs.ControlDuties.{CanAttend, HasNewest, NameIsBound}
+use Rattle.rgo_core.specs.Frames.steps.Local.{local_duty}
+use Rattle.rgo_core.specs.Frames.shown.WordFrames.{bare_all}
 use Rattle.rgo_core.specs.Memory.Records.{Fill, Rec as MemoryRec, Reserved}
 use Rattle.rgo_core_steps.specs.Seats.{SettlesBy, settled_by}
-use Rattle.rgo_holding.specs.Changes.{Keeps}
-use Rattle.rgo_holding.specs.Holds.{IsHoldingOf, region_at}
+use Rattle.rgo_holding.specs.Changes.{KeepsHolding}
+use Rattle.rgo_holding.specs.Holds.{IsHoldingOf, region_of_key}
 use Rattle.rgo_holding.specs.declared.holding.Holding.{Holding}
 use Rattle.rgo_holding.specs.declared.keys.Key.{Key}
 use Rattle.rgo_sound.specs.RegionMachine.Owed.{next_duties}
@@ -21,7 +21,7 @@ use Rattle.rgo_sound.specs.RegionMachine.Regions.{bound}
 use Rattle.rgo_sound.specs.RegionMachine.States.{Duty, RegionEnvironment, Holder, top_names}
 use Rattle.rgo_sound.specs.RegionMachine.declared.regions.Region.{Region}
 use Rattle.rgo_stack.specs.Stacks.{Belongs}
-use Rattle.rgo_body.specs.Bodies.{frames_in}
+use Rattle.rgo_body.specs.Bodies.{frames_of_body}
 use Rattle.rgo_body.specs.Duties.{DoesLocal, HasDoneDuty}
 use Rattle.rgo_body.specs.Programs.{CompactProgram}
 use Rattle.rgo_body.specs.Shows.{IsMemoryCalm, BodyShows, SideShows}
@@ -33,7 +33,7 @@ use Rattle.rgo_body.specs.declared.bodies.Side.TheVariants as side
 
 -- what it owes that is not in its queue yet
 abbrev pub later : Code → Body → List Duty
-later code b = if b.is_expanded then [] else next_duties code (bare_all (frames_in b))
+later code b = if b.is_expanded then [] else next_duties code (bare_all (frames_of_body b))
 
 module _ (T : Setup) (p : CompactProgram) (b : Body) (c : Record) (d : Duty) (ds : List Duty) (s : BodyShows T p b c)
     (queue : b.queue.duties ≡ d ∷ ds) where
@@ -49,7 +49,7 @@ module _ (T : Setup) (p : CompactProgram) (b : Body) (c : Record) (d : Duty) (ds
     done_shows k clock memory reserved duties offer holds calm share prints refused = record {
       code = s.code;
       belongs = subst (λ (x : Body). Belongs p.compact x.stack) (sym is) s.belongs;
-      frames = s.frames ∙ sym (ap frames_in is);
+      frames = s.frames ∙ sym (ap frames_of_body is);
       holds = holds;
       reserved = ap (λ (r : Reserved). r.pages) reserved ∙ s.reserved ∙ sym (ap (λ (x : Body). x.reserved.pages) is);
       owes = duties ∙ ap (λ l. l ++ later p.code b) (sym done) ∙ sym (ap (λ (x : Body). e.queue.duties ++ later p.code x) is);
@@ -62,7 +62,7 @@ module _ (T : Setup) (p : CompactProgram) (b : Body) (c : Record) (d : Duty) (ds
     }
 
     -- without one
-    pub local_shows : (g : ℕ) (k : Holder) → Here T g c → b.side ≡ side.AtRest → e.counts ≡ b.counts
+    pub local_shows : (g : ℕ) (k : Holder) → Situation T g c → b.side ≡ side.AtRest → e.counts ≡ b.counts
         → local_duty (record c.frame.holder { duties = ds ++ later p.code b }) d ≡ Some k
         → k.duties ≡ ds ++ later p.code b → k.offer ≡ c.frame.holder.offer
         → IsHoldingOf T.sizes.regions e.holding k c.memory.fills
@@ -77,7 +77,7 @@ module _ (T : Setup) (p : CompactProgram) (b : Body) (c : Record) (d : Duty) (ds
 
   -- ---- the region of a name
 
-  pub attended : (g : ℕ) → Here T g c → CanAttend T c d
+  pub attended : (g : ℕ) → Situation T g c → CanAttend T c d
   attended g here = duties_known T g c here d (ds ++ later p.code b) first
 
 -- ---- a local duty, whatever the record
@@ -95,7 +95,7 @@ module _ (p : CompactProgram) (b e : Body) (d : Duty) (ds : List Duty) (queue : 
     pub offer : after.offer ≡ c.frame.holder.offer
     pub holds : IsHoldingOf T.sizes.regions e.holding after c.memory.fills
 
-  pub does_local : b.side ≡ side.AtRest → e.counts ≡ b.counts → ((T : Setup) (g : ℕ) (c : Record) → Here T g c → BodyShows T p b c → Becomes T c)
+  pub does_local : b.side ≡ side.AtRest → e.counts ≡ b.counts → ((T : Setup) (g : ℕ) (c : Record) → Situation T g c → BodyShows T p b c → Becomes T c)
       → DoesLocal p b e
   does_local rests counts by = (
     (λ T g c here s. let x = by T g c here s in
@@ -106,14 +106,14 @@ module _ (p : CompactProgram) (b e : Body) (d : Duty) (ds : List Duty) (queue : 
 
 -- ---- names
 
-pub top_bound : (T : Setup) (c : Record) (k : ℕ) (n : IsNamed T c k) → bound (top_names c.frame.holder.environments) k ≡ Some n.region
+pub top_bound : (T : Setup) (c : Record) (k : ℕ) (n : NameIsBound T c k) → bound (top_names c.frame.holder.environments) k ≡ Some n.region
 top_bound T c k n = ap (λ es. bound (top_names es) k) n.newest.environments ∙ n.bound
 
 pub some_key : (H : Holding) (key : Key) (o : Option Region) (r : Region)
-    → option_map (region_at H) (Some key) ≡ option_map Some o → o ≡ Some r → region_at H key ≡ Some r
-some_key H key o r e is = same_Some (region_at H key) (Some r) (e ∙ ap (option_map Some) is)
+    → option_map (region_of_key H) (Some key) ≡ option_map Some o → o ≡ Some r → region_of_key H key ≡ Some r
+some_key H key o r e is = same_Some (region_of_key H key) (Some r) (e ∙ ap (option_map Some) is)
 
-pub no_key : (H : Holding) (o : Option Region) (r : Region) → option_map (region_at H) None ≡ option_map Some o → o ≡ Some r → ⊥
+pub no_key : (H : Holding) (o : Option Region) (r : Region) → option_map (region_of_key H) None ≡ option_map Some o → o ≡ Some r → ⊥
 no_key H o r e is = never (e ∙ ap (option_map Some) is)
   where
     never : None ≡ Some (Some r) → ⊥
@@ -122,14 +122,14 @@ no_key H o r e is = never (e ∙ ap (option_map Some) is)
 -- the key of a name, whatever the record
 abbrev pub IsKeyOf : Holding → Option Key → (name : ℕ) → Type 0
 IsKeyOf H o name = (slots : ℕ) (h : Holder) (fills : List Fill) → IsHoldingOf slots H h fills
-    → option_map (region_at H) o ≡ option_map Some (bound (top_names h.environments) name)
+    → option_map (region_of_key H) o ≡ option_map Some (bound (top_names h.environments) name)
 
 pub some_environment : (c : Record) (e : RegionEnvironment) → HasNewest c e → 0 < length c.frame.holder.environments
 some_environment c e n = let l = ap (λ (es : List RegionEnvironment). length es) n.environments in omega (arith, l)
 
 -- ---- memory alone
 
-pub with_holding : (T : Setup) (p : CompactProgram) (b : Body) (c : Record) (H : Holding) → BodyShows T p b c → Keeps b.holding H
+pub with_holding : (T : Setup) (p : CompactProgram) (b : Body) (c : Record) (H : Holding) → BodyShows T p b c → KeepsHolding b.holding H
     → BodyShows T p (record b { holding = H }) c
 with_holding T p b c H s keeps = record {
   code = s.code;

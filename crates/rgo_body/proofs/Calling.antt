@@ -10,18 +10,18 @@ use Rattle.rgo_sound.specs.Code.Exists.{UsesVariable}
 use Rattle.rgo_sound.specs.Code.Lists.{passes_of, protects_in, protects_of, removes_in, removes_of}
 use Rattle.rgo_sound.specs.Code.NameRules.{Ascends, protected_names}
 use Rattle.rgo_compact.specs.Bounds.{IsTarget}
-use Rattle.rgo_core.specs.Core.{Here, Setup}
-use Rattle.rgo_core.specs.Next.{IsAt}
+use Rattle.rgo_core.specs.Core.{Situation, Setup}
+use Rattle.rgo_core.specs.Next.{IsAtOp}
 use Rattle.rgo_core.specs.Records.{Record, instructed, with_end}
 use Rattle.rgo_core_facts.proofs.ControlCode.{next_exists, variables_exist}
 use Rattle.rgo_core_facts.proofs.ControlFrames.{all_in_code, callers_wait}
 use Rattle.rgo_core_facts.proofs.ControlPasses.{newest_unprotected}
 use Rattle.rgo_core_facts.specs.ControlCode.{IsFollowed}
 use Rattle.rgo_core_facts.specs.ControlFrames.{IsCalledBy, IsInCode}
-use Rattle.rgo_core.specs.Frames.Local.{local_op, word_returned}
-use Rattle.rgo_core.specs.Frames.Quiet.{is_exit}
-use Rattle.rgo_core.specs.Frames.Records.{Rec as FrameRec, after_op}
-use Rattle.rgo_core.specs.Frames.WordFrames.{WordFrame, bare, bare_all, word_at, word_called, words_of}
+use Rattle.rgo_core.specs.Frames.steps.Local.{local_op, word_returned}
+use Rattle.rgo_core.specs.Frames.steps.Quiet.{is_exit}
+use Rattle.rgo_core.specs.Frames.Records.{FramesRec as FrameRec, after_op}
+use Rattle.rgo_core.specs.Frames.shown.WordFrames.{WordFrame, bare, bare_all, frame_word, word_called, words_of}
 use Rattle.rgo_core.specs.Memory.Records.{Fill}
 use Rattle.rgo_core_steps.specs.Ends.{ending}
 use Rattle.rgo_core_steps.specs.Seats.{SettlesBy, settled_by}
@@ -35,14 +35,14 @@ use Rattle.rgo_sound.specs.Values.{call_target}
 use Rattle.rgo_stack.proofs.Lookups.{places}
 use Rattle.rgo_stack.specs.Places.{CanContinue, CanReturn, IsCalledFor, WaitsFor}
 use Rattle.rgo_stack.specs.Stacks.{Belongs, caller_place}
-use Rattle.rgo_stack.specs.Steps.{after_call, after_return}
+use Rattle.rgo_stack.specs.Steps.{frames_after_call, frames_after_return}
 use Rattle.rgo_sound.specs.Tac.Code as tac
 use Rattle.rgo_sound.specs.Tac.Flow.{writes}
 use Rattle.rgo_sound.specs.Tac.Ops.{operation_of}
-use Rattle.rgo_body.specs.Bodies.{IsReady, frames_in}
+use Rattle.rgo_body.specs.Bodies.{BodyIsReady, frames_of_body}
 use Rattle.rgo_body.specs.Nexts.{IsNextOf, removes_at, result_target_of}
-use Rattle.rgo_body.specs.Programs.{IsProgram, CompactProgram}
-use Rattle.rgo_body.specs.Shows.{IsPossible, BodyShows}
+use Rattle.rgo_body.specs.Programs.{IsCompactProgram, CompactProgram}
+use Rattle.rgo_body.specs.Shows.{BodyIsPossible, BodyShows}
 use Rattle.rgo_body.specs.Steps.{HasBaseRoom, HasRoomBack}
 use Rattle.rgo_body.specs.declared.bodies.Body.{Body}
 use Rattle.rgo_body.specs.declared.bodies.Side.TheVariants as side
@@ -70,14 +70,14 @@ protects_rise code n i fn instr ascends found e =
     same (Branch test target removes other otherwise) = refl
     same (Return value) = refl
 
-module _ (T : Setup) (p : CompactProgram) (b d : Body) (g : ℕ) (c : Record) (next : Next) (s : BodyShows T p b c) (ready : IsReady p b next)
+module _ (T : Setup) (p : CompactProgram) (b d : Body) (g : ℕ) (c : Record) (next : Next) (s : BodyShows T p b c) (ready : BodyIsReady p b next)
     (rests : b.side ≡ side.AtRest) where
   abbrev pub x : At T.code c next
   x = at T p b c next s ready.is_next
 
   pub calls_shows : (to : Option ℕ) (f : ℕ) (from : List ℕ) (fn : CodeFn) → operation_of next.op ≡ tac.Call to f from
       → code_function T.code f ≡ Some fn → Stepped b d (map Remove (entry_removes (code_function T.code f)))
-      → Belongs p.compact d.stack → frames_in d ≡ after_call fn f from (frames_in b)
+      → Belongs p.compact d.stack → frames_of_body d ≡ frames_after_call fn f from (frames_of_body b)
       → IsHoldingOf T.sizes.regions d.holding
       (calling c.frame.holder (function_result_class (code_function T.code f)) (formals_of (code_function T.code f)) (passes_of x.instr.op)
       (protects_of x.instr.op)) c.memory.fills
@@ -88,7 +88,7 @@ module _ (T : Setup) (p : CompactProgram) (b d : Body) (g : ℕ) (c : Record) (n
       (calling c.frame.holder (function_result_class (code_function T.code f)) (formals_of (code_function T.code f)) (passes_of x.instr.op)
       (protects_of x.instr.op))
       (map Remove (entry_removes (code_function T.code f))) k belongs
-      (sym (frames ∙ ap (after_call fn f from) (sym s.frames ∙ x.are)))
+      (sym (frames ∙ ap (frames_after_call fn f from) (sym s.frames ∙ x.are)))
       (not_exit g (word_called fn f (words_of x.w from)) (x.w ∷ x.ws))
       (ap (local_op T.code x.w x.ws) is
       ∙ ap (option_map (λ (h : CodeFn). word_called h f (words_of x.w from) ∷ x.w ∷ x.ws)) found)
@@ -96,11 +96,11 @@ module _ (T : Setup) (p : CompactProgram) (b d : Body) (g : ℕ) (c : Record) (n
 
   -- ---- returns
 
-  pub unprotected : Here T g c → (value : Option ℕ) → operation_of next.op ≡ tac.Return value
+  pub unprotected : Situation T g c → (value : Option ℕ) → operation_of next.op ≡ tac.Return value
       → top_protections c.frame.holder.environments ≡ []
   unprotected here value op = by_newest c.frame.holder.environments refl
     where
-      a : IsAt T.code c (Return value)
+      a : IsAtOp T.code c (Return value)
       a = is_at T p b c next s ready rests (Return value) (return_of x.instr.op value (x.op ∙ op))
 
       by_newest : (es : List RegionEnvironment) → c.frame.holder.environments ≡ es → top_protections es ≡ []
@@ -108,20 +108,20 @@ module _ (T : Setup) (p : CompactProgram) (b d : Body) (g : ℕ) (c : Record) (n
       by_newest (n ∷ es) e = newest_unprotected T g c here (Return value) a refl n es e
 
   abbrev pub returned : Option ℕ → List WordFrame
-  returned value = word_returned T.code (option_map (word_at x.w) value) x.ws
+  returned value = word_returned T.code (option_map (frame_word x.w) value) x.ws
 
   abbrev pub back : Holder
   back = record c.frame.holder { environments = below c.frame.holder.environments }
 
   module _ (value : Option ℕ) (op : operation_of next.op ≡ tac.Return value)
       (k : Stepped b d (caller_duties T.code c.frame.holder (bare_all x.ws))) (belongs : Belongs p.compact d.stack)
-      (frames : frames_in d ≡ after_return T.code value (frames_in b))
+      (frames : frames_of_body d ≡ frames_after_return T.code value (frames_of_body b))
       (holds : IsHoldingOf T.sizes.regions d.holding back c.memory.fills) where
     is : x.instr.op ≡ Return value
     is = return_of x.instr.op value (x.op ∙ op)
 
-    are : returned value ≡ frames_in d
-    are = sym (frames ∙ ap (after_return T.code value) (sym s.frames ∙ x.are))
+    are : returned value ≡ frames_of_body d
+    are = sym (frames ∙ ap (frames_after_return T.code value) (sym s.frames ∙ x.are))
 
     does : local_op T.code x.w x.ws x.instr.op ≡ Some (returned value)
     does = ap (local_op T.code x.w x.ws) is
@@ -130,13 +130,13 @@ module _ (T : Setup) (p : CompactProgram) (b d : Body) (g : ℕ) (c : Record) (n
         ≡ (stepped T c (returned value) back (caller_duties T.code c.frame.holder (bare_all x.ws))).frame
     after = ap (λ o. after_op T.code c.frame.holder x.w x.ws o (returned value)) is
 
-    pub returns_shows : is_exit g (drop 1 (frames_in b)) ≡ false → SettlesBy T g 1 c × BodyShows T p d (settled_by T g 1 c)
+    pub returns_shows : is_exit g (drop 1 (frames_of_body b)) ≡ false → SettlesBy T g 1 c × BodyShows T p d (settled_by T g 1 c)
     returns_shows stays =
         local_step T p b d g c next s ready rests (returned value) back (caller_duties T.code c.frame.holder (bare_all x.ws)) k belongs are
         (by_callers x.ws (ap (λ fs. is_exit g (drop 1 fs)) (sym x.are ∙ s.frames) ∙ stays)) does after refl holds
       where
         by_callers : (ws : List WordFrame) → is_exit g ws ≡ false
-            → is_exit g (word_returned T.code (option_map (word_at x.w) value) ws) ≡ false
+            → is_exit g (word_returned T.code (option_map (frame_word x.w) value) ws) ≡ false
         by_callers [] e = e
         by_callers (caller ∷ ws) e = not_exit g _ ws
 
@@ -177,7 +177,7 @@ module _ (T : Setup) (p : CompactProgram) (b d : Body) (g : ℕ) (c : Record) (n
 
 -- ---- what a return asks of the stack
 
-module _ (p : CompactProgram) (b : Body) (next : Next) (y : IsPossible p b) (program : IsProgram p) (n : IsNextOf p.code (frames_in b) next)
+module _ (p : CompactProgram) (b : Body) (next : Next) (y : BodyIsPossible p b) (program : IsCompactProgram p) (n : IsNextOf p.code (frames_of_body b) next)
     (value : Option ℕ) (op : operation_of next.op ≡ tac.Return value) where
   has_value : (v : Option ℕ) → value ≡ v → IsTarget (length n.w.variables) v
   has_value None e = tt
@@ -186,29 +186,29 @@ module _ (p : CompactProgram) (b : Body) (next : Next) (y : IsPossible p b) (pro
       (subst (λ o. UsesVariable o v) (sym op) (inl (subst (λ (o : Option ℕ). Contains (option_to_list o) v) (sym e) (0, omega arith, refl))))
 
   pub can_return : (to : Option ℕ) (callers : List WordFrame) → n.ws ≡ callers → CanContinue p.compact to callers
-      → CanReturn p.compact value to (frames_in b)
+      → CanReturn p.compact value to (frames_of_body b)
   can_return to callers same goes =
       subst (CanReturn p.compact value to) (sym n.are)
       (has_value value refl, subst (CanContinue p.compact to) (sym same) goes)
 
   pub is_called : (code : Code) (to : Option ℕ) (callers : List WordFrame) → n.ws ≡ callers → WaitsFor code to callers
-      → IsCalledFor code to (frames_in b)
+      → IsCalledFor code to (frames_of_body b)
   is_called code to callers same waits =
       subst (IsCalledFor code to) (sym n.are) (subst (WaitsFor code to) (sym same) waits)
 
 -- ---- the caller to which a function returns
 
-module _ (p : CompactProgram) (b : Body) (call : Next) (y : IsPossible p b) (program : IsProgram p)
-    (n : IsNextOf p.code (drop 1 (frames_in b)) call) where
+module _ (p : CompactProgram) (b : Body) (call : Next) (y : BodyIsPossible p b) (program : IsCompactProgram p)
+    (n : IsNextOf p.code (drop 1 (frames_of_body b)) call) where
   pub second : (frames : List WordFrame) → drop 1 frames ≡ n.w ∷ n.ws → (w : WordFrame) × (frames ≡ w ∷ n.w ∷ n.ws)
   second [] e = cc
   second (w ∷ ws) e = (w, ap (λ l. w ∷ l) e)
 
   abbrev pub newest : WordFrame
-  newest = (second (frames_in b) n.are).0
+  newest = (second (frames_of_body b) n.are).0
 
-  pub two : frames_in b ≡ newest ∷ n.w ∷ n.ws
-  two = (second (frames_in b) n.are).1
+  pub two : frames_of_body b ≡ newest ∷ n.w ∷ n.ws
+  two = (second (frames_of_body b) n.are).1
 
   in_code : IsInCode y.T.code n.w
   in_code = all_in_code y.T y.goroutine y.c y.here 1 n.w (ap (λ fs. slice_get fs 1) (y.shows.frames ∙ two))
@@ -223,7 +223,7 @@ module _ (p : CompactProgram) (b : Body) (call : Next) (y : IsPossible p b) (pro
 
   at_call : called.call ≡ n.instr
   at_call = same_Some called.call n.instr (sym called.cur ∙ ap (λ code. current code (bare n.w)) y.shows.code
-      ∙ current_is p.code (drop 1 (frames_in b)) call n)
+      ∙ current_is p.code (drop 1 (frames_of_body b)) call n)
 
   pub op_is : n.instr.op ≡ Call called.to called.n called.from called.passes called.protects called.removes
   op_is = ap (λ (i : CodeInstr). i.op) (sym at_call) ∙ called.is
@@ -250,7 +250,7 @@ module _ (p : CompactProgram) (b : Body) (call : Next) (y : IsPossible p b) (pro
   pub waits_for : (code : Code) → code ≡ p.code → WaitsFor code (result_target_of (operation_of call.op)) (n.w ∷ n.ws)
   waits_for code same = (
     n.instr,
-    ap (λ k. current k (bare n.w)) same ∙ current_is p.code (drop 1 (frames_in b)) call n,
+    ap (λ k. current k (bare n.w)) same ∙ current_is p.code (drop 1 (frames_of_body b)) call n,
     ap call_target op_is ∙ sym to_is,
   )
 
@@ -259,7 +259,7 @@ module _ (p : CompactProgram) (b : Body) (call : Next) (y : IsPossible p b) (pro
       → caller_duties T.code h (bare_all (n.w ∷ n.ws))
       ≡ map Unprotect (protects_in (slice_get call.function.body call.at)) ++ map Remove (removes_at call)
   behind_call T h same =
-      ap duties_behind_call (ap (λ k. current k (bare n.w)) same ∙ current_is p.code (drop 1 (frames_in b)) call n)
+      ap duties_behind_call (ap (λ k. current k (bare n.w)) same ∙ current_is p.code (drop 1 (frames_of_body b)) call n)
       ∙ ap duties_behind op_is
       ∙ sym (ap (λ o. map Unprotect (protects_in o) ++ map Remove (removes_in o)) n.is_instr
       ∙ ap (λ op. map Unprotect (protects_of op) ++ map Remove (removes_of op)) op_is)
@@ -269,8 +269,8 @@ module _ (p : CompactProgram) (b : Body) (call : Next) (y : IsPossible p b) (pro
 pub tail_is : (w : WordFrame) (ws : List WordFrame) (frames : List WordFrame) → frames ≡ w ∷ ws → ws ≡ drop 1 frames
 tail_is w ws frames e = sym (ap (drop 1) e)
 
-module _ (T : Setup) (p : CompactProgram) (b d : Body) (g : ℕ) (c : Record) (next : Next) (y : IsPossible p b) (program : IsProgram p)
-    (here : Here T g c) (s : BodyShows T p b c) (ready : IsReady p b next) (rests : b.side ≡ side.AtRest) (value : Option ℕ)
+module _ (T : Setup) (p : CompactProgram) (b d : Body) (g : ℕ) (c : Record) (next : Next) (y : BodyIsPossible p b) (program : IsCompactProgram p)
+    (here : Situation T g c) (s : BodyShows T p b c) (ready : BodyIsReady p b next) (rests : b.side ≡ side.AtRest) (value : Option ℕ)
     (op : operation_of next.op ≡ tac.Return value) (belongs : Belongs p.compact d.stack)
     (holding : (slots : ℕ) (h : Holder) (fills : List Fill) → IsHoldingOf slots b.holding h fills → top_protections h.environments ≡ []
     → IsHoldingOf slots d.holding (record h { environments = below h.environments }) fills)
@@ -282,13 +282,13 @@ module _ (T : Setup) (p : CompactProgram) (b d : Body) (g : ℕ) (c : Record) (n
   pub held : IsHoldingOf T.sizes.regions d.holding (record c.frame.holder { environments = below c.frame.holder.environments }) c.memory.fills
   held = holding T.sizes.regions c.frame.holder c.memory.fills s.holds (unprotected T p b d g c next s ready rests here value op)
 
-  z_callers : z.ws ≡ drop 1 (frames_in b)
-  z_callers = tail_is z.w z.ws (frames_in b) (sym s.frames ∙ z.are)
+  z_callers : z.ws ≡ drop 1 (frames_of_body b)
+  z_callers = tail_is z.w z.ws (frames_of_body b) (sym s.frames ∙ z.are)
 
-  next_callers : ready.is_next.ws ≡ drop 1 (frames_in b)
-  next_callers = tail_is ready.is_next.w ready.is_next.ws (frames_in b) ready.is_next.are
+  next_callers : ready.is_next.ws ≡ drop 1 (frames_of_body b)
+  next_callers = tail_is ready.is_next.w ready.is_next.ws (frames_of_body b) ready.is_next.are
 
-  owing : (ds : List Duty) → d.queue.duties ≡ ds → caller_duties T.code c.frame.holder (bare_all (drop 1 (frames_in b))) ≡ ds
+  owing : (ds : List Duty) → d.queue.duties ≡ ds → caller_duties T.code c.frame.holder (bare_all (drop 1 (frames_of_body b))) ≡ ds
       → Stepped b d (caller_duties T.code c.frame.holder (bare_all z.ws))
   owing ds queue same = record {
     queue = queue ∙ sym (ap (λ ws. caller_duties T.code c.frame.holder (bare_all ws)) z_callers ∙ same);
@@ -301,9 +301,9 @@ module _ (T : Setup) (p : CompactProgram) (b d : Body) (g : ℕ) (c : Record) (n
   }
 
   -- to a caller
-  module _ (call : Next) (n : IsNextOf p.code (drop 1 (frames_in b)) call)
-      (stack : (code : Code) → IsCalledFor code (result_target_of (operation_of call.op)) (frames_in b)
-      → frames_in d ≡ after_return code value (frames_in b))
+  module _ (call : Next) (n : IsNextOf p.code (drop 1 (frames_of_body b)) call)
+      (stack : (code : Code) → IsCalledFor code (result_target_of (operation_of call.op)) (frames_of_body b)
+      → frames_of_body d ≡ frames_after_return code value (frames_of_body b))
       (queue : d.queue.duties
       ≡ map Unprotect (protects_in (slice_get call.function.body call.at)) ++ (map Remove (removes_at call) ++ b.queue.duties)) where
     owes : Stepped b d (caller_duties T.code c.frame.holder (bare_all z.ws))
@@ -312,40 +312,40 @@ module _ (T : Setup) (p : CompactProgram) (b d : Body) (g : ℕ) (c : Record) (n
         (ap (λ l. map Remove (removes_at call) ++ l) ready.queue ∙ append-nil (map Remove (removes_at call))))
         (ap (λ ws. caller_duties T.code c.frame.holder (bare_all ws)) n.are ∙ behind_call p b call y program n T c.frame.holder s.code)
 
-    frames : frames_in d ≡ after_return T.code value (frames_in b)
+    frames : frames_of_body d ≡ frames_after_return T.code value (frames_of_body b)
     frames = stack T.code (is_called p b next y program ready.is_next value op T.code (result_target_of (operation_of call.op)) (n.w ∷ n.ws)
         (next_callers ∙ n.are) (waits_for p b call y program n T.code s.code))
 
-    pub comes_back : is_exit g (drop 1 (frames_in b)) ≡ false → SettlesBy T g 1 c × BodyShows T p d (settled_by T g 1 c)
+    pub comes_back : is_exit g (drop 1 (frames_of_body b)) ≡ false → SettlesBy T g 1 c × BodyShows T p d (settled_by T g 1 c)
     comes_back = returns_shows T p b d g c next s ready rests value op owes belongs frames held
 
     pub comes_back_exit : (clock : ℕ) → BodyShows T p d (ending T.code c clock (Ended Exit))
     comes_back_exit = exit_shows T p b d g c next s ready rests value op owes belongs frames held
 
   -- from the first function
-  module _ (last : caller_place (frames_in b) ≡ None)
-      (stack : (code : Code) → IsCalledFor code None (frames_in b) → frames_in d ≡ after_return code value (frames_in b))
+  module _ (last : caller_place (frames_of_body b) ≡ None)
+      (stack : (code : Code) → IsCalledFor code None (frames_of_body b) → frames_of_body d ≡ frames_after_return code value (frames_of_body b))
       (queue : (h : Holder) (fills : List Fill) (slots : ℕ) → IsHoldingOf slots d.holding h fills
       → d.queue.duties ≡ map EndBase h.base ++ b.queue.duties) where
     owes_base : Stepped b d (caller_duties T.code c.frame.holder (bare_all z.ws))
     owes_base = owing (map EndBase c.frame.holder.base)
         (queue (record c.frame.holder { environments = below c.frame.holder.environments }) c.memory.fills T.sizes.regions held
         ∙ ap (λ l. map EndBase c.frame.holder.base ++ l) ready.queue ∙ append-nil (map EndBase c.frame.holder.base))
-        (ap (λ ws. caller_duties T.code c.frame.holder (bare_all ws)) (no_caller_below (frames_in b) last))
+        (ap (λ ws. caller_duties T.code c.frame.holder (bare_all ws)) (no_caller_below (frames_of_body b) last))
 
-    last_frames : frames_in d ≡ after_return T.code value (frames_in b)
+    last_frames : frames_of_body d ≡ frames_after_return T.code value (frames_of_body b)
     last_frames = stack T.code (is_called p b next y program ready.is_next value op T.code None []
-        (next_callers ∙ no_caller_below (frames_in b) last) tt)
+        (next_callers ∙ no_caller_below (frames_of_body b) last) tt)
 
-    pub ends : is_exit g (drop 1 (frames_in b)) ≡ false → SettlesBy T g 1 c × BodyShows T p d (settled_by T g 1 c)
+    pub ends : is_exit g (drop 1 (frames_of_body b)) ≡ false → SettlesBy T g 1 c × BodyShows T p d (settled_by T g 1 c)
     ends = returns_shows T p b d g c next s ready rests value op owes_base belongs last_frames held
 
     pub ends_exit : (clock : ℕ) → BodyShows T p d (ending T.code c clock (Ended Exit))
     ends_exit = exit_shows T p b d g c next s ready rests value op owes_base belongs last_frames held
 
 -- the room that was taken is enough
-pub room_enough : (p : CompactProgram) (b : Body) (call : Next) (y : IsPossible p b) (program : IsProgram p)
-    → IsNextOf p.code (drop 1 (frames_in b)) call → HasRoomBack p b
+pub room_enough : (p : CompactProgram) (b : Body) (call : Next) (y : BodyIsPossible p b) (program : IsCompactProgram p)
+    → IsNextOf p.code (drop 1 (frames_of_body b)) call → HasRoomBack p b
     → length (protects_in (slice_get call.function.body call.at)) + length (removes_at call) ≤ b.queue.room
 room_enough p b call y program n room =
     subst (λ k. k ≤ b.queue.room)
@@ -355,8 +355,8 @@ room_enough p b call y program n room =
     ∙ (λ i. length-map (protects_in (slice_get call.function.body call.at)) Unprotect i + length-map (removes_at call) Remove i))
     (room y.T y.c y.shows)
 
-pub base_room : (p : CompactProgram) (b d : Body) (next : Next) (y : IsPossible p b) (ready : IsReady p b next) (rests : b.side ≡ side.AtRest)
-    (value : Option ℕ) (op : operation_of next.op ≡ tac.Return value) → caller_place (frames_in b) ≡ None → HasRoomBack p b
+pub base_room : (p : CompactProgram) (b d : Body) (next : Next) (y : BodyIsPossible p b) (ready : BodyIsReady p b next) (rests : b.side ≡ side.AtRest)
+    (value : Option ℕ) (op : operation_of next.op ≡ tac.Return value) → caller_place (frames_of_body b) ≡ None → HasRoomBack p b
     → ((slots : ℕ) (h : Holder) (fills : List Fill) → IsHoldingOf slots b.holding h fills → top_protections h.environments ≡ []
     → IsHoldingOf slots d.holding (record h { environments = below h.environments }) fills)
     → HasBaseRoom d.holding b.queue.room
@@ -368,7 +368,7 @@ base_room p b d next y ready rests value op last room holding = (
       (unprotected y.T p b d y.goroutine y.c next y.shows ready rests y.here value op),
   subst (λ k. k ≤ b.queue.room)
       (ap (λ fs. length (caller_duties y.T.code y.c.frame.holder (bare_all fs)))
-      (ap (drop 1) y.shows.frames ∙ no_caller_below (frames_in b) last)
+      (ap (drop 1) y.shows.frames ∙ no_caller_below (frames_of_body b) last)
       ∙ length-map y.c.frame.holder.base EndBase)
       (room y.T y.c y.shows),
 )

@@ -5,11 +5,11 @@ use Rattle.rgo_sound.specs.Code.Code.{Branch, Call, Code, CodeOp, Do, Go, Jump, 
 use Rattle.rgo_sound.specs.Code.Erasure.{erased_op}
 use Rattle.rgo_core.specs.Core.{Setup}
 use Rattle.rgo_core.specs.Records.{Record, instructed, ticked}
-use Rattle.rgo_core.specs.Frames.Actions.{after_action}
-use Rattle.rgo_core.specs.Frames.Local.{local_op}
-use Rattle.rgo_core.specs.Frames.Operators.{computed}
-use Rattle.rgo_core.specs.Frames.WordFrames.{WordFrame, word_going, words_of}
-use Rattle.rgo_core_steps.proofs.After.{position_by}
+use Rattle.rgo_core.specs.Frames.steps.Actions.{after_action}
+use Rattle.rgo_core.specs.Frames.steps.Local.{local_op}
+use Rattle.rgo_core.specs.Frames.shown.Operators.{computed}
+use Rattle.rgo_core.specs.Frames.shown.WordFrames.{WordFrame, word_going, words_of}
+use Rattle.rgo_core_steps.proofs.record_steps.After.{position_by}
 use Rattle.rgo_core_steps.specs.After.{Position, acting, given}
 use Rattle.rgo_core_steps.specs.Seats.{SettlesBy, settled_by}
 use Rattle.rgo_sound.specs.Machine.Limits.{deepest}
@@ -17,7 +17,7 @@ use Rattle.rgo_stack.specs.Stacks.{words_from}
 use Rattle.rgo_sound.specs.Tac.Code as tac
 use Rattle.rgo_sound.specs.Tac.Ops.{operation_of}
 use Rattle.rgo_sound.specs.Typed.declared.actions.Action.{Action}
-use Rattle.rgo_body.specs.Bodies.{IsReady, frames_in}
+use Rattle.rgo_body.specs.Bodies.{BodyIsReady, frames_of_body}
 use Rattle.rgo_body.specs.Programs.{CompactProgram}
 use Rattle.rgo_body.specs.Shows.{BodyShows, SideShows}
 use Rattle.rgo_body.specs.declared.bodies.Body.{Body}
@@ -45,9 +45,9 @@ computes_to code w ws (Jump target removes) t a f word e does = cc
 computes_to code w ws (Branch test target removes other otherwise) t a f word e does = cc
 computes_to code w ws (Return value) t a f word e does = cc
 
-module _ (T : Setup) (p : CompactProgram) (b d : Body) (g : ℕ) (c : Record) (next : Next) (word : ℕ) (s : BodyShows T p b c) (ready : IsReady p b next)
+module _ (T : Setup) (p : CompactProgram) (b d : Body) (g : ℕ) (c : Record) (next : Next) (word : ℕ) (s : BodyShows T p b c) (ready : BodyIsReady p b next)
     (to : Option ℕ) (action : Action) (from : List ℕ) (op : operation_of next.op ≡ tac.Do to action from)
-    (does : computed action (words_from (frames_in b) from) ≡ Some word) (rests : b.side ≡ side.AtRest)
+    (does : computed action (words_from (frames_of_body b) from) ≡ Some word) (rests : b.side ≡ side.AtRest)
     (acted : BodyShows T p d (acting T.code c word)) where
   abbrev pub x : At T.code c next
   x = at T p b c next s ready.is_next
@@ -55,7 +55,7 @@ module _ (T : Setup) (p : CompactProgram) (b d : Body) (g : ℕ) (c : Record) (n
   none : c.frame.holder.duties ≡ []
   none = none_owed T p b c next s ready
 
-  words : words_from (frames_in b) from ≡ words_of x.w from
+  words : words_from (frames_of_body b) from ≡ words_of x.w from
   words = ap (λ fs. words_from fs from) (sym s.frames ∙ x.are)
 
   step : StepIs T g c (after_action T.code c.frame x.w x.ws x.instr (given x.instr.op) word)

@@ -6,29 +6,29 @@ use Rattle.std.specs.List.{list_any}
 use Rattle.rgo_sound.specs.Code.Code as code
 use Rattle.rgo_sound.specs.Code.Erasure.{erased_op}
 use Rattle.rgo_sound.specs.Code.Lists.{creates_in, passes_of, protects_of}
-use Rattle.rgo_core.specs.Core.{Here, Setup}
+use Rattle.rgo_core.specs.Core.{Situation, Setup}
 use Rattle.rgo_core.specs.Records.{ClockRec, Record, accessed}
 use Rattle.rgo_core_facts.proofs.ControlRegions.{nothing_kept}
 use Rattle.rgo_core_facts.specs.ControlDuties.{IsUnnamed}
 use Rattle.rgo_core_facts.specs.ControlRegions.{HasNothingOf}
-use Rattle.rgo_core.specs.Frames.WordFrames.{bare, bare_all}
+use Rattle.rgo_core.specs.Frames.shown.WordFrames.{bare, bare_all}
 use Rattle.rgo_core.specs.Memory.Records.{Fill, Within, page_of}
-use Rattle.rgo_core_steps.specs.Counts.{created, created_with}
+use Rattle.rgo_core_steps.specs.Counts.{created_in_slot, created_with}
 use Rattle.rgo_holding.specs.Changes as changes
 use Rattle.rgo_holding.specs.Holds.{IsHoldingOf}
 use Rattle.rgo_sound.specs.RegionMachine.Owed.{current, current_in, duties_before, duties_of_op, next_duties, regions_named}
 use Rattle.rgo_sound.specs.RegionMachine.States.{Create, Duty, Holder, Protect, Share}
-use Rattle.rgo_sound.specs.Stakes.{is_in, one_if, times_in}
+use Rattle.rgo_sound.specs.Stakes.{is_in, one_when, times_in}
 use Rattle.rgo_sound.specs.Tac.Code as tac
-use Rattle.rgo_body.specs.Bodies.{frames_in, owed}
+use Rattle.rgo_body.specs.Bodies.{frames_of_body, owed_by_body}
 use Rattle.rgo_body.specs.Nexts.{IsNextOf}
 use Rattle.rgo_body.specs.Programs.{CompactProgram}
 use Rattle.rgo_body.specs.Reserves.{PageReserve}
-use Rattle.rgo_body.specs.Shows.{IsMemoryCalm, IsPossible, BodyShows, SideShows}
+use Rattle.rgo_body.specs.Shows.{IsMemoryCalm, BodyIsPossible, BodyShows, SideShows}
 use Rattle.rgo_stack.specs.Stacks.{Belongs}
 use Rattle.rgo_sound.specs.RegionMachine.Counts.{Counts}
 use Rattle.rgo_holding.specs.declared.holding.Holding.{Holding}
-use Rattle.rgo_core.specs.Claims.{claims, reserves}
+use Rattle.rgo_core.specs.moves.Claims.{claims, reserves}
 use Rattle.rgo_core.specs.Memory.Records.{Idle, Rec as MemoryRec, with_claim}
 use Rattle.rgo_core_steps.specs.Making.{next_is_spread}
 use Rattle.rgo_pages.specs.Claiming.{has_claimed}
@@ -44,7 +44,7 @@ none_from : (slot : ℕ) (l : List ℕ) → times_in slot l ≡ 0 → list_any (
 none_from slot [] none = refl
 none_from slot (p ∷ l) none = by (none_from slot l) (nat_eq slot p) none
   where
-    by : (times_in slot l ≡ 0 → list_any (nat_eq slot) l ≡ false) → (t : Bool) → one_if t + times_in slot l ≡ 0
+    by : (times_in slot l ≡ 0 → list_any (nat_eq slot) l ≡ false) → (t : Bool) → one_when t + times_in slot l ≡ 0
         → (t || list_any (nat_eq slot) l) ≡ false
     by rest true none = absurd (omega (arith, none))
     by rest false none = rest (omega (arith, none))
@@ -57,8 +57,8 @@ no_page_from slot (f ∷ fills) others = by (no_page_from slot fills (λ g w. ot
     by rest true e = absurd (others f (0, refl) (sym (eq_of slot f.slot e)))
     by rest false e = rest
 
-is_new : (T : Setup) (g : ℕ) (c : Record) (slot : ℕ) → Here T g c → slot < T.sizes.regions → is_in slot c.frame.holder.stakes ≡ false
-    → changes.IsNew T.sizes.regions c.frame.holder c.memory.fills slot
+is_new : (T : Setup) (g : ℕ) (c : Record) (slot : ℕ) → Situation T g c → slot < T.sizes.regions → is_in slot c.frame.holder.stakes ≡ false
+    → changes.IsNewSlot T.sizes.regions c.frame.holder c.memory.fills slot
 is_new T g c slot here low out =
     let n : HasNothingOf c slot = nothing_kept T g c here slot low out in
     record {
@@ -71,13 +71,13 @@ is_new T g c slot here low out =
 
 -- ---- a region is created
 
-pub created_shows : (T : Setup) (p : CompactProgram) (b e : Body) (g : ℕ) (c : Record) (name slot : ℕ) (ds : List Duty) → Here T g c
+pub created_shows : (T : Setup) (p : CompactProgram) (b e : Body) (g : ℕ) (c : Record) (name slot : ℕ) (ds : List Duty) → Situation T g c
     → BodyShows T p b c → b.queue.duties ≡ Create name ∷ ds → e.queue.duties ≡ ds
     → e ≡ record b { queue = e.queue; holding = e.holding; counts = e.counts } → e.counts ≡ record b.counts { made = suc b.counts.made }
     → slot < T.sizes.regions → is_in slot c.frame.holder.stakes ≡ false
-    → ((slots : ℕ) (h : Holder) (fills : List Fill) → IsHoldingOf slots b.holding h fills → changes.IsNew slots h fills slot
+    → ((slots : ℕ) (h : Holder) (fills : List Fill) → IsHoldingOf slots b.holding h fills → changes.IsNewSlot slots h fills slot
     → IsHoldingOf slots e.holding (changes.creating h name slot) fills)
-    → BodyShows T p e (created c slot)
+    → BodyShows T p e (created_in_slot c slot)
 created_shows T p b e g c name slot ds here s queue done is counts low out creates =
     let owes = first T p b c (Create name) ds s queue in
     let h : Holder = record (changes.creating c.frame.holder name slot) { duties = ds ++ later p.code b } in
@@ -89,7 +89,7 @@ created_shows T p b e g c name slot ds here s queue done is counts low out creat
     (ap (λ (n : Counts). record n { made = suc n.made }) s.share ∙ sym counts) refl refl)
 
 -- some frame has its names
-pub names_exist : (p : CompactProgram) (b : Body) (name : ℕ) (y : IsPossible p b) → (ds : List Duty) × (b.queue.duties ≡ Create name ∷ ds)
+pub names_exist : (p : CompactProgram) (b : Body) (name : ℕ) (y : BodyIsPossible p b) → (ds : List Duty) × (b.queue.duties ≡ Create name ∷ ds)
     → 0 < length y.c.frame.holder.environments
 names_exist p b name y owes =
     let n : IsUnnamed y.c name = attended y.T p b y.c (Create name) owes.0 y.shows owes.1 y.goroutine y.here in
@@ -105,18 +105,18 @@ pub no_more : (ds : List Duty) → ds ++ [] ≡ ds
 no_more [] = refl
 no_more (d ∷ ds) = ap (λ l. d ∷ l) (no_more ds)
 
-pub expands : (p : CompactProgram) (b d : Body) (next : Next) (n : IsNextOf p.code (frames_in b) next) → b.queue.duties ≡ []
+pub expands : (p : CompactProgram) (b d : Body) (next : Next) (n : IsNextOf p.code (frames_of_body b) next) → b.queue.duties ≡ []
     → b.is_expanded ≡ false → d ≡ record b { queue = d.queue; is_expanded = true }
     → d.queue.duties ≡ map Create (creates_in (slice_get next.function.body next.at)) ++ duties_of_op n.instr.op
     → StillShows p b d
 expands p b d next n empty not_yet is queue T c s = record {
   code = s.code;
   belongs = subst (λ (x : Body). Belongs p.compact x.stack) (sym is) s.belongs;
-  frames = s.frames ∙ sym (ap frames_in is);
+  frames = s.frames ∙ sym (ap frames_of_body is);
   holds = subst (λ (x : Body). IsHoldingOf T.sizes.regions x.holding c.frame.holder c.memory.fills) (sym is) s.holds;
   reserved = s.reserved ∙ sym (ap (λ (x : Body). x.reserved.pages) is);
   owes = s.owes ∙ before ∙ sym queue ∙ sym (no_more d.queue.duties)
-      ∙ ap (λ t. d.queue.duties ++ (if t then [] else next_duties p.code (bare_all (frames_in d)))) (sym (ap (λ (x : Body). x.is_expanded) is));
+      ∙ ap (λ t. d.queue.duties ++ (if t then [] else next_duties p.code (bare_all (frames_of_body d)))) (sym (ap (λ (x : Body). x.is_expanded) is));
   side = subst (λ (x : Body). SideShows x.side c.side c.frame.holder.offer) (sym is) s.side;
   calm = s.calm;
   share = s.share ∙ sym (ap (λ (x : Body). x.counts) is);
@@ -127,9 +127,9 @@ expands p b d next n empty not_yet is queue T c s = record {
     instr : current p.code (bare n.w) ≡ Some n.instr
     instr = ap (λ o. current_in o n.w.next) n.in_fn ∙ ap (slice_get next.function.body) (sym n.at) ∙ n.is_instr
 
-    before : owed p.code b ≡ map Create (creates_in (slice_get next.function.body next.at)) ++ duties_of_op n.instr.op
-    before = ap (λ l. l ++ (if b.is_expanded then [] else next_duties p.code (bare_all (frames_in b)))) empty
-        ∙ ap (λ t. if t then [] else next_duties p.code (bare_all (frames_in b))) not_yet
+    before : owed_by_body p.code b ≡ map Create (creates_in (slice_get next.function.body next.at)) ++ duties_of_op n.instr.op
+    before = ap (λ l. l ++ (if b.is_expanded then [] else next_duties p.code (bare_all (frames_of_body b)))) empty
+        ∙ ap (λ t. if t then [] else next_duties p.code (bare_all (frames_of_body b))) not_yet
         ∙ ap (λ fs. next_duties p.code (bare_all fs)) n.are ∙ ap duties_before instr
         ∙ ap (λ o. map Create (creates_in o) ++ duties_of_op n.instr.op) (sym n.is_instr)
 
@@ -138,7 +138,7 @@ pub requeued : (p : CompactProgram) (b d : Body) → d ≡ record b { queue = d.
 requeued p b d is queue T c s = record {
   code = s.code;
   belongs = subst (λ (x : Body). Belongs p.compact x.stack) (sym is) s.belongs;
-  frames = s.frames ∙ sym (ap frames_in is);
+  frames = s.frames ∙ sym (ap frames_of_body is);
   holds = subst (λ (x : Body). IsHoldingOf T.sizes.regions x.holding c.frame.holder c.memory.fills) (sym is) s.holds;
   reserved = s.reserved ∙ sym (ap (λ (x : Body). x.reserved.pages) is);
   owes = s.owes ∙ ap (λ l. l ++ later p.code b) (sym queue) ∙ sym (ap (λ (x : Body). d.queue.duties ++ later p.code x) is);

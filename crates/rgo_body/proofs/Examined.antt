@@ -1,15 +1,15 @@
 -- The examples.
 use Rattle.std.proofs.Common.{◌≡◌, ℕ, List, [], ◌∷◌, Option, Some, None, inl, inr, refl, sym, ap, ◌∙◌, arith, pos}
-use Rattle.rgo_compact.specs.Examples.{small}
+use Rattle.rgo_compact.specs.Examples.{adding_code}
 use Rattle.rgo_compact.specs.Runs.{frame_at}
-use Rattle.rgo_core.specs.Frames.WordFrames.{WordFrame, bare}
+use Rattle.rgo_core.specs.Frames.shown.WordFrames.{WordFrame, bare}
 use Rattle.rgo_sound.specs.RegionMachine.Owed.{current}
 use Rattle.rgo_sound.specs.Code.Code.{CodeInstr}
 use Rattle.rgo_compact.specs.Operations.{constant}
 use Rattle.rgo_core.specs.Channels.Records.{Nowhere, Offering, Post}
 use Rattle.rgo_core.specs.Memory.Records.{Calm, Owes}
 use Rattle.rgo_sound.specs.RegionMachine.Counts.{Counts}
-use Rattle.rgo_sound.specs.RegionMachine.Examples.{plain}
+use Rattle.rgo_sound.specs.RegionMachine.Examples.{plain_instr}
 use Rattle.rgo_sound.specs.RegionMachine.States.{NoOffer, Standing}
 use Rattle.rgo_sound.specs.Tac.Code as tac
 use Rattle.rgo_sound.specs.Typed.declared.actions.Action.{Action}
@@ -132,7 +132,7 @@ examples = record {
 }
   where
     first_instr : CodeInstr
-    first_instr = plain (constant 1 (pos 5))
+    first_instr = plain_instr (constant 1 (pos 5))
 
     next_of : List WordFrame → ℕ
     next_of [] = 0
@@ -140,7 +140,7 @@ examples = record {
 
     current_of : List WordFrame → Option CodeInstr
     current_of [] = None
-    current_of (w ∷ ws) = current small (bare w)
+    current_of (w ∷ ws) = current adding_code (bare w)
 
     by_offer : Standing 0 ≡ NoOffer → ⊥
     by_offer e = cc

@@ -6,21 +6,21 @@ use Rattle.rgo_compact.specs.Functions.{CompactFn}
 use Rattle.rgo_core.specs.Core.{IsPossible as CanBe, Setup}
 use Rattle.rgo_core.specs.Records.{Record}
 use Rattle.rgo_core.specs.Channels.Records.{at_rest}
-use Rattle.rgo_core.specs.Frames.WordFrames.{bare_all}
+use Rattle.rgo_core.specs.Frames.shown.WordFrames.{bare_all}
 use Rattle.rgo_core.specs.Memory.Records.{Fill, Reserved}
 use Rattle.rgo_core.specs.Rule.Views.{Me, number_of}
 use Rattle.rgo_core_steps.specs.Seats.{HasOne, Settles, settled}
 use Rattle.rgo_holding.specs.Changes.{KnowsNone, EnvironmentsSettle as HoldingSettles}
 use Rattle.rgo_holding.specs.Holds.{IsHoldingOf}
 use Rattle.rgo_stack.proofs.Loop.Making.{as_many}
-use Rattle.rgo_stack.specs.Loop.Comes.{SeatComes, HasMade, IsBetween}
+use Rattle.rgo_stack.specs.Loop.Comes.{SeatComes, HasMade, IsBetweenInstrs}
 use Rattle.rgo_sound.specs.Machine.Limits.{deepest}
 use Rattle.rgo_sound.specs.RegionMachine.Counts.{Counts}
 use Rattle.rgo_sound.specs.RegionMachine.Owed.{next_duties}
 use Rattle.rgo_sound.specs.RegionMachine.States.{RegionEnvironment, Holder, NoOffer}
 use Rattle.rgo_stack.proofs.Frames.{as_deep}
-use Rattle.rgo_stack.specs.Stacks.{Belongs, BelongsAt, Stack, frames_at, frames_of}
-use Rattle.rgo_body.specs.Bodies.{frames_in}
+use Rattle.rgo_stack.specs.Stacks.{Belongs, BelongsAt, Stack, frames_at, frames_of_stack}
+use Rattle.rgo_body.specs.Bodies.{frames_of_body}
 use Rattle.rgo_body.specs.Programs.{CompactProgram}
 use Rattle.rgo_body.specs.Shows.{BodyShows, SideShows}
 use Rattle.rgo_body.specs.declared.bodies.Body.{Body}
@@ -29,10 +29,10 @@ use Rattle.rgo_body.specs.declared.bodies.Side.TheVariants as side
 use Rattle.rgo_body.proofs.Showing.{owes_next}
 
 -- a goroutine has as many frames as it may, or fewer
-pub few_frames : (fs : List CompactFn) (s : Stack) → Belongs fs s → length (frames_of s) ≤ deepest
+pub few_frames : (fs : List CompactFn) (s : Stack) → Belongs fs s → length (frames_of_stack s) ≤ deepest
 few_frames fs s belongs = by_at s.at refl
   where
-    by_at : (at : Option _) → s.at ≡ at → length (frames_of s) ≤ deepest
+    by_at : (at : Option _) → s.at ≡ at → length (frames_of_stack s) ≤ deepest
     by_at None e = subst (λ n. n ≤ deepest) (sym (ap (λ at. length (frames_at s.words s.callers at)) e)) (omega arith)
     by_at (Some p) e =
         let many = as_deep s s p e refl in
@@ -51,20 +51,20 @@ module _ (T : Setup) (p : CompactProgram) (b : Body) (m : Me Record) (q : ℕ) (
   known = subst (λ (x : Side). SideShows x (settled T q m).side (settled T q m).frame.holder.offer) rests s.side
 
   -- the goroutine whose record the body shows is between two instructions
-  pub is_between : HasOne T m → Settles T q m → CanBe T (number_of m) (settled T q m) → IsBetween T m q (frames_in b)
+  pub is_between : HasOne T m → Settles T q m → CanBe T (number_of m) (settled T q m) → IsBetweenInstrs T m q (frames_of_body b)
   is_between alone settles possible = record {
     alone = alone;
     settles = settles;
     possible = possible;
     are = s.frames;
-    owes = s.owes ∙ owes_next p.code b empty not_yet ∙ ap (λ code. next_duties code (bare_all (frames_in b))) (sym s.code);
+    owes = s.owes ∙ owes_next p.code b empty not_yet ∙ ap (λ code. next_duties code (bare_all (frames_of_body b))) (sym s.code);
     rests = known.0;
     free = known.1;
     few = few_frames p.compact b.stack s.belongs;
   }
 
-  module _ (d : Body) (w : Me Record) (r n kept depth : ℕ) (comes : SeatComes T m q w r (frames_in d) n kept)
-      (belongs : Belongs p.compact d.stack) (deep : depth ≡ length (frames_in d))
+  module _ (d : Body) (w : Me Record) (r n kept depth : ℕ) (comes : SeatComes T m q w r (frames_of_body d) n kept)
+      (belongs : Belongs p.compact d.stack) (deep : depth ≡ length (frames_of_body d))
       (is : d ≡ record b { stack = d.stack; holding = d.holding; counts = record b.counts { steps = b.counts.steps + n } })
       (settles : (es : List RegionEnvironment) → HoldingSettles kept depth (settled T q m).frame.holder.environments es
       → IsHoldingOf T.sizes.regions d.holding (record (settled T q m).frame.holder { environments = es }) (settled T q m).memory.fills) where
@@ -84,7 +84,7 @@ module _ (T : Setup) (p : CompactProgram) (b : Body) (m : Me Record) (q : ℕ) (
           before_is = environs.before_is;
           after_is = environs.after_is;
           kept_are = environs.many;
-          depth_is = as_many T w r (frames_in d) comes.between ∙ sym deep;
+          depth_is = as_many T w r (frames_of_body d) comes.between ∙ sym deep;
           unguarded = comes.made.unguarded;
           bare = bare_known environs.fresh environs.bare;
         }))
@@ -96,7 +96,7 @@ module _ (T : Setup) (p : CompactProgram) (b : Body) (m : Me Record) (q : ℕ) (
       frames = comes.between.are;
       holds = shown_holds;
       reserved = ap (λ (r : Reserved). r.pages) made.reserved ∙ s.reserved ∙ sym (ap (λ (x : Body). x.reserved.pages) is);
-      owes = comes.between.owes ∙ ap (λ code. next_duties code (bare_all (frames_in d))) s.code
+      owes = comes.between.owes ∙ ap (λ code. next_duties code (bare_all (frames_of_body d))) s.code
           ∙ sym (owes_next p.code d (ap (λ (x : Body). x.queue.duties) is ∙ empty) (ap (λ (x : Body). x.is_expanded) is ∙ not_yet));
       side = subst (λ (x : Side). SideShows x (settled T r w).side (settled T r w).frame.holder.offer)
           (sym (ap (λ (x : Body). x.side) is ∙ rests)) (comes.between.rests, comes.between.free);

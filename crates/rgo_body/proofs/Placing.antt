@@ -18,16 +18,16 @@ use Rattle.rgo_stack.specs.Places.{CanAdvance, FrameCanCall as StackCanCall, Can
 use Rattle.rgo_stack.specs.Stacks.{newest_word, newest_words, words_from}
 use Rattle.rgo_sound.specs.Tac.Code as tac
 use Rattle.rgo_sound.specs.Tac.Ops.{operation_of}
-use Rattle.rgo_body.specs.Bodies.{frames_in}
-use Rattle.rgo_body.specs.Nexts.{FollowsOn, IsNextOf, target_of}
-use Rattle.rgo_body.specs.Programs.{IsProgram, CompactProgram}
-use Rattle.rgo_body.specs.Shows.{IsPossible}
+use Rattle.rgo_body.specs.Bodies.{frames_of_body}
+use Rattle.rgo_body.specs.Nexts.{FollowsOn, IsNextOf, action_target}
+use Rattle.rgo_body.specs.Programs.{IsCompactProgram, CompactProgram}
+use Rattle.rgo_body.specs.Shows.{BodyIsPossible}
 use Rattle.rgo_body.specs.declared.bodies.Body.{Body}
 use Rattle.rgo_body.specs.declared.nexts.Next.{Next}
 use Rattle.rgo_body.proofs.Showing.{current_is}
 use Rattle.rgo_body.proofs.OpKinds.{branch_of, call_of, go_of, jump_of}
 
-target_written : (op : tac.Op) (d : ℕ) → target_of op ≡ Some d → writes op ≡ Some d
+target_written : (op : tac.Op) (d : ℕ) → action_target op ≡ Some d → writes op ≡ Some d
 target_written (tac.Do to action from) d e = e
 target_written (tac.Call to m from) d e = cc
 target_written (tac.Go m from) d e = cc
@@ -36,7 +36,7 @@ target_written (tac.Jump target) d e = cc
 target_written (tac.Branch test target other) d e = cc
 target_written (tac.Return value) d e = cc
 
-module _ (p : CompactProgram) (b : Body) (next : Next) (y : IsPossible p b) (program : IsProgram p) (n : IsNextOf p.code (frames_in b) next) where
+module _ (p : CompactProgram) (b : Body) (next : Next) (y : BodyIsPossible p b) (program : IsCompactProgram p) (n : IsNextOf p.code (frames_of_body b) next) where
   are : y.c.frame.frames ≡ n.w ∷ n.ws
   are = y.shows.frames ∙ n.are
 
@@ -68,14 +68,14 @@ module _ (p : CompactProgram) (b : Body) (next : Next) (y : IsPossible p b) (pro
 
   -- ---- it continues
 
-  written : (to : Option ℕ) → target_of (operation_of next.op) ≡ to → IsTarget (length n.w.variables) to
+  written : (to : Option ℕ) → action_target (operation_of next.op) ≡ to → IsTarget (length n.w.variables) to
   written None e = tt
   written (Some d) e = has_word d (inr (target_written (operation_of next.op) d e))
 
-  pub can_advance : FollowsOn (operation_of next.op) → CanAdvance p.compact (target_of (operation_of next.op)) (frames_in b)
+  pub can_advance : FollowsOn (operation_of next.op) → CanAdvance p.compact (action_target (operation_of next.op)) (frames_of_body b)
   can_advance follows =
-      subst (CanAdvance p.compact (target_of (operation_of next.op))) (sym n.are) (
-        written (target_of (operation_of next.op)) refl,
+      subst (CanAdvance p.compact (action_target (operation_of next.op))) (sym n.are) (
+        written (action_target (operation_of next.op)) refl,
         place (n.w.next + 1) (subst (λ i. i + 1 < length next.function.body) n.at
             (goes_on n.instr.op (subst FollowsOn (sym n.op) follows) followed)),
       )
@@ -97,10 +97,10 @@ module _ (p : CompactProgram) (b : Body) (next : Next) (y : IsPossible p b) (pro
 
   -- ---- it leads elsewhere
 
-  can_go_to : (target : ℕ) → target < length next.function.body → CanJump p.compact target (frames_in b)
+  can_go_to : (target : ℕ) → target < length next.function.body → CanJump p.compact target (frames_of_body b)
   can_go_to target low = subst (CanJump p.compact target) (sym n.are) (place target low)
 
-  pub can_jump : (target : ℕ) → operation_of next.op ≡ tac.Jump target → CanJump p.compact target (frames_in b)
+  pub can_jump : (target : ℕ) → operation_of next.op ≡ tac.Jump target → CanJump p.compact target (frames_of_body b)
   can_jump target op = can_go_to target (subst (IsFollowed next.function next.at) (jump_of n.instr.op target (n.op ∙ op)) followed)
 
   can_branch : (test target other : ℕ) → operation_of next.op ≡ tac.Branch test target other
@@ -109,15 +109,15 @@ module _ (p : CompactProgram) (b : Body) (next : Next) (y : IsPossible p b) (pro
       subst (IsFollowed next.function next.at) (branch_of n.instr.op test target other (n.op ∙ op)) followed
 
   pub can_go_on : (test target other : ℕ) → operation_of next.op ≡ tac.Branch test target other
-      → CanJump p.compact target (frames_in b)
+      → CanJump p.compact target (frames_of_body b)
   can_go_on test target other op = can_go_to target (can_branch test target other op).0
 
   pub can_turn : (test target other : ℕ) → operation_of next.op ≡ tac.Branch test target other
-      → CanJump p.compact other (frames_in b)
+      → CanJump p.compact other (frames_of_body b)
   can_turn test target other op = can_go_to other (can_branch test target other op).1
 
   pub has_test : (test target other : ℕ) → operation_of next.op ≡ tac.Branch test target other
-      → test < length (newest_words (frames_in b))
+      → test < length (newest_words (frames_of_body b))
   has_test test target other op =
       subst (λ fs. test < length (newest_words fs)) (sym n.are)
       (has_word test (subst (λ o. UsesVariable o test) (sym op) (inl (0, omega arith, refl))))
@@ -131,12 +131,12 @@ module _ (p : CompactProgram) (b : Body) (next : Next) (y : IsPossible p b) (pro
       (callees_exist p.code n.w.function next.at next.function n.instr program.checked n.in_fn n.is_instr)
 
   pub can_call : (to : Option ℕ) (f : ℕ) (from : List ℕ) → operation_of next.op ≡ tac.Call to f from
-      → StackCanCall p.compact f (length from) (frames_in b)
+      → StackCanCall p.compact f (length from) (frames_of_body b)
   can_call to f from op =
       let z = callee to f from op in
       subst (StackCanCall p.compact f (length from)) (sym n.are) (
         places.call p.code p.compact n.w n.instr to f from (passes_of n.instr.op) (protects_of n.instr.op) (removes_of n.instr.op)
-            program.compact (current_is p.code (frames_in b) next n) (call_of n.instr.op to f from (n.op ∙ op)),
+            program.compact (current_is p.code (frames_of_body b) next n) (call_of n.instr.op to f from (n.op ∙ op)),
         places.takes p.code p.compact f (length from) z.callee program.compact z.found
             (subst (λ k. k ≤ length z.callee.variables) (sym z.arguments) z.parameters),
       )
@@ -149,9 +149,9 @@ module _ (p : CompactProgram) (b : Body) (next : Next) (y : IsPossible p b) (pro
       (callees_exist p.code n.w.function next.at next.function n.instr program.checked n.in_fn n.is_instr)
 
   pub takes_started : (f : ℕ) (from : List ℕ) → operation_of next.op ≡ tac.Go f from
-      → FunctionTakes p.compact f (length (words_from (frames_in b) from))
+      → FunctionTakes p.compact f (length (words_from (frames_of_body b) from))
   takes_started f from op =
       let y = can_start f from op in
-      places.takes p.code p.compact f (length (words_from (frames_in b) from)) y.callee program.compact y.found
+      places.takes p.code p.compact f (length (words_from (frames_of_body b) from)) y.callee program.compact y.found
       (subst (λ k. k ≤ length y.callee.variables)
-      (sym (length-map from (newest_word (frames_in b)) ∙ y.arguments)) y.parameters)
+      (sym (length-map from (newest_word (frames_of_body b)) ∙ y.arguments)) y.parameters)

@@ -2,21 +2,21 @@
 use Rattle.std.proofs.Common.{◌≡◌, ◌≢◌, ◌++◌, ◌<◌, ◌||◌, ℕ, suc, Bool, true, false, List, [], ◌∷◌, Option, Some, None, refl, sym, ap, ◌∙◌, subst, if◌then◌else◌, map, slice_get, option_and_then, drop, true≢false}
 use Rattle.std.proofs.lemmas.Option.{same_Some, some_pair_parts}
 use Rattle.std.specs.List.{list_any}
-use Rattle.rgo_core.specs.Core.{Here, Setup}
+use Rattle.rgo_core.specs.Core.{Situation, Setup}
 use Rattle.rgo_core.specs.Records.{Record, accessed}
-use Rattle.rgo_core.specs.Regions.{leaves}
+use Rattle.rgo_core.specs.moves.Regions.{left_stake}
 use Rattle.rgo_core_facts.proofs.ControlDuties.{duties_at_end}
 use Rattle.rgo_core_facts.proofs.ControlRegions.{nothing_kept, stake_ends}
 use Rattle.rgo_core_facts.proofs.ControlSteps.{duty_laws}
 use Rattle.rgo_core_facts.specs.ControlDuties.{IsOfBase, IsUnprotected}
 use Rattle.rgo_core_facts.specs.ControlRegions.{HasNothingOf, IsStaked}
 use Rattle.rgo_core_facts.specs.ControlSteps.{IsNameOf, unbased, unnamed}
-use Rattle.rgo_core.specs.Frames.Local.{local_duty}
-use Rattle.rgo_core.specs.Frames.Stakes.{ended, stake_ended}
+use Rattle.rgo_core.specs.Frames.steps.Local.{local_duty}
+use Rattle.rgo_core.specs.Frames.regions.Stakes.{ended, stake_ended}
 use Rattle.rgo_core.specs.Memory.Records.{Fill, dropped, without_slot}
 use Rattle.rgo_core_steps.specs.Counts.{by_first, ending}
 use Rattle.rgo_holding.specs.Changes as changes
-use Rattle.rgo_holding.specs.Holds.{IsHoldingOf, region_at}
+use Rattle.rgo_holding.specs.Holds.{IsHoldingOf, region_of_key}
 use Rattle.rgo_holding.specs.declared.holding.Holding.{Holding}
 use Rattle.rgo_holding.specs.declared.keys.Key.{Key}
 use Rattle.rgo_sound.specs.RegionMachine.Duties.{guards}
@@ -29,7 +29,7 @@ use Rattle.rgo_sound.specs.Stakes.{is_in}
 use Rattle.rgo_body.specs.Duties.{DoesLocal, Forgets, StakeHasEnded, LeavesIn, OwesFirst, is_kept}
 use Rattle.rgo_body.specs.Programs.{CompactProgram}
 use Rattle.rgo_body.specs.Queues.{duty_of}
-use Rattle.rgo_body.specs.Shows.{IsPossible, BodyShows}
+use Rattle.rgo_body.specs.Shows.{BodyIsPossible, BodyShows}
 use Rattle.rgo_body.specs.declared.bodies.Body.{Body}
 use Rattle.rgo_body.specs.declared.bodies.Side.TheVariants as side
 use Rattle.rgo_body.specs.declared.queues.Duty.{Duty as DutyOf}
@@ -67,7 +67,7 @@ first_end r q ds (s ∷ base) rest e is = let a : s ≡ q = base_head s q base r
     number e = cc
 
 -- the first region of the base is the one whose protection ends
-pub its_base : (T : Setup) (g : ℕ) (c : Record) (r q : Region) (ds : List Duty) (rest : List Region) → Here T g c
+pub its_base : (T : Setup) (g : ℕ) (c : Record) (r q : Region) (ds : List Duty) (rest : List Region) → Situation T g c
     → c.frame.holder.duties ≡ EndBase r ∷ ds → IsOfBase T c r → c.frame.holder.base ≡ q ∷ rest → q ≡ r
 its_base T g c r q ds rest here owed a is =
     first_end r q ds c.frame.holder.base rest (sym owed ∙ duties_at_end T g c here a.frames) is
@@ -97,7 +97,7 @@ not_kept base es (Numbered q) l = record { slot = q; is = refl }
 module _ (p : CompactProgram) (b e : Body) (name : ℕ) (key : Key) (keyed : IsKeyOf b.holding (Some key) name) where
   abbrev pub TellsKept : Bool → Type 0
   TellsKept kept = (slots : ℕ) (h : Holder) (fills : List Fill) (r : Region) → IsHoldingOf slots b.holding h fills
-      → region_at b.holding key ≡ Some r → kept ≡ is_kept h.base h.environments r
+      → region_of_key b.holding key ≡ Some r → kept ≡ is_kept h.base h.environments r
 
   pub removes_none : (ds : List Duty) (queue : b.queue.duties ≡ Remove name ∷ ds) (done : e.queue.duties ≡ ds)
       (is : e ≡ record b { queue = e.queue; holding = e.holding; counts = e.counts }) → b.side ≡ side.AtRest → e.counts ≡ b.counts
@@ -115,14 +115,14 @@ module _ (p : CompactProgram) (b e : Body) (name : ℕ) (key : Key) (keyed : IsK
         holds = holds T.sizes.regions c.frame.holder c.memory.fills s.holds;
       })
 
-  pub leaves_in : (ds : List Duty) → b.queue.duties ≡ Remove name ∷ ds → IsPossible p b → TellsKept false → LeavesIn p b key
+  pub leaves_in : (ds : List Duty) → b.queue.duties ≡ Remove name ∷ ds → BodyIsPossible p b → TellsKept false → LeavesIn p b key
   leaves_in ds queue possible kept =
       let n0 : IsUnprotected possible.T possible.c name =
       attended possible.T p b possible.c (Remove name) ds possible.shows queue possible.goroutine possible.here in
       let r0 = its_region p b e name key keyed possible.T possible.c possible.shows n0.named in
       let u = not_kept possible.c.frame.holder.base possible.c.frame.holder.environments n0.named.region
       (sym (kept possible.T.sizes.regions possible.c.frame.holder possible.c.memory.fills n0.named.region possible.shows.holds r0)) in
-      let at : region_at b.holding key ≡ Some (Numbered u.slot) = r0 ∙ ap Some u.is in
+      let at : region_of_key b.holding key ≡ Some (Numbered u.slot) = r0 ∙ ap Some u.is in
       record {
         slot = u.slot;
         region = at;
@@ -143,20 +143,20 @@ module _ (p : CompactProgram) (b e : Body) (name : ℕ) (key : Key) (keyed : IsK
 -- the key of the first region of the base, whatever the record
 abbrev pub IsFirstBase : Holding → Key → Type 0
 IsFirstBase H key = (slots : ℕ) (h : Holder) (fills : List Fill) → IsHoldingOf slots H h fills
-    → (r : Region) × (rest : List Region) × (region_at H key ≡ Some r) × (h.base ≡ r ∷ rest)
+    → (r : Region) × (rest : List Region) × (region_of_key H key ≡ Some r) × (h.base ≡ r ∷ rest)
 
 module _ (p : CompactProgram) (b e : Body) (region : Region) (key : Key) (keyed : IsFirstBase b.holding key) where
   abbrev pub TellsKeptBase : Bool → Type 0
   TellsKeptBase kept = (slots : ℕ) (h : Holder) (fills : List Fill) (r : Region) (rest : List Region) → IsHoldingOf slots b.holding h fills
-      → region_at b.holding key ≡ Some r → h.base ≡ r ∷ rest → kept ≡ is_kept rest h.environments r
+      → region_of_key b.holding key ≡ Some r → h.base ≡ r ∷ rest → kept ≡ is_kept rest h.environments r
 
   -- what the first region of the base is, whatever the record
   record FirstOf (T : Setup) (c : Record) : Type 0 where
     rest : List Region
-    at : region_at b.holding key ≡ Some region
+    at : region_of_key b.holding key ≡ Some region
     base : c.frame.holder.base ≡ region ∷ rest
 
-  first_of_base : (ds : List Duty) → b.queue.duties ≡ EndBase region ∷ ds → (T : Setup) (g : ℕ) (c : Record) → Here T g c
+  first_of_base : (ds : List Duty) → b.queue.duties ≡ EndBase region ∷ ds → (T : Setup) (g : ℕ) (c : Record) → Situation T g c
       → BodyShows T p b c → FirstOf T c
   first_of_base ds queue T g c here s =
       let a : IsOfBase T c region = attended T p b c (EndBase region) ds s queue g here in
@@ -195,7 +195,7 @@ module _ (p : CompactProgram) (b e : Body) (region : Region) (key : Key) (keyed 
       ∙ duty_laws.end_last h slot (ap (λ r. is_kept (removed_once r h.base) h.environments r) (sym is) ∙ l)
       ∙ ap (λ r. Some (slot, record (unbased h r) { stakes = without slot h.stakes })) (sym is)
 
-  pub base_leaves_in : (ds : List Duty) → b.queue.duties ≡ EndBase region ∷ ds → IsPossible p b → TellsKeptBase false → LeavesIn p b key
+  pub base_leaves_in : (ds : List Duty) → b.queue.duties ≡ EndBase region ∷ ds → BodyIsPossible p b → TellsKeptBase false → LeavesIn p b key
   base_leaves_in ds queue possible kept =
       let f0 = first_of_base ds queue possible.T possible.goroutine possible.c possible.here possible.shows in
       let u = not_kept (removed_once region possible.c.frame.holder.base) possible.c.frame.holder.environments region
@@ -212,7 +212,7 @@ module _ (p : CompactProgram) (b e : Body) (region : Region) (key : Key) (keyed 
             );
       }
 
-pub no_first_base : (p : CompactProgram) (b : Body) (region : Region) → IsPossible p b → OwesFirst b (EndBase region)
+pub no_first_base : (p : CompactProgram) (b : Body) (region : Region) → BodyIsPossible p b → OwesFirst b (EndBase region)
     → ((slots : ℕ) (h : Holder) (fills : List Fill) → IsHoldingOf slots b.holding h fills → h.base ≡ []) → ⊥
 no_first_base p b region possible owes none =
     let a : IsOfBase possible.T possible.c region =
@@ -245,7 +245,7 @@ ended_is h (Numbered q) slot k e = by (guards h.base h.environments (Numbered q)
 -- nothing is left of the slot
 unnamed_from : (slot : ℕ) (es : List RegionEnvironment)
     → ((i : ℕ) (e : RegionEnvironment) → slice_get es i ≡ Some e → (k : ℕ) → bound e.names k ≢ Some (Numbered slot))
-    → changes.IsUnnamed (Numbered slot) es
+    → changes.IsUnboundRegion (Numbered slot) es
 unnamed_from slot [] none = tt
 unnamed_from slot (e ∷ es) none = (none 0 e refl, unnamed_from slot es (λ i f at. none (suc i) f at))
 
@@ -266,18 +266,18 @@ unknown_from c slot n = record {
 pub staked_slot : (T : Setup) (c : Record) (r : Region) (slot : ℕ) → IsStaked T c r → r ≡ Numbered slot → slot < T.sizes.regions
 staked_slot T c r slot st is = (subst (IsStaked T c) is st).1
 
-module _ (T : Setup) (p : CompactProgram) (b d : Body) (g : ℕ) (c x : Record) (slot : ℕ) (k : Holder) (here : Here T g c) (s : BodyShows T p b c)
-    (ends : ending c ≡ Some (slot, k)) (there : Here T g x) (same : x.frame ≡ (leaves c k slot).frame)
+module _ (T : Setup) (p : CompactProgram) (b d : Body) (g : ℕ) (c x : Record) (slot : ℕ) (k : Holder) (here : Situation T g c) (s : BodyShows T p b c)
+    (ends : ending c ≡ Some (slot, k)) (there : Situation T g x) (same : x.frame ≡ (left_stake c k slot).frame)
     (ds : List Duty) (done : d.queue.duties ≡ ds)
     (is : d ≡ record b { queue = d.queue; holding = d.holding; counts = d.counts }) (counts : d.counts ≡ b.counts) where
   -- the holding after names and protections are as the duty leaves them, of which the entry of the slot is then given up
-  module _ (mid : Holding) (key : Key) (at : region_at mid key ≡ Some (Numbered slot))
-      (gives : (slots : ℕ) (h : Holder) (fills : List Fill) (q : ℕ) → IsHoldingOf slots mid h fills → region_at mid key ≡ Some (Numbered q)
-      → changes.IsUnknown h q → IsHoldingOf slots d.holding (changes.ending h q) (dropped q fills)) where
+  module _ (mid : Holding) (key : Key) (at : region_of_key mid key ≡ Some (Numbered slot))
+      (gives : (slots : ℕ) (h : Holder) (fills : List Fill) (q : ℕ) → IsHoldingOf slots mid h fills → region_of_key mid key ≡ Some (Numbered q)
+      → changes.IsUnknown h q → IsHoldingOf slots d.holding (changes.ending_stake h q) (dropped q fills)) where
     shows_after : (first_duty : Duty) (queue : b.queue.duties ≡ first_duty ∷ ds) (h : Holder)
         → k ≡ record h { stakes = without slot h.stakes } → h.duties ≡ ds ++ later p.code b → h.offer ≡ c.frame.holder.offer
         → slot < T.sizes.regions
-        → IsHoldingOf T.sizes.regions mid h c.memory.fills → BodyShows T p d (leaves c k slot)
+        → IsHoldingOf T.sizes.regions mid h c.memory.fills → BodyShows T p d (left_stake c k slot)
     shows_after first_duty queue h after duties offer low holds =
         let out : is_in slot k.stakes ≡ false = stake_ends c slot k ends in
         let holder : x.frame.holder ≡ k = ap (λ (f : _). f.holder) same in
@@ -295,7 +295,7 @@ module _ (T : Setup) (p : CompactProgram) (b d : Body) (g : ℕ) (c x : Record) 
     first_ends first_duty queue = sym (ap (by_first stake_ended c.frame.holder) (first T p b c first_duty ds s queue)) ∙ ends
 
     pub leaves_shows : (first_duty : DutyOf) (queue : b.queue.duties ≡ duty_of first_duty ∷ ds)
-        → Forgets b.holding mid first_duty → BodyShows T p d (leaves c k slot)
+        → Forgets b.holding mid first_duty → BodyShows T p d (left_stake c k slot)
     leaves_shows (duty.Remove name) queue forgets =
         let n : IsUnprotected T c name = attended T p b c (Remove name) ds s queue g here in
         let h : Holder = unnamed (record c.frame.holder { duties = ds ++ later p.code b }) name in
@@ -334,8 +334,8 @@ pub leaves_after : (p : CompactProgram) (b d : Body) (key : Key) (l : LeavesIn p
     → d ≡ record b { queue = d.queue; holding = d.holding; counts = d.counts } → d.counts ≡ b.counts
     → (f : DutyOf) → (others : List Duty) × (b.queue.duties ≡ duty_of f ∷ others)
     → Forgets b.holding mid f → changes.SameRegions b.holding mid
-    → ((slots : ℕ) (h : Holder) (fills : List Fill) (q : ℕ) → IsHoldingOf slots mid h fills → region_at mid key ≡ Some (Numbered q)
-    → changes.IsUnknown h q → IsHoldingOf slots d.holding (changes.ending h q) (dropped q fills))
+    → ((slots : ℕ) (h : Holder) (fills : List Fill) (q : ℕ) → IsHoldingOf slots mid h fills → region_of_key mid key ≡ Some (Numbered q)
+    → changes.IsUnknown h q → IsHoldingOf slots d.holding (changes.ending_stake h q) (dropped q fills))
     → StakeHasEnded p b d
 leaves_after p b d key l duty_now ds mid queue done is counts f first_duty forgets regions gives T g c x slot k here s ends there same =
     let z = l.ends T g c here s in

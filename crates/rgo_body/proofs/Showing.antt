@@ -6,8 +6,8 @@ use Rattle.rgo_sound.specs.Code.Erasure.{erased_op}
 use Rattle.rgo_sound.specs.Code.Lists.{otherwise_in, otherwise_of, passes_in, passes_of, protects_in, protects_of, removes_in, removes_of}
 use Rattle.rgo_core.specs.Core.{Setup}
 use Rattle.rgo_core.specs.Records.{ClockRec, Record}
-use Rattle.rgo_core.specs.Channels.Records.{Rec as SideRec}
-use Rattle.rgo_core.specs.Frames.WordFrames.{WordFrame, bare, bare_all, word_going}
+use Rattle.rgo_core.specs.Channels.Records.{ChannelRec as SideRec}
+use Rattle.rgo_core.specs.Frames.shown.WordFrames.{WordFrame, bare, bare_all, word_going}
 use Rattle.rgo_core.specs.Memory.Records.{Fill, Rec as MemoryRec}
 use Rattle.rgo_core_steps.specs.After.{given}
 use Rattle.rgo_holding.specs.Holds.{IsHoldingOf}
@@ -15,11 +15,11 @@ use Rattle.rgo_holding.specs.declared.holding.Holding.{Holding}
 use Rattle.rgo_sound.specs.RegionMachine.Instructions.{holder_after}
 use Rattle.rgo_sound.specs.RegionMachine.Owed.{current, current_in, code_function, next_duties}
 use Rattle.rgo_sound.specs.RegionMachine.States.{Duty, Holder, Offer, Remove}
-use Rattle.rgo_stack.specs.Stacks.{Belongs, Stack, frames_of}
+use Rattle.rgo_stack.specs.Stacks.{Belongs, Stack, frames_of_stack}
 use Rattle.rgo_stack.specs.Steps.{after_word}
 use Rattle.rgo_sound.specs.Tac.Ops.{operation_of}
-use Rattle.rgo_body.specs.Bodies.{IsReady, frames_in, owed}
-use Rattle.rgo_body.specs.Nexts.{IsDo, IsGo, IsNextOf, IsPrint, removes_at, target_of}
+use Rattle.rgo_body.specs.Bodies.{BodyIsReady, frames_of_body, owed_by_body}
+use Rattle.rgo_body.specs.Nexts.{IsDo, IsGoOp, IsNextOf, IsPrint, removes_at, action_target}
 use Rattle.rgo_body.specs.Programs.{CompactProgram}
 use Rattle.rgo_body.specs.Queues.{Queue}
 use Rattle.rgo_body.specs.Shows.{IsMemoryCalm, LikeShown, BodyShows, SideShows}
@@ -53,7 +53,7 @@ like_shown T p b c d s like = record {
 
 -- a body that has taken memory shows what it showed
 pub stays_shows : (T : Setup) (p : CompactProgram) (b : Body) (c : Record) (stack : Stack) (holding : Holding) (queue : Queue) → BodyShows T p b c
-    → frames_of stack ≡ frames_in b → Belongs p.compact stack → queue.duties ≡ b.queue.duties
+    → frames_of_stack stack ≡ frames_of_body b → Belongs p.compact stack → queue.duties ≡ b.queue.duties
     → IsHoldingOf T.sizes.regions holding c.frame.holder c.memory.fills
     → BodyShows T p (record b { stack = stack; holding = holding; queue = queue }) c
 stays_shows T p b c stack holding queue s frames belongs same holds = record {
@@ -63,7 +63,7 @@ stays_shows T p b c stack holding queue s frames belongs same holds = record {
   holds = holds;
   reserved = s.reserved;
   owes = s.owes
-      ∙ ap (λ l. l ++ (if b.is_expanded then [] else next_duties p.code (bare_all (frames_in b)))) (sym same)
+      ∙ ap (λ l. l ++ (if b.is_expanded then [] else next_duties p.code (bare_all (frames_of_body b)))) (sym same)
       ∙ ap (λ fs. queue.duties ++ (if b.is_expanded then [] else next_duties p.code (bare_all fs))) (sym frames);
   side = s.side;
   calm = s.calm;
@@ -99,14 +99,14 @@ pub current_is : (code : Code) (frames : List WordFrame) (next : Next) (n : IsNe
 current_is code frames next n =
     ap (λ f. current_in f n.w.next) n.in_fn ∙ ap (slice_get next.function.body) (sym n.at) ∙ n.is_instr
 
-pub at : (T : Setup) (p : CompactProgram) (b : Body) (c : Record) (next : Next) → BodyShows T p b c → IsNextOf p.code (frames_in b) next
+pub at : (T : Setup) (p : CompactProgram) (b : Body) (c : Record) (next : Next) → BodyShows T p b c → IsNextOf p.code (frames_of_body b) next
     → At T.code c next
 at T p b c next s n = record {
   w = n.w;
   ws = n.ws;
   are = s.frames ∙ n.are;
   instr = n.instr;
-  cur = ap (λ code. current code (bare n.w)) s.code ∙ current_is p.code (frames_in b) next n;
+  cur = ap (λ code. current code (bare n.w)) s.code ∙ current_is p.code (frames_of_body b) next n;
   op = n.op;
   removes = sym (ap removes_in n.is_instr);
   in_fn = ap (λ code. code_function code n.w.function) s.code ∙ n.in_fn;
@@ -115,7 +115,7 @@ at T p b c next s n = record {
   otherwise = sym (ap otherwise_in n.is_instr);
 }
 
-pub given_is : (op : CodeOp) → given op ≡ target_of (erased_op op)
+pub given_is : (op : CodeOp) → given op ≡ action_target (erased_op op)
 given_is (Do to action from removes) = refl
 given_is (Call to n from passes protects removes) = refl
 given_is (Go n from passes removes) = refl
@@ -126,21 +126,21 @@ given_is (Return value) = refl
 
 -- what a body owes whose duties are these, and that has not looked at its next instruction yet
 pub owes_first : (code : Code) (b : Body) (ds : List Duty) → b.queue.duties ≡ ds → b.is_expanded ≡ false
-    → owed code b ≡ ds ++ next_duties code (bare_all (frames_in b))
+    → owed_by_body code b ≡ ds ++ next_duties code (bare_all (frames_of_body b))
 owes_first code b ds queue not_yet =
-    ap (λ l. l ++ (if b.is_expanded then [] else next_duties code (bare_all (frames_in b)))) queue
-    ∙ ap (λ e. ds ++ (if e then [] else next_duties code (bare_all (frames_in b)))) not_yet
+    ap (λ l. l ++ (if b.is_expanded then [] else next_duties code (bare_all (frames_of_body b)))) queue
+    ∙ ap (λ e. ds ++ (if e then [] else next_duties code (bare_all (frames_of_body b)))) not_yet
 
 pub owes_next : (code : Code) (b : Body) → b.queue.duties ≡ [] → b.is_expanded ≡ false
-    → owed code b ≡ next_duties code (bare_all (frames_in b))
+    → owed_by_body code b ≡ next_duties code (bare_all (frames_of_body b))
 owes_next code b empty not_yet = owes_first code b [] empty not_yet
 
-pub none_owed : (T : Setup) (p : CompactProgram) (b : Body) (c : Record) (next : Next) → BodyShows T p b c → IsReady p b next
+pub none_owed : (T : Setup) (p : CompactProgram) (b : Body) (c : Record) (next : Next) → BodyShows T p b c → BodyIsReady p b next
     → c.frame.holder.duties ≡ []
 none_owed T p b c next s ready =
     s.owes
-    ∙ ap (λ l. l ++ (if b.is_expanded then [] else next_duties p.code (bare_all (frames_in b)))) ready.queue
-    ∙ ap (λ e. if e then [] else next_duties p.code (bare_all (frames_in b))) ready.expanded
+    ∙ ap (λ l. l ++ (if b.is_expanded then [] else next_duties p.code (bare_all (frames_of_body b)))) ready.queue
+    ∙ ap (λ e. if e then [] else next_duties p.code (bare_all (frames_of_body b))) ready.expanded
 
 -- what an action or a print leaves of the holder
 pub behind : (code : Code) (h : Holder) (w : WordFrame) (ws : List WordFrame) (op : CodeOp) (next : List _)
@@ -161,7 +161,7 @@ behind code h w ws (Return value) next (inr k) = cc
 
 -- and a start
 pub behind_go : (code : Code) (h : Holder) (w : WordFrame) (ws : List WordFrame) (op : CodeOp) (next : List _)
-    → IsGo (erased_op op)
+    → IsGoOp (erased_op op)
     → holder_after code h (bare w) (bare_all ws) op next
     ≡ record h { pending = []; duties = map Remove (removes_of op) ++ next_duties code next }
 behind_go code h w ws (Go n from passes removes) next k = refl
@@ -175,16 +175,16 @@ behind_go code h w ws (Return value) next k = cc
 -- what a body owes that has gone on
 pub owed_behind : (p : CompactProgram) (b m : Body) (after : List WordFrame → List WordFrame) (removes : List ℕ)
     → BodyContinues p b m after removes → b.queue.duties ≡ []
-    → owed p.code m ≡ map Remove removes ++ next_duties p.code (bare_all (frames_in m))
+    → owed_by_body p.code m ≡ map Remove removes ++ next_duties p.code (bare_all (frames_of_body m))
 owed_behind p b m after removes goes none =
-    ap (λ e. m.queue.duties ++ (if e then [] else next_duties p.code (bare_all (frames_in m)))) (ap (λ (x : Body). x.is_expanded) goes.rest)
-    ∙ ap (λ ds. ds ++ next_duties p.code (bare_all (frames_in m)))
+    ap (λ e. m.queue.duties ++ (if e then [] else next_duties p.code (bare_all (frames_of_body m)))) (ap (λ (x : Body). x.is_expanded) goes.rest)
+    ∙ ap (λ ds. ds ++ next_duties p.code (bare_all (frames_of_body m)))
     (goes.queue ∙ ap (λ ds. map Remove removes ++ ds) none ∙ append-nil (map Remove removes))
 
 -- ---- one that goes on. Its counts, and what it knows of channels, are d's.
 
-module _ (T : Setup) (p : CompactProgram) (b m : Body) (c : Record) (next : Next) (word : ℕ) (s : BodyShows T p b c) (ready : IsReady p b next)
-    (goes : BodyContinues p b m (after_word (target_of (operation_of next.op)) word) (removes_at next)) where
+module _ (T : Setup) (p : CompactProgram) (b m : Body) (c : Record) (next : Next) (word : ℕ) (s : BodyShows T p b c) (ready : BodyIsReady p b next)
+    (goes : BodyContinues p b m (after_word (action_target (operation_of next.op)) word) (removes_at next)) where
   abbrev pub x : At T.code c next
   x = at T p b c next s ready.is_next
 
@@ -194,17 +194,17 @@ module _ (T : Setup) (p : CompactProgram) (b m : Body) (c : Record) (next : Next
   abbrev pub duties : List Duty
   duties = map Remove (removes_of x.instr.op) ++ next_duties T.code (bare_all frames)
 
-  frames_are : frames ≡ frames_in m
+  frames_are : frames ≡ frames_of_body m
   frames_are =
-      ap (λ to. word_going x.w to word ∷ x.ws) (given_is x.instr.op ∙ ap target_of x.op)
-      ∙ sym (goes.frames ∙ ap (after_word (target_of (operation_of next.op)) word) (sym s.frames ∙ x.are))
+      ap (λ to. word_going x.w to word ∷ x.ws) (given_is x.instr.op ∙ ap action_target x.op)
+      ∙ sym (goes.frames ∙ ap (after_word (action_target (operation_of next.op)) word) (sym s.frames ∙ x.are))
 
-  owes : duties ≡ owed p.code m
+  owes : duties ≡ owed_by_body p.code m
   owes =
       ap (λ code. map Remove (removes_of x.instr.op) ++ next_duties code (bare_all frames)) s.code
       ∙ ap (λ fs. map Remove (removes_of x.instr.op) ++ next_duties p.code (bare_all fs)) frames_are
-      ∙ ap (λ ks. map Remove ks ++ next_duties p.code (bare_all (frames_in m))) x.removes
-      ∙ sym (owed_behind p b m (after_word (target_of (operation_of next.op)) word) (removes_at next) goes ready.queue)
+      ∙ ap (λ ks. map Remove ks ++ next_duties p.code (bare_all (frames_of_body m))) x.removes
+      ∙ sym (owed_behind p b m (after_word (action_target (operation_of next.op)) word) (removes_at next) goes ready.queue)
 
   -- the record after it, with clock k, this holder but for its duties, memory and knowledge of channels
   abbrev pub gone : ClockRec → Holder → MemoryRec → SideRec → Record
@@ -222,13 +222,13 @@ module _ (T : Setup) (p : CompactProgram) (b m : Body) (c : Record) (next : Next
   gone_shows k h memory side d stack queue expanded holds side_shows calm reserved share prints refused = record {
     code = s.code;
     belongs = subst (Belongs p.compact) (sym stack) goes.belongs;
-    frames = frames_are ∙ ap frames_of (sym stack);
+    frames = frames_are ∙ ap frames_of_stack (sym stack);
     holds = holds;
     reserved = reserved;
     owes = owes
-        ∙ ap (λ (q : _). q.duties ++ (if m.is_expanded then [] else next_duties p.code (bare_all (frames_in m)))) (sym queue)
-        ∙ ap (λ e. d.queue.duties ++ (if e then [] else next_duties p.code (bare_all (frames_in m)))) (sym expanded)
-        ∙ ap (λ st. d.queue.duties ++ (if d.is_expanded then [] else next_duties p.code (bare_all (frames_of st)))) (sym stack);
+        ∙ ap (λ (q : _). q.duties ++ (if m.is_expanded then [] else next_duties p.code (bare_all (frames_of_body m)))) (sym queue)
+        ∙ ap (λ e. d.queue.duties ++ (if e then [] else next_duties p.code (bare_all (frames_of_body m)))) (sym expanded)
+        ∙ ap (λ st. d.queue.duties ++ (if d.is_expanded then [] else next_duties p.code (bare_all (frames_of_stack st)))) (sym stack);
     side = side_shows;
     calm = calm;
     share = share;

@@ -6,12 +6,12 @@ use Rattle.rgo_sound.specs.Code.Checked.{IsChecked}
 use Rattle.rgo_sound.specs.Code.Code.{Code, CodeFn, CodeOp, Go}
 use Rattle.rgo_core.specs.Core.{Setup}
 use Rattle.rgo_core.specs.Laws.{child_of}
-use Rattle.rgo_core.specs.Next.{IsAt}
-use Rattle.rgo_core.specs.Opening.{first_of, main_words}
+use Rattle.rgo_core.specs.Next.{IsAtOp}
+use Rattle.rgo_core.specs.runs.Opening.{first_of, main_words}
 use Rattle.rgo_core.specs.Records.{Record}
 use Rattle.rgo_core.specs.Channels.Records.{at_rest}
-use Rattle.rgo_core.specs.Frames.WordFrames.{bare_all, word_called, words_of}
-use Rattle.rgo_core_steps.proofs.After.{child_is}
+use Rattle.rgo_core.specs.Frames.shown.WordFrames.{bare_all, word_called, words_of}
+use Rattle.rgo_core_steps.proofs.record_steps.After.{child_is}
 use Rattle.rgo_core_steps.specs.After.{child}
 use Rattle.rgo_holding.specs.Holds.{IsHoldingOf}
 use Rattle.rgo_holding.specs.Passing.{AreRegionsPassed, ChildHoldingBegins}
@@ -24,9 +24,9 @@ use Rattle.rgo_sound.specs.RegionMachine.declared.regions.Region.{Region}
 use Rattle.rgo_sound.specs.RegionMachine.declared.regions.Region.TheVariants.{Global as GlobalRegion, Numbered}
 use Rattle.rgo_sound.proofs.steps.Each.{main_of}
 use Rattle.rgo_sound.specs.Stakes.{is_in}
-use Rattle.rgo_stack.specs.Stacks.{Belongs, Stack, frames_of}
+use Rattle.rgo_stack.specs.Stacks.{Belongs, Stack, frames_of_stack}
 use Rattle.rgo_sound.specs.Tac.declared.regions.Class.{Class}
-use Rattle.rgo_body.specs.Bodies.{IsFresh, IsReady, frames_in}
+use Rattle.rgo_body.specs.Bodies.{IsFresh, BodyIsReady, frames_of_body}
 use Rattle.rgo_body.specs.Programs.{CompactProgram}
 use Rattle.rgo_body.specs.Reserves.{PageReserve}
 use Rattle.rgo_body.specs.Shows.{BodyShows, SideShows}
@@ -38,13 +38,13 @@ use Rattle.rgo_body.proofs.Showing.{at, none_owed, owes_first, owes_next}
 
 -- ---- the next instruction of a body that owes nothing
 
-module _ (T : Setup) (p : CompactProgram) (b : Body) (c : Record) (next : Next) (s : BodyShows T p b c) (ready : IsReady p b next)
+module _ (T : Setup) (p : CompactProgram) (b : Body) (c : Record) (next : Next) (s : BodyShows T p b c) (ready : BodyIsReady p b next)
     (rests : b.side ≡ side.AtRest) where
   pub no_offer : c.frame.holder.offer ≡ NoOffer
   no_offer = (subst (λ (k : Side). SideShows k c.side c.frame.holder.offer) rests s.side).1
 
   -- the record is at this instruction
-  pub is_at : (op : CodeOp) → (at T p b c next s ready.is_next).instr.op ≡ op → IsAt T.code c op
+  pub is_at : (op : CodeOp) → (at T p b c next s ready.is_next).instr.op ≡ op → IsAtOp T.code c op
   is_at op is =
       let x = at T p b c next s ready.is_next in
       record {
@@ -125,7 +125,7 @@ module _ (T : Setup) (p : CompactProgram) (b : Body) (stack : Stack) (holding : 
     (belongs : Belongs p.compact stack) where
   -- `main`
   pub first_shows : (n : ℕ) (fn : CodeFn) (slots : ℕ) → IsFresh stack holding [] 1 b → T.sizes.regions ≡ slots
-      → main_words p.code.functions 0 ≡ word_called fn n [] ∷ [] → frames_of stack ≡ word_called fn n [] ∷ []
+      → main_words p.code.functions 0 ≡ word_called fn n [] ∷ [] → frames_of_stack stack ≡ word_called fn n [] ∷ []
       → IsHoldingOf slots holding (main_holder T.code (bare_all (main_words T.code.functions 0))) []
       → BodyShows T p b (first_of T.code)
   first_shows n fn slots fresh many main frames holds = record {
@@ -134,7 +134,7 @@ module _ (T : Setup) (p : CompactProgram) (b : Body) (stack : Stack) (holding : 
     frames = words;
     holds = subst (λ k. IsHoldingOf T.sizes.regions k (main_holder T.code (bare_all (main_words T.code.functions 0))) []) (sym fresh.holding_is)
         (subst (λ z. IsHoldingOf z holding (main_holder T.code (bare_all (main_words T.code.functions 0))) []) (sym many) holds);
-    owes = ap (λ fs. next_duties T.code (bare_all fs)) words ∙ ap (λ k. next_duties k (bare_all (frames_in b))) code
+    owes = ap (λ fs. next_duties T.code (bare_all fs)) words ∙ ap (λ k. next_duties k (bare_all (frames_of_body b))) code
         ∙ sym (owes_next p.code b fresh.queue fresh.expanded);
     side = subst (λ (k : Side). SideShows k at_rest NoOffer) (sym fresh.side) (refl, refl);
     calm = record { make = refl; claim = refl; give = refl; none = refl };
@@ -144,14 +144,14 @@ module _ (T : Setup) (p : CompactProgram) (b : Body) (stack : Stack) (holding : 
     refused = sym fresh.refused;
   }
     where
-      words : main_words T.code.functions 0 ≡ frames_in b
-      words = ap (λ (k : Code). main_words k.functions 0) code ∙ main ∙ sym frames ∙ sym (ap frames_of fresh.stack_is)
+      words : main_words T.code.functions 0 ≡ frames_of_body b
+      words = ap (λ (k : Code). main_words k.functions 0) code ∙ main ∙ sym frames ∙ sym (ap frames_of_stack fresh.stack_is)
 
   -- a goroutine that was started
   pub child_shows : (c : Record) (f : ℕ) (callee : CodeFn) (from : List ℕ) (passes : List Class) (removes : List ℕ)
-      (a : IsAt T.code c (Go f from passes removes)) → code_function T.code f ≡ Some callee
+      (a : IsAtOp T.code c (Go f from passes removes)) → code_function T.code f ≡ Some callee
       → IsFresh stack holding (entry_removes (code_function p.code f)) 0 b
-      → frames_of stack ≡ word_called callee f (words_of a.w from) ∷ []
+      → frames_of_stack stack ≡ word_called callee f (words_of a.w from) ∷ []
       → ChildHoldingBegins T.sizes.regions holding c.frame.holder.pending (formals_of (code_function T.code f))
       (passed_regions (top_names c.frame.holder.environments) passes)
       → BodyShows T p b (child T.code c)
@@ -163,7 +163,7 @@ module _ (T : Setup) (p : CompactProgram) (b : Body) (stack : Stack) (holding : 
         holds = subst (λ k. IsHoldingOf T.sizes.regions k (child_of T c a f callee from).frame.holder []) (sym fresh.holding_is)
             (begins (function_result_class (code_function T.code f)));
         owes = ap (λ fs. map Remove (entry_removes (code_function T.code f)) ++ next_duties T.code (bare_all fs)) words
-            ∙ ap (λ k. map Remove (entry_removes (code_function k f)) ++ next_duties k (bare_all (frames_in b))) code
+            ∙ ap (λ k. map Remove (entry_removes (code_function k f)) ++ next_duties k (bare_all (frames_of_body b))) code
             ∙ sym (owes_first p.code b (map Remove (entry_removes (code_function p.code f))) fresh.queue fresh.expanded);
         side = subst (λ (k : Side). SideShows k at_rest NoOffer) (sym fresh.side) (refl, refl);
         calm = record { make = refl; claim = refl; give = refl; none = refl };
@@ -173,5 +173,5 @@ module _ (T : Setup) (p : CompactProgram) (b : Body) (stack : Stack) (holding : 
         refused = sym fresh.refused;
       })
     where
-      words : word_called callee f (words_of a.w from) ∷ [] ≡ frames_in b
-      words = sym frames ∙ sym (ap frames_of fresh.stack_is)
+      words : word_called callee f (words_of a.w from) ∷ [] ≡ frames_of_body b
+      words = sym frames ∙ sym (ap frames_of_stack fresh.stack_is)

@@ -6,11 +6,11 @@ use Rattle.rgo_core.specs.Core.{Setup}
 use Rattle.rgo_core.specs.Laws.{clock_after}
 use Rattle.rgo_core.specs.Records.{Record, instructed}
 use Rattle.rgo_core.specs.Channels.Records.{at_rest}
-use Rattle.rgo_core.specs.Frames.Local.{local, local_by, local_frames, local_instr, local_op}
-use Rattle.rgo_core.specs.Frames.Quiet.{is_exit, quiet, unless_exit}
-use Rattle.rgo_core.specs.Frames.Records.{Rec as FrameRec, after_op}
-use Rattle.rgo_core.specs.Frames.WordFrames.{WordFrame, bare}
-use Rattle.rgo_core_steps.proofs.Settling.{once_is}
+use Rattle.rgo_core.specs.Frames.steps.Local.{local, local_by, local_frames, local_instr, local_op}
+use Rattle.rgo_core.specs.Frames.steps.Quiet.{is_exit, quiet, unless_exit}
+use Rattle.rgo_core.specs.Frames.Records.{FramesRec as FrameRec, after_op}
+use Rattle.rgo_core.specs.Frames.shown.WordFrames.{WordFrame, bare}
+use Rattle.rgo_core_steps.proofs.record_steps.Settling.{once_is}
 use Rattle.rgo_core_steps.specs.Seats.{SettlesBy, settled_by}
 use Rattle.rgo_sound.specs.Machine.Limits.{deepest}
 use Rattle.rgo_sound.specs.RegionMachine.Owed.{current}

@@ -9,10 +9,10 @@ use Rattle.rgo_core.specs.Core.{Setup}
 use Rattle.rgo_core.specs.Records.{Record, instructed}
 use Rattle.rgo_core_facts.proofs.ControlFrames.{all_in_code}
 use Rattle.rgo_core.proofs.Frames.regions.Bookkeeping.{bare_test}
-use Rattle.rgo_core.specs.Frames.Local.{local_op}
-use Rattle.rgo_core.specs.Frames.Quiet.{is_exit}
-use Rattle.rgo_core.specs.Frames.Records.{Rec as FrameRec, after_op}
-use Rattle.rgo_core.specs.Frames.WordFrames.{WordFrame, bare, bare_all, is_set, word_at, word_moved}
+use Rattle.rgo_core.specs.Frames.steps.Local.{local_op}
+use Rattle.rgo_core.specs.Frames.steps.Quiet.{is_exit}
+use Rattle.rgo_core.specs.Frames.Records.{FramesRec as FrameRec, after_op}
+use Rattle.rgo_core.specs.Frames.shown.WordFrames.{WordFrame, bare, bare_all, is_set, frame_word, word_moved}
 use Rattle.rgo_core_steps.specs.Seats.{SettlesBy, settled_by}
 use Rattle.rgo_holding.specs.Holds.{IsHoldingOf}
 use Rattle.rgo_sound.specs.Machine.Limits.{deepest}
@@ -24,11 +24,11 @@ use Rattle.rgo_stack.specs.declared.stacks.Place.{Place}
 use Rattle.rgo_stack.specs.Steps.{after_jump}
 use Rattle.rgo_sound.specs.Tac.Code as tac
 use Rattle.rgo_sound.specs.Tac.Ops.{operation_of}
-use Rattle.rgo_body.specs.Bodies.{IsReady, frames_in}
+use Rattle.rgo_body.specs.Bodies.{BodyIsReady, frames_of_body}
 use Rattle.rgo_body.specs.Nexts.{IsNextAt, IsNextOf, instr_at, removes_at}
 use Rattle.rgo_body.specs.Programs.{CompactProgram}
 use Rattle.rgo_body.specs.Reserves.{PageReserve}
-use Rattle.rgo_body.specs.Shows.{IsPossible, BodyShows, SideShows}
+use Rattle.rgo_body.specs.Shows.{BodyIsPossible, BodyShows, SideShows}
 use Rattle.rgo_body.specs.Steps.{GoesTo}
 use Rattle.rgo_body.specs.declared.bodies.Body.{Body}
 use Rattle.rgo_body.specs.declared.bodies.Side.{Side}
@@ -62,7 +62,7 @@ pub record Stepped (b d : Body) (ds : List Duty) : Type 0 where
   pub refused : d.refused ≡ b.refused
 
 pub stepped_shows : (T : Setup) (p : CompactProgram) (b d : Body) (c : Record) (frames : List WordFrame) (h : Holder) (ds : List Duty)
-    → BodyShows T p b c → Stepped b d ds → Belongs p.compact d.stack → frames ≡ frames_in d
+    → BodyShows T p b c → Stepped b d ds → Belongs p.compact d.stack → frames ≡ frames_of_body d
     → h.offer ≡ c.frame.holder.offer → IsHoldingOf T.sizes.regions d.holding h c.memory.fills → BodyShows T p d (stepped T c frames h ds)
 stepped_shows T p b d c frames h ds s k belongs are offer holds = record {
   code = s.code;
@@ -81,9 +81,9 @@ stepped_shows T p b d c frames h ds s k belongs are offer holds = record {
   refused = s.refused ∙ sym k.refused;
 }
 
-module _ (T : Setup) (p : CompactProgram) (b d : Body) (g : ℕ) (c : Record) (next : Next) (s : BodyShows T p b c) (ready : IsReady p b next)
+module _ (T : Setup) (p : CompactProgram) (b d : Body) (g : ℕ) (c : Record) (next : Next) (s : BodyShows T p b c) (ready : BodyIsReady p b next)
     (rests : b.side ≡ side.AtRest) (frames : List WordFrame) (h : Holder) (ds : List Duty) (k : Stepped b d ds)
-    (belongs : Belongs p.compact d.stack) (are : frames ≡ frames_in d) (stays : is_exit g frames ≡ false) where
+    (belongs : Belongs p.compact d.stack) (are : frames ≡ frames_of_body d) (stays : is_exit g frames ≡ false) where
   few : length frames ≤ deepest
   few = subst (λ n. n ≤ deepest) (ap length (sym are)) (few_frames p.compact d.stack belongs)
 
@@ -108,7 +108,7 @@ module _ (T : Setup) (p : CompactProgram) (b d : Body) (g : ℕ) (c : Record) (n
 
 -- ---- jumps and branches
 
-module _ (T : Setup) (p : CompactProgram) (b m : Body) (g : ℕ) (c : Record) (next : Next) (s : BodyShows T p b c) (ready : IsReady p b next)
+module _ (T : Setup) (p : CompactProgram) (b m : Body) (g : ℕ) (c : Record) (next : Next) (s : BodyShows T p b c) (ready : BodyIsReady p b next)
     (rests : b.side ≡ side.AtRest) (target : ℕ) (removes : List ℕ) (goes : GoesTo p b m target removes) where
   abbrev pub y : At T.code c next
   y = at T p b c next s ready.is_next
@@ -150,7 +150,7 @@ module _ (T : Setup) (p : CompactProgram) (b m : Body) (g : ℕ) (c : Record) (n
 
   -- a branch, on either way
   pub branches : (test one other : ℕ) → operation_of next.op ≡ tac.Branch test one other
-      → (chosen : Bool) → is_set (word_at y.w test) ≡ chosen → target ≡ (if chosen then one else other)
+      → (chosen : Bool) → is_set (frame_word y.w test) ≡ chosen → target ≡ (if chosen then one else other)
       → removes ≡ (if chosen then removes_at next else otherwise_in (slice_get next.function.body next.at))
       → SettlesBy T g 1 c × BodyShows T p m (settled_by T g 1 c)
   branches test one other op chosen set way names =
@@ -206,10 +206,10 @@ no_caller_below (w ∷ []) e = refl
 no_caller_below (w ∷ caller ∷ ws) e = cc
 
 -- it is at an instruction
-pub caller_instr : (p : CompactProgram) (b : Body) (place : Place) → IsPossible p b → caller_place (frames_in b) ≡ Some place
+pub caller_instr : (p : CompactProgram) (b : Body) (place : Place) → BodyIsPossible p b → caller_place (frames_of_body b) ≡ Some place
     → instr_at p.code place ≡ None → ⊥
 caller_instr p b place y e none =
-    let two = has_two (frames_in b) place e in
+    let two = has_two (frames_of_body b) place e in
     let known = all_in_code y.T y.goroutine y.c y.here 1 two.caller (ap (λ fs. slice_get fs 1) (y.shows.frames ∙ two.are)) in
     never known.instr (sym known.cur ∙ (ap (λ code. current code (bare two.caller)) y.shows.code
     ∙ (λ i. current_in (code_function p.code (sym two.function i)) (sym two.next i))) ∙ none)
@@ -217,10 +217,10 @@ caller_instr p b place y e none =
     never : (i : CodeInstr) → ◌≡◌ {A = Option CodeInstr} (Some i) None → ⊥
     never i e = cc
 
-pub caller_next : (p : CompactProgram) (b : Body) (place : Place) (next : Next) → caller_place (frames_in b) ≡ Some place
-    → IsNextAt p.code place next → IsNextOf p.code (drop 1 (frames_in b)) next
+pub caller_next : (p : CompactProgram) (b : Body) (place : Place) (next : Next) → caller_place (frames_of_body b) ≡ Some place
+    → IsNextAt p.code place next → IsNextOf p.code (drop 1 (frames_of_body b)) next
 caller_next p b place next e n =
-    let two = has_two (frames_in b) place e in
+    let two = has_two (frames_of_body b) place e in
     record {
       w = two.caller;
       ws = two.ws;

@@ -1,13 +1,13 @@
 -- What a body owes, and what is next for it.
 use Rattle.std.specs.Prelude.{◌≡◌, ◌<◌, ◌≤◌, ◌+◌, ℕ, true, false, List, [], ◌++◌, if◌then◌else◌, length, map}
 use Rattle.rgo_sound.specs.Code.Code.{Code}
-use Rattle.rgo_core.specs.Frames.WordFrames.{WordFrame, bare_all}
+use Rattle.rgo_core.specs.Frames.shown.WordFrames.{WordFrame, bare_all}
 use Rattle.rgo_sound.specs.RegionMachine.Counts.{Counts}
 use Rattle.rgo_sound.specs.RegionMachine.Owed.{next_duties}
 use Rattle.rgo_sound.specs.RegionMachine.States.{Duty, Remove}
 use Rattle.rgo_sound.specs.Tally.{no_share}
 use Rattle.rgo_holding.specs.declared.holding.Holding.{Holding}
-use Rattle.rgo_stack.specs.Stacks.{Stack, frames_of}
+use Rattle.rgo_stack.specs.Stacks.{Stack, frames_of_stack}
 use Rattle.rgo_body.specs.Nexts.{IsNextOf, removes_at}
 use Rattle.rgo_body.specs.Programs.{CompactProgram}
 use Rattle.rgo_body.specs.Reserves.{none_reserved}
@@ -15,18 +15,18 @@ use Rattle.rgo_body.specs.declared.bodies.Body.{Body}
 use Rattle.rgo_body.specs.declared.bodies.Side.TheVariants.{AtRest}
 use Rattle.rgo_body.specs.declared.nexts.Next.{Next}
 
-abbrev pub frames_in : Body → List WordFrame
-frames_in b = frames_of b.stack
+abbrev pub frames_of_body : Body → List WordFrame
+frames_of_body b = frames_of_stack b.stack
 
 -- the duties in its queue, and those before its next instruction unless they are in the queue already
-abbrev pub owed : Code → Body → List Duty
-owed code b = b.queue.duties ++ (if b.is_expanded then [] else next_duties code (bare_all (frames_in b)))
+abbrev pub owed_by_body : Code → Body → List Duty
+owed_by_body code b = b.queue.duties ++ (if b.is_expanded then [] else next_duties code (bare_all (frames_of_body b)))
 
 -- it owes nothing before this instruction, its next one
-pub record IsReady (p : CompactProgram) (b : Body) (next : Next) : Type 0 where
+pub record BodyIsReady (p : CompactProgram) (b : Body) (next : Next) : Type 0 where
   pub queue : b.queue.duties ≡ []
   pub expanded : b.is_expanded ≡ true
-  pub is_next : IsNextOf p.code (frames_in b) next
+  pub is_next : IsNextOf p.code (frames_of_body b) next
 
 -- there is room for what is owed after this instruction
 abbrev pub HasRoomBehind : Body → Next → Type 0

@@ -3,7 +3,7 @@ use Rattle.std.specs.List.{list_any}
 use Rattle.std.specs.Prelude.{◌≡◌, ◌+◌, ℕ, suc, Bool, true, List, ◌∷◌, Some, nat_eq}
 use Rattle.rgo_core.specs.Memory.Records.{Fill}
 use Rattle.rgo_holding.specs.Changes.{without_name}
-use Rattle.rgo_holding.specs.Holds.{IsHoldingOf, region_at}
+use Rattle.rgo_holding.specs.Holds.{IsHoldingOf, region_of_key}
 use Rattle.rgo_holding.specs.declared.holding.Holding.{Holding}
 use Rattle.rgo_body.specs.declared.queues.Duty.{Duty as DutyOf}
 use Rattle.rgo_body.specs.declared.queues.Duty.TheVariants as duty
@@ -12,9 +12,9 @@ use Rattle.rgo_sound.specs.RegionMachine.Duties.{guards}
 use Rattle.rgo_sound.specs.RegionMachine.States.{Duty, RegionEnvironment, Holder}
 use Rattle.rgo_sound.specs.RegionMachine.declared.regions.Region.{Region}
 use Rattle.rgo_sound.specs.RegionMachine.declared.regions.Region.TheVariants.{Global as GlobalRegion, Numbered}
-use Rattle.rgo_core.specs.Core.{Here, Setup}
+use Rattle.rgo_core.specs.Core.{Situation, Setup}
 use Rattle.rgo_core.specs.Records.{Record}
-use Rattle.rgo_core.specs.Regions.{leaves}
+use Rattle.rgo_core.specs.moves.Regions.{left_stake}
 use Rattle.rgo_core_steps.specs.Counts.{IsSharing, ending}
 use Rattle.rgo_body.specs.Programs.{CompactProgram}
 use Rattle.rgo_body.specs.Shows.{BodyShows}
@@ -37,19 +37,19 @@ DoesLocal p b d = TakesLocal p 1 b d × HasDoneDuty b d × (d.counts ≡ b.count
 -- a stake is to be taken in the region of this key, whatever record the body shows
 pub record SharesIn (p : CompactProgram) (b : Body) (key : Key) : Type 0 where
   pub slot : ℕ
-  pub region : region_at b.holding key ≡ Some (Numbered slot)
-  pub shares : (T : Setup) (g : ℕ) (c : Record) → Here T g c → BodyShows T p b c → IsSharing c slot
+  pub region : region_of_key b.holding key ≡ Some (Numbered slot)
+  pub shares : (T : Setup) (g : ℕ) (c : Record) → Situation T g c → BodyShows T p b c → IsSharing c slot
 
 -- its stake is to end in the region of this key
 pub record LeavesIn (p : CompactProgram) (b : Body) (key : Key) : Type 0 where
   pub slot : ℕ
-  pub region : region_at b.holding key ≡ Some (Numbered slot)
-  pub ends : (T : Setup) (g : ℕ) (c : Record) → Here T g c → BodyShows T p b c → (k : Holder) × (ending c ≡ Some (slot, k))
+  pub region : region_of_key b.holding key ≡ Some (Numbered slot)
+  pub ends : (T : Setup) (g : ℕ) (c : Record) → Situation T g c → BodyShows T p b c → (k : Holder) × (ending c ≡ Some (slot, k))
 
 -- The stake has ended in a slot, and some goroutine has the record after that.
 abbrev pub StakeHasEnded : CompactProgram → (before after : Body) → Type 0
-StakeHasEnded p b d = (T : Setup) (g : ℕ) (c e : Record) (slot : ℕ) (k : Holder) → Here T g c → BodyShows T p b c
-    → ending c ≡ Some (slot, k) → Here T g e → e.frame ≡ (leaves c k slot).frame → BodyShows T p d (leaves c k slot)
+StakeHasEnded p b d = (T : Setup) (g : ℕ) (c e : Record) (slot : ℕ) (k : Holder) → Situation T g c → BodyShows T p b c
+    → ending c ≡ Some (slot, k) → Situation T g e → e.frame ≡ (left_stake c k slot).frame → BodyShows T p d (left_stake c k slot)
 
 -- the record after a region was removed, all of whose pages were returned
 abbrev pub without_region : Record → (pages : ℕ) → Record

@@ -1,13 +1,13 @@
 -- The record of a goroutine, as its body shows it between two instructions or duties.
 use Rattle.std.specs.Prelude.{◌≡◌, ℕ, length}
-use Rattle.rgo_core.specs.Channels.Records.{Free, Nowhere, Offering, Rec as SideRec, at_rest}
+use Rattle.rgo_core.specs.Channels.Records.{Free, Nowhere, Offering, ChannelRec as SideRec, at_rest}
 use Rattle.rgo_core.specs.Memory.Records.{Calm, Idle, Rec as MemoryRec, Rest}
 use Rattle.rgo_sound.specs.RegionMachine.States.{NoOffer, Offer, Standing}
-use Rattle.rgo_core.specs.Core.{Here, Setup}
+use Rattle.rgo_core.specs.Core.{Situation, Setup}
 use Rattle.rgo_core.specs.Records.{Record}
 use Rattle.rgo_holding.specs.Holds.{IsHoldingOf}
 use Rattle.rgo_stack.specs.Stacks.{Belongs}
-use Rattle.rgo_body.specs.Bodies.{frames_in, owed}
+use Rattle.rgo_body.specs.Bodies.{frames_of_body, owed_by_body}
 use Rattle.rgo_body.specs.Programs.{CompactProgram}
 use Rattle.rgo_body.specs.declared.bodies.Body.{Body}
 use Rattle.rgo_body.specs.declared.bodies.Side.{Side}
@@ -30,10 +30,10 @@ pub record IsMemoryCalm (m : MemoryRec) (owed : ℕ) : Type 0 where
 pub record BodyShows (T : Setup) (p : CompactProgram) (b : Body) (c : Record) : Type 0 where
   pub code : T.code ≡ p.code
   pub belongs : Belongs p.compact b.stack
-  pub frames : c.frame.frames ≡ frames_in b
+  pub frames : c.frame.frames ≡ frames_of_body b
   pub holds : IsHoldingOf T.sizes.regions b.holding c.frame.holder c.memory.fills
   pub reserved : c.memory.reserved.pages ≡ b.reserved.pages
-  pub owes : c.frame.holder.duties ≡ owed p.code b
+  pub owes : c.frame.holder.duties ≡ owed_by_body p.code b
   pub side : SideShows b.side c.side c.frame.holder.offer
   pub calm : IsMemoryCalm c.memory c.clock.owed
   pub share : c.clock.share ≡ b.counts
@@ -41,11 +41,11 @@ pub record BodyShows (T : Setup) (p : CompactProgram) (b : Body) (c : Record) : 
   pub refused : c.clock.refused ≡ b.refused
 
 -- the body shows the record that some goroutine has at some moment of some run
-pub record IsPossible (p : CompactProgram) (b : Body) : Type 0 where
+pub record BodyIsPossible (p : CompactProgram) (b : Body) : Type 0 where
   pub T : Setup
   pub goroutine : ℕ
   pub c : Record
-  pub here : Here T goroutine c
+  pub here : Situation T goroutine c
   pub shows : BodyShows T p b c
 
 -- d differs from c only in what no body shows: its accesses, what it has tried, measured and located, its children, the end that it has

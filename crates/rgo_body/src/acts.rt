@@ -5,23 +5,23 @@ ghost use Rattle.std.specs.Prelude.{◌≡◌, ◌^◌, ◌+◌, ◌*◌, ◌<�
 ghost use Rattle.rgo_core.specs.Core.{Setup};
 ghost use Rattle.rgo_core.specs.Records.{Record};
 ghost use Rattle.rgo_core.specs.Memory.Records.{Fill};
-ghost use Rattle.rgo_core.specs.NewObjects.{reserved_address};
+ghost use Rattle.rgo_core.specs.moves.NewObjects.{reserved_address};
 ghost use Rattle.rgo_core_steps.specs.After.{acting, making, making_apart, printing, starting};
 ghost use Rattle.rgo_core_steps.specs.Ends.{ending};
 ghost use Rattle.rgo_core_steps.specs.Starts.{refusing};
 ghost use Rattle.rgo_sound.specs.Machine.declared.picks.End.TheVariants.{Trap};
 ghost use Rattle.rgo_sound.specs.Memory.Memory.{Object};
-ghost use Rattle.rgo_holding.specs.Holds.{region_at};
-ghost use Rattle.rgo_holding.specs.Known.{slot_of};
+ghost use Rattle.rgo_holding.specs.Holds.{region_of_key};
+ghost use Rattle.rgo_holding.specs.Known.{slot_or_global};
 ghost use Rattle.rgo_sound.specs.RegionMachine.Objects.{object_words as words_in};
 ghost use Rattle.rgo_sound.specs.RegionMachine.declared.regions.Region.{Region};
 ghost use Rattle.rgo_stack.specs.Steps.{after_word};
 ghost use Rattle.rgo_sound.specs.RegionMachine.States.{Ended, Stopped};
 ghost use Rattle.rgo_sound.specs.Tac.Ops.{operation_of};
-ghost use Rattle.rgo_body.specs.Bodies.{HasRoomBehind, IsReady};
-ghost use Rattle.rgo_body.specs.Nexts.{FollowsOn, IsDo, IsGo, IsPrint, removes_at, target_of};
+ghost use Rattle.rgo_body.specs.Bodies.{HasRoomBehind, BodyIsReady};
+ghost use Rattle.rgo_body.specs.Nexts.{FollowsOn, IsDo, IsGoOp, IsPrint, removes_at, action_target};
 ghost use Rattle.rgo_body.specs.Reserves.{none_reserved};
-ghost use Rattle.rgo_body.specs.Shows.{IsPossible, BodyShows};
+ghost use Rattle.rgo_body.specs.Shows.{BodyIsPossible, BodyShows};
 ghost use Rattle.rgo_body.specs.Steps.{Becomes, BodyContinues, IsRoomier};
 
 use crate::bodies::Body;
@@ -47,11 +47,11 @@ impl Body {
 
     /// It continues after its next instruction, which has written this word to its target variable, if it has one.
     pub(crate) fn go_on(&mut self, program: &Program<'_>, next: &Next<'_>, word: u64)
-        requires possible { IsPossible program.now self.old }
-        requires ready { IsReady program.now self.old next.now }
+        requires possible { BodyIsPossible program.now self.old }
+        requires ready { BodyIsReady program.now self.old next.now }
         requires follows { FollowsOn (operation_of next.now.op) }
         requires room { HasRoomBehind self.old next.now }
-        ensures { BodyContinues program.now self.old self.new (after_word (target_of (operation_of next.now.op)) word) (removes_at next.now) }
+        ensures { BodyContinues program.now self.old self.new (after_word (action_target (operation_of next.now.op)) word) (removes_at next.now) }
     {
         self.stack.advance(program.compact(), next.target(), word);
         self.queue.put_all(Kind::Remove, next.removes());
@@ -60,8 +60,8 @@ impl Body {
 
     /// Its next instruction was an action, which has written this word to its target variable, if it has one.
     pub fn acted(&mut self, program: &Program<'_>, next: &Next<'_>, word: u64)
-        requires possible { IsPossible program.now self.old }
-        requires ready { IsReady program.now self.old next.now }
+        requires possible { BodyIsPossible program.now self.old }
+        requires ready { BodyIsReady program.now self.old next.now }
         requires does { IsDo (operation_of next.now.op) }
         requires room { HasRoomBehind self.old next.now }
         requires count { self.old.counts.steps + 1 < 2 ^ 64 }
@@ -74,13 +74,13 @@ impl Body {
     /// Its next instruction has made an object at the end of what was filled of its own page in this region. The page is now filled
     /// up to `end`, and `word` is the pointer.
     pub fn made(&mut self, program: &Program<'_>, next: &Next<'_>, key: Key, end: u32, word: u64)
-        requires possible { IsPossible program.now self.old }
-        requires ready { IsReady program.now self.old next.now }
+        requires possible { BodyIsPossible program.now self.old }
+        requires ready { BodyIsReady program.now self.old next.now }
         requires does { IsDo (operation_of next.now.op) }
         requires room { HasRoomBehind self.old next.now }
         requires count { (self.old.counts.steps + 1 < 2 ^ 64) × (self.old.counts.objects + 1 < 2 ^ 64) }
         ensures shows { (T : Setup) (c : Record) (f : Fill) (object : Object) (region : Region) → BodyShows T program.now self.old c
-            → region_at self.old.holding key ≡ Some region → f.slot ≡ slot_of T.sizes.regions region → f.fill + words_in object ≡ end → suc (f.page * T.sizes.page_words + f.fill) ≡ word
+            → region_of_key self.old.holding key ≡ Some region → f.slot ≡ slot_or_global T.sizes.regions region → f.fill + words_in object ≡ end → suc (f.page * T.sizes.page_words + f.fill) ≡ word
             → BodyShows T program.now self.new (making T c f object) }
         ensures side { self.new.side ≡ self.old.side }
         ensures not_yet { self.new.is_expanded ≡ false }
@@ -92,8 +92,8 @@ impl Body {
 
     /// Its next instruction has made a spread object in the pages that were reserved for it. `word` is the pointer.
     pub fn made_apart(&mut self, program: &Program<'_>, next: &Next<'_>, word: u64)
-        requires possible { IsPossible program.now self.old }
-        requires ready { IsReady program.now self.old next.now }
+        requires possible { BodyIsPossible program.now self.old }
+        requires ready { BodyIsReady program.now self.old next.now }
         requires does { IsDo (operation_of next.now.op) }
         requires room { HasRoomBehind self.old next.now }
         requires count { (self.old.counts.steps + 1 < 2 ^ 64) × (self.old.counts.objects + 1 < 2 ^ 64) }
@@ -110,8 +110,8 @@ impl Body {
 
     /// It has printed.
     pub fn printed(&mut self, program: &Program<'_>, next: &Next<'_>)
-        requires possible { IsPossible program.now self.old }
-        requires ready { IsReady program.now self.old next.now }
+        requires possible { BodyIsPossible program.now self.old }
+        requires ready { BodyIsReady program.now self.old next.now }
         requires prints { IsPrint (operation_of next.now.op) }
         requires room { HasRoomBehind self.old next.now }
         requires count { (self.old.counts.steps + 1 < 2 ^ 64) × (self.old.prints + 1 < 2 ^ 64) }
@@ -124,9 +124,9 @@ impl Body {
 
     /// It has started a goroutine.
     pub fn started(&mut self, program: &Program<'_>, next: &Next<'_>)
-        requires possible { IsPossible program.now self.old }
-        requires ready { IsReady program.now self.old next.now }
-        requires starts { IsGo (operation_of next.now.op) }
+        requires possible { BodyIsPossible program.now self.old }
+        requires ready { BodyIsReady program.now self.old next.now }
+        requires starts { IsGoOp (operation_of next.now.op) }
         requires room { HasRoomBehind self.old next.now }
         requires count { (self.old.counts.steps + 1 < 2 ^ 64) × (self.old.counts.goroutines + 1 < 2 ^ 64) }
         ensures { (number : ℕ) → Becomes program.now self.old self.new (λ T c. starting T.code c number) }

@@ -1,14 +1,14 @@
 //! The body of a goroutine, and what is read of it.
 
 ghost use Rattle.std.specs.Prelude.{◌≡◌, ◌<◌, ◌∷◌, [], ℕ, List, MatchOption, Some, length};
-ghost use Rattle.rgo_core.specs.Frames.WordFrames.{WordFrame, word_at};
+ghost use Rattle.rgo_core.specs.Frames.shown.WordFrames.{WordFrame, frame_word};
 ghost use Rattle.rgo_sound.specs.RegionMachine.States as machine;
 ghost use Rattle.rgo_body.specs.Bodies as spec;
 ghost use Rattle.rgo_body.specs.Nexts.{FrameHasNoNext, IsNextOf};
 ghost use Rattle.rgo_body.specs.Queues.{duty_of};
 ghost use Rattle.rgo_body.specs.Programs.{CompactProgram as Program_};
-ghost use Rattle.rgo_body.specs.Shows.{IsPossible};
-ghost use Rattle.rgo_holding.specs.Holds.{region_at};
+ghost use Rattle.rgo_body.specs.Shows.{BodyIsPossible};
+ghost use Rattle.rgo_holding.specs.Holds.{region_of_key};
 ghost use Rattle.rgo_sound.specs.RegionMachine.declared.regions.Region.TheVariants.{Numbered};
 
 use crate::counts::Counts;
@@ -53,8 +53,8 @@ impl Body {
     /// What its next step is, if it owes no duty; `None` if it has returned from its first function.
     #[inline(always)]
     pub fn next<'p, 'c>(&self, program: &'p Program<'c>) -> Option<&'p Next<'c>>
-        ensures { MatchOption result (FrameHasNoNext program.now.code (spec.frames_in self.now))
-            (λ n. IsNextOf program.now.code (spec.frames_in self.now) n.now) }
+        ensures { MatchOption result (FrameHasNoNext program.now.code (spec.frames_of_body self.now))
+            (λ n. IsNextOf program.now.code (spec.frames_of_body self.now) n.now) }
     {
         match self.stack.newest() {
             Some(place) => program.next_at(place),
@@ -106,16 +106,16 @@ impl Body {
     /// The slot of a region that it knows.
     #[inline(always)]
     pub fn slot(&self, key: Key) -> u32
-        requires possible { (p : Program_) × IsPossible p self.now }
-        ensures { (slot : ℕ) → region_at self.now.holding key ≡ Some (Numbered slot) → result ≡ slot }
+        requires possible { (p : Program_) × BodyIsPossible p self.now }
+        ensures { (slot : ℕ) → region_of_key self.now.holding key ≡ Some (Numbered slot) → result ≡ slot }
     {
         self.holding.slot(key)
     }
 
     /// How many frames it has.
     pub fn depth(&self) -> usize
-        requires { (p : Program_) × IsPossible p self.now }
-        ensures { result ≡ length (spec.frames_in self.now) }
+        requires { (p : Program_) × BodyIsPossible p self.now }
+        ensures { result ≡ length (spec.frames_of_body self.now) }
     {
         self.stack.depth()
     }
@@ -123,8 +123,8 @@ impl Body {
     /// The word of a variable of the newest frame.
     #[inline(always)]
     pub fn word(&self, variable: u32) -> u64
-        requires { (w : WordFrame) × (ws : List WordFrame) × (spec.frames_in self.now ≡ w ∷ ws) × (variable < length w.variables) }
-        ensures { (w : WordFrame) (ws : List WordFrame) → spec.frames_in self.now ≡ w ∷ ws → result ≡ word_at w variable }
+        requires { (w : WordFrame) × (ws : List WordFrame) × (spec.frames_of_body self.now ≡ w ∷ ws) × (variable < length w.variables) }
+        ensures { (w : WordFrame) (ws : List WordFrame) → spec.frames_of_body self.now ≡ w ∷ ws → result ≡ frame_word w variable }
     {
         self.stack.word(variable)
     }

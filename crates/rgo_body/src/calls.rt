@@ -10,9 +10,9 @@ ghost use Rattle.rgo_stack.specs.Stacks.{caller_place};
 ghost use Rattle.rgo_stack.specs.declared.calls.NoCall.TheVariants.{TooDeep};
 ghost use Rattle.rgo_sound.specs.Tac.Code as tac;
 ghost use Rattle.rgo_sound.specs.Tac.Ops.{operation_of};
-ghost use Rattle.rgo_body.specs.Bodies.{IsReady, frames_in};
+ghost use Rattle.rgo_body.specs.Bodies.{BodyIsReady, frames_of_body};
 ghost use Rattle.rgo_body.specs.Nexts.{IsNextOf};
-ghost use Rattle.rgo_body.specs.Shows.{IsPossible};
+ghost use Rattle.rgo_body.specs.Shows.{BodyIsPossible};
 ghost use Rattle.rgo_body.specs.Steps.{ExitsSo, GoesTo, HasBaseRoom, HasRoomBack, IsRoomier, StillShows, TakesLocal, TakesReturn};
 ghost use Rattle.rgo_body.specs.declared.bodies.Side.TheVariants.{AtRest};
 
@@ -53,8 +53,8 @@ impl Body {
         target: u32,
         removes: &[u32],
     ) -> Result<(), AllocError>
-        requires possible { IsPossible program.now self.old }
-        requires can { CanJump program.now.compact target (frames_in self.old) }
+        requires possible { BodyIsPossible program.now self.old }
+        requires can { CanJump program.now.compact target (frames_of_body self.old) }
         requires count { self.old.counts.steps + 1 < 2 ^ 64 }
         ensures went { OnOk result (GoesTo program.now self.old self.new target removes.now) }
         ensures refused { OnErr result (IsRoomier self.old self.new) }
@@ -80,8 +80,8 @@ impl Body {
         next: &Next<'_>,
         target: u32,
     ) -> Result<(), AllocError>
-        requires possible { IsPossible program.now self.old }
-        requires ready { IsReady program.now self.old next.now }
+        requires possible { BodyIsPossible program.now self.old }
+        requires ready { BodyIsReady program.now self.old next.now }
         requires jumps { operation_of next.now.op ≡ tac.Jump target }
         requires rests { self.old.side ≡ AtRest }
         requires count { self.old.counts.steps + 1 < 2 ^ 64 }
@@ -107,8 +107,8 @@ impl Body {
         target: u32,
         other: u32,
     ) -> Result<(), AllocError>
-        requires possible { IsPossible program.now self.old }
-        requires ready { IsReady program.now self.old next.now }
+        requires possible { BodyIsPossible program.now self.old }
+        requires ready { BodyIsReady program.now self.old next.now }
         requires branches { operation_of next.now.op ≡ tac.Branch test target other }
         requires rests { self.old.side ≡ AtRest }
         requires count { self.old.counts.steps + 1 < 2 ^ 64 }
@@ -138,13 +138,13 @@ impl Body {
         function: u32,
         from: &[u32],
     ) -> Result<(), NoCall>
-        requires possible { IsPossible program.now self.old }
-        requires ready { IsReady program.now self.old next.now }
+        requires possible { BodyIsPossible program.now self.old }
+        requires ready { BodyIsReady program.now self.old next.now }
         requires calls { (to : Option ℕ) × (operation_of next.now.op ≡ tac.Call to function from.now) }
         requires rests { self.old.side ≡ AtRest }
         requires count { self.old.counts.steps + 1 < 2 ^ 64 }
         ensures done { OnOk result (TakesLocal program.now 1 self.old self.new) }
-        ensures deep { result ≡ Err TooDeep → length (frames_in self.old) ≡ deepest }
+        ensures deep { result ≡ Err TooDeep → length (frames_of_body self.old) ≡ deepest }
         ensures stays { OnErr result (StillShows program.now self.old self.new) }
         ensures side { self.new.side ≡ self.old.side }
         ensures not_yet { OnOk result (self.new.is_expanded ≡ false) }
@@ -178,9 +178,9 @@ impl Body {
 
     /// The call at which the caller of its newest frame is; `None` if it has one frame.
     fn call_below<'p, 'c>(&self, program: &'p Program<'c>) -> Option<&'p Next<'c>>
-        requires possible { IsPossible program.now self.now }
-        ensures { MatchOption result (caller_place (frames_in self.now) ≡ None)
-            (λ n. IsNextOf program.now.code (drop 1 (frames_in self.now)) n.now) }
+        requires possible { BodyIsPossible program.now self.now }
+        ensures { MatchOption result (caller_place (frames_of_body self.now) ≡ None)
+            (λ n. IsNextOf program.now.code (drop 1 (frames_of_body self.now)) n.now) }
     {
         let place = self.stack.caller()?;
         match program.next_at(place) {
@@ -196,7 +196,7 @@ impl Body {
     ///
     /// On allocation failure.
     pub fn room_to_return(&mut self, program: &Program<'_>) -> Result<(), AllocError>
-        requires possible { IsPossible program.now self.old }
+        requires possible { BodyIsPossible program.now self.old }
         ensures room { OnOk result (HasRoomBack program.now self.new) }
         ensures same { IsRoomier self.old self.new }
     {
@@ -210,8 +210,8 @@ impl Body {
 
     /// Its next instruction returns from its newest function, with the word of this variable or with none.
     pub fn come_back(&mut self, program: &Program<'_>, next: &Next<'_>, value: Option<u32>)
-        requires possible { IsPossible program.now self.old }
-        requires ready { IsReady program.now self.old next.now }
+        requires possible { BodyIsPossible program.now self.old }
+        requires ready { BodyIsReady program.now self.old next.now }
         requires returns { operation_of next.now.op ≡ tac.Return value }
         requires rests { self.old.side ≡ AtRest }
         requires room { HasRoomBack program.now self.old }
@@ -235,13 +235,13 @@ impl Body {
         call: &Next<'_>,
         value: Option<u32>,
     )
-        requires possible { IsPossible program.now self.old }
-        requires ready { IsReady program.now self.old next.now }
+        requires possible { BodyIsPossible program.now self.old }
+        requires ready { BodyIsReady program.now self.old next.now }
         requires returns { operation_of next.now.op ≡ tac.Return value }
         requires rests { self.old.side ≡ AtRest }
         requires room { HasRoomBack program.now self.old }
         requires count { self.old.counts.steps + 1 < 2 ^ 64 }
-        requires call { IsNextOf program.now.code (drop 1 (frames_in self.old)) call.now }
+        requires call { IsNextOf program.now.code (drop 1 (frames_of_body self.old)) call.now }
         ensures local { TakesReturn program.now self.old self.new }
         ensures exit { ExitsSo program.now self.old self.new }
         ensures side { self.new.side ≡ self.old.side }
@@ -259,13 +259,13 @@ impl Body {
 
     /// It returns from its first function.
     fn come_to_end(&mut self, program: &Program<'_>, next: &Next<'_>, value: Option<u32>)
-        requires possible { IsPossible program.now self.old }
-        requires ready { IsReady program.now self.old next.now }
+        requires possible { BodyIsPossible program.now self.old }
+        requires ready { BodyIsReady program.now self.old next.now }
         requires returns { operation_of next.now.op ≡ tac.Return value }
         requires rests { self.old.side ≡ AtRest }
         requires room { HasRoomBack program.now self.old }
         requires count { self.old.counts.steps + 1 < 2 ^ 64 }
-        requires last { caller_place (frames_in self.old) ≡ None }
+        requires last { caller_place (frames_of_body self.old) ≡ None }
         ensures local { TakesReturn program.now self.old self.new }
         ensures exit { ExitsSo program.now self.old self.new }
         ensures side { self.new.side ≡ self.old.side }

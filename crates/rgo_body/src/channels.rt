@@ -1,16 +1,16 @@
 //! Operations on channels: what the body is after one was done, was not ready, or has offered a value.
 
 ghost use Rattle.std.specs.Prelude.{◌≡◌, ◌^◌, ◌+◌, ◌<◌, ℕ};
-ghost use Rattle.rgo_core.specs.CommitMoves.{offers};
+ghost use Rattle.rgo_core.specs.moves.Commits.{offers};
 ghost use Rattle.rgo_core.specs.Core.{Setup};
 ghost use Rattle.rgo_core.specs.Records.{Record};
 ghost use Rattle.rgo_core.specs.Channels.Records as sides;
 ghost use Rattle.rgo_core_steps.specs.After.{acknowledging, committing};
 ghost use Rattle.rgo_core_steps.specs.Calls.{waited};
 ghost use Rattle.rgo_sound.specs.Tac.Ops.{operation_of};
-ghost use Rattle.rgo_body.specs.Bodies.{HasRoomBehind, IsReady};
+ghost use Rattle.rgo_body.specs.Bodies.{HasRoomBehind, BodyIsReady};
 ghost use Rattle.rgo_body.specs.Nexts.{IsDo};
-ghost use Rattle.rgo_body.specs.Shows.{IsPossible, BodyShows};
+ghost use Rattle.rgo_body.specs.Shows.{BodyIsPossible, BodyShows};
 ghost use Rattle.rgo_body.specs.Steps.{Becomes};
 ghost use Rattle.rgo_body.specs.declared.bodies.Side.TheVariants.{AtRest, Offering, Tried};
 
@@ -22,8 +22,8 @@ use crate::queues::Kind;
 impl Body {
     /// Its operation has taken effect, and has written this word to its target variable, if it has one.
     pub fn committed(&mut self, program: &Program<'_>, next: &Next<'_>, word: u64)
-        requires possible { IsPossible program.now self.old }
-        requires ready { IsReady program.now self.old next.now }
+        requires possible { BodyIsPossible program.now self.old }
+        requires ready { BodyIsReady program.now self.old next.now }
         requires does { IsDo (operation_of next.now.op) }
         requires side { (at : ℕ) → self.old.side ≡ Offering at → ⊥ }
         requires room { HasRoomBehind self.old next.now }
@@ -37,8 +37,8 @@ impl Body {
 
     /// It has acknowledged that its offer was taken. The receiver has counted the instruction, so this one does not.
     pub fn acknowledged(&mut self, program: &Program<'_>, next: &Next<'_>)
-        requires possible { IsPossible program.now self.old }
-        requires ready { IsReady program.now self.old next.now }
+        requires possible { BodyIsPossible program.now self.old }
+        requires ready { BodyIsReady program.now self.old next.now }
         requires does { IsDo (operation_of next.now.op) }
         requires room { HasRoomBehind self.old next.now }
         ensures { Becomes program.now self.old self.new (λ T c. acknowledging T.code c) }
@@ -57,7 +57,7 @@ impl Body {
     /// Its operation was tried, and was not ready.
     pub fn tried(&mut self, program: &Program<'_>)
         requires side { (at : ℕ) → self.old.side ≡ Offering at → ⊥ }
-        ensures { (T : Setup) (c : Record) (n : ℕ) (side : sides.Rec) → BodyShows T program.now self.old c
+        ensures { (T : Setup) (c : Record) (n : ℕ) (side : sides.ChannelRec) → BodyShows T program.now self.old c
             → side.hold ≡ sides.Free → side.post ≡ sides.Nowhere → BodyShows T program.now self.new (waited n c side) }
     {
         self.side = Side::Tried;

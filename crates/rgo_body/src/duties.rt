@@ -7,12 +7,12 @@
 ghost use Rattle.std.specs.Prelude.{◌≡◌, ◌++◌, Some, map, slice_get, ◌^◌, ◌+◌, ◌<◌, ◌∷◌, [], ℕ, List, MatchOption, OnErr, OnOk, false, true};
 ghost use Rattle.rgo_sound.specs.Code.Code.{CodeInstr};
 ghost use Rattle.rgo_sound.specs.Code.Erasure.{erased_op};
-ghost use Rattle.rgo_core.specs.Core.{Here, Setup};
+ghost use Rattle.rgo_core.specs.Core.{Situation, Setup};
 ghost use Rattle.rgo_core.specs.Records.{Record};
-ghost use Rattle.rgo_core_steps.specs.Counts.{IsSharing, created, shared};
+ghost use Rattle.rgo_core_steps.specs.Counts.{IsSharing, created_in_slot, shared_record};
 ghost use Rattle.rgo_core_steps.specs.Making.{next_is_spread};
-ghost use Rattle.rgo_holding.specs.Holds.{region_at};
-ghost use Rattle.rgo_holding.specs.Known.{slot_of};
+ghost use Rattle.rgo_holding.specs.Holds.{region_of_key};
+ghost use Rattle.rgo_holding.specs.Known.{slot_or_global};
 ghost use Rattle.rgo_holding.specs.Changes.{HoldingHasRoom, SameRegions};
 ghost use Rattle.rgo_pages.specs.Claiming.{has_claimed};
 ghost use Rattle.rgo_sound.specs.RegionMachine.Owed.{duties_of_op};
@@ -23,11 +23,11 @@ ghost use Rattle.rgo_sound.specs.RegionMachine.declared.regions.Region.{Region a
 ghost use Rattle.rgo_sound.specs.RegionMachine.declared.regions.Region.TheVariants.{Numbered};
 ghost use Rattle.rgo_sound.specs.Stakes.{is_in};
 ghost use Rattle.rgo_sound.specs.Tac.Ops.{operation_of};
-ghost use Rattle.rgo_body.specs.Bodies.{CanCount, frames_in};
+ghost use Rattle.rgo_body.specs.Bodies.{CanCount, frames_of_body};
 ghost use Rattle.rgo_body.specs.Duties as spec;
 ghost use Rattle.rgo_body.specs.Nexts.{IsNextOf};
 ghost use Rattle.rgo_body.specs.Programs as spec_program;
-ghost use Rattle.rgo_body.specs.Shows.{IsPossible, BodyShows};
+ghost use Rattle.rgo_body.specs.Shows.{BodyIsPossible, BodyShows};
 ghost use Rattle.rgo_body.specs.Steps.{Becomes, StillShows, TakesLocal};
 ghost use Rattle.rgo_body.specs.declared.bodies.Side.TheVariants.{AtRest};
 
@@ -43,7 +43,7 @@ use std::alloc::AllocError;
 /// Whether a goroutine needs no stake in a region for a coming child: it has taken one, or the region is Global.
 fn has_share(holding: &Holding, key: Key) -> bool
     ensures { (slots : ℕ) (h : machine.Holder) (fills : List Fill) (r : Region_) → IsHoldingOf slots holding.now h fills
-        → region_at holding.now key ≡ Some r → result ≡ spec.has_share h.pending r }
+        → region_of_key holding.now key ≡ Some r → result ≡ spec.has_share h.pending r }
 {
     match holding.region(key) {
         Region::Global => true,
@@ -54,7 +54,7 @@ fn has_share(holding: &Holding, key: Key) -> bool
 /// Whether a region stays when its name is removed: it is protected, or Global.
 fn is_kept(holding: &Holding, key: Key) -> bool
     ensures { (slots : ℕ) (h : machine.Holder) (fills : List Fill) (r : Region_) → IsHoldingOf slots holding.now h fills
-        → region_at holding.now key ≡ Some r → result ≡ spec.is_kept h.base h.environments r }
+        → region_of_key holding.now key ≡ Some r → result ≡ spec.is_kept h.base h.environments r }
 {
     match holding.region(key) {
         Region::Global => true,
@@ -65,7 +65,7 @@ fn is_kept(holding: &Holding, key: Key) -> bool
 /// The same of the first region of the base, when that protection ends.
 fn is_kept_beyond_base(holding: &Holding, key: Key) -> bool
     ensures { (slots : ℕ) (h : machine.Holder) (fills : List Fill) (r : Region_) (rest : List Region_) → IsHoldingOf slots holding.now h fills
-        → region_at holding.now key ≡ Some r → h.base ≡ r ∷ rest → result ≡ spec.is_kept rest h.environments r }
+        → region_of_key holding.now key ≡ Some r → h.base ≡ r ∷ rest → result ≡ spec.is_kept rest h.environments r }
 {
     match holding.region(key) {
         Region::Global => true,
@@ -138,7 +138,7 @@ impl Body {
     ///
     /// On allocation failure. Then it owes what it owed before.
     pub fn expand(&mut self, program: &Program<'_>, next: &Next<'_>) -> Result<(), AllocError>
-        requires next { IsNextOf program.now.code (frames_in self.old) next.now }
+        requires next { IsNextOf program.now.code (frames_of_body self.old) next.now }
         requires empty { self.old.queue.duties ≡ [] }
         requires not_yet { self.old.is_expanded ≡ false }
         ensures expanded { OnOk result (self.new.is_expanded ≡ true) }
@@ -159,7 +159,7 @@ impl Body {
     ///
     /// On allocation failure. Then nothing has changed.
     pub fn protect(&mut self, program: &Program<'_>, name: u32) -> Result<(), AllocError>
-        requires possible { IsPossible program.now self.old }
+        requires possible { BodyIsPossible program.now self.old }
         requires first { spec.OwesFirst self.old (machine.Protect name) }
         requires rests { self.old.side ≡ AtRest }
         ensures done { OnOk result (spec.DoesLocal program.now self.old self.new) }
@@ -180,7 +180,7 @@ impl Body {
 
     /// Its first duty ends a protection of the region of this name.
     pub fn unprotect(&mut self, program: &Program<'_>, name: u32)
-        requires possible { IsPossible program.now self.old }
+        requires possible { BodyIsPossible program.now self.old }
         requires first { spec.OwesFirst self.old (machine.Unprotect name) }
         requires rests { self.old.side ≡ AtRest }
         ensures { spec.DoesLocal program.now self.old self.new }
@@ -196,7 +196,7 @@ impl Body {
     /// Its first duty takes a stake in the region of this name for a goroutine that is about to start. If it has taken one already,
     /// or the region is Global, the duty is done. Otherwise returns the region, in which a stake is to be taken.
     pub fn share(&mut self, program: &Program<'_>, name: u32) -> Option<Key>
-        requires possible { IsPossible program.now self.old }
+        requires possible { BodyIsPossible program.now self.old }
         requires first { spec.OwesFirst self.old (machine.Share name) }
         requires rests { self.old.side ≡ AtRest }
         ensures { MatchOption result (spec.DoesLocal program.now self.old self.new)
@@ -215,7 +215,7 @@ impl Body {
     /// Its first duty removes the region of this name. If the region is Global, or the goroutine protects it, the duty is done.
     /// Otherwise returns the region, in which its stake is to end.
     pub fn remove(&mut self, program: &Program<'_>, name: u32) -> Option<Key>
-        requires possible { IsPossible program.now self.old }
+        requires possible { BodyIsPossible program.now self.old }
         requires first { spec.OwesFirst self.old (machine.Remove name) }
         requires rests { self.old.side ≡ AtRest }
         ensures { MatchOption result (spec.DoesLocal program.now self.old self.new)
@@ -235,7 +235,7 @@ impl Body {
     /// Its first duty ends its protection of a region since it started. If it protects the region in another way, the duty is done.
     /// Otherwise returns the region, in which its stake is to end.
     pub fn end_base(&mut self, program: &Program<'_>) -> Option<Key>
-        requires possible { IsPossible program.now self.old }
+        requires possible { BodyIsPossible program.now self.old }
         requires first { (region : Region_) × spec.OwesFirst self.old (machine.EndBase region) }
         requires rests { self.old.side ≡ AtRest }
         ensures { MatchOption result (spec.DoesLocal program.now self.old self.new)
@@ -259,7 +259,7 @@ impl Body {
     ///
     /// On allocation failure.
     pub fn room_to_create(&mut self, program: &Program<'_>, name: u32) -> Result<(), AllocError>
-        requires possible { IsPossible program.now self.old }
+        requires possible { BodyIsPossible program.now self.old }
         requires first { spec.OwesFirst self.old (machine.Create name) }
         ensures room { OnOk result (HoldingHasRoom self.new.holding name) }
         ensures same { self.new ≡ record self.old { holding = self.new.holding } }
@@ -273,8 +273,8 @@ impl Body {
         requires first { spec.OwesFirst self.old (machine.Create name) }
         requires room { HoldingHasRoom self.old.holding name }
         requires count { self.old.counts.made + 1 < 2 ^ 64 }
-        ensures shows { (T : Setup) (g : ℕ) (c : Record) → Here T g c → BodyShows T program.now self.old c → slot < T.sizes.regions
-            → is_in slot c.frame.holder.stakes ≡ false → BodyShows T program.now self.new (created c slot) }
+        ensures shows { (T : Setup) (g : ℕ) (c : Record) → Situation T g c → BodyShows T program.now self.old c → slot < T.sizes.regions
+            → is_in slot c.frame.holder.stakes ≡ false → BodyShows T program.now self.new (created_in_slot c slot) }
         ensures done { spec.HasDoneDuty self.old self.new }
     {
         self.holding.create(name, slot);
@@ -286,8 +286,8 @@ impl Body {
     pub fn shared(&mut self, program: &Program<'_>, key: Key)
         requires first { (name : ℕ) × spec.OwesFirst self.old (machine.Share name) }
         requires shares { spec.SharesIn program.now self.old key }
-        ensures shows { (T : Setup) (g : ℕ) (c : Record) → Here T g c → BodyShows T program.now self.old c
-            → BodyShows T program.now self.new (shared c) }
+        ensures shows { (T : Setup) (g : ℕ) (c : Record) → Situation T g c → BodyShows T program.now self.old c
+            → BodyShows T program.now self.new (shared_record c) }
         ensures done { spec.HasDoneDuty self.old self.new }
     {
         self.holding.add_pending(key);
@@ -296,7 +296,7 @@ impl Body {
 
     /// Its first duty has ended its stake in this region.
     pub fn left(&mut self, program: &Program<'_>, key: Key)
-        requires possible { IsPossible program.now self.old }
+        requires possible { BodyIsPossible program.now self.old }
         requires first { (d : machine.Duty) × spec.OwesFirst self.old d }
         requires leaves { spec.LeavesIn program.now self.old key }
         ensures shows { spec.StakeHasEnded program.now self.old self.new }
@@ -325,9 +325,9 @@ impl Body {
     /// It has claimed this page for a region that it knows, as its own page there.
     pub fn claimed(&mut self, program: &Program<'_>, key: Key, page: u32)
         requires count { self.old.counts.taken + 1 < 2 ^ 64 }
-        ensures shows { (region : Region_) → region_at self.old.holding key ≡ Some region
+        ensures shows { (region : Region_) → region_of_key self.old.holding key ≡ Some region
             → (T : Setup) (c : Record) → BodyShows T program.now self.old c → next_is_spread T c ≡ false
-            → BodyShows T program.now self.new (has_claimed T c page (slot_of T.sizes.regions region)) }
+            → BodyShows T program.now self.new (has_claimed T c page (slot_or_global T.sizes.regions region)) }
         ensures same { self.new ≡ record self.old { holding = self.new.holding; counts = self.new.counts } }
         ensures regions { SameRegions self.old.holding self.new.holding }
     {

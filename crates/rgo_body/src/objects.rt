@@ -7,8 +7,8 @@ ghost use Rattle.rgo_core.specs.Core.{Setup};
 ghost use Rattle.rgo_core.specs.Records.{Record};
 ghost use Rattle.rgo_core.specs.Memory.Records.{page_of};
 ghost use Rattle.rgo_core_steps.specs.Making.{next_is_spread};
-ghost use Rattle.rgo_holding.specs.Holds.{region_at};
-ghost use Rattle.rgo_holding.specs.Known.{own_page, slot_of};
+ghost use Rattle.rgo_holding.specs.Holds.{region_of_key};
+ghost use Rattle.rgo_holding.specs.Known.{own_page, slot_or_global};
 ghost use Rattle.rgo_pages.specs.Claiming.{has_claimed};
 ghost use Rattle.rgo_sound.specs.RegionMachine.Regions.{class_region};
 ghost use Rattle.rgo_sound.specs.RegionMachine.States.{top_names};
@@ -27,7 +27,7 @@ impl Body {
     /// The region of the class of a variable of the newest frame.
     pub fn region_of(&self, next: &Next<'_>, variable: u32) -> Option<Key>
         ensures { (T : Setup) (p : Program_) (c : Record) → BodyShows T p self.now c
-            → option_map (region_at self.now.holding) result
+            → option_map (region_of_key self.now.holding) result
             ≡ option_map Some (class_region (top_names c.frame.holder.environments) (class_of next.now.function variable)) }
     {
         self.holding.key_of(next.function.class_of(variable))
@@ -36,9 +36,9 @@ impl Body {
     /// The page that it fills in a region.
     pub fn own_page(&self, key: Key) -> Option<Page>
         ensures { (T : Setup) (p : Program_) (c : Record) (region : Region) → BodyShows T p self.now c
-            → region_at self.now.holding key ≡ Some region
-            → option_map (own_page (slot_of T.sizes.regions region)) result
-            ≡ page_of (slot_of T.sizes.regions region) c.memory.fills }
+            → region_of_key self.now.holding key ≡ Some region
+            → option_map (own_page (slot_or_global T.sizes.regions region)) result
+            ≡ page_of (slot_or_global T.sizes.regions region) c.memory.fills }
     {
         self.holding.page(key)
     }
@@ -46,7 +46,7 @@ impl Body {
     /// The slot of a region; Global has the one after those of the others.
     pub fn page_slot(&self, key: Key) -> u32
         ensures { (T : Setup) (p : Program_) (c : Record) (region : Region) → BodyShows T p self.now c
-            → region_at self.now.holding key ≡ Some region → result ≡ slot_of T.sizes.regions region }
+            → region_of_key self.now.holding key ≡ Some region → result ≡ slot_or_global T.sizes.regions region }
     {
         self.holding.slot(key)
     }

@@ -2,8 +2,8 @@
 
 ghost use Rattle.std.specs.Prelude.{◌≡◌, ◌^◌, ◌+◌, ◌<◌, ◌≤◌, ◌∷◌, [], ℕ, List, Option, Some, OnErr, OnOk, false, length};
 ghost use Rattle.rgo_core.specs.Core as core;
-ghost use Rattle.rgo_core.specs.Frames.Operators.{computed};
-ghost use Rattle.rgo_core.specs.Frames.WordFrames.{WordFrame, words_of};
+ghost use Rattle.rgo_core.specs.Frames.shown.Operators.{computed};
+ghost use Rattle.rgo_core.specs.Frames.shown.WordFrames.{WordFrame, words_of};
 ghost use Rattle.rgo_core.specs.Rule.Views.{number_of};
 ghost use Rattle.rgo_core_steps.specs.Seats.{HasOne, Settles, settled};
 ghost use Rattle.rgo_stack.specs.Loop.Comes.{SeatComes};
@@ -12,9 +12,9 @@ ghost use Rattle.rgo_stack.specs.Stacks.{newest_words, words_from};
 ghost use Rattle.rgo_sound.specs.Tac.Code as tac;
 ghost use Rattle.rgo_sound.specs.Tac.Ops.{numbers_of, operation_of};
 ghost use Rattle.rgo_sound.specs.Typed.declared.actions.Action.{Action};
-ghost use Rattle.rgo_compact.specs.Bounds.{AreBelow};
-ghost use Rattle.rgo_body.specs.Bodies.{HasRoomBehind, IsReady, frames_in};
-ghost use Rattle.rgo_body.specs.Shows.{IsPossible, BodyShows};
+ghost use Rattle.rgo_compact.specs.Bounds.{VariablesFit};
+ghost use Rattle.rgo_body.specs.Bodies.{HasRoomBehind, BodyIsReady, frames_of_body};
+ghost use Rattle.rgo_body.specs.Shows.{BodyIsPossible, BodyShows};
 ghost use Rattle.rgo_body.specs.Steps.{TakesLocal};
 ghost use Rattle.rgo_body.specs.declared.bodies.Side.TheVariants.{AtRest};
 
@@ -50,7 +50,7 @@ impl Body {
         requires count { self.old.counts.steps + at_most < 2 ^ 64 }
         requires behind { behind + at_most < 18446744073709551616 }
         ensures own { seat.new.table_id ≡ seat.old.table_id }
-        ensures comes { SeatComes heap.now.setup seat.old.me behind seat.new.me result.behind (frames_in self.new) result.done result.kept }
+        ensures comes { SeatComes heap.now.setup seat.old.me behind seat.new.me result.behind (frames_of_body self.new) result.done result.kept }
         ensures shows { BodyShows heap.now.setup program.now self.new (settled heap.now.setup result.behind seat.new.me) }
         ensures same { self.new ≡ record self.old {
           stack = self.new.stack;
@@ -72,8 +72,8 @@ impl Body {
     /// The value of an action that touches nothing but words; `None` if it traps, touches anything else, or has another number of
     /// operands.
     pub fn computed(&self, action: Action, from: Operands) -> Option<u64>
-        requires { AreBelow (length (newest_words (frames_in self.now))) (numbers_of from) }
-        ensures { result ≡ computed action (words_from (frames_in self.now) (numbers_of from)) }
+        requires { VariablesFit (length (newest_words (frames_of_body self.now))) (numbers_of from) }
+        ensures { result ≡ computed action (words_from (frames_of_body self.now) (numbers_of from)) }
     {
         match from {
             Operands::Zero => match action {
@@ -101,10 +101,10 @@ impl Body {
 
     /// Its next instruction is an action that touches nothing but words, and its value is this word.
     pub fn computes(&mut self, program: &Program<'_>, next: &Next<'_>, word: u64)
-        requires possible { IsPossible program.now self.old }
-        requires ready { IsReady program.now self.old next.now }
+        requires possible { BodyIsPossible program.now self.old }
+        requires ready { BodyIsReady program.now self.old next.now }
         requires does { (to : Option ℕ) × (action : Action) × (from : List ℕ) × (operation_of next.now.op ≡ tac.Do to action from)
-            × (computed action (words_from (frames_in self.old) from) ≡ Some word) }
+            × (computed action (words_from (frames_of_body self.old) from) ≡ Some word) }
         requires rests { self.old.side ≡ AtRest }
         requires room { HasRoomBehind self.old next.now }
         requires count { self.old.counts.steps + 1 < 2 ^ 64 }

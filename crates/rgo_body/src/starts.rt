@@ -2,17 +2,17 @@
 //! the start shows at the table.
 
 ghost use Rattle.std.specs.Prelude.{◌≡◌, ◌∷◌, [], ℕ, IfOk, Option, Some, MatchOption, bytes_eq, codes};
-ghost use Rattle.rgo_core.specs.Core.{Here, Setup};
-ghost use Rattle.rgo_core.specs.Opening.{first_of, main_words};
+ghost use Rattle.rgo_core.specs.Core.{Situation, Setup};
+ghost use Rattle.rgo_core.specs.runs.Opening.{first_of, main_words};
 ghost use Rattle.rgo_core.specs.Records.{Record};
-ghost use Rattle.rgo_core.specs.Frames.WordFrames.{word_called};
+ghost use Rattle.rgo_core.specs.Frames.shown.WordFrames.{word_called};
 ghost use Rattle.rgo_core_steps.specs.After.{child};
 ghost use Rattle.rgo_sound.specs.Code.Code.{CodeFn as FnRecord};
 ghost use Rattle.rgo_sound.specs.RegionMachine.Owed.{code_function};
 ghost use Rattle.rgo_sound.specs.Tac.Code as tac;
 ghost use Rattle.rgo_sound.specs.Tac.Ops.{operation_of};
-ghost use Rattle.rgo_body.specs.Bodies.{IsFresh, IsReady};
-ghost use Rattle.rgo_body.specs.Shows.{IsPossible, BodyShows};
+ghost use Rattle.rgo_body.specs.Bodies.{IsFresh, BodyIsReady};
+ghost use Rattle.rgo_body.specs.Shows.{BodyIsPossible, BodyShows};
 ghost use Rattle.rgo_body.specs.declared.bodies.Side.TheVariants.{AtRest};
 
 use crate::bodies::{Body, Side};
@@ -110,11 +110,11 @@ impl Body {
         function: u32,
         from: &[u32],
     ) -> Result<Body, AllocError>
-        requires possible { IsPossible program.now self.now }
-        requires ready { IsReady program.now self.now next.now }
+        requires possible { BodyIsPossible program.now self.now }
+        requires ready { BodyIsReady program.now self.now next.now }
         requires starts { operation_of next.now.op ≡ tac.Go function from.now }
         requires rests { self.now.side ≡ AtRest }
-        ensures { IfOk result (λ b. (T : Setup) (g : ℕ) (c : Record) → Here T g c → BodyShows T program.now self.now c
+        ensures { IfOk result (λ b. (T : Setup) (g : ℕ) (c : Record) → Situation T g c → BodyShows T program.now self.now c
             → BodyShows T program.now b (child T.code c)) }
     {
         let callee = function as usize;

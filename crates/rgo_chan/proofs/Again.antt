@@ -1,6 +1,6 @@
 -- What a goroutine may do after each answer.
 use Rattle.std.proofs.Common.{◌≡◌, ℕ, List, [], ◌∷◌, ap, ◌∙◌, ⊎_elim}
-use Rattle.rgo_core.specs.Channels.Records.{Free, Rec as SideRec, Shut, with_look, with_own_look, with_size}
+use Rattle.rgo_core.specs.Channels.Records.{Free, ChannelRec as SideRec, Shut, with_look, with_own_look, with_size}
 use Rattle.rgo_core.specs.Rule.Views.{Me}
 use Rattle.rgo_core.specs.Rule.declared.accesses.Access.{Access}
 use Rattle.rgo_core.specs.Core.{Setup}

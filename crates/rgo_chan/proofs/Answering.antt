@@ -3,20 +3,20 @@ use Rattle.std.proofs.Common.{◌≡◌, ◌≢◌, ℕ, suc, ◌+◌, ◌==◌,
 use prog.Atomic.{either}
 use Rattle.rgo_sound.specs.Typed.declared.actions.Action.{Action}
 use Rattle.rgo_core.specs.Channels.Controls.{head_of}
-use Rattle.rgo_core.specs.Channels.Records.{Free, Locked, Rec as SideRec, with_hold, with_lock, with_size}
+use Rattle.rgo_core.specs.Channels.Records.{Free, Locked, ChannelRec as SideRec, with_hold, with_lock, with_size}
 use Rattle.rgo_core.specs.Rule.Views.{Me}
 use Rattle.rgo_core.specs.Rule.declared.accesses.Kind.TheVariants.{Commit, LockChannel}
-use Rattle.rgo_core.specs.AtChannels.{Operates, knows}
-use Rattle.rgo_core.specs.Bounds.{Points}
-use Rattle.rgo_core.specs.CommitMoves.{offers}
+use Rattle.rgo_core.specs.ties.AtChannels.{Operates, knows}
+use Rattle.rgo_core.specs.ties.Bounds.{Points}
+use Rattle.rgo_core.specs.moves.Commits.{offers}
 use Rattle.rgo_core.specs.Core.{Setup}
 use Rattle.rgo_core.specs.Records.{Record}
 use Rattle.rgo_core_steps.specs.Accesses.{given_type}
 use Rattle.rgo_core_steps.specs.After.{committing}
 use Rattle.rgo_core_steps.specs.Calls.{Did, accessing, waited}
 use Rattle.rgo_core_steps.specs.Channels.{CanReceiveZero}
-use Rattle.rgo_core_steps.specs.Seats.{Left, Stored, mine}
-use Rattle.rgo_core_steps.proofs.Calling.{did_as, did_one, did_then}
+use Rattle.rgo_core_steps.specs.Seats.{HasAccessed, Stored, mine}
+use Rattle.rgo_core_steps.proofs.accesses.Calling.{did_as, did_one, did_then}
 use Rattle.rgo_chan.specs.Answers.{Holds, Looked, Receives, Sends, cell_word, commits, free_cell, loads_cell, locks, looked, looks, misses, numbers, reaches, stores_cell, without_oldest}
 use Rattle.rgo_chan.specs.Before.{ReceivesAt, SendsAt}
 use Rattle.rgo_chan.specs.Ready.{HasNoOffer, HasOffer, BufferHasRoom, HasValue, IsDrained, IsUnlocked}
@@ -41,7 +41,7 @@ module _ (T : Setup) (at : ℕ) (c : Record) (size n : ℕ) (m v : Me Record) (s
   -- ---- after the exchange
 
   module _ (w : Me Record) (found u : ℕ) (one : u ≡ t + 1)
-      (l : Left T LockChannel at (λ x. either (x == n) (n + 1) x) (λ x d. d ≡ knows (mine T v) (with_lock (mine T v).side at n x)) v found w) where
+      (l : HasAccessed T LockChannel at (λ x. either (x == n) (n + 1) x) (λ x d. d ≡ knows (mine T v) (with_lock (mine T v).side at n x)) v found w) where
     pub missed : found ≢ n → Did T m s (λ g. looks at size n g ++ misses at found g ∷ []) (waited 3 c side) w u
     missed other =
         did_then T m v w (waited 2 c side) (waited 3 c side) s t u seen.did
@@ -153,7 +153,7 @@ module _ (T : Setup) (at : ℕ) (c : Record) (size n : ℕ) (m v : Me Record) (s
 
 module _ (T : Setup) (at : ℕ) (c : Record) (n : ℕ) (m v : Me Record) (s t : ℕ) (seen : Looked T at c 0 n m s v t) (w : Me Record) (found u : ℕ)
     (one : u ≡ t + 1)
-    (l : Left T LockChannel at (λ x. either (x == n) (n + 1) x) (λ x d. d ≡ knows (mine T v) (with_lock (mine T v).side at n x)) v found w)
+    (l : HasAccessed T LockChannel at (λ x. either (x == n) (n + 1) x) (λ x d. d ≡ knows (mine T v) (with_lock (mine T v).side at n x)) v found w)
     (same : found ≡ n) (z : Me Record) (e : ℕ) where
   pub offered : (value : ℕ) → IsUnlocked n → HasNoOffer 0 n
       → (k x y : ℕ)

@@ -1,27 +1,27 @@
 -- A goroutine stays before its operation while only its clock and what it knows of channels change.
 use Rattle.std.proofs.Common.{◌≡◌, ◌≢◌, ◌-◌, ◌+◌, ℕ, suc, List, [], ◌∷◌, Option, refl, ap, sym, ◌∙◌, inl, inr, arith}
 use Rattle.rgo_sound.specs.Code.Code.{Code, CodeOp}
-use Rattle.rgo_core.specs.Channels.Records.{Rec as SideRec}
-use Rattle.rgo_core.specs.Frames.Records.{Rec as FrameRec}
+use Rattle.rgo_core.specs.Channels.Records.{ChannelRec as SideRec}
+use Rattle.rgo_core.specs.Frames.Records.{FramesRec as FrameRec}
 use Rattle.rgo_core.specs.Memory.Words.{base as base_of}
 use Rattle.rgo_sound.specs.Typed.declared.actions.Action.TheVariants.{Close, Recv, Send}
 use Rattle.rgo_sound.specs.Typed.declared.actions.Action.{Action}
 use Rattle.rgo_sound.specs.WellFormed.TypeRules.{int}
 use Rattle.std.specs.Option.{option_map_or}
-use Rattle.rgo_core.specs.Bounds.{target_type}
-use Rattle.rgo_core.specs.AtChannels.{IsAtChannel, Operates}
-use Rattle.rgo_core.specs.CommitMoves.{IsAtSend}
+use Rattle.rgo_core.specs.ties.Bounds.{target_type}
+use Rattle.rgo_core.specs.ties.AtChannels.{IsAtChannel, Operates}
+use Rattle.rgo_core.specs.moves.Commits.{IsAtSend}
 use Rattle.rgo_core.specs.Core.{Setup, layout}
-use Rattle.rgo_core.specs.Next.{IsAt}
+use Rattle.rgo_core.specs.Next.{IsAtOp}
 use Rattle.rgo_core.specs.Records.{Record, accesses}
 use Rattle.rgo_core_steps.specs.Accesses.{given_type}
 use Rattle.rgo_core_steps.specs.After.{Position, acknowledging, committing, given, position_in}
 use Rattle.rgo_core_steps.specs.Calls.{accessing, waited}
-use Rattle.rgo_core_steps.proofs.After.{acknowledging_is, committing_is}
-use Rattle.rgo_chan.specs.Before.{ClosesAt, IsBeforeClose, IsBeforeReceive, IsBeforeSend, ReceivesAt, SendsAt, control_at}
+use Rattle.rgo_core_steps.proofs.record_steps.After.{acknowledging_is, committing_is}
+use Rattle.rgo_chan.specs.Before.{ClosesAt, IsBeforeClose, IsBeforeReceive, IsBeforeSend, ReceivesAt, SendsAt, control_of_channel}
 
 module _ {c : Record} (d : Record) (same : d.frame ≡ c.frame) where
-  abbrev pub at_as : {code : Code} {op : CodeOp} → IsAt code c op → IsAt code d op
+  abbrev pub at_as : {code : Code} {op : CodeOp} → IsAtOp code c op → IsAtOp code d op
   at_as a = record {
     w = a.w;
     ws = a.ws;
@@ -98,7 +98,7 @@ some_address : (channel : ℕ) → channel ≢ 0 → channel ≡ suc (channel - 
 some_address channel some = omega arith
 
 module _ {T : Setup} {c : Record} {base channel : ℕ} (first : base ≡ base_of (layout T)) (some : channel ≢ 0) where
-  pub sends_at : {value : ℕ} → IsBeforeSend T c channel value → SendsAt T c (control_at base channel) value
+  pub sends_at : {value : ℕ} → IsBeforeSend T c channel value → SendsAt T c (control_of_channel base channel) value
   sends_at a = record {
     to = a.to;
     sent = a.sent;
@@ -114,7 +114,7 @@ module _ {T : Setup} {c : Record} {base channel : ℕ} (first : base ≡ base_of
     word = a.word;
   }
 
-  pub receives_at : IsBeforeReceive T c channel → ReceivesAt T c (control_at base channel)
+  pub receives_at : IsBeforeReceive T c channel → ReceivesAt T c (control_of_channel base channel)
   receives_at a = (
     a.to,
     record {
@@ -128,7 +128,7 @@ module _ {T : Setup} {c : Record} {base channel : ℕ} (first : base ≡ base_of
     },
   )
 
-  pub closes_at : IsBeforeClose T c channel → ClosesAt T c (control_at base channel)
+  pub closes_at : IsBeforeClose T c channel → ClosesAt T c (control_of_channel base channel)
   closes_at a = (
     a.to,
     record {

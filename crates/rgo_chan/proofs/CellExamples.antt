@@ -9,7 +9,7 @@ use Rattle.rgo_core.specs.Rule.declared.accesses.Kind.TheVariants.{LoadIndex}
 use Rattle.rgo_core_steps.specs.Grown.{own_by}
 use Rattle.rgo_chan.specs.Answers.{Sends, cell_word, commits, free_cell, loads_capacity, loads_control, locks, looks, reaches, stores_cell}
 use Rattle.rgo_chan.specs.CellExamples.{CellExamples, done_seat, page_nine, receive_in_fours, receives_from, send_in_fours, sends_to}
-use Rattle.rgo_chan.specs.Examples.{before, first_seat}
+use Rattle.rgo_chan.specs.Examples.{before_a_send, first_seat}
 use Rattle.rgo_chan.specs.declared.answers.Tried.TheVariants.{Done}
 
 apart : (a b : ℕ) → a ≡ b → a < b → ⊥
@@ -40,12 +40,12 @@ module _ (limits : Limits) where
     now : sends_to 6 reach word ≡ does 6 4 k x y
     now = both ∙ (ap (λ s. does s n k x y) (sym size_is) ∙ ap (λ j. does 6 j k x y) (sym control_is))
 
-  not_reached : Sends T 700 before 3 (Done 0) (first_seat before) 5 (done_seat T.code 4 0 (sends_to 6 [] 703)) 10 → ⊥
+  not_reached : Sends T 700 before_a_send 3 (Done 0) (first_seat before_a_send) 5 (done_seat T.code 4 0 (sends_to 6 [] 703)) 10 → ⊥
   not_reached a =
       let e = now [] 703 a.1 a.2 a.3 a.4 a.5 a.8.made.es a.8.made.grew.seen a.8.made.own refl in
       apart 5 6 (ap length e) (omega arith)
 
-  off : Sends T 700 before 3 (Done 0) (first_seat before) 5 (done_seat T.code 5 0 (sends_to 6 (page_nine ∷ []) (cell_at (layout T) 10 1))) 11 → ⊥
+  off : Sends T 700 before_a_send 3 (Done 0) (first_seat before_a_send) 5 (done_seat T.code 5 0 (sends_to 6 (page_nine ∷ []) (cell_at (layout T) 10 1))) 11 → ⊥
   off a =
       let e = now (page_nine ∷ []) (cell_at (layout T) 10 1) a.1 a.2 a.3 a.4 a.5 a.8.made.es a.8.made.grew.seen a.8.made.own refl in
       let number : page_nine ≡ access 0 LoadIndex 702 a.3 a.3 = cc in

@@ -10,16 +10,16 @@ use Rattle.rgo_core.specs.Rule.Histories.{access}
 use Rattle.rgo_core.specs.Rule.Views.{Me}
 use Rattle.rgo_core.specs.Rule.declared.accesses.Access.{Access}
 use Rattle.rgo_core.specs.Rule.declared.accesses.Kind.TheVariants.{LoadIndex}
-use Rattle.rgo_core.specs.AtChannels.{Operates}
-use Rattle.rgo_core.specs.CommitMoves.{offers}
+use Rattle.rgo_core.specs.ties.AtChannels.{Operates}
+use Rattle.rgo_core.specs.moves.Commits.{offers}
 use Rattle.rgo_core.specs.Core.{Setup, layout}
 use Rattle.rgo_core.specs.Records.{ClockRec, Record}
 use Rattle.rgo_core.proofs.Channels.Positions.{page_low}
 use Rattle.rgo_core_steps.specs.After.{committing}
 use Rattle.rgo_core_steps.specs.Calls.{Did, accessed_by, accessing, waited}
 use Rattle.rgo_core_steps.specs.Channels.{CanReachCell, ShowsPage}
-use Rattle.rgo_core_steps.specs.Seats.{HasOne, Left, mine}
-use Rattle.rgo_core_steps.proofs.Calling.{did_as, did_none, did_one, did_then, left_record}
+use Rattle.rgo_core_steps.specs.Seats.{HasOne, HasAccessed, mine}
+use Rattle.rgo_core_steps.proofs.accesses.Calling.{did_as, did_none, did_one, did_then, left_record}
 use Rattle.rgo_chan.specs.Answers.{IsReached, numbers, reaches}
 use Rattle.rgo_chan.proofs.Carrying.{committed_as}
 
@@ -67,7 +67,7 @@ module _ (T : Setup) (at size cell : ℕ) where
 
   -- the number of the page was loaded, where a page has p words
   module _ (p : ℕ) (words : p ≡ n) (m v : Me Record) (k : ℕ)
-      (l : Left T LoadIndex (at + 2 + cell / p) (λ x. x) (ShowsPage T (mine T m) at cell) m k v) where
+      (l : HasAccessed T LoadIndex (at + 2 + cell / p) (λ x. x) (ShowsPage T (mine T m) at cell) m k v) where
     shows : ShowsPage T (mine T m) at cell k (mine T v)
     shows = left_record T m v l
 

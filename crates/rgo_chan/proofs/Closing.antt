@@ -2,18 +2,18 @@
 use Rattle.std.proofs.Common.{◌≡◌, ◌≢◌, ℕ, ◌+◌, ◌-◌, ◌==◌, [], ◌∷◌, ap, ◌∙◌, ⊎_elim}
 use prog.Atomic.{either}
 use Rattle.rgo_core.specs.Channels.Controls.{count_of}
-use Rattle.rgo_core.specs.Channels.Records.{Locked, Offering, Rec as SideRec, with_hold, with_lock}
+use Rattle.rgo_core.specs.Channels.Records.{Locked, Offering, ChannelRec as SideRec, with_hold, with_lock}
 use Rattle.rgo_core.specs.Rule.Views.{Me}
 use Rattle.rgo_core.specs.Rule.declared.accesses.Kind.TheVariants.{Commit, LoadControl, LockChannel}
-use Rattle.rgo_core.specs.AtChannels.{knows}
-use Rattle.rgo_core.specs.CommitMoves.{IsAtSend}
+use Rattle.rgo_core.specs.ties.AtChannels.{knows}
+use Rattle.rgo_core.specs.moves.Commits.{IsAtSend}
 use Rattle.rgo_core.specs.Core.{Setup}
 use Rattle.rgo_core.specs.Records.{Record}
 use Rattle.rgo_core_steps.specs.After.{acknowledging, committing}
 use Rattle.rgo_core_steps.specs.Calls.{Did, accessing, waited}
 use Rattle.rgo_core_steps.specs.Channels.{CanAcknowledge, CanClose, ShowsOwnControl}
-use Rattle.rgo_core_steps.specs.Seats.{Left, Stored, mine}
-use Rattle.rgo_core_steps.proofs.Calling.{did_as, did_one, did_then, left_record}
+use Rattle.rgo_core_steps.specs.Seats.{HasAccessed, Stored, mine}
+use Rattle.rgo_core_steps.proofs.accesses.Calling.{did_as, did_one, did_then, left_record}
 use Rattle.rgo_chan.specs.Answers.{commits, loads_control, locks, misses}
 use Rattle.rgo_chan.specs.Before.{ClosesAt}
 use Rattle.rgo_chan.specs.Ready.{IsOpen, IsTaken}
@@ -33,7 +33,7 @@ module _ (T : Setup) (at : ℕ) (c : Record) (side : SideRec) (n : ℕ) (m v : M
   same_side = ap (λ (d : Record). d.side) is_seen
 
   module _ (w : Me Record) (found u : ℕ) (one : u ≡ t + 1)
-      (l : Left T LockChannel at (λ x. either (x == n) (n + 1) x) (λ x d. d ≡ knows (mine T v) (with_lock (mine T v).side at n x)) v found w) where
+      (l : HasAccessed T LockChannel at (λ x. either (x == n) (n + 1) x) (λ x d. d ≡ knows (mine T v) (with_lock (mine T v).side at n x)) v found w) where
     pub missed : found ≢ n → Did T m s (λ g. loads_control at n g ∷ misses at found g ∷ []) (waited 2 c side) w u
     missed other =
         did_then T m v w (waited 1 c side) (waited 2 c side) s t u seen (lock_misses T at 1 c side v w n found t u is_seen l one other)
@@ -98,6 +98,6 @@ module _ (T : Setup) (at : ℕ) (c : Record) (side : SideRec) (n : ℕ) (m v : M
       )
 
 -- the offer was taken, if it is not up any more
-pub is_taken : (T : Setup) (at : ℕ) (m v : Me Record) (n : ℕ) → Left T LoadControl at (λ x. x) (ShowsOwnControl (mine T m) at) m n v
+pub is_taken : (T : Setup) (at : ℕ) (m v : Me Record) (n : ℕ) → HasAccessed T LoadControl at (λ x. x) (ShowsOwnControl (mine T m) at) m n v
     → count_of n ≢ 1 → IsTaken n
 is_taken T at m v n l other = ⊎_elim (λ e. absurd (other e)) (λ e. e) (left_record T m v l).phase

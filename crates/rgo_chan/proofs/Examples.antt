@@ -2,25 +2,25 @@
 use Rattle.std.proofs.Common.{◌≡◌, ◌<◌, ◌+◌, ℕ, List, [], ◌∷◌, ◌++◌, Option, None, length, refl, ap, sym, subst, ◌∙◌, inl, inr, ⊎_elim, arith}
 use Rattle.std.proofs.lemmas.Option.{same_Some}
 use Rattle.rgo_sound.specs.Code.Code.{CodeInstr, CodeOp, Do}
-use Rattle.rgo_core.specs.ChannelExamples.{sending}
+use Rattle.rgo_core.specs.examples.Channels.{sending}
 use Rattle.rgo_core.specs.Core.{Setup, layout}
-use Rattle.rgo_core.specs.Next.{IsAt}
+use Rattle.rgo_core.specs.Next.{IsAtOp}
 use Rattle.rgo_core.specs.Records.{Record}
-use Rattle.rgo_core.specs.Channels.Records.{Rec as SideRec, at_rest, offering, with_look, with_own_look}
-use Rattle.rgo_core.specs.Frames.WordFrames.{WordFrame, bare, word_at}
+use Rattle.rgo_core.specs.Channels.Records.{ChannelRec as SideRec, at_rest, offering_record, with_look, with_own_look}
+use Rattle.rgo_core.specs.Frames.shown.WordFrames.{WordFrame, bare, frame_word}
 use Rattle.rgo_core.specs.Rule.declared.accesses.Access.{Access}
 use Rattle.rgo_core_steps.specs.Calls.{Did, waited}
 use Rattle.rgo_core_steps.specs.Grown.{own_by}
 use Rattle.rgo_sound.specs.Machine.declared.limits.Limits.{Limits}
 use Rattle.rgo_sound.specs.Machine.declared.limits.Sizes.{Sizes}
-use Rattle.rgo_sound.specs.RegionMachine.Examples.{int_slot, main_of, plain}
+use Rattle.rgo_sound.specs.RegionMachine.Examples.{int_slot, main_of, plain_instr}
 use Rattle.rgo_sound.specs.RegionMachine.Owed.{current}
 use Rattle.rgo_sound.specs.Typed.declared.actions.Action.TheVariants.{Recv, Send}
 use Rattle.rgo_chan.specs.Answers.{Acknowledges, Closes, Sends, cell_word, commits, free_cell, loads_capacity, loads_control, locks, looked, looks, reaches, stores_cell}
 use Rattle.rgo_chan.specs.Before.{IsBeforeReceive, IsBeforeSend, SendsAt}
 use Rattle.rgo_core.specs.Memory.Words.{base}
 use Rattle.rgo_chan.specs.Ready.{IsClosed, IsBufferFull, IsOffered}
-use Rattle.rgo_chan.specs.Examples.{AnswerExamples, ReadyExamples, before, first_seat, loaded_seat, looked_seat, on_nil, with_offer}
+use Rattle.rgo_chan.specs.Examples.{AnswerExamples, ReadyExamples, before_a_send, first_seat, loaded_seat, looked_seat, on_nil, with_offer}
 use Rattle.rgo_chan.specs.declared.answers.Tried.TheVariants.{Busy, Done, NotReady, Trap}
 
 apart : (a b : ℕ) → a ≡ b → a < b → ⊥
@@ -54,7 +54,7 @@ ready_examples = record {
 
 -- ---- records
 
-abbrev at_send : (sizes : Sizes) (limits : Limits) → IsBeforeSend (sending sizes limits) before 6 3
+abbrev at_send : (sizes : Sizes) (limits : Limits) → IsBeforeSend (sending sizes limits) before_a_send 6 3
 at_send sizes limits = record {
   to = None;
   from = 0;
@@ -64,9 +64,9 @@ at_send sizes limits = record {
     w = record { function = 0; next = 0; variables = 6 ∷ 3 ∷ [] };
     ws = [];
     frames = refl;
-    fn = main_of (int_slot ∷ int_slot ∷ []) (plain (Do None Send (0 ∷ 1 ∷ []) []) ∷ []);
+    fn = main_of (int_slot ∷ int_slot ∷ []) (plain_instr (Do None Send (0 ∷ 1 ∷ []) []) ∷ []);
     in_fn = refl;
-    instr = plain (Do None Send (0 ∷ 1 ∷ []) []);
+    instr = plain_instr (Do None Send (0 ∷ 1 ∷ []) []);
     cur = refl;
     is = refl;
     none = refl;
@@ -86,9 +86,9 @@ on_nil_send sizes limits = record {
     w = record { function = 0; next = 0; variables = 0 ∷ 3 ∷ [] };
     ws = [];
     frames = refl;
-    fn = main_of (int_slot ∷ int_slot ∷ []) (plain (Do None Send (0 ∷ 1 ∷ []) []) ∷ []);
+    fn = main_of (int_slot ∷ int_slot ∷ []) (plain_instr (Do None Send (0 ∷ 1 ∷ []) []) ∷ []);
     in_fn = refl;
-    instr = plain (Do None Send (0 ∷ 1 ∷ []) []);
+    instr = plain_instr (Do None Send (0 ∷ 1 ∷ []) []);
     cur = refl;
     is = refl;
     none = refl;
@@ -98,7 +98,7 @@ on_nil_send sizes limits = record {
   word = refl;
 }
 
-there : (sizes : Sizes) (limits : Limits) → SendsAt (sending sizes limits) before (base (layout (sending sizes limits)) + 5) 3
+there : (sizes : Sizes) (limits : Limits) → SendsAt (sending sizes limits) before_a_send (base (layout (sending sizes limits)) + 5) 3
 there sizes limits = record {
   to = None;
   sent = 1;
@@ -121,7 +121,7 @@ abbrev the_frame : WordFrame
 the_frame = record { function = 0; next = 0; variables = 6 ∷ 3 ∷ [] }
 
 abbrev the_send : CodeInstr
-the_send = plain (Do None Send (0 ∷ 1 ∷ []) [])
+the_send = plain_instr (Do None Send (0 ∷ 1 ∷ []) [])
 
 sent_is : (to : Option ℕ) (n x y : ℕ) (removes : List ℕ) → Do None Send (0 ∷ n ∷ []) [] ≡ Do to Send (x ∷ y ∷ []) removes → n ≡ y
 sent_is to n x y removes e = cc
@@ -130,19 +130,19 @@ no_receive : (to : Option ℕ) (n : ℕ) (from removes : List ℕ) → Do None S
 no_receive to n from removes e = cc
 
 module _ (sizes : Sizes) (limits : Limits) where
-  the_instr : {op : CodeOp} (a : IsAt (sending sizes limits).code before op) → (the_frame ≡ a.w) × (the_send.op ≡ op)
+  the_instr : {op : CodeOp} (a : IsAtOp (sending sizes limits).code before_a_send op) → (the_frame ≡ a.w) × (the_send.op ≡ op)
   the_instr a =
       let w = first_is the_frame a.w [] a.ws a.frames in
       let i = same_Some the_send a.instr (ap (λ (f : WordFrame). current (sending sizes limits).code (bare f)) w ∙ a.cur) in
       (w, ap (λ (j : CodeInstr). j.op) i ∙ a.is)
 
-  another : IsBeforeSend (sending sizes limits) before 6 4 → ⊥
+  another : IsBeforeSend (sending sizes limits) before_a_send 6 4 → ⊥
   another a =
       let t = the_instr a.here in
       let sent = sent_is a.to 1 a.from a.sent a.removes t.1 in
-      apart 3 4 ((λ j. word_at (t.0 j) (sent j)) ∙ a.word) (omega arith)
+      apart 3 4 ((λ j. frame_word (t.0 j) (sent j)) ∙ a.word) (omega arith)
 
-  receive_not : IsBeforeReceive (sending sizes limits) before 6 → ⊥
+  receive_not : IsBeforeReceive (sending sizes limits) before_a_send 6 → ⊥
   receive_not a = no_receive a.to 1 (a.from ∷ []) a.removes (the_instr a.here).1
 
 -- ---- answers
@@ -152,7 +152,7 @@ long a b c es e = omega (arith, e)
 
 module _ (T : Setup) where
   -- the capacity 2 and this control were loaded, and both loads were counted
-  did_look : (n : ℕ) → Did T (first_seat before) 5 (looks 700 2 n) (waited 2 before (looked 700 before.side 2 n)) (looked_seat before n) 7
+  did_look : (n : ℕ) → Did T (first_seat before_a_send) 5 (looks 700 2 n) (waited 2 before_a_send (looked 700 before_a_send.side 2 n)) (looked_seat before_a_send n) 7
   did_look n = record {
     made = record {
       es = looks 700 2 n 0;
@@ -163,7 +163,7 @@ module _ (T : Setup) where
     counted = refl;
   }
 
-  uncounted : Sends T 700 before 3 NotReady (first_seat before) 5 (looked_seat before 8) 5 → ⊥
+  uncounted : Sends T 700 before_a_send 3 NotReady (first_seat before_a_send) 5 (looked_seat before_a_send 8) 5 → ⊥
   uncounted a = apart 5 7 a.4.counted (omega arith)
 
   -- what was found is what the seat has seen
@@ -176,25 +176,25 @@ module _ (T : Setup) where
         let second : loads_control 700 n 0 ≡ loads_control 700 k 0 = cc in ap (λ (a : Access). a.found) second,
   )
 
-  ready : Sends T 700 before 3 NotReady (first_seat before) 5 (looked_seat before 4) 7 → ⊥
+  ready : Sends T 700 before_a_send 3 NotReady (first_seat before_a_send) 5 (looked_seat before_a_send 4) 7 → ⊥
   ready a =
       let f = found_is 4 a.0 a.1 [] a.4.made.es a.4.made.grew.seen a.4.made.own in
       ready_examples.not_full (subst (λ n. IsBufferFull 2 n) (sym f.1) (subst (λ s. IsBufferFull s a.1) (sym f.0) a.3))
 
-  found_another : Sends T 700 before 3 (Busy 11) (first_seat before) 5 (looked_seat before 9) 7 → ⊥
+  found_another : Sends T 700 before_a_send 3 (Busy 11) (first_seat before_a_send) 5 (looked_seat before_a_send 9) 7 → ⊥
   found_another a = ⊎_elim
       (λ b. apart 9 11 (found_is 9 b.0 11 [] b.2.made.es b.2.made.grew.seen b.2.made.own).1 (omega arith))
       (λ b. apart 7 8 b.5.counted (omega arith))
       a
 
-  not_done : Sends T 700 before 3 (Done 0) (first_seat before) 5 (looked_seat before 4) 7 → ⊥
+  not_done : Sends T 700 before_a_send 3 (Done 0) (first_seat before_a_send) 5 (looked_seat before_a_send 4) 7 → ⊥
   not_done a = long (loads_capacity 700 a.1 0) (loads_control 700 a.2 0) (locks 700 a.2 0)
       (reaches T 700 a.1 (free_cell a.1 a.2) a.3 0
       ++ stores_cell (cell_word T 700 a.1 (free_cell a.1 a.2) a.3) a.4 3 0 ∷ commits 700 a.5 (a.2 + 4) 0 ∷ []) a.8.counted
 
   -- this control was loaded, and the load was counted
   did_load : (old side : SideRec) (n : ℕ)
-      → (let c : Record = record before { side = old } in
+      → (let c : Record = record before_a_send { side = old } in
       Did T (first_seat c) 5 (λ g. loads_control 700 n g ∷ []) (waited 1 c side) (loaded_seat c side n) 6)
   did_load old side n = record {
     made = record {
@@ -212,17 +212,17 @@ module _ (T : Setup) where
       let one : loads_control 700 n 0 ≡ loads_control 700 k 0 = cc in
       ap (λ (a : Access). a.found) one
 
-  not_closed_before : Closes T 700 before (Trap 6) (first_seat before) 5 (loaded_seat before at_rest 4) 6 → ⊥
+  not_closed_before : Closes T 700 before_a_send (Trap 6) (first_seat before_a_send) 5 (loaded_seat before_a_send at_rest 4) 6 → ⊥
   not_closed_before a =
       let is = loaded_is 4 a.1 a.4.made.es a.4.made.grew.seen a.4.made.own in
       apart 0 1 (subst IsClosed (sym is) a.3) (omega arith)
 
-  taken : Acknowledges T 700 with_offer NotReady (first_seat with_offer) 5 (loaded_seat with_offer (offering 700) 8) 6 → ⊥
+  taken : Acknowledges T 700 with_offer NotReady (first_seat with_offer) 5 (loaded_seat with_offer (offering_record 700) 8) 6 → ⊥
   taken a =
       let is = loaded_is 8 a.0 a.4.made.es a.4.made.grew.seen a.4.made.own in
       apart 1 2 (sym (subst IsOffered (sym is) a.3)) (omega arith)
 
-  not_stranded : Acknowledges T 700 with_offer (Trap 5) (first_seat with_offer) 5 (loaded_seat with_offer (offering 700) 4) 6 → ⊥
+  not_stranded : Acknowledges T 700 with_offer (Trap 5) (first_seat with_offer) 5 (loaded_seat with_offer (offering_record 700) 4) 6 → ⊥
   not_stranded a =
       let is = loaded_is 4 a.1 a.5.made.es a.5.made.grew.seen a.5.made.own in
       apart 0 1 (subst IsClosed (sym is) a.3) (omega arith)
@@ -247,9 +247,9 @@ answer_examples = record {
   not_closed_before = not_closed_before;
   not_closed = λ T a. apart 6 8 a.5.counted (omega arith);
   no_wait = λ T m w s t a. a;
-  not_taken = λ T. (4, refl, refl, refl, did_load T (offering 700) (offering 700) 4);
+  not_taken = λ T. (4, refl, refl, refl, did_load T (offering_record 700) (offering_record 700) 4);
   taken = taken;
-  stranded = λ T. (refl, 6, refl, refl, refl, did_load T (offering 700) (with_own_look (offering 700) 700 6) 6);
+  stranded = λ T. (refl, 6, refl, refl, refl, did_load T (offering_record 700) (with_own_look (offering_record 700) 700 6) 6);
   not_stranded = not_stranded;
   not_acknowledged = λ T a. apart 6 8 a.5.counted (omega arith);
 }

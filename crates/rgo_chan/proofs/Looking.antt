@@ -3,18 +3,18 @@ use Rattle.std.proofs.Common.{◌≡◌, ◌≢◌, ℕ, suc, ◌+◌, ◌==◌,
 use Rattle.std.proofs.lemmas.Bool.Decides.{nat_tests}
 use prog.Atomic.{either}
 use Rattle.rgo_core.specs.Channels.Controls.{closed_of, count_of}
-use Rattle.rgo_core.specs.Channels.Records.{Locked, Rec as SideRec, Shut, Stranded, with_hold, with_lock, with_look, with_own_look, with_size}
+use Rattle.rgo_core.specs.Channels.Records.{Locked, ChannelRec as SideRec, Shut, Stranded, with_hold, with_lock, with_look, with_own_look, with_size}
 use Rattle.rgo_core.specs.Rule.Histories.{access}
 use Rattle.rgo_core.specs.Rule.Views.{Me, number_of}
 use Rattle.rgo_core.specs.Rule.declared.accesses.Kind.TheVariants.{Load, LoadControl, LockChannel}
-use Rattle.rgo_core.specs.AtChannels.{knows}
+use Rattle.rgo_core.specs.ties.AtChannels.{knows}
 use Rattle.rgo_core.specs.Core.{Setup}
 use Rattle.rgo_core.specs.Records.{Record, accesses}
 use Rattle.rgo_core_steps.specs.Calls.{Did, waited}
 use Rattle.rgo_core_steps.specs.Channels.{ShowsCapacity, ShowsControl, ShowsOwnControl}
-use Rattle.rgo_core_steps.specs.Seats.{Left, Settles, mine, settled}
-use Rattle.rgo_core_steps.proofs.Calling.{did_one, did_then, left_record}
-use Rattle.rgo_core_steps.proofs.Settling.{settled_counts}
+use Rattle.rgo_core_steps.specs.Seats.{HasAccessed, Settles, mine, settled}
+use Rattle.rgo_core_steps.proofs.accesses.Calling.{did_one, did_then, left_record}
+use Rattle.rgo_core_steps.proofs.record_steps.Settling.{settled_counts}
 use Rattle.rgo_chan.specs.Answers.{Looked, loads_control, locks, looked, misses}
 
 -- ---- a load of the control changes only what was seen
@@ -80,21 +80,21 @@ module _ (c : SideRec) (at n : ℕ) where
 
 module _ (T : Setup) (at : ℕ) where
   pub did_control : (q : ℕ) (m w : Me Record) (n s t : ℕ) → Settles T q m
-      → Left T LoadControl at (λ x. x) (ShowsControl (settled T q m) at) m n w → t ≡ s + 1
+      → HasAccessed T LoadControl at (λ x. x) (ShowsControl (settled T q m) at) m n w → t ≡ s + 1
       → Did T m s (λ g. loads_control at n g ∷ []) (waited 1 (settled T q m) (with_look (settled T q m).side at n)) w t
   did_control q m w n s t settles l one =
       did_one T m w (waited 1 (settled T q m) (with_look (settled T q m).side at n)) l (λ p. p.is)
       (ap suc (settled_counts T (number_of m) q (mine T m) settles)) s t one
 
   pub did_own_control : (m w : Me Record) (n s t : ℕ)
-      → Left T LoadControl at (λ x. x) (ShowsOwnControl (mine T m) at) m n w → t ≡ s + 1
+      → HasAccessed T LoadControl at (λ x. x) (ShowsOwnControl (mine T m) at) m n w → t ≡ s + 1
       → Did T m s (λ g. loads_control at n g ∷ []) (waited 1 (mine T m) (with_own_look (mine T m).side at n)) w t
   did_own_control m w n s t l one =
       did_one T m w (waited 1 (mine T m) (with_own_look (mine T m).side at n)) l (λ p. p.is) refl s t one
 
   module _ (q : ℕ) (m v w : Me Record) (size n s t u : ℕ) (settles : Settles T q m)
-      (a : Left T Load (at + 1) (λ x. x) (ShowsCapacity T (settled T q m) at) m size v)
-      (b : Left T LoadControl at (λ x. x) (ShowsControl (mine T v) at) v n w) (one : t ≡ s + 1) (two : u ≡ t + 1) where
+      (a : HasAccessed T Load (at + 1) (λ x. x) (ShowsCapacity T (settled T q m) at) m size v)
+      (b : HasAccessed T LoadControl at (λ x. x) (ShowsControl (mine T v) at) v n w) (one : t ≡ s + 1) (two : u ≡ t + 1) where
     abbrev c : Record
     c = settled T q m
 
@@ -123,7 +123,7 @@ module _ (T : Setup) (at : ℕ) where
 -- ---- the exchange
 
 module _ (T : Setup) (at k : ℕ) (c : Record) (side : SideRec) (v w : Me Record) (n found t u : ℕ) (e : mine T v ≡ waited k c side)
-    (l : Left T LockChannel at (λ x. either (x == n) (n + 1) x) (λ x d. d ≡ knows (mine T v) (with_lock (mine T v).side at n x)) v found w)
+    (l : HasAccessed T LockChannel at (λ x. either (x == n) (n + 1) x) (λ x d. d ≡ knows (mine T v) (with_lock (mine T v).side at n x)) v found w)
     (one : u ≡ t + 1) where
   abbrev lock_if : Bool → Record
   lock_if b = knows (waited k c side) (if b then with_hold side (Locked at n) else side)

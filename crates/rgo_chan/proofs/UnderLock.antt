@@ -2,20 +2,20 @@
 use Rattle.std.proofs.Common.{◌≡◌, ℕ, suc, ◌+◌, ◌%◌, ◌<◌, [], ◌∷◌, ◌++◌, refl, ap, sym, subst, ◌∙◌}
 use Rattle.rgo_core.specs.Channels.Controls.{count_of, extent, head_of}
 use Rattle.rgo_core.specs.Channels.Locking.{IsCell, IsSpare}
-use Rattle.rgo_core.specs.Channels.Records.{Read, Rec as SideRec, Wrote, with_hold}
+use Rattle.rgo_core.specs.Channels.Records.{Read, ChannelRec as SideRec, Wrote, with_hold}
 use Rattle.rgo_core.specs.Rule.Views.{Me}
 use Rattle.rgo_core.specs.Rule.declared.accesses.Kind.TheVariants.{Commit, LoadCell, StoreCell}
-use Rattle.rgo_core.specs.AtChannels.{knows}
-use Rattle.rgo_core.specs.Bounds.{Points}
-use Rattle.rgo_core.specs.CommitMoves.{offers}
+use Rattle.rgo_core.specs.ties.AtChannels.{knows}
+use Rattle.rgo_core.specs.ties.Bounds.{Points}
+use Rattle.rgo_core.specs.moves.Commits.{offers}
 use Rattle.rgo_core.specs.Core.{Setup}
 use Rattle.rgo_core.specs.Records.{Record}
 use Rattle.rgo_core_steps.specs.Accesses.{given_type}
 use Rattle.rgo_core_steps.specs.After.{committing}
 use Rattle.rgo_core_steps.specs.Calls.{Did, accessing, waited}
 use Rattle.rgo_core_steps.specs.Channels.{CanLoadCell, RecordCanMeet, CanOffer, CanReceive, CanSend, CanStoreCell, found_by, value_by}
-use Rattle.rgo_core_steps.specs.Seats.{Left, Stored, mine}
-use Rattle.rgo_core_steps.proofs.Calling.{did_as, did_one, did_then, left_record}
+use Rattle.rgo_core_steps.specs.Seats.{HasAccessed, Stored, mine}
+use Rattle.rgo_core_steps.proofs.accesses.Calling.{did_as, did_one, did_then, left_record}
 use Rattle.rgo_chan.specs.Answers.{Holds, IsReached, cell_word, commits, free_cell, loads_cell, numbers, reaches, stores_cell}
 use Rattle.rgo_chan.specs.Before.{ReceivesAt, SendsAt}
 use Rattle.rgo_chan.specs.Ready.{HasNoOffer, HasOffer, BufferHasRoom, HasValue}
@@ -174,7 +174,7 @@ module _ (T : Setup) (at size n : ℕ) where
     -- ---- a cell was loaded
 
     module _ (value : ℕ) (here : ReceivesAt T c at)
-        (a : Left T LoadCell word (λ x. x)
+        (a : HasAccessed T LoadCell word (λ x. x)
         (λ x d. d ≡ knows c (with_hold c.side (Read at (found_by c.side.hold) cell x))) m value v) where
       abbrev read : SideRec
       read = with_hold c.side (Read at (found_by c.side.hold) cell value)
@@ -253,7 +253,7 @@ module _ (T : Setup) (at n : ℕ) (m v : Me Record) (held : Holds at 0 n (mine T
         )
 
   module _ (value : ℕ) (here : ReceivesAt T (mine T m) at)
-      (a : Left T LoadCell word (λ x. x)
+      (a : HasAccessed T LoadCell word (λ x. x)
       (λ x d. d ≡ knows (mine T m) (with_hold (mine T m).side (Read at (found_by (mine T m).side.hold) 0 x))) m value v) where
     pub can_meet : HasOffer 0 n → RecordCanMeet T (mine T v) at n
     can_meet offer =

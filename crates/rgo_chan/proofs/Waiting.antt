@@ -18,22 +18,22 @@ use Rattle.rgo_core.specs.Channels.Deadlock as why
 use Rattle.rgo_core.specs.Channels.Deadlock.{capacity_at, control_at}
 use Rattle.rgo_core.specs.Channels.Standing.{IsOfChannel}
 use Rattle.rgo_core.proofs.Frames.shown.Operands.{pointer_law}
-use Rattle.rgo_core.specs.Frames.WordFrames.{word_at}
+use Rattle.rgo_core.specs.Frames.shown.WordFrames.{frame_word}
 use Rattle.rgo_core.specs.Memory.Accesses.{Before}
 use Rattle.rgo_sound.proofs.Places.{contains_here}
 use Rattle.rgo_core.proofs.channel_steps.AtChannels.{at_channel, calm, live, next, object, place_is}
 use Rattle.rgo_core.proofs.steps.Operands.{before, rule}
 use Rattle.rgo_core.proofs.image.Standing.{at_instruction, side_at}
-use Rattle.rgo_core.specs.Moments.{moment}
-use Rattle.rgo_core.specs.AtChannels.{Operates}
-use Rattle.rgo_core.specs.Core.{Here, Setup}
-use Rattle.rgo_core.specs.Next.{IsAt}
+use Rattle.rgo_core.specs.ties.Moments.{moment}
+use Rattle.rgo_core.specs.ties.AtChannels.{Operates}
+use Rattle.rgo_core.specs.Core.{Situation, Setup}
+use Rattle.rgo_core.specs.Next.{IsAtOp}
 use Rattle.rgo_core.specs.Records.{Record}
 use Rattle.rgo_chan.specs.Waits.{LockWaits, NilReceiveWaits, NilSendWaits, OfferWaits, ReceiveWaits, SendWaits}
 
 -- ---- on a channel that is not nil
 
-module _ {T : Setup} {g : ℕ} {c : Record} (x : Here T g c) {to : Option ℕ} {action : Action} {others : List ℕ} {at : ℕ}
+module _ {T : Setup} {g : ℕ} {c : Record} (x : Situation T g c) {to : Option ℕ} {action : Action} {others : List ℕ} {at : ℕ}
     (a : Operates T c to action others at) where
   control_is : control_at (moment x) (object x a) ≡ slice_index x.words at
   control_is = ap (slice_index x.words) (place_is x a)
@@ -96,8 +96,8 @@ lock_waits T g c x at n here ctl odd = why.IsLocked at (at_channel x here) (ap (
 head_is : {X : Type 0} (u v : X) (xs ys : List X) → u ∷ xs ≡ v ∷ ys → u ≡ v
 head_is u v xs ys e = cc
 
-module _ {T : Setup} {g : ℕ} {c : Record} (x : Here T g c) {to : Option ℕ} {action : Action} {channel : ℕ} {others removes : List ℕ}
-    (of_channel : IsOfChannel action) (a : IsAt T.code c (Do to action (channel ∷ others) removes)) (nil : word_at a.w channel ≡ 0) where
+module _ {T : Setup} {g : ℕ} {c : Record} (x : Situation T g c) {to : Option ℕ} {action : Action} {channel : ℕ} {others removes : List ℕ}
+    (of_channel : IsOfChannel action) (a : IsAtOp T.code c (Do to action (channel ∷ others) removes)) (nil : frame_word a.w channel ≡ 0) where
   typed : (t : «Type») × VariableHasType (erased_fn a.fn) channel (chan_of t)
   typed =
       let t = rule x to action (channel ∷ others) removes a in

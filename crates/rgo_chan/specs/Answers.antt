@@ -3,13 +3,13 @@
 use Rattle.std.specs.Prelude.{◌≡◌, ◌≢◌, ◌⊎◌, ◌+◌, ◌-◌, ◌/◌, ◌%◌, ◌<◌, ◌≤◌, ℕ, List, [], ◌∷◌, ◌++◌, if◌then◌else◌}
 use Rattle.rgo_core.specs.Channels.Controls.{closed_of, control, count_of, extent, head_of, spreads, tail_words}
 use Rattle.rgo_core.specs.Channels.Locking.{IsCell}
-use Rattle.rgo_core.specs.Channels.Records.{Locked, Rec as SideRec, Sized, with_look, with_own_look, with_size}
+use Rattle.rgo_core.specs.Channels.Records.{Locked, ChannelRec as SideRec, Sized, with_look, with_own_look, with_size}
 use Rattle.rgo_core.specs.Rule.Histories.{access}
 use Rattle.rgo_core.specs.Rule.Views.{Me}
 use Rattle.rgo_core.specs.Rule.declared.accesses.Access.{Access}
 use Rattle.rgo_core.specs.Rule.declared.accesses.Kind.TheVariants.{Commit, Load, LoadCell, LoadControl, LoadIndex, LockChannel, StoreCell}
-use Rattle.rgo_core.specs.Bounds.{Points}
-use Rattle.rgo_core.specs.CommitMoves.{offers}
+use Rattle.rgo_core.specs.ties.Bounds.{Points}
+use Rattle.rgo_core.specs.moves.Commits.{offers}
 use Rattle.rgo_core.specs.Memory.Words.{all_words, cell_at}
 use Rattle.rgo_core.specs.Core.{Setup, layout}
 use Rattle.rgo_core.specs.Records.{Record}

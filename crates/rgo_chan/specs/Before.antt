@@ -2,12 +2,12 @@
 -- nil; `base` is the word of the table that has address 0.
 use Rattle.std.specs.Prelude.{◌≡◌, ◌≢◌, ◌+◌, ◌-◌, ◌<◌, ◌≤◌, ℕ, List, [], ◌∷◌, Option}
 use Rattle.rgo_sound.specs.Code.Code.{Do}
-use Rattle.rgo_core.specs.Frames.WordFrames.{word_at}
+use Rattle.rgo_core.specs.Frames.shown.WordFrames.{frame_word}
 use Rattle.rgo_core.specs.Memory.Words.{all_words, base as base_of}
 use Rattle.rgo_sound.specs.Typed.declared.actions.Action.TheVariants.{Close, Recv, Send}
-use Rattle.rgo_core.specs.AtChannels.{Operates}
+use Rattle.rgo_core.specs.ties.AtChannels.{Operates}
 use Rattle.rgo_core.specs.Core.{Setup, layout}
-use Rattle.rgo_core.specs.Next.{IsAt}
+use Rattle.rgo_core.specs.Next.{IsAtOp}
 use Rattle.rgo_core.specs.Records.{Record}
 
 -- the next instruction sends this value on this channel
@@ -16,25 +16,25 @@ pub record IsBeforeSend (T : Setup) (c : Record) (channel value : ℕ) : Type 0 
   pub from : ℕ
   pub sent : ℕ
   pub removes : List ℕ
-  pub here : IsAt T.code c (Do to Send (from ∷ sent ∷ []) removes)
-  pub on : word_at here.w from ≡ channel
-  pub word : word_at here.w sent ≡ value
+  pub here : IsAtOp T.code c (Do to Send (from ∷ sent ∷ []) removes)
+  pub on : frame_word here.w from ≡ channel
+  pub word : frame_word here.w sent ≡ value
 
 -- it receives from this channel
 pub record IsBeforeReceive (T : Setup) (c : Record) (channel : ℕ) : Type 0 where
   pub to : Option ℕ
   pub from : ℕ
   pub removes : List ℕ
-  pub here : IsAt T.code c (Do to Recv (from ∷ []) removes)
-  pub on : word_at here.w from ≡ channel
+  pub here : IsAtOp T.code c (Do to Recv (from ∷ []) removes)
+  pub on : frame_word here.w from ≡ channel
 
 -- it closes it
 pub record IsBeforeClose (T : Setup) (c : Record) (channel : ℕ) : Type 0 where
   pub to : Option ℕ
   pub from : ℕ
   pub removes : List ℕ
-  pub here : IsAt T.code c (Do to Close (from ∷ []) removes)
-  pub on : word_at here.w from ≡ channel
+  pub here : IsAtOp T.code c (Do to Close (from ∷ []) removes)
+  pub on : frame_word here.w from ≡ channel
 
 -- ---- on a channel that is not nil; `at` is the word of its control
 
@@ -42,7 +42,7 @@ pub record SendsAt (T : Setup) (c : Record) (at value : ℕ) : Type 0 where
   pub to : Option ℕ
   pub sent : ℕ
   pub here : Operates T c to Send (sent ∷ []) at
-  pub word : word_at here.here.w sent ≡ value
+  pub word : frame_word here.here.w sent ≡ value
 
 abbrev pub ReceivesAt : Setup → Record → (at : ℕ) → Type 0
 ReceivesAt T c at = (to : Option ℕ) × Operates T c to Recv [] at
@@ -51,12 +51,12 @@ abbrev pub ClosesAt : Setup → Record → (at : ℕ) → Type 0
 ClosesAt T c at = (to : Option ℕ) × Operates T c to Close [] at
 
 -- the word of the control of a channel that is not nil
-abbrev pub control_at : (base channel : ℕ) → ℕ
-control_at base channel = base + (channel - 1)
+abbrev pub control_of_channel : (base channel : ℕ) → ℕ
+control_of_channel base channel = base + (channel - 1)
 
 -- if it is not nil, its control, its capacity and the word after them are words of the table
 abbrev pub LiesIn : Setup → (base channel : ℕ) → Type 0
-LiesIn T base channel = channel ≢ 0 → control_at base channel + 3 ≤ all_words (layout T)
+LiesIn T base channel = channel ≢ 0 → control_of_channel base channel + 3 ≤ all_words (layout T)
 
 -- the pages of the table begin at word `base`, and each has `words` words, at least one
 abbrev pub IsPaged : Setup → (base page_words : ℕ) → Type 0

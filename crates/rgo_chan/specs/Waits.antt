@@ -4,10 +4,10 @@ use Rattle.std.specs.Prelude.{◌≡◌, ◌+◌, ◌%◌, ℕ, slice_index}
 use Rattle.rgo_core.specs.Channels.Deadlock.{Blocked}
 use Rattle.rgo_core.specs.Channels.Records.{Free, Offering, Shut, Stranded}
 use Rattle.rgo_core.specs.Rule.Views.{Me}
-use Rattle.rgo_core.specs.Moments.{moment}
-use Rattle.rgo_core.specs.AtChannels.{IsAtChannel}
-use Rattle.rgo_core.specs.CommitMoves.{IsAtSend}
-use Rattle.rgo_core.specs.Core.{Here, Setup}
+use Rattle.rgo_core.specs.ties.Moments.{moment}
+use Rattle.rgo_core.specs.ties.AtChannels.{IsAtChannel}
+use Rattle.rgo_core.specs.moves.Commits.{IsAtSend}
+use Rattle.rgo_core.specs.Core.{Situation, Setup}
 use Rattle.rgo_core.specs.Records.{Record}
 use Rattle.rgo_core_steps.specs.Seats.{mine}
 use Rattle.rgo_chan.specs.Answers.{Acknowledges, Closes, Receives, Sends}
@@ -19,29 +19,29 @@ use Rattle.rgo_chan.specs.declared.answers.Tried.TheVariants.{Busy, NotReady, Of
 
 -- a send was not ready
 abbrev pub SendWaits : Type 0
-SendWaits = (T : Setup) (g : ℕ) (c : Record) (x : Here T g c) (at value size n : ℕ) → SendsAt T c at value
+SendWaits = (T : Setup) (g : ℕ) (c : Record) (x : Situation T g c) (at value size n : ℕ) → SendsAt T c at value
     → slice_index x.words (at + 1) ≡ size → slice_index x.words at ≡ n → IsBufferFull size n → Blocked (moment x) g c.side
 
 -- a receive was not
 abbrev pub ReceiveWaits : Type 0
-ReceiveWaits = (T : Setup) (g : ℕ) (c : Record) (x : Here T g c) (at size n : ℕ) → ReceivesAt T c at
+ReceiveWaits = (T : Setup) (g : ℕ) (c : Record) (x : Situation T g c) (at size n : ℕ) → ReceivesAt T c at
     → slice_index x.words (at + 1) ≡ size → slice_index x.words at ≡ n → IsEmpty size n → Blocked (moment x) g c.side
 
 -- the channel is nil
 abbrev pub NilSendWaits : Type 0
-NilSendWaits = (T : Setup) (g : ℕ) (c : Record) (x : Here T g c) (value : ℕ) → IsBeforeSend T c 0 value → Blocked (moment x) g c.side
+NilSendWaits = (T : Setup) (g : ℕ) (c : Record) (x : Situation T g c) (value : ℕ) → IsBeforeSend T c 0 value → Blocked (moment x) g c.side
 
 abbrev pub NilReceiveWaits : Type 0
-NilReceiveWaits = (T : Setup) (g : ℕ) (c : Record) (x : Here T g c) → IsBeforeReceive T c 0 → Blocked (moment x) g c.side
+NilReceiveWaits = (T : Setup) (g : ℕ) (c : Record) (x : Situation T g c) → IsBeforeReceive T c 0 → Blocked (moment x) g c.side
 
 -- the own offer is not taken
 abbrev pub OfferWaits : Type 0
-OfferWaits = (T : Setup) (g : ℕ) (c : Record) (x : Here T g c) (at n : ℕ) → c.side.post ≡ Offering at
+OfferWaits = (T : Setup) (g : ℕ) (c : Record) (x : Situation T g c) (at n : ℕ) → c.side.post ≡ Offering at
     → slice_index x.words at ≡ n → IsOpen n → IsOffered n → Blocked (moment x) g c.side
 
 -- The control was locked. If an exchange found another control than the load before it, there is no moment at which both were so.
 abbrev pub LockWaits : Type 0
-LockWaits = (T : Setup) (g : ℕ) (c : Record) (x : Here T g c) (at n : ℕ) → IsAtChannel T c at
+LockWaits = (T : Setup) (g : ℕ) (c : Record) (x : Situation T g c) (at n : ℕ) → IsAtChannel T c at
     → slice_index x.words at ≡ n → n % 2 ≡ 1 → Blocked (moment x) g c.side
 
 -- ---- what a goroutine may do next, by its record d

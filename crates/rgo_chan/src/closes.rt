@@ -1,11 +1,11 @@
 //! Closes, and acknowledgements of offers that were taken. Both are decided by the control alone, so neither loads the capacity.
 ghost use Rattle.std.specs.Prelude.{◌≡◌, ◌≢◌, ◌≤◌, ◌<◌, ◌+◌, ℕ};
 ghost use Rattle.rgo_chan.specs.Answers.{Acknowledges, Closes};
-ghost use Rattle.rgo_chan.specs.Before.{ClosesAt, IsBeforeClose, LiesIn, control_at};
+ghost use Rattle.rgo_chan.specs.Before.{ClosesAt, IsBeforeClose, LiesIn, control_of_channel};
 ghost use Rattle.rgo_chan.specs.declared.answers.Tried.TheVariants.{Trap};
-ghost use Rattle.rgo_core.specs.CommitMoves.{IsAtSend};
+ghost use Rattle.rgo_core.specs.moves.Commits.{IsAtSend};
 ghost use Rattle.rgo_core.specs.Core.{layout};
-ghost use Rattle.rgo_core.specs.Plans.{setup_of};
+ghost use Rattle.rgo_core.specs.runs.Plans.{setup_of};
 ghost use Rattle.rgo_core.specs.Channels.Records.{Free, Offering};
 ghost use Rattle.rgo_core.specs.Memory.Words.{all_words, base as base_of};
 ghost use Rattle.rgo_core_steps.specs.Calls.{IsSeatIn};
@@ -85,7 +85,7 @@ pub fn close_channel<L: Ledger>(
     ensures nil { channel ≡ 0
         → (result ≡ Trap 7) × (seat.new.me ≡ seat.old.me) × (steps.new ≡ steps.old) }
     ensures answers { channel ≢ 0 → let T = setup_of table.now.shared.key in
-        Closes T (control_at base channel) (settled T behind seat.old.me) result
+        Closes T (control_of_channel base channel) (settled T behind seat.old.me) result
         seat.old.me steps.old seat.new.me steps.new }
     ensures possible { channel ≢ 0 → HasPossible (setup_of table.now.shared.key) seat.new.me }
 {

@@ -2,9 +2,9 @@
 //! word that was loaded, the control; the capacity never changes.
 ghost use Rattle.std.specs.Prelude.{◌≡◌, ◌≤◌, ◌+◌};
 ghost use Rattle.rgo_chan.specs.Answers.{Looked};
-ghost use Rattle.rgo_core.specs.AtChannels.{IsAtChannel};
+ghost use Rattle.rgo_core.specs.ties.AtChannels.{IsAtChannel};
 ghost use Rattle.rgo_core.specs.Core.{layout};
-ghost use Rattle.rgo_core.specs.Plans.{setup_of};
+ghost use Rattle.rgo_core.specs.runs.Plans.{setup_of};
 ghost use Rattle.rgo_core.specs.Memory.Words.{all_words};
 ghost use Rattle.rgo_core_steps.specs.Calls.{IsSeatIn};
 ghost use Rattle.rgo_core_steps.specs.Seats.{HasOne, HasPossible, Settles, settled};

@@ -4,7 +4,7 @@ ghost use Rattle.std.specs.Prelude.{◌≡◌, ◌≤◌, ◌<◌, ◌+◌};
 ghost use Rattle.rgo_chan.specs.Answers.{IsReached, numbers};
 ghost use Rattle.rgo_chan.specs.Before.{IsPaged};
 ghost use Rattle.rgo_core.specs.Core.{layout};
-ghost use Rattle.rgo_core.specs.Plans.{setup_of};
+ghost use Rattle.rgo_core.specs.runs.Plans.{setup_of};
 ghost use Rattle.rgo_core.specs.Channels.Controls.{extent, tail_words};
 ghost use Rattle.rgo_core.specs.Channels.Records.{Sized};
 ghost use Rattle.rgo_core.specs.Memory.Words.{all_words};

@@ -2,12 +2,12 @@
 //! left.
 ghost use Rattle.std.specs.Prelude.{◌≡◌, ◌≢◌, ◌≤◌, ◌<◌, ◌+◌, ◌^◌, ℕ, suc, [], ◌∷◌, ◌++◌};
 ghost use Rattle.rgo_chan.specs.Answers.{Holds, Receives, cell_word, commits, loads_cell, numbers, reaches, without_oldest};
-ghost use Rattle.rgo_chan.specs.Before.{IsBeforeReceive, IsPaged, LiesIn, ReceivesAt, control_at};
+ghost use Rattle.rgo_chan.specs.Before.{IsBeforeReceive, IsPaged, LiesIn, ReceivesAt, control_of_channel};
 ghost use Rattle.rgo_chan.specs.Ready.{HasOffer, HasValue, IsDrained};
 ghost use Rattle.rgo_chan.specs.declared.answers.Tried.TheVariants.{NotReady};
-ghost use Rattle.rgo_core.specs.Bounds.{Points};
+ghost use Rattle.rgo_core.specs.ties.Bounds.{Points};
 ghost use Rattle.rgo_core.specs.Core.{layout};
-ghost use Rattle.rgo_core.specs.Plans.{setup_of};
+ghost use Rattle.rgo_core.specs.runs.Plans.{setup_of};
 ghost use Rattle.rgo_core.specs.Channels.Controls.{extent, head_of, tail_words};
 ghost use Rattle.rgo_core.specs.Channels.Records.{Free};
 ghost use Rattle.rgo_core.specs.Memory.Words.{all_words, base as base_of};
@@ -188,7 +188,7 @@ pub fn receive<L: Ledger>(
     ensures nil { channel ≡ 0
         → (result ≡ NotReady) × (seat.new.me ≡ seat.old.me) × (steps.new ≡ steps.old) }
     ensures answers { channel ≢ 0 → let T = setup_of table.now.shared.key in
-        Receives T (control_at base channel) (settled T behind seat.old.me) result
+        Receives T (control_of_channel base channel) (settled T behind seat.old.me) result
         seat.old.me steps.old seat.new.me steps.new }
     ensures possible { channel ≢ 0 → HasPossible (setup_of table.now.shared.key) seat.new.me }
 {

@@ -1,12 +1,12 @@
 //! Sends: into a buffer, or as an offer at a channel without one.
 ghost use Rattle.std.specs.Prelude.{◌≡◌, ◌≢◌, ◌≤◌, ◌<◌, ◌+◌, ◌^◌, ℕ, suc, [], ◌∷◌, ◌++◌};
 ghost use Rattle.rgo_chan.specs.Answers.{Holds, Sends, cell_word, commits, free_cell as free_cell_of, numbers, reaches, stores_cell};
-ghost use Rattle.rgo_chan.specs.Before.{IsBeforeSend, IsPaged, LiesIn, SendsAt, control_at};
+ghost use Rattle.rgo_chan.specs.Before.{IsBeforeSend, IsPaged, LiesIn, SendsAt, control_of_channel};
 ghost use Rattle.rgo_chan.specs.Ready.{HasNoOffer, BufferHasRoom};
 ghost use Rattle.rgo_chan.specs.declared.answers.Tried.TheVariants.{NotReady};
-ghost use Rattle.rgo_core.specs.CommitMoves.{offers};
+ghost use Rattle.rgo_core.specs.moves.Commits.{offers};
 ghost use Rattle.rgo_core.specs.Core.{layout};
-ghost use Rattle.rgo_core.specs.Plans.{setup_of};
+ghost use Rattle.rgo_core.specs.runs.Plans.{setup_of};
 ghost use Rattle.rgo_core.specs.Channels.Controls.{tail_words};
 ghost use Rattle.rgo_core.specs.Channels.Records.{Free};
 ghost use Rattle.rgo_core.specs.Memory.Words.{all_words, base as base_of};
@@ -183,7 +183,7 @@ pub fn send<L: Ledger>(
     ensures nil { channel ≡ 0
         → (result ≡ NotReady) × (seat.new.me ≡ seat.old.me) × (steps.new ≡ steps.old) }
     ensures answers { channel ≢ 0 → let T = setup_of table.now.shared.key in
-        Sends T (control_at base channel) (settled T behind seat.old.me) value result
+        Sends T (control_of_channel base channel) (settled T behind seat.old.me) value result
         seat.old.me steps.old seat.new.me steps.new }
     ensures possible { channel ≢ 0 → HasPossible (setup_of table.now.shared.key) seat.new.me }
 {

@@ -5,7 +5,7 @@ use Rattle.std.proofs.lemmas.Option.{same_Some, none-some}
 use Rattle.std.proofs.lemmas.Slice.Eq.{bytes_eq-Decides}
 use Rattle.std.specs.Bool.{Decides}
 use Rattle.rgo_tac.specs.declared.regions.Class.{Class}
-use Rattle.rgo_checker.specs.ClassTests.{same_class}
+use Rattle.rgo_checker.specs.ClassTests.{equal_classes}
 use Rattle.rgo_checker.proofs.decides.ClassLaws.{same_class_decided}
 use Rattle.rgo_checker.proofs.Deciding.{decides_same, decides_less}
 use Rattle.rgo_checker.proofs.Listing.{contains_none, contains_here, contains_there, contains_cases}
@@ -56,7 +56,7 @@ pub same_bytes : (a b : List ℕ) → Decided (a ≡ b)
 same_bytes a b = by_test (bytes_eq a b) (bytes_eq-Decides a b)
 
 pub one_class : (a b : Class) → Decided (a ≡ b)
-one_class a b = by_test (same_class a b) (same_class_decided a b)
+one_class a b = by_test (equal_classes a b) (same_class_decided a b)
 
 pub is_some_of : {A : Type 0} → ((a b : A) → Decided (a ≡ b)) → (o : Option A) (a : A) → Decided (o ≡ Some a)
 is_some_of same None a = inr (λ e. none-some a e)

@@ -15,16 +15,16 @@ use Rattle.rgo_code.specs.Erasure.{erased_fn}
 use Rattle.rgo_code.specs.Names.{class_of, result_class, member_class}
 use Rattle.rgo_checker.specs.declared.passing.Called.{Called}
 
-abbrev pub same_class : Class → Class → Bool
-same_class NoClass NoClass = true
-same_class Global Global = true
-same_class (Name m) (Name n) = nat_eq m n
-same_class NoClass Global = false
-same_class NoClass (Name n) = false
-same_class Global NoClass = false
-same_class Global (Name n) = false
-same_class (Name m) NoClass = false
-same_class (Name m) Global = false
+abbrev pub equal_classes : Class → Class → Bool
+equal_classes NoClass NoClass = true
+equal_classes Global Global = true
+equal_classes (Name m) (Name n) = nat_eq m n
+equal_classes NoClass Global = false
+equal_classes NoClass (Name n) = false
+equal_classes Global NoClass = false
+equal_classes Global (Name n) = false
+equal_classes (Name m) NoClass = false
+equal_classes (Name m) Global = false
 
 -- ---- rule 3
 
@@ -44,7 +44,7 @@ result_fits c (Some ty) = class_fits c ty
 
 abbrev pub agree : CodeFn → Option (Member × Member) → Bool
 agree f None = true
-agree f (Some pair) = same_class (member_class f pair.0) (member_class f pair.1)
+agree f (Some pair) = equal_classes (member_class f pair.0) (member_class f pair.1)
 
 abbrev pub op_agrees : CodeFn → Op → Bool
 op_agrees f op = agree f (joins (erased_fn f) op)
@@ -91,7 +91,7 @@ AreDistinctClasses classes =
 
 abbrev pub is_class : Option Class → Class → Bool
 is_class None c = false
-is_class (Some d) c = same_class d c
+is_class (Some d) c = equal_classes d c
 
 -- the class is passed at the place
 abbrev pub is_passed_at : Option ℕ → (passes : List Class) → Class → Bool
@@ -100,7 +100,7 @@ is_passed_at (Some p) passes c = is_class (slice_get passes p) c
 
 abbrev pub is_passed_for : {S : Type 0} → HashMap ℕ ℕ S → (passes : List Class) → (parameter argument : Class) → Bool
 is_passed_for places passes NoClass argument = true
-is_passed_for places passes Global argument = same_class argument Global
+is_passed_for places passes Global argument = equal_classes argument Global
 is_passed_for places passes (Name k) argument = is_passed_at (get nat_eq places k) passes argument
 
 -- what is passed for the parameters
@@ -118,26 +118,26 @@ ArgumentPasses f callee parameters passes i v =
     i < callee.params → IsPassedFor parameters passes (class_of callee i) (class_of f v)
 
 -- calls and starts, by target, function and arguments
-abbrev pub called : Called → Option ℕ × ℕ × List ℕ
-called c = (c.to, c.function, c.from.now)
+abbrev pub called_operands : Called → Option ℕ × ℕ × List ℕ
+called_operands c = (c.to, c.function, c.from.now)
 
-abbrev pub call_of : Op → Option (Option ℕ × ℕ × List ℕ)
-call_of (Call to n from) = Some (to, n, from)
-call_of (Do to action from) = None
-call_of (Go n from) = None
-call_of (Print pieces from) = None
-call_of (Jump target) = None
-call_of (Branch test target other) = None
-call_of (Return value) = None
+abbrev pub call_operands : Op → Option (Option ℕ × ℕ × List ℕ)
+call_operands (Call to n from) = Some (to, n, from)
+call_operands (Do to action from) = None
+call_operands (Go n from) = None
+call_operands (Print pieces from) = None
+call_operands (Jump target) = None
+call_operands (Branch test target other) = None
+call_operands (Return value) = None
 
-abbrev pub start_of : Op → Option (Option ℕ × ℕ × List ℕ)
-start_of (Go n from) = Some (None, n, from)
-start_of (Do to action from) = None
-start_of (Call to n from) = None
-start_of (Print pieces from) = None
-start_of (Jump target) = None
-start_of (Branch test target other) = None
-start_of (Return value) = None
+abbrev pub start_operands : Op → Option (Option ℕ × ℕ × List ℕ)
+start_operands (Go n from) = Some (None, n, from)
+start_operands (Do to action from) = None
+start_operands (Call to n from) = None
+start_operands (Print pieces from) = None
+start_operands (Jump target) = None
+start_operands (Branch test target other) = None
+start_operands (Return value) = None
 
 abbrev pub CalledPasses : Code → CodeFn → List Class → Option ℕ × ℕ × List ℕ → Type 0
 CalledPasses code f passes call = CallPasses f (slice_get code.functions call.1) call.0 call.2 passes
@@ -175,13 +175,13 @@ is_free Global names = true
 abbrev pub lends : Class → (creates removes otherwise : List ℕ) → Bool
 lends c creates removes otherwise = is_free c creates && (is_free c removes && is_free c otherwise)
 
-abbrev pub is_empty : List ℕ → Bool
-is_empty [] = true
-is_empty (k ∷ ks) = false
+abbrev pub has_no_names : List ℕ → Bool
+has_no_names [] = true
+has_no_names (k ∷ ks) = false
 
 -- no name, or that of the result
 abbrev pub is_lent : Class → Class → Bool
-is_lent result (Name k) = same_class result (Name k)
+is_lent result (Name k) = equal_classes result (Name k)
 is_lent result NoClass = true
 is_lent result Global = true
 
@@ -190,7 +190,7 @@ value_is_lent f None = true
 value_is_lent f (Some v) = is_lent (result_class f) (class_of f v)
 
 abbrev pub ends_empty : CodeFn → (creates : List ℕ) → Op → Bool
-ends_empty f creates (Return value) = is_empty creates && value_is_lent f value
+ends_empty f creates (Return value) = has_no_names creates && value_is_lent f value
 ends_empty f creates (Do to action from) = true
 ends_empty f creates (Call to n from) = true
 ends_empty f creates (Go n from) = true

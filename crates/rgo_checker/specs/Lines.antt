@@ -17,21 +17,21 @@ struct_lines ss = first_lines line.Struct (length ss)
 abbrev pub variable_lines : List Variable → List Line
 variable_lines vs = first_lines line.Variable (length vs)
 
-abbrev pub slot_lines : ℕ → List Slot → List Line
-slot_lines n ss = first_lines (line.Slot n) (length ss)
+abbrev pub lines_of_slots : ℕ → List Slot → List Line
+lines_of_slots n ss = first_lines (line.Slot n) (length ss)
 
-abbrev pub instr_lines : ℕ → List CodeInstr → List Line
-instr_lines n xs = first_lines (line.Instr n) (length xs)
+abbrev pub lines_of_instrs : ℕ → List CodeInstr → List Line
+lines_of_instrs n xs = first_lines (line.Instr n) (length xs)
 
 -- of a function: its head, its variables, the removals at entry, its instructions, its end
-abbrev pub fn_lines : ℕ → CodeFn → List Line
-fn_lines n f =
-    line.Function n ∷ (slot_lines n f.variables ++ (line.Entry n ∷ (instr_lines n f.body ++ line.End n ∷ [])))
+abbrev pub lines_of_function : ℕ → CodeFn → List Line
+lines_of_function n f =
+    line.Function n ∷ (lines_of_slots n f.variables ++ (line.Entry n ∷ (lines_of_instrs n f.body ++ line.End n ∷ [])))
 
 -- of the functions from number n on
 abbrev pub functions_lines : ℕ → List CodeFn → List Line
 functions_lines n [] = []
-functions_lines n (f ∷ fs) = fn_lines n f ++ functions_lines (n + 1) fs
+functions_lines n (f ∷ fs) = lines_of_function n f ++ functions_lines (n + 1) fs
 
 abbrev pub lines_of : Code → List Line
 lines_of code =

@@ -5,11 +5,11 @@ use Rattle.rgo_code.specs.Checked.{IsChecked, IsFirstBroken}
 use Rattle.rgo_code.specs.Code.{Code}
 use Rattle.rgo_checker.specs.declared.errors.CheckError.{CheckError}
 use Rattle.rgo_checker.specs.declared.errors.CheckError.TheVariants.{NoMemory, TooLarge, Refused}
-use Rattle.rgo_checker.specs.Sizes.{IsTooLarge}
+use Rattle.rgo_checker.specs.Sizes.{IsTooLargeToCheck}
 
 abbrev pub CheckFails : CheckError → Code → Type 0
 CheckFails NoMemory code = ⊤
-CheckFails TooLarge code = IsTooLarge code
+CheckFails TooLarge code = IsTooLargeToCheck code
 CheckFails (Refused r) code = IsFirstBroken code r.rule r.line
 
 -- no code has two first broken rules and lines, and checked code has none

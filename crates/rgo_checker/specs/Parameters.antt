@@ -10,7 +10,7 @@ ArePlacesBelow classes count places =
     (λ p. slice_get classes p ≡ Some (Name k))
 
 -- what a map has at q once a class is at place p
-abbrev pub placed : Class → (p q : ℕ) → Option ℕ → Option ℕ
-placed (Name k) p q before = if nat_eq k q then Some p else before
-placed NoClass p q before = before
-placed Global p q before = before
+abbrev pub place_with_class : Class → (p q : ℕ) → Option ℕ → Option ℕ
+place_with_class (Name k) p q before = if nat_eq k q then Some p else before
+place_with_class NoClass p q before = before
+place_with_class Global p q before = before

@@ -21,14 +21,14 @@ is_call (Branch test target other) = false
 is_call (Return value) = false
 
 -- the function that is called
-abbrev pub callee_of : Op → Option ℕ
-callee_of (Call to n from) = Some n
-callee_of (Do to action from) = None
-callee_of (Go n from) = None
-callee_of (Print pieces from) = None
-callee_of (Jump target) = None
-callee_of (Branch test target other) = None
-callee_of (Return value) = None
+abbrev pub called_function : Op → Option ℕ
+called_function (Call to n from) = Some n
+called_function (Do to action from) = None
+called_function (Go n from) = None
+called_function (Print pieces from) = None
+called_function (Jump target) = None
+called_function (Branch test target other) = None
+called_function (Return value) = None
 
 abbrev pub GivenTo : Code → Option ℕ → (passes : List Class) → (protects : List ℕ) → ℕ → Type 0
 GivenTo code None passes protects k = ⊥
@@ -36,4 +36,4 @@ GivenTo code (Some n) passes protects k = IsGiven (slice_get code.functions n) p
 
 -- an instruction with these lists leaves it to a callee to remove k
 abbrev pub GivenBy : Code → Op → (passes : List Class) → (protects : List ℕ) → ℕ → Type 0
-GivenBy code op passes protects k = GivenTo code (callee_of op) passes protects k
+GivenBy code op passes protects k = GivenTo code (called_function op) passes protects k

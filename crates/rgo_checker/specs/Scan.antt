@@ -18,15 +18,15 @@ AreKept code from to lines =
     → slice_get lines place ≡ Some l → IsKept code rule l
 
 -- the number of the line at a place, if that has 32 bits; the first has the number 2
-abbrev pub number_of : ℕ → ℕ
-number_of place = min (place + 2) (2 ^ 32 - 1)
+abbrev pub line_number_at : ℕ → ℕ
+line_number_at place = min (place + 2) (2 ^ 32 - 1)
 
 -- the line of this number is the first of these that breaks the rule
 pub record BreaksFirst (code : Code) (lines : List Line) (rule : Rule) (number : ℕ) : Type 0 where
   pub place : ℕ
   pub at : Line
   pub there : slice_get lines place ≡ Some at
-  pub numbered : number ≡ number_of place
+  pub numbered : number ≡ line_number_at place
   pub is_broken : IsKept code rule at → ⊥
   pub first : (before : ℕ) (l : Line) → before < place → slice_get lines before ≡ Some l → IsKept code rule l
 
@@ -42,7 +42,7 @@ BrokenIs code from to lines limit (Some x) = IsBroken code from to lines limit x
 
 -- these lines were walked over, with the rules with numbers from `from` up to but not `to`
 pub record Scanned (code : Code) (from to : ℕ) (lines : List Line) (s : Scan) : Type 0 where
-  pub line : s.line ≡ number_of (length lines)
+  pub line : s.line ≡ line_number_at (length lines)
   pub kept : AreKept code from s.limit lines
   pub broken : BrokenIs code from to lines s.limit s.broken
 
@@ -51,9 +51,9 @@ pub record Walks (code : Code) (from to : ℕ) (lines : List Line) (old new : Sc
   pub walks : (seen : List Line) → Scanned code from to seen old → Scanned code from to (seen ++ lines) new
 
 -- the next line is walked over, and breaks this rule
-abbrev pub passed : Scan → Option Rule → Scan
-passed s None = record { line = min (s.line + 1) (2 ^ 32 - 1); limit = s.limit; broken = s.broken }
-passed s (Some rule) = record {
+abbrev pub past_next_line : Scan → Option Rule → Scan
+past_next_line s None = record { line = min (s.line + 1) (2 ^ 32 - 1); limit = s.limit; broken = s.broken }
+past_next_line s (Some rule) = record {
   line = min (s.line + 1) (2 ^ 32 - 1);
   limit = rule_number rule;
   broken = Some (record { rule = rule; line = s.line });

@@ -6,16 +6,16 @@ use Rattle.rgo_code.specs.Code.{Code}
 use Rattle.rgo_code.specs.Lines.{line_number}
 
 -- the lines of a function, and of several, by their three-address code
-abbrev pub function_lines : TacFn → ℕ
-function_lines f = length f.variables + length f.body + 3
+abbrev pub function_line_count : TacFn → ℕ
+function_line_count f = length f.variables + length f.body + 3
 
 abbrev pub functions_lines : List TacFn → ℕ
 functions_lines [] = 0
-functions_lines (f ∷ fs) = function_lines f + functions_lines fs
+functions_lines (f ∷ fs) = function_line_count f + functions_lines fs
 
 -- the greatest number of a line, that of the end of the text, does not have 32 bits
-abbrev pub IsTooLarge : Code → Type 0
-IsTooLarge code = 2 ^ 32 ≤ line_number code AfterLast
+abbrev pub IsTooLargeToCheck : Code → Type 0
+IsTooLargeToCheck code = 2 ^ 32 ≤ line_number code AfterLast
 
 -- it has, and so have those of all lines before it
 abbrev pub HasNumbers : Code → Type 0

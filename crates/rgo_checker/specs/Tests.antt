@@ -17,7 +17,7 @@ use Rattle.rgo_code.specs.Checked.{rule_number}
 use Rattle.rgo_code.specs.Exists.{leaves}
 use Rattle.rgo_checker.specs.declared.actions.Types.{Types}
 use Rattle.rgo_checker.specs.declared.actions.Types.TheVariants.{Zero, One, Two, Three}
-use Rattle.rgo_checker.specs.TypeTests.{is_type, is_bool, pointed, returns, takes}
+use Rattle.rgo_checker.specs.TypeTests.{equals_type, is_bool_type, pointed, returns, takes}
 
 -- the rule, if it is below the limit and not kept
 abbrev pub broken_if : ℕ → Rule → Bool → Option Rule
@@ -148,11 +148,11 @@ abbrev pub instr_exists : Tac → TacFn → ℕ → Op → Bool
 instr_exists code f i op =
     variables_exist op (length f.variables) && (op_exists code f op && ends_right i (length f.body) op)
 
-abbrev pub is_main : TacFn → Bool
-is_main f = bytes_eq f.name (codes "main") && (nat_eq f.params 0 && not (is_some f.result_type))
+abbrev pub is_main_fn : TacFn → Bool
+is_main_fn f = bytes_eq f.name (codes "main") && (nat_eq f.params 0 && not (is_some f.result_type))
 
-abbrev pub has_main : Tac → Bool
-has_main code = list_any is_main code.functions
+abbrev pub declares_main : Tac → Bool
+declares_main code = list_any is_main_fn code.functions
 
 -- ---- types
 
@@ -162,14 +162,14 @@ types_in (One a) = a.now ∷ []
 types_in (Two a b) = a.now ∷ b.now ∷ []
 types_in (Three a b c) = a.now ∷ b.now ∷ c.now ∷ []
 
-abbrev pub with_first : Option «Type» → Option (List «Type») → Option (List «Type»)
-with_first None rest = None
-with_first (Some t) rest = option_map (λ ts. t ∷ ts) rest
+abbrev pub with_first_type : Option «Type» → Option (List «Type») → Option (List «Type»)
+with_first_type None rest = None
+with_first_type (Some t) rest = option_map (λ ts. t ∷ ts) rest
 
 -- the types of the variables of these numbers, if all of them exist
 abbrev pub types_at : List «Type» → List ℕ → Option (List «Type»)
 types_at types [] = Some []
-types_at types (v ∷ vs) = with_first (slice_get types v) (types_at types vs)
+types_at types (v ∷ vs) = with_first_type (slice_get types v) (types_at types vs)
 
 abbrev pub returns_to : Tac → Action → List «Type» → Option «Type» → Bool
 returns_to code action operands None = false
@@ -185,7 +185,7 @@ acts_on_found code f to action (Some operands) = acts_on code f to action operan
 
 -- the variables of these numbers have these types
 abbrev pub have_types : List «Type» → List ℕ → List «Type» → Bool
-have_types types vs wanted = pointwise (λ v t. is_type (slice_get types v) t) vs wanted
+have_types types vs wanted = pointwise (λ v t. equals_type (slice_get types v) t) vs wanted
 
 abbrev pub arguments_fit : TacFn → Option TacFn → List ℕ → Bool
 arguments_fit f None from = true
@@ -193,7 +193,7 @@ arguments_fit f (Some g) from = have_types f.variables from (take g.params g.var
 
 abbrev pub has_type : TacFn → Option ℕ → «Type» → Bool
 has_type f None t = true
-has_type f (Some d) t = is_type (slice_get f.variables d) t
+has_type f (Some d) t = equals_type (slice_get f.variables d) t
 
 abbrev pub target_has : TacFn → Option «Type» → Option ℕ → Bool
 target_has f None to = true
@@ -207,20 +207,20 @@ abbrev pub call_fits : Tac → TacFn → Option ℕ → ℕ → List ℕ → Boo
 call_fits code f to n from =
     arguments_fit f (slice_get code.functions n) from && target_fits f (slice_get code.functions n) to
 
-abbrev pub is_printed : Option «Type» → Bool
-is_printed None = false
-is_printed (Some t) = not (is_pointer_like t)
+abbrev pub is_printable_type : Option «Type» → Bool
+is_printable_type None = false
+is_printable_type (Some t) = not (is_pointer_like t)
 
 abbrev pub are_printed : List «Type» → List ℕ → Bool
-are_printed types vs = list_all (λ v. is_printed (slice_get types v)) vs
+are_printed types vs = list_all (λ v. is_printable_type (slice_get types v)) vs
 
 abbrev pub is_test : Option «Type» → Bool
 is_test None = false
-is_test (Some t) = is_bool t
+is_test (Some t) = is_bool_type t
 
 abbrev pub has_result : TacFn → ℕ → Option «Type» → Bool
 has_result f v None = false
-has_result f v (Some t) = is_type (slice_get f.variables v) t
+has_result f v (Some t) = equals_type (slice_get f.variables v) t
 
 abbrev pub return_fits : TacFn → Option ℕ → Bool
 return_fits f None = not (is_some f.result_type)

@@ -18,56 +18,56 @@ use Rattle.rgo_tac.specs.Code.{Tac}
 
 -- ---- types
 
-abbrev pub same_base : Base → Base → Bool
-same_base base.Int base.Int = true
-same_base base.Bool base.Bool = true
-same_base (base.Pointer m) (base.Pointer n) = nat_eq m n
-same_base _ _ = false
+abbrev pub equal_bases : Base → Base → Bool
+equal_bases base.Int base.Int = true
+equal_bases base.Bool base.Bool = true
+equal_bases (base.Pointer m) (base.Pointer n) = nat_eq m n
+equal_bases _ _ = false
 
-abbrev pub same_layer : Layer → Layer → Bool
-same_layer Slice Slice = true
-same_layer Chan Chan = true
-same_layer _ _ = false
+abbrev pub equal_layers : Layer → Layer → Bool
+equal_layers Slice Slice = true
+equal_layers Chan Chan = true
+equal_layers _ _ = false
 
-abbrev pub same_layers : (ls ms : List Layer) → Bool
-same_layers ls ms = pointwise same_layer ls ms
+abbrev pub equal_layer_lists : (ls ms : List Layer) → Bool
+equal_layer_lists ls ms = pointwise equal_layers ls ms
 
-abbrev pub same_type : «Type» → «Type» → Bool
-same_type t u = same_base t.base u.base && same_layers t.layers u.layers
+abbrev pub equal_types : «Type» → «Type» → Bool
+equal_types t u = equal_bases t.base u.base && equal_layer_lists t.layers u.layers
 
-abbrev pub is_bare : List Layer → Bool
-is_bare [] = true
-is_bare (l ∷ ls) = false
+abbrev pub has_no_layers : List Layer → Bool
+has_no_layers [] = true
+has_no_layers (l ∷ ls) = false
 
 -- a base without layers
-abbrev pub is_plain : Base → «Type» → Bool
-is_plain b t = is_bare t.layers && same_base t.base b
+abbrev pub is_bare_base : Base → «Type» → Bool
+is_bare_base b t = has_no_layers t.layers && equal_bases t.base b
 
-abbrev pub is_int : «Type» → Bool
-is_int t = is_plain base.Int t
+abbrev pub is_int_type : «Type» → Bool
+is_int_type t = is_bare_base base.Int t
 
-abbrev pub is_bool : «Type» → Bool
-is_bool t = is_plain base.Bool t
+abbrev pub is_bool_type : «Type» → Bool
+is_bool_type t = is_bare_base base.Bool t
 
 abbrev pub first_layer : List Layer → Option Layer
 first_layer [] = None
 first_layer (l ∷ ls) = Some l
 
-abbrev pub is_chan_in : List Layer → Bool
-is_chan_in (Chan ∷ layers) = true
-is_chan_in _ = false
+abbrev pub begins_with_chan : List Layer → Bool
+begins_with_chan (Chan ∷ layers) = true
+begins_with_chan _ = false
 
-abbrev pub is_chan : «Type» → Bool
-is_chan t = is_chan_in t.layers
+abbrev pub is_chan_type : «Type» → Bool
+is_chan_type t = begins_with_chan t.layers
 
 -- the first layer is this one, and inside of it are these
 abbrev pub are_around : Layer → (outer inner : List Layer) → Bool
 are_around layer [] inner = false
-are_around layer (l ∷ ls) inner = same_layer l layer && same_layers ls inner
+are_around layer (l ∷ ls) inner = equal_layers l layer && equal_layer_lists ls inner
 
 -- slices of, or channels of
 abbrev pub is_around : Layer → (outer inner : «Type») → Bool
-is_around layer outer inner = same_base outer.base inner.base && are_around layer outer.layers inner.layers
+is_around layer outer inner = equal_bases outer.base inner.base && are_around layer outer.layers inner.layers
 
 abbrev pub pointed_base : Base → Option ℕ
 pointed_base (base.Pointer n) = Some n
@@ -83,13 +83,13 @@ pointed t = pointed_in t.layers t.base
 
 -- ---- actions
 
-abbrev pub is_type : Option «Type» → «Type» → Bool
-is_type None t = false
-is_type (Some u) t = same_type u t
+abbrev pub equals_type : Option «Type» → «Type» → Bool
+equals_type None t = false
+equals_type (Some u) t = equal_types u t
 
 abbrev pub is_field_of : Option Struct → ℕ → «Type» → Bool
 is_field_of None k t = false
-is_field_of (Some s) k t = is_type (slice_get s.fields k) t
+is_field_of (Some s) k t = equals_type (slice_get s.fields k) t
 
 abbrev pub is_field_in : Tac → Option ℕ → ℕ → «Type» → Bool
 is_field_in code None k t = false
@@ -99,26 +99,26 @@ is_field_in code (Some n) k t = is_field_of (slice_get code.structs n) k t
 abbrev pub is_field : Tac → «Type» → ℕ → «Type» → Bool
 is_field code pointer k t = is_field_in code (pointed pointer) k t
 
-abbrev pub is_variable : Option Variable → «Type» → Bool
-is_variable None t = false
-is_variable (Some v) t = same_type v.ty t
+abbrev pub variable_has_type : Option Variable → «Type» → Bool
+variable_has_type None t = false
+variable_has_type (Some v) t = equal_types v.ty t
 
 -- a pointer to the struct of this number, which is declared
 abbrev pub is_new : Tac → ℕ → «Type» → Bool
-is_new code n t = is_plain (base.Pointer n) t && nat_lt n (length code.structs)
+is_new code n t = is_bare_base (base.Pointer n) t && nat_lt n (length code.structs)
 
-abbrev pub compares : (a b t : «Type») → Bool
-compares a b t = same_type a b && (not (is_slice a) && is_bool t)
+abbrev pub compares_to_bool : (a b t : «Type») → Bool
+compares_to_bool a b t = equal_types a b && (not (is_slice a) && is_bool_type t)
 
 abbrev pub orders : (a b t : «Type») → Bool
-orders a b t = is_int a && (is_int b && is_bool t)
+orders a b t = is_int_type a && (is_int_type b && is_bool_type t)
 
 abbrev pub counts : (a b t : «Type») → Bool
-counts a b t = is_int a && (is_int b && is_int t)
+counts a b t = is_int_type a && (is_int_type b && is_int_type t)
 
 abbrev pub computes : BinaryOp → (a b t : «Type») → Bool
-computes binary.Eq a b t = compares a b t
-computes binary.Ne a b t = compares a b t
+computes binary.Eq a b t = compares_to_bool a b t
+computes binary.Ne a b t = compares_to_bool a b t
 computes binary.Lt a b t = orders a b t
 computes binary.Le a b t = orders a b t
 computes binary.Gt a b t = orders a b t
@@ -132,11 +132,11 @@ computes binary.Div a b t = counts a b t
 computes binary.Rem a b t = counts a b t
 
 abbrev pub returns_of_none : Tac → Action → «Type» → Bool
-returns_of_none code (action.Int n) t = is_int t
-returns_of_none code (action.Bool b) t = is_bool t
+returns_of_none code (action.Int n) t = is_int_type t
+returns_of_none code (action.Bool b) t = is_bool_type t
 returns_of_none code action.Nil t = is_pointer_like t
 returns_of_none code (action.New n) t = is_new code n t
-returns_of_none code (action.Get n) t = is_variable (slice_get code.variables n) t
+returns_of_none code (action.Get n) t = variable_has_type (slice_get code.variables n) t
 returns_of_none code action.Copy t = false
 returns_of_none code (action.Binary op) t = false
 returns_of_none code action.Neg t = false
@@ -155,14 +155,14 @@ returns_of_none code action.Close t = false
 returns_of_none code (action.Set n) t = false
 
 abbrev pub returns_of_one : Tac → Action → (a t : «Type») → Bool
-returns_of_one code action.Copy a t = same_type a t
-returns_of_one code action.Neg a t = is_int a && is_int t
-returns_of_one code action.Not a t = is_bool a && is_bool t
-returns_of_one code action.IsNil a t = is_pointer_like a && is_bool t
-returns_of_one code action.Len a t = is_slice a && is_int t
+returns_of_one code action.Copy a t = equal_types a t
+returns_of_one code action.Neg a t = is_int_type a && is_int_type t
+returns_of_one code action.Not a t = is_bool_type a && is_bool_type t
+returns_of_one code action.IsNil a t = is_pointer_like a && is_bool_type t
+returns_of_one code action.Len a t = is_slice a && is_int_type t
 returns_of_one code (action.Load k) a t = is_field code a k t
-returns_of_one code action.Slice a t = is_int a && is_slice t
-returns_of_one code action.Chan a t = is_int a && is_chan t
+returns_of_one code action.Slice a t = is_int_type a && is_slice t
+returns_of_one code action.Chan a t = is_int_type a && is_chan_type t
 returns_of_one code action.Recv a t = is_around Chan a t
 returns_of_one code (action.Int k) a t = false
 returns_of_one code (action.Bool b) a t = false
@@ -179,7 +179,7 @@ returns_of_one code (action.Set n) a t = false
 
 abbrev pub returns_of_two : Action → (a b t : «Type») → Bool
 returns_of_two (action.Binary op) a b t = computes op a b t
-returns_of_two action.At a b t = is_around Slice a t && is_int b
+returns_of_two action.At a b t = is_around Slice a t && is_int_type b
 returns_of_two (action.Int k) a b t = false
 returns_of_two (action.Bool truth) a b t = false
 returns_of_two action.Nil a b t = false
@@ -208,8 +208,8 @@ returns code action (a ∷ b ∷ []) t = returns_of_two action a b t
 returns code action (a ∷ b ∷ c ∷ rest) t = false
 
 abbrev pub takes_one : Tac → Action → «Type» → Bool
-takes_one code action.Close a = is_chan a
-takes_one code (action.Set n) a = is_variable (slice_get code.variables n) a
+takes_one code action.Close a = is_chan_type a
+takes_one code (action.Set n) a = variable_has_type (slice_get code.variables n) a
 takes_one code (action.Int k) a = false
 takes_one code (action.Bool b) a = false
 takes_one code action.Nil a = false
@@ -254,7 +254,7 @@ takes_two code (action.Get n) a b = false
 takes_two code (action.Set n) a b = false
 
 abbrev pub takes_three : Action → (a b c : «Type») → Bool
-takes_three action.Put a b c = is_around Slice a c && is_int b
+takes_three action.Put a b c = is_around Slice a c && is_int_type b
 takes_three (action.Int k) a b c = false
 takes_three (action.Bool truth) a b c = false
 takes_three action.Nil a b c = false

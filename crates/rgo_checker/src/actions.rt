@@ -19,7 +19,7 @@ pub(crate) enum Types<'a> {
 }
 
 fn field_in(fields: &[Type], k: usize, ty: &Type) -> bool
-    ensures { result ≡ tests.is_type (slice_get fields.now k) ty.now }
+    ensures { result ≡ tests.equals_type (slice_get fields.now k) ty.now }
 {
     match fields.get(k) {
         Some(field) => same(field, ty),
@@ -46,7 +46,7 @@ fn is_field(code: &Tac, pointer: &Type, k: usize, ty: &Type) -> bool
 }
 
 fn is_variable(code: &Tac, n: usize, ty: &Type) -> bool
-    ensures { result ≡ tests.is_variable (slice_get code.now.variables n) ty.now }
+    ensures { result ≡ tests.variable_has_type (slice_get code.now.variables n) ty.now }
 {
     match code.variables().get(n) {
         Some(v) => same(&v.ty, ty),
@@ -61,7 +61,7 @@ fn is_new(code: &Tac, n: usize, ty: &Type) -> bool
 }
 
 fn compares(a: &Type, b: &Type, ty: &Type) -> bool
-    ensures { result ≡ tests.compares a.now b.now ty.now }
+    ensures { result ≡ tests.compares_to_bool a.now b.now ty.now }
 {
     same(a, b) && !is_slice(a) && is_bool(ty)
 }

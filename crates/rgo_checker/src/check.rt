@@ -4,7 +4,7 @@ ghost use Rattle.std.specs.Prelude.{◌≡◌, ◌↔◌, Err, IfOk, MatchOption
 ghost use Rattle.rgo_code.specs.Checked.{IsChecked, IsFirstBroken};
 ghost use Rattle.rgo_checker.specs.declared.errors.CheckError.TheVariants.{TooLarge};
 ghost use Rattle.rgo_checker.specs.Outcomes.{CheckFails};
-ghost use Rattle.rgo_checker.specs.Sizes.{HasNumbers, IsTooLarge};
+ghost use Rattle.rgo_checker.specs.Sizes.{HasNumbers, IsTooLargeToCheck};
 
 use crate::errors::CheckError;
 use crate::existence::walk_existence;
@@ -47,7 +47,7 @@ fn report(code: &Code, broken: Option<CodeRefusal>) -> Result<(), CheckError>
 /// failure.
 pub fn check_code(alloc: Global, code: &Code) -> Result<(), CheckError>
     ensures checked { MatchResult result (λ done. IsChecked code.now) (λ e. CheckFails e code.now) }
-    ensures large { (result ≡ Err TooLarge) ↔ IsTooLarge code.now }
+    ensures large { (result ≡ Err TooLarge) ↔ IsTooLargeToCheck code.now }
 {
     if is_too_large(code) {
         return Err(CheckError::TooLarge);

@@ -11,7 +11,7 @@ use rgo_tac::{Member, Op, joins};
 use rgo_typed::{Action, Type};
 
 pub(crate) fn same_class(a: Class, b: Class) -> bool
-    ensures { result ≡ tests.same_class a b }
+    ensures { result ≡ tests.equal_classes a b }
 {
     match (a, b) {
         (Class::NoClass, Class::NoClass) | (Class::Global, Class::Global) => true,

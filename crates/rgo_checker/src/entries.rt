@@ -3,7 +3,7 @@
 ghost use Rattle.std.specs.Prelude.{◌≡◌, IfOk};
 ghost use Rattle.std.specs.Bool.{Decides};
 ghost use Rattle.rgo_checker.specs.Instrs.{EntryKept, LeastBroken};
-ghost use Rattle.rgo_checker.specs.Prepared.{IsPrepared};
+ghost use Rattle.rgo_checker.specs.Prepared.{IsPreparedToCheck};
 
 use crate::instructions::rule_of;
 use crate::lending::is_free;
@@ -15,7 +15,7 @@ use std::alloc::{AllocError, Global};
 /// Whether a rule is kept at the entry, of which only three rules say anything.
 #[tactic(auto, unfolding(crate::specs::Instrs::EntryKept))]
 fn keeps(alloc: Global, rule: Rule, f: &CodeFn<'_>, live: &LiveNames) -> Result<bool, AllocError>
-    requires { IsPrepared live.now f.now }
+    requires { IsPreparedToCheck live.now f.now }
     ensures { IfOk result (λ b. Decides b (EntryKept f.now rule)) }
 {
     match rule {
@@ -33,7 +33,7 @@ pub(crate) fn least_broken(
     f: &CodeFn<'_>,
     live: &LiveNames,
 ) -> Result<Option<Rule>, AllocError>
-    requires { IsPrepared live.now f.now }
+    requires { IsPreparedToCheck live.now f.now }
     ensures { IfOk result (λ broken. LeastBroken (EntryKept f.now) 2 limit broken) }
 {
     for number in 2..15 {

@@ -10,7 +10,7 @@ ghost use Rattle.rgo_code.specs.Code.{CodeFn as AnyFn};
 ghost use Rattle.rgo_checker.specs.Instrs.{InstrKept};
 ghost use Rattle.rgo_checker.specs.Lines as lines;
 ghost use Rattle.rgo_checker.specs.Naming.{AddsToNames, SetHasNames, fn_names};
-ghost use Rattle.rgo_checker.specs.Scan.{Walks, passed};
+ghost use Rattle.rgo_checker.specs.Scan.{Walks, past_next_line};
 ghost use Rattle.rgo_checker.specs.Sizes.{HasNumbers};
 ghost use Rattle.rgo_checker.specs.Tests as tests;
 
@@ -26,7 +26,7 @@ use std::collections::HashSet;
 
 /// Notes whether the first rule is kept at the next line.
 fn pass_existence(scan: &mut Scan, kept: bool)
-    ensures { scan.new ≡ passed scan.old (tests.broken_if scan.old.limit rule.Exists kept) }
+    ensures { scan.new ≡ past_next_line scan.old (tests.broken_if scan.old.limit rule.Exists kept) }
 {
     let broken = broken_if(scan.limit, Rule::Exists, kept);
     pass(scan, broken);
@@ -40,7 +40,7 @@ fn pass_name<'a>(
     scan: &mut Scan,
 ) -> Result<(), AllocError>
     ensures { OnOk result ((is_new : Bool) × AddsToNames names.old name.now is_new names.new
-        × (scan.new ≡ passed scan.old (tests.broken_if scan.old.limit rule.Exists (is_new && exists)))) }
+        × (scan.new ≡ past_next_line scan.old (tests.broken_if scan.old.limit rule.Exists (is_new && exists)))) }
 {
     let is_new = add(names, name)?;
     pass_existence(scan, both(is_new, exists));
@@ -77,7 +77,7 @@ fn walk_variables(alloc: Global, code: &Code, scan: &mut Scan) -> Result<(), All
 
 fn walk_slots(code: &Code, f: &CodeFn<'_>, scan: &mut Scan)
     ensures { (n : ℕ) → slice_get code.now.functions n ≡ Some f.now
-        → Walks code.now 1 2 (lines.slot_lines n f.now.variables) scan.old scan.new }
+        → Walks code.now 1 2 (lines.lines_of_slots n f.now.variables) scan.old scan.new }
 {
     let program = code.tac();
     let types = f.tac().variables();
@@ -101,7 +101,7 @@ fn instr_is_kept(code: &Code, f: &CodeFn<'_>, at: usize) -> bool
 
 fn walk_body(code: &Code, f: &CodeFn<'_>, scan: &mut Scan)
     ensures { (n : ℕ) → slice_get code.now.functions n ≡ Some f.now
-        → Walks code.now 1 2 (lines.instr_lines n f.now.body) scan.old scan.new }
+        → Walks code.now 1 2 (lines.lines_of_instrs n f.now.body) scan.old scan.new }
 {
     for at in 0..f.tac().len() {
         let kept = instr_is_kept(code, f, at);
@@ -139,7 +139,7 @@ fn walk_function<'a>(
         → SetHasNames names.new (seen ++ f.now.name ∷ [])) }
     ensures walks { OnOk result ((n : ℕ) → slice_get code.now.functions n ≡ Some f.now
         → SetHasNames names.old (take n (fn_names code.now))
-        → Walks code.now 1 2 (lines.fn_lines n f.now) scan.old scan.new) }
+        → Walks code.now 1 2 (lines.lines_of_function n f.now) scan.old scan.new) }
 {
     let function = f.tac();
     let exists = head_exists(code.tac(), function);
@@ -161,7 +161,7 @@ fn walk_number<'a>(
         → SetHasNames names.old seen → SetHasNames names.new (seen ++ f.name ∷ [])) }
     ensures walks { OnOk result ((f : AnyFn) → slice_get code.now.functions n ≡ Some f
         → SetHasNames names.old (take n (fn_names code.now))
-        → Walks code.now 1 2 (lines.fn_lines n f) scan.old scan.new) }
+        → Walks code.now 1 2 (lines.lines_of_function n f) scan.old scan.new) }
 {
     match code.function(n) {
         Some(f) => walk_function(code, names, &f, scan),
@@ -187,13 +187,13 @@ fn is(word: &[u8], text: &str) -> bool
 }
 
 fn is_main(f: &TacFn) -> bool
-    ensures { result ≡ tests.is_main f.now }
+    ensures { result ≡ tests.is_main_fn f.now }
 {
     is(f.name().bytes(), "main") && f.params() == 0 && f.result_type().is_none()
 }
 
 fn has_main(code: &Tac) -> bool
-    ensures { result ≡ tests.has_main code.now }
+    ensures { result ≡ tests.declares_main code.now }
 {
     code.functions().iter().any(|f| is_main(f))
 }

@@ -7,7 +7,7 @@ ghost use Rattle.rgo_code.specs.declared.rules.Rule.{Rule as AnyRule};
 ghost use Rattle.rgo_code.specs.Checked.{rule_number};
 ghost use Rattle.rgo_code.specs.Erasure.{erased_fn};
 ghost use Rattle.rgo_checker.specs.Instrs.{InstrKept, LeastBroken};
-ghost use Rattle.rgo_checker.specs.Prepared.{IsPrepared};
+ghost use Rattle.rgo_checker.specs.Prepared.{IsPreparedToCheck};
 
 use crate::classes::{globals_agree, joins_agree, return_agrees};
 use crate::existing::instr_exists;
@@ -57,7 +57,7 @@ pub(crate) fn rule_of(number: u8) -> Rule
 fn keeps(alloc: Global, rule: Rule, site: &Site<'_>, op: Op<'_>) -> Result<bool, AllocError>
     requires here { op_in (slice_get (erased_fn site.now.f.now).body site.now.at) ≡ Some (operation_of op) }
     requires small { site.now.at < 2 ^ 63 }
-    requires prepared { IsPrepared site.now.live.now site.now.f.now }
+    requires prepared { IsPreparedToCheck site.now.live.now site.now.f.now }
     requires before { (lesser : AnyRule) → 2 ≤ rule_number lesser → rule_number lesser < rule_number rule
         → InstrKept site.now.code.now site.now.f.now site.now.at lesser }
     ensures { IfOk result (λ b. Decides b (InstrKept site.now.code.now site.now.f.now site.now.at rule)) }
@@ -96,7 +96,7 @@ fn least_broken_by(
 ) -> Result<Option<Rule>, AllocError>
     requires here { op_in (slice_get (erased_fn site.now.f.now).body site.now.at) ≡ Some (operation_of op) }
     requires small { site.now.at < 2 ^ 63 }
-    requires prepared { IsPrepared site.now.live.now site.now.f.now }
+    requires prepared { IsPreparedToCheck site.now.live.now site.now.f.now }
     ensures { IfOk result (λ broken. LeastBroken
         (InstrKept site.now.code.now site.now.f.now site.now.at) 2 limit broken) }
 {
@@ -119,7 +119,7 @@ pub(crate) fn least_broken(
     limit: u8,
     site: &Site<'_>,
 ) -> Result<Option<Rule>, AllocError>
-    requires { IsPrepared site.now.live.now site.now.f.now }
+    requires { IsPreparedToCheck site.now.live.now site.now.f.now }
     ensures { IfOk result (λ broken. LeastBroken
         (InstrKept site.now.code.now site.now.f.now site.now.at) 2 limit broken) }
 {

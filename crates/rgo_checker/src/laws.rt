@@ -1,6 +1,6 @@
 //! What holds of the rules of code.
 
-ghost use Rattle.rgo_checker.specs.Examples.{Examples};
+ghost use Rattle.rgo_checker.specs.Examples.{LineCountExamples};
 ghost use Rattle.rgo_checker.specs.Outcomes.{OneOutcome, SomeOutcome};
 
 /// No code has two first broken rules and lines, and checked code has none.
@@ -15,5 +15,5 @@ pub fn some_outcome()
 
 /// The code that has as many lines as code may have, and code that has one more.
 pub fn examples()
-    ensures { Examples }
+    ensures { LineCountExamples }
 {}

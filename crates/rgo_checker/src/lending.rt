@@ -26,7 +26,7 @@ pub(crate) fn lends(lent: Class, creates: &[u32], removes: &[u32], otherwise: &[
 }
 
 fn is_empty(names: &[u32]) -> bool
-    ensures { result ≡ tests.is_empty names.now }
+    ensures { result ≡ tests.has_no_names names.now }
 {
     names.is_empty()
 }

@@ -5,7 +5,7 @@ ghost use Rattle.rgo_tac.specs.declared.regions.Class.{Class as AnyClass};
 ghost use Rattle.std.specs.HashMap.{get};
 ghost use Rattle.rgo_code.specs.Names as names;
 ghost use Rattle.rgo_checker.specs.ClassTests.{AreDistinctClasses, ArePlaces};
-ghost use Rattle.rgo_checker.specs.Parameters.{placed};
+ghost use Rattle.rgo_checker.specs.Parameters.{place_with_class};
 
 use rgo_code::{Class, CodeFn};
 use rgo_region_sets::region_parameters;
@@ -23,7 +23,7 @@ pub(crate) struct Parameters {
 }
 
 fn place(places: &mut HashMap<u32, usize>, class: Class, p: usize) -> Result<(), AllocError>
-    ensures { OnOk result ((q : ℕ) → get nat_eq places.new q ≡ placed class p q (get nat_eq places.old q)) }
+    ensures { OnOk result ((q : ℕ) → get nat_eq places.new q ≡ place_with_class class p q (get nat_eq places.old q)) }
 {
     match class {
         Class::Name(k) => {
@@ -42,7 +42,7 @@ fn class_at(classes: &[Class], p: usize) -> Option<Class>
 
 fn place_at(places: &mut HashMap<u32, usize>, classes: &[Class], p: usize) -> Result<(), AllocError>
     ensures { OnOk result ((class : AnyClass) → slice_get classes.now p ≡ Some class → (q : ℕ)
-        → get nat_eq places.new q ≡ placed class p q (get nat_eq places.old q)) }
+        → get nat_eq places.new q ≡ place_with_class class p q (get nat_eq places.old q)) }
 {
     match class_at(classes, p) {
         Some(class) => place(places, class, p),

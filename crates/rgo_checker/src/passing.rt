@@ -163,7 +163,7 @@ struct Called<'a> {
 }
 
 fn call_of(op: Op<'_>) -> Option<Called<'_>>
-    ensures { option_map tests.called result ≡ tests.call_of (operation_of op.entry) }
+    ensures { option_map tests.called_operands result ≡ tests.call_operands (operation_of op.entry) }
 {
     match op {
         Op::Call { to, function, from } => Some(Called { to, function, from }),
@@ -177,7 +177,7 @@ fn call_of(op: Op<'_>) -> Option<Called<'_>>
 }
 
 fn start_of(op: Op<'_>) -> Option<Called<'_>>
-    ensures { option_map tests.called result ≡ tests.start_of (operation_of op.entry) }
+    ensures { option_map tests.called_operands result ≡ tests.start_operands (operation_of op.entry) }
 {
     match op {
         Op::Go { function, from } => Some(Called {
@@ -202,7 +202,7 @@ fn call_passes(
     call: Called<'_>,
     passes: &[Class],
 ) -> Result<bool, AllocError>
-    ensures { IfOk result (λ b. Decides b (tests.CalledPasses code.now f.now passes.now (tests.called call.entry))) }
+    ensures { IfOk result (λ b. Decides b (tests.CalledPasses code.now f.now passes.now (tests.called_operands call.entry))) }
 {
     match code.function(call.function as usize) {
         Some(callee) => passes_right(alloc, f, &callee, call.to, call.from, passes),
@@ -217,7 +217,7 @@ fn start_passes(
     call: Called<'_>,
     passes: &[Class],
 ) -> Result<bool, AllocError>
-    ensures { IfOk result (λ b. Decides b (tests.StartedPasses code.now f.now passes.now (tests.called call.entry))) }
+    ensures { IfOk result (λ b. Decides b (tests.StartedPasses code.now f.now passes.now (tests.called_operands call.entry))) }
 {
     match code.function(call.function as usize) {
         Some(callee) => {

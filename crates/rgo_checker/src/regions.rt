@@ -10,7 +10,7 @@ ghost use Rattle.rgo_code.specs.declared.rules.Rule.TheVariants as rule;
 ghost use Rattle.rgo_code.specs.Erasure.{erased_fn};
 ghost use Rattle.rgo_code.specs.Names.{IsParameterName};
 ghost use Rattle.rgo_checker.specs.Instrs.{EntryKept, InstrKept};
-ghost use Rattle.rgo_checker.specs.Prepared.{IsPrepared};
+ghost use Rattle.rgo_checker.specs.Prepared.{IsPreparedToCheck};
 ghost use Rattle.rgo_checker.specs.Regions as spec;
 ghost use Rattle.rgo_region_sets.specs.Asked.{IsGiven};
 ghost use Rattle.rgo_region_sets.specs.Sets.{IsSet};
@@ -71,7 +71,7 @@ pub(crate) fn entry_known(
     f: &CodeFn<'_>,
     live: &LiveNames,
 ) -> Result<bool, AllocError>
-    requires { IsPrepared live.now f.now }
+    requires { IsPreparedToCheck live.now f.now }
     ensures { IfOk result (λ b. Decides b (EntryKept f.now rule.Entry)) }
 {
     let held = holds_at_entry(alloc, f, live)?;
@@ -85,7 +85,7 @@ pub(crate) fn entry_removes_dead(
     f: &CodeFn<'_>,
     live: &LiveNames,
 ) -> Result<bool, AllocError>
-    requires { IsPrepared live.now f.now }
+    requires { IsPreparedToCheck live.now f.now }
     ensures { IfOk result (λ b. Decides b (EntryKept f.now rule.Removals)) }
 {
     let wanted = entry_removals(alloc, f, live)?;
@@ -102,7 +102,7 @@ pub(crate) fn creates_used(
     op: Op<'_>,
 ) -> Result<bool, AllocError>
     requires here { op_in (slice_get (erased_fn f.now).body at) ≡ Some (operation_of op) }
-    requires prepared { IsPrepared live.now f.now }
+    requires prepared { IsPreparedToCheck live.now f.now }
     ensures { IfOk result (λ b. Decides b (InstrKept code.now f.now at rule.Creations)) }
 {
     let wanted = creations(alloc, f, live, at)?;
@@ -134,7 +134,7 @@ pub(crate) fn protects_used(
 ) -> Result<bool, AllocError>
     requires here { op_in (slice_get (erased_fn f.now).body at) ≡ Some (operation_of op) }
     requires small { at < 2 ^ 63 }
-    requires prepared { IsPrepared live.now f.now }
+    requires prepared { IsPreparedToCheck live.now f.now }
     ensures { IfOk result (λ b. Decides b (InstrKept code.now f.now at rule.Protections)) }
 {
     if !is_call(op) {
@@ -162,7 +162,7 @@ fn given_by_call(
 }
 
 fn callee_of(op: Op<'_>) -> Option<u32>
-    ensures { result ≡ spec.callee_of (operation_of op.entry) }
+    ensures { result ≡ spec.called_function (operation_of op.entry) }
 {
     match op {
         Op::Call { function, .. } => Some(function),
@@ -203,7 +203,7 @@ pub(crate) fn removes_dead(
     op: Op<'_>,
 ) -> Result<bool, AllocError>
     requires here { op_in (slice_get (erased_fn f.now).body at) ≡ Some (operation_of op) }
-    requires prepared { IsPrepared live.now f.now }
+    requires prepared { IsPreparedToCheck live.now f.now }
     requires created { InstrKept code.now f.now at rule.Creations }
     ensures { IfOk result (λ b. Decides b (InstrKept code.now f.now at rule.Removals)) }
 {

@@ -2,7 +2,7 @@
 
 ghost use Rattle.std.specs.Prelude.{◌≡◌, Bool, nat_lt, ◌&&◌, not};
 ghost use Rattle.rgo_code.specs.Checked.{rule_number};
-ghost use Rattle.rgo_checker.specs.Scan.{passed};
+ghost use Rattle.rgo_checker.specs.Scan.{past_next_line};
 ghost use Rattle.rgo_checker.specs.Tests.{broken_if};
 
 use rgo_code::{CodeRefusal, Rule};
@@ -19,7 +19,7 @@ pub(crate) struct Scan {
 
 /// Notes what the next line breaks.
 pub(crate) fn pass(scan: &mut Scan, broken: Option<Rule>)
-    ensures { scan.new ≡ passed scan.old broken }
+    ensures { scan.new ≡ past_next_line scan.old broken }
 {
     let line = scan.line;
     match broken {

@@ -4,14 +4,14 @@ ghost use Rattle.std.specs.Prelude.{◌≡◌, ◌↔◌, ◌+◌, ◌-◌, ◌^
 ghost use Rattle.rgo_code.specs.declared.rules.Line.TheVariants.{AfterLast};
 ghost use Rattle.rgo_code.specs.Lines.{line_number};
 ghost use Rattle.rgo_checker.specs.Sizes as spec;
-ghost use Rattle.rgo_checker.specs.Sizes.{HasNumbers, IsTooLarge};
+ghost use Rattle.rgo_checker.specs.Sizes.{HasNumbers, IsTooLargeToCheck};
 
 use rgo_code::Code;
 use rgo_tac::TacFn;
 
 /// How many lines a function has: its head, its variables, its entry, its instructions, and its end.
 fn function_lines(f: &TacFn) -> usize
-    ensures { result ≡ spec.function_lines f.now }
+    ensures { result ≡ spec.function_line_count f.now }
 {
     f.variable_count() as usize + f.instr_count() as usize + 3
 }
@@ -47,7 +47,7 @@ fn last_line(code: &Code) -> usize
 
 /// Whether the number of some line, or of the end of the text, has more than 32 bits.
 pub(crate) fn is_too_large(code: &Code) -> bool
-    ensures large { (result ≡ true) ↔ IsTooLarge code.now }
+    ensures large { (result ≡ true) ↔ IsTooLargeToCheck code.now }
     ensures small { result ≡ false → HasNumbers code.now }
 {
     last_line(code) > u32::MAX as usize

@@ -7,7 +7,7 @@ ghost use Rattle.rgo_checker.specs.TypeTests as tests;
 use rgo_typed::{Base, Layer, Type};
 
 fn same_bases(a: Base, b: Base) -> bool
-    ensures { result ≡ tests.same_base a b }
+    ensures { result ≡ tests.equal_bases a b }
 {
     match (a, b) {
         (Base::Int, Base::Int) | (Base::Bool, Base::Bool) => true,
@@ -17,7 +17,7 @@ fn same_bases(a: Base, b: Base) -> bool
 }
 
 fn same_layer(a: Layer, b: Layer) -> bool
-    ensures { result ≡ tests.same_layer a b }
+    ensures { result ≡ tests.equal_layers a b }
 {
     match (a, b) {
         (Layer::Slice, Layer::Slice) | (Layer::Chan, Layer::Chan) => true,
@@ -26,7 +26,7 @@ fn same_layer(a: Layer, b: Layer) -> bool
 }
 
 fn same_layers(a: &[Layer], b: &[Layer]) -> bool
-    ensures { result ≡ tests.same_layers a.now b.now }
+    ensures { result ≡ tests.equal_layer_lists a.now b.now }
 {
     if a.len() != b.len() {
         return false;
@@ -41,32 +41,32 @@ fn same_layers(a: &[Layer], b: &[Layer]) -> bool
 
 /// Whether two types are the same.
 pub(crate) fn same(a: &Type, b: &Type) -> bool
-    ensures { result ≡ tests.same_type a.now b.now }
+    ensures { result ≡ tests.equal_types a.now b.now }
 {
     same_bases(a.base, b.base) && same_layers(a.layers.items(), b.layers.items())
 }
 
 fn is_bare(layers: &[Layer]) -> bool
-    ensures { result ≡ tests.is_bare layers.now }
+    ensures { result ≡ tests.has_no_layers layers.now }
 {
     layers.is_empty()
 }
 
 /// Whether a type is this base, without layers.
 pub(crate) fn is_plain(base: Base, ty: &Type) -> bool
-    ensures { result ≡ tests.is_plain base ty.now }
+    ensures { result ≡ tests.is_bare_base base ty.now }
 {
     is_bare(ty.layers.items()) && same_bases(ty.base, base)
 }
 
 pub(crate) fn is_int(ty: &Type) -> bool
-    ensures { result ≡ tests.is_int ty.now }
+    ensures { result ≡ tests.is_int_type ty.now }
 {
     is_plain(Base::Int, ty)
 }
 
 pub(crate) fn is_bool(ty: &Type) -> bool
-    ensures { result ≡ tests.is_bool ty.now }
+    ensures { result ≡ tests.is_bool_type ty.now }
 {
     is_plain(Base::Bool, ty)
 }
@@ -84,7 +84,7 @@ pub(crate) fn is_slice(ty: &Type) -> bool
 }
 
 pub(crate) fn is_chan(ty: &Type) -> bool
-    ensures { result ≡ tests.is_chan ty.now }
+    ensures { result ≡ tests.is_chan_type ty.now }
 {
     matches!(first_layer(ty.layers.items()), Some(Layer::Chan))
 }

@@ -5,7 +5,7 @@ ghost use Rattle.std.specs.Option.{option_map};
 ghost use Rattle.rgo_tac.specs.Ops.{numbers_of, operation_of};
 ghost use Rattle.rgo_checker.specs.Tests as tests;
 ghost use Rattle.rgo_checker.specs.Tests.{types_in};
-ghost use Rattle.rgo_checker.specs.TypeTests.{is_type};
+ghost use Rattle.rgo_checker.specs.TypeTests.{equals_type};
 
 use crate::actions::{Types, returns, takes};
 use crate::types::{is_bool, same};
@@ -66,7 +66,7 @@ fn act_fits(code: &Tac, f: &TacFn, to: Option<u32>, action: Action, from: Operan
 }
 
 fn is_of_type(types: &[Type], v: u32, ty: &Type) -> bool
-    ensures { result ≡ is_type (slice_get types.now v) ty.now }
+    ensures { result ≡ equals_type (slice_get types.now v) ty.now }
 {
     match types.get(v as usize) {
         Some(found) => same(found, ty),
@@ -144,7 +144,7 @@ fn call_fits(code: &Tac, f: &TacFn, to: Option<u32>, n: u32, from: &[u32]) -> bo
 }
 
 fn is_printed(types: &[Type], v: u32) -> bool
-    ensures { result ≡ tests.is_printed (slice_get types.now v) }
+    ensures { result ≡ tests.is_printable_type (slice_get types.now v) }
 {
     match types.get(v as usize) {
         Some(ty) => !ty.is_pointer_like(),

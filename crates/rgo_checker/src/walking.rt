@@ -4,13 +4,13 @@ ghost use Rattle.std.specs.Prelude.{◌≡◌, ◌∷◌, [], ℕ, Some, slice_g
 ghost use Rattle.rgo_code.specs.declared.rules.Line.TheVariants as line;
 ghost use Rattle.rgo_code.specs.declared.rules.Rule.TheVariants as rule;
 ghost use Rattle.rgo_code.specs.Checked.{IsChecked, IsFirstBroken, KeepsRule};
-ghost use Rattle.rgo_checker.specs.Lines.{slot_lines, instr_lines, fn_lines, functions_lines};
-ghost use Rattle.rgo_checker.specs.Scan.{Walks, passed};
+ghost use Rattle.rgo_checker.specs.Lines.{lines_of_slots, lines_of_instrs, lines_of_function, functions_lines};
+ghost use Rattle.rgo_checker.specs.Scan.{Walks, past_next_line};
 ghost use Rattle.rgo_checker.specs.Sizes.{HasNumbers};
 ghost use Rattle.rgo_checker.specs.Tests as tests;
 ghost use Rattle.rgo_code.specs.Code.{CodeFn as AnyFn};
 ghost use Rattle.rgo_code.specs.NameRules.{Ascends, FnAscends};
-ghost use Rattle.rgo_checker.specs.Prepared.{IsPrepared};
+ghost use Rattle.rgo_checker.specs.Prepared.{IsPreparedToCheck};
 
 use crate::classes::{class_at, class_fits, result_fits};
 use crate::entries;
@@ -23,7 +23,7 @@ use std::alloc::{AllocError, Global};
 
 /// Notes whether the rule on what has a class is kept at the next line.
 fn pass_classes(scan: &mut Scan, kept: bool)
-    ensures { scan.new ≡ passed scan.old (tests.broken_if scan.old.limit rule.Classes kept) }
+    ensures { scan.new ≡ past_next_line scan.old (tests.broken_if scan.old.limit rule.Classes kept) }
 {
     let broken = broken_if(scan.limit, Rule::Classes, kept);
     pass(scan, broken);
@@ -39,7 +39,7 @@ fn walk_head(code: &Code, f: &CodeFn<'_>, scan: &mut Scan)
 
 fn walk_slots(code: &Code, f: &CodeFn<'_>, scan: &mut Scan)
     ensures { (n : ℕ) → slice_get code.now.functions n ≡ Some f.now
-        → Walks code.now 2 15 (slot_lines n f.now.variables) scan.old scan.new }
+        → Walks code.now 2 15 (lines_of_slots n f.now.variables) scan.old scan.new }
 {
     let types = f.tac().variables();
     for v in 0..types.len() {
@@ -55,7 +55,7 @@ fn walk_entry(
     live: &LiveNames,
     scan: &mut Scan,
 ) -> Result<(), AllocError>
-    requires { IsPrepared live.now f.now }
+    requires { IsPreparedToCheck live.now f.now }
     ensures { OnOk result ((n : ℕ) → slice_get code.now.functions n ≡ Some f.now
         → Walks code.now 2 15 (line.Entry n ∷ []) scan.old scan.new) }
 {
@@ -72,7 +72,7 @@ fn walk_instr(
     at: usize,
     scan: &mut Scan,
 ) -> Result<(), AllocError>
-    requires { IsPrepared live.now f.now }
+    requires { IsPreparedToCheck live.now f.now }
     ensures { OnOk result ((n : ℕ) → slice_get code.now.functions n ≡ Some f.now
         → Walks code.now 2 15 (line.Instr n at ∷ []) scan.old scan.new) }
 {
@@ -89,9 +89,9 @@ fn walk_body(
     live: &LiveNames,
     scan: &mut Scan,
 ) -> Result<(), AllocError>
-    requires { IsPrepared live.now f.now }
+    requires { IsPreparedToCheck live.now f.now }
     ensures { OnOk result ((n : ℕ) → slice_get code.now.functions n ≡ Some f.now
-        → Walks code.now 2 15 (instr_lines n f.now.body) scan.old scan.new) }
+        → Walks code.now 2 15 (lines_of_instrs n f.now.body) scan.old scan.new) }
 {
     for at in 0..f.tac().len() {
         walk_instr(alloc, code, f, live, at, scan)?;
@@ -113,7 +113,7 @@ fn walk_function(
 ) -> Result<(), AllocError>
     requires { FnAscends f.now }
     ensures { OnOk result ((n : ℕ) → slice_get code.now.functions n ≡ Some f.now
-        → Walks code.now 2 15 (fn_lines n f.now) scan.old scan.new) }
+        → Walks code.now 2 15 (lines_of_function n f.now) scan.old scan.new) }
 {
     walk_head(code, f, scan);
     walk_slots(code, f, scan);
@@ -127,7 +127,7 @@ fn walk_function(
 fn walk_number(alloc: Global, code: &Code, n: usize, scan: &mut Scan) -> Result<(), AllocError>
     requires { Ascends code.now }
     ensures { OnOk result ((f : AnyFn) → slice_get code.now.functions n ≡ Some f
-        → Walks code.now 2 15 (fn_lines n f) scan.old scan.new) }
+        → Walks code.now 2 15 (lines_of_function n f) scan.old scan.new) }
 {
     match code.function(n) {
         Some(f) => walk_function(alloc, code, &f, scan),

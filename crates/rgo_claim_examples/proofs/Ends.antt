@@ -15,7 +15,7 @@ use Rattle.rgo_tac.specs.Tac.{TacState, tac, tac_start, tac_step}
 use Rattle.rgo_machine.specs.declared.ends.RunEnd.{RunEnd}
 use Rattle.rgo_machine.specs.declared.ends.RunEnd.TheVariants as run_end
 use Rattle.rgo_command_line.specs.Limits.{default_options}
-use Rattle.rgo_claim_examples.specs.Ends.{EndExamples, FreeRunPrints, line, prints, receiver, waiting}
+use Rattle.rgo_claim_examples.specs.Ends.{EndExamples, FreeRunPrints, truth_line, prints, receiver, waiting}
 use Rattle.rgo_claim_examples.proofs.Quiet.{limited_is_of}
 use Rattle.rgo_claim_examples.proofs.Search.{all_within, found}
 
@@ -54,17 +54,17 @@ module _ (code : Tac) (test : TacState → Bool) (all : always code test ≡ tru
 -- it has printed the line if it has exited, and has a step if it has not ended
 abbrev sees : (print : List ℕ) → Option End → (next : Option TacState) → Bool
 sees print None next = is_some next
-sees print (Some Exit) next = bytes_eq print (line true)
+sees print (Some Exit) next = bytes_eq print (truth_line true)
 sees print (Some (Trap trap place)) next = false
 
 abbrev prints_rightly : TacState → Bool
 prints_rightly s = sees s.printed s.ended (tac_step prints s (One 0))
 
-other_print : FreeRunPrints prints (run_end.Ended Exit) (line false) → ⊥
+other_print : FreeRunPrints prints (run_end.Ended Exit) (truth_line false) → ⊥
 other_print run =
-    let p = passes prints prints_rightly refl (run_end.Ended Exit) (line false) run in
+    let p = passes prints prints_rightly refl (run_end.Ended Exit) (truth_line false) run in
     let exited = subst (λ e. sees run.state.printed e (tac_step prints run.state (One 0)) ≡ true) run.ends p in
-    let other = subst (λ bytes. bytes_eq bytes (line true) ≡ true) (sym run.gives) exited in
+    let other = subst (λ bytes. bytes_eq bytes (truth_line true) ≡ true) (sym run.gives) exited in
     true≢false (sym other)
 
 no_deadlock : (print : List ℕ) → FreeRunPrints prints run_end.Deadlock print → ⊥

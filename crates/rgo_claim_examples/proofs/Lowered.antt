@@ -1,12 +1,12 @@
 -- Each code is that of its program: where the code of each part begins, and where its value is.
 use Rattle.std.proofs.Common.{ℕ, [], ◌∷◌, refl}
 use Rattle.rgo_wellformed.specs.TypeRules.{int, pointer_to}
-use Rattle.rgo_lower.specs.Lowered.{IsLowered, Point}
+use Rattle.rgo_lower.specs.Lowered.{IsLowered, LoweringPoint}
 use Rattle.rgo_claim_examples.specs.Programs.{one_object, linked_list, binary_tree, sender, endless, no_object}
 use Rattle.rgo_claim_examples.proofs.Codes.{one_object_code, linked_list_code, binary_tree_code, sender_code, endless_code}
 use Rattle.rgo_claim_examples.proofs.Codes.{no_object_code}
 
-abbrev point : (instr variable : ℕ) → Point
+abbrev point : (instr variable : ℕ) → LoweringPoint
 point instr variable = record { instr = instr; variable = variable }
 
 pub one_object_lowered : IsLowered one_object one_object_code

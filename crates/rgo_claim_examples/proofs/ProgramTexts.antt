@@ -15,7 +15,7 @@ use Rattle.rgo_lexer.specs.Numbers.{number_at, literal_value}
 use Rattle.rgo_lexer.specs.Operators.{operator_at, operator_entry}
 use Rattle.rgo_lexer.specs.Semicolons.{may_end}
 use Rattle.rgo_lexer.specs.Strings.{items_len, string_at, string_of}
-use Rattle.rgo_lexer.specs.Words.{word_at, word_terminal}
+use Rattle.rgo_lexer.specs.Words.{word_at_front, word_terminal}
 use Rattle.rgo_lexer.specs.declared.terminals.Terminal.TheVariants.{Ampersand, Arrow, Assign, Binary, Chan, CloseBrace}
 use Rattle.rgo_lexer.specs.declared.terminals.Terminal.TheVariants.{CloseParen, Comma, Define, Dot, For, Func, Go, If}
 use Rattle.rgo_lexer.specs.declared.terminals.Terminal.TheVariants.{Import, Make, Name, New, Number, OpenBrace, OpenParen}
@@ -70,7 +70,7 @@ object_found =
     tok Semicolon (leaf 127 []) ∷ []
 
 object_lexed : LexesFrom 0 None object_text object_found
-unfolding front_of word_at word_terminal number_at literal_value string_at items_len comment_at operator_at operator_entry may_end
+unfolding front_of word_at_front word_terminal number_at literal_value string_at items_len comment_at operator_at operator_entry may_end
 object_lexed =
     piece Package 7 refl (blank 1 refl (piece Name 4 refl (newline 1 refl (newline 1 refl (piece Import 6 refl
     (blank 1 refl (piece Text 5 refl (newline 1 refl (newline 1 refl (piece TypeWord 4 refl (blank 1 refl
@@ -166,7 +166,7 @@ list_found =
     tok Semicolon (leaf 247 []) ∷ []
 
 list_lexed : LexesFrom 0 None list_text list_found
-unfolding front_of word_at word_terminal number_at literal_value string_at items_len comment_at operator_at operator_entry may_end
+unfolding front_of word_at_front word_terminal number_at literal_value string_at items_len comment_at operator_at operator_entry may_end
 list_lexed =
     piece Package 7 refl (blank 1 refl (piece Name 4 refl (newline 1 refl (newline 1 refl (piece Import 6 refl
     (blank 1 refl (piece Text 5 refl (newline 1 refl (newline 1 refl (piece TypeWord 4 refl (blank 1 refl
@@ -292,7 +292,7 @@ tree_found =
     tok Semicolon (leaf 350 []) ∷ []
 
 tree_lexed : LexesFrom 0 None tree_text tree_found
-unfolding front_of word_at word_terminal number_at literal_value string_at items_len comment_at operator_at operator_entry may_end
+unfolding front_of word_at_front word_terminal number_at literal_value string_at items_len comment_at operator_at operator_entry may_end
 tree_lexed =
     piece Package 7 refl (blank 1 refl (piece Name 4 refl (newline 1 refl (newline 1 refl (piece Import 6 refl
     (blank 1 refl (piece Text 5 refl (newline 1 refl (newline 1 refl (piece TypeWord 4 refl (blank 1 refl
@@ -395,7 +395,7 @@ sender_found =
     tok Semicolon (leaf 127 []) ∷ tok CloseBrace (leaf 128 (codes "}")) ∷ tok Semicolon (leaf 129 []) ∷ []
 
 sender_lexed : LexesFrom 0 None sender_text sender_found
-unfolding front_of word_at word_terminal number_at literal_value string_at items_len comment_at operator_at operator_entry may_end
+unfolding front_of word_at_front word_terminal number_at literal_value string_at items_len comment_at operator_at operator_entry may_end
 sender_lexed =
     piece Package 7 refl (blank 1 refl (piece Name 4 refl (newline 1 refl (newline 1 refl (piece Import 6 refl
     (blank 1 refl (piece Text 5 refl (newline 1 refl (newline 1 refl (piece Func 4 refl (blank 1 refl

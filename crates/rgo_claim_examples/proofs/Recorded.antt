@@ -29,7 +29,7 @@ use Rattle.rgo_journal.proofs.OneJournal.{read_back}
 use Rattle.rgo_run.specs.Endings.{line_of, status_of, status_of_run}
 use Rattle.rgo_run.specs.Recorded.{IsOfNoRun, Noted, RecordHeadline, RecordedText, RecordsText, ReportsJournal, nothing, part, rest, whole}
 use Rattle.rgo_run.specs.Runs.{IsCodeFor, IsRunnable, Runnable, of_code, of_program}
-use Rattle.rgo_run.specs.Texts.{IsRead}
+use Rattle.rgo_run.specs.Texts.{IsTextRead}
 use Rattle.rgo_run.specs.Verdicts.{IsTypedProgram}
 use Rattle.rgo_run.specs.declared.endings.Ending.TheVariants.{Ran}
 use Rattle.rgo_run.specs.declared.endings.TextKind.TheVariants as text_kind
@@ -98,7 +98,7 @@ noted words err = record {
 }
 
 module _ (words : List (List ℕ)) (asked : command_of words ≡ Some (Record default_options)) where
-  read : IsRead words (left_by words []).source (Record default_options) object_text
+  read : IsTextRead words (left_by words []).source (Record default_options) object_text
   read = record {
     asked = asked;
     is_text = refl;

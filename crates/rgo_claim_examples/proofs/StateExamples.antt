@@ -12,7 +12,7 @@ use Rattle.rgo_machine.specs.declared.limits.Shortage.TheVariants as shortage
 use Rattle.rgo_tac.specs.Tac.{TacState}
 use Rattle.rgo_region_machine.specs.declared.regions.Region.{Region}
 use Rattle.rgo_region_machine.specs.declared.regions.Region.TheVariants.{Numbered}
-use Rattle.rgo_region_machine.specs.Examples.{long_slice, one_object, taking}
+use Rattle.rgo_region_machine.specs.Examples.{long_slice, aliased_object, taking_pages}
 use Rattle.rgo_region_machine.specs.Machine.{TakePage, plain_step, region_run, region_start, region_step}
 use Rattle.rgo_region_machine.specs.Objects.{data_pages, making_region, most_data_pages, new_object, touched}
 use Rattle.rgo_tac.specs.Frames.{TacFrame}
@@ -69,7 +69,7 @@ pointers zero p object r at owner live points =
     subst (λ q. slice_get example.at_home.owners q ≡ Some r) same owner
 pointers (suc o) p object r at owner live points = absurd cc
 
-at_home : IsSafe one_object 16 example.at_home
+at_home : IsSafe aliased_object 16 example.at_home
 at_home = record {
   stakes = record { counted = counted; ended = ended };
   names = names;
@@ -84,7 +84,7 @@ at_home = record {
 
 -- ---- states that are not
 
-astray : IsSafe one_object 16 example.astray → ⊥
+astray : IsSafe aliased_object 16 example.astray → ⊥
 astray safe =
     let e : Some (Numbered 1) ≡ Some (Numbered 0) =
     safe.pointers 0 1 _ (Numbered 0) refl refl refl (contains_here (value.Object 1) []) in
@@ -93,57 +93,57 @@ astray safe =
     different : Some (Numbered 1) ≡ Some (Numbered 0) → ⊥
     different e = cc
 
-overcounted : IsSafe one_object 16 example.overcounted → ⊥
+overcounted : IsSafe aliased_object 16 example.overcounted → ⊥
 overcounted safe = let e : 2 ≡ 1 = safe.stakes.counted 0 _ refl in omega (arith, e)
 
-unnamed : IsSafe one_object 16 example.unnamed → ⊥
+unnamed : IsSafe aliased_object 16 example.unnamed_stake → ⊥
 unnamed safe = let e : 0 ≡ 1 = safe.names 0 _ 0 refl (contains_here 0 []) refl in omega (arith, e)
 
-named_twice : IsSafe one_object 16 example.named_twice → ⊥
+named_twice : IsSafe aliased_object 16 example.named_twice → ⊥
 named_twice safe = let e : 2 ≡ 1 = safe.names 0 _ 0 refl (contains_here 0 []) refl in omega (arith, e)
 
-too_many_pages : IsSafe one_object 16 example.too_many_pages → ⊥
+too_many_pages : IsSafe aliased_object 16 example.too_many_pages → ⊥
 too_many_pages safe = let e : 2 ≤ 1 = safe.counts.pages in omega (arith, e)
 
 -- `main` is before an instruction, so it has not ended
-spread_pages : CountsFit one_object 16 (example.with_pages 8)
+spread_pages : CountsFit aliased_object 16 (example.with_pages 8)
 spread_pages = record {
   pages = leb-true 8 8 refl;
   regions = leb-true 1 2 refl;
   all_removed = λ over. absurd (stands (over 0 _ refl).0);
 }
 
-whole_pages : CountsFit one_object 41 (example.with_pages 2)
+whole_pages : CountsFit aliased_object 41 (example.with_pages 2)
 whole_pages = record {
   pages = leb-true 2 2 refl;
   regions = leb-true 1 2 refl;
   all_removed = λ over. absurd (stands (over 0 _ refl).0);
 }
 
-too_many_spread : IsSafe one_object 16 (example.with_pages 9) → ⊥
+too_many_spread : IsSafe aliased_object 16 (example.with_pages 9) → ⊥
 too_many_spread safe = let e : 9 ≤ 8 = safe.counts.pages in omega (arith, e)
 
-too_many_whole : IsSafe one_object 41 (example.with_pages 3) → ⊥
+too_many_whole : IsSafe aliased_object 41 (example.with_pages 3) → ⊥
 too_many_whole safe = let e : 3 ≤ 2 = safe.counts.pages in omega (arith, e)
 
 -- ---- what is named next
 
 of_region : (r : Region) → Some (Numbered 0) ≡ Some r
-    → HasStake example.removing (example.holder (0 ∷ []) ((0, Numbered 0) ∷ []) (Remove 0 ∷ [])) r
+    → HasStake example.removing_live (example.holder (0 ∷ []) ((0, Numbered 0) ∷ []) (Remove 0 ∷ [])) r
 of_region r e =
-    subst (HasStake example.removing (example.holder (0 ∷ []) ((0, Numbered 0) ∷ []) (Remove 0 ∷ [])))
+    subst (HasStake example.removing_live (example.holder (0 ∷ []) ((0, Numbered 0) ∷ []) (Remove 0 ∷ [])))
     (same_Some (Numbered 0) r e) (refl, contains_here 0 [])
 
-removing : NamesLive one_object example.removing
+removing : NamesLive aliased_object example.removing_live
 removing zero h r at =
-    subst (λ (k : Holder). NextNames one_object example.removing 0 k k.duties k.offer r → HasStake example.removing k r)
+    subst (λ (k : Holder). NextNames aliased_object example.removing_live 0 k k.duties k.offer r → HasStake example.removing_live k r)
     (same_Some _ h at) (of_region r)
 removing (suc g) h r at = absurd cc
 
-removing_twice : NamesLive one_object example.removing_twice → ⊥
+removing_twice : NamesLive aliased_object example.removing_twice → ⊥
 removing_twice live = let has = live 0 _ (Numbered 0) refl refl in true≢false (sym has.0)
 
-removing_anothers : NamesLive one_object example.removing_anothers → ⊥
+removing_anothers : NamesLive aliased_object example.removing_anothers → ⊥
 removing_anothers live = let has = live 0 _ (Numbered 0) refl refl in let none = has.1.1 in omega (arith, none)
 
 -- ---- what an instruction names
@@ -162,16 +162,16 @@ no_region r e = cc
 no_object : (o : ℕ) → ◌≡◌ {A = Option ℕ} None (Some o) → ⊥
 no_object o e = cc
 
--- what an instruction of `one_object` names is region 0, with a stake of the goroutine
+-- what an instruction of `aliased_object` names is region 0, with a stake of the goroutine
 abbrev NamesFirst : RegionState → TacFrame → CodeInstr → Type 0
 NamesFirst s frame i =
     (r : Region)
-    → (making_region (function_at one_object frame) (top_names maker.environments) i.op ≡ Some r)
+    → (making_region (function_at aliased_object frame) (top_names maker.environments) i.op ≡ Some r)
     ⊎ ((o : ℕ) × (touched frame i.op ≡ Some o) × (slice_get s.owners o ≡ Some r))
     → HasStake s maker r
 
-of_instr : (s : RegionState) (frame : TacFrame) (i : CodeInstr) → current one_object frame ≡ Some i → NamesFirst s frame i
-    → (r : Region) → InstructionNames one_object s maker (frame ∷ []) r → HasStake s maker r
+of_instr : (s : RegionState) (frame : TacFrame) (i : CodeInstr) → current aliased_object frame ≡ Some i → NamesFirst s frame i
+    → (r : Region) → InstructionNames aliased_object s maker (frame ∷ []) r → HasStake s maker r
 of_instr s frame i is names r named =
     subst (NamesFirst s frame) (same_Some i named.0 (sym is ∙ named.1)) names r named.2
 
@@ -181,7 +181,7 @@ first_frame = record { function = 0; next = 0; variables = value.Nil ∷ value.N
 abbrev load_frame : TacFrame
 load_frame = record { function = 0; next = 2; variables = value.Object 0 ∷ value.Object 0 ∷ value.Nil ∷ [] }
 
-made : (i : CodeInstr) → current one_object first_frame ≡ Some i → NamesFirst example.at_home first_frame i
+made : (i : CodeInstr) → current aliased_object first_frame ≡ Some i → NamesFirst example.at_home first_frame i
 made i is = subst (NamesFirst example.at_home first_frame) (same_Some _ i is) by
   where
     by : (r : Region) → (Some (Numbered 0) ≡ Some r)
@@ -190,36 +190,36 @@ made i is = subst (NamesFirst example.at_home first_frame) (same_Some _ i is) by
     by r (inl e) = is_first example.at_home maker (refl, contains_here 0 []) r e
     by r (inr t) = absurd (no_object t.0 t.1)
 
-making : NamesLive one_object example.at_home
+making : NamesLive aliased_object example.at_home
 making zero h r at =
-    subst (λ (k : Holder). NextNames one_object example.at_home 0 k k.duties k.offer r → HasStake example.at_home k r)
+    subst (λ (k : Holder). NextNames aliased_object example.at_home 0 k k.duties k.offer r → HasStake example.at_home k r)
     (same_Some maker h at) (of_instr example.at_home first_frame _ refl (made _ refl) r)
 making (suc g) h r at = absurd cc
 
-read : (i : CodeInstr) → current one_object load_frame ≡ Some i → NamesFirst example.loading load_frame i
-read i is = subst (NamesFirst example.loading load_frame) (same_Some _ i is) by
+read : (i : CodeInstr) → current aliased_object load_frame ≡ Some i → NamesFirst example.loading_live load_frame i
+read i is = subst (NamesFirst example.loading_live load_frame) (same_Some _ i is) by
   where
-    owned : (o : ℕ) (r : Region) → 0 ≡ o → slice_get example.loading.owners o ≡ Some r → Some (Numbered 0) ≡ Some r
-    owned o r is e = subst (λ p. slice_get example.loading.owners p ≡ Some r) (sym is) e
+    owned : (o : ℕ) (r : Region) → 0 ≡ o → slice_get example.loading_live.owners o ≡ Some r → Some (Numbered 0) ≡ Some r
+    owned o r is e = subst (λ p. slice_get example.loading_live.owners p ≡ Some r) (sym is) e
 
     by : (r : Region) → (◌≡◌ {A = Option Region} None (Some r))
-        ⊎ ((o : ℕ) × (Some 0 ≡ Some o) × (slice_get example.loading.owners o ≡ Some r))
-        → HasStake example.loading maker r
+        ⊎ ((o : ℕ) × (Some 0 ≡ Some o) × (slice_get example.loading_live.owners o ≡ Some r))
+        → HasStake example.loading_live maker r
     by r (inl e) = absurd (no_region r e)
     by r (inr t) =
-        is_first example.loading maker (refl, contains_here 0 []) r (owned t.0 r (same_Some 0 t.0 t.1) t.2)
+        is_first example.loading_live maker (refl, contains_here 0 []) r (owned t.0 r (same_Some 0 t.0 t.1) t.2)
 
-loading : NamesLive one_object example.loading
+loading : NamesLive aliased_object example.loading_live
 loading zero h r at =
-    subst (λ (k : Holder). NextNames one_object example.loading 0 k k.duties k.offer r → HasStake example.loading k r)
-    (same_Some maker h at) (of_instr example.loading load_frame _ refl (read _ refl) r)
+    subst (λ (k : Holder). NextNames aliased_object example.loading_live 0 k k.duties k.offer r → HasStake example.loading_live k r)
+    (same_Some maker h at) (of_instr example.loading_live load_frame _ refl (read _ refl) r)
 loading (suc g) h r at = absurd cc
 
-loading_removed : NamesLive one_object example.loading_removed → ⊥
+loading_removed : NamesLive aliased_object example.loading_removed → ⊥
 loading_removed live =
     let has = live 0 _ (Numbered 0) refl (_, refl, inr (0, refl, refl)) in true≢false (sym has.0)
 
-acknowledging : NamesLive one_object example.acknowledging → ⊥
+acknowledging : NamesLive aliased_object example.acknowledging_removed → ⊥
 acknowledging live = let has = live 0 _ (Numbered 0) refl refl in true≢false (sym has.0)
 
 pub state_examples : StateExamples
@@ -247,19 +247,19 @@ state_examples = record {
 
 -- the state after the creation
 abbrev here : (page_words : ℕ) → RegionState
-here page_words = unwrap_or (region_run one_object page_words example.created) (region_start one_object)
+here page_words = unwrap_or (region_run aliased_object page_words example.region_created) (region_start aliased_object)
 
-no_page_yet : LacksIn one_object (sizes 16 0 1) shortage.Pages (region_start one_object) → ⊥
+no_page_yet : LacksIn aliased_object (sizes 16 0 1) shortage.Pages (region_start aliased_object) → ⊥
 no_page_yet lacks = by lacks.0 lacks.1
   where
-    by : (g : ℕ) → IsSome (region_step one_object 16 (region_start one_object) (TakePage g)) → ⊥
+    by : (g : ℕ) → IsSome (region_step aliased_object 16 (region_start aliased_object) (TakePage g)) → ⊥
     by zero some = true≢false (sym some)
     by (suc g) some = true≢false (sym some)
 
 -- the state before a slice of this number of elements, with this number of its pages taken
 abbrev before_slice : (n last other pages : ℕ) → RegionState
 before_slice n last other pages =
-    unwrap_or (region_run (long_slice n last other) 16 (taking pages)) (region_start (long_slice n last other))
+    unwrap_or (region_run (long_slice n last other) 16 (taking_pages pages)) (region_start (long_slice n last other))
 
 all_pages : LacksIn (long_slice 17 16 15) (sizes 16 3 1) shortage.Pages (before_slice 17 16 15 3) → ⊥
 all_pages lacks = by lacks.0 lacks.1
@@ -296,12 +296,12 @@ longest lacks =
     by zero less = let e : 14 < 14 = less in omega (arith, e)
     by (suc g) less = let e : 14 < 0 = less in omega (arith, e)
 
-two_words : LacksIn one_object (sizes 2 1 1) shortage.ObjectSize (here 2) → ⊥
+two_words : LacksIn aliased_object (sizes 2 1 1) shortage.ObjectSize (here 2) → ⊥
 two_words lacks =
     by lacks.0
-    (larger 2 (here 2).plain lacks.1 (plain_step one_object (here 2).plain (One lacks.0)) lacks.2 lacks.3)
+    (larger 2 (here 2).plain lacks.1 (plain_step aliased_object (here 2).plain (One lacks.0)) lacks.2 lacks.3)
   where
-    by : (g : ℕ) → most_data_pages 2 < pages_in 2 (here 2).plain (plain_step one_object (here 2).plain (One g)) → ⊥
+    by : (g : ℕ) → most_data_pages 2 < pages_in 2 (here 2).plain (plain_step aliased_object (here 2).plain (One g)) → ⊥
     by zero less = let e : 0 < 0 = less in omega (arith, e)
     by (suc g) less = let e : 0 < 0 = less in omega (arith, e)
 

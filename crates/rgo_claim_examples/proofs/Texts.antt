@@ -11,7 +11,7 @@ use Rattle.rgo_lexer.specs.Lexing.{LexesFrom, blank, finish, newline, piece}
 use Rattle.rgo_lexer.specs.Operators.{operator_at, operator_entry}
 use Rattle.rgo_lexer.specs.Refusals.{here}
 use Rattle.rgo_lexer.specs.Semicolons.{may_end}
-use Rattle.rgo_lexer.specs.Words.{word_at, word_terminal}
+use Rattle.rgo_lexer.specs.Words.{word_at_front, word_terminal}
 use Rattle.rgo_lexer.specs.declared.refusals.LexicalKind.TheVariants.{BadByte}
 use Rattle.rgo_lexer.specs.declared.terminals.Terminal.TheVariants.{Name, Main, OpenParen, CloseParen, OpenBrace}
 use Rattle.rgo_lexer.specs.declared.terminals.Terminal.TheVariants.{CloseBrace, Semicolon, Package, Func, For}
@@ -48,7 +48,7 @@ found =
     ∷ tok CloseBrace (leaf 38 (codes "}")) ∷ tok Semicolon (leaf 39 []) ∷ []
 
 lexed : LexesFrom 0 None endless_text found
-unfolding front_of word_at word_terminal operator_at operator_entry may_end
+unfolding front_of word_at_front word_terminal operator_at operator_entry may_end
 lexed =
     piece Package 7 refl (blank 1 refl (piece Name 4 refl (newline 1 refl (newline 1 refl (piece Func 4 refl
     (blank 1 refl (piece Name 4 refl (piece OpenParen 1 refl (piece CloseParen 1 refl (blank 1 refl
@@ -126,7 +126,7 @@ is_program = record {
 -- ---- a refusal
 
 refused : Refused bad_text (Lexical (record { kind = BadByte; at = 0 }))
-unfolding front_of word_at word_terminal operator_at operator_entry
+unfolding front_of word_at_front word_terminal operator_at operator_entry
 refused = (leb-true 1 1048576 refl, inl (bad_utf8, here BadByte 0 refl))
 
 pub text_examples : TextExamples

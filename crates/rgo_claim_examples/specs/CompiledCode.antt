@@ -5,7 +5,7 @@ use Rattle.rgo_typed.specs.declared.statements.Piece.TheVariants as piece
 use Rattle.rgo_machine.specs.declared.limits.Shortage.TheVariants as shortage
 use Rattle.rgo_tac.specs.declared.regions.Class.TheVariants.{Name}
 use Rattle.rgo_code.specs.Code.{Code, CodeFn, CodeInstr, CodeOp, Do, Jump, Print, Return}
-use Rattle.rgo_region_machine.specs.Examples.{code_of, int_slot, main_of, node_slot}
+use Rattle.rgo_region_machine.specs.Examples.{small_code, int_slot, main_of, node_slot}
 use Rattle.rgo_run.specs.Compiled.{IsCompiledFrom}
 use Rattle.rgo_run.specs.Headline.{AlwaysHas}
 use Rattle.rgo_run.specs.Runs.{of_program}
@@ -25,14 +25,14 @@ main_with creates = main_of (node_slot (Name 0) ∷ node_slot (Name 0) ∷ int_s
     ∷ at 126 [] (Return None) ∷ [])
 
 abbrev pub code_with : (creates : List ℕ) → Code
-code_with creates = code_of (node ∷ []) (main_with creates ∷ [])
+code_with creates = small_code (node ∷ []) (main_with creates ∷ [])
 
 -- the code of the program that never ends, which has no region
 abbrev pub endless_main : CodeFn
 endless_main = main_of [] (at 29 [] (Jump 0 []) ∷ at 38 [] (Return None) ∷ [])
 
 abbrev pub endless_made : Code
-endless_made = code_of [] (endless_main ∷ [])
+endless_made = small_code [] (endless_main ∷ [])
 
 pub record CompiledExamples : Type 0 where
   pub compiled : IsCompiledFrom one_object (code_with (0 ∷ []))

@@ -4,7 +4,7 @@ use Rattle.std.specs.Prelude.{ℕ, ◌^◌, ◌-◌, [], ◌∷◌, None}
 use Rattle.rgo_code.specs.Code.{Code, Return}
 use Rattle.rgo_code.specs.Erasure.{erased}
 use Rattle.rgo_code_printing.specs.Text.{text_of}
-use Rattle.rgo_region_machine.specs.Examples.{code_of, main_of}
+use Rattle.rgo_region_machine.specs.Examples.{small_code, main_of}
 use Rattle.rgo_run.specs.CodeVerdicts.{CodePasses}
 use Rattle.rgo_run.specs.Compiled.{IsCodeText}
 use Rattle.rgo_run.specs.Constants.{TacConstantsFit}
@@ -13,7 +13,7 @@ use Rattle.rgo_claim_examples.specs.Texts.{object_text}
 
 -- code of one instruction at this place
 abbrev pub placed_at : ℕ → Code
-placed_at place = code_of [] (main_of [] (at place [] (Return None) ∷ []) ∷ [])
+placed_at place = small_code [] (main_of [] (at place [] (Return None) ∷ []) ∷ [])
 
 pub record EmittedExamples : Type 0 where
   pub printed : IsCodeText object_text (text_of (code_with (0 ∷ [])))

@@ -46,8 +46,8 @@ receiver =
     ∷ Return None ∷ [])
 
 -- the line of a truth value
-abbrev pub line : Bool → List ℕ
-line b = printed_line (piece.Value ∷ []) (value.Bool b ∷ [])
+abbrev pub truth_line : Bool → List ℕ
+truth_line b = printed_line (piece.Value ∷ []) (value.Bool b ∷ [])
 
 -- the receiver before its receive
 abbrev pub waiting : TacState
@@ -69,9 +69,9 @@ pub record EndExamples : Type 0 where
   -- a step is left, or the run has ended
   pub has_step : IsDeadlock (tac receiver) (tac_start receiver) → ⊥
   pub has_ended : IsDeadlock (tac receiver) (record waiting { ended = Some Exit }) → ⊥
-  pub exits : FreeRunPrints prints (run_end.Ended Exit) (line true)
+  pub exits : FreeRunPrints prints (run_end.Ended Exit) (truth_line true)
   pub deadlocks : FreeRunPrints receiver run_end.Deadlock []
   -- no other print, no other end
-  pub other_print : FreeRunPrints prints (run_end.Ended Exit) (line false) → ⊥
+  pub other_print : FreeRunPrints prints (run_end.Ended Exit) (truth_line false) → ⊥
   pub no_deadlock : (print : List ℕ) → FreeRunPrints prints run_end.Deadlock print → ⊥
   pub no_exit : (print : List ℕ) → FreeRunPrints receiver (run_end.Ended Exit) print → ⊥

@@ -10,7 +10,7 @@ use Rattle.rgo_tac.specs.Frames.{TacFrame}
 use Rattle.rgo_code.specs.Code.{Code}
 use Rattle.rgo_region_machine.specs.declared.regions.Region.{Region}
 use Rattle.rgo_region_machine.specs.declared.regions.Region.TheVariants.{Numbered}
-use Rattle.rgo_region_machine.specs.Examples.{long_slice, one_object, taking}
+use Rattle.rgo_region_machine.specs.Examples.{long_slice, aliased_object, taking_pages}
 use Rattle.rgo_region_machine.specs.Machine.{Attend, Event, region_run, region_start}
 use Rattle.rgo_region_machine.specs.Regions.{Bindings, RegionInfo}
 use Rattle.rgo_region_machine.specs.States.{Duty, Holder, NoOffer, RegionState, Remove, Taken}
@@ -20,7 +20,7 @@ use Rattle.rgo_sound.specs.RegionRuns.{NamesLive}
 
 -- ---- parts of states
 
--- `main` of `one_object` before its instruction `next`
+-- `main` of `aliased_object` before its instruction `next`
 abbrev pub main_at : (next : ℕ) → List TacFrame
 main_at next = record {
   function = 0;
@@ -45,8 +45,8 @@ abbrev pub region : (stakes pages : ℕ) → RegionInfo
 region stakes pages = record { stakes = stakes; pages = pages }
 
 -- `main` alone, at these frames, with these objects in these regions
-abbrev pub state_at : List TacFrame → List Object → List Region → List RegionInfo → Holder → RegionState
-state_at frames heap owners regions main = record {
+abbrev pub one_goroutine_state : List TacFrame → List Object → List Region → List RegionInfo → Holder → RegionState
+one_goroutine_state frames heap owners regions main = record {
   plain =
       record { memory = record { heap = heap; variables = [] }; goroutines = frames ∷ []; printed = []; ended = None };
   owners = owners;
@@ -58,97 +58,97 @@ state_at frames heap owners regions main = record {
 }
 
 -- the same before its first instruction
-abbrev pub state : List Object → List Region → List RegionInfo → Holder → RegionState
-state heap owners regions main = state_at (main_at 0) heap owners regions main
+abbrev pub one_goroutine_start : List Object → List Region → List RegionInfo → Holder → RegionState
+one_goroutine_start heap owners regions main = one_goroutine_state (main_at 0) heap owners regions main
 
 -- ---- states
 
 -- an object of region 0, which is live, that points into its own region
 abbrev pub at_home : RegionState
 at_home =
-    state (StructObject (value.Object 0 ∷ []) ∷ []) (Numbered 0 ∷ []) (region 1 1 ∷ [])
+    one_goroutine_start (StructObject (value.Object 0 ∷ []) ∷ []) (Numbered 0 ∷ []) (region 1 1 ∷ [])
     (holder (0 ∷ []) ((0, Numbered 0) ∷ []) [])
 
 -- an object of region 0 points into region 1
 abbrev pub astray : RegionState
 astray =
-    state (StructObject (value.Object 1 ∷ []) ∷ StructObject [] ∷ []) (Numbered 0 ∷ Numbered 1 ∷ [])
+    one_goroutine_start (StructObject (value.Object 1 ∷ []) ∷ StructObject [] ∷ []) (Numbered 0 ∷ Numbered 1 ∷ [])
     (region 1 1 ∷ region 1 1 ∷ []) (holder (0 ∷ 1 ∷ []) ((0, Numbered 0) ∷ (1, Numbered 1) ∷ []) [])
 
 -- one goroutine has a stake, and two are counted
 abbrev pub overcounted : RegionState
-overcounted = state [] [] (region 2 0 ∷ []) (holder (0 ∷ []) ((0, Numbered 0) ∷ []) [])
+overcounted = one_goroutine_start [] [] (region 2 0 ∷ []) (holder (0 ∷ []) ((0, Numbered 0) ∷ []) [])
 
 -- a stake that no name keeps, and one that two names keep
-abbrev pub unnamed : RegionState
-unnamed = state [] [] (region 1 0 ∷ []) (holder (0 ∷ []) [] [])
+abbrev pub unnamed_stake : RegionState
+unnamed_stake = one_goroutine_start [] [] (region 1 0 ∷ []) (holder (0 ∷ []) [] [])
 
 abbrev pub named_twice : RegionState
-named_twice = state [] [] (region 1 0 ∷ []) (holder (0 ∷ []) ((0, Numbered 0) ∷ (1, Numbered 0) ∷ []) [])
+named_twice = one_goroutine_start [] [] (region 1 0 ∷ []) (holder (0 ∷ []) ((0, Numbered 0) ∷ (1, Numbered 0) ∷ []) [])
 
 -- two pages, with no object and one goroutine
 abbrev pub too_many_pages : RegionState
-too_many_pages = state [] [] (region 1 2 ∷ []) (holder (0 ∷ []) ((0, Numbered 0) ∷ []) [])
+too_many_pages = one_goroutine_start [] [] (region 1 2 ∷ []) (holder (0 ∷ []) ((0, Numbered 0) ∷ []) [])
 
 -- a slice of 40 elements in a region with this number of pages; the next object is a struct
 abbrev pub with_pages : (pages : ℕ) → RegionState
 with_pages pages =
-    state (SliceObject (replicate 40 (value.Int (pos 0))) ∷ []) (Numbered 0 ∷ []) (region 1 pages ∷ [])
+    one_goroutine_start (SliceObject (replicate 40 (value.Int (pos 0))) ∷ []) (Numbered 0 ∷ []) (region 1 pages ∷ [])
     (holder (0 ∷ []) ((0, Numbered 0) ∷ []) [])
 
 -- a region is removed next: it is live; it has been removed before; it is that of another goroutine
-abbrev pub removing : RegionState
-removing = state [] [] (region 1 0 ∷ []) (holder (0 ∷ []) ((0, Numbered 0) ∷ []) (Remove 0 ∷ []))
+abbrev pub removing_live : RegionState
+removing_live = one_goroutine_start [] [] (region 1 0 ∷ []) (holder (0 ∷ []) ((0, Numbered 0) ∷ []) (Remove 0 ∷ []))
 
 abbrev pub removing_twice : RegionState
-removing_twice = state [] [] (region 0 0 ∷ []) (holder [] ((0, Numbered 0) ∷ []) (Remove 0 ∷ []))
+removing_twice = one_goroutine_start [] [] (region 0 0 ∷ []) (holder [] ((0, Numbered 0) ∷ []) (Remove 0 ∷ []))
 
 abbrev pub removing_anothers : RegionState
-removing_anothers = state [] [] (region 1 0 ∷ []) (holder [] ((0, Numbered 0) ∷ []) (Remove 0 ∷ []))
+removing_anothers = one_goroutine_start [] [] (region 1 0 ∷ []) (holder [] ((0, Numbered 0) ∷ []) (Remove 0 ∷ []))
 
 -- `main` before its load of the first field of an object, with these regions and stakes
 abbrev pub before_load : List RegionInfo → List ℕ → RegionState
 before_load regions stakes =
-    state_at (record {
+    one_goroutine_state (record {
       function = 0;
       next = 2;
       variables = value.Object 0 ∷ value.Object 0 ∷ value.Nil ∷ [];
     } ∷ []) (StructObject (value.Nil ∷ []) ∷ []) (Numbered 0 ∷ []) regions (holder stakes ((0, Numbered 0) ∷ []) [])
 
 -- the region of the object is live; it has been removed
-abbrev pub loading : RegionState
-loading = before_load (region 1 1 ∷ []) (0 ∷ [])
+abbrev pub loading_live : RegionState
+loading_live = before_load (region 1 1 ∷ []) (0 ∷ [])
 
 abbrev pub loading_removed : RegionState
 loading_removed = before_load (region 0 1 ∷ []) []
 
 -- an offer was taken on a channel whose region has been removed
-abbrev pub acknowledging : RegionState
-acknowledging =
-    state (Channel 0 [] false ∷ []) (Numbered 0 ∷ []) (region 0 1 ∷ [])
+abbrev pub acknowledging_removed : RegionState
+acknowledging_removed =
+    one_goroutine_start (Channel 0 [] false ∷ []) (Numbered 0 ∷ []) (region 0 1 ∷ [])
     (record (holder [] [] []) { offer = Taken 0 })
 
 pub record StateExamples : Type 0 where
-  pub safe : IsSafe one_object 16 at_home
-  pub astray : IsSafe one_object 16 astray → ⊥
-  pub overcounted : IsSafe one_object 16 overcounted → ⊥
-  pub unnamed : IsSafe one_object 16 unnamed → ⊥
-  pub named_twice : IsSafe one_object 16 named_twice → ⊥
-  pub too_many_pages : IsSafe one_object 16 too_many_pages → ⊥
+  pub safe : IsSafe aliased_object 16 at_home
+  pub astray : IsSafe aliased_object 16 astray → ⊥
+  pub overcounted : IsSafe aliased_object 16 overcounted → ⊥
+  pub unnamed : IsSafe aliased_object 16 unnamed_stake → ⊥
+  pub named_twice : IsSafe aliased_object 16 named_twice → ⊥
+  pub too_many_pages : IsSafe aliased_object 16 too_many_pages → ⊥
   -- The slice has a lead page and three data pages, and the goroutine may have taken as many more; in a page that has room for it, it
   -- has that one alone.
-  pub spread_pages : CountsFit one_object 16 (with_pages 8)
-  pub too_many_spread : IsSafe one_object 16 (with_pages 9) → ⊥
-  pub whole_pages : CountsFit one_object 41 (with_pages 2)
-  pub too_many_whole : IsSafe one_object 41 (with_pages 3) → ⊥
-  pub removing : NamesLive one_object removing
-  pub removing_twice : NamesLive one_object removing_twice → ⊥
-  pub removing_anothers : NamesLive one_object removing_anothers → ⊥
+  pub spread_pages : CountsFit aliased_object 16 (with_pages 8)
+  pub too_many_spread : IsSafe aliased_object 16 (with_pages 9) → ⊥
+  pub whole_pages : CountsFit aliased_object 41 (with_pages 2)
+  pub too_many_whole : IsSafe aliased_object 41 (with_pages 3) → ⊥
+  pub removing : NamesLive aliased_object removing_live
+  pub removing_twice : NamesLive aliased_object removing_twice → ⊥
+  pub removing_anothers : NamesLive aliased_object removing_anothers → ⊥
   -- an object is made, or read
-  pub making : NamesLive one_object at_home
-  pub loading : NamesLive one_object loading
-  pub loading_removed : NamesLive one_object loading_removed → ⊥
-  pub acknowledging : NamesLive one_object acknowledging → ⊥
+  pub making : NamesLive aliased_object at_home
+  pub loading : NamesLive aliased_object loading_live
+  pub loading_removed : NamesLive aliased_object loading_removed → ⊥
+  pub acknowledging : NamesLive aliased_object acknowledging_removed → ⊥
 
 -- ---- room
 
@@ -156,30 +156,30 @@ abbrev pub sizes : (page_words pages regions : ℕ) → Sizes
 sizes page_words pages regions = record { page_words = page_words; pages = pages; regions = regions }
 
 -- its region is created
-abbrev pub created : List Event
-created = Attend 0 ∷ []
+abbrev pub region_created : List Event
+region_created = Attend 0 ∷ []
 
 -- these events lead to a state with this property
 abbrev pub Comes : Code → (page_words : ℕ) → List Event → (RegionState → Type 0) → Type 0
 Comes code page_words events Holds =
     (s : RegionState) × (region_run code page_words events ≡ Some s) × Holds s
 
--- The run of `one_object` creates a region, and then takes a page of that.
+-- The run of `aliased_object` creates a region, and then takes a page of that.
 pub record RoomExamples : Type 0 where
-  pub no_region : LacksIn one_object (sizes 16 1 0) shortage.Regions (region_start one_object)
-  pub one_region : LacksIn one_object (sizes 16 1 1) shortage.Regions (region_start one_object) → ⊥
-  pub no_page : Comes one_object 16 created (LacksIn one_object (sizes 16 0 1) shortage.Pages)
-  pub one_page : Comes one_object 16 created (λ s. LacksIn one_object (sizes 16 1 1) shortage.Pages s → ⊥)
+  pub no_region : LacksIn aliased_object (sizes 16 1 0) shortage.Regions (region_start aliased_object)
+  pub one_region : LacksIn aliased_object (sizes 16 1 1) shortage.Regions (region_start aliased_object) → ⊥
+  pub no_page : Comes aliased_object 16 region_created (LacksIn aliased_object (sizes 16 0 1) shortage.Pages)
+  pub one_page : Comes aliased_object 16 region_created (λ s. LacksIn aliased_object (sizes 16 1 1) shortage.Pages s → ⊥)
   -- no page is needed before the region exists
-  pub no_page_yet : LacksIn one_object (sizes 16 0 1) shortage.Pages (region_start one_object) → ⊥
+  pub no_page_yet : LacksIn aliased_object (sizes 16 0 1) shortage.Pages (region_start aliased_object) → ⊥
   -- a slice that is spread over three pages lacks the third one, and needs none after it
-  pub no_data_page : Comes (long_slice 17 16 15) 16 (taking 2) (LacksIn (long_slice 17 16 15) (sizes 16 2 1) shortage.Pages)
-  pub all_pages : Comes (long_slice 17 16 15) 16 (taking 3)
+  pub no_data_page : Comes (long_slice 17 16 15) 16 (taking_pages 2) (LacksIn (long_slice 17 16 15) (sizes 16 2 1) shortage.Pages)
+  pub all_pages : Comes (long_slice 17 16 15) 16 (taking_pages 3)
       (λ s. LacksIn (long_slice 17 16 15) (sizes 16 3 1) shortage.Pages s → ⊥)
   -- a lead page of 16 words has the numbers of 14 data pages
-  pub longest : Comes (long_slice 224 0 0) 16 (taking 0)
+  pub longest : Comes (long_slice 224 0 0) 16 (taking_pages 0)
       (λ s. LacksIn (long_slice 224 0 0) (sizes 16 1 1) shortage.ObjectSize s → ⊥)
-  pub too_long : Comes (long_slice 225 0 0) 16 (taking 0) (LacksIn (long_slice 225 0 0) (sizes 16 1 1) shortage.ObjectSize)
+  pub too_long : Comes (long_slice 225 0 0) 16 (taking_pages 0) (LacksIn (long_slice 225 0 0) (sizes 16 1 1) shortage.ObjectSize)
   -- the object has two words
-  pub one_word : Comes one_object 1 created (LacksIn one_object (sizes 1 1 1) shortage.ObjectSize)
-  pub two_words : Comes one_object 2 created (λ s. LacksIn one_object (sizes 2 1 1) shortage.ObjectSize s → ⊥)
+  pub one_word : Comes aliased_object 1 region_created (LacksIn aliased_object (sizes 1 1 1) shortage.ObjectSize)
+  pub two_words : Comes aliased_object 2 region_created (λ s. LacksIn aliased_object (sizes 2 1 1) shortage.ObjectSize s → ⊥)

@@ -1,7 +1,7 @@
 -- Labels under joins that are made one after another.
 use Rattle.std.proofs.Common.{◌≡◌, ◌⊎◌, inl, inr, ⊎_elim, ◌↔◌, ℕ, List, refl, sym, ap, ◌∙◌, arith}
 use Rattle.rgo_tac.specs.declared.regions.Member.{Member}
-use Rattle.rgo_classes.specs.Labels.{Also, AreLabels, IsIn, JoinsAlso, NoJoins, Pair, label_of, number_of}
+use Rattle.rgo_classes.specs.Labels.{Also, AreLabels, IsIn, JoinsAlso, NoJoins, Pair, label_of, member_index}
 use Rattle.rgo_classes.specs.Moves.{Merges}
 use Rattle.rgo_classes.specs.Same.{AreSame}
 use Rattle.rgo_classes.proofs.Chains.{along, contains, labelled, symmetric, transitive}
@@ -20,7 +20,7 @@ Within labels R = (a b : Member) → R a b → IsIn labels a × IsIn labels b
 -- ---- two members are joined
 
 module _ (old new : List ℕ) (a b : Member) (ia : IsIn old a) (ib : IsIn old b)
-    (m : Merges old new (number_of a) (number_of b)) where
+    (m : Merges old new (member_index a) (member_index b)) where
   abbrev All : Relation
   All = Also old (Pair a b)
 
@@ -42,11 +42,11 @@ module _ (old new : List ℕ) (a b : Member) (ia : IsIn old a) (ib : IsIn old b)
       (λ s. across x y ix iy s.0 s.1)
       (λ s. symmetric All y x (across y x iy ix s.1 s.0))
       t)
-      (m.only (number_of x) (number_of y) ix iy e)
+      (m.only (member_index x) (member_index y) ix iy e)
 
   respects : (x y : Member) → All x y → label_of new x ≡ label_of new y
   respects x y h = ⊎_elim
-      (λ o. m.kept (number_of x) (number_of y) o.0 o.1 o.2)
+      (λ o. m.kept (member_index x) (member_index y) o.0 o.1 o.2)
       (λ p. ap (label_of new) p.0 ∙ m.met ∙ sym (ap (label_of new) p.1))
       h
 

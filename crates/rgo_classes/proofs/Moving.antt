@@ -4,7 +4,7 @@ use Rattle.std.specs.List.{Contains}
 use Rattle.std.proofs.lemmas.List.{get_or-set_same, get_or-set_other}
 use Rattle.std.proofs.lemmas.List.Elements.{Contains-append_left, Contains-append_right, Contains-append_cases, Contains-push, Contains-push_cases}
 use Rattle.std.proofs.Math.ListN.{length-set}
-use Rattle.rgo_classes.specs.Moves.{Relabels, MovesTo, Merges, AreRows, row_at}
+use Rattle.rgo_classes.specs.Moves.{Relabels, MovesTo, Merges, AreRows, members_of_label}
 
 pub eq_cases : (p q : ℕ) → (p ≡ q) ⊎ (p ≢ q)
 eq_cases p q = grind arith
@@ -38,11 +38,11 @@ relabels_more old new these label m b r = record {
 -- ---- the members of one label move to another
 
 pub moves : (old new : List ℕ) (rows : List (List ℕ)) (these : List ℕ) (from to : ℕ) → AreRows old rows
-    → these ≡ row_at rows from → Relabels old new these to → MovesTo old new from to
+    → these ≡ members_of_label rows from → Relabels old new these to → MovesTo old new from to
 moves old new rows these from to c are r = record {
   size = r.size;
   moved = λ m l e. r.now m (subst (λ (t : List ℕ). Contains t m) (sym are)
-      (subst (λ k. Contains (row_at rows k) m) e (c.labelled m l)));
+      (subst (λ k. Contains (members_of_label rows k) m) e (c.labelled m l)));
   kept = λ m l n. ⊎_elim (λ s. s)
       (λ h. absurd (n (c.inside from m (subst (λ (t : List ℕ). Contains t m) are h)).1)) (r.others m);
 }
@@ -50,59 +50,59 @@ moves old new rows these from to c are r = record {
 -- what the rows are after a move
 pub record RowsMove (rows rows' : List (List ℕ)) (from to : ℕ) : Type 0 where
   pub size : length rows' ≡ length rows
-  pub to_row : row_at rows' to ≡ row_at rows to ++ row_at rows from
-  pub from_row : row_at rows' from ≡ []
-  pub others : (l : ℕ) → l ≢ from → l ≢ to → row_at rows' l ≡ row_at rows l
+  pub to_row : members_of_label rows' to ≡ members_of_label rows to ++ members_of_label rows from
+  pub from_row : members_of_label rows' from ≡ []
+  pub others : (l : ℕ) → l ≢ from → l ≢ to → members_of_label rows' l ≡ members_of_label rows l
 
 module _ (old new : List ℕ) (rows rows' : List (List ℕ)) (from to : ℕ) (apart : from ≢ to) (c : AreRows old rows)
     (m : MovesTo old new from to) (r : RowsMove rows rows' from to) where
-  has_row : (k l : ℕ) (row : List ℕ) → row_at rows' l ≡ row → Contains row k → Contains (row_at rows' l) k
+  has_row : (k l : ℕ) (row : List ℕ) → members_of_label rows' l ≡ row → Contains row k → Contains (members_of_label rows' l) k
   has_row k l row e h = subst (λ (t : List ℕ). Contains t k) (sym e) h
 
-  labelled_moved : (k : ℕ) → k < length old → get_or old k 0 ≡ from → Contains (row_at rows' (get_or new k 0)) k
+  labelled_moved : (k : ℕ) → k < length old → get_or old k 0 ≡ from → Contains (members_of_label rows' (get_or new k 0)) k
   labelled_moved k l e =
-      subst (λ q. Contains (row_at rows' q) k) (sym (m.moved k l e))
-      (has_row k to _ r.to_row (Contains-append_right (row_at rows to) (row_at rows from) k
-      (subst (λ q. Contains (row_at rows q) k) e (c.labelled k l))))
+      subst (λ q. Contains (members_of_label rows' q) k) (sym (m.moved k l e))
+      (has_row k to _ r.to_row (Contains-append_right (members_of_label rows to) (members_of_label rows from) k
+      (subst (λ q. Contains (members_of_label rows q) k) e (c.labelled k l))))
 
-  labelled_kept : (k : ℕ) → k < length old → get_or old k 0 ≢ from → Contains (row_at rows' (get_or new k 0)) k
+  labelled_kept : (k : ℕ) → k < length old → get_or old k 0 ≢ from → Contains (members_of_label rows' (get_or new k 0)) k
   labelled_kept k l n =
-      subst (λ q. Contains (row_at rows' q) k) (sym (m.kept k l n))
+      subst (λ q. Contains (members_of_label rows' q) k) (sym (m.kept k l n))
       (⊎_elim
-      (λ e. subst (λ q. Contains (row_at rows' q) k) (sym e) (has_row k to _ r.to_row
-      (Contains-append_left (row_at rows to) (row_at rows from) k
-      (subst (λ q. Contains (row_at rows q) k) e (c.labelled k l)))))
+      (λ e. subst (λ q. Contains (members_of_label rows' q) k) (sym e) (has_row k to _ r.to_row
+      (Contains-append_left (members_of_label rows to) (members_of_label rows from) k
+      (subst (λ q. Contains (members_of_label rows q) k) e (c.labelled k l)))))
       (λ p. has_row k (get_or old k 0) _ (r.others (get_or old k 0) n p) (c.labelled k l))
       (eq_cases (get_or old k 0) to))
 
   abbrev Inside : (l k : ℕ) → Type 0
   Inside l k = (k < length new) × (get_or new k 0 ≡ l)
 
-  inside_kept : (l k : ℕ) → l ≢ from → Contains (row_at rows l) k → Inside l k
+  inside_kept : (l k : ℕ) → l ≢ from → Contains (members_of_label rows l) k → Inside l k
   inside_kept l k n h =
       let i = c.inside l k h in
       (omega (arith, i.0, m.size), m.kept k i.0 (λ q. n (sym i.1 ∙ q)) ∙ i.1)
 
-  inside_moved : (k : ℕ) → Contains (row_at rows from) k → Inside to k
+  inside_moved : (k : ℕ) → Contains (members_of_label rows from) k → Inside to k
   inside_moved k h = let i = c.inside from k h in (omega (arith, i.0, m.size), m.moved k i.0 i.1)
 
-  inside_to : (k : ℕ) → Contains (row_at rows' to) k → Inside to k
+  inside_to : (k : ℕ) → Contains (members_of_label rows' to) k → Inside to k
   inside_to k h =
       ⊎_elim (λ o. inside_kept to k (λ q. apart (sym q)) o) (λ o. inside_moved k o)
-      (Contains-append_cases (row_at rows to) (row_at rows from) k
+      (Contains-append_cases (members_of_label rows to) (members_of_label rows from) k
       (subst (λ (t : List ℕ). Contains t k) r.to_row h))
 
-  inside_other : (l k : ℕ) → l ≢ from → l ≢ to → Contains (row_at rows' l) k → Inside l k
+  inside_other : (l k : ℕ) → l ≢ from → l ≢ to → Contains (members_of_label rows' l) k → Inside l k
   inside_other l k n p h = inside_kept l k n (subst (λ (t : List ℕ). Contains t k) (r.others l n p) h)
 
-  inside_not_from : (l k : ℕ) → l ≢ from → Contains (row_at rows' l) k → Inside l k
+  inside_not_from : (l k : ℕ) → l ≢ from → Contains (members_of_label rows' l) k → Inside l k
   inside_not_from l k n h =
       ⊎_elim
-      (λ e. subst (λ q. Inside q k) (sym e) (inside_to k (subst (λ q. Contains (row_at rows' q) k) e h)))
+      (λ e. subst (λ q. Inside q k) (sym e) (inside_to k (subst (λ q. Contains (members_of_label rows' q) k) e h)))
       (λ p. inside_other l k n p h)
       (eq_cases l to)
 
-  none_from : (k : ℕ) → Contains (row_at rows' from) k → ⊥
+  none_from : (k : ℕ) → Contains (members_of_label rows' from) k → ⊥
   none_from k h = no_member k (subst (λ (t : List ℕ). Contains t k) r.from_row h)
 
   pub rows_moved : AreRows new rows'
@@ -112,7 +112,7 @@ module _ (old new : List ℕ) (rows rows' : List (List ℕ)) (from to : ℕ) (ap
         let b : k < length old = omega (arith, l, m.size) in
         ⊎_elim (λ e. labelled_moved k b e) (λ n. labelled_kept k b n) (eq_cases (get_or old k 0) from);
     inside = λ l k h. ⊎_elim
-        (λ e. absurd (none_from k (subst (λ q. Contains (row_at rows' q) k) e h)))
+        (λ e. absurd (none_from k (subst (λ q. Contains (members_of_label rows' q) k) e h)))
         (λ n. inside_not_from l k n h)
         (eq_cases l from);
   }

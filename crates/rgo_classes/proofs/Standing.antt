@@ -11,7 +11,7 @@ use Rattle.rgo_tac.specs.declared.regions.Member.TheVariants.{Variable, Result, 
 use Rattle.rgo_tac.specs.Code.{TacFn}
 use Rattle.rgo_classes.specs.declared.classes.Summary.{Summary}
 use Rattle.rgo_classes.specs.Holding.{Among, AreArguments, HeldJoins, Holding, IsOfClass, HoldsArguments, HoldsMore}
-use Rattle.rgo_classes.specs.Joins.{CallJoins, StandsFor}
+use Rattle.rgo_classes.specs.Joins.{CallJoins, CorrespondsInCall}
 use Rattle.rgo_classes.specs.Labels.{JoinsAlso, label_of}
 use Rattle.rgo_classes.proofs.Joining.{joins_equal, joins_none, joins_still}
 use Rattle.rgo_classes.proofs.Listing.{Listed}
@@ -46,7 +46,7 @@ module _ (s : Summary) (from : List ℕ) (held : List Listed)
   is_listed : (c : Class) (v : ℕ) → IsArgument c v → Contains held (c, v)
   is_listed c v h = (are c v).1 (h.0, slice_get_within from h.0 v h.2, h.1, h.2)
 
-  pub stands_none : (c : Class) (m : Member) → IsOfClass held c m ↔ StandsFor s None from c m
+  pub stands_none : (c : Class) (m : Member) → IsOfClass held c m ↔ CorrespondsInCall s None from c m
   stands_none c (Variable v) = (
     λ h. inl (listed_is c v h),
     λ h. ⊎_elim (λ i. is_listed c v i) (λ e. absurd (none-some v e.1)) h,
@@ -55,7 +55,7 @@ module _ (s : Summary) (from : List ℕ) (held : List Listed)
   stands_none c Global = (λ h. h, λ h. h)
 
   pub stands_some : (d : ℕ) (c : Class) (m : Member)
-      → IsOfClass (held ++ (s.result, d) ∷ []) c m ↔ StandsFor s (Some d) from c m
+      → IsOfClass (held ++ (s.result, d) ∷ []) c m ↔ CorrespondsInCall s (Some d) from c m
   stands_some d c (Variable v) = (
     λ h. ⊎_elim (λ l. inl (listed_is c v l))
         (λ e. inr (ap (λ (q : Listed). q.0) e, ap (λ (q : Listed). Some q.1) e))
@@ -72,7 +72,7 @@ module _ (s : Summary) (from : List ℕ) (held : List Listed)
   stands_some d c Global = (λ h. h, λ h. h)
 
 call_joins : (f : TacFn) (old new : List ℕ) (s : Summary) (to : Option ℕ) (from : List ℕ) (held : List Listed)
-    → ((c : Class) (m : Member) → IsOfClass held c m ↔ StandsFor s to from c m)
+    → ((c : Class) (m : Member) → IsOfClass held c m ↔ CorrespondsInCall s to from c m)
     → JoinsAlso old (Among f (HeldJoins held)) new → JoinsAlso old (Among f (CallJoins (Some s) to from)) new
 call_joins f old new s to from held same =
     joins_equal old new (Among f (HeldJoins held)) (Among f (CallJoins (Some s) to from)) (λ a b. (

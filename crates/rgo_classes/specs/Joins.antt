@@ -11,17 +11,17 @@ use Rattle.rgo_classes.specs.declared.classes.Summary.{Summary}
 -- In a call, the member of the caller that corresponds to a parameter or the result of the callee, if that has a class: a
 -- variable corresponds to the parameters that it is passed for, and to the result that goes to it; the package variables
 -- correspond to themselves.
-abbrev pub StandsFor : Summary → (to : Option ℕ) → (from : List ℕ) → Class → Member → Type 0
-StandsFor s to from c (Variable v) =
+abbrev pub CorrespondsInCall : Summary → (to : Option ℕ) → (from : List ℕ) → Class → Member → Type 0
+CorrespondsInCall s to from c (Variable v) =
     ((i : ℕ) × (slice_get s.params i ≡ Some c) × (slice_get from i ≡ Some v)) ⊎ ((s.result ≡ c) × (to ≡ Some v))
-StandsFor s to from c Result = ⊥
-StandsFor s to from c Global = c ≡ class.Global
+CorrespondsInCall s to from c Result = ⊥
+CorrespondsInCall s to from c Global = c ≡ class.Global
 
 -- two that correspond to one class
 abbrev pub CallJoins : Option Summary → (to : Option ℕ) → (from : List ℕ) → Member → Member → Type 0
 CallJoins None to from a b = ⊥
 CallJoins (Some s) to from a b =
-    (c : Class) × (c ≢ class.NoClass) × StandsFor s to from c a × StandsFor s to from c b
+    (c : Class) × (c ≢ class.NoClass) × CorrespondsInCall s to from c a × CorrespondsInCall s to from c b
 
 abbrev pub OpJoins : List Summary → Op → Member → Member → Type 0
 OpJoins summaries (Call to n from) a b = CallJoins (slice_get summaries n) to from a b

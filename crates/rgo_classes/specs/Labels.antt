@@ -6,20 +6,20 @@ use Rattle.rgo_tac.specs.Code.{TacFn}
 use Rattle.rgo_classes.specs.Same.{AreSame}
 
 -- the place of a member in a list of labels
-abbrev pub number_of : Member → ℕ
-number_of Global = 0
-number_of Result = 1
-number_of (Variable v) = v + 2
+abbrev pub member_index : Member → ℕ
+member_index Global = 0
+member_index Result = 1
+member_index (Variable v) = v + 2
 
 -- a label for each member of the function, and perhaps more
 abbrev pub AreFor : TacFn → List ℕ → Type 0
 AreFor f labels = length f.variables + 2 ≤ length labels
 
 abbrev pub IsIn : List ℕ → Member → Type 0
-IsIn labels m = number_of m < length labels
+IsIn labels m = member_index m < length labels
 
 abbrev pub label_of : List ℕ → Member → ℕ
-label_of labels m = slice_index labels (number_of m)
+label_of labels m = slice_index labels (member_index m)
 
 abbrev pub HaveOneLabel : List ℕ → Member → Member → Type 0
 HaveOneLabel labels a b = IsIn labels a × IsIn labels b × (label_of labels a ≡ label_of labels b)

@@ -2,17 +2,17 @@
 use Rattle.std.specs.Prelude.{◌≡◌, ◌≢◌, ◌⊎◌, ◌<◌, ℕ, List, [], Vec, map, length, slice_index, slice_index_or, Contains}
 use Rattle.std.specs.Global.{Global}
 
-abbrev pub rows_of : List (Vec ℕ Global) → List (List ℕ)
-rows_of rows = map (λ row. row.items) rows
+abbrev pub member_rows : List (Vec ℕ Global) → List (List ℕ)
+member_rows rows = map (λ row. row.items) rows
 
-abbrev pub row_at : List (List ℕ) → ℕ → List ℕ
-row_at rows l = slice_index_or rows l []
+abbrev pub members_of_label : List (List ℕ) → ℕ → List ℕ
+members_of_label rows l = slice_index_or rows l []
 
 -- row l has the members whose label is l
 pub record AreRows (labels : List ℕ) (rows : List (List ℕ)) : Type 0 where
   pub size : length rows ≡ length labels
-  pub labelled : (m : ℕ) → m < length labels → Contains (row_at rows (slice_index labels m)) m
-  pub inside : (l m : ℕ) → Contains (row_at rows l) m → (m < length labels) × (slice_index labels m ≡ l)
+  pub labelled : (m : ℕ) → m < length labels → Contains (members_of_label rows (slice_index labels m)) m
+  pub inside : (l m : ℕ) → Contains (members_of_label rows l) m → (m < length labels) × (slice_index labels m ≡ l)
 
 -- these members get a label
 pub record Relabels (old new these : List ℕ) (label : ℕ) : Type 0 where

@@ -3,7 +3,7 @@
 ghost use Rattle.std.specs.Prelude.{◌≡◌, ◌≢◌, ◌<◌, ◌+◌, ℕ, length, vec_len, slice_index, Contains, [], ◌∷◌, IfOk, OnOk};
 ghost use Rattle.rgo_classes.specs.Labels as spec;
 ghost use Rattle.rgo_classes.specs.Labels.{AreFor, AreLabels, IsIn, JoinsAlso, NoJoins, Pair, label_of};
-ghost use Rattle.rgo_classes.specs.Moves.{AreRows, Merges, MovesTo, Relabels, row_at, rows_of};
+ghost use Rattle.rgo_classes.specs.Moves.{AreRows, Merges, MovesTo, Relabels, members_of_label, member_rows};
 
 use rgo_tac::{Member, TacFn};
 use std::alloc::{AllocError, Global};
@@ -19,18 +19,18 @@ pub struct Labels {
 
 impl Model for Labels {
     ghost use Rattle.std.specs.Prelude.{List, ℕ};
-    ghost use Rattle.rgo_classes.specs.Moves.{AreRows, rows_of};
+    ghost use Rattle.rgo_classes.specs.Moves.{AreRows, member_rows};
 
     ghost Value = { List ℕ };
 
     ghost view = { λ l. l.labels.items };
 
-    ghost invariant = { λ l. AreRows l.labels.items (rows_of l.members.items) };
+    ghost invariant = { λ l. AreRows l.labels.items (member_rows l.members.items) };
 }
 
 /// The place of a member in a list of labels.
 fn number_of(member: Member) -> usize
-    ensures { result ≡ spec.number_of member }
+    ensures { result ≡ spec.member_index member }
 {
     match member {
         Member::Global => 0,
@@ -67,7 +67,7 @@ fn own_row(alloc: Global, member: usize) -> Result<Vec<usize>, AllocError>
 
 fn own_rows(alloc: Global, count: usize) -> Result<Vec<Vec<usize>>, AllocError>
     ensures len { IfOk result (λ rows. vec_len rows ≡ count) }
-    ensures own { IfOk result (λ rows. (m : ℕ) → m < count → row_at (rows_of rows.items) m ≡ m ∷ []) }
+    ensures own { IfOk result (λ rows. (m : ℕ) → m < count → members_of_label (member_rows rows.items) m ≡ m ∷ []) }
 {
     let mut rows = Vec::new(alloc);
     for m in 0..count {
@@ -101,11 +101,11 @@ pub fn merge(
     requires from { from < length rows.old }
     requires to { to < length rows.old }
     requires apart { from ≢ to }
-    requires rows { AreRows labels.old (rows_of rows.old) }
+    requires rows { AreRows labels.old (member_rows rows.old) }
     ensures size { length labels.new ≡ length labels.old }
     ensures len { length rows.new ≡ length rows.old }
     ensures merged { OnOk result (MovesTo labels.old labels.new from to) }
-    ensures rows { AreRows labels.new (rows_of rows.new) }
+    ensures rows { AreRows labels.new (member_rows rows.new) }
 {
     let moved = Vec::from_slice(alloc, &rows[from])?;
     rows[to].extend_from_slice(&moved)?;
@@ -126,10 +126,10 @@ fn join_numbers(
 ) -> Result<(), AllocError>
     requires a { a < length labels.old }
     requires b { b < length labels.old }
-    requires rows { AreRows labels.old (rows_of rows.old) }
+    requires rows { AreRows labels.old (member_rows rows.old) }
     ensures size { length labels.new ≡ length labels.old }
     ensures len { length rows.new ≡ length rows.old }
-    ensures rows { AreRows labels.new (rows_of rows.new) }
+    ensures rows { AreRows labels.new (member_rows rows.new) }
     ensures merged { OnOk result (Merges labels.old labels.new a b) }
 {
     let (from, to) = (labels[a], labels[b]);
@@ -161,7 +161,7 @@ impl Labels {
 
     /// These labels. Row l has the members of label l, by their places in `labels`.
     pub fn of(labels: Vec<usize>, rows: Vec<Vec<usize>>) -> Labels
-        requires { AreRows labels.items (rows_of rows.items) }
+        requires { AreRows labels.items (member_rows rows.items) }
         ensures { result ≡ labels.items }
     {
         Labels {

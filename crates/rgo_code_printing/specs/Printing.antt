@@ -8,8 +8,8 @@ use Rattle.rgo_code_printing.specs.declared.ops.Lists.{Lists}
 use Rattle.rgo_code_printing.specs.Text.{Names, slot_words, instr_words, fn_lines}
 
 -- words, each after a space
-abbrev pub spaced : List (List ℕ) → List ℕ
-spaced words = flat_map (λ word. 32 ∷ word) words
+abbrev pub words_after_spaces : List (List ℕ) → List ℕ
+words_after_spaces words = flat_map (λ word. 32 ∷ word) words
 
 -- the comma before a word that is not the first one of its list
 abbrev pub comma : ℕ → List ℕ

@@ -100,8 +100,8 @@ instr_words n i instr = decimal i ∷ place_word instr.place ∷ creates_word in
 
 -- ---- lines
 
-abbrev pub struct_words : Names → Struct → List (List ℕ)
-struct_words n s = codes "struct" ∷ s.name ∷ map (type_word n.structs) s.fields
+abbrev pub struct_line_words : Names → Struct → List (List ℕ)
+struct_line_words n s = codes "struct" ∷ s.name ∷ map (type_word n.structs) s.fields
 
 abbrev pub global_words : Names → Variable → List (List ℕ)
 global_words n v = codes "global" ∷ v.name ∷ type_word n.structs v.ty ∷ []
@@ -132,7 +132,7 @@ fn_lines n f =
 abbrev pub lines_with : Names → Code → List (List (List ℕ))
 lines_with n code =
     (codes "rgo" ∷ codes "code" ∷ codes "1" ∷ [])
-    ∷ (map (struct_words n) code.structs
+    ∷ (map (struct_line_words n) code.structs
     ++ (map (global_words n) code.variables ++ flat_map (fn_lines n) code.functions))
 
 -- ---- texts

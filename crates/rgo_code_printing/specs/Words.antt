@@ -58,12 +58,12 @@ operator_word binary.Or = []
 -- ---- lists
 
 -- words with commas between them
-abbrev pub listed : List (List ℕ) → List ℕ
-listed words = join_with_byte 44 words
+abbrev pub comma_separated : List (List ℕ) → List ℕ
+comma_separated words = join_with_byte 44 words
 
 -- the same in brackets, `[` and `]`
 abbrev pub bracketed : List (List ℕ) → List ℕ
-bracketed words = 91 ∷ (listed words ++ 93 ∷ [])
+bracketed words = 91 ∷ (comma_separated words ++ 93 ∷ [])
 
 abbrev pub creates_word : List ℕ → List ℕ
 creates_word names = 43 ∷ bracketed (map region_word names)
@@ -79,7 +79,7 @@ protects_word names = 80 ∷ bracketed (map region_word names)
 
 -- a function and its arguments
 abbrev pub callee_word : (name from : List ℕ) → List ℕ
-callee_word name from = name ++ 40 ∷ (listed (map variable_word from) ++ 41 ∷ [])
+callee_word name from = name ++ 40 ∷ (comma_separated (map variable_word from) ++ 41 ∷ [])
 
 -- ---- types
 
@@ -131,4 +131,4 @@ piece_words (p ∷ pieces) from n = piece_word p from n ∷ piece_words pieces f
 -- the one word of all pieces; nothing has none
 abbrev pub in_one : List (List ℕ) → List (List ℕ)
 in_one [] = []
-in_one (word ∷ words) = listed (word ∷ words) ∷ []
+in_one (word ∷ words) = comma_separated (word ∷ words) ∷ []

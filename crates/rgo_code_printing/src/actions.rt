@@ -4,7 +4,7 @@ ghost use Rattle.std.specs.Prelude.{◌≡◌, ◌++◌, ◌∷◌, [], codes, d
 ghost use Rattle.std.specs.Fmt.{signed_decimal};
 ghost use Rattle.rgo_tac.specs.Ops.{numbers_of};
 ghost use Rattle.rgo_code_printing.specs.Words.{variable_word, bool_word, operator_word};
-ghost use Rattle.rgo_code_printing.specs.Printing.{spaced};
+ghost use Rattle.rgo_code_printing.specs.Printing.{words_after_spaces};
 ghost use Rattle.rgo_code_printing.specs.Text.{names_of, action_words};
 
 use crate::spacing::{print_number_word, print_one, print_variable_word, print_word};
@@ -19,7 +19,7 @@ use std::alloc::AllocError;
 /// A word, and two variables.
 fn print_two(out: &mut Vec<u8>, word: &[u8], a: u32, b: u32) -> Result<(), AllocError>
     ensures { OnOk result (out.new.items
-        ≡ out.old.items ++ spaced (word.now ∷ variable_word a ∷ variable_word b ∷ [])) }
+        ≡ out.old.items ++ words_after_spaces (word.now ∷ variable_word a ∷ variable_word b ∷ [])) }
 {
     print_one(out, word, a)?;
     print_variable_word(out, b)
@@ -28,7 +28,7 @@ fn print_two(out: &mut Vec<u8>, word: &[u8], a: u32, b: u32) -> Result<(), Alloc
 /// A word, and three variables.
 fn print_three(out: &mut Vec<u8>, word: &[u8], a: u32, b: u32, c: u32) -> Result<(), AllocError>
     ensures { OnOk result (out.new.items
-        ≡ out.old.items ++ spaced (word.now ∷ variable_word a ∷ variable_word b ∷ variable_word c ∷ [])) }
+        ≡ out.old.items ++ words_after_spaces (word.now ∷ variable_word a ∷ variable_word b ∷ variable_word c ∷ [])) }
 {
     print_two(out, word, a, b)?;
     print_variable_word(out, c)
@@ -37,7 +37,7 @@ fn print_three(out: &mut Vec<u8>, word: &[u8], a: u32, b: u32, c: u32) -> Result
 /// A word, a variable, and another word.
 fn print_named(out: &mut Vec<u8>, word: &[u8], a: u32, name: &[u8]) -> Result<(), AllocError>
     ensures { OnOk result (out.new.items
-        ≡ out.old.items ++ spaced (word.now ∷ variable_word a ∷ name.now ∷ [])) }
+        ≡ out.old.items ++ words_after_spaces (word.now ∷ variable_word a ∷ name.now ∷ [])) }
 {
     print_one(out, word, a)?;
     print_word(out, name)
@@ -45,7 +45,7 @@ fn print_named(out: &mut Vec<u8>, word: &[u8], a: u32, name: &[u8]) -> Result<()
 
 fn print_int_line(out: &mut Vec<u8>, d: u32, k: i64) -> Result<(), AllocError>
     ensures { OnOk result (out.new.items
-        ≡ out.old.items ++ spaced (codes "int" ∷ variable_word d ∷ signed_decimal k ∷ [])) }
+        ≡ out.old.items ++ words_after_spaces (codes "int" ∷ variable_word d ∷ signed_decimal k ∷ [])) }
 {
     print_one(out, b"int", d)?;
     print(out, b" ")?;
@@ -54,7 +54,7 @@ fn print_int_line(out: &mut Vec<u8>, d: u32, k: i64) -> Result<(), AllocError>
 
 fn print_bool_line(out: &mut Vec<u8>, d: u32, b: bool) -> Result<(), AllocError>
     ensures { OnOk result (out.new.items
-        ≡ out.old.items ++ spaced (codes "bool" ∷ variable_word d ∷ bool_word b ∷ [])) }
+        ≡ out.old.items ++ words_after_spaces (codes "bool" ∷ variable_word d ∷ bool_word b ∷ [])) }
 {
     print_one(out, b"bool", d)?;
     print(out, b" ")?;
@@ -63,7 +63,7 @@ fn print_bool_line(out: &mut Vec<u8>, d: u32, b: bool) -> Result<(), AllocError>
 
 fn print_binary(out: &mut Vec<u8>, op: BinaryOp, d: u32, a: u32, b: u32) -> Result<(), AllocError>
     ensures { OnOk result (out.new.items ≡ out.old.items
-        ++ spaced (codes "bin" ∷ variable_word d ∷ operator_word op ∷ variable_word a ∷ variable_word b ∷ [])) }
+        ++ words_after_spaces (codes "bin" ∷ variable_word d ∷ operator_word op ∷ variable_word a ∷ variable_word b ∷ [])) }
 {
     print_one(out, b"bin", d)?;
     print(out, b" ")?;
@@ -74,7 +74,7 @@ fn print_binary(out: &mut Vec<u8>, op: BinaryOp, d: u32, a: u32, b: u32) -> Resu
 
 fn print_store(out: &mut Vec<u8>, a: u32, k: usize, b: u32) -> Result<(), AllocError>
     ensures { OnOk result (out.new.items ≡ out.old.items
-        ++ spaced (codes "store" ∷ variable_word a ∷ decimal k ∷ variable_word b ∷ [])) }
+        ++ words_after_spaces (codes "store" ∷ variable_word a ∷ decimal k ∷ variable_word b ∷ [])) }
 {
     print_one(out, b"store", a)?;
     print_number_word(out, k)?;
@@ -83,7 +83,7 @@ fn print_store(out: &mut Vec<u8>, a: u32, k: usize, b: u32) -> Result<(), AllocE
 
 fn print_load(out: &mut Vec<u8>, d: u32, a: u32, k: usize) -> Result<(), AllocError>
     ensures { OnOk result (out.new.items ≡ out.old.items
-        ++ spaced (codes "load" ∷ variable_word d ∷ variable_word a ∷ decimal k ∷ [])) }
+        ++ words_after_spaces (codes "load" ∷ variable_word d ∷ variable_word a ∷ decimal k ∷ [])) }
 {
     print_two(out, b"load", d, a)?;
     print_number_word(out, k)
@@ -91,7 +91,7 @@ fn print_load(out: &mut Vec<u8>, d: u32, a: u32, k: usize) -> Result<(), AllocEr
 
 fn print_set(out: &mut Vec<u8>, name: &[u8], a: u32) -> Result<(), AllocError>
     ensures { OnOk result (out.new.items ≡ out.old.items
-        ++ spaced (codes "set" ∷ name.now ∷ variable_word a ∷ [])) }
+        ++ words_after_spaces (codes "set" ∷ name.now ∷ variable_word a ∷ [])) }
 {
     print_word(out, b"set")?;
     print_word(out, name)?;
@@ -108,7 +108,7 @@ pub(crate) fn print_action(
     from: Operands,
 ) -> Result<(), AllocError>
     ensures { OnOk result (out.new.items ≡ out.old.items
-        ++ spaced (action_words (names_of code.now) action to (numbers_of from))) }
+        ++ words_after_spaces (action_words (names_of code.now) action to (numbers_of from))) }
 {
     match (action, to, from) {
         (Action::Int(k), Some(d), Operands::Zero) => print_int_line(out, d, k),

@@ -3,8 +3,8 @@
 ghost use Rattle.std.specs.Prelude.{◌≡◌, ◌++◌, ◌∷◌, [], map, OnOk};
 ghost use Rattle.std.specs.List.{flat_map};
 ghost use Rattle.rgo_code_printing.specs.Words.{type_word};
-ghost use Rattle.rgo_code_printing.specs.Printing.{spaced};
-ghost use Rattle.rgo_code_printing.specs.Text.{names_of, line, struct_words, global_words};
+ghost use Rattle.rgo_code_printing.specs.Printing.{words_after_spaces};
+ghost use Rattle.rgo_code_printing.specs.Text.{names_of, line, struct_line_words, global_words};
 
 use crate::types::print_type;
 use crate::words::print;
@@ -15,7 +15,7 @@ use std::alloc::AllocError;
 /// A type, after a space.
 pub(crate) fn print_type_word(out: &mut Vec<u8>, code: &Code, ty: &Type) -> Result<(), AllocError>
     ensures { OnOk result (out.new.items
-        ≡ out.old.items ++ spaced (type_word (names_of code.now).structs ty.now ∷ [])) }
+        ≡ out.old.items ++ words_after_spaces (type_word (names_of code.now).structs ty.now ∷ [])) }
 {
     print(out, b" ")?;
     print_type(out, code, ty)
@@ -24,7 +24,7 @@ pub(crate) fn print_type_word(out: &mut Vec<u8>, code: &Code, ty: &Type) -> Resu
 /// The types of a struct's fields.
 fn print_fields(out: &mut Vec<u8>, code: &Code, types: &[Type]) -> Result<(), AllocError>
     ensures { OnOk result (out.new.items
-        ≡ out.old.items ++ spaced (map (type_word (names_of code.now).structs) types.now)) }
+        ≡ out.old.items ++ words_after_spaces (map (type_word (names_of code.now).structs) types.now)) }
 {
     for ty in types {
         print_type_word(out, code, ty)?;
@@ -34,7 +34,7 @@ fn print_fields(out: &mut Vec<u8>, code: &Code, types: &[Type]) -> Result<(), Al
 
 #[tactic(auto, using(crate::proofs::Printing::line_is))]
 fn print_struct(out: &mut Vec<u8>, code: &Code, s: &Struct) -> Result<(), AllocError>
-    ensures { OnOk result (out.new.items ≡ out.old.items ++ line (struct_words (names_of code.now) s.now)) }
+    ensures { OnOk result (out.new.items ≡ out.old.items ++ line (struct_line_words (names_of code.now) s.now)) }
 {
     print(out, b"struct")?;
     print(out, b" ")?;
@@ -49,7 +49,7 @@ pub(crate) fn print_structs(
     structs: &[Struct],
 ) -> Result<(), AllocError>
     ensures { OnOk result (out.new.items
-        ≡ out.old.items ++ flat_map line (map (struct_words (names_of code.now)) structs.now)) }
+        ≡ out.old.items ++ flat_map line (map (struct_line_words (names_of code.now)) structs.now)) }
 {
     for s in structs {
         print_struct(out, code, s)?;

@@ -4,7 +4,7 @@ ghost use Rattle.std.specs.Prelude.{◌≡◌, ◌++◌, ◌∷◌, [], map, sli
 ghost use Rattle.std.specs.List.{flat_map};
 ghost use Rattle.rgo_code.specs.Views.{slot};
 ghost use Rattle.rgo_code_printing.specs.Words.{class_word, type_word};
-ghost use Rattle.rgo_code_printing.specs.Printing.{spaced, slot_lines};
+ghost use Rattle.rgo_code_printing.specs.Printing.{words_after_spaces, slot_lines};
 ghost use Rattle.rgo_code_printing.specs.Text.{names_of, line, result_words, head_words, slot_words, entry_words};
 
 use crate::declarations::print_type_word;
@@ -18,7 +18,7 @@ use std::alloc::AllocError;
 /// A type and a class.
 fn print_slot(out: &mut Vec<u8>, code: &Code, ty: &Type, class: Class) -> Result<(), AllocError>
     ensures { OnOk result (out.new.items ≡ out.old.items
-        ++ spaced (type_word (names_of code.now).structs ty.now ∷ class_word class ∷ [])) }
+        ++ words_after_spaces (type_word (names_of code.now).structs ty.now ∷ class_word class ∷ [])) }
 {
     print_type_word(out, code, ty)?;
     print(out, b" ")?;
@@ -27,7 +27,7 @@ fn print_slot(out: &mut Vec<u8>, code: &Code, ty: &Type, class: Class) -> Result
 
 fn print_result(out: &mut Vec<u8>, code: &Code, f: &CodeFn<'_>) -> Result<(), AllocError>
     ensures { OnOk result (out.new.items ≡ out.old.items
-        ++ spaced (result_words (names_of code.now) f.now.result)) }
+        ++ words_after_spaces (result_words (names_of code.now) f.now.result)) }
 {
     match f.tac().result_type() {
         Some(ty) => print_slot(out, code, ty, f.result_class()),

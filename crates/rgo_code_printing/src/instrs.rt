@@ -5,7 +5,7 @@ ghost use Rattle.std.specs.List.{flat_map};
 ghost use Rattle.rgo_tac.specs.Ops.{operation_of};
 ghost use Rattle.rgo_code.specs.Views.{code_instr};
 ghost use Rattle.rgo_code_printing.specs.Words.{place_word, creates_word};
-ghost use Rattle.rgo_code_printing.specs.Printing.{spaced, note_of, note_in, instr_lines};
+ghost use Rattle.rgo_code_printing.specs.Printing.{words_after_spaces, note_of, note_in, instr_lines};
 ghost use Rattle.rgo_code_printing.specs.Text.{names_of, line, instr_words, body_lines};
 
 use crate::lists::print_regions;
@@ -30,7 +30,7 @@ fn lists_at<'a>(f: &CodeFn<'a>, i: usize) -> Lists<'a>
 /// The words of an instruction before its operation.
 fn print_front(out: &mut Vec<u8>, i: usize, place: usize, creates: &[u32]) -> Result<(), AllocError>
     ensures { OnOk result (out.new.items ≡ out.old.items
-        ++ (decimal i ++ spaced (place_word place ∷ creates_word creates.now ∷ []))) }
+        ++ (decimal i ++ words_after_spaces (place_word place ∷ creates_word creates.now ∷ []))) }
 {
     print_number(out, i)?;
     print(out, b" ")?;

@@ -2,7 +2,7 @@
 
 ghost use Rattle.std.specs.Prelude.{◌≡◌, ◌++◌, ◌∷◌, map, decimal, OnOk};
 ghost use Rattle.rgo_code_printing.specs.Words.{region_word, class_word};
-ghost use Rattle.rgo_code_printing.specs.Words.{listed, bracketed, passes_word, callee_word};
+ghost use Rattle.rgo_code_printing.specs.Words.{comma_separated, bracketed, passes_word, callee_word};
 ghost use Rattle.rgo_code_printing.specs.Printing.{comma};
 
 use crate::words::{print, print_byte, print_class, print_lettered};
@@ -22,7 +22,7 @@ pub(crate) fn print_comma(out: &mut Vec<u8>, i: usize) -> Result<(), AllocError>
 /// Numbers, each after a letter.
 fn print_list(out: &mut Vec<u8>, letter: u8, numbers: &[u32]) -> Result<(), AllocError>
     ensures { OnOk result (out.new.items
-        ≡ out.old.items ++ listed (map (λ n. letter ∷ decimal n) numbers.now)) }
+        ≡ out.old.items ++ comma_separated (map (λ n. letter ∷ decimal n) numbers.now)) }
 {
     for (i, n) in numbers.iter().enumerate() {
         print_comma(out, i)?;
@@ -43,7 +43,7 @@ pub(crate) fn print_regions(out: &mut Vec<u8>, sign: u8, names: &[u32]) -> Resul
 }
 
 fn print_class_list(out: &mut Vec<u8>, classes: &[Class]) -> Result<(), AllocError>
-    ensures { OnOk result (out.new.items ≡ out.old.items ++ listed (map class_word classes.now)) }
+    ensures { OnOk result (out.new.items ≡ out.old.items ++ comma_separated (map class_word classes.now)) }
 {
     for (i, class) in classes.iter().enumerate() {
         print_comma(out, i)?;

@@ -5,7 +5,7 @@ ghost use Rattle.rgo_tac.specs.Ops.{numbers_of, operation_of};
 ghost use Rattle.rgo_code.specs.Views.{code_op};
 ghost use Rattle.rgo_code_printing.specs.Words.{variable_word, piece_words, in_one};
 ghost use Rattle.rgo_code_printing.specs.Words.{callee_word, passes_word, protects_word, removes_word};
-ghost use Rattle.rgo_code_printing.specs.Printing.{spaced, note_of};
+ghost use Rattle.rgo_code_printing.specs.Printing.{words_after_spaces, note_of};
 ghost use Rattle.rgo_code_printing.specs.Text.{names_of, action_words, value_word, op_words};
 
 use crate::actions::print_action;
@@ -30,7 +30,7 @@ pub(crate) struct Lists<'a> {
 }
 
 fn print_removes(out: &mut Vec<u8>, names: &[u32]) -> Result<(), AllocError>
-    ensures { OnOk result (out.new.items ≡ out.old.items ++ spaced (removes_word names.now ∷ [])) }
+    ensures { OnOk result (out.new.items ≡ out.old.items ++ words_after_spaces (removes_word names.now ∷ [])) }
 {
     print(out, b" ")?;
     print_regions(out, b'-', names)
@@ -38,7 +38,7 @@ fn print_removes(out: &mut Vec<u8>, names: &[u32]) -> Result<(), AllocError>
 
 /// The variable of a call's result, or of a returned value.
 fn print_value(out: &mut Vec<u8>, value: Option<u32>) -> Result<(), AllocError>
-    ensures { OnOk result (out.new.items ≡ out.old.items ++ spaced (value_word value ∷ [])) }
+    ensures { OnOk result (out.new.items ≡ out.old.items ++ words_after_spaces (value_word value ∷ [])) }
 {
     match value {
         Some(v) => print_variable_word(out, v),
@@ -47,14 +47,14 @@ fn print_value(out: &mut Vec<u8>, value: Option<u32>) -> Result<(), AllocError>
 }
 
 fn print_callee_word(out: &mut Vec<u8>, name: &[u8], from: &[u32]) -> Result<(), AllocError>
-    ensures { OnOk result (out.new.items ≡ out.old.items ++ spaced (callee_word name.now from.now ∷ [])) }
+    ensures { OnOk result (out.new.items ≡ out.old.items ++ words_after_spaces (callee_word name.now from.now ∷ [])) }
 {
     print(out, b" ")?;
     print_callee(out, name, from)
 }
 
 fn print_passes_word(out: &mut Vec<u8>, classes: &[Class]) -> Result<(), AllocError>
-    ensures { OnOk result (out.new.items ≡ out.old.items ++ spaced (passes_word classes.now ∷ [])) }
+    ensures { OnOk result (out.new.items ≡ out.old.items ++ words_after_spaces (passes_word classes.now ∷ [])) }
 {
     print(out, b" ")?;
     print_passes(out, classes)
@@ -67,7 +67,7 @@ fn print_call(
     from: &[u32],
     lists: &Lists<'_>,
 ) -> Result<(), AllocError>
-    ensures { OnOk result (out.new.items ≡ out.old.items ++ spaced (codes "call" ∷ value_word to
+    ensures { OnOk result (out.new.items ≡ out.old.items ++ words_after_spaces (codes "call" ∷ value_word to
         ∷ callee_word name.now from.now ∷ passes_word lists.now.passes.now
         ∷ protects_word lists.now.protects.now ∷ removes_word lists.now.removes.now ∷ [])) }
 {
@@ -86,7 +86,7 @@ fn print_go(
     from: &[u32],
     lists: &Lists<'_>,
 ) -> Result<(), AllocError>
-    ensures { OnOk result (out.new.items ≡ out.old.items ++ spaced (codes "go"
+    ensures { OnOk result (out.new.items ≡ out.old.items ++ words_after_spaces (codes "go"
         ∷ callee_word name.now from.now ∷ passes_word lists.now.passes.now
         ∷ removes_word lists.now.removes.now ∷ [])) }
 {
@@ -99,7 +99,7 @@ fn print_go(
 /// The pieces of a print as one word, if there are any.
 fn print_pieces_word(out: &mut Vec<u8>, pieces: &[Piece], from: &[u32]) -> Result<(), AllocError>
     ensures { OnOk result (out.new.items
-        ≡ out.old.items ++ spaced (in_one (piece_words pieces.now from.now 0))) }
+        ≡ out.old.items ++ words_after_spaces (in_one (piece_words pieces.now from.now 0))) }
 {
     if pieces.is_empty() {
         return Ok(());
@@ -116,7 +116,7 @@ fn print_print(
     removes: &[u32],
 ) -> Result<(), AllocError>
     ensures { OnOk result (out.new.items ≡ out.old.items
-        ++ spaced (codes "print" ∷ (in_one (piece_words pieces.now from.now 0) ++ removes_word removes.now ∷ []))) }
+        ++ words_after_spaces (codes "print" ∷ (in_one (piece_words pieces.now from.now 0) ++ removes_word removes.now ∷ []))) }
 {
     print_word(out, b"print")?;
     print_pieces_word(out, pieces, from)?;
@@ -125,7 +125,7 @@ fn print_print(
 
 fn print_jump(out: &mut Vec<u8>, target: u32, removes: &[u32]) -> Result<(), AllocError>
     ensures { OnOk result (out.new.items ≡ out.old.items
-        ++ spaced (codes "jump" ∷ decimal target ∷ removes_word removes.now ∷ [])) }
+        ++ words_after_spaces (codes "jump" ∷ decimal target ∷ removes_word removes.now ∷ [])) }
 {
     print_word(out, b"jump")?;
     print_number_word(out, target as usize)?;
@@ -140,7 +140,7 @@ fn print_branch(
     lists: &Lists<'_>,
 ) -> Result<(), AllocError>
     ensures { OnOk result (out.new.items ≡ out.old.items
-        ++ spaced (codes "branch" ∷ variable_word test ∷ decimal target ∷ removes_word lists.now.removes.now
+        ++ words_after_spaces (codes "branch" ∷ variable_word test ∷ decimal target ∷ removes_word lists.now.removes.now
         ∷ decimal other ∷ removes_word lists.now.otherwise.now ∷ [])) }
 {
     print_one(out, b"branch", test)?;
@@ -152,7 +152,7 @@ fn print_branch(
 
 fn print_return(out: &mut Vec<u8>, value: Option<u32>) -> Result<(), AllocError>
     ensures { OnOk result (out.new.items ≡ out.old.items
-        ++ spaced (codes "return" ∷ value_word value ∷ [])) }
+        ++ words_after_spaces (codes "return" ∷ value_word value ∷ [])) }
 {
     print_word(out, b"return")?;
     print_value(out, value)
@@ -168,7 +168,7 @@ fn print_do(
     removes: &[u32],
 ) -> Result<(), AllocError>
     ensures { OnOk result (out.new.items ≡ out.old.items
-        ++ spaced (action_words (names_of code.now) action to (numbers_of from) ++ removes_word removes.now ∷ [])) }
+        ++ words_after_spaces (action_words (names_of code.now) action to (numbers_of from) ++ removes_word removes.now ∷ [])) }
 {
     print_action(out, code, action, to, from)?;
     print_removes(out, removes)
@@ -182,7 +182,7 @@ pub(crate) fn print_op(
     lists: &Lists<'_>,
 ) -> Result<(), AllocError>
     ensures { OnOk result (out.new.items ≡ out.old.items
-        ++ spaced (op_words (names_of code.now) (code_op (operation_of op.entry) (note_of lists.now)))) }
+        ++ words_after_spaces (op_words (names_of code.now) (code_op (operation_of op.entry) (note_of lists.now)))) }
 {
     match op {
         Op::Do { to, action, from } => print_do(out, code, action, to, from, lists.removes),

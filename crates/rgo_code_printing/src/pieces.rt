@@ -2,7 +2,7 @@
 
 ghost use Rattle.std.specs.Prelude.{◌≡◌, ◌++◌, ◌∷◌, [], ◌+◌, ◌/◌, ◌%◌, ◌<◌, ◌^◌, get_or, OnOk, IfOk};
 ghost use Rattle.std.specs.List.{flat_map};
-ghost use Rattle.rgo_code_printing.specs.Words.{hex_digit, byte_word, string_word, listed};
+ghost use Rattle.rgo_code_printing.specs.Words.{hex_digit, byte_word, string_word, comma_separated};
 ghost use Rattle.rgo_code_printing.specs.Words.{value_count, piece_word, piece_words};
 
 use crate::lists::print_comma;
@@ -97,7 +97,7 @@ pub(crate) fn print_pieces(
     pieces: &[Piece],
     from: &[u32],
 ) -> Result<(), AllocError>
-    ensures { OnOk result (out.new.items ≡ out.old.items ++ listed (piece_words pieces.now from.now 0)) }
+    ensures { OnOk result (out.new.items ≡ out.old.items ++ comma_separated (piece_words pieces.now from.now 0)) }
 {
     let mut n = 0;
     for (i, piece) in pieces.iter().enumerate() {

@@ -10,14 +10,14 @@ use Rattle.rgo_typed.specs.declared.types.Type.{«Type»}
 use Rattle.rgo_code.specs.Code.{Slot, CodeOp, CodeInstr, Code, Do, Call, Go, Print, Jump, Branch, Return}
 use Rattle.rgo_code_text.specs.declared.numbers.Counts.{Counts}
 use Rattle.rgo_code_text.specs.declared.numbers.Tables.{Tables}
-use Rattle.rgo_code_text.specs.CodeLines.{Line, Building, nothing, with_lines}
+use Rattle.rgo_code_text.specs.CodeLines.{Line, Building, empty_building, with_lines}
 use Rattle.rgo_code_text.specs.CodeLines as line
 use Rattle.rgo_code_text.specs.Items.{NamedSlot, Item}
 use Rattle.rgo_code_text.specs.Items as item
 use Rattle.rgo_code_text.specs.Numbers.{with_name}
 use Rattle.rgo_code_words.specs.Readers.{NamedType}
 use Rattle.rgo_code_printing.specs.Text.{Names}
-use Rattle.rgo_code_text.specs.Written.{Naming, NamesNothing, NamesStruct, NamesVariable, naming_of, number_of_name}
+use Rattle.rgo_code_text.specs.Written.{ActionNaming, NamesNothing, NamesStruct, NamesVariable, naming_of, number_of_name}
 
 -- ---- the names of lines
 
@@ -40,16 +40,16 @@ base_names b name = []
 abbrev pub type_names : NamedType → List (List ℕ)
 type_names t = base_names t.ty.base t.name
 
-abbrev pub slot_names : Option NamedSlot → List (List ℕ)
-slot_names None = []
-slot_names (Some s) = type_names s.ty
+abbrev pub result_names : Option NamedSlot → List (List ℕ)
+result_names None = []
+result_names (Some s) = type_names s.ty
 
-abbrev pub struct_name : Naming → List ℕ → List (List ℕ)
+abbrev pub struct_name : ActionNaming → List ℕ → List (List ℕ)
 struct_name NamesNothing name = []
 struct_name (NamesStruct n) name = name ∷ []
 struct_name (NamesVariable n) name = []
 
-abbrev pub variable_name : Naming → List ℕ → List (List ℕ)
+abbrev pub variable_name : ActionNaming → List ℕ → List (List ℕ)
 variable_name NamesNothing name = []
 variable_name (NamesVariable n) name = name ∷ []
 variable_name (NamesStruct n) name = []
@@ -85,7 +85,7 @@ op_functions (Return value) name = []
 abbrev pub used_structs : Item → List (List ℕ)
 used_structs (item.Struct name fields) = flat_map type_names fields
 used_structs (item.Global name ty) = type_names ty
-used_structs (item.Function name params slot) = slot_names slot
+used_structs (item.Function name params slot) = result_names slot
 used_structs (item.Slot slot) = type_names slot.ty
 used_structs (item.Instr i instr name) = op_structs instr.op name
 used_structs i = []
@@ -99,9 +99,9 @@ used_functions (item.Instr i instr name) = op_functions instr.op name
 used_functions i = []
 
 -- these names, with those of the others that are new, in order
-abbrev pub with_names : (names others : List (List ℕ)) → List (List ℕ)
-with_names names [] = names
-with_names names (name ∷ others) = with_names (with_name names name) others
+abbrev pub with_all_names : (names others : List (List ℕ)) → List (List ℕ)
+with_all_names names [] = names
+with_all_names names (name ∷ others) = with_all_names (with_name names name) others
 
 abbrev pub declared_in : List Item → Names
 declared_in items = record {
@@ -111,8 +111,8 @@ declared_in items = record {
 }
 
 -- one kind: these names, with those of the others that are new
-abbrev pub with_structs : Names → List (List ℕ) → Names
-with_structs n names = record n { structs = with_names n.structs names }
+abbrev pub with_struct_names : Names → List (List ℕ) → Names
+with_struct_names n names = record n { structs = with_all_names n.structs names }
 
 -- with what a line declares, or uses
 abbrev pub with_declared : Names → Item → Names
@@ -124,9 +124,9 @@ with_declared n i = record {
 
 abbrev pub with_used : Names → Item → Names
 with_used n i = record {
-  structs = with_names n.structs (used_structs i);
-  variables = with_names n.variables (used_variables i);
-  functions = with_names n.functions (used_functions i);
+  structs = with_all_names n.structs (used_structs i);
+  variables = with_all_names n.variables (used_variables i);
+  functions = with_all_names n.functions (used_functions i);
 }
 
 -- the same line by line
@@ -151,9 +151,9 @@ pub record CountsAre (counts : Counts) (n : Names) : Type 0 where
 -- all names of these lines by number
 abbrev pub names_in : List Item → Names
 names_in items = record {
-  structs = with_names (declared_in items).structs (flat_map used_structs items);
-  variables = with_names (declared_in items).variables (flat_map used_variables items);
-  functions = with_names (declared_in items).functions (flat_map used_functions items);
+  structs = with_all_names (declared_in items).structs (flat_map used_structs items);
+  variables = with_all_names (declared_in items).variables (flat_map used_variables items);
+  functions = with_all_names (declared_in items).functions (flat_map used_functions items);
 }
 
 -- ---- numbers for names
@@ -205,15 +205,15 @@ abbrev pub numbered_instr : Names → CodeInstr → List ℕ → CodeInstr
 numbered_instr n i name = record { creates = i.creates; op = numbered_op n i.op name; place = i.place }
 
 -- the line of an item
-abbrev pub numbered : Names → Item → Line
-numbered n item.Head = line.Head
-numbered n (item.Struct name fields) = line.Struct (record { name = name; fields = map (numbered_type n) fields })
-numbered n (item.Global name ty) = line.Global (record { name = name; ty = numbered_type n ty })
-numbered n (item.Function name params slot) = line.Function name params (option_map (numbered_slot n) slot)
-numbered n (item.Slot slot) = line.Var (numbered_slot n slot)
-numbered n (item.Entry names) = line.Entry names
-numbered n (item.Instr i instr name) = line.Instr i (numbered_instr n instr name)
-numbered n item.End = line.End
+abbrev pub line_of_item : Names → Item → Line
+line_of_item n item.Head = line.Head
+line_of_item n (item.Struct name fields) = line.Struct (record { name = name; fields = map (numbered_type n) fields })
+line_of_item n (item.Global name ty) = line.Global (record { name = name; ty = numbered_type n ty })
+line_of_item n (item.Function name params slot) = line.Function name params (option_map (numbered_slot n) slot)
+line_of_item n (item.Slot slot) = line.Var (numbered_slot n slot)
+line_of_item n (item.Entry names) = line.Entry names
+line_of_item n (item.Instr i instr name) = line.Instr i (numbered_instr n instr name)
+line_of_item n item.End = line.End
 
 abbrev pub built : Names → Names → Building → Code
 built names declared b = record {
@@ -228,6 +228,6 @@ built names declared b = record {
 }
 
 -- the code with these lines
-abbrev pub code_of : List Item → Code
-code_of items =
-    built (names_in items) (declared_in items) (with_lines nothing (map (numbered (names_in items)) items))
+abbrev pub code_of_items : List Item → Code
+code_of_items items =
+    built (names_in items) (declared_in items) (with_lines empty_building (map (line_of_item (names_in items)) items))

@@ -5,9 +5,9 @@ use Rattle.rgo_typed.specs.declared.programs.Struct.{Struct as StructType}
 use Rattle.rgo_typed.specs.declared.programs.Variable.{Variable}
 use Rattle.rgo_code.specs.Code.{Slot, CodeInstr, CodeFn, Code}
 use Rattle.rgo_code_text.specs.Order.{Kind, OfHead, OfStruct, OfGlobal, OfFunction, OfSlot, OfEntry, OfInstr, OfEnd}
-use Rattle.rgo_code_printing.specs.Text.{Names, struct_words, global_words, result_words, slot_words, entry_words, instr_words}
-use Rattle.rgo_code_text.specs.Written.{type_uses, result_uses, struct_of_op, variable_in, function_in, SlotFits, InstrFits}
-use Rattle.rgo_code_words.specs.Worded.{IsSmall, AreRegions}
+use Rattle.rgo_code_printing.specs.Text.{Names, struct_line_words, global_words, result_words, slot_words, entry_words, instr_words}
+use Rattle.rgo_code_text.specs.Written.{type_uses, result_uses, struct_of_op, variable_in, function_in, SlotFits, InstrHasText}
+use Rattle.rgo_code_words.specs.Worded.{IsSmallNumber, AreRegions}
 
 pub data Line : Type 0 where
   Head : Line
@@ -25,13 +25,13 @@ abbrev pub instrs_from : (i : ℕ) → List CodeInstr → List Line
 instrs_from i [] = []
 instrs_from i (instr ∷ body) = Instr i instr ∷ instrs_from (i + 1) body
 
-abbrev pub lines_of_fn : CodeFn → List Line
-lines_of_fn f =
+abbrev pub code_lines_of_fn : CodeFn → List Line
+code_lines_of_fn f =
     Function f.name f.params f.result
     ∷ (map Var f.variables ++ (Entry f.entry ∷ (instrs_from 0 f.body ++ End ∷ [])))
 
-abbrev pub lines_of : Code → List Line
-lines_of code = Head ∷ (map Struct code.structs ++ (map Global code.variables ++ flat_map lines_of_fn code.functions))
+abbrev pub code_lines_of : Code → List Line
+code_lines_of code = Head ∷ (map Struct code.structs ++ (map Global code.variables ++ flat_map code_lines_of_fn code.functions))
 
 -- ---- what is said of a line
 
@@ -47,7 +47,7 @@ line_kind End = OfEnd
 
 abbrev pub line_words : Names → Line → List (List ℕ)
 line_words n Head = codes "rgo" ∷ codes "code" ∷ codes "1" ∷ []
-line_words n (Struct s) = struct_words n s
+line_words n (Struct s) = struct_line_words n s
 line_words n (Global v) = global_words n v
 line_words n (Function name params result) = codes "func" ∷ name ∷ decimal params ∷ result_words n result
 line_words n (Var slot) = slot_words n slot
@@ -56,10 +56,10 @@ line_words n (Instr i instr) = instr_words n i instr
 line_words n End = codes "end" ∷ []
 
 abbrev pub LineFits : Line → Type 0
-LineFits (Function name params result) = IsSmall params × IfSome result SlotFits
+LineFits (Function name params result) = IsSmallNumber params × IfSome result SlotFits
 LineFits (Var slot) = SlotFits slot
 LineFits (Entry names) = AreRegions names
-LineFits (Instr i instr) = IsSmall i × InstrFits instr
+LineFits (Instr i instr) = IsSmallNumber i × InstrHasText instr
 LineFits line = ⊤
 
 -- the names that it declares, and the numbers that it uses
@@ -103,8 +103,8 @@ pub record Building : Type 0 where
 abbrev pub no_function : CodeFn
 no_function = record { name = []; params = 0; result = None; variables = []; entry = []; body = [] }
 
-abbrev pub nothing : Building
-nothing = record { structs = []; variables = []; functions = []; current = no_function }
+abbrev pub empty_building : Building
+empty_building = record { structs = []; variables = []; functions = []; current = no_function }
 
 abbrev pub with_line : Building → Line → Building
 with_line b Head = b

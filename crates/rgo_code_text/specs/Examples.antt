@@ -3,7 +3,7 @@ use Rattle.std.specs.Prelude.{◌≡◌, ℕ, ◌-◌, ◌^◌, List, [], ◌∷
 use Rattle.rgo_typed.specs.declared.statements.Piece.TheVariants.{Value}
 use Rattle.rgo_code.specs.Code.{CodeOp, Code, Print, Return}
 use Rattle.rgo_code_text.specs.Printable.{IsPrintable}
-use Rattle.rgo_code_text.specs.Sizes.{IsTooLarge}
+use Rattle.rgo_code_text.specs.Sizes.{IsTooLongText}
 
 -- code of one function with this name and these instructions, all at this place
 abbrev pub one_function : (name : List ℕ) → CodeOp → (place : ℕ) → Code
@@ -22,7 +22,7 @@ one_function name op place = record {
   undeclared = record { structs = []; variables = []; functions = [] };
 }
 
-pub record Examples : Type 0 where
+pub record CodeTextExamples : Type 0 where
   pub returns : IsPrintable (one_function (codes "main") (Return None) 7)
   -- a keyword is not a name
   pub keyword : IsPrintable (one_function (codes "func") (Return None) 7) → ⊥
@@ -31,5 +31,5 @@ pub record Examples : Type 0 where
   -- a piece prints a variable, and the print has none
   pub print : IsPrintable (one_function (codes "main") (Print (Value ∷ []) [] []) 7) → ⊥
   -- the longest text, and one that has a byte more
-  pub longest : (text : List ℕ) → length text ≡ 2 ^ 32 - 3 → IsTooLarge text → ⊥
-  pub too_long : (text : List ℕ) → length text ≡ 2 ^ 32 - 2 → IsTooLarge text
+  pub longest : (text : List ℕ) → length text ≡ 2 ^ 32 - 3 → IsTooLongText text → ⊥
+  pub too_long : (text : List ℕ) → length text ≡ 2 ^ 32 - 2 → IsTooLongText text

@@ -3,7 +3,7 @@ use Rattle.std.specs.Prelude.{◌≡◌, ◌⊎◌, ◌+◌, ℕ, List, [], ◌�
 use Rattle.std.specs.List.{flat_map}
 use Rattle.rgo_code.specs.Code.{Code}
 use Rattle.rgo_code_printing.specs.Text.{text_of}
-use Rattle.rgo_code_text.specs.Written.{IsWritten}
+use Rattle.rgo_code_text.specs.Written.{HasCodeText}
 
 -- bytes without a newline
 abbrev pub IsLine : List ℕ → Type 0
@@ -17,13 +17,13 @@ ended_lines lines = flat_map (λ bytes. bytes ++ 10 ∷ []) lines
 pub record BeginsCode (bytes : List ℕ) : Type 0 where
   pub code : Code
   pub rest : List ℕ
-  pub written : IsWritten code
+  pub written : HasCodeText code
   pub text : text_of code ≡ bytes ++ rest
 
 -- these bytes are the text of some code
 pub record IsText (bytes : List ℕ) : Type 0 where
   pub code : Code
-  pub written : IsWritten code
+  pub written : HasCodeText code
   pub text : text_of code ≡ bytes
 
 -- a line follows with which no text of code can continue

@@ -11,8 +11,8 @@ use Rattle.rgo_code_text.specs.Order.{Kind, OfHead, OfStruct, OfGlobal, OfFuncti
 use Rattle.rgo_code_words.specs.Readers.{NamedType}
 use Rattle.rgo_code_printing.specs.Text.{Names, line, entry_words, instr_words}
 use Rattle.rgo_code_printing.specs.Words.{type_word, class_word}
-use Rattle.rgo_code_text.specs.Written.{InstrFits, Naming, NamesNothing, NamesStruct, NamesVariable, naming_of}
-use Rattle.rgo_code_words.specs.Worded.{is_name, AreRegions, ClassFits, IsSmall}
+use Rattle.rgo_code_text.specs.Written.{InstrHasText, ActionNaming, NamesNothing, NamesStruct, NamesVariable, naming_of}
+use Rattle.rgo_code_words.specs.Worded.{is_name, AreRegions, ClassFits, IsSmallNumber}
 
 pub record NamedSlot : Type 0 where
   pub ty : NamedType
@@ -32,8 +32,8 @@ pub data Item : Type 0 where
 -- ---- words
 
 -- one name of each kind
-abbrev pub only : List ℕ → Names
-only name = record { structs = name ∷ []; variables = name ∷ []; functions = name ∷ [] }
+abbrev pub only_name : List ℕ → Names
+only_name name = record { structs = name ∷ []; variables = name ∷ []; functions = name ∷ [] }
 
 abbrev pub named_type_word : NamedType → List ℕ
 named_type_word t = type_word (t.name ∷ []) t.ty
@@ -52,7 +52,7 @@ item_words (Global name ty) = codes "global" ∷ name ∷ named_type_word ty ∷
 item_words (Function name params slot) = codes "func" ∷ name ∷ decimal params ∷ named_result_words slot
 item_words (Slot slot) = codes "var" ∷ named_slot_words slot
 item_words (Entry names) = entry_words names
-item_words (Instr i instr name) = instr_words (only name) i instr
+item_words (Instr i instr name) = instr_words (only_name name) i instr
 item_words End = codes "end" ∷ []
 
 -- the line of an item, without its newline
@@ -65,28 +65,28 @@ abbrev pub IsName : List ℕ → Type 0
 IsName name = is_name name ≡ true
 
 -- a number that is not known yet, and its name
-abbrev pub IsNamed : ℕ → List ℕ → Type 0
-IsNamed n name = (n ≡ 0) × IsName name
+abbrev pub AwaitsNumber : ℕ → List ℕ → Type 0
+AwaitsNumber n name = (n ≡ 0) × IsName name
 
 abbrev pub BaseFits : Base → List ℕ → Type 0
-BaseFits (base.Pointer n) name = IsNamed n name
+BaseFits (base.Pointer n) name = AwaitsNumber n name
 BaseFits b name = name ≡ []
 
 abbrev pub TypeFits : NamedType → Type 0
 TypeFits t = BaseFits t.ty.base t.name
 
-abbrev pub NamingFits : Naming → List ℕ → Type 0
+abbrev pub NamingFits : ActionNaming → List ℕ → Type 0
 NamingFits NamesNothing name = name ≡ []
-NamingFits (NamesStruct n) name = IsNamed n name
-NamingFits (NamesVariable n) name = IsNamed n name
+NamingFits (NamesStruct n) name = AwaitsNumber n name
+NamingFits (NamesVariable n) name = AwaitsNumber n name
 
 abbrev pub ActionIsNamed : Action → List ℕ → Type 0
 ActionIsNamed action name = NamingFits (naming_of action) name
 
 abbrev pub OpIsNamed : CodeOp → List ℕ → Type 0
 OpIsNamed (Do to action from removes) name = ActionIsNamed action name
-OpIsNamed (Call to f from passes protects removes) name = IsNamed f name
-OpIsNamed (Go f from passes removes) name = IsNamed f name
+OpIsNamed (Call to f from passes protects removes) name = AwaitsNumber f name
+OpIsNamed (Go f from passes removes) name = AwaitsNumber f name
 OpIsNamed (Print pieces from removes) name = name ≡ []
 OpIsNamed (Jump target removes) name = name ≡ []
 OpIsNamed (Branch test target removes other otherwise) name = name ≡ []
@@ -99,10 +99,10 @@ abbrev pub ItemFits : Item → Type 0
 ItemFits Head = ⊤
 ItemFits (Struct name fields) = IsName name × All TypeFits fields
 ItemFits (Global name ty) = IsName name × TypeFits ty
-ItemFits (Function name params slot) = IsName name × IsSmall params × IfSome slot NamedSlotFits
+ItemFits (Function name params slot) = IsName name × IsSmallNumber params × IfSome slot NamedSlotFits
 ItemFits (Slot slot) = NamedSlotFits slot
 ItemFits (Entry names) = AreRegions names
-ItemFits (Instr i instr name) = IsSmall i × InstrFits instr × OpIsNamed instr.op name
+ItemFits (Instr i instr name) = IsSmallNumber i × InstrHasText instr × OpIsNamed instr.op name
 ItemFits End = ⊤
 
 -- ---- places
@@ -118,12 +118,12 @@ item_kind (Instr i instr name) = OfInstr i
 item_kind End = OfEnd
 
 -- the place after a line, if the line may be at this place
-abbrev pub after : Place → Item → Option Place
-after place item = after_kind place (item_kind item)
+abbrev pub place_after_item : Place → Item → Option Place
+place_after_item place item = after_kind place (item_kind item)
 
 -- where lines lead from a place
-abbrev pub after_all : List Item → Place → Option Place
-after_all items place = after_kinds (map item_kind items) place
+abbrev pub place_after_items : List Item → Place → Option Place
+place_after_items items place = after_kinds (map item_kind items) place
 
 abbrev pub items_text : List Item → List ℕ
 items_text items = flat_map (λ item. line (item_words item)) items

@@ -3,7 +3,7 @@ use Rattle.std.specs.Prelude.{◌≡◌, ℕ, ◌==◌, ◌&&◌, ◌||◌, fals
 use Rattle.std.specs.Option.{option_map}
 use Rattle.std.specs.List.{slice_split, before_first}
 use Rattle.std.specs.Str.{bytes_eq}
-use Rattle.rgo_code_words.specs.Cuts.{is_space, cut, word_at}
+use Rattle.rgo_code_words.specs.Cuts.{is_space, cut_line, nth_word}
 use Rattle.rgo_code_text.specs.Items.{NamedSlot, Item, Struct, Global, Function, Slot, Entry, Instr, ItemFits}
 use Rattle.rgo_code_text.specs.Ops.{NamedOp}
 use Rattle.rgo_code_words.specs.Readers.{NamedType, on_some, read_class, read_each, read_number, read_regions, read_type}
@@ -22,31 +22,31 @@ read_result ty word =
 
 -- ---- lines by their words
 
-abbrev pub struct_of : List (List ℕ) → Option Item
-struct_of words =
-    if is_name (word_at words 1)
-    then (if length words == 2 then Some (Struct (word_at words 1) [])
-    else option_map (Struct (word_at words 1)) (read_fields (word_at words 2)))
+abbrev pub struct_item : List (List ℕ) → Option Item
+struct_item words =
+    if is_name (nth_word words 1)
+    then (if length words == 2 then Some (Struct (nth_word words 1) [])
+    else option_map (Struct (nth_word words 1)) (read_fields (nth_word words 2)))
     else None
 
-abbrev pub global_of : List (List ℕ) → Option Item
-global_of words =
-    if length words == 3 && is_name (word_at words 1)
-    then option_map (Global (word_at words 1)) (read_type (word_at words 2))
+abbrev pub global_item : List (List ℕ) → Option Item
+global_item words =
+    if length words == 3 && is_name (nth_word words 1)
+    then option_map (Global (nth_word words 1)) (read_type (nth_word words 2))
     else None
 
-abbrev pub function_of : List (List ℕ) → Option Item
-function_of words =
-    if length words == 5 && is_name (word_at words 1)
-    then on_some (read_number (word_at words 2)) (λ params.
-    option_map (Function (word_at words 1) params) (read_result (word_at words 3) (word_at words 4)))
+abbrev pub function_item : List (List ℕ) → Option Item
+function_item words =
+    if length words == 5 && is_name (nth_word words 1)
+    then on_some (read_number (nth_word words 2)) (λ params.
+    option_map (Function (nth_word words 1) params) (read_result (nth_word words 3) (nth_word words 4)))
     else None
 
-abbrev pub slot_of : List (List ℕ) → Option Item
-slot_of words = if length words == 3 then option_map Slot (read_slot (word_at words 1) (word_at words 2)) else None
+abbrev pub slot_item : List (List ℕ) → Option Item
+slot_item words = if length words == 3 then option_map Slot (read_slot (nth_word words 1) (nth_word words 2)) else None
 
-abbrev pub entry_of : List (List ℕ) → Option Item
-entry_of words = if length words == 2 then option_map Entry (read_regions 45 (word_at words 1)) else None
+abbrev pub entry_item : List (List ℕ) → Option Item
+entry_item words = if length words == 2 then option_map Entry (read_regions 45 (nth_word words 1)) else None
 
 -- ---- words
 
@@ -60,7 +60,7 @@ spaces word =
 -- the first word and the words of a line that is neither the first line nor the end of a function
 pub record IsCut (line word : List ℕ) (words : List (List ℕ)) : Type 0 where
   pub first : before_first is_space line ≡ word
-  pub words_are : words ≡ cut (spaces word) line
+  pub words_are : words ≡ cut_line (spaces word) line
   pub not_head : bytes_eq line (codes "rgo code 1") ≡ false
   pub not_end : bytes_eq line (codes "end") ≡ false
 
@@ -74,5 +74,5 @@ abbrev pub IsInstr : Item → Type 0
 IsInstr (Instr i instr name) = ⊤
 IsInstr item = ⊥
 
-abbrev pub InstrFits : Item → Type 0
-InstrFits item = IsInstr item × ItemFits item
+abbrev pub IsFittingInstr : Item → Type 0
+IsFittingInstr item = IsInstr item × ItemFits item

@@ -4,8 +4,8 @@ use Rattle.rgo_code_text.specs.Written.{number_of_name}
 use Rattle.rgo_code_words.specs.Worded.{is_among}
 
 -- the number of a name, if it is among the names
-abbrev pub first_of : List (List ℕ) → List ℕ → Option ℕ
-first_of names name = if nat_lt (number_of_name names name) (length names) then Some (number_of_name names name) else None
+abbrev pub number_if_known : List (List ℕ) → List ℕ → Option ℕ
+number_if_known names name = if nat_lt (number_of_name names name) (length names) then Some (number_of_name names name) else None
 
 -- one more name, unless it is among them
 abbrev pub with_name : List (List ℕ) → List ℕ → List (List ℕ)

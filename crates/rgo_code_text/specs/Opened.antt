@@ -49,7 +49,7 @@ IsCopy d a (code.CopyBool e b) = (e ≡ d) × (b ≡ a)
 IsCopy d a instr = ⊥
 
 -- the instruction of an operation in a function that has its variables and its pieces at this number
-pub record IsNumbered (n : Names) (o : NamedOp) (list : ℕ) (instr : Instr) : Type 0 where
+pub record IsNumberedInstr (n : Names) (o : NamedOp) (list : ℕ) (instr : Instr) : Type 0 where
   pub below : (k : ℕ) → list < k → ListsBelow k instr
   pub op :
       (lists : List (List ℕ)) (pieces : List (List Piece)) → get_or lists list [] ≡ o.from.items

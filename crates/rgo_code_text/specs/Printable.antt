@@ -5,12 +5,12 @@ use Rattle.rgo_typed.specs.declared.actions.Action.{Action}
 use Rattle.rgo_typed.specs.declared.actions.Action.TheVariants as action
 use Rattle.rgo_code.specs.Code.{CodeOp, CodeInstr, CodeFn, Code, Do, Call, Go, Print, Jump, Branch, Return}
 use Rattle.rgo_code_text.specs.Written.{SlotFits}
-use Rattle.rgo_code_words.specs.Worded.{AreNames, IsSmall, AreSmall, ClassFits, IntFits, PieceFits, ValueFits, values_in}
+use Rattle.rgo_code_words.specs.Worded.{AreNames, IsSmallNumber, AreSmall, ClassFits, IntFits, PieceFits, ValueFits, printed_value_count}
 
 abbrev pub ActionPrints : Action → Type 0
 ActionPrints (action.Int k) = IntFits k
-ActionPrints (action.Load k) = IsSmall k
-ActionPrints (action.Store k) = IsSmall k
+ActionPrints (action.Load k) = IsSmallNumber k
+ActionPrints (action.Store k) = IsSmallNumber k
 ActionPrints (action.Bool b) = ⊤
 ActionPrints action.Nil = ⊤
 ActionPrints action.Copy = ⊤
@@ -36,17 +36,17 @@ OpPrints (Call to f from passes protects removes) =
     ValueFits to × AreSmall from × All ClassFits passes × AreSmall protects × AreSmall removes
 OpPrints (Go f from passes removes) = AreSmall from × All ClassFits passes × AreSmall removes
 OpPrints (Print pieces from removes) =
-    All PieceFits pieces × (length from ≡ values_in pieces) × AreSmall from × AreSmall removes
-OpPrints (Jump target removes) = IsSmall target × AreSmall removes
+    All PieceFits pieces × (length from ≡ printed_value_count pieces) × AreSmall from × AreSmall removes
+OpPrints (Jump target removes) = IsSmallNumber target × AreSmall removes
 OpPrints (Branch test target removes other otherwise) =
-    IsSmall test × IsSmall target × AreSmall removes × IsSmall other × AreSmall otherwise
+    IsSmallNumber test × IsSmallNumber target × AreSmall removes × IsSmallNumber other × AreSmall otherwise
 OpPrints (Return value) = ValueFits value
 
 abbrev pub InstrPrints : CodeInstr → Type 0
-InstrPrints instr = IsSmall instr.place × AreSmall instr.creates × OpPrints instr.op
+InstrPrints instr = IsSmallNumber instr.place × AreSmall instr.creates × OpPrints instr.op
 
 pub record FnPrints (f : CodeFn) : Type 0 where
-  pub params : IsSmall f.params
+  pub params : IsSmallNumber f.params
   pub result : IfSome f.result SlotFits
   pub variables : All SlotFits f.variables
   pub entry : AreSmall f.entry

@@ -6,8 +6,8 @@ use Rattle.rgo_code_text.specs.Items.{Item}
 
 -- Each line, each variable, each instruction and each name takes a byte of the text at least. So all of them have numbers
 -- of 32 bits if the bytes have, with two to spare.
-abbrev pub IsTooLarge : List ℕ → Type 0
-IsTooLarge text = 2 ^ 32 ≤ length text + 2
+abbrev pub IsTooLongText : List ℕ → Type 0
+IsTooLongText text = 2 ^ 32 ≤ length text + 2
 
 -- each name has a number, and so has what is not among the names
 pub record HaveNumbers (n : Names) : Type 0 where

@@ -20,8 +20,8 @@ use Rattle.rgo_code_text.specs.Items.{NamedSlot, Item, Head, Struct, Global, Fun
 use Rattle.rgo_code_text.specs.Ops.{NamedOp, Callee}
 use Rattle.rgo_code_words.specs.Views.{named_type_of}
 
-abbrev pub callee_of : CodeCallee → Callee
-callee_of c = record { name = c.name.now; from = c.from }
+abbrev pub named_callee_of : CodeCallee → Callee
+named_callee_of c = record { name = c.name.now; from = c.from }
 
 -- what an instruction does with variables and pieces of its own, whatever numbers it has for them
 abbrev pub own_op : List ℕ → List Piece → CodeInstruction → tac.Op
@@ -37,15 +37,15 @@ named_op_of o = record {
   name = o.name.now;
 }
 
-abbrev pub action_of : Action → NamedAction
-action_of a = record { op = op_of [] [] a.instr; name = a.name.now }
+abbrev pub named_action_of : Action → NamedAction
+named_action_of a = record { op = op_of [] [] a.instr; name = a.name.now }
 
 abbrev pub named_slot_of : CodeSlot → NamedSlot
 named_slot_of s = record { ty = named_type_of s.ty; class = s.class }
 
 -- an instruction with what is created before it, and its place
-abbrev pub instr_of : CodeNamedInstr → CodeInstr
-instr_of i = record { creates = i.op.note.creates; op = (named_op_of i.op).op; place = i.place }
+abbrev pub code_instr_of : CodeNamedInstr → CodeInstr
+code_instr_of i = record { creates = i.op.note.creates; op = (named_op_of i.op).op; place = i.place }
 
 abbrev pub item_of : CodeItem → Item
 item_of code.Head = Head
@@ -54,5 +54,5 @@ item_of (code.Global name ty) = Global name.now (named_type_of ty)
 item_of (code.Function name params slot) = Function name.now params (option_map named_slot_of slot)
 item_of (code.Slot slot) = Slot (named_slot_of slot)
 item_of (code.Entry names) = Entry names.items
-item_of (code.Instr instr) = Instr instr.value.index (instr_of instr.value) instr.value.op.name.now
+item_of (code.Instr instr) = Instr instr.value.index (code_instr_of instr.value) instr.value.op.name.now
 item_of code.End = End

@@ -5,26 +5,26 @@ use Rattle.rgo_code_text.specs.declared.places.Place.TheVariants.{First}
 use Rattle.rgo_code_text.specs.declared.refusals.ReadError.{ReadError}
 use Rattle.rgo_code_text.specs.declared.refusals.ReadError.TheVariants as error
 use Rattle.rgo_code_text.specs.Forms.{IsLine, IsFirstWithoutForm}
-use Rattle.rgo_code_text.specs.Items.{Item, item_line, ItemFits, after, after_all, items_text}
+use Rattle.rgo_code_text.specs.Items.{Item, item_line, ItemFits, place_after_item, place_after_items, items_text}
 use Rattle.rgo_code_text.specs.Order.{IsLast}
-use Rattle.rgo_code_text.specs.Sizes.{IsTooLarge}
+use Rattle.rgo_code_text.specs.Sizes.{IsTooLongText}
 
 -- the text is that of these lines, each in its place
 pub record AreItems (text : List ℕ) (items : List Item) : Type 0 where
   pub place : Place
   pub text_is : text ≡ items_text items
   pub fit : All ItemFits items
-  pub leads : after_all items First ≡ Some place
+  pub leads : place_after_items items First ≡ Some place
   pub last : IsLast place
 
 -- no line that may be at the place has these bytes
 abbrev pub HasNoItem : Place → List ℕ → Type 0
-HasNoItem place bytes = (item : Item) → ItemFits item → IsSome (after place item) → bytes ≢ item_line item
+HasNoItem place bytes = (item : Item) → ItemFits item → IsSome (place_after_item place item) → bytes ≢ item_line item
 
 -- what a line at a place is, and the place after it; nothing, if it has no form there
 abbrev pub StepIs : Place → List ℕ → Option (Item × Place) → Type 0
 StepIs place bytes None = HasNoItem place bytes
-StepIs place bytes (Some s) = (bytes ≡ item_line s.0) × ItemFits s.0 × (after place s.0 ≡ Some s.1)
+StepIs place bytes (Some s) = (bytes ≡ item_line s.0) × ItemFits s.0 × (place_after_item place s.0 ≡ Some s.1)
 
 pub record Stops (place : Place) (tail : List ℕ) : Type 0 where
   pub bytes : List ℕ
@@ -43,7 +43,7 @@ pub record StopsAt (text : List ℕ) (n : ℕ) : Type 0 where
   pub place : Place
   pub tail : List ℕ
   pub fit : All ItemFits before
-  pub leads : after_all before First ≡ Some place
+  pub leads : place_after_items before First ≡ Some place
   pub cut : text ≡ items_text before ++ tail
   pub number : length before + 1 ≡ n
   pub stops : Stops place tail ⊎ CodeTextEnds place tail
@@ -56,5 +56,5 @@ StopsIn text (error.Refused r) = StopsAt text r.line
 
 abbrev pub RefusesCodeText : List ℕ → ReadError → Type 0
 RefusesCodeText text error.NoMemory = ⊤
-RefusesCodeText text error.TooLarge = IsTooLarge text
+RefusesCodeText text error.TooLarge = IsTooLongText text
 RefusesCodeText text (error.Refused r) = IsFirstWithoutForm text r.line

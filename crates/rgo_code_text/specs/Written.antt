@@ -10,32 +10,32 @@ use Rattle.rgo_typed.specs.declared.types.Type.{«Type»}
 use Rattle.rgo_code.specs.Code.{Slot, CodeOp, CodeInstr, CodeFn, Code, Do, Call, Go, Print, Jump, Branch, Return}
 use Rattle.rgo_code_printing.specs.Words.{name_at}
 use Rattle.rgo_code_printing.specs.Text.{Names, action_words}
-use Rattle.rgo_code_words.specs.Worded.{is_among, AreNames, IsSmall, AreSmall, AreRegions, ClassFits, OperatorFits, IntFits, PieceFits, ValueFits, values_in}
+use Rattle.rgo_code_words.specs.Worded.{is_among, AreNames, IsSmallNumber, AreSmall, AreRegions, ClassFits, OperatorFits, IntFits, PieceFits, ValueFits, printed_value_count}
 
 -- ---- instructions
 
-abbrev pub ActionFits : Action → Type 0
-ActionFits (action.Int k) = IntFits k
-ActionFits (action.Binary op) = OperatorFits op
-ActionFits (action.Load k) = IsSmall k
-ActionFits (action.Store k) = IsSmall k
-ActionFits (action.Bool b) = ⊤
-ActionFits action.Nil = ⊤
-ActionFits action.Copy = ⊤
-ActionFits action.Neg = ⊤
-ActionFits action.Not = ⊤
-ActionFits action.IsNil = ⊤
-ActionFits action.Len = ⊤
-ActionFits action.At = ⊤
-ActionFits action.Put = ⊤
-ActionFits (action.New n) = ⊤
-ActionFits action.Slice = ⊤
-ActionFits action.Chan = ⊤
-ActionFits action.Recv = ⊤
-ActionFits action.Send = ⊤
-ActionFits action.Close = ⊤
-ActionFits (action.Get n) = ⊤
-ActionFits (action.Set n) = ⊤
+abbrev pub ActionHasText : Action → Type 0
+ActionHasText (action.Int k) = IntFits k
+ActionHasText (action.Binary op) = OperatorFits op
+ActionHasText (action.Load k) = IsSmallNumber k
+ActionHasText (action.Store k) = IsSmallNumber k
+ActionHasText (action.Bool b) = ⊤
+ActionHasText action.Nil = ⊤
+ActionHasText action.Copy = ⊤
+ActionHasText action.Neg = ⊤
+ActionHasText action.Not = ⊤
+ActionHasText action.IsNil = ⊤
+ActionHasText action.Len = ⊤
+ActionHasText action.At = ⊤
+ActionHasText action.Put = ⊤
+ActionHasText (action.New n) = ⊤
+ActionHasText action.Slice = ⊤
+ActionHasText action.Chan = ⊤
+ActionHasText action.Recv = ⊤
+ActionHasText action.Send = ⊤
+ActionHasText action.Close = ⊤
+ActionHasText (action.Get n) = ⊤
+ActionHasText (action.Set n) = ⊤
 
 -- without names; what has words in any way has words in each
 abbrev pub empty_names : Names
@@ -45,32 +45,32 @@ empty_names = record { structs = []; variables = []; functions = [] }
 abbrev pub IsInstruction : Action → Option ℕ → List ℕ → Type 0
 IsInstruction action to from = action_words empty_names action to from ≢ []
 
-abbrev pub OpFits : CodeOp → Type 0
-OpFits (Do to action from removes) =
-    IsInstruction action to from × ActionFits action × ValueFits to × AreSmall from × AreRegions removes
-OpFits (Call to f from passes protects removes) =
+abbrev pub OpHasText : CodeOp → Type 0
+OpHasText (Do to action from removes) =
+    IsInstruction action to from × ActionHasText action × ValueFits to × AreSmall from × AreRegions removes
+OpHasText (Call to f from passes protects removes) =
     ValueFits to × AreSmall from × All ClassFits passes × AreRegions protects × AreRegions removes
-OpFits (Go f from passes removes) = AreSmall from × All ClassFits passes × AreRegions removes
-OpFits (Print pieces from removes) =
-    All PieceFits pieces × (length from ≡ values_in pieces) × AreSmall from × AreRegions removes
-OpFits (Jump target removes) = IsSmall target × AreRegions removes
-OpFits (Branch test target removes other otherwise) =
-    IsSmall test × IsSmall target × AreRegions removes × IsSmall other × AreRegions otherwise
-OpFits (Return value) = ValueFits value
+OpHasText (Go f from passes removes) = AreSmall from × All ClassFits passes × AreRegions removes
+OpHasText (Print pieces from removes) =
+    All PieceFits pieces × (length from ≡ printed_value_count pieces) × AreSmall from × AreRegions removes
+OpHasText (Jump target removes) = IsSmallNumber target × AreRegions removes
+OpHasText (Branch test target removes other otherwise) =
+    IsSmallNumber test × IsSmallNumber target × AreRegions removes × IsSmallNumber other × AreRegions otherwise
+OpHasText (Return value) = ValueFits value
 
-abbrev pub InstrFits : CodeInstr → Type 0
-InstrFits instr = IsSmall instr.place × AreRegions instr.creates × OpFits instr.op
+abbrev pub InstrHasText : CodeInstr → Type 0
+InstrHasText instr = IsSmallNumber instr.place × AreRegions instr.creates × OpHasText instr.op
 
 abbrev pub SlotFits : Slot → Type 0
 SlotFits s = ClassFits s.class
 
-pub record FnFits (f : CodeFn) : Type 0 where
-  pub params : IsSmall f.params
+pub record FnHasText (f : CodeFn) : Type 0 where
+  pub params : IsSmallNumber f.params
   pub result : IfSome f.result SlotFits
   pub variables : All SlotFits f.variables
   pub entry : AreRegions f.entry
   pub indexes : length f.body ≤ 2 ^ 32
-  pub body : All InstrFits f.body
+  pub body : All InstrHasText f.body
 
 -- ---- uses of names
 
@@ -86,12 +86,12 @@ result_uses None = []
 result_uses (Some s) = type_uses s.ty
 
 -- what an action names, and its number
-pub data Naming : Type 0 where
-  NamesNothing : Naming
-  NamesStruct : ℕ → Naming
-  NamesVariable : ℕ → Naming
+pub data ActionNaming : Type 0 where
+  NamesNothing : ActionNaming
+  NamesStruct : ℕ → ActionNaming
+  NamesVariable : ℕ → ActionNaming
 
-abbrev pub naming_of : Action → Naming
+abbrev pub naming_of : Action → ActionNaming
 naming_of (action.Int k) = NamesNothing
 naming_of (action.Bool b) = NamesNothing
 naming_of action.Nil = NamesNothing
@@ -114,12 +114,12 @@ naming_of action.Close = NamesNothing
 naming_of (action.Get n) = NamesVariable n
 naming_of (action.Set n) = NamesVariable n
 
-abbrev pub struct_named : Naming → List ℕ
+abbrev pub struct_named : ActionNaming → List ℕ
 struct_named NamesNothing = []
 struct_named (NamesStruct n) = n ∷ []
 struct_named (NamesVariable n) = []
 
-abbrev pub variable_named : Naming → List ℕ
+abbrev pub variable_named : ActionNaming → List ℕ
 variable_named NamesNothing = []
 variable_named (NamesStruct n) = []
 variable_named (NamesVariable n) = n ∷ []
@@ -199,8 +199,8 @@ pub record KindIsWritten (declared undeclared : List (List ℕ)) (uses : List �
   pub unknown : undeclared ≡ unknown declared (map (name_at (declared ++ undeclared)) uses)
 
 -- the code has a text
-pub record IsWritten (code : Code) : Type 0 where
+pub record HasCodeText (code : Code) : Type 0 where
   pub structs : KindIsWritten (map (λ s. s.name) code.structs) code.undeclared.structs (uses_of code).structs
   pub variables : KindIsWritten (map (λ v. v.name) code.variables) code.undeclared.variables (uses_of code).variables
   pub functions : KindIsWritten (map (λ f. f.name) code.functions) code.undeclared.functions (uses_of code).functions
-  pub fits : All FnFits code.functions
+  pub fits : All FnHasText code.functions

@@ -5,7 +5,7 @@ ghost use Rattle.std.specs.Option.{option_map};
 ghost use Rattle.rgo_tac.specs.Views.{op_of};
 ghost use Rattle.rgo_code_text.specs.Actions as spec;
 ghost use Rattle.rgo_code_words.specs.Cuts.{nows};
-ghost use Rattle.rgo_code_text.specs.Views.{action_of};
+ghost use Rattle.rgo_code_text.specs.Views.{named_action_of};
 
 use rgo_ast::BinaryOp;
 use rgo_code_words::{int, is, is_name, number, operator, truth, variable, word_at};
@@ -19,13 +19,13 @@ pub(crate) struct Action<'t> {
 }
 
 fn nameless<'t>(instr: Instr) -> Option<Action<'t>>
-    ensures { option_map action_of result ≡ Some (record { op = op_of [] [] instr; name = [] }) }
+    ensures { option_map named_action_of result ≡ Some (record { op = op_of [] [] instr; name = [] }) }
 {
     Some(Action { instr, name: &[] })
 }
 
 fn with_one<'t>(word: &[u8], a: u32) -> Option<Action<'t>>
-    ensures { option_map action_of result ≡ spec.with_one word.now a }
+    ensures { option_map named_action_of result ≡ spec.with_one word.now a }
 {
     if is(word, "nil") {
         nameless(Instr::Nil(a))
@@ -37,7 +37,7 @@ fn with_one<'t>(word: &[u8], a: u32) -> Option<Action<'t>>
 }
 
 fn with_two<'t>(word: &[u8], a: u32, b: u32) -> Option<Action<'t>>
-    ensures { option_map action_of result ≡ spec.with_two word.now a b }
+    ensures { option_map named_action_of result ≡ spec.with_two word.now a b }
 {
     if is(word, "copy") {
         nameless(Instr::Copy(a, b))
@@ -63,7 +63,7 @@ fn with_two<'t>(word: &[u8], a: u32, b: u32) -> Option<Action<'t>>
 }
 
 fn with_three<'t>(word: &[u8], a: u32, b: u32, c: u32) -> Option<Action<'t>>
-    ensures { option_map action_of result ≡ spec.with_three word.now a b c }
+    ensures { option_map named_action_of result ≡ spec.with_three word.now a b c }
 {
     if is(word, "at") {
         nameless(Instr::At(a, b, c))
@@ -75,7 +75,7 @@ fn with_three<'t>(word: &[u8], a: u32, b: u32, c: u32) -> Option<Action<'t>>
 }
 
 fn with_operator<'t>(op: BinaryOp, d: u32, a: u32, b: u32) -> Option<Action<'t>>
-    ensures { option_map action_of result ≡ spec.with_operator op d a b }
+    ensures { option_map named_action_of result ≡ spec.with_operator op d a b }
 {
     match op {
         BinaryOp::Mul => nameless(Instr::Mul(d, a, b)),
@@ -94,7 +94,7 @@ fn with_operator<'t>(op: BinaryOp, d: u32, a: u32, b: u32) -> Option<Action<'t>>
 }
 
 fn named<'t>(instr: Instr, name: &'t [u8]) -> Option<Action<'t>>
-    ensures { option_map action_of result ≡ spec.named (op_of [] [] instr) name.now }
+    ensures { option_map named_action_of result ≡ spec.named_action (op_of [] [] instr) name.now }
 {
     if is_name(name) {
         Some(Action { instr, name })
@@ -104,13 +104,13 @@ fn named<'t>(instr: Instr, name: &'t [u8]) -> Option<Action<'t>>
 }
 
 fn two_words<'t>(words: &[&'t [u8]]) -> Option<Action<'t>>
-    ensures { option_map action_of result ≡ spec.two_words (nows words.now) }
+    ensures { option_map named_action_of result ≡ spec.two_words (nows words.now) }
 {
     with_one(word_at(words, 0), variable(word_at(words, 1))?)
 }
 
 fn three_words<'t>(words: &[&'t [u8]]) -> Option<Action<'t>>
-    ensures { option_map action_of result ≡ spec.three_words (nows words.now) }
+    ensures { option_map named_action_of result ≡ spec.three_words (nows words.now) }
 {
     let word = word_at(words, 0);
     let second = word_at(words, 1);
@@ -133,7 +133,7 @@ fn three_words<'t>(words: &[&'t [u8]]) -> Option<Action<'t>>
 }
 
 fn four_words<'t>(words: &[&'t [u8]]) -> Option<Action<'t>>
-    ensures { option_map action_of result ≡ spec.four_words (nows words.now) }
+    ensures { option_map named_action_of result ≡ spec.four_words (nows words.now) }
 {
     let word = word_at(words, 0);
     let a = variable(word_at(words, 1))?;
@@ -150,7 +150,7 @@ fn four_words<'t>(words: &[&'t [u8]]) -> Option<Action<'t>>
 }
 
 fn five_words<'t>(words: &[&'t [u8]]) -> Option<Action<'t>>
-    ensures { option_map action_of result ≡ spec.five_words (nows words.now) }
+    ensures { option_map named_action_of result ≡ spec.five_words (nows words.now) }
 {
     if !is(word_at(words, 0), "bin") {
         return None;
@@ -162,7 +162,7 @@ fn five_words<'t>(words: &[&'t [u8]]) -> Option<Action<'t>>
 }
 
 pub(crate) fn read_action<'t>(words: &[&'t [u8]]) -> Option<Action<'t>>
-    ensures { option_map action_of result ≡ spec.read_action (nows words.now) }
+    ensures { option_map named_action_of result ≡ spec.read_action (nows words.now) }
 {
     match words.len() {
         2 => two_words(words),

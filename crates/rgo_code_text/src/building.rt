@@ -5,14 +5,14 @@ ghost use Rattle.std.specs.Option.{option_map};
 ghost use Rattle.rgo_code.specs.Views.{slot, code_fn};
 ghost use Rattle.rgo_tac.specs.Views.{body_of};
 ghost use Rattle.rgo_code_text.specs.Building as spec;
-ghost use Rattle.rgo_code_text.specs.Building.{names_now, names_in, declared_in, CountsAre, code_of, numbered};
+ghost use Rattle.rgo_code_text.specs.Building.{names_now, names_in, declared_in, CountsAre, code_of_items, line_of_item};
 ghost use Rattle.rgo_code_text.specs.CodeLines as lines;
-ghost use Rattle.rgo_code_text.specs.CodeLines.{no_function, nothing, with_line, with_lines};
+ghost use Rattle.rgo_code_text.specs.CodeLines.{no_function, empty_building, with_line, with_lines};
 ghost use Rattle.rgo_code_text.specs.Items.{ItemFits};
-ghost use Rattle.rgo_code_text.specs.Opened.{open_of, IsAligned, IsNumbered, building_of, AllAligned};
+ghost use Rattle.rgo_code_text.specs.Opened.{open_of, IsAligned, IsNumberedInstr, building_of, AllAligned};
 ghost use Rattle.rgo_code_text.specs.Opened.{HasCode, HasOneMore, FunctionHasRoom, with_slot, with_instr};
 ghost use Rattle.rgo_code_text.specs.Sizes.{AreFew, HaveNumbers};
-ghost use Rattle.rgo_code_text.specs.Views.{item_of, instr_of, named_slot_of};
+ghost use Rattle.rgo_code_text.specs.Views.{item_of, code_instr_of, named_slot_of};
 ghost use Rattle.rgo_code_words.specs.Views.{named_type_of};
 
 use crate::items::{Item, NamedInstr, NamedSlot};
@@ -211,7 +211,7 @@ fn push_op(current: &mut Open, instr: Instr, named: NamedInstr<'_>) -> Result<()
 fn next_instr(tables: &Tables<'_>, current: &Open, op: &NamedOp<'_>) -> Instr
     requires names { HaveNumbers (names_now tables.now) }
     requires room { FunctionHasRoom current.now }
-    ensures { IsNumbered (names_now tables.now) op.now (length current.now.instrs.items) result }
+    ensures { IsNumberedInstr (names_now tables.now) op.now (length current.now.instrs.items) result }
 {
     let list = current.instrs.len() as u32;
     numbered_instr(tables, &current.types, op, list)
@@ -227,7 +227,7 @@ fn add_instr(
     requires room { FunctionHasRoom current.old }
     ensures function { OnOk result (open_of current.new
         ≡ with_instr (open_of current.old)
-        (spec.numbered_instr (names_now tables.now) (instr_of named.entry) named.entry.op.name.now)) }
+        (spec.numbered_instr (names_now tables.now) (code_instr_of named.entry) named.entry.op.name.now)) }
     ensures aligned { OnOk result (IsAligned current.new) }
 {
     let instr = next_instr(tables, current, &named.op);
@@ -321,7 +321,7 @@ fn add(
     requires aligned { AllAligned building.old }
     requires room { FunctionHasRoom building.old.current }
     ensures line { OnOk result (building_of building.new
-        ≡ with_line (building_of building.old) (numbered (names_now tables.now) (item_of item.entry))) }
+        ≡ with_line (building_of building.old) (line_of_item (names_now tables.now) (item_of item.entry))) }
     ensures aligned { OnOk result (AllAligned building.new) }
 {
     match item {
@@ -351,7 +351,7 @@ fn collected(
     requires names { HaveNumbers (names_now tables.now) }
     requires few { length items.items + 2 < 2 ^ 32 }
     ensures built { IfOk result (λ b. building_of b
-        ≡ with_lines nothing (map (numbered (names_now tables.now)) (map item_of items.entry.items))) }
+        ≡ with_lines empty_building (map (line_of_item (names_now tables.now)) (map item_of items.entry.items))) }
     ensures aligned { IfOk result (λ b. AllAligned b) }
 {
     let mut building = Building {
@@ -392,7 +392,7 @@ pub(crate) fn code(
     requires names { names_now tables.now ≡ names_in (map item_of items.items) }
     requires counts { CountsAre counts (declared_in (map item_of items.items)) }
     requires few { AreFew (map item_of items.items) }
-    ensures { IfOk result (λ c. c ≡ code_of (map item_of items.entry.items)) }
+    ensures { IfOk result (λ c. c ≡ code_of_items (map item_of items.entry.items)) }
 {
     let undeclared = undeclared(alloc, tables, counts)?;
     let building = collected(alloc, tables, items)?;

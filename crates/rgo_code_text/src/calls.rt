@@ -7,8 +7,8 @@ ghost use Rattle.rgo_tac.specs.Code as tac;
 ghost use Rattle.rgo_code_words.specs.Cuts.{nows};
 ghost use Rattle.rgo_code.specs.Views.{code_op};
 ghost use Rattle.rgo_code_text.specs.Ops as spec;
-ghost use Rattle.rgo_code_text.specs.Ops.{of_length, calling, starting, removing};
-ghost use Rattle.rgo_code_text.specs.Views.{callee_of, named_op_of, own_op};
+ghost use Rattle.rgo_code_text.specs.Ops.{of_length, read_call, read_go, removing};
+ghost use Rattle.rgo_code_text.specs.Views.{named_callee_of, named_op_of, own_op};
 
 use crate::ops::{NamedOp, no_numbers};
 use rgo_code::{Class, Note};
@@ -25,7 +25,7 @@ pub(crate) struct Callee<'t> {
 }
 
 fn read_callee(alloc: Global, word: &[u8]) -> Result<Option<Callee<'_>>, AllocError>
-    ensures { IfOk result (λ r. option_map callee_of r ≡ spec.read_callee word.now) }
+    ensures { IfOk result (λ r. option_map named_callee_of r ≡ spec.read_callee word.now) }
 {
     let len = len_to(word, b'(');
     let name = &word[..len];
@@ -112,7 +112,7 @@ fn with_callee<'t>(alloc: Global, instr: Instr, callee: Callee<'t>, note: Note) 
 /// `call d f(..) R[..] P[..] -[..]`.
 pub(crate) fn call<'t>(alloc: Global, words: &[&'t [u8]]) -> Result<Option<NamedOp<'t>>, AllocError>
     ensures { IfOk result (λ r. option_map named_op_of r
-        ≡ of_length 6 (nows words.now) (calling (nows words.now))) }
+        ≡ of_length 6 (nows words.now) (read_call (nows words.now))) }
 {
     if words.len() != 6 {
         return Ok(None);
@@ -132,7 +132,7 @@ pub(crate) fn call<'t>(alloc: Global, words: &[&'t [u8]]) -> Result<Option<Named
 /// `go f(..) R[..] -[..]`.
 pub(crate) fn go<'t>(alloc: Global, words: &[&'t [u8]]) -> Result<Option<NamedOp<'t>>, AllocError>
     ensures { IfOk result (λ r. option_map named_op_of r
-        ≡ of_length 4 (nows words.now) (starting (nows words.now))) }
+        ≡ of_length 4 (nows words.now) (read_go (nows words.now))) }
 {
     if words.len() != 4 {
         return Ok(None);

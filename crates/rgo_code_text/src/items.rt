@@ -6,11 +6,11 @@ ghost use Rattle.rgo_code_words.specs.Cuts as cuts;
 ghost use Rattle.rgo_code_words.specs.Cuts.{nows};
 ghost use Rattle.rgo_code_text.specs.Items.{ItemFits, item_line};
 ghost use Rattle.rgo_code_text.specs.Lines as lines;
-ghost use Rattle.rgo_code_text.specs.Lines.{read_fields, read_slot, read_result, instr_with, InstrFits, IsCut};
-ghost use Rattle.rgo_code_text.specs.Lines.{struct_of, global_of, function_of, slot_of, entry_of};
-ghost use Rattle.rgo_code_words.specs.Readers.{IsRead};
-ghost use Rattle.rgo_code_text.specs.Views.{item_of, instr_of, named_op_of, named_slot_of};
-ghost use Rattle.rgo_code_words.specs.Views.{types_of};
+ghost use Rattle.rgo_code_text.specs.Lines.{read_fields, read_slot, read_result, instr_with, IsFittingInstr, IsCut};
+ghost use Rattle.rgo_code_text.specs.Lines.{struct_item, global_item, function_item, slot_item, entry_item};
+ghost use Rattle.rgo_code_words.specs.Readers.{IsReadFromBytes};
+ghost use Rattle.rgo_code_text.specs.Views.{item_of, code_instr_of, named_op_of, named_slot_of};
+ghost use Rattle.rgo_code_words.specs.Views.{named_types_of};
 
 use crate::ops::{NamedOp, named_op};
 use rgo_code::Class;
@@ -51,7 +51,7 @@ pub(crate) enum Item<'t> {
 
 /// The types of a struct's fields, at least one.
 fn fields(alloc: Global, list: &[u8]) -> Result<Option<Vec<NamedType<'_>>>, AllocError>
-    ensures { IfOk result (λ r. option_map types_of r ≡ read_fields list.now) }
+    ensures { IfOk result (λ r. option_map named_types_of r ≡ read_fields list.now) }
 {
     let mut types = Vec::new(alloc);
     let mut at = 0;
@@ -71,7 +71,7 @@ fn fields(alloc: Global, list: &[u8]) -> Result<Option<Vec<NamedType<'_>>>, Allo
 
 /// `struct NAME TYPE..`.
 fn a_struct<'t>(alloc: Global, words: &[&'t [u8]]) -> Result<Option<Item<'t>>, AllocError>
-    ensures { IfOk result (λ r. option_map item_of r ≡ struct_of (nows words.now)) }
+    ensures { IfOk result (λ r. option_map item_of r ≡ struct_item (nows words.now)) }
 {
     let name = word_at(words, 1);
     if !is_name(name) {
@@ -88,7 +88,7 @@ fn a_struct<'t>(alloc: Global, words: &[&'t [u8]]) -> Result<Option<Item<'t>>, A
 
 /// `global NAME TYPE`.
 fn a_global<'t>(alloc: Global, words: &[&'t [u8]]) -> Result<Option<Item<'t>>, AllocError>
-    ensures { IfOk result (λ r. option_map item_of r ≡ global_of (nows words.now)) }
+    ensures { IfOk result (λ r. option_map item_of r ≡ global_item (nows words.now)) }
 {
     let name = word_at(words, 1);
     if words.len() != 3 || !is_name(name) {
@@ -132,7 +132,7 @@ fn result<'t>(
 
 /// `func NAME COUNT TYPE CLASS`.
 fn a_function<'t>(alloc: Global, words: &[&'t [u8]]) -> Result<Option<Item<'t>>, AllocError>
-    ensures { IfOk result (λ r. option_map item_of r ≡ function_of (nows words.now)) }
+    ensures { IfOk result (λ r. option_map item_of r ≡ function_item (nows words.now)) }
 {
     let name = word_at(words, 1);
     if words.len() != 5 || !is_name(name) {
@@ -149,7 +149,7 @@ fn a_function<'t>(alloc: Global, words: &[&'t [u8]]) -> Result<Option<Item<'t>>,
 
 /// `var TYPE CLASS`.
 fn a_slot<'t>(alloc: Global, words: &[&'t [u8]]) -> Result<Option<Item<'t>>, AllocError>
-    ensures { IfOk result (λ r. option_map item_of r ≡ slot_of (nows words.now)) }
+    ensures { IfOk result (λ r. option_map item_of r ≡ slot_item (nows words.now)) }
 {
     if words.len() != 3 {
         return Ok(None);
@@ -162,7 +162,7 @@ fn a_slot<'t>(alloc: Global, words: &[&'t [u8]]) -> Result<Option<Item<'t>>, All
 
 /// `entry -[..]`.
 fn an_entry<'t>(alloc: Global, words: &[&'t [u8]]) -> Result<Option<Item<'t>>, AllocError>
-    ensures { IfOk result (λ r. option_map item_of r ≡ entry_of (nows words.now)) }
+    ensures { IfOk result (λ r. option_map item_of r ≡ entry_item (nows words.now)) }
 {
     if words.len() != 2 {
         return Ok(None);
@@ -176,7 +176,7 @@ fn an_entry<'t>(alloc: Global, words: &[&'t [u8]]) -> Result<Option<Item<'t>>, A
 /// An instruction that creates these regions first.
 fn with_creates<'t>(index: u32, place: u32, creates: Row<u32>, op: NamedOp<'t>) -> NamedInstr<'t>
     ensures index { result.index ≡ index }
-    ensures instr { instr_of result
+    ensures instr { code_instr_of result
         ≡ record { creates = creates; op = (named_op_of op.entry).op; place = place } }
     ensures name { result.op.name.now ≡ op.entry.name.now }
 {
@@ -215,8 +215,8 @@ fn instr_item<'t>(
 
 /// `INDEX @PLACE +[..]`, and an operation.
 fn an_instr<'t>(alloc: Global, words: &[&'t [u8]]) -> Result<Option<Item<'t>>, AllocError>
-    ensures { IfOk result (λ r. (line : List ℕ) → nows words.now ≡ cuts.cut 3 line
-        → IsRead InstrFits item_line line (option_map item_of r)) }
+    ensures { IfOk result (λ r. (line : List ℕ) → nows words.now ≡ cuts.cut_line 3 line
+        → IsReadFromBytes IsFittingInstr item_line line (option_map item_of r)) }
 {
     if words.len() != 4 {
         return Ok(None);
@@ -258,7 +258,7 @@ fn worded_item<'t>(
     words: &[&'t [u8]],
 ) -> Result<Option<Item<'t>>, AllocError>
     ensures { IfOk result (λ r. (line : List ℕ) → IsCut line word.now (nows words.now)
-        → IsRead ItemFits item_line line (option_map item_of r)) }
+        → IsReadFromBytes ItemFits item_line line (option_map item_of r)) }
 {
     if is(word, "struct") {
         a_struct(alloc, words)
@@ -277,7 +277,7 @@ fn worded_item<'t>(
 
 /// What a line is, if it has a form.
 pub(crate) fn read_item(alloc: Global, line: &[u8]) -> Result<Option<Item<'_>>, AllocError>
-    ensures { IfOk result (λ r. IsRead ItemFits item_line line.now (option_map item_of r)) }
+    ensures { IfOk result (λ r. IsReadFromBytes ItemFits item_line line.now (option_map item_of r)) }
 {
     if is(line, "rgo code 1") {
         return Ok(Some(Item::Head));

@@ -7,7 +7,7 @@ ghost use Rattle.rgo_tac.specs.Code as tac;
 ghost use Rattle.rgo_tac.specs.Views.{op_of};
 ghost use Rattle.rgo_code_words.specs.Cuts.{nows};
 ghost use Rattle.rgo_code_text.specs.Ops as spec;
-ghost use Rattle.rgo_code_text.specs.Ops.{of_length, jumping, branching, returning};
+ghost use Rattle.rgo_code_text.specs.Ops.{of_length, read_jump, read_branch, read_return};
 ghost use Rattle.rgo_code_text.specs.Views.{named_op_of, own_op};
 
 use crate::ops::{NamedOp, removals, simple};
@@ -19,7 +19,7 @@ use std::alloc::{AllocError, Global};
 /// `jump t -[..]`.
 pub(crate) fn jump<'t>(alloc: Global, words: &[&'t [u8]]) -> Result<Option<NamedOp<'t>>, AllocError>
     ensures { IfOk result (λ r. option_map named_op_of r
-        ≡ of_length 3 (nows words.now) (jumping (nows words.now))) }
+        ≡ of_length 3 (nows words.now) (read_jump (nows words.now))) }
 {
     if words.len() != 3 {
         return Ok(None);
@@ -52,7 +52,7 @@ pub(crate) fn branch<'t>(
     words: &[&'t [u8]],
 ) -> Result<Option<NamedOp<'t>>, AllocError>
     ensures { IfOk result (λ r. option_map named_op_of r
-        ≡ of_length 6 (nows words.now) (branching (nows words.now))) }
+        ≡ of_length 6 (nows words.now) (read_branch (nows words.now))) }
 {
     if words.len() != 6 {
         return Ok(None);
@@ -86,7 +86,7 @@ fn return_instr(value: Option<u32>) -> Instr
 /// `return a` or `return -`.
 pub(crate) fn give_back<'t>(alloc: Global, words: &[&'t [u8]]) -> Option<NamedOp<'t>>
     ensures { option_map named_op_of result
-        ≡ of_length 2 (nows words.now) (returning (nows words.now)) }
+        ≡ of_length 2 (nows words.now) (read_return (nows words.now)) }
 {
     if words.len() != 2 {
         return None;

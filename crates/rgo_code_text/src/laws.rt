@@ -1,7 +1,7 @@
 //! What holds of code texts.
 
-ghost use Rattle.rgo_code_text.specs.Examples.{Examples};
-ghost use Rattle.rgo_code_text.specs.Laws.{OneOfBoth, OneRefusal, OneText, RulesSuffice};
+ghost use Rattle.rgo_code_text.specs.Examples.{CodeTextExamples};
+ghost use Rattle.rgo_code_text.specs.Laws.{TextOrRefusal, OneTextRefusal, OneText, RulesSuffice};
 
 /// No two codes have one text.
 pub fn one_text()
@@ -10,12 +10,12 @@ pub fn one_text()
 
 /// A text has at most one first line without form, and the text of code has none.
 pub fn one_refusal()
-    ensures { OneRefusal }
+    ensures { OneTextRefusal }
 {}
 
 /// Each text is the text of code, or has a first line without form.
 pub fn one_of_both()
-    ensures { OneOfBoth }
+    ensures { TextOrRefusal }
 {}
 
 /// Code that keeps all rules and declares what it uses has a text, if its names are words and its numbers are printable.
@@ -25,5 +25,5 @@ pub fn rules_suffice()
 
 /// Small code whose parts are printable, and code that has one part that is not; how long texts may be.
 pub fn examples()
-    ensures { Examples }
+    ensures { CodeTextExamples }
 {}

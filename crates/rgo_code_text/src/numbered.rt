@@ -3,7 +3,7 @@
 ghost use Rattle.std.specs.Prelude.{◌≡◌, ◌<◌, ◌^◌, length, map, IfOk};
 ghost use Rattle.rgo_code_text.specs.Building as spec;
 ghost use Rattle.rgo_code_text.specs.Building.{names_now};
-ghost use Rattle.rgo_code_text.specs.Opened.{IsCopy, IsNumbered};
+ghost use Rattle.rgo_code_text.specs.Opened.{IsCopy, IsNumberedInstr};
 ghost use Rattle.rgo_code_text.specs.Sizes.{HaveNumbers};
 ghost use Rattle.rgo_code_text.specs.Written.{number_of_name};
 ghost use Rattle.rgo_code_words.specs.Views.{named_type_of};
@@ -81,7 +81,7 @@ pub(crate) fn numbered_instr(
     list: u32,
 ) -> Instr
     requires { HaveNumbers (names_now tables.now) }
-    ensures { IsNumbered (names_now tables.now) op.now list result }
+    ensures { IsNumberedInstr (names_now tables.now) op.now list result }
 {
     let name = op.name;
     match op.instr {

@@ -4,9 +4,9 @@
 ghost use Rattle.std.specs.Prelude.{◌≡◌, ◌++◌, ◌∷◌, [], drop, length, map, OnOk, IfOk};
 ghost use Rattle.std.specs.List.{flat_map};
 ghost use Rattle.std.specs.Option.{option_map};
-ghost use Rattle.rgo_code_text.specs.Building.{names_now, with_structs, with_declared, with_used, all_declared, all_used};
-ghost use Rattle.rgo_code_text.specs.Building.{names_in, declared_in, CountsAre, type_names, slot_names};
-ghost use Rattle.rgo_code_text.specs.Building.{op_structs, op_variables, op_functions, with_names};
+ghost use Rattle.rgo_code_text.specs.Building.{names_now, with_struct_names, with_declared, with_used, all_declared, all_used};
+ghost use Rattle.rgo_code_text.specs.Building.{names_in, declared_in, CountsAre, type_names, result_names};
+ghost use Rattle.rgo_code_text.specs.Building.{op_structs, op_variables, op_functions, with_all_names};
 ghost use Rattle.rgo_code_text.specs.Numbers.{with_name};
 ghost use Rattle.rgo_code_text.specs.Views.{item_of, named_slot_of, named_op_of};
 ghost use Rattle.rgo_code_words.specs.Views.{named_type_of};
@@ -33,14 +33,14 @@ impl<'t> Model for Numbers<'t> {
     ghost use Rattle.std.specs.Prelude.{◌≡◌, ℕ, List, bytes_eq};
     ghost use Rattle.indexmap.specs.IndexMap.{get_by};
     ghost use Rattle.rgo_code_words.specs.Cuts.{nows};
-    ghost use Rattle.rgo_code_text.specs.Numbers.{first_of};
+    ghost use Rattle.rgo_code_text.specs.Numbers.{number_if_known};
 
     ghost Value = { List (List ℕ) };
 
     ghost view = { λ n. nows n.names.items };
 
     ghost invariant = { λ n. (name : List ℕ)
-        → get_by (λ known. bytes_eq name known.now) n.numbers ≡ first_of (nows n.names.items) name };
+        → get_by (λ known. bytes_eq name known.now) n.numbers ≡ number_if_known (nows n.names.items) name };
 }
 
 impl<'t> Numbers<'t> {
@@ -139,7 +139,7 @@ fn declare<'t>(tables: &mut Tables<'t>, item: &Item<'t>) -> Result<(), AllocErro
 
 fn note_type<'t>(tables: &mut Tables<'t>, named: &NamedType<'t>) -> Result<(), AllocError>
     ensures { OnOk result (names_now tables.new
-        ≡ with_structs (names_now tables.old) (type_names (named_type_of named.now))) }
+        ≡ with_struct_names (names_now tables.old) (type_names (named_type_of named.now))) }
 {
     match named.ty.base {
         Base::Pointer(_) => tables.structs.note(named.name),
@@ -149,7 +149,7 @@ fn note_type<'t>(tables: &mut Tables<'t>, named: &NamedType<'t>) -> Result<(), A
 
 fn note_types<'t>(tables: &mut Tables<'t>, types: &[NamedType<'t>]) -> Result<(), AllocError>
     ensures { OnOk result (names_now tables.new
-        ≡ with_structs (names_now tables.old) (flat_map type_names (map named_type_of types.now))) }
+        ≡ with_struct_names (names_now tables.old) (flat_map type_names (map named_type_of types.now))) }
 {
     for named in types {
         note_type(tables, named)?;
@@ -159,7 +159,7 @@ fn note_types<'t>(tables: &mut Tables<'t>, types: &[NamedType<'t>]) -> Result<()
 
 fn note_result<'t>(tables: &mut Tables<'t>, slot: &Option<NamedSlot<'t>>) -> Result<(), AllocError>
     ensures { OnOk result (names_now tables.new
-        ≡ with_structs (names_now tables.old) (slot_names (option_map named_slot_of slot.now))) }
+        ≡ with_struct_names (names_now tables.old) (result_names (option_map named_slot_of slot.now))) }
 {
     match slot {
         Some(slot) => note_type(tables, &slot.ty),
@@ -169,9 +169,9 @@ fn note_result<'t>(tables: &mut Tables<'t>, slot: &Option<NamedSlot<'t>>) -> Res
 
 fn note_op<'t>(tables: &mut Tables<'t>, op: &NamedOp<'t>) -> Result<(), AllocError>
     ensures { OnOk result (names_now tables.new ≡ record {
-      structs = with_names tables.old.structs (op_structs (named_op_of op.now).op op.now.name.now);
-      variables = with_names tables.old.globals (op_variables (named_op_of op.now).op op.now.name.now);
-      functions = with_names tables.old.functions (op_functions (named_op_of op.now).op op.now.name.now);
+      structs = with_all_names tables.old.structs (op_structs (named_op_of op.now).op op.now.name.now);
+      variables = with_all_names tables.old.globals (op_variables (named_op_of op.now).op op.now.name.now);
+      functions = with_all_names tables.old.functions (op_functions (named_op_of op.now).op op.now.name.now);
     }) }
 {
     match op.instr {

@@ -4,9 +4,9 @@ ghost use Rattle.std.specs.Prelude.{◌≡◌, [], bytes_eq, codes, take, IfOk};
 ghost use Rattle.std.specs.Option.{option_map};
 ghost use Rattle.rgo_code.specs.Views.{code_op};
 ghost use Rattle.rgo_code_words.specs.Cuts.{nows};
-ghost use Rattle.rgo_code_text.specs.Ops.{acting, read_op, removing, op_text, NamedOpFits};
-ghost use Rattle.rgo_code_words.specs.Readers.{IsRead};
-ghost use Rattle.rgo_code_text.specs.Views.{action_of, named_op_of};
+ghost use Rattle.rgo_code_text.specs.Ops.{read_action_op, read_op, removing, op_text, NamedOpFits};
+ghost use Rattle.rgo_code_words.specs.Readers.{IsReadFromBytes};
+ghost use Rattle.rgo_code_text.specs.Views.{named_action_of, named_op_of};
 
 use crate::actions::{Action, read_action};
 use crate::calls::{call, go};
@@ -75,7 +75,7 @@ pub(crate) fn simple<'t>(alloc: Global, instr: Instr, name: &'t [u8], note: Note
 /// The operation that is an action with these removals.
 fn action_op<'t>(alloc: Global, done: Action<'t>, removes: Row<u32>) -> NamedOp<'t>
     ensures { named_op_of result
-        ≡ record { op = code_op (action_of done.entry).op (removing removes); name = (action_of done.entry).name } }
+        ≡ record { op = code_op (named_action_of done.entry).op (removing removes); name = (named_action_of done.entry).name } }
 {
     let note = removals(alloc, removes);
     simple(alloc, done.instr, done.name, note)
@@ -83,7 +83,7 @@ fn action_op<'t>(alloc: Global, done: Action<'t>, removes: Row<u32>) -> NamedOp<
 
 /// An action with its removals.
 fn act<'t>(alloc: Global, words: &[&'t [u8]]) -> Result<Option<NamedOp<'t>>, AllocError>
-    ensures { IfOk result (λ r. option_map named_op_of r ≡ acting (nows words.now)) }
+    ensures { IfOk result (λ r. option_map named_op_of r ≡ read_action_op (nows words.now)) }
 {
     let last = words.len().saturating_sub(1);
     let Some(done) = read_action(&words[..last]) else {
@@ -124,7 +124,7 @@ fn is_print(text: &[u8]) -> bool
 /// The operation of which these bytes are the words. A print is tried first, since its strings may contain spaces; any other
 /// operation has at most six words.
 pub(crate) fn named_op(alloc: Global, text: &[u8]) -> Result<Option<NamedOp<'_>>, AllocError>
-    ensures { IfOk result (λ r. IsRead NamedOpFits op_text text.now (option_map named_op_of r)) }
+    ensures { IfOk result (λ r. IsReadFromBytes NamedOpFits op_text text.now (option_map named_op_of r)) }
 {
     if is_print(text) {
         return print(alloc, &text[6..]);

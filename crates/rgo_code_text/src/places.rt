@@ -28,7 +28,7 @@ pub(crate) enum Place {
 impl Place {
     /// The place after a line, if that may be here.
     pub(crate) fn after(self, item: &Item<'_>) -> Option<Place>
-        ensures { result ≡ spec.after self (item_of item.now) }
+        ensures { result ≡ spec.place_after_item self (item_of item.now) }
     {
         match (self, item) {
             (Place::First, Item::Head) => Some(Place::Structs),

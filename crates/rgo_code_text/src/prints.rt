@@ -5,7 +5,7 @@ ghost use Rattle.std.specs.Prelude.{◌≡◌, ◌++◌, [], codes, IfOk};
 ghost use Rattle.std.specs.Option.{option_map};
 ghost use Rattle.rgo_code.specs.Code.{Print};
 ghost use Rattle.rgo_code_text.specs.Ops.{LastWord, op_text, NamedOpFits};
-ghost use Rattle.rgo_code_words.specs.Readers.{IsRead};
+ghost use Rattle.rgo_code_words.specs.Readers.{IsReadFromBytes};
 ghost use Rattle.rgo_code_text.specs.Views.{named_op_of};
 
 use crate::ops::{NamedOp, removals};
@@ -56,7 +56,7 @@ fn no_pieces(alloc: Global) -> Pieces
 
 /// `print .. -[..]`, by what follows `print`. Strings may contain spaces.
 pub(crate) fn print<'t>(alloc: Global, bytes: &[u8]) -> Result<Option<NamedOp<'t>>, AllocError>
-    ensures { IfOk result (λ r. IsRead NamedOpFits op_text (codes "print " ++ bytes.now)
+    ensures { IfOk result (λ r. IsReadFromBytes NamedOpFits op_text (codes "print " ++ bytes.now)
         (option_map named_op_of r)) }
 {
     let at = last_word(bytes);

@@ -4,12 +4,12 @@ ghost use Rattle.std.specs.Prelude.{◌≡◌, ◌↔◌, ◌+◌, ◌<◌, ◌^
 ghost use Rattle.std.specs.Option.{option_map};
 ghost use Rattle.rgo_code_printing.specs.Text.{text_of};
 ghost use Rattle.rgo_code_text.specs.declared.refusals.ReadError.TheVariants.{TooLarge};
-ghost use Rattle.rgo_code_text.specs.Building.{code_of, names_now};
+ghost use Rattle.rgo_code_text.specs.Building.{code_of_items, names_now};
 ghost use Rattle.rgo_code_text.specs.Items.{ItemFits};
-ghost use Rattle.rgo_code_text.specs.Sizes.{AreFew, IsTooLarge};
+ghost use Rattle.rgo_code_text.specs.Sizes.{AreFew, IsTooLongText};
 ghost use Rattle.rgo_code_text.specs.Walk.{AreItems, StepIs, StopsIn, RefusesCodeText};
 ghost use Rattle.rgo_code_text.specs.Views.{item_of};
-ghost use Rattle.rgo_code_text.specs.Written.{IsWritten, empty_names};
+ghost use Rattle.rgo_code_text.specs.Written.{HasCodeText, empty_names};
 
 use crate::building::code;
 use crate::items::{Item, read_item};
@@ -77,7 +77,7 @@ fn assembled<'t>(
     requires fit { All ItemFits (map item_of items.items) }
     requires few { AreFew (map item_of items.items) }
     requires empty { names_now tables.old ≡ empty_names }
-    ensures { IfOk result (λ c. c ≡ code_of (map item_of items.entry.items)) }
+    ensures { IfOk result (λ c. c ≡ code_of_items (map item_of items.entry.items)) }
 {
     let counts = number_names(tables, &items)?;
     code(alloc, tables, counts, items)
@@ -87,7 +87,7 @@ fn assembled<'t>(
 fn code_in(alloc: Global, items: Vec<Item<'_>>) -> Result<Code, AllocError>
     requires fit { All ItemFits (map item_of items.items) }
     requires few { AreFew (map item_of items.items) }
-    ensures { IfOk result (λ c. c ≡ code_of (map item_of items.entry.items)) }
+    ensures { IfOk result (λ c. c ≡ code_of_items (map item_of items.entry.items)) }
 {
     let mut tables = no_tables(alloc);
     assembled(alloc, &mut tables, items)
@@ -96,7 +96,7 @@ fn code_in(alloc: Global, items: Vec<Item<'_>>) -> Result<Code, AllocError>
 /// The code of a text that is not too large.
 fn read_few(alloc: Global, text: &[u8]) -> Result<Code, ReadError>
     requires { length text.now + 2 < 2 ^ 32 }
-    ensures { MatchResult result (λ code. (text.now ≡ text_of code) × IsWritten code) (λ e. RefusesCodeText text.now e) }
+    ensures { MatchResult result (λ code. (text.now ≡ text_of code) × HasCodeText code) (λ e. RefusesCodeText text.now e) }
 {
     let items = items(alloc, text)?;
     match code_in(alloc, items) {
@@ -115,8 +115,8 @@ const MOST_BYTES: usize = u32::MAX as usize - 2;
 /// `TooLarge` if it has 2³² - 2 bytes or more, which is known before anything is read. Else, if it is not the text of code,
 /// the number of the first line that has no form in its place; `NoMemory` on allocation failure.
 pub fn read_code(alloc: Global, text: &[u8]) -> Result<Code, ReadError>
-    ensures read { MatchResult result (λ code. (text.now ≡ text_of code) × IsWritten code) (λ e. RefusesCodeText text.now e) }
-    ensures large { (result ≡ Err TooLarge) ↔ IsTooLarge text.now }
+    ensures read { MatchResult result (λ code. (text.now ≡ text_of code) × HasCodeText code) (λ e. RefusesCodeText text.now e) }
+    ensures large { (result ≡ Err TooLarge) ↔ IsTooLongText text.now }
 {
     if text.len() > MOST_BYTES {
         return Err(ReadError::TooLarge);

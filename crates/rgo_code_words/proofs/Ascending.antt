@@ -3,7 +3,7 @@ use Rattle.std.proofs.Common.{◌≡◌, ℕ, zero, suc, ◌+◌, ◌-◌, ◌<�
 use Rattle.std.specs.List.Sorted.{IsStrictlyIncreasing}
 use Rattle.std.proofs.lemmas.Bool.Decides.{Decides-ltb, nat_tests}
 use Rattle.std.proofs.lemmas.List.{at_drop_more}
-use Rattle.rgo_code_words.specs.Readers.{is_above, is_ascending}
+use Rattle.rgo_code_words.specs.Readers.{is_below_first, is_ascending}
 use Rattle.rgo_code_words.proofs.Lacks.{both_true}
 
 next : (k : ℕ) (names : List ℕ) (j : ℕ) → slice_index (k ∷ names) (suc j + 1) ≡ slice_index names (j + 1)
@@ -11,7 +11,7 @@ next k names j =
     let e : suc j + 1 ≡ suc (j + 1) = omega arith in
     ap (λ i. slice_index (k ∷ names) i) e
 
-above_is : (k : ℕ) (names : List ℕ) → is_above k names ≡ true → IsStrictlyIncreasing names → IsStrictlyIncreasing (k ∷ names)
+above_is : (k : ℕ) (names : List ℕ) → is_below_first k names ≡ true → IsStrictlyIncreasing names → IsStrictlyIncreasing (k ∷ names)
 above_is k [] e h j l = absurd (omega (arith, l))
 above_is k (n ∷ names) e h zero l = (Decides-ltb k n).0 e
 above_is k (n ∷ names) e h (suc j) l =
@@ -20,10 +20,10 @@ above_is k (n ∷ names) e h (suc j) l =
 pub ascending_is : (names : List ℕ) → is_ascending names ≡ true → IsStrictlyIncreasing names
 ascending_is [] e = λ j l. absurd (omega (arith, l))
 ascending_is (k ∷ names) e =
-    let p = both_true (is_above k names) (is_ascending names) e in
+    let p = both_true (is_below_first k names) (is_ascending names) e in
     above_is k names p.0 (ascending_is names p.1)
 
-above_back : (k : ℕ) (names : List ℕ) → IsStrictlyIncreasing (k ∷ names) → is_above k names ≡ true
+above_back : (k : ℕ) (names : List ℕ) → IsStrictlyIncreasing (k ∷ names) → is_below_first k names ≡ true
 above_back k [] h = refl
 above_back k (n ∷ names) h = (Decides-ltb k n).1 (h 0 (omega arith))
 

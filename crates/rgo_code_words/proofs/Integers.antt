@@ -9,7 +9,7 @@ use Rattle.std.proofs.lemmas.Fmt.{decimal_is_IsNumeral, decimal_by_steps, IsAsci
 use Rattle.std.proofs.lemmas.Int.{ints}
 use Rattle.std.proofs.lemmas.Str.{IsUtf8-from_ascii}
 use Rattle.std.proofs.lemmas.Slice.Eq.{bytes_eq-Decides}
-use Rattle.rgo_code_words.specs.Readers.{if_printed, is_int, read_int}
+use Rattle.rgo_code_words.specs.Readers.{if_printed, is_int64, read_int}
 use Rattle.rgo_code_words.specs.Worded.{IntFits}
 use Rattle.rgo_code_words.proofs.Lacks.{differs}
 use Rattle.rgo_code_words.proofs.Numerals.{printed, printed_back}
@@ -45,20 +45,20 @@ value_back (pos n) f =
     ∙ ap (λ ds. pos (digits_value 10 ds)) (sym b.is) ∙ ap pos (decimal_is_IsNumeral n (omega (arith, f))).1
 value_back (negsuc n) f = ap (λ k. neg_ℤ (pos k)) (decimal_is_IsNumeral (suc n) (omega (arith, f))).1
 
-int_test : (z : ℤ) → Decides (is_int z) (IntFits z)
+int_test : (z : ℤ) → Decides (is_int64 z) (IntFits z)
 int_test (pos n) = Decides-ltb n (2 ^ 63)
 int_test (negsuc n) = Decides-ltb n (2 ^ 63)
 
 pub int_back : (z : ℤ) → IntFits z → read_int (signed_decimal z) ≡ Some z
 unfolding read_int
 int_back z f =
-    ap (if_printed is_int signed_decimal (signed_decimal z)) (value_back z f)
-    ∙ printed_back is_int signed_decimal z ((int_test z).1 f)
+    ap (if_printed is_int64 signed_decimal (signed_decimal z)) (value_back z f)
+    ∙ printed_back is_int64 signed_decimal z ((int_test z).1 f)
 
 pub int_sound : (word : List ℕ) (z : ℤ) → read_int word ≡ Some z → (word ≡ signed_decimal z) × IntFits z
 unfolding read_int
 int_sound word z e =
-    let p = printed is_int signed_decimal word (signed_digits_value 10 word) z e in
+    let p = printed is_int64 signed_decimal word (signed_digits_value 10 word) z e in
     (sym p.2 ∙ ap signed_decimal p.0, subst IntFits p.0 ((int_test (signed_digits_value 10 word)).0 p.1))
 
 pub int_none : (word : List ℕ) → ((z : ℤ) → IntFits z → word ≢ signed_decimal z) → read_int word ≡ None

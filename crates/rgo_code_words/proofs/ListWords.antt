@@ -7,15 +7,15 @@ use Rattle.std.proofs.lemmas.List.{take_at, drop_at, get_or_at, take-append-drop
 use Rattle.std.proofs.lemmas.List.Elements.{All-head, All-tail, All-nil, All-cons}
 use Rattle.std.proofs.lemmas.List.Splits.{slice_split_none, slice_split_at, join_with_byte-slice_split, length-slice_split}
 use Rattle.std.proofs.lemmas.Slice.Eq.{bytes_eq-Decides}
-use Rattle.rgo_code_words.specs.Readers.{with_first, read_each, read_list, inside}
-use Rattle.rgo_code_printing.specs.Words.{listed}
+use Rattle.rgo_code_words.specs.Readers.{option_cons, read_each, read_list, bytes_inside}
+use Rattle.rgo_code_printing.specs.Words.{comma_separated}
 use Rattle.rgo_code_words.proofs.Lacks.{Lacks, AllLack, both_true}
 use Rattle.rgo_code_words.proofs.Listing.{is_between, read_words}
 use Rattle.rgo_code_words.proofs.Options.{some_same, not_none, under}
 
 -- ---- what is between a front and a last byte
 
-pub inside_back : (front list : List ℕ) (last : ℕ) → inside front last (front ++ (list ++ last ∷ [])) ≡ Some list
+pub inside_back : (front list : List ℕ) (last : ℕ) → bytes_inside front last (front ++ (list ++ last ∷ [])) ≡ Some list
 inside_back front list last =
     let word = front ++ (list ++ last ∷ []) in
     let long : length word ≡ length front + length list + 1 =
@@ -47,7 +47,7 @@ inside_parts word n l =
     sym (take-append-drop n word)
     ∙ ap (λ t. take n word ++ t) (sym whole ∙ take_more rest k 0 (omega (arith, len)) ∙ ap (λ b. take k rest ++ b ∷ []) last)
 
-pub inside_is : (front word list : List ℕ) (last : ℕ) → inside front last word ≡ Some list
+pub inside_is : (front word list : List ℕ) (last : ℕ) → bytes_inside front last word ≡ Some list
     → word ≡ front ++ (list ++ last ∷ [])
 inside_is front word list last e =
     let u = under _ _ list e in
@@ -87,8 +87,8 @@ module _ {A : Type 0} (c : ℕ) (read : List ℕ → Option A) (word : A → Lis
   each_back : (xs : List A) → All Fits xs → read_each read (map word xs) ≡ Some xs
   each_back [] f = refl
   each_back (x ∷ xs) f =
-      ap (λ o. with_first o (read_each read (map word xs))) (reads.back x (All-head Fits x xs f))
-      ∙ ap (with_first (Some x)) (each_back xs (All-tail Fits x xs f))
+      ap (λ o. option_cons o (read_each read (map word xs))) (reads.back x (All-head Fits x xs f))
+      ∙ ap (option_cons (Some x)) (each_back xs (All-tail Fits x xs f))
 
   all_lack : (xs : List A) → All Fits xs → AllLack c (map word xs)
   all_lack [] f = All-nil (Lacks c)
@@ -105,7 +105,7 @@ module _ {A : Type 0} (c : ℕ) (read : List ℕ → Option A) (word : A → Lis
   each_is (w ∷ ws) xs e = by (read w) refl (read_each read ws) (each_is ws) e
     where
       by : (o : Option A) → read w ≡ o → (others : Option (List A))
-          → ((ys : List A) → others ≡ Some ys → AreWords word Fits ws ys) → with_first o others ≡ Some xs
+          → ((ys : List A) → others ≡ Some ys → AreWords word Fits ws ys) → option_cons o others ≡ Some xs
           → AreWords word Fits (w ∷ ws) xs
       by None p others rest q = absurd (not_none xs q)
       by (Some a) p None rest q = absurd (not_none xs q)
@@ -134,22 +134,22 @@ module _ {A : Type 0} (c : ℕ) (read : List ℕ → Option A) (word : A → Lis
 
 module _ {A : Type 0} (read : List ℕ → Option A) (word : A → List ℕ) (Fits : A → Type 0) (reads : Reads 44 read word Fits)
     (some : (a : A) → 0 < length (word a)) where
-  long : (x : A) (xs : List A) → 0 < length (listed (map word (x ∷ xs)))
+  long : (x : A) (xs : List A) → 0 < length (comma_separated (map word (x ∷ xs)))
   long x [] = some x
   long x (y ∷ xs) =
-      let len = length-append (word x) (44 ∷ listed (map word (y ∷ xs))) in
+      let len = length-append (word x) (44 ∷ comma_separated (map word (y ∷ xs))) in
       omega (arith, len, some x)
 
   some_list : (list : List ℕ) → 0 < length list → read_list read list ≡ read_words 44 read list
   some_list [] l = absurd (omega (arith, l))
   some_list (b ∷ list) l = refl
 
-  pub list_back : (xs : List A) → All Fits xs → read_list read (listed (map word xs)) ≡ Some xs
+  pub list_back : (xs : List A) → All Fits xs → read_list read (comma_separated (map word xs)) ≡ Some xs
   list_back [] f = refl
   list_back (x ∷ xs) f =
-      some_list (listed (map word (x ∷ xs))) (long x xs) ∙ words_back 44 read word Fits reads x xs f
+      some_list (comma_separated (map word (x ∷ xs))) (long x xs) ∙ words_back 44 read word Fits reads x xs f
 
-  pub list_is : (list : List ℕ) (xs : List A) → read_list read list ≡ Some xs → (list ≡ listed (map word xs)) × All Fits xs
+  pub list_is : (list : List ℕ) (xs : List A) → read_list read list ≡ Some xs → (list ≡ comma_separated (map word xs)) × All Fits xs
   list_is [] xs e =
-      subst (λ ys. ([] ≡ listed (map word ys)) × All Fits ys) (some_same [] xs e) (refl, All-nil Fits)
+      subst (λ ys. ([] ≡ comma_separated (map word ys)) × All Fits ys) (some_same [] xs e) (refl, All-nil Fits)
   list_is (b ∷ list) xs e = words_is 44 read word Fits reads (b ∷ list) xs e

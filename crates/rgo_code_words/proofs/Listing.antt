@@ -7,7 +7,7 @@ use Rattle.std.proofs.lemmas.List.{drop-drop, take_all}
 use Rattle.std.proofs.lemmas.List.Elements.{All-from_get_or}
 use Rattle.std.proofs.lemmas.List.Splits.{slice_split_first, slice_split_none}
 use Rattle.std.proofs.lemmas.List.Sums.{fails_before_first}
-use Rattle.rgo_code_words.specs.Readers.{with_first, read_each}
+use Rattle.rgo_code_words.specs.Readers.{option_cons, read_each}
 
 -- what was read, and the rest
 abbrev pub added : {A : Type 0} → List A → Option (List A) → Option (List A)
@@ -15,7 +15,7 @@ added xs None = None
 added xs (Some ys) = Some (xs ++ ys)
 
 more_of : {A : Type 0} (xs : List A) (a : A) (others : Option (List A))
-    → added xs (with_first (Some a) others) ≡ added (xs ++ a ∷ []) others
+    → added xs (option_cons (Some a) others) ≡ added (xs ++ a ∷ []) others
 more_of xs a None = refl
 more_of xs a (Some ys) = ap Some (sym (append_assoc xs (a ∷ []) ys))
 
@@ -29,12 +29,12 @@ module _ (c : ℕ) where
 
   first_read : {A : Type 0} (read : List ℕ → Option A) (rest : List ℕ) → position_or_len is_between rest < length rest
       → read_words read rest
-      ≡ with_first (read (take (position_or_len is_between rest) rest))
+      ≡ option_cons (read (take (position_or_len is_between rest) rest))
       (read_words read (drop (position_or_len is_between rest + 1) rest))
   first_read read rest l = ap (read_each read) (slice_split_first is_between rest 0 l)
 
   only_read : {A : Type 0} (read : List ℕ → Option A) (rest : List ℕ) → position_or_len is_between rest ≡ length rest
-      → read_words read rest ≡ with_first (read rest) (Some [])
+      → read_words read rest ≡ option_cons (read rest) (Some [])
   only_read read rest e =
       ap (read_each read) (slice_split_none is_between rest (All-from_get_or (λ b. is_between b ≡ false) rest 0
       (λ k l. fails_before_first is_between rest k 0 (omega (arith, l, e)))))
@@ -45,11 +45,11 @@ module _ (c : ℕ) where
       → added xs (read_words read (drop at list)) ≡ added (xs ++ a ∷ []) (read_words read (drop (at + n + 1) list))
   more_read read xs list at n a e l is =
       let rest = drop at list in
-      let cut : read_words read rest ≡ with_first (read (take n rest)) (read_words read (drop (n + 1) rest)) =
+      let cut : read_words read rest ≡ option_cons (read (take n rest)) (read_words read (drop (n + 1) rest)) =
       subst (λ m. m < length rest
-      → read_words read rest ≡ with_first (read (take m rest)) (read_words read (drop (m + 1) rest)))
+      → read_words read rest ≡ option_cons (read (take m rest)) (read_words read (drop (m + 1) rest)))
       e (first_read read rest) l in
-      ap (added xs) (cut ∙ ap (λ o. with_first o (read_words read (drop (n + 1) rest))) is)
+      ap (added xs) (cut ∙ ap (λ o. option_cons o (read_words read (drop (n + 1) rest))) is)
       ∙ more_of xs a (read_words read (drop (n + 1) rest))
       ∙ ap (λ t. added (xs ++ a ∷ []) (read_words read t)) (drop-drop (n + 1) at list ∙ ap (λ m. drop m list) (omega arith))
 
@@ -59,7 +59,7 @@ module _ (c : ℕ) where
       → added xs (read_words read rest) ≡ Some (xs ++ a ∷ [])
   last_read read xs rest n a e l is =
       let whole : take n rest ≡ rest = take_all n rest (omega (arith, l)) in
-      ap (added xs) (only_read read rest (e ∙ l) ∙ ap (λ o. with_first o (Some [])) (ap read (sym whole) ∙ is))
+      ap (added xs) (only_read read rest (e ∙ l) ∙ ap (λ o. option_cons o (Some [])) (ap read (sym whole) ∙ is))
 
   -- a word that is not read
   pub none_read : {A : Type 0} (read : List ℕ → Option A) (xs : List A) (rest : List ℕ) (n : ℕ)
@@ -70,13 +70,13 @@ module _ (c : ℕ) where
       by : (b : Bool) → Decides b (n < length rest) → added xs (read_words read rest) ≡ None
       by true d =
           ap (added xs) (subst (λ m. m < length rest → read_words read rest
-          ≡ with_first (read (take m rest)) (read_words read (drop (m + 1) rest))) e (first_read read rest) (d.0 refl)
-          ∙ ap (λ o. with_first o (read_words read (drop (n + 1) rest))) fails)
+          ≡ option_cons (read (take m rest)) (read_words read (drop (m + 1) rest))) e (first_read read rest) (d.0 refl)
+          ∙ ap (λ o. option_cons o (read_words read (drop (n + 1) rest))) fails)
       by false d =
           let no_less : ¬ (n < length rest) = not_from_Decides false d refl in
           let same : n ≡ length rest = omega (arith, l, no_less) in
           let whole : take n rest ≡ rest = take_all n rest (omega (arith, same)) in
-          ap (added xs) (only_read read rest (e ∙ same) ∙ ap (λ o. with_first o (Some [])) (ap read (sym whole) ∙ fails))
+          ap (added xs) (only_read read rest (e ∙ same) ∙ ap (λ o. option_cons o (Some [])) (ap read (sym whole) ∙ fails))
 
   -- ---- what is left of a list, as a slice has it
 

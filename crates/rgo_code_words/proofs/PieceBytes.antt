@@ -2,7 +2,7 @@
 use Rattle.std.proofs.Common.{◌≡◌, ℕ, ◌+◌, ◌-◌, ◌*◌, ◌/◌, ◌%◌, ◌<◌, ◌≤◌, ◌==◌, ◌&&◌, ◌||◌, nat_lt, nat_le, Bool, true, false, true≢false, if◌then◌else◌, List, [], ◌∷◌, ◌++◌, length, drop, get_or, Some, None, refl, sym, ap, subst, ◌∙◌, arith}
 use Rattle.std.specs.Option.{option_map}
 use Rattle.std.proofs.lemmas.Bool.Decides.{Decides-eqb, nat_tests}
-use Rattle.rgo_code_words.specs.Pieces.{hex_value, is_numbered, is_plain, if_numbered, numbered, escaped, string_byte}
+use Rattle.rgo_code_words.specs.Pieces.{hex_value, is_numbered, is_plain, if_numbered, numbered, escaped_byte, string_byte}
 use Rattle.rgo_code_words.specs.Readers.{on_some}
 use Rattle.rgo_code_printing.specs.Words.{hex_digit, byte_word}
 use Rattle.rgo_code_words.proofs.Options.{some_same, under, after_some, mapped, either}
@@ -114,7 +114,7 @@ byte_back b rest l = by (form b)
         (ap (option_map (λ b. (b, 4))) (numbered_back b l n))
     by (plain p w) =
         subst (λ ds. string_byte (ds ++ rest) ≡ Some (b, length ds)) (sym w)
-        (ap (λ t. if t then Some (b, 1) else (if b == 92 then escaped (get_or rest 0 0) (get_or rest 1 0) (get_or rest 2 0) else None)) p)
+        (ap (λ t. if t then Some (b, 1) else (if b == 92 then escaped_byte (get_or rest 0 0) (get_or rest 1 0) (get_or rest 2 0) else None)) p)
 
 -- what was read at the front
 pub record ByteIs (bytes : List ℕ) (r : ℕ × ℕ) : Type 0 where
@@ -184,7 +184,7 @@ two_front bytes k b e f l small w =
     (w ∙ ap (λ x. x ∷ k ∷ []) (sym e) ∙ ap (λ x. get_or bytes 0 0 ∷ x ∷ []) (sym f))
 
 escaped_is : (bytes : List ℕ) (r : ℕ × ℕ) → get_or bytes 0 0 ≡ 92
-    → escaped (get_or bytes 1 0) (get_or bytes 2 0) (get_or bytes 3 0) ≡ Some r → ByteIs bytes r
+    → escaped_byte (get_or bytes 1 0) (get_or bytes 2 0) (get_or bytes 3 0) ≡ Some r → ByteIs bytes r
 escaped_is bytes r e s =
     let kind = get_or bytes 1 0 in
     either (kind == 34 || kind == 92) _ _ r (ByteIs bytes r) s

@@ -8,10 +8,10 @@ use Rattle.std.proofs.lemmas.List.Elements.{All-head, All-tail, All-append, All-
 use Rattle.std.proofs.lemmas.List.Sums.{passes_at_first}
 use Rattle.rgo_typed.specs.declared.statements.Piece.{Piece}
 use Rattle.rgo_typed.specs.declared.statements.Piece.TheVariants as piece
-use Rattle.rgo_code_words.specs.Pieces.{string_byte, AreBytes, IsInside, value_list, Fronts, NoneFronts}
+use Rattle.rgo_code_words.specs.Pieces.{string_byte, AreBytes, IsStringInside, value_list, Fronts, NoneFronts}
 use Rattle.rgo_code_words.specs.Readers.{read_variable}
 use Rattle.rgo_code_printing.specs.Words.{byte_word, string_word, variable_word}
-use Rattle.rgo_code_words.specs.Worded.{IsSmall}
+use Rattle.rgo_code_words.specs.Worded.{IsSmallNumber}
 use Rattle.rgo_code_words.proofs.Lacks.{Lacks, lacks_from, lettered_from}
 use Rattle.rgo_code_words.proofs.ListFacts.{rest_same, flat_push, drop_here}
 use Rattle.rgo_code_words.proofs.Numerals.{number_back}
@@ -79,11 +79,11 @@ to_comma (b ∷ w) rest l e =
     let tail = to_comma w rest (All-tail (λ b. (b == 44) ≡ false) b w l) e in
     rw (All-head (λ b. (b == 44) ≡ false) b w l) (ap (λ n. 1 + n) tail ∙ omega arith)
 
-pub variable_lacks : (v : ℕ) → IsSmall v → Lacks 44 (variable_word v)
+pub variable_lacks : (v : ℕ) → IsSmallNumber v → Lacks 44 (variable_word v)
 variable_lacks v s =
     lacks_from 45 44 (variable_word v) (omega arith) (lettered_from 45 118 v (omega arith) (omega arith) s)
 
-variables_one : (a b : ℕ) → IsSmall a → IsSmall b → variable_word a ≡ variable_word b → a ≡ b
+variables_one : (a b : ℕ) → IsSmallNumber a → IsSmallNumber b → variable_word a ≡ variable_word b → a ≡ b
 variables_one a b s t e =
     some_same a b (sym (number_back a s) ∙ ap read_variable e ∙ number_back b t)
 
@@ -91,7 +91,7 @@ record SameWord (a b : ℕ) (x y : List ℕ) : Type 0 where
   pub variable : a ≡ b
   pub rest : x ≡ y
 
-words_one : (a b : ℕ) (x y : List ℕ) → IsSmall a → IsSmall b → get_or x 0 44 ≡ 44 → get_or y 0 44 ≡ 44
+words_one : (a b : ℕ) (x y : List ℕ) → IsSmallNumber a → IsSmallNumber b → get_or x 0 44 ≡ 44 → get_or y 0 44 ≡ 44
     → variable_word a ++ x ≡ variable_word b ++ y → SameWord a b x y
 words_one a b x y s t p q e =
     let len : length (variable_word a) ≡ length (variable_word b) =
@@ -162,7 +162,7 @@ first_byte : (bytes : List ℕ) (b : ℕ) → get_or bytes 0 0 ≡ b → 0 < b �
 first_byte [] b e l = absurd (omega (arith, e, l))
 first_byte (a ∷ bytes) b e l = ap (λ x. x ∷ bytes) e
 
-module _ (bytes inside : List ℕ) (len : ℕ) (quote : get_or bytes 0 0 ≡ 34) (i : IsInside (drop 1 bytes) inside len) where
+module _ (bytes inside : List ℕ) (len : ℕ) (quote : get_or bytes 0 0 ≡ 34) (i : IsStringInside (drop 1 bytes) inside len) where
   rest_is : drop len (drop 1 bytes) ≡ drop (1 + len) bytes
   rest_is = drop-drop len 1 bytes
 

@@ -5,9 +5,9 @@ use Rattle.std.proofs.lemmas.List.{drop_at}
 use Rattle.std.proofs.lemmas.List.Elements.{All-nil, All-cons, All-head, All-tail, All-append}
 use Rattle.rgo_typed.specs.declared.statements.Piece.{Piece}
 use Rattle.rgo_typed.specs.declared.statements.Piece.TheVariants as piece
-use Rattle.rgo_code_words.specs.Pieces.{value_list, IsClosed, Fronts, NoneFronts, AreListed}
-use Rattle.rgo_code_printing.specs.Words.{listed, piece_word, piece_words, value_count}
-use Rattle.rgo_code_words.specs.Worded.{AreSmall, IsSmall, PieceFits, values_in}
+use Rattle.rgo_code_words.specs.Pieces.{value_list, IsDelimited, Fronts, NoneFronts, AreListed}
+use Rattle.rgo_code_printing.specs.Words.{comma_separated, piece_word, piece_words, value_count}
+use Rattle.rgo_code_words.specs.Worded.{AreSmall, IsSmallNumber, PieceFits, printed_value_count}
 use Rattle.rgo_code_words.proofs.PieceFronts.{fronts_one}
 
 -- ---- words by the variables that are left
@@ -35,17 +35,17 @@ words_split piece.Value (Some v) pieces from e = ap (λ ws. piece_word piece.Val
 
 -- ---- one more piece at the front
 
-small_list : (value : Option ℕ) → IfSome value IsSmall → AreSmall (value_list value)
-small_list None s = All-nil IsSmall
-small_list (Some v) s = All-cons IsSmall v [] s (All-nil IsSmall)
+small_list : (value : Option ℕ) → IfSome value IsSmallNumber → AreSmall (value_list value)
+small_list None s = All-nil IsSmallNumber
+small_list (Some v) s = All-cons IsSmallNumber v [] s (All-nil IsSmallNumber)
 
 values_more : (p : Piece) (value : Option ℕ) (pieces : List Piece) (from : List ℕ)
-    → length (value_list value) ≡ value_count p → length from ≡ values_in pieces
-    → length (value_list value ++ from) ≡ values_in (p ∷ pieces)
+    → length (value_list value) ≡ value_count p → length from ≡ printed_value_count pieces
+    → length (value_list value ++ from) ≡ printed_value_count (p ∷ pieces)
 values_more p value pieces from e f = length-append (value_list value) from ∙ ap (λ n. n + length from) e ∙ ap (λ n. value_count p + n) f
 
 listed_more : (w : List ℕ) (p : Piece) (pieces : List Piece) (from : List ℕ)
-    → listed (w ∷ piece_words (p ∷ pieces) from 0) ≡ w ++ 44 ∷ listed (piece_words (p ∷ pieces) from 0)
+    → comma_separated (w ∷ piece_words (p ∷ pieces) from 0) ≡ w ++ 44 ∷ comma_separated (piece_words (p ∷ pieces) from 0)
 listed_more w p pieces from = refl
 
 not_empty : {A : Type 0} (a : A) (xs : List A) → a ∷ xs ≢ []
@@ -67,11 +67,11 @@ pub more_listed : (bytes rest : List ℕ) (p : Piece) (value : Option ℕ) (n : 
 more_listed bytes rest p value n [] from f e a = absurd (a.some refl)
 more_listed bytes rest p value n (q ∷ pieces) from f e a = record {
   text = f.cut ∙ ap (λ t. piece_word p (value_list value) 0 ++ t) (e ∙ ap (λ t. 44 ∷ t) a.text)
-      ∙ sym (ap listed (words_split p value (q ∷ pieces) from f.values));
+      ∙ sym (ap comma_separated (words_split p value (q ∷ pieces) from f.values));
   some = not_empty p (q ∷ pieces);
   fit = All-cons PieceFits p (q ∷ pieces) f.fits a.fit;
   values = values_more p value (q ∷ pieces) from f.values a.values;
-  small = All-append IsSmall (value_list value) from (small_list value f.small) a.small;
+  small = All-append IsSmallNumber (value_list value) from (small_list value f.small) a.small;
 }
 
 -- ---- the piece at the front of a list
@@ -92,7 +92,7 @@ record Parted (p : Piece) (from : List ℕ) (n : ℕ) : Type 0 where
   pub others : List ℕ
   pub from_is : from ≡ value_list value ++ others
   pub values : length (value_list value) ≡ value_count p
-  pub small : IfSome value IsSmall
+  pub small : IfSome value IsSmallNumber
   pub others_small : AreSmall others
   pub others_len : length others ≡ n
 
@@ -112,25 +112,25 @@ parted piece.Value (v ∷ from) n e s = record {
   others = from;
   from_is = refl;
   values = refl;
-  small = All-head IsSmall v from s;
-  others_small = All-tail IsSmall v from s;
+  small = All-head IsSmallNumber v from s;
+  others_small = All-tail IsSmallNumber v from s;
   others_len = omega (arith, e);
 }
 
 headed : (bytes : List ℕ) (p : Piece) (pieces : List Piece) (from : List ℕ) → AreListed bytes (p ∷ pieces) from
     → Headed bytes p pieces from
 headed bytes p pieces from a =
-    let part = parted p from (values_in pieces) a.values a.small in
+    let part = parted p from (printed_value_count pieces) a.values a.small in
     let words : piece_words (p ∷ pieces) from 0 ≡ piece_word p (value_list part.value) 0 ∷ piece_words pieces part.others 0 =
     ap (λ f. piece_words (p ∷ pieces) f 0) part.from_is ∙ words_split p part.value pieces part.others part.values in
-    by pieces part (a.text ∙ ap listed words) (All-head PieceFits p pieces a.fit) (All-tail PieceFits p pieces a.fit)
+    by pieces part (a.text ∙ ap comma_separated words) (All-head PieceFits p pieces a.fit) (All-tail PieceFits p pieces a.fit)
   where
-    closed : (p : Piece) (rest : List ℕ) → get_or rest 0 44 ≡ 44 → IsClosed p rest
+    closed : (p : Piece) (rest : List ℕ) → get_or rest 0 44 ≡ 44 → IsDelimited p rest
     closed (piece.Text bytes) rest e = tt
     closed piece.Value rest e = e
 
     fronts : (value : Option ℕ) (rest : List ℕ) → bytes ≡ piece_word p (value_list value) 0 ++ rest
-        → length (value_list value) ≡ value_count p → IfSome value IsSmall → PieceFits p → get_or rest 0 44 ≡ 44
+        → length (value_list value) ≡ value_count p → IfSome value IsSmallNumber → PieceFits p → get_or rest 0 44 ≡ 44
         → Fronts bytes p value (length (piece_word p (value_list value) 0)) × (drop (length (piece_word p (value_list value) 0)) bytes ≡ rest)
     fronts value rest e v s f c =
         let w = piece_word p (value_list value) 0 in
@@ -141,13 +141,13 @@ headed bytes p pieces from a =
             fits = f;
             values = v;
             small = s;
-            closed = subst (IsClosed p) (sym dropped) (closed p rest c);
+            closed = subst (IsDelimited p) (sym dropped) (closed p rest c);
           },
           dropped,
         )
 
-    by : (pieces : List Piece) (part : Parted p from (values_in pieces))
-        → bytes ≡ listed (piece_word p (value_list part.value) 0 ∷ piece_words pieces part.others 0) → PieceFits p
+    by : (pieces : List Piece) (part : Parted p from (printed_value_count pieces))
+        → bytes ≡ comma_separated (piece_word p (value_list part.value) 0 ∷ piece_words pieces part.others 0) → PieceFits p
         → All PieceFits pieces → Headed bytes p pieces from
     by [] part e f g =
         let w = piece_word p (value_list part.value) 0 in
@@ -166,7 +166,7 @@ headed bytes p pieces from a =
         none (x ∷ xs) e = absurd (omega (arith, e))
     by (q ∷ pieces) part e f g =
         let w = piece_word p (value_list part.value) 0 in
-        let tail = listed (piece_words (q ∷ pieces) part.others 0) in
+        let tail = comma_separated (piece_words (q ∷ pieces) part.others 0) in
         let both = fronts part.value (44 ∷ tail) e part.values part.small f refl in
         record {
           value = part.value;

@@ -5,13 +5,13 @@ use Rattle.std.proofs.lemmas.List.{drop-drop}
 use Rattle.std.proofs.lemmas.Slice.Eq.{bytes_eq-Decides}
 use Rattle.rgo_typed.specs.declared.types.Layer.{Layer}
 use Rattle.rgo_typed.specs.declared.types.Layer.TheVariants as layer
-use Rattle.rgo_code_words.specs.Readers.{NamedType, named, read_base, read_layer, layer_len, with_layer, by_layer, type_after, read_type}
+use Rattle.rgo_code_words.specs.Readers.{NamedType, as_named_type, read_base, read_layer, layer_len, with_layer, by_layer, type_after, read_type}
 use Rattle.rgo_code_words.proofs.Options.{not_none, under, by_word}
 
 -- a type inside these layers
 abbrev pub with_layers : List Layer → Option NamedType → Option NamedType
 with_layers layers None = None
-with_layers layers (Some t) = Some (named (layers ++ t.ty.layers) t.ty.base t.name)
+with_layers layers (Some t) = Some (as_named_type (layers ++ t.ty.layers) t.ty.base t.name)
 
 -- what follows n bytes
 after_drop : (word : List ℕ) (n : ℕ) → type_after word n ≡ read_type (drop n word)
@@ -70,7 +70,7 @@ base_ends layers word rest at whole e so_far =
 one_layer : (layers : List Layer) (l : Layer) (o : Option NamedType)
     → with_layers layers (with_layer l o) ≡ with_layers (layers ++ l ∷ []) o
 one_layer layers l None = refl
-one_layer layers l (Some t) = ap (λ ls. Some (named ls t.ty.base t.name)) (sym (append_assoc layers (l ∷ []) t.ty.layers))
+one_layer layers l (Some t) = ap (λ ls. Some (as_named_type ls t.ty.base t.name)) (sym (append_assoc layers (l ∷ []) t.ty.layers))
 
 -- one more layer is read, where `rest` is what is left of the word
 pub layer_more : (layers more : List Layer) (word rest : List ℕ) (at n : ℕ) (l : Layer) → rest ≡ drop at word

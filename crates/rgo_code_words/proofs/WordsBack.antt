@@ -8,10 +8,10 @@ use Rattle.rgo_ast.specs.declared.ops.BinaryOp.{BinaryOp}
 use Rattle.rgo_ast.specs.declared.ops.BinaryOp.TheVariants as binary
 use Rattle.rgo_tac.specs.declared.regions.Class.{Class}
 use Rattle.rgo_tac.specs.declared.regions.Class.TheVariants as class
-use Rattle.rgo_code_words.specs.Readers.{read_number, read_lettered, read_variable, read_value, read_truth, read_class, read_operator, read_list, read_within, inside, if_ascending, is_ascending, read_regions, read_passes}
+use Rattle.rgo_code_words.specs.Readers.{read_number, read_lettered, read_variable, read_value, read_truth, read_class, read_operator, read_list, read_within, bytes_inside, if_ascending, is_ascending, read_regions, read_passes}
 use Rattle.rgo_code_printing.specs.Text.{value_word}
-use Rattle.rgo_code_printing.specs.Words.{variable_word, region_word, class_word, bool_word, operator_word, bracketed, listed, passes_word}
-use Rattle.rgo_code_words.specs.Worded.{IsSmall, AreSmall, AreRegions, ClassFits, OperatorFits, ValueFits}
+use Rattle.rgo_code_printing.specs.Words.{variable_word, region_word, class_word, bool_word, operator_word, bracketed, comma_separated, passes_word}
+use Rattle.rgo_code_words.specs.Worded.{IsSmallNumber, AreSmall, AreRegions, ClassFits, OperatorFits, ValueFits}
 use Rattle.rgo_code_words.proofs.Ascending.{ascending_is, ascending_back}
 use Rattle.rgo_code_words.proofs.Lacks.{From, AllFrom, from_nil, from_test, from_both, from_cons, from_less, joined_from, lacks_from, lettered_from}
 use Rattle.rgo_code_words.proofs.ListWords.{Reads, inside_back, inside_is, list_back, list_is}
@@ -20,12 +20,12 @@ use Rattle.rgo_code_words.proofs.Options.{some_same, not_none, under, mapped, by
 
 -- ---- numbers after a letter
 
-pub lettered_back : (letter k : ℕ) → IsSmall k → read_lettered letter (letter ∷ decimal k) ≡ Some k
+pub lettered_back : (letter k : ℕ) → IsSmallNumber k → read_lettered letter (letter ∷ decimal k) ≡ Some k
 lettered_back letter k s =
     ap (λ t. if t then read_number (decimal k) else None) ((Decides-eqb letter letter).1 refl) ∙ number_back k s
 
 pub lettered_is : (letter : ℕ) (word : List ℕ) (k : ℕ) → read_lettered letter word ≡ Some k
-    → (word ≡ letter ∷ decimal k) × IsSmall k
+    → (word ≡ letter ∷ decimal k) × IsSmallNumber k
 lettered_is letter [] k e = absurd (not_none k e)
 lettered_is letter (b ∷ word) k e =
     let u = under (b == letter) (read_number word) k e in
@@ -114,7 +114,7 @@ operator_is word op e =
 
 -- ---- lists
 
-lettered_reads : (letter : ℕ) → 45 ≤ letter → Reads 44 (read_lettered letter) (λ k. letter ∷ decimal k) IsSmall
+lettered_reads : (letter : ℕ) → 45 ≤ letter → Reads 44 (read_lettered letter) (λ k. letter ∷ decimal k) IsSmallNumber
 lettered_reads letter l = record {
   back = lettered_back letter;
   is = lettered_is letter;
@@ -137,20 +137,20 @@ long_class class.Global = omega arith
 long_class (class.Name k) = omega arith
 
 pub numbers_back : (letter : ℕ) (ks : List ℕ) → 45 ≤ letter → AreSmall ks
-    → read_list (read_lettered letter) (listed (map (λ k. letter ∷ decimal k) ks)) ≡ Some ks
+    → read_list (read_lettered letter) (comma_separated (map (λ k. letter ∷ decimal k) ks)) ≡ Some ks
 numbers_back letter ks l s =
-    list_back (read_lettered letter) (λ k. letter ∷ decimal k) IsSmall (lettered_reads letter l) (long_word letter) ks s
+    list_back (read_lettered letter) (λ k. letter ∷ decimal k) IsSmallNumber (lettered_reads letter l) (long_word letter) ks s
 
 pub numbers_is : (letter : ℕ) (list ks : List ℕ) → 45 ≤ letter → read_list (read_lettered letter) list ≡ Some ks
-    → (list ≡ listed (map (λ k. letter ∷ decimal k) ks)) × AreSmall ks
+    → (list ≡ comma_separated (map (λ k. letter ∷ decimal k) ks)) × AreSmall ks
 numbers_is letter list ks l e =
-    list_is (read_lettered letter) (λ k. letter ∷ decimal k) IsSmall (lettered_reads letter l) (long_word letter) list ks e
+    list_is (read_lettered letter) (λ k. letter ∷ decimal k) IsSmallNumber (lettered_reads letter l) (long_word letter) list ks e
 
 -- names of regions in brackets
 pub regions_back : (sign : ℕ) (names : List ℕ) → AreRegions names
     → read_regions sign (sign ∷ bracketed (map region_word names)) ≡ Some names
 regions_back sign names r =
-    ap (λ o. if_ascending (read_within (read_lettered 114) o)) (inside_back (sign ∷ 91 ∷ []) (listed (map region_word names)) 93)
+    ap (λ o. if_ascending (read_within (read_lettered 114) o)) (inside_back (sign ∷ 91 ∷ []) (comma_separated (map region_word names)) 93)
     ∙ ap if_ascending (numbers_back 114 names (omega arith) r.1)
     ∙ ap (λ t. if t then Some names else None) (ascending_back names r.0)
 
@@ -175,7 +175,7 @@ pub regions_is : (sign : ℕ) (word names : List ℕ) → read_regions sign word
     → (word ≡ sign ∷ bracketed (map region_word names)) × AreRegions names
 regions_is sign word names e =
     let a = ascending_was _ names e in
-    let w = within_is (read_lettered 114) (inside (sign ∷ 91 ∷ []) 93 word) names a.0 in
+    let w = within_is (read_lettered 114) (bytes_inside (sign ∷ 91 ∷ []) 93 word) names a.0 in
     let n = numbers_is 114 w.list names (omega arith) w.is in (
       inside_is (sign ∷ 91 ∷ []) word w.list 93 w.was ∙ ap (λ l. sign ∷ 91 ∷ (l ++ 93 ∷ [])) n.0,
       (ascending_is names a.1, n.1),
@@ -183,13 +183,13 @@ regions_is sign word names e =
 
 pub passes_back : (classes : List Class) → All ClassFits classes → read_passes (passes_word classes) ≡ Some classes
 passes_back classes f =
-    ap (read_within read_class) (inside_back (codes "R[") (listed (map class_word classes)) 93)
+    ap (read_within read_class) (inside_back (codes "R[") (comma_separated (map class_word classes)) 93)
     ∙ list_back read_class class_word ClassFits class_reads long_class classes f
 
 pub passes_is : (word : List ℕ) (classes : List Class) → read_passes word ≡ Some classes
     → (word ≡ passes_word classes) × All ClassFits classes
 passes_is word classes e =
-    let w = within_is read_class (inside (codes "R[") 93 word) classes e in
+    let w = within_is read_class (bytes_inside (codes "R[") 93 word) classes e in
     let n = list_is read_class class_word ClassFits class_reads long_class w.list classes w.is in
     (inside_is (codes "R[") word w.list 93 w.was ∙ ap (λ l. 82 ∷ 91 ∷ (l ++ 93 ∷ [])) n.0, n.1)
 
@@ -203,7 +203,7 @@ each_from m word Fits f (x ∷ xs) a =
     (each_from m word Fits f xs (All-tail Fits x xs a))
 
 listed_from : {A : Type 0} (word : A → List ℕ) (Fits : A → Type 0) → ((a : A) → Fits a → From 33 (word a))
-    → (xs : List A) → All Fits xs → From 33 (listed (map word xs))
+    → (xs : List A) → All Fits xs → From 33 (comma_separated (map word xs))
 listed_from word Fits f xs a = joined_from 33 44 (map word xs) (omega arith) (each_from 33 word Fits f xs a)
 
 closed_from : (bytes : List ℕ) (last : ℕ) → 33 ≤ last → From 33 bytes → From 33 (bytes ++ last ∷ [])
@@ -211,23 +211,23 @@ closed_from bytes last l f = from_both 33 bytes (last ∷ []) f (from_cons 33 la
 
 pub regions_from : (sign : ℕ) (names : List ℕ) → 33 ≤ sign → AreRegions names → From 33 (sign ∷ bracketed (map region_word names))
 regions_from sign names l r =
-    let list = listed (map region_word names) in
+    let list = comma_separated (map region_word names) in
     from_cons 33 sign (bracketed (map region_word names)) l (from_cons 33 91 (list ++ 93 ∷ []) (omega arith)
     (closed_from list 93 (omega arith)
-    (listed_from region_word IsSmall (λ k s. lettered_from 33 114 k (omega arith) (omega arith) s) names r.1)))
+    (listed_from region_word IsSmallNumber (λ k s. lettered_from 33 114 k (omega arith) (omega arith) s) names r.1)))
 
 pub passes_from : (classes : List Class) → All ClassFits classes → From 33 (passes_word classes)
 passes_from classes f =
-    let list = listed (map class_word classes) in
+    let list = comma_separated (map class_word classes) in
     from_cons 33 82 (91 ∷ (list ++ 93 ∷ [])) (omega arith) (from_cons 33 91 (list ++ 93 ∷ []) (omega arith)
     (closed_from list 93 (omega arith)
     (listed_from class_word ClassFits (λ c g. from_less 33 45 (class_word c) (omega arith) (class_from c g)) classes f)))
 
-pub arguments_from : (from : List ℕ) → AreSmall from → From 33 (40 ∷ (listed (map variable_word from) ++ 41 ∷ []))
+pub arguments_from : (from : List ℕ) → AreSmall from → From 33 (40 ∷ (comma_separated (map variable_word from) ++ 41 ∷ []))
 arguments_from from s =
-    let list = listed (map variable_word from) in
+    let list = comma_separated (map variable_word from) in
     from_cons 33 40 (list ++ 41 ∷ []) (omega arith) (closed_from list 41 (omega arith)
-    (listed_from variable_word IsSmall (λ k s. lettered_from 33 118 k (omega arith) (omega arith) s) from s))
+    (listed_from variable_word IsSmallNumber (λ k s. lettered_from 33 118 k (omega arith) (omega arith) s) from s))
 
 pub bool_from : (b : Bool) → From 33 (bool_word b)
 bool_from true = from_test 33 (codes "true") refl

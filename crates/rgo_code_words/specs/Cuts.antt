@@ -7,11 +7,11 @@ abbrev pub is_space : ℕ → Bool
 is_space b = b == 32
 
 -- A line, cut at its first n spaces. The last word is what is left of the line.
-abbrev pub cut : ℕ → List ℕ → List (List ℕ)
-cut zero line = line ∷ []
-cut (suc n) line =
+abbrev pub cut_line : ℕ → List ℕ → List (List ℕ)
+cut_line zero line = line ∷ []
+cut_line (suc n) line =
     if nat_lt (position_or_len is_space line) (length line)
-    then before_first is_space line ∷ cut n (after_first is_space line)
+    then before_first is_space line ∷ cut_line n (after_first is_space line)
     else line ∷ []
 
 -- words as the code has them
@@ -19,5 +19,5 @@ abbrev pub nows : List (Bor (List ℕ)) → List (List ℕ)
 nows words = map (λ word. word.now) words
 
 -- the word of number n; words that do not exist are empty
-abbrev pub word_at : List (List ℕ) → ℕ → List ℕ
-word_at words n = get_or words n []
+abbrev pub nth_word : List (List ℕ) → ℕ → List ℕ
+nth_word words n = get_or words n []

@@ -5,8 +5,8 @@ use Rattle.std.specs.Option.{option_map}
 use Rattle.rgo_typed.specs.declared.statements.Piece.{Piece}
 use Rattle.rgo_typed.specs.declared.statements.Piece.TheVariants as piece
 use Rattle.rgo_code_words.specs.Readers.{on_some}
-use Rattle.rgo_code_printing.specs.Words.{byte_word, piece_word, piece_words, listed, value_count}
-use Rattle.rgo_code_words.specs.Worded.{AreSmall, IsSmall, PieceFits, values_in}
+use Rattle.rgo_code_printing.specs.Words.{byte_word, piece_word, piece_words, comma_separated, value_count}
+use Rattle.rgo_code_words.specs.Worded.{AreSmall, IsSmallNumber, PieceFits, printed_value_count}
 
 -- ---- bytes of strings
 
@@ -31,8 +31,8 @@ numbered high low =
     on_some (hex_value high) (λ h. on_some (hex_value low) (λ l. if_numbered (h * 16 + l)))
 
 -- an escaped byte, by what follows the backslash, and how many bytes it takes
-abbrev pub escaped : (kind high low : ℕ) → Option (ℕ × ℕ)
-escaped kind high low =
+abbrev pub escaped_byte : (kind high low : ℕ) → Option (ℕ × ℕ)
+escaped_byte kind high low =
     if kind == 34 || kind == 92 then Some (kind, 2)
     else (if kind == 110 then Some (10, 2)
     else (if kind == 120 then option_map (λ b. (b, 4)) (numbered high low)
@@ -42,14 +42,14 @@ escaped kind high low =
 abbrev pub string_byte : List ℕ → Option (ℕ × ℕ)
 string_byte bytes =
     if is_plain (get_or bytes 0 0) then Some (get_or bytes 0 0, 1)
-    else (if get_or bytes 0 0 == 92 then escaped (get_or bytes 1 0) (get_or bytes 2 0) (get_or bytes 3 0)
+    else (if get_or bytes 0 0 == 92 then escaped_byte (get_or bytes 1 0) (get_or bytes 2 0) (get_or bytes 3 0)
     else None)
 
 abbrev pub AreBytes : List ℕ → Type 0
 AreBytes bytes = PieceFits (piece.Text bytes)
 
 -- the inside of a string, and how many bytes it takes: no further byte of a string follows
-pub record IsInside (bytes inside : List ℕ) (len : ℕ) : Type 0 where
+pub record IsStringInside (bytes inside : List ℕ) (len : ℕ) : Type 0 where
   pub cut : bytes ≡ flat_map byte_word inside ++ drop len bytes
   pub within : len ≤ length bytes
   pub fits : AreBytes inside
@@ -63,9 +63,9 @@ value_list None = []
 value_list (Some v) = v ∷ []
 
 -- after a variable a comma follows, or nothing
-abbrev pub IsClosed : Piece → List ℕ → Type 0
-IsClosed (piece.Text bytes) rest = ⊤
-IsClosed piece.Value rest = get_or rest 0 44 ≡ 44
+abbrev pub IsDelimited : Piece → List ℕ → Type 0
+IsDelimited (piece.Text bytes) rest = ⊤
+IsDelimited piece.Value rest = get_or rest 0 44 ≡ 44
 
 -- these bytes begin with a piece and the variable that it prints, which take n of them
 pub record Fronts (bytes : List ℕ) (p : Piece) (value : Option ℕ) (n : ℕ) : Type 0 where
@@ -73,8 +73,8 @@ pub record Fronts (bytes : List ℕ) (p : Piece) (value : Option ℕ) (n : ℕ) 
   pub within : n ≤ length bytes
   pub fits : PieceFits p
   pub values : length (value_list value) ≡ value_count p
-  pub small : IfSome value IsSmall
-  pub closed : IsClosed p (drop n bytes)
+  pub small : IfSome value IsSmallNumber
+  pub closed : IsDelimited p (drop n bytes)
 
 -- nothing fits at the front
 abbrev pub NoneFronts : List ℕ → Type 0
@@ -82,10 +82,10 @@ NoneFronts bytes = (p : Piece) (value : Option ℕ) (n : ℕ) → ¬ (Fronts byt
 
 -- pieces with commas between them, at least one
 pub record AreListed (bytes : List ℕ) (pieces : List Piece) (from : List ℕ) : Type 0 where
-  pub text : bytes ≡ listed (piece_words pieces from 0)
+  pub text : bytes ≡ comma_separated (piece_words pieces from 0)
   pub some : pieces ≢ []
   pub fit : All PieceFits pieces
-  pub values : length from ≡ values_in pieces
+  pub values : length from ≡ printed_value_count pieces
   pub small : AreSmall from
 
 -- pieces that are printed as these bytes, or the fact that there are none

@@ -22,9 +22,9 @@ on_some None f = None
 on_some (Some a) f = f a
 
 -- what was read of these bytes: a value that fits and has them as its text; nothing, if nothing has
-abbrev pub IsRead : {A : Type 0} → (Fits : A → Type 0) → (text : A → List ℕ) → List ℕ → Option A → Type 0
-IsRead {A} Fits text bytes (Some a) = (bytes ≡ text a) × Fits a
-IsRead {A} Fits text bytes None = (a : A) → Fits a → bytes ≢ text a
+abbrev pub IsReadFromBytes : {A : Type 0} → (Fits : A → Type 0) → (text : A → List ℕ) → List ℕ → Option A → Type 0
+IsReadFromBytes {A} Fits text bytes (Some a) = (bytes ≡ text a) × Fits a
+IsReadFromBytes {A} Fits text bytes None = (a : A) → Fits a → bytes ≢ text a
 
 -- ---- numbers
 
@@ -35,15 +35,15 @@ if_printed fits print word a = if fits a && bytes_eq (print a) word then Some a 
 abbrev pub is_small : ℕ → Bool
 is_small k = nat_lt k (2 ^ 32)
 
-abbrev pub is_int : ℤ → Bool
-is_int (pos n) = nat_lt n (2 ^ 63)
-is_int (negsuc n) = nat_lt n (2 ^ 63)
+abbrev pub is_int64 : ℤ → Bool
+is_int64 (pos n) = nat_lt n (2 ^ 63)
+is_int64 (negsuc n) = nat_lt n (2 ^ 63)
 
 unfoldable pub read_number : List ℕ → Option ℕ
 read_number word = if_printed is_small decimal word (digits_value 10 word)
 
 unfoldable pub read_int : List ℕ → Option ℤ
-read_int word = if_printed is_int signed_decimal word (signed_digits_value 10 word)
+read_int word = if_printed is_int64 signed_decimal word (signed_digits_value 10 word)
 
 -- a number after a letter
 abbrev pub read_lettered : ℕ → List ℕ → Option ℕ
@@ -83,15 +83,15 @@ read_operator word =
 
 -- ---- lists
 
-abbrev pub with_first : {A : Type 0} → Option A → Option (List A) → Option (List A)
-with_first None others = None
-with_first (Some a) None = None
-with_first (Some a) (Some others) = Some (a ∷ others)
+abbrev pub option_cons : {A : Type 0} → Option A → Option (List A) → Option (List A)
+option_cons None others = None
+option_cons (Some a) None = None
+option_cons (Some a) (Some others) = Some (a ∷ others)
 
 -- all of them, if each is read
 abbrev pub read_each : {A : Type 0} → (List ℕ → Option A) → List (List ℕ) → Option (List A)
 read_each read [] = Some []
-read_each read (word ∷ words) = with_first (read word) (read_each read words)
+read_each read (word ∷ words) = option_cons (read word) (read_each read words)
 
 -- words with commas between them, at least one
 abbrev pub read_some : {A : Type 0} → (List ℕ → Option A) → List ℕ → Option (List A)
@@ -103,13 +103,13 @@ read_list read [] = Some []
 read_list read (b ∷ list) = read_some read (b ∷ list)
 
 -- bytes as the code has them
-abbrev pub seen : Option (Bor (List ℕ)) → Option (List ℕ)
-seen None = None
-seen (Some bytes) = Some bytes.now
+abbrev pub bytes_now : Option (Bor (List ℕ)) → Option (List ℕ)
+bytes_now None = None
+bytes_now (Some bytes) = Some bytes.now
 
 -- what is between a front and a last byte
-abbrev pub inside : List ℕ → ℕ → List ℕ → Option (List ℕ)
-inside front last word =
+abbrev pub bytes_inside : List ℕ → ℕ → List ℕ → Option (List ℕ)
+bytes_inside front last word =
     if nat_lt (length front) (length word) && bytes_eq (take (length front) word) front
     && get_or word (length word - 1) 0 == last
     then Some (take (length word - 1 - length front) (drop (length front) word))
@@ -119,13 +119,13 @@ abbrev pub read_within : {A : Type 0} → (List ℕ → Option A) → Option (Li
 read_within read None = None
 read_within read (Some list) = read_list read list
 
-abbrev pub is_above : ℕ → List ℕ → Bool
-is_above k [] = true
-is_above k (j ∷ names) = nat_lt k j
+abbrev pub is_below_first : ℕ → List ℕ → Bool
+is_below_first k [] = true
+is_below_first k (j ∷ names) = nat_lt k j
 
 abbrev pub is_ascending : List ℕ → Bool
 is_ascending [] = true
-is_ascending (k ∷ names) = is_above k names && is_ascending names
+is_ascending (k ∷ names) = is_below_first k names && is_ascending names
 
 abbrev pub if_ascending : Option (List ℕ) → Option (List ℕ)
 if_ascending None = None
@@ -133,10 +133,10 @@ if_ascending (Some names) = if is_ascending names then Some names else None
 
 -- names of regions in brackets, after a byte that says what is done to them
 abbrev pub read_regions : ℕ → List ℕ → Option (List ℕ)
-read_regions sign word = if_ascending (read_within (read_lettered 114) (inside (sign ∷ 91 ∷ []) 93 word))
+read_regions sign word = if_ascending (read_within (read_lettered 114) (bytes_inside (sign ∷ 91 ∷ []) 93 word))
 
 abbrev pub read_passes : List ℕ → Option (List Class)
-read_passes word = read_within read_class (inside (codes "R[") 93 word)
+read_passes word = read_within read_class (bytes_inside (codes "R[") 93 word)
 
 -- ---- types
 
@@ -145,19 +145,19 @@ pub record NamedType : Type 0 where
   pub ty : «Type»
   pub name : List ℕ
 
-abbrev pub named : List Layer → Base → List ℕ → NamedType
-named layers b name = record { ty = record { layers = layers; base = b }; name = name }
+abbrev pub as_named_type : List Layer → Base → List ℕ → NamedType
+as_named_type layers b name = record { ty = record { layers = layers; base = b }; name = name }
 
 abbrev pub read_base : List ℕ → Option NamedType
 read_base word =
-    if bytes_eq word (codes "int") then Some (named [] base.Int [])
-    else (if bytes_eq word (codes "bool") then Some (named [] base.Bool [])
+    if bytes_eq word (codes "int") then Some (as_named_type [] base.Int [])
+    else (if bytes_eq word (codes "bool") then Some (as_named_type [] base.Bool [])
     else (if bytes_eq (take 1 word) (codes "*") && is_name (drop 1 word)
-    then Some (named [] (base.Pointer 0) (drop 1 word)) else None))
+    then Some (as_named_type [] (base.Pointer 0) (drop 1 word)) else None))
 
 abbrev pub with_layer : Layer → Option NamedType → Option NamedType
 with_layer l None = None
-with_layer l (Some t) = Some (named (l ∷ t.ty.layers) t.ty.base t.name)
+with_layer l (Some t) = Some (as_named_type (l ∷ t.ty.layers) t.ty.base t.name)
 
 -- the layer that a type begins with
 abbrev pub read_layer : List ℕ → Option Layer

@@ -10,8 +10,8 @@ use Rattle.rgo_code_words.specs.Readers.{NamedType}
 abbrev pub named_type_of : CodeType → NamedType
 named_type_of t = record { ty = t.ty; name = t.name.now }
 
-abbrev pub types_of : Vec CodeType Memory → List NamedType
-types_of ts = map named_type_of ts.items
+abbrev pub named_types_of : Vec CodeType Memory → List NamedType
+named_types_of ts = map named_type_of ts.items
 
 abbrev pub pieces_of : Pieces → List Piece × List ℕ
 pieces_of p = (p.pieces.items, p.from.items)

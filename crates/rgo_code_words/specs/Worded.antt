@@ -46,18 +46,18 @@ AreNames names = All (λ name. is_name name ≡ true) names
 
 -- ---- numbers
 
-abbrev pub IsSmall : ℕ → Type 0
-IsSmall k = k < 2 ^ 32
+abbrev pub IsSmallNumber : ℕ → Type 0
+IsSmallNumber k = k < 2 ^ 32
 
 abbrev pub AreSmall : List ℕ → Type 0
-AreSmall ks = All IsSmall ks
+AreSmall ks = All IsSmallNumber ks
 
 -- a list of names of regions
 abbrev pub AreRegions : List ℕ → Type 0
 AreRegions names = IsStrictlyIncreasing names × AreSmall names
 
 abbrev pub ClassFits : Class → Type 0
-ClassFits (class.Name k) = IsSmall k
+ClassFits (class.Name k) = IsSmallNumber k
 ClassFits class.NoClass = ⊤
 ClassFits class.Global = ⊤
 
@@ -74,9 +74,9 @@ IntFits (pos n) = n < 2 ^ 63
 IntFits (negsuc n) = n < 2 ^ 63
 
 -- how many variables are printed
-abbrev pub values_in : List Piece → ℕ
-values_in [] = 0
-values_in (p ∷ pieces) = value_count p + values_in pieces
+abbrev pub printed_value_count : List Piece → ℕ
+printed_value_count [] = 0
+printed_value_count (p ∷ pieces) = value_count p + printed_value_count pieces
 
 -- a string consists of bytes
 abbrev pub PieceFits : Piece → Type 0
@@ -84,4 +84,4 @@ PieceFits (piece.Text bytes) = All (λ b. b < 2 ^ 8) bytes
 PieceFits piece.Value = ⊤
 
 abbrev pub ValueFits : Option ℕ → Type 0
-ValueFits value = IfSome value IsSmall
+ValueFits value = IfSome value IsSmallNumber

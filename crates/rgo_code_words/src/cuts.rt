@@ -17,7 +17,7 @@ pub fn len_to(bytes: &[u8], byte: u8) -> usize
 
 /// A line, cut at its first `n` spaces. The last word is what is left of the line.
 pub fn cut(alloc: Global, line: &[u8], n: usize) -> Result<Vec<&[u8]>, AllocError>
-    ensures { IfOk result (λ words. nows words.items ≡ spec.cut n line.now) }
+    ensures { IfOk result (λ words. nows words.items ≡ spec.cut_line n line.now) }
 {
     let mut words = Vec::new(alloc);
     let mut at = 0;
@@ -41,7 +41,7 @@ pub fn cut(alloc: Global, line: &[u8], n: usize) -> Result<Vec<&[u8]>, AllocErro
 
 /// The word of this number; empty if there is none.
 pub fn word_at<'t>(words: &[&'t [u8]], n: usize) -> &'t [u8]
-    ensures { result.now ≡ spec.word_at (nows words.now) n }
+    ensures { result.now ≡ spec.nth_word (nows words.now) n }
 {
     match words.get(n) {
         Some(word) => *word,

@@ -12,7 +12,7 @@ use std::alloc::{AllocError, Global};
 
 /// What is between a front and a last byte.
 pub fn inside<'t>(word: &'t [u8], front: &[u8], last: u8) -> Option<&'t [u8]>
-    ensures { spec.seen result ≡ spec.inside front.now last word.now }
+    ensures { spec.bytes_now result ≡ spec.bytes_inside front.now last word.now }
 {
     if word.len() <= front.len() || !word.starts_with(front) || word[word.len() - 1] != last {
         return None;

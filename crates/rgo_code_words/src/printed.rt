@@ -3,7 +3,7 @@
 ghost use Rattle.std.specs.Prelude.{◌≡◌, ◌≢◌, ◌<◌, ◌++◌, ◌∷◌, [], get_or, OnOk, IfOk, IfSome, MatchOption};
 ghost use Rattle.std.specs.Option.{option_map};
 ghost use Rattle.rgo_code_words.specs.Pieces as spec;
-ghost use Rattle.rgo_code_words.specs.Pieces.{IsInside, Fronts, NoneFronts, ArePieces, value_list};
+ghost use Rattle.rgo_code_words.specs.Pieces.{IsStringInside, Fronts, NoneFronts, ArePieces, value_list};
 ghost use Rattle.rgo_code_words.specs.Views.{pieces_of};
 
 use crate::cuts::len_to;
@@ -60,7 +60,7 @@ fn byte_at(bytes: &[u8], n: usize) -> u8
 
 /// An escaped byte by what follows the backslash, and how many bytes it takes with that.
 fn escaped(kind: u8, high: u8, low: u8) -> Option<(u8, usize)>
-    ensures { result ≡ spec.escaped kind high low }
+    ensures { result ≡ spec.escaped_byte kind high low }
 {
     if kind == b'"' || kind == b'\\' {
         Some((kind, 2))
@@ -92,7 +92,7 @@ fn string_byte(bytes: &[u8]) -> Option<(u8, usize)>
 
 /// The inside of a string, and how many bytes it takes.
 fn string_inside(alloc: Global, bytes: &[u8]) -> Result<(Name, usize), AllocError>
-    ensures { IfOk result (λ r. IsInside bytes.now r.0 r.1) }
+    ensures { IfOk result (λ r. IsStringInside bytes.now r.0 r.1) }
 {
     let mut inside = Vec::new(alloc);
     let mut at = 0;

@@ -2,7 +2,7 @@
 
 ghost use Rattle.std.specs.Prelude.{◌≡◌, [], IfOk};
 ghost use Rattle.std.specs.Option.{option_map};
-ghost use Rattle.rgo_code_words.specs.Readers.{layer_len, read_layer, read_base, read_type, named};
+ghost use Rattle.rgo_code_words.specs.Readers.{layer_len, read_layer, read_base, read_type, as_named_type};
 ghost use Rattle.rgo_code_words.specs.Views.{named_type_of};
 
 use crate::words::{is, is_name};
@@ -41,7 +41,7 @@ fn width(layer: Layer) -> usize
 
 /// A base, and the name of its struct.
 fn base(word: &[u8]) -> Option<(Base, &[u8])>
-    ensures { option_map (λ b. named [] b.0 b.1.now) result ≡ read_base word.now }
+    ensures { option_map (λ b. as_named_type [] b.0 b.1.now) result ≡ read_base word.now }
 {
     if is(word, "int") {
         return Some((Base::Int, &[]));

@@ -12,7 +12,7 @@ use Rattle.std.proofs.lemmas.Slice.Eq.{bytes_eq-Decides}
 use Rattle.clap.specs.Words.{Text}
 use Rattle.rgo_command_line.specs.Commands.{command_of}
 use Rattle.rgo_command_line.specs.Laws.{ArePlain, AreWordsOf, AskExactly, AskToRun, SetsOption, IsEnd, SetFlag, SetOptions}
-use Rattle.rgo_command_line.specs.Laws.{HoldNumber, joined}
+use Rattle.rgo_command_line.specs.Laws.{HoldNumber, joined_groups}
 use Rattle.rgo_command_line.specs.Limits.{PagesFit, big_by, goroutine_bounds, limit_by, most_words, page_bounds, page_word_bounds}
 use Rattle.rgo_command_line.specs.Limits.{region_bounds, step_bounds, worker_bounds}
 use Rattle.rgo_command_line.specs.Numbers.{is_numeral, within}
@@ -169,7 +169,7 @@ asks_so rest met asked = by_met (met_options rest)
         → Sets v options
         → SetAndEnd rest options (is_some (v (number workers)))
     of_options v options are sets = (
-      joined (map are.words are.order),
+      joined_groups (map are.words are.order),
       are.ending,
       record {
         steps = are.words (number steps);
@@ -279,7 +279,7 @@ asks_set : (options : RunOptions) (set ending : List Text)
     → IsEnd ending
     → from (between [] None) (set ++ ending) ≡ Some (options, is_some sets.set_workers.0)
 asks_set options set ending sets ends =
-    ap (λ w. from (between [] None) (w ++ ending)) (sets.whole ∙ ap joined places.2)
+    ap (λ w. from (between [] None) (w ++ ending)) (sets.whole ∙ ap joined_groups places.2)
     ∙ asks values words ending gives numerals ends places.0 places.1
     ∙ (rw (
       sets.set_steps.1,

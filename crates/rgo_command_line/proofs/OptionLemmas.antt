@@ -12,7 +12,7 @@ use Rattle.std.proofs.lemmas.List.Sorted.{IsPermutation-trans, list_any-IsPermut
 use Rattle.std.proofs.lemmas.Map.Keys.{IsDistinct-IsPermutation, IsDistinct-tail}
 use Rattle.clap.specs.Words.{Row, Text}
 use Rattle.clap.specs.Walk.{has_row}
-use Rattle.rgo_command_line.specs.Laws.{SetsOption, IsEnd, joined}
+use Rattle.rgo_command_line.specs.Laws.{SetsOption, IsEnd, joined_groups}
 use Rattle.rgo_command_line.specs.Numbers.{is_numeral}
 use Rattle.rgo_command_line.proofs.OrderLemmas.{is_name, names, names_distinct, no_words, not_again, other_words}
 use Rattle.rgo_command_line.proofs.OrderLemmas.{same, same_flips, same_is, same_self, split, still_among}
@@ -99,7 +99,7 @@ record Following (rows : List Row) (values : Values) (remaining : List Name) (re
   gives : (name : Name) → Gives name (more name) (words name)
   ending : List Text
   ends : IsEnd ending
-  whole : rest ≡ joined (map words order) ++ ending
+  whole : rest ≡ joined_groups (map words order) ++ ending
   asks : from (between rows None) rest ≡ run_by (λ name. option_or (values name) (more name))
 
 run_by_same : (u v : Values) → ((name : Name) → u name ≡ v name) → run_by u ≡ run_by v
@@ -153,8 +153,8 @@ follow_one rows values before after_it rest name value words more distinct give 
   ends = b.ends;
   whole =
       is ∙ ap₂ (λ (u v : List Text). u ++ v) (sym own) b.whole
-      ∙ ap (λ w. all_words name ++ (joined w ++ b.ending)) (sym others)
-      ∙ sym (append_assoc (all_words name) (joined (map all_words b.order)) b.ending);
+      ∙ ap (λ w. all_words name ++ (joined_groups w ++ b.ending)) (sym others)
+      ∙ sym (append_assoc (all_words name) (joined_groups (map all_words b.order)) b.ending);
   asks =
       e ∙ b.asks
       ∙ run_by_same (λ q. option_or (with_value name value values q) (b.more q))
@@ -308,7 +308,7 @@ pub record AreOptions (values : Values) (rest : List Text) : Type 0 where
   pub gives : (name : Name) → Gives name (values name) (words name)
   pub ending : List Text
   pub ends : IsEnd ending
-  pub whole : rest ≡ joined (map words order) ++ ending
+  pub whole : rest ≡ joined_groups (map words order) ++ ending
 
 -- words after `run` that ask for something are options, and ask for what these set
 abbrev pub MetOptions : List Text → Type 0
@@ -388,12 +388,12 @@ module _ (values : Values) (words : Name → List Text) (ending : List Text)
   abbrev AskIn : List Name → Type 0
   AskIn order = (rows : List Row)
       → Shows rows (values_but order)
-      → from (between rows None) (joined (map words order) ++ ending) ≡ run_by values
+      → from (between rows None) (joined_groups (map words order) ++ ending) ≡ run_by values
 
   -- an option that has no value
   ask_none : (name : Name) (order : List Name) → values name ≡ None → AskIn order → AskIn (name ∷ order)
   ask_none name order none again rows shows =
-      ap (λ w. from (between rows None) ((w ++ joined (map words order)) ++ ending))
+      ap (λ w. from (between rows None) ((w ++ joined_groups (map words order)) ++ ending))
       (gives_none name (words name) (subst (λ o. Gives name o (words name)) none (gives name)))
       ∙ again rows (λ q. shows q ∙ ap (option_map Some) (by_same q (same q name) refl))
     where
@@ -414,7 +414,7 @@ module _ (values : Values) (words : Name → List Text) (ending : List Text)
       → AskIn order
       → AskIn (name ∷ order)
   ask_value name value order is not_in again rows shows =
-      ap (from (between rows None)) (append_assoc (words name) (joined (map words order)) ending)
+      ap (from (between rows None)) (append_assoc (words name) (joined_groups (map words order)) ending)
       ∙ gives_value rows name value (words name) others give
       (subst (IsNumeral name) is (numerals name))
       ∙ ap (λ (b : Bool). cond b None (from (between (given name value rows) None) others)) no_row
@@ -429,7 +429,7 @@ module _ (values : Values) (words : Name → List Text) (ending : List Text)
       allowed = is_value name value (words name) give
 
       others : List Text
-      others = joined (map words order) ++ ending
+      others = joined_groups (map words order) ++ ending
 
       no_row : has_row (text_of name) rows ≡ false
       no_row =
@@ -462,7 +462,7 @@ module _ (values : Values) (words : Name → List Text) (ending : List Text)
 
   pub asks : (order : List Name)
       → IsPermutation names order
-      → from (between [] None) (joined (map words order) ++ ending) ≡ run_by values
+      → from (between [] None) (joined_groups (map words order) ++ ending) ≡ run_by values
   asks order permuted =
       ask_in order (IsDistinct-IsPermutation same same_flips names order permuted names_distinct) []
       (λ q. ap (λ (b : Bool). option_map Some (cond b None (values q))) (sym (in_order q)))

@@ -11,7 +11,7 @@ use Rattle.std.proofs.lemmas.List.Sorted.{IsPermutation-trans}
 use Rattle.std.proofs.lemmas.Map.Keys.{IsDistinct-head}
 use Rattle.std.proofs.lemmas.Slice.Eq.{bytes_eq-Decides}
 use Rattle.clap.specs.Words.{Text}
-use Rattle.rgo_command_line.specs.Laws.{joined}
+use Rattle.rgo_command_line.specs.Laws.{joined_groups}
 use Rattle.rgo_command_line.proofs.WordLemmas.{Name, goroutines, number, page_words, pages, regions, stats, steps}
 use Rattle.rgo_command_line.proofs.WordLemmas.{text_of, workers}
 
@@ -143,7 +143,7 @@ other_words name mine words (x ∷ xs) e = by_first (same name x) e (other_words
     by_first true f h = absurd (true≢false f)
     by_first false f h = ap (λ l. words x ∷ l) (h f)
 
-pub no_words : (rest : List Name) → joined (map (λ n. []) rest) ≡ []
+pub no_words : (rest : List Name) → joined_groups (map (λ n. []) rest) ≡ []
 no_words [] = refl
 no_words (x ∷ xs) = no_words xs
 

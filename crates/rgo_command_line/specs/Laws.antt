@@ -29,9 +29,9 @@ SetFlag name false words = words ≡ []
 SetFlag name true words = words ≡ (codes "--" ++ name) ∷ []
 
 -- the words of all groups, one group after the other
-abbrev pub joined : List (List Text) → List Text
-joined [] = []
-joined (group ∷ rest) = group ++ joined rest
+abbrev pub joined_groups : List (List Text) → List Text
+joined_groups [] = []
+joined_groups (group ∷ rest) = group ++ joined_groups rest
 
 -- Words that set these options, each option at most once and in any order: each of the seven options
 -- has a group of words, which is empty if the option does not occur, and the words are a permutation of
@@ -54,7 +54,7 @@ pub record SetOptions (options : RunOptions) (words : List Text) : Type 0 where
   pub fits : PagesFit options.sizes
   pub order : List (List Text)
   pub permuted : IsPermutation (steps ∷ goroutines ∷ pages ∷ page_words ∷ regions ∷ workers ∷ stats ∷ []) order
-  pub whole : words ≡ joined order
+  pub whole : words ≡ joined_groups order
 
 -- nothing, or a `--`
 abbrev pub IsEnd : List Text → Type 0

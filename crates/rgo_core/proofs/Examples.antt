@@ -6,13 +6,13 @@ use Rattle.std.proofs.lemmas.Option.{same_Some}
 use Rattle.rgo_sound.specs.Code.Code.{Code}
 use Rattle.rgo_sound.specs.RegionMachine.States.{Ended, Holder, Mark, RegionState}
 use Rattle.rgo_sound.specs.Machine.declared.picks.End.TheVariants.{Exit}
-use Rattle.rgo_core.specs.Clock.{Clock, has_ticket}
-use Rattle.rgo_core.specs.Examples.{CauseExamples, ClockExamples, CoreExamples, NumberExamples, RoomExamples, both_have_set, ended_then_printed, having_printed, late_mark, parent_and_child, second_then_first}
-use Rattle.rgo_core.specs.Numbers.{Numbers, has_child}
+use Rattle.rgo_core.specs.ties.Clock.{Clock, has_ticket}
+use Rattle.rgo_core.specs.examples.Core.{CauseExamples, ClockExamples, CoreExamples, NumberExamples, TableRoomExamples, both_have_set, ended_then_printed, having_printed, late_mark, parent_and_child, second_then_first}
+use Rattle.rgo_core.specs.ties.Numbers.{Numbers, has_child}
 use Rattle.rgo_core.proofs.Lists.{cond_other, one_if, word_new}
 use Rattle.rgo_core.proofs.runs.Opening.{at_least_one, first_story, made_word}
 use Rattle.rgo_core.specs.Core.{layout}
-use Rattle.rgo_core.specs.Opening.{opening}
+use Rattle.rgo_core.specs.runs.Opening.{opening_table}
 use Rattle.rgo_sound.specs.Machine.Limits.{most_goroutines}
 use Rattle.rgo_sound.specs.RegionMachine.Machine.{Event}
 use Rattle.rgo_sound.specs.RegionMachine.Room.{has_room, pages_in_use, roomy_run}
@@ -117,7 +117,7 @@ clock_examples = record {
   in_order = in_order_here;
   out_of_order = λ code k. let p = k.pieces 0 0 (with_print fresh 1 (7 ∷ 8 ∷ [])) (drawn_at 1 (7 ∷ 8 ∷ [])) refl refl in
       differ 9 7 [] (8 ∷ []) (λ e. omega arith) (same_Some (9 ∷ []) (7 ∷ 8 ∷ []) p.0);
-  unshown = λ code before late k. let s = k.shows in let a = k.amount in let z : sum_by Rattle.rgo_core.specs.Clock.prints_in second_then_first ≡ 2 = refl in omega arith;
+  unshown = λ code before late k. let s = k.shows in let a = k.amount in let z : sum_by Rattle.rgo_core.specs.ties.Clock.prints_in second_then_first ≡ 2 = refl in omega arith;
   late = late_here;
   not_late = λ code before late k.
       let p = k.pieces 1 0 (with_print blank 9223372036854775808 (9 ∷ [])) (drawn_at 9223372036854775808 (9 ∷ [])) refl refl in
@@ -125,7 +125,7 @@ clock_examples = record {
   unset = λ code before late k. let s = k.setter (Ended Exit) refl in
       each_of_one fresh (λ g c. c.first ≡ Some (Ended Exit) → ⊥) (not_some (Ended Exit)) s.0 s.1 s.2 s.3;
   set_twice = λ code before late k.
-      let z : sum_by Rattle.rgo_core.specs.Clock.has_set both_have_set ≡ 2 = refl in let s = k.sole in omega arith;
+      let z : sum_by Rattle.rgo_core.specs.ties.Clock.has_set both_have_set ≡ 2 = refl in let s = k.sole in omega arith;
   ticket = refl;
   first_kept = refl;
   mark_kept = refl;
@@ -206,12 +206,12 @@ core_examples = record {
       let h = k.1.story.numbers.high in
       let m = made_word (layout T) in
       let p = at_least_one T.limits.goroutines in
-      no_numbers (most_goroutines T.limits) (slice_index (opening T) 16) m p l h;
+      no_numbers (most_goroutines T.limits) (slice_index (opening_table T) 16) m p l h;
   drawn = λ T events k.
       let a : 0 ≡ length (k.1.story.before ++ k.1.story.late) = k.1.story.clock.amount in
       let w = k.1.image.memory.shows.wide in
-      let n = length_set (opening T) 0 1 in
-      let one : slice_index (slice_set (opening T) 0 1) 0 ≡ 1 = word_new (opening T) 0 1 (omega arith) in
+      let n = length_set (opening_table T) 0 1 in
+      let one : slice_index (slice_set (opening_table T) 0 1) 0 ≡ 1 = word_new (opening_table T) 0 1 (omega arith) in
       no_bit k.0.mark (length (k.1.story.before ++ k.1.story.late)) (sym a) (sym one ∙ k.1.story.clock.shows);
 }
   where
@@ -222,7 +222,7 @@ core_examples = record {
     no_bit None n z e = omega arith
     no_bit (Some m) n z e = omega arith
 
-pub room_examples : RoomExamples
+pub room_examples : TableRoomExamples
 room_examples = record {
   none_yet = first_story;
   crowded = λ T words recs events k no.

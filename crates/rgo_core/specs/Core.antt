@@ -1,8 +1,8 @@
 -- The core: what a run has to do with the words and records of a table.
 use Rattle.std.specs.Prelude.{◌≡◌, ◌≤◌, ℕ, List, map, Some, slice_get}
 use Rattle.rgo_sound.specs.Code.Code.{Code}
-use Rattle.rgo_core_frames.specs.Ints.{IntsFit}
-use Rattle.rgo_core_frames.specs.Constants.{ConstantsFit}
+use Rattle.rgo_core_frames.specs.shown.Ints.{IntsFit}
+use Rattle.rgo_core_frames.specs.shown.Constants.{ConstantsFit}
 use Rattle.rgo_core_frames.specs.States.{IsSound}
 use Rattle.rgo_core_memory.specs.declared.layout.TableSizes.{TableSizes}
 use Rattle.rgo_sound.specs.Machine.Limits.{most_goroutines}
@@ -11,9 +11,9 @@ use Rattle.rgo_sound.specs.Machine.declared.limits.Sizes.{Sizes}
 use Rattle.rgo_sound.specs.RegionMachine.Machine.{Event}
 use Rattle.rgo_sound.specs.RegionMachine.States.{RegionState}
 use Rattle.rgo_core.specs.Image.{Image, table_sizes}
-use Rattle.rgo_core.specs.Links.{Links}
+use Rattle.rgo_core.specs.ties.Links.{Links}
 use Rattle.rgo_core.specs.Records.{Record, clock_of}
-use Rattle.rgo_core.specs.Story.{Story}
+use Rattle.rgo_core.specs.runs.Story.{Story}
 
 -- what a table is made for
 pub record Setup : Type 0 where
@@ -39,7 +39,7 @@ abbrev pub Core : Setup → List ℕ → List Record → List Event → Type 0
 Core T words recs events = (s : RegionState) × CoreAt T words recs events s
 
 -- What laws have in common: c is the record of goroutine g, in a table with these words and records, to which this run has led.
-pub record Here (T : Setup) (g : ℕ) (c : Record) : Type 0 where
+pub record Situation (T : Setup) (g : ℕ) (c : Record) : Type 0 where
   pub words : List ℕ
   pub recs : List Record
   pub events : List Event
@@ -49,4 +49,4 @@ pub record Here (T : Setup) (g : ℕ) (c : Record) : Type 0 where
 
 -- some words, records and run have this record of goroutine g
 abbrev pub IsPossible : Setup → (g : ℕ) → Record → Type 0
-IsPossible T g c = Here T g c
+IsPossible T g c = Situation T g c

@@ -3,10 +3,10 @@ use Rattle.std.specs.Prelude.{◌≡◌, ℕ, List, length, map, Some, slice_get
 use Rattle.rgo_sound.specs.Code.Code.{Code}
 use Rattle.rgo_core_channels.specs.Channels.{Channels, Places}
 use Rattle.rgo_core_channels.specs.Positions.{cell_place, place_at}
-use Rattle.rgo_core_channels.specs.Records.{Rec as SideRec}
+use Rattle.rgo_core_channels.specs.Records.{ChannelRec as SideRec}
 use Rattle.rgo_core_frames.specs.Fits.{RecordsFit}
 use Rattle.rgo_core_memory.specs.Encoding.{address}
-use Rattle.rgo_core_memory.specs.Image.{StateImage, Where, code_of}
+use Rattle.rgo_core_memory.specs.Image.{StateImage, Where, word_of_value}
 use Rattle.rgo_core_memory.specs.declared.layout.TableSizes.{TableSizes}
 use Rattle.rgo_sound.specs.Machine.declared.limits.Sizes.{Sizes}
 use Rattle.rgo_sound.specs.RegionMachine.States.{RegionState}
@@ -24,7 +24,7 @@ table_sizes code sizes = record {
 -- the image of channels, which begin where the memory has them begin, and have their cells where it has these
 abbrev pub ChannelsIn : Code → TableSizes → Where → List ℕ → List SideRec → RegionState → Places → Type 0
 ChannelsIn code z places words recs s at =
-    Channels code z.page_words (code_of z places) (place_at z places) (cell_place z places) words recs s at
+    Channels code z.page_words (word_of_value z places) (place_at z places) (cell_place z places) words recs s at
 
 -- One layout: the slots of regions in the records' frames are those of the memory, an object's address there is where it begins in the
 -- memory, and a channel lies where the memory has it.

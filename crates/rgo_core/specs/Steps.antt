@@ -7,9 +7,9 @@ use Rattle.rgo_sound.specs.RegionMachine.Machine.{Event, region_step}
 use Rattle.rgo_sound.specs.RegionMachine.Room.{has_room}
 use Rattle.rgo_sound.specs.RegionMachine.States.{RegionState}
 use Rattle.rgo_sound.specs.Tally.{counts_plus}
-use Rattle.rgo_core.specs.Core.{Core, Here, Setup, layout}
+use Rattle.rgo_core.specs.Core.{Core, Situation, Setup, layout}
 use Rattle.rgo_core.specs.Image.{Image}
-use Rattle.rgo_core.specs.Links.{Links}
+use Rattle.rgo_core.specs.ties.Links.{Links}
 use Rattle.rgo_core.specs.Records.{ClockRec, Record, accesses, counted as counted_by}
 
 -- what it has drawn, ended and started is the same
@@ -19,7 +19,7 @@ pub record SameClock (c d : ClockRec) : Type 0 where
   pub children : d.children ≡ c.children
   pub refused : d.refused ≡ c.refused
 
-module _ {T : Setup} {g : ℕ} {c : Record} (x : Here T g c) where
+module _ {T : Setup} {g : ℕ} {c : Record} (x : Situation T g c) where
   -- The region machine makes a step, of which the goroutine counts what it adds. Its record is then d, and these words and records
   -- are the image, with their links.
   pub record MakesRegionStep (words : List ℕ) (recs : List Record) (d : Record) : Type 0 where
@@ -68,8 +68,8 @@ IsStill T = rule.Still {E = Event} accesses (Core T)
 -- ---- whatever the rest of the table is
 
 -- what goroutine g does where it finds n on word i
-abbrev pub FindsWord : (T : Setup) (g : ℕ) (c : Record) → (i : ℕ) → (Here T g c → ℕ → Type 0) → Type 0
-FindsWord T g c i P = (x : Here T g c) → slice_index x.words i < 18446744073709551616 → P x (slice_index x.words i)
+abbrev pub FindsWord : (T : Setup) (g : ℕ) (c : Record) → (i : ℕ) → (Situation T g c → ℕ → Type 0) → Type 0
+FindsWord T g c i P = (x : Situation T g c) → slice_index x.words i < 18446744073709551616 → P x (slice_index x.words i)
 
 -- an access to a word of memory
 abbrev pub AccessLaw : Type 0
@@ -79,5 +79,5 @@ AccessLaw = (T : Setup) (g : ℕ) (c : Record) (i : ℕ) (f : ℕ → ℕ) (afte
     → Moves T g c i f (λ n d. d ≡ after n)
 
 -- a step without one
-abbrev pub QuietLaw : Type 0
-QuietLaw = (T : Setup) (g : ℕ) (c d : Record) → ((x : Here T g c) → MakesQuietStep x x.words d) → IsStill T g c d
+abbrev pub QuietStepLaw : Type 0
+QuietStepLaw = (T : Setup) (g : ℕ) (c d : Record) → ((x : Situation T g c) → MakesQuietStep x x.words d) → IsStill T g c d

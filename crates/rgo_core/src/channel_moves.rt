@@ -1,10 +1,10 @@
 //! What each access to a channel does to what the table shows: an operation looks at the control, locks it, loads or stores a cell,
 //! and takes effect with the store that unlocks. What a law asks can be read off the goroutine's own record.
 
-ghost use Rattle.rgo_core.specs.ChannelExamples.{ChannelExamples};
-ghost use Rattle.rgo_core.specs.ChannelMoves.{CapacityMove, CellLoadMove, CellStoreMove, ControlMove, LockMove, OwnControlMove, PageNumberMove};
-ghost use Rattle.rgo_core.specs.CommitMoves.{AcknowledgeMove, CloseMove, MeetMove, OfferMove, ReceiveMove, SendMove, ZeroMove};
-ghost use Rattle.rgo_core.specs.TrapMoves.{CloseNilMove, CloseTrapMove, SendTrapMove, StrandedMove};
+ghost use Rattle.rgo_core.specs.examples.Channels.{AtChannelExamples};
+ghost use Rattle.rgo_core.specs.moves.Channels.{CapacityMove, CellLoadMove, CellStoreMove, ControlMove, LockMove, OwnControlMove, PageNumberMove};
+ghost use Rattle.rgo_core.specs.moves.Commits.{AcknowledgeMove, CloseMove, MeetMove, OfferMove, ReceiveMove, SendMove, ZeroMove};
+ghost use Rattle.rgo_core.specs.moves.ChannelTraps.{CloseNilMove, CloseTrapMove, SendTrapMove, StrandedMove};
 
 /// The control of a channel is loaded.
 pub fn control_move()
@@ -98,5 +98,5 @@ pub fn stranded_move()
 
 /// Records that are at a channel, and some that are not.
 pub fn examples()
-    ensures { ChannelExamples }
+    ensures { AtChannelExamples }
 {}

@@ -1,11 +1,11 @@
 //! What each access of a goroutine, and each of its steps without one, does to what the table shows.
 
-ghost use Rattle.rgo_core.specs.ClockSteps.{RunEndLaw, LookLaw, NumberLaw, TicketLaw};
-ghost use Rattle.rgo_core.specs.Examples.{CauseExamples, ClockExamples, CoreExamples, NumberExamples, RoomExamples};
+ghost use Rattle.rgo_core.specs.moves.Clock.{RunEndLaw, LookLaw, NumberLaw, TicketLaw};
+ghost use Rattle.rgo_core.specs.examples.Core.{CauseExamples, ClockExamples, CoreExamples, NumberExamples, TableRoomExamples};
 ghost use Rattle.rgo_core.specs.Laws.{CallsMove, ExitMove, FullMove, LocalStill, PrintMove, StartMove, StopMove};
-ghost use Rattle.rgo_core.specs.Opening.{TableOpeningLaw};
-ghost use Rattle.rgo_core.specs.Possible.{FirstPossible, OccursPossible, PossibleExamples, StillPossible};
-ghost use Rattle.rgo_core.specs.Steps.{AccessLaw, QuietLaw};
+ghost use Rattle.rgo_core.specs.runs.Opening.{TableOpeningLaw};
+ghost use Rattle.rgo_core.specs.runs.Possible.{FirstPossible, OccursPossible, PossibleExamples, StillPossible};
+ghost use Rattle.rgo_core.specs.Steps.{AccessLaw, QuietStepLaw};
 
 /// The run without a step explains the first words and the record of `main`.
 pub fn opening_law()
@@ -26,7 +26,7 @@ pub fn access_law()
 
 /// The same of a step without an access.
 pub fn quiet_law()
-    ensures { QuietLaw }
+    ensures { QuietStepLaw }
 {}
 
 /// A print draws a ticket, and tickets are the order of the print.
@@ -90,6 +90,6 @@ pub fn examples()
     ensures numbers { NumberExamples }
     ensures causes { CauseExamples }
     ensures core { CoreExamples }
-    ensures room { RoomExamples }
+    ensures room { TableRoomExamples }
     ensures possible { PossibleExamples }
 {}

@@ -1,16 +1,16 @@
 //! What each access to memory does to what the table shows: loads and stores, new objects, pages, chains and the counts of
 //! regions; and what ends the run in place of one. What a law asks can be read off the goroutine's own record.
-ghost use Rattle.rgo_core.specs.Accesses.{AtMove, GetMove, IndexMove, LenMove, LenNilStill, LoadMove, MeasureMove, PutMove, SetMove, StoreMove};
-ghost use Rattle.rgo_core.specs.BoundExamples.{BoundExamples};
-ghost use Rattle.rgo_core.specs.Chains.{ClearMove, FreeMove, HangMove, HeadMove, LinkMove, NextMove, SlotMove};
-ghost use Rattle.rgo_core.specs.Claims.{ClaimMove, ReserveMove};
-ghost use Rattle.rgo_core.specs.ElementTraps.{AtTrapMove, PutTrapMove};
-ghost use Rattle.rgo_core.specs.LinkExamples.{LinkExamples};
-ghost use Rattle.rgo_core.specs.NewObjects.{LargeMove, ObjectMove, ObjectMoveApart, WordMove, WordMoveApart};
-ghost use Rattle.rgo_core.specs.OperandTraps.{DivideTrapMove, LoadTrapMove, SizeTrapMove, StoreTrapMove};
-ghost use Rattle.rgo_core.specs.Regions.{CreateMove, LeaveMove, ShareMove};
-ghost use Rattle.rgo_core.specs.SpreadExamples.{SpreadExamples};
-ghost use Rattle.rgo_core.specs.TraceExamples.{TraceExamples};
+ghost use Rattle.rgo_core.specs.moves.Cells.{AtMove, GetMove, IndexMove, LenMove, LenNilStill, LoadMove, MeasureMove, PutMove, SetMove, StoreMove};
+ghost use Rattle.rgo_core.specs.examples.Bounds.{BoundExamples};
+ghost use Rattle.rgo_core.specs.moves.Chains.{ClearMove, FreeMove, HangMove, HeadMove, LinkMove, NextMove, SlotMove};
+ghost use Rattle.rgo_core.specs.moves.Claims.{ClaimMove, ReserveMove};
+ghost use Rattle.rgo_core.specs.moves.ElementTraps.{AtTrapMove, PutTrapMove};
+ghost use Rattle.rgo_core.specs.examples.Links.{LinkExamples};
+ghost use Rattle.rgo_core.specs.moves.NewObjects.{LargeMove, ObjectMove, ObjectMoveApart, WordMove, WordMoveApart};
+ghost use Rattle.rgo_core.specs.moves.OperandTraps.{DivideTrapMove, LoadTrapMove, SizeTrapMove, StoreTrapMove};
+ghost use Rattle.rgo_core.specs.moves.Regions.{CreateMove, LeaveMove, ShareMove};
+ghost use Rattle.rgo_core.specs.examples.Spread.{SpreadObjectExamples};
+ghost use Rattle.rgo_core.specs.examples.Traces.{TraceExamples};
 
 /// A load of a field reads what the instruction reads.
 pub fn load_move()
@@ -189,7 +189,7 @@ pub fn links()
 
 /// Records that work at spread objects: what they know of a cell, and what they reserve.
 pub fn spread()
-    ensures { SpreadExamples }
+    ensures { SpreadObjectExamples }
 {}
 
 /// How many words objects have at least, and where words of a type may point.

@@ -1,6 +1,6 @@
 //! The record of a goroutine, as a type that views can hold.
 ghost use Rattle.rgo_core.specs.Records.{Record as Whole, begins_with};
-ghost use Rattle.rgo_core_frames.specs.Opening.{no_record};
+ghost use Rattle.rgo_core_frames.specs.goroutines.Opening.{no_record};
 
 use std::marker::Model;
 

@@ -5,13 +5,13 @@ ghost use Rattle.std.specs.Prelude.{◌≡◌, ◌≤◌, ◌<◌, ◌^◌, ℕ,
 ghost use Rattle.std.specs.Mem.Slots.{IsFull, slots_items, slots_len};
 ghost use Rattle.rgo_sound.specs.Code.NameRules.{Ascends};
 ghost use Rattle.rgo_core.specs.Core.{Core as Explains, IsPossible, Setup};
-ghost use Rattle.rgo_core.specs.Opening.{first_of, opening};
+ghost use Rattle.rgo_core.specs.runs.Opening.{first_of, opening_table};
 ghost use Rattle.rgo_core.specs.Image.{table_sizes};
-ghost use Rattle.rgo_core.specs.Plans.{setup_of};
+ghost use Rattle.rgo_core.specs.runs.Plans.{setup_of};
 ghost use Rattle.rgo_core.specs.Records.{accesses, looked};
 ghost use Rattle.rgo_core_memory.specs.Words.{all_words as words_in_all};
 ghost use Rattle.rgo_core_rule.specs.Rule.{Closing};
-ghost use Rattle.rgo_core_rule.specs.Steps.{Leaves};
+ghost use Rattle.rgo_core_rule.specs.Steps.{LeavesOnSeat};
 ghost use Rattle.rgo_core_rule.specs.Views.{IsAlone, number_of, record_of, view};
 ghost use Rattle.rgo_core_rule.specs.declared.accesses.Kind.TheVariants as kind;
 ghost use Rattle.rgo_sound.specs.Machine.Limits.{most_goroutines};
@@ -48,7 +48,7 @@ impl Explanation<Record, Plan> for ByRuns {
 
     ghost explains = { λ plan. Explains (setup_of plan) };
 
-    ghost opening = { λ plan. opening (setup_of plan) };
+    ghost opening = { λ plan. opening_table (setup_of plan) };
 
     ghost first = { λ plan. first_of plan.code.value };
 }
@@ -103,7 +103,7 @@ pub fn look(table: &RunTable, seat: &mut RunSeat) -> bool
     requires alone { IsAlone (first_of table.now.shared.key.code.value) seat.old.me }
     ensures own { (seat.new.table_id ≡ seat.old.table_id) × (seat.new.id ≡ seat.old.id) }
     ensures looked { (n : ℕ) × ((result ≡ true) ↔ (2 ^ 63 ≤ n))
-        × Leaves accesses (first_of table.now.shared.key.code.value) kind.Load 0 (λ n. n)
+        × LeavesOnSeat accesses (first_of table.now.shared.key.code.value) kind.Load 0 (λ n. n)
         (λ n d. d ≡ looked (record_of (first_of table.now.shared.key.code.value) seat.old.me)) seat.old.me n seat.new.me }
     ensures possible { IsPossible (setup_of table.now.shared.key) (number_of seat.new.me)
         (record_of (first_of table.now.shared.key.code.value) seat.new.me) }
@@ -117,7 +117,7 @@ pub fn close(table: RunTable, seat: RunSeat) -> Closed<(), Global>
     ensures counts { (slots_len result.words ≡ table.shared.table_id.words)
         × (slots_len result.slots ≡ table.shared.table_id.slots) }
     ensures full { IsFull result.words }
-    ensures end { Closing accesses (Explains (setup_of table.shared.key)) (opening (setup_of table.shared.key))
+    ensures end { Closing accesses (Explains (setup_of table.shared.key)) (opening_table (setup_of table.shared.key))
         (slots_items result.words) seat.me.0 }
 {
     seats::close(table, seat)

@@ -18,15 +18,15 @@ use Rattle.rgo_sound.specs.RegionMachine.States.{Holder, NoOffer, RegionState}
 use Rattle.rgo_sound.proofs.Places.{get_set_same, get_snoc, length_set as length_slice_set}
 use Rattle.rgo_sound.specs.Tac.Frames.{frame_after_instr}
 use Rattle.rgo_core_channels.specs.Channels.{Chan, channel, On, Calm, phase_number, OfferOf}
-use Rattle.rgo_core_memory.specs.Words.{put}
+use Rattle.rgo_core_memory.specs.Words.{put_at}
 use Rattle.rgo_core_channels.specs.Channels.{Unlocked, LockedBy, lock_bit, Places, count, cell_of, Channels}
 use Rattle.rgo_core_channels.specs.Controls.{bit, control, closed_of, count_of, head_of}
 use Rattle.rgo_core_channels.specs.Moments.{Moment}
 use Rattle.rgo_core_channels.specs.After.{pushed, popped, closed_now}
 use Rattle.rgo_core_channels.specs.Buffers.{SendLaw, ReceiveLaw, ZeroLaw, CloseLaw}
-use Rattle.rgo_core_channels.specs.Records.{Rec, HoldsAt, InCell, Sized}
+use Rattle.rgo_core_channels.specs.Records.{ChannelRec, HoldsAt, InCell, Sized}
 use Rattle.rgo_core_channels.specs.Records.{Nowhere, Offering, at_rest}
-use Rattle.rgo_core_channels.specs.Standing.{Next, passed, passed_holder, blank_of}
+use Rattle.rgo_core_channels.specs.Standing.{Next, passed_frames, passed_holder, blank_of}
 use Rattle.rgo_core_channels.specs.After.{after}
 use Rattle.rgo_core_channels.proofs.Decoding.{decode, bit_small, open_or, shut_or, turned}
 use Rattle.rgo_core_channels.proofs.Forward.{does}
@@ -44,7 +44,7 @@ first_of : {X : Type 0} (q : List X) → 0 < length q → (v : X) × (rest : Lis
 first_of [] h = absurd (omega arith)
 first_of (x ∷ q) h = (x, q, refl)
 
-module _ (T : Moment) (g : ℕ) (c : Rec) (mine : slice_get T.recs g ≡ Some c) where
+module _ (T : Moment) (g : ℕ) (c : ChannelRec) (mine : slice_get T.recs g ≡ Some c) where
   abbrev pub m : Memory
   m = T.state.plain.memory
 
@@ -59,7 +59,7 @@ module _ (T : Moment) (g : ℕ) (c : Rec) (mine : slice_get T.recs g ≡ Some c)
   posted free p j l x q w =
       let t = K.offers p j l x q in
       let same = is_mine T.code T.page_words T.encode T.place T.cell T.words T.recs T.state T.at K g c c mine j t.0 t.2 w in
-      let z : Nowhere ≡ Offering (T.place p) = sym free ∙ (ap (λ (y : Rec). y.post) (sym same) ∙ t.4) in
+      let z : Nowhere ≡ Offering (T.place p) = sym free ∙ (ap (λ (y : ChannelRec). y.post) (sym same) ∙ t.4) in
       absurd (cc z)
 
   pub no_offer : {action : Action} → {operands : List Value} → (N : Next T.code s g action operands)
@@ -114,13 +114,13 @@ module _ (T : Moment) (g : ℕ) (c : Rec) (mine : slice_get T.recs g ≡ Some c)
 
       abbrev pub next_at : Places
       next_at = record {
-        head = put T.at.head o hd;
-        lock = put T.at.lock o Unlocked;
-        phase = put T.at.phase o (T.at.phase o);
+        head = put_at T.at.head o hd;
+        lock = put_at T.at.lock o Unlocked;
+        phase = put_at T.at.phase o (T.at.phase o);
       }
 
       same_other : (j : ℕ) → j ≢ g → Same s b j
-      same_other j ne = (set_else s.plain.goroutines g j (passed N v) ne, set_else s.holders g j (passed_holder N v) ne)
+      same_other j ne = (set_else s.plain.goroutines g j (passed_frames N v) ne, set_else s.holders g j (passed_holder N v) ne)
 
       pub commit : z.capacity ≡ k.capacity → x ≡ control (bit z.closed) (count z (T.at.phase o)) hd
           → ((i : ℕ) (u : Value) → slice_get z.queue i ≡ Some u

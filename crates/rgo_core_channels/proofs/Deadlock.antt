@@ -5,7 +5,7 @@ use Rattle.rgo_sound.specs.Typed.declared.actions.Action.TheVariants.{Recv, Send
 use Rattle.rgo_core_channels.specs.Channels.{Chan, Lock, LockedBy, On, Unlocked, count, lock_bit}
 use Rattle.rgo_core_channels.specs.Controls.{bit, closed_of, count_of}
 use Rattle.rgo_core_channels.specs.Deadlock.{Blocked, DeadlockLaw, IsEmpty, IsFull, IsLocked, IsNotOffered, IsOffered, IsWaiting, ReceivesOnNil, Returned, SendsOnNil}
-use Rattle.rgo_core_channels.specs.Records.{Hold, HoldsAt, Offering, Rec}
+use Rattle.rgo_core_channels.specs.Records.{Hold, HoldsAt, Offering, ChannelRec}
 use Rattle.rgo_core_channels.proofs.Decoding.{even_control}
 use Rattle.rgo_core_channels.proofs.Live.{channel_at, live_at, offered_at}
 use Rattle.rgo_core_channels.proofs.Stuck.{At, Empty, Full, Gone, HasNoOffer, HasOffer, NilReceive, NilSend, Waiting, Waits, stuck}
@@ -30,7 +30,7 @@ deadlock T each =
         by (LockedBy h) e = let r = T.channels.lockers o h k on e in
             absurd (subst (λ (y : Hold). HoldsAt y (T.place o) r.1) (each h r.0 r.2).0 r.3)
 
-    why : (g : ℕ) (c : Rec) → slice_get T.recs g ≡ Some c → Blocked T g c
+    why : (g : ℕ) (c : ChannelRec) → slice_get T.recs g ≡ Some c → Blocked T g c
         → Waiting T.code T.page_words T.encode T.place T.cell T.words T.recs T.state T.at T.channels g c
     why g c e (Returned free q) = Gone free q
     why g c e (SendsOnNil v free before) = NilSend v free before

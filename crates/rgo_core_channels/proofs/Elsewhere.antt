@@ -17,12 +17,12 @@ use Rattle.rgo_sound.proofs.offers.Offers.{steps_keep_good}
 use Rattle.rgo_sound.proofs.Places.{get_append_left, get_some}
 use Rattle.rgo_sound.specs.Good.{AllGood}
 use Rattle.rgo_sound.specs.Leaving.{ActsAlone, LeavesOthers, TakesPart}
-use Rattle.rgo_core_channels.specs.Channels.{Accepted, Calm, Chan, Channels, LockedBy, Offered, OfferOf, On, Phase, Places, Unlocked, cell_of, word_of}
+use Rattle.rgo_core_channels.specs.Channels.{Accepted, Calm, Chan, Channels, LockedBy, Offered, OfferOf, On, Phase, Places, Unlocked, cell_of, word_of_channel}
 use Rattle.rgo_core_channels.specs.Channels.{holder_offer, lock_bit, phase_number}
 use Rattle.rgo_core_channels.specs.Controls.{bit, extent}
-use Rattle.rgo_core_channels.specs.Elsewhere.{EventLaw, IsMade, Leaves}
+use Rattle.rgo_core_channels.specs.Elsewhere.{EventLaw, IsMade, LeavesChannels}
 use Rattle.rgo_core_channels.specs.Moments.{Moment}
-use Rattle.rgo_core_channels.specs.Records.{HoldsAt, InCell, KnowsOf, Nothing, Nowhere, Offering, Reached, Rec, Shut, Sized, Stranded, Unknown, Unreached, at_rest}
+use Rattle.rgo_core_channels.specs.Records.{HoldsAt, InCell, KnowsOf, Nothing, Nowhere, Offering, Reached, ChannelRec, Shut, Sized, Stranded, Unknown, Unreached, at_rest}
 use Rattle.rgo_core_channels.specs.Standing.{IsAt, Next}
 use Rattle.rgo_core_channels.proofs.Buffers.{posted}
 use Rattle.rgo_core_channels.proofs.Decoding.{some_cell}
@@ -46,11 +46,11 @@ only_one (Finish limit) g j a b = absurd a
 module _ (T : Moment) (g : ℕ) (event : Event) (words : List ℕ) (s : RegionState) (encode : Value → ℕ) (place : ℕ → ℕ)
     (cell : ℕ → ℕ → ℕ) (at : Places) (IsNew : ℕ → Chan → Type 0) (children : ℕ) (mine : slice_get T.recs g ≡ Some at_rest)
     (alone : ActsAlone event g) (step : region_step T.code T.page_words T.state event ≡ Some s)
-    (X : Leaves T words s encode place cell at IsNew children) where
+    (X : LeavesChannels T words s encode place cell at IsNew children) where
   abbrev K : Channels T.code T.page_words T.encode T.place T.cell T.words T.recs T.state T.at
   K = T.channels
 
-  abbrev recs : List Rec
+  abbrev recs : List ChannelRec
   recs = T.recs ++ replicate children at_rest
 
   -- ---- the others
@@ -78,24 +78,24 @@ module _ (T : Moment) (g : ℕ) (event : Event) (words : List ℕ) (s : RegionSt
   next_stays j action vs ne n = next_same T.code T.state s j action vs (same_of j action vs ne n) n
 
   -- who knows of a channel is another
-  other_knows : (j a : ℕ) (y : Rec) → slice_get T.recs j ≡ Some y → KnowsOf y a → j ≢ g
+  other_knows : (j a : ℕ) (y : ChannelRec) → slice_get T.recs j ≡ Some y → KnowsOf y a → j ≢ g
   other_knows j a y e q w =
       let same : at_rest ≡ y = same_Some at_rest y (sym mine ∙ (ap (slice_get T.recs) (sym w) ∙ e)) in
-      rest_knows a (subst (λ (z : Rec). KnowsOf z a) (sym same) q)
+      rest_knows a (subst (λ (z : ChannelRec). KnowsOf z a) (sym same) q)
 
   other_posts : (o j : ℕ) (k : Chan) → On T.state o k → OfferOf (T.at.phase o) j → j ≢ g
   other_posts o j k on q = posted T g at_rest mine refl o j k on q
 
-  old : (j : ℕ) (y : Rec) → slice_get T.recs j ≡ Some y → slice_get recs j ≡ Some y
+  old : (j : ℕ) (y : ChannelRec) → slice_get T.recs j ≡ Some y → slice_get recs j ≡ Some y
   old j y e = get_append_left T.recs (replicate children at_rest) j (slice_get_within T.recs j y e) ∙ e
 
-  was_there : (j : ℕ) (y : Rec) → slice_get recs j ≡ Some y
+  was_there : (j : ℕ) (y : ChannelRec) → slice_get recs j ≡ Some y
       → (slice_get T.recs j ≡ Some y) ⊎ ((length T.recs ≤ j) × (at_rest ≡ y))
   was_there j y e = old_or_new T.recs children at_rest j y e
 
   -- ---- channels of which a record knows are not gone
 
-  live_still : (j a o : ℕ) (k : Chan) (y : Rec) → slice_get T.recs j ≡ Some y → KnowsOf y a → On T.state o k
+  live_still : (j a o : ℕ) (k : Chan) (y : ChannelRec) → slice_get T.recs j ≡ Some y → KnowsOf y a → On T.state o k
       → T.place o ≡ a → may_touch s (Some o) ≡ true
   live_still j a o k y e q on is = by (K.knows j a y e q)
     where
@@ -127,7 +127,7 @@ module _ (T : Moment) (g : ℕ) (event : Event) (words : List ℕ) (s : RegionSt
               let r = K.offers o j k on own in
               taken_is_live T.code s j o r.1 all (holder_stays j r.1 ne r.3) (r.5 ∙ ap (holder_offer o) w)
 
-  stays_on : (j a o : ℕ) (k : Chan) (y : Rec) → slice_get T.recs j ≡ Some y → KnowsOf y a → On T.state o k → T.place o ≡ a
+  stays_on : (j a o : ℕ) (k : Chan) (y : ChannelRec) → slice_get T.recs j ≡ Some y → KnowsOf y a → On T.state o k → T.place o ≡ a
       → On s o k
   stays_on j a o k y e q on is = (X.heap o k on, live_still j a o k y e q on is)
 
@@ -140,13 +140,13 @@ module _ (T : Moment) (g : ℕ) (event : Event) (words : List ℕ) (s : RegionSt
 
   -- the words of a channel lie where they lay
   lay : (o i : ℕ) (k : Chan) → On T.state o k → i < 2 + extent k.capacity
-      → word_of place cell o i ≡ word_of T.place T.cell o i
+      → word_of_channel place cell o i ≡ word_of_channel T.place T.cell o i
   lay o zero k on h = X.places o k on
   lay o (suc zero) k on h = ap (λ n. n + 1) (X.places o k on)
   lay o (suc (suc i)) k on h = X.spots o i k on (omega arith)
 
   -- where the channel of a goroutine lies, it lay
-  stays_at : (j a : ℕ) (y : Rec) → slice_get T.recs j ≡ Some y → KnowsOf y a → IsAt T.code place s j y.post a
+  stays_at : (j a : ℕ) (y : ChannelRec) → slice_get T.recs j ≡ Some y → KnowsOf y a → IsAt T.code place s j y.post a
   stays_at j a y e q = by (K.knows j a y e q)
     where
       by : IsAt T.code T.place T.state j y.post a → IsAt T.code place s j y.post a
@@ -158,7 +158,7 @@ module _ (T : Moment) (g : ℕ) (event : Event) (words : List ℕ) (s : RegionSt
       )
       by (inr post) = inr post
 
-  calm_still : (j : ℕ) (y : Rec) (h : Holder) → slice_get T.recs j ≡ Some y → slice_get s.holders j ≡ Some h
+  calm_still : (j : ℕ) (y : ChannelRec) (h : Holder) → slice_get T.recs j ≡ Some y → slice_get s.holders j ≡ Some h
       → y.post ≡ Nowhere → h.offer ≡ NoOffer
   calm_still j y h e f free = dite (ℕ_discrete j g)
       (λ w. let r = offers_stay T.code T.page_words T.state s event j was.0 step (subst (ActsAlone event) (sym w) alone) was.1 in
@@ -171,13 +171,13 @@ module _ (T : Moment) (g : ℕ) (event : Event) (words : List ℕ) (s : RegionSt
 
   -- no two words of what is new are one
   one_new : (o p i j : ℕ) (k l : Chan) → On s o k → On s p l → IsNew o k → IsNew p l → i < 2 + extent k.capacity
-      → j < 2 + extent l.capacity → word_of place cell o i ≡ word_of place cell p j → (o ≡ p) × (i ≡ j)
+      → j < 2 + extent l.capacity → word_of_channel place cell o i ≡ word_of_channel place cell p j → (o ≡ p) × (i ≡ j)
   one_new o p i j k l e e' new new' h h' q =
       let w : o ≡ p = X.one_fresh o p k l new new' in
       let same : l ≡ k = same_chan s p l k e' (subst (λ r. On s r k) w e) in (
         w,
         X.fresh_differ o i j k new h (subst (λ (r : Chan). j < 2 + extent r.capacity) same h')
-            (q ∙ ap (λ r. word_of place cell r j) (sym w)),
+            (q ∙ ap (λ r. word_of_channel place cell r j) (sym w)),
       )
 
   pub leaves : Channels T.code T.page_words encode place cell words recs s at
@@ -250,7 +250,7 @@ module _ (T : Moment) (g : ℕ) (event : Event) (words : List ℕ) (s : RegionSt
           (X.ats t.0 t.1 t.2).1 ∙ t.4,
           subst (λ a. slice_index words a ≡ slice_index T.words a) t.3 (first t.0 t.1 t.2) ∙ t.5,
         ))
-        (λ u. absurd (subst (λ (r : Rec). HoldsAt r.hold a i) (sym u.1) q))
+        (λ u. absurd (subst (λ (r : ChannelRec). HoldsAt r.hold a i) (sym u.1) q))
         (was_there j y e);
     in_cells = λ j a i x y e q. ⊎_elim
         (λ e. let t = K.in_cells j a i x y e q in let h = held y.hold a i x q in (
@@ -261,12 +261,12 @@ module _ (T : Moment) (g : ℕ) (event : Event) (words : List ℕ) (s : RegionSt
           t.4,
           in_cell t.0 i t.1 t.2 t.4 ∙ t.5,
         ))
-        (λ u. absurd (subst (λ (r : Rec). InCell r.hold a i x) (sym u.1) q))
+        (λ u. absurd (subst (λ (r : ChannelRec). InCell r.hold a i x) (sym u.1) q))
         (was_there j y e);
     sizes = λ j a i y e q. ⊎_elim
         (λ e. let t = K.sizes j a i y e q in
         (t.0, t.1, stays_on j a t.0 t.1 y e (inr (inl (i, q))) t.2 t.3, X.places t.0 t.1 t.2 ∙ t.3, t.4))
-        (λ u. absurd (let z : Unknown ≡ Sized a i = ap (λ (r : Rec). r.size) u.1 ∙ q in cc z))
+        (λ u. absurd (let z : Unknown ≡ Sized a i = ap (λ (r : ChannelRec). r.size) u.1 ∙ q in cc z))
         (was_there j y e);
     reaches = λ j a i w y e q. ⊎_elim
         (λ e. let t = K.reaches j a i w y e q in (
@@ -277,12 +277,12 @@ module _ (T : Moment) (g : ℕ) (event : Event) (words : List ℕ) (s : RegionSt
           t.4,
           X.spots t.0 i t.1 t.2 t.4 ∙ t.5,
         ))
-        (λ u. absurd (let z : Unreached ≡ Reached a i w = ap (λ (r : Rec). r.reach) u.1 ∙ q in cc z))
+        (λ u. absurd (let z : Unreached ≡ Reached a i w = ap (λ (r : ChannelRec). r.reach) u.1 ∙ q in cc z))
         (was_there j y e);
     saws = λ j a y e q. ⊎_elim
         (λ e. let t = K.saws j a y e q in
         (t.0, t.1, stays_on j a t.0 t.1 y e (inr (inr (inl q))) t.2 t.3, X.places t.0 t.1 t.2 ∙ t.3, t.4))
-        (λ u. absurd (let z : Nothing ≡ Shut a = ap (λ (r : Rec). r.saw) u.1 ∙ q in cc z))
+        (λ u. absurd (let z : Nothing ≡ Shut a = ap (λ (r : ChannelRec). r.saw) u.1 ∙ q in cc z))
         (was_there j y e);
     strands = λ j a y e q. ⊎_elim
         (λ e. let t = K.strands j a y e q in (
@@ -293,11 +293,11 @@ module _ (T : Moment) (g : ℕ) (event : Event) (words : List ℕ) (s : RegionSt
           t.4,
           (X.ats t.0 t.1 t.2).2 ∙ t.5,
         ))
-        (λ u. absurd (let z : Nothing ≡ Stranded a = ap (λ (r : Rec). r.saw) u.1 ∙ q in cc z))
+        (λ u. absurd (let z : Nothing ≡ Stranded a = ap (λ (r : ChannelRec). r.saw) u.1 ∙ q in cc z))
         (was_there j y e);
     knows = λ j a y e q. ⊎_elim
         (λ e. stays_at j a y e q)
-        (λ u. absurd (rest_knows a (subst (λ (r : Rec). KnowsOf r a) (sym u.1) q)))
+        (λ u. absurd (rest_knows a (subst (λ (r : ChannelRec). KnowsOf r a) (sym u.1) q)))
         (was_there j y e);
     as_many = length_more T.recs children at_rest ∙ (ap (λ n. n + children) K.as_many ∙ sym X.born);
     calm = λ j y h e f q. ⊎_elim
@@ -312,7 +312,7 @@ module _ (T : Moment) (g : ℕ) (event : Event) (words : List ℕ) (s : RegionSt
           X.places t.0 t.1 t.2 ∙ t.3,
           subst (λ p. OfferOf p j) (sym (X.ats t.0 t.1 t.2).2) t.4,
         ))
-        (λ u. absurd (let z : Nowhere ≡ Offering a = ap (λ (r : Rec). r.post) u.1 ∙ q in cc z))
+        (λ u. absurd (let z : Nowhere ≡ Offering a = ap (λ (r : ChannelRec). r.post) u.1 ∙ q in cc z))
         (was_there j y e);
     offers = λ o j k e q. ⊎_elim
         (λ on. let p = (X.ats o k on).2 in let r = subst (λ p. OfferOf p j) p q in let t = K.offers o j k on r in

@@ -18,7 +18,7 @@ use Rattle.rgo_sound.specs.Code.Erasure.{erased, erased_instr, erased_op}
 use Rattle.rgo_sound.specs.RegionMachine.declared.regions.Region.{Region}
 use Rattle.rgo_sound.specs.RegionMachine.Duties.{may_go}
 use Rattle.rgo_sound.specs.RegionMachine.Instructions.{has_none, touches, is_ready, holder_after, child_holder, last_frames}
-use Rattle.rgo_sound.specs.RegionMachine.Instructions.{unless_trapped, marked, printed_if, instructed_with}
+use Rattle.rgo_sound.specs.RegionMachine.Instructions.{unless_trapped, mark_with_end, printed_if, instructed_with}
 use Rattle.rgo_sound.specs.RegionMachine.Instructions.{some_instructed, instructed, instructed_at, one_instructed, instruct}
 use Rattle.rgo_sound.specs.RegionMachine.Machine.{Instruct, region_step, plain_step}
 use Rattle.rgo_sound.specs.RegionMachine.Objects.{makes_object, making_region, new_object, touched, touched_by, may_touch, allotted}
@@ -27,7 +27,7 @@ use Rattle.rgo_sound.specs.RegionMachine.States.{Holder, Mark, RegionState, fram
 use Rattle.rgo_sound.proofs.steps.OneStep.{current_erased}
 use Rattle.rgo_sound.proofs.Places.{get_set_same}
 use Rattle.rgo_core_memory.specs.Accesses.{Before}
-use Rattle.rgo_core_channels.specs.Standing.{Next, passed, passed_holder, blank_of}
+use Rattle.rgo_core_channels.specs.Standing.{Next, passed_frames, passed_holder, blank_of}
 use Rattle.rgo_core_channels.specs.After.{after}
 use Rattle.rgo_core_channels.specs.After.{after_trap}
 use Rattle.rgo_core_memory.proofs.Rows.{set_again}
@@ -56,7 +56,7 @@ pub printed_same : (mark : Option Mark) (printed : List ℕ) → printed_if mark
 printed_same None printed = refl
 printed_same (Some mark) printed = refl
 
-pub marked_same : (mark : Option Mark) → marked mark None ≡ mark
+pub marked_same : (mark : Option Mark) → mark_with_end mark None ≡ mark
 marked_same None = refl
 marked_same (Some mark) = refl
 
@@ -114,16 +114,16 @@ module _ (code : Code) (page_words : ℕ) (s : RegionState) (g : ℕ) (action : 
   pub does : makes_object action ≡ false → (m : Memory) (v : Value) → length m.heap ≡ length s.plain.memory.heap
       → stepped (tac (erased code)) s.plain g frame callers
       (at_channel action (blank_of n.before) n.before.instr.place (frame_after_instr frame n.before.to) operands)
-      ≡ Some (record (with_frames s.plain g (passed n v)) { memory = m })
+      ≡ Some (record (with_frames s.plain g (passed_frames n v)) { memory = m })
       → region_step code page_words s (Instruct (One g)) ≡ Some (after n m v)
   does makes m v same steps =
       instructs makes next same (plain_is code s g action operands n.before running ∙ steps) ∙ ap Some is
     where
       next : TacState
-      next = record (with_frames s.plain g (passed n v)) { memory = m }
+      next = record (with_frames s.plain g (passed_frames n v)) { memory = m }
 
-      frames_now : frames_of next g ≡ passed n v
-      frames_now = ap frames_in (get_set_same s.plain.goroutines g (frame ∷ callers) (passed n v) n.before.at)
+      frames_now : frames_of next g ≡ passed_frames n v
+      frames_now = ap frames_in (get_set_same s.plain.goroutines g (frame ∷ callers) (passed_frames n v) n.before.at)
 
       holders_now : slice_set s.holders g (unless_trapped s.plain.ended h
           (holder_after code h frame callers n.before.instr.op (frames_of next g)))
@@ -144,7 +144,7 @@ module _ (code : Code) (page_words : ℕ) (s : RegionState) (g : ℕ) (action : 
           (record next { printed = printed_same s.mark s.plain.printed i; ended = None })
           (append-nil s.owners i)
           (holders_now i)
-          ((ap (marked s.mark) running ∙ marked_same s.mark) i)
+          ((ap (mark_with_end s.mark) running ∙ marked_same s.mark) i)
 
   -- it traps
   pub traps : makes_object action ≡ false → (trap : Trap) (at : ℕ)
@@ -171,4 +171,4 @@ module _ (code : Code) (page_words : ℕ) (s : RegionState) (g : ℕ) (action : 
           (record next { printed = printed_same s.mark s.plain.printed i; ended = None })
           (append-nil s.owners i)
           (holders_now i)
-          (marked s.mark (Some (the_end.Trap trap at)))
+          (mark_with_end s.mark (Some (the_end.Trap trap at)))

@@ -31,7 +31,7 @@ use Rattle.rgo_sound.specs.Types.{HaveKinds, FramesHaveKinds, ObjectFits}
 use Rattle.rgo_core_channels.specs.Channels.{Chan, IsChan, OfferOf, On, channel}
 use Rattle.rgo_core_channels.specs.Live.{OperandIsLive, TakenIsLive}
 use Rattle.rgo_core_channels.specs.Moments.{Moment}
-use Rattle.rgo_core_channels.specs.Records.{Rec, Offering}
+use Rattle.rgo_core_channels.specs.Records.{ChannelRec, Offering}
 use Rattle.rgo_core_channels.specs.Standing.{IsAt, IsOfChannel, Next}
 
 chan_no_slice : (t u : «Type») → chan_of t ≡ slice_of u → ⊥
@@ -133,7 +133,7 @@ module _ (T : Moment) (g : ℕ) where
       → IsOfChannel action → (k : Chan) × On T.state o k
   live_at action o vs next kind = operand_is_live T.code T.state g action o vs T.checked T.good kind next
 
-  module _ (c : Rec) (mine : slice_get T.recs g ≡ Some c) where
+  module _ (c : ChannelRec) (mine : slice_get T.recs g ≡ Some c) where
     -- the channel of the goroutine's offer
     pub offered_at : (a : ℕ) → c.post ≡ Offering a
         → (o : ℕ) × (k : Chan) × On T.state o k × (T.place o ≡ a) × OfferOf (T.at.phase o) g

@@ -16,10 +16,10 @@ use Rattle.rgo_sound.proofs.Tests.{and_split, eq_of}
 use Rattle.rgo_core_channels.specs.Channels.{Chan, channel, On, Phase, Calm, Offered, Accepted, phase_number, OfferOf}
 use Rattle.rgo_core_channels.specs.Channels.{Lock, Unlocked, LockedBy, lock_bit, Places, count, Channels}
 use Rattle.rgo_core_channels.specs.Controls.{bit, control, closed_of, count_of, head_of, extent, tail_words}
-use Rattle.rgo_core_channels.specs.Moments.{Moment, LoadsWord, Keeps}
+use Rattle.rgo_core_channels.specs.Moments.{Moment, LoadsWord, KeepsState}
 use Rattle.rgo_core_channels.specs.Locking.{IsCell, IsSpare, LockLaw, CellLoadLaw, CellStoreLaw}
 use Rattle.rgo_core_channels.specs.Looking.{CapacityLaw, ControlLaw, OwnControlLaw}
-use Rattle.rgo_core_channels.specs.Records.{Rec, Free, Locked, Wrote, Read, HoldsAt, InCell, KnowsOf, Reach, Reached, Sized, Saw, Shut, Stranded, Offering}
+use Rattle.rgo_core_channels.specs.Records.{ChannelRec, Free, Locked, Wrote, Read, HoldsAt, InCell, KnowsOf, Reach, Reached, Sized, Saw, Shut, Stranded, Offering}
 use Rattle.rgo_core_channels.specs.Records.{with_hold, with_size, with_look, with_own_look, with_lock, with_reach}
 use Rattle.rgo_core_channels.proofs.Decoding.{decode, decode_locked, bit_small, lock_small, even_control, shut_or}
 use Rattle.rgo_core_memory.proofs.Rows.{set_again}
@@ -28,7 +28,7 @@ use Rattle.rgo_core_channels.proofs.Steps.{one_place, same_chan, they_know, plac
 use Rattle.rgo_core_channels.proofs.Steps.{record_step, cell_step, recs_was, stays, here, is_mine}
 
 -- a record that has seen one thing more
-knows_saw : (code : Code) (place : ℕ → ℕ) (s : RegionState) (g : ℕ) (c : Rec) (saw : Saw)
+knows_saw : (code : Code) (place : ℕ → ℕ) (s : RegionState) (g : ℕ) (c : ChannelRec) (saw : Saw)
     → ((b : ℕ) → KnowsOf c b → IsAt code place s g c.post b) → ((b : ℕ) → saw ≡ Shut b → IsAt code place s g c.post b)
     → ((b : ℕ) → saw ≡ Stranded b → IsAt code place s g c.post b) → (a : ℕ) → KnowsOf (record c { saw = saw }) a
     → IsAt code place s g c.post a
@@ -38,7 +38,7 @@ knows_saw code place s g c saw old shut stranded a (inr (inr (inl e))) = shut a 
 knows_saw code place s g c saw old shut stranded a (inr (inr (inr (inl e)))) = stranded a e
 knows_saw code place s g c saw old shut stranded a (inr (inr (inr (inr t)))) = old a (inr (inr (inr (inr t))))
 
-knows_reach : (code : Code) (place : ℕ → ℕ) (s : RegionState) (g : ℕ) (c : Rec) (reach : Reach)
+knows_reach : (code : Code) (place : ℕ → ℕ) (s : RegionState) (g : ℕ) (c : ChannelRec) (reach : Reach)
     → ((b : ℕ) → KnowsOf c b → IsAt code place s g c.post b)
     → ((b i w : ℕ) → reach ≡ Reached b i w → IsAt code place s g c.post b) → (a : ℕ) → KnowsOf (record c { reach = reach }) a
     → IsAt code place s g c.post a
@@ -49,7 +49,7 @@ knows_reach code place s g c reach old found a (inr (inr (inr (inl e)))) = old a
 knows_reach code place s g c reach old found a (inr (inr (inr (inr (inl e))))) = old a (inr (inr (inr (inr (inl e)))))
 knows_reach code place s g c reach old found a (inr (inr (inr (inr (inr t))))) = found a t.0 t.1 t.2
 
-module _ (T : Moment) (g : ℕ) (c : Rec) (mine : slice_get T.recs g ≡ Some c) where
+module _ (T : Moment) (g : ℕ) (c : ChannelRec) (mine : slice_get T.recs g ≡ Some c) where
   abbrev pub m : Memory
   m = T.state.plain.memory
 
@@ -72,7 +72,7 @@ module _ (T : Moment) (g : ℕ) (c : Rec) (mine : slice_get T.recs g ≡ Some c)
       go (suc n) z = let h = (K.buffered o k on (omega arith)).2 in let s = K.small o k on in omega arith
 
   -- a load tells the record something
-  module _ (d : Rec) (i : ℕ)
+  module _ (d : ChannelRec) (i : ℕ)
       (to : Channels T.code T.page_words T.encode T.place T.cell T.words (slice_set T.recs g d) T.state T.at) where
     looks : Channels T.code T.page_words T.encode T.place T.cell (slice_set T.words i (slice_index T.words i)) (slice_set T.recs g d)
         T.state T.at
@@ -192,13 +192,13 @@ module _ (T : Moment) (g : ℕ) (c : Rec) (mine : slice_get T.recs g ≡ Some c)
               absurd (omega arith)
 
   lock_keeps : (o n : ℕ) (k : Chan) → On T.state o k → IsAt T.code T.place T.state g c.post (T.place o) → n % 2 ≡ 0 → c.hold ≡ Free
-      → Keeps T g (T.place o) (λ w. if w == n then suc n else w) (with_lock c (T.place o) n)
+      → KeepsState T g (T.place o) (λ w. if w == n then suc n else w) (with_lock c (T.place o) n)
   lock_keeps o n k on near even idle = go (w == n) refl
     where
       w : ℕ
       w = slice_index T.words (T.place o)
 
-      d : Rec
+      d : ChannelRec
       d = with_hold c (Locked (T.place o) n)
 
       go : (b : Bool) → (w == n) ≡ b → (at : Places) × Channels T.code T.page_words T.encode T.place T.cell
@@ -235,7 +235,7 @@ module _ (T : Moment) (g : ℕ) (c : Rec) (mine : slice_get T.recs g ≡ Some c)
                   (λ j y ne e q. (refl, refl));
               as_many = refl;
               calm = λ j y h p q f. ⊎_elim
-                  (λ (u : (j ≡ g) × (d ≡ y)). K.calm g c h mine (rw (← u.0) q) (ap (λ (r : Rec). r.post) u.1 ∙ f))
+                  (λ (u : (j ≡ g) × (d ≡ y)). K.calm g c h mine (rw (← u.0) q) (ap (λ (r : ChannelRec). r.post) u.1 ∙ f))
                   (λ (u : (j ≢ g) × (slice_get T.recs j ≡ Some y)). K.calm j y h u.1 q f)
                   (recs_was T.code T.page_words T.encode T.place T.cell T.words T.recs T.state T.at K g c d mine j y p);
               others = λ p j l ne x q. ((refl, refl), λ w. refl);
@@ -247,7 +247,7 @@ module _ (T : Moment) (g : ℕ) (c : Rec) (mine : slice_get T.recs g ≡ Some c)
                     t.1,
                     rw w (here T.code T.page_words T.encode T.place T.cell T.words T.recs T.state T.at K g c d mine),
                     t.3,
-                    ap (λ (y : Rec). y.post) (sym (is_mine T.code T.page_words T.encode T.place T.cell T.words T.recs T.state T.at K g c d mine j t.0 t.2 w)) ∙ t.4,
+                    ap (λ (y : ChannelRec). y.post) (sym (is_mine T.code T.page_words T.encode T.place T.cell T.words T.recs T.state T.at K g c d mine j t.0 t.2 w)) ∙ t.4,
                     t.5,
                   ))
                   (λ ne. (
@@ -347,7 +347,7 @@ module _ (T : Moment) (g : ℕ) (c : Rec) (mine : slice_get T.recs g ≡ Some c)
       (λ t. K.knows g b c mine (inr t)) q))
 
   store_keeps : (a n i size p x : ℕ) → c.hold ≡ Locked a n → c.size ≡ Sized a size → IsSpare n size i
-      → IsCell T.page_words c a size i p → Keeps T g p (λ w. x) (λ w. with_hold c (Wrote a n i x))
+      → IsCell T.page_words c a size i p → KeepsState T g p (λ w. x) (λ w. with_hold c (Wrote a n i x))
   store_keeps a n i size p x hold sizing spare found = (
     T.at,
     rw (← s.3, ← here) (record_step T.code T.page_words T.encode T.place T.cell more T.recs T.state
@@ -456,7 +456,7 @@ own_control_is T g c mine a post =
 pub lock_is_taken : LockLaw
 lock_is_taken T g c mine a n at even idle =
     let t = channel_at T g c mine a at in
-    subst (λ b. IsAt T.code T.place T.state g c.post b → Keeps T g b (λ w. if w == n then suc n else w) (with_lock c b n)) t.3
+    subst (λ b. IsAt T.code T.place T.state g c.post b → KeepsState T g b (λ w. if w == n then suc n else w) (with_lock c b n)) t.3
     (λ here. lock_keeps T g c mine t.0 n t.1 t.2 here even idle) at
 
 pub cell_load_is : CellLoadLaw

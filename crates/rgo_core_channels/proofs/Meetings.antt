@@ -22,9 +22,9 @@ use Rattle.rgo_core_channels.specs.Controls.{bit, control, closed_of, count_of, 
 use Rattle.rgo_core_channels.specs.Moments.{Gains, Moment}
 use Rattle.rgo_core_channels.specs.After.{after_meeting}
 use Rattle.rgo_core_channels.specs.Meetings.{ChannelOfferLaw, ChannelMeetLaw, ChannelAcknowledgeLaw}
-use Rattle.rgo_core_channels.specs.Records.{Rec, Locked, HoldsAt, InCell}
-use Rattle.rgo_core_channels.specs.Records.{Post, Nowhere, Offering, at_rest, offering}
-use Rattle.rgo_core_channels.specs.Standing.{Next, passed, passed_holder}
+use Rattle.rgo_core_channels.specs.Records.{ChannelRec, Locked, HoldsAt, InCell}
+use Rattle.rgo_core_channels.specs.Records.{Post, Nowhere, Offering, at_rest, offering_record}
+use Rattle.rgo_core_channels.specs.Standing.{Next, passed_frames, passed_holder}
 use Rattle.rgo_core_channels.proofs.Buffers.{posted, no_offer, lock_is, n_is, said, capacity_is, cell_is, is_open}
 use Rattle.rgo_core_memory.proofs.Rows.{set_else, set_again}
 use Rattle.rgo_core_channels.proofs.Offering.{is_place, none_there, offers, acknowledges, meets}
@@ -58,7 +58,7 @@ module _ (T : Moment) where
       → slice_get T.state.holders j ≡ Some h → offers_on o h.offer ≡ false
   no_holder o k on calm j h there = by y.0.post refl
     where
-      y : (y : Rec) × (slice_get T.recs j ≡ Some y)
+      y : (y : ChannelRec) × (slice_get T.recs j ≡ Some y)
       y = get_some T.recs j (let a = T.channels.as_many in let b = slice_get_within T.state.holders j h there in
           omega arith)
 
@@ -92,7 +92,7 @@ offer_is T g c mine o n x v next hold code free sizing shut idle = (
     steps = offers T.code T.page_words T.state o T.running on.1 g v next
         (ap may_go (no_offer T g c mine next free)) meeting nobody;
     at = _;
-    channels = control_step T.code T.page_words T.encode T.place T.cell T.words T.recs T.state T.at T.channels g c (offering (T.place o))
+    channels = control_step T.code T.page_words T.encode T.place T.cell T.words T.recs T.state T.at T.channels g c (offering_record (T.place o))
         mine o k k (n + 4) Unlocked (T.at.head o) (Offered g) b on (record {
           heap = sym (set_again T.state.plain.memory.heap o (channel k) on.0);
           touch = λ p. refl;
@@ -104,26 +104,26 @@ offer_is T g c mine o n x v next hold code free sizing shut idle = (
           closes = λ t. t;
           told = freed T.code T.page_words T.encode T.place T.cell T.words T.recs T.state T.at T.channels g c mine (Offering (T.place o)) o n (n + 4) held
               (lock_is T g c mine o n held k on);
-          know = they_know T.code T.page_words T.encode T.place T.cell T.words T.recs T.state T.at T.channels g c (offering (T.place o)) mine b
+          know = they_know T.code T.page_words T.encode T.place T.cell T.words T.recs T.state T.at T.channels g c (offering_record (T.place o)) mine b
               (λ a q. inr (knows_post (Offering (T.place o)) a q)) (λ j y ne e q. other_holder T g h j ne);
           stranded = λ j q f. absurd (let y : Calm ≡ Offered j = sym calm ∙ f in cc y);
           as_many = length_slice_set T.state.holders g h;
           calm = λ j y h' p q f. ⊎_elim
-              (λ (u : (j ≡ g) × (offering (T.place o) ≡ y)). let z : Offering (T.place o) ≡ Nowhere
-              = ap (λ (r : Rec). r.post) u.1 ∙ f in absurd (cc z))
+              (λ (u : (j ≡ g) × (offering_record (T.place o) ≡ y)). let z : Offering (T.place o) ≡ Nowhere
+              = ap (λ (r : ChannelRec). r.post) u.1 ∙ f in absurd (cc z))
               (λ (u : (j ≢ g) × (slice_get T.recs j ≡ Some y)). T.channels.calm j y h' u.1
               (sym (set_else T.state.holders g j h u.0) ∙ q) f)
-              (recs_was T.code T.page_words T.encode T.place T.cell T.words T.recs T.state T.at T.channels g c (offering (T.place o)) mine j
+              (recs_was T.code T.page_words T.encode T.place T.cell T.words T.recs T.state T.at T.channels g c (offering_record (T.place o)) mine j
               y p);
           others = λ p j l ne e q. let nj = posted T g c mine free p j l e q in
               (other_holder T g h j nj, λ w. absurd (nj w));
           mine_post = λ a q. inl (let y : Offering (T.place o) ≡ Offering a = q in sym (cc y), refl);
           theirs = λ j ne q. absurd (subst (λ w. OfferOf w j) calm q);
           offer = λ j q. (
-            offering (T.place o),
+            offering_record (T.place o),
             h,
-            subst (λ i. slice_get (slice_set T.recs g (offering (T.place o))) i ≡ Some (offering (T.place o))) q
-                (here T.code T.page_words T.encode T.place T.cell T.words T.recs T.state T.at T.channels g c (offering (T.place o)) mine),
+            subst (λ i. slice_get (slice_set T.recs g (offering_record (T.place o))) i ≡ Some (offering_record (T.place o))) q
+                (here T.code T.page_words T.encode T.place T.cell T.words T.recs T.state T.at T.channels g c (offering_record (T.place o)) mine),
             subst (λ i. slice_get b.holders i ≡ Some h) q there,
             refl,
             refl,
@@ -187,7 +187,7 @@ offer_is T g c mine o n x v next hold code free sizing shut idle = (
         omega arith
 
 -- the sender whose offer was taken acknowledges it
-acknowledges_at : (T : Moment) (g : ℕ) (c : Rec) (mine : slice_get T.recs g ≡ Some c) (o n : ℕ) (k : Chan)
+acknowledges_at : (T : Moment) (g : ℕ) (c : ChannelRec) (mine : slice_get T.recs g ≡ Some c) (o n : ℕ) (k : Chan)
     → On T.state o k → OfferOf (T.at.phase o) g → c.post ≡ Offering (T.place o) → count_of n ≡ 2
     → c.hold ≡ Locked (T.place o) n
     → (h : Holder) × (slice_get T.state.holders g ≡ Some h) × (h.offer ≡ Taken o)
@@ -319,7 +319,7 @@ meet_is T g c mine o n x next hold free sizing shut up = (
           know = they_know T.code T.page_words T.encode T.place T.cell T.words T.recs T.state T.at T.channels g c at_rest mine b
               (λ a q. absurd (rest_knows a q)) (λ j y no e q. same_both j no (λ w.
               let same : y ≡ S.0 = same_Some y S.0 (sym e ∙ (ap (slice_get T.recs) w ∙ S.2)) in
-              let z : Nowhere ≡ Offering (T.place o) = sym q ∙ (ap (λ (z : Rec). z.post) same ∙ S.4) in absurd (cc z)));
+              let z : Nowhere ≡ Offering (T.place o) = sym q ∙ (ap (λ (z : ChannelRec). z.post) same ∙ S.4) in absurd (cc z)));
           stranded = λ j q f. absurd (let y : true ≡ false = sym q ∙ still_open in cc y);
           as_many = length_slice_set (slice_set T.state.holders g A) t B ∙ length_slice_set T.state.holders g A;
           calm = λ j y r p q f. ⊎_elim
@@ -329,7 +329,7 @@ meet_is T g c mine o n x next hold free sizing shut up = (
               ap (λ (z : Holder). z.offer) (sym same) ∙ no_offer T g c mine next free)
               (λ (u : (j ≢ g) × (slice_get T.recs j ≡ Some y)). dite (ℕ_discrete j t)
               (λ w. let same : y ≡ S.0 = same_Some y S.0 (sym u.1 ∙ (ap (slice_get T.recs) w ∙ S.2)) in
-              let z : Nowhere ≡ Offering (T.place o) = sym f ∙ (ap (λ (z : Rec). z.post) same ∙ S.4) in absurd (cc z))
+              let z : Nowhere ≡ Offering (T.place o) = sym f ∙ (ap (λ (z : ChannelRec). z.post) same ∙ S.4) in absurd (cc z))
               (λ nt. T.channels.calm j y r u.1 (sym (same_holder j u.0 nt) ∙ q) f))
               (recs_was T.code T.page_words T.encode T.place T.cell T.words T.recs T.state T.at T.channels g c at_rest mine j y p);
           others = λ p j l no e q. let nj = posted T g c mine free p j l e q in
@@ -397,7 +397,7 @@ meet_is T g c mine o n x next hold free sizing shut up = (
     M : Next T.code T.state t Send (value.Object o ∷ v ∷ [])
     M = (T.channels.waits o t k on offered).1
 
-    S : (y : Rec) × (h : Holder) × (slice_get T.recs t ≡ Some y) × (slice_get T.state.holders t ≡ Some h)
+    S : (y : ChannelRec) × (h : Holder) × (slice_get T.recs t ≡ Some y) × (slice_get T.state.holders t ≡ Some h)
         × (y.post ≡ Offering (T.place o)) × (h.offer ≡ holder_offer o (T.at.phase o))
     S = T.channels.offers o t k on own
 
@@ -423,8 +423,8 @@ meet_is T g c mine o n x next hold free sizing shut up = (
 
     same_both : (j : ℕ) → j ≢ g → j ≢ t → Same T.state b j
     same_both j nj nt = (
-      set_else (slice_set T.state.plain.goroutines g (passed next v)) t j (passed M value.Nil) nt
-          ∙ set_else T.state.plain.goroutines g j (passed next v) nj,
+      set_else (slice_set T.state.plain.goroutines g (passed_frames next v)) t j (passed_frames M value.Nil) nt
+          ∙ set_else T.state.plain.goroutines g j (passed_frames next v) nj,
       same_holder j nj nt,
     )
 

@@ -17,7 +17,7 @@ use Rattle.rgo_sound.specs.Code.Code.{Code}
 use Rattle.rgo_sound.specs.Code.Erasure.{erased}
 use Rattle.rgo_sound.specs.RegionMachine.Duties.{may_go, attended}
 use Rattle.rgo_sound.specs.RegionMachine.Instructions.{is_ready, holder_after, side_by, side_after, standing_at, taken_offer}
-use Rattle.rgo_sound.specs.RegionMachine.Instructions.{both_instructed, instruct, marked, plain_after}
+use Rattle.rgo_sound.specs.RegionMachine.Instructions.{both_instructed, instruct, mark_with_end, plain_after}
 use Rattle.rgo_sound.specs.RegionMachine.Machine.{MakeOffer, Acknowledge, Instruct, region_step, plain_step}
 use Rattle.rgo_sound.specs.RegionMachine.Objects.{may_touch}
 use Rattle.rgo_sound.specs.RegionMachine.Offers.{make_offer, offer_at, offer_for, offered, offered_channel, offers_on, open_channel}
@@ -28,7 +28,7 @@ use Rattle.rgo_sound.proofs.Places.{get_set_same}
 use Rattle.rgo_sound.proofs.Tests.{ne_of, nat_eq_refl}
 use Rattle.rgo_core_channels.specs.Channels.{Chan, IsChan}
 use Rattle.rgo_core_channels.specs.After.{after_meeting}
-use Rattle.rgo_core_channels.specs.Standing.{Next, passed, passed_holder, blank_of}
+use Rattle.rgo_core_channels.specs.Standing.{Next, passed_frames, passed_holder, blank_of}
 use Rattle.rgo_core_channels.proofs.Forward.{ready, stands_is, printed_same, marked_same}
 use Rattle.rgo_core_memory.proofs.Rows.{set_else}
 
@@ -93,7 +93,7 @@ module _ (code : Code) (page_words : ℕ) (s : RegionState) (o : ℕ) (running :
       ∙ ap (λ b. if b then Some done else None) all_true ∙ ap Some is
     where
       next : TacState
-      next = with_frames (with_frames s.plain r (passed n v)) t (passed k value.Nil)
+      next = with_frames (with_frames s.plain r (passed_frames n v)) t (passed_frames k value.Nil)
 
       meets' : meets_at s.plain.memory (value.Object o) (value.Object o) ≡ true
       meets' = ap (λ b. if b then is_meeting_at (slice_get s.plain.memory.heap o) else false) (nat_eq_refl o) ∙ meeting
@@ -124,7 +124,7 @@ module _ (code : Code) (page_words : ℕ) (s : RegionState) (o : ℕ) (running :
         holders =
             slice_set (slice_set s.holders r side_r) t (record side_t { offer = taken_offer k.holder.offer });
         steps = s.steps + 1;
-        mark = marked s.mark s.plain.ended;
+        mark = mark_with_end s.mark s.plain.ended;
       }
 
       all_true : (is_ready code s n.holder (frames_of s.plain r) && is_ready code s k.holder (frames_of s.plain t)
@@ -139,14 +139,14 @@ module _ (code : Code) (page_words : ℕ) (s : RegionState) (o : ℕ) (running :
           (ready code page_words s t Send (value.Object o ∷ v ∷ []) k running (ap may_go standing) live)
           ∙ ap standing_at standing
 
-      there_r : frames_of next r ≡ passed n v
-      there_r = ap frames_in (set_else (slice_set s.plain.goroutines r (passed n v)) t r (passed k value.Nil) ne
-          ∙ get_set_same s.plain.goroutines r (n.before.frame ∷ n.before.callers) (passed n v) n.before.at)
+      there_r : frames_of next r ≡ passed_frames n v
+      there_r = ap frames_in (set_else (slice_set s.plain.goroutines r (passed_frames n v)) t r (passed_frames k value.Nil) ne
+          ∙ get_set_same s.plain.goroutines r (n.before.frame ∷ n.before.callers) (passed_frames n v) n.before.at)
 
-      there_t : frames_of next t ≡ passed k value.Nil
-      there_t = ap frames_in (get_set_same (slice_set s.plain.goroutines r (passed n v)) t
-          (k.before.frame ∷ k.before.callers) (passed k value.Nil)
-          (set_else s.plain.goroutines r t (passed n v) (λ e. ne (sym e)) ∙ k.before.at))
+      there_t : frames_of next t ≡ passed_frames k value.Nil
+      there_t = ap frames_in (get_set_same (slice_set s.plain.goroutines r (passed_frames n v)) t
+          (k.before.frame ∷ k.before.callers) (passed_frames k value.Nil)
+          (set_else s.plain.goroutines r t (passed_frames n v) (λ e. ne (sym e)) ∙ k.before.at))
 
       side_r_is : side_r ≡ passed_holder n v
       side_r_is = side_is r Recv (value.Object o ∷ []) n (frames_of next r)
@@ -163,5 +163,5 @@ module _ (code : Code) (page_words : ℕ) (s : RegionState) (o : ℕ) (running :
             slice_set (slice_set s.holders r (side_r_is i)) t
             (record (side_t_is i) { offer = ap taken_offer standing i });
         steps = s.steps + 1;
-        mark = (ap (marked s.mark) running ∙ marked_same s.mark) i;
+        mark = (ap (mark_with_end s.mark) running ∙ marked_same s.mark) i;
       }

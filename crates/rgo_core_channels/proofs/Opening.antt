@@ -4,17 +4,17 @@ use Rattle.std.proofs.lemmas.Option.{same_Some}
 use Rattle.rgo_sound.specs.RegionMachine.Machine.{region_start}
 use Rattle.rgo_sound.specs.RegionMachine.States.{Holder, NoOffer}
 use Rattle.rgo_core_channels.specs.Channels.{Chan, On, channel}
-use Rattle.rgo_core_channels.specs.Opening.{Opens}
-use Rattle.rgo_core_channels.specs.Records.{HoldsAt, InCell, KnowsOf, Nothing, Nowhere, Offering, Reached, Rec, Shut, Sized, Stranded, Unknown, Unreached, at_rest}
+use Rattle.rgo_core_channels.specs.Opening.{ChannelsOpen}
+use Rattle.rgo_core_channels.specs.Records.{HoldsAt, InCell, KnowsOf, Nothing, Nowhere, Offering, Reached, ChannelRec, Shut, Sized, Stranded, Unknown, Unreached, at_rest}
 use Rattle.rgo_core_channels.proofs.Steps.{rest_knows}
 use Rattle.rgo_core_channels.proofs.Elsewhere.{nothing_there}
 
 -- the only record of the opening
-pub only : (j : ℕ) (y : Rec) → slice_get (at_rest ∷ []) j ≡ Some y → at_rest ≡ y
+pub only : (j : ℕ) (y : ChannelRec) → slice_get (at_rest ∷ []) j ≡ Some y → at_rest ≡ y
 only zero y e = same_Some at_rest y e
 only (suc j) y e = absurd (nothing_there j y e)
 
-pub opens : Opens
+pub opens : ChannelsOpen
 opens code page_words encode place cell words at = record {
   controls = λ o k e. absurd (none o k e);
   capacities = λ o k e. absurd (none o k e);
@@ -27,16 +27,16 @@ opens code page_words encode place cell words at = record {
   row = λ o i k e w h. absurd (none o k e);
   apart = λ o p i j k l e e' h h'. absurd (none o k e);
   lockers = λ o j k e q. absurd (none o k e);
-  locks = λ j a i y e q. absurd (subst (λ (r : Rec). HoldsAt r.hold a i) (sym (only j y e)) q);
-  in_cells = λ j a i x y e q. absurd (subst (λ (r : Rec). InCell r.hold a i x) (sym (only j y e)) q);
-  sizes = λ j a i y e q. absurd (let z : Unknown ≡ Sized a i = ap (λ (r : Rec). r.size) (only j y e) ∙ q in cc z);
-  reaches = λ j a i w y e q. absurd (let z : Unreached ≡ Reached a i w = ap (λ (r : Rec). r.reach) (only j y e) ∙ q in cc z);
-  saws = λ j a y e q. absurd (let z : Nothing ≡ Shut a = ap (λ (r : Rec). r.saw) (only j y e) ∙ q in cc z);
-  strands = λ j a y e q. absurd (let z : Nothing ≡ Stranded a = ap (λ (r : Rec). r.saw) (only j y e) ∙ q in cc z);
-  knows = λ j a y e q. absurd (rest_knows a (subst (λ (r : Rec). KnowsOf r a) (sym (only j y e)) q));
+  locks = λ j a i y e q. absurd (subst (λ (r : ChannelRec). HoldsAt r.hold a i) (sym (only j y e)) q);
+  in_cells = λ j a i x y e q. absurd (subst (λ (r : ChannelRec). InCell r.hold a i x) (sym (only j y e)) q);
+  sizes = λ j a i y e q. absurd (let z : Unknown ≡ Sized a i = ap (λ (r : ChannelRec). r.size) (only j y e) ∙ q in cc z);
+  reaches = λ j a i w y e q. absurd (let z : Unreached ≡ Reached a i w = ap (λ (r : ChannelRec). r.reach) (only j y e) ∙ q in cc z);
+  saws = λ j a y e q. absurd (let z : Nothing ≡ Shut a = ap (λ (r : ChannelRec). r.saw) (only j y e) ∙ q in cc z);
+  strands = λ j a y e q. absurd (let z : Nothing ≡ Stranded a = ap (λ (r : ChannelRec). r.saw) (only j y e) ∙ q in cc z);
+  knows = λ j a y e q. absurd (rest_knows a (subst (λ (r : ChannelRec). KnowsOf r a) (sym (only j y e)) q));
   as_many = refl;
   calm = λ j y h e f q. calm j h f;
-  posts = λ j a y e q. absurd (let z : Nowhere ≡ Offering a = ap (λ (r : Rec). r.post) (only j y e) ∙ q in cc z);
+  posts = λ j a y e q. absurd (let z : Nowhere ≡ Offering a = ap (λ (r : ChannelRec). r.post) (only j y e) ∙ q in cc z);
   offers = λ o j k e q. absurd (none o k e);
   waits = λ o j k e q. absurd (none o k e);
 }

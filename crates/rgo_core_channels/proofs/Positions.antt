@@ -22,7 +22,7 @@ use Rattle.rgo_core_memory.proofs.objects.Addresses.{word_inside, words_apart}
 use Rattle.rgo_core_memory.proofs.image.Facts.{follow, spread_follow}
 use Rattle.rgo_core_memory.proofs.objects.Spreads.{in_table, number_spot, spread_data}
 use Rattle.rgo_core_memory.proofs.Writes.{in_pages}
-use Rattle.rgo_core_channels.specs.Channels.{Chan, On, channel, word_of}
+use Rattle.rgo_core_channels.specs.Channels.{Chan, On, channel, word_of_channel}
 use Rattle.rgo_core_channels.specs.Controls.{extent, tail_words, spreads}
 use Rattle.rgo_core_channels.specs.Positions.{LayoutLaw, PageNumberLaw, cell_place, place_at}
 use Rattle.rgo_core_channels.specs.Moments.{LoadsWord}
@@ -128,7 +128,7 @@ module _ (z : TableSizes) (words : List ℕ) (recs : List MemoryRec) (s : Region
             omega (arith, a, b, e)
 
     pub words_is : (i : ℕ) → i < 2 + extent k.capacity
-        → word_of (place_at z places) (cell_place z places) o i ≡ word_at z places o i
+        → word_of_channel (place_at z places) (cell_place z places) o i ≡ word_at z places o i
     words_is zero l = let a = low_is 0 (omega arith) in omega (arith, a)
     words_is (suc zero) l = sym (low_is 1 (omega arith))
     words_is (suc (suc i)) l = ap (word_at z places o) (two_more i)
@@ -158,7 +158,7 @@ module _ (z : TableSizes) (words : List ℕ) (recs : List MemoryRec) (s : Region
         )
 
   pub apart_is : (o p i j : ℕ) (k l : Chan) → On s o k → On s p l → i < 2 + extent k.capacity → j < 2 + extent l.capacity
-      → word_of (place_at z places) (cell_place z places) o i ≡ word_of (place_at z places) (cell_place z places) p j
+      → word_of_channel (place_at z places) (cell_place z places) o i ≡ word_of_channel (place_at z places) (cell_place z places) p j
       → (o ≡ p) × (i ≡ j)
   apart_is o p i j k l on on' hi hj e =
       let same : word_at z places o i ≡ word_at z places p j = sym (words_is o k on i hi) ∙ (e ∙ words_is p l on' j hj) in

@@ -9,14 +9,14 @@ use Rattle.rgo_sound.specs.Machine.declared.picks.End.{End}
 use Rattle.rgo_sound.specs.Code.Code.{Code}
 use Rattle.rgo_sound.specs.RegionMachine.Machine.{kept_mark}
 use Rattle.rgo_sound.specs.RegionMachine.States.{Mark, RegionState}
-use Rattle.rgo_core_channels.specs.Channels.{Chan, Channels, On, Places, cell_of, word_of}
+use Rattle.rgo_core_channels.specs.Channels.{Chan, Channels, On, Places, cell_of, word_of_channel}
 use Rattle.rgo_core_channels.specs.Controls.{extent}
-use Rattle.rgo_core_channels.specs.Elsewhere.{FinishKeeps, WordKeeps}
-use Rattle.rgo_core_channels.specs.Records.{Rec}
+use Rattle.rgo_core_channels.specs.Elsewhere.{FinishKeeps, ForeignWordKeeps}
+use Rattle.rgo_core_channels.specs.Records.{ChannelRec}
 use Rattle.rgo_core_channels.proofs.Decoding.{some_cell}
 use Rattle.rgo_core_channels.proofs.Steps.{at_same, next_same, place_in}
 
-module _ (code : Code) (page_words : ℕ) (encode : Value → ℕ) (place : ℕ → ℕ) (cell : ℕ → ℕ → ℕ) (words : List ℕ) (recs : List Rec) (s : RegionState)
+module _ (code : Code) (page_words : ℕ) (encode : Value → ℕ) (place : ℕ → ℕ) (cell : ℕ → ℕ → ℕ) (words : List ℕ) (recs : List ChannelRec) (s : RegionState)
     (at : Places) (K : Channels code page_words encode place cell words recs s at) where
   -- the state that is like s but for its end, its mark and its number of steps
   abbrev pub marked_state : Option End → Option Mark → ℕ → RegionState
@@ -55,13 +55,13 @@ module _ (code : Code) (page_words : ℕ) (encode : Value → ℕ) (place : ℕ 
     );
   }
 
-  module _ (i x : ℕ) (far : (o j : ℕ) (k : Chan) → On s o k → j < 2 + extent k.capacity → word_of place cell o j ≢ i) where
+  module _ (i x : ℕ) (far : (o j : ℕ) (k : Chan) → On s o k → j < 2 + extent k.capacity → word_of_channel place cell o j ≢ i) where
     abbrev new : List ℕ
     new = slice_set words i x
 
     same : (o j : ℕ) (k : Chan) → On s o k → j < 2 + extent k.capacity
-        → slice_index new (word_of place cell o j) ≡ slice_index words (word_of place cell o j)
-    same o j k on lt = get_or-set_other words i (word_of place cell o j) x 0 (far o j k on lt)
+        → slice_index new (word_of_channel place cell o j) ≡ slice_index words (word_of_channel place cell o j)
+    same o j k on lt = get_or-set_other words i (word_of_channel place cell o j) x 0 (far o j k on lt)
 
     first : (o : ℕ) (k : Chan) → On s o k → slice_index new (place o) ≡ slice_index words (place o)
     first o k on = same o 0 k on (omega arith)
@@ -117,5 +117,5 @@ pub finish_keeps : FinishKeeps
 finish_keeps code page_words encode place cell words recs s at limit K =
     marked_keeps code page_words encode place cell words recs s at K s.plain.ended (kept_mark s.mark limit) s.steps
 
-pub word_keeps : WordKeeps
+pub word_keeps : ForeignWordKeeps
 word_keeps code page_words encode place cell words recs s at i x far K = word_kept code page_words encode place cell words recs s at K i x far

@@ -6,10 +6,10 @@ use Rattle.rgo_sound.specs.Memory.declared.values.Value.{Value}
 use Rattle.rgo_sound.specs.Memory.declared.values.Value.TheVariants as value
 use Rattle.rgo_sound.specs.Code.Code.{Code}
 use Rattle.rgo_sound.specs.RegionMachine.States.{Holder, NoOffer, RegionState}
-use Rattle.rgo_core_channels.specs.Channels.{Calm, Chan, Channels, LockedBy, Offered, On, Places, Unlocked, cell_of, channel, count, word_of}
+use Rattle.rgo_core_channels.specs.Channels.{Calm, Chan, Channels, LockedBy, Offered, On, Places, Unlocked, cell_of, channel, count, word_of_channel}
 use Rattle.rgo_core_channels.specs.Controls.{bit, control, extent, tail_words, spreads}
-use Rattle.rgo_core_channels.specs.Examples.{LongIsShown, RingIsShown, long, long_cell, long_words, ring, ring_words}
-use Rattle.rgo_core_channels.specs.Records.{HoldsAt, InCell, KnowsOf, Nothing, Nowhere, Offering, Reached, Rec, Shut, Sized, Stranded, Unknown, Unreached, at_rest}
+use Rattle.rgo_core_channels.specs.Examples.{LongIsShown, RingIsShown, spread_buffer, long_cell, long_words, ring, ring_words}
+use Rattle.rgo_core_channels.specs.Records.{HoldsAt, InCell, KnowsOf, Nothing, Nowhere, Offering, Reached, ChannelRec, Shut, Sized, Stranded, Unknown, Unreached, at_rest}
 use Rattle.rgo_core_channels.proofs.Opening.{only}
 use Rattle.rgo_core_channels.proofs.Steps.{rest_knows, same_channel}
 
@@ -26,7 +26,7 @@ pub record Words (page_words : ℕ) (encode : Value → ℕ) (k : Chan) (cell : 
   pub cells_inside : (i : ℕ) → i < extent k.capacity → cell i < length words
   pub row : (i : ℕ) → spreads page_words k.capacity ≡ false → i < extent k.capacity → cell i ≡ 2 + i
   pub apart : (i j : ℕ) → i < 2 + extent k.capacity → j < 2 + extent k.capacity
-      → word_of (λ o. 0) (λ o. cell) 0 i ≡ word_of (λ o. 0) (λ o. cell) 0 j → i ≡ j
+      → word_of_channel (λ o. 0) (λ o. cell) 0 i ≡ word_of_channel (λ o. 0) (λ o. cell) 0 j → i ≡ j
 
 module _ (code : Code) (page_words : ℕ) (encode : Value → ℕ) (cell : ℕ → ℕ) (words : List ℕ) (s : RegionState) (h : Holder)
     (one : Chan) (head : ℕ) (heap : s.plain.memory.heap ≡ channel one ∷ []) (holders : s.holders ≡ h ∷ [])
@@ -46,7 +46,7 @@ module _ (code : Code) (page_words : ℕ) (encode : Value → ℕ) (cell : ℕ �
   only_holder zero k e = same_Some h k e
   only_holder (suc g) k e = absurd (let z : None ≡ Some k = e in cc z)
 
-  word_here : (o i : ℕ) → word_of (λ o. 0) (λ o. cell) o i ≡ word_of (λ o. 0) (λ o. cell) 0 i
+  word_here : (o i : ℕ) → word_of_channel (λ o. 0) (λ o. cell) o i ≡ word_of_channel (λ o. 0) (λ o. cell) 0 i
   word_here o zero = refl
   word_here o (suc zero) = refl
   word_here o (suc (suc i)) = refl
@@ -76,17 +76,17 @@ module _ (code : Code) (page_words : ℕ) (encode : Value → ℕ) (cell : ℕ �
           (sym (word_here o i) ∙ (e ∙ word_here p j)),
     );
     lockers = λ o g k on q. absurd (let z : Unlocked ≡ LockedBy g = q in cc z);
-    locks = λ g a n y e q. absurd (subst (λ (r : Rec). HoldsAt r.hold a n) (sym (only g y e)) q);
-    in_cells = λ g a i x y e q. absurd (subst (λ (r : Rec). InCell r.hold a i x) (sym (only g y e)) q);
-    sizes = λ g a n y e q. absurd (let z : Unknown ≡ Sized a n = ap (λ (r : Rec). r.size) (only g y e) ∙ q in cc z);
-    reaches = λ g a i w y e q. absurd (let z : Unreached ≡ Reached a i w = ap (λ (r : Rec). r.reach) (only g y e) ∙ q in cc z);
-    saws = λ g a y e q. absurd (let z : Nothing ≡ Shut a = ap (λ (r : Rec). r.saw) (only g y e) ∙ q in cc z);
-    strands = λ g a y e q. absurd (let z : Nothing ≡ Stranded a = ap (λ (r : Rec). r.saw) (only g y e) ∙ q in cc z);
-    knows = λ g a y e q. absurd (rest_knows a (subst (λ (r : Rec). KnowsOf r a) (sym (only g y e)) q));
+    locks = λ g a n y e q. absurd (subst (λ (r : ChannelRec). HoldsAt r.hold a n) (sym (only g y e)) q);
+    in_cells = λ g a i x y e q. absurd (subst (λ (r : ChannelRec). InCell r.hold a i x) (sym (only g y e)) q);
+    sizes = λ g a n y e q. absurd (let z : Unknown ≡ Sized a n = ap (λ (r : ChannelRec). r.size) (only g y e) ∙ q in cc z);
+    reaches = λ g a i w y e q. absurd (let z : Unreached ≡ Reached a i w = ap (λ (r : ChannelRec). r.reach) (only g y e) ∙ q in cc z);
+    saws = λ g a y e q. absurd (let z : Nothing ≡ Shut a = ap (λ (r : ChannelRec). r.saw) (only g y e) ∙ q in cc z);
+    strands = λ g a y e q. absurd (let z : Nothing ≡ Stranded a = ap (λ (r : ChannelRec). r.saw) (only g y e) ∙ q in cc z);
+    knows = λ g a y e q. absurd (rest_knows a (subst (λ (r : ChannelRec). KnowsOf r a) (sym (only g y e)) q));
     as_many = ap length (sym holders);
     calm = λ g y k e f q. ap (λ (r : Holder). r.offer) (sym (only_holder g k
         (subst (λ (l : List Holder). slice_get l g ≡ Some k) holders f))) ∙ no_offer;
-    posts = λ g a y e q. absurd (let z : Nowhere ≡ Offering a = ap (λ (r : Rec). r.post) (only g y e) ∙ q in cc z);
+    posts = λ g a y e q. absurd (let z : Nowhere ≡ Offering a = ap (λ (r : ChannelRec). r.post) (only g y e) ∙ q in cc z);
     offers = λ o g k on q. absurd q;
     waits = λ o g k on q. absurd (let z : Calm ≡ Offered g = q in cc z);
   }
@@ -99,7 +99,7 @@ ring_values encode zero v e = ap encode (same_Some (value.Bool true) v e)
 ring_values encode (suc zero) v e = ap encode (same_Some value.Nil v e)
 ring_values encode (suc (suc i)) v e = absurd (let z : None ≡ Some v = e in cc z)
 
-ring_word : (i : ℕ) → word_of (λ o. 0) (λ o i. 2 + i) 0 i ≡ i
+ring_word : (i : ℕ) → word_of_channel (λ o. 0) (λ o i. 2 + i) 0 i ≡ i
 ring_word zero = refl
 ring_word (suc zero) = refl
 ring_word (suc (suc i)) = omega arith
@@ -122,8 +122,8 @@ ring_is_shown code encode s h heap holders no_offer =
 
 -- ---- one of five over two data pages
 
-long_values : (encode : Value → ℕ) (i : ℕ) (v : Value) → slice_get long.queue i ≡ Some v
-    → slice_index (long_words encode) (long_cell 0 (cell_of long 3 i)) ≡ encode v
+long_values : (encode : Value → ℕ) (i : ℕ) (v : Value) → slice_get spread_buffer.queue i ≡ Some v
+    → slice_index (long_words encode) (long_cell 0 (cell_of spread_buffer 3 i)) ≡ encode v
 long_values encode zero v e = ap encode (same_Some (value.Bool true) v e)
 long_values encode (suc zero) v e = ap encode (same_Some value.Nil v e)
 long_values encode (suc (suc i)) v e = absurd (let z : None ≡ Some v = e in cc z)
@@ -132,7 +132,7 @@ long_values encode (suc (suc i)) v e = absurd (let z : None ≡ Some v = e in cc
 abbrev long_back : ℕ → ℕ
 long_back w = if nat_lt w 2 then w else (if nat_lt w 8 then 6 else w - 6)
 
-long_word : (i : ℕ) → i < 7 → long_back (word_of (λ o. 0) long_cell 0 i) ≡ i
+long_word : (i : ℕ) → i < 7 → long_back (word_of_channel (λ o. 0) long_cell 0 i) ≡ i
 long_word zero h = refl
 long_word (suc zero) h = refl
 long_word (suc (suc zero)) h = refl
@@ -152,7 +152,7 @@ long_inside (suc (suc (suc (suc (suc i))))) h = absurd (omega arith)
 
 pub long_is_shown : LongIsShown
 long_is_shown code encode s h heap holders no_offer =
-    shown code 4 encode (long_cell 0) (long_words encode) s h long 3 heap holders no_offer (record {
+    shown code 4 encode (long_cell 0) (long_words encode) s h spread_buffer 3 heap holders no_offer (record {
       control_is = refl;
       capacity_is = refl;
       value_is = long_values encode;

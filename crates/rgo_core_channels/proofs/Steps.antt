@@ -17,11 +17,11 @@ use Rattle.rgo_sound.specs.Code.Code.{Code}
 use Rattle.rgo_sound.specs.RegionMachine.Objects.{may_touch}
 use Rattle.rgo_sound.specs.RegionMachine.States.{Holder, NoOffer, RegionState}
 use Rattle.rgo_sound.proofs.Places.{get_set_same, length_set as length_slice_set}
-use Rattle.rgo_core_channels.specs.Channels.{Chan, channel, On, Phase, Calm, Offered, Accepted, phase_number, OfferOf, word_of}
+use Rattle.rgo_core_channels.specs.Channels.{Chan, channel, On, Phase, Calm, Offered, Accepted, phase_number, OfferOf, word_of_channel}
 use Rattle.rgo_core_channels.specs.Channels.{holder_offer, Lock, Unlocked, LockedBy, lock_bit, Places, count, cell_of, Channels}
-use Rattle.rgo_core_memory.specs.Words.{put}
+use Rattle.rgo_core_memory.specs.Words.{put_at}
 use Rattle.rgo_core_channels.specs.Controls.{bit, control, extent}
-use Rattle.rgo_core_channels.specs.Records.{Rec, Hold, Free, Locked, Wrote, Read, HoldsAt, InCell, KnowsOf, Sized, Unknown, Reached, Unreached, Post, Nowhere, Offering, Nothing, Shut, Stranded, at_rest}
+use Rattle.rgo_core_channels.specs.Records.{ChannelRec, Hold, Free, Locked, Wrote, Read, HoldsAt, InCell, KnowsOf, Sized, Unknown, Reached, Unreached, Post, Nowhere, Offering, Nothing, Shut, Stranded, at_rest}
 use Rattle.rgo_core_channels.specs.Standing.{IsAt, Next}
 use Rattle.rgo_core_memory.specs.Accesses.{Before}
 use Rattle.rgo_core_channels.proofs.Decoding.{some_cell, extent_is}
@@ -122,7 +122,7 @@ queue_cell k queue h i v none e = go k.capacity refl
         absurd (omega arith)
     go (suc n) z = let p : 0 < k.capacity = omega arith in (p, rw (extent_is k.capacity p) (mod-lt (h + i) p))
 
-module _ (code : Code) (page_words : ℕ) (encode : Value → ℕ) (place : ℕ → ℕ) (cell : ℕ → ℕ → ℕ) (words : List ℕ) (recs : List Rec) (s : RegionState)
+module _ (code : Code) (page_words : ℕ) (encode : Value → ℕ) (place : ℕ → ℕ) (cell : ℕ → ℕ → ℕ) (words : List ℕ) (recs : List ChannelRec) (s : RegionState)
     (at : Places) (K : Channels code page_words encode place cell words recs s at) where
   abbrev m : Memory
   m = s.plain.memory
@@ -161,7 +161,7 @@ module _ (code : Code) (page_words : ℕ) (encode : Value → ℕ) (place : ℕ 
 
   -- words of two channels differ
   pub far : (o p i j : ℕ) (k l : Chan) → o ≢ p → On s o k → On s p l → i < 2 + extent k.capacity
-      → j < 2 + extent l.capacity → word_of place cell o i ≢ word_of place cell p j
+      → j < 2 + extent l.capacity → word_of_channel place cell o i ≢ word_of_channel place cell p j
   far o p i j k l ne x y hi hj e = ne (K.apart o p i j k l x y hi hj e).0
 
   -- a cell is not a control
@@ -182,31 +182,31 @@ module _ (code : Code) (page_words : ℕ) (encode : Value → ℕ) (place : ℕ 
       let a = K.offers o g k x q in
       let b = K.offers p g l y r in
       let same : a.0 ≡ b.0 = same_Some a.0 b.0 (sym a.2 ∙ b.2) in
-      let w : Offering (place o) ≡ Offering (place p) = sym a.4 ∙ (ap (λ (z : Rec). z.post) same ∙ b.4) in
+      let w : Offering (place o) ≡ Offering (place p) = sym a.4 ∙ (ap (λ (z : ChannelRec). z.post) same ∙ b.4) in
       one_place o p k l x y (cc w)
 
-  module _ (g : ℕ) (c d : Rec) (mine : slice_get recs g ≡ Some c) where
+  module _ (g : ℕ) (c d : ChannelRec) (mine : slice_get recs g ≡ Some c) where
     pub here : slice_get (slice_set recs g d) g ≡ Some d
     here = get_set_same recs g c d mine
 
-    pub recs_was : (j : ℕ) (y : Rec) → slice_get (slice_set recs g d) j ≡ Some y
+    pub recs_was : (j : ℕ) (y : ChannelRec) → slice_get (slice_set recs g d) j ≡ Some y
         → ((j ≡ g) × (d ≡ y)) ⊎ ((j ≢ g) × (slice_get recs j ≡ Some y))
     recs_was j y e = at_set recs g j d y e
 
-    pub stays : (j : ℕ) (y : Rec) → j ≢ g → slice_get recs j ≡ Some y → slice_get (slice_set recs g d) j ≡ Some y
+    pub stays : (j : ℕ) (y : ChannelRec) → j ≢ g → slice_get recs j ≡ Some y → slice_get (slice_set recs g d) j ≡ Some y
     stays j y ne e = set_else recs g j d ne ∙ e
 
     -- whose record this is
-    pub is_mine : (j : ℕ) (y : Rec) → slice_get recs j ≡ Some y → j ≡ g → y ≡ c
+    pub is_mine : (j : ℕ) (y : ChannelRec) → slice_get recs j ≡ Some y → j ≡ g → y ≡ c
     is_mine j y e w = same_Some y c (sym e ∙ (ap (slice_get recs) w ∙ mine))
 
     -- the other records know what they knew
     pub they_know : (b : RegionState) → ((a : ℕ) → KnowsOf d a → IsAt code place b g d.post a)
-        → ((j : ℕ) (y : Rec) → j ≢ g → slice_get recs j ≡ Some y → y.post ≡ Nowhere → Same s b j)
-        → (j a : ℕ) (y : Rec) → slice_get (slice_set recs g d) j ≡ Some y → KnowsOf y a → IsAt code place b j y.post a
+        → ((j : ℕ) (y : ChannelRec) → j ≢ g → slice_get recs j ≡ Some y → y.post ≡ Nowhere → Same s b j)
+        → (j a : ℕ) (y : ChannelRec) → slice_get (slice_set recs g d) j ≡ Some y → KnowsOf y a → IsAt code place b j y.post a
     they_know b own same j a y e q = ⊎_elim
-        (λ (u : (j ≡ g) × (d ≡ y)). subst (λ (z : Rec). IsAt code place b j z.post a) u.1
-        (subst (λ i. IsAt code place b i d.post a) (sym u.0) (own a (subst (λ (z : Rec). KnowsOf z a) (sym u.1) q))))
+        (λ (u : (j ≡ g) × (d ≡ y)). subst (λ (z : ChannelRec). IsAt code place b j z.post a) u.1
+        (subst (λ i. IsAt code place b i d.post a) (sym u.0) (own a (subst (λ (z : ChannelRec). KnowsOf z a) (sym u.1) q))))
         (λ (u : (j ≢ g) × (slice_get recs j ≡ Some y)). at_same code place s b j y.post a (same j y u.0 u.1)
         (K.knows j a y u.1 q))
         (recs_was j y e)
@@ -236,17 +236,17 @@ module _ (code : Code) (page_words : ℕ) (encode : Value → ℕ) (place : ℕ 
       pub closes : k.closed ≡ true → z.closed ≡ true
       pub told : Told o x lk
       pub stranded : (j : ℕ) → k.closed ≡ true → at.phase o ≡ Offered j → ph ≡ Offered j
-      pub know : (j a : ℕ) (y : Rec) → slice_get (slice_set recs g d) j ≡ Some y → KnowsOf y a
+      pub know : (j a : ℕ) (y : ChannelRec) → slice_get (slice_set recs g d) j ≡ Some y → KnowsOf y a
           → IsAt code place b j y.post a
       pub as_many : length b.holders ≡ length s.holders
-      pub calm : (j : ℕ) (y : Rec) (h : Holder) → slice_get (slice_set recs g d) j ≡ Some y
+      pub calm : (j : ℕ) (y : ChannelRec) (h : Holder) → slice_get (slice_set recs g d) j ≡ Some y
           → slice_get b.holders j ≡ Some h → y.post ≡ Nowhere → h.offer ≡ NoOffer
       pub others : (p j : ℕ) (l : Chan) → p ≢ o → On s p l → OfferOf (at.phase p) j
           → Same s b j × (j ≡ g → d.post ≡ c.post)
       pub mine_post : (a : ℕ) → d.post ≡ Offering a
           → ((a ≡ place o) × OfferOf ph g) ⊎ ((c.post ≡ Offering a) × (OfferOf (at.phase o) g → OfferOf ph g))
       pub theirs : (j : ℕ) → j ≢ g → OfferOf (at.phase o) j → OfferOf ph j
-      pub offer : (j : ℕ) → OfferOf ph j → (y : Rec) × (h : Holder) × (slice_get (slice_set recs g d) j ≡ Some y)
+      pub offer : (j : ℕ) → OfferOf ph j → (y : ChannelRec) × (h : Holder) × (slice_get (slice_set recs g d) j ≡ Some y)
           × (slice_get b.holders j ≡ Some h) × (y.post ≡ Offering (place o)) × (h.offer ≡ holder_offer o ph)
       pub wait : (j : ℕ) → ph ≡ Offered j
           → (v : Value) × Next code b j Send (value.Object o ∷ v ∷ []) × (slice_index words (cell o 0) ≡ encode v)
@@ -257,7 +257,7 @@ module _ (code : Code) (page_words : ℕ) (encode : Value → ℕ) (place : ℕ 
       more = slice_set words (place o) x
 
       abbrev at' : Places
-      at' = record { head = put at.head o hd; lock = put at.lock o lk; phase = put at.phase o ph }
+      at' = record { head = put_at at.head o hd; lock = put_at at.lock o lk; phase = put_at at.phase o ph }
 
       abbrev n : Memory
       n = b.plain.memory
@@ -291,8 +291,8 @@ module _ (code : Code) (page_words : ℕ) (encode : Value → ℕ) (place : ℕ 
       written = get_or-set_same words (place o) x 0 (control_in o k on)
 
       apart_of : (p i : ℕ) (l : Chan) → p ≢ o → On s p l → i < 2 + extent l.capacity
-          → slice_index more (word_of place cell p i) ≡ slice_index words (word_of place cell p i)
-      apart_of p i l ne e hi = other (word_of place cell p i) (λ q. far p o i 0 l k ne e on hi (omega arith) q)
+          → slice_index more (word_of_channel place cell p i) ≡ slice_index words (word_of_channel place cell p i)
+      apart_of p i l ne e hi = other (word_of_channel place cell p i) (λ q. far p o i 0 l k ne e on hi (omega arith) q)
 
       -- the cells of channels stay
       cell_stays : (p i : ℕ) (l : Chan) → On s p l → i < extent l.capacity
@@ -306,7 +306,7 @@ module _ (code : Code) (page_words : ℕ) (encode : Value → ℕ) (place : ℕ 
           (on_was p l e)
 
       -- who holds another control is another
-      holder : (j p n' : ℕ) (y : Rec) (l : Chan) → slice_get recs j ≡ Some y → at.lock p ≡ LockedBy j → j ≢ g → p ≢ o
+      holder : (j p n' : ℕ) (y : ChannelRec) (l : Chan) → slice_get recs j ≡ Some y → at.lock p ≡ LockedBy j → j ≢ g → p ≢ o
       holder j p n' y l e q ne w =
           let t : at.lock o ≡ LockedBy j = ap at.lock (sym w) ∙ q in
           ⊎_elim (λ u. absurd (let v : Unlocked ≡ LockedBy j = sym u ∙ t in cc v))
@@ -369,10 +369,10 @@ module _ (code : Code) (page_words : ℕ) (encode : Value → ℕ) (place : ℕ 
             (λ ne. let l' = ⊎_elim (λ u. absurd (ne u.0)) (λ u. u.1) (on_was p l f) in
             let q = K.lockers p j l l' (sym (put_else at.lock o lk p ne) ∙ e) in
             let nj : j ≢ g = λ w. ne (one_place p o l k l' on (X.told.only (place p) q.1
-            (subst (λ (y : Rec). HoldsAt y.hold (place p) q.1) (is_mine j q.0 q.2 w) q.3))) in
+            (subst (λ (y : ChannelRec). HoldsAt y.hold (place p) q.1) (is_mine j q.0 q.2 w) q.3))) in
             (q.0, q.1, stays j q.0 nj q.2, q.3));
         locks = λ j a i y e q. ⊎_elim
-            (λ (u : (j ≡ g) × (d ≡ y)). let t = X.told.hold a i (subst (λ (r : Rec). HoldsAt r.hold a i) (sym u.1) q) in (
+            (λ (u : (j ≡ g) × (d ≡ y)). let t = X.told.hold a i (subst (λ (r : ChannelRec). HoldsAt r.hold a i) (sym u.1) q) in (
               o,
               z,
               on_here,
@@ -392,7 +392,7 @@ module _ (code : Code) (page_words : ℕ) (encode : Value → ℕ) (place : ℕ 
             ))
             (recs_was j y e);
         in_cells = λ j a i v y e q. ⊎_elim
-            (λ (u : (j ≡ g) × (d ≡ y)). absurd (X.told.no_cell a i v (subst (λ (r : Rec). InCell r.hold a i v) (sym u.1) q)))
+            (λ (u : (j ≡ g) × (d ≡ y)). absurd (X.told.no_cell a i v (subst (λ (r : ChannelRec). InCell r.hold a i v) (sym u.1) q)))
             (λ (u : (j ≢ g) × (slice_get recs j ≡ Some y)). let t = K.in_cells j a i v y u.1 q in
             let hh = held y.hold a i v q in
             let lk' = K.locks j a hh.0 y u.1 hh.1 in
@@ -408,27 +408,27 @@ module _ (code : Code) (page_words : ℕ) (encode : Value → ℕ) (place : ℕ 
             (recs_was j y e);
         sizes = λ j a i y e q.
             let t : (p : ℕ) × (l : Chan) × On s p l × (place p ≡ a) × (l.capacity ≡ i) = ⊎_elim
-            (λ (u : (j ≡ g) × (d ≡ y)). K.sizes g a i c mine (X.told.size a i (ap (λ (r : Rec). r.size) u.1 ∙ q)))
+            (λ (u : (j ≡ g) × (d ≡ y)). K.sizes g a i c mine (X.told.size a i (ap (λ (r : ChannelRec). r.size) u.1 ∙ q)))
             (λ (u : (j ≢ g) × (slice_get recs j ≡ Some y)). K.sizes j a i y u.1 q)
             (recs_was j y e) in
             let r = on_made t.0 t.1 t.2 in (t.0, r.0, r.1, t.3, r.2 ∙ t.4);
         reaches = λ j a i w y e q.
             let t : (p : ℕ) × (l : Chan) × On s p l × (place p ≡ a) × (i < extent l.capacity) × (cell p i ≡ w) = ⊎_elim
             (λ (u : (j ≡ g) × (d ≡ y)). K.reaches g a i w c mine
-            (X.told.reach a i w (ap (λ (r : Rec). r.reach) u.1 ∙ q)))
+            (X.told.reach a i w (ap (λ (r : ChannelRec). r.reach) u.1 ∙ q)))
             (λ (u : (j ≢ g) × (slice_get recs j ≡ Some y)). K.reaches j a i w y u.1 q)
             (recs_was j y e) in
             let r = on_made t.0 t.1 t.2 in (t.0, r.0, r.1, t.3, rw r.2 t.4, t.5);
         saws = λ j a y e q.
             let t : (p : ℕ) × (l : Chan) × On s p l × (place p ≡ a) × (l.closed ≡ true) = ⊎_elim
-            (λ (u : (j ≡ g) × (d ≡ y)). K.saws g a c mine (X.told.saw a (ap (λ (r : Rec). r.saw) u.1 ∙ q)))
+            (λ (u : (j ≡ g) × (d ≡ y)). K.saws g a c mine (X.told.saw a (ap (λ (r : ChannelRec). r.saw) u.1 ∙ q)))
             (λ (u : (j ≢ g) × (slice_get recs j ≡ Some y)). K.saws j a y u.1 q)
             (recs_was j y e) in
             let r = on_made t.0 t.1 t.2 in (t.0, r.0, r.1, t.3, r.3 t.4);
         strands = λ j a y e q.
             let t : (p : ℕ) × (l : Chan) × On s p l × (place p ≡ a) × (l.closed ≡ true) × (at.phase p ≡ Offered j) = ⊎_elim
             (λ (u : (j ≡ g) × (d ≡ y)). rw u.0 (K.strands g a c mine
-            (X.told.strand a (ap (λ (r : Rec). r.saw) u.1 ∙ q))))
+            (X.told.strand a (ap (λ (r : ChannelRec). r.saw) u.1 ∙ q))))
             (λ (u : (j ≢ g) × (slice_get recs j ≡ Some y)). K.strands j a y u.1 q)
             (recs_was j y e) in
             let r = on_made t.0 t.1 t.2 in (
@@ -450,7 +450,7 @@ module _ (code : Code) (page_words : ℕ) (encode : Value → ℕ) (place : ℕ 
             (λ (u : (j ≡ g) × (d ≡ y)). ⊎_elim
             (λ t. (o, z, on_here, sym t.0, rw (put_here at.phase o ph o refl, u.0) t.1))
             (λ t. moved j a c (rw u.0 mine) t.0 (λ r. rw u.0 (t.1 (subst (OfferOf (at.phase o)) u.0 r))))
-            (X.mine_post a (ap (λ (r : Rec). r.post) u.1 ∙ q)))
+            (X.mine_post a (ap (λ (r : ChannelRec). r.post) u.1 ∙ q)))
             (λ (u : (j ≢ g) × (slice_get recs j ≡ Some y)). moved j a y u.1 q (X.theirs j u.0))
             (recs_was j y e);
         offers = λ p j l e q. dite (ℕ_discrete p o)
@@ -469,7 +469,7 @@ module _ (code : Code) (page_words : ℕ) (encode : Value → ℕ) (place : ℕ 
             let f = x'.0.1 ∙ t.3 in
             let pl = t.5 ∙ ap (holder_offer p) (sym (put_else at.phase o ph p ne)) in
             dite (ℕ_discrete j g)
-            (λ w. (d, t.1, rw w here, f, x'.1 w ∙ (ap (λ (y : Rec). y.post) (sym (is_mine j t.0 t.2 w)) ∙ t.4), pl))
+            (λ w. (d, t.1, rw w here, f, x'.1 w ∙ (ap (λ (y : ChannelRec). y.post) (sym (is_mine j t.0 t.2 w)) ∙ t.4), pl))
             (λ nj. (t.0, t.1, stays j t.0 nj t.2, f, t.4, pl)));
         waits = λ p j l e q. dite (ℕ_discrete p o)
             (λ w. let t = X.wait j (sym (put_here at.phase o ph p w) ∙ q) in (
@@ -488,9 +488,9 @@ module _ (code : Code) (page_words : ℕ) (encode : Value → ℕ) (place : ℕ 
             ));
       }
         where
-          moved : (j a : ℕ) (y : Rec) → slice_get recs j ≡ Some y → y.post ≡ Offering a
+          moved : (j a : ℕ) (y : ChannelRec) → slice_get recs j ≡ Some y → y.post ≡ Offering a
               → (OfferOf (at.phase o) j → OfferOf ph j)
-              → (p : ℕ) × (l : Chan) × On b p l × (place p ≡ a) × OfferOf (put at.phase o ph p) j
+              → (p : ℕ) × (l : Chan) × On b p l × (place p ≡ a) × OfferOf (put_at at.phase o ph p) j
           moved j a y e q keeps =
               let t = K.posts j a y e q in
               dite (ℕ_discrete t.0 o)
@@ -533,55 +533,55 @@ module _ (code : Code) (page_words : ℕ) (encode : Value → ℕ) (place : ℕ 
               q.1,
               rw w here,
               fro (place o) q.1
-                  (subst (λ (y : Rec). HoldsAt y.hold (place o) q.1) (is_mine j q.0 q.2 w) q.3),
+                  (subst (λ (y : ChannelRec). HoldsAt y.hold (place o) q.1) (is_mine j q.0 q.2 w) q.3),
             ))
             (λ ne. (q.0, q.1, stays j q.0 ne q.2, q.3));
         locks = λ j a n y e q. ⊎_elim
             (λ (u : (j ≡ g) × (d ≡ y)). let t = K.locks g a n c mine
-            (to a n (subst (λ (r : Rec). HoldsAt r.hold a n) (sym u.1) q)) in
+            (to a n (subst (λ (r : ChannelRec). HoldsAt r.hold a n) (sym u.1) q)) in
             (t.0, t.1, t.2, t.3, t.4 ∙ ap LockedBy (sym u.0), t.5))
             (λ (u : (j ≢ g) × (slice_get recs j ≡ Some y)). K.locks j a n y u.1 q)
             (recs_was j y e);
         in_cells = λ j a i v y e q. ⊎_elim
-            (λ (u : (j ≡ g) × (d ≡ y)). in_cell a i v (subst (λ (r : Rec). InCell r.hold a i v) (sym u.1) q))
+            (λ (u : (j ≡ g) × (d ≡ y)). in_cell a i v (subst (λ (r : ChannelRec). InCell r.hold a i v) (sym u.1) q))
             (λ (u : (j ≢ g) × (slice_get recs j ≡ Some y)). K.in_cells j a i v y u.1 q)
             (recs_was j y e);
         sizes = λ j a n y e q. ⊎_elim
-            (λ (u : (j ≡ g) × (d ≡ y)). size a n (ap (λ (r : Rec). r.size) u.1 ∙ q))
+            (λ (u : (j ≡ g) × (d ≡ y)). size a n (ap (λ (r : ChannelRec). r.size) u.1 ∙ q))
             (λ (u : (j ≢ g) × (slice_get recs j ≡ Some y)). K.sizes j a n y u.1 q)
             (recs_was j y e);
         reaches = λ j a i w y e q. ⊎_elim
-            (λ (u : (j ≡ g) × (d ≡ y)). reach a i w (ap (λ (r : Rec). r.reach) u.1 ∙ q))
+            (λ (u : (j ≡ g) × (d ≡ y)). reach a i w (ap (λ (r : ChannelRec). r.reach) u.1 ∙ q))
             (λ (u : (j ≢ g) × (slice_get recs j ≡ Some y)). K.reaches j a i w y u.1 q)
             (recs_was j y e);
         saws = λ j a y e q. ⊎_elim
-            (λ (u : (j ≡ g) × (d ≡ y)). saw a (ap (λ (r : Rec). r.saw) u.1 ∙ q))
+            (λ (u : (j ≡ g) × (d ≡ y)). saw a (ap (λ (r : ChannelRec). r.saw) u.1 ∙ q))
             (λ (u : (j ≢ g) × (slice_get recs j ≡ Some y)). K.saws j a y u.1 q)
             (recs_was j y e);
         strands = λ j a y e q. ⊎_elim
-            (λ (u : (j ≡ g) × (d ≡ y)). rw u.0 (strand a (ap (λ (r : Rec). r.saw) u.1 ∙ q)))
+            (λ (u : (j ≡ g) × (d ≡ y)). rw u.0 (strand a (ap (λ (r : ChannelRec). r.saw) u.1 ∙ q)))
             (λ (u : (j ≢ g) × (slice_get recs j ≡ Some y)). K.strands j a y u.1 q)
             (recs_was j y e);
         knows = they_know s know (λ j y ne e free. (refl, refl));
         as_many = length_slice_set recs g d ∙ K.as_many;
         calm = λ j y h e f q. ⊎_elim
             (λ (u : (j ≡ g) × (d ≡ y)). K.calm g c h mine (rw (← u.0) f)
-            (sym post ∙ (ap (λ (r : Rec). r.post) u.1 ∙ q)))
+            (sym post ∙ (ap (λ (r : ChannelRec). r.post) u.1 ∙ q)))
             (λ (u : (j ≢ g) × (slice_get recs j ≡ Some y)). K.calm j y h u.1 f q)
             (recs_was j y e);
         posts = λ j a y e q. ⊎_elim
             (λ (u : (j ≡ g) × (d ≡ y)). rw u.0 (K.posts g a c mine
-            (sym post ∙ (ap (λ (r : Rec). r.post) u.1 ∙ q))))
+            (sym post ∙ (ap (λ (r : ChannelRec). r.post) u.1 ∙ q))))
             (λ (u : (j ≢ g) × (slice_get recs j ≡ Some y)). K.posts j a y u.1 q)
             (recs_was j y e);
         offers = λ o j k on q. let t = K.offers o j k on q in dite (ℕ_discrete j g)
-            (λ w. (d, t.1, rw w here, t.3, post ∙ (ap (λ (y : Rec). y.post) (sym (is_mine j t.0 t.2 w)) ∙ t.4), t.5))
+            (λ w. (d, t.1, rw w here, t.3, post ∙ (ap (λ (y : ChannelRec). y.post) (sym (is_mine j t.0 t.2 w)) ∙ t.4), t.5))
             (λ ne. (t.0, t.1, stays j t.0 ne t.2, t.3, t.4, t.5));
         waits = K.waits;
       }
 
   -- a record that had locked channel o, and now knows of its offer alone
-  pub freed : (g : ℕ) (c : Rec) (mine : slice_get recs g ≡ Some c) (post : Post) (o n x : ℕ) → HoldsAt c.hold (place o) n
+  pub freed : (g : ℕ) (c : ChannelRec) (mine : slice_get recs g ≡ Some c) (post : Post) (o n x : ℕ) → HoldsAt c.hold (place o) n
       → at.lock o ≡ LockedBy g
       → Told g c (record { hold = Free; size = Unknown; reach = Unreached; post = post; saw = Nothing }) mine o x Unlocked
   freed g c mine post o n x held locked = record {
@@ -597,7 +597,7 @@ module _ (code : Code) (page_words : ℕ) (encode : Value → ℕ) (place : ℕ 
   }
 
   -- a cell that holds nothing of the queue, and no offer, is stored by the goroutine that has locked the channel
-  module _ (g : ℕ) (c : Rec) (mine : slice_get recs g ≡ Some c) (o : ℕ) (k : Chan) (on : On s o k) (n : ℕ)
+  module _ (g : ℕ) (c : ChannelRec) (mine : slice_get recs g ≡ Some c) (o : ℕ) (k : Chan) (on : On s o k) (n : ℕ)
       (hold : HoldsAt c.hold (place o) n) (no_cell : (a i v : ℕ) → InCell c.hold a i v → ⊥) (i v : ℕ)
       (within : i < extent k.capacity)
       (no_queue : (j : ℕ) (u : Value) → slice_get k.queue j ≡ Some u → cell_of k (at.head o) j ≢ i)
@@ -607,8 +607,8 @@ module _ (code : Code) (page_words : ℕ) (encode : Value → ℕ) (place : ℕ 
 
     -- any other word of a channel
     keeps : (p j : ℕ) (l : Chan) → On s p l → j < 2 + extent l.capacity → (p ≡ o → j ≢ suc (suc i))
-        → slice_index stored (word_of place cell p j) ≡ slice_index words (word_of place cell p j)
-    keeps p j l x hj ne = get_or-set_other words (cell o i) (word_of place cell p j) v 0
+        → slice_index stored (word_of_channel place cell p j) ≡ slice_index words (word_of_channel place cell p j)
+    keeps p j l x hj ne = get_or-set_other words (cell o i) (word_of_channel place cell p j) v 0
         (λ e. let t = K.apart p o j (suc (suc i)) l k x on hj (omega arith) e in ne t.0 t.1)
 
     keeps_cell : (p j : ℕ) (l : Chan) → On s p l → j < extent l.capacity → (p ≡ o → j ≢ i)
@@ -652,7 +652,7 @@ module _ (code : Code) (page_words : ℕ) (encode : Value → ℕ) (place : ℕ 
           let b : LockedBy j ≡ LockedBy g = sym (subst (λ p. at.lock p ≡ LockedBy j) same l.4) ∙ subst (λ p. at.lock p ≡ LockedBy g) same' x.4 in
           let jg : j ≡ g = cc b in
           let same_rec : z ≡ c = same_Some z c (sym e ∙ (ap (slice_get recs) jg ∙ mine)) in
-          no_cell a y u (subst (λ (r : Rec). InCell r.hold a y u) same_rec q) in (
+          no_cell a y u (subst (λ (r : ChannelRec). InCell r.hold a y u) same_rec q) in (
             t.0,
             t.1,
             t.2,

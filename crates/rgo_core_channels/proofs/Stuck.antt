@@ -25,7 +25,7 @@ use Rattle.rgo_sound.proofs.Tests.{split, eq_of}
 use Rattle.rgo_core_channels.specs.Channels.{Chan, On, Phase, Calm, Offered, Accepted, phase_number, OfferOf}
 use Rattle.rgo_core_channels.specs.Channels.{Places, count, lock_bit, Channels}
 use Rattle.rgo_core_channels.specs.Controls.{bit, closed_of, count_of}
-use Rattle.rgo_core_channels.specs.Records.{Rec, Nowhere, Offering}
+use Rattle.rgo_core_channels.specs.Records.{ChannelRec, Nowhere, Offering}
 use Rattle.rgo_core_memory.specs.Accesses.{Before}
 use Rattle.rgo_core_channels.specs.Standing.{blank_of}
 use Rattle.rgo_core_channels.proofs.Decoding.{decode_locked, bit_small, lock_small, open_or}
@@ -34,7 +34,7 @@ use Rattle.rgo_core_channels.proofs.Operations.{send_waits, receive_waits}
 use Rattle.rgo_core_channels.proofs.Steps.{same_chan, one_place, no_buffer, count_small}
 
 -- where the operation of a goroutine on channel o is not ready, by the capacity and the control
-pub data NotReady (code : Code) (place : ℕ → ℕ) (s : RegionState) (g : ℕ) (c : Rec) (o size n : ℕ) : Type 0 where
+pub data NotReady (code : Code) (place : ℕ → ℕ) (s : RegionState) (g : ℕ) (c : ChannelRec) (o size n : ℕ) : Type 0 where
   Full : (v : Value) → c.post ≡ Nowhere → Before code s g Send (value.Object o ∷ v ∷ []) → closed_of n ≡ 0 → 0 < size
       → count_of n ≡ size → NotReady code place s g c o size n
   HasOffer : (v : Value) → c.post ≡ Nowhere → Before code s g Send (value.Object o ∷ v ∷ []) → closed_of n ≡ 0
@@ -45,13 +45,13 @@ pub data NotReady (code : Code) (place : ℕ → ℕ) (s : RegionState) (g : ℕ
       → count_of n ≢ 1 → NotReady code place s g c o size n
   Waits : c.post ≡ Offering (place o) → closed_of n ≡ 0 → count_of n ≡ 1 → NotReady code place s g c o size n
 
-module _ (code : Code) (page_words : ℕ) (encode : Value → ℕ) (place : ℕ → ℕ) (cell : ℕ → ℕ → ℕ) (words : List ℕ) (recs : List Rec) (s : RegionState)
+module _ (code : Code) (page_words : ℕ) (encode : Value → ℕ) (place : ℕ → ℕ) (cell : ℕ → ℕ → ℕ) (words : List ℕ) (recs : List ChannelRec) (s : RegionState)
     (at : Places) (K : Channels code page_words encode place cell words recs s at) where
   abbrev m : Memory
   m = s.plain.memory
 
   -- why a goroutine waits, by the words as they are
-  pub data Waiting (g : ℕ) (c : Rec) : Type 0 where
+  pub data Waiting (g : ℕ) (c : ChannelRec) : Type 0 where
     Gone : c.post ≡ Nowhere → slice_get s.plain.goroutines g ≡ Some [] → Waiting g c
     NilSend : (v : Value) → c.post ≡ Nowhere → Before code s g Send (value.Nil ∷ v ∷ []) → Waiting g c
     NilReceive : c.post ≡ Nowhere → Before code s g Recv (value.Nil ∷ []) → Waiting g c
@@ -89,7 +89,7 @@ module _ (code : Code) (page_words : ℕ) (encode : Value → ℕ) (place : ℕ 
   empty_of [] e = refl
   empty_of (x ∷ q) e = absurd (omega arith)
 
-  known_at : (g : ℕ) (c : Rec) (o : ℕ) (k : Chan) → slice_get recs g ≡ Some c → On s o k
+  known_at : (g : ℕ) (c : ChannelRec) (o : ℕ) (k : Chan) → slice_get recs g ≡ Some c → On s o k
       → NotReady code place s g c o (slice_index words (place o + 1)) (slice_index words (place o)) → Known g
   known_at g c o k e on (Full v free stands unshut some full) =
       let cap = K.capacities o k on in
@@ -149,17 +149,17 @@ module _ (code : Code) (page_words : ℕ) (encode : Value → ℕ) (place : ℕ 
           ))
 
   module _ (many : length s.plain.goroutines ≡ length recs)
-      (each : (g : ℕ) (c : Rec) → slice_get recs g ≡ Some c → Waiting g c) where
+      (each : (g : ℕ) (c : ChannelRec) → slice_get recs g ≡ Some c → Waiting g c) where
     -- nobody's offer was taken: its acknowledgement would be ready
     not_taken : (o j : ℕ) (k : Chan) → On s o k → at.phase o ≡ Accepted j → ⊥
     not_taken o j k on e =
         let t = K.offers o j k on (subst (λ p. OfferOf p j) (sym e) refl) in
         by t.0 t.2 t.4 (each j t.0 t.2)
       where
-        clash : (c : Rec) → c.post ≡ Offering (place o) → c.post ≡ Nowhere → ⊥
+        clash : (c : ChannelRec) → c.post ≡ Offering (place o) → c.post ≡ Nowhere → ⊥
         clash c p q = let z : Nowhere ≡ Offering (place o) = sym q ∙ p in cc z
 
-        by : (c : Rec) → slice_get recs j ≡ Some c → c.post ≡ Offering (place o) → Waiting j c → ⊥
+        by : (c : ChannelRec) → slice_get recs j ≡ Some c → c.post ≡ Offering (place o) → Waiting j c → ⊥
         by c f post (Gone free q) = clash c post free
         by c f post (NilSend v free q) = clash c post free
         by c f post (NilReceive free q) = clash c post free
@@ -189,7 +189,7 @@ module _ (code : Code) (page_words : ℕ) (encode : Value → ℕ) (place : ℕ 
         let c = get_some recs g (let a = slice_get_within s.plain.goroutines g frames e in let b = many in omega arith) in
         by c.0 c.1 (each g c.0 c.1)
       where
-        by : (c : Rec) → slice_get recs g ≡ Some c → Waiting g c → Known g
+        by : (c : ChannelRec) → slice_get recs g ≡ Some c → Waiting g c → Known g
         by c f (Gone free q) = Ended q
         by c f (NilSend v free st) = Sending value.Nil v st (inl refl)
         by c f (NilReceive free st) = Receiving value.Nil st (inl refl)

@@ -12,7 +12,7 @@ use Rattle.rgo_sound.specs.Machine.Machines.{operated}
 use Rattle.rgo_sound.specs.Machine.declared.picks.Pick.TheVariants.{One}
 use Rattle.rgo_sound.specs.Machine.declared.picks.End.TheVariants as the_end
 use Rattle.rgo_sound.specs.RegionMachine.Duties.{may_go}
-use Rattle.rgo_sound.specs.RegionMachine.Instructions.{marked}
+use Rattle.rgo_sound.specs.RegionMachine.Instructions.{mark_with_end}
 use Rattle.rgo_core_channels.proofs.Quiet.{marked_keeps}
 use Rattle.rgo_sound.specs.RegionMachine.Machine.{Instruct, region_step}
 use Rattle.rgo_sound.specs.RegionMachine.States.{Holder}
@@ -21,7 +21,7 @@ use Rattle.rgo_core_channels.specs.Channels.{Chan, On, Offered, OfferOf, holder_
 use Rattle.rgo_core_channels.specs.Moments.{Moment}
 use Rattle.rgo_core_channels.specs.After.{after_trap}
 use Rattle.rgo_core_channels.specs.Traps.{SendTrapLaw, CloseTrapLaw, CloseNilLaw}
-use Rattle.rgo_core_channels.specs.Records.{Rec, Shut, Stranded}
+use Rattle.rgo_core_channels.specs.Records.{ChannelRec, Shut, Stranded}
 use Rattle.rgo_core_channels.proofs.Buffers.{no_offer}
 use Rattle.rgo_core_channels.proofs.Forward.{traps}
 use Rattle.rgo_core_channels.proofs.Operations.{send_traps, close_traps}
@@ -33,9 +33,9 @@ use Rattle.rgo_core_channels.specs.Standing.{Next}
 trap_kept : (T : Moment) (trap : Trap) (at : ℕ)
     → Channels T.code T.page_words T.encode T.place T.cell T.words T.recs (after_trap T.state trap at) T.at
 trap_kept T trap at = marked_keeps T.code T.page_words T.encode T.place T.cell T.words T.recs T.state T.at T.channels None
-    (marked T.state.mark (Some (the_end.Trap trap at))) (T.state.steps + 1)
+    (mark_with_end T.state.mark (Some (the_end.Trap trap at))) (T.state.steps + 1)
 
-module _ (T : Moment) (g : ℕ) (c : Rec) (mine : slice_get T.recs g ≡ Some c) where
+module _ (T : Moment) (g : ℕ) (c : ChannelRec) (mine : slice_get T.recs g ≡ Some c) where
   -- what was found closed is closed
   closed_is : (o : ℕ) (k : Chan) → On T.state o k → c.saw ≡ Shut (T.place o) → k.closed ≡ true
   closed_is o k on saw =

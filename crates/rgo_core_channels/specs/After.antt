@@ -8,10 +8,10 @@ use Rattle.rgo_sound.specs.Memory.declared.values.Value.{Value}
 use Rattle.rgo_sound.specs.Memory.declared.values.Value.TheVariants as value
 use Rattle.rgo_sound.specs.Machine.declared.picks.End.TheVariants as the_end
 use Rattle.rgo_sound.specs.Code.Code.{Code}
-use Rattle.rgo_sound.specs.RegionMachine.Instructions.{marked}
+use Rattle.rgo_sound.specs.RegionMachine.Instructions.{mark_with_end}
 use Rattle.rgo_sound.specs.RegionMachine.States.{Taken, RegionState}
 use Rattle.rgo_core_channels.specs.Channels.{Chan}
-use Rattle.rgo_core_channels.specs.Standing.{Next, passed, passed_holder}
+use Rattle.rgo_core_channels.specs.Standing.{Next, passed_frames, passed_holder}
 
 -- one value more; only an open channel takes one
 abbrev pub pushed : Value → Chan → Chan
@@ -27,7 +27,7 @@ closed_now k = record k { closed = true }
 abbrev pub after : {code : Code} {s : RegionState} {g : ℕ} {action : Action} {operands : List Value}
     → Next code s g action operands → Memory → Value → RegionState
 after {s = s} {g = g} n m v = record s {
-  plain = record s.plain { memory = m; goroutines = slice_set s.plain.goroutines g (passed n v); ended = None };
+  plain = record s.plain { memory = m; goroutines = slice_set s.plain.goroutines g (passed_frames n v); ended = None };
   holders = slice_set s.holders g (passed_holder n v);
   steps = s.steps + 1;
 }
@@ -36,7 +36,7 @@ abbrev pub after_trap : RegionState → Trap → (place : ℕ) → RegionState
 after_trap s trap at = record s {
   plain = record s.plain { ended = None };
   steps = s.steps + 1;
-  mark = marked s.mark (Some (the_end.Trap trap at));
+  mark = mark_with_end s.mark (Some (the_end.Trap trap at));
 }
 
 -- a receiver has taken the offer of a sender
@@ -44,7 +44,7 @@ abbrev pub after_meeting : {code : Code} {s : RegionState} {r t : ℕ} {taken se
     → Next code s r Recv taken → Next code s t Send sent → Value → RegionState
 after_meeting {s = s} {r = r} {t = t} o n k v = record s {
   plain = record s.plain {
-    goroutines = slice_set (slice_set s.plain.goroutines r (passed n v)) t (passed k value.Nil);
+    goroutines = slice_set (slice_set s.plain.goroutines r (passed_frames n v)) t (passed_frames k value.Nil);
     ended = None;
   };
   holders =

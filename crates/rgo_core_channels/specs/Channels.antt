@@ -9,7 +9,7 @@ use Rattle.rgo_sound.specs.Code.Code.{Code}
 use Rattle.rgo_sound.specs.RegionMachine.States.{Holder, Offer, NoOffer, Standing, Taken, RegionState}
 use Rattle.rgo_sound.specs.RegionMachine.Objects.{may_touch}
 use Rattle.rgo_core_channels.specs.Controls.{bit, control, extent, tail_words, spreads}
-use Rattle.rgo_core_channels.specs.Records.{Rec, HoldsAt, InCell, KnowsOf, Reached, Sized, Nowhere, Offering, Shut, Stranded}
+use Rattle.rgo_core_channels.specs.Records.{ChannelRec, HoldsAt, InCell, KnowsOf, Reached, Sized, Nowhere, Offering, Shut, Stranded}
 use Rattle.rgo_core_channels.specs.Standing.{IsAt, Next}
 
 pub record Chan : Type 0 where
@@ -74,14 +74,14 @@ abbrev pub cell_of : Chan → (head : ℕ) → ℕ → ℕ
 cell_of k head i = (head + i) % k.capacity
 
 -- word i of channel o: the control, the capacity, or a cell
-abbrev pub word_of : (place : ℕ → ℕ) (cell : ℕ → ℕ → ℕ) → (o i : ℕ) → ℕ
-word_of place cell o zero = place o
-word_of place cell o (suc zero) = place o + 1
-word_of place cell o (suc (suc i)) = cell o i
+abbrev pub word_of_channel : (place : ℕ → ℕ) (cell : ℕ → ℕ → ℕ) → (o i : ℕ) → ℕ
+word_of_channel place cell o zero = place o
+word_of_channel place cell o (suc zero) = place o + 1
+word_of_channel place cell o (suc (suc i)) = cell o i
 
 -- `place` is the first word of each object, and `cell` the word of each cell of a channel; `encode` is the word of each value
 module _ (code : Code) (page_words : ℕ) (encode : Value → ℕ) (place : ℕ → ℕ) (cell : ℕ → ℕ → ℕ) where
-  pub record Channels (words : List ℕ) (recs : List Rec) (s : RegionState) (at : Places) : Type 0 where
+  pub record Channels (words : List ℕ) (recs : List ChannelRec) (s : RegionState) (at : Places) : Type 0 where
     -- what words hold
     pub controls : (o : ℕ) (k : Chan) → On s o k
         → slice_index words (place o) ≡ lock_bit (at.lock o) + control (bit k.closed) (count k (at.phase o)) (at.head o)
@@ -98,36 +98,36 @@ module _ (code : Code) (page_words : ℕ) (encode : Value → ℕ) (place : ℕ 
     pub row : (o i : ℕ) (k : Chan) → On s o k → spreads page_words k.capacity ≡ false → i < extent k.capacity
         → cell o i ≡ place o + 2 + i
     pub apart : (o p i j : ℕ) (k l : Chan) → On s o k → On s p l → i < 2 + extent k.capacity → j < 2 + extent l.capacity
-        → word_of place cell o i ≡ word_of place cell p j → (o ≡ p) × (i ≡ j)
+        → word_of_channel place cell o i ≡ word_of_channel place cell p j → (o ≡ p) × (i ≡ j)
     -- a control is locked exactly where one goroutine has locked it
     pub lockers : (o g : ℕ) (k : Chan) → On s o k → at.lock o ≡ LockedBy g
-        → (c : Rec) × (n : ℕ) × (slice_get recs g ≡ Some c) × HoldsAt c.hold (place o) n
-    pub locks : (g a n : ℕ) (c : Rec) → slice_get recs g ≡ Some c → HoldsAt c.hold a n
+        → (c : ChannelRec) × (n : ℕ) × (slice_get recs g ≡ Some c) × HoldsAt c.hold (place o) n
+    pub locks : (g a n : ℕ) (c : ChannelRec) → slice_get recs g ≡ Some c → HoldsAt c.hold a n
         → (o : ℕ) × (k : Chan) × On s o k × (place o ≡ a) × (at.lock o ≡ LockedBy g)
         × (slice_index words a ≡ suc n)
     -- what was stored or loaded under the lock is the cell's; the capacity that was read is the channel's; the word that was
     -- found is the cell's; one that was found closed is closed
-    pub in_cells : (g a i x : ℕ) (c : Rec) → slice_get recs g ≡ Some c → InCell c.hold a i x
+    pub in_cells : (g a i x : ℕ) (c : ChannelRec) → slice_get recs g ≡ Some c → InCell c.hold a i x
         → (o : ℕ) × (k : Chan) × On s o k × (place o ≡ a) × (i < extent k.capacity)
         × (slice_index words (cell o i) ≡ x)
-    pub sizes : (g a n : ℕ) (c : Rec) → slice_get recs g ≡ Some c → c.size ≡ Sized a n
+    pub sizes : (g a n : ℕ) (c : ChannelRec) → slice_get recs g ≡ Some c → c.size ≡ Sized a n
         → (o : ℕ) × (k : Chan) × On s o k × (place o ≡ a) × (k.capacity ≡ n)
-    pub reaches : (g a i w : ℕ) (c : Rec) → slice_get recs g ≡ Some c → c.reach ≡ Reached a i w
+    pub reaches : (g a i w : ℕ) (c : ChannelRec) → slice_get recs g ≡ Some c → c.reach ≡ Reached a i w
         → (o : ℕ) × (k : Chan) × On s o k × (place o ≡ a) × (i < extent k.capacity) × (cell o i ≡ w)
-    pub saws : (g a : ℕ) (c : Rec) → slice_get recs g ≡ Some c → c.saw ≡ Shut a
+    pub saws : (g a : ℕ) (c : ChannelRec) → slice_get recs g ≡ Some c → c.saw ≡ Shut a
         → (o : ℕ) × (k : Chan) × On s o k × (place o ≡ a) × (k.closed ≡ true)
-    pub strands : (g a : ℕ) (c : Rec) → slice_get recs g ≡ Some c → c.saw ≡ Stranded a
+    pub strands : (g a : ℕ) (c : ChannelRec) → slice_get recs g ≡ Some c → c.saw ≡ Stranded a
         → (o : ℕ) × (k : Chan) × On s o k × (place o ≡ a) × (k.closed ≡ true) × (at.phase o ≡ Offered g)
     -- a record that knows of a channel is at that channel
-    pub knows : (g a : ℕ) (c : Rec) → slice_get recs g ≡ Some c → KnowsOf c a → IsAt code place s g c.post a
+    pub knows : (g a : ℕ) (c : ChannelRec) → slice_get recs g ≡ Some c → KnowsOf c a → IsAt code place s g c.post a
     -- an offer is that of one goroutine, whose record is at the channel; at its send, if it was not taken
     pub as_many : length recs ≡ length s.holders
-    pub calm : (g : ℕ) (c : Rec) (h : Holder) → slice_get recs g ≡ Some c → slice_get s.holders g ≡ Some h
+    pub calm : (g : ℕ) (c : ChannelRec) (h : Holder) → slice_get recs g ≡ Some c → slice_get s.holders g ≡ Some h
         → c.post ≡ Nowhere → h.offer ≡ NoOffer
-    pub posts : (g a : ℕ) (c : Rec) → slice_get recs g ≡ Some c → c.post ≡ Offering a
+    pub posts : (g a : ℕ) (c : ChannelRec) → slice_get recs g ≡ Some c → c.post ≡ Offering a
         → (o : ℕ) × (k : Chan) × On s o k × (place o ≡ a) × OfferOf (at.phase o) g
     pub offers : (o g : ℕ) (k : Chan) → On s o k → OfferOf (at.phase o) g
-        → (c : Rec) × (h : Holder) × (slice_get recs g ≡ Some c) × (slice_get s.holders g ≡ Some h)
+        → (c : ChannelRec) × (h : Holder) × (slice_get recs g ≡ Some c) × (slice_get s.holders g ≡ Some h)
         × (c.post ≡ Offering (place o)) × (h.offer ≡ holder_offer o (at.phase o))
     pub waits : (o g : ℕ) (k : Chan) → On s o k → at.phase o ≡ Offered g
         → (v : Value) × Next code s g Send (value.Object o ∷ v ∷ []) × (slice_index words (cell o 0) ≡ encode v)

@@ -9,7 +9,7 @@ use Rattle.rgo_sound.specs.Code.Erasure.{erased}
 use Rattle.rgo_core_memory.specs.Accesses.{Before}
 use Rattle.rgo_core_channels.specs.Controls.{closed_of, count_of}
 use Rattle.rgo_core_channels.specs.Moments.{Moment}
-use Rattle.rgo_core_channels.specs.Records.{Rec, Free, Nowhere, Offering}
+use Rattle.rgo_core_channels.specs.Records.{ChannelRec, Free, Nowhere, Offering}
 use Rattle.rgo_core_channels.specs.Standing.{IsAt, Next}
 
 -- the words of channel o
@@ -22,7 +22,7 @@ capacity_at T o = slice_index T.words (T.place o + 1)
 -- Why goroutine g, whose record is c, does nothing: it has returned; its operation is on nil; the channel is full, or has an
 -- offer already; it is empty, or has no offer that could be taken; the goroutine's own offer is not taken; or the control is
 -- locked.
-pub data Blocked (T : Moment) (g : ℕ) (c : Rec) : Type 0 where
+pub data Blocked (T : Moment) (g : ℕ) (c : ChannelRec) : Type 0 where
   Returned : c.post ≡ Nowhere → slice_get T.state.plain.goroutines g ≡ Some [] → Blocked T g c
   SendsOnNil : (v : Value) → c.post ≡ Nowhere → Before T.code T.state g Send (value.Nil ∷ v ∷ []) → Blocked T g c
   ReceivesOnNil : c.post ≡ Nowhere → Before T.code T.state g Recv (value.Nil ∷ []) → Blocked T g c
@@ -42,5 +42,5 @@ pub data Blocked (T : Moment) (g : ℕ) (c : Rec) : Type 0 where
 -- the rule to say: no access of a pass changed a word.
 abbrev pub DeadlockLaw : Type 0
 DeadlockLaw = (T : Moment)
-    → ((g : ℕ) (c : Rec) → slice_get T.recs g ≡ Some c → (c.hold ≡ Free) × Blocked T g c)
+    → ((g : ℕ) (c : ChannelRec) → slice_get T.recs g ≡ Some c → (c.hold ≡ Free) × Blocked T g c)
     → IsDeadlock (tac (erased T.code)) T.state.plain

@@ -9,21 +9,21 @@ use Rattle.rgo_sound.specs.RegionMachine.declared.limits.Limit.{Limit}
 use Rattle.rgo_sound.specs.RegionMachine.Machine.{Event, finished, region_step}
 use Rattle.rgo_sound.specs.RegionMachine.States.{Holder, NoOffer, RegionState}
 use Rattle.rgo_sound.specs.Leaving.{ActsAlone}
-use Rattle.rgo_core_channels.specs.Channels.{Calm, Chan, Channels, IsChan, On, Places, Unlocked, word_of}
+use Rattle.rgo_core_channels.specs.Channels.{Calm, Chan, Channels, IsChan, On, Places, Unlocked, word_of_channel}
 use Rattle.rgo_core_channels.specs.Controls.{extent, tail_words, spreads}
 use Rattle.rgo_core_channels.specs.Moments.{Moment}
-use Rattle.rgo_core_channels.specs.Records.{Rec, at_rest}
+use Rattle.rgo_core_channels.specs.Records.{ChannelRec, at_rest}
 use Rattle.rgo_core_channels.specs.Standing.{Next}
 
 -- Other words, another state, another layout and encoding. Channels lie where they lay, with the words that they had; values in
 -- them are encoded as they were; regions may have been removed, and this many goroutines have started.
-pub record Leaves (T : Moment) (words : List ℕ) (s : RegionState) (encode : Value → ℕ) (place : ℕ → ℕ)
+pub record LeavesChannels (T : Moment) (words : List ℕ) (s : RegionState) (encode : Value → ℕ) (place : ℕ → ℕ)
     (cell : ℕ → ℕ → ℕ) (at : Places) (IsNew : ℕ → Chan → Type 0) (children : ℕ) : Type 0 where
   pub long : length words ≡ length T.words
   pub heap : (o : ℕ) (k : Chan) → On T.state o k → IsChan s.plain.memory o k
   pub was : (o : ℕ) (k : Chan) → On s o k → On T.state o k ⊎ IsNew o k
   pub same : (o i : ℕ) (k : Chan) → On T.state o k → i < 2 + extent k.capacity
-      → slice_index words (word_of T.place T.cell o i) ≡ slice_index T.words (word_of T.place T.cell o i)
+      → slice_index words (word_of_channel T.place T.cell o i) ≡ slice_index T.words (word_of_channel T.place T.cell o i)
   pub places : (o : ℕ) (k : Chan) → On T.state o k → place o ≡ T.place o
   pub spots : (o i : ℕ) (k : Chan) → On T.state o k → i < extent k.capacity → cell o i ≡ T.cell o i
   pub ats : (o : ℕ) (k : Chan) → On T.state o k
@@ -43,9 +43,9 @@ pub record Leaves (T : Moment) (words : List ℕ) (s : RegionState) (encode : Va
   pub fresh_cells : (o i : ℕ) (k : Chan) → IsNew o k → i < extent k.capacity
       → (cell o i < length words) × (spreads T.page_words k.capacity ≡ false → cell o i ≡ place o + 2 + i)
   pub fresh_differ : (o i j : ℕ) (k : Chan) → IsNew o k → i < 2 + extent k.capacity → j < 2 + extent k.capacity
-      → word_of place cell o i ≡ word_of place cell o j → i ≡ j
+      → word_of_channel place cell o i ≡ word_of_channel place cell o j → i ≡ j
   pub fresh_apart : (o p i j : ℕ) (k l : Chan) → IsNew o k → On T.state p l → i < 2 + extent k.capacity
-      → j < 2 + extent l.capacity → word_of place cell o i ≢ word_of T.place T.cell p j
+      → j < 2 + extent l.capacity → word_of_channel place cell o i ≢ word_of_channel T.place T.cell p j
   pub one_fresh : (o p : ℕ) (k l : Chan) → IsNew o k → IsNew p l → o ≡ p
 
 -- the channel that a step makes: its number and its capacity
@@ -60,19 +60,19 @@ EventLaw = (T : Moment) (g : ℕ) (event : Event) (words : List ℕ) (s : Region
     (cell : ℕ → ℕ → ℕ) (at : Places) (made : Option (ℕ × ℕ)) (children : ℕ) → slice_get T.recs g ≡ Some at_rest
     → ActsAlone event g
     → region_step T.code T.page_words T.state event ≡ Some s
-    → Leaves T words s encode place cell at (IsMade made) children
+    → LeavesChannels T words s encode place cell at (IsMade made) children
     → Channels T.code T.page_words encode place cell words (T.recs ++ replicate children at_rest) s at
 
 -- the end of a run is a mark
 abbrev pub FinishKeeps : Type 0
 FinishKeeps = (code : Code) (page_words : ℕ) (encode : Value → ℕ) (place : ℕ → ℕ) (cell : ℕ → ℕ → ℕ) (words : List ℕ)
-    (recs : List Rec) (s : RegionState) (at : Places) (limit : Limit) → Channels code page_words encode place cell words recs s at
+    (recs : List ChannelRec) (s : RegionState) (at : Places) (limit : Limit) → Channels code page_words encode place cell words recs s at
     → Channels code page_words encode place cell words recs (finished s limit) at
 
 -- a word may be written that no channel has
-abbrev pub WordKeeps : Type 0
-WordKeeps = (code : Code) (page_words : ℕ) (encode : Value → ℕ) (place : ℕ → ℕ) (cell : ℕ → ℕ → ℕ) (words : List ℕ)
-    (recs : List Rec) (s : RegionState) (at : Places) (i x : ℕ)
-    → ((o j : ℕ) (k : Chan) → On s o k → j < 2 + extent k.capacity → word_of place cell o j ≢ i)
+abbrev pub ForeignWordKeeps : Type 0
+ForeignWordKeeps = (code : Code) (page_words : ℕ) (encode : Value → ℕ) (place : ℕ → ℕ) (cell : ℕ → ℕ → ℕ) (words : List ℕ)
+    (recs : List ChannelRec) (s : RegionState) (at : Places) (i x : ℕ)
+    → ((o j : ℕ) (k : Chan) → On s o k → j < 2 + extent k.capacity → word_of_channel place cell o j ≢ i)
     → Channels code page_words encode place cell words recs s at
     → Channels code page_words encode place cell (slice_set words i x) recs s at

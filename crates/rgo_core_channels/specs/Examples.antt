@@ -10,13 +10,13 @@ use Rattle.rgo_core_memory.specs.Opening.{nowhere}
 use Rattle.rgo_core_memory.specs.Records.{Rec as MemoryRec}
 use Rattle.rgo_core_memory.specs.Spread.{lead_spot, spread_spot}
 use Rattle.rgo_core_channels.specs.After.{closed_now, popped, pushed}
-use Rattle.rgo_core_channels.specs.Channels.{Accepted, Calm, Chan, Channels, On, Places, LockedBy, Offered, OfferOf, Unlocked, cell_of, channel, count, holder_offer, lock_bit, phase_number, word_of}
+use Rattle.rgo_core_channels.specs.Channels.{Accepted, Calm, Chan, Channels, On, Places, LockedBy, Offered, OfferOf, Unlocked, cell_of, channel, count, holder_offer, lock_bit, phase_number, word_of_channel}
 use Rattle.rgo_core_channels.specs.Controls.{bit, closed_of, control, count_of, extent, tail_words, head_of, spreads}
 use Rattle.rgo_core_channels.specs.Locking.{IsCell, IsSpare}
 use Rattle.rgo_core_channels.specs.Moments.{Moment}
 use Rattle.rgo_core_channels.specs.Positions.{PositionsAgree, Layout, cell_place, place_at}
-use Rattle.rgo_core_channels.specs.Records.{Free, HoldsAt, InCell, KnowsOf, Locked, Read, Wrote, at_rest, offering, with_hold, with_lock, with_look, with_own_look, with_reach, with_size}
-use Rattle.rgo_core_channels.specs.Records.{Rec, Shut, Stranded}
+use Rattle.rgo_core_channels.specs.Records.{Free, HoldsAt, InCell, KnowsOf, Locked, Read, Wrote, at_rest, offering_record, with_hold, with_lock, with_look, with_own_look, with_reach, with_size}
+use Rattle.rgo_core_channels.specs.Records.{ChannelRec, Shut, Stranded}
 use Rattle.rgo_core_channels.specs.Standing.{IsOfChannel}
 use Rattle.rgo_sound.specs.Typed.declared.actions.Action.TheVariants as action
 use Rattle.rgo_sound.specs.RegionMachine.States.{Holder, NoOffer, RegionState, Standing, Taken}
@@ -40,8 +40,8 @@ RingIsShown = (code : Code) (encode : Value → ℕ) (s : RegionState) (h : Hold
 
 -- A buffer for five values, which does not fit a page of four words, and of which two are there. Page 0 is its lead page. It
 -- has the numbers, plus 1, of the data pages: 2, with the first four cells, and 1, with the last.
-abbrev pub long : Chan
-long = record { capacity = 5; queue = value.Bool true ∷ value.Nil ∷ []; closed = false }
+abbrev pub spread_buffer : Chan
+spread_buffer = record { capacity = 5; queue = value.Bool true ∷ value.Nil ∷ []; closed = false }
 
 abbrev pub long_words : (Value → ℕ) → List ℕ
 long_words encode =
@@ -56,7 +56,7 @@ long_at = record { head = λ o. 3; lock = λ o. Unlocked; phase = λ o. Calm }
 -- these words show it, in such a state
 abbrev pub LongIsShown : Type 0
 LongIsShown = (code : Code) (encode : Value → ℕ) (s : RegionState) (h : Holder)
-    → s.plain.memory.heap ≡ channel long ∷ [] → s.holders ≡ h ∷ [] → h.offer ≡ NoOffer
+    → s.plain.memory.heap ≡ channel spread_buffer ∷ [] → s.holders ≡ h ∷ [] → h.offer ≡ NoOffer
     → Channels code 4 encode (λ o. 0) long_cell (long_words encode) (at_rest ∷ []) s long_at
 
 -- a table of three such pages, which has the channel in its pages 0, 2 and 1
@@ -65,7 +65,7 @@ three_pages = record { pages = 3; page_words = 4; slots = 1; variables = 0 }
 
 abbrev pub long_places : Where
 long_places = record nowhere {
-  spot = λ o i. spread_spot 4 (channel long) (0 ∷ 2 ∷ 1 ∷ []) i;
+  spot = λ o i. spread_spot 4 (channel spread_buffer) (0 ∷ 2 ∷ 1 ∷ []) i;
   start = λ o. lead_spot (0 ∷ 2 ∷ 1 ∷ []) 0;
 }
 
@@ -87,10 +87,10 @@ pub record ChannelExamples : Type 0 where
   pub cells_follow : tail_words 256 254 ≡ 254
   pub numbers_follow : tail_words 256 300 ≡ 2
   pub no_cells : tail_words 256 0 ≡ 1
-  pub first_word : word_of (λ o. 10) long_cell 0 0 ≡ 10
-  pub second_word : word_of (λ o. 10) long_cell 0 1 ≡ 11
-  pub fourth_cell : word_of (λ o. 10) long_cell 0 5 ≡ 11 + 0
-  pub fifth_cell : word_of (λ o. 10) long_cell 0 6 ≡ 4
+  pub first_word : word_of_channel (λ o. 10) long_cell 0 0 ≡ 10
+  pub second_word : word_of_channel (λ o. 10) long_cell 0 1 ≡ 11
+  pub fourth_cell : word_of_channel (λ o. 10) long_cell 0 5 ≡ 11 + 0
+  pub fifth_cell : word_of_channel (λ o. 10) long_cell 0 6 ≡ 4
   pub locked : lock_bit (LockedBy 4) ≡ 1
   pub unlocked : lock_bit Unlocked ≡ 0
   -- a channel without a buffer: its control with an offer, and when that was taken
@@ -123,14 +123,14 @@ pub record ChannelExamples : Type 0 where
   pub reads_not : InCell (Wrote 100 4 2 9) 100 2 8 → ⊥
   pub knows : KnowsOf (with_size at_rest 100 3) 100
   pub knows_not : KnowsOf (with_size at_rest 100 3) 101 → ⊥
-  pub knows_offer : KnowsOf (offering 100) 100
+  pub knows_offer : KnowsOf (offering_record 100) 100
   pub knows_cell : KnowsOf (with_reach at_rest 100 4 12) 100
   pub knows_other_cell : KnowsOf (with_reach at_rest 100 4 12) 101 → ⊥
   pub knows_nothing : KnowsOf at_rest 100 → ⊥
   pub looks : (with_look at_rest 100 2).saw ≡ Shut 100
   pub looks_open : with_look at_rest 100 4 ≡ at_rest
-  pub looks_own : (with_own_look (offering 100) 100 6).saw ≡ Stranded 100
-  pub looks_taken : with_own_look (offering 100) 100 10 ≡ offering 100
+  pub looks_own : (with_own_look (offering_record 100) 100 6).saw ≡ Stranded 100
+  pub looks_taken : with_own_look (offering_record 100) 100 10 ≡ offering_record 100
   -- the cell of a channel in a page needs no page number; that of a spread one does
   pub cell_here : IsCell 256 at_rest 100 3 1 103
   pub cell_else : IsCell 256 at_rest 100 3 1 104 → ⊥
@@ -148,18 +148,18 @@ pub record ChannelExamples : Type 0 where
       (words : List ℕ) (at : Places)
       → Channels code page_words encode place cell words (with_hold at_rest (Locked 100 4) ∷ []) (region_start code) at → ⊥
   pub other_capacity : (code : Code) (page_words : ℕ) (encode : Value → ℕ) (place : ℕ → ℕ) (cell : ℕ → ℕ → ℕ)
-      (words : List ℕ) (recs : List Rec) (s : RegionState) (at : Places) → On s 0 ring → slice_index words (place 0 + 1) ≡ 4
+      (words : List ℕ) (recs : List ChannelRec) (s : RegionState) (at : Places) → On s 0 ring → slice_index words (place 0 + 1) ≡ 4
       → Channels code page_words encode place cell words recs s at → ⊥
   pub other_lock : (code : Code) (page_words : ℕ) (encode : Value → ℕ) (place : ℕ → ℕ) (cell : ℕ → ℕ → ℕ)
-      (words : List ℕ) (recs : List Rec) (s : RegionState) (at : Places) → On s 0 ring → slice_index words (place 0) ≡ 9
+      (words : List ℕ) (recs : List ChannelRec) (s : RegionState) (at : Places) → On s 0 ring → slice_index words (place 0) ≡ 9
       → at.lock 0 ≡ Unlocked
       → Channels code page_words encode place cell words recs s at → ⊥
   pub other_row : (code : Code) (encode : Value → ℕ) (place : ℕ → ℕ) (cell : ℕ → ℕ → ℕ)
-      (words : List ℕ) (recs : List Rec) (s : RegionState) (at : Places) → On s 0 ring → cell 0 1 ≡ place 0 + 4
+      (words : List ℕ) (recs : List ChannelRec) (s : RegionState) (at : Places) → On s 0 ring → cell 0 1 ≡ place 0 + 4
       → Channels code 256 encode place cell words recs s at → ⊥
   -- a record cannot have found a cell after the last
   pub other_cell : (code : Code) (page_words : ℕ) (encode : Value → ℕ) (place : ℕ → ℕ) (cell : ℕ → ℕ → ℕ)
-      (words : List ℕ) (s : RegionState) (at : Places) → ((o : ℕ) (k : Chan) → On s o k → k ≡ long)
+      (words : List ℕ) (s : RegionState) (at : Places) → ((o : ℕ) (k : Chan) → On s o k → k ≡ spread_buffer)
       → Channels code page_words encode place cell words (with_reach at_rest 100 5 12 ∷ []) s at → ⊥
   -- ---- positions
   pub begins : place_at three_pages long_places 0 ≡ 106

@@ -1,8 +1,8 @@
 -- Locking a channel, and its cells under the lock.
 use Rattle.std.specs.Prelude.{◌≡◌, ◌≢◌, ◌⊎◌, ℕ, suc, ◌+◌, ◌%◌, ◌<◌, ◌==◌, false, if◌then◌else◌}
 use Rattle.rgo_core_channels.specs.Controls.{count_of, extent, head_of, spreads}
-use Rattle.rgo_core_channels.specs.Moments.{Keeps, Law, LoadsWord}
-use Rattle.rgo_core_channels.specs.Records.{Free, Locked, Reached, Read, Rec, Sized, Wrote, with_hold, with_lock}
+use Rattle.rgo_core_channels.specs.Moments.{KeepsState, Law, LoadsWord}
+use Rattle.rgo_core_channels.specs.Records.{Free, Locked, Reached, Read, ChannelRec, Sized, Wrote, with_hold, with_lock}
 use Rattle.rgo_core_channels.specs.Standing.{IsAt}
 
 -- by the control and the capacity the cell holds nothing: no value of the queue, and no offer that was not taken
@@ -13,10 +13,10 @@ IsSpare n capacity i = (i < extent capacity)
 -- an unlocked control is exchanged for the locked one
 abbrev pub LockLaw : Type 0
 LockLaw = Law (λ T g c. (a n : ℕ) → IsAt T.code T.place T.state g c.post a → n % 2 ≡ 0 → c.hold ≡ Free
-    → Keeps T g a (λ w. if w == n then suc n else w) (with_lock c a n))
+    → KeepsState T g a (λ w. if w == n then suc n else w) (with_lock c a n))
 
 -- by what the record knows, the cell is at that word: after the capacity, if the channel fits a page; or where it was found
-abbrev pub IsCell : (page_words : ℕ) → Rec → (at capacity cell word : ℕ) → Type 0
+abbrev pub IsCell : (page_words : ℕ) → ChannelRec → (at capacity cell word : ℕ) → Type 0
 IsCell page_words c a capacity i w =
     ((spreads page_words capacity ≡ false) × (w ≡ a + 2 + i)) ⊎ (c.reach ≡ Reached a i w)
 
@@ -28,4 +28,4 @@ CellLoadLaw = Law (λ T g c. (a n i size p : ℕ) → c.hold ≡ Locked a n → 
 -- a cell that holds nothing is stored
 abbrev pub CellStoreLaw : Type 0
 CellStoreLaw = Law (λ T g c. (a n i size p x : ℕ) → c.hold ≡ Locked a n → c.size ≡ Sized a size → IsSpare n size i
-    → IsCell T.page_words c a size i p → Keeps T g p (λ w. x) (λ w. with_hold c (Wrote a n i x)))
+    → IsCell T.page_words c a size i p → KeepsState T g p (λ w. x) (λ w. with_hold c (Wrote a n i x)))

@@ -13,7 +13,7 @@ use Rattle.rgo_sound.specs.RegionMachine.States.{Holder, NoOffer, Standing, Take
 use Rattle.rgo_core_channels.specs.After.{after_meeting}
 use Rattle.rgo_core_channels.specs.Controls.{closed_of, count_of}
 use Rattle.rgo_core_channels.specs.Moments.{Gains, Law}
-use Rattle.rgo_core_channels.specs.Records.{Rec, Locked, Nowhere, Offering, Read, Sized, Wrote, at_rest, offering}
+use Rattle.rgo_core_channels.specs.Records.{ChannelRec, Locked, Nowhere, Offering, Read, Sized, Wrote, at_rest, offering_record}
 use Rattle.rgo_core_channels.specs.Standing.{Next}
 
 -- an offer: the goroutine and its record stay at the send
@@ -23,7 +23,7 @@ ChannelOfferLaw = Law (λ T g c. (o n x : ℕ) (v : Value) (next : Next T.code T
     → closed_of n ≡ 0 → count_of n ≡ 0
     → (is_meeting_at (slice_get T.state.plain.memory.heap o) ≡ true)
     × (list_any (λ (h : Holder). offers_on o h.offer) T.state.holders ≡ false)
-    × Gains T g (T.place o) (n + 4) (offering (T.place o)) (MakeOffer g)
+    × Gains T g (T.place o) (n + 4) (offering_record (T.place o)) (MakeOffer g)
     (attended T.state g (record next.holder { offer = Standing o })))
 
 -- A meeting, by the receiver. Goroutine t, whose offer is there, continues in the state, and its record stays at its send.
@@ -33,7 +33,7 @@ ChannelMeetLaw = Law (λ T g c. (o n x : ℕ) (next : Next T.code T.state g Recv
     → count_of n ≡ 1
     → (t : ℕ) × (v : Value) × (sends : Next T.code T.state t Send (value.Object o ∷ v ∷ [])) × (g ≢ t)
     × (sends.holder.offer ≡ Standing o) × (T.encode v ≡ x)
-    × (y : Rec) × (slice_get T.recs t ≡ Some y) × (y.post ≡ Offering (T.place o))
+    × (y : ChannelRec) × (slice_get T.recs t ≡ Some y) × (y.post ≡ Offering (T.place o))
     × (is_meeting_at (slice_get T.state.plain.memory.heap o) ≡ true)
     × Gains T g (T.place o) (n + 4) at_rest (Instruct (Meet g t)) (after_meeting o next sends v))
 

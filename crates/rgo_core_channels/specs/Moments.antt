@@ -12,7 +12,7 @@ use Rattle.rgo_sound.specs.Good.{AllGood}
 use Rattle.rgo_sound.specs.Running.{IsRunning}
 use Rattle.rgo_core_channels.specs.After.{after_trap}
 use Rattle.rgo_core_channels.specs.Channels.{Channels, Places}
-use Rattle.rgo_core_channels.specs.Records.{Rec}
+use Rattle.rgo_core_channels.specs.Records.{ChannelRec}
 
 -- a state of the region machine on checked code, in which all is as region safety says; and words and records that are its image
 pub record Moment : Type 0 where
@@ -24,7 +24,7 @@ pub record Moment : Type 0 where
   pub place : ℕ → ℕ
   pub cell : ℕ → ℕ → ℕ
   pub words : List ℕ
-  pub recs : List Rec
+  pub recs : List ChannelRec
   pub state : RegionState
   pub good : AllGood code state
   pub running : IsRunning state
@@ -32,23 +32,23 @@ pub record Moment : Type 0 where
   pub channels : Channels code page_words encode place cell words recs state at
 
 -- a law of accesses by a goroutine with this record
-abbrev pub Law : ((T : Moment) → ℕ → Rec → Type 0) → Type 0
-Law P = (T : Moment) (g : ℕ) (c : Rec) → slice_get T.recs g ≡ Some c → P T g c
+abbrev pub Law : ((T : Moment) → ℕ → ChannelRec → Type 0) → Type 0
+Law P = (T : Moment) (g : ℕ) (c : ChannelRec) → slice_get T.recs g ≡ Some c → P T g c
 
 module _ (T : Moment) (g : ℕ) where
   -- word i is loaded, and what was found makes the record this: the state stays
-  abbrev pub LoadsWord : (i : ℕ) → (ℕ → Rec) → Type 0
+  abbrev pub LoadsWord : (i : ℕ) → (ℕ → ChannelRec) → Type 0
   LoadsWord i d = Channels T.code T.page_words T.encode T.place T.cell (slice_set T.words i (slice_index T.words i))
       (slice_set T.recs g (d (slice_index T.words i))) T.state T.at
 
   -- word i becomes what f makes of what was found: the state stays
-  abbrev pub Keeps : (i : ℕ) (f : ℕ → ℕ) → (ℕ → Rec) → Type 0
-  Keeps i f d = (at : Places)
+  abbrev pub KeepsState : (i : ℕ) (f : ℕ → ℕ) → (ℕ → ChannelRec) → Type 0
+  KeepsState i f d = (at : Places)
       × Channels T.code T.page_words T.encode T.place T.cell (slice_set T.words i (f (slice_index T.words i)))
       (slice_set T.recs g (d (slice_index T.words i))) T.state at
 
   -- word i becomes x, and the region machine has a step by this event, to the state t
-  pub record Gains (i x : ℕ) (d : Rec) (event : Event) (t : RegionState) : Type 0 where
+  pub record Gains (i x : ℕ) (d : ChannelRec) (event : Event) (t : RegionState) : Type 0 where
     pub steps : region_step T.code T.page_words T.state event ≡ Some t
     pub at : Places
     pub channels : Channels T.code T.page_words T.encode T.place T.cell (slice_set T.words i x) (slice_set T.recs g d) t at

@@ -7,7 +7,7 @@ use Rattle.rgo_core_channels.specs.Channels.{Channels, Places}
 use Rattle.rgo_core_channels.specs.Records.{at_rest}
 
 -- whatever the words are
-abbrev pub Opens : Type 0
-Opens = (code : Code) (page_words : ℕ) (encode : Value → ℕ) (place : ℕ → ℕ) (cell : ℕ → ℕ → ℕ)
+abbrev pub ChannelsOpen : Type 0
+ChannelsOpen = (code : Code) (page_words : ℕ) (encode : Value → ℕ) (place : ℕ → ℕ) (cell : ℕ → ℕ → ℕ)
     (words : List ℕ) (at : Places)
     → Channels code page_words encode place cell words (at_rest ∷ []) (region_start code) at

@@ -6,7 +6,7 @@ use Rattle.rgo_core_memory.specs.Encoding.{address}
 use Rattle.rgo_core_memory.specs.Image.{StateImage, Where, word_at}
 use Rattle.rgo_core_memory.specs.Records.{Rec as MemoryRec}
 use Rattle.rgo_core_memory.specs.Words.{base, cell_at}
-use Rattle.rgo_core_channels.specs.Channels.{Chan, On, word_of}
+use Rattle.rgo_core_channels.specs.Channels.{Chan, On, word_of_channel}
 use Rattle.rgo_core_channels.specs.Controls.{extent, tail_words, spreads}
 use Rattle.rgo_core_channels.specs.Moments.{Law, LoadsWord, Moment}
 use Rattle.rgo_core_channels.specs.Records.{Sized, with_reach}
@@ -28,9 +28,9 @@ pub record Layout (z : TableSizes) (words : List ℕ) (s : RegionState) (places 
   pub row : (o i : ℕ) (k : Chan) → On s o k → spreads z.page_words k.capacity ≡ false → i < extent k.capacity
       → cell_place z places o i ≡ place_at z places o + 2 + i
   pub words_are : (o i : ℕ) (k : Chan) → On s o k → i < 2 + extent k.capacity
-      → word_of (place_at z places) (cell_place z places) o i ≡ word_at z places o i
+      → word_of_channel (place_at z places) (cell_place z places) o i ≡ word_at z places o i
   pub apart : (o p i j : ℕ) (k l : Chan) → On s o k → On s p l → i < 2 + extent k.capacity → j < 2 + extent l.capacity
-      → word_of (place_at z places) (cell_place z places) o i ≡ word_of (place_at z places) (cell_place z places) p j
+      → word_of_channel (place_at z places) (cell_place z places) o i ≡ word_of_channel (place_at z places) (cell_place z places) p j
       → (o ≡ p) × (i ≡ j)
 
 -- they are so in each table

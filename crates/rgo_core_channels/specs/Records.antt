@@ -31,7 +31,7 @@ pub data Saw : Type 0 where
   Shut : (at : ℕ) → Saw
   Stranded : (at : ℕ) → Saw
 
-pub record Rec : Type 0 where
+pub record ChannelRec : Type 0 where
   pub hold : Hold
   pub size : Size
   pub reach : Reach
@@ -53,7 +53,7 @@ InCell (Wrote b m j w) a i v = (b ≡ a) × (j ≡ i) × (w ≡ v)
 InCell (Read b m j w) a i v = (b ≡ a) × (j ≡ i) × (w ≡ v)
 
 -- it knows something of the channel there
-abbrev pub KnowsOf : Rec → ℕ → Type 0
+abbrev pub KnowsOf : ChannelRec → ℕ → Type 0
 KnowsOf c a = ((n : ℕ) × HoldsAt c.hold a n) ⊎ (((n : ℕ) × (c.size ≡ Sized a n))
     ⊎ ((c.saw ≡ Shut a) ⊎ ((c.saw ≡ Stranded a) ⊎ ((c.post ≡ Offering a)
     ⊎ ((i : ℕ) × (w : ℕ) × (c.reach ≡ Reached a i w))))))
@@ -61,31 +61,31 @@ KnowsOf c a = ((n : ℕ) × HoldsAt c.hold a n) ⊎ (((n : ℕ) × (c.size ≡ S
 -- ---- what steps do to a record
 
 -- it knows nothing of channels: so it is whenever its goroutine is not at an operation on one
-abbrev pub at_rest : Rec
+abbrev pub at_rest : ChannelRec
 at_rest = record { hold = Free; size = Unknown; reach = Unreached; post = Nowhere; saw = Nothing }
 
 -- its offer is there
-abbrev pub offering : ℕ → Rec
-offering a = record { hold = Free; size = Unknown; reach = Unreached; post = Offering a; saw = Nothing }
+abbrev pub offering_record : ℕ → ChannelRec
+offering_record a = record { hold = Free; size = Unknown; reach = Unreached; post = Offering a; saw = Nothing }
 
-abbrev pub with_hold : Rec → Hold → Rec
+abbrev pub with_hold : ChannelRec → Hold → ChannelRec
 with_hold c h = record c { hold = h }
 
-abbrev pub with_size : Rec → (at capacity : ℕ) → Rec
+abbrev pub with_size : ChannelRec → (at capacity : ℕ) → ChannelRec
 with_size c a n = record c { size = Sized a n }
 
 -- it has found that cell, at that word
-abbrev pub with_reach : Rec → (at cell word : ℕ) → Rec
+abbrev pub with_reach : ChannelRec → (at cell word : ℕ) → ChannelRec
 with_reach c a i w = record c { reach = Reached a i w }
 
 -- the control was found to be n
-abbrev pub with_look : Rec → (at found : ℕ) → Rec
+abbrev pub with_look : ChannelRec → (at found : ℕ) → ChannelRec
 with_look c a n = if closed_of n == 1 then record c { saw = Shut a } else c
 
 -- the control of the channel at which its offer is was found to be n
-abbrev pub with_own_look : Rec → (at found : ℕ) → Rec
+abbrev pub with_own_look : ChannelRec → (at found : ℕ) → ChannelRec
 with_own_look c a n = if closed_of n == 1 && count_of n == 1 then record c { saw = Stranded a } else c
 
 -- the control was w, and is locked now if w is n
-abbrev pub with_lock : Rec → (at n w : ℕ) → Rec
+abbrev pub with_lock : ChannelRec → (at n w : ℕ) → ChannelRec
 with_lock c a n w = if w == n then with_hold c (Locked a n) else c

@@ -43,11 +43,11 @@ blank_of {code} b = zero_of (destination_type (erased code) b.frame b.to)
 
 module _ {code : Code} {s : RegionState} {g : ℕ} {action : Action} {operands : List Value} where
   -- the goroutine's frames when the instruction has given this value
-  abbrev pub passed : Next code s g action operands → Value → List TacFrame
-  passed n v = frame_after_instr n.before.frame n.before.to v ∷ n.before.callers
+  abbrev pub passed_frames : Next code s g action operands → Value → List TacFrame
+  passed_frames n v = frame_after_instr n.before.frame n.before.to v ∷ n.before.callers
 
   -- what it then has of regions
   abbrev pub passed_holder : Next code s g action operands → Value → Holder
   passed_holder n v = record n.holder {
-    duties = map Remove n.before.removes ++ next_duties code (passed n v);
+    duties = map Remove n.before.removes ++ next_duties code (passed_frames n v);
   }

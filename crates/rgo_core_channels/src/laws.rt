@@ -2,14 +2,14 @@
 
 ghost use Rattle.rgo_core_channels.specs.Buffers.{CloseLaw, ReceiveLaw, SendLaw, ZeroLaw};
 ghost use Rattle.rgo_core_channels.specs.Deadlock.{DeadlockLaw};
-ghost use Rattle.rgo_core_channels.specs.Elsewhere.{EventLaw, FinishKeeps, WordKeeps};
+ghost use Rattle.rgo_core_channels.specs.Elsewhere.{EventLaw, FinishKeeps, ForeignWordKeeps};
 ghost use Rattle.rgo_core_channels.specs.Examples.{ChannelExamples};
 ghost use Rattle.rgo_core_channels.specs.Positions.{LayoutLaw, PageNumberLaw};
 ghost use Rattle.rgo_core_channels.specs.Live.{OperandIsLive, TakenIsLive};
 ghost use Rattle.rgo_core_channels.specs.Locking.{CellLoadLaw, CellStoreLaw, LockLaw};
 ghost use Rattle.rgo_core_channels.specs.Looking.{CapacityLaw, ControlLaw, OwnControlLaw};
 ghost use Rattle.rgo_core_channels.specs.Meetings.{ChannelAcknowledgeLaw, ChannelMeetLaw, ChannelOfferLaw};
-ghost use Rattle.rgo_core_channels.specs.Opening.{Opens};
+ghost use Rattle.rgo_core_channels.specs.Opening.{ChannelsOpen};
 ghost use Rattle.rgo_core_channels.specs.Traps.{CloseNilLaw, CloseTrapLaw, SendTrapLaw};
 
 /// A channel's capacity is loaded.
@@ -129,12 +129,12 @@ pub fn finish_law()
 
 /// So does an access to a word that no channel has.
 pub fn word_law()
-    ensures { WordKeeps }
+    ensures { ForeignWordKeeps }
 {}
 
 /// It holds at the start.
 pub fn opening_law()
-    ensures { Opens }
+    ensures { ChannelsOpen }
 {}
 
 /// Controls, records and channels that meet the definitions, and some that do not.

@@ -1,5 +1,5 @@
 //! What the record of a goroutine has of channels, as a type that views can hold.
-ghost use Rattle.rgo_core_channels.specs.Records.{Rec, at_rest};
+ghost use Rattle.rgo_core_channels.specs.Records.{ChannelRec, at_rest};
 
 use std::marker::Model;
 
@@ -7,7 +7,7 @@ use std::marker::Model;
 pub struct ChannelRecord;
 
 impl Model for ChannelRecord {
-    ghost Value = { Rec };
+    ghost Value = { ChannelRec };
 
     ghost view = { λ a. at_rest };
 }

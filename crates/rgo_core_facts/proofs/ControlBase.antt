@@ -2,7 +2,7 @@
 use Rattle.std.proofs.Common.{◌≡◌, ◌∙◌, ℕ, zero, suc, List, [], ◌∷◌, Option, Some, None, option_and_then, slice_get, slice_set, refl, sym, ap, subst, arith}
 use Rattle.std.proofs.lemmas.Option.{same_Some, slice_get_within}
 use Rattle.rgo_sound.specs.Code.Code.{Branch, Call, Code, CodeOp, Do, Go, Jump, Print, Return}
-use Rattle.rgo_core.specs.Runs.{limited_run, limited_step}
+use Rattle.rgo_core.specs.runs.Runs.{limited_run, step_in_limits}
 use Rattle.rgo_sound.specs.Machine.Runs.{run}
 use Rattle.rgo_sound.specs.Machine.declared.limits.Limits.{Limits}
 use Rattle.rgo_sound.specs.Machine.declared.picks.End.{End}
@@ -164,14 +164,14 @@ at_start code zero h e is = ap (λ (y : Holder). y.base) (sym (same_Some _ h e))
 at_start code (suc j) h e is = absurd (no_holder h e)
 
 run_keeps : (code : Code) (page_words : ℕ) (limits : Limits) (s t : RegionState) (events : List Event) → MainHasNoBase s
-    → run (limited_step code page_words limits) s events ≡ Some t → MainHasNoBase t
+    → run (step_in_limits code page_words limits) s events ≡ Some t → MainHasNoBase t
 run_keeps code page_words limits s t [] st e = subst MainHasNoBase (same_Some s t e) st
 run_keeps code page_words limits s t (event ∷ events) st e =
-    go (limited_step code page_words limits s event) refl e (λ u. run_keeps code page_words limits u t events)
+    go (step_in_limits code page_words limits s event) refl e (λ u. run_keeps code page_words limits u t events)
   where
-    go : (o : Option RegionState) → limited_step code page_words limits s event ≡ o
-        → option_and_then (λ u. run (limited_step code page_words limits) u events) o ≡ Some t
-        → ((u : RegionState) → MainHasNoBase u → run (limited_step code page_words limits) u events ≡ Some t → MainHasNoBase t) → MainHasNoBase t
+    go : (o : Option RegionState) → step_in_limits code page_words limits s event ≡ o
+        → option_and_then (λ u. run (step_in_limits code page_words limits) u events) o ≡ Some t
+        → ((u : RegionState) → MainHasNoBase u → run (step_in_limits code page_words limits) u events ≡ Some t → MainHasNoBase t) → MainHasNoBase t
     go None q e next = cc
     go (Some u) q e next =
         next u (yields_is (region_step code page_words s event) u (by_event code page_words s st event)

@@ -3,20 +3,20 @@ use Rattle.std.proofs.Common.{◌≡◌, ⊎_elim, ◌∙◌, ◌≤◌, ◌+◌
 use Rattle.std.specs.List.{list_any}
 use Rattle.rgo_core.proofs.Frames.regions.SlotLemmas.{ends_slot}
 use Rattle.rgo_core.proofs.Frames.regions.StakeDuties.{OwesFirst, owes_first, past_owes}
-use Rattle.rgo_core.specs.Frames.Shown.{FramesShow}
-use Rattle.rgo_core.specs.Frames.Slots.{slot, slot_duties, slot_duty, slot_environment, slot_environments}
-use Rattle.rgo_core.specs.Frames.WordFrames.{WordFrame}
+use Rattle.rgo_core.specs.Frames.shown.Variables.{FramesShow}
+use Rattle.rgo_core.specs.Frames.regions.Slots.{slotted_region, slot_duties, slot_duty, slot_environment, slot_environments}
+use Rattle.rgo_core.specs.Frames.shown.WordFrames.{WordFrame}
 use Rattle.rgo_sound.specs.RegionMachine.Regions.{bound, same_region}
 use Rattle.rgo_sound.specs.RegionMachine.States.{Create, Duty, EndBase, RegionEnvironment, Holder, Protect, Remove, Share, Unprotect, top_names}
 use Rattle.rgo_sound.specs.RegionMachine.declared.regions.Region.{Region}
 use Rattle.rgo_sound.proofs.duties.Attends.{same_reflexive}
 use Rattle.rgo_sound.specs.Invariant.{FramesFit, IsFree, IsReady, Settled, times}
-use Rattle.rgo_sound.specs.Stakes.{one_if}
+use Rattle.rgo_sound.specs.Stakes.{one_when}
 use Rattle.rgo_sound.specs.Tac.Frames.{TacFrame}
-use Rattle.rgo_core.specs.Core.{Here, Setup}
+use Rattle.rgo_core.specs.Core.{Situation, Setup}
 use Rattle.rgo_core.specs.Records.{Record}
 use Rattle.rgo_core.proofs.image.Parts.{I}
-use Rattle.rgo_core_facts.specs.ControlDuties.{CanAttend, DutiesAtEnd, DutiesKnown, HasNewest, IsNamed}
+use Rattle.rgo_core_facts.specs.ControlDuties.{CanAttend, DutiesAtEnd, DutiesKnown, HasNewest, NameIsBound}
 use Rattle.rgo_core_facts.proofs.ControlPending.{some_region}
 use Rattle.rgo_core_facts.proofs.ControlRegions.{base_staked, names_staked}
 use Rattle.rgo_core_facts.proofs.ControlSlots.{any_slotted, bound_slotted, unbound_slotted}
@@ -28,7 +28,7 @@ times_any : (r : Region) (rs : List Region) → 1 ≤ times r rs → list_any (s
 times_any r [] l = absurd (omega (arith, l))
 times_any r (s ∷ rs) l = go (same_region r s) l (times_any r rs)
   where
-    go : (b : Bool) → 1 ≤ one_if b + times r rs → (1 ≤ times r rs → list_any (same_region r) rs ≡ true)
+    go : (b : Bool) → 1 ≤ one_when b + times r rs → (1 ≤ times r rs → list_any (same_region r) rs ≡ true)
         → (b || list_any (same_region r) rs) ≡ true
     go true l next = refl
     go false l next = next (omega (arith, l))
@@ -49,7 +49,7 @@ no_end d ds (q ∷ base) other e = other q (same d (EndBase q) ds (map EndBase b
     same : (a b : Duty) (more others : List Duty) → a ∷ more ≡ b ∷ others → a ≡ b
     same a b more others e = cc
 
-module _ {T : Setup} {g : ℕ} {c : Record} (x : Here T g c) (y : Shown x (fitted x).frames (fitted x).h) where
+module _ {T : Setup} {g : ℕ} {c : Record} (x : Situation T g c) (y : Shown x (fitted x).frames (fitted x).h) where
   abbrev s_of : ℕ → ℕ
   s_of = (I x).places.slot
 
@@ -72,13 +72,13 @@ module _ {T : Setup} {g : ℕ} {c : Record} (x : Here T g c) (y : Shown x (fitte
       environments = environments_are ∙ ap (slot_environments s_of) there;
     }
 
-    named_as : (k : ℕ) (q : Region) → bound e.names k ≡ Some q → IsNamed T c k
+    named_as : (k : ℕ) (q : Region) → bound e.names k ≡ Some q → NameIsBound T c k
     named_as k q b = record {
       e = slot_environment s_of e;
       newest = newest;
-      region = slot s_of q;
+      region = slotted_region s_of q;
       bound = bound_slotted s_of e.names k q b;
-      staked = names_staked x (slot_environment s_of e) k (slot s_of q) (0, ap (λ l. slice_get l 0) newest.environments)
+      staked = names_staked x (slot_environment s_of e) k (slotted_region s_of q) (0, ap (λ l. slice_get l 0) newest.environments)
           (bound_slotted s_of e.names k q b);
     }
 
@@ -97,7 +97,7 @@ module _ {T : Setup} {g : ℕ} {c : Record} (x : Here T g c) (y : Shown x (fitte
         }
     by_frame Free Then (Remove k) ds ready ends =
         let q = some_region (bound e.names k) ready.1 in
-        record { named = named_as k q.0 q.1; none = ap (map (slot s_of)) ready.0 }
+        record { named = named_as k q.0 q.1; none = ap (map (slotted_region s_of)) ready.0 }
     by_frame Free Then (EndBase r) ds ready ends = absurd ready
 
   -- ---- at the end
@@ -105,14 +105,14 @@ module _ {T : Setup} {g : ℕ} {c : Record} (x : Here T g c) (y : Shown x (fitte
   at_end : (d : Duty) (ds : List Duty) → c.frame.frames ≡ [] → h.environments ≡ [] → d ∷ ds ≡ map EndBase h.base
       → CanAttend T c (slot_duty s_of d)
   at_end (EndBase r) ds frames there e =
-      let b : list_any (same_region (slot s_of r)) c.frame.holder.base ≡ true =
-      ap (list_any (same_region (slot s_of r))) (ap (λ (k : Holder). k.base) y.holder)
+      let b : list_any (same_region (slotted_region s_of r)) c.frame.holder.base ≡ true =
+      ap (list_any (same_region (slotted_region s_of r))) (ap (λ (k : Holder). k.base) y.holder)
       ∙ any_slotted s_of h.base r (first_end r ds h.base e) in
       record {
         frames = frames;
         environments = environments_are ∙ ap (slot_environments s_of) there;
         base = b;
-        staked = base_staked x (slot s_of r) b;
+        staked = base_staked x (slotted_region s_of r) b;
       }
   at_end (Create k) ds frames there e = absurd (no_end (Create k) ds h.base (λ r q. cc) e)
   at_end (Share k) ds frames there e = absurd (no_end (Share k) ds h.base (λ r q. cc) e)
@@ -154,7 +154,7 @@ duties_known T g c x d ds owed = ⊎_elim
 no_frames : {X : Type 0} (w : X) (ws : List X) → w ∷ ws ≡ [] → ⊥
 no_frames w ws e = cc
 
-module _ {T : Setup} {g : ℕ} {c : Record} (x : Here T g c) (gone : c.frame.frames ≡ []) where
+module _ {T : Setup} {g : ℕ} {c : Record} (x : Situation T g c) (gone : c.frame.frames ≡ []) where
   abbrev OwesEnds : Type 0
   OwesEnds = c.frame.holder.duties ≡ map EndBase c.frame.holder.base
 

@@ -4,11 +4,11 @@ use Rattle.std.proofs.lemmas.Option.{same_Some}
 use Rattle.rgo_sound.specs.Code.Checked.{IsChecked}
 use Rattle.rgo_sound.specs.Code.Code.{Branch, Call, Code, CodeFn, CodeInstr, CodeOp, Do, Go, Jump, Print, Return}
 use Rattle.rgo_core.proofs.Frames.regions.Bookkeeping.{current_alike}
-use Rattle.rgo_core.specs.Frames.Local.{local_by, local_frames, local_instr, local_op, word_returned}
+use Rattle.rgo_core.specs.Frames.steps.Local.{local_by, local_frames, local_instr, local_op, word_returned}
 use Rattle.rgo_core.specs.Frames.Records.{after_op}
-use Rattle.rgo_core.specs.Frames.Shown.{CallersShow, FramesShow, IsAlike}
-use Rattle.rgo_core.specs.Frames.Slots.{nameless, slot_duties}
-use Rattle.rgo_core.specs.Frames.WordFrames.{WordFrame, bare, word_at}
+use Rattle.rgo_core.specs.Frames.shown.Variables.{CallersShow, FramesShow, IsAlike}
+use Rattle.rgo_core.specs.Frames.regions.Slots.{nameless, slot_duties}
+use Rattle.rgo_core.specs.Frames.shown.WordFrames.{WordFrame, bare, frame_word}
 use Rattle.rgo_sound.specs.RegionMachine.Duties.{may_go}
 use Rattle.rgo_sound.specs.RegionMachine.Owed.{current, current_in, code_function}
 use Rattle.rgo_sound.specs.RegionMachine.States.{Holder, NoOffer, Offer, Standing, Taken, frames_in}
@@ -16,8 +16,8 @@ use Rattle.rgo_sound.specs.Offers.{OfferFits, StandsAtSend}
 use Rattle.rgo_sound.specs.Types.{CalledFrom, IsCallOf}
 use Rattle.rgo_sound.specs.Tac.Frames.{TacFrame}
 use Rattle.rgo_sound.specs.Typed.declared.actions.Action.TheVariants.{Send}
-use Rattle.rgo_core.specs.CommitMoves.{IsAtSend}
-use Rattle.rgo_core.specs.Core.{Here, Setup}
+use Rattle.rgo_core.specs.moves.Commits.{IsAtSend}
+use Rattle.rgo_core.specs.Core.{Situation, Setup}
 use Rattle.rgo_core.specs.Records.{Record}
 use Rattle.rgo_core.proofs.image.Parts.{I}
 use Rattle.rgo_core_facts.specs.ControlCode.{HasCallee}
@@ -153,7 +153,7 @@ at_send T c addresses frame callers (w ∷ ws) instr to from removes cur is e sh
   is = is;
 }
 
-module _ {T : Setup} {g : ℕ} {c : Record} (x : Here T g c) where
+module _ {T : Setup} {g : ℕ} {c : Record} (x : Situation T g c) where
   abbrev Known : Type 0
   Known = (c.frame.holder.offer ≡ NoOffer)
       ⊎ ((c.frame.holder.offer ≡ Standing 0) × (c.frame.holder.duties ≡ []) × IsAtSend T c)
@@ -194,10 +194,10 @@ offers_known T g c x = ⊎_elim (offer_shown x) (offer_past x) (fitted x).fits
 
 pub last_return : LastReturn
 last_return T c value a alone = (
-  after_op T.code c.frame.holder a.w a.ws a.instr.op (word_returned T.code (option_map (word_at a.w) value) a.ws),
+  after_op T.code c.frame.holder a.w a.ws a.instr.op (word_returned T.code (option_map (frame_word a.w) value) a.ws),
   ap (local_by T.code c.frame) a.none
       ∙ ap (local_frames T.code c.frame.holder) a.frames
       ∙ ap (option_and_then (local_instr T.code c.frame.holder a.w a.ws)) a.cur
       ∙ ap (λ (op : CodeOp). option_map (after_op T.code c.frame.holder a.w a.ws a.instr.op) (local_op T.code a.w a.ws op)) a.is,
-  ap (word_returned T.code (option_map (word_at a.w) value)) alone,
+  ap (word_returned T.code (option_map (frame_word a.w) value)) alone,
 )

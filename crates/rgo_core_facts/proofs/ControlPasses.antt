@@ -11,8 +11,8 @@ use Rattle.rgo_sound.specs.Code.Types.{ArgumentsFit, IsWellTypedOp, TargetFits}
 use Rattle.rgo_sound.specs.Code.declared.rules.Line.TheVariants as line
 use Rattle.rgo_sound.specs.Code.declared.rules.Rule.TheVariants as rule
 use Rattle.rgo_core.proofs.Frames.regions.SlotLemmas.{class_slot, top_slot}
-use Rattle.rgo_core.specs.Frames.Before.{IsBefore}
-use Rattle.rgo_core.specs.Frames.Slots.{slot, slot_environment, slot_environments, slot_names}
+use Rattle.rgo_core.specs.Frames.steps.Before.{IsBefore}
+use Rattle.rgo_core.specs.Frames.regions.Slots.{slotted_region, slot_environment, slot_environments, slot_names}
 use Rattle.rgo_sound.specs.RegionMachine.Owed.{code_function, regions_named}
 use Rattle.rgo_sound.specs.RegionMachine.Regions.{Bindings, bound, class_region, same_region}
 use Rattle.rgo_sound.specs.RegionMachine.States.{RegionEnvironment, Holder, top_names}
@@ -28,12 +28,12 @@ use Rattle.rgo_sound.proofs.calls.Starts.{in_of_times}
 use Rattle.rgo_sound.proofs.names.Edges.{named_bound, standing_instr, standing_settled}
 use Rattle.rgo_sound.proofs.pointers.Steps.{Top, top_of}
 use Rattle.rgo_sound.specs.Invariant.{HasInstr, Settled, Shares, at_most_one, bound_times, same_bound, shared_before, shared_names, times, to_share}
-use Rattle.rgo_sound.specs.Stakes.{is_in, one_if, times_in}
+use Rattle.rgo_sound.specs.Stakes.{is_in, one_when, times_in}
 use Rattle.rgo_sound.specs.Tac.Code.{TacFn}
 use Rattle.rgo_sound.specs.Tac.declared.regions.Class.{Class}
 use Rattle.rgo_sound.specs.Tac.declared.regions.Class.TheVariants.{Global, Name, NoClass}
-use Rattle.rgo_core.specs.Core.{Here, Setup}
-use Rattle.rgo_core.specs.Next.{IsAt}
+use Rattle.rgo_core.specs.Core.{Situation, Setup}
+use Rattle.rgo_core.specs.Next.{IsAtOp}
 use Rattle.rgo_core.specs.Records.{Record}
 use Rattle.rgo_core.proofs.image.Parts.{I}
 use Rattle.rgo_core.proofs.image.Standing.{at_instruction}
@@ -57,7 +57,7 @@ passable_at names (NoClass ∷ passes) p i class e = absurd p
 passable_at names (Name k ∷ passes) p (suc i) class e = passable_at names passes p.1 i class e
 passable_at names (Global ∷ passes) p (suc i) class e = passable_at names passes p i class e
 
-module _ {T : Setup} {g : ℕ} {c : Record} (x : Here T g c) {op : CodeOp} (a : IsAt T.code c op) where
+module _ {T : Setup} {g : ℕ} {c : Record} (x : Situation T g c) {op : CodeOp} (a : IsAtOp T.code c op) where
   abbrev B : IsBefore T.code (I x).places.slot (I x).addresses x.s g c.frame a.w a.ws a.instr
   B = (at_instruction x a).before
 
@@ -86,13 +86,13 @@ module _ {T : Setup} {g : ℕ} {c : Record} (x : Here T g c) {op : CodeOp} (a : 
   have_regions : (passes : List Class) → ArePassable top.f.names passes → HaveRegions T c passes
   have_regions passes p i class e =
       let q = passable_at top.f.names passes p i class e in
-      let is : class_region (top_names c.frame.holder.environments) class ≡ Some (slot (I x).places.slot q.0) =
+      let is : class_region (top_names c.frame.holder.environments) class ≡ Some (slotted_region (I x).places.slot q.0) =
       ap (λ (k : Holder). class_region (top_names k.environments) class) B.holder
       ∙ ap (λ (ns : Bindings). class_region ns class) (top_slot (I x).places.slot B.h.environments)
       ∙ class_slot (I x).places.slot (top_names B.h.environments) class
-      ∙ ap (option_map (slot (I x).places.slot))
+      ∙ ap (option_map (slotted_region (I x).places.slot))
       (ap (λ (es : List RegionEnvironment). class_region (top_names es) class) top.environments ∙ q.1) in
-      (slot (I x).places.slot q.0, is, class_staked class (slot (I x).places.slot q.0) is)
+      (slotted_region (I x).places.slot q.0, is, class_staked class (slotted_region (I x).places.slot q.0) is)
 
   module _ (n : ℕ) (callee : CodeFn) (to : Option ℕ) (from : List ℕ) (passes : List Class) (found : code_function T.code n ≡ Some callee) where
     passable : ((v : ℕ) → Contains from v → UsesVariable (erased_op a.instr.op) v) → ((d : ℕ) → to ≡ Some d → UsesVariable (erased_op a.instr.op) d)
@@ -164,9 +164,9 @@ named_among : (names : Bindings) (passes : List Class) (k q i : ℕ) → slice_g
 named_among names [] k q i e b = absurd (no_class (Name k) e)
 named_among names (Name j ∷ passes) k q zero e b =
     let same : j ≡ k = number j k (same_Some (Name j) (Name k) e) in
-    let o : one_if (same_bound (Numbered q) (bound names j)) ≡ 1 =
-    ap (λ n. one_if (same_bound (Numbered q) (bound names n))) same ∙ ap (λ r. one_if (same_bound (Numbered q) r)) b
-    ∙ ap one_if (same_reflexive (Numbered q)) in
+    let o : one_when (same_bound (Numbered q) (bound names j)) ≡ 1 =
+    ap (λ n. one_when (same_bound (Numbered q) (bound names n))) same ∙ ap (λ r. one_when (same_bound (Numbered q) r)) b
+    ∙ ap one_when (same_reflexive (Numbered q)) in
     omega (arith, o)
   where
     number : (j k : ℕ) → Name j ≡ Name k → j ≡ k
@@ -178,8 +178,8 @@ named_among names (Name j ∷ passes) k q (suc i) e b =
 named_among names (Global ∷ passes) k q (suc i) e b = named_among names passes k q i e b
 named_among names (NoClass ∷ passes) k q (suc i) e b = named_among names passes k q i e b
 
-module _ {T : Setup} {g : ℕ} {c : Record} (x : Here T g c) (n : ℕ) (from : List ℕ) (passes : List Class) (removes : List ℕ)
-    (a : IsAt T.code c (Go n from passes removes)) where
+module _ {T : Setup} {g : ℕ} {c : Record} (x : Situation T g c) (n : ℕ) (from : List ℕ) (passes : List Class) (removes : List ℕ)
+    (a : IsAtOp T.code c (Go n from passes removes)) where
   names_are : top_names c.frame.holder.environments ≡ slot_names (I x).places.slot (top_names (B x a).h.environments)
   names_are = ap (λ (k : Holder). top_names k.environments) (B x a).holder ∙ top_slot (I x).places.slot (B x a).h.environments
 
@@ -193,11 +193,11 @@ module _ {T : Setup} {g : ℕ} {c : Record} (x : Here T g c) (n : ℕ) (from : L
       → is_in p c.frame.holder.pending ≡ true
   name_shared i k p e b = by q.0 q.1 q.2
     where
-      q : (r : Region) × (bound (top_names (B x a).h.environments) k ≡ Some r) × (slot (I x).places.slot r ≡ Numbered p)
+      q : (r : Region) × (bound (top_names (B x a).h.environments) k ≡ Some r) × (slotted_region (I x).places.slot r ≡ Numbered p)
       q = bound_unslotted (I x).places.slot (top_names (B x a).h.environments) k (Numbered p)
           (ap (λ (ns : Bindings). bound ns k) (sym names_are) ∙ b)
 
-      by : (r : Region) → bound (top_names (B x a).h.environments) k ≡ Some r → slot (I x).places.slot r ≡ Numbered p
+      by : (r : Region) → bound (top_names (B x a).h.environments) k ≡ Some r → slotted_region (I x).places.slot r ≡ Numbered p
           → is_in p c.frame.holder.pending ≡ true
       by GlobalRegion b s = cc
       by (Numbered j) b s =
@@ -232,7 +232,7 @@ none_listed : (rs : List Region) → ((r : Region) → times r rs ≡ 0) → rs 
 none_listed [] n = refl
 none_listed (s ∷ rs) n =
     let e = n s in
-    let o : one_if (same_region s s) ≡ 1 = ap one_if (same_reflexive s) in absurd (omega (arith, e, o))
+    let o : one_when (same_region s s) ≡ 1 = ap one_when (same_reflexive s) in absurd (omega (arith, e, o))
 
 pub newest_unprotected : NewestUnprotected
 newest_unprotected T g c x op a none e es is =
@@ -242,4 +242,4 @@ newest_unprotected T g c x op a none e es is =
     let same : slot_environment (I x).places.slot f ≡ e = head_is (slot_environment (I x).places.slot f) e
     (slot_environments (I x).places.slot (top x a).fs) es
     (sym (ap (slot_environments (I x).places.slot) (top x a).environments) ∙ (sym (ap (λ (k : Holder). k.environments) (B x a).holder) ∙ is)) in
-    ap (λ (y : RegionEnvironment). y.protections) (sym same) ∙ ap (map (slot (I x).places.slot)) empty
+    ap (λ (y : RegionEnvironment). y.protections) (sym same) ∙ ap (map (slotted_region (I x).places.slot)) empty

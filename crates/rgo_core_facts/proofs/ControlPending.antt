@@ -10,7 +10,7 @@ use Rattle.rgo_sound.proofs.duties.Moves.{same_regions}
 use Rattle.rgo_sound.proofs.names.Pending.{at_most_one_some}
 use Rattle.rgo_sound.proofs.Tests.{eq_of, split}
 use Rattle.rgo_sound.specs.Invariant.{IsReady, Shares, bound_times, same_bound, with_pending}
-use Rattle.rgo_sound.specs.Stakes.{one_if, times_in}
+use Rattle.rgo_sound.specs.Stakes.{one_when, times_in}
 
 -- a name stands for region p
 abbrev pub IsBoundTo : Bindings → ℕ → Type 0
@@ -24,12 +24,12 @@ bound_among : (p : ℕ) (names : Bindings) (ks : List ℕ) → 0 < bound_times (
 bound_among p names [] l = absurd (omega (arith, l))
 bound_among p names (k ∷ ks) l = go (bound names k) refl l (bound_among p names ks)
   where
-    go : (o : Option Region) → bound names k ≡ o → 0 < one_if (same_bound (Numbered p) o) + bound_times (Numbered p) names ks
+    go : (o : Option Region) → bound names k ≡ o → 0 < one_when (same_bound (Numbered p) o) + bound_times (Numbered p) names ks
         → (0 < bound_times (Numbered p) names ks → IsBoundTo names p) → IsBoundTo names p
     go None e l next = next (omega (arith, l))
     go (Some s) e l next = split (same_region (Numbered p) s)
         (λ t. (k, e ∙ ap Some (sym (same_regions (Numbered p) s t))))
-        (λ n. next (let o : one_if (same_region (Numbered p) s) ≡ 0 = ap one_if n in omega (arith, l, o)))
+        (λ n. next (let o : one_when (same_region (Numbered p) s) ≡ 0 = ap one_when n in omega (arith, l, o)))
 
 -- a name that is bound without another one
 bound_without : (names : Bindings) (j p : ℕ) → IsBoundTo (unbind names j) p → IsBoundTo names p

@@ -7,10 +7,10 @@ use Rattle.rgo_sound.specs.Code.Erasure.{erased, erased_fn, erased_op}
 use Rattle.rgo_sound.specs.Code.Types.{VariableHasType, IsWellTypedOp}
 use Rattle.rgo_sound.specs.Code.declared.rules.Line.TheVariants as line
 use Rattle.rgo_sound.specs.Code.declared.rules.Rule.TheVariants as rule
-use Rattle.rgo_core.specs.Frames.Before.{IsBefore}
-use Rattle.rgo_core.specs.Frames.Prints.{typed_in}
-use Rattle.rgo_core.specs.Frames.WordFrames.{word_at}
-use Rattle.rgo_core.specs.Frames.Words.{Shows}
+use Rattle.rgo_core.specs.Frames.steps.Before.{IsBefore}
+use Rattle.rgo_core.specs.Frames.steps.Prints.{typed_in}
+use Rattle.rgo_core.specs.Frames.shown.WordFrames.{frame_word}
+use Rattle.rgo_core.specs.Frames.shown.Words.{Shows}
 use Rattle.rgo_sound.specs.Memory.declared.values.Value.{Value}
 use Rattle.rgo_sound.specs.Memory.declared.values.Value.TheVariants as value
 use Rattle.rgo_sound.specs.RegionMachine.Owed.{current_in, function_at, code_function}
@@ -22,12 +22,12 @@ use Rattle.rgo_sound.specs.Tac.Frames.{value_at}
 use Rattle.rgo_sound.specs.Typed.Types.{is_pointer_like}
 use Rattle.rgo_sound.specs.Typed.declared.statements.Piece.{Piece}
 use Rattle.rgo_sound.specs.Typed.declared.types.Type.{«Type»}
-use Rattle.rgo_core.specs.Core.{Here, Setup}
-use Rattle.rgo_core.specs.Next.{IsAt}
+use Rattle.rgo_core.specs.Core.{Situation, Setup}
+use Rattle.rgo_core.specs.Next.{IsAtOp}
 use Rattle.rgo_core.specs.Records.{Record}
 use Rattle.rgo_core.proofs.image.Parts.{I}
 use Rattle.rgo_core.proofs.image.Standing.{at_instruction}
-use Rattle.rgo_core_facts.specs.ControlPrints.{IsBoolWord, IsIntWord, IsPrinted, OperandsPrinted}
+use Rattle.rgo_core_facts.specs.ControlPrints.{IsBoolWord, IsIntWord, CanBePrinted, OperandsPrinted}
 
 zero_or_one : (b : Bool) (word : ℕ) → word ≡ from_bool b → (word ≡ 0) ⊎ (word ≡ 1)
 zero_or_one true word e = inr e
@@ -42,8 +42,8 @@ typed_word addresses kinds slot (value.Bool b) word p k sh =
 typed_word addresses kinds slot value.Nil word p k sh = absurd (true≢false (sym k ∙ p))
 typed_word addresses kinds slot (value.Object o) word p k sh = absurd (true≢false (sym k.1 ∙ p))
 
-module _ {T : Setup} {g : ℕ} {c : Record} (x : Here T g c) (pieces : List Piece) (from removes : List ℕ)
-    (a : IsAt T.code c (Print pieces from removes)) where
+module _ {T : Setup} {g : ℕ} {c : Record} (x : Situation T g c) (pieces : List Piece) (from removes : List ℕ)
+    (a : IsAtOp T.code c (Print pieces from removes)) where
   abbrev B : IsBefore T.code (I x).places.slot (I x).addresses x.s g c.frame a.w a.ws a.instr
   B = (at_instruction x a).before
 
@@ -61,14 +61,14 @@ module _ {T : Setup} {g : ℕ} {c : Record} (x : Here T g c) (pieces : List Piec
       var_kind B.kinds (erased_fn B.typed.0.0) B.frame B.typed.0.2 v ty
       (subst (λ (f : CodeFn). VariableHasType (erased_fn f) v ty) same t)
 
-  pub printed : (v : ℕ) → Contains from v → IsPrinted a.fn a.w v
+  pub printed : (v : ℕ) → Contains from v → CanBePrinted a.fn a.w v
   printed v within =
       let t = typed v within in
       let s = slot_at a.fn v t.0 t.1 in
       record {
         slot = s.0;
         is = s.1;
-        word = typed_word (I x).addresses B.kinds s.0 (value_at B.frame v) (word_at a.w v) (ap is_pointer_like s.2 ∙ t.2)
+        word = typed_word (I x).addresses B.kinds s.0 (value_at B.frame v) (frame_word a.w v) (ap is_pointer_like s.2 ∙ t.2)
             (subst (λ ty. HasKind B.kinds ty (value_at B.frame v)) (sym s.2) (kind v t.0 t.1))
             (B.shown v (subst (λ (o : CodeOp). Contains (reads (erased_op o)) v) (sym a.is) within));
       }

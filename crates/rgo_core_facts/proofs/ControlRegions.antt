@@ -6,10 +6,10 @@ use Rattle.std.specs.List.{list_any}
 use Rattle.rgo_sound.specs.Code.Code.{Code}
 use Rattle.rgo_core.proofs.Frames.Before.{no_duties}
 use Rattle.rgo_core.proofs.Frames.steps.LocalActs.{chained}
-use Rattle.rgo_core.specs.Frames.Shown.{CallersShow, FramesShow}
-use Rattle.rgo_core.specs.Frames.Slots.{slot, slot_environment}
-use Rattle.rgo_core.specs.Frames.Stakes.{ended, stake_ended}
-use Rattle.rgo_core.specs.Frames.WordFrames.{WordFrame}
+use Rattle.rgo_core.specs.Frames.shown.Variables.{CallersShow, FramesShow}
+use Rattle.rgo_core.specs.Frames.regions.Slots.{slotted_region, slot_environment}
+use Rattle.rgo_core.specs.Frames.regions.Stakes.{ended, stake_ended}
+use Rattle.rgo_core.specs.Frames.shown.WordFrames.{WordFrame}
 use Rattle.rgo_core.proofs.Memory.regions.Slots.{live_info}
 use Rattle.rgo_core.proofs.Memory.image.Stepped.{map_get}
 use Rattle.rgo_core.specs.Memory.Ground.{Held, MayUseRegion, held_of}
@@ -27,7 +27,7 @@ use Rattle.rgo_sound.specs.Core.{AreStaked, AreUniqueIn, RegionsStaked}
 use Rattle.rgo_sound.specs.Invariant.{AllWait, FramesFit, GoodHolder, Shares, to_share}
 use Rattle.rgo_sound.specs.Stakes.{is_in, times_in}
 use Rattle.rgo_sound.specs.Tac.Frames.{TacFrame}
-use Rattle.rgo_core.specs.Core.{Here, Setup, layout}
+use Rattle.rgo_core.specs.Core.{Situation, Setup, layout}
 use Rattle.rgo_core.specs.Records.{Record}
 use Rattle.rgo_core.proofs.image.Parts.{I}
 use Rattle.rgo_core.proofs.image.Standing.{memory_at}
@@ -80,7 +80,7 @@ pending_staked code frames h good p l = go frames h.environments h.duties good.f
         let b = pending_bound _ _ (to_share code (frame ∷ callers)) p ds e.names e.protections h.pending fit.0.ready shares l in
         staked.0 b.0 p b.1
 
-module _ {T : Setup} {g : ℕ} {c : Record} (x : Here T g c) where
+module _ {T : Setup} {g : ℕ} {c : Record} (x : Situation T g c) where
   abbrev V : Seen x
   V = seen x
 
@@ -99,7 +99,7 @@ module _ {T : Setup} {g : ℕ} {c : Record} (x : Here T g c) where
   )
 
   -- of a region, by its slot
-  pub region_staked : (q r : Region) → slot s_of q ≡ r → ((j : ℕ) → q ≡ Numbered j → is_in j V.h.stakes ≡ true) → IsStaked T c r
+  pub region_staked : (q r : Region) → slotted_region s_of q ≡ r → ((j : ℕ) → q ≡ Numbered j → is_in j V.h.stakes ≡ true) → IsStaked T c r
   region_staked GlobalRegion r e k = subst (IsStaked T c) e tt
   region_staked (Numbered j) r e k = subst (IsStaked T c) e (number_staked j (k j refl))
 
@@ -121,7 +121,7 @@ module _ {T : Setup} {g : ℕ} {c : Record} (x : Here T g c) where
       region_staked q.0 r q.2
       (λ j is. (staked_at V.h.stakes V.h.environments f.0 f.1 (seen_good x).core.staked f.2).0 k j (q.1 ∙ ap Some is))
 
-  pub listed_staked : (rs : List Region) (r : Region) → RegionsStaked V.h.stakes rs → list_any (same_region r) (map (slot s_of) rs) ≡ true
+  pub listed_staked : (rs : List Region) (r : Region) → RegionsStaked V.h.stakes rs → list_any (same_region r) (map (slotted_region s_of) rs) ≡ true
       → IsStaked T c r
   listed_staked rs r staked e =
       let q = any_unslotted s_of rs r e in
@@ -205,7 +205,7 @@ none_of T c slot known low none = record {
       (known.pages f within);
 }
   where
-    clash : IsStaked T c (Numbered slot) → ⊥
+    clash : IsStaked T c (Numbered slotted_region) → ⊥
     clash st = true≢false (sym st.0 ∙ none)
 
 pub nothing_kept : NothingKept
@@ -262,7 +262,7 @@ no_more : {X : Type 0} (xs : List X) → length xs ≡ 0 → xs ≡ []
 no_more [] e = refl
 no_more (y ∷ xs) e = absurd (omega (arith, e))
 
-module _ {T : Setup} {g : ℕ} {c : Record} (x : Here T g c) (gone : c.frame.frames ≡ []) (none : c.frame.holder.duties ≡ []) where
+module _ {T : Setup} {g : ℕ} {c : Record} (x : Situation T g c) (gone : c.frame.frames ≡ []) (none : c.frame.holder.duties ≡ []) where
   abbrev AtEnd : Type 0
   AtEnd = (c.frame.holder.stakes ≡ []) × (c.frame.holder.environments ≡ []) × (c.frame.holder.base ≡ [])
 
@@ -279,7 +279,7 @@ module _ {T : Setup} {g : ℕ} {c : Record} (x : Here T g c) (gone : c.frame.fra
       let base : f.h.base ≡ [] = by f.frames f.h.environments f.h.duties empty duties good.fit in (
         ap (λ (k : Holder). k.stakes) y.holder ∙ ap (map (I x).places.slot) stakes,
         no_more c.frame.holder.environments zero,
-        ap (λ (k : Holder). k.base) y.holder ∙ ap (map (slot (I x).places.slot)) base,
+        ap (λ (k : Holder). k.base) y.holder ∙ ap (map (slotted_region (I x).places.slot)) base,
       )
     where
       by : (frames : List TacFrame) (es : List RegionEnvironment) (ds : List Duty) → frames ≡ [] → ds ≡ []

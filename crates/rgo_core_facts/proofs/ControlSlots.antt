@@ -4,7 +4,7 @@ use Rattle.std.proofs.lemmas.Option.{same_Some, slice_get-map}
 use Rattle.std.specs.List.{list_any}
 use Rattle.rgo_core.proofs.Frames.steps.LocalActs.{mapped}
 use Rattle.rgo_core.proofs.Frames.regions.SlotLemmas.{bound_slot}
-use Rattle.rgo_core.specs.Frames.Slots.{slot, slot_environment, slot_environments, slot_names}
+use Rattle.rgo_core.specs.Frames.regions.Slots.{slotted_region, slot_environment, slot_environments, slot_names}
 use Rattle.rgo_sound.specs.RegionMachine.Regions.{Bindings, bound, same_region}
 use Rattle.rgo_sound.specs.RegionMachine.States.{RegionEnvironment}
 use Rattle.rgo_sound.specs.RegionMachine.declared.regions.Region.{Region}
@@ -12,7 +12,7 @@ use Rattle.rgo_sound.proofs.duties.Attends.{same_reflexive}
 use Rattle.rgo_sound.proofs.duties.Moves.{same_regions}
 use Rattle.rgo_sound.proofs.Tests.{eq_of, nat_eq_refl, split}
 use Rattle.rgo_sound.specs.Core.{AreStaked, AreUnique, AreUniqueIn, NamesStaked, RegionsStaked}
-use Rattle.rgo_sound.specs.Stakes.{is_in, one_if, times_in}
+use Rattle.rgo_sound.specs.Stakes.{is_in, one_when, times_in}
 
 -- ---- lists of numbers
 
@@ -39,8 +39,8 @@ module _ (f : ℕ → ℕ) where
   pub times_unmapped : (xs : List ℕ) (p : ℕ) → 0 < times_in p (map f xs) → (q : ℕ) × (f q ≡ p) × (0 < times_in q xs)
   times_unmapped [] p l = absurd (omega (arith, l))
   times_unmapped (x ∷ xs) p l = split (nat_eq p (f x))
-      (λ t. let o : one_if (nat_eq x x) ≡ 1 = ap one_if (nat_eq_refl x) in (x, sym (eq_of p (f x) t), omega (arith, o)))
-      (λ n. let o : one_if (nat_eq p (f x)) ≡ 0 = ap one_if n in
+      (λ t. let o : one_when (nat_eq x x) ≡ 1 = ap one_when (nat_eq_refl x) in (x, sym (eq_of p (f x) t), omega (arith, o)))
+      (λ n. let o : one_when (nat_eq p (f x)) ≡ 0 = ap one_when n in
       let r = times_unmapped xs p (omega (arith, l, o)) in
       let m = r.2 in (r.0, r.1, omega (arith, m)))
 
@@ -51,39 +51,39 @@ module _ (slot_of : ℕ → ℕ) where
   any_there true c e = refl
   any_there false c e = e
 
-  pub any_unslotted : (rs : List Region) (r : Region) → list_any (same_region r) (map (slot slot_of) rs) ≡ true
-      → (q : Region) × (slot slot_of q ≡ r) × (list_any (same_region q) rs ≡ true)
+  pub any_unslotted : (rs : List Region) (r : Region) → list_any (same_region r) (map (slotted_region slot_of) rs) ≡ true
+      → (q : Region) × (slotted_region slot_of q ≡ r) × (list_any (same_region q) rs ≡ true)
   any_unslotted [] r e = absurd (true≢false (sym e))
-  any_unslotted (x ∷ rs) r e = split (same_region r (slot slot_of x))
+  any_unslotted (x ∷ rs) r e = split (same_region r (slotted_region slot_of x))
       (λ t. (
         x,
-        sym (same_regions r (slot slot_of x) t),
+        sym (same_regions r (slotted_region slot_of x) t),
         ap (λ b. b || list_any (same_region x) rs) (same_reflexive x),
       ))
-      (λ n. let q = any_unslotted rs r (ap (λ b. b || list_any (same_region r) (map (slot slot_of) rs)) (sym n) ∙ e) in
+      (λ n. let q = any_unslotted rs r (ap (λ b. b || list_any (same_region r) (map (slotted_region slot_of) rs)) (sym n) ∙ e) in
       (q.0, q.1, any_there (same_region q.0 x) (list_any (same_region q.0) rs) q.2))
 
   pub any_slotted : (rs : List Region) (q : Region) → list_any (same_region q) rs ≡ true
-      → list_any (same_region (slot slot_of q)) (map (slot slot_of) rs) ≡ true
+      → list_any (same_region (slotted_region slot_of q)) (map (slotted_region slot_of) rs) ≡ true
   any_slotted [] q e = absurd (true≢false (sym e))
   any_slotted (x ∷ rs) q e = split (same_region q x)
-      (λ t. ap (λ b. b || list_any (same_region (slot slot_of q)) (map (slot slot_of) rs))
-      (ap (λ y. same_region (slot slot_of q) (slot slot_of y)) (sym (same_regions q x t)) ∙ same_reflexive (slot slot_of q)))
-      (λ n. any_there (same_region (slot slot_of q) (slot slot_of x)) (list_any (same_region (slot slot_of q)) (map (slot slot_of) rs))
+      (λ t. ap (λ b. b || list_any (same_region (slotted_region slot_of q)) (map (slotted_region slot_of) rs))
+      (ap (λ y. same_region (slotted_region slot_of q) (slotted_region slot_of y)) (sym (same_regions q x t)) ∙ same_reflexive (slotted_region slot_of q)))
+      (λ n. any_there (same_region (slotted_region slot_of q) (slotted_region slot_of x)) (list_any (same_region (slotted_region slot_of q)) (map (slotted_region slot_of) rs))
       (any_slotted rs q (ap (λ b. b || list_any (same_region q) rs) (sym n) ∙ e)))
 
   -- ---- names
 
   pub bound_unslotted : (names : Bindings) (k : ℕ) (r : Region) → bound (slot_names slot_of names) k ≡ Some r
-      → (q : Region) × (bound names k ≡ Some q) × (slot slot_of q ≡ r)
-  bound_unslotted names k r e = mapped (slot slot_of) (bound names k) r (sym (bound_slot slot_of names k) ∙ e)
+      → (q : Region) × (bound names k ≡ Some q) × (slotted_region slot_of q ≡ r)
+  bound_unslotted names k r e = mapped (slotted_region slot_of) (bound names k) r (sym (bound_slot slot_of names k) ∙ e)
 
   pub bound_slotted : (names : Bindings) (k : ℕ) (q : Region) → bound names k ≡ Some q
-      → bound (slot_names slot_of names) k ≡ Some (slot slot_of q)
-  bound_slotted names k q e = bound_slot slot_of names k ∙ ap (option_map (slot slot_of)) e
+      → bound (slot_names slot_of names) k ≡ Some (slotted_region slot_of q)
+  bound_slotted names k q e = bound_slot slot_of names k ∙ ap (option_map (slotted_region slot_of)) e
 
   pub unbound_slotted : (names : Bindings) (k : ℕ) → bound names k ≡ None → bound (slot_names slot_of names) k ≡ None
-  unbound_slotted names k e = bound_slot slot_of names k ∙ ap (option_map (slot slot_of)) e
+  unbound_slotted names k e = bound_slot slot_of names k ∙ ap (option_map (slotted_region slot_of)) e
 
   unique_slotted : (names : Bindings) → AreUnique names → AreUnique (slot_names slot_of names)
   unique_slotted [] u = tt

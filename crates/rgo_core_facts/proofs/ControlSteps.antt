@@ -2,17 +2,17 @@
 use Rattle.std.proofs.Common.{◌≡◌, ◌∙◌, ℕ, zero, suc, Bool, false, List, [], ◌∷◌, map, Option, Some, None, option_map, option_and_then, if◌then◌else◌, refl, sym, ap}
 use Rattle.std.specs.Option.{option_map_or}
 use Rattle.rgo_core.specs.Channels.Records.{at_rest}
-use Rattle.rgo_core.specs.Frames.Local.{local_by, local_duty, not_removed, not_shared}
-use Rattle.rgo_core.specs.Frames.Quiet.{is_exit, quiet, unless_exit}
-use Rattle.rgo_core.specs.Frames.Records.{Rec as FrameRec}
-use Rattle.rgo_core.specs.Frames.Stakes.{ended, shared_in}
-use Rattle.rgo_core.specs.Frames.WordFrames.{WordFrame}
+use Rattle.rgo_core.specs.Frames.steps.Local.{local_by, local_duty, not_removed, not_shared}
+use Rattle.rgo_core.specs.Frames.steps.Quiet.{is_exit, quiet, unless_exit}
+use Rattle.rgo_core.specs.Frames.Records.{FramesRec as FrameRec}
+use Rattle.rgo_core.specs.Frames.regions.Stakes.{ended, shared_in}
+use Rattle.rgo_core.specs.Frames.shown.WordFrames.{WordFrame}
 use Rattle.rgo_sound.specs.RegionMachine.Duties.{guards, unprotected, with_protection}
 use Rattle.rgo_sound.specs.RegionMachine.Regions.{Bindings, without}
 use Rattle.rgo_sound.specs.RegionMachine.States.{Create, Duty, EndBase, RegionEnvironment, Holder, Protect, Remove, Share, Unprotect, with_top}
 use Rattle.rgo_sound.specs.RegionMachine.declared.regions.Region.{Region}
 use Rattle.rgo_sound.specs.RegionMachine.declared.regions.Region.TheVariants.{Numbered}
-use Rattle.rgo_core.specs.Core.{Here, Setup}
+use Rattle.rgo_core.specs.Core.{Situation, Setup}
 use Rattle.rgo_core.specs.Laws.{clock_after}
 use Rattle.rgo_core.specs.Records.{Record}
 use Rattle.rgo_core.proofs.image.Parts.{shallow}
@@ -34,7 +34,7 @@ no_duty d ds e = cc
 no_slot : (f : _) (rs : List Region) → rs ≡ [] → map {B = Region} f rs ≡ []
 no_slot f rs e = ap (map f) e
 
-at_end : (T : Setup) (g : ℕ) (c : Record) (d : Duty) (ds : List Duty) → Here T g c → c.frame.holder.duties ≡ d ∷ ds → c.frame.frames ≡ []
+at_end : (T : Setup) (g : ℕ) (c : Record) (d : Duty) (ds : List Duty) → Situation T g c → c.frame.holder.duties ≡ d ∷ ds → c.frame.frames ≡ []
     → is_exit g c.frame.frames ≡ false
 at_end T (suc g) c d ds x owed gone = refl
 at_end T zero c d ds x owed gone =
@@ -56,7 +56,7 @@ none_after_exit T g c d ds x owed = by d (duties_known T g c x d ds owed)
 
 -- ---- a local duty
 
-module _ (T : Setup) (g : ℕ) (c : Record) (d : Duty) (ds : List Duty) (k : Holder) (x : Here T g c) (rests : c.side ≡ at_rest)
+module _ (T : Setup) (g : ℕ) (c : Record) (d : Duty) (ds : List Duty) (k : Holder) (x : Situation T g c) (rests : c.side ≡ at_rest)
     (owed : c.frame.holder.duties ≡ d ∷ ds) (does : local_duty (record c.frame.holder { duties = ds }) d ≡ Some k) where
   abbrev after : FrameRec
   after = record c.frame { holder = k }

@@ -4,7 +4,7 @@ use Rattle.std.proofs.lemmas.Option.{same_Some}
 use Rattle.rgo_sound.specs.Code.Checked.{IsChecked}
 use Rattle.rgo_sound.specs.Code.Code.{Branch, Call, Code, CodeInstr, CodeOp, Do, Go, Jump, Print, Return}
 use Rattle.rgo_sound.specs.Code.NameRules.{Ascends, protected_names}
-use Rattle.rgo_core.specs.Runs.{if_in_limits, limited_run, limited_step}
+use Rattle.rgo_core.specs.runs.Runs.{if_in_limits, limited_run, step_in_limits}
 use Rattle.rgo_core.proofs.Frames.Sound.{next_sound, sound_stays}
 use Rattle.rgo_core.specs.Frames.States.{IsSound}
 use Rattle.rgo_sound.specs.Machine.Limits.{is_within}
@@ -30,7 +30,7 @@ use Rattle.rgo_sound.proofs.steps.Acting.{after as acted_plain}
 use Rattle.rgo_sound.proofs.steps.OneStep.{MeetDone, OnFrom, OneDone, gone_on, meet_done, one_done, receive_goes, send_goes}
 use Rattle.rgo_sound.proofs.Places.{get_append_cases}
 use Rattle.rgo_sound.specs.Invariant.{FramesFit, GoodHolder, IsCall, Waits, bound_times, same_bound, times}
-use Rattle.rgo_sound.specs.Stakes.{one_if}
+use Rattle.rgo_sound.specs.Stakes.{one_when}
 use Rattle.rgo_sound.specs.Tac.Frames.{TacFrame}
 use Rattle.rgo_sound.specs.Tac.Tac.{TacState, tac_start}
 use Rattle.rgo_sound.specs.Code.Erasure.{erased}
@@ -121,12 +121,12 @@ unprotects_fit : (ks : List ℕ) (rest : List Duty) (names : Bindings) (protecti
     → UnprotectsFit (map Unprotect ks ++ rest) names protections
 unprotects_fit [] rest names protections enough none = none_fit rest none names protections
 unprotects_fit (k ∷ ks) rest names protections enough none = λ r e.
-    let self : one_if (same_bound r (bound names k)) ≡ 1 = ap (λ o. one_if (same_bound r o)) e ∙ ap one_if (same_reflexive r) in
+    let self : one_when (same_bound r (bound names k)) ≡ 1 = ap (λ o. one_when (same_bound r o)) e ∙ ap one_when (same_reflexive r) in
     let first : 1 ≤ times r protections = (let h = enough r in omega (arith, h, self)) in (
       first,
       unprotects_fit ks rest names (removed_once r protections)
           (λ q. let h = enough q in let t = times_removed q r protections first in
-          let o : one_if (same_bound q (bound names k)) ≡ one_if (same_region q r) = ap (λ y. one_if (same_bound q y)) e in
+          let o : one_when (same_bound q (bound names k)) ≡ one_when (same_region q r) = ap (λ y. one_when (same_bound q y)) e in
           omega (arith, h, t, o))
           none,
     )
@@ -395,14 +395,14 @@ one_more code page_words s t event st e = (
 )
 
 run_stays : (code : Code) (page_words : ℕ) (limits : Limits) (s t : RegionState) (events : List Event) → Stays code s
-    → run (limited_step code page_words limits) s events ≡ Some t → Stays code t
+    → run (step_in_limits code page_words limits) s events ≡ Some t → Stays code t
 run_stays code page_words limits s t [] st e = subst (Stays code) (same_Some s t e) st
 run_stays code page_words limits s t (event ∷ events) st e =
-    go (limited_step code page_words limits s event) refl e (λ u. run_stays code page_words limits u t events)
+    go (step_in_limits code page_words limits s event) refl e (λ u. run_stays code page_words limits u t events)
   where
-    go : (o : Option RegionState) → limited_step code page_words limits s event ≡ o
-        → option_and_then (λ u. run (limited_step code page_words limits) u events) o ≡ Some t
-        → ((u : RegionState) → Stays code u → run (limited_step code page_words limits) u events ≡ Some t → Stays code t) → Stays code t
+    go : (o : Option RegionState) → step_in_limits code page_words limits s event ≡ o
+        → option_and_then (λ u. run (step_in_limits code page_words limits) u events) o ≡ Some t
+        → ((u : RegionState) → Stays code u → run (step_in_limits code page_words limits) u events ≡ Some t → Stays code t) → Stays code t
     go None q e next = cc
     go (Some u) q e next =
         next u (one_more code page_words s u event st (within_is code page_words limits (region_step code page_words s event) u q)) e

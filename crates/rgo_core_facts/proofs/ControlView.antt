@@ -5,8 +5,8 @@ use Rattle.std.proofs.lemmas.List.{length-map}
 use Rattle.rgo_sound.specs.Code.Code.{Code, CodeFn, CodeInstr, CodeOp, Do, Slot}
 use Rattle.rgo_sound.specs.Code.Erasure.{erased_fn}
 use Rattle.rgo_core.specs.Frames.Fits.{RecordFits, IsPast, IsShown}
-use Rattle.rgo_core.specs.Frames.Shown.{FramesShow}
-use Rattle.rgo_core.specs.Frames.Slots.{slot, slot_environments}
+use Rattle.rgo_core.specs.Frames.shown.Variables.{FramesShow}
+use Rattle.rgo_core.specs.Frames.regions.Slots.{slotted_region, slot_environments}
 use Rattle.rgo_sound.specs.Memory.declared.values.Value.{Value}
 use Rattle.rgo_sound.specs.Memory.declared.values.Value.TheVariants as value
 use Rattle.rgo_sound.specs.RegionMachine.Instructions.{holder_after}
@@ -19,7 +19,7 @@ use Rattle.rgo_sound.specs.Types.{CalledFrom, FramesHaveKinds, HaveKinds}
 use Rattle.rgo_sound.specs.Tac.Frames.{TacFrame, assigned_variables, frame_after_instr}
 use Rattle.rgo_sound.specs.Typed.declared.actions.Action.TheVariants.{Send}
 use Rattle.rgo_sound.specs.Typed.declared.types.Type.{«Type»}
-use Rattle.rgo_core.specs.Core.{Here, Setup}
+use Rattle.rgo_core.specs.Core.{Situation, Setup}
 use Rattle.rgo_core.specs.Records.{Record}
 use Rattle.rgo_core.proofs.image.Parts.{I}
 use Rattle.rgo_core.proofs.image.Standing.{frame_at}
@@ -71,7 +71,7 @@ newest_instr code base (frame ∷ callers) (e ∷ es) duties h =
 
 -- ---- the goroutine
 
-pub record Seen {T : Setup} {g : ℕ} {c : Record} (x : Here T g c) : Type 0 where
+pub record Seen {T : Setup} {g : ℕ} {c : Record} (x : Situation T g c) : Type 0 where
   -- its frames and its holder in the state
   pub now : List TacFrame
   pub at : slice_get x.s.plain.goroutines g ≡ Some now
@@ -86,7 +86,7 @@ pub record Seen {T : Setup} {g : ℕ} {c : Record} (x : Here T g c) : Type 0 whe
   pub stakes : c.frame.holder.stakes ≡ map (I x).places.slot h.stakes
   pub pending : c.frame.holder.pending ≡ map (I x).places.slot h.pending
   pub environments : c.frame.holder.environments ≡ slot_environments (I x).places.slot h.environments
-  pub base : c.frame.holder.base ≡ map (slot (I x).places.slot) h.base
+  pub base : c.frame.holder.base ≡ map (slotted_region (I x).places.slot) h.base
 
 -- what an action leaves of the regions
 record Leaves (k h : Holder) : Type 0 where
@@ -103,7 +103,7 @@ action_leaves code h k frame callers op next o to from removes is e =
     (sym (e ∙ ap (λ (p : CodeOp). record (holder_after code h frame callers p next) { offer = o }) is))
     (record { stakes = refl; pending = refl; environments = refl; base = refl })
 
-module _ {T : Setup} {g : ℕ} {c : Record} (x : Here T g c) where
+module _ {T : Setup} {g : ℕ} {c : Record} (x : Situation T g c) where
   pub fitted : RecordFits T.code (I x).places.slot (I x).addresses x.s g c.frame
   fitted = (I x).frames.each g c.frame (frame_at x)
 
@@ -160,7 +160,7 @@ module _ {T : Setup} {g : ℕ} {c : Record} (x : Here T g c) where
         pending = ap (λ (k : Holder). k.pending) y.shown.holder ∙ ap (map (I x).places.slot) (sym l.pending);
         environments = ap (λ (k : Holder). k.environments) y.shown.holder
             ∙ ap (slot_environments (I x).places.slot) (sym l.environments);
-        base = ap (λ (k : Holder). k.base) y.shown.holder ∙ ap (map (slot (I x).places.slot)) (sym l.base);
+        base = ap (λ (k : Holder). k.base) y.shown.holder ∙ ap (map (slotted_region (I x).places.slot)) (sym l.base);
       }
 
   pub seen : Seen x

@@ -8,7 +8,7 @@ use Rattle.rgo_sound.specs.Memory.Memory.{Channel, Object, SliceObject, StructOb
 use Rattle.rgo_sound.specs.RegionMachine.Objects.{cells, data_pages, is_spread, object_words as words_of}
 use Rattle.rgo_core.specs.Memory.Spread.{words_before}
 use Rattle.rgo_core.proofs.Memory.objects.Spreads.{spread_data, whole_of}
-use Rattle.rgo_core.specs.Bounds.{row_words}
+use Rattle.rgo_core.specs.ties.Bounds.{row_words}
 use Rattle.rgo_core.proofs.image.Bounds.{spread_row, whole_row}
 use Rattle.rgo_core_facts.specs.MemoryObjects.{data_pages_of}
 

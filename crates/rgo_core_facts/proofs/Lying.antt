@@ -25,15 +25,15 @@ use Rattle.rgo_sound.specs.Typed.declared.programs.Variable.{Variable}
 use Rattle.rgo_sound.specs.Typed.declared.types.Base.TheVariants as base
 use Rattle.rgo_sound.specs.Typed.declared.types.Type.{«Type»}
 use Rattle.rgo_sound.specs.WellFormed.TypeRules.{HasField as FieldOf, chan_of, pointer_to, slice_of}
-use Rattle.rgo_core.specs.Frames.Before.{IsBefore}
-use Rattle.rgo_core.specs.Frames.WordFrames.{word_at}
+use Rattle.rgo_core.specs.Frames.steps.Before.{IsBefore}
+use Rattle.rgo_core.specs.Frames.shown.WordFrames.{frame_word}
 use Rattle.rgo_core.specs.Memory.Words.{base as cells_from}
-use Rattle.rgo_core.specs.AtChannels.{Operates}
-use Rattle.rgo_core.specs.Accesses.{IsInSlice, IsSpreadOut, LoadsElement, LoadsField as AtLoad, StoresElement, StoresField as AtStore}
-use Rattle.rgo_core.specs.Bounds.{LieInPages, Points, row_words, slice_words, struct_words}
-use Rattle.rgo_core.specs.Core.{Here, Setup, layout}
-use Rattle.rgo_core.specs.Links.{BeforeLoad, BeforeStore, IsAtElement}
-use Rattle.rgo_core.specs.Next.{IsAt}
+use Rattle.rgo_core.specs.ties.AtChannels.{Operates}
+use Rattle.rgo_core.specs.moves.Cells.{IsInSlice, IsSpreadOut, LoadsElement, LoadsField as AtLoad, StoresElement, StoresField as AtStore}
+use Rattle.rgo_core.specs.ties.Bounds.{LieInPages, Points, row_words, slice_words, struct_words}
+use Rattle.rgo_core.specs.Core.{Situation, Setup, layout}
+use Rattle.rgo_core.specs.ties.Links.{BeforeLoad, BeforeStore, IsAtElement}
+use Rattle.rgo_core.specs.Next.{IsAtOp}
 use Rattle.rgo_core.specs.Records.{Record, memory_of}
 use Rattle.rgo_core.proofs.channel_steps.AtChannels.{channel_type}
 use Rattle.rgo_core.proofs.image.Bounds.{LeadsToLive, leads_in, spread_row, whole_row}
@@ -47,7 +47,7 @@ use Rattle.rgo_core_facts.proofs.DataPages.{less, number_in_row, row_whole}
 
 -- ---- operands
 
-module _ {T : Setup} {g : ℕ} {c : Record} (x : Here T g c) {op : CodeOp} (a : IsAt T.code c op) (v : ℕ) (ty : «Type»)
+module _ {T : Setup} {g : ℕ} {c : Record} (x : Situation T g c) {op : CodeOp} (a : IsAtOp T.code c op) (v : ℕ) (ty : «Type»)
     (read : Contains (reads (erased_op op)) v) (typed : VariableHasType (erased_fn a.fn) v ty) where
   abbrev b : IsBefore T.code (I x).places.slot (I x).addresses x.s g c.frame a.w a.ws a.instr
   b = (at_instruction x a).before
@@ -64,9 +64,9 @@ module _ {T : Setup} {g : ℕ} {c : Record} (x : Here T g c) {op : CodeOp} (a : 
   live : LeadsToLive x.s (value_at b.frame v)
   live o e = let s = b.staked v o read_there e in (s.0, s.1, live_of x.s b.h s.0 s.2)
 
-  pub points : Points T ty (word_at a.w v)
+  pub points : Points T ty (frame_word a.w v)
   points = leads_in T x.words (map memory_of x.recs) x.s (I x).places (I x).memory (I x).addresses (I x).addressed b.kinds b.memory ty
-      (value_at b.frame v) (word_at a.w v) kind live (b.shown v read_there)
+      (value_at b.frame v) (frame_word a.w v) kind live (b.shown v read_there)
 
 pub operand_points : OperandPoints
 operand_points T g c x op a v ty read typed = points x a v ty read typed
@@ -83,7 +83,7 @@ field_there None fields k t e at = absurd (none-some fields e)
 field_there (Some s) fields k t e at =
     (s, refl, slice_get_within s.fields k t (ap (λ (l : List «Type»). slice_get l k) (same_Some s.fields fields e) ∙ at))
 
-field_of : (T : Setup) (c : Record) {op : CodeOp} (a : IsAt T.code c op) (p n k : ℕ) (t : «Type») → VariableHasType (erased_fn a.fn) p (pointer_to n)
+field_of : (T : Setup) (c : Record) {op : CodeOp} (a : IsAtOp T.code c op) (p n k : ℕ) (t : «Type») → VariableHasType (erased_fn a.fn) p (pointer_to n)
     → FieldOf (declared_in_code (erased T.code)) n k t → PointerHasField T c a p k
 field_of T c a p n k t typed f =
     let s = field_there (slice_get T.code.structs n) f.0 k t (sym (slice_get-map (λ (s : Struct). s.fields) T.code.structs n) ∙ f.1) f.2 in
@@ -105,7 +105,7 @@ pub same_number : (m n : ℕ) → pointer_to m ≡ pointer_to n → m ≡ n
 same_number m n e = let b : base.Pointer m ≡ base.Pointer n = ap (λ (t : «Type»). t.base) e in cc b
 
 -- the struct type of a variable is one
-same_fields : (T : Setup) (c : Record) {op : CodeOp} (a : IsAt T.code c op) (p k number : ℕ) (struct : Struct) (f : PointerHasField T c a p k)
+same_fields : (T : Setup) (c : Record) {op : CodeOp} (a : IsAtOp T.code c op) (p k number : ℕ) (struct : Struct) (f : PointerHasField T c a p k)
     → VariableHasType (erased_fn a.fn) p (pointer_to number) → slice_get T.code.structs number ≡ Some struct → k < length struct.fields
 same_fields T c a p k number struct f typed there =
     let n = same_number f.number number (same_Some (pointer_to f.number) (pointer_to number) (sym f.typed ∙ typed)) in
@@ -119,7 +119,7 @@ row_of : (T : Setup) (number : ℕ) (struct : Struct) → slice_get T.code.struc
     → struct_words T.sizes.page_words (slice_get T.code.structs number) ≡ row_words T.sizes.page_words (StructObject (map zero_of struct.fields))
 row_of T number struct there = ap (struct_words T.sizes.page_words) there
 
-module _ (T : Setup) (c : Record) {op : CodeOp} (a : IsAt T.code c op) (p k address word : ℕ) (f : PointerHasField T c a p k) (number : ℕ) (struct : Struct)
+module _ (T : Setup) (c : Record) {op : CodeOp} (a : IsAtOp T.code c op) (p k address word : ℕ) (f : PointerHasField T c a p k) (number : ℕ) (struct : Struct)
     (typed : VariableHasType (erased_fn a.fn) p (pointer_to number)) (there : slice_get T.code.structs number ≡ Some struct)
     (points : Points T (pointer_to number) word) (is : word ≡ suc address) where
   abbrev object : Object
@@ -157,12 +157,12 @@ module _ (T : Setup) (c : Record) {op : CodeOp} (a : IsAt T.code c op) (p k addr
 
 pub load_lies : LoadLies
 load_lies T g c x d k p address removes a is whole =
-    field_lies T c a p k address (word_at a.w p) (loads_field T g c x d k p removes a) whole.number whole.struct whole.typed whole.there
+    field_lies T c a p k address (frame_word a.w p) (loads_field T g c x d k p removes a) whole.number whole.struct whole.typed whole.there
     (points x a p (pointer_to whole.number) (contains_here p []) whole.typed) is whole.fits
 
 pub store_lies : StoreLies
 store_lies T g c x k p q address removes a is whole =
-    field_lies T c a p k address (word_at a.w p) (stores_field T g c x k p q removes a) whole.number whole.struct whole.typed whole.there
+    field_lies T c a p k address (frame_word a.w p) (stores_field T g c x k p q removes a) whole.number whole.struct whole.typed whole.there
     (points x a p (pointer_to whole.number) (contains_here p (q ∷ [])) whole.typed) is whole.fits
 
 -- ---- slices
@@ -199,7 +199,7 @@ pub slice_lies : SliceLies
 slice_lies T address n i lies fits low = let e = whole_slice T n fits in omega (arith, lies, e, low)
 
 -- the number of the data page that has an element
-element_number_lies : {T : Setup} {g : ℕ} {c : Record} (x : Here T g c) (address i : ℕ) → IsAtElement T.code c address
+element_number_lies : {T : Setup} {g : ℕ} {c : Record} (x : Situation T g c) (address i : ℕ) → IsAtElement T.code c address
     → (inside : IsInSlice c address i) → IsSpreadOut T inside → LieInPages T address (suc (1 + i / T.sizes.page_words))
 element_number_lies {T} {g} {c} x address i here inside spread =
     let k = (x.core.links g c x.is_c).knows inside.measured inside.read in
@@ -224,18 +224,18 @@ lies_at T address before cell b i eb ei l =
 pub index_lies : IndexLies
 index_lies T g c x address before cell (AtLoad d k p removes a is spread eb ei) =
     lies_at T address before cell 0 k eb ei
-    (number_lies T c a p k address (word_at a.w p) (loads_field T g c x d k p removes a) spread.number spread.struct spread.typed spread.there
+    (number_lies T c a p k address (frame_word a.w p) (loads_field T g c x d k p removes a) spread.number spread.struct spread.typed spread.there
     (points x a p (pointer_to spread.number) (contains_here p []) spread.typed) is spread.spread)
 index_lies T g c x address before cell (AtStore k p q removes a is spread eb ei) =
     lies_at T address before cell 0 k eb ei
-    (number_lies T c a p k address (word_at a.w p) (stores_field T g c x k p q removes a) spread.number spread.struct spread.typed spread.there
+    (number_lies T c a p k address (frame_word a.w p) (stores_field T g c x k p q removes a) spread.number spread.struct spread.typed spread.there
     (points x a p (pointer_to spread.number) (contains_here p (q ∷ [])) spread.typed) is spread.spread)
 index_lies T g c x address before cell (LoadsElement d p q removes a is inside spread eb ei) =
-    lies_at T address before cell 1 (word_at a.w q) eb ei
-    (element_number_lies x address (word_at a.w q) (BeforeLoad d p q removes a is) inside spread)
+    lies_at T address before cell 1 (frame_word a.w q) eb ei
+    (element_number_lies x address (frame_word a.w q) (BeforeLoad d p q removes a is) inside spread)
 index_lies T g c x address before cell (StoresElement p q r removes a is inside spread eb ei) =
-    lies_at T address before cell 1 (word_at a.w q) eb ei
-    (element_number_lies x address (word_at a.w q) (BeforeStore p q r removes a is) inside spread)
+    lies_at T address before cell 1 (frame_word a.w q) eb ei
+    (element_number_lies x address (frame_word a.w q) (BeforeStore p q r removes a is) inside spread)
 
 -- ---- package variables
 

@@ -3,11 +3,11 @@ use Rattle.std.proofs.Common.{◌≡◌, ℕ, ◌<◌, true, false, true≢false
 use Rattle.std.proofs.lemmas.Bool.Decides.{nat_tests}
 use Rattle.std.proofs.lemmas.Option.{none-some, same_Some}
 use Rattle.rgo_sound.specs.Code.Code.{Code, Do}
-use Rattle.rgo_core.specs.Frames.WordFrames.{WordFrame, word_at}
+use Rattle.rgo_core.specs.Frames.shown.WordFrames.{WordFrame, frame_word}
 use Rattle.rgo_core.specs.Memory.Records.{Across, Amid, Fill, Rest}
 use Rattle.rgo_sound.specs.Machine.declared.limits.Limits.{Limits}
 use Rattle.rgo_sound.specs.Memory.Memory.{Channel, Object, SliceObject, StructObject}
-use Rattle.rgo_sound.specs.RegionMachine.Examples.{node, plain}
+use Rattle.rgo_sound.specs.RegionMachine.Examples.{node_struct, plain_instr}
 use Rattle.rgo_sound.specs.RegionMachine.Objects.{cells, data_pages, is_spread, is_too_large, most_data_pages, object_words as words_of}
 use Rattle.rgo_sound.specs.RegionMachine.declared.regions.Region.TheVariants.{Global as GlobalRegion, Numbered}
 use Rattle.rgo_sound.proofs.Places.{head_is}
@@ -16,10 +16,10 @@ use Rattle.rgo_sound.specs.Typed.declared.programs.Struct.{Struct}
 use Rattle.rgo_sound.specs.WellFormed.TypeRules.{pointer_to}
 use Rattle.rgo_core.specs.Memory.Encoding.{Spot}
 use Rattle.rgo_core.proofs.Memory.objects.Spreads.{spread_data}
-use Rattle.rgo_core.specs.ChannelExamples.{with_words}
+use Rattle.rgo_core.specs.examples.Channels.{with_words}
 use Rattle.rgo_core.specs.Core.{Setup}
 use Rattle.rgo_core.specs.Records.{Record}
-use Rattle.rgo_core_facts.specs.MemoryExamples.{ObjectExamples, PlaceExamples, at_load, at_three, loading_fields, making_slices, newest, three}
+use Rattle.rgo_core_facts.specs.MemoryExamples.{ObjectExamples, PlaceExamples, at_load, at_three, loading_fields, making_slices, frame_of_three, before_three}
 use Rattle.rgo_core_facts.specs.MemoryObjects.{HasWords, NewObject, OfChannel, OfSlice, OfStruct, StoresNext, StoresNextApart}
 use Rattle.rgo_core_facts.specs.MemoryWords.{PointerHasField}
 use Rattle.rgo_core_facts.proofs.DataPages.{less}
@@ -34,15 +34,15 @@ some_words (Channel capacity queue closed) e = omega (arith, e)
 global_numbered : (slot : ℕ) → ◌≡◌ {A = _} (Some GlobalRegion) (Some (Numbered slot)) → ⊥
 global_numbered slot e = let w : GlobalRegion ≡ Numbered slot = same_Some GlobalRegion (Numbered slot) e in cc w
 
-other_words : (limits : Limits) → HasWords (making_slices limits).code newest action.Slice (0 ∷ []) 3 1 → ⊥
+other_words : (limits : Limits) → HasWords (making_slices limits).code frame_of_three action.Slice (0 ∷ []) 3 1 → ⊥
 other_words limits (OfStruct n ea en eb) = cc ea
 other_words limits (OfSlice p ea ef small en eb) =
     let first : 0 ≡ p = head_is 0 p [] [] ef in
-    let length : 3 ≡ word_at newest p = ap (word_at newest) first in
+    let length : 3 ≡ frame_word frame_of_three p = ap (frame_word frame_of_three) first in
     omega (arith, en, length)
 other_words limits (OfChannel p ea ef small en eb) = cc ea
 
-other_split : (limits : Limits) → HasWords (making_slices limits).code newest action.Slice (0 ∷ []) 4 0 → ⊥
+other_split : (limits : Limits) → HasWords (making_slices limits).code frame_of_three action.Slice (0 ∷ []) 4 0 → ⊥
 other_split limits (OfStruct n ea en eb) = cc ea
 other_split limits (OfSlice p ea ef small en eb) = omega (arith, eb)
 other_split limits (OfChannel p ea ef small en eb) = cc ea
@@ -110,7 +110,7 @@ one_cell T c word value s = ⊎_elim
 no_third : (limits : Limits) → PointerHasField (loading_fields limits) (with_words (6 ∷ 0 ∷ [])) (at_load limits) 0 2 → ⊥
 no_third limits f =
     let n = same_number 0 f.number (same_Some (pointer_to 0) (pointer_to f.number) f.typed) in
-    let s = same_Some node f.struct (ap (slice_get (node ∷ [])) n ∙ f.there) in
+    let s = same_Some node_struct f.struct (ap (slice_get (node_struct ∷ [])) n ∙ f.there) in
     let l = f.low in
     let e : 2 ≡ length f.struct.fields = ap (λ (s : Struct). length s.fields) s in
     omega (arith, l, e)
@@ -121,7 +121,7 @@ object_examples = record {
   in_no_other = λ limits slot e. global_numbered slot e;
   has_class = λ limits. record { region = GlobalRegion; in_class = refl; makes = refl; low = omega arith };
   no_class = λ limits m. none-some m.region m.in_class;
-  slice = λ limits. makes_slice (making_slices limits) three (Some 1) 0 [] (at_three limits) GlobalRegion refl (omega arith);
+  slice = λ limits. makes_slice (making_slices limits) before_three (Some 1) 0 [] (at_three limits) GlobalRegion refl (omega arith);
   no_words = λ T c slot before first new. some_words new.object new.many;
   no_cell = no_cell;
   length_first = refl;
@@ -168,14 +168,14 @@ place_examples = record {
   of_other_slot = λ limits p. let e = p.its in omega (arith, e);
   no_such_page = λ limits p. let l = p.page in omega (arith, l);
   overfull = λ limits p. let l = p.fill in omega (arith, l);
-  has_field = λ limits. record { number = 0; typed = refl; struct = node; there = refl; low = omega arith };
+  has_field = λ limits. record { number = 0; typed = refl; struct = node_struct; there = refl; low = omega arith };
   no_third = no_third;
   offers = λ limits. record {
     send = record {
       w = record { function = 0; next = 0; variables = 6 ∷ 3 ∷ [] };
       ws = [];
       frames = refl;
-      instr = plain (Do None action.Send (0 ∷ 1 ∷ []) []);
+      instr = plain_instr (Do None action.Send (0 ∷ 1 ∷ []) []);
       cur = refl;
       to = None;
       from = 0 ∷ 1 ∷ [];

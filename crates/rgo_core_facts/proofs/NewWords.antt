@@ -30,16 +30,16 @@ use Rattle.rgo_sound.specs.Typed.declared.types.Base.TheVariants as base
 use Rattle.rgo_sound.specs.Typed.declared.types.Layer.{Layer}
 use Rattle.rgo_sound.specs.Typed.declared.types.Type.{«Type»}
 use Rattle.rgo_core.proofs.Channels.Lists.{get_replicated}
-use Rattle.rgo_core.specs.Frames.Before.{IsBefore}
-use Rattle.rgo_core.specs.Frames.Makes.{MakesAt}
-use Rattle.rgo_core.specs.Frames.Slots.{slot, slot_names}
-use Rattle.rgo_core.specs.Frames.WordFrames.{bare, word_at}
+use Rattle.rgo_core.specs.Frames.steps.Before.{IsBefore}
+use Rattle.rgo_core.specs.Frames.steps.Makes.{MakesAt}
+use Rattle.rgo_core.specs.Frames.regions.Slots.{slotted_region, slot_names}
+use Rattle.rgo_core.specs.Frames.shown.WordFrames.{bare, frame_word}
 use Rattle.rgo_core.proofs.Frames.regions.Making.{region_law}
 use Rattle.rgo_core.proofs.Frames.regions.SlotLemmas.{class_slot, top_slot}
-use Rattle.rgo_core.specs.Memory.Encoding.{content, opening}
-use Rattle.rgo_core.specs.Core.{Here, Setup, layout}
-use Rattle.rgo_core.specs.NewObjects.{AChannel, ASlice, AStruct, slot_number}
-use Rattle.rgo_core.specs.Next.{IsAt}
+use Rattle.rgo_core.specs.Memory.Encoding.{content, opening_word}
+use Rattle.rgo_core.specs.Core.{Situation, Setup, layout}
+use Rattle.rgo_core.specs.moves.NewObjects.{AChannel, ASlice, AStruct, slot_number}
+use Rattle.rgo_core.specs.Next.{IsAtOp}
 use Rattle.rgo_core.specs.Records.{Record}
 use Rattle.rgo_core.proofs.image.Encodings.{small_word}
 use Rattle.rgo_core.proofs.new_objects.NewObjects.{slot_is}
@@ -47,8 +47,8 @@ use Rattle.rgo_core.proofs.steps.Operands as operands
 use Rattle.rgo_core.proofs.image.Parts.{I}
 use Rattle.rgo_core.proofs.image.Standing.{at_instruction}
 use Rattle.rgo_core.specs.Memory.Records.{page_of}
-use Rattle.rgo_core_facts.specs.MemoryObjects.{PageHasNoRoom, HasRegion, MakesChannel, MakesIn, MakesSlice, MakesStruct, NextIsSpread, PagesAre, WantsPage, WantsReserved, all_struct_words, channel_opens, slice_opens}
-use Rattle.rgo_core_steps.proofs.Making.{next_object_is}
+use Rattle.rgo_core_facts.specs.MemoryObjects.{PageHasNoRoom, HasRegion, MakesChannel, MakesIn, MakesSlice, MakesStruct, SpreadIsNext, PagesAre, WantsPage, WantsReserved, all_struct_words, channel_opens, slice_opens}
+use Rattle.rgo_core_steps.proofs.making.Objects.{next_object_is}
 use Rattle.rgo_core_facts.proofs.DataPages.{less, not_less, pages_so}
 use Rattle.rgo_core_facts.proofs.OwnPages.{one_page, slot_low}
 
@@ -61,8 +61,8 @@ making_class : (f : Option CodeFn) (fn : CodeFn) (names : Bindings) (op : CodeOp
 making_class f fn names op to act from removes d ef eo et makes =
     ap (making_region f names) eo ∙ (λ i. if makes i then class_region names (target_class (ef i) (et i)) else None)
 
-module _ {T : Setup} {g : ℕ} {c : Record} (x : Here T g c) (to : Option ℕ) (act : Action) (from removes : List ℕ)
-    (a : IsAt T.code c (Do to act from removes)) where
+module _ {T : Setup} {g : ℕ} {c : Record} (x : Situation T g c) (to : Option ℕ) (act : Action) (from removes : List ℕ)
+    (a : IsAtOp T.code c (Do to act from removes)) where
   -- the slot of its region is small
   region_low : (r : Region) → MakesIn T c a r → slot_number (layout T) r ≤ T.sizes.regions
   region_low r makes =
@@ -91,7 +91,7 @@ module _ {T : Setup} {g : ℕ} {c : Record} (x : Here T g c) (to : Option ℕ) (
     fn_is = ap (code_function T.code) (sym b.newest.alike.function) ∙ a.in_fn
 
     abbrev by_slot : Region
-    by_slot = slot (I x).places.slot in_state.0
+    by_slot = slotted_region (I x).places.slot in_state.0
 
     names_are : top_names c.frame.holder.environments ≡ slot_names (I x).places.slot (top_names b.h.environments)
     names_are = ap (λ (h : Holder). top_names h.environments) b.holder ∙ top_slot (I x).places.slot b.h.environments
@@ -100,7 +100,7 @@ module _ {T : Setup} {g : ℕ} {c : Record} (x : Here T g c) (to : Option ℕ) (
     in_class =
         ap (λ (names : Bindings). class_region names (class_of a.fn d)) names_are
         ∙ (class_slot (I x).places.slot (top_names b.h.environments) (class_of a.fn d)
-        ∙ ap (option_map (slot (I x).places.slot))
+        ∙ ap (option_map (slotted_region (I x).places.slot))
         (sym (making_class (function_at T.code b.frame) a.fn (top_names b.h.environments) a.instr.op to act from removes d fn_is a.is
         its_target.is makes) ∙ in_state.1))
 
@@ -122,36 +122,36 @@ has_region T g c x to act from removes a makes = (
 
 -- ---- first values
 
-base_opens : (b : Base) → opening (Some (base_zero b)) ≡ 0
+base_opens : (b : Base) → opening_word (Some (base_zero b)) ≡ 0
 base_opens base.Int = small_word 0 (omega arith)
 base_opens base.Bool = refl
 base_opens (base.Pointer struct) = refl
 
-inside_opens : (layers : List Layer) (b : Base) → opening (Some (zero_in layers b)) ≡ 0
+inside_opens : (layers : List Layer) (b : Base) → opening_word (Some (zero_in layers b)) ≡ 0
 inside_opens [] b = base_opens b
 inside_opens (layer ∷ layers) b = refl
 
-element_opens : (layers : List Layer) (b : Base) → opening (Some (element_zero_in layers b)) ≡ 0
+element_opens : (layers : List Layer) (b : Base) → opening_word (Some (element_zero_in layers b)) ≡ 0
 element_opens [] b = refl
 element_opens (layer ∷ layers) b = inside_opens layers b
 
-field_opens : (o : Option «Type») → opening (option_map zero_of o) ≡ 0
+field_opens : (o : Option «Type») → opening_word (option_map zero_of o) ≡ 0
 field_opens None = refl
 field_opens (Some ty) = inside_opens ty.layers ty.base
 
-cell_opens : (n : ℕ) (ty : «Type») (i : ℕ) → opening (slice_get (replicate n (element_zero ty)) i) ≡ 0
+cell_opens : (n : ℕ) (ty : «Type») (i : ℕ) → opening_word (slice_get (replicate n (element_zero ty)) i) ≡ 0
 cell_opens n ty i = by (slice_get (replicate n (element_zero ty)) i) refl
   where
-    by : (o : Option Value) → slice_get (replicate n (element_zero ty)) i ≡ o → opening o ≡ 0
+    by : (o : Option Value) → slice_get (replicate n (element_zero ty)) i ≡ o → opening_word o ≡ 0
     by None e = refl
-    by (Some v) e = ap (λ (y : Value). opening (Some y)) (sym (get_replicated n (element_zero ty) i v e)) ∙ element_opens ty.layers ty.base
+    by (Some v) e = ap (λ (y : Value). opening_word (Some y)) (sym (get_replicated n (element_zero ty) i v e)) ∙ element_opens ty.layers ty.base
 
-slice_so : (n : ℕ) (ty : «Type») (i : ℕ) → n < 2 ^ 63 → opening (content (SliceObject (replicate n (element_zero ty))) i) ≡ slice_opens n i
+slice_so : (n : ℕ) (ty : «Type») (i : ℕ) → n < 2 ^ 63 → opening_word (content (SliceObject (replicate n (element_zero ty))) i) ≡ slice_opens n i
 slice_so n ty zero small = ap (λ (k : ℕ). cast_unsigned w64 (pos k)) (length-replicate n (element_zero ty)) ∙ small_word n small
 slice_so n ty (suc i) small =
     let none : slice_opens n (suc i) ≡ 0 = grind (arith, nat_tests) in cell_opens n ty i ∙ sym none
 
-channel_so : (n i : ℕ) → n < 2 ^ 63 → opening (content (Channel n [] false) i) ≡ channel_opens n i
+channel_so : (n i : ℕ) → n < 2 ^ 63 → opening_word (content (Channel n [] false) i) ≡ channel_opens n i
 channel_so n zero small = refl
 channel_so n (suc zero) small = small_word n small
 channel_so n (suc (suc i)) small = let none : channel_opens n (suc (suc i)) ≡ 0 = grind (arith, nat_tests) in sym none
@@ -172,8 +172,8 @@ none_taken f [] tys e h = refl
 none_taken f (v ∷ vs) tys e h =
     let w : slice_get f.variables v ∷ map (slice_get f.variables) vs ≡ [] = h ∙ ap (map Some) e in cc w
 
-pub struct_there : {T : Setup} {g : ℕ} {c : Record} (x : Here T g c) (to : Option ℕ) (n : ℕ) (from removes : List ℕ)
-    → IsAt T.code c (Do to (action.New n) from removes) → (from ≡ []) × (s : Struct) × (slice_get T.code.structs n ≡ Some s)
+pub struct_there : {T : Setup} {g : ℕ} {c : Record} (x : Situation T g c) (to : Option ℕ) (n : ℕ) (from removes : List ℕ)
+    → IsAtOp T.code c (Do to (action.New n) from removes) → (from ≡ []) × (s : Struct) × (slice_get T.code.structs n ≡ Some s)
 struct_there {T} x to n from removes a =
     let r = operands.rule x to (action.New n) from removes a in
     let t = new_takes (erased T.code) (erased_fn a.fn) to n r.0 r.2 in
@@ -210,14 +210,14 @@ makes_struct T g c x to n from removes a r makes =
       };
       many = struct_many T.code.structs n s.1 s.2;
       split = struct_split T.code.structs n s.1 s.2;
-      opens = λ i low. ap opening (slice_get-map zero_of s.1.fields i) ∙ field_opens (slice_get s.1.fields i);
+      opens = λ i low. ap opening_word (slice_get-map zero_of s.1.fields i) ∙ field_opens (slice_get s.1.fields i);
     }
 
 -- ---- slices and channels
 
 pub makes_slice : MakesSlice
 makes_slice T c to p removes a r makes small = record {
-  object = SliceObject (replicate (word_at a.w p) (element_zero (destination_type (erased T.code) (bare a.w) to)));
+  object = SliceObject (replicate (frame_word a.w p) (element_zero (destination_type (erased T.code) (bare a.w) to)));
   next = record {
     to = to;
     act = action.Slice;
@@ -229,16 +229,16 @@ makes_slice T c to p removes a r makes small = record {
     in_region = makes;
     in_slot = refl;
   };
-  many = ap (λ (n : ℕ). 1 + n) (length-replicate (word_at a.w p) (element_zero (destination_type (erased T.code) (bare a.w) to)))
-      ∙ (let e : 1 + word_at a.w p ≡ suc (word_at a.w p) = omega arith in e);
+  many = ap (λ (n : ℕ). 1 + n) (length-replicate (frame_word a.w p) (element_zero (destination_type (erased T.code) (bare a.w) to)))
+      ∙ (let e : 1 + frame_word a.w p ≡ suc (frame_word a.w p) = omega arith in e);
   split = λ more.
-      let l = length-replicate (word_at a.w p) (element_zero (destination_type (erased T.code) (bare a.w) to)) in omega (arith, l);
-  opens = λ i low. slice_so (word_at a.w p) (destination_type (erased T.code) (bare a.w) to) i small;
+      let l = length-replicate (frame_word a.w p) (element_zero (destination_type (erased T.code) (bare a.w) to)) in omega (arith, l);
+  opens = λ i low. slice_so (frame_word a.w p) (destination_type (erased T.code) (bare a.w) to) i small;
 }
 
 pub makes_channel : MakesChannel
 makes_channel T c to p removes a r makes small = record {
-  object = Channel (word_at a.w p) [] false;
+  object = Channel (frame_word a.w p) [] false;
   next = record {
     to = to;
     act = action.Chan;
@@ -252,7 +252,7 @@ makes_channel T c to p removes a r makes small = record {
   };
   many = refl;
   split = λ more. omega arith;
-  opens = λ i low. channel_so (word_at a.w p) i (omega (arith, small));
+  opens = λ i low. channel_so (frame_word a.w p) i (omega (arith, small));
 }
 
 -- ---- a page
@@ -273,7 +273,7 @@ wants_page T g c x slot words before first new fits lacks = record {
 pub pages_are : PagesAre
 pages_are T c slot words before first new = pages_so T.sizes.page_words new.object words before new.many new.split
 
-pub next_is_spread : NextIsSpread
+pub next_is_spread : SpreadIsNext
 next_is_spread T c slot words before first new =
     ap (λ (o : Option Object). option_map_or (is_spread T.sizes.page_words) o false) (next_object_is new.next)
     ∙ ap (nat_lt T.sizes.page_words) new.many

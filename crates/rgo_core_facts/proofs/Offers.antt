@@ -11,12 +11,12 @@ use Rattle.rgo_core.specs.Channels.Channels.{Accepted, Calm, Chan, Offered, Offe
 use Rattle.rgo_core.specs.Channels.Positions.{place_at}
 use Rattle.rgo_core.specs.Channels.Records.{Offering}
 use Rattle.rgo_core.specs.Frames.Fits.{RecordFits, IsPast, IsShown}
-use Rattle.rgo_core.specs.Frames.Shown.{FramesShow}
-use Rattle.rgo_core.specs.Frames.WordFrames.{WordFrame}
+use Rattle.rgo_core.specs.Frames.shown.Variables.{FramesShow}
+use Rattle.rgo_core.specs.Frames.shown.WordFrames.{WordFrame}
 use Rattle.rgo_core.proofs.Frames.regions.Bookkeeping.{current_alike}
 use Rattle.rgo_core.specs.Memory.Encoding.{address}
-use Rattle.rgo_core.specs.CommitMoves.{IsAtSend}
-use Rattle.rgo_core.specs.Core.{Here, Setup, layout}
+use Rattle.rgo_core.specs.moves.Commits.{IsAtSend}
+use Rattle.rgo_core.specs.Core.{Situation, Setup, layout}
 use Rattle.rgo_core.specs.Records.{Record, memory_of}
 use Rattle.rgo_core.proofs.channel_steps.AtChannels.{standing_or_taken}
 use Rattle.rgo_core.proofs.image.Bounds.{lies_in}
@@ -26,7 +26,7 @@ use Rattle.rgo_core.proofs.image.Standing.{frame_at, side_at}
 use Rattle.rgo_core_facts.specs.MemoryWords.{OfferLies}
 use Rattle.rgo_core_facts.proofs.DataPages.{row_least}
 
-module _ {T : Setup} {g : ℕ} {c : Record} (x : Here T g c) where
+module _ {T : Setup} {g : ℕ} {c : Record} (x : Situation T g c) where
   abbrev F : RecordFits T.code (I x).places.slot (I x).addresses x.s g c.frame
   F = (I x).frames.each g c.frame (frame_at x)
 

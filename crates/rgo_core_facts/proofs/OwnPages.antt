@@ -10,7 +10,7 @@ use Rattle.rgo_sound.specs.RegionMachine.declared.regions.Region.{Region}
 use Rattle.rgo_sound.specs.RegionMachine.declared.regions.Region.TheVariants.{Numbered}
 use Rattle.rgo_sound.specs.Memory.Memory.{Object}
 use Rattle.rgo_core.proofs.Frames.regions.Reserving.{reserved_law}
-use Rattle.rgo_core.specs.Frames.Before.{IsBefore}
+use Rattle.rgo_core.specs.Frames.steps.Before.{IsBefore}
 use Rattle.rgo_core.specs.Memory.Ground.{Held, ground_of, held_of}
 use Rattle.rgo_core.specs.Memory.Parts.{Living, slot_of}
 use Rattle.rgo_core.specs.Memory.Records.{Amid, PageClaim, Claims, Fill, Idle, Make, Owns, Rest, Within, dropped, page_of}
@@ -18,14 +18,14 @@ use Rattle.rgo_core.proofs.Memory.regions.Slots.{region_living, uses_live}
 use Rattle.rgo_core.proofs.Memory.image.Steadies.{steady_of}
 use Rattle.rgo_core.proofs.Memory.image.Stepped.{map_get}
 use Rattle.rgo_core.proofs.Memory.Writes.{pages_apart}
-use Rattle.rgo_core.specs.Core.{Here, Setup, layout}
+use Rattle.rgo_core.specs.Core.{Situation, Setup, layout}
 use Rattle.rgo_core.specs.Records.{Record, memory_of}
 use Rattle.rgo_core.proofs.new_objects.MakesObject.{at, b}
 use Rattle.rgo_core.proofs.new_objects.NextObject.{next_is}
 use Rattle.rgo_core.proofs.image.Parts.{I}
 use Rattle.rgo_core.proofs.image.Standing.{memory_at}
 use Rattle.rgo_core_steps.specs.Making.{RecordMakesNext}
-use Rattle.rgo_core_steps.proofs.Making.{page_in}
+use Rattle.rgo_core_steps.proofs.making.Objects.{page_in}
 use Rattle.rgo_core_facts.specs.MemoryPages.{ClaimedPage, FreeOfSlots, IsOwnPage, OneOwnPage, OwnPages, ReservedFew, ReservedPages, RoomLies}
 use Rattle.rgo_core_facts.proofs.DataPages.{pages_so}
 
@@ -49,7 +49,7 @@ first_page s (x ∷ xs) f within its one =
 
 -- ---- of a record
 
-module _ {T : Setup} {g : ℕ} {c : Record} (x : Here T g c) where
+module _ {T : Setup} {g : ℕ} {c : Record} (x : Situation T g c) where
   -- the slot of a live region, or of Global
   pub slot_low : (r : Region) → is_live x.s.regions r ≡ true → slot_of (layout T) (I x).places.slot r ≤ T.sizes.regions
   slot_low r live = ⊎_elim
@@ -104,7 +104,7 @@ reserved_pages T g c x i low =
     (I x).memory.own.ranged p (omega (arith, claimed))
 
 -- the region machine has as many reserved as the record, for the object that the next instruction makes
-module _ {T : Setup} {g : ℕ} {c : Record} (x : Here T g c) (object : Object) (slot : ℕ) (next : RecordMakesNext T c object slot) where
+module _ {T : Setup} {g : ℕ} {c : Record} (x : Situation T g c) (object : Object) (slot : ℕ) (next : RecordMakesNext T c object slot) where
   abbrev before : IsBefore T.code (I x).places.slot (I x).addresses x.s g c.frame next.here.w next.here.ws next.here.instr
   before = b x next.to next.act next.from next.removes next.here object
 

@@ -6,35 +6,35 @@ use Rattle.rgo_sound.specs.Memory.Memory.{Object}
 use Rattle.rgo_sound.specs.RegionMachine.Objects.{making_region, object_words as words_of}
 use Rattle.rgo_sound.specs.RegionMachine.Owed.{code_function}
 use Rattle.rgo_sound.specs.RegionMachine.States.{top_names}
-use Rattle.rgo_core.specs.Frames.Records.{Rec as FrameRec}
-use Rattle.rgo_core.specs.Memory.Pages.{times}
+use Rattle.rgo_core.specs.Frames.Records.{FramesRec as FrameRec}
+use Rattle.rgo_core.specs.Memory.Pages.{occurrences}
 use Rattle.rgo_core.specs.Memory.Records.{Amid, Fill, page_of, with_word}
 use Rattle.rgo_core.specs.Memory.Words.{cell_at}
 use Rattle.rgo_core.proofs.Memory.pages.Chains.{times_else, times_first}
 use Rattle.rgo_core.specs.Core.{Setup, layout}
-use Rattle.rgo_core.specs.NewObjects.{made_object}
-use Rattle.rgo_core.specs.Next.{IsAt}
+use Rattle.rgo_core.specs.moves.NewObjects.{made_object}
+use Rattle.rgo_core.specs.Next.{IsAtOp}
 use Rattle.rgo_core.specs.Records.{Record, accessed}
 use Rattle.rgo_core_steps.specs.After.{making}
 use Rattle.rgo_core_steps.specs.Making.{IsMaking, IsNewWord, RecordMakesNext, covers, filling, stored_in}
-use Rattle.rgo_core_steps.proofs.After.{making_is}
-use Rattle.rgo_core_steps.proofs.Making.{filling_is}
+use Rattle.rgo_core_steps.proofs.record_steps.After.{making_is}
+use Rattle.rgo_core_steps.proofs.making.Objects.{filling_is}
 use Rattle.rgo_core_facts.specs.MemoryObjects.{AtStays, NewObject, NewStays, StoresNext, StoresNone, StoresWords, making_after, numbers_below, storing, with_new_object}
 
 -- ---- which words are stored
 
-none_above : (i n : ℕ) → n ≤ i → times i (numbers_below n) ≡ 0
+none_above : (i n : ℕ) → n ≤ i → occurrences i (numbers_below n) ≡ 0
 none_above i zero low = refl
 none_above i (suc n) low =
     let more = none_above i n (omega (arith, low)) in
     let other = times_else i n (numbers_below n) (λ e. omega (arith, e, low)) in
     omega (arith, more, other)
 
-some_below : (i n : ℕ) → i < n → 0 < times i (numbers_below n)
+some_below : (i n : ℕ) → i < n → 0 < occurrences i (numbers_below n)
 some_below i zero low = absurd (omega (arith, low))
 some_below i (suc n) low = by (n == i) refl (some_below i n)
   where
-    by : (b : Bool) → (n == i) ≡ b → (i < n → 0 < times i (numbers_below n)) → 0 < times i (numbers_below (suc n))
+    by : (b : Bool) → (n == i) ≡ b → (i < n → 0 < occurrences i (numbers_below n)) → 0 < occurrences i (numbers_below (suc n))
     by true is rest = let e : n ≡ i = grind (arith, nat_tests, is) in let w = times_first i n (numbers_below n) e in omega (arith, w)
     by false is rest =
         let ne : n ≡ i → ⊥ = λ e. grind (arith, nat_tests, is, e) in
@@ -45,9 +45,9 @@ some_below i (suc n) low = by (n == i) refl (some_below i n)
 
 pub covered : (m n : ℕ) → m ≤ n → covers m (numbers_below n) ≡ true
 covered zero n low = refl
-covered (suc m) n low = by (times m (numbers_below n) == 0) refl (covered m n (omega (arith, low)))
+covered (suc m) n low = by (occurrences m (numbers_below n) == 0) refl (covered m n (omega (arith, low)))
   where
-    by : (b : Bool) → (times m (numbers_below n) == 0) ≡ b → covers m (numbers_below n) ≡ true
+    by : (b : Bool) → (occurrences m (numbers_below n) == 0) ≡ b → covers m (numbers_below n) ≡ true
         → (if b then false else covers m (numbers_below n)) ≡ true
     by true is rest = let some = some_below m n (omega (arith, low)) in absurd (grind (arith, nat_tests, is, some))
     by false is rest = rest
@@ -56,7 +56,7 @@ pub uncovered : (m n : ℕ) → n < m → covers m (numbers_below n) ≡ false
 uncovered zero n low = absurd (omega (arith, low))
 uncovered (suc m) n low =
     let none = none_above m n (omega (arith, low)) in
-    let is : (times m (numbers_below n) == 0) ≡ true = grind (arith, nat_tests, none) in
+    let is : (occurrences m (numbers_below n) == 0) ≡ true = grind (arith, nat_tests, none) in
     ap (λ (b : Bool). if b then false else covers m (numbers_below n)) is
 
 stored_so : (f : Fill) (object : Object) (n : ℕ) → stored_in (making_after f object n) ≡ numbers_below n
@@ -65,7 +65,7 @@ stored_so f object (suc n) = refl
 
 -- ---- records with the same frames
 
-abbrev stays : (code : Code) (c d : Record) (op : CodeOp) → d.frame ≡ c.frame → IsAt code c op → IsAt code d op
+abbrev stays : (code : Code) (c d : Record) (op : CodeOp) → d.frame ≡ c.frame → IsAtOp code c op → IsAtOp code d op
 stays code c d op same a = record {
   w = a.w;
   ws = a.ws;

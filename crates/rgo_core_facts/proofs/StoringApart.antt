@@ -3,18 +3,18 @@ use Rattle.std.proofs.Common.{◌≡◌, ◌⊎◌, inl, inr, ℕ, zero, suc, �
 use Rattle.std.proofs.lemmas.Bool.Decides.{nat_tests}
 use Rattle.rgo_sound.specs.Memory.Memory.{Object}
 use Rattle.rgo_sound.specs.RegionMachine.Objects.{cells, data_pages, most_data_pages, object_words as words_of}
-use Rattle.rgo_core.specs.Memory.Encoding.{Spot, content, opening}
+use Rattle.rgo_core.specs.Memory.Encoding.{Spot, content, opening_word}
 use Rattle.rgo_core.specs.Memory.Records.{Across, Rest, with_word_apart}
 use Rattle.rgo_core.specs.Memory.Spread.{spread_opening, spread_spot, table_words, words_before}
 use Rattle.rgo_core.specs.Memory.Words.{cell_at}
 use Rattle.rgo_core.specs.Core.{Setup, layout}
-use Rattle.rgo_core.specs.NewObjects.{made_apart}
+use Rattle.rgo_core.specs.moves.NewObjects.{record_made_apart}
 use Rattle.rgo_core.specs.Records.{Record, accessed}
 use Rattle.rgo_core_steps.specs.After.{making_apart}
 use Rattle.rgo_core_steps.specs.Making.{IsNewWordApart, RecordMakesNext, covers, filling_apart, stored_in}
-use Rattle.rgo_core_steps.proofs.After.{making_apart_is}
-use Rattle.rgo_core_steps.proofs.Making.{filling_apart_is}
-use Rattle.rgo_core_facts.specs.MemoryObjects.{NewObject, StoresNextApart, StoresNoneApart, StoresWordsApart, data_pages_of, first_of, making_after_apart, numbers_below, spot_of, storing_apart, with_new_object_apart}
+use Rattle.rgo_core_steps.proofs.record_steps.After.{making_apart_is}
+use Rattle.rgo_core_steps.proofs.making.Objects.{filling_apart_is}
+use Rattle.rgo_core_facts.specs.MemoryObjects.{NewObject, StoresNextApart, StoresNoneApart, StoresWordsApart, data_pages_of, first_held, making_after_apart, numbers_below, spot_of, storing_apart, with_new_object_apart}
 use Rattle.rgo_core_facts.proofs.DataPages.{less, not_less, pages_so}
 use Rattle.rgo_core_facts.proofs.Storing.{covered, next_stays, uncovered}
 
@@ -26,7 +26,7 @@ stored_so object (suc n) = refl
 
 module _ (page_words : ℕ) (object : Object) (words before : ℕ) (first : ℕ → ℕ) (pages : List ℕ) (many : words_of object ≡ words)
     (parts : 1 < words → cells object + before ≡ words) (some : 1 < words)
-    (opens : (i : ℕ) → i < words → opening (content object i) ≡ first i) (n : ℕ) where
+    (opens : (i : ℕ) → i < words → opening_word (content object i) ≡ first i) (n : ℕ) where
   before_is : words_before object ≡ before
   before_is = let e = parts some in omega (arith, e, many)
 
@@ -38,14 +38,14 @@ module _ (page_words : ℕ) (object : Object) (words before : ℕ) (first : ℕ 
   -- a word of the object, or a page number
   value_in : (b : Bool) → nat_lt n words ≡ b
       → (if b then first n else suc (slice_index pages (n - words + 1)))
-      ≡ (if b then opening (content object n) else suc (slice_index pages (n - words + 1)))
+      ≡ (if b then opening_word (content object n) else suc (slice_index pages (n - words + 1)))
   value_in true is = sym (opens n (grind (arith, nat_tests, is)))
   value_in false is = refl
 
-  value_is : first_of words first pages n ≡ spread_opening object pages n
+  value_is : first_held words first pages n ≡ spread_opening object pages n
   value_is =
       value_in (nat_lt n words) refl
-      ∙ ap (λ (w : ℕ). if nat_lt n w then opening (content object n) else suc (slice_index pages (n - w + 1))) (sym many)
+      ∙ ap (λ (w : ℕ). if nat_lt n w then opening_word (content object n) else suc (slice_index pages (n - w + 1))) (sym many)
 
 -- ---- the store of one of them
 
@@ -85,7 +85,7 @@ module _ (T : Setup) (c : Record) (slot words before : ℕ) (first : ℕ → ℕ
   abbrev spot : Spot
   spot = spot_of T.sizes.page_words words before pages n
 
-  word : IsNewWordApart T d n (cell_at (layout T) spot.page spot.offset) (first_of words first pages n)
+  word : IsNewWordApart T d n (cell_at (layout T) spot.page spot.offset) (first_held words first pages n)
   word = let m = new.many in record {
     object = object;
     slot = slot;
@@ -122,14 +122,14 @@ module _ (T : Setup) (c : Record) (slot words before : ℕ) (first : ℕ → ℕ
   last : suc n ≡ table_words T.sizes.page_words object → filling_apart T d n ≡ with_new_object_apart T c object
   last end =
       let count : suc (c.clock.accesses + n) ≡ c.clock.accesses + table_words T.sizes.page_words object = omega (arith, end) in
-      let made = made_apart T c new.next.here new.next.to in
+      let made = record_made_apart T c new.next.here new.next.to in
       fills true (covered (table_words T.sizes.page_words object) (suc n) (omega (arith, end)))
       ∙ (making_apart_is T next.here
       ∙ ((λ i. record made { clock = record made.clock { accesses = count i } })
       ∙ ap (λ (e : Record). record e { clock = record e.clock { accesses = c.clock.accesses + table_words T.sizes.page_words object } })
       (sym (making_apart_is T new.next.here))))
 
-  pub stores_next : StoresNextApart T c object n (cell_at (layout T) spot.page spot.offset) (first_of words first pages n)
+  pub stores_next : StoresNextApart T c object n (cell_at (layout T) spot.page spot.offset) (first_held words first pages n)
   unfolding word
   stores_next = record { new = word; index = λ low. low; more = more; last = last }
 

@@ -1,7 +1,7 @@
 -- What the first duty of a goroutine refers to, by its record.
 use Rattle.std.specs.List.{list_any}
 use Rattle.std.specs.Prelude.{◌≡◌, ℕ, true, List, [], ◌∷◌, map, Some, None}
-use Rattle.rgo_core.specs.Frames.WordFrames.{WordFrame}
+use Rattle.rgo_core.specs.Frames.shown.WordFrames.{WordFrame}
 use Rattle.rgo_sound.specs.RegionMachine.Regions.{bound, same_region}
 use Rattle.rgo_sound.specs.RegionMachine.States.{Create, Duty, EndBase, RegionEnvironment, Protect, Remove, Share, Unprotect}
 use Rattle.rgo_sound.specs.RegionMachine.declared.regions.Region.{Region}
@@ -19,7 +19,7 @@ pub record HasNewest (c : Record) (e : RegionEnvironment) : Type 0 where
   pub environments : c.frame.holder.environments ≡ e ∷ es
 
 -- in the newest frame the name is bound to a region
-pub record IsNamed (T : Setup) (c : Record) (k : ℕ) : Type 0 where
+pub record NameIsBound (T : Setup) (c : Record) (k : ℕ) : Type 0 where
   pub e : RegionEnvironment
   pub newest : HasNewest c e
   pub region : Region
@@ -34,12 +34,12 @@ pub record IsUnnamed (c : Record) (k : ℕ) : Type 0 where
 
 -- it does, and the frame's call protects the region
 pub record IsProtected (T : Setup) (c : Record) (k : ℕ) : Type 0 where
-  pub named : IsNamed T c k
+  pub named : NameIsBound T c k
   pub protected : list_any (same_region named.region) named.e.protections ≡ true
 
 -- it does, and no protection of the frame is left
 pub record IsUnprotected (T : Setup) (c : Record) (k : ℕ) : Type 0 where
-  pub named : IsNamed T c k
+  pub named : NameIsBound T c k
   pub none : named.e.protections ≡ []
 
 -- the goroutine has returned, and protects the region since its start
@@ -52,8 +52,8 @@ pub record IsOfBase (T : Setup) (c : Record) (r : Region) : Type 0 where
 -- the duty can be done
 abbrev pub CanAttend : Setup → Record → Duty → Type 0
 CanAttend T c (Create k) = IsUnnamed c k
-CanAttend T c (Share k) = IsNamed T c k
-CanAttend T c (Protect k) = IsNamed T c k
+CanAttend T c (Share k) = NameIsBound T c k
+CanAttend T c (Protect k) = NameIsBound T c k
 CanAttend T c (Unprotect k) = IsProtected T c k
 CanAttend T c (Remove k) = IsUnprotected T c k
 CanAttend T c (EndBase r) = IsOfBase T c r

@@ -1,20 +1,20 @@
 -- Where the frames of a goroutine are in the code, by its record.
 use Rattle.std.specs.Prelude.{◌≡◌, ◌⊎◌, ℕ, List, [], ◌∷◌, length, Option, Some, is_some, slice_get}
 use Rattle.rgo_sound.specs.Code.Code.{Call, Code, CodeFn, CodeInstr, CodeOp, Return}
-use Rattle.rgo_core.specs.Frames.Local.{local}
-use Rattle.rgo_core.specs.Frames.Records.{Rec as FrameRec}
-use Rattle.rgo_core.specs.Frames.WordFrames.{WordFrame, bare}
+use Rattle.rgo_core.specs.Frames.steps.Local.{local}
+use Rattle.rgo_core.specs.Frames.Records.{FramesRec as FrameRec}
+use Rattle.rgo_core.specs.Frames.shown.WordFrames.{WordFrame, bare}
 use Rattle.rgo_sound.specs.RegionMachine.Owed.{current, code_function}
 use Rattle.rgo_sound.specs.RegionMachine.States.{NoOffer, Standing}
 use Rattle.rgo_sound.specs.Tac.declared.regions.Class.{Class}
-use Rattle.rgo_core.specs.CommitMoves.{IsAtSend}
-use Rattle.rgo_core.specs.Core.{Here, Setup}
-use Rattle.rgo_core.specs.Next.{IsAt}
+use Rattle.rgo_core.specs.moves.Commits.{IsAtSend}
+use Rattle.rgo_core.specs.Core.{Situation, Setup}
+use Rattle.rgo_core.specs.Next.{IsAtOp}
 use Rattle.rgo_core.specs.Records.{Record}
 
 -- P holds of every record that a goroutine may have
 abbrev pub OfRecords : (Setup → Record → Type 0) → Type 0
-OfRecords P = (T : Setup) (g : ℕ) (c : Record) → Here T g c → P T c
+OfRecords P = (T : Setup) (g : ℕ) (c : Record) → Situation T g c → P T c
 
 -- ---- the code of a frame
 
@@ -57,7 +57,7 @@ CallersWait = OfRecords (λ T c. (w caller : WordFrame) (ws : List WordFrame) �
 -- A goroutine that has a frame, no duty and no offer is before its next instruction.
 pub record IsAtNext (code : Code) (c : Record) (w : WordFrame) (ws : List WordFrame) : Type 0 where
   pub op : CodeOp
-  pub here : IsAt code c op
+  pub here : IsAtOp code c op
   pub newest : here.w ≡ w
   pub callers : here.ws ≡ ws
   pub at : slice_get here.fn.body w.next ≡ Some here.instr
@@ -76,5 +76,5 @@ OffersKnown = OfRecords (λ T c. (c.frame.holder.offer ≡ NoOffer)
 
 -- a return without a caller is a local step, and leaves no frame; in `main` it ends the run
 abbrev pub LastReturn : Type 0
-LastReturn = (T : Setup) (c : Record) (value : Option ℕ) (a : IsAt T.code c (Return value)) → a.ws ≡ []
+LastReturn = (T : Setup) (c : Record) (value : Option ℕ) (a : IsAtOp T.code c (Return value)) → a.ws ≡ []
     → (e : FrameRec) × (local T.code c.frame ≡ Some e) × (e.frames ≡ [])

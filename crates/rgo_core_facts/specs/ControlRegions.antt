@@ -12,7 +12,7 @@ use Rattle.rgo_sound.specs.Core.{AreUniqueIn}
 use Rattle.rgo_sound.specs.Stakes.{is_in, times_in}
 use Rattle.rgo_sound.specs.Tac.declared.regions.Class.{Class}
 use Rattle.rgo_core.specs.Core.{Setup}
-use Rattle.rgo_core.specs.Next.{IsAt}
+use Rattle.rgo_core.specs.Next.{IsAtOp}
 use Rattle.rgo_core.specs.Records.{Record}
 use Rattle.rgo_core_steps.specs.Counts.{ending}
 use Rattle.rgo_core_facts.specs.ControlFrames.{OfRecords}
@@ -79,19 +79,19 @@ HaveRegions T c passes = (i : ℕ) (class : Class) → slice_get passes i ≡ So
 
 abbrev pub CallPassesRegions : Type 0
 CallPassesRegions = OfRecords (λ T c. (to : _) (n : ℕ) (from : List ℕ) (passes : List Class) (protects removes : List ℕ)
-    → IsAt T.code c (Call to n from passes protects removes) → HaveRegions T c passes)
+    → IsAtOp T.code c (Call to n from passes protects removes) → HaveRegions T c passes)
 
 abbrev pub StartPassesRegions : Type 0
 StartPassesRegions = OfRecords (λ T c. (n : ℕ) (from : List ℕ) (passes : List Class) (removes : List ℕ)
-    → IsAt T.code c (Go n from passes removes) → HaveRegions T c passes)
+    → IsAtOp T.code c (Go n from passes removes) → HaveRegions T c passes)
 
 -- At a start each region that it passes is Global, or one in which a stake was taken for the child.
 abbrev pub StartSharesRegions : Type 0
 StartSharesRegions = OfRecords (λ T c. (n : ℕ) (from : List ℕ) (passes : List Class) (removes : List ℕ)
-    → IsAt T.code c (Go n from passes removes) → (i : ℕ) (class : Class) (p : ℕ) → slice_get passes i ≡ Some class
+    → IsAtOp T.code c (Go n from passes removes) → (i : ℕ) (class : Class) (p : ℕ) → slice_get passes i ≡ Some class
     → class_region (top_names c.frame.holder.environments) class ≡ Some (Numbered p) → is_in p c.frame.holder.pending ≡ true)
 
 -- At an instruction that protects nothing the newest frame has no protections.
 abbrev pub NewestUnprotected : Type 0
-NewestUnprotected = OfRecords (λ T c. (op : CodeOp) → IsAt T.code c op → protected_names op ≡ [] → (e : RegionEnvironment) (es : List RegionEnvironment)
+NewestUnprotected = OfRecords (λ T c. (op : CodeOp) → IsAtOp T.code c op → protected_names op ≡ [] → (e : RegionEnvironment) (es : List RegionEnvironment)
     → c.frame.holder.environments ≡ e ∷ es → e.protections ≡ [])

@@ -7,28 +7,28 @@ use Rattle.rgo_sound.specs.Typed.declared.actions.Action.TheVariants as action
 use Rattle.rgo_sound.specs.Typed.declared.actions.Action.{Action}
 use Rattle.rgo_core_facts.specs.ControlCode.{OfInstructions}
 
-abbrev pub operand_count : Action → ℕ
-operand_count (action.Int k) = 0
-operand_count (action.Bool b) = 0
-operand_count action.Nil = 0
-operand_count action.Copy = 1
-operand_count (action.Binary op) = 2
-operand_count action.Neg = 1
-operand_count action.Not = 1
-operand_count action.IsNil = 1
-operand_count action.Len = 1
-operand_count (action.Load k) = 1
-operand_count (action.Store k) = 2
-operand_count action.At = 2
-operand_count action.Put = 3
-operand_count (action.New n) = 0
-operand_count action.Slice = 1
-operand_count action.Chan = 1
-operand_count action.Recv = 1
-operand_count action.Send = 2
-operand_count action.Close = 1
-operand_count (action.Get n) = 0
-operand_count (action.Set n) = 1
+abbrev pub action_arity : Action → ℕ
+action_arity (action.Int k) = 0
+action_arity (action.Bool b) = 0
+action_arity action.Nil = 0
+action_arity action.Copy = 1
+action_arity (action.Binary op) = 2
+action_arity action.Neg = 1
+action_arity action.Not = 1
+action_arity action.IsNil = 1
+action_arity action.Len = 1
+action_arity (action.Load k) = 1
+action_arity (action.Store k) = 2
+action_arity action.At = 2
+action_arity action.Put = 3
+action_arity (action.New n) = 0
+action_arity action.Slice = 1
+action_arity action.Chan = 1
+action_arity action.Recv = 1
+action_arity action.Send = 2
+action_arity action.Close = 1
+action_arity (action.Get n) = 0
+action_arity (action.Set n) = 1
 
 abbrev pub gives_value : Action → Bool
 gives_value (action.Store k) = false
@@ -55,7 +55,7 @@ gives_value (action.Get n) = true
 
 -- It has that many operands, and a variable for its value exactly if it has one. `&&` and `||` are not actions.
 pub record IsShaped (to : Option ℕ) (act : Action) (from : List ℕ) : Type 0 where
-  pub operands : length from ≡ operand_count act
+  pub operands : length from ≡ action_arity act
   pub target : is_some to ≡ gives_value act
   pub operator : (op : BinaryOp) → act ≡ action.Binary op → (op ≢ binary.And) × (op ≢ binary.Or)
 

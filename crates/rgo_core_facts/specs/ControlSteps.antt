@@ -2,15 +2,15 @@
 use Rattle.std.specs.List.{list_any}
 use Rattle.std.specs.Prelude.{◌≡◌, ℕ, true, false, List, ◌∷◌, Some, nat_eq}
 use Rattle.rgo_core.specs.Channels.Records.{at_rest}
-use Rattle.rgo_core.specs.Frames.Local.{local_duty}
-use Rattle.rgo_core.specs.Frames.Quiet.{is_exit}
-use Rattle.rgo_core.specs.Frames.Stakes.{stake_ended, stake_shared}
+use Rattle.rgo_core.specs.Frames.steps.Local.{local_duty}
+use Rattle.rgo_core.specs.Frames.steps.Quiet.{is_exit}
+use Rattle.rgo_core.specs.Frames.regions.Stakes.{stake_ended, stake_shared}
 use Rattle.rgo_sound.specs.RegionMachine.Duties.{guards, unprotected, with_protection}
 use Rattle.rgo_sound.specs.RegionMachine.Regions.{bound, removed_once, unbind, without}
 use Rattle.rgo_sound.specs.RegionMachine.States.{Duty, EndBase, Holder, Protect, Remove, Share, Unprotect, top_names, with_top}
 use Rattle.rgo_sound.specs.RegionMachine.declared.regions.Region.{Region}
 use Rattle.rgo_sound.specs.RegionMachine.declared.regions.Region.TheVariants.{Global as GlobalRegion, Numbered}
-use Rattle.rgo_core.specs.Core.{Here, Setup}
+use Rattle.rgo_core.specs.Core.{Situation, Setup}
 use Rattle.rgo_core.specs.Records.{Record}
 use Rattle.rgo_core_steps.specs.Seats.{SettlesBy, settled_by}
 
@@ -18,7 +18,7 @@ use Rattle.rgo_core_steps.specs.Seats.{SettlesBy, settled_by}
 
 -- a duty is never done after the return of `main`, which owes none
 abbrev pub NoneAfterExit : Type 0
-NoneAfterExit = (T : Setup) (g : ℕ) (c : Record) (d : Duty) (ds : List Duty) → Here T g c → c.frame.holder.duties ≡ d ∷ ds
+NoneAfterExit = (T : Setup) (g : ℕ) (c : Record) (d : Duty) (ds : List Duty) → Situation T g c → c.frame.holder.duties ≡ d ∷ ds
     → is_exit g c.frame.frames ≡ false
 
 -- The next step of the goroutine is a local one. Its record has this holder after it, and is else the same.
@@ -27,7 +27,7 @@ pub record LocalStepTo (T : Setup) (g : ℕ) (c : Record) (k : Holder) : Type 0 
   pub becomes : settled_by T g 1 c ≡ record c { frame = record c.frame { holder = k } }
 
 abbrev pub LocalDuty : Type 0
-LocalDuty = (T : Setup) (g : ℕ) (c : Record) (d : Duty) (ds : List Duty) (k : Holder) → Here T g c → c.side ≡ at_rest
+LocalDuty = (T : Setup) (g : ℕ) (c : Record) (d : Duty) (ds : List Duty) (k : Holder) → Situation T g c → c.side ≡ at_rest
     → c.frame.holder.duties ≡ d ∷ ds → local_duty (record c.frame.holder { duties = ds }) d ≡ Some k → LocalStepTo T g c k
 
 -- ---- what a duty leaves of a holder, which has the others left

@@ -13,15 +13,15 @@ use Rattle.rgo_sound.specs.RegionMachine.declared.regions.Region.{Region}
 use Rattle.rgo_sound.specs.Typed.declared.actions.Action.{Action}
 use Rattle.rgo_sound.specs.Typed.declared.actions.Action.TheVariants as action
 use Rattle.rgo_sound.specs.Typed.declared.programs.Struct.{Struct}
-use Rattle.rgo_core.specs.Frames.WordFrames.{WordFrame, word_at}
-use Rattle.rgo_core.specs.Memory.Encoding.{Spot, content, opening}
+use Rattle.rgo_core.specs.Frames.shown.WordFrames.{WordFrame, frame_word}
+use Rattle.rgo_core.specs.Memory.Encoding.{Spot, content, opening_word}
 use Rattle.rgo_core.specs.Memory.Records.{Across, Amid, Fill, Make, Rest, page_of}
 use Rattle.rgo_core.specs.Memory.Spread.{table_words}
 use Rattle.rgo_core.specs.Memory.Words.{cell_at}
-use Rattle.rgo_core.specs.Causes.{ReachesLimit}
-use Rattle.rgo_core.specs.Core.{Here, Setup, layout}
-use Rattle.rgo_core.specs.NewObjects.{slot_number}
-use Rattle.rgo_core.specs.Next.{IsAt}
+use Rattle.rgo_core.specs.runs.Causes.{ReachesLimit}
+use Rattle.rgo_core.specs.Core.{Situation, Setup, layout}
+use Rattle.rgo_core.specs.moves.NewObjects.{slot_number}
+use Rattle.rgo_core.specs.Next.{IsAtOp}
 use Rattle.rgo_core.specs.Records.{Record}
 use Rattle.rgo_core_steps.specs.After.{making, making_apart}
 use Rattle.rgo_core_steps.specs.Making.{IsIndex, IsNewWord, IsNewWordApart, RecordMakesNext, NeedsOwnPage, NeedsReserved, filling, filling_apart, next_is_spread}
@@ -29,11 +29,11 @@ use Rattle.rgo_core_steps.specs.Making.{IsIndex, IsNewWord, IsNewWordApart, Reco
 -- ---- the region
 
 -- the region, by its slot, in which an instruction makes an object
-abbrev pub MakesIn : (T : Setup) (c : Record) {op : CodeOp} → IsAt T.code c op → Region → Type 0
+abbrev pub MakesIn : (T : Setup) (c : Record) {op : CodeOp} → IsAtOp T.code c op → Region → Type 0
 MakesIn T c a r = making_region (code_function T.code a.w.function) (top_names c.frame.holder.environments) a.instr.op ≡ Some r
 
 -- It is the region of the class of variable d, to which the instruction writes a pointer to the object.
-pub record MakingRegion (T : Setup) (c : Record) {op : CodeOp} (a : IsAt T.code c op) (d : ℕ) : Type 0 where
+pub record MakingRegion (T : Setup) (c : Record) {op : CodeOp} (a : IsAtOp T.code c op) (d : ℕ) : Type 0 where
   pub region : Region
   pub in_class : class_region (top_names c.frame.holder.environments) (class_of a.fn d) ≡ Some region
   pub makes : MakesIn T c a region
@@ -41,8 +41,8 @@ pub record MakingRegion (T : Setup) (c : Record) {op : CodeOp} (a : IsAt T.code 
 
 -- each instruction that makes an object has one
 abbrev pub HasRegion : Type 0
-HasRegion = (T : Setup) (g : ℕ) (c : Record) → Here T g c → (to : Option ℕ) (act : Action) (from removes : List ℕ)
-    (a : IsAt T.code c (Do to act from removes)) → makes_object act ≡ true → (d : ℕ) × (to ≡ Some d) × MakingRegion T c a d
+HasRegion = (T : Setup) (g : ℕ) (c : Record) → Situation T g c → (to : Option ℕ) (act : Action) (from removes : List ℕ)
+    (a : IsAtOp T.code c (Do to act from removes)) → makes_object act ≡ true → (d : ℕ) × (to ≡ Some d) × MakingRegion T c a d
 
 -- ---- its words
 
@@ -53,7 +53,7 @@ pub record NewObject (T : Setup) (c : Record) (slot words before : ℕ) (first :
   pub next : RecordMakesNext T c object slot
   pub many : words_of object ≡ words
   pub split : 1 < words → cells object + before ≡ words
-  pub opens : (i : ℕ) → i < words → opening (content object i) ≡ first i
+  pub opens : (i : ℕ) → i < words → opening_word (content object i) ≡ first i
 
 -- a struct has a word for each field, and at least one
 abbrev pub all_struct_words : Option Struct → ℕ
@@ -76,25 +76,25 @@ abbrev pub channel_opens : (capacity i : ℕ) → ℕ
 channel_opens n i = if i == 1 then n else 0
 
 abbrev pub MakesStruct : Type 0
-MakesStruct = (T : Setup) (g : ℕ) (c : Record) → Here T g c → (to : Option ℕ) (n : ℕ) (from removes : List ℕ)
-    (a : IsAt T.code c (Do to (action.New n) from removes)) (r : Region) → MakesIn T c a r
+MakesStruct = (T : Setup) (g : ℕ) (c : Record) → Situation T g c → (to : Option ℕ) (n : ℕ) (from removes : List ℕ)
+    (a : IsAtOp T.code c (Do to (action.New n) from removes)) (r : Region) → MakesIn T c a r
     → NewObject T c (slot_number (layout T) r) (all_struct_words (slice_get T.code.structs n)) 0 struct_opens
 
 -- a slice whose length is not negative
 abbrev pub MakesSlice : Type 0
-MakesSlice = (T : Setup) (c : Record) (to : Option ℕ) (p : ℕ) (removes : List ℕ) (a : IsAt T.code c (Do to action.Slice (p ∷ []) removes))
-    (r : Region) → MakesIn T c a r → word_at a.w p < 2 ^ 63
-    → NewObject T c (slot_number (layout T) r) (suc (word_at a.w p)) 1 (slice_opens (word_at a.w p))
+MakesSlice = (T : Setup) (c : Record) (to : Option ℕ) (p : ℕ) (removes : List ℕ) (a : IsAtOp T.code c (Do to action.Slice (p ∷ []) removes))
+    (r : Region) → MakesIn T c a r → frame_word a.w p < 2 ^ 63
+    → NewObject T c (slot_number (layout T) r) (suc (frame_word a.w p)) 1 (slice_opens (frame_word a.w p))
 
 -- a channel whose values its control can count
 abbrev pub MakesChannel : Type 0
-MakesChannel = (T : Setup) (c : Record) (to : Option ℕ) (p : ℕ) (removes : List ℕ) (a : IsAt T.code c (Do to action.Chan (p ∷ []) removes))
-    (r : Region) → MakesIn T c a r → word_at a.w p < 1073741820
-    → NewObject T c (slot_number (layout T) r) (channel_words (word_at a.w p)) 2 (channel_opens (word_at a.w p))
+MakesChannel = (T : Setup) (c : Record) (to : Option ℕ) (p : ℕ) (removes : List ℕ) (a : IsAtOp T.code c (Do to action.Chan (p ∷ []) removes))
+    (r : Region) → MakesIn T c a r → frame_word a.w p < 1073741820
+    → NewObject T c (slot_number (layout T) r) (channel_words (frame_word a.w p)) 2 (channel_opens (frame_word a.w p))
 
 -- An access that leaves the frames and what is known of regions leaves the next instruction, and so the object that it makes.
 abbrev pub AtStays : Type 0
-AtStays = (code : Code) (c d : Record) (op : CodeOp) → d.frame ≡ c.frame → IsAt code c op → IsAt code d op
+AtStays = (code : Code) (c d : Record) (op : CodeOp) → d.frame ≡ c.frame → IsAtOp code c op → IsAtOp code d op
 
 abbrev pub NewStays : Type 0
 NewStays = (T : Setup) (c d : Record) (slot words before : ℕ) (first : ℕ → ℕ) → d.frame ≡ c.frame → NewObject T c slot words before first
@@ -115,15 +115,15 @@ PagesAre = (T : Setup) (c : Record) (slot words before : ℕ) (first : ℕ → �
 pub data HasWords (code : Code) (w : WordFrame) (act : Action) (from : List ℕ) (words before : ℕ) : Type 0 where
   OfStruct : (n : ℕ) → act ≡ action.New n → words ≡ all_struct_words (slice_get code.structs n) → before ≡ 0
       → HasWords code w act from words before
-  OfSlice : (p : ℕ) → act ≡ action.Slice → from ≡ p ∷ [] → word_at w p < 2 ^ 63 → words ≡ suc (word_at w p) → before ≡ 1
+  OfSlice : (p : ℕ) → act ≡ action.Slice → from ≡ p ∷ [] → frame_word w p < 2 ^ 63 → words ≡ suc (frame_word w p) → before ≡ 1
       → HasWords code w act from words before
-  OfChannel : (p : ℕ) → act ≡ action.Chan → from ≡ p ∷ [] → word_at w p < 2 ^ 63 → words ≡ channel_words (word_at w p) → before ≡ 2
+  OfChannel : (p : ℕ) → act ≡ action.Chan → from ≡ p ∷ [] → frame_word w p < 2 ^ 63 → words ≡ channel_words (frame_word w p) → before ≡ 2
       → HasWords code w act from words before
 
 -- if it has more data pages than an object may have, the run may end by this limit
 abbrev pub TooLarge : Type 0
-TooLarge = (T : Setup) (g : ℕ) (c : Record) (x : Here T g c) (to : Option ℕ) (act : Action) (from removes : List ℕ)
-    (a : IsAt T.code c (Do to act from removes)) (words before : ℕ) → HasWords T.code a.w act from words before
+TooLarge = (T : Setup) (g : ℕ) (c : Record) (x : Situation T g c) (to : Option ℕ) (act : Action) (from removes : List ℕ)
+    (a : IsAtOp T.code c (Do to act from removes)) (words before : ℕ) → HasWords T.code a.w act from words before
     → most_data_pages T.sizes.page_words < data_pages_of T.sizes.page_words words before
     → ReachesLimit T.code T.sizes T.limits ObjectSize x.s
 
@@ -136,12 +136,12 @@ PageHasNoRoom n words (Some f) = n < f.fill + words
 
 -- an object that fits a page then needs one
 abbrev pub WantsPage : Type 0
-WantsPage = (T : Setup) (g : ℕ) (c : Record) → Here T g c → (slot words before : ℕ) (first : ℕ → ℕ) → NewObject T c slot words before first
+WantsPage = (T : Setup) (g : ℕ) (c : Record) → Situation T g c → (slot words before : ℕ) (first : ℕ → ℕ) → NewObject T c slot words before first
     → words ≤ T.sizes.page_words → PageHasNoRoom T.sizes.page_words words (page_of slot c.memory.fills) → NeedsOwnPage T c slot
 
 -- whether the next object is spread: if it has more words than a page
-abbrev pub NextIsSpread : Type 0
-NextIsSpread = (T : Setup) (c : Record) (slot words before : ℕ) (first : ℕ → ℕ) → NewObject T c slot words before first
+abbrev pub SpreadIsNext : Type 0
+SpreadIsNext = (T : Setup) (c : Record) (slot words before : ℕ) (first : ℕ → ℕ) → NewObject T c slot words before first
     → next_is_spread T c ≡ nat_lt T.sizes.page_words words
 
 -- a spread object of which not all pages are reserved, a lead page and its data pages, needs one
@@ -220,8 +220,8 @@ spot_of page_words words before pages n =
     else record { page = slice_index pages 0; offset = before + (n - words) })
 
 -- what it first holds
-abbrev pub first_of : (words : ℕ) → (first : ℕ → ℕ) → List ℕ → (n : ℕ) → ℕ
-first_of words first pages n = if nat_lt n words then first n else suc (slice_index pages (n - words + 1))
+abbrev pub first_held : (words : ℕ) → (first : ℕ → ℕ) → List ℕ → (n : ℕ) → ℕ
+first_held words first pages n = if nat_lt n words then first n else suc (slice_index pages (n - words + 1))
 
 -- the store of word n, which first holds this value
 pub record StoresNextApart (T : Setup) (c : Record) (object : Object) (n word value : ℕ) : Type 0 where
@@ -238,7 +238,7 @@ StoresWordsApart = (T : Setup) (c : Record) (slot words before : ℕ) (first : �
     → (n : ℕ) → n < words + data_pages_of T.sizes.page_words words before
     → StoresNextApart T c new.object n (cell_at (layout T) (spot_of T.sizes.page_words words before c.memory.reserved.pages n).page
     (spot_of T.sizes.page_words words before c.memory.reserved.pages n).offset)
-    (first_of words first c.memory.reserved.pages n)
+    (first_held words first c.memory.reserved.pages n)
 
 abbrev pub StoresNoneApart : Type 0
 StoresNoneApart = (c : Record) (object : Object) → c.memory.make ≡ Rest → storing_apart c object 0 ≡ c

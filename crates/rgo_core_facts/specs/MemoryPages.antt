@@ -1,9 +1,9 @@
 -- The own pages of a goroutine and those that it has reserved, and what of its memory has to be at rest before a stake ends.
 use Rattle.std.specs.Prelude.{◌≡◌, ◌+◌, ◌*◌, ◌<◌, ◌≤◌, ℕ, suc, Some, length, slice_index}
 use Rattle.rgo_core.specs.Memory.Events.{IsFreeOf}
-use Rattle.rgo_core.specs.Memory.Records.{Fill, Idle, Rec, Rest, Within, page_of, with_page}
-use Rattle.rgo_core.specs.Bounds.{LieInPages}
-use Rattle.rgo_core.specs.Core.{Here, Setup}
+use Rattle.rgo_core.specs.Memory.Records.{Fill, Idle, Rec, Rest, Within, page_of, with_own_page}
+use Rattle.rgo_core.specs.ties.Bounds.{LieInPages}
+use Rattle.rgo_core.specs.Core.{Situation, Setup}
 use Rattle.rgo_core.specs.Records.{Record}
 use Rattle.rgo_core_facts.specs.MemoryObjects.{NewObject, data_pages_of}
 
@@ -15,26 +15,26 @@ pub record IsOwnPage (T : Setup) (slot : ℕ) (f : Fill) : Type 0 where
   pub fill : f.fill ≤ T.sizes.page_words
 
 abbrev pub OwnPages : Type 0
-OwnPages = (T : Setup) (g : ℕ) (c : Record) → Here T g c → (slot : ℕ) (f : Fill) → page_of slot c.memory.fills ≡ Some f
+OwnPages = (T : Setup) (g : ℕ) (c : Record) → Situation T g c → (slot : ℕ) (f : Fill) → page_of slot c.memory.fills ≡ Some f
     → IsOwnPage T slot f
 
 -- there is one of each slot
 abbrev pub OneOwnPage : Type 0
-OneOwnPage = (T : Setup) (g : ℕ) (c : Record) → Here T g c → (f : Fill) → Within f c.memory.fills
+OneOwnPage = (T : Setup) (g : ℕ) (c : Record) → Situation T g c → (f : Fill) → Within f c.memory.fills
     → page_of f.slot c.memory.fills ≡ Some f
 
 -- a page that was claimed for a slot is the own page there, and empty
 abbrev pub ClaimedPage : Type 0
-ClaimedPage = (m : Rec) (page slot : ℕ) → page_of slot (with_page m page slot).fills ≡ Some (record { slot = slot; page = page; fill = 0 })
+ClaimedPage = (m : Rec) (page slot : ℕ) → page_of slot (with_own_page m page slot).fills ≡ Some (record { slot = slot; page = page; fill = 0 })
 
 -- each page that is reserved for a spread object is a page
 abbrev pub ReservedPages : Type 0
-ReservedPages = (T : Setup) (g : ℕ) (c : Record) → Here T g c → (i : ℕ) → i < length c.memory.reserved.pages
+ReservedPages = (T : Setup) (g : ℕ) (c : Record) → Situation T g c → (i : ℕ) → i < length c.memory.reserved.pages
     → slice_index c.memory.reserved.pages i < T.sizes.pages
 
 -- and there are at most as many of them as a lead page and the data pages of the object that is made next
 abbrev pub ReservedFew : Type 0
-ReservedFew = (T : Setup) (g : ℕ) (c : Record) → Here T g c → (slot words before : ℕ) (first : ℕ → ℕ) → NewObject T c slot words before first
+ReservedFew = (T : Setup) (g : ℕ) (c : Record) → Situation T g c → (slot words before : ℕ) (first : ℕ → ℕ) → NewObject T c slot words before first
     → length c.memory.reserved.pages ≤ suc (data_pages_of T.sizes.page_words words before)
 
 -- what is left of a page lies in the pages

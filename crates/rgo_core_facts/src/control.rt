@@ -3,7 +3,7 @@ ghost use Rattle.rgo_sound.specs.Machine.declared.limits.Limits.{Limits};
 ghost use Rattle.rgo_sound.specs.Machine.declared.limits.Sizes.{Sizes};
 ghost use Rattle.rgo_core_facts.specs.ControlCode.{BodiesBegin, CalleesExist, NextExists, ResultsReturned, VariablesExist};
 ghost use Rattle.rgo_core_facts.specs.ControlDuties.{DutiesAtEnd, DutiesKnown};
-ghost use Rattle.rgo_core_facts.specs.ControlExamples.{CodeExamples, FrameExamples, PrintExamples, RegionExamples};
+ghost use Rattle.rgo_core_facts.specs.ControlExamples.{CodeExamples, ControlFrameExamples, ControlPrintExamples, ControlRegionExamples};
 ghost use Rattle.rgo_core_facts.specs.ControlFrames.{CallersWait, FramesInCode, LastReturn, NextKnown, OffersKnown};
 ghost use Rattle.rgo_core_facts.specs.ControlPrints.{OperandsPrinted};
 ghost use Rattle.rgo_core_facts.specs.ControlRegions.{CallPassesRegions, NewestNames, NewestUnprotected, NoStakeAtEnd, NothingKept, RegionsKnown, StakeEnds, StartPassesRegions, StartSharesRegions};
@@ -128,9 +128,9 @@ pub fn duties_at_end()
 /// Each definition where it holds and where it does not.
 pub fn examples()
     ensures code { CodeExamples }
-    ensures frames { FrameExamples }
-    ensures regions { (sizes : Sizes) (limits : Limits) → RegionExamples sizes limits }
-    ensures prints { PrintExamples }
+    ensures frames { ControlFrameExamples }
+    ensures regions { (sizes : Sizes) (limits : Limits) → ControlRegionExamples sizes limits }
+    ensures prints { ControlPrintExamples }
 {}
 
 /// A first duty is never done after the return of `main`.

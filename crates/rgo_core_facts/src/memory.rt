@@ -1,6 +1,6 @@
 //! Where the words of the next instruction lie, which object it makes, and what the own pages of a goroutine are.
 ghost use Rattle.rgo_core_facts.specs.MemoryExamples.{ObjectExamples, PlaceExamples};
-ghost use Rattle.rgo_core_facts.specs.MemoryObjects.{AtStays, HasRegion, MakesChannel, MakesSlice, MakesStruct, NewStays, NextIsSpread, PagesAre, StoresNone, StoresNoneApart, StoresWords, StoresWordsApart, TooLarge, WantsPage, WantsReserved};
+ghost use Rattle.rgo_core_facts.specs.MemoryObjects.{AtStays, HasRegion, MakesChannel, MakesSlice, MakesStruct, NewStays, SpreadIsNext, PagesAre, StoresNone, StoresNoneApart, StoresWords, StoresWordsApart, TooLarge, WantsPage, WantsReserved};
 ghost use Rattle.rgo_core_facts.specs.MemoryPages.{ClaimedPage, FreeOfSlots, OneOwnPage, OwnPages, ReservedFew, ReservedPages, RoomLies};
 ghost use Rattle.rgo_core_facts.specs.MemoryWords.{ChannelLies, ElementLies, GetExists, IndexLies, LenLies, LoadLies, LoadsField, OfferLies, OperandPoints, PagesInTable, SetExists, SliceLies, StoreLies, StoresField};
 
@@ -121,7 +121,7 @@ pub fn wants_page()
 
 /// A new object is spread if it has more words than a page.
 pub fn next_is_spread()
-    ensures { NextIsSpread }
+    ensures { SpreadIsNext }
 {}
 
 /// A spread object of which not all pages are reserved needs one.

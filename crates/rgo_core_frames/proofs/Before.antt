@@ -8,13 +8,13 @@ use Rattle.rgo_sound.specs.RegionMachine.Duties.{may_go}
 use Rattle.rgo_sound.specs.RegionMachine.Owed.{current}
 use Rattle.rgo_sound.specs.RegionMachine.States.{Duty, Holder, NoOffer, Offer, RegionState, Standing, Taken}
 use Rattle.rgo_sound.specs.Good.{AllGood}
-use Rattle.rgo_core_frames.specs.Before.{IsBefore}
-use Rattle.rgo_core_frames.specs.BeforeLaws.{BeforeLaw, MayGo}
+use Rattle.rgo_core_frames.specs.steps.Before.{IsBefore}
+use Rattle.rgo_core_frames.specs.steps.BeforeLaws.{BeforeLaw, MayGo}
 use Rattle.rgo_core_frames.specs.Fits.{RecordFits, IsPast, IsShown}
-use Rattle.rgo_core_frames.specs.Records.{Rec}
-use Rattle.rgo_core_frames.specs.Shown.{FramesShow}
-use Rattle.rgo_core_frames.specs.Slots.{nameless, slot_duties}
-use Rattle.rgo_core_frames.specs.WordFrames.{WordFrame, bare}
+use Rattle.rgo_core_frames.specs.Records.{FramesRec}
+use Rattle.rgo_core_frames.specs.shown.Variables.{FramesShow}
+use Rattle.rgo_core_frames.specs.regions.Slots.{nameless, slot_duties}
+use Rattle.rgo_core_frames.specs.shown.WordFrames.{WordFrame, bare}
 use Rattle.rgo_core_frames.proofs.regions.Bookkeeping.{current_alike}
 use Rattle.rgo_core_frames.proofs.shown.Showing.{reads_show}
 use Rattle.rgo_core_frames.proofs.Standing.{reads_staked}
@@ -28,7 +28,7 @@ pub no_duties : (slot_of : ℕ → ℕ) (ds : List Duty) → slot_duties slot_of
 no_duties slot_of [] e = refl
 no_duties slot_of (d ∷ ds) e = cc
 
-before_at : (code : Code) (s : RegionState) (slot_of : ℕ → ℕ) (addresses : List ℕ) (g : ℕ) (c : Rec) (w : WordFrame)
+before_at : (code : Code) (s : RegionState) (slot_of : ℕ → ℕ) (addresses : List ℕ) (g : ℕ) (c : FramesRec) (w : WordFrame)
     (ws : List WordFrame) (instr : CodeInstr) → IsChecked code → AllGood code s → (frames : List TacFrame) (h : Holder)
     → slice_get s.plain.goroutines g ≡ Some frames → slice_get s.holders g ≡ Some h
     → IsShown code slot_of addresses frames h c → c.frames ≡ w ∷ ws → current code (bare w) ≡ Some instr

@@ -7,11 +7,11 @@ use Rattle.rgo_sound.specs.Code.Code.{CodeFn, CodeInstr, Do}
 use Rattle.rgo_sound.proofs.Tests.{ne_of}
 use Rattle.rgo_sound.specs.RegionMachine.declared.regions.Region.{Region}
 use Rattle.rgo_sound.specs.RegionMachine.declared.regions.Region.TheVariants.{Numbered}
-use Rattle.rgo_sound.specs.RegionMachine.Examples.{int_slot, main_of, plain}
+use Rattle.rgo_sound.specs.RegionMachine.Examples.{int_slot, main_of, plain_instr}
 use Rattle.rgo_sound.specs.RegionMachine.Regions.{bound, is_live}
-use Rattle.rgo_core_frames.specs.Examples.{FrameExamples, IntExamples, LocalExamples, RecordExamples, WordExamples, one_constant, small_table, two_owners, two_regions}
+use Rattle.rgo_core_frames.specs.Examples.{FrameExamples, IntExamples, LocalExamples, FrameRecordExamples, WordExamples, one_constant, small_table, two_owners, two_regions}
 use Rattle.rgo_core_frames.specs.Fits.{IsOfLive}
-use Rattle.rgo_core_frames.specs.Constants.{ConstantsFit}
+use Rattle.rgo_core_frames.specs.shown.Constants.{ConstantsFit}
 
 words : WordExamples
 words = record {
@@ -55,7 +55,7 @@ abbrev many : Option (List (Region × ℕ) × ℕ) → ℕ
 many None = 0
 many (Some x) = length x.0
 
-records : RecordExamples
+records : FrameRecordExamples
 records = record {
   reads = refl;
   goes = refl;
@@ -117,13 +117,13 @@ same_constant k j to from removes e = cc
 
 module _ (k : ℤ) (fits : FitsSigned w64 k) where
   abbrev its_body : List CodeInstr
-  its_body = plain (Do (Some 0) (action.Int k) [] []) ∷ []
+  its_body = plain_instr (Do (Some 0) (action.Int k) [] []) ∷ []
 
   one_fits : (instr : CodeInstr) (to : Option ℕ) (j : ℤ) (from removes : List ℕ)
       → instr.op ≡ Do to (action.Int j) from removes → (i : ℕ) → slice_get its_body i ≡ Some instr → FitsSigned w64 j
   one_fits instr to j from removes c zero e =
       subst (FitsSigned w64) (same_constant k j to from removes
-      (ap (λ (x : CodeInstr). x.op) (same_Some (plain (Do (Some 0) (action.Int k) [] [])) instr e) ∙ c)) fits
+      (ap (λ (x : CodeInstr). x.op) (same_Some (plain_instr (Do (Some 0) (action.Int k) [] [])) instr e) ∙ c)) fits
   one_fits instr to j from removes c (suc i) e = cc
 
   constants_fit : ConstantsFit (one_constant k)
@@ -138,8 +138,8 @@ steps = record {
   computes = refl;
   waits = refl;
   constants = constants_fit;
-  unfit = λ k n fit. n (fit 0 0 (main_of (int_slot ∷ []) (plain (Do (Some 0) (action.Int k) [] []) ∷ []))
-      (plain (Do (Some 0) (action.Int k) [] [])) (Some 0) k [] [] refl refl refl);
+  unfit = λ k n fit. n (fit 0 0 (main_of (int_slot ∷ []) (plain_instr (Do (Some 0) (action.Int k) [] []) ∷ []))
+      (plain_instr (Do (Some 0) (action.Int k) [] [])) (Some 0) k [] [] refl refl refl);
 }
 
 pub examples : FrameExamples

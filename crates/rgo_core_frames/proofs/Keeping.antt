@@ -17,9 +17,9 @@ use Rattle.rgo_sound.specs.Core.{AreStaked, RegionsStaked}
 use Rattle.rgo_sound.specs.Invariant.{Fine, GoodHolder}
 use Rattle.rgo_sound.specs.Stakes.{times_in}
 use Rattle.rgo_core_frames.specs.Fits.{RecordsFit, RecordFits, IsPast, IsShown, ObjectsDiffer, SlotsDiffer}
-use Rattle.rgo_core_frames.specs.Records.{Rec}
-use Rattle.rgo_core_frames.specs.Shown.{CallersShow, FramesShow, LiveShow}
-use Rattle.rgo_core_frames.specs.WordFrames.{WordFrame, word_at}
+use Rattle.rgo_core_frames.specs.Records.{FramesRec}
+use Rattle.rgo_core_frames.specs.shown.Variables.{CallersShow, FramesShow, LiveShow}
+use Rattle.rgo_core_frames.specs.shown.WordFrames.{WordFrame, frame_word}
 use Rattle.rgo_core_frames.proofs.shown.WordLemmas.{shows_more}
 use Rattle.rgo_sound.specs.Values.{call_target}
 use Rattle.rgo_sound.specs.Tac.Frames.{value_at}
@@ -32,7 +32,7 @@ use Rattle.rgo_core_frames.proofs.regions.SlotLemmas.{ProtectionsLive}
 module _ (code : Code) (slot_of : ℕ → ℕ) (addresses more : List ℕ) where
   live_more : (but : Option ℕ) (i : ℕ) (frame : TacFrame) (w : WordFrame) → LiveShow code addresses but i frame w
       → LiveShow code (addresses ++ more) but i frame w
-  live_more but i frame w h fn is v b l = shows_more addresses more (value_at frame v) (word_at w v) (h fn is v b l)
+  live_more but i frame w h fn is v b l = shows_more addresses more (value_at frame v) (frame_word w v) (h fn is v b l)
 
   pub callers_more : (callers : List TacFrame) (ws : List WordFrame) → CallersShow code addresses callers ws
       → CallersShow code (addresses ++ more) callers ws
@@ -55,11 +55,11 @@ module _ (code : Code) (slot_of : ℕ → ℕ) (addresses more : List ℕ) where
   frames_more (frame ∷ callers) (w ∷ ws) h =
       (record { alike = h.0.alike; shows = live_more None frame.next frame w h.0.shows }, callers_more callers ws h.1)
 
-  pub shown_more : (frames : List TacFrame) (h : Holder) (c : Rec) → IsShown code slot_of addresses frames h c
+  pub shown_more : (frames : List TacFrame) (h : Holder) (c : FramesRec) → IsShown code slot_of addresses frames h c
       → IsShown code slot_of (addresses ++ more) frames h c
   shown_more frames h c x = record { calm = x.calm; shown = frames_more frames c.frames x.shown; holder = x.holder }
 
-  either_more : (frames : List TacFrame) (h : Holder) (c : Rec)
+  either_more : (frames : List TacFrame) (h : Holder) (c : FramesRec)
       → IsShown code slot_of addresses frames h c ⊎ IsPast code slot_of addresses frames h c
       → IsShown code slot_of (addresses ++ more) frames h c ⊎ IsPast code slot_of (addresses ++ more) frames h c
   either_more frames h c (inl x) = inl (shown_more frames h c x)
@@ -95,10 +95,10 @@ module _ (code : Code) (slot_of : ℕ → ℕ) (addresses more : List ℕ) (s t 
     (frames' : List TacFrame) (h' : Holder) (started : List (List TacFrame)) (children : List Holder)
     (at : slice_get s.plain.goroutines g ≡ Some frames) (there : slice_get s.holders g ≡ Some h)
     (changes : Changes s t g frames' h' started children) where
-  abbrev Stand : List TacFrame → Holder → Rec → Type 0
+  abbrev Stand : List TacFrame → Holder → FramesRec → Type 0
   Stand frames h c = IsShown code slot_of (addresses ++ more) frames h c ⊎ IsPast code slot_of (addresses ++ more) frames h c
 
-  here : (c : Rec) → Stand frames' h' c → RecordFits code slot_of (addresses ++ more) t g c
+  here : (c : FramesRec) → Stand frames' h' c → RecordFits code slot_of (addresses ++ more) t g c
   here c f = record {
     frames = frames';
     at = ap (λ gs. slice_get gs g) changes.goroutines
@@ -110,7 +110,7 @@ module _ (code : Code) (slot_of : ℕ → ℕ) (addresses more : List ℕ) (s t 
     fits = f;
   }
 
-  other : (j : ℕ) (c : Rec) → nat_eq g j ≡ false → RecordFits code slot_of addresses s j c → RecordFits code slot_of (addresses ++ more) t j c
+  other : (j : ℕ) (c : FramesRec) → nat_eq g j ≡ false → RecordFits code slot_of addresses s j c → RecordFits code slot_of (addresses ++ more) t j c
   other j c n f = record {
     frames = f.frames;
     at = ap (λ gs. slice_get gs j) changes.goroutines
@@ -122,9 +122,9 @@ module _ (code : Code) (slot_of : ℕ → ℕ) (addresses more : List ℕ) (s t 
     fits = either_more code slot_of addresses more f.frames f.h c f.fits;
   }
 
-  module _ (records : List Rec) (c d : Rec) (all : RecordsFit code slot_of addresses s records) (e : slice_get records g ≡ Some c)
+  module _ (records : List FramesRec) (c d : FramesRec) (all : RecordsFit code slot_of addresses s records) (e : slice_get records g ≡ Some c)
       (f : Stand frames' h' d) where
-    old_fits : (j : ℕ) (x : Rec) → slice_get (slice_set records g d) j ≡ Some x → RecordFits code slot_of (addresses ++ more) t j x
+    old_fits : (j : ℕ) (x : FramesRec) → slice_get (slice_set records g d) j ≡ Some x → RecordFits code slot_of (addresses ++ more) t j x
     old_fits j x q = split (nat_eq g j)
         (λ y. let gj = eq_of g j y in subst (λ i. RecordFits code slot_of (addresses ++ more) t i x) gj
         (subst (λ z. RecordFits code slot_of (addresses ++ more) t g z)
@@ -145,7 +145,7 @@ module _ (code : Code) (slot_of : ℕ → ℕ) (addresses more : List ℕ) (s t 
     }
 
     -- one was started
-    pub all_fit_child : (child : List TacFrame) (k : Holder) (r : Rec) → started ≡ child ∷ [] → children ≡ k ∷ []
+    pub all_fit_child : (child : List TacFrame) (k : Holder) (r : FramesRec) → started ≡ child ∷ [] → children ≡ k ∷ []
         → length s.plain.goroutines ≡ length s.holders → IsShown code slot_of (addresses ++ more) child k r
         → length (addresses ++ more) ≡ length t.plain.memory.heap → SlotsDiffer slot_of t.regions
         → ObjectsDiffer (addresses ++ more) t.regions t.owners → RecordsFit code slot_of (addresses ++ more) t (slice_set records g d ++ r ∷ [])
@@ -177,7 +177,7 @@ module _ (code : Code) (slot_of : ℕ → ℕ) (addresses more : List ℕ) (s t 
           fits = inl shows;
         }
 
-        by : (j : ℕ) (x : Rec) → (slice_get (slice_set records g d) j ≡ Some x) ⊎ ((j ≡ length (slice_set records g d)) × (x ≡ r))
+        by : (j : ℕ) (x : FramesRec) → (slice_get (slice_set records g d) j ≡ Some x) ⊎ ((j ≡ length (slice_set records g d)) × (x ≡ r))
             → RecordFits code slot_of (addresses ++ more) t j x
         by j x (inl q) = old_fits j x q
         by j x (inr (q, is)) = subst (λ z. RecordFits code slot_of (addresses ++ more) t j z) (sym is) (last j q)
@@ -186,7 +186,7 @@ module _ (code : Code) (slot_of : ℕ → ℕ) (addresses more : List ℕ) (s t 
 pub all_fit_kept : (code : Code) (slot_of : ℕ → ℕ) (addresses : List ℕ) (s t : RegionState) (g : ℕ) (frames : List TacFrame) (h : Holder)
     (frames' : List TacFrame) (h' : Holder) → slice_get s.plain.goroutines g ≡ Some frames → slice_get s.holders g ≡ Some h
     → Changes s t g frames' h' [] [] → t.plain.memory ≡ s.plain.memory → t.regions ≡ s.regions → t.owners ≡ s.owners
-    → (records : List Rec) (c d : Rec) → RecordsFit code slot_of addresses s records → slice_get records g ≡ Some c
+    → (records : List FramesRec) (c d : FramesRec) → RecordsFit code slot_of addresses s records → slice_get records g ≡ Some c
     → IsShown code slot_of addresses frames' h' d ⊎ IsPast code slot_of addresses frames' h' d
     → RecordsFit code slot_of addresses t (slice_set records g d)
 all_fit_kept code slot_of addresses s t g frames h frames' h' at there changes memory regions owners records c d all e f =

@@ -1,14 +1,14 @@
 -- What a step leaves as it was, from the laws of region safety.
 use Rattle.std.proofs.Common.{◌≡◌, ℕ, List, Option, Some, None, refl}
 use Rattle.rgo_sound.specs.Code.Code.{Code}
-use Rattle.rgo_sound.specs.RegionMachine.Instructions.{marked, printed_if}
+use Rattle.rgo_sound.specs.RegionMachine.Instructions.{mark_with_end, printed_if}
 use Rattle.rgo_sound.specs.RegionMachine.Machine.{Event, region_step}
 use Rattle.rgo_sound.specs.RegionMachine.Regions.{RegionInfo}
 use Rattle.rgo_sound.specs.RegionMachine.States.{Holder, Mark, RegionState}
 use Rattle.rgo_sound.proofs.steps.Leaving.{offers_stay, others_stay}
 use Rattle.rgo_core_frames.specs.Fits.{RecordsFit}
-use Rattle.rgo_core_frames.specs.Records.{Rec}
-use Rattle.rgo_core_frames.specs.Steps.{HasStep, LeavesRest, StaysElse, steps_after}
+use Rattle.rgo_core_frames.specs.Records.{FramesRec}
+use Rattle.rgo_core_frames.specs.steps.Bookkept.{HasStep, LeavesRest, StaysElse, steps_after}
 
 pub leaves_rest : (code : Code) (page_words : ℕ) (s t : RegionState) (event : Event)
     → region_step code page_words s event ≡ Some t → LeavesRest s t event
@@ -18,7 +18,7 @@ leaves_rest code page_words s t event e = record {
 }
 
 pub has_step : (code : Code) (page_words : ℕ) (slot_of : ℕ → ℕ) (addresses : List ℕ) (s : RegionState) (event : Event)
-    (regions : List RegionInfo) (mark : Option Mark) (records : List Rec) (t : RegionState)
+    (regions : List RegionInfo) (mark : Option Mark) (records : List FramesRec) (t : RegionState)
     → region_step code page_words s event ≡ Some t → RecordsFit code slot_of addresses t records → StaysElse s t
     → t.regions ≡ regions → t.mark ≡ mark → t.steps ≡ steps_after s.steps event
     → HasStep code page_words slot_of addresses s event regions mark records
@@ -35,7 +35,7 @@ has_step code page_words slot_of addresses s event regions mark records t e fit 
 
 -- one that leaves memory, print, owners, regions and mark by definition
 pub has_still_step : (code : Code) (page_words : ℕ) (slot_of : ℕ → ℕ) (addresses : List ℕ) (s : RegionState)
-    (event : Event) (records : List Rec) (holders : List Holder)
+    (event : Event) (records : List FramesRec) (holders : List Holder)
     → region_step code page_words s event ≡ Some (record s { holders = holders })
     → RecordsFit code slot_of addresses (record s { holders = holders }) records → s.steps ≡ steps_after s.steps event
     → HasStep code page_words slot_of addresses s event s.regions s.mark records
@@ -45,7 +45,7 @@ has_still_step code page_words slot_of addresses s event records holders e fit c
 
 -- ---- marks and prints
 
-pub mark_stays : (m : Option Mark) → marked m None ≡ m
+pub mark_stays : (m : Option Mark) → mark_with_end m None ≡ m
 mark_stays None = refl
 mark_stays (Some e) = refl
 

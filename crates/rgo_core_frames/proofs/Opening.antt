@@ -7,11 +7,11 @@ use Rattle.rgo_sound.specs.Code.Code.{Code, CodeFn}
 use Rattle.rgo_sound.specs.Code.Erasure.{erased, erased_fn}
 use Rattle.rgo_sound.specs.RegionMachine.Machine.{main_holder, region_start}
 use Rattle.rgo_core_frames.specs.Fits.{RecordsFit, RecordFits}
-use Rattle.rgo_core_frames.specs.Opening.{FrameOpeningLaw, main_record}
-use Rattle.rgo_core_frames.specs.Records.{Rec}
-use Rattle.rgo_core_frames.specs.Shown.{FramesShow}
-use Rattle.rgo_core_frames.specs.Slots.{slotted}
-use Rattle.rgo_core_frames.specs.WordFrames.{WordFrame, word_called}
+use Rattle.rgo_core_frames.specs.goroutines.Opening.{FrameOpeningLaw, main_record}
+use Rattle.rgo_core_frames.specs.Records.{FramesRec}
+use Rattle.rgo_core_frames.specs.shown.Variables.{FramesShow}
+use Rattle.rgo_core_frames.specs.regions.Slots.{slotted}
+use Rattle.rgo_core_frames.specs.shown.WordFrames.{WordFrame, word_called}
 use Rattle.rgo_core_frames.proofs.regions.Bookkeeping.{next_alike, next_slot}
 use Rattle.rgo_core_frames.proofs.shown.Showing.{enters}
 
@@ -53,7 +53,7 @@ module _ (code : Code) (slot_of : ℕ → ℕ) (n : ℕ) (main : CodeFn)
       none : (a : ℕ) → None ≡ Some a → ⊥
       none a e = cc
 
-      each : (g : ℕ) (c : Rec) → slice_get (main_record code n main ∷ []) g ≡ Some c → RecordFits code slot_of [] (region_start code) g c
+      each : (g : ℕ) (c : FramesRec) → slice_get (main_record code n main ∷ []) g ≡ Some c → RecordFits code slot_of [] (region_start code) g c
       each zero c e = subst (RecordFits code slot_of [] (region_start code) 0) (same_Some (main_record code n main) c e) main_fits
       each (suc g) c e = cc
 

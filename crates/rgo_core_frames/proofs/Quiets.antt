@@ -9,23 +9,23 @@ use Rattle.rgo_sound.specs.RegionMachine.Machine.{region_step}
 use Rattle.rgo_sound.specs.RegionMachine.States.{RegionState, Duty}
 use Rattle.rgo_sound.proofs.Places.{get_set_same}
 use Rattle.rgo_core_frames.specs.Fits.{RecordsFit}
-use Rattle.rgo_core_frames.specs.Local.{local}
-use Rattle.rgo_core_frames.specs.Constants.{ConstantsFit}
-use Rattle.rgo_core_frames.specs.LocalLaws.{event_of, end_by_frames, end_of, event_by}
-use Rattle.rgo_core_frames.specs.Quiet.{HasQuietRun, QuietLaw, is_exit, quiet, quiet_events, quiets, unless_exit, OnlyOne}
-use Rattle.rgo_core_frames.specs.Records.{Rec}
-use Rattle.rgo_core_frames.specs.Steps.{StaysElse, LeavesRest, RegionStepsTo}
+use Rattle.rgo_core_frames.specs.steps.Local.{local}
+use Rattle.rgo_core_frames.specs.shown.Constants.{ConstantsFit}
+use Rattle.rgo_core_frames.specs.steps.LocalLaws.{event_of, end_by_frames, end_of, event_by}
+use Rattle.rgo_core_frames.specs.steps.Quiet.{HasQuietRun, QuietLaw, is_exit, quiet, quiet_events, quiets, unless_exit, OnlyOne}
+use Rattle.rgo_core_frames.specs.Records.{FramesRec}
+use Rattle.rgo_core_frames.specs.steps.Bookkept.{StaysElse, LeavesRest, RegionStepsTo}
 use Rattle.rgo_sound.proofs.steps.Acting.{set_same}
 use Rattle.rgo_core_frames.proofs.steps.LocalActs.{chained}
 use Rattle.rgo_core_frames.proofs.steps.LocalSteps.{local_law}
 use Rattle.rgo_sound.specs.Leaving.{ActsAlone, TakesPart}
 use Rattle.rgo_core_frames.specs.States.{Here}
-use Rattle.rgo_core_frames.specs.WordFrames.{WordFrame}
+use Rattle.rgo_core_frames.specs.shown.WordFrames.{WordFrame}
 use Rattle.rgo_core_frames.proofs.Leaving.{mark_stays}
-use Rattle.rgo_sound.specs.RegionMachine.Instructions.{marked}
+use Rattle.rgo_sound.specs.RegionMachine.Instructions.{mark_with_end}
 use Rattle.rgo_core_frames.proofs.Sound.{next_sound}
 
-unless : (g : ℕ) (d e : Rec) → unless_exit g d ≡ Some e → (d ≡ e) × (is_exit g d.frames ≡ false)
+unless : (g : ℕ) (d e : FramesRec) → unless_exit g d ≡ Some e → (d ≡ e) × (is_exit g d.frames ≡ false)
 unless g d e q = go (is_exit g d.frames) refl
   where
     go : (b : Bool) → is_exit g d.frames ≡ b → (d ≡ e) × (is_exit g d.frames ≡ false)
@@ -33,11 +33,11 @@ unless g d e q = go (is_exit g d.frames) refl
     go false x = (same_Some d e (ap (λ b. if b then None else Some d) (sym x) ∙ q), x)
 
 -- a quiet step is a local one, and no exit
-quiet_is : (code : Code) (g : ℕ) (c x : Rec) → quiet code g c ≡ Some x → (local code c ≡ Some x) × (is_exit g x.frames ≡ false)
+quiet_is : (code : Code) (g : ℕ) (c x : FramesRec) → quiet code g c ≡ Some x → (local code c ≡ Some x) × (is_exit g x.frames ≡ false)
 quiet_is code g c x e =
     let y = chained (unless_exit g) (local code c) x e in
     let z = unless g y.0 x y.2 in
-    (y.1 ∙ ap Some z.0, sym (ap (λ (r : Rec). is_exit g r.frames) z.0) ∙ z.1)
+    (y.1 ∙ ap Some z.0, sym (ap (λ (r : FramesRec). is_exit g r.frames) z.0) ∙ z.1)
 
 -- so it marks no end
 pub no_end : (g : ℕ) (ds : List Duty) (ws : List WordFrame) → is_exit g ws ≡ false → end_by_frames g ds ws ≡ None
@@ -46,9 +46,9 @@ no_end zero [] (w ∷ ws) e = refl
 no_end zero (d ∷ ds) ws e = refl
 no_end (suc g) ds ws e = refl
 
-events_are : (code : Code) (g q : ℕ) (c x : Rec) → quiet code g c ≡ Some x
+events_are : (code : Code) (g q : ℕ) (c x : FramesRec) → quiet code g c ≡ Some x
     → event_of g c ∷ quiet_events code g q x ≡ quiet_events code g (suc q) c
-events_are code g q c x e = ap (λ (o : Option Rec). event_of g c ∷ unwrap_or (option_map (quiet_events code g q) o) []) (sym e)
+events_are code g q c x e = ap (λ (o : Option FramesRec). event_of g c ∷ unwrap_or (option_map (quiet_events code g q) o) []) (sym e)
 
 -- ---- what stays
 
@@ -86,8 +86,8 @@ only_both g s t u a b = record {
 -- ---- the law
 
 -- one step, and then q
-one_more : (x : Here) (q : ℕ) (y d : Rec) → quiet x.code x.g x.c ≡ Some y → is_exit x.g y.frames ≡ false
-    → (k : RegionStepsTo x (event_of x.g x.c) x.s.regions (marked x.s.mark (end_of x.g x.c y)) (slice_set x.records x.g y))
+one_more : (x : Here) (q : ℕ) (y d : FramesRec) → quiet x.code x.g x.c ≡ Some y → is_exit x.g y.frames ≡ false
+    → (k : RegionStepsTo x (event_of x.g x.c) x.s.regions (mark_with_end x.s.mark (end_of x.g x.c y)) (slice_set x.records x.g y))
     → HasQuietRun x.code x.page_words x.slot_of x.addresses k.state x.g (quiet_events x.code x.g q y)
     (slice_set (slice_set x.records x.g y) x.g d)
     → HasQuietRun x.code x.page_words x.slot_of x.addresses x.s x.g (quiet_events x.code x.g (suc q) x.c)
@@ -104,11 +104,11 @@ one_more x q y d e no_exit k more =
       only = only_both x.g x.s k.state more.state (only_one x.g x.c.holder.duties x.s k.state k.rest) more.only;
       regions_are = more.regions_are ∙ k.regions_are;
       mark_is = more.mark_is ∙ k.mark_is
-          ∙ ap (marked x.s.mark) (no_end x.g x.c.holder.duties y.frames no_exit) ∙ mark_stays x.s.mark;
+          ∙ ap (mark_with_end x.s.mark) (no_end x.g x.c.holder.duties y.frames no_exit) ∙ mark_stays x.s.mark;
     })
 
 -- where the record is after one step
-abbrev next_here : (x : Here) (y : Rec) (k : RegionStepsTo x (event_of x.g x.c) x.s.regions (marked x.s.mark (end_of x.g x.c y))
+abbrev next_here : (x : Here) (y : FramesRec) (k : RegionStepsTo x (event_of x.g x.c) x.s.regions (mark_with_end x.s.mark (end_of x.g x.c y))
     (slice_set x.records x.g y)) → Here
 next_here x y k = record {
   code = x.code;
@@ -124,7 +124,7 @@ next_here x y k = record {
   is_c = get_set_same x.records x.g x.c y x.is_c;
 }
 
-runs_quiet : (q : ℕ) (x : Here) (d : Rec) → ConstantsFit x.code → quiets x.code x.g q x.c ≡ Some d
+runs_quiet : (q : ℕ) (x : Here) (d : FramesRec) → ConstantsFit x.code → quiets x.code x.g q x.c ≡ Some d
     → HasQuietRun x.code x.page_words x.slot_of x.addresses x.s x.g (quiet_events x.code x.g q x.c)
     (slice_set x.records x.g d)
 runs_quiet zero x d constants e = record {
@@ -148,7 +148,7 @@ runs_quiet (suc q) x d constants e =
     let k = local_law x y.0 constants is.0 in
     one_more x q y.0 d y.1 is.1 k (runs_quiet q (next_here x y.0 k) d constants y.2)
 
-as_many : (code : Code) (g q : ℕ) (c d : Rec) → quiets code g q c ≡ Some d → length (quiet_events code g q c) ≡ q
+as_many : (code : Code) (g q : ℕ) (c d : FramesRec) → quiets code g q c ≡ Some d → length (quiet_events code g q c) ≡ q
 as_many code g zero c d e = refl
 as_many code g (suc q) c d e =
     let y = chained (quiets code g q) (quiet code g c) d e in

@@ -12,34 +12,34 @@ use Rattle.rgo_sound.specs.WellFormed.TypeRules.{bool}
 use Rattle.rgo_sound.specs.Code.Code.{Code, Do}
 use Rattle.rgo_sound.specs.RegionMachine.declared.regions.Region.{Region}
 use Rattle.rgo_sound.specs.RegionMachine.declared.regions.Region.TheVariants.{Global as GlobalRegion, Numbered}
-use Rattle.rgo_sound.specs.RegionMachine.Examples.{code_of, int_slot, main_of, passed_twice, plain}
+use Rattle.rgo_sound.specs.RegionMachine.Examples.{small_code, int_slot, main_of, passed_twice, plain_instr}
 use Rattle.rgo_sound.specs.Machine.declared.picks.Pick.TheVariants.{One}
 use Rattle.rgo_sound.specs.RegionMachine.Machine.{Attend, Instruct, TakePage, region_start}
 use Rattle.rgo_sound.specs.RegionMachine.Owed.{code_function}
 use Rattle.rgo_sound.specs.RegionMachine.Regions.{RegionInfo}
 use Rattle.rgo_sound.specs.RegionMachine.States.{Create, Duty, Holder, RegionState, Remove, Share, Standing}
-use Rattle.rgo_core_frames.specs.Creations.{GivesSlot}
+use Rattle.rgo_core_frames.specs.regions.Creations.{GivesSlot}
 use Rattle.rgo_core_frames.specs.Fits.{RecordsFit, ObjectsDiffer, SlotsDiffer}
-use Rattle.rgo_core_frames.specs.Ints.{ValueFitsWord, ObjectIntsFit}
-use Rattle.rgo_core_frames.specs.Local.{local_duty}
-use Rattle.rgo_core_frames.specs.Constants.{ConstantsFit}
-use Rattle.rgo_core_frames.specs.LocalLaws.{end_by_frames}
-use Rattle.rgo_core_frames.specs.NameTables.{NameTable, TableShows}
-use Rattle.rgo_core_frames.specs.Opening.{main_record}
-use Rattle.rgo_core_frames.specs.Operators.{computed}
-use Rattle.rgo_core_frames.specs.Pages.{page_after}
-use Rattle.rgo_core_frames.specs.Prints.{typed_value}
-use Rattle.rgo_core_frames.specs.Quiet.{quiets}
-use Rattle.rgo_core_frames.specs.Records.{Rec}
-use Rattle.rgo_core_frames.specs.Reserved.{IsReached}
-use Rattle.rgo_core_frames.specs.Shown.{FramesShow, IsAlike}
-use Rattle.rgo_core_frames.specs.Slots.{slotted}
-use Rattle.rgo_core_frames.specs.Stacks.{frames_in}
-use Rattle.rgo_core_frames.specs.Stakes.{stake_ended, stake_shared}
+use Rattle.rgo_core_frames.specs.shown.Ints.{ValueFitsWord, ObjectIntsFit}
+use Rattle.rgo_core_frames.specs.steps.Local.{local_duty}
+use Rattle.rgo_core_frames.specs.shown.Constants.{ConstantsFit}
+use Rattle.rgo_core_frames.specs.steps.LocalLaws.{end_by_frames}
+use Rattle.rgo_core_frames.specs.shown.NameTables.{NameTable, TableShows}
+use Rattle.rgo_core_frames.specs.goroutines.Opening.{main_record}
+use Rattle.rgo_core_frames.specs.shown.Operators.{computed}
+use Rattle.rgo_core_frames.specs.regions.Pages.{page_after}
+use Rattle.rgo_core_frames.specs.steps.Prints.{typed_value}
+use Rattle.rgo_core_frames.specs.steps.Quiet.{quiets}
+use Rattle.rgo_core_frames.specs.Records.{FramesRec}
+use Rattle.rgo_core_frames.specs.regions.Reserved.{IsReached}
+use Rattle.rgo_core_frames.specs.shown.Variables.{FramesShow, IsAlike}
+use Rattle.rgo_core_frames.specs.regions.Slots.{slotted}
+use Rattle.rgo_core_frames.specs.shown.Stacks.{stack_frames}
+use Rattle.rgo_core_frames.specs.regions.Stakes.{stake_ended, stake_shared}
 use Rattle.rgo_core_frames.specs.States.{Here}
-use Rattle.rgo_core_frames.specs.Steps.{steps_after}
-use Rattle.rgo_core_frames.specs.WordFrames.{WordFrame, word_at, word_going}
-use Rattle.rgo_core_frames.specs.Words.{AllShow, Shows}
+use Rattle.rgo_core_frames.specs.steps.Bookkept.{steps_after}
+use Rattle.rgo_core_frames.specs.shown.WordFrames.{WordFrame, frame_word, word_going}
+use Rattle.rgo_core_frames.specs.shown.Words.{AllShow, Shows}
 
 -- the variables of the newest frame, its next instruction, and what is owed
 abbrev pub Seen : Type 0
@@ -49,15 +49,15 @@ abbrev pub seen_in : List WordFrame → List Duty → Seen
 seen_in [] ds = ([], 0, ds)
 seen_in (w ∷ ws) ds = (w.variables, w.next, ds)
 
-abbrev pub seen : Rec → Seen
-seen c = seen_in c.frames c.holder.duties
+abbrev pub seen_of_record : FramesRec → Seen
+seen_of_record c = seen_in c.frames c.holder.duties
 
-abbrev pub main_at : Code → ℕ → Option Rec
-main_at code n = option_map (main_record code n) (code_function code n)
+abbrev pub main_record_at : Code → ℕ → Option FramesRec
+main_record_at code n = option_map (main_record code n) (code_function code n)
 
 abbrev pub Sees : Code → ℕ → ℕ → List ℕ → ℕ → List Duty → Type 0
 Sees code n q variables next duties =
-    option_map seen (option_and_then (quiets code 0 q) (main_at code n)) ≡ Some (variables, next, duties)
+    option_map seen_of_record (option_and_then (quiets code 0 q) (main_record_at code n)) ≡ Some (variables, next, duties)
 
 -- ---- small things
 
@@ -124,8 +124,8 @@ pub record WordExamples : Type 0 where
 
 -- ---- frames and what is held
 
-pub record RecordExamples : Type 0 where
-  pub reads : word_at some_frame 0 ≡ 5
+pub record FrameRecordExamples : Type 0 where
+  pub reads : frame_word some_frame 0 ≡ 5
   pub goes : word_going some_frame (Some 1) 8 ≡ record { function = 1; next = 5; variables = 5 ∷ 8 ∷ [] }
   -- as many words as variables, though there are two values
   pub alike : IsAlike (record { function = 1; next = 4; variables = value.Nil ∷ value.Nil ∷ [] }) some_frame
@@ -157,7 +157,7 @@ pub record RecordExamples : Type 0 where
   -- an instruction is counted, a duty is not
   pub counts : steps_after 4 (Instruct (One 0)) ≡ 5
   pub counts_none : steps_after 4 (Attend 0) ≡ 4
-  pub stack : frames_in (1 ∷ 2 ∷ 3 ∷ [])
+  pub stack : stack_frames (1 ∷ 2 ∷ 3 ∷ [])
       (record { function = 1; next = 4; base = 2 } ∷ record { function = 0; next = 9; base = 0 } ∷ [])
       ≡ record { function = 1; next = 4; variables = 3 ∷ [] }
       ∷ record { function = 0; next = 9; variables = 1 ∷ 2 ∷ [] } ∷ []
@@ -177,13 +177,13 @@ pub record RecordExamples : Type 0 where
 
 -- a code whose one instruction is a constant
 abbrev pub one_constant : ℤ → Code
-one_constant k = code_of [] (main_of (int_slot ∷ []) (plain (Do (Some 0) (action.Int k) [] []) ∷ []) ∷ [])
+one_constant k = small_code [] (main_of (int_slot ∷ []) (plain_instr (Do (Some 0) (action.Int k) [] []) ∷ []) ∷ [])
 
 -- `main` of a code that passes one object twice: an int, and then a region is owed, whose creation is not a local step
 pub record LocalExamples : Type 0 where
   pub begins : Sees passed_twice 1 0 (0 ∷ 0 ∷ 0 ∷ []) 0 []
   pub computes : Sees passed_twice 1 1 (21 ∷ 0 ∷ 0 ∷ []) 1 (Create 0 ∷ [])
-  pub waits : option_and_then (quiets passed_twice 0 2) (main_at passed_twice 1) ≡ None
+  pub waits : option_and_then (quiets passed_twice 0 2) (main_record_at passed_twice 1) ≡ None
   pub constants : (k : ℤ) → FitsSigned w64 k → ConstantsFit (one_constant k)
   pub unfit : (k : ℤ) → (FitsSigned w64 k → ⊥) → ConstantsFit (one_constant k) → ⊥
 
@@ -202,5 +202,5 @@ pub record IntExamples : Type 0 where
 pub record FrameExamples : Type 0 where
   pub words : WordExamples
   pub ints : IntExamples
-  pub records : RecordExamples
+  pub records : FrameRecordExamples
   pub steps : LocalExamples

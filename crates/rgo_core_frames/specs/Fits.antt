@@ -11,20 +11,20 @@ use Rattle.rgo_sound.specs.RegionMachine.declared.regions.Region.{Region}
 use Rattle.rgo_sound.specs.Tac.Frames.{TacFrame, frame_after_instr}
 use Rattle.rgo_sound.specs.Typed.declared.actions.Action.TheVariants.{Send}
 use Rattle.std.specs.Prelude.{List, Option, Some, [], length, slice_get, true, ℕ, ◌∷◌, ◌≡◌, ◌⊎◌}
-use Rattle.rgo_core_frames.specs.Records.{Rec}
-use Rattle.rgo_core_frames.specs.Shown.{FramesShow}
-use Rattle.rgo_core_frames.specs.Slots.{slotted}
+use Rattle.rgo_core_frames.specs.Records.{FramesRec}
+use Rattle.rgo_core_frames.specs.shown.Variables.{FramesShow}
+use Rattle.rgo_core_frames.specs.regions.Slots.{slotted}
 
 -- a goroutine of these frames, which has nothing to acknowledge, and its record
 pub record IsShown
-    (code : Code) (slot_of : ℕ → ℕ) (addresses : List ℕ) (frames : List TacFrame) (h : Holder) (c : Rec) : Type 0 where
+    (code : Code) (slot_of : ℕ → ℕ) (addresses : List ℕ) (frames : List TacFrame) (h : Holder) (c : FramesRec) : Type 0 where
   pub calm : may_go h.offer ≡ true
   pub shown : FramesShow code addresses frames c.frames
   pub holder : c.holder ≡ slotted slot_of h
 
 -- a goroutine whose offer was taken is past its send; its record is still before it
 pub record IsPast
-    (code : Code) (slot_of : ℕ → ℕ) (addresses : List ℕ) (frames : List TacFrame) (h : Holder) (c : Rec) : Type 0 where
+    (code : Code) (slot_of : ℕ → ℕ) (addresses : List ℕ) (frames : List TacFrame) (h : Holder) (c : FramesRec) : Type 0 where
   pub frame : TacFrame
   pub callers : List TacFrame
   pub before : Holder
@@ -43,7 +43,7 @@ pub record IsPast
   pub shown : IsShown code slot_of addresses (frame ∷ callers) before c
 
 -- the record c represents goroutine g
-pub record RecordFits (code : Code) (slot_of : ℕ → ℕ) (addresses : List ℕ) (s : RegionState) (g : ℕ) (c : Rec) : Type 0 where
+pub record RecordFits (code : Code) (slot_of : ℕ → ℕ) (addresses : List ℕ) (s : RegionState) (g : ℕ) (c : FramesRec) : Type 0 where
   pub frames : List TacFrame
   pub at : slice_get s.plain.goroutines g ≡ Some frames
   pub h : Holder
@@ -66,9 +66,9 @@ ObjectsDiffer addresses regions owners =
     → slice_get addresses p ≡ Some a → o ≡ p
 
 -- the records represent the goroutines of the state
-pub record RecordsFit (code : Code) (slot_of : ℕ → ℕ) (addresses : List ℕ) (s : RegionState) (records : List Rec) : Type 0 where
+pub record RecordsFit (code : Code) (slot_of : ℕ → ℕ) (addresses : List ℕ) (s : RegionState) (records : List FramesRec) : Type 0 where
   pub as_many : length records ≡ length s.holders
-  pub each : (g : ℕ) (c : Rec) → slice_get records g ≡ Some c → RecordFits code slot_of addresses s g c
+  pub each : (g : ℕ) (c : FramesRec) → slice_get records g ≡ Some c → RecordFits code slot_of addresses s g c
   pub laid : length addresses ≡ length s.plain.memory.heap
   pub slots_differ : SlotsDiffer slot_of s.regions
   pub addresses_differ : ObjectsDiffer addresses s.regions s.owners

@@ -3,15 +3,15 @@ use Rattle.rgo_sound.specs.Code.Code.{Code, CodeOp}
 use Rattle.rgo_sound.specs.RegionMachine.Instructions.{holder_after}
 use Rattle.rgo_sound.specs.RegionMachine.States.{Holder}
 use Rattle.std.specs.Prelude.{List}
-use Rattle.rgo_core_frames.specs.WordFrames.{WordFrame, bare, bare_all}
+use Rattle.rgo_core_frames.specs.shown.WordFrames.{WordFrame, bare, bare_all}
 
 -- words in place of values, and slots in place of regions
-pub record Rec : Type 0 where
+pub record FramesRec : Type 0 where
   pub frames : List WordFrame
   pub holder : Holder
 
 -- the record after an instruction that leaves these frames: what is owed and known of regions is as in the region machine
-abbrev pub after_op : Code → Holder → WordFrame → List WordFrame → CodeOp → (next : List WordFrame) → Rec
+abbrev pub after_op : Code → Holder → WordFrame → List WordFrame → CodeOp → (next : List WordFrame) → FramesRec
 after_op code h f callers op next = record {
   frames = next;
   holder = holder_after code h (bare f) (bare_all callers) op (bare_all next);

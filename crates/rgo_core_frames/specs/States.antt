@@ -8,10 +8,10 @@ use Rattle.rgo_sound.specs.Good.{AllGood}
 use Rattle.rgo_sound.specs.Owners.{OwnersMade}
 use Rattle.rgo_sound.specs.Running.{IsRunning}
 use Rattle.std.specs.Prelude.{List, Some, slice_get, ℕ, ◌≡◌}
-use Rattle.rgo_core_frames.specs.Before.{IsBefore}
+use Rattle.rgo_core_frames.specs.steps.Before.{IsBefore}
 use Rattle.rgo_core_frames.specs.Fits.{RecordsFit}
-use Rattle.rgo_core_frames.specs.Records.{Rec}
-use Rattle.rgo_core_frames.specs.WordFrames.{WordFrame}
+use Rattle.rgo_core_frames.specs.Records.{FramesRec}
+use Rattle.rgo_core_frames.specs.shown.WordFrames.{WordFrame}
 
 -- what each state of a run of checked code has
 pub record IsSound (code : Code) (s : RegionState) : Type 0 where
@@ -35,9 +35,9 @@ pub record Here : Type 0 where
   pub slot_of : ℕ → ℕ
   pub addresses : List ℕ
   pub s : RegionState
-  pub records : List Rec
+  pub records : List FramesRec
   pub g : ℕ
-  pub c : Rec
+  pub c : FramesRec
   pub sound : IsSound code s
   pub all : RecordsFit code slot_of addresses s records
   pub is_c : slice_get records g ≡ Some c

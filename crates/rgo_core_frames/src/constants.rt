@@ -1,7 +1,7 @@
 //! That the constants of code have 64 bits: their type says it, and a walk over the code collects it.
 
 ghost use Rattle.std.specs.Prelude.{IfSome, slice_get};
-ghost use Rattle.rgo_core_frames.specs.Constants.{ActionFits, ConstantsFit, FnFits, InstrFits, OpFits};
+ghost use Rattle.rgo_core_frames.specs.shown.Constants.{ActionFits, ConstantsFit, FnFits, InstrFits, OpFits};
 ghost use Rattle.rgo_sound.specs.Tac.Ops.{operation_of};
 
 use rgo_sound::code::Code;

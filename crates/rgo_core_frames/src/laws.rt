@@ -1,24 +1,24 @@
 //! What the record of a goroutine says of the region machine, and that records represent its goroutines after each step.
 
-ghost use Rattle.rgo_core_frames.specs.Actions.{ActionLaw, FrameLoadLaw};
-ghost use Rattle.rgo_core_frames.specs.BeforeLaws.{BeforeLaw};
-ghost use Rattle.rgo_core_frames.specs.Children.{GoLaw};
-ghost use Rattle.rgo_core_frames.specs.Creations.{CreateLaw};
-ghost use Rattle.rgo_core_frames.specs.Ends.{FinishLaw, TrapLaw};
+ghost use Rattle.rgo_core_frames.specs.steps.Actions.{ActionLaw, FrameLoadLaw};
+ghost use Rattle.rgo_core_frames.specs.steps.BeforeLaws.{BeforeLaw};
+ghost use Rattle.rgo_core_frames.specs.goroutines.Children.{GoLaw};
+ghost use Rattle.rgo_core_frames.specs.regions.Creations.{CreateLaw};
+ghost use Rattle.rgo_core_frames.specs.steps.Ends.{FinishLaw, TrapLaw};
 ghost use Rattle.rgo_core_frames.specs.Examples.{FrameExamples};
-ghost use Rattle.rgo_core_frames.specs.Ints.{IntsStay};
-ghost use Rattle.rgo_core_frames.specs.LocalLaws.{LocalLaw, StakesStay};
-ghost use Rattle.rgo_core_frames.specs.Makes.{MakingLaw, RegionLaw};
-ghost use Rattle.rgo_core_frames.specs.Meetings.{FrameAcknowledgeLaw, FrameMeetLaw, FrameOfferLaw, SentLaw};
-ghost use Rattle.rgo_core_frames.specs.NameTables.{TableLaws};
-ghost use Rattle.rgo_core_frames.specs.Opening.{FrameOpeningLaw};
-ghost use Rattle.rgo_core_frames.specs.Operands.{IntLaw, PointerLaw};
-ghost use Rattle.rgo_core_frames.specs.Pages.{PageLaw};
-ghost use Rattle.rgo_core_frames.specs.Prints.{PrintLaw};
-ghost use Rattle.rgo_core_frames.specs.Quiet.{QuietLaw};
-ghost use Rattle.rgo_core_frames.specs.Reserved.{ReservedLaw};
-ghost use Rattle.rgo_core_frames.specs.Stacks.{StackLaws};
-ghost use Rattle.rgo_core_frames.specs.Stakes.{StakeEndLaw, ShareLaw};
+ghost use Rattle.rgo_core_frames.specs.shown.Ints.{IntsStay};
+ghost use Rattle.rgo_core_frames.specs.steps.LocalLaws.{LocalLaw, StakesStay};
+ghost use Rattle.rgo_core_frames.specs.steps.Makes.{MakingLaw, RegionLaw};
+ghost use Rattle.rgo_core_frames.specs.goroutines.Meetings.{FrameAcknowledgeLaw, FrameMeetLaw, FrameOfferLaw, SentLaw};
+ghost use Rattle.rgo_core_frames.specs.shown.NameTables.{TableLaws};
+ghost use Rattle.rgo_core_frames.specs.goroutines.Opening.{FrameOpeningLaw};
+ghost use Rattle.rgo_core_frames.specs.shown.Operands.{IntLaw, PointerLaw};
+ghost use Rattle.rgo_core_frames.specs.regions.Pages.{PageLaw};
+ghost use Rattle.rgo_core_frames.specs.steps.Prints.{PrintLaw};
+ghost use Rattle.rgo_core_frames.specs.steps.Quiet.{QuietLaw};
+ghost use Rattle.rgo_core_frames.specs.regions.Reserved.{ReservedLaw};
+ghost use Rattle.rgo_core_frames.specs.shown.Stacks.{StackLaws};
+ghost use Rattle.rgo_core_frames.specs.regions.Stakes.{StakeEndLaw, ShareLaw};
 ghost use Rattle.rgo_core_frames.specs.States.{SoundStays};
 
 /// A state of a run of checked code is sound: the first is, and each step keeps it.

@@ -1,6 +1,6 @@
 //! The record of a goroutine, as a type that views can hold.
-ghost use Rattle.rgo_core_frames.specs.Records.{Rec};
-ghost use Rattle.rgo_core_frames.specs.Opening.{no_record};
+ghost use Rattle.rgo_core_frames.specs.Records.{FramesRec};
+ghost use Rattle.rgo_core_frames.specs.goroutines.Opening.{no_record};
 
 use std::marker::Model;
 
@@ -8,7 +8,7 @@ use std::marker::Model;
 pub struct FrameRecord;
 
 impl Model for FrameRecord {
-    ghost Value = { Rec };
+    ghost Value = { FramesRec };
 
     ghost view = { λ a. no_record };
 }

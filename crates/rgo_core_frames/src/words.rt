@@ -1,7 +1,7 @@
 //! Operators on words. A word has no kind: what it stands for follows from the type of its variable, so these never ask.
 
 ghost use Rattle.std.specs.Prelude.{◌≡◌};
-ghost use Rattle.rgo_core_frames.specs.Operators.{binary_on_words, negated_word, word_of};
+ghost use Rattle.rgo_core_frames.specs.shown.Operators.{binary_on_words, negated_word, word_of};
 
 use rgo_sound::ast::BinaryOp;
 use rgo_sound::memory::{Value, on_ints};

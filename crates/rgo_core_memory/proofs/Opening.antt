@@ -12,11 +12,11 @@ use Rattle.rgo_sound.specs.Typed.declared.types.Base.{Base}
 use Rattle.rgo_sound.specs.Typed.declared.types.Base.TheVariants as base
 use Rattle.rgo_sound.specs.Typed.declared.types.Layer.{Layer}
 use Rattle.rgo_core_memory.specs.declared.layout.TableSizes.{TableSizes}
-use Rattle.rgo_core_memory.specs.Words.{Words, ListHasWords, put, all_words, clock_at, made_at, state_at, next_at, count_at, head_at, cell_at, variable_at}
+use Rattle.rgo_core_memory.specs.Words.{Words, ListHasWords, put_at, all_words, clock_at, made_at, state_at, next_at, count_at, head_at, cell_at, variable_at}
 use Rattle.rgo_core_memory.specs.Encoding.{encode}
 use Rattle.rgo_core_memory.specs.Records.{Fill, Rest, Amid, Idle, Got, Hung, Calm, Past, Gave, Rec, HasRecord, Owns, Claims, ClosesSlot, ReturnsChain}
 use Rattle.rgo_core_memory.specs.Ground.{Held, IsLiveObject}
-use Rattle.rgo_core_memory.specs.Pages.{Free, Chained, Claimed, times}
+use Rattle.rgo_core_memory.specs.Pages.{Free, Chained, Claimed, occurrences}
 use Rattle.rgo_core_memory.specs.Parts.{Vacant, Living, Closing}
 use Rattle.rgo_core_memory.specs.Opening.{first_record, Opens}
 use Rattle.rgo_core_memory.proofs.pages.Paging.{none_at}
@@ -97,7 +97,7 @@ none_made k info e = cc
 pub opens : Opens
 opens code z enough =
     record {
-      w = record blank { count = put blank.count z.slots 2 };
+      w = record blank { count = put_at blank.count z.slots 2 };
       shows = writes_count z (set (replicate (all_words z) 0) made_at 1) blank (writes_made z (replicate (all_words z) 0) nothing
           (shows_nothing z) 1) z.slots 2 (omega arith);
       lies = record {
@@ -168,9 +168,9 @@ opens code z enough =
         global = sym (none_at (λ p. 0) z.pages z.slots (λ p l e. omega arith));
       };
       taken = record {
-        pages = λ p f. absurd (⊎_elim (λ l. omega arith) (λ u. let y : 0 < times p [] = subst (λ (y : Rec). 0 < times p y.tried_pages) (sym
+        pages = λ p f. absurd (⊎_elim (λ l. omega arith) (λ u. let y : 0 < occurrences p [] = subst (λ (y : Rec). 0 < occurrences p y.tried_pages) (sym
             (only u.0 u.1 u.2)) u.3 in omega (arith, y)) f);
         slots = λ s l f. absurd (⊎_elim (λ q. let y = put_else blank.count z.slots 2 s (λ e. omega arith) in omega (arith, q, y))
-            (λ u. let y : 0 < times s [] = subst (λ (y : Rec). 0 < times s y.tried_slots) (sym (only u.0 u.1 u.2)) u.3 in omega (arith, y)) f);
+            (λ u. let y : 0 < occurrences s [] = subst (λ (y : Rec). 0 < occurrences s y.tried_slots) (sym (only u.0 u.1 u.2)) u.3 in omega (arith, y)) f);
       };
     }

@@ -6,7 +6,7 @@ use Rattle.std.proofs.lemmas.List.{get_or-set_same, get_or-set_other}
 use mathlib.Core.Logic.{dite}
 use native.Mathlib.Decide.{ℕ_discrete}
 use Rattle.rgo_core_memory.specs.declared.layout.TableSizes.{TableSizes}
-use Rattle.rgo_core_memory.specs.Words.{Words, ListHasWords, put, put_two, clock_at, made_at, state_at, next_at, count_at, head_at, cell_at, variable_at}
+use Rattle.rgo_core_memory.specs.Words.{Words, ListHasWords, put_at, put_two, clock_at, made_at, state_at, next_at, count_at, head_at, cell_at, variable_at}
 use Rattle.rgo_core_memory.proofs.Puts.{put_here, put_else}
 
 pub pages_apart : (p q s : ℕ) → p < q → p * s + s ≤ q * s
@@ -61,7 +61,7 @@ module _ (z : TableSizes) (words : List ℕ) (w : Words) (k : ListHasWords z wor
     variable = λ n l. other words made_at (variable_at z n) x (omega arith) ∙ k.variable n l;
   }
 
-  pub writes_state : (p x : ℕ) → p < z.pages → ListHasWords z (set words (state_at z p) x) (record w { state = put w.state p x })
+  pub writes_state : (p x : ℕ) → p < z.pages → ListHasWords z (set words (state_at z p) x) (record w { state = put_at w.state p x })
   writes_state p x h = let wide = k.wide in record {
     wide = length-set words (state_at z p) x ∙ k.wide;
     clock = other words (state_at z p) clock_at x (omega arith) ∙ k.clock;
@@ -76,7 +76,7 @@ module _ (z : TableSizes) (words : List ℕ) (w : Words) (k : ListHasWords z wor
     variable = λ n l. other words (state_at z p) (variable_at z n) x (omega arith) ∙ k.variable n l;
   }
 
-  pub writes_next : (p x : ℕ) → p < z.pages → ListHasWords z (set words (next_at z p) x) (record w { next = put w.next p x })
+  pub writes_next : (p x : ℕ) → p < z.pages → ListHasWords z (set words (next_at z p) x) (record w { next = put_at w.next p x })
   writes_next p x h = let wide = k.wide in record {
     wide = length-set words (next_at z p) x ∙ k.wide;
     clock = other words (next_at z p) clock_at x (omega arith) ∙ k.clock;
@@ -91,7 +91,7 @@ module _ (z : TableSizes) (words : List ℕ) (w : Words) (k : ListHasWords z wor
     variable = λ n l. other words (next_at z p) (variable_at z n) x (omega arith) ∙ k.variable n l;
   }
 
-  pub writes_count : (r x : ℕ) → r < suc z.slots → ListHasWords z (set words (count_at z r) x) (record w { count = put w.count r x })
+  pub writes_count : (r x : ℕ) → r < suc z.slots → ListHasWords z (set words (count_at z r) x) (record w { count = put_at w.count r x })
   writes_count r x h = let wide = k.wide in record {
     wide = length-set words (count_at z r) x ∙ k.wide;
     clock = other words (count_at z r) clock_at x (omega arith) ∙ k.clock;
@@ -106,7 +106,7 @@ module _ (z : TableSizes) (words : List ℕ) (w : Words) (k : ListHasWords z wor
     variable = λ n l. other words (count_at z r) (variable_at z n) x (omega arith) ∙ k.variable n l;
   }
 
-  pub writes_head : (r x : ℕ) → r < suc z.slots → ListHasWords z (set words (head_at z r) x) (record w { head = put w.head r x })
+  pub writes_head : (r x : ℕ) → r < suc z.slots → ListHasWords z (set words (head_at z r) x) (record w { head = put_at w.head r x })
   writes_head r x h = let wide = k.wide in record {
     wide = length-set words (head_at z r) x ∙ k.wide;
     clock = other words (head_at z r) clock_at x (omega arith) ∙ k.clock;
@@ -132,15 +132,15 @@ module _ (z : TableSizes) (words : List ℕ) (w : Words) (k : ListHasWords z wor
     head = λ q l. other words (cell_at z p o) (head_at z q) x (omega arith) ∙ k.head q l;
     cell = λ q i l m. dite (ℕ_discrete q p)
         (λ e. dite (ℕ_discrete i o)
-        (λ s. rw (e, s, put_here w.cell p (put (w.cell p) o x) p refl, put_here (w.cell p) o x o refl) (here words (cell_at z p o) x (omega arith)))
-        (λ n. rw (e, put_here w.cell p (put (w.cell p) o x) p refl, put_else (w.cell p) o x i n) (other words (cell_at z p o) (cell_at z p i) x
+        (λ s. rw (e, s, put_here w.cell p (put_at (w.cell p) o x) p refl, put_here (w.cell p) o x o refl) (here words (cell_at z p o) x (omega arith)))
+        (λ n. rw (e, put_here w.cell p (put_at (w.cell p) o x) p refl, put_else (w.cell p) o x i n) (other words (cell_at z p o) (cell_at z p i) x
         (λ y. n (omega arith)) ∙ k.cell p i h m)))
-        (λ n. rw (put_else w.cell p (put (w.cell p) o x) q n) (other words (cell_at z p o) (cell_at z q i) x
+        (λ n. rw (put_else w.cell p (put_at (w.cell p) o x) q n) (other words (cell_at z p o) (cell_at z q i) x
         (λ y. far q p z.page_words i o n m in_page (omega arith)) ∙ k.cell q i l m));
     variable = λ n l. other words (cell_at z p o) (variable_at z n) x (omega arith) ∙ k.variable n l;
   }
 
-  pub writes_variable : (n x : ℕ) → n < z.variables → ListHasWords z (set words (variable_at z n) x) (record w { variable = put w.variable n x })
+  pub writes_variable : (n x : ℕ) → n < z.variables → ListHasWords z (set words (variable_at z n) x) (record w { variable = put_at w.variable n x })
   writes_variable n x h = let wide = k.wide in record {
     wide = length-set words (variable_at z n) x ∙ k.wide;
     clock = other words (variable_at z n) clock_at x (omega arith) ∙ k.clock;

@@ -14,7 +14,7 @@ use Rattle.rgo_sound.specs.Tac.Frames.{TacFrame, operand_values}
 use Rattle.rgo_core_memory.specs.declared.layout.TableSizes.{TableSizes}
 use Rattle.rgo_core_memory.specs.Words.{variable_at}
 use Rattle.rgo_core_memory.specs.Records.{Rec}
-use Rattle.rgo_core_memory.specs.Image.{Where, StateImage, word_at, code_of}
+use Rattle.rgo_core_memory.specs.Image.{Where, StateImage, word_at, word_of_value}
 
 -- goroutine g performs this action on these operands next
 pub record Before (code : Code) (s : RegionState) (g : ℕ) (action : Action) (values : List Value) : Type 0 where
@@ -37,7 +37,7 @@ StoreKeeps = (code : Code) (z : TableSizes) (words : List ℕ) (recs : List Rec)
     → (places : Where) → StateImage z words recs s places → region_step code z.page_words s (Instruct (One g)) ≡ Some t
     → Before code s g (action.Store n) (value.Object o ∷ v ∷ [])
     → slice_get s.plain.memory.heap o ≡ Some (StructObject cells)
-    → n < length cells → StateImage z (slice_set words (word_at z places o n) (code_of z places v)) recs t places
+    → n < length cells → StateImage z (slice_set words (word_at z places o n) (word_of_value z places v)) recs t places
 
 abbrev pub PutKeeps : Type 0
 PutKeeps = (code : Code) (z : TableSizes) (words : List ℕ) (recs : List Rec) (s t : RegionState) (g o n : ℕ)
@@ -45,13 +45,13 @@ PutKeeps = (code : Code) (z : TableSizes) (words : List ℕ) (recs : List Rec) (
     → (places : Where) → StateImage z words recs s places → region_step code z.page_words s (Instruct (One g)) ≡ Some t
     → Before code s g action.Put (value.Object o ∷ value.Int (pos n) ∷ v ∷ [])
     → slice_get s.plain.memory.heap o ≡ Some (SliceObject cells)
-    → n < length cells → StateImage z (slice_set words (word_at z places o (suc n)) (code_of z places v)) recs t places
+    → n < length cells → StateImage z (slice_set words (word_at z places o (suc n)) (word_of_value z places v)) recs t places
 
 abbrev pub SetKeeps : Type 0
 SetKeeps = (code : Code) (z : TableSizes) (words : List ℕ) (recs : List Rec) (s t : RegionState) (g n : ℕ) (v : Value)
     → (places : Where) → StateImage z words recs s places → region_step code z.page_words s (Instruct (One g)) ≡ Some t
     → Before code s g (action.Set n) (v ∷ []) → n < length s.plain.memory.variables
-    → StateImage z (slice_set words (variable_at z n) (code_of z places v)) recs t places
+    → StateImage z (slice_set words (variable_at z n) (word_of_value z places v)) recs t places
 
 -- ---- loads: the word is the value's that the instruction reads
 
@@ -60,7 +60,7 @@ LoadReads = (code : Code) (z : TableSizes) (words : List ℕ) (recs : List Rec) 
     (v : Value) (cells : List Value)
     → (places : Where) → StateImage z words recs s places → region_step code z.page_words s (Instruct (One g)) ≡ Some t
     → Before code s g (action.Load n) (value.Object o ∷ []) → slice_get s.plain.memory.heap o ≡ Some (StructObject cells)
-    → slice_get cells n ≡ Some v → (slice_index words (word_at z places o n) ≡ code_of z places v)
+    → slice_get cells n ≡ Some v → (slice_index words (word_at z places o n) ≡ word_of_value z places v)
     × StateImage z words recs t places
 
 abbrev pub AtReads : Type 0
@@ -69,7 +69,7 @@ AtReads = (code : Code) (z : TableSizes) (words : List ℕ) (recs : List Rec) (s
     → (places : Where) → StateImage z words recs s places → region_step code z.page_words s (Instruct (One g)) ≡ Some t
     → Before code s g action.At (value.Object o ∷ value.Int (pos n) ∷ [])
     → slice_get s.plain.memory.heap o ≡ Some (SliceObject cells)
-    → slice_get cells n ≡ Some v → (slice_index words (word_at z places o (suc n)) ≡ code_of z places v)
+    → slice_get cells n ≡ Some v → (slice_index words (word_at z places o (suc n)) ≡ word_of_value z places v)
     × StateImage z words recs t places
 
 abbrev pub LenReads : Type 0
@@ -77,11 +77,11 @@ LenReads = (code : Code) (z : TableSizes) (words : List ℕ) (recs : List Rec) (
     (cells : List Value)
     → (places : Where) → StateImage z words recs s places → region_step code z.page_words s (Instruct (One g)) ≡ Some t
     → Before code s g action.Len (value.Object o ∷ []) → slice_get s.plain.memory.heap o ≡ Some (SliceObject cells)
-    → (slice_index words (word_at z places o 0) ≡ code_of z places (value.Int (pos (length cells))))
+    → (slice_index words (word_at z places o 0) ≡ word_of_value z places (value.Int (pos (length cells))))
     × StateImage z words recs t places
 
 abbrev pub GetReads : Type 0
 GetReads = (code : Code) (z : TableSizes) (words : List ℕ) (recs : List Rec) (s t : RegionState) (g n : ℕ) (v : Value)
     → (places : Where) → StateImage z words recs s places → region_step code z.page_words s (Instruct (One g)) ≡ Some t
     → Before code s g (action.Get n) [] → slice_get s.plain.memory.variables n ≡ Some v
-    → (slice_index words (variable_at z n) ≡ code_of z places v) × StateImage z words recs t places
+    → (slice_index words (variable_at z n) ≡ word_of_value z places v) × StateImage z words recs t places

@@ -16,9 +16,9 @@ use Rattle.rgo_sound.specs.RegionMachine.declared.regions.Region.{Region}
 use Rattle.rgo_sound.specs.Good.{AllGood}
 use Rattle.rgo_sound.specs.Tac.Steps.{destination_type}
 use Rattle.rgo_core_memory.specs.declared.layout.TableSizes.{TableSizes}
-use Rattle.rgo_core_memory.specs.Words.{put, cell_at}
-use Rattle.rgo_core_memory.specs.Encoding.{content, opening}
-use Rattle.rgo_core_memory.specs.Records.{Fill, Rec, HasRecord, with_word, with_object, with_word_apart, with_object_apart}
+use Rattle.rgo_core_memory.specs.Words.{put_at, cell_at}
+use Rattle.rgo_core_memory.specs.Encoding.{content, opening_word}
+use Rattle.rgo_core_memory.specs.Records.{Fill, Rec, HasRecord, with_word, with_object_in_page, with_word_apart, with_object_apart}
 use Rattle.rgo_core_memory.specs.Parts.{slot_of, RecordMakes, MakesApart, Covers, CoversApart}
 use Rattle.rgo_core_memory.specs.Spread.{lead_spot, spread_spot, spread_opening, table_words}
 use Rattle.rgo_core_memory.specs.Image.{Where, StateImage}
@@ -42,7 +42,7 @@ abbrev pub WordKeeps : Type 0
 WordKeeps = (z : TableSizes) (words : List ℕ) (recs : List Rec) (s : RegionState) (g i : ℕ) (c : Rec) (f : Fill)
     (object : Object) (stored : List ℕ)
     → (places : Where) → StateImage z words recs s places → HasRecord recs g c → RecordMakes z c f object stored → i < words_in object
-    → StateImage z (slice_set words (cell_at z f.page (f.fill + i)) (opening (content object i))) (slice_set recs g
+    → StateImage z (slice_set words (cell_at z f.page (f.fill + i)) (opening_word (content object i))) (slice_set recs g
     (with_word c f object (i ∷ stored))) s places
 
 -- the same of a spread object: the word and the place are those of the reserved pages
@@ -64,12 +64,12 @@ AllocationKeeps = (code : Code) (z : TableSizes) (words : List ℕ) (recs : List
     → MakesNext code s g h r object → slot_of z places.slot r ≡ f.slot → RecordMakes z c f object stored
     → i < words_in object → Covers object (i ∷ stored)
     → region_step code z.page_words s (Instruct (One g)) ≡ Some t
-    → StateImage z (slice_set words (cell_at z f.page (f.fill + i)) (opening (content object i)))
-    (slice_set recs g (with_object c f.slot (f.fill + words_in object))) t
+    → StateImage z (slice_set words (cell_at z f.page (f.fill + i)) (opening_word (content object i)))
+    (slice_set recs g (with_object_in_page c f.slot (f.fill + words_in object))) t
     (record places {
-      spot = put places.spot (length s.plain.memory.heap)
+      spot = put_at places.spot (length s.plain.memory.heap)
           (λ i. record { page = f.page; offset = f.fill + i });
-      start = put places.start (length s.plain.memory.heap) (record { page = f.page; offset = f.fill });
+      start = put_at places.start (length s.plain.memory.heap) (record { page = f.page; offset = f.fill });
     })
 
 -- the same of a spread object
@@ -85,6 +85,6 @@ AllocationKeepsApart = (code : Code) (z : TableSizes) (words : List ℕ) (recs :
     (spread_spot z.page_words object c.reserved.pages i).offset) (spread_opening object c.reserved.pages i))
     (slice_set recs g (with_object_apart c)) t
     (record places {
-      spot = put places.spot (length s.plain.memory.heap) (spread_spot z.page_words object c.reserved.pages);
-      start = put places.start (length s.plain.memory.heap) (lead_spot c.reserved.pages 0);
+      spot = put_at places.spot (length s.plain.memory.heap) (spread_spot z.page_words object c.reserved.pages);
+      start = put_at places.start (length s.plain.memory.heap) (lead_spot c.reserved.pages 0);
     })

@@ -4,7 +4,7 @@ use Rattle.rgo_sound.specs.Code.Code.{Code}
 use Rattle.rgo_sound.specs.RegionMachine.States.{RegionState}
 use Rattle.rgo_sound.specs.Good.{AllGood}
 use Rattle.rgo_core_memory.specs.declared.layout.TableSizes.{TableSizes}
-use Rattle.rgo_core_memory.specs.Words.{put, state_at, next_at, count_at, head_at}
+use Rattle.rgo_core_memory.specs.Words.{put_at, state_at, next_at, count_at, head_at}
 use Rattle.rgo_core_memory.specs.Records.{Idle, Got, Hung, Calm, Owes, Giving, Past, Gave, Located, Measured, Rec, HasRecord, with_claim, with_give, with_located, with_measured, with_tried_page, with_tried_slot}
 use Rattle.rgo_core_memory.specs.Pages.{Free, Chained}
 use Rattle.rgo_core_memory.specs.Parts.{Vacant}
@@ -23,11 +23,11 @@ HangKeeps = Keeps (λ z words recs s places g c. (p r : ℕ) → c.claim ≡ Got
     → StateImage z (slice_set words (head_at z r) (suc p)) (slice_set recs g (with_claim c (Hung p r (slice_index words
     (head_at z r))))) s
     (record places {
-      at = put places.at p (Chained r);
-      chain = put places.chain r
+      at = put_at places.at p (Chained r);
+      chain = put_at places.chain r
           (p ∷ places.chain r);
-      link = put places.link p (slice_index words (head_at z r));
-      top = put places.top r
+      link = put_at places.link p (slice_index words (head_at z r));
+      top = put_at places.top r
           (suc p);
     }))
 
@@ -51,10 +51,10 @@ abbrev pub FreeKeeps : Type 0
 FreeKeeps = Keeps (λ z words recs s places g c. (r p q : ℕ) → c.give ≡ Past r (suc p) q
     → StateImage z (slice_set words (state_at z p) 0) (slice_set recs g (with_give c (Giving r q))) s
     (record places {
-      at = put places.at p Free;
-      chain = put places.chain r (drop 1
+      at = put_at places.at p Free;
+      chain = put_at places.chain r (drop 1
           (places.chain r));
-      top = put places.top r q;
+      top = put_at places.top r q;
     }))
 
 -- no page is left: the head is cleared
@@ -66,7 +66,7 @@ ClearKeeps = Keeps (λ z words recs s places g c. (r : ℕ) → c.give ≡ Givin
 abbrev pub SlotKeeps : Type 0
 SlotKeeps = Keeps (λ z words recs s places g c. (r : ℕ) → c.give ≡ Gave r
     → StateImage z (slice_set words (count_at z r) 0) (slice_set recs g (with_give c Calm)) s
-    (record places { uses = put places.uses r Vacant }))
+    (record places { uses = put_at places.uses r Vacant }))
 
 -- a page, or a slot, was found in use
 abbrev pub TriedPageKeeps : Type 0

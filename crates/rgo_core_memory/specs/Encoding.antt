@@ -39,9 +39,9 @@ IsPlain value.Nil = Unit {0}
 IsPlain (value.Object o) = ⊥
 
 -- the first value of such a word
-abbrev pub opening : Option Value → ℕ
-opening None = 0
-opening (Some v) = encode (λ o. 0) v
+abbrev pub opening_word : Option Value → ℕ
+opening_word None = 0
+opening_word (Some v) = encode (λ o. 0) v
 
 -- the object that is the other with another value in one word
 pub record ChangesWord (object : Object) (i : ℕ) (v : Value) (after : Object) : Type 0 where

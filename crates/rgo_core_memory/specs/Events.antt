@@ -14,8 +14,8 @@ use Rattle.rgo_sound.specs.RegionMachine.declared.regions.Region.{Region}
 use Rattle.rgo_sound.specs.RegionMachine.declared.regions.Region.TheVariants.{Numbered}
 use Rattle.rgo_sound.specs.Good.{AllGood}
 use Rattle.rgo_core_memory.specs.declared.layout.TableSizes.{TableSizes}
-use Rattle.rgo_core_memory.specs.Words.{put, state_at, count_at}
-use Rattle.rgo_core_memory.specs.Records.{Fill, Rest, Amid, Idle, Calm, Owes, Rec, HasRecord, Claims, with_page, with_give, without_slot}
+use Rattle.rgo_core_memory.specs.Words.{put_at, state_at, count_at}
+use Rattle.rgo_core_memory.specs.Records.{Fill, Rest, Amid, Idle, Calm, Owes, Rec, HasRecord, Claims, with_own_page, with_give, without_slot}
 use Rattle.rgo_core_memory.specs.Parts.{slot_of, Living, Closing}
 use Rattle.rgo_core_memory.specs.Ground.{ground_of, taken_of}
 use Rattle.rgo_core_memory.specs.Pages.{Claimed}
@@ -30,7 +30,7 @@ CreateKeeps = (code : Code) (z : TableSizes) (words : List ℕ) (recs : List Rec
     → h.duties ≡ Create name ∷ ds
     → region_step code z.page_words s (Attend g) ≡ Some t → r < z.slots → slice_index words (count_at z r) ≡ 0
     → StateImage z (slice_set words (count_at z r) 2) recs t
-    (record places { slot = put places.slot (length s.regions) r; uses = put places.uses r (Living (length s.regions)) })
+    (record places { slot = put_at places.slot (length s.regions) r; uses = put_at places.uses r (Living (length s.regions)) })
 
 -- a stake is taken for a goroutine that is about to start
 abbrev pub ShareKeeps : Type 0
@@ -78,7 +78,7 @@ LastLeaveKeeps = (code : Code) (z : TableSizes) (words : List ℕ) (recs : List 
     → slice_index words (count_at z (places.slot j)) ≡ 2
     → StateImage z (slice_set words (count_at z (places.slot j)) (slice_index words (count_at z (places.slot j)) - 1))
     (slice_set recs g (with_give (without_slot c (places.slot j)) (Owes (places.slot j)))) t
-    (record places { uses = put places.uses (places.slot j) (Closing g) })
+    (record places { uses = put_at places.uses (places.slot j) (Closing g) })
 
 -- the goroutine's next instruction makes an object in this region
 abbrev pub NextMakesObjectIn : Code → RegionState → ℕ → Holder → Region → Type 0
@@ -100,9 +100,9 @@ PageKeeps = (code : Code) (z : TableSizes) (words : List ℕ) (recs : List Rec) 
     → NextMakesObjectIn code s g h r → NextIsSpread code z.page_words s g false
     → region_step code z.page_words s (TakePage g) ≡ Some t → c.claim ≡ Idle → c.make ≡ Rest → p < z.pages
     → slice_index words (state_at z p) ≡ 0
-    → StateImage z (slice_set words (state_at z p) (suc (slot_of z places.slot r))) (slice_set recs g (with_page c p
+    → StateImage z (slice_set words (state_at z p) (suc (slot_of z places.slot r))) (slice_set recs g (with_own_page c p
     (slot_of z places.slot r))) t
-    (record places { at = put places.at p (Claimed g); page = put places.page (taken_of (ground_of s)) p })
+    (record places { at = put_at places.at p (Claimed g); page = put_at places.page (taken_of (ground_of s)) p })
 
 -- the same for a spread object
 abbrev pub ReservedPageKeeps : Type 0
@@ -115,4 +115,4 @@ ReservedPageKeeps = (code : Code) (z : TableSizes) (words : List ℕ) (recs : Li
     → slice_index words (state_at z p) ≡ 0
     → StateImage z (slice_set words (state_at z p) (suc (slot_of z places.slot r))) (slice_set recs g (with_reserved c p
     (slot_of z places.slot r))) t
-    (record places { at = put places.at p (Claimed g); page = put places.page (taken_of (ground_of s)) p })
+    (record places { at = put_at places.at p (Claimed g); page = put_at places.page (taken_of (ground_of s)) p })

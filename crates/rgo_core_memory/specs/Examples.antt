@@ -12,7 +12,7 @@ use Rattle.rgo_core_memory.specs.Opening.{first_record, first_words, nowhere}
 use Rattle.rgo_core_memory.specs.Owed.{owed}
 use Rattle.rgo_core_memory.specs.Pages.{PageChain}
 use Rattle.rgo_core_memory.specs.Parts.{Closing, Living, Own, Use, Vacant, pages_at}
-use Rattle.rgo_core_memory.specs.Records.{Calm, Claims, ClosesSlot, Fill, Giving, ReturnsChain, Got, Idle, Owes, Owns, Past, Rec, with_page, without_slot}
+use Rattle.rgo_core_memory.specs.Records.{Calm, Claims, ClosesSlot, Fill, Giving, ReturnsChain, Got, Idle, Owes, Owns, Past, Rec, with_own_page, without_slot}
 use Rattle.rgo_core_memory.specs.Words.{ListHasWords, Words, all_words, base, cell_at, clock_at, count_at, head_at, made_at, next_at, state_at, variable_at}
 
 -- one page of four words, one slot for a region, one package variable
@@ -49,8 +49,8 @@ states p = if p == 1 then 2 else 1
 abbrev pub first_alone : ℕ → ℕ → ℕ
 first_alone n p = if p == 0 then n else 0
 
-abbrev pub with_one : Rec
-with_one = with_page first_record 3 1
+abbrev pub with_one_page : Rec
+with_one_page = with_own_page first_record 3 1
 
 pub record MemoryExamples : Type 0 where
   -- ---- where the words are
@@ -112,10 +112,10 @@ pub record MemoryExamples : Type 0 where
   pub reserves : (with_reserved (with_reserved first_record 4 1) 7 1).reserved.pages ≡ 4 ∷ 7 ∷ []
   pub reserves_alone : (with_reserved first_record 4 1).fills ≡ []
   pub gives_all_up : (with_object_apart (with_reserved first_record 4 1)).reserved.pages ≡ []
-  pub owns : Owns (with_one ∷ []) 0 (record { slot = 1; page = 3; fill = 0 })
+  pub owns : Owns (with_one_page ∷ []) 0 (record { slot = 1; page = 3; fill = 0 })
   pub owns_not : (f : Fill) → Owns (first_record ∷ []) 0 f → ⊥
-  pub drops : (without_slot with_one 1).fills ≡ []
-  pub keeps : (without_slot with_one 0).fills ≡ with_one.fills
+  pub drops : (without_slot with_one_page 1).fills ≡ []
+  pub keeps : (without_slot with_one_page 0).fills ≡ with_one_page.fills
   pub claims : Claims (Got 3 1) 1
   pub claims_not : Claims Idle 1 → ⊥
   pub closes : ClosesSlot (Owes 4) 4

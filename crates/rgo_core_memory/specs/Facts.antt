@@ -15,7 +15,7 @@ use Rattle.rgo_core_memory.specs.Words.{cell_at, base, all_words, count_at, stat
 use Rattle.rgo_core_memory.specs.Encoding.{address, content}
 use Rattle.rgo_core_memory.specs.Records.{Fill, Rec, HasRecord, Owns}
 use Rattle.rgo_core_memory.specs.Ground.{Ground, IsLiveObject, ground_of, stored, taken_of}
-use Rattle.rgo_core_memory.specs.Pages.{times}
+use Rattle.rgo_core_memory.specs.Pages.{occurrences}
 use Rattle.rgo_core_memory.specs.Image.{Where, MemoryImage, StateImage, word_at}
 
 -- the object is in a live region of the state
@@ -61,8 +61,8 @@ CountIsSmall = (code : Code) (z : TableSizes) (words : List ℕ) (recs : List Re
 abbrev pub AllFound : Type 0
 AllFound = (z : TableSizes) (words : List ℕ) (recs : List Rec) (s : RegionState) (places : Where)
     → StateImage z words recs s places → (g : ℕ) (c : Rec) → HasRecord recs g c
-    → (((p : ℕ) → p < z.pages → 0 < times p c.tried_pages) → z.pages ≤ taken_of (ground_of s))
-    × (((r : ℕ) → r < z.slots → 0 < times r c.tried_slots) → z.slots ≤ length s.regions)
+    → (((p : ℕ) → p < z.pages → 0 < occurrences p c.tried_pages) → z.pages ≤ taken_of (ground_of s))
+    × (((r : ℕ) → r < z.slots → 0 < occurrences r c.tried_slots) → z.slots ≤ length s.regions)
 
 -- where a page is free, fewer are in use than there are; where a slot is, fewer regions are live
 abbrev pub SomeLeft : Type 0

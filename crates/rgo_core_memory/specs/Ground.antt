@@ -68,8 +68,8 @@ abbrev pub assigned : Ground → ℕ → Value → Ground
 assigned x n v = record x { variables = slice_set x.variables n v }
 
 -- an object is made in a region; n words of the own page are then filled
-abbrev pub made : Ground → ℕ → Held → Region → Object → ℕ → Ground
-made x g h r object n = record x {
+abbrev pub made_in_page : Ground → ℕ → Held → Region → Object → ℕ → Ground
+made_in_page x g h r object n = record x {
   heap = x.heap ++ object ∷ [];
   owners = x.owners ++ r ∷ [];
   held = slice_set x.held g (record h { fills = with_fill h.fills r n });
@@ -92,21 +92,21 @@ one_page x g h (Numbered k) = record x {
 }
 
 -- the page is filled from its beginning
-abbrev pub page_taken : Ground → ℕ → Held → Region → Ground
-page_taken x g h r = one_page x g (record h { fills = with_fill h.fills r 0 }) r
+abbrev pub own_page_taken : Ground → ℕ → Held → Region → Ground
+own_page_taken x g h r = one_page x g (record h { fills = with_fill h.fills r 0 }) r
 
 -- it is for a spread object
 abbrev pub page_reserved : Ground → ℕ → Held → Region → Ground
 page_reserved x g h r = one_page x g (record h { reserved = h.reserved + 1 }) r
 
-abbrev pub created : Ground → ℕ → Held → Ground
-created x g h = record x {
+abbrev pub with_new_region : Ground → ℕ → Held → Ground
+with_new_region x g h = record x {
   regions = x.regions ++ record { stakes = 1; pages = 0 } ∷ [];
   held = slice_set x.held g (record h { stakes = length x.regions ∷ h.stakes });
 }
 
-abbrev pub shared : Ground → ℕ → Ground
-shared x k = record x { regions = with_info x.regions k with_added_stake }
+abbrev pub region_shared : Ground → ℕ → Ground
+region_shared x k = record x { regions = with_info x.regions k with_added_stake }
 
 abbrev pub left : Ground → ℕ → Held → ℕ → Ground
 left x g h k = record x {

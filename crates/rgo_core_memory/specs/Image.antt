@@ -46,5 +46,5 @@ StateImage z words recs s places = MemoryImage z words recs (ground_of s) places
 abbrev pub word_at : TableSizes → Where → ℕ → ℕ → ℕ
 word_at z places o i = cell_at z (places.spot o i).page (places.spot o i).offset
 
-abbrev pub code_of : TableSizes → Where → Value → ℕ
-code_of z places v = encode (address z places.start) v
+abbrev pub word_of_value : TableSizes → Where → Value → ℕ
+word_of_value z places v = encode (address z places.start) v

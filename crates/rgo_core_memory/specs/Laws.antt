@@ -16,14 +16,14 @@ use Rattle.rgo_core_memory.specs.Accesses.{Before}
 use Rattle.rgo_core_memory.specs.declared.layout.TableSizes.{TableSizes}
 use Rattle.rgo_core_memory.specs.Words.{variable_at}
 use Rattle.rgo_core_memory.specs.Records.{Rec}
-use Rattle.rgo_core_memory.specs.Image.{Where, StateImage, word_at, code_of}
+use Rattle.rgo_core_memory.specs.Image.{Where, StateImage, word_at, word_of_value}
 
 abbrev pub MemoryLoadLaw : Type 0
 MemoryLoadLaw = (code : Code) (z : TableSizes) (words : List ℕ) (recs : List Rec) (s t : RegionState) (g o n : ℕ)
     (places : Where) → IsChecked code → AllGood code s
     → StateImage z words recs s places → region_step code z.page_words s (Instruct (One g)) ≡ Some t
     → Before code s g (action.Load n) (value.Object o ∷ [])
-    → (slice_index words (word_at z places o n) ≡ code_of z places (field_value (slice_get s.plain.memory.heap o) n))
+    → (slice_index words (word_at z places o n) ≡ word_of_value z places (field_value (slice_get s.plain.memory.heap o) n))
     × StateImage z words recs t places
 
 abbrev pub LenLaw : Type 0
@@ -31,7 +31,7 @@ LenLaw = (code : Code) (z : TableSizes) (words : List ℕ) (recs : List Rec) (s 
     (places : Where) → IsChecked code → AllGood code s
     → StateImage z words recs s places → region_step code z.page_words s (Instruct (One g)) ≡ Some t
     → Before code s g action.Len (value.Object o ∷ [])
-    → (slice_index words (word_at z places o 0) ≡ code_of z places (length_in (slice_get s.plain.memory.heap o)))
+    → (slice_index words (word_at z places o 0) ≡ word_of_value z places (length_in (slice_get s.plain.memory.heap o)))
     × StateImage z words recs t places
 
 abbrev pub GetLaw : Type 0
@@ -39,7 +39,7 @@ GetLaw = (code : Code) (z : TableSizes) (words : List ℕ) (recs : List Rec) (s 
     (places : Where) → IsChecked code → AllGood code s
     → StateImage z words recs s places → region_step code z.page_words s (Instruct (One g)) ≡ Some t
     → Before code s g (action.Get n) []
-    → (slice_index words (variable_at z n) ≡ code_of z places (or_nil (slice_get s.plain.memory.variables n)))
+    → (slice_index words (variable_at z n) ≡ word_of_value z places (or_nil (slice_get s.plain.memory.variables n)))
     × StateImage z words recs t places
 
 abbrev pub StoreLaw : Type 0
@@ -47,14 +47,14 @@ StoreLaw = (code : Code) (z : TableSizes) (words : List ℕ) (recs : List Rec) (
     (v : Value) (places : Where) → IsChecked code → AllGood code s
     → StateImage z words recs s places → region_step code z.page_words s (Instruct (One g)) ≡ Some t
     → Before code s g (action.Store n) (value.Object o ∷ v ∷ [])
-    → StateImage z (slice_set words (word_at z places o n) (code_of z places v)) recs t places
+    → StateImage z (slice_set words (word_at z places o n) (word_of_value z places v)) recs t places
 
 abbrev pub SetLaw : Type 0
 SetLaw = (code : Code) (z : TableSizes) (words : List ℕ) (recs : List Rec) (s t : RegionState) (g n : ℕ) (v : Value)
     (places : Where) → IsChecked code → AllGood code s
     → StateImage z words recs s places → region_step code z.page_words s (Instruct (One g)) ≡ Some t
     → Before code s g (action.Set n) (v ∷ [])
-    → StateImage z (slice_set words (variable_at z n) (code_of z places v)) recs t places
+    → StateImage z (slice_set words (variable_at z n) (word_of_value z places v)) recs t places
 
 -- an element of a slice, within its length
 abbrev pub AtLaw : Type 0
@@ -64,7 +64,7 @@ AtLaw = (code : Code) (z : TableSizes) (words : List ℕ) (recs : List Rec) (s t
     → Before code s g action.At (value.Object o ∷ value.Int (pos n) ∷ [])
     → length_in (slice_get s.plain.memory.heap o) ≡ value.Int (pos m) → n < m
     → (v : Value) × (element_in (slice_get s.plain.memory.heap o) (pos n) ≡ Ok v)
-    × (slice_index words (word_at z places o (suc n)) ≡ code_of z places v)
+    × (slice_index words (word_at z places o (suc n)) ≡ word_of_value z places v)
     × StateImage z words recs t places
 
 abbrev pub PutLaw : Type 0
@@ -73,4 +73,4 @@ PutLaw = (code : Code) (z : TableSizes) (words : List ℕ) (recs : List Rec) (s 
     → StateImage z words recs s places → region_step code z.page_words s (Instruct (One g)) ≡ Some t
     → Before code s g action.Put (value.Object o ∷ value.Int (pos n) ∷ v ∷ [])
     → length_in (slice_get s.plain.memory.heap o) ≡ value.Int (pos m) → n < m
-    → StateImage z (slice_set words (word_at z places o (suc n)) (code_of z places v)) recs t places
+    → StateImage z (slice_set words (word_at z places o (suc n)) (word_of_value z places v)) recs t places

@@ -5,7 +5,7 @@ use Rattle.rgo_sound.specs.RegionMachine.Regions.{RegionInfo}
 use Rattle.rgo_sound.specs.RegionMachine.States.{RegionState}
 use Rattle.rgo_sound.specs.Good.{AllGood}
 use Rattle.rgo_core_memory.specs.declared.layout.TableSizes.{TableSizes}
-use Rattle.rgo_core_memory.specs.Words.{put, state_at, count_at}
+use Rattle.rgo_core_memory.specs.Words.{put_at, state_at, count_at}
 use Rattle.rgo_core_memory.specs.Records.{Past, Gave, Rec, HasRecord}
 use Rattle.rgo_core_memory.specs.Parts.{Use, Vacant, Living, Closing, pages_at}
 use Rattle.rgo_core_memory.specs.Image.{Where, StateImage}
@@ -29,7 +29,7 @@ pub record StillOwed : Type 0 where
   pub leave : (z : TableSizes) (words : List ℕ) (recs : List Rec) (s : RegionState) (places : Where)
       → StateImage z words recs s places
       → (g j n : ℕ) (info : RegionInfo) → slice_get s.regions j ≡ Some info → 0 < info.stakes
-      → to_free z (slice_set words (count_at z (places.slot j)) n) (put places.uses (places.slot j)
+      → to_free z (slice_set words (count_at z (places.slot j)) n) (put_at places.uses (places.slot j)
       (Closing g)) ≡ to_free z words places.uses + info.pages
   pub free : (code : Code) (z : TableSizes) (words : List ℕ) (recs : List Rec) (s : RegionState) (places : Where)
       → AllGood code s → StateImage z words recs s places
@@ -38,7 +38,7 @@ pub record StillOwed : Type 0 where
   pub slot : (code : Code) (z : TableSizes) (words : List ℕ) (recs : List Rec) (s : RegionState) (places : Where)
       → AllGood code s → StateImage z words recs s places
       → (g r : ℕ) (c : Rec) → HasRecord recs g c → c.give ≡ Gave r
-      → to_free z (slice_set words (count_at z r) 0) (put places.uses r Vacant) ≡ to_free z words places.uses
+      → to_free z (slice_set words (count_at z r) 0) (put_at places.uses r Vacant) ≡ to_free z words places.uses
 
 -- ---- slot by slot
 

@@ -8,9 +8,9 @@ pub data Place : Type 0 where
   Chained : (slot : ℕ) → Place
   Claimed : (goroutine : ℕ) → Place
 
-abbrev pub times : ℕ → List ℕ → ℕ
-times x [] = 0
-times x (y ∷ ys) = if y == x then suc (times x ys) else times x ys
+abbrev pub occurrences : ℕ → List ℕ → ℕ
+occurrences x [] = 0
+occurrences x (y ∷ ys) = if y == x then suc (occurrences x ys) else occurrences x ys
 
 -- from this head the links lead through these pages
 abbrev pub PageChain : (ℕ → ℕ) → ℕ → List ℕ → Type 0
@@ -23,11 +23,11 @@ pub record Pages (states nexts heads : ℕ → ℕ) (recs : List Rec) (at : ℕ 
     → ℕ) : Type 0
   where
     pub is_free : (p : ℕ) → at p ≡ Free → states p ≡ 0
-    pub is_chained : (p r : ℕ) → at p ≡ Chained r → (states p ≡ suc r) × (0 < times p (chain r))
+    pub is_chained : (p r : ℕ) → at p ≡ Chained r → (states p ≡ suc r) × (0 < occurrences p (chain r))
     pub is_claimed : (p g : ℕ) → at p ≡ Claimed g → (r : ℕ) × (c : Rec) × HasRecord recs g c × (c.claim ≡ Got p r)
         × (states p ≡ suc r)
-    pub on : (r p : ℕ) → 0 < times p (chain r) → at p ≡ Chained r
-    pub once : (r p : ℕ) → times p (chain r) ≤ 1
+    pub on : (r p : ℕ) → 0 < occurrences p (chain r) → at p ≡ Chained r
+    pub once : (r p : ℕ) → occurrences p (chain r) ≤ 1
     pub chains : (r : ℕ) → PageChain link (top r) (chain r)
     pub links : (p r : ℕ) → at p ≡ Chained r → (nexts p ≡ link p) ⊎ ((g : ℕ) × (c : Rec) × HasRecord recs g c
         × (c.claim ≡ Hung p r (link p)))

@@ -9,11 +9,11 @@ use Rattle.rgo_sound.specs.RegionMachine.Regions.{RegionInfo}
 use Rattle.rgo_sound.specs.RegionMachine.declared.regions.Region.{Region}
 use Rattle.rgo_sound.specs.RegionMachine.declared.regions.Region.TheVariants.{Global as GlobalRegion, Numbered}
 use Rattle.rgo_core_memory.specs.declared.layout.TableSizes.{TableSizes}
-use Rattle.rgo_core_memory.specs.Encoding.{Spot, address, encode, content, IsPlain, opening}
+use Rattle.rgo_core_memory.specs.Encoding.{Spot, address, encode, content, IsPlain, opening_word}
 use Rattle.rgo_core_memory.specs.Ground.{Held, IsLiveObject, MayUseRegion}
 use Rattle.rgo_core_memory.specs.Records.{Fill, Rest, Amid, Across, Rec, HasRecord, Within, Owns, Claims, ClosesSlot}
 use Rattle.rgo_core_memory.specs.Spread.{lead_spot, table_words, spread_spot, spread_opening}
-use Rattle.rgo_core_memory.specs.Pages.{times}
+use Rattle.rgo_core_memory.specs.Pages.{occurrences}
 
 -- ---- objects and package variables
 
@@ -62,7 +62,7 @@ slot_of z slot (Numbered k) = slot k
 pub record Amidst (z : TableSizes) (cell : ℕ → ℕ → ℕ) (f : Fill) (object : Object) (stored : List ℕ) : Type 0 where
   pub fits : f.fill + object_words object ≤ z.page_words
   pub plain : (i : ℕ) (v : Value) → content object i ≡ Some v → IsPlain v
-  pub laid : (i : ℕ) → i < object_words object → 0 < times i stored → cell f.page (f.fill + i) ≡ opening (content object i)
+  pub laid : (i : ℕ) → i < object_words object → 0 < occurrences i stored → cell f.page (f.fill + i) ≡ opening_word (content object i)
 
 -- the same of a spread object, in these pages
 pub record Strewn (z : TableSizes) (cell : ℕ → ℕ → ℕ) (pages : List ℕ) (object : Object) (stored : List ℕ) : Type 0 where
@@ -70,7 +70,7 @@ pub record Strewn (z : TableSizes) (cell : ℕ → ℕ → ℕ) (pages : List �
   pub small : is_too_large z.page_words object ≡ false
   pub many : length pages ≡ pages_of z.page_words object
   pub plain : (i : ℕ) (v : Value) → content object i ≡ Some v → IsPlain v
-  pub laid : (i : ℕ) → i < table_words z.page_words object → 0 < times i stored
+  pub laid : (i : ℕ) → i < table_words z.page_words object → 0 < occurrences i stored
       → cell (spread_spot z.page_words object pages i).page (spread_spot z.page_words object pages i).offset
       ≡ spread_opening object pages i
 
@@ -125,11 +125,11 @@ MakesApart z c object stored = (c.make ≡ Across object stored)
 
 -- all of its words
 abbrev pub Covers : Object → List ℕ → Type 0
-Covers object stored = (i : ℕ) → i < object_words object → 0 < times i stored
+Covers object stored = (i : ℕ) → i < object_words object → 0 < occurrences i stored
 
 -- the page numbers of a spread object too
 abbrev pub CoversApart : TableSizes → Object → List ℕ → Type 0
-CoversApart z object stored = (i : ℕ) → i < table_words z.page_words object → 0 < times i stored
+CoversApart z object stored = (i : ℕ) → i < table_words z.page_words object → 0 < occurrences i stored
 
 -- ---- fills, and where there are stakes
 
@@ -196,10 +196,10 @@ pub record Paged (z : TableSizes) (states : ℕ → ℕ) (regions : List RegionI
 -- ---- what was taken and created
 
 abbrev pub TriedPage : List Rec → ℕ → Type 0
-TriedPage recs p = (g : ℕ) × (c : Rec) × HasRecord recs g c × (0 < times p c.tried_pages)
+TriedPage recs p = (g : ℕ) × (c : Rec) × HasRecord recs g c × (0 < occurrences p c.tried_pages)
 
 abbrev pub TriedSlot : List Rec → ℕ → Type 0
-TriedSlot recs s = (g : ℕ) × (c : Rec) × HasRecord recs g c × (0 < times s c.tried_slots)
+TriedSlot recs s = (g : ℕ) × (c : Rec) × HasRecord recs g c × (0 < occurrences s c.tried_slots)
 
 -- Each page that is claimed, or that a record found claimed, was taken by a step of its own; each slot that is in use, or that a
 -- record found in use, has a region of its own.

@@ -110,8 +110,8 @@ dropped s [] = []
 dropped s (f ∷ fs) = if nat_eq s f.slot then dropped s fs else f ∷ dropped s fs
 
 -- a page was claimed, and is its own page there
-abbrev pub with_page : Rec → ℕ → ℕ → Rec
-with_page c p s = record c { fills = record { slot = s; page = p; fill = 0 } ∷ dropped s c.fills; claim = Got p s }
+abbrev pub with_own_page : Rec → ℕ → ℕ → Rec
+with_own_page c p s = record c { fills = record { slot = s; page = p; fill = 0 } ∷ dropped s c.fills; claim = Got p s }
 
 -- a page was claimed for a spread object
 abbrev pub with_reserved : Rec → ℕ → ℕ → Rec
@@ -152,8 +152,8 @@ raised s n (f ∷ fs) = (if nat_eq s f.slot then record f { fill = n } else f) �
 abbrev pub with_word : Rec → Fill → Object → List ℕ → Rec
 with_word c f object stored = record c { make = Amid f object stored }
 
-abbrev pub with_object : Rec → ℕ → ℕ → Rec
-with_object c s n = record c { fills = raised s n c.fills; make = Rest }
+abbrev pub with_object_in_page : Rec → ℕ → ℕ → Rec
+with_object_in_page c s n = record c { fills = raised s n c.fills; make = Rest }
 
 -- the same of a spread object
 abbrev pub with_word_apart : Rec → Object → List ℕ → Rec

@@ -2,7 +2,7 @@
 use Rattle.std.specs.Prelude.{ℕ, suc, ◌+◌, ◌-◌, ◌/◌, ◌%◌, List, nat_lt, slice_index, if◌then◌else◌}
 use Rattle.rgo_sound.specs.Memory.Memory.{Object}
 use Rattle.rgo_sound.specs.RegionMachine.Objects.{cells, data_pages, object_words}
-use Rattle.rgo_core_memory.specs.Encoding.{Spot, content, opening}
+use Rattle.rgo_core_memory.specs.Encoding.{Spot, content, opening_word}
 
 -- how many words of pages an object takes: of a spread one, the page numbers too
 abbrev pub table_words : (page_words : ℕ) → Object → ℕ
@@ -33,4 +33,4 @@ spread_spot page_words object pages i =
 -- the first value of word i; a page number is stored plus 1
 abbrev pub spread_opening : Object → List ℕ → ℕ → ℕ
 spread_opening object pages i =
-    if nat_lt i (object_words object) then opening (content object i) else suc (slice_index pages (i - object_words object + 1))
+    if nat_lt i (object_words object) then opening_word (content object i) else suc (slice_index pages (i - object_words object + 1))

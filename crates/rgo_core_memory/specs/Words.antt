@@ -14,12 +14,12 @@ pub record Words : Type 0 where
   pub cell : ℕ → ℕ → ℕ
 
 -- f with another value at k
-abbrev pub put : {A : Type 0} → (ℕ → A) → ℕ → A → ℕ → A
-put f k a j = if j == k then a else f j
+abbrev pub put_at : {A : Type 0} → (ℕ → A) → ℕ → A → ℕ → A
+put_at f k a j = if j == k then a else f j
 
 -- the same of two numbers
 abbrev pub put_two : {A : Type 0} → (ℕ → ℕ → A) → ℕ → ℕ → A → ℕ → ℕ → A
-put_two f p o a = put f p (put (f p) o a)
+put_two f p o a = put_at f p (put_at (f p) o a)
 
 -- ---- positions. The clock, the number of goroutines and each row begin at least 16 words after what comes before them, so that no
 -- two of them share a cache line, or the two lines that a processor fetches together.

@@ -10,7 +10,7 @@ use Rattle.std.proofs.lemmas.Bool.Decides.{nat_tests}
 use Rattle.std.proofs.lemmas.List.{append-nil}
 use Rattle.std.proofs.lemmas.List.Sums.{sum_by-append, count_by-le-length}
 use Rattle.atomic_table.proofs.Lists.{at_set}
-use Rattle.rgo_core_rule.specs.Counting.{Event, Adds, Starts, Idles, Counts, added, idled, drew, draws, is_add, is_add_of, is_idle_of, is_start, new_adder, DidStart}
+use Rattle.rgo_core_rule.specs.Counting.{AdderEvent, Adds, Starts, Idles, CountingExplains, added, idled, drew, draws, is_add, is_add_of, is_idle_of, is_start, new_adder, DidStart}
 use Rattle.rgo_core_rule.specs.Steps.{Move, MoveEither, Moved, MovedChild, Still, Told, ToldChild}
 use Rattle.rgo_core_rule.specs.Views.{Me, number_of, record_of}
 use Rattle.rgo_core_rule.specs.declared.accesses.Kind.TheVariants.{DrawNumber}
@@ -55,13 +55,13 @@ draws_set (x ∷ recs) (suc g) c d e =
     let h = draws_set recs g c d e in
     omega arith
 
-module _ (limit g : ℕ) (c : Adder) (words : List ℕ) (recs : List Adder) (run : List Event) (k : Counts limit words recs run)
+module _ (limit g : ℕ) (c : Adder) (words : List ℕ) (recs : List Adder) (run : List AdderEvent) (k : CountingExplains limit words recs run)
     (at : get_elem? recs g ≡ some c) where
   in_recs : g < length recs
   in_recs = at_below recs g c at
 
   -- the counts of goroutines after an event of g
-  module _ (x : Event) (d : Adder) (p : ℕ → Event → Bool) (f : Adder → ℕ) (was : (h : ℕ) (y : Adder) → get_elem? recs h ≡ some y
+  module _ (x : AdderEvent) (d : Adder) (p : ℕ → AdderEvent → Bool) (f : Adder → ℕ) (was : (h : ℕ) (y : Adder) → get_elem? recs h ≡ some y
       → f y ≡ count_by (p h) run) (own : f d ≡ f c + one_if (p g x)) (else : (h : ℕ) → h ≢ g → one_if (p h x) ≡ 0) where
     each : (h : ℕ) (y : Adder) → get_elem? (set recs g d) h ≡ some y → f y ≡ count_by (p h) (run ++ x ∷ [])
     each h y e = ⊎_elim
@@ -81,7 +81,7 @@ module _ (limit g : ℕ) (c : Adder) (words : List ℕ) (recs : List Adder) (run
   wide_set : (i n : ℕ) → length (set words i n) ≡ 2
   wide_set i n = length-set words i n ∙ k.wide
 
-  pub adds : Moved accesses (Counts limit) words recs run g c 0 (λ n. (n + 1) % 18446744073709551616) (λ n d. d ≡ added c)
+  pub adds : Moved accesses (CountingExplains limit) words recs run g c 0 (λ n. (n + 1) % 18446744073709551616) (λ n d. d ≡ added c)
   adds = record {
     after = added c;
     gain = Adds g ∷ [];
@@ -117,7 +117,7 @@ module _ (limit g : ℕ) (c : Adder) (words : List ℕ) (recs : List Adder) (run
       there [] e n = absurd (omega arith)
       there (w ∷ ws) e n = refl
 
-  pub idles : (gain : List Event) × Counts limit words (set recs g (idled c)) (run ++ gain)
+  pub idles : (gain : List AdderEvent) × CountingExplains limit words (set recs g (idled c)) (run ++ gain)
   idles = (
     Idles g ∷ [],
     record {
@@ -165,7 +165,7 @@ module _ (limit g : ℕ) (c : Adder) (words : List ℕ) (recs : List Adder) (run
         here words k.wide ((slice_index words 1 + 1) % 18446744073709551616) ∙ (mod-eq_of_lt (omega arith) ∙ omega arith)
 
     refused : limit ≤ slice_index words 1
-        → Moved accesses (Counts limit) words recs run g c 1 (λ n. (n + 1) % 18446744073709551616) (λ n d. (limit ≤ n) × (d ≡ drew c))
+        → Moved accesses (CountingExplains limit) words recs run g c 1 (λ n. (n + 1) % 18446744073709551616) (λ n d. (limit ≤ n) × (d ≡ drew c))
     refused full = let many = full_many in record {
       after = drew c;
       gain = [];
@@ -203,7 +203,7 @@ module _ (limit g : ℕ) (c : Adder) (words : List ℕ) (recs : List Adder) (run
             (at_set recs g h (drew c) y e)
 
     begins : slice_index words 1 < limit
-        → MovedChild accesses (Counts limit) words recs run g c 1 (λ n. (n + 1) % 18446744073709551616) (λ n d child. (n < limit) × (d ≡ drew c)
+        → MovedChild accesses (CountingExplains limit) words recs run g c 1 (λ n. (n + 1) % 18446744073709551616) (λ n d child. (n < limit) × (d ≡ drew c)
         × (child ≡ new_adder))
     begins low = record {
       after = drew c;
@@ -251,23 +251,23 @@ module _ (limit g : ℕ) (c : Adder) (words : List ℕ) (recs : List Adder) (run
         all : draws (set recs g (drew c) ++ new_adder ∷ []) ≡ suc (draws recs)
         all = let a = count_more (λ (y : Adder). y.has_drawn) (set recs g (drew c)) new_adder in let b = more in omega arith
 
-    pub draws_number : Moved accesses (Counts limit) words recs run g c 1 (λ n. (n + 1) % 18446744073709551616) (λ n d. (limit ≤ n) × (d ≡ drew c))
-        ⊎ MovedChild accesses (Counts limit) words recs run g c 1 (λ n. (n + 1) % 18446744073709551616) (λ n d child. (n < limit) × (d ≡ drew c)
+    pub draws_number : Moved accesses (CountingExplains limit) words recs run g c 1 (λ n. (n + 1) % 18446744073709551616) (λ n d. (limit ≤ n) × (d ≡ drew c))
+        ⊎ MovedChild accesses (CountingExplains limit) words recs run g c 1 (λ n. (n + 1) % 18446744073709551616) (λ n d child. (n < limit) × (d ≡ drew c)
         × (child ≡ new_adder))
     draws_number = dite (dec_le limit (slice_index words 1)) (λ le. inl (refused le)) (λ gt. inr (begins (omega arith)))
 
-pub add_moves : (limit g : ℕ) (c : Adder) → Move accesses (Counts limit) g c 0 (λ n. (n + 1) % 18446744073709551616) (λ n d. d ≡ added c)
+pub add_moves : (limit g : ℕ) (c : Adder) → Move accesses (CountingExplains limit) g c 0 (λ n. (n + 1) % 18446744073709551616) (λ n d. d ≡ added c)
 add_moves limit g c words recs run k at fits = adds limit g c words recs run k at
 
 pub start_moves : (limit g : ℕ) (c : Adder) → c.has_drawn ≡ false
-    → MoveEither accesses (Counts limit) g c 1 (λ n. (n + 1) % 18446744073709551616) (λ n d. (limit ≤ n) × (d ≡ drew c)) (λ n d child. (n < limit)
+    → MoveEither accesses (CountingExplains limit) g c 1 (λ n. (n + 1) % 18446744073709551616) (λ n d. (limit ≤ n) × (d ≡ drew c)) (λ n d child. (n < limit)
     × (d ≡ drew c) × (child ≡ new_adder))
 start_moves limit g c never words recs run k at fits = draws_number limit g c words recs run k at never
 
-pub idle_still : (limit g : ℕ) (c : Adder) → Still accesses (Counts limit) g c (idled c)
+pub idle_still : (limit g : ℕ) (c : Adder) → Still accesses (CountingExplains limit) g c (idled c)
 idle_still limit g c words recs run k at = idles limit g c words recs run k at
 
-pub first_counts : (limit : ℕ) → 0 < limit → limit < 9223372036854775808 → Counts limit (0 ∷ 1 ∷ []) (new_adder ∷ []) []
+pub first_counts : (limit : ℕ) → 0 < limit → limit < 9223372036854775808 → CountingExplains limit (0 ∷ 1 ∷ []) (new_adder ∷ []) []
 first_counts limit low high = record {
   wide = refl;
   total = refl;

@@ -7,7 +7,7 @@ use Rattle.std.proofs.Math.ListN.{length-set}
 use Rattle.atomic_table.proofs.Lists.{at_set}
 use Rattle.rgo_core_rule.specs.Histories.{access, glance, accesses_by}
 use Rattle.rgo_core_rule.specs.Rule.{Aware}
-use Rattle.rgo_core_rule.specs.Views.{Has}
+use Rattle.rgo_core_rule.specs.Views.{HasRow}
 use Rattle.rgo_core_rule.specs.declared.accesses.Access.{Access}
 use Rattle.rgo_core_rule.specs.declared.accesses.Kind.{Kind}
 use Rattle.rgo_core_rule.specs.declared.accesses.View.{View}
@@ -23,7 +23,7 @@ module _ {R : Type 0} (accesses : R → ℕ) where
   }
 
   pub aware_set : (views : List (View R)) (history : List Access) (id : ℕ) (v : View R) → Aware accesses views history → IsPrefix v.seen history
-      → ((g : ℕ) (c : R) → Has v.records g c → accesses c ≡ accesses_by g v.seen) → Aware accesses (set views id v) history
+      → ((g : ℕ) (c : R) → HasRow v.records g c → accesses c ≡ accesses_by g v.seen) → Aware accesses (set views id v) history
   aware_set views history id v old seen own = record {
     seen = λ j u at. ⊎_elim
         (λ (t : (j ≡ id) × (v ≡ u)). subst (λ (y : View R). IsPrefix y.seen history) t.1 seen)
@@ -31,13 +31,13 @@ module _ {R : Type 0} (accesses : R → ℕ) where
         (at_set views id j v u at);
     own = λ j u g c at has. ⊎_elim
         (λ (t : (j ≡ id) × (v ≡ u)). subst (λ (y : View R). accesses c ≡ accesses_by g y.seen) t.1 (own g c (subst (λ
-        (y : View R). Has y.records g c) (sym t.1) has)))
+        (y : View R). HasRow y.records g c) (sym t.1) has)))
         (λ (t : (j ≢ id) × (get_elem? views j ≡ some u)). old.own j u g c t.1 has)
         (at_set views id j v u at);
   }
 
   pub aware_snoc : (views : List (View R)) (history : List Access) (v : View R) → Aware accesses views history → IsPrefix v.seen history
-      → ((g : ℕ) (c : R) → Has v.records g c → accesses c ≡ accesses_by g v.seen) → Aware accesses (views ++ v ∷ []) history
+      → ((g : ℕ) (c : R) → HasRow v.records g c → accesses c ≡ accesses_by g v.seen) → Aware accesses (views ++ v ∷ []) history
   aware_snoc views history v old seen own = record {
     seen = λ j u at. ⊎_elim
         (λ t. old.seen j u t)
@@ -45,7 +45,7 @@ module _ {R : Type 0} (accesses : R → ℕ) where
         (snoc_at views v u j at);
     own = λ j u g c at has. ⊎_elim
         (λ t. old.own j u g c t has)
-        (λ t. subst (λ (y : View R). accesses c ≡ accesses_by g y.seen) t.1 (own g c (subst (λ (y : View R). Has y.records g c) (sym t.1) has)))
+        (λ t. subst (λ (y : View R). accesses c ≡ accesses_by g y.seen) t.1 (own g c (subst (λ (y : View R). HasRow y.records g c) (sym t.1) has)))
         (snoc_at views v u j at);
   }
 

@@ -6,13 +6,13 @@ use mathlib.Core.Logic.{dite}
 use native.Mathlib.Decide.{dec_le}
 use lib.ListN.{get_elem?}
 use Rattle.std.proofs.Math.Nat.{min-eq_left, min-eq_right}
-use Rattle.rgo_core_rule.specs.Counting.{CountingExamples, RuleExamples, MoveExamples, Counts, Event, Adds, Starts, added, adds, child_record, child_view, draws, drew, four, gains, is_add_of, is_idle_of, main_record, main_view, new_adder, opening, owner, recs, rows, stale, starts, three, two}
+use Rattle.rgo_core_rule.specs.Counting.{CountingExamples, RuleExamples, MoveExamples, CountingExplains, AdderEvent, Adds, Starts, added, adds, child_record, child_view, draws, drew, four, gains, is_add_of, is_idle_of, main_adder, main_view, new_adder, opening_words, owner, recs, rows, stale, starts, three, two}
 use Rattle.rgo_core_rule.specs.Histories.{access, accesses_by, glance, replay}
 use Rattle.rgo_core_rule.specs.Lists.{flattened}
 use Rattle.rgo_core_rule.specs.Passes.{ChangesNothing, ChangesNothingBy}
 use Rattle.rgo_core_rule.specs.Rule.{Account, Aware}
 use Rattle.rgo_core_rule.specs.Steps.{Moved, MovedChild}
-use Rattle.rgo_core_rule.specs.Views.{Has, Owned, Rows, view}
+use Rattle.rgo_core_rule.specs.Views.{HasRow, Owned, Rows, view}
 use Rattle.rgo_core_rule.specs.declared.accesses.Access.{Access}
 use Rattle.rgo_core_rule.specs.declared.accesses.Kind.TheVariants.{DrawTicket, Load, Join}
 use Rattle.rgo_core_rule.specs.declared.accesses.View.{View}
@@ -34,15 +34,15 @@ at xs ys e i = ap (λ (l : List Access). get_elem? l i) e
 
 -- ---- records of the two goroutines
 
-each_of_two : (P : ℕ → Adder → Type 0) → P 0 main_record → P 1 child_record → (g : ℕ) (c : Adder) → get_elem? recs g ≡ some c → P g c
-each_of_two P p q zero c e = subst (P 0) (some-injective main_record c e) p
+each_of_two : (P : ℕ → Adder → Type 0) → P 0 main_adder → P 1 child_record → (g : ℕ) (c : Adder) → get_elem? recs g ≡ some c → P g c
+each_of_two P p q zero c e = subst (P 0) (some-injective main_adder c e) p
 each_of_two P p q (suc zero) c e = subst (P 1) (some-injective child_record c e) q
 each_of_two P p q (suc (suc g)) c e = absurd (some-ne-none c (sym e))
 
 no_third : (g : ℕ) (c : Adder) → get_elem? recs (suc (suc g)) ≡ some c → ⊥
 no_third g c e = some-ne-none c (sym e)
 
-in_row : (g : ℕ) (c : Adder) (h : ℕ) (x : Adder) → Has ((g, c) ∷ []) h x → (g ≡ h) × (c ≡ x)
+in_row : (g : ℕ) (c : Adder) (h : ℕ) (x : Adder) → HasRow ((g, c) ∷ []) h x → (g ≡ h) × (c ≡ x)
 in_row g c h x (zero, e) = let q : ℕ × Adder = (g, c) in let r : ℕ × Adder = (h, x) in let p : q ≡ r = some-injective q r e in (
   ap (λ (z : ℕ
       × Adder). z.0) p,
@@ -61,13 +61,13 @@ each_view P p q (suc (suc id)) v e = absurd (some-ne-none v (sym e))
 
 -- ---- counts
 
-abbrev the_run : List Event
+abbrev the_run : List AdderEvent
 the_run = Adds 0 ∷ Starts 0 ∷ Adds 1 ∷ []
 
 beyond : (g : ℕ) → 2 ≤ g → (count_by (is_add_of g) the_run ≡ 0) × (count_by (is_idle_of g) the_run ≡ 0)
 beyond g h = (let a = other 0 g (λ e. omega arith) in let b = other 1 g (λ e. omega arith) in omega arith, refl)
 
-pub counts_here : Counts 8 (2 ∷ 2 ∷ []) recs the_run
+pub counts_here : CountingExplains 8 (2 ∷ 2 ∷ []) recs the_run
 counts_here = record {
   wide = refl;
   total = refl;
@@ -81,7 +81,7 @@ counts_here = record {
   fits = omega arith;
 }
 
-miscounts_here : Counts 8 (2 ∷ 2 ∷ []) recs (Adds 0 ∷ Starts 0 ∷ []) → ⊥
+miscounts_here : CountingExplains 8 (2 ∷ 2 ∷ []) recs (Adds 0 ∷ Starts 0 ∷ []) → ⊥
 miscounts_here k = apart 1 2 (sym k.total) (omega arith)
 
 -- ---- accounts
@@ -104,7 +104,7 @@ first_two c d P p q (suc zero) x e = subst (P 1) (some-injective d x e) q
 first_two c d P p q (suc (suc g)) x e = absurd (some-ne-none x (sym e))
 
 -- after the first access, and after the second
-counts_one : Counts 8 (1 ∷ 1 ∷ []) (added new_adder ∷ []) (Adds 0 ∷ [])
+counts_one : CountingExplains 8 (1 ∷ 1 ∷ []) (added new_adder ∷ []) (Adds 0 ∷ [])
 counts_one = record {
   wide = refl;
   total = refl;
@@ -118,24 +118,24 @@ counts_one = record {
   fits = omega arith;
 }
 
-counts_two : Counts 8 (1 ∷ 2 ∷ []) (main_record ∷ new_adder ∷ []) (Adds 0 ∷ Starts 0 ∷ [])
+counts_two : CountingExplains 8 (1 ∷ 2 ∷ []) (main_adder ∷ new_adder ∷ []) (Adds 0 ∷ Starts 0 ∷ [])
 counts_two = record {
   wide = refl;
   total = refl;
   drawn = refl;
   as_many = refl;
   started = refl;
-  added = first_two main_record new_adder (λ g c. c.added ≡ count_by (is_add_of g) (Adds 0 ∷ Starts 0 ∷ [])) refl refl;
-  idled = first_two main_record new_adder (λ g c. c.idled ≡ count_by (is_idle_of g) (Adds 0 ∷ Starts 0 ∷ [])) refl refl;
+  added = first_two main_adder new_adder (λ g c. c.added ≡ count_by (is_add_of g) (Adds 0 ∷ Starts 0 ∷ [])) refl refl;
+  idled = first_two main_adder new_adder (λ g c. c.idled ≡ count_by (is_idle_of g) (Adds 0 ∷ Starts 0 ∷ [])) refl refl;
   others = λ g h. (let a = other 0 g (λ e. omega arith) in omega arith, refl);
   some_limit = omega arith;
   fits = omega arith;
 }
 
-each_moment : (k : ℕ) → k ≤ 4 → (then_recs : List Adder) × Counts 8 (replay opening (take k four)) then_recs (flattened (take k gains))
+each_moment : (k : ℕ) → k ≤ 4 → (then_recs : List Adder) × CountingExplains 8 (replay opening_words (take k four)) then_recs (flattened (take k gains))
 each_moment zero h = (new_adder ∷ [], first_counts 8 (omega arith) (omega arith))
 each_moment (suc zero) h = (added new_adder ∷ [], counts_one)
-each_moment (suc (suc zero)) h = (main_record ∷ new_adder ∷ [], counts_two)
+each_moment (suc (suc zero)) h = (main_adder ∷ new_adder ∷ [], counts_two)
 each_moment (suc (suc (suc zero))) h = (recs, counts_here)
 each_moment (suc (suc (suc (suc zero)))) h = (recs, counts_here)
 each_moment (suc (suc (suc (suc (suc k))))) h = absurd (omega arith)
@@ -152,7 +152,7 @@ below_two a h g e = let n = number a g e in omega arith
 abbrev Same : ℕ → Access → Type 0
 Same i a = a.by ≡ None → a.left ≡ a.found
 
-pub account_here : Account accesses (Counts 8) opening (2 ∷ 2 ∷ []) recs four
+pub account_here : Account accesses (CountingExplains 8) opening_words (2 ∷ 2 ∷ []) recs four
 account_here = record {
   gains = gains;
   paired = refl;
@@ -166,22 +166,22 @@ account_here = record {
   glances = each_access Same (λ e. absurd (some_none 0 e)) (λ e. absurd (some_none 0 e)) (λ e. absurd (some_none 1 e)) (λ e. refl);
 }
 
-no_account_here : Account accesses (Counts 8) opening (2 ∷ 2 ∷ []) recs two → ⊥
+no_account_here : Account accesses (CountingExplains 8) opening_words (2 ∷ 2 ∷ []) recs two → ⊥
 no_account_here a = apart 1 2 (sym (ap (λ (l : List ℕ). slice_index l 0) a.replayed)) (omega arith)
 
 -- ---- views
 
 owned_here : Owned (main_view ∷ child_view ∷ []) recs owner
 owned_here = record {
-  here = λ id v g c e. each_view (λ id v. (g : ℕ) (c : Adder) → Has v.records g c → (owner g ≡ id) × (get_elem? recs g ≡ some c))
-      (λ g c has. let t = in_row 0 main_record g c has in (sym t.0, rw (← t.0, ← t.1) refl))
+  here = λ id v g c e. each_view (λ id v. (g : ℕ) (c : Adder) → HasRow v.records g c → (owner g ≡ id) × (get_elem? recs g ≡ some c))
+      (λ g c has. let t = in_row 0 main_adder g c has in (sym t.0, rw (← t.0, ← t.1) refl))
       (λ g c has. let t = in_row 1 child_record g c has in (sym t.0, rw (← t.0, ← t.1) refl)) id v e g c;
-  there = each_of_two (λ g c. (v : View Adder) × (get_elem? (main_view ∷ child_view ∷ []) g ≡ some v) × Has v.records g c)
+  there = each_of_two (λ g c. (v : View Adder) × (get_elem? (main_view ∷ child_view ∷ []) g ≡ some v) × HasRow v.records g c)
       (main_view, refl, (0, refl)) (child_view, refl, (0, refl));
 }
 
 owned_twice_here : Owned (main_view ∷ main_view ∷ child_view ∷ []) recs owner → ⊥
-owned_twice_here o = let t = o.here 1 main_view 0 main_record refl (0, refl) in apart 0 1 t.0 (omega arith)
+owned_twice_here o = let t = o.here 1 main_view 0 main_adder refl (0, refl) in apart 0 1 t.0 (omega arith)
 
 owned_by_nobody_here : Owned (main_view ∷ []) recs owner → ⊥
 owned_by_nobody_here o = let t = o.there 1 child_record refl in some-ne-none t.0 (sym t.1)
@@ -189,8 +189,8 @@ owned_by_nobody_here o = let t = o.there 1 child_record refl in some-ne-none t.0
 aware_here : Aware accesses (main_view ∷ child_view ∷ []) four
 aware_here = record {
   seen = each_view (λ id v. IsPrefix v.seen four) (adds 1 1 ∷ glance Join 2 ∷ [], refl) (glance Join 2 ∷ [], refl);
-  own = λ id v g c e. each_view (λ id v. (g : ℕ) (c : Adder) → Has v.records g c → accesses c ≡ accesses_by g v.seen)
-      (λ g c has. let t = in_row 0 main_record g c has in rw (← t.0, ← t.1) refl)
+  own = λ id v g c e. each_view (λ id v. (g : ℕ) (c : Adder) → HasRow v.records g c → accesses c ≡ accesses_by g v.seen)
+      (λ g c has. let t = in_row 0 main_adder g c has in rw (← t.0, ← t.1) refl)
       (λ g c has. let t = in_row 1 child_record g c has in rw (← t.0, ← t.1) refl) id v e g c;
 }
 
@@ -240,12 +240,12 @@ counting_examples = record {
   not_looked = λ l. looks l.front l.rest l.is l.own l.still;
 }
   where
-    not_main : Has rows 1 main_record → ⊥
-    not_main (zero, e) = let q : ℕ × Adder = (0, main_record) in let r : ℕ × Adder = (1, main_record) in apart 0 1 (ap (λ (z : ℕ
+    not_main : HasRow rows 1 main_adder → ⊥
+    not_main (zero, e) = let q : ℕ × Adder = (0, main_adder) in let r : ℕ × Adder = (1, main_adder) in apart 0 1 (ap (λ (z : ℕ
         × Adder). z.0) (some-injective q r e)) (omega arith)
-    not_main (suc zero, e) = let q : ℕ × Adder = (1, child_record) in let r : ℕ × Adder = (1, main_record) in apart 1 2 (ap (λ (z : ℕ
+    not_main (suc zero, e) = let q : ℕ × Adder = (1, child_record) in let r : ℕ × Adder = (1, main_adder) in apart 1 2 (ap (λ (z : ℕ
         × Adder). z.1.accesses) (some-injective q r e)) (omega arith)
-    not_main (suc (suc k), e) = let r : ℕ × Adder = (1, main_record) in some-ne-none r (sym e)
+    not_main (suc (suc k), e) = let r : ℕ × Adder = (1, main_adder) in some-ne-none r (sym e)
 
     nothing_changes : ChangesNothing (glance Load 2 ∷ access 1 Load 0 2 2 ∷ [])
     nothing_changes zero a e = subst (λ (x : Access). x.left ≡ x.found) (some-injective (glance Load 2) a e) refl
@@ -288,8 +288,8 @@ rule_examples = record {
     owned_by_main : (rs : List Adder) (owner : ℕ → ℕ) → Owned (child_view ∷ []) rs owner → (c : Adder) → get_elem? rs 0 ≡ some c → ⊥
     owned_by_main rs owner o c e = let t = o.there 0 c e in go (owner 0) t.0 t.1 t.2
       where
-        go : (id : ℕ) (v : View Adder) → get_elem? (child_view ∷ []) id ≡ some v → Has v.records 0 c → ⊥
-        go zero v e has = let s = in_row 1 child_record 0 c (subst (λ (u : View Adder). Has u.records 0 c) (sym
+        go : (id : ℕ) (v : View Adder) → get_elem? (child_view ∷ []) id ≡ some v → HasRow v.records 0 c → ⊥
+        go zero v e has = let s = in_row 1 child_record 0 c (subst (λ (u : View Adder). HasRow u.records 0 c) (sym
             (some-injective child_view v e)) has) in apart 0 1 (sym s.0) (omega arith)
         go (suc id) v e has = some-ne-none v (sym e)
 
@@ -309,13 +309,13 @@ move_examples = record {
       let low = at_below o.recs 8 c o.its in
       let many = o.explains.as_many in
       no_ninth (length o.recs) (draws o.recs) low many;
-  no_draw = λ move. let r = move opening (new_adder ∷ []) [] start refl (omega arith) in not_drawn r.after r.tells_so r.explains.drawn;
-  no_child = λ move. ⊎_elim (λ (r : Moved accesses (Counts 8) opening (new_adder ∷ []) [] 0 new_adder 1 (λ n. suc n) (λ n d. (8 ≤ n)
+  no_draw = λ move. let r = move opening_words (new_adder ∷ []) [] start refl (omega arith) in not_drawn r.after r.tells_so r.explains.drawn;
+  no_child = λ move. ⊎_elim (λ (r : Moved accesses (CountingExplains 8) opening_words (new_adder ∷ []) [] 0 new_adder 1 (λ n. suc n) (λ n d. (8 ≤ n)
       × (d ≡ drew new_adder))). let h = r.tells_so.0 in absurd (omega arith))
-      (λ (r : MovedChild accesses (Counts 8) opening (new_adder ∷ []) [] 0 new_adder 1 (λ n. suc n) (λ n d child. (d ≡ drew new_adder)
+      (λ (r : MovedChild accesses (CountingExplains 8) opening_words (new_adder ∷ []) [] 0 new_adder 1 (λ n. suc n) (λ n d child. (d ≡ drew new_adder)
       × (child ≡ added new_adder))). apart 0 1 (sym (ap accesses (sym r.tells_so.1) ∙ r.new)) (omega arith))
-      (move opening (new_adder ∷ []) [] start refl (omega arith));
-  no_quiet_draw = λ still. let r = still opening (new_adder ∷ []) [] start refl in not_drawn (drew new_adder) refl r.1.drawn;
+      (move opening_words (new_adder ∷ []) [] start refl (omega arith));
+  no_quiet_draw = λ still. let r = still opening_words (new_adder ∷ []) [] start refl in not_drawn (drew new_adder) refl r.1.drawn;
   told = record {
     after = child_record;
     between = [];
@@ -327,7 +327,7 @@ move_examples = record {
   };
   untold = λ t. longer t.between t.seen;
   told_child = record {
-    after = main_record;
+    after = main_adder;
     child = new_adder;
     between = [];
     tells_so = refl;
@@ -344,13 +344,13 @@ move_examples = record {
     records = refl;
     slots = refl;
     seen = refl;
-    own = λ g c has. let t = in_row 0 main_record g c has in rw (← t.0, ← t.1) refl;
+    own = λ g c has. let t = in_row 0 main_adder g c has in rw (← t.0, ← t.1) refl;
   };
   not_glanced = λ t. not_one t.between t.seen;
   miscounted = λ t. apart 0 1 (t.own 1 new_adder (0, refl)) (omega arith);
 }
   where
-    start : Counts 8 opening (new_adder ∷ []) []
+    start : CountingExplains 8 opening_words (new_adder ∷ []) []
     start = first_counts 8 (omega arith) (omega arith)
 
     not_drawn : (d : Adder) → d ≡ drew new_adder → 1 ≡ suc (draws (d ∷ [])) → ⊥

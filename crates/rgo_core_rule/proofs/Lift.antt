@@ -9,7 +9,7 @@ use Rattle.rgo_core_rule.specs.Histories.{access, glance, accesses_by}
 use Rattle.rgo_core_rule.specs.Lists.{flattened}
 use Rattle.rgo_core_rule.specs.Rule.{Account, Explained}
 use Rattle.rgo_core_rule.specs.Steps.{Moved, MovedChild, Move, MoveEither, Told, ToldChild, Glanced}
-use Rattle.rgo_core_rule.specs.Views.{Has, Words, Me, Alone, Rows, view}
+use Rattle.rgo_core_rule.specs.Views.{HasRow, TableState, Me, Alone, Rows, view}
 use Rattle.rgo_core_rule.specs.declared.accesses.Access.{Access}
 use Rattle.rgo_core_rule.specs.declared.accesses.Kind.{Kind}
 use Rattle.rgo_core_rule.specs.declared.accesses.Kind.TheVariants.{Load}
@@ -22,11 +22,11 @@ use Rattle.rgo_core_rule.proofs.Owning.{its, only_one, owned_step, owned_child, 
 use Rattle.rgo_core_rule.proofs.Rows.{none, first}
 
 module _ {E R : Type 0} (accesses : R → ℕ) (Explains : List ℕ → List R → List E → Type 0) (opening : List ℕ) where
-  abbrev pub Holds : Words R → Type 0
+  abbrev pub Holds : TableState R → Type 0
   Holds = Explained accesses Explains opening
 
   -- what the table asks of a step, in one of its states
-  abbrev pub AllowsAt : (s : Words R) → ℕ → Me R → ℕ → (ℕ → ℕ) → (ℕ → Me R → Type 0) → Type 0
+  abbrev pub AllowsAt : (s : TableState R) → ℕ → Me R → ℕ → (ℕ → ℕ) → (ℕ → Me R → Type 0) → Type 0
   AllowsAt s id m i f told =
       (w : View R) × (a : table.Act (Unit {0})) × table.Valid s.homes m.1 a
       × Holds (table.stepped s i (f (slice_index s.words i)) id m.1 w a) × told (slice_index s.words i) (w, table.carried_after m.1 a)
@@ -45,7 +45,7 @@ module _ {E R : Type 0} (accesses : R → ℕ) (Explains : List ℕ → List R �
       none_some : (g : ℕ) → None ≡ Some g → ⊥
       none_some g e = cc
 
-  module _ (s : Words R) (kept : Holds s) (id g : ℕ) (c : R) (m : Me R) (i : ℕ) (f : ℕ
+  module _ (s : TableState R) (kept : Holds s) (id g : ℕ) (c : R) (m : Me R) (i : ℕ) (f : ℕ
       → ℕ) (kind : Kind) (alone : Alone g c m) (at : get_elem? s.views id ≡ some m.0) where
     abbrev n : ℕ
     n = slice_index s.words i
@@ -192,7 +192,7 @@ module _ {E R : Type 0} (accesses : R → ℕ) (Explains : List ℕ → List R �
       let p = kept.aware.seen id m.0 at in
       let history = kept.history ++ glance Load n ∷ [] in
       let w : View R = view m.0.records history in
-      let own : (h : ℕ) (x : R) → Has m.0.records h x → accesses x ≡ accesses_by h history =
+      let own : (h : ℕ) (x : R) → HasRow m.0.records h x → accesses x ≡ accesses_by h history =
       λ h x has. kept.account.counted h x (kept.owned.here id m.0 h x at has).1 ∙ sym (by_none h kept.history Load n) in (
         w,
         table.keeps,

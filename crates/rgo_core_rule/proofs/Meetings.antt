@@ -8,7 +8,7 @@ use Rattle.atomic_table.proofs.Lists.{set_else, set_again}
 use Rattle.rgo_core_rule.specs.Histories.{glance, accesses_by, replay}
 use Rattle.rgo_core_rule.specs.Lists.{flattened}
 use Rattle.rgo_core_rule.specs.Rule.{Account, Closing}
-use Rattle.rgo_core_rule.specs.Views.{Words, Has, longer, joined, informed, rows_of, rows_but, view}
+use Rattle.rgo_core_rule.specs.Views.{TableState, HasRow, longer, joined, informed, rows_for, rows_but, view}
 use Rattle.rgo_core_rule.specs.declared.accesses.Access.{Access}
 use Rattle.rgo_core_rule.specs.declared.accesses.Kind.TheVariants.{Split, Join}
 use Rattle.rgo_core_rule.specs.declared.accesses.View.{View}
@@ -19,16 +19,16 @@ use Rattle.rgo_core_rule.proofs.Owning.{only_one, owned_empty, owned_split, owne
 use Rattle.rgo_core_rule.proofs.Rows.{none, in_rows_of, in_rows_but, in_both}
 
 module _ {E R : Type 0} (accesses : R → ℕ) (Explains : List ℕ → List R → List E → Type 0) (opening : List ℕ) where
-  abbrev Keeps : Words R → Type 0
+  abbrev Keeps : TableState R → Type 0
   Keeps = Holds accesses Explains opening
 
   -- the record of goroutine g goes to a new seat
-  pub splits : (id : ℕ) (v : View R) (g : ℕ) (c : R) → Has v.records g c
-      → table.Splits Keeps id v (view (rows_but g v.records) v.seen) (view (rows_of g v.records) v.seen)
+  pub splits : (id : ℕ) (v : View R) (g : ℕ) (c : R) → HasRow v.records g c
+      → table.Splits Keeps id v (view (rows_but g v.records) v.seen) (view (rows_for g v.records) v.seen)
   splits id v g c has s kept at =
       let a = glance Split (slice_index s.words 0) in
       let left : View R = view (rows_but g v.records) v.seen in
-      let right : View R = view (rows_of g v.records) v.seen in
+      let right : View R = view (rows_for g v.records) v.seen in
       let prefix = seen_more v.seen kept.history a (kept.aware.seen id v at) in
       let longer = aware_longer accesses s.views kept.history a kept.aware in
       record {
@@ -116,12 +116,12 @@ module _ {E R : Type 0} (accesses : R → ℕ) (Explains : List ℕ → List R �
     };
     owner = λ g. 0;
     owned = record {
-      here = λ id v g c e has. let t = the_view id v e in (sym t.0, its_record g c (subst (λ (y : View R). Has y.records g c) (sym t.1) has));
+      here = λ id v g c e has. let t = the_view id v e in (sym t.0, its_record g c (subst (λ (y : View R). HasRow y.records g c) (sym t.1) has));
       there = λ g c e. let t = only g c e in (first_view, refl, (0, ap (λ (z : ℕ × R). some z) (λ i. (sym t.0 i, t.1 i))));
     };
     aware = record {
       seen = λ id v e. subst (λ (y : View R). IsPrefix y.seen []) (the_view id v e).1 ([], refl);
-      own = λ id v g c e has. let t = the_view id v e in let o = only_one 0 first g c (subst (λ (y : View R). Has y.records g c) (sym t.1) has) in
+      own = λ id v g c e has. let t = the_view id v e in let o = only_one 0 first g c (subst (λ (y : View R). HasRow y.records g c) (sym t.1) has) in
           subst (λ (y : View R). accesses c ≡ accesses_by g y.seen) t.1 (ap accesses o.1 ∙ new);
     };
   }
@@ -141,7 +141,7 @@ module _ {E R : Type 0} (accesses : R → ℕ) (Explains : List ℕ → List R �
       only zero c e = (refl, some-injective first c e)
       only (suc g) c e = absurd (some-ne-none c (sym e))
 
-      its_record : (g : ℕ) (c : R) → Has ((0, first) ∷ []) g c → get_elem? (first ∷ []) g ≡ some c
+      its_record : (g : ℕ) (c : R) → HasRow ((0, first) ∷ []) g c → get_elem? (first ∷ []) g ≡ some c
       its_record g c has = let o = only_one 0 first g c has in rw (o.0, o.1) refl
 
   -- a table that is closed with a seat

@@ -3,7 +3,7 @@ use Rattle.std.proofs.Common.{◌⊎◌, ℕ, List, [], ◌∷◌, ◌++◌, set
 use Rattle.std.proofs.Math.ListN.{length-set}
 use Rattle.atomic_table.proofs.Lists.{at_last, at_longer, set_here}
 use Rattle.rgo_core_rule.specs.Steps.{Move, MoveEither, Occurs, Still, Told, ToldChild}
-use Rattle.rgo_core_rule.specs.Views.{Has, Me, Rows, number_in, number_of, record_in, record_of}
+use Rattle.rgo_core_rule.specs.Views.{HasRow, Me, Rows, number_in, number_of, record_in, record_of}
 use Rattle.rgo_core_rule.specs.declared.accesses.Kind.{Kind}
 use Rattle.rgo_core_rule.proofs.Lists.{at_below}
 use Rattle.rgo_core_rule.proofs.Rows.{first, none}
@@ -134,15 +134,15 @@ module _ {E R : Type 0} (accesses : R → ℕ) (Explains : List ℕ → List R �
 
     -- so is each of its rows
     one_occurs : (tells : ℕ → R → Type 0) → Told accesses g kind i f (Also g tells) m n w
-        → (h : ℕ) (c : R) → Has w.0.records h c → Occurs Explains h c
+        → (h : ℕ) (c : R) → HasRow w.0.records h c → Occurs Explains h c
     one_occurs tells t h c has =
         ⊎_elim
         (λ e. subst (λ k. Occurs Explains k c) e.0 (subst (Occurs Explains g) e.1 t.tells_so.1))
         (λ e. absurd (none h c e))
-        (first (g, t.after) [] h c (subst (λ (rs : Rows R). Has rs h c) t.alone.0 has))
+        (first (g, t.after) [] h c (subst (λ (rs : Rows R). HasRow rs h c) t.alone.0 has))
 
     both_occur : (tells : ℕ → R → R → Type 0) → ToldChild accesses g kind i f (AlsoBoth g tells) m n w
-        → (h : ℕ) (c : R) → Has w.0.records h c → Occurs Explains h c
+        → (h : ℕ) (c : R) → HasRow w.0.records h c → Occurs Explains h c
     both_occur tells t h c has =
         ⊎_elim
         (λ e. subst (λ k. Occurs Explains k c) e.0 (subst (Occurs Explains g) e.1 t.tells_so.1))
@@ -150,7 +150,7 @@ module _ {E R : Type 0} (accesses : R → ℕ) (Explains : List ℕ → List R �
         (λ q. subst (λ k. Occurs Explains k c) q.0 (subst (Occurs Explains n) q.1 t.tells_so.2))
         (λ q. absurd (none h c q))
         (first (n, t.child) [] h c e))
-        (first (g, t.after) ((n, t.child) ∷ []) h c (subst (λ (rs : Rows R). Has rs h c) t.both.0 has))
+        (first (g, t.after) ((n, t.child) ∷ []) h c (subst (λ (rs : Rows R). HasRow rs h c) t.both.0 has))
 
     pub either_told : (tells : ℕ → R → Type 0) (tells_child : ℕ → R → R → Type 0)
         → (Told accesses g kind i f (Also g tells) m n w ⊎ ToldChild accesses g kind i f (AlsoBoth g tells_child) m n w)
@@ -159,5 +159,5 @@ module _ {E R : Type 0} (accesses : R → ℕ) (Explains : List ℕ → List R �
 
     pub either_occurs : (tells : ℕ → R → Type 0) (tells_child : ℕ → R → R → Type 0)
         → (Told accesses g kind i f (Also g tells) m n w ⊎ ToldChild accesses g kind i f (AlsoBoth g tells_child) m n w)
-        → (h : ℕ) (c : R) → Has w.0.records h c → Occurs Explains h c
+        → (h : ℕ) (c : R) → HasRow w.0.records h c → Occurs Explains h c
     either_occurs tells tells_child = ⊎_elim (λ t. one_occurs tells t) (λ t. both_occur tells_child t)

@@ -6,7 +6,7 @@ use mathlib.Core.Option.{some, some-injective}
 use lib.ListN.{get_elem?}
 use Rattle.std.proofs.Math.ListN.{length-set}
 use Rattle.atomic_table.proofs.Lists.{at_set, set_here, set_else, at_last, at_longer}
-use Rattle.rgo_core_rule.specs.Views.{Has, Owned, Rows, rows_of, rows_but, view}
+use Rattle.rgo_core_rule.specs.Views.{HasRow, Owned, Rows, rows_for, rows_but, view}
 use Rattle.rgo_core_rule.specs.declared.accesses.Access.{Access}
 use Rattle.rgo_core_rule.specs.declared.accesses.View.{View}
 use Rattle.rgo_core_rule.proofs.Lists.{at_below, snoc_at, if_same, if_other}
@@ -14,10 +14,10 @@ use Rattle.rgo_core_rule.proofs.Rows.{none, first, here_first, here_later, in_ro
 
 module _ {R : Type 0} where
   -- a view with these rows
-  shown : (v : View R) (rows : Rows R) → v.records ≡ rows → (g : ℕ) (c : R) → Has v.records g c → Has rows g c
-  shown v rows is g c has = subst (λ (l : Rows R). Has l g c) is has
+  shown : (v : View R) (rows : Rows R) → v.records ≡ rows → (g : ℕ) (c : R) → HasRow v.records g c → HasRow rows g c
+  shown v rows is g c has = subst (λ (l : Rows R). HasRow l g c) is has
 
-  pub only_one : (g : ℕ) (c : R) (h : ℕ) (x : R) → Has ((g, c) ∷ []) h x → (h ≡ g) × (x ≡ c)
+  pub only_one : (g : ℕ) (c : R) (h : ℕ) (x : R) → HasRow ((g, c) ∷ []) h x → (h ≡ g) × (x ≡ c)
   only_one g c h x has = ⊎_elim (λ t. (sym t.0, sym t.1)) (λ t. absurd (none h x t)) (first (g, c) [] h x has)
 
   -- ---- a step of the seat `id`, which has the record c of goroutine g
@@ -38,14 +38,14 @@ module _ {R : Type 0} where
     elsewhere h x ne e is =
         let t = o.there h x e in
         let same : t.0 ≡ v = some-injective t.0 v (sym t.1 ∙ (ap (get_elem? views) is ∙ at)) in
-        ne (only_one g c h x (subst (λ (l : Rows R). Has l h x) (ap (λ (u : View R). u.records) same ∙ one) t.2)).0
+        ne (only_one g c h x (subst (λ (l : Rows R). HasRow l h x) (ap (λ (u : View R). u.records) same ∙ one) t.2)).0
 
     module _ (d : R) (w : View R) where
       pub owned_step : w.records ≡ (g, d) ∷ [] → Owned (set views id w) (set recs g d) owner
       owned_step new = record {
         here = λ j u h x q has. ⊎_elim
             (λ (t : (j ≡ id) × (w ≡ u)).
-            let p = only_one g d h x (subst (λ (l : Rows R). Has l h x) (ap (λ (y : View R). y.records) (sym t.1) ∙ new) has) in
+            let p = only_one g d h x (subst (λ (l : Rows R). HasRow l h x) (ap (λ (y : View R). y.records) (sym t.1) ∙ new) has) in
             (ap owner p.0 ∙ (its.0 ∙ sym t.0), rw (p.0, p.1) (set_here recs g d in_recs)))
             (λ (t : (j ≢ id) × (get_elem? views j ≡ some u)).
             let p = o.here j u h x t.1 has in
@@ -68,7 +68,7 @@ module _ {R : Type 0} where
             (λ (t : (j ≡ id) × (w ≡ u)). ⊎_elim
             (λ z. (if_other h n id (owner h) (λ e. old_g (z.0 ∙ e)) ∙ (ap owner (sym z.0) ∙ (its.0 ∙ sym t.0)), rw (← z.0, ← z.1) at_g))
             (λ z. (if_same h n id (owner h) (sym z.0) ∙ sym t.0, rw (← z.0, ← z.1) at_n))
-            (two h x (subst (λ (y : View R). Has y.records h x) (sym t.1) has)))
+            (two h x (subst (λ (y : View R). HasRow y.records h x) (sym t.1) has)))
             (λ (t : (j ≢ id) × (get_elem? views j ≡ some u)).
             let p = o.here j u h x t.1 has in
             let other : h ≢ g = λ e. t.0 (sym p.0 ∙ (ap owner e ∙ its.0)) in
@@ -118,9 +118,9 @@ module _ {R : Type 0} where
           goes : (h : ℕ) → (if h == n then id else owner h) ≡ id → get_elem? (set views id w) (if h == n then id else owner h) ≡ some w
           goes h e = subst (λ (y : ℕ). get_elem? (set views id w) y ≡ some w) (sym e) (set_here views id w in_views)
 
-          two : (h : ℕ) (x : R) → Has w.records h x → ((g ≡ h) × (d ≡ x)) ⊎ ((n ≡ h) × (child ≡ x))
+          two : (h : ℕ) (x : R) → HasRow w.records h x → ((g ≡ h) × (d ≡ x)) ⊎ ((n ≡ h) × (child ≡ x))
           two h x has = ⊎_elim (λ t. inl t) (λ t. ⊎_elim (λ u. inr u) (λ u. absurd (none h x u)) (first (n, child) [] h x t)) (first (g, d)
-              ((n, child) ∷ []) h x (subst (λ (l : Rows R). Has l h x) new has))
+              ((n, child) ∷ []) h x (subst (λ (l : Rows R). HasRow l h x) new has))
 
   -- ---- a view that has the same records and has seen more
 
@@ -128,7 +128,7 @@ module _ {R : Type 0} where
       → get_elem? views id ≡ some v → w.records ≡ v.records → Owned (set views id w) recs owner
   owned_same views recs owner o id v w at same = record {
     here = λ j u h x q has. ⊎_elim
-        (λ (t : (j ≡ id) × (w ≡ u)). let p = o.here id v h x at (subst (λ (l : Rows R). Has l h x) (ap (λ (y : View R). y.records) (sym t.1)
+        (λ (t : (j ≡ id) × (w ≡ u)). let p = o.here id v h x at (subst (λ (l : Rows R). HasRow l h x) (ap (λ (y : View R). y.records) (sym t.1)
         ∙ same) has) in (p.0 ∙ sym t.0, p.1))
         (λ (t : (j ≢ id) × (get_elem? views j ≡ some u)). o.here j u h x t.1 has)
         (at_set views id j w u q);
@@ -137,7 +137,7 @@ module _ {R : Type 0} where
         let was : p.0 ≡ v = some-injective p.0 v (sym p.1 ∙ (ap (get_elem? views) e ∙ at)) in (
           w,
           rw e (set_here views id w (at_below views id v at)),
-          subst (λ (l : Rows R). Has l h x) (ap (λ (y : View R). y.records) was
+          subst (λ (l : Rows R). HasRow l h x) (ap (λ (y : View R). y.records) was
               ∙ sym same) p.2,
         ))
         (λ ne. (p.0, set_else views id (owner h) w ne ∙ p.1, p.2));
@@ -150,7 +150,7 @@ module _ {R : Type 0} where
   owned_empty views recs owner o seen = record {
     here = λ j u h x q has. ⊎_elim
         (λ t. o.here j u h x t has)
-        (λ t. absurd (none h x (subst (λ (y : View R). Has y.records h x) (sym t.1) has)))
+        (λ t. absurd (none h x (subst (λ (y : View R). HasRow y.records h x) (sym t.1) has)))
         (snoc_at views (view [] seen) u j q);
     there = λ h x q. let p = o.there h x q in (p.0, at_longer views (view [] seen ∷ []) (owner h) p.0 p.1, p.2);
   }
@@ -158,13 +158,13 @@ module _ {R : Type 0} where
   -- ---- the record of goroutine g goes to a new seat
 
   module _ (views : List (View R)) (recs : List R) (owner : ℕ
-      → ℕ) (o : Owned views recs owner) (id : ℕ) (v : View R) (at : get_elem? views id ≡ some v) (g : ℕ) (c : R) (has_g : Has v.records g c)
+      → ℕ) (o : Owned views recs owner) (id : ℕ) (v : View R) (at : get_elem? views id ≡ some v) (g : ℕ) (c : R) (has_g : HasRow v.records g c)
       (seen : List Access) where
     abbrev left : View R
     left = view (rows_but g v.records) seen
 
     abbrev right : View R
-    right = view (rows_of g v.records) seen
+    right = view (rows_for g v.records) seen
 
     abbrev split_views : List (View R)
     split_views = set views id left ++ right ∷ []
@@ -177,7 +177,7 @@ module _ {R : Type 0} where
       here = λ j u h x q has. ⊎_elim
           (λ (s : get_elem? (set views id left) j ≡ some u). ⊎_elim
           (λ (t : (j ≡ id) × (left ≡ u)).
-          let z = in_rows_but g v.records h x (subst (λ (y : View R). Has y.records h x) (sym t.1) has) in
+          let z = in_rows_but g v.records h x (subst (λ (y : View R). HasRow y.records h x) (sym t.1) has) in
           let p = o.here id v h x at z.1 in
           (if_other h g (length views) (owner h) z.0 ∙ (p.0 ∙ sym t.0), p.1))
           (λ (t : (j ≢ id) × (get_elem? views j ≡ some u)).
@@ -185,7 +185,7 @@ module _ {R : Type 0} where
           (if_other h g (length views) (owner h) (λ e. t.0 (sym p.0 ∙ (ap owner e ∙ mine.0))) ∙ p.0, p.1))
           (at_set views id j left u s))
           (λ (t : (j ≡ length (set views id left)) × (right ≡ u)).
-          let z = in_rows_of g v.records h x (subst (λ (y : View R). Has y.records h x) (sym t.1) has) in
+          let z = in_rows_of g v.records h x (subst (λ (y : View R). HasRow y.records h x) (sym t.1) has) in
           let p = o.here id v h x at z.1 in
           (if_same h g (length views) (owner h) z.0 ∙ sym (t.0 ∙ long), p.1))
           (snoc_at (set views id left) right u j q);
@@ -195,8 +195,8 @@ module _ {R : Type 0} where
             right,
             subst (λ (k : ℕ). get_elem? split_views k ≡ some right) (sym (if_same h g (length views) (owner h) e)) (at_last
                 (set views id left) right (length views) long),
-            subst (λ (k : ℕ). Has (rows_of g v.records) k x) (sym e) (to_rows_of g v.records x (subst (λ (k : ℕ). Has v.records k x) e (subst (λ
-                (y : View R). Has y.records h x) same p.2))),
+            subst (λ (k : ℕ). HasRow (rows_for g v.records) k x) (sym e) (to_rows_of g v.records x (subst (λ (k : ℕ). HasRow v.records k x) e (subst (λ
+                (y : View R). HasRow y.records h x) same p.2))),
           ))
           (λ ne. dite (ℕ_discrete (owner h) id)
           (λ e.
@@ -204,7 +204,7 @@ module _ {R : Type 0} where
             left,
             subst (λ (k : ℕ). get_elem? split_views k ≡ some left) (sym (if_other h g (length views) (owner h) ne
                 ∙ e)) (at_longer (set views id left) (right ∷ []) id left (set_here views id left (at_below views id v at))),
-            to_rows_but g v.records h x ne (subst (λ (y : View R). Has y.records h x) same p.2),
+            to_rows_but g v.records h x ne (subst (λ (y : View R). HasRow y.records h x) same p.2),
           ))
           (λ other. (
             p.0,
@@ -240,12 +240,12 @@ module _ {R : Type 0} where
     pub owned_joined : Owned joined_views recs owner_joined
     owned_joined = record {
       here = λ j u h x q has. ⊎_elim
-          (λ (t : (j ≡ other) × (spent ≡ u)). absurd (none h x (subst (λ (y : View R). Has y.records h x) (sym t.1) has)))
+          (λ (t : (j ≡ other) × (spent ≡ u)). absurd (none h x (subst (λ (y : View R). HasRow y.records h x) (sym t.1) has)))
           (λ (s : (j ≢ other) × (get_elem? (set views id both) j ≡ some u)). ⊎_elim
           (λ (t : (j ≡ id) × (both ≡ u)). ⊎_elim
           (λ z. let p = o.here id v h x at z in (if_other (owner h) other id (owner h) (λ e. ne (sym e ∙ p.0)) ∙ (p.0 ∙ sym t.0), p.1))
           (λ z. let p = o.here other w h x at_other z in (if_same (owner h) other id (owner h) p.0 ∙ sym t.0, p.1))
-          (in_both v.records w.records h x (subst (λ (y : View R). Has y.records h x) (sym t.1) has)))
+          (in_both v.records w.records h x (subst (λ (y : View R). HasRow y.records h x) (sym t.1) has)))
           (λ (t : (j ≢ id) × (get_elem? views j ≡ some u)). let p = o.here j u h x t.1 has in (
             if_other (owner h) other id (owner h) (λ e. s.0
                 (sym p.0 ∙ e)) ∙ p.0,
@@ -259,7 +259,7 @@ module _ {R : Type 0} where
             both,
             subst (λ (k : ℕ). get_elem? joined_views k ≡ some both) (sym (if_same (owner h) other id (owner h) e)) (set_else
                 (set views id both) other id spent (λ y. ne (sym y)) ∙ set_here views id both (at_below views id v at)),
-            to_right v.records w.records h x (subst (λ (y : View R). Has y.records h x) same p.2),
+            to_right v.records w.records h x (subst (λ (y : View R). HasRow y.records h x) same p.2),
           ))
           (λ n. dite (ℕ_discrete (owner h) id)
           (λ e.
@@ -267,7 +267,7 @@ module _ {R : Type 0} where
             both,
             subst (λ (k : ℕ). get_elem? joined_views k ≡ some both) (sym (if_other (owner h) other id (owner h) n
                 ∙ e)) (set_else (set views id both) other id spent (λ y. ne (sym y)) ∙ set_here views id both (at_below views id v at)),
-            to_left v.records w.records h x (subst (λ (y : View R). Has y.records h x) same p.2),
+            to_left v.records w.records h x (subst (λ (y : View R). HasRow y.records h x) same p.2),
           ))
           (λ m. (
             p.0,

@@ -4,7 +4,7 @@ use mathlib.Core.Option.{some, some-injective, some-ne-none}
 use lib.ListN.{get_elem?}
 use Rattle.std.proofs.lemmas.Bool.Decides.{nat_tests}
 use Rattle.std.proofs.lemmas.List.{append-nil}
-use Rattle.rgo_core_rule.specs.Passes.{AllAre, after_pass, passed}
+use Rattle.rgo_core_rule.specs.Passes.{AllAre, after_pass, all_after_pass}
 use Rattle.rgo_core_rule.specs.Views.{longer}
 use Rattle.rgo_core_rule.specs.declared.accesses.Access.{Access}
 
@@ -38,17 +38,17 @@ grows xs [] = omega arith
 grows xs (ys ∷ yss) = let a = (at_least xs ys).0 in let b = grows (longer xs ys) yss in omega arith
 
 -- a second pass, by one who is at least as long as where the first began
-second : (top xs : List Access) (yss : List (List Access)) → length (after_pass xs yss) ≤ length top → (after_pass top (passed xs yss) ≡ top)
-    × AllAre top (passed top (passed xs yss))
+second : (top xs : List Access) (yss : List (List Access)) → length (after_pass xs yss) ≤ length top → (after_pass top (all_after_pass xs yss) ≡ top)
+    × AllAre top (all_after_pass top (all_after_pass xs yss))
 second top xs [] h = (refl, tt)
 second top xs (ys ∷ yss) h =
     let a = grows (longer xs ys) yss in
     let e = keeps top (longer xs ys) (omega arith) in
     let r = second top (longer xs ys) yss h in
-    (ap (λ (z : List Access). after_pass z (passed (longer xs ys) yss)) e ∙ r.0, (e, rw e r.1))
+    (ap (λ (z : List Access). after_pass z (all_after_pass (longer xs ys) yss)) e ∙ r.0, (e, rw e r.1))
 
-pub two_passes : (xs : List Access) (yss : List (List Access)) → (after_pass (after_pass xs yss) (passed xs yss) ≡ after_pass xs yss)
-    × AllAre (after_pass xs yss) (passed (after_pass xs yss) (passed xs yss))
+pub two_passes : (xs : List Access) (yss : List (List Access)) → (after_pass (after_pass xs yss) (all_after_pass xs yss) ≡ after_pass xs yss)
+    × AllAre (after_pass xs yss) (all_after_pass (after_pass xs yss) (all_after_pass xs yss))
 two_passes xs yss = second (after_pass xs yss) xs yss (omega arith)
 
 -- who has seen what another had, and more, keeps its own

@@ -17,9 +17,9 @@ after_pass xs [] = xs
 after_pass xs (ys ∷ yss) = after_pass (longer xs ys) yss
 
 -- what each of them has then seen
-abbrev pub passed : List Access → List (List Access) → List (List Access)
-passed xs [] = []
-passed xs (ys ∷ yss) = longer xs ys ∷ passed (longer xs ys) yss
+abbrev pub all_after_pass : List Access → List (List Access) → List (List Access)
+all_after_pass xs [] = []
+all_after_pass xs (ys ∷ yss) = longer xs ys ∷ all_after_pass (longer xs ys) yss
 
 abbrev pub AllAre : List Access → List (List Access) → Type 0
 AllAre xs [] = Unit {0}
@@ -28,7 +28,7 @@ AllAre xs (ys ∷ yss) = (ys ≡ xs) × AllAre xs yss
 -- after a second pass all have seen the same: what one had seen after the first
 abbrev pub TwoPasses : Type 0
 TwoPasses = (xs : List Access) (yss : List (List Access))
-    → (after_pass (after_pass xs yss) (passed xs yss) ≡ after_pass xs yss) × AllAre (after_pass xs yss) (passed (after_pass xs yss) (passed xs yss))
+    → (after_pass (after_pass xs yss) (all_after_pass xs yss) ≡ after_pass xs yss) × AllAre (after_pass xs yss) (all_after_pass (after_pass xs yss) (all_after_pass xs yss))
 
 -- after a pass nobody has seen more than who went through them
 abbrev pub NobodyAhead : Type 0

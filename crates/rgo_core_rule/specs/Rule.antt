@@ -5,7 +5,7 @@ use mathlib.Core.List.{IsPrefix}
 use lib.ListN.{get_elem?}
 use Rattle.rgo_core_rule.specs.Lists.{flattened}
 use Rattle.rgo_core_rule.specs.Histories.{Sound, accesses_by, replay}
-use Rattle.rgo_core_rule.specs.Views.{Words, Has, Owned}
+use Rattle.rgo_core_rule.specs.Views.{TableState, HasRow, Owned}
 use Rattle.rgo_core_rule.specs.declared.accesses.Access.{Access}
 use Rattle.rgo_core_rule.specs.declared.accesses.View.{View}
 
@@ -13,7 +13,7 @@ module _ {R : Type 0} (accesses : R → ℕ) where
   -- each view has seen a beginning of the history, and in it all accesses of the goroutines whose records it has
   pub record Aware (views : List (View R)) (history : List Access) : Type 0 where
     pub seen : (id : ℕ) (v : View R) → get_elem? views id ≡ some v → IsPrefix v.seen history
-    pub own : (id : ℕ) (v : View R) (g : ℕ) (c : R) → get_elem? views id ≡ some v → Has v.records g c
+    pub own : (id : ℕ) (v : View R) (g : ℕ) (c : R) → get_elem? views id ≡ some v → HasRow v.records g c
         → accesses c ≡ accesses_by g v.seen
 
 -- E are the events of runs, and R the records of goroutines, each with the number of its accesses. `Explains` says that a
@@ -37,7 +37,7 @@ module _ {E R : Type 0} (accesses : R → ℕ) (Explains : List ℕ → List R �
     pub glances : (i : ℕ) (a : Access) → get_elem? history i ≡ some a → a.by ≡ None → a.left ≡ a.found
 
   -- the rule
-  pub record Explained (s : Words R) : Type 0 where
+  pub record Explained (s : TableState R) : Type 0 where
     pub recs : List R
     pub history : List Access
     pub account : Account s.words recs history
@@ -52,4 +52,4 @@ module _ {E R : Type 0} (accesses : R → ℕ) (Explains : List ℕ → List R �
     pub history : List Access
     pub account : Account words recs history
     pub seen : IsPrefix v.seen history
-    pub here : (g : ℕ) (c : R) → Has v.records g c → (get_elem? recs g ≡ some c) × (accesses c ≡ accesses_by g v.seen)
+    pub here : (g : ℕ) (c : R) → HasRow v.records g c → (get_elem? recs g ≡ some c) × (accesses c ≡ accesses_by g v.seen)

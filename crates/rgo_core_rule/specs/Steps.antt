@@ -3,7 +3,7 @@ use Rattle.std.specs.Prelude.{◌≡◌, ◌<◌, ◌⊎◌, ℕ, suc, List, [],
 use mathlib.Core.Option.{some}
 use lib.ListN.{get_elem?}
 use Rattle.rgo_core_rule.specs.Histories.{access, glance, accesses_by}
-use Rattle.rgo_core_rule.specs.Views.{Has, Me, IsAlone, number_of, record_of}
+use Rattle.rgo_core_rule.specs.Views.{HasRow, Me, IsAlone, number_of, record_of}
 use Rattle.rgo_core_rule.specs.declared.accesses.Access.{Access}
 use Rattle.rgo_core_rule.specs.declared.accesses.Kind.{Kind}
 use Rattle.rgo_core_rule.specs.declared.accesses.Kind.TheVariants.{Load}
@@ -93,8 +93,8 @@ module _ {R : Type 0} (accesses : R → ℕ) where
     pub new : accesses_by n w.0.seen ≡ 0
 
   -- what a call leaves on a seat with one record, where it finds n
-  abbrev pub Leaves : R → Kind → ℕ → (ℕ → ℕ) → (ℕ → R → Type 0) → Me R → ℕ → Me R → Type 0
-  Leaves blank kind i f tells m n w = IsAlone blank w × Told (number_of m) kind i f tells m n w
+  abbrev pub LeavesOnSeat : R → Kind → ℕ → (ℕ → ℕ) → (ℕ → R → Type 0) → Me R → ℕ → Me R → Type 0
+  LeavesOnSeat blank kind i f tells m n w = IsAlone blank w × Told (number_of m) kind i f tells m n w
 
 module _ {R : Type 0} (accesses : R → ℕ) where
   -- what a seat with any records knows after a load of word 0: it has then seen all accesses of the goroutines whose records it has
@@ -103,4 +103,4 @@ module _ {R : Type 0} (accesses : R → ℕ) where
     pub records : w.0.records ≡ m.0.records
     pub slots : w.1 ≡ m.1
     pub seen : w.0.seen ≡ (m.0.seen ++ between) ++ glance Load n ∷ []
-    pub own : (g : ℕ) (c : R) → Has w.0.records g c → accesses c ≡ accesses_by g w.0.seen
+    pub own : (g : ℕ) (c : R) → HasRow w.0.records g c → accesses c ≡ accesses_by g w.0.seen

@@ -7,8 +7,8 @@ use Rattle.rgo_core_rule.specs.declared.accesses.Access.{Access}
 use Rattle.rgo_core_rule.specs.declared.accesses.View.{View}
 
 -- the words of a table and the views of its seats
-abbrev pub Words : Type 0 → Type 0
-Words R = table.State (Unit {0}) (View R)
+abbrev pub TableState : Type 0 → Type 0
+TableState R = table.State (Unit {0}) (View R)
 
 -- what one seat knows; the second component, the slots that it has, is empty
 abbrev pub Me : Type 0 → Type 0
@@ -27,20 +27,20 @@ module _ {R : Type 0} where
   view rows seen = record { records = rows; seen = seen }
 
   -- c is the record of goroutine g
-  abbrev pub Has : Rows R → ℕ → R → Type 0
-  Has rows g c = (k : ℕ) × (get_elem? rows k ≡ some (g, c))
+  abbrev pub HasRow : Rows R → ℕ → R → Type 0
+  HasRow rows g c = (k : ℕ) × (get_elem? rows k ≡ some (g, c))
 
   -- each record is in the view of its owner, and in no other view
   pub record Owned (views : List (View R)) (recs : List R) (owner : ℕ → ℕ) : Type 0 where
-    pub here : (id : ℕ) (v : View R) (g : ℕ) (c : R) → get_elem? views id ≡ some v → Has v.records g c
+    pub here : (id : ℕ) (v : View R) (g : ℕ) (c : R) → get_elem? views id ≡ some v → HasRow v.records g c
         → (owner g ≡ id) × (get_elem? recs g ≡ some c)
     pub there : (g : ℕ) (c : R) → get_elem? recs g ≡ some c
-        → (v : View R) × (get_elem? views (owner g) ≡ some v) × Has v.records g c
+        → (v : View R) × (get_elem? views (owner g) ≡ some v) × HasRow v.records g c
 
   -- the rows of number g, and the others
-  abbrev pub rows_of : ℕ → Rows R → Rows R
-  rows_of g [] = []
-  rows_of g (r ∷ rs) = if r.0 == g then r ∷ rows_of g rs else rows_of g rs
+  abbrev pub rows_for : ℕ → Rows R → Rows R
+  rows_for g [] = []
+  rows_for g (r ∷ rs) = if r.0 == g then r ∷ rows_for g rs else rows_for g rs
 
   abbrev pub rows_but : ℕ → Rows R → Rows R
   rows_but g [] = []

@@ -2,7 +2,7 @@
 //! above has to give: an explanation, the law of each access, and one call each.
 ghost use Rattle.std.specs.Prelude.{◌≡◌, ◌≤◌, ◌<◌, ◌+◌, ◌%◌, ◌^◌, ℕ, suc, false, List, [], ◌∷◌, Some, None, IfOk, length};
 ghost use Rattle.std.specs.Mem.Slots.{IsFull, slots_items, slots_len};
-ghost use Rattle.rgo_core_rule.specs.Counting.{Event, Counts, CountingExamples, RuleExamples, MoveExamples, added, idled, drew, new_adder, DidStart};
+ghost use Rattle.rgo_core_rule.specs.Counting.{AdderEvent, CountingExplains, CountingExamples, RuleExamples, MoveExamples, added, idled, drew, new_adder, DidStart};
 ghost use Rattle.rgo_core_rule.specs.Rule.{Closing};
 ghost use Rattle.rgo_core_rule.specs.Steps.{Move, MoveEither, Still, Told};
 ghost use Rattle.rgo_core_rule.specs.Views.{IsAlone, number_of, record_of, view};
@@ -35,11 +35,11 @@ pub struct Plan {
 pub struct Counting;
 
 impl Explanation<Adder, Plan> for Counting {
-    ghost Event = { Event };
+    ghost Event = { AdderEvent };
 
     ghost accesses = { λ c. c.accesses };
 
-    ghost explains = { λ plan. Counts plan.limit };
+    ghost explains = { λ plan. CountingExplains plan.limit };
 
     ghost opening = { λ plan. 0 ∷ 1 ∷ [] };
 
@@ -60,20 +60,20 @@ pub fn examples()
 /// The law of an addition: it is one event of the run.
 pub fn add_law()
     ensures { (limit g : ℕ) (c : adders.Adder)
-        → Move (λ (c : adders.Adder). c.accesses) (Counts limit) g c 0 (λ n. (n + 1) % 2 ^ 64) (λ n d. d ≡ added c) }
+        → Move (λ (c : adders.Adder). c.accesses) (CountingExplains limit) g c 0 (λ n. (n + 1) % 2 ^ 64) (λ n d. d ≡ added c) }
 {}
 
 /// The law of a draw: below the limit it starts a goroutine.
 pub fn start_law()
     ensures { (limit g : ℕ) (c : adders.Adder) → c.has_drawn ≡ false
-        → MoveEither (λ (c : adders.Adder). c.accesses) (Counts limit) g c 1 (λ n. (n + 1) % 2 ^ 64)
+        → MoveEither (λ (c : adders.Adder). c.accesses) (CountingExplains limit) g c 1 (λ n. (n + 1) % 2 ^ 64)
         (λ n d. (limit ≤ n) × (d ≡ drew c)) (λ n d child. (n < limit) × (d ≡ drew c) × (child ≡ new_adder)) }
 {}
 
 /// A goroutine may idle without an access.
 pub fn idle_law()
     ensures { (limit g : ℕ) (c : adders.Adder)
-        → Still (λ (c : adders.Adder). c.accesses) (Counts limit) g c (idled c) }
+        → Still (λ (c : adders.Adder). c.accesses) (CountingExplains limit) g c (idled c) }
 {}
 
 /// A table with the total 0, and the seat of its first goroutine.
@@ -118,7 +118,7 @@ pub fn close(table: Total, seat: AdderSeat) -> Closed<(), Global>
     ensures counts { (slots_len result.words ≡ table.shared.table_id.words)
         × (slots_len result.slots ≡ table.shared.table_id.slots) }
     ensures full { IsFull result.words }
-    ensures end { Closing (λ (c : adders.Adder). c.accesses) (Counts table.shared.key.limit) (0 ∷ 1 ∷ [])
+    ensures end { Closing (λ (c : adders.Adder). c.accesses) (CountingExplains table.shared.key.limit) (0 ∷ 1 ∷ [])
         (slots_items result.words) seat.me.0 }
 {
     seats::close(table, seat)

@@ -1,7 +1,7 @@
 //! What follows from the rule, for every explanation.
 ghost use Rattle.rgo_core_rule.specs.Passes.{TwoPasses, NobodyAhead, PassIsStill, TurnLooks};
 ghost use Rattle.rgo_core_rule.specs.Steps.{Move, Still};
-ghost use Rattle.rgo_core_rule.specs.Views.{rows_of, rows_but};
+ghost use Rattle.rgo_core_rule.specs.Views.{rows_for, rows_but};
 ghost use Rattle.std.specs.Prelude.{◌≡◌, ◌<◌, ℕ, [], ◌∷◌};
 
 use crate::rule::Explanation;
@@ -42,6 +42,6 @@ pub fn still_then_still<R, K, X: Explanation<R, K>>()
 
 /// A goroutine and one that it has just started are parted into two seats with one record each.
 pub fn two_rows<R>()
-    ensures { (g n : ℕ) (c d : R) → g < n → (rows_of n ((g, c) ∷ (n, d) ∷ []) ≡ (n, d) ∷ [])
+    ensures { (g n : ℕ) (c d : R) → g < n → (rows_for n ((g, c) ∷ (n, d) ∷ []) ≡ (n, d) ∷ [])
         × (rows_but n ((g, c) ∷ (n, d) ∷ []) ≡ (g, c) ∷ []) }
 {}

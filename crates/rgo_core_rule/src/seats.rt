@@ -4,7 +4,7 @@ ghost use Rattle.std.specs.Mem.Slots.{IsFull, slots_items, slots_len};
 ghost use Rattle.atomic_table.specs.Table.{Splits};
 ghost use Rattle.rgo_core_rule.specs.Rule.{Explained, Closing};
 ghost use Rattle.rgo_core_rule.specs.Steps.{Glanced};
-ghost use Rattle.rgo_core_rule.specs.Views.{Has, view, rows_of, rows_but, joined, longer};
+ghost use Rattle.rgo_core_rule.specs.Views.{HasRow, view, rows_for, rows_but, joined, longer};
 
 use crate::accesses::View;
 use crate::rule::{Cells, Chair, Cut, Explanation, Informed, Joined, Parting, Rule};
@@ -85,11 +85,11 @@ pub fn part<R, K, X: Explanation<R, K>>(
     number: u64,
 ) -> Chair<R>
     requires own { (seat.old.table_id ≡ table.now.shared.table_id) × (0 < table.now.shared.table_id.words) }
-    requires has { (c : R) × Has seat.old.me.0.records number c }
+    requires has { (c : R) × HasRow seat.old.me.0.records number c }
     ensures old { (seat.new.table_id ≡ seat.old.table_id) × (seat.new.id ≡ seat.old.id)
         × (seat.new.me ≡ (view (rows_but number seat.old.me.0.records) seat.old.me.0.seen, seat.old.me.1)) }
     ensures new { (result.table_id ≡ seat.old.table_id)
-        × (result.me ≡ (view (rows_of number seat.old.me.0.records) seat.old.me.0.seen, [])) }
+        × (result.me ≡ (view (rows_for number seat.old.me.0.records) seat.old.me.0.seen, [])) }
 {
     cut_as::<R, K, X, Brand, _>(table, seat, &number)
 }

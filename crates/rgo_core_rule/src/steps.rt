@@ -2,8 +2,8 @@
 //! the rule of the table allows the access then follows. What it leaves is possible: a run leads to a table with this record.
 ghost use Rattle.std.specs.Prelude.{◌≡◌, ◌⊎◌, ◌+◌, ◌-◌, ◌%◌, ◌^◌, ◌<◌, ◌==◌, ℕ, bit_or};
 ghost use prog.Atomic.{either};
-ghost use Rattle.rgo_core_rule.specs.Steps.{Asks, AsksEither, Leaves, Occurs, Told, ToldChild};
-ghost use Rattle.rgo_core_rule.specs.Views.{Has, number_of, record_of};
+ghost use Rattle.rgo_core_rule.specs.Steps.{Asks, AsksEither, LeavesOnSeat, Occurs, Told, ToldChild};
+ghost use Rattle.rgo_core_rule.specs.Views.{HasRow, number_of, record_of};
 
 use crate::rule::{Cells, Chair, Explanation};
 use crate::told;
@@ -21,7 +21,7 @@ pub fn load<R, K, X: Explanation<R, K>, T: Step<R>, A>(
     requires asks { Asks X.accesses (X.explains table.now.shared.key) (X.first table.now.shared.key) seat.old.me word
         (λ n. n) T.tells }
     ensures own { (seat.new.table_id ≡ seat.old.table_id) × (seat.new.id ≡ seat.old.id) }
-    ensures leaves { Leaves X.accesses (X.first table.now.shared.key) T.kind word
+    ensures leaves { LeavesOnSeat X.accesses (X.first table.now.shared.key) T.kind word
         (λ n. n) T.tells seat.old.me result seat.new.me }
     ensures possible { Occurs (X.explains table.now.shared.key) (number_of seat.new.me)
         (record_of (X.first table.now.shared.key) seat.new.me) }
@@ -42,7 +42,7 @@ pub fn store<R, K, X: Explanation<R, K>, T: Step<R>, A>(
         (λ n. new) T.tells }
     ensures own { (seat.new.table_id ≡ seat.old.table_id) × (seat.new.id ≡ seat.old.id) }
     ensures leaves { (n : ℕ)
-        × Leaves X.accesses (X.first table.now.shared.key) T.kind word (λ n. new) T.tells seat.old.me n seat.new.me }
+        × LeavesOnSeat X.accesses (X.first table.now.shared.key) T.kind word (λ n. new) T.tells seat.old.me n seat.new.me }
     ensures possible { Occurs (X.explains table.now.shared.key) (number_of seat.new.me)
         (record_of (X.first table.now.shared.key) seat.new.me) }
 {
@@ -61,7 +61,7 @@ pub fn swap<R, K, X: Explanation<R, K>, T: Step<R>, A>(
     requires asks { Asks X.accesses (X.explains table.now.shared.key) (X.first table.now.shared.key) seat.old.me word
         (λ n. new) T.tells }
     ensures own { (seat.new.table_id ≡ seat.old.table_id) × (seat.new.id ≡ seat.old.id) }
-    ensures leaves { Leaves X.accesses (X.first table.now.shared.key) T.kind word
+    ensures leaves { LeavesOnSeat X.accesses (X.first table.now.shared.key) T.kind word
         (λ n. new) T.tells seat.old.me result seat.new.me }
     ensures possible { Occurs (X.explains table.now.shared.key) (number_of seat.new.me)
         (record_of (X.first table.now.shared.key) seat.new.me) }
@@ -81,7 +81,7 @@ pub fn fetch_add<R, K, X: Explanation<R, K>, T: Step<R>, A>(
     requires asks { Asks X.accesses (X.explains table.now.shared.key) (X.first table.now.shared.key) seat.old.me word
         (λ n. (n + k) % 2 ^ 64) T.tells }
     ensures own { (seat.new.table_id ≡ seat.old.table_id) × (seat.new.id ≡ seat.old.id) }
-    ensures leaves { Leaves X.accesses (X.first table.now.shared.key) T.kind word
+    ensures leaves { LeavesOnSeat X.accesses (X.first table.now.shared.key) T.kind word
         (λ n. (n + k) % 2 ^ 64) T.tells seat.old.me result seat.new.me }
     ensures possible { Occurs (X.explains table.now.shared.key) (number_of seat.new.me)
         (record_of (X.first table.now.shared.key) seat.new.me) }
@@ -101,7 +101,7 @@ pub fn fetch_sub<R, K, X: Explanation<R, K>, T: Step<R>, A>(
     requires asks { Asks X.accesses (X.explains table.now.shared.key) (X.first table.now.shared.key) seat.old.me word
         (λ n. (n + (2 ^ 64 - k)) % 2 ^ 64) T.tells }
     ensures own { (seat.new.table_id ≡ seat.old.table_id) × (seat.new.id ≡ seat.old.id) }
-    ensures leaves { Leaves X.accesses (X.first table.now.shared.key) T.kind word
+    ensures leaves { LeavesOnSeat X.accesses (X.first table.now.shared.key) T.kind word
         (λ n. (n + (2 ^ 64 - k)) % 2 ^ 64) T.tells seat.old.me result seat.new.me }
     ensures possible { Occurs (X.explains table.now.shared.key) (number_of seat.new.me)
         (record_of (X.first table.now.shared.key) seat.new.me) }
@@ -121,7 +121,7 @@ pub fn fetch_or<R, K, X: Explanation<R, K>, T: Step<R>, A>(
     requires asks { Asks X.accesses (X.explains table.now.shared.key) (X.first table.now.shared.key) seat.old.me word
         (λ n. bit_or n k) T.tells }
     ensures own { (seat.new.table_id ≡ seat.old.table_id) × (seat.new.id ≡ seat.old.id) }
-    ensures leaves { Leaves X.accesses (X.first table.now.shared.key) T.kind word
+    ensures leaves { LeavesOnSeat X.accesses (X.first table.now.shared.key) T.kind word
         (λ n. bit_or n k) T.tells seat.old.me result seat.new.me }
     ensures possible { Occurs (X.explains table.now.shared.key) (number_of seat.new.me)
         (record_of (X.first table.now.shared.key) seat.new.me) }
@@ -142,7 +142,7 @@ pub fn compare_exchange<R, K, X: Explanation<R, K>, T: Step<R>, A>(
     requires asks { Asks X.accesses (X.explains table.now.shared.key) (X.first table.now.shared.key) seat.old.me word
         (λ n. either (n == old) new n) T.tells }
     ensures own { (seat.new.table_id ≡ seat.old.table_id) × (seat.new.id ≡ seat.old.id) }
-    ensures leaves { Leaves X.accesses (X.first table.now.shared.key) T.kind word
+    ensures leaves { LeavesOnSeat X.accesses (X.first table.now.shared.key) T.kind word
         (λ n. either (n == old) new n) T.tells seat.old.me result seat.new.me }
     ensures possible { Occurs (X.explains table.now.shared.key) (number_of seat.new.me)
         (record_of (X.first table.now.shared.key) seat.new.me) }
@@ -166,7 +166,7 @@ pub fn fetch_add_start<R, K, X: Explanation<R, K>, T: Start<R>, A>(
         (λ n. (n + k) % 2 ^ 64) T.tells seat.old.me result seat.new.me
         ⊎ ToldChild X.accesses (number_of seat.old.me) T.kind word
         (λ n. (n + k) % 2 ^ 64) T.tells_child seat.old.me result seat.new.me }
-    ensures possible { (g : ℕ) (c : R) → Has seat.new.me.0.records g c
+    ensures possible { (g : ℕ) (c : R) → HasRow seat.new.me.0.records g c
         → Occurs (X.explains table.now.shared.key) g c }
 {
     told::fetch_add_start::<R, K, X, Brand>(table, seat, word, k)

@@ -2,7 +2,7 @@
 //! record after it is possible.
 ghost use Rattle.std.specs.Prelude.{◌≡◌, ◌⊎◌, ◌+◌, ◌-◌, ◌%◌, ◌^◌, ◌<◌, ◌==◌, ℕ, bit_or};
 ghost use prog.Atomic.{either};
-ghost use Rattle.rgo_core_rule.specs.Steps.{Asks, AsksEither, Leaves, Told, ToldChild};
+ghost use Rattle.rgo_core_rule.specs.Steps.{Asks, AsksEither, LeavesOnSeat, Told, ToldChild};
 ghost use Rattle.rgo_core_rule.specs.Views.{number_of};
 ghost use Rattle.rgo_core_rule.specs.declared.accesses.Kind.{Kind as kinds};
 ghost use Rattle.rgo_core_rule.specs.declared.accesses.Kind.TheVariants as kind;
@@ -130,7 +130,7 @@ pub(crate) fn load<R, K, X: Explanation<R, K>, T: Step<R>>(
     requires asks { Asks X.accesses (X.explains table.now.shared.key) (X.first table.now.shared.key) seat.old.me word
         (λ n. n) T.tells }
     ensures own { (seat.new.table_id ≡ seat.old.table_id) × (seat.new.id ≡ seat.old.id) }
-    ensures leaves { Leaves X.accesses (X.first table.now.shared.key) T.kind word
+    ensures leaves { LeavesOnSeat X.accesses (X.first table.now.shared.key) T.kind word
         (λ n. n) T.tells seat.old.me result seat.new.me }
 {
     table.shared.load::<Loads<K, X, T>>(seat, word)
@@ -148,7 +148,7 @@ pub(crate) fn store<R, K, X: Explanation<R, K>, T: Step<R>>(
         (λ n. new) T.tells }
     ensures own { (seat.new.table_id ≡ seat.old.table_id) × (seat.new.id ≡ seat.old.id) }
     ensures leaves { (n : ℕ)
-        × Leaves X.accesses (X.first table.now.shared.key) T.kind word (λ n. new) T.tells seat.old.me n seat.new.me }
+        × LeavesOnSeat X.accesses (X.first table.now.shared.key) T.kind word (λ n. new) T.tells seat.old.me n seat.new.me }
 {
     table.shared.store::<Stores<K, X, T>>(seat, word, new);
 }
@@ -164,7 +164,7 @@ pub(crate) fn swap<R, K, X: Explanation<R, K>, T: Step<R>>(
     requires asks { Asks X.accesses (X.explains table.now.shared.key) (X.first table.now.shared.key) seat.old.me word
         (λ n. new) T.tells }
     ensures own { (seat.new.table_id ≡ seat.old.table_id) × (seat.new.id ≡ seat.old.id) }
-    ensures leaves { Leaves X.accesses (X.first table.now.shared.key) T.kind word
+    ensures leaves { LeavesOnSeat X.accesses (X.first table.now.shared.key) T.kind word
         (λ n. new) T.tells seat.old.me result seat.new.me }
 {
     table.shared.swap::<Swaps<K, X, T>>(seat, word, new)
@@ -181,7 +181,7 @@ pub(crate) fn fetch_add<R, K, X: Explanation<R, K>, T: Step<R>>(
     requires asks { Asks X.accesses (X.explains table.now.shared.key) (X.first table.now.shared.key) seat.old.me word
         (λ n. (n + k) % 2 ^ 64) T.tells }
     ensures own { (seat.new.table_id ≡ seat.old.table_id) × (seat.new.id ≡ seat.old.id) }
-    ensures leaves { Leaves X.accesses (X.first table.now.shared.key) T.kind word
+    ensures leaves { LeavesOnSeat X.accesses (X.first table.now.shared.key) T.kind word
         (λ n. (n + k) % 2 ^ 64) T.tells seat.old.me result seat.new.me }
 {
     table.shared.fetch_add::<Adds<K, X, T>>(seat, word, k)
@@ -198,7 +198,7 @@ pub(crate) fn fetch_sub<R, K, X: Explanation<R, K>, T: Step<R>>(
     requires asks { Asks X.accesses (X.explains table.now.shared.key) (X.first table.now.shared.key) seat.old.me word
         (λ n. (n + (2 ^ 64 - k)) % 2 ^ 64) T.tells }
     ensures own { (seat.new.table_id ≡ seat.old.table_id) × (seat.new.id ≡ seat.old.id) }
-    ensures leaves { Leaves X.accesses (X.first table.now.shared.key) T.kind word
+    ensures leaves { LeavesOnSeat X.accesses (X.first table.now.shared.key) T.kind word
         (λ n. (n + (2 ^ 64 - k)) % 2 ^ 64) T.tells seat.old.me result seat.new.me }
 {
     table.shared.fetch_sub::<Subtracts<K, X, T>>(seat, word, k)
@@ -215,7 +215,7 @@ pub(crate) fn fetch_or<R, K, X: Explanation<R, K>, T: Step<R>>(
     requires asks { Asks X.accesses (X.explains table.now.shared.key) (X.first table.now.shared.key) seat.old.me word
         (λ n. bit_or n k) T.tells }
     ensures own { (seat.new.table_id ≡ seat.old.table_id) × (seat.new.id ≡ seat.old.id) }
-    ensures leaves { Leaves X.accesses (X.first table.now.shared.key) T.kind word
+    ensures leaves { LeavesOnSeat X.accesses (X.first table.now.shared.key) T.kind word
         (λ n. bit_or n k) T.tells seat.old.me result seat.new.me }
 {
     table.shared.fetch_or::<Sets<K, X, T>>(seat, word, k)
@@ -233,7 +233,7 @@ pub(crate) fn compare_exchange<R, K, X: Explanation<R, K>, T: Step<R>>(
     requires asks { Asks X.accesses (X.explains table.now.shared.key) (X.first table.now.shared.key) seat.old.me word
         (λ n. either (n == old) new n) T.tells }
     ensures own { (seat.new.table_id ≡ seat.old.table_id) × (seat.new.id ≡ seat.old.id) }
-    ensures leaves { Leaves X.accesses (X.first table.now.shared.key) T.kind word
+    ensures leaves { LeavesOnSeat X.accesses (X.first table.now.shared.key) T.kind word
         (λ n. either (n == old) new n) T.tells seat.old.me result seat.new.me }
 {
     table

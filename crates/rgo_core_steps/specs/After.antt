@@ -4,21 +4,21 @@ use Rattle.std.specs.Option.{option_map, option_map_or}
 use Rattle.std.specs.Prelude.{ℕ, suc, ◌+◌, ◌*◌, List, [], ◌∷◌, Option, None, unwrap_or}
 use Rattle.rgo_sound.specs.Code.Code.{Branch, Call, Code, CodeFn, CodeInstr, CodeOp, Do, Go, Jump, Print, Return}
 use Rattle.rgo_core.specs.Channels.Records.{at_rest}
-use Rattle.rgo_core.specs.Frames.Actions.{after_action}
-use Rattle.rgo_core.specs.Frames.Children.{child_records}
-use Rattle.rgo_core.specs.Frames.Meetings.{acknowledged}
-use Rattle.rgo_core.specs.Frames.Opening.{no_record}
-use Rattle.rgo_core.specs.Frames.Prints.{printed_values}
+use Rattle.rgo_core.specs.Frames.steps.Actions.{after_action}
+use Rattle.rgo_core.specs.Frames.goroutines.Children.{child_records}
+use Rattle.rgo_core.specs.Frames.goroutines.Meetings.{acknowledged}
+use Rattle.rgo_core.specs.Frames.goroutines.Opening.{no_record}
+use Rattle.rgo_core.specs.Frames.steps.Prints.{printed_values}
 use Rattle.rgo_core.specs.Frames.Records.{after_op}
-use Rattle.rgo_core.specs.Frames.WordFrames.{WordFrame, bare, word_called, word_moved, words_of}
-use Rattle.rgo_core.specs.Memory.Records.{Fill, with_object, with_object_apart}
+use Rattle.rgo_core.specs.Frames.shown.WordFrames.{WordFrame, bare, word_called, word_moved, words_of}
+use Rattle.rgo_core.specs.Memory.Records.{Fill, with_object_in_page, with_object_apart}
 use Rattle.rgo_sound.specs.Machine.Lines.{printed_line}
 use Rattle.rgo_sound.specs.Memory.Memory.{Object}
 use Rattle.rgo_sound.specs.RegionMachine.Objects.{object_words as words_in}
 use Rattle.rgo_sound.specs.RegionMachine.Owed.{current, code_function}
 use Rattle.rgo_core.specs.Core.{Setup}
 use Rattle.rgo_core.specs.Laws.{first_in}
-use Rattle.rgo_core.specs.NewObjects.{reserved_address}
+use Rattle.rgo_core.specs.moves.NewObjects.{reserved_address}
 use Rattle.rgo_core.specs.Records.{Record, accessed, begins_with, ticked, with_child, with_print}
 
 -- ---- the next instruction
@@ -41,8 +41,8 @@ abbrev pub moving : Code → Record → (Position → Record) → Record
 moving code c after = option_map_or after (position code c) c
 
 -- where the next instruction is in the text of the program
-abbrev pub place_of : Code → Record → ℕ
-place_of code c = option_map_or (λ p. p.instr.place) (position code c) 0
+abbrev pub next_place : Code → Record → ℕ
+next_place code c = option_map_or (λ p. p.instr.place) (position code c) 0
 
 -- ---- actions
 
@@ -83,7 +83,7 @@ making T c f object = moving T.code c (λ p. record c {
     share = record c.clock.share { steps = suc c.clock.share.steps; objects = suc c.clock.share.objects };
   };
   frame = after_action T.code c.frame p.w p.ws p.instr (given p.instr.op) (suc (f.page * T.sizes.page_words + f.fill));
-  memory = with_object c.memory f.slot (f.fill + words_in object);
+  memory = with_object_in_page c.memory f.slot (f.fill + words_in object);
 })
 
 -- after it has made a spread object in the pages that were reserved for it

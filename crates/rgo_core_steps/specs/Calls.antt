@@ -1,12 +1,12 @@
 -- What calls of several accesses ask of their table, and what they have done.
 use Rattle.std.specs.Prelude.{◌≡◌, ◌≤◌, ◌+◌, ◌^◌, ℕ, zero, suc, List, length}
 use Rattle.atomic_table.specs.Seated.{TableId}
-use Rattle.rgo_core.specs.Channels.Records.{Rec as SideRec}
+use Rattle.rgo_core.specs.Channels.Records.{ChannelRec as SideRec}
 use Rattle.rgo_core.specs.Memory.Words.{all_words}
 use Rattle.rgo_core.specs.Rule.Views.{Me, number_of}
 use Rattle.rgo_core.specs.Rule.declared.accesses.Access.{Access}
 use Rattle.rgo_core.specs.Core.{Setup, layout}
-use Rattle.rgo_core.specs.Opening.{first_of}
+use Rattle.rgo_core.specs.runs.Opening.{first_of}
 use Rattle.rgo_core.specs.Records.{ClockRec, Record, accessed, accesses}
 use Rattle.rgo_core_steps.specs.Grown.{Made}
 

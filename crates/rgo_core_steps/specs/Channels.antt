@@ -4,11 +4,11 @@ use Rattle.std.specs.Prelude.{◌≡◌, ◌⊎◌, ◌+◌, ◌-◌, ◌%◌, �
 use Rattle.rgo_core.specs.Channels.Controls.{closed_of, count_of, extent, head_of, spreads, tail_words}
 use Rattle.rgo_core.specs.Channels.Locking.{IsCell, IsSpare}
 use Rattle.rgo_core.specs.Channels.Records.{Free, Hold, Locked, Offering, Read, Sized, Wrote, with_look, with_own_look, with_reach, with_size}
-use Rattle.rgo_core.specs.Frames.WordFrames.{word_at}
+use Rattle.rgo_core.specs.Frames.shown.WordFrames.{frame_word}
 use Rattle.rgo_core.specs.Memory.Words.{all_words, cell_at}
 use Rattle.rgo_sound.specs.Typed.declared.actions.Action.TheVariants.{Close, Recv, Send}
-use Rattle.rgo_core.specs.AtChannels.{Operates, knows}
-use Rattle.rgo_core.specs.CommitMoves.{IsAtSend}
+use Rattle.rgo_core.specs.ties.AtChannels.{Operates, knows}
+use Rattle.rgo_core.specs.moves.Commits.{IsAtSend}
 use Rattle.rgo_core.specs.Core.{Setup, layout}
 use Rattle.rgo_core.specs.Records.{Record}
 
@@ -90,7 +90,7 @@ pub record CanSend (T : Setup) (c : Record) (at n : ℕ) : Type 0 where
   pub cell : ℕ
   pub size : ℕ
   pub here : Operates T c to Send (sent ∷ []) at
-  pub wrote : c.side.hold ≡ Wrote at n cell (word_at here.here.w sent)
+  pub wrote : c.side.hold ≡ Wrote at n cell (frame_word here.here.w sent)
   pub sized : c.side.size ≡ Sized at size
   pub is_open : closed_of n ≡ 0
   pub room : count_of n < size
@@ -130,7 +130,7 @@ pub record CanOffer (T : Setup) (c : Record) (at n : ℕ) : Type 0 where
   pub to : Option ℕ
   pub sent : ℕ
   pub here : Operates T c to Send (sent ∷ []) at
-  pub wrote : c.side.hold ≡ Wrote at n 0 (word_at here.here.w sent)
+  pub wrote : c.side.hold ≡ Wrote at n 0 (frame_word here.here.w sent)
   pub sized : c.side.size ≡ Sized at 0
   pub is_open : closed_of n ≡ 0
   pub none : count_of n ≡ 0

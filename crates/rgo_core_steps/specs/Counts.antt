@@ -2,12 +2,12 @@
 use Rattle.std.specs.Option.{option_map_or}
 use Rattle.std.specs.Prelude.{◌≡◌, ◌==◌, ℕ, List, [], ◌∷◌, Option, Some, None, if◌then◌else◌}
 use Rattle.rgo_sound.specs.RegionMachine.States.{Create, Duty, EndBase, Holder, Protect, Remove, Share, Unprotect}
-use Rattle.rgo_core.specs.Frames.Stakes.{stake_ended, stake_shared}
+use Rattle.rgo_core.specs.Frames.regions.Stakes.{stake_ended, stake_shared}
 use Rattle.rgo_core.specs.Memory.Events.{IsFreeOf}
 use Rattle.rgo_core.specs.Memory.Records.{Calm, with_tried_slot}
-use Rattle.rgo_core.specs.Chains.{remembers}
+use Rattle.rgo_core.specs.moves.Chains.{remembers}
 use Rattle.rgo_core.specs.Records.{Record}
-use Rattle.rgo_core.specs.Regions.{HasLeft, creates, with_holder}
+use Rattle.rgo_core.specs.moves.Regions.{HasLeft, creates, with_holder}
 
 -- ---- a region is created
 
@@ -28,8 +28,8 @@ created_with c p [] = c
 created_with c p (d ∷ ds) = created_by c p d ds
 
 -- the record after its first duty has created a region in this slot
-abbrev pub created : Record → (slot : ℕ) → Record
-created c p = created_with c p c.frame.holder.duties
+abbrev pub created_in_slot : Record → (slot : ℕ) → Record
+created_in_slot c p = created_with c p c.frame.holder.duties
 
 -- the record after it has found a count that was not 0
 abbrev pub tried_slot : Record → (slot : ℕ) → Record
@@ -37,7 +37,7 @@ tried_slot c p = remembers c (with_tried_slot c.memory p)
 
 -- the record after an exchange of a count that was n: 0 is a free slot
 abbrev pub tries_slot : Record → (slot n : ℕ) → Record
-tries_slot c p n = if n == 0 then created c p else tried_slot c p
+tries_slot c p n = if n == 0 then created_in_slot c p else tried_slot c p
 
 -- ---- stakes
 
@@ -59,8 +59,8 @@ abbrev pub IsSharing : Record → (slot : ℕ) → Type 0
 IsSharing c p = (k : Holder) × (sharing c ≡ Some (p, k))
 
 -- the record after that
-abbrev pub shared : Record → Record
-shared c = option_map_or (λ (t : ℕ × Holder). with_holder c t.1) (sharing c) c
+abbrev pub shared_record : Record → Record
+shared_record c = option_map_or (λ (t : ℕ × Holder). with_holder c t.1) (sharing c) c
 
 -- The first duty ends the stake in the region of this slot. There is no claimed page of it that is not linked and no half made
 -- object of it, and no chain is being returned.

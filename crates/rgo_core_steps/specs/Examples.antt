@@ -1,7 +1,7 @@
 -- Each definition where it holds and where it must not.
 use Rattle.std.specs.Prelude.{◌≡◌, ◌^◌, ◌+◌, ℕ, suc, true, [], ◌∷◌, Some, None, slice_set}
 use Rattle.rgo_sound.specs.Code.Code.{Code, Do, Return}
-use Rattle.rgo_core.specs.Frames.Opening.{no_record}
+use Rattle.rgo_core.specs.Frames.goroutines.Opening.{no_record}
 use Rattle.rgo_core.specs.Rule.Views.{Me, view}
 use Rattle.rgo_sound.specs.Machine.Limits.{most_goroutines}
 use Rattle.rgo_sound.specs.Machine.declared.picks.End.TheVariants as the_end
@@ -11,15 +11,15 @@ use Rattle.rgo_sound.specs.RegionMachine.States.{Ended, RegionState, Stopped}
 use Rattle.rgo_sound.specs.RegionMachine.declared.limits.Limit.TheVariants.{Memory}
 use Rattle.rgo_sound.specs.Typed.declared.actions.Action.{Action}
 use Rattle.rgo_core.specs.Core.{Setup}
-use Rattle.rgo_core.specs.Opening.{opening}
+use Rattle.rgo_core.specs.runs.Opening.{opening_table}
 use Rattle.rgo_core.specs.Records.{Record, begins_with, blank, instructed, looked, steps_of, with_child, with_end, with_print}
 use Rattle.rgo_core_steps.specs.After.{acting, given, piece}
 use Rattle.rgo_core_steps.specs.Ends.{GoroutineEndsRun, InstrTraps, ending, mark_of}
 use Rattle.rgo_core_steps.specs.Outcomes.{EndsOnce, HasFamily, OpensWith, PrintsInOrder}
 use Rattle.rgo_core_steps.specs.Prints.{IsAtPrint}
-use Rattle.rgo_core_steps.specs.Seats.{HasOne, HasTwo, IsQuiet, mine, other, settled, settled_once}
+use Rattle.rgo_core_steps.specs.Seats.{HasOne, HasTwo, NextIsLocal, mine, other, settled, settled_once}
 use Rattle.rgo_core_steps.specs.Settled.{IsLocal}
-use Rattle.rgo_core_steps.specs.Starts.{HasDrawn, IsAtStart, next_number, refusing}
+use Rattle.rgo_core_steps.specs.Starts.{HasDrawn, IsBeforeGo, next_number, refusing}
 use Rattle.rgo_core_steps.specs.declared.clock.Mark.TheVariants as given_mark
 
 -- a goroutine that has no frame left
@@ -30,15 +30,15 @@ idle = begins_with no_record
 abbrev pub pair : (g : ℕ) (c : Record) (h : ℕ) (d : Record) → Me Record
 pair g c h d = (view ((g, c) ∷ (h, d) ∷ []) [], [])
 
-abbrev pub single : ℕ → Record → Me Record
-single g c = (view ((g, c) ∷ []) [], [])
+abbrev pub single_seat : ℕ → Record → Me Record
+single_seat g c = (view ((g, c) ∷ []) [], [])
 
 abbrev pub empty : Me Record
 empty = (view [] [], [])
 
 pub record SeatExamples : Type 0 where
-  pub one : (T : Setup) (c : Record) → HasOne T (single 4 c)
-  pub its : (T : Setup) (c : Record) → mine T (single 4 c) ≡ c
+  pub one : (T : Setup) (c : Record) → HasOne T (single_seat 4 c)
+  pub its : (T : Setup) (c : Record) → mine T (single_seat 4 c) ≡ c
   pub none : (T : Setup) → HasOne T empty → ⊥
   pub more : (T : Setup) (c d : Record) → HasOne T (pair 4 c 5 d) → ⊥
   pub two : (T : Setup) (c d : Record) → HasTwo T (pair 4 c 5 d) 5
@@ -48,7 +48,7 @@ pub record SeatExamples : Type 0 where
   pub at_once : (T : Setup) (m : Me Record) → settled T 0 m ≡ mine T m
   -- without a frame there is no local step
   pub stuck : (T : Setup) (g : ℕ) → settled_once T g idle ≡ idle
-  pub not_quiet : (T : Setup) (g : ℕ) → IsQuiet T g idle → ⊥
+  pub not_quiet : (T : Setup) (g : ℕ) → NextIsLocal T g idle → ⊥
   pub local : (c : Record) → IsLocal c (record c { clock = instructed c.clock })
   -- a local step makes no access
   pub not_local : (c : Record) → IsLocal c (looked c) → ⊥
@@ -60,9 +60,9 @@ pub record AfterExamples : Type 0 where
   pub stays : (code : Code) (word : ℕ) → acting code idle word ≡ idle
   pub silent : (code : Code) → piece code idle ≡ []
   pub no_print : (T : Setup) → IsAtPrint T idle → ⊥
-  pub no_start : (T : Setup) → IsAtStart T idle → ⊥
+  pub no_start : (T : Setup) → IsBeforeGo T idle → ⊥
 
-pub record EndExamples : Type 0 where
+pub record RunEndExamples : Type 0 where
   pub mark : mark_of (given_mark.Stopped Memory) ≡ Stopped Memory
   -- memory may run out at any time; a trap needs an instruction, and an exit is the return of `main`
   pub memory : (T : Setup) (g : ℕ) (c : Record) → GoroutineEndsRun T g c (Stopped Memory)
@@ -116,4 +116,4 @@ pub record OutcomeExamples : Type 0 where
   pub family : HasFamily (view ((0, parent) ∷ (1, idle) ∷ []) [])
   pub no_child : HasFamily (view ((0, parent) ∷ []) []) → ⊥
   pub no_main : HasFamily (view ((1, idle) ∷ []) []) → ⊥
-  pub ticketed : (T : Setup) → OpensWith T (slice_set (opening T) 0 1) → ⊥
+  pub ticketed : (T : Setup) → OpensWith T (slice_set (opening_table T) 0 1) → ⊥

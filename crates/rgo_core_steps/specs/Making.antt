@@ -16,16 +16,16 @@ use Rattle.rgo_sound.specs.Typed.declared.actions.Action.{Action}
 use Rattle.rgo_sound.specs.Typed.declared.actions.Action.TheVariants as action
 use Rattle.rgo_sound.specs.Typed.declared.programs.Struct.{Struct}
 use Rattle.rgo_core.specs.Channels.Records.{at_rest}
-use Rattle.rgo_core.specs.Frames.WordFrames.{WordFrame, bare, word_at}
-use Rattle.rgo_core.specs.Memory.Encoding.{content, opening}
-use Rattle.rgo_core.specs.Memory.Pages.{times}
+use Rattle.rgo_core.specs.Frames.shown.WordFrames.{WordFrame, bare, frame_word}
+use Rattle.rgo_core.specs.Memory.Encoding.{content, opening_word}
+use Rattle.rgo_core.specs.Memory.Pages.{occurrences}
 use Rattle.rgo_core.specs.Memory.Records.{Across, Amid, Fill, Idle, Make, Rec as MemoryRec, Rest, Within, page_of, with_word, with_word_apart}
 use Rattle.rgo_core.specs.Memory.Spread.{spread_opening, table_words}
 use Rattle.rgo_core.specs.Memory.Words.{cell_at}
-use Rattle.rgo_core.specs.Bounds.{LieInPages, Points, row_words}
+use Rattle.rgo_core.specs.ties.Bounds.{LieInPages, Points, row_words}
 use Rattle.rgo_core.specs.Core.{Setup, layout}
-use Rattle.rgo_core.specs.NewObjects.{MakesObject, reserved_address, slot_number, word_apart}
-use Rattle.rgo_core.specs.Next.{IsAt}
+use Rattle.rgo_core.specs.moves.NewObjects.{MakesObject, reserved_address, slot_number, word_apart}
+use Rattle.rgo_core.specs.Next.{IsAtOp}
 use Rattle.rgo_core.specs.Records.{Record, accessed}
 use Rattle.rgo_core_steps.specs.Accesses.{given_type}
 use Rattle.rgo_core_steps.specs.After.{Position, making, making_apart, position}
@@ -36,17 +36,17 @@ abbrev pub struct_of : Struct → Object
 struct_of made = StructObject (map zero_of made.fields)
 
 -- an object with n of something, below a limit
-abbrev pub sized : (n limit : ℕ) → Object → Option Object
-sized n limit object = if nat_lt n limit then Some object else None
+abbrev pub object_below : (n limit : ℕ) → Object → Option Object
+object_below n limit object = if nat_lt n limit then Some object else None
 
 -- The object that an action makes: a size is not negative, and a buffer is small. The other actions make none.
 abbrev pub object_of : Code → WordFrame → Option ℕ → Action → List ℕ → Option Object
 object_of code w to (action.New n) from = option_map struct_of (slice_get code.structs n)
 object_of code w to action.Slice [] = None
-object_of code w to action.Slice (p ∷ ps) = sized (word_at w p) (2 ^ 63)
-    (SliceObject (replicate (word_at w p) (element_zero (destination_type (erased code) (bare w) to))))
+object_of code w to action.Slice (p ∷ ps) = object_below (frame_word w p) (2 ^ 63)
+    (SliceObject (replicate (frame_word w p) (element_zero (destination_type (erased code) (bare w) to))))
 object_of code w to action.Chan [] = None
-object_of code w to action.Chan (p ∷ ps) = sized (word_at w p) 1073741820 (Channel (word_at w p) [] false)
+object_of code w to action.Chan (p ∷ ps) = object_below (frame_word w p) 1073741820 (Channel (frame_word w p) [] false)
 object_of code w to _ from = None
 
 abbrev pub object_in : Code → WordFrame → CodeOp → Option Object
@@ -59,8 +59,8 @@ object_in code w (Branch test target removes other otherwise) = None
 object_in code w (Return value) = None
 
 -- the object that the next instruction makes
-abbrev pub next_object : Setup → Record → Option Object
-next_object T c = option_and_then (λ (p : Position). object_in T.code p.w p.instr.op) (position T.code c)
+abbrev pub object_to_make : Setup → Record → Option Object
+object_to_make T c = option_and_then (λ (p : Position). object_in T.code p.w p.instr.op) (position T.code c)
 
 -- ---- its slot and its page
 
@@ -81,7 +81,7 @@ pub record RecordMakesNext (T : Setup) (c : Record) (object : Object) (slot : �
   pub act : Action
   pub from : List ℕ
   pub removes : List ℕ
-  pub here : IsAt T.code c (Do to act from removes)
+  pub here : IsAtOp T.code c (Do to act from removes)
   pub makes : MakesObject T.code here.w to act from object
   pub region : Region
   pub in_region : making_region (code_function T.code here.w.function) (top_names c.frame.holder.environments) here.instr.op ≡ Some region
@@ -109,7 +109,7 @@ NeedsPage T c slot = NeedsOwnPage T c slot ⊎ NeedsReserved T c slot
 
 -- whether the object that the next instruction makes is spread
 abbrev pub next_is_spread : Setup → Record → Bool
-next_is_spread T c = option_map_or (is_spread T.sizes.page_words) (next_object T c) false
+next_is_spread T c = option_map_or (is_spread T.sizes.page_words) (object_to_make T c) false
 
 -- nothing is pending: no operation on a channel, no page that is claimed and not yet linked, no object that is half made
 pub record IsCalm (c : Record) : Type 0 where
@@ -139,12 +139,12 @@ pub record IsNewWord (T : Setup) (c : Record) (i word value : ℕ) : Type 0 wher
   pub making : IsMaking T.sizes.page_words c.memory page object
   pub low : i < words_of object
   pub at : word ≡ cell_at (layout T) page.page (page.fill + i)
-  pub opens : value ≡ opening (content object i)
+  pub opens : value ≡ opening_word (content object i)
 
 -- whether all of the first n words are among these
 abbrev pub covers : ℕ → List ℕ → Bool
 covers zero stored = true
-covers (suc n) stored = if times n stored == 0 then false else covers n stored
+covers (suc n) stored = if occurrences n stored == 0 then false else covers n stored
 
 -- the record after word i of this object is stored, on this page: with the last word the object is made
 abbrev pub with_new_word : Setup → Record → Fill → Object → (i : ℕ) → Record
@@ -154,7 +154,7 @@ with_new_word T c f object i =
 
 -- the same of the next object on its page
 abbrev pub filling : Setup → Record → (i : ℕ) → Record
-filling T c i = option_map_or (λ (object : Object). option_map_or (λ (f : Fill). with_new_word T c f object i) (next_page T c) c) (next_object T c) c
+filling T c i = option_map_or (λ (object : Object). option_map_or (λ (f : Fill). with_new_word T c f object i) (next_page T c) c) (object_to_make T c) c
 
 -- all words of this object on this page lie in pages, and a pointer to it points where it may
 abbrev pub IsPlaced : Setup → Record → Fill → Object → Type 0
@@ -163,7 +163,7 @@ IsPlaced T c f object = LieInPages T (f.page * T.sizes.page_words + f.fill) (wor
 
 -- the next object is so, if word i is the last of its words
 abbrev pub NewPoints : Setup → Record → (i : ℕ) → Type 0
-NewPoints T c i = (object : Object) (f : Fill) → next_object T c ≡ Some object → next_page T c ≡ Some f
+NewPoints T c i = (object : Object) (f : Fill) → object_to_make T c ≡ Some object → next_page T c ≡ Some f
     → covers (words_of object) (i ∷ stored_in c.memory.make) ≡ true → IsPlaced T c f object
 
 -- ---- the words of a spread object
@@ -194,7 +194,7 @@ with_new_word_apart T c object i =
 
 -- the same of the next object
 abbrev pub filling_apart : Setup → Record → (i : ℕ) → Record
-filling_apart T c i = option_map_or (λ (object : Object). with_new_word_apart T c object i) (next_object T c) c
+filling_apart T c i = option_map_or (λ (object : Object). with_new_word_apart T c object i) (object_to_make T c) c
 
 -- the words that follow its address lie in pages, and a pointer to it points where it may
 abbrev pub IsPlacedApart : Setup → Record → Object → Type 0
@@ -203,5 +203,5 @@ IsPlacedApart T c object = LieInPages T (reserved_address T c) (row_words T.size
 
 -- the next object is so, if word i is the last of its words
 abbrev pub NewPointsApart : Setup → Record → (i : ℕ) → Type 0
-NewPointsApart T c i = (object : Object) → next_object T c ≡ Some object
+NewPointsApart T c i = (object : Object) → object_to_make T c ≡ Some object
     → covers (table_words T.sizes.page_words object) (i ∷ stored_in c.memory.make) ≡ true → IsPlacedApart T c object

@@ -3,21 +3,21 @@ use Rattle.std.specs.Prelude.{◌≡◌, ◌≤◌, ◌<◌, ◌^◌, ℕ, false
 use mathlib.Core.Logic.{◌↔◌}
 use Rattle.rgo_sound.specs.Code.Checked.{IsChecked}
 use Rattle.rgo_sound.specs.Code.NameRules.{Ascends}
-use Rattle.rgo_core.specs.Frames.Constants.{ConstantsFit}
+use Rattle.rgo_core.specs.Frames.shown.Constants.{ConstantsFit}
 use Rattle.rgo_core.specs.Memory.Words.{clock_at, count_at, head_at, made_at, next_at, state_at}
 use Rattle.rgo_core.specs.Rule.Lists.{flattened}
 use Rattle.rgo_core.specs.Rule.Rule.{Closing}
-use Rattle.rgo_core.specs.Rule.Views.{Has}
+use Rattle.rgo_core.specs.Rule.Views.{HasRow}
 use Rattle.rgo_core.specs.Rule.declared.accesses.View.{View}
 use Rattle.rgo_sound.specs.Machine.Limits.{most_goroutines}
 use Rattle.rgo_sound.specs.RegionMachine.Counts.{counts_of}
 use Rattle.rgo_sound.specs.RegionMachine.Machine.{Event, region_start}
 use Rattle.rgo_sound.specs.RegionMachine.States.{Mark, RegionState}
-use Rattle.rgo_core.specs.Causes.{IsCause}
+use Rattle.rgo_core.specs.runs.Causes.{IsCause}
 use Rattle.rgo_core.specs.Core.{Core, CoreAt, Setup, layout}
-use Rattle.rgo_core.specs.Opening.{first_of, opening}
+use Rattle.rgo_core.specs.runs.Opening.{first_of, opening_table}
 use Rattle.rgo_core.specs.Records.{Drawn, Record, accesses, all_counted, clock_of}
-use Rattle.rgo_core.specs.Runs.{Marked, limited_run}
+use Rattle.rgo_core.specs.runs.Runs.{Marked, limited_run}
 
 -- ---- the end
 
@@ -64,21 +64,21 @@ pub record TableOutcome (T : Setup) (words : List ℕ) (recs : List Record) : Ty
 
 -- one run explains the words of a table that was closed, and leads to these records
 abbrev pub ClosesTable : (T : Setup) (words : List ℕ) (v : View Record) → Type 0
-ClosesTable T words v = Closing accesses (Core T) (opening T) words v
+ClosesTable T words v = Closing accesses (Core T) (opening_table T) words v
 
 abbrev pub OutcomeLaw : Type 0
 OutcomeLaw = (T : Setup) (words : List ℕ) (v : View Record) (end : ClosesTable T words v) → TableOutcome T words end.recs
 
 -- the view has the record of `main`, and with each record those of the goroutines that it has started
 pub record HasFamily (v : View Record) : Type 0 where
-  pub main : (c : Record) × Has v.records 0 c
-  pub children : (g h i : ℕ) (c : Record) → Has v.records g c → slice_get c.clock.children i ≡ Some h
-      → (d : Record) × Has v.records h d
+  pub main : (c : Record) × HasRow v.records 0 c
+  pub children : (g h i : ℕ) (c : Record) → HasRow v.records g c → slice_get c.clock.children i ≡ Some h
+      → (d : Record) × HasRow v.records h d
 
 -- such a view has the record of every goroutine
 abbrev pub FamilyLaw : Type 0
 FamilyLaw = (T : Setup) (words : List ℕ) (v : View Record) (end : ClosesTable T words v) → HasFamily v
-    → (g : ℕ) (c : Record) → slice_get end.recs g ≡ Some c → Has v.records g c
+    → (g : ℕ) (c : Record) → slice_get end.recs g ≡ Some c → HasRow v.records g c
 
 -- ---- a new table
 
@@ -95,4 +95,4 @@ pub record OpensWith (T : Setup) (words : List ℕ) : Type 0 where
 -- these words and the record of `main` show the first state of the region machine
 abbrev pub FirstLaw : Type 0
 FirstLaw = (T : Setup) → IsChecked T.code → Ascends T.code → ConstantsFit T.code → most_goroutines T.limits ≤ 1000000
-    → OpensWith T (opening T) × CoreAt T (opening T) (first_of T.code ∷ []) [] (region_start T.code)
+    → OpensWith T (opening_table T) × CoreAt T (opening_table T) (first_of T.code ∷ []) [] (region_start T.code)

@@ -4,7 +4,7 @@ use Rattle.rgo_sound.specs.Code.Code.{Print}
 use Rattle.rgo_core.specs.Channels.Records.{at_rest}
 use Rattle.rgo_sound.specs.Typed.declared.statements.Piece.{Piece}
 use Rattle.rgo_core.specs.Core.{Setup}
-use Rattle.rgo_core.specs.Next.{IsAt}
+use Rattle.rgo_core.specs.Next.{IsAtOp}
 use Rattle.rgo_core.specs.Records.{Record}
 
 -- The next instruction is a print, nothing is pending at a channel, and fewer than 2^43 tickets were drawn.
@@ -12,6 +12,6 @@ pub record IsAtPrint (T : Setup) (c : Record) : Type 0 where
   pub pieces : List Piece
   pub from : List ℕ
   pub removes : List ℕ
-  pub here : IsAt T.code c (Print pieces from removes)
+  pub here : IsAtOp T.code c (Print pieces from removes)
   pub rests : c.side ≡ at_rest
   pub few : length c.clock.prints < 8796093022208

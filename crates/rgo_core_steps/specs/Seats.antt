@@ -3,15 +3,15 @@ use Rattle.std.specs.Option.{option_map_or}
 use Rattle.std.specs.Prelude.{◌≡◌, ◌<◌, ◌≤◌, ℕ, zero, suc, [], ◌∷◌, Some, length}
 use Rattle.atomic_table.specs.Seated.{TableId}
 use Rattle.rgo_core.specs.Channels.Records.{at_rest}
-use Rattle.rgo_core.specs.Frames.Quiet.{quiet}
-use Rattle.rgo_core.specs.Frames.Records.{Rec as FrameRec}
-use Rattle.rgo_core.specs.Rule.Steps.{Leaves}
+use Rattle.rgo_core.specs.Frames.steps.Quiet.{quiet}
+use Rattle.rgo_core.specs.Frames.Records.{FramesRec as FrameRec}
+use Rattle.rgo_core.specs.Rule.Steps.{LeavesOnSeat}
 use Rattle.rgo_core.specs.Rule.Views.{IsAlone, Me, Rows, number_of, record_in, record_of}
 use Rattle.rgo_core.specs.Rule.declared.accesses.Kind.{Kind}
 use Rattle.rgo_sound.specs.Machine.Limits.{deepest}
 use Rattle.rgo_core.specs.Core.{IsPossible, Setup}
 use Rattle.rgo_core.specs.Laws.{clock_after}
-use Rattle.rgo_core.specs.Opening.{first_of}
+use Rattle.rgo_core.specs.runs.Opening.{first_of}
 use Rattle.rgo_core.specs.Records.{Record, accesses}
 
 -- a seat of this table, which has word i
@@ -56,7 +56,7 @@ settled_by T g zero c = c
 settled_by T g (suc q) c = settled_by T g q (settled_once T g c)
 
 -- the next step is a local one
-pub record IsQuiet (T : Setup) (g : ℕ) (c : Record) : Type 0 where
+pub record NextIsLocal (T : Setup) (g : ℕ) (c : Record) : Type 0 where
   pub rests : c.side ≡ at_rest
   pub next : FrameRec
   pub is : quiet T.code g c.frame ≡ Some next
@@ -65,7 +65,7 @@ pub record IsQuiet (T : Setup) (g : ℕ) (c : Record) : Type 0 where
 -- so are the next q
 abbrev pub SettlesBy : Setup → (goroutine q : ℕ) → Record → Type 0
 SettlesBy T g zero c = Unit {0}
-SettlesBy T g (suc q) c = IsQuiet T g c × SettlesBy T g q (settled_once T g c)
+SettlesBy T g (suc q) c = NextIsLocal T g c × SettlesBy T g q (settled_once T g c)
 
 -- The goroutine of the seat has made q local steps since its last access: this is its record after them.
 abbrev pub settled : Setup → (q : ℕ) → Me Record → Record
@@ -78,10 +78,10 @@ Settles T q m = SettlesBy T (number_of m) q (mine T m)
 
 -- The goroutine of seat m has made one access, to word i: it found n there and left f n. `tells` holds of n and of its record after
 -- the access, which seat w has. Seat w has seen all accesses up to this one.
-abbrev pub Left : Setup → Kind → (i : ℕ) → (f : ℕ → ℕ) → (tells : ℕ → Record → Type 0) → (m : Me Record) → (n : ℕ) → (w : Me Record)
+abbrev pub HasAccessed : Setup → Kind → (i : ℕ) → (f : ℕ → ℕ) → (tells : ℕ → Record → Type 0) → (m : Me Record) → (n : ℕ) → (w : Me Record)
     → Type 0
-Left T kind i f tells m n w = Leaves accesses (first_of T.code) kind i f tells m n w
+HasAccessed T kind i f tells m n w = LeavesOnSeat accesses (first_of T.code) kind i f tells m n w
 
 -- A store of x, which does not show what the word held. The record is d after it.
 abbrev pub Stored : Setup → Kind → (i x : ℕ) → (d : Record) → (m w : Me Record) → Type 0
-Stored T kind i x d m w = (n : ℕ) × Left T kind i (λ found. x) (λ found e. e ≡ d) m n w
+Stored T kind i x d m w = (n : ℕ) × HasAccessed T kind i (λ found. x) (λ found e. e ≡ d) m n w

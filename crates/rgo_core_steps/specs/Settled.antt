@@ -3,12 +3,12 @@
 use Rattle.std.specs.Prelude.{◌≡◌, ◌≤◌, ◌+◌, ℕ, List, [], ◌∷◌, Some, length}
 use Rattle.rgo_sound.specs.RegionMachine.States.{Duty}
 use Rattle.rgo_core.specs.Channels.Records.{at_rest}
-use Rattle.rgo_core.specs.Frames.Quiet.{quiet}
-use Rattle.rgo_core.specs.Frames.Records.{Rec as FrameRec}
+use Rattle.rgo_core.specs.Frames.steps.Quiet.{quiet}
+use Rattle.rgo_core.specs.Frames.Records.{FramesRec as FrameRec}
 use Rattle.rgo_sound.specs.Machine.Limits.{deepest}
 use Rattle.rgo_core.specs.Core.{IsPossible, Setup}
 use Rattle.rgo_core.specs.Records.{ClockRec, Record, instructed}
-use Rattle.rgo_core_steps.specs.Seats.{IsQuiet, SettlesBy, settled_by, settled_once}
+use Rattle.rgo_core_steps.specs.Seats.{NextIsLocal, SettlesBy, settled_by, settled_once}
 
 -- the same but for the number of instructions
 abbrev pub with_steps : ClockRec → ℕ → ClockRec
@@ -29,7 +29,7 @@ pub record SettledLaws : Type 0 where
   -- one step: an instruction, or a duty
   pub instruction : (T : Setup) (g : ℕ) (c : Record) (e : FrameRec) → c.side ≡ at_rest → quiet T.code g c.frame ≡ Some e
       → length e.frames ≤ deepest → c.frame.holder.duties ≡ []
-      → IsQuiet T g c × (settled_once T g c ≡ record c { clock = instructed c.clock; frame = e })
+      → NextIsLocal T g c × (settled_once T g c ≡ record c { clock = instructed c.clock; frame = e })
   pub duty : (T : Setup) (g : ℕ) (c : Record) (e : FrameRec) (d : Duty) (ds : List Duty) → c.side ≡ at_rest
       → quiet T.code g c.frame ≡ Some e → length e.frames ≤ deepest → c.frame.holder.duties ≡ d ∷ ds
-      → IsQuiet T g c × (settled_once T g c ≡ record c { frame = e })
+      → NextIsLocal T g c × (settled_once T g c ≡ record c { frame = e })

@@ -10,19 +10,19 @@ use Rattle.rgo_sound.specs.Machine.Limits.{most_goroutines}
 use Rattle.rgo_sound.specs.RegionMachine.Owed.{code_function}
 use Rattle.rgo_sound.specs.Tac.declared.regions.Class.{Class}
 use Rattle.rgo_core.specs.Core.{Setup}
-use Rattle.rgo_core.specs.Next.{IsAt}
+use Rattle.rgo_core.specs.Next.{IsAtOp}
 use Rattle.rgo_core.specs.Records.{Record, accesses, with_refusal}
 use Rattle.rgo_core_steps.specs.After.{child, starting}
-use Rattle.rgo_core_steps.specs.Seats.{HasTwo, Left, mine, other, settled}
+use Rattle.rgo_core_steps.specs.Seats.{HasTwo, HasAccessed, mine, other, settled}
 
 -- The next instruction starts a goroutine, nothing is pending at a channel, and no number was refused before.
-pub record IsAtStart (T : Setup) (c : Record) : Type 0 where
+pub record IsBeforeGo (T : Setup) (c : Record) : Type 0 where
   pub function : ℕ
   pub callee : CodeFn
   pub from : List ℕ
   pub passes : List Class
   pub removes : List ℕ
-  pub here : IsAt T.code c (Go function from passes removes)
+  pub here : IsAtOp T.code c (Go function from passes removes)
   pub calls : code_function T.code function ≡ Some callee
   pub rests : c.side ≡ at_rest
   pub never : c.clock.refused ≡ false
@@ -44,7 +44,7 @@ Started T q m n w = ToldChild accesses (number_of m) DrawNumber made_at next_num
 abbrev pub HasDrawn : Setup → (q : ℕ) → (m : Me Record) → Option ℕ → (w : Me Record) → Type 0
 HasDrawn T q m (Some n) w = (n < most_goroutines T.limits) × Started T q m n w
 HasDrawn T q m None w =
-    (n : ℕ) × (most_goroutines T.limits ≤ n) × Left T DrawNumber made_at next_number (λ found d. d ≡ refusing (settled T q m)) m n w
+    (n : ℕ) × (most_goroutines T.limits ≤ n) × HasAccessed T DrawNumber made_at next_number (λ found d. d ≡ refusing (settled T q m)) m n w
 
 -- After a start the seat has both records, and may be split.
 abbrev pub StartedLaw : Type 0

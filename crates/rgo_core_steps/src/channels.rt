@@ -17,18 +17,18 @@
 //! Each call is made by the goroutine whose record is on the seat. Why: docs/DECISIONS.md, "Operations on channels".
 ghost use Rattle.std.specs.Prelude.{◌≡◌, ◌+◌, ◌-◌, ◌/◌, ◌%◌, ◌^◌, ◌<◌, ◌==◌, ℕ};
 ghost use prog.Atomic.{either};
-ghost use Rattle.rgo_core.specs.AtChannels.{IsAtChannel, knows};
-ghost use Rattle.rgo_core.specs.Bounds.{Points};
-ghost use Rattle.rgo_core.specs.CommitMoves.{offers};
-ghost use Rattle.rgo_core.specs.Plans.{setup_of};
+ghost use Rattle.rgo_core.specs.ties.AtChannels.{IsAtChannel, knows};
+ghost use Rattle.rgo_core.specs.ties.Bounds.{Points};
+ghost use Rattle.rgo_core.specs.moves.Commits.{offers};
+ghost use Rattle.rgo_core.specs.runs.Plans.{setup_of};
 ghost use Rattle.rgo_core.specs.Channels.Controls.{closed_of, control as control_of, count_of, head_of};
 ghost use Rattle.rgo_core.specs.Channels.Records.{Free, Offering, Read, Wrote, with_hold, with_lock};
 ghost use Rattle.rgo_core.specs.Rule.declared.accesses.Kind.TheVariants as kind;
 ghost use Rattle.rgo_core_steps.specs.Accesses.{given_type};
 ghost use Rattle.rgo_core_steps.specs.After.{acknowledging, committing};
-ghost use Rattle.rgo_core_steps.specs.ChannelExamples.{ChannelExamples};
+ghost use Rattle.rgo_core_steps.specs.ChannelExamples.{ChannelAccessExamples};
 ghost use Rattle.rgo_core_steps.specs.Channels.{CanAcknowledge, CanClose, CanLoadCell, RecordCanMeet, CanOffer, CanReachCell, CanReceive, CanReceiveZero, CanSend, CanStoreCell, ShowsCapacity, ShowsControl, ShowsOwnControl, ShowsPage, found_by, value_by};
-ghost use Rattle.rgo_core_steps.specs.Seats.{HasOne, HasPossible, IsSeatOf, Left, Settles, Stored, mine, settled};
+ghost use Rattle.rgo_core_steps.specs.Seats.{HasOne, HasPossible, IsSeatOf, HasAccessed, Settles, Stored, mine, settled};
 
 use rgo_core::channels::controls::without_oldest;
 use rgo_core::records::Record;
@@ -47,7 +47,7 @@ pub fn control(table: &RunTable, seat: &mut RunSeat, behind: u64, at: usize) -> 
     requires here { let T = setup_of table.now.shared.key in IsAtChannel T (settled T behind seat.old.me) at }
     ensures own { (seat.new.table_id ≡ seat.old.table_id) × (seat.new.id ≡ seat.old.id) }
     ensures leaves { let T = setup_of table.now.shared.key in
-        Left T kind.LoadControl at (λ n. n) (ShowsControl (settled T behind seat.old.me) at)
+        HasAccessed T kind.LoadControl at (λ n. n) (ShowsControl (settled T behind seat.old.me) at)
         seat.old.me result seat.new.me }
     ensures possible { HasPossible (setup_of table.now.shared.key) seat.new.me }
 {
@@ -62,7 +62,7 @@ pub fn own_control(table: &RunTable, seat: &mut RunSeat, at: usize) -> u64
     requires offering { (mine (setup_of table.now.shared.key) seat.old.me).side.post ≡ Offering at }
     ensures own { (seat.new.table_id ≡ seat.old.table_id) × (seat.new.id ≡ seat.old.id) }
     ensures leaves { let T = setup_of table.now.shared.key in
-        Left T kind.LoadControl at (λ n. n) (ShowsOwnControl (mine T seat.old.me) at) seat.old.me result seat.new.me }
+        HasAccessed T kind.LoadControl at (λ n. n) (ShowsOwnControl (mine T seat.old.me) at) seat.old.me result seat.new.me }
     ensures possible { HasPossible (setup_of table.now.shared.key) seat.new.me }
 {
     load::<Record, Plan, ByRuns, Brand, _>(table, seat, at, &())
@@ -77,7 +77,7 @@ pub fn capacity(table: &RunTable, seat: &mut RunSeat, behind: u64, at: usize) ->
     requires here { let T = setup_of table.now.shared.key in IsAtChannel T (settled T behind seat.old.me) at }
     ensures own { (seat.new.table_id ≡ seat.old.table_id) × (seat.new.id ≡ seat.old.id) }
     ensures leaves { let T = setup_of table.now.shared.key in
-        Left T kind.Load (at + 1) (λ n. n) (ShowsCapacity T (settled T behind seat.old.me) at)
+        HasAccessed T kind.Load (at + 1) (λ n. n) (ShowsCapacity T (settled T behind seat.old.me) at)
         seat.old.me result seat.new.me }
     ensures possible { HasPossible (setup_of table.now.shared.key) seat.new.me }
 {
@@ -97,7 +97,7 @@ pub fn lock(table: &RunTable, seat: &mut RunSeat, at: usize, control: u64) -> u6
     requires free { (mine (setup_of table.now.shared.key) seat.old.me).side.hold ≡ Free }
     ensures own { (seat.new.table_id ≡ seat.old.table_id) × (seat.new.id ≡ seat.old.id) }
     ensures leaves { let T = setup_of table.now.shared.key in let c = mine T seat.old.me in
-        Left T kind.LockChannel at (λ n. either (n == control) (control + 1) n)
+        HasAccessed T kind.LockChannel at (λ n. either (n == control) (control + 1) n)
         (λ n d. d ≡ knows c (with_lock c.side at control n)) seat.old.me result seat.new.me }
     ensures possible { HasPossible (setup_of table.now.shared.key) seat.new.me }
 {
@@ -122,7 +122,7 @@ pub fn page_number(
     requires sized { let T = setup_of table.now.shared.key in CanReachCell T (mine T seat.old.me) at cell }
     ensures own { (seat.new.table_id ≡ seat.old.table_id) × (seat.new.id ≡ seat.old.id) }
     ensures leaves { let T = setup_of table.now.shared.key in
-        Left T kind.LoadIndex (at + 2 + cell / page_words) (λ n. n) (ShowsPage T (mine T seat.old.me) at cell)
+        HasAccessed T kind.LoadIndex (at + 2 + cell / page_words) (λ n. n) (ShowsPage T (mine T seat.old.me) at cell)
         seat.old.me result seat.new.me }
     ensures possible { HasPossible (setup_of table.now.shared.key) seat.new.me }
 {
@@ -136,7 +136,7 @@ pub fn load_cell(table: &RunTable, seat: &mut RunSeat, at: usize, cell: usize, w
     requires held { let T = setup_of table.now.shared.key in CanLoadCell T (mine T seat.old.me) at cell word }
     ensures own { (seat.new.table_id ≡ seat.old.table_id) × (seat.new.id ≡ seat.old.id) }
     ensures leaves { let T = setup_of table.now.shared.key in let c = mine T seat.old.me in
-        Left T kind.LoadCell word (λ n. n)
+        HasAccessed T kind.LoadCell word (λ n. n)
         (λ n d. d ≡ knows c (with_hold c.side (Read at (found_by c.side.hold) cell n))) seat.old.me result seat.new.me }
     ensures possible { HasPossible (setup_of table.now.shared.key) seat.new.me }
 {
@@ -271,5 +271,5 @@ pub fn commit_acknowledge(table: &RunTable, seat: &mut RunSeat, at: usize, contr
 
 /// Where what an access asks holds, and where it does not.
 pub fn examples()
-    ensures { ChannelExamples }
+    ensures { ChannelAccessExamples }
 {}

@@ -11,7 +11,7 @@
 //! `behind` is how many local steps the goroutine has made since its last access. The code does not use it.
 ghost use Rattle.std.specs.Prelude.{◌≡◌, ◌≤◌, ◌<◌, ◌+◌, ◌%◌, ◌^◌, ℕ, bit_or, true};
 ghost use mathlib.Core.Logic.{◌↔◌};
-ghost use Rattle.rgo_core.specs.Plans.{setup_of};
+ghost use Rattle.rgo_core.specs.runs.Plans.{setup_of};
 ghost use Rattle.rgo_core.specs.Records.{looked};
 ghost use Rattle.rgo_core.specs.Memory.Words.{clock_at};
 ghost use Rattle.rgo_core.specs.Rule.Views.{number_of};
@@ -19,7 +19,7 @@ ghost use Rattle.rgo_core.specs.Rule.declared.accesses.Kind.TheVariants as kind;
 ghost use Rattle.rgo_core_steps.specs.After.{piece as piece_of, printing};
 ghost use Rattle.rgo_core_steps.specs.Ends.{GoroutineEndsRun, ending, mark_of};
 ghost use Rattle.rgo_core_steps.specs.Prints.{IsAtPrint};
-ghost use Rattle.rgo_core_steps.specs.Seats.{HasOne, HasPossible, IsSeatOf, Left, Settles, settled};
+ghost use Rattle.rgo_core_steps.specs.Seats.{HasOne, HasPossible, IsSeatOf, HasAccessed, Settles, settled};
 
 use rgo_core::records::Record;
 use rgo_core::rule::steps::{fetch_add, fetch_or, load};
@@ -55,7 +55,7 @@ pub fn ticket(table: &RunTable, seat: &mut RunSeat, behind: u64, piece: &[u8]) -
         (settled (setup_of table.now.shared.key) behind seat.old.me) }
     ensures own { (seat.new.table_id ≡ seat.old.table_id) × (seat.new.id ≡ seat.old.id) }
     ensures drawn { (n : ℕ) × (result.ticket ≡ n % 2 ^ 63) × ((result.is_void ≡ true) ↔ (2 ^ 63 ≤ n))
-        × Left (setup_of table.now.shared.key) kind.DrawTicket clock_at (λ n. (n + 1) % 2 ^ 64)
+        × HasAccessed (setup_of table.now.shared.key) kind.DrawTicket clock_at (λ n. (n + 1) % 2 ^ 64)
         (λ n d. d ≡ printing (setup_of table.now.shared.key).code (settled (setup_of table.now.shared.key) behind seat.old.me) n)
         seat.old.me n seat.new.me }
     ensures possible { HasPossible (setup_of table.now.shared.key) seat.new.me }
@@ -75,7 +75,7 @@ pub fn look(table: &RunTable, seat: &mut RunSeat, behind: u64) -> bool
     requires settles { Settles (setup_of table.now.shared.key) behind seat.old.me }
     ensures own { (seat.new.table_id ≡ seat.old.table_id) × (seat.new.id ≡ seat.old.id) }
     ensures looked { (n : ℕ) × ((result ≡ true) ↔ (2 ^ 63 ≤ n))
-        × Left (setup_of table.now.shared.key) kind.Load clock_at (λ n. n)
+        × HasAccessed (setup_of table.now.shared.key) kind.Load clock_at (λ n. n)
         (λ n d. d ≡ looked (settled (setup_of table.now.shared.key) behind seat.old.me)) seat.old.me n seat.new.me }
     ensures possible { HasPossible (setup_of table.now.shared.key) seat.new.me }
 {
@@ -91,7 +91,7 @@ pub fn finish(table: &RunTable, seat: &mut RunSeat, behind: u64, mark: Mark) -> 
         (settled (setup_of table.now.shared.key) behind seat.old.me) (mark_of mark) }
     ensures own { (seat.new.table_id ≡ seat.old.table_id) × (seat.new.id ≡ seat.old.id) }
     ensures ended { (n : ℕ) × ((result ≡ true) ↔ (n < 2 ^ 63))
-        × Left (setup_of table.now.shared.key) kind.EndRun clock_at (λ n. bit_or n (2 ^ 63))
+        × HasAccessed (setup_of table.now.shared.key) kind.EndRun clock_at (λ n. bit_or n (2 ^ 63))
         (λ n d. d ≡ ending (setup_of table.now.shared.key).code (settled (setup_of table.now.shared.key) behind seat.old.me) n
         (mark_of mark)) seat.old.me n seat.new.me }
     ensures possible { HasPossible (setup_of table.now.shared.key) seat.new.me }

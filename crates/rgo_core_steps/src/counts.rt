@@ -11,15 +11,15 @@
 ghost use Rattle.std.specs.Prelude.{◌≡◌, ◌<◌, ◌≤◌, ◌+◌, ◌-◌, ◌%◌, ◌^◌, ◌==◌, ℕ, false};
 ghost use prog.Atomic.{either};
 ghost use Rattle.rgo_sound.specs.Stakes.{is_in};
-ghost use Rattle.rgo_core.specs.Chains.{remembers};
-ghost use Rattle.rgo_core.specs.Plans.{setup_of};
+ghost use Rattle.rgo_core.specs.moves.Chains.{remembers};
+ghost use Rattle.rgo_core.specs.runs.Plans.{setup_of};
 ghost use Rattle.rgo_core.specs.Channels.Records.{at_rest};
 ghost use Rattle.rgo_core.specs.Memory.Records.{Calm, Gave, with_give};
 ghost use Rattle.rgo_core.specs.Memory.Words.{count_at as count_is_at};
 ghost use Rattle.rgo_core.specs.Rule.declared.accesses.Kind.TheVariants as kind;
-ghost use Rattle.rgo_core_steps.specs.Counts.{IsCreating, IsLeaving, IsSharing, Leaving, shared, tries_slot};
+ghost use Rattle.rgo_core_steps.specs.Counts.{IsCreating, IsLeaving, IsSharing, Leaving, shared_record, tries_slot};
 ghost use Rattle.rgo_core_steps.specs.Layouts.{HasLayout};
-ghost use Rattle.rgo_core_steps.specs.Seats.{HasOne, HasPossible, Left, Settles, Stored, mine, settled};
+ghost use Rattle.rgo_core_steps.specs.Seats.{HasOne, HasPossible, HasAccessed, Settles, Stored, mine, settled};
 
 use rgo_core::memory::layout::{TableSizes, count_at};
 use rgo_core::records::Record;
@@ -53,7 +53,7 @@ pub fn create(
     requires slot { slot < sizes.now.slots }
     requires creates { IsCreating (settled (setup_of table.now.shared.key) behind seat.old.me) }
     ensures own { (seat.new.table_id ≡ seat.old.table_id) × (seat.new.id ≡ seat.old.id) }
-    ensures leaves { let T = setup_of table.now.shared.key in Left T kind.CreateRegion (count_is_at sizes.now slot)
+    ensures leaves { let T = setup_of table.now.shared.key in HasAccessed T kind.CreateRegion (count_is_at sizes.now slot)
         (λ n. either (n == 0) 2 n) (λ n d. d ≡ tries_slot (settled T behind seat.old.me) slot n)
         seat.old.me result seat.new.me }
     ensures fresh { result ≡ 0
@@ -86,8 +86,8 @@ pub fn share(
     requires slot { slot < sizes.now.slots }
     requires shares { IsSharing (settled (setup_of table.now.shared.key) behind seat.old.me) slot }
     ensures own { (seat.new.table_id ≡ seat.old.table_id) × (seat.new.id ≡ seat.old.id) }
-    ensures leaves { let T = setup_of table.now.shared.key in Left T kind.ShareRegion (count_is_at sizes.now slot)
-        (λ n. (n + 1) % 2 ^ 64) (λ n d. d ≡ shared (settled T behind seat.old.me)) seat.old.me result seat.new.me }
+    ensures leaves { let T = setup_of table.now.shared.key in HasAccessed T kind.ShareRegion (count_is_at sizes.now slot)
+        (λ n. (n + 1) % 2 ^ 64) (λ n d. d ≡ shared_record (settled T behind seat.old.me)) seat.old.me result seat.new.me }
     ensures possible { HasPossible (setup_of table.now.shared.key) seat.new.me }
 {
     fetch_add::<Record, Plan, ByRuns, Brand, _>(table, seat, count_at(sizes, slot), 1, &behind)
@@ -110,7 +110,7 @@ pub fn leave(
     requires slot { slot < sizes.now.slots }
     requires leaves { IsLeaving (settled (setup_of table.now.shared.key) behind seat.old.me) slot }
     ensures own { (seat.new.table_id ≡ seat.old.table_id) × (seat.new.id ≡ seat.old.id) }
-    ensures leaves { let T = setup_of table.now.shared.key in Left T kind.LeaveRegion (count_is_at sizes.now slot)
+    ensures leaves { let T = setup_of table.now.shared.key in HasAccessed T kind.LeaveRegion (count_is_at sizes.now slot)
         (λ n. (n + (2 ^ 64 - 1)) % 2 ^ 64) (Leaving (settled T behind seat.old.me) slot) seat.old.me result seat.new.me }
     ensures possible { HasPossible (setup_of table.now.shared.key) seat.new.me }
 {

@@ -1,6 +1,6 @@
 //! What the words of a table and the records of its goroutines say of the run, as a table opens, while it is used, and when it is
 //! closed.
-ghost use Rattle.rgo_core_steps.specs.Examples.{AfterExamples, EndExamples, OutcomeExamples, SeatExamples, StartExamples};
+ghost use Rattle.rgo_core_steps.specs.Examples.{AfterExamples, RunEndExamples, OutcomeExamples, SeatExamples, StartExamples};
 ghost use Rattle.rgo_core_steps.specs.Outcomes.{FamilyLaw, FirstLaw, OutcomeLaw};
 ghost use Rattle.rgo_core_steps.specs.Settled.{SettledLaws};
 ghost use Rattle.rgo_core_steps.specs.Starts.{StartedLaw};
@@ -34,7 +34,7 @@ pub fn settled_laws()
 pub fn examples()
     ensures seats { SeatExamples }
     ensures after { AfterExamples }
-    ensures ends { EndExamples }
+    ensures ends { RunEndExamples }
     ensures starts { StartExamples }
     ensures outcomes { OutcomeExamples }
 {}

@@ -5,18 +5,18 @@
 //! Only the goroutine itself may use these calls, and only if its record says that the access is its next one. No word is locked: a
 //! load finds what the last store to the word has left, whoever made it. Why: docs/DECISIONS.md, "Tables of words".
 ghost use Rattle.std.specs.Prelude.{◌≡◌, ◌+◌, ◌-◌, ◌/◌, ◌%◌, ◌<◌, ℕ};
-ghost use Rattle.rgo_core.specs.Accesses.{IsAtSpread, locates, measures};
-ghost use Rattle.rgo_core.specs.Bounds.{LieInPages, Points, slice_words};
+ghost use Rattle.rgo_core.specs.moves.Cells.{IsAtSpread, locates, measures};
+ghost use Rattle.rgo_core.specs.ties.Bounds.{LieInPages, Points, slice_words};
 ghost use Rattle.rgo_core.specs.Core.{layout};
-ghost use Rattle.rgo_core.specs.Links.{IsAtElement};
-ghost use Rattle.rgo_core.specs.Plans.{setup_of};
+ghost use Rattle.rgo_core.specs.ties.Links.{IsAtElement};
+ghost use Rattle.rgo_core.specs.runs.Plans.{setup_of};
 ghost use Rattle.rgo_core.specs.Channels.Records.{at_rest};
 ghost use Rattle.rgo_core.specs.Memory.Words.{all_words, base, cell_at, clock_at};
 ghost use Rattle.rgo_core.specs.Rule.declared.accesses.Kind.TheVariants as kind;
 ghost use Rattle.rgo_core_steps.specs.Accesses.{LengthOfNil, Loads, Stores, given_type};
 ghost use Rattle.rgo_core_steps.specs.After.{acting};
 ghost use Rattle.rgo_core_steps.specs.Making.{IsIndex, IsNewWord, IsNewWordApart, NewPoints, NewPointsApart, filling, filling_apart};
-ghost use Rattle.rgo_core_steps.specs.Seats.{HasOne, HasPossible, IsSeatOf, Left, Settles, Stored, settled};
+ghost use Rattle.rgo_core_steps.specs.Seats.{HasOne, HasPossible, IsSeatOf, HasAccessed, Settles, Stored, settled};
 
 use rgo_core::records::Record;
 use rgo_core::rule::steps;
@@ -32,7 +32,7 @@ pub fn load(table: &RunTable, seat: &mut RunSeat, behind: u64, word: usize) -> u
     requires rests { (settled (setup_of table.now.shared.key) behind seat.old.me).side ≡ at_rest }
     requires loads { let T = setup_of table.now.shared.key in Loads T (settled T behind seat.old.me) word }
     ensures own { (seat.new.table_id ≡ seat.old.table_id) × (seat.new.id ≡ seat.old.id) }
-    ensures leaves { let T = setup_of table.now.shared.key in Left T kind.Load word (λ n. n)
+    ensures leaves { let T = setup_of table.now.shared.key in HasAccessed T kind.Load word (λ n. n)
         (λ n d. (d ≡ acting T.code (settled T behind seat.old.me) n)
         × Points T (given_type T (settled T behind seat.old.me)) n) seat.old.me result seat.new.me }
     ensures possible { HasPossible (setup_of table.now.shared.key) seat.new.me }
@@ -50,7 +50,7 @@ pub fn length_of_nil(table: &RunTable, seat: &mut RunSeat, behind: u64)
     requires nil { let T = setup_of table.now.shared.key in LengthOfNil T (settled T behind seat.old.me) }
     ensures own { (seat.new.table_id ≡ seat.old.table_id) × (seat.new.id ≡ seat.old.id) }
     ensures leaves { let T = setup_of table.now.shared.key in (n : ℕ)
-        × Left T kind.Load clock_at (λ n. n) (λ n d. d ≡ acting T.code (settled T behind seat.old.me) 0)
+        × HasAccessed T kind.Load clock_at (λ n. n) (λ n d. d ≡ acting T.code (settled T behind seat.old.me) 0)
         seat.old.me n seat.new.me }
     ensures possible { HasPossible (setup_of table.now.shared.key) seat.new.me }
 {
@@ -72,7 +72,7 @@ pub fn measure(
     requires element { let T = setup_of table.now.shared.key in IsAtElement T.code (settled T behind seat.old.me) address }
     requires at { word ≡ base (layout (setup_of table.now.shared.key)) + address }
     ensures own { (seat.new.table_id ≡ seat.old.table_id) × (seat.new.id ≡ seat.old.id) }
-    ensures leaves { let T = setup_of table.now.shared.key in Left T kind.Load word (λ n. n)
+    ensures leaves { let T = setup_of table.now.shared.key in HasAccessed T kind.Load word (λ n. n)
         (λ n d. (d ≡ measures (settled T behind seat.old.me) address n) × LieInPages T address (slice_words T n))
         seat.old.me result seat.new.me }
     ensures possible { HasPossible (setup_of table.now.shared.key) seat.new.me }
@@ -98,7 +98,7 @@ pub fn index(
     requires at { let T = setup_of table.now.shared.key in
         word ≡ base (layout T) + (address + (before + cell / T.sizes.page_words)) }
     ensures own { (seat.new.table_id ≡ seat.old.table_id) × (seat.new.id ≡ seat.old.id) }
-    ensures leaves { let T = setup_of table.now.shared.key in Left T kind.LoadIndex word (λ n. n)
+    ensures leaves { let T = setup_of table.now.shared.key in HasAccessed T kind.LoadIndex word (λ n. n)
         (λ n d. (d ≡ locates (settled T behind seat.old.me) address cell (n - 1)) × (0 < n)
         × (cell_at (layout T) (n - 1) (cell % T.sizes.page_words) < all_words (layout T)))
         seat.old.me result seat.new.me }

@@ -6,10 +6,10 @@
 //! `behind` is how many local steps the goroutine has made since its last access. The code does not use it.
 ghost use Rattle.std.specs.Prelude.{◌≡◌, IfSome};
 ghost use Rattle.rgo_core.specs.Core.{IsPossible};
-ghost use Rattle.rgo_core.specs.Plans.{setup_of};
+ghost use Rattle.rgo_core.specs.runs.Plans.{setup_of};
 ghost use Rattle.rgo_core.specs.Memory.Words.{made_at};
 ghost use Rattle.rgo_core_steps.specs.Seats.{HasOne, HasPossible, IsSeatOf, Settles, other, settled};
-ghost use Rattle.rgo_core_steps.specs.Starts.{HasDrawn, IsAtStart};
+ghost use Rattle.rgo_core_steps.specs.Starts.{HasDrawn, IsBeforeGo};
 
 use rgo_core::records::Record;
 use rgo_core::rule::steps::fetch_add_start;
@@ -25,7 +25,7 @@ pub fn number(table: &RunTable, seat: &mut RunSeat, behind: u64, limits: &Limits
     requires limits { limits.now ≡ table.now.shared.key.limits }
     requires alone { HasOne (setup_of table.now.shared.key) seat.old.me }
     requires settles { Settles (setup_of table.now.shared.key) behind seat.old.me }
-    requires start { IsAtStart (setup_of table.now.shared.key) (settled (setup_of table.now.shared.key) behind seat.old.me) }
+    requires start { IsBeforeGo (setup_of table.now.shared.key) (settled (setup_of table.now.shared.key) behind seat.old.me) }
     ensures own { (seat.new.table_id ≡ seat.old.table_id) × (seat.new.id ≡ seat.old.id) }
     ensures drawn { HasDrawn (setup_of table.now.shared.key) behind seat.old.me result seat.new.me }
     ensures possible { HasPossible (setup_of table.now.shared.key) seat.new.me }

@@ -16,15 +16,15 @@
 //! Each call is made by the goroutine whose record is on the seat. Why: docs/DECISIONS.md, "Counts and pages as words".
 ghost use Rattle.std.specs.Prelude.{◌≡◌, ◌<◌, ◌≤◌, ◌+◌, ◌^◌, ◌==◌, ℕ, suc};
 ghost use prog.Atomic.{either};
-ghost use Rattle.rgo_core.specs.Chains.{frees, remembers};
-ghost use Rattle.rgo_core.specs.Plans.{setup_of};
+ghost use Rattle.rgo_core.specs.moves.Chains.{frees, remembers};
+ghost use Rattle.rgo_core.specs.runs.Plans.{setup_of};
 ghost use Rattle.rgo_core.specs.Memory.Records.{Gave, Giving, Got, Hung, Idle, Owes, Past, with_claim, with_give};
 ghost use Rattle.rgo_core.specs.Memory.Words.{head_at as head_is_at, next_at as next_is_at, state_at as state_is_at};
 ghost use Rattle.rgo_core.specs.Rule.declared.accesses.Kind.TheVariants as kind;
 ghost use Rattle.rgo_core_steps.specs.Layouts.{HasLayout};
 ghost use Rattle.rgo_core_steps.specs.Making.{IsCalm, NeedsPage};
 ghost use Rattle.rgo_core_steps.specs.Pages.{tries_page};
-ghost use Rattle.rgo_core_steps.specs.Seats.{HasOne, HasPossible, Left, Settles, Stored, mine, settled};
+ghost use Rattle.rgo_core_steps.specs.Seats.{HasOne, HasPossible, HasAccessed, Settles, Stored, mine, settled};
 
 use rgo_core::memory::layout::{TableSizes, head_at, next_at, state_at};
 use rgo_core::records::Record;
@@ -61,7 +61,7 @@ pub fn claim(
     requires calm { IsCalm (settled (setup_of table.now.shared.key) behind seat.old.me) }
     requires needs { let T = setup_of table.now.shared.key in NeedsPage T (settled T behind seat.old.me) slot }
     ensures own { (seat.new.table_id ≡ seat.old.table_id) × (seat.new.id ≡ seat.old.id) }
-    ensures leaves { let T = setup_of table.now.shared.key in Left T kind.ClaimPage (state_is_at sizes.now page)
+    ensures leaves { let T = setup_of table.now.shared.key in HasAccessed T kind.ClaimPage (state_is_at sizes.now page)
         (λ n. either (n == 0) (slot + 1) n) (λ n d. d ≡ tries_page T (settled T behind seat.old.me) page slot n)
         seat.old.me result seat.new.me }
     ensures possible { HasPossible (setup_of table.now.shared.key) seat.new.me }
@@ -92,7 +92,7 @@ pub fn hang(
     requires slot { slot ≤ sizes.now.slots }
     requires got { (mine (setup_of table.now.shared.key) seat.old.me).memory.claim ≡ Got page slot }
     ensures own { (seat.new.table_id ≡ seat.old.table_id) × (seat.new.id ≡ seat.old.id) }
-    ensures leaves { let T = setup_of table.now.shared.key in Left T kind.HangPage (head_is_at sizes.now slot)
+    ensures leaves { let T = setup_of table.now.shared.key in HasAccessed T kind.HangPage (head_is_at sizes.now slot)
         (λ n. page + 1) (λ n d. d ≡ remembers (mine T seat.old.me)
         (with_claim (mine T seat.old.me).memory (Hung page slot n))) seat.old.me result seat.new.me }
     ensures possible { HasPossible (setup_of table.now.shared.key) seat.new.me }
@@ -133,7 +133,7 @@ pub fn head(table: &RunTable, seat: &mut RunSeat, sizes: &TableSizes, slot: usiz
     ensures own { (seat.new.table_id ≡ seat.old.table_id) × (seat.new.id ≡ seat.old.id) }
     ensures within { result ≤ sizes.now.pages }
     ensures owed { (mine (setup_of table.now.shared.key) seat.old.me).clock.owed ≤ sizes.now.pages }
-    ensures leaves { let T = setup_of table.now.shared.key in Left T kind.LoadHead (head_is_at sizes.now slot)
+    ensures leaves { let T = setup_of table.now.shared.key in HasAccessed T kind.LoadHead (head_is_at sizes.now slot)
         (λ n. n) (λ n d. d ≡ remembers (mine T seat.old.me)
         (with_give (mine T seat.old.me).memory (Giving slot n))) seat.old.me result seat.new.me }
     ensures possible { HasPossible (setup_of table.now.shared.key) seat.new.me }
@@ -156,7 +156,7 @@ pub fn next(
     requires gives { (mine (setup_of table.now.shared.key) seat.old.me).memory.give ≡ Giving slot (page + 1) }
     ensures own { (seat.new.table_id ≡ seat.old.table_id) × (seat.new.id ≡ seat.old.id) }
     ensures within { result ≤ sizes.now.pages }
-    ensures leaves { let T = setup_of table.now.shared.key in Left T kind.LoadNext (next_is_at sizes.now page)
+    ensures leaves { let T = setup_of table.now.shared.key in HasAccessed T kind.LoadNext (next_is_at sizes.now page)
         (λ n. n) (λ n d. d ≡ remembers (mine T seat.old.me)
         (with_give (mine T seat.old.me).memory (Past slot (page + 1) n))) seat.old.me result seat.new.me }
     ensures possible { HasPossible (setup_of table.now.shared.key) seat.new.me }

@@ -1,7 +1,7 @@
 //! Seats of a run's table: the record of a goroutine that has started goes to a seat of its own, and comes back when nobody needs
 //! the seat any more. The driver calls these between turns, when no goroutine uses the seats.
 ghost use Rattle.std.specs.Prelude.{◌≡◌, ◌∷◌, [], ◌++◌};
-ghost use Rattle.rgo_core.specs.Plans.{setup_of};
+ghost use Rattle.rgo_core.specs.runs.Plans.{setup_of};
 ghost use Rattle.rgo_core.specs.Memory.Words.{clock_at};
 ghost use Rattle.rgo_core.specs.Rule.Views.{longer, number_of, view};
 ghost use Rattle.rgo_core_steps.specs.Seats.{HasTwo, IsSeatOf, mine, other};

@@ -4,19 +4,19 @@ use Rattle.std.proofs.Common.{◌≡◌, ◌≢◌, ◌<◌, ◌+◌, ℕ, suc, 
 use Rattle.rgo_sound.specs.RegionMachine.States.{Duty}
 use Rattle.rgo_sound.specs.Stakes.{is_in}
 use Rattle.rgo_core.specs.Channels.Records.{at_rest}
-use Rattle.rgo_core.specs.Frames.Records.{Rec as FrameRec}
+use Rattle.rgo_core.specs.Frames.Records.{FramesRec as FrameRec}
 use Rattle.rgo_core.specs.Rule.Views.{Me, number_of}
 use Rattle.rgo_core.specs.Rule.declared.accesses.Kind.TheVariants.{CreateRegion}
 use Rattle.rgo_core.specs.Memory.Words.{count_at}
 use Rattle.rgo_core.specs.Memory.declared.layout.TableSizes.{TableSizes}
 use Rattle.rgo_core.specs.Core.{Setup}
-use Rattle.rgo_core.specs.Opening.{first_of}
+use Rattle.rgo_core.specs.runs.Opening.{first_of}
 use Rattle.rgo_core.specs.Records.{Record, accesses}
-use Rattle.rgo_core_steps.specs.Counts.{IsCreating, created, created_with, tried_slot, tries_slot}
+use Rattle.rgo_core_steps.specs.Counts.{IsCreating, created_in_slot, created_with, tried_slot, tries_slot}
 use Rattle.rgo_core_steps.specs.Searches.{Miss, TookFreePlace, Tried, missing}
-use Rattle.rgo_core_steps.specs.Seats.{Left, Settles, mine, settled}
-use Rattle.rgo_core_steps.proofs.Searching.{found_free, found_taken, took_above, took_below, took_one, tried_all, tried_one}
-use Rattle.rgo_core_steps.proofs.Settling.{settled_counts}
+use Rattle.rgo_core_steps.specs.Seats.{HasAccessed, Settles, mine, settled}
+use Rattle.rgo_core_steps.proofs.searching.Exchanges.{found_free, found_taken, took_above, took_below, took_one, tried_all, tried_one}
+use Rattle.rgo_core_steps.proofs.record_steps.Settling.{settled_counts}
 use Rattle.rgo_counts.specs.Creation.{SlotOrNone, SlotTaken, SlotsTried}
 
 -- ---- what tries leave of a record
@@ -38,27 +38,27 @@ pub still_fresh : (ts : List Miss) (c d : Record) (s : ℕ) → d ≡ missing tr
 still_fresh ts c d s e f =
     ap (λ (r : FrameRec). is_in s r.holder.stakes) (sym (ap (λ (x : Record). x.frame) e ∙ missing_frame ts c)) ∙ f
 
-created_counts : (c : Record) (p : ℕ) → IsCreating c → accesses (created c p) ≡ suc (accesses c)
+created_counts : (c : Record) (p : ℕ) → IsCreating c → accesses (created_in_slot c p) ≡ suc (accesses c)
 created_counts c p (name, ds, are) = ap (λ (l : List Duty). accesses (created_with c p l)) are
 
 -- ---- one exchange
 
 module _ (T : Setup) (z : TableSizes) (q : ℕ) (m : Me Record) (p n : ℕ) (w : Me Record) (s : Settles T q m)
-    (l : Left T CreateRegion (count_at z p) (λ n. either (n == 0) 2 n) (λ n d. d ≡ tries_slot (settled T q m) p n) m n w) where
+    (l : HasAccessed T CreateRegion (count_at z p) (λ n. either (n == 0) 2 n) (λ n d. d ≡ tries_slot (settled T q m) p n) m n w) where
   counts : accesses (settled T q m) ≡ accesses (mine T m)
   counts = settled_counts T (number_of m) q (mine T m) s
 
   pub slot_tried : n ≢ 0 → Tried accesses (first_of T.code) CreateRegion (count_at z) tried_slot (settled T q m) (p ∷ []) m w
   slot_tried some =
       tried_one accesses (first_of T.code) CreateRegion (count_at z) tried_slot (settled T q m) p n m w some
-      (found_taken accesses (first_of T.code) CreateRegion (count_at z p) 2 (created (settled T q m) p) (tried_slot (settled T q m) p) m n w l
+      (found_taken accesses (first_of T.code) CreateRegion (count_at z p) 2 (created_in_slot (settled T q m) p) (tried_slot (settled T q m) p) m n w l
       some (ap suc counts))
 
   pub slot_taken : n ≡ 0 → IsCreating (settled T q m)
-      → TookFreePlace accesses (first_of T.code) CreateRegion (count_at z) tried_slot (settled T q m) [] p 2 (λ d. created d p) m w
+      → TookFreePlace accesses (first_of T.code) CreateRegion (count_at z) tried_slot (settled T q m) [] p 2 (λ d. created_in_slot d p) m w
   slot_taken none creates =
-      took_one accesses (first_of T.code) CreateRegion (count_at z) tried_slot (settled T q m) p 2 (λ d. created d p) m w
-      (found_free accesses (first_of T.code) CreateRegion (count_at z p) 2 (created (settled T q m) p) (tried_slot (settled T q m) p) m n w l
+      took_one accesses (first_of T.code) CreateRegion (count_at z) tried_slot (settled T q m) p 2 (λ d. created_in_slot d p) m w
+      (found_free accesses (first_of T.code) CreateRegion (count_at z p) 2 (created_in_slot (settled T q m) p) (tried_slot (settled T q m) p) m n w l
       none (created_counts (settled T q m) p creates ∙ ap suc counts))
 
 -- ---- after the first exchange
@@ -69,7 +69,7 @@ module _ (T : Setup) (z : TableSizes) (c : Record) (start : ℕ) (low : start < 
   then_above s w t = (
     t.1,
     took_above accesses (first_of T.code) CreateRegion (count_at z) tried_slot c z.slots start low m v (start + 1) (add-one start) first
-        s 2 (λ d. created d s) w t.0 t.1 t.2,
+        s 2 (λ d. created_in_slot d s) w t.0 t.1 t.2,
   )
 
   pub then_below : (u : Me Record) → SlotsTried T z (start + 1) z.slots (mine T v) None v u
@@ -79,5 +79,5 @@ module _ (T : Setup) (z : TableSizes) (c : Record) (start : ℕ) (low : start < 
   then_below u above (Some s) w t = (
     (let l = t.1 in omega (arith, l, low)),
     took_below accesses (first_of T.code) CreateRegion (count_at z) tried_slot c z.slots start low m v (start + 1) (add-one start) first u above
-        s 2 (λ d. created d s) w t.1 t.2,
+        s 2 (λ d. created_in_slot d s) w t.1 t.2,
   )

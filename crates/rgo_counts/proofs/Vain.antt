@@ -2,28 +2,28 @@
 use Rattle.std.proofs.Common.{◌≡◌, ℕ, ◌<◌, List, [], ◌∷◌, ⊎_elim, sym, subst, arith}
 use Rattle.std.proofs.lemmas.Bool.Decides.{nat_tests}
 use Rattle.rgo_core.specs.Rule.declared.accesses.Kind.TheVariants.{CreateRegion}
-use Rattle.rgo_core.specs.Memory.Pages.{times}
+use Rattle.rgo_core.specs.Memory.Pages.{occurrences}
 use Rattle.rgo_core.specs.Memory.Words.{count_at}
 use Rattle.rgo_core.proofs.Memory.pages.Chains.{times_first}
-use Rattle.rgo_core.specs.Opening.{first_of}
+use Rattle.rgo_core.specs.runs.Opening.{first_of}
 use Rattle.rgo_core.specs.Records.{Record, accesses}
 use Rattle.rgo_core_steps.specs.Counts.{tried_slot}
 use Rattle.rgo_core_steps.specs.Searches.{Miss, missing, places_of}
-use Rattle.rgo_core_steps.proofs.Covering.{Among, found_each, tried_each, tried_long, tried_still}
+use Rattle.rgo_core_steps.proofs.searching.Covering.{Among, found_each, tried_each, tried_long, tried_still}
 use Rattle.rgo_counts.specs.Creation.{FullSlotsLaw}
 
-times_more : (s p : ℕ) (ps : List ℕ) → 0 < times s ps → 0 < times s (p ∷ ps)
+times_more : (s p : ℕ) (ps : List ℕ) → 0 < occurrences s ps → 0 < occurrences s (p ∷ ps)
 times_more s p ps h = grind (arith, nat_tests, h)
 
-times_here : (s p : ℕ) (ps : List ℕ) → p ≡ s → 0 < times s (p ∷ ps)
+times_here : (s p : ℕ) (ps : List ℕ) → p ≡ s → 0 < occurrences s (p ∷ ps)
 times_here s p ps e = let w = times_first s p ps e in omega (arith, w)
 
 -- what a record remembers it goes on to remember
-kept : (s : ℕ) (ts : List Miss) (c : Record) → 0 < times s c.memory.tried_slots → 0 < times s (missing tried_slot c ts).memory.tried_slots
+kept : (s : ℕ) (ts : List Miss) (c : Record) → 0 < occurrences s c.memory.tried_slots → 0 < occurrences s (missing tried_slot c ts).memory.tried_slots
 kept s [] c h = h
 kept s (t ∷ ts) c h = kept s ts (tried_slot c t.place) (times_more s t.place c.memory.tried_slots h)
 
-remembers : (s : ℕ) (ts : List Miss) (c : Record) → Among s (places_of ts) → 0 < times s (missing tried_slot c ts).memory.tried_slots
+remembers : (s : ℕ) (ts : List Miss) (c : Record) → Among s (places_of ts) → 0 < occurrences s (missing tried_slot c ts).memory.tried_slots
 remembers s [] c a = absurd a
 remembers s (t ∷ ts) c a = ⊎_elim
     (λ (e : t.place ≡ s). kept s ts (tried_slot c t.place) (times_here s t.place c.memory.tried_slots e))
@@ -37,6 +37,6 @@ full_law T z c m w t = record {
   made = tried_long accesses (first_of T.code) CreateRegion (count_at z) tried_slot c z.slots m w t;
   still = tried_still accesses (first_of T.code) CreateRegion (count_at z) tried_slot c z.slots m w t;
   found = found_each accesses (first_of T.code) CreateRegion (count_at z) tried_slot c z.slots m w t;
-  remembered = λ s low. subst (λ (d : Record). 0 < times s d.memory.tried_slots) (sym t.tried.made.after)
+  remembered = λ s low. subst (λ (d : Record). 0 < occurrences s d.memory.tried_slots) (sym t.tried.made.after)
       (remembers s t.tried.tries c (tried_each accesses (first_of T.code) CreateRegion (count_at z) tried_slot c z.slots m w t s low));
 }

@@ -8,8 +8,8 @@
 //! An exchange that finds a count other than 0 shows that the slot is in use at that moment. It is not tried again in this call, so
 //! the call ends after at most one exchange for each slot. Why: docs/DECISIONS.md, "Counts and pages as words".
 ghost use Rattle.std.specs.Prelude.{◌≡◌, ◌<◌, ◌≤◌, ◌+◌, ◌-◌, ◌≢◌, ℕ, false, IfErr, IfOk, IfSome};
-ghost use Rattle.rgo_core.specs.Opening.{first_of};
-ghost use Rattle.rgo_core.specs.Plans.{setup_of};
+ghost use Rattle.rgo_core.specs.runs.Opening.{first_of};
+ghost use Rattle.rgo_core.specs.runs.Plans.{setup_of};
 ghost use Rattle.rgo_core.specs.Channels.Records.{at_rest};
 ghost use Rattle.rgo_sound.specs.Stakes.{is_in};
 ghost use Rattle.rgo_core_steps.specs.Counts.{IsCreating};

@@ -11,15 +11,15 @@
 //! words".
 ghost use Rattle.std.specs.Prelude.{◌≡◌, ◌<◌, ◌+◌, ◌-◌, ◌%◌, ◌^◌, ℕ};
 ghost use mathlib.Core.Logic.{◌↔◌};
-ghost use Rattle.rgo_core.specs.Chains.{remembers};
-ghost use Rattle.rgo_core.specs.Plans.{setup_of};
+ghost use Rattle.rgo_core.specs.moves.Chains.{remembers};
+ghost use Rattle.rgo_core.specs.runs.Plans.{setup_of};
 ghost use Rattle.rgo_core.specs.Channels.Records.{at_rest};
 ghost use Rattle.rgo_core.specs.Memory.Records.{Calm, Gave, with_give};
 ghost use Rattle.rgo_core.specs.Memory.Words.{count_at};
 ghost use Rattle.rgo_core.specs.Rule.declared.accesses.Kind.TheVariants as kind;
-ghost use Rattle.rgo_core_steps.specs.Counts.{IsLeaving, IsSharing, Leaving, shared};
+ghost use Rattle.rgo_core_steps.specs.Counts.{IsLeaving, IsSharing, Leaving, shared_record};
 ghost use Rattle.rgo_core_steps.specs.Layouts.{HasLayout};
-ghost use Rattle.rgo_core_steps.specs.Seats.{HasOne, HasPossible, Left as HasLeft, Settles, Stored, mine, settled};
+ghost use Rattle.rgo_core_steps.specs.Seats.{HasOne, HasPossible, HasAccessed as HasLeft, Settles, Stored, mine, settled};
 ghost use Rattle.rgo_counts.specs.declared.stakes.Left.TheVariants.{Last};
 
 use rgo_core::memory::layout::TableSizes;
@@ -58,7 +58,7 @@ pub fn share<L: Ledger>(
     ensures own { (seat.new.table_id ≡ seat.old.table_id) × (seat.new.id ≡ seat.old.id) }
     ensures leaves { let T = setup_of table.now.shared.key in (n : ℕ)
         × HasLeft T kind.ShareRegion (count_at sizes.now slot) (λ n. (n + 1) % 2 ^ 64)
-        (λ n d. d ≡ shared (settled T behind seat.old.me)) seat.old.me n seat.new.me }
+        (λ n d. d ≡ shared_record (settled T behind seat.old.me)) seat.old.me n seat.new.me }
     ensures possible { HasPossible (setup_of table.now.shared.key) seat.new.me }
     ensures cost { steps.new ≡ steps.old + 1 }
 {

@@ -15,10 +15,10 @@ use Rattle.rgo_sound.specs.Machine.declared.picks.End.TheVariants.{Exit, Trap}
 use Rattle.rgo_sound.specs.RegionMachine.Counts.{Counts}
 
 -- the mark, without the place of a trap
-abbrev pub ending_of : Mark → Ending
-ending_of (Ended Exit) = ending.Exit
-ending_of (Ended (Trap trap at)) = ending.Trap trap
-ending_of (Stopped limit) = ending.Limit limit
+abbrev pub crew_end_of : Mark → Ending
+crew_end_of (Ended Exit) = ending.Exit
+crew_end_of (Ended (Trap trap at)) = ending.Trap trap
+crew_end_of (Stopped limit) = ending.Limit limit
 
 -- the stop, without words of the table and places of the text
 abbrev pub why_of : TableTurnEnd → Why
@@ -26,7 +26,7 @@ why_of stop.Went = why.Went
 why_of (stop.Blocked at) = why.Blocked
 why_of (stop.Lost at) = why.Lost
 why_of stop.Ended = why.Ended
-why_of (stop.Stopped mark) = why.Over (ending_of mark)
+why_of (stop.Stopped mark) = why.Over (crew_end_of mark)
 why_of (stop.Short shortage) = why.Over (ending.Short shortage)
 why_of stop.NoMemory = why.Over ending.NoMemory
 
@@ -47,8 +47,8 @@ tally_of c = record {
 }
 
 -- the sum of two, of which each number is the remainder by 2^64
-abbrev pub added : Tally → Tally → Tally
-added a b = record {
+abbrev pub tally_sum : Tally → Tally → Tally
+tally_sum a b = record {
   made = (a.made + b.made) % 2 ^ 64;
   removed = (a.removed + b.removed) % 2 ^ 64;
   taken = (a.taken + b.taken) % 2 ^ 64;
@@ -61,7 +61,7 @@ added a b = record {
 -- the number of the goroutine, and how it has ended the run, if it has
 abbrev pub ended_as : ℕ → Option Mark → List (ℕ × Ending)
 ended_as number None = []
-ended_as number (Some mark) = (number, ending_of mark) ∷ []
+ended_as number (Some mark) = (number, crew_end_of mark) ∷ []
 
 abbrev pub ended_by : Goroutine → List (ℕ × Ending)
 ended_by go = ended_as go.number go.first
@@ -71,6 +71,6 @@ abbrev pub AreTicketsNumbered : List Print → Type 0
 AreTicketsNumbered prints = (k : ℕ) (print : Print) → slice_get prints k ≡ Some print → print.ticket ≡ k
 
 -- the bytes of one print after another
-abbrev pub joined : List Print → List ℕ
-joined [] = []
-joined (print ∷ prints) = print.bytes.items ++ joined prints
+abbrev pub joined_prints : List Print → List ℕ
+joined_prints [] = []
+joined_prints (print ∷ prints) = print.bytes.items ++ joined_prints prints

@@ -2,7 +2,7 @@
 ghost use Rattle.std.specs.Prelude.{◌≡◌, ◌<◌, ◌≤◌, ◌∷◌, [], IfOk, IfSome};
 ghost use Rattle.std.specs.List.{All};
 ghost use Rattle.rgo_core.specs.Core.{IsPossible};
-ghost use Rattle.rgo_core.specs.Opening.{first_of};
+ghost use Rattle.rgo_core.specs.runs.Opening.{first_of};
 ghost use Rattle.rgo_core.specs.Memory.Words.{clock_at};
 ghost use Rattle.rgo_core.specs.Rule.Views.{view};
 ghost use Rattle.rgo_core_steps.specs.Seats.{IsSeatOf};

@@ -1,8 +1,8 @@
 //! What a run comes to.
 ghost use Rattle.std.specs.Prelude.{◌≡◌, ◌++◌, true, IfOk, OnOk};
 ghost use Rattle.rgo_goroutine.specs.Acts.Runs as runs;
-ghost use Rattle.rgo_goroutine.specs.Goroutines.{IsOf, record_of};
-ghost use Rattle.rgo_crew.specs.Overs.{AreTicketsNumbered, added, ended_by, ending_of, joined, no_tally, tally_of, why_of};
+ghost use Rattle.rgo_goroutine.specs.Goroutines.{IsOf, record_of_goroutine};
+ghost use Rattle.rgo_crew.specs.Overs.{AreTicketsNumbered, tally_sum, ended_by, crew_end_of, joined_prints, no_tally, tally_of, why_of};
 
 use rgo_core_steps::clock::Mark;
 use rgo_goroutine::acts::prints::Print;
@@ -77,7 +77,7 @@ pub struct Over {
 
 /// The mark, without the place of a trap.
 fn ending_of(mark: Mark) -> Ending
-    ensures { result ≡ ending_of mark }
+    ensures { result ≡ crew_end_of mark }
 {
     match mark {
         Mark::Ended(End::Exit) => Ending::Exit,
@@ -136,7 +136,7 @@ impl Tally {
 
     /// This and another one. The numbers wrap.
     pub fn and(self, other: Tally) -> Tally
-        ensures { result ≡ added self other }
+        ensures { result ≡ tally_sum self other }
     {
         Tally {
             made: self.made.wrapping_add(other.made),
@@ -185,7 +185,7 @@ impl Over {
     /// On allocation failure.
     pub fn count(&mut self, goroutine: &Goroutine) -> Result<(), AllocError>
         ensures tally { (r : runs.Run) → IsOf r goroutine.now
-            → OnOk result (self.new.tally ≡ added self.old.tally (tally_of (record_of r.setup goroutine.now).clock.share)) }
+            → OnOk result (self.new.tally ≡ tally_sum self.old.tally (tally_of (record_of_goroutine r.setup goroutine.now).clock.share)) }
         ensures enders { OnOk result (self.new.enders.items ≡ self.old.enders.items ++ ended_by goroutine.now) }
         ensures prints { self.new.prints.items ≡ self.old.prints.items }
     {
@@ -209,7 +209,7 @@ impl Over {
     ///
     /// On allocation failure.
     pub fn printed(&self, alloc: Global) -> Result<Vec<u8>, AllocError>
-        ensures { IfOk result (λ bytes. bytes.items ≡ joined self.now.prints.items) }
+        ensures { IfOk result (λ bytes. bytes.items ≡ joined_prints self.now.prints.items) }
     {
         let mut bytes = Vec::new(alloc);
         for print in &self.prints {

@@ -2,9 +2,9 @@
 use Rattle.std.proofs.Common.{◌≡◌, ◌<◌, ℕ, true, false, Option, Some, None, Result, Ok, Err, OnOk, is_err, refl, ap, sym, subst, ◌∙◌, arith}
 use Rattle.std.proofs.lemmas.Option.{none-some}
 use Rattle.rgo_sound.specs.Code.Code.{Code}
-use Rattle.rgo_core.specs.Frames.WordFrames.{bare}
+use Rattle.rgo_core.specs.Frames.shown.WordFrames.{bare}
 use Rattle.rgo_sound.specs.RegionMachine.Owed.{current}
-use Rattle.rgo_acts.specs.Body.Bodies.{HasRoomBehind, frames_in}
+use Rattle.rgo_acts.specs.Body.Bodies.{HasRoomBehind, frames_of_body}
 use Rattle.rgo_acts.specs.Body.Nexts.{FrameHasNoNext, IsNextOf}
 use Rattle.rgo_acts.specs.Body.Steps.{StillShows}
 use Rattle.rgo_acts.specs.Body.declared.bodies.Body.{Body}
@@ -15,7 +15,7 @@ use Rattle.rgo_acts.specs.Runs.{Run}
 use Rattle.rgo_acts.specs.Talks.{ActorCanAcknowledge, Talks}
 use Rattle.rgo_acts.specs.declared.actors.Actor.{Actor}
 use Rattle.rgo_acts.specs.declared.channels.Talked.{Talked}
-use Rattle.rgo_acts.proofs.AtChannels.{at_send, offers_owe_nothing}
+use Rattle.rgo_acts.proofs.before.AtChannels.{at_send, offers_owe_nothing}
 use Rattle.rgo_goroutine.specs.Acting.{GoroutineActs, MayMakeInstructions}
 use Rattle.rgo_goroutine.specs.Instructions.{HasTalked, MakesInstruction}
 use Rattle.rgo_goroutine.specs.declared.goroutine.Goroutine.{Goroutine}
@@ -30,7 +30,7 @@ was_ok (Ok x) P is p = p
 was_ok (Err e) P is p = cc
 
 -- it is at its send
-pub has_next : (r : Run) (a : Actor) → IsActorOf r a → (at : ℕ) → a.body.side ≡ Offering at → FrameHasNoNext r.program.code (frames_in a.body) → ⊥
+pub has_next : (r : Run) (a : Actor) → IsActorOf r a → (at : ℕ) → a.body.side ≡ Offering at → FrameHasNoNext r.program.code (frames_of_body a.body) → ⊥
 has_next r a stands at offers nothing =
     let x = (at_send r a stands at offers).send in
     none-some x.instr
@@ -56,7 +56,7 @@ module _ (r : Run) (old : Goroutine) (d : Body) (t : Turning) (goes : MayMakeIns
   pub room_then : (new : Goroutine) (u : Turning) (answer : Option TableTurnEnd) → MakesInstruction r mid new t u answer → MakesInstruction r old new t u answer
   room_then new u answer y = instructs_then r old mid new t t u answer room_acts (omega arith) y
 
-  pub can_ask : (next : Next) (at : ℕ) → old.actor.body.side ≡ Offering at → IsNextOf r.program.code (frames_in old.actor.body) next
+  pub can_ask : (next : Next) (at : ℕ) → old.actor.body.side ≡ Offering at → IsNextOf r.program.code (frames_of_body old.actor.body) next
       → d.is_expanded ≡ true → HasRoomBehind d next → ActorCanAcknowledge r mid.actor next at
   can_ask next at offers is_next expanded room =
       let offers_still = ap (λ (x : Body). x.side) same ∙ offers in
@@ -65,7 +65,7 @@ module _ (r : Run) (old : Goroutine) (d : Body) (t : Turning) (goes : MayMakeIns
         ready = record {
           queue = offers_owe_nothing r mid.actor put.stands at offers_still;
           expanded = expanded;
-          is_next = subst (λ (x : Body). IsNextOf r.program.code (frames_in x) next) (sym same) is_next;
+          is_next = subst (λ (x : Body). IsNextOf r.program.code (frames_of_body x) next) (sym same) is_next;
         };
         offers = offers_still;
         room = room;

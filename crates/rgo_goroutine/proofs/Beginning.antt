@@ -11,13 +11,13 @@ use Rattle.rgo_acts.specs.Body.Steps.{IsRoomier}
 use Rattle.rgo_acts.specs.Body.declared.bodies.Body.{Body}
 use Rattle.rgo_acts.specs.Body.declared.nexts.Next.{Next}
 use Rattle.rgo_acts.specs.Actors as act
-use Rattle.rgo_acts.specs.Ready.{IsBefore}
+use Rattle.rgo_acts.specs.Ready.{ActorIsBefore}
 use Rattle.rgo_acts.specs.Runs.{Run}
 use Rattle.rgo_acts.specs.declared.actors.Actor.{Actor}
-use Rattle.rgo_acts.proofs.Before.{return_of}
-use Rattle.rgo_acts.proofs.LocalActs.{none_done, roomier_ready, roomier_shows}
+use Rattle.rgo_acts.proofs.before.Instructions.{return_of}
+use Rattle.rgo_acts.proofs.computing.LocalActs.{none_done, roomier_ready, roomier_shows}
 use Rattle.rgo_goroutine.specs.Acting.{GoroutineActs, EndsIn, MayMakeInstructions}
-use Rattle.rgo_goroutine.specs.Goroutines.{AreChildren, drawn_by, fresh}
+use Rattle.rgo_goroutine.specs.Goroutines.{AreChildren, drawn_by, ungathered_prints}
 use Rattle.rgo_goroutine.specs.Instructions.{MakesInstruction}
 use Rattle.rgo_goroutine.specs.declared.goroutine.Goroutine.{Goroutine}
 use Rattle.rgo_goroutine.specs.declared.turning.TableTurnEnd.{TableTurnEnd}
@@ -34,7 +34,7 @@ same_acts r old new t u goes noted counts same acted = record {
   acted = record {
     n = 0;
     es = acted.es;
-    moved = moved_as r old new 0 [] [] acted (ap (map drawn_by) same.prints ∙ sym (append-nil (fresh old)))
+    moved = moved_as r old new 0 [] [] acted (ap (map drawn_by) same.prints ∙ sym (append-nil (ungathered_prints old)))
         (same.children ∙ sym (append-nil old.children.items));
     left = counts.left;
     noted = (let c = counts.changed in omega (arith, c));
@@ -62,8 +62,8 @@ same_ends r old mid new t u why goes noted counts same acted ends =
 none_removed : (op : CodeOp) (i : CodeInstr) (value : Option ℕ) → i.op ≡ op → op ≡ code.Return value → removes_in (Some i) ≡ []
 none_removed op i value e is = ap removes_of (e ∙ is)
 
-pub returning : (r : Run) (a : Actor) (m : Body) (next : Next) (value : Option ℕ) → IsBefore r a next → IsRoomier a.body m
-    → operation_of next.op ≡ tac.Return value → IsBefore r (record a { body = m }) next
+pub returning : (r : Run) (a : Actor) (m : Body) (next : Next) (value : Option ℕ) → ActorIsBefore r a next → IsRoomier a.body m
+    → operation_of next.op ≡ tac.Return value → ActorIsBefore r (record a { body = m }) next
 returning r a m next value before roomier is =
     let n = before.ready.is_next in
     let none : removes_at next ≡ [] =

@@ -11,7 +11,7 @@ use Rattle.rgo_acts.specs.declared.actors.Actor.{Actor}
 use Rattle.rgo_acts.specs.declared.channels.Talked.{Talked}
 use Rattle.rgo_acts.specs.declared.channels.Talked.TheVariants as talked
 use Rattle.rgo_goroutine.specs.Acting.{EndsIn, MayMakeInstructions, StopsBy}
-use Rattle.rgo_goroutine.specs.Goroutines.{fresh}
+use Rattle.rgo_goroutine.specs.Goroutines.{ungathered_prints}
 use Rattle.rgo_goroutine.specs.Instructions.{HasComeTo, HasTalked, MakesInstruction}
 use Rattle.rgo_goroutine.specs.declared.goroutine.Goroutine.{Goroutine}
 use Rattle.rgo_goroutine.specs.declared.turning.TableTurnEnd.{TableTurnEnd}
@@ -92,7 +92,7 @@ module _ (r : Run) (old : Goroutine) (b : Actor) (t u : Turning) (goes : MayMake
       acted = record {
         n = 0;
         es = acted.es;
-        moved = moved_as r old (record old { actor = b }) 0 [] [] acted (sym (append-nil (fresh old))) (sym (append-nil old.children.items));
+        moved = moved_as r old (record old { actor = b }) 0 [] [] acted (sym (append-nil (ungathered_prints old))) (sym (append-nil old.children.items));
         left = omega arith;
         noted = omega arith;
         still = λ e. (e, refl, record { words = rests.words; frame = rests.frame });

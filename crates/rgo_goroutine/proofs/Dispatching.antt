@@ -1,7 +1,7 @@
 -- Before an instruction the goroutine comes near, and what it does can be counted; then it makes the instruction.
 use Rattle.std.proofs.Common.{◌≡◌, ◌-◌, ◌<◌, true, [], Option, Some, None, Ok, Err, Result, MatchResult, refl, ap, sym, subst, ◌∙◌, arith}
 use Rattle.std.specs.Result.{IsErr, IsOk}
-use Rattle.rgo_acts.specs.Body.Bodies.{HasRoomBehind, IsReady}
+use Rattle.rgo_acts.specs.Body.Bodies.{HasRoomBehind, BodyIsReady}
 use Rattle.rgo_acts.specs.Body.declared.bodies.Body.{Body}
 use Rattle.rgo_acts.specs.Body.declared.bodies.Side.TheVariants.{AtRest}
 use Rattle.rgo_acts.specs.Body.declared.nexts.Next.{Next}
@@ -9,7 +9,7 @@ use Rattle.rgo_acts.specs.Actors as act
 use Rattle.rgo_acts.specs.Runs.{Run}
 use Rattle.rgo_acts.specs.declared.actors.Actor.{Actor}
 use Rattle.rgo_goroutine.specs.Acting.{GoroutineActs, StopsBy}
-use Rattle.rgo_goroutine.specs.Instructions.{CanAct, CanCountMore, MakesInstruction, IsAt, IsNear}
+use Rattle.rgo_goroutine.specs.Instructions.{CanAct, CanCountMore, MakesInstruction, GoroutineIsAt, IsNear}
 use Rattle.rgo_goroutine.specs.declared.goroutine.Goroutine.{Goroutine}
 use Rattle.rgo_goroutine.specs.declared.turning.TableTurnEnd.{TableTurnEnd}
 use Rattle.rgo_goroutine.specs.declared.turning.TableTurnEnd.TheVariants as stop
@@ -34,13 +34,13 @@ pub near_then : (r : Run) (old mid new : Goroutine) (t u : Turning) (answer : Op
 near_then r old mid new t u answer near noted y =
     instructs_then r old mid new t t u answer (near_acts r old mid t near (omega (arith, noted))) (omega arith) y
 
-pub can_act : (r : Run) (old mid : Goroutine) (next : Next) (t : Turning) → IsAt r old next t.left → IsNear r old mid t.left
+pub can_act : (r : Run) (old mid : Goroutine) (next : Next) (t : Turning) → GoroutineIsAt r old next t.left → IsNear r old mid t.left
     → old.actor.body.side ≡ AtRest → CanCountMore r mid → t.changed.count < 8 → CanAct r mid next t
 can_act r old mid next t at near rests counts noted = record {
   at = record {
     goes = near.goes;
     some = at.some;
-    ready = subst (λ (b : Body). IsReady r.program b next) (sym near.body) at.ready;
+    ready = subst (λ (b : Body). BodyIsReady r.program b next) (sym near.body) at.ready;
     none = λ word is. at.none word (sym (ap (λ (b : Body). b.side) near.body) ∙ is);
     room = subst (λ (b : Body). HasRoomBehind b next) (sym near.body) at.room;
   };

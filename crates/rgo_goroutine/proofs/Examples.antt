@@ -2,7 +2,7 @@
 use Rattle.std.proofs.Common.{◌≡◌, ◌<◌, inl, inr, ◌++◌, ◌∙◌, ℕ, zero, suc, true, false, List, [], ◌∷◌, Option, Some, arith, ap, length, not, refl, subst, sym}
 use mathlib.Core.Option.{some, some-injective, some-ne-none}
 use lib.ListN.{get_elem?}
-use Rattle.rgo_core.specs.Frames.WordFrames.{WordFrame}
+use Rattle.rgo_core.specs.Frames.shown.WordFrames.{WordFrame}
 use Rattle.rgo_core.specs.Rule.Histories.{access}
 use Rattle.rgo_core.specs.Rule.Passes.{ChangesNothingBy}
 use Rattle.rgo_core.specs.Core.{Setup}
@@ -13,8 +13,8 @@ use Rattle.rgo_core.specs.Rule.declared.accesses.Kind.TheVariants.{ClaimPage, En
 use Rattle.rgo_sound.specs.RegionMachine.States.{Duty}
 use Rattle.rgo_acts.specs.Runs.{Run}
 use Rattle.rgo_acts.specs.declared.prints.Print.{Print}
-use Rattle.rgo_goroutine.specs.Examples.{PassingExamples, TurnExamples, end_at}
-use Rattle.rgo_goroutine.specs.Goroutines.{bytes_in, rows, valid}
+use Rattle.rgo_goroutine.specs.Examples.{ChildExamples, TurnExamples, end_at}
+use Rattle.rgo_goroutine.specs.Goroutines.{printed_byte_count, rows_of_children, valid}
 use Rattle.rgo_goroutine.specs.Instructions.{IsNear}
 use Rattle.rgo_goroutine.specs.Passing.{Gathers}
 use Rattle.rgo_goroutine.specs.Turns.{FoundEnd, HasTurned, TurnStops}
@@ -43,7 +43,7 @@ not_its (n, late, f) =
     not_zero
     (ap (λ (a : Access). a.by) (its (access 1 EndRun 0 9223372036854775813 9223372036854775813) f.access f.place f.there) ∙ f.own)
 
-not_early : (r : Run) (old new : Goroutine) → bytes_in new.prints.items < 65536 → TurnStops r old new 10 3 0 [] stop.Went → ⊥
+not_early : (r : Run) (old new : Goroutine) → printed_byte_count new.prints.items < 65536 → TurnStops r old new 10 3 0 [] stop.Went → ⊥
 not_early r old new few (first, inl (inl all)) = absurd (omega (arith, all))
 not_early r old new few (first, inl (inr told)) = absurd (omega (arith, told))
 not_early r old new few (first, inr (inl much)) = absurd (omega (arith, few, much))
@@ -118,14 +118,14 @@ in_front old new p q other is_valid prints gathers =
     (gathers.are ∙ ap (λ (ps : List Print). (q ∷ []) ++ valid ps) prints
     ∙ ap (λ (ps : List Print). (q ∷ []) ++ ps) (one_valid p [] (ap not is_valid))))
 
-reversed : (T : Setup) (a b : Child) → rows T (a ∷ b ∷ []) ≡ rows T (b ∷ a ∷ []) → a.number ≡ b.number
+reversed : (T : Setup) (a b : Child) → rows_of_children T (a ∷ b ∷ []) ≡ rows_of_children T (b ∷ a ∷ []) → a.number ≡ b.number
 reversed T a b e = ap (λ (l : Rows Record). number_in l) e
 
 -- lists of different lengths
 one_less : (x y : List Access) → ◌≡◌ {A = List (List Access)} (x ∷ y ∷ []) (x ∷ []) → ⊥
 one_less x y e = let n = ap (λ (l : List (List Access)). length l) e in absurd (omega (arith, n))
 
-pub passing_examples : PassingExamples
+pub passing_examples : ChildExamples
 passing_examples = record {
   newest_first = λ a b. refl;
   oldest_first = λ T a b. refl;

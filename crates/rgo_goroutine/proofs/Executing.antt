@@ -1,11 +1,11 @@
 -- Simple instructions, and what is owed before the next one.
 use Rattle.std.proofs.Common.{◌≡◌, ◌+◌, ◌-◌, ◌<◌, ◌≤◌, ℕ, true, [], Some, None, refl, ap, ◌∙◌, arith}
-use Rattle.rgo_acts.specs.Body.Bodies.{frames_in}
+use Rattle.rgo_acts.specs.Body.Bodies.{frames_of_body}
 use Rattle.rgo_acts.specs.Body.Nexts.{FrameHasNoNext}
 use Rattle.rgo_acts.specs.Body.declared.bodies.Body.{Body}
 use Rattle.rgo_acts.specs.Body.declared.bodies.Side.TheVariants.{AtRest}
 use Rattle.rgo_acts.specs.Actors as act
-use Rattle.rgo_acts.specs.Locals.{IsFree}
+use Rattle.rgo_acts.specs.Locals.{BodyIsFree}
 use Rattle.rgo_acts.specs.Runs.{Run}
 use Rattle.rgo_acts.specs.declared.actors.Actor.{Actor}
 use Rattle.rgo_goroutine.specs.Acting.{GoroutineActs, MayMakeInstructions}
@@ -47,7 +47,7 @@ module _ (r : Run) (old : Goroutine) (t v : Turning) (e : v ≡ record t { moved
       (stops r old b v v told_goes 0 acted (omega arith) (omega arith) told_within told_moved stop.NoMemory acted.went.first)
 
   -- its first function has returned
-  pub told_over : FrameHasNoNext r.program.code (frames_in old.actor.body) → old.actor.body.queue.duties ≡ []
+  pub told_over : FrameHasNoNext r.program.code (frames_of_body old.actor.body) → old.actor.body.queue.duties ≡ []
       → GoroutineActs r old old t v (Some stop.Ended)
   told_over nothing empty =
       acts_moved r old old t v v (Some stop.Ended) e
@@ -66,7 +66,7 @@ module _ (r : Run) (old : Goroutine) (t v : Turning) (e : v ≡ record t { moved
       (let c = counts.changed in let w = told_within in omega (arith, c, w))
       counts.moved))
 
-pub free_of : (b d : Body) → d ≡ b → IsReadyToExpand b → b.side ≡ AtRest → IsFree d
+pub free_of : (b d : Body) → d ≡ b → IsReadyToExpand b → b.side ≡ AtRest → BodyIsFree d
 free_of b d same ready rests = record {
   empty = ap (λ (x : Body). x.queue.duties) same ∙ ready.empty;
   not_yet = ap (λ (x : Body). x.is_expanded) same ∙ ready.not_yet;

@@ -10,19 +10,19 @@ use Rattle.rgo_core.specs.Memory.declared.layout.TableSizes.{TableSizes}
 use Rattle.rgo_core.specs.Rule.Views.{Me, number_of, view}
 use Rattle.rgo_core.specs.Rule.declared.accesses.Kind.TheVariants.{Load}
 use Rattle.rgo_core.specs.Core.{IsPossible}
-use Rattle.rgo_core.specs.Opening.{first_of}
+use Rattle.rgo_core.specs.runs.Opening.{first_of}
 use Rattle.rgo_core.specs.Records.{Drawn, Record, accesses, looked, steps_of}
 use Rattle.rgo_core_steps.specs.Ends.{mark_of}
 use Rattle.rgo_core_steps.specs.Grown.{SeatGrew}
-use Rattle.rgo_core_steps.specs.Seats.{HasOne, HasPossible, Left, Settles, mine}
-use Rattle.rgo_core_steps.proofs.Growing.{told_accesses, told_found, told_grew, told_record, told_still}
+use Rattle.rgo_core_steps.specs.Seats.{HasOne, HasPossible, HasAccessed, Settles, mine}
+use Rattle.rgo_core_steps.proofs.accesses.Growing.{told_accesses, told_found, told_grew, told_record, told_still}
 use Rattle.rgo_acts.specs.Body.Shows.{BodyShows}
 use Rattle.rgo_acts.proofs.Body.Showing.{like_shown}
 use Rattle.rgo_acts.specs.Actors.{IsActorOf, now}
 use Rattle.rgo_acts.specs.Runs.{Run}
 use Rattle.rgo_acts.specs.declared.prints.Print.{Print}
 use Rattle.rgo_acts.proofs.Standing.{now_at_once}
-use Rattle.rgo_goroutine.specs.Goroutines.{AreChildren, IsChild, IsOf, drawn_by, fresh, is_valid, numbers, record_of, rows, valid}
+use Rattle.rgo_goroutine.specs.Goroutines.{AreChildren, IsChild, IsOf, drawn_by, ungathered_prints, is_valid, numbers, record_of_goroutine, rows_of_children, valid}
 use Rattle.rgo_goroutine.specs.Passing.{AreBorn, IsBorn, LoadsClock}
 use Rattle.rgo_goroutine.specs.declared.goroutine.Child.{Child}
 use Rattle.rgo_goroutine.specs.declared.goroutine.Goroutine.{Goroutine}
@@ -63,7 +63,7 @@ all_born r (c ∷ cs) [] are = absurd are
 all_born r (c ∷ cs) (g ∷ gos) are = All-cons (IsOf r) g gos are.0.of (all_born r cs gos are.1)
 
 -- the only row of its seat
-pub one_row : (r : Run) (child : Child) → IsChild r child → child.actor.seat.me.0.records ≡ rows r.setup (child ∷ [])
+pub one_row : (r : Run) (child : Child) → IsChild r child → child.actor.seat.me.0.records ≡ rows_of_children r.setup (child ∷ [])
 one_row r child is =
     is.stands.alone.0 ∙ ap (λ n. (n, mine r.setup child.actor.seat.me) ∷ []) (sym is.number)
 
@@ -80,7 +80,7 @@ pub is_born : (r : Run) (child : Child) (go : Goroutine) → IsChild r child →
     → go.prints.items ≡ [] → go.children.items ≡ [] → go.first ≡ None → IsBorn r child go
 is_born r child go is actor number prints children first =
     let T = r.setup in
-    let c : record_of T go ≡ now T child.actor =
+    let c : record_of_goroutine T go ≡ now T child.actor =
     ap (λ a. mine T a.seat.me) actor ∙ sym (now_at_once T child.actor is.settled) in
     let blank_clock = ap (λ (d : Record). d.clock) c ∙ is.blank in
     let no_prints = ap (λ k. k.prints) blank_clock in
@@ -114,7 +114,7 @@ pub main_of : (r : Run) (go : Goroutine) → go.actor.seat.me ≡ (view ((0, fir
     → IsOf r go
 main_of r go me own behind number prints children first possible shows =
     let T = r.setup in
-    let c : record_of T go ≡ first_of T.code = ap (λ (m : Me Record). mine T m) me in
+    let c : record_of_goroutine T go ≡ first_of T.code = ap (λ (m : Me Record). mine T m) me in
     let now_is : now T go.actor ≡ first_of T.code = now_at_once T go.actor behind ∙ c in
     record {
       stands = record {
@@ -140,12 +140,12 @@ main_of r go me own behind number prints children first possible shows =
 
 module _ (r : Run) (go d : Goroutine) (of : IsOf r go) (rest : d ≡ record go { actor = record go.actor { seat = d.actor.seat } })
     (own : d.actor.seat.table_id ≡ go.actor.seat.table_id) (n : ℕ)
-    (left : Left r.setup Load clock_at (λ k. k) (λ k c. c ≡ looked (record_of r.setup go)) go.actor.seat.me n d.actor.seat.me)
+    (left : HasAccessed r.setup Load clock_at (λ k. k) (λ k c. c ≡ looked (record_of_goroutine r.setup go)) go.actor.seat.me n d.actor.seat.me)
     (possible : HasPossible r.setup d.actor.seat.me) where
   abbrev tells : ℕ → Record → Type 0
-  tells k c = c ≡ looked (record_of r.setup go)
+  tells k c = c ≡ looked (record_of_goroutine r.setup go)
 
-  after : record_of r.setup d ≡ looked (record_of r.setup go)
+  after : record_of_goroutine r.setup d ≡ looked (record_of_goroutine r.setup go)
   after = told_record accesses (first_of r.setup.code) go.actor.seat.me d.actor.seat.me Load clock_at n (λ k. k) tells left
 
   grew : SeatGrew accesses (first_of r.setup.code) go.actor.seat.me
@@ -160,11 +160,11 @@ module _ (r : Run) (go d : Goroutine) (of : IsOf r go) (rest : d ≡ record go {
       let T = r.setup in
       let behind : d.actor.behind ≡ 0 = ap (λ (k : Goroutine). k.actor.behind) rest ∙ of.settled in
       let body = ap (λ (k : Goroutine). k.actor.body) rest in
-      let prints : fresh d ≡ fresh go = ap fresh rest in
+      let prints : ungathered_prints d ≡ ungathered_prints go = ap ungathered_prints rest in
       let children : d.children.items ≡ go.children.items = ap (λ (k : Goroutine). k.children.items) rest in
-      let now_is : now T d.actor ≡ looked (record_of T go) = now_at_once T d.actor behind ∙ after in
-      let shows : BodyShows T r.program go.actor.body (looked (record_of T go)) =
-      like_shown T r.program go.actor.body (record_of T go) (looked (record_of T go))
+      let now_is : now T d.actor ≡ looked (record_of_goroutine T go) = now_at_once T d.actor behind ∙ after in
+      let shows : BodyShows T r.program go.actor.body (looked (record_of_goroutine T go)) =
+      like_shown T r.program go.actor.body (record_of_goroutine T go) (looked (record_of_goroutine T go))
       (subst (BodyShows T r.program go.actor.body) (now_at_once T go.actor of.settled) of.stands.shows)
       (record {
         frame = refl;
@@ -186,7 +186,7 @@ module _ (r : Run) (go d : Goroutine) (of : IsOf r go) (rest : d ≡ record go {
           settles = subst (λ q. Settles T q d.actor.seat.me) (sym behind) tt;
           possible = subst (IsPossible T (number_of d.actor.seat.me)) (sym (now_at_once T d.actor behind)) possible;
           shows = subst (λ (c : Record). BodyShows T r.program d.actor.body c) (sym now_is)
-              (subst (λ b. BodyShows T r.program b (looked (record_of T go))) (sym body) shows);
+              (subst (λ b. BodyShows T r.program b (looked (record_of_goroutine T go))) (sym body) shows);
         };
         number = ap (λ (k : Goroutine). k.number) rest ∙ (of.number ∙ sym grew.same);
         settled = behind;
@@ -229,7 +229,7 @@ adopted_of r go d of rest none =
       settled = ap (λ a. a.behind) actor ∙ of.settled;
       gathered = of.gathered;
       prints = ap (λ a. (mine r.setup a.seat.me).clock.prints) actor
-          ∙ (of.prints ∙ ap (λ (l : List Drawn). of.gathered ++ l) (sym (ap fresh rest)));
+          ∙ (of.prints ∙ ap (λ (l : List Drawn). of.gathered ++ l) (sym (ap ungathered_prints rest)));
       few = let a = ap (λ a. length (mine r.setup a.seat.me).clock.prints) actor in
           let b = ap (λ a. steps_of (mine r.setup a.seat.me)) actor in
           let few = of.few in
@@ -251,10 +251,10 @@ gathered_of r go d of rest none =
       stands = subst (IsActorOf r) (sym actor) of.stands;
       number = ap (λ (k : Goroutine). k.number) rest ∙ (of.number ∙ sym (ap (λ a. number_of a.seat.me) actor));
       settled = ap (λ a. a.behind) actor ∙ of.settled;
-      gathered = of.gathered ++ fresh go;
+      gathered = of.gathered ++ ungathered_prints go;
       prints = ap (λ a. (mine r.setup a.seat.me).clock.prints) actor
-          ∙ (of.prints ∙ (sym (append-nil (of.gathered ++ fresh go))
-          ∙ ap (λ (l : List Drawn). (of.gathered ++ fresh go) ++ l) (sym (ap (λ (ps : List Print). map drawn_by ps) none))));
+          ∙ (of.prints ∙ (sym (append-nil (of.gathered ++ ungathered_prints go))
+          ∙ ap (λ (l : List Drawn). (of.gathered ++ ungathered_prints go) ++ l) (sym (ap (λ (ps : List Print). map drawn_by ps) none))));
       few = let a = ap (λ a. length (mine r.setup a.seat.me).clock.prints) actor in
           let b = ap (λ a. steps_of (mine r.setup a.seat.me)) actor in
           let few = of.few in

@@ -3,14 +3,14 @@ use Rattle.std.proofs.Common.{◌+◌, ◌<◌, ℕ, [], Result, MatchResult, re
 use Rattle.rgo_sound.specs.Memory.declared.traps.Trap.{Trap}
 use Rattle.rgo_acts.specs.Body.declared.nexts.Next.{Next}
 use Rattle.rgo_acts.specs.Actors as act
-use Rattle.rgo_acts.specs.Ready.{IsBefore}
+use Rattle.rgo_acts.specs.Ready.{ActorIsBefore}
 use Rattle.rgo_acts.specs.Runs.{Run}
 use Rattle.rgo_acts.specs.Talks.{CanTry, Talks}
 use Rattle.rgo_acts.specs.Traps.{IsAtTrap}
 use Rattle.rgo_acts.specs.declared.actors.Actor.{Actor}
 use Rattle.rgo_acts.specs.declared.channels.Talked.{Talked}
 use Rattle.rgo_goroutine.specs.Acting.{MayMakeInstructions}
-use Rattle.rgo_goroutine.specs.Instructions.{CanAct, HasComeTo, HasTalked, IsAt}
+use Rattle.rgo_goroutine.specs.Instructions.{CanAct, HasComeTo, HasTalked, GoroutineIsAt}
 use Rattle.rgo_goroutine.specs.declared.goroutine.Goroutine.{Goroutine}
 use Rattle.rgo_goroutine.specs.declared.turning.Turning.{Turning}
 
@@ -21,7 +21,7 @@ few_steps r go left goes =
     let room = goes.room in
     omega (arith, s, room)
 
-pub before_of : (r : Run) (go : Goroutine) (next : Next) (t : Turning) → CanAct r go next t → IsBefore r go.actor next
+pub before_of : (r : Run) (go : Goroutine) (next : Next) (t : Turning) → CanAct r go next t → ActorIsBefore r go.actor next
 before_of r go next t can = record {
   stands = can.at.goes.stands;
   ready = can.at.ready;
@@ -30,7 +30,7 @@ before_of r go next t can = record {
   count = few_steps r go t.left can.at.goes;
 }
 
-pub try_of : (r : Run) (go : Goroutine) (next : Next) (left : ℕ) → IsAt r go next left → CanTry r go.actor next
+pub try_of : (r : Run) (go : Goroutine) (next : Next) (left : ℕ) → GoroutineIsAt r go next left → CanTry r go.actor next
 try_of r go next left at = record {
   stands = at.goes.stands;
   ready = at.ready;
@@ -48,7 +48,7 @@ module _ (r : Run) (go : Goroutine) (next : Next) (t : Turning) (can : CanAct r 
     did = did;
   }
 
-pub talked_to : (r : Run) (go : Goroutine) (next : Next) (t : Turning) → IsAt r go next t.left → t.changed.count < 8 → (b : Actor)
+pub talked_to : (r : Run) (go : Goroutine) (next : Next) (t : Turning) → GoroutineIsAt r go next t.left → t.changed.count < 8 → (b : Actor)
     (talked : Talked) → Talks r go.actor b 1 talked → HasTalked r go (record go { actor = b }) t 1 talked
 talked_to r go next t at noted b talked talks = record {
   goes = at.goes;

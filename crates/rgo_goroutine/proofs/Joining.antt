@@ -5,18 +5,18 @@ use Rattle.rgo_core.specs.Rule.Views.{number_of}
 use Rattle.rgo_core.specs.Rule.declared.accesses.Access.{Access}
 use Rattle.rgo_core.specs.Rule.declared.accesses.Kind.{Kind}
 use Rattle.rgo_core.specs.Core.{Setup}
-use Rattle.rgo_core.specs.Opening.{first_of}
+use Rattle.rgo_core.specs.runs.Opening.{first_of}
 use Rattle.rgo_core.specs.Records.{Drawn, Record, accesses}
 use Rattle.rgo_core_steps.specs.Grown.{Found, SeatGrew}
-use Rattle.rgo_core_steps.proofs.Growing.{found_right, grew_then, still_then}
+use Rattle.rgo_core_steps.proofs.accesses.Growing.{found_right, grew_then, still_then}
 use Rattle.rgo_sound.specs.Machine.declared.limits.Shortage.{Shortage}
 use Rattle.rgo_sound.specs.Machine.declared.limits.Shortage.TheVariants as shortage
 use Rattle.rgo_acts.specs.Runs.{Run}
 use Rattle.rgo_acts.specs.Shortages.{AllInUse}
 use Rattle.rgo_acts.specs.Waits.{Loses, WaitsAtChannel}
-use Rattle.rgo_acts.proofs.Waiting.{loses_right, waits_right}
-use Rattle.rgo_goroutine.specs.Acting.{GoroutineActed, GoroutineActs, ActConcludes, GoroutineMoved, GoroutineRests, SameFirst, StopsBy, record_now, room_in}
-use Rattle.rgo_goroutine.specs.Goroutines.{fresh, numbers}
+use Rattle.rgo_acts.proofs.talking.Waiting.{loses_right, waits_right}
+use Rattle.rgo_goroutine.specs.Acting.{GoroutineActed, GoroutineActs, ActConcludes, GoroutineMoved, GoroutineRests, SameFirst, StopsBy, record_now, room_in_turn}
+use Rattle.rgo_goroutine.specs.Goroutines.{ungathered_prints, numbers}
 use Rattle.rgo_goroutine.specs.Instructions.{MakesInstruction, IsNear}
 use Rattle.rgo_goroutine.specs.Turns.{FoundEnd, LacksFor}
 use Rattle.rgo_goroutine.specs.declared.goroutine.Child.{Child}
@@ -55,7 +55,7 @@ module _ (r : Run) (a b c : Goroutine) where
     grew = grew_then accesses (first_of r.setup.code) a.actor.seat.me b.actor.seat.me c.actor.seat.me xs es x.grew y.grew;
     steps = let p = x.steps in let q = y.steps in omega (arith, p, q);
     draws = x.draws ++ y.draws;
-    fresh = y.fresh ∙ (ap (λ (l : List Drawn). l ++ y.draws) x.fresh ∙ append_assoc (fresh a) x.draws y.draws);
+    fresh = y.fresh ∙ (ap (λ (l : List Drawn). l ++ y.draws) x.fresh ∙ append_assoc (ungathered_prints a) x.draws y.draws);
     printed = y.printed
         ∙ (ap (λ (l : List Drawn). l ++ y.draws) x.printed ∙ append_assoc (record_now r a).clock.prints x.draws y.draws);
     starts = x.starts ++ y.starts;
@@ -127,7 +127,7 @@ module _ (r : Run) (a b c : Goroutine) where
       its None first = first ∙ x.concludes
       its (Some why) by = stops_more x.acted.es y.acted.es x.acted.moved.grew x.concludes why by
 
-  pub instructs_then : (t v u : Turning) (answer : Option TableTurnEnd) → GoroutineActs r a b t v None → room_in v ≤ room_in t → MakesInstruction r b c v u answer
+  pub instructs_then : (t v u : Turning) (answer : Option TableTurnEnd) → GoroutineActs r a b t v None → room_in_turn v ≤ room_in_turn t → MakesInstruction r b c v u answer
       → MakesInstruction r a c t u answer
   instructs_then t v u answer x less y = record {
     acts = acts_then t v u answer x y.acts;

@@ -7,7 +7,7 @@ use Rattle.rgo_acts.specs.Runs.{Run}
 use Rattle.rgo_acts.specs.declared.prints.Print.{Print}
 use Rattle.rgo_core.specs.Rule.declared.accesses.Access.{Access}
 use Rattle.rgo_goroutine.specs.Acting.{ActConcludes, MayMakeInstructions, SameFirst, StopsBy}
-use Rattle.rgo_goroutine.specs.Goroutines.{AreChildren, HoldsMuch, IsChild, drawn_by, fresh}
+use Rattle.rgo_goroutine.specs.Goroutines.{AreChildren, HoldsMuch, IsChild, drawn_by, ungathered_prints}
 use Rattle.rgo_goroutine.specs.Instructions.{MakesInstruction}
 use Rattle.rgo_goroutine.specs.declared.goroutine.Child.{Child}
 use Rattle.rgo_goroutine.specs.declared.goroutine.Goroutine.{Goroutine}
@@ -31,7 +31,7 @@ same_halts r old new t u goes noted same acted counts = record {
     acted = record {
       n = 0;
       es = acted.es;
-      moved = moved_as r old new 0 [] [] acted (ap (map drawn_by) same.prints ∙ sym (append-nil (fresh old)))
+      moved = moved_as r old new 0 [] [] acted (ap (map drawn_by) same.prints ∙ sym (append-nil (ungathered_prints old)))
           (same.children ∙ sym (append-nil old.children.items));
       left = counts.left;
       noted = (let c = counts.changed in omega (arith, c));
@@ -89,7 +89,7 @@ started_on r old new t u goes noted child is prints children number first acted 
     acted = record {
       n = 1;
       es = acted.es;
-      moved = moved_as r old new 1 [] (child ∷ []) acted (ap (map drawn_by) prints ∙ sym (append-nil (fresh old))) children;
+      moved = moved_as r old new 1 [] (child ∷ []) acted (ap (map drawn_by) prints ∙ sym (append-nil (ungathered_prints old))) children;
       left = counts.left;
       noted = (let c = counts.changed in omega (arith, c));
       still = λ e. absurd (moves u.moved counts.moved e);

@@ -8,7 +8,7 @@ use Rattle.rgo_core.specs.Rule.declared.accesses.Kind.TheVariants.{ClaimPage, Cr
 use Rattle.rgo_core.specs.Memory.Words.{count_at, state_at}
 use Rattle.rgo_core.specs.Core.{Setup, layout}
 use Rattle.rgo_core.specs.Records.{Record, looked}
-use Rattle.rgo_core_steps.proofs.Growing.{found_left}
+use Rattle.rgo_core_steps.proofs.accesses.Growing.{found_left}
 use Rattle.rgo_core_steps.specs.Making.{RecordMakesNext, NeedsPage}
 use Rattle.rgo_sound.specs.Memory.Memory.{Object}
 use Rattle.rgo_sound.specs.Machine.declared.limits.Shortage.{Shortage}
@@ -17,11 +17,11 @@ use Rattle.rgo_acts.proofs.Chan.Carrying.{at_as}
 use Rattle.rgo_acts.specs.Runs.{Run}
 use Rattle.rgo_acts.specs.Shortages.{AllInUse, LacksPage, LacksSlot}
 use Rattle.rgo_acts.specs.Waits.{Loses, WaitsAtChannel}
-use Rattle.rgo_acts.proofs.Waiting.{loses_as, loses_left, waits_as, waits_left}
+use Rattle.rgo_acts.proofs.talking.Waiting.{loses_as, loses_left, waits_as, waits_left}
 use Rattle.rgo_goroutine.specs.Acting.{IsOverFor, SameFirst, record_now}
-use Rattle.rgo_goroutine.specs.Goroutines.{bytes_in, record_of}
+use Rattle.rgo_goroutine.specs.Goroutines.{printed_byte_count, record_of_goroutine}
 use Rattle.rgo_goroutine.specs.Turns as turns
-use Rattle.rgo_goroutine.specs.Turns.{IsOver, LacksFor, TurnStops}
+use Rattle.rgo_goroutine.specs.Turns.{HasFinished, LacksFor, TurnStops}
 use Rattle.rgo_goroutine.specs.declared.goroutine.Goroutine.{Goroutine}
 use Rattle.rgo_goroutine.specs.declared.turning.TableTurnEnd.{TableTurnEnd}
 use Rattle.rgo_goroutine.specs.declared.turning.TableTurnEnd.TheVariants as stop
@@ -78,13 +78,13 @@ module _ (T : Setup) (g : ℕ) (c : Record) (xs ys : List Access) where
   lacks_last shortage.Regions l = slot_lasts l
   lacks_last shortage.ObjectSize l = l
 
-over_lasts : (c : Record) → IsOver c → IsOver (looked c)
+over_lasts : (c : Record) → HasFinished c → HasFinished (looked c)
 over_lasts c o = record { frames = o.frames; duties = o.duties }
 
 -- ---- why the turn was over: it came from `old` to `mid`, and then loaded the clock
 
 module _ (r : Run) (old mid new : Goroutine) (u : Turning) (slice n : ℕ) (xs ys : List Access)
-    (before : record_now r old ≡ record_of r.setup old) (after : record_of r.setup new ≡ looked (record_now r mid))
+    (before : record_now r old ≡ record_of_goroutine r.setup old) (after : record_of_goroutine r.setup new ≡ looked (record_now r mid))
     (all : u.left ≡ 0 → n ≡ slice) (kept : new.prints.items ≡ mid.prints.items) where
   abbrev T : Setup
   T = r.setup
@@ -101,7 +101,7 @@ module _ (r : Run) (old mid new : Goroutine) (u : Turning) (slice n : ℕ) (xs y
   pub stops_last : (why : TableTurnEnd) → IsOverFor r old mid u xs why → TurnStops r old new slice n u.changed.count (xs ++ ys) why
   stops_last stop.Went (same, inl (inl none)) = (same_first same, inl (inl (all none)))
   stops_last stop.Went (same, inl (inr many)) = (same_first same, inl (inr many))
-  stops_last stop.Went (same, inr (inl much)) = (same_first same, inr (inl (subst (λ ps. 65536 ≤ bytes_in ps) (sym kept) much)))
+  stops_last stop.Went (same, inr (inl much)) = (same_first same, inr (inl (subst (λ ps. 65536 ≤ printed_byte_count ps) (sym kept) much)))
   stops_last stop.Went (same, inr (inr end)) = (
     same_first same,
     inr (inr (end.0, end.1, found_left g xs ys EndRun clock_at end.0 end.2)),
@@ -114,7 +114,7 @@ module _ (r : Run) (old mid new : Goroutine) (u : Turning) (slice n : ℕ) (xs y
     same_first same,
     subst (λ (d : Record). Loses T g d (xs ++ ys) at) (sym after) (loses_last T g c xs ys at loses),
   )
-  stops_last stop.Ended (same, over) = (same_first same, subst IsOver (sym after) (over_lasts c over))
+  stops_last stop.Ended (same, over) = (same_first same, subst HasFinished (sym after) (over_lasts c over))
   stops_last (stop.Stopped mark) first = ap (λ (d : Record). d.clock.first) after ∙ first
   stops_last (stop.Short why) (same, lacks) = (
     same_first same,

@@ -2,17 +2,17 @@
 use Rattle.std.proofs.Common.{◌≡◌, ◌+◌, ◌≤◌, ℕ, Bool, true, false, if◌then◌else◌, List, [], ◌++◌, Some, None, inr, length, refl, ap, sym, subst, ◌∙◌, length-append, arith}
 use Rattle.std.specs.Option.{option_map}
 use Rattle.std.proofs.lemmas.List.{append-nil}
-use Rattle.rgo_core.specs.Opening.{first_of}
+use Rattle.rgo_core.specs.runs.Opening.{first_of}
 use Rattle.rgo_core.specs.Records.{Drawn, accesses}
 use Rattle.rgo_core_steps.specs.Ends.{mark_of}
-use Rattle.rgo_core_steps.proofs.Growing.{found_then, grew_then}
+use Rattle.rgo_core_steps.proofs.accesses.Growing.{found_then, grew_then}
 use Rattle.rgo_acts.specs.Actors as act
 use Rattle.rgo_acts.specs.Actors.{now}
 use Rattle.rgo_acts.specs.Endings.{ActorHasEnded}
 use Rattle.rgo_acts.specs.Runs.{Run}
 use Rattle.rgo_acts.specs.declared.actors.Actor.{Actor}
 use Rattle.rgo_goroutine.specs.Acting.{GoroutineActed, GoroutineActs, EndsIn, MayMakeInstructions, GoroutineMoved, StopsBy, record_now}
-use Rattle.rgo_goroutine.specs.Goroutines.{AreChildren, fresh, numbers}
+use Rattle.rgo_goroutine.specs.Goroutines.{AreChildren, ungathered_prints, numbers}
 use Rattle.rgo_goroutine.specs.declared.goroutine.Child.{Child}
 use Rattle.rgo_goroutine.specs.declared.goroutine.Goroutine.{Goroutine}
 use Rattle.rgo_goroutine.specs.declared.turning.TableTurnEnd.{TableTurnEnd}
@@ -25,7 +25,7 @@ moves false e f = cc
 
 module _ (r : Run) (old new : Goroutine) (n : ℕ) (draws : List Drawn) (starts : List Child)
     (acted : act.ActorActed r old.actor new.actor n draws (numbers starts)) where
-  pub moved_as : fresh new ≡ fresh old ++ draws → new.children.items ≡ old.children.items ++ starts → GoroutineMoved r old new n acted.es
+  pub moved_as : ungathered_prints new ≡ ungathered_prints old ++ draws → new.children.items ≡ old.children.items ++ starts → GoroutineMoved r old new n acted.es
   moved_as drawn newborn = record {
     grew = acted.went.grew;
     steps = acted.went.steps;
@@ -57,7 +57,7 @@ module _ (r : Run) (old : Goroutine) (b : Actor) (t u : Turning) (goes : MayMake
   its = record old { actor = b }
 
   pub plain_moved : GoroutineMoved r old its n acted.es
-  plain_moved = moved_as r old its n [] [] acted (sym (append-nil (fresh old))) (sym (append-nil old.children.items))
+  plain_moved = moved_as r old its n [] [] acted (sym (append-nil (ungathered_prints old))) (sym (append-nil old.children.items))
 
   pub plain_goes : MayMakeInstructions r its u.left
   plain_goes = goes_as r old its n [] [] acted t.left u.left goes left (omega arith) refl goes.all refl
@@ -115,7 +115,7 @@ module _ (r : Run) (old new : Goroutine) (t u : Turning) (goes : MayMakeInstruct
     grew = e.ended.grew;
     steps = e.ended.steps;
     draws = [];
-    fresh = ap fresh e.rest ∙ sym (append-nil (fresh old));
+    fresh = ap ungathered_prints e.rest ∙ sym (append-nil (ungathered_prints old));
     printed = e.ended.prints ∙ sym (append-nil (record_now r old).clock.prints);
     starts = [];
     newborn = ap (λ (go : Goroutine). go.children.items) e.rest ∙ sym (append-nil old.children.items);

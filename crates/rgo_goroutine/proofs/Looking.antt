@@ -4,10 +4,10 @@ use Rattle.std.proofs.lemmas.List.{append-nil}
 use Rattle.rgo_core.specs.Memory.Words.{clock_at}
 use Rattle.rgo_core.specs.Rule.declared.accesses.Kind.TheVariants as kind
 use Rattle.rgo_core.specs.Core.{Setup}
-use Rattle.rgo_core.specs.Opening.{first_of}
+use Rattle.rgo_core.specs.runs.Opening.{first_of}
 use Rattle.rgo_core.specs.Records.{Record, accesses, looked}
-use Rattle.rgo_core_steps.specs.Seats.{HasPossible, Left, mine, settled}
-use Rattle.rgo_core_steps.proofs.Growing.{told_accesses, told_grew, told_record, told_still}
+use Rattle.rgo_core_steps.specs.Seats.{HasPossible, HasAccessed, mine, settled}
+use Rattle.rgo_core_steps.proofs.accesses.Growing.{told_accesses, told_grew, told_record, told_still}
 use Rattle.rgo_acts.specs.Body.Shows.{BodyShows}
 use Rattle.rgo_acts.specs.Body.declared.bodies.Body.{Body}
 use Rattle.rgo_acts.proofs.Body.Showing.{like_shown}
@@ -17,14 +17,14 @@ use Rattle.rgo_acts.specs.Runs.{Run}
 use Rattle.rgo_acts.specs.declared.actors.Actor.{Actor}
 use Rattle.rgo_acts.proofs.Standing.{acted_none, acted_one, now_accesses, now_at_once, unmoved_at}
 use Rattle.rgo_goroutine.specs.Acting.{MayMakeInstructions, HasCaughtUp}
-use Rattle.rgo_goroutine.specs.Goroutines.{fresh}
+use Rattle.rgo_goroutine.specs.Goroutines.{ungathered_prints}
 use Rattle.rgo_goroutine.specs.Instructions.{IsNear}
 use Rattle.rgo_goroutine.specs.declared.goroutine.Goroutine.{Goroutine}
 use Rattle.rgo_goroutine.proofs.Lifting.{goes_as, moved_as}
 
 module _ (r : Run) (old : Goroutine) (b : Actor) (own : b.seat.table_id ≡ old.actor.seat.table_id) (at_once : b.behind ≡ 0)
     (body : b.body ≡ old.actor.body) (possible : HasPossible r.setup b.seat.me)
-    (look : (n : ℕ) × Left r.setup kind.Load clock_at (λ n. n)
+    (look : (n : ℕ) × HasAccessed r.setup kind.Load clock_at (λ n. n)
     (λ n d. d ≡ looked (settled r.setup old.actor.behind old.actor.seat.me)) old.actor.seat.me n b.seat.me) where
   abbrev a : Actor
   a = old.actor
@@ -77,7 +77,7 @@ module _ (r : Run) (old : Goroutine) (b : Actor) (own : b.seat.table_id ≡ old.
               look.1 (ap accesses is_looked ∙ ap suc (now_accesses r.setup a));
           steps = acted.went.steps;
           draws = [];
-          fresh = sym (append-nil (fresh old));
+          fresh = sym (append-nil (ungathered_prints old));
           printed = acted.went.prints;
           starts = [];
           newborn = sym (append-nil old.children.items);
@@ -100,11 +100,11 @@ module _ (r : Run) (old : Goroutine) (b : Actor) (own : b.seat.table_id ≡ old.
 -- bridged from the table that is loaded
 pub caught_up_at : (r : Run) (T : Setup) (is : T ≡ r.setup) (old : Goroutine) (b : Actor) → b.seat.table_id ≡ old.actor.seat.table_id
     → b.behind ≡ 0 → b.body ≡ old.actor.body → HasPossible T b.seat.me
-    → ((n : ℕ) × Left T kind.Load clock_at (λ n. n) (λ n d. d ≡ looked (settled T old.actor.behind old.actor.seat.me)) old.actor.seat.me n
+    → ((n : ℕ) × HasAccessed T kind.Load clock_at (λ n. n) (λ n d. d ≡ looked (settled T old.actor.behind old.actor.seat.me)) old.actor.seat.me n
     b.seat.me) → (left : ℕ) → MayMakeInstructions r old left → HasCaughtUp r old (record old { actor = b }) left
 caught_up_at r T is old b own at_once body possible look left goes =
     caught_up r old b own at_once body (subst (λ (S : Setup). HasPossible S b.seat.me) is possible)
-    (subst (λ (S : Setup). (n : ℕ) × Left S kind.Load clock_at (λ n. n)
+    (subst (λ (S : Setup). (n : ℕ) × HasAccessed S kind.Load clock_at (λ n. n)
     (λ n d. d ≡ looked (settled S old.actor.behind old.actor.seat.me)) old.actor.seat.me n b.seat.me) is look) left goes
 
 pub near_by : (r : Run) (old new : Goroutine) (left : ℕ) → HasCaughtUp r old new left → IsNear r old new left
@@ -125,7 +125,7 @@ near_same r old left goes near =
     let still = unmoved_at r old.actor old.actor acted refl refl in
     record {
       es = acted.es;
-      moved = moved_as r old old 0 [] [] acted (sym (append-nil (fresh old))) (sym (append-nil old.children.items));
+      moved = moved_as r old old 0 [] [] acted (sym (append-nil (ungathered_prints old))) (sym (append-nil old.children.items));
       rests = record { words = still.words; frame = still.frame };
       goes = goes;
       near = near;

@@ -1,7 +1,7 @@
 -- A goroutine comes to its next instruction: its body alone changes, and nothing has moved by that.
 use Rattle.std.proofs.Common.{◌≡◌, ◌<◌, ◌∙◌, ℕ, Bool, true, false, [], Option, Some, None, Ok, Err, Result, ap, arith, refl, sym}
 use Rattle.std.specs.Result.{OnOk, is_ok}
-use Rattle.rgo_acts.specs.Body.Bodies.{HasRoomBehind, frames_in}
+use Rattle.rgo_acts.specs.Body.Bodies.{HasRoomBehind, frames_of_body}
 use Rattle.rgo_acts.specs.Body.Nexts.{FrameHasNoNext, IsNextOf}
 use Rattle.rgo_acts.specs.Body.Programs.{CompactProgram}
 use Rattle.rgo_acts.specs.Body.Steps.{IsRoomier}
@@ -13,9 +13,9 @@ use Rattle.rgo_acts.specs.Actors as act
 use Rattle.rgo_acts.specs.Resting.{IsAtTalk}
 use Rattle.rgo_acts.specs.Runs.{Run}
 use Rattle.rgo_acts.specs.declared.actors.Actor.{Actor}
-use Rattle.rgo_acts.proofs.LocalActs.{roomier_ready, roomier_shows}
+use Rattle.rgo_acts.proofs.computing.LocalActs.{roomier_ready, roomier_shows}
 use Rattle.rgo_goroutine.specs.Acting.{GoroutineActs, MayMakeInstructions, StopsBy}
-use Rattle.rgo_goroutine.specs.Instructions.{MakesInstruction, IsAt}
+use Rattle.rgo_goroutine.specs.Instructions.{MakesInstruction, GoroutineIsAt}
 use Rattle.rgo_goroutine.specs.declared.goroutine.Goroutine.{Goroutine}
 use Rattle.rgo_goroutine.specs.declared.turning.TableTurnEnd.{TableTurnEnd}
 use Rattle.rgo_goroutine.specs.declared.turning.TableTurnEnd.TheVariants as stop
@@ -83,7 +83,7 @@ module _ (r : Run) (old : Goroutine) (b : Actor) (t : Turning) (goes : MayMakeIn
       put_on r old b t goes (record { seat = k.seat; behind = k.behind; stands = acted.stands })
       (let less = some.1 in omega (arith, less))
 
-  pub has_ended : FrameHasNoNext r.program.code (frames_in b.body) → MakesInstruction r old (record old { actor = b }) t t (Some stop.Ended)
+  pub has_ended : FrameHasNoNext r.program.code (frames_of_body b.body) → MakesInstruction r old (record old { actor = b }) t t (Some stop.Ended)
   has_ended nothing =
       over_then r old (record old { actor = b }) t kept_acts stop.Ended
       (kept_acts.concludes, is_over r b acted.stands nothing k.empty)
@@ -101,7 +101,7 @@ module _ (r : Run) (old : Goroutine) (b : Actor) (t : Turning) (goes : MayMakeIn
     pub lacks_memory : MakesInstruction r old with_room t t (Some stop.NoMemory)
     lacks_memory = over_then r old with_room t roomy_acts stop.NoMemory roomy_acts.concludes
 
-    pub is_at : (next : Next) → IsNextOf r.program.code (frames_in b.body) next → HasRoomBehind m next → IsAt r with_room next t.left
+    pub is_at : (next : Next) → IsNextOf r.program.code (frames_of_body b.body) next → HasRoomBehind m next → GoroutineIsAt r with_room next t.left
     is_at next n room = record {
       goes = roomy_acts.goes;
       some = some.0;

@@ -5,27 +5,27 @@ use Rattle.std.proofs.lemmas.Option.{none-some}
 use mathlib.Core.Option.{some-ne-none}
 use Rattle.rgo_sound.specs.Code.Code.{Code}
 use Rattle.rgo_acts.proofs.Facts.ControlFrames.{all_in_code}
-use Rattle.rgo_core.specs.Frames.WordFrames.{WordFrame, bare, bare_all}
+use Rattle.rgo_core.specs.Frames.shown.WordFrames.{WordFrame, bare, bare_all}
 use Rattle.rgo_core.specs.Rule.Views.{number_of}
-use Rattle.rgo_core.specs.Opening.{first_of}
+use Rattle.rgo_core.specs.runs.Opening.{first_of}
 use Rattle.rgo_core.specs.Records.{Record, accesses, steps_of}
 use Rattle.rgo_core_steps.specs.Grown.{SeatGrew}
 use Rattle.rgo_core_steps.specs.Seats.{settled}
-use Rattle.rgo_core_steps.proofs.Growing.{grew_none}
+use Rattle.rgo_core_steps.proofs.accesses.Growing.{grew_none}
 use Rattle.rgo_sound.specs.RegionMachine.Owed.{current, next_duties}
 use Rattle.rgo_sound.specs.RegionMachine.States.{Duty}
-use Rattle.rgo_acts.specs.Body.Bodies.{frames_in, owed}
+use Rattle.rgo_acts.specs.Body.Bodies.{frames_of_body, owed_by_body}
 use Rattle.rgo_acts.specs.Body.Nexts.{FrameHasNoNext}
 use Rattle.rgo_acts.specs.Body.Steps.{StillShows}
 use Rattle.rgo_acts.specs.Body.declared.bodies.Body.{Body}
 use Rattle.rgo_acts.specs.Actors.{IsActorOf, now}
 use Rattle.rgo_acts.specs.Runs.{Run}
 use Rattle.rgo_acts.specs.declared.actors.Actor.{Actor}
-use Rattle.rgo_acts.proofs.LocalActs.{none_done}
+use Rattle.rgo_acts.proofs.computing.LocalActs.{none_done}
 use Rattle.rgo_goroutine.specs.Acting.{GoroutineActed, GoroutineActs, MayMakeInstructions, GoroutineMoved, GoroutineRests, SameFirst, StopsBy, record_now}
-use Rattle.rgo_goroutine.specs.Goroutines.{fresh}
+use Rattle.rgo_goroutine.specs.Goroutines.{ungathered_prints}
 use Rattle.rgo_goroutine.specs.Instructions.{MakesInstruction}
-use Rattle.rgo_goroutine.specs.Turns.{IsOver}
+use Rattle.rgo_goroutine.specs.Turns.{HasFinished}
 use Rattle.rgo_goroutine.specs.declared.goroutine.Goroutine.{Goroutine}
 use Rattle.rgo_goroutine.specs.declared.turning.TableTurnEnd.{TableTurnEnd}
 use Rattle.rgo_goroutine.specs.declared.turning.TableTurnEnd.TheVariants as stop
@@ -75,7 +75,7 @@ module _ (r : Run) (old : Goroutine) (b : Actor) (t : Turning) (goes : MayMakeIn
         (grew_none accesses (first_of r.setup.code) old.actor.seat.me goes.stands.alone);
     steps = let e = ap steps_of now_is in omega (arith, e);
     draws = [];
-    fresh = sym (append-nil (fresh old));
+    fresh = sym (append-nil (ungathered_prints old));
     printed = ap (λ (c : Record). c.clock.prints) now_is ∙ sym (append-nil (record_now r old).clock.prints);
     starts = [];
     newborn = sym (append-nil old.children.items);
@@ -144,17 +144,17 @@ goes_moved r go t v e goes = subst (λ n. MayMakeInstructions r go n) (sym (ap (
 
 -- ---- its first function has returned
 
-owes_nothing : (code : Code) (b : Body) → b.queue.duties ≡ [] → frames_in b ≡ [] → owed code b ≡ []
+owes_nothing : (code : Code) (b : Body) → b.queue.duties ≡ [] → frames_of_body b ≡ [] → owed_by_body code b ≡ []
 owes_nothing code b empty none =
-    ap (λ (ds : List Duty). ds ++ (if b.is_expanded then [] else next_duties code (bare_all (frames_in b)))) empty
+    ap (λ (ds : List Duty). ds ++ (if b.is_expanded then [] else next_duties code (bare_all (frames_of_body b)))) empty
     ∙ (ap (λ (fs : List WordFrame). if b.is_expanded then [] else next_duties code (bare_all fs)) none ∙ either b.is_expanded)
   where
     either : (e : Bool) → (if e then [] else next_duties code []) ≡ []
     either true = refl
     either false = refl
 
-pub is_over : (r : Run) (a : Actor) → IsActorOf r a → FrameHasNoNext r.program.code (frames_in a.body) → a.body.queue.duties ≡ []
-    → IsOver (now r.setup a)
+pub is_over : (r : Run) (a : Actor) → IsActorOf r a → FrameHasNoNext r.program.code (frames_of_body a.body) → a.body.queue.duties ≡ []
+    → HasFinished (now r.setup a)
 is_over r a stands nothing empty =
     let none = no_frame (now r.setup a).frame.frames refl in
     record {

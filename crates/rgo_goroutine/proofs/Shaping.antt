@@ -12,7 +12,7 @@ use Rattle.rgo_sound.specs.Tac.Code as tac
 use Rattle.rgo_sound.specs.Tac.Code.{Op}
 use Rattle.rgo_sound.specs.Tac.Ops.{operation_of}
 use Rattle.rgo_sound.specs.Typed.declared.actions.Action.{Action}
-use Rattle.rgo_acts.specs.Body.Bodies.{frames_in}
+use Rattle.rgo_acts.specs.Body.Bodies.{frames_of_body}
 use Rattle.rgo_acts.specs.Body.Nexts.{IsNextOf}
 use Rattle.rgo_acts.specs.Body.Programs.{CompactProgram}
 use Rattle.rgo_acts.specs.Body.declared.bodies.Body.{Body}
@@ -22,12 +22,12 @@ use Rattle.rgo_acts.specs.Actors.{IsActorOf}
 use Rattle.rgo_acts.specs.Resting.{IsAtTalk, IsTalk}
 use Rattle.rgo_acts.specs.Runs.{Run}
 use Rattle.rgo_acts.specs.declared.actors.Actor.{Actor}
-use Rattle.rgo_acts.proofs.Before.{do_of}
-use Rattle.rgo_acts.proofs.Resting.{talks_as}
+use Rattle.rgo_acts.proofs.before.Instructions.{do_of}
+use Rattle.rgo_acts.proofs.before.Resting.{talks_as}
 use Rattle.rgo_goroutine.specs.Instructions.{IsElsewhere}
 
 -- an action of the code has as many operands as it takes, and a variable for its value exactly if it gives one
-pub shaped : (r : Run) (a : Actor) (next : Next) → IsActorOf r a → IsNextOf r.program.code (frames_in a.body) next
+pub shaped : (r : Run) (a : Actor) (next : Next) → IsActorOf r a → IsNextOf r.program.code (frames_of_body a.body) next
     → (to : Option ℕ) (act : Action) (from : List ℕ) → operation_of next.op ≡ tac.Do to act from → IsShaped to act from
 shaped r a next s n to act from is =
     let d = do_of n.instr.op to act from (n.op ∙ is) in
@@ -59,7 +59,7 @@ not_both : (op : Op) → IsElsewhere op → IsTalk op → ⊥
 not_both op elsewhere talk = subst IsElsewhere talk.4 elsewhere talk.3
 
 -- before it the goroutine knows of no channel
-pub rests_at : (p : CompactProgram) (b : Body) (next : Next) → IsNextOf p.code (frames_in b) next → IsElsewhere (operation_of next.op)
+pub rests_at : (p : CompactProgram) (b : Body) (next : Next) → IsNextOf p.code (frames_of_body b) next → IsElsewhere (operation_of next.op)
     → (again : Bool) → (again ≡ true → IsAtTalk p b) → (again ≡ false → b.side ≡ AtRest) → b.side ≡ AtRest
 rests_at p b next n elsewhere true there rests =
     absurd (not_both (operation_of next.op) elsewhere (talks_as p b next n (there refl)))

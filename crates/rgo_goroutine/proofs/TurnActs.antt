@@ -1,13 +1,13 @@
 -- A turn: acts one after another, and a load of the clock at its end.
 use Rattle.std.proofs.Common.{◌≡◌, ◌⊎◌, inl, inr, ◌+◌, ◌<◌, ◌≤◌, ℕ, false, List, [], ◌++◌, Some, None, length, refl, ap, sym, subst, ◌∙◌, append_assoc, arith}
 use Rattle.std.proofs.lemmas.List.{append-nil}
-use Rattle.rgo_core.specs.Channels.Records.{Free, Rec as SideRec}
+use Rattle.rgo_core.specs.Channels.Records.{Free, ChannelRec as SideRec}
 use Rattle.rgo_core.specs.Rule.declared.accesses.Access.{Access}
-use Rattle.rgo_core.specs.Opening.{first_of}
+use Rattle.rgo_core.specs.runs.Opening.{first_of}
 use Rattle.rgo_core.specs.Records.{Drawn, Record, accesses, steps_of}
 use Rattle.rgo_core_steps.specs.Grown.{SeatGrew}
 use mathlib.Core.Option.{some-ne-none}
-use Rattle.rgo_core_steps.proofs.Growing.{grew_none}
+use Rattle.rgo_core_steps.proofs.accesses.Growing.{grew_none}
 use Rattle.rgo_sound.specs.RegionMachine.States.{Offer}
 use Rattle.rgo_acts.specs.Body.Shows.{SideShows}
 use Rattle.rgo_acts.specs.Body.declared.bodies.Side.{Side}
@@ -15,8 +15,8 @@ use Rattle.rgo_acts.specs.Body.declared.bodies.Side.TheVariants as side
 use Rattle.rgo_acts.specs.Runs.{Run}
 use Rattle.rgo_acts.proofs.Standing.{now_accesses, now_at_once}
 use Rattle.rgo_goroutine.specs.Acting.{GoroutineActs, MayMakeInstructions, HasCaughtUp, IsOverFor, GoroutineMoved, Proceeds, StopsBy, record_now}
-use Rattle.rgo_goroutine.specs.Goroutines.{IsOf, fresh, numbers, record_of}
-use Rattle.rgo_goroutine.specs.Turns.{HasTurned, IsStill, IsTidy, TurnStops, GoroutineTurns}
+use Rattle.rgo_goroutine.specs.Goroutines.{IsOf, ungathered_prints, numbers, record_of_goroutine}
+use Rattle.rgo_goroutine.specs.Turns.{HasTurned, TurnChangesNothing, IsTidy, TurnStops, GoroutineTurns}
 use Rattle.rgo_goroutine.specs.declared.goroutine.Goroutine.{Goroutine}
 use Rattle.rgo_goroutine.specs.declared.turning.Changed.{Changed}
 use Rattle.rgo_goroutine.specs.declared.turning.TableTurnEnd.{TableTurnEnd}
@@ -29,10 +29,10 @@ use Rattle.rgo_goroutine.proofs.Lasting.{stops_last}
 -- ---- between turns
 
 -- its record has all its local steps
-pub now_is : (r : Run) (go : Goroutine) → go.actor.behind ≡ 0 → record_now r go ≡ record_of r.setup go
+pub now_is : (r : Run) (go : Goroutine) → go.actor.behind ≡ 0 → record_now r go ≡ record_of_goroutine r.setup go
 now_is r go settled = now_at_once r.setup go.actor settled
 
-pub goes_of : (r : Run) (go : Goroutine) (slice : ℕ) → IsOf r go → steps_of (record_of r.setup go) + slice < 8796093022208 → MayMakeInstructions r go slice
+pub goes_of : (r : Run) (go : Goroutine) (slice : ℕ) → IsOf r go → steps_of (record_of_goroutine r.setup go) + slice < 8796093022208 → MayMakeInstructions r go slice
 goes_of r go slice of room =
     let e = now_is r go of.settled in
     let s = ap steps_of e in
@@ -56,7 +56,7 @@ acts_none r go t goes within = record {
       grew = grew_same;
       steps = omega arith;
       draws = [];
-      fresh = sym (append-nil (fresh go));
+      fresh = sym (append-nil (ungathered_prints go));
       printed = sym (append-nil (record_now r go).clock.prints);
       starts = [];
       newborn = sym (append-nil go.children.items);
@@ -103,7 +103,7 @@ side_free side.AtRest k o shows = ap (λ (x : SideRec). x.hold) shows.0
 side_free side.Tried k o shows = shows.0
 side_free (side.Offering at) k o shows = shows.0
 
-pub tidy : (r : Run) (go : Goroutine) (left : ℕ) → MayMakeInstructions r go left → go.actor.behind ≡ 0 → IsTidy (record_of r.setup go)
+pub tidy : (r : Run) (go : Goroutine) (left : ℕ) → MayMakeInstructions r go left → go.actor.behind ≡ 0 → IsTidy (record_of_goroutine r.setup go)
 tidy r go left goes settled = subst IsTidy (now_is r go settled) (record {
   hold = side_free go.actor.body.side (record_now r go).side (record_now r go).frame.holder.offer goes.stands.shows.side;
   make = goes.stands.shows.calm.make;
@@ -121,21 +121,21 @@ module _ (r : Run) (old mid new : Goroutine) (t u : Turning) (why : TableTurnEnd
   all_moved : GoroutineMoved r old new (p.acted.n + 0) es
   all_moved = moved_then r old mid new p.acted.n 0 p.acted.es up.es p.acted.moved up.moved
 
-  old_is : record_now r old ≡ record_of r.setup old
+  old_is : record_now r old ≡ record_of_goroutine r.setup old
   old_is = now_is r old of.settled
 
-  new_is : record_now r new ≡ record_of r.setup new
+  new_is : record_now r new ≡ record_of_goroutine r.setup new
   new_is = now_is r new up.settled
 
-  steps_are : steps_of (record_of r.setup new) ≡ steps_of (record_of r.setup old) + p.acted.n
+  steps_are : steps_of (record_of_goroutine r.setup new) ≡ steps_of (record_of_goroutine r.setup old) + p.acted.n
   steps_are = let a = ap steps_of old_is in let b = ap steps_of new_is in let s = all_moved.steps in omega (arith, a, b, s)
 
-  prints_are : (record_of r.setup new).clock.prints ≡ (record_of r.setup old).clock.prints ++ all_moved.draws
+  prints_are : (record_of_goroutine r.setup new).clock.prints ≡ (record_of_goroutine r.setup old).clock.prints ++ all_moved.draws
   prints_are =
       sym (ap (λ (c : Record). c.clock.prints) new_is)
       ∙ (all_moved.printed ∙ ap (λ (c : Record). c.clock.prints ++ all_moved.draws) old_is)
 
-  children_are : (record_of r.setup new).clock.children ≡ numbers all_moved.starts ++ (record_of r.setup old).clock.children
+  children_are : (record_of_goroutine r.setup new).clock.children ≡ numbers all_moved.starts ++ (record_of_goroutine r.setup old).clock.children
   children_are =
       sym (ap (λ (c : Record). c.clock.children) new_is)
       ∙ (all_moved.started ∙ ap (λ (c : Record). numbers all_moved.starts ++ c.clock.children) old_is)
@@ -148,7 +148,7 @@ module _ (r : Run) (old mid new : Goroutine) (t u : Turning) (why : TableTurnEnd
     gathered = of.gathered;
     prints = prints_are
         ∙ (ap (λ (l : List Drawn). l ++ all_moved.draws) of.prints
-        ∙ (append_assoc of.gathered (fresh old) all_moved.draws ∙ ap (λ (l : List Drawn). of.gathered ++ l) (sym all_moved.fresh)));
+        ∙ (append_assoc of.gathered (ungathered_prints old) all_moved.draws ∙ ap (λ (l : List Drawn). of.gathered ++ l) (sym all_moved.fresh)));
     few = (let e = ap (λ (c : Record). length c.clock.prints) new_is in let s = ap steps_of new_is in let f = up.goes.few in
         omega (arith, e, s, f));
     adopted = of.adopted;
@@ -161,7 +161,7 @@ module _ (r : Run) (old mid new : Goroutine) (t u : Turning) (why : TableTurnEnd
     first = sym (ap (λ (c : Record). c.clock.first) new_is) ∙ up.goes.first;
   }
 
-  accesses_are : accesses (record_of r.setup old) < accesses (record_of r.setup new)
+  accesses_are : accesses (record_of_goroutine r.setup old) < accesses (record_of_goroutine r.setup new)
   accesses_are =
       let a = now_accesses r.setup mid.actor in
       let b = now_accesses r.setup new.actor in
@@ -183,7 +183,7 @@ module _ (r : Run) (old mid new : Goroutine) (t u : Turning) (why : TableTurnEnd
   }
 
   -- where nothing has moved
-  pub still_are : u.moved ≡ false → (p.acted.n ≡ 0) × IsStill r old new es
+  pub still_are : u.moved ≡ false → (p.acted.n ≡ 0) × TurnChangesNothing r old new es
   still_are none =
       let s = p.acted.still none in
       let rests = rests_then r old mid new p.acted.es up.es p.acted.moved.grew s.2 up.rests in (

@@ -4,7 +4,7 @@ use Rattle.std.specs.Prelude.{◌≡◌, ◌⊎◌, ◌+◌, ◌-◌, ◌<◌, �
 use Rattle.rgo_core.specs.Rule.Passes.{ChangesNothingBy}
 use Rattle.rgo_core.specs.Rule.Views.{number_of}
 use Rattle.rgo_core.specs.Rule.declared.accesses.Access.{Access}
-use Rattle.rgo_core.specs.Opening.{first_of}
+use Rattle.rgo_core.specs.runs.Opening.{first_of}
 use Rattle.rgo_core.specs.Records.{Drawn, Record, accesses, looked, steps_of}
 use Rattle.rgo_core_steps.specs.Ends.{mark_of}
 use Rattle.rgo_core_steps.specs.declared.clock.Mark.{Mark}
@@ -13,8 +13,8 @@ use Rattle.rgo_acts.specs.Actors.{IsActorOf, now}
 use Rattle.rgo_acts.specs.Endings.{ActorHasEnded}
 use Rattle.rgo_acts.specs.Runs.{Run}
 use Rattle.rgo_acts.specs.Waits.{Loses, WaitsAtChannel}
-use Rattle.rgo_goroutine.specs.Goroutines.{AreChildren, HoldsMuch, fresh, numbers}
-use Rattle.rgo_goroutine.specs.Turns.{FoundEnd, IsOver, LacksFor}
+use Rattle.rgo_goroutine.specs.Goroutines.{AreChildren, HoldsMuch, ungathered_prints, numbers}
+use Rattle.rgo_goroutine.specs.Turns.{FoundEnd, HasFinished, LacksFor}
 use Rattle.rgo_goroutine.specs.declared.goroutine.Child.{Child}
 use Rattle.rgo_goroutine.specs.declared.goroutine.Goroutine.{Goroutine}
 use Rattle.rgo_goroutine.specs.declared.turning.TableTurnEnd.{TableTurnEnd}
@@ -39,7 +39,7 @@ pub record GoroutineMoved (r : Run) (old new : Goroutine) (n : ℕ) (es : List A
   pub grew : SeatGrew accesses (first_of r.setup.code) old.actor.seat.me es new.actor.seat.me
   pub steps : steps_of (record_now r new) ≡ steps_of (record_now r old) + n
   pub draws : List Drawn
-  pub fresh : fresh new ≡ fresh old ++ draws
+  pub fresh : ungathered_prints new ≡ ungathered_prints old ++ draws
   pub printed : (record_now r new).clock.prints ≡ (record_now r old).clock.prints ++ draws
   pub starts : List Child
   pub newborn : new.children.items ≡ old.children.items ++ starts
@@ -66,8 +66,8 @@ SameFirst r old new = (record_now r new).clock.first ≡ (record_now r old).cloc
 -- ---- what an act came to
 
 -- how much the turn may still do: instructions, and entries in its list of changed channels
-abbrev pub room_in : Turning → ℕ
-room_in t = t.left + (8 - t.changed.count)
+abbrev pub room_in_turn : Turning → ℕ
+room_in_turn t = t.left + (8 - t.changed.count)
 
 -- why the turn is over after it; es are the accesses of the act
 abbrev pub StopsBy : (r : Run) (old new : Goroutine) (es : List Access) → TableTurnEnd → Type 0
@@ -76,7 +76,7 @@ StopsBy r old new es (stop.Blocked at) =
     SameFirst r old new × WaitsAtChannel r.setup (number_of old.actor.seat.me) (record_now r new) es at
 StopsBy r old new es (stop.Lost at) =
     SameFirst r old new × Loses r.setup (number_of old.actor.seat.me) (record_now r new) es at
-StopsBy r old new es stop.Ended = SameFirst r old new × IsOver (record_now r new)
+StopsBy r old new es stop.Ended = SameFirst r old new × HasFinished (record_now r new)
 StopsBy r old new es (stop.Stopped mark) = (record_now r new).clock.first ≡ Some (mark_of mark)
 StopsBy r old new es (stop.Short why) =
     SameFirst r old new × LacksFor why r.setup (number_of old.actor.seat.me) (record_now r new) es
@@ -95,7 +95,7 @@ pub record GoroutineActs (r : Run) (old new : Goroutine) (t u : Turning) (answer
 
 -- the turn may do less than before
 abbrev pub TurnProgresses : (t u : Turning) → Type 0
-TurnProgresses t u = room_in u < room_in t
+TurnProgresses t u = room_in_turn u < room_in_turn t
 
 -- ---- several acts
 

@@ -3,9 +3,9 @@ use Rattle.std.specs.Prelude.{◌≡◌, ◌<◌, ◌≤◌, ℕ, true, false, L
 use Rattle.rgo_core.specs.Core.{Setup}
 use Rattle.rgo_core.specs.Records.{Record, begins_with}
 use Rattle.rgo_core_steps.specs.Seats.{mine}
-use Rattle.rgo_core.specs.Frames.Records.{Rec as FrameRec}
+use Rattle.rgo_core.specs.Frames.Records.{FramesRec as FrameRec}
 use Rattle.rgo_core.specs.Channels.Records.{Free}
-use Rattle.rgo_core.specs.Frames.WordFrames.{WordFrame}
+use Rattle.rgo_core.specs.Frames.shown.WordFrames.{WordFrame}
 use Rattle.rgo_core.specs.Rule.Histories.{access}
 use Rattle.rgo_core.specs.Rule.Views.{number_of}
 use Rattle.rgo_core.specs.Rule.declared.accesses.Access.{Access}
@@ -16,10 +16,10 @@ use Rattle.rgo_acts.specs.Actors.{now}
 use Rattle.rgo_acts.specs.Runs.{Run}
 use Rattle.rgo_acts.specs.declared.prints.Print.{Print}
 use Rattle.rgo_goroutine.specs.Acting.{MayMakeInstructions}
-use Rattle.rgo_goroutine.specs.Goroutines.{IsChild, IsOf, IsTidy, all_seen, bytes_in, numbers, rows, valid}
+use Rattle.rgo_goroutine.specs.Goroutines.{IsChild, IsOf, IsTidy, all_seen, printed_byte_count, numbers, rows_of_children, valid}
 use Rattle.rgo_goroutine.specs.Instructions.{IsNear}
 use Rattle.rgo_goroutine.specs.Passing.{Adopts, AreBorn, Gathers}
-use Rattle.rgo_goroutine.specs.Turns.{FoundEnd, HasTurned, IsOver, LacksFor, TurnStops, GoroutineTurns}
+use Rattle.rgo_goroutine.specs.Turns.{FoundEnd, HasTurned, HasFinished, LacksFor, TurnStops, GoroutineTurns}
 use Rattle.rgo_goroutine.specs.declared.goroutine.Child.{Child}
 use Rattle.rgo_goroutine.specs.declared.goroutine.Goroutine.{Goroutine}
 use Rattle.rgo_goroutine.specs.declared.turning.TableTurnEnd.TheVariants as stop
@@ -38,16 +38,16 @@ pub record TurnExamples : Type 0 where
   pub used_up : (r : Run) (go : Goroutine) → TurnStops r go go 10 10 0 [] stop.Went
   pub told_all : (r : Run) (go : Goroutine) → TurnStops r go go 10 3 8 [] stop.Went
   -- or it has printed much
-  pub printed_much : (r : Run) (go : Goroutine) → 65536 ≤ bytes_in go.prints.items → TurnStops r go go 10 3 0 [] stop.Went
+  pub printed_much : (r : Run) (go : Goroutine) → 65536 ≤ printed_byte_count go.prints.items → TurnStops r go go 10 3 0 [] stop.Went
   -- it has made fewer, has printed little, and nothing ended
-  pub too_early : (r : Run) (old new : Goroutine) → bytes_in new.prints.items < 65536 → TurnStops r old new 10 3 0 [] stop.Went → ⊥
+  pub too_early : (r : Run) (old new : Goroutine) → printed_byte_count new.prints.items < 65536 → TurnStops r old new 10 3 0 [] stop.Went → ⊥
   -- the run had ended: bit 63 of the clock was set
   pub found_end : FoundEnd 1 (end_at 9223372036854775813)
   pub found_none : FoundEnd 1 (end_at 5) → ⊥
   pub of_another : FoundEnd 0 (end_at 9223372036854775813) → ⊥
   -- it has a frame, or owes a duty
-  pub in_call : (c : Record) (w : WordFrame) (ws : List WordFrame) → c.frame.frames ≡ w ∷ ws → IsOver c → ⊥
-  pub owing : (c : Record) (d : Duty) (ds : List Duty) → c.frame.holder.duties ≡ d ∷ ds → IsOver c → ⊥
+  pub in_call : (c : Record) (w : WordFrame) (ws : List WordFrame) → c.frame.frames ≡ w ∷ ws → HasFinished c → ⊥
+  pub owing : (c : Record) (d : Duty) (ds : List Duty) → c.frame.holder.duties ≡ d ∷ ds → HasFinished c → ⊥
   pub locked : (c : Record) → (c.side.hold ≡ Free → ⊥) → IsTidy c → ⊥
   -- it is near as it is, or has changed a word since
   pub near : (r : Run) (go : Goroutine) (left : ℕ) → MayMakeInstructions r go left → go.actor.behind < 4611686018427387904 → IsNear r go go left
@@ -59,21 +59,21 @@ pub record TurnExamples : Type 0 where
   -- the size of an object is not a shortage
   pub too_large : (T : Setup) (g : ℕ) (c : Record) (es : List Access) → LacksFor shortage.ObjectSize T g c es → ⊥
 
-pub record PassingExamples : Type 0 where
+pub record ChildExamples : Type 0 where
   -- the newest is the first in a record
   pub newest_first : (a b : Child) → numbers (a ∷ b ∷ []) ≡ b.number ∷ a.number ∷ []
   -- the oldest is the first in a driver's seat
   pub oldest_first : (T : Setup) (a b : Child)
-      → rows T (a ∷ b ∷ []) ≡ (a.number, mine T a.actor.seat.me) ∷ (b.number, mine T b.actor.seat.me) ∷ []
-  pub not_newest_first : (T : Setup) (a b : Child) → (a.number ≡ b.number → ⊥) → rows T (a ∷ b ∷ []) ≡ rows T (b ∷ a ∷ []) → ⊥
+      → rows_of_children T (a ∷ b ∷ []) ≡ (a.number, mine T a.actor.seat.me) ∷ (b.number, mine T b.actor.seat.me) ∷ []
+  pub not_newest_first : (T : Setup) (a b : Child) → (a.number ≡ b.number → ⊥) → rows_of_children T (a ∷ b ∷ []) ≡ rows_of_children T (b ∷ a ∷ []) → ⊥
   pub each_has_seen : (a b : Child) → all_seen (a ∷ b ∷ []) ≡ a.actor.seat.me.0.seen ∷ b.actor.seat.me.0.seen ∷ []
   pub none_left_out : (a b : Child) → all_seen (a ∷ b ∷ []) ≡ a.actor.seat.me.0.seen ∷ [] → ⊥
   -- one that begins is at nothing; one that has locked a channel does not begin
   pub begins_tidy : (frame : FrameRec) → IsTidy (begins_with frame)
   pub begins_locked : (r : Run) (child : Child) → ((now r.setup child.actor).side.hold ≡ Free → ⊥) → IsChild r child → ⊥
   -- a print counts with all its bytes, void or not
-  pub all_bytes : (p q : Print) → length p.bytes.items ≡ 3 → length q.bytes.items ≡ 4 → bytes_in (p ∷ q ∷ []) ≡ 7
-  pub not_one_each : (p q : Print) → length p.bytes.items ≡ 3 → bytes_in (p ∷ q ∷ []) ≡ 2 → ⊥
+  pub all_bytes : (p q : Print) → length p.bytes.items ≡ 3 → length q.bytes.items ≡ 4 → printed_byte_count (p ∷ q ∷ []) ≡ 7
+  pub not_one_each : (p q : Print) → length p.bytes.items ≡ 3 → printed_byte_count (p ∷ q ∷ []) ≡ 2 → ⊥
   -- a void print is left out
   pub one_void : (p q : Print) → p.is_void ≡ true → q.is_void ≡ false → valid (p ∷ q ∷ []) ≡ q ∷ []
   -- one child was left behind

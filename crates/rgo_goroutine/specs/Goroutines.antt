@@ -16,24 +16,24 @@ use Rattle.rgo_goroutine.specs.declared.goroutine.Child.{Child}
 use Rattle.rgo_goroutine.specs.declared.goroutine.Goroutine.{Goroutine}
 
 -- its record
-abbrev pub record_of : Setup → Goroutine → Record
-record_of T go = mine T go.actor.seat.me
+abbrev pub record_of_goroutine : Setup → Goroutine → Record
+record_of_goroutine T go = mine T go.actor.seat.me
 
 -- what it has drawn and was not gathered
 abbrev pub drawn_by : Print → Drawn
 drawn_by p = record { ticket = p.ticket; bytes = p.bytes.items; is_void = p.is_void }
 
-abbrev pub fresh : Goroutine → List Drawn
-fresh go = map drawn_by go.prints.items
+abbrev pub ungathered_prints : Goroutine → List Drawn
+ungathered_prints go = map drawn_by go.prints.items
 
 -- how many bytes these prints have
-abbrev pub bytes_in : List Print → ℕ
-bytes_in [] = 0
-bytes_in (p ∷ later) = length p.bytes.items + bytes_in later
+abbrev pub printed_byte_count : List Print → ℕ
+printed_byte_count [] = 0
+printed_byte_count (p ∷ later) = length p.bytes.items + printed_byte_count later
 
 -- what it has printed and was not gathered is as much as may come of one turn
 abbrev pub HoldsMuch : Goroutine → Type 0
-HoldsMuch go = 65536 ≤ bytes_in go.prints.items
+HoldsMuch go = 65536 ≤ printed_byte_count go.prints.items
 
 -- the numbers of goroutines, the newest first, as a record has them
 abbrev pub numbers : List Child → List ℕ
@@ -41,9 +41,9 @@ numbers [] = []
 numbers (child ∷ later) = numbers later ++ child.number ∷ []
 
 -- their records, each with its number, the oldest first
-abbrev pub rows : Setup → List Child → Rows Record
-rows T [] = []
-rows T (child ∷ later) = (child.number, mine T child.actor.seat.me) ∷ rows T later
+abbrev pub rows_of_children : Setup → List Child → Rows Record
+rows_of_children T [] = []
+rows_of_children T (child ∷ later) = (child.number, mine T child.actor.seat.me) ∷ rows_of_children T later
 
 -- what each of them has seen
 abbrev pub all_seen : List Child → List (List Access)
@@ -76,13 +76,13 @@ pub record IsOf (r : Run) (go : Goroutine) : Type 0 where
   pub number : go.number ≡ number_of go.actor.seat.me
   pub settled : go.actor.behind ≡ 0
   pub gathered : List Drawn
-  pub prints : (record_of r.setup go).clock.prints ≡ gathered ++ fresh go
+  pub prints : (record_of_goroutine r.setup go).clock.prints ≡ gathered ++ ungathered_prints go
   -- each print was an instruction
-  pub few : length (record_of r.setup go).clock.prints ≤ steps_of (record_of r.setup go)
+  pub few : length (record_of_goroutine r.setup go).clock.prints ≤ steps_of (record_of_goroutine r.setup go)
   pub adopted : List ℕ
-  pub children : (record_of r.setup go).clock.children ≡ numbers go.children.items ++ adopted
+  pub children : (record_of_goroutine r.setup go).clock.children ≡ numbers go.children.items ++ adopted
   pub all : AreChildren r go.children.items
-  pub first : (record_of r.setup go).clock.first ≡ option_map mark_of go.first
+  pub first : (record_of_goroutine r.setup go).clock.first ≡ option_map mark_of go.first
 
 -- ---- what is taken from it
 

@@ -3,7 +3,7 @@ use Rattle.std.specs.Prelude.{◌≡◌, ◌+◌, ◌<◌, ◌≤◌, ℕ, ⊤, 
 use Rattle.rgo_sound.specs.RegionMachine.States.{Duty}
 use Rattle.rgo_sound.specs.Typed.declared.actions.Action.{Action}
 use Rattle.rgo_sound.specs.Typed.declared.actions.Action.TheVariants as action
-use Rattle.rgo_acts.specs.Body.Bodies.{CanCount, HasRoomBehind, IsReady}
+use Rattle.rgo_acts.specs.Body.Bodies.{CanCount, HasRoomBehind, BodyIsReady}
 use Rattle.rgo_acts.specs.Body.declared.bodies.Body.{Body}
 use Rattle.rgo_acts.specs.Body.declared.bodies.Side.TheVariants.{AtRest, Offering}
 use Rattle.rgo_core.specs.Channels.Standing.{IsOfChannel}
@@ -23,10 +23,10 @@ use Rattle.rgo_goroutine.specs.declared.goroutine.Goroutine.{Goroutine}
 
 -- It owes nothing before this instruction, its next one, and has no offer; there is room for what it owes after it, and the turn
 -- has instructions left.
-pub record IsAt (r : Run) (go : Goroutine) (next : Next) (left : ℕ) : Type 0 where
+pub record GoroutineIsAt (r : Run) (go : Goroutine) (next : Next) (left : ℕ) : Type 0 where
   pub goes : MayMakeInstructions r go left
   pub some : 0 < left
-  pub ready : IsReady r.program go.actor.body next
+  pub ready : BodyIsReady r.program go.actor.body next
   pub none : (at : ℕ) → go.actor.body.side ≡ Offering at → ⊥
   pub room : HasRoomBehind go.actor.body next
 
@@ -102,7 +102,7 @@ IsElsewhere (Return value) = ⊤
 -- It may make this instruction, which is not an operation on a channel: it knows of no channel, what it does can be counted, and
 -- the turn has room for it.
 pub record CanAct (r : Run) (go : Goroutine) (next : Next) (t : Turning) : Type 0 where
-  pub at : IsAt r go next t.left
+  pub at : GoroutineIsAt r go next t.left
   pub rests : go.actor.body.side ≡ AtRest
   pub counts : CanCountMore r go
   pub near : go.actor.behind < 4611686018427387904

@@ -6,12 +6,12 @@ use Rattle.rgo_core.specs.Rule.Passes.{ChangesNothingBy}
 use Rattle.rgo_core.specs.Rule.Views.{number_of}
 use Rattle.rgo_core.specs.Rule.declared.accesses.Access.{Access}
 use Rattle.rgo_core.specs.Rule.declared.accesses.Kind.TheVariants.{Load}
-use Rattle.rgo_core.specs.Opening.{first_of}
+use Rattle.rgo_core.specs.runs.Opening.{first_of}
 use Rattle.rgo_core.specs.Records.{accesses, looked}
 use Rattle.rgo_core_steps.specs.Grown.{Found, SeatGrew}
 use Rattle.rgo_acts.specs.Runs.{Run}
 use Rattle.rgo_acts.specs.declared.prints.Print.{Print}
-use Rattle.rgo_goroutine.specs.Goroutines.{IsOf, record_of, valid}
+use Rattle.rgo_goroutine.specs.Goroutines.{IsOf, record_of_goroutine, valid}
 use Rattle.rgo_goroutine.specs.declared.goroutine.Child.{Child}
 use Rattle.rgo_goroutine.specs.declared.goroutine.Goroutine.{Goroutine}
 
@@ -59,5 +59,5 @@ pub record LoadsClock (r : Run) (old new : Goroutine) (ended : Bool) : Type 0 wh
   pub clock : ℕ
   pub found : Found (number_of old.actor.seat.me) es Load clock_at clock
   pub end : (ended ≡ true) ↔ (2 ^ 63 ≤ clock)
-  pub record_is : record_of r.setup new ≡ looked (record_of r.setup old)
+  pub record_is : record_of_goroutine r.setup new ≡ looked (record_of_goroutine r.setup old)
   pub rest : new ≡ record old { actor = record old.actor { seat = new.actor.seat } }

@@ -4,13 +4,13 @@ ghost use mathlib.Core.Logic.{◌↔◌};
 ghost use Rattle.std.specs.Prelude.{◌≡◌, ◌+◌, ◌≤◌, ◌<◌, ◌-◌, ◌++◌, ◌∷◌, [], ℕ, List, IfErr, IfOk, MatchResult, None, length, true, vec_capacity, vec_len};
 ghost use Rattle.std.specs.List.{All};
 ghost use Rattle.rgo_core.specs.Core.{IsPossible};
-ghost use Rattle.rgo_core.specs.Opening.{first_of};
+ghost use Rattle.rgo_core.specs.runs.Opening.{first_of};
 ghost use Rattle.rgo_core.specs.Memory.Words.{clock_at};
 ghost use Rattle.rgo_core.specs.Rule.Passes.{after_pass};
 ghost use Rattle.rgo_core.specs.Rule.Views.{longer, view};
 ghost use Rattle.rgo_core_steps.specs.Seats.{IsSeatOf};
 ghost use Rattle.rgo_acts.specs.Runs as runs;
-ghost use Rattle.rgo_goroutine.specs.Goroutines.{AreChildren, IsOf, all_seen, bytes_in, record_of, rows, valid};
+ghost use Rattle.rgo_goroutine.specs.Goroutines.{AreChildren, IsOf, all_seen, printed_byte_count, record_of_goroutine, rows_of_children, valid};
 ghost use Rattle.rgo_goroutine.specs.Passing.{Adopts, AreBorn, Gathers, LoadsClock};
 ghost use Rattle.rgo_goroutine.specs.declared.goroutine.Goroutine as spec;
 
@@ -51,7 +51,7 @@ pub(crate) struct Child {
 
 /// Whether these prints have as many bytes as end a turn.
 pub(crate) fn hold_much(prints: &[Print]) -> bool
-    ensures { (result ≡ true) ↔ (65536 ≤ bytes_in prints.now) }
+    ensures { (result ≡ true) ↔ (65536 ≤ printed_byte_count prints.now) }
 {
     let mut left = MOST_PRINTED;
     let mut rest = prints;
@@ -99,7 +99,7 @@ fn hand_over(run: &Run<'_, '_>, started: &mut Vec<Child>, seat: &mut RunSeat)
     requires stand { AreChildren run.now started.old.items }
     requires own { IsSeatOf seat.old.table_id run.now.table clock_at }
     ensures own { (seat.new.table_id ≡ seat.old.table_id) × (seat.new.id ≡ seat.old.id) }
-    ensures records { seat.new.me.0.records ≡ seat.old.me.0.records ++ rows run.now.setup started.old.items }
+    ensures records { seat.new.me.0.records ≡ seat.old.me.0.records ++ rows_of_children run.now.setup started.old.items }
     ensures seen { seat.new.me.0.seen ≡ after_pass seat.old.me.0.seen (all_seen started.old.items) }
     ensures slots { seat.new.me.1 ≡ seat.old.me.1 }
 {
@@ -195,7 +195,7 @@ impl Goroutine {
 
     /// What it has made and done.
     pub fn tally(&self) -> &Counts
-        ensures { (r : runs.Run) → IsOf r self.now → result.now ≡ (record_of r.setup self.now).clock.share }
+        ensures { (r : runs.Run) → IsOf r self.now → result.now ≡ (record_of_goroutine r.setup self.now).clock.share }
     {
         self.actor.body.counts()
     }
@@ -267,7 +267,7 @@ impl Goroutine {
         requires gathered { self.prints.items ≡ [] }
         requires adopted { self.children.items ≡ [] }
         ensures own { (seat.new.table_id ≡ seat.old.table_id) × (seat.new.id ≡ seat.old.id) }
-        ensures records { seat.new.me.0.records ≡ seat.old.me.0.records ++ (self.number, record_of run.now.setup self) ∷ [] }
+        ensures records { seat.new.me.0.records ≡ seat.old.me.0.records ++ (self.number, record_of_goroutine run.now.setup self) ∷ [] }
         ensures seen { seat.new.me.0.seen ≡ longer seat.old.me.0.seen self.actor.seat.me.0.seen }
         ensures slots { seat.new.me.1 ≡ seat.old.me.1 }
     {
@@ -282,7 +282,7 @@ impl Goroutine {
         requires own { IsSeatOf seat.old.table_id run.now.table clock_at }
         ensures own { (seat.new.table_id ≡ seat.old.table_id) × (seat.new.id ≡ seat.old.id) }
         ensures records { seat.new.me.0.records ≡ seat.old.me.0.records
-            ++ (self.number, record_of run.now.setup self) ∷ rows run.now.setup self.children.items }
+            ++ (self.number, record_of_goroutine run.now.setup self) ∷ rows_of_children run.now.setup self.children.items }
         ensures seen { seat.new.me.0.seen ≡ after_pass (longer seat.old.me.0.seen self.actor.seat.me.0.seen)
             (all_seen self.children.items) }
         ensures slots { seat.new.me.1 ≡ seat.old.me.1 }
@@ -304,7 +304,7 @@ impl Goroutine {
         ) }
         ensures seen { self.new.actor.seat.me.0.seen ≡ longer seat.old.me.0.seen self.old.actor.seat.me.0.seen }
         ensures rest { self.new ≡ record self.old { actor = record self.old.actor { seat = self.new.actor.seat } } }
-        ensures record { record_of run.now.setup self.new ≡ record_of run.now.setup self.old }
+        ensures record { record_of_goroutine run.now.setup self.new ≡ record_of_goroutine run.now.setup self.old }
     {
         seats::meet(run.table(), seat, &mut self.actor.seat);
     }

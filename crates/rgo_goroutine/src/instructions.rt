@@ -5,23 +5,23 @@
 //! action, and the table of actions says how many operands that has.
 ghost use Rattle.std.specs.Prelude.{◌≡◌, ◌+◌, ◌-◌, ◌∷◌, ◌<◌, ◌≤◌, ◌^◌, ℕ, ⊤, IsErr, IsOk, List, MatchOption, MatchResult, None, Option, Some, [], if◌then◌else◌, is_some, length, true};
 ghost use Rattle.rgo_core.specs.Channels.Standing.{IsOfChannel};
-ghost use Rattle.rgo_acts.specs.Facts.ControlShapes.{IsShaped, operand_count};
+ghost use Rattle.rgo_acts.specs.Facts.ControlShapes.{IsShaped, action_arity};
 ghost use Rattle.rgo_core.specs.Rule.Views.{number_of};
 ghost use Rattle.rgo_core_steps.specs.Ends.{GoroutineEndsRun, InstrTraps};
 ghost use Rattle.rgo_sound.specs.RegionMachine.Objects.{makes_object};
 ghost use Rattle.rgo_sound.specs.RegionMachine.States.{Stopped};
 ghost use Rattle.rgo_sound.specs.Tac.Code.{Call, Do, Go, Print, Return};
 ghost use Rattle.rgo_sound.specs.Tac.Ops.{numbers_of, operation_of};
-ghost use Rattle.rgo_acts.specs.Body.Bodies.{CanCount, frames_in};
+ghost use Rattle.rgo_acts.specs.Body.Bodies.{CanCount, frames_of_body};
 ghost use Rattle.rgo_acts.specs.Body.declared.bodies.Side.TheVariants as side;
 ghost use Rattle.rgo_acts.specs.Actors.{ActorActed, IsActorOf, now};
 ghost use Rattle.rgo_acts.specs.Objects.{ActorMakes};
-ghost use Rattle.rgo_acts.specs.Ready.{IsBefore};
+ghost use Rattle.rgo_acts.specs.Ready.{ActorIsBefore};
 ghost use Rattle.rgo_acts.specs.Talks.{CanTry, Talks};
 ghost use Rattle.rgo_acts.specs.Traps.{IsAtTrap};
 ghost use Rattle.rgo_goroutine.specs.Acting.{EndsIn, MayMakeInstructions};
 ghost use Rattle.rgo_goroutine.specs.Goroutines.{HoldsMuch};
-ghost use Rattle.rgo_goroutine.specs.Instructions.{CanAct, HasComeTo, TableHasPages, HasTalked, MakesInstruction, IsAt, IsElsewhere, IsOfWord};
+ghost use Rattle.rgo_goroutine.specs.Instructions.{CanAct, HasComeTo, TableHasPages, HasTalked, MakesInstruction, GoroutineIsAt, IsElsewhere, IsOfWord};
 ghost use Rattle.rgo_goroutine.specs.declared.goroutine.Goroutine.{Goroutine as Goroutine_};
 ghost use Rattle.rgo_goroutine.specs.declared.turning.TableTurnEnd.TheVariants as stop;
 
@@ -107,7 +107,7 @@ impl Goroutine {
         turning: &mut Turning,
         steps: &mut Steps<L>,
     ) -> Option<TableTurnEnd>
-        requires at { IsAt run.now self.old next.now turning.old.left }
+        requires at { GoroutineIsAt run.now self.old next.now turning.old.left }
         requires pages { TableHasPages run.now }
         requires noted { turning.old.changed.count < 8 }
         requires rests { self.old.actor.body.side ≡ side.AtRest }
@@ -276,10 +276,10 @@ impl Goroutine {
         turning: &mut Turning,
         steps: &mut Steps<L>,
     ) -> Option<TableTurnEnd>
-        requires at { IsAt run.now self.old next.now turning.old.left }
+        requires at { GoroutineIsAt run.now self.old next.now turning.old.left }
         requires noted { turning.old.changed.count < 8 }
         requires is { (to : Option ℕ) × (operation_of next.now.op ≡ Do to action (numbers_of from)) }
-        requires shape { length (numbers_of from) ≡ operand_count action }
+        requires shape { length (numbers_of from) ≡ action_arity action }
         requires of_channel { IsOfChannel action }
         ensures { MakesInstruction run.now self.old self.new turning.old turning.new result }
     {
@@ -388,7 +388,7 @@ impl Goroutine {
 
     /// A number was refused before: the run ends.
     fn too_many(&mut self, run: &Run<'_, '_>, next: &Next<'_>) -> TableTurnEnd
-        requires before { IsBefore run.now self.old.actor next.now }
+        requires before { ActorIsBefore run.now self.old.actor next.now }
         requires starts { (n : ℕ) × (from : List ℕ) × (operation_of next.now.op ≡ Go n from) }
         requires refused { self.old.actor.body.refused ≡ true }
         ensures { EndsIn run.now self.old self.new 0 result }
@@ -472,7 +472,7 @@ impl Goroutine {
         requires can { CanAct run.now self.old next.now turning.old }
         requires is { operation_of next.now.op ≡ Return value }
         requires main { self.old.number ≡ 0 }
-        requires last { length (frames_in self.old.actor.body) ≡ 1 }
+        requires last { length (frames_of_body self.old.actor.body) ≡ 1 }
         ensures { MakesInstruction run.now self.old self.new turning.old turning.new result }
     {
         if self.actor.body.room_to_return(run.program()).is_err() {
@@ -614,7 +614,7 @@ fn access_word<L: Ledger>(
     from: Operands,
     steps: &mut Steps<L>,
 ) -> Result<(), Trap>
-    requires before { IsBefore run.now actor.old next.now }
+    requires before { ActorIsBefore run.now actor.old next.now }
     requires is { operation_of next.now.op ≡ Do to action (numbers_of from) }
     requires shape { IsShaped to action (numbers_of from) }
     requires accesses { IsOfWord action }
@@ -681,7 +681,7 @@ fn make_object<L: Ledger>(
     from: Operands,
     steps: &mut Steps<L>,
 ) -> Made
-    requires before { IsBefore run.now actor.old next.now }
+    requires before { ActorIsBefore run.now actor.old next.now }
     requires pages { TableHasPages run.now }
     requires is { operation_of next.now.op ≡ Do to action (numbers_of from) }
     requires shape { IsShaped to action (numbers_of from) }
@@ -725,7 +725,7 @@ fn operate<L: Ledger>(
 ) -> Talked
     requires can { CanTry run.now actor.old next.now }
     requires is { (to : Option ℕ) × (operation_of next.now.op ≡ Do to action (numbers_of from)) }
-    requires shape { length (numbers_of from) ≡ operand_count action }
+    requires shape { length (numbers_of from) ≡ action_arity action }
     requires of_channel { IsOfChannel action }
     ensures { Talks run.now actor.old actor.new 1 result }
 {

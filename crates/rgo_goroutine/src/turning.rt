@@ -3,7 +3,7 @@
 //! accesses of that act; a caller that needs it of one moment makes a pass.
 ghost use Rattle.std.specs.Prelude.{◌≡◌, ◌+◌, ◌-◌, ◌∷◌, ◌<◌, ◌≤◌, [], ℕ, List, OnOk, Some, None, false, true, ◌↔◌};
 ghost use Rattle.rgo_core.specs.Records.{steps_of};
-ghost use Rattle.rgo_acts.specs.Body.Bodies.{HasRoomBehind, frames_in};
+ghost use Rattle.rgo_acts.specs.Body.Bodies.{HasRoomBehind, frames_of_body};
 ghost use Rattle.rgo_acts.specs.Body.Nexts.{IsNextOf};
 ghost use Rattle.rgo_acts.specs.Body.Steps.{StillShows};
 ghost use Rattle.rgo_acts.specs.Body.declared.bodies.Side.TheVariants as side;
@@ -12,8 +12,8 @@ ghost use Rattle.rgo_sound.specs.RegionMachine.States.{Duty};
 ghost use Rattle.rgo_acts.specs.Actors.{IsActorOf};
 ghost use Rattle.rgo_goroutine.specs.Acting.{GoroutineActs, MayMakeInstructions, Proceeds, HasCaughtUp};
 ghost use Rattle.rgo_goroutine.specs.Instructions.{CanCountMore, HasAttendedAll, HasAttendedOne, TableHasPages, MakesInstruction, IsNear, IsReadyToExpand, OwesNothing};
-ghost use Rattle.rgo_goroutine.specs.Examples.{PassingExamples, TurnExamples};
-ghost use Rattle.rgo_goroutine.specs.Goroutines.{IsOf, record_of};
+ghost use Rattle.rgo_goroutine.specs.Examples.{ChildExamples, TurnExamples};
+ghost use Rattle.rgo_goroutine.specs.Goroutines.{IsOf, record_of_goroutine};
 ghost use Rattle.rgo_goroutine.specs.Turns.{HasTurned, IsTidy};
 
 use crate::goroutine::Goroutine;
@@ -131,10 +131,10 @@ impl Goroutine {
     ) -> Turned
         requires of { IsOf run.now self.old }
         requires pages { TableHasPages run.now }
-        requires count { steps_of (record_of run.now.setup self.old) + slice < 8796093022208 }
+        requires count { steps_of (record_of_goroutine run.now.setup self.old) + slice < 8796093022208 }
         ensures of { IsOf run.now self.new }
         ensures turned { HasTurned run.now self.old self.new slice result }
-        ensures tidy { IsTidy (record_of run.now.setup self.new) }
+        ensures tidy { IsTidy (record_of_goroutine run.now.setup self.new) }
     {
         let mut turning = Turning {
             left: slice,
@@ -413,7 +413,7 @@ fn room_behind_offer(
     program: &Program<'_>,
     next: &Next<'_>,
 ) -> Result<(), AllocError>
-    requires next { IsNextOf program.now.code (frames_in body.old) next.now }
+    requires next { IsNextOf program.now.code (frames_of_body body.old) next.now }
     requires empty { body.old.queue.duties ≡ [] }
     ensures expanded { OnOk result (body.new.is_expanded ≡ true) }
     ensures room { OnOk result (HasRoomBehind body.new next.now) }
@@ -462,5 +462,5 @@ impl Changed {
 /// Goroutines and turns that meet their definitions, and some that do not.
 pub fn examples()
     ensures turns { TurnExamples }
-    ensures passing { PassingExamples }
+    ensures passing { ChildExamples }
 {}

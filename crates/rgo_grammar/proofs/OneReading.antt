@@ -6,7 +6,7 @@ use Rattle.rgo_ast.specs.Tree.{Import, Decl}
 use Rattle.rgo_lexer.specs.Lexemes.{Lexeme}
 use Rattle.rgo_grammar.specs.Grammar.{IsProgram}
 use Rattle.rgo_grammar.specs.FirstBad.{Begins, IsFirstBad}
-use Rattle.rgo_grammar.specs.Laws.{OneRefusal, NeverBoth}
+use Rattle.rgo_grammar.specs.Laws.{OneFirstBad, NeverProgramAndBad}
 
 -- a program begins with each of its fronts
 front_begins : (k : ℕ) (l : List Lexeme) → Begins l → Begins (take k l)
@@ -22,14 +22,14 @@ whole_begins l imports decls p = ([], imports, decls, rw append-nil p)
 no_second : (l : List Lexeme) (k j : ℕ) → k < j → IsFirstBad l k → IsFirstBad l j → ⊥
 no_second l k j h f g = f.next (omega (arith, g.within)) (less_begins (k + 1) j l (omega arith) g.before)
 
-pub one_refusal : OneRefusal
+pub one_refusal : OneFirstBad
 one_refusal l k j f g = by_order (cases_order k j) where
   by_order : (k ≡ j) ⊎ ((k < j) ⊎ (j < k)) → k ≡ j
   by_order (inl e) = e
   by_order (inr (inl h)) = absurd (no_second l k j h f g)
   by_order (inr (inr h)) = absurd (no_second l j k h g f)
 
-pub never_both : NeverBoth
+pub never_both : NeverProgramAndBad
 never_both l imports decls k p f = by_order (cases_lt k (length l)) where
   by_order : (k < length l) ⊎ (length l ≤ k) → ⊥
   by_order (inl h) = f.next h (front_begins (k + 1) l (whole_begins l imports decls p))

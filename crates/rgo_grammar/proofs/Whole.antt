@@ -6,7 +6,7 @@ use Rattle.rgo_ast.specs.Tree.{Import, Decl}
 use Rattle.rgo_lexer.specs.Lexemes.{Lexeme}
 use Rattle.rgo_grammar.specs.Grammar.{IsProgram}
 use Rattle.rgo_grammar.specs.FirstBad.{Begins, IsFirstBad}
-use Rattle.rgo_grammar.specs.Laws.{OneTree, OneOfBoth}
+use Rattle.rgo_grammar.specs.Laws.{OneTree, ProgramOrBad}
 use Rattle.rgo_grammar.specs.reading.{Read.{Read, Done, Failed, At, Starving}, Declarations.{program}}
 use Rattle.rgo_grammar.proofs.machine.{Table.{Program, fine, leads}, Runs.{Accepted, Stopped, run, Reached, stopped, finish, finish_run}}
 use Rattle.rgo_grammar.proofs.reading.Complete.{Meets}
@@ -126,7 +126,7 @@ pub rest_within : (l r : List Lexeme) → read l ≡ Failed (At r) → length r 
 rest_within l r e =
     let at = reached l r e in omega (arith, ap length at.cut, length-append at.before r)
 
-pub one_of_both : OneOfBoth
+pub one_of_both : ProgramOrBad
 one_of_both l = by_read (read l) refl where
   by_read : (r : Read (List Import × List Decl)) → read l ≡ r
       → ((is : List Import) × (ds : List Decl) × IsProgram l is ds) ⊎ ((k : ℕ) × IsFirstBad l k)

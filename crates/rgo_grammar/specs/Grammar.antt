@@ -195,14 +195,14 @@ pub data IsCondition : List Lexeme → Option tree.Expr → Type 0 where
   some : {x : List Lexeme} {v : tree.Expr} → IsExpr true 1 x v → IsCondition x (Some v)
 
 -- LVar = Names Type | name Type "=" Expr | name "=" Expr .
-pub data IsLocal : List Lexeme → tree.LocalVar → Type 0 where
-  zero : {x : List Lexeme} {b : Binding} → IsBinding x b → IsLocal x (tree.Zero b)
+pub data IsLocalVar : List Lexeme → tree.LocalVar → Type 0 where
+  zero : {x : List Lexeme} {b : Binding} → IsBinding x b → IsLocalVar x (tree.Zero b)
   typed : (i j : Leaf) {x y : List Lexeme} {t : tree.TypeExpr} {v : tree.Expr}
       → IsType x t → IsExpr false 1 y v
-      → IsLocal (tok Name i ∷ (x ++ tok (Assign assign_op.Plain) j ∷ y))
+      → IsLocalVar (tok Name i ∷ (x ++ tok (Assign assign_op.Plain) j ∷ y))
       (tree.Typed (ident i) t v j.at)
   inferred : (i j : Leaf) {y : List Lexeme} {v : tree.Expr} → IsExpr false 1 y v
-      → IsLocal (tok Name i ∷ tok (Assign assign_op.Plain) j ∷ y) (tree.Inferred (ident i) v j.at)
+      → IsLocalVar (tok Name i ∷ tok (Assign assign_op.Plain) j ∷ y) (tree.Inferred (ident i) v j.at)
 
 mutual
   -- Stmt = Block | Simple | If | For | "go" name "(" [ Args ] ")"
@@ -216,10 +216,10 @@ mutual
     go : (i j k : Leaf) {y : List Lexeme} {vs : List tree.Expr} → IsExprs CloseParen y vs
         → IsStmt (tok Go i ∷ tok Name j ∷ tok OpenParen k ∷ y)
         (tree.Go (ident j) (exprs_of vs) i.at)
-    var : (i : Leaf) {x : List Lexeme} {v : tree.LocalVar} → IsLocal x v
+    var : (i : Leaf) {x : List Lexeme} {v : tree.LocalVar} → IsLocalVar x v
         → IsStmt (tok Var i ∷ x) (tree.Var (v ∷ []) i.at)
     vars : (i j : Leaf) {y : List Lexeme} {vs : List tree.LocalVar}
-        → Listed IsLocal Semicolon CloseParen y vs
+        → Listed IsLocalVar Semicolon CloseParen y vs
         → IsStmt (tok Var i ∷ tok OpenParen j ∷ y) (tree.Var vs i.at)
     return : (i : Leaf) → IsStmt (tok Return i ∷ []) (tree.Return None i.at)
     returns : (i : Leaf) {x : List Lexeme} {v : tree.Expr} → IsExpr false 1 x v
@@ -322,13 +322,13 @@ pub data IsImport : List Lexeme → tree.Import → Type 0 where
       → IsImport (tok Import i ∷ tok OpenParen j ∷ y) (record { paths = ps; at = i.at })
 
 -- { Item ";" }
-pub data Each {A : Type 0} (Item : List Lexeme → A → Type 0) : List Lexeme → List A → Type 0 where
-  none : Each Item [] []
-  next : (j : Leaf) {x y : List Lexeme} {a : A} {all : List A} → Item x a → Each Item y all
-      → Each Item (x ++ tok Semicolon j ∷ y) (a ∷ all)
+pub data EachWithSemicolon {A : Type 0} (Item : List Lexeme → A → Type 0) : List Lexeme → List A → Type 0 where
+  none : EachWithSemicolon Item [] []
+  next : (j : Leaf) {x y : List Lexeme} {a : A} {all : List A} → Item x a → EachWithSemicolon Item y all
+      → EachWithSemicolon Item (x ++ tok Semicolon j ∷ y) (a ∷ all)
 
 -- Program = "package" "main" ";" { Import ";" } { Decl ";" } .
 pub data IsProgram : List Lexeme → List tree.Import → List tree.Decl → Type 0 where
   program : (i j k : Leaf) {x y : List Lexeme} {imports : List tree.Import} {decls : List tree.Decl}
-      → Each IsImport x imports → Each IsDecl y decls
+      → EachWithSemicolon IsImport x imports → EachWithSemicolon IsDecl y decls
       → IsProgram (tok Package i ∷ tok Main j ∷ tok Semicolon k ∷ (x ++ y)) imports decls

@@ -11,16 +11,16 @@ OneTree = (l : List Lexeme) (imports imports' : List Import) (decls decls' : Lis
     → IsProgram l imports decls → IsProgram l imports' decls'
     → (imports ≡ imports') × (decls ≡ decls')
 
-abbrev pub OneRefusal : Type 0
-OneRefusal = (l : List Lexeme) (k j : ℕ) → IsFirstBad l k → IsFirstBad l j → k ≡ j
+abbrev pub OneFirstBad : Type 0
+OneFirstBad = (l : List Lexeme) (k j : ℕ) → IsFirstBad l k → IsFirstBad l j → k ≡ j
 
 -- no list is a program and also has a first bad lexeme
-abbrev pub NeverBoth : Type 0
-NeverBoth = (l : List Lexeme) (imports : List Import) (decls : List Decl) (k : ℕ)
+abbrev pub NeverProgramAndBad : Type 0
+NeverProgramAndBad = (l : List Lexeme) (imports : List Import) (decls : List Decl) (k : ℕ)
     → IsProgram l imports decls → IsFirstBad l k → ⊥
 
 -- each list is a program or has a first bad lexeme
-abbrev pub OneOfBoth : Type 0
-OneOfBoth = (l : List Lexeme)
+abbrev pub ProgramOrBad : Type 0
+ProgramOrBad = (l : List Lexeme)
     → ((imports : List Import) × (decls : List Decl) × IsProgram l imports decls)
     ⊎ ((k : ℕ) × IsFirstBad l k)

@@ -27,8 +27,8 @@ abbrev pub outside_level : List Level → List Level
 outside_level [] = []
 outside_level (v ∷ s) = s
 
-abbrev pub joined : Level → Level
-joined v = record { brackets = v.brackets; joints = v.joints + 1; elses = v.elses }
+abbrev pub with_joint : Level → Level
+with_joint v = record { brackets = v.brackets; joints = v.joints + 1; elses = v.elses }
 
 abbrev pub branched : Level → Level
 branched v = record { brackets = v.brackets; joints = v.joints; elses = v.elses + 1 }
@@ -50,15 +50,15 @@ abbrev pub levels_after : Terminal → Terminal → List Level → List Level
 levels_after before OpenParen s = inner ∷ s
 levels_after before OpenBracket s = inner ∷ s
 levels_after before OpenBrace s = inner ∷ s
-levels_after before CloseParen s = at_innermost joined (outside_level s)
-levels_after before CloseBracket s = at_innermost joined (outside_level s)
+levels_after before CloseParen s = at_innermost with_joint (outside_level s)
+levels_after before CloseBracket s = at_innermost with_joint (outside_level s)
 levels_after before CloseBrace s = outside_level s
-levels_after before (Binary o) s = at_innermost joined s
-levels_after before Bang s = at_innermost joined s
-levels_after before Ampersand s = at_innermost joined s
-levels_after before Arrow s = at_innermost joined s
-levels_after before Dot s = at_innermost joined s
-levels_after before Chan s = at_innermost joined s
+levels_after before (Binary o) s = at_innermost with_joint s
+levels_after before Bang s = at_innermost with_joint s
+levels_after before Ampersand s = at_innermost with_joint s
+levels_after before Arrow s = at_innermost with_joint s
+levels_after before Dot s = at_innermost with_joint s
+levels_after before Chan s = at_innermost with_joint s
 levels_after before Else s = at_innermost branched s
 levels_after before Comma s = at_innermost separated s
 levels_after before Semicolon s = at_innermost (after_semicolon before) s

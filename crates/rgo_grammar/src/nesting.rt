@@ -3,7 +3,7 @@
 
 ghost use Rattle.std.specs.Prelude.{◌≡◌, ◌<◌, ◌^◌, ◌∷◌, [], IfOk};
 ghost use Rattle.rgo_grammar.specs.Nesting.{nesting, weight, outermost, inner, at_innermost, outside_level};
-ghost use Rattle.rgo_grammar.specs.Nesting.{joined, branched, separated, ended_level, after_semicolon};
+ghost use Rattle.rgo_grammar.specs.Nesting.{with_joint, branched, separated, ended_level, after_semicolon};
 ghost use Rattle.rgo_grammar.specs.Nesting.{levels_after, deep_at};
 
 use rgo_lexer::{Lexeme, Terminal};
@@ -76,7 +76,7 @@ impl Nesting {
 
     fn join(&mut self)
         requires { self.old.total < 2 ^ 63 }
-        ensures { self.new.levels.items ≡ at_innermost joined self.old.levels.items }
+        ensures { self.new.levels.items ≡ at_innermost with_joint self.old.levels.items }
     {
         if let Some(level) = self.levels.front_mut() {
             level.joints += 1;

@@ -14,11 +14,11 @@ use Rattle.rgo_holding.specs.declared.entries.Entry.{Entry}
 use Rattle.rgo_holding.specs.declared.frames.Frames.{Frames}
 use Rattle.rgo_holding.specs.declared.holding.Holding.{Holding}
 use Rattle.rgo_holding.specs.declared.keys.Key.{Key}
-use Rattle.rgo_holding.specs.Holds.{IsHoldingOf, HoldingShows, entry_at, region_at}
+use Rattle.rgo_holding.specs.Holds.{IsHoldingOf, HoldingShows, entry_at, region_of_key}
 use Rattle.rgo_holding.specs.Known.{entry_region, global_key, region_of}
-use Rattle.rgo_holding.specs.Naming.{Changed, NamedFrameEnters, SameTables, cleared, with_named}
+use Rattle.rgo_holding.specs.Naming.{Changed, NamedFrameEnters, SameTables, cleared_keys, with_named}
 use Rattle.rgo_holding.specs.Passing.{IsPrepared, calling, class_key, key_for}
-use Rattle.rgo_holding.specs.Tables.{Keys, NamesStand, StandFor, StartWithin, key_in, keys_at, named, named_in, newest_keys}
+use Rattle.rgo_holding.specs.Tables.{Keys, NamesStand, StandFor, StartWithin, key_in, keys_at, named_frames, named_in, newest_keys}
 use Rattle.rgo_holding.proofs.EntryLemmas.{slot_if}
 use Rattle.rgo_holding.proofs.Moving.{moved, renamed_shows}
 use Rattle.rgo_holding.proofs.NameLemmas.{entered, stand_cleared}
@@ -30,25 +30,25 @@ same_tables_show k f slots h fills shows same =
     moved k f slots h.environments h.environments h.base h.pending h.stakes fills shows (same.depth ∙ shows.depth)
     (subst (λ ks. StartWithin ks (reverse f.tables.items)) (sym same.keys)
     (subst (λ ts. StartWithin k.frames.keys.items (reverse ts)) (sym same.tables) shows.ordered))
-    (subst (λ ks. NamesStand (region_at k) (named_in ks (reverse f.tables.items)) h.environments) (sym same.keys)
-    (subst (λ ts. NamesStand (region_at k) (named_in k.frames.keys.items (reverse ts)) h.environments) (sym same.tables) shows.names))
+    (subst (λ ks. NamesStand (region_of_key k) (named_in ks (reverse f.tables.items)) h.environments) (sym same.keys)
+    (subst (λ ts. NamesStand (region_of_key k) (named_in k.frames.keys.items (reverse ts)) h.environments) (sym same.tables) shows.names))
     (λ r. refl)
 
 -- the newest frame's keys stand for its names
 pub newest_stand : (k : Holding) (slots : ℕ) (h : Holder) (fills : List Fill) → IsHoldingOf slots k h fills
-    → StandFor (region_at k) (newest_keys k.frames) (top_names h.environments)
+    → StandFor (region_of_key k) (newest_keys k.frames) (top_names h.environments)
 newest_stand k slots h fills shows = go h.environments shows.depth shows.names
   where
-    go : (es : List RegionEnvironment) → k.frames.depth ≡ length es → NamesStand (region_at k) (named k.frames) es
-        → StandFor (region_at k) (newest_keys k.frames) (top_names es)
-    go [] d s = λ n. ap (λ fs. option_map (region_at k) (key_in (keys_at fs k.frames.depth) n)) s
-    go (e ∷ es) d s = subst (λ n. StandFor (region_at k) (keys_at (named k.frames) n) e.names) (sym d) s.0
+    go : (es : List RegionEnvironment) → k.frames.depth ≡ length es → NamesStand (region_of_key k) (named_frames k.frames) es
+        → StandFor (region_of_key k) (newest_keys k.frames) (top_names es)
+    go [] d s = λ n. ap (λ fs. option_map (region_of_key k) (key_in (keys_at fs k.frames.depth) n)) s
+    go (e ∷ es) d s = subst (λ n. StandFor (region_of_key k) (keys_at (named_frames k.frames) n) e.names) (sym d) s.0
 
 -- the region of Global's key
-pub global_at : (k : Holding) → slot_if (entry_at k global_key) ≡ Some k.slots → region_at k global_key ≡ Some GlobalRegion
+pub global_at : (k : Holding) → slot_if (entry_at k global_key) ≡ Some k.slots → region_of_key k global_key ≡ Some GlobalRegion
 global_at k is = go (entry_at k global_key) refl is
   where
-    go : (o : Option Entry) → entry_at k global_key ≡ o → slot_if o ≡ Some k.slots → region_at k global_key ≡ Some GlobalRegion
+    go : (o : Option Entry) → entry_at k global_key ≡ o → slot_if o ≡ Some k.slots → region_of_key k global_key ≡ Some GlobalRegion
     go None at e = absurd (none-some k.slots e)
     go (Some x) at e =
         ap (option_map (entry_region k.slots)) at ∙ ap (λ (s : ℕ). Some (region_of k.slots s)) (same_Some x.slot k.slots e)
@@ -113,17 +113,17 @@ module _ (region : Key → Option Region) (global : region global_key ≡ Some G
 
 pub enter_shows : (k : Holding) (f g : Frames) (formals passes : List Class) (protects : List ℕ) (lent : Class)
     → IsPrepared k formals passes
-    → Changed k.frames f (λ keys. cleared keys (given_names lent formals passes protects)) → NamedFrameEnters f g k.callee.items
+    → Changed k.frames f (λ keys. cleared_keys keys (given_names lent formals passes protects)) → NamedFrameEnters f g k.callee.items
     → (slots : ℕ) (h : Holder) (fills : List Fill) → IsHoldingOf slots k h fills
     → IsHoldingOf slots (record k { frames = g }) (calling h lent formals passes protects) fills
 enter_shows k f g formals passes protects lent prepared changed enters slots h fills shows =
     moved (record k { frames = f }) g slots left
     (environment_of lent (passed formals (passed_regions (top_names h.environments) passes)) ∷ left) h.base h.pending
     h.stakes fills after (enters.depth ∙ (let d = after.depth in omega (arith, d))) (enters.ordered after.ordered)
-    (subst (λ l. NamesStand (region_at k) l (called ∷ left))
-    (sym (enters.named ∙ ap (λ n. with_named n k.callee.items (named f)) (let d = after.depth in omega (arith, d))))
-    (entered (region_at k) (named f) k.callee.items called left
-    (passed_stand (region_at k) (global_at k shows.differ.global) formals passes (newest_keys k.frames) k.callee.items
+    (subst (λ l. NamesStand (region_of_key k) l (called ∷ left))
+    (sym (enters.named ∙ ap (λ n. with_named n k.callee.items (named_frames f)) (let d = after.depth in omega (arith, d))))
+    (entered (region_of_key k) (named_frames f) k.callee.items called left
+    (passed_stand (region_of_key k) (global_at k shows.differ.global) formals passes (newest_keys k.frames) k.callee.items
     (top_names h.environments) (newest_stand k slots h fills shows) prepared.keys)
     after.names))
     (λ r. omega arith)
@@ -140,10 +140,10 @@ enter_shows k f g formals passes protects lent prepared changed enters slots h f
     after : HoldingShows slots (record k { frames = f })
         (with_top h.environments (without_all (top_names h.environments) (given_names lent formals passes protects)))
         h.base h.pending h.stakes fills
-    after = renamed_shows k f slots h fills shows (λ keys. cleared keys (given_names lent formals passes protects))
+    after = renamed_shows k f slots h fills shows (λ keys. cleared_keys keys (given_names lent formals passes protects))
         (λ bs. without_all bs (given_names lent formals passes protects)) changed (cleared_nil (given_names lent formals passes protects))
-        (λ bs s. stand_cleared (region_at k) (given_names lent formals passes protects) (newest_keys k.frames) bs s)
+        (λ bs s. stand_cleared (region_of_key k) (given_names lent formals passes protects) (newest_keys k.frames) bs s)
       where
-        cleared_nil : (ks : List ℕ) → cleared [] ks ≡ []
+        cleared_nil : (ks : List ℕ) → cleared_keys [] ks ≡ []
         cleared_nil [] = refl
         cleared_nil (n ∷ ks) = cleared_nil ks

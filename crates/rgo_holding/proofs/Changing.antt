@@ -8,14 +8,14 @@ use Rattle.rgo_sound.specs.RegionMachine.declared.regions.Region.{Region}
 use Rattle.rgo_sound.specs.RegionMachine.declared.regions.Region.TheVariants.{Numbered}
 use Rattle.rgo_sound.specs.RegionMachine.Regions.{same_region}
 use Rattle.rgo_sound.proofs.Tests.{nat_eq_refl, ne_of}
-use Rattle.rgo_sound.specs.Stakes.{one_if}
+use Rattle.rgo_sound.specs.Stakes.{one_when}
 use Rattle.rgo_holding.specs.declared.entries.Entry.{Entry}
 use Rattle.rgo_holding.specs.declared.entries.Page.{Page}
 use Rattle.rgo_holding.specs.declared.holding.Holding.{Holding}
 use Rattle.rgo_holding.specs.declared.keys.Key.{Key}
-use Rattle.rgo_holding.specs.Changes.{IsProtectedLast, protecting, sharing}
-use Rattle.rgo_holding.specs.Holds.{IsHoldingOf, entry_at, region_at}
-use Rattle.rgo_holding.specs.Known.{entry_region, own_page, protections_of, region_of, slot_of}
+use Rattle.rgo_holding.specs.Changes.{IsProtectedLast, protecting, sharing_stake}
+use Rattle.rgo_holding.specs.Holds.{IsHoldingOf, entry_at, region_of_key}
+use Rattle.rgo_holding.specs.Known.{entry_region, own_page, protections_of, region_of, slot_or_global}
 use Rattle.rgo_holding.proofs.CountLemmas.{base_protections, filled, guarded, one_other, one_same, page_dropped, page_filled, page_raised, protected_fewer, protected_more, region_slot, unraised}
 use Rattle.rgo_holding.proofs.HoldLemmas.{entry_changed, protecting_length, protecting_names, unprotecting_length, unprotecting_names}
 
@@ -23,14 +23,14 @@ the_same : {A : Type 0} (x y : A) → Some x ≡ Some y → x ≡ y
 the_same x y e = cc
 
 -- the entry of a key of this region
-pub region_entry : (k : Holding) (key : Key) (e : Entry) (r : Region) → entry_at k key ≡ Some e → region_at k key ≡ Some r
+pub region_entry : (k : Holding) (key : Key) (e : Entry) (r : Region) → entry_at k key ≡ Some e → region_of_key k key ≡ Some r
     → region_of k.slots e.slot ≡ r
 region_entry k key e r at is = the_same _ r (sym (ap (option_map (entry_region k.slots)) at) ∙ is)
 
 -- and its slot
-pub slot_entry : (k : Holding) (key : Key) (e : Entry) (r : Region) → entry_at k key ≡ Some e → region_at k key ≡ Some r
-    → e.slot ≡ slot_of k.slots r
-slot_entry k key e r at is = sym (region_slot k.slots e.slot) ∙ ap (slot_of k.slots) (region_entry k key e r at is)
+pub slot_entry : (k : Holding) (key : Key) (e : Entry) (r : Region) → entry_at k key ≡ Some e → region_of_key k key ≡ Some r
+    → e.slot ≡ slot_or_global k.slots r
+slot_entry k key e r at is = sym (region_slot k.slots e.slot) ∙ ap (slot_or_global k.slots) (region_entry k key e r at is)
 
 module _ (k : Holding) (key : Key) (e : Entry) (v : Vec Entry Global) (at : entry_at k key ≡ Some e) (slots : ℕ) (h : Holder)
     (fills : List Fill) (shows : IsHoldingOf slots k h fills) where
@@ -41,20 +41,20 @@ module _ (k : Holding) (key : Key) (e : Entry) (v : Vec Entry Global) (at : entr
 
   module _ (n : ℕ) (used : e.used ≡ true)
       (is : v.items ≡ slice_set k.entries.items key.0 (record e { protections = n })) (r : Region)
-      (region : region_at k key ≡ Some r) where
+      (region : region_of_key k key ≡ Some r) where
     pub protect_shows : n ≡ e.protections + 1 → 0 < length h.environments
         → IsHoldingOf slots (record k { entries = v }) (protecting h r) fills
     protect_shows more some =
         let same = region_entry k key e r at region in
         let es = with_protection h.environments r in
-        let one : one_if (same_region (q e.slot) r) ≡ 1 = ap (λ x. one_if (same_region x r)) same ∙ one_same r in
+        let one : one_when (same_region (q e.slot) r) ≡ 1 = ap (λ x. one_when (same_region x r)) same ∙ one_same r in
         let here = protected_more (q e.slot) r h.environments h.base some in
         let was = shows.counted key e at in
         entry_changed k key e (record e { protections = n }) v at refl used is slots h.environments h.base h.pending
         h.stakes fills shows es h.base k.base h.pending fills (protecting_length r h.environments)
-        (protecting_names (region_at k) r h.environments k shows.names) shows.base_is (omega (arith, more, one, here, was))
+        (protecting_names (region_of_key k) r h.environments k shows.names) shows.base_is (omega (arith, more, one, here, was))
         (λ s n.
-        let none : one_if (same_region (q s) r) ≡ 0 = ap (λ x. one_if (same_region (q s) x)) (sym same) ∙ one_other k.slots s e.slot n in
+        let none : one_when (same_region (q s) r) ≡ 0 = ap (λ x. one_when (same_region (q s) x)) (sym same) ∙ one_other k.slots s e.slot n in
         let there = protected_more (q s) r h.environments h.base some in
         omega (arith, none, there))
         (shows.pages key e at) (λ s n. refl) (shows.pending_are.shared key e at) (shows.pending_are.rounds key e at) (λ s n. refl)
@@ -64,31 +64,31 @@ module _ (k : Holding) (key : Key) (e : Entry) (v : Vec Entry Global) (at : entr
     unprotect_shows fewer last =
         let same = region_entry k key e r at region in
         let es = without_protection h.environments r in
-        let one : one_if (same_region (q e.slot) r) ≡ 1 = ap (λ x. one_if (same_region x r)) same ∙ one_same r in
+        let one : one_when (same_region (q e.slot) r) ≡ 1 = ap (λ x. one_when (same_region x r)) same ∙ one_same r in
         let here = protected_fewer (q e.slot) r h.environments h.base last in
         let was = shows.counted key e at in
         entry_changed k key e (record e { protections = n }) v at refl used is slots h.environments h.base h.pending
         h.stakes fills shows es h.base k.base h.pending fills (unprotecting_length r h.environments)
-        (unprotecting_names (region_at k) r h.environments k shows.names) shows.base_is (omega (arith, fewer, one, here, was))
+        (unprotecting_names (region_of_key k) r h.environments k shows.names) shows.base_is (omega (arith, fewer, one, here, was))
         (λ s n.
-        let none : one_if (same_region (q s) r) ≡ 0 = ap (λ x. one_if (same_region (q s) x)) (sym same) ∙ one_other k.slots s e.slot n in
+        let none : one_when (same_region (q s) r) ≡ 0 = ap (λ x. one_when (same_region (q s) x)) (sym same) ∙ one_other k.slots s e.slot n in
         let there = protected_fewer (q s) r h.environments h.base last in
         omega (arith, none, there))
         (shows.pages key e at) (λ s n. refl) (shows.pending_are.shared key e at) (shows.pending_are.rounds key e at) (λ s n. refl)
 
     -- the first of the base ends
     pub end_shows : n ≡ e.protections - 1 → (rest : List Region) (bases : Vec Key Global) → h.base ≡ r ∷ rest
-        → map (region_at k) (reverse bases.items) ≡ map Some rest
+        → map (region_of_key k) (reverse bases.items) ≡ map Some rest
         → IsHoldingOf slots (record k { entries = v; base = bases }) (record h { base = rest }) fills
     end_shows fewer rest bases first others =
         let same = region_entry k key e r at region in
-        let one : one_if (same_region (q e.slot) r) ≡ 1 = ap (λ x. one_if (same_region x r)) same ∙ one_same r in
+        let one : one_when (same_region (q e.slot) r) ≡ 1 = ap (λ x. one_when (same_region x r)) same ∙ one_same r in
         let here = ap (protections_of (q e.slot) h.environments) first ∙ base_protections (q e.slot) r h.environments rest in
         let was = shows.counted key e at in
         entry_changed k key e (record e { protections = n }) v at refl used is slots h.environments h.base h.pending
         h.stakes fills shows h.environments rest bases h.pending fills refl shows.names others (omega (arith, fewer, one, here, was))
         (λ s n.
-        let none : one_if (same_region (q s) r) ≡ 0 = ap (λ x. one_if (same_region (q s) x)) (sym same) ∙ one_other k.slots s e.slot n in
+        let none : one_when (same_region (q s) r) ≡ 0 = ap (λ x. one_when (same_region (q s) x)) (sym same) ∙ one_other k.slots s e.slot n in
         let there = ap (protections_of (q s) h.environments) first ∙ base_protections (q s) r h.environments rest in
         omega (arith, none, there))
         (shows.pages key e at) (λ s n. refl) (shows.pending_are.shared key e at) (shows.pending_are.rounds key e at) (λ s n. refl)
@@ -96,7 +96,7 @@ module _ (k : Holding) (key : Key) (e : Entry) (v : Vec Entry Global) (at : entr
   -- ---- stakes
 
   pub share_shows : (used : e.used ≡ true) → v.items ≡ slice_set k.entries.items key.0 (record e { shared = k.round })
-      → (p : ℕ) → region_at k key ≡ Some (Numbered p) → IsHoldingOf slots (record k { entries = v }) (sharing h p) fills
+      → (p : ℕ) → region_of_key k key ≡ Some (Numbered p) → IsHoldingOf slots (record k { entries = v }) (sharing_stake h p) fills
   share_shows used is p region =
       let slot = slot_entry k key e (Numbered p) at region in
       entry_changed k key e (record e { shared = k.round }) v at refl used is slots h.environments h.base h.pending h.stakes
@@ -120,10 +120,10 @@ module _ (k : Holding) (key : Key) (e : Entry) (v : Vec Entry Global) (at : entr
 
   pub claim_shows : (page : ℕ) → e.used ≡ true
       → v.items ≡ slice_set k.entries.items key.0 (record e { page = Some (record { page = page; fill = 0 }) }) → (r : Region)
-      → region_at k key ≡ Some r → IsHoldingOf slots (record k { entries = v }) h
-      (record { slot = slot_of slots r; page = page; fill = 0 } ∷ dropped (slot_of slots r) fills)
+      → region_of_key k key ≡ Some r → IsHoldingOf slots (record k { entries = v }) h
+      (record { slot = slot_or_global slots r; page = page; fill = 0 } ∷ dropped (slot_or_global slots r) fills)
   claim_shows page used is r region =
-      let slot : e.slot ≡ slot_of slots r = slot_entry k key e r at region ∙ ap (λ s. slot_of s r) shows.slots_are in
+      let slot : e.slot ≡ slot_or_global slots r = slot_entry k key e r at region ∙ ap (λ s. slot_or_global s r) shows.slots_are in
       subst (λ s. IsHoldingOf slots (record k { entries = v }) h (record { slot = s; page = page; fill = 0 } ∷ dropped s fills)) slot
       (page_shows (Some (record { page = page; fill = 0 })) used is (record { slot = e.slot; page = page; fill = 0 } ∷ dropped e.slot fills)
       (sym (ap (λ b. if b then Some (record { slot = e.slot; page = page; fill = 0 }) else page_of e.slot (dropped e.slot fills))
@@ -133,9 +133,9 @@ module _ (k : Holding) (key : Key) (e : Entry) (v : Vec Entry Global) (at : entr
 
   pub fill_shows : (page : Page) (words : ℕ) → e.used ≡ true → e.page ≡ Some page
       → v.items ≡ slice_set k.entries.items key.0 (record e { page = Some (record { page = page.page; fill = words }) }) → (r : Region)
-      → region_at k key ≡ Some r → IsHoldingOf slots (record k { entries = v }) h (raised (slot_of slots r) words fills)
+      → region_of_key k key ≡ Some r → IsHoldingOf slots (record k { entries = v }) h (raised (slot_or_global slots r) words fills)
   fill_shows page words used there is r region =
-      let slot : e.slot ≡ slot_of slots r = slot_entry k key e r at region ∙ ap (λ s. slot_of s r) shows.slots_are in
+      let slot : e.slot ≡ slot_or_global slots r = slot_entry k key e r at region ∙ ap (λ s. slot_or_global s r) shows.slots_are in
       subst (λ s. IsHoldingOf slots (record k { entries = v }) h (raised s words fills)) slot
       (page_shows (Some (record { page = page.page; fill = words })) used is (raised e.slot words fills)
       (ap (λ o. option_map (filled words) (option_map (own_page e.slot) o)) (sym there)
@@ -143,17 +143,17 @@ module _ (k : Holding) (key : Key) (e : Entry) (v : Vec Entry Global) (at : entr
       (λ s n. page_raised s e.slot words fills (ne_of e.slot s (λ x. n (sym x)))))
 
   -- where there is no own page, nothing is filled
-  pub no_fill_shows : (words : ℕ) → e.page ≡ None → (r : Region) → region_at k key ≡ Some r
-      → IsHoldingOf slots k h (raised (slot_of slots r) words fills)
+  pub no_fill_shows : (words : ℕ) → e.page ≡ None → (r : Region) → region_of_key k key ≡ Some r
+      → IsHoldingOf slots k h (raised (slot_or_global slots r) words fills)
   no_fill_shows words none r region =
-      let slot : e.slot ≡ slot_of slots r = slot_entry k key e r at region ∙ ap (λ s. slot_of s r) shows.slots_are in
-      let gone : page_of (slot_of slots r) fills ≡ None =
+      let slot : e.slot ≡ slot_or_global slots r = slot_entry k key e r at region ∙ ap (λ s. slot_or_global s r) shows.slots_are in
+      let gone : page_of (slot_or_global slots r) fills ≡ None =
       ap (λ s. page_of s fills) (sym slot) ∙ sym (shows.pages key e at) ∙ ap (option_map (own_page e.slot)) none in
-      subst (λ fs. IsHoldingOf slots k h fs) (sym (unraised (slot_of slots r) words fills gone)) shows
+      subst (λ fs. IsHoldingOf slots k h fs) (sym (unraised (slot_or_global slots r) words fills gone)) shows
 
 -- the first of the base is protected otherwise, too, if it has more than one protection
 pub beyond_base : (k : Holding) (key : Key) (e : Entry) (slots : ℕ) (h : Holder) (fills : List Fill) (r : Region)
-    (rest : List Region) → entry_at k key ≡ Some e → IsHoldingOf slots k h fills → region_at k key ≡ Some r → h.base ≡ r ∷ rest
+    (rest : List Region) → entry_at k key ≡ Some e → IsHoldingOf slots k h fills → region_of_key k key ≡ Some r → h.base ≡ r ∷ rest
     → nat_lt 1 e.protections ≡ guards rest h.environments r
 beyond_base k key e slots h fills r rest at shows region first =
     more e.protections (protections_of r h.environments rest) count ∙ guarded rest h.environments r

@@ -14,12 +14,12 @@ use Rattle.rgo_holding.specs.declared.entries.Entry.{Entry}
 use Rattle.rgo_holding.specs.declared.frames.Frames.{Frames}
 use Rattle.rgo_holding.specs.declared.holding.Holding.{Holding}
 use Rattle.rgo_holding.specs.declared.keys.Key.{Key}
-use Rattle.rgo_holding.specs.Changes.{IsNew, IsSpare, IsUnknown, creating, ending}
+use Rattle.rgo_holding.specs.Changes.{IsNewSlot, IsSpareKey, IsUnknown, creating, ending_stake}
 use Rattle.rgo_holding.specs.Entries.{new_entry}
-use Rattle.rgo_holding.specs.Holds.{IsHoldingOf, HoldingShows, entry_at, region_at}
+use Rattle.rgo_holding.specs.Holds.{IsHoldingOf, HoldingShows, entry_at, region_of_key}
 use Rattle.rgo_holding.specs.Known.{entry_of, entry_region, global_key, if_used, own_page, protections_of, region_of}
 use Rattle.rgo_holding.specs.Naming.{Changed}
-use Rattle.rgo_holding.specs.Tables.{named, newest_keys}
+use Rattle.rgo_holding.specs.Tables.{named_frames, newest_keys}
 use Rattle.rgo_holding.proofs.Changing.{region_entry}
 use Rattle.rgo_holding.proofs.CountLemmas.{guarded_base, page_dropped, region_numbered, same_self, unguarded_none}
 use Rattle.rgo_holding.proofs.EntryLemmas.{Puts, apart, each_put, entry_there, map_same, put_entry, same_key, slot_if, used_entry}
@@ -35,14 +35,14 @@ pub reshown : (k : Holding) (v : Vec Entry Global) (free : Vec Key Global) (next
     → HoldingShows slots (record k { entries = v; free = free; next = next; passed = passed; callee = callee }) es base pending
     stakes fills
 reshown k v free next passed callee slots es base pending stakes fills same h =
-    let regions : (j : Key) → option_map (entry_region k.slots) (entry_of v.items j) ≡ region_at k j =
+    let regions : (j : Key) → option_map (entry_region k.slots) (entry_of v.items j) ≡ region_of_key k j =
     λ j. ap (option_map (entry_region k.slots)) (same j) in
     record {
       slots_are = h.slots_are;
       depth = h.depth;
       ordered = h.ordered;
-      names = names_same (region_at k) (λ j. option_map (entry_region k.slots) (entry_of v.items j)) regions (named k.frames) es h.names;
-      base_is = map_same (region_at k) (λ j. option_map (entry_region k.slots) (entry_of v.items j)) regions
+      names = names_same (region_of_key k) (λ j. option_map (entry_region k.slots) (entry_of v.items j)) regions (named_frames k.frames) es h.names;
+      base_is = map_same (region_of_key k) (λ j. option_map (entry_region k.slots) (entry_of v.items j)) regions
           (reverse k.base.items) ∙ h.base_is;
       differ = record {
         unique = λ a b s x y. h.differ.unique a b s (sym (ap slot_if (same a)) ∙ x) (sym (ap slot_if (same b)) ∙ y);
@@ -95,14 +95,14 @@ base_but before after gone keep (key ∷ keys) (r ∷ base) none is = λ i.
 
 pub leave_shows : (k : Holding) (key : Key) (e : Entry) (v : Vec Entry Global) (free : Vec Key Global)
     → entry_at k key ≡ Some e → v.items ≡ slice_set k.entries.items key.0 (record e { used = false })
-    → (slots : ℕ) (h : Holder) (fills : List Fill) (p : ℕ) → IsHoldingOf slots k h fills → region_at k key ≡ Some (Numbered p)
-    → IsUnknown h p → IsHoldingOf slots (record k { entries = v; free = free }) (ending h p) (dropped p fills)
+    → (slots : ℕ) (h : Holder) (fills : List Fill) (p : ℕ) → IsHoldingOf slots k h fills → region_of_key k key ≡ Some (Numbered p)
+    → IsUnknown h p → IsHoldingOf slots (record k { entries = v; free = free }) (ending_stake h p) (dropped p fills)
 leave_shows k key e v free at is slots h fills p shows region unknown = record {
   slots_are = shows.slots_are;
   depth = shows.depth;
   ordered = shows.ordered;
-  names = names_but (region_at k) regions (Numbered p) keep (named k.frames) h.environments unknown.unnamed shows.names;
-  base_is = base_but (region_at k) regions (Numbered p) keep (reverse k.base.items) h.base
+  names = names_but (region_of_key k) regions (Numbered p) keep (named_frames k.frames) h.environments unknown.unnamed shows.names;
+  base_is = base_but (region_of_key k) regions (Numbered p) keep (reverse k.base.items) h.base
       (guarded_base h.base h.environments (Numbered p) unknown.unguarded) shows.base_is;
   differ = record {
     unique = λ a b s x y. shows.differ.unique a b s (was a s x) (was b s y);
@@ -154,15 +154,15 @@ leave_shows k key e v free at is slots h fills p shows region unknown = record {
         (λ f none. absurd (none-some f none))
         (λ a x n old. there a x (λ e'. apart (entry_at k) k.slots shows.differ key a e x at old n (e' ∙ sym slot.0)) old)
 
-    keep : (j : Key) (r : Region) → region_at k j ≡ Some r → r ≢ Numbered p
+    keep : (j : Key) (r : Region) → region_of_key k j ≡ Some r → r ≢ Numbered p
         → option_map (entry_region k.slots) (entry_of v.items j) ≡ Some r
     keep j r there n = other j
-        (λ t. n (same_Some r (Numbered p) (sym there ∙ ap (region_at k) (sym (same_key key j t)) ∙ region)))
+        (λ t. n (same_Some r (Numbered p) (sym there ∙ ap (region_of_key k) (sym (same_key key j t)) ∙ region)))
         (λ o. option_map (entry_region k.slots) o ≡ Some r) there
 
 -- ---- a region is created
 
-module _ (k : Holding) (key : Key) (v : Vec Entry Global) (slot : ℕ) (spare : IsSpare k.entries.items key)
+module _ (k : Holding) (key : Key) (v : Vec Entry Global) (slot : ℕ) (spare : IsSpareKey k.entries.items key)
     (is : v.items ≡ slice_set k.entries.items key.0 (new_entry slot)) where
   pub no_entry : entry_at k key ≡ None
   no_entry = ap if_used spare.1 ∙ ap (λ b. if b then Some spare.0 else None) spare.2
@@ -179,7 +179,7 @@ module _ (k : Holding) (key : Key) (v : Vec Entry Global) (slot : ℕ) (spare : 
       (λ t. absurd (none-some e (sym no_entry ∙ ap (entry_at k) (same_key key j t) ∙ at)))
       (λ f. puts_new j ∙ ap (λ b. if b then Some (new_entry slot) else entry_at k j) f ∙ at)
 
-  pub still_region : (j : Key) (r : Region) → region_at k j ≡ Some r
+  pub still_region : (j : Key) (r : Region) → region_of_key k j ≡ Some r
       → option_map (entry_region k.slots) (entry_of v.items j) ≡ Some r
   still_region j r at =
       let there = entry_there k.slots (entry_at k j) r at in
@@ -199,8 +199,8 @@ module _ (k : Holding) (key : Key) (v : Vec Entry Global) (slot : ℕ) (spare : 
     slots_are = shows.slots_are;
     depth = shows.depth;
     ordered = shows.ordered;
-    names = names_kept (region_at k) (λ j. option_map (entry_region k.slots) (entry_of v.items j)) (λ r. Unit {0})
-        (λ j r at u. still_region j r at) (named k.frames) es (every es) shows.names;
+    names = names_kept (region_of_key k) (λ j. option_map (entry_region k.slots) (entry_of v.items j)) (λ r. Unit {0})
+        (λ j r at u. still_region j r at) (named_frames k.frames) es (every es) shows.names;
     base_is = base_still (reverse k.base.items) base shows.base_is;
     differ = record { unique = unique; global = global };
     counted = each (λ x. x.protections ≡ protections_of (region_of k.slots x.slot) es base)
@@ -227,17 +227,17 @@ module _ (k : Holding) (key : Key) (v : Vec Entry Global) (slot : ℕ) (spare : 
       every [] = tt
       every (e ∷ es) = (λ n r b. tt, every es)
 
-      base_still : (keys : List Key) (base : List Region) → map (region_at k) keys ≡ map Some base
+      base_still : (keys : List Key) (base : List Region) → map (region_of_key k) keys ≡ map Some base
           → map (λ j. option_map (entry_region k.slots) (entry_of v.items j)) keys ≡ map Some base
       base_still [] [] e = refl
       base_still [] (r ∷ base) e = cc
       base_still (j ∷ keys) [] e = cc
       base_still (j ∷ keys) (r ∷ base) e = λ i. still_region j r (head e) i ∷ base_still keys base (tail e) i
         where
-          head : region_at k j ∷ map (region_at k) keys ≡ Some r ∷ map Some base → region_at k j ≡ Some r
+          head : region_of_key k j ∷ map (region_of_key k) keys ≡ Some r ∷ map Some base → region_of_key k j ≡ Some r
           head e = cc
 
-          tail : region_at k j ∷ map (region_at k) keys ≡ Some r ∷ map Some base → map (region_at k) keys ≡ map Some base
+          tail : region_of_key k j ∷ map (region_of_key k) keys ≡ Some r ∷ map Some base → map (region_of_key k) keys ≡ map Some base
           tail e = cc
 
       before : (a : Key) (s : ℕ) → nat_eq key.0 a.0 ≡ false → slot_if (entry_of v.items a) ≡ Some s → slot_if (entry_at k a) ≡ Some s
@@ -271,9 +271,9 @@ module _ (k : Holding) (key : Key) (v : Vec Entry Global) (slot : ℕ) (spare : 
           go None at y = absurd (none-some k.slots y)
           go (Some x) at y = ap slot_if (still global_key x at) ∙ y
 
-pub create_shows : (k : Holding) (key : Key) (v : Vec Entry Global) (f : Frames) (name slot : ℕ) → IsSpare k.entries.items key
+pub create_shows : (k : Holding) (key : Key) (v : Vec Entry Global) (f : Frames) (name slot : ℕ) → IsSpareKey k.entries.items key
     → v.items ≡ slice_set k.entries.items key.0 (new_entry slot) → name < length (newest_keys k.frames)
-    → (slots : ℕ) (h : Holder) (fills : List Fill) → IsHoldingOf slots k h fills → IsNew slots h fills slot
+    → (slots : ℕ) (h : Holder) (fills : List Fill) → IsHoldingOf slots k h fills → IsNewSlot slots h fills slot
     → Changed k.frames f (λ keys. slice_set keys name (Some key))
     → IsHoldingOf slots (record k { frames = f; entries = v; next = None }) (creating h name slot) fills
 create_shows k key v f name slot spare is room slots h fills shows new changed =
@@ -283,7 +283,7 @@ create_shows k key v f name slot spare is room slots h fills shows new changed =
     (ap (λ b. if b then true else is_in slot h.stakes) (nat_eq_refl slot))
     (λ s at. go (nat_eq s slot) (is_in s h.stakes) at))
     (λ keys. slice_set keys name (Some key)) (λ bs. (name, Numbered slot) ∷ unbind bs name) changed refl
-    (λ bs s. stand_bound (region_at (record k { entries = v; next = None })) (newest_keys k.frames) bs name key (Numbered slot) room
+    (λ bs s. stand_bound (region_of_key (record k { entries = v; next = None })) (newest_keys k.frames) bs name key (Numbered slot) room
     (new_region k key v slot spare is other) s)
   where
     other : slot ≢ k.slots

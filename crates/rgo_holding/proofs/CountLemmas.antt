@@ -11,9 +11,9 @@ use Rattle.rgo_sound.specs.RegionMachine.declared.regions.Region.TheVariants.{Gl
 use Rattle.rgo_sound.proofs.duties.Moves.{times_removed}
 use Rattle.rgo_sound.proofs.Tests.{eq_of, nat_eq_refl, ne_of}
 use Rattle.rgo_sound.specs.Invariant.{times}
-use Rattle.rgo_sound.specs.Stakes.{one_if}
+use Rattle.rgo_sound.specs.Stakes.{one_when}
 use Rattle.rgo_holding.specs.Changes.{KnowsNone, top_protections}
-use Rattle.rgo_holding.specs.Known.{protections_of, region_of, slot_of}
+use Rattle.rgo_holding.specs.Known.{protections_of, region_of, slot_or_global}
 
 -- ---- regions by their slots
 
@@ -34,23 +34,23 @@ region_same slots s t = go (nat_eq s slots) (nat_eq t slots) refl refl
 pub region_numbered : (slots s : ℕ) → s ≢ slots → region_of slots s ≡ Numbered s
 region_numbered slots s n = ap (λ b. if b then GlobalRegion else Numbered s) (ne_of s slots n)
 
-pub region_slot : (slots s : ℕ) → slot_of slots (region_of slots s) ≡ s
+pub region_slot : (slots s : ℕ) → slot_or_global slots (region_of slots s) ≡ s
 region_slot slots s = go (nat_eq s slots) refl
   where
-    go : (b : Bool) → nat_eq s slots ≡ b → slot_of slots (if b then GlobalRegion else Numbered s) ≡ s
+    go : (b : Bool) → nat_eq s slots ≡ b → slot_or_global slots (if b then GlobalRegion else Numbered s) ≡ s
     go true t = sym (eq_of s slots t)
     go false f = refl
 
 -- ---- protections
 
-pub one_same : (r : Region) → one_if (same_region r r) ≡ 1
-one_same r = ap one_if (same_self r)
+pub one_same : (r : Region) → one_when (same_region r r) ≡ 1
+one_same r = ap one_when (same_self r)
 
-pub one_other : (slots s t : ℕ) → s ≢ t → one_if (same_region (region_of slots s) (region_of slots t)) ≡ 0
-one_other slots s t n = ap one_if (region_same slots s t ∙ ne_of s t n)
+pub one_other : (slots s t : ℕ) → s ≢ t → one_when (same_region (region_of slots s) (region_of slots t)) ≡ 0
+one_other slots s t n = ap one_when (region_same slots s t ∙ ne_of s t n)
 
 pub protected_more : (q r : Region) (es : List RegionEnvironment) (base : List Region) → 0 < length es
-    → protections_of q (with_protection es r) base ≡ one_if (same_region q r) + protections_of q es base
+    → protections_of q (with_protection es r) base ≡ one_when (same_region q r) + protections_of q es base
 protected_more q r [] base some = absurd (omega (arith, some))
 protected_more q r (e ∷ es) base some = omega arith
 
@@ -58,13 +58,13 @@ any_times : (r : Region) (rs : List Region) → list_any (same_region r) rs ≡ 
 any_times r [] h = absurd (true≢false (sym h))
 any_times r (s ∷ ss) h = go (same_region r s) (list_any (same_region r) ss) h (any_times r ss)
   where
-    go : (a b : Bool) → (a || b) ≡ true → (b ≡ true → 1 ≤ times r ss) → 1 ≤ one_if a + times r ss
+    go : (a b : Bool) → (a || b) ≡ true → (b ≡ true → 1 ≤ times r ss) → 1 ≤ one_when a + times r ss
     go true b e f = omega arith
     go false b e f = let l = f e in omega (arith, l)
 
 pub protected_fewer : (q r : Region) (es : List RegionEnvironment) (base : List Region)
     → list_any (same_region r) (top_protections es) ≡ true
-    → protections_of q (without_protection es r) base + one_if (same_region q r) ≡ protections_of q es base
+    → protections_of q (without_protection es r) base + one_when (same_region q r) ≡ protections_of q es base
 protected_fewer q r [] base h = absurd (true≢false (sym h))
 protected_fewer q r (e ∷ es) base h =
     let t = times_removed q r e.protections (any_times r e.protections h) in omega (arith, t)
@@ -76,14 +76,14 @@ positive_sum m n = go (nat_lt 0 m) refl
     go true t = grind arith
     go false f = let z : m ≡ 0 = grind arith in ap (λ x. nat_lt 0 (x + n)) z ∙ ap (nat_lt 0) (omega arith)
 
-positive_one : (b : Bool) → nat_lt 0 (one_if b) ≡ b
+positive_one : (b : Bool) → nat_lt 0 (one_when b) ≡ b
 positive_one true = refl
 positive_one false = refl
 
 times_any : (q : Region) (rs : List Region) → nat_lt 0 (times q rs) ≡ list_any (same_region q) rs
 times_any q [] = refl
 times_any q (r ∷ rs) =
-    positive_sum (one_if (same_region q r)) (times q rs)
+    positive_sum (one_when (same_region q r)) (times q rs)
     ∙ (λ i. positive_one (same_region q r) i || times_any q rs i)
 
 -- a region is guarded exactly if it has a protection
@@ -118,7 +118,7 @@ below_protections q [] base none = refl
 below_protections q (e ∷ es) base none = sym (ap (λ ps. times q ps + protections_of q es base) none ∙ omega arith)
 
 pub base_protections : (q r : Region) (es : List RegionEnvironment) (rest : List Region)
-    → protections_of q es (r ∷ rest) ≡ one_if (same_region q r) + protections_of q es rest
+    → protections_of q es (r ∷ rest) ≡ one_when (same_region q r) + protections_of q es rest
 base_protections q r [] rest = refl
 base_protections q r (e ∷ es) rest = let x = base_protections q r es rest in omega (arith, x)
 

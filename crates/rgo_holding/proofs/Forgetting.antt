@@ -10,9 +10,9 @@ use Rattle.rgo_holding.specs.declared.entries.Entry.{Entry}
 use Rattle.rgo_holding.specs.declared.holding.Holding.{Holding}
 use Rattle.rgo_holding.specs.declared.keys.Key.{Key}
 use Rattle.rgo_holding.specs.Entries.{forgotten}
-use Rattle.rgo_holding.specs.Holds.{IsHoldingOf, entry_at, region_at}
+use Rattle.rgo_holding.specs.Holds.{IsHoldingOf, entry_at, region_of_key}
 use Rattle.rgo_holding.specs.Known.{entry_of, entry_region, own_page, protections_of, region_of}
-use Rattle.rgo_holding.specs.Tables.{named}
+use Rattle.rgo_holding.specs.Tables.{named_frames}
 use Rattle.rgo_holding.proofs.EntryLemmas.{differ_same, map_same, regions_same, slot_if}
 use Rattle.rgo_holding.proofs.NameLemmas.{names_same}
 
@@ -27,9 +27,9 @@ forgotten_shows k v same slots h fills shows = record {
   slots_are = shows.slots_are;
   depth = shows.depth;
   ordered = shows.ordered;
-  names = names_same (region_at k) regions (regions_same (entry_at k) (λ j. entry_of v.items j) k.slots slots_are) (named k.frames)
+  names = names_same (region_of_key k) regions (regions_same (entry_at k) (λ j. entry_of v.items j) k.slots slots_are) (named_frames k.frames)
       h.environments shows.names;
-  base_is = map_same (region_at k) regions (regions_same (entry_at k) (λ j. entry_of v.items j) k.slots slots_are)
+  base_is = map_same (region_of_key k) regions (regions_same (entry_at k) (λ j. entry_of v.items j) k.slots slots_are)
       (reverse k.base.items) ∙ shows.base_is;
   differ = differ_same (entry_at k) (λ j. entry_of v.items j) k.slots slots_are shows.differ;
   counted = each (λ x. x.protections ≡ protections_of (region_of k.slots x.slot) h.environments h.base) shows.counted;

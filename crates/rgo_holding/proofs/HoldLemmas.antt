@@ -9,9 +9,9 @@ use Rattle.rgo_sound.specs.Stakes.{is_in}
 use Rattle.rgo_holding.specs.declared.entries.Entry.{Entry}
 use Rattle.rgo_holding.specs.declared.holding.Holding.{Holding}
 use Rattle.rgo_holding.specs.declared.keys.Key.{Key}
-use Rattle.rgo_holding.specs.Holds.{HoldingShows, entry_at, region_at}
+use Rattle.rgo_holding.specs.Holds.{HoldingShows, entry_at, region_of_key}
 use Rattle.rgo_holding.specs.Known.{entry_of, entry_region, own_page, protections_of, region_of}
-use Rattle.rgo_holding.specs.Tables.{NamesStand, named}
+use Rattle.rgo_holding.specs.Tables.{NamesStand, named_frames}
 use Rattle.rgo_holding.proofs.EntryLemmas.{Puts, apart, differ_same, each_put, map_same, put_entry, regions_same, slot_if, slots_put, used_entry}
 use Rattle.rgo_holding.proofs.NameLemmas.{names_same}
 
@@ -29,7 +29,7 @@ module _ (k : Holding) (key : Key) (e f : Entry) (v : Vec Entry Global) (at : en
   slots_kept = slots_put (entry_at k) after key e f puts at slot
 
   -- each key is that of the same region
-  pub regions_kept : (j : Key) → option_map (entry_region k.slots) (after j) ≡ region_at k j
+  pub regions_kept : (j : Key) → option_map (entry_region k.slots) (after j) ≡ region_of_key k j
   regions_kept = regions_same (entry_at k) after k.slots slots_kept
 
   module _ (slots : ℕ) (es : List RegionEnvironment) (base : List Region) (pending : List ℕ) (stakes : List ℕ)
@@ -48,8 +48,8 @@ module _ (k : Holding) (key : Key) (e f : Entry) (v : Vec Entry Global) (at : en
     pub entry_changed : (environments : List RegionEnvironment) (regions : List Region) (bases : Vec Key Global)
         (pendings : List ℕ) (filleds : List Fill)
         → length environments ≡ length es
-        → NamesStand (region_at k) (named k.frames) environments
-        → map (region_at k) (reverse bases.items) ≡ map Some regions
+        → NamesStand (region_of_key k) (named_frames k.frames) environments
+        → map (region_of_key k) (reverse bases.items) ≡ map Some regions
         → f.protections ≡ protections_of (region_of k.slots e.slot) environments regions
         → ((s : ℕ) → s ≢ e.slot → protections_of (region_of k.slots s) environments regions
         ≡ protections_of (region_of k.slots s) es base)
@@ -64,9 +64,9 @@ module _ (k : Holding) (key : Key) (e f : Entry) (v : Vec Entry Global) (at : en
           slots_are = h.slots_are;
           depth = h.depth ∙ sym deep;
           ordered = h.ordered;
-          names = names_same (region_at k) (λ j. option_map (entry_region k.slots) (after j)) regions_kept (named k.frames)
+          names = names_same (region_of_key k) (λ j. option_map (entry_region k.slots) (after j)) regions_kept (named_frames k.frames)
               environments names;
-          base_is = map_same (region_at k) (λ j. option_map (entry_region k.slots) (after j)) regions_kept
+          base_is = map_same (region_of_key k) (λ j. option_map (entry_region k.slots) (after j)) regions_kept
               (reverse bases.items) ∙ base_is;
           differ = differ_same (entry_at k) after k.slots slots_kept h.differ;
           counted = other (λ a x. x.protections ≡ protections_of (region_of k.slots x.slot) environments regions)
@@ -90,12 +90,12 @@ module _ (k : Holding) (key : Key) (e f : Entry) (v : Vec Entry Global) (at : en
 -- ---- the environments' names, where protections change
 
 pub protecting_names : (region : Key → Option Region) (r : Region) (es : List RegionEnvironment) (k : Holding)
-    → NamesStand region (named k.frames) es → NamesStand region (named k.frames) (with_protection es r)
+    → NamesStand region (named_frames k.frames) es → NamesStand region (named_frames k.frames) (with_protection es r)
 protecting_names region r [] k h = h
 protecting_names region r (e ∷ es) k h = h
 
 pub unprotecting_names : (region : Key → Option Region) (r : Region) (es : List RegionEnvironment) (k : Holding)
-    → NamesStand region (named k.frames) es → NamesStand region (named k.frames) (without_protection es r)
+    → NamesStand region (named_frames k.frames) es → NamesStand region (named_frames k.frames) (without_protection es r)
 unprotecting_names region r [] k h = h
 unprotecting_names region r (e ∷ es) k h = h
 

@@ -13,16 +13,16 @@ use Rattle.rgo_holding.specs.declared.holding.Holding.{Holding}
 use Rattle.rgo_holding.specs.declared.keys.Key.{Key}
 use Rattle.rgo_holding.specs.Changes.{EnvironmentsSettle}
 use Rattle.rgo_holding.specs.Entries.{new_entry}
-use Rattle.rgo_holding.specs.Examples.{HoldingExamples, bare, doubled, entries, frame, naming, page_two, pages, region, second, third}
+use Rattle.rgo_holding.specs.Examples.{HoldingExamples, bare_environment, doubled, three_entries, frame, naming, page_two, pages, region_of_three, second, third}
 use Rattle.rgo_holding.specs.Holds.{HoldingShows}
 use Rattle.rgo_holding.specs.Known.{AreCounted, AreStakesPending, HavePages, KeySlotsDiffer, entry_of, global_key, own_page, protections_of, region_of, slot_in}
 use Rattle.rgo_holding.specs.Tables.{Named, StandFor}
 
 -- what holds of both entries in use
-each : (P : Entry → Type 0) → P (new_entry 4) → P page_two → (a : Key) (e : Entry) → entry_of entries a ≡ Some e → P e
+each : (P : Entry → Type 0) → P (new_entry 4) → P page_two → (a : Key) (e : Entry) → entry_of three_entries a ≡ Some e → P e
 each P global two a e at = go a.0 e at
   where
-    go : (n : ℕ) (e : Entry) → entry_of entries (record { 0 = n }) ≡ Some e → P e
+    go : (n : ℕ) (e : Entry) → entry_of three_entries (record { 0 = n }) ≡ Some e → P e
     go zero e at = rw (sym (same_Some (new_entry 4) e at)) global
     go (suc zero) e at = rw (sym (same_Some page_two e at)) two
     go (suc (suc zero)) e at = absurd (none-some e at)
@@ -31,22 +31,22 @@ each P global two a e at = go a.0 e at
 beyond : (n : ℕ) → nat_eq 1 (suc (suc n)) ≡ false
 beyond n = grind arith
 
-stand : StandFor region (None ∷ Some second ∷ []) ((1, Numbered 2) ∷ [])
+stand : StandFor region_of_three (None ∷ Some second ∷ []) ((1, Numbered 2) ∷ [])
 stand zero = refl
 stand (suc zero) = refl
 stand (suc (suc n)) = sym (ap (λ b. option_map Some (if b then Some (Numbered 2) else None)) (beyond n))
 
-key_at : (a : Key) (s : ℕ) → slot_in (entry_of entries) a ≡ Some s → ((a ≡ global_key) × (s ≡ 4)) ⊎ ((a ≡ second) × (s ≡ 2))
+key_at : (a : Key) (s : ℕ) → slot_in (entry_of three_entries) a ≡ Some s → ((a ≡ global_key) × (s ≡ 4)) ⊎ ((a ≡ second) × (s ≡ 2))
 key_at a s e = go a.0 s e
   where
-    go : (n s : ℕ) → slot_in (entry_of entries) (record { 0 = n }) ≡ Some s
+    go : (n s : ℕ) → slot_in (entry_of three_entries) (record { 0 = n }) ≡ Some s
         → ((record { 0 = n } ≡ global_key) × (s ≡ 4)) ⊎ ((record { 0 = n } ≡ second) × (s ≡ 2))
     go zero s e = inl (refl, sym (same_Some 4 s e))
     go (suc zero) s e = inr (refl, sym (same_Some 2 s e))
     go (suc (suc zero)) s e = absurd (none-some s e)
     go (suc (suc (suc n))) s e = absurd (none-some s e)
 
-unique : (a b : Key) (s : ℕ) → slot_in (entry_of entries) a ≡ Some s → slot_in (entry_of entries) b ≡ Some s → a ≡ b
+unique : (a b : Key) (s : ℕ) → slot_in (entry_of three_entries) a ≡ Some s → slot_in (entry_of three_entries) b ≡ Some s → a ≡ b
 unique a b s x y = go (key_at a s x) (key_at b s y)
   where
     go : ((a ≡ global_key) × (s ≡ 4)) ⊎ ((a ≡ second) × (s ≡ 2)) → ((b ≡ global_key) × (s ≡ 4)) ⊎ ((b ≡ second) × (s ≡ 2)) → a ≡ b
@@ -60,10 +60,10 @@ bound_naming zero e = none-some (Numbered 3) e
 bound_naming (suc zero) e = cc
 bound_naming (suc (suc k)) e = none-some (Numbered 3) (sym (ap (λ b. if b then Some (Numbered 2) else None) (beyond k)) ∙ e)
 
-fewer : EnvironmentsSettle 1 2 (bare ∷ naming ∷ []) (naming ∷ []) → ⊥
+fewer : EnvironmentsSettle 1 2 (bare_environment ∷ naming ∷ []) (naming ∷ []) → ⊥
 fewer s = let l = s.depth_is in omega (arith, l)
 
-guarded_above : EnvironmentsSettle 0 1 (naming ∷ []) (bare ∷ []) → ⊥
+guarded_above : EnvironmentsSettle 0 1 (naming ∷ []) (bare_environment ∷ []) → ⊥
 guarded_above s = go s.above s.stayed s.before_is s.kept_are s.unguarded
   where
     go : (above stayed : List RegionEnvironment) → naming ∷ [] ≡ above ++ stayed → length stayed ≡ 0
@@ -80,22 +80,22 @@ guarded_above s = go s.above s.stayed s.before_is s.kept_are s.unguarded
         no_protections : ◌≡◌ {A = List Region} (Numbered 2 ∷ []) [] → ⊥
         no_protections e = cc
 
-as_many : (k : Holding) → HoldingShows 4 k (bare ∷ []) [] [] [] [] → HoldingShows 4 k (bare ∷ bare ∷ []) [] [] [] [] → ⊥
+as_many : (k : Holding) → HoldingShows 4 k (bare_environment ∷ []) [] [] [] [] → HoldingShows 4 k (bare_environment ∷ bare_environment ∷ []) [] [] [] [] → ⊥
 as_many k one two = let a = one.depth in let b = two.depth in omega (arith, a, b)
 
 same_slot : KeySlotsDiffer (entry_of doubled) 4 → ⊥
 same_slot d = let e = ap (λ (key : Key). key.0) (d.unique second third 2 refl refl) in omega (arith, e)
 
-no_global : KeySlotsDiffer (entry_of entries) 5 → ⊥
+no_global : KeySlotsDiffer (entry_of three_entries) 5 → ⊥
 no_global d = let e = same_Some 4 5 d.global in omega (arith, e)
 
-one_more : AreCounted (entry_of entries) 4 (naming ∷ naming ∷ []) [] → ⊥
+one_more : AreCounted (entry_of three_entries) 4 (naming ∷ naming ∷ []) [] → ⊥
 one_more c = let e = c second page_two refl in omega (arith, e)
 
-own_none : HavePages (entry_of entries) [] → ⊥
+own_none : HavePages (entry_of three_entries) [] → ⊥
 own_none h = none-some (record { slot = 2; page = 7; fill = 5 }) (sym (h second page_two refl))
 
-pending : AreStakesPending (entry_of entries) 4 1 (2 ∷ []) → ⊥
+pending : AreStakesPending (entry_of three_entries) 4 1 (2 ∷ []) → ⊥
 pending p = true≢false (sym (p.shared second page_two refl (λ e. omega (arith, e))))
 
 pub examples : HoldingExamples
@@ -122,7 +122,7 @@ examples = record {
   same_slot = same_slot;
   no_global = no_global;
   protections = refl;
-  counted = λ a e at. each (λ x. x.protections ≡ protections_of (region_of 4 x.slot) (bare ∷ naming ∷ []) []) refl refl a e at;
+  counted = λ a e at. each (λ x. x.protections ≡ protections_of (region_of 4 x.slot) (bare_environment ∷ naming ∷ []) []) refl refl a e at;
   one_more = one_more;
   own = λ a e at. each (λ x. option_map (own_page x.slot) x.page ≡ page_of x.slot pages) refl refl a e at;
   own_none = own_none;
@@ -141,8 +141,8 @@ examples = record {
   named = λ h. h.1.0 1 refl;
   unnamed = (λ k e. none-some (Numbered 3) e, (bound_naming, tt));
   settles = record {
-    above = bare ∷ [];
-    fresh = bare ∷ bare ∷ [];
+    above = bare_environment ∷ [];
+    fresh = bare_environment ∷ bare_environment ∷ [];
     stayed = naming ∷ [];
     before_is = refl;
     after_is = refl;

@@ -7,17 +7,17 @@ use Rattle.rgo_sound.specs.RegionMachine.declared.regions.Region.{Region}
 use Rattle.rgo_holding.specs.declared.frames.Frames.{Frames}
 use Rattle.rgo_holding.specs.declared.holding.Holding.{Holding}
 use Rattle.rgo_holding.specs.Changes.{EnvironmentsSettle, renamed, top_protections, without_name}
-use Rattle.rgo_holding.specs.Holds.{IsHoldingOf, HoldingShows, region_at}
+use Rattle.rgo_holding.specs.Holds.{IsHoldingOf, HoldingShows, region_of_key}
 use Rattle.rgo_holding.specs.Known.{protections_of}
-use Rattle.rgo_holding.specs.Naming.{Changed, NamedFrameReturns, Cuts, SameNames, changed_at, cut}
-use Rattle.rgo_holding.specs.Tables.{IsOrdered, Keys, NamesStand, StandFor, key_in, keys_at, named, named_below, newest_keys}
+use Rattle.rgo_holding.specs.Naming.{Changed, NamedFrameReturns, Cuts, SameNames, keys_changed_at, cut}
+use Rattle.rgo_holding.specs.Tables.{IsOrdered, Keys, NamesStand, StandFor, key_in, keys_at, named_frames, named_below, newest_keys}
 use Rattle.rgo_holding.proofs.CountLemmas.{above_protections, bare_protections, below_protections, renamed_protections}
 use Rattle.rgo_holding.proofs.NameLemmas.{change_newest, same_newest, settled, stand_unbound}
 
 -- other frames, where each region has as many protections
 pub moved : (k : Holding) (f : Frames) (slots : ℕ) (es others : List RegionEnvironment) (base : List Region)
     (pending stakes : List ℕ) (fills : List Fill) → HoldingShows slots k es base pending stakes fills → f.depth ≡ length others
-    → IsOrdered f → NamesStand (region_at k) (named f) others
+    → IsOrdered f → NamesStand (region_of_key k) (named_frames f) others
     → ((r : Region) → protections_of r others base ≡ protections_of r es base)
     → HoldingShows slots (record k { frames = f }) others base pending stakes fills
 moved k f slots es others base pending stakes fills h depth ordered names same = record {
@@ -40,8 +40,8 @@ renamed_length (e ∷ es) names = refl
 -- the newest frame has other names
 pub renamed_shows : (k : Holding) (f : Frames) (slots : ℕ) (h : Holder) (fills : List Fill) → IsHoldingOf slots k h fills
     → (change : Keys → Keys) (names : Bindings → Bindings) → Changed k.frames f change → change [] ≡ []
-    → ((bs : Bindings) → StandFor (region_at k) (newest_keys k.frames) bs
-    → StandFor (region_at k) (change (newest_keys k.frames)) (names bs))
+    → ((bs : Bindings) → StandFor (region_of_key k) (newest_keys k.frames) bs
+    → StandFor (region_of_key k) (change (newest_keys k.frames)) (names bs))
     → IsHoldingOf slots (record k { frames = f }) (renamed h names) fills
 renamed_shows k f slots h fills shows change names changed none stands =
     moved k f slots h.environments (with_top h.environments (names (top_names h.environments))) h.base h.pending h.stakes
@@ -50,21 +50,21 @@ renamed_shows k f slots h fills shows change names changed none stands =
     (go h.environments shows.depth shows.names)
     (λ r. renamed_protections r h.environments (names (top_names h.environments)) h.base)
   where
-    go : (es : List RegionEnvironment) → k.frames.depth ≡ length es → NamesStand (region_at k) (named k.frames) es
-        → NamesStand (region_at k) (named f) (with_top es (names (top_names es)))
-    go [] d s = changed.named ∙ ap (changed_at k.frames.depth change) s
-    go (e ∷ es) d s = subst (λ l. NamesStand (region_at k) l (record e { names = names e.names } ∷ es))
-        (sym (changed.named ∙ ap (λ n. changed_at n change (named k.frames)) d))
-        (change_newest (region_at k) (named k.frames) change e es (names e.names) none
-        (subst (λ n. StandFor (region_at k) (keys_at (named k.frames) n) e.names
-        → StandFor (region_at k) (change (keys_at (named k.frames) n)) (names e.names)) d (stands e.names)) s)
+    go : (es : List RegionEnvironment) → k.frames.depth ≡ length es → NamesStand (region_of_key k) (named_frames k.frames) es
+        → NamesStand (region_of_key k) (named_frames f) (with_top es (names (top_names es)))
+    go [] d s = changed.named ∙ ap (keys_changed_at k.frames.depth change) s
+    go (e ∷ es) d s = subst (λ l. NamesStand (region_of_key k) l (record e { names = names e.names } ∷ es))
+        (sym (changed.named ∙ ap (λ n. keys_changed_at n change (named_frames k.frames)) d))
+        (change_newest (region_of_key k) (named_frames k.frames) change e es (names e.names) none
+        (subst (λ n. StandFor (region_of_key k) (keys_at (named_frames k.frames) n) e.names
+        → StandFor (region_of_key k) (change (keys_at (named_frames k.frames) n)) (names e.names)) d (stands e.names)) s)
 
 pub unbind_shows : (k : Holding) (f : Frames) (slots : ℕ) (h : Holder) (fills : List Fill) → IsHoldingOf slots k h fills
     → (name : ℕ) → Changed k.frames f (λ keys. slice_set keys name None)
     → IsHoldingOf slots (record k { frames = f }) (without_name h name) fills
 unbind_shows k f slots h fills shows name changed =
     renamed_shows k f slots h fills shows (λ keys. slice_set keys name None) (λ bs. unbind bs name) changed refl
-    (λ bs s. stand_unbound (region_at k) (newest_keys k.frames) bs name s)
+    (λ bs s. stand_unbound (region_of_key k) (newest_keys k.frames) bs name s)
 
 -- ---- returns
 
@@ -80,11 +80,11 @@ back_shows k f slots h fills shows back none =
     fewer [] = omega arith
     fewer (e ∷ es) = omega arith
 
-    go : (es : List RegionEnvironment) → k.frames.depth ≡ length es → NamesStand (region_at k) (named k.frames) es
-        → NamesStand (region_at k) (named f) (below es)
+    go : (es : List RegionEnvironment) → k.frames.depth ≡ length es → NamesStand (region_of_key k) (named_frames k.frames) es
+        → NamesStand (region_of_key k) (named_frames f) (below es)
     go [] d s = back.named shows.ordered ∙ ap (λ l. named_below l k.frames.depth) s
-    go (e ∷ es) d s = subst (λ l. NamesStand (region_at k) l es)
-        (sym (back.named shows.ordered ∙ ap (named_below (named k.frames)) d)) s.1
+    go (e ∷ es) d s = subst (λ l. NamesStand (region_of_key k) l es)
+        (sym (back.named shows.ordered ∙ ap (named_below (named_frames k.frames)) d)) s.1
 
 -- ---- local steps in a row
 
@@ -94,11 +94,11 @@ pub settle_shows : (k : Holding) (f : Frames) (slots : ℕ) (h : Holder) (fills 
 settle_shows k f slots h fills es kept many shows cuts settles =
     moved k f slots h.environments es h.base h.pending h.stakes fills shows (cuts.depth ∙ sym settles.depth_is)
     (cuts.ordered shows.ordered)
-    (subst (NamesStand (region_at k) (named f)) (sym settles.after_is)
-    (subst (λ l. NamesStand (region_at k) l (settles.fresh ++ settles.stayed))
-    (ap (λ n. cut n (named k.frames)) settles.kept_are ∙ sym (cuts.named shows.ordered))
-    (settled (region_at k) (named k.frames) settles.above settles.fresh settles.stayed settles.bare
-    (subst (NamesStand (region_at k) (named k.frames)) settles.before_is shows.names))))
+    (subst (NamesStand (region_of_key k) (named_frames f)) (sym settles.after_is)
+    (subst (λ l. NamesStand (region_of_key k) l (settles.fresh ++ settles.stayed))
+    (ap (λ n. cut n (named_frames k.frames)) settles.kept_are ∙ sym (cuts.named shows.ordered))
+    (settled (region_of_key k) (named_frames k.frames) settles.above settles.fresh settles.stayed settles.bare
+    (subst (NamesStand (region_of_key k) (named_frames k.frames)) settles.before_is shows.names))))
     (λ r. ap (λ l. protections_of r l h.base) settles.after_is
     ∙ bare_protections r settles.fresh settles.stayed h.base settles.bare
     ∙ sym (above_protections r settles.above settles.stayed h.base settles.unguarded)
@@ -112,8 +112,8 @@ pub reserved_shows : (k : Holding) (f : Frames) (slots : ℕ) (h : Holder) (fill
 reserved_shows k f slots h fills shows some same =
     moved k f slots h.environments h.environments h.base h.pending h.stakes fills shows (same.depth ∙ shows.depth)
     same.ordered
-    (same_newest (region_at k) (named k.frames) (named f) h.environments
-    (λ n. ap (λ d. key_in (keys_at (named f) d) n) (sym (same.depth ∙ shows.depth)) ∙ same.keys n
-    ∙ ap (λ d. key_in (keys_at (named k.frames) d) n) shows.depth)
-    (ap (named_below (named f)) (sym (same.depth ∙ shows.depth)) ∙ same.below ∙ ap (named_below (named k.frames)) shows.depth)
+    (same_newest (region_of_key k) (named_frames k.frames) (named_frames f) h.environments
+    (λ n. ap (λ d. key_in (keys_at (named_frames f) d) n) (sym (same.depth ∙ shows.depth)) ∙ same.keys n
+    ∙ ap (λ d. key_in (keys_at (named_frames k.frames) d) n) shows.depth)
+    (ap (named_below (named_frames f)) (sym (same.depth ∙ shows.depth)) ∙ same.below ∙ ap (named_below (named_frames k.frames)) shows.depth)
     (omega (arith, some, shows.depth)) shows.names) (λ r. refl)

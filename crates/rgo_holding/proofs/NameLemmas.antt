@@ -8,8 +8,8 @@ use Rattle.rgo_sound.specs.RegionMachine.declared.regions.Region.{Region}
 use Rattle.rgo_sound.proofs.names.Core.{bound_unbind, bound_unbind_other}
 use Rattle.rgo_sound.proofs.Tests.{eq_of, ne_of, split}
 use Rattle.rgo_holding.specs.declared.keys.Key.{Key}
-use Rattle.rgo_holding.specs.Changes.{IsUnnamed, KnowsNone}
-use Rattle.rgo_holding.specs.Naming.{changed_at, cleared, cut, with_named}
+use Rattle.rgo_holding.specs.Changes.{IsUnboundRegion, KnowsNone}
+use Rattle.rgo_holding.specs.Naming.{keys_changed_at, cleared_keys, cut, with_named}
 use Rattle.rgo_holding.specs.Tables.{Keys, Named, NamesStand, StandFor, key_in, keys_at, named_below}
 
 -- ---- single keys
@@ -52,7 +52,7 @@ module _ (region : Key → Option Region) where
 
   -- names are left to a callee
   pub stand_cleared : (ks : List ℕ) (keys : Keys) (names : Bindings) → StandFor region keys names
-      → StandFor region (cleared keys ks) (without_all names ks)
+      → StandFor region (cleared_keys keys ks) (without_all names ks)
   stand_cleared [] keys names h = h
   stand_cleared (k ∷ ks) keys names h =
       stand_cleared ks (slice_set keys k None) (unbind names k) (stand_unbound keys names k h)
@@ -100,7 +100,7 @@ module _ (region : Key → Option Region) where
       → change [] ≡ [] → (StandFor region (keys_at fs (suc (length es))) e.names
       → StandFor region (change (keys_at fs (suc (length es)))) names)
       → NamesStand region fs (e ∷ es)
-      → NamesStand region (changed_at (suc (length es)) change fs) (record e { names = names } ∷ es)
+      → NamesStand region (keys_changed_at (suc (length es)) change fs) (record e { names = names } ∷ es)
   change_newest [] change e es names none f h = (subst (λ ks. StandFor region ks names) none (f h.0), h.1)
   change_newest (x ∷ fs) change e es names none f h = go (suc (length es)) (nat_eq x.height (suc (length es))) refl f h
     where
@@ -254,11 +254,11 @@ names_same before after same fs es h =
 -- the keys of all regions but one are good
 pub names_but : (before after : Key → Option Region) (gone : Region)
     → ((key : Key) (r : Region) → before key ≡ Some r → r ≢ gone → after key ≡ Some r) → (fs : List Named)
-    (es : List RegionEnvironment) → IsUnnamed gone es → NamesStand before fs es → NamesStand after fs es
+    (es : List RegionEnvironment) → IsUnboundRegion gone es → NamesStand before fs es → NamesStand after fs es
 names_but before after gone keep fs es unnamed h =
     names_kept before after (λ r. r ≢ gone) keep fs es (all es unnamed) h
   where
-    all : (es : List RegionEnvironment) → IsUnnamed gone es
+    all : (es : List RegionEnvironment) → IsUnboundRegion gone es
         → AllByRecursion (λ (e : RegionEnvironment). (k : ℕ) (r : Region) → bound e.names k ≡ Some r → r ≢ gone) es
     all [] u = tt
     all (e ∷ es) u = (λ k r b same. u.0 k (b ∙ ap Some same), all es u.1)

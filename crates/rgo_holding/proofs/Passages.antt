@@ -12,9 +12,9 @@ use Rattle.rgo_sound.specs.Tac.declared.regions.Class.TheVariants.{NoClass, Glob
 use Rattle.rgo_sound.specs.Tac.declared.regions.Class.{Class}
 use Rattle.rgo_holding.specs.declared.frames.Frames.{Frames}
 use Rattle.rgo_holding.specs.declared.keys.Key.{Key}
-use Rattle.rgo_holding.specs.Naming.{Changed, changed_at, cleared}
+use Rattle.rgo_holding.specs.Naming.{Changed, keys_changed_at, cleared_keys}
 use Rattle.rgo_holding.specs.Passing.{first_key, key_for, key_with, or_else}
-use Rattle.rgo_holding.specs.Tables.{IsOrdered, Keys, Named, key_in, named}
+use Rattle.rgo_holding.specs.Tables.{IsOrdered, Keys, Named, key_in, named_frames}
 
 -- ---- what is passed
 
@@ -238,7 +238,7 @@ any_in k xs (Err i) is rises =
 -- ---- keys that are taken away
 
 changed_again : (n : ℕ) (f g : Keys → Keys) (fs : List Named)
-    → changed_at n g (changed_at n f fs) ≡ changed_at n (λ ks. g (f ks)) fs
+    → keys_changed_at n g (keys_changed_at n f fs) ≡ keys_changed_at n (λ ks. g (f ks)) fs
 changed_again n f g [] = refl
 changed_again n f g (x ∷ fs) = ap (λ (y : Named). y ∷ fs) (go (nat_eq x.height n) refl)
   where
@@ -250,7 +250,7 @@ changed_again n f g (x ∷ fs) = ap (λ (y : Named). y ∷ fs) (go (nat_eq x.hei
     go true t = ap (λ c. if c then record x { keys = g (f x.keys) } else record x { keys = f x.keys }) t
     go false t = ap (λ c. if c then record x { keys = g x.keys } else x) t
 
-changed_none : (n : ℕ) (fs : List Named) → changed_at n (λ ks. ks) fs ≡ fs
+changed_none : (n : ℕ) (fs : List Named) → keys_changed_at n (λ ks. ks) fs ≡ fs
 changed_none n [] = refl
 changed_none n (x ∷ fs) = ap (λ (y : Named). y ∷ fs) (go (nat_eq x.height n))
   where
@@ -260,12 +260,12 @@ changed_none n (x ∷ fs) = ap (λ (y : Named). y ∷ fs) (go (nat_eq x.height n
 
 -- the newest frame no longer has these names
 pub record Clears (f g : Frames) (given : List ℕ) : Type 0 where
-  pub changed : Changed f g (λ keys. cleared keys given)
+  pub changed : Changed f g (λ keys. cleared_keys keys given)
 
 pub clears_none : (f : Frames) (given : List ℕ) → IsOrdered f → given ≡ [] → Clears f f given
 clears_none f given ordered none = record {
   changed = record {
-    named = sym (ap (λ g. changed_at f.depth (λ keys. cleared keys g) (named f)) none ∙ changed_none f.depth (named f));
+    named = sym (ap (λ g. keys_changed_at f.depth (λ keys. cleared_keys keys g) (named_frames f)) none ∙ changed_none f.depth (named_frames f));
     depth = refl;
     ordered = ordered;
   };
@@ -277,9 +277,9 @@ clears_more a b d name given f h =
     let g = h.changed in
     record {
       changed = record {
-        named = g.named ∙ ap (λ n. changed_at n (λ keys. cleared keys given) (named b)) f.depth
-            ∙ ap (changed_at a.depth (λ keys. cleared keys given)) f.named
-            ∙ changed_again a.depth (λ keys. slice_set keys name None) (λ keys. cleared keys given) (named a);
+        named = g.named ∙ ap (λ n. keys_changed_at n (λ keys. cleared_keys keys given) (named_frames b)) f.depth
+            ∙ ap (keys_changed_at a.depth (λ keys. cleared_keys keys given)) f.named
+            ∙ changed_again a.depth (λ keys. slice_set keys name None) (λ keys. cleared_keys keys given) (named_frames a);
         depth = g.depth ∙ f.depth;
         ordered = g.ordered;
       };

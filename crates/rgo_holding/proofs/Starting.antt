@@ -11,18 +11,18 @@ use Rattle.rgo_sound.specs.RegionMachine.declared.regions.Region.{Region}
 use Rattle.rgo_sound.specs.RegionMachine.declared.regions.Region.TheVariants.{Global as GlobalRegion, Numbered}
 use Rattle.rgo_sound.proofs.Tests.{eq_of, nat_eq_refl, or_there, split}
 use Rattle.rgo_sound.specs.Invariant.{times}
-use Rattle.rgo_sound.specs.Stakes.{is_in, one_if}
+use Rattle.rgo_sound.specs.Stakes.{is_in, one_when}
 use Rattle.rgo_sound.specs.Tac.declared.regions.Class.{Class}
 use Rattle.rgo_sound.specs.Tac.declared.regions.Class.TheVariants.{NoClass, Global as GlobalClass, Name}
 use Rattle.rgo_holding.specs.declared.entries.Entry.{Entry}
 use Rattle.rgo_holding.specs.declared.frames.Frames.{Frames}
 use Rattle.rgo_holding.specs.declared.holding.Holding.{Holding}
 use Rattle.rgo_holding.specs.declared.keys.Key.{Key}
-use Rattle.rgo_holding.specs.Changes.{IsSpare}
+use Rattle.rgo_holding.specs.Changes.{IsSpareKey}
 use Rattle.rgo_holding.specs.Entries.{new_entry}
-use Rattle.rgo_holding.specs.Holds.{IsHoldingOf, HoldingShows, entry_at, region_at}
+use Rattle.rgo_holding.specs.Holds.{IsHoldingOf, HoldingShows, entry_at, region_of_key}
 use Rattle.rgo_holding.specs.Known.{entry_of, entry_region, global_key, region_of}
-use Rattle.rgo_holding.specs.Learning.{AreGiven, IsGiven, Learned, ShowsFresh, SlotsKnown, StillOf, Tracks}
+use Rattle.rgo_holding.specs.Learning.{AreGiven, MayBeGiven, Learned, ShowsFresh, SlotsKnown, StillOf, Tracks}
 use Rattle.rgo_holding.specs.Naming.{NamesFirst}
 use Rattle.rgo_holding.specs.Passing.{AreRegionsPassed, ChildHoldingBegins, key_for}
 use Rattle.rgo_holding.specs.Tables.{Keys, NamesStand, key_in, newest_keys}
@@ -43,14 +43,14 @@ region_slot_if slots (Some x) s e n =
 
 -- the region of a known key
 pub tracked : (k : Holding) (known : ℕ → Option Key) (s : ℕ) (a : Key) → Tracks k known → known s ≡ Some a → s ≢ k.slots
-    → region_at k a ≡ Some (Numbered s)
+    → region_of_key k a ≡ Some (Numbered s)
 tracked k known s a tracks at n = region_slot_if k.slots (entry_at k a) s (tracks.keys s a at) n
 
 -- ---- one more region is learned
 
 -- the memory for an entry is taken, then it is written
 module _ (k : Holding) (v w : Vec Entry Global) (free : Vec Key Global) (key : Key) (slot : ℕ) (known after : ℕ → Option Key)
-    (same : (j : Key) → entry_of v.items j ≡ entry_at k j) (spare : IsSpare v.items key)
+    (same : (j : Key) → entry_of v.items j ≡ entry_at k j) (spare : IsSpareKey v.items key)
     (is : w.items ≡ slice_set v.items key.0 (new_entry slot)) (none : known slot ≡ None)
     (more : (s : ℕ) → after s ≡ (if nat_eq slot s then Some key else known s)) where
   abbrev first : Holding
@@ -59,10 +59,10 @@ module _ (k : Holding) (v w : Vec Entry Global) (free : Vec Key Global) (key : K
   abbrev last : Holding
   last = record k { entries = w; free = free }
 
-  pub learn_still : (j : Key) (r : Region) → region_at k j ≡ Some r → region_at last j ≡ Some r
+  pub learn_still : (j : Key) (r : Region) → region_of_key k j ≡ Some r → region_of_key last j ≡ Some r
   learn_still j r at = still_region first key w slot spare is j r (ap (option_map (entry_region k.slots)) (same j) ∙ at)
 
-  pub learn_region : slot ≢ k.slots → region_at last key ≡ Some (Numbered slot)
+  pub learn_region : slot ≢ k.slots → region_of_key last key ≡ Some (Numbered slot)
   learn_region other = new_region first key w slot spare is other
 
   -- no key in use has the slot
@@ -160,18 +160,18 @@ pub learned_more : (slots : ℕ) (stakes : List ℕ) (k l : Holding) (known afte
     (given : List (Option Region)) (i : ℕ) (key : Option Key) (d : Option Region) → others ≡ keys ++ key ∷ []
     → i < length given → AreGiven slots stakes given
     → (Tracks k known → Tracks l after)
-    → (Tracks k known → ShowsFresh slots k [] stakes → IsGiven slots stakes (get_or given i d) → ShowsFresh slots l [] stakes)
-    → (Tracks k known → ShowsFresh slots k [] stakes → IsGiven slots stakes (get_or given i d)
-    → option_map (region_at l) key ≡ option_map Some (get_or given i d))
+    → (Tracks k known → ShowsFresh slots k [] stakes → MayBeGiven slots stakes (get_or given i d) → ShowsFresh slots l [] stakes)
+    → (Tracks k known → ShowsFresh slots k [] stakes → MayBeGiven slots stakes (get_or given i d)
+    → option_map (region_of_key l) key ≡ option_map Some (get_or given i d))
     → StillOf k l → Learned slots stakes k known keys (take i given) → Learned slots stakes l after others (take (i + 1) given)
 learned_more slots stakes k l known after keys others given i key d push in_range all tracks shows region still h =
-    let one = all_at (IsGiven slots stakes) given i d all in_range in
+    let one = all_at (MayBeGiven slots stakes) given i d all in_range in
     record {
       tracks = tracks h.tracks;
       shows = shows h.tracks h.shows one;
       keys_are =
-          ap (map (option_map (region_at l))) push ∙ map_push (option_map (region_at l)) keys key
-          ∙ (λ j. keys_still (region_at k) (region_at l) still keys (take i given) h.keys_are j ++ region h.tracks h.shows one j ∷ [])
+          ap (map (option_map (region_of_key l))) push ∙ map_push (option_map (region_of_key l)) keys key
+          ∙ (λ j. keys_still (region_of_key k) (region_of_key l) still keys (take i given) h.keys_are j ++ region h.tracks h.shows one j ∷ [])
           ∙ sym (map_push (option_map Some) (take i given) (get_or given i d))
           ∙ ap (map (option_map Some)) (sym (take_more given i d in_range));
     }
@@ -181,21 +181,21 @@ learned_more slots stakes k l known after keys others given i key d push in_rang
 pub base_shows : (k : Holding) (key : Key) (e : Entry) (v : Vec Entry Global) (bases : Vec Key Global) (n : ℕ)
     → entry_at k key ≡ Some e → e.used ≡ true → v.items ≡ slice_set k.entries.items key.0 (record e { protections = n })
     → bases.items ≡ k.base.items ++ key ∷ [] → n ≡ e.protections + 1 → (slots : ℕ) (h : Holder) (fills : List Fill) (r : Region)
-    → IsHoldingOf slots k h fills → region_at k key ≡ Some r
+    → IsHoldingOf slots k h fills → region_of_key k key ≡ Some r
     → IsHoldingOf slots (record k { entries = v; base = bases }) (record h { base = r ∷ h.base }) fills
 base_shows k key e v bases n at used is push more slots h fills r shows region =
     let q = λ (s : ℕ). region_of k.slots s in
     let same = region_entry k key e r at region in
-    let one : one_if (same_region (q e.slot) r) ≡ 1 = ap (λ x. one_if (same_region x r)) same ∙ one_same r in
+    let one : one_when (same_region (q e.slot) r) ≡ 1 = ap (λ x. one_when (same_region x r)) same ∙ one_same r in
     let here = base_protections (q e.slot) r h.environments h.base in
     let was = shows.counted key e at in
     entry_changed k key e (record e { protections = n }) v at refl used is slots h.environments h.base h.pending h.stakes
     fills shows h.environments (r ∷ h.base) bases h.pending fills refl shows.names
-    (ap (λ ks. map (region_at k) (reverse ks)) push ∙ ap (map (region_at k)) (reverse-append k.base.items (key ∷ []))
+    (ap (λ ks. map (region_of_key k) (reverse ks)) push ∙ ap (map (region_of_key k)) (reverse-append k.base.items (key ∷ []))
     ∙ (λ i. region i ∷ shows.base_is i))
     (omega (arith, more, one, here, was))
     (λ s n.
-    let none : one_if (same_region (q s) r) ≡ 0 = ap (λ x. one_if (same_region (q s) x)) (sym same) ∙ one_other k.slots s e.slot n in
+    let none : one_when (same_region (q s) r) ≡ 0 = ap (λ x. one_when (same_region (q s) x)) (sym same) ∙ one_other k.slots s e.slot n in
     let there = base_protections (q s) r h.environments h.base in
     omega (arith, none, there))
     (shows.pages key e at) (λ s n. refl) (shows.pending_are.shared key e at) (shows.pending_are.rounds key e at) (λ s n. refl)
@@ -224,7 +224,7 @@ base_tracks k key e v bases n at used is known tracks =
 -- a region that is given is known
 given_known : (slots : ℕ) (stakes : List ℕ) (k : Holding) (known : ℕ → Option Key) → Tracks k known → k.slots ≡ slots
     → (keys : List (Option Key)) (given : List (Option Region)) → AreGiven slots stakes given
-    → map (option_map (region_at k)) keys ≡ map (option_map Some) given → (p : ℕ) → stands_in (Numbered p) given ≡ true
+    → map (option_map (region_of_key k)) keys ≡ map (option_map Some) given → (p : ℕ) → stands_in (Numbered p) given ≡ true
     → (p ≢ slots) × (known p ≢ None)
 given_known slots stakes k known tracks is keys [] all e p h = absurd (true≢false (sym h))
 given_known slots stakes k known tracks is [] (r ∷ given) all e p h = cc
@@ -239,10 +239,10 @@ given_known slots stakes k known tracks is (key ∷ keys) (Some (Numbered q) ∷
     by a s (inl x) same other = absurd (other x)
     by a s (inr x) same other = λ none. none-some a (sym none ∙ ap known (sym same) ∙ x)
 
-    found : (o : Option Key) → option_map (region_at k) o ≡ Some (Some (Numbered q)) → known q ≢ None
+    found : (o : Option Key) → option_map (region_of_key k) o ≡ Some (Some (Numbered q)) → known q ≢ None
     found None e = absurd (none-some (Some (Numbered q)) e)
     found (Some a) e =
-        let there = entry_there k.slots (entry_at k a) (Numbered q) (same_Some (region_at k a) (Some (Numbered q)) e) in
+        let there = entry_there k.slots (entry_at k a) (Numbered q) (same_Some (region_of_key k a) (Some (Numbered q)) e) in
         let slot = numbered_slot k.slots there.0.slot q there.2 in
         by a there.0.slot (tracks.entries a there.0 there.1) slot.0 slot.1
 
@@ -255,7 +255,7 @@ given_known slots stakes k known tracks is (key ∷ keys) (Some (Numbered q) ∷
 -- and so is one that is given twice
 pub twice_known : (slots : ℕ) (stakes : List ℕ) (k : Holding) (known : ℕ → Option Key) → Tracks k known → k.slots ≡ slots
     → (keys : List (Option Key)) (given : List (Option Region)) (found : List ℕ) → AreGiven slots stakes given
-    → map (option_map (region_at k)) keys ≡ map (option_map Some) given → map Numbered (reverse found) ≡ twice given
+    → map (option_map (region_of_key k)) keys ≡ map (option_map Some) given → map Numbered (reverse found) ≡ twice given
     → SlotsKnown slots known found
 twice_known slots stakes k known tracks is keys given found all e found_is =
     back found (each (reverse found) (λ p h. given_known slots stakes k known tracks is keys given all e p
@@ -292,10 +292,10 @@ name_apart : (k : Holding) (slots : ℕ) (h : Holder) (fills : List Fill) → Is
 name_apart k slots h fills shows n p is = go (key_in (newest_keys k.frames) n)
     (newest_stand k slots h fills shows n ∙ ap (option_map Some) is)
   where
-    go : (o : Option Key) → option_map (region_at k) o ≡ Some (Some (Numbered p)) → p ≢ slots
+    go : (o : Option Key) → option_map (region_of_key k) o ≡ Some (Some (Numbered p)) → p ≢ slots
     go None e = absurd (none-some (Some (Numbered p)) e)
     go (Some key) e =
-        let there = entry_there k.slots (entry_at k key) (Numbered p) (same_Some (region_at k key) (Some (Numbered p)) e) in
+        let there = entry_there k.slots (entry_at k key) (Numbered p) (same_Some (region_of_key k key) (Some (Numbered p)) e) in
         let slot = numbered_slot k.slots there.0.slot p there.2 in
         λ x. slot.1 (slot.0 ∙ x ∙ sym shows.slots_are)
 
@@ -315,26 +315,26 @@ given_fit k slots h fills shows (Name n ∷ passes) all =
         → AreRegionsPassed h.pending (o ∷ passed_regions (top_names h.environments) passes)
         → (AreRegionsPassed h.pending (passed_regions (top_names h.environments) passes)
         → AreGiven slots h.pending (passed_regions (top_names h.environments) passes))
-        → IsGiven slots h.pending (bound (top_names h.environments) n)
+        → MayBeGiven slots h.pending (bound (top_names h.environments) n)
         × AreGiven slots h.pending (passed_regions (top_names h.environments) passes)
-    go None e all f = (subst (IsGiven slots h.pending) (sym e) tt, f all)
-    go (Some GlobalRegion) e all f = (subst (IsGiven slots h.pending) (sym e) tt, f all)
+    go None e all f = (subst (MayBeGiven slots h.pending) (sym e) tt, f all)
+    go (Some GlobalRegion) e all f = (subst (MayBeGiven slots h.pending) (sym e) tt, f all)
     go (Some (Numbered p)) e all f =
-        (subst (IsGiven slots h.pending) (sym e) (name_apart k slots h fills shows n p e, all.0), f all.1)
+        (subst (MayBeGiven slots h.pending) (sym e) (name_apart k slots h fills shows n p e, all.0), f all.1)
 
 -- ---- the goroutine that is about to start
 
 pub child_shows : (k : Holding) (f : Frames) (slots : ℕ) (pending : List ℕ) (formals : List Class) (given : List (Option Region))
     (base : List Region) (keys : List (Option Key)) (names : Keys) → ShowsFresh slots k base pending → base ≡ twice given
-    → map (option_map (region_at k)) keys ≡ map (option_map Some) given
+    → map (option_map (region_of_key k)) keys ≡ map (option_map Some) given
     → ((n : ℕ) → key_in names n ≡ key_for formals keys n) → k.frames.tables.items ≡ [] → NamesFirst k.frames f names
     → ChildHoldingBegins slots (record k { frames = f }) pending formals given
 child_shows k f slots pending formals given base keys names fresh is keys_are passed_are none first result =
     subst (λ b. HoldingShows slots (record k { frames = f }) (environment_of result (passed formals given) ∷ []) b [] pending []) is
     (moved k f slots (environment_of result [] ∷ []) (environment_of result (passed formals given) ∷ []) base [] pending []
     shows (first.depth ∙ shows.depth) (first.ordered none)
-    (subst (λ l. NamesStand (region_at k) l (environment_of result (passed formals given) ∷ [])) (sym (first.named none))
-    (λ n. ap (option_map (region_at k)) (passed_are n) ∙ given_stand (region_at k) formals keys given keys_are n, refl))
+    (subst (λ l. NamesStand (region_of_key k) l (environment_of result (passed formals given) ∷ [])) (sym (first.named none))
+    (λ n. ap (option_map (region_of_key k)) (passed_are n) ∙ given_stand (region_of_key k) formals keys given keys_are n, refl))
     (λ r. refl))
   where
     shows : HoldingShows slots k (environment_of result [] ∷ []) base [] pending []
@@ -343,7 +343,7 @@ child_shows k f slots pending formals given base keys names fresh is keys_are pa
 -- ---- steps of the loops
 
 pub fresh_global : (k : Holding) (slots : ℕ) (base : List Region) (stakes : List ℕ) → ShowsFresh slots k base stakes
-    → region_at k global_key ≡ Some GlobalRegion
+    → region_of_key k global_key ≡ Some GlobalRegion
 fresh_global k slots base stakes fresh = global_at k (fresh (environment_of NoClass []) refl refl).differ.global
 
 pub class_some : (region : Key → Option Region) (key : Key) (o : Option Key) (r : Option Region) → Some key ≡ o
@@ -366,7 +366,7 @@ regions_more names passes i d regions others r push l old new =
 pub bases_more : (slots : ℕ) (stakes : List ℕ) (k l : Holding) (known : ℕ → Option Key) (found : List ℕ) (i d : ℕ) (key : Key)
     → i < length found → Tracks k known → ShowsFresh slots k (map Numbered (reverse (take i found))) stakes
     → SlotsKnown slots known found → known (get_or found i d) ≡ Some key
-    → ((slots : ℕ) (h : Holder) (fills : List Fill) (r : Region) → IsHoldingOf slots k h fills → region_at k key ≡ Some r
+    → ((slots : ℕ) (h : Holder) (fills : List Fill) (r : Region) → IsHoldingOf slots k h fills → region_of_key k key ≡ Some r
     → IsHoldingOf slots l (record h { base = r ∷ h.base }) fills)
     → ShowsFresh slots l (map Numbered (reverse (take (i + 1) found))) stakes
 bases_more slots stakes k l known found i d key within tracks shows apart at adds e names protections =

@@ -4,7 +4,7 @@ use Rattle.std.proofs.lemmas.List.{drop-append-le, drop-set-add, length-append, 
 use Rattle.std.proofs.lemmas.Option.{none-some, same_Some}
 use Rattle.rgo_holding.specs.declared.frames.Table.{Table}
 use Rattle.rgo_holding.specs.declared.keys.Key.{Key}
-use Rattle.rgo_holding.specs.Naming.{changed_at, start_at}
+use Rattle.rgo_holding.specs.Naming.{keys_changed_at, start_at}
 use Rattle.rgo_holding.specs.Tables.{Keys, Named, StartWithin, key_in, keys_at, named_below, named_in}
 
 -- the first table is of this height, and starts here
@@ -29,7 +29,7 @@ set_within keys (t ∷ ts) n start name key e w =
     )
 
 pub set_named : (keys : Keys) (ts : List Table) (n start name : ℕ) (key : Option Key) → start_at ts n ≡ Some start
-    → named_in (slice_set keys (start + name) key) ts ≡ changed_at n (λ ks. slice_set ks name key) (named_in keys ts)
+    → named_in (slice_set keys (start + name) key) ts ≡ keys_changed_at n (λ ks. slice_set ks name key) (named_in keys ts)
 set_named keys [] n start name key e = absurd (none-some _ e)
 set_named keys (t ∷ ts) n start name key e =
     let s = start_is t ts n start e in

@@ -11,17 +11,17 @@ use Rattle.rgo_sound.specs.Stakes.{is_in}
 use Rattle.rgo_holding.specs.declared.entries.Entry.{Entry}
 use Rattle.rgo_holding.specs.declared.holding.Holding.{Holding}
 use Rattle.rgo_holding.specs.declared.keys.Key.{Key}
-use Rattle.rgo_holding.specs.Holds.{IsHoldingOf, region_at}
+use Rattle.rgo_holding.specs.Holds.{IsHoldingOf, region_of_key}
 use Rattle.rgo_holding.specs.Tables.{newest_keys}
 
 -- ---- calls that change neither
 
-abbrev pub Keeps : Holding → Holding → Type 0
-Keeps k l = (slots : ℕ) (h : Holder) (fills : List Fill) → IsHoldingOf slots k h fills → IsHoldingOf slots l h fills
+abbrev pub KeepsHolding : Holding → Holding → Type 0
+KeepsHolding k l = (slots : ℕ) (h : Holder) (fills : List Fill) → IsHoldingOf slots k h fills → IsHoldingOf slots l h fills
 
 -- each key is that of the same region, or of none
 abbrev pub SameRegions : Holding → Holding → Type 0
-SameRegions k l = (key : Key) → region_at l key ≡ region_at k key
+SameRegions k l = (key : Key) → region_of_key l key ≡ region_of_key k key
 
 -- ---- names
 
@@ -52,39 +52,39 @@ creating h k p = record h {
 }
 
 -- nothing is known of the slot
-pub record IsNew (slots : ℕ) (h : Holder) (fills : List Fill) (slot : ℕ) : Type 0 where
+pub record IsNewSlot (slots : ℕ) (h : Holder) (fills : List Fill) (slot : ℕ) : Type 0 where
   pub other : slot ≢ slots
   pub unstaked : is_in slot h.stakes ≡ false
   pub unguarded : guards h.base h.environments (Numbered slot) ≡ false
   pub unshared : list_any (nat_eq slot) h.pending ≡ false
   pub no_page : page_of slot fills ≡ None
 
-abbrev pub ending : Holder → (slot : ℕ) → Holder
-ending h p = record h { stakes = without p h.stakes }
+abbrev pub ending_stake : Holder → (slot : ℕ) → Holder
+ending_stake h p = record h { stakes = without p h.stakes }
 
 -- no environment binds a name to it
-abbrev pub IsUnnamed : Region → List RegionEnvironment → Type 0
-IsUnnamed r es = AllByRecursion (λ (e : RegionEnvironment). (k : ℕ) → bound e.names k ≢ Some r) es
+abbrev pub IsUnboundRegion : Region → List RegionEnvironment → Type 0
+IsUnboundRegion r es = AllByRecursion (λ (e : RegionEnvironment). (k : ℕ) → bound e.names k ≢ Some r) es
 
 -- it is neither named nor protected
 pub record IsUnknown (h : Holder) (slot : ℕ) : Type 0 where
-  pub unnamed : IsUnnamed (Numbered slot) h.environments
+  pub unnamed : IsUnboundRegion (Numbered slot) h.environments
   pub unguarded : guards h.base h.environments (Numbered slot) ≡ false
 
-abbrev pub sharing : Holder → (slot : ℕ) → Holder
-sharing h p = record h { pending = p ∷ h.pending }
+abbrev pub sharing_stake : Holder → (slot : ℕ) → Holder
+sharing_stake h p = record h { pending = p ∷ h.pending }
 
 -- ---- the next region that is created
 
 -- a key that is not in use
-abbrev pub IsSpare : List Entry → Key → Type 0
-IsSpare entries key = (e : Entry) × (slice_get entries key.0 ≡ Some e) × (e.used ≡ false)
+abbrev pub IsSpareKey : List Entry → Key → Type 0
+IsSpareKey entries key = (e : Entry) × (slice_get entries key.0 ≡ Some e) × (e.used ≡ false)
 
 -- there is a key for it, and a place for its name
 pub record HoldingHasRoom (k : Holding) (name : ℕ) : Type 0 where
   pub key : Key
   pub next : k.next ≡ Some key
-  pub spare : IsSpare k.entries.items key
+  pub spare : IsSpareKey k.entries.items key
   pub named : name < length (newest_keys k.frames)
 
 -- ---- the base
@@ -94,13 +94,13 @@ abbrev pub HoldingEndsBase : Holding → Holding → Option Key → Type 0
 HoldingEndsBase k l None = (slots : ℕ) (h : Holder) (fills : List Fill) → IsHoldingOf slots k h fills
     → (h.base ≡ []) × IsHoldingOf slots l h fills
 HoldingEndsBase k l (Some key) = (slots : ℕ) (h : Holder) (fills : List Fill) → IsHoldingOf slots k h fills
-    → (r : Region) × (rest : List Region) × (region_at k key ≡ Some r) × (h.base ≡ r ∷ rest)
+    → (r : Region) × (rest : List Region) × (region_of_key k key ≡ Some r) × (h.base ≡ r ∷ rest)
     × IsHoldingOf slots l (record h { base = rest }) fills
 
 abbrev pub FirstBase : Holding → Option Key → Type 0
 FirstBase k None = (slots : ℕ) (h : Holder) (fills : List Fill) → IsHoldingOf slots k h fills → h.base ≡ []
 FirstBase k (Some key) = (slots : ℕ) (h : Holder) (fills : List Fill) → IsHoldingOf slots k h fills
-    → (r : Region) × (rest : List Region) × (region_at k key ≡ Some r) × (h.base ≡ r ∷ rest)
+    → (r : Region) × (rest : List Region) × (region_of_key k key ≡ Some r) × (h.base ≡ r ∷ rest)
 
 -- ---- after local steps in a row
 

@@ -9,11 +9,11 @@ use Rattle.rgo_sound.specs.Tac.declared.regions.Class.TheVariants.{NoClass, Name
 use Rattle.rgo_holding.specs.declared.entries.Entry.{Entry}
 use Rattle.rgo_holding.specs.declared.holding.Holding.{Holding}
 use Rattle.rgo_holding.specs.declared.keys.Key.{Key}
-use Rattle.rgo_holding.specs.Changes.{IsProtectedLast, IsUnnamed, EnvironmentsSettle}
+use Rattle.rgo_holding.specs.Changes.{IsProtectedLast, IsUnboundRegion, EnvironmentsSettle}
 use Rattle.rgo_holding.specs.Entries.{new_entry}
 use Rattle.rgo_holding.specs.Holds.{HoldingShows}
-use Rattle.rgo_holding.specs.Known.{AreCounted, AreStakesPending, AreKeysStaked, HavePages, KeySlotsDiffer, entry_of, entry_region, global_key, protections_of, region_of, slot_of}
-use Rattle.rgo_holding.specs.Naming.{changed_at, cleared, cut, with_named}
+use Rattle.rgo_holding.specs.Known.{AreCounted, AreStakesPending, AreKeysStaked, HavePages, KeySlotsDiffer, entry_of, entry_region, global_key, protections_of, region_of, slot_or_global}
+use Rattle.rgo_holding.specs.Naming.{keys_changed_at, cleared_keys, cut, with_named}
 use Rattle.rgo_holding.specs.Passing.{AreRegionsPassed, key_for}
 use Rattle.rgo_holding.specs.Tables.{Named, NamesStand, StandFor, StartWithin, key_in, keys_at, named_in}
 
@@ -28,8 +28,8 @@ third = record { 0 = 2 }
 abbrev pub page_two : Entry
 page_two = record (new_entry 2) { page = Some (record { page = 7; fill = 5 }); protections = 1 }
 
-abbrev pub entries : List Entry
-entries = new_entry 4 ∷ page_two ∷ record (new_entry 3) { used = false } ∷ []
+abbrev pub three_entries : List Entry
+three_entries = new_entry 4 ∷ page_two ∷ record (new_entry 3) { used = false } ∷ []
 
 -- one slot has two keys
 abbrev pub doubled : List Entry
@@ -43,8 +43,8 @@ pages = record { slot = 2; page = 7; fill = 5 } ∷ []
 abbrev pub naming : RegionEnvironment
 naming = record { lent = NoClass; names = (1, Numbered 2) ∷ []; protections = Numbered 2 ∷ [] }
 
-abbrev pub bare : RegionEnvironment
-bare = environment_of NoClass []
+abbrev pub bare_environment : RegionEnvironment
+bare_environment = environment_of NoClass []
 
 abbrev pub holder_of : List RegionEnvironment → Holder
 holder_of es = record { stakes = 2 ∷ []; pending = []; environments = es; base = []; fills = []; reserved = 0; duties = []; offer = NoOffer }
@@ -52,16 +52,16 @@ holder_of es = record { stakes = 2 ∷ []; pending = []; environments = es; base
 abbrev pub frame : (height : ℕ) → Named
 frame n = record { height = n; keys = None ∷ Some second ∷ [] }
 
-abbrev pub region : Key → Option Region
-region key = option_map (entry_region 4) (entry_of entries key)
+abbrev pub region_of_three : Key → Option Region
+region_of_three key = option_map (entry_region 4) (entry_of three_entries key)
 
 pub record HoldingExamples : Type 0 where
   -- keys
-  pub used : entry_of entries second ≡ Some page_two
-  pub given_up : entry_of entries third ≡ None
+  pub used : entry_of three_entries second ≡ Some page_two
+  pub given_up : entry_of three_entries third ≡ None
   pub by_slot : region_of 4 2 ≡ Numbered 2
   pub behind_all : region_of 4 4 ≡ GlobalRegion
-  pub slot_of_global : slot_of 4 GlobalRegion ≡ 4
+  pub slot_of_global : slot_or_global 4 GlobalRegion ≡ 4
   -- names
   pub name : key_in (None ∷ Some second ∷ []) 1 ≡ Some second
   pub no_name : key_in (None ∷ Some second ∷ []) 2 ≡ None
@@ -70,40 +70,40 @@ pub record HoldingExamples : Type 0 where
   pub start_behind : StartWithin (None ∷ []) (record { height = 1; start = 2 } ∷ []) → ⊥
   pub newest : keys_at (frame 2 ∷ []) 2 ≡ None ∷ Some second ∷ []
   pub newest_has_none : keys_at (frame 1 ∷ []) 2 ≡ []
-  pub stand : StandFor region (None ∷ Some second ∷ []) ((1, Numbered 2) ∷ [])
-  pub unbound : StandFor region (None ∷ Some second ∷ []) [] → ⊥
-  pub another : StandFor region (None ∷ Some second ∷ []) ((1, Numbered 3) ∷ []) → ⊥
-  pub not_in_use : StandFor region (None ∷ Some third ∷ []) ((1, Numbered 3) ∷ []) → ⊥
-  pub frames : NamesStand region (frame 1 ∷ []) (bare ∷ naming ∷ [])
-  pub wrong_height : NamesStand region (frame 2 ∷ []) (bare ∷ naming ∷ []) → ⊥
-  pub too_many : NamesStand region (frame 1 ∷ []) [] → ⊥
+  pub stand : StandFor region_of_three (None ∷ Some second ∷ []) ((1, Numbered 2) ∷ [])
+  pub unbound : StandFor region_of_three (None ∷ Some second ∷ []) [] → ⊥
+  pub another : StandFor region_of_three (None ∷ Some second ∷ []) ((1, Numbered 3) ∷ []) → ⊥
+  pub not_in_use : StandFor region_of_three (None ∷ Some third ∷ []) ((1, Numbered 3) ∷ []) → ⊥
+  pub frames : NamesStand region_of_three (frame 1 ∷ []) (bare_environment ∷ naming ∷ [])
+  pub wrong_height : NamesStand region_of_three (frame 2 ∷ []) (bare_environment ∷ naming ∷ []) → ⊥
+  pub too_many : NamesStand region_of_three (frame 1 ∷ []) [] → ⊥
   -- entries
-  pub differ : KeySlotsDiffer (entry_of entries) 4
+  pub differ : KeySlotsDiffer (entry_of three_entries) 4
   pub same_slot : KeySlotsDiffer (entry_of doubled) 4 → ⊥
-  pub no_global : KeySlotsDiffer (entry_of entries) 5 → ⊥
-  pub protections : protections_of (Numbered 2) (bare ∷ naming ∷ []) (Numbered 2 ∷ []) ≡ 2
-  pub counted : AreCounted (entry_of entries) 4 (bare ∷ naming ∷ []) []
-  pub one_more : AreCounted (entry_of entries) 4 (naming ∷ naming ∷ []) [] → ⊥
-  pub own : HavePages (entry_of entries) pages
-  pub own_none : HavePages (entry_of entries) [] → ⊥
+  pub no_global : KeySlotsDiffer (entry_of three_entries) 5 → ⊥
+  pub protections : protections_of (Numbered 2) (bare_environment ∷ naming ∷ []) (Numbered 2 ∷ []) ≡ 2
+  pub counted : AreCounted (entry_of three_entries) 4 (bare_environment ∷ naming ∷ []) []
+  pub one_more : AreCounted (entry_of three_entries) 4 (naming ∷ naming ∷ []) [] → ⊥
+  pub own : HavePages (entry_of three_entries) pages
+  pub own_none : HavePages (entry_of three_entries) [] → ⊥
   pub first_page : page_of 2 (record { slot = 3; page = 1; fill = 0 } ∷ pages) ≡ Some (record { slot = 2; page = 7; fill = 5 })
-  pub none_pending : AreStakesPending (entry_of entries) 4 1 []
-  pub pending : AreStakesPending (entry_of entries) 4 1 (2 ∷ []) → ⊥
-  pub staked : AreKeysStaked (entry_of entries) 4 (2 ∷ [])
-  pub no_stake : AreKeysStaked (entry_of entries) 4 (3 ∷ []) → ⊥
+  pub none_pending : AreStakesPending (entry_of three_entries) 4 1 []
+  pub pending : AreStakesPending (entry_of three_entries) 4 1 (2 ∷ []) → ⊥
+  pub staked : AreKeysStaked (entry_of three_entries) 4 (2 ∷ [])
+  pub no_stake : AreKeysStaked (entry_of three_entries) 4 (3 ∷ []) → ⊥
   -- it says how many frames there are
-  pub as_many : (k : Holding) → HoldingShows 4 k (bare ∷ []) [] [] [] [] → HoldingShows 4 k (bare ∷ bare ∷ []) [] [] [] [] → ⊥
+  pub as_many : (k : Holding) → HoldingShows 4 k (bare_environment ∷ []) [] [] [] [] → HoldingShows 4 k (bare_environment ∷ bare_environment ∷ []) [] [] [] [] → ⊥
   -- changes
-  pub last : IsProtectedLast (holder_of (naming ∷ bare ∷ [])) (Numbered 2)
-  pub not_last : IsProtectedLast (holder_of (bare ∷ naming ∷ [])) (Numbered 2) → ⊥
-  pub named : IsUnnamed (Numbered 2) (bare ∷ naming ∷ []) → ⊥
-  pub unnamed : IsUnnamed (Numbered 3) (bare ∷ naming ∷ [])
-  pub settles : EnvironmentsSettle 1 3 (bare ∷ naming ∷ []) (bare ∷ bare ∷ naming ∷ [])
-  pub guarded_above : EnvironmentsSettle 0 1 (naming ∷ []) (bare ∷ []) → ⊥
-  pub fewer : EnvironmentsSettle 1 2 (bare ∷ naming ∷ []) (naming ∷ []) → ⊥
+  pub last : IsProtectedLast (holder_of (naming ∷ bare_environment ∷ [])) (Numbered 2)
+  pub not_last : IsProtectedLast (holder_of (bare_environment ∷ naming ∷ [])) (Numbered 2) → ⊥
+  pub named : IsUnboundRegion (Numbered 2) (bare_environment ∷ naming ∷ []) → ⊥
+  pub unnamed : IsUnboundRegion (Numbered 3) (bare_environment ∷ naming ∷ [])
+  pub settles : EnvironmentsSettle 1 3 (bare_environment ∷ naming ∷ []) (bare_environment ∷ bare_environment ∷ naming ∷ [])
+  pub guarded_above : EnvironmentsSettle 0 1 (naming ∷ []) (bare_environment ∷ []) → ⊥
+  pub fewer : EnvironmentsSettle 1 2 (bare_environment ∷ naming ∷ []) (naming ∷ []) → ⊥
   pub cuts : cut 1 (frame 3 ∷ frame 2 ∷ frame 1 ∷ []) ≡ frame 1 ∷ []
-  pub clears : changed_at 2 (λ keys. cleared keys (1 ∷ [])) (frame 2 ∷ []) ≡ record { height = 2; keys = None ∷ None ∷ [] } ∷ []
-  pub clears_below : changed_at 3 (λ keys. cleared keys (1 ∷ [])) (frame 2 ∷ []) ≡ frame 2 ∷ []
+  pub clears : keys_changed_at 2 (λ keys. cleared_keys keys (1 ∷ [])) (frame 2 ∷ []) ≡ record { height = 2; keys = None ∷ None ∷ [] } ∷ []
+  pub clears_below : keys_changed_at 3 (λ keys. cleared_keys keys (1 ∷ [])) (frame 2 ∷ []) ≡ frame 2 ∷ []
   pub enters : with_named 2 [] (frame 1 ∷ []) ≡ frame 1 ∷ []
   -- what is passed
   pub passes : key_for (NoClass ∷ Name 5 ∷ Name 5 ∷ []) (Some third ∷ Some second ∷ Some global_key ∷ []) 5 ≡ Some second

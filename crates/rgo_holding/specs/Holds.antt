@@ -9,14 +9,14 @@ use Rattle.rgo_holding.specs.declared.entries.Entry.{Entry}
 use Rattle.rgo_holding.specs.declared.holding.Holding.{Holding}
 use Rattle.rgo_holding.specs.declared.keys.Key.{Key}
 use Rattle.rgo_holding.specs.Known.{AreCounted, AreStakesPending, AreKeysStaked, HavePages, KeySlotsDiffer, entry_of, entry_region}
-use Rattle.rgo_holding.specs.Tables.{IsOrdered, NamesStand, named}
+use Rattle.rgo_holding.specs.Tables.{IsOrdered, NamesStand, named_frames}
 
 abbrev pub entry_at : Holding → Key → Option Entry
 entry_at k key = entry_of k.entries.items key
 
 -- the region of a key that is in use
-abbrev pub region_at : Holding → Key → Option Region
-region_at k key = option_map (entry_region k.slots) (entry_at k key)
+abbrev pub region_of_key : Holding → Key → Option Region
+region_of_key k key = option_map (entry_region k.slots) (entry_at k key)
 
 pub record HoldingShows
     (slots : ℕ) (k : Holding) (es : List RegionEnvironment) (base : List Region) (pending stakes : List ℕ) (fills : List Fill)
@@ -24,9 +24,9 @@ pub record HoldingShows
   pub slots_are : k.slots ≡ slots
   pub depth : k.frames.depth ≡ length es
   pub ordered : IsOrdered k.frames
-  pub names : NamesStand (region_at k) (named k.frames) es
+  pub names : NamesStand (region_of_key k) (named_frames k.frames) es
   -- the first one is the last in the list
-  pub base_is : map (region_at k) (reverse k.base.items) ≡ map Some base
+  pub base_is : map (region_of_key k) (reverse k.base.items) ≡ map Some base
   pub differ : KeySlotsDiffer (entry_at k) k.slots
   pub counted : AreCounted (entry_at k) k.slots es base
   pub pages : HavePages (entry_at k) fills

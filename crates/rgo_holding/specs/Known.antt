@@ -32,9 +32,9 @@ global_key = record { 0 = 0 }
 abbrev pub region_of : (slots slot : ℕ) → Region
 region_of slots s = if nat_eq s slots then GlobalRegion else Numbered s
 
-abbrev pub slot_of : (slots : ℕ) → Region → ℕ
-slot_of slots GlobalRegion = slots
-slot_of slots (Numbered p) = p
+abbrev pub slot_or_global : (slots : ℕ) → Region → ℕ
+slot_or_global slots GlobalRegion = slots
+slot_or_global slots (Numbered p) = p
 
 abbrev pub entry_region : (slots : ℕ) → Entry → Region
 entry_region slots e = region_of slots e.slot

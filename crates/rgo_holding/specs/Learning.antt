@@ -9,7 +9,7 @@ use Rattle.rgo_sound.specs.Stakes.{is_in}
 use Rattle.rgo_holding.specs.declared.entries.Entry.{Entry}
 use Rattle.rgo_holding.specs.declared.holding.Holding.{Holding}
 use Rattle.rgo_holding.specs.declared.keys.Key.{Key}
-use Rattle.rgo_holding.specs.Holds.{HoldingShows, entry_at, region_at}
+use Rattle.rgo_holding.specs.Holds.{HoldingShows, entry_at, region_of_key}
 use Rattle.rgo_holding.specs.Known.{slot_in}
 
 -- `known` has the keys of all its regions but Global, by their slots
@@ -19,7 +19,7 @@ pub record Tracks (k : Holding) (known : ℕ → Option Key) : Type 0 where
 
 -- each key that was in use is of the same region
 abbrev pub StillOf : Holding → Holding → Type 0
-StillOf k l = (key : Key) (r : Region) → region_at k key ≡ Some r → region_at l key ≡ Some r
+StillOf k l = (key : Key) (r : Region) → region_of_key k key ≡ Some r → region_of_key l key ≡ Some r
 
 -- each of these slots is known, and is not that of Global
 abbrev pub SlotsKnown : (slots : ℕ) → (known : ℕ → Option Key) → List ℕ → Type 0
@@ -30,13 +30,13 @@ abbrev pub ShowsFresh : (slots : ℕ) → Holding → (base : List Region) → (
 ShowsFresh slots k base stakes = (e : RegionEnvironment) → e.names ≡ [] → e.protections ≡ [] → HoldingShows slots k (e ∷ []) base [] stakes []
 
 -- the goroutine may be given this: it has a stake in it, or it is Global or nothing
-abbrev pub IsGiven : (slots : ℕ) → (stakes : List ℕ) → Option Region → Type 0
-IsGiven slots stakes None = Unit {0}
-IsGiven slots stakes (Some GlobalRegion) = Unit {0}
-IsGiven slots stakes (Some (Numbered p)) = (p ≢ slots) × (is_in p stakes ≡ true)
+abbrev pub MayBeGiven : (slots : ℕ) → (stakes : List ℕ) → Option Region → Type 0
+MayBeGiven slots stakes None = Unit {0}
+MayBeGiven slots stakes (Some GlobalRegion) = Unit {0}
+MayBeGiven slots stakes (Some (Numbered p)) = (p ≢ slots) × (is_in p stakes ≡ true)
 
 abbrev pub AreGiven : (slots : ℕ) → (stakes : List ℕ) → List (Option Region) → Type 0
-AreGiven slots stakes given = AllByRecursion (IsGiven slots stakes) given
+AreGiven slots stakes given = AllByRecursion (MayBeGiven slots stakes) given
 
 -- it knows all that it is given, by these keys
 pub record Learned
@@ -44,4 +44,4 @@ pub record Learned
     : Type 0 where
   pub tracks : Tracks k known
   pub shows : ShowsFresh slots k [] stakes
-  pub keys_are : map (option_map (region_at k)) keys ≡ map (option_map Some) given
+  pub keys_are : map (option_map (region_of_key k)) keys ≡ map (option_map Some) given

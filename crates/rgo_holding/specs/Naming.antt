@@ -2,7 +2,7 @@
 use Rattle.std.specs.Prelude.{◌≡◌, ◌<◌, ◌≤◌, ◌-◌, ◌+◌, ◌^◌, ℕ, Bool, false, List, [], ◌∷◌, Option, Some, None, if◌then◌else◌, nat_eq, nat_lt, reverse, slice_set, vec_capacity, vec_len}
 use Rattle.rgo_holding.specs.declared.frames.Frames.{Frames}
 use Rattle.rgo_holding.specs.declared.frames.Table.{Table}
-use Rattle.rgo_holding.specs.Tables.{IsOrdered, Keys, Named, key_in, named, named_below, newest_keys}
+use Rattle.rgo_holding.specs.Tables.{IsOrdered, Keys, Named, key_in, named_frames, named_below, newest_keys}
 
 -- where the keys of the frame of this height begin, if the first table is its
 abbrev pub start_at : List Table → ℕ → Option ℕ
@@ -21,14 +21,14 @@ pub record SameTables (f g : Frames) : Type 0 where
 -- each name has the key that it had
 pub record SameNames (f g : Frames) : Type 0 where
   pub keys : (k : ℕ) → key_in (newest_keys g) k ≡ key_in (newest_keys f) k
-  pub below : named_below (named g) g.depth ≡ named_below (named f) f.depth
+  pub below : named_below (named_frames g) g.depth ≡ named_below (named_frames f) f.depth
   pub depth : g.depth ≡ f.depth
   pub ordered : IsOrdered g
 
 -- the frame of this height has other keys, if it is the newest that has a table
-abbrev pub changed_at : (height : ℕ) → (Keys → Keys) → List Named → List Named
-changed_at n change [] = []
-changed_at n change (f ∷ fs) = (if nat_eq f.height n then record f { keys = change f.keys } else f) ∷ fs
+abbrev pub keys_changed_at : (height : ℕ) → (Keys → Keys) → List Named → List Named
+keys_changed_at n change [] = []
+keys_changed_at n change (f ∷ fs) = (if nat_eq f.height n then record f { keys = change f.keys } else f) ∷ fs
 
 -- there is memory for a frame with this many names
 pub record HasFrameRoom (f : Frames) (names : ℕ) : Type 0 where
@@ -42,14 +42,14 @@ KeepsRoom f g = (n : ℕ) → HasFrameRoom f n → HasFrameRoom g n
 
 -- the newest frame has other keys, and nothing else has changed
 pub record Changed (f g : Frames) (change : Keys → Keys) : Type 0 where
-  pub named : named g ≡ changed_at f.depth change (named f)
+  pub named : named_frames g ≡ keys_changed_at f.depth change (named_frames f)
   pub depth : g.depth ≡ f.depth
   pub ordered : IsOrdered g
 
 -- the keys without those of these names
-abbrev pub cleared : Keys → List ℕ → Keys
-cleared keys [] = keys
-cleared keys (k ∷ ks) = cleared (slice_set keys k None) ks
+abbrev pub cleared_keys : Keys → List ℕ → Keys
+cleared_keys keys [] = keys
+cleared_keys keys (k ∷ ks) = cleared_keys (slice_set keys k None) ks
 
 -- the newest table is gone
 abbrev pub behind_first : List Named → List Named
@@ -57,7 +57,7 @@ behind_first [] = []
 behind_first (f ∷ fs) = fs
 
 pub record Drops (f g : Frames) : Type 0 where
-  pub named : IsOrdered f → named g ≡ behind_first (named f)
+  pub named : IsOrdered f → named_frames g ≡ behind_first (named_frames f)
   pub depth : g.depth ≡ f.depth
   pub ordered : IsOrdered f → IsOrdered g
   pub fewer : vec_len g.tables ≡ vec_len f.tables - 1
@@ -73,13 +73,13 @@ with_named height [] fs = fs
 with_named height (key ∷ keys) fs = record { height = height; keys = key ∷ keys } ∷ fs
 
 pub record NamedFrameEnters (f g : Frames) (keys : Keys) : Type 0 where
-  pub named : named g ≡ with_named (f.depth + 1) keys (named f)
+  pub named : named_frames g ≡ with_named (f.depth + 1) keys (named_frames f)
   pub depth : g.depth ≡ f.depth + 1
   pub ordered : IsOrdered f → IsOrdered g
 
 -- the newest frame goes
 pub record NamedFrameReturns (f g : Frames) : Type 0 where
-  pub named : IsOrdered f → named g ≡ named_below (named f) f.depth
+  pub named : IsOrdered f → named_frames g ≡ named_below (named_frames f) f.depth
   pub depth : g.depth ≡ f.depth - 1
   pub ordered : IsOrdered f → IsOrdered g
 
@@ -89,12 +89,12 @@ cut kept [] = []
 cut kept (f ∷ fs) = if nat_lt kept f.height then cut kept fs else f ∷ fs
 
 pub record Cuts (f g : Frames) (kept many : ℕ) : Type 0 where
-  pub named : IsOrdered f → named g ≡ cut kept (named f)
+  pub named : IsOrdered f → named_frames g ≡ cut kept (named_frames f)
   pub depth : g.depth ≡ many
   pub ordered : IsOrdered f → IsOrdered g
 
 -- the only frame, which had no table, has these keys
 pub record NamesFirst (f g : Frames) (keys : Keys) : Type 0 where
-  pub named : f.tables.items ≡ [] → named g ≡ record { height = 1; keys = keys } ∷ []
+  pub named : f.tables.items ≡ [] → named_frames g ≡ record { height = 1; keys = keys } ∷ []
   pub depth : g.depth ≡ f.depth
   pub ordered : f.tables.items ≡ [] → IsOrdered g

@@ -28,8 +28,8 @@ abbrev pub StartWithin : Keys → List Table → Type 0
 StartWithin keys [] = Unit {0}
 StartWithin keys (t ∷ ts) = (t.start ≤ length keys) × StartWithin (take t.start keys) ts
 
-abbrev pub named : Frames → List Named
-named f = named_in f.keys.items (reverse f.tables.items)
+abbrev pub named_frames : Frames → List Named
+named_frames f = named_in f.keys.items (reverse f.tables.items)
 
 abbrev pub IsOrdered : Frames → Type 0
 IsOrdered f = StartWithin f.keys.items (reverse f.tables.items)
@@ -56,7 +56,7 @@ named_below (f ∷ fs) n = if nat_eq f.height n then fs else f ∷ fs
 
 -- the keys of the newest frame
 abbrev pub newest_keys : Frames → Keys
-newest_keys f = keys_at (named f) f.depth
+newest_keys f = keys_at (named_frames f) f.depth
 
 -- ---- what they are bound to; `region` has the region of each key that is in use
 

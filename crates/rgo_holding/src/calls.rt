@@ -6,10 +6,10 @@ ghost use Rattle.std.specs.Prelude.{◌≡◌, ℕ, [], List, OnOk, map};
 ghost use Rattle.rgo_core_memory.specs.Records.{Fill};
 ghost use Rattle.rgo_sound.specs.RegionMachine.Owed as owed;
 ghost use Rattle.rgo_sound.specs.RegionMachine.States.{Holder};
-ghost use Rattle.rgo_holding.specs.Changes.{Keeps, SameRegions};
+ghost use Rattle.rgo_holding.specs.Changes.{KeepsHolding, SameRegions};
 ghost use Rattle.rgo_holding.specs.Holds.{IsHoldingOf};
 ghost use Rattle.rgo_holding.specs.Passing as spec;
-ghost use Rattle.rgo_holding.specs.Naming.{Changed, KeepsRoom, cleared};
+ghost use Rattle.rgo_holding.specs.Naming.{Changed, KeepsRoom, cleared_keys};
 ghost use Rattle.rgo_holding.specs.Tables.{IsOrdered, key_in};
 
 use crate::frames::{Frames, key_of};
@@ -133,7 +133,7 @@ fn leave_given(
 )
     requires rises { IsStrictlyIncreasing protects.now }
     ensures clears { IsOrdered frames.old → Changed frames.old frames.new
-        (λ keys. cleared keys (owed.given_names lent formals.now passes.now protects.now)) }
+        (λ keys. cleared_keys keys (owed.given_names lent formals.now passes.now protects.now)) }
     ensures room { KeepsRoom frames.old frames.new }
 {
     for i in 0..formals.len().min(passes.len()) {
@@ -155,7 +155,7 @@ impl Holding {
     ///
     /// On allocation failure. Nothing has changed, whatever the result.
     pub fn prepare_call(&mut self, formals: &[Class], passes: &[Class]) -> Result<(), AllocError>
-        ensures kept { Keeps self.old self.new }
+        ensures kept { KeepsHolding self.old self.new }
         ensures prepared { OnOk result (spec.IsPrepared self.new formals.now passes.now) }
         ensures regions { SameRegions self.old self.new }
     {

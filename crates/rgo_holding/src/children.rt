@@ -13,7 +13,7 @@ ghost use Rattle.rgo_sound.specs.RegionMachine.declared.regions.Region.TheVarian
 ghost use Rattle.rgo_sound.specs.Stakes.{is_in};
 ghost use Rattle.rgo_holding.specs.Changes.{SameRegions};
 ghost use Rattle.rgo_holding.specs.Entries.{Key as KeyRecord};
-ghost use Rattle.rgo_holding.specs.Holds.{IsHoldingOf, region_at};
+ghost use Rattle.rgo_holding.specs.Holds.{IsHoldingOf, region_of_key};
 ghost use Rattle.rgo_holding.specs.Learning as spec;
 ghost use Rattle.rgo_holding.specs.Passing.{AreRegionsPassed, ChildHoldingBegins};
 
@@ -121,7 +121,7 @@ impl Holding {
             → spec.ShowsFresh slots self.old [] stakes → slot ≢ slots → is_in slot stakes ≡ true
             → spec.ShowsFresh slots self.new [] stakes) }
         ensures key { IfOk result (λ key. spec.Tracks self.old (get nat_eq known.old) → slot ≢ self.old.slots
-            → region_at self.new key ≡ Some (Numbered slot)) }
+            → region_of_key self.new key ≡ Some (Numbered slot)) }
         ensures still { OnOk result (spec.StillOf self.old self.new) }
         ensures kept { (self.new.slots ≡ self.old.slots) × (self.new.frames ≡ self.old.frames) }
     {
@@ -151,11 +151,11 @@ impl Holding {
     ) -> Result<Option<Key>, AllocError>
         ensures tracks { OnOk result (spec.Tracks self.old (get nat_eq known.old) → spec.Tracks self.new (get nat_eq known.new)) }
         ensures shows { OnOk result ((slots : ℕ) (stakes : List ℕ) → spec.Tracks self.old (get nat_eq known.old)
-            → spec.ShowsFresh slots self.old [] stakes → spec.IsGiven slots stakes given
+            → spec.ShowsFresh slots self.old [] stakes → spec.MayBeGiven slots stakes given
             → spec.ShowsFresh slots self.new [] stakes) }
         ensures key { IfOk result (λ key. (slots : ℕ) (stakes : List ℕ) → spec.Tracks self.old (get nat_eq known.old)
-            → spec.ShowsFresh slots self.old [] stakes → spec.IsGiven slots stakes given
-            → option_map (region_at self.new) key ≡ option_map Some given) }
+            → spec.ShowsFresh slots self.old [] stakes → spec.MayBeGiven slots stakes given
+            → option_map (region_of_key self.new) key ≡ option_map Some given) }
         ensures still { OnOk result (spec.StillOf self.old self.new) }
         ensures kept { (self.new.slots ≡ self.old.slots) × (self.new.frames ≡ self.old.frames) }
     {
@@ -198,7 +198,7 @@ impl Holding {
     /// On allocation failure, or if the count of protections of the region would overflow.
     fn add_base(&mut self, key: Key) -> Result<(), AllocError>
         ensures adds { OnOk result ((slots : ℕ) (h : Holder) (fills : List Fill) (r : RegionRecord) → IsHoldingOf slots self.old h fills
-            → region_at self.old key ≡ Some r → IsHoldingOf slots self.new (record h { base = r ∷ h.base }) fills) }
+            → region_of_key self.old key ≡ Some r → IsHoldingOf slots self.new (record h { base = r ∷ h.base }) fills) }
         ensures tracks { OnOk result ((known : ℕ → Option KeyRecord) → spec.Tracks self.old known → spec.Tracks self.new known) }
         ensures regions { OnOk result (SameRegions self.old self.new) }
         ensures kept { (self.new.slots ≡ self.old.slots) × (self.new.frames ≡ self.old.frames) }

@@ -1,7 +1,7 @@
 //! Entries of regions that a goroutine knows.
 
 ghost use Rattle.std.specs.Prelude.{◌≡◌, IfOk, slice_set};
-ghost use Rattle.rgo_holding.specs.Changes.{IsSpare};
+ghost use Rattle.rgo_holding.specs.Changes.{IsSpareKey};
 ghost use Rattle.rgo_holding.specs.Entries as spec;
 ghost use Rattle.rgo_holding.specs.Known.{entry_of as entry_is};
 
@@ -92,7 +92,7 @@ fn is_spare(entries: &[Entry], key: Key) -> bool
 /// On allocation failure, or if keys run out.
 fn add_spare(entries: &mut Vec<Entry>) -> Result<Key, AllocError>
     ensures same { (key : spec.Key) → entry_is entries.new.items key ≡ entry_is entries.old.items key }
-    ensures spare { IfOk result (IsSpare entries.new.items) }
+    ensures spare { IfOk result (IsSpareKey entries.new.items) }
 {
     let Ok(place) = u32::try_from(entries.len()) else {
         return Err(AllocError);
@@ -108,7 +108,7 @@ fn add_spare(entries: &mut Vec<Entry>) -> Result<Key, AllocError>
 /// On allocation failure, or if keys run out. Then no entry has changed.
 pub(crate) fn spare_key(entries: &mut Vec<Entry>, free: &mut Vec<Key>) -> Result<Key, AllocError>
     ensures same { (key : spec.Key) → entry_is entries.new.items key ≡ entry_is entries.old.items key }
-    ensures spare { IfOk result (IsSpare entries.new.items) }
+    ensures spare { IfOk result (IsSpareKey entries.new.items) }
 {
     if let Some(key) = free.pop() {
         if is_spare(entries, key) {

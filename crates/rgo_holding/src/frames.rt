@@ -3,7 +3,7 @@
 
 ghost use Rattle.std.specs.Prelude.{◌≡◌, ◌<◌, [], Some, None, OnOk, OnErr, IfOk, length, slice_set};
 ghost use Rattle.rgo_holding.specs.Naming as spec;
-ghost use Rattle.rgo_holding.specs.Tables.{IsOrdered, key_in, named, newest_keys};
+ghost use Rattle.rgo_holding.specs.Tables.{IsOrdered, key_in, named_frames, newest_keys};
 
 use crate::keys::Key;
 use std::alloc::{AllocError, Global};
@@ -216,7 +216,7 @@ impl Frames {
     /// Whether the newest table is of a frame above this height.
     #[inline(always)]
     fn is_above(&self, height: usize) -> bool
-        ensures { result ≡ spec.is_above height (named self.now) }
+        ensures { result ≡ spec.is_above height (named_frames self.now) }
     {
         match self.tables.last() {
             Some(table) => table.height > height,

@@ -16,9 +16,9 @@ ghost use Rattle.rgo_sound.specs.RegionMachine.declared.regions.Region.{Region a
 ghost use Rattle.rgo_sound.specs.RegionMachine.declared.regions.Region.TheVariants.{Numbered};
 ghost use Rattle.rgo_sound.specs.Tac.Frames.{TacFrame};
 ghost use Rattle.rgo_holding.specs.Changes as spec;
-ghost use Rattle.rgo_holding.specs.Holds.{IsHoldingOf, region_at};
+ghost use Rattle.rgo_holding.specs.Holds.{IsHoldingOf, region_of_key};
 ghost use Rattle.rgo_holding.specs.Learning.{ShowsFresh, Tracks};
-ghost use Rattle.rgo_holding.specs.Known.{own_page, slot_of};
+ghost use Rattle.rgo_holding.specs.Known.{own_page, slot_or_global};
 
 use crate::entries::{Entry, Page, entry_of, forget_rounds, new_entry, put, spare_key};
 use crate::frames::{Frames, key_of};
@@ -92,7 +92,7 @@ impl Holding {
     #[inline(always)]
     pub fn key(&self, name: u32) -> Option<Key>
         ensures { (slots : ℕ) (h : Holder) (fills : List Fill) → IsHoldingOf slots self.now h fills
-            → option_map (region_at self.now) result ≡ option_map Some (bound (top_names h.environments) name) }
+            → option_map (region_of_key self.now) result ≡ option_map Some (bound (top_names h.environments) name) }
     {
         key_of(self.frames.newest(), name)
     }
@@ -100,7 +100,7 @@ impl Holding {
     /// The key of the region of a class of the newest frame.
     pub fn key_of(&self, class: Class) -> Option<Key>
         ensures { (slots : ℕ) (h : Holder) (fills : List Fill) → IsHoldingOf slots self.now h fills
-            → option_map (region_at self.now) result ≡ option_map Some (class_region (top_names h.environments) class) }
+            → option_map (region_of_key self.now) result ≡ option_map Some (class_region (top_names h.environments) class) }
     {
         match class {
             Class::NoClass => None,
@@ -113,8 +113,8 @@ impl Holding {
     #[inline(always)]
     pub fn slot(&self, key: Key) -> u32
         ensures any { (slots : ℕ) (h : Holder) (fills : List Fill) (r : RegionRecord) → IsHoldingOf slots self.now h fills
-            → region_at self.now key ≡ Some r → result ≡ slot_of slots r }
-        ensures numbered { (p : ℕ) → region_at self.now key ≡ Some (Numbered p) → result ≡ p }
+            → region_of_key self.now key ≡ Some r → result ≡ slot_or_global slots r }
+        ensures numbered { (p : ℕ) → region_of_key self.now key ≡ Some (Numbered p) → result ≡ p }
     {
         match entry_of(&self.entries, key) {
             Some(entry) => entry.slot,
@@ -124,7 +124,7 @@ impl Holding {
 
     /// A region, by its slot.
     pub fn region(&self, key: Key) -> Region
-        ensures { (r : RegionRecord) → region_at self.now key ≡ Some r → result ≡ r }
+        ensures { (r : RegionRecord) → region_of_key self.now key ≡ Some r → result ≡ r }
     {
         match entry_of(&self.entries, key) {
             Some(entry) => if entry.slot == self.slots {
@@ -145,9 +145,9 @@ impl Holding {
     /// If the count of protections of the region would overflow. Then nothing has changed.
     pub fn protect(&mut self, key: Key) -> Result<(), AllocError>
         ensures protects { OnOk result ((slots : ℕ) (h : Holder) (fills : List Fill) (r : RegionRecord)
-            → IsHoldingOf slots self.old h fills → region_at self.old key ≡ Some r → 0 < length h.environments
+            → IsHoldingOf slots self.old h fills → region_of_key self.old key ≡ Some r → 0 < length h.environments
             → IsHoldingOf slots self.new (spec.protecting h r) fills) }
-        ensures kept { OnErr result (spec.Keeps self.old self.new) }
+        ensures kept { OnErr result (spec.KeepsHolding self.old self.new) }
         ensures regions { spec.SameRegions self.old self.new }
     {
         let Some(mut entry) = entry_of(&self.entries, key) else {
@@ -164,7 +164,7 @@ impl Holding {
     /// The newest frame ends one of its protections of a region.
     pub fn unprotect(&mut self, key: Key)
         ensures unprotects { (slots : ℕ) (h : Holder) (fills : List Fill) (r : RegionRecord) → IsHoldingOf slots self.old h fills
-            → region_at self.old key ≡ Some r → spec.IsProtectedLast h r → IsHoldingOf slots self.new (unprotected h r) fills }
+            → region_of_key self.old key ≡ Some r → spec.IsProtectedLast h r → IsHoldingOf slots self.new (unprotected h r) fills }
         ensures regions { spec.SameRegions self.old self.new }
     {
         let Some(mut entry) = entry_of(&self.entries, key) else {
@@ -177,7 +177,7 @@ impl Holding {
     /// Whether a region is protected.
     pub fn guards(&self, key: Key) -> bool
         ensures { (slots : ℕ) (h : Holder) (fills : List Fill) (r : RegionRecord) → IsHoldingOf slots self.now h fills
-            → region_at self.now key ≡ Some r → result ≡ guards_in h.base h.environments r }
+            → region_of_key self.now key ≡ Some r → result ≡ guards_in h.base h.environments r }
     {
         match entry_of(&self.entries, key) {
             Some(entry) => entry.protections > 0,
@@ -211,7 +211,7 @@ impl Holding {
     /// Whether the first region that is protected since the start is protected otherwise, too.
     pub fn guards_beyond_base(&self, key: Key) -> bool
         ensures { (slots : ℕ) (h : Holder) (fills : List Fill) (r : RegionRecord) (rest : List RegionRecord)
-            → IsHoldingOf slots self.now h fills → region_at self.now key ≡ Some r → h.base ≡ r ∷ rest
+            → IsHoldingOf slots self.now h fills → region_of_key self.now key ≡ Some r → h.base ≡ r ∷ rest
             → result ≡ guards_in rest h.environments r }
     {
         match entry_of(&self.entries, key) {
@@ -255,7 +255,7 @@ impl Holding {
     ///
     /// On allocation failure, or if there is no frame. Nothing has changed, whatever the result.
     pub fn reserve(&mut self, name: u32) -> Result<(), AllocError>
-        ensures kept { spec.Keeps self.old self.new }
+        ensures kept { spec.KeepsHolding self.old self.new }
         ensures room { OnOk result (spec.HoldingHasRoom self.new name) }
         ensures regions { spec.SameRegions self.old self.new }
     {
@@ -272,7 +272,7 @@ impl Holding {
     pub fn create(&mut self, name: u32, slot: u32)
         requires room { spec.HoldingHasRoom self.old name }
         ensures { (slots : ℕ) (h : Holder) (fills : List Fill) → IsHoldingOf slots self.old h fills
-            → spec.IsNew slots h fills slot → IsHoldingOf slots self.new (spec.creating h name slot) fills }
+            → spec.IsNewSlot slots h fills slot → IsHoldingOf slots self.new (spec.creating h name slot) fills }
     {
         // The caller has taken memory by `reserve`, so there is a key.
         let Some(key) = self.next else {
@@ -288,8 +288,8 @@ impl Holding {
     /// The stake in a region has ended. The key must not be used any more: its entry may come to be that of another region.
     pub fn leave(&mut self, key: Key)
         ensures { (slots : ℕ) (h : Holder) (fills : List Fill) (p : ℕ) → IsHoldingOf slots self.old h fills
-            → region_at self.old key ≡ Some (Numbered p) → spec.IsUnknown h p
-            → IsHoldingOf slots self.new (spec.ending h p) (dropped p fills) }
+            → region_of_key self.old key ≡ Some (Numbered p) → spec.IsUnknown h p
+            → IsHoldingOf slots self.new (spec.ending_stake h p) (dropped p fills) }
     {
         let Some(mut entry) = entry_of(&self.entries, key) else {
             return;
@@ -303,7 +303,7 @@ impl Holding {
     /// Whether a stake in a region is taken for the next goroutine that is started.
     pub fn is_pending(&self, key: Key) -> bool
         ensures { (slots : ℕ) (h : Holder) (fills : List Fill) (p : ℕ) → IsHoldingOf slots self.now h fills
-            → region_at self.now key ≡ Some (Numbered p) → result ≡ list_any (nat_eq p) h.pending }
+            → region_of_key self.now key ≡ Some (Numbered p) → result ≡ list_any (nat_eq p) h.pending }
     {
         match entry_of(&self.entries, key) {
             Some(entry) => entry.shared == self.round,
@@ -314,7 +314,7 @@ impl Holding {
     /// A stake in a region is taken for the next goroutine that is started.
     pub fn add_pending(&mut self, key: Key)
         ensures adds { (slots : ℕ) (h : Holder) (fills : List Fill) (p : ℕ) → IsHoldingOf slots self.old h fills
-            → region_at self.old key ≡ Some (Numbered p) → IsHoldingOf slots self.new (spec.sharing h p) fills }
+            → region_of_key self.old key ≡ Some (Numbered p) → IsHoldingOf slots self.new (spec.sharing_stake h p) fills }
         ensures regions { spec.SameRegions self.old self.new }
     {
         let Some(mut entry) = entry_of(&self.entries, key) else {
@@ -345,7 +345,7 @@ impl Holding {
     #[inline(always)]
     pub fn page(&self, key: Key) -> Option<Page>
         ensures { (slots : ℕ) (h : Holder) (fills : List Fill) (r : RegionRecord) → IsHoldingOf slots self.now h fills
-            → region_at self.now key ≡ Some r → option_map (own_page (slot_of slots r)) result ≡ page_of (slot_of slots r) fills }
+            → region_of_key self.now key ≡ Some r → option_map (own_page (slot_or_global slots r)) result ≡ page_of (slot_or_global slots r) fills }
     {
         match entry_of(&self.entries, key) {
             Some(entry) => entry.page,
@@ -356,8 +356,8 @@ impl Holding {
     /// A page was claimed for a region; no word of it is filled.
     pub fn claimed(&mut self, key: Key, page: u32)
         ensures claims { (slots : ℕ) (h : Holder) (fills : List Fill) (r : RegionRecord) → IsHoldingOf slots self.old h fills
-            → region_at self.old key ≡ Some r → IsHoldingOf slots self.new h
-            (record { slot = slot_of slots r; page = page; fill = 0 } ∷ dropped (slot_of slots r) fills) }
+            → region_of_key self.old key ≡ Some r → IsHoldingOf slots self.new h
+            (record { slot = slot_or_global slots r; page = page; fill = 0 } ∷ dropped (slot_or_global slots r) fills) }
         ensures regions { spec.SameRegions self.old self.new }
     {
         let Some(mut entry) = entry_of(&self.entries, key) else {
@@ -371,7 +371,7 @@ impl Holding {
     #[inline(always)]
     pub fn fill(&mut self, key: Key, words: u32)
         ensures fills { (slots : ℕ) (h : Holder) (fills : List Fill) (r : RegionRecord) → IsHoldingOf slots self.old h fills
-            → region_at self.old key ≡ Some r → IsHoldingOf slots self.new h (raised (slot_of slots r) words fills) }
+            → region_of_key self.old key ≡ Some r → IsHoldingOf slots self.new h (raised (slot_or_global slots r) words fills) }
         ensures regions { spec.SameRegions self.old self.new }
     {
         let Some(mut entry) = entry_of(&self.entries, key) else {

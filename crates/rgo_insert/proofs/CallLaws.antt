@@ -11,7 +11,7 @@ use Rattle.rgo_classes.specs.declared.classes.Summary.{Summary}
 use Rattle.rgo_classes.specs.Classes.{AreClasses, InOneClass}
 use Rattle.rgo_classes.specs.Joins.{IsPointerLike, Joins}
 use Rattle.rgo_classes.proofs.Chains.{contains}
-use Rattle.rgo_summaries.specs.Calls.{CallParts, callee_at, member, passed}
+use Rattle.rgo_summaries.specs.Calls.{CallParts, call_and_callee_at, member, passed_member}
 use Rattle.rgo_summaries.specs.Names.{SummaryNames}
 use Rattle.rgo_summaries.proofs.Naming.{InOne, together}
 use Rattle.rgo_summaries.proofs.Outer.{place, some_get}
@@ -31,12 +31,12 @@ pub record CallFits (f g : TacFn) (call : CallParts) : Type 0 where
   pub arguments : length call.from ≡ g.params
   pub params : g.params ≤ length g.variables
   pub target : (ty : «Type») → g.result_type ≡ Some ty → (d : ℕ) × (call.to ≡ Some d)
-  pub like : (m v : ℕ) → passed call m ≡ Some (Variable v) → IsPointerLike g (member m) → IsPointerLike f (Variable v)
+  pub like : (m v : ℕ) → passed_member call m ≡ Some (Variable v) → IsPointerLike g (member m) → IsPointerLike f (Variable v)
 
 module _ (code : Tac) (sums : List Summary) (f g : TacFn) (rf rg : Regions)
     (f_are : AreClasses sums f (classes_by rf)) (g_are : AreClasses sums g (classes_by rg))
     (s : Summary) (names : SummaryNames (InOne sums g) g s)
-    (at : ℕ) (call : CallParts) (here : callee_at code f at ≡ Some (call, g))
+    (at : ℕ) (call : CallParts) (here : call_and_callee_at code f at ≡ Some (call, g))
     (known : slice_get sums call.function ≡ Some s)
     (fits : CallFits f g call) where
   abbrev caller : CodeFn
@@ -68,8 +68,8 @@ module _ (code : Tac) (sums : List Summary) (f g : TacFn) (rf rg : Regions)
 
   -- members of one class are passed what is of one class
   same_actual : (m n v : ℕ) (b : Member) → m < g.params + 2 → n < g.params + 2 → IsPointerLike g (member m)
-      → IsPointerLike g (member n) → InOneClass sums g (member m) (member n) → passed call m ≡ Some (Variable v)
-      → passed call n ≡ Some b → IsPointerLike f b → class_of caller v ≡ member_class caller b
+      → IsPointerLike g (member n) → InOneClass sums g (member m) (member n) → passed_member call m ≡ Some (Variable v)
+      → passed_member call n ≡ Some b → IsPointerLike f b → class_of caller v ≡ member_class caller b
   same_actual m n v b lm ln pm pn same e h like =
       let t : Together s m n = together (InOne sums g) g s names m n (lm, pm) (ln, pn) same in
       let own = fits.like m v e pm in
@@ -82,7 +82,7 @@ module _ (code : Tac) (sums : List Summary) (f g : TacFn) (rf rg : Regions)
       passes) where
     -- a member whose class has a name is passed a variable
     actual_of : (m k : ℕ) → 0 < m → m < g.params + 2 → class_there m ≡ class.Name k
-        → (v : ℕ) × (passed call m ≡ Some (Variable v))
+        → (v : ℕ) × (passed_member call m ≡ Some (Variable v))
     actual_of zero k some outer e = absurd (omega (arith, some))
     actual_of (suc zero) k some outer e =
         let h = has_class 1 some (λ z. named k (sym e ∙ z)) in
@@ -96,7 +96,7 @@ module _ (code : Tac) (sums : List Summary) (f g : TacFn) (rf rg : Regions)
         let a = some_get call.from i (omega (arith, outer, fits.arguments)) in
         (a.0, ap (option_map Variable) a.1)
 
-    by_class : (c : Class) (m v : ℕ) → 0 < m → m < g.params + 2 → passed call m ≡ Some (Variable v) → class_there m ≡ c
+    by_class : (c : Class) (m v : ℕ) → 0 < m → m < g.params + 2 → passed_member call m ≡ Some (Variable v) → class_there m ≡ c
         → IsPassedFor (region_parameters callee) passes c (class_of caller v)
     by_class class.NoClass m v some outer e is = tt
     by_class class.Global m v some outer e is =

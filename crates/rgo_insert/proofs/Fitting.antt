@@ -9,7 +9,7 @@ use Rattle.rgo_tac.specs.declared.regions.Member.TheVariants.{Variable}
 use Rattle.rgo_tac.specs.Code.{TacFn, Tac, Go}
 use Rattle.rgo_tac.specs.Joins.{is_pointer_like_type}
 use Rattle.rgo_classes.specs.Joins.{IsPointerLike}
-use Rattle.rgo_summaries.specs.Calls.{CallParts, member, passed}
+use Rattle.rgo_summaries.specs.Calls.{CallParts, member, passed_member}
 use Rattle.rgo_summaries.proofs.Outer.{some_get}
 use Rattle.rgo_code.specs.Exists.{CallExists, StartExists, tac_signature}
 use Rattle.rgo_code.specs.TypedCode.{StartFits}
@@ -49,7 +49,7 @@ module _ (f g : TacFn) (n : ℕ) (to : Option ℕ) (from : List ℕ) where
     within i v e =
         omega (arith, slice_get_within from i v e, arguments, length-take-le g.params g.variables params)
 
-    like_actual : (m v : ℕ) → passed call m ≡ Some (Variable v) → IsPointerLike g (member m)
+    like_actual : (m v : ℕ) → passed_member call m ≡ Some (Variable v) → IsPointerLike g (member m)
         → IsPointerLike f (Variable v)
     like_actual zero v e like = absurd cc
     like_actual (suc zero) v e like =

@@ -8,12 +8,12 @@ use Rattle.rgo_typed.specs.declared.types.Type.{«Type»}
 use Rattle.rgo_tac.specs.declared.regions.Class.{Class}
 use Rattle.rgo_tac.specs.declared.regions.Class.TheVariants.{NoClass}
 use Rattle.rgo_tac.specs.declared.regions.Member.TheVariants.{Variable}
-use Rattle.rgo_summaries.specs.Calls.{CallParts, member, passed}
+use Rattle.rgo_summaries.specs.Calls.{CallParts, member, passed_member}
 use Rattle.rgo_summaries.proofs.Outer.{get_last, get_left, place}
 use Rattle.rgo_code.specs.Code.{CodeFn, Slot}
 use Rattle.rgo_code.specs.Names.{class_of, member_class, parameter_classes, result_class, slot_class}
 use Rattle.rgo_code.specs.Views.{slots}
-use Rattle.rgo_insert.specs.Passing.{actual_classes, formal_classes, target_class}
+use Rattle.rgo_insert.specs.Passing.{actual_classes, formal_classes, class_of_target}
 
 -- ---- the classes of parameters
 
@@ -89,16 +89,16 @@ module _ (f : CodeFn) (params : ℕ) (call : CallParts) (len : length call.from 
   at_argument : (i v : ℕ) → slice_get call.from i ≡ Some v → slice_get actuals i ≡ Some (class_of f v)
   at_argument i v e =
       let within = slice_get_within call.from i v e in
-      get_left (map (class_of f) call.from) (target_class f call.to ∷ []) i
+      get_left (map (class_of f) call.from) (class_of_target f call.to ∷ []) i
       (omega (arith, within, length-map call.from (class_of f)))
       ∙ slice_get-map (class_of f) call.from i ∙ ap (option_map (class_of f)) e
 
   at_target : (d : ℕ) → call.to ≡ Some d → slice_get actuals params ≡ Some (class_of f d)
   at_target d e =
       ap (slice_get actuals) (sym (length-map call.from (class_of f) ∙ len))
-      ∙ get_last (map (class_of f) call.from) (target_class f call.to) ∙ ap (λ o. Some (target_class f o)) e
+      ∙ get_last (map (class_of f) call.from) (class_of_target f call.to) ∙ ap (λ o. Some (class_of_target f o)) e
 
-  pub actual_at : (m v : ℕ) → passed call m ≡ Some (Variable v)
+  pub actual_at : (m v : ℕ) → passed_member call m ≡ Some (Variable v)
       → get_or actuals (place params m) NoClass ≡ class_of f v
   actual_at zero v e = absurd cc
   actual_at (suc zero) v e =

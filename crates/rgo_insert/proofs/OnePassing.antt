@@ -6,7 +6,7 @@ use Rattle.std.proofs.lemmas.Option.{same_Some, none-some, slice_get_within}
 use Rattle.rgo_tac.specs.declared.regions.Class.{Class}
 use Rattle.rgo_tac.specs.declared.regions.Class.TheVariants.{Name}
 use Rattle.rgo_tac.specs.declared.regions.Member.TheVariants.{Variable}
-use Rattle.rgo_summaries.specs.Calls.{CallParts, member, passed}
+use Rattle.rgo_summaries.specs.Calls.{CallParts, member, passed_member}
 use Rattle.rgo_summaries.proofs.Outer.{some_get}
 use Rattle.rgo_code.specs.ClassRules.{IsPassedFor, PassesClasses}
 use Rattle.rgo_code.specs.Code.{CodeFn, Slot}
@@ -44,7 +44,7 @@ slot_there (Some s) k e = (s, refl)
 
 -- a member whose class has a name is passed a variable
 actual_of : (callee : CodeFn) (call : CallParts) (is : IsCalled callee call) (m k : ℕ) → 0 < m → m < callee.params + 2
-    → member_class callee (member m) ≡ Name k → (v : ℕ) × (passed call m ≡ Some (Variable v))
+    → member_class callee (member m) ≡ Name k → (v : ℕ) × (passed_member call m ≡ Some (Variable v))
 actual_of callee call is zero k some outer e = absurd (omega (arith, some))
 actual_of callee call is (suc zero) k some outer e =
     let s = slot_there callee.result k e in
@@ -56,7 +56,7 @@ actual_of callee call is (suc (suc i)) k some outer e =
 
 -- what is passed for a member
 for_member : (f callee : CodeFn) (call : CallParts) (passes : List Class) → PassesClasses f callee call.to call.from passes
-    → (m v : ℕ) → m < callee.params + 2 → passed call m ≡ Some (Variable v)
+    → (m v : ℕ) → m < callee.params + 2 → passed_member call m ≡ Some (Variable v)
     → IsPassedFor (region_parameters callee) passes (member_class callee (member m)) (class_of f v)
 for_member f callee call passes p zero v outer e = absurd cc
 for_member f callee call passes p (suc zero) v outer e = p.result v (variable_is call.to v e)

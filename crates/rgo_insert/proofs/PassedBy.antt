@@ -9,7 +9,7 @@ use Rattle.rgo_tac.specs.declared.regions.Class.{Class}
 use Rattle.rgo_tac.specs.declared.regions.Class.TheVariants.{NoClass, Name}
 use Rattle.rgo_code.specs.Names.{is_class_named}
 use Rattle.rgo_region_sets.proofs.Passed.{is_name_is, is_name_same}
-use Rattle.rgo_insert.specs.Passing.{chosen, passed_by, passed_for, AddsActual, AreActuals, AreClassesPassed}
+use Rattle.rgo_insert.specs.Passing.{class_if, passed_by, passed_for, AddsActual, AreActuals, AreClassesPassed}
 
 module _ {S : Type 0} (old new : HashMap ℕ Class S) (name : ℕ) (actual : Class)
     (here : get nat_eq new name ≡ Some actual)
@@ -17,9 +17,9 @@ module _ {S : Type 0} (old new : HashMap ℕ Class S) (name : ℕ) (actual : Cla
   pub adds_name : AddsActual old new (Name name) actual
   adds_name k = ⊎_elim
       (λ e. ap (get nat_eq new) e ∙ here
-      ∙ ap (λ b. chosen b actual (get nat_eq old k)) (sym (is_name_same k (Name name) (ap Name (sym e)))))
+      ∙ ap (λ b. class_if b actual (get nat_eq old k)) (sym (is_name_same k (Name name) (ap Name (sym e)))))
       (λ n. others k (ne_eqb name k (λ e. n (sym e)))
-      ∙ ap (λ b. chosen b actual (get nat_eq old k)) (sym (ne_eqb k name n)))
+      ∙ ap (λ b. class_if b actual (get nat_eq old k)) (sym (ne_eqb k name n)))
       (cases_eq k name)
 
 module _ {S : Type 0} (old new : HashMap ℕ Class S) (formals actuals : List Class) (n : ℕ) (formal : Class)
@@ -42,23 +42,23 @@ module _ {S : Type 0} (old new : HashMap ℕ Class S) (formals actuals : List Cl
       same_place i less later = omega (arith, less, later)
 
       sound_by : (k : ℕ) (class : Class) (b : Bool) → is_class_named k formal ≡ b
-          → chosen (is_class_named k formal) actual (get nat_eq old k) ≡ Some class
+          → class_if (is_class_named k formal) actual (get nat_eq old k) ≡ Some class
           → (i : ℕ) × (slice_get formals i ≡ Some (Name k)) × (get_or actuals i NoClass ≡ class)
       sound_by k class true is e = (
         n,
         at ∙ ap Some (is_name_is k formal is),
-        same_Some actual class (sym (ap (λ b. chosen b actual (get nat_eq old k)) is) ∙ e),
+        same_Some actual class (sym (ap (λ b. class_if b actual (get nat_eq old k)) is) ∙ e),
       )
       sound_by k class false is e =
-          are.sound k class (sym (ap (λ b. chosen b actual (get nat_eq old k)) is) ∙ e)
+          are.sound k class (sym (ap (λ b. class_if b actual (get nat_eq old k)) is) ∙ e)
 
-      kept : (b : Bool) (k : ℕ) → get nat_eq old k ≢ None → chosen b actual (get nat_eq old k) ≡ None → ⊥
+      kept : (b : Bool) (k : ℕ) → get nat_eq old k ≢ None → class_if b actual (get nat_eq old k) ≡ None → ⊥
       kept true k some none = none-some actual (sym none)
       kept false k some none = some none
 
-      now : (k : ℕ) → formal ≡ Name k → chosen (is_class_named k formal) actual (get nat_eq old k) ≡ None → ⊥
+      now : (k : ℕ) → formal ≡ Name k → class_if (is_class_named k formal) actual (get nat_eq old k) ≡ None → ⊥
       now k is none =
-          none-some actual (sym none ∙ ap (λ b. chosen b actual (get nat_eq old k)) (is_name_same k formal is))
+          none-some actual (sym none ∙ ap (λ b. class_if b actual (get nat_eq old k)) (is_name_same k formal is))
 
 module _ {S : Type 0} (found : HashMap ℕ Class S) (formals actuals regions : List Class)
     (are : AreActuals found formals actuals (length formals)) where

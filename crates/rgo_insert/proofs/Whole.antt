@@ -7,7 +7,7 @@ use Rattle.rgo_typed.specs.declared.programs.Variable.{Variable}
 use Rattle.rgo_tac.specs.Code.{Op, Instr, TacFn, Tac, Do, Call, Go, Print, Jump, Branch, Return}
 use Rattle.rgo_classes.specs.declared.classes.Summary.{Summary}
 use Rattle.rgo_classes.specs.Classes.{AreClasses}
-use Rattle.rgo_summaries.specs.Calls.{CallParts, call_of}
+use Rattle.rgo_summaries.specs.Calls.{CallParts, call_of_op}
 use Rattle.rgo_summaries.specs.Families.{IsFamily}
 use Rattle.rgo_summaries.proofs.Naming.{names_of}
 use Rattle.rgo_summaries.proofs.Outer.{some_get}
@@ -121,7 +121,7 @@ module _ (tac : Tac) (typed : IsTypedCode tac) (sums : List Summary) (family : I
           (subst (λ o. P tac f o) (sym (op_erased plain.op note)) h))
 
       -- a call or a start passes what its callee asks for
-      passes_by : (call : CallParts) (g : TacFn) → call_of plain.op ≡ Some call
+      passes_by : (call : CallParts) (g : TacFn) → call_of_op plain.op ≡ Some call
           → (known : slice_get tac.functions call.function ≡ Some g) → CallFits f g call
           → ArePassedTo (code_fn f p.b) (slice_get bares call.function) call.to call.from note.passes
           → (q : Part tac.functions sums bare filled are_bare are call.function g)
@@ -144,7 +144,7 @@ module _ (tac : Tac) (typed : IsTypedCode tac) (sums : List Summary) (family : I
           let params = (typed.functions callee exists.callee exists.declared).head.params in
           let fits = call_fits tac f exists.callee callee exists.declared params to from exists fit.0 fit.1 in
           subst (λ o. CallPasses function o to from note.passes) (sym q.here)
-          (passes_by (record { to = to; function = callee; from = from }) exists.callee (ap call_of e)
+          (passes_by (record { to = to; function = callee; from = from }) exists.callee (ap call_of_op e)
           exists.declared fits
           (subst (λ o. PassesFor bares (code_fn f p.b) o note.passes) e right.passes) q)
       calls_pass (Go callee from) e = tt
@@ -165,7 +165,7 @@ module _ (tac : Tac) (typed : IsTypedCode tac) (sums : List Summary) (family : I
           let fits = start_fits tac f exists.callee callee exists.declared params from exists start fit in
           subst (λ o. StartPasses function o from note.passes) (sym q.here) (
             ap (option_map (λ ty. slot ty q.b.result)) (start exists.callee exists.declared),
-            passes_by (record { to = None; function = callee; from = from }) exists.callee (ap call_of e)
+            passes_by (record { to = None; function = callee; from = from }) exists.callee (ap call_of_op e)
                 exists.declared fits
                 (subst (λ o. PassesFor bares (code_fn f p.b) o note.passes) e right.passes) q,
           )

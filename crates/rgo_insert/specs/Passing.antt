@@ -11,13 +11,13 @@ use Rattle.rgo_code.specs.Names.{class_of, is_class_named, parameter_classes, re
 abbrev pub formal_classes : CodeFn → List Class
 formal_classes callee = parameter_classes callee.params callee.variables ++ result_class callee ∷ []
 
-abbrev pub target_class : CodeFn → Option ℕ → Class
-target_class f None = NoClass
-target_class f (Some d) = class_of f d
+abbrev pub class_of_target : CodeFn → Option ℕ → Class
+class_of_target f None = NoClass
+class_of_target f (Some d) = class_of f d
 
 -- the classes of the arguments, then that of the target
 abbrev pub actual_classes : CodeFn → (to : Option ℕ) → (from : List ℕ) → List Class
-actual_classes f to from = map (class_of f) from ++ target_class f to ∷ []
+actual_classes f to from = map (class_of f) from ++ class_of_target f to ∷ []
 
 -- for each region parameter, the class of an actual for a formal of this class
 pub record AreClassesPassed (formals actuals regions passes : List Class) : Type 0 where
@@ -44,13 +44,13 @@ PassesFor functions f (Return value) passes = passes ≡ []
 -- ---- actuals by name
 
 -- the class, if the test passed
-abbrev pub chosen : Bool → Class → Option Class → Option Class
-chosen true class other = Some class
-chosen false class other = other
+abbrev pub class_if : Bool → Class → Option Class → Option Class
+class_if true class other = Some class
+class_if false class other = other
 
 -- a formal gets its actual
 abbrev pub AddsActual : {S : Type 0} → HashMap ℕ Class S → HashMap ℕ Class S → (formal actual : Class) → Type 0
-AddsActual old new formal actual = (k : ℕ) → get nat_eq new k ≡ chosen (is_class_named k formal) actual (get nat_eq old k)
+AddsActual old new formal actual = (k : ℕ) → get nat_eq new k ≡ class_if (is_class_named k formal) actual (get nat_eq old k)
 
 -- the map has an actual for each name among the first formals
 pub record AreActuals {S : Type 0} (found : HashMap ℕ Class S) (formals actuals : List Class) (count : ℕ) : Type 0 where

@@ -23,7 +23,7 @@ fn formal_classes(alloc: Global, callee: &CodeFn<'_>) -> Result<Vec<Class>, Allo
 }
 
 fn target_class(f: &CodeFn<'_>, to: Option<u32>) -> Class
-    ensures { result ≡ spec.target_class f.now to }
+    ensures { result ≡ spec.class_of_target f.now to }
 {
     match to {
         Some(variable) => f.class_of(variable),

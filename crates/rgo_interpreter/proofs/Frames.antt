@@ -5,18 +5,18 @@ use Rattle.std.proofs.Common.{arith}
 use Rattle.std.specs.declared.alloc.AllocError.{AllocError}
 use Rattle.std.proofs.lemmas.List.{length-reverse}
 use Rattle.rgo_memory.specs.declared.values.Value.{Value}
-use Rattle.rgo_interpreter.specs.Acting.{passed, entered, FrameEnters}
+use Rattle.rgo_interpreter.specs.Acting.{frame_after_operation, entered_frames, FrameEnters}
 use Rattle.std.specs.Result.{IsErr}
-use Rattle.rgo_interpreter.specs.Alone.{after_operation, after_return, entered_by, onto, EntersNewest, ChildBegins, with_child}
+use Rattle.rgo_interpreter.specs.Alone.{after_operation, after_return, entered_by, onto, EntersNewest, ChildBegins, with_child_goroutine}
 use Rattle.rgo_machine.specs.Machines.{Machine}
 use Rattle.rgo_interpreter.proofs.Newest.{newest, renewed, below, renewed_below}
 
 module _ {F : Type 0} (machine : Machine F) where
   -- the newest frame continues with a value
   pub passes : (l : List F) (f : F) (v : Value) (n : ℕ) → n + 1 ≡ length l → f ≡ get_or l n f
-      → reverse (slice_set l n (passed f v (machine.stand f))) ≡ after_operation machine v (reverse l)
+      → reverse (slice_set l n (frame_after_operation f v (machine.stand f))) ≡ after_operation machine v (reverse l)
   passes l f v n e is =
-      renewed l (passed f v (machine.stand f)) n e ∙ sym (ap (after_operation machine v) (newest l f n e is))
+      renewed l (frame_after_operation f v (machine.stand f)) n e ∙ sym (ap (after_operation machine v) (newest l f n e is))
 
   no_frames : (l : List F) → length l ≡ 0 → reverse l ≡ []
   no_frames [] e = refl
@@ -79,7 +79,7 @@ module _ {F : Type 0} (machine : Machine F) where
 
   module _ (l goroutine : List F) (view : reverse l ≡ goroutine) where
     pub passed_to : (f h : F) (v : Value) (n : ℕ) → n + 1 ≡ length l → f ≡ get_or l n f
-        → h ≡ passed f v (machine.stand f) → reverse (slice_set l n h) ≡ after_operation machine v goroutine
+        → h ≡ frame_after_operation f v (machine.stand f) → reverse (slice_set l n h) ≡ after_operation machine v goroutine
     passed_to f h v n e is same =
         ap (λ x. reverse (slice_set l n x)) same ∙ passes l f v n e is ∙ ap (after_operation machine v) view
 
@@ -104,10 +104,10 @@ module _ {F : Type 0} (machine : Machine F) where
   -- the goroutine that was started
   pub begun : (l goroutine after : List F) (child : F) (items : List F) → reverse l ≡ goroutine
       → entered_by machine (reverse l) ≡ Some (after, child) → items ≡ child ∷ []
-      → option_map with_child (entered_by machine goroutine) ≡ Some (after, reverse items)
+      → option_map with_child_goroutine (entered_by machine goroutine) ≡ Some (after, reverse items)
   begun l goroutine after child items view entered is =
-      ap (λ x. option_map with_child (entered_by machine x)) (sym view)
-      ∙ ap (option_map with_child) entered
+      ap (λ x. option_map with_child_goroutine (entered_by machine x)) (sym view)
+      ∙ ap (option_map with_child_goroutine) entered
       ∙ ap (λ i. Some (after, reverse i)) (sym is)
 
   pub none_begun : (l goroutine after : List F) → reverse l ≡ goroutine

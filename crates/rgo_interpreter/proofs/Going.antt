@@ -10,7 +10,7 @@ use Rattle.rgo_memory.specs.declared.values.Value.TheVariants as value
 use Rattle.rgo_memory.specs.Channels.{receive, send, close, SameChannels}
 use Rattle.rgo_memory.specs.Effects.{Effect, Does, Traps}
 use Rattle.rgo_memory.specs.Memory.{Memory}
-use Rattle.rgo_interpreter.specs.Views.{Leaves, LeavesIfReady}
+use Rattle.rgo_interpreter.specs.Views.{LeavesOutcome, LeavesIfReady}
 use Rattle.rgo_interpreter.proofs.InPlace.{set_same}
 use Rattle.rgo_interpreter.proofs.Operating.{ChangesOnly}
 use Rattle.rgo_interpreter.proofs.Newest.{newest, renewed}
@@ -20,7 +20,7 @@ use Rattle.rgo_interpreter.specs.declared.machines.Did.TheVariants as did
 use Rattle.rgo_interpreter.specs.declared.machines.Stand.{Stand as CodeStand}
 use Rattle.rgo_interpreter.specs.declared.machines.Stand.TheVariants as code
 use Rattle.rgo_machine.specs.declared.picks.End.TheVariants as the_end
-use Rattle.rgo_interpreter.specs.Acting.{stand_of, passed, entered, newest_stand, FrameActs}
+use Rattle.rgo_interpreter.specs.Acting.{stand_of, frame_after_operation, entered_frames, newest_stand, FrameActs}
 use Rattle.rgo_interpreter.specs.Alone.{happened_by, ChangesAt, after_effect, after_return, ended_by_return, after_call}
 use Rattle.rgo_interpreter.specs.Alone.{onto, with_callee}
 use Rattle.rgo_interpreter.specs.Alone.{running, GoroutineSteps, Happens, Calls}
@@ -49,7 +49,7 @@ place_of (code.Close channel place) = place
 place_of _ = 0
 
 -- which channels change by what happens
-pub changes : (e : CodeEffect) (c : Value) (place : ℕ) (m n : Memory) (outcome : Effect) → Leaves e m n outcome
+pub changes : (e : CodeEffect) (c : Value) (place : ℕ) (m n : Memory) (outcome : Effect) → LeavesOutcome e m n outcome
     → ChangesOnly c m n → ChangesAt (Ok (happened_by e c place)) m n
 changes (effect.Gives v) (value.Object k) place m n outcome leaves only = only
 changes (effect.Gives v) (value.Int z) place m n outcome leaves only = only
@@ -73,7 +73,7 @@ changes_of e c place m n outcome result leaves only is =
     subst (λ (r : Happened). ChangesAt (Ok r) m n) (sym is) (changes_ready e c place m n outcome leaves only)
 
 -- what is always ready
-pub ready : (e : CodeEffect) (m n : Memory) (outcome : Effect) → Leaves e m n outcome
+pub ready : (e : CodeEffect) (m n : Memory) (outcome : Effect) → LeavesOutcome e m n outcome
     → LeavesIfReady (Some e) m n (Some outcome)
 ready (effect.Gives v) m n outcome leaves = ap Some leaves
 ready (effect.Traps trap) m n outcome leaves = (ap Some leaves.0, leaves.1)
@@ -82,7 +82,7 @@ module _ {F : Type 0} (machine : Machine F) where
   stepped_at : (s : State F) (g : ℕ) (f : F) (callers : List F) (stand : Stand F)
       → is_at_channel (stand_of stand) ≡ true
       → stepped machine s g f callers stand
-      ≡ option_map (operated s g callers (λ v. passed f v stand) (place_of (stand_of stand)))
+      ≡ option_map (operated s g callers (λ v. frame_after_operation f v stand) (place_of (stand_of stand)))
       (operation s.memory (stand_of stand))
   stepped_at s g f callers (AtReceive channel blank go_on) there = refl
   stepped_at s g f callers (AtSend channel v place next) there = refl
@@ -98,12 +98,12 @@ module _ {F : Type 0} (machine : Machine F) where
   at_channel : (s : State F) (g : ℕ) (f : F) (callers : List F) (stand : CodeStand)
       → newest_stand machine (f ∷ callers) ≡ Some stand → is_at_channel stand ≡ true
       → alone machine s g (f ∷ callers)
-      ≡ option_map (operated s g callers (λ v. passed f v (machine.stand f)) (place_of stand))
+      ≡ option_map (operated s g callers (λ v. frame_after_operation f v (machine.stand f)) (place_of stand))
       (operation s.memory stand)
   at_channel s g f callers stand is there =
       let same : stand_of (machine.stand f) ≡ stand = some_stand _ _ is in
       stepped_at s g f callers (machine.stand f) (ap is_at_channel same ∙ there)
-      ∙ ap (λ x. option_map (operated s g callers (λ v. passed f v (machine.stand f)) (place_of x))
+      ∙ ap (λ x. option_map (operated s g callers (λ v. frame_after_operation f v (machine.stand f)) (place_of x))
       (operation s.memory x)) same
 
   module _ (g : ℕ) (m n : Memory) (old : List ℕ) (stand : CodeStand) (there : is_at_channel stand ≡ true) where
@@ -113,7 +113,7 @@ module _ {F : Type 0} (machine : Machine F) where
     waits_at [] is none = cc
     waits_at (f ∷ callers) is none = (
       λ goroutines. at_channel (running m goroutines old) g f callers stand is there
-          ∙ ap (option_map (operated (running m goroutines old) g callers (λ v. passed f v (machine.stand f))
+          ∙ ap (option_map (operated (running m goroutines old) g callers (λ v. frame_after_operation f v (machine.stand f))
           (place_of stand))) none.0,
       none.1,
       refl,
@@ -122,11 +122,11 @@ module _ {F : Type 0} (machine : Machine F) where
 
     gives : (f : F) (callers : List F) (v : Value) → newest_stand machine (f ∷ callers) ≡ Some stand
         → operation m stand ≡ Some (Does n v)
-        → GoroutineSteps machine g None m n (f ∷ callers) (passed f v (machine.stand f) ∷ callers) old old
+        → GoroutineSteps machine g None m n (f ∷ callers) (frame_after_operation f v (machine.stand f) ∷ callers) old old
     gives f callers v is leaves =
         λ goroutines found.
         at_channel (running m goroutines old) g f callers stand is there
-        ∙ ap (option_map (operated (running m goroutines old) g callers (λ v. passed f v (machine.stand f))
+        ∙ ap (option_map (operated (running m goroutines old) g callers (λ v. frame_after_operation f v (machine.stand f))
         (place_of stand))) leaves
 
     -- it operates, or traps
@@ -141,7 +141,7 @@ module _ {F : Type 0} (machine : Machine F) where
     operates_at (f ∷ callers) (effect.Traps trap) c is leaves =
         λ goroutines found.
         at_channel (running m goroutines old) g f callers stand is there
-        ∙ ap (option_map (operated (running m goroutines old) g callers (λ v. passed f v (machine.stand f))
+        ∙ ap (option_map (operated (running m goroutines old) g callers (λ v. frame_after_operation f v (machine.stand f))
         (place_of stand))) leaves.0
         ∙ (λ i. Some (record {
           memory = sym leaves.1 i;
@@ -153,7 +153,7 @@ module _ {F : Type 0} (machine : Machine F) where
   -- ---- calls
 
   calls_at : (s : State F) (g : ℕ) (f : F) (callers after : List F) (stand : Stand F) → stand_of stand ≡ code.Call
-      → option_map with_callee (option_map (onto callers) (entered stand)) ≡ Some after
+      → option_map with_callee (option_map (onto callers) (entered_frames stand)) ≡ Some after
       → stepped machine s g f callers stand ≡ Some (machines.with_frames s g after)
   calls_at s g f callers after (AtCall next callee) is e = ap (option_map (machines.with_frames s g)) e
   calls_at s g f callers after (AtReceive channel blank go_on) is e = cc
@@ -171,7 +171,7 @@ module _ {F : Type 0} (machine : Machine F) where
       calls
 
   enters_there : (stand : Stand F) (callers : List F) → stand_of stand ≡ code.Call
-      → option_map with_callee (option_map (onto callers) (entered stand)) ≡ None → ⊥
+      → option_map with_callee (option_map (onto callers) (entered_frames stand)) ≡ None → ⊥
   enters_there (AtCall next callee) callers is e = cc
   enters_there (AtReceive channel blank go_on) callers is e = cc
   enters_there (AtSend channel v place next) callers is e = cc

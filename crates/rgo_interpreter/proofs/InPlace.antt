@@ -11,7 +11,7 @@ use Rattle.rgo_memory.specs.declared.values.Value.TheVariants.{Nil}
 use Rattle.rgo_memory.specs.Memory.{Object, StructObject, Memory, with_object, object_at}
 use Rattle.rgo_memory.specs.Effects.{Outcome, Does, nothing, in_memory, to_object, at_object}
 use Rattle.rgo_memory.specs.Effects.{in_memory_if_ready, to_object_if_ready, at_object_if_ready}
-use Rattle.rgo_interpreter.specs.Views.{Leaves, LeavesIfReady, PerformsIfReady}
+use Rattle.rgo_interpreter.specs.Views.{LeavesOutcome, LeavesIfReady, PerformsIfReady}
 use Rattle.rgo_interpreter.proofs.Reading.{read_or}
 
 -- an element put where it was
@@ -57,8 +57,8 @@ module _ (m new : Memory) (n : ℕ) (before after : Object) (there : object_at m
   unchanged : after ≡ before → new ≡ m
   unchanged same = written ∙ ap (with_object m n) (same ∙ sym there) ∙ kept m n
 
-  lifted : (answer : CodeEffect) (outcome : Outcome Object) → Leaves answer before after outcome
-      → Leaves answer m new (in_memory m n outcome)
+  lifted : (answer : CodeEffect) (outcome : Outcome Object) → LeavesOutcome answer before after outcome
+      → LeavesOutcome answer m new (in_memory m n outcome)
   lifted (effect.Gives v) outcome leaves = ap (in_memory m n) leaves ∙ ap (λ k. Does k v) (sym written)
   lifted (effect.Traps trap) outcome leaves = (ap (in_memory m n) leaves.0, unchanged leaves.1)
 
@@ -71,7 +71,7 @@ module _ (m new : Memory) (n : ℕ) (before after : Object) (there : object_at m
       (ap (in_memory_if_ready m n) leaves.0, unchanged leaves.1)
 
   pub changed : (answer : CodeEffect) (f : Object → Outcome Object) → f empty ≡ nothing empty
-      → Leaves answer before after (f before) → Leaves answer m new (at_object m n f)
+      → LeavesOutcome answer before after (f before) → LeavesOutcome answer m new (at_object m n f)
   changed answer f idle leaves =
       rw (to_found m n f idle (slice_get m.heap n) refl, there) (lifted answer (f before) leaves)
 

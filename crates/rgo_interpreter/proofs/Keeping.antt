@@ -16,7 +16,7 @@ use Rattle.rgo_memory.specs.Elements.{element_at, put, put_in}
 use Rattle.rgo_memory.specs.Fields.{store, store_outcome}
 use Rattle.rgo_memory.specs.Operators.{binary_of}
 use Rattle.rgo_memory.specs.Perform.{on_two, on_three}
-use Rattle.rgo_interpreter.specs.Views.{Leaves}
+use Rattle.rgo_interpreter.specs.Views.{LeavesOutcome}
 
 -- ---- lists of objects
 
@@ -147,16 +147,16 @@ on_three_keeps (action.Set k) u v w m = as_it_was m
 
 -- ---- what the code's answers say
 
-left : (answer : CodeEffect) (m n : Memory) (outcome : Effect) → Leaves answer m n outcome → Keeps m outcome
+left : (answer : CodeEffect) (m n : Memory) (outcome : Effect) → LeavesOutcome answer m n outcome → Keeps m outcome
     → SameChannels m n
 left (effect.Gives v) m n outcome leaves keeps = let P = Keeps m in subst P leaves keeps
 left (effect.Traps trap) m n outcome leaves keeps =
     let P : Memory → Type 0 = SameChannels m in subst P (sym leaves.1) (as_it_was m)
 
 pub kept_by_two : (answer : CodeEffect) (m n : Memory) (a : Action) (v w : Value)
-    → Leaves answer m n (on_two a v w m) → SameChannels m n
+    → LeavesOutcome answer m n (on_two a v w m) → SameChannels m n
 kept_by_two answer m n a v w leaves = left answer m n (on_two a v w m) leaves (on_two_keeps a v w m)
 
 pub kept_by_three : (answer : CodeEffect) (m n : Memory) (a : Action) (u v w : Value)
-    → Leaves answer m n (on_three a u v w m) → SameChannels m n
+    → LeavesOutcome answer m n (on_three a u v w m) → SameChannels m n
 kept_by_three answer m n a u v w leaves = left answer m n (on_three a u v w m) leaves (on_three_keeps a u v w m)

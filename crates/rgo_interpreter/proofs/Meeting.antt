@@ -9,8 +9,8 @@ use Rattle.rgo_memory.specs.declared.values.Value.TheVariants as value
 use Rattle.rgo_memory.specs.Channels.{meets_at}
 use Rattle.rgo_machine.specs.declared.picks.End.{End}
 use Rattle.rgo_machine.specs.declared.picks.Pick.TheVariants.{Meet}
-use Rattle.rgo_interpreter.specs.Acting.{stand_of, passed, newest_stand, standing}
-use Rattle.rgo_interpreter.specs.Alone.{receives_at, sends_at, after_operation, after_pass}
+use Rattle.rgo_interpreter.specs.Acting.{stand_of, frame_after_operation, newest_stand, standing}
+use Rattle.rgo_interpreter.specs.Alone.{receives_at, sends_at, after_operation, goroutines_after_operation}
 use Rattle.rgo_machine.specs.Machines.{Stand, AtReceive, AtSend, AtClose, AtCall, AtStart, Elsewhere}
 use Rattle.rgo_machine.proofs.Items.{other_item}
 use Rattle.rgo_machine.specs.Machines.{Machine, State, with_frames, met, met_by, meet, picked, unless_ended, step_by}
@@ -94,7 +94,7 @@ module _ {F : Type 0} (machine : Machine F) (s : State F) (r t : ℕ) where
   together : (f h : F) (rs ts : List F) (a b : Stand F) (c d v : _) → receives a ≡ Some c → sends b ≡ Some (d, v)
       → meets_at s.memory c d ≡ true
       → met s r t rs ts a b
-      ≡ Some (with_frames (with_frames s r (passed f v a ∷ rs)) t (passed h value.Nil b ∷ ts))
+      ≡ Some (with_frames (with_frames s r (frame_after_operation f v a ∷ rs)) t (frame_after_operation h value.Nil b ∷ ts))
   together f h rs ts (AtReceive a blank go_on) (AtSend b x place next) c d v p q meets =
       let left : a ≡ c = same_Some a c p in
       let right : (b ≡ d) × (x ≡ v) = some_pair_parts b d x v q in
@@ -115,7 +115,7 @@ module _ {F : Type 0} (machine : Machine F) (s : State F) (r t : ℕ) where
   -- ---- what the code leaves
 
   passed_at : (v : Value) (f : F) (callers : List F) (l : List (List F)) (g : ℕ) → slice_get l g ≡ Some (f ∷ callers)
-      → after_pass machine v l g ≡ slice_set l g (passed f v (machine.stand f) ∷ callers)
+      → goroutines_after_operation machine v l g ≡ slice_set l g (frame_after_operation f v (machine.stand f) ∷ callers)
   passed_at v f callers [] g e = cc
   passed_at v f callers (frames ∷ l) zero e =
       ap (λ x. after_operation machine v x ∷ l) (same_Some frames (f ∷ callers) e)
@@ -124,18 +124,18 @@ module _ {F : Type 0} (machine : Machine F) (s : State F) (r t : ℕ) where
   module _ (c d v : Value) (differ : r ≡ t → ⊥) (meets : meets_at s.memory c d ≡ true) where
     both_pass : (f h : F) (rs ts : List F) → slice_get s.goroutines r ≡ Some (f ∷ rs)
         → slice_get s.goroutines t ≡ Some (h ∷ ts)
-        → slice_set (slice_set s.goroutines r (passed f v (machine.stand f) ∷ rs)) t
-        (passed h value.Nil (machine.stand h) ∷ ts)
-        ≡ after_pass machine value.Nil (after_pass machine v s.goroutines r) t
+        → slice_set (slice_set s.goroutines r (frame_after_operation f v (machine.stand f) ∷ rs)) t
+        (frame_after_operation h value.Nil (machine.stand h) ∷ ts)
+        ≡ goroutines_after_operation machine value.Nil (goroutines_after_operation machine v s.goroutines r) t
     both_pass f h rs ts e q =
-        let first : after_pass machine v s.goroutines r ≡ slice_set s.goroutines r (passed f v (machine.stand f) ∷ rs) =
+        let first : goroutines_after_operation machine v s.goroutines r ≡ slice_set s.goroutines r (frame_after_operation f v (machine.stand f) ∷ rs) =
         passed_at v f rs s.goroutines r e in
-        sym (ap (λ l. after_pass machine value.Nil l t) first
-        ∙ passed_at value.Nil h ts (slice_set s.goroutines r (passed f v (machine.stand f) ∷ rs)) t
-        (other_item s.goroutines r t (passed f v (machine.stand f) ∷ rs) (λ same. differ (sym same)) ∙ q))
+        sym (ap (λ l. goroutines_after_operation machine value.Nil l t) first
+        ∙ passed_at value.Nil h ts (slice_set s.goroutines r (frame_after_operation f v (machine.stand f) ∷ rs)) t
+        (other_item s.goroutines r t (frame_after_operation f v (machine.stand f) ∷ rs) (λ same. differ (sym same)) ∙ q))
 
     abbrev continued : Option (State F)
-    continued = Some (record s { goroutines = after_pass machine value.Nil (after_pass machine v s.goroutines r) t })
+    continued = Some (record s { goroutines = goroutines_after_operation machine value.Nil (goroutines_after_operation machine v s.goroutines r) t })
 
     among : (o p : Option (List F)) → slice_get s.goroutines r ≡ o → slice_get s.goroutines t ≡ p
         → receives_at (option_and_then (newest_stand machine) o) ≡ Some c
@@ -160,14 +160,14 @@ module _ {F : Type 0} (machine : Machine F) (s : State F) (r t : ℕ) where
 
 module _ {F : Type 0} (machine : Machine F) (v : Value) where
   pub passed_in : (l : List (List F)) (g : ℕ) (before after : List F) → g < length l → before ≡ get_or l g before
-      → after ≡ after_operation machine v before → slice_set l g after ≡ after_pass machine v l g
+      → after ≡ after_operation machine v before → slice_set l g after ≡ goroutines_after_operation machine v l g
   passed_in [] g before after within is same = refl
   passed_in (frames ∷ l) zero before after within is same =
       ap (λ x. x ∷ l) (same ∙ ap (after_operation machine v) is)
   passed_in (frames ∷ l) (suc g) before after within is same =
       ap (λ x. frames ∷ x) (passed_in l g before after (omega (arith, within)) is same)
 
-  pub passed_past : (l : List (List F)) (g : ℕ) → length l ≤ g → l ≡ after_pass machine v l g
+  pub passed_past : (l : List (List F)) (g : ℕ) → length l ≤ g → l ≡ goroutines_after_operation machine v l g
   passed_past [] g past = refl
   passed_past (frames ∷ l) zero past = absurd (omega (arith, past))
   passed_past (frames ∷ l) (suc g) past = ap (λ x. frames ∷ x) (passed_past l g (omega (arith, past)))
@@ -177,11 +177,11 @@ module _ {F : Type 0} (machine : Machine F) (v : Value) where
 module _ {F : Type 0} (machine : Machine F) (s u : State F) (view : u ≡ s) (r t : ℕ) (c d v : Value)
     (differ : r ≡ t → ⊥) (meets : meets_at u.memory c d ≡ true) (gets : receives_at (standing machine s r) ≡ Some c)
     (gives : sends_at (standing machine s t) ≡ Some (d, v)) where
-  pub met_so : (first second : List (List F)) → first ≡ after_pass machine v u.goroutines r
-      → second ≡ after_pass machine value.Nil first t
+  pub met_so : (first second : List (List F)) → first ≡ goroutines_after_operation machine v u.goroutines r
+      → second ≡ goroutines_after_operation machine value.Nil first t
       → picked machine s (Meet r t) ≡ Some (record u { goroutines = second })
   met_so first second one two =
       both_go_on machine s r t c d v differ (ap (λ x. meets_at x.memory c d) (sym view) ∙ meets) gets gives
       ∙ ap (λ (x : State F). Some
-      (record x { goroutines = after_pass machine value.Nil (after_pass machine v x.goroutines r) t })) (sym view)
-      ∙ ap (λ l. Some (record u { goroutines = l })) (sym (two ∙ ap (λ l. after_pass machine value.Nil l t) one))
+      (record x { goroutines = goroutines_after_operation machine value.Nil (goroutines_after_operation machine v x.goroutines r) t })) (sym view)
+      ∙ ap (λ l. Some (record u { goroutines = l })) (sym (two ∙ ap (λ l. goroutines_after_operation machine value.Nil l t) one))

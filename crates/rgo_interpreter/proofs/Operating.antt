@@ -10,7 +10,7 @@ use Rattle.rgo_memory.specs.Effects.{Outcome, Does, Traps, Effect, in_memory, to
 use Rattle.rgo_memory.specs.Effects.{in_memory_if_ready, to_object_if_ready}
 use Rattle.rgo_memory.specs.Channels.{channel_in, receive, received, send, sent, close, shut, SameChannels}
 use Rattle.rgo_memory.specs.Channels.{SameChannelsBut}
-use Rattle.rgo_interpreter.specs.Views.{Leaves, LeavesIfReady}
+use Rattle.rgo_interpreter.specs.Views.{LeavesOutcome, LeavesIfReady}
 
 other_item : {X : Type 0} (l : List X) (k n : ℕ) (x : X) → (n ≡ k → ⊥) → slice_get (slice_set l k x) n ≡ slice_get l n
 other_item [] k n x differ = refl
@@ -85,7 +85,7 @@ close_only m (value.Bool b) = same m
 
 -- ---- what the code's answers say
 
-left : (answer : CodeEffect) (c : Value) (m n : Memory) (outcome : Effect) → Leaves answer m n outcome
+left : (answer : CodeEffect) (c : Value) (m n : Memory) (outcome : Effect) → LeavesOutcome answer m n outcome
     → OnlyAt c m outcome
     → ChangesOnly c m n
 left (effect.Gives v) c m n outcome leaves only = let P = OnlyAt c m in subst P leaves only
@@ -108,5 +108,5 @@ pub sent_only : (answer : Option CodeEffect) (m n : Memory) (c v : Value)
     → LeavesIfReady answer m n (send m c v) → ChangesOnly c m n
 sent_only answer m n c v leaves = left_if_ready answer c m n (send m c v) leaves (send_only m c v)
 
-pub closed_only : (answer : CodeEffect) (m n : Memory) (c : Value) → Leaves answer m n (close m c) → ChangesOnly c m n
+pub closed_only : (answer : CodeEffect) (m n : Memory) (c : Value) → LeavesOutcome answer m n (close m c) → ChangesOnly c m n
 closed_only answer m n c leaves = left answer c m n (close m c) leaves (close_only m c)

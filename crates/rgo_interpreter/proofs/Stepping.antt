@@ -12,8 +12,8 @@ use Rattle.rgo_interpreter.specs.declared.machines.Stand.{Stand as CodeStand}
 use Rattle.rgo_interpreter.specs.declared.machines.Stand.TheVariants as code
 use Rattle.rgo_machine.specs.declared.picks.End.{End}
 use Rattle.rgo_machine.specs.declared.picks.Pick.TheVariants.{One}
-use Rattle.rgo_interpreter.specs.Acting.{stand_of, entered, newest_stand, standing}
-use Rattle.rgo_interpreter.specs.Alone.{GoroutineSteps, Happens, StepsAlone, ChangesAt, KeepsPrint, entered_by, onto, with_child}
+use Rattle.rgo_interpreter.specs.Acting.{stand_of, entered_frames, newest_stand, standing}
+use Rattle.rgo_interpreter.specs.Alone.{GoroutineSteps, Happens, StepsAlone, ChangesAt, KeepsPrint, entered_by, onto, with_child_goroutine}
 use Rattle.rgo_machine.specs.Machines.{Machine, State, Stand, AtReceive, AtSend, AtClose, AtCall, AtStart, Elsewhere}
 use Rattle.rgo_machine.specs.Machines.{alone, stepped, picked}
 
@@ -99,7 +99,7 @@ module _ {F : Type 0} (machine : Machine F) (s : State F) (g : ℕ) where
   added both = record s { goroutines = slice_set s.goroutines g both.0 ++ both.1 ∷ [] }
 
   starts_at : (f : F) (callers : List F) (stand : Stand F) (both : List F × List F) → stand_of stand ≡ code.Start
-      → option_map with_child (option_map (onto callers) (entered stand)) ≡ Some both
+      → option_map with_child_goroutine (option_map (onto callers) (entered_frames stand)) ≡ Some both
       → stepped machine s g f callers stand ≡ Some (added both)
   starts_at f callers (AtStart next child) both is e = ap (option_map added) e
   starts_at f callers (AtReceive channel blank go_on) both is e = cc
@@ -112,20 +112,20 @@ module _ {F : Type 0} (machine : Machine F) (s : State F) (g : ℕ) where
   some_stand a b e = cc
 
   alone_starts : (before : List F) (both : List F × List F) → newest_stand machine before ≡ Some code.Start
-      → option_map with_child (entered_by machine before) ≡ Some both → alone machine s g before ≡ Some (added both)
+      → option_map with_child_goroutine (entered_by machine before) ≡ Some both → alone machine s g before ≡ Some (added both)
   alone_starts [] both is e = cc
   alone_starts (f ∷ callers) both is e = starts_at f callers (machine.stand f) both (some_stand _ _ is) e
 
   pub starts : (before after child : List F) → s.ended ≡ None → slice_get s.goroutines g ≡ Some before
       → newest_stand machine before ≡ Some code.Start
-      → option_map with_child (entered_by machine before) ≡ Some (after, child)
+      → option_map with_child_goroutine (entered_by machine before) ≡ Some (after, child)
       → (picked machine s (One g) ≡ Some (record s { goroutines = slice_set s.goroutines g after ++ child ∷ [] }))
       × (s.ended ≡ None)
   starts before after child run found is e =
       (ap (option_and_then (alone machine s g)) found ∙ alone_starts before (after, child) is e, run)
 
   not_entered : (callers : List F) (stand : Stand F) → stand_of stand ≡ code.Start
-      → option_map (onto callers) (entered stand) ≡ None → ⊥
+      → option_map (onto callers) (entered_frames stand) ≡ None → ⊥
   not_entered callers (AtStart next child) is e = cc
   not_entered callers (AtReceive channel blank go_on) is e = cc
   not_entered callers (AtSend channel v place next) is e = cc

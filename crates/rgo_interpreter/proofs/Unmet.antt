@@ -14,13 +14,13 @@ use Rattle.rgo_machine.specs.declared.picks.Pick.TheVariants.{Meet}
 use Rattle.rgo_interpreter.specs.Acting.{newest_stand, standing}
 use Rattle.rgo_interpreter.specs.Alone.{receives_at, sends_at}
 use Rattle.rgo_machine.specs.Machines.{Machine, State, picked, unless_ended, step_by}
-use Rattle.rgo_interpreter.specs.Meetings.{number_of, receiver_at, sender_at, IsUnmet, CanMeet, FindsReceivers}
+use Rattle.rgo_interpreter.specs.Meetings.{channel_number, receiver_at, sender_at, IsUnmet, CanMeet, FindsReceivers}
 use Rattle.rgo_interpreter.proofs.Meeting.{unmet, both_go_on}
 
 -- ---- by numbers
 
 -- two that meet meet at one number
-meets_nowhere : (m : Memory) (c d : Value) → ((n : ℕ) → number_of c ≡ Some n → number_of d ≡ Some n
+meets_nowhere : (m : Memory) (c d : Value) → ((n : ℕ) → channel_number c ≡ Some n → channel_number d ≡ Some n
     → meets_at m (value.Object n) (value.Object n) ≡ false) → meets_at m c d ≡ false
 meets_nowhere m (value.Object n) (value.Object k) none = by_number (cases_eq n k) where
   by_number : (n ≡ k) ⊎ (n ≡ k → ⊥) → meets_at m (value.Object n) (value.Object k) ≡ false
@@ -33,17 +33,17 @@ meets_nowhere m value.Nil d none = refl
 meets_nowhere m (value.Int n) d none = refl
 meets_nowhere m (value.Bool b) d none = refl
 
-object_of_number : (c : Value) (n : ℕ) → number_of c ≡ Some n → c ≡ value.Object n
+object_of_number : (c : Value) (n : ℕ) → channel_number c ≡ Some n → c ≡ value.Object n
 object_of_number (value.Object k) n e = ap value.Object (same_Some k n e)
 object_of_number value.Nil n e = cc
 object_of_number (value.Int k) n e = cc
 object_of_number (value.Bool b) n e = cc
 
-received_at : (o : Option Value) (n : ℕ) → option_and_then number_of o ≡ Some n → o ≡ Some (value.Object n)
+received_at : (o : Option Value) (n : ℕ) → option_and_then channel_number o ≡ Some n → o ≡ Some (value.Object n)
 received_at None n e = cc
 received_at (Some c) n e = ap Some (object_of_number c n e)
 
-sent_at : (o : Option (Value × Value)) (n : ℕ) → option_and_then number_of (option_map (λ send. send.0) o) ≡ Some n
+sent_at : (o : Option (Value × Value)) (n : ℕ) → option_and_then channel_number (option_map (λ send. send.0) o) ≡ Some n
     → (v : Value) × (o ≡ Some (value.Object n, v))
 sent_at None n e = cc
 sent_at (Some send) n e = (send.1, ap (λ c. Some (c, send.1)) (object_of_number send.0 n e))
@@ -64,8 +64,8 @@ module _ {F : Type 0} (machine : Machine F) (s : State F) (r t : ℕ) where
   apart : ((n : ℕ) → receiver_at machine s r ≡ Some n → sender_at machine s t ≡ Some n
       → meets_at s.memory (value.Object n) (value.Object n) ≡ false) → step_by machine s (Meet r t) ≡ None
   apart none = unmet machine s r t (λ c d v gets gives. meets_nowhere s.memory c d (λ n p q.
-      none n (ap (option_and_then number_of) gets ∙ p)
-      (ap (λ o. option_and_then number_of (option_map (λ send. send.0) o)) gives ∙ q)))
+      none n (ap (option_and_then channel_number) gets ∙ p)
+      (ap (λ o. option_and_then channel_number (option_map (λ send. send.0) o)) gives ∙ q)))
 
   -- both at one
   together : (n : ℕ) → s.ended ≡ None → receiver_at machine s r ≡ Some n → sender_at machine s t ≡ Some n
@@ -96,7 +96,7 @@ module _ {F : Type 0} (machine : Machine F) (s : State F) (t : ℕ) where
       → r < length s.goroutines
   exists r n gets (inl below) = below
   exists r n gets (inr past) =
-      absurd (different n (sym (ap (λ f. option_and_then number_of (receives_at (option_and_then
+      absurd (different n (sym (ap (λ f. option_and_then channel_number (receives_at (option_and_then
       (newest_stand machine) f))) (slice_get_past s.goroutines r past)) ∙ gets))
 
   module _ (channel : ℕ) (found : ℕ → Option ℕ) (sends : sender_at machine s t ≡ Some channel)
@@ -136,5 +136,5 @@ module _ {F : Type 0} (machine : Machine F) (s : State F) where
     by_cases (inl before) = h g before
     by_cases (inr behind) =
         sends_nowhere machine s g
-        (ap (λ f. option_and_then number_of (option_map (λ send. send.0) (sends_at (option_and_then
+        (ap (λ f. option_and_then channel_number (option_map (λ send. send.0) (sends_at (option_and_then
         (newest_stand machine) f)))) (slice_get_past s.goroutines g (omega (arith, all, behind))))

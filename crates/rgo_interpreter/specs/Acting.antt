@@ -24,22 +24,22 @@ module _ {F : Type 0} where
   stand_of Elsewhere = code.Elsewhere
 
   -- the frame after an operation on a channel that gave this value; as it was where it stands at no channel
-  abbrev pub passed : F → Value → Stand F → F
-  passed f v (AtReceive channel blank go_on) = go_on v
-  passed f v (AtSend channel value place next) = next
-  passed f v (AtClose channel place next) = next
-  passed f v _ = f
+  abbrev pub frame_after_operation : F → Value → Stand F → F
+  frame_after_operation f v (AtReceive channel blank go_on) = go_on v
+  frame_after_operation f v (AtSend channel value place next) = next
+  frame_after_operation f v (AtClose channel place next) = next
+  frame_after_operation f v _ = f
 
   -- the frame after a call or a start, and the new one
-  abbrev pub entered : Stand F → Option (F × F)
-  entered (AtCall next callee) = Some (next, callee)
-  entered (AtStart next child) = Some (next, child)
-  entered _ = None
+  abbrev pub entered_frames : Stand F → Option (F × F)
+  entered_frames (AtCall next callee) = Some (next, callee)
+  entered_frames (AtStart next child) = Some (next, child)
+  entered_frames _ = None
 
   -- what a call or a start left of a frame; nothing changed on allocation failure, and where there was none
   abbrev pub FrameEnters : Result (Option F) AllocError → (before after : F) → Stand F → Type 0
-  FrameEnters (Ok (Some begun)) before after stand = entered stand ≡ Some (after, begun)
-  FrameEnters (Ok None) before after stand = (entered stand ≡ None) × (after ≡ before)
+  FrameEnters (Ok (Some begun)) before after stand = entered_frames stand ≡ Some (after, begun)
+  FrameEnters (Ok None) before after stand = (entered_frames stand ≡ None) × (after ≡ before)
   FrameEnters (Err e) before after stand = after ≡ before
 
   -- What a frame did by itself, with the memory, the frame and the print before and after; on allocation failure

@@ -15,7 +15,7 @@ use Rattle.rgo_interpreter.specs.declared.goroutines.Happened.{Happened}
 use Rattle.rgo_interpreter.specs.declared.goroutines.Happened.TheVariants as happened
 use Rattle.rgo_machine.specs.declared.picks.End.{End}
 use Rattle.rgo_machine.specs.declared.picks.End.TheVariants as the_end
-use Rattle.rgo_interpreter.specs.Acting.{passed, entered}
+use Rattle.rgo_interpreter.specs.Acting.{frame_after_operation, entered_frames}
 use Rattle.rgo_machine.specs.Machines.{Machine, State, alone}
 
 -- what an operation on a channel did
@@ -29,9 +29,9 @@ abbrev pub ChangesAt : Result Happened AllocError → Memory → Memory → Type
 ChangesAt (Ok (happened.Operates n)) before after = SameChannelsBut n before after
 ChangesAt _ before after = SameChannels before after
 
-abbrev pub is_start : CodeStand → Bool
-is_start code.Start = true
-is_start _ = false
+abbrev pub is_at_start : CodeStand → Bool
+is_at_start code.Start = true
+is_at_start _ = false
 
 -- the channel from which a goroutine receives next, where it stands there
 abbrev pub receives_at : Option CodeStand → Option Value
@@ -52,7 +52,7 @@ module _ {F : Type 0} where
   -- the frames after an operation on a channel, which gave this value
   abbrev pub after_operation : Machine F → Value → List F → List F
   after_operation machine v [] = []
-  after_operation machine v (f ∷ callers) = passed f v (machine.stand f) ∷ callers
+  after_operation machine v (f ∷ callers) = frame_after_operation f v (machine.stand f) ∷ callers
 
   -- the same by the effect of the operation
   abbrev pub after_effect : Machine F → CodeEffect → List F → List F
@@ -77,7 +77,7 @@ module _ {F : Type 0} where
   -- the frames after a call or a start, without the new one, and the new one
   abbrev pub entered_by : Machine F → List F → Option (List F × F)
   entered_by machine [] = None
-  entered_by machine (f ∷ callers) = option_map (onto callers) (entered (machine.stand f))
+  entered_by machine (f ∷ callers) = option_map (onto callers) (entered_frames (machine.stand f))
 
   -- The frame of the function that was called or started. Where there was none, and on allocation failure, nothing
   -- changed.
@@ -99,12 +99,12 @@ module _ {F : Type 0} where
   Calls machine (Err e) before after = after ≡ before
 
   -- the same, with the frame of the function in a goroutine of its own
-  abbrev pub with_child : List F × F → List F × List F
-  with_child both = (both.0, both.1 ∷ [])
+  abbrev pub with_child_goroutine : List F × F → List F × List F
+  with_child_goroutine both = (both.0, both.1 ∷ [])
 
   abbrev pub ChildBegins : Machine F → Result (Option (List F)) AllocError → (before after : List F) → Type 0
   ChildBegins machine (Ok (Some child)) before after =
-      option_map with_child (entered_by machine before) ≡ Some (after, child)
+      option_map with_child_goroutine (entered_by machine before) ≡ Some (after, child)
   ChildBegins machine (Ok None) before after = (entered_by machine before ≡ None) × (after ≡ before)
   ChildBegins machine (Err e) before after = after ≡ before
 
@@ -145,7 +145,7 @@ module _ {F : Type 0} where
   MeetsSo false before after next = (next ≡ None) × (after ≡ before)
 
   -- the goroutines after an operation of one on a channel, which gave this value
-  abbrev pub after_pass : Machine F → Value → List (List F) → ℕ → List (List F)
-  after_pass machine v [] g = []
-  after_pass machine v (frames ∷ goroutines) zero = after_operation machine v frames ∷ goroutines
-  after_pass machine v (frames ∷ goroutines) (suc g) = frames ∷ after_pass machine v goroutines g
+  abbrev pub goroutines_after_operation : Machine F → Value → List (List F) → ℕ → List (List F)
+  goroutines_after_operation machine v [] g = []
+  goroutines_after_operation machine v (frames ∷ goroutines) zero = after_operation machine v frames ∷ goroutines
+  goroutines_after_operation machine v (frames ∷ goroutines) (suc g) = frames ∷ goroutines_after_operation machine v goroutines g

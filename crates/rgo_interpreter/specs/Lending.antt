@@ -10,7 +10,7 @@ use Rattle.rgo_interpreter.specs.contracts.memory.Memory as memory
 use Rattle.rgo_interpreter.specs.contracts.objects.Object as object
 use Rattle.rgo_interpreter.specs.Blocks.{Puts}
 use Rattle.rgo_memory.specs.Memory.{with_object}
-use Rattle.rgo_interpreter.specs.Views.{object_of, memory_of}
+use Rattle.rgo_interpreter.specs.Views.{object_view, memory_view}
 
 -- the block of that number is now this one, and nothing else changed
 abbrev pub HasBlock : Memory → ℕ → Block → Memory → Type 0
@@ -26,8 +26,8 @@ LendsBlock m b lent = LendsSo memory.the_row block.the_row m lent
 -- the memory ends with the object that was written last; unchanged where none was lent
 abbrev pub LendsObject : MutBor Memory → ℕ → Option (MutBor Object) → Fml
 LendsObject m n lent = LendsSo memory.the_row object.the_row m lent
-    (λ after object. OnSome lent (memory_of after ≡ with_object (memory_of m.now) n (object_of object)))
-    (λ after. memory_of after ≡ memory_of m.now)
+    (λ after object. OnSome lent (memory_view after ≡ with_object (memory_view m.now) n (object_view object)))
+    (λ after. memory_view after ≡ memory_view m.now)
 
 -- the block ends with the object that was written last in that slot; unchanged where none was lent
 abbrev pub LendsSlot : MutBor Block → ℕ → Option (MutBor Object) → Fml

@@ -9,17 +9,17 @@ use Rattle.rgo_interpreter.specs.Alone.{receives_at, sends_at}
 use Rattle.rgo_machine.specs.Machines.{Machine, State, step_by}
 
 -- the number of the channel, unless it is nil
-abbrev pub number_of : Value → Option ℕ
-number_of (value.Object n) = Some n
-number_of _ = None
+abbrev pub channel_number : Value → Option ℕ
+channel_number (value.Object n) = Some n
+channel_number _ = None
 
 module _ {F : Type 0} (machine : Machine F) where
   -- the channel from which a goroutine receives next, and that to which it sends
   abbrev pub receiver_at : State F → ℕ → Option ℕ
-  receiver_at s g = option_and_then number_of (receives_at (standing machine s g))
+  receiver_at s g = option_and_then channel_number (receives_at (standing machine s g))
 
   abbrev pub sender_at : State F → ℕ → Option ℕ
-  sender_at s g = option_and_then number_of (option_map (λ send. send.0) (sends_at (standing machine s g)))
+  sender_at s g = option_and_then channel_number (option_map (λ send. send.0) (sends_at (standing machine s g)))
 
   -- no goroutine meets this sender
   abbrev pub IsUnmet : State F → ℕ → Type 0

@@ -13,7 +13,7 @@ use Rattle.rgo_interpreter.specs.declared.blocks.Block.{Block}
 use Rattle.rgo_interpreter.specs.declared.memory.Memory.{Memory as CodeMemory}
 use Rattle.rgo_interpreter.specs.declared.effects.Effect.{Effect as CodeEffect}
 use Rattle.rgo_interpreter.specs.declared.effects.Effect.TheVariants as effect
-use Rattle.rgo_interpreter.specs.Blocks.{slot_in}
+use Rattle.rgo_interpreter.specs.Blocks.{slot_in_block}
 use Rattle.rgo_memory.specs.Memory.{Object, StructObject, SliceObject, Channel, Memory}
 use Rattle.rgo_memory.specs.Effects.{Outcome, Does, Traps}
 
@@ -21,31 +21,31 @@ use Rattle.rgo_memory.specs.Effects.{Outcome, Does, Traps}
 abbrev pub channel_of : CodeChannel → Object
 channel_of c = Channel c.capacity c.queue.items c.closed
 
-abbrev pub object_of : CodeObject → Object
-object_of (code.Struct cells) = StructObject cells.items
-object_of (code.Slice cells) = SliceObject cells.items
-object_of (code.Channel c) = channel_of c.value
+abbrev pub object_view : CodeObject → Object
+object_view (code.Struct cells) = StructObject cells.items
+object_view (code.Slice cells) = SliceObject cells.items
+object_view (code.Channel c) = channel_of c.value
 
 -- an entry as an object: a struct without fields where there is none
-abbrev pub object_in : Option CodeObject → Object
-object_in (Some object) = object_of object
-object_in None = StructObject []
+abbrev pub object_view_or_empty : Option CodeObject → Object
+object_view_or_empty (Some object) = object_view object
+object_view_or_empty None = StructObject []
 
 -- the block of that number
 abbrev pub block_of : CodeMemory → ℕ → Option Block
 block_of m b = get nat_eq m.blocks b
 
 -- that block is at this index of the blocks
-abbrev pub IsAt : CodeMemory → ℕ → ℕ → Type 0
-IsAt m index b = (block : Block) × (slice_get m.blocks.entries index ≡ Some (b, block))
+abbrev pub IsBlockAt : CodeMemory → ℕ → ℕ → Type 0
+IsBlockAt m index b = (block : Block) × (slice_get m.blocks.entries index ≡ Some (b, block))
 
 -- the entry of that number, as an object: a slot of its block
-abbrev pub entry_of : CodeMemory → ℕ → Object
-entry_of m n = object_in (slot_in (block_of m (n / 16)) (n % 16))
+abbrev pub object_view_at : CodeMemory → ℕ → Object
+object_view_at m n = object_view_or_empty (slot_in_block (block_of m (n / 16)) (n % 16))
 
 -- the objects that were made, in the order of making; entries of other numbers are not seen
-abbrev pub memory_of : CodeMemory → Memory
-memory_of m = record { heap = map (entry_of m) (range_with_len 0 m.made); variables = m.variables.items }
+abbrev pub memory_view : CodeMemory → Memory
+memory_view m = record { heap = map (object_view_at m) (range_with_len 0 m.made); variables = m.variables.items }
 
 -- the answer of what only reads
 abbrev pub effect_of : Result Value Trap → CodeEffect
@@ -53,13 +53,13 @@ effect_of (Ok v) = effect.Gives v
 effect_of (Err trap) = effect.Traps trap
 
 -- the answer, and what it leaves of what was before, are that outcome
-abbrev pub Leaves : {S : Type 0} → CodeEffect → S → S → Outcome S → Type 0
-Leaves (effect.Gives v) before after outcome = outcome ≡ Does after v
-Leaves (effect.Traps trap) before after outcome = (outcome ≡ Traps trap) × (after ≡ before)
+abbrev pub LeavesOutcome : {S : Type 0} → CodeEffect → S → S → Outcome S → Type 0
+LeavesOutcome (effect.Gives v) before after outcome = outcome ≡ Does after v
+LeavesOutcome (effect.Traps trap) before after outcome = (outcome ≡ Traps trap) × (after ≡ before)
 
 -- the same; on allocation failure nothing changed
 abbrev pub Performs : {S : Type 0} → Result CodeEffect AllocError → S → S → Outcome S → Type 0
-Performs (Ok answer) before after outcome = Leaves answer before after outcome
+Performs (Ok answer) before after outcome = LeavesOutcome answer before after outcome
 Performs (Err e) before after outcome = after ≡ before
 
 -- the same of an operation on a channel that may not be ready; then nothing changed

@@ -4,7 +4,7 @@ ghost use Rattle.std.specs.Prelude.{◌≡◌};
 ghost use Rattle.rgo_memory.specs.Perform.{set_variable, on_none, on_one, on_two, on_three};
 ghost use Rattle.rgo_memory.specs.Perform.{perform};
 ghost use Rattle.rgo_memory.specs.Channels.{SameChannels};
-ghost use Rattle.rgo_interpreter.specs.Views.{Leaves, Performs, memory_of};
+ghost use Rattle.rgo_interpreter.specs.Views.{LeavesOutcome, Performs, memory_view};
 
 use crate::effects::{Effect, answered};
 use crate::elements::{element_at, length_of, put};
@@ -16,8 +16,8 @@ use rgo_typed::{Action, Struct, Type};
 use std::alloc::{AllocError, Global};
 
 fn set_variable(memory: &mut Memory, number: usize, value: Value) -> Effect
-    ensures { Leaves result (memory_of memory.old) (memory_of memory.new)
-        (set_variable number value (memory_of memory.old)) }
+    ensures { LeavesOutcome result (memory_view memory.old) (memory_view memory.new)
+        (set_variable number value (memory_view memory.old)) }
 {
     if let Some(variable) = memory.variables.get_mut(number) {
         *variable = value;
@@ -31,8 +31,8 @@ fn on_none(
     structs: &[Struct],
     action: Action,
 ) -> Result<Effect, AllocError>
-    ensures { Performs result (memory_of memory.old) (memory_of memory.new)
-        (on_none structs.now action (memory_of memory.old)) }
+    ensures { Performs result (memory_view memory.old) (memory_view memory.new)
+        (on_none structs.now action (memory_view memory.old)) }
 {
     let value = match action {
         Action::Int(n) => Value::Int(n),
@@ -67,8 +67,8 @@ fn on_one(
     ty: &Type,
     x: Value,
 ) -> Result<Effect, AllocError>
-    ensures { Performs result (memory_of memory.old) (memory_of memory.new)
-        (on_one action ty.now x (memory_of memory.old)) }
+    ensures { Performs result (memory_view memory.old) (memory_view memory.new)
+        (on_one action ty.now x (memory_view memory.old)) }
 {
     match action {
         Action::Copy => Ok(Effect::Gives(x)),
@@ -96,8 +96,8 @@ fn on_one(
 }
 
 fn on_two(memory: &mut Memory, action: Action, x: Value, y: Value) -> Effect
-    ensures { Leaves result (memory_of memory.old) (memory_of memory.new)
-        (on_two action x y (memory_of memory.old)) }
+    ensures { LeavesOutcome result (memory_view memory.old) (memory_view memory.new)
+        (on_two action x y (memory_view memory.old)) }
 {
     match action {
         Action::Binary(op) => answered(binary(op, x, y)),
@@ -125,8 +125,8 @@ fn on_two(memory: &mut Memory, action: Action, x: Value, y: Value) -> Effect
 }
 
 fn on_three(memory: &mut Memory, action: Action, x: Value, y: Value, z: Value) -> Effect
-    ensures { Leaves result (memory_of memory.old) (memory_of memory.new)
-        (on_three action x y z (memory_of memory.old)) }
+    ensures { LeavesOutcome result (memory_view memory.old) (memory_view memory.new)
+        (on_three action x y z (memory_view memory.old)) }
 {
     match action {
         Action::Put => put(memory, x, y, z),
@@ -169,9 +169,9 @@ pub fn perform(
     ty: &Type,
     operands: &[Value],
 ) -> Result<Effect, AllocError>
-    ensures performs { Performs result (memory_of memory.old) (memory_of memory.new)
-        (perform structs.now action ty.now operands.now (memory_of memory.old)) }
-    ensures channels { SameChannels (memory_of memory.old) (memory_of memory.new) }
+    ensures performs { Performs result (memory_view memory.old) (memory_view memory.new)
+        (perform structs.now action ty.now operands.now (memory_view memory.old)) }
+    ensures channels { SameChannels (memory_view memory.old) (memory_view memory.new) }
 {
     match operands {
         [] => on_none(alloc, memory, structs, action),

@@ -3,7 +3,7 @@
 ghost use Rattle.std.specs.Prelude.{◌≡◌, ◌<◌, ℕ, IsTrue, IfOk, OnOk, None, Some};
 ghost use Rattle.std.specs.Borrow.{sem};
 ghost use Rattle.std.specs.Option.{option_copied, option_copied_mut};
-ghost use Rattle.rgo_interpreter.specs.Blocks.{slot_of, Puts};
+ghost use Rattle.rgo_interpreter.specs.Blocks.{slot_of_block, Puts};
 ghost use Rattle.rgo_interpreter.specs.Lending.{LendsSlot};
 
 use crate::objects::Object;
@@ -25,7 +25,7 @@ impl Block {
     ///
     /// On allocation failure.
     pub(crate) fn new(alloc: Global) -> Result<Block, AllocError>
-        ensures { IfOk result (λ block. (k : ℕ) → slot_of block k ≡ None) }
+        ensures { IfOk result (λ block. (k : ℕ) → slot_of_block block k ≡ None) }
     {
         Ok(Block {
             slots: Vec::with_capacity(alloc, SLOTS)?,
@@ -35,7 +35,7 @@ impl Block {
     /// The object in a slot.
     #[inline(always)]
     pub(crate) fn get(&self, slot: usize) -> Option<&Object>
-        ensures { option_copied result ≡ slot_of self.now slot }
+        ensures { option_copied result ≡ slot_of_block self.now slot }
     {
         match self.slots.get(slot) {
             Some(object) => object.as_ref(),
@@ -47,7 +47,7 @@ impl Block {
     #[inline(always)]
     pub(crate) fn get_mut(&mut self, slot: usize) -> Option<&mut Object>
         ensures* writes_back { sem 𝓛 (LendsSlot self.entry slot result) }
-        ensures value { option_copied_mut result ≡ slot_of self.old slot }
+        ensures value { option_copied_mut result ≡ slot_of_block self.old slot }
     {
         match self.slots.get_mut(slot) {
             Some(object) => object.as_mut(),
@@ -61,8 +61,8 @@ impl Block {
     ///
     /// On allocation failure.
     pub(crate) fn put(&mut self, slot: usize, object: Object) -> Result<(), AllocError>
-        ensures put { OnOk result (slot_of self.new slot ≡ Some object) }
-        ensures kept { (k : ℕ) → k < slot → slot_of self.new k ≡ slot_of self.old k }
+        ensures put { OnOk result (slot_of_block self.new slot ≡ Some object) }
+        ensures kept { (k : ℕ) → k < slot → slot_of_block self.new k ≡ slot_of_block self.old k }
     {
         self.slots.resize_with(slot, || None)?;
         self.slots.push(Some(object))?;
@@ -80,7 +80,7 @@ impl Block {
 
     /// Whether no slot has an object. It looks at the newest first, since the oldest are mostly taken away first.
     pub(crate) fn is_empty(&self) -> bool
-        ensures { IsTrue result → (k : ℕ) → slot_of self.now k ≡ None }
+        ensures { IsTrue result → (k : ℕ) → slot_of_block self.now k ≡ None }
     {
         self.slots.iter().rev().all(|object| object.is_none())
     }

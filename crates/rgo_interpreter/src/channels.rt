@@ -5,7 +5,7 @@ ghost use Rattle.std.specs.Prelude.{◌≡◌};
 ghost use Rattle.std.specs.Option.{is_some};
 ghost use Rattle.rgo_memory.specs.Channels.{received, receive, sent, send, shut, close};
 ghost use Rattle.rgo_memory.specs.Channels.{is_meeting_place, meets_at};
-ghost use Rattle.rgo_interpreter.specs.Views.{Leaves, LeavesIfReady, PerformsIfReady, channel_of, object_of, memory_of};
+ghost use Rattle.rgo_interpreter.specs.Views.{LeavesOutcome, LeavesIfReady, PerformsIfReady, channel_of, object_view, memory_view};
 
 use crate::effects::Effect;
 use crate::memory::Memory;
@@ -14,8 +14,8 @@ use rgo_memory::{Trap, Value};
 use std::alloc::AllocError;
 
 fn receive_from(object: &mut Object, blank: Value) -> Option<Effect>
-    ensures { LeavesIfReady result (object_of object.old) (object_of object.new)
-        (received blank (object_of object.old)) }
+    ensures { LeavesIfReady result (object_view object.old) (object_view object.new)
+        (received blank (object_view object.old)) }
 {
     let Object::Channel(channel) = object else {
         return Some(Effect::Gives(Value::Nil));
@@ -30,8 +30,8 @@ fn receive_from(object: &mut Object, blank: Value) -> Option<Effect>
 /// A receive: `None` where the channel is open and empty, or nil, so that the receiver has to wait. A closed channel
 /// gives what it still has, and then `blank`.
 pub fn receive(memory: &mut Memory, channel: Value, blank: Value) -> Option<Effect>
-    ensures { LeavesIfReady result (memory_of memory.old) (memory_of memory.new)
-        (receive (memory_of memory.old) channel blank) }
+    ensures { LeavesIfReady result (memory_view memory.old) (memory_view memory.new)
+        (receive (memory_view memory.old) channel blank) }
 {
     match channel {
         Value::Nil => None,
@@ -44,7 +44,7 @@ pub fn receive(memory: &mut Memory, channel: Value, blank: Value) -> Option<Effe
 }
 
 fn has_value(object: &Object) -> bool
-    ensures { (blank : Value) → result ≡ is_some (received blank (object_of object.now)) }
+    ensures { (blank : Value) → result ≡ is_some (received blank (object_view object.now)) }
 {
     match object {
         Object::Channel(channel) => channel.closed || !channel.queue.is_empty(),
@@ -55,7 +55,7 @@ fn has_value(object: &Object) -> bool
 /// Whether a receiver at this channel does not have to wait.
 #[tactic(auto, using(crate::proofs::Reading::ready_read))]
 pub fn can_receive(memory: &Memory, channel: Value) -> bool
-    ensures { (blank : Value) → result ≡ is_some (receive (memory_of memory.now) channel blank) }
+    ensures { (blank : Value) → result ≡ is_some (receive (memory_view memory.now) channel blank) }
 {
     match channel {
         Value::Nil => false,
@@ -82,8 +82,8 @@ fn send_in(channel: &mut Channel, value: Value) -> Result<Option<Effect>, AllocE
 }
 
 fn send_to(object: &mut Object, value: Value) -> Result<Option<Effect>, AllocError>
-    ensures { PerformsIfReady result (object_of object.old) (object_of object.new)
-        (sent value (object_of object.old)) }
+    ensures { PerformsIfReady result (object_view object.old) (object_view object.new)
+        (sent value (object_view object.old)) }
 {
     match object {
         Object::Channel(channel) => send_in(channel, value),
@@ -98,8 +98,8 @@ fn send_to(object: &mut Object, value: Value) -> Result<Option<Effect>, AllocErr
 ///
 /// Where there is no memory for the value. Then nothing changed.
 pub fn send(memory: &mut Memory, channel: Value, value: Value) -> Result<Option<Effect>, AllocError>
-    ensures { PerformsIfReady result (memory_of memory.old) (memory_of memory.new)
-        (send (memory_of memory.old) channel value) }
+    ensures { PerformsIfReady result (memory_view memory.old) (memory_view memory.new)
+        (send (memory_view memory.old) channel value) }
 {
     match channel {
         Value::Nil => Ok(None),
@@ -112,7 +112,7 @@ pub fn send(memory: &mut Memory, channel: Value, value: Value) -> Result<Option<
 }
 
 fn has_room(object: &Object) -> bool
-    ensures { (value : Value) → result ≡ is_some (sent value (object_of object.now)) }
+    ensures { (value : Value) → result ≡ is_some (sent value (object_view object.now)) }
 {
     match object {
         Object::Channel(channel) => channel.closed || channel.queue.len() < channel.capacity,
@@ -123,7 +123,7 @@ fn has_room(object: &Object) -> bool
 /// Whether a sender at this channel does not have to wait.
 #[tactic(auto, using(crate::proofs::Reading::ready_read))]
 pub fn can_send(memory: &Memory, channel: Value) -> bool
-    ensures { (value : Value) → result ≡ is_some (send (memory_of memory.now) channel value) }
+    ensures { (value : Value) → result ≡ is_some (send (memory_view memory.now) channel value) }
 {
     match channel {
         Value::Nil => false,
@@ -136,8 +136,8 @@ pub fn can_send(memory: &Memory, channel: Value) -> bool
 }
 
 fn shut(object: &mut Object) -> Effect
-    ensures { Leaves result (object_of object.old) (object_of object.new)
-        (shut (object_of object.old)) }
+    ensures { LeavesOutcome result (object_view object.old) (object_view object.new)
+        (shut (object_view object.old)) }
 {
     let Object::Channel(channel) = object else {
         return Effect::Gives(Value::Nil);
@@ -151,8 +151,8 @@ fn shut(object: &mut Object) -> Effect
 
 /// A close. A close of nil, or of a closed channel, traps.
 pub fn close(memory: &mut Memory, channel: Value) -> Effect
-    ensures { Leaves result (memory_of memory.old) (memory_of memory.new)
-        (close (memory_of memory.old) channel) }
+    ensures { LeavesOutcome result (memory_view memory.old) (memory_view memory.new)
+        (close (memory_view memory.old) channel) }
 {
     match channel {
         Value::Nil => Effect::Traps(Trap::CloseNil),
@@ -165,7 +165,7 @@ pub fn close(memory: &mut Memory, channel: Value) -> Effect
 }
 
 fn is_meeting_place(object: &Object) -> bool
-    ensures { result ≡ is_meeting_place (object_of object.now) }
+    ensures { result ≡ is_meeting_place (object_view object.now) }
 {
     match object {
         Object::Channel(channel) => !channel.closed && channel.capacity == 0,
@@ -176,7 +176,7 @@ fn is_meeting_place(object: &Object) -> bool
 /// Whether a receiver at the first channel and a sender at the second meet: whether both are one
 /// open channel without a buffer.
 pub fn meets_at(memory: &Memory, receiver: Value, sender: Value) -> bool
-    ensures { result ≡ meets_at (memory_of memory.now) receiver sender }
+    ensures { result ≡ meets_at (memory_view memory.now) receiver sender }
 {
     match (receiver, sender) {
         (Value::Object(m), Value::Object(n)) if m == n => match memory.object(m) {

@@ -2,7 +2,7 @@
 
 ghost use Rattle.std.specs.Prelude.{◌≡◌, None, IfOk};
 ghost use Rattle.std.specs.Option.{is_some};
-ghost use Rattle.rgo_interpreter.specs.Views.{memory_of};
+ghost use Rattle.rgo_interpreter.specs.Views.{memory_view};
 ghost use Rattle.rgo_interpreter.specs.Reports as deadlocks;
 ghost use Rattle.rgo_interpreter.specs.Reports.{ReportsWaiting, ReportsDeadlock};
 ghost use Rattle.rgo_machine.specs.Machines.{step_by};
@@ -17,7 +17,7 @@ use std::alloc::{AllocError, Global};
 
 /// Whether a goroutine that stands there does not have to wait.
 fn is_ready(memory: &Memory, stand: Stand) -> bool
-    ensures { result ≡ deadlocks.has_step_alone (memory_of memory.now) stand }
+    ensures { result ≡ deadlocks.has_step_alone (memory_view memory.now) stand }
 {
     match stand {
         Stand::Receive { channel, .. } => can_receive(memory, channel),

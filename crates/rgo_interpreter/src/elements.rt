@@ -3,7 +3,7 @@
 
 ghost use Rattle.std.specs.Prelude.{◌≡◌};
 ghost use Rattle.rgo_memory.specs.Elements.{element, element_at, length_of, put_in, put};
-ghost use Rattle.rgo_interpreter.specs.Views.{Leaves, object_of, memory_of};
+ghost use Rattle.rgo_interpreter.specs.Views.{LeavesOutcome, object_view, memory_view};
 
 use crate::effects::Effect;
 use crate::memory::Memory;
@@ -30,7 +30,7 @@ fn element(cells: &[Value], index: i64) -> Result<Value, Trap>
 /// If the index is out of range.
 #[inline(always)]
 pub fn element_at(memory: &Memory, slice: Value, index: Value) -> Result<Value, Trap>
-    ensures { result ≡ element_at (memory_of memory.now) slice index }
+    ensures { result ≡ element_at (memory_view memory.now) slice index }
 {
     match (slice, index) {
         (Value::Nil, Value::Int(_)) => Err(Trap::IndexRange),
@@ -45,7 +45,7 @@ pub fn element_at(memory: &Memory, slice: Value, index: Value) -> Result<Value, 
 /// How many elements a slice has.
 #[inline(always)]
 pub fn length_of(memory: &Memory, slice: Value) -> Value
-    ensures { result ≡ length_of (memory_of memory.now) slice }
+    ensures { result ≡ length_of (memory_view memory.now) slice }
 {
     match slice {
         Value::Nil => Value::Int(0),
@@ -59,8 +59,8 @@ pub fn length_of(memory: &Memory, slice: Value) -> Value
 
 #[inline(always)]
 fn put_in(object: &mut Object, index: i64, value: Value) -> Effect
-    ensures { Leaves result (object_of object.old) (object_of object.new)
-        (put_in index value (object_of object.old)) }
+    ensures { LeavesOutcome result (object_view object.old) (object_view object.new)
+        (put_in index value (object_view object.old)) }
 {
     let Object::Slice(cells) = object else {
         return Effect::Gives(Value::Nil);
@@ -80,8 +80,8 @@ fn put_in(object: &mut Object, index: i64, value: Value) -> Effect
 /// An element becomes the value.
 #[inline(always)]
 pub fn put(memory: &mut Memory, slice: Value, index: Value, value: Value) -> Effect
-    ensures { Leaves result (memory_of memory.old) (memory_of memory.new)
-        (put (memory_of memory.old) slice index value) }
+    ensures { LeavesOutcome result (memory_view memory.old) (memory_view memory.new)
+        (put (memory_view memory.old) slice index value) }
 {
     match (slice, index) {
         (Value::Nil, Value::Int(_)) => Effect::Traps(Trap::IndexRange),

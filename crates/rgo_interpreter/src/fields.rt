@@ -2,7 +2,7 @@
 
 ghost use Rattle.std.specs.Prelude.{◌≡◌};
 ghost use Rattle.rgo_memory.specs.Fields.{load, store_outcome, store};
-ghost use Rattle.rgo_interpreter.specs.Views.{Leaves, object_of, memory_of};
+ghost use Rattle.rgo_interpreter.specs.Views.{LeavesOutcome, object_view, memory_view};
 
 use crate::effects::Effect;
 use crate::memory::Memory;
@@ -16,7 +16,7 @@ use rgo_memory::{Trap, Value};
 /// If the pointer is nil.
 #[inline(always)]
 pub fn load(memory: &Memory, pointer: Value, field: usize) -> Result<Value, Trap>
-    ensures { result ≡ load (memory_of memory.now) pointer field }
+    ensures { result ≡ load (memory_view memory.now) pointer field }
 {
     match pointer {
         Value::Nil => Err(Trap::NilPointer),
@@ -30,8 +30,8 @@ pub fn load(memory: &Memory, pointer: Value, field: usize) -> Result<Value, Trap
 
 #[inline(always)]
 fn store_in(object: &mut Object, field: usize, value: Value) -> Effect
-    ensures { Leaves result (object_of object.old) (object_of object.new)
-        (store_outcome field value (object_of object.old)) }
+    ensures { LeavesOutcome result (object_view object.old) (object_view object.new)
+        (store_outcome field value (object_view object.old)) }
 {
     if let Object::Struct(cells) = object {
         if let Some(cell) = cells.get_mut(field) {
@@ -44,8 +44,8 @@ fn store_in(object: &mut Object, field: usize, value: Value) -> Effect
 /// A field becomes the value.
 #[inline(always)]
 pub fn store(memory: &mut Memory, pointer: Value, field: usize, value: Value) -> Effect
-    ensures { Leaves result (memory_of memory.old) (memory_of memory.new)
-        (store (memory_of memory.old) pointer field value) }
+    ensures { LeavesOutcome result (memory_view memory.old) (memory_view memory.new)
+        (store (memory_view memory.old) pointer field value) }
 {
     match pointer {
         Value::Nil => Effect::Traps(Trap::NilPointer),

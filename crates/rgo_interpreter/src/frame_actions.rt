@@ -2,7 +2,7 @@
 
 ghost use Rattle.std.specs.Prelude.{◌≡◌, ◌<◌, ℕ, length, IfSome, MatchOption};
 ghost use Rattle.rgo_memory.specs.declared.values.Value as the_value;
-ghost use Rattle.rgo_interpreter.specs.Acting.{stand_of, passed};
+ghost use Rattle.rgo_interpreter.specs.Acting.{stand_of, frame_after_operation};
 ghost use Rattle.rgo_machine.specs.Actions as spec;
 
 use crate::machines::Stand;
@@ -83,8 +83,8 @@ pub fn at_channel<F>(action: Action, blank: Value, at: Place, values: &[Value]) 
 /// channel that gave this value: a send or a close gives nil.
 pub fn given<F>(action: Action, values: &[Value], value: Value) -> Option<Value>
     ensures passes { (f : F) (blank : the_value.Value) (at : ℕ) (go_on : the_value.Value → F)
-        → MatchOption result (passed f value (spec.at_channel action blank at go_on values.now) ≡ f)
-        (λ v. passed f value (spec.at_channel action blank at go_on values.now) ≡ go_on v) }
+        → MatchOption result (frame_after_operation f value (spec.at_channel action blank at go_on values.now) ≡ f)
+        (λ v. frame_after_operation f value (spec.at_channel action blank at go_on values.now) ≡ go_on v) }
     ensures some { IfSome result (λ v. 0 < length values.now) }
 {
     match (action, values) {

@@ -2,10 +2,10 @@
 
 ghost use Rattle.std.specs.Prelude.{◌≡◌, OnOk, OnErr, Some, false, reverse};
 ghost use Rattle.std.specs.Vec.{vec_len, vec_capacity};
-ghost use Rattle.rgo_interpreter.specs.Views.{memory_of};
+ghost use Rattle.rgo_interpreter.specs.Views.{memory_view};
 ghost use Rattle.rgo_interpreter.specs.Acting.{newest_stand};
 ghost use Rattle.rgo_interpreter.specs.Alone.{after_operation, after_effect, after_return, ended_by_return, happened_by};
-ghost use Rattle.rgo_interpreter.specs.Alone.{EntersNewest, Calls, ChildBegins, Happens, ChangesAt, KeepsPrint, is_start};
+ghost use Rattle.rgo_interpreter.specs.Alone.{EntersNewest, Calls, ChildBegins, Happens, ChangesAt, KeepsPrint, is_at_start};
 ghost use Rattle.rgo_interpreter.specs.declared.machines.Stand.TheVariants as stand;
 
 use crate::channels::{close, receive, send};
@@ -134,9 +134,9 @@ fn act<M: Machine>(
     g: usize,
 ) -> Result<Happened, AllocError>
     requires { newest_stand (M.machine machine.now) goroutine.old ≡ Some stand.Elsewhere }
-    ensures happens { Happens (M.machine machine.now) g result (memory_of memory.old) (memory_of memory.new)
+    ensures happens { Happens (M.machine machine.now) g result (memory_view memory.old) (memory_view memory.new)
         goroutine.old goroutine.new printed.old.items printed.new.items }
-    ensures channels { ChangesAt result (memory_of memory.old) (memory_of memory.new) }
+    ensures channels { ChangesAt result (memory_view memory.old) (memory_view memory.new) }
     ensures print { KeepsPrint result printed.old.items printed.new.items }
 {
     let Some(frame) = goroutine.frames.last_mut() else {
@@ -192,10 +192,10 @@ pub(crate) fn go<M: Machine>(
     stand: Stand,
 ) -> Result<Happened, AllocError>
     requires stands { newest_stand (M.machine machine.now) goroutine.old ≡ Some stand }
-    requires starts_none { is_start stand ≡ false }
-    ensures happens { Happens (M.machine machine.now) g result (memory_of memory.old) (memory_of memory.new)
+    requires starts_none { is_at_start stand ≡ false }
+    ensures happens { Happens (M.machine machine.now) g result (memory_view memory.old) (memory_view memory.new)
         goroutine.old goroutine.new printed.old.items printed.new.items }
-    ensures channels { ChangesAt result (memory_of memory.old) (memory_of memory.new) }
+    ensures channels { ChangesAt result (memory_view memory.old) (memory_view memory.new) }
     ensures print { KeepsPrint result printed.old.items printed.new.items }
 {
     match stand {

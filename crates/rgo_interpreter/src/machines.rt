@@ -49,8 +49,8 @@ pub enum Did {
 pub trait Machine {
     ghost use Rattle.std.specs.Prelude.{◌≡◌, OnOk, OnErr};
     ghost use Rattle.rgo_memory.specs.Channels.{SameChannels};
-    ghost use Rattle.rgo_interpreter.specs.Views.{memory_of};
-    ghost use Rattle.rgo_interpreter.specs.Acting.{stand_of, passed, FrameEnters, FrameActs};
+    ghost use Rattle.rgo_interpreter.specs.Views.{memory_view};
+    ghost use Rattle.rgo_interpreter.specs.Acting.{stand_of, frame_after_operation, FrameEnters, FrameActs};
     ghost use Rattle.rgo_machine.specs.Machines as spec;
 
     /// A function that was called, with what it has still to do.
@@ -64,7 +64,7 @@ pub trait Machine {
 
     /// A frame continues after an operation on a channel, which gave this value: nil where it gives none.
     fn pass(&self, frame: &mut Self::Frame, value: Value)
-        ensures { frame.new ≡ passed frame.old value ((machine self.now).stand frame.old) };
+        ensures { frame.new ≡ frame_after_operation frame.old value ((machine self.now).stand frame.old) };
 
     /// A frame continues after a call or a start. Answers the new frame; `None` where it stands at neither.
     ///
@@ -90,9 +90,9 @@ pub trait Machine {
         frame: &mut Self::Frame,
         out: &mut Vec<u8>,
     ) -> Result<Did, AllocError>
-        ensures acts { FrameActs result (memory_of memory.old) (memory_of memory.new) frame.old frame.new
-            out.old.items out.new.items ((machine self.now).act (memory_of memory.old) frame.old) }
-        ensures channels { SameChannels (memory_of memory.old) (memory_of memory.new) };
+        ensures acts { FrameActs result (memory_view memory.old) (memory_view memory.new) frame.old frame.new
+            out.old.items out.new.items ((machine self.now).act (memory_view memory.old) frame.old) }
+        ensures channels { SameChannels (memory_view memory.old) (memory_view memory.new) };
 
     /// A caller continues where the callee has returned, with a value or without one.
     ///

@@ -4,7 +4,7 @@
 ghost use Rattle.std.specs.Prelude.{◌≡◌, ◌<◌, ℕ, map, IfOk, OnOk};
 ghost use Rattle.rgo_memory.specs.Values.{zero_of};
 ghost use Rattle.rgo_memory.specs.Making.{made, new_struct, new_slice, new_channel};
-ghost use Rattle.rgo_interpreter.specs.Views.{Performs, object_of, entry_of, memory_of};
+ghost use Rattle.rgo_interpreter.specs.Views.{Performs, object_view, object_view_at, memory_view};
 
 use crate::blocks::{Block, SLOTS};
 use crate::effects::Effect;
@@ -18,8 +18,8 @@ use std::collections::VecDeque;
 
 /// An object in the slot of the next number.
 fn put(alloc: Global, memory: &mut Memory, object: Object) -> Result<(), AllocError>
-    ensures put { OnOk result (entry_of memory.new memory.old.made ≡ object_of object) }
-    ensures kept { (n : ℕ) → n < memory.old.made → entry_of memory.new n ≡ entry_of memory.old n }
+    ensures put { OnOk result (object_view_at memory.new memory.old.made ≡ object_view object) }
+    ensures kept { (n : ℕ) → n < memory.old.made → object_view_at memory.new n ≡ object_view_at memory.old n }
     ensures made { memory.new.made ≡ memory.old.made }
     ensures variables { memory.new.variables ≡ memory.old.variables }
 {
@@ -41,8 +41,8 @@ fn put(alloc: Global, memory: &mut Memory, object: Object) -> Result<(), AllocEr
 }
 
 fn make(alloc: Global, memory: &mut Memory, object: Object) -> Result<Effect, AllocError>
-    ensures { Performs result (memory_of memory.old) (memory_of memory.new)
-        (made (memory_of memory.old) (object_of object)) }
+    ensures { Performs result (memory_view memory.old) (memory_view memory.new)
+        (made (memory_view memory.old) (object_view object)) }
 {
     let number = memory.made;
     let Some(more) = number.checked_add(1) else {
@@ -66,8 +66,8 @@ pub(crate) fn new_struct(
     structs: &[Struct],
     number: usize,
 ) -> Result<Effect, AllocError>
-    ensures { Performs result (memory_of memory.old) (memory_of memory.new)
-        (new_struct structs.now number (memory_of memory.old)) }
+    ensures { Performs result (memory_view memory.old) (memory_view memory.new)
+        (new_struct structs.now number (memory_view memory.old)) }
 {
     let Some(of) = structs.get(number) else {
         return Ok(Effect::Gives(Value::Nil));
@@ -83,8 +83,8 @@ pub(crate) fn new_slice(
     ty: &Type,
     len: Value,
 ) -> Result<Effect, AllocError>
-    ensures { Performs result (memory_of memory.old) (memory_of memory.new)
-        (new_slice ty.now len (memory_of memory.old)) }
+    ensures { Performs result (memory_view memory.old) (memory_view memory.new)
+        (new_slice ty.now len (memory_view memory.old)) }
 {
     let Value::Int(len) = len else {
         return Ok(Effect::Gives(Value::Nil));
@@ -102,8 +102,8 @@ pub(crate) fn new_channel(
     memory: &mut Memory,
     capacity: Value,
 ) -> Result<Effect, AllocError>
-    ensures { Performs result (memory_of memory.old) (memory_of memory.new)
-        (new_channel capacity (memory_of memory.old)) }
+    ensures { Performs result (memory_view memory.old) (memory_view memory.new)
+        (new_channel capacity (memory_view memory.old)) }
 {
     let Value::Int(capacity) = capacity else {
         return Ok(Effect::Gives(Value::Nil));

@@ -15,7 +15,7 @@ use std::collections::HashMap;
 
 /// The number of a channel, unless it is nil.
 fn number_of(channel: Value) -> Option<usize>
-    ensures { result ≡ meetings.number_of channel }
+    ensures { result ≡ meetings.channel_number channel }
 {
     match channel {
         Value::Object(number) => Some(number),

@@ -5,10 +5,10 @@ ghost use Rattle.std.specs.Borrow.{sem};
 ghost use Rattle.std.specs.Option.{option_copied, option_copied_mut};
 ghost use Rattle.rgo_memory.specs.Values.{zero_of};
 ghost use Rattle.rgo_memory.specs.Opening.{opening};
-ghost use Rattle.rgo_interpreter.specs.Blocks.{slot_in};
+ghost use Rattle.rgo_interpreter.specs.Blocks.{slot_in_block};
 ghost use Rattle.rgo_memory.specs.Memory.{emptied, object_at};
 ghost use Rattle.rgo_interpreter.specs.Lending.{LendsBlock, LendsObject};
-ghost use Rattle.rgo_interpreter.specs.Views.{memory_of, object_in, block_of, IsAt};
+ghost use Rattle.rgo_interpreter.specs.Views.{memory_view, object_view_or_empty, block_of, IsBlockAt};
 
 use crate::blocks::{Block, SLOTS};
 use crate::objects::Object;
@@ -45,7 +45,7 @@ impl Memory {
     ///
     /// Where there is no memory for the variables.
     pub fn new(alloc: Global, variables: &[Variable]) -> Result<Memory, AllocError>
-        ensures { IfOk result (λ memory. memory_of memory ≡ opening variables.now) }
+        ensures { IfOk result (λ memory. memory_view memory ≡ opening variables.now) }
     {
         Ok(Memory {
             blocks: IndexMap::new(alloc),
@@ -58,7 +58,7 @@ impl Memory {
     /// How many objects were made. Those that were taken away are counted too.
     #[inline(always)]
     pub fn len(&self) -> usize
-        ensures { result ≡ length (memory_of self.now).heap }
+        ensures { result ≡ length (memory_view self.now).heap }
     {
         self.made
     }
@@ -66,7 +66,7 @@ impl Memory {
     /// Takes an object away, and gives back the memory that it held. Its number is not used again.
     /// Nothing happens where it was taken away before, or never made.
     pub fn take_away(&mut self, n: usize)
-        ensures { memory_of self.new ≡ emptied (memory_of self.old) n }
+        ensures { memory_view self.new ≡ emptied (memory_view self.old) n }
     {
         let number = n / SLOTS;
         let Some(block) = self.block_mut(number) else {
@@ -81,7 +81,7 @@ impl Memory {
 
     /// Drops the block of this number, if it has no object.
     pub(crate) fn drop_if_empty(&mut self, number: usize)
-        ensures slots { (b k : ℕ) → slot_in (block_of self.new b) k ≡ slot_in (block_of self.old b) k }
+        ensures slots { (b k : ℕ) → slot_in_block (block_of self.new b) k ≡ slot_in_block (block_of self.old b) k }
         ensures made { self.new.made ≡ self.old.made }
         ensures variables { self.new.variables ≡ self.old.variables }
     {
@@ -96,7 +96,7 @@ impl Memory {
     /// Whether the block at this index has this number.
     #[inline(always)]
     fn is_at(&self, index: usize, number: usize) -> bool
-        ensures { IsTrue result → IsAt self.now index number }
+        ensures { IsTrue result → IsBlockAt self.now index number }
     {
         match self.blocks.get_index(index) {
             Some((key, _)) => *key == number,
@@ -108,7 +108,7 @@ impl Memory {
     /// older, or all newer.
     #[inline(always)]
     fn index_of(&self, number: usize) -> Option<usize>
-        ensures { IfSome result (λ index. IsAt self.now index number) }
+        ensures { IfSome result (λ index. IsBlockAt self.now index number) }
     {
         let made = self.made.saturating_add(SLOTS - 1) / SLOTS;
         let removed = made.saturating_sub(self.blocks.len());
@@ -148,7 +148,7 @@ impl Memory {
     /// The object of a number, `None` where it was taken away or never made.
     #[inline(always)]
     pub(crate) fn object(&self, n: usize) -> Option<&Object>
-        ensures { object_at (memory_of self.now) n ≡ object_in (option_copied result) }
+        ensures { object_at (memory_view self.now) n ≡ object_view_or_empty (option_copied result) }
     {
         if n < self.made {
             match self.block(n / SLOTS) {
@@ -164,7 +164,7 @@ impl Memory {
     #[inline(always)]
     pub(crate) fn object_mut(&mut self, n: usize) -> Option<&mut Object>
         ensures* writes_back { sem 𝓛 (LendsObject self.entry n result) }
-        ensures value { object_at (memory_of self.old) n ≡ object_in (option_copied_mut result) }
+        ensures value { object_at (memory_view self.old) n ≡ object_view_or_empty (option_copied_mut result) }
     {
         if n < self.made {
             match self.block_mut(n / SLOTS) {

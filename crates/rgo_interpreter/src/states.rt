@@ -1,7 +1,7 @@
 //! The state of a run.
 
 ghost use Rattle.std.specs.Prelude.{◌≡◌, [], length, option_to_list, IfOk};
-ghost use Rattle.rgo_interpreter.specs.Views.{memory_of};
+ghost use Rattle.rgo_interpreter.specs.Views.{memory_view};
 ghost use Rattle.rgo_interpreter.specs.Acting as acting;
 ghost use Rattle.rgo_machine.specs.Machines.{start_state};
 
@@ -38,13 +38,13 @@ pub struct State<F> {
 }
 
 impl<F> Model for State<F> {
-    ghost use Rattle.rgo_interpreter.specs.Views.{memory_of};
+    ghost use Rattle.rgo_interpreter.specs.Views.{memory_view};
     ghost use Rattle.rgo_machine.specs.Machines.{State};
 
     ghost Value = { State F };
 
     ghost view = { λ s. record {
-      memory = memory_of s.memory;
+      memory = memory_view s.memory;
       goroutines = s.goroutines.items;
       printed = s.printed.items;
       ended = s.ended;
@@ -58,7 +58,7 @@ impl<F: Drop> State<F> {
     ///
     /// On allocation failure.
     pub fn new(alloc: Global, memory: Memory, main: Option<F>) -> Result<State<F>, AllocError>
-        ensures { IfOk result (λ s. s ≡ start_state (memory_of memory) (option_to_list main)) }
+        ensures { IfOk result (λ s. s ≡ start_state (memory_view memory) (option_to_list main)) }
     {
         let mut frames = Vec::new(alloc);
         if let Some(frame) = main {

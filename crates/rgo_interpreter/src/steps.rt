@@ -4,7 +4,7 @@ ghost use Rattle.std.specs.Prelude.{◌≡◌, Some, None};
 ghost use Rattle.rgo_interpreter.specs.Acting as acting;
 ghost use Rattle.rgo_interpreter.specs.Acting.{MachineSteps};
 ghost use Rattle.rgo_interpreter.specs.Alone as alone;
-ghost use Rattle.rgo_interpreter.specs.Alone.{StepsAlone, ChangesAt, KeepsPrint, MeetsSo, after_pass};
+ghost use Rattle.rgo_interpreter.specs.Alone.{StepsAlone, ChangesAt, KeepsPrint, MeetsSo, goroutines_after_operation};
 ghost use Rattle.rgo_machine.specs.Machines.{step_by, picked};
 ghost use Rattle.rgo_interpreter.specs.declared.machines.Stand.TheVariants as stand;
 ghost use Rattle.rgo_machine.specs.declared.picks.Pick.TheVariants.{One, Meet};
@@ -29,7 +29,7 @@ pub enum Stepped {
 }
 
 fn is_start(stand: Stand) -> bool
-    ensures { result ≡ alone.is_start stand }
+    ensures { result ≡ alone.is_at_start stand }
 {
     match stand {
         Stand::Start => true,
@@ -131,7 +131,7 @@ fn pass_at<M: Machine>(
     g: usize,
     value: Value,
 )
-    ensures { goroutines.new.items ≡ after_pass (M.machine machine.now) value goroutines.old.items g }
+    ensures { goroutines.new.items ≡ goroutines_after_operation (M.machine machine.now) value goroutines.old.items g }
 {
     if let Some(goroutine) = goroutines.get_mut(g) {
         pass(machine, goroutine, value);

@@ -4,7 +4,7 @@ use Rattle.std.specs.Option.{option_map}
 use Rattle.rgo_code_words.proofs.Options.{not_none, mapped}
 use Rattle.rgo_journal.specs.declared.picks.TacPick.{TacPick}
 use Rattle.rgo_journal.specs.declared.picks.TacPick.TheVariants.{One, Meet, Case, CaseMeet}
-use Rattle.rgo_journal.specs.Reading.{after_front, number_to, two_numbers, three_numbers, or_else, read_one, read_meet, read_case, read_case_meet, read_pick}
+use Rattle.rgo_journal.specs.Reading.{after_front, number_to, two_numbers, three_numbers, read_after_front, read_one, read_meet, read_case, read_case_meet, read_pick}
 use Rattle.rgo_journal.specs.Text.{PickFits, pick_line}
 use Rattle.rgo_journal.proofs.Fronts.{after_sound, number_to_back, number_to_sound, two_back, two_sound, three_back, three_sound}
 
@@ -89,26 +89,26 @@ else_sound : (front bytes : List ℕ) (p : TacPick) (rest : List ℕ) (read : Li
     (other : Option (TacPick × List ℕ))
     → ((tail : List ℕ) → bytes ≡ front ++ tail → read tail ≡ Some (p, rest) → PickIs bytes p rest)
     → (other ≡ Some (p, rest) → PickIs bytes p rest)
-    → or_else (after_front front bytes) read other ≡ Some (p, rest) → PickIs bytes p rest
+    → read_after_front (after_front front bytes) read other ≡ Some (p, rest) → PickIs bytes p rest
 else_sound front bytes p rest read other here there e = by (after_front front bytes) refl e
   where
-    by : (o : Option (List ℕ)) → after_front front bytes ≡ o → or_else o read other ≡ Some (p, rest) → PickIs bytes p rest
+    by : (o : Option (List ℕ)) → after_front front bytes ≡ o → read_after_front o read other ≡ Some (p, rest) → PickIs bytes p rest
     by None q r = there r
     by (Some tail) q r = here tail (after_sound front bytes tail q) r
 
 pub pick_sound : (bytes : List ℕ) (p : TacPick) (rest : List ℕ) → read_pick bytes ≡ Some (p, rest) → PickIs bytes p rest
 pick_sound bytes p rest e =
     else_sound (codes "one ") bytes p rest read_one
-    (or_else (after_front (codes "meet ") bytes) read_meet
-    (or_else (after_front (codes "case ") bytes) read_case
-    (or_else (after_front (codes "casemeet ") bytes) read_case_meet None)))
+    (read_after_front (after_front (codes "meet ") bytes) read_meet
+    (read_after_front (after_front (codes "case ") bytes) read_case
+    (read_after_front (after_front (codes "casemeet ") bytes) read_case_meet None)))
     (λ tail. one_sound bytes tail p rest)
     (else_sound (codes "meet ") bytes p rest read_meet
-    (or_else (after_front (codes "case ") bytes) read_case
-    (or_else (after_front (codes "casemeet ") bytes) read_case_meet None))
+    (read_after_front (after_front (codes "case ") bytes) read_case
+    (read_after_front (after_front (codes "casemeet ") bytes) read_case_meet None))
     (λ tail. meet_sound bytes tail p rest)
     (else_sound (codes "case ") bytes p rest read_case
-    (or_else (after_front (codes "casemeet ") bytes) read_case_meet None)
+    (read_after_front (after_front (codes "casemeet ") bytes) read_case_meet None)
     (λ tail. case_sound bytes tail p rest)
     (else_sound (codes "casemeet ") bytes p rest read_case_meet None
     (λ tail. case_meet_sound bytes tail p rest)

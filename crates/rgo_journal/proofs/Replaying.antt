@@ -17,7 +17,7 @@ use Rattle.rgo_code_words.proofs.Options.{some_same, not_none}
 use Rattle.rgo_journal.specs.declared.picks.TacPick.{TacPick}
 use Rattle.rgo_journal.specs.declared.replays.ReplayEnd.{ReplayEnd}
 use Rattle.rgo_journal.specs.declared.replays.ReplayEnd.TheVariants.{Ended, Deadlock, Unfinished, Foreign, WriteFault, NoMemory}
-use Rattle.rgo_journal.specs.Laws.{IsWhole, OneReplay, SameSteps}
+use Rattle.rgo_journal.specs.Laws.{IsFaultlessEnd, OneReplay, SameSteps}
 use Rattle.rgo_journal.specs.Picks.{journal_pick, taken}
 use Rattle.rgo_journal.specs.Replays.{ReplayEndsAs, ReplayPrints, Replays, TakesPicks, Takes1, TakesFirstPicks}
 
@@ -151,7 +151,7 @@ module _ (code : Tac) (picks : List TacPick) where
   ended_not : (s t : TacState) (e : End) → s ≡ t → s.ended ≡ Some e → t.ended ≡ None → ⊥
   ended_not s t e same p q = not_none e (sym q ∙ sym (ap (λ v. v.ended) same) ∙ p)
 
-  one_end : (a b : ReplayEnd) (s t : TacState) → IsWhole a → IsWhole b → ReplayEndsAs code picks s a → ReplayEndsAs code picks t b
+  one_end : (a b : ReplayEnd) (s t : TacState) → IsFaultlessEnd a → IsFaultlessEnd b → ReplayEndsAs code picks s a → ReplayEndsAs code picks t b
       → (a ≡ b) × (s ≡ t)
   one_end (Ended e) (Ended f) s t v w p q =
       let same = same_state s t picks p.0 q.0 in

@@ -4,12 +4,12 @@ use Rattle.std.specs.Prelude.{All}
 use Rattle.std.proofs.lemmas.List.{take_at}
 use Rattle.std.proofs.lemmas.List.Elements.{All-nil, All-push}
 use denote.Ref.{Bor}
-use Rattle.rgo_code_words.specs.Readers.{seen as seen_rest}
+use Rattle.rgo_code_words.specs.Readers.{bytes_now as seen_rest}
 use Rattle.rgo_code_words.proofs.Options.{not_none}
 use Rattle.rgo_journal.specs.declared.picks.TacPick.{TacPick}
 use Rattle.rgo_journal.specs.declared.picks.TacPick.TheVariants.{One, Meet, Case, CaseMeet}
 use Rattle.rgo_journal.specs.Forms.{HasNoFirst, HasNoPick}
-use Rattle.rgo_journal.specs.Reading.{after_front, read_pick, seen}
+use Rattle.rgo_journal.specs.Reading.{after_front, read_pick, seen_one}
 use Rattle.rgo_journal.specs.Text.{PickFits, IsJournal, first_line, journal, last_line, pick_line, pick_lines}
 use Rattle.rgo_journal.proofs.Fronts.{after_back, after_sound}
 use Rattle.rgo_journal.proofs.Lines.{pick_back, pick_sound}
@@ -83,8 +83,8 @@ ends bytes picks rest text s e =
     }
 
 -- nothing was read
-pub none_seen : {A : Type 0} (o : Option (A × Bor (List ℕ))) (r : Option (A × List ℕ)) → seen o ≡ r → o ≡ None → r ≡ None
-none_seen {A} o r e n = sym e ∙ ap (seen {A = A}) n
+pub none_seen : {A : Type 0} (o : Option (A × Bor (List ℕ))) (r : Option (A × List ℕ)) → seen_one o ≡ r → o ≡ None → r ≡ None
+none_seen {A} o r e n = sym e ∙ ap (seen_one {A = A}) n
 
 pub none_after : (o : Option (Bor (List ℕ))) (r : Option (List ℕ)) → seen_rest o ≡ r
     → ((x : Bor (List ℕ)) → o ≡ Some x → ⊥) → r ≡ None

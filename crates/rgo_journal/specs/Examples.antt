@@ -4,7 +4,7 @@ use Rattle.rgo_journal.specs.declared.picks.TacPick.TheVariants.{One, Meet, Case
 use Rattle.rgo_journal.specs.Forms.{IsFirstBadJournalLine}
 use Rattle.rgo_journal.specs.Text.{PickFits, IsJournal, journal}
 
-pub record Examples : Type 0 where
+pub record JournalExamples : Type 0 where
   pub empty : journal [] ≡ codes "rgo picks 1\ntext\n"
   pub all : journal (One 0 ∷ Meet 10 2 ∷ Case 3 0 ∷ CaseMeet 4 1 5 ∷ [])
       ≡ codes "rgo picks 1\none 0\nmeet 10 2\ncase 3 0\ncasemeet 4 1 5\ntext\n"

@@ -27,12 +27,12 @@ SameSteps = (code : Tac) (picks : List Pick) (s : TacState) → Leads (tac_step 
     → TakesPicks code (map journal_pick picks) s
 
 -- an end that is neither a failed write nor an allocation failure
-abbrev pub IsWhole : ReplayEnd → Type 0
-IsWhole WriteFault = ⊥
-IsWhole NoMemory = ⊥
-IsWhole _ = Unit {0}
+abbrev pub IsFaultlessEnd : ReplayEnd → Type 0
+IsFaultlessEnd WriteFault = ⊥
+IsFaultlessEnd NoMemory = ⊥
+IsFaultlessEnd _ = Unit {0}
 
 -- A replay of picks on code can end in one way only.
 abbrev pub OneReplay : Type 0
-OneReplay = (code : Tac) (picks : List TacPick) (a b : ReplayEnd) (s t : TacState) → IsWhole a → IsWhole b
+OneReplay = (code : Tac) (picks : List TacPick) (a b : ReplayEnd) (s t : TacState) → IsFaultlessEnd a → IsFaultlessEnd b
     → ReplayEndsAs code picks s a → ReplayEndsAs code picks t b → (a ≡ b) × (s ≡ t)

@@ -2,7 +2,7 @@
 use Rattle.std.specs.Prelude.{Option, Some, None, option_and_then}
 use Rattle.rgo_machine.specs.declared.picks.Pick.{Pick}
 use Rattle.rgo_machine.specs.declared.picks.Pick.TheVariants as machine
-use Rattle.rgo_code_words.specs.Worded.{IsSmall}
+use Rattle.rgo_code_words.specs.Worded.{IsSmallNumber}
 use Rattle.rgo_tac.specs.Code.{Tac}
 use Rattle.rgo_tac.specs.Tac.{TacState, tac_step}
 use Rattle.rgo_journal.specs.declared.picks.TacPick.{TacPick}
@@ -17,8 +17,8 @@ machine_pick (CaseMeet g k s) = None
 
 -- each number of the machine's pick has 32 bits
 abbrev pub IsSmallPick : Pick → Type 0
-IsSmallPick (machine.One g) = IsSmall g
-IsSmallPick (machine.Meet r s) = IsSmall r × IsSmall s
+IsSmallPick (machine.One g) = IsSmallNumber g
+IsSmallPick (machine.Meet r s) = IsSmallNumber r × IsSmallNumber s
 
 -- the pick in a journal
 abbrev pub journal_pick : Pick → TacPick

@@ -44,22 +44,22 @@ abbrev pub read_case_meet : List ℕ → Option (TacPick × List ℕ)
 read_case_meet bytes = option_map (λ a. (CaseMeet a.0 a.1 a.2, a.3)) (three_numbers bytes)
 
 -- what is read after a front, or what is read where that is missing
-abbrev pub or_else : {A : Type 0} → Option (List ℕ) → (List ℕ → Option A) → Option A → Option A
-or_else None read other = other
-or_else (Some rest) read other = read rest
+abbrev pub read_after_front : {A : Type 0} → Option (List ℕ) → (List ℕ → Option A) → Option A → Option A
+read_after_front None read other = other
+read_after_front (Some rest) read other = read rest
 
 -- the pick whose line the bytes begin with, and what follows the line
 abbrev pub read_pick : List ℕ → Option (TacPick × List ℕ)
 read_pick bytes =
-    or_else (after_front (codes "one ") bytes) read_one
-    (or_else (after_front (codes "meet ") bytes) read_meet
-    (or_else (after_front (codes "case ") bytes) read_case
-    (or_else (after_front (codes "casemeet ") bytes) read_case_meet None)))
+    read_after_front (after_front (codes "one ") bytes) read_one
+    (read_after_front (after_front (codes "meet ") bytes) read_meet
+    (read_after_front (after_front (codes "case ") bytes) read_case
+    (read_after_front (after_front (codes "casemeet ") bytes) read_case_meet None)))
 
 -- what was read, and what follows, as the code has it
-abbrev pub seen : {A : Type 0} → Option (A × Bor (List ℕ)) → Option (A × List ℕ)
-seen None = None
-seen (Some r) = Some (r.0, r.1.now)
+abbrev pub seen_one : {A : Type 0} → Option (A × Bor (List ℕ)) → Option (A × List ℕ)
+seen_one None = None
+seen_one (Some r) = Some (r.0, r.1.now)
 
 abbrev pub seen_two : Option (ℕ × ℕ × Bor (List ℕ)) → Option (ℕ × ℕ × List ℕ)
 seen_two None = None

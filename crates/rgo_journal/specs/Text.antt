@@ -1,16 +1,16 @@
 -- The text of a journal: a first line, a line for each pick, and a last line. What follows is not part of it.
 use Rattle.std.specs.Prelude.{◌≡◌, ◌≤◌, ℕ, List, ◌++◌, length, take, All, codes, decimal}
 use Rattle.std.specs.List.{flat_map}
-use Rattle.rgo_code_words.specs.Worded.{IsSmall}
+use Rattle.rgo_code_words.specs.Worded.{IsSmallNumber}
 use Rattle.rgo_journal.specs.declared.picks.TacPick.{TacPick}
 use Rattle.rgo_journal.specs.declared.picks.TacPick.TheVariants.{One, Meet, Case, CaseMeet}
 
 -- each number of the pick has 32 bits
 abbrev pub PickFits : TacPick → Type 0
-PickFits (One g) = IsSmall g
-PickFits (Meet r s) = IsSmall r × IsSmall s
-PickFits (Case g k) = IsSmall g × IsSmall k
-PickFits (CaseMeet g k s) = IsSmall g × IsSmall k × IsSmall s
+PickFits (One g) = IsSmallNumber g
+PickFits (Meet r s) = IsSmallNumber r × IsSmallNumber s
+PickFits (Case g k) = IsSmallNumber g × IsSmallNumber k
+PickFits (CaseMeet g k s) = IsSmallNumber g × IsSmallNumber k × IsSmallNumber s
 
 -- its line, with the newline
 abbrev pub pick_line : TacPick → List ℕ

@@ -1,6 +1,6 @@
 //! What holds of journals and replays.
 
-ghost use Rattle.rgo_journal.specs.Examples.{Examples};
+ghost use Rattle.rgo_journal.specs.Examples.{JournalExamples};
 ghost use Rattle.rgo_journal.specs.Laws.{OneReplay, ReadBack, SameSteps};
 
 /// Reading a journal returns the picks that it was printed from, whatever follows it. A text has one journal at its beginning,
@@ -21,5 +21,5 @@ pub fn one_replay()
 
 /// Journals, and texts that are not journals.
 pub fn examples()
-    ensures { Examples }
+    ensures { JournalExamples }
 {}

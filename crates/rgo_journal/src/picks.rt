@@ -1,7 +1,7 @@
 //! The picks of a journal.
 
 ghost use Rattle.std.specs.Prelude.{◌≡◌, MatchOption};
-ghost use Rattle.rgo_code_words.specs.Worded.{IsSmall};
+ghost use Rattle.rgo_code_words.specs.Worded.{IsSmallNumber};
 ghost use Rattle.rgo_machine.specs.declared.picks.Pick.TheVariants.{Meet};
 ghost use Rattle.rgo_journal.specs.Picks as spec;
 ghost use Rattle.rgo_journal.specs.Picks.{IsSmallPick};
@@ -34,7 +34,7 @@ pub fn machine_pick(pick: TacPick) -> Option<Pick>
 
 /// The number, if it has 32 bits.
 fn small(n: usize) -> Option<u32>
-    ensures { MatchOption result (IsSmall n → ⊥) (λ m. (m ≡ n) × IsSmall n) }
+    ensures { MatchOption result (IsSmallNumber n → ⊥) (λ m. (m ≡ n) × IsSmallNumber n) }
 {
     if n <= u32::MAX as usize {
         Some(n as u32)

@@ -4,7 +4,7 @@ ghost use Rattle.std.specs.Prelude.{◌≡◌, ◌<◌, length, MatchResult};
 ghost use Rattle.rgo_code_words.specs.Readers as words;
 ghost use Rattle.rgo_journal.specs.Forms.{RefusesJournal};
 ghost use Rattle.rgo_journal.specs.Reading as spec;
-ghost use Rattle.rgo_journal.specs.Reading.{seen, seen_two, seen_three};
+ghost use Rattle.rgo_journal.specs.Reading.{seen_one, seen_two, seen_three};
 ghost use Rattle.rgo_journal.specs.Text.{IsJournal};
 
 use crate::errors::{PicksError, PicksText};
@@ -26,7 +26,7 @@ pub struct Picks {
 
 /// What follows `front`, if the bytes begin with it.
 fn after<'t>(bytes: &'t [u8], front: &[u8]) -> Option<&'t [u8]>
-    ensures { words.seen result ≡ spec.after_front front.now bytes.now }
+    ensures { words.bytes_now result ≡ spec.after_front front.now bytes.now }
 {
     if bytes.starts_with(front) {
         Some(&bytes[front.len()..])
@@ -38,7 +38,7 @@ fn after<'t>(bytes: &'t [u8], front: &[u8]) -> Option<&'t [u8]>
 /// The number before the first such byte, and what follows that byte; none where the byte is missing, since a line without its
 /// newline has no form.
 fn number_to<'t>(bytes: &'t [u8], byte: u8) -> Option<(u32, &'t [u8])>
-    ensures { seen result ≡ spec.number_to byte bytes.now }
+    ensures { seen_one result ≡ spec.number_to byte bytes.now }
 {
     let len = len_to(bytes, byte);
     if len == bytes.len() {
@@ -75,7 +75,7 @@ fn three_numbers<'t>(bytes: &'t [u8]) -> Option<(u32, u32, u32, &'t [u8])>
 }
 
 fn read_one<'t>(bytes: &'t [u8]) -> Option<(TacPick, &'t [u8])>
-    ensures { seen result ≡ spec.read_one bytes.now }
+    ensures { seen_one result ≡ spec.read_one bytes.now }
 {
     match number_to(bytes, b'\n') {
         Some((g, rest)) => Some((TacPick::One(g), rest)),
@@ -84,7 +84,7 @@ fn read_one<'t>(bytes: &'t [u8]) -> Option<(TacPick, &'t [u8])>
 }
 
 fn read_meet<'t>(bytes: &'t [u8]) -> Option<(TacPick, &'t [u8])>
-    ensures { seen result ≡ spec.read_meet bytes.now }
+    ensures { seen_one result ≡ spec.read_meet bytes.now }
 {
     match two_numbers(bytes) {
         Some((receiver, sender, rest)) => Some((TacPick::Meet(receiver, sender), rest)),
@@ -93,7 +93,7 @@ fn read_meet<'t>(bytes: &'t [u8]) -> Option<(TacPick, &'t [u8])>
 }
 
 fn read_case<'t>(bytes: &'t [u8]) -> Option<(TacPick, &'t [u8])>
-    ensures { seen result ≡ spec.read_case bytes.now }
+    ensures { seen_one result ≡ spec.read_case bytes.now }
 {
     match two_numbers(bytes) {
         Some((g, case, rest)) => Some((TacPick::Case(g, case), rest)),
@@ -102,7 +102,7 @@ fn read_case<'t>(bytes: &'t [u8]) -> Option<(TacPick, &'t [u8])>
 }
 
 fn read_case_meet<'t>(bytes: &'t [u8]) -> Option<(TacPick, &'t [u8])>
-    ensures { seen result ≡ spec.read_case_meet bytes.now }
+    ensures { seen_one result ≡ spec.read_case_meet bytes.now }
 {
     match three_numbers(bytes) {
         Some((g, case, sender, rest)) => Some((TacPick::CaseMeet(g, case, sender), rest)),
@@ -112,7 +112,7 @@ fn read_case_meet<'t>(bytes: &'t [u8]) -> Option<(TacPick, &'t [u8])>
 
 /// The pick whose line the bytes begin with, and what follows the line.
 fn read_pick<'t>(bytes: &'t [u8]) -> Option<(TacPick, &'t [u8])>
-    ensures { seen result ≡ spec.read_pick bytes.now }
+    ensures { seen_one result ≡ spec.read_pick bytes.now }
 {
     if let Some(rest) = after(bytes, b"one ") {
         return read_one(rest);

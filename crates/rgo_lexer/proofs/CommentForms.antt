@@ -4,7 +4,7 @@ use Rattle.std.specs.Prelude.{option_map, codes, nat_eq}
 use Rattle.std.specs.List.{list_any, position_or_len}
 use Rattle.std.proofs.lemmas.Bool.{and_parts, eqb-true, cond_both, false≢true, or_cases, or_left, or_right}
 use Rattle.std.proofs.lemmas.List.Sums.{prefix_len-le-length}
-use Rattle.rgo_lexer.specs.Bytes.{begins_with}
+use Rattle.rgo_lexer.specs.Bytes.{has_prefix}
 use Rattle.rgo_lexer.specs.Comments.{first_close, is_newline, begins_line_comment, begins_comment, acts_as, closed_at, comment_at}
 use Rattle.rgo_lexer.specs.Front.{FitsIn, IsWidthIn}
 use Rattle.rgo_lexer.specs.declared.front.Front.TheVariants.{Blank, Newline, Piece}
@@ -14,14 +14,14 @@ use Rattle.rgo_lexer.proofs.Begins.{begins_with-length, begins_with-whole}
 first_close-within : (text : List ℕ) → IfSome (first_close text) (λ k. k + 2 ≤ length text)
 first_close-within [] = tt
 first_close-within (b ∷ text) =
-    by_test (begins_with (b ∷ text) (codes "*/")) refl (first_close-within text)
+    by_test (has_prefix (b ∷ text) (codes "*/")) refl (first_close-within text)
   where
     later : (o : Option ℕ) → IfSome o (λ k. k + 2 ≤ length text)
         → IfSome (option_map suc o) (λ k. k + 2 ≤ length (b ∷ text))
     later None h = tt
     later (Some k) h = omega (arith, h)
 
-    by_test : (v : Bool) → begins_with (b ∷ text) (codes "*/") ≡ v
+    by_test : (v : Bool) → has_prefix (b ∷ text) (codes "*/") ≡ v
         → IfSome (first_close text) (λ k. k + 2 ≤ length text)
         → IfSome (cond v (Some 0) (option_map suc (first_close text)))
         (λ k. k + 2 ≤ length (b ∷ text))
@@ -46,7 +46,7 @@ closed_fits text None some h = some
 closed_fits text (Some k) some h =
     acts_fits text (k + 4) (record { some = omega arith; within = h })
 
-general_fits : (text : List ℕ) → begins_with text (codes "/*") ≡ true
+general_fits : (text : List ℕ) → has_prefix text (codes "/*") ≡ true
     → FitsIn text (closed_at text (first_close (drop 2 text)))
 general_fits text e =
     let two : 2 ≤ length text = begins_with-length (codes "/*") text e in
@@ -64,7 +64,7 @@ unfolding comment_at
 comment_fits b rest e = by_test (begins_line_comment (b ∷ rest)) refl e
   where
     by_test : (v : Bool) → begins_line_comment (b ∷ rest) ≡ v
-        → (v || begins_with (b ∷ rest) (codes "/*")) ≡ true
+        → (v || has_prefix (b ∷ rest) (codes "/*")) ≡ true
         → FitsIn (b ∷ rest) (cond v (Blank (position_or_len is_newline (b ∷ rest)))
         (closed_at (b ∷ rest) (first_close (drop 2 (b ∷ rest)))))
     by_test true line e = line_fits b rest line
@@ -96,11 +96,11 @@ comment_no_piece text terminal m e = by_test (begins_line_comment text) e
 pub begins_comment-whole : (text : List ℕ) (n : ℕ) → begins_comment (take n text) ≡ true
     → begins_comment text ≡ true
 begins_comment-whole text n e =
-    ⊎_elim (λ line. or_left (begins_line_comment text) (begins_with text (codes "/*"))
+    ⊎_elim (λ line. or_left (begins_line_comment text) (has_prefix text (codes "/*"))
     (begins_with-whole (codes "//") text n line))
-    (λ general. or_right (begins_line_comment text) (begins_with text (codes "/*"))
+    (λ general. or_right (begins_line_comment text) (has_prefix text (codes "/*"))
     (begins_with-whole (codes "/*") text n general))
-    (or_cases (begins_line_comment (take n text)) (begins_with (take n text) (codes "/*")) e)
+    (or_cases (begins_line_comment (take n text)) (has_prefix (take n text) (codes "/*")) e)
 
 pub comment_fits_in : (text : List ℕ) → begins_comment text ≡ true → FitsIn text (comment_at text)
 comment_fits_in [] e = absurd (false≢true e)

@@ -4,7 +4,7 @@ use Rattle.std.proofs.Common.{◌≡◌, ℕ, zero, suc, Bool, true, false, cond
 use Rattle.std.specs.Prelude.{◌==◌, ◌||◌, not}
 use Rattle.std.proofs.lemmas.Bool.{false≢true}
 use Rattle.rgo_lexer.specs.Bytes.{is_blank, is_letter, is_digit}
-use Rattle.rgo_lexer.specs.Words.{word_at}
+use Rattle.rgo_lexer.specs.Words.{word_at_front}
 use Rattle.rgo_lexer.specs.Numbers.{number_at}
 use Rattle.rgo_lexer.specs.Strings.{string_at}
 use Rattle.rgo_lexer.specs.Comments.{begins_comment, comment_at}
@@ -30,7 +30,7 @@ record Forms : Type 0 where
 
 abbrev forms_of : List ℕ → Forms
 forms_of text = record {
-  word = word_at text;
+  word = word_at_front text;
   number = number_at text;
   string = string_at text;
   note = comment_at text;
@@ -61,7 +61,7 @@ by_form P false false false false false false f b l w n s c o = o refl
 
 -- what holds of each form at the front of a text holds of its front
 at_front : (P : Front → Type 0) (b : ℕ) (rest : List ℕ)
-    → let text = b ∷ rest in P (Blank 1) → P (Newline 1) → (is_letter b ≡ true → P (word_at text))
+    → let text = b ∷ rest in P (Blank 1) → P (Newline 1) → (is_letter b ≡ true → P (word_at_front text))
     → (is_digit b ≡ true → P (number_at text)) → ((b == 34) ≡ true → P (string_at text))
     → (begins_comment text ≡ true → P (comment_at text))
     → (begins_comment text ≡ false → P (operator_at text)) → P (front_of text)

@@ -5,14 +5,14 @@ use Rattle.std.specs.List.{list_all}
 use Rattle.std.proofs.lemmas.List.{at_drop_more}
 use Rattle.std.proofs.lemmas.Bool.{and_parts, leb-true, true≢false}
 use Rattle.std.proofs.lemmas.Bool.Decides.{nat_tests}
-use Rattle.rgo_lexer.specs.Bytes.{begins_with}
-use Rattle.rgo_lexer.specs.Operators.{longer, longest_front, longer_first}
+use Rattle.rgo_lexer.specs.Bytes.{has_prefix}
+use Rattle.rgo_lexer.specs.Operators.{longer_entry, longest_front, longer_first}
 use Rattle.rgo_lexer.specs.declared.terminals.Terminal.{Terminal}
 use Rattle.rgo_lexer.proofs.Begins.{begins_with-is, begins_with-length, begins_with-whole, begins_with-front}
 
 -- what is found, by whether the text begins with the first entry
 abbrev found_by : List ℕ × Terminal → Option (ℕ × Terminal) → Bool → Option (ℕ × Terminal)
-found_by e found v = cond v (longer e found) found
+found_by e found v = cond v (longer_entry e found) found
 
 -- the same, by whether the entry is as long as what was found after it
 abbrev longer_by : List ℕ × Terminal → ℕ × Terminal → Bool → Option (ℕ × Terminal)
@@ -34,12 +34,12 @@ pub found_among : (table : List (List ℕ × Terminal)) (text : List ℕ) (n : �
     → longest_front table text ≡ Some (n, k) → IsFound table text n k
 found_among [] text n k e = cc
 found_among (e ∷ table) text n k found =
-    by_test (begins_with text e.0) refl (λ d. later (found_among table text n k d)) found
+    by_test (has_prefix text e.0) refl (λ d. later (found_among table text n k d)) found
   where
     later : IsFound table text n k → IsFound (e ∷ table) text n k
     later c = (contains_later e table (take n text, k) c.0, c.1)
 
-    this : begins_with text e.0 ≡ true → longer e None ≡ Some (n, k)
+    this : has_prefix text e.0 ≡ true → longer_entry e None ≡ Some (n, k)
         → IsFound (e ∷ table) text n k
     this b d =
         let same = some_same (length e.0, e.1) (n, k) d in
@@ -47,19 +47,19 @@ found_among (e ∷ table) text n k found =
         let fits = begins_with-length e.0 text b in
         ((0, omega arith, rw (word, same.1) refl), omega (arith, same.0))
 
-    by_length : begins_with text e.0 ≡ true → (v : Bool) (f : ℕ × Terminal)
+    by_length : has_prefix text e.0 ≡ true → (v : Bool) (f : ℕ × Terminal)
         → (Some f ≡ Some (n, k) → IsFound (e ∷ table) text n k) → longer_by e f v ≡ Some (n, k)
         → IsFound (e ∷ table) text n k
     by_length b true f ih d = this b d
     by_length b false f ih d = ih d
 
-    by_found : begins_with text e.0 ≡ true → (o : Option (ℕ × Terminal))
-        → (o ≡ Some (n, k) → IsFound (e ∷ table) text n k) → longer e o ≡ Some (n, k)
+    by_found : has_prefix text e.0 ≡ true → (o : Option (ℕ × Terminal))
+        → (o ≡ Some (n, k) → IsFound (e ∷ table) text n k) → longer_entry e o ≡ Some (n, k)
         → IsFound (e ∷ table) text n k
     by_found b None ih d = this b d
     by_found b (Some f) ih d = by_length b (nat_le f.0 (length e.0)) f ih d
 
-    by_test : (v : Bool) → begins_with text e.0 ≡ v
+    by_test : (v : Bool) → has_prefix text e.0 ≡ v
         → (longest_front table text ≡ Some (n, k) → IsFound (e ∷ table) text n k)
         → found_by e (longest_front table text) v ≡ Some (n, k) → IsFound (e ∷ table) text n k
     by_test true b ih d = by_found b (longest_front table text) ih d
@@ -70,7 +70,7 @@ abbrev pub Covers : ℕ → Option (ℕ × Terminal) → Type 0
 Covers m None = ⊥
 Covers m (Some f) = m ≤ f.0
 
-covers_this : (e : List ℕ × Terminal) (o : Option (ℕ × Terminal)) → Covers (length e.0) (longer e o)
+covers_this : (e : List ℕ × Terminal) (o : Option (ℕ × Terminal)) → Covers (length e.0) (longer_entry e o)
 covers_this e None = omega arith
 covers_this e (Some f) = by_test (nat_le f.0 (length e.0)) refl
   where
@@ -79,7 +79,7 @@ covers_this e (Some f) = by_test (nat_le f.0 (length e.0)) refl
     by_test false d = grind (arith, nat_tests)
 
 covers_later : (m : ℕ) (e : List ℕ × Terminal) (o : Option (ℕ × Terminal)) → Covers m o
-    → Covers m (longer e o)
+    → Covers m (longer_entry e o)
 covers_later m e None c = absurd c
 covers_later m e (Some f) c = by_test (nat_le f.0 (length e.0)) refl
   where
@@ -89,7 +89,7 @@ covers_later m e (Some f) c = by_test (nat_le f.0 (length e.0)) refl
 
 -- no entry that the text begins with is longer than what is found
 pub found_longest : (table : List (List ℕ × Terminal)) (text : List ℕ) (f : List ℕ × Terminal)
-    → Contains table f → begins_with text f.0 ≡ true
+    → Contains table f → has_prefix text f.0 ≡ true
     → Covers (length f.0) (longest_front table text)
 found_longest table text f c b = at_place table c.0 c.1 c.2
   where
@@ -97,7 +97,7 @@ found_longest table text f c b = at_place table c.0 c.1 c.2
         → Covers (length f.0) (longest_front l text)
     at_place [] k lt i = absurd (omega arith)
     at_place (e ∷ l) zero lt i = rw (i, b) (covers_this f (longest_front l text))
-    at_place (e ∷ l) (suc k) lt i = later (begins_with text e.0) (at_place l k (omega arith) i)
+    at_place (e ∷ l) (suc k) lt i = later (has_prefix text e.0) (at_place l k (omega arith) i)
       where
         later : (v : Bool) → Covers (length f.0) (longest_front l text)
             → Covers (length f.0) (found_by e (longest_front l text) v)
@@ -109,7 +109,7 @@ IsAtMost n o = IfSome o (λ f. f.0 ≤ n)
 
 -- the longer of two is within a bound exactly where both are
 parts_at_most : (n : ℕ) (e : List ℕ × Terminal) (o : Option (ℕ × Terminal))
-    → IsAtMost n (longer e o) → (length e.0 ≤ n) × IsAtMost n o
+    → IsAtMost n (longer_entry e o) → (length e.0 ≤ n) × IsAtMost n o
 parts_at_most n e None h = (h, tt)
 parts_at_most n e (Some f) h = by_test (nat_le f.0 (length e.0)) refl h
   where
@@ -126,16 +126,16 @@ pub found-take : (table : List (List ℕ × Terminal)) (text : List ℕ) (n : �
     → longest_front table (take n text) ≡ longest_front table text
 found-take [] text n h = refl
 found-take (e ∷ table) text n h =
-    by_test (begins_with text e.0) (begins_with (take n text) e.0) refl refl h
+    by_test (has_prefix text e.0) (has_prefix (take n text) e.0) refl refl h
     (found-take table text n)
   where
-    by_test : (v w : Bool) → begins_with text e.0 ≡ v → begins_with (take n text) e.0 ≡ w
+    by_test : (v w : Bool) → has_prefix text e.0 ≡ v → has_prefix (take n text) e.0 ≡ w
         → IsAtMost n (found_by e (longest_front table text) v)
         → (IsAtMost n (longest_front table text)
         → longest_front table (take n text) ≡ longest_front table text)
         → found_by e (longest_front table (take n text)) w ≡ found_by e (longest_front table text) v
     by_test true true b c h ih =
-        ap (longer e) (ih (parts_at_most n e (longest_front table text) h).1)
+        ap (longer_entry e) (ih (parts_at_most n e (longest_front table text) h).1)
     by_test true false b c h ih =
         absurd (true≢false (sym (begins_with-front e.0 text n
         (parts_at_most n e (longest_front table text) h).0 b) ∙ c))
@@ -143,7 +143,7 @@ found-take (e ∷ table) text n h =
     by_test false false b c h ih = ih h
 
 longer_at_most : (n : ℕ) (e : List ℕ × Terminal) (o : Option (ℕ × Terminal)) → length e.0 ≤ n
-    → IsAtMost n o → IsAtMost n (longer e o)
+    → IsAtMost n o → IsAtMost n (longer_entry e o)
 longer_at_most n e None le h = le
 longer_at_most n e (Some f) le h = by_test (nat_le f.0 (length e.0))
   where
@@ -156,7 +156,7 @@ at_most : (n : ℕ) (table : List (List ℕ × Terminal)) (text : List ℕ)
 at_most n [] text h = tt
 at_most n (e ∷ table) text h =
     let parts = and_parts (nat_le (length e.0) n) (list_all (λ f. nat_le (length f.0) n) table) h in
-    by_test (begins_with text e.0) (leb-true (length e.0) n parts.0) (at_most n table text parts.1)
+    by_test (has_prefix text e.0) (leb-true (length e.0) n parts.0) (at_most n table text parts.1)
   where
     by_test : (v : Bool) → length e.0 ≤ n → IsAtMost n (longest_front table text)
         → IsAtMost n (found_by e (longest_front table text) v)
@@ -164,7 +164,7 @@ at_most n (e ∷ table) text h =
     by_test false le ih = ih
 
 longer_here : (e : List ℕ × Terminal) (o : Option (ℕ × Terminal)) → IsAtMost (length e.0) o
-    → longer e o ≡ Some (length e.0, e.1)
+    → longer_entry e o ≡ Some (length e.0, e.1)
 longer_here e None h = refl
 longer_here e (Some f) h = by_test (nat_le f.0 (length e.0)) refl
   where
@@ -174,7 +174,7 @@ longer_here e (Some f) h = by_test (nat_le f.0 (length e.0)) refl
 
 -- in a table with the longer words first, the first that the text begins with is the longest
 found_here : (e : List ℕ × Terminal) (table : List (List ℕ × Terminal)) (text : List ℕ)
-    → longer_first (e ∷ table) ≡ true → begins_with text e.0 ≡ true
+    → longer_first (e ∷ table) ≡ true → has_prefix text e.0 ≡ true
     → longest_front (e ∷ table) text ≡ Some (length e.0, e.1)
 found_here e table text order begins =
     let parts = and_parts (list_all (λ f. nat_le (length f.0) (length e.0)) table)
@@ -185,7 +185,7 @@ found_here e table text order begins =
 -- the same of a table that is read up to place i
 pub found_at : {X : Type 0} (g : X → List ℕ × Terminal) (table : List X) (i : ℕ) (d : X)
     (text : List ℕ) → i < length table → longer_first (map g (drop i table)) ≡ true
-    → begins_with text (g (get_or table i d)).0 ≡ true
+    → has_prefix text (g (get_or table i d)).0 ≡ true
     → longest_front (map g (drop i table)) text ≡ Some
     (length (g (get_or table i d)).0, (g (get_or table i d)).1)
 found_at g table i d text lt order begins =

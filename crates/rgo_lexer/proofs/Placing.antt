@@ -10,7 +10,7 @@ use Rattle.std.proofs.lemmas.Slice.Eq.{bytes_eq-Decides}
 use Rattle.rgo_lexer.specs.Front.{front_of, FitsIn, IsWidthIn}
 use Rattle.rgo_lexer.specs.Lexemes.{Lexeme, leaf, tok}
 use Rattle.rgo_lexer.specs.Semicolons.{ending_after, inserted, may_end}
-use Rattle.rgo_lexer.specs.Bytes.{begins_with}
+use Rattle.rgo_lexer.specs.Bytes.{has_prefix}
 use Rattle.rgo_lexer.specs.Laws.{OfText}
 use Rattle.rgo_lexer.specs.Lexing.{LexesFrom, byte_order_mark, text_start, IsLexemeOf, terminal_of, terminal_at_width, package_name, with_package_name}
 use Rattle.rgo_lexer.specs.Lexing.LexesFrom.{finish, blank, newline, piece}
@@ -140,7 +140,7 @@ with_name text (l ∷ m ∷ lexemes) h =
 -- a text begins in itself
 pub start_within : (text : List ℕ) → text_start text ≤ length text
 start_within text =
-    cond_both (begins_with text byte_order_mark) 3 0 (λ n. n ≤ length text)
+    cond_both (has_prefix text byte_order_mark) 3 0 (λ n. n ≤ length text)
     (λ e. begins_with-length byte_order_mark text e) (λ e. omega arith)
 
 pub named_of_text : (text : List ℕ) (found lexemes : List Lexeme)

@@ -20,8 +20,8 @@ abbrev pub is_word_byte : ℕ → Bool
 is_word_byte b = is_letter b || is_digit b
 
 -- the text begins with these bytes
-abbrev pub begins_with : List ℕ → List ℕ → Bool
-begins_with text front = bytes_eq front (take (length front) text)
+abbrev pub has_prefix : List ℕ → List ℕ → Bool
+has_prefix text front = bytes_eq front (take (length front) text)
 
 -- a byte that begins neither a separator nor a token
 abbrev pub bad_byte : Front

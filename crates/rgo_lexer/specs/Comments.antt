@@ -1,7 +1,7 @@
 -- Comments: to the end of the line, or to the first `*/`.
 use Rattle.std.specs.Prelude.{ℕ, suc, ◌+◌, Bool, if◌then◌else◌, ◌||◌, ◌==◌, List, [], ◌∷◌, take, drop, codes, Option, Some, None, option_map}
 use Rattle.std.specs.List.{list_any, position_or_len}
-use Rattle.rgo_lexer.specs.Bytes.{begins_with}
+use Rattle.rgo_lexer.specs.Bytes.{has_prefix}
 use Rattle.rgo_lexer.specs.declared.front.Front.{Front}
 use Rattle.rgo_lexer.specs.declared.front.Front.TheVariants.{Blank, Newline, Refused}
 use Rattle.rgo_lexer.specs.declared.refusals.LexicalKind.TheVariants.{OpenComment}
@@ -10,13 +10,13 @@ use Rattle.rgo_lexer.specs.declared.refusals.LexicalKind.TheVariants.{OpenCommen
 abbrev pub first_close : List ℕ → Option ℕ
 first_close [] = None
 first_close (b ∷ text) =
-    if begins_with (b ∷ text) (codes "*/") then Some 0 else option_map suc (first_close text)
+    if has_prefix (b ∷ text) (codes "*/") then Some 0 else option_map suc (first_close text)
 
 abbrev pub begins_line_comment : List ℕ → Bool
-begins_line_comment text = begins_with text (codes "//")
+begins_line_comment text = has_prefix text (codes "//")
 
 abbrev pub begins_comment : List ℕ → Bool
-begins_comment text = begins_line_comment text || begins_with text (codes "/*")
+begins_comment text = begins_line_comment text || has_prefix text (codes "/*")
 
 abbrev pub is_newline : ℕ → Bool
 is_newline b = b == 10

@@ -1,7 +1,7 @@
 -- The front of a text: the one separator, comment, token or error that it begins with. Lexing.antt repeats it to the end.
 use Rattle.std.specs.Prelude.{◌≡◌, ℕ, ◌<◌, ◌≤◌, ◌==◌, if◌then◌else◌, List, [], ◌∷◌, length}
 use Rattle.rgo_lexer.specs.Bytes.{is_blank, is_letter, is_digit}
-use Rattle.rgo_lexer.specs.Words.{word_at}
+use Rattle.rgo_lexer.specs.Words.{word_at_front}
 use Rattle.rgo_lexer.specs.Numbers.{number_at}
 use Rattle.rgo_lexer.specs.Strings.{string_at}
 use Rattle.rgo_lexer.specs.Comments.{begins_comment, comment_at}
@@ -15,7 +15,7 @@ front_of [] = End
 front_of (b ∷ rest) =
     if is_blank b then Blank 1
     else (if b == 10 then Newline 1
-    else (if is_letter b then word_at (b ∷ rest)
+    else (if is_letter b then word_at_front (b ∷ rest)
     else (if is_digit b then number_at (b ∷ rest)
     else (if b == 34 then string_at (b ∷ rest)
     else (if begins_comment (b ∷ rest) then comment_at (b ∷ rest)

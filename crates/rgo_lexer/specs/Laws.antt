@@ -2,7 +2,7 @@
 use Rattle.std.specs.Prelude.{◌≡◌, ℕ, ◌≤◌, ◌⊎◌, Bool, true, false, not, ◌||◌, ◌==◌, List, [], ◌∷◌, ◌++◌, length, take, All, Contains}
 use Rattle.rgo_lexer.specs.Bytes.{is_letter, is_digit}
 use Rattle.rgo_lexer.specs.Front.{front_of}
-use Rattle.rgo_lexer.specs.Lexemes.{Lexeme, end_of}
+use Rattle.rgo_lexer.specs.Lexemes.{Lexeme, lexeme_end}
 use Rattle.rgo_lexer.specs.Lexing.{LexesAs, IsLexemeOf}
 use Rattle.rgo_lexer.specs.Operators.{operators}
 use Rattle.rgo_lexer.specs.Refusals.{LexRefuses}
@@ -36,7 +36,7 @@ OfText = (text : List ℕ) (lexemes : List Lexeme)
 -- the first lexeme begins at `from` or later, and each next one where the one before it ends or later
 abbrev pub IsInOrder : ℕ → List Lexeme → Type 0
 IsInOrder from [] = Unit {0}
-IsInOrder from (l ∷ lexemes) = (from ≤ l.leaf.at) × IsInOrder (end_of l) lexemes
+IsInOrder from (l ∷ lexemes) = (from ≤ l.leaf.at) × IsInOrder (lexeme_end l) lexemes
 
 abbrev pub InOrder : Type 0
 InOrder = (text : List ℕ) (lexemes : List Lexeme) → LexesAs text lexemes → IsInOrder 0 lexemes

@@ -32,8 +32,8 @@ abbrev pub tok : Terminal → Leaf → Lexeme
 tok k i = record { terminal = k; leaf = i }
 
 -- where a lexeme ends
-abbrev pub end_of : Lexeme → ℕ
-end_of l = l.leaf.at + length l.leaf.word
+abbrev pub lexeme_end : Lexeme → ℕ
+lexeme_end l = l.leaf.at + length l.leaf.word
 
 abbrev pub ident : Leaf → Ident
 ident i = record { name = i.word; at = i.at }

@@ -1,9 +1,9 @@
 -- `LexesAs text lexemes`: the lexemes that the specification assigns to a text. Refusals.antt is its counterpart for the other texts.
 use Rattle.std.specs.Prelude.{◌≡◌, ℕ, ◌+◌, ◌<◌, ◌≤◌, ◌⊎◌, ◌==◌, List, [], ◌∷◌, ◌++◌, length, take, drop, codes, Option, None, Some, if◌then◌else◌, slice_range}
 use Rattle.std.specs.Str.{IsUtf8, bytes_eq}
-use Rattle.rgo_lexer.specs.Bytes.{begins_with}
+use Rattle.rgo_lexer.specs.Bytes.{has_prefix}
 use Rattle.rgo_lexer.specs.Front.{front_of}
-use Rattle.rgo_lexer.specs.Lexemes.{Lexeme, leaf, tok, end_of}
+use Rattle.rgo_lexer.specs.Lexemes.{Lexeme, leaf, tok, lexeme_end}
 use Rattle.rgo_lexer.specs.Semicolons.{ending_after, inserted}
 use Rattle.rgo_lexer.specs.declared.front.Front.{Front}
 use Rattle.rgo_lexer.specs.declared.front.Front.TheVariants.{End, Blank, Newline, Piece}
@@ -33,7 +33,7 @@ byte_order_mark = 0xEF ∷ 0xBB ∷ 0xBF ∷ []
 
 -- where lexing begins: after a byte order mark at the very front
 abbrev pub text_start : List ℕ → ℕ
-text_start text = if begins_with text byte_order_mark then 3 else 0
+text_start text = if has_prefix text byte_order_mark then 3 else 0
 
 -- the word `main` as the name of the package
 abbrev pub package_name : Lexeme → Lexeme
@@ -68,7 +68,7 @@ IsSpelled terminal word =
 
 -- a lexeme of a text: an inserted `;`, or a part of the text that is a token by itself
 pub record IsLexemeOf (text : List ℕ) (l : Lexeme) : Type 0 where
-  pub within : end_of l ≤ length text
-  pub bytes : l.leaf.word ≡ slice_range text l.leaf.at (end_of l)
+  pub within : lexeme_end l ≤ length text
+  pub bytes : l.leaf.word ≡ slice_range text l.leaf.at (lexeme_end l)
   pub spelled : 0 < length l.leaf.word → IsSpelled l.terminal l.leaf.word
   pub inserted : length l.leaf.word ≡ 0 → l.terminal ≡ Semicolon

@@ -2,7 +2,7 @@
 use Rattle.std.specs.Prelude.{ℕ, ◌+◌, ◌*◌, Bool, true, false, ◌||◌, ◌&&◌, ◌==◌, nat_le, nat_lt, if◌then◌else◌, List, [], ◌∷◌, length, take, drop, codes, fold, filter, Option, Some, None}
 use Rattle.std.specs.Char.{is_digit, digit_value}
 use Rattle.std.specs.Int.{is_in_range}
-use Rattle.rgo_lexer.specs.Bytes.{begins_with}
+use Rattle.rgo_lexer.specs.Bytes.{has_prefix}
 use Rattle.rgo_lexer.specs.Words.{run_of}
 use Rattle.rgo_lexer.specs.declared.terminals.Terminal.TheVariants.{Number}
 use Rattle.rgo_lexer.specs.declared.front.Front.{Front}
@@ -31,7 +31,7 @@ is_decimal (b ∷ l) = (b == 48 && length l == 0) || (is_in_range 49 57 b && are
 -- `0x` or `0X`, followed by one or more digits in base 16
 abbrev pub is_hexadecimal : List ℕ → Bool
 is_hexadecimal word =
-    (begins_with word (codes "0x") || begins_with word (codes "0X"))
+    (has_prefix word (codes "0x") || has_prefix word (codes "0X"))
     && nat_lt 2 (length word)
     && are_digits 16 (drop 2 word)
 

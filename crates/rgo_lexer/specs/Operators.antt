@@ -1,7 +1,7 @@
 -- Operators and punctuation: the longest one that a text begins with.
 use Rattle.std.specs.Prelude.{ℕ, Bool, true, ◌&&◌, nat_le, if◌then◌else◌, List, [], ◌∷◌, length, codes, Option, None, Some}
 use Rattle.std.specs.List.{list_all}
-use Rattle.rgo_lexer.specs.Bytes.{begins_with, bad_byte}
+use Rattle.rgo_lexer.specs.Bytes.{has_prefix, bad_byte}
 use Rattle.rgo_ast.specs.declared.ops.BinaryOp.TheVariants as op
 use Rattle.rgo_ast.specs.declared.ops.AssignOp.TheVariants as assign
 use Rattle.rgo_ast.specs.declared.ops.StepOp.TheVariants as step
@@ -34,15 +34,15 @@ operators =
     ∷ (codes ",", Comma) ∷ (codes ";", Semicolon) ∷ (codes ".", Dot) ∷ (codes ":", Colon) ∷ []
 
 -- the longer of an entry of a table and what was found after it, as a width and a terminal
-abbrev pub longer : List ℕ × Terminal → Option (ℕ × Terminal) → Option (ℕ × Terminal)
-longer e None = Some (length e.0, e.1)
-longer e (Some f) = if nat_le f.0 (length e.0) then Some (length e.0, e.1) else Some f
+abbrev pub longer_entry : List ℕ × Terminal → Option (ℕ × Terminal) → Option (ℕ × Terminal)
+longer_entry e None = Some (length e.0, e.1)
+longer_entry e (Some f) = if nat_le f.0 (length e.0) then Some (length e.0, e.1) else Some f
 
 -- the longest word of a table that a text begins with: its width and its terminal
 abbrev pub longest_front : List (List ℕ × Terminal) → List ℕ → Option (ℕ × Terminal)
 longest_front [] text = None
 longest_front (e ∷ table) text =
-    if begins_with text e.0 then longer e (longest_front table text) else longest_front table text
+    if has_prefix text e.0 then longer_entry e (longest_front table text) else longest_front table text
 
 -- no word comes after a shorter one
 abbrev pub longer_first : List (List ℕ × Terminal) → Bool

@@ -42,5 +42,5 @@ abbrev pub run_of : List ℕ → ℕ
 run_of text = prefix_len is_word_byte text
 
 -- the word at the front of a text that begins with a letter; it extends over all bytes that may occur in a word
-unfoldable pub word_at : List ℕ → Front
-word_at text = Piece (word_terminal (take (run_of text) text)) (run_of text)
+unfoldable pub word_at_front : List ℕ → Front
+word_at_front text = Piece (word_terminal (take (run_of text) text)) (run_of text)

@@ -61,9 +61,9 @@ fn word_terminal(word: &[u8]) -> Terminal
 }
 
 /// The word at the front of a text that begins with a letter; it extends over all bytes that may occur in a word.
-#[tactic(auto, unfolding(crate::specs::Words::word_at))]
+#[tactic(auto, unfolding(crate::specs::Words::word_at_front))]
 pub(crate) fn word(text: &[u8]) -> Front
-    ensures { result ≡ words.word_at text.now }
+    ensures { result ≡ words.word_at_front text.now }
 {
     let width = run_len(text);
     Front::Piece(word_terminal(&text[..width]), width)

@@ -8,7 +8,7 @@ use Rattle.rgo_typed.specs.declared.types.Type.{«Type»}
 use Rattle.rgo_typed.specs.Tree as tree
 use Rattle.rgo_typed.specs.Tree.{Term, Terms, Function}
 use Rattle.rgo_tac.specs.Code.{Op, Do, Call, TacFn}
-use Rattle.rgo_lower.specs.Lowered.{Point, after_value, next_point, OpAt, ActionAt, LoweringScope, variable_of_local, bool_type, pointer_type}
+use Rattle.rgo_lower.specs.Lowered.{LoweringPoint, after_value, next_point, OpAt, ActionAt, LoweringScope, variable_of_local, bool_type, pointer_type}
 use Rattle.rgo_lower.specs.Lowered.{logic_branch, StoresAt, TermAt, TermsAt}
 use Rattle.rgo_simulation.proofs.Together.{some_injective}
 
@@ -24,28 +24,28 @@ tail_same x y xs ys e = cc
 
 module _ (f g : TacFn) where
   -- the instructions and the variables from p to q
-  pub record Agree (p q : Point) : Type 0 where
+  pub record Agree (p q : LoweringPoint) : Type 0 where
     pub instrs : (i : ℕ) → p.instr ≤ i → i < q.instr → slice_get g.body i ≡ slice_get f.body i
     pub variables : (i : ℕ) → p.variable ≤ i → i < q.variable → slice_get g.variables i ≡ slice_get f.variables i
 
-  pub nothing : (p q : Point) → q ≡ p → Agree p q
+  pub nothing : (p q : LoweringPoint) → q ≡ p → Agree p q
   nothing p q e = record {
     instrs = λ i from to.
-        let at : q.instr ≡ p.instr = ap (λ (z : Point). z.instr) e in
+        let at : q.instr ≡ p.instr = ap (λ (z : LoweringPoint). z.instr) e in
         absurd (omega (arith, from, to, at));
     variables = λ i from to.
-        let at : q.variable ≡ p.variable = ap (λ (z : Point). z.variable) e in
+        let at : q.variable ≡ p.variable = ap (λ (z : LoweringPoint). z.variable) e in
         absurd (omega (arith, from, to, at));
   }
 
-  pub then : (p m q : Point) → Agree p m → Agree m q → Agree p q
+  pub then : (p m q : LoweringPoint) → Agree p m → Agree m q → Agree p q
   then p m q a b = record {
     instrs = λ i from to. ⊎_elim (λ less. a.instrs i from less) (λ more. b.instrs i more to) (cases_lt i m.instr);
     variables = λ i from to.
         ⊎_elim (λ less. a.variables i from less) (λ more. b.variables i more to) (cases_lt i m.variable);
   }
 
-  pub ends : (p m q : Point) → Agree p m → q ≡ m → Agree p q
+  pub ends : (p m q : LoweringPoint) → Agree p m → q ≡ m → Agree p q
   ends p m q a e = subst (Agree p) (sym e) a
 
   same_op : (i j : ℕ) (op op2 : Op) (place : ℕ) → j ≡ i → op2 ≡ op → OpAt f i op place → OpAt g j op2 place
@@ -57,30 +57,30 @@ module _ (f g : TacFn) where
   only i j from to = omega (arith, from, to)
 
   -- one instruction
-  pub one : (p p2 : Point) (op op2 : Op) (place : ℕ) → p2 ≡ p → op2 ≡ op → OpAt f p.instr op place
+  pub one : (p p2 : LoweringPoint) (op op2 : Op) (place : ℕ) → p2 ≡ p → op2 ≡ op → OpAt f p.instr op place
       → OpAt g p2.instr op2 place
       → Agree p (next_point p)
   one p p2 op op2 place at same x y = record {
     instrs = λ i from to.
         subst (λ j. slice_get g.body j ≡ slice_get f.body j) (sym (only p.instr i from to))
-        (same_op p.instr p2.instr op op2 place (ap (λ (z : Point). z.instr) at) same x y);
+        (same_op p.instr p2.instr op op2 place (ap (λ (z : LoweringPoint). z.instr) at) same x y);
     variables = λ i from to. absurd (omega (arith, from, to));
   }
 
   -- one instruction that gives a value to the next variable
-  pub one_value : (p p2 : Point) (op op2 : Op) (place : ℕ) (ty : «Type») → p2 ≡ p → op2 ≡ op → OpAt f p.instr op place
+  pub one_value : (p p2 : LoweringPoint) (op op2 : Op) (place : ℕ) (ty : «Type») → p2 ≡ p → op2 ≡ op → OpAt f p.instr op place
       → OpAt g p2.instr op2 place → slice_get f.variables p.variable ≡ Some ty
       → slice_get g.variables p2.variable ≡ Some ty → Agree p (after_value p)
   one_value p p2 op op2 place ty at same x y v w = record {
     instrs = λ i from to.
         subst (λ j. slice_get g.body j ≡ slice_get f.body j) (sym (only p.instr i from to))
-        (same_op p.instr p2.instr op op2 place (ap (λ (z : Point). z.instr) at) same x y);
+        (same_op p.instr p2.instr op op2 place (ap (λ (z : LoweringPoint). z.instr) at) same x y);
     variables = λ i from to.
         subst (λ j. slice_get g.variables j ≡ slice_get f.variables j) (sym (only p.variable i from to))
-        (ap (λ (z : Point). slice_get g.variables z.variable) (sym at) ∙ w ∙ sym v);
+        (ap (λ (z : LoweringPoint). slice_get g.variables z.variable) (sym at) ∙ w ∙ sym v);
   }
 
-  pub one_action : (p p2 : Point) (action : Action) (from from2 : List ℕ) (ty : «Type») (place : ℕ) → p2 ≡ p
+  pub one_action : (p p2 : LoweringPoint) (action : Action) (from from2 : List ℕ) (ty : «Type») (place : ℕ) → p2 ≡ p
       → from2 ≡ from → ActionAt f p action from ty place → ActionAt g p2 action from2 ty place → Agree p (after_value p)
   one_action p p2 action from from2 ty place at same x y =
       one_value p p2 (Do (Some p.variable) action from) (Do (Some p2.variable) action from2) place ty at
@@ -89,18 +89,18 @@ module _ (f g : TacFn) where
   -- ---- terms
 
   -- of two codes from p on, which leave their values in these variables and end there
-  pub record SameTerm {X : Type 0} (p : Point) (d d2 : X) (q q2 : Point) : Type 0 where
+  pub record SameTerm {X : Type 0} (p : LoweringPoint) (d d2 : X) (q q2 : LoweringPoint) : Type 0 where
     pub value : d2 ≡ d
     pub last : q2 ≡ q
     pub code : Agree p q
 
-  pub record SameStores (p q q2 : Point) : Type 0 where
+  pub record SameStores (p q q2 : LoweringPoint) : Type 0 where
     pub last : q2 ≡ q
     pub code : Agree p q
 
   module _ (functions : List Function) where
     stores_same : (object object2 : ℕ) → object2 ≡ object → (fields ds ds2 : List ℕ) → ds2 ≡ ds → (place : ℕ)
-        (p p2 : Point) → p2 ≡ p → (q q2 : Point) → StoresAt functions f object fields ds place p q
+        (p p2 : LoweringPoint) → p2 ≡ p → (q q2 : LoweringPoint) → StoresAt functions f object fields ds place p q
         → StoresAt functions g object2 fields ds2 place p2 q2 → SameStores p q q2
     stores_same object object2 o [] [] [] e place p p2 at q q2 x y = record {
       last = along q p q2 p2 x y at;
@@ -121,8 +121,8 @@ module _ (f g : TacFn) where
     stores_same object object2 o _ _ ds2 e place p p2 at q q2 x y = absurd x
 
     mutual
-      pub term_same : (t : Term) (scope scope2 : LoweringScope) → scope2 ≡ scope → (p p2 : Point) → p2 ≡ p
-          → (d d2 : ℕ) (q q2 : Point) → TermAt functions f scope t p d q → TermAt functions g scope2 t p2 d2 q2
+      pub term_same : (t : Term) (scope scope2 : LoweringScope) → scope2 ≡ scope → (p p2 : LoweringPoint) → p2 ≡ p
+          → (d d2 : ℕ) (q q2 : LoweringPoint) → TermAt functions f scope t p d q → TermAt functions g scope2 t p2 d2 q2
           → SameTerm p d d2 q q2
       term_same (tree.Local n) scope scope2 s p p2 at d d2 q q2 x y = record {
         value = some_injective d2 d (sym y.0 ∙ ap (λ z. variable_of_local z n) s ∙ x.0);
@@ -132,7 +132,7 @@ module _ (f g : TacFn) where
       term_same (tree.Apply action parts ty place) scope scope2 s p p2 at d d2 q q2 x y =
           let a = terms_same parts scope scope2 s p p2 at x.0 y.0 x.1 y.1 x.2 y.2 in
           record {
-            value = along d x.1.variable d2 y.1.variable x.4 y.4 (ap (λ (z : Point). z.variable) a.last);
+            value = along d x.1.variable d2 y.1.variable x.4 y.4 (ap (λ (z : LoweringPoint). z.variable) a.last);
             last = along q (after_value x.1) q2 (after_value y.1) x.5 y.5 (ap after_value a.last);
             code =
                 ends p (after_value x.1) q
@@ -141,12 +141,12 @@ module _ (f g : TacFn) where
           }
       term_same (tree.Logic logic left right place) scope scope2 s p p2 at d d2 q q2 x y =
           let a = term_same left scope scope2 s p p2 at x.0 y.0 x.1 y.1 x.2 y.2 in
-          let mid : Point = after_value x.1 in
+          let mid : LoweringPoint = after_value x.1 in
           let b =
           term_same right scope scope2 s (next_point mid) (next_point (after_value y.1)) (ap (λ z. next_point (after_value z)) a.last)
           x.4 y.4 x.5 y.5 x.7 y.7 in
           record {
-            value = along d x.1.variable d2 y.1.variable x.9 y.9 (ap (λ (z : Point). z.variable) a.last);
+            value = along d x.1.variable d2 y.1.variable x.9 y.9 (ap (λ (z : LoweringPoint). z.variable) a.last);
             last = along q (next_point x.5) q2 (next_point y.5) x.10 y.10 (ap next_point b.last);
             code =
                 ends p (next_point x.5) q
@@ -162,7 +162,7 @@ module _ (f g : TacFn) where
           }
       term_same (tree.Build n parts fields place) scope scope2 s p p2 at d d2 q q2 x y =
           let a = terms_same parts scope scope2 s p p2 at x.0 y.0 x.1 y.1 x.2 y.2 in
-          let object : y.1.variable ≡ x.1.variable = ap (λ (z : Point). z.variable) a.last in
+          let object : y.1.variable ≡ x.1.variable = ap (λ (z : LoweringPoint). z.variable) a.last in
           let b =
           stores_same x.1.variable y.1.variable object fields x.0 y.0 a.value place (after_value x.1) (after_value y.1)
           (ap after_value a.last) q q2 x.4 y.4 in
@@ -177,7 +177,7 @@ module _ (f g : TacFn) where
       term_same (tree.Call n arguments ty place) scope scope2 s p p2 at d d2 q q2 x y =
           let a = terms_same arguments scope scope2 s p p2 at x.0 y.0 x.1 y.1 x.2 y.2 in
           record {
-            value = along d x.1.variable d2 y.1.variable x.6 y.6 (ap (λ (z : Point). z.variable) a.last);
+            value = along d x.1.variable d2 y.1.variable x.6 y.6 (ap (λ (z : LoweringPoint). z.variable) a.last);
             last = along q (after_value x.1) q2 (after_value y.1) x.7 y.7 (ap after_value a.last);
             code =
                 ends p (after_value x.1) q
@@ -187,8 +187,8 @@ module _ (f g : TacFn) where
                 x.7;
           }
 
-      pub terms_same : (ts : Terms) (scope scope2 : LoweringScope) → scope2 ≡ scope → (p p2 : Point) → p2 ≡ p
-          → (ds ds2 : List ℕ) (q q2 : Point) → TermsAt functions f scope ts p ds q
+      pub terms_same : (ts : Terms) (scope scope2 : LoweringScope) → scope2 ≡ scope → (p p2 : LoweringPoint) → p2 ≡ p
+          → (ds ds2 : List ℕ) (q q2 : LoweringPoint) → TermsAt functions f scope ts p ds q
           → TermsAt functions g scope2 ts p2 ds2 q2
           → SameTerm p ds ds2 q q2
       terms_same tree.no_terms scope scope2 s p p2 at ds ds2 q q2 x y = record {

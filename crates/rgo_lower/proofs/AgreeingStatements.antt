@@ -4,7 +4,7 @@ use Rattle.rgo_typed.specs.declared.actions.Action.TheVariants.{Copy, Binary}
 use Rattle.rgo_typed.specs.Tree as tree
 use Rattle.rgo_typed.specs.Tree.{Term, Terms, Change, Stmt, Stmts, Function}
 use Rattle.rgo_tac.specs.Code.{Op, Do, Call, Go, Print, Jump, Branch, Return, TacFn}
-use Rattle.rgo_lower.specs.Lowered.{Point, after_value, next_point, OpAt, LoweringScope, variable_of_local, zero_action, Target}
+use Rattle.rgo_lower.specs.Lowered.{LoweringPoint, after_value, next_point, OpAt, LoweringScope, variable_of_local, zero_action, Target}
 use Rattle.rgo_lower.specs.Lowered.{TestAt, ConditionAt, TermAt, TermsAt, UpdateAt, StmtAt, StmtsAt}
 use Rattle.rgo_lower.proofs.Agreeing.{along, Agree, nothing, then, ends, one, one_action}
 use Rattle.rgo_lower.proofs.Agreeing.{SameStores, term_same, terms_same}
@@ -20,17 +20,17 @@ continue_of (t ∷ targets) = t.continue_to
 
 module _ (functions : List Function) (f g : TacFn) where
   -- two codes from p on that end there; what they lead to is the same where `Same` holds
-  pub record SameTest (p q q2 : Point) (Targets : Type 0) : Type 0 where
+  pub record SameTest (p q q2 : LoweringPoint) (Targets : Type 0) : Type 0 where
     pub last : q2 ≡ q
     pub code : Targets → Agree f g p q
 
-  pub record SameStmt (p : Point) (after after2 : LoweringScope) (q q2 : Point) (Targets : Type 0) : Type 0 where
+  pub record SameStmt (p : LoweringPoint) (after after2 : LoweringScope) (q q2 : LoweringPoint) (Targets : Type 0) : Type 0 where
     pub scope : after2 ≡ after
     pub last : q2 ≡ q
     pub code : Targets → Agree f g p q
 
-  test_same : (t : Term) (scope scope2 : LoweringScope) → scope2 ≡ scope → (p p2 : Point) → p2 ≡ p
-      → (otherwise otherwise2 place : ℕ) (q q2 : Point) → TestAt functions f scope t otherwise place p q
+  test_same : (t : Term) (scope scope2 : LoweringScope) → scope2 ≡ scope → (p p2 : LoweringPoint) → p2 ≡ p
+      → (otherwise otherwise2 place : ℕ) (q q2 : LoweringPoint) → TestAt functions f scope t otherwise place p q
       → TestAt functions g scope2 t otherwise2 place p2 q2 → SameTest p q q2 (otherwise2 ≡ otherwise)
   test_same t scope scope2 s p p2 at otherwise otherwise2 place q q2 x y =
       let a = term_same f g functions t scope scope2 s p p2 at x.0 y.0 x.1 y.1 x.2 y.2 in
@@ -43,8 +43,8 @@ module _ (functions : List Function) (f g : TacFn) where
             x.4;
       }
 
-  condition_same : (o : Option Term) (scope scope2 : LoweringScope) → scope2 ≡ scope → (p p2 : Point) → p2 ≡ p
-      → (otherwise otherwise2 place : ℕ) (q q2 : Point) → ConditionAt functions f scope o otherwise place p q
+  condition_same : (o : Option Term) (scope scope2 : LoweringScope) → scope2 ≡ scope → (p p2 : LoweringPoint) → p2 ≡ p
+      → (otherwise otherwise2 place : ℕ) (q q2 : LoweringPoint) → ConditionAt functions f scope o otherwise place p q
       → ConditionAt functions g scope2 o otherwise2 place p2 q2 → SameTest p q q2 (otherwise2 ≡ otherwise)
   condition_same None scope scope2 s p p2 at otherwise otherwise2 place q q2 x y = record {
     last = along q p q2 p2 x y at;
@@ -53,14 +53,14 @@ module _ (functions : List Function) (f g : TacFn) where
   condition_same (Some t) scope scope2 s p p2 at otherwise otherwise2 place q q2 x y =
       test_same t scope scope2 s p p2 at otherwise otherwise2 place q q2 x y
 
-  update_same : (c : Change) (scope scope2 : LoweringScope) → scope2 ≡ scope → (p p2 : Point) → p2 ≡ p → (q q2 : Point)
+  update_same : (c : Change) (scope scope2 : LoweringScope) → scope2 ≡ scope → (p p2 : LoweringPoint) → p2 ≡ p → (q q2 : LoweringPoint)
       → UpdateAt functions f scope c p q → UpdateAt functions g scope2 c p2 q2 → SameStores f g p q q2
   update_same c scope scope2 s p p2 at q q2 x y =
       let a = terms_same f g functions c.operands scope scope2 s p p2 at x.0 y.0 x.1 y.1 x.2 y.2 in
       let b =
       term_same f g functions c.value scope scope2 s (after_value x.1) (after_value y.1) (ap after_value a.last) x.4 y.4
       x.5 y.5 x.6 y.6 in
-      let mid : Point = after_value x.5 in
+      let mid : LoweringPoint = after_value x.5 in
       record {
         last = along q (next_point mid) q2 (next_point (after_value y.5)) x.9 y.9 (ap (λ z. next_point (after_value z)) b.last);
         code =
@@ -78,10 +78,10 @@ module _ (functions : List Function) (f g : TacFn) where
       }
 
   -- one instruction behind terms, which gives no value
-  behind_terms : (Targets : Type 0) (ts : Terms) (scope scope2 : LoweringScope) → scope2 ≡ scope → (p p2 : Point) → p2 ≡ p
-      → (ds ds2 : List ℕ) (mid mid2 : Point) → TermsAt functions f scope ts p ds mid
+  behind_terms : (Targets : Type 0) (ts : Terms) (scope scope2 : LoweringScope) → scope2 ≡ scope → (p p2 : LoweringPoint) → p2 ≡ p
+      → (ds ds2 : List ℕ) (mid mid2 : LoweringPoint) → TermsAt functions f scope ts p ds mid
       → TermsAt functions g scope2 ts p2 ds2 mid2 → (op : List ℕ → Op) (place : ℕ) → OpAt f mid.instr (op ds) place
-      → OpAt g mid2.instr (op ds2) place → (s3 s4 : LoweringScope) → s3 ≡ scope → s4 ≡ scope2 → (q q2 : Point)
+      → OpAt g mid2.instr (op ds2) place → (s3 s4 : LoweringScope) → s3 ≡ scope → s4 ≡ scope2 → (q q2 : LoweringPoint)
       → q ≡ next_point mid → q2 ≡ next_point mid2 → SameStmt p s3 s4 q q2 Targets
   behind_terms Targets ts scope scope2 s p p2 at ds ds2 mid mid2 x y op place v w s3 s4 is is2 q q2 e e2 =
       let a = terms_same f g functions ts scope scope2 s p p2 at ds ds2 mid mid2 x y in
@@ -94,10 +94,10 @@ module _ (functions : List Function) (f g : TacFn) where
       }
 
   -- the same behind one term
-  behind_term : (Targets : Type 0) (t : Term) (scope scope2 : LoweringScope) → scope2 ≡ scope → (p p2 : Point) → p2 ≡ p
-      → (d d2 : ℕ) (mid mid2 : Point) → TermAt functions f scope t p d mid → TermAt functions g scope2 t p2 d2 mid2
+  behind_term : (Targets : Type 0) (t : Term) (scope scope2 : LoweringScope) → scope2 ≡ scope → (p p2 : LoweringPoint) → p2 ≡ p
+      → (d d2 : ℕ) (mid mid2 : LoweringPoint) → TermAt functions f scope t p d mid → TermAt functions g scope2 t p2 d2 mid2
       → (op op2 : Op) → (d2 ≡ d → op2 ≡ op) → (place : ℕ) → OpAt f mid.instr op place → OpAt g mid2.instr op2 place
-      → (s3 s4 : LoweringScope) → s3 ≡ scope → s4 ≡ scope2 → (q q2 : Point) → q ≡ next_point mid → q2 ≡ next_point mid2
+      → (s3 s4 : LoweringScope) → s3 ≡ scope → s4 ≡ scope2 → (q q2 : LoweringPoint) → q ≡ next_point mid → q2 ≡ next_point mid2
       → SameStmt p s3 s4 q q2 Targets
   behind_term Targets t scope scope2 s p p2 at d d2 mid mid2 x y op op2 same place v w s3 s4 is is2 q q2 e e2 =
       let a = term_same f g functions t scope scope2 s p p2 at d d2 mid mid2 x y in
@@ -110,9 +110,9 @@ module _ (functions : List Function) (f g : TacFn) where
       }
 
   -- one instruction alone
-  alone : (Targets : Type 0) (scope scope2 : LoweringScope) → scope2 ≡ scope → (p p2 : Point) → p2 ≡ p → (op op2 : Op)
+  alone : (Targets : Type 0) (scope scope2 : LoweringScope) → scope2 ≡ scope → (p p2 : LoweringPoint) → p2 ≡ p → (op op2 : Op)
       → (Targets → op2 ≡ op) → (place : ℕ) → OpAt f p.instr op place → OpAt g p2.instr op2 place → (s3 s4 : LoweringScope)
-      → s3 ≡ scope → s4 ≡ scope2 → (q q2 : Point) → q ≡ next_point p → q2 ≡ next_point p2 → SameStmt p s3 s4 q q2 Targets
+      → s3 ≡ scope → s4 ≡ scope2 → (q q2 : LoweringPoint) → q ≡ next_point p → q2 ≡ next_point p2 → SameStmt p s3 s4 q q2 Targets
   alone Targets scope scope2 s p p2 at op op2 same place v w s3 s4 is is2 q q2 e e2 = record {
     scope = along s3 scope s4 scope2 is is2 s;
     last = along q (next_point p) q2 (next_point p2) e e2 (ap next_point at);
@@ -121,7 +121,7 @@ module _ (functions : List Function) (f g : TacFn) where
 
   mutual
     pub stmt_same : (s : Stmt) (targets targets2 : List Target) (scope scope2 : LoweringScope) → scope2 ≡ scope
-        → (p p2 : Point) → p2 ≡ p → (s3 s4 : LoweringScope) (q q2 : Point) → StmtAt functions f s targets scope p s3 q
+        → (p p2 : LoweringPoint) → p2 ≡ p → (s3 s4 : LoweringScope) (q q2 : LoweringPoint) → StmtAt functions f s targets scope p s3 q
         → StmtAt functions g s targets2 scope2 p2 s4 q2 → SameStmt p s3 s4 q q2 (targets2 ≡ targets)
     stmt_same (tree.Block all) ts ts2 scope scope2 s p p2 at s3 s4 q q2 x y =
         let a = stmts_same all ts ts2 scope scope2 s p p2 at x.0 y.0 q q2 x.1 y.1 in
@@ -176,7 +176,7 @@ module _ (functions : List Function) (f g : TacFn) where
         record {
           scope = along s3 scope s4 scope2 x.4 y.4 s;
           last = b.last;
-          code = λ e. then f g p x.0 q (a.code (ap (λ (z : Point). z.instr) b.last)) (b.code e);
+          code = λ e. then f g p x.0 q (a.code (ap (λ (z : LoweringPoint). z.instr) b.last)) (b.code e);
         }
     stmt_same (tree.IfElse test body other place) ts ts2 scope scope2 s p p2 at s3 s4 q q2 x y =
         let a = test_same test scope scope2 s p p2 at (x.1.instr + 1) (y.1.instr + 1) place x.0 y.0 x.4 y.4 in
@@ -205,7 +205,7 @@ module _ (functions : List Function) (f g : TacFn) where
           last = same;
           code = λ e.
               ends f g p (next_point x.2) q
-              (then f g p x.0 (next_point x.2) (a.code (ap (λ (z : Point). z.instr) same))
+              (then f g p x.0 (next_point x.2) (a.code (ap (λ (z : LoweringPoint). z.instr) same))
               (then f g x.0 x.1 (next_point x.2)
               (b.code (λ i. record { break_to = (same i).instr; continue_to = (b.last i).instr } ∷ e i))
               (then f g x.1 x.2 (next_point x.2) (c.code e)
@@ -229,7 +229,7 @@ module _ (functions : List Function) (f g : TacFn) where
         place x.4 y.4 s3 s4 x.6 y.6 q q2 x.7 y.7
 
     pub stmts_same : (all : Stmts) (targets targets2 : List Target) (scope scope2 : LoweringScope) → scope2 ≡ scope
-        → (p p2 : Point) → p2 ≡ p → (s3 s4 : LoweringScope) (q q2 : Point) → StmtsAt functions f all targets scope p s3 q
+        → (p p2 : LoweringPoint) → p2 ≡ p → (s3 s4 : LoweringScope) (q q2 : LoweringPoint) → StmtsAt functions f all targets scope p s3 q
         → StmtsAt functions g all targets2 scope2 p2 s4 q2 → SameStmt p s3 s4 q q2 (targets2 ≡ targets)
     stmts_same tree.no_stmts ts ts2 scope scope2 s p p2 at s3 s4 q q2 x y = record {
       scope = along s3 scope s4 scope2 x.0 y.0 s;

@@ -10,9 +10,9 @@ use Rattle.rgo_typed.specs.Views.{stmt_of}
 use Rattle.rgo_wellformed.specs.WellFormed.{InScope, is_in_scope, Environment, in_a_loop, HasType, IsCondition, AreStmts, scope_after}
 use Rattle.rgo_tac.specs.Code.{Jump}
 use Rattle.rgo_lower.specs.declared.builder.Loop.{Loop}
-use Rattle.rgo_lower.specs.Lowered.{Point, next_point, OpAt, LoweringScope, Target, bool_type, TestAt, ConditionAt, StmtsAt}
-use Rattle.rgo_lower.specs.Emitted.{BuilderParts, point_of, slot, with_placed, Grown, Whole, Completes, OpIsAdded, decides, jump_to}
-use Rattle.rgo_lower.specs.Emitted.{ScopeHasSlots, TermIsEmitted, AreLoopTargets, environment_of, StmtIsEmitted, StmtsAreEmitted, TestIsEmitted, ConditionIsEmitted}
+use Rattle.rgo_lower.specs.Lowered.{LoweringPoint, next_point, OpAt, LoweringScope, Target, bool_type, TestAt, ConditionAt, StmtsAt}
+use Rattle.rgo_lower.specs.Emitted.{BuilderParts, builder_point, slot_of_local, with_placed, Grown, Whole, Completes, OpIsAdded, decides, jump_to}
+use Rattle.rgo_lower.specs.Emitted.{ScopeHasSlots, TermIsEmitted, AreLoopTargets, typing_environment, StmtIsEmitted, StmtsAreEmitted, TestIsEmitted, ConditionIsEmitted}
 use Rattle.rgo_lower.specs.Shapes.{stmt_fits, stmts_fit}
 use Rattle.rgo_lower.specs.Sizes.{stmt_size, stmts_size}
 use Rattle.rgo_lower.proofs.Growing.{grown_same, grown_trans, earlier}
@@ -52,7 +52,7 @@ more_emitted s all innermost a b c h hs = record {
   code = λ w in_loop g scope targets typed leads knows done.
       let first = h.code w in_loop g scope targets typed.0 leads knows (earlier w b c hs.grown done) in
       let rest = hs.code w in_loop (scope_after g s) first.0 targets typed.1 leads first.2 done in
-      (rest.0, (first.0, point_of b, first.1, rest.1));
+      (rest.0, (first.0, builder_point b, first.1, rest.1));
 }
 
 abbrev all_stmts : List CodeStmt → Stmts
@@ -103,7 +103,7 @@ block_emitted all innermost a b h = record {
       let inner = h.code w in_loop g scope targets typed leads knows done in (
         scope,
         (inner.0, inner.1, refl),
-        knows_kept a.slots b.slots g scope (h.kept (environment_of w in_loop) g typed) knows,
+        knows_kept a.slots b.slots g scope (h.kept (typing_environment w in_loop) g typed) knows,
       );
 }
 
@@ -116,7 +116,7 @@ test_emitted t d other place a b c h o = record {
   size = omega (arith, h.size, o.size);
   slots = o.slots ∙ h.slots;
   code = λ w g scope typed knows all.
-      (d, point_of b, h.code w g bool_type scope typed knows (earlier w b c o.grown all), o.instr w all, o.point);
+      (d, builder_point b, h.code w g bool_type scope typed knows (earlier w b c o.grown all), o.instr w all, o.point);
 }
 
 pub no_condition : (other place : ℕ) (a : BuilderParts) → ConditionIsEmitted None other place a a
@@ -148,18 +148,18 @@ module _ (test : Term) (body : Stmts) (place end : ℕ) (innermost : Option Loop
   if_slots = branch.slots ∙ label.slots
 
   if_kept : (env : Environment) (g : InScope) → AreStmts env g body → (n : ℕ) → is_in_scope g n ≡ true
-      → slot e n ≡ slot a n
+      → slot_of_local e n ≡ slot_of_local a n
   if_kept env g typed n h =
       ap (λ z. get_or z n 0) if_ends.slots ∙ inside.kept env g typed n h ∙ ap (λ z. get_or z n 0) if_slots
 
   if_test : (w : Whole) (g : InScope) (scope : LoweringScope) → HasType w.declared w.locals g test bool_type
       → ScopeHasSlots a.slots g scope → Completes w e
-      → TestAt w.functions w.f scope test (length e.lines) place (point_of a) (point_of c)
+      → TestAt w.functions w.f scope test (length e.lines) place (builder_point a) (builder_point c)
   if_test w g scope typed knows all =
       let at_c = earlier w c d inside.grown (if_ends.completes w all) in
-      subst (λ z. TestAt w.functions w.f scope test z place (point_of a) (point_of c))
-      (if_ends.leads w all ∙ sym (ap (λ (z : Point). z.instr) if_ends.point))
-      (subst (λ z. TestAt w.functions w.f scope test (w.leads end) place z (point_of c)) label.point
+      subst (λ z. TestAt w.functions w.f scope test z place (builder_point a) (builder_point c))
+      (if_ends.leads w all ∙ sym (ap (λ (z : LoweringPoint). z.instr) if_ends.point))
+      (subst (λ z. TestAt w.functions w.f scope test (w.leads end) place z (builder_point c)) label.point
       (branch.code w g scope typed (knows_same a.slots b.slots g scope label.slots knows) at_c))
 
   pub if_emitted : StmtIsEmitted (tree.If test body place) innermost a e
@@ -174,13 +174,13 @@ module _ (test : Term) (body : Stmts) (place end : ℕ) (innermost : Option Loop
         (if_ends.completes w all) in (
           scope,
           (
-            point_of c,
+            builder_point c,
             inner.0,
             if_test w g scope typed.0 knows all,
-            subst (λ z. StmtsAt w.functions w.f body targets scope (point_of c) inner.0 z) (sym if_ends.point) inner.1,
+            subst (λ z. StmtsAt w.functions w.f body targets scope (builder_point c) inner.0 z) (sym if_ends.point) inner.1,
             refl,
           ),
-          knows_kept a.slots e.slots g scope (if_kept (environment_of w in_loop) g typed.1) knows,
+          knows_kept a.slots e.slots g scope (if_kept (typing_environment w in_loop) g typed.1) knows,
         );
   }
 
@@ -215,24 +215,24 @@ module _ (test : Term) (body other : Stmts) (place away end : ℕ) (innermost : 
   slots_6 : b6.slots ≡ b4.slots
   slots_6 = goes_away.slots ∙ jump.slots
 
-  point_6 : point_of b6 ≡ next_point (point_of b4)
+  point_6 : builder_point b6 ≡ next_point (builder_point b4)
   point_6 = goes_away.point ∙ jump.point
 
   module _ (env : Environment) (g : InScope) (typed : AreStmts env g body) where
-    kept_6 : (n : ℕ) → is_in_scope g n ≡ true → slot b6 n ≡ slot b0 n
+    kept_6 : (n : ℕ) → is_in_scope g n ≡ true → slot_of_local b6 n ≡ slot_of_local b0 n
     kept_6 n h = ap (λ z. get_or z n 0) slots_6 ∙ inside.kept env g typed n h ∙ ap (λ z. get_or z n 0) slots_3
 
-    kept_8 : AreStmts env g other → (n : ℕ) → is_in_scope g n ≡ true → slot b8 n ≡ slot b0 n
+    kept_8 : AreStmts env g other → (n : ℕ) → is_in_scope g n ≡ true → slot_of_local b8 n ≡ slot_of_local b0 n
     kept_8 typed2 n h = ap (λ z. get_or z n 0) else_ends.slots ∙ outside.kept env g typed2 n h ∙ kept_6 n h
 
   else_test : (w : Whole) (g : InScope) (scope : LoweringScope) → HasType w.declared w.locals g test bool_type
       → ScopeHasSlots b0.slots g scope → Completes w b6
-      → TestAt w.functions w.f scope test (length b4.lines + 1) place (point_of b0) (point_of b3)
+      → TestAt w.functions w.f scope test (length b4.lines + 1) place (builder_point b0) (builder_point b3)
   else_test w g scope typed knows at_6 =
       let at_4 = earlier w b4 b5 jump.grown (goes_away.completes w at_6) in
-      subst (λ z. TestAt w.functions w.f scope test z place (point_of b0) (point_of b3))
-      (goes_away.leads w at_6 ∙ ap (λ (z : Point). z.instr) jump.point)
-      (subst (λ z. TestAt w.functions w.f scope test (w.leads away) place z (point_of b3)) (second.point ∙ first.point)
+      subst (λ z. TestAt w.functions w.f scope test z place (builder_point b0) (builder_point b3))
+      (goes_away.leads w at_6 ∙ ap (λ (z : LoweringPoint). z.instr) jump.point)
+      (subst (λ z. TestAt w.functions w.f scope test (w.leads away) place z (builder_point b3)) (second.point ∙ first.point)
       (branch.code w g scope typed (knows_same b0.slots b2.slots g scope (second.slots ∙ first.slots) knows)
       (earlier w b3 b4 inside.grown at_4)))
 
@@ -240,7 +240,7 @@ module _ (test : Term) (body other : Stmts) (place away end : ℕ) (innermost : 
   else_jump w all =
       let at_6 = earlier w b6 b7 outside.grown (else_ends.completes w all) in
       op_moved w.f (length b4.lines) (length b4.lines) _ _ place (jump.instr w (goes_away.completes w at_6)) refl
-      (ap Jump (else_ends.leads w all ∙ sym (ap (λ (z : Point). z.instr) else_ends.point)))
+      (ap Jump (else_ends.leads w all ∙ sym (ap (λ (z : LoweringPoint). z.instr) else_ends.point)))
 
   pub if_else_emitted : StmtIsEmitted (tree.IfElse test body other place) innermost b0 b8
   if_else_emitted = record {
@@ -253,7 +253,7 @@ module _ (test : Term) (body other : Stmts) (place away end : ℕ) (innermost : 
         ap length else_ends.slots ∙ outside.locals ∙ ap length slots_6 ∙ inside.locals ∙ ap length slots_3;
     kept = λ env g typed n h. kept_8 env g typed.1 typed.2 n h;
     code = λ w in_loop g scope targets typed leads knows all.
-        let env = environment_of w in_loop in
+        let env = typing_environment w in_loop in
         let at_7 = else_ends.completes w all in
         let at_6 = earlier w b6 b7 outside.grown at_7 in
         let at_4 = earlier w b4 b5 jump.grown (goes_away.completes w at_6) in
@@ -265,15 +265,15 @@ module _ (test : Term) (body other : Stmts) (place away end : ℕ) (innermost : 
         (knows_kept b0.slots b6.slots g scope (kept_6 env g typed.1) knows) at_7 in (
           scope,
           (
-            point_of b3,
-            point_of b4,
+            builder_point b3,
+            builder_point b4,
             inner.0,
             outer.0,
             else_test w g scope typed.0 knows at_6,
             inner.1,
             else_jump w all,
-            subst (λ z. StmtsAt w.functions w.f other targets scope z outer.0 (point_of b8)) point_6
-                (subst (λ z. StmtsAt w.functions w.f other targets scope (point_of b6) outer.0 z) (sym else_ends.point)
+            subst (λ z. StmtsAt w.functions w.f other targets scope z outer.0 (builder_point b8)) point_6
+                (subst (λ z. StmtsAt w.functions w.f other targets scope (builder_point b6) outer.0 z) (sym else_ends.point)
                 outer.1),
             refl,
           ),
@@ -331,16 +331,16 @@ module _ (test : Option Term) (body post : Stmts) (place start : ℕ) (l : Loop)
   slots_5 : b5.slots ≡ b0.slots
   slots_5 = condition.slots ∙ slots_4
 
-  point_4 : point_of b4 ≡ point_of b0
+  point_4 : builder_point b4 ≡ builder_point b0
   point_4 = third.point ∙ second.point ∙ starts.point ∙ first.point
 
   module _ (env : Environment) (g : InScope) (typed : AreStmts (in_a_loop env) g body) where
-    kept_7 : (n : ℕ) → is_in_scope g n ≡ true → slot b7 n ≡ slot b0 n
+    kept_7 : (n : ℕ) → is_in_scope g n ≡ true → slot_of_local b7 n ≡ slot_of_local b0 n
     kept_7 n h =
         ap (λ z. get_or z n 0) continues.slots ∙ inside.kept (in_a_loop env) g typed n h
         ∙ ap (λ z. get_or z n 0) slots_5
 
-    kept_10 : AreStmts env g post → (n : ℕ) → is_in_scope g n ≡ true → slot b10 n ≡ slot b0 n
+    kept_10 : AreStmts env g post → (n : ℕ) → is_in_scope g n ≡ true → slot_of_local b10 n ≡ slot_of_local b0 n
     kept_10 typed2 n h =
         ap (λ z. get_or z n 0) (loop_ends.slots ∙ jump.slots) ∙ behind.kept env g typed2 n h ∙ kept_7 n h
 
@@ -362,10 +362,10 @@ module _ (test : Option Term) (body post : Stmts) (place start : ℕ) (l : Loop)
         earlier w b2 b3 second.grown (earlier w b3 b4 third.grown (earlier w b4 b5 condition.grown at_5))
 
     break_leads : w.leads l.break_to ≡ length b10.lines
-    break_leads = loop_ends.leads w all ∙ sym (ap (λ (z : Point). z.instr) loop_ends.point)
+    break_leads = loop_ends.leads w all ∙ sym (ap (λ (z : LoweringPoint). z.instr) loop_ends.point)
 
     start_leads : w.leads start ≡ length b0.lines
-    start_leads = starts.leads w at_2 ∙ ap (λ (z : Point). z.instr) first.point
+    start_leads = starts.leads w at_2 ∙ ap (λ (z : LoweringPoint). z.instr) first.point
 
     abbrev loop_target : Target
     loop_target = record { break_to = length b10.lines; continue_to = length b6.lines }
@@ -381,12 +381,12 @@ module _ (test : Option Term) (body post : Stmts) (place start : ℕ) (l : Loop)
       } ∷ targets,
     )
 
-    loop_condition : (in_loop : Bool) (g : InScope) (scope : LoweringScope) → IsCondition (environment_of w in_loop) g test
+    loop_condition : (in_loop : Bool) (g : InScope) (scope : LoweringScope) → IsCondition (typing_environment w in_loop) g test
         → ScopeHasSlots b0.slots g scope
-        → ConditionAt w.functions w.f scope test (length b10.lines) place (point_of b0) (point_of b5)
+        → ConditionAt w.functions w.f scope test (length b10.lines) place (builder_point b0) (builder_point b5)
     loop_condition in_loop g scope typed knows =
-        subst (λ z. ConditionAt w.functions w.f scope test z place (point_of b0) (point_of b5)) break_leads
-        (subst (λ z. ConditionAt w.functions w.f scope test (w.leads l.break_to) place z (point_of b5)) point_4
+        subst (λ z. ConditionAt w.functions w.f scope test z place (builder_point b0) (builder_point b5)) break_leads
+        (subst (λ z. ConditionAt w.functions w.f scope test (w.leads l.break_to) place z (builder_point b5)) point_4
         (condition.code w in_loop g scope typed (knows_same b0.slots b4.slots g scope slots_4 knows) at_5))
 
     loop_jump : OpAt w.f (length b8.lines) (Jump (length b0.lines)) place
@@ -403,7 +403,7 @@ module _ (test : Option Term) (body post : Stmts) (place start : ℕ) (l : Loop)
         ∙ ap length slots_5;
     kept = λ env g typed n h. kept_10 env g typed.1 typed.2 n h;
     code = λ w in_loop g scope targets typed leads knows all.
-        let env = environment_of w in_loop in
+        let env = typing_environment w in_loop in
         let inner =
         inside.code w true g scope (loop_target w all ∷ targets) typed.1 (body_leads w all targets)
         (knows_same b0.slots b5.slots g scope slots_5 knows) (at_6 w all) in
@@ -412,14 +412,14 @@ module _ (test : Option Term) (body post : Stmts) (place start : ℕ) (l : Loop)
         (knows_kept b0.slots b7.slots g scope (kept_7 env g typed.1) knows) (at_8 w all) in (
           scope,
           (
-            point_of b5,
-            point_of b6,
-            point_of b8,
+            builder_point b5,
+            builder_point b6,
+            builder_point b8,
             inner.0,
             outer.0,
             loop_condition w all in_loop g scope typed.0 knows,
             inner.1,
-            subst (λ z. StmtsAt w.functions w.f post targets scope z outer.0 (point_of b8)) continues.point outer.1,
+            subst (λ z. StmtsAt w.functions w.f post targets scope z outer.0 (builder_point b8)) continues.point outer.1,
             loop_jump w all,
             refl,
             loop_ends.point ∙ jump.point,

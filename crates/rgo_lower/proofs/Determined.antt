@@ -5,7 +5,7 @@ use Rattle.std.proofs.lemmas.Bool.{cases_lt}
 use Rattle.rgo_typed.specs.Tree.{Function, stmts_of}
 use Rattle.rgo_tac.specs.Code.{TacFn}
 use Rattle.rgo_lower.specs.Laws.{LoweringIsDetermined}
-use Rattle.rgo_lower.specs.Lowered.{Point, next_point, parameters, Target, closing_op, IsLoweredFn, AreLowered}
+use Rattle.rgo_lower.specs.Lowered.{LoweringPoint, next_point, parameters, Target, closing_op, IsLoweredFn, AreLowered}
 use Rattle.rgo_lower.proofs.Agreeing.{Agree, then, one}
 use Rattle.rgo_lower.proofs.AgreeingStatements.{SameStmt, stmts_same}
 use Rattle.rgo_simulation.proofs.Together.{some_injective}
@@ -31,7 +31,7 @@ taken (suc n) (x ∷ xs) (suc i) less = taken n xs i (omega (arith, less))
 
 module _ (functions : List Function) (source : Function) (f g : TacFn) (x : IsLoweredFn functions source f)
     (y : IsLoweredFn functions source g) where
-  abbrev start : Point
+  abbrev start : LoweringPoint
   start = record { instr = 0; variable = source.params }
 
   abbrev outside : List Target
@@ -50,7 +50,7 @@ module _ (functions : List Function) (source : Function) (f g : TacFn) (x : IsLo
 
   instrs_same : g.body ≡ f.body
   instrs_same =
-      let many : y.last.instr ≡ x.last.instr = ap (λ (z : Point). z.instr) body_same.last in
+      let many : y.last.instr ≡ x.last.instr = ap (λ (z : LoweringPoint). z.instr) body_same.last in
       same_items f.body g.body (omega (arith, many, x.instrs, y.instrs))
       (λ i less. whole.instrs i (omega arith) (omega (arith, less, x.instrs)))
 
@@ -61,7 +61,7 @@ module _ (functions : List Function) (source : Function) (f g : TacFn) (x : IsLo
 
   variables_same : g.variables ≡ f.variables
   variables_same =
-      let many : y.last.variable ≡ x.last.variable = ap (λ (z : Point). z.variable) body_same.last in
+      let many : y.last.variable ≡ x.last.variable = ap (λ (z : LoweringPoint). z.variable) body_same.last in
       same_items f.variables g.variables (omega (arith, many, x.variables, y.variables))
       (λ i less.
       ⊎_elim (λ low. parameters_same i low)

@@ -12,7 +12,7 @@ use Rattle.rgo_typed.specs.declared.programs.Function.{Function as CodeFunction}
 use Rattle.rgo_typed.specs.declared.programs.Struct.{Struct}
 use Rattle.rgo_typed.specs.declared.programs.Variable.{Variable}
 use Rattle.rgo_typed.specs.Tree.{Function, Typed, stmts_of}
-use Rattle.rgo_typed.specs.Views.{function_of}
+use Rattle.rgo_typed.specs.Views.{typed_function_of}
 use Rattle.rgo_wellformed.specs.TypeRules.{Declared}
 use Rattle.rgo_wellformed.specs.WellFormed.{is_in_scope, first_numbers, IsFunction, IsWellFormed, signature_of, declared_by}
 use Rattle.rgo_tac.specs.Code.{Jump, Instr, TacFn, Tac}
@@ -21,9 +21,9 @@ use Rattle.rgo_tac.specs.declared.code.Instr.TheVariants as instr
 use Rattle.rgo_tac.specs.Views.{op_of, body_of}
 use Rattle.rgo_lower.specs.declared.builder.Line.{Line}
 use Rattle.rgo_lower.specs.Sizes.{function_size, largest_of}
-use Rattle.rgo_lower.specs.Lowered.{Point, next_point, LoweringScope, variable_of_local, parameters, closing_op, StmtsAt, IsLoweredFn, AreLowered, IsLowered}
-use Rattle.rgo_lower.specs.Emitted.{BuilderParts, point_of, with_line, with_placed, Kept, Whole, Completes, OpIsAdded, always, jump_to, resolved}
-use Rattle.rgo_lower.specs.Emitted.{ScopeHasSlots, AreLoopTargets, StmtsAreEmitted, leads_by, number_of, FunctionCodeBegins, finished, FunctionIsLowered}
+use Rattle.rgo_lower.specs.Lowered.{LoweringPoint, next_point, LoweringScope, variable_of_local, parameters, closing_op, StmtsAt, IsLoweredFn, AreLowered, IsLowered}
+use Rattle.rgo_lower.specs.Emitted.{BuilderParts, builder_point, with_emitted_line, with_placed, Kept, Whole, Completes, OpIsAdded, always, jump_to, resolved_instr}
+use Rattle.rgo_lower.specs.Emitted.{ScopeHasSlots, AreLoopTargets, StmtsAreEmitted, leads_by, label_target, FunctionCodeBegins, finished_function, FunctionIsLowered}
 use Rattle.rgo_lower.proofs.Growing.{grown_trans, earlier, kept_all, op_added, line_count}
 use Rattle.rgo_lower.proofs.Labels.{Fresh, placed, op_moved}
 
@@ -93,11 +93,11 @@ parameters_known params locals b within h = record {
 -- ---- the end
 
 pub loop_closed : (a b c d : BuilderParts) (k place : ℕ) → Fresh a k b → c ≡ with_placed b k
-    → d ≡ with_line c (instr.Jump k) place → OpIsAdded a (always (Jump (length a.lines))) place d
+    → d ≡ with_emitted_line c (instr.Jump k) place → OpIsAdded a (always (Jump (length a.lines))) place d
 loop_closed a b c d k place label is last =
     let jump = op_added c d (instr.Jump k) (jump_to k) place last (λ w all. refl) in
     let there = placed b c k label.waits is in
-    let line : length c.lines ≡ length a.lines = ap (λ (z : Point). z.instr) (there.point ∙ label.point) in
+    let line : length c.lines ≡ length a.lines = ap (λ (z : LoweringPoint). z.instr) (there.point ∙ label.point) in
     record {
       grown = grown_trans a c d (there.grown a label.grown label.unmade) jump.grown;
       size = omega (arith, label.size, there.size, line_count c d (instr.Jump k) place last);
@@ -105,23 +105,23 @@ loop_closed a b c d k place label is last =
       point = jump.point ∙ ap next_point (there.point ∙ label.point);
       instr = λ w all.
           op_moved w.f (length c.lines) (length a.lines) _ _ place (jump.instr w all) (sym line)
-          (ap Jump (there.leads w (earlier w c d jump.grown all) ∙ ap (λ (z : Point). z.instr) label.point));
+          (ap Jump (there.leads w (earlier w c d jump.grown all) ∙ ap (λ (z : LoweringPoint). z.instr) label.point));
     }
 
 -- ---- the function with all that its builder was given
 
 module _ (leads : ℕ → ℕ) (lists : List (List ℕ)) (pieces : List (List Piece)) (f : TacFn) where
   abbrev body_from : List Line → List Instr
-  body_from l = body_of lists pieces (map (λ (x : Line). resolved leads x.instr) l) (map (λ (x : Line). x.place) l)
+  body_from l = body_of lists pieces (map (λ (x : Line). resolved_instr leads x.instr) l) (map (λ (x : Line). x.place) l)
 
   line_in : (l : List Line) (i : ℕ) (x : Line) → slice_get l i ≡ Some x
-      → slice_get (body_from l) i ≡ Some (record { op = op_of lists pieces (resolved leads x.instr); place = x.place })
+      → slice_get (body_from l) i ≡ Some (record { op = op_of lists pieces (resolved_instr leads x.instr); place = x.place })
   line_in [] i x e = absurd (none e)
     where
       none : None ≡ Some x → ⊥
       none e = cc
   line_in (y ∷ l) zero x e =
-      ap (λ (z : Line). Some (record { op = op_of lists pieces (resolved leads z.instr); place = z.place })) (same e)
+      ap (λ (z : Line). Some (record { op = op_of lists pieces (resolved_instr leads z.instr); place = z.place })) (same e)
     where
       same : Some y ≡ Some x → y ≡ x
       same e = cc
@@ -138,7 +138,7 @@ whole source b d functions signed = record {
   locals = source.locals;
   functions = functions;
   signed = signed;
-  f = finished source b;
+  f = finished_function source b;
   leads = leads_by b.labels;
   lists = b.lists;
   pieces = b.pieces;
@@ -148,11 +148,11 @@ completed : (source : Function) (b : BuilderParts) (d : Declared) (functions : L
     (signed : d.functions ≡ map signature_of functions)
     → Completes (whole source b d functions signed) b
 completed source b d functions signed = record {
-  lines = line_in (leads_by b.labels) b.lists b.pieces (finished source b) b.lines;
+  lines = line_in (leads_by b.labels) b.lists b.pieces (finished_function source b) b.lines;
   variables = kept_all b.variables;
   lists = kept_all b.lists;
   pieces = kept_all b.pieces;
-  labels = λ k t e. ap number_of e;
+  labels = λ k t e. ap label_target e;
 }
 
 -- a list that another begins with
@@ -181,14 +181,14 @@ module _ (source : Function) (a b c : BuilderParts) (begins : FunctionCodeBegins
   variable_count : length a.variables ≡ source.params
   variable_count = ap length begins.variables ∙ length-take-le source.params source.locals well.params
 
-  start : point_of a ≡ record { instr = 0; variable = source.params }
+  start : builder_point a ≡ record { instr = 0; variable = source.params }
   start = λ i. record { instr = length (begins.lines i); variable = variable_count i }
 
   no_loop : AreLoopTargets (whole source c d functions signed) false None []
   no_loop e = absurd (true_false (sym e))
 
-  lowered_body : (scope2 : LoweringScope) × StmtsAt functions (finished source c) (stmts_of source.body) []
-      (parameters source.params) (point_of a) scope2 (point_of b)
+  lowered_body : (scope2 : LoweringScope) × StmtsAt functions (finished_function source c) (stmts_of source.body) []
+      (parameters source.params) (builder_point a) scope2 (builder_point b)
   lowered_body =
       body.code (whole source c d functions signed) false (first_numbers source.params) (parameters source.params) []
       well.body no_loop (parameters_known source.params source.locals a well.params begins)
@@ -200,27 +200,27 @@ module _ (source : Function) (a b c : BuilderParts) (begins : FunctionCodeBegins
       ∙ begins_with a.variables c.variables (grown_trans a b c body.grown closing.grown).variables
       ∙ begins.variables
 
-  lowered_here : IsLoweredFn functions source (finished source c)
+  lowered_here : IsLoweredFn functions source (finished_function source c)
   lowered_here = record {
     name = refl;
     params = refl;
     result_type = refl;
     param_types = parameter_types;
     scope = lowered_body.0;
-    last = point_of b;
+    last = builder_point b;
     body =
-        subst (λ z. StmtsAt functions (finished source c) (stmts_of source.body) [] (parameters source.params) z
-        lowered_body.0 (point_of b)) start lowered_body.1;
+        subst (λ z. StmtsAt functions (finished_function source c) (stmts_of source.body) [] (parameters source.params) z
+        lowered_body.0 (builder_point b)) start lowered_body.1;
     closing = closing.instr (whole source c d functions signed) all_c;
     instrs =
-        body_length (leads_by c.labels) c.lists c.pieces (finished source c) c.lines
-        ∙ ap (λ (z : Point). z.instr) closing.point;
-    variables = ap (λ (z : Point). z.variable) closing.point;
+        body_length (leads_by c.labels) c.lists c.pieces (finished_function source c) c.lines
+        ∙ ap (λ (z : LoweringPoint). z.instr) closing.point;
+    variables = ap (λ (z : LoweringPoint). z.variable) closing.point;
   }
 
 pub function_lowered : (source : Function) (f : TacFn) (a b c : BuilderParts) → FunctionCodeBegins source.params source.locals a
     → StmtsAreEmitted (stmts_of source.body) None a b
-    → OpIsAdded b (always (closing_op source.result_type (length b.lines))) source.end c → f ≡ finished source c
+    → OpIsAdded b (always (closing_op source.result_type (length b.lines))) source.end c → f ≡ finished_function source c
     → FunctionIsLowered source f
 function_lowered source f a b c begins body closing is d functions signed well =
     subst (λ z. IsLoweredFn functions source z) (sym is)
@@ -254,8 +254,8 @@ pub function_is : (source : Function) (b : BuilderParts) (f : TacFn) (name : Lis
       body = body_of lists pieces instrs places;
     }
     → name ≡ source.name → result_type ≡ source.result_type → variables ≡ b.variables
-    → instrs ≡ map (λ (x : Line). resolved (leads_by b.labels) x.instr) b.lines
-    → places ≡ map (λ (x : Line). x.place) b.lines → lists ≡ b.lists → pieces ≡ b.pieces → f ≡ finished source b
+    → instrs ≡ map (λ (x : Line). resolved_instr (leads_by b.labels) x.instr) b.lines
+    → places ≡ map (λ (x : Line). x.place) b.lines → lists ≡ b.lists → pieces ≡ b.pieces → f ≡ finished_function source b
 function_is source b f name result_type variables instrs places lists pieces is n r v i p l t =
     is ∙ (λ j. record {
       name = n j;
@@ -267,35 +267,35 @@ function_is source b f name result_type variables instrs places lists pieces is 
 
 -- no function counts more than the largest
 pub within_largest : (items : List CodeFunction) (i : ℕ) (x : CodeFunction) → i < length items
-    → x ≡ get_or items i x → function_size (function_of x) ≤ largest_of (map function_of items)
+    → x ≡ get_or items i x → function_size (typed_function_of x) ≤ largest_of (map typed_function_of items)
 within_largest [] i x lt is = absurd (omega (arith, lt))
 within_largest (a ∷ items) zero x lt is =
-    subst (λ z. function_size (function_of z) ≤ largest_of (map function_of (a ∷ items))) (sym is) (omega arith)
+    subst (λ z. function_size (typed_function_of z) ≤ largest_of (map typed_function_of (a ∷ items))) (sym is) (omega arith)
 within_largest (a ∷ items) (suc i) x lt is =
     let later = within_largest items i x (omega (arith, lt)) is in omega (arith, later)
 
 -- one function more
 pub next_lowered : (functions : List Function) (items : List CodeFunction) (i : ℕ) (x : CodeFunction) (f : TacFn)
-    (rest : List TacFn) → i < length items → x ≡ get_or items i x → IsLoweredFn functions (function_of x) f
-    → AreLowered functions (map function_of (drop (i + 1) items)) rest
-    → AreLowered functions (map function_of (drop i items)) (f ∷ rest)
+    (rest : List TacFn) → i < length items → x ≡ get_or items i x → IsLoweredFn functions (typed_function_of x) f
+    → AreLowered functions (map typed_function_of (drop (i + 1) items)) rest
+    → AreLowered functions (map typed_function_of (drop i items)) (f ∷ rest)
 next_lowered functions items i x f rest lt is h hs =
-    subst (λ z. AreLowered functions z (f ∷ rest)) (sym (at_drop_more (map function_of) items i x lt))
-    (subst (λ z. AreLowered functions (function_of z ∷ map function_of (drop (i + 1) items)) (f ∷ rest)) is (h, hs))
+    subst (λ z. AreLowered functions z (f ∷ rest)) (sym (at_drop_more (map typed_function_of) items i x lt))
+    (subst (λ z. AreLowered functions (typed_function_of z ∷ map typed_function_of (drop (i + 1) items)) (f ∷ rest)) is (h, hs))
 
 pub end_lowered : (functions : List Function) (items : List CodeFunction) (i : ℕ) → length items ≤ i
-    → AreLowered functions (map function_of (drop i items)) []
+    → AreLowered functions (map typed_function_of (drop i items)) []
 end_lowered functions items i le =
-    subst (λ z. AreLowered functions z []) (sym (at_drop_all (map function_of) items i le)) tt
+    subst (λ z. AreLowered functions z []) (sym (at_drop_all (map typed_function_of) items i le)) tt
 
 -- the function of this number is well-formed
 pub well_function : (program : Typed) (items : List CodeFunction) (i : ℕ) (x : CodeFunction) → IsWellFormed program
-    → program.functions ≡ map function_of items → i < length items → x ≡ get_or items i x
-    → IsFunction (declared_by program) (function_of x)
+    → program.functions ≡ map typed_function_of items → i < length items → x ≡ get_or items i x
+    → IsFunction (declared_by program) (typed_function_of x)
 well_function program items i x well same lt is =
-    well_at (declared_by program) program.functions i (function_of x) well.functions
-    (ap (λ z. slice_get z i) same ∙ slice_get-map function_of items i
-    ∙ ap (option_map function_of) (slice_get_read items (length items) i x refl lt is))
+    well_at (declared_by program) program.functions i (typed_function_of x) well.functions
+    (ap (λ z. slice_get z i) same ∙ slice_get-map typed_function_of items i
+    ∙ ap (option_map typed_function_of) (slice_get_read items (length items) i x refl lt is))
 
 pub program_is : (program : Typed) (code : Tac) (structs : List Struct) (variables : List Variable)
     (functions : List TacFn) → code ≡ record { structs = structs; variables = variables; functions = functions }

@@ -16,8 +16,8 @@ use Rattle.rgo_typed.specs.Tree as tree
 use Rattle.rgo_typed.specs.Tree.{Term, Terms, Change, Stmt, Stmts, stmts_of, Function, Typed}
 use Rattle.rgo_wellformed.specs.TypeRules.{Declared, HasField, Computes, Returns, Takes}
 use Rattle.rgo_wellformed.specs.WellFormed.{InScope, MatchFields, HasType, HaveTypes, Environment, in_a_loop, IsCondition, IsReturned, Updates, IsStmt, AreStmts, scope_after, first_numbers, IsFunction, declared_by, signature_of}
-use Rattle.rgo_lower.specs.Shapes.{is_narrow, is_strict, returns_value, has_effect, how_many, term_fits, terms_fit, value_fits, change_fits, stmt_fits, stmts_fit}
-use Rattle.rgo_lower.specs.Sizes.{most_fields, program_size}
+use Rattle.rgo_lower.specs.Shapes.{is_narrow, is_strict, returns_value, returns_nothing, how_many, term_fits, terms_fit, value_fits, change_fits, stmt_fits, stmts_fit}
+use Rattle.rgo_lower.specs.Sizes.{most_struct_fields, program_size}
 
 both : (a b : Bool) → a ≡ true → b ≡ true → a && b ≡ true
 both true b e f = f
@@ -116,7 +116,7 @@ module _ (d : Declared) (small : IsSmall d) where
   value_returned action.Close operands t h = absurd h
   value_returned (action.Set n) operands t h = absurd h
 
-  effect_taken : (a : Action) (operands : List «Type») → Takes d a operands → has_effect a (length operands) ≡ true
+  effect_taken : (a : Action) (operands : List «Type») → Takes d a operands → returns_nothing a (length operands) ≡ true
   effect_taken (action.Store k) operands h = with_number operands _ k h.2 (field_is_narrow d small h.0 k h.1 h.3)
   effect_taken action.Put operands h = ap (λ z. nat_eq (length z) 3) h.1
   effect_taken action.Send operands h = ap (λ z. nat_eq (length z) 2) h.1
@@ -191,8 +191,8 @@ update_fits e small g c h =
     (both (returns_value c.read (how_many c.operands)) _
     (subst (λ n. returns_value c.read n ≡ true) count (value_returned e.declared small c.read h.0 c.ty h.3))
     (both (term_fits c.value) _ (typed_fits e.declared small e.locals g c.value c.ty h.4)
-    (both (is_strict c.op) (has_effect c.write (how_many c.operands + 1)) (strict c.op _ c.ty h.5)
-    (subst (λ n. has_effect c.write n ≡ true) one_more
+    (both (is_strict c.op) (returns_nothing c.write (how_many c.operands + 1)) (strict c.op _ c.ty h.5)
+    (subst (λ n. returns_nothing c.write n ≡ true) one_more
     (effect_taken e.declared small c.write (h.0 ++ c.ty ∷ []) h.6)))))
 
 mutual
@@ -205,9 +205,9 @@ mutual
   formed_fits e small g (tree.Zero n ty place) h = lt-ltb n (length e.locals) (slice_get_within e.locals n ty h.1)
   formed_fits e small g (tree.Assign n value place) h = typed_fits e.declared small e.locals g value h.0 h.3
   formed_fits e small g (tree.Perform a operands place) h =
-      both (terms_fit operands) (has_effect a (how_many operands))
+      both (terms_fit operands) (returns_nothing a (how_many operands))
       (typed_fit e.declared small e.locals g operands h.0 h.1)
-      (subst (λ n. has_effect a n ≡ true) (counted e.declared small e.locals g operands h.0 h.1)
+      (subst (λ n. returns_nothing a n ≡ true) (counted e.declared small e.locals g operands h.0 h.1)
       (effect_taken e.declared small a h.0 h.2))
   formed_fits e small g (tree.Update change) h = update_fits e small g change h
   formed_fits e small g (tree.Discard value) h = typed_fits e.declared small e.locals g value h.0 h.1
@@ -250,7 +250,7 @@ function_fits d small f h =
 
 -- no struct has more fields than the most
 within_most : (structs : List Struct) (n : ℕ) (l : List «Type»)
-    → slice_get (map (λ (s : Struct). s.fields) structs) n ≡ Some l → length l ≤ most_fields structs
+    → slice_get (map (λ (s : Struct). s.fields) structs) n ≡ Some l → length l ≤ most_struct_fields structs
 within_most [] n l e = absurd (none e)
   where
     none : None ≡ Some l → ⊥

@@ -9,7 +9,7 @@ use Rattle.rgo_tac.specs.Code.{Op}
 use Rattle.rgo_tac.specs.Views.{op_of}
 use Rattle.rgo_lower.specs.declared.builder.Line.{Line}
 use Rattle.rgo_lower.specs.Lowered.{next_point, after_value, OpAt}
-use Rattle.rgo_lower.specs.Emitted.{BuilderParts, count, point_of, with_line, with_variable, with_list, with_pieces, with_label, with_placed, resolved}
+use Rattle.rgo_lower.specs.Emitted.{BuilderParts, builder_size, builder_point, with_emitted_line, with_emitted_variable, with_list, with_pieces, with_label, with_placed, resolved_instr}
 use Rattle.rgo_lower.specs.Emitted.{Kept, Grown, Whole, Completes, OpIsAdded, ValueIsAdded, always}
 
 -- ---- lists
@@ -69,7 +69,7 @@ earlier w a b h c = record {
 
 -- ---- what a builder is given
 
-grown_line : (a : BuilderParts) (i : Instr) (place : ℕ) → Grown a (with_line a i place)
+grown_line : (a : BuilderParts) (i : Instr) (place : ℕ) → Grown a (with_emitted_line a i place)
 grown_line a i place = record {
   lines = kept_before a.lines (record { instr = i; place = place } ∷ []);
   variables = kept_all a.variables;
@@ -78,7 +78,7 @@ grown_line a i place = record {
   labels = kept_all a.labels;
 }
 
-grown_variable : (a : BuilderParts) (ty : «Type») → Grown a (with_variable a ty)
+grown_variable : (a : BuilderParts) (ty : «Type») → Grown a (with_emitted_variable a ty)
 grown_variable a ty = record {
   lines = kept_all a.lines;
   variables = kept_before a.variables (ty ∷ []);
@@ -107,34 +107,34 @@ grown_pieces a l = record {
 
 -- ---- how many there are
 
-pub line_count : (a b : BuilderParts) (i : Instr) (place : ℕ) → b ≡ with_line a i place → count b ≡ count a + 1
-line_count a b i place is = ap count is ∙ omega (arith, one_more a.lines (record { instr = i; place = place }))
+pub line_count : (a b : BuilderParts) (i : Instr) (place : ℕ) → b ≡ with_emitted_line a i place → builder_size b ≡ builder_size a + 1
+line_count a b i place is = ap builder_size is ∙ omega (arith, one_more a.lines (record { instr = i; place = place }))
 
-pub variable_count : (a b : BuilderParts) (ty : «Type») → b ≡ with_variable a ty → count b ≡ count a + 1
-variable_count a b ty is = ap count is ∙ omega (arith, one_more a.variables ty)
+pub variable_count : (a b : BuilderParts) (ty : «Type») → b ≡ with_emitted_variable a ty → builder_size b ≡ builder_size a + 1
+variable_count a b ty is = ap builder_size is ∙ omega (arith, one_more a.variables ty)
 
-pub list_count : (a b : BuilderParts) (l : List ℕ) → b ≡ with_list a l → count b ≡ count a + 1
-list_count a b l is = ap count is ∙ omega (arith, one_more a.lists l)
+pub list_count : (a b : BuilderParts) (l : List ℕ) → b ≡ with_list a l → builder_size b ≡ builder_size a + 1
+list_count a b l is = ap builder_size is ∙ omega (arith, one_more a.lists l)
 
-pub pieces_count : (a b : BuilderParts) (l : List Piece) → b ≡ with_pieces a l → count b ≡ count a + 1
-pieces_count a b l is = ap count is ∙ omega (arith, one_more a.pieces l)
+pub pieces_count : (a b : BuilderParts) (l : List Piece) → b ≡ with_pieces a l → builder_size b ≡ builder_size a + 1
+pieces_count a b l is = ap builder_size is ∙ omega (arith, one_more a.pieces l)
 
-pub label_count : (a b : BuilderParts) → b ≡ with_label a → count b ≡ count a + 1
-label_count a b is = ap count is ∙ omega (arith, one_more a.labels None)
+pub label_count : (a b : BuilderParts) → b ≡ with_label a → builder_size b ≡ builder_size a + 1
+label_count a b is = ap builder_size is ∙ omega (arith, one_more a.labels None)
 
 same_length : {A : Type 0} (xs : List A) (i : ℕ) (v : A) → length (slice_set xs i v) ≡ length xs
 same_length [] i v = refl
 same_length (x ∷ xs) zero v = refl
 same_length (x ∷ xs) (suc i) v = let rest = same_length xs i v in omega (arith, rest)
 
-pub placed_count : (a b : BuilderParts) (k : ℕ) → b ≡ with_placed a k → count b ≡ count a
-placed_count a b k is = ap count is ∙ omega (arith, same_length a.labels k (Some (length a.lines)))
+pub placed_count : (a b : BuilderParts) (k : ℕ) → b ≡ with_placed a k → builder_size b ≡ builder_size a
+placed_count a b k is = ap builder_size is ∙ omega (arith, same_length a.labels k (Some (length a.lines)))
 
 -- ---- instructions with what they name
 
 -- an instruction at the end
-pub op_added : (a b : BuilderParts) (i : Instr) (op : Whole → Op) (place : ℕ) → b ≡ with_line a i place
-    → ((w : Whole) → Completes w b → op_of w.lists w.pieces (resolved w.leads i) ≡ op w)
+pub op_added : (a b : BuilderParts) (i : Instr) (op : Whole → Op) (place : ℕ) → b ≡ with_emitted_line a i place
+    → ((w : Whole) → Completes w b → op_of w.lists w.pieces (resolved_instr w.leads i) ≡ op w)
     → OpIsAdded a op place b
 op_added a b i op place is means =
     let line : Line = record { instr = i; place = place } in
@@ -143,7 +143,7 @@ op_added a b i op place is means =
       size = omega (arith, line_count a b i place is);
       slots = ap (λ (z : BuilderParts). z.slots) is;
       point =
-          ap point_of is
+          ap builder_point is
           ∙ (λ j. record { instr = one_more a.lines line j; variable = length a.variables });
       instr = λ w c.
           c.lines (length a.lines) line (ap (λ (z : BuilderParts). slice_get z.lines (length a.lines)) is
@@ -153,22 +153,22 @@ op_added a b i op place is means =
 
 -- an instruction that gives a new variable its value
 pub value_added : (a b c : BuilderParts) (i : Instr) (op : ℕ → Op) (ty : «Type») (place d : ℕ) → d ≡ length a.variables
-    → b ≡ with_variable a ty → c ≡ with_line b i place
-    → ((w : Whole) → Completes w c → op_of w.lists w.pieces (resolved w.leads i) ≡ op d)
+    → b ≡ with_emitted_variable a ty → c ≡ with_emitted_line b i place
+    → ((w : Whole) → Completes w c → op_of w.lists w.pieces (resolved_instr w.leads i) ≡ op d)
     → ValueIsAdded a op ty place d c
 value_added a b c i op ty place d d_is b_is c_is means =
     let line : Line = record { instr = i; place = place } in
-    let new : c ≡ with_line (with_variable a ty) i place = c_is ∙ ap (λ z. with_line z i place) b_is in
+    let new : c ≡ with_emitted_line (with_emitted_variable a ty) i place = c_is ∙ ap (λ z. with_emitted_line z i place) b_is in
     record {
       grown =
           subst (λ z. Grown a z) (sym new)
-          (grown_trans a (with_variable a ty) (with_line (with_variable a ty) i place)
-          (grown_variable a ty) (grown_line (with_variable a ty) i place));
+          (grown_trans a (with_emitted_variable a ty) (with_emitted_line (with_emitted_variable a ty) i place)
+          (grown_variable a ty) (grown_line (with_emitted_variable a ty) i place));
       size = omega (arith, variable_count a b ty b_is, line_count b c i place c_is);
       slots = ap (λ (z : BuilderParts). z.slots) new;
       variable = d_is;
       point =
-          ap point_of new
+          ap builder_point new
           ∙ (λ j. record { instr = one_more a.lines line j; variable = one_more a.variables ty j });
       instr = λ w k.
           k.lines (length a.lines) line
@@ -181,19 +181,19 @@ value_added a b c i op ty place d d_is b_is c_is means =
 
 -- after a list was added
 pub op_after_list : (a b c : BuilderParts) (l : List ℕ) (op : Whole → Op) (place : ℕ) → b ≡ with_list a l
-    → OpIsAdded b op place c → count c ≤ count a + 3 → OpIsAdded a op place c
+    → OpIsAdded b op place c → builder_size c ≤ builder_size a + 3 → OpIsAdded a op place c
 op_after_list a b c l op place is h few =
     let g = subst (λ z. Grown a z) (sym is) (grown_list a l) in
     record {
       grown = grown_trans a b c g h.grown;
       size = few;
       slots = h.slots ∙ ap (λ (z : BuilderParts). z.slots) is;
-      point = h.point ∙ ap (λ z. next_point (point_of z)) is;
+      point = h.point ∙ ap (λ z. next_point (builder_point z)) is;
       instr = λ w k. subst (λ (z : BuilderParts). OpAt w.f (length z.lines) (op w) place) is (h.instr w k);
     }
 
 pub value_after_list : (a b c : BuilderParts) (l : List ℕ) (op : ℕ → Op) (ty : «Type») (place d : ℕ) → b ≡ with_list a l
-    → ValueIsAdded b op ty place d c → count c ≤ count a + 3 → ValueIsAdded a op ty place d c
+    → ValueIsAdded b op ty place d c → builder_size c ≤ builder_size a + 3 → ValueIsAdded a op ty place d c
 value_after_list a b c l op ty place d is h few =
     let g = subst (λ z. Grown a z) (sym is) (grown_list a l) in
     record {
@@ -201,7 +201,7 @@ value_after_list a b c l op ty place d is h few =
       size = few;
       slots = h.slots ∙ ap (λ (z : BuilderParts). z.slots) is;
       variable = h.variable ∙ ap (λ (z : BuilderParts). length z.variables) is;
-      point = h.point ∙ ap (λ z. after_value (point_of z)) is;
+      point = h.point ∙ ap (λ z. after_value (builder_point z)) is;
       instr = λ w k.
           subst (λ (z : BuilderParts). OpAt w.f (length z.lines) (op (length z.variables)) place) is (h.instr w k);
       kind = λ w k. subst (λ (z : BuilderParts). slice_get w.f.variables (length z.variables) ≡ Some ty) is (h.kind w k);
@@ -226,10 +226,10 @@ pieces_in w a b c l n n_is is g k =
 
 -- the operation of an instruction that takes list n
 abbrev pub MeansWithList : Instr → (n : ℕ) → List ℕ → Op → Type 0
-MeansWithList i n l op = (w : Whole) → get_or w.lists n [] ≡ l → op_of w.lists w.pieces (resolved w.leads i) ≡ op
+MeansWithList i n l op = (w : Whole) → get_or w.lists n [] ≡ l → op_of w.lists w.pieces (resolved_instr w.leads i) ≡ op
 
 pub op_with_list : (a b c : BuilderParts) (i : Instr) (op : Op) (l : List ℕ) (place n : ℕ) → n ≡ length a.lists
-    → b ≡ with_list a l → c ≡ with_line b i place → MeansWithList i n l op → OpIsAdded a (always op) place c
+    → b ≡ with_list a l → c ≡ with_emitted_line b i place → MeansWithList i n l op → OpIsAdded a (always op) place c
 op_with_list a b c i op l place n n_is b_is c_is means =
     op_after_list a b c l (always op) place b_is
     (op_added b c i (always op) place c_is (λ w k. means w
@@ -237,8 +237,8 @@ op_with_list a b c i op l place n n_is b_is c_is means =
     (omega (arith, list_count a b l b_is, line_count b c i place c_is))
 
 pub value_with_list : (a b c d : BuilderParts) (i : Instr) (op : ℕ → Op) (ty : «Type») (l : List ℕ) (place n to : ℕ)
-    → n ≡ length a.lists → b ≡ with_list a l → to ≡ length b.variables → c ≡ with_variable b ty
-    → d ≡ with_line c i place → MeansWithList i n l (op to) → ValueIsAdded a op ty place to d
+    → n ≡ length a.lists → b ≡ with_list a l → to ≡ length b.variables → c ≡ with_emitted_variable b ty
+    → d ≡ with_emitted_line c i place → MeansWithList i n l (op to) → ValueIsAdded a op ty place to d
 value_with_list a b c d i op ty l place n to n_is b_is to_is c_is d_is means =
     let g = subst (λ z. Grown b z) (sym c_is) (grown_variable b ty) in
     let g2 = subst (λ z. Grown c z) (sym d_is) (grown_line c i place) in
@@ -248,9 +248,9 @@ value_with_list a b c d i op ty l place n to n_is b_is to_is c_is d_is means =
     (omega (arith, list_count a b l b_is, variable_count b c ty c_is, line_count c d i place d_is))
 
 pub op_with_pieces : (a b c d : BuilderParts) (i : Instr) (op : Op) (p : List Piece) (l : List ℕ) (place m n : ℕ)
-    → m ≡ length a.pieces → b ≡ with_pieces a p → n ≡ length b.lists → c ≡ with_list b l → d ≡ with_line c i place
+    → m ≡ length a.pieces → b ≡ with_pieces a p → n ≡ length b.lists → c ≡ with_list b l → d ≡ with_emitted_line c i place
     → ((w : Whole) → get_or w.pieces m [] ≡ p → get_or w.lists n [] ≡ l
-    → op_of w.lists w.pieces (resolved w.leads i) ≡ op)
+    → op_of w.lists w.pieces (resolved_instr w.leads i) ≡ op)
     → OpIsAdded a (always op) place d
 op_with_pieces a b c d i op p l place m n m_is b_is n_is c_is d_is means =
     let g = subst (λ z. Grown a z) (sym b_is) (grown_pieces a p) in
@@ -264,7 +264,7 @@ op_with_pieces a b c d i op p l place m n m_is b_is n_is c_is d_is means =
       grown = grown_trans a b d g all.grown;
       size = omega (arith, pieces_count a b p b_is, list_count b c l c_is, line_count c d i place d_is);
       slots = all.slots ∙ ap (λ (z : BuilderParts). z.slots) b_is;
-      point = all.point ∙ ap (λ z. next_point (point_of z)) b_is;
+      point = all.point ∙ ap (λ z. next_point (builder_point z)) b_is;
       instr = λ w k. subst (λ (z : BuilderParts). OpAt w.f (length z.lines) op place) b_is (all.instr w k);
     }
 

@@ -5,8 +5,8 @@ use Rattle.std.proofs.lemmas.Option.{slice_get_past, slice_get_within}
 use Rattle.rgo_tac.specs.Code.{Op, TacFn}
 use Rattle.rgo_typed.specs.declared.actions.Logical.{Logical}
 use Rattle.rgo_typed.specs.declared.actions.Logical.TheVariants.{And, Or}
-use Rattle.rgo_lower.specs.Lowered.{Point, next_point, OpAt, logic_branch}
-use Rattle.rgo_lower.specs.Emitted.{BuilderParts, count, point_of, with_label, with_placed, Grown, Whole, Completes, OpIsAdded, branch_to, decides}
+use Rattle.rgo_lower.specs.Lowered.{LoweringPoint, next_point, OpAt, logic_branch}
+use Rattle.rgo_lower.specs.Emitted.{BuilderParts, builder_size, builder_point, with_label, with_placed, Grown, Whole, Completes, OpIsAdded, branch_to, decides}
 use Rattle.rgo_lower.proofs.Growing.{kept_all, kept_before, get_last, grown_trans, label_count, placed_count}
 
 set_same : {A : Type 0} (xs : List A) (i : ℕ) (v : A) → i < length xs → slice_get (slice_set xs i v) i ≡ Some v
@@ -29,9 +29,9 @@ none_some o x e f = cc
 -- label k was made
 pub record Fresh (a : BuilderParts) (k : ℕ) (b : BuilderParts) : Type 0 where
   pub grown : Grown a b
-  pub size : count b ≡ count a + 1
+  pub size : builder_size b ≡ builder_size a + 1
   pub slots : b.slots ≡ a.slots
-  pub point : point_of b ≡ point_of a
+  pub point : builder_point b ≡ builder_point a
   pub unmade : slice_get a.labels k ≡ None
   pub waits : slice_get b.labels k ≡ Some None
 
@@ -46,7 +46,7 @@ fresh a b k k_is is = record {
   });
   size = label_count a b is;
   slots = ap (λ (z : BuilderParts). z.slots) is;
-  point = ap point_of is;
+  point = ap builder_point is;
   unmade = slice_get_past a.labels k (omega (arith, k_is));
   waits =
       ap (λ (z : BuilderParts). slice_get z.labels k) is ∙ ap (slice_get (a.labels ++ None ∷ [])) k_is
@@ -69,9 +69,9 @@ apart a j k there unmade e = none_some (slice_get a.labels k) None unmade (ap (s
 
 -- label k, which was open, was placed
 pub record Placed (a : BuilderParts) (k : ℕ) (b : BuilderParts) : Type 0 where
-  pub size : count b ≡ count a
+  pub size : builder_size b ≡ builder_size a
   pub slots : b.slots ≡ a.slots
-  pub point : point_of b ≡ point_of a
+  pub point : builder_point b ≡ builder_point a
   pub completes : (w : Whole) → Completes w b → Completes w a
   pub leads : (w : Whole) → Completes w b → w.leads k ≡ length a.lines
   pub grown : (base : BuilderParts) → Grown base a → slice_get base.labels k ≡ None → Grown base b
@@ -147,12 +147,12 @@ branches_is And w test next other = refl
 branches_is Or w test next other = refl
 
 pub branch_added : (logic : Logical) (test next other place : ℕ) (a b c d : BuilderParts) → Fresh a next b
-    → OpIsAdded b (branches logic test next other) place c → count c ≡ count b + 1 → d ≡ with_placed c next
+    → OpIsAdded b (branches logic test next other) place c → builder_size c ≡ builder_size b + 1 → d ≡ with_placed c next
     → OpIsAdded a (decides logic test (length a.lines + 1) other) place d
 branch_added logic test next other place a b c d label branch one is =
     let there = placed c d next (branch.grown.labels next None label.waits) is in
-    let line_b : length b.lines ≡ length a.lines = ap (λ (z : Point). z.instr) label.point in
-    let line_c : length c.lines ≡ length b.lines + 1 = ap (λ (z : Point). z.instr) branch.point in
+    let line_b : length b.lines ≡ length a.lines = ap (λ (z : LoweringPoint). z.instr) label.point in
+    let line_c : length c.lines ≡ length b.lines + 1 = ap (λ (z : LoweringPoint). z.instr) branch.point in
     record {
       grown = there.grown a (grown_trans a b c label.grown branch.grown) label.unmade;
       size = omega (arith, label.size, one, there.size);

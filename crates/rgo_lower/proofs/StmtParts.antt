@@ -13,9 +13,9 @@ use Rattle.rgo_wellformed.specs.WellFormed.{InScope, is_in_scope, IsStmt, scope_
 use Rattle.rgo_tac.specs.Code.{Do, Call, Go, Print, Jump, Return}
 use Rattle.rgo_lower.specs.declared.builder.Loop.{Loop}
 use Rattle.rgo_lower.specs.Sizes.{stmt_size}
-use Rattle.rgo_lower.specs.Lowered.{Point, next_point, OpAt, ActionAt, LoweringScope, variable_of_local, Target, zero_action, TermAt, StmtAt}
-use Rattle.rgo_lower.specs.Emitted.{BuilderParts, count, point_of, slot, with_slot, Grown, Whole, Completes, OpIsAdded, ValueIsAdded, always, acts, jump_to}
-use Rattle.rgo_lower.specs.Emitted.{ScopeHasSlots, TermIsEmitted, TermsAreEmitted, AreLoopTargets, environment_of, StmtIsEmitted}
+use Rattle.rgo_lower.specs.Lowered.{LoweringPoint, next_point, OpAt, ActionAt, LoweringScope, variable_of_local, Target, zero_action, TermAt, StmtAt}
+use Rattle.rgo_lower.specs.Emitted.{BuilderParts, builder_size, builder_point, slot_of_local, with_local_slot, Grown, Whole, Completes, OpIsAdded, ValueIsAdded, always, acts, jump_to}
+use Rattle.rgo_lower.specs.Emitted.{ScopeHasSlots, TermIsEmitted, TermsAreEmitted, AreLoopTargets, typing_environment, StmtIsEmitted}
 use Rattle.rgo_lower.proofs.Growing.{grown_trans, earlier, kept_all}
 use Rattle.rgo_lower.proofs.Labels.{op_moved}
 use Rattle.rgo_lower.proofs.TermParts.{action_at, result_is}
@@ -59,12 +59,12 @@ module _ (xs ys : List ℕ) (g : InScope) (scope : LoweringScope) (n d : ℕ) (h
 -- the code of such a statement was added
 pub record PlainIsEmitted (s : Stmt) (innermost : Option Loop) (old new : BuilderParts) : Type 0 where
   pub grown : Grown old new
-  pub size : count new ≤ count old + stmt_size s
+  pub size : builder_size new ≤ builder_size old + stmt_size s
   pub slots : new.slots ≡ old.slots
   pub code :
       (w : Whole) (in_loop : Bool) (g : InScope) (scope : LoweringScope) (targets : List Target)
-      → IsStmt (environment_of w in_loop) g s → AreLoopTargets w in_loop innermost targets → ScopeHasSlots old.slots g scope
-      → Completes w new → StmtAt w.functions w.f s targets scope (point_of old) scope (point_of new)
+      → IsStmt (typing_environment w in_loop) g s → AreLoopTargets w in_loop innermost targets → ScopeHasSlots old.slots g scope
+      → Completes w new → StmtAt w.functions w.f s targets scope (builder_point old) scope (builder_point new)
 
 pub plain : (s : Stmt) (innermost : Option Loop) (a b : BuilderParts) → ((g : InScope) → scope_after g s ≡ g)
     → PlainIsEmitted s innermost a b → StmtIsEmitted s innermost a b
@@ -81,7 +81,7 @@ plain s innermost a b same h = record {
 }
 
 pub assign_emitted : (n : ℕ) (value : Term) (place d : ℕ) (innermost : Option Loop) (a b c : BuilderParts)
-    → TermIsEmitted value a d b → OpIsAdded b (always (Do (Some (slot b n)) Copy (d ∷ []))) place c
+    → TermIsEmitted value a d b → OpIsAdded b (always (Do (Some (slot_of_local b n)) Copy (d ∷ []))) place c
     → StmtIsEmitted (tree.Assign n value place) innermost a c
 assign_emitted n value place d innermost a b c h o = plain _ innermost a c (λ g. refl) (record {
   grown = grown_trans a b c h.grown o.grown;
@@ -89,8 +89,8 @@ assign_emitted n value place d innermost a b c h o = plain _ innermost a c (λ g
   slots = o.slots ∙ h.slots;
   code = λ w in_loop g scope targets typed leads knows all. (
     d,
-    point_of b,
-    slot b n,
+    builder_point b,
+    slot_of_local b n,
     h.code w g typed.0 scope typed.3 knows (earlier w b c o.grown all),
     knows.inside n typed.1 ∙ ap (λ z. Some (get_or z n 0)) (sym h.slots),
     o.instr w all,
@@ -108,7 +108,7 @@ perform_emitted action operands place ds innermost a b c h o = plain _ innermost
   slots = o.slots ∙ h.slots;
   code = λ w in_loop g scope targets typed leads knows all. (
     ds,
-    point_of b,
+    builder_point b,
     h.code w g typed.0 scope typed.1 knows (earlier w b c o.grown all),
     o.instr w all,
     refl,
@@ -134,7 +134,7 @@ invoke_emitted n arguments place ds innermost a b c h o = plain _ innermost a c 
   slots = o.slots ∙ h.slots;
   code = λ w in_loop g scope targets typed leads knows all. (
     ds,
-    point_of b,
+    builder_point b,
     h.code w g typed.0.params scope typed.2 knows (earlier w b c o.grown all),
     o.instr w all,
     result_is w n typed.0 None typed.1 typed.3,
@@ -152,7 +152,7 @@ go_emitted n arguments place ds innermost a b c h o = plain _ innermost a c (λ 
   slots = o.slots ∙ h.slots;
   code = λ w in_loop g scope targets typed leads knows all. (
     ds,
-    point_of b,
+    builder_point b,
     h.code w g typed.0.params scope typed.2 knows (earlier w b c o.grown all),
     o.instr w all,
     result_is w n typed.0 None typed.1 typed.3,
@@ -170,7 +170,7 @@ print_emitted pieces values place ds innermost a b c h o = plain _ innermost a c
   slots = o.slots ∙ h.slots;
   code = λ w in_loop g scope targets typed leads knows all. (
     ds,
-    point_of b,
+    builder_point b,
     h.code w g typed.0 scope typed.1 knows (earlier w b c o.grown all),
     o.instr w all,
     refl,
@@ -196,16 +196,16 @@ module _ (change : Change) (innermost : Option Loop) (ds : List ℕ) (x d y : �
   slots_c = read.slots ∙ operands.slots
 
   computed : (w : Whole) → Completes w f
-      → ActionAt w.f (point_of e) (Binary change.op) (length b.variables ∷ d ∷ []) change.ty change.at
+      → ActionAt w.f (builder_point e) (Binary change.op) (length b.variables ∷ d ∷ []) change.ty change.at
   computed w all =
-      subst (λ z. ActionAt w.f (point_of e) (Binary change.op) (z ∷ d ∷ []) change.ty change.at) read.variable
+      subst (λ z. ActionAt w.f (builder_point e) (Binary change.op) (z ∷ d ∷ []) change.ty change.at) read.variable
       (action_at e f (Binary change.op) (x ∷ d ∷ []) change.ty change.at y w compute all)
 
   written : (w : Whole) → Completes w g
       → OpAt w.f (length e.lines + 1) (Do None change.write (ds ++ length e.variables ∷ [])) change.at
   written w all =
       op_moved w.f (length f.lines) (length e.lines + 1) _ _ change.at (write.instr w all)
-      (sym (ap (λ (z : Point). z.instr) compute.point)) (ap (λ z. Do None change.write
+      (sym (ap (λ (z : LoweringPoint). z.instr) compute.point)) (ap (λ z. Do None change.write
       (ds ++ z ∷ [])) compute.variable)
 
   update_is_plain : PlainIsEmitted (tree.Update change) innermost a g
@@ -219,12 +219,12 @@ module _ (change : Change) (innermost : Option Loop) (ds : List ℕ) (x d y : �
         let at_c = earlier w c e value.grown at_e in (
           (
             ds,
-            point_of b,
+            builder_point b,
             operands.code w s typed.0 scope typed.1 knows (earlier w b c read.grown at_c),
             action_at b c change.read ds change.ty change.read_at x w read at_c,
             d,
-            point_of e,
-            subst (λ z. TermAt w.functions w.f scope change.value z d (point_of e)) read.point
+            builder_point e,
+            subst (λ z. TermAt w.functions w.f scope change.value z d (builder_point e)) read.point
                 (value.code w s change.ty scope typed.4 (knows_same a.slots c.slots s scope slots_c knows) at_e),
             computed w at_f,
             written w all,
@@ -248,7 +248,7 @@ break_emitted place l a b o = plain _ (Some l) a b (λ g. refl) (record {
   code = λ w in_loop g scope targets typed leads knows all.
       let found = leads typed in
       let same : l ≡ found.0 = some_is l found.0 found.2 in
-      subst (λ z. StmtAt w.functions w.f (tree.Break place) z scope (point_of a) scope (point_of b)) (sym found.3) (
+      subst (λ z. StmtAt w.functions w.f (tree.Break place) z scope (builder_point a) scope (builder_point b)) (sym found.3) (
         op_moved w.f (length a.lines) (length a.lines) _ _ place (o.instr w all) refl
             (ap (λ (z : Loop). Jump (w.leads z.break_to)) same),
         refl,
@@ -268,7 +268,7 @@ continue_emitted place l a b o = plain _ (Some l) a b (λ g. refl) (record {
   code = λ w in_loop g scope targets typed leads knows all.
       let found = leads typed in
       let same : l ≡ found.0 = some_is l found.0 found.2 in
-      subst (λ z. StmtAt w.functions w.f (tree.Continue place) z scope (point_of a) scope (point_of b)) (sym found.3) (
+      subst (λ z. StmtAt w.functions w.f (tree.Continue place) z scope (builder_point a) scope (builder_point b)) (sym found.3) (
         op_moved w.f (length a.lines) (length a.lines) _ _ place (o.instr w all) refl
             (ap (λ (z : Loop). Jump (w.leads z.continue_to)) same),
         refl,
@@ -297,7 +297,7 @@ return_emitted value place d innermost a b c h o = plain _ innermost a c (λ g. 
   slots = o.slots ∙ h.slots;
   code = λ w in_loop g scope targets typed leads knows all. (
     d,
-    point_of b,
+    builder_point b,
     typed.0,
     h.code w g typed.0 scope typed.2 knows (earlier w b c o.grown all),
     o.instr w all,
@@ -312,13 +312,13 @@ return_emitted value place d innermost a b c h o = plain _ innermost a c (λ g. 
 -- a local variable comes into scope as the variable x
 pub record Declared (n x : ℕ) (a b : BuilderParts) : Type 0 where
   pub grown : Grown a b
-  pub size : count b ≡ count a
+  pub size : builder_size b ≡ builder_size a
   pub locals : length b.slots ≡ length a.slots
-  pub point : point_of b ≡ point_of a
-  pub here : slot b n ≡ x
-  pub others : (m : ℕ) → m ≢ n → slot b m ≡ slot a m
+  pub point : builder_point b ≡ builder_point a
+  pub here : slot_of_local b n ≡ x
+  pub others : (m : ℕ) → m ≢ n → slot_of_local b m ≡ slot_of_local a m
 
-declared_here : (n x : ℕ) (a : BuilderParts) → n < length a.slots → Declared n x a (with_slot a n x)
+declared_here : (n x : ℕ) (a : BuilderParts) → n < length a.slots → Declared n x a (with_local_slot a n x)
 declared_here n x a lt = record {
   grown = record {
     lines = kept_all a.lines;
@@ -334,7 +334,7 @@ declared_here n x a lt = record {
   others = λ m other. get_or-set_other a.slots n m x 0 other;
 }
 
-pub declared : (n x : ℕ) (a b : BuilderParts) → n < length a.slots → b ≡ with_slot a n x → Declared n x a b
+pub declared : (n x : ℕ) (a b : BuilderParts) → n < length a.slots → b ≡ with_local_slot a n x → Declared n x a b
 declared n x a b lt is = subst (λ z. Declared n x a z) (sym is) (declared_here n x a lt)
 
 -- a variable in scope is none that is not
@@ -346,7 +346,7 @@ pub declare_emitted : (n : ℕ) (ty : «Type») (value : Term) (place d x : ℕ)
     → StmtIsEmitted (tree.Declare n ty value place) innermost a e
 declare_emitted n ty value place d x innermost a b c e h v s =
     let slots : c.slots ≡ a.slots = v.slots ∙ h.slots in
-    let same : (m : ℕ) → slot c m ≡ slot a m = λ m. ap (λ z. get_or z m 0) slots in
+    let same : (m : ℕ) → slot_of_local c m ≡ slot_of_local a m = λ m. ap (λ z. get_or z m 0) slots in
     record {
       grown = grown_trans a c e (grown_trans a b c h.grown v.grown) s.grown;
       size = omega (arith, h.size, v.size, s.size);
@@ -357,7 +357,7 @@ declare_emitted n ty value place d x innermost a b c e h v s =
             (n, length b.variables) ∷ scope,
             (
               d,
-              point_of b,
+              builder_point b,
               h.code w g ty scope typed.1 knows (earlier w b c v.grown at_c),
               action_at b c Copy (d ∷ []) ty place x w v at_c,
               knows.outside n typed.0.0,
@@ -373,7 +373,7 @@ pub zero_emitted : (n : ℕ) (ty : «Type») (place x : ℕ) (innermost : Option
     → ValueIsAdded a (acts (zero_action ty) []) ty place x b → Declared n x b c
     → StmtIsEmitted (tree.Zero n ty place) innermost a c
 zero_emitted n ty place x innermost a b c v s =
-    let same : (m : ℕ) → slot b m ≡ slot a m = λ m. ap (λ z. get_or z m 0) v.slots in
+    let same : (m : ℕ) → slot_of_local b m ≡ slot_of_local a m = λ m. ap (λ z. get_or z m 0) v.slots in
     record {
       grown = grown_trans a b c v.grown s.grown;
       size = omega (arith, v.size, s.size);

@@ -13,8 +13,8 @@ use Rattle.rgo_typed.specs.Views.{term_of}
 use Rattle.rgo_wellformed.specs.TypeRules.{Signature}
 use Rattle.rgo_wellformed.specs.WellFormed.{signature_of}
 use Rattle.rgo_tac.specs.Code.{Do, TacFn}
-use Rattle.rgo_lower.specs.Lowered.{Point, next_point, after_value, OpAt, ActionAt, bool_type, pointer_type, logic_branch, function_result_type, StoresAt, TermAt}
-use Rattle.rgo_lower.specs.Emitted.{BuilderParts, point_of, slot, Grown, Whole, Completes, OpIsAdded, ValueIsAdded, always, acts, calls, decides}
+use Rattle.rgo_lower.specs.Lowered.{LoweringPoint, next_point, after_value, OpAt, ActionAt, bool_type, pointer_type, logic_branch, function_result_type, StoresAt, TermAt}
+use Rattle.rgo_lower.specs.Emitted.{BuilderParts, builder_point, slot_of_local, Grown, Whole, Completes, OpIsAdded, ValueIsAdded, always, acts, calls, decides}
 use Rattle.rgo_lower.specs.Emitted.{ScopeHasSlots, TermIsEmitted, TermsAreEmitted, FieldsAreStored}
 use Rattle.rgo_lower.specs.Shapes.{term_fits, terms_fit}
 use Rattle.rgo_lower.specs.Sizes.{term_size, terms_size}
@@ -42,7 +42,7 @@ more_emitted t ts a b c d ds h hs = record {
   code = λ w g types scope typed knows all. (
     d,
     ds,
-    point_of b,
+    builder_point b,
     h.code w g typed.0 scope typed.3 knows (earlier w b c hs.grown all),
     hs.code w g typed.1 scope typed.4 (subst (λ z. ScopeHasSlots z g scope) (sym h.slots) knows) all,
     refl,
@@ -51,7 +51,7 @@ more_emitted t ts a b c d ds h hs = record {
 
 -- ---- terms
 
-pub local_emitted : (a : BuilderParts) (n d : ℕ) → d ≡ slot a n → TermIsEmitted (tree.Local n) a d a
+pub local_emitted : (a : BuilderParts) (n d : ℕ) → d ≡ slot_of_local a n → TermIsEmitted (tree.Local n) a d a
 local_emitted a n d is = record {
   grown = grown_same a;
   size = omega arith;
@@ -62,7 +62,7 @@ local_emitted a n d is = record {
 -- the instruction and the variable of an action
 pub action_at : (a b : BuilderParts) (action : Action) (from : List ℕ) (ty : «Type») (place d : ℕ) (w : Whole)
     → ValueIsAdded a (acts action from) ty place d b → Completes w b
-    → ActionAt w.f (point_of a) action from ty place
+    → ActionAt w.f (builder_point a) action from ty place
 action_at a b action from ty place d w h c = record { instr = h.instr w c; variable = h.kind w c }
 
 pub apply_emitted : (action : Action) (parts : Terms) (ty : «Type») (place d : ℕ) (from : List ℕ) (a b c : BuilderParts)
@@ -74,7 +74,7 @@ apply_emitted action parts ty place d from a b c h v = record {
   slots = v.slots ∙ h.slots;
   code = λ w g t scope typed knows all. (
     from,
-    point_of b,
+    builder_point b,
     h.code w g typed.2 scope typed.3 knows (earlier w b c v.grown all),
     action_at b c action from ty place d w v all,
     v.variable,
@@ -112,7 +112,7 @@ call_emitted n arguments ty place d from a b c h v = record {
   slots = v.slots ∙ h.slots;
   code = λ w g t scope typed knows all. (
     from,
-    point_of b,
+    builder_point b,
     h.code w g typed.1.params scope typed.3 knows (earlier w b c v.grown all),
     v.instr w all,
     v.kind w all,
@@ -136,7 +136,7 @@ more_stored object k d place fields ds a b c h hs = record {
   slots = hs.slots ∙ h.slots;
   code = λ w all. (
     h.instr w (earlier w b c hs.grown all),
-    subst (λ z. StoresAt w.functions w.f object fields ds place z (point_of c)) h.point (hs.code w all),
+    subst (λ z. StoresAt w.functions w.f object fields ds place z (builder_point c)) h.point (hs.code w all),
   );
 }
 
@@ -150,11 +150,11 @@ build_emitted n parts fields place d from a b c e h v s = record {
   code = λ w g t scope typed knows all.
       let before = earlier w c e s.grown all in (
         from,
-        point_of b,
+        builder_point b,
         h.code w g typed.3 scope typed.4 knows (earlier w b c v.grown before),
         action_at b c (New n) [] (pointer_type n) place d w v before,
-        subst (λ z. StoresAt w.functions w.f z fields from place (after_value (point_of b)) (point_of e)) v.variable
-            (subst (λ z. StoresAt w.functions w.f d fields from place z (point_of e)) v.point (s.code w all)),
+        subst (λ z. StoresAt w.functions w.f z fields from place (after_value (builder_point b)) (builder_point e)) v.variable
+            (subst (λ z. StoresAt w.functions w.f d fields from place z (builder_point e)) v.point (s.code w all)),
         v.variable,
       );
 }
@@ -179,14 +179,14 @@ module _ (logic : Logical) (left right : Term) (place l d r end : ℕ) (a b c e 
   e_to_h : Grown e h
   e_to_h = grown_trans e g h (grown_trans e f g branch.grown second.grown) store.grown
 
-  point_f : point_of f ≡ next_point (after_value (point_of b))
+  point_f : builder_point f ≡ next_point (after_value (builder_point b))
   point_f = branch.point ∙ ap next_point (label.point ∙ copy.point)
 
   line_e : length e.lines ≡ length b.lines + 1
-  line_e = ap (λ (z : Point). z.instr) (label.point ∙ copy.point)
+  line_e = ap (λ (z : LoweringPoint). z.instr) (label.point ∙ copy.point)
 
   line_h : length h.lines ≡ length g.lines + 1
-  line_h = ap (λ (z : Point). z.instr) store.point
+  line_h = ap (λ (z : LoweringPoint). z.instr) store.point
 
   slots_e : e.slots ≡ a.slots
   slots_e = label.slots ∙ copy.slots ∙ first.slots
@@ -214,13 +214,13 @@ module _ (logic : Logical) (left right : Term) (place l d r end : ℕ) (a b c e 
         let at_f = earlier w f g second.grown at_g in
         let at_c = earlier w c e label.grown (earlier w e f branch.grown at_f) in (
           l,
-          point_of b,
+          builder_point b,
           first.code w s bool_type scope typed.1 knows (earlier w b c copy.grown at_c),
           action_at b c Copy (l ∷ []) bool_type place d w copy at_c,
           r,
-          point_of g,
+          builder_point g,
           branch_at w at_f (ends.leads w all),
-          subst (λ z. TermAt w.functions w.f scope right z r (point_of g)) point_f
+          subst (λ z. TermAt w.functions w.f scope right z r (builder_point g)) point_f
               (second.code w s bool_type scope typed.2 (subst (λ z. ScopeHasSlots z s scope) (sym slots_f) knows) at_g),
           op_moved w.f (length g.lines) (length g.lines) _ _ place (store.instr w at_h) refl
               (ap (λ z. Do (Some z) Copy (r ∷ [])) copy.variable),

@@ -13,7 +13,7 @@ use Rattle.rgo_tac.specs.declared.code.Instr.{Instr}
 use Rattle.rgo_tac.specs.declared.code.Instr.TheVariants as code
 use Rattle.rgo_tac.specs.Code.{Op, Do, Call, Jump, Branch, TacFn}
 use Rattle.rgo_tac.specs.Views.{op_of, body_of}
-use Rattle.rgo_lower.specs.Lowered.{Point, next_point, after_value, OpAt, LoweringScope, variable_of_local, Target}
+use Rattle.rgo_lower.specs.Lowered.{LoweringPoint, next_point, after_value, OpAt, LoweringScope, variable_of_local, Target}
 use Rattle.rgo_lower.specs.Lowered.{bool_type, logic_branch, StoresAt, TestAt, ConditionAt, TermAt, TermsAt, StmtAt, StmtsAt, IsLoweredFn}
 use Rattle.rgo_lower.specs.Shapes.{how_many}
 use Rattle.rgo_lower.specs.Sizes.{term_size, terms_size, value_size, stmt_size, stmts_size}
@@ -45,17 +45,17 @@ made_of b = record {
 }
 
 -- where the builder is
-abbrev pub point_of : BuilderParts → Point
-point_of b = record { instr = length b.lines; variable = length b.variables }
+abbrev pub builder_point : BuilderParts → LoweringPoint
+builder_point b = record { instr = length b.lines; variable = length b.variables }
 
-abbrev pub slot : BuilderParts → ℕ → ℕ
-slot b n = get_or b.slots n 0
+abbrev pub slot_of_local : BuilderParts → ℕ → ℕ
+slot_of_local b n = get_or b.slots n 0
 
-abbrev pub with_line : BuilderParts → Instr → (place : ℕ) → BuilderParts
-with_line b i place = record b { lines = b.lines ++ record { instr = i; place = place } ∷ [] }
+abbrev pub with_emitted_line : BuilderParts → Instr → (place : ℕ) → BuilderParts
+with_emitted_line b i place = record b { lines = b.lines ++ record { instr = i; place = place } ∷ [] }
 
-abbrev pub with_variable : BuilderParts → «Type» → BuilderParts
-with_variable b ty = record b { variables = b.variables ++ ty ∷ [] }
+abbrev pub with_emitted_variable : BuilderParts → «Type» → BuilderParts
+with_emitted_variable b ty = record b { variables = b.variables ++ ty ∷ [] }
 
 abbrev pub with_list : BuilderParts → List ℕ → BuilderParts
 with_list b l = record b { lists = b.lists ++ l ∷ [] }
@@ -71,63 +71,63 @@ with_label b = record b { labels = b.labels ++ None ∷ [] }
 abbrev pub with_placed : BuilderParts → ℕ → BuilderParts
 with_placed b k = record b { labels = slice_set b.labels k (Some (length b.lines)) }
 
-abbrev pub with_slot : BuilderParts → ℕ → ℕ → BuilderParts
-with_slot b n d = record b { slots = slice_set b.slots n d }
+abbrev pub with_local_slot : BuilderParts → ℕ → ℕ → BuilderParts
+with_local_slot b n d = record b { slots = slice_set b.slots n d }
 
 -- how many instructions, variables, lists, texts and labels it has, all together
-abbrev pub count : BuilderParts → ℕ
-count b = length b.lines + length b.variables + length b.lists + length b.pieces + length b.labels
+abbrev pub builder_size : BuilderParts → ℕ
+builder_size b = length b.lines + length b.variables + length b.lists + length b.pieces + length b.labels
 
 -- ---- instructions
 
 -- the instruction whose labels are replaced by the instructions to which they lead
-abbrev pub resolved : (ℕ → ℕ) → Instr → Instr
-resolved leads (code.Jump t) = code.Jump (leads t)
-resolved leads (code.Branch a t e) = code.Branch a (leads t) (leads e)
-resolved leads (code.Int d k) = code.Int d k
-resolved leads (code.Bool d b) = code.Bool d b
-resolved leads (code.Nil d) = code.Nil d
-resolved leads (code.Copy d a) = code.Copy d a
-resolved leads (code.CopyInt d a) = code.CopyInt d a
-resolved leads (code.CopyBool d a) = code.CopyBool d a
-resolved leads (code.Add d a b) = code.Add d a b
-resolved leads (code.Sub d a b) = code.Sub d a b
-resolved leads (code.Mul d a b) = code.Mul d a b
-resolved leads (code.Div d a b) = code.Div d a b
-resolved leads (code.Rem d a b) = code.Rem d a b
-resolved leads (code.Eq d a b) = code.Eq d a b
-resolved leads (code.Ne d a b) = code.Ne d a b
-resolved leads (code.Lt d a b) = code.Lt d a b
-resolved leads (code.Le d a b) = code.Le d a b
-resolved leads (code.Gt d a b) = code.Gt d a b
-resolved leads (code.Ge d a b) = code.Ge d a b
-resolved leads (code.Neg d a) = code.Neg d a
-resolved leads (code.Not d a) = code.Not d a
-resolved leads (code.IsNil d a) = code.IsNil d a
-resolved leads (code.Len d a) = code.Len d a
-resolved leads (code.Load d a k) = code.Load d a k
-resolved leads (code.Store a k b) = code.Store a k b
-resolved leads (code.At d a i) = code.At d a i
-resolved leads (code.Put a i b) = code.Put a i b
-resolved leads (code.New d s) = code.New d s
-resolved leads (code.Slice d n) = code.Slice d n
-resolved leads (code.Chan d n) = code.Chan d n
-resolved leads (code.Recv d c) = code.Recv d c
-resolved leads (code.Send c a) = code.Send c a
-resolved leads (code.Close c) = code.Close c
-resolved leads (code.Get d g) = code.Get d g
-resolved leads (code.Set g a) = code.Set g a
-resolved leads (code.Call d f n) = code.Call d f n
-resolved leads (code.Invoke f n) = code.Invoke f n
-resolved leads (code.Go f n) = code.Go f n
-resolved leads (code.Print p n) = code.Print p n
-resolved leads (code.Return a) = code.Return a
-resolved leads code.Leave = code.Leave
+abbrev pub resolved_instr : (ℕ → ℕ) → Instr → Instr
+resolved_instr leads (code.Jump t) = code.Jump (leads t)
+resolved_instr leads (code.Branch a t e) = code.Branch a (leads t) (leads e)
+resolved_instr leads (code.Int d k) = code.Int d k
+resolved_instr leads (code.Bool d b) = code.Bool d b
+resolved_instr leads (code.Nil d) = code.Nil d
+resolved_instr leads (code.Copy d a) = code.Copy d a
+resolved_instr leads (code.CopyInt d a) = code.CopyInt d a
+resolved_instr leads (code.CopyBool d a) = code.CopyBool d a
+resolved_instr leads (code.Add d a b) = code.Add d a b
+resolved_instr leads (code.Sub d a b) = code.Sub d a b
+resolved_instr leads (code.Mul d a b) = code.Mul d a b
+resolved_instr leads (code.Div d a b) = code.Div d a b
+resolved_instr leads (code.Rem d a b) = code.Rem d a b
+resolved_instr leads (code.Eq d a b) = code.Eq d a b
+resolved_instr leads (code.Ne d a b) = code.Ne d a b
+resolved_instr leads (code.Lt d a b) = code.Lt d a b
+resolved_instr leads (code.Le d a b) = code.Le d a b
+resolved_instr leads (code.Gt d a b) = code.Gt d a b
+resolved_instr leads (code.Ge d a b) = code.Ge d a b
+resolved_instr leads (code.Neg d a) = code.Neg d a
+resolved_instr leads (code.Not d a) = code.Not d a
+resolved_instr leads (code.IsNil d a) = code.IsNil d a
+resolved_instr leads (code.Len d a) = code.Len d a
+resolved_instr leads (code.Load d a k) = code.Load d a k
+resolved_instr leads (code.Store a k b) = code.Store a k b
+resolved_instr leads (code.At d a i) = code.At d a i
+resolved_instr leads (code.Put a i b) = code.Put a i b
+resolved_instr leads (code.New d s) = code.New d s
+resolved_instr leads (code.Slice d n) = code.Slice d n
+resolved_instr leads (code.Chan d n) = code.Chan d n
+resolved_instr leads (code.Recv d c) = code.Recv d c
+resolved_instr leads (code.Send c a) = code.Send c a
+resolved_instr leads (code.Close c) = code.Close c
+resolved_instr leads (code.Get d g) = code.Get d g
+resolved_instr leads (code.Set g a) = code.Set g a
+resolved_instr leads (code.Call d f n) = code.Call d f n
+resolved_instr leads (code.Invoke f n) = code.Invoke f n
+resolved_instr leads (code.Go f n) = code.Go f n
+resolved_instr leads (code.Print p n) = code.Print p n
+resolved_instr leads (code.Return a) = code.Return a
+resolved_instr leads code.Leave = code.Leave
 
 -- whatever the function's labels, lists and pieces are
 abbrev pub InstrEncodes : Instr → Op → Type 0
 InstrEncodes i op = (leads : ℕ → ℕ) (lists : List (List ℕ)) (pieces : List (List Piece)) → op_of lists pieces
-    (resolved leads i) ≡ op
+    (resolved_instr leads i) ≡ op
 
 -- ---- growth
 
@@ -159,7 +159,7 @@ pub record Whole : Type 0 where
 pub record Completes (w : Whole) (b : BuilderParts) : Type 0 where
   pub lines :
       (i : ℕ) (l : Line) → slice_get b.lines i ≡ Some l
-      → OpAt w.f i (op_of w.lists w.pieces (resolved w.leads l.instr)) l.place
+      → OpAt w.f i (op_of w.lists w.pieces (resolved_instr w.leads l.instr)) l.place
   pub variables : Kept b.variables w.f.variables
   pub lists : Kept b.lists w.lists
   pub pieces : Kept b.pieces w.pieces
@@ -170,9 +170,9 @@ pub record Completes (w : Whole) (b : BuilderParts) : Type 0 where
 -- an instruction was added; what it does may depend on where labels lead
 pub record OpIsAdded (old : BuilderParts) (op : Whole → Op) (place : ℕ) (new : BuilderParts) : Type 0 where
   pub grown : Grown old new
-  pub size : count new ≤ count old + 3
+  pub size : builder_size new ≤ builder_size old + 3
   pub slots : new.slots ≡ old.slots
-  pub point : point_of new ≡ next_point (point_of old)
+  pub point : builder_point new ≡ next_point (builder_point old)
   pub instr : (w : Whole) → Completes w new → OpAt w.f (length old.lines) (op w) place
 
 -- the same operation wherever labels lead
@@ -192,10 +192,10 @@ decides logic test next other w = logic_branch logic test next (w.leads other)
 -- an instruction was added whose value goes to a new variable of this type
 pub record ValueIsAdded (old : BuilderParts) (op : ℕ → Op) (ty : «Type») (place d : ℕ) (new : BuilderParts) : Type 0 where
   pub grown : Grown old new
-  pub size : count new ≤ count old + 3
+  pub size : builder_size new ≤ builder_size old + 3
   pub slots : new.slots ≡ old.slots
   pub variable : d ≡ length old.variables
-  pub point : point_of new ≡ after_value (point_of old)
+  pub point : builder_point new ≡ after_value (builder_point old)
   pub instr : (w : Whole) → Completes w new → OpAt w.f (length old.lines) (op (length old.variables)) place
   pub kind : (w : Whole) → Completes w new → slice_get w.f.variables (length old.variables) ≡ Some ty
 
@@ -217,31 +217,31 @@ pub record ScopeHasSlots (slots : List ℕ) (g : InScope) (scope : LoweringScope
 -- the code of a well-formed term was added
 pub record TermIsEmitted (t : Term) (old : BuilderParts) (d : ℕ) (new : BuilderParts) : Type 0 where
   pub grown : Grown old new
-  pub size : count new ≤ count old + term_size t
+  pub size : builder_size new ≤ builder_size old + term_size t
   pub slots : new.slots ≡ old.slots
   pub code :
       (w : Whole) (g : InScope) (ty : «Type») (scope : LoweringScope) → HasType w.declared w.locals g t ty
       → ScopeHasSlots old.slots g scope → Completes w new
-      → TermAt w.functions w.f scope t (point_of old) d (point_of new)
+      → TermAt w.functions w.f scope t (builder_point old) d (builder_point new)
 
 pub record TermsAreEmitted (ts : Terms) (old : BuilderParts) (ds : List ℕ) (new : BuilderParts) : Type 0 where
   pub grown : Grown old new
-  pub size : count new ≤ count old + terms_size ts
+  pub size : builder_size new ≤ builder_size old + terms_size ts
   pub values : length ds ≡ how_many ts
   pub slots : new.slots ≡ old.slots
   pub code :
       (w : Whole) (g : InScope) (types : List «Type») (scope : LoweringScope) → HaveTypes w.declared w.locals g ts types
       → ScopeHasSlots old.slots g scope → Completes w new
-      → TermsAt w.functions w.f scope ts (point_of old) ds (point_of new)
+      → TermsAt w.functions w.f scope ts (builder_point old) ds (builder_point new)
 
 -- the values were stored, one in each field of an object
 pub record FieldsAreStored (object : ℕ) (fields ds : List ℕ) (place : ℕ) (old new : BuilderParts) : Type 0 where
   pub grown : Grown old new
-  pub size : count new ≤ count old + length fields * 3
+  pub size : builder_size new ≤ builder_size old + length fields * 3
   pub slots : new.slots ≡ old.slots
   pub code :
       (w : Whole) → Completes w new
-      → StoresAt w.functions w.f object fields ds place (point_of old) (point_of new)
+      → StoresAt w.functions w.f object fields ds place (builder_point old) (builder_point new)
 
 -- ---- statements
 
@@ -252,56 +252,56 @@ AreLoopTargets w in_loop innermost targets =
     → (l : Loop) × (outer : List Target) × (innermost ≡ Some l)
     × (targets ≡ record { break_to = w.leads l.break_to; continue_to = w.leads l.continue_to } ∷ outer)
 
-abbrev pub environment_of : Whole → (in_loop : Bool) → Environment
-environment_of w in_loop =
+abbrev pub typing_environment : Whole → (in_loop : Bool) → Environment
+typing_environment w in_loop =
     record { declared = w.declared; locals = w.locals; result_type = w.f.result_type; in_loop = in_loop }
 
 -- the code of a well-formed statement was added; variables in scope keep their slots
 pub record StmtIsEmitted (s : Stmt) (innermost : Option Loop) (old new : BuilderParts) : Type 0 where
   pub grown : Grown old new
-  pub size : count new ≤ count old + stmt_size s
+  pub size : builder_size new ≤ builder_size old + stmt_size s
   pub locals : length new.slots ≡ length old.slots
   pub kept :
       (e : Environment) (g : InScope) → IsStmt e g s → (n : ℕ) → is_in_scope g n ≡ true
-      → slot new n ≡ slot old n
+      → slot_of_local new n ≡ slot_of_local old n
   pub code :
       (w : Whole) (in_loop : Bool) (g : InScope) (scope : LoweringScope) (targets : List Target)
-      → IsStmt (environment_of w in_loop) g s → AreLoopTargets w in_loop innermost targets → ScopeHasSlots old.slots g scope
+      → IsStmt (typing_environment w in_loop) g s → AreLoopTargets w in_loop innermost targets → ScopeHasSlots old.slots g scope
       → Completes w new
-      → (scope2 : LoweringScope) × StmtAt w.functions w.f s targets scope (point_of old) scope2 (point_of new)
+      → (scope2 : LoweringScope) × StmtAt w.functions w.f s targets scope (builder_point old) scope2 (builder_point new)
       × ScopeHasSlots new.slots (scope_after g s) scope2
 
 pub record StmtsAreEmitted (all : Stmts) (innermost : Option Loop) (old new : BuilderParts) : Type 0 where
   pub grown : Grown old new
-  pub size : count new ≤ count old + stmts_size all
+  pub size : builder_size new ≤ builder_size old + stmts_size all
   pub locals : length new.slots ≡ length old.slots
   pub kept :
       (e : Environment) (g : InScope) → AreStmts e g all → (n : ℕ) → is_in_scope g n ≡ true
-      → slot new n ≡ slot old n
+      → slot_of_local new n ≡ slot_of_local old n
   pub code :
       (w : Whole) (in_loop : Bool) (g : InScope) (scope : LoweringScope) (targets : List Target)
-      → AreStmts (environment_of w in_loop) g all → AreLoopTargets w in_loop innermost targets → ScopeHasSlots old.slots g scope
+      → AreStmts (typing_environment w in_loop) g all → AreLoopTargets w in_loop innermost targets → ScopeHasSlots old.slots g scope
       → Completes w new
-      → (scope2 : LoweringScope) × StmtsAt w.functions w.f all targets scope (point_of old) scope2 (point_of new)
+      → (scope2 : LoweringScope) × StmtsAt w.functions w.f all targets scope (builder_point old) scope2 (builder_point new)
 
 -- a condition, and the branch to a label where it is false
 pub record TestIsEmitted (t : Term) (other place : ℕ) (old new : BuilderParts) : Type 0 where
   pub grown : Grown old new
-  pub size : count new ≤ count old + term_size t + 3
+  pub size : builder_size new ≤ builder_size old + term_size t + 3
   pub slots : new.slots ≡ old.slots
   pub code :
       (w : Whole) (g : InScope) (scope : LoweringScope) → HasType w.declared w.locals g t bool_type → ScopeHasSlots old.slots g scope
-      → Completes w new → TestAt w.functions w.f scope t (w.leads other) place (point_of old) (point_of new)
+      → Completes w new → TestAt w.functions w.f scope t (w.leads other) place (builder_point old) (builder_point new)
 
 -- the same of a loop's condition, if there is one
 pub record ConditionIsEmitted (t : Option Term) (other place : ℕ) (old new : BuilderParts) : Type 0 where
   pub grown : Grown old new
-  pub size : count new ≤ count old + value_size t + 3
+  pub size : builder_size new ≤ builder_size old + value_size t + 3
   pub slots : new.slots ≡ old.slots
   pub code :
-      (w : Whole) (in_loop : Bool) (g : InScope) (scope : LoweringScope) → IsCondition (environment_of w in_loop) g t
+      (w : Whole) (in_loop : Bool) (g : InScope) (scope : LoweringScope) → IsCondition (typing_environment w in_loop) g t
       → ScopeHasSlots old.slots g scope → Completes w new
-      → ConditionAt w.functions w.f scope t (w.leads other) place (point_of old) (point_of new)
+      → ConditionAt w.functions w.f scope t (w.leads other) place (builder_point old) (builder_point new)
 
 -- the code of a statement was added that has nothing to do with loops around it
 abbrev pub IsEmitted : Stmt → BuilderParts → BuilderParts → Type 0
@@ -310,30 +310,30 @@ IsEmitted s old new = (innermost : Option Loop) → StmtIsEmitted s innermost ol
 -- ---- functions
 
 -- a label that was never placed leads to 0
-abbrev pub number_of : Option (Option ℕ) → ℕ
-number_of (Some (Some n)) = n
-number_of _ = 0
+abbrev pub label_target : Option (Option ℕ) → ℕ
+label_target (Some (Some n)) = n
+label_target _ = 0
 
 -- where these labels lead
 abbrev pub leads_by : List (Option ℕ) → ℕ → ℕ
-leads_by labels k = number_of (slice_get labels k)
+leads_by labels k = label_target (slice_get labels k)
 
 -- the code of a function before its first instruction
 pub record FunctionCodeBegins (params : ℕ) (locals : List «Type») (b : BuilderParts) : Type 0 where
   pub lines : b.lines ≡ []
   pub variables : b.variables ≡ take params locals
-  pub size : count b ≤ params
+  pub size : builder_size b ≤ params
   pub slot_count : length b.slots ≡ length locals
-  pub slots : (n : ℕ) → n < length locals → slot b n ≡ n
+  pub slots : (n : ℕ) → n < length locals → slot_of_local b n ≡ n
 
 -- the finished function
-abbrev pub finished : Function → BuilderParts → TacFn
-finished source b = record {
+abbrev pub finished_function : Function → BuilderParts → TacFn
+finished_function source b = record {
   name = source.name;
   params = source.params;
   result_type = source.result_type;
   variables = b.variables;
-  body = body_of b.lists b.pieces (map (λ l. resolved (leads_by b.labels) l.instr) b.lines) (map
+  body = body_of b.lists b.pieces (map (λ l. resolved_instr (leads_by b.labels) l.instr) b.lines) (map
       (λ l. l.place) b.lines);
 }
 

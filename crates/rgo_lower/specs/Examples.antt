@@ -5,23 +5,23 @@ use Rattle.rgo_typed.specs.declared.actions.Action.TheVariants as action
 use Rattle.rgo_typed.specs.Tree.{terms_of, stmts_of}
 use Rattle.rgo_typed.specs.Tree as tree
 use Rattle.rgo_wellformed.specs.TypeRules.{int, bool}
-use Rattle.rgo_wellformed.specs.Examples.{number, truth, local, apply, add_to_field}
+use Rattle.rgo_wellformed.specs.Examples.{literal_seven, true_term, read_local, applied_term, add_to_field}
 use Rattle.rgo_lower.specs.Shapes.{stmt_fits}
 
 -- in a function with four local variables, outside of loops
 pub record ShapeExamples : Type 0 where
   -- x = x + 7; one operand less; `&&` as an operator
-  pub added : stmt_fits 4 false (tree.Assign 0 (apply (action.Binary Add) (local 0 ∷ number ∷ []) int) 0) ≡ true
-  pub one_operand : stmt_fits 4 false (tree.Assign 0 (apply (action.Binary Add) (local 0 ∷ []) int) 0) ≡ false
-  pub and_as_operator : stmt_fits 4 false (tree.Assign 1 (apply (action.Binary And) (truth ∷ truth ∷ []) bool) 0) ≡ false
+  pub added : stmt_fits 4 false (tree.Assign 0 (applied_term (action.Binary Add) (read_local 0 ∷ literal_seven ∷ []) int) 0) ≡ true
+  pub one_operand : stmt_fits 4 false (tree.Assign 0 (applied_term (action.Binary Add) (read_local 0 ∷ []) int) 0) ≡ false
+  pub and_as_operator : stmt_fits 4 false (tree.Assign 1 (applied_term (action.Binary And) (true_term ∷ true_term ∷ []) bool) 0) ≡ false
   -- p.next = p; its value, which it has not
-  pub stored : stmt_fits 4 false (tree.Perform (action.Store 1) (terms_of (local 3 ∷ local 3 ∷ [])) 0) ≡ true
-  pub value_of_store : stmt_fits 4 false (tree.Discard (apply (action.Store 1) (local 3 ∷ local 3 ∷ []) int)) ≡ false
+  pub stored : stmt_fits 4 false (tree.Perform (action.Store 1) (terms_of (read_local 3 ∷ read_local 3 ∷ [])) 0) ≡ true
+  pub value_of_store : stmt_fits 4 false (tree.Discard (applied_term (action.Store 1) (read_local 3 ∷ read_local 3 ∷ []) int)) ≡ false
   -- p.v += 7
-  pub updated : stmt_fits 4 false (add_to_field number) ≡ true
+  pub updated : stmt_fits 4 false (add_to_field literal_seven) ≡ true
   -- &S{next: p}; with two fields for one value
-  pub built : stmt_fits 4 false (tree.Discard (tree.Build 0 (terms_of (local 3 ∷ [])) (1 ∷ []) 0)) ≡ true
-  pub two_fields : stmt_fits 4 false (tree.Discard (tree.Build 0 (terms_of (local 3 ∷ [])) (0 ∷ 1 ∷ []) 0)) ≡ false
+  pub built : stmt_fits 4 false (tree.Discard (tree.Build 0 (terms_of (read_local 3 ∷ [])) (1 ∷ []) 0)) ≡ true
+  pub two_fields : stmt_fits 4 false (tree.Discard (tree.Build 0 (terms_of (read_local 3 ∷ [])) (0 ∷ 1 ∷ []) 0)) ≡ false
   -- the last local variable is declared; one more
   pub declared : stmt_fits 4 false (tree.Zero 3 int 0) ≡ true
   pub one_more : stmt_fits 4 false (tree.Zero 4 int 0) ≡ false

@@ -17,15 +17,15 @@ use Rattle.rgo_tac.specs.Code.{Op, Do, Call, Go, Print, Jump, Branch, Return, Ta
 -- ---- places
 
 -- the numbers of the next instruction and of the next variable
-pub record Point : Type 0 where
+pub record LoweringPoint : Type 0 where
   pub instr : ℕ
   pub variable : ℕ
 
 -- after an instruction whose value goes to the next variable, and after one without a value
-abbrev pub after_value : Point → Point
+abbrev pub after_value : LoweringPoint → LoweringPoint
 after_value p = record { instr = p.instr + 1; variable = p.variable + 1 }
 
-abbrev pub next_point : Point → Point
+abbrev pub next_point : LoweringPoint → LoweringPoint
 next_point p = record { instr = p.instr + 1; variable = p.variable }
 
 -- the instruction of this number
@@ -33,7 +33,7 @@ abbrev pub OpAt : TacFn → ℕ → Op → (place : ℕ) → Type 0
 OpAt f i op place = slice_get f.body i ≡ Some (record { op = op; place = place })
 
 -- an action on these variables, whose value goes to the next variable, of this type
-pub record ActionAt (f : TacFn) (p : Point) (action : Action) (from : List ℕ) (ty : «Type») (place : ℕ) : Type 0 where
+pub record ActionAt (f : TacFn) (p : LoweringPoint) (action : Action) (from : List ℕ) (ty : «Type») (place : ℕ) : Type 0 where
   pub instr : OpAt f p.instr (Do (Some p.variable) action from) place
   pub variable : slice_get f.variables p.variable ≡ Some ty
 
@@ -90,7 +90,7 @@ module _ (functions : List Function) (f : TacFn) where
   -- ---- terms
 
   -- one store for each element of an object, in order
-  abbrev pub StoresAt : (object : ℕ) → List ℕ → List ℕ → (place : ℕ) → Point → Point → Type 0
+  abbrev pub StoresAt : (object : ℕ) → List ℕ → List ℕ → (place : ℕ) → LoweringPoint → LoweringPoint → Type 0
   StoresAt object [] [] place p q = q ≡ p
   StoresAt object (k ∷ fields) (d ∷ ds) place p q =
       OpAt f p.instr (Do None (Store k) (object ∷ d ∷ [])) place × StoresAt object fields ds place (next_point p) q
@@ -98,92 +98,92 @@ module _ (functions : List Function) (f : TacFn) where
 
   abbrev mutual
     -- the code of the term is from p to q, and leaves its value in variable d
-    pub TermAt : LoweringScope → Term → Point → (d : ℕ) → Point → Type 0
+    pub TermAt : LoweringScope → Term → LoweringPoint → (d : ℕ) → LoweringPoint → Type 0
     TermAt scope (tree.Local n) p d q = (variable_of_local scope n ≡ Some d) × (q ≡ p)
     TermAt scope (tree.Apply action parts ty place) p d q =
-        (ds : List ℕ) × (mid : Point) × TermsAt scope parts p ds mid × ActionAt f mid action ds ty place
+        (ds : List ℕ) × (mid : LoweringPoint) × TermsAt scope parts p ds mid × ActionAt f mid action ds ty place
         × (d ≡ mid.variable) × (q ≡ after_value mid)
     TermAt scope (tree.Logic logic left right place) p d q =
-        (l : ℕ) × (mid : Point) × TermAt scope left p l mid × ActionAt f mid Copy (l ∷ []) bool_type place
-        × (r : ℕ) × (last : Point)
+        (l : ℕ) × (mid : LoweringPoint) × TermAt scope left p l mid × ActionAt f mid Copy (l ∷ []) bool_type place
+        × (r : ℕ) × (last : LoweringPoint)
         × OpAt f (mid.instr + 1) (logic_branch logic mid.variable (mid.instr + 2) (last.instr + 1)) place
         × TermAt scope right (next_point (after_value mid)) r last
         × OpAt f last.instr (Do (Some mid.variable) Copy (r ∷ [])) place
         × (d ≡ mid.variable) × (q ≡ next_point last)
     TermAt scope (tree.Build n parts fields place) p d q =
-        (ds : List ℕ) × (mid : Point) × TermsAt scope parts p ds mid × ActionAt f mid (New n) [] (pointer_type n) place
+        (ds : List ℕ) × (mid : LoweringPoint) × TermsAt scope parts p ds mid × ActionAt f mid (New n) [] (pointer_type n) place
         × StoresAt mid.variable fields ds place (after_value mid) q × (d ≡ mid.variable)
     TermAt scope (tree.Call n arguments ty place) p d q =
-        (ds : List ℕ) × (mid : Point) × TermsAt scope arguments p ds mid
+        (ds : List ℕ) × (mid : LoweringPoint) × TermsAt scope arguments p ds mid
         × OpAt f mid.instr (Call (Some mid.variable) n ds) place × (slice_get f.variables mid.variable ≡ Some ty)
         × (function_result_type n ≡ Some (Some ty)) × (d ≡ mid.variable) × (q ≡ after_value mid)
 
     -- several terms, one after the other
-    pub TermsAt : LoweringScope → Terms → Point → (ds : List ℕ) → Point → Type 0
+    pub TermsAt : LoweringScope → Terms → LoweringPoint → (ds : List ℕ) → LoweringPoint → Type 0
     TermsAt scope tree.no_terms p ds q = (ds ≡ []) × (q ≡ p)
     TermsAt scope (tree.a_term t ts) p ds q =
-        (d : ℕ) × (others : List ℕ) × (mid : Point) × TermAt scope t p d mid × TermsAt scope ts mid others q
+        (d : ℕ) × (others : List ℕ) × (mid : LoweringPoint) × TermAt scope t p d mid × TermsAt scope ts mid others q
         × (ds ≡ d ∷ others)
 
   -- ---- statements
 
   -- a condition, and the branch to what follows it or to another instruction
-  abbrev pub TestAt : LoweringScope → Term → (otherwise place : ℕ) → Point → Point → Type 0
+  abbrev pub TestAt : LoweringScope → Term → (otherwise place : ℕ) → LoweringPoint → LoweringPoint → Type 0
   TestAt scope t otherwise place p q =
-      (d : ℕ) × (mid : Point) × TermAt scope t p d mid × OpAt f mid.instr (Branch d (mid.instr + 1) otherwise) place
+      (d : ℕ) × (mid : LoweringPoint) × TermAt scope t p d mid × OpAt f mid.instr (Branch d (mid.instr + 1) otherwise) place
       × (q ≡ next_point mid)
 
   -- the condition of a loop, if there is one
-  abbrev pub ConditionAt : LoweringScope → Option Term → (otherwise place : ℕ) → Point → Point → Type 0
+  abbrev pub ConditionAt : LoweringScope → Option Term → (otherwise place : ℕ) → LoweringPoint → LoweringPoint → Type 0
   ConditionAt scope None otherwise place p q = q ≡ p
   ConditionAt scope (Some t) otherwise place p q = TestAt scope t otherwise place p q
 
   -- the operands, the read, the value, the operation, the write
-  abbrev pub UpdateAt : LoweringScope → Change → Point → Point → Type 0
+  abbrev pub UpdateAt : LoweringScope → Change → LoweringPoint → LoweringPoint → Type 0
   UpdateAt scope c p q =
-      (ds : List ℕ) × (before : Point) × TermsAt scope c.operands p ds before × ActionAt f before c.read ds c.ty c.read_at
-      × (d : ℕ) × (mid : Point) × TermAt scope c.value (after_value before) d mid
+      (ds : List ℕ) × (before : LoweringPoint) × TermsAt scope c.operands p ds before × ActionAt f before c.read ds c.ty c.read_at
+      × (d : ℕ) × (mid : LoweringPoint) × TermAt scope c.value (after_value before) d mid
       × ActionAt f mid (Binary c.op) (before.variable ∷ d ∷ []) c.ty c.at
       × OpAt f (mid.instr + 1) (Do None c.write (ds ++ mid.variable ∷ [])) c.at × (q ≡ next_point (after_value mid))
 
   abbrev mutual
     -- The code of the statement is from p to q. `targets` are those of the loops around it, the innermost first; the
     -- scope is the one before it, `scope2` the one after it.
-    pub StmtAt : Stmt → List Target → LoweringScope → Point → (scope2 : LoweringScope) → Point → Type 0
+    pub StmtAt : Stmt → List Target → LoweringScope → LoweringPoint → (scope2 : LoweringScope) → LoweringPoint → Type 0
     StmtAt (tree.Block all) targets scope p scope2 q =
         (inner : LoweringScope) × StmtsAt all targets scope p inner q × (scope2 ≡ scope)
     StmtAt (tree.Declare n ty value place) targets scope p scope2 q =
-        (d : ℕ) × (mid : Point) × TermAt scope value p d mid × ActionAt f mid Copy (d ∷ []) ty place
+        (d : ℕ) × (mid : LoweringPoint) × TermAt scope value p d mid × ActionAt f mid Copy (d ∷ []) ty place
         × (variable_of_local scope n ≡ None) × (scope2 ≡ (n, mid.variable) ∷ scope) × (q ≡ after_value mid)
     StmtAt (tree.Zero n ty place) targets scope p scope2 q =
         ActionAt f p (zero_action ty) [] ty place
         × (variable_of_local scope n ≡ None) × (scope2 ≡ (n, p.variable) ∷ scope) × (q ≡ after_value p)
     StmtAt (tree.Assign n value place) targets scope p scope2 q =
-        (d : ℕ) × (mid : Point) × (x : ℕ) × TermAt scope value p d mid × (variable_of_local scope n ≡ Some x)
+        (d : ℕ) × (mid : LoweringPoint) × (x : ℕ) × TermAt scope value p d mid × (variable_of_local scope n ≡ Some x)
         × OpAt f mid.instr (Do (Some x) Copy (d ∷ [])) place × (scope2 ≡ scope) × (q ≡ next_point mid)
     StmtAt (tree.Perform action operands place) targets scope p scope2 q =
-        (ds : List ℕ) × (mid : Point) × TermsAt scope operands p ds mid × OpAt f mid.instr (Do None action ds) place
+        (ds : List ℕ) × (mid : LoweringPoint) × TermsAt scope operands p ds mid × OpAt f mid.instr (Do None action ds) place
         × (scope2 ≡ scope) × (q ≡ next_point mid)
     StmtAt (tree.Update change) targets scope p scope2 q = UpdateAt scope change p q × (scope2 ≡ scope)
     StmtAt (tree.Discard value) targets scope p scope2 q = (d : ℕ) × TermAt scope value p d q × (scope2 ≡ scope)
     StmtAt (tree.Invoke n arguments place) targets scope p scope2 q =
-        (ds : List ℕ) × (mid : Point) × TermsAt scope arguments p ds mid × OpAt f mid.instr (Call None n ds) place
+        (ds : List ℕ) × (mid : LoweringPoint) × TermsAt scope arguments p ds mid × OpAt f mid.instr (Call None n ds) place
         × (function_result_type n ≡ Some None) × (scope2 ≡ scope) × (q ≡ next_point mid)
     StmtAt (tree.Go n arguments place) targets scope p scope2 q =
-        (ds : List ℕ) × (mid : Point) × TermsAt scope arguments p ds mid × OpAt f mid.instr (Go n ds) place
+        (ds : List ℕ) × (mid : LoweringPoint) × TermsAt scope arguments p ds mid × OpAt f mid.instr (Go n ds) place
         × (function_result_type n ≡ Some None) × (scope2 ≡ scope) × (q ≡ next_point mid)
     StmtAt (tree.Print pieces values place) targets scope p scope2 q =
-        (ds : List ℕ) × (mid : Point) × TermsAt scope values p ds mid × OpAt f mid.instr (Print pieces ds) place
+        (ds : List ℕ) × (mid : LoweringPoint) × TermsAt scope values p ds mid × OpAt f mid.instr (Print pieces ds) place
         × (scope2 ≡ scope) × (q ≡ next_point mid)
     StmtAt (tree.If test body place) targets scope p scope2 q =
-        (mid : Point) × (inner : LoweringScope) × TestAt scope test q.instr place p mid
+        (mid : LoweringPoint) × (inner : LoweringScope) × TestAt scope test q.instr place p mid
         × StmtsAt body targets scope mid inner q × (scope2 ≡ scope)
     StmtAt (tree.IfElse test body other place) targets scope p scope2 q =
-        (mid last : Point) × (inner outer : LoweringScope) × TestAt scope test (last.instr + 1) place p mid
+        (mid last : LoweringPoint) × (inner outer : LoweringScope) × TestAt scope test (last.instr + 1) place p mid
         × StmtsAt body targets scope mid inner last × OpAt f last.instr (Jump q.instr) place
         × StmtsAt other targets scope (next_point last) outer q × (scope2 ≡ scope)
     StmtAt (tree.Loop test body post place) targets scope p scope2 q =
-        (mid next last : Point) × (inner outer : LoweringScope) × ConditionAt scope test q.instr place p mid
+        (mid next last : LoweringPoint) × (inner outer : LoweringScope) × ConditionAt scope test q.instr place p mid
         × StmtsAt body (record { break_to = q.instr; continue_to = next.instr } ∷ targets) scope mid inner next
         × StmtsAt post targets scope next outer last × OpAt f last.instr (Jump p.instr) place
         × (scope2 ≡ scope) × (q ≡ next_point last)
@@ -196,14 +196,14 @@ module _ (functions : List Function) (f : TacFn) where
     StmtAt (tree.Return None place) targets scope p scope2 q =
         OpAt f p.instr (Return None) place × (f.result_type ≡ None) × (scope2 ≡ scope) × (q ≡ next_point p)
     StmtAt (tree.Return (Some value) place) targets scope p scope2 q =
-        (d : ℕ) × (mid : Point) × (ty : «Type») × TermAt scope value p d mid × OpAt f mid.instr (Return (Some d)) place
+        (d : ℕ) × (mid : LoweringPoint) × (ty : «Type») × TermAt scope value p d mid × OpAt f mid.instr (Return (Some d)) place
         × (f.result_type ≡ Some ty) × (scope2 ≡ scope) × (q ≡ next_point mid)
 
     -- several statements, each in the scope that those before it leave
-    pub StmtsAt : Stmts → List Target → LoweringScope → Point → (scope2 : LoweringScope) → Point → Type 0
+    pub StmtsAt : Stmts → List Target → LoweringScope → LoweringPoint → (scope2 : LoweringScope) → LoweringPoint → Type 0
     StmtsAt tree.no_stmts targets scope p scope2 q = (scope2 ≡ scope) × (q ≡ p)
     StmtsAt (tree.a_stmt s all) targets scope p scope2 q =
-        (between : LoweringScope) × (mid : Point) × StmtAt s targets scope p between mid × StmtsAt all targets between mid scope2 q
+        (between : LoweringScope) × (mid : LoweringPoint) × StmtAt s targets scope p between mid × StmtsAt all targets between mid scope2 q
 
 -- ---- programs
 
@@ -219,7 +219,7 @@ pub record IsLoweredFn (functions : List Function) (source : Function) (f : TacF
   pub result_type : f.result_type ≡ source.result_type
   pub param_types : take source.params f.variables ≡ take source.params source.locals
   pub scope : LoweringScope
-  pub last : Point
+  pub last : LoweringPoint
   pub body :
       StmtsAt functions f (stmts_of source.body) [] (parameters source.params)
       (record { instr = 0; variable = source.params }) scope last

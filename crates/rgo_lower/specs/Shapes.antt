@@ -47,28 +47,28 @@ returns_value action.Close n = false
 returns_value (action.Set k) n = false
 
 -- the action takes this many operands and returns none
-abbrev pub has_effect : Action → (operands : ℕ) → Bool
-has_effect (action.Store k) n = nat_eq n 2 && is_narrow k
-has_effect action.Put n = nat_eq n 3
-has_effect action.Send n = nat_eq n 2
-has_effect action.Close n = nat_eq n 1
-has_effect (action.Set k) n = nat_eq n 1 && is_narrow k
-has_effect (action.Int k) n = false
-has_effect (action.Bool b) n = false
-has_effect action.Nil n = false
-has_effect action.Copy n = false
-has_effect (action.Binary op) n = false
-has_effect action.Neg n = false
-has_effect action.Not n = false
-has_effect action.IsNil n = false
-has_effect action.Len n = false
-has_effect (action.Load k) n = false
-has_effect action.At n = false
-has_effect (action.New k) n = false
-has_effect action.Slice n = false
-has_effect action.Chan n = false
-has_effect action.Recv n = false
-has_effect (action.Get k) n = false
+abbrev pub returns_nothing : Action → (operands : ℕ) → Bool
+returns_nothing (action.Store k) n = nat_eq n 2 && is_narrow k
+returns_nothing action.Put n = nat_eq n 3
+returns_nothing action.Send n = nat_eq n 2
+returns_nothing action.Close n = nat_eq n 1
+returns_nothing (action.Set k) n = nat_eq n 1 && is_narrow k
+returns_nothing (action.Int k) n = false
+returns_nothing (action.Bool b) n = false
+returns_nothing action.Nil n = false
+returns_nothing action.Copy n = false
+returns_nothing (action.Binary op) n = false
+returns_nothing action.Neg n = false
+returns_nothing action.Not n = false
+returns_nothing action.IsNil n = false
+returns_nothing action.Len n = false
+returns_nothing (action.Load k) n = false
+returns_nothing action.At n = false
+returns_nothing (action.New k) n = false
+returns_nothing action.Slice n = false
+returns_nothing action.Chan n = false
+returns_nothing action.Recv n = false
+returns_nothing (action.Get k) n = false
 
 -- ---- terms
 
@@ -100,7 +100,7 @@ value_fits (Some t) = term_fits t
 abbrev pub change_fits : Change → Bool
 change_fits c =
     terms_fit c.operands && (returns_value c.read (how_many c.operands)
-    && (term_fits c.value && (is_strict c.op && has_effect c.write (how_many c.operands + 1))))
+    && (term_fits c.value && (is_strict c.op && returns_nothing c.write (how_many c.operands + 1))))
 
 abbrev mutual
   -- in a function with this many local variables, in a loop or not
@@ -110,7 +110,7 @@ abbrev mutual
   stmt_fits locals in_loop (tree.Zero n ty place) = nat_lt n locals
   stmt_fits locals in_loop (tree.Assign n value place) = term_fits value
   stmt_fits locals in_loop (tree.Perform action operands place) =
-      terms_fit operands && has_effect action (how_many operands)
+      terms_fit operands && returns_nothing action (how_many operands)
   stmt_fits locals in_loop (tree.Update change) = change_fits change
   stmt_fits locals in_loop (tree.Discard value) = term_fits value
   stmt_fits locals in_loop (tree.Invoke n arguments place) = terms_fit arguments && is_narrow n

@@ -59,16 +59,16 @@ abbrev pub largest_of : List Function → ℕ
 largest_of [] = 0
 largest_of (f ∷ functions) = max (function_size f) (largest_of functions)
 
-abbrev pub most_fields : List Struct → ℕ
-most_fields [] = 0
-most_fields (s ∷ structs) = max (length s.fields) (most_fields structs)
+abbrev pub most_struct_fields : List Struct → ℕ
+most_struct_fields [] = 0
+most_struct_fields (s ∷ structs) = max (length s.fields) (most_struct_fields structs)
 
 -- the largest of the counts: of structs, of the fields of one, of package variables, of functions, and of a function's code
 abbrev pub program_size : Typed → ℕ
 program_size p =
-    max (max (length p.structs) (most_fields p.structs))
+    max (max (length p.structs) (most_struct_fields p.structs))
     (max (length p.variables) (max (length p.functions) (largest_of p.functions)))
 
 -- a count is too large for numbers of 32 bits, the two largest of which are not used as numbers of variables
-abbrev pub IsTooLarge : Typed → Type 0
-IsTooLarge p = 2 ^ 32 ≤ program_size p + 2
+abbrev pub IsTooLargeToLower : Typed → Type 0
+IsTooLargeToLower p = 2 ^ 32 ≤ program_size p + 2

@@ -6,7 +6,7 @@ ghost use Rattle.rgo_typed.specs.Tree as tree;
 ghost use Rattle.rgo_typed.specs.Tree.{stmts_of};
 ghost use Rattle.rgo_typed.specs.Views.{term_of, boxed_term_of, stmt_of};
 ghost use Rattle.rgo_lower.specs.Sizes.{stmt_size, stmts_size};
-ghost use Rattle.rgo_lower.specs.Emitted.{count, made_of, StmtIsEmitted, StmtsAreEmitted};
+ghost use Rattle.rgo_lower.specs.Emitted.{builder_size, made_of, StmtIsEmitted, StmtsAreEmitted};
 ghost use Rattle.rgo_lower.specs.Shapes.{stmt_fits, stmts_fit};
 
 use crate::builder::{Builder, Loop};
@@ -22,7 +22,7 @@ use std::alloc::AllocError;
 #[cycle(statements)]
 #[tactic(auto, using(rgo_typed::proofs::Rows::rows))]
 pub fn lower_stmt(b: &mut Builder, innermost: Option<Loop>, stmt: &Stmt) -> Result<(), AllocError>
-    requires room { count (made_of b.now) + stmt_size (stmt_of stmt.now) < 2 ^ 32 }
+    requires room { builder_size (made_of b.now) + stmt_size (stmt_of stmt.now) < 2 ^ 32 }
     requires shape { stmt_fits (length b.now.slots.items) (is_some innermost) (stmt_of stmt.now) ≡ true }
     ensures { IfOk result (λ done. StmtIsEmitted (stmt_of stmt.now) innermost (made_of b.old) (made_of b.new)) }
 {
@@ -81,7 +81,7 @@ pub fn lower_stmts(
     innermost: Option<Loop>,
     stmts: &Vec<Stmt>,
 ) -> Result<(), AllocError>
-    requires room { count (made_of b.now) + stmts_size (stmts_of (map stmt_of stmts.now.items)) < 2 ^ 32 }
+    requires room { builder_size (made_of b.now) + stmts_size (stmts_of (map stmt_of stmts.now.items)) < 2 ^ 32 }
     requires shape { stmts_fit (length b.now.slots.items) (is_some innermost) (stmts_of (map stmt_of stmts.now.items)) ≡ true }
     ensures { IfOk result (λ done. StmtsAreEmitted (stmts_of (map stmt_of stmts.now.items)) innermost
         (made_of b.old)
@@ -102,7 +102,7 @@ fn lower_if(
     body: &Vec<Stmt>,
     place: Place,
 ) -> Result<(), AllocError>
-    requires room { count (made_of b.now) + stmt_size (tree.If (term_of test.now) (stmts_of (map stmt_of body.now.items)) place) < 2 ^ 32 }
+    requires room { builder_size (made_of b.now) + stmt_size (tree.If (term_of test.now) (stmts_of (map stmt_of body.now.items)) place) < 2 ^ 32 }
     requires shape { stmt_fits (length b.now.slots.items) (is_some innermost) (tree.If (term_of test.now) (stmts_of (map stmt_of body.now.items)) place) ≡ true }
     ensures { IfOk result (λ done. StmtIsEmitted
         (tree.If (term_of test.now) (stmts_of (map stmt_of body.now.items)) place) innermost (made_of b.old)
@@ -124,7 +124,7 @@ fn lower_if_else(
     other: &Vec<Stmt>,
     place: Place,
 ) -> Result<(), AllocError>
-    requires room { count (made_of b.now) + stmt_size (tree.IfElse (term_of test.now) (stmts_of (map stmt_of body.now.items)) (stmts_of (map stmt_of other.now.items)) place) < 2 ^ 32 }
+    requires room { builder_size (made_of b.now) + stmt_size (tree.IfElse (term_of test.now) (stmts_of (map stmt_of body.now.items)) (stmts_of (map stmt_of other.now.items)) place) < 2 ^ 32 }
     requires shape { stmt_fits (length b.now.slots.items) (is_some innermost) (tree.IfElse (term_of test.now) (stmts_of (map stmt_of body.now.items))
         (stmts_of (map stmt_of other.now.items)) place) ≡ true }
     ensures { IfOk result (λ done. StmtIsEmitted (tree.IfElse (term_of test.now)
@@ -152,7 +152,7 @@ fn lower_loop(
     post: &Vec<Stmt>,
     place: Place,
 ) -> Result<(), AllocError>
-    requires room { count (made_of b.now) + stmt_size (tree.Loop (boxed_term_of test.now) (stmts_of (map stmt_of body.now.items)) (stmts_of (map stmt_of post.now.items)) place) < 2 ^ 32 }
+    requires room { builder_size (made_of b.now) + stmt_size (tree.Loop (boxed_term_of test.now) (stmts_of (map stmt_of body.now.items)) (stmts_of (map stmt_of post.now.items)) place) < 2 ^ 32 }
     requires shape { stmt_fits (length b.now.slots.items) (is_some innermost) (tree.Loop (boxed_term_of test.now) (stmts_of (map stmt_of body.now.items))
         (stmts_of (map stmt_of post.now.items)) place) ≡ true }
     ensures { IfOk result (λ done. StmtIsEmitted (tree.Loop (boxed_term_of test.now)

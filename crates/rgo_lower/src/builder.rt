@@ -4,16 +4,16 @@
 ghost use Rattle.std.specs.Prelude.{◌≡◌, ◌<◌, ◌^◌, [], ◌∷◌, IfOk, length, get_or};
 ghost use Rattle.rgo_typed.specs.declared.actions.Action.TheVariants as action;
 ghost use Rattle.rgo_lower.specs.Emitted.{
-  count,
+  builder_size,
   made_of,
-  slot,
-  with_line,
-  with_variable,
+  slot_of_local,
+  with_emitted_line,
+  with_emitted_variable,
   with_list,
   with_pieces,
   with_label,
   with_placed,
-  with_slot,
+  with_local_slot,
 };
 
 use rgo_ast::Place;
@@ -52,7 +52,7 @@ pub struct Builder {
 impl Builder {
     /// Adds an instruction.
     pub fn line(&mut self, instr: Instr, place: Place) -> Result<(), AllocError>
-        ensures { IfOk result (λ done. made_of self.new ≡ with_line (made_of self.old) instr place) }
+        ensures { IfOk result (λ done. made_of self.new ≡ with_emitted_line (made_of self.old) instr place) }
     {
         self.lines.push(Line { instr, place })?;
         Ok(())
@@ -60,9 +60,9 @@ impl Builder {
 
     /// Adds a variable of this type.
     pub fn variable(&mut self, ty: &Type) -> Result<u32, AllocError>
-        requires { count (made_of self.now) < 2 ^ 32 }
+        requires { builder_size (made_of self.now) < 2 ^ 32 }
         ensures { IfOk result (λ d. (d ≡ length self.old.variables.items)
-            × (made_of self.new ≡ with_variable (made_of self.old) ty.now)) }
+            × (made_of self.new ≡ with_emitted_variable (made_of self.old) ty.now)) }
     {
         let number = self.variables.len() as u32;
         self.variables.push(copy_type(self.alloc, ty)?)?;
@@ -71,7 +71,7 @@ impl Builder {
 
     /// Adds a list of variables.
     pub fn list(&mut self, from: Vec<u32>) -> Result<u32, AllocError>
-        requires { count (made_of self.now) < 2 ^ 32 }
+        requires { builder_size (made_of self.now) < 2 ^ 32 }
         ensures { IfOk result (λ n. (n ≡ length self.old.lists.items)
             × (made_of self.new ≡ with_list (made_of self.old) from.items)) }
     {
@@ -82,7 +82,7 @@ impl Builder {
 
     /// Adds the pieces of a print.
     pub fn text(&mut self, pieces: &[Piece]) -> Result<u32, AllocError>
-        requires { count (made_of self.now) < 2 ^ 32 }
+        requires { builder_size (made_of self.now) < 2 ^ 32 }
         ensures { IfOk result (λ n. (n ≡ length self.old.pieces.items)
             × (made_of self.new ≡ with_pieces (made_of self.old) pieces.now)) }
     {
@@ -93,7 +93,7 @@ impl Builder {
 
     /// Makes a label, which is to be placed later.
     pub fn label(&mut self) -> Result<u32, AllocError>
-        requires { count (made_of self.now) < 2 ^ 32 }
+        requires { builder_size (made_of self.now) < 2 ^ 32 }
         ensures { IfOk result (λ n. (n ≡ length self.old.labels.items)
             × (made_of self.new ≡ with_label (made_of self.old))) }
     {
@@ -105,7 +105,7 @@ impl Builder {
     /// Places a label at the next instruction. Callers place labels that they have made here; any other number would
     /// change nothing.
     pub fn place(&mut self, label: u32) -> Result<(), AllocError>
-        requires { count (made_of self.now) < 2 ^ 32 }
+        requires { builder_size (made_of self.now) < 2 ^ 32 }
         ensures { IfOk result (λ done. made_of self.new ≡ with_placed (made_of self.old) label) }
     {
         let next = self.lines.len() as u32;
@@ -118,7 +118,7 @@ impl Builder {
     /// The variable of a local variable; 0 for a number that no local variable has, which no tree contains that is
     /// lowered.
     pub fn variable_of(&self, n: usize) -> u32
-        ensures { result ≡ slot (made_of self.now) n }
+        ensures { result ≡ slot_of_local (made_of self.now) n }
     {
         match self.slots.get(n) {
             Some(variable) => *variable,
@@ -129,7 +129,7 @@ impl Builder {
     /// Brings a local variable into scope, as this variable.
     pub fn declare(&mut self, n: usize, variable: u32)
         requires { n < length self.now.slots.items }
-        ensures { made_of self.new ≡ with_slot (made_of self.old) n variable }
+        ensures { made_of self.new ≡ with_local_slot (made_of self.old) n variable }
     {
         self.slots[n] = variable;
     }

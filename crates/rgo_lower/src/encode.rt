@@ -6,7 +6,7 @@ ghost use Rattle.rgo_tac.specs.Views.{computing};
 ghost use Rattle.rgo_typed.specs.declared.actions.Action.TheVariants.{Copy};
 ghost use Rattle.rgo_lower.specs.Emitted.{InstrEncodes, acts};
 ghost use Rattle.rgo_lower.specs.Lowered as spec;
-ghost use Rattle.rgo_lower.specs.Shapes.{is_strict, returns_value, has_effect};
+ghost use Rattle.rgo_lower.specs.Shapes.{is_strict, returns_value, returns_nothing};
 
 use rgo_ast::BinaryOp;
 use rgo_tac::Instr;
@@ -107,9 +107,9 @@ pub fn value_instr(to: u32, action: Action, from: &[u32], ty: &Type) -> Instr
 }
 
 /// The instruction of an action that returns no value. The others cannot occur: a tree that is lowered has them in terms
-/// only (`has_effect`).
+/// only (`returns_nothing`).
 pub fn effect_instr(action: Action, from: &[u32]) -> Instr
-    requires { has_effect action (length from.now) ≡ true }
+    requires { returns_nothing action (length from.now) ≡ true }
     ensures { InstrEncodes result (Do None action from.now) }
 {
     match action {

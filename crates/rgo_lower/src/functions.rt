@@ -2,12 +2,12 @@
 
 ghost use Rattle.std.specs.Prelude.{◌≡◌, ◌+◌, ◌<◌, ◌≤◌, ◌^◌, ℕ, IfOk, length, get_or, true, false};
 ghost use Rattle.rgo_typed.specs.Tree.{stmts_of};
-ghost use Rattle.rgo_typed.specs.Views.{function_of};
+ghost use Rattle.rgo_typed.specs.Views.{typed_function_of};
 ghost use Rattle.rgo_tac.specs.Views.{body_of};
 ghost use Rattle.rgo_lower.specs.Lowered.{closing_op};
 ghost use Rattle.rgo_lower.specs.Shapes.{stmts_fit};
 ghost use Rattle.rgo_lower.specs.Sizes.{function_size};
-ghost use Rattle.rgo_lower.specs.Emitted.{count, made_of, always, OpIsAdded, FunctionCodeBegins, finished, FunctionIsLowered};
+ghost use Rattle.rgo_lower.specs.Emitted.{builder_size, made_of, always, OpIsAdded, FunctionCodeBegins, finished_function, FunctionIsLowered};
 
 use crate::blocks::lower_stmts;
 use crate::builder::Builder;
@@ -51,7 +51,7 @@ fn begin(alloc: Global, locals: &[Type], params: usize) -> Result<Builder, Alloc
 /// Adds the end of a function: a return, or, where it has a result, a jump to itself, which is never reached. Why:
 /// docs/DECISIONS.md, "Three-address code".
 fn close(b: &mut Builder, result_type: &Option<Type>, end: Place) -> Result<(), AllocError>
-    requires { count (made_of b.now) + 4 < 2 ^ 32 }
+    requires { builder_size (made_of b.now) + 4 < 2 ^ 32 }
     ensures { IfOk result (λ done. OpIsAdded (made_of b.old)
         (always (closing_op result_type.now (length b.old.lines.items))) end (made_of b.new)) }
 {
@@ -93,8 +93,8 @@ fn made(
 
 /// The function with this code.
 fn finish(b: Builder, function: &Function) -> Result<TacFn, AllocError>
-    requires { count (made_of b) + 2 < 2 ^ 32 }
-    ensures { IfOk result (λ f. f ≡ finished (function_of function.now) (made_of b)) }
+    requires { builder_size (made_of b) + 2 < 2 ^ 32 }
+    ensures { IfOk result (λ f. f ≡ finished_function (typed_function_of function.now) (made_of b)) }
 {
     let instrs = instrs_of(b.alloc, &b.lines, &b.labels)?;
     let places = places_of(b.alloc, &b.lines)?;
@@ -119,9 +119,9 @@ fn finish(b: Builder, function: &Function) -> Result<TacFn, AllocError>
 /// The code of a function.
 pub fn lower_function(alloc: Global, function: &Function) -> Result<TacFn, AllocError>
     requires params { function.now.params ≤ length function.now.locals }
-    requires size { function_size (function_of function.now) + 2 < 2 ^ 32 }
-    requires shape { stmts_fit (length function.now.locals) false (stmts_of (function_of function.now).body) ≡ true }
-    ensures { IfOk result (λ f. FunctionIsLowered (function_of function.now) f) }
+    requires size { function_size (typed_function_of function.now) + 2 < 2 ^ 32 }
+    requires shape { stmts_fit (length function.now.locals) false (stmts_of (typed_function_of function.now).body) ≡ true }
+    ensures { IfOk result (λ f. FunctionIsLowered (typed_function_of function.now) f) }
 {
     let mut b = begin(alloc, function.locals.items(), function.params)?;
     lower_stmts(&mut b, None, &function.body)?;

@@ -4,7 +4,7 @@ ghost use Rattle.std.specs.Prelude.{◌≡◌, ◌+◌, ◌<◌, ◌^◌, [], �
 ghost use Rattle.rgo_typed.specs.declared.actions.Action.TheVariants as action;
 ghost use Rattle.rgo_tac.specs.Code as op;
 ghost use Rattle.rgo_lower.specs.Emitted.{
-  count,
+  builder_size,
   made_of,
   OpIsAdded,
   ValueIsAdded,
@@ -14,7 +14,7 @@ ghost use Rattle.rgo_lower.specs.Emitted.{
   jump_to,
   branch_to,
 };
-ghost use Rattle.rgo_lower.specs.Shapes.{returns_value, has_effect};
+ghost use Rattle.rgo_lower.specs.Shapes.{returns_value, returns_nothing};
 
 use crate::builder::Builder;
 use crate::encode::{copy_instr, effect_instr, value_instr};
@@ -32,7 +32,7 @@ impl Builder {
         ty: &Type,
         place: Place,
     ) -> Result<u32, AllocError>
-        requires room { count (made_of self.now) + 3 < 2 ^ 32 }
+        requires room { builder_size (made_of self.now) + 3 < 2 ^ 32 }
         requires operands { returns_value action (length from.now) ≡ true }
         ensures { IfOk result (λ d. ValueIsAdded (made_of self.old) (acts action from.now) ty.now place d
             (made_of self.new)) }
@@ -45,7 +45,7 @@ impl Builder {
 
     /// An action without a value.
     pub fn act(&mut self, action: Action, from: &[u32], place: Place) -> Result<(), AllocError>
-        requires { has_effect action (length from.now) ≡ true }
+        requires { returns_nothing action (length from.now) ≡ true }
         ensures { IfOk result (λ done. OpIsAdded (made_of self.old) (always (op.Do None action from.now)) place
             (made_of self.new)) }
     {
@@ -74,7 +74,7 @@ impl Builder {
         ty: &Type,
         place: Place,
     ) -> Result<u32, AllocError>
-        requires room { count (made_of self.now) + 3 < 2 ^ 32 }
+        requires room { builder_size (made_of self.now) + 3 < 2 ^ 32 }
         requires number { function < 2 ^ 32 }
         ensures { IfOk result (λ d. ValueIsAdded (made_of self.old) (calls function from.items) ty.now place d
             (made_of self.new)) }
@@ -92,7 +92,7 @@ impl Builder {
         from: Vec<u32>,
         place: Place,
     ) -> Result<(), AllocError>
-        requires room { count (made_of self.now) + 3 < 2 ^ 32 }
+        requires room { builder_size (made_of self.now) + 3 < 2 ^ 32 }
         requires number { function < 2 ^ 32 }
         ensures { IfOk result (λ done. OpIsAdded (made_of self.old) (always (op.Call None function from.items)) place
             (made_of self.new)) }
@@ -103,7 +103,7 @@ impl Builder {
 
     /// The start of a goroutine.
     pub fn start(&mut self, function: usize, from: Vec<u32>, place: Place) -> Result<(), AllocError>
-        requires room { count (made_of self.now) + 3 < 2 ^ 32 }
+        requires room { builder_size (made_of self.now) + 3 < 2 ^ 32 }
         requires number { function < 2 ^ 32 }
         ensures { IfOk result (λ done. OpIsAdded (made_of self.old) (always (op.Go function from.items)) place
             (made_of self.new)) }
@@ -119,7 +119,7 @@ impl Builder {
         from: Vec<u32>,
         place: Place,
     ) -> Result<(), AllocError>
-        requires { count (made_of self.now) + 3 < 2 ^ 32 }
+        requires { builder_size (made_of self.now) + 3 < 2 ^ 32 }
         ensures { IfOk result (λ done. OpIsAdded (made_of self.old) (always (op.Print pieces.now from.items)) place
             (made_of self.new)) }
     {
@@ -144,7 +144,7 @@ impl Builder {
         place: Place,
     ) -> Result<(), AllocError>
         ensures { IfOk result (λ done. OpIsAdded (made_of self.old) (branch_to test inside other) place
-            (made_of self.new) × (count (made_of self.new) ≡ count (made_of self.old) + 1)) }
+            (made_of self.new) × (builder_size (made_of self.new) ≡ builder_size (made_of self.old) + 1)) }
     {
         self.line(Instr::Branch(test, inside, other), place)
     }

@@ -5,7 +5,7 @@ ghost use Rattle.rgo_typed.specs.Views.{typed_of};
 ghost use Rattle.rgo_wellformed.specs.WellFormed.{IsWellFormed};
 ghost use Rattle.rgo_lower.specs.declared.errors.LowerError.TheVariants.{TooLarge};
 ghost use Rattle.rgo_lower.specs.Lowered.{IsLowered};
-ghost use Rattle.rgo_lower.specs.Sizes.{IsTooLarge, program_size};
+ghost use Rattle.rgo_lower.specs.Sizes.{IsTooLargeToLower, program_size};
 
 use crate::errors::LowerError;
 use crate::functions::lower_function;
@@ -39,7 +39,7 @@ fn emit(alloc: Global, program: &Typed) -> Result<Tac, AllocError>
 pub fn lower(alloc: Global, program: &Typed) -> Result<Tac, LowerError>
     requires { IsWellFormed (typed_of program.now) }
     ensures code { IfOk result (λ code. IsLowered (typed_of program.now) code) }
-    ensures large { (result ≡ Err TooLarge) ↔ IsTooLarge (typed_of program.now) }
+    ensures large { (result ≡ Err TooLarge) ↔ IsTooLargeToLower (typed_of program.now) }
 {
     if is_too_large(program) {
         return Err(LowerError::TooLarge);

@@ -3,9 +3,9 @@
 
 ghost use Rattle.std.specs.Prelude.{◌≡◌, ◌↔◌, ◌+◌, ◌<◌, false, ◌-◌, ◌^◌, true, map, max, min};
 ghost use Rattle.rgo_typed.specs.Tree.{terms_of, stmts_of};
-ghost use Rattle.rgo_typed.specs.Views.{term_of, boxed_term_of, stmt_of, function_of, typed_of};
+ghost use Rattle.rgo_typed.specs.Views.{term_of, boxed_term_of, stmt_of, typed_function_of, typed_of};
 ghost use Rattle.rgo_lower.specs.Sizes as spec;
-ghost use Rattle.rgo_lower.specs.Sizes.{IsTooLarge};
+ghost use Rattle.rgo_lower.specs.Sizes.{IsTooLargeToLower};
 
 use rgo_typed::{Function, Stmt, Struct, Term, Typed};
 
@@ -116,7 +116,7 @@ fn stmts_size(stmts: &Vec<Stmt>) -> usize
 
 /// What the code of a function counts.
 fn function_size(function: &Function) -> usize
-    ensures { result ≡ min (spec.function_size (function_of function.now)) (2 ^ 64 - 1) }
+    ensures { result ≡ min (spec.function_size (typed_function_of function.now)) (2 ^ 64 - 1) }
 {
     let body = stmts_size(&function.body);
     let with_locals = body.saturating_add(function.locals.items().len());
@@ -133,7 +133,7 @@ fn larger(a: usize, b: usize) -> usize
 
 /// The largest count of a function's code.
 fn largest_of(functions: &Vec<Function>) -> usize
-    ensures { result ≡ min (spec.largest_of (map function_of functions.now.items)) (2 ^ 64 - 1) }
+    ensures { result ≡ min (spec.largest_of (map typed_function_of functions.now.items)) (2 ^ 64 - 1) }
 {
     let mut largest: usize = 0;
     for function in functions {
@@ -144,7 +144,7 @@ fn largest_of(functions: &Vec<Function>) -> usize
 
 /// The largest number of fields of a struct.
 fn most_fields(structs: &[Struct]) -> usize
-    ensures { result ≡ min (spec.most_fields structs.now) (2 ^ 64 - 1) }
+    ensures { result ≡ min (spec.most_struct_fields structs.now) (2 ^ 64 - 1) }
 {
     let mut most: usize = 0;
     for item in structs {
@@ -166,7 +166,7 @@ fn program_size(program: &Typed) -> usize
 
 /// Whether a count of the program is too large for numbers of 32 bits.
 pub fn is_too_large(program: &Typed) -> bool
-    ensures large { (result ≡ true) ↔ IsTooLarge (typed_of program.now) }
+    ensures large { (result ≡ true) ↔ IsTooLargeToLower (typed_of program.now) }
     ensures small { result ≡ false → spec.program_size (typed_of program.now) + 2 < 2 ^ 32 }
 {
     program_size(program) > MOST

@@ -5,8 +5,8 @@ ghost use Rattle.rgo_typed.specs.Tree as tree;
 ghost use Rattle.rgo_typed.specs.Tree.{terms_of};
 ghost use Rattle.rgo_typed.specs.Views.{term_of, boxed_term_of};
 ghost use Rattle.rgo_lower.specs.Sizes.{term_size, value_size, stmt_size};
-ghost use Rattle.rgo_lower.specs.Emitted.{count, made_of, IsEmitted, StmtIsEmitted, TestIsEmitted, ConditionIsEmitted};
-ghost use Rattle.rgo_lower.specs.Shapes.{term_fits, terms_fit, value_fits, has_effect, how_many, change_fits};
+ghost use Rattle.rgo_lower.specs.Emitted.{builder_size, made_of, IsEmitted, StmtIsEmitted, TestIsEmitted, ConditionIsEmitted};
+ghost use Rattle.rgo_lower.specs.Shapes.{term_fits, terms_fit, value_fits, returns_nothing, how_many, change_fits};
 
 use crate::builder::{Builder, Loop};
 use crate::encode::zero_action;
@@ -36,7 +36,7 @@ pub fn declare(
     value: &Term,
     place: Place,
 ) -> Result<(), AllocError>
-    requires room { count (made_of b.now) + stmt_size (tree.Declare n ty.now (term_of value.now) place) < 2 ^ 32 }
+    requires room { builder_size (made_of b.now) + stmt_size (tree.Declare n ty.now (term_of value.now) place) < 2 ^ 32 }
     requires shape { term_fits (term_of value.now) ≡ true }
     requires number { n < length b.now.slots.items }
     ensures { IfOk result (λ done. IsEmitted (tree.Declare n ty.now (term_of value.now) place)
@@ -50,7 +50,7 @@ pub fn declare(
 
 /// A local variable begins with the zero of its type.
 pub fn declare_zero(b: &mut Builder, n: usize, ty: &Type, place: Place) -> Result<(), AllocError>
-    requires room { count (made_of b.now) + 3 < 2 ^ 32 }
+    requires room { builder_size (made_of b.now) + 3 < 2 ^ 32 }
     requires number { n < length b.now.slots.items }
     ensures { IfOk result (λ done. IsEmitted (tree.Zero n ty.now place) (made_of b.old) (made_of b.new)) }
 {
@@ -61,7 +61,7 @@ pub fn declare_zero(b: &mut Builder, n: usize, ty: &Type, place: Place) -> Resul
 
 /// An assignment to a local variable.
 pub fn assign(b: &mut Builder, n: usize, value: &Term, place: Place) -> Result<(), AllocError>
-    requires room { count (made_of b.now) + term_size (term_of value.now) + 3 < 2 ^ 32 }
+    requires room { builder_size (made_of b.now) + term_size (term_of value.now) + 3 < 2 ^ 32 }
     requires shape { term_fits (term_of value.now) ≡ true }
     ensures { IfOk result (λ done. IsEmitted (tree.Assign n (term_of value.now) place)
         (made_of b.old) (made_of b.new)) }
@@ -78,9 +78,9 @@ pub fn perform(
     operands: &Vec<Term>,
     place: Place,
 ) -> Result<(), AllocError>
-    requires room { count (made_of b.now) + stmt_size (tree.Perform action (terms_of (map term_of operands.now.items)) place) < 2 ^ 32 }
+    requires room { builder_size (made_of b.now) + stmt_size (tree.Perform action (terms_of (map term_of operands.now.items)) place) < 2 ^ 32 }
     requires shape { terms_fit (terms_of (map term_of operands.now.items)) ≡ true }
-    requires operands { has_effect action (how_many (terms_of (map term_of operands.now.items))) ≡ true }
+    requires operands { returns_nothing action (how_many (terms_of (map term_of operands.now.items))) ≡ true }
     ensures { IfOk result (λ done. IsEmitted (tree.Perform action (terms_of (map term_of operands.now.items)) place)
         (made_of b.old) (made_of b.new)) }
 {
@@ -91,7 +91,7 @@ pub fn perform(
 /// An assignment that reads its place before it writes it. In the order of the language: the operands of the place, which are
 /// evaluated once, the read, the value, the operation, the write.
 pub fn update(b: &mut Builder, change: &Change<'_>) -> Result<(), AllocError>
-    requires room { count (made_of b.now) + stmt_size (tree.Update (record {
+    requires room { builder_size (made_of b.now) + stmt_size (tree.Update (record {
       operands = terms_of (map term_of change.now.operands.now.items);
       read = change.now.read;
       ty = change.now.ty.now;
@@ -133,7 +133,7 @@ pub fn update(b: &mut Builder, change: &Change<'_>) -> Result<(), AllocError>
 
 /// A value that is not used.
 pub fn discard(b: &mut Builder, value: &Term) -> Result<(), AllocError>
-    requires room { count (made_of b.now) + term_size (term_of value.now) < 2 ^ 32 }
+    requires room { builder_size (made_of b.now) + term_size (term_of value.now) < 2 ^ 32 }
     requires shape { term_fits (term_of value.now) ≡ true }
     ensures { IfOk result (λ done. IsEmitted (tree.Discard (term_of value.now)) (made_of b.old) (made_of b.new)) }
 {
@@ -148,7 +148,7 @@ pub fn invoke(
     arguments: &Vec<Term>,
     place: Place,
 ) -> Result<(), AllocError>
-    requires room { count (made_of b.now) + stmt_size (tree.Invoke function (terms_of (map term_of arguments.now.items)) place) < 2 ^ 32 }
+    requires room { builder_size (made_of b.now) + stmt_size (tree.Invoke function (terms_of (map term_of arguments.now.items)) place) < 2 ^ 32 }
     requires shape { terms_fit (terms_of (map term_of arguments.now.items)) ≡ true }
     requires number { function < 2 ^ 32 }
     ensures { IfOk result (λ done. IsEmitted (tree.Invoke function (terms_of (map term_of arguments.now.items)) place)
@@ -165,7 +165,7 @@ pub fn start(
     arguments: &Vec<Term>,
     place: Place,
 ) -> Result<(), AllocError>
-    requires room { count (made_of b.now) + stmt_size (tree.Go function (terms_of (map term_of arguments.now.items)) place) < 2 ^ 32 }
+    requires room { builder_size (made_of b.now) + stmt_size (tree.Go function (terms_of (map term_of arguments.now.items)) place) < 2 ^ 32 }
     requires shape { terms_fit (terms_of (map term_of arguments.now.items)) ≡ true }
     requires number { function < 2 ^ 32 }
     ensures { IfOk result (λ done. IsEmitted (tree.Go function (terms_of (map term_of arguments.now.items)) place)
@@ -182,7 +182,7 @@ pub fn print(
     values: &Vec<Term>,
     place: Place,
 ) -> Result<(), AllocError>
-    requires room { count (made_of b.now) + stmt_size (tree.Print pieces.now (terms_of (map term_of values.now.items)) place) < 2 ^ 32 }
+    requires room { builder_size (made_of b.now) + stmt_size (tree.Print pieces.now (terms_of (map term_of values.now.items)) place) < 2 ^ 32 }
     requires shape { terms_fit (terms_of (map term_of values.now.items)) ≡ true }
     ensures { IfOk result (λ done. IsEmitted (tree.Print pieces.now (terms_of (map term_of values.now.items)) place)
         (made_of b.old) (made_of b.new)) }
@@ -219,7 +219,7 @@ pub fn return_with(
     value: &Option<Box<Term>>,
     place: Place,
 ) -> Result<(), AllocError>
-    requires room { count (made_of b.now) + value_size (boxed_term_of value.now) + 3 < 2 ^ 32 }
+    requires room { builder_size (made_of b.now) + value_size (boxed_term_of value.now) + 3 < 2 ^ 32 }
     requires shape { value_fits (boxed_term_of value.now) ≡ true }
     ensures { IfOk result (λ done. IsEmitted (tree.Return (boxed_term_of value.now) place)
         (made_of b.old) (made_of b.new)) }
@@ -235,7 +235,7 @@ pub fn return_with(
 
 /// A condition, and the branch to a label where it is false.
 pub fn lower_test(b: &mut Builder, test: &Term, other: u32, place: Place) -> Result<(), AllocError>
-    requires room { count (made_of b.now) + term_size (term_of test.now) + 3 < 2 ^ 32 }
+    requires room { builder_size (made_of b.now) + term_size (term_of test.now) + 3 < 2 ^ 32 }
     requires shape { term_fits (term_of test.now) ≡ true }
     ensures { IfOk result (λ done. TestIsEmitted (term_of test.now) other place (made_of b.old) (made_of b.new)) }
 {
@@ -250,7 +250,7 @@ pub fn lower_condition(
     other: u32,
     place: Place,
 ) -> Result<(), AllocError>
-    requires room { count (made_of b.now) + value_size (boxed_term_of test.now) + 3 < 2 ^ 32 }
+    requires room { builder_size (made_of b.now) + value_size (boxed_term_of test.now) + 3 < 2 ^ 32 }
     requires shape { value_fits (boxed_term_of test.now) ≡ true }
     ensures { IfOk result (λ done. ConditionIsEmitted (boxed_term_of test.now) other place (made_of b.old)
         (made_of b.new)) }

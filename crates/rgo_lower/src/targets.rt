@@ -1,7 +1,7 @@
 //! Labels are replaced by the instructions to which they lead.
 
 ghost use Rattle.std.specs.Prelude.{◌≡◌, IfOk, map};
-ghost use Rattle.rgo_lower.specs.Emitted.{leads_by, resolved};
+ghost use Rattle.rgo_lower.specs.Emitted.{leads_by, resolved_instr};
 
 use crate::builder::Line;
 use rgo_ast::Place;
@@ -21,7 +21,7 @@ fn target_at(labels: &[Option<u32>], label: u32) -> u32
 
 /// The instruction with its targets in place of its labels.
 fn resolve(labels: &[Option<u32>], instr: Instr) -> Instr
-    ensures { result ≡ resolved (leads_by labels.now) instr }
+    ensures { result ≡ resolved_instr (leads_by labels.now) instr }
 {
     match instr {
         Instr::Jump(target) => Instr::Jump(target_at(labels, target)),
@@ -76,7 +76,7 @@ pub fn instrs_of(
     lines: &[Line],
     labels: &[Option<u32>],
 ) -> Result<Row<Instr>, AllocError>
-    ensures { IfOk result (λ instrs. instrs ≡ map (λ l. resolved (leads_by labels.now) l.instr) lines.now) }
+    ensures { IfOk result (λ instrs. instrs ≡ map (λ l. resolved_instr (leads_by labels.now) l.instr) lines.now) }
 {
     let mut instrs = Vec::new(alloc);
     for line in lines {

@@ -7,7 +7,7 @@ ghost use Rattle.rgo_typed.specs.Views.{term_of};
 ghost use Rattle.rgo_lower.specs.Lowered as spec;
 ghost use Rattle.rgo_lower.specs.Sizes.{term_size, terms_size};
 ghost use Rattle.rgo_lower.specs.Emitted.{
-  count,
+  builder_size,
   made_of,
   decides,
   OpIsAdded,
@@ -52,7 +52,7 @@ impl Builder {
         other: u32,
         place: Place,
     ) -> Result<(), AllocError>
-        requires { count (made_of self.now) + 3 < 2 ^ 32 }
+        requires { builder_size (made_of self.now) + 3 < 2 ^ 32 }
         ensures { IfOk result (λ done. OpIsAdded (made_of self.old)
             (decides logic test (length self.old.lines.items + 1) other) place (made_of self.new)) }
     {
@@ -89,7 +89,7 @@ impl Builder {
 #[cycle(terms)]
 #[tactic(auto, using(rgo_typed::proofs::Rows::rows))]
 pub fn lower_term(b: &mut Builder, term: &Term) -> Result<u32, AllocError>
-    requires room { count (made_of b.now) + term_size (term_of term.now) < 2 ^ 32 }
+    requires room { builder_size (made_of b.now) + term_size (term_of term.now) < 2 ^ 32 }
     requires shape { term_fits (term_of term.now) ≡ true }
     ensures { IfOk result (λ d. TermIsEmitted (term_of term.now) (made_of b.old) d (made_of b.new)) }
 {
@@ -126,7 +126,7 @@ pub fn lower_term(b: &mut Builder, term: &Term) -> Result<u32, AllocError>
 /// The code of several terms, one after the other. The result is the variables with their values.
 #[cycle(terms)]
 pub fn lower_terms(b: &mut Builder, terms: &Vec<Term>) -> Result<Vec<u32>, AllocError>
-    requires room { count (made_of b.now) + terms_size (terms_of (map term_of terms.now.items)) < 2 ^ 32 }
+    requires room { builder_size (made_of b.now) + terms_size (terms_of (map term_of terms.now.items)) < 2 ^ 32 }
     requires shape { terms_fit (terms_of (map term_of terms.now.items)) ≡ true }
     ensures { IfOk result (λ ds. TermsAreEmitted (terms_of (map term_of terms.now.items)) (made_of b.old) ds.items
         (made_of b.new)) }

@@ -8,7 +8,7 @@ use Rattle.rgo_wellformed.specs.TypeRules.{int, bool}
 use Rattle.rgo_wellformed.proofs.ExampleProofs.{programs}
 use Rattle.rgo_tac.specs.Code.{TacFn}
 use Rattle.rgo_lower.specs.Lowered.{IsLowered}
-use Rattle.rgo_lowering_laws.specs.Examples.{prints, prints_code, TypedExamples}
+use Rattle.rgo_lowering_laws.specs.Examples.{prints_seven, prints_code, TypedExamples}
 use Rattle.rgo_lowering_laws.proofs.Lists.{some_is}
 use Rattle.rgo_lowering_laws.proofs.Programs.{lowered_is_typed}
 
@@ -23,7 +23,7 @@ alone : (f : TacFn) (n : ℕ) (main : TacFn) → slice_get (f ∷ []) n ≡ Some
 alone f zero main h = some_is f main h
 alone f (suc n) main h = absurd (true≢false (sym (ap is_some h)))
 
-is_lowered : IsLowered prints prints_code
+is_lowered : IsLowered prints_seven prints_code
 is_lowered = record {
   structs = refl;
   variables = refl;
@@ -79,7 +79,7 @@ is_lowered = record {
 pub typed_examples : TypedExamples
 typed_examples = record {
   is_lowered = is_lowered;
-  typed = lowered_is_typed prints prints_code programs.prints is_lowered;
+  typed = lowered_is_typed prints_seven prints_code programs.prints is_lowered;
   no_main =
       λ t. true≢false (sym (ap (λ f. bytes_eq f.name (codes "main")) (alone _ t.has_main.number t.has_main.main
       t.has_main.declared) ∙ ap (λ n. bytes_eq n (codes "main")) t.has_main.named));

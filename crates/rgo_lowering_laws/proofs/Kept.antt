@@ -7,7 +7,7 @@ use Rattle.rgo_tac.specs.Code.{Op, Instr, TacFn, Tac}
 use Rattle.rgo_code.specs.Exists.{TypeExists, UsesVariable, OpExists}
 use Rattle.rgo_code.specs.Types.{IsWellTypedOp}
 use Rattle.rgo_code.specs.TypedCode.{StartFits, IsTypedInstr}
-use Rattle.rgo_lower.specs.Lowered.{Point, after_value, next_point, OpAt}
+use Rattle.rgo_lower.specs.Lowered.{LoweringPoint, after_value, next_point, OpAt}
 use Rattle.rgo_lowering_laws.specs.Laws.{PrintsFit}
 use Rattle.rgo_lowering_laws.proofs.Lists.{some_is}
 
@@ -26,24 +26,24 @@ module _ (code : Tac) (f : TacFn) where
     pub prints : PrintsFit f op
 
   -- the instructions from p up to q keep the rules, and the types of the variables from p up to q exist
-  pub record Kept (p q : Point) : Type 0 where
+  pub record Kept (p q : LoweringPoint) : Type 0 where
     pub grows : p.instr ≤ q.instr
     pub instrs : (i : ℕ) (instr : Instr) → p.instr ≤ i → i < q.instr → slice_get f.body i ≡ Some instr
         → Right i instr.op
     pub variables : (v : ℕ) (ty : «Type») → p.variable ≤ v → v < q.variable → slice_get f.variables v ≡ Some ty
         → TypeExists code ty
 
-  pub nothing : (p q : Point) → q ≡ p → Kept p q
+  pub nothing : (p q : LoweringPoint) → q ≡ p → Kept p q
   nothing p q e =
-      let at : q.instr ≡ p.instr = ap (λ (z : Point). z.instr) e in
-      let made : q.variable ≡ p.variable = ap (λ (z : Point). z.variable) e in
+      let at : q.instr ≡ p.instr = ap (λ (z : LoweringPoint). z.instr) e in
+      let made : q.variable ≡ p.variable = ap (λ (z : LoweringPoint). z.variable) e in
       record {
         grows = omega (arith, at);
         instrs = λ i instr from to is. absurd (omega (arith, from, to, at));
         variables = λ v ty from to is. absurd (omega (arith, from, to, made));
       }
 
-  pub chain : (p m q : Point) → Kept p m → Kept m q → Kept p q
+  pub chain : (p m q : LoweringPoint) → Kept p m → Kept m q → Kept p q
   chain p m q a b = record {
     grows = omega (arith, a.grows, b.grows);
     instrs = λ i instr from to is.
@@ -52,7 +52,7 @@ module _ (code : Tac) (f : TacFn) where
         ⊎_elim (λ less. a.variables v ty from less is) (λ more. b.variables v ty more to is) (cases_lt v m.variable);
   }
 
-  pub ends : (p m q : Point) → Kept p m → q ≡ m → Kept p q
+  pub ends : (p m q : LoweringPoint) → Kept p m → q ≡ m → Kept p q
   ends p m q a e = subst (Kept p) (sym e) a
 
   -- the instruction at an index
@@ -78,7 +78,7 @@ module _ (code : Tac) (f : TacFn) where
   }
 
   -- one instruction
-  pub one : (p : Point) (op : Op) (place : ℕ) → OpAt f p.instr op place → p.instr + 1 < length f.body → Safe op
+  pub one : (p : LoweringPoint) (op : Op) (place : ℕ) → OpAt f p.instr op place → p.instr + 1 < length f.body → Safe op
       → Kept p (next_point p)
   one p op place at within s = record {
     grows = omega arith;
@@ -87,7 +87,7 @@ module _ (code : Tac) (f : TacFn) where
   }
 
   -- one instruction that writes the next variable
-  pub one_value : (p : Point) (op : Op) (place : ℕ) (ty : «Type») → OpAt f p.instr op place
+  pub one_value : (p : LoweringPoint) (op : Op) (place : ℕ) (ty : «Type») → OpAt f p.instr op place
       → p.instr + 1 < length f.body → Safe op → slice_get f.variables p.variable ≡ Some ty → TypeExists code ty
       → Kept p (after_value p)
   one_value p op place ty at within s made known = record {

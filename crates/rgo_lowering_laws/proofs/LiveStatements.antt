@@ -6,7 +6,7 @@ use Rattle.rgo_typed.specs.Tree as tree
 use Rattle.rgo_typed.specs.Tree.{Function, Term, Stmt, Stmts, Change, stmts_of}
 use Rattle.rgo_tac.specs.Code.{Jump, TacFn}
 use Rattle.rgo_flow.specs.Live.{Live}
-use Rattle.rgo_lower.specs.Lowered.{Point, after_value, next_point, OpAt, LoweringScope, variable_of_local, parameters, Target}
+use Rattle.rgo_lower.specs.Lowered.{LoweringPoint, after_value, next_point, OpAt, LoweringScope, variable_of_local, parameters, Target}
 use Rattle.rgo_lower.specs.Lowered.{TestAt, ConditionAt, UpdateAt, StmtAt, StmtsAt, closing_op, IsLoweredFn}
 use Rattle.rgo_lower.proofs.follows.Places.{Inside}
 use Rattle.rgo_lower.proofs.follows.Grows.{stmts_scopes}
@@ -43,27 +43,27 @@ module _ (functions : List Function) (f : TacFn) where
   abbrev Scoped : (n at : ℕ) → LoweringScope → Type 0
   Scoped n at scope = OnlyLive f n at (InRange scope)
 
-  abbrev At : ℕ → Point → LoweringScope → Type 0
+  abbrev At : ℕ → LoweringPoint → LoweringScope → Type 0
   At n p scope = Scoped n p.instr scope
 
-  same_at : (n : ℕ) (p q : Point) (scope scope2 : LoweringScope) → scope2 ≡ scope → q ≡ p → At n q scope2 → At n p scope
+  same_at : (n : ℕ) (p q : LoweringPoint) (scope scope2 : LoweringScope) → scope2 ≡ scope → q ≡ p → At n q scope2 → At n p scope
   same_at n p q scope scope2 e at k = subst (At n p) e (same_point f n p q (InRange scope2) at k)
 
   -- ---- parts of statements
 
-  test : (n : ℕ) (scope : LoweringScope) (t : Term) (otherwise place : ℕ) (p q : Point)
+  test : (n : ℕ) (scope : LoweringScope) (t : Term) (otherwise place : ℕ) (p q : LoweringPoint)
       → TestAt functions f scope t otherwise place p q → Scoped n otherwise scope → At n q scope → At n p scope
   test n scope t otherwise place p q h l k =
       let R = InRange scope in
       term functions f n scope t p h.0 h.1 h.2 R (λ v r. r)
       (at_branch f n h.1.instr place R h.0 (h.1.instr + 1) otherwise h.3 (same_point f n (next_point h.1) q R h.4 k) l)
 
-  condition : (n : ℕ) (scope : LoweringScope) (t : Option Term) (otherwise place : ℕ) (p q : Point)
+  condition : (n : ℕ) (scope : LoweringScope) (t : Option Term) (otherwise place : ℕ) (p q : LoweringPoint)
       → ConditionAt functions f scope t otherwise place p q → Scoped n otherwise scope → At n q scope → At n p scope
   condition n scope None otherwise place p q h l k = same_point f n p q (InRange scope) h k
   condition n scope (Some t) otherwise place p q h l k = test n scope t otherwise place p q h l k
 
-  update : (n : ℕ) (scope : LoweringScope) (c : Change) (p q : Point) → UpdateAt functions f scope c p q → At n q scope
+  update : (n : ℕ) (scope : LoweringScope) (c : Change) (p q : LoweringPoint) → UpdateAt functions f scope c p q → At n q scope
       → At n p scope
   update n scope c p q h k =
       let R = InRange scope in
@@ -86,21 +86,21 @@ module _ (functions : List Function) (f : TacFn) where
       (at_write f n h.1.instr _ c.read_at held old h.3.instr refl refl read))
 
   -- an instruction that declares a local variable
-  declare : (n : ℕ) (local x : ℕ) (p q : Point) (scope scope2 : LoweringScope) → scope2 ≡ (local, x) ∷ scope → q ≡ p
+  declare : (n : ℕ) (local x : ℕ) (p q : LoweringPoint) (scope scope2 : LoweringScope) → scope2 ≡ (local, x) ∷ scope → q ≡ p
       → At n q scope2 → OnlyLive f n p.instr (Or (x ∷ []) (InRange scope))
   declare n local x p q scope scope2 e at k =
       weaker f n p.instr (InRange ((local, x) ∷ scope)) (Or (x ∷ []) (InRange scope)) (begun scope local x)
       (same_at n p q ((local, x) ∷ scope) scope2 e at k)
 
   -- at the end of a block, what is in scope around it is in scope as well
-  leave : (n : ℕ) (all : Stmts) (targets : List Target) (scope : LoweringScope) (p : Point) (inner : LoweringScope) (q : Point)
+  leave : (n : ℕ) (all : Stmts) (targets : List Target) (scope : LoweringScope) (p : LoweringPoint) (inner : LoweringScope) (q : LoweringPoint)
       → StmtsAt functions f all targets scope p inner q → At n q scope → At n q inner
   leave n all targets scope p inner q h k =
       weaker f n q.instr (InRange scope) (InRange inner)
       (range_inside scope inner (stmts_scopes functions f all targets scope p inner q h)) k
 
   -- a jump back takes a step, so there are no more turns than steps
-  turns : (n : ℕ) (p : Point) (last place : ℕ) (scope : LoweringScope) → OpAt f last (Jump p.instr) place
+  turns : (n : ℕ) (p : LoweringPoint) (last place : ℕ) (scope : LoweringScope) → OpAt f last (Jump p.instr) place
       → ((m : ℕ) → m ≤ n → Scoped m last scope → At m p scope) → At n p scope
   turns zero p last place scope at turn =
       turn 0 (omega arith)
@@ -134,7 +134,7 @@ module _ (functions : List Function) (f : TacFn) where
   -- ---- statements
 
   mutual
-    stmt : (s : Stmt) (targets : List Target) (scope : LoweringScope) (p : Point) (scope2 : LoweringScope) (q : Point)
+    stmt : (s : Stmt) (targets : List Target) (scope : LoweringScope) (p : LoweringPoint) (scope2 : LoweringScope) (q : LoweringPoint)
         → StmtAt functions f s targets scope p scope2 q
         → (n : ℕ) → Lands n targets scope → At n q scope2 → At n p scope
     stmt (tree.Block all) targets scope p scope2 q h n lands k =
@@ -207,7 +207,7 @@ module _ (functions : List Function) (f : TacFn) where
         term functions f n scope value p h.0 h.1 h.3 (InRange scope) (λ v r. r)
         (at_return f n h.1.instr place (InRange scope) (Some h.0) h.4)
 
-    stmts : (all : Stmts) (targets : List Target) (scope : LoweringScope) (p : Point) (scope2 : LoweringScope) (q : Point)
+    stmts : (all : Stmts) (targets : List Target) (scope : LoweringScope) (p : LoweringPoint) (scope2 : LoweringScope) (q : LoweringPoint)
         → StmtsAt functions f all targets scope p scope2 q
         → (n : ℕ) → Lands n targets scope → At n q scope2 → At n p scope
     stmts tree.no_stmts targets scope p scope2 q h n lands k = same_at n p q scope scope2 h.0 h.1 k

@@ -6,7 +6,7 @@ use Rattle.rgo_typed.specs.declared.actions.Logical.TheVariants.{And, Or as OrEl
 use Rattle.rgo_typed.specs.Tree as tree
 use Rattle.rgo_typed.specs.Tree.{Function, Term, Terms}
 use Rattle.rgo_tac.specs.Code.{TacFn}
-use Rattle.rgo_lower.specs.Lowered.{Point, after_value, next_point, OpAt, LoweringScope, variable_of_local, logic_branch}
+use Rattle.rgo_lower.specs.Lowered.{LoweringPoint, after_value, next_point, OpAt, LoweringScope, variable_of_local, logic_branch}
 use Rattle.rgo_lower.specs.Lowered.{StoresAt, TermAt, TermsAt}
 use Rattle.rgo_lowering_laws.proofs.Liveness.{Or, nothing_more, join, first_apart, OnlyLive, weaker, same_point}
 use Rattle.rgo_lowering_laws.proofs.Liveness.{at_write, at_next, at_branch}
@@ -23,17 +23,17 @@ stored object d ds R v h =
 
 module _ (functions : List Function) (f : TacFn) where
   -- within n steps, only these are live at this point
-  abbrev Only : ℕ → Point → (ℕ → Type 0) → Type 0
+  abbrev Only : ℕ → LoweringPoint → (ℕ → Type 0) → Type 0
   Only n p K = OnlyLive f n p.instr K
 
   -- the same for an equal variable at an equal point
-  valued : (n d x : ℕ) (p q : Point) (R : ℕ → Type 0) → d ≡ x → q ≡ p → Only n q (Or (d ∷ []) R)
+  valued : (n d x : ℕ) (p q : LoweringPoint) (R : ℕ → Type 0) → d ≡ x → q ≡ p → Only n q (Or (d ∷ []) R)
       → Only n p (Or (x ∷ []) R)
   valued n d x p q R e at k = subst (λ z. Only n p (Or (z ∷ []) R)) e (same_point f n p q (Or (d ∷ []) R) at k)
 
   module _ (n : ℕ) where
     -- the stores read the object and the elements
-    stores : (object : ℕ) (fields ds : List ℕ) (place : ℕ) (p q : Point) (R : ℕ → Type 0)
+    stores : (object : ℕ) (fields ds : List ℕ) (place : ℕ) (p q : LoweringPoint) (R : ℕ → Type 0)
         → StoresAt functions f object fields ds place p q → Only n q (Or (object ∷ []) R)
         → Only n p (Or (object ∷ []) (Or ds R))
     stores object [] [] place p q R h k =
@@ -57,7 +57,7 @@ module _ (functions : List Function) (f : TacFn) where
         (at_branch f n i place (Or (d ∷ []) R) d end right at l (weaker f n right R (Or (d ∷ []) R) (λ v r. inr r) k))
 
     mutual
-      pub term : (scope : LoweringScope) (t : Term) (p : Point) (d : ℕ) (q : Point) → TermAt functions f scope t p d q
+      pub term : (scope : LoweringScope) (t : Term) (p : LoweringPoint) (d : ℕ) (q : LoweringPoint) → TermAt functions f scope t p d q
           → (R : ℕ → Type 0) → ((v : ℕ) → InRange scope v → R v) → Only n q (Or (d ∷ []) R) → Only n p R
       term scope (tree.Local x) p d q h R sub k =
           weaker f n p.instr (Or (d ∷ []) R) R
@@ -88,7 +88,7 @@ module _ (functions : List Function) (f : TacFn) where
           (at_write f n h.1.instr _ place R h.1.variable h.3 refl refl
           (valued n d h.1.variable (after_value h.1) q R h.6 h.7 k))
 
-      pub terms : (scope : LoweringScope) (ts : Terms) (p : Point) (ds : List ℕ) (q : Point)
+      pub terms : (scope : LoweringScope) (ts : Terms) (p : LoweringPoint) (ds : List ℕ) (q : LoweringPoint)
           → TermsAt functions f scope ts p ds q → (R : ℕ → Type 0) → ((v : ℕ) → InRange scope v → R v)
           → Only n q (Or ds R) → Only n p R
       terms scope tree.no_terms p ds q h R sub k =

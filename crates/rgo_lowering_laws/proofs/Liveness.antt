@@ -4,7 +4,7 @@ use Rattle.std.proofs.Common.{Option, Some, Contains, option_to_list, sym, ap, �
 use Rattle.rgo_tac.specs.Code.{Op, Jump, Branch, Return, TacFn}
 use Rattle.rgo_tac.specs.Flow.{reads, writes, leads_to}
 use Rattle.rgo_flow.specs.Live.{read_by, written_by, led_to_by, IsReadAfter}
-use Rattle.rgo_lower.specs.Lowered.{Point, OpAt}
+use Rattle.rgo_lower.specs.Lowered.{LoweringPoint, OpAt}
 
 -- v is one of these
 abbrev pub Among : List ℕ → ℕ → Type 0
@@ -56,8 +56,8 @@ module _ (f : TacFn) where
   pub fewer : (n k at : ℕ) (K : ℕ → Type 0) → n ≤ k → OnlyLive k at K → OnlyLive n at K
   fewer n k at K le h = λ m v less r. h m v (omega (arith, le, less)) r
 
-  pub same_point : (n : ℕ) (p q : Point) (K : ℕ → Type 0) → q ≡ p → OnlyLive n q.instr K → OnlyLive n p.instr K
-  same_point n p q K e k = subst (λ (z : Point). OnlyLive n z.instr K) e k
+  pub same_point : (n : ℕ) (p q : LoweringPoint) (K : ℕ → Type 0) → q ≡ p → OnlyLive n q.instr K → OnlyLive n p.instr K
+  same_point n p q K e k = subst (λ (z : LoweringPoint). OnlyLive n z.instr K) e k
 
   -- live at an instruction: what it reads, and what it does not write and is live at one that may be next
   step : (n i : ℕ) (op : Op) (place : ℕ) (K : ℕ → Type 0) → OpAt f i op place

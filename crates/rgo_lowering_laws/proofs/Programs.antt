@@ -12,7 +12,7 @@ use Rattle.rgo_wellformed.specs.TypeRules.{IsType}
 use Rattle.rgo_wellformed.specs.WellFormed as typed
 use Rattle.rgo_wellformed.specs.WellFormed.{IsFunction, IsResult, IsWellFormed, AreStmts, AreDistinct, first_numbers}
 use Rattle.rgo_tac.specs.Code.{Instr, TacFn, Tac}
-use Rattle.rgo_lower.specs.Lowered.{Point, variable_of_local, parameters, closing_op, IsLoweredFn, IsLowered}
+use Rattle.rgo_lower.specs.Lowered.{LoweringPoint, variable_of_local, parameters, closing_op, IsLoweredFn, IsLowered}
 use Rattle.rgo_lower.proofs.follows.Grows.{tested_eq, stmts_grow}
 use Rattle.rgo_code.specs.Exists.{declared_in_code, TypeExists, StructExists, VariableExists, HasMain}
 use Rattle.rgo_code.specs.TypedCode.{IsTypedFn}
@@ -110,7 +110,7 @@ module _ (program : Typed) (code : Tac) (w : IsWellFormed program) (h : IsLowere
     at_end : l.last.instr < length f.body
     at_end = inside setting l.last.instr (closing_op source.result_type l.last.instr) source.end l.closing
 
-    abbrev start : Point
+    abbrev start : LoweringPoint
     start = record { instr = 0; variable = source.params }
 
     kept : Kept code f start l.last

@@ -14,7 +14,7 @@ use Rattle.rgo_wellformed.specs.WellFormed.{scope_after}
 use Rattle.rgo_tac.specs.Code.{Op, Tac}
 use Rattle.rgo_code.specs.Exists.{declared_in_code, tac_signature, TypeExists}
 use Rattle.rgo_code.specs.Types.{VariableHasType, VariablesHaveTypes}
-use Rattle.rgo_lower.specs.Lowered.{Point, after_value, next_point, OpAt, LoweringScope, variable_of_local, Target, zero_action_in, zero_action}
+use Rattle.rgo_lower.specs.Lowered.{LoweringPoint, after_value, next_point, OpAt, LoweringScope, variable_of_local, Target, zero_action_in, zero_action}
 use Rattle.rgo_lower.specs.Lowered.{TestAt, ConditionAt, UpdateAt, StmtAt, StmtsAt}
 use Rattle.rgo_lower.proofs.follows.Grows.{tested_eq}
 use Rattle.rgo_lowering_laws.proofs.Lists.{some_is}
@@ -66,8 +66,8 @@ module _ (c : Setting) where
   same_agrees : (scope scope2 : LoweringScope) → scope2 ≡ scope → Agrees c scope → Agrees c scope2
   same_agrees scope scope2 e h = subst (Agrees c) (sym e) h
 
-  stmt_agrees : (b : Bool) (g : InScope) (s : Stmt) (targets : List Target) (scope : LoweringScope) (p : Point)
-      (scope2 : LoweringScope) (q : Point) → StmtAt c.functions c.f s targets scope p scope2 q → IsStmt (environment b) g s
+  stmt_agrees : (b : Bool) (g : InScope) (s : Stmt) (targets : List Target) (scope : LoweringScope) (p : LoweringPoint)
+      (scope2 : LoweringScope) (q : LoweringPoint) → StmtAt c.functions c.f s targets scope p scope2 q → IsStmt (environment b) g s
       → Agrees c scope → Agrees c scope2
   stmt_agrees b g (tree.Declare n ty value place) targets scope p scope2 q h w agrees =
       same_agrees ((n, h.1.variable) ∷ scope) scope2 h.5 (begins scope n h.1.variable ty w.0.1 h.3.variable agrees)
@@ -102,7 +102,7 @@ module _ (c : Setting) where
 
   -- ---- parts of statements
 
-  test_keeps : (scope : LoweringScope) (g : InScope) (t : Term) (otherwise place : ℕ) (p q : Point)
+  test_keeps : (scope : LoweringScope) (g : InScope) (t : Term) (otherwise place : ℕ) (p q : LoweringPoint)
       → TestAt c.functions c.f scope t otherwise place p q → HasTermType c g t bool → Agrees c scope
       → Inside c otherwise → Inside c q.instr → Keeps c p q
   test_keeps scope g t otherwise place p q h w agrees other within =
@@ -115,14 +115,14 @@ module _ (c : Setting) where
       (branch_is_safe c.f c.code h.0 (mid.instr + 1) otherwise a.value next other)))
       h.4
 
-  condition_keeps : (b : Bool) (scope : LoweringScope) (g : InScope) (t : Option Term) (otherwise place : ℕ) (p q : Point)
+  condition_keeps : (b : Bool) (scope : LoweringScope) (g : InScope) (t : Option Term) (otherwise place : ℕ) (p q : LoweringPoint)
       → ConditionAt c.functions c.f scope t otherwise place p q → IsCondition (environment b) g t → Agrees c scope
       → Inside c otherwise → Inside c q.instr → Keeps c p q
   condition_keeps b scope g None otherwise place p q h w agrees other within = nothing c.code c.f p q h
   condition_keeps b scope g (Some t) otherwise place p q h w agrees other within =
       test_keeps scope g t otherwise place p q h w agrees other within
 
-  update_keeps : (b : Bool) (scope : LoweringScope) (g : InScope) (u : Change) (p q : Point)
+  update_keeps : (b : Bool) (scope : LoweringScope) (g : InScope) (u : Change) (p q : LoweringPoint)
       → UpdateAt c.functions c.f scope u p q → Updates (environment b) g u → Agrees c scope → Inside c q.instr
       → Keeps c p q
   update_keeps b scope g u p q h w agrees within =
@@ -130,7 +130,7 @@ module _ (c : Setting) where
       let mid = h.5 in
       let made : VariableHasType c.f before.variable u.ty = h.3.variable in
       let result : VariableHasType c.f mid.variable u.ty = h.7.variable in
-      let end : Point = next_point (after_value mid) in
+      let end : LoweringPoint = next_point (after_value mid) in
       let at_end : Inside c (mid.instr + 1 + 1) = same_inside c end q h.9 within in
       let at_read = inside c before.instr _ u.read_at h.3.instr in
       let a = terms c scope g u.operands p h.0 before w.0 h.2 w.1 agrees at_read in
@@ -157,7 +157,7 @@ module _ (c : Setting) where
       h.9
 
   -- an instruction after operands
-  followed : (op : Op) (place : ℕ) (p mid q : Point) → Keeps c p mid → OpAt c.f mid.instr op place → q ≡ next_point mid
+  followed : (op : Op) (place : ℕ) (p mid q : LoweringPoint) → Keeps c p mid → OpAt c.f mid.instr op place → q ≡ next_point mid
       → Inside c q.instr → Safe c.code c.f op → Keeps c p q
   followed op place p mid q code at e within safe =
       ends c.code c.f p (next_point mid) q
@@ -166,7 +166,7 @@ module _ (c : Setting) where
       e
 
   -- one that writes the next variable
-  declared : (op : Op) (place : ℕ) (ty : «Type») (p mid q : Point) → Keeps c p mid → OpAt c.f mid.instr op place
+  declared : (op : Op) (place : ℕ) (ty : «Type») (p mid q : LoweringPoint) → Keeps c p mid → OpAt c.f mid.instr op place
       → q ≡ after_value mid → Inside c q.instr → Safe c.code c.f op → VariableHasType c.f mid.variable ty
       → TypeExists c.code ty → Keeps c p q
   declared op place ty p mid q code at e within safe made known =
@@ -187,8 +187,8 @@ module _ (c : Setting) where
   -- ---- statements
 
   mutual
-    stmt_keeps : (b : Bool) (g : InScope) (s : Stmt) (targets : List Target) (scope : LoweringScope) (p : Point)
-        (scope2 : LoweringScope) (q : Point) → StmtAt c.functions c.f s targets scope p scope2 q → IsStmt (environment b) g s
+    stmt_keeps : (b : Bool) (g : InScope) (s : Stmt) (targets : List Target) (scope : LoweringScope) (p : LoweringPoint)
+        (scope2 : LoweringScope) (q : LoweringPoint) → StmtAt c.functions c.f s targets scope p scope2 q → IsStmt (environment b) g s
         → Agrees c scope → TargetsExist targets → Inside c q.instr → Keeps c p q
     stmt_keeps b g (tree.Block all) targets scope p scope2 q h w agrees known within =
         stmts_keep b g all targets scope p h.0 q h.1 w agrees known within
@@ -283,8 +283,8 @@ module _ (c : Setting) where
         let a = term c scope g value p h.0 mid w.0 h.3 w.2 agrees (inside c mid.instr _ place h.4) in
         followed _ place p mid q a.code h.4 h.7 within (result_is_safe c.f c.code h.0 w.0 w.1 a.value)
 
-    pub stmts_keep : (b : Bool) (g : InScope) (all : Stmts) (targets : List Target) (scope : LoweringScope) (p : Point)
-        (scope2 : LoweringScope) (q : Point) → StmtsAt c.functions c.f all targets scope p scope2 q
+    pub stmts_keep : (b : Bool) (g : InScope) (all : Stmts) (targets : List Target) (scope : LoweringScope) (p : LoweringPoint)
+        (scope2 : LoweringScope) (q : LoweringPoint) → StmtsAt c.functions c.f all targets scope p scope2 q
         → AreStmts (environment b) g all → Agrees c scope → TargetsExist targets → Inside c q.instr → Keeps c p q
     stmts_keep b g tree.no_stmts targets scope p scope2 q h w agrees known within = nothing c.code c.f p q h.1
     stmts_keep b g (tree.a_stmt s all) targets scope p scope2 q h w agrees known within =

@@ -14,7 +14,7 @@ use Rattle.rgo_wellformed.specs.WellFormed.{InScope, MatchFields}
 use Rattle.rgo_tac.specs.Code.{Op, TacFn, Tac}
 use Rattle.rgo_code.specs.Exists.{declared_in_code, tac_signature, TypeExists}
 use Rattle.rgo_code.specs.Types.{VariableHasType, VariablesHaveTypes}
-use Rattle.rgo_lower.specs.Lowered.{Point, after_value, next_point, OpAt, LoweringScope, variable_of_local, logic_branch}
+use Rattle.rgo_lower.specs.Lowered.{LoweringPoint, after_value, next_point, OpAt, LoweringScope, variable_of_local, logic_branch}
 use Rattle.rgo_lower.specs.Lowered.{StoresAt, TermAt, TermsAt}
 use Rattle.rgo_lowering_laws.proofs.Lists.{unmapped_at, head_same, tail_same}
 use Rattle.rgo_lowering_laws.proofs.Kept.{Safe, Kept, nothing, chain, ends, one, one_value}
@@ -45,18 +45,18 @@ module _ (c : Setting) where
   pub inside : (i : ℕ) (op : Op) (place : ℕ) → OpAt c.f i op place → Inside i
   inside i op place at = slice_get_within c.f.body i (record { op = op; place = place }) at
 
-  pub same_inside : (p q : Point) → q ≡ p → Inside q.instr → Inside p.instr
-  same_inside p q e h = subst (λ (z : Point). Inside z.instr) e h
+  pub same_inside : (p q : LoweringPoint) → q ≡ p → Inside q.instr → Inside p.instr
+  same_inside p q e h = subst (λ (z : LoweringPoint). Inside z.instr) e h
 
-  abbrev pub Keeps : Point → Point → Type 0
+  abbrev pub Keeps : LoweringPoint → LoweringPoint → Type 0
   Keeps p q = Kept c.code c.f p q
 
   -- the code from p to q keeps the rules, and its value, in d, has this type
-  pub record Value (p : Point) (d : ℕ) (t : «Type») (q : Point) : Type 0 where
+  pub record Value (p : LoweringPoint) (d : ℕ) (t : «Type») (q : LoweringPoint) : Type 0 where
     pub value : VariableHasType c.f d t
     pub code : Keeps p q
 
-  pub record Values (p : Point) (ds : List ℕ) (ts : List «Type») (q : Point) : Type 0 where
+  pub record Values (p : LoweringPoint) (ds : List ℕ) (ts : List «Type») (q : LoweringPoint) : Type 0 where
     pub values : VariablesHaveTypes c.f ds ts
     pub code : Keeps p q
 
@@ -75,7 +75,7 @@ module _ (c : Setting) where
 
   -- one store for each element
   stores : (n object : ℕ) (all : List «Type») → slice_get (declared_in_code c.code).structs n ≡ Some all
-      → VariableHasType c.f object (pointer_to n) → (fields ds : List ℕ) (ts : List «Type») (place : ℕ) (p q : Point)
+      → VariableHasType c.f object (pointer_to n) → (fields ds : List ℕ) (ts : List «Type») (place : ℕ) (p q : LoweringPoint)
       → StoresAt c.functions c.f object fields ds place p q → VariablesHaveTypes c.f ds ts → MatchFields all fields ts
       → Inside q.instr → Keeps p q
   stores n object all known o [] [] ts place p q h has match within = nothing c.code c.f p q h
@@ -107,7 +107,7 @@ module _ (c : Setting) where
   HaveTermTypes g ts tys = typed.HaveTypes (declared_in_code c.code) c.locals g ts tys
 
   mutual
-    pub term : (scope : LoweringScope) (g : InScope) (t : Term) (p : Point) (d : ℕ) (q : Point) (ty : «Type»)
+    pub term : (scope : LoweringScope) (g : InScope) (t : Term) (p : LoweringPoint) (d : ℕ) (q : LoweringPoint) (ty : «Type»)
         → TermAt c.functions c.f scope t p d q → HasTermType g t ty → Agrees scope → Inside q.instr → Value p d ty q
     term scope g (tree.Local n) p d q ty h w agrees within = record {
       value = agrees.has n d ty h.0 w.1;
@@ -133,7 +133,7 @@ module _ (c : Setting) where
         let last = h.5 in
         let x = mid.variable in
         let made : VariableHasType c.f x bool = h.3.variable in
-        let next : Point = next_point (after_value mid) in
+        let next : LoweringPoint = next_point (after_value mid) in
         let a = term scope g left p h.0 mid bool h.2 w.1 agrees (inside mid.instr _ place h.3.instr) in
         let at_last = inside last.instr _ place h.8 in
         let b = term scope g right next h.4 last bool h.7 w.2 agrees at_last in
@@ -199,7 +199,7 @@ module _ (c : Setting) where
               h.7;
         }
 
-    pub terms : (scope : LoweringScope) (g : InScope) (ts : Terms) (p : Point) (ds : List ℕ) (q : Point) (tys : List «Type»)
+    pub terms : (scope : LoweringScope) (g : InScope) (ts : Terms) (p : LoweringPoint) (ds : List ℕ) (q : LoweringPoint) (tys : List «Type»)
         → TermsAt c.functions c.f scope ts p ds q → HaveTermTypes g ts tys → Agrees scope → Inside q.instr
         → Values p ds tys q
     terms scope g tree.no_terms p ds q tys h w agrees within = record {

@@ -18,77 +18,77 @@ use Rattle.rgo_meaning.specs.Source.{SourceState, source_step, source_start}
 
 -- ---- programs
 
-abbrev pub int : «Type»
-int = record { layers = []; base = base.Int }
+abbrev pub type_int : «Type»
+type_int = record { layers = []; base = base.Int }
 
-abbrev pub channel : «Type»
-channel = record { layers = Chan ∷ []; base = base.Int }
+abbrev pub int_channel : «Type»
+int_channel = record { layers = Chan ∷ []; base = base.Int }
 
-abbrev pub one : Term → Terms
-one t = a_term t no_terms
+abbrev pub one_term : Term → Terms
+one_term t = a_term t no_terms
 
-abbrev pub two : Term → Term → Terms
-two t u = a_term t (a_term u no_terms)
+abbrev pub two_terms : Term → Term → Terms
+two_terms t u = a_term t (a_term u no_terms)
 
-abbrev pub number : ℕ → Term
-number n = Apply (action.Int (pos n)) no_terms int 0
+abbrev pub int_term : ℕ → Term
+int_term n = Apply (action.Int (pos n)) no_terms type_int 0
 
 -- a function with these parameters, local variables and statements
-abbrev pub function : List ℕ → ℕ → List «Type» → Option «Type» → List Stmt → Function
-function name params locals result_type body =
+abbrev pub function_with_body : List ℕ → ℕ → List «Type» → Option «Type» → List Stmt → Function
+function_with_body name params locals result_type body =
     record { name = name; params = params; locals = locals; result_type = result_type; body = body; end = 0 }
 
-abbrev pub program : List Function → Typed
-program functions = record { structs = []; variables = []; functions = functions }
+abbrev pub program_of_functions : List Function → Typed
+program_of_functions functions = record { structs = []; variables = []; functions = functions }
 
-abbrev pub print : Term → Stmt
-print t = tree.Print (NextValue ∷ []) (one t) 0
+abbrev pub print_term : Term → Stmt
+print_term t = tree.Print (NextValue ∷ []) (one_term t) 0
 
 -- fmt.Println(2 + 3)
-abbrev pub sum : Typed
-sum =
-    program
-    (function (codes "main") 0 [] None (print (Apply (action.Binary Add) (two (number 2) (number 3)) int 0) ∷ []) ∷ [])
+abbrev pub sum_program : Typed
+sum_program =
+    program_of_functions
+    (function_with_body (codes "main") 0 [] None (print_term (Apply (action.Binary Add) (two_terms (int_term 2) (int_term 3)) type_int 0) ∷ []) ∷ [])
 
 -- var x int; fmt.Println(1 / x), the division at place 17
-abbrev pub division : Typed
-division =
-    program
-    (function (codes "main") 0 (int ∷ []) None
-    (tree.Zero 0 int 0 ∷ print (Apply (action.Binary Div) (two (number 1) (Local 0)) int 17) ∷ [])
+abbrev pub division_program : Typed
+division_program =
+    program_of_functions
+    (function_with_body (codes "main") 0 (type_int ∷ []) None
+    (tree.Zero 0 type_int 0 ∷ print_term (Apply (action.Binary Div) (two_terms (int_term 1) (Local 0)) type_int 17) ∷ [])
     ∷ [])
 
 -- func main() { c := make(chan int); go f(c); fmt.Println(<-c) }; func f(c chan int) { c <- 7 }
-abbrev pub meeting : Typed
-meeting =
-    program
-    (function (codes "main") 0 (channel ∷ []) None
-    (tree.Declare 0 channel (Apply action.Chan (one (number 0)) channel 0) 0
-    ∷ tree.Go 1 (one (Local 0)) 0
-    ∷ print (Apply action.Recv (one (Local 0)) int 0) ∷ [])
-    ∷ function (codes "f") 1 (channel ∷ []) None (tree.Perform action.Send (two (Local 0) (number 7)) 5 ∷ [])
+abbrev pub rendezvous_program : Typed
+rendezvous_program =
+    program_of_functions
+    (function_with_body (codes "main") 0 (int_channel ∷ []) None
+    (tree.Declare 0 int_channel (Apply action.Chan (one_term (int_term 0)) int_channel 0) 0
+    ∷ tree.Go 1 (one_term (Local 0)) 0
+    ∷ print_term (Apply action.Recv (one_term (Local 0)) type_int 0) ∷ [])
+    ∷ function_with_body (codes "f") 1 (int_channel ∷ []) None (tree.Perform action.Send (two_terms (Local 0) (int_term 7)) 5 ∷ [])
     ∷ [])
 
 -- func main() { c := make(chan int); go f(c); close(c); for {} }; func f(c chan int) { c <- 7 }, the send at place 5
-abbrev pub closing : Typed
-closing =
-    program
-    (function (codes "main") 0 (channel ∷ []) None
-    (tree.Declare 0 channel (Apply action.Chan (one (number 0)) channel 0) 0
-    ∷ tree.Go 1 (one (Local 0)) 0
-    ∷ tree.Perform action.Close (one (Local 0)) 0
+abbrev pub closing_program : Typed
+closing_program =
+    program_of_functions
+    (function_with_body (codes "main") 0 (int_channel ∷ []) None
+    (tree.Declare 0 int_channel (Apply action.Chan (one_term (int_term 0)) int_channel 0) 0
+    ∷ tree.Go 1 (one_term (Local 0)) 0
+    ∷ tree.Perform action.Close (one_term (Local 0)) 0
     ∷ tree.Loop None tree.no_stmts tree.no_stmts 0 ∷ [])
-    ∷ function (codes "f") 1 (channel ∷ []) None (tree.Perform action.Send (two (Local 0) (number 7)) 5 ∷ [])
+    ∷ function_with_body (codes "f") 1 (int_channel ∷ []) None (tree.Perform action.Send (two_terms (Local 0) (int_term 7)) 5 ∷ [])
     ∷ [])
 
 -- func main() { var x *N; x.v = f() }; func f() int { fmt.Println(1); return 2 }, the assignment at place 9
-abbrev pub late_nil : Typed
-late_nil =
-    program
-    (function (codes "main") 0 (record { layers = []; base = base.Pointer 0 } ∷ []) None
+abbrev pub late_nil_program : Typed
+late_nil_program =
+    program_of_functions
+    (function_with_body (codes "main") 0 (record { layers = []; base = base.Pointer 0 } ∷ []) None
     (tree.Zero 0 (record { layers = []; base = base.Pointer 0 }) 0
-    ∷ tree.Perform (action.Store 0) (two (Local 0) (Call 1 no_terms int 0)) 9 ∷ [])
-    ∷ function (codes "f") 0 [] (Some int) (print (number 1) ∷ tree.Return (Some (number 2)) 0 ∷ [])
+    ∷ tree.Perform (action.Store 0) (two_terms (Local 0) (Call 1 no_terms type_int 0)) 9 ∷ [])
+    ∷ function_with_body (codes "f") 0 [] (Some type_int) (print_term (int_term 1) ∷ tree.Return (Some (int_term 2)) 0 ∷ [])
     ∷ [])
 
 -- ---- runs
@@ -117,39 +117,39 @@ abbrev pub has_closed : SourceState → Bool
 has_closed s = is_closed_object (slice_get s.memory.heap 0)
 
 -- what was printed, and how the run ended
-abbrev pub told : SourceState → List ℕ × Option End
-told s = (s.printed, s.ended)
+abbrev pub print_and_end : SourceState → List ℕ × Option End
+print_and_end s = (s.printed, s.ended)
 
 abbrev pub main_alone : Typed → List ℕ × Option End
-main_alone p = told (alone_until p never 0 100 (source_start p))
+main_alone p = print_and_end (alone_until p never 0 100 (source_start p))
 
-abbrev pub met : Option SourceState → Option (List ℕ × Option End)
-met next = option_and_then (λ s. Some (told (alone_until meeting never 0 100 s))) next
+abbrev pub main_after_meeting : Option SourceState → Option (List ℕ × Option End)
+main_after_meeting next = option_and_then (λ s. Some (print_and_end (alone_until rendezvous_program never 0 100 s))) next
 
 -- both wait, they meet, and `main` goes on
 abbrev pub meeting_met : Option (List ℕ × Option End)
 meeting_met =
-    met
-    (source_step meeting
-    (alone_until meeting never 1 100 (alone_until meeting never 0 100 (source_start meeting)))
+    main_after_meeting
+    (source_step rendezvous_program
+    (alone_until rendezvous_program never 1 100 (alone_until rendezvous_program never 0 100 (source_start rendezvous_program)))
     (Meet 0 1))
 
 -- the sender waits, then the channel is closed, then the sender goes on
 abbrev pub closing_closed : List ℕ × Option End
 closing_closed =
-    told
-    (alone_until closing never 1 10
-    (alone_until closing has_closed 0 100
-    (alone_until closing never 1 100
-    (alone_until closing have_started 0 100 (source_start closing)))))
+    print_and_end
+    (alone_until closing_program never 1 10
+    (alone_until closing_program has_closed 0 100
+    (alone_until closing_program never 1 100
+    (alone_until closing_program have_started 0 100 (source_start closing_program)))))
 
 -- a number alone
-abbrev pub line : ℕ → List ℕ
-line n = decimal n ++ 10 ∷ []
+abbrev pub number_line : ℕ → List ℕ
+number_line n = decimal n ++ 10 ∷ []
 
 pub record Examples : Type 0 where
-  pub sum_prints : main_alone sum ≡ (line 5, Some Exit)
-  pub division_traps : main_alone division ≡ ([], Some (Trap DivideZero 17))
-  pub both_meet : meeting_met ≡ Some (line 7, Some Exit)
+  pub sum_prints : main_alone sum_program ≡ (number_line 5, Some Exit)
+  pub division_traps : main_alone division_program ≡ ([], Some (Trap DivideZero 17))
+  pub both_meet : meeting_met ≡ Some (number_line 7, Some Exit)
   pub waiting_sender_traps : closing_closed ≡ ([], Some (Trap SendClosed 5))
-  pub right_side_first : main_alone late_nil ≡ (line 1, Some (Trap NilPointer 9))
+  pub right_side_first : main_alone late_nil_program ≡ (number_line 1, Some (Trap NilPointer 9))

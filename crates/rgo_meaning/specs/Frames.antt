@@ -81,8 +81,8 @@ with_local_value (u ∷ locals) (suc n) v = u ∷ with_local_value locals n v
 abbrev pub value_below : List Value → ℕ → Value
 value_below values newer = get_or values newer Nil
 
-abbrev pub newest : List Value → Value
-newest values = value_below values 0
+abbrev pub newest_value : List Value → Value
+newest_value values = value_below values 0
 
 -- the last n values, in the order in which they came
 abbrev pub last_values : ℕ → List Value → List Value

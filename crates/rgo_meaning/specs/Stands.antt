@@ -5,7 +5,7 @@ use Rattle.rgo_memory.specs.Values.{zero_of}
 use Rattle.rgo_machine.specs.Actions.{at_channel, no_type}
 use Rattle.rgo_machine.specs.Machines.{Stand, AtCall, AtStart, Elsewhere}
 use Rattle.rgo_meaning.specs.Frames.{Todo, Perform, Affect, Enter, Start, SourceFrame, last_values, frame_with_todo, new_source_frame}
-use Rattle.rgo_meaning.specs.Steps.{giving, leaving}
+use Rattle.rgo_meaning.specs.Steps.{with_action_result, without_action_result}
 
 -- before the call or the start of a function, if it exists: `at` of the frame that continues and of the function's
 abbrev pub at_source_function : (SourceFrame → SourceFrame → Stand SourceFrame) → Option Function → ℕ → List Todo → SourceFrame → Stand SourceFrame
@@ -15,9 +15,9 @@ at_source_function at (Some callee) count todo f =
 
 abbrev pub stand_before_todo : Typed → Todo → List Todo → SourceFrame → Stand SourceFrame
 stand_before_todo program (Perform action count ty place) todo f =
-    at_channel action (zero_of ty) place (giving f count todo) (last_values count f.values)
+    at_channel action (zero_of ty) place (with_action_result f count todo) (last_values count f.values)
 stand_before_todo program (Affect action count place) todo f =
-    at_channel action (zero_of no_type) place (leaving f count todo) (last_values count f.values)
+    at_channel action (zero_of no_type) place (without_action_result f count todo) (last_values count f.values)
 stand_before_todo program (Enter function count) todo f =
     at_source_function AtCall (slice_get program.functions function) count todo f
 stand_before_todo program (Start function count) todo f =

@@ -15,7 +15,7 @@ use Rattle.rgo_memory.specs.Perform.{perform}
 use Rattle.rgo_machine.specs.Actions.{effected, is_true, no_type}
 use Rattle.rgo_machine.specs.Lines.{printed_line}
 use Rattle.rgo_machine.specs.Machines.{Act, Moves, Returns, Prints}
-use Rattle.rgo_meaning.specs.Frames.{SourceFrame, local_value, with_local_value, value_below, newest, last_values, replaced, frame_with_todo}
+use Rattle.rgo_meaning.specs.Frames.{SourceFrame, local_value, with_local_value, value_below, newest_value, last_values, replaced, frame_with_todo}
 use Rattle.rgo_meaning.specs.Frames.{Todo, Evaluate, Each, Perform, Affect, Settle, Decide, Create, Fill, Repeat, Give}
 use Rattle.rgo_meaning.specs.Frames.{Forget, Clear, Enter, Start, Write, Execute, Sequence, When, Choose, Close, Onward}
 use Rattle.rgo_meaning.specs.Frames.{Turn, Test, Again, Leave, Stay}
@@ -24,11 +24,11 @@ use Rattle.rgo_meaning.specs.Todos.{term_todo, statement_todo, turn_todo}
 -- ---- actions
 
 -- with the value, or without it
-abbrev pub giving : SourceFrame → ℕ → List Todo → Value → SourceFrame
-giving f taken todo v = frame_with_todo f taken (v ∷ []) todo
+abbrev pub with_action_result : SourceFrame → ℕ → List Todo → Value → SourceFrame
+with_action_result f taken todo v = frame_with_todo f taken (v ∷ []) todo
 
-abbrev pub leaving : SourceFrame → ℕ → List Todo → Value → SourceFrame
-leaving f taken todo v = frame_with_todo f taken [] todo
+abbrev pub without_action_result : SourceFrame → ℕ → List Todo → Value → SourceFrame
+without_action_result f taken todo v = frame_with_todo f taken [] todo
 
 -- ---- terms
 
@@ -51,19 +51,19 @@ decided Or right todo f false = frame_with_todo f 1 [] (Evaluate right ∷ Settl
 -- fields. At the end the object replaces the values.
 abbrev pub act_of_fill : List Struct → Memory → ℕ → List ℕ → (place : ℕ) → List Todo → SourceFrame → Act SourceFrame
 act_of_fill structs m count [] place todo f =
-    Moves m (record f { values = replaced (newest f.values) count f.values; todo = todo })
+    Moves m (record f { values = replaced (newest_value f.values) count f.values; todo = todo })
 act_of_fill structs m count (k ∷ fields) place todo f =
-    effected (leaving f 0 (Fill count fields place ∷ todo)) place
-    (perform structs (Store k) no_type (newest f.values ∷ value_below f.values (length (k ∷ fields)) ∷ []) m)
+    effected (without_action_result f 0 (Fill count fields place ∷ todo)) place
+    (perform structs (Store k) no_type (newest_value f.values ∷ value_below f.values (length (k ∷ fields)) ∷ []) m)
 
 -- ---- statements
 
-abbrev pub given : ℕ → List Todo → SourceFrame → SourceFrame
-given n todo f =
-    record { locals = with_local_value f.locals n (newest f.values); values = drop 1 f.values; todo = todo }
+abbrev pub local_assigned : ℕ → List Todo → SourceFrame → SourceFrame
+local_assigned n todo f =
+    record { locals = with_local_value f.locals n (newest_value f.values); values = drop 1 f.values; todo = todo }
 
-abbrev pub cleared : ℕ → «Type» → List Todo → SourceFrame → SourceFrame
-cleared n ty todo f = record { locals = with_local_value f.locals n (zero_of ty); values = f.values; todo = todo }
+abbrev pub local_cleared : ℕ → «Type» → List Todo → SourceFrame → SourceFrame
+local_cleared n ty todo f = record { locals = with_local_value f.locals n (zero_of ty); values = f.values; todo = todo }
 
 abbrev pub sequence : Stmts → List Todo → List Todo
 sequence tree.no_stmts todo = todo
@@ -88,33 +88,33 @@ tested test body post todo false = todo
 abbrev pub moved : Todo → List Todo → SourceFrame → SourceFrame
 moved (Evaluate t) todo f = evaluated t todo f
 moved (Each ts) todo f = frame_with_todo f 0 [] (each ts todo)
-moved (Decide op right) todo f = decided op right todo f (is_true (newest f.values))
+moved (Decide op right) todo f = decided op right todo f (is_true (newest_value f.values))
 moved (Repeat count) todo f = frame_with_todo f 0 (take count f.values) todo
-moved (Give n) todo f = given n todo f
+moved (Give n) todo f = local_assigned n todo f
 moved Forget todo f = frame_with_todo f 1 [] todo
-moved (Clear n ty) todo f = cleared n ty todo f
+moved (Clear n ty) todo f = local_cleared n ty todo f
 moved (Enter function count) todo f = frame_with_todo f count [] todo
 moved (Start function count) todo f = frame_with_todo f count [] todo
 moved (Execute s) todo f = frame_with_todo f 0 [] (statement_todo s todo)
 moved (Sequence ss) todo f = frame_with_todo f 0 [] (sequence ss todo)
-moved (When body) todo f = frame_with_todo f 1 [] (when body todo (is_true (newest f.values)))
-moved (Choose body other) todo f = frame_with_todo f 1 [] (chosen body other todo (is_true (newest f.values)))
+moved (When body) todo f = frame_with_todo f 1 [] (when body todo (is_true (newest_value f.values)))
+moved (Choose body other) todo f = frame_with_todo f 1 [] (chosen body other todo (is_true (newest_value f.values)))
 moved (Turn test body post) todo f = frame_with_todo f 0 [] (turn_todo test body post todo)
-moved (Test test body post) todo f = frame_with_todo f 1 [] (tested test body post todo (is_true (newest f.values)))
+moved (Test test body post) todo f = frame_with_todo f 1 [] (tested test body post todo (is_true (newest_value f.values)))
 moved (Again test body post) todo f = frame_with_todo f 0 [] (Sequence post ∷ Onward ∷ Turn test body post ∷ todo)
 moved _ todo f = frame_with_todo f 0 [] todo
 
 abbrev pub act_of_todo : Typed → Memory → Todo → List Todo → SourceFrame → Act SourceFrame
 act_of_todo program m (Perform action count ty place) todo f =
-    effected (giving f count todo) place (perform program.structs action ty (last_values count f.values) m)
+    effected (with_action_result f count todo) place (perform program.structs action ty (last_values count f.values) m)
 act_of_todo program m (Affect action count place) todo f =
-    effected (leaving f count todo) place (perform program.structs action no_type (last_values count f.values) m)
+    effected (without_action_result f count todo) place (perform program.structs action no_type (last_values count f.values) m)
 act_of_todo program m (Create struct) todo f =
-    effected (giving f 0 todo) 0 (perform program.structs (New struct) no_type [] m)
+    effected (with_action_result f 0 todo) 0 (perform program.structs (New struct) no_type [] m)
 act_of_todo program m (Fill count fields place) todo f = act_of_fill program.structs m count fields place todo f
 act_of_todo program m (Write pieces count) todo f =
     Prints (frame_with_todo f count [] todo) (printed_line pieces (last_values count f.values))
-act_of_todo program m Leave todo f = Returns (Some (newest f.values))
+act_of_todo program m Leave todo f = Returns (Some (newest_value f.values))
 act_of_todo program m Stay todo f = Moves m f
 act_of_todo program m item todo f = Moves m (moved item todo f)
 

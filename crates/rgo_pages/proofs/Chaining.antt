@@ -7,15 +7,15 @@ use Rattle.rgo_core.specs.Rule.declared.accesses.Kind.TheVariants.{ClaimPage, Cl
 use Rattle.rgo_core.specs.Memory.Records.{Gave, Giving, Hung, Idle, Past, with_claim, with_give}
 use Rattle.rgo_core.specs.Memory.Words.{head_at, next_at, state_at}
 use Rattle.rgo_core.specs.Memory.declared.layout.TableSizes.{TableSizes}
-use Rattle.rgo_core.specs.Chains.{frees, remembers}
+use Rattle.rgo_core.specs.moves.Chains.{frees, remembers}
 use Rattle.rgo_core.specs.Core.{Setup}
-use Rattle.rgo_core.specs.Opening.{first_of}
+use Rattle.rgo_core.specs.runs.Opening.{first_of}
 use Rattle.rgo_core.specs.Records.{Record, accessed, accesses}
 use Rattle.rgo_core_steps.specs.Grown.{Made}
-use Rattle.rgo_core_steps.specs.Pages.{takes_page, tried_page}
+use Rattle.rgo_core_steps.specs.Pages.{claims_or_reserves, tried_page}
 use Rattle.rgo_core_steps.specs.Searches.{Miss, misses, missing}
-use Rattle.rgo_core_steps.specs.Seats.{Left, Stored, mine}
-use Rattle.rgo_core_steps.proofs.Growing.{made_one, made_then}
+use Rattle.rgo_core_steps.specs.Seats.{HasAccessed, Stored, mine}
+use Rattle.rgo_core_steps.proofs.accesses.Growing.{made_one, made_then}
 use Rattle.rgo_pages.specs.Claiming.{Hooked, PageClaimed, PageTaken}
 use Rattle.rgo_pages.specs.Releasing.{ChainGiven, ChainGivenBack, Freed, LinksLeadTo, OneFreed, freed_one, freeing, gave_back, giving}
 
@@ -26,7 +26,7 @@ module _ (T : Setup) (z : TableSizes) (slot : ℕ) where
   -- ---- a page is put on its chain
 
   pub hooked : (page : ℕ) (m v w : Me Record) (n : ℕ)
-      → Left T HangPage (head_at z slot) (λ n. page + 1) (λ n d. d ≡ remembers (mine T m) (with_claim (mine T m).memory (Hung page slot n))) m n v
+      → HasAccessed T HangPage (head_at z slot) (λ n. page + 1) (λ n d. d ≡ remembers (mine T m) (with_claim (mine T m).memory (Hung page slot n))) m n v
       → Stored T LinkPage (next_at z page) n (remembers (mine T v) (with_claim (mine T v).memory Idle)) v w
       → Hooked T z (mine T m) page slot m w
   hooked page m v w n a b =
@@ -79,12 +79,12 @@ module _ (T : Setup) (z : TableSizes) (slot : ℕ) where
       chained d = record d { clock = accessed (accessed d.clock); memory = with_claim d.memory Idle }
 
       taken_record : List Miss → Record
-      taken_record ts = takes_page T (missing tried_page c ts) page slot
+      taken_record ts = claims_or_reserves T (missing tried_page c ts) page slot
 
   -- ---- a page is freed
 
   pub one_freed : (page : ℕ) (m v w : Me Record) (n : ℕ)
-      → Left T LoadNext (next_at z page) (λ n. n) (λ n d. d ≡ remembers (mine T m) (with_give (mine T m).memory (Past slot (page + 1) n))) m n v
+      → HasAccessed T LoadNext (next_at z page) (λ n. n) (λ n d. d ≡ remembers (mine T m) (with_give (mine T m).memory (Past slot (page + 1) n))) m n v
       → Stored T FreePage (state_at z page) 0 (frees (mine T v) slot n) v w
       → OneFreed T z slot (mine T m) page n m w
   one_freed page m v w n a b =
@@ -116,7 +116,7 @@ module _ (T : Setup) (z : TableSizes) (slot : ℕ) where
   }
 
   pub chain_begun : (m v : Me Record) (n : ℕ)
-      → Left T LoadHead (head_at z slot) (λ n. n) (λ n d. d ≡ remembers (mine T m) (with_give (mine T m).memory (Giving slot n))) m n v
+      → HasAccessed T LoadHead (head_at z slot) (λ n. n) (λ n d. d ≡ remembers (mine T m) (with_give (mine T m).memory (Giving slot n))) m n v
       → ChainGiven T z slot (mine T m) 0 n m v
   chain_begun m v n a = record {
     head = n;

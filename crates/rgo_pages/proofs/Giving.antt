@@ -6,23 +6,23 @@ use Rattle.rgo_sound.specs.Memory.Memory.{Object}
 use Rattle.rgo_sound.specs.RegionMachine.Objects.{object_words as words_in}
 use Rattle.rgo_sound.specs.RegionMachine.Owed.{code_function}
 use Rattle.rgo_sound.specs.RegionMachine.States.{Create, Duty, EndBase, Ended, Holder, Mark, Protect, Remove, Share, Stopped, Unprotect}
-use Rattle.rgo_core.specs.Frames.Opening.{no_record}
-use Rattle.rgo_core.specs.Frames.Children.{child_records}
-use Rattle.rgo_core.specs.Frames.Records.{Rec as FrameRec}
-use Rattle.rgo_core.specs.Frames.WordFrames.{WordFrame, word_called, words_of}
+use Rattle.rgo_core.specs.Frames.goroutines.Opening.{no_record}
+use Rattle.rgo_core.specs.Frames.goroutines.Children.{child_records}
+use Rattle.rgo_core.specs.Frames.Records.{FramesRec as FrameRec}
+use Rattle.rgo_core.specs.Frames.shown.WordFrames.{WordFrame, word_called, words_of}
 use Rattle.rgo_core.specs.Memory.Records.{Calm, Fill, Owes, Rec as MemoryRec}
 use Rattle.rgo_core.specs.Memory.Spread.{table_words}
 use Rattle.rgo_core.specs.Core.{Setup}
 use Rattle.rgo_core.specs.Laws.{first_in}
 use Rattle.rgo_core.specs.Records.{Record, begins_with}
-use Rattle.rgo_core.specs.Regions.{with_holder}
+use Rattle.rgo_core.specs.moves.Regions.{with_holder}
 use Rattle.rgo_core_steps.specs.After.{Position, child_at, child_by, moving, position}
-use Rattle.rgo_core_steps.specs.Counts.{Leaving, created, created_with, sharing, tried_slot}
+use Rattle.rgo_core_steps.specs.Counts.{Leaving, created_in_slot, created_with, sharing, tried_slot}
 use Rattle.rgo_core_steps.specs.Ends.{ending}
-use Rattle.rgo_core_steps.specs.Making.{covers, filling, filling_apart, next_is_spread, next_object, next_page, stored_in, with_new_word, with_new_word_apart}
-use Rattle.rgo_core_steps.specs.Pages.{takes_page, tried_page}
-use Rattle.rgo_core_steps.proofs.SettledLaws.{settled_kept}
-use Rattle.rgo_core.specs.Claims.{claims, reserves}
+use Rattle.rgo_core_steps.specs.Making.{covers, filling, filling_apart, next_is_spread, object_to_make, next_page, stored_in, with_new_word, with_new_word_apart}
+use Rattle.rgo_core_steps.specs.Pages.{claims_or_reserves, tried_page}
+use Rattle.rgo_core_steps.proofs.record_steps.SettledLaws.{settled_kept}
+use Rattle.rgo_core.specs.moves.Claims.{claims, reserves}
 use Rattle.rgo_pages.specs.Laws.{GiveLaw, GivesTheSame}
 
 either_record : (b : Bool) (c d e : Record) → GivesTheSame c d → GivesTheSame c e → GivesTheSame c (if b then d else e)
@@ -57,7 +57,7 @@ leaves c d slot n l = ⊎_elim
     l.2
 
 fills : (T : Setup) (c : Record) (i : ℕ) → GivesTheSame c (filling T c i)
-fills T c i = by (next_object T c)
+fills T c i = by (object_to_make T c)
   where
     new : (object : Object) (f : Fill) → GivesTheSame c (with_new_word T c f object i)
     new object f = either_record (covers (words_in object) (i ∷ stored_in c.memory.make)) c _ _ (moved T.code c _ (λ p. refl)) refl
@@ -72,7 +72,7 @@ fills T c i = by (next_object T c)
     by (Some object) = on object (next_page T c)
 
 fills_apart : (T : Setup) (c : Record) (i : ℕ) → GivesTheSame c (filling_apart T c i)
-fills_apart T c i = by (next_object T c)
+fills_apart T c i = by (object_to_make T c)
   where
     by : (o : Option Object) → GivesTheSame c (option_map_or (λ (object : Object). with_new_word_apart T c object i) o c)
     by None = refl
@@ -108,9 +108,9 @@ first code c (Some p) = children code c p.w p.instr.op
 pub give_law : GiveLaw
 give_law = record {
   leave = leaves;
-  create = λ c slot n. either_record (n == 0) c (created c slot) (tried_slot c slot) (creates c slot c.frame.holder.duties) refl;
+  create = λ c slot n. either_record (n == 0) c (created_in_slot c slot) (tried_slot c slot) (creates c slot c.frame.holder.duties) refl;
   share = λ c. shares c (sharing c);
-  claim = λ T c page slot n. either_record (n == 0) c (takes_page T c page slot) (tried_page c page)
+  claim = λ T c page slot n. either_record (n == 0) c (claims_or_reserves T c page slot) (tried_page c page)
       (either_record (next_is_spread T c) c (reserves c page slot) (claims c page slot) refl refl) refl;
   hook = λ c claim. refl;
   look = λ c. refl;

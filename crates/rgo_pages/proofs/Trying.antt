@@ -7,16 +7,16 @@ use Rattle.rgo_core.specs.Rule.declared.accesses.Kind.TheVariants.{ClaimPage}
 use Rattle.rgo_core.specs.Memory.Words.{state_at}
 use Rattle.rgo_core.specs.Memory.declared.layout.TableSizes.{TableSizes}
 use Rattle.rgo_core.specs.Memory.Records.{Got}
-use Rattle.rgo_core.specs.Claims.{claims, reserves}
+use Rattle.rgo_core.specs.moves.Claims.{claims, reserves}
 use Rattle.rgo_core.specs.Core.{Setup}
-use Rattle.rgo_core.specs.Opening.{first_of}
+use Rattle.rgo_core.specs.runs.Opening.{first_of}
 use Rattle.rgo_core.specs.Records.{Record, accesses}
 use Rattle.rgo_core_steps.specs.Making.{IsCalm, RecordMakesNext, NeedsPage, next_is_spread}
-use Rattle.rgo_core_steps.specs.Pages.{takes_page, tried_page, tries_page}
+use Rattle.rgo_core_steps.specs.Pages.{claims_or_reserves, tried_page, tries_page}
 use Rattle.rgo_core_steps.specs.Searches.{Miss, TookFreePlace, Tried, missing}
-use Rattle.rgo_core_steps.specs.Seats.{Left, Settles, mine, settled}
-use Rattle.rgo_core_steps.proofs.Searching.{found_free, found_taken, took_above, took_below, took_one, tried_all, tried_one}
-use Rattle.rgo_core_steps.proofs.Settling.{settled_counts}
+use Rattle.rgo_core_steps.specs.Seats.{HasAccessed, Settles, mine, settled}
+use Rattle.rgo_core_steps.proofs.searching.Exchanges.{found_free, found_taken, took_above, took_below, took_one, tried_all, tried_one}
+use Rattle.rgo_core_steps.proofs.record_steps.Settling.{settled_counts}
 use Rattle.rgo_pages.specs.Claiming.{PageOrNone, PagesTried}
 
 -- ---- what tries leave of a record
@@ -74,14 +74,14 @@ module _ (T : Setup) (c : Record) (p s : ℕ) where
   abbrev taken_if : Bool → Record
   taken_if b = if b then reserves c p s else claims c p s
 
-  pub takes_got : (takes_page T c p s).memory.claim ≡ Got p s
+  pub takes_got : (claims_or_reserves T c p s).memory.claim ≡ Got p s
   takes_got = by (next_is_spread T c)
     where
       by : (b : Bool) → (taken_if b).memory.claim ≡ Got p s
       by true = refl
       by false = refl
 
-  pub takes_counts : accesses (takes_page T c p s) ≡ suc (accesses c)
+  pub takes_counts : accesses (claims_or_reserves T c p s) ≡ suc (accesses c)
   takes_counts = by (next_is_spread T c)
     where
       by : (b : Bool) → accesses (taken_if b) ≡ suc (accesses c)
@@ -91,21 +91,21 @@ module _ (T : Setup) (c : Record) (p s : ℕ) where
 -- ---- one exchange
 
 module _ (T : Setup) (z : TableSizes) (slot q : ℕ) (m : Me Record) (p n : ℕ) (w : Me Record) (s : Settles T q m)
-    (l : Left T ClaimPage (state_at z p) (λ n. either (n == 0) (slot + 1) n) (λ n d. d ≡ tries_page T (settled T q m) p slot n) m n w) where
+    (l : HasAccessed T ClaimPage (state_at z p) (λ n. either (n == 0) (slot + 1) n) (λ n d. d ≡ tries_page T (settled T q m) p slot n) m n w) where
   counts : accesses (settled T q m) ≡ accesses (mine T m)
   counts = settled_counts T (number_of m) q (mine T m) s
 
   pub page_tried : n ≢ 0 → Tried accesses (first_of T.code) ClaimPage (state_at z) tried_page (settled T q m) (p ∷ []) m w
   page_tried some =
       tried_one accesses (first_of T.code) ClaimPage (state_at z) tried_page (settled T q m) p n m w some
-      (found_taken accesses (first_of T.code) ClaimPage (state_at z p) (slot + 1) (takes_page T (settled T q m) p slot) (tried_page (settled T q m) p)
+      (found_taken accesses (first_of T.code) ClaimPage (state_at z p) (slot + 1) (claims_or_reserves T (settled T q m) p slot) (tried_page (settled T q m) p)
       m n w l some (ap suc counts))
 
   pub page_taken : n ≡ 0
-      → TookFreePlace accesses (first_of T.code) ClaimPage (state_at z) tried_page (settled T q m) [] p (slot + 1) (λ d. takes_page T d p slot) m w
+      → TookFreePlace accesses (first_of T.code) ClaimPage (state_at z) tried_page (settled T q m) [] p (slot + 1) (λ d. claims_or_reserves T d p slot) m w
   page_taken none =
-      took_one accesses (first_of T.code) ClaimPage (state_at z) tried_page (settled T q m) p (slot + 1) (λ d. takes_page T d p slot) m w
-      (found_free accesses (first_of T.code) ClaimPage (state_at z p) (slot + 1) (takes_page T (settled T q m) p slot) (tried_page (settled T q m) p)
+      took_one accesses (first_of T.code) ClaimPage (state_at z) tried_page (settled T q m) p (slot + 1) (λ d. claims_or_reserves T d p slot) m w
+      (found_free accesses (first_of T.code) ClaimPage (state_at z p) (slot + 1) (claims_or_reserves T (settled T q m) p slot) (tried_page (settled T q m) p)
       m n w l none (takes_counts T (settled T q m) p slot ∙ ap suc counts))
 
 -- ---- after the first exchange
@@ -116,7 +116,7 @@ module _ (T : Setup) (z : TableSizes) (slot : ℕ) (c : Record) (start : ℕ) (l
   then_above s w t = (
     t.1,
     took_above accesses (first_of T.code) ClaimPage (state_at z) tried_page c z.pages start low m v (start + 1) (add-one start) first
-        s (slot + 1) (λ d. takes_page T d s slot) w t.0 t.1 t.2,
+        s (slot + 1) (λ d. claims_or_reserves T d s slot) w t.0 t.1 t.2,
   )
 
   pub then_below : (u : Me Record) → PagesTried T z slot (start + 1) z.pages (mine T v) None v u
@@ -126,5 +126,5 @@ module _ (T : Setup) (z : TableSizes) (slot : ℕ) (c : Record) (start : ℕ) (l
   then_below u above (Some s) w t = (
     (let l = t.1 in omega (arith, l, low)),
     took_below accesses (first_of T.code) ClaimPage (state_at z) tried_page c z.pages start low m v (start + 1) (add-one start) first u above
-        s (slot + 1) (λ d. takes_page T d s slot) w t.1 t.2,
+        s (slot + 1) (λ d. claims_or_reserves T d s slot) w t.1 t.2,
   )

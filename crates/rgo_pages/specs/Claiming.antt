@@ -5,15 +5,15 @@ use Rattle.rgo_core.specs.Rule.Passes.{ChangesNothingBy}
 use Rattle.rgo_core.specs.Rule.Views.{Me, number_of}
 use Rattle.rgo_core.specs.Rule.declared.accesses.Access.{Access}
 use Rattle.rgo_core.specs.Rule.declared.accesses.Kind.TheVariants.{ClaimPage, HangPage, LinkPage}
-use Rattle.rgo_core.specs.Memory.Pages.{times}
+use Rattle.rgo_core.specs.Memory.Pages.{occurrences}
 use Rattle.rgo_core.specs.Memory.Records.{Idle, with_claim}
 use Rattle.rgo_core.specs.Memory.Words.{head_at, next_at, state_at}
 use Rattle.rgo_core.specs.Memory.declared.layout.TableSizes.{TableSizes}
 use Rattle.rgo_core.specs.Core.{Setup}
-use Rattle.rgo_core.specs.Opening.{first_of}
+use Rattle.rgo_core.specs.runs.Opening.{first_of}
 use Rattle.rgo_core.specs.Records.{Record, accessed, accesses}
 use Rattle.rgo_core_steps.specs.Grown.{Found, SeatGrew, Made}
-use Rattle.rgo_core_steps.specs.Pages.{takes_page, tried_page}
+use Rattle.rgo_core_steps.specs.Pages.{claims_or_reserves, tried_page}
 use Rattle.rgo_core_steps.specs.Searches.{AreTaken, Miss, TookFreePlace, TookOne, Tried, TriedAll, around, misses, missing, places_of, upward}
 use Rattle.rgo_core_steps.specs.Seats.{mine}
 
@@ -21,7 +21,7 @@ use Rattle.rgo_core_steps.specs.Seats.{mine}
 -- that of this page 0, and has claimed it for this slot, as an own page or as one of a spread object, and all before it in use.
 abbrev pub PageTaken : Setup → TableSizes → (slot : ℕ) → (c : Record) → (page : ℕ) → (m w : Me Record) → Type 0
 PageTaken T z s c p m w =
-    TookOne accesses (first_of T.code) ClaimPage (state_at z) tried_page c z.pages p (s + 1) (λ d. takes_page T d p s) m w
+    TookOne accesses (first_of T.code) ClaimPage (state_at z) tried_page c z.pages p (s + 1) (λ d. claims_or_reserves T d p s) m w
 
 -- it has exchanged the state of each page once, and found each in use
 abbrev pub AllPagesTried : Setup → TableSizes → (c : Record) → (m w : Me Record) → Type 0
@@ -37,13 +37,13 @@ abbrev pub PagesTried : Setup → TableSizes → (slot first end : ℕ) → (c :
 PagesTried T z s first end c None m w =
     Tried accesses (first_of T.code) ClaimPage (state_at z) tried_page c (upward first (end - first)) m w
 PagesTried T z s first end c (Some p) m w = (first ≤ p) × (p < end)
-    × TookFreePlace accesses (first_of T.code) ClaimPage (state_at z) tried_page c (upward first (p - first)) p (s + 1) (λ d. takes_page T d p s) m w
+    × TookFreePlace accesses (first_of T.code) ClaimPage (state_at z) tried_page c (upward first (p - first)) p (s + 1) (λ d. claims_or_reserves T d p s) m w
 
 -- the record after a page is claimed for a slot, hung on its chain and linked
 abbrev pub has_claimed : Setup → Record → (page slot : ℕ) → Record
-has_claimed T c p s = record (takes_page T c p s) {
-  clock = accessed (accessed (takes_page T c p s).clock);
-  memory = with_claim (takes_page T c p s).memory Idle;
+has_claimed T c p s = record (claims_or_reserves T c p s) {
+  clock = accessed (accessed (claims_or_reserves T c p s).clock);
+  memory = with_claim (claims_or_reserves T c p s).memory Idle;
 }
 
 -- the goroutine has put the page at the head of the chain of the slot, where it found `head`, and has stored that as its next word
@@ -82,7 +82,7 @@ pub record FullPages (T : Setup) (z : TableSizes) (c : Record) (m w : Me Record)
   pub made : accesses_by (number_of m) es ≡ z.pages
   pub still : ChangesNothingBy (number_of m) es
   pub found : (p : ℕ) → p < z.pages → (n : ℕ) × (n ≢ 0) × Found (number_of m) es ClaimPage (state_at z p) n
-  pub remembered : (p : ℕ) → p < z.pages → 0 < times p (mine T w).memory.tried_pages
+  pub remembered : (p : ℕ) → p < z.pages → 0 < occurrences p (mine T w).memory.tried_pages
 
 abbrev pub FullPagesLaw : Type 0
 FullPagesLaw = (T : Setup) (z : TableSizes) (c : Record) (m w : Me Record) → AllPagesTried T z c m w → FullPages T z c m w

@@ -3,17 +3,17 @@ use Rattle.std.specs.Prelude.{◌≡◌, ◌≢◌, ◌⊎◌, ◌<◌, ℕ, suc
 use Rattle.rgo_sound.specs.Code.Code.{Code}
 use Rattle.rgo_sound.specs.RegionMachine.Machine.{Event}
 use Rattle.rgo_sound.specs.RegionMachine.States.{Mark}
-use Rattle.rgo_core.specs.Channels.Records.{Rec as SideRec}
+use Rattle.rgo_core.specs.Channels.Records.{ChannelRec as SideRec}
 use Rattle.rgo_core.specs.Memory.Records.{Calm, PageClaim, ClosesSlot, Owes, Past, with_claim}
 use Rattle.rgo_core.specs.Memory.Words.{count_at, state_at}
-use Rattle.rgo_core.specs.Accesses.{locates, measures}
-use Rattle.rgo_core.specs.AtChannels.{knows}
-use Rattle.rgo_core.specs.Chains.{remembers}
-use Rattle.rgo_core.specs.CommitMoves.{offers}
+use Rattle.rgo_core.specs.moves.Cells.{locates, measures}
+use Rattle.rgo_core.specs.ties.AtChannels.{knows}
+use Rattle.rgo_core.specs.moves.Chains.{remembers}
+use Rattle.rgo_core.specs.moves.Commits.{offers}
 use Rattle.rgo_core.specs.Core.{Core, Setup, layout}
 use Rattle.rgo_core.specs.Records.{Record, looked}
 use Rattle.rgo_core_steps.specs.After.{acknowledging, acting, child, committing, printing, starting}
-use Rattle.rgo_core_steps.specs.Counts.{Leaving, shared, tries_slot}
+use Rattle.rgo_core_steps.specs.Counts.{Leaving, shared_record, tries_slot}
 use Rattle.rgo_core_steps.specs.Ends.{ending}
 use Rattle.rgo_core_steps.specs.Making.{filling, filling_apart}
 use Rattle.rgo_core_steps.specs.Pages.{tries_page}
@@ -49,7 +49,7 @@ pub record GiveLaw : Type 0 where
       → ((n ≡ 2) × (d.memory.give ≡ Owes slot)) ⊎ ((n ≢ 2) × GivesTheSame c d)
   -- no other access does
   pub create : (c : Record) (slot n : ℕ) → GivesTheSame c (tries_slot c slot n)
-  pub share : (c : Record) → GivesTheSame c (shared c)
+  pub share : (c : Record) → GivesTheSame c (shared_record c)
   pub claim : (T : Setup) (c : Record) (page slot n : ℕ) → GivesTheSame c (tries_page T c page slot n)
   pub hook : (c : Record) (claim : PageClaim) → GivesTheSame c (remembers c (with_claim c.memory claim))
   pub look : (c : Record) → GivesTheSame c (looked c)

@@ -7,9 +7,9 @@ use Rattle.rgo_core.specs.Rule.declared.accesses.Kind.TheVariants.{ClearHead, Fr
 use Rattle.rgo_core.specs.Memory.Records.{Gave, Giving, Past, with_give}
 use Rattle.rgo_core.specs.Memory.Words.{head_at, next_at, state_at}
 use Rattle.rgo_core.specs.Memory.declared.layout.TableSizes.{TableSizes}
-use Rattle.rgo_core.specs.Chains.{frees, remembers}
+use Rattle.rgo_core.specs.moves.Chains.{frees, remembers}
 use Rattle.rgo_core.specs.Core.{Setup}
-use Rattle.rgo_core.specs.Opening.{first_of}
+use Rattle.rgo_core.specs.runs.Opening.{first_of}
 use Rattle.rgo_core.specs.Records.{Record, accesses}
 use Rattle.rgo_core_steps.specs.Grown.{Made}
 

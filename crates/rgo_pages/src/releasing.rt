@@ -6,8 +6,8 @@
 //! has the slot before it is freed. Only pages that were freed may be claimed again, for other slots. Why: docs/DECISIONS.md,
 //! "Counts and pages as words".
 ghost use Rattle.std.specs.Prelude.{◌≡◌, ◌<◌, ◌≤◌, ◌+◌, ◌*◌, ℕ, suc, [], ◌∷◌};
-ghost use Rattle.rgo_core.specs.Opening.{first_of};
-ghost use Rattle.rgo_core.specs.Plans.{setup_of};
+ghost use Rattle.rgo_core.specs.runs.Opening.{first_of};
+ghost use Rattle.rgo_core.specs.runs.Plans.{setup_of};
 ghost use Rattle.rgo_core.specs.Records.{accesses};
 ghost use Rattle.rgo_core.specs.Memory.Records.{Giving, Owes};
 ghost use Rattle.rgo_core_steps.specs.Grown.{Made};

@@ -10,7 +10,7 @@ use Rattle.rgo_lexer.specs.declared.terminals.Terminal.{Terminal}
 use Rattle.rgo_lexer.specs.declared.terminals.Terminal.TheVariants.{Name, New, Make, Number, Text, Binary, Bang, Ampersand, Arrow, OpenParen, CloseParen, OpenBracket, CloseBracket, OpenBrace, CloseBrace, Comma, Dot, Chan}
 use Rattle.rgo_lexer.specs.Lexemes.{Leaf, Lexeme, tok, ident}
 use Rattle.rgo_grammar.specs.Grammar.{level}
-use Rattle.rgo_grammar.specs.reading.Read.{Read, Done, Failed, Starving, ◌>>=◌, given, first_of, token, single, ended, listed, several}
+use Rattle.rgo_grammar.specs.reading.Read.{Read, Done, Failed, Starving, ◌>>=◌, yielding, next_lexeme, token, single, list_rest, listed, several}
 use Rattle.rgo_grammar.specs.reading.Types.{a_type}
 use Rattle.rgo_grammar.specs.reading.Expressions as r
 use Rattle.rgo_reader.specs.Agrees.{leaf_at}
@@ -55,7 +55,7 @@ climb_by_is right again least a _ i l m = refl
 
 climb_is : (right : ℕ → List Lexeme → Read tree.Expr) (again : tree.Expr → List Lexeme → Read tree.Expr) (least : ℕ) (a : tree.Expr)
     (l : List Lexeme)
-    → r.climb_on right again least a l (first_of l) ≡ (parts.operator least l >>= climbed right again a)
+    → r.climb_on right again least a l (next_lexeme l) ≡ (parts.operator least l >>= climbed right again a)
 climb_is right again least a [] = refl
 climb_is right again least a (t ∷ l) = climb_by_is right again least a t.terminal t.leaf (t ∷ l) l
 
@@ -99,58 +99,58 @@ unary_by_is header n inner again primary Ampersand i l m = literal_if_is header 
 unary_by_is header n inner again primary _ i l m = refl
 
 unary_is : (header : Bool) (n : ℕ) (inner again primary : List Lexeme → Read tree.Expr) (l : List Lexeme)
-    → r.unary_on header n inner again primary l (first_of l) ≡ (parts.read_prefix header l >>= unary_after n inner again primary)
+    → r.unary_on header n inner again primary l (next_lexeme l) ≡ (parts.read_prefix header l >>= unary_after n inner again primary)
 unary_is header n inner again primary [] = refl
 unary_is header n inner again primary (t ∷ l) = unary_by_is header n inner again primary t.terminal t.leaf (t ∷ l) l
 
 -- a literal by fields, as a list of one turn more
 keyed_by : (n : ℕ) (inner : List Lexeme → Read tree.Expr) (i j : Leaf) (e : Read (Ident × tree.Expr))
-    → (e >>= λ a w. ended Comma CloseBrace (r.elements_from n inner) (a ∷ []) w >>= given (λ x. tree.Keyed (ident j) (tree.elements_of x.0) i.at))
-    ≡ ((single e >>= λ a. ended Comma CloseBrace (r.elements_from n inner) ([] ++ a)) >>= given (λ x. tree.Keyed (ident j) (tree.elements_of x.0) i.at))
+    → (e >>= λ a w. list_rest Comma CloseBrace (r.elements_from n inner) (a ∷ []) w >>= yielding (λ x. tree.Keyed (ident j) (tree.elements_of x.0) i.at))
+    ≡ ((single e >>= λ a. list_rest Comma CloseBrace (r.elements_from n inner) ([] ++ a)) >>= yielding (λ x. tree.Keyed (ident j) (tree.elements_of x.0) i.at))
 keyed_by n inner i j (Done a w) = refl
 keyed_by n inner i j (Failed s) = refl
 
 keyed_on : (n : ℕ) (inner : List Lexeme → Read tree.Expr) (i j : Leaf) (k : Terminal) (at : Leaf) (m : List Lexeme)
     → r.is_keyed (tok k at ∷ m) ≡ true
     → r.keyed n inner i j (tok k at ∷ m)
-    ≡ (several Comma CloseBrace (r.element inner) (suc n) [] (tok k at ∷ m) >>= given (λ x. tree.Keyed (ident j) (tree.elements_of x.0) i.at))
+    ≡ (several Comma CloseBrace (r.keyed_element inner) (suc n) [] (tok k at ∷ m) >>= yielding (λ x. tree.Keyed (ident j) (tree.elements_of x.0) i.at))
 unfolding listed several
-keyed_on n inner i j Name at m h = keyed_by n inner i j (r.element inner (tok Name at ∷ m))
+keyed_on n inner i j Name at m h = keyed_by n inner i j (r.keyed_element inner (tok Name at ∷ m))
 keyed_on n inner i j _ at m h = cc
 
 pub keyed_is : (n : ℕ) (inner : List Lexeme → Read tree.Expr) (i j : Leaf) (l : List Lexeme) → 0 < n → r.is_keyed l ≡ true
     → r.keyed (n - 1) inner i j l
-    ≡ (several Comma CloseBrace (r.element inner) n [] l >>= given (λ x. tree.Keyed (ident j) (tree.elements_of x.0) i.at))
+    ≡ (several Comma CloseBrace (r.keyed_element inner) n [] l >>= yielding (λ x. tree.Keyed (ident j) (tree.elements_of x.0) i.at))
 keyed_is n inner i j [] g h = cc
 keyed_is n inner i j (t ∷ m) g h =
     subst
     (λ k. r.keyed (n - 1) inner i j (t ∷ m)
-    ≡ (several Comma CloseBrace (r.element inner) k [] (t ∷ m) >>= given (λ x. tree.Keyed (ident j) (tree.elements_of x.0) i.at)))
+    ≡ (several Comma CloseBrace (r.keyed_element inner) k [] (t ∷ m) >>= yielding (λ x. tree.Keyed (ident j) (tree.elements_of x.0) i.at)))
     (sym (turn n g)) (keyed_on (n - 1) inner i j t.terminal t.leaf m h)
 
 -- Operands.
 
 abbrev pub operand_after : (List Lexeme → Read tree.Expr) → parts.Opening → List Lexeme → Read tree.Expr
 operand_after inner (parts.Whole v) l = Done v l
-operand_after inner (parts.Open b) l = inner l >>= parts.closing b
+operand_after inner (parts.Open b) l = inner l >>= parts.operand_closing b
 
 capacity_is : (inner : List Lexeme → Read tree.Expr) (t : tree.TypeExpr) (i : Leaf) (l : List Lexeme)
-    → r.capacity inner t i l ≡ (parts.capacity i t l >>= operand_after inner)
+    → r.capacity inner t i l ≡ (parts.capacity_opening i t l >>= operand_after inner)
 capacity_is inner t i [] = refl
 capacity_is inner t i (x ∷ l) = by_terminal inner t i x.terminal (x ∷ l) l
   where
     by_terminal : (inner : List Lexeme → Read tree.Expr) (t : tree.TypeExpr) (i : Leaf) (k : Terminal) (l m : List Lexeme)
-        → r.capacity_by inner t i k l m ≡ (parts.capacity_by t i k l m >>= operand_after inner)
+        → r.capacity_by inner t i k l m ≡ (parts.capacity_opening_by t i k l m >>= operand_after inner)
     by_terminal inner t i CloseParen l m = refl
     by_terminal inner t i _ l m = refl
 
 sized_is : (inner : List Lexeme → Read tree.Expr) (t : tree.TypeExpr) (i : Leaf) (l : List Lexeme)
-    → r.sized inner t i l ≡ (parts.sized i t l >>= operand_after inner)
+    → r.sized_chan inner t i l ≡ (parts.sized_opening i t l >>= operand_after inner)
 sized_is inner t i [] = refl
 sized_is inner t i (x ∷ l) = by_terminal inner t i x.terminal (x ∷ l) l
   where
     by_terminal : (inner : List Lexeme → Read tree.Expr) (t : tree.TypeExpr) (i : Leaf) (k : Terminal) (l m : List Lexeme)
-        → r.sized_by inner t i k l m ≡ (parts.sized_by t i k l m >>= operand_after inner)
+        → r.sized_chan_by inner t i k l m ≡ (parts.sized_opening_by t i k l m >>= operand_after inner)
     by_terminal inner t i CloseParen l m = refl
     by_terminal inner t i Comma l m = capacity_is inner t i m
     by_terminal inner t i _ l m = refl
@@ -160,7 +160,7 @@ slice_is : (inner : List Lexeme → Read tree.Expr) (t : tree.TypeExpr) (i : Lea
 slice_is inner t i l = joined (token Comma l) _ _
 
 made_by_is : (n : ℕ) (inner : List Lexeme → Read tree.Expr) (i : Leaf) (k : Terminal) (l m : List Lexeme)
-    → r.made_by n inner i k l m ≡ (parts.made_by n i k l m >>= operand_after inner)
+    → r.make_args_by n inner i k l m ≡ (parts.make_opening_by n i k l m >>= operand_after inner)
 made_by_is n inner i OpenBracket l m =
     same_after (token CloseBracket m) _ _
     (λ _ w. same_after (a_type n w) _ _ (λ t u. slice_is inner t i u) ∙ joined (a_type n w) _ _)
@@ -169,7 +169,7 @@ made_by_is n inner i Chan l m = same_after (a_type n m) _ _ (λ t w. sized_is in
 made_by_is n inner i _ l m = refl
 
 made_is : (n : ℕ) (inner : List Lexeme → Read tree.Expr) (i : Leaf) (l : List Lexeme)
-    → r.made n inner i l ≡ (parts.made n i l >>= operand_after inner)
+    → r.make_args n inner i l ≡ (parts.make_opening n i l >>= operand_after inner)
 made_is n inner i [] = refl
 made_is n inner i (x ∷ l) = made_by_is n inner i x.terminal (x ∷ l) l
 
@@ -178,7 +178,7 @@ whole_is inner (Done v w) = refl
 whole_is inner (Failed s) = refl
 
 operand_by_is : (n : ℕ) (inner : List Lexeme → Read tree.Expr) (k : Terminal) (i : Leaf) (l m : List Lexeme)
-    → r.operand_by n inner k i l m ≡ (parts.opening_by n k i l m >>= operand_after inner)
+    → r.operand_by n inner k i l m ≡ (parts.operand_opening_by n k i l m >>= operand_after inner)
 operand_by_is n inner New i l m = whole_is inner (r.new_at i m)
 operand_by_is n inner Make i l m =
     same_after (token OpenParen m) _ _ (λ _ w. made_is n inner i w) ∙ joined (token OpenParen m) _ _
@@ -189,7 +189,7 @@ operand_by_is n inner OpenParen i l m = refl
 operand_by_is n inner _ i l m = refl
 
 pub operand_is : (n : ℕ) (inner : List Lexeme → Read tree.Expr) (l : List Lexeme)
-    → r.operand n inner l ≡ (parts.opening n l >>= operand_after inner)
+    → r.operand n inner l ≡ (parts.operand_opening n l >>= operand_after inner)
 operand_is n inner [] = refl
 operand_is n inner (t ∷ l) = operand_by_is n inner t.terminal t.leaf (t ∷ l) l
 
@@ -212,7 +212,7 @@ post_by_is n inner again v _ i l m = refl
 
 post_is : (n : ℕ) (inner : List Lexeme → Read tree.Expr) (again : tree.Expr → List Lexeme → Read tree.Expr) (v : tree.Expr)
     (l : List Lexeme)
-    → r.post_on n inner again v l (first_of l) ≡ (parts.read_suffix l >>= post_after n inner again v)
+    → r.post_on n inner again v l (next_lexeme l) ≡ (parts.read_suffix l >>= post_after n inner again v)
 post_is n inner again v [] = refl
 post_is n inner again v (t ∷ l) = post_by_is n inner again v t.terminal t.leaf (t ∷ l) l
 

@@ -3,8 +3,8 @@ use Rattle.std.proofs.Common.{◌≡◌, ℕ, ◌-◌, ◌<◌, Bool, true, fals
 use Rattle.std.proofs.lemmas.List.{map-append, append-nil}
 use Rattle.rgo_lexer.specs.declared.terminals.Terminal.{Terminal}
 use Rattle.rgo_lexer.specs.Lexemes.{Leaf, Lexeme, is_same_terminal}
-use Rattle.rgo_grammar.specs.reading.Read.{Read, Done, Failed, Starving, At, ◌>>=◌, single, ended, listed, several}
-use Rattle.rgo_reader.specs.Lists.{closes, separated}
+use Rattle.rgo_grammar.specs.reading.Read.{Read, Done, Failed, Starving, At, ◌>>=◌, single, list_rest, listed, several}
+use Rattle.rgo_reader.specs.Lists.{closes, after_item}
 use Rattle.rgo_reader.proofs.TypeTurns.{turn}
 
 -- after an item
@@ -20,41 +20,41 @@ ended_by again found t m l false true = refl
 ended_by again found t m l false false = refl
 
 pub ended_is : {A : Type 0} (separator closer : Terminal) (again : List A → List Lexeme → Read (List A × Leaf)) (found : List A) (l : List Lexeme)
-    → ended separator closer again found l ≡ (separated separator closer l >>= closed_or again found)
+    → list_rest separator closer again found l ≡ (after_item separator closer l >>= closed_or again found)
 ended_is separator closer again found [] = refl
 ended_is separator closer again found (t ∷ m) = ended_by again found t m (t ∷ m) (is_same_terminal closer t.terminal) (is_same_terminal separator t.terminal)
 
 -- before an item: the end of the list, or the item and what comes after it
 abbrev pub lists_from : {A : Type 0} → Terminal → Terminal → (List Lexeme → Read (List A)) → (List A → List Lexeme → Read (List A × Leaf)) → List A
     → Option Leaf → List Lexeme → Read (List A × Leaf)
-lists_from separator closer item again found None w = item w >>= λ a u. separated separator closer u >>= closed_or again (found ++ a)
+lists_from separator closer item again found None w = item w >>= λ a u. after_item separator closer u >>= closed_or again (found ++ a)
 lists_from separator closer item again found (Some j) w = Done (found, j) w
 
 abbrev pub items_from : {A : Type 0} → Terminal → Terminal → (List Lexeme → Read A) → (List A → List Lexeme → Read (List A × Leaf)) → List A
     → Option Leaf → List Lexeme → Read (List A × Leaf)
-items_from separator closer item again found None w = item w >>= λ a u. separated separator closer u >>= closed_or again (found ++ a ∷ [])
+items_from separator closer item again found None w = item w >>= λ a u. after_item separator closer u >>= closed_or again (found ++ a ∷ [])
 items_from separator closer item again found (Some j) w = Done (found, j) w
 
 lists_by : {A : Type 0} (separator closer : Terminal) (r : Read (List A)) (again : List A → List Lexeme → Read (List A × Leaf)) (found : List A)
-    → (r >>= λ a. ended separator closer again (found ++ a)) ≡ (r >>= λ a w. separated separator closer w >>= closed_or again (found ++ a))
+    → (r >>= λ a. list_rest separator closer again (found ++ a)) ≡ (r >>= λ a w. after_item separator closer w >>= closed_or again (found ++ a))
 lists_by separator closer (Done a w) again found = ended_is separator closer again (found ++ a) w
 lists_by separator closer (Failed s) again found = refl
 
 items_by : {A : Type 0} (separator closer : Terminal) (r : Read A) (again : List A → List Lexeme → Read (List A × Leaf)) (found : List A)
-    → (single r >>= λ a. ended separator closer again (found ++ a)) ≡ (r >>= λ a w. separated separator closer w >>= closed_or again (found ++ a ∷ []))
+    → (single r >>= λ a. list_rest separator closer again (found ++ a)) ≡ (r >>= λ a w. after_item separator closer w >>= closed_or again (found ++ a ∷ []))
 items_by separator closer (Done a w) again found = ended_is separator closer again (found ++ a ∷ []) w
 items_by separator closer (Failed s) again found = refl
 
 closes_by : {A : Type 0} (separator closer : Terminal) (item : List Lexeme → Read (List A)) (again : List A → List Lexeme → Read (List A × Leaf))
     (found : List A) (t : Lexeme) (m l : List Lexeme) (c : Bool)
-    → cond c (Done (found, t.leaf) m) (item l >>= λ a w. separated separator closer w >>= closed_or again (found ++ a))
+    → cond c (Done (found, t.leaf) m) (item l >>= λ a w. after_item separator closer w >>= closed_or again (found ++ a))
     ≡ (cond c (Done (Some t.leaf) m) (Done None l) >>= lists_from separator closer item again found)
 closes_by separator closer item again found t m l true = refl
 closes_by separator closer item again found t m l false = refl
 
 closes_items_by : {A : Type 0} (separator closer : Terminal) (item : List Lexeme → Read A) (again : List A → List Lexeme → Read (List A × Leaf))
     (found : List A) (t : Lexeme) (m l : List Lexeme) (c : Bool)
-    → cond c (Done (found, t.leaf) m) (item l >>= λ a w. separated separator closer w >>= closed_or again (found ++ a ∷ []))
+    → cond c (Done (found, t.leaf) m) (item l >>= λ a w. after_item separator closer w >>= closed_or again (found ++ a ∷ []))
     ≡ (cond c (Done (Some t.leaf) m) (Done None l) >>= items_from separator closer item again found)
 closes_items_by separator closer item again found t m l true = refl
 closes_items_by separator closer item again found t m l false = refl

@@ -5,16 +5,16 @@ use Rattle.rgo_ast.specs.Views.{expr_of, boxed_expr_of, boxed_stmt_of}
 use Rattle.rgo_lexer.specs.declared.terminals.Terminal.{Terminal}
 use Rattle.rgo_lexer.specs.declared.terminals.Terminal.TheVariants.{OpenBrace}
 use Rattle.rgo_lexer.specs.Lexemes.{Lexeme}
-use Rattle.rgo_grammar.specs.reading.Read.{Read, Done, Failed, At, ◌>>=◌, given, first_of}
+use Rattle.rgo_grammar.specs.reading.Read.{Read, Done, Failed, At, ◌>>=◌, yielding, next_lexeme}
 use Rattle.rgo_grammar.specs.reading.Statements as reading
 use Rattle.rgo_parser.specs.declared.headers.Head.{Head}
 use Rattle.rgo_parser.specs.declared.headers.Head.TheVariants as head
 use Rattle.rgo_parser.specs.declared.headers.IfHeader.{IfHeader}
 use Rattle.rgo_parser.specs.declared.headers.ForHeader.{ForHeader}
 
-abbrev pub head_of : Head → reading.Head
-head_of (head.Condition e) = reading.condition (expr_of e.value)
-head_of (head.Init s) = reading.init (boxed_stmt_of s)
+abbrev pub reading_head_of : Head → reading.Head
+reading_head_of (head.Condition e) = reading.condition (expr_of e.value)
+reading_head_of (head.Init s) = reading.init (boxed_stmt_of s)
 
 -- a header of an `if` as data: the statement before the `;`, if any, and the condition
 abbrev pub if_of : IfHeader → Option Stmt × Expr
@@ -32,26 +32,26 @@ for_parts s c p = (s, c, p)
 
 -- Below, `value` reads an expression of a header.
 
-abbrev pub if_rest : (List Lexeme → Read Expr) → reading.Head → List Lexeme → Read (Option Stmt × Expr)
-if_rest value (reading.condition c) l = Done (None, c) l
-if_rest value (reading.init s) l = value l >>= given (if_parts s)
+abbrev pub if_header_rest : (List Lexeme → Read Expr) → reading.Head → List Lexeme → Read (Option Stmt × Expr)
+if_header_rest value (reading.condition c) l = Done (None, c) l
+if_header_rest value (reading.init s) l = value l >>= yielding (if_parts s)
 
 abbrev pub if_header : (List Lexeme → Read Expr) → List Lexeme → Read (Option Stmt × Expr)
-if_header value l = reading.head value l >>= if_rest value
+if_header value l = reading.head value l >>= if_header_rest value
 
-abbrev pub for_rest : (List Lexeme → Read Expr) → reading.Head → List Lexeme → Read (Option Stmt × Option Expr × Option Stmt)
-for_rest value (reading.condition c) l = Done (None, Some c, None) l
-for_rest value (reading.init s) l =
-    reading.condition_on value l (first_of l) >>= λ c w. reading.step_on value w (first_of w) >>= given (for_parts s c)
+abbrev pub for_header_rest : (List Lexeme → Read Expr) → reading.Head → List Lexeme → Read (Option Stmt × Option Expr × Option Stmt)
+for_header_rest value (reading.condition c) l = Done (None, Some c, None) l
+for_header_rest value (reading.init s) l =
+    reading.condition_on value l (next_lexeme l) >>= λ c w. reading.post_stmt_on value w (next_lexeme w) >>= yielding (for_parts s c)
 
-abbrev pub for_by : (List Lexeme → Read Expr) → Terminal → List Lexeme → Read (Option Stmt × Option Expr × Option Stmt)
-for_by value OpenBrace l = Done (None, None, None) l
-for_by value _ l = reading.head value l >>= for_rest value
+abbrev pub for_header_by : (List Lexeme → Read Expr) → Terminal → List Lexeme → Read (Option Stmt × Option Expr × Option Stmt)
+for_header_by value OpenBrace l = Done (None, None, None) l
+for_header_by value _ l = reading.head value l >>= for_header_rest value
 
-abbrev pub for_on : (List Lexeme → Read Expr) → List Lexeme → Option (Lexeme × List Lexeme)
+abbrev pub for_header_on : (List Lexeme → Read Expr) → List Lexeme → Option (Lexeme × List Lexeme)
     → Read (Option Stmt × Option Expr × Option Stmt)
-for_on value l None = Failed (At l)
-for_on value l (Some x) = for_by value x.0.terminal l
+for_header_on value l None = Failed (At l)
+for_header_on value l (Some x) = for_header_by value x.0.terminal l
 
 abbrev pub for_header : (List Lexeme → Read Expr) → List Lexeme → Read (Option Stmt × Option Expr × Option Stmt)
-for_header value l = for_on value l (first_of l)
+for_header value l = for_header_on value l (next_lexeme l)

@@ -1,4 +1,4 @@
--- What `parse` decides about a list of lexemes: `IsParsed`, or `Refuses` with the first lexeme that is wrong. The number of a lexeme
+-- What `parse` decides about a list of lexemes: `IsParsed`, or `RefusesLexemes` with the first lexeme that is wrong. The number of a lexeme
 -- counts those before it; the number of all lexemes means the end of the text.
 use Rattle.std.specs.Prelude.{◌≡◌, ℕ, ◌+◌, List, take, None, Some}
 use Rattle.rgo_ast.specs.Tree.{Program}
@@ -31,11 +31,11 @@ pub record IsTooDeep (lexemes : List Lexeme) (k : ℕ) : Type 0 where
   pub deep : deep_at limit lexemes ≡ Some k
   pub begun : Begins (take (k + 1) lexemes)
 
-abbrev pub Refuses : List Lexeme → ParseRefusal → Type 0
-Refuses lexemes (refusal.Syntax at) = IsSyntax lexemes at
-Refuses lexemes (refusal.TooDeep at) = IsTooDeep lexemes at
+abbrev pub RefusesLexemes : List Lexeme → ParseRefusal → Type 0
+RefusesLexemes lexemes (refusal.Syntax at) = IsSyntax lexemes at
+RefusesLexemes lexemes (refusal.TooDeep at) = IsTooDeep lexemes at
 
 -- what an error means: it is a refusal of the lexemes, unless memory ran out
 abbrev pub Fails : List Lexeme → ParseError → Type 0
 Fails lexemes error.NoMemory = Unit {0}
-Fails lexemes (error.Refused r) = Refuses lexemes r
+Fails lexemes (error.Refused r) = RefusesLexemes lexemes r

@@ -7,7 +7,7 @@ use Rattle.rgo_ast.specs.Views.{stmt_of}
 use Rattle.rgo_lexer.specs.declared.terminals.Terminal.{Terminal}
 use Rattle.rgo_lexer.specs.declared.terminals.Terminal.TheVariants.{OpenBrace, Semicolon, Var, Go, If, Else, For, Return, Break, Continue}
 use Rattle.rgo_lexer.specs.Lexemes.{Leaf, Lexeme}
-use Rattle.rgo_grammar.specs.reading.Read.{Read, Done, Failed, At, ◌>>=◌, given, first_of}
+use Rattle.rgo_grammar.specs.reading.Read.{Read, Done, Failed, At, ◌>>=◌, yielding, next_lexeme}
 use Rattle.rgo_grammar.specs.reading.Expressions.{expr}
 use Rattle.rgo_grammar.specs.reading.Statements as reading
 use Rattle.rgo_parser.specs.declared.openings.Leading.{Leading as CodeLeading}
@@ -44,44 +44,44 @@ leading_of (code_leading.Block at) = Block at
 leading_of (code_leading.If at) = IfAt at
 leading_of (code_leading.For at) = ForAt at
 
-abbrev pub one : Stmt → Leading
-one s = Whole (s ∷ [])
+abbrev pub one_leading : Stmt → Leading
+one_leading s = Whole (s ∷ [])
 
 abbrev pub leading_by : ℕ → Terminal → Leaf → List Lexeme → List Lexeme → Read Leading
 leading_by n OpenBrace i l m = Done (Block i.at) m
 leading_by n If i l m = Done (IfAt i.at) m
 leading_by n For i l m = Done (ForAt i.at) m
-leading_by n Go i l m = reading.going n (expr false n 1) i m >>= given one
-leading_by n Var i l m = reading.vars n (expr false n 1) i m >>= given one
-leading_by n Return i l m = reading.return_on (expr false n 1) i m (first_of m) >>= given one
-leading_by n Break i l m = Done (one (tree.Break i.at)) m
-leading_by n Continue i l m = Done (one (tree.Continue i.at)) m
+leading_by n Go i l m = reading.going n (expr false n 1) i m >>= yielding one_leading
+leading_by n Var i l m = reading.vars n (expr false n 1) i m >>= yielding one_leading
+leading_by n Return i l m = reading.return_on (expr false n 1) i m (next_lexeme m) >>= yielding one_leading
+leading_by n Break i l m = Done (one_leading (tree.Break i.at)) m
+leading_by n Continue i l m = Done (one_leading (tree.Continue i.at)) m
 leading_by n Semicolon i l m = Done (Whole []) l
-leading_by n _ i l m = reading.defining (expr false n 1) l >>= given one
+leading_by n _ i l m = reading.defining (expr false n 1) l >>= yielding one_leading
 
 abbrev pub leading_on : ℕ → List Lexeme → Option (Lexeme × List Lexeme) → Read Leading
 leading_on n l None = Failed (At l)
 leading_on n l (Some x) = leading_by n x.0.terminal x.0.leaf l x.1
 
 abbrev pub leading : ℕ → List Lexeme → Read Leading
-leading n l = leading_on n l (first_of l)
+leading n l = leading_on n l (next_lexeme l)
 
 -- after the block of an `if`
-abbrev pub else_body_by : Terminal → Leaf → List Lexeme → List Lexeme → Read CodeElse
-else_body_by If i l m = Done (code_else.If i.at) m
-else_body_by _ i l m = Done (code_else.Block i.at) l
+abbrev pub after_else_by : Terminal → Leaf → List Lexeme → List Lexeme → Read CodeElse
+after_else_by If i l m = Done (code_else.If i.at) m
+after_else_by _ i l m = Done (code_else.Block i.at) l
 
-abbrev pub else_body_on : List Lexeme → Option (Lexeme × List Lexeme) → Read CodeElse
-else_body_on l None = Failed (At l)
-else_body_on l (Some x) = else_body_by x.0.terminal x.0.leaf l x.1
+abbrev pub after_else_on : List Lexeme → Option (Lexeme × List Lexeme) → Read CodeElse
+after_else_on l None = Failed (At l)
+after_else_on l (Some x) = after_else_by x.0.terminal x.0.leaf l x.1
 
-abbrev pub else_by : Terminal → List Lexeme → List Lexeme → Read CodeElse
-else_by Else l m = else_body_on m (first_of m)
-else_by _ l m = Done code_else.None l
+abbrev pub else_word_by : Terminal → List Lexeme → List Lexeme → Read CodeElse
+else_word_by Else l m = after_else_on m (next_lexeme m)
+else_word_by _ l m = Done code_else.None l
 
-abbrev pub else_on : List Lexeme → Option (Lexeme × List Lexeme) → Read CodeElse
-else_on l None = Done code_else.None l
-else_on l (Some x) = else_by x.0.terminal l x.1
+abbrev pub else_word_on : List Lexeme → Option (Lexeme × List Lexeme) → Read CodeElse
+else_word_on l None = Done code_else.None l
+else_word_on l (Some x) = else_word_by x.0.terminal l x.1
 
 abbrev pub else_word : List Lexeme → Read CodeElse
-else_word l = else_on l (first_of l)
+else_word l = else_word_on l (next_lexeme l)

@@ -4,7 +4,7 @@ ghost use Rattle.std.specs.Prelude.{◌≡◌, option_map};
 ghost use Rattle.rgo_ast.specs.Views.{type_expr_of, binding_of, type_spec_of, function_of, decl_of, import_of};
 ghost use Rattle.rgo_ast.specs.Tree as tree;
 ghost use Rattle.rgo_ast.specs.declared.names.ImportPath.{ImportPath};
-ghost use Rattle.rgo_grammar.specs.reading.Read.{first_of};
+ghost use Rattle.rgo_grammar.specs.reading.Read.{next_lexeme};
 ghost use Rattle.rgo_grammar.specs.reading.Declarations as reading;
 ghost use Rattle.rgo_grammar.specs.reading.Types as reading_types;
 ghost use Rattle.rgo_reader.specs.Agrees.{Agrees, leaf_at};
@@ -38,7 +38,7 @@ impl Item for Binding {
 
     ghost tree_of = { binding_of };
 
-    ghost reads = { reading_types.binding };
+    ghost reads = { reading_types.a_binding };
 
     /// Names and their type.
     fn read(alloc: Global, reader: &mut Reader<'_, '_>, turns: usize) -> Read<Binding> {
@@ -86,7 +86,7 @@ pub(crate) fn import(
 // The type of a function's result, if it has one, up to the function's block.
 fn result_type(alloc: Global, reader: &mut Reader<'_, '_>, turns: usize) -> Read<Option<TypeExpr>>
     ensures { Agrees (option_map type_expr_of) result reader.new
-        (reading.result_on turns reader.old (first_of reader.old)) }
+        (reading.result_on turns reader.old (next_lexeme reader.old)) }
 {
     let Some(lexeme) = reader.peek() else {
         return Err(Fault::Syntax);
@@ -120,7 +120,7 @@ fn func(alloc: Global, reader: &mut Reader<'_, '_>, turns: usize, at: usize) -> 
 /// A declaration of types or variables, or of a function.
 pub(crate) fn decl(alloc: Global, reader: &mut Reader<'_, '_>, turns: usize) -> Read<Decl>
     ensures { Agrees decl_of result reader.new
-        (reading.decl_on turns reader.old (first_of reader.old)) }
+        (reading.decl_on turns reader.old (next_lexeme reader.old)) }
 {
     let Some(lexeme) = reader.peek() else {
         return Err(Fault::Syntax);

@@ -195,7 +195,7 @@ fn elements<'r, 'a>(
     turns: usize,
 ) -> Listed<'r, 'a, Element>
     ensures { Agrees (listed_by element_of) result reader.new
-        (several terminal.Comma terminal.CloseBrace (reading.element (reading.expr false (turns - 1) 1)) turns []
+        (several terminal.Comma terminal.CloseBrace (reading.keyed_element (reading.expr false (turns - 1) 1)) turns []
         reader.old) }
 {
     let mut found = Vec::new(alloc);

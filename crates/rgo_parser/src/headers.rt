@@ -5,7 +5,7 @@ ghost use Rattle.std.specs.Prelude.{◌≡◌, true};
 ghost use Rattle.rgo_ast.specs.Views.{stmt_of, boxed_expr_of, boxed_stmt_of};
 ghost use Rattle.rgo_grammar.specs.reading.Expressions as reading_exprs;
 ghost use Rattle.rgo_grammar.specs.reading.Statements as reading;
-ghost use Rattle.rgo_grammar.specs.reading.Read.{first_of};
+ghost use Rattle.rgo_grammar.specs.reading.Read.{next_lexeme};
 ghost use Rattle.rgo_reader.specs.Agrees.{Agrees};
 ghost use Rattle.rgo_parser.specs.Headers as headers;
 
@@ -41,8 +41,8 @@ pub(crate) struct ForHeader {
 
 // Decides by the next lexeme what the statement was. Before a block only an expression can be a condition.
 fn head_end(reader: &mut Reader<'_, '_>, stmt: Box<Stmt>) -> Read<Head>
-    ensures { Agrees headers.head_of result reader.new
-        (reading.head_end_on (stmt_of stmt.value) reader.old (first_of reader.old)) }
+    ensures { Agrees headers.reading_head_of result reader.new
+        (reading.head_end_on (stmt_of stmt.value) reader.old (next_lexeme reader.old)) }
 {
     let Some(lexeme) = reader.peek() else {
         return Err(Fault::Syntax);
@@ -62,7 +62,7 @@ fn head_end(reader: &mut Reader<'_, '_>, stmt: Box<Stmt>) -> Read<Head>
 
 // Reads the first part of a header.
 fn read_head(alloc: Global, reader: &mut Reader<'_, '_>, turns: usize) -> Read<Head>
-    ensures { Agrees headers.head_of result reader.new
+    ensures { Agrees headers.reading_head_of result reader.new
         (reading.head (reading_exprs.expr true turns 1) reader.old) }
 {
     let Some(lexeme) = reader.peek() else {
@@ -83,7 +83,7 @@ fn read_head(alloc: Global, reader: &mut Reader<'_, '_>, turns: usize) -> Read<H
 // The condition of a `for` and the `;` after it.
 fn condition(alloc: Global, reader: &mut Reader<'_, '_>, turns: usize) -> Read<Option<Box<Expr>>>
     ensures { Agrees boxed_expr_of result reader.new
-        (reading.condition_on (reading_exprs.expr true turns 1) reader.old (first_of reader.old)) }
+        (reading.condition_on (reading_exprs.expr true turns 1) reader.old (next_lexeme reader.old)) }
 {
     let Some(lexeme) = reader.peek() else {
         return Err(Fault::Syntax);
@@ -104,7 +104,7 @@ fn condition(alloc: Global, reader: &mut Reader<'_, '_>, turns: usize) -> Read<O
 // The post statement of a `for`, up to its block.
 fn post(alloc: Global, reader: &mut Reader<'_, '_>, turns: usize) -> Read<Option<Box<Stmt>>>
     ensures { Agrees boxed_stmt_of result reader.new
-        (reading.step_on (reading_exprs.expr true turns 1) reader.old (first_of reader.old)) }
+        (reading.post_stmt_on (reading_exprs.expr true turns 1) reader.old (next_lexeme reader.old)) }
 {
     let Some(lexeme) = reader.peek() else {
         return Err(Fault::Syntax);

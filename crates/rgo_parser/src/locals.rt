@@ -5,7 +5,7 @@ ghost use Rattle.rgo_ast.specs.Tree as tree;
 ghost use Rattle.rgo_ast.specs.Views.{type_expr_of, local_var_of, stmt_of};
 ghost use Rattle.rgo_grammar.specs.reading.Expressions as reading_exprs;
 ghost use Rattle.rgo_grammar.specs.reading.Statements as reading;
-ghost use Rattle.rgo_grammar.specs.reading.Read.{first_of};
+ghost use Rattle.rgo_grammar.specs.reading.Read.{next_lexeme};
 ghost use Rattle.rgo_reader.specs.Agrees.{Agrees, leaf_of};
 
 use crate::expressions::expr;
@@ -25,7 +25,7 @@ fn initial(
 ) -> Read<LocalVar>
     ensures { Agrees local_var_of result reader.new
         (reading.initial (reading_exprs.expr false turns 1) (leaf_of one) (type_expr_of ty) reader.old
-        (first_of reader.old)) }
+        (next_lexeme reader.old)) }
 {
     if let Some(lexeme) = reader.peek() {
         if let Terminal::Assign(AssignOp::Plain) = lexeme.terminal {
@@ -44,7 +44,7 @@ impl Item for LocalVar {
 
     ghost tree_of = { local_var_of };
 
-    ghost reads = { λ n. reading.local n (reading_exprs.expr false n 1) };
+    ghost reads = { λ n. reading.local_var n (reading_exprs.expr false n 1) };
 
     /// Names with their type, or one name with its type and value, or with its value alone.
     fn read(alloc: Global, reader: &mut Reader<'_, '_>, turns: usize) -> Read<LocalVar> {

@@ -5,7 +5,7 @@ ghost use Rattle.std.specs.Prelude.{◌≡◌, false};
 ghost use Rattle.rgo_ast.specs.Views.{stmt_of};
 ghost use Rattle.rgo_grammar.specs.reading.Expressions as reading_exprs;
 ghost use Rattle.rgo_grammar.specs.reading.Statements as reading;
-ghost use Rattle.rgo_grammar.specs.reading.Read.{first_of};
+ghost use Rattle.rgo_grammar.specs.reading.Read.{next_lexeme};
 ghost use Rattle.rgo_reader.specs.Agrees.{Agrees, leaf_at};
 ghost use Rattle.rgo_parser.specs.Statements as statements;
 
@@ -39,7 +39,7 @@ pub(crate) enum Else {
 fn returned(alloc: Global, reader: &mut Reader<'_, '_>, turns: usize, at: usize) -> Read<Stmt>
     ensures { Agrees stmt_of result reader.new
         (reading.return_on (reading_exprs.expr false turns 1) (leaf_at at) reader.old
-        (first_of reader.old)) }
+        (next_lexeme reader.old)) }
 {
     let Some(lexeme) = reader.peek() else {
         return Err(Fault::Syntax);

@@ -8,7 +8,7 @@ ghost use Rattle.rgo_ast.specs.Views.{decl_of, import_of, program_of};
 ghost use Rattle.rgo_grammar.specs.FirstBad.{IsFirstBad};
 ghost use Rattle.rgo_grammar.specs.Grammar.{IsProgram};
 ghost use Rattle.rgo_grammar.specs.Nesting.{deep_at};
-ghost use Rattle.rgo_parser.specs.Parsing.{limit, IsParsed, Refuses, Fails};
+ghost use Rattle.rgo_parser.specs.Parsing.{limit, IsParsed, RefusesLexemes, Fails};
 ghost use Rattle.rgo_parser.specs.declared.parser.ParseError.TheVariants.{NoMemory};
 
 use crate::programs::program;
@@ -74,7 +74,7 @@ fn whole(
 // is safe. If one of them is bad, syntax is reported and not nesting. An error means that memory ran out.
 fn refusal(alloc: Global, lexemes: &[Lexeme<'_>], deep: usize) -> Result<ParseRefusal, AllocError>
     requires { Some deep ≡ deep_at limit lexemes.now }
-    ensures { IfOk result (Refuses lexemes.now) }
+    ensures { IfOk result (RefusesLexemes lexemes.now) }
 {
     prove!(deep < lexemes.len());
     let read = whole(alloc, &lexemes[..deep + 1])?;

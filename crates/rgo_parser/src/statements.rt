@@ -4,7 +4,7 @@
 ghost use Rattle.std.specs.Prelude.{◌≡◌};
 ghost use Rattle.rgo_ast.specs.Views.{stmt_of, boxed_stmt_of};
 ghost use Rattle.rgo_grammar.specs.reading.Statements as reading;
-ghost use Rattle.rgo_grammar.specs.reading.Read.{first_of};
+ghost use Rattle.rgo_grammar.specs.reading.Read.{next_lexeme};
 ghost use Rattle.rgo_reader.specs.Agrees.{Agrees, leaf_at};
 ghost use Rattle.rgo_parser.specs.Items.{listed_by};
 ghost use Rattle.rgo_parser.specs.Statements.{if_at, for_at, stmt_list_of};
@@ -64,7 +64,7 @@ fn if_stmt(alloc: Global, reader: &mut Reader<'_, '_>, turns: usize, at: usize) 
 #[cycle(statements)]
 fn otherwise(alloc: Global, reader: &mut Reader<'_, '_>, turns: usize) -> Read<Option<Box<Stmt>>>
     ensures { Agrees boxed_stmt_of result reader.new
-        (reading.else_on (reading.block turns) (if_at turns) reader.old (first_of reader.old)) }
+        (reading.else_on (reading.block turns) (if_at turns) reader.old (next_lexeme reader.old)) }
 {
     match else_word(reader)? {
         Else::None => Ok(None),

@@ -15,7 +15,7 @@ use Rattle.rgo_lexer.specs.declared.terminals.Terminal.TheVariants.{OpenBracket,
 use Rattle.rgo_lexer.specs.Lexemes.{Leaf, Lexeme, ident}
 use Rattle.rgo_lexer.specs.Strings.{string_of}
 use Rattle.rgo_grammar.specs.Grammar.{level}
-use Rattle.rgo_grammar.specs.reading.Read.{Read, Done, Failed, At, ◌>>=◌, given, first_of, token}
+use Rattle.rgo_grammar.specs.reading.Read.{Read, Done, Failed, At, ◌>>=◌, yielding, next_lexeme, token}
 use Rattle.rgo_grammar.specs.reading.Types.{a_type}
 use Rattle.rgo_grammar.specs.reading.Expressions.{make_end, new_at}
 use Rattle.rgo_reader.specs.declared.prefixes.Prefix.{Prefix}
@@ -40,7 +40,7 @@ operator_on least l None = Done None l
 operator_on least l (Some x) = operator_by least x.0.terminal x.0.leaf l x.1
 
 abbrev pub operator : ℕ → List Lexeme → Read (Option (BinaryOp × ℕ))
-operator least l = operator_on least l (first_of l)
+operator least l = operator_on least l (next_lexeme l)
 
 -- the beginning of a unary expression; in a header no literal may begin
 abbrev pub ampersand : Bool → Leaf → List Lexeme → List Lexeme → Read Prefix
@@ -60,11 +60,11 @@ prefix_on header l None = Failed (At l)
 prefix_on header l (Some x) = prefix_by header x.0.terminal x.0.leaf l x.1
 
 abbrev pub read_prefix : Bool → List Lexeme → Read Prefix
-read_prefix header l = prefix_on header l (first_of l)
+read_prefix header l = prefix_on header l (next_lexeme l)
 
 -- the next suffix of a primary expression
 abbrev pub suffix_by : Terminal → Leaf → List Lexeme → List Lexeme → Read Suffix
-suffix_by Dot i l m = token Name m >>= given (λ j. suffix.Select (ident j))
+suffix_by Dot i l m = token Name m >>= yielding (λ j. suffix.Select (ident j))
 suffix_by OpenBracket i l m = Done (suffix.Index i.at) m
 suffix_by OpenParen i l m = Done (suffix.Call i.at) m
 suffix_by _ i l m = Done suffix.None l
@@ -74,7 +74,7 @@ suffix_on l None = Done suffix.None l
 suffix_on l (Some x) = suffix_by x.0.terminal x.0.leaf l x.1
 
 abbrev pub read_suffix : List Lexeme → Read Suffix
-read_suffix l = suffix_on l (first_of l)
+read_suffix l = suffix_on l (next_lexeme l)
 
 -- the part of an operand before the expression that it holds
 pub data Bracket : Type 0 where
@@ -103,65 +103,65 @@ abbrev pub plain_chan : tree.TypeExpr → Leaf → List Lexeme → Read Opening
 plain_chan t i l = Done (Whole (tree.MakeChan t tree.no_capacity i.at)) l
 
 -- after the `,` that follows a channel's type: a capacity, or the end
-abbrev pub capacity_by : tree.TypeExpr → Leaf → Terminal → List Lexeme → List Lexeme → Read Opening
-capacity_by t i CloseParen l m = plain_chan t i m
-capacity_by t i _ l m = Done (Open (MakeChan t i.at)) l
+abbrev pub capacity_opening_by : tree.TypeExpr → Leaf → Terminal → List Lexeme → List Lexeme → Read Opening
+capacity_opening_by t i CloseParen l m = plain_chan t i m
+capacity_opening_by t i _ l m = Done (Open (MakeChan t i.at)) l
 
-abbrev pub capacity_on : tree.TypeExpr → Leaf → List Lexeme → Option (Lexeme × List Lexeme) → Read Opening
-capacity_on t i l None = Failed (At l)
-capacity_on t i l (Some x) = capacity_by t i x.0.terminal l x.1
+abbrev pub capacity_opening_on : tree.TypeExpr → Leaf → List Lexeme → Option (Lexeme × List Lexeme) → Read Opening
+capacity_opening_on t i l None = Failed (At l)
+capacity_opening_on t i l (Some x) = capacity_opening_by t i x.0.terminal l x.1
 
-abbrev pub capacity : Leaf → tree.TypeExpr → List Lexeme → Read Opening
-capacity i t l = capacity_on t i l (first_of l)
+abbrev pub capacity_opening : Leaf → tree.TypeExpr → List Lexeme → Read Opening
+capacity_opening i t l = capacity_opening_on t i l (next_lexeme l)
 
 -- after a channel's type
-abbrev pub sized_by : tree.TypeExpr → Leaf → Terminal → List Lexeme → List Lexeme → Read Opening
-sized_by t i CloseParen l m = plain_chan t i m
-sized_by t i Comma l m = capacity i t m
-sized_by t i _ l m = Failed (At l)
+abbrev pub sized_opening_by : tree.TypeExpr → Leaf → Terminal → List Lexeme → List Lexeme → Read Opening
+sized_opening_by t i CloseParen l m = plain_chan t i m
+sized_opening_by t i Comma l m = capacity_opening i t m
+sized_opening_by t i _ l m = Failed (At l)
 
-abbrev pub sized_on : tree.TypeExpr → Leaf → List Lexeme → Option (Lexeme × List Lexeme) → Read Opening
-sized_on t i l None = Failed (At l)
-sized_on t i l (Some x) = sized_by t i x.0.terminal l x.1
+abbrev pub sized_opening_on : tree.TypeExpr → Leaf → List Lexeme → Option (Lexeme × List Lexeme) → Read Opening
+sized_opening_on t i l None = Failed (At l)
+sized_opening_on t i l (Some x) = sized_opening_by t i x.0.terminal l x.1
 
-abbrev pub sized : Leaf → tree.TypeExpr → List Lexeme → Read Opening
-sized i t l = sized_on t i l (first_of l)
+abbrev pub sized_opening : Leaf → tree.TypeExpr → List Lexeme → Read Opening
+sized_opening i t l = sized_opening_on t i l (next_lexeme l)
 
 -- after `make (`
 abbrev pub slice_made : Leaf → tree.TypeExpr → List Lexeme → Read Opening
-slice_made i t l = token Comma l >>= given (λ _. Open (MakeSlice t i.at))
+slice_made i t l = token Comma l >>= yielding (λ _. Open (MakeSlice t i.at))
 
-abbrev pub made_by : ℕ → Leaf → Terminal → List Lexeme → List Lexeme → Read Opening
-made_by n i OpenBracket l m = token CloseBracket m >>= λ _ w. a_type n w >>= slice_made i
-made_by n i Chan l m = a_type n m >>= sized i
-made_by n i _ l m = Failed (At l)
+abbrev pub make_opening_by : ℕ → Leaf → Terminal → List Lexeme → List Lexeme → Read Opening
+make_opening_by n i OpenBracket l m = token CloseBracket m >>= λ _ w. a_type n w >>= slice_made i
+make_opening_by n i Chan l m = a_type n m >>= sized_opening i
+make_opening_by n i _ l m = Failed (At l)
 
-abbrev pub made_on : ℕ → Leaf → List Lexeme → Option (Lexeme × List Lexeme) → Read Opening
-made_on n i l None = Failed (At l)
-made_on n i l (Some x) = made_by n i x.0.terminal l x.1
+abbrev pub make_opening_on : ℕ → Leaf → List Lexeme → Option (Lexeme × List Lexeme) → Read Opening
+make_opening_on n i l None = Failed (At l)
+make_opening_on n i l (Some x) = make_opening_by n i x.0.terminal l x.1
 
-abbrev pub made : ℕ → Leaf → List Lexeme → Read Opening
-made n i l = made_on n i l (first_of l)
+abbrev pub make_opening : ℕ → Leaf → List Lexeme → Read Opening
+make_opening n i l = make_opening_on n i l (next_lexeme l)
 
 -- an operand, up to the expression that it holds
-abbrev pub opening_by : ℕ → Terminal → Leaf → List Lexeme → List Lexeme → Read Opening
-opening_by n Name i l m = whole (tree.Name (ident i)) m
-opening_by n (Number v) i l m = whole (tree.Number v i.at) m
-opening_by n Text i l m = whole (tree.Text (string_of i.word) i.at) m
-opening_by n OpenParen i l m = Done (Open (Paren i.at)) m
-opening_by n New i l m = new_at i m >>= whole
-opening_by n Make i l m = token OpenParen m >>= λ _. made n i
-opening_by n _ i l m = Failed (At l)
+abbrev pub operand_opening_by : ℕ → Terminal → Leaf → List Lexeme → List Lexeme → Read Opening
+operand_opening_by n Name i l m = whole (tree.Name (ident i)) m
+operand_opening_by n (Number v) i l m = whole (tree.Number v i.at) m
+operand_opening_by n Text i l m = whole (tree.Text (string_of i.word) i.at) m
+operand_opening_by n OpenParen i l m = Done (Open (Paren i.at)) m
+operand_opening_by n New i l m = new_at i m >>= whole
+operand_opening_by n Make i l m = token OpenParen m >>= λ _. make_opening n i
+operand_opening_by n _ i l m = Failed (At l)
 
-abbrev pub opening_on : ℕ → List Lexeme → Option (Lexeme × List Lexeme) → Read Opening
-opening_on n l None = Failed (At l)
-opening_on n l (Some x) = opening_by n x.0.terminal x.0.leaf l x.1
+abbrev pub operand_opening_on : ℕ → List Lexeme → Option (Lexeme × List Lexeme) → Read Opening
+operand_opening_on n l None = Failed (At l)
+operand_opening_on n l (Some x) = operand_opening_by n x.0.terminal x.0.leaf l x.1
 
-abbrev pub opening : ℕ → List Lexeme → Read Opening
-opening n l = opening_on n l (first_of l)
+abbrev pub operand_opening : ℕ → List Lexeme → Read Opening
+operand_opening n l = operand_opening_on n l (next_lexeme l)
 
 -- the second half of an operand, after the expression that it holds
-abbrev pub closing : Bracket → tree.Expr → List Lexeme → Read tree.Expr
-closing (Paren at) v l = token CloseParen l >>= given (λ _. tree.Paren v at)
-closing (MakeSlice t at) v l = make_end l >>= given (λ _. tree.MakeSlice t v at)
-closing (MakeChan t at) v l = make_end l >>= given (λ _. tree.MakeChan t (tree.a_capacity v) at)
+abbrev pub operand_closing : Bracket → tree.Expr → List Lexeme → Read tree.Expr
+operand_closing (Paren at) v l = token CloseParen l >>= yielding (λ _. tree.Paren v at)
+operand_closing (MakeSlice t at) v l = make_end l >>= yielding (λ _. tree.MakeSlice t v at)
+operand_closing (MakeChan t at) v l = make_end l >>= yielding (λ _. tree.MakeChan t (tree.a_capacity v) at)

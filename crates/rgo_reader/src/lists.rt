@@ -2,7 +2,7 @@
 
 ghost use Rattle.std.specs.Prelude.{◌≡◌};
 ghost use Rattle.rgo_reader.specs.Agrees.{Agrees};
-ghost use Rattle.rgo_reader.specs.Lists.{closes, separated, ending_of};
+ghost use Rattle.rgo_reader.specs.Lists.{closes, after_item, ending_of};
 
 use crate::readers::{Fault, Read, Reader};
 use rgo_lexer::{Lexeme, Terminal};
@@ -27,7 +27,7 @@ pub fn separated<'r, 'a>(
     separator: Terminal,
     closer: Terminal,
 ) -> Read<Option<&'r Lexeme<'a>>>
-    ensures { Agrees ending_of result reader.new (separated separator closer reader.old) }
+    ensures { Agrees ending_of result reader.new (after_item separator closer reader.old) }
 {
     match reader.peek() {
         Some(lexeme) if lexeme.terminal.stands_as(closer) => {

@@ -59,7 +59,7 @@ fn capacity(
     at: usize,
 ) -> Read<Opening>
     ensures { Agrees parts.opening_of result reader.new
-        (parts.capacity (leaf_at at) (type_expr_of element.value) reader.old) }
+        (parts.capacity_opening (leaf_at at) (type_expr_of element.value) reader.old) }
 {
     let Some(lexeme) = reader.peek() else {
         return Err(Fault::Syntax);
@@ -81,7 +81,7 @@ fn sized(
     at: usize,
 ) -> Read<Opening>
     ensures { Agrees parts.opening_of result reader.new
-        (parts.sized (leaf_at at) (type_expr_of element.value) reader.old) }
+        (parts.sized_opening (leaf_at at) (type_expr_of element.value) reader.old) }
 {
     let Some(lexeme) = reader.peek() else {
         return Err(Fault::Syntax);
@@ -101,7 +101,7 @@ fn sized(
 
 // After `make(`.
 fn made(alloc: Global, reader: &mut Reader<'_, '_>, turns: usize, at: usize) -> Read<Opening>
-    ensures { Agrees parts.opening_of result reader.new (parts.made turns (leaf_at at) reader.old) }
+    ensures { Agrees parts.opening_of result reader.new (parts.make_opening turns (leaf_at at) reader.old) }
 {
     let Some(lexeme) = reader.peek() else {
         return Err(Fault::Syntax);
@@ -125,7 +125,7 @@ fn made(alloc: Global, reader: &mut Reader<'_, '_>, turns: usize, at: usize) -> 
 
 /// Reads an operand up to the expression that it holds.
 pub fn open_operand(alloc: Global, reader: &mut Reader<'_, '_>, turns: usize) -> Read<Opening>
-    ensures { Agrees parts.opening_of result reader.new (parts.opening turns reader.old) }
+    ensures { Agrees parts.opening_of result reader.new (parts.operand_opening turns reader.old) }
 {
     let Some(lexeme) = reader.peek() else {
         return Err(Fault::Syntax);
@@ -189,7 +189,7 @@ pub fn close_operand(
     value: Box<Expr>,
 ) -> Read<Box<Expr>>
     ensures { Agrees parts.boxed_of result reader.new
-        (parts.closing (parts.bracket_of bracket) (expr_of value.value) reader.old) }
+        (parts.operand_closing (parts.bracket_of bracket) (expr_of value.value) reader.old) }
 {
     let closed = match bracket {
         Bracket::Paren(at) => {

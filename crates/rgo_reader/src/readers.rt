@@ -6,7 +6,7 @@
 
 ghost use Rattle.std.specs.Prelude.{◌≡◌, ◌++◌, ◌∷◌, [], true, drop, length, IfOk, MatchOption, None, Some};
 ghost use Rattle.rgo_grammar.specs.reading.Read as reading;
-ghost use Rattle.rgo_grammar.specs.reading.Read.{first_of};
+ghost use Rattle.rgo_grammar.specs.reading.Read.{next_lexeme};
 ghost use Rattle.rgo_lexer.specs.declared.terminals.Terminal.TheVariants as terminal;
 ghost use Rattle.rgo_reader.specs.Agrees.{Agrees, leaf_of, leaf_in};
 
@@ -82,16 +82,16 @@ impl<'r, 'a> Reader<'r, 'a> {
 
     /// The next lexeme, without reading it.
     pub fn peek(&self) -> Option<&'r Lexeme<'a>>
-        ensures { MatchOption result (first_of self.now ≡ None)
-            (λ l. first_of self.now ≡ Some (l.now, drop 1 self.now)) }
+        ensures { MatchOption result (next_lexeme self.now ≡ None)
+            (λ l. next_lexeme self.now ≡ Some (l.now, drop 1 self.now)) }
     {
         self.lexemes.get(self.at)
     }
 
     /// The lexeme after the next, without reading either. No production needs to look further ahead.
     pub fn peek_second(&self) -> Option<&'r Lexeme<'a>>
-        ensures { MatchOption result (first_of (drop 1 self.now) ≡ None)
-            (λ l. first_of (drop 1 self.now) ≡ Some (l.now, drop 2 self.now)) }
+        ensures { MatchOption result (next_lexeme (drop 1 self.now) ≡ None)
+            (λ l. next_lexeme (drop 1 self.now) ≡ Some (l.now, drop 2 self.now)) }
     {
         self.lexemes.get(self.at..)?.get(1)
     }

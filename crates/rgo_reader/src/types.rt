@@ -82,7 +82,7 @@ pub fn typed_names(
 
 /// Names and their type.
 pub fn binding(alloc: Global, reader: &mut Reader<'_, '_>, turns: usize) -> Read<Binding>
-    ensures { Agrees binding_of result reader.new (reading.binding turns reader.old) }
+    ensures { Agrees binding_of result reader.new (reading.a_binding turns reader.old) }
 {
     let one = reader.name(alloc)?;
     typed_names(alloc, reader, turns, one)

@@ -28,8 +28,8 @@ use Rattle.rgo_region_interpreter.specs.Works.{WorldStarts}
 use Rattle.rgo_region_interpreter.specs.Worlds.{WorldReaches, IsWorldAt}
 use Rattle.rgo_region_interpreter.proofs.stepping.Standing.{starts_stand}
 use Rattle.rgo_recording.specs.declared.recorders.Recorder.{Recorder}
-use Rattle.rgo_recording.specs.Notes.{picks_of}
-use Rattle.rgo_recording.specs.Recorders.{LeadTo, RecorderShows, view_of}
+use Rattle.rgo_recording.specs.Notes.{noted_picks}
+use Rattle.rgo_recording.specs.Recorders.{LeadTo, RecorderShows, recorder_view}
 
 -- ---- the picks
 
@@ -92,11 +92,11 @@ leads_as code code' picks picks' given s same so lead =
     subst (λ c. LeadTo c picks' given s) (sym same) (subst (λ l. LeadTo code l given s) (sym so) lead)
 
 -- where the run begins, nothing is noted
-pub begins : (code : Code) (sizes : Sizes) (r : Recorder) → WorldStarts code sizes r.world → picks_of r.notes ≡ []
+pub begins : (code : Code) (sizes : Sizes) (r : Recorder) → WorldStarts code sizes r.world → noted_picks r.notes ≡ []
     → RecorderShows r [] (tac_start (erased code))
 begins code sizes r starts none = record {
   stands = starts_stand code sizes r.world starts;
-  lead = leads_as code r.world.code.now [] (picks_of r.notes) [] (tac_start (erased code)) starts.code_is none
+  lead = leads_as code r.world.code.now [] (noted_picks r.notes) [] (tac_start (erased code)) starts.code_is none
       (record { takes = refl; fit = All-nil PickFits });
 }
 
@@ -108,20 +108,20 @@ same_pick P asked pick of_asked is = subst (λ o. IfSome o P) is of_asked
 
 -- the recorder q after a turn of the world of r, which was noted
 pub turn_noted : (r q : Recorder) (limits : Limits) (g at_most : ℕ) (turned : Turned) (pick : TacPick) (room : List TacPick)
-    → picks_of q.notes ≡ room ++ replicate turned.steps pick → room ≡ picks_of r.notes → (pick ≡ One g) × PickFits pick
+    → noted_picks q.notes ≡ room ++ replicate turned.steps pick → room ≡ noted_picks r.notes → (pick ≡ One g) × PickFits pick
     → q.world.code.now ≡ r.world.code.now
     → ((given : List ℕ) (s : TacState) → IsWorldAt r.world given s → driver.RunContinues limits s
     → driver.RunTakesTurn (world.view_of q.world) (tac (erased r.world.code.now)) limits given s g at_most turned)
     → (given : List ℕ) (s : TacState) → RecorderShows r given s → driver.RunContinues limits s
-    → driver.RunTakesTurn (view_of q) (tac (erased r.world.code.now)) limits given s g at_most turned
+    → driver.RunTakesTurn (recorder_view q) (tac (erased r.world.code.now)) limits given s g at_most turned
 turn_noted r q limits g at_most turned pick room is kept one same takes given s at on =
     let x = takes given s at.stands on in
-    let noted : picks_of q.notes ≡ picks_of r.notes ++ replicate turned.steps (One g) =
+    let noted : noted_picks q.notes ≡ noted_picks r.notes ++ replicate turned.steps (One g) =
     is ∙ (λ i. kept i ++ replicate turned.steps (one.0 i)) in
     let fits : PickFits (One g) = subst PickFits one.0 one.1 in
-    let lead = leads_as r.world.code.now q.world.code.now (picks_of r.notes ++ replicate turned.steps (One g))
-    (picks_of q.notes) given x.state same noted
-    (turn_leads r.world.code.now limits (picks_of r.notes) g turned.steps given s x.state fits at.lead x.turns.leads) in
+    let lead = leads_as r.world.code.now q.world.code.now (noted_picks r.notes ++ replicate turned.steps (One g))
+    (noted_picks q.notes) given x.state same noted
+    (turn_leads r.world.code.now limits (noted_picks r.notes) g turned.steps given s x.state fits at.lead x.turns.leads) in
     record {
       state = x.state;
       turns = x.turns;
@@ -133,9 +133,9 @@ turn_noted r q limits g at_most turned pick room is kept one same takes given s 
 
 -- a turn without steps, for which there is no room
 pub turn_refused : (r q : Recorder) (limits : Limits) (g at_most : ℕ) → q.world ≡ r.world
-    → picks_of q.notes ≡ picks_of r.notes
+    → noted_picks q.notes ≡ noted_picks r.notes
     → (given : List ℕ) (s : TacState) → RecorderShows r given s → driver.RunContinues limits s
-    → driver.RunTakesTurn (view_of q) (tac (erased r.world.code.now)) limits given s g at_most
+    → driver.RunTakesTurn (recorder_view q) (tac (erased r.world.code.now)) limits given s g at_most
     (record { steps = 0; stop = stop.NoMemory })
 turn_refused r q limits g at_most same noted given s at on = record {
   state = s;
@@ -149,7 +149,7 @@ turn_refused r q limits g at_most same noted given s at on = record {
   print = ap (λ v. v.printed) at.stands.reaches.is ∙ sym (ap (λ w. w.state.printed) same);
   leaves = record {
     reaches = subst (λ w. WorldReaches w given s) (sym same) at.stands.reaches;
-    lead = leads_as r.world.code.now q.world.code.now (picks_of r.notes) (picks_of q.notes) given s
+    lead = leads_as r.world.code.now q.world.code.now (noted_picks r.notes) (noted_picks q.notes) given s
         (ap (λ w. w.code.now) same) noted at.lead;
   };
   shows = λ n. absurd (n refl);
@@ -160,49 +160,49 @@ turn_refused r q limits g at_most same noted given s at on = record {
 
 module _ (r q : Recorder) (receiver sender : ℕ) (same : q.world.code.now ≡ r.world.code.now) (given : List ℕ)
     (s : TacState) (at : RecorderShows r given s) where
-  pub met_noted : (pick : TacPick) (room : List TacPick) → picks_of q.notes ≡ room ++ replicate 1 pick
-      → room ≡ picks_of r.notes → (pick ≡ Meet receiver sender) × PickFits pick
+  pub met_noted : (pick : TacPick) (room : List TacPick) → noted_picks q.notes ≡ room ++ replicate 1 pick
+      → room ≡ noted_picks r.notes → (pick ≡ Meet receiver sender) × PickFits pick
       → driver.TriesMeeting (world.view_of q.world) (tac (erased r.world.code.now)) given s receiver sender (Ok true)
-      → driver.TriesMeeting (view_of q) (tac (erased r.world.code.now)) given s receiver sender (Ok true)
+      → driver.TriesMeeting (recorder_view q) (tac (erased r.world.code.now)) given s receiver sender (Ok true)
   met_noted pick room is kept one tries =
-      let noted : picks_of q.notes ≡ picks_of r.notes ++ Meet receiver sender ∷ [] = is ∙ (λ i. kept i ++ one.0 i ∷ []) in
+      let noted : noted_picks q.notes ≡ noted_picks r.notes ++ Meet receiver sender ∷ [] = is ∙ (λ i. kept i ++ one.0 i ∷ []) in
       let fits : PickFits (Meet receiver sender) = subst PickFits one.0 one.1 in (
         tries.0,
         tries.1,
         record {
           stands = tries.2;
-          lead = leads_as r.world.code.now q.world.code.now (picks_of r.notes ++ Meet receiver sender ∷ [])
-              (picks_of q.notes) given tries.0 same noted
-              (meeting_leads r.world.code.now (picks_of r.notes) receiver sender given s tries.0 fits at.lead tries.1);
+          lead = leads_as r.world.code.now q.world.code.now (noted_picks r.notes ++ Meet receiver sender ∷ [])
+              (noted_picks q.notes) given tries.0 same noted
+              (meeting_leads r.world.code.now (noted_picks r.notes) receiver sender given s tries.0 fits at.lead tries.1);
         },
       )
 
-  pub not_met : picks_of q.notes ≡ picks_of r.notes
+  pub not_met : noted_picks q.notes ≡ noted_picks r.notes
       → driver.TriesMeeting (world.view_of q.world) (tac (erased r.world.code.now)) given s receiver sender (Ok false)
-      → driver.TriesMeeting (view_of q) (tac (erased r.world.code.now)) given s receiver sender (Ok false)
+      → driver.TriesMeeting (recorder_view q) (tac (erased r.world.code.now)) given s receiver sender (Ok false)
   not_met kept tries = (
     tries.0,
     record {
       stands = tries.1;
-      lead = leads_as r.world.code.now q.world.code.now (picks_of r.notes) (picks_of q.notes) given s same kept at.lead;
+      lead = leads_as r.world.code.now q.world.code.now (noted_picks r.notes) (noted_picks q.notes) given s same kept at.lead;
     },
   )
 
-  pub meeting_failed : (e : AllocError) → picks_of q.notes ≡ picks_of r.notes
+  pub meeting_failed : (e : AllocError) → noted_picks q.notes ≡ noted_picks r.notes
       → WorldReaches q.world given s × (s.printed ≡ q.world.state.printed)
-      → driver.TriesMeeting (view_of q) (tac (erased r.world.code.now)) given s receiver sender (Err e)
+      → driver.TriesMeeting (recorder_view q) (tac (erased r.world.code.now)) given s receiver sender (Err e)
   meeting_failed e kept tries = (
     record {
       reaches = tries.0;
-      lead = leads_as r.world.code.now q.world.code.now (picks_of r.notes) (picks_of q.notes) given s same kept at.lead;
+      lead = leads_as r.world.code.now q.world.code.now (noted_picks r.notes) (noted_picks q.notes) given s same kept at.lead;
     },
     tries.1,
   )
 
 -- ---- the print
 
-pub clears_noted : (r q : Recorder) → picks_of q.notes ≡ picks_of r.notes → q.world.code.now ≡ r.world.code.now
-    → driver.Clears (world.view_of r.world) (world.view_of q.world) → driver.Clears (view_of r) (view_of q)
+pub clears_noted : (r q : Recorder) → noted_picks q.notes ≡ noted_picks r.notes → q.world.code.now ≡ r.world.code.now
+    → driver.Clears (world.view_of r.world) (world.view_of q.world) → driver.Clears (recorder_view r) (recorder_view q)
 clears_noted r q noted same clears = record {
   machine = clears.machine;
   print = clears.print;
@@ -212,8 +212,8 @@ clears_noted r q noted same clears = record {
   lacks = clears.lacks;
 }
   where
-    lead : (given : List ℕ) (s : TacState) → LeadTo r.world.code.now (picks_of r.notes) given s
-        → LeadTo q.world.code.now (picks_of q.notes) (given ++ s.printed) (record s { printed = [] })
-    lead given s at = leads_as r.world.code.now q.world.code.now (picks_of r.notes) (picks_of q.notes)
+    lead : (given : List ℕ) (s : TacState) → LeadTo r.world.code.now (noted_picks r.notes) given s
+        → LeadTo q.world.code.now (noted_picks q.notes) (given ++ s.printed) (record s { printed = [] })
+    lead given s at = leads_as r.world.code.now q.world.code.now (noted_picks r.notes) (noted_picks q.notes)
         (given ++ s.printed) (record s { printed = [] }) same noted
-        (leads_cleared r.world.code.now (picks_of r.notes) given s at)
+        (leads_cleared r.world.code.now (noted_picks r.notes) given s at)

@@ -16,19 +16,19 @@ use Rattle.rgo_machine.specs.declared.ends.RunEnd.TheVariants as run_end
 use Rattle.rgo_journal.specs.declared.picks.TacPick.{TacPick}
 use Rattle.rgo_journal.specs.declared.replays.ReplayEnd.{ReplayEnd}
 use Rattle.rgo_journal.specs.declared.replays.ReplayEnd.TheVariants as replay_end
-use Rattle.rgo_journal.specs.Laws.{IsWhole}
+use Rattle.rgo_journal.specs.Laws.{IsFaultlessEnd}
 use Rattle.rgo_journal.specs.Replays as replays
 use Rattle.rgo_journal.specs.Replays.{TakesPicks}
 use Rattle.rgo_journal.proofs.Replaying.{one_replay}
-use Rattle.rgo_recording.specs.Notes.{picks_of}
+use Rattle.rgo_recording.specs.Notes.{noted_picks}
 use Rattle.rgo_recording.specs.Laws.{RecordedReplays, ReplaysAs}
 use Rattle.rgo_recording.proofs.Going.{deep_goes_on, full_goes_on, recorded_goes_on}
 
 -- ---- how the replay ends
 
 module _ (code : Tac) (picks : List TacPick) (t : TacState) (takes : TakesPicks code picks t) (e : ReplayEnd) (s : TacState)
-    (is_whole : IsWhole e) (ends : replays.ReplayEndsAs code picks s e) where
-  same_end : (a : ReplayEnd) → IsWhole a → replays.ReplayEndsAs code picks t a → (e ≡ a) × (s ≡ t)
+    (is_whole : IsFaultlessEnd e) (ends : replays.ReplayEndsAs code picks s e) where
+  same_end : (a : ReplayEnd) → IsFaultlessEnd a → replays.ReplayEndsAs code picks t a → (e ≡ a) × (s ≡ t)
   same_end a w is = one_replay code picks e a s t is_whole w ends is
 
   same_state : TakesPicks code picks s → s ≡ t
@@ -50,8 +50,8 @@ module _ (code : Tac) (picks : List TacPick) (t : TacState) (takes : TakesPicks 
     either (replay_end.Foreign index) is =
         absurd (not_both (λ u. let both : replay_end.Foreign index ≡ replay_end.Unfinished = sym is ∙ u in cc)
         (λ d. let both : replay_end.Foreign index ≡ replay_end.Deadlock = sym is ∙ d in cc))
-    either replay_end.WriteFault is = absurd (subst IsWhole is is_whole)
-    either replay_end.NoMemory is = absurd (subst IsWhole is is_whole)
+    either replay_end.WriteFault is = absurd (subst IsFaultlessEnd is is_whole)
+    either replay_end.NoMemory is = absurd (subst IsFaultlessEnd is is_whole)
 
   unfinished : t.ended ≡ None → (IsDeadlock (tac code) t → ⊥) → e ≡ replay_end.Unfinished
   unfinished open_yet goes_on = (same_end replay_end.Unfinished tt (takes, open_yet, goes_on)).0
@@ -88,10 +88,10 @@ module _ (code : Tac) (picks : List TacPick) (t : TacState) (takes : TakesPicks 
   comes replay_end.Deadlock is = same_state (subst (replays.ReplayEndsAs code picks s) is ends).0
   comes replay_end.Unfinished is = same_state (subst (replays.ReplayEndsAs code picks s) is ends).0
   comes (replay_end.Foreign index) is = absurd (never_foreign index is)
-  comes replay_end.WriteFault is = absurd (subst IsWhole is is_whole)
-  comes replay_end.NoMemory is = absurd (subst IsWhole is is_whole)
+  comes replay_end.WriteFault is = absurd (subst IsFaultlessEnd is is_whole)
+  comes replay_end.NoMemory is = absurd (subst IsFaultlessEnd is is_whole)
 
-pub whole_gives : (e : ReplayEnd) → IsWhole e → (print : List ℕ) (before after : Option (List ℕ))
+pub whole_gives : (e : ReplayEnd) → IsFaultlessEnd e → (print : List ℕ) (before after : Option (List ℕ))
     → replays.ReplayPrints e print before after → Appends before after print
 whole_gives (replay_end.Ended end) w print before after g = g
 whole_gives replay_end.Deadlock w print before after g = g
@@ -103,9 +103,9 @@ whole_gives replay_end.NoMemory w print before after g = absurd w
 pub recorded_replays : RecordedReplays
 recorded_replays code sizes limits old new r records e before after x w =
     let run = records.runs.runs in
-    let same = comes (erased code) (picks_of r.notes) run.state records.noted e x.state w x.ends e refl in
+    let same = comes (erased code) (noted_picks r.notes) run.state records.noted e x.state w x.ends e refl in
     record {
-      ends = replays_as (erased code) (picks_of r.notes) run.state records.noted e x.state w x.ends limits
+      ends = replays_as (erased code) (noted_picks r.notes) run.state records.noted e x.state w x.ends limits
           (length (all_of run.rounds)) (length (all_of run.rounds ++ run.last)) r.end run.ends
           (recorded_goes_on code sizes limits old new r records);
       bytes = run.state.printed;

@@ -10,7 +10,7 @@ use Rattle.rgo_machine.specs.Machines.{start_state}
 use Rattle.rgo_tac.specs.Code.{TacFn, Tac}
 use Rattle.rgo_tac.specs.Frames.{new_tac_frame}
 use Rattle.rgo_tac.specs.Tac.{tac_main_frames, tac_start}
-use Rattle.rgo_round_robin.specs.Runs.{IsReady}
+use Rattle.rgo_round_robin.specs.Runs.{IsReadyForTurn}
 
 one_fits : (n : ℕ) → nat_le 1 (max 1 n) ≡ true
 one_fits n = grind (arith, nat_tests)
@@ -31,7 +31,7 @@ one_main [] n = omega arith
 one_main (fn ∷ fns) n =
     one_or_more (bytes_eq fn.name (codes "main")) (new_tac_frame fn n []) (tac_main_frames fns (suc n)) (one_main fns (suc n))
 
-pub starts_ready : (limits : Limits) (code : Tac) → IsReady limits (tac_start code)
+pub starts_ready : (limits : Limits) (code : Tac) → IsReadyForTurn limits (tac_start code)
 starts_ready limits code = record {
   on = record {
     running = refl;

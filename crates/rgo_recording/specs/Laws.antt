@@ -8,12 +8,12 @@ use Rattle.rgo_code.specs.Erasure.{erased}
 use Rattle.rgo_machine.specs.Ends.{RunPrints}
 use Rattle.rgo_machine.specs.declared.ends.RunEnd.{RunEnd}
 use Rattle.rgo_machine.specs.declared.ends.RunEnd.TheVariants as run_end
-use Rattle.rgo_journal.specs.Laws.{IsWhole}
+use Rattle.rgo_journal.specs.Laws.{IsFaultlessEnd}
 use Rattle.rgo_journal.specs.Replays.{Replays}
 use Rattle.rgo_journal.specs.declared.replays.ReplayEnd.{ReplayEnd}
 use Rattle.rgo_journal.specs.declared.replays.ReplayEnd.TheVariants as replay_end
 use Rattle.rgo_recording.specs.declared.recording.Recorded.{Recorded}
-use Rattle.rgo_recording.specs.Notes.{picks_of}
+use Rattle.rgo_recording.specs.Notes.{noted_picks}
 use Rattle.rgo_recording.specs.Recordings.{Records}
 
 -- How a replay of what was noted of a run ends, by how the run ended. A run that was cut off has not ended, so its replay is
@@ -40,5 +40,5 @@ pub record ReplaysTheRun (end : RunEnd) (old new : Option (List ℕ)) (e : Repla
 abbrev pub RecordedReplays : Type 0
 RecordedReplays = (code : Code) (sizes : Sizes) (limits : Limits) (old new : Option (List ℕ)) (r : Recorded)
     → Records code sizes limits old new r
-    → (e : ReplayEnd) (before after : Option (List ℕ)) → Replays (erased code) (picks_of r.notes) e before after
-    → IsWhole e → ReplaysTheRun r.end old new e before after
+    → (e : ReplayEnd) (before after : Option (List ℕ)) → Replays (erased code) (noted_picks r.notes) e before after
+    → IsFaultlessEnd e → ReplaysTheRun r.end old new e before after

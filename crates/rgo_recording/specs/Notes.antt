@@ -10,8 +10,8 @@ use Rattle.rgo_recording.specs.declared.notes.Notes.{Notes}
 abbrev pub picks_in : List Note → List TacPick
 picks_in notes = flat_map (λ note. replicate note.times note.pick) notes
 
-abbrev pub picks_of : Notes → List TacPick
-picks_of notes = picks_in notes.list.items
+abbrev pub noted_picks : Notes → List TacPick
+noted_picks notes = picks_in notes.list.items
 
 -- one note more needs no memory
 abbrev pub NotesHaveRoom : Notes → Type 0

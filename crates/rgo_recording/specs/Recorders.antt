@@ -12,7 +12,7 @@ use Rattle.rgo_journal.specs.Text.{PickFits}
 use Rattle.rgo_round_robin.specs.Running.{View}
 use Rattle.rgo_region_interpreter.specs.Worlds.{WorldLacks, WorldReaches, IsWorldAt}
 use Rattle.rgo_recording.specs.declared.recorders.Recorder.{Recorder}
-use Rattle.rgo_recording.specs.Notes.{picks_of}
+use Rattle.rgo_recording.specs.Notes.{noted_picks}
 
 -- These picks are a run of the code without its regions, and it leads to this state, where the print is all that was ever
 -- printed: what was given out before, and what has not been yet. Each can be in a journal.
@@ -23,15 +23,15 @@ pub record LeadTo (code : Code) (picks : List TacPick) (given : List ℕ) (s : T
 -- the run is at this state, and so are the picks that were noted
 pub record RecorderShows (r : Recorder) (given : List ℕ) (s : TacState) : Type 0 where
   pub stands : IsWorldAt r.world given s
-  pub lead : LeadTo r.world.code.now (picks_of r.notes) given s
+  pub lead : LeadTo r.world.code.now (noted_picks r.notes) given s
 
 -- what still holds of it once memory has run out
 pub record RecorderLeaves (r : Recorder) (given : List ℕ) (s : TacState) : Type 0 where
   pub reaches : WorldReaches r.world given s
-  pub lead : LeadTo r.world.code.now (picks_of r.notes) given s
+  pub lead : LeadTo r.world.code.now (noted_picks r.notes) given s
 
-abbrev pub view_of : Recorder → View TacFrame (Code × Sizes)
-view_of r = record {
+abbrev pub recorder_view : Recorder → View TacFrame (Code × Sizes)
+recorder_view r = record {
   machine = tac (erased r.world.code.now);
   shows = RecorderShows r;
   leaves = RecorderLeaves r;

@@ -1,7 +1,7 @@
 //! What is noted of a run: its picks, in the order in which they were taken.
 
 ghost use Rattle.std.specs.Prelude.{◌≡◌, ◌++◌, [], Some, replicate, IfSome};
-ghost use Rattle.rgo_recording.specs.Notes.{NotesHaveRoom, picks_in, picks_of};
+ghost use Rattle.rgo_recording.specs.Notes.{NotesHaveRoom, picks_in, noted_picks};
 
 use rgo_journal::TacPick;
 use std::alloc::Global;
@@ -22,7 +22,7 @@ pub struct Notes {
 impl Notes {
     /// No picks.
     pub fn new(alloc: Global) -> Notes
-        ensures { picks_of result ≡ [] }
+        ensures { noted_picks result ≡ [] }
     {
         Notes {
             list: Vec::new(alloc),
@@ -31,7 +31,7 @@ impl Notes {
 
     /// The notes, in order.
     pub fn list(&self) -> &[Note]
-        ensures { picks_in result.now ≡ picks_of self.now }
+        ensures { picks_in result.now ≡ noted_picks self.now }
     {
         &self.list
     }
@@ -41,7 +41,7 @@ impl Notes {
     pub(crate) fn prepare(&mut self, pick: Option<TacPick>) -> Option<TacPick>
         ensures same { IfSome result (λ p. pick ≡ Some p) }
         ensures room { IfSome result (λ p. NotesHaveRoom self.new) }
-        ensures picks { picks_of self.new ≡ picks_of self.old }
+        ensures picks { noted_picks self.new ≡ noted_picks self.old }
     {
         let pick = pick?;
         match self.list.reserve(1) {
@@ -53,7 +53,7 @@ impl Notes {
     /// The pick was taken `times` times, one after the other. `prepare` has taken the room for a note.
     pub(crate) fn note(&mut self, pick: TacPick, times: usize)
         requires { NotesHaveRoom self.old }
-        ensures { picks_of self.new ≡ picks_of self.old ++ replicate times pick }
+        ensures { noted_picks self.new ≡ noted_picks self.old ++ replicate times pick }
     {
         if times == 0 {
             return;

@@ -3,7 +3,7 @@
 ghost use Rattle.std.specs.Prelude.{◌≡◌, ◌++◌, replicate, IfOk, OnOk};
 ghost use Rattle.rgo_journal.specs.declared.picks.TacPick.{TacPick as Pick};
 ghost use Rattle.rgo_journal.specs.Text.{journal, pick_line, pick_lines};
-ghost use Rattle.rgo_recording.specs.Notes.{picks_in, picks_of};
+ghost use Rattle.rgo_recording.specs.Notes.{picks_in, noted_picks};
 
 use crate::notes::{Note, Notes};
 use rgo_journal::print_pick;
@@ -46,7 +46,7 @@ impl Notes {
     ///
     /// On allocation failure.
     pub fn journal(&self, alloc: Global) -> Result<Vec<u8>, AllocError>
-        ensures { IfOk result (λ bytes. bytes.items ≡ journal (picks_of self.now)) }
+        ensures { IfOk result (λ bytes. bytes.items ≡ journal (noted_picks self.now)) }
     {
         let mut out = Vec::new(alloc);
         out.extend_from_slice(b"rgo picks 1\n")?;

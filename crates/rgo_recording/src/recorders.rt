@@ -46,13 +46,13 @@ fn meeting(receiver: usize, sender: usize) -> Option<TacPick>
 }
 
 impl<'a> Running for Recorder<'a> {
-    ghost use Rattle.rgo_recording.specs.Recorders.{view_of};
+    ghost use Rattle.rgo_recording.specs.Recorders.{recorder_view};
 
     type Frame = Frame;
 
     type Fixed = (Code, Sizes);
 
-    ghost view = { view_of };
+    ghost view = { recorder_view };
 
     ghost use Rattle.std.proofs.Common.{ap};
 

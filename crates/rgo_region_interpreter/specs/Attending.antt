@@ -61,8 +61,8 @@ abbrev pub base_in : Option Holder → List ℕ
 base_in None = []
 base_in (Some c) = c.base.items
 
-abbrev pub base_of : World → ℕ → List ℕ
-base_of w g = base_in (slice_get w.holders.items g)
+abbrev pub base_regions_of : World → ℕ → List ℕ
+base_regions_of w g = base_in (slice_get w.holders.items g)
 
 -- ---- stakes for a goroutine that is about to start
 

@@ -12,30 +12,30 @@ use Rattle.rgo_region_machine.specs.Owed.{formals_of, given_names, passed, passe
 use Rattle.rgo_region_machine.specs.Regions.{Bindings, bound}
 use Rattle.rgo_region_interpreter.specs.declared.holders.Holder.{Holder}
 use Rattle.rgo_region_interpreter.specs.declared.worlds.World.{World}
-use Rattle.rgo_region_interpreter.specs.Holders.{FrameNames, bound_in, Renames, HolderEnters, HolderBegins, HolderReturns, frames_of, newest}
+use Rattle.rgo_region_interpreter.specs.Holders.{FrameNames, bound_in, Renames, HolderEnters, HolderBegins, HolderReturns, frame_names_of, newest_frame_names}
 
 -- these names are bound to what those of the machine are bound to
 abbrev pub NamesStandFor : FrameNames → Bindings → Type 0
 NamesStandFor names bindings = (k : ℕ) → bound_in names k ≡ bound bindings k
 
-abbrev pub or_nothing : {X : Type 0} → Option (List X) → List X
-or_nothing None = []
-or_nothing (Some xs) = xs
+abbrev pub or_no_elements : {X : Type 0} → Option (List X) → List X
+or_no_elements None = []
+or_no_elements (Some xs) = xs
 
 -- the one, or if it is nothing, the other
-abbrev pub or_else : Option Region → Option Region → Option Region
-or_else (Some r) other = Some r
-or_else None other = other
+abbrev pub or_region : Option Region → Option Region → Option Region
+or_region (Some r) other = Some r
+or_region None other = other
 
 -- what name k is bound to once `name` is bound to the region that is passed for it, if it was bound to none
 abbrev pub bound_first : FrameNames → (name : ℕ) → (passed : Option Region) → (k : ℕ) → Option Region
-bound_first names name passed k = or_else (bound_in names k) (if nat_eq name k then passed else None)
+bound_first names name passed k = or_region (bound_in names k) (if nat_eq name k then passed else None)
 
 -- the region of a class
-abbrev pub class_in : FrameNames → Class → Option Region
-class_in names NoClass = None
-class_in names Global = Some GlobalRegion
-class_in names (Name k) = bound_in names k
+abbrev pub class_region_in : FrameNames → Class → Option Region
+class_region_in names NoClass = None
+class_region_in names Global = Some GlobalRegion
+class_region_in names (Name k) = bound_in names k
 
 -- what a name is bound to, without these
 abbrev pub bound_except : List ℕ → FrameNames → (k : ℕ) → Option Region
@@ -53,7 +53,7 @@ pub record HolderCalled (c d : Holder) (function : Option CodeFn) (passes : List
   pub leaves : UnbindsAll c caller (given_names (function_result_class function) (formals_of function) passes protects)
   pub names : FrameNames
   pub enters : HolderEnters caller d names
-  pub stand : (bindings : Bindings) → NamesStandFor (newest (frames_of c)) bindings
+  pub stand : (bindings : Bindings) → NamesStandFor (newest_frame_names (frame_names_of c)) bindings
       → NamesStandFor names (passed (formals_of function) (passed_regions bindings passes))
 
 -- the same of a goroutine that starts: its base are the regions that it was given at two positions
@@ -61,7 +61,7 @@ pub record HolderStarted (c d : Holder) (function : Option CodeFn) (passes : Lis
   pub names : FrameNames
   pub base : List ℕ
   pub begins : HolderBegins d names base
-  pub stand : (bindings : Bindings) → NamesStandFor (newest (frames_of c)) bindings
+  pub stand : (bindings : Bindings) → NamesStandFor (newest_frame_names (frame_names_of c)) bindings
       → NamesStandFor names (passed (formals_of function) (passed_regions bindings passes))
       × (map Numbered base ≡ twice (passed_regions bindings passes))
 

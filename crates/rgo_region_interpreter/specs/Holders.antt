@@ -8,7 +8,7 @@ use Rattle.rgo_region_machine.specs.Objects.{fill_of}
 use Rattle.rgo_region_machine.specs.Regions.{same_region, bound}
 use Rattle.rgo_region_machine.specs.States as spec
 use Rattle.rgo_region_machine.specs.States.{RegionEnvironment, NoOffer}
-use Rattle.rgo_sound.specs.Stakes.{one_if, is_in}
+use Rattle.rgo_sound.specs.Stakes.{one_when, is_in}
 use Rattle.rgo_region_interpreter.specs.declared.holders.Holder.{Holder}
 
 -- ---- names
@@ -17,13 +17,13 @@ use Rattle.rgo_region_interpreter.specs.declared.holders.Holder.{Holder}
 abbrev pub FrameNames : Type 0
 FrameNames = List (Option Region)
 
-abbrev pub or_none : Option (Option Region) → Option Region
-or_none None = None
-or_none (Some region) = region
+abbrev pub or_unbound : Option (Option Region) → Option Region
+or_unbound None = None
+or_unbound (Some region) = region
 
 -- what a name is bound to
 abbrev pub bound_in : FrameNames → ℕ → Option Region
-bound_in names k = or_none (slice_get names k)
+bound_in names k = or_unbound (slice_get names k)
 
 -- the same without this name
 abbrev pub bound_without : FrameNames → (name k : ℕ) → Option Region
@@ -34,15 +34,15 @@ abbrev pub bound_with : FrameNames → (name : ℕ) → Region → (k : ℕ) →
 bound_with names name region k = if nat_eq name k then Some region else bound_in names k
 
 -- the names of each frame, the newest first
-abbrev pub frames_of : Holder → List FrameNames
-frames_of c = reverse (map (λ (v : Vec (Option Region) _). v.items) c.frames.items)
+abbrev pub frame_names_of : Holder → List FrameNames
+frame_names_of c = reverse (map (λ (v : Vec (Option Region) _). v.items) c.frames.items)
 
-abbrev pub newest : List FrameNames → FrameNames
-newest [] = []
-newest (names ∷ frames) = names
+abbrev pub newest_frame_names : List FrameNames → FrameNames
+newest_frame_names [] = []
+newest_frame_names (names ∷ frames) = names
 
 abbrev pub region_in : Holder → ℕ → Option Region
-region_in c k = bound_in (newest (frames_of c)) k
+region_in c k = bound_in (newest_frame_names (frame_names_of c)) k
 
 -- ---- protections and fills
 
@@ -74,11 +74,11 @@ pub record SameElse (c d : Holder) : Type 0 where
   pub done : d.done ≡ c.done
 
 abbrev pub Same : Holder → Holder → Type 0
-Same c d = (frames_of d ≡ frames_of c) × SameElse c d
+Same c d = (frame_names_of d ≡ frame_names_of c) × SameElse c d
 
 -- all but the protections
 pub record SameButProtections (c d : Holder) : Type 0 where
-  pub names : frames_of d ≡ frames_of c
+  pub names : frame_names_of d ≡ frame_names_of c
   pub fills : SameFills c d
   pub base : d.base.items ≡ c.base.items
   pub reserved : d.reserved ≡ c.reserved
@@ -86,8 +86,8 @@ pub record SameButProtections (c d : Holder) : Type 0 where
 
 -- the newest frame has other names; with no frame nothing changed
 pub record Renames (c d : Holder) (change : FrameNames → ℕ → Option Region) : Type 0 where
-  pub renamed : (names : FrameNames) (frames : List FrameNames) → frames_of c ≡ names ∷ frames
-      → (others : FrameNames) × (frames_of d ≡ others ∷ frames) × ((k : ℕ) → bound_in others k ≡ change names k)
+  pub renamed : (names : FrameNames) (frames : List FrameNames) → frame_names_of c ≡ names ∷ frames
+      → (others : FrameNames) × (frame_names_of d ≡ others ∷ frames) × ((k : ℕ) → bound_in others k ≡ change names k)
   pub kept : SameElse c d
 
 abbrev pub Binds : Holder → Holder → ℕ → Region → Type 0
@@ -97,25 +97,25 @@ abbrev pub Unbinds : Holder → Holder → ℕ → Type 0
 Unbinds c d name = Renames c d (λ names k. bound_without names name k)
 
 abbrev pub HolderEnters : Holder → Holder → FrameNames → Type 0
-HolderEnters c d names = (frames_of d ≡ names ∷ frames_of c) × SameElse c d
+HolderEnters c d names = (frame_names_of d ≡ names ∷ frame_names_of c) × SameElse c d
 
 abbrev pub HolderReturns : Holder → Holder → Type 0
-HolderReturns c d = ((names : FrameNames) (frames : List FrameNames) → frames_of c ≡ names ∷ frames → frames_of d ≡ frames)
+HolderReturns c d = ((names : FrameNames) (frames : List FrameNames) → frame_names_of c ≡ names ∷ frames → frame_names_of d ≡ frames)
     × SameElse c d
 
-abbrev pub is_number : Region → ℕ → Bool
-is_number GlobalRegion r = false
-is_number (Numbered q) r = nat_eq q r
+abbrev pub is_region_number : Region → ℕ → Bool
+is_region_number GlobalRegion r = false
+is_region_number (Numbered q) r = nat_eq q r
 
 abbrev pub HolderProtects : Holder → Holder → Region → Type 0
-HolderProtects c d region = ((r : ℕ) → protections_in d r ≡ protections_in c r + one_if (is_number region r)) × SameButProtections c d
+HolderProtects c d region = ((r : ℕ) → protections_in d r ≡ protections_in c r + one_when (is_region_number region r)) × SameButProtections c d
 
 abbrev pub Unprotects : Holder → Holder → Region → Type 0
-Unprotects c d region = ((r : ℕ) → protections_in d r ≡ protections_in c r - one_if (is_number region r)) × SameButProtections c d
+Unprotects c d region = ((r : ℕ) → protections_in d r ≡ protections_in c r - one_when (is_region_number region r)) × SameButProtections c d
 
 -- all but the fills
 pub record SameGuards (c d : Holder) : Type 0 where
-  pub names : frames_of d ≡ frames_of c
+  pub names : frame_names_of d ≡ frame_names_of c
   pub protections : SameProtections c d
   pub base : d.base.items ≡ c.base.items
   pub reserved : d.reserved ≡ c.reserved
@@ -136,10 +136,10 @@ HolderLeaves c d q =
 -- how often r is in a list
 abbrev pub times_among : ℕ → List ℕ → ℕ
 times_among r [] = 0
-times_among r (q ∷ qs) = one_if (nat_eq q r) + times_among r qs
+times_among r (q ∷ qs) = one_when (nat_eq q r) + times_among r qs
 
 pub record HolderBegins (c : Holder) (names : FrameNames) (base : List ℕ) : Type 0 where
-  pub frames : frames_of c ≡ names ∷ []
+  pub frames : frame_names_of c ≡ names ∷ []
   -- each region is once in the base of a goroutine
   pub protections : (r : ℕ) → protections_in c r ≡ (if nat_eq (times_among r base) 0 then 0 else 1)
   pub base_is : c.base.items ≡ base
@@ -151,11 +151,11 @@ pub record HolderBegins (c : Holder) (names : FrameNames) (base : List ℕ) : Ty
 
 abbrev pub times_region : Region → List Region → ℕ
 times_region r [] = 0
-times_region r (s ∷ ss) = one_if (same_region r s) + times_region r ss
+times_region r (s ∷ ss) = one_when (same_region r s) + times_region r ss
 
-abbrev pub protections_of : Region → List RegionEnvironment → List Region → ℕ
-protections_of r [] base = times_region r base
-protections_of r (e ∷ es) base = times_region r e.protections + protections_of r es base
+abbrev pub protection_count : Region → List RegionEnvironment → List Region → ℕ
+protection_count r [] base = times_region r base
+protection_count r (e ∷ es) base = times_region r e.protections + protection_count r es base
 
 -- the names of the code's frames are bound to what those of the machine's environments are bound to
 abbrev pub SameBindings : List FrameNames → List RegionEnvironment → Type 0
@@ -165,8 +165,8 @@ SameBindings _ _ = ⊥
 
 -- between what a goroutine does: it makes no offer
 pub record HolderShows (c : Holder) (h : spec.Holder) : Type 0 where
-  pub names : SameBindings (frames_of c) h.environments
-  pub protections : (r : ℕ) → protections_in c r ≡ protections_of (Numbered r) h.environments h.base
+  pub names : SameBindings (frame_names_of c) h.environments
+  pub protections : (r : ℕ) → protections_in c r ≡ protection_count (Numbered r) h.environments h.base
   pub base : map Numbered c.base.items ≡ h.base
   pub fills : (r : ℕ) → is_in r h.stakes ≡ true → fill_in c (Numbered r) ≡ fill_of h.fills (Numbered r)
   pub global_fill : c.global_fill ≡ fill_of h.fills GlobalRegion
@@ -177,5 +177,5 @@ abbrev pub HolderEndsBase : Holder → Holder → Option ℕ → Type 0
 HolderEndsBase c d None = (c.base.items ≡ []) × (d ≡ c)
 HolderEndsBase c d (Some q) =
     (c.base.items ≡ q ∷ d.base.items)
-    × ((r : ℕ) → protections_in d r ≡ protections_in c r - one_if (nat_eq q r))
-    × (frames_of d ≡ frames_of c) × SameFills c d × (d.reserved ≡ c.reserved) × (d.done ≡ c.done)
+    × ((r : ℕ) → protections_in d r ≡ protections_in c r - one_when (nat_eq q r))
+    × (frame_names_of d ≡ frame_names_of c) × SameFills c d × (d.reserved ≡ c.reserved) × (d.done ≡ c.done)

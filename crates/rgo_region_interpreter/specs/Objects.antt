@@ -26,10 +26,10 @@ use Rattle.rgo_region_interpreter.specs.declared.worlds.Halt.{Halt}
 use Rattle.rgo_region_interpreter.specs.declared.worlds.Halt.TheVariants as halt
 use Rattle.rgo_region_interpreter.specs.declared.worlds.Next.{Next}
 use Rattle.rgo_region_interpreter.specs.declared.worlds.World.{World}
-use Rattle.rgo_region_interpreter.specs.Extents.{is_spread, is_too_large, pages_wanted}
+use Rattle.rgo_region_interpreter.specs.Extents.{extent_is_spread, extent_is_too_large, pages_wanted}
 use Rattle.rgo_region_interpreter.specs.Holders.{Fills, Reserves, fill_in, region_in}
 use Rattle.rgo_region_interpreter.specs.Tables.{RegionTableShows, regions_with_page, pages_with}
-use Rattle.rgo_region_interpreter.specs.Works.{Attended, IsNextOf, Ready, SameRun, StopsShort}
+use Rattle.rgo_region_interpreter.specs.Works.{Attended, IsNextInWorld, Ready, SameRun, StopsShort}
 
 -- ---- which object an instruction makes
 
@@ -44,12 +44,12 @@ abbrev pub channel_extent : ℕ → Extent
 channel_extent n = record { cells = max 1 n; words = 2 + max 1 n }
 
 -- how many cells an object of this size has; nothing is made at a negative size
-abbrev pub cells_of : Value → Option ℕ
-cells_of (value.Int (pos n)) = Some n
-cells_of _ = None
+abbrev pub cells_for_size : Value → Option ℕ
+cells_for_size (value.Int (pos n)) = Some n
+cells_for_size _ = None
 
 abbrev pub sized_extent : (ℕ → Extent) → Value → Option Extent
-sized_extent extent size = option_map extent (cells_of size)
+sized_extent extent size = option_map extent (cells_for_size size)
 
 -- how large the object is that an action on these values makes
 abbrev pub extent_made : List Struct → Action → List Value → Option Extent
@@ -94,17 +94,17 @@ making_by structs frame (Return value) = None
 
 -- goroutine g makes this object by its next instruction
 pub record GoroutineMakesNext (w : World) (g : ℕ) (next : Next) (making : Making) : Type 0 where
-  pub at : IsNextOf w g next
+  pub at : IsNextInWorld w g next
   pub is : making_by w.code.now.structs at.frame (operation_of next.op) ≡ Some making
 
 -- it makes none
 pub record MakesNone (w : World) (g : ℕ) (next : Next) : Type 0 where
-  pub at : IsNextOf w g next
+  pub at : IsNextInWorld w g next
   pub is : making_by w.code.now.structs at.frame (operation_of next.op) ≡ None
 
 -- these names are removed on the way that goroutine g takes from its next instruction
 abbrev pub RemovesBehind : World → ℕ → Next → List ℕ → Type 0
-RemovesBehind w g next removes = (at : IsNextOf w g next) → removes ≡ removes_behind at.frame at.is.instr.op
+RemovesBehind w g next removes = (at : IsNextInWorld w g next) → removes ≡ removes_behind at.frame at.is.instr.op
 
 -- ---- its region
 
@@ -141,7 +141,7 @@ WithPage false c d region = Fills c d region 0
 -- goroutine g has taken a page in a region for an object
 pub record AddsPage (w v : World) (g : ℕ) (region : Region) (extent : Extent) : Type 0 where
   pub same : v ≡ record w { table = v.table; holders = v.holders }
-  pub changed : IsChanged w v g (λ c d. WithPage (is_spread w.sizes.page_words extent) c d region)
+  pub changed : IsChanged w v g (λ c d. WithPage (extent_is_spread w.sizes.page_words extent) c d region)
   pub taken : (regions : List RegionInfo) (global_pages : ℕ) (owners : List Region) → is_live regions region ≡ true
       → RegionTableShows w.table regions global_pages owners
       → RegionTableShows v.table (regions_with_page regions region) (pages_with global_pages region) owners
@@ -175,7 +175,7 @@ Placed false c d region words = Fills c d region (unwrap_or (fill_in c region) 0
 -- an object lies in goroutine g's pages of a region
 pub record PlacesObject (w v : World) (g : ℕ) (region : Region) (extent : Extent) (object : ℕ) : Type 0 where
   pub same : v ≡ record w { table = v.table; holders = v.holders }
-  pub changed : IsChanged w v g (λ c d. Placed (is_spread w.sizes.page_words extent) c d region extent.words)
+  pub changed : IsChanged w v g (λ c d. Placed (extent_is_spread w.sizes.page_words extent) c d region extent.words)
   pub owned : (regions : List RegionInfo) (global_pages : ℕ) (owners : List Region) → is_live regions region ≡ true
       → object ≡ length owners → RegionTableShows w.table regions global_pages owners
       → RegionTableShows v.table regions global_pages (owners ++ region ∷ [])
@@ -187,7 +187,7 @@ pub record IsRoomy (w : World) (s : RegionState) (g : ℕ) (next : Next) (making
   pub region : Region
   pub is_region : making_region (Some next.function) (top_names ready.works.holder.environments) makes.at.is.instr.op
       ≡ Some region
-  pub small : is_too_large w.sizes.page_words making.extent ≡ false
+  pub small : extent_is_too_large w.sizes.page_words making.extent ≡ false
   pub has_pages : pages_wanted w.sizes.page_words ready.works.holder.reserved
       (fill_of ready.works.holder.fills region) making.extent ≡ 0
 

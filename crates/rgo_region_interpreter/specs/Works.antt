@@ -123,7 +123,7 @@ WorldHalts (halt.NoRoom why) w v =
 -- ---- the next instruction
 
 -- the next instruction of a frame of this code
-pub record IsNext (code : Code) (frame : TacFrame) (next : Next) : Type 0 where
+pub record IsNextInFrame (code : Code) (frame : TacFrame) (next : Next) : Type 0 where
   pub function : code_function code frame.function ≡ Some next.function
   pub at : next.at ≡ frame.next
   pub instr : CodeInstr
@@ -132,28 +132,28 @@ pub record IsNext (code : Code) (frame : TacFrame) (next : Next) : Type 0 where
 
 -- of some frame
 abbrev pub IsNextOfSome : Code → Next → Type 0
-IsNextOfSome code next = (frame : TacFrame) × IsNext code frame next
+IsNextOfSome code next = (frame : TacFrame) × IsNextInFrame code frame next
 
 -- of the newest frame of a goroutine
-pub record IsNextOf (w : World) (g : ℕ) (next : Next) : Type 0 where
+pub record IsNextInWorld (w : World) (g : ℕ) (next : Next) : Type 0 where
   pub frame : TacFrame
   pub callers : List TacFrame
   pub frames : slice_get w.state.goroutines g ≡ Some (frame ∷ callers)
-  pub is : IsNext w.code.now frame next
+  pub is : IsNextInFrame w.code.now frame next
 
 -- ---- whole steps
 
 -- what the three-address machine has no room for is memory
-abbrev pub without_regions : TurnEnd → TurnEnd
-without_regions (stop.NoRoom why) = stop.NoMemory
-without_regions stop.Spent = stop.Spent
-without_regions stop.Waits = stop.Waits
-without_regions stop.Printed = stop.Printed
-without_regions (stop.Operated channel) = stop.Operated channel
-without_regions (stop.Ended end) = stop.Ended end
-without_regions stop.TooDeep = stop.TooDeep
-without_regions stop.Full = stop.Full
-without_regions stop.NoMemory = stop.NoMemory
+abbrev pub plain_turn_end : TurnEnd → TurnEnd
+plain_turn_end (stop.NoRoom why) = stop.NoMemory
+plain_turn_end stop.Spent = stop.Spent
+plain_turn_end stop.Waits = stop.Waits
+plain_turn_end stop.Printed = stop.Printed
+plain_turn_end (stop.Operated channel) = stop.Operated channel
+plain_turn_end (stop.Ended end) = stop.Ended end
+plain_turn_end stop.TooDeep = stop.TooDeep
+plain_turn_end stop.Full = stop.Full
+plain_turn_end stop.NoMemory = stop.NoMemory
 
 -- a goroutine has taken a turn of at most one step on the three-address machine; all but its state is as it was
 pub record WorldTakesTurn (w v : World) (limits : Limits) (g : ℕ) (turned : Turned) : Type 0 where
@@ -216,13 +216,13 @@ pub record Ready (w : World) (s : RegionState) (g : ℕ) : Type 0 where
   pub works : Works w s g []
 
 -- the world is at some state within the limits, at which goroutine g is ready
-pub record IsReady (w : World) (limits : Limits) (g : ℕ) : Type 0 where
+pub record WorldIsReady (w : World) (limits : Limits) (g : ℕ) : Type 0 where
   pub state : RegionState
   pub ready : Ready w state g
   pub within : is_within limits (plain_at state w.state.printed) ≡ true
 
 -- the world is at some state between instructions, within the limits
-pub record IsOn (w : World) (limits : Limits) : Type 0 where
+pub record WorldIsBetween (w : World) (limits : Limits) : Type 0 where
   pub state : RegionState
   pub between : Between w state
   pub within : is_within limits (plain_at state w.state.printed) ≡ true
@@ -310,28 +310,28 @@ StartsNext next callee = (from : List ℕ) × (operation_of next.op ≡ Go calle
 
 -- the next instruction of goroutine g is a return
 abbrev pub ReturnsNext : World → ℕ → Type 0
-ReturnsNext w g = (next : Next) × IsNextOf w g next × (value : Option ℕ) × (operation_of next.op ≡ Return value)
+ReturnsNext w g = (next : Next) × IsNextInWorld w g next × (value : Option ℕ) × (operation_of next.op ≡ Return value)
 
 -- ---- the newest frame
 
-abbrev pub first_of : Option (List TacFrame) → Option TacFrame
-first_of None = None
-first_of (Some []) = None
-first_of (Some (frame ∷ callers)) = Some frame
+abbrev pub first_frame_of : Option (List TacFrame) → Option TacFrame
+first_frame_of None = None
+first_frame_of (Some []) = None
+first_frame_of (Some (frame ∷ callers)) = Some frame
 
 abbrev pub newest_of : World → ℕ → Option TacFrame
-newest_of w g = first_of (slice_get w.state.goroutines g)
+newest_of w g = first_frame_of (slice_get w.state.goroutines g)
 
-abbrev pub instr_of : World → TacFrame → Option CodeInstr
-instr_of w frame = current w.code.now frame
+abbrev pub current_instr : World → TacFrame → Option CodeInstr
+current_instr w frame = current w.code.now frame
 
 -- the goroutine has returned, does not exist, or has no next instruction
 abbrev pub GoroutineHasNoNext : World → ℕ → Type 0
-GoroutineHasNoNext w g = (frame : TacFrame) → newest_of w g ≡ Some frame → instr_of w frame ≡ None
+GoroutineHasNoNext w g = (frame : TacFrame) → newest_of w g ≡ Some frame → current_instr w frame ≡ None
 
 -- a frame's caller is at this instruction; there is no caller, or no such instruction
 abbrev pub IsCallBelow : World → List TacFrame → Next → Type 0
-IsCallBelow w callers next = (caller : TacFrame) × (below : List TacFrame) × (callers ≡ caller ∷ below) × IsNext w.code.now caller next
+IsCallBelow w callers next = (caller : TacFrame) × (below : List TacFrame) × (callers ≡ caller ∷ below) × IsNextInFrame w.code.now caller next
 
 abbrev pub NoCallBelow : World → List TacFrame → Type 0
-NoCallBelow w callers = (caller : TacFrame) (below : List TacFrame) → callers ≡ caller ∷ below → instr_of w caller ≡ None
+NoCallBelow w callers = (caller : TacFrame) (below : List TacFrame) → callers ≡ caller ∷ below → current_instr w caller ≡ None

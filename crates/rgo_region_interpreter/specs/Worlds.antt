@@ -51,13 +51,13 @@ pub record Shown (w : World) (s : RegionState) : Type 0 where
 -- ---- what is known of the code
 
 -- an instruction that is left by its first way, or by the other, has nothing to do with regions
-abbrev pub IsPlain : (first : Bool) → Option CodeInstr → Type 0
-IsPlain first instr =
+abbrev pub HasNoRegionSteps : (first : Bool) → Option CodeInstr → Type 0
+HasNoRegionSteps first instr =
     (creates_in instr ≡ []) × ((if first then removes_in instr else otherwise_in instr) ≡ [])
 
 -- so if that way is not marked
 abbrev pub Marks : WayMark → Option CodeInstr → Type 0
-Marks mark instr = (first : Bool) → is_marked mark first ≡ false → IsPlain first instr
+Marks mark instr = (first : Bool) → is_marked mark first ≡ false → HasNoRegionSteps first instr
 
 -- these are the marks of a function's instructions, and of all functions'
 abbrev pub MarksAll : List WayMark → CodeFn → Type 0

@@ -6,7 +6,7 @@ ghost use Rattle.rgo_region_machine.specs.Owed as owed;
 ghost use Rattle.rgo_region_machine.specs.Regions.{Bindings, bound};
 ghost use Rattle.rgo_region_machine.specs.declared.regions.Region.TheVariants.{Numbered};
 ghost use Rattle.rgo_region_interpreter.specs.Calls as spec;
-ghost use Rattle.rgo_region_interpreter.specs.Calls.{or_nothing};
+ghost use Rattle.rgo_region_interpreter.specs.Calls.{or_no_elements};
 ghost use Rattle.rgo_region_interpreter.specs.Holders.{bound_in};
 ghost use Rattle.rgo_region_interpreter.specs.Works.{IsNextOfSome, SameRun};
 ghost use Rattle.rgo_region_interpreter.specs.Worlds.{Prepared};
@@ -21,7 +21,7 @@ use std::collections::HashMap;
 
 /// The region of a class, by these names.
 fn region_by(names: &[Option<Region>], class: Class) -> Option<Region>
-    ensures { result ≡ spec.class_in names.now class }
+    ensures { result ≡ spec.class_region_in names.now class }
 {
     match class {
         Class::NoClass => None,
@@ -166,7 +166,7 @@ fn leave_given(
 
 /// The region parameters of the function of this number, of those of all.
 fn formals_at(formals: &[Vec<Class>], n: usize) -> &[Class]
-    ensures { result.now ≡ or_nothing (slice_get (map (λ v. v.items) formals.now) n) }
+    ensures { result.now ≡ or_no_elements (slice_get (map (λ v. v.items) formals.now) n) }
 {
     match formals.get(n) {
         Some(formals) => formals,

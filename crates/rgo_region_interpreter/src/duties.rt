@@ -10,7 +10,7 @@ ghost use Rattle.rgo_region_machine.specs.States as region;
 ghost use Rattle.rgo_region_machine.specs.States.{Duty, Create, Protect, Unprotect, Remove, EndBase, RegionState};
 ghost use Rattle.rgo_region_interpreter.specs.Attending.{has_key, EndsStake, SharesOne, CreatesAll, ProtectsAll, SharesAll, FailsToCreate};
 ghost use Rattle.rgo_region_interpreter.specs.Tables.{AreMade, MemoryShows, RegionTableShows};
-ghost use Rattle.rgo_region_interpreter.specs.Works.{Works, Attended, WorldAttends, WorldHalts, Between, SameRun, KeepsOthers, IsNextOf, Readies, Falls, done_of};
+ghost use Rattle.rgo_region_interpreter.specs.Works.{Works, Attended, WorldAttends, WorldHalts, Between, SameRun, KeepsOthers, IsNextInWorld, Readies, Falls, done_of};
 
 use crate::tables::Table;
 use crate::worlds::{Halt, Next, World};
@@ -268,7 +268,7 @@ impl<'a> World<'a> {
 
     /// Does what is left to do of what a goroutine owes before its next instruction.
     pub(crate) fn prepare(&mut self, alloc: Global, g: usize, next: &Next<'a>) -> Result<(), Halt>
-        requires next { IsNextOf self.old g next.now }
+        requires next { IsNextInWorld self.old g next.now }
         ensures readied { MatchResult result (λ _. (s : RegionState) → Between self.old s → Readies self.old self.new s g)
             (λ halt. Falls halt self.old self.new g) }
     {

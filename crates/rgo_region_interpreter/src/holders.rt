@@ -101,7 +101,7 @@ impl Holder {
 
     /// The regions that the names of the newest frame are bound to.
     pub(crate) fn names(&self) -> &[Option<Region>]
-        ensures { result.now ≡ spec.newest (spec.frames_of self.now) }
+        ensures { result.now ≡ spec.newest_frame_names (spec.frame_names_of self.now) }
     {
         match self.frames.last() {
             Some(names) => names,

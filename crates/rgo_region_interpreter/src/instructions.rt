@@ -8,7 +8,7 @@ ghost use Rattle.rgo_region_machine.specs.States as region;
 ghost use Rattle.rgo_region_machine.specs.States.{EndBase, Remove, Unprotect, RegionState, frames_of, plain_at};
 ghost use Rattle.rgo_region_interpreter.specs.Objects.{IsRoomy, GoroutineMakesNext, MakesNone, RemovesBehind};
 ghost use Rattle.rgo_region_interpreter.specs.Works as works;
-ghost use Rattle.rgo_region_interpreter.specs.Works.{Between, BothWork, Ready, IsOn, IsReady, IsNext, IsNextOf, ActsNext, CallsNext, StartsNext, ReturnsNext, OthersOwe, WorldSettled, MayStep, WorldTakesTurn, TakesStep, WorldTakesSteps, Works};
+ghost use Rattle.rgo_region_interpreter.specs.Works.{Between, BothWork, Ready, WorldIsBetween, WorldIsReady, IsNextInFrame, IsNextInWorld, ActsNext, CallsNext, StartsNext, ReturnsNext, OthersOwe, WorldSettled, MayStep, WorldTakesTurn, TakesStep, WorldTakesSteps, Works};
 
 use crate::objects::{Making, next_object};
 use crate::worlds::{Next, World};
@@ -20,7 +20,7 @@ use std::alloc::{AllocError, Global};
 
 /// The names that are removed on the way that a frame takes from its next instruction.
 fn removes_behind<'a>(frame: &Frame, next: &Next<'a>) -> &'a [u32]
-    ensures { (code : Code) (is : IsNext code frame.now next.now) → result.now ≡ owed.removes_behind frame.now is.instr.op }
+    ensures { (code : Code) (is : IsNextInFrame code frame.now next.now) → result.now ≡ owed.removes_behind frame.now is.instr.op }
 {
     match next.op {
         Op::Branch { test, .. } if !is_true(frame.value(test)) => next.function.otherwise(next.at),
@@ -66,7 +66,7 @@ fn goes_on(turned: Turned) -> bool
 
 /// Why a turn of the three-address machine was over: it has no pages to run out of, so what it lacks is memory.
 fn without_regions(stop: TurnEnd) -> TurnEnd
-    ensures { result ≡ works.without_regions stop }
+    ensures { result ≡ works.plain_turn_end stop }
 {
     match stop {
         TurnEnd::NoRoom(_) => TurnEnd::NoMemory,
@@ -211,7 +211,7 @@ impl<'a> World<'a> {
         requires kind { ActsNext next.now }
         requires makes { MakesNone self.old g next.now }
         requires removes { RemovesBehind self.old g next.now removes.now }
-        requires ready { IsReady self.old limits g }
+        requires ready { WorldIsReady self.old limits g }
         ensures takes { (s : RegionState) → Ready self.old s g → is_within limits (plain_at s self.old.state.printed) ≡ true
             → TakesStep self.old self.new limits s g 1 result }
     {
@@ -235,7 +235,7 @@ impl<'a> World<'a> {
         requires kind { ActsNext next.now }
         requires makes { GoroutineMakesNext self.old g next.now making }
         requires removes { RemovesBehind self.old g next.now removes.now }
-        requires ready { IsReady self.old limits g }
+        requires ready { WorldIsReady self.old limits g }
         ensures takes { (s : RegionState) → IsRoomy self.old s g next.now making
             → is_within limits (plain_at s self.old.state.printed) ≡ true
             → TakesStep self.old self.new limits s g 1 result }
@@ -256,9 +256,9 @@ impl<'a> World<'a> {
     /// An instruction other than a call, a start or a return. If it makes an object, room for that is made first: without a page
     /// the instruction is not done.
     fn act(&mut self, alloc: Global, limits: Limits, g: usize, next: &Next<'a>) -> Turned
-        requires next { IsNextOf self.old g next.now }
+        requires next { IsNextInWorld self.old g next.now }
         requires kind { ActsNext next.now }
-        requires ready { IsReady self.old limits g }
+        requires ready { WorldIsReady self.old limits g }
         ensures takes { (s : RegionState) → Ready self.old s g → is_within limits (plain_at s self.old.state.printed) ≡ true
             → TakesStep self.old self.new limits s g 1 result }
     {
@@ -287,9 +287,9 @@ impl<'a> World<'a> {
         next: &Next<'a>,
         callee: usize,
     ) -> Turned
-        requires next { IsNextOf self.old g next.now }
+        requires next { IsNextInWorld self.old g next.now }
         requires calls { CallsNext next.now callee }
-        requires ready { IsReady self.old limits g }
+        requires ready { WorldIsReady self.old limits g }
         ensures takes { (s : RegionState) → Ready self.old s g → is_within limits (plain_at s self.old.state.printed) ≡ true
             → TakesStep self.old self.new limits s g 1 result }
     {
@@ -314,9 +314,9 @@ impl<'a> World<'a> {
         next: &Next<'a>,
         callee: usize,
     ) -> Turned
-        requires next { IsNextOf self.old g next.now }
+        requires next { IsNextInWorld self.old g next.now }
         requires starts { StartsNext next.now callee }
-        requires ready { IsReady self.old limits g }
+        requires ready { WorldIsReady self.old limits g }
         ensures takes { (s : RegionState) → Ready self.old s g → is_within limits (plain_at s self.old.state.printed) ≡ true
             → TakesStep self.old self.new limits s g 1 result }
     {
@@ -349,7 +349,7 @@ impl<'a> World<'a> {
     /// A return.
     fn give_back(&mut self, alloc: Global, limits: Limits, g: usize) -> Turned
         requires next { ReturnsNext self.old g }
-        requires ready { IsReady self.old limits g }
+        requires ready { WorldIsReady self.old limits g }
         ensures takes { (s : RegionState) → Ready self.old s g → is_within limits (plain_at s self.old.state.printed) ≡ true
             → TakesStep self.old self.new limits s g 1 result }
     {
@@ -371,8 +371,8 @@ impl<'a> World<'a> {
 
     /// A goroutine's next instruction, before which nothing is left to do, with what it owes after it.
     fn perform(&mut self, alloc: Global, limits: Limits, g: usize, next: &Next<'a>) -> Turned
-        requires next { IsNextOf self.old g next.now }
-        requires ready { IsReady self.old limits g }
+        requires next { IsNextInWorld self.old g next.now }
+        requires ready { WorldIsReady self.old limits g }
         ensures takes { (s : RegionState) → Ready self.old s g → is_within limits (plain_at s self.old.state.printed) ≡ true
             → TakesStep self.old self.new limits s g 1 result }
     {
@@ -388,7 +388,7 @@ impl<'a> World<'a> {
 
     /// A goroutine's next instruction, with what it owes before and after it.
     pub(crate) fn step(&mut self, alloc: Global, limits: Limits, g: usize) -> Turned
-        requires on { IsOn self.old limits }
+        requires on { WorldIsBetween self.old limits }
         ensures takes { WorldTakesSteps self.old self.new limits g 1 result }
     {
         // It has returned, or does not exist: it has no step.

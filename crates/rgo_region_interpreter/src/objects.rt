@@ -42,14 +42,14 @@ pub(crate) struct Making {
 impl Extent {
     /// Whether an object does not fit a page, and is spread over a lead page and data pages.
     fn is_spread(self, page_words: usize) -> bool
-        ensures { result ≡ extents.is_spread page_words self }
+        ensures { result ≡ extents.extent_is_spread page_words self }
     {
         self.words > page_words
     }
 
     /// How many data pages an object has; none unless it is spread.
     fn data_pages(self, page_words: usize) -> usize
-        ensures { result ≡ extents.data_pages page_words self }
+        ensures { result ≡ extents.extent_data_pages page_words self }
     {
         if !self.is_spread(page_words) {
             return 0;
@@ -62,7 +62,7 @@ impl Extent {
 
     /// Whether an object has more data pages than there can be.
     fn is_too_large(self, page_words: usize) -> bool
-        ensures { result ≡ extents.is_too_large page_words self }
+        ensures { result ≡ extents.extent_is_too_large page_words self }
     {
         self.data_pages(page_words) > page_words.saturating_sub(2).min(64)
     }
@@ -70,7 +70,7 @@ impl Extent {
     /// How many pages are to be taken before an object, if `reserved` are reserved for it and `used` words are used of the
     /// goroutine's own page.
     fn pages_wanted(self, page_words: usize, reserved: usize, used: Option<usize>) -> usize
-        requires { extents.is_too_large page_words self ≡ false }
+        requires { extents.extent_is_too_large page_words self ≡ false }
         ensures { result ≡ extents.pages_wanted page_words reserved used self }
     {
         if self.is_spread(page_words) {
@@ -101,7 +101,7 @@ fn struct_extent(structs: &[Struct], n: usize) -> Option<Extent>
 
 /// How many cells an object of this size has; `None` if it is not a size.
 fn cells(size: Value) -> Option<usize>
-    ensures { result ≡ spec.cells_of size }
+    ensures { result ≡ spec.cells_for_size size }
 {
     match size {
         Value::Int(n) if n >= 0 => Some(n as usize),
@@ -298,7 +298,7 @@ impl<'a> World<'a> {
     /// A page more is reserved for an object, if it is spread; else it is the goroutine's own in a region.
     fn keep_page(&mut self, g: usize, region: Region, extent: Extent) -> Result<(), AllocError>
         ensures kept { OnOk result (ChangesHolder self.old self.new g
-            (λ c d. WithPage (extents.is_spread self.old.sizes.page_words extent) c d region)) }
+            (λ c d. WithPage (extents.extent_is_spread self.old.sizes.page_words extent) c d region)) }
         ensures same { SameRun self.old self.new }
     {
         if extent.is_spread(self.sizes.page_words) {
@@ -320,7 +320,7 @@ impl<'a> World<'a> {
 
     /// How many pages a goroutine is to take in a region before an object.
     fn pages_wanted(&self, g: usize, region: Region, extent: Extent) -> usize
-        requires { extents.is_too_large self.now.sizes.page_words extent ≡ false }
+        requires { extents.extent_is_too_large self.now.sizes.page_words extent ≡ false }
         ensures { result ≡ spec.pages_wanted_for self.now g region extent }
     {
         extent.pages_wanted(
@@ -340,7 +340,7 @@ impl<'a> World<'a> {
     ) -> Result<(), Halt>
         requires makes { GoroutineMakesNext self.old g next.now making }
         requires region { spec.region_for self.old g next.now making ≡ Some region }
-        requires small { extents.is_too_large self.old.sizes.page_words making.extent ≡ false }
+        requires small { extents.extent_is_too_large self.old.sizes.page_words making.extent ≡ false }
         ensures { MatchResult result (λ _. (s : RegionState) → Ready self.old s g
             → ObjectHasRoom self.old self.new s g next.now making) (λ halt. ObjectHasNoRoom halt self.old self.new g) }
     {
@@ -379,7 +379,7 @@ impl<'a> World<'a> {
     /// region.
     fn use_room(&mut self, g: usize, region: Region, extent: Extent) -> Result<(), AllocError>
         ensures used { OnOk result (ChangesHolder self.old self.new g
-            (λ c d. Placed (extents.is_spread self.old.sizes.page_words extent) c d region extent.words)) }
+            (λ c d. Placed (extents.extent_is_spread self.old.sizes.page_words extent) c d region extent.words)) }
         ensures same { SameRun self.old self.new }
     {
         if extent.is_spread(self.sizes.page_words) {

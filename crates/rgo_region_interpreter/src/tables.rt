@@ -2,7 +2,7 @@
 
 ghost use Rattle.std.specs.Prelude.{◌≡◌, ◌<◌, ◌+◌, ◌-◌, ◌++◌, ◌∷◌, [], ℕ, List, Some, true, OnOk, OnErr, IfOk, length, nat_eq, slice_get};
 ghost use Rattle.rgo_memory.specs.Memory as plain;
-ghost use Rattle.rgo_interpreter.specs.Views.{memory_of};
+ghost use Rattle.rgo_interpreter.specs.Views.{memory_view};
 ghost use Rattle.rgo_region_machine.specs.Regions.{RegionInfo, is_live, with_info, with_added_stake, one_fewer, one_page_more};
 ghost use Rattle.rgo_region_machine.specs.declared.regions.Region.TheVariants.{Global as GlobalRegion, Numbered};
 ghost use Rattle.rgo_region_interpreter.specs.Tables as spec;
@@ -125,8 +125,8 @@ impl Table {
         ensures memory { (regions : List RegionInfo) (global_pages : ℕ) (owners : List _) (whole : plain.Memory)
             → is_live regions (Numbered r) ≡ true → RegionTableShows self.old regions global_pages owners
             → spec.AreMade regions owners → length owners ≡ length whole.heap
-            → MemoryShows (memory_of memory.old) regions owners whole
-            → MemoryShows (memory_of memory.new) (with_info regions r one_fewer) owners whole }
+            → MemoryShows (memory_view memory.old) regions owners whole
+            → MemoryShows (memory_view memory.new) (with_info regions r one_fewer) owners whole }
     {
         // Never taken: the region is live, so it has a row.
         let Some(row) = self.rows.get_mut(&r) else {
@@ -193,7 +193,7 @@ impl Table {
 
 /// Frees these objects.
 fn take_away_all(memory: &mut Memory, objects: &[usize])
-    ensures { memory_of memory.new ≡ spec.without_objects objects.now (memory_of memory.old) }
+    ensures { memory_view memory.new ≡ spec.without_objects objects.now (memory_view memory.old) }
 {
     for object in objects {
         memory.take_away(*object);

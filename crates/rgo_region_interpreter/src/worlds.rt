@@ -5,7 +5,7 @@ ghost use Rattle.rgo_tac.specs.Tac.{tac};
 ghost use Rattle.rgo_code.specs.Erasure.{erased};
 ghost use Rattle.rgo_region_interpreter.specs.declared.worlds.Halt.TheVariants.{NoMemory};
 ghost use Rattle.rgo_region_interpreter.specs.Works as spec;
-ghost use Rattle.rgo_region_interpreter.specs.Works.{IsNext, IsNextOf};
+ghost use Rattle.rgo_region_interpreter.specs.Works.{IsNextInFrame, IsNextInWorld};
 
 use crate::holders::Holder;
 use crate::tables::Table;
@@ -83,7 +83,7 @@ impl<'a> World<'a> {
     /// The next instruction of a frame. It is inlined, so that what is not asked of it is not decoded.
     #[inline(always)]
     pub(crate) fn next_of(&self, frame: &Frame) -> Option<Next<'a>>
-        ensures { MatchOption result (spec.instr_of self.now frame.now ≡ None) (IsNext self.now.code.now frame.now) }
+        ensures { MatchOption result (spec.current_instr self.now frame.now ≡ None) (IsNextInFrame self.now.code.now frame.now) }
     {
         let function = self.code.function(frame.function)?;
         let op = function.tac().op(frame.next)?;
@@ -97,7 +97,7 @@ impl<'a> World<'a> {
     /// The next instruction of a goroutine.
     #[inline(always)]
     pub(crate) fn next(&self, g: usize) -> Option<Next<'a>>
-        ensures { MatchOption result (spec.GoroutineHasNoNext self.now g) (IsNextOf self.now g) }
+        ensures { MatchOption result (spec.GoroutineHasNoNext self.now g) (IsNextInWorld self.now g) }
     {
         self.next_of(self.newest(g)?)
     }

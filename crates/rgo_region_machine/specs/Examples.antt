@@ -32,30 +32,30 @@ use Rattle.rgo_region_machine.specs.States.{Mark, Ended, Holder, RegionState}
 abbrev pub int_slot : Slot
 int_slot = record { ty = int; class = NoClass }
 
-abbrev pub slot_of : «Type» → Class → Slot
-slot_of ty class = record { ty = ty; class = class }
+abbrev pub slot_in_class : «Type» → Class → Slot
+slot_in_class ty class = record { ty = ty; class = class }
 
 -- struct N { v int; next *N }
-abbrev pub node : Struct
-node = record { name = codes "N"; fields = int ∷ pointer_to 0 ∷ [] }
+abbrev pub node_struct : Struct
+node_struct = record { name = codes "N"; fields = int ∷ pointer_to 0 ∷ [] }
 
 abbrev pub node_slot : Class → Slot
-node_slot c = slot_of (pointer_to 0) c
+node_slot c = slot_in_class (pointer_to 0) c
 
-abbrev pub creating : List ℕ → CodeOp → CodeInstr
-creating creates op = record { creates = creates; op = op; place = 0 }
+abbrev pub creating_instr : List ℕ → CodeOp → CodeInstr
+creating_instr creates op = record { creates = creates; op = op; place = 0 }
 
-abbrev pub plain : CodeOp → CodeInstr
-plain op = creating [] op
+abbrev pub plain_instr : CodeOp → CodeInstr
+plain_instr op = creating_instr [] op
 
-abbrev pub printing : ℕ → CodeInstr
-printing v = plain (Print (piece.Value ∷ []) (v ∷ []) [])
+abbrev pub printing_instr : ℕ → CodeInstr
+printing_instr v = plain_instr (Print (piece.Value ∷ []) (v ∷ []) [])
 
 abbrev pub no_undeclared : Undeclared
 no_undeclared = record { structs = []; variables = []; functions = [] }
 
-abbrev pub code_of : List Struct → List CodeFn → Code
-code_of structs functions = record {
+abbrev pub small_code : List Struct → List CodeFn → Code
+small_code structs functions = record {
   structs = structs;
   variables = [];
   functions = functions;
@@ -73,17 +73,17 @@ main_of variables body = record {
 }
 
 -- x := new(N); y := x; fmt.Println(y.v)
-abbrev pub one_object : Code
-one_object = code_of (node ∷ []) (main_of (node_slot (Name 0) ∷ node_slot (Name 0) ∷ int_slot ∷ []) (
-    creating (0 ∷ []) (Do (Some 0) (action.New 0) [] [])
-    ∷ plain (Do (Some 1) action.Copy (0 ∷ []) [])
-    ∷ plain (Do (Some 2) (action.Load 0) (1 ∷ []) (0 ∷ []))
-    ∷ printing 2
-    ∷ plain (Return None) ∷ []) ∷ [])
+abbrev pub aliased_object : Code
+aliased_object = small_code (node_struct ∷ []) (main_of (node_slot (Name 0) ∷ node_slot (Name 0) ∷ int_slot ∷ []) (
+    creating_instr (0 ∷ []) (Do (Some 0) (action.New 0) [] [])
+    ∷ plain_instr (Do (Some 1) action.Copy (0 ∷ []) [])
+    ∷ plain_instr (Do (Some 2) (action.Load 0) (1 ∷ []) (0 ∷ []))
+    ∷ printing_instr 2
+    ∷ plain_instr (Return None) ∷ []) ∷ [])
 
 -- func f(a, b *N) int { return a.v + b.v }, and a `main` that passes one object twice: x := &N{21, nil}; f(x, x)
 abbrev pub passed_twice : Code
-passed_twice = code_of (node ∷ []) (
+passed_twice = small_code (node_struct ∷ []) (
     record {
       name = codes "f";
       params = 2;
@@ -91,72 +91,72 @@ passed_twice = code_of (node ∷ []) (
       variables = node_slot (Name 0) ∷ node_slot (Name 1) ∷ int_slot ∷ int_slot ∷ int_slot ∷ [];
       entry = [];
       body =
-          plain (Do (Some 2) (action.Load 0) (0 ∷ []) (0 ∷ []))
-          ∷ plain (Do (Some 3) (action.Load 0) (1 ∷ []) (1 ∷ []))
-          ∷ plain (Do (Some 4) (action.Binary Add) (2 ∷ 3 ∷ []) [])
-          ∷ plain (Return (Some 4)) ∷ [];
+          plain_instr (Do (Some 2) (action.Load 0) (0 ∷ []) (0 ∷ []))
+          ∷ plain_instr (Do (Some 3) (action.Load 0) (1 ∷ []) (1 ∷ []))
+          ∷ plain_instr (Do (Some 4) (action.Binary Add) (2 ∷ 3 ∷ []) [])
+          ∷ plain_instr (Return (Some 4)) ∷ [];
     }
     ∷ main_of (int_slot ∷ node_slot (Name 0) ∷ int_slot ∷ []) (
-    plain (Do (Some 0) (action.Int (pos 21)) [] [])
-    ∷ creating (0 ∷ []) (Do (Some 1) (action.New 0) [] [])
-    ∷ plain (Do None (action.Store 0) (1 ∷ 0 ∷ []) [])
-    ∷ plain (Call (Some 2) 0 (1 ∷ 1 ∷ []) (Name 0 ∷ Name 0 ∷ []) (0 ∷ []) (0 ∷ []))
-    ∷ printing 2
-    ∷ plain (Return None) ∷ []) ∷ [])
+    plain_instr (Do (Some 0) (action.Int (pos 21)) [] [])
+    ∷ creating_instr (0 ∷ []) (Do (Some 1) (action.New 0) [] [])
+    ∷ plain_instr (Do None (action.Store 0) (1 ∷ 0 ∷ []) [])
+    ∷ plain_instr (Call (Some 2) 0 (1 ∷ 1 ∷ []) (Name 0 ∷ Name 0 ∷ []) (0 ∷ []) (0 ∷ []))
+    ∷ printing_instr 2
+    ∷ plain_instr (Return None) ∷ []) ∷ [])
 
 -- func s(c chan int) { c <- 5 }, and a `main` that starts it and receives
 abbrev pub sender_and_receiver : Code
-sender_and_receiver = code_of [] (
-    main_of (int_slot ∷ slot_of (chan_of int) (Name 0) ∷ int_slot ∷ []) (
-    plain (Do (Some 0) (action.Int (pos 0)) [] [])
-    ∷ creating (0 ∷ []) (Do (Some 1) action.Chan (0 ∷ []) [])
-    ∷ plain (Go 1 (1 ∷ []) (Name 0 ∷ []) [])
-    ∷ plain (Do (Some 2) action.Recv (1 ∷ []) (0 ∷ []))
-    ∷ printing 2
-    ∷ plain (Return None) ∷ [])
+sender_and_receiver = small_code [] (
+    main_of (int_slot ∷ slot_in_class (chan_of int) (Name 0) ∷ int_slot ∷ []) (
+    plain_instr (Do (Some 0) (action.Int (pos 0)) [] [])
+    ∷ creating_instr (0 ∷ []) (Do (Some 1) action.Chan (0 ∷ []) [])
+    ∷ plain_instr (Go 1 (1 ∷ []) (Name 0 ∷ []) [])
+    ∷ plain_instr (Do (Some 2) action.Recv (1 ∷ []) (0 ∷ []))
+    ∷ printing_instr 2
+    ∷ plain_instr (Return None) ∷ [])
     ∷ record {
       name = codes "s";
       params = 1;
       result = None;
-      variables = slot_of (chan_of int) (Name 0) ∷ int_slot ∷ [];
+      variables = slot_in_class (chan_of int) (Name 0) ∷ int_slot ∷ [];
       entry = [];
       body =
-          plain (Do (Some 1) (action.Int (pos 5)) [] [])
-          ∷ plain (Do None action.Send (0 ∷ 1 ∷ []) (0 ∷ []))
-          ∷ plain (Return None) ∷ [];
+          plain_instr (Do (Some 1) (action.Int (pos 5)) [] [])
+          ∷ plain_instr (Do None action.Send (0 ∷ 1 ∷ []) (0 ∷ []))
+          ∷ plain_instr (Return None) ∷ [];
     } ∷ [])
 
 -- func f(a, b *N) {} without a use, and a `main` that starts it with one region at both positions
 abbrev pub started_twice : Code
-started_twice = code_of (node ∷ []) (
+started_twice = small_code (node_struct ∷ []) (
     main_of (node_slot (Name 0) ∷ []) (
-    creating (0 ∷ []) (Do (Some 0) (action.New 0) [] [])
-    ∷ plain (Go 1 (0 ∷ 0 ∷ []) (Name 0 ∷ Name 0 ∷ []) (0 ∷ []))
-    ∷ plain (Do (Some 0) action.Nil [] [])
-    ∷ plain (Return None) ∷ [])
+    creating_instr (0 ∷ []) (Do (Some 0) (action.New 0) [] [])
+    ∷ plain_instr (Go 1 (0 ∷ 0 ∷ []) (Name 0 ∷ Name 0 ∷ []) (0 ∷ []))
+    ∷ plain_instr (Do (Some 0) action.Nil [] [])
+    ∷ plain_instr (Return None) ∷ [])
     ∷ record {
       name = codes "f";
       params = 2;
       result = None;
       variables = node_slot (Name 0) ∷ node_slot (Name 1) ∷ [];
       entry = 0 ∷ 1 ∷ [];
-      body = plain (Return None) ∷ [];
+      body = plain_instr (Return None) ∷ [];
     } ∷ [])
 
 -- an index outside of a slice, which traps before the removal of its region
 abbrev pub trapping : Code
-trapping = code_of [] (main_of (slot_of (slice_of int) (Name 0) ∷ int_slot ∷ int_slot ∷ []) (
-    plain (Do (Some 1) (action.Int (pos 0)) [] [])
-    ∷ creating (0 ∷ []) (Do (Some 0) action.Slice (1 ∷ []) [])
-    ∷ plain (Do (Some 2) action.At (0 ∷ 1 ∷ []) (0 ∷ []))
-    ∷ plain (Return None) ∷ []) ∷ [])
+trapping = small_code [] (main_of (slot_in_class (slice_of int) (Name 0) ∷ int_slot ∷ int_slot ∷ []) (
+    plain_instr (Do (Some 1) (action.Int (pos 0)) [] [])
+    ∷ creating_instr (0 ∷ []) (Do (Some 0) action.Slice (1 ∷ []) [])
+    ∷ plain_instr (Do (Some 2) action.At (0 ∷ 1 ∷ []) (0 ∷ []))
+    ∷ plain_instr (Return None) ∷ []) ∷ [])
 
 -- x := new(N); y := new(N), each in a region of its own. What the first of them removes is gone before the second.
 abbrev pub two_objects : (removes : List ℕ) → Code
-two_objects removes = code_of (node ∷ []) (main_of (node_slot (Name 0) ∷ node_slot (Name 1) ∷ []) (
-    creating (0 ∷ []) (Do (Some 0) (action.New 0) [] removes)
-    ∷ creating (1 ∷ []) (Do (Some 1) (action.New 0) [] [])
-    ∷ plain (Return None) ∷ []) ∷ [])
+two_objects removes = small_code (node_struct ∷ []) (main_of (node_slot (Name 0) ∷ node_slot (Name 1) ∷ []) (
+    creating_instr (0 ∷ []) (Do (Some 0) (action.New 0) [] removes)
+    ∷ creating_instr (1 ∷ []) (Do (Some 1) (action.New 0) [] [])
+    ∷ plain_instr (Return None) ∷ []) ∷ [])
 
 abbrev pub both_live : Code
 both_live = two_objects []
@@ -166,51 +166,51 @@ one_live = two_objects (0 ∷ [])
 
 -- s := make([]int, n); s[last] = 9; fmt.Println(s[last], s[other])
 abbrev pub long_slice : (n last other : ℕ) → Code
-long_slice n last other = code_of [] (main_of (slot_of (slice_of int) (Name 0) ∷ int_slot ∷ int_slot ∷ int_slot ∷ []) (
-    plain (Do (Some 1) (action.Int (pos n)) [] [])
-    ∷ creating (0 ∷ []) (Do (Some 0) action.Slice (1 ∷ []) [])
-    ∷ plain (Do (Some 1) (action.Int (pos last)) [] [])
-    ∷ plain (Do (Some 2) (action.Int (pos 9)) [] [])
-    ∷ plain (Do None action.Put (0 ∷ 1 ∷ 2 ∷ []) [])
-    ∷ plain (Do (Some 2) action.At (0 ∷ 1 ∷ []) [])
-    ∷ plain (Do (Some 1) (action.Int (pos other)) [] [])
-    ∷ plain (Do (Some 3) action.At (0 ∷ 1 ∷ []) (0 ∷ []))
-    ∷ plain (Print (piece.Value ∷ piece.Value ∷ []) (2 ∷ 3 ∷ []) [])
-    ∷ plain (Return None) ∷ []) ∷ [])
+long_slice n last other = small_code [] (main_of (slot_in_class (slice_of int) (Name 0) ∷ int_slot ∷ int_slot ∷ int_slot ∷ []) (
+    plain_instr (Do (Some 1) (action.Int (pos n)) [] [])
+    ∷ creating_instr (0 ∷ []) (Do (Some 0) action.Slice (1 ∷ []) [])
+    ∷ plain_instr (Do (Some 1) (action.Int (pos last)) [] [])
+    ∷ plain_instr (Do (Some 2) (action.Int (pos 9)) [] [])
+    ∷ plain_instr (Do None action.Put (0 ∷ 1 ∷ 2 ∷ []) [])
+    ∷ plain_instr (Do (Some 2) action.At (0 ∷ 1 ∷ []) [])
+    ∷ plain_instr (Do (Some 1) (action.Int (pos other)) [] [])
+    ∷ plain_instr (Do (Some 3) action.At (0 ∷ 1 ∷ []) (0 ∷ []))
+    ∷ plain_instr (Print (piece.Value ∷ piece.Value ∷ []) (2 ∷ 3 ∷ []) [])
+    ∷ plain_instr (Return None) ∷ []) ∷ [])
 
 -- c := make(chan int, n); c <- n; fmt.Println(<-c)
 abbrev pub long_channel : (n : ℕ) → Code
-long_channel n = code_of [] (main_of (slot_of (chan_of int) (Name 0) ∷ int_slot ∷ []) (
-    plain (Do (Some 1) (action.Int (pos n)) [] [])
-    ∷ creating (0 ∷ []) (Do (Some 0) action.Chan (1 ∷ []) [])
-    ∷ plain (Do None action.Send (0 ∷ 1 ∷ []) [])
-    ∷ plain (Do (Some 1) action.Recv (0 ∷ []) (0 ∷ []))
-    ∷ printing 1
-    ∷ plain (Return None) ∷ []) ∷ [])
+long_channel n = small_code [] (main_of (slot_in_class (chan_of int) (Name 0) ∷ int_slot ∷ []) (
+    plain_instr (Do (Some 1) (action.Int (pos n)) [] [])
+    ∷ creating_instr (0 ∷ []) (Do (Some 0) action.Chan (1 ∷ []) [])
+    ∷ plain_instr (Do None action.Send (0 ∷ 1 ∷ []) [])
+    ∷ plain_instr (Do (Some 1) action.Recv (0 ∷ []) (0 ∷ []))
+    ∷ printing_instr 1
+    ∷ plain_instr (Return None) ∷ []) ∷ [])
 
 -- x := new(N); s := make([]int, n); x = new(N), all in one region
 abbrev pub slice_between : (n : ℕ) → Code
-slice_between n = code_of (node ∷ []) (main_of (node_slot (Name 0) ∷ slot_of (slice_of int) (Name 0) ∷ int_slot ∷ []) (
-    creating (0 ∷ []) (Do (Some 0) (action.New 0) [] [])
-    ∷ plain (Do (Some 2) (action.Int (pos n)) [] [])
-    ∷ plain (Do (Some 1) action.Slice (2 ∷ []) [])
-    ∷ plain (Do (Some 0) (action.New 0) [] (0 ∷ []))
-    ∷ plain (Return None) ∷ []) ∷ [])
+slice_between n = small_code (node_struct ∷ []) (main_of (node_slot (Name 0) ∷ slot_in_class (slice_of int) (Name 0) ∷ int_slot ∷ []) (
+    creating_instr (0 ∷ []) (Do (Some 0) (action.New 0) [] [])
+    ∷ plain_instr (Do (Some 2) (action.Int (pos n)) [] [])
+    ∷ plain_instr (Do (Some 1) action.Slice (2 ∷ []) [])
+    ∷ plain_instr (Do (Some 0) (action.New 0) [] (0 ∷ []))
+    ∷ plain_instr (Return None) ∷ []) ∷ [])
 
 -- func f() { s := make([]int, n) }, and a `main` that starts it and returns
 abbrev pub left_alone : (n : ℕ) → Code
-left_alone n = code_of [] (
-    main_of [] (plain (Go 1 [] [] []) ∷ plain (Return None) ∷ [])
+left_alone n = small_code [] (
+    main_of [] (plain_instr (Go 1 [] [] []) ∷ plain_instr (Return None) ∷ [])
     ∷ record {
       name = codes "f";
       params = 0;
       result = None;
-      variables = slot_of (slice_of int) (Name 0) ∷ int_slot ∷ [];
+      variables = slot_in_class (slice_of int) (Name 0) ∷ int_slot ∷ [];
       entry = [];
       body =
-          plain (Do (Some 1) (action.Int (pos n)) [] [])
-          ∷ creating (0 ∷ []) (Do (Some 0) action.Slice (1 ∷ []) (0 ∷ []))
-          ∷ plain (Return None) ∷ [];
+          plain_instr (Do (Some 1) (action.Int (pos n)) [] [])
+          ∷ creating_instr (0 ∷ []) (Do (Some 0) action.Slice (1 ∷ []) (0 ∷ []))
+          ∷ plain_instr (Return None) ∷ [];
     } ∷ [])
 
 -- ---- runs
@@ -258,14 +258,14 @@ abbrev pub one_live_run : List Event
 one_live_run = Attend 0 ∷ TakePage 0 ∷ step ∷ Attend 0 ∷ Attend 0 ∷ TakePage 0 ∷ step ∷ []
 
 -- the size, the region, and n pages for the object
-abbrev pub taking : (pages : ℕ) → List Event
-taking pages = step ∷ Attend 0 ∷ replicate pages (TakePage 0)
+abbrev pub taking_pages : (pages : ℕ) → List Event
+taking_pages pages = step ∷ Attend 0 ∷ replicate pages (TakePage 0)
 
 abbrev pub long_slice_run : (pages : ℕ) → List Event
-long_slice_run pages = taking pages ++ (replicate 7 step ++ (Attend 0 ∷ step ∷ step ∷ []))
+long_slice_run pages = taking_pages pages ++ (replicate 7 step ++ (Attend 0 ∷ step ∷ step ∷ []))
 
 abbrev pub long_channel_run : (pages : ℕ) → List Event
-long_channel_run pages = taking pages ++ (step ∷ step ∷ step ∷ Attend 0 ∷ step ∷ step ∷ [])
+long_channel_run pages = taking_pages pages ++ (step ∷ step ∷ step ∷ Attend 0 ∷ step ∷ step ∷ [])
 
 -- the second structure goes into the page in which the first one is
 abbrev pub slice_between_run : (pages : ℕ) → List Event
@@ -281,8 +281,8 @@ abbrev pub outcome : RegionState → List ℕ × Option Mark × Counts
 outcome s = (s.plain.printed, s.mark, counts_of s)
 
 -- the number, printed
-abbrev pub line : ℕ → List ℕ
-line n = printed_line (piece.Value ∷ []) (value.Int (pos n) ∷ [])
+abbrev pub line_of_one : ℕ → List ℕ
+line_of_one n = printed_line (piece.Value ∷ []) (value.Int (pos n) ∷ [])
 
 abbrev pub GivesIn : (page_words : ℕ) → Code → List Event → List ℕ → Option Mark → Counts → Type 0
 GivesIn page_words code events print mark counts =
@@ -291,8 +291,8 @@ GivesIn page_words code events print mark counts =
 abbrev pub EventsLeadTo : Code → List Event → List ℕ → Option Mark → Counts → Type 0
 EventsLeadTo = GivesIn 16
 
-abbrev pub counts : (made removed taken returned steps objects goroutines : ℕ) → Counts
-counts made removed taken returned steps objects goroutines = record {
+abbrev pub region_counts : (made removed taken returned steps objects goroutines : ℕ) → Counts
+region_counts made removed taken returned steps objects goroutines = record {
   made = made;
   removed = removed;
   taken = taken;
@@ -303,18 +303,18 @@ counts made removed taken returned steps objects goroutines = record {
 }
 
 pub record RegionExamples : Type 0 where
-  pub one : EventsLeadTo one_object one_object_run (line 0) (Some (Ended Exit)) (counts 1 1 1 1 5 1 1)
-  pub twice : EventsLeadTo passed_twice passed_twice_run (line 42) (Some (Ended Exit)) (counts 1 1 1 1 10 1 1)
-  pub meets : EventsLeadTo sender_and_receiver meeting_run (line 5) (Some (Ended Exit)) (counts 1 1 1 1 8 1 2)
+  pub one : EventsLeadTo aliased_object one_object_run (line_of_one 0) (Some (Ended Exit)) (region_counts 1 1 1 1 5 1 1)
+  pub twice : EventsLeadTo passed_twice passed_twice_run (line_of_one 42) (Some (Ended Exit)) (region_counts 1 1 1 1 10 1 1)
+  pub meets : EventsLeadTo sender_and_receiver meeting_run (line_of_one 5) (Some (Ended Exit)) (region_counts 1 1 1 1 8 1 2)
   pub meets_otherwise
-      : EventsLeadTo sender_and_receiver other_meeting_run (line 5) (Some (Ended Exit)) (counts 1 1 1 1 7 1 2)
-  pub before_base : EventsLeadTo started_twice started_twice_run [] None (counts 1 0 1 0 3 1 2)
-  pub after_base : EventsLeadTo started_twice (started_twice_run ++ (Attend 1 ∷ [])) [] None (counts 1 1 1 1 3 1 2)
+      : EventsLeadTo sender_and_receiver other_meeting_run (line_of_one 5) (Some (Ended Exit)) (region_counts 1 1 1 1 7 1 2)
+  pub before_base : EventsLeadTo started_twice started_twice_run [] None (region_counts 1 0 1 0 3 1 2)
+  pub after_base : EventsLeadTo started_twice (started_twice_run ++ (Attend 1 ∷ [])) [] None (region_counts 1 1 1 1 3 1 2)
   -- no object is made before its region and its page are there
-  pub no_region : region_run one_object 16 (step ∷ []) ≡ None
-  pub no_page : region_run one_object 16 (Attend 0 ∷ step ∷ []) ≡ None
+  pub no_region : region_run aliased_object 16 (step ∷ []) ≡ None
+  pub no_page : region_run aliased_object 16 (Attend 0 ∷ step ∷ []) ≡ None
   -- in pages of one word nothing is spread, since no lead page has a page number
-  pub too_large : region_run one_object 1 (Attend 0 ∷ TakePage 0 ∷ []) ≡ None
+  pub too_large : region_run aliased_object 1 (Attend 0 ∷ TakePage 0 ∷ []) ≡ None
   -- the protection is owed before the call
   pub unprotected : region_run passed_twice 16 unprotected_run ≡ None
   -- nobody meets a sender that has not offered
@@ -340,22 +340,22 @@ line_of_two m n = printed_line (piece.Value ∷ piece.Value ∷ []) (value.Int (
 pub record SpreadExamples : Type 0 where
   -- 257 cells in pages of 256 words: a lead page and two data pages
   pub slice : GivesIn 256 (long_slice 257 256 255) (long_slice_run 3) (line_of_two 9 0) (Some (Ended Exit))
-      (counts 1 1 3 3 10 1 1)
-  pub channel : GivesIn 256 (long_channel 300) (long_channel_run 3) (line 300) (Some (Ended Exit))
-      (counts 1 1 3 3 6 1 1)
+      (region_counts 1 1 3 3 10 1 1)
+  pub channel : GivesIn 256 (long_channel 300) (long_channel_run 3) (line_of_one 300) (Some (Ended Exit))
+      (region_counts 1 1 3 3 6 1 1)
   -- 255 elements and the length fill a page
   pub within_a_page : GivesIn 256 (long_slice 255 254 253) (long_slice_run 1) (line_of_two 9 0) (Some (Ended Exit))
-      (counts 1 1 1 1 10 1 1)
+      (region_counts 1 1 1 1 10 1 1)
   -- 256 elements fill a data page
   pub one_data_page : GivesIn 256 (long_slice 256 255 254) (long_slice_run 2) (line_of_two 9 0) (Some (Ended Exit))
-      (counts 1 1 2 2 10 1 1)
+      (region_counts 1 1 2 2 10 1 1)
   -- it is made when it has all of its pages, and then takes no more
-  pub too_few : region_run (long_slice 257 256 255) 256 (taking 2 ++ (step ∷ [])) ≡ None
-  pub too_many : region_run (long_slice 257 256 255) 256 (taking 4) ≡ None
+  pub too_few : region_run (long_slice 257 256 255) 256 (taking_pages 2 ++ (step ∷ [])) ≡ None
+  pub too_many : region_run (long_slice 257 256 255) 256 (taking_pages 4) ≡ None
   -- 14 page numbers fit a page of 16 words beside the length and another word, and no more
   pub most : EventsLeadTo (long_slice 224 223 222) (long_slice_run 15) (line_of_two 9 0) (Some (Ended Exit))
-      (counts 1 1 15 15 10 1 1)
-  pub over_most : region_run (long_slice 225 224 223) 16 (taking 1) ≡ None
+      (region_counts 1 1 15 15 10 1 1)
+  pub over_most : region_run (long_slice 225 224 223) 16 (taking_pages 1) ≡ None
   -- no object has more than 64 data pages
   pub longest : is_too_large 256 (Channel 16384 [] false) ≡ false
   pub over_longest : is_too_large 256 (Channel 16385 [] false) ≡ true
@@ -365,14 +365,14 @@ pub record SpreadExamples : Type 0 where
   pub reserved : HasPages (slice_between 17) (Attend 0 ∷ TakePage 0 ∷ step ∷ step ∷ TakePage 0 ∷ TakePage 0 ∷ [])
       ((Numbered 0, 2) ∷ []) 2
   pub own_page_filled : HasPages (slice_between 17) (slice_between_run 3) ((Numbered 0, 4) ∷ []) 0
-  pub own_page : EventsLeadTo (slice_between 17) (slice_between_run 3) [] None (counts 1 0 4 0 4 3 1)
+  pub own_page : EventsLeadTo (slice_between 17) (slice_between_run 3) [] None (region_counts 1 0 4 0 4 3 1)
   -- pages that were taken for an object that is not made stay in its region
-  pub left : EventsLeadTo (left_alone 17) left_alone_run [] (Some (Ended Exit)) (counts 1 0 1 0 3 0 2)
+  pub left : EventsLeadTo (left_alone 17) left_alone_run [] (Some (Ended Exit)) (region_counts 1 0 1 0 3 0 2)
 
 -- ---- the room that they use
 
-abbrev pub sizes_of : (pages regions : ℕ) → Sizes
-sizes_of pages regions = record { page_words = 16; pages = pages; regions = regions }
+abbrev pub small_sizes : (pages regions : ℕ) → Sizes
+small_sizes pages regions = record { page_words = 16; pages = pages; regions = regions }
 
 abbrev pub used : RegionState → ℕ × ℕ
 used s = (pages_in_use s, live_regions s)
@@ -399,31 +399,31 @@ Lacks sizes code short events = IfSome (region_run code 16 events) (LacksIn code
 abbrev pub FitsAfter : Sizes → Code → List Event → Type 0
 FitsAfter sizes code events = IfSome (region_run code 16 events) (StateFitsIn sizes)
 
-pub record RoomExamples : Type 0 where
-  pub one : Uses one_object (Attend 0 ∷ TakePage 0 ∷ []) 1 1
+pub record RegionRoomExamples : Type 0 where
+  pub one : Uses aliased_object (Attend 0 ∷ TakePage 0 ∷ []) 1 1
   -- what a removed region had is not in use
-  pub none : Uses one_object one_object_run 0 0
+  pub none : Uses aliased_object one_object_run 0 0
   pub first_removed : Uses one_live one_live_run 1 1
   pub both : Uses both_live both_live_run 2 2
-  pub room_for_one : HasRoomIn (sizes_of 1 1) one_object one_object_run
-  pub room_again : HasRoomIn (sizes_of 1 1) one_live one_live_run
-  pub room_for_both : HasRoomIn (sizes_of 2 2) both_live both_live_run
+  pub room_for_one : HasRoomIn (small_sizes 1 1) aliased_object one_object_run
+  pub room_again : HasRoomIn (small_sizes 1 1) one_live one_live_run
+  pub room_for_both : HasRoomIn (small_sizes 2 2) both_live both_live_run
   -- as many pages are in use as there may be, or as many regions live
-  pub no_page : roomy_run both_live (sizes_of 1 2) both_live_run ≡ None
-  pub no_region : roomy_run both_live (sizes_of 2 1) both_live_run ≡ None
-  pub fits : FitsAfter (sizes_of 2 2) both_live both_live_run
-  pub too_many_pages : FitsAfter (sizes_of 1 2) both_live both_live_run → ⊥
-  pub too_many_regions : FitsAfter (sizes_of 2 1) both_live both_live_run → ⊥
+  pub no_page : roomy_run both_live (small_sizes 1 2) both_live_run ≡ None
+  pub no_region : roomy_run both_live (small_sizes 2 1) both_live_run ≡ None
+  pub fits : FitsAfter (small_sizes 2 2) both_live both_live_run
+  pub too_many_pages : FitsAfter (small_sizes 1 2) both_live both_live_run → ⊥
+  pub too_many_regions : FitsAfter (small_sizes 2 1) both_live both_live_run → ⊥
   -- where nothing is spread, as many as objects and goroutines
-  pub enough_for_one : IsEnough one_object one_object_run 2
+  pub enough_for_one : IsEnough aliased_object one_object_run 2
   pub enough_for_both : IsEnough both_live both_live_run 3
   -- three pages for the object that is made next, and then for as many again
-  pub enough_before : IsEnough (long_slice 17 16 15) (taking 3) 3
+  pub enough_before : IsEnough (long_slice 17 16 15) (taking_pages 3) 3
   pub enough_after : IsEnough (long_slice 17 16 15) (long_slice_run 3) 6
   -- a spread object needs room for all of its pages
-  pub room_for_spread : HasRoomIn (sizes_of 3 1) (long_slice 17 16 15) (long_slice_run 3)
-  pub no_room_for_spread : roomy_run (long_slice 17 16 15) (sizes_of 2 1) (taking 3) ≡ None
-  pub lacks_pages : Lacks (sizes_of 2 1) (long_slice 17 16 15) shortage.Pages (taking 2)
+  pub room_for_spread : HasRoomIn (small_sizes 3 1) (long_slice 17 16 15) (long_slice_run 3)
+  pub no_room_for_spread : roomy_run (long_slice 17 16 15) (small_sizes 2 1) (taking_pages 3) ≡ None
+  pub lacks_pages : Lacks (small_sizes 2 1) (long_slice 17 16 15) shortage.Pages (taking_pages 2)
   -- an object is too large from the beginning on
-  pub lacks_size : Lacks (sizes_of 99 1) (long_slice 225 224 223) shortage.ObjectSize (taking 0)
-  pub has_size : Lacks (sizes_of 99 1) (long_slice 224 223 222) shortage.ObjectSize (taking 0) → ⊥
+  pub lacks_size : Lacks (small_sizes 99 1) (long_slice 225 224 223) shortage.ObjectSize (taking_pages 0)
+  pub has_size : Lacks (small_sizes 99 1) (long_slice 224 223 222) shortage.ObjectSize (taking_pages 0) → ⊥

@@ -105,10 +105,10 @@ unless_trapped (Some (Trap trap place)) before after = before
 -- ---- the end
 
 -- the first end is kept
-abbrev pub marked : Option Mark → Option End → Option Mark
-marked (Some mark) new = Some mark
-marked None None = None
-marked None (Some end) = Some (Ended end)
+abbrev pub mark_with_end : Option Mark → Option End → Option Mark
+mark_with_end (Some mark) new = Some mark
+mark_with_end None None = None
+mark_with_end None (Some end) = Some (Ended end)
 
 abbrev pub printed_if : Option Mark → (old new : List ℕ) → List ℕ
 printed_if None old new = new
@@ -131,7 +131,7 @@ instructed_with code s g frame callers i next given = record s {
       (unless_trapped next.ended given.0 (holder_after code given.0 frame callers i.op (frames_of next g)))
       ++ child_holder code given.0 i.op (last_frames next.goroutines);
   steps = s.steps + 1;
-  mark = marked s.mark next.ended;
+  mark = mark_with_end s.mark next.ended;
 }
 
 abbrev pub some_instructed
@@ -192,7 +192,7 @@ both_instructed code s r t (Some receiver) (Some sender) next =
           slice_set (slice_set s.holders r (side_after code receiver receiver_frames (frames_of next r)))
           t (record (side_after code sender sender_frames (frames_of next t)) { offer = taken_offer sender.offer });
       steps = s.steps + 1;
-      mark = marked s.mark next.ended;
+      mark = mark_with_end s.mark next.ended;
     })
     else None
 both_instructed code s r t _ _ next = None

@@ -1,6 +1,6 @@
 //! Runs of the region machine.
 
-ghost use Rattle.rgo_region_machine.specs.Examples.{RegionExamples, RoomExamples, SpreadExamples};
+ghost use Rattle.rgo_region_machine.specs.Examples.{RegionExamples, RegionRoomExamples, SpreadExamples};
 
 /// Small runs: what they print, how they end and what they count; and steps that are not possible.
 pub fn examples()
@@ -14,5 +14,5 @@ pub fn spread_examples()
 
 /// The room that small runs use, and which runs have none.
 pub fn room_examples()
-    ensures { RoomExamples }
+    ensures { RegionRoomExamples }
 {}

@@ -12,7 +12,7 @@ use Rattle.rgo_tac.specs.declared.regions.Class.TheVariants.{Name}
 use Rattle.rgo_code.specs.Code.{Slot, CodeFn}
 use Rattle.rgo_code.specs.Names.{slot_class, parameter_classes, IsOwn, Holds}
 use Rattle.rgo_region_sets.specs.declared.spans.Span.{Span}
-use Rattle.rgo_region_sets.specs.Asked.{IsPassedFor, IsMissing, EntryRemoves}
+use Rattle.rgo_region_sets.specs.Asked.{IsNamePassedFor, IsMissing, EntryRemoves}
 use Rattle.rgo_region_sets.specs.declared.table.LiveNames.{LiveNames}
 use Rattle.rgo_region_sets.specs.Live.{AreLiveNames}
 use Rattle.rgo_region_sets.specs.Sets.{IsSet, pushed_if}
@@ -89,7 +89,7 @@ all_names classes i P names past h =
 
 module _ (regions : List Class) (class : Class) (passes : List Class) (i : ℕ) (d : Class)
     (within : i < length passes) where
-  for_later : (k : ℕ) → IsPassedFor regions class (take i passes) k → IsPassedFor regions class (take (i + 1) passes) k
+  for_later : (k : ℕ) → IsNamePassedFor regions class (take i passes) k → IsNamePassedFor regions class (take (i + 1) passes) k
   for_later k h =
       let a = get_taken passes i h.at (Name k) h.passed in
       record {
@@ -98,8 +98,8 @@ module _ (regions : List Class) (class : Class) (passes : List Class) (i : ℕ) 
         passed = taken_get passes (i + 1) h.at (Name k) (omega (arith, a.0)) a.1;
       }
 
-  for_cases : (k : ℕ) → IsPassedFor regions class (take (i + 1) passes) k
-      → IsPassedFor regions class (take i passes) k
+  for_cases : (k : ℕ) → IsNamePassedFor regions class (take (i + 1) passes) k
+      → IsNamePassedFor regions class (take i passes) k
       ⊎ ((slice_get regions i ≡ Some class) × (get_or passes i d ≡ Name k))
   for_cases k h =
       let a = get_taken passes (i + 1) h.at (Name k) h.passed in
@@ -119,17 +119,17 @@ module _ (regions : List Class) (class : Class) (passes : List Class) (i : ℕ) 
       (less_or h.at i)
 
   for_here : (k : ℕ) → slice_get regions i ≡ Some class → get_or passes i d ≡ Name k
-      → IsPassedFor regions class (take (i + 1) passes) k
+      → IsNamePassedFor regions class (take (i + 1) passes) k
   for_here k parameter is = record {
     at = i;
     parameter = parameter;
     passed = taken_get passes (i + 1) i (Name k) (omega arith) (slice_get-get_or passes i d within ∙ ap Some is);
   }
 
-  module _ (old : List ℕ) (before : (k : ℕ) → Contains old k ↔ IsPassedFor regions class (take i passes) k) where
+  module _ (old : List ℕ) (before : (k : ℕ) → Contains old k ↔ IsNamePassedFor regions class (take i passes) k) where
     pub for_more : (new : List ℕ) (test : Bool) (j : ℕ) → name_of (get_or passes i d) ≡ Some j
         → Decides test (slice_get regions i ≡ Some class) → new ≡ pushed_if test old j
-        → (k : ℕ) → Contains new k ↔ IsPassedFor regions class (take (i + 1) passes) k
+        → (k : ℕ) → Contains new k ↔ IsNamePassedFor regions class (take (i + 1) passes) k
     for_more new test j named decides is k = (
       λ h. ⊎_elim
           (λ o. for_later k ((before k).0 o))
@@ -142,7 +142,7 @@ module _ (regions : List Class) (class : Class) (passes : List Class) (i : ℕ) 
     )
 
     pub for_same : name_of (get_or passes i d) ≡ None
-        → (k : ℕ) → Contains old k ↔ IsPassedFor regions class (take (i + 1) passes) k
+        → (k : ℕ) → Contains old k ↔ IsNamePassedFor regions class (take (i + 1) passes) k
     for_same none k = (
       λ h. for_later k ((before k).0 h),
       λ h. ⊎_elim
@@ -151,15 +151,15 @@ module _ (regions : List Class) (class : Class) (passes : List Class) (i : ℕ) 
           (for_cases k h),
     )
 
-pub for_none : (regions : List Class) (class : Class) (k : ℕ) → Contains [] k ↔ IsPassedFor regions class [] k
+pub for_none : (regions : List Class) (class : Class) (k : ℕ) → Contains [] k ↔ IsNamePassedFor regions class [] k
 for_none regions class k =
     (λ h. absurd (no_member k h), λ h. absurd (omega (arith, slice_get_within [] h.at (Name k) h.passed)))
 
 pub for_all : (regions : List Class) (class : Class) (passes : List Class) (i : ℕ) (names : List ℕ) → length passes ≤ i
-    → ((k : ℕ) → Contains names k ↔ IsPassedFor regions class (take i passes) k)
-    → (k : ℕ) → Contains names k ↔ IsPassedFor regions class passes k
+    → ((k : ℕ) → Contains names k ↔ IsNamePassedFor regions class (take i passes) k)
+    → (k : ℕ) → Contains names k ↔ IsNamePassedFor regions class passes k
 for_all regions class passes i names past h =
-    subst (λ (l : List Class). (k : ℕ) → Contains names k ↔ IsPassedFor regions class l k) (take_all i passes past) h
+    subst (λ (l : List Class). (k : ℕ) → Contains names k ↔ IsNamePassedFor regions class l k) (take_all i passes past) h
 
 -- ---- the classes of parameters
 

@@ -29,7 +29,7 @@ abbrev pub IsNeeded : CodeFn → (at : ℕ) → (first : Bool) → (k : ℕ) →
 IsNeeded f at first k = IsLiveName f k (at + 1) ⊎ ((result_class f ≡ Name k) ⊎ (first ≡ false))
 
 -- k is passed for a class
-pub record IsPassedFor (regions : List Class) (class : Class) (passes : List Class) (k : ℕ) : Type 0 where
+pub record IsNamePassedFor (regions : List Class) (class : Class) (passes : List Class) (k : ℕ) : Type 0 where
   pub at : ℕ
   pub parameter : slice_get regions at ≡ Some class
   pub passed : slice_get passes at ≡ Some (Name k)
@@ -40,8 +40,8 @@ IsGiven callee passes protects k =
     Contains passes (Name k) × (Contains protects k → ⊥) × (IsPassedForResult callee passes k → ⊥)
 
 -- k is in neither list
-abbrev pub IsFree : (protects lent : List ℕ) → ℕ → Type 0
-IsFree protects lent k = (Contains protects k → ⊥) × (Contains lent k → ⊥)
+abbrev pub IsInNeither : (protects lent : List ℕ) → ℕ → Type 0
+IsInNeither protects lent k = (Contains protects k → ⊥) × (Contains lent k → ⊥)
 
 -- ---- removals
 
@@ -50,12 +50,12 @@ abbrev pub way : CodeFn → (at n : ℕ) → Option ℕ
 way f at n = slice_get (led_to_by at (slice_get (erased_fn f).body at)) n
 
 -- what may be removed after the instruction: the names that are held or created before it and not given
-abbrev pub MayRemove : CodeFn → (at : ℕ) → (gives : List ℕ) → ℕ → Type 0
-MayRemove f at gives k = (Holds f k at ⊎ Creates f at k) × (Contains gives k → ⊥)
+abbrev pub MayRemoveAfter : CodeFn → (at : ℕ) → (gives : List ℕ) → ℕ → Type 0
+MayRemoveAfter f at gives k = (Holds f k at ⊎ Creates f at k) × (Contains gives k → ⊥)
 
 -- on the way to instruction `next` those are removed that are not held there
 abbrev pub Removes : CodeFn → (at : ℕ) → (gives : List ℕ) → (next k : ℕ) → Type 0
-Removes f at gives next k = MayRemove f at gives k × (Holds f k next → ⊥)
+Removes f at gives next k = MayRemoveAfter f at gives k × (Holds f k next → ⊥)
 
 -- the names that are removed on a way, if there is such a way
 abbrev pub AreRemoved : CodeFn → (at : ℕ) → (gives : List ℕ) → Option ℕ → List ℕ → Type 0

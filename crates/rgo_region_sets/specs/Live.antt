@@ -10,13 +10,13 @@ use Rattle.rgo_region_sets.specs.Branches.{branch_at}
 use Rattle.rgo_region_sets.specs.Spans.{IsSpanned}
 
 -- name k is live just before instruction `at`
-abbrev pub IsLiveIn : LiveNames → (k at : ℕ) → Type 0
-IsLiveIn live k at = IsSpanned live.spans.items k at
+abbrev pub IsLiveInTable : LiveNames → (k at : ℕ) → Type 0
+IsLiveInTable live k at = IsSpanned live.spans.items k at
 
 -- the row of the branch has the names that are live at one instruction and not at the other
 abbrev pub HasDying : LiveNames → (rows : List (List ℕ)) → (b from to : ℕ) → Type 0
 HasDying live rows b from to =
-    (k : ℕ) → Relates rows b k ↔ (IsLiveIn live k from × (IsLiveIn live k to → ⊥))
+    (k : ℕ) → Relates rows b k ↔ (IsLiveInTable live k from × (IsLiveInTable live k to → ⊥))
 
 -- branch b of the tables is this branch
 pub record IsRecorded (live : LiveNames) (b at : ℕ) (ways : ℕ × ℕ) : Type 0 where
@@ -26,7 +26,7 @@ pub record IsRecorded (live : LiveNames) (b at : ℕ) (ways : ℕ × ℕ) : Type
 
 -- the tables are those of the function
 pub record AreLiveNames (live : LiveNames) (f : CodeFn) : Type 0 where
-  pub names : (k at : ℕ) → IsLiveIn live k at ↔ IsLiveName f k at
+  pub names : (k at : ℕ) → IsLiveInTable live k at ↔ IsLiveName f k at
   pub branches : (at : ℕ) (ways : ℕ × ℕ) → branch_at (erased_fn f) at ≡ Some ways
       → (b : ℕ) × IsRecorded live b at ways
 
@@ -44,4 +44,4 @@ pub record IsWay (live : LiveNames) (f : CodeFn) (rows : List (List ℕ)) (at ne
 -- the new names are the old ones, and those that are live at one instruction and not at the other
 abbrev pub AddsDying : LiveNames → (old new : List ℕ) → (at next : ℕ) → Type 0
 AddsDying live old new at next =
-    (k : ℕ) → Contains new k ↔ (Contains old k ⊎ (IsLiveIn live k at × (IsLiveIn live k next → ⊥)))
+    (k : ℕ) → Contains new k ↔ (Contains old k ⊎ (IsLiveInTable live k at × (IsLiveInTable live k next → ⊥)))

@@ -4,7 +4,7 @@ ghost use Rattle.std.specs.Prelude.{Decides, ◌≡◌, Some, IfOk, slice_get};
 ghost use Rattle.std.specs.Option.{option_map};
 ghost use Rattle.std.specs.List.Sorted.{IsStrictlyIncreasing};
 ghost use Rattle.rgo_code.specs.Names.{IsPassedForResult};
-ghost use Rattle.rgo_region_sets.specs.Asked.{IsFree, IsGiven, IsPassedFor};
+ghost use Rattle.rgo_region_sets.specs.Asked.{IsInNeither, IsGiven, IsNamePassedFor};
 ghost use Rattle.rgo_region_sets.specs.Sets.{IsSet};
 
 use crate::names::{name_of, push_if};
@@ -20,7 +20,7 @@ fn passed_for(
     result_class: Class,
     passes: &[Class],
 ) -> Result<Vec<u32>, AllocError>
-    ensures { IfOk result (λ names. IsSet names.items (IsPassedFor regions.now result_class passes.now)) }
+    ensures { IfOk result (λ names. IsSet names.items (IsNamePassedFor regions.now result_class passes.now)) }
 {
     let mut names = Vec::new(alloc);
     for (at, class) in passes.iter().enumerate() {
@@ -63,7 +63,7 @@ fn lent(
 fn is_given(protects: &[u32], lent: &[u32], name: u32) -> bool
     requires protects { IsStrictlyIncreasing protects.now }
     requires lent { IsStrictlyIncreasing lent.now }
-    ensures { Decides result (IsFree protects.now lent.now name) }
+    ensures { Decides result (IsInNeither protects.now lent.now name) }
 {
     !has(protects, name) && !has(lent, name)
 }

@@ -1,7 +1,7 @@
 //! At which instructions the names of a function are live.
 
 ghost use Rattle.std.specs.Prelude.{Decides, IfOk};
-ghost use Rattle.rgo_region_sets.specs.Live.{AreLiveNames, IsLiveIn};
+ghost use Rattle.rgo_region_sets.specs.Live.{AreLiveNames, IsLiveInTable};
 
 use crate::branches::branches_of;
 use crate::dying::dying;
@@ -14,7 +14,7 @@ use std::alloc::{AllocError, Global};
 impl LiveNames {
     /// Whether a name is live into an instruction.
     pub fn is_live(&self, at: usize, name: u32) -> bool
-        ensures { Decides result (IsLiveIn self.now name at) }
+        ensures { Decides result (IsLiveInTable self.now name at) }
     {
         is_spanned(&self.spans, name, at)
     }

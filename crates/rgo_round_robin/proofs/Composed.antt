@@ -18,11 +18,11 @@ use Rattle.rgo_interpreter.specs.Turns.{Turns, IsOver}
 use Rattle.rgo_machine.specs.declared.ends.RunEnd.{RunEnd}
 use Rattle.rgo_machine.specs.declared.ends.RunEnd.TheVariants as run_end
 use Rattle.rgo_round_robin.specs.Points.{Point}
-use Rattle.rgo_round_robin.specs.Rounds.{IsOf}
+use Rattle.rgo_round_robin.specs.Rounds.{IsPickOf}
 use Rattle.rgo_round_robin.specs.Running.{RunContinues}
 use Rattle.rgo_machine.specs.Ends.{RunEndsAs}
 use Rattle.rgo_round_robin.specs.Turning as turning
-use Rattle.rgo_round_robin.specs.Turning.{CountsPicks, CountsUp, AreMet, end_of, TurnMoved, Stopped, Advances}
+use Rattle.rgo_round_robin.specs.Turning.{CountsPicks, CountsUp, AreMet, run_end_of, TurnMoved, Stopped, Advances}
 use Rattle.std.proofs.lemmas.Option.{same_Some}
 use Rattle.rgo_machine.proofs.Runs.{joined, single, ends_within, limited}
 use Rattle.rgo_round_robin.proofs.Others.{meeting_is}
@@ -45,7 +45,7 @@ module _ {F : Type 0} (machine : Machine F) (limits : Limits) where
   moved_none g p q on state steps = record {
     picks = [];
     leads = ap Some (sym state);
-    own = All-nil (IsOf g);
+    own = All-nil (IsPickOf g);
     long = refl;
     counted = subst (CountsUp p.steps 0) (sym steps) (counts_none p.steps);
     on = subst (RunContinues limits) (sym state) on;
@@ -58,7 +58,7 @@ module _ {F : Type 0} (machine : Machine F) (limits : Limits) where
       record {
         picks = h.picks ++ k.picks;
         leads = joined (limited_step machine limits) p.state q.state r.state h.picks k.picks h.leads k.leads;
-        own = All-append (IsOf g) h.picks k.picks h.own k.own;
+        own = All-append (IsPickOf g) h.picks k.picks h.own k.own;
         long = omega (arith, long, h.long, k.long);
         counted = subst (λ n. CountsUp p.steps n r.steps) (sym long)
             (counts_on p.steps q.steps r.steps (length h.picks) (length k.picks) h.counted k.counted);
@@ -69,7 +69,7 @@ module _ {F : Type 0} (machine : Machine F) (limits : Limits) where
   moved_by g p q a b e h = subst (TurnMoved machine limits g p q) e h
 
   -- a meeting
-  met_own : (g h : ℕ) (met : ℕ × ℕ) → AreMet met g h → IsOf g (Meet met.0 met.1)
+  met_own : (g h : ℕ) (met : ℕ × ℕ) → AreMet met g h → IsPickOf g (Meet met.0 met.1)
   met_own g h met (inl p) = inl p.0
   met_own g h met (inr p) = inr p.1
 
@@ -84,7 +84,7 @@ module _ {F : Type 0} (machine : Machine F) (limits : Limits) where
         picks = pick ∷ [];
         leads = single (limited_step machine limits) p.state q.state pick
             (limited machine limits p.state q.state pick step within);
-        own = All-push (IsOf g) [] pick (All-nil (IsOf g)) (met_own g h met both);
+        own = All-push (IsPickOf g) [] pick (All-nil (IsPickOf g)) (met_own g h met both);
         long = refl;
         counted = counted;
         on = record { running = is.ended ∙ on.running; within = within };
@@ -92,7 +92,7 @@ module _ {F : Type 0} (machine : Machine F) (limits : Limits) where
 
   -- ---- a turn of the machine
 
-  goes_on : (t : State F) (g at_most n : ℕ) (s : TurnEnd) → end_of s ≡ None → IsOver machine limits t g at_most n s
+  goes_on : (t : State F) (g at_most n : ℕ) (s : TurnEnd) → run_end_of s ≡ None → IsOver machine limits t g at_most n s
       → t.ended ≡ None
   goes_on t g at_most n stop.Spent none over = over.0
   goes_on t g at_most n stop.Waits none over = over.0
@@ -105,7 +105,7 @@ module _ {F : Type 0} (machine : Machine F) (limits : Limits) where
   goes_on t g at_most n stop.NoMemory none over = cc
 
   pub turned_moves : (g at_most : ℕ) (p q : Point F) (turned : Turned) → RunContinues limits p.state
-      → end_of turned.stop ≡ None
+      → run_end_of turned.stop ≡ None
       → Turns machine limits p.state q.state g at_most turned → CountsUp p.steps turned.steps q.steps
       → TurnMoved machine limits g p q turned.steps
   turned_moves g at_most p q turned on none turns counted =
@@ -114,7 +114,7 @@ module _ {F : Type 0} (machine : Machine F) (limits : Limits) where
       record {
         picks = picks;
         leads = turns.leads;
-        own = All-replicate (IsOf g) turned.steps (One g) refl;
+        own = All-replicate (IsPickOf g) turned.steps (One g) refl;
         long = long;
         counted = subst (λ n. CountsUp p.steps n q.steps) (sym long) counted;
         on = record {
@@ -123,7 +123,7 @@ module _ {F : Type 0} (machine : Machine F) (limits : Limits) where
         };
       }
 
-  found_end : (t : State F) (g at_most n : ℕ) (s : TurnEnd) (end : RunEnd) → end_of s ≡ Some end
+  found_end : (t : State F) (g at_most n : ℕ) (s : TurnEnd) (end : RunEnd) → run_end_of s ≡ Some end
       → IsOver machine limits t g at_most n s → (before steps : ℕ) → RunEndsAs machine limits before steps t end
   found_end t g at_most n stop.Spent end is over before steps = cc
   found_end t g at_most n stop.Waits end is over before steps = cc
@@ -140,7 +140,7 @@ module _ {F : Type 0} (machine : Machine F) (limits : Limits) where
   found_end t g at_most n stop.NoMemory end is over before steps =
       subst (RunEndsAs machine limits before steps t) (same_Some run_end.NoMemory end is) tt
 
-  no_fault : (s : TurnEnd) (end : RunEnd) → end_of s ≡ Some end → end ≡ run_end.WriteFault → ⊥
+  no_fault : (s : TurnEnd) (end : RunEnd) → run_end_of s ≡ Some end → end ≡ run_end.WriteFault → ⊥
   no_fault stop.Spent end is e = cc
   no_fault stop.Waits end is e = cc
   no_fault stop.Printed end is e = cc
@@ -151,12 +151,12 @@ module _ {F : Type 0} (machine : Machine F) (limits : Limits) where
   no_fault (stop.NoRoom x) end is e = let both : run_end.NoRoom x ≡ run_end.WriteFault = same_Some _ _ is ∙ e in cc
   no_fault stop.NoMemory end is e = let both : run_end.NoMemory ≡ run_end.WriteFault = same_Some _ _ is ∙ e in cc
 
-  pub turned_stops : (g at_most : ℕ) (s t : State F) (turned : Turned) (end : RunEnd) → end_of turned.stop ≡ Some end
+  pub turned_stops : (g at_most : ℕ) (s t : State F) (turned : Turned) (end : RunEnd) → run_end_of turned.stop ≡ Some end
       → Turns machine limits s t g at_most turned → Stopped machine limits g s t at_most end
   turned_stops g at_most s t turned end is turns = record {
     picks = replicate turned.steps (One g);
     leads = turns.leads;
-    own = All-replicate (IsOf g) turned.steps (One g) refl;
+    own = All-replicate (IsPickOf g) turned.steps (One g) refl;
     short = omega (arith, turns.within, length-replicate turned.steps (One g));
     ends = found_end t g at_most turned.steps turned.stop end is turns.over;
     no_fault = no_fault turned.stop end is;
@@ -170,7 +170,7 @@ module _ {F : Type 0} (machine : Machine F) (limits : Limits) where
   turned_fails g at_most s t turned turns = record {
     picks = replicate turned.steps (One g);
     leads = turns.leads;
-    own = All-replicate (IsOf g) turned.steps (One g) refl;
+    own = All-replicate (IsPickOf g) turned.steps (One g) refl;
     short = omega (arith, turns.within, length-replicate turned.steps (One g));
     ends = λ before steps. tt;
     no_fault = λ e. cc;
@@ -192,7 +192,7 @@ module _ {F : Type 0} (machine : Machine F) (limits : Limits) where
   stopped_on g a b at_most end p q t h k le = record {
     picks = h.picks ++ k.picks;
     leads = joined (limited_step machine limits) p.state q.state t h.picks k.picks h.leads k.leads;
-    own = All-append (IsOf g) h.picks k.picks h.own k.own;
+    own = All-append (IsPickOf g) h.picks k.picks h.own k.own;
     short = omega (arith, length-append h.picks k.picks, h.long, k.short, le);
     ends = k.ends;
     no_fault = k.no_fault;
@@ -214,7 +214,7 @@ module _ {F : Type 0} (machine : Machine F) (limits : Limits) where
   nothing_fails g at_most s t same = record {
     picks = [];
     leads = ap Some (sym same);
-    own = All-nil (IsOf g);
+    own = All-nil (IsPickOf g);
     short = omega arith;
     ends = λ before steps. tt;
     no_fault = λ e. cc;
@@ -233,7 +233,7 @@ module _ {F : Type 0} (machine : Machine F) (limits : Limits) where
       (a + k.0, omega (arith, k.1, le), moved_on g p q r a k.0 h k.2)
 
   -- a turn that is over, and not because it waits, has taken steps
-  pub some_steps : (t : State F) (g at_most n : ℕ) (s : TurnEnd) → end_of s ≡ None → (s ≡ stop.Waits → ⊥)
+  pub some_steps : (t : State F) (g at_most n : ℕ) (s : TurnEnd) → run_end_of s ≡ None → (s ≡ stop.Waits → ⊥)
       → IsOver machine limits t g at_most n s → 0 < at_most → 0 < n
   some_steps t g at_most n stop.Spent none not over some = omega (arith, over.1, some)
   some_steps t g at_most n stop.Waits none not over some = absurd (not refl)

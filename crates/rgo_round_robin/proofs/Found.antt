@@ -6,7 +6,7 @@ use Rattle.rgo_machine.specs.Machines.{Machine, State}
 use Rattle.rgo_interpreter.specs.Meetings.{CanMeet, FindsMeeting}
 use Rattle.rgo_round_robin.specs.declared.drivers.Driver.{Driver}
 use Rattle.rgo_machine.specs.declared.ends.RunEnd.TheVariants as run_end
-use Rattle.rgo_round_robin.specs.Points.{listed}
+use Rattle.rgo_round_robin.specs.Points.{listed_at_channel}
 use Rattle.rgo_round_robin.specs.Probing.{IsLeftOver, HaveMet, MeetingTried, MeetsTwo, MeetsNoMemory}
 use Rattle.rgo_round_robin.specs.Running.{View, IsRunAt}
 use Rattle.rgo_round_robin.specs.Sleeping.{Watches}
@@ -29,7 +29,7 @@ module _ {F C : Type 0} (run : View F C) (machine : Machine F) (given : List ℕ
   pub meets_two : (d e : Driver) (met : ℕ × ℕ) → s.ended ≡ None
       → (meets : HaveMet run machine given s met d.steps e.steps)
       → e.ready.items ≡ d.ready.items ++ met.0 ∷ met.1 ∷ []
-      → listed e.waiting ≡ listed d.waiting → MeetsTwo run machine given s d e
+      → listed_at_channel e.waiting ≡ listed_at_channel d.waiting → MeetsTwo run machine given s d e
   meets_two d e met running meets ready same =
       let any : Limits = record { steps = 0; goroutines = 0 } in
       record {
@@ -37,7 +37,7 @@ module _ {F C : Type 0} (run : View F C) (machine : Machine F) (given : List ℕ
         meets = meets;
         watches = λ watches.
             subst (Watches machine meets.state e.ready.items) (sym same)
-            (watches_meeting machine any met.0 met.1 s meets.state d.ready.items e.ready.items (listed d.waiting)
+            (watches_meeting machine any met.0 met.1 s meets.state d.ready.items e.ready.items (listed_at_channel d.waiting)
             running (meeting_is machine any s met.0 met.1 meets.state meets.step) ready watches);
       }
 

@@ -15,10 +15,10 @@ use Rattle.rgo_interpreter.specs.declared.turns.TurnEnd.TheVariants as stop
 use Rattle.rgo_interpreter.specs.declared.turns.Turned.{Turned}
 use Rattle.rgo_machine.specs.Machines.{Machine, State, step_by}
 use Rattle.rgo_interpreter.specs.Turns.{Turns, ChangesChannels}
-use Rattle.rgo_round_robin.specs.Playing.{with_print}
+use Rattle.rgo_round_robin.specs.Playing.{state_with_print}
 use Rattle.rgo_round_robin.specs.Points.{Point}
-use Rattle.rgo_round_robin.specs.Sleeping.{channel_of, Sleeps, Watches, Keeps, RoundContinues}
-use Rattle.rgo_round_robin.specs.Turning.{operated, AreMet}
+use Rattle.rgo_round_robin.specs.Sleeping.{next_channel_of, Sleeps, Watches, LosesNoGoroutine, RoundContinues}
+use Rattle.rgo_round_robin.specs.Turning.{operated_channel, AreMet}
 use Rattle.std.proofs.lemmas.Option.{same_Some}
 use Rattle.rgo_round_robin.proofs.Others.{turn_spares, Met, meeting_is}
 use Rattle.rgo_round_robin.proofs.Printing.{no_step}
@@ -58,7 +58,7 @@ both_at (Some a) (Some b) = by_cases (cases_eq a b) where
   by_cases (inr other) = inr (λ n e f. other (same_Some a n e ∙ sym (same_Some b n f)))
 
 -- a channel on which a turn has not operated
-left_alone : (s : TurnEnd) (m k : Memory) (n : ℕ) → ChangesChannels s m k → (operated s ≡ Some n → ⊥) → SameAt m k n
+left_alone : (s : TurnEnd) (m k : Memory) (n : ℕ) → ChangesChannels s m k → (operated_channel s ≡ Some n → ⊥) → SameAt m k n
 left_alone stop.Spent m k n c not = c n
 left_alone stop.Waits m k n c not = c n
 left_alone stop.Printed m k n c not = c n
@@ -70,7 +70,7 @@ left_alone (stop.NoRoom shortage) m k n c not = c n
 left_alone stop.NoMemory m k n c not = c n
 
 module _ {F : Type 0} (machine : Machine F) (g : ℕ) where
-  pub keeps_itself : (p : Point F) → Keeps machine g p p
+  pub keeps_itself : (p : Point F) → LosesNoGoroutine machine g p p
   keeps_itself p = record {
     longer = omega arith;
     ready = λ h c. c;
@@ -78,7 +78,7 @@ module _ {F : Type 0} (machine : Machine F) (g : ℕ) where
     fresh = λ h past lt. absurd (omega (arith, past, lt));
   }
 
-  pub keeps_on : (p q r : Point F) → Keeps machine g p q → Keeps machine g q r → Keeps machine g p r
+  pub keeps_on : (p q r : Point F) → LosesNoGoroutine machine g p q → LosesNoGoroutine machine g q r → LosesNoGoroutine machine g p r
   keeps_on p q r a b = record {
     longer = omega (arith, a.longer, b.longer);
     ready = λ h c. b.ready h (a.ready h c);
@@ -97,8 +97,8 @@ module _ {F : Type 0} (machine : Machine F) (g : ℕ) where
     new h past lt (inr behind) = b.fresh h behind lt
 
   -- one more is ready
-  pub keeps_pushed : (p m : Point F) (ready : List ℕ) (x : ℕ) → ready ≡ m.ready ++ x ∷ [] → Keeps machine g p m
-      → Keeps machine g p (record m { ready = ready })
+  pub keeps_pushed : (p m : Point F) (ready : List ℕ) (x : ℕ) → ready ≡ m.ready ++ x ∷ [] → LosesNoGoroutine machine g p m
+      → LosesNoGoroutine machine g p (record m { ready = ready })
   keeps_pushed p m ready x is keeps = record {
     longer = keeps.longer;
     ready = λ h c. more h (keeps.ready h c);
@@ -114,7 +114,7 @@ module _ {F : Type 0} (machine : Machine F) (g : ℕ) where
     by_cases h (inr sleeps) = inr sleeps
 
   -- after its turn the goroutine is ready, or sleeps
-  pub passes : (p q : Point F) → Keeps machine g p q → Contains q.ready g ⊎ Sleeps machine q.state q.waiting g
+  pub passes : (p q : Point F) → LosesNoGoroutine machine g p q → Contains q.ready g ⊎ Sleeps machine q.state q.waiting g
       → RoundContinues machine g p q
   passes p q keeps own rest watches h lt = by_number (cases_eq h g) where
     here : Contains q.ready g ⊎ Sleeps machine q.state q.waiting g
@@ -155,21 +155,21 @@ module _ {F : Type 0} (machine : Machine F) (g : ℕ) where
       → Turns machine limits p.state q.state g at_most turned
       → ((h : ℕ) → Contains p.ready h → Contains q.ready h)
       → ((h : ℕ) → length p.state.goroutines ≤ h → h < length q.state.goroutines → Contains q.ready h)
-      → ((n h : ℕ) → operated turned.stop ≡ Some n → Contains (p.waiting n) h → Contains q.ready h)
-      → ((n : ℕ) → (operated turned.stop ≡ Some n → ⊥) → q.waiting n ≡ p.waiting n)
-      → Keeps machine g p q
+      → ((n h : ℕ) → operated_channel turned.stop ≡ Some n → Contains (p.waiting n) h → Contains q.ready h)
+      → ((n : ℕ) → (operated_channel turned.stop ≡ Some n → ⊥) → q.waiting n ≡ p.waiting n)
+      → LosesNoGoroutine machine g p q
   keeps_turn limits p q at_most turned running turns stay fresh woken others =
       let spares = turn_spares machine limits g turned.steps p.state q.state turns.leads in
       record {
         longer = spares.longer;
         ready = stay;
-        sleeps = λ h other lt sleeps. asleep h other lt sleeps (both_at (channel_of machine p.state h)
-            (operated turned.stop));
+        sleeps = λ h other lt sleeps. asleep h other lt sleeps (both_at (next_channel_of machine p.state h)
+            (operated_channel turned.stop));
         fresh = fresh;
       } where
         asleep : (h : ℕ) → (h ≡ g → ⊥) → h < length p.state.goroutines → Sleeps machine p.state p.waiting h
-            → ((n : ℕ) × (channel_of machine p.state h ≡ Some n) × (operated turned.stop ≡ Some n))
-            ⊎ ((n : ℕ) → channel_of machine p.state h ≡ Some n → operated turned.stop ≡ Some n → ⊥)
+            → ((n : ℕ) × (next_channel_of machine p.state h ≡ Some n) × (operated_channel turned.stop ≡ Some n))
+            ⊎ ((n : ℕ) → next_channel_of machine p.state h ≡ Some n → operated_channel turned.stop ≡ Some n → ⊥)
             → Contains q.ready h ⊎ Sleeps machine q.state q.waiting h
         asleep h other lt sleeps (inl at) = inl (woken at.0 h at.2 (sleeps.listed at.0 at.1))
         asleep h other lt sleeps (inr not) =
@@ -196,7 +196,7 @@ module _ {F : Type 0} (machine : Machine F) (limits : Limits) where
       → step_by machine p.state (Meet met.0 met.1) ≡ Some q.state → AreMet met g partner
       → q.ready ≡ p.ready ++ partner ∷ [] → p.waiting channel ≡ rest ++ partner ∷ [] → q.waiting channel ≡ rest
       → ((n : ℕ) → (n ≡ channel → ⊥) → q.waiting n ≡ p.waiting n)
-      → Keeps machine g p q
+      → LosesNoGoroutine machine g p q
   keeps_meeting g partner channel met p q rest running step both ready was now others = record {
     longer = is.spares.longer;
     ready = λ h c. subst (λ l. Contains l h) (sym ready) (Contains-append_left p.ready (partner ∷ []) h c);
@@ -260,7 +260,7 @@ module _ {F : Type 0} (machine : Machine F) (limits : Limits) where
   pub keeps_joined : (g channel : ℕ) (p q : Point F) → p.state.ended ≡ None → q.state ≡ p.state → q.ready ≡ p.ready
       → q.waiting channel ≡ p.waiting channel ++ g ∷ []
       → ((n : ℕ) → (n ≡ channel → ⊥) → q.waiting n ≡ p.waiting n)
-      → Keeps machine g p q
+      → LosesNoGoroutine machine g p q
   keeps_joined g channel p q running state ready joined others = record {
     longer = omega (arith, ap (λ s. length s.goroutines) state);
     ready = λ h c. subst (λ l. Contains l h) (sym ready) c;
@@ -279,19 +279,19 @@ module _ {F : Type 0} (machine : Machine F) (limits : Limits) where
     lists h n (inr elsewhere) c = subst (λ l. Contains l h) (sym (others n elsewhere)) c
 
   pub joined_sleeps : (g channel : ℕ) (s t : State F) (before waiting : ℕ → List ℕ) → step_by machine s (One g) ≡ None
-      → channel_of machine s g ≡ Some channel → t ≡ s → waiting channel ≡ before channel ++ g ∷ []
+      → next_channel_of machine s g ≡ Some channel → t ≡ s → waiting channel ≡ before channel ++ g ∷ []
       → Sleeps machine t waiting g
   joined_sleeps g channel s t before waiting none at same joined = record {
     still = ap (λ v. step_by machine v (One g)) same ∙ none;
     listed = λ n is.
-        let here : channel ≡ n = same_Some channel n (sym at ∙ ap (λ v. channel_of machine v g) (sym same) ∙ is) in
+        let here : channel ≡ n = same_Some channel n (sym at ∙ ap (λ v. next_channel_of machine v g) (sym same) ∙ is) in
         subst (λ k. Contains (waiting k) g) here (subst (λ l. Contains l g) (sym joined) (Contains-push
         (before channel) g));
   }
 
   -- it waits at no channel that could change
   pub sleeps_forever : (g : ℕ) (s : State F) (waiting : ℕ → List ℕ) → step_by machine s (One g) ≡ None
-      → channel_of machine s g ≡ None → Sleeps machine s waiting g
+      → next_channel_of machine s g ≡ None → Sleeps machine s waiting g
   sleeps_forever g s waiting none at = record {
     still = none;
     listed = λ n is. absurd (different n (sym at ∙ is));
@@ -301,12 +301,12 @@ module _ {F : Type 0} (machine : Machine F) (limits : Limits) where
 
   -- whatever was printed
   pub watches_printed : (s t : State F) (bytes : List ℕ) (ready : List ℕ) (waiting : ℕ → List ℕ)
-      → t ≡ with_print s bytes
+      → t ≡ state_with_print s bytes
       → Watches machine s ready waiting → Watches machine t ready waiting
   watches_printed s t bytes ready waiting is watches =
       subst (λ v. Watches machine v ready waiting) (sym is) (λ h lt. by_cases h (watches h lt)) where
         by_cases : (h : ℕ) → Contains ready h ⊎ Sleeps machine s waiting h
-            → Contains ready h ⊎ Sleeps machine (with_print s bytes) waiting h
+            → Contains ready h ⊎ Sleeps machine (state_with_print s bytes) waiting h
         by_cases h (inl c) = inl c
         by_cases h (inr sleeps) =
             inr (record { still = no_step machine s bytes (One h) sleeps.still; listed = sleeps.listed })

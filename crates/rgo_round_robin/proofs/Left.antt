@@ -10,21 +10,21 @@ use Rattle.rgo_interpreter.specs.declared.turns.Turned.{Turned}
 use Rattle.rgo_machine.specs.Machines.{Machine, State}
 use Rattle.rgo_machine.specs.declared.ends.RunEnd.{RunEnd}
 use Rattle.rgo_machine.specs.declared.ends.RunEnd.TheVariants as run_end
-use Rattle.rgo_round_robin.specs.Playing.{with_print}
+use Rattle.rgo_round_robin.specs.Playing.{state_with_print}
 use Rattle.rgo_round_robin.specs.Probing.{IsLeftOver}
 use Rattle.rgo_round_robin.specs.Running.{View, RunContinues, IsRunAt, RunTakesTurn, Clears}
-use Rattle.rgo_round_robin.specs.Runs.{IsLeft}
-use Rattle.rgo_round_robin.specs.Turning.{end_of}
+use Rattle.rgo_round_robin.specs.Runs.{IsRunLeft}
+use Rattle.rgo_round_robin.specs.Turning.{run_end_of}
 
 -- ---- why a turn was over
 
-pub has_memory : (s : TurnEnd) → end_of s ≡ None → s ≡ stop.NoMemory → ⊥
-has_memory s none e = let both : None ≡ Some run_end.NoMemory = sym none ∙ ap end_of e in cc
+pub has_memory : (s : TurnEnd) → run_end_of s ≡ None → s ≡ stop.NoMemory → ⊥
+has_memory s none e = let both : None ≡ Some run_end.NoMemory = sym none ∙ ap run_end_of e in cc
 
-memory_by : (s : TurnEnd) (end : RunEnd) → end_of s ≡ Some end → (end ≡ run_end.NoMemory → ⊥) → s ≡ stop.NoMemory → ⊥
-memory_by s end is not e = not (same_Some end run_end.NoMemory (sym is ∙ ap end_of e))
+memory_by : (s : TurnEnd) (end : RunEnd) → run_end_of s ≡ Some end → (end ≡ run_end.NoMemory → ⊥) → s ≡ stop.NoMemory → ⊥
+memory_by s end is not e = not (same_Some end run_end.NoMemory (sym is ∙ ap run_end_of e))
 
-room_by : (s : TurnEnd) (end : RunEnd) (shortage : Shortage) → end_of s ≡ Some end → end ≡ run_end.NoRoom shortage
+room_by : (s : TurnEnd) (end : RunEnd) (shortage : Shortage) → run_end_of s ≡ Some end → end ≡ run_end.NoRoom shortage
     → s ≡ stop.NoRoom shortage
 room_by stop.Spent end shortage is e = cc
 room_by stop.Waits end shortage is e = cc
@@ -80,9 +80,9 @@ module _ {F C : Type 0} where
 
   pub left_by_turn : (run : View F C) (machine : Machine F) (limits : Limits) (given : List ℕ) (s : State F) (g n : ℕ)
       (turned : Turned) (end : RunEnd)
-      → run.machine ≡ machine → end_of turned.stop ≡ Some end
+      → run.machine ≡ machine → run_end_of turned.stop ≡ Some end
       → (taken : RunTakesTurn run machine limits given s g n turned)
-      → IsLeft run machine given taken.state end
+      → IsRunLeft run machine given taken.state end
   left_by_turn run machine limits given s g n turned end same is taken = record {
     is = same;
     leaves = taken.leaves;
@@ -101,7 +101,7 @@ module _ {F C : Type 0} where
   }
 
   pub left_over : (run : View F C) (machine : Machine F) (given : List ℕ) (s : State F) → IsLeftOver run machine given s
-      → IsLeft run machine given s run_end.NoMemory
+      → IsRunLeft run machine given s run_end.NoMemory
   left_over run machine given s h = record {
     is = h.is;
     leaves = h.leaves;
@@ -111,7 +111,7 @@ module _ {F C : Type 0} where
 
   pub left_at : (run : View F C) (machine : Machine F) (given : List ℕ) (s : State F) (end : RunEnd) → Lawful run
       → IsRunAt run machine given s
-      → ((shortage : Shortage) → end ≡ run_end.NoRoom shortage → ⊥) → IsLeft run machine given s end
+      → ((shortage : Shortage) → end ≡ run_end.NoRoom shortage → ⊥) → IsRunLeft run machine given s end
   left_at run machine given s end lawful at roomy = record {
     is = at.is;
     leaves = lawful.leaves given s at.shown;
@@ -121,7 +121,7 @@ module _ {F C : Type 0} where
 
   -- a write failed after it had ended so
   pub left_unwritten : (run : View F C) (machine : Machine F) (given : List ℕ) (s : State F) (end : RunEnd)
-      → IsLeft run machine given s end → IsLeft run machine given s run_end.WriteFault
+      → IsRunLeft run machine given s end → IsRunLeft run machine given s run_end.WriteFault
   left_unwritten run machine given s end h = record {
     is = h.is;
     leaves = h.leaves;
@@ -133,18 +133,18 @@ module _ {F C : Type 0} where
 
   pub left_printed : (run : View F C) (machine : Machine F) (given : List ℕ) (s : State F) (end : RunEnd)
       → s.printed ≡ run.print
-      → IsLeft run machine given s end → IsLeft run machine given (with_print s run.print) end
+      → IsRunLeft run machine given s end → IsRunLeft run machine given (state_with_print s run.print) end
   left_printed run machine given s end print h =
-      subst (λ l. IsLeft run machine given (with_print s l) end) print h
+      subst (λ l. IsRunLeft run machine given (state_with_print s l) end) print h
 
   pub left_cleared : (old new : View F C) (machine : Machine F) (given : List ℕ) (s : State F) (end : RunEnd)
-      → Clears old new → IsLeft old machine given s end
-      → IsLeft new machine (given ++ s.printed) (with_print s new.print) end
+      → Clears old new → IsRunLeft old machine given s end
+      → IsRunLeft new machine (given ++ s.printed) (state_with_print s new.print) end
   left_cleared old new machine given s end cleared h =
-      let empty : IsLeft new machine (given ++ s.printed) (with_print s []) end = record {
+      let empty : IsRunLeft new machine (given ++ s.printed) (state_with_print s []) end = record {
         is = cleared.machine ∙ h.is;
         leaves = cleared.leaves given s h.leaves;
         shows = λ memory written. cleared.shows given s (h.shows memory written);
         lacks = λ shortage room. cleared.lacks shortage given s (h.lacks shortage room);
       } in
-      subst (λ l. IsLeft new machine (given ++ s.printed) (with_print s l) end) (sym cleared.print) empty
+      subst (λ l. IsRunLeft new machine (given ++ s.printed) (state_with_print s l) end) (sym cleared.print) empty

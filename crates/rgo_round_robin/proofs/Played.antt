@@ -17,13 +17,13 @@ use Rattle.rgo_machine.specs.Machines.{Machine, State}
 use Rattle.rgo_machine.specs.declared.ends.RunEnd.{RunEnd}
 use Rattle.rgo_machine.specs.declared.ends.RunEnd.TheVariants as run_end
 use Rattle.rgo_round_robin.specs.declared.drivers.Driver.{Driver}
-use Rattle.rgo_round_robin.specs.Playing.{with_print, Plays, RoundEndsRun, PlaysTo}
+use Rattle.rgo_round_robin.specs.Playing.{state_with_print, Plays, RoundEndsRun, PlaysTo}
 use Rattle.rgo_round_robin.specs.Points.{Point, point_of}
 use Rattle.rgo_round_robin.specs.Probing.{MeetsAny}
-use Rattle.rgo_round_robin.specs.Rounds.{IsOf, FitsTurn, IsTurn, AreTurns, IsBegunRound, all_of}
+use Rattle.rgo_round_robin.specs.Rounds.{IsPickOf, FitsTurn, IsTurn, AreTurns, IsBegunRound, all_of}
 use Rattle.rgo_round_robin.specs.Running.{View, RunContinues, Clears}
 use Rattle.rgo_machine.specs.Ends.{RunEndsAs, RunPrints, AppendsSome}
-use Rattle.rgo_round_robin.specs.Runs.{IsReady, IsLeft}
+use Rattle.rgo_round_robin.specs.Runs.{IsReadyForTurn, IsRunLeft}
 use Rattle.rgo_round_robin.specs.Sleeping.{Sleeps, Watches}
 use Rattle.rgo_round_robin.specs.Taking.{StopsAt, TurnsTo}
 use Rattle.rgo_round_robin.specs.Turning.{CountsPicks, Stopped, Turned}
@@ -111,7 +111,7 @@ module _ {F : Type 0} (machine : Machine F) (limits : Limits) where
       listed = λ n at. subst (λ l. Contains l g) (sym (same n)) (sleeps.listed n at);
     })
 
-  passes_printed : (q r : Point F) (bytes rest : List ℕ) → r.state ≡ with_print q.state bytes → r.ready ≡ q.ready
+  passes_printed : (q r : Point F) (bytes rest : List ℕ) → r.state ≡ state_with_print q.state bytes → r.ready ≡ q.ready
       → ((n : ℕ) → r.waiting n ≡ q.waiting n) → Watches machine q.state (rest ++ q.ready) q.waiting
       → Watches machine r.state (rest ++ r.ready) r.waiting
   passes_printed q r bytes rest is ready waiting watches =
@@ -120,20 +120,20 @@ module _ {F : Type 0} (machine : Machine F) (limits : Limits) where
 
   -- ---- whatever was printed before
 
-  printed_before : (s : State F) (before : List ℕ) → s.printed ≡ [] → with_before before s ≡ with_print s before
-  printed_before s before silent = ap (λ l. with_print s (before ++ l)) silent
-      ∙ ap (λ l. with_print s l) (append-nil before)
+  printed_before : (s : State F) (before : List ℕ) → s.printed ≡ [] → with_before before s ≡ state_with_print s before
+  printed_before s before silent = ap (λ l. state_with_print s (before ++ l)) silent
+      ∙ ap (λ l. state_with_print s l) (append-nil before)
 
   leads_after : (s t : State F) (picks : List Pick) (before : List ℕ) → s.printed ≡ []
       → LeadsWithin machine limits s picks t
-      → LeadsWithin machine limits (with_print s before) picks (with_print t (before ++ t.printed))
+      → LeadsWithin machine limits (state_with_print s before) picks (state_with_print t (before ++ t.printed))
   leads_after s t picks before silent leads =
       subst (λ v. LeadsWithin machine limits v picks (with_before before t)) (printed_before s before silent)
       (prefixed machine limits before s t picks leads)
 
   pub fits_after : (s t : State F) (g : ℕ) (picks : List Pick) (before : List ℕ) → s.printed ≡ []
       → FitsTurn machine limits s g picks t
-      → FitsTurn machine limits (with_print s before) g picks (with_print t (before ++ t.printed))
+      → FitsTurn machine limits (state_with_print s before) g picks (state_with_print t (before ++ t.printed))
   fits_after s t g picks before silent h = record {
     leads = leads_after s t picks before silent h.leads;
     short = h.short;
@@ -142,14 +142,14 @@ module _ {F : Type 0} (machine : Machine F) (limits : Limits) where
 
   pub turn_after : (s t : State F) (g : ℕ) (picks : List Pick) (before : List ℕ) → s.printed ≡ []
       → IsTurn machine limits s g picks t
-      → IsTurn machine limits (with_print s before) g picks (with_print t (before ++ t.printed))
+      → IsTurn machine limits (state_with_print s before) g picks (state_with_print t (before ++ t.printed))
   turn_after s t g picks before silent h = record {
     fits = fits_after s t g picks before silent h.fits;
     plays = λ none. no_step machine s before (One g) (h.plays none);
   }
 
   ends_after : (b n : ℕ) (s : State F) (print : List ℕ) (end : RunEnd) → RunEndsAs machine limits b n s end
-      → RunEndsAs machine limits b n (with_print s print) end
+      → RunEndsAs machine limits b n (state_with_print s print) end
   ends_after b n s print (run_end.Ended e) h = h
   ends_after b n s print run_end.Deadlock h = (h.0, λ pick. no_step machine s print pick (h.1 pick))
   ends_after b n s print run_end.CallsTooDeep h = (
@@ -209,7 +209,7 @@ module _ {F : Type 0} (machine : Machine F) (limits : Limits) where
       (joined (limited_step machine limits) s h.2 t h.0 h.1 h.4.fits.leads (turns_lead h.2 t order h.1 h.5))
 
   pub fits_none : (s : State F) (g : ℕ) → FitsTurn machine limits s g [] s
-  fits_none s g = record { leads = refl; short = omega arith; own = All-nil (IsOf g) }
+  fits_none s g = record { leads = refl; short = omega arith; own = All-nil (IsPickOf g) }
 
   pub begun_whole : (s t : State F) (order : List ℕ) (picks : List Pick) → AreTurns machine limits s order picks t
       → IsBegunRound machine limits s picks t
@@ -261,20 +261,20 @@ module _ {F : Type 0} (machine : Machine F) (limits : Limits) where
 
   -- the state after it, with its print gone
   pub played : (g : ℕ) (p q r : Point F) (a b : Option (List ℕ)) → p.state.printed ≡ [] → Turned machine limits g p q
-      → r.state ≡ with_print q.state [] → r.steps ≡ q.steps → Appends a b q.state.printed
+      → r.state ≡ state_with_print q.state [] → r.steps ≡ q.steps → Appends a b q.state.printed
       → Plays machine limits g p r q.state.printed a b
   played g p q r a b silent h cleared steps given = record {
     picks = h.picks;
     turn = λ before.
-        subst (λ v. IsTurn machine limits (with_print p.state before) g h.picks (with_print v
+        subst (λ v. IsTurn machine limits (state_with_print p.state before) g h.picks (state_with_print v
         (before ++ q.state.printed)))
         (sym cleared) (turn_after p.state q.state g h.picks before silent h.turn);
     counted = subst (CountsPicks p.steps h.picks) (sym steps) h.counted;
     gave = given;
   }
 
-  ready_after : (t : State F) (u : State F) → RunContinues limits t → u ≡ with_print t [] → IsReady limits u
-  ready_after t u on is = subst (IsReady limits) (sym is) (record {
+  ready_after : (t : State F) (u : State F) → RunContinues limits t → u ≡ state_with_print t [] → IsReadyForTurn limits u
+  ready_after t u on is = subst (IsReadyForTurn limits) (sym is) (record {
     on = record { running = on.running; within = on.within };
     silent = refl;
   })
@@ -284,13 +284,13 @@ module _ {F : Type 0} (machine : Machine F) (limits : Limits) where
       → s.printed ≡ []
       → FitsTurn machine limits s g picks t → ((before steps : ℕ) → RunEndsAs machine limits before steps t end)
       → RunPrints end t.printed a b → given ++ t.printed ≡ out ++ run.print
-      → IsLeft run machine out (with_print t run.print) end
+      → IsRunLeft run machine out (state_with_print t run.print) end
       → RoundEndsRun machine limits run given s end a b
   breaks_so run g given out s t picks end a b silent fits ends gave whole left = record {
     picks = picks;
     bytes = t.printed;
     state = t;
-    begun = λ before. begun_turn (with_print s before) (with_print t (before ++ t.printed)) g picks
+    begun = λ before. begun_turn (state_with_print s before) (state_with_print t (before ++ t.printed)) g picks
         (fits_after s t g picks before silent fits);
     ends = λ print before steps. ends_after before steps t print end (ends before steps);
     gives = gave;
@@ -336,12 +336,12 @@ module _ {F : Type 0} (machine : Machine F) (limits : Limits) where
   settled old run g given s d e (Ok x) a b lawful silent h cleared gave =
       let t = h.state in
       let q = point_of t e in
-      let r = point_of (with_print t []) e in
+      let r = point_of (state_with_print t []) e in
       record {
-        state = with_print t [];
+        state = state_with_print t [];
         bytes = t.printed;
         at = record { is = cleared.machine ∙ h.at.is; shown = cleared.shows given t h.at.shown };
-        ready = ready_after t (with_print t []) h.turned.on refl;
+        ready = ready_after t (state_with_print t []) h.turned.on refl;
         plays = played g (point_of s d) q r a b silent h.turned refl refl
             (subst (Appends a b) (sym (lawful.prints given t h.at.shown)) gave);
         passes = λ rest watches. passes_printed q r [] rest refl refl (λ n. refl) (h.passes rest watches);

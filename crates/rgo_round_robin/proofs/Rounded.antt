@@ -19,15 +19,15 @@ use Rattle.std.specs.Prelude.{min}
 use Rattle.rgo_machine.specs.declared.ends.RunEnd.{RunEnd}
 use Rattle.rgo_machine.specs.declared.ends.RunEnd.TheVariants as run_end
 use Rattle.rgo_round_robin.specs.declared.drivers.Driver.{Driver}
-use Rattle.rgo_round_robin.specs.Playing.{with_print, IsBetweenRounds, Plays, PlaysAll, PlaysRound, RoundEndsRun, Finishes}
+use Rattle.rgo_round_robin.specs.Playing.{state_with_print, IsBetweenRounds, Plays, PlaysAll, PlaysRound, RoundEndsRun, Finishes}
 use Rattle.rgo_round_robin.specs.Playing.{RoundsProgress, PlaysAllTo, PlaysRoundTo}
 use Rattle.rgo_round_robin.specs.Points.{Point, point_of}
 use Rattle.rgo_round_robin.specs.Probing.{MeetsAny}
 use Rattle.rgo_interpreter.specs.Meetings.{IsUnmet}
-use Rattle.rgo_round_robin.specs.Rounds.{IsOf, FitsTurn, IsTurn, AreTurns, IsRound, IsBegunRound, AreRounds, all_of}
+use Rattle.rgo_round_robin.specs.Rounds.{IsPickOf, FitsTurn, IsTurn, AreTurns, IsRound, IsBegunRound, AreRounds, all_of}
 use Rattle.rgo_round_robin.specs.Running.{View}
 use Rattle.rgo_machine.specs.Ends.{RunEndsAs}
-use Rattle.rgo_round_robin.specs.Runs.{IsReady, IsLeft, RunsTo}
+use Rattle.rgo_round_robin.specs.Runs.{IsReadyForTurn, IsRunLeft, RunsTo}
 use Rattle.rgo_round_robin.specs.Sleeping.{Sleeps, Watches}
 use Rattle.rgo_round_robin.specs.Turning.{CountsPicks, CountsUp}
 use Rattle.rgo_round_robin.proofs.Composed.{counts_none, counts_on, counts_saturating}
@@ -49,8 +49,8 @@ module _ {F : Type 0} (machine : Machine F) (limits : Limits) where
     picks = [];
     turns = λ before. (
       refl,
-      ap (λ v. with_print v (before ++ [])) state
-          ∙ ap (λ l. with_print p.state l) (append-nil before),
+      ap (λ v. state_with_print v (before ++ [])) state
+          ∙ ap (λ l. state_with_print p.state l) (append-nil before),
     );
     counted = subst (CountsUp p.steps 0) (sym steps) (counts_none p.steps);
     gave = Appends-nil a;
@@ -64,12 +64,12 @@ module _ {F : Type 0} (machine : Machine F) (limits : Limits) where
       record {
         picks = h.picks ++ k.picks;
         turns = λ before.
-            let there = with_print q.state (before ++ out) in
-            let behind = with_print r.state ((before ++ out) ++ bytes) in
-            subst (λ l. AreTurns machine limits (with_print p.state before) (order ++ g ∷ []) (h.picks ++ k.picks)
-            (with_print r.state l))
+            let there = state_with_print q.state (before ++ out) in
+            let behind = state_with_print r.state ((before ++ out) ++ bytes) in
+            subst (λ l. AreTurns machine limits (state_with_print p.state before) (order ++ g ∷ []) (h.picks ++ k.picks)
+            (state_with_print r.state l))
             (append_assoc before out bytes)
-            (turns_on machine limits (with_print p.state before) there behind order (g ∷ []) h.picks k.picks
+            (turns_on machine limits (state_with_print p.state before) there behind order (g ∷ []) h.picks k.picks
             (h.turns before)
             (one_turn machine limits there behind g k.picks (k.turn (before ++ out))));
         counted = subst (λ n. CountsUp p.steps n r.steps) (sym long)
@@ -86,11 +86,11 @@ module _ {F : Type 0} (machine : Machine F) (limits : Limits) where
     bytes = out ++ k.bytes;
     state = k.state;
     begun = λ before.
-        let there = with_print q.state (before ++ out) in
-        let behind = with_print k.state ((before ++ out) ++ k.bytes) in
-        subst (λ l. IsBegunRound machine limits (with_print p.state before) (h.picks ++ k.picks) (with_print k.state l))
+        let there = state_with_print q.state (before ++ out) in
+        let behind = state_with_print k.state ((before ++ out) ++ k.bytes) in
+        subst (λ l. IsBegunRound machine limits (state_with_print p.state before) (h.picks ++ k.picks) (state_with_print k.state l))
         (append_assoc before out k.bytes)
-        (begun_on machine limits (with_print p.state before) there behind order h.picks k.picks (h.turns before)
+        (begun_on machine limits (state_with_print p.state before) there behind order h.picks k.picks (h.turns before)
         (k.begun (before ++ out)));
     ends = k.ends;
     gives = gives_behind out k.bytes a b c h.gave end k.gives;
@@ -102,7 +102,7 @@ module _ {F : Type 0} (machine : Machine F) (limits : Limits) where
   -- ---- rounds
 
   fair : (s : State F) (ready : List ℕ) (waiting : ℕ → List ℕ) (before : List ℕ) → Watches machine s ready waiting
-      → (g : ℕ) → (step_by machine (with_print s before) (One g) ≡ None → ⊥) → Contains ready g
+      → (g : ℕ) → (step_by machine (state_with_print s before) (One g) ≡ None → ⊥) → Contains ready g
   fair s ready waiting before watches g steps = by_cases (cases_lt g (length s.goroutines)) where
     watched : Contains ready g ⊎ Sleeps machine s waiting g → Contains ready g
     watched (inl c) = c
@@ -130,7 +130,7 @@ module _ {F : Type 0} (machine : Machine F) (limits : Limits) where
 
   -- two that met, as the turn of the receiver
   pub plays_meeting : (met : ℕ × ℕ) (order : List ℕ) (p q u : Point F) (out : List ℕ) (a b : Option (List ℕ))
-      → PlaysAll machine limits order p q out a b → IsReady limits q.state
+      → PlaysAll machine limits order p q out a b → IsReadyForTurn limits q.state
       → step_by machine q.state (Meet met.0 met.1) ≡ Some u.state
       → CountsUp q.steps 1 u.steps → PlaysAll machine limits (order ++ met.0 ∷ []) p u out a b
   plays_meeting met order p q u out a b h ready step counted =
@@ -141,20 +141,20 @@ module _ {F : Type 0} (machine : Machine F) (limits : Limits) where
         leads = single (limited_step machine limits) q.state u.state pick
             (limited machine limits q.state u.state pick step (is.within ready.on.within));
         short = omega arith;
-        own = All-push (IsOf r) [] pick (All-nil (IsOf r)) (inl refl);
+        own = All-push (IsPickOf r) [] pick (All-nil (IsPickOf r)) (inl refl);
       } in
       let turn : IsTurn machine limits q.state r (pick ∷ []) u.state = record { fits = fits; plays = λ none. cc } in
       record {
         picks = h.picks ++ pick ∷ [];
         turns = λ before.
-            let there = with_print q.state (before ++ out) in
-            let behind = with_print u.state (before ++ out) in
+            let there = state_with_print q.state (before ++ out) in
+            let behind = state_with_print u.state (before ++ out) in
             let silent : (before ++ out) ++ u.state.printed ≡ before ++ out =
             ap (λ l. (before ++ out) ++ l) (is.printed ∙ ready.silent) ∙ append-nil (before ++ out) in
             let last : IsTurn machine limits there r (pick ∷ []) behind =
-            subst (λ l. IsTurn machine limits there r (pick ∷ []) (with_print u.state l)) silent
+            subst (λ l. IsTurn machine limits there r (pick ∷ []) (state_with_print u.state l)) silent
             (turn_after machine limits q.state u.state r (pick ∷ []) (before ++ out) ready.silent turn) in
-            turns_on machine limits (with_print p.state before) there behind order (r ∷ []) h.picks
+            turns_on machine limits (state_with_print p.state before) there behind order (r ∷ []) h.picks
             (pick ∷ []) (h.turns before)
             (one_turn machine limits there behind r (pick ∷ []) last);
         counted = subst (λ n. CountsUp p.steps n u.steps) (sym (length-append h.picks (pick ∷ [])))
@@ -187,18 +187,18 @@ module _ {F : Type 0} (machine : Machine F) (limits : Limits) where
 
   pub blocked : {C : Type 0} (run : View F C) (given : List ℕ) (p q : Point F) (out : List ℕ) (a b : Option (List ℕ))
       → IsBetweenRounds machine limits p
-      → PlaysAll machine limits p.ready p q out a b → IsReady limits q.state → q.steps ≤ p.steps
+      → PlaysAll machine limits p.ready p q out a b → IsReadyForTurn limits q.state → q.steps ≤ p.steps
       → ((g : ℕ) → IsUnmet machine q.state g) → run.print ≡ []
-      → IsLeft run machine (given ++ out) (with_print q.state run.print) run_end.Deadlock
+      → IsRunLeft run machine (given ++ out) (state_with_print q.state run.print) run_end.Deadlock
       → RoundEndsRun machine limits run given p.state run_end.Deadlock a b
   blocked run given p q out a b between h ready le unmet printed left =
       let none = none_counted p.steps q.steps h.picks between.counting le h.counted in
-      let still = idle (with_print p.state []) (with_print q.state ([] ++ out)) p.ready h.picks (h.turns []) none in
+      let still = idle (state_with_print p.state []) (state_with_print q.state ([] ++ out)) p.ready h.picks (h.turns []) none in
       record {
         picks = h.picks;
         bytes = out;
         state = q.state;
-        begun = λ before. begun_whole machine limits (with_print p.state before) (with_print q.state
+        begun = λ before. begun_whole machine limits (state_with_print p.state before) (state_with_print q.state
             (before ++ out)) p.ready h.picks (h.turns before);
         ends = λ print before steps. (
           ready.on.running,
@@ -210,8 +210,8 @@ module _ {F : Type 0} (machine : Machine F) (limits : Limits) where
         whole = all_given (given ++ out) run.print printed;
         left = left;
       } where
-        alone : with_print q.state ([] ++ out) ≡ with_print p.state []
-            → ((g : ℕ) → Contains p.ready g → step_by machine (with_print p.state []) (One g) ≡ None)
+        alone : state_with_print q.state ([] ++ out) ≡ state_with_print p.state []
+            → ((g : ℕ) → Contains p.ready g → step_by machine (state_with_print p.state []) (One g) ≡ None)
             → (g : ℕ) → (g < length p.state.goroutines) ⊎ (length p.state.goroutines ≤ g)
             → step_by machine p.state (One g) ≡ None
         alone same still g (inl lt) = watched (between.watches g lt) where
@@ -220,8 +220,8 @@ module _ {F : Type 0} (machine : Machine F) (limits : Limits) where
           watched (inr sleeps) = sleeps.still
         alone same still g (inr past) = beyond machine p.state g past
 
-        blocks : with_print q.state ([] ++ out) ≡ with_print p.state []
-            → ((g : ℕ) → Contains p.ready g → step_by machine (with_print p.state []) (One g) ≡ None)
+        blocks : state_with_print q.state ([] ++ out) ≡ state_with_print p.state []
+            → ((g : ℕ) → Contains p.ready g → step_by machine (state_with_print p.state []) (One g) ≡ None)
             → IsBlocked (step_by machine) q.state
         blocks same still (One g) =
             no_step_of machine q.state ([] ++ out) (One g)
@@ -233,13 +233,13 @@ module _ {F : Type 0} (machine : Machine F) (limits : Limits) where
   pub fails : {C : Type 0} (run : View F C) (order given : List ℕ) (p q : Point F) (out : List ℕ)
       (a b : Option (List ℕ))
       → PlaysAll machine limits order p q out a b → run.print ≡ []
-      → IsLeft run machine (given ++ out) (with_print q.state run.print) run_end.NoMemory
+      → IsRunLeft run machine (given ++ out) (state_with_print q.state run.print) run_end.NoMemory
       → RoundEndsRun machine limits run given p.state run_end.NoMemory a b
   fails run order given p q out a b h printed left = record {
     picks = h.picks;
     bytes = out;
     state = q.state;
-    begun = λ before. begun_whole machine limits (with_print p.state before) (with_print q.state
+    begun = λ before. begun_whole machine limits (state_with_print p.state before) (state_with_print q.state
         (before ++ out)) order h.picks (h.turns before);
     ends = λ print before steps. tt;
     gives = h.gave;
@@ -286,7 +286,7 @@ module _ {F : Type 0} (machine : Machine F) (limits : Limits) where
       (left_at run machine out all.state run_end.Deadlock lawful none.at (λ shortage is. cc))))
   met_or_ends old run given s d m e (Err end) a b lawful between all le (inr late) =
       subst (λ end. RoundEndsRun machine limits run given s end a b) (sym late.is) (by_cases late.step) where
-        left : IsLeft run machine (given ++ all.bytes) (with_print late.state run.print) run_end.NoMemory
+        left : IsRunLeft run machine (given ++ all.bytes) (state_with_print late.state run.print) run_end.NoMemory
         left = left_printed run machine (given ++ all.bytes) late.state run_end.NoMemory late.left.print
             (left_over run machine (given ++ all.bytes) late.state late.left)
 
@@ -296,7 +296,7 @@ module _ {F : Type 0} (machine : Machine F) (limits : Limits) where
         by_cases (inl same) =
             fails run d.ready.items given (point_of s d) (point_of all.state m) all.bytes a b all.plays
             (sym late.left.print ∙ ap (λ t. t.printed) same ∙ all.ready.silent)
-            (subst (λ t. IsLeft run machine (given ++ all.bytes) (with_print t run.print) run_end.NoMemory) same left)
+            (subst (λ t. IsRunLeft run machine (given ++ all.bytes) (state_with_print t run.print) run_end.NoMemory) same left)
         by_cases (inr met) =
             let u : Point F = record {
               state = late.state;
@@ -351,7 +351,7 @@ module _ {F : Type 0} (machine : Machine F) (limits : Limits) where
         picks = h.picks;
         bytes = k.bytes;
         state = k.state;
-        begun = λ before. begun_whole machine limits (with_print s before) (with_print k.state
+        begun = λ before. begun_whole machine limits (state_with_print s before) (state_with_print k.state
             (before ++ k.bytes)) (h.round before).order h.picks
             (h.round before).turns;
         ends = λ print taken is early.
@@ -383,7 +383,7 @@ module _ {F : Type 0} (machine : Machine F) (limits : Limits) where
       → RoundsProgress machine limits p.state p [] a a
   begins p a silent none = record {
     rounds = [];
-    went = ap (λ l. with_print p.state l) (sym silent);
+    went = ap (λ l. state_with_print p.state l) (sym silent);
     counted = omega (arith, none);
     early = omega arith;
     gave = Appends-nil a;
@@ -398,7 +398,7 @@ module _ {F : Type 0} (machine : Machine F) (limits : Limits) where
       let sum = k.counted (length (all_of h.rounds)) h.counted in
       record {
         rounds = h.rounds ++ k.picks ∷ [];
-        went = rounds_on s (with_print p.state out) (with_print q.state
+        went = rounds_on s (state_with_print p.state out) (state_with_print q.state
             (out ++ bytes)) h.rounds k.picks h.went (k.round out);
         counted = omega (arith, long, sum);
         early = omega (arith, long, sum, below, counting);
@@ -411,8 +411,8 @@ module _ {F : Type 0} (machine : Machine F) (limits : Limits) where
       → Finishes machine limits run (given ++ out) p.state p.steps end b c
       → RunsTo run machine limits given s end a c
   runs run given s p end out a b c h k =
-      let begun = with_print p.state out in
-      let state = with_print k.state (out ++ k.bytes) in
+      let begun = state_with_print p.state out in
+      let state = state_with_print k.state (out ++ k.bytes) in
       record {
         runs = record {
           rounds = h.rounds;
@@ -437,7 +437,7 @@ module _ {F : Type 0} (machine : Machine F) (limits : Limits) where
   -- there was no memory to begin
   pub none_ran : {C : Type 0} (run : View F C) (given : List ℕ) (s : State F) (a : Option (List ℕ)) → s.printed ≡ []
       → s.printed ≡ run.print
-      → IsLeft run machine given (with_print s run.print) run_end.NoMemory
+      → IsRunLeft run machine given (state_with_print s run.print) run_end.NoMemory
       → RunsTo run machine limits given s run_end.NoMemory a a
   none_ran run given s a silent print left = record {
     runs = record {

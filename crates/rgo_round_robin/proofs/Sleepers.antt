@@ -13,7 +13,7 @@ use Rattle.rgo_machine.specs.Machines.{Machine, State, Stand, AtReceive, AtSend,
 use Rattle.rgo_machine.specs.Machines.{stepped, alone, picked, unless_ended}
 use Rattle.rgo_machine.proofs.Waiting.{SameChannelAt, still_waits, waits_stepped, stepped_waits}
 use Rattle.rgo_machine.proofs.Waiting.{SameAt as SameValueAt, channel_of as frame_waits_at}
-use Rattle.rgo_round_robin.specs.Sleeping.{waits_at, channel_of, Sleeps}
+use Rattle.rgo_round_robin.specs.Sleeping.{waits_at, next_channel_of, Sleeps}
 
 -- the channel of that number is as it was, if there was one
 abbrev pub SameAt : Memory → Memory → ℕ → Type 0
@@ -63,8 +63,8 @@ module _ {F : Type 0} (machine : Machine F) (s t : State F) (h : ℕ) where
 
   -- where its frames are as they were, and its channel and its place in the list there
   pub sleeps_on : (v w : ℕ → List ℕ) → s.ended ≡ None → slice_get t.goroutines h ≡ slice_get s.goroutines h
-      → ((n : ℕ) → channel_of machine s h ≡ Some n → SameAt s.memory t.memory n)
-      → ((n : ℕ) → channel_of machine s h ≡ Some n → Contains (v n) h → Contains (w n) h)
+      → ((n : ℕ) → next_channel_of machine s h ≡ Some n → SameAt s.memory t.memory n)
+      → ((n : ℕ) → next_channel_of machine s h ≡ Some n → Contains (v n) h → Contains (w n) h)
       → Sleeps machine s v h → Sleeps machine t w h
   sleeps_on v w running frames same lists sleeps =
       let was : option_and_then (alone machine s h) (slice_get s.goroutines h) ≡ None =
@@ -73,7 +73,7 @@ module _ {F : Type 0} (machine : Machine F) (s t : State F) (h : ℕ) where
         still = unless_over t.ended _ (ap (option_and_then (alone machine t h)) frames
             ∙ is_still (slice_get s.goroutines h) same was);
         listed = λ n is.
-            let before : channel_of machine s h ≡ Some n =
+            let before : next_channel_of machine s h ≡ Some n =
             ap (λ o. option_and_then waits_at (option_and_then (newest_stand machine) o)) (sym frames) ∙ is in
             lists n before (sleeps.listed n before);
       }

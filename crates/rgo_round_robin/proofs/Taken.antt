@@ -8,12 +8,12 @@ use Rattle.rgo_machine.specs.Machines.{Machine, State, step_by}
 use Rattle.rgo_round_robin.specs.declared.drivers.Driver.{Driver}
 use Rattle.rgo_machine.specs.declared.ends.RunEnd.{RunEnd}
 use Rattle.rgo_machine.specs.declared.ends.RunEnd.TheVariants as run_end
-use Rattle.rgo_round_robin.specs.Points.{Point, listed, point_of}
+use Rattle.rgo_round_robin.specs.Points.{Point, listed_at_channel, point_of}
 use Rattle.rgo_round_robin.specs.Probing.{IsLeftOver, HaveMet}
 use Rattle.rgo_round_robin.specs.Running.{View, RunContinues, IsRunAt, RunTakesTurn}
-use Rattle.rgo_round_robin.specs.Sleeping.{channel_of, Sleeps}
+use Rattle.rgo_round_robin.specs.Sleeping.{next_channel_of, Sleeps}
 use Rattle.rgo_round_robin.specs.Taking.{StopsAt, TurnMovesTo, TurnStepsTo, WaitsTo, AdvancesTo, TurnsTo}
-use Rattle.rgo_round_robin.specs.Turning.{operated, end_of, AreMet, CountsUp}
+use Rattle.rgo_round_robin.specs.Turning.{operated_channel, run_end_of, AreMet, CountsUp}
 use Rattle.rgo_round_robin.proofs.Composed.{moved_none, moved_on, moved_by, moved_meeting, moved_fails, nothing_fails}
 use Rattle.rgo_round_robin.proofs.Composed.{turned_moves, turned_stops, turned_fails, advances_on, stopped_on}
 use Rattle.rgo_round_robin.proofs.Composed.{stopped_within, turned}
@@ -61,9 +61,9 @@ module _
     -- a goroutine without a step joins those that wait at its channel
     pub joins : (d e : Driver) (channel : ℕ) → IsRunAt run machine given s → RunContinues limits s
         → step_by machine s (One g) ≡ None
-        → channel_of machine s g ≡ Some channel → e.steps ≡ d.steps → e.ready.items ≡ d.ready.items
-        → listed e.waiting channel ≡ listed d.waiting channel ++ g ∷ []
-        → ((n : ℕ) → (n ≡ channel → ⊥) → listed e.waiting n ≡ listed d.waiting n)
+        → next_channel_of machine s g ≡ Some channel → e.steps ≡ d.steps → e.ready.items ≡ d.ready.items
+        → listed_at_channel e.waiting channel ≡ listed_at_channel d.waiting channel ++ g ∷ []
+        → ((n : ℕ) → (n ≡ channel → ⊥) → listed_at_channel e.waiting n ≡ listed_at_channel d.waiting n)
         → WaitsTo run machine limits g given s d e false
     joins d e channel at on still waits steps ready joined others = (
       record {
@@ -72,15 +72,15 @@ module _
         moved = moved_none machine limits g (point_of s d) (point_of s e) on refl steps;
         keeps = keeps_joined machine limits g channel (point_of s d) (point_of s e) on.running refl ready joined others;
       },
-      joined_sleeps machine limits g channel s s (listed d.waiting) (listed e.waiting) still waits refl joined,
+      joined_sleeps machine limits g channel s s (listed_at_channel d.waiting) (listed_at_channel e.waiting) still waits refl joined,
     )
 
     -- it meets the one that has waited there last
     pub meets_last : (d e : Driver) (partner channel n : ℕ) (met : ℕ × ℕ) (rest : List ℕ) → RunContinues limits s
         → AreMet met g partner → HaveMet run machine given s met d.steps n → e.steps ≡ n
-        → e.ready.items ≡ d.ready.items ++ partner ∷ [] → listed d.waiting channel ≡ rest ++ partner ∷ []
-        → listed e.waiting channel ≡ rest
-        → ((i : ℕ) → (i ≡ channel → ⊥) → listed e.waiting i ≡ listed d.waiting i)
+        → e.ready.items ≡ d.ready.items ++ partner ∷ [] → listed_at_channel d.waiting channel ≡ rest ++ partner ∷ []
+        → listed_at_channel e.waiting channel ≡ rest
+        → ((i : ℕ) → (i ≡ channel → ⊥) → listed_at_channel e.waiting i ≡ listed_at_channel d.waiting i)
         → TurnMovesTo run machine limits g given s d e 1
     meets_last d e partner channel n met rest on both h steps ready was now others = record {
       state = h.state;
@@ -109,12 +109,12 @@ module _
     -- ---- steps alone
 
     pub steps_to : (d e : Driver) (at_most : ℕ) (turned : Turned) → run.machine ≡ machine → RunContinues limits s
-        → end_of turned.stop ≡ None → (taken : RunTakesTurn run machine limits given s g at_most turned)
+        → run_end_of turned.stop ≡ None → (taken : RunTakesTurn run machine limits given s g at_most turned)
         → CountsUp d.steps turned.steps e.steps
         → ((h : ℕ) → Contains d.ready.items h → Contains e.ready.items h)
         → ((h : ℕ) → length s.goroutines ≤ h → h < length taken.state.goroutines → Contains e.ready.items h)
-        → ((n h : ℕ) → operated turned.stop ≡ Some n → Contains (listed d.waiting n) h → Contains e.ready.items h)
-        → ((n : ℕ) → (operated turned.stop ≡ Some n → ⊥) → listed e.waiting n ≡ listed d.waiting n)
+        → ((n h : ℕ) → operated_channel turned.stop ≡ Some n → Contains (listed_at_channel d.waiting n) h → Contains e.ready.items h)
+        → ((n : ℕ) → (operated_channel turned.stop ≡ Some n → ⊥) → listed_at_channel e.waiting n ≡ listed_at_channel d.waiting n)
         → TurnStepsTo run machine limits g given s d e at_most turned
     steps_to d e at_most turned same on none taken counted stay fresh woken others =
         let p = point_of s d in
@@ -131,7 +131,7 @@ module _
         }
 
     pub stops_turn : (at_most : ℕ) (turned : Turned) (end : RunEnd) → run.machine ≡ machine
-        → end_of turned.stop ≡ Some end → RunTakesTurn run machine limits given s g at_most turned
+        → run_end_of turned.stop ≡ Some end → RunTakesTurn run machine limits given s g at_most turned
         → StopsAt run machine limits g given s at_most end
     stops_turn at_most turned end same is taken = record {
       state = taken.state;
@@ -169,7 +169,7 @@ module _
 
     -- it sleeps
     pub advances_asleep : (d e : Driver) (left count : ℕ) → count ≤ left
-        → (moves : TurnMovesTo run machine limits g given s d e count) → Sleeps machine moves.state (listed e.waiting) g
+        → (moves : TurnMovesTo run machine limits g given s d e count) → Sleeps machine moves.state (listed_at_channel e.waiting) g
         → AdvancesTo run machine limits g given s d e left None
     advances_asleep d e left count le h sleeps = record {
       state = h.state;
@@ -181,7 +181,7 @@ module _
 
     -- it slept already
     pub advances_still : (d : Driver) (left : ℕ) → IsRunAt run machine given s → RunContinues limits s
-        → Sleeps machine s (listed d.waiting) g → AdvancesTo run machine limits g given s d d left None
+        → Sleeps machine s (listed_at_channel d.waiting) g → AdvancesTo run machine limits g given s d d left None
     advances_still d left at on sleeps = record {
       state = s;
       at = at;
@@ -220,7 +220,7 @@ module _
     -- a whole turn
     pub turns_to : (d e : Driver) (count : ℕ) → (moves : TurnMovesTo run machine limits g given s d e count) → count ≤ 1000
         → (step_by machine moves.state (One g) ≡ None) ⊎ (0 < count)
-        → Contains e.ready.items g ⊎ Sleeps machine moves.state (listed e.waiting) g
+        → Contains e.ready.items g ⊎ Sleeps machine moves.state (listed_at_channel e.waiting) g
         → TurnsTo run machine limits g given s d e
     turns_to d e count h le either kept = record {
       state = h.state;

@@ -6,23 +6,23 @@ use Rattle.rgo_machine.specs.declared.picks.Pick.{Pick}
 use Rattle.rgo_machine.specs.Machines.{Machine, State}
 use Rattle.rgo_machine.specs.declared.ends.RunEnd.{RunEnd}
 use Rattle.rgo_round_robin.specs.declared.drivers.Driver.{Driver}
-use Rattle.rgo_round_robin.specs.Points.{Point, listed, point_of}
+use Rattle.rgo_round_robin.specs.Points.{Point, listed_at_channel, point_of}
 use Rattle.rgo_round_robin.specs.Rounds.{IsTurn, AreTurns, IsRound, IsBegunRound, AreRounds, all_of}
 use Rattle.rgo_round_robin.specs.Running.{View, IsRunAt}
 use Rattle.rgo_machine.specs.Ends.{RunEndsAs, RunPrints}
-use Rattle.rgo_round_robin.specs.Runs.{IsReady, IsLeft}
+use Rattle.rgo_round_robin.specs.Runs.{IsReadyForTurn, IsRunLeft}
 use Rattle.rgo_round_robin.specs.Sleeping.{Watches, RoundContinues}
 use Rattle.rgo_round_robin.specs.Turning.{CountsPicks}
 
 module _ {F : Type 0} where
   -- the state with this print
-  abbrev pub with_print : State F → List ℕ → State F
-  with_print s bytes = record s { printed = bytes }
+  abbrev pub state_with_print : State F → List ℕ → State F
+  state_with_print s bytes = record s { printed = bytes }
 
 module _ {F : Type 0} (machine : Machine F) (limits : Limits) where
   -- between rounds
   pub record IsBetweenRounds (p : Point F) : Type 0 where
-    pub ready : IsReady limits p.state
+    pub ready : IsReadyForTurn limits p.state
     pub watches : Watches machine p.state p.ready p.waiting
     pub counting : p.steps < 2 ^ 64 - 1
 
@@ -30,7 +30,7 @@ module _ {F : Type 0} (machine : Machine F) (limits : Limits) where
   pub record Plays (g : ℕ) (p q : Point F) (bytes : List ℕ) (old new : Option (List ℕ)) : Type 0 where
     pub picks : List Pick
     pub turn : (before : List ℕ)
-        → IsTurn machine limits (with_print p.state before) g picks (with_print q.state (before ++ bytes))
+        → IsTurn machine limits (state_with_print p.state before) g picks (state_with_print q.state (before ++ bytes))
     pub counted : CountsPicks p.steps picks q.steps
     pub gave : Appends old new bytes
 
@@ -38,7 +38,7 @@ module _ {F : Type 0} (machine : Machine F) (limits : Limits) where
   pub record PlaysAll (order : List ℕ) (p q : Point F) (bytes : List ℕ) (old new : Option (List ℕ)) : Type 0 where
     pub picks : List Pick
     pub turns : (before : List ℕ)
-        → AreTurns machine limits (with_print p.state before) order picks (with_print q.state (before ++ bytes))
+        → AreTurns machine limits (state_with_print p.state before) order picks (state_with_print q.state (before ++ bytes))
     pub counted : CountsPicks p.steps picks q.steps
     pub gave : Appends old new bytes
 
@@ -46,7 +46,7 @@ module _ {F : Type 0} (machine : Machine F) (limits : Limits) where
   pub record PlaysRound (p q : Point F) (bytes : List ℕ) (old new : Option (List ℕ)) : Type 0 where
     pub picks : List Pick
     pub round : (before : List ℕ)
-        → IsRound machine limits (with_print p.state before) picks (with_print q.state (before ++ bytes))
+        → IsRound machine limits (state_with_print p.state before) picks (state_with_print q.state (before ++ bytes))
     pub counted : CountsPicks p.steps picks q.steps
     pub gave : Appends old new bytes
 
@@ -58,12 +58,12 @@ module _ {F : Type 0} (machine : Machine F) (limits : Limits) where
     pub bytes : List ℕ
     pub state : State F
     pub begun : (before : List ℕ)
-        → IsBegunRound machine limits (with_print s before) picks (with_print state (before ++ bytes))
-    pub ends : (print : List ℕ) (before steps : ℕ) → RunEndsAs machine limits before steps (with_print state print) end
+        → IsBegunRound machine limits (state_with_print s before) picks (state_with_print state (before ++ bytes))
+    pub ends : (print : List ℕ) (before steps : ℕ) → RunEndsAs machine limits before steps (state_with_print state print) end
     pub gives : RunPrints end bytes old new
     pub before : List ℕ
     pub whole : given ++ bytes ≡ before ++ run.print
-    pub left : IsLeft run machine before (with_print state run.print) end
+    pub left : IsRunLeft run machine before (state_with_print state run.print) end
 
   -- part of a round, after which the run ends; these bytes had been written and m steps counted before
   pub record Finishes
@@ -73,18 +73,18 @@ module _ {F : Type 0} (machine : Machine F) (limits : Limits) where
     pub bytes : List ℕ
     pub state : State F
     pub begun : (before : List ℕ)
-        → IsBegunRound machine limits (with_print s before) picks (with_print state (before ++ bytes))
+        → IsBegunRound machine limits (state_with_print s before) picks (state_with_print state (before ++ bytes))
     pub ends : (print : List ℕ) (taken : ℕ) → m ≡ min taken (2 ^ 64 - 1) → taken < max 1 limits.steps
-        → RunEndsAs machine limits taken (taken + length picks) (with_print state print) end
+        → RunEndsAs machine limits taken (taken + length picks) (state_with_print state print) end
     pub gives : RunPrints end bytes old new
     pub before : List ℕ
     pub whole : given ++ bytes ≡ before ++ run.print
-    pub left : IsLeft run machine before (with_print state run.print) end
+    pub left : IsRunLeft run machine before (state_with_print state run.print) end
 
   -- rounds so far, and these bytes that they printed went out
   pub record RoundsProgress (s : State F) (p : Point F) (bytes : List ℕ) (old new : Option (List ℕ)) : Type 0 where
     pub rounds : List (List Pick)
-    pub went : AreRounds machine limits s rounds (with_print p.state bytes)
+    pub went : AreRounds machine limits s rounds (state_with_print p.state bytes)
     pub counted : p.steps ≡ min (length (all_of rounds)) (2 ^ 64 - 1)
     pub early : length (all_of rounds) < max 1 limits.steps
     pub gave : Appends old new bytes
@@ -107,7 +107,7 @@ module _
       pub state : State F
       pub bytes : List ℕ
       pub at : IsRunAt run machine (given ++ bytes) state
-      pub ready : IsReady limits state
+      pub ready : IsReadyForTurn limits state
       pub plays : Plays machine limits g (point_of s d) (point_of state e) bytes old new
       pub passes : RoundContinues machine g (point_of s d) (point_of state e)
 
@@ -116,19 +116,19 @@ module _
       pub state : State F
       pub bytes : List ℕ
       pub at : IsRunAt run machine (given ++ bytes) state
-      pub ready : IsReady limits state
+      pub ready : IsReadyForTurn limits state
       pub plays : PlaysAll machine limits order (point_of s d) (point_of state e) bytes old new
-      pub watches : Watches machine s d.ready.items (listed d.waiting)
-          → Watches machine state (rest ++ e.ready.items) (listed e.waiting)
+      pub watches : Watches machine s d.ready.items (listed_at_channel d.waiting)
+          → Watches machine state (rest ++ e.ready.items) (listed_at_channel e.waiting)
 
     -- the same after a round
     pub record PlaysRoundTo (old new : Option (List ℕ)) : Type 0 where
       pub state : State F
       pub bytes : List ℕ
       pub at : IsRunAt run machine (given ++ bytes) state
-      pub ready : IsReady limits state
+      pub ready : IsReadyForTurn limits state
       pub plays : PlaysRound machine limits (point_of s d) (point_of state e) bytes old new
-      pub watches : Watches machine state e.ready.items (listed e.waiting)
+      pub watches : Watches machine state e.ready.items (listed_at_channel e.waiting)
 
 -- the run continues after rounds, and what they printed went out
 pub record ProgressesTo

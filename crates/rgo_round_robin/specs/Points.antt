@@ -10,8 +10,8 @@ numbers_in (Some list) = list.items
 numbers_in None = []
 
 -- the goroutines that are listed at a channel
-abbrev pub listed : {Z S : Type 0} → HashMap ℕ (Vec ℕ Z) S → ℕ → List ℕ
-listed waiting channel = numbers_in (get nat_eq waiting channel)
+abbrev pub listed_at_channel : {Z S : Type 0} → HashMap ℕ (Vec ℕ Z) S → ℕ → List ℕ
+listed_at_channel waiting channel = numbers_in (get nat_eq waiting channel)
 
 pub record Point (F : Type 0) : Type 0 where
   pub state : State F
@@ -24,4 +24,4 @@ pub record Point (F : Type 0) : Type 0 where
 
 -- a run that a driver drives, at this state
 abbrev pub point_of : {F : Type 0} → State F → Driver → Point F
-point_of s d = record { state = s; steps = d.steps; ready = d.ready.items; waiting = listed d.waiting }
+point_of s d = record { state = s; steps = d.steps; ready = d.ready.items; waiting = listed_at_channel d.waiting }

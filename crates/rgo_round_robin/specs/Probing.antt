@@ -7,7 +7,7 @@ use Rattle.rgo_interpreter.specs.Meetings.{IsUnmet}
 use Rattle.rgo_round_robin.specs.declared.drivers.Driver.{Driver}
 use Rattle.rgo_machine.specs.declared.ends.RunEnd.{RunEnd}
 use Rattle.rgo_machine.specs.declared.ends.RunEnd.TheVariants as run_end
-use Rattle.rgo_round_robin.specs.Points.{listed}
+use Rattle.rgo_round_robin.specs.Points.{listed_at_channel}
 use Rattle.rgo_round_robin.specs.Running.{View, IsRunAt}
 use Rattle.rgo_round_robin.specs.Sleeping.{Watches}
 use Rattle.rgo_round_robin.specs.Turning.{CountsUp}
@@ -51,8 +51,8 @@ module _ {F C : Type 0} (run : View F C) (machine : Machine F) (given : List ℕ
   pub record MeetsTwo (d e : Driver) : Type 0 where
     pub met : ℕ × ℕ
     pub meets : HaveMet met d.steps e.steps
-    pub watches : Watches machine s d.ready.items (listed d.waiting)
-        → Watches machine meets.state e.ready.items (listed e.waiting)
+    pub watches : Watches machine s d.ready.items (listed_at_channel d.waiting)
+        → Watches machine meets.state e.ready.items (listed_at_channel e.waiting)
 
   -- no two can meet
   pub record MeetsNone (end : RunEnd) : Type 0 where

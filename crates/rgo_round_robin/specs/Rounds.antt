@@ -11,9 +11,9 @@ abbrev pub longest_turn : ℕ
 longest_turn = 1000
 
 -- a step of the goroutine, alone or with another
-abbrev pub IsOf : ℕ → Pick → Type 0
-IsOf g (One h) = h ≡ g
-IsOf g (Meet receiver sender) = (receiver ≡ g) ⊎ (sender ≡ g)
+abbrev pub IsPickOf : ℕ → Pick → Type 0
+IsPickOf g (One h) = h ≡ g
+IsPickOf g (Meet receiver sender) = (receiver ≡ g) ⊎ (sender ≡ g)
 
 -- the steps of rounds, one after the other
 abbrev pub all_of : List (List Pick) → List Pick
@@ -25,7 +25,7 @@ module _ {F : Type 0} (machine : Machine F) (limits : Limits) where
   pub record FitsTurn (s : State F) (g : ℕ) (picks : List Pick) (t : State F) : Type 0 where
     pub leads : LeadsWithin machine limits s picks t
     pub short : length picks ≤ longest_turn
-    pub own : All (IsOf g) picks
+    pub own : All (IsPickOf g) picks
 
   -- a turn: without steps only where the goroutine has none alone
   pub record IsTurn (s : State F) (g : ℕ) (picks : List Pick) (t : State F) : Type 0 where

@@ -37,7 +37,7 @@ module _ {F C : Type 0} where
     pub shown : run.shows given s
 
   -- the run is at some state that has not ended
-  pub record IsRunning (run : View F C) : Type 0 where
+  pub record IsNotEnded (run : View F C) : Type 0 where
     pub given : List ℕ
     pub state : State F
     pub shown : run.shows given state

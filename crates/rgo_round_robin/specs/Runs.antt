@@ -12,7 +12,7 @@ use Rattle.rgo_round_robin.specs.Rounds.{AreRounds, IsBegunRound, all_of}
 use Rattle.rgo_round_robin.specs.Running.{View, RunContinues}
 
 -- some run from a state ends so, in rounds and within the limits, and its print was given out
-pub record Runs
+pub record RunsInRounds
     {F : Type 0} (machine : Machine F) (limits : Limits) (start : State F) (end : RunEnd) (old new : Option (List ℕ))
     : Type 0 where
   -- the steps of the rounds before the last, and of the last
@@ -27,7 +27,7 @@ pub record Runs
   pub gives : RunPrints end state.printed old new
 
 -- a state in which a run may begin, and between turns: the run continues, and all that was printed was given out
-pub record IsReady {F : Type 0} (limits : Limits) (s : State F) : Type 0 where
+pub record IsReadyForTurn {F : Type 0} (limits : Limits) (s : State F) : Type 0 where
   pub on : RunContinues limits s
   pub silent : s.printed ≡ []
 
@@ -37,10 +37,10 @@ module _ {F C : Type 0} where
     pub given : List ℕ
     pub state : State F
     pub shown : run.shows given state
-    pub ready : IsReady limits state
+    pub ready : IsReadyForTurn limits state
 
   -- what holds of a run of this machine, at this state, that has ended so, with what was given out before
-  pub record IsLeft (run : View F C) (machine : Machine F) (given : List ℕ) (s : State F) (end : RunEnd)
+  pub record IsRunLeft (run : View F C) (machine : Machine F) (given : List ℕ) (s : State F) (end : RunEnd)
       : Type 0 where
     pub is : run.machine ≡ machine
     pub leaves : run.leaves given s
@@ -53,7 +53,7 @@ module _ {F C : Type 0} where
       (run : View F C) (machine : Machine F) (limits : Limits) (given : List ℕ) (start : State F) (end : RunEnd)
       (old new : Option (List ℕ))
       : Type 0 where
-    pub runs : Runs machine limits start end old new
+    pub runs : RunsInRounds machine limits start end old new
     pub before : List ℕ
     pub whole : given ++ runs.state.printed ≡ before ++ run.print
-    pub left : IsLeft run machine before (record runs.state { printed = run.print }) end
+    pub left : IsRunLeft run machine before (record runs.state { printed = run.print }) end

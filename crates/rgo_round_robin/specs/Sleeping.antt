@@ -16,20 +16,20 @@ waits_at (Send (Object channel) value place) = Some channel
 waits_at _ = None
 
 module _ {F : Type 0} (machine : Machine F) where
-  abbrev pub channel_of : State F → ℕ → Option ℕ
-  channel_of s g = option_and_then waits_at (standing machine s g)
+  abbrev pub next_channel_of : State F → ℕ → Option ℕ
+  next_channel_of s g = option_and_then waits_at (standing machine s g)
 
   -- the goroutine has no step alone, and where it waits at a channel it is listed there
   pub record Sleeps (s : State F) (waiting : ℕ → List ℕ) (g : ℕ) : Type 0 where
     pub still : step_by machine s (One g) ≡ None
-    pub listed : (channel : ℕ) → channel_of s g ≡ Some channel → Contains (waiting channel) g
+    pub listed : (channel : ℕ) → next_channel_of s g ≡ Some channel → Contains (waiting channel) g
 
   -- every goroutine is among these, or sleeps
   abbrev pub Watches : State F → List ℕ → (ℕ → List ℕ) → Type 0
   Watches s awake waiting = (g : ℕ) → g < length s.goroutines → Contains awake g ⊎ Sleeps s waiting g
 
   -- Between two points of a goroutine's turn no other goroutine that is ready, that sleeps or that is new is lost.
-  pub record Keeps (g : ℕ) (p q : Point F) : Type 0 where
+  pub record LosesNoGoroutine (g : ℕ) (p q : Point F) : Type 0 where
     pub longer : length p.state.goroutines ≤ length q.state.goroutines
     pub ready : (h : ℕ) → Contains p.ready h → Contains q.ready h
     pub sleeps : (h : ℕ) → (h ≡ g → ⊥) → h < length p.state.goroutines → Sleeps p.state p.waiting h

@@ -6,12 +6,12 @@ use Rattle.rgo_machine.specs.Machines.{Machine, State}
 use Rattle.rgo_interpreter.specs.Turns.{IsOver}
 use Rattle.rgo_round_robin.specs.declared.drivers.Driver.{Driver}
 use Rattle.rgo_machine.specs.declared.ends.RunEnd.{RunEnd}
-use Rattle.rgo_round_robin.specs.Points.{listed, point_of}
+use Rattle.rgo_round_robin.specs.Points.{listed_at_channel, point_of}
 use Rattle.rgo_round_robin.specs.Running.{View, IsRunAt}
-use Rattle.rgo_round_robin.specs.Runs.{IsLeft}
-use Rattle.rgo_round_robin.specs.Sleeping.{Sleeps, Keeps, RoundContinues}
+use Rattle.rgo_round_robin.specs.Runs.{IsRunLeft}
+use Rattle.rgo_round_robin.specs.Sleeping.{Sleeps, LosesNoGoroutine, RoundContinues}
 use Rattle.rgo_round_robin.specs.Turning as turning
-use Rattle.rgo_round_robin.specs.Turning.{end_of, TurnMoved, Stopped, Advances}
+use Rattle.rgo_round_robin.specs.Turning.{run_end_of, TurnMoved, Stopped, Advances}
 
 module _
     {F C : Type 0} (run : View F C) (machine : Machine F) (limits : Limits) (g : ℕ) (given : List ℕ) (s : State F)
@@ -21,7 +21,7 @@ module _
       pub state : State F
       pub stopped : Stopped machine limits g s state at_most end
       pub print : state.printed ≡ run.print
-      pub left : IsLeft run machine given state end
+      pub left : IsRunLeft run machine given state end
 
     module _ (d e : Driver) where
       -- the run continues after `count` steps of the goroutine, and no other one is lost
@@ -29,26 +29,26 @@ module _
         pub state : State F
         pub at : IsRunAt run machine given state
         pub moved : TurnMoved machine limits g (point_of s d) (point_of state e) count
-        pub keeps : Keeps machine g (point_of s d) (point_of state e)
+        pub keeps : LosesNoGoroutine machine g (point_of s d) (point_of state e)
 
       -- the same after steps alone, which are over so
       pub record TurnStepsTo (at_most : ℕ) (turned : Turned) : Type 0 where
         pub moves : TurnMovesTo turned.steps
-        pub none : end_of turned.stop ≡ None
+        pub none : run_end_of turned.stop ≡ None
         pub over : IsOver machine limits moves.state g at_most turned.steps turned.stop
 
       -- a goroutine that waits has met another; or nothing has happened, and it sleeps
       abbrev pub WaitsTo : Bool → Type 0
       WaitsTo true = TurnMovesTo 1
-      WaitsTo false = (moves : TurnMovesTo 0) × Sleeps machine moves.state (listed e.waiting) g
+      WaitsTo false = (moves : TurnMovesTo 0) × Sleeps machine moves.state (listed_at_channel e.waiting) g
 
       -- steps of a goroutine, at most `left`: how many are left then, none if it sleeps
       pub record AdvancesTo (left : ℕ) (rest : Option ℕ) : Type 0 where
         pub state : State F
         pub at : IsRunAt run machine given state
         pub advances : Advances machine limits rest g (point_of s d) (point_of state e) left
-        pub keeps : Keeps machine g (point_of s d) (point_of state e)
-        pub sleeps : rest ≡ None → Sleeps machine state (listed e.waiting) g
+        pub keeps : LosesNoGoroutine machine g (point_of s d) (point_of state e)
+        pub sleeps : rest ≡ None → Sleeps machine state (listed_at_channel e.waiting) g
 
       -- a whole turn, after which the run continues
       pub record TurnsTo : Type 0 where

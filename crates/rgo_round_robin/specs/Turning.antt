@@ -9,33 +9,33 @@ use Rattle.rgo_machine.specs.Machines.{Machine, State}
 use Rattle.rgo_machine.specs.declared.ends.RunEnd.{RunEnd}
 use Rattle.rgo_machine.specs.declared.ends.RunEnd.TheVariants as run_end
 use Rattle.rgo_round_robin.specs.Points.{Point}
-use Rattle.rgo_round_robin.specs.Rounds.{IsOf, IsTurn}
+use Rattle.rgo_round_robin.specs.Rounds.{IsPickOf, IsTurn}
 use Rattle.rgo_round_robin.specs.Running.{RunContinues}
 use Rattle.rgo_machine.specs.Ends.{RunEndsAs}
 
 -- the channel on which a turn has operated last
-abbrev pub operated : TurnEnd → Option ℕ
-operated (stop.Operated channel) = Some channel
-operated stop.Spent = None
-operated stop.Waits = None
-operated stop.Printed = None
-operated (stop.Ended e) = None
-operated stop.TooDeep = None
-operated stop.Full = None
-operated (stop.NoRoom shortage) = None
-operated stop.NoMemory = None
+abbrev pub operated_channel : TurnEnd → Option ℕ
+operated_channel (stop.Operated channel) = Some channel
+operated_channel stop.Spent = None
+operated_channel stop.Waits = None
+operated_channel stop.Printed = None
+operated_channel (stop.Ended e) = None
+operated_channel stop.TooDeep = None
+operated_channel stop.Full = None
+operated_channel (stop.NoRoom shortage) = None
+operated_channel stop.NoMemory = None
 
 -- the end of the run that a turn has found
-abbrev pub end_of : TurnEnd → Option RunEnd
-end_of (stop.Ended e) = Some (run_end.Ended e)
-end_of stop.TooDeep = Some run_end.CallsTooDeep
-end_of stop.Full = Some run_end.GoroutinesSpent
-end_of (stop.NoRoom shortage) = Some (run_end.NoRoom shortage)
-end_of stop.NoMemory = Some run_end.NoMemory
-end_of stop.Spent = None
-end_of stop.Waits = None
-end_of stop.Printed = None
-end_of (stop.Operated channel) = None
+abbrev pub run_end_of : TurnEnd → Option RunEnd
+run_end_of (stop.Ended e) = Some (run_end.Ended e)
+run_end_of stop.TooDeep = Some run_end.CallsTooDeep
+run_end_of stop.Full = Some run_end.GoroutinesSpent
+run_end_of (stop.NoRoom shortage) = Some (run_end.NoRoom shortage)
+run_end_of stop.NoMemory = Some run_end.NoMemory
+run_end_of stop.Spent = None
+run_end_of stop.Waits = None
+run_end_of stop.Printed = None
+run_end_of (stop.Operated channel) = None
 
 -- A count that stops at the end of a u64, m before and n after `count` steps: what is added up is how many they were in truth.
 abbrev pub CountsUp : (m count n : ℕ) → Type 0
@@ -54,7 +54,7 @@ module _ {F : Type 0} (machine : Machine F) (limits : Limits) where
   pub record TurnMoved (g : ℕ) (p q : Point F) (count : ℕ) : Type 0 where
     pub picks : List Pick
     pub leads : LeadsWithin machine limits p.state picks q.state
-    pub own : All (IsOf g) picks
+    pub own : All (IsPickOf g) picks
     pub long : length picks ≡ count
     pub counted : CountsPicks p.steps picks q.steps
     pub on : RunContinues limits q.state
@@ -63,7 +63,7 @@ module _ {F : Type 0} (machine : Machine F) (limits : Limits) where
   pub record Stopped (g : ℕ) (s t : State F) (at_most : ℕ) (end : RunEnd) : Type 0 where
     pub picks : List Pick
     pub leads : LeadsWithin machine limits s picks t
-    pub own : All (IsOf g) picks
+    pub own : All (IsPickOf g) picks
     pub short : length picks ≤ at_most
     pub ends : (before steps : ℕ) → RunEndsAs machine limits before steps t end
     pub no_fault : end ≡ run_end.WriteFault → ⊥

@@ -5,7 +5,7 @@ ghost use Rattle.std.specs.Prelude.{◌≡◌, ℕ, List, ◌++◌, ◌∷◌, [
 ghost use Rattle.rgo_machine.specs.Machines as spec;
 ghost use Rattle.rgo_interpreter.specs.Meetings.{CanMeet};
 ghost use Rattle.rgo_round_robin.specs.Probing.{MeetsFound, MeetsAny};
-ghost use Rattle.rgo_round_robin.specs.Running.{IsRunAt, IsRunning};
+ghost use Rattle.rgo_round_robin.specs.Running.{IsRunAt, IsNotEnded};
 
 use crate::drivers::Driver;
 use crate::running::Running;
@@ -29,7 +29,7 @@ fn meet_found<R: Running>(
     steps: &mut u64,
     found: (usize, usize),
 ) -> Result<(), AllocError>
-    requires { IsRunning (R.view run.old) }
+    requires { IsNotEnded (R.view run.old) }
     ensures meets { (machine : spec.Machine R.Frame) (given : List ℕ) (s : spec.State R.Frame)
         → IsRunAt (R.view run.old) machine given s → s.ended ≡ None → CanMeet machine s found.0 found.1
         → MeetsFound (R.view run.new) machine given s found steps.old steps.new result }
@@ -48,7 +48,7 @@ pub(crate) fn meet_any<R: Running>(
     run: &mut R,
     driver: &mut Driver,
 ) -> Result<(), RunEnd>
-    requires { IsRunning (R.view run.old) }
+    requires { IsNotEnded (R.view run.old) }
     ensures meets { (machine : spec.Machine R.Frame) (given : List ℕ) (s : spec.State R.Frame)
         → IsRunAt (R.view run.old) machine given s → s.ended ≡ None
         → MeetsAny (R.view run.new) machine given s result driver.old driver.new }

@@ -7,7 +7,7 @@ ghost use Rattle.rgo_round_robin.specs.Playing.{IsBetweenRounds, RoundEndsRun, F
 ghost use Rattle.rgo_round_robin.specs.Playing.{PlaysTo, PlaysAllTo, PlaysRoundTo};
 ghost use Rattle.rgo_round_robin.specs.Points.{point_of};
 ghost use Rattle.rgo_round_robin.specs.Running.{IsRunAt};
-ghost use Rattle.rgo_round_robin.specs.Runs.{IsReady, CanBegin, RunsTo};
+ghost use Rattle.rgo_round_robin.specs.Runs.{IsReadyForTurn, CanBegin, RunsTo};
 
 use crate::drivers::Driver;
 use crate::lines::write_lines;
@@ -30,7 +30,7 @@ fn play<R: Running, K: Sink>(
 ) -> Result<(), RunEnd>
     requires { CanBegin limits (R.view run.old) }
     ensures plays { (machine : spec.Machine R.Frame) (given : List ℕ) (s : spec.State R.Frame)
-        → IsRunAt (R.view run.old) machine given s → IsReady limits s → MatchResult result
+        → IsRunAt (R.view run.old) machine given s → IsReadyForTurn limits s → MatchResult result
         (λ _. PlaysTo (R.view run.new) machine limits given s driver.old driver.new g
         (K.contents out.old) (K.contents out.new))
         (λ end. RoundEndsRun machine limits (R.view run.new) given s end (K.contents out.old) (K.contents out.new)) }
@@ -57,7 +57,7 @@ fn round<R: Running, K: Sink>(
 ) -> Result<(), RunEnd>
     requires { CanBegin limits (R.view run.old) }
     ensures plays { (machine : spec.Machine R.Frame) (given : List ℕ) (s : spec.State R.Frame)
-        → IsRunAt (R.view run.old) machine given s → IsReady limits s → MatchResult result
+        → IsRunAt (R.view run.old) machine given s → IsReadyForTurn limits s → MatchResult result
         (λ _. PlaysAllTo (R.view run.new) machine limits given s driver.old driver.new driver.old.ready.items []
         (K.contents out.old) (K.contents out.new))
         (λ end. RoundEndsRun machine limits (R.view run.new) given s end (K.contents out.old) (K.contents out.new)) }

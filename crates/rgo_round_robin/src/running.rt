@@ -12,7 +12,7 @@ pub trait Running {
     ghost use Rattle.rgo_interpreter.specs.Acting.{standing};
     ghost use Rattle.rgo_machine.specs.Machines as spec;
     ghost use Rattle.rgo_interpreter.specs.Meetings.{FindsMeeting};
-    ghost use Rattle.rgo_round_robin.specs.Running.{View, RunContinues, IsRunning, IsOn, RunTakesTurn, TriesMeeting, Clears};
+    ghost use Rattle.rgo_round_robin.specs.Running.{View, RunContinues, IsNotEnded, IsOn, RunTakesTurn, TriesMeeting, Clears};
 
     /// A function that was called, as the definition of the machine knows it.
     type Frame;
@@ -57,7 +57,7 @@ pub trait Running {
     ///
     /// On allocation failure.
     fn meet(&mut self, alloc: Global, receiver: usize, sender: usize) -> Result<bool, AllocError>
-        requires { IsRunning (view self.old) }
+        requires { IsNotEnded (view self.old) }
         ensures machine { (view self.new).machine ≡ (view self.old).machine }
         ensures fixed { (view self.new).fixed ≡ (view self.old).fixed }
         ensures meets { (given : List ℕ) (s : spec.State Self.Frame) → (view self.old).shows given s
@@ -70,7 +70,7 @@ pub trait Running {
     ///
     /// On allocation failure.
     fn find_meeting(&self, alloc: Global) -> Result<Option<(usize, usize)>, AllocError>
-        requires { IsRunning (view self.now) }
+        requires { IsNotEnded (view self.now) }
         ensures { (given : List ℕ) (s : spec.State Self.Frame) → (view self.now).shows given s
             → s.ended ≡ None → IfOk result (FindsMeeting (view self.now).machine s) };
 

@@ -8,7 +8,7 @@ ghost use Rattle.rgo_machine.specs.Machines as spec;
 ghost use Rattle.rgo_round_robin.specs.Lines.{IsLineEnd};
 ghost use Rattle.rgo_round_robin.specs.Playing.{IsBetweenRounds};
 ghost use Rattle.rgo_round_robin.specs.Points.{point_of};
-ghost use Rattle.rgo_round_robin.specs.Runs.{IsReady, CanBegin, RunsTo};
+ghost use Rattle.rgo_round_robin.specs.Runs.{IsReadyForTurn, CanBegin, RunsTo};
 
 use crate::drivers::Driver;
 use crate::rounds::drive;
@@ -27,10 +27,10 @@ use std::collections::HashMap;
 fn first_driver<R: Running>(alloc: Global, run: &R) -> Result<Driver, RunEnd>
     ensures begins { IfOk result (λ driver. (driver.steps ≡ 0)
         × ((limits : declared.Limits) (given : List ℕ) (s : spec.State R.Frame) → (R.view run.now).shows given s
-        → IsReady limits s → IsBetweenRounds (R.view run.now).machine limits (point_of s driver))) }
+        → IsReadyForTurn limits s → IsBetweenRounds (R.view run.now).machine limits (point_of s driver))) }
     ensures ends { IfErr result (λ end. (end ≡ RunEnd.NoMemory)
         × ((limits : declared.Limits) (given : List ℕ) (s : spec.State R.Frame) (out : Option (List ℕ))
-        → (R.view run.now).shows given s → IsReady limits s
+        → (R.view run.now).shows given s → IsReadyForTurn limits s
         → RunsTo (R.view run.now) (R.view run.now).machine limits given s end out out)) }
 {
     let mut ready = Vec::new(alloc);
@@ -54,7 +54,7 @@ fn first_driver<R: Running>(alloc: Global, run: &R) -> Result<Driver, RunEnd>
 /// are tested before each step. When memory runs out, what went out is the whole print of a shorter run.
 pub fn run<R: Running, K: Sink>(alloc: Global, run: &mut R, limits: Limits, out: &mut K) -> RunEnd
     requires { CanBegin limits (R.view run.old) }
-    ensures runs { (given : List ℕ) (s : spec.State R.Frame) → (R.view run.old).shows given s → IsReady limits s
+    ensures runs { (given : List ℕ) (s : spec.State R.Frame) → (R.view run.old).shows given s → IsReadyForTurn limits s
         → RunsTo (R.view run.new) (R.view run.old).machine limits given s result
         (K.contents out.old) (K.contents out.new) }
     ensures fixed { (R.view run.new).fixed ≡ (R.view run.old).fixed }

@@ -5,13 +5,13 @@ ghost use Rattle.std.specs.Prelude.{MatchResult, IfOk, IfSome, OnOk};
 ghost use Rattle.rgo_machine.specs.declared.picks.Pick.TheVariants as pick;
 ghost use Rattle.rgo_machine.specs.Machines as spec;
 ghost use Rattle.rgo_machine.specs.Machines.{step_by};
-ghost use Rattle.rgo_round_robin.specs.Points.{listed};
+ghost use Rattle.rgo_round_robin.specs.Points.{listed_at_channel};
 ghost use Rattle.rgo_round_robin.specs.Probing.{MeetingTried};
-ghost use Rattle.rgo_round_robin.specs.Running.{RunContinues, IsRunAt, IsRunning, IsOn};
+ghost use Rattle.rgo_round_robin.specs.Running.{RunContinues, IsRunAt, IsNotEnded, IsOn};
 ghost use Rattle.rgo_round_robin.specs.Sleeping as sleeping;
 ghost use Rattle.rgo_round_robin.specs.Taking.{StopsAt, TurnMovesTo, TurnStepsTo, WaitsTo, AdvancesTo, TurnsTo};
 ghost use Rattle.rgo_round_robin.specs.Turning as turning;
-ghost use Rattle.rgo_round_robin.specs.Turning.{operated, AreMet};
+ghost use Rattle.rgo_round_robin.specs.Turning.{operated_channel, AreMet};
 
 use crate::drivers::Driver;
 use crate::running::Running;
@@ -46,7 +46,7 @@ fn waits_at(stand: Stand) -> Option<usize>
 /// The channel at which a goroutine waits that has no step alone, if it may come back.
 fn channel_of<R: Running>(run: &R, g: usize) -> Option<usize>
     ensures { (machine : spec.Machine R.Frame) (given : List ℕ) (s : spec.State R.Frame)
-        → IsRunAt (R.view run.now) machine given s → result ≡ sleeping.channel_of machine s g }
+        → IsRunAt (R.view run.now) machine given s → result ≡ sleeping.next_channel_of machine s g }
 {
     match run.standing(g) {
         Some(stand) => waits_at(stand),
@@ -76,7 +76,7 @@ pub(crate) fn meet<R: Running>(
     steps: &mut u64,
     met: (usize, usize),
 ) -> Result<bool, AllocError>
-    requires { IsRunning (R.view run.old) }
+    requires { IsNotEnded (R.view run.old) }
     ensures tries { (machine : spec.Machine R.Frame) (given : List ℕ) (s : spec.State R.Frame)
         → IsRunAt (R.view run.old) machine given s → s.ended ≡ None
         → MeetingTried (R.view run.new) machine given s met steps.old steps.new result }
@@ -105,10 +105,10 @@ fn wake(
     ensures steps { driver.new.steps ≡ driver.old.steps }
     ensures stay { OnOk result ((g : ℕ) → Contains driver.old.ready.items g → Contains driver.new.ready.items g) }
     ensures fresh { OnOk result ((g : ℕ) → from ≤ g → g < to → Contains driver.new.ready.items g) }
-    ensures woken { OnOk result ((n g : ℕ) → operated stop ≡ Some n → Contains (listed driver.old.waiting n) g
+    ensures woken { OnOk result ((n g : ℕ) → operated_channel stop ≡ Some n → Contains (listed_at_channel driver.old.waiting n) g
         → Contains driver.new.ready.items g) }
-    ensures others { OnOk result ((n : ℕ) → (operated stop ≡ Some n → ⊥)
-        → listed driver.new.waiting n ≡ listed driver.old.waiting n) }
+    ensures others { OnOk result ((n : ℕ) → (operated_channel stop ≡ Some n → ⊥)
+        → listed_at_channel driver.new.waiting n ≡ listed_at_channel driver.old.waiting n) }
 {
     admit(&mut driver.ready, from, to)?;
     if let TurnEnd::Operated(channel) = stop {
@@ -125,8 +125,8 @@ fn join(
     mut list: Vec<usize>,
     g: usize,
 ) -> Result<(), AllocError>
-    ensures joined { OnOk result (listed waiting.new channel ≡ list.items ++ g ∷ []) }
-    ensures others { OnOk result ((n : ℕ) → (n ≡ channel → ⊥) → listed waiting.new n ≡ listed waiting.old n) }
+    ensures joined { OnOk result (listed_at_channel waiting.new channel ≡ list.items ++ g ∷ []) }
+    ensures others { OnOk result ((n : ℕ) → (n ≡ channel → ⊥) → listed_at_channel waiting.new n ≡ listed_at_channel waiting.old n) }
 {
     list.push(g)?;
     put_list(waiting, channel, list)
@@ -140,8 +140,8 @@ fn join_both(
     first: usize,
     second: usize,
 ) -> Result<(), AllocError>
-    ensures joined { OnOk result (listed waiting.new channel ≡ (list.items ++ first ∷ []) ++ second ∷ []) }
-    ensures others { OnOk result ((n : ℕ) → (n ≡ channel → ⊥) → listed waiting.new n ≡ listed waiting.old n) }
+    ensures joined { OnOk result (listed_at_channel waiting.new channel ≡ (list.items ++ first ∷ []) ++ second ∷ []) }
+    ensures others { OnOk result ((n : ℕ) → (n ≡ channel → ⊥) → listed_at_channel waiting.new n ≡ listed_at_channel waiting.old n) }
 {
     list.push(first)?;
     join(waiting, channel, list, second)
@@ -156,9 +156,9 @@ fn come_back(
 ) -> Result<(), AllocError>
     ensures steps { driver.new.steps ≡ driver.old.steps }
     ensures ready { OnOk result (driver.new.ready.items ≡ driver.old.ready.items ++ g ∷ []) }
-    ensures rest { OnOk result (listed driver.new.waiting channel ≡ list.items) }
+    ensures rest { OnOk result (listed_at_channel driver.new.waiting channel ≡ list.items) }
     ensures others { OnOk result ((n : ℕ) → (n ≡ channel → ⊥)
-        → listed driver.new.waiting n ≡ listed driver.old.waiting n) }
+        → listed_at_channel driver.new.waiting n ≡ listed_at_channel driver.old.waiting n) }
 {
     driver.ready.push(g)?;
     put_list(&mut driver.waiting, channel, list)
@@ -178,7 +178,7 @@ fn wait<R: Running>(
     requires { IsOn limits (R.view run.old) }
     ensures waits { (machine : spec.Machine R.Frame) (given : List ℕ) (s : spec.State R.Frame)
         → IsRunAt (R.view run.old) machine given s → RunContinues limits s → step_by machine s (pick.One g) ≡ None
-        → sleeping.channel_of machine s g ≡ Some channel
+        → sleeping.next_channel_of machine s g ≡ Some channel
         → MatchResult result (WaitsTo (R.view run.new) machine limits g given s driver.old driver.new)
         (StopsAt (R.view run.new) machine limits g given s 1) }
     ensures fixed { (R.view run.new).fixed ≡ (R.view run.old).fixed }
@@ -236,7 +236,7 @@ fn rest<R: Running>(
 
 /// The end of the run that a turn has found.
 fn end_of(stop: TurnEnd) -> Option<RunEnd>
-    ensures { result ≡ turning.end_of stop }
+    ensures { result ≡ turning.run_end_of stop }
 {
     match stop {
         TurnEnd::Ended(end) => Some(RunEnd::Ended(end)),

@@ -1,7 +1,7 @@
 //! Lists of goroutines: those that wait, by channel, and those that have a turn.
 
 ghost use Rattle.std.specs.Prelude.{◌≡◌, ◌≤◌, ◌<◌, ◌++◌, ◌∷◌, [], ℕ, OnOk, Contains};
-ghost use Rattle.rgo_round_robin.specs.Points.{listed};
+ghost use Rattle.rgo_round_robin.specs.Points.{listed_at_channel};
 
 use std::alloc::{AllocError, Global};
 use std::collections::HashMap;
@@ -12,9 +12,9 @@ pub(crate) fn take_list(
     waiting: &mut HashMap<usize, Vec<usize>>,
     channel: usize,
 ) -> Vec<usize>
-    ensures taken { result.items ≡ listed waiting.old channel }
-    ensures none { listed waiting.new channel ≡ [] }
-    ensures others { (n : ℕ) → (n ≡ channel → ⊥) → listed waiting.new n ≡ listed waiting.old n }
+    ensures taken { result.items ≡ listed_at_channel waiting.old channel }
+    ensures none { listed_at_channel waiting.new channel ≡ [] }
+    ensures others { (n : ℕ) → (n ≡ channel → ⊥) → listed_at_channel waiting.new n ≡ listed_at_channel waiting.old n }
 {
     match waiting.remove(&channel) {
         Some(list) => list,
@@ -28,8 +28,8 @@ pub(crate) fn put_list(
     channel: usize,
     list: Vec<usize>,
 ) -> Result<(), AllocError>
-    ensures put { OnOk result (listed waiting.new channel ≡ list.items) }
-    ensures others { OnOk result ((n : ℕ) → (n ≡ channel → ⊥) → listed waiting.new n ≡ listed waiting.old n) }
+    ensures put { OnOk result (listed_at_channel waiting.new channel ≡ list.items) }
+    ensures others { OnOk result ((n : ℕ) → (n ≡ channel → ⊥) → listed_at_channel waiting.new n ≡ listed_at_channel waiting.old n) }
 {
     match waiting.insert(channel, list) {
         Ok(_) => Ok(()),

@@ -16,7 +16,7 @@ use Rattle.rgo_run.specs.declared.endings.Ending.TheVariants.{Valid, Ran, Usage,
 use Rattle.rgo_command_line.specs.declared.commands.Command.{Command}
 use Rattle.rgo_command_line.specs.declared.commands.Command.TheVariants.{Run, Check, Emit, Code, Big, Record, Replay, RunCode}
 use Rattle.rgo_run.specs.Calls.{Call, AsksForCommand, IsRunCall, IsEmit, SinkUse, SourceHeld, Failed, SinkHeld, SinkGrew}
-use Rattle.rgo_run.specs.Calls.{IsUntouched, kind_of, run_of_command}
+use Rattle.rgo_run.specs.Calls.{IsUntouched, text_kind_of, run_of_command}
 use Rattle.rgo_run.specs.Compiled.{Emits, IsCodeText, WritesCode}
 use Rattle.rgo_run.specs.Endings.{status_of, status_of_run, is_fault_status, line_of}
 use Rattle.rgo_run.specs.Reports.{ReportsEnding}
@@ -96,7 +96,7 @@ run_or_emit call kind options c d = let none = runs_with call Emit kind options 
 
 -- a command that runs a text of a kind is about that kind
 run_kind : (command : Command) (kind : TextKind) (options : RunOptions) → run_of_command command ≡ Some (kind, options)
-    → kind_of command ≡ kind
+    → text_kind_of command ≡ kind
 run_kind (Run o) kind options r = ap (λ (x : TextKind × RunOptions). x.0) (same_Some _ _ r)
 run_kind (RunCode o) kind options r = ap (λ (x : TextKind × RunOptions). x.0) (same_Some _ _ r)
 run_kind (Big n) kind options r = ap (λ (x : TextKind × RunOptions). x.0) (same_Some _ _ r)
@@ -127,7 +127,7 @@ never_both text_kind.Code text (CodeRefused why) p r = codes.never_both text why
 never_both _ text _ p r = r
 
 -- what a command accepts is valid
-accepted_passes : (command : Command) (text : List ℕ) → AcceptedBy command text → PassesAs (kind_of command) text
+accepted_passes : (command : Command) (text : List ℕ) → AcceptedBy command text → PassesAs (text_kind_of command) text
 accepted_passes Check text p = p
 accepted_passes Emit text p = p
 accepted_passes Code text p = p
@@ -197,7 +197,7 @@ usage call text e (accepted is command c k p o) u = cc
 usage call text e (ran kind options c r one) u = absurd (let is = r.is_end in cc)
 usage call text e (emitted c em) u = absurd (subst EndsEmit u (emit_ends call text e em))
 usage call text e (refused command c f o) u =
-    absurd (not_one e Usage (refused_status (kind_of command) text e f) (λ s. cc) u)
+    absurd (not_one e Usage (refused_status (text_kind_of command) text e f) (λ s. cc) u)
 usage call text e (no_memory is o) u = absurd (let memory = is in cc)
 
 pub unknown : (call : Call) (e : Ending) → AskSome call.words ⊎ (e ≡ NoMemory) → command_of call.words ≡ None
@@ -219,13 +219,13 @@ valid call text e (accepted is command c k p o) x = (command, c, p)
 valid call text e (ran kind options c r one) x = absurd (let is = r.is_end in cc)
 valid call text e (emitted c em) x = (Emit, c, compiled_passes text em.0 em.1)
 valid call text e (refused command c f o) x =
-    absurd (not_one e Valid (refused_status (kind_of command) text e f) (λ s. cc) x)
+    absurd (not_one e Valid (refused_status (text_kind_of command) text e f) (λ s. cc) x)
 valid call text e (no_memory is o) x = absurd (let memory = is in cc)
 
 pub first : (call : Call) (text : List ℕ) (e : Ending) → Outcome call text e → (command : Command) → AsksForCommand call command
     → (why : Ending) → RefusedBy command text why → (e ≡ why) ⊎ (e ≡ NoMemory)
 first call text e (accepted is other c k p o) command d why w =
-    absurd (never_both (kind_of other) text why (accepted_passes other text p)
+    absurd (never_both (text_kind_of other) text why (accepted_passes other text p)
     (program_refused call text command other why d c w))
 first call text e (ran kind options c r one) command d why w =
     absurd (never_both kind text why (runnable_passes kind text r.what r.is_what)
@@ -233,7 +233,7 @@ first call text e (ran kind options c r one) command d why w =
 first call text e (emitted c em) command d why w =
     absurd (never_both text_kind.Go text why (compiled_passes text em.0 em.1) (program_refused call text command Emit why d c w))
 first call text e (refused other c f o) command d why w =
-    inl (one_refusal (kind_of other) text e why f (program_refused call text command other why d c w))
+    inl (one_refusal (text_kind_of other) text e why f (program_refused call text command other why d c w))
 first call text e (no_memory is o) command d why w = inr is
 
 pub untouched : (call : Call) (text : List ℕ) (e : Ending) → Outcome call text e → (MayRun call e → ⊥)
@@ -257,7 +257,7 @@ print call text e (ran k l c r one) kind options d m =
     inl (subst (λ (x : TextKind × RunOptions). RunsFor call x.0 x.1 text e) (same_run call k l kind options c d) (r, one))
 print call text e (emitted c em) kind options d m = absurd (emit_no_run_end e (emit_ends call text e em) m)
 print call text e (refused command c f o) kind options d m =
-    absurd (one_is_no_run e (refused_status (kind_of command) text e f) m)
+    absurd (one_is_no_run e (refused_status (text_kind_of command) text e f) m)
 print call text e (no_memory is o) kind options d m = inr (is, o)
 
 pub emission : (call : Call) (text : List ℕ) (e : Ending) → Outcome call text e → IsEmit call → EndsEmit e
@@ -265,7 +265,7 @@ pub emission : (call : Call) (text : List ℕ) (e : Ending) → Outcome call tex
 emission call text e (accepted is command c k p o) d m = absurd (no_emit call command c k d)
 emission call text e (ran kind options c r one) d m = absurd (run_or_emit call kind options d c)
 emission call text e (emitted c em) d m = em
-emission call text e (refused command c f o) d m = absurd (one_is_no_emit e (refused_status (kind_of command) text e f) m)
+emission call text e (refused command c f o) d m = absurd (one_is_no_emit e (refused_status (text_kind_of command) text e f) m)
 emission call text e (no_memory is o) d m = absurd (subst EndsEmit is m)
 
 pub not_read_fault : (call : Call) (text : List ℕ) (e : Ending) → Outcome call text e → e ≡ ReadFault → ⊥
@@ -273,7 +273,7 @@ not_read_fault call text e (accepted is command c k p o) x = cc
 not_read_fault call text e (ran kind options c r one) x = let is = r.is_end in cc
 not_read_fault call text e (emitted c em) x = subst EndsEmit x (emit_ends call text e em)
 not_read_fault call text e (refused command c f o) x =
-    not_one e ReadFault (refused_status (kind_of command) text e f) (λ s. cc) x
+    not_one e ReadFault (refused_status (text_kind_of command) text e f) (λ s. cc) x
 not_read_fault call text e (no_memory is o) x = let memory = is in cc
 
 run_write_failed : (kind : TextKind) (options : RunOptions) (call : Call) (text : List ℕ) (e : Ending)
@@ -305,7 +305,7 @@ write_failed call text e (accepted is command c k p o) x =
 write_failed call text e (ran kind options c r one) x = run_write_failed kind options call text e r x
 write_failed call text e (emitted c em) x = emit_write_failed call text e em x
 write_failed call text e (refused command c f o) x =
-    let one = refused_status (kind_of command) text e f in
+    let one = refused_status (text_kind_of command) text e f in
     absurd (no_write_fault e (λ kind stats. not_one e (Ran kind run_end.WriteFault stats) one (λ s. cc))
     (not_one e WriteFault one (λ s. cc)) x)
 write_failed call text e (no_memory is o) x =
@@ -323,7 +323,7 @@ ran_asks call text e (ran k options c r one) kind end stats x =
 ran_asks call text e (emitted c em) kind end stats x =
     absurd (emit_is_no_run e kind end stats (emit_ends call text e em) x)
 ran_asks call text e (refused command c f o) kind end stats x =
-    absurd (not_one e (Ran kind end stats) (refused_status (kind_of command) text e f) (not_status_1 end) x)
+    absurd (not_one e (Ran kind end stats) (refused_status (text_kind_of command) text e f) (not_status_1 end) x)
 ran_asks call text e (no_memory is o) kind end stats x =
     absurd (not_other e NoMemory (Ran kind end stats) is (λ w. cc) x)
 
@@ -460,7 +460,7 @@ complete_checking call text e (accepted is other c k u o) t command d only n p =
 complete_checking call text e (ran kind options c r one) t command d only n p = absurd (no_run call command kind options d only c)
 complete_checking call text e (emitted c em) t command d only n p = absurd (no_emit call command d only c)
 complete_checking call text e (refused other c f o) t command d only n p =
-    absurd (never_both (kind_of command) text e (accepted_passes command text p)
+    absurd (never_both (text_kind_of command) text e (accepted_passes command text p)
     (program_refused call text other command e c d f))
 complete_checking call text e (no_memory is o) t command d only n p = inr (memory_status call text e is t n)
 

@@ -5,7 +5,7 @@ use Rattle.std.proofs.lemmas.List.{length-map}
 use Rattle.rgo_code.specs.declared.rules.Line.TheVariants.{AfterLast}
 use Rattle.rgo_code.specs.Code.{CodeInstr, CodeFn, Code}
 use Rattle.rgo_code.specs.Lines.{function_lines, lines_before, line_number}
-use Rattle.rgo_code_printing.specs.Text.{Names, names_of, struct_words, global_words, slot_words, entry_words, body_lines, fn_lines, lines_with, line, text_of}
+use Rattle.rgo_code_printing.specs.Text.{Names, names_of, struct_line_words, global_words, slot_words, entry_words, body_lines, fn_lines, lines_with, line, text_of}
 
 lines_long : (lines : List (List (List ℕ))) → length lines ≤ length (flat_map line lines)
 lines_long [] = omega arith
@@ -46,8 +46,8 @@ lines_take_bytes code =
     omega (
       arith,
       lines_long (lines_with n code),
-      length-append (map (struct_words n) code.structs) globals,
-      length-map code.structs (struct_words n),
+      length-append (map (struct_line_words n) code.structs) globals,
+      length-map code.structs (struct_line_words n),
       length-append (map (global_words n) code.variables) fns,
       length-map code.variables (global_words n),
       fns_long n code.functions,

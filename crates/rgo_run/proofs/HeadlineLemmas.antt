@@ -21,11 +21,11 @@ use Rattle.rgo_run.specs.declared.endings.Ending.{Ending}
 use Rattle.rgo_run.specs.declared.endings.Ending.TheVariants.{Valid, Ran, Usage, ReadFault, Refused, CodeRefused, WriteFault, NoMemory}
 use Rattle.rgo_run.specs.declared.refusals.CodeTextRefusal.TheVariants as code_refusal
 use Rattle.rgo_run.specs.declared.refusals.TextRefusal.TheVariants as refusal
-use Rattle.rgo_run.specs.Calls.{AsksRun, Call, AsksForCommand, IsRunCall, SinkUse, SourceFailed, SourceHeld, IsUntouched, kind_of, run_of_command}
+use Rattle.rgo_run.specs.Calls.{AsksRun, Call, AsksForCommand, IsRunCall, SinkUse, SourceFailed, SourceHeld, IsUntouched, text_kind_of, run_of_command}
 use Rattle.rgo_run.specs.Endings.{status_of, is_run_status, is_fault_status}
 use Rattle.rgo_run.specs.Reports.{ReportsEnding, HasPlace, Reports, in_short}
 use Rattle.rgo_run.specs.Runs.{HasSourceRun, IsOneRun, IsSaid, Runnable, TextRunsTo, of_code, of_program}
-use Rattle.rgo_run.specs.Texts.{AcceptedBy, IsTextOf, IsRead, AskSome, NotRead, PassesAs, ReadTooMuch, ChecksText, FailsAs, PerformsCommand}
+use Rattle.rgo_run.specs.Texts.{AcceptedBy, IsTextOf, IsTextRead, AskSome, NotRead, PassesAs, ReadTooMuch, ChecksText, FailsAs, PerformsCommand}
 use Rattle.rgo_run.specs.Headline.{EndsEmit, EndsRun, Headline, IsWriteFault}
 use Rattle.rgo_run.proofs.EndingLemmas.{refused_status, run_of_status, short_of_refusal}
 use Rattle.rgo_run.proofs.ClaimLemmas.{OnlyChecks, Outcome, accepted, ran, emitted, refused, no_memory, Went}
@@ -219,7 +219,7 @@ no_line call text e went (ran kind options c r one) h t =
     no_line_of_run call text e went kind options c r one r.run_end refl
     (subst (λ x. ReportsEnding text (in_short x) call.status call.err) r.is_end t)
 no_line call text e went (emitted c em) h t = absurd (no_place e (emit_ends call text e em) h)
-no_line call text e went (refused command c f o) h t = no_line_of_refusal call text e went (refused_status (kind_of command) text e f) o t
+no_line call text e went (refused command c f o) h t = no_line_of_refusal call text e went (refused_status (text_kind_of command) text e f) o t
 no_line call text e went (no_memory is o) h t = absurd (subst HasPlace is h)
 
 pub headline_of : (call : Call) (text : List ℕ) (e : Ending) → Went call text e → Reports text e call.status call.err → Headline call
@@ -228,13 +228,13 @@ headline_of call text e went (inr t) = no_line call text e went went.outcome t.0
 
 -- a text that was not accepted, for a refusal or for lack of memory
 failed_outcome : (call : Call) (command : Command) (text : List ℕ) (e : Ending) → AsksForCommand call command
-    → FailsAs (kind_of command) text e → IsUntouched call.out → Outcome call text e
+    → FailsAs (text_kind_of command) text e → IsUntouched call.out → Outcome call text e
 failed_outcome call command text NoMemory c f u = no_memory refl u
 failed_outcome call command text e c f u = refused command c f u
 
 checked_outcome : (call : Call) (command : Command) (text : List ℕ) (e : Ending) → AsksForCommand call command
-    → OnlyChecks command → (PassesAs (kind_of command) text → AcceptedBy command text)
-    → ChecksText (kind_of command) text e → IsUntouched call.out → Outcome call text e
+    → OnlyChecks command → (PassesAs (text_kind_of command) text → AcceptedBy command text)
+    → ChecksText (text_kind_of command) text e → IsUntouched call.out → Outcome call text e
 checked_outcome call command text Valid c only by p u = accepted refl command c only (by p) u
 checked_outcome call command text e c only by p u = failed_outcome call command text e c p u
 
@@ -256,7 +256,7 @@ performed_outcome call Emit text e c (inr f) = failed_outcome call Emit text e c
 
 -- a call whose text was read
 pub headline_of_text : (call : Call) (command : Command) (text : List ℕ) (e : Ending)
-    → IsRead call.words call.source command text → PerformsCommand command text e call.out
+    → IsTextRead call.words call.source command text → PerformsCommand command text e call.out
     → Reports text e call.status call.err → Headline call
 headline_of_text call command text e read performs reports =
     headline_of call text e (record {
@@ -268,7 +268,7 @@ headline_of_text call command text e read performs reports =
 
 -- a call that has run a program with these options, and recorded it
 pub headline_of_recorded : (call : Call) (options : RunOptions) (text : List ℕ) (e : Ending)
-    → IsRead call.words call.source (Record options) text → TextRunsTo text_kind.Go options text e call.out
+    → IsTextRead call.words call.source (Record options) text → TextRunsTo text_kind.Go options text e call.out
     → Reports text e call.status call.err → Headline call
 headline_of_recorded call options text e read runs reports =
     headline_of call text e (record {
@@ -280,7 +280,7 @@ headline_of_recorded call options text e read runs reports =
 
 -- or not, since the text was rejected or memory ran out
 pub headline_of_unrecorded : (call : Call) (options : RunOptions) (text : List ℕ) (e : Ending)
-    → IsRead call.words call.source (Record options) text → FailsAs text_kind.Go text e → IsUntouched call.out
+    → IsTextRead call.words call.source (Record options) text → FailsAs text_kind.Go text e → IsUntouched call.out
     → Reports text e call.status call.err → Headline call
 headline_of_unrecorded call options text e read fails untouched reports =
     headline_of call text e (record {

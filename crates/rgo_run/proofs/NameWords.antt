@@ -14,7 +14,7 @@ use Rattle.rgo_lexer.specs.Lexing.{LexesAs, IsLexemeOf, IsSpelled, terminal_at_w
 use Rattle.rgo_lexer.specs.Numbers.{number_at, number_front, literal_value}
 use Rattle.rgo_lexer.specs.Operators.{operator_at, operators}
 use Rattle.rgo_lexer.specs.Strings.{string_at, string_before, items_len}
-use Rattle.rgo_lexer.specs.Words.{word_at, word_terminal, words, looked_up, run_of}
+use Rattle.rgo_lexer.specs.Words.{word_at_front, word_terminal, words, looked_up, run_of}
 use Rattle.rgo_lexer.specs.declared.front.Front.{Front}
 use Rattle.rgo_lexer.specs.declared.front.Front.TheVariants.{End, Blank, Newline, Piece, Refused}
 use Rattle.rgo_lexer.specs.declared.terminals.Terminal.{Terminal}
@@ -147,12 +147,12 @@ no_operator text n h =
     all_of table h = All-from_recursion (λ e. e.1 ≡ Name → ⊥) table h
 
 is_named : (word : List ℕ) → front_of word ≡ Piece Name (length word) → IsName word
-unfolding front_of word_at is_name
+unfolding front_of word_at_front is_name
 is_named [] h = cc
 is_named (b ∷ rest) h =
     let text = b ∷ rest in
     let found = by_tests (length text) (bytes.is_blank b) (b == 10) (bytes.is_letter b) (bytes.is_digit b) (b == 34)
-    (begins_comment text) (word_at text) (number_at text) (string_at text) (comment_at text) (operator_at text)
+    (begins_comment text) (word_at_front text) (number_at text) (string_at text) (comment_at text) (operator_at text)
     (no_number text (length text)) (no_string text (length text)) (comment_no_piece text Name (length text))
     (no_operator text (length text)) h in
     let run : run_of text ≡ length text = cc in

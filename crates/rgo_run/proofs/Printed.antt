@@ -38,7 +38,7 @@ use Rattle.rgo_code_printing.specs.Text.{text_of}
 use Rattle.rgo_code_text.specs.Printable.{ActionPrints, OpPrints, InstrPrints, FnPrints, IsPrintable}
 use Rattle.rgo_code_text.specs.Written.{SlotFits}
 use Rattle.rgo_code_text.proofs.readings.RuledUses.{each}
-use Rattle.rgo_code_words.specs.Worded.{AreNames, IsSmall, AreSmall, ClassFits, ValueFits, values_in}
+use Rattle.rgo_code_words.specs.Worded.{AreNames, IsSmallNumber, AreSmall, ClassFits, ValueFits, printed_value_count}
 use Rattle.rgo_insert.specs.Inserted.{HasClasses}
 use Rattle.rgo_run.specs.CodeVerdicts.{code_limit}
 use Rattle.rgo_run.specs.Compiled.{IsCompiled}
@@ -64,11 +64,11 @@ named text code is =
 
 -- ---- small numbers
 
-value_small : (value : Option ℕ) → ((v : ℕ) → value ≡ Some v → IsSmall v) → ValueFits value
+value_small : (value : Option ℕ) → ((v : ℕ) → value ≡ Some v → IsSmallNumber v) → ValueFits value
 value_small None h = tt
 value_small (Some v) h = h v refl
 
-read_small : (value : Option ℕ) → ((v : ℕ) → Contains (option_to_list value) v → IsSmall v) → ValueFits value
+read_small : (value : Option ℕ) → ((v : ℕ) → Contains (option_to_list value) v → IsSmallNumber v) → ValueFits value
 read_small None h = tt
 read_small (Some v) h = h v (0, omega arith, refl)
 
@@ -79,7 +79,7 @@ first w ws = (0, omega arith, refl)
 second : {A : Type 0} (v w : A) → Contains (v ∷ w ∷ []) w
 second v w = (1, omega arith, refl)
 
-counted : (pieces : List Piece) (ts : List «Type») → MatchPieces pieces ts → length ts ≡ values_in pieces
+counted : (pieces : List Piece) (ts : List «Type») → MatchPieces pieces ts → length ts ≡ printed_value_count pieces
 counted [] ts h = ap length h
 counted (piece.Text bytes ∷ pieces) ts h = omega (arith, counted pieces ts h)
 counted (piece.Value ∷ pieces) ts h =
@@ -104,7 +104,7 @@ result_slot (Some s) h = h s refl
 module _ (code : Code) (checked : IsChecked code) (short : length (text_of code) ≤ code_limit) (family : List Summary)
     (classes : HasClasses family code) (prints : (n : ℕ) (f : TacFn) → slice_get (erased code).functions n ≡ Some f → (i : ℕ)
     (op : Op) (place : ℕ) → slice_get f.body i ≡ Some (record { op = op; place = place }) → PrintsFit f op) where
-  field_small : (n k : ℕ) (t : «Type») → HasField (declared_in_code (erased code)) n k t → IsSmall k
+  field_small : (n k : ℕ) (t : «Type») → HasField (declared_in_code (erased code)) n k t → IsSmallNumber k
   field_small n k t has =
       let s = unmapped_at (λ (s : Struct). s.fields) code.structs n has.0 has.1 in
       let within = slice_get_within has.0 k t has.2 in
@@ -153,12 +153,12 @@ module _ (code : Code) (checked : IsChecked code) (short : length (text_of code)
           (checked rule.Creations (line.Instr n i) f instr there here)
           (checked rule.Removals (line.Instr n i) f instr there here)
 
-      used : (v : ℕ) → UsesVariable (erased_op instr.op) v → IsSmall v
+      used : (v : ℕ) → UsesVariable (erased_op instr.op) v → IsSmallNumber v
       used v u =
           let within = (checked rule.Exists (line.Instr n i) f instr there here).variables v u in
           omega (arith, within, length-map f.variables (λ (s : Slot). s.ty), few)
 
-      target_small : (target : ℕ) → target < length (erased_fn f).body → IsSmall target
+      target_small : (target : ℕ) → target < length (erased_fn f).body → IsSmallNumber target
       target_small target within = omega (arith, within, length-map f.body erased_instr, few_instrs)
 
       called : (to : Option ℕ) (from : List ℕ) (passes : List _) (m : ℕ) (callee : TacFn)
@@ -172,7 +172,7 @@ module _ (code : Code) (checked : IsChecked code) (short : length (text_of code)
           (target ∙ (sym (ap (λ (h : TacFn). is_some h.result_type) g.2) ∙ some_mapped (λ (s : Slot). s.ty) g.0.result))
           (p g.0 g.1)
 
-      by : (op : CodeOp) → ((v : ℕ) → UsesVariable (erased_op op) v → IsSmall v) → OpExists (erased code) (erased_fn f) (erased_op op)
+      by : (op : CodeOp) → ((v : ℕ) → UsesVariable (erased_op op) v → IsSmallNumber v) → OpExists (erased code) (erased_fn f) (erased_op op)
           → types.IsWellTypedOp (erased code) (erased_fn f) (erased_op op) → constants.TacOpFits (erased_op op)
           → PrintsFit (erased_fn f) (erased_op op)
           → ((j : ℕ) (names : List ℕ) → Contains (edges op i) (j, names) → AreSmall names) → CallsPass code f op
@@ -180,16 +180,16 @@ module _ (code : Code) (checked : IsChecked code) (short : length (text_of code)
       by (Do to act from names) u x t c q r calls starts protects = (
         does_print to act t.0 t.2 c,
         value_small to (λ v e. u v (inr e)),
-        of_each IsSmall from (λ v h. u v (inl h)),
+        of_each IsSmallNumber from (λ v h. u v (inl h)),
         r (i + 1) names (first (i + 1, names) []),
       )
       by (Call to m from passes kept names) u x t c q r calls starts protects =
           let all = called to from passes m x.callee x.declared x.arguments x.target (λ g at.
           subst (λ o. CallPasses f o to from passes) at calls) in (
             value_small to (λ v e. u v (inr e)),
-            of_each IsSmall from (λ v h. u v (inl h)),
+            of_each IsSmallNumber from (λ v h. u v (inl h)),
             all,
-            of_each IsSmall kept (λ k h. All-contains ClassFits passes _ all ((protects k).0 h).0),
+            of_each IsSmallNumber kept (λ k h. All-contains ClassFits passes _ all ((protects k).0 h).0),
             r (i + 1) names (first (i + 1, names) []),
           )
       by (Go m from passes names) u x t c q r calls starts protects =
@@ -198,14 +198,14 @@ module _ (code : Code) (checked : IsChecked code) (short : length (text_of code)
           let g = unmapped_at erased_fn code.functions m x.callee x.declared in
           let target = ap (λ (h : TacFn). is_some h.result_type) g.2 in
           let no_result = ap (λ o. is_some (option_map (λ (s : Slot). s.ty) o)) (none g.0 g.1).0 in (
-            of_each IsSmall from (λ v h. u v (inl h)),
+            of_each IsSmallNumber from (λ v h. u v (inl h)),
             called None from passes m x.callee x.declared x.arguments (sym (sym target ∙ no_result)) (λ g at. (none g at).1),
             r (i + 1) names (first (i + 1, names) []),
           )
       by (Print pieces from names) u x t c q r calls starts protects = (
         c,
         as_many (erased_fn f) from q.0 q.1 ∙ counted pieces q.0 q.2,
-        of_each IsSmall from (λ v h. u v (inl h)),
+        of_each IsSmallNumber from (λ v h. u v (inl h)),
         r (i + 1) names (first (i + 1, names) []),
       )
       by (Jump target names) u x t c q r calls starts protects =

@@ -8,7 +8,7 @@ use Rattle.rgo_typing_laws.proofs.Programs.{parsed_well}
 use Rattle.rgo_size_laws.proofs.Programs.{never_large}
 use Rattle.rgo_tac.specs.Code.{Tac}
 use Rattle.rgo_lower.specs.Lowered.{IsLowered}
-use Rattle.rgo_lower.specs.Sizes.{IsTooLarge}
+use Rattle.rgo_lower.specs.Sizes.{IsTooLargeToLower}
 use Rattle.rgo_lowering_laws.proofs.Programs.{lowered_is_typed}
 use Rattle.rgo_classes.specs.declared.classes.Summary.{Summary}
 use Rattle.rgo_summaries.specs.Families.{IsLeastFamily}
@@ -33,7 +33,7 @@ pub no_program_is_too_large : NoProgramIsTooLarge
 no_program_is_too_large text program h large =
     let tree = h.is_well_typed.is_tree in
     never_large text tree.lexemes h.tree tree.lexed tree.parsed.derived (omega (arith, tree.within))
-    (subst IsTooLarge h.typed large)
+    (subst IsTooLargeToLower h.typed large)
 
 pub is_typed : (text : List ℕ) (code : Tac) → IsCodeOf text code → IsTypedCode code
 is_typed text code is =

@@ -12,14 +12,14 @@ use Rattle.rgo_code.specs.Code.{Code}
 use Rattle.rgo_code.specs.Erasure.{erased}
 use Rattle.rgo_region_machine.specs.Counts.{Counts, counts_of}
 use Rattle.rgo_round_robin.specs.Rounds.{all_of}
-use Rattle.rgo_round_robin.specs.Runs.{Runs}
+use Rattle.rgo_round_robin.specs.Runs.{RunsInRounds}
 use Rattle.rgo_machine.specs.Ends.{RunsFreely}
 use Rattle.rgo_machine.specs.declared.ends.RunEnd.{RunEnd}
 use Rattle.rgo_machine.specs.declared.ends.RunEnd.TheVariants as run_end
 use Rattle.rgo_journal.specs.declared.picks.TacPick.{TacPick}
 use Rattle.rgo_journal.specs.Text.{journal}
 use Rattle.rgo_recording.specs.declared.recording.Recorded.{Recorded}
-use Rattle.rgo_recording.specs.Notes.{picks_of}
+use Rattle.rgo_recording.specs.Notes.{noted_picks}
 use Rattle.rgo_recording.specs.Recordings as recording
 use Rattle.rgo_recording.proofs.Going.{recorded_goes_on}
 use Rattle.rgo_command_line.specs.declared.commands.Command.TheVariants.{Record}
@@ -38,7 +38,7 @@ use Rattle.rgo_run.specs.Recorded.{call_after, nothing, part, rest, whole}
 use Rattle.rgo_run.specs.Reports.{Reports, WritesLine, in_short}
 use Rattle.rgo_run.specs.Runs.{IsSaid, of_program}
 use Rattle.rgo_sound.specs.RegionRuns.{RegionRun}
-use Rattle.rgo_run.specs.Texts.{FailsAs, IsRead, NotRead}
+use Rattle.rgo_run.specs.Texts.{FailsAs, IsTextRead, NotRead}
 use Rattle.rgo_run.specs.Verdicts.{IsTypedProgram}
 use Rattle.rgo_run.proofs.EndingLemmas.{IsLate, failing_late, failing_ten, fault_of_run, one_is_no_run, refused_status, run_is_late}
 use Rattle.rgo_run.proofs.EndingLemmas.{short_fault, short_is_late, short_is_no_refusal, short_status}
@@ -187,7 +187,7 @@ no_stats asked end made is = subst (λ b. IsSaid b end made None) (sym is) tt
 
 -- a run in rounds is one in any order
 abbrev runs_freely : (code : Tac) (limits : Limits) (end : RunEnd) (old new : Option (List ℕ))
-    → Runs (tac code) limits (tac_start code) end old new → RunsFreely (tac code) limits (tac_start code) end old new
+    → RunsInRounds (tac code) limits (tac_start code) end old new → RunsFreely (tac code) limits (tac_start code) end old new
 runs_freely code limits end old new x = record {
   picks = all_of x.rounds ++ x.last;
   tested = length (all_of x.rounds);
@@ -210,7 +210,7 @@ module _ (options : RunOptions) (text : List ℕ) (program : Typed) (code : Code
   regions : RegionRun code options.sizes r.end records.runs.runs.state
   regions = region_run code options.sizes r.world records.runs.before records.runs.runs.state r.end records.fixed records.runs.whole ended
 
-  pub noted_run : Noted options text (Ran text_kind.Go r.end None) out (picks_of r.notes)
+  pub noted_run : Noted options text (Ran text_kind.Go r.end None) out (noted_picks r.notes)
   noted_run = record {
     runs = record {
       what = of_program program;
@@ -238,7 +238,7 @@ module _ (options : RunOptions) (text : List ℕ) (program : Typed) (code : Code
 
   -- where there was no memory for its journal
   pub noted_cut : (r.end ≡ run_end.WriteFault → ⊥)
-      → Noted options text (Ran text_kind.Go run_end.NoMemory None) out (picks_of r.notes)
+      → Noted options text (Ran text_kind.Go run_end.NoMemory None) out (noted_picks r.notes)
   unfolding noted_run
   noted_cut no_fault = record {
     runs = no_line_run text_kind.Go options text out (Ran text_kind.Go r.end None) noted_run.runs no_fault;
@@ -248,15 +248,15 @@ module _ (options : RunOptions) (text : List ℕ) (program : Typed) (code : Code
   }
 
   -- what was kept of it
-  pub keeps_noted : (e : Ending) (bytes : List ℕ) → KeepsNotes r.end (picks_of r.notes) e bytes → KeepsJournal options text e bytes out
+  pub keeps_noted : (e : Ending) (bytes : List ℕ) → KeepsNotes r.end (noted_picks r.notes) e bytes → KeepsJournal options text e bytes out
   keeps_noted e bytes (inl (is, kept)) = inl (
-    picks_of r.notes,
-    subst (λ e. Noted options text e out (picks_of r.notes)) (sym is) noted_run,
+    noted_picks r.notes,
+    subst (λ e. Noted options text e out (noted_picks r.notes)) (sym is) noted_run,
     kept,
   )
   keeps_noted e bytes (inr (no_fault, is, empty)) = inl (
-    picks_of r.notes,
-    subst (λ e. Noted options text e out (picks_of r.notes)) (sym is) (noted_cut no_fault),
+    noted_picks r.notes,
+    subst (λ e. Noted options text e out (noted_picks r.notes)) (sym is) (noted_cut no_fault),
     inr (subst IsCutEnding (sym is) tt, empty),
   )
 
@@ -351,7 +351,7 @@ failing_of_no_run e (inr is) = inl is
 
 -- a call that has read its text
 pub headline_of_records : (call : Call) (options : RunOptions) (text : List ℕ)
-    → IsRead call.words call.source (Record options) text → RecordsText options text call.status call.out call.err
+    → IsTextRead call.words call.source (Record options) text → RecordsText options text call.status call.out call.err
     → RecordHeadline options call
 headline_of_records call options text read (said, inl r) = record {
   said = said;
@@ -359,7 +359,7 @@ headline_of_records call options text read (said, inl r) = record {
   recorded = inl (record { text = text; is_text = read.is_text; records = r });
 }
   where
-    read_after : IsRead (call_after said call).words (call_after said call).source (Record options) text
+    read_after : IsTextRead (call_after said call).words (call_after said call).source (Record options) text
     read_after = read
 headline_of_records call options text read (said, inr r) = record {
   said = [];

@@ -18,7 +18,7 @@ use Rattle.rgo_machine.specs.declared.ends.RunEnd.TheVariants as run_end
 use Rattle.rgo_journal.specs.declared.picks.TacPick.{TacPick}
 use Rattle.rgo_journal.specs.declared.replays.ReplayEnd.{ReplayEnd}
 use Rattle.rgo_journal.specs.declared.replays.ReplayEnd.TheVariants as replay_end
-use Rattle.rgo_journal.specs.Laws.{IsWhole}
+use Rattle.rgo_journal.specs.Laws.{IsFaultlessEnd}
 use Rattle.rgo_journal.specs.Replays.{Replays}
 use Rattle.rgo_journal.specs.Text.{IsJournal, journal}
 use Rattle.rgo_journal.proofs.OneJournal.{read_back}
@@ -152,7 +152,7 @@ run_gives run_end.GoroutinesSpent s print old new g = g
 run_gives run_end.WriteFault s print old new g = absurd s
 run_gives run_end.NoMemory s print old new g = absurd s
 
-whole_by_status : (e : ReplayEnd) → IsUnhindered (status_of_end e) → IsWhole e
+whole_by_status : (e : ReplayEnd) → IsUnhindered (status_of_end e) → IsFaultlessEnd e
 whole_by_status replay_end.WriteFault ok = ok.1 refl
 whole_by_status replay_end.NoMemory ok = ok.2 refl
 whole_by_status (replay_end.Ended end) ok = tt
@@ -182,7 +182,7 @@ module _ (options : RunOptions) (recorded replayed : Call) (text : List ℕ) (en
       noted.runs.runs.is_code to.is_code in
       let again : Replays (erased code) picks e replayed.out.old replayed.out.new =
       subst (λ c. Replays c picks e replayed.out.old replayed.out.new) plain to.replays in
-      let w : IsWhole e = whole_by_status e (subst IsUnhindered is ok) in
+      let w : IsFaultlessEnd e = whole_by_status e (subst IsUnhindered is ok) in
       let ends_so : ReplaysAs noted.runs.run_end e =
       replays_as (erased code) picks run.state noted.takes e again.state w again.ends options.limits run.tested
       (length run.picks) noted.runs.run_end run.ends noted.goes_on in

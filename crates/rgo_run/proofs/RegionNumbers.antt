@@ -13,7 +13,7 @@ use Rattle.rgo_code.specs.Code.{Slot, CodeInstr, CodeFn, Code}
 use Rattle.rgo_code.specs.NameRules.{CreatesUsed, RemovesDead, EntryRemovesDead}
 use Rattle.rgo_code.specs.Names.{slot_class, class_of, result_class, member_class, parameter_classes, region_parameters, IsParameterName, edges}
 use Rattle.rgo_code_text.specs.Written.{SlotFits}
-use Rattle.rgo_code_words.specs.Worded.{IsSmall, AreSmall, ClassFits}
+use Rattle.rgo_code_words.specs.Worded.{IsSmallNumber, AreSmall, ClassFits}
 use Rattle.rgo_insert.specs.Passing.{formal_classes}
 use Rattle.rgo_insert.proofs.Formals.{formal_is}
 use Rattle.rgo_insert.proofs.RegionNames.{name_of_one}
@@ -40,7 +40,7 @@ parameter_at (suc n) [] i c e = absurd (none-some c e)
 parameter_at (suc n) (s ∷ slots) zero c e = same_Some s.class c e
 parameter_at (suc n) (s ∷ slots) (suc i) c e = parameter_at n slots i c e
 
-class_fits : (c : Class) → ((k : ℕ) → c ≡ Name k → IsSmall k) → ClassFits c
+class_fits : (c : Class) → ((k : ℕ) → c ≡ Name k → IsSmallNumber k) → ClassFits c
 class_fits NoClass h = tt
 class_fits Global h = tt
 class_fits (Name k) h = h k refl
@@ -50,10 +50,10 @@ module _ (f : CodeFn) (numbered : AreNumbered (map (λ (s : Slot). s.class) f.va
   abbrev of_variables : List Class
   of_variables = map (λ (s : Slot). s.class) f.variables
 
-  pub variable_class : (v k : ℕ) → class_of f v ≡ Name k → IsSmall k
+  pub variable_class : (v k : ℕ) → class_of f v ≡ Name k → IsSmallNumber k
   variable_class v k e = go (slice_get f.variables v) refl e
     where
-      go : (o : Option Slot) → slice_get f.variables v ≡ o → slot_class o ≡ Name k → IsSmall k
+      go : (o : Option Slot) → slice_get f.variables v ≡ o → slot_class o ≡ Name k → IsSmallNumber k
       go None is n = absurd cc
       go (Some s) is n =
           let at = still_there of_variables (result_class f ∷ []) v s.class
@@ -65,7 +65,7 @@ module _ (f : CodeFn) (numbered : AreNumbered (map (λ (s : Slot). s.class) f.va
             numbered_below (of_variables ++ result_class f ∷ []) numbered k v (at ∙ ap Some n),
           )
 
-  pub result_small : (k : ℕ) → result_class f ≡ Name k → IsSmall k
+  pub result_small : (k : ℕ) → result_class f ≡ Name k → IsSmallNumber k
   result_small k e =
       let at = at_end of_variables (result_class f) [] in
       omega (
@@ -84,24 +84,24 @@ module _ (f : CodeFn) (numbered : AreNumbered (map (λ (s : Slot). s.class) f.va
   pub result_fits : ClassFits (result_class f)
   result_fits = class_fits (result_class f) result_small
 
-  parameter_small : (k : ℕ) → IsParameterName f k → IsSmall k
+  parameter_small : (k : ℕ) → IsParameterName f k → IsSmallNumber k
   parameter_small k c =
       let at = item_at (parameter_classes f.params f.variables) (Name k) c in
       variable_class at.0 k (parameter_at f.params f.variables at.0 (Name k) at.1)
 
   pub entry_small : EntryRemovesDead f → AreSmall f.entry
-  entry_small h = of_each IsSmall f.entry (λ k c. parameter_small k ((h k).0 c).1)
+  entry_small h = of_each IsSmallNumber f.entry (λ k c. parameter_small k ((h k).0 c).1)
 
   pub creates_small : (i : ℕ) (instr : CodeInstr) → CreatesUsed f i instr → AreSmall instr.creates
   creates_small i instr h =
-      of_each IsSmall instr.creates (λ k c. let used = ((h k).0 c).1 in variable_class used.variable k used.named)
+      of_each IsSmallNumber instr.creates (λ k c. let used = ((h k).0 c).1 in variable_class used.variable k used.named)
 
   pub removes_small : (code : Code) (i : ℕ) (instr : CodeInstr) → CreatesUsed f i instr → RemovesDead code f i instr
       → (j : ℕ) (removes : List ℕ) → Contains (edges instr.op i) (j, removes) → AreSmall removes
   removes_small code i instr creates h j removes edge =
-      of_each IsSmall removes (λ k c.
+      of_each IsSmallNumber removes (λ k c.
       ⊎_elim (λ held. variable_class held.1.variable k held.1.named)
-      (λ made. All-contains IsSmall instr.creates k (creates_small i instr creates) made)
+      (λ made. All-contains IsSmallNumber instr.creates k (creates_small i instr creates) made)
       ((h j removes edge k).0 c).0.0)
 
   -- what is passed has the class of an argument, or of the variable for the result

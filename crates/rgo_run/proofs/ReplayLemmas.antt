@@ -31,7 +31,7 @@ use Rattle.rgo_run.specs.Headline.{Faults, Headline}
 use Rattle.rgo_run.specs.Replayed.{Claim, EndsOn, HasNumber, IsReadWhole, IsSplit, NotReplayed, ReplayHeadline, ReplaysBytes, ReplaysTo, ReportsReplay, error_of, line_of_replay, status_of_end, status_of_replay}
 use Rattle.rgo_run.specs.Recorded.{RecordHeadline, RecordsText, call_after}
 use Rattle.rgo_run.specs.Reports.{Reports, ReportsEnding, WritesLine}
-use Rattle.rgo_run.specs.Texts.{FailsAs, IsRead, IsTextOf, NotRead, PerformsCommand, RefusedBy}
+use Rattle.rgo_run.specs.Texts.{FailsAs, IsTextRead, IsTextOf, NotRead, PerformsCommand, RefusedBy}
 use Rattle.rgo_run.proofs.EndingLemmas.{IsLate, failing_late, failing_ten, no_run_status, short_without_fault}
 use Rattle.rgo_run.proofs.HeadlineLemmas.{headline_of_text, headline_of_words, ran_by_status}
 use Rattle.rgo_run.proofs.RecordLemmas.{headline_of_records, record_of_words}
@@ -232,7 +232,7 @@ write_failed bytes out err n r s = by (told_as r.text r.ending n err r.told)
 -- ---- the claim
 
 -- a call of `replay` that has read its bytes
-pub claim_of_bytes : (call : Call) (command : Command) (bytes : List ℕ) → IsRead call.words call.source command bytes → command ≡ Replay
+pub claim_of_bytes : (call : Call) (command : Command) (bytes : List ℕ) → IsTextRead call.words call.source command bytes → command ≡ Replay
     → ReplaysBytes bytes call.out call.err call.status → Claim call
 claim_of_bytes call command bytes read is r = inl (
   read.asked ∙ ap Some is,
@@ -240,18 +240,18 @@ claim_of_bytes call command bytes read is r = inl (
     bytes = bytes;
     text = r.text;
     ending = r.ending;
-    cause = inl (whole_read (subst (λ c. IsRead call.words call.source c bytes) is read), r.ends);
+    cause = inl (whole_read (subst (λ c. IsTextRead call.words call.source c bytes) is read), r.ends);
     told = r.told;
     faults = faults_of call bytes r.text r.ending r.ends read.held (told_as r.text r.ending call.status call.err r.told);
   },
 )
   where
-    whole_read : IsRead call.words call.source Replay bytes → IsReadWhole call bytes
+    whole_read : IsTextRead call.words call.source Replay bytes → IsReadWhole call bytes
     whole_read r = record { is_left = r.is_text; within = r.within; held = r.held }
 
 -- another call that has read its text
 pub claim_of_text : (call : Call) (command : Command) (text : List ℕ) (e : Ending)
-    → IsRead call.words call.source command text → (command ≡ Replay → ⊥)
+    → IsTextRead call.words call.source command text → (command ≡ Replay → ⊥)
     → ((options : RunOptions) → command ≡ Record options → ⊥) → PerformsCommand command text e call.out
     → Reports text e call.status call.err → Claim call
 claim_of_text call command text e read other unrecorded performs reports = inr (inr (
@@ -262,12 +262,12 @@ claim_of_text call command text e read other unrecorded performs reports = inr (
 
 -- a call of `record` that has read its text
 pub claim_of_records : (call : Call) (command : Command) (text : List ℕ) (options : RunOptions)
-    → IsRead call.words call.source command text → command ≡ Record options
+    → IsTextRead call.words call.source command text → command ≡ Record options
     → RecordsText options text call.status call.out call.err → Claim call
 claim_of_records call command text options read is records = inr (inl (
   options,
   read.asked ∙ ap Some is,
-  headline_of_records call options text (subst (λ c. IsRead call.words call.source c text) is read) records,
+  headline_of_records call options text (subst (λ c. IsTextRead call.words call.source c text) is read) records,
 ))
 
 -- whether the words ask for `replay`

@@ -68,11 +68,11 @@ use Rattle.rgo_run.specs.declared.refusals.TextError.{TextError}
 use Rattle.rgo_run.specs.declared.refusals.TextError.TheVariants as text_failure
 use Rattle.rgo_run.specs.Compiled.{IsCompiled, WritesCode}
 use Rattle.rgo_run.specs.Constants.{TacConstantsFit}
-use Rattle.rgo_run.specs.Calls.{SourceUse, SourceFailed, SourceHeld, SinkUse, Failed, SinkHeld, kind_of}
+use Rattle.rgo_run.specs.Calls.{SourceUse, SourceFailed, SourceHeld, SinkUse, Failed, SinkHeld, text_kind_of}
 use Rattle.rgo_run.specs.Errors.{command_error, read_error, too_long, lex_error, type_error, reading_error, check_error, text_error, code_text_error}
 use Rattle.rgo_run.specs.Runs.{HasSourceRun, IsCodeFor, IsRunnable, IsSaid, Runnable, SourceRun, of_code, of_program}
 use Rattle.rgo_run.specs.CodeVerdicts.{IsTextOfCode, code_limit, CodePasses}
-use Rattle.rgo_run.specs.Texts.{IsRead, IsTextOf, NotRead, ReadTooMuch, RefusedAs, ChecksText, CodeFails, SourceFailsAs, FailsAs, PerformsCommand, RunsOrFails, byte_limit}
+use Rattle.rgo_run.specs.Texts.{IsTextRead, IsTextOf, NotRead, ReadTooMuch, RefusedAs, ChecksText, CodeFails, SourceFailsAs, FailsAs, PerformsCommand, RunsOrFails, byte_limit}
 use Rattle.rgo_run.specs.Verdicts.{IsTree, text_limit}
 use Rattle.rgo_run.proofs.Accepting.{emitted_passes}
 use Rattle.rgo_run.proofs.CodeLengths.{lines_take_bytes}
@@ -95,19 +95,19 @@ left_is_text (Big n) left text reads is = absurd (reads n refl)
 
 -- the bytes that were read to the end are the text
 pub all_read : (command : Command) (w : List (List ℕ)) (source : SourceUse) (rest : Option (List ℕ)) (bytes : List ℕ)
-    → command_of w ≡ Some command → Reads command → ReadsAll (byte_limit (kind_of command)) source.left rest bytes
-    → SourceHeld source → IsRead w source command bytes
+    → command_of w ≡ Some command → Reads command → ReadsAll (byte_limit (text_kind_of command)) source.left rest bytes
+    → SourceHeld source → IsTextRead w source command bytes
 all_read command w source rest bytes asked reads read held = record {
   asked = asked;
   is_text = left_is_text command source.left bytes reads
-      (ReadsAll-told (byte_limit (kind_of command)) source.left rest bytes (λ text. bytes ≡ text) read refl);
+      (ReadsAll-told (byte_limit (text_kind_of command)) source.left rest bytes (λ text. bytes ≡ text) read refl);
   within = read.within;
   held = held;
 }
 
 -- the large text is within the limit
 pub big_read : (n : ℕ) (w : List (List ℕ)) (source : SourceUse) (text : List ℕ) → command_of w ≡ Some (Big n)
-    → IsBig n → text ≡ big_text n → length text ≤ 71 * n + 364 → SourceHeld source → IsRead w source (Big n) text
+    → IsBig n → text ≡ big_text n → length text ≤ 71 * n + 364 → SourceHeld source → IsTextRead w source (Big n) text
 big_read n w source text asked few is short held = record {
   asked = asked;
   is_text = is;
@@ -129,16 +129,16 @@ too_long_refused text_kind.Code text h = h
 
 too_much : (command : Command) (w : List (List ℕ)) (source : SourceUse) (rest : Option (List ℕ))
     → command_of w ≡ Some command → Reads command → SourceHeld source
-    → GivesTooMany (byte_limit (kind_of command)) source.left rest → ReadTooMuch w source (too_long (kind_of command))
+    → GivesTooMany (byte_limit (text_kind_of command)) source.left rest → ReadTooMuch w source (too_long (text_kind_of command))
 too_much command w source rest asked reads held gave =
-    let t = longer (byte_limit (kind_of command)) source.left rest gave in
+    let t = longer (byte_limit (text_kind_of command)) source.left rest gave in
     record {
       command = command;
       asked = asked;
       held = held;
       text = t.0;
       is_text = left_is_text command source.left t.0 reads t.1;
-      refused = too_long_refused (kind_of command) t.0 t.2;
+      refused = too_long_refused (text_kind_of command) t.0 t.2;
     }
 
 not_read : (kind : TextKind) (w : List (List ℕ)) (source : SourceUse) → ReadTooMuch w source (too_long kind)
@@ -159,11 +159,11 @@ pub no_text : (command : Command) (w : List (List ℕ)) (source : SourceUse) (re
     → command_of w ≡ Some command
     → Reads command
     → (end ≡ read.Fault → SourceFailed source)
-    → (end ≡ read.TooLong → SourceHeld source × GivesTooMany (byte_limit (kind_of command)) source.left rest)
-    → (end ≡ read.NoMemory → SourceHeld source) → NotRead w source (read_error (kind_of command) end)
+    → (end ≡ read.TooLong → SourceHeld source × GivesTooMany (byte_limit (text_kind_of command)) source.left rest)
+    → (end ≡ read.NoMemory → SourceHeld source) → NotRead w source (read_error (text_kind_of command) end)
 no_text command w source rest read.Fault asked reads fault long memory = ((command, asked), fault refl)
 no_text command w source rest read.TooLong asked reads fault long memory =
-    let h = long refl in not_read (kind_of command) w source (too_much command w source rest asked reads h.0 h.1)
+    let h = long refl in not_read (text_kind_of command) w source (too_much command w source rest asked reads h.0 h.1)
 no_text command w source rest read.NoMemory asked reads fault long memory = memory refl
 
 pub no_usage : (kind : TextKind) (end : ReadEnd) → read_error kind end ≡ Usage → ⊥

@@ -7,7 +7,7 @@ use Rattle.std.proofs.lemmas.Option.{same_Some, none-some}
 use Rattle.rgo_typed.specs.declared.programs.Struct.{Struct}
 use Rattle.rgo_code.specs.Code.{CodeInstr, CodeFn, Code}
 use Rattle.rgo_code_printing.specs.Words.{type_word}
-use Rattle.rgo_code_printing.specs.Text.{Names, names_of, line, lines_with, text_of, struct_words, global_words, slot_words, entry_words, body_lines, fn_lines}
+use Rattle.rgo_code_printing.specs.Text.{Names, names_of, line, lines_with, text_of, struct_line_words, global_words, slot_words, entry_words, body_lines, fn_lines}
 use Rattle.rgo_typing_laws.proofs.Lists.{still_there, mapped_at}
 
 joined_long : (ws : List (List ℕ)) → length ws ≤ length (join_with_byte 32 ws) + 1
@@ -62,7 +62,7 @@ pub fn_within : (code : Code) (n : ℕ) (f : CodeFn) → slice_get code.function
 unfolding text_of
 fn_within code n f e =
     let names = names_of code in
-    let structs = map (struct_words names) code.structs in
+    let structs = map (struct_line_words names) code.structs in
     let variables = map (global_words names) code.variables in
     let functions = flat_map (fn_lines names) code.functions in
     omega (
@@ -79,12 +79,12 @@ pub fields_within : (code : Code) (n : ℕ) (s : Struct) → slice_get code.stru
 unfolding text_of
 fields_within code n s e =
     let names = names_of code in
-    let structs = map (struct_words names) code.structs in
+    let structs = map (struct_line_words names) code.structs in
     let rest = map (global_words names) code.variables ++ flat_map (fn_lines names) code.functions in
-    let there = still_there structs rest n (struct_words names s) (mapped_at (struct_words names) code.structs n s e) in
+    let there = still_there structs rest n (struct_line_words names s) (mapped_at (struct_line_words names) code.structs n s e) in
     omega (
       arith,
-      part_within line (lines_with names code) (suc n) (struct_words names s) there,
-      line_long (struct_words names s),
+      part_within line (lines_with names code) (suc n) (struct_line_words names s) there,
+      line_long (struct_line_words names s),
       length-map s.fields (type_word names.structs),
     )

@@ -7,7 +7,7 @@ use Rattle.rgo_lexer.specs.Lexing.{LexesAs}
 use Rattle.rgo_lexer.specs.Refusals.{LexRefuses}
 use Rattle.rgo_lexer.proofs.OneReading as lexer
 use Rattle.rgo_ast.specs.Tree.{Program}
-use Rattle.rgo_parser.specs.Parsing.{IsParsed, Refuses}
+use Rattle.rgo_parser.specs.Parsing.{IsParsed, RefusesLexemes}
 use Rattle.rgo_parser.specs.declared.parser.ParseRefusal.{ParseRefusal}
 use Rattle.rgo_parser.specs.declared.parser.ParseRefusal.TheVariants as parse
 use Rattle.rgo_typing_rules.specs.Sites.{first_refusal}
@@ -66,7 +66,7 @@ same_lexical text p q r s = ap Lexical (lexer.one_refusal text p q r s)
 -- one refusal of the lexemes
 same_refusal : (text : List ℕ) (r s : ParseRefusal) (j k a b : ℕ) → IsRefused text r j a → IsRefused text s k b → r ≡ s
 same_refusal text r s j k a b v w =
-    parser.one_refusal w.lexemes r s (moved text v.lexemes w.lexemes (λ t. Refuses t r) v.lexed w.lexed v.refused) w.refused
+    parser.one_refusal w.lexemes r s (moved text v.lexemes w.lexemes (λ t. RefusesLexemes t r) v.lexed w.lexed v.refused) w.refused
 
 same_place : (text : List ℕ) (r s : ParseRefusal) (j k a b : ℕ) → IsRefused text r j a → IsRefused text s k b → j ≡ k → a ≡ b
 same_place text r s j k a b v w e =
@@ -132,15 +132,15 @@ of_rule : (text : List ℕ) (tree : Program) (broken : Option TypeRefusal) → I
 of_rule text tree None t e = inl (tree, record { is_tree = t; unbroken = e })
 of_rule text tree (Some r) t e = inr (Typing r, record { tree = tree; is_tree = t; broken = e })
 
-refused_at : (text : List ℕ) (lexemes : List Lexeme) (r : ParseRefusal) (k : ℕ) → length text ≤ text_limit → LexesAs text lexemes → Refuses lexemes r → IsRefused text r k (lexeme_place text lexemes k)
+refused_at : (text : List ℕ) (lexemes : List Lexeme) (r : ParseRefusal) (k : ℕ) → length text ≤ text_limit → LexesAs text lexemes → RefusesLexemes lexemes r → IsRefused text r k (lexeme_place text lexemes k)
 refused_at text lexemes r k h t w = record { within = h; lexemes = lexemes; lexed = t; refused = w; place = refl }
 
-of_refusal : (text : List ℕ) (lexemes : List Lexeme) (r : ParseRefusal) → length text ≤ text_limit → LexesAs text lexemes → Refuses lexemes r → Judged text
+of_refusal : (text : List ℕ) (lexemes : List Lexeme) (r : ParseRefusal) → length text ≤ text_limit → LexesAs text lexemes → RefusesLexemes lexemes r → Judged text
 of_refusal text lexemes (parse.Syntax k) h t w = inr (Syntax (lexeme_place text lexemes k), (k, refused_at text lexemes (parse.Syntax k) k h t w))
 of_refusal text lexemes (parse.TooDeep k) h t w = inr (Nesting (lexeme_place text lexemes k), (k, refused_at text lexemes (parse.TooDeep k) k h t w))
 
 of_answer : (text : List ℕ) (lexemes : List Lexeme) → length text ≤ text_limit → LexesAs text lexemes
-    → ((tree : Program) × IsParsed (length text) lexemes tree) ⊎ ((r : ParseRefusal) × Refuses lexemes r) → Judged text
+    → ((tree : Program) × IsParsed (length text) lexemes tree) ⊎ ((r : ParseRefusal) × RefusesLexemes lexemes r) → Judged text
 of_answer text lexemes h t (inl p) = of_rule text p.0 (first_refusal (sites_of p.0)) (record { within = h; lexemes = lexemes; lexed = t; parsed = p.1 }) refl
 of_answer text lexemes h t (inr r) = of_refusal text lexemes r.0 h t r.1
 

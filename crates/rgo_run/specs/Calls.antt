@@ -50,11 +50,11 @@ pub record Call : Type 0 where
   pub status : ℕ
 
 -- the kind of text that a command reads; a journal with the text after it may be as long as a code text
-abbrev pub kind_of : Command → TextKind
-kind_of Code = text_kind.Code
-kind_of Replay = text_kind.Code
-kind_of (RunCode options) = text_kind.Code
-kind_of _ = text_kind.Go
+abbrev pub text_kind_of : Command → TextKind
+text_kind_of Code = text_kind.Code
+text_kind_of Replay = text_kind.Code
+text_kind_of (RunCode options) = text_kind.Code
+text_kind_of _ = text_kind.Go
 
 -- what kind of text a command runs, if any, and with which options; `big` uses the defaults of `run`
 abbrev pub run_of_command : Command → Option (TextKind × RunOptions)

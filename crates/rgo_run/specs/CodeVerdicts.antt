@@ -7,7 +7,7 @@ use Rattle.rgo_code.specs.NameRules.{Ascends}
 use Rattle.rgo_code.specs.declared.rules.CodeRefusal.{CodeRefusal}
 use Rattle.rgo_code_printing.specs.Text.{text_of}
 use Rattle.rgo_code_text.specs.Forms.{IsFirstWithoutForm}
-use Rattle.rgo_code_text.specs.Written.{IsWritten}
+use Rattle.rgo_code_text.specs.Written.{HasCodeText}
 use Rattle.rgo_run.specs.declared.refusals.CodeTextRefusal.{CodeTextRefusal}
 use Rattle.rgo_run.specs.declared.refusals.CodeTextRefusal.TheVariants.{TooLong, NoForm, Breaks}
 
@@ -18,7 +18,7 @@ code_limit = 67108864
 -- the text is within the limit, and is the text of this code
 pub record IsTextOfCode (text : List ℕ) (code : Code) : Type 0 where
   pub within : length text ≤ code_limit
-  pub written : IsWritten code
+  pub written : HasCodeText code
   pub text_is : text ≡ text_of code
 
 -- the text is the text of this code, which keeps all rules, and whose lists of names are all ascending

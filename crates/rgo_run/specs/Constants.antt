@@ -4,7 +4,7 @@ use Rattle.std.specs.Prelude.{All, ⊤}
 use Rattle.rgo_typed.specs.declared.actions.Action.{Action}
 use Rattle.rgo_typed.specs.declared.actions.Action.TheVariants as action
 use Rattle.rgo_tac.specs.Code.{Op, Instr, TacFn, Tac, Do, Call, Go, Print, Jump, Branch, Return}
-use Rattle.rgo_code_words.specs.Worded.{IsSmall, IntFits, PieceFits}
+use Rattle.rgo_code_words.specs.Worded.{IsSmallNumber, IntFits, PieceFits}
 
 abbrev pub TacActionFits : Action → Type 0
 TacActionFits (action.Int k) = IntFits k
@@ -39,7 +39,7 @@ TacOpFits (Branch test target other) = ⊤
 TacOpFits (Return value) = ⊤
 
 abbrev pub TacInstrFits : Instr → Type 0
-TacInstrFits instr = IsSmall instr.place × TacOpFits instr.op
+TacInstrFits instr = IsSmallNumber instr.place × TacOpFits instr.op
 
 abbrev pub TacFnFits : TacFn → Type 0
 TacFnFits f = All TacInstrFits f.body

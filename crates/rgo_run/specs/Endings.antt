@@ -116,7 +116,7 @@ line_of_refusal text (refusal.Lexical why) =
 line_of_refusal text (refusal.Syntax at) = positioned text at (codes "syntax\n")
 line_of_refusal text (refusal.Nesting at) = positioned text at (codes "nesting\n")
 line_of_refusal text (refusal.Typing why) =
-    positioned text why.at (kind_line (codes "type") (rules.number_of why.rule) (rules.name_of why.rule))
+    positioned text why.at (kind_line (codes "type") (rules.typing_rule_number why.rule) (rules.typing_rule_name why.rule))
 
 -- the line of a rejected code text
 abbrev pub line_of_code_refusal : CodeTextRefusal → List ℕ

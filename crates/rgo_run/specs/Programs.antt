@@ -4,7 +4,7 @@ use Rattle.std.specs.List.{AllByRecursion}
 use Rattle.rgo_typed.specs.Tree.{Typed}
 use Rattle.rgo_wellformed.specs.Endings.{Ends}
 use Rattle.rgo_wellformed.specs.WellFormed.{IsWellFormed}
-use Rattle.rgo_lower.specs.Sizes.{IsTooLarge}
+use Rattle.rgo_lower.specs.Sizes.{IsTooLargeToLower}
 use Rattle.rgo_run.specs.Verdicts.{IsTypedProgram}
 
 -- the program is well-formed, and no function with a result reaches the end of its body
@@ -15,4 +15,4 @@ ProgramsAreWellFormed =
 
 -- the code of the program fits numbers of 32 bits, so the lowering's `TooLarge` never occurs
 abbrev pub NoProgramIsTooLarge : Type 0
-NoProgramIsTooLarge = (text : List ℕ) (program : Typed) → IsTypedProgram text program → IsTooLarge program → ⊥
+NoProgramIsTooLarge = (text : List ℕ) (program : Typed) → IsTypedProgram text program → IsTooLargeToLower program → ⊥

@@ -16,7 +16,7 @@ use Rattle.rgo_run.specs.declared.refusals.CodeTextRefusal.TheVariants as code_r
 use Rattle.rgo_run.specs.declared.refusals.TextError.{TextError}
 use Rattle.rgo_run.specs.declared.refusals.TextError.TheVariants as error
 use Rattle.rgo_run.specs.declared.refusals.TextRefusal.TheVariants as refusal
-use Rattle.rgo_run.specs.Calls.{SourceUse, SourceFailed, SourceHeld, SinkUse, IsUntouched, kind_of}
+use Rattle.rgo_run.specs.Calls.{SourceUse, SourceFailed, SourceHeld, SinkUse, IsUntouched, text_kind_of}
 use Rattle.rgo_run.specs.CodeVerdicts.{CodePasses, CodeRefused, code_limit}
 use Rattle.rgo_run.specs.Compiled.{Emits}
 use Rattle.rgo_run.specs.Runs.{RunsAsOne}
@@ -33,10 +33,10 @@ byte_limit text_kind.Go = text_limit
 byte_limit text_kind.Code = code_limit
 
 -- the words are this command, and this is its text, read from the source or made for `big`
-pub record IsRead (words : List (List ℕ)) (source : SourceUse) (command : Command) (text : List ℕ) : Type 0 where
+pub record IsTextRead (words : List (List ℕ)) (source : SourceUse) (command : Command) (text : List ℕ) : Type 0 where
   pub asked : command_of words ≡ Some command
   pub is_text : IsTextOf (Some command) source.left text
-  pub within : length text ≤ byte_limit (kind_of command)
+  pub within : length text ≤ byte_limit (text_kind_of command)
   pub held : SourceHeld source
 
 -- the words name a command
@@ -56,7 +56,7 @@ PassesAs text_kind.Code text = CodePasses text
 
 -- the text that a command reads is rejected for the reason that the ending reports
 abbrev pub RefusedBy : Command → List ℕ → Ending → Type 0
-RefusedBy command text ending = RefusedAs (kind_of command) text ending
+RefusedBy command text ending = RefusedAs (text_kind_of command) text ending
 
 -- the command accepts the text without running it
 abbrev pub AcceptedBy : Command → List ℕ → Type 0

@@ -5,7 +5,7 @@ use Rattle.rgo_lexer.specs.Lexemes.{Lexeme}
 use Rattle.rgo_lexer.specs.Lexing.{LexesAs}
 use Rattle.rgo_lexer.specs.Refusals.{LexRefuses}
 use Rattle.rgo_ast.specs.Tree.{Program}
-use Rattle.rgo_parser.specs.Parsing.{IsParsed, Refuses}
+use Rattle.rgo_parser.specs.Parsing.{IsParsed, RefusesLexemes}
 use Rattle.rgo_parser.specs.declared.parser.ParseRefusal.{ParseRefusal}
 use Rattle.rgo_parser.specs.declared.parser.ParseRefusal.TheVariants as parse
 use Rattle.rgo_typing_rules.specs.Sites.{first_refusal}
@@ -47,7 +47,7 @@ pub record IsRefused (text : List ℕ) (refusal : ParseRefusal) (number : ℕ) (
   pub within : length text ≤ text_limit
   pub lexemes : List Lexeme
   pub lexed : LexesAs text lexemes
-  pub refused : Refuses lexemes refusal
+  pub refused : RefusesLexemes lexemes refusal
   pub place : at ≡ lexeme_place text lexemes number
 
 -- The text parses to a tree, and a node of it breaks a typing rule. The refusal is that of the first such node in the order of

@@ -10,7 +10,7 @@ ghost use Rattle.rgo_machine.specs.declared.ends.RunEnd.{RunEnd};
 ghost use Rattle.rgo_command_line.specs.declared.commands.Command.TheVariants.{Check, Emit, Record, Replay};
 ghost use Rattle.rgo_command_line.specs.declared.limits.RunOptions.{RunOptions};
 ghost use Rattle.rgo_run.specs.declared.endings.TextKind.TheVariants as text_kind;
-ghost use Rattle.rgo_run.specs.Calls.{kind_of, use_of};
+ghost use Rattle.rgo_run.specs.Calls.{text_kind_of, use_of};
 ghost use Rattle.rgo_run.specs.Compiled.{IsCompiled, WritesCode};
 ghost use Rattle.rgo_run.specs.Constants.{TacConstantsFit};
 ghost use Rattle.rgo_run.specs.Endings.{status_of};
@@ -32,7 +32,7 @@ use std::thread::Threads;
 
 /// The kind of text that a command is about.
 pub(crate) fn kind_of(command: Command) -> TextKind
-    ensures { result ≡ kind_of command }
+    ensures { result ≡ text_kind_of command }
 {
     match command {
         // `replay` reads a journal before its text, so both together are allowed the length of a code text.

@@ -4,7 +4,7 @@
 //! functions without a result are proofs of that.
 
 ghost use Rattle.std.specs.Prelude.{◌≡◌, ◌<◌, ◌^◌, All, IfSome, slice_get, Decides};
-ghost use Rattle.rgo_code_words.specs.Worded.{IsSmall, PieceFits};
+ghost use Rattle.rgo_code_words.specs.Worded.{IsSmallNumber, PieceFits};
 ghost use Rattle.rgo_tac.specs.Ops.{operation_of};
 ghost use Rattle.rgo_run.specs.Constants.{TacActionFits, TacOpFits, TacInstrFits, TacFnFits, TacConstantsFit};
 

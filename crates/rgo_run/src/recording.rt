@@ -4,7 +4,7 @@
 ghost use Rattle.std.specs.Prelude.{◌≡◌, ◌⊎◌, ◌<◌, ◌^◌, ℕ, List, true, false, length};
 ghost use Rattle.rgo_outside.specs.Causes.{Rose};
 ghost use Rattle.rgo_typed.specs.Tree.{Typed as Program};
-ghost use Rattle.rgo_recording.specs.Notes.{picks_of};
+ghost use Rattle.rgo_recording.specs.Notes.{noted_picks};
 ghost use Rattle.rgo_run.specs.Calls.{use_of};
 ghost use Rattle.rgo_run.specs.Compiled.{IsCompiledFrom};
 ghost use Rattle.rgo_run.specs.Headline.{EndsRun};
@@ -32,7 +32,7 @@ struct Kept {
 /// have printed, so a replay could not promise the same bytes.
 fn keep(alloc: Global, end: RunEnd, notes: &Notes) -> Kept
     ensures ends { EndsRun result.ending }
-    ensures keeps { KeepsNotes end (picks_of notes.now) result.ending result.journal.items }
+    ensures keeps { KeepsNotes end (noted_picks notes.now) result.ending result.journal.items }
 {
     match end {
         RunEnd::NoMemory | RunEnd::WriteFault => Kept {

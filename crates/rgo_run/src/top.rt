@@ -7,7 +7,7 @@ ghost use Rattle.rgo_outside.specs.Causes.{Rose};
 ghost use Rattle.rgo_command_line.specs.Commands.{KeepsBounds, command_of};
 ghost use Rattle.rgo_command_line.specs.declared.commands.Command.TheVariants.{Big, Check, Replay};
 ghost use Rattle.rgo_run.specs.Errors.{read_error};
-ghost use Rattle.rgo_run.specs.Texts.{IsRead, NotRead};
+ghost use Rattle.rgo_run.specs.Texts.{IsTextRead, NotRead};
 ghost use Rattle.rgo_run.specs.Calls.{AsksRun, use_of, source_use};
 ghost use Rattle.rgo_run.specs.Endings.{is_fault_status, is_run_status};
 ghost use Rattle.rgo_run.specs.Replayed.{Claim};
@@ -46,7 +46,7 @@ fn read<S: Source>(
     words: &[String],
     source: &mut S,
 ) -> Result<(Command, Vec<u8>), Ending>
-    ensures ok { IfOk result (λ r. IsRead (map string_bytes words.now)
+    ensures ok { IfOk result (λ r. IsTextRead (map string_bytes words.now)
         (source_use (S.left source.old) (S.faults source.old) (S.faults source.new))
         r.0 r.1.items) }
     ensures err { IfErr result (NotRead (map string_bytes words.now)

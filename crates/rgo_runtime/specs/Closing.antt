@@ -3,8 +3,8 @@ use lib.ListN.{get_elem?}
 use mathlib.Core.Option.{some}
 use Rattle.std.specs.Prelude.{◌≡◌, ◌≤◌, ℕ, true, List, [], ◌∷◌, ◌++◌, Option, None, length, map, ⊤}
 use Rattle.rgo_core.specs.Core.{Setup}
-use Rattle.rgo_core.specs.Frames.Constants.{ConstantsFit}
-use Rattle.rgo_core.specs.Opening.{first_of, opening}
+use Rattle.rgo_core.specs.Frames.shown.Constants.{ConstantsFit}
+use Rattle.rgo_core.specs.runs.Opening.{first_of, opening_table}
 use Rattle.rgo_core.specs.Records.{Drawn, Record, drawn_at}
 use Rattle.rgo_core.specs.Rule.Views.{view}
 use Rattle.rgo_core.specs.Rule.declared.accesses.View.{View}
@@ -19,7 +19,7 @@ use Rattle.rgo_sound.specs.RegionMachine.States.{Mark}
 use Rattle.rgo_sound.specs.Machine.Deadlocks.{IsDeadlock}
 use Rattle.rgo_sound.specs.Tac.Tac.{tac}
 use Rattle.rgo_table_runs.specs.closing.Ends.{IsFirst}
-use Rattle.rgo_table_runs.specs.closing.Gathering.{IsIn, numbered, sum_of}
+use Rattle.rgo_table_runs.specs.closing.Gathering.{IsDrawnIn, numbered_rows, sum_of}
 use Rattle.rgo_table_runs.specs.closing.Laws.{last_state}
 use Rattle.rgo_table_runs.specs.closing.Members.{NoneIsLost, retired}
 use Rattle.rgo_table_runs.specs.closing.Prints.{AllGiven, TicketsInOrder}
@@ -40,16 +40,16 @@ AreInOrder given = (i : ℕ) (d : Drawn) → get_elem? given i ≡ some d → d.
 -- prints have gone out in order, and the next one is none of those that wait
 pub record AreInTurn (given waiting : List Drawn) : Type 0 where
   pub turns : AreInOrder given
-  pub next : (d : Drawn) → IsIn waiting d → d.ticket ≡ length given → ⊥
+  pub next : (d : Drawn) → IsDrawnIn waiting d → d.ticket ≡ length given → ⊥
 
 -- The rows of a closed table, the prints that have gone out, the sum of the shares, and how the run was ended: they are of all goroutines.
 -- Where memory was refused, there may be prints that have not gone out.
 pub record ClosesWith (T : Setup) (words : List ℕ) (v : View Record) (e : ClosesTable T words v) (shares : List Counts) (first : Option Mark)
     (given : List Drawn) : Type 0 where
-  pub all : AreAll v (numbered e.recs)
-  pub order : TicketsInOrder (numbered e.recs) given
-  pub is_first : IsFirst (numbered e.recs) first
-  pub sum : sum_of shares ≡ all_shares (numbered e.recs)
+  pub all : AreAll v (numbered_rows e.recs)
+  pub order : TicketsInOrder (numbered_rows e.recs) given
+  pub is_first : IsFirst (numbered_rows e.recs) first
+  pub sum : sum_of shares ≡ all_shares (numbered_rows e.recs)
 
 -- Where nobody is lost, the seat of the driver has them.
 abbrev pub ClosesAnyway : Type 0
@@ -61,7 +61,7 @@ ClosesAnyway = (T : Setup) (words : List ℕ) (v : View Record) (e : ClosesTable
 abbrev pub ClosesWhole : Type 0
 ClosesWhole = (T : Setup) (words : List ℕ) (v : View Record) (e : ClosesTable T words v) (shares : List Counts) (first : Option Mark)
     (given waiting : List Drawn) → NoneIsLost (map retired v.records) (given ++ waiting) → AreInTurn given waiting
-    → AreRetired v.records shares first → ClosesWith T words v e shares first given × AllGiven (numbered e.recs) given
+    → AreRetired v.records shares first → ClosesWith T words v e shares first given × AllGiven (numbered_rows e.recs) given
 
 -- ---- what follows from a pass
 
@@ -76,7 +76,7 @@ PassReports T words v e (Lacks why) = LacksIn T.code T.sizes why (last_state e)
 abbrev pub PassTells : Type 0
 PassTells = (before c : Crew) (passed : Passed) (left : Left) (words : List ℕ) (e : ClosesTable c.run.setup words left.seat.me.0)
     → HasPassedAll before c passed → IsRunCrew c → c.parked ≡ [] → c.born ≡ [] → HaveAllLeft c left → left.is_whole ≡ true
-    → AreAll left.seat.me.0 (numbered e.recs) → PassReports c.run.setup words left.seat.me.0 e passed
+    → AreAll left.seat.me.0 (numbered_rows e.recs) → PassReports c.run.setup words left.seat.me.0 e passed
 
 -- ---- examples
 
@@ -87,8 +87,8 @@ pub record ClosingExamples : Type 0 where
   pub out_of_turn : AreInTurn (drawn_at 1 (9 ∷ []) ∷ []) [] → ⊥
   -- a table that is closed as it was opened
   pub closed : (T : Setup) → IsChecked T.code → Ascends T.code → ConstantsFit T.code → most_goroutines T.limits ≤ 1000000
-      → (e : ClosesTable T (opening T) (view ((0, first_of T.code) ∷ []) []))
-      × ClosesWith T (opening T) (view ((0, first_of T.code) ∷ []) []) e ((first_of T.code).clock.share ∷ []) None []
+      → (e : ClosesTable T (opening_table T) (view ((0, first_of T.code) ∷ []) []))
+      × ClosesWith T (opening_table T) (view ((0, first_of T.code) ∷ []) []) e ((first_of T.code).clock.share ∷ []) None []
   -- a print has gone out that nobody has printed
   pub made_up : (T : Setup) (words : List ℕ) (e : ClosesTable T words (view [] [])) (shares : List Counts) (d : Drawn)
       → ClosesWith T words (view [] []) e shares None (d ∷ []) → ⊥

@@ -6,17 +6,17 @@ use Rattle.rgo_table_runs.specs.Goroutine.Acts.Runs.{Run}
 use Rattle.rgo_table_runs.specs.Goroutine.Acts.declared.prints.Print.{Print}
 use Rattle.rgo_core.specs.Records.{Record}
 use Rattle.rgo_core.specs.Memory.Words.{clock_at}
-use Rattle.rgo_core.specs.Rule.Views.{Has, Me}
+use Rattle.rgo_core.specs.Rule.Views.{HasRow, Me}
 use Rattle.rgo_core_steps.specs.Seats.{IsSeatOf}
 use Rattle.rgo_core_steps.specs.declared.clock.Mark.{Mark}
 use Rattle.rgo_table_runs.specs.Goroutine.Goroutines.{IsOf}
 use Rattle.rgo_table_runs.specs.Goroutine.Instructions.{TableHasPages}
-use Rattle.rgo_table_runs.specs.Goroutine.Turns.{IsOver}
+use Rattle.rgo_table_runs.specs.Goroutine.Turns.{HasFinished}
 use Rattle.rgo_table_runs.specs.Goroutine.declared.goroutine.Goroutine.{Goroutine}
 use Rattle.rgo_sound.specs.RegionMachine.Counts.{Counts}
 use Rattle.rgo_table_runs.specs.closing.Members.{Member, NoneIsLost, retired}
-use Rattle.rgo_runtime.specs.Crews.{AreRetired, IsNewborn, IsOfCrew, Keeps, drawn, its_goroutine, marked, member_of, members, turning}
-use Rattle.rgo_runtime.specs.Parking.{values_of}
+use Rattle.rgo_runtime.specs.Crews.{AreRetired, IsNewborn, IsOfCrew, DriverKeeps, drawn, its_goroutine, end_mark, member_of, members, turning}
+use Rattle.rgo_runtime.specs.Parking.{parked_values}
 use Rattle.rgo_runtime.specs.Passing.{IsBehind, IsPass}
 use Rattle.rgo_runtime.specs.Turns.{Turn}
 use Rattle.rgo_runtime.specs.declared.deadlock.Passed.{Passed}
@@ -42,18 +42,18 @@ pub record IsRunCrew (c : Crew) : Type 0 where
   pub seat : IsSeatOf c.table c.run.table clock_at
   pub pages : TableHasPages c.run
   pub ready : All (IsOfCrew c.run (length c.shares)) c.ready
-  pub parked : All (IsOfCrew c.run (length c.shares)) (values_of c.parked)
+  pub parked : All (IsOfCrew c.run (length c.shares)) (parked_values c.parked)
   pub born : All (IsNewborn c.run) c.born
-  pub retired : AreRetired c.me.0.records c.shares (marked c.first)
-  pub over : (g : ℕ) (its : Record) → Has c.me.0.records g its → IsOver its
+  pub retired : AreRetired c.me.0.records c.shares (end_mark c.first)
+  pub over : (g : ℕ) (its : Record) → HasRow c.me.0.records g its → HasFinished its
 
 -- all of them
-abbrev pub all_members : Crew → List Member
-all_members c = turning c.ready ++ (turning (values_of c.parked) ++ (members c.run.setup c.born ++ map retired c.me.0.records))
+abbrev pub crew_members : Crew → List Member
+crew_members c = turning c.ready ++ (turning (parked_values c.parked) ++ (members c.run.setup c.born ++ map retired c.me.0.records))
 
 -- nobody was lost, and no print
 abbrev pub KeepsAll : (old new : Crew) → Type 0
-KeepsAll old new = Keeps (all_members old) (drawn old.waiting) (all_members new) (drawn new.waiting)
+KeepsAll old new = DriverKeeps (crew_members old) (drawn old.waiting) (crew_members new) (drawn new.waiting)
 
 -- Those that had not retired have had a pass. Only they and the seat of the driver have changed.
 pub record HasPassedAll (old new : Crew) (passed : Passed) : Type 0 where
@@ -76,7 +76,7 @@ pub record WholeCrewExamples : Type 0 where
   pub not_over : (c : Crew) (r : Record) → c.me.0.records ≡ (0, r) ∷ [] → (r.frame.frames ≡ [] → ⊥) → IsRunCrew c → ⊥
   -- one that was ready is lost
   pub lost : (c : Crew) (go : Goroutine) → NoneIsLost (member_of c.run.setup go ∷ []) (drawn c.waiting) → c.ready ≡ [] → c.parked ≡ []
-      → c.born ≡ [] → c.me.0.records ≡ [] → (old : Crew) → all_members old ≡ member_of c.run.setup go ∷ [] → old.waiting ≡ c.waiting
+      → c.born ≡ [] → c.me.0.records ≡ [] → (old : Crew) → crew_members old ≡ member_of c.run.setup go ∷ [] → old.waiting ≡ c.waiting
       → KeepsAll old c → ⊥
   pub all_passed : (c : Crew) (passed : Passed) → c.ready ≡ [] → IsPass c.run c.me [] [] passed → HasPassedAll c c passed
   -- one that was ready had no part in it

@@ -3,21 +3,21 @@ use Rattle.std.specs.List.{All}
 use Rattle.std.specs.Prelude.{◌≡◌, ◌<◌, ℕ, false, true, List, [], ◌∷◌, ◌++◌, IsPermutation, length, map}
 use Rattle.rgo_core.specs.Core.{Setup}
 use Rattle.rgo_core.specs.Records.{Record}
-use Rattle.rgo_table_runs.specs.Goroutine.Goroutines.{record_of}
+use Rattle.rgo_table_runs.specs.Goroutine.Goroutines.{record_of_goroutine}
 use Rattle.rgo_table_runs.specs.Goroutine.declared.goroutine.Goroutine.{Goroutine}
 use Rattle.rgo_table_runs.specs.closing.Members.{retired}
 use Rattle.rgo_runtime.specs.Crew.{Crew}
-use Rattle.rgo_runtime.specs.Crews.{AreRetired, Keeps, KeepsMembers, its_goroutine, marked, members}
-use Rattle.rgo_runtime.specs.Parking.{values_of}
+use Rattle.rgo_runtime.specs.Crews.{AreRetired, DriverKeeps, KeepsMembers, its_goroutine, end_mark, members}
+use Rattle.rgo_runtime.specs.Parking.{parked_values}
 use Rattle.rgo_runtime.specs.Passing.{IsBehind}
 use Rattle.rgo_runtime.specs.Turns.{Turn}
 use Rattle.rgo_runtime.specs.declared.retiring.Left.{Left}
 
-abbrev pub row_of : Setup → Goroutine → ℕ × Record
-row_of T go = (go.number, record_of T go)
+abbrev pub goroutine_row : Setup → Goroutine → ℕ × Record
+goroutine_row T go = (go.number, record_of_goroutine T go)
 
 abbrev pub turn_row : Setup → Turn → ℕ × Record
-turn_row T t = row_of T t.goroutine
+turn_row T t = goroutine_row T t.goroutine
 
 -- all was taken from it, and there is a place for what it has counted
 pub record IsEmptied (n : ℕ) (go : Goroutine) : Type 0 where
@@ -31,18 +31,18 @@ pub record HaveLeft (T : Setup) (gone : List Goroutine) (old new : Left) : Type 
   pub places : length new.shares ≡ length old.shares
   pub whole : new.is_whole ≡ true → old.is_whole ≡ true
   pub emptied : old.is_whole ≡ true → All (IsEmptied (length old.shares)) gone → new.is_whole ≡ true
-  pub rows : new.is_whole ≡ true → new.seat.me.0.records ≡ old.seat.me.0.records ++ map (row_of T) gone
+  pub rows : new.is_whole ≡ true → new.seat.me.0.records ≡ old.seat.me.0.records ++ map (goroutine_row T) gone
   pub seen : new.is_whole ≡ true → All (IsBehind old.seat.me.0.seen) gone → new.seat.me.0.seen ≡ old.seat.me.0.seen
   pub kept : new.is_whole ≡ true
-      → Keeps (members T gone ++ map retired old.seat.me.0.records) [] (map retired new.seat.me.0.records) []
+      → DriverKeeps (members T gone ++ map retired old.seat.me.0.records) [] (map retired new.seat.me.0.records) []
   pub members : KeepsMembers (members T gone ++ map retired old.seat.me.0.records) (map retired new.seat.me.0.records)
-  pub retired : AreRetired old.seat.me.0.records old.shares (marked old.first)
-      → AreRetired new.seat.me.0.records new.shares (marked new.first)
+  pub retired : AreRetired old.seat.me.0.records old.shares (end_mark old.first)
+      → AreRetired new.seat.me.0.records new.shares (end_mark new.first)
 
 -- All goroutines of a run have left, which their driver had like this.
 pub record HaveAllLeft (old : Crew) (new : Left) : Type 0 where
   pub gone : List Goroutine
-  pub all : IsPermutation gone (map its_goroutine old.ready ++ (map its_goroutine (values_of old.parked) ++ old.born))
+  pub all : IsPermutation gone (map its_goroutine old.ready ++ (map its_goroutine (parked_values old.parked) ++ old.born))
   pub begin : Left
   pub own : begin.seat.table_id ≡ old.table
   pub is : (begin.seat.me ≡ old.me) × (begin.shares ≡ old.shares) × (begin.first ≡ old.first) × (begin.is_whole ≡ true)

@@ -8,12 +8,12 @@ module _ {T : Type 0} where
   pairs_of (group ∷ groups) = map (λ value. (group.0, value)) group.1.items ++ pairs_of groups
 
   -- the values that are parked
-  abbrev pub values_of : List (ℕ × T) → List T
-  values_of parked = map (λ p. p.1) parked
+  abbrev pub parked_values : List (ℕ × T) → List T
+  parked_values parked = map (λ p. p.1) parked
 
   -- those that are parked at an address
   abbrev pub values_at : ℕ → List (ℕ × T) → List T
-  values_at at parked = values_of (filter (λ p. at == p.0) parked)
+  values_at at parked = parked_values (filter (λ p. at == p.0) parked)
 
   -- what is parked at other addresses
   abbrev pub elsewhere : ℕ → List (ℕ × T) → List (ℕ × T)
@@ -21,20 +21,20 @@ module _ {T : Type 0} where
 
   -- all values that are parked have come to the end of a list, in some order
   abbrev pub TakesAll : List (ℕ × T) → List T → List T → Type 0
-  TakesAll parked old new = (more : List T) × (new ≡ old ++ more) × IsPermutation (values_of parked) more
+  TakesAll parked old new = (more : List T) × (new ≡ old ++ more) × IsPermutation (parked_values parked) more
 
 -- ---- examples: two values at one address, and one at another
 
-abbrev pub three : List (ℕ × ℕ)
-three = (64, 1) ∷ (72, 2) ∷ (64, 3) ∷ []
+abbrev pub three_parked : List (ℕ × ℕ)
+three_parked = (64, 1) ∷ (72, 2) ∷ (64, 3) ∷ []
 
 pub record ParkingExamples : Type 0 where
-  pub woken : values_at 64 three ≡ 1 ∷ 3 ∷ []
-  pub left : elsewhere 64 three ≡ (72, 2) ∷ []
+  pub woken : values_at 64 three_parked ≡ 1 ∷ 3 ∷ []
+  pub left : elsewhere 64 three_parked ≡ (72, 2) ∷ []
   -- a value is not woken by another address
-  pub apart : values_at 72 three ≡ 1 ∷ 3 ∷ [] → ⊥
+  pub apart : values_at 72 three_parked ≡ 1 ∷ 3 ∷ [] → ⊥
   -- one that is not woken is not lost
-  pub lost : elsewhere 64 three ≡ [] → ⊥
-  pub all : TakesAll three (7 ∷ []) (7 ∷ 3 ∷ 2 ∷ 1 ∷ [])
+  pub lost : elsewhere 64 three_parked ≡ [] → ⊥
+  pub all : TakesAll three_parked (7 ∷ []) (7 ∷ 3 ∷ 2 ∷ 1 ∷ [])
   -- none stays
-  pub some : TakesAll three (7 ∷ []) (7 ∷ 3 ∷ 2 ∷ []) → ⊥
+  pub some : TakesAll three_parked (7 ∷ []) (7 ∷ 3 ∷ 2 ∷ []) → ⊥

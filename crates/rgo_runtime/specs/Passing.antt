@@ -3,20 +3,20 @@ use Rattle.std.specs.List.{All, AllZip, Contains}
 use Rattle.std.specs.Prelude.{◌≡◌, ◌⊎◌, ◌<◌, ◌≤◌, ◌^◌, ◌++◌, ◌∷◌, ℕ, Bool, true, false, List, [], Option, Some, None, length, ⊤}
 use Rattle.rgo_core.specs.Core.{Setup}
 use Rattle.rgo_core.specs.Records.{Record, accesses, looked, steps_of}
-use Rattle.rgo_core.specs.Rule.Views.{Has, Me, number_of, view}
+use Rattle.rgo_core.specs.Rule.Views.{HasRow, Me, number_of, view}
 use Rattle.rgo_core.specs.Rule.Histories.{access}
 use Rattle.rgo_core.specs.Rule.declared.accesses.Kind.TheVariants.{Load}
 use Rattle.rgo_core.specs.Rule.declared.accesses.Access.{Access}
 use Rattle.rgo_sound.specs.Machine.declared.limits.Shortage.{Shortage}
 use Rattle.rgo_sound.specs.Machine.declared.limits.Shortage.TheVariants.{Pages, Regions}
 use Rattle.rgo_table_runs.specs.Goroutine.Acts.Runs.{Run}
-use Rattle.rgo_table_runs.specs.Goroutine.Goroutines.{IsTidy, record_of}
+use Rattle.rgo_table_runs.specs.Goroutine.Goroutines.{IsTidy, record_of_goroutine}
 use Rattle.rgo_table_runs.specs.Goroutine.Turns.{HasTurned}
 use Rattle.rgo_table_runs.specs.Goroutine.declared.goroutine.Goroutine.{Goroutine}
 use Rattle.rgo_table_runs.specs.Goroutine.declared.turning.TableTurnEnd.TheVariants.{Ended, Lost}
 use Rattle.rgo_table_runs.specs.Goroutine.declared.turning.Turned.{Turned}
 use Rattle.rgo_table_runs.specs.passing.Laws.{Tells}
-use Rattle.rgo_table_runs.specs.passing.Turns.{HasPassed, IsKnown}
+use Rattle.rgo_table_runs.specs.passing.Turns.{HasPassed, AccessesAreKnown}
 use Rattle.rgo_runtime.specs.declared.deadlock.Passed.{Passed}
 use Rattle.rgo_runtime.specs.declared.deadlock.Passed.TheVariants.{Lacks, Moved, Still}
 
@@ -31,20 +31,20 @@ IsBehind seen go = length (seen_by go) ≤ length seen
 
 -- these accesses begin with as many of its own as its record counts
 abbrev pub IsKnownBy : Setup → List Access → Goroutine → Type 0
-IsKnownBy T seen go = IsKnown seen (number_of go.actor.seat.me) (accesses (record_of T go))
+IsKnownBy T seen go = AccessesAreKnown seen (number_of go.actor.seat.me) (accesses (record_of_goroutine T go))
 
 -- ---- meetings and looks
 
 -- it has met its driver: only its seat has changed, and its record has not
 pub record HasMet (T : Setup) (old new : Goroutine) : Type 0 where
   pub rest : new ≡ record old { actor = record old.actor { seat = new.actor.seat } }
-  pub its : record_of T new ≡ record_of T old
+  pub its : record_of_goroutine T new ≡ record_of_goroutine T old
   pub number : number_of new.actor.seat.me ≡ number_of old.actor.seat.me
 
 -- it has looked: only its seat has changed, and its record has counted one access
 pub record HasLookedOnce (T : Setup) (old new : Goroutine) : Type 0 where
   pub rest : new ≡ record old { actor = record old.actor { seat = new.actor.seat } }
-  pub its : record_of T new ≡ looked (record_of T old)
+  pub its : record_of_goroutine T new ≡ looked (record_of_goroutine T old)
   pub number : number_of new.actor.seat.me ≡ number_of old.actor.seat.me
 
 -- The goroutine looks between two meetings with its driver, which had seen `before` and has then seen `after`.
@@ -59,14 +59,14 @@ pub record LooksBetween (T : Setup) (before after : List Access) (old new : Goro
 
 -- its record is tidy
 abbrev pub IsTidyIn : Setup → Goroutine → Type 0
-IsTidyIn T go = IsTidy (record_of T go)
+IsTidyIn T go = IsTidy (record_of_goroutine T go)
 
 -- It had a turn of at most one instruction, between two meetings with its driver.
 pub record HasTurnedOnce (r : Run) (old new : Goroutine) (turned : Turned) : Type 0 where
   pub first : Goroutine
   pub last : Goroutine
   pub met : HasMet r.setup old first
-  pub few : steps_of (record_of r.setup old) ≤ 2 ^ 42
+  pub few : steps_of (record_of_goroutine r.setup old) ≤ 2 ^ 42
   pub turns : HasTurned r first last 1 turned
   pub meets : HasMet r.setup last new
 
@@ -102,7 +102,7 @@ TurnComesTo turned (Lacks why) = IsStuck turned (Some why)
 -- It had no turn, since it has made too many instructions to count another.
 pub record HasNoTurn (r : Run) (old new : Goroutine) : Type 0 where
   pub same : new ≡ old
-  pub many : 2 ^ 42 < steps_of (record_of r.setup old)
+  pub many : 2 ^ 42 < steps_of (record_of_goroutine r.setup old)
 
 -- Its turn has come to this. If it had no turn, that counts as moved.
 abbrev pub TurnHasComeTo : Run → Passed → (old new : Goroutine) → Type 0
@@ -114,7 +114,7 @@ TurnHasComeTo r (Lacks why) old new = (turned : Turned) × HasTurnedOnce r old n
 
 -- The goroutine has passed, and lacks this.
 abbrev pub HasPassedWith : Setup → (before seen : List Access) → Goroutine → Option Shortage → Type 0
-HasPassedWith T before seen go lack = HasPassed T before seen (number_of go.actor.seat.me) (record_of T go) lack
+HasPassedWith T before seen go lack = HasPassed T before seen (number_of go.actor.seat.me) (record_of_goroutine T go) lack
 
 -- the same by what its turn has come to
 abbrev pub HasPassedBy : Setup → (before seen : List Access) → Goroutine → Passed → Type 0
@@ -174,7 +174,7 @@ pub record IsPass (r : Run) (me : Me Record) (old new : List Goroutine) (passed 
   pub is : me.0.seen ≡ before ++ since
   pub come : PassComesTo r before me.0.seen looked new passed
   -- of those that had retired, all accesses were known when all had looked
-  pub retired : (g : ℕ) (its : Record) → Has me.0.records g its → IsKnown before g (accesses its)
+  pub retired : (g : ℕ) (its : Record) → HasRow me.0.records g its → AccessesAreKnown before g (accesses its)
 
 -- ---- examples
 
@@ -185,8 +185,8 @@ look = access 1 Load 0 5 5
 pub record PassingExamples : Type 0 where
   pub behind : (go : Goroutine) → seen_by go ≡ look ∷ [] → IsBehind (look ∷ []) go
   pub ahead : (go : Goroutine) → seen_by go ≡ look ∷ [] → IsBehind [] go → ⊥
-  pub known : (T : Setup) (go : Goroutine) → number_of go.actor.seat.me ≡ 1 → accesses (record_of T go) ≡ 1 → IsKnownBy T (look ∷ []) go
-  pub unknown : (T : Setup) (go : Goroutine) → accesses (record_of T go) ≡ 1 → IsKnownBy T [] go → ⊥
+  pub known : (T : Setup) (go : Goroutine) → number_of go.actor.seat.me ≡ 1 → accesses (record_of_goroutine T go) ≡ 1 → IsKnownBy T (look ∷ []) go
+  pub unknown : (T : Setup) (go : Goroutine) → accesses (record_of_goroutine T go) ≡ 1 → IsKnownBy T [] go → ⊥
   pub met : (T : Setup) (go : Goroutine) → HasMet T go go
   -- it has counted a look
   pub not_met : (T : Setup) (old new : Goroutine) → HasLookedOnce T old new → HasMet T old new → ⊥
@@ -212,10 +212,10 @@ pub record PassingExamples : Type 0 where
   pub stays : (r : Run) (go : Goroutine) → MayHaveTurned r go go
   -- its number has changed
   pub not_stays : (r : Run) (old new : Goroutine) → (new.number ≡ old.number → ⊥) → HasNoTurn r old new → ⊥
-  pub counts : (r : Run) (go : Goroutine) → 2 ^ 42 < steps_of (record_of r.setup go) → TurnHasComeTo r Moved go go
+  pub counts : (r : Run) (go : Goroutine) → 2 ^ 42 < steps_of (record_of_goroutine r.setup go) → TurnHasComeTo r Moved go go
   -- it had no turn
   pub not_counts : (r : Run) (go : Goroutine) → TurnHasComeTo r Still go go → ⊥
-  pub none_between : (r : Run) (seen : List Access) (go : Goroutine) → 2 ^ 42 < steps_of (record_of r.setup go) → IsBehind seen go
+  pub none_between : (r : Run) (seen : List Access) (go : Goroutine) → 2 ^ 42 < steps_of (record_of_goroutine r.setup go) → IsBehind seen go
       → TurnsBetween r seen seen go go Moved
   -- its driver has seen less than before
   pub not_later : (r : Run) (old new : Goroutine) (passed : Passed) → TurnsBetween r (look ∷ []) [] old new passed → ⊥

@@ -13,9 +13,9 @@ AreFrom ticket [] = ⊤
 AreFrom ticket (print ∷ prints) = (print.ticket ≡ ticket) × AreFrom (ticket + 1) prints
 
 -- their bytes, one print after the other
-abbrev pub bytes_of : List Print → List ℕ
-bytes_of [] = []
-bytes_of (print ∷ prints) = print.bytes.items ++ bytes_of prints
+abbrev pub bytes_of_prints : List Print → List ℕ
+bytes_of_prints [] = []
+bytes_of_prints (print ∷ prints) = print.bytes.items ++ bytes_of_prints prints
 
 -- Of the prints that waited, those with this ticket and the following ones have gone out in order. None of the others is the next.
 pub record GivesOut
@@ -26,7 +26,7 @@ pub record GivesOut
   pub all : IsPermutation old (given ++ new)
   pub many : next ≡ from + length given
   pub none : All (λ print. print.ticket ≡ next → ⊥) new
-  pub out : Appends before now (bytes_of given)
+  pub out : Appends before now (bytes_of_prints given)
 
 -- The first bytes of such prints have gone out, some or all.
 pub record GivesSome (old : List Print) (from : ℕ) (before now : Option (List ℕ)) : Type 0 where
@@ -35,7 +35,7 @@ pub record GivesSome (old : List Print) (from : ℕ) (before now : Option (List 
   pub rest : List Print
   pub all : IsPermutation old (given ++ rest)
   pub count : ℕ
-  pub out : Appends before now (take count (bytes_of given))
+  pub out : Appends before now (take count (bytes_of_prints given))
 
 -- the piece is an end of the bytes of one of these prints
 abbrev pub IsPieceOf : List Print → List ℕ → Type 0
@@ -47,7 +47,7 @@ pub record PrintingExamples : Type 0 where
   pub turns : (first second : Print) → first.ticket ≡ 7 → second.ticket ≡ 8 → AreFrom 7 (first ∷ second ∷ [])
   pub gap : (first second : Print) → second.ticket ≡ 9 → AreFrom 7 (first ∷ second ∷ []) → ⊥
   pub bytes : (first second : Print) → first.bytes.items ≡ 1 ∷ [] → second.bytes.items ≡ 2 ∷ 3 ∷ []
-      → bytes_of (first ∷ second ∷ []) ≡ 1 ∷ 2 ∷ 3 ∷ []
+      → bytes_of_prints (first ∷ second ∷ []) ≡ 1 ∷ 2 ∷ 3 ∷ []
   pub goes : (first third : Print) → first.ticket ≡ 7 → third.ticket ≡ 9
       → GivesOut (third ∷ first ∷ []) 7 (third ∷ []) 8 (Some []) (Some (first.bytes.items ++ []))
   -- the next print does not wait

@@ -15,12 +15,12 @@ use Rattle.rgo_sound.specs.Machine.declared.ends.RunEnd.TheVariants as run_end
 use Rattle.rgo_table_runs.specs.Goroutine.Acts.declared.prints.Print.{Print}
 use Rattle.rgo_sound.specs.Machine.declared.limits.Sizes.{Sizes}
 use Rattle.rgo_sound.specs.Machine.declared.picks.End.TheVariants.{Exit}
-use Rattle.rgo_table_runs.specs.closing.Ends.{end_of}
-use Rattle.rgo_table_runs.specs.closing.Gathering.{IsIn}
+use Rattle.rgo_table_runs.specs.closing.Ends.{run_end_of_mark}
+use Rattle.rgo_table_runs.specs.closing.Gathering.{IsDrawnIn}
 use Rattle.rgo_table_runs.specs.closing.Members.{NoneIsLost}
 use Rattle.rgo_table_runs.specs.closing.Prints.{bytes_of}
 use Rattle.rgo_runtime.specs.Closing.{AreInOrder}
-use Rattle.rgo_runtime.specs.Crew.{Crew, HasPassedAll, all_members}
+use Rattle.rgo_runtime.specs.Crew.{Crew, HasPassedAll, crew_members}
 use Rattle.rgo_runtime.specs.Crews.{drawn}
 use Rattle.rgo_runtime.specs.declared.deadlock.Passed.TheVariants.{Lacks, Moved, Still}
 use Rattle.rgo_runtime.specs.declared.runs.Why.{Why}
@@ -37,7 +37,7 @@ sizes_with sizes variables = record {
 
 -- These prints have gone out since the sink held `old`, whole and in order; the others wait, and none is lost.
 pub record HasGiven (c : Crew) (given : List Drawn) (old now : Option (List ℕ)) : Type 0 where
-  pub none_lost : NoneIsLost (all_members c) (given ++ drawn c.waiting)
+  pub none_lost : NoneIsLost (crew_members c) (given ++ drawn c.waiting)
   pub turns : AreInOrder given
   pub next : c.next ≡ length given
   pub out : Appends old now (bytes_of given)
@@ -45,7 +45,7 @@ pub record HasGiven (c : Crew) (given : List Drawn) (old now : Option (List ℕ)
 -- Of these prints, which come in order, the first bytes have gone out, some or all. None of them and of the rest is lost.
 pub record HasGivenSome (c : Crew) (given : List Drawn) (old now : Option (List ℕ)) : Type 0 where
   pub rest : List Drawn
-  pub none_lost : NoneIsLost (all_members c) (given ++ rest)
+  pub none_lost : NoneIsLost (crew_members c) (given ++ rest)
   pub turns : AreInOrder given
   pub out : AppendsSome old now (bytes_of given)
 
@@ -56,7 +56,7 @@ CrewContinues before was after now = (old : Option (List ℕ)) (given : List Dra
 
 -- no print that waits could go out
 abbrev pub NoneIsNext : Crew → Type 0
-NoneIsNext c = (d : Drawn) → IsIn (drawn c.waiting) d → d.ticket ≡ c.next → ⊥
+NoneIsNext c = (d : Drawn) → IsDrawnIn (drawn c.waiting) d → d.ticket ≡ c.next → ⊥
 
 -- what the driver knows when it ends a run for this reason
 abbrev pub DriverKnows : Crew → Why → Type 0
@@ -99,7 +99,7 @@ unmarked_end Write made most = run_end.NoMemory
 -- the same by the mark that a goroutine has set, if nothing is lost of the goroutines; or else memory was refused
 abbrev pub settled_end : (whole : Bool) → Option Mark → (unmarked : RunEnd) → RunEnd
 settled_end false first unmarked = run_end.NoMemory
-settled_end true (Some mark) unmarked = end_of (mark_of mark)
+settled_end true (Some mark) unmarked = run_end_of_mark (mark_of mark)
 settled_end true None unmarked = unmarked
 
 -- how a run has ended
@@ -113,11 +113,11 @@ end_by (Stuck passed) whole first made most = settled_end whole first (unmarked_
 -- ---- examples
 
 -- one goroutine has executed this many instructions
-abbrev pub alone : ℕ → Counts
-alone steps = record no_share { steps = steps; goroutines = 1 }
+abbrev pub counts_of_one : ℕ → Counts
+counts_of_one steps = record no_share { steps = steps; goroutines = 1 }
 
 pub record RunExamples : Type 0 where
-  pub begins : (c : Crew) (old : Option (List ℕ)) → NoneIsLost (all_members c) [] → c.waiting ≡ [] → c.next ≡ 0 → HasGiven c [] old old
+  pub begins : (c : Crew) (old : Option (List ℕ)) → NoneIsLost (crew_members c) [] → c.waiting ≡ [] → c.next ≡ 0 → HasGiven c [] old old
   -- a print has gone out that the driver has not counted
   pub uncounted : (c : Crew) (d : Drawn) (old now : Option (List ℕ)) → c.next ≡ 0 → HasGiven c (d ∷ []) old now → ⊥
   -- the second print has gone out before the first
@@ -127,17 +127,17 @@ pub record RunExamples : Type 0 where
   pub none_waits : (c : Crew) → c.waiting ≡ [] → NoneIsNext c
   -- the first that waits could go out
   pub one_waits : (c : Crew) (print : Print) → c.waiting ≡ print ∷ [] → print.ticket ≡ c.next → NoneIsNext c → ⊥
-  pub deadlock : end_by (Stuck Still) true None (alone 5) 9 ≡ run_end.Deadlock
+  pub deadlock : end_by (Stuck Still) true None (counts_of_one 5) 9 ≡ run_end.Deadlock
   -- memory was refused when goroutines left
-  pub lost : end_by (Stuck Still) false None (alone 5) 9 ≡ run_end.NoMemory
+  pub lost : end_by (Stuck Still) false None (counts_of_one 5) 9 ≡ run_end.NoMemory
   -- the mark of a goroutine goes before what the driver has found
-  pub exited : end_by (Stuck Still) true (Some (clock.Ended Exit)) (alone 5) 9 ≡ run_end.Ended Exit
-  pub spent : end_by Steps true None (alone 1008) 9 ≡ run_end.StepsSpent
-  pub unspent : end_by Steps true None (alone 8) 9 ≡ run_end.StepsSpent → ⊥
+  pub exited : end_by (Stuck Still) true (Some (clock.Ended Exit)) (counts_of_one 5) 9 ≡ run_end.Ended Exit
+  pub spent : end_by Steps true None (counts_of_one 1008) 9 ≡ run_end.StepsSpent
+  pub unspent : end_by Steps true None (counts_of_one 8) 9 ≡ run_end.StepsSpent → ⊥
   -- too many instructions were executed after the limit
-  pub overspent : end_by Steps true None (alone 1009) 9 ≡ run_end.StepsSpent → ⊥
+  pub overspent : end_by Steps true None (counts_of_one 1009) 9 ≡ run_end.StepsSpent → ⊥
   -- a failed write goes before all
-  pub failed : end_by Write true (Some (clock.Ended Exit)) (alone 9) 9 ≡ run_end.WriteFault
+  pub failed : end_by Write true (Some (clock.Ended Exit)) (counts_of_one 9) 9 ≡ run_end.WriteFault
   pub broke : FailsIf ⊤ 0 1 true
   -- a write failed, but the run does not say so
   pub hidden : FailsIf ⊥ 0 1 true → ⊥

@@ -2,7 +2,7 @@
 use Rattle.std.specs.Prelude.{◌≡◌, ◌+◌, ◌<◌, ℕ, Bool, Option, None, Some}
 use Rattle.rgo_core.specs.Records.{steps_of}
 use Rattle.rgo_table_runs.specs.Goroutine.Acts.Runs.{Run}
-use Rattle.rgo_table_runs.specs.Goroutine.Goroutines.{IsOf, IsTidy, record_of}
+use Rattle.rgo_table_runs.specs.Goroutine.Goroutines.{IsOf, IsTidy, record_of_goroutine}
 use Rattle.rgo_table_runs.specs.Goroutine.Instructions.{TableHasPages}
 use Rattle.rgo_table_runs.specs.Goroutine.Turns.{HasTurned}
 use Rattle.rgo_table_runs.specs.Goroutine.declared.goroutine.Goroutine.{Goroutine}
@@ -23,9 +23,9 @@ first_turn r go = record { run = r; goroutine = go; slice = 0; turned = None }
 -- the goroutine is of the run and at rest, and may have its turn
 pub record CanTurn (t : Turn) : Type 0 where
   pub of : IsOf t.run t.goroutine
-  pub tidy : IsTidy (record_of t.run.setup t.goroutine)
+  pub tidy : IsTidy (record_of_goroutine t.run.setup t.goroutine)
   pub pages : TableHasPages t.run
-  pub few : steps_of (record_of t.run.setup t.goroutine) + t.slice < 8796093022208
+  pub few : steps_of (record_of_goroutine t.run.setup t.goroutine) + t.slice < 8796093022208
 
 -- It has had its turn, and says whether anything may have moved. It has no other one before it is given instructions again.
 pub record TurnIsTaken (before after : Turn) (went : Bool) : Type 0 where

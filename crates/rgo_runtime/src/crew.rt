@@ -10,7 +10,7 @@ ghost use Rattle.std.specs.Prelude.{◌≡◌, ◌≤◌, ◌<◌, ◌+◌, ◌�
 ghost use Rattle.rgo_runtime.specs.Crew as spec;
 ghost use Rattle.std.specs.List.{All, AllZip};
 ghost use Rattle.rgo_core.specs.Core.{IsPossible};
-ghost use Rattle.rgo_core.specs.Opening.{first_of};
+ghost use Rattle.rgo_core.specs.runs.Opening.{first_of};
 ghost use Rattle.rgo_core.specs.Memory.Words.{clock_at};
 ghost use Rattle.rgo_core.specs.Rule.Views.{view};
 ghost use Rattle.rgo_core_steps.specs.Seats.{IsSeatOf};
@@ -20,8 +20,8 @@ ghost use Rattle.rgo_table_runs.specs.Goroutine.declared.turning.TableTurnEnd.Th
 ghost use Rattle.rgo_outside.specs.Causes.{HasCause};
 ghost use Rattle.rgo_outside.specs.Pieces.{AddsOnly};
 ghost use Rattle.rgo_runtime.specs.Boxes.{in_boxes};
-ghost use Rattle.rgo_runtime.specs.Crew.{HasPassedAll, KeepsAll, WholeCrewExamples, all_members};
-ghost use Rattle.rgo_runtime.specs.Crews.{HaveTurned, IsGiven, IsOfCrew, MayTurn, its_goroutine, AreRetired, marked};
+ghost use Rattle.rgo_runtime.specs.Crew.{HasPassedAll, KeepsAll, WholeCrewExamples, crew_members};
+ghost use Rattle.rgo_runtime.specs.Crews.{HaveTurned, IsGivenSlice, IsOfCrew, MayTurn, its_goroutine, AreRetired, end_mark};
 ghost use Rattle.rgo_runtime.specs.Leaving.{HaveAllLeft, turn_row};
 ghost use Rattle.rgo_runtime.specs.Printing.{GivesOut, GivesSome, IsPieceOf};
 ghost use Rattle.rgo_runtime.specs.Turns as turns;
@@ -275,7 +275,7 @@ impl<'r, 'c> Crew<'r, 'c> {
     /// Gives each goroutine of the run queue a time slice: its next turn may execute up to this many instructions.
     fn set_time_slices(&mut self, slice: u32)
         ensures kept { KeepsAll self.old self.new }
-        ensures given { AllZip (IsGiven slice) self.old.ready self.new.ready }
+        ensures given { AllZip (IsGivenSlice slice) self.old.ready self.new.ready }
         ensures run { self.new.run ≡ self.old.run }
         ensures next { self.new.next ≡ self.old.next }
     {
@@ -550,7 +550,7 @@ impl<'r, 'c> Crew<'r, 'c> {
     /// On allocation failure.
     pub fn snapshot(&self) -> Result<Snapshot, AllocError>
         ensures { IfOk result (λ snapshot. AreRetired (self.now.me.0.records ++ map (turn_row self.now.run.setup) self.now.ready)
-            snapshot.shares (marked snapshot.first)) }
+            snapshot.shares (end_mark snapshot.first)) }
     {
         let mut snapshot = Snapshot {
             shares: self.shares.copy(self.alloc)?,
@@ -566,7 +566,7 @@ impl<'r, 'c> Crew<'r, 'c> {
     pub fn retire_all(self) -> Left
         ensures left { HaveAllLeft self.entry result }
         ensures crew { spec.IsRunCrew self.entry }
-        ensures retired { AreRetired result.seat.me.0.records result.shares (marked result.first) }
+        ensures retired { AreRetired result.seat.me.0.records result.shares (end_mark result.first) }
     {
         let Crew {
             run,
@@ -624,7 +624,7 @@ impl<'r, 'c> Crew<'r, 'c> {
         requires first { seat.me ≡ (view ((0, first_of run.now.setup.code) ∷ []) [], []) }
         requires possible { IsPossible run.now.setup 0 (first_of run.now.setup.code) }
         requires pages { TableHasPages run.now }
-        ensures begun { IfOk result (λ c. (c.run ≡ run.now) × (c.waiting ≡ []) × (c.next ≡ 0) × NoneIsLost (all_members c) []) }
+        ensures begun { IfOk result (λ c. (c.run ≡ run.now) × (c.waiting ≡ []) × (c.next ≡ 0) × NoneIsLost (crew_members c) []) }
         ensures back { IfErr result (λ s. (s.table_id ≡ seat.table_id) × (s.me ≡ seat.me)) }
     {
         let mut shares = Shares::new(alloc);

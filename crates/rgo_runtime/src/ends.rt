@@ -22,7 +22,7 @@ fn end_of_limit(limit: Limit) -> RunEnd
 
 /// The end of a run whose mark this is.
 pub fn end_of(mark: Mark) -> RunEnd
-    ensures { result ≡ spec.end_of (mark_of mark) }
+    ensures { result ≡ spec.run_end_of_mark (mark_of mark) }
 {
     match mark {
         Mark::Ended(end) => RunEnd::Ended(end),

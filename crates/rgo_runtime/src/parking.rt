@@ -7,7 +7,7 @@
 //! there until the next `unpark` of its address, whatever workers do.
 ghost use Rattle.std.specs.Prelude.{◌≡◌, ◌==◌, ◌++◌, ◌∷◌, [], ◌<◌, ◌≤◌, ◌-◌, IfErr, IfOk, IsPermutation, MatchOption, None, OnErr, OnOk, length, nat_eq, vec_capacity, vec_len};
 ghost use Rattle.indexmap.specs.IndexMap.{get};
-ghost use Rattle.rgo_runtime.specs.Parking.{ParkingExamples, TakesAll, elsewhere, pairs_of, values_at, values_of};
+ghost use Rattle.rgo_runtime.specs.Parking.{ParkingExamples, TakesAll, elsewhere, pairs_of, values_at, parked_values};
 
 use indexmap::IndexMap;
 use std::alloc::{AllocError, AllocFailed, Global};
@@ -216,7 +216,7 @@ impl<T: Drop> Parked<T> {
     /// Takes the goroutines that are parked at some address, at least one, the oldest first; `None` if none is parked.
     pub fn pop(&mut self) -> Option<Vec<T>>
         ensures some { MatchOption result (self.old ≡ []) (λ group. 0 < length group.items) }
-        ensures rest { MatchOption result (self.new ≡ []) (λ group. values_of self.old ≡ values_of self.new ++ group.items) }
+        ensures rest { MatchOption result (self.new ≡ []) (λ group. parked_values self.old ≡ parked_values self.new ++ group.items) }
     {
         while let Some((_, group)) = self.groups.pop() {
             if !group.is_empty() {

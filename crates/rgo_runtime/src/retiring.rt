@@ -12,10 +12,10 @@ ghost use Rattle.rgo_core.specs.Memory.Words.{clock_at};
 ghost use Rattle.rgo_core.specs.Rule.Passes.{after_pass};
 ghost use Rattle.rgo_core.specs.Rule.Views.{longer};
 ghost use Rattle.rgo_core_steps.specs.Seats.{IsSeatOf};
-ghost use Rattle.rgo_table_runs.specs.Goroutine.Goroutines.{IsOf, IsTidy, all_seen, record_of, rows};
-ghost use Rattle.rgo_runtime.specs.Crews.{AreRetired, CrewExamples, IsNewborn, IsOfCrew, Keeps, KeepsMembers, its_goroutine, marked, member_of};
+ghost use Rattle.rgo_table_runs.specs.Goroutine.Goroutines.{IsOf, IsTidy, all_seen, record_of_goroutine, rows_of_children};
+ghost use Rattle.rgo_runtime.specs.Crews.{AreRetired, CrewExamples, IsNewborn, IsOfCrew, DriverKeeps, KeepsMembers, its_goroutine, end_mark, member_of};
 ghost use Rattle.rgo_runtime.specs.Leaving.{HaveLeft, LeavingExamples};
-ghost use Rattle.rgo_runtime.specs.Parking.{values_of};
+ghost use Rattle.rgo_runtime.specs.Parking.{parked_values};
 ghost use Rattle.rgo_table_runs.specs.Goroutine.declared.goroutine.Goroutine.{Goroutine};
 ghost use Rattle.rgo_sound.specs.Tally.{no_share};
 ghost use Rattle.rgo_table_runs.specs.closing.Members.{retired};
@@ -31,7 +31,7 @@ use rgo_table_runs::goroutine::goroutine::Goroutine;
 /// Puts what the goroutine has counted at its place, and records how it has ended the run, if it has. Exact between two of its turns.
 pub(crate) fn save_counts(goroutine: &Goroutine, shares: &mut Shares, first: &mut Option<Mark>)
     ensures share { (r : runs.Run) → IsOf r goroutine.now → shares.new
-        ≡ slice_set shares.old goroutine.now.number (record_of r.setup goroutine.now).clock.share }
+        ≡ slice_set shares.old goroutine.now.number (record_of_goroutine r.setup goroutine.now).clock.share }
     ensures first { MatchOption goroutine.now.first (first.new ≡ first.old) (λ mark. first.new ≡ Some mark) }
 {
     if let Some(mark) = goroutine.first() {
@@ -49,7 +49,7 @@ pub fn retire(
     first: &mut Option<Mark>,
 )
     requires of { IsOf run.now goroutine }
-    requires tidy { IsTidy (record_of run.now.setup goroutine) }
+    requires tidy { IsTidy (record_of_goroutine run.now.setup goroutine) }
     requires gathered { goroutine.prints.items ≡ [] }
     requires adopted { goroutine.children.items ≡ [] }
     requires place { goroutine.number < length shares.old }
@@ -57,11 +57,11 @@ pub fn retire(
     ensures own { (seat.new.table_id ≡ seat.old.table_id) × (seat.new.me.1 ≡ seat.old.me.1) }
     ensures places { length shares.new ≡ length shares.old }
     ensures records { seat.new.me.0.records
-        ≡ seat.old.me.0.records ++ (goroutine.number, record_of run.now.setup goroutine) ∷ [] }
+        ≡ seat.old.me.0.records ++ (goroutine.number, record_of_goroutine run.now.setup goroutine) ∷ [] }
     ensures seen { seat.new.me.0.seen ≡ longer seat.old.me.0.seen goroutine.actor.seat.me.0.seen }
-    ensures retired { AreRetired seat.old.me.0.records shares.old (marked first.old)
-        → AreRetired seat.new.me.0.records shares.new (marked first.new) }
-    ensures kept { Keeps (member_of run.now.setup goroutine ∷ map retired seat.old.me.0.records) []
+    ensures retired { AreRetired seat.old.me.0.records shares.old (end_mark first.old)
+        → AreRetired seat.new.me.0.records shares.new (end_mark first.new) }
+    ensures kept { DriverKeeps (member_of run.now.setup goroutine ∷ map retired seat.old.me.0.records) []
         (map retired seat.new.me.0.records) [] }
 {
     save_counts(&goroutine, shares, first);
@@ -79,18 +79,18 @@ pub fn give_up(
     first: &mut Option<Mark>,
 )
     requires of { IsOf run.now goroutine }
-    requires tidy { IsTidy (record_of run.now.setup goroutine) }
+    requires tidy { IsTidy (record_of_goroutine run.now.setup goroutine) }
     requires place { (goroutine.number < length shares.old)
-        ⊎ ((record_of run.now.setup goroutine).clock.share ≡ no_share) }
+        ⊎ ((record_of_goroutine run.now.setup goroutine).clock.share ≡ no_share) }
     requires own { IsSeatOf seat.old.table_id run.now.table clock_at }
     ensures own { (seat.new.table_id ≡ seat.old.table_id) × (seat.new.me.1 ≡ seat.old.me.1) }
     ensures places { length shares.new ≡ length shares.old }
     ensures records { seat.new.me.0.records ≡ seat.old.me.0.records
-        ++ (goroutine.number, record_of run.now.setup goroutine) ∷ rows run.now.setup goroutine.children.items }
+        ++ (goroutine.number, record_of_goroutine run.now.setup goroutine) ∷ rows_of_children run.now.setup goroutine.children.items }
     ensures seen { seat.new.me.0.seen
         ≡ after_pass (longer seat.old.me.0.seen goroutine.actor.seat.me.0.seen) (all_seen goroutine.children.items) }
-    ensures retired { AreRetired seat.old.me.0.records shares.old (marked first.old)
-        → AreRetired seat.new.me.0.records shares.new (marked first.new) }
+    ensures retired { AreRetired seat.old.me.0.records shares.old (end_mark first.old)
+        → AreRetired seat.new.me.0.records shares.new (end_mark first.new) }
     ensures kept { KeepsMembers (member_of run.now.setup goroutine ∷ map retired seat.old.me.0.records)
         (map retired seat.new.me.0.records) }
 {
@@ -122,9 +122,9 @@ pub struct Left {
 /// is given up.
 pub(crate) fn retire_or_give_up(run: &Run<'_, '_>, goroutine: Goroutine, left: &mut Left)
     requires of { IsOf run.now goroutine }
-    requires tidy { IsTidy (record_of run.now.setup goroutine) }
+    requires tidy { IsTidy (record_of_goroutine run.now.setup goroutine) }
     requires place { (goroutine.number < length left.old.shares)
-        ⊎ ((record_of run.now.setup goroutine).clock.share ≡ no_share) }
+        ⊎ ((record_of_goroutine run.now.setup goroutine).clock.share ≡ no_share) }
     requires own { IsSeatOf left.old.seat.table_id run.now.table clock_at }
     ensures { HaveLeft run.now.setup (goroutine ∷ []) left.old left.new }
 {
@@ -170,9 +170,9 @@ pub(crate) fn retire_parked<'r, 'c>(
     mut parked: Parked<Turn<'r, 'c>>,
     left: &mut Left,
 )
-    requires all { All (IsOfCrew run.now (length left.old.shares)) (values_of parked) }
+    requires all { All (IsOfCrew run.now (length left.old.shares)) (parked_values parked) }
     requires own { IsSeatOf left.old.seat.table_id run.now.table clock_at }
-    ensures { (gone : List Goroutine) × IsPermutation gone (map its_goroutine (values_of parked.entry))
+    ensures { (gone : List Goroutine) × IsPermutation gone (map its_goroutine (parked_values parked.entry))
         × HaveLeft run.now.setup gone left.old left.new }
 {
     while let Some(group) = parked.pop() {

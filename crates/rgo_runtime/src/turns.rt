@@ -6,10 +6,10 @@
 ghost use Rattle.std.specs.Prelude.{◌≡◌, ◌+◌, ◌∷◌, ◌<◌, ◌≤◌, [], None, OnOk, Some};
 ghost use Rattle.std.specs.List.{All};
 ghost use Rattle.rgo_core.specs.Records.{steps_of};
-ghost use Rattle.rgo_table_runs.specs.Goroutine.Goroutines.{IsOf, IsTidy, record_of};
+ghost use Rattle.rgo_table_runs.specs.Goroutine.Goroutines.{IsOf, IsTidy, record_of_goroutine};
 ghost use Rattle.rgo_table_runs.specs.Goroutine.Instructions.{TableHasPages};
 ghost use Rattle.rgo_table_runs.specs.Goroutine.Turns.{HasTurned};
-ghost use Rattle.rgo_runtime.specs.Crews.{IsNewborn, Keeps, drawn, its_member, members};
+ghost use Rattle.rgo_runtime.specs.Crews.{IsNewborn, DriverKeeps, drawn, its_member, members};
 ghost use Rattle.rgo_runtime.specs.Turns as spec;
 
 use rgo_core_steps::counting::Steps;
@@ -58,9 +58,9 @@ impl<'r, 'c> Turn<'r, 'c> {
     /// A goroutine that has had no turn yet. Its next one may execute no instruction, until it is given some.
     pub fn new(alloc: Global, run: &'r Run<'r, 'c>, goroutine: Box<Goroutine>) -> Turn<'r, 'c>
         requires of { IsOf run.now goroutine.value }
-        requires tidy { IsTidy (record_of run.now.setup goroutine.value) }
+        requires tidy { IsTidy (record_of_goroutine run.now.setup goroutine.value) }
         requires pages { TableHasPages run.now }
-        requires few { steps_of (record_of run.now.setup goroutine.value) < 8796093022208 }
+        requires few { steps_of (record_of_goroutine run.now.setup goroutine.value) < 8796093022208 }
         ensures { result ≡ spec.first_turn run.now goroutine.value }
     {
         Turn {
@@ -95,7 +95,7 @@ impl<'r, 'c> Turn<'r, 'c> {
 
     pub fn goroutine(&self) -> &Goroutine
         ensures of { IsOf self.now.run result.now }
-        ensures tidy { IsTidy (record_of self.now.run.setup result.now) }
+        ensures tidy { IsTidy (record_of_goroutine self.now.run.setup result.now) }
         ensures same { result.now ≡ self.now.goroutine }
     {
         self.goroutine.as_ref()
@@ -116,7 +116,7 @@ impl<'r, 'c> Turn<'r, 'c> {
         ensures number { self.new.goroutine.number ≡ self.old.goroutine.number }
         ensures actor { self.new.goroutine.actor ≡ self.old.goroutine.actor }
         ensures born { All (IsNewborn self.old.run) born.new.items }
-        ensures kept { Keeps (its_member self.old ∷ members self.old.run.setup born.old.items) (drawn waiting.old.items)
+        ensures kept { DriverKeeps (its_member self.old ∷ members self.old.run.setup born.old.items) (drawn waiting.old.items)
             (its_member self.new ∷ members self.old.run.setup born.new.items) (drawn waiting.new.items) }
         ensures done { OnOk result ((self.new.goroutine.prints.items ≡ []) × (self.new.goroutine.children.items ≡ [])) }
     {
@@ -129,8 +129,8 @@ impl<'r, 'c> Turn<'r, 'c> {
     /// The goroutine in its box.
     pub fn into_box(self) -> Box<Goroutine>
         ensures of { IsOf self.entry.run result.value }
-        ensures tidy { IsTidy (record_of self.entry.run.setup result.value) }
-        ensures few { steps_of (record_of self.entry.run.setup result.value) < 8796093022208 }
+        ensures tidy { IsTidy (record_of_goroutine self.entry.run.setup result.value) }
+        ensures few { steps_of (record_of_goroutine self.entry.run.setup result.value) < 8796093022208 }
         ensures same { result.value ≡ self.entry.goroutine }
     {
         let Turn {
@@ -146,8 +146,8 @@ impl<'r, 'c> Turn<'r, 'c> {
     /// The goroutine, which has no more turns.
     pub fn into_goroutine(self) -> Goroutine
         ensures of { IsOf self.entry.run result }
-        ensures tidy { IsTidy (record_of self.entry.run.setup result) }
-        ensures few { steps_of (record_of self.entry.run.setup result) < 8796093022208 }
+        ensures tidy { IsTidy (record_of_goroutine self.entry.run.setup result) }
+        ensures few { steps_of (record_of_goroutine self.entry.run.setup result) < 8796093022208 }
         ensures same { result ≡ self.entry.goroutine }
     {
         Box::into_inner(self.into_box())
@@ -164,11 +164,11 @@ fn turn_counted<L: Ledger>(
 ) -> Turned
     requires of { IsOf run.now goroutine.old }
     requires pages { TableHasPages run.now }
-    requires few { steps_of (record_of run.now.setup goroutine.old) + slice < 8796093022208 }
+    requires few { steps_of (record_of_goroutine run.now.setup goroutine.old) + slice < 8796093022208 }
     requires name { blank.name ≡ L.name }
     requires parts { (blank.parts ≡ L.parts) × (0 < blank.parts) }
     ensures of { IsOf run.now goroutine.new }
-    ensures tidy { IsTidy (record_of run.now.setup goroutine.new) }
+    ensures tidy { IsTidy (record_of_goroutine run.now.setup goroutine.new) }
     ensures turned { HasTurned run.now goroutine.old goroutine.new slice result }
 {
     goroutine.turn(alloc, run, slice, &mut Steps::<L>::new(blank))
@@ -178,9 +178,9 @@ fn turn_counted<L: Ledger>(
 fn turn_once(alloc: Global, run: &Run<'_, '_>, goroutine: &mut Goroutine, slice: u32) -> Turned
     requires of { IsOf run.now goroutine.old }
     requires pages { TableHasPages run.now }
-    requires few { steps_of (record_of run.now.setup goroutine.old) + slice < 8796093022208 }
+    requires few { steps_of (record_of_goroutine run.now.setup goroutine.old) + slice < 8796093022208 }
     ensures of { IsOf run.now goroutine.new }
-    ensures tidy { IsTidy (record_of run.now.setup goroutine.new) }
+    ensures tidy { IsTidy (record_of_goroutine run.now.setup goroutine.new) }
     ensures turned { HasTurned run.now goroutine.old goroutine.new slice result }
 {
     turn_counted::<Brand>(alloc, run, goroutine, slice, Blank::new(1))

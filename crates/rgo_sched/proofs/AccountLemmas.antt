@@ -7,22 +7,22 @@ use Rattle.atomic_table.proofs.Lists.{at_set}
 use Rattle.crossbeam_deque.proofs.Lists.{at_snoc}
 use Rattle.crossbeam_deque.specs.Tasks.{Takes, Pushes, Forks, Merges, Finds}
 use Rattle.rgo_sched.specs.declared.accounts.Account.{Account}
-use Rattle.rgo_sched.specs.Accounts.{Balanced, IdleIsEmpty, Put, Took, account, total}
+use Rattle.rgo_sched.specs.Accounts.{Balanced, IdleIsEmpty, Put, Took, account, total_weight}
 
-pub total-append : {A : Type 0} (f : A → ℕ) (xs ys : List A) → total f (xs ++ ys) ≡ total f xs + total f ys
+pub total-append : {A : Type 0} (f : A → ℕ) (xs ys : List A) → total_weight f (xs ++ ys) ≡ total_weight f xs + total_weight f ys
 total-append f [] ys = omega arith
 total-append f (x ∷ xs) ys = let h = total-append f xs ys in omega arith
 
-pub total_one : (xs : List ℕ) → total (λ _. 1) xs ≡ length xs
+pub total_one : (xs : List ℕ) → total_weight (λ _. 1) xs ≡ length xs
 total_one [] = refl
 total_one (x ∷ xs) = let h = total_one xs in omega arith
 
-pub total_set : {A : Type 0} (f : A → ℕ) (xs : List A) (g : ℕ) (c d : A) → get_elem? xs g ≡ some c → total f (set xs g d) + f c ≡ total f xs + f d
+pub total_set : {A : Type 0} (f : A → ℕ) (xs : List A) (g : ℕ) (c d : A) → get_elem? xs g ≡ some c → total_weight f (set xs g d) + f c ≡ total_weight f xs + f d
 total_set f [] g c d e = absurd (some-ne-none c (sym e))
 total_set f (x ∷ xs) zero c d e = let h : f x ≡ f c = ap f (some-injective x c e) in omega arith
 total_set f (x ∷ xs) (suc g) c d e = let h = total_set f xs g c d e in omega arith
 
-one_of_total : {A : Type 0} (f : A → ℕ) (xs : List A) (g : ℕ) (c : A) → get_elem? xs g ≡ some c → f c ≤ total f xs
+one_of_total : {A : Type 0} (f : A → ℕ) (xs : List A) (g : ℕ) (c : A) → get_elem? xs g ≡ some c → f c ≤ total_weight f xs
 one_of_total f [] g c e = absurd (some-ne-none c (sym e))
 one_of_total f (x ∷ xs) zero c e = let h : f x ≡ f c = ap f (some-injective x c e) in omega arith
 one_of_total f (x ∷ xs) (suc g) c e = let h = one_of_total f xs g c e in omega arith
@@ -30,30 +30,30 @@ one_of_total f (x ∷ xs) (suc g) c e = let h = one_of_total f xs g c e in omega
 abbrev Idle : (Account → ℕ) → List Account → Type 0
 Idle f views = (port : ℕ) (v : Account) → get_elem? views port ≡ some v → v.parts ≡ 0 → f v ≡ 0
 
-none_left : (f : Account → ℕ) (views : List Account) → Idle f views → total (λ v. v.parts) views ≡ 0 → total f views ≡ 0
+none_left : (f : Account → ℕ) (views : List Account) → Idle f views → total_weight (λ v. v.parts) views ≡ 0 → total_weight f views ≡ 0
 none_left f [] idle e = refl
 none_left f (x ∷ xs) idle e = let a : f x ≡ 0 = idle zero x refl (omega arith) in let b = none_left f xs (λ j u h. idle (suc j) u h) (omega arith) in omega arith
 
 -- who has all parts has all
-lone : (f : Account → ℕ) (views : List Account) (port : ℕ) (v : Account) → Idle f views → get_elem? views port ≡ some v → total (λ v. v.parts) views ≡ v.parts → total f views ≡ f v
+lone : (f : Account → ℕ) (views : List Account) (port : ℕ) (v : Account) → Idle f views → get_elem? views port ≡ some v → total_weight (λ v. v.parts) views ≡ v.parts → total_weight f views ≡ f v
 lone f [] port v idle at e = absurd (some-ne-none v (sym at))
 lone f (x ∷ xs) zero v idle at e = let p : x.parts ≡ v.parts = ap (λ (y : Account). y.parts) (some-injective x v at) in let h : f x ≡ f v = ap f (some-injective x v at) in
     let b = none_left f xs (λ j u k. idle (suc j) u k) (omega arith) in omega arith
 lone f (x ∷ xs) (suc port) v idle at e = let m = one_of_total (λ (y : Account). y.parts) xs port v at in let a : f x ≡ 0 = idle zero x refl (omega arith) in
     let b = lone f xs port v (λ j u k. idle (suc j) u k) at (omega arith) in omega arith
 
-idle_put : (w : ℕ → ℕ) (views : List Account) → IdleIsEmpty views → Idle (λ v. total w v.put) views
-idle_put w views idle port v at e = ap (total w) (idle port v at e).0
+idle_put : (w : ℕ → ℕ) (views : List Account) → IdleIsEmpty views → Idle (λ v. total_weight w v.put) views
+idle_put w views idle port v at e = ap (total_weight w) (idle port v at e).0
 
-idle_taken : (w : ℕ → ℕ) (views : List Account) → IdleIsEmpty views → Idle (λ v. total w v.taken) views
-idle_taken w views idle port v at e = ap (total w) (idle port v at e).1
+idle_taken : (w : ℕ → ℕ) (views : List Account) → IdleIsEmpty views → Idle (λ v. total_weight w v.taken) views
+idle_taken w views idle port v at e = ap (total_weight w) (idle port v at e).1
 
 -- with all parts, what was put is what was taken and what the deque holds
-pub all_even : (port : ℕ) (v : Account) (items : List ℕ) (views : List Account) → get_elem? views port ≡ some v → v.parts ≡ 128 → Balanced items views → (w : ℕ → ℕ) → total w v.put ≡ total w v.taken + total w items
+pub all_even : (port : ℕ) (v : Account) (items : List ℕ) (views : List Account) → get_elem? views port ≡ some v → v.parts ≡ 128 → Balanced items views → (w : ℕ → ℕ) → total_weight w v.put ≡ total_weight w v.taken + total_weight w items
 all_even port v items views at all k w =
     let h = k.even w in let e = k.whole in
-    let a = lone (λ v. total w v.put) views port v (idle_put w views k.idle) at (omega arith) in
-    let b = lone (λ v. total w v.taken) views port v (idle_taken w views k.idle) at (omega arith) in
+    let a = lone (λ v. total_weight w v.put) views port v (idle_put w views k.idle) at (omega arith) in
+    let b = lone (λ v. total_weight w v.taken) views port v (idle_taken w views k.idle) at (omega arith) in
     omega arith
 
 idle_set : (views : List Account) (port : ℕ) (w : Account) → (w.parts ≡ 0 → (w.put ≡ []) × (w.taken ≡ [])) → IdleIsEmpty views → IdleIsEmpty (set views port w)
@@ -81,8 +81,8 @@ takes_even : (port : ℕ) (v : Account) (xs items : List ℕ) (views : List Acco
 takes_even port v xs items views some_part at k = let w : Account = account v.parts v.put (v.taken ++ xs) in record {
   whole = let s = total_set (λ (u : Account). u.parts) views port v w at in let h = k.whole in omega arith;
   even = λ q.
-      let s = total_set (λ (u : Account). total q u.put) views port v w at in
-      let t = total_set (λ (u : Account). total q u.taken) views port v w at in
+      let s = total_set (λ (u : Account). total_weight q u.put) views port v w at in
+      let t = total_set (λ (u : Account). total_weight q u.taken) views port v w at in
       let a = total-append q v.taken xs in
       let b = total-append q xs items in
       let h = k.even q in omega arith;
@@ -105,7 +105,7 @@ takes_all port v some_part xs items views _ _ k at = (
   ),
 )
 
-pub finds_all : (port : ℕ) (v : Account) → Finds Balanced port v (v.parts ≡ 128 → (w : ℕ → ℕ) → total w v.put ≡ total w v.taken)
+pub finds_all : (port : ℕ) (v : Account) → Finds Balanced port v (v.parts ≡ 128 → (w : ℕ → ℕ) → total_weight w v.put ≡ total_weight w v.taken)
 finds_all port v views k at all w = let h = all_even port v [] views at all k w in omega arith
 
 pub gives : (port : ℕ) (v : Account) (xs : List ℕ) → 0 < v.parts → Pushes Balanced port v xs (Put v xs)
@@ -114,8 +114,8 @@ gives port v xs some_part items views k at = let w : Account = account v.parts (
   record {
     whole = let s = total_set (λ (u : Account). u.parts) views port v w at in let h = k.whole in omega arith;
     even = λ q.
-        let s = total_set (λ (u : Account). total q u.put) views port v w at in
-        let t = total_set (λ (u : Account). total q u.taken) views port v w at in
+        let s = total_set (λ (u : Account). total_weight q u.put) views port v w at in
+        let t = total_set (λ (u : Account). total_weight q u.taken) views port v w at in
         let a = total-append q v.put xs in
         let b = total-append q items xs in
         let h = k.even q in omega arith;
@@ -128,10 +128,10 @@ pub forks : (port : ℕ) (v : Account) → 1 < v.parts → Forks Balanced port v
 forks port v parts items views k at = let l : Account = account (v.parts - 1) v.put v.taken in let r : Account = account 1 [] [] in record {
   whole = let s = total_set (λ (u : Account). u.parts) views port v l at in let a = total-append (λ (u : Account). u.parts) (set views port l) (r ∷ []) in let h = k.whole in omega arith;
   even = λ q.
-      let s = total_set (λ (u : Account). total q u.put) views port v l at in
-      let t = total_set (λ (u : Account). total q u.taken) views port v l at in
-      let a = total-append (λ (u : Account). total q u.put) (set views port l) (r ∷ []) in
-      let b = total-append (λ (u : Account). total q u.taken) (set views port l) (r ∷ []) in
+      let s = total_set (λ (u : Account). total_weight q u.put) views port v l at in
+      let t = total_set (λ (u : Account). total_weight q u.taken) views port v l at in
+      let a = total-append (λ (u : Account). total_weight q u.put) (set views port l) (r ∷ []) in
+      let b = total-append (λ (u : Account). total_weight q u.taken) (set views port l) (r ∷ []) in
       let h = k.even q in omega arith;
   idle = idle_snoc (set views port l) r (λ e. absurd (omega arith)) (idle_set views port l (λ e. absurd (omega arith)) k.idle);
 }
@@ -141,10 +141,10 @@ merges port v other u parts items views k at two at' =
     let b : Account = account (v.parts + u.parts) (v.put ++ u.put) (v.taken ++ u.taken) in let vs : List Account = set views port b in let n : Account = account 0 [] [] in record {
       whole = let s = total_set (λ (y : Account). y.parts) views port v b at in let t = total_set (λ (y : Account). y.parts) vs other u n at' in let h = k.whole in omega arith;
       even = λ q.
-          let s = total_set (λ (y : Account). total q y.put) views port v b at in
-          let t = total_set (λ (y : Account). total q y.put) vs other u n at' in
-          let s' = total_set (λ (y : Account). total q y.taken) views port v b at in
-          let t' = total_set (λ (y : Account). total q y.taken) vs other u n at' in
+          let s = total_set (λ (y : Account). total_weight q y.put) views port v b at in
+          let t = total_set (λ (y : Account). total_weight q y.put) vs other u n at' in
+          let s' = total_set (λ (y : Account). total_weight q y.taken) views port v b at in
+          let t' = total_set (λ (y : Account). total_weight q y.taken) vs other u n at' in
           let a = total-append q v.put u.put in
           let c = total-append q v.taken u.taken in
           let h = k.even q in omega arith;

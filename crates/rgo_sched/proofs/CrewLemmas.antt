@@ -8,10 +8,10 @@ use Rattle.crossbeam_deque.specs.Handles.{view, stealer_deque, worker_deque, wor
 use Rattle.rgo_sched.specs.declared.crew.Worker.{Worker}
 use Rattle.rgo_sched.specs.declared.deques.Permit.{Permit}
 use Rattle.rgo_sched.specs.declared.accounts.Account.{Account}
-use Rattle.rgo_sched.specs.Accounts.{Put, Took, account, total}
+use Rattle.rgo_sched.specs.Accounts.{Put, Took, account, total_weight}
 use Rattle.rgo_sched.specs.Crew.{DoneIsTaken, Every, FewerPermits, IsCrew, New, NoneLost, SameCounts, Worked, done_by, put_by, taken_by}
 use Rattle.rgo_sched.specs.Deques.{TaskDeque, TaskStealer}
-use Rattle.rgo_sched.specs.Permits.{AllFit, Fits, Moved, permits_for, stolen}
+use Rattle.rgo_sched.specs.Permits.{AllFit, Fits, TakenWasDone, permits_for, stolen}
 use Rattle.rgo_sched.specs.Positions.{Filled, only}
 use Rattle.rgo_sched.proofs.AccountLemmas.{total_set, total-append}
 
@@ -42,17 +42,17 @@ permits_for_one i zero = omega arith
 permits_for_one zero (suc n) = omega arith
 permits_for_one (suc i) (suc n) = permits_for_one i n
 
-pub total_small : {A : Type 0} (f : A → ℕ) → ((x : A) → f x ≤ 1) → (xs : List A) → total f xs ≤ length xs
+pub total_small : {A : Type 0} (f : A → ℕ) → ((x : A) → f x ≤ 1) → (xs : List A) → total_weight f xs ≤ length xs
 total_small f h [] = omega arith
 total_small f h (x ∷ xs) = let a = h x in let b = total_small f h xs in omega arith
 
-pub total_same : {A : Type 0} (f : A → ℕ) (xs ys : List A) → length ys ≡ length xs → ((k : ℕ) (x y : A) → get_elem? xs k ≡ some x → get_elem? ys k ≡ some y → f y ≡ f x) → total f ys ≡ total f xs
+pub total_same : {A : Type 0} (f : A → ℕ) (xs ys : List A) → length ys ≡ length xs → ((k : ℕ) (x y : A) → get_elem? xs k ≡ some x → get_elem? ys k ≡ some y → f y ≡ f x) → total_weight f ys ≡ total_weight f xs
 total_same f [] [] e h = refl
 total_same f [] (y ∷ ys) e h = absurd (omega arith)
 total_same f (x ∷ xs) [] e h = absurd (omega arith)
 total_same f (x ∷ xs) (y ∷ ys) e h = let a = h zero x y refl refl in let b = total_same f xs ys (omega arith) (λ k u v p q. h (suc k) u v p q) in omega arith
 
-pub total_both : {A : Type 0} (f g : A → ℕ) (xs : List A) → ((k : ℕ) (x : A) → get_elem? xs k ≡ some x → f x ≡ g x) → total f xs ≡ total g xs
+pub total_both : {A : Type 0} (f g : A → ℕ) (xs : List A) → ((k : ℕ) (x : A) → get_elem? xs k ≡ some x → f x ≡ g x) → total_weight f xs ≡ total_weight g xs
 total_both f g [] h = refl
 total_both f g (x ∷ xs) h = let a = h zero x refl in let b = total_both f g xs (λ k u p. h (suc k) u p) in omega arith
 
@@ -106,46 +106,46 @@ module _ {T B : Type 0} where
         (λ e. a.each j u p b e.1) (at_set ts i j t p d);
   }
 
-  pub moved_set : (ps ts : List (Permit T B)) (ds es fs xs : List ℕ) (i : ℕ) (t u : Permit T B) → get_elem? ts i ≡ some t → Took (view t.pass) xs (view u.pass) → fs ≡ es ++ xs → Moved ps ts ds es → Moved ps (set ts i u) ds fs
+  pub moved_set : (ps ts : List (Permit T B)) (ds es fs xs : List ℕ) (i : ℕ) (t u : Permit T B) → get_elem? ts i ≡ some t → Took (view t.pass) xs (view u.pass) → fs ≡ es ++ xs → TakenWasDone ps ts ds es → TakenWasDone ps (set ts i u) ds fs
   moved_set ps ts ds es fs xs i t u at e e' m = record {
     moved = λ w.
-        let s = total_set (λ (p : Permit T B). total w (view p.pass).taken) ts i t u at in
+        let s = total_set (λ (p : Permit T B). total_weight w (view p.pass).taken) ts i t u at in
         let a = total-append w (view t.pass).taken xs in
-        let b : total w (view u.pass).taken ≡ total w ((view t.pass).taken ++ xs) = ap (λ (h : Account). total w h.taken) e in
+        let b : total_weight w (view u.pass).taken ≡ total_weight w ((view t.pass).taken ++ xs) = ap (λ (h : Account). total_weight w h.taken) e in
         let d = total-append w es xs in
-        let f : total w fs ≡ total w (es ++ xs) = ap (total w) e' in
+        let f : total_weight w fs ≡ total_weight w (es ++ xs) = ap (total_weight w) e' in
         let g = m.moved w in omega arith;
     same = length-set ts i u ∙ m.same;
   }
 
-  pub moved_none : (ps : List (Permit T B)) (ds : List ℕ) → Moved ps ps ds ds
+  pub moved_none : (ps : List (Permit T B)) (ds : List ℕ) → TakenWasDone ps ps ds ds
   moved_none ps ds = record { moved = λ w. refl; same = refl }
 
-  pub moved_more : (ps qs rs : List (Permit T B)) (ds es fs : List ℕ) → Moved ps qs ds es → Moved qs rs es fs → Moved ps rs ds fs
+  pub moved_more : (ps qs rs : List (Permit T B)) (ds es fs : List ℕ) → TakenWasDone ps qs ds es → TakenWasDone qs rs es fs → TakenWasDone ps rs ds fs
   moved_more ps qs rs ds es fs a b = record { moved = λ w. let x = a.moved w in let y = b.moved w in omega arith; same = b.same ∙ a.same }
 
-  pub counted_more : (ps qs : List (Permit T B)) (ds es fs xs : List ℕ) (u v : Account) → Took u xs v → es ≡ ds ++ xs → Moved ps qs es fs
-      → ((w : ℕ → ℕ) → total w u.taken + stolen w ps ≡ total w ds) → (w : ℕ → ℕ) → total w v.taken + stolen w qs ≡ total w fs
+  pub counted_more : (ps qs : List (Permit T B)) (ds es fs xs : List ℕ) (u v : Account) → Took u xs v → es ≡ ds ++ xs → TakenWasDone ps qs es fs
+      → ((w : ℕ → ℕ) → total_weight w u.taken + stolen w ps ≡ total_weight w ds) → (w : ℕ → ℕ) → total_weight w v.taken + stolen w qs ≡ total_weight w fs
   counted_more ps qs ds es fs xs u v e e' m h w =
-      let a = total-append w u.taken xs in let b : total w v.taken ≡ total w (u.taken ++ xs) = ap (λ (k : Account). total w k.taken) e in
-      let c = total-append w ds xs in let d : total w es ≡ total w (ds ++ xs) = ap (total w) e' in let k = m.moved w in let l = h w in omega arith
+      let a = total-append w u.taken xs in let b : total_weight w v.taken ≡ total_weight w (u.taken ++ xs) = ap (λ (k : Account). total_weight w k.taken) e in
+      let c = total-append w ds xs in let d : total_weight w es ≡ total_weight w (ds ++ xs) = ap (total_weight w) e' in let k = m.moved w in let l = h w in omega arith
 
   -- while the results are gathered: each position below n has its task, or more was put and done of it than was taken
   abbrev pub FilledOrLeft : ℕ → List (Option ℕ) → List (Worker T B) → Type 0
   FilledOrLeft n results ms = (k : ℕ) → k < n
-      → Filled results k ⊎ (1 + total (taken_by (only k)) ms ≤ total (put_by (only k)) ms + total (done_by (only k)) ms)
+      → Filled results k ⊎ (1 + total_weight (taken_by (only k)) ms ≤ total_weight (put_by (only k)) ms + total_weight (done_by (only k)) ms)
 
   -- the last worker goes
   pub filled_or_left_less : (n : ℕ) (results next : List (Option ℕ)) (ms ns : List (Worker T B)) (m : Worker T B) → ms ≡ ns ++ m ∷ []
       → m.permits.items ≡ []
       → ((k : ℕ) → Filled results k → Filled next k)
-      → ((k : ℕ) → Filled next k ⊎ (put_by (only k) m + done_by (only k) m ≡ total (only k) (worker_view m.own).taken))
+      → ((k : ℕ) → Filled next k ⊎ (put_by (only k) m + done_by (only k) m ≡ total_weight (only k) (worker_view m.own).taken))
       → FilledOrLeft n results ms → FilledOrLeft n next ns
   filled_or_left_less n results next ms ns m e none kept left o k below = ⊎_elim (λ f. inl (kept k f))
       (λ h. ⊎_elim (λ f. inl f) (λ l. inr (
-      let a : total (taken_by (only k)) ms ≡ total (taken_by (only k)) (ns ++ m ∷ []) = ap (total (taken_by (only k))) e in
-      let b : total (put_by (only k)) ms ≡ total (put_by (only k)) (ns ++ m ∷ []) = ap (total (put_by (only k))) e in
-      let c : total (done_by (only k)) ms ≡ total (done_by (only k)) (ns ++ m ∷ []) = ap (total (done_by (only k))) e in
+      let a : total_weight (taken_by (only k)) ms ≡ total_weight (taken_by (only k)) (ns ++ m ∷ []) = ap (total_weight (taken_by (only k))) e in
+      let b : total_weight (put_by (only k)) ms ≡ total_weight (put_by (only k)) (ns ++ m ∷ []) = ap (total_weight (put_by (only k))) e in
+      let c : total_weight (done_by (only k)) ms ≡ total_weight (done_by (only k)) (ns ++ m ∷ []) = ap (total_weight (done_by (only k))) e in
       let a' = total-append (taken_by (only k)) ns (m ∷ []) in
       let b' = total-append (put_by (only k)) ns (m ∷ []) in
       let c' = total-append (done_by (only k)) ns (m ∷ []) in
@@ -160,14 +160,14 @@ module _ {T B : Type 0} where
     none k m at,
   )
     where
-      no_total : (f : Worker T B → ℕ) (xs : List (Worker T B)) → ((j : ℕ) (x : Worker T B) → get_elem? xs j ≡ some x → f x ≡ 0) → total f xs ≡ 0
+      no_total : (f : Worker T B → ℕ) (xs : List (Worker T B)) → ((j : ℕ) (x : Worker T B) → get_elem? xs j ≡ some x → f x ≡ 0) → total_weight f xs ≡ 0
       no_total f [] h = refl
       no_total f (x ∷ xs) h = let a = h zero x refl in let b = no_total f xs (λ j u p. h (suc j) u p) in omega arith
 
   -- all was put, nothing but what is done was taken since, and so nothing is lost
   pub none_lost_after : (n : ℕ) (xs bs cs : List (Worker T B))
-      → ((k : ℕ) → k < n → 1 ≤ total (put_by (only k)) xs)
-      → ((w : ℕ → ℕ) → total (put_by w) bs ≡ total (put_by w) xs)
+      → ((k : ℕ) → k < n → 1 ≤ total_weight (put_by (only k)) xs)
+      → ((w : ℕ → ℕ) → total_weight (put_by w) bs ≡ total_weight (put_by w) xs)
       → Every DoneIsTaken bs → SameCounts bs cs → NoneLost n cs
   none_lost_after n xs bs cs puts same counted counts k below =
       let h = puts k below in let a = same (only k) in let b = counts.puts (only k) in let c = counts.takes (only k) in
@@ -230,7 +230,7 @@ module _ {T B : Type 0} where
         let z = total_none (λ (x : Worker T B). permits_for k (length x.permits.items)) ms (λ j x a. ap (λ l. permits_for k (length l)) (new j x a).no_permit) in omega arith;
   }
     where
-      total_none : (f : Worker T B → ℕ) (xs : List (Worker T B)) → ((j : ℕ) (x : Worker T B) → get_elem? xs j ≡ some x → f x ≡ 0) → total f xs ≡ 0
+      total_none : (f : Worker T B → ℕ) (xs : List (Worker T B)) → ((j : ℕ) (x : Worker T B) → get_elem? xs j ≡ some x → f x ≡ 0) → total_weight f xs ≡ 0
       total_none f [] h = refl
       total_none f (x ∷ xs) h = let a = h zero x refl in let b = total_none f xs (λ j u p. h (suc j) u p) in omega arith
 
@@ -275,11 +275,11 @@ module _ {T B : Type 0} where
   -- one more position was put
   pub puts_set : (ms : List (Worker T B)) (d : ℕ) (o n : Worker T B) (x i : ℕ) → get_elem? ms d ≡ some o → x ≡ i
       → Put (worker_view o.own) (x ∷ []) (worker_view n.own)
-      → ((k : ℕ) → k < i → 1 ≤ total (put_by (only k)) ms)
-      → (k : ℕ) → k < i + 1 → 1 ≤ total (put_by (only k)) (set ms d n)
+      → ((k : ℕ) → k < i → 1 ≤ total_weight (put_by (only k)) ms)
+      → (k : ℕ) → k < i + 1 → 1 ≤ total_weight (put_by (only k)) (set ms d n)
   puts_set ms d o n x i at e given before k below =
       let s = total_set (put_by (only k)) ms d o n at in
-      let p : put_by (only k) n ≡ total (only k) ((worker_view o.own).put ++ x ∷ []) = ap (λ (h : Account). total (only k) h.put) given in
+      let p : put_by (only k) n ≡ total_weight (only k) ((worker_view o.own).put ++ x ∷ []) = ap (λ (h : Account). total_weight (only k) h.put) given in
       let q = total-append (only k) (worker_view o.own).put (x ∷ []) in
       ⊎_elim (λ (l : k < i). let b = before k l in omega arith)
       (λ (r : k ≡ i). let y : only k x ≡ 1 = ap (only k) (e ∙ sym r) ∙ only_same k in omega arith) (less_or k i below)
@@ -320,7 +320,7 @@ module _ {T B : Type 0} where
       (let p : (worker_view n.own).parts ≡ (worker_view o.own).parts = ap (λ (x : TaskDeque). (worker_view x).parts) own in let a = ap (permits_for w) len in let b = ap (permits_for w) len' in let e = permits_for_next w d in omega arith) c
 
   pub counted_owner : (o n : Worker T B) → (worker_view n.own).taken ≡ (worker_view o.own).taken → n.permits.items ≡ o.permits.items → n.done.items ≡ o.done.items → DoneIsTaken o → DoneIsTaken n
-  counted_owner o n a b d h = record { counted = λ w. let x = ap (total w) a in let y = ap (stolen w) b in let z = ap (total w) d in let k = h.counted w in omega arith }
+  counted_owner o n a b d h = record { counted = λ w. let x = ap (total_weight w) a in let y = ap (stolen w) b in let z = ap (total_weight w) d in let k = h.counted w in omega arith }
 
   -- the first w workers have all permits, the next permits_for d, and the others have none
   pub record Handed (all w d k : ℕ) (m : Worker T B) : Type 0 where
@@ -332,7 +332,7 @@ module _ {T B : Type 0} where
 
   pub handed_new : (tasks all : ℕ) (ms : List (Worker T B)) → Every (New tasks all) ms → Each (Handed all 0 0) ms
   handed_new tasks all ms h k m at = let n = h k m at in let l : length m.permits.items ≡ 0 = ap length n.no_permit in record {
-    counted = record { counted = λ w. let a : total w (worker_view m.own).taken ≡ 0 = ap (λ (v : Account). total w v.taken) n.alone in let b : stolen w m.permits.items ≡ 0 = ap (stolen w) n.no_permit in let c : total w m.done.items ≡ 0 = ap (total w) n.nothing_done in omega arith };
+    counted = record { counted = λ w. let a : total_weight w (worker_view m.own).taken ≡ 0 = ap (λ (v : Account). total_weight w v.taken) n.alone in let b : stolen w m.permits.items ≡ 0 = ap (stolen w) n.no_permit in let c : total_weight w m.done.items ≡ 0 = ap (total_weight w) n.nothing_done in omega arith };
     room = n.room;
     full = λ b. absurd (omega arith);
     here = λ _. l;
@@ -358,11 +358,11 @@ module _ {T B : Type 0} where
       each_set (Handed all w d) (Handed all w (d + 1)) ms w n (record {
         counted = record {
           counted = λ v.
-              let x = ap (λ (u : TaskDeque). total v (worker_view u).taken) own in
+              let x = ap (λ (u : TaskDeque). total_weight v (worker_view u).taken) own in
               let y : stolen v n.permits.items ≡ stolen v (o.permits.items ++ t ∷ []) = ap (stolen v) push in
-              let z = total-append (λ (q : Permit T B). total v (view q.pass).taken) o.permits.items (t ∷ []) in
-              let u : total v (view t.pass).taken ≡ 0 = ap (total v) taken in
-              let f = ap (total v) done in let k = p.counted.counted v in omega arith;
+              let z = total-append (λ (q : Permit T B). total_weight v (view q.pass).taken) o.permits.items (t ∷ []) in
+              let u : total_weight v (view t.pass).taken ≡ 0 = ap (total_weight v) taken in
+              let f = ap (total_weight v) done in let k = p.counted.counted v in omega arith;
         };
         room = cap ∙ p.room;
         full = λ q. absurd (omega arith);
@@ -404,17 +404,17 @@ module _ {T B : Type 0} where
       → (k : ℕ) (m : Worker T B) → get_elem? ms k ≡ some m → k < w + 1 → m.permits.items ≡ []
   row_done w all c ms end h i k m at below = ⊎_elim (λ l. h k m at l) (λ r. nil_from_length m.permits.items (let x = i k m at r in omega arith)) (less_or k w below)
 
-  counts_set : (f : Worker T B → ℕ) (ms : List (Worker T B)) (d : ℕ) (o n : Worker T B) → get_elem? ms d ≡ some o → f n ≡ f o → total f (set ms d n) ≡ total f ms
+  counts_set : (f : Worker T B → ℕ) (ms : List (Worker T B)) (d : ℕ) (o n : Worker T B) → get_elem? ms d ≡ some o → f n ≡ f o → total_weight f (set ms d n) ≡ total_weight f ms
   counts_set f ms d o n at e = let s = total_set f ms d o n at in omega arith
 
-  counts_swap : (f : Worker T B → ℕ) (x : ℕ) (ms : List (Worker T B)) (w d : ℕ) (o n q r : Worker T B) → get_elem? ms w ≡ some o → get_elem? (set ms w n) d ≡ some q → f o ≡ f n + x → f r ≡ f q + x → total f (set (set ms w n) d r) ≡ total f ms
+  counts_swap : (f : Worker T B → ℕ) (x : ℕ) (ms : List (Worker T B)) (w d : ℕ) (o n q r : Worker T B) → get_elem? ms w ≡ some o → get_elem? (set ms w n) d ≡ some q → f o ≡ f n + x → f r ≡ f q + x → total_weight f (set (set ms w n) d r) ≡ total_weight f ms
   counts_swap f x ms w d o n q r at at' e e' = let s = total_set f ms w o n at in let t = total_set f (set ms w n) d q r at' in omega arith
 
   pub counts_none : (ms : List (Worker T B)) (w : ℕ) (o n : Worker T B) → get_elem? ms w ≡ some o → n.own ≡ o.own → n.permits.items ≡ o.permits.items → n.done.items ≡ o.done.items → SameCounts ms (set ms w n)
   counts_none ms w o n at own ti done = record {
-    puts = λ v. counts_set (put_by v) ms w o n at (ap (λ (u : TaskDeque). total v (worker_view u).put) own);
-    takes = λ v. counts_set (taken_by v) ms w o n at (let a = ap (λ (u : TaskDeque). total v (worker_view u).taken) own in let b = ap (stolen v) ti in omega arith);
-    dones = λ v. counts_set (done_by v) ms w o n at (ap (total v) done);
+    puts = λ v. counts_set (put_by v) ms w o n at (ap (λ (u : TaskDeque). total_weight v (worker_view u).put) own);
+    takes = λ v. counts_set (taken_by v) ms w o n at (let a = ap (λ (u : TaskDeque). total_weight v (worker_view u).taken) own in let b = ap (stolen v) ti in omega arith);
+    dones = λ v. counts_set (done_by v) ms w o n at (ap (total_weight v) done);
   }
 
   pub fewer_set : (ms : List (Worker T B)) (w : ℕ) (o n : Worker T B) → get_elem? ms w ≡ some o → length n.permits.items ≡ length o.permits.items - 1 → FewerPermits w ms (set ms w n)
@@ -465,12 +465,12 @@ module _ {T B : Type 0} where
       → worker_view r.own ≡ account ((worker_view q.own).parts + (view t.pass).parts) ((worker_view q.own).put ++ (view t.pass).put) ((worker_view q.own).taken ++ (view t.pass).taken)
       → (view t.pass).put ≡ [] → r.permits.items ≡ q.permits.items → r.done.items ≡ q.done.items → SameCounts ms (set (set ms w n) d r)
   counts_back ms w d o n q r t at at' own push done v none ti done' = record {
-    puts = λ x. counts_swap (put_by x) 0 ms w d o n q r at at' (let a = ap (λ (u : TaskDeque). total x (worker_view u).put) own in omega arith)
-        (let a = ap (λ (h : Account). total x h.put) v in let b = total-append x (worker_view q.own).put (view t.pass).put in let z = ap (total x) none in omega arith);
-    takes = λ x. counts_swap (taken_by x) (total x (view t.pass).taken) ms w d o n q r at at'
-        (let a = ap (λ (u : TaskDeque). total x (worker_view u).taken) own in let b = ap (stolen x) push in let e = total-append (λ (p : Permit T B). total x (view p.pass).taken) n.permits.items (t ∷ []) in omega arith)
-        (let a = ap (λ (h : Account). total x h.taken) v in let b = total-append x (worker_view q.own).taken (view t.pass).taken in let z = ap (stolen x) ti in omega arith);
-    dones = λ x. counts_swap (done_by x) 0 ms w d o n q r at at' (let a = ap (total x) done in omega arith) (let a = ap (total x) done' in omega arith);
+    puts = λ x. counts_swap (put_by x) 0 ms w d o n q r at at' (let a = ap (λ (u : TaskDeque). total_weight x (worker_view u).put) own in omega arith)
+        (let a = ap (λ (h : Account). total_weight x h.put) v in let b = total-append x (worker_view q.own).put (view t.pass).put in let z = ap (total_weight x) none in omega arith);
+    takes = λ x. counts_swap (taken_by x) (total_weight x (view t.pass).taken) ms w d o n q r at at'
+        (let a = ap (λ (u : TaskDeque). total_weight x (worker_view u).taken) own in let b = ap (stolen x) push in let e = total-append (λ (p : Permit T B). total_weight x (view p.pass).taken) n.permits.items (t ∷ []) in omega arith)
+        (let a = ap (λ (h : Account). total_weight x h.taken) v in let b = total-append x (worker_view q.own).taken (view t.pass).taken in let z = ap (stolen x) ti in omega arith);
+    dones = λ x. counts_swap (done_by x) 0 ms w d o n q r at at' (let a = ap (total_weight x) done in omega arith) (let a = ap (total_weight x) done' in omega arith);
   }
 
   pub parts_left : (ths : List TaskStealer) (ms : List (Worker T B)) (d : ℕ) (q : Worker T B) → IsCrew ths (only d) ms → get_elem? ms d ≡ some q → 0 < (worker_view q.own).parts

@@ -3,7 +3,7 @@ use Rattle.std.proofs.Common.{◌≡◌, ◌≢◌, ℕ, zero, suc, ◌+◌, ◌
 use Rattle.std.specs.List.{slice_get}
 use Rattle.std.proofs.lemmas.List.{reverse-append}
 use Rattle.std.proofs.lemmas.Option.{get_or_from_slice_get}
-use Rattle.rgo_sched.specs.Accounts.{total}
+use Rattle.rgo_sched.specs.Accounts.{total_weight}
 use Rattle.rgo_sched.specs.Positions.{Filled, only}
 use Rattle.rgo_sched.proofs.AccountLemmas.{total-append}
 
@@ -13,16 +13,16 @@ same_or zero (suc x) = inr refl
 same_or (suc k) zero = inr refl
 same_or (suc k) (suc x) = ⊎_elim (λ e. inl (ap suc e)) (λ e. inr e) (same_or k x)
 
-pub filled_next : (k x y : ℕ) (ts : List ℕ) (results next : List (Option ℕ)) {n : ℕ} {m : ℕ} → y ≡ x → m ≡ total (only k) (ts ++ x ∷ []) → Filled next y → (Filled results k → Filled next k) → Filled results k ⊎ (total (only k) ts ≡ n) → Filled next k ⊎ (m ≡ n)
+pub filled_next : (k x y : ℕ) (ts : List ℕ) (results next : List (Option ℕ)) {n : ℕ} {m : ℕ} → y ≡ x → m ≡ total_weight (only k) (ts ++ x ∷ []) → Filled next y → (Filled results k → Filled next k) → Filled results k ⊎ (total_weight (only k) ts ≡ n) → Filled next k ⊎ (m ≡ n)
 filled_next k x y ts results next e t here kept so_far = ⊎_elim
     (λ f. inl (kept f))
     (λ h. ⊎_elim (λ s. inl (subst (Filled next) (e ∙ sym s) here)) (λ z. inr (let a = total-append (only k) ts (x ∷ []) in omega arith)) (same_or k x))
     so_far
 
-pub filled_from : (k x : ℕ) (ts us : List ℕ) (results next : List (Option ℕ)) {n : ℕ} → us ≡ ts ++ x ∷ [] → Filled next x → (Filled results k → Filled next k) → Filled results k ⊎ (total (only k) us ≡ n) → Filled next k ⊎ (total (only k) ts ≡ n)
+pub filled_from : (k x : ℕ) (ts us : List ℕ) (results next : List (Option ℕ)) {n : ℕ} → us ≡ ts ++ x ∷ [] → Filled next x → (Filled results k → Filled next k) → Filled results k ⊎ (total_weight (only k) us ≡ n) → Filled next k ⊎ (total_weight (only k) ts ≡ n)
 filled_from k x ts us results next t here kept so_far = ⊎_elim
     (λ f. inl (kept f))
-    (λ h. ⊎_elim (λ s. inl (subst (Filled next) (sym s) here)) (λ z. inr (let a = total-append (only k) ts (x ∷ []) in let b : total (only k) us ≡ total (only k) (ts ++ x ∷ []) = ap (total (only k)) t in omega arith)) (same_or k x))
+    (λ h. ⊎_elim (λ s. inl (subst (Filled next) (sym s) here)) (λ z. inr (let a = total-append (only k) ts (x ∷ []) in let b : total_weight (only k) us ≡ total_weight (only k) (ts ++ x ∷ []) = ap (total_weight (only k)) t in omega arith)) (same_or k x))
     so_far
 
 pub slice_get_other : {A : Type 0} (l : List A) (i j : ℕ) (a : A) → j ≢ i → slice_get (set l i a) j ≡ slice_get l j

@@ -5,9 +5,9 @@ use lib.ListN.{get_elem?}
 use Rattle.rgo_sched.specs.declared.accounts.Account.{Account}
 
 -- the sum of a weight over a list
-abbrev pub total : {A : Type 0} → (A → ℕ) → List A → ℕ
-total f [] = 0
-total f (x ∷ xs) = f x + total f xs
+abbrev pub total_weight : {A : Type 0} → (A → ℕ) → List A → ℕ
+total_weight f [] = 0
+total_weight f (x ∷ xs) = f x + total_weight f xs
 
 -- an account by its three fields
 abbrev pub account : ℕ → List ℕ → List ℕ → Account
@@ -27,8 +27,8 @@ no_part = account 0 [] []
 abbrev pub less_one : Account → Account
 less_one v = account (v.parts - 1) v.put v.taken
 
-abbrev pub joined : Account → Account → Account
-joined v w = account (v.parts + w.parts) (v.put ++ w.put) (v.taken ++ w.taken)
+abbrev pub joined_accounts : Account → Account → Account
+joined_accounts v w = account (v.parts + w.parts) (v.put ++ w.put) (v.taken ++ w.taken)
 
 -- an account without a part has put and taken nothing
 abbrev pub IdleIsEmpty : List Account → Type 0
@@ -37,8 +37,8 @@ IdleIsEmpty views = (port : ℕ) (v : Account) → get_elem? views port ≡ some
 -- The rule of a deque that holds these positions, over the accounts of all its passes. Its second field speaks of every
 -- weight of positions: of the weight 1 it says how many there are, and of `only k` that k is neither lost nor doubled.
 pub record Balanced (items : List ℕ) (views : List Account) : Type 0 where
-  pub whole : total (λ v. v.parts) views ≡ 128
-  pub even : (w : ℕ → ℕ) → total (λ v. total w v.put) views ≡ total (λ v. total w v.taken) views + total w items
+  pub whole : total_weight (λ v. v.parts) views ≡ 128
+  pub even : (w : ℕ → ℕ) → total_weight (λ v. total_weight w v.put) views ≡ total_weight (λ v. total_weight w v.taken) views + total_weight w items
   pub idle : IdleIsEmpty views
 
 -- from v to w the positions xs were taken

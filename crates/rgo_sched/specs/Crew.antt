@@ -4,7 +4,7 @@ use mathlib.Core.Option.{some}
 use lib.ListN.{get_elem?}
 use Rattle.crossbeam_deque.specs.Handles.{stealer_deque, worker_capacity, worker_deque, worker_flavor, worker_index, worker_view}
 use Rattle.rgo_sched.specs.declared.crew.Worker.{Worker}
-use Rattle.rgo_sched.specs.Accounts.{total, all_parts}
+use Rattle.rgo_sched.specs.Accounts.{total_weight, all_parts}
 use Rattle.rgo_sched.specs.Deques.{TaskStealer}
 use Rattle.rgo_sched.specs.Permits.{AllFit, permits_for, stolen}
 use Rattle.rgo_sched.specs.Positions.{only}
@@ -12,13 +12,13 @@ use Rattle.rgo_sched.specs.Positions.{only}
 module _ {T B : Type 0} where
   -- the weight of what a worker has put, taken and done
   abbrev pub put_by : (ℕ → ℕ) → Worker T B → ℕ
-  put_by w m = total w (worker_view m.own).put
+  put_by w m = total_weight w (worker_view m.own).put
 
   abbrev pub taken_by : (ℕ → ℕ) → Worker T B → ℕ
-  taken_by w m = total w (worker_view m.own).taken + stolen w m.permits.items
+  taken_by w m = total_weight w (worker_view m.own).taken + stolen w m.permits.items
 
   abbrev pub done_by : (ℕ → ℕ) → Worker T B → ℕ
-  done_by w m = total w m.done.items
+  done_by w m = total_weight w m.done.items
 
   -- what the worker took, of its own and by its permits, is what it has done
   pub record DoneIsTaken (m : Worker T B) : Type 0 where
@@ -42,8 +42,8 @@ module _ {T B : Type 0} where
     pub nothing_done : m.done.items ≡ []
 
   -- a worker that may begin: it has a permit for each of so many deques
-  abbrev pub IsReady : ℕ → Worker T B → Type 0
-  IsReady workers m = DoneIsTaken m × (length m.permits.items ≡ workers)
+  abbrev pub WorkerIsReady : ℕ → Worker T B → Type 0
+  WorkerIsReady workers m = DoneIsTaken m × (length m.permits.items ≡ workers)
 
   -- a worker to whose own end all parts of its deque have come back
   abbrev pub HasAllParts : Worker T B → Type 0
@@ -67,18 +67,18 @@ module _ {T B : Type 0} where
         → worker_deque m.own ≡ stealer_deque s
     pub fit : Every (λ m. AllFit stealers m.permits.items) crew
     pub parts : (k : ℕ) (m : Worker T B) → get_elem? crew k ≡ some m
-        → (worker_view m.own).parts + total (λ (n : Worker T B). permits_for k (length n.permits.items)) crew + in_hand k ≡ 128
+        → (worker_view m.own).parts + total_weight (λ (n : Worker T B). permits_for k (length n.permits.items)) crew + in_hand k ≡ 128
 
   -- no task is lost: of each position below n more was put and done than was taken
   abbrev pub NoneLost : ℕ → List (Worker T B) → Type 0
   NoneLost n crew = (k : ℕ) → k < n
-      → 1 + total (taken_by (only k)) crew ≤ total (put_by (only k)) crew + total (done_by (only k)) crew
+      → 1 + total_weight (taken_by (only k)) crew ≤ total_weight (put_by (only k)) crew + total_weight (done_by (only k)) crew
 
   -- all workers together have put, taken and done the same
   pub record SameCounts (ms ns : List (Worker T B)) : Type 0 where
-    pub puts : (w : ℕ → ℕ) → total (put_by w) ns ≡ total (put_by w) ms
-    pub takes : (w : ℕ → ℕ) → total (taken_by w) ns ≡ total (taken_by w) ms
-    pub dones : (w : ℕ → ℕ) → total (done_by w) ns ≡ total (done_by w) ms
+    pub puts : (w : ℕ → ℕ) → total_weight (put_by w) ns ≡ total_weight (put_by w) ms
+    pub takes : (w : ℕ → ℕ) → total_weight (taken_by w) ns ≡ total_weight (taken_by w) ms
+    pub dones : (w : ℕ → ℕ) → total_weight (done_by w) ns ≡ total_weight (done_by w) ms
 
   -- this worker has one permit less, if it had one, and the others have theirs
   pub record FewerPermits (worker : ℕ) (ms ns : List (Worker T B)) : Type 0 where

@@ -4,7 +4,7 @@ use mathlib.Core.Option.{some}
 use lib.ListN.{get_elem?}
 use Rattle.crossbeam_deque.specs.Handles.{view, IsPassOf, stealer_deque}
 use Rattle.rgo_sched.specs.declared.deques.Permit.{Permit}
-use Rattle.rgo_sched.specs.Accounts.{total}
+use Rattle.rgo_sched.specs.Accounts.{total_weight}
 use Rattle.rgo_sched.specs.Deques.{TaskStealer}
 
 -- how many permits for the deque i a worker has that has the first n
@@ -28,9 +28,9 @@ module _ {T B : Type 0} where
 
   -- the weight of what was taken by these permits
   abbrev pub stolen : (ℕ → ℕ) → List (Permit T B) → ℕ
-  stolen w permits = total (λ (p : Permit T B). total w (view p.pass).taken) permits
+  stolen w permits = total_weight (λ (p : Permit T B). total_weight w (view p.pass).taken) permits
 
   -- what was taken by the permits from ps to qs is what was done from ds to es
-  pub record Moved (ps qs : List (Permit T B)) (ds es : List ℕ) : Type 0 where
-    pub moved : (w : ℕ → ℕ) → stolen w qs + total w ds ≡ stolen w ps + total w es
+  pub record TakenWasDone (ps qs : List (Permit T B)) (ds es : List ℕ) : Type 0 where
+    pub moved : (w : ℕ → ℕ) → stolen w qs + total_weight w ds ≡ stolen w ps + total_weight w es
     pub same : length qs ≡ length ps

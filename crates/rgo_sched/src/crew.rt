@@ -1,8 +1,8 @@
 //! The workers of a round, made before any task moves, and the permits by which they steal from each other.
 ghost use Rattle.std.specs.Prelude.{◌≡◌, ◌<◌, ◌≤◌, [], length, IfOk};
 ghost use Rattle.crossbeam_deque.specs.Handles.{view, IsPassOf, SameWorker, worker_deque, worker_index, worker_view};
-ghost use Rattle.rgo_sched.specs.Accounts.{joined, less_one, one_part};
-ghost use Rattle.rgo_sched.specs.Crew.{Every, FewerPermits, HasSlots, IsCrew, IsReady, New, SameCounts};
+ghost use Rattle.rgo_sched.specs.Accounts.{joined_accounts, less_one, one_part};
+ghost use Rattle.rgo_sched.specs.Crew.{Every, FewerPermits, HasSlots, IsCrew, WorkerIsReady, New, SameCounts};
 
 use crate::accounts::Account;
 use crate::deques::{Part, Permit, TaskDeque, TaskStealer};
@@ -66,7 +66,7 @@ pub fn hand_out<T: Task + Drop, B: Before<T>>(
     requires crew { IsCrew stealers.now (λ _. 0) crew.old }
     requires new { Every (New (length B.tasks) (length stealers.now)) crew.old }
     ensures crew { IsCrew stealers.now (λ _. 0) crew.new }
-    ensures each { Every (IsReady (length stealers.now)) crew.new }
+    ensures each { Every (WorkerIsReady (length stealers.now)) crew.new }
     ensures slots { Every (HasSlots (length B.tasks) (length stealers.now)) crew.new }
 {
     for worker in 0..stealers.len() {
@@ -94,7 +94,7 @@ fn absorb<T: Task + Drop, B: Before<T>>(
 )
     requires table { IsPassOf (worker_deque own.old) pass }
     requires part { 0 < (worker_view own.old).parts }
-    ensures views { worker_view own.new ≡ joined (worker_view own.old) (view pass) }
+    ensures views { worker_view own.new ≡ joined_accounts (worker_view own.old) (view pass) }
     ensures same { SameWorker own.old own.new }
 {
     own.absorb::<Part>(pass);

@@ -1,8 +1,8 @@
 //! The tasks go to the workers, and come back into their list.
 ghost use Rattle.std.specs.Prelude.{◌≡◌, ℕ, ◌+◌, ◌<◌, ◌≤◌, [], ◌∷◌, length, vec_capacity};
 ghost use Rattle.crossbeam_deque.specs.Handles.{SameWorker, worker_capacity, worker_index, worker_view};
-ghost use Rattle.rgo_sched.specs.Accounts.{Put, total};
-ghost use Rattle.rgo_sched.specs.Crew.{Every, HasSlots, IsCrew, IsReady, put_by};
+ghost use Rattle.rgo_sched.specs.Accounts.{Put, total_weight};
+ghost use Rattle.rgo_sched.specs.Crew.{Every, HasSlots, IsCrew, WorkerIsReady, put_by};
 ghost use Rattle.rgo_sched.specs.Positions.{Filled, only};
 ghost use Rattle.rgo_sched.specs.Rounds.{RoundOf};
 
@@ -33,11 +33,11 @@ pub fn deal<T: Task + Drop, B: Before<T>>(
     requires dealt { tasks.old.items ≡ B.tasks }
     requires some { 0 < length crew.old }
     requires crew { IsCrew stealers.now (λ _. 0) crew.old }
-    requires each { Every (IsReady (length stealers.now)) crew.old }
+    requires each { Every (WorkerIsReady (length stealers.now)) crew.old }
     requires slots { Every (HasSlots (length B.tasks) (length stealers.now)) crew.old }
-    ensures puts { (k : ℕ) → k < length B.tasks → 1 ≤ total (put_by (only k)) crew.new }
+    ensures puts { (k : ℕ) → k < length B.tasks → 1 ≤ total_weight (put_by (only k)) crew.new }
     ensures crew { IsCrew stealers.now (λ _. 0) crew.new }
-    ensures each { Every (IsReady (length stealers.now)) crew.new }
+    ensures each { Every (WorkerIsReady (length stealers.now)) crew.new }
     ensures room { (tasks.new.items ≡ []) × (vec_capacity tasks.new ≡ vec_capacity tasks.old) }
 {
     let count = tasks.len();

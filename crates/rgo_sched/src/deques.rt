@@ -1,7 +1,7 @@
 //! The deques: the rule that they keep, and how a worker takes a task from its own or steals one and turns it.
 ghost use Rattle.std.specs.Prelude.{◌≡◌, ℕ, ◌+◌, ◌<◌, ◌≤◌, IsTrue, length, vec_len};
 ghost use Rattle.crossbeam_deque.specs.Handles.{view, IsPassOf, SamePass, SameWorker, stealer_deque, worker_view, worker_flavor};
-ghost use Rattle.rgo_sched.specs.Accounts.{Balanced, Put, Took, TookInto, all_parts, joined, less_one, no_part, one_part, total};
+ghost use Rattle.rgo_sched.specs.Accounts.{Balanced, Put, Took, TookInto, all_parts, joined_accounts, less_one, no_part, one_part, total_weight};
 
 use crate::accounts::Account;
 use crate::queued::{Before, Done, Queued};
@@ -42,7 +42,7 @@ pub struct TakesAlone;
 impl<T: Task + Drop, B: Before<T>> Outcome<Queued<T, B>, Account> for TakesAlone {
     ghost then = { λ v xs w. Took v xs w × (v.parts ≡ 128 → length w.taken ≤ length w.put) };
 
-    ghost empty = { λ v. v.parts ≡ 128 → (w : ℕ → ℕ) → total w v.put ≡ total w v.taken };
+    ghost empty = { λ v. v.parts ≡ 128 → (w : ℕ → ℕ) → total_weight w v.put ≡ total_weight w v.taken };
 }
 
 /// One part goes to a new pass, and comes back with what that pass took.
@@ -55,7 +55,7 @@ impl Split<Account> for Part {
 }
 
 impl Join<Account> for Part {
-    ghost both = { joined };
+    ghost both = { joined_accounts };
 
     ghost spent = { no_part };
 }

@@ -1,7 +1,7 @@
 //! What the workers have done, position by position.
 ghost use Rattle.std.specs.Prelude.{◌≡◌, ℕ, ◌+◌, ◌<◌, ◌⊎◌, length, IfOk};
 ghost use Rattle.crossbeam_deque.specs.Handles.{worker_view, worker_flavor};
-ghost use Rattle.rgo_sched.specs.Accounts.{total};
+ghost use Rattle.rgo_sched.specs.Accounts.{total_weight};
 ghost use Rattle.rgo_sched.specs.Crew.{Every, HasAllParts, NoneLost, done_by, put_by};
 ghost use Rattle.rgo_sched.specs.Positions.{Filled, only};
 
@@ -45,7 +45,7 @@ fn drain<T: Task + Drop, B: Before<T>>(
     requires all { (worker_view own.old).parts ≡ 128 }
     requires fifo { worker_flavor own.old ≡ 0 }
     ensures left { (k : ℕ) → Filled results.new k
-        ⊎ (total (only k) (worker_view own.old).put ≡ total (only k) (worker_view own.old).taken) }
+        ⊎ (total_weight (only k) (worker_view own.old).put ≡ total_weight (only k) (worker_view own.old).taken) }
     ensures kept { (k : ℕ) → Filled results.old k → Filled results.new k }
     ensures size { length results.new ≡ length results.old }
 {
@@ -63,7 +63,7 @@ fn gather<T: Task + Drop, B: Before<T>>(
     requires all { (worker_view worker.own).parts ≡ 128 }
     requires fifo { worker_flavor worker.own ≡ 0 }
     ensures left { (k : ℕ) → Filled results.new k
-        ⊎ (put_by (only k) worker + done_by (only k) worker ≡ total (only k) (worker_view worker.own).taken) }
+        ⊎ (put_by (only k) worker + done_by (only k) worker ≡ total_weight (only k) (worker_view worker.own).taken) }
     ensures kept { (k : ℕ) → Filled results.old k → Filled results.new k }
     ensures size { length results.new ≡ length results.old }
 {

@@ -1,9 +1,9 @@
 //! The workers at their work.
 ghost use Rattle.std.specs.Prelude.{◌≡◌, ℕ, ◌<◌, length};
 ghost use Rattle.crossbeam_deque.specs.Handles.{view, SameWorker, worker_view, worker_flavor};
-ghost use Rattle.rgo_sched.specs.Accounts.{TookInto, total};
-ghost use Rattle.rgo_sched.specs.Crew.{DoneIsTaken, Every, IsCrew, IsReady, Worked, put_by};
-ghost use Rattle.rgo_sched.specs.Permits.{AllFit, Fits, Moved};
+ghost use Rattle.rgo_sched.specs.Accounts.{TookInto, total_weight};
+ghost use Rattle.rgo_sched.specs.Crew.{DoneIsTaken, Every, IsCrew, WorkerIsReady, Worked, put_by};
+ghost use Rattle.rgo_sched.specs.Permits.{AllFit, Fits, TakenWasDone};
 
 use crate::crew::Worker;
 use crate::deques::{Permit, TaskDeque, TaskStealer, turn_own, turn_stolen};
@@ -55,7 +55,7 @@ fn sweep<T: Task + Drop, B: Before<T>>(
 ) -> bool
     requires fit { AllFit stealers.now permits.old }
     requires full { length permits.old ≡ length stealers.now }
-    ensures moved { Moved permits.old permits.new done.old.items done.new.items }
+    ensures moved { TakenWasDone permits.old permits.new done.old.items done.new.items }
     ensures fit { AllFit stealers.now permits.new }
 {
     let mut got = false;
@@ -74,7 +74,7 @@ fn steal<T: Task + Drop, B: Before<T>>(
 )
     requires fit { AllFit stealers.now permits.old }
     requires full { length permits.old ≡ length stealers.now }
-    ensures moved { Moved permits.old permits.new done.old.items done.new.items }
+    ensures moved { TakenWasDone permits.old permits.new done.old.items done.new.items }
     ensures fit { AllFit stealers.now permits.new }
 {
     let room = done.capacity() - done.len();
@@ -157,9 +157,9 @@ pub fn work_all<
 )
     requires some { 0 < length crew.old }
     requires crew { IsCrew stealers.now (λ _. 0) crew.old }
-    requires each { Every (IsReady (length stealers.now)) crew.old }
+    requires each { Every (WorkerIsReady (length stealers.now)) crew.old }
     ensures counted { Every DoneIsTaken crew.new }
-    ensures puts { (w : ℕ → ℕ) → total (put_by w) crew.new ≡ total (put_by w) crew.old }
+    ensures puts { (w : ℕ → ℕ) → total_weight (put_by w) crew.new ≡ total_weight (put_by w) crew.old }
     ensures crew { IsCrew stealers.now (λ _. 0) crew.new }
 {
     thread::for_each_mut(

@@ -3,7 +3,7 @@ use Rattle.std.proofs.Common.{◌≡◌, ℕ, List, Bool, true, false, Option, N
 use Rattle.std.proofs.lemmas.Map.Text.{hash_map_updates_str}
 use Rattle.indexmap.specs.IndexMap.{get_by, UpdatesBy}
 use Rattle.rgo_scopes.specs.declared.newest.Seen.{Seen}
-use Rattle.rgo_scopes.specs.Newest.{Newest, flat, noted, Notes}
+use Rattle.rgo_scopes.specs.Newest.{Newest, flat, noted_meaning, Notes}
 
 module _ {T S : Type 0} where
   pub Notes-insert : (old new : Newest T S) (name : List ℕ) (seen : Option (Seen T))
@@ -12,7 +12,7 @@ module _ {T S : Type 0} where
       ∙ by (bytes_eq name q)
     where
       by : (b : Bool) → flat (if b then Some seen else get_by (λ k. bytes_eq q k.now) old)
-          ≡ (if b then seen else noted old q)
+          ≡ (if b then seen else noted_meaning old q)
       by true = refl
       by false = refl
 

@@ -6,8 +6,8 @@ use Rattle.std.specs.Global.{Global}
 use Rattle.std.specs.Option.{option_or}
 use Rattle.rgo_scopes.specs.declared.newest.Seen.{Seen}
 use Rattle.rgo_scopes.specs.declared.scopes.Binding.{Binding}
-use Rattle.rgo_scopes.specs.Blocks.{Block, Blocks, found, found_in, found_outside, declared, entered, left}
-use Rattle.rgo_scopes.specs.Newest.{Newest, noted, Notes}
+use Rattle.rgo_scopes.specs.Blocks.{Block, NestedBlocks, found, found_in, found_outside, declared, entered, block_left}
+use Rattle.rgo_scopes.specs.Newest.{Newest, noted_meaning, Notes}
 use Rattle.rgo_scopes.specs.Trail.{Trail, Trails, declarations, nested, blocks_of, at_block, seen, seen_outside, Hides, HidesOutside, IsTrail}
 
 -- a list with no elements
@@ -81,7 +81,7 @@ module _ {T : Type 0} where
       by None e = e
       by (Some x) e = refl
 
-  pub found-seen : (name : List ℕ) (s : Blocks T) → found name s ≡ option_map (λ s. s.value) (seen name s.here s.outer)
+  pub found-seen : (name : List ℕ) (s : NestedBlocks T) → found name s ≡ option_map (λ s. s.value) (seen name s.here s.outer)
   found-seen name s = found_outside-seen name (s.here ∷ s.outer)
 
   -- an outer block has a smaller number than the innermost
@@ -132,7 +132,7 @@ module _ {T : Type 0} where
       (ap (λ bs. record { here = []; outer = bs }) (nested-push [] outer v))
 
   pub view-left : (here : Trail T) (outer more : Trails T) (v : Vec (Binding T) Global)
-      → more ≡ outer ++ v ∷ [] → blocks_of v.items outer ≡ left (blocks_of here more)
+      → more ≡ outer ++ v ∷ [] → blocks_of v.items outer ≡ block_left (blocks_of here more)
   view-left here outer more v e = rw (e, nested-push [] outer v) refl
 
   module _ {S : Type 0} where
@@ -141,7 +141,7 @@ module _ {T : Type 0} where
     trail-new here outer newest h o e = rw (h, o) (record { notes = λ q. rw e refl; hides = tt; hides_outside = tt })
 
     pub trail-declared : (here more : Trail T) (outer : Trails T) (old new : Newest T S) (b : Binding T) (block : ℕ)
-        → IsTrail here outer old → more ≡ here ++ b ∷ [] → b.hidden ≡ noted old b.name.now → block ≡ length outer
+        → IsTrail here outer old → more ≡ here ++ b ∷ [] → b.hidden ≡ noted_meaning old b.name.now → block ≡ length outer
         → Notes old b.name.now (Some (at_block block b.value)) new → IsTrail more outer new
     trail-declared here more outer old new b block h e hidden last says =
         rw e (record {
@@ -153,7 +153,7 @@ module _ {T : Type 0} where
         number : block ≡ length (nested [] outer)
         number = let l = length-nested [] outer in omega (arith, l, last)
 
-        by : (q : List ℕ) → noted new q ≡ seen q ((b.name.now, b.value) ∷ declarations [] here) (nested [] outer)
+        by : (q : List ℕ) → noted_meaning new q ≡ seen q ((b.name.now, b.value) ∷ declarations [] here) (nested [] outer)
         by q = says q ∙ (λ j. if bytes_eq b.name.now q then Some (at_block (number j) b.value) else h.notes q j)
             ∙ sym (seen-declared q b.name.now b.value (declarations [] here) (nested [] outer))
 
@@ -169,7 +169,7 @@ module _ {T : Type 0} where
     -- what the names mean before the last declaration is taken back
     notes-last : (here more : Trail T) (outer : Trails T) (old : Newest T S) (b : Binding T)
         → IsTrail more outer old → more ≡ here ++ b ∷ [] → (q : List ℕ)
-        → noted old q ≡ (if bytes_eq b.name.now q then Some (at_block (length (nested [] outer)) b.value)
+        → noted_meaning old q ≡ (if bytes_eq b.name.now q then Some (at_block (length (nested [] outer)) b.value)
         else seen q (declarations [] here) (nested [] outer))
     notes-last here more outer old b t e q =
         t.notes q ∙ ap (λ ds. seen q ds (nested [] outer)) (ap (declarations []) e ∙ declarations-push [] here b)
@@ -189,7 +189,7 @@ module _ {T : Type 0} where
         below = Hides-pop (nested [] outer) [] here b (subst (Hides (nested [] outer) []) e t.hides)
 
         by : (q : List ℕ) (r : Bool) → bytes_eq b.name.now q ≡ r
-            → (if bytes_eq b.name.now q then b.hidden else noted old q)
+            → (if bytes_eq b.name.now q then b.hidden else noted_meaning old q)
             ≡ seen q (declarations [] here) (nested [] outer)
         by q true same = rw same (below.1 ∙ ap (λ n. seen n (declarations [] here) (nested [] outer))
             ((bytes_eq-Decides b.name.now q).0 same))
@@ -197,7 +197,7 @@ module _ {T : Type 0} where
 
     -- the name of the last declaration means something
     pub IsSome-last : (here more : Trail T) (outer : Trails T) (old : Newest T S) (b : Binding T)
-        → IsTrail more outer old → more ≡ here ++ b ∷ [] → IsSome (noted old b.name.now)
+        → IsTrail more outer old → more ≡ here ++ b ∷ [] → IsSome (noted_meaning old b.name.now)
     IsSome-last here more outer old b t e =
         rw (notes-last here more outer old b t e b.name.now, (bytes_eq-Decides b.name.now b.name.now).1 refl) refl
 
@@ -216,13 +216,13 @@ module _ {T : Type 0} where
 
     -- the notes say what each name means, and whether in the innermost block
     pub found-noted : (here : Trail T) (outer : Trails T) (newest : Newest T S)
-        → IsTrail here outer newest → (q : List ℕ) → option_map (λ s. s.value) (noted newest q)
+        → IsTrail here outer newest → (q : List ℕ) → option_map (λ s. s.value) (noted_meaning newest q)
         ≡ found q (blocks_of here outer)
     found-noted here outer newest t q = ap (option_map (λ s. s.value)) (t.notes q)
         ∙ sym (found-seen q (blocks_of here outer))
 
     pub is_at-noted : (here : Trail T) (outer : Trails T) (newest : Newest T S)
-        → IsTrail here outer newest → (q : List ℕ) → is_at (length outer) (noted newest q)
+        → IsTrail here outer newest → (q : List ℕ) → is_at (length outer) (noted_meaning newest q)
         ≡ is_some (found_in q (declarations [] here))
     is_at-noted here outer newest t q =
         ap (is_at (length outer)) (t.notes q)

@@ -8,13 +8,13 @@ abbrev pub Block : Type 0 → Type 0
 Block T = List (List ℕ × T)
 
 -- the innermost block, and those around it, from the inside to the outside
-pub record Blocks (T : Type 0) : Type 0 where
+pub record NestedBlocks (T : Type 0) : Type 0 where
   pub here : Block T
   pub outer : List (Block T)
 
 module _ {T : Type 0} where
   -- one block with no names
-  abbrev pub no_names : Blocks T
+  abbrev pub no_names : NestedBlocks T
   no_names = record { here = []; outer = [] }
 
   -- what a name means in a block: its newest declaration there
@@ -28,22 +28,22 @@ module _ {T : Type 0} where
   found_outside name (b ∷ bs) = option_or (found_in name b) (found_outside name bs)
 
   -- what it means
-  abbrev pub found : List ℕ → Blocks T → Option T
+  abbrev pub found : List ℕ → NestedBlocks T → Option T
   found name s = option_or (found_in name s.here) (found_outside name s.outer)
 
   -- with a new declaration in the innermost block
-  abbrev pub declared : List ℕ → T → Blocks T → Blocks T
+  abbrev pub declared : List ℕ → T → NestedBlocks T → NestedBlocks T
   declared name value s = record { here = (name, value) ∷ s.here; outer = s.outer }
 
   -- with a new block inside the innermost
-  abbrev pub entered : Blocks T → Blocks T
+  abbrev pub entered : NestedBlocks T → NestedBlocks T
   entered s = record { here = []; outer = s.here ∷ s.outer }
 
   -- the first of these blocks as the innermost, and no names where there is none
-  abbrev pub left_to : List (Block T) → Blocks T
+  abbrev pub left_to : List (Block T) → NestedBlocks T
   left_to [] = no_names
   left_to (b ∷ bs) = record { here = b; outer = bs }
 
   -- without the innermost block
-  abbrev pub left : Blocks T → Blocks T
-  left s = left_to s.outer
+  abbrev pub block_left : NestedBlocks T → NestedBlocks T
+  block_left s = left_to s.outer

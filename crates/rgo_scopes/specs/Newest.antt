@@ -15,10 +15,10 @@ Newest T S = IndexMap (Bor (List ℕ)) (Option (Seen T)) S
 
 module _ {T S : Type 0} where
   -- what a name means
-  abbrev pub noted : Newest T S → List ℕ → Option (Seen T)
-  noted m name = flat (get_by (λ k. bytes_eq name k.now) m)
+  abbrev pub noted_meaning : Newest T S → List ℕ → Option (Seen T)
+  noted_meaning m name = flat (get_by (λ k. bytes_eq name k.now) m)
 
   -- the name means this, and others what they did
   abbrev pub Notes : Newest T S → List ℕ → Option (Seen T) → Newest T S → Type 0
   Notes old name seen new =
-      (q : List ℕ) → noted new q ≡ (if bytes_eq name q then seen else noted old q)
+      (q : List ℕ) → noted_meaning new q ≡ (if bytes_eq name q then seen else noted_meaning old q)

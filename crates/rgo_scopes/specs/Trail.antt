@@ -4,8 +4,8 @@ use Rattle.std.specs.Prelude.{◌≡◌, ℕ, List, [], ◌∷◌, Option, None,
 use Rattle.std.specs.Option.{option_or, option_map}
 use Rattle.std.specs.Borrow.{Bor}
 use Rattle.std.specs.Global.{Global}
-use Rattle.rgo_scopes.specs.Blocks.{Block, Blocks, found_in}
-use Rattle.rgo_scopes.specs.Newest.{Newest, noted}
+use Rattle.rgo_scopes.specs.Blocks.{Block, NestedBlocks, found_in}
+use Rattle.rgo_scopes.specs.Newest.{Newest, noted_meaning}
 use Rattle.rgo_scopes.specs.declared.newest.Seen.{Seen}
 use Rattle.rgo_scopes.specs.declared.scopes.Binding.{Binding}
 
@@ -32,7 +32,7 @@ module _ {T : Type 0} where
   nested done [] = done
   nested done (v ∷ vs) = nested (declarations [] v.items ∷ done) vs
 
-  abbrev pub blocks_of : Trail T → Trails T → Blocks T
+  abbrev pub blocks_of : Trail T → Trails T → NestedBlocks T
   blocks_of here outer = record { here = declarations [] here; outer = nested [] outer }
 
   -- a value with the number of blocks outside its own
@@ -65,7 +65,7 @@ module _ {T : Type 0} where
   module _ {S : Type 0} where
     -- the map notes what each name means
     abbrev pub NotesAll : Newest T S → Block T → List (Block T) → Type 0
-    NotesAll newest here outer = (name : List ℕ) → noted newest name ≡ seen name here outer
+    NotesAll newest here outer = (name : List ℕ) → noted_meaning newest name ≡ seen name here outer
 
     -- what holds of the fields
     pub record IsTrail (here : Trail T) (outer : Trails T) (newest : Newest T S) : Type 0 where

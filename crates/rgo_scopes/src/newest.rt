@@ -1,7 +1,7 @@
 //! The index below the table of blocks: what each name means now, found by a hash of the name.
 
 ghost use Rattle.std.specs.Prelude.{◌≡◌, List, ℕ, Some, IsSome, OnOk, OnErr, bytes_eq, if◌then◌else◌};
-ghost use Rattle.rgo_scopes.specs.Newest.{noted, Notes};
+ghost use Rattle.rgo_scopes.specs.Newest.{noted_meaning, Notes};
 
 use indexmap::IndexMap;
 use std::alloc::AllocError;
@@ -18,7 +18,7 @@ pub(crate) type Newest<'a, T> = IndexMap<&'a [u8], Option<Seen<T>>>;
 
 /// What a name means.
 pub(crate) fn look_up<'a, T: Copy>(newest: &Newest<'a, T>, name: &[u8]) -> Option<Seen<T>>
-    ensures { result ≡ noted newest.now name.now }
+    ensures { result ≡ noted_meaning newest.now name.now }
 {
     match newest.get(name) {
         Some(seen) => *seen,
@@ -46,7 +46,7 @@ pub(crate) fn restore<'a, T: Copy>(
     name: &'a [u8],
     seen: Option<Seen<T>>,
 )
-    requires { IsSome (noted newest.old name.now) }
+    requires { IsSome (noted_meaning newest.old name.now) }
     ensures noted { Notes newest.old name.now seen newest.new }
 {
     newest.insert(name, seen).unwrap();

@@ -1,7 +1,7 @@
 //! The table of blocks: what each block declares, and what each declaration hid.
 
 ghost use Rattle.std.specs.Prelude.{◌≡◌, OnOk, OnErr, is_some};
-ghost use Rattle.rgo_scopes.specs.Blocks.{no_names, found, found_in, declared, entered, left};
+ghost use Rattle.rgo_scopes.specs.Blocks.{no_names, found, found_in, declared, entered, block_left};
 
 use crate::newest::{Newest, Seen, look_up, note, restore};
 use indexmap::IndexMap;
@@ -30,9 +30,9 @@ pub struct Scopes<'a, T> {
 }
 
 impl<'a, T> Model for Scopes<'a, T> {
-    ghost use Rattle.rgo_scopes.specs.Blocks.{Blocks};
+    ghost use Rattle.rgo_scopes.specs.Blocks.{NestedBlocks};
 
-    ghost Value = { Blocks T };
+    ghost Value = { NestedBlocks T };
 
     ghost use Rattle.rgo_scopes.specs.Trail.{blocks_of, IsTrail};
 
@@ -112,7 +112,7 @@ impl<'a, T: Copy> Scopes<'a, T> {
     /// outermost block leaves one with no names. Takes O(n) time for the n declarations of the
     /// block. Allocates nothing.
     pub fn leave(&mut self)
-        ensures { self.new ≡ left self.old }
+        ensures { self.new ≡ block_left self.old }
     {
         while let Some(binding) = self.here.pop() {
             restore(&mut self.newest, binding.name, binding.hidden);

@@ -7,7 +7,7 @@ use Rattle.rgo_ast.specs.declared.names.Ident.{Ident}
 use Rattle.rgo_lexer.specs.declared.terminals.Terminal.TheVariants.{Semicolon, CloseParen, OpenBrace}
 use Rattle.rgo_lexer.specs.Lexemes.{Lexeme, tok, ident}
 use Rattle.rgo_grammar.specs.Grammar as grammar
-use Rattle.rgo_grammar.specs.Grammar.{Listed, Each, IsBinding, IsTypeSpec, IsDecl}
+use Rattle.rgo_grammar.specs.Grammar.{Listed, EachWithSemicolon, IsBinding, IsTypeSpec, IsDecl}
 use Rattle.rgo_typed.specs.declared.types.Type.{«Type»}
 use Rattle.rgo_typed.specs.declared.programs.Struct.{Struct}
 use Rattle.rgo_typed.specs.Tree.{Function}
@@ -17,7 +17,7 @@ use Rattle.rgo_typing_packages.specs.Names.{with_names, with_bindings}
 use Rattle.rgo_typing_packages.specs.Signatures.{Signatures, in_seen, with_struct, with_structs, with_variable, with_variables}
 use Rattle.rgo_typing_packages.specs.Signatures.{with_binding, with_vars, with_decl, with_decls}
 use Rattle.rgo_types.specs.Programs.{in_function, at_body, typed_decl, typed_functions}
-use Rattle.rgo_lower.specs.Sizes.{most_fields, largest_of}
+use Rattle.rgo_lower.specs.Sizes.{most_struct_fields, largest_of}
 use Rattle.rgo_size_laws.proofs.Names.{names_few, bindings_few}
 use Rattle.rgo_size_laws.proofs.Statements.{stmts_small}
 
@@ -26,7 +26,7 @@ use Rattle.rgo_size_laws.proofs.Statements.{stmts_small}
 -- what is declared outside of functions is within n
 pub record Within (n : ℕ) (s : Signatures) : Type 0 where
   pub structs : length s.typed_structs ≤ n
-  pub fields : most_fields s.typed_structs ≤ n
+  pub fields : most_struct_fields s.typed_structs ≤ n
   pub variables : length s.typed_variables ≤ n
 
 within_more : {n m : ℕ} {s : Signatures} → Within n s → n ≤ m → Within m s
@@ -36,8 +36,8 @@ within_more h le = record {
   variables = omega (arith, h.variables, le);
 }
 
-fields_within : (l : List Struct) (s : Struct) (n : ℕ) → most_fields l ≤ n → length s.fields ≤ n
-    → most_fields (l ++ s ∷ []) ≤ n
+fields_within : (l : List Struct) (s : Struct) (n : ℕ) → most_struct_fields l ≤ n → length s.fields ≤ n
+    → most_struct_fields (l ++ s ∷ []) ≤ n
 fields_within [] s n h k = omega (arith, k)
 fields_within (t ∷ l) s n h k =
     let rest = fields_within l s n (omega (arith, h)) k in
@@ -113,10 +113,10 @@ decl_within (grammar.IsDecl.func i j k m end params result body) c s n h = recor
   variables = omega (arith, h.variables);
 }
 
-pub decls_within : {x : List Lexeme} {l : List Decl} → Each IsDecl x l → (c : Context) (s : Signatures) (n : ℕ)
+pub decls_within : {x : List Lexeme} {l : List Decl} → EachWithSemicolon IsDecl x l → (c : Context) (s : Signatures) (n : ℕ)
     → Within n s → Within (n + length x) (with_decls c s l)
-decls_within grammar.Each.none c s n h = within_more h (omega arith)
-decls_within (grammar.Each.next j {x = x} {y = y} {a = d} is rest) c s n h =
+decls_within grammar.EachWithSemicolon.none c s n h = within_more h (omega arith)
+decls_within (grammar.EachWithSemicolon.next j {x = x} {y = y} {a = d} is rest) c s n h =
     within_more
     (decls_within rest c (with_decl c s d) (n + length x) (decl_within is c s n h))
     (omega (arith, length-append x (tok Semicolon j ∷ y)))
@@ -149,10 +149,10 @@ function_small (grammar.IsDecl.func i j k m end {x = x} {y = y} {z = z} {ps = ps
       largest = omega (arith, h.largest, counted, few, long, rest);
     }
 
-pub functions_small : {x : List Lexeme} {l : List Decl} → Each IsDecl x l → (c : Context)
+pub functions_small : {x : List Lexeme} {l : List Decl} → EachWithSemicolon IsDecl x l → (c : Context)
     → Few (length x) (typed_functions c l)
-functions_small grammar.Each.none c = record { many = omega arith; largest = omega arith }
-functions_small (grammar.Each.next j {x = x} {y = y} {all = l} is rest) c =
+functions_small grammar.EachWithSemicolon.none c = record { many = omega arith; largest = omega arith }
+functions_small (grammar.EachWithSemicolon.next j {x = x} {y = y} {all = l} is rest) c =
     few_more
     (function_small is c (length y) (typed_functions c l) (functions_small rest c))
     (omega (arith, length-append x (tok Semicolon j ∷ y)))

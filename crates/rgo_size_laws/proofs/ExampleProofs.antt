@@ -11,7 +11,7 @@ use Rattle.rgo_lexer.specs.Numbers.{number_at, literal_value}
 use Rattle.rgo_lexer.specs.Operators.{operator_at, operator_entry}
 use Rattle.rgo_lexer.specs.Semicolons.{may_end}
 use Rattle.rgo_lexer.specs.Strings.{items_len, string_at}
-use Rattle.rgo_lexer.specs.Words.{word_at, word_terminal}
+use Rattle.rgo_lexer.specs.Words.{word_at_front, word_terminal}
 use Rattle.rgo_lexer.specs.declared.terminals.Terminal.TheVariants.{Package, Semicolon, Func, Name, OpenParen, CloseParen}
 use Rattle.rgo_lexer.specs.declared.terminals.Terminal.TheVariants.{OpenBrace, For, CloseBrace}
 use Rattle.rgo_grammar.specs.Grammar.{IsProgram}
@@ -23,8 +23,8 @@ use Rattle.rgo_grammar.proofs.Whole.{parsed}
 use Rattle.rgo_typed.specs.declared.programs.Struct.{Struct}
 use Rattle.rgo_typed.specs.Tree as tree
 use Rattle.rgo_typed.specs.Tree.{stmts_of}
-use Rattle.rgo_lower.specs.Sizes.{most_fields, stmts_size, IsTooLarge}
-use Rattle.rgo_size_laws.specs.Examples.{loop_text, loop_lexemes, loop_program, of_structs, of_breaks, SizeExamples}
+use Rattle.rgo_lower.specs.Sizes.{most_struct_fields, stmts_size, IsTooLargeToLower}
+use Rattle.rgo_size_laws.specs.Examples.{loop_text, loop_lexemes, loop_program, only_structs, of_breaks, SizeExamples}
 
 loop_utf8 : IsUtf8 loop_text
 unfolding lib.Utf8.encode
@@ -40,7 +40,7 @@ loop_found =
     tok CloseBrace (leaf 30 (codes "}")) ∷ tok Semicolon (leaf 31 []) ∷ []
 
 loop_from : LexesFrom 0 None loop_text loop_found
-unfolding front_of word_at word_terminal number_at literal_value string_at items_len comment_at operator_at operator_entry may_end
+unfolding front_of word_at_front word_terminal number_at literal_value string_at items_len comment_at operator_at operator_entry may_end
 loop_from =
     piece Package 7 refl (blank 1 refl (piece Name 4 refl (newline 1 refl (piece Func 4 refl (blank 1 refl
     (piece Name 4 refl (piece OpenParen 1 refl (piece CloseParen 1 refl (piece OpenBrace 1 refl (piece For 3 refl
@@ -50,7 +50,7 @@ loop_derived : IsProgram loop_lexemes loop_program.imports loop_program.decls
 unfolding listed several a_type names expr stmt decls imports
 loop_derived = parsed loop_lexemes (loop_program.imports, loop_program.decls) [] refl
 
-no_fields : (n : ℕ) (s : Struct) → length s.fields ≡ 0 → most_fields (replicate n s) ≡ 0
+no_fields : (n : ℕ) (s : Struct) → length s.fields ≡ 0 → most_struct_fields (replicate n s) ≡ 0
 no_fields zero s e = refl
 no_fields (suc n) s e = omega (arith, no_fields n s e, e)
 
@@ -61,13 +61,13 @@ breaks_size (suc n) = omega (arith, breaks_size n)
 abbrev empty_struct : Struct
 empty_struct = record { name = codes "S"; fields = [] }
 
-many_structs : (n : ℕ) → IsTooLarge (of_structs n) ↔ 4294967294 ≤ n
+many_structs : (n : ℕ) → IsTooLargeToLower (only_structs n) ↔ 4294967294 ≤ n
 many_structs n =
     let many = length-replicate n empty_struct in
     let none = no_fields n empty_struct refl in
     (λ h. omega (arith, many, none, h), λ h. omega (arith, many, none, h))
 
-many_breaks : (n : ℕ) → IsTooLarge (of_breaks n) ↔ 1431655764 ≤ n
+many_breaks : (n : ℕ) → IsTooLargeToLower (of_breaks n) ↔ 1431655764 ≤ n
 many_breaks n =
     let counted = breaks_size n in
     (λ h. omega (arith, counted, h), λ h. omega (arith, counted, h))

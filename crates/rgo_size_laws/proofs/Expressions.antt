@@ -12,7 +12,7 @@ use Rattle.rgo_typing_expressions.specs.Packages.{Fields, Context}
 use Rattle.rgo_typing_expressions.specs.Callees.{callee_of}
 use Rattle.rgo_typing_expressions.specs.Scopes.{meaning_of}
 use Rattle.rgo_typing_expressions.specs.Types.{type_of, field_of}
-use Rattle.rgo_typing_expressions.specs.Terms.{term_of, all_terms, element_terms, element_numbers, wanted_of, first_numbers, count}
+use Rattle.rgo_typing_expressions.specs.Terms.{typed_term, all_terms, element_terms, element_numbers, wanted_of, first_numbers, number_of_terms}
 use Rattle.rgo_typing_expressions.specs.Checking.{field_types, struct_fields}
 use Rattle.rgo_lower.specs.Sizes.{term_size, terms_size}
 use Rattle.rgo_size_laws.proofs.Terms.{first_retyped, known_retyped, name_small, field_small, call_small, unary_small, binary_small}
@@ -23,31 +23,31 @@ numbers_many (suc n) = omega (arith, numbers_many n, length-append (first_number
 
 mutual
   pub expr_small : {header : Bool} {least : ℕ} {x : List Lexeme} {v : Expr} → IsExpr header least x v → (c : Context)
-      → term_size (term_of c v) ≤ 12 * length x
+      → term_size (typed_term c v) ≤ 12 * length x
   expr_small (grammar.IsExpr.unary e) c = unary_expr_small e c
   expr_small (grammar.IsExpr.binary o i {x = x} {y = y} {a = a} {b = b} tight e f) c =
       omega (
         arith,
         expr_small e c,
         expr_small f c,
-        binary_small o (type_of c a) (type_of c b) (term_of c a) (term_of c b) i.at,
+        binary_small o (type_of c a) (type_of c b) (typed_term c a) (typed_term c b) i.at,
         length-append x (tok (Binary o) i ∷ y),
       )
 
   pub unary_expr_small : {header : Bool} {x : List Lexeme} {v : Expr} → IsUnary header x v → (c : Context)
-      → term_size (term_of c v) ≤ 12 * length x
+      → term_size (typed_term c v) ≤ 12 * length x
   unary_expr_small (grammar.IsUnary.signed k o i {v = v} is e) c =
-      omega (arith, unary_expr_small e c, unary_small o (type_of c v) (term_of c v) i.at)
+      omega (arith, unary_expr_small e c, unary_small o (type_of c v) (typed_term c v) i.at)
   unary_expr_small (grammar.IsUnary.literal i j k {vs = vs} all) c =
       let types = (struct_fields c.globals (meaning_of c (ident j).name)).types in
-      omega (arith, exprs_small all c types, numbers_many (count (all_terms c types (exprs_of vs))))
+      omega (arith, exprs_small all c types, numbers_many (number_of_terms (all_terms c types (exprs_of vs))))
   unary_expr_small (grammar.IsUnary.keyed i j k {e = e} {es = es} all) c =
       let fields = struct_fields c.globals (meaning_of c (ident j).name) in
       omega (arith, elements_small all c (field_types fields (elements_of (e ∷ es))) fields)
   unary_expr_small (grammar.IsUnary.primary e) c = primary_small e c
 
   pub primary_small : {x : List Lexeme} {v : Expr} → IsPrimary x v → (c : Context)
-      → term_size (term_of c v) ≤ 12 * length x
+      → term_size (typed_term c v) ≤ 12 * length x
   primary_small (grammar.IsPrimary.number n i) c = omega arith
   primary_small (grammar.IsPrimary.text i) c = omega arith
   primary_small (grammar.IsPrimary.name i) c = omega (arith, name_small c (meaning_of c (ident i).name) (ident i).at)
@@ -63,7 +63,7 @@ mutual
       omega (
         arith,
         primary_small e c,
-        field_small (field_of c.globals (type_of c v) (ident j).name) (term_of c v) (ident j).at,
+        field_small (field_of c.globals (type_of c v) (ident j).name) (typed_term c v) (ident j).at,
         length-append x (tok Dot i ∷ tok Name j ∷ []),
       )
   primary_small (grammar.IsPrimary.index i j {x = x} {y = y} e f) c =
@@ -86,16 +86,16 @@ mutual
   -- with the store of each
   pub exprs_small : {closer : Terminal} {x : List Lexeme} {vs : List Expr} → IsExprs closer x vs → (c : Context)
       (types : List «Type»)
-      → terms_size (all_terms c types (exprs_of vs)) + count (all_terms c types (exprs_of vs)) * 3 ≤ 12 * length x
+      → terms_size (all_terms c types (exprs_of vs)) + number_of_terms (all_terms c types (exprs_of vs)) * 3 ≤ 12 * length x
   exprs_small (grammar.IsExprs.none j) c types = omega arith
   exprs_small (grammar.IsExprs.last {closer} j {x = x} {v = v} e) c types =
-      omega (arith, expr_small e c, first_retyped types (term_of c v), length-append x (tok closer j ∷ []))
+      omega (arith, expr_small e c, first_retyped types (typed_term c v), length-append x (tok closer j ∷ []))
   exprs_small (grammar.IsExprs.more j {x = x} {y = y} {v = v} e all) c types =
       omega (
         arith,
         expr_small e c,
         exprs_small all c (drop 1 types),
-        first_retyped types (term_of c v),
+        first_retyped types (typed_term c v),
         length-append x (tok Comma j ∷ y),
       )
 
@@ -105,12 +105,12 @@ mutual
       ≤ 12 * length x
   elements_small (grammar.IsElements.no_element j) c types fields = omega arith
   elements_small (grammar.IsElements.last_element i k j {x = x} {v = v} e) c types fields =
-      omega (arith, expr_small e c, known_retyped types (term_of c v), length-append x (tok CloseBrace j ∷ []))
+      omega (arith, expr_small e c, known_retyped types (typed_term c v), length-append x (tok CloseBrace j ∷ []))
   elements_small (grammar.IsElements.more_elements i k j {x = x} {y = y} {v = v} e all) c types fields =
       omega (
         arith,
         expr_small e c,
         elements_small all c (drop 1 types) fields,
-        known_retyped types (term_of c v),
+        known_retyped types (typed_term c v),
         length-append x (tok Comma j ∷ y),
       )

@@ -14,14 +14,14 @@ use Rattle.rgo_typed.specs.Tree.{Term, Terms}
 use Rattle.rgo_typing_rules.specs.Builtins.{result_of, action_of}
 use Rattle.rgo_typing_rules.specs.Shapes as shape
 use Rattle.rgo_typing_rules.specs.Shapes.{Shape}
-use Rattle.rgo_typing_expressions.specs.Callees.{bare, callee_of}
+use Rattle.rgo_typing_expressions.specs.Callees.{without_parens, callee_of}
 use Rattle.rgo_typing_expressions.specs.Packages.{Package, Context}
-use Rattle.rgo_typing_expressions.specs.Terms.{term_of, all_terms, wanted_of, with_type, type_in, call_term}
+use Rattle.rgo_typing_expressions.specs.Terms.{typed_term, all_terms, wanted_of, with_type, type_in, call_term}
 use Rattle.rgo_typing_expressions.specs.Types.{type_of, call_shape}
 use Rattle.rgo_typing_expressions.specs.declared.callees.Callee.{Callee}
 use Rattle.rgo_typing_expressions.specs.declared.callees.Callee.TheVariants as callee
 use Rattle.rgo_typing_statements.specs.TypedStatements.{is_text, unless_text, printed_terms, called_stmt, builtin_stmt, call_stmt, plain_stmt}
-use Rattle.rgo_typing_statements.specs.TypedStatements.{go_stmt, ended, write_of, stored, stored_by, changed, changed_by, assign_stmt, with_result}
+use Rattle.rgo_typing_statements.specs.TypedStatements.{go_stmt, with_last, write_of, store_stmt, stored_by, changed, changed_by, assign_stmt, with_result}
 use Rattle.rgo_lower.specs.Sizes.{term_size, terms_size, stmt_size}
 use Rattle.rgo_size_laws.proofs.Terms.{retyped, call_small}
 use Rattle.rgo_size_laws.proofs.Expressions.{expr_small, unary_expr_small, primary_small, exprs_small}
@@ -38,7 +38,7 @@ printed_small : (args : Exprs) (l : Terms) → terms_size (printed_terms args l)
 printed_small tree.no_exprs l = omega arith
 printed_small (tree.an_expr e args) typed.no_terms = omega arith
 printed_small (tree.an_expr e args) (typed.a_term t l) =
-    unless_small (is_text (bare e)) t (printed_terms args l) (terms_size l) (printed_small args l)
+    unless_small (is_text (without_parens e)) t (printed_terms args l) (terms_size l) (printed_small args l)
 
 called_small : (s : Shape) (t : Term) → stmt_size (called_stmt s t) ≤ term_size t
 called_small shape.NoResult (typed.Call n args ty at) = omega arith
@@ -62,7 +62,7 @@ go_small f l at = omega arith
 
 -- ---- assignments
 
-ended_size : (l : Terms) (t : Term) → terms_size (ended l t) ≡ terms_size l + term_size t
+ended_size : (l : Terms) (t : Term) → terms_size (with_last l t) ≡ terms_size l + term_size t
 ended_size typed.no_terms t = omega arith
 ended_size (typed.a_term u l) t = omega (arith, ended_size l t)
 
@@ -71,7 +71,7 @@ stored_by_small : (write : Option Action) (l : Terms) (value : Term) (at : ℕ)
 stored_by_small None l value at = omega arith
 stored_by_small (Some write) l value at = omega (arith, ended_size l value)
 
-stored_small : (left value : Term) (at : ℕ) → stmt_size (stored left value at) ≤ term_size left + term_size value + 6
+stored_small : (left value : Term) (at : ℕ) → stmt_size (store_stmt left value at) ≤ term_size left + term_size value + 6
 stored_small (typed.Local n) value at = omega arith
 stored_small (typed.Apply read l ty read_at) value at = omega (arith, stored_by_small (write_of read) l value at)
 stored_small left value at = omega arith
@@ -90,11 +90,11 @@ changed_small op (typed.Apply read l ty read_at) value at =
 changed_small op left value at = omega arith
 
 pub assign_small : (c : Context) (op : Option BinaryOp) (a b : Expr) (at : ℕ)
-    → stmt_size (assign_stmt c op a b at) ≤ term_size (term_of c a) + term_size (term_of c b) + 6
+    → stmt_size (assign_stmt c op a b at) ≤ term_size (typed_term c a) + term_size (typed_term c b) + 6
 assign_small c None a b at =
     let ty = type_in (type_of c a) in
-    omega (arith, stored_small (term_of c a) (with_type ty (term_of c b)) at, retyped ty (term_of c b))
-assign_small c (Some op) a b at = changed_small op (term_of c a) (term_of c b) at
+    omega (arith, stored_small (typed_term c a) (with_type ty (typed_term c b)) at, retyped ty (typed_term c b))
+assign_small c (Some op) a b at = changed_small op (typed_term c a) (typed_term c b) at
 
 -- ---- expressions
 

@@ -7,20 +7,20 @@ use Rattle.rgo_lexer.specs.declared.terminals.Terminal.TheVariants.{Arrow, Assig
 use Rattle.rgo_lexer.specs.Lexemes.{Lexeme, Leaf, tok, ident}
 use Rattle.rgo_ast.specs.declared.ops.AssignOp.TheVariants as assign_op
 use Rattle.rgo_grammar.specs.Grammar as grammar
-use Rattle.rgo_grammar.specs.Grammar.{Listed, IsExpr, IsSimple, IsClause, IsCondition, IsLocal, IsStmt, IsStmts, IsIf, IsElse, IsFor}
+use Rattle.rgo_grammar.specs.Grammar.{Listed, IsExpr, IsSimple, IsClause, IsCondition, IsLocalVar, IsStmt, IsStmts, IsIf, IsElse, IsFor}
 use Rattle.rgo_typed.specs.declared.types.Type.{«Type»}
 use Rattle.rgo_typed.specs.Tree as typed
 use Rattle.rgo_typed.specs.Tree.{Term, Stmt, stmts_of}
 use Rattle.rgo_typing_expressions.specs.Callees.{named_callee}
 use Rattle.rgo_typing_expressions.specs.Packages.{Context}
 use Rattle.rgo_typing_expressions.specs.Scopes.{meaning_of, resolved}
-use Rattle.rgo_typing_expressions.specs.Terms.{term_of, all_terms, wanted_of, constant, element_type}
+use Rattle.rgo_typing_expressions.specs.Terms.{typed_term, all_terms, wanted_of, int_constant, element_type}
 use Rattle.rgo_typing_expressions.specs.Types.{type_of}
 use Rattle.rgo_typing_statements.specs.Statements as source
 use Rattle.rgo_typing_statements.specs.Statements.{Enclosing, within_loop, in_block, header, type_or}
-use Rattle.rgo_typing_statements.specs.Statements.{after, after_all, after_block, after_clause, after_var, after_vars}
+use Rattle.rgo_typing_statements.specs.Statements.{context_after, after_all, after_block, after_clause, after_var, after_vars}
 use Rattle.rgo_typing_statements.specs.TypedStatements.{zeros, define_stmt, var_stmts, vars_stmts, optional_term, has_clause}
-use Rattle.rgo_typing_statements.specs.TypedStatements.{headed, branches, typed_stmt, typed_all, typed_clause}
+use Rattle.rgo_typing_statements.specs.TypedStatements.{headed, if_or_else, typed_stmt, typed_all, typed_clause}
 use Rattle.rgo_lower.specs.Sizes.{term_size, value_size, stmt_size, stmts_size}
 use Rattle.rgo_size_laws.proofs.Terms.{retyped}
 use Rattle.rgo_size_laws.proofs.Expressions.{expr_small, exprs_small}
@@ -46,11 +46,11 @@ define_small : {header : Bool} {least : ℕ} {x : List Lexeme} {v : Expr} → Is
     → Small (length x + 1) c (source.after_define c name wanted v) (define_stmt c wanted v at ∷ [])
 define_small {v = v} e c name wanted at =
     let ty = type_or wanted (type_of c v) in
-    omega (arith, expr_small e c, retyped ty (term_of c v), length-append c.scope.types (ty ∷ []))
+    omega (arith, expr_small e c, retyped ty (typed_term c v), length-append c.scope.types (ty ∷ []))
 
-var_small : {x : List Lexeme} {v : LocalVar} → IsLocal x v → (c : Context)
+var_small : {x : List Lexeme} {v : LocalVar} → IsLocalVar x v → (c : Context)
     → Small (length x) c (after_var c v) (var_stmts c v)
-var_small (grammar.IsLocal.zero (grammar.IsBinding.binding {x = x} {y = y} {ns = names} {t = t} is is_type)) c =
+var_small (grammar.IsLocalVar.zero (grammar.IsBinding.binding {x = x} {y = y} {ns = names} {t = t} is is_type)) c =
     let ty = resolved c t in
     omega (
       arith,
@@ -59,15 +59,15 @@ var_small (grammar.IsLocal.zero (grammar.IsBinding.binding {x = x} {y = y} {ns =
       declared_many ty c.scope names,
       length-append x y,
     )
-var_small (grammar.IsLocal.typed i j {x = x} {y = y} {t = t} is_type e) c =
+var_small (grammar.IsLocalVar.typed i j {x = x} {y = y} {t = t} is_type e) c =
     omega (
       arith,
       define_small e c (ident i) (Some (resolved c t)) j.at,
       length-append x (tok (Assign assign_op.Plain) j ∷ y),
     )
-var_small (grammar.IsLocal.inferred i j e) c = omega (arith, define_small e c (ident i) None j.at)
+var_small (grammar.IsLocalVar.inferred i j e) c = omega (arith, define_small e c (ident i) None j.at)
 
-vars_small : {x : List Lexeme} {all : List LocalVar} → Listed IsLocal Semicolon CloseParen x all → (c : Context)
+vars_small : {x : List Lexeme} {all : List LocalVar} → Listed IsLocalVar Semicolon CloseParen x all → (c : Context)
     → Small (length x) c (after_vars c all) (vars_stmts c all)
 vars_small (grammar.Listed.none j) c = omega arith
 vars_small (grammar.Listed.last j {x = x} {a = v} is) c =
@@ -89,7 +89,7 @@ headed_small false init s = omega arith
 headed_small true init s = omega (arith, both_size init (s ∷ []))
 
 branches_small : (has : Bool) (test : Term) (body other : List Stmt) (at : ℕ)
-    → stmt_size (branches has test body other at)
+    → stmt_size (if_or_else has test body other at)
     ≤ term_size test + stmts_size (stmts_of body) + stmts_size (stmts_of other) + 9
 branches_small false test body other at = omega arith
 branches_small true test body other at = omega arith
@@ -100,21 +100,21 @@ condition_small grammar.IsCondition.none c = omega arith
 condition_small (grammar.IsCondition.some e) c = expr_small e c
 
 simple_small : {header defines : Bool} {x : List Lexeme} {s : tree.Stmt} → IsSimple header defines x s
-    → (f : Enclosing) (c : Context) → Small (length x) c (after c s) (typed_stmt f c s)
+    → (f : Enclosing) (c : Context) → Small (length x) c (context_after c s) (typed_stmt f c s)
 simple_small (grammar.IsSimple.plain e) f c = omega (arith, plain_small e c)
 simple_small (grammar.IsSimple.send i {x = x} {y = y} {a = a} {b = b} e g) f c =
     omega (
       arith,
       expr_small e c,
       expr_small g c,
-      retyped (element_type (type_of c a)) (term_of c b),
+      retyped (element_type (type_of c a)) (typed_term c b),
       length-append x (tok Arrow i ∷ y),
     )
 simple_small (grammar.IsSimple.step o i {x = x} {v = v} e) f c =
     omega (
       arith,
       expr_small e c,
-      changed_small (source.step_op o) (term_of c v) (constant (pos 1) i.at) i.at,
+      changed_small (source.step_op o) (typed_term c v) (int_constant (pos 1) i.at) i.at,
       length-append x (tok (Step o) i ∷ []),
     )
 simple_small (grammar.IsSimple.assign o i {x = x} {y = y} {a = a} {b = b} e g) f c =
@@ -134,7 +134,7 @@ clause_small (grammar.IsClause.some s) f c = simple_small s f c
 
 mutual
   stmt_small : {x : List Lexeme} {s : tree.Stmt} → IsStmt x s → (f : Enclosing) (c : Context)
-      → Small (length x) c (after c s) (typed_stmt f c s)
+      → Small (length x) c (context_after c s) (typed_stmt f c s)
   stmt_small (grammar.IsStmt.block i all) f c = omega (arith, stmts_small all f (in_block c))
   stmt_small (grammar.IsStmt.simple s) f c = simple_small s f c
   stmt_small (grammar.IsStmt.if' s) f c = if_small s f c
@@ -147,7 +147,7 @@ mutual
   stmt_small (grammar.IsStmt.vars i j all) f c = omega (arith, vars_small all c)
   stmt_small (grammar.IsStmt.return i) f c = omega arith
   stmt_small (grammar.IsStmt.returns i {v = v} e) f c =
-      omega (arith, expr_small e c, result_retyped f.result_type (term_of c v))
+      omega (arith, expr_small e c, result_retyped f.result_type (typed_term c v))
   stmt_small (grammar.IsStmt.break i) f c = omega arith
   stmt_small (grammar.IsStmt.continue i) f c = omega arith
 
@@ -161,13 +161,13 @@ mutual
       omega (
         arith,
         stmt_small is f c,
-        stmts_small rest f (after c s),
-        both_size (typed_stmt f c s) (typed_all f (after c s) (tree.stmts_of l)),
+        stmts_small rest f (context_after c s),
+        both_size (typed_stmt f c s) (typed_all f (context_after c s) (tree.stmts_of l)),
         length-append x (tok Semicolon i ∷ y),
       )
 
   if_small : {x : List Lexeme} {s : tree.Stmt} → IsIf x s → (f : Enclosing) (c : Context)
-      → Small (length x) c (after c s) (typed_stmt f c s)
+      → Small (length x) c (context_after c s) (typed_stmt f c s)
   if_small (grammar.IsIf.plain i k {x = x} {y = y} {z = z} {c = test} {b = body} {e = other} t all rest) f c =
       let c1 = header c tree.no_clause in
       let c2 = after_block c1 (tree.stmts_of body) in
@@ -178,7 +178,7 @@ mutual
         expr_small t c1,
         stmts_small all f (in_block c1),
         else_small rest f c2,
-        branches_small (has_clause (clause_of other)) (term_of c1 test) then_part else_part i.at,
+        branches_small (has_clause (clause_of other)) (typed_term c1 test) then_part else_part i.at,
         length-append x (tok OpenBrace k ∷ (y ++ z)),
         length-append y z,
       )
@@ -189,14 +189,14 @@ mutual
       let first = typed_clause f (in_block c) (clause_of init) in
       let then_part = typed_all f (in_block c1) (tree.stmts_of body) in
       let else_part = typed_clause f c2 (clause_of other) in
-      let whole = branches (has_clause (clause_of other)) (term_of c1 test) then_part else_part i.at in
+      let whole = if_or_else (has_clause (clause_of other)) (typed_term c1 test) then_part else_part i.at in
       omega (
         arith,
         clause_small s f (in_block c),
         expr_small t c1,
         stmts_small all f (in_block c1),
         else_small rest f c2,
-        branches_small (has_clause (clause_of other)) (term_of c1 test) then_part else_part i.at,
+        branches_small (has_clause (clause_of other)) (typed_term c1 test) then_part else_part i.at,
         headed_small (has_clause (clause_of init)) first whole,
         length-append w (tok Semicolon j ∷ (x ++ tok OpenBrace k ∷ (y ++ z))),
         length-append x (tok OpenBrace k ∷ (y ++ z)),
@@ -210,7 +210,7 @@ mutual
   else_small (grammar.IsElse.a_block i k all) f c = omega (arith, stmts_small all f (in_block c))
 
   for_small : {x : List Lexeme} {s : tree.Stmt} → IsFor x s → (f : Enclosing) (c : Context)
-      → Small (length x) c (after c s) (typed_stmt f c s)
+      → Small (length x) c (context_after c s) (typed_stmt f c s)
   for_small (grammar.IsFor.while i k {x = x} {y = y} test all) f c =
       omega (
         arith,

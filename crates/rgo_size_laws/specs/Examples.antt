@@ -10,7 +10,7 @@ use Rattle.rgo_grammar.specs.Grammar.{IsProgram}
 use Rattle.rgo_typed.specs.Tree as tree
 use Rattle.rgo_typed.specs.Tree.{Typed}
 use Rattle.rgo_types.specs.Programs.{typed_program}
-use Rattle.rgo_lower.specs.Sizes.{program_size, IsTooLarge}
+use Rattle.rgo_lower.specs.Sizes.{program_size, IsTooLargeToLower}
 
 -- an endless loop, in 31 bytes
 abbrev pub loop_text : List ℕ
@@ -39,8 +39,8 @@ loop_program = record {
 }
 
 -- n structs without fields, and nothing else
-abbrev pub of_structs : ℕ → Typed
-of_structs n = record {
+abbrev pub only_structs : ℕ → Typed
+only_structs n = record {
   structs = replicate n (record { name = codes "S"; fields = [] });
   variables = [];
   functions = [];
@@ -67,5 +67,5 @@ pub record SizeExamples : Type 0 where
   pub derived : IsProgram loop_lexemes loop_program.imports loop_program.decls
   pub counted : program_size (typed_program loop_program) ≡ 14
   -- the least number that is too large
-  pub structs : (n : ℕ) → IsTooLarge (of_structs n) ↔ 4294967294 ≤ n
-  pub breaks : (n : ℕ) → IsTooLarge (of_breaks n) ↔ 1431655764 ≤ n
+  pub structs : (n : ℕ) → IsTooLargeToLower (only_structs n) ↔ 4294967294 ≤ n
+  pub breaks : (n : ℕ) → IsTooLargeToLower (of_breaks n) ↔ 1431655764 ≤ n

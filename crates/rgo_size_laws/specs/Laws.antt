@@ -5,7 +5,7 @@ use Rattle.rgo_lexer.specs.Lexemes.{Lexeme}
 use Rattle.rgo_lexer.specs.Lexing.{LexesAs}
 use Rattle.rgo_grammar.specs.Grammar.{IsProgram}
 use Rattle.rgo_types.specs.Programs.{typed_program}
-use Rattle.rgo_lower.specs.Sizes.{program_size, IsTooLarge}
+use Rattle.rgo_lower.specs.Sizes.{program_size, IsTooLargeToLower}
 
 -- a text has at most one lexeme per byte, plus one
 abbrev pub LexemesAreFew : Type 0
@@ -22,4 +22,4 @@ abbrev pub NeverTooLarge : Type 0
 NeverTooLarge =
     (text : List ℕ) (lexemes : List Lexeme) (program : Program) → LexesAs text lexemes
     → IsProgram lexemes program.imports program.decls → length text ≤ 2 ^ 28
-    → IsTooLarge (typed_program program) → ⊥
+    → IsTooLargeToLower (typed_program program) → ⊥

@@ -60,7 +60,7 @@ use Rattle.rgo_sound.specs.NextNames.{HasStake}
 use Rattle.rgo_sound.specs.Offers.{OfferFits, StandsAtSend}
 use Rattle.rgo_region_machine.specs.Room.{MakesTooLarge}
 use Rattle.rgo_sound.specs.Progress.{CanInstruct, IsLike, IsRegionStep, NoStepMissing}
-use Rattle.rgo_sound.specs.Stakes.{is_in, one_if, total}
+use Rattle.rgo_sound.specs.Stakes.{is_in, one_when, total}
 use Rattle.rgo_tac.specs.Code.{Tac, TacFn}
 use Rattle.rgo_tac.specs.Flow.{writes}
 use Rattle.rgo_tac.specs.Frames.{TacFrame, frame_after_instr, value_at}
@@ -738,7 +738,7 @@ find_offer (h ∷ hs) o e = go (offers_on o h.offer) refl e (find_offer hs o)
 
 -- the goroutines that have to acknowledge
 abbrev is_taken : Holder → ℕ
-is_taken k = one_if (not (may_go k.offer))
+is_taken k = one_when (not (may_go k.offer))
 
 module _ (code : Code) (page_words : ℕ) (checked : IsChecked code) (written : Ascends code) (r u : ℕ) (o : ℕ) where
   -- the receiver, which is ready, and the channel
@@ -959,7 +959,7 @@ module _ (code : Code) (page_words : ℕ) (checked : IsChecked code) (written : 
         → total is_taken (slice_set s.holders w (record q { offer = NoOffer })) + 1 ≡ total is_taken s.holders
     fewer s w q p e z =
         let a = total_set is_taken s.holders w q (record q { offer = NoOffer }) e in
-        let b : is_taken q ≡ 1 = ap (λ x. one_if (not (may_go x))) z in
+        let b : is_taken q ≡ 1 = ap (λ x. one_when (not (may_go x))) z in
         omega (arith, a, b)
 
     loop : (n : ℕ) (s : RegionState) (h k : Holder) → total is_taken s.holders ≡ n → AtChannel s h → Sends s k

@@ -1,6 +1,6 @@
 -- Tests of numbers and of truth values: what they say of each other.
 use Rattle.std.proofs.Common.{◌≡◌, ℕ, Bool, true, false, ◌&&◌, ◌||◌, refl, sym, nat_eq, arith, true≢false}
-use Rattle.rgo_sound.specs.Stakes.{one_if}
+use Rattle.rgo_sound.specs.Stakes.{one_when}
 
 -- the third of four
 pub and_third : (a b c d : Bool) → (a && b && c && d) ≡ true → c ≡ true
@@ -10,7 +10,7 @@ and_third true false c d q = absurd (true≢false (sym q))
 and_third false b c d q = absurd (true≢false (sym q))
 
 -- nothing is counted where the second test is false
-pub none_if : (b : Bool) → one_if (b && false) ≡ 0
+pub none_if : (b : Bool) → one_when (b && false) ≡ 0
 none_if true = refl
 none_if false = refl
 

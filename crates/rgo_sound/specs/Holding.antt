@@ -5,7 +5,7 @@ use Rattle.rgo_region_machine.specs.Duties.{guards}
 use Rattle.rgo_region_machine.specs.Regions.{Bindings, same_region}
 use Rattle.rgo_region_machine.specs.States.{RegionEnvironment, Holder, RegionState}
 use Rattle.rgo_region_machine.specs.declared.regions.Region.TheVariants.{Numbered}
-use Rattle.rgo_sound.specs.Stakes.{one_if}
+use Rattle.rgo_sound.specs.Stakes.{one_when}
 use Rattle.rgo_tac.specs.declared.regions.Class.{Class}
 
 -- whether k is the function's own, and not its result's
@@ -15,7 +15,7 @@ is_mine lent k = not (is_class_named k lent)
 -- how many of the function's own names stand for region r
 abbrev pub held_in : Class → ℕ → Bindings → ℕ
 held_in lent r [] = 0
-held_in lent r (b ∷ bs) = one_if (is_mine lent b.0 && same_region (Numbered r) b.1) + held_in lent r bs
+held_in lent r (b ∷ bs) = one_when (is_mine lent b.0 && same_region (Numbered r) b.1) + held_in lent r bs
 
 -- the holding names of a goroutine's frames for region r
 abbrev pub held : ℕ → List RegionEnvironment → ℕ

@@ -12,7 +12,7 @@ use Rattle.rgo_region_machine.specs.States.{Share, Unprotect, frames_of, top_nam
 use Rattle.rgo_region_machine.specs.declared.regions.Region.{Region}
 use Rattle.rgo_region_machine.specs.declared.regions.Region.TheVariants.{Global as GlobalRegion, Numbered}
 use Rattle.rgo_sound.specs.Core.{NameInvariant}
-use Rattle.rgo_sound.specs.Stakes.{holders_of, is_in, one_if, pending_of, times_in}
+use Rattle.rgo_sound.specs.Stakes.{holders_of, is_in, one_when, pending_of, times_in}
 use Rattle.rgo_tac.specs.Frames.{TacFrame}
 use Rattle.rgo_tac.specs.declared.regions.Class.TheVariants.{Name}
 
@@ -25,7 +25,7 @@ HasInstr fn i instr = slice_get fn.body i ≡ Some instr
 -- how often a region is protected
 abbrev pub times : Region → List Region → ℕ
 times r [] = 0
-times r (s ∷ ss) = one_if (same_region r s) + times r ss
+times r (s ∷ ss) = one_when (same_region r s) + times r ss
 
 abbrev pub same_bound : Region → Option Region → Bool
 same_bound r None = false
@@ -34,7 +34,7 @@ same_bound r (Some s) = same_region r s
 -- how many of these names stand for r
 abbrev pub bound_times : Region → Bindings → List ℕ → ℕ
 bound_times r names [] = 0
-bound_times r names (k ∷ ks) = one_if (same_bound r (bound names k)) + bound_times r names ks
+bound_times r names (k ∷ ks) = one_when (same_bound r (bound names k)) + bound_times r names ks
 
 -- each region is protected as often as one of these names stands for it
 abbrev pub AreProtections : List Region → Bindings → List ℕ → Type 0

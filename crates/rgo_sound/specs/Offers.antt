@@ -12,14 +12,14 @@ use Rattle.rgo_tac.specs.Tac.{TacState}
 use Rattle.rgo_typed.specs.declared.actions.Action.TheVariants.{Send}
 use Rattle.rgo_memory.specs.declared.values.Value.TheVariants as value
 
-abbrev pub capacity_of : Object → Option ℕ
-capacity_of (StructObject cells) = None
-capacity_of (SliceObject cells) = None
-capacity_of (Channel capacity queue closed) = Some capacity
+abbrev pub channel_capacity : Object → Option ℕ
+channel_capacity (StructObject cells) = None
+channel_capacity (SliceObject cells) = None
+channel_capacity (Channel capacity queue closed) = Some capacity
 
 -- the object is a channel without a buffer; it stays one
 abbrev pub IsUnbuffered : Memory → ℕ → Type 0
-IsUnbuffered m o = (object : Object) × (slice_get m.heap o ≡ Some object) × (capacity_of object ≡ Some 0)
+IsUnbuffered m o = (object : Object) × (slice_get m.heap o ≡ Some object) × (channel_capacity object ≡ Some 0)
 
 -- the goroutine is to send on this channel
 pub record StandsAtSend (code : Code) (p : TacState) (g o : ℕ) : Type 0 where

@@ -7,13 +7,13 @@ abbrev pub is_in : ℕ → List ℕ → Bool
 is_in r [] = false
 is_in r (x ∷ xs) = if nat_eq r x then true else is_in r xs
 
-abbrev pub one_if : Bool → ℕ
-one_if true = 1
-one_if false = 0
+abbrev pub one_when : Bool → ℕ
+one_when true = 1
+one_when false = 0
 
 abbrev pub times_in : ℕ → List ℕ → ℕ
 times_in r [] = 0
-times_in r (x ∷ xs) = one_if (nat_eq r x) + times_in r xs
+times_in r (x ∷ xs) = one_when (nat_eq r x) + times_in r xs
 
 -- the sum over the goroutines
 abbrev pub total : (Holder → ℕ) → List Holder → ℕ
@@ -22,7 +22,7 @@ total f (h ∷ hs) = f h + total f hs
 
 -- the goroutines that have a stake in a region, and the stakes for coming children
 abbrev pub holders_of : RegionState → ℕ → ℕ
-holders_of s r = total (λ h. one_if (is_in r h.stakes)) s.holders
+holders_of s r = total (λ h. one_when (is_in r h.stakes)) s.holders
 
 abbrev pub pending_of : RegionState → ℕ → ℕ
 pending_of s r = total (λ h. times_in r h.pending) s.holders

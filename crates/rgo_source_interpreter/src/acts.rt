@@ -5,13 +5,13 @@ ghost use Rattle.rgo_typed.specs.Views.{typed_of};
 ghost use Rattle.rgo_memory.specs.Channels.{SameChannels};
 ghost use Rattle.rgo_memory.specs.Memory as the_memory;
 ghost use Rattle.rgo_memory.specs.Perform.{perform};
-ghost use Rattle.rgo_interpreter.specs.Views.{memory_of};
+ghost use Rattle.rgo_interpreter.specs.Views.{memory_view};
 ghost use Rattle.rgo_interpreter.specs.Acting.{FrameActs};
 ghost use Rattle.rgo_machine.specs.Actions as actions;
 ghost use Rattle.rgo_machine.specs.Lines.{printed_line};
 ghost use Rattle.rgo_machine.specs.Machines.{Prints};
 ghost use Rattle.rgo_source_interpreter.specs.Changes.{Changes};
-ghost use Rattle.rgo_meaning.specs.Frames.{frame_with_todo, last_values, newest};
+ghost use Rattle.rgo_meaning.specs.Frames.{frame_with_todo, last_values, newest_value};
 ghost use Rattle.rgo_meaning.specs.Steps as spec;
 ghost use Rattle.rgo_source_interpreter.specs.Views.{todo_of};
 
@@ -36,11 +36,11 @@ fn give_value(
     ty: &Type,
     at: Place,
 ) -> Result<Did, AllocError>
-    ensures acts { (out : List ℕ) → FrameActs result (memory_of memory.old) (memory_of memory.new)
+    ensures acts { (out : List ℕ) → FrameActs result (memory_view memory.old) (memory_view memory.new)
         frame.old frame.new out out
-        (actions.effected (spec.giving frame.old count (drop 1 frame.old.todo)) at
-        (perform structs.now action ty.now (last_values count frame.old.values) (memory_of memory.old))) }
-    ensures channels { SameChannels (memory_of memory.old) (memory_of memory.new) }
+        (actions.effected (spec.with_action_result frame.old count (drop 1 frame.old.todo)) at
+        (perform structs.now action ty.now (last_values count frame.old.values) (memory_view memory.old))) }
+    ensures channels { SameChannels (memory_view memory.old) (memory_view memory.new) }
 {
     frame.push(Value::Nil)?;
     match perform(alloc, memory, structs, action, ty, frame.below_first(count)) {
@@ -70,11 +70,11 @@ fn affect(
     count: usize,
     at: Place,
 ) -> Result<Did, AllocError>
-    ensures acts { (out : List ℕ) → FrameActs result (memory_of memory.old) (memory_of memory.new)
+    ensures acts { (out : List ℕ) → FrameActs result (memory_view memory.old) (memory_view memory.new)
         frame.old frame.new out out
-        (actions.effected (spec.leaving frame.old count (drop 1 frame.old.todo)) at
-        (perform structs.now action actions.no_type (last_values count frame.old.values) (memory_of memory.old))) }
-    ensures channels { SameChannels (memory_of memory.old) (memory_of memory.new) }
+        (actions.effected (spec.without_action_result frame.old count (drop 1 frame.old.todo)) at
+        (perform structs.now action actions.no_type (last_values count frame.old.values) (memory_view memory.old))) }
+    ensures channels { SameChannels (memory_view memory.old) (memory_view memory.new) }
 {
     let ty = no_type(alloc);
     match perform(alloc, memory, structs, action, &ty, frame.last(count))? {
@@ -97,10 +97,10 @@ fn fill<'a>(
     at: Place,
 ) -> Result<Did, AllocError>
     requires { 0 < length frame.old.todo }
-    ensures acts { (out : List ℕ) → FrameActs result (memory_of memory.old) (memory_of memory.new)
+    ensures acts { (out : List ℕ) → FrameActs result (memory_view memory.old) (memory_view memory.new)
         frame.old frame.new out out
-        (spec.act_of_fill structs.now (memory_of memory.old) count fields.now at (drop 1 frame.old.todo) frame.old) }
-    ensures channels { SameChannels (memory_of memory.old) (memory_of memory.new) }
+        (spec.act_of_fill structs.now (memory_view memory.old) count fields.now at (drop 1 frame.old.todo) frame.old) }
+    ensures channels { SameChannels (memory_view memory.old) (memory_view memory.new) }
 {
     let target = frame.value(0);
     let Some((field, rest)) = fields.split_first() else {
@@ -198,11 +198,11 @@ fn do_one<'a>(
     out: &mut Vec<u8>,
 ) -> Result<Did, AllocError>
     requires { 0 < length frame.old.todo }
-    ensures acts { FrameActs result (memory_of memory.old) (memory_of memory.new) frame.old frame.new
+    ensures acts { FrameActs result (memory_view memory.old) (memory_view memory.new) frame.old frame.new
         out.old.items out.new.items
-        (spec.act_of_todo (typed_of program.now) (memory_of memory.old) (todo_of todo.entry)
+        (spec.act_of_todo (typed_of program.now) (memory_view memory.old) (todo_of todo.entry)
         (drop 1 frame.old.todo) frame.old) }
-    ensures channels { SameChannels (memory_of memory.old) (memory_of memory.new) }
+    ensures channels { SameChannels (memory_view memory.old) (memory_view memory.new) }
 {
     let structs = program.structs.items();
     match todo {
@@ -242,9 +242,9 @@ pub fn act<'a>(
     frame: &mut Frame<'a>,
     out: &mut Vec<u8>,
 ) -> Result<Did, AllocError>
-    ensures acts { FrameActs result (memory_of memory.old) (memory_of memory.new) frame.old frame.new
-        out.old.items out.new.items (spec.source_act (typed_of program.now) (memory_of memory.old) frame.old) }
-    ensures channels { SameChannels (memory_of memory.old) (memory_of memory.new) }
+    ensures acts { FrameActs result (memory_view memory.old) (memory_view memory.new) frame.old frame.new
+        out.old.items out.new.items (spec.source_act (typed_of program.now) (memory_view memory.old) frame.old) }
+    ensures channels { SameChannels (memory_view memory.old) (memory_view memory.new) }
 {
     match frame.first() {
         Some(todo) => do_one(alloc, program, memory, frame, todo, out),

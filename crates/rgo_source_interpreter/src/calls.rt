@@ -1,7 +1,7 @@
 //! The frame of a function that is called.
 
 ghost use Rattle.std.specs.Prelude.{◌≡◌, ◌++◌, IfOk, OnOk, drop, map};
-ghost use Rattle.rgo_typed.specs.Views.{function_of};
+ghost use Rattle.rgo_typed.specs.Views.{typed_function_of};
 ghost use Rattle.rgo_memory.specs.Values.{zero_of};
 ghost use Rattle.rgo_meaning.specs.Frames as spec;
 
@@ -37,7 +37,7 @@ pub fn called<'a>(
     function: &'a Function,
     arguments: &[Value],
 ) -> Result<Frame<'a>, AllocError>
-    ensures { IfOk result (λ f. f ≡ spec.new_source_frame (function_of function.now) arguments.now) }
+    ensures { IfOk result (λ f. f ≡ spec.new_source_frame (typed_function_of function.now) arguments.now) }
 {
     let mut locals = Vec::from_slice(alloc, arguments)?;
     push_zeros(&mut locals, after(function.locals.items(), arguments.len()))?;

@@ -1,7 +1,7 @@
 //! The source machine: what programs mean, as a machine.
 
 ghost use Rattle.std.specs.Prelude.{◌≡◌, codes, IfOk, OnOk, OnErr, map, option_to_list};
-ghost use Rattle.rgo_typed.specs.Views.{typed_of, function_of};
+ghost use Rattle.rgo_typed.specs.Views.{typed_of, typed_function_of};
 ghost use Rattle.rgo_meaning.specs.Source as spec;
 
 use crate::acts::act;
@@ -69,7 +69,7 @@ impl<'a> Machine for SourceMachine<'a> {
 /// The frame of `main`, the first function of that name.
 fn main_frame<'a>(alloc: Global, functions: &'a [Function]) -> Result<Option<Frame<'a>>, AllocError>
     ensures { IfOk result (λ frame. option_to_list frame
-        ≡ spec.source_main_frames (spec.function_named (codes "main") (map function_of functions.now))) }
+        ≡ spec.source_main_frames (spec.function_named (codes "main") (map typed_function_of functions.now))) }
 {
     for function in functions {
         if function.name.bytes() == "main".as_bytes() {

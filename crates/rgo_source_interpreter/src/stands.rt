@@ -3,7 +3,7 @@
 ghost use Rattle.std.specs.Prelude.{◌≡◌, drop, slice_get};
 ghost use Rattle.rgo_typed.specs.Tree as tree;
 ghost use Rattle.rgo_typed.specs.Views.{typed_of};
-ghost use Rattle.rgo_interpreter.specs.Acting.{stand_of, passed, FrameEnters};
+ghost use Rattle.rgo_interpreter.specs.Acting.{stand_of, frame_after_operation, FrameEnters};
 ghost use Rattle.rgo_machine.specs.Machines.{AtCall, AtStart};
 ghost use Rattle.rgo_meaning.specs.Stands as spec;
 ghost use Rattle.rgo_source_interpreter.specs.Views.{todo_of};
@@ -43,7 +43,7 @@ pub fn stand(program: &Typed, frame: &Frame<'_>) -> Stand
 }
 
 fn pass_before(frame: &mut Frame<'_>, todo: Todo<'_>, value: Value)
-    ensures { (program : tree.Typed) → frame.new ≡ passed frame.old value
+    ensures { (program : tree.Typed) → frame.new ≡ frame_after_operation frame.old value
         (spec.stand_before_todo program (todo_of todo.entry) (drop 1 frame.old.todo) frame.old) }
 {
     match todo {
@@ -64,7 +64,7 @@ fn pass_before(frame: &mut Frame<'_>, todo: Todo<'_>, value: Value)
 
 /// A frame continues after an operation on a channel that gave this value.
 pub fn pass(frame: &mut Frame<'_>, value: Value)
-    ensures { (program : tree.Typed) → frame.new ≡ passed frame.old value (spec.source_stand program frame.old) }
+    ensures { (program : tree.Typed) → frame.new ≡ frame_after_operation frame.old value (spec.source_stand program frame.old) }
 {
     if let Some(todo) = frame.first() {
         pass_before(frame, todo, value);

@@ -5,7 +5,7 @@ ghost use Rattle.rgo_typed.specs.Views as typed;
 ghost use Rattle.rgo_typed.specs.Tree.{stmts_of};
 ghost use Rattle.rgo_machine.specs.Actions as actions;
 ghost use Rattle.rgo_source_interpreter.specs.Changes.{Changes};
-ghost use Rattle.rgo_meaning.specs.Frames.{frame_with_todo, newest, Sequence, Onward, Turn};
+ghost use Rattle.rgo_meaning.specs.Frames.{frame_with_todo, newest_value, Sequence, Onward, Turn};
 ghost use Rattle.rgo_meaning.specs.Steps as spec;
 ghost use Rattle.rgo_meaning.specs.Todos as todos;
 
@@ -32,7 +32,7 @@ pub fn sequence<'a>(frame: &mut Frame<'a>, stmts: &'a [Stmt]) -> Result<(), Allo
 pub fn when<'a>(frame: &mut Frame<'a>, body: &'a [Stmt]) -> Result<(), AllocError>
     ensures { Changes result frame.old frame.new (frame_with_todo frame.old 1 []
         (spec.when (stmts_of (map typed.stmt_of body.now)) (drop 1 frame.old.todo)
-        (actions.is_true (newest frame.old.values)))) }
+        (actions.is_true (newest_value frame.old.values)))) }
 {
     if is_newest_true(frame) {
         frame.advance_to(1, &[Todo::Sequence(body), Todo::Close])
@@ -50,7 +50,7 @@ pub fn choose<'a>(
 ) -> Result<(), AllocError>
     ensures { Changes result frame.old frame.new (frame_with_todo frame.old 1 []
         (spec.chosen (stmts_of (map typed.stmt_of body.now)) (stmts_of (map typed.stmt_of other.now))
-        (drop 1 frame.old.todo) (actions.is_true (newest frame.old.values)))) }
+        (drop 1 frame.old.todo) (actions.is_true (newest_value frame.old.values)))) }
 {
     if is_newest_true(frame) {
         frame.advance_to(1, &[Todo::Sequence(body), Todo::Onward])
@@ -88,7 +88,7 @@ pub fn test_loop<'a>(
     ensures { Changes result frame.old frame.new (frame_with_todo frame.old 1 []
         (spec.tested (typed.boxed_term_of test.now) (stmts_of (map typed.stmt_of body.now))
         (stmts_of (map typed.stmt_of post.now)) (drop 1 frame.old.todo)
-        (actions.is_true (newest frame.old.values)))) }
+        (actions.is_true (newest_value frame.old.values)))) }
 {
     if is_newest_true(frame) {
         frame.advance_to(1, &[Todo::Sequence(body), Todo::Again(test, body, post)])

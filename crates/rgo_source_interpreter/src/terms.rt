@@ -5,7 +5,7 @@ ghost use Rattle.rgo_typed.specs.Views as typed;
 ghost use Rattle.rgo_typed.specs.Tree.{terms_of};
 ghost use Rattle.rgo_machine.specs.Actions as actions;
 ghost use Rattle.rgo_source_interpreter.specs.Changes.{Changes};
-ghost use Rattle.rgo_meaning.specs.Frames.{frame_with_todo, newest};
+ghost use Rattle.rgo_meaning.specs.Frames.{frame_with_todo, newest_value};
 ghost use Rattle.rgo_meaning.specs.Steps as spec;
 
 use crate::frames::{Frame, Todo};
@@ -62,7 +62,7 @@ pub fn each<'a>(frame: &mut Frame<'a>, terms: &'a [Term]) -> Result<(), AllocErr
 
 /// Whether the newest value is true.
 pub fn is_newest_true(frame: &Frame<'_>) -> bool
-    ensures { result ≡ actions.is_true (newest frame.now.values) }
+    ensures { result ≡ actions.is_true (newest_value frame.now.values) }
 {
     is_true(frame.value(0))
 }
@@ -71,7 +71,7 @@ pub fn is_newest_true(frame: &Frame<'_>) -> bool
 pub fn decide<'a>(frame: &mut Frame<'a>, op: Logical, right: &'a Term) -> Result<(), AllocError>
     ensures { Changes result frame.old frame.new
         (spec.decided op (typed.term_of right.now) (drop 1 frame.old.todo) frame.old
-        (actions.is_true (newest frame.old.values))) }
+        (actions.is_true (newest_value frame.old.values))) }
 {
     let truth = is_newest_true(frame);
     let goes_right = match op {

@@ -8,18 +8,18 @@ use Rattle.std.specs.Prelude.{IfSome}
 use Rattle.rgo_sound.specs.Code.Code.{Call, Code, CodeFn, CodeOp}
 use Rattle.rgo_sound.specs.RegionMachine.Owed.{code_function}
 use Rattle.rgo_sound.specs.Values.{call_target}
-use Rattle.rgo_core.specs.Frames.Stacks.{frames_in, newest}
-use Rattle.rgo_core.specs.Frames.WordFrames.{WordFrame, word_at, word_called, word_going, word_resumed_at, word_resumed_by, words_of}
+use Rattle.rgo_core.specs.Frames.shown.Stacks.{stack_frames, newest}
+use Rattle.rgo_core.specs.Frames.shown.WordFrames.{WordFrame, frame_word, word_called, word_going, word_resumed_at, word_resumed_by, words_of}
 use Rattle.rgo_core.proofs.Frames.shown.Stacking.{stack_laws}
 use Rattle.rgo_compact.specs.Bounds.{IsTarget}
 use Rattle.rgo_compact.specs.declared.positions.Caller.{Caller}
 use Rattle.rgo_compact.specs.declared.positions.Position.{Position}
 use Rattle.rgo_compact.specs.Functions.{CompactFn, IsCompact}
 use Rattle.rgo_compact.specs.Runs.{frame_at}
-use Rattle.rgo_compact.specs.Stack.{StackEnters, HasCallers, IsStackFull, IsStack, caller_frame, callers_in, given_back, no_caller, resumed_position, shown, stack_frame}
+use Rattle.rgo_compact.specs.Stack.{StackEnters, HasCallers, IsStackFull, IsStack, caller_frame, callers_in, given_back, no_caller, resumed_position, shown_frames, stack_frame}
 use Rattle.rgo_compact.proofs.Transferring.{back_shows, callers_grow, enters_stack, same_callee, same_value}
 use Rattle.rgo_stack.specs.Places.{FrameCanCall, CanReturn, IsCalledFor, IsPlace, FunctionTakes}
-use Rattle.rgo_stack.specs.Steps.{after_call, after_return}
+use Rattle.rgo_stack.specs.Steps.{frames_after_call, frames_after_return}
 use Rattle.rgo_stack.proofs.Frames.{among_words, below_top}
 
 -- ---- calls
@@ -27,22 +27,22 @@ use Rattle.rgo_stack.proofs.Frames.{among_words, below_top}
 pub enters_shows : (code : Code) (fs : List CompactFn) (fn : CodeFn) (n : ℕ) (p q : Position) (arguments old new : List ℕ)
     (callers kept : List Caller) → IsCompact code fs → code_function code n ≡ Some fn → p.top ≤ length old
     → StackEnters fs n p q arguments old new callers kept
-    → shown new kept q ≡ after_call fn n arguments (shown old callers p)
+    → shown_frames new kept q ≡ frames_after_call fn n arguments (shown_frames old callers p)
 enters_shows code fs fn n p q arguments old new callers kept compact known within e =
     let f = frame_at p.function p.next (drop p.base (take p.top old)) in
     let bs = stack_frame p.function p.next p.base ∷ callers_in callers p.depth in
     let given = words_of f arguments in
     let s : Caller = record { function = p.function; next = p.next; base = p.base } in
     let made = e.above fn.variables (same_callee code n e.callee fn (compact.each n e.callee e.known) known) in
-    ap (λ (x : Position). shown new kept x) e.is
-    ∙ (λ i. frames_in (made i) (stack_frame n 0 p.top ∷ callers_grow callers kept p.depth s e.room e.keeps i))
-    ∙ (λ i. frames_in (take p.top old ++ (word_called fn n given).variables)
+    ap (λ (x : Position). shown_frames new kept x) e.is
+    ∙ (λ i. stack_frames (made i) (stack_frame n 0 p.top ∷ callers_grow callers kept p.depth s e.room e.keeps i))
+    ∙ (λ i. stack_frames (take p.top old ++ (word_called fn n given).variables)
     (stack_frame n 0 (sym (length-take-le p.top old within) i) ∷ bs))
     ∙ stack_laws.calls (take p.top old) bs fn n given
 
 -- the stack after it
 pub entered : (fs : List CompactFn) (n : ℕ) (p q : Position) (arguments old new : List ℕ) (callers kept : List Caller)
-    → IsStack fs callers p → FrameCanCall fs n (length arguments) (shown old callers p)
+    → IsStack fs callers p → FrameCanCall fs n (length arguments) (shown_frames old callers p)
     → StackEnters fs n p q arguments old new callers kept → IsStack fs kept q
 entered fs n p q arguments old new callers kept stack can e =
     enters_stack fs n p q arguments old new callers kept can.0.f can.0.call stack can.0.known can.0.at can.0.waits e
@@ -96,7 +96,7 @@ resumed_for f op to None e = refl
 resumed_for f op to (Some w) e = ap (λ t. word_going f t w) e
 
 module _ (fs : List CompactFn) (words : List ℕ) (callers : List Caller) (p : Position) (d : ℕ) (depth_is : p.depth ≡ suc d)
-    (stack : IsStack fs callers p) (value to : Option ℕ) (can : CanReturn fs value to (shown words callers p)) where
+    (stack : IsStack fs callers p) (value to : Option ℕ) (can : CanReturn fs value to (shown_frames words callers p)) where
   abbrev pub s : Caller
   s = get_or callers d no_caller
 
@@ -107,15 +107,15 @@ module _ (fs : List CompactFn) (words : List ℕ) (callers : List Caller) (p : P
   caller = newest (take p.base words) (caller_frame s)
 
   abbrev pub below : List WordFrame
-  below = frames_in (take s.base (take p.base words)) (callers_in callers d)
+  below = stack_frames (take s.base (take p.base words)) (callers_in callers d)
 
   within : p.base ≤ p.top
   within = let size = stack.newest.size in omega (arith, size)
 
-  here : shown words callers p ≡ f ∷ caller ∷ below
+  here : shown_frames words callers p ≡ f ∷ caller ∷ below
   here =
-      (λ i. frames_in (take p.top words) (stack_frame p.function p.next p.base ∷ callers_in callers (depth_is i)))
-      ∙ (λ i. f ∷ frames_in (take-take p.base p.top words within i) (caller_frame s ∷ callers_in callers d))
+      (λ i. stack_frames (take p.top words) (stack_frame p.function p.next p.base ∷ callers_in callers (depth_is i)))
+      ∙ (λ i. f ∷ stack_frames (take-take p.base p.top words within i) (caller_frame s ∷ callers_in callers d))
 
   both : CanReturn fs value to (f ∷ caller ∷ below)
   both = subst (CanReturn fs value to) here can
@@ -130,9 +130,9 @@ module _ (fs : List CompactFn) (words : List ℕ) (callers : List Caller) (p : P
   resumes = both.1.1
 
   -- the frames
-  pub returned_shows : (code : Code) → IsCalledFor code to (shown words callers p)
-      → shown (given_back words s.base to (option_map (λ a. get_or words (p.base + a) 0) value)) callers (resumed_position p s d)
-      ≡ after_return code value (shown words callers p)
+  pub returned_shows : (code : Code) → IsCalledFor code to (shown_frames words callers p)
+      → shown_frames (given_back words s.base to (option_map (λ a. get_or words (p.base + a) 0) value)) callers (resumed_position p s d)
+      ≡ frames_after_return code value (shown_frames words callers p)
   returned_shows code for =
       let waits = subst (IsCalledFor code to) here for in
       let w = option_map (λ a. get_or words (p.base + a) 0) value in
@@ -141,9 +141,9 @@ module _ (fs : List CompactFn) (words : List ℕ) (callers : List Caller) (p : P
       sym (resumed_for caller waits.0.op to w waits.2)
       ∙ ap (word_resumed_by caller waits.0.op)
       (sym (same_value words p.function p.next p.base p.top value (target_below words p.base p.top value both.0)))
-      ∙ ap (λ found. word_resumed_at caller found (option_map (word_at f) value)) (sym waits.1)
+      ∙ ap (λ found. word_resumed_at caller found (option_map (frame_word f) value)) (sym waits.1)
       )
-      ∙ ap (after_return code value) (sym here)
+      ∙ ap (frames_after_return code value) (sym here)
 
   -- the stack
   pub returned_stack : IsStack fs callers (resumed_position p s d)

@@ -2,13 +2,13 @@
 use Rattle.std.proofs.Common.{◌≡◌, ◌+◌, ◌∙◌, ◌∷◌, [], Some, refl, ap, sym, subst, arith, length, slice_get}
 use Rattle.std.proofs.lemmas.Option.{same_Some}
 use Rattle.rgo_sound.specs.Code.Code.{Call, CodeInstr}
-use Rattle.rgo_sound.specs.RegionMachine.Examples.{plain}
+use Rattle.rgo_sound.specs.RegionMachine.Examples.{plain_instr}
 use Rattle.rgo_sound.specs.Values.{call_target}
 use Rattle.rgo_compact.specs.declared.operations.Operation.{Operation}
 use Rattle.rgo_compact.specs.declared.operations.Operation.TheVariants as op
 use Rattle.rgo_compact.specs.Functions.{CompactFn}
 use Rattle.rgo_compact.specs.Stack.{IsCallOrStop}
-use Rattle.rgo_stack.specs.Examples.{StackExamples, both, calling, compact_calling, nested, outer}
+use Rattle.rgo_stack.specs.Examples.{StackExamples, both_frames, calling_code, compact_calling, nested_stack, outer_frame}
 use Rattle.rgo_stack.specs.Places.{IsFrameAtCall, IsCalledFor, IsPlace, FunctionTakes}
 use Rattle.rgo_stack.specs.Stacks.{Belongs}
 
@@ -39,23 +39,23 @@ leaves f x known at waits =
     subst (λ (k : CompactFn). slice_get k.operations 1 ≡ Some x) (sym (same_Some only f known)) at in
     subst IsCallOrStop (sym (same_Some op.Leave x there)) waits
 
-past : Belongs compact_calling (nested 0 2) → ⊥
+past : Belongs compact_calling (nested_stack 0 2) → ⊥
 past b =
     let n = b.frames.0.newest in
     no_place_2 (record { f = n.f; known = n.known; within = n.at })
 
-at_return : Belongs compact_calling (nested 1 1) → ⊥
+at_return : Belongs compact_calling (nested_stack 1 1) → ⊥
 at_return b =
     let has = b.frames.0.below.0 in
     leaves has.frame.f has.call has.frame.known has.at has.waits
 
-not_called : IsFrameAtCall compact_calling (outer 1) → ⊥
+not_called : IsFrameAtCall compact_calling (outer_frame 1) → ⊥
 not_called c = leaves c.f c.call c.known c.at c.waits
 
-for_another : IsCalledFor calling (Some 1) both → ⊥
+for_another : IsCalledFor calling_code (Some 1) both_frames → ⊥
 for_another (instr, found, target) =
     let same : Some 0 ≡ call_target instr.op =
-    ap (λ (i : CodeInstr). call_target i.op) (same_Some (plain (Call (Some 0) 0 [] [] [] [])) instr found) in
+    ap (λ (i : CodeInstr). call_target i.op) (same_Some (plain_instr (Call (Some 0) 0 [] [] [] [])) instr found) in
     let no : 0 ≡ 1 = same_Some 0 1 (same ∙ target) in
     omega (arith, no)
 
@@ -99,7 +99,7 @@ examples = record {
   last = λ can. no_place_3 can.1;
   returns = (omega arith, (omega arith, record { f = only; known = refl; within = omega arith }));
   returns_no_variable = λ can. let within = can.0 in omega (arith, within);
-  called_for = (plain (Call (Some 0) 0 [] [] [] []), refl, refl);
+  called_for = (plain_instr (Call (Some 0) 0 [] [] [] []), refl, refl);
   called_for_another = for_another;
   after_words = refl;
   after_none = refl;

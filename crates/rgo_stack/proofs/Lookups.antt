@@ -4,7 +4,7 @@ use Rattle.std.proofs.lemmas.Option.{same_Some, slice_get_within}
 use Rattle.rgo_sound.specs.Code.Code.{Branch, Call, Code, CodeFn, CodeInstr, CodeOp, Return}
 use Rattle.rgo_sound.specs.Tac.declared.regions.Class.{Class}
 use Rattle.rgo_sound.specs.RegionMachine.Owed.{current, current_in, code_function}
-use Rattle.rgo_core.specs.Frames.WordFrames.{WordFrame, bare}
+use Rattle.rgo_core.specs.Frames.shown.WordFrames.{WordFrame, bare}
 use Rattle.rgo_sound.proofs.Places.{get_some}
 use Rattle.rgo_compact.specs.declared.operations.Operation.{Operation}
 use Rattle.rgo_compact.specs.Functions.{CompactFn, IsCompact, IsCompactFn}

@@ -2,12 +2,12 @@
 use Rattle.std.proofs.Common.{◌≡◌, ◌<◌, ◌≤◌, ◌∙◌, ◌∷◌, ℕ, List, Some, zero, suc, refl, ap, sym, subst, arith, length, take, get_or}
 use Rattle.std.proofs.lemmas.List.{get_or-take, take-take}
 use Rattle.rgo_sound.specs.Machine.Limits.{deepest}
-use Rattle.rgo_core.specs.Frames.Stacks.{frames_in}
+use Rattle.rgo_core.specs.Frames.shown.Stacks.{stack_frames}
 use Rattle.rgo_compact.specs.declared.positions.Caller.{Caller}
 use Rattle.rgo_compact.specs.declared.positions.Position.{Position}
 use Rattle.rgo_compact.specs.Functions.{CompactFn}
-use Rattle.rgo_compact.specs.Stack.{HasCaller, HasCallers, IsStack, caller_frame, callers_in, no_caller, shown, stack_frame}
-use Rattle.rgo_stack.specs.Stacks.{Belongs, BelongsAt, Stack, frames_at, frames_of}
+use Rattle.rgo_compact.specs.Stack.{HasCaller, HasCallers, IsStack, caller_frame, callers_in, no_caller, shown_frames, stack_frame}
+use Rattle.rgo_stack.specs.Stacks.{Belongs, BelongsAt, Stack, frames_at, frames_of_stack}
 use Rattle.rgo_stack.proofs.Frames.{belongs_at, seen}
 
 -- ---- more words
@@ -43,9 +43,9 @@ still_has fs old new (suc d) top kept within has =
 
 same_shown : (old new : List ℕ) (callers more : List Caller) (p : Position) → take (length old) new ≡ old
     → take (length callers) more ≡ callers → p.top ≤ length old → p.depth ≤ length callers
-    → shown new more p ≡ shown old callers p
+    → shown_frames new more p ≡ shown_frames old callers p
 same_shown old new callers more p words kept top depth =
-    λ i. frames_in (wider old new p.top words top i)
+    λ i. stack_frames (wider old new p.top words top i)
     (stack_frame p.function p.next p.base ∷ same_callers callers more p.depth kept depth i)
 
 still_stack : (fs : List CompactFn) (callers more : List Caller) (p : Position) → take (length callers) more ≡ callers
@@ -66,7 +66,7 @@ module _ (fs : List CompactFn) (s t : Stack) (p : Position) (at : s.at ≡ Some 
   was : IsStack fs s.callers p × (p.top ≤ length s.words)
   was = belongs_at fs s t p at same b
 
-  pub grown_frames : frames_at words callers s.at ≡ frames_of t
+  pub grown_frames : frames_at words callers s.at ≡ frames_of_stack t
   grown_frames =
       ap (frames_at words callers) at
       ∙ same_shown s.words words s.callers callers p kept_words kept_callers was.1 was.0.depth ∙ seen s t p at same

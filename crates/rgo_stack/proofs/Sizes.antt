@@ -2,7 +2,7 @@
 use Rattle.std.proofs.Common.{◌≡◌, ℕ, List, Option, Some, None, zero, suc, arith, length, take, drop, get_or}
 use Rattle.std.proofs.lemmas.List.{length-drop, length-take-le}
 use Rattle.std.specs.List.{AllByRecursion}
-use Rattle.rgo_core.specs.Frames.Stacks.{frames_in}
+use Rattle.rgo_core.specs.Frames.shown.Stacks.{stack_frames}
 use Rattle.rgo_compact.specs.declared.positions.Caller.{Caller}
 use Rattle.rgo_compact.specs.declared.positions.Position.{Position}
 use Rattle.rgo_compact.specs.Functions.{CompactFn}
@@ -26,7 +26,7 @@ below fs words function next base top has many =
     length-take-le base words (omega (arith, size, many))
 
 callers_sized : (fs : List CompactFn) (words : List ℕ) (callers : List Caller) (d top : ℕ) → HasCallers fs callers d top
-    → length words ≡ top → AllByRecursion (IsFrameOf fs) (frames_in words (callers_in callers d))
+    → length words ≡ top → AllByRecursion (IsFrameOf fs) (stack_frames words (callers_in callers d))
 callers_sized fs words callers zero top has many = tt
 callers_sized fs words callers (suc d) top has many =
     let c = get_or callers d no_caller in (

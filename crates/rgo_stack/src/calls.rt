@@ -8,7 +8,7 @@ ghost use Rattle.rgo_compact.specs.Functions.{IsCompact};
 ghost use Rattle.rgo_stack.specs.declared.calls.NoCall.TheVariants as no_call;
 ghost use Rattle.rgo_stack.specs.Places.{FrameCanCall, CanReturn, IsCalledFor};
 ghost use Rattle.rgo_stack.specs.Stacks as spec;
-ghost use Rattle.rgo_stack.specs.Steps.{after_call, after_return};
+ghost use Rattle.rgo_stack.specs.Steps.{frames_after_call, frames_after_return};
 
 use crate::growth::{deepen, widen};
 use crate::stacks::Stack;
@@ -37,7 +37,7 @@ impl Stack {
         requires at { self.old.at ≡ Some p }
         requires shallow { p.depth + 1 < deepest }
         ensures room { OnOk result ((p.top + size ≤ length self.new.words) × (p.depth < length self.new.callers)) }
-        ensures frames { spec.frames_of self.new ≡ spec.frames_of self.old }
+        ensures frames { spec.frames_of_stack self.new ≡ spec.frames_of_stack self.old }
         ensures at { self.new.at ≡ self.old.at }
         ensures belongs { spec.Belongs compact.now self.new }
     {
@@ -57,11 +57,11 @@ impl Stack {
     /// allocation failure. The frames are then as before.
     pub fn call(&mut self, compact: &CompactCode, n: u32, from: &[u32]) -> Result<(), NoCall>
         requires belongs { spec.Belongs compact.now self.old }
-        requires can { FrameCanCall compact.now n (length from.now) (spec.frames_of self.old) }
+        requires can { FrameCanCall compact.now n (length from.now) (spec.frames_of_stack self.old) }
         ensures called { OnOk result ((code : Code) (fn : CodeFn) → IsCompact code compact.now → code_function code n ≡ Some fn
-            → spec.frames_of self.new ≡ after_call fn n from.now (spec.frames_of self.old)) }
-        ensures deep { (result ≡ Err no_call.TooDeep) ↔ (length (spec.frames_of self.old) ≡ deepest) }
-        ensures refused { OnErr result (spec.frames_of self.new ≡ spec.frames_of self.old) }
+            → spec.frames_of_stack self.new ≡ frames_after_call fn n from.now (spec.frames_of_stack self.old)) }
+        ensures deep { (result ≡ Err no_call.TooDeep) ↔ (length (spec.frames_of_stack self.old) ≡ deepest) }
+        ensures refused { OnErr result (spec.frames_of_stack self.new ≡ spec.frames_of_stack self.old) }
         ensures belongs { spec.Belongs compact.now self.new }
     {
         // A goroutine that calls has a frame.
@@ -98,9 +98,9 @@ impl Stack {
     /// of the result there. After the first function has returned there is no frame.
     pub fn come_back(&mut self, compact: &CompactCode, value: Option<u32>, to: Option<u32>)
         requires belongs { spec.Belongs compact.now self.old }
-        requires can { CanReturn compact.now value to (spec.frames_of self.old) }
-        ensures frames { (code : Code) → IsCalledFor code to (spec.frames_of self.old)
-            → spec.frames_of self.new ≡ after_return code value (spec.frames_of self.old) }
+        requires can { CanReturn compact.now value to (spec.frames_of_stack self.old) }
+        ensures frames { (code : Code) → IsCalledFor code to (spec.frames_of_stack self.old)
+            → spec.frames_of_stack self.new ≡ frames_after_return code value (spec.frames_of_stack self.old) }
         ensures belongs { spec.Belongs compact.now self.new }
     {
         // A goroutine that returns has a frame.

@@ -3,8 +3,8 @@
 ghost use Rattle.std.specs.Prelude.{◌≡◌, ◌<◌, ◌≤◌, ◌∷◌, ℕ, List, Some, [], IfOk, drop, get_or, length, map, take};
 ghost use Rattle.rgo_sound.specs.Code.Code.{Code, CodeFn};
 ghost use Rattle.rgo_sound.specs.RegionMachine.Owed.{code_function};
-ghost use Rattle.rgo_core.specs.Frames.Stacks.{frames_in};
-ghost use Rattle.rgo_core.specs.Frames.WordFrames.{word_called};
+ghost use Rattle.rgo_core.specs.Frames.shown.Stacks.{stack_frames};
+ghost use Rattle.rgo_core.specs.Frames.shown.WordFrames.{word_called};
 ghost use Rattle.rgo_compact.specs.Functions.{CompactFn, IsCompact};
 ghost use Rattle.rgo_compact.specs.Runs.{word_or_zero};
 ghost use Rattle.rgo_compact.specs.Stack.{callers_in};
@@ -73,7 +73,7 @@ fn word_or_zero(variables: &[u64], v: u32) -> u64
 /// The newest of `depth` callers.
 fn place_of(callers: &[Caller], depth: usize) -> Option<Place>
     requires { depth ≤ length callers.now }
-    ensures { (words : List ℕ) → result ≡ spec.newest_place (frames_in words (callers_in callers.now depth)) }
+    ensures { (words : List ℕ) → result ≡ spec.newest_place (stack_frames words (callers_in callers.now depth)) }
 {
     if depth == 0 {
         return None;
@@ -110,7 +110,7 @@ impl Stack {
     ) -> Result<Stack, AllocError>
         requires { FunctionTakes compact.now n (length arguments.items) }
         ensures frames { IfOk result (λ s. (code : Code) (fn : CodeFn) → IsCompact code compact.now
-            → code_function code n ≡ Some fn → spec.frames_of s ≡ word_called fn n arguments.items ∷ []) }
+            → code_function code n ≡ Some fn → spec.frames_of_stack s ≡ word_called fn n arguments.items ∷ []) }
         ensures belongs { IfOk result (λ s. spec.Belongs compact.now s) }
     {
         let size = function_of(compact.functions(), n).size();
@@ -132,7 +132,7 @@ impl Stack {
     /// How many frames it has.
     pub fn depth(&self) -> usize
         requires { (fs : List CompactFn) × spec.Belongs fs self.now }
-        ensures { result ≡ length (spec.frames_of self.now) }
+        ensures { result ≡ length (spec.frames_of_stack self.now) }
     {
         match self.at {
             Some(p) => p.depth + 1,
@@ -143,7 +143,7 @@ impl Stack {
     /// Where the newest frame is; `None` if it has no frame.
     #[inline(always)]
     pub fn newest(&self) -> Option<Place>
-        ensures { result ≡ spec.newest_place (spec.frames_of self.now) }
+        ensures { result ≡ spec.newest_place (spec.frames_of_stack self.now) }
     {
         match self.at {
             Some(p) => Some(Place {
@@ -157,7 +157,7 @@ impl Stack {
     /// Where the caller of the newest frame is; `None` if there is none.
     pub fn caller(&self) -> Option<Place>
         requires { (fs : List CompactFn) × spec.Belongs fs self.now }
-        ensures { result ≡ spec.caller_place (spec.frames_of self.now) }
+        ensures { result ≡ spec.caller_place (spec.frames_of_stack self.now) }
     {
         match self.at {
             Some(p) => place_of(&self.callers, p.depth),
@@ -168,7 +168,7 @@ impl Stack {
     /// The words of the newest frame's variables.
     pub fn variables(&self) -> &[u64]
         requires { (fs : List CompactFn) × spec.Belongs fs self.now }
-        ensures { result.now ≡ spec.newest_words (spec.frames_of self.now) }
+        ensures { result.now ≡ spec.newest_words (spec.frames_of_stack self.now) }
     {
         match self.at {
             Some(p) => between(&self.words, p.base, p.top),
@@ -179,8 +179,8 @@ impl Stack {
     /// The word of a variable of the newest frame.
     #[inline(always)]
     pub fn word(&self, v: u32) -> u64
-        requires { v < length (spec.newest_words (spec.frames_of self.now)) }
-        ensures { result ≡ spec.newest_word (spec.frames_of self.now) v }
+        requires { v < length (spec.newest_words (spec.frames_of_stack self.now)) }
+        ensures { result ≡ spec.newest_word (spec.frames_of_stack self.now) v }
     {
         match self.at {
             Some(p) => word_at(&self.words, p.base, p.top, v),
@@ -196,7 +196,7 @@ impl Stack {
     /// On allocation failure.
     pub fn words(&self, alloc: Global, from: &[u32]) -> Result<Vec<u64>, AllocError>
         requires { (fs : List CompactFn) × spec.Belongs fs self.now }
-        ensures { IfOk result (λ ws. ws.items ≡ spec.words_from (spec.frames_of self.now) from.now) }
+        ensures { IfOk result (λ ws. ws.items ≡ spec.words_from (spec.frames_of_stack self.now) from.now) }
     {
         gather(alloc, self.variables(), from)
     }

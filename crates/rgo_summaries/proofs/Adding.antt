@@ -6,7 +6,7 @@ use Rattle.rgo_classes.proofs.Chains as chain
 use Rattle.rgo_summaries.specs.declared.nodes.Nodes.{Nodes}
 use Rattle.rgo_summaries.specs.declared.progress.Event.{Event}
 use Rattle.rgo_summaries.specs.declared.progress.Progress.{Progress}
-use Rattle.rgo_summaries.specs.Progress.{AddsJoins, Also, SameIn, same_at}
+use Rattle.rgo_summaries.specs.Progress.{AddsJoins, JoinedOrToJoin, SameIn, same_at}
 use Rattle.rgo_summaries.proofs.Chains.{IsEquivalence}
 use Rattle.rgo_summaries.proofs.Progressing.{same_symmetric, same_transitive}
 
@@ -17,7 +17,7 @@ adds_none p These none = record {
   widths = λ f. refl;
   kept = λ f x y s. s;
   met = λ f x y h. absurd (none f x y h);
-  only = λ f x y s. chain.contains (Also p.nodes.items These f) x y (inl s);
+  only = λ f x y s. chain.contains (JoinedOrToJoin p.nodes.items These f) x y (inl s);
   logs = ([], sym (append-nil p.log.items));
   counted = omega arith;
 }
@@ -25,16 +25,16 @@ adds_none p These none = record {
 module _ (p q r : Progress) (These Those All : ℕ → ℕ → ℕ → Type 0) (one : AddsJoins p q These) (other : AddsJoins q r Those)
     (split : (f x y : ℕ) → All f x y → These f x y ⊎ Those f x y) (left : (f x y : ℕ) → These f x y → All f x y)
     (right : (f x y : ℕ) → Those f x y → All f x y) where
-  before : (f x y : ℕ) → Also p.nodes.items These f x y → AreSame (Also p.nodes.items All f) x y
+  before : (f x y : ℕ) → JoinedOrToJoin p.nodes.items These f x y → AreSame (JoinedOrToJoin p.nodes.items All f) x y
   before f x y h = ⊎_elim
-      (λ s. chain.contains (Also p.nodes.items All f) x y (inl s))
-      (λ t. chain.contains (Also p.nodes.items All f) x y (inr (left f x y t)))
+      (λ s. chain.contains (JoinedOrToJoin p.nodes.items All f) x y (inl s))
+      (λ t. chain.contains (JoinedOrToJoin p.nodes.items All f) x y (inr (left f x y t)))
       h
 
-  step : (f x y : ℕ) → Also q.nodes.items Those f x y → AreSame (Also p.nodes.items All f) x y
+  step : (f x y : ℕ) → JoinedOrToJoin q.nodes.items Those f x y → AreSame (JoinedOrToJoin p.nodes.items All f) x y
   step f x y h = ⊎_elim
-      (λ s. chain.along (Also p.nodes.items These f) (Also p.nodes.items All f) (before f) x y (one.only f x y s))
-      (λ t. chain.contains (Also p.nodes.items All f) x y (inr (right f x y t)))
+      (λ s. chain.along (JoinedOrToJoin p.nodes.items These f) (JoinedOrToJoin p.nodes.items All f) (before f) x y (one.only f x y s))
+      (λ t. chain.contains (JoinedOrToJoin p.nodes.items All f) x y (inr (right f x y t)))
       h
 
   pub adds_more : AddsJoins p r All
@@ -45,7 +45,7 @@ module _ (p q r : Progress) (These Those All : ℕ → ℕ → ℕ → Type 0) (
     kept = λ f x y s. other.kept f x y (one.kept f x y s);
     met = λ f x y h. ⊎_elim (λ t. other.kept f x y (one.met f x y t)) (λ t. other.met f x y t) (split f x y h);
     only = λ f x y s.
-        chain.along (Also q.nodes.items Those f) (Also p.nodes.items All f) (step f) x y (other.only f x y s);
+        chain.along (JoinedOrToJoin q.nodes.items Those f) (JoinedOrToJoin p.nodes.items All f) (step f) x y (other.only f x y s);
     logs = (
       one.logs.0 ++ other.logs.0,
       other.logs.1 ∙ ap (λ (l : List Event). l ++ other.logs.0) one.logs.1

@@ -7,21 +7,21 @@ use Rattle.rgo_classes.specs.declared.classes.Summary.{Summary}
 use Rattle.rgo_classes.specs.Joins.{IsPointerLike, Joins}
 use Rattle.rgo_classes.specs.Classes.{InOneClass}
 use Rattle.rgo_classes.specs.Same.{AreSame}
-use Rattle.rgo_summaries.specs.Calls.{CallParts, callee_at, passed}
-use Rattle.rgo_summaries.specs.Nodes.{Node, Own, Callee, IsOuter, JoinsOwn, JoinsPassed, JoinsAtFirst}
+use Rattle.rgo_summaries.specs.Calls.{CallParts, call_and_callee_at, passed_member}
+use Rattle.rgo_summaries.specs.Nodes.{NodeKind, Own, Callee, IsOuter, JoinsOwn, JoinsPassed, JoinsAtFirst}
 use Rattle.rgo_summaries.specs.Spreading.{Spreads, first, carried, itself, turned, chained}
 use Rattle.rgo_classes.proofs.Chains as chain
 use Rattle.rgo_summaries.proofs.Chains.{IsEquivalence, least}
 use Rattle.rgo_summaries.proofs.Standing.{Together, call_here, joined_by_call, joined_own}
 
 -- the nodes of a call, from a base on
-pub record Block (code : Tac) (kinds : ℕ → ℕ → Option Node) (Inside : ℕ → ℕ → Type 0) (g n base : ℕ) : Type 0 where
+pub record Block (code : Tac) (kinds : ℕ → ℕ → Option NodeKind) (Inside : ℕ → ℕ → Type 0) (g n base : ℕ) : Type 0 where
   pub f : TacFn
   pub caller : slice_get code.functions n ≡ Some f
   pub at : ℕ
   pub call : CallParts
   pub callee : TacFn
-  pub here : callee_at code f at ≡ Some (call, callee)
+  pub here : call_and_callee_at code f at ≡ Some (call, callee)
   pub calls : call.function ≡ g
   pub nodes : (i : ℕ) → Inside g i → kinds n (base + i) ≡ Some (Callee at i)
 
@@ -41,7 +41,7 @@ module _ (code : Tac) (sums : List Summary) (Related : ℕ → ℕ → ℕ → T
     pub actual : Member
     pub outer : IsOuter callee through
     pub same : Related call.function through i
-    pub passes : passed call through ≡ Some actual
+    pub passes : passed_member call through ≡ Some actual
     pub pointer_like : IsPointerLike f actual
     pub chain : InOneClass sums f a actual
 
@@ -50,25 +50,25 @@ module _ (code : Tac) (sums : List Summary) (Related : ℕ → ℕ → ℕ → T
   ReachesAt f a i (Some c) = Reaches f a i c.0 c.1
 
   -- a member is in one class with what a node stands for
-  abbrev pub Stands : TacFn → Member → Option Node → Type 0
+  abbrev pub Stands : TacFn → Member → Option NodeKind → Type 0
   Stands f a None = ⊥
   Stands f a (Some (Own b)) = InOneClass sums f a b
-  Stands f a (Some (Callee at i)) = ReachesAt f a i (callee_at code f at)
+  Stands f a (Some (Callee at i)) = ReachesAt f a i (call_and_callee_at code f at)
 
-  abbrev pub Means : TacFn → (ℕ → Option Node) → ℕ → ℕ → Type 0
+  abbrev pub Means : TacFn → (ℕ → Option NodeKind) → ℕ → ℕ → Type 0
   Means f kinds x y = (a : Member) → Stands f a (kinds x) ↔ Stands f a (kinds y)
 
-  means_itself : (f : TacFn) (kinds : ℕ → Option Node) (x : ℕ) → Means f kinds x x
+  means_itself : (f : TacFn) (kinds : ℕ → Option NodeKind) (x : ℕ) → Means f kinds x x
   means_itself f kinds x a = (λ s. s, λ s. s)
 
-  means_turned : (f : TacFn) (kinds : ℕ → Option Node) (x y : ℕ) → Means f kinds x y → Means f kinds y x
+  means_turned : (f : TacFn) (kinds : ℕ → Option NodeKind) (x y : ℕ) → Means f kinds x y → Means f kinds y x
   means_turned f kinds x y m a = let e = m a in (e.1, e.0)
 
-  means_chained : (f : TacFn) (kinds : ℕ → Option Node) (x y z : ℕ) → Means f kinds x y → Means f kinds y z
+  means_chained : (f : TacFn) (kinds : ℕ → Option NodeKind) (x y z : ℕ) → Means f kinds x y → Means f kinds y z
       → Means f kinds x z
   means_chained f kinds x y z m n a = let e = m a in let g = n a in (λ s. g.0 (e.0 s), λ s. e.1 (g.1 s))
 
-  means_equal : (f : TacFn) (kinds : ℕ → Option Node) → IsEquivalence (Means f kinds)
+  means_equal : (f : TacFn) (kinds : ℕ → Option NodeKind) → IsEquivalence (Means f kinds)
   means_equal f kinds = record {
     reflexive = means_itself f kinds;
     symmetric = means_turned f kinds;
@@ -76,13 +76,13 @@ module _ (code : Tac) (sums : List Summary) (Related : ℕ → ℕ → ℕ → T
   }
 
   -- by the nodes' kinds
-  means_by : (f : TacFn) (kinds : ℕ → Option Node) (x y : ℕ) (p q : Node) → kinds x ≡ Some p → kinds y ≡ Some q
+  means_by : (f : TacFn) (kinds : ℕ → Option NodeKind) (x y : ℕ) (p q : NodeKind) → kinds x ≡ Some p → kinds y ≡ Some q
       → ((a : Member) → Stands f a (Some p) ↔ Stands f a (Some q)) → Means f kinds x y
   means_by f kinds x y p q e g m a =
       subst (λ o. Stands f a o ↔ Stands f a (kinds y)) (sym e)
       (subst (λ o. Stands f a (Some p) ↔ Stands f a o) (sym g) (m a))
 
-  own_means : (f : TacFn) (kinds : ℕ → Option Node) (x y : ℕ) → JoinsOwn f kinds x y → Means f kinds x y
+  own_means : (f : TacFn) (kinds : ℕ → Option NodeKind) (x y : ℕ) → JoinsOwn f kinds x y → Means f kinds x y
   own_means f kinds x y j =
       let c = chain.contains (Joins sums f) j.one j.other
       (joined_own sums f j.at j.instr j.one j.other j.here j.joined) in
@@ -94,13 +94,13 @@ module _ (code : Tac) (sums : List Summary) (Related : ℕ → ℕ → ℕ → T
 
   module _ (equal : AreEquivalences Related) (speak : Speak code sums Related) where
     at_call : (f : TacFn) (a : Member) (at i : ℕ) (call : CallParts) (callee : TacFn)
-        → callee_at code f at ≡ Some (call, callee)
+        → call_and_callee_at code f at ≡ Some (call, callee)
         → Stands f a (Some (Callee at i)) ↔ Reaches f a i call callee
     at_call f a at i call callee e = (λ s. subst (ReachesAt f a i) e s, λ s. subst (ReachesAt f a i) (sym e) s)
 
     reached : (f : TacFn) (a b : Member) (at i : ℕ) (call : CallParts) (callee : TacFn)
-        → callee_at code f at ≡ Some (call, callee) → slice_get code.functions call.function ≡ Some callee
-        → IsOuter callee i → passed call i ≡ Some b → IsPointerLike f b → Reaches f a i call callee
+        → call_and_callee_at code f at ≡ Some (call, callee) → slice_get code.functions call.function ≡ Some callee
+        → IsOuter callee i → passed_member call i ≡ Some b → IsPointerLike f b → Reaches f a i call callee
         → InOneClass sums f a b
     reached f a b at i call callee here known outer p pb r =
         let t = speak call.function callee r.through i known r.outer outer r.same in
@@ -109,7 +109,7 @@ module _ (code : Tac) (sums : List Summary) (Related : ℕ → ℕ → ℕ → T
         (joined_by_call code sums f at call callee t.0 r.through i r.actual b here t.1 t.2 r.passes p r.pointer_like
         pb))
 
-    passed_means : (f : TacFn) (kinds : ℕ → Option Node) (x y : ℕ) → JoinsPassed code f kinds x y → Means f kinds x y
+    passed_means : (f : TacFn) (kinds : ℕ → Option NodeKind) (x y : ℕ) → JoinsPassed code f kinds x y → Means f kinds x y
     passed_means f kinds x y j =
         means_by f kinds x y (Callee j.at j.number) (Own j.actual) j.x_is j.y_is
         (λ a. (
@@ -129,10 +129,10 @@ module _ (code : Tac) (sums : List Summary) (Related : ℕ → ℕ → ℕ → T
         known_here : (p : JoinsPassed code f kinds x y) → slice_get code.functions p.call.function ≡ Some p.callee
         known_here p = (call_here code f p.at p.call p.callee p.here).known
 
-    begins_means : (f : TacFn) (kinds : ℕ → Option Node) (x y : ℕ) → JoinsAtFirst code f kinds x y → Means f kinds x y
+    begins_means : (f : TacFn) (kinds : ℕ → Option NodeKind) (x y : ℕ) → JoinsAtFirst code f kinds x y → Means f kinds x y
     begins_means f kinds x y h = ⊎_elim (λ j. own_means f kinds x y j) (λ j. passed_means f kinds x y j) h
 
-    same_means : (f : TacFn) (kinds : ℕ → Option Node) (x y : ℕ) → AreSame (JoinsAtFirst code f kinds) x y → Means f kinds x y
+    same_means : (f : TacFn) (kinds : ℕ → Option NodeKind) (x y : ℕ) → AreSame (JoinsAtFirst code f kinds) x y → Means f kinds x y
     same_means f kinds x y s =
         least (JoinsAtFirst code f kinds) (Means f kinds) (means_equal f kinds) (begins_means f kinds) x y s
 
@@ -148,8 +148,8 @@ module _ (code : Tac) (sums : List Summary) (Related : ℕ → ℕ → ℕ → T
       chain = r.chain;
     }
 
-    carried_means : (f : TacFn) (kinds : ℕ → Option Node) (x y at i j : ℕ) (call : CallParts) (callee : TacFn)
-        → callee_at code f at ≡ Some (call, callee) → kinds x ≡ Some (Callee at i) → kinds y ≡ Some (Callee at j)
+    carried_means : (f : TacFn) (kinds : ℕ → Option NodeKind) (x y at i j : ℕ) (call : CallParts) (callee : TacFn)
+        → call_and_callee_at code f at ≡ Some (call, callee) → kinds x ≡ Some (Callee at i) → kinds y ≡ Some (Callee at j)
         → Related call.function i j → Means f kinds x y
     carried_means f kinds x y at i j call callee here p q e =
         means_by f kinds x y (Callee at i) (Callee at j) p q
@@ -163,7 +163,7 @@ module _ (code : Tac) (sums : List Summary) (Related : ℕ → ℕ → ℕ → T
 
     -- ---- what spreads
 
-    module _ (kinds : ℕ → ℕ → Option Node) (First : ℕ → ℕ → ℕ → Type 0) (Inside : ℕ → ℕ → Type 0)
+    module _ (kinds : ℕ → ℕ → Option NodeKind) (First : ℕ → ℕ → ℕ → Type 0) (Inside : ℕ → ℕ → Type 0)
         (Carries : ℕ → ℕ → ℕ → Type 0) where
       abbrev pub MeansIn : ℕ → ℕ → ℕ → Type 0
       MeansIn n x y = (f : TacFn) → slice_get code.functions n ≡ Some f → Means f (kinds n) x y
@@ -184,7 +184,7 @@ module _ (code : Tac) (sums : List Summary) (Related : ℕ → ℕ → ℕ → T
         block_means g n base i j b hi hj e f k =
             let same : b.f ≡ f = same_Some b.f f (sym b.caller ∙ k) in
             carried_means f (kinds n) (base + i) (base + j) b.at i j b.call b.callee
-            (subst (λ (h : TacFn). callee_at code h b.at ≡ Some (b.call, b.callee)) same b.here)
+            (subst (λ (h : TacFn). call_and_callee_at code h b.at ≡ Some (b.call, b.callee)) same b.here)
             (b.nodes i hi) (b.nodes j hj) (subst (λ m. Related m i j) (sym b.calls) e)
 
         pub spread_means : {n x y : ℕ} → Spreads First Inside Carries n x y → MeansIn n x y

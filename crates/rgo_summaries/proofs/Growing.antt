@@ -6,7 +6,7 @@ use Rattle.std.proofs.lemmas.Bool.{cases_lt}
 use Rattle.std.proofs.lemmas.Bool.Decides.{nat_tests}
 use Rattle.std.proofs.lemmas.List.{get_or_append_left, get_or_push, length-set}
 use Rattle.std.proofs.lemmas.Option.{same_Some, slice_get_past}
-use Rattle.rgo_classes.specs.Moves.{rows_of}
+use Rattle.rgo_classes.specs.Moves.{member_rows}
 use Rattle.rgo_classes.specs.Same.{AreSame}
 use Rattle.rgo_classes.proofs.Chains as chain
 use Rattle.rgo_classes.proofs.Rows.{label_below}
@@ -14,7 +14,7 @@ use Rattle.rgo_summaries.specs.declared.nodes.Nodes.{Nodes}
 use Rattle.rgo_summaries.specs.declared.progress.Event.{Event}
 use Rattle.rgo_summaries.specs.declared.progress.Progress.{Progress}
 use Rattle.rgo_summaries.specs.Beginning.{Unchanged}
-use Rattle.rgo_summaries.specs.Joining.{Grows, GrowsBy, IsNodes, Same, label_at, size_of}
+use Rattle.rgo_summaries.specs.Joining.{Grows, GrowsBy, IsNodes, AreJoinedNodes, label_at, size_of}
 use Rattle.rgo_summaries.specs.Progress.{GrowsIn, Inside, IsProgress, Logged, SameIn, same_at, size_at, width_at, width_in}
 use Rattle.rgo_summaries.proofs.Outer.{get_last, get_left}
 use Rattle.rgo_summaries.proofs.Progressing.{by_number, get_set_here, get_set_other}
@@ -34,12 +34,12 @@ module _ (old new : Nodes) (is_seen : Bool) (o : IsNodes old) (g : Grows old new
       ap (λ (s : List ℕ). get_or s x 0) g.labels ∙ get_or_push old.labels.items (size_of old) 0 x (sym e)
 
   below : (x : ℕ) → x < size_of old → label_at old x < size_of old
-  below x l = label_below old.labels.items (rows_of old.rows.items) x o.rows l
+  below x l = label_below old.labels.items (member_rows old.rows.items) x o.rows l
 
   apart : (x y : ℕ) → x < size_of old → y ≡ size_of old → label_at new x ≡ label_at new y → ⊥
   apart x y l e same = omega (arith, below x l, grown_label x l, new_label y e, same)
 
-  pub grown_kept : (x y : ℕ) → Same old x y → Same new x y
+  pub grown_kept : (x y : ℕ) → AreJoinedNodes old x y → AreJoinedNodes new x y
   grown_kept x y s = (
     omega (arith, s.0, grown_size),
     omega (arith, s.1, grown_size),
@@ -48,21 +48,21 @@ module _ (old new : Nodes) (is_seen : Bool) (o : IsNodes old) (g : Grows old new
   )
 
   abbrev Either : ℕ → ℕ → Type 0
-  Either x y = (x ≡ y) ⊎ Same old x y
+  Either x y = (x ≡ y) ⊎ AreJoinedNodes old x y
 
-  from_old : (x y : ℕ) → x < size_of old → Same new x y → Either x y
+  from_old : (x y : ℕ) → x < size_of old → AreJoinedNodes new x y → Either x y
   from_old x y lx s = ⊎_elim
       (λ ly. inr (lx, ly, sym (grown_label x lx) ∙ s.2 ∙ grown_label y ly))
       (λ b. absurd (apart x y lx (omega (arith, b, s.1, grown_size)) s.2))
       (cases_lt y (size_of old))
 
-  from_new : (x y : ℕ) → x ≡ size_of old → Same new x y → Either x y
+  from_new : (x y : ℕ) → x ≡ size_of old → AreJoinedNodes new x y → Either x y
   from_new x y ex s = ⊎_elim
       (λ ly. absurd (apart y x ly ex (sym s.2)))
       (λ b. let e : x ≡ y = omega (arith, b, ex, s.1, grown_size) in inl e)
       (cases_lt y (size_of old))
 
-  pub grown_only : (x y : ℕ) → Same new x y → Either x y
+  pub grown_only : (x y : ℕ) → AreJoinedNodes new x y → Either x y
   grown_only x y s = ⊎_elim
       (λ lx. from_old x y lx s)
       (λ b. from_new x y (omega (arith, b, s.0, grown_size)) s)
@@ -159,7 +159,7 @@ module _ (old new : Progress) (own : Nodes) (nodes : new.nodes.items ≡ old.nod
   last_is = ap (λ (l : List Nodes). slice_get l (length old.nodes.items)) nodes ∙ get_last old.nodes.items own
 
   module _ (o : IsProgress old) (log : new.log.items ≡ old.log.items) (is : IsNodes own)
-      (alone : (x y : ℕ) → Same own x y → x ≡ y) where
+      (alone : (x y : ℕ) → AreJoinedNodes own x y → x ≡ y) where
     abbrev LoggedNow : ℕ → Type 0
     LoggedNow h = (x y : ℕ) → Inside new.nodes.items h x → Inside new.nodes.items h y → SameIn new.nodes.items h x y
         → AreSame (Logged new.log.items h) x y

@@ -11,9 +11,9 @@ use Rattle.rgo_summaries.specs.declared.nodes.Nodes.{Nodes}
 use Rattle.rgo_summaries.specs.declared.progress.Event.{Event}
 use Rattle.rgo_summaries.specs.declared.progress.Progress.{Progress}
 use Rattle.rgo_summaries.specs.declared.progress.Site.{Site}
-use Rattle.rgo_summaries.specs.Progress.{AddsJoins, Also, Carries, HasRoom, Hears, Inside, IsProgress, IsSpread, Logged, SameIn, Two, seen_all, size_in, width_at, width_in}
+use Rattle.rgo_summaries.specs.Progress.{AddsJoins, JoinedOrToJoin, Carries, HasRoom, Hears, Inside, IsProgress, IsSpread, Logged, SameIn, Two, seen_all, size_in, width_at, width_in}
 use Rattle.rgo_summaries.specs.Spreading.{Spreads, first, carried, itself, turned, chained}
-use Rattle.rgo_summaries.specs.Views.{sites_of}
+use Rattle.rgo_summaries.specs.Views.{call_sites_of}
 use Rattle.rgo_summaries.proofs.Adding.{OneIn, adds_more, one_in}
 use Rattle.rgo_summaries.proofs.Chains.{IsEquivalence, least}
 use Rattle.rgo_summaries.proofs.Outer.{get_left}
@@ -111,7 +111,7 @@ pub record Underway (sites : List (Vec Site Global)) (start now : Progress) (nex
   pub sound : (f x y : ℕ) → SameIn now.nodes.items f x y
       → Spreads (SameIn start.nodes.items) (Inside start.nodes.items) (Carries sites) f x y
   pub heard : (k : ℕ) (e : Event) → k < next → slice_get now.log.items k ≡ Some e
-      → (f x y : ℕ) → Hears (sites_of sites e.function) e f x y → SameIn now.nodes.items f x y
+      → (f x y : ℕ) → Hears (call_sites_of sites e.function) e f x y → SameIn now.nodes.items f x y
   pub counted : length now.log.items + seen_all now.nodes.items ≤ length start.log.items + seen_all start.nodes.items
 
 pub underway : (sites : List (Vec Site Global)) (p : Progress) → IsProgress p → Underway sites p p 0
@@ -129,7 +129,7 @@ underway sites p is = record {
 
 module _ (sites : List (Vec Site Global)) (start now new : Progress) (next : ℕ) (e : Event)
     (u : Underway sites start now next) (event : slice_get now.log.items next ≡ Some e) (is : IsProgress new)
-    (adds : AddsJoins now new (Hears (sites_of sites e.function) e)) where
+    (adds : AddsJoins now new (Hears (call_sites_of sites e.function) e)) where
   abbrev Follows : ℕ → ℕ → ℕ → Type 0
   Follows = Spreads (SameIn start.nodes.items) (Inside start.nodes.items) (Carries sites)
 
@@ -144,7 +144,7 @@ module _ (sites : List (Vec Site Global)) (start now new : Progress) (next : ℕ
       × SameIn now.nodes.items e.function e.one e.other
   is_event = u.is.events e (logged_at now.log.items next e event)
 
-  hears_follow : (f x y : ℕ) → Hears (sites_of sites e.function) e f x y → Follows f x y
+  hears_follow : (f x y : ℕ) → Hears (call_sites_of sites e.function) e f x y → Follows f x y
   hears_follow f x y h =
       let c : Carries sites e.function f h.base = h.called in
       let along : Follows f (h.base + e.one) (h.base + e.other) =
@@ -155,23 +155,23 @@ module _ (sites : List (Vec Site Global)) (start now new : Progress) (next : ℕ
 
   follows : (f x y : ℕ) → SameIn new.nodes.items f x y → Follows f x y
   follows f x y s =
-      least (Also now.nodes.items (Hears (sites_of sites e.function) e) f) (Follows f) (follows_equal f)
+      least (JoinedOrToJoin now.nodes.items (Hears (call_sites_of sites e.function) e) f) (Follows f) (follows_equal f)
       (λ a b h. ⊎_elim (λ t. u.sound f a b t) (λ t. hears_follow f a b t) h) x y (adds.only f x y s)
 
   log_before : (k : ℕ) → k < length now.log.items → slice_get new.log.items k ≡ slice_get now.log.items k
   log_before k l = ap (λ (xs : List Event). slice_get xs k) adds.logs.1 ∙ get_left now.log.items adds.logs.0 k l
 
   heard_before : (k : ℕ) (d : Event) → k < next → slice_get new.log.items k ≡ Some d
-      → (f x y : ℕ) → Hears (sites_of sites d.function) d f x y → SameIn new.nodes.items f x y
+      → (f x y : ℕ) → Hears (call_sites_of sites d.function) d f x y → SameIn new.nodes.items f x y
   heard_before k d l h f x y t =
       adds.kept f x y (u.heard k d l (sym (log_before k (omega (arith, l, u.come))) ∙ h) f x y t)
 
   heard_now : (k : ℕ) (d : Event) → k ≡ next → slice_get new.log.items k ≡ Some d
-      → (f x y : ℕ) → Hears (sites_of sites d.function) d f x y → SameIn new.nodes.items f x y
+      → (f x y : ℕ) → Hears (call_sites_of sites d.function) d f x y → SameIn new.nodes.items f x y
   heard_now k d at h f x y t =
       let within = slice_get_within now.log.items next e event in
       let same : d ≡ e = same_Some d e (sym h ∙ ap (slice_get new.log.items) at ∙ log_before next within ∙ event) in
-      adds.met f x y (subst (λ (c : Event). Hears (sites_of sites c.function) c f x y) same t)
+      adds.met f x y (subst (λ (c : Event). Hears (call_sites_of sites c.function) c f x y) same t)
 
   long : length now.log.items ≤ length new.log.items
   long = omega (arith, ap (λ (xs : List Event). length xs) adds.logs.1, length-append now.log.items adds.logs.0)
@@ -246,17 +246,17 @@ module _ (sites : List (Vec Site Global)) (start now : Progress) (next : ℕ) (u
 -- ---- rows of sites
 
 pub sites_row : (sites : List (Vec Site Global)) (g : ℕ) (d : Vec Site Global) → g < length sites
-    → sites_of sites g ≡ (get_or sites g d).items
+    → call_sites_of sites g ≡ (get_or sites g d).items
 sites_row sites g d l = get_or-map (λ (r : Vec Site Global). r.items) sites g d [] l
 
 pub sites_here : (sites : List (Vec Site Global)) (g : ℕ) (row : Vec Site Global) (now : List Site) → g < length sites
-    → row ≡ get_or sites g row → now ≡ row.items → sites_of sites g ≡ now
+    → row ≡ get_or sites g row → now ≡ row.items → call_sites_of sites g ≡ now
 sites_here sites g row now l is v = sites_row sites g row l ∙ ap (λ (r : Vec Site Global). r.items) (sym is) ∙ sym v
 
 -- nodes keep their numbers
 pub room_kept : (sites : List (Vec Site Global)) (start now : Progress) (next g : ℕ) (row : List Site)
-    → Underway sites start now next → sites_of sites g ≡ row
-    → HasRoom start.nodes.items (width_in start.nodes.items g) (sites_of sites g)
+    → Underway sites start now next → call_sites_of sites g ≡ row
+    → HasRoom start.nodes.items (width_in start.nodes.items g) (call_sites_of sites g)
     → HasRoom now.nodes.items (width_in now.nodes.items g) row
 room_kept sites start now next g row u e room s c =
     let r = room s (subst (λ (l : List Site). Contains l s) (sym e) c) in

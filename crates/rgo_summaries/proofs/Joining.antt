@@ -8,31 +8,31 @@ use Rattle.std.proofs.lemmas.Option.{same_Some, none-some}
 use Rattle.std.proofs.lemmas.List.{get_or-set_same, get_or-set_other, get_or_append_left, get_or_push, get_or_past, length-set, map-append}
 use Rattle.std.proofs.lemmas.List.Elements.{Contains-push}
 use Rattle.std.proofs.lemmas.List.Sums.{sum_by-set}
-use Rattle.rgo_classes.specs.Moves.{AreRows, Merges, MovesTo, row_at, rows_of}
+use Rattle.rgo_classes.specs.Moves.{AreRows, Merges, MovesTo, members_of_label, member_rows}
 use Rattle.rgo_classes.proofs.Moving.{eq_cases, merges_moved}
 use Rattle.rgo_classes.proofs.Rows.{label_below, label_in_rows, one_member, row_inside}
 use Rattle.rgo_summaries.specs.declared.nodes.Nodes.{Nodes}
-use Rattle.rgo_summaries.specs.Joining.{IsNodes, GoesOver, Grows, Same, Crosses, AreNews, JoinsNodes, both, either, label_at, seen_at, seen_count, seen_if, size_of, some_count}
+use Rattle.rgo_summaries.specs.Joining.{IsNodes, GoesOver, Grows, AreJoinedNodes, Crosses, AreNews, JoinsNodes, both, either, label_at, seen_at, seen_count, seen_if, size_of, some_count}
 
 -- ---- a node more
 
 module _ (labels : List ℕ) (rows : List (Vec ℕ Global)) (row : Vec ℕ Global) (n : ℕ) (size : n ≡ length labels)
-    (is : AreRows labels (rows_of rows)) (alone : row.items ≡ n ∷ []) where
+    (is : AreRows labels (member_rows rows)) (alone : row.items ≡ n ∷ []) where
   abbrev more : List ℕ
   more = labels ++ n ∷ []
 
-  rows_more : rows_of (rows ++ row ∷ []) ≡ rows_of rows ++ row.items ∷ []
+  rows_more : member_rows (rows ++ row ∷ []) ≡ member_rows rows ++ row.items ∷ []
   rows_more = map-append (λ (r : Vec ℕ Global). r.items) rows (row ∷ [])
 
-  row_before : (l : ℕ) → l < length labels → row_at (rows_of (rows ++ row ∷ [])) l ≡ row_at (rows_of rows) l
+  row_before : (l : ℕ) → l < length labels → members_of_label (member_rows (rows ++ row ∷ [])) l ≡ members_of_label (member_rows rows) l
   row_before l b =
-      ap (λ (r : List (List ℕ)). row_at r l) rows_more
-      ∙ get_or_append_left (rows_of rows) (row.items ∷ []) [] l (omega (arith, b, is.size))
+      ap (λ (r : List (List ℕ)). members_of_label r l) rows_more
+      ∙ get_or_append_left (member_rows rows) (row.items ∷ []) [] l (omega (arith, b, is.size))
 
-  row_here : row_at (rows_of (rows ++ row ∷ [])) n ≡ n ∷ []
+  row_here : members_of_label (member_rows (rows ++ row ∷ [])) n ≡ n ∷ []
   row_here =
-      ap (λ (r : List (List ℕ)). row_at r n) rows_more
-      ∙ get_or_push (rows_of rows) row.items [] n (is.size ∙ sym size) ∙ alone
+      ap (λ (r : List (List ℕ)). members_of_label r n) rows_more
+      ∙ get_or_push (member_rows rows) row.items [] n (is.size ∙ sym size) ∙ alone
 
   label_before : (m : ℕ) → m < length labels → get_or more m 0 ≡ get_or labels m 0
   label_before m b = get_or_append_left labels (n ∷ []) 0 m b
@@ -40,30 +40,30 @@ module _ (labels : List ℕ) (rows : List (Vec ℕ Global)) (row : Vec ℕ Globa
   label_here : get_or more n 0 ≡ n
   label_here = get_or_push labels n 0 n (sym size)
 
-  labelled_more : (m : ℕ) → m < length more → Contains (row_at (rows_of (rows ++ row ∷ [])) (get_or more m 0)) m
+  labelled_more : (m : ℕ) → m < length more → Contains (members_of_label (member_rows (rows ++ row ∷ [])) (get_or more m 0)) m
   labelled_more m l = ⊎_elim
       (λ b. subst (λ (r : List ℕ). Contains r m)
-      (sym (ap (row_at (rows_of (rows ++ row ∷ []))) (label_before m b)
-      ∙ row_before (get_or labels m 0) (label_below labels (rows_of rows) m is b)))
+      (sym (ap (members_of_label (member_rows (rows ++ row ∷ []))) (label_before m b)
+      ∙ row_before (get_or labels m 0) (label_below labels (member_rows rows) m is b)))
       (is.labelled m b))
       (λ b.
       let e : m ≡ n = omega (arith, l, b, size, length-append labels (n ∷ [])) in
       subst (λ (r : List ℕ). Contains r m)
-      (sym (ap (λ k. row_at (rows_of (rows ++ row ∷ [])) (get_or more k 0)) e
-      ∙ ap (row_at (rows_of (rows ++ row ∷ []))) label_here ∙ row_here))
+      (sym (ap (λ k. members_of_label (member_rows (rows ++ row ∷ [])) (get_or more k 0)) e
+      ∙ ap (members_of_label (member_rows (rows ++ row ∷ []))) label_here ∙ row_here))
       (subst (Contains (n ∷ [])) (sym e) (Contains-push [] n)))
       (cases_lt m (length labels))
 
   abbrev InMore : ℕ → ℕ → Type 0
   InMore l m = (m < length more) × (get_or more m 0 ≡ l)
 
-  inside_more : (l m : ℕ) → Contains (row_at (rows_of (rows ++ row ∷ [])) l) m → InMore l m
+  inside_more : (l m : ℕ) → Contains (members_of_label (member_rows (rows ++ row ∷ [])) l) m → InMore l m
   inside_more l m h = ⊎_elim
       (λ b.
       let i = is.inside l m (subst (λ (r : List ℕ). Contains r m) (row_before l b) h) in
       (omega (arith, i.0, length-append labels (n ∷ [])), label_before m i.0 ∙ i.1))
       (λ b.
-      let inside = row_inside (rows_of (rows ++ row ∷ [])) l m h in
+      let inside = row_inside (member_rows (rows ++ row ∷ [])) l m h in
       let e : l ≡ n = omega (
         arith,
         inside,
@@ -71,23 +71,23 @@ module _ (labels : List ℕ) (rows : List (Vec ℕ Global)) (row : Vec ℕ Globa
         size,
         is.size,
         ap (λ (r : List (List ℕ)). length r) rows_more,
-        length-append (rows_of rows) (row.items ∷ []),
+        length-append (member_rows rows) (row.items ∷ []),
       ) in
       let here = one_member n m (subst (λ (r : List ℕ). Contains r m)
-      (ap (row_at (rows_of (rows ++ row ∷ []))) e ∙ row_here) h) in (
+      (ap (members_of_label (member_rows (rows ++ row ∷ []))) e ∙ row_here) h) in (
         omega (arith, here, size, length-append labels (n ∷ [])),
         ap (λ k. get_or more k 0) here ∙ label_here
             ∙ sym e,
       ))
       (cases_lt l (length labels))
 
-  pub are_rows_more : AreRows more (rows_of (rows ++ row ∷ []))
+  pub are_rows_more : AreRows more (member_rows (rows ++ row ∷ []))
   are_rows_more = record {
     size = omega (
       arith,
       is.size,
       ap (λ (r : List (List ℕ)). length r) rows_more,
-      length-append (rows_of rows) (row.items ∷ []),
+      length-append (member_rows rows) (row.items ∷ []),
       length-append labels (n ∷ []),
     );
     labelled = labelled_more;
@@ -189,7 +189,7 @@ module _ (old new : Nodes) (is_seen : Bool) (row : Vec ℕ Global) (o : IsNodes 
         h.0,
         ap (seen_at new.seen.items) (label_kept x within)
             ∙ seen_before (label_at old x)
-            (label_below old.labels.items (rows_of old.rows.items) x o.rows within) ∙ h.1,
+            (label_below old.labels.items (member_rows old.rows.items) x o.rows within) ∙ h.1,
       )
 
   has_more : (x : ℕ) → x < new.width → (y : ℕ) × (seen_at new.seen.items (label_at new x) ≡ Some y)
@@ -210,8 +210,8 @@ module _ (old new : Nodes) (is_seen : Bool) (row : Vec ℕ Global) (o : IsNodes 
   grown_is = record {
     few = omega (arith, few, size_more);
     rows =
-        subst (λ (l : List ℕ). AreRows l (rows_of new.rows.items)) (sym g.labels)
-        (subst (λ (r : List (Vec ℕ Global)). AreRows (old.labels.items ++ size_of old ∷ []) (rows_of r)) (sym rows)
+        subst (λ (l : List ℕ). AreRows l (member_rows new.rows.items)) (sym g.labels)
+        (subst (λ (r : List (Vec ℕ Global)). AreRows (old.labels.items ++ size_of old ∷ []) (member_rows r)) (sym rows)
         (are_rows_more old.labels.items old.rows.items row (size_of old) refl o.rows alone));
     seen_len = seen_len;
     width = ⊎_elim (λ s. omega (arith, s.wide, s.wider, size_more))
@@ -356,10 +356,10 @@ module _ (old new : Nodes) (from to : ℕ) (o : IsNodes old) (apart : from ≢ t
 
   module _ (a b : ℕ) (a_in : a < size_of old) (b_in : b < size_of old)
       (merges : Merges old.labels.items new.labels.items a b) where
-    same_old : (x y : ℕ) → x < size_of old → y < size_of old → label_at old x ≡ label_at old y → Same old x y
+    same_old : (x y : ℕ) → x < size_of old → y < size_of old → label_at old x ≡ label_at old y → AreJoinedNodes old x y
     same_old x y lx ly e = (lx, ly, e)
 
-    joined_kept : (x y : ℕ) → Same old x y → Same new x y
+    joined_kept : (x y : ℕ) → AreJoinedNodes old x y → AreJoinedNodes new x y
     joined_kept x y s = (
       omega (arith, s.0, g.labels.size),
       omega (arith, s.1, g.labels.size),
@@ -367,9 +367,9 @@ module _ (old new : Nodes) (from to : ℕ) (o : IsNodes old) (apart : from ≢ t
     )
 
     abbrev Only : ℕ → ℕ → Type 0
-    Only x y = Same old x y ⊎ (Crosses old a b x y ⊎ Crosses old b a x y)
+    Only x y = AreJoinedNodes old x y ⊎ (Crosses old a b x y ⊎ Crosses old b a x y)
 
-    joined_only : (x y : ℕ) → Same new x y → Only x y
+    joined_only : (x y : ℕ) → AreJoinedNodes new x y → Only x y
     joined_only x y s =
         let lx : x < size_of old = omega (arith, s.0, g.labels.size) in
         let ly : y < size_of old = omega (arith, s.1, g.labels.size) in
@@ -449,7 +449,7 @@ joins_turned old new a b news j = record {
   counted = j.counted;
 }
 
-pub joins_same : (n : Nodes) (a b : ℕ) → Same n a b → JoinsNodes n n a b None
+pub joins_same : (n : Nodes) (a b : ℕ) → AreJoinedNodes n a b → JoinsNodes n n a b None
 joins_same n a b s = record {
   size = refl;
   width = refl;
@@ -464,7 +464,7 @@ joins_same n a b s = record {
 pub label_has_row : (n : Nodes) (x : ℕ) → IsNodes n → x < size_of n → (label_at n x < size_of n)
     × (label_at n x < length n.rows.items)
 label_has_row n x is l = (
-  label_below n.labels.items (rows_of n.rows.items) x is.rows l,
+  label_below n.labels.items (member_rows n.rows.items) x is.rows l,
   label_in_rows n.labels.items n.rows.items x is.rows l,
 )
 

@@ -6,29 +6,29 @@ use Rattle.rgo_tac.specs.Code.{Op, Do, Call, Go, Print, Jump, Branch, Return, In
 use Rattle.rgo_tac.specs.Joins.{if_pointer_like, joins, op_joins}
 use Rattle.rgo_tac.specs.declared.regions.Member.{Member}
 use Rattle.rgo_classes.specs.Joins.{IsPointerLike}
-use Rattle.rgo_classes.specs.Labels.{number_of}
+use Rattle.rgo_classes.specs.Labels.{member_index}
 use Rattle.rgo_summaries.specs.Beginning.{BeginsHere, OwnHere, PassedHere, own_in}
-use Rattle.rgo_summaries.specs.Calls.{CallParts, call_of, callee_at, member}
-use Rattle.rgo_summaries.specs.Kinds.{call_kinds, kinds_of, kinds_to, numbered, own, width_of}
-use Rattle.rgo_summaries.specs.Nodes.{JoinsAtFirst, Callee, IsOuter, JoinsOwn, JoinsPassed, Node, Own}
+use Rattle.rgo_summaries.specs.Calls.{CallParts, call_of_op, call_and_callee_at, member}
+use Rattle.rgo_summaries.specs.Kinds.{call_kinds, kinds_of, kinds_to, numbered_nodes, own_node, width_of}
+use Rattle.rgo_summaries.specs.Nodes.{JoinsAtFirst, Callee, IsOuter, JoinsOwn, JoinsPassed, NodeKind, Own}
 use Rattle.rgo_summaries.proofs.Outer.{get_last, get_left}
 use Rattle.rgo_summaries.proofs.Passing.{like_below, member_number}
 use Rattle.rgo_summaries.proofs.Standing.{call_here, pointer_like_joined}
 
 -- ---- numbered nodes
 
-pub numbered_len : (make : ℕ → Node) (n : ℕ) → length (numbered make n) ≡ n
+pub numbered_len : (make : ℕ → NodeKind) (n : ℕ) → length (numbered_nodes make n) ≡ n
 numbered_len make zero = refl
-numbered_len make (suc n) = omega (arith, length-append (numbered make n) (make n ∷ []), numbered_len make n)
+numbered_len make (suc n) = omega (arith, length-append (numbered_nodes make n) (make n ∷ []), numbered_len make n)
 
-numbered_get : (make : ℕ → Node) (n i : ℕ) → i < n → slice_get (numbered make n) i ≡ Some (make i)
+numbered_get : (make : ℕ → NodeKind) (n i : ℕ) → i < n → slice_get (numbered_nodes make n) i ≡ Some (make i)
 numbered_get make zero i l = absurd (omega (arith, l))
 numbered_get make (suc n) i l = ⊎_elim
-    (λ b. get_left (numbered make n) (make n ∷ []) i (omega (arith, b, numbered_len make n)) ∙ numbered_get make n i b)
+    (λ b. get_left (numbered_nodes make n) (make n ∷ []) i (omega (arith, b, numbered_len make n)) ∙ numbered_get make n i b)
     (λ b.
     let e : i ≡ n = omega (arith, l, b) in
-    let at = ap (slice_get (numbered make n ++ make n ∷ [])) (e ∙ sym (numbered_len make n)) in
-    at ∙ get_last (numbered make n) (make n) ∙ ap (λ k. Some (make k)) (sym e))
+    let at = ap (slice_get (numbered_nodes make n ++ make n ∷ [])) (e ∙ sym (numbered_len make n)) in
+    at ∙ get_last (numbered_nodes make n) (make n) ∙ ap (λ k. Some (make k)) (sym e))
     (cases_lt i n)
 
 get_right : {X : Type 0} (xs ys : List X) (i : ℕ) → slice_get (xs ++ ys) (length xs + i) ≡ slice_get ys i
@@ -44,19 +44,19 @@ outer_width f (suc zero) o = omega arith
 outer_width f (suc (suc v)) o = omega (arith, o.0, like_below f (member (suc (suc v))) o.1)
 
 module _ (code : Tac) (f : TacFn) where
-  pub kinds_next : (at : ℕ) → kinds_to code f (at + 1) ≡ kinds_to code f at ++ call_kinds at (callee_at code f at)
+  pub kinds_next : (at : ℕ) → kinds_to code f (at + 1) ≡ kinds_to code f at ++ call_kinds at (call_and_callee_at code f at)
   kinds_next at = ap (kinds_to code f) next
     where
       next : at + 1 ≡ suc at
       next = omega arith
 
-  pub kinds_before : (at to x : ℕ) (k : Node) → at ≤ to → slice_get (kinds_to code f at) x ≡ Some k
+  pub kinds_before : (at to x : ℕ) (k : NodeKind) → at ≤ to → slice_get (kinds_to code f at) x ≡ Some k
       → slice_get (kinds_to code f to) x ≡ Some k
   kinds_before at zero x k l e = let same : at ≡ 0 = omega (arith, l) in
       subst (λ i. slice_get (kinds_to code f i) x ≡ Some k) same e
   kinds_before at (suc to) x k l e = ⊎_elim
       (λ b. let before = kinds_before at to x k (omega (arith, b)) e in
-      get_left (kinds_to code f to) (call_kinds to (callee_at code f to)) x
+      get_left (kinds_to code f to) (call_kinds to (call_and_callee_at code f to)) x
       (slice_get_within (kinds_to code f to) x k before) ∙ before)
       (λ b. let same : at ≡ suc to = omega (arith, l, b) in
       subst (λ i. slice_get (kinds_to code f i) x ≡ Some k) same e)
@@ -69,26 +69,26 @@ module _ (code : Tac) (f : TacFn) where
       (λ b. omega (
         arith,
         kinds_longer at to (omega (arith, b)),
-        length-append (kinds_to code f to) (call_kinds to (callee_at code f to)),
+        length-append (kinds_to code f to) (call_kinds to (call_and_callee_at code f to)),
       ))
       (λ b. let same : at ≡ suc to = omega (arith, l, b) in omega (arith, ap (λ i. length (kinds_to code f i)) same))
       (cases_lt at (suc to))
 
   pub kinds_first : length (kinds_to code f 0) ≡ length f.variables + 2
-  kinds_first = numbered_len own (length f.variables + 2)
+  kinds_first = numbered_len own_node (length f.variables + 2)
 
-  pub kinds_own : (to i : ℕ) → i < length f.variables + 2 → slice_get (kinds_to code f to) i ≡ Some (own i)
-  kinds_own to i l = kinds_before 0 to i (own i) (omega arith) (numbered_get own (length f.variables + 2) i l)
+  pub kinds_own : (to i : ℕ) → i < length f.variables + 2 → slice_get (kinds_to code f to) i ≡ Some (own_node i)
+  kinds_own to i l = kinds_before 0 to i (own_node i) (omega arith) (numbered_get own_node (length f.variables + 2) i l)
 
-  module _ (at : ℕ) (call : CallParts) (callee : TacFn) (here : callee_at code f at ≡ Some (call, callee)) where
-    pub call_len : length (call_kinds at (callee_at code f at)) ≡ width_of callee
+  module _ (at : ℕ) (call : CallParts) (callee : TacFn) (here : call_and_callee_at code f at ≡ Some (call, callee)) where
+    pub call_len : length (call_kinds at (call_and_callee_at code f at)) ≡ width_of callee
     call_len = ap (λ o. length (call_kinds at o)) here ∙ numbered_len (Callee at) (width_of callee)
 
     pub kinds_call : (to i : ℕ) → at < to → i < width_of callee
         → slice_get (kinds_to code f to) (length (kinds_to code f at) + i) ≡ Some (Callee at i)
     kinds_call to i l b =
         kinds_before (suc at) to (length (kinds_to code f at) + i) (Callee at i) (omega (arith, l))
-        (get_right (kinds_to code f at) (call_kinds at (callee_at code f at)) i
+        (get_right (kinds_to code f at) (call_kinds at (call_and_callee_at code f at)) i
         ∙ ap (λ o. slice_get (call_kinds at o) i) here ∙ numbered_get (Callee at) (width_of callee) i b)
 
     pub call_within : at < length f.body
@@ -97,8 +97,8 @@ module _ (code : Tac) (f : TacFn) where
     pub call_room : length (kinds_to code f at) + width_of callee ≤ length (kinds_of code f)
     call_room =
         let longer = kinds_longer (at + 1) (length f.body) (omega (arith, call_within)) in
-        let long = ap (λ (k : List Node). length k) (kinds_next at) in
-        omega (arith, longer, long, length-append (kinds_to code f at) (call_kinds at (callee_at code f at)), call_len)
+        let long = ap (λ (k : List NodeKind). length k) (kinds_next at) in
+        omega (arith, longer, long, length-append (kinds_to code f at) (call_kinds at (call_and_callee_at code f at)), call_len)
 
   -- ---- what begins by an instruction begins
 
@@ -107,9 +107,9 @@ module _ (code : Tac) (f : TacFn) where
   own_instr None a b e = absurd (none-some (a, b) e)
   own_instr (Some instr) a b e = (instr, refl, e)
 
-  kind_of : (m : Member) (x : ℕ) → IsPointerLike f m → x ≡ number_of m → slice_get (kinds_of code f) x ≡ Some (Own m)
+  kind_of : (m : Member) (x : ℕ) → IsPointerLike f m → x ≡ member_index m → slice_get (kinds_of code f) x ≡ Some (Own m)
   kind_of m x like e =
-      ap (slice_get (kinds_of code f)) e ∙ kinds_own (length f.body) (number_of m) (like_below f m like)
+      ap (slice_get (kinds_of code f)) e ∙ kinds_own (length f.body) (member_index m) (like_below f m like)
       ∙ ap (λ k. Some (Own k)) (member_number m)
 
   own_begins : (at x y : ℕ) → OwnHere f at x y → JoinsOwn f (slice_get (kinds_of code f)) x y
@@ -150,7 +150,7 @@ module _ (code : Tac) (f : TacFn) where
 
 -- ---- a call joins nothing by itself
 
-call_joins_none : (op : Op) (call : CallParts) → call_of op ≡ Some call → op_joins op ≡ None
+call_joins_none : (op : Op) (call : CallParts) → call_of_op op ≡ Some call → op_joins op ≡ None
 call_joins_none (Call to n from) call e = refl
 call_joins_none (Go n from) call e = refl
 call_joins_none (Do to action from) call e = absurd (none-some call e)
@@ -160,7 +160,7 @@ call_joins_none (Branch test target other) call e = absurd (none-some call e)
 call_joins_none (Return value) call e = absurd (none-some call e)
 
 pub no_own_in_call : (code : Tac) (f : TacFn) (at : ℕ) (call : CallParts) (callee : TacFn)
-    → callee_at code f at ≡ Some (call, callee)
+    → call_and_callee_at code f at ≡ Some (call, callee)
     → own_in f (slice_get f.body at) ≡ None
 no_own_in_call code f at call callee here =
     let c = call_here code f at call callee here in

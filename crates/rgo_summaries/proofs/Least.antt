@@ -8,11 +8,11 @@ use Rattle.rgo_classes.specs.declared.classes.Summary.{Summary}
 use Rattle.rgo_classes.specs.Joins.{IsPointerLike, Joins, CallJoins}
 use Rattle.rgo_classes.specs.Classes.{InOneClass}
 use Rattle.rgo_classes.specs.Same.{AreSame}
-use Rattle.rgo_summaries.specs.Calls.{CallParts, callee_at, member, passed}
-use Rattle.rgo_classes.specs.Labels.{number_of}
+use Rattle.rgo_summaries.specs.Calls.{CallParts, call_and_callee_at, member, passed_member}
+use Rattle.rgo_classes.specs.Labels.{member_index}
 use Rattle.rgo_summaries.specs.Families.{IsFamily, IsLeastFamily, JoinsNoMore}
 use Rattle.rgo_summaries.specs.Names.{SummaryNames}
-use Rattle.rgo_summaries.specs.Nodes.{Node, Own, IsOuter, JoinsAtFirst}
+use Rattle.rgo_summaries.specs.Nodes.{NodeKind, Own, IsOuter, JoinsAtFirst}
 use Rattle.rgo_summaries.specs.Spreading.{Spreads, first, carried, turned, chained}
 use Rattle.rgo_summaries.proofs.Carried.{AreEquivalences, Block, MeansIn, Speak, means_joins, spread_joins}
 use Rattle.rgo_classes.proofs.Chains as chain
@@ -21,7 +21,7 @@ use Rattle.rgo_summaries.proofs.Naming.{InOne, describes_of, names_along, names_
 use Rattle.rgo_summaries.proofs.Outer.{some_get}
 use Rattle.rgo_summaries.proofs.Standing.{ByCall, call_found, either_joins, joined_pointer_like, stands}
 
-pub number_member : (i : ℕ) → number_of (member i) ≡ i
+pub number_member : (i : ℕ) → member_index (member i) ≡ i
 number_member zero = refl
 number_member (suc zero) = refl
 number_member (suc (suc v)) = omega arith
@@ -31,10 +31,10 @@ module _ (First : ℕ → ℕ → ℕ → Type 0) (Carries : ℕ → ℕ → ℕ
   pub record HasBlock (n : ℕ) (f : TacFn) (call : CallParts) (callee : TacFn) : Type 0 where
     pub base : ℕ
     pub carries : Carries call.function n base
-    pub passes : (i : ℕ) (a : Member) → IsOuter callee i → passed call i ≡ Some a → IsPointerLike f a
-        → First n (base + i) (number_of a)
+    pub passes : (i : ℕ) (a : Member) → IsOuter callee i → passed_member call i ≡ Some a → IsPointerLike f a
+        → First n (base + i) (member_index a)
 
-module _ (code : Tac) (kinds : ℕ → ℕ → Option Node) (First : ℕ → ℕ → ℕ → Type 0) (Inside : ℕ → ℕ → Type 0)
+module _ (code : Tac) (kinds : ℕ → ℕ → Option NodeKind) (First : ℕ → ℕ → ℕ → Type 0) (Inside : ℕ → ℕ → Type 0)
     (Carries : ℕ → ℕ → ℕ → Type 0) (Now : ℕ → ℕ → ℕ → Type 0) where
   abbrev IsFn : ℕ → TacFn → Type 0
   IsFn n f = slice_get code.functions n ≡ Some f
@@ -48,9 +48,9 @@ module _ (code : Tac) (kinds : ℕ → ℕ → Option Node) (First : ℕ → ℕ
         → AreSame (JoinsAtFirst code f (kinds n)) x y
     pub blocks : (g n base : ℕ) → Carries g n base → Block code kinds Inside g n base
     pub own : (n at : ℕ) (f : TacFn) (instr : Instr) (a b : Member) → slice_get code.functions n ≡ Some f
-        → slice_get f.body at ≡ Some instr → joins f instr.op ≡ Some (a, b) → First n (number_of a) (number_of b)
+        → slice_get f.body at ≡ Some instr → joins f instr.op ≡ Some (a, b) → First n (member_index a) (member_index b)
     pub called : (n at : ℕ) (f callee : TacFn) (call : CallParts) → slice_get code.functions n ≡ Some f
-        → callee_at code f at ≡ Some (call, callee) → HasBlock First Carries n f call callee
+        → call_and_callee_at code f at ≡ Some (call, callee) → HasBlock First Carries n f call callee
     pub equal : AreEquivalences Now
     pub sound : (n x y : ℕ) → Now n x y → Spreads First Inside Carries n x y
     pub whole : (n x y : ℕ) → Spreads First Inside Carries n x y → Now n x y
@@ -87,8 +87,8 @@ module _ (code : Tac) (kinds : ℕ → ℕ → Option Node) (First : ℕ → ℕ
       module _ (n : ℕ) (f : TacFn) (k : IsFn n f) where
         by_block : (call : CallParts) (callee : TacFn) (i j : ℕ) (a b : Member) → HasBlock First Carries n f call callee
             → IsFn call.function callee → IsOuter callee i → IsOuter callee j → Now call.function i j
-            → passed call i ≡ Some a → passed call j ≡ Some b → IsPointerLike f a → IsPointerLike f b
-            → Spreads First Inside Carries n (number_of a) (number_of b)
+            → passed_member call i ≡ Some a → passed_member call j ≡ Some b → IsPointerLike f a → IsPointerLike f b
+            → Spreads First Inside Carries n (member_index a) (member_index b)
         by_block call callee i j a b block known oi oj h p q pa pb =
             chained (turned (first (block.passes i a oi p pa)))
             (chained
@@ -98,7 +98,7 @@ module _ (code : Tac) (kinds : ℕ → ℕ → Option Node) (First : ℕ → ℕ
             (first (block.passes j b oj q pb)))
 
         by_call : (a b : Member) (j : Joins family f a b) → ByCall family j.instr.op a b
-            → Now n (number_of a) (number_of b)
+            → Now n (member_index a) (member_index b)
         by_call a b j h =
             let s = call_summary (slice_get family h.0.function) h.0 a b h.2 in
             let g = function_of h.0.function s.0 s.1 in
@@ -113,34 +113,34 @@ module _ (code : Tac) (kinds : ℕ → ℕ → Option Node) (First : ℕ → ℕ
               calls = h.1;
               known = g.1;
             }) in
-            solved.whole n (number_of a) (number_of b)
+            solved.whole n (member_index a) (member_index b)
             (by_block h.0 g.0 x.0 y.0 a b
             (solved.called n j.at f g.0 h.0 k here) g.1 r.0 r.1 r.2 x.2 y.2 j.first j.second)
 
         by_itself : (a b : Member) (j : Joins family f a b) → op_joins j.instr.op ≡ Some (a, b)
-            → Now n (number_of a) (number_of b)
+            → Now n (member_index a) (member_index b)
         by_itself a b j e =
-            solved.whole n (number_of a) (number_of b)
+            solved.whole n (member_index a) (member_index b)
             (first (solved.own n j.at f j.instr a b k j.here (joined_pointer_like f j.instr.op a b e j.first j.second)))
 
-        contains : (a b : Member) → Joins family f a b → Now n (number_of a) (number_of b)
+        contains : (a b : Member) → Joins family f a b → Now n (member_index a) (member_index b)
         contains a b j = ⊎_elim (λ h. by_call a b j h) (λ e. by_itself a b j e)
             (either_joins family j.instr.op a b j.joined)
 
-        contains_chains : (a b : Member) → InOneClass family f a b → Now n (number_of a) (number_of b)
+        contains_chains : (a b : Member) → InOneClass family f a b → Now n (member_index a) (member_index b)
         contains_chains a b s =
-            least (Joins family f) (λ a b. Now n (number_of a) (number_of b))
+            least (Joins family f) (λ a b. Now n (member_index a) (member_index b))
             (record {
-              reflexive = λ a. (solved.equal n).reflexive (number_of a);
-              symmetric = λ a b h. (solved.equal n).symmetric (number_of a) (number_of b) h;
-              transitive = λ a b c h g. (solved.equal n).transitive (number_of a) (number_of b) (number_of c) h g;
+              reflexive = λ a. (solved.equal n).reflexive (member_index a);
+              symmetric = λ a b h. (solved.equal n).symmetric (member_index a) (member_index b) h;
+              transitive = λ a b c h g. (solved.equal n).transitive (member_index a) (member_index b) (member_index c) h g;
             })
             contains a b s
 
         back : (i j : ℕ) → InOne family f i j → Now n i j
         back i j h =
             subst (λ x. Now n x j) (number_member i)
-            (subst (λ y. Now n (number_of (member i)) y) (number_member j) (contains_chains (member i) (member j) h))
+            (subst (λ y. Now n (member_index (member i)) y) (number_member j) (contains_chains (member i) (member j) h))
 
       is_family : IsFamily code family
       is_family = record {

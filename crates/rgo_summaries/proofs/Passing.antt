@@ -7,24 +7,24 @@ use Rattle.rgo_tac.specs.declared.regions.Member.{Member}
 use Rattle.rgo_tac.specs.declared.regions.Member.TheVariants.{Variable, Result, Global}
 use Rattle.rgo_tac.specs.Code.{TacFn}
 use Rattle.rgo_classes.specs.Joins.{IsPointerLike}
-use Rattle.rgo_classes.specs.Labels.{number_of}
+use Rattle.rgo_classes.specs.Labels.{member_index}
 use Rattle.rgo_classes.proofs.Labelled.{variable_below}
 use Rattle.rgo_summaries.specs.declared.beginning.Calling.{Calling}
 use Rattle.rgo_summaries.specs.declared.progress.Progress.{Progress}
 use Rattle.rgo_summaries.specs.Beginning.{Of, OwnHere, PassedFor, Passing, PassingBelow, own_in}
-use Rattle.rgo_summaries.specs.Calls.{CallParts, member, passed}
+use Rattle.rgo_summaries.specs.Calls.{CallParts, member, passed_member}
 use Rattle.rgo_summaries.specs.Kinds.{width_of}
 use Rattle.rgo_summaries.specs.Progress.{AddsJoins, Two}
-use Rattle.rgo_summaries.specs.Views.{called}
+use Rattle.rgo_summaries.specs.Views.{parts_of_call}
 use Rattle.rgo_summaries.proofs.Adding.{adds_more, adds_none}
 
 -- pointer-like members have nodes
-pub like_below : (f : TacFn) (m : Member) → IsPointerLike f m → number_of m < length f.variables + 2
+pub like_below : (f : TacFn) (m : Member) → IsPointerLike f m → member_index m < length f.variables + 2
 like_below f Global like = omega arith
 like_below f Result like = omega arith
 like_below f (Variable v) like = omega (arith, variable_below f.variables v like)
 
-pub member_number : (m : Member) → member (number_of m) ≡ m
+pub member_number : (m : Member) → member (member_index m) ≡ m
 member_number Global = refl
 member_number Result = refl
 member_number (Variable v) = ap member two
@@ -35,21 +35,21 @@ member_number (Variable v) = ap member two
 -- ---- one member
 
 -- as the code finds it: the number of what is passed
-number_passed : (o : Option Member) (k : ℕ) → option_map number_of o ≡ Some k → (m : Member) × (o ≡ Some m)
-    × (k ≡ number_of m)
+number_passed : (o : Option Member) (k : ℕ) → option_map member_index o ≡ Some k → (m : Member) × (o ≡ Some m)
+    × (k ≡ member_index m)
 number_passed None k e = absurd (none-some k e)
-number_passed (Some m) k e = (m, refl, sym (same_Some (number_of m) k e))
+number_passed (Some m) k e = (m, refl, sym (same_Some (member_index m) k e))
 
 module _ (c : Calling) (number : ℕ) where
   abbrev call : CallParts
-  call = called c.call
+  call = parts_of_call c.call
 
-  module _ (actual : ℕ) (e : Some actual ≡ option_map number_of (passed call number)) where
+  module _ (actual : ℕ) (e : Some actual ≡ option_map member_index (passed_member call number)) where
     abbrev Found : Type 0
-    Found = (m : Member) × (passed call number ≡ Some m) × (actual ≡ number_of m)
+    Found = (m : Member) × (passed_member call number ≡ Some m) × (actual ≡ member_index m)
 
     found : Found
-    found = number_passed (passed call number) actual (sym e)
+    found = number_passed (passed_member call number) actual (sym e)
 
     like_found : IsPointerLike c.function.now (member actual) → IsPointerLike c.function.now found.0
     like_found like = subst (IsPointerLike c.function.now) (ap member found.2 ∙ member_number found.0) like
@@ -72,7 +72,7 @@ module _ (c : Calling) (number : ℕ) where
     pub only_passing : (f x y : ℕ) → Passing c number f x y → Two c.caller (c.base + number) actual f x y
     only_passing f x y p =
         let same : found.0 ≡ p.1.actual = same_Some found.0 p.1.actual (sym found.1 ∙ p.1.passes) in
-        (p.0, p.1.x_is, p.1.y_is ∙ ap number_of (sym same) ∙ sym found.2)
+        (p.0, p.1.x_is, p.1.y_is ∙ ap member_index (sym same) ∙ sym found.2)
 
     -- it is not passed if one of the two is not pointer-like
     pub not_passing : (IsPointerLike c.callee.now (member number) → IsPointerLike c.function.now (member actual) → ⊥)
@@ -97,8 +97,8 @@ module _ (p q r : Progress) (c : Calling) (n : ℕ) (one : AddsJoins p q (Passin
   More = PassingBelow c (n + 1)
 
   at_number : (f x y k : ℕ) → k ≡ n → f ≡ c.caller
-      → PassedFor c.function.now (called c.call) c.callee.now c.base k x y → Passing c n f x y
-  at_number f x y k e fn h = (fn, subst (λ i. PassedFor c.function.now (called c.call) c.callee.now c.base i x y) e h)
+      → PassedFor c.function.now (parts_of_call c.call) c.callee.now c.base k x y → Passing c n f x y
+  at_number f x y k e fn h = (fn, subst (λ i. PassedFor c.function.now (parts_of_call c.call) c.callee.now c.base i x y) e h)
 
   split : (f x y : ℕ) → More f x y → PassingBelow c n f x y ⊎ Passing c n f x y
   split f x y h = ⊎_elim
@@ -115,13 +115,13 @@ module _ (p q r : Progress) (c : Calling) (n : ℕ) (one : AddsJoins p q (Passin
 -- ---- an instruction by itself
 
 module _ (n : ℕ) (f : TacFn) (at : ℕ) (a b : Member) (e : own_in f (slice_get f.body at) ≡ Some (a, b)) where
-  pub is_own : (g x y : ℕ) → Two n (number_of a) (number_of b) g x y → Of n (OwnHere f at) g x y
+  pub is_own : (g x y : ℕ) → Two n (member_index a) (member_index b) g x y → Of n (OwnHere f at) g x y
   is_own g x y t = (t.0, record { one = a; other = b; joined = e; x_is = t.1; y_is = t.2 })
 
-  pub only_own : (g x y : ℕ) → Of n (OwnHere f at) g x y → Two n (number_of a) (number_of b) g x y
+  pub only_own : (g x y : ℕ) → Of n (OwnHere f at) g x y → Two n (member_index a) (member_index b) g x y
   only_own g x y h =
       let same : (h.1.one, h.1.other) ≡ (a, b) = same_Some (h.1.one, h.1.other) (a, b) (sym h.1.joined ∙ e) in (
         h.0,
-        h.1.x_is ∙ ap (λ (p : Member × Member). number_of p.0) same,
-        h.1.y_is ∙ ap (λ (p : Member × Member). number_of p.1) same,
+        h.1.x_is ∙ ap (λ (p : Member × Member). member_index p.0) same,
+        h.1.y_is ∙ ap (λ (p : Member × Member). member_index p.1) same,
       )

@@ -13,8 +13,8 @@ use Rattle.rgo_classes.proofs.Moving.{eq_cases, no_member}
 use Rattle.rgo_summaries.specs.declared.nodes.Nodes.{Nodes}
 use Rattle.rgo_summaries.specs.declared.progress.Event.{Event}
 use Rattle.rgo_summaries.specs.declared.progress.Progress.{Progress}
-use Rattle.rgo_summaries.specs.Joining.{AreNews, Crosses, IsNodes, JoinsNodes, Same, seen_count, some_count}
-use Rattle.rgo_summaries.specs.Progress.{AddsJoins, Also, Inside, IsProgress, Logged, SameIn, Two, events_of, same_at, seen_all, size_at, size_in, width_at, width_in}
+use Rattle.rgo_summaries.specs.Joining.{AreNews, Crosses, IsNodes, JoinsNodes, AreJoinedNodes, seen_count, some_count}
+use Rattle.rgo_summaries.specs.Progress.{AddsJoins, JoinedOrToJoin, Inside, IsProgress, Logged, SameIn, Two, events_of, same_at, seen_all, size_at, size_in, width_at, width_in}
 
 -- ---- lists in which one item is set
 
@@ -35,10 +35,10 @@ get_set_other (z ∷ xs) (suc i) (suc j) x n = get_set_other xs i j x (λ e. n (
 pub by_number : (f : ℕ) (P : ℕ → Type 0) → P f → ((g : ℕ) → g ≢ f → P g) → (g : ℕ) → P g
 by_number f P p q g = ⊎_elim (λ e. subst P (sym e) p) (λ e. q g e) (eq_cases g f)
 
-pub same_symmetric : (n : Nodes) (x y : ℕ) → Same n x y → Same n y x
+pub same_symmetric : (n : Nodes) (x y : ℕ) → AreJoinedNodes n x y → AreJoinedNodes n y x
 same_symmetric n x y s = (s.1, s.0, sym s.2)
 
-pub same_transitive : (n : Nodes) (x y z : ℕ) → Same n x y → Same n y z → Same n x z
+pub same_transitive : (n : Nodes) (x y z : ℕ) → AreJoinedNodes n x y → AreJoinedNodes n y z → AreJoinedNodes n x z
 same_transitive n x y z s t = (s.0, t.1, s.2 ∙ t.2)
 
 -- ---- one function's nodes are joined
@@ -52,16 +52,16 @@ module _ (old new : Progress) (f : ℕ) (n m : Nodes) (a b : ℕ) (news : Option
   there : (g : ℕ) → g ≢ f → slice_get new.nodes.items g ≡ slice_get old.nodes.items g
   there g e = ap (λ (l : List Nodes). slice_get l g) nodes ∙ get_set_other old.nodes.items f g m e
 
-  same_old : (x y : ℕ) → Same n x y → SameIn old.nodes.items f x y
+  same_old : (x y : ℕ) → AreJoinedNodes n x y → SameIn old.nodes.items f x y
   same_old x y s = subst (λ k. same_at k x y) (sym was) s
 
-  same_new : (x y : ℕ) → Same m x y → SameIn new.nodes.items f x y
+  same_new : (x y : ℕ) → AreJoinedNodes m x y → SameIn new.nodes.items f x y
   same_new x y s = subst (λ k. same_at k x y) (sym here) s
 
-  new_same : (x y : ℕ) → SameIn new.nodes.items f x y → Same m x y
+  new_same : (x y : ℕ) → SameIn new.nodes.items f x y → AreJoinedNodes m x y
   new_same x y s = subst (λ k. same_at k x y) here s
 
-  old_same : (x y : ℕ) → SameIn old.nodes.items f x y → Same n x y
+  old_same : (x y : ℕ) → SameIn old.nodes.items f x y → AreJoinedNodes n x y
   old_same x y s = subst (λ k. same_at k x y) was s
 
   sizes : (g : ℕ) → size_in new.nodes.items g ≡ size_in old.nodes.items g
@@ -96,7 +96,7 @@ module _ (old new : Progress) (f : ℕ) (n m : Nodes) (a b : ℕ) (news : Option
   abbrev Leads : ℕ → ℕ → Type 0
   Leads x y = AreSame (Logged new.log.items f) x y
 
-  led : (x y : ℕ) → x < n.width → y < n.width → Same n x y → Leads x y
+  led : (x y : ℕ) → x < n.width → y < n.width → AreJoinedNodes n x y → Leads x y
   led x y wx wy s =
       leads f x y (o.logged f x y (omega (arith, wx, width_is)) (omega (arith, wy, width_is)) (same_old x y s))
 
@@ -111,8 +111,8 @@ module _ (old new : Progress) (f : ℕ) (n m : Nodes) (a b : ℕ) (news : Option
     across = chain.contains (Logged new.log.items f) p.0 p.1 event_in
 
     -- from one side to the other
-    cross : (u v x y : ℕ) → x < n.width → y < n.width → u < n.width → v < n.width → Leads u v → Same n x u
-        → Same n v y → Leads x y
+    cross : (u v x y : ℕ) → x < n.width → y < n.width → u < n.width → v < n.width → Leads u v → AreJoinedNodes n x u
+        → AreJoinedNodes n v y → Leads x y
     cross u v x y wx wy wu wv l s t =
         chain.transitive (Logged new.log.items f) x u y (led x u wx wu s)
         (chain.transitive (Logged new.log.items f) u v y l (led v y wv wy t))
@@ -124,7 +124,7 @@ module _ (old new : Progress) (f : ℕ) (n m : Nodes) (a b : ℕ) (news : Option
     HeardSome = (p.0 < n.width) × (p.1 < n.width) × (Crosses n a b p.0 p.1 ⊎ Crosses n b a p.0 p.1)
 
     -- x is in one class with the first, y with the second
-    cross_one : (h : HeardSome) (x y : ℕ) → x < n.width → y < n.width → Same n x a → Same n b y → Leads x y
+    cross_one : (h : HeardSome) (x y : ℕ) → x < n.width → y < n.width → AreJoinedNodes n x a → AreJoinedNodes n b y → Leads x y
     cross_one h x y wx wy s t = ⊎_elim
         (λ c. cross p.0 p.1 x y wx wy h.0 h.1 across
         (same_transitive n x a p.0 s (same_symmetric n p.0 a c.0))
@@ -134,7 +134,7 @@ module _ (old new : Progress) (f : ℕ) (n m : Nodes) (a b : ℕ) (news : Option
         (same_transitive n p.0 b y c.0 t))
         h.2
 
-    cross_other : (h : HeardSome) (x y : ℕ) → x < n.width → y < n.width → Same n x b → Same n a y → Leads x y
+    cross_other : (h : HeardSome) (x y : ℕ) → x < n.width → y < n.width → AreJoinedNodes n x b → AreJoinedNodes n a y → Leads x y
     cross_other h x y wx wy s t = ⊎_elim
         (λ c. cross p.1 p.0 x y wx wy h.1 h.0 back
         (same_transitive n x b p.1 s c.1)
@@ -144,20 +144,20 @@ module _ (old new : Progress) (f : ℕ) (n m : Nodes) (a b : ℕ) (news : Option
         (same_transitive n p.1 a y (same_symmetric n a p.1 c.1) t))
         h.2
 
-    logged_some : HeardSome → (x y : ℕ) → x < n.width → y < n.width → Same m x y → Leads x y
+    logged_some : HeardSome → (x y : ℕ) → x < n.width → y < n.width → AreJoinedNodes m x y → Leads x y
     logged_some h x y wx wy s = ⊎_elim
         (λ k. led x y wx wy k)
         (λ t. ⊎_elim (λ c. cross_one h x y wx wy c.0 c.1) (λ c. cross_other h x y wx wy c.0 c.1) t)
         (j.only x y s)
 
-    event_same : HeardSome → Same m p.0 p.1
+    event_same : HeardSome → AreJoinedNodes m p.0 p.1
     event_same h = ⊎_elim
         (λ c. same_transitive m p.0 a p.1 (j.kept p.0 a c.0) (same_transitive m a b p.1 j.met (j.kept b p.1 c.1)))
         (λ c. same_transitive m p.0 b p.1 (j.kept p.0 b c.0)
         (same_transitive m b a p.1 (same_symmetric m a b j.met) (j.kept a p.1 c.1)))
         h.2
 
-  logged_here : (k : Option (ℕ × ℕ)) → news ≡ k → AreNews n m a b k → (x y : ℕ) → x < n.width → y < n.width → Same m x y
+  logged_here : (k : Option (ℕ × ℕ)) → news ≡ k → AreNews n m a b k → (x y : ℕ) → x < n.width → y < n.width → AreJoinedNodes m x y
       → Leads x y
   logged_here None e h x y wx wy s = led x y wx wy (h x y wx wy s)
   logged_here (Some p) e h x y wx wy s = logged_some p e h x y wx wy s
@@ -216,28 +216,28 @@ module _ (old new : Progress) (f : ℕ) (n m : Nodes) (a b : ℕ) (news : Option
   -- ---- and no more is joined than follows
 
   abbrev Together : ℕ → ℕ → ℕ → Type 0
-  Together g x y = AreSame (Also old.nodes.items (Two f a b) g) x y
+  Together g x y = AreSame (JoinedOrToJoin old.nodes.items (Two f a b) g) x y
 
-  only_here : (x y : ℕ) → Same m x y → Together f x y
+  only_here : (x y : ℕ) → AreJoinedNodes m x y → Together f x y
   only_here x y s = ⊎_elim (λ h. known x y h) (λ t. ⊎_elim (λ c. crossed x y c.0 c.1)
       (λ c. crossed_back x y c.0 c.1) t) (j.only x y s)
     where
-      known : (x y : ℕ) → Same n x y → Together f x y
-      known x y h = chain.contains (Also old.nodes.items (Two f a b) f) x y (inl (same_old x y h))
+      known : (x y : ℕ) → AreJoinedNodes n x y → Together f x y
+      known x y h = chain.contains (JoinedOrToJoin old.nodes.items (Two f a b) f) x y (inl (same_old x y h))
 
       these : Together f a b
-      these = chain.contains (Also old.nodes.items (Two f a b) f) a b (inr (refl, refl, refl))
+      these = chain.contains (JoinedOrToJoin old.nodes.items (Two f a b) f) a b (inr (refl, refl, refl))
 
-      crossed : (x y : ℕ) → Same n x a → Same n b y → Together f x y
+      crossed : (x y : ℕ) → AreJoinedNodes n x a → AreJoinedNodes n b y → Together f x y
       crossed x y p q =
-          chain.transitive (Also old.nodes.items (Two f a b) f) x a y (known x a p)
-          (chain.transitive (Also old.nodes.items (Two f a b) f) a b y these (known b y q))
+          chain.transitive (JoinedOrToJoin old.nodes.items (Two f a b) f) x a y (known x a p)
+          (chain.transitive (JoinedOrToJoin old.nodes.items (Two f a b) f) a b y these (known b y q))
 
-      crossed_back : (x y : ℕ) → Same n x b → Same n a y → Together f x y
+      crossed_back : (x y : ℕ) → AreJoinedNodes n x b → AreJoinedNodes n a y → Together f x y
       crossed_back x y p q =
-          chain.transitive (Also old.nodes.items (Two f a b) f) x b y (known x b p)
-          (chain.transitive (Also old.nodes.items (Two f a b) f) b a y
-          (chain.symmetric (Also old.nodes.items (Two f a b) f) a b these) (known a y q))
+          chain.transitive (JoinedOrToJoin old.nodes.items (Two f a b) f) x b y (known x b p)
+          (chain.transitive (JoinedOrToJoin old.nodes.items (Two f a b) f) b a y
+          (chain.symmetric (JoinedOrToJoin old.nodes.items (Two f a b) f) a b these) (known a y q))
 
   news_len : (k : Option (ℕ × ℕ)) → length (events_of f k) ≡ some_count k
   news_len None = refl
@@ -266,7 +266,7 @@ module _ (old new : Progress) (f : ℕ) (n m : Nodes) (a b : ℕ) (news : Option
         by_number f (λ g. (x y : ℕ) → SameIn new.nodes.items g x y → Together g x y)
         (λ x y s. only_here x y (new_same x y s))
         (λ g e x y s.
-        chain.contains (Also old.nodes.items (Two f a b) g) x y (inl (subst (λ k. same_at k x y) (there g e) s)));
+        chain.contains (JoinedOrToJoin old.nodes.items (Two f a b) g) x y (inl (subst (λ k. same_at k x y) (there g e) s)));
     logs = (events_of f news, log);
     counted = counted;
   }

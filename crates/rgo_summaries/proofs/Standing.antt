@@ -10,8 +10,8 @@ use Rattle.rgo_tac.specs.declared.regions.Member.TheVariants.{Variable, Result, 
 use Rattle.rgo_tac.specs.Code.{Op, Do, Call, Go, Print, Jump, Branch, Return, Instr, TacFn, Tac}
 use Rattle.rgo_tac.specs.Joins.{op_joins, joins, if_pointer_like, is_pointer_like_member}
 use Rattle.rgo_classes.specs.declared.classes.Summary.{Summary}
-use Rattle.rgo_classes.specs.Joins.{StandsFor, CallJoins, OpJoins, IsPointerLike, Joins}
-use Rattle.rgo_summaries.specs.Calls.{CallParts, call_of, call_in, callee_of, callee_at, passed}
+use Rattle.rgo_classes.specs.Joins.{CorrespondsInCall, CallJoins, OpJoins, IsPointerLike, Joins}
+use Rattle.rgo_summaries.specs.Calls.{CallParts, call_of_op, call_in, call_with_callee, call_and_callee_at, passed_member}
 use Rattle.rgo_summaries.specs.Names.{class_at}
 
 -- two members of a callee have one class
@@ -23,9 +23,9 @@ pub record Together (s : Summary) (i j : ℕ) : Type 0 where
 
 -- what is passed for a member of a class
 abbrev pub OfClass : Summary → CallParts → Class → Member → Type 0
-OfClass s call c a = (i : ℕ) × (class_at s i ≡ Some c) × (passed call i ≡ Some a)
+OfClass s call c a = (i : ℕ) × (class_at s i ≡ Some c) × (passed_member call i ≡ Some a)
 
-pub stands : (s : Summary) (call : CallParts) (c : Class) (a : Member) → StandsFor s call.to call.from c a
+pub stands : (s : Summary) (call : CallParts) (c : Class) (a : Member) → CorrespondsInCall s call.to call.from c a
     → OfClass s call c a
 stands s call c (Variable v) h = ⊎_elim
     (λ p. (suc (suc p.0), p.1, ap (option_map Variable) p.2))
@@ -39,20 +39,20 @@ variable_back None a e = absurd (none-some a e)
 variable_back (Some v) a e = (v, refl, sym (same_Some (Variable v) a e))
 
 pub stands_back : (s : Summary) (call : CallParts) (c : Class) (a : Member) (i : ℕ) → class_at s i ≡ Some c
-    → passed call i ≡ Some a
-    → StandsFor s call.to call.from c a
+    → passed_member call i ≡ Some a
+    → CorrespondsInCall s call.to call.from c a
 stands_back s call c a zero e p =
-    subst (StandsFor s call.to call.from c) (same_Some Global a p) (sym (same_Some class.Global c e))
+    subst (CorrespondsInCall s call.to call.from c) (same_Some Global a p) (sym (same_Some class.Global c e))
 stands_back s call c a (suc zero) e p =
     let v = variable_back call.to a p in
-    subst (StandsFor s call.to call.from c) (sym v.2) (inr (same_Some s.result c e, v.1))
+    subst (CorrespondsInCall s call.to call.from c) (sym v.2) (inr (same_Some s.result c e, v.1))
 stands_back s call c a (suc (suc i)) e p =
     let v = variable_back (slice_get call.from i) a p in
-    subst (StandsFor s call.to call.from c) (sym v.2) (inl (i, e, v.1))
+    subst (CorrespondsInCall s call.to call.from c) (sym v.2) (inl (i, e, v.1))
 
 -- ---- what an instruction joins
 
-joins_of_call : (sums : List Summary) (op : Op) (call : CallParts) (a b : Member) → call_of op ≡ Some call
+joins_of_call : (sums : List Summary) (op : Op) (call : CallParts) (a b : Member) → call_of_op op ≡ Some call
     → CallJoins (slice_get sums call.function) call.to call.from a b → OpJoins sums op a b
 joins_of_call sums (Call to n from) call a b e h =
     subst (λ (c : CallParts). CallJoins (slice_get sums c.function) c.to c.from a b)
@@ -77,7 +77,7 @@ joins_by_itself sums (Return value) a b e = e
 
 abbrev pub ByCall : List Summary → Op → Member → Member → Type 0
 ByCall sums op a b =
-    (call : CallParts) × (call_of op ≡ Some call) × CallJoins (slice_get sums call.function) call.to call.from a b
+    (call : CallParts) × (call_of_op op ≡ Some call) × CallJoins (slice_get sums call.function) call.to call.from a b
 
 pub either_joins : (sums : List Summary) (op : Op) (a b : Member) → OpJoins sums op a b → ByCall sums op a b
     ⊎ (op_joins op ≡ Some (a, b))
@@ -132,7 +132,7 @@ joined_pointer_like f op a b e p q =
 pub record CallHere (code : Tac) (f : TacFn) (at : ℕ) (call : CallParts) (callee : TacFn) : Type 0 where
   pub instr : Instr
   pub here : slice_get f.body at ≡ Some instr
-  pub calls : call_of instr.op ≡ Some call
+  pub calls : call_of_op instr.op ≡ Some call
   pub known : slice_get code.functions call.function ≡ Some callee
 
 abbrev pair_of : CallParts → TacFn → CallParts × TacFn
@@ -145,7 +145,7 @@ with_function (Some g) c call callee e =
     let pair = same_Some (c, g) (call, callee) e in
     (ap (λ (p : CallParts × TacFn). p.0) pair, ap (λ (p : CallParts × TacFn). Some p.1) pair)
 
-with_call : (code : Tac) (o : Option CallParts) (call : CallParts) (callee : TacFn) → callee_of code o ≡ Some (call, callee)
+with_call : (code : Tac) (o : Option CallParts) (call : CallParts) (callee : TacFn) → call_with_callee code o ≡ Some (call, callee)
     → (o ≡ Some call) × (slice_get code.functions call.function ≡ Some callee)
 with_call code None call callee e = absurd (none-some (call, callee) e)
 with_call code (Some c) call callee e =
@@ -153,12 +153,12 @@ with_call code (Some c) call callee e =
     (ap Some w.0, ap (λ (k : CallParts). slice_get code.functions k.function) (sym w.0) ∙ w.1)
 
 with_instr : (o : Option Instr) (call : CallParts) → call_in o ≡ Some call
-    → (instr : Instr) × (o ≡ Some instr) × (call_of instr.op ≡ Some call)
+    → (instr : Instr) × (o ≡ Some instr) × (call_of_op instr.op ≡ Some call)
 with_instr None call e = absurd (none-some call e)
 with_instr (Some instr) call e = (instr, refl, e)
 
 pub call_here : (code : Tac) (f : TacFn) (at : ℕ) (call : CallParts) (callee : TacFn)
-    → callee_at code f at ≡ Some (call, callee)
+    → call_and_callee_at code f at ≡ Some (call, callee)
     → CallHere code f at call callee
 call_here code f at call callee e =
     let w = with_call code (call_in (slice_get f.body at)) call callee e in
@@ -166,16 +166,16 @@ call_here code f at call callee e =
     record { instr = i.0; here = i.1; calls = i.2; known = w.1 }
 
 pub call_found : (code : Tac) (f : TacFn) (at : ℕ) (call : CallParts) (callee : TacFn) → CallHere code f at call callee
-    → callee_at code f at ≡ Some (call, callee)
+    → call_and_callee_at code f at ≡ Some (call, callee)
 call_found code f at call callee h =
-    ap (λ o. callee_of code (call_in o)) h.here ∙ ap (callee_of code) h.calls
+    ap (λ o. call_with_callee code (call_in o)) h.here ∙ ap (call_with_callee code) h.calls
     ∙ ap (option_map (pair_of call)) h.known
 
 -- what a call joins by the classes of its callee
 pub joined_by_call : (code : Tac) (sums : List Summary) (f : TacFn) (at : ℕ) (call : CallParts) (callee : TacFn)
     (s : Summary)
-    (i j : ℕ) (a b : Member) → callee_at code f at ≡ Some (call, callee) → slice_get sums call.function ≡ Some s
-    → Together s i j → passed call i ≡ Some a → passed call j ≡ Some b → IsPointerLike f a → IsPointerLike f b
+    (i j : ℕ) (a b : Member) → call_and_callee_at code f at ≡ Some (call, callee) → slice_get sums call.function ≡ Some s
+    → Together s i j → passed_member call i ≡ Some a → passed_member call j ≡ Some b → IsPointerLike f a → IsPointerLike f b
     → Joins sums f a b
 joined_by_call code sums f at call callee s i j a b e known t p q pa pb =
     let c = call_here code f at call callee e in

@@ -12,11 +12,11 @@ use Rattle.rgo_summaries.specs.declared.progress.Event.{Event}
 use Rattle.rgo_summaries.specs.declared.progress.Progress.{Progress}
 use Rattle.rgo_summaries.specs.declared.progress.Site.{Site}
 use Rattle.rgo_summaries.specs.Beginning.{AddsFn, AddsSites, AreBegun, BeginsAt, BeginsCall, BeginsFn, BeginsHere, HasBegun, IsSite, Of, OwnHere, PassedBelow, PassedFor, PassedHere, StepsIn, Unchanged, site}
-use Rattle.rgo_summaries.specs.Calls.{CallParts, callee_at}
+use Rattle.rgo_summaries.specs.Calls.{CallParts, call_and_callee_at}
 use Rattle.rgo_summaries.specs.Kinds.{call_kinds, kinds_of, kinds_to, width_of}
-use Rattle.rgo_summaries.specs.Nodes.{JoinsAtFirst, Node}
-use Rattle.rgo_summaries.specs.Progress.{AddsJoins, Also, GrowsIn, IsProgress, SameIn, same_at, size_at, size_in, width_at, width_in}
-use Rattle.rgo_summaries.specs.Views.{sites_of}
+use Rattle.rgo_summaries.specs.Nodes.{JoinsAtFirst, NodeKind}
+use Rattle.rgo_summaries.specs.Progress.{AddsJoins, JoinedOrToJoin, GrowsIn, IsProgress, SameIn, same_at, size_at, size_in, width_at, width_in}
+use Rattle.rgo_summaries.specs.Views.{call_sites_of}
 use Rattle.rgo_summaries.proofs.Adding.{OneIn, one_in}
 use Rattle.rgo_summaries.proofs.Chains.{least}
 use Rattle.rgo_summaries.proofs.Growing.{last_is, unchanged_before}
@@ -39,16 +39,16 @@ module _ (p q r : Progress) (n count : ℕ) (These : ℕ → ℕ → Type 0) (gr
     (adds : AddsJoins q r (Of n These)) where
   other_only : (g : ℕ) → g ≢ n → (x y : ℕ) → SameIn r.nodes.items g x y → OneIn p.nodes.items g x y
   other_only g e x y s =
-      least (Also q.nodes.items (Of n These) g) (OneIn p.nodes.items g) (one_in p.nodes.items g)
+      least (JoinedOrToJoin q.nodes.items (Of n These) g) (OneIn p.nodes.items g) (one_in p.nodes.items g)
       (λ a b h. ⊎_elim (λ t. grows.only g a b t) (λ t. absurd (e t.0)) h) x y (adds.only g x y s)
 
-  joined : (x y : ℕ) → Also q.nodes.items (Of n These) n x y → AreSame (Also p.nodes.items (Of n These) n) x y
+  joined : (x y : ℕ) → JoinedOrToJoin q.nodes.items (Of n These) n x y → AreSame (JoinedOrToJoin p.nodes.items (Of n These) n) x y
   joined x y h = ⊎_elim
       (λ s. ⊎_elim
-      (λ e. chain.reflexive (Also p.nodes.items (Of n These) n) x y e)
-      (λ t. chain.contains (Also p.nodes.items (Of n These) n) x y (inl t))
+      (λ e. chain.reflexive (JoinedOrToJoin p.nodes.items (Of n These) n) x y e)
+      (λ t. chain.contains (JoinedOrToJoin p.nodes.items (Of n These) n) x y (inl t))
       (grows.only n x y s))
-      (λ t. chain.contains (Also p.nodes.items (Of n These) n) x y (inr t))
+      (λ t. chain.contains (JoinedOrToJoin p.nodes.items (Of n These) n) x y (inr t))
       h
 
   pub steps : StepsIn p.nodes.items r.nodes.items n count These
@@ -65,7 +65,7 @@ module _ (p q r : Progress) (n count : ℕ) (These : ℕ → ℕ → Type 0) (gr
     kept = λ x y s. adds.kept n x y (grows.kept n x y s);
     met = λ x y h. adds.met n x y (refl, h);
     only = λ x y s.
-        chain.along (Also q.nodes.items (Of n These) n) (Also p.nodes.items (Of n These) n) joined x y
+        chain.along (JoinedOrToJoin q.nodes.items (Of n These) n) (JoinedOrToJoin p.nodes.items (Of n These) n) joined x y
         (adds.only n x y s);
   }
 
@@ -81,8 +81,8 @@ steps_as old new n k m These Those e to from s = record {
   kept = s.kept;
   met = λ x y h. s.met x y (from x y h);
   only = λ x y h.
-      chain.along (Also old (Of n These) n) (Also old (Of n Those) n)
-      (λ a b t. chain.contains (Also old (Of n Those) n) a b
+      chain.along (JoinedOrToJoin old (Of n These) n) (JoinedOrToJoin old (Of n Those) n)
+      (λ a b t. chain.contains (JoinedOrToJoin old (Of n Those) n) a b
       (⊎_elim (λ d. inl d) (λ (d : Of n These n a b). inr (d.0, to a b d.1)) t)) x y (s.only x y h);
 }
 
@@ -91,7 +91,7 @@ steps_as old new n k m These Those e to from s = record {
 module _ (code : Tac) (n : ℕ) (f : TacFn) (at : ℕ) (old new : List Nodes) (sites sites' : List (Vec Site Global))
     (known : slice_get code.functions n ≡ Some f) (size : size_in old n ≡ length (kinds_to code f at)) where
   -- a call
-  module _ (call : CallParts) (callee : TacFn) (here : callee_at code f at ≡ Some (call, callee))
+  module _ (call : CallParts) (callee : TacFn) (here : call_and_callee_at code f at ≡ Some (call, callee))
       (b : BeginsCall n f call callee old new sites sites') where
     abbrev Below : ℕ → ℕ → Type 0
     Below = PassedBelow f call callee (size_in old n) (width_of callee)
@@ -108,7 +108,7 @@ module _ (code : Tac) (n : ℕ) (f : TacFn) (at : ℕ) (old new : List Nodes) (s
     abbrev SameCall : CallParts → TacFn → Type 0
     SameCall call' callee' = ◌≡◌ {A = CallParts × TacFn} (call', callee') (call, callee)
 
-    same_call : (call' : CallParts) (callee' : TacFn) → callee_at code f at ≡ Some (call', callee')
+    same_call : (call' : CallParts) (callee' : TacFn) → call_and_callee_at code f at ≡ Some (call', callee')
         → SameCall call' callee'
     same_call call' callee' e = same_Some (call', callee') (call, callee) (sym e ∙ here)
 
@@ -148,17 +148,17 @@ module _ (code : Tac) (n : ℕ) (f : TacFn) (at : ℕ) (old new : List Nodes) (s
       only = λ g s c. ⊎_elim (λ d. inl d) (λ d. inr (is_site g s d.0 d.1)) (b.lists.only g s c);
     }
 
-    call_listed : (call' : CallParts) (callee' : TacFn) → callee_at code f at ≡ Some (call', callee')
-        → Contains (sites_of sites' call'.function) (site code f n at)
+    call_listed : (call' : CallParts) (callee' : TacFn) → call_and_callee_at code f at ≡ Some (call', callee')
+        → Contains (call_sites_of sites' call'.function) (site code f n at)
     call_listed call' callee' e =
         let same = ap (λ (c : CallParts × TacFn). c.0.function) (same_call call' callee' e) in
-        subst (λ g. Contains (sites_of sites' g) (site code f n at)) (sym same)
-        (subst (λ k. Contains (sites_of sites' call.function) (record { caller = n; base = k })) size b.lists.here)
+        subst (λ g. Contains (call_sites_of sites' g) (site code f n at)) (sym same)
+        (subst (λ k. Contains (call_sites_of sites' call.function) (record { caller = n; base = k })) size b.lists.here)
 
     pub call_begins : BeginsAt code n f at old new sites sites'
     call_begins = record {
       step =
-          steps_as old new n (width_of callee) (length (call_kinds at (callee_at code f at))) Below
+          steps_as old new n (width_of callee) (length (call_kinds at (call_and_callee_at code f at))) Below
           (BeginsHere code f at)
           (sym (call_len code f at call callee here)) below_here here_below b.step;
       sites_added = call_sites;
@@ -166,17 +166,17 @@ module _ (code : Tac) (n : ℕ) (f : TacFn) (at : ℕ) (old new : List Nodes) (s
     }
 
   -- another instruction
-  pub own_begins_at : callee_at code f at ≡ None → StepsIn old new n 0 (OwnHere f at) → sites' ≡ sites
+  pub own_begins_at : call_and_callee_at code f at ≡ None → StepsIn old new n 0 (OwnHere f at) → sites' ≡ sites
       → BeginsAt code n f at old new sites sites'
   own_begins_at none s same = record {
     step =
-        steps_as old new n 0 (length (call_kinds at (callee_at code f at))) (OwnHere f at) (BeginsHere code f at)
+        steps_as old new n 0 (length (call_kinds at (call_and_callee_at code f at))) (OwnHere f at) (BeginsHere code f at)
         (ap (λ o. length (call_kinds at o)) (sym none)) (λ x y h. inl h)
         (λ x y h. ⊎_elim (λ o. o) (λ p. absurd (none-some (p.call, p.callee) (sym none ∙ p.here))) h) s;
     sites_added = record {
       len = ap (λ (l : List (Vec Site Global)). length l) same;
-      kept = λ g t c. subst (λ (l : List (Vec Site Global)). Contains (sites_of l g) t) (sym same) c;
-      only = λ g t c. inl (subst (λ (l : List (Vec Site Global)). Contains (sites_of l g) t) same c);
+      kept = λ g t c. subst (λ (l : List (Vec Site Global)). Contains (call_sites_of l g) t) (sym same) c;
+      only = λ g t c. inl (subst (λ (l : List (Vec Site Global)). Contains (call_sites_of l g) t) same c);
     };
     called = λ call callee e. absurd (none-some (call, callee) (sym none ∙ e));
   }
@@ -226,7 +226,7 @@ fn_begins code n f old new sites len a =
 module _ (code : Tac) (n : ℕ) (f : TacFn) (at : ℕ) (old mid new : List Nodes)
     (sites sites1 sites2 : List (Vec Site Global))
     (b : BeginsFn code n f old mid sites sites1 at) (s : BeginsAt code n f at mid new sites1 sites2) where
-  sound_here : (x y : ℕ) → Also mid (Of n (BeginsHere code f at)) n x y
+  sound_here : (x y : ℕ) → JoinedOrToJoin mid (Of n (BeginsHere code f at)) n x y
       → AreSame (JoinsAtFirst code f (slice_get (kinds_of code f))) x y
   sound_here x y h = ⊎_elim
       (λ t. b.begun.sound x y t)
@@ -245,12 +245,12 @@ module _ (code : Tac) (n : ℕ) (f : TacFn) (at : ℕ) (old mid new : List Nodes
             arith,
             s.step.size,
             b.begun.size,
-            ap (λ (k : List Node). length k) (kinds_next code f at),
-            length-append (kinds_to code f at) (call_kinds at (callee_at code f at)),
+            ap (λ (k : List NodeKind). length k) (kinds_next code f at),
+            length-append (kinds_to code f at) (call_kinds at (call_and_callee_at code f at)),
           );
       width = s.step.width ∙ b.begun.width;
       sound = λ x y h.
-          chain.along (Also mid (Of n (BeginsHere code f at)) n)
+          chain.along (JoinedOrToJoin mid (Of n (BeginsHere code f at)) n)
           (JoinsAtFirst code f (slice_get (kinds_of code f))) sound_here x y
           (s.step.only x y h);
       met = λ k x y l h. ⊎_elim
@@ -260,8 +260,8 @@ module _ (code : Tac) (n : ℕ) (f : TacFn) (at : ℕ) (old mid new : List Nodes
       called = λ k call callee l h. ⊎_elim
           (λ t. s.sites_added.kept call.function (site code f n k) (b.begun.called k call callee t h))
           (λ e.
-          subst (λ i. Contains (sites_of sites2 call.function) (site code f n i)) (sym e)
-          (s.called call callee (subst (λ i. callee_at code f i ≡ Some (call, callee)) e h)))
+          subst (λ i. Contains (call_sites_of sites2 call.function) (site code f n i)) (sym e)
+          (s.called call callee (subst (λ i. call_and_callee_at code f i ≡ Some (call, callee)) e h)))
           (below_or_last at k l);
     };
   }
@@ -295,11 +295,11 @@ pub record BegunBefore (code : Tac) (nodes : List Nodes) (sites : List (Vec Site
   pub sites_len : length sites ≡ length code.functions
   pub begun : (m : ℕ) (f : TacFn) → m < n → slice_get code.functions m ≡ Some f
       → HasBegun code m f nodes sites (length f.body)
-  pub are_sites : (g : ℕ) (s : Site) → Contains (sites_of sites g) s → IsSite code g s
+  pub are_sites : (g : ℕ) (s : Site) → Contains (call_sites_of sites g) s → IsSite code g s
 
 pub begun_first : (code : Tac) (nodes : List Nodes) (sites : List (Vec Site Global)) → length nodes ≡ 0
     → length sites ≡ length code.functions
-    → ((g : ℕ) (s : Site) → Contains (sites_of sites g) s → ⊥) → BegunBefore code nodes sites 0
+    → ((g : ℕ) (s : Site) → Contains (call_sites_of sites g) s → ⊥) → BegunBefore code nodes sites 0
 begun_first code nodes sites e len none = record {
   len = e;
   sites_len = len;

@@ -7,21 +7,21 @@ use Rattle.rgo_tac.specs.Code.{Instr, TacFn, Tac}
 use Rattle.rgo_tac.specs.Joins.{joins}
 use Rattle.rgo_classes.specs.declared.classes.Summary.{Summary}
 use Rattle.rgo_classes.specs.Classes.{AreNamed, outer_members}
-use Rattle.rgo_classes.specs.Labels.{label_of, number_of}
+use Rattle.rgo_classes.specs.Labels.{label_of, member_index}
 use Rattle.rgo_classes.specs.Naming.{AreLike}
 use Rattle.rgo_classes.specs.Same.{AreSame}
 use Rattle.rgo_summaries.specs.declared.nodes.Nodes.{Nodes}
 use Rattle.rgo_summaries.specs.declared.progress.Site.{Site}
 use Rattle.rgo_summaries.specs.Beginning.{AreBegun, HasBegun, IsSite, own_in}
-use Rattle.rgo_summaries.specs.Calls.{CallParts, callee_at, member}
+use Rattle.rgo_summaries.specs.Calls.{CallParts, call_and_callee_at, member}
 use Rattle.rgo_summaries.specs.Families.{IsLeastFamily, outer_classes}
 use Rattle.rgo_summaries.specs.Joining.{label_at, size_of}
 use Rattle.rgo_summaries.specs.Kinds.{kinds_of, kinds_to, width_of}
 use Rattle.rgo_summaries.specs.Names.{SummaryNames}
-use Rattle.rgo_summaries.specs.Nodes.{JoinsAtFirst, Callee, IsOuter, Node, Own}
+use Rattle.rgo_summaries.specs.Nodes.{JoinsAtFirst, Callee, IsOuter, NodeKind, Own}
 use Rattle.rgo_summaries.specs.Progress.{Carries, HasRoom, Inside, IsSpread, SameIn, same_at, size_at, size_in, width_at, width_in}
 use Rattle.rgo_summaries.specs.Spreading.{Spreads, itself}
-use Rattle.rgo_summaries.specs.Views.{sites_of}
+use Rattle.rgo_summaries.specs.Views.{call_sites_of}
 use Rattle.rgo_summaries.proofs.Adding.{OneIn, one_in}
 use Rattle.rgo_summaries.proofs.Carried.{Block}
 use Rattle.rgo_summaries.proofs.Chains.{IsEquivalence}
@@ -32,15 +32,15 @@ use Rattle.rgo_summaries.proofs.Outer.{some_get}
 use Rattle.rgo_summaries.proofs.Standing.{call_here}
 
 -- what the nodes of a function stand for
-abbrev pub kind_at : Tac → Option TacFn → ℕ → Option Node
+abbrev pub kind_at : Tac → Option TacFn → ℕ → Option NodeKind
 kind_at code None x = None
 kind_at code (Some f) x = slice_get (kinds_of code f) x
 
 module _ (code : Tac) (begun : List Nodes) (sites : List (Vec Site Global)) (b : AreBegun code begun sites) where
-  abbrev kinds : ℕ → ℕ → Option Node
+  abbrev kinds : ℕ → ℕ → Option NodeKind
   kinds n = kind_at code (slice_get code.functions n)
 
-  kind_known : (n x : ℕ) (f : TacFn) (k : Node) → slice_get code.functions n ≡ Some f
+  kind_known : (n x : ℕ) (f : TacFn) (k : NodeKind) → slice_get code.functions n ≡ Some f
       → slice_get (kinds_of code f) x ≡ Some k
       → kinds n x ≡ Some k
   kind_known n x f k e h = ap (λ o. kind_at code o x) e ∙ h
@@ -54,7 +54,7 @@ module _ (code : Tac) (begun : List Nodes) (sites : List (Vec Site Global)) (b :
   site_width : (g : ℕ) (s : Site) (i : IsSite code g s) → width_in begun g ≡ width_of i.callee
   site_width g s i = (b.begun g i.callee (site_callee g s i)).width
 
-  pub room : (g : ℕ) → HasRoom begun (width_in begun g) (sites_of sites g)
+  pub room : (g : ℕ) → HasRoom begun (width_in begun g) (call_sites_of sites g)
   room g s c =
       let i = b.are_sites g s c in
       let size = (b.begun s.caller i.f i.caller).size in (
@@ -102,18 +102,18 @@ module _ (code : Tac) (begun : List Nodes) (sites : List (Vec Site Global)) (b :
 
     joined_own : (at : ℕ) (instr : Instr) (p q : Member) → slice_get f.body at ≡ Some instr
         → joins f instr.op ≡ Some (p, q)
-        → SameIn begun n (number_of p) (number_of q)
+        → SameIn begun n (member_index p) (member_index q)
     joined_own at instr p q here e =
-        has.met at (number_of p) (number_of q) (slice_get_within f.body at instr here)
+        has.met at (member_index p) (member_index q) (slice_get_within f.body at instr here)
         (inl (record { one = p; other = q; joined = ap (own_in f) here ∙ e; x_is = refl; y_is = refl }))
 
-    has_block : (at : ℕ) (callee : TacFn) (call : CallParts) → callee_at code f at ≡ Some (call, callee)
+    has_block : (at : ℕ) (callee : TacFn) (call : CallParts) → call_and_callee_at code f at ≡ Some (call, callee)
         → HasBlock (SameIn begun) (Carries sites) n f call callee
     has_block at callee call here = record {
       base = length (kinds_to code f at);
       carries = has.called at call callee (call_within code f at call callee here) here;
       passes = λ i a o p like.
-          has.met at (length (kinds_to code f at) + i) (number_of a) (call_within code f at call callee here)
+          has.met at (length (kinds_to code f at) + i) (member_index a) (call_within code f at call callee here)
           (inr (record {
             call = call;
             callee = callee;

@@ -1,6 +1,6 @@
 -- Nodes of a function that are joined, as labels keep them.
 use Rattle.std.specs.Prelude.{◌≡◌, ◌⊎◌, ◌<◌, ◌≤◌, ◌+◌, ◌^◌, ℕ, Bool, if◌then◌else◌, List, [], ◌∷◌, ◌++◌, Option, Some, None, length, slice_index, slice_index_or, slice_set, sum_by}
-use Rattle.rgo_classes.specs.Moves.{AreRows, MovesTo, rows_of}
+use Rattle.rgo_classes.specs.Moves.{AreRows, MovesTo, member_rows}
 use Rattle.rgo_summaries.specs.declared.nodes.Nodes.{Nodes}
 
 -- the number of nodes
@@ -12,8 +12,8 @@ abbrev pub label_at : Nodes → ℕ → ℕ
 label_at n x = slice_index n.labels.items x
 
 -- two nodes are joined
-abbrev pub Same : Nodes → ℕ → ℕ → Type 0
-Same n x y = (x < size_of n) × (y < size_of n) × (label_at n x ≡ label_at n y)
+abbrev pub AreJoinedNodes : Nodes → ℕ → ℕ → Type 0
+AreJoinedNodes n x y = (x < size_of n) × (y < size_of n) × (label_at n x ≡ label_at n y)
 
 -- the node of a label that callers see, if there is one
 abbrev pub seen_at : List (Option ℕ) → ℕ → Option ℕ
@@ -26,7 +26,7 @@ seen_if is_seen n = if is_seen then Some n else None
 -- each label has its nodes and, where there is one, a node that callers see
 pub record IsNodes (n : Nodes) : Type 0 where
   pub few : size_of n < 2 ^ 64
-  pub rows : AreRows n.labels.items (rows_of n.rows.items)
+  pub rows : AreRows n.labels.items (member_rows n.rows.items)
   pub seen_len : length n.seen.items ≡ size_of n
   pub width : n.width ≤ size_of n
   pub is : (l x : ℕ) → seen_at n.seen.items l ≡ Some x → (x < n.width) × (label_at n x ≡ l)
@@ -41,8 +41,8 @@ pub record Grows (old new : Nodes) (is_seen : Bool) : Type 0 where
 pub record GrowsBy (old new : Nodes) (count : ℕ) : Type 0 where
   pub size : size_of new ≡ size_of old + count
   pub width : new.width ≡ old.width
-  pub kept : (x y : ℕ) → Same old x y → Same new x y
-  pub only : (x y : ℕ) → Same new x y → (x ≡ y) ⊎ Same old x y
+  pub kept : (x y : ℕ) → AreJoinedNodes old x y → AreJoinedNodes new x y
+  pub only : (x y : ℕ) → AreJoinedNodes new x y → (x ≡ y) ⊎ AreJoinedNodes old x y
 
 -- ---- one class is moved to the label of another
 
@@ -65,7 +65,7 @@ handed seen from to = slice_set (slice_set seen from None) to (either (seen_at s
 pub record GoesOver (old new : Nodes) (from to : ℕ) (news : Option (ℕ × ℕ)) : Type 0 where
   pub width : new.width ≡ old.width
   pub labels : MovesTo old.labels.items new.labels.items from to
-  pub rows : AreRows new.labels.items (rows_of new.rows.items)
+  pub rows : AreRows new.labels.items (member_rows new.rows.items)
   pub seen : new.seen.items ≡ handed old.seen.items from to
   pub is_news : news ≡ both (seen_at old.seen.items from) (seen_at old.seen.items to)
 
@@ -73,11 +73,11 @@ pub record GoesOver (old new : Nodes) (from to : ℕ) (news : Option (ℕ × ℕ
 
 -- x is joined to `one`, and y to `other`
 abbrev pub Crosses : Nodes → (one other x y : ℕ) → Type 0
-Crosses n one other x y = Same n x one × Same n other y
+Crosses n one other x y = AreJoinedNodes n x one × AreJoinedNodes n other y
 
 -- what is reported to callers: nothing, or two nodes that they see
 abbrev pub AreNews : (old new : Nodes) → (one other : ℕ) → Option (ℕ × ℕ) → Type 0
-AreNews old new one other None = (x y : ℕ) → x < old.width → y < old.width → Same new x y → Same old x y
+AreNews old new one other None = (x y : ℕ) → x < old.width → y < old.width → AreJoinedNodes new x y → AreJoinedNodes old x y
 AreNews old new one other (Some p) =
     (p.0 < old.width) × (p.1 < old.width) × (Crosses old one other p.0 p.1 ⊎ Crosses old other one p.0 p.1)
 
@@ -94,8 +94,8 @@ seen_count n = sum_by some_count n.seen.items
 pub record JoinsNodes (old new : Nodes) (one other : ℕ) (news : Option (ℕ × ℕ)) : Type 0 where
   pub size : size_of new ≡ size_of old
   pub width : new.width ≡ old.width
-  pub met : Same new one other
-  pub kept : (x y : ℕ) → Same old x y → Same new x y
-  pub only : (x y : ℕ) → Same new x y → Same old x y ⊎ (Crosses old one other x y ⊎ Crosses old other one x y)
+  pub met : AreJoinedNodes new one other
+  pub kept : (x y : ℕ) → AreJoinedNodes old x y → AreJoinedNodes new x y
+  pub only : (x y : ℕ) → AreJoinedNodes new x y → AreJoinedNodes old x y ⊎ (Crosses old one other x y ⊎ Crosses old other one x y)
   pub heard : AreNews old new one other news
   pub counted : some_count news + seen_count new ≤ seen_count old

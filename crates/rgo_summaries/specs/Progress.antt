@@ -6,14 +6,14 @@ use Rattle.rgo_summaries.specs.declared.nodes.Nodes.{Nodes}
 use Rattle.rgo_summaries.specs.declared.progress.Event.{Event}
 use Rattle.rgo_summaries.specs.declared.progress.Progress.{Progress}
 use Rattle.rgo_summaries.specs.declared.progress.Site.{Site}
-use Rattle.rgo_summaries.specs.Joining.{IsNodes, Same, seen_count, size_of}
+use Rattle.rgo_summaries.specs.Joining.{IsNodes, AreJoinedNodes, seen_count, size_of}
 use Rattle.rgo_summaries.specs.Spreading.{Spreads}
-use Rattle.rgo_summaries.specs.Views.{sites_of}
+use Rattle.rgo_summaries.specs.Views.{call_sites_of}
 
 -- two nodes of a function are joined, if the function exists
 abbrev pub same_at : Option Nodes → ℕ → ℕ → Type 0
 same_at None x y = ⊥
-same_at (Some n) x y = Same n x y
+same_at (Some n) x y = AreJoinedNodes n x y
 
 -- how many nodes it has
 abbrev pub size_at : Option Nodes → ℕ
@@ -60,8 +60,8 @@ events_of f None = []
 events_of f (Some p) = record { function = f; one = p.0; other = p.1 } ∷ []
 
 -- what is joined, or is to be joined
-abbrev pub Also : List Nodes → (These : ℕ → ℕ → ℕ → Type 0) → ℕ → ℕ → ℕ → Type 0
-Also nodes These f x y = SameIn nodes f x y ⊎ These f x y
+abbrev pub JoinedOrToJoin : List Nodes → (These : ℕ → ℕ → ℕ → Type 0) → ℕ → ℕ → ℕ → Type 0
+JoinedOrToJoin nodes These f x y = SameIn nodes f x y ⊎ These f x y
 
 -- the number of labels, over all functions, that have a node which callers see
 abbrev pub seen_all : List Nodes → ℕ
@@ -74,7 +74,7 @@ pub record AddsJoins (old new : Progress) (These : ℕ → ℕ → ℕ → Type 
   pub widths : (f : ℕ) → width_in new.nodes.items f ≡ width_in old.nodes.items f
   pub kept : (f x y : ℕ) → SameIn old.nodes.items f x y → SameIn new.nodes.items f x y
   pub met : (f x y : ℕ) → These f x y → SameIn new.nodes.items f x y
-  pub only : (f x y : ℕ) → SameIn new.nodes.items f x y → AreSame (Also old.nodes.items These f) x y
+  pub only : (f x y : ℕ) → SameIn new.nodes.items f x y → AreSame (JoinedOrToJoin old.nodes.items These f) x y
   pub logs : (added : List Event) × (new.log.items ≡ old.log.items ++ added)
   pub counted : length new.log.items + seen_all new.nodes.items ≤ length old.log.items + seen_all old.nodes.items
 
@@ -95,7 +95,7 @@ pub record GrowsIn (old new : Progress) (f count : ℕ) : Type 0 where
 
 -- function f calls g, with nodes from `base` on
 abbrev pub Carries : List (Vec Site Global) → (g f base : ℕ) → Type 0
-Carries sites g f base = Contains (sites_of sites g) (record { caller = f; base = base })
+Carries sites g f base = Contains (call_sites_of sites g) (record { caller = f; base = base })
 
 -- the join in caller f that an event in a callee leads to
 pub record Hears (sites : List Site) (e : Event) (f x y : ℕ) : Type 0 where

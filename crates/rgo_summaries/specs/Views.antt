@@ -8,13 +8,13 @@ use Rattle.rgo_summaries.specs.declared.progress.Site.{Site}
 use Rattle.rgo_summaries.specs.Calls.{CallParts}
 
 -- a call, as the definitions see it
-abbrev pub called : Call → CallParts
-called c = record { to = c.to; function = c.function; from = c.from.now }
+abbrev pub parts_of_call : Call → CallParts
+parts_of_call c = record { to = c.to; function = c.function; from = c.from.now }
 
 -- the same with the function that is called
 abbrev pub called_with : (Call × Bor TacFn) → CallParts × TacFn
-called_with c = (called c.0, c.1.now)
+called_with c = (parts_of_call c.0, c.1.now)
 
 -- the calls of this function
-abbrev pub sites_of : List (Vec Site Global) → ℕ → List Site
-sites_of sites n = slice_index_or (map (λ row. row.items) sites) n []
+abbrev pub call_sites_of : List (Vec Site Global) → ℕ → List Site
+call_sites_of sites n = slice_index_or (map (λ row. row.items) sites) n []

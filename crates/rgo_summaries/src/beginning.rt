@@ -8,7 +8,7 @@ ghost use Rattle.rgo_summaries.specs.Joining.{GrowsBy, IsNodes};
 ghost use Rattle.rgo_summaries.specs.Kinds as kinds;
 ghost use Rattle.rgo_summaries.specs.Kinds.{kinds_to};
 ghost use Rattle.rgo_summaries.specs.Progress.{AddsJoins, GrowsIn, IsProgress, size_in};
-ghost use Rattle.rgo_summaries.specs.Views.{called, sites_of};
+ghost use Rattle.rgo_summaries.specs.Views.{parts_of_call, call_sites_of};
 
 use crate::calls::{Call, callee_at, is_pointer_like, number_of, passed, width_of};
 use crate::nodes::{Nodes, add, no_nodes};
@@ -165,7 +165,7 @@ fn begin_call(
     requires own { length function.now.variables + 2 ≤ size_in progress.old.nodes.items caller }
     requires called { call.function < vec_len sites.old }
     ensures is { OnOk result (IsProgress progress.new) }
-    ensures begins { OnOk result (BeginsCall caller function.now (called call.entry) callee.now
+    ensures begins { OnOk result (BeginsCall caller function.now (parts_of_call call.entry) callee.now
         progress.old.nodes.items progress.new.nodes.items sites.old.items sites.new.items) }
 {
     let base = grow_in(alloc, progress, caller, width_of(callee))?;
@@ -241,7 +241,7 @@ fn begin(
 
 fn no_sites(alloc: Global, count: usize) -> Result<Vec<Vec<Site>>, AllocError>
     ensures len { IfOk result (λ sites. vec_len sites ≡ count) }
-    ensures none { IfOk result (λ sites. (g : ℕ) (s : AnySite) → Contains (sites_of sites.items g) s → ⊥) }
+    ensures none { IfOk result (λ sites. (g : ℕ) (s : AnySite) → Contains (call_sites_of sites.items g) s → ⊥) }
 {
     let mut sites: Vec<Vec<Site>> = Vec::new(alloc);
     for done in 0..count {

@@ -9,7 +9,7 @@ ghost use Rattle.rgo_classes.specs.Labels as labels;
 ghost use Rattle.rgo_summaries.specs.Calls as spec;
 ghost use Rattle.rgo_summaries.specs.Calls.{call_in, member};
 ghost use Rattle.rgo_summaries.specs.Kinds as kinds;
-ghost use Rattle.rgo_summaries.specs.Views.{called, called_with};
+ghost use Rattle.rgo_summaries.specs.Views.{parts_of_call, called_with};
 
 use rgo_tac::{Member, Op, Tac, TacFn};
 
@@ -22,7 +22,7 @@ pub(crate) struct Call<'a> {
 }
 
 fn call_of<'a>(op: Op<'a>) -> Option<Call<'a>>
-    ensures { option_map called result ≡ spec.call_of (operation_of op.entry) }
+    ensures { option_map parts_of_call result ≡ spec.call_of_op (operation_of op.entry) }
 {
     match op {
         Op::Call { to, function, from } => Some(Call { to, function, from }),
@@ -36,7 +36,7 @@ fn call_of<'a>(op: Op<'a>) -> Option<Call<'a>>
 }
 
 fn call_at(function: &TacFn, at: usize) -> Option<Call<'_>>
-    ensures { option_map called result ≡ call_in (slice_get function.now.body at) }
+    ensures { option_map parts_of_call result ≡ call_in (slice_get function.now.body at) }
 {
     match function.op(at) {
         Some(op) => call_of(op),
@@ -50,7 +50,7 @@ pub(crate) fn callee_at<'a>(
     function: &'a TacFn,
     at: usize,
 ) -> Option<(Call<'a>, &'a TacFn)>
-    ensures { option_map called_with result ≡ spec.callee_at code.now function.now at }
+    ensures { option_map called_with result ≡ spec.call_and_callee_at code.now function.now at }
 {
     let call = call_at(function, at)?;
     match code.functions().get(call.function as usize) {
@@ -60,13 +60,13 @@ pub(crate) fn callee_at<'a>(
 }
 
 fn variable_number(variable: u32) -> usize
-    ensures { result ≡ labels.number_of (Member.Variable variable) }
+    ensures { result ≡ labels.member_index (Member.Variable variable) }
 {
     variable as usize + 2
 }
 
 pub(crate) fn number_of(member: Member) -> usize
-    ensures { result ≡ labels.number_of member }
+    ensures { result ≡ labels.member_index member }
 {
     match member {
         Member::Global => 0,
@@ -77,7 +77,7 @@ pub(crate) fn number_of(member: Member) -> usize
 
 /// The number of the caller's member that is passed for this member of the callee, or that receives it.
 pub(crate) fn passed(call: Call<'_>, number: usize) -> Option<usize>
-    ensures { result ≡ option_map labels.number_of (spec.passed (called call.entry) number) }
+    ensures { result ≡ option_map labels.member_index (spec.passed_member (parts_of_call call.entry) number) }
 {
     match number {
         0 => Some(0),

@@ -3,7 +3,7 @@
 ghost use Rattle.std.specs.Prelude.{◌≡◌, ◌<◌, ◌+◌, ℕ, length, Contains, OnOk};
 ghost use Rattle.rgo_summaries.specs.declared.progress.Site.{Site};
 ghost use Rattle.rgo_summaries.specs.Progress.{AddsJoins, HasRoom, Hears, IsProgress, IsSpread, size_in, width_in};
-ghost use Rattle.rgo_summaries.specs.Views.{sites_of};
+ghost use Rattle.rgo_summaries.specs.Views.{call_sites_of};
 
 use crate::progress::{Event, Progress, Site, join_in};
 use std::alloc::{AllocError, Global};
@@ -43,7 +43,7 @@ pub(crate) fn spread(
     requires is { IsProgress progress.old }
     requires len { length sites.now ≡ length progress.old.nodes.items }
     requires room { (g : ℕ)
-        → HasRoom progress.old.nodes.items (width_in progress.old.nodes.items g) (sites_of sites.now g) }
+        → HasRoom progress.old.nodes.items (width_in progress.old.nodes.items g) (call_sites_of sites.now g) }
     ensures { OnOk result (IsSpread progress.old.nodes.items progress.new.nodes.items sites.now) }
 {
     let mut next = 0;

@@ -2,11 +2,11 @@
 
 ghost use Rattle.rgo_table_runs.specs.claims.Examples.{ClaimExamples};
 ghost use Rattle.rgo_table_runs.specs.claims.Laws.{GivesClaim, RunsAsCode};
-ghost use Rattle.rgo_table_runs.specs.closing.Examples.{ClosingExamples};
+ghost use Rattle.rgo_table_runs.specs.closing.Examples.{TableClosingExamples};
 ghost use Rattle.rgo_table_runs.specs.closing.Gathering.{FamilyIsAll, GatheredAreGiven, SharesAreAll};
 ghost use Rattle.rgo_table_runs.specs.closing.Laws.{ClosedClaims, ClosedRuns, RowsAreAll};
 ghost use Rattle.rgo_table_runs.specs.closing.Members.{AllRetired, KeptByAdopting, KeptByGathering, KeptByOrder, KeptByTurn};
-ghost use Rattle.rgo_table_runs.specs.passing.Examples.{PassingExamples};
+ghost use Rattle.rgo_table_runs.specs.passing.Examples.{TablePassExamples};
 ghost use Rattle.rgo_table_runs.specs.passing.Laws.{FindsDeadlock, FindsShortage, KnowsByLook, PassesByTurn, StaysPassed};
 
 /// The rows of a closed table's view that have the records of `main` and of all that goroutines have started are the records of all
@@ -71,6 +71,6 @@ pub fn claim_law()
 /// Where each definition holds and where it does not.
 pub fn examples()
     ensures claims { ClaimExamples }
-    ensures closing { ClosingExamples }
-    ensures passing { PassingExamples }
+    ensures closing { TableClosingExamples }
+    ensures passing { TablePassExamples }
 {}

@@ -5,7 +5,7 @@ ghost use Rattle.rgo_typed.specs.declared.statements.Piece.{Piece};
 ghost use Rattle.rgo_memory.specs.Channels.{SameChannels};
 ghost use Rattle.rgo_memory.specs.Memory as the_memory;
 ghost use Rattle.rgo_memory.specs.Perform.{perform};
-ghost use Rattle.rgo_interpreter.specs.Views.{memory_of};
+ghost use Rattle.rgo_interpreter.specs.Views.{memory_view};
 ghost use Rattle.rgo_interpreter.specs.Acting.{FrameActs};
 ghost use Rattle.rgo_machine.specs.Actions as actions;
 ghost use Rattle.rgo_machine.specs.Lines.{printed_line};
@@ -54,11 +54,11 @@ pub(crate) fn operate(
     at: Place,
 ) -> Result<Did, AllocError>
     requires { frame.old.next < 2 ^ 63 }
-    ensures acts { (out : List ℕ) → FrameActs result (memory_of memory.old) (memory_of memory.new)
+    ensures acts { (out : List ℕ) → FrameActs result (memory_view memory.old) (memory_view memory.new)
         frame.old frame.new out out
         (actions.effected (frame_after_instr frame.old to) at (perform code.now.structs action (spec.destination_type code.now frame.old to)
-        (operand_values frame.old (numbers_of from)) (memory_of memory.old))) }
-    ensures channels { SameChannels (memory_of memory.old) (memory_of memory.new) }
+        (operand_values frame.old (numbers_of from)) (memory_view memory.old))) }
+    ensures channels { SameChannels (memory_view memory.old) (memory_view memory.new) }
 {
     let none = no_type(alloc);
     let ty = type_of(code, frame, to, &none);
@@ -101,9 +101,9 @@ fn act_before(
     out: &mut Vec<u8>,
 ) -> Result<Did, AllocError>
     requires { frame.old.next < 2 ^ 63 }
-    ensures acts { FrameActs result (memory_of memory.old) (memory_of memory.new) frame.old frame.new
-        out.old.items out.new.items (spec.act_of_op code.now (memory_of memory.old) frame.old (operation_of op.entry) at) }
-    ensures channels { SameChannels (memory_of memory.old) (memory_of memory.new) }
+    ensures acts { FrameActs result (memory_view memory.old) (memory_view memory.new) frame.old frame.new
+        out.old.items out.new.items (spec.act_of_op code.now (memory_view memory.old) frame.old (operation_of op.entry) at) }
+    ensures channels { SameChannels (memory_view memory.old) (memory_view memory.new) }
 {
     match op {
         Op::Do { to, action, from } => operate(alloc, code, memory, frame, to, action, from, at),
@@ -142,9 +142,9 @@ pub(crate) fn act(
     frame: &mut Frame,
     out: &mut Vec<u8>,
 ) -> Result<Did, AllocError>
-    ensures acts { FrameActs result (memory_of memory.old) (memory_of memory.new) frame.old frame.new
-        out.old.items out.new.items (spec.tac_act code.now (memory_of memory.old) frame.old) }
-    ensures channels { SameChannels (memory_of memory.old) (memory_of memory.new) }
+    ensures acts { FrameActs result (memory_view memory.old) (memory_view memory.new) frame.old frame.new
+        out.old.items out.new.items (spec.tac_act code.now (memory_view memory.old) frame.old) }
+    ensures channels { SameChannels (memory_view memory.old) (memory_view memory.new) }
 {
     match next_of(code, frame) {
         Some(next) => act_before(alloc, code, memory, frame, next.op, next.place, out),

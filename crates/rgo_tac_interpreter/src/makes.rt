@@ -2,7 +2,7 @@
 
 ghost use Rattle.std.specs.Prelude.{◌≡◌};
 ghost use Rattle.rgo_memory.specs.Channels.{SameChannels};
-ghost use Rattle.rgo_interpreter.specs.Views.{memory_of};
+ghost use Rattle.rgo_interpreter.specs.Views.{memory_view};
 ghost use Rattle.rgo_tac_interpreter.specs.Making.{FrameContinues, has_moved};
 ghost use Rattle.rgo_tac.specs.Steps as spec;
 
@@ -30,9 +30,9 @@ fn has_moved(did: Result<Did, AllocError>) -> bool
 /// A frame makes an object, if its next instruction is one for that. Returns whether it did. If not, as without memory,
 /// nothing changed, and the step is left to the machine.
 pub fn make_object(alloc: Global, code: &Tac, frame: &mut Frame, memory: &mut Memory) -> bool
-    ensures goes { FrameContinues result (spec.tac_stand code.now frame.old) (spec.tac_act code.now (memory_of memory.old) frame.old)
-        (memory_of memory.old) (memory_of memory.new) frame.old frame.new }
-    ensures channels { SameChannels (memory_of memory.old) (memory_of memory.new) }
+    ensures goes { FrameContinues result (spec.tac_stand code.now frame.old) (spec.tac_act code.now (memory_view memory.old) frame.old)
+        (memory_view memory.old) (memory_view memory.new) frame.old frame.new }
+    ensures channels { SameChannels (memory_view memory.old) (memory_view memory.new) }
 {
     let Some(next) = coded_next(code, frame) else {
         return false;

@@ -3,7 +3,7 @@
 ghost use Rattle.std.specs.Prelude.{◌≡◌, ◌<◌, ◌^◌, ℕ, Some, None, slice_get, IfSome, IfOk, MatchOption};
 ghost use Rattle.std.specs.Option.{option_map};
 ghost use Rattle.rgo_memory.specs.Values.{zero_of};
-ghost use Rattle.rgo_interpreter.specs.Acting.{stand_of, passed, FrameEnters};
+ghost use Rattle.rgo_interpreter.specs.Acting.{stand_of, frame_after_operation, FrameEnters};
 ghost use Rattle.rgo_tac.specs.Code as the_code;
 ghost use Rattle.rgo_tac.specs.Frames as frames;
 ghost use Rattle.rgo_tac.specs.Ops.{operation_of, op_in};
@@ -107,7 +107,7 @@ pub(crate) fn stand(code: &Tac, frame: &Frame) -> Stand
 fn pass_before(frame: &mut Frame, op: Op<'_>, value: Value)
     requires { frame.old.next < 2 ^ 63 }
     ensures { (code : the_code.Tac) (at : ℕ)
-        → frame.new ≡ passed frame.old value (spec.stand_before_op code frame.old (operation_of op.entry) at) }
+        → frame.new ≡ frame_after_operation frame.old value (spec.stand_before_op code frame.old (operation_of op.entry) at) }
 {
     if let Op::Do { to, action, from } = op {
         let values = frame.operands(from);
@@ -119,7 +119,7 @@ fn pass_before(frame: &mut Frame, op: Op<'_>, value: Value)
 
 /// A frame continues after an operation on a channel that gave this value.
 pub(crate) fn pass(code: &Tac, frame: &mut Frame, value: Value)
-    ensures { frame.new ≡ passed frame.old value (spec.tac_stand code.now frame.old) }
+    ensures { frame.new ≡ frame_after_operation frame.old value (spec.tac_stand code.now frame.old) }
 {
     if let Some(next) = next_of(code, frame) {
         pass_before(frame, next.op, value);

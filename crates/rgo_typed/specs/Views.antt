@@ -60,8 +60,8 @@ abbrev mutual
   stmts_in code_stmt.end_of-Stmt = tree.no_stmts
   stmts_in (code_stmt.more_of-Stmt s rest) = tree.a_stmt (stmt_of s) (stmts_in rest)
 
-abbrev pub function_of : CodeFunction → Function
-function_of f = record {
+abbrev pub typed_function_of : CodeFunction → Function
+typed_function_of f = record {
   name = f.name;
   params = f.params;
   locals = f.locals;
@@ -74,5 +74,5 @@ abbrev pub typed_of : CodeTyped → Typed
 typed_of p = record {
   structs = p.structs;
   variables = p.variables;
-  functions = map function_of p.functions.items;
+  functions = map typed_function_of p.functions.items;
 }

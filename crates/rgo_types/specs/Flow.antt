@@ -5,39 +5,39 @@ use Rattle.rgo_ast.specs.Tree.{Expr, Stmt, Stmts, Clause}
 
 -- a `break` in it leaves the `for` around it
 abbrev mutual
-  pub has_break : Stmt → Bool
-  has_break (tree.Block all at) = any_break all
-  has_break (tree.If init test body other at) = any_break body || clause_breaks other
-  has_break (tree.Break at) = true
-  has_break _ = false
+  pub stmt_breaks : Stmt → Bool
+  stmt_breaks (tree.Block all at) = stmts_break all
+  stmt_breaks (tree.If init test body other at) = stmts_break body || clause_breaks other
+  stmt_breaks (tree.Break at) = true
+  stmt_breaks _ = false
 
-  pub any_break : Stmts → Bool
-  any_break tree.no_stmts = false
-  any_break (tree.a_stmt s l) = has_break s || any_break l
+  pub stmts_break : Stmts → Bool
+  stmts_break tree.no_stmts = false
+  stmts_break (tree.a_stmt s l) = stmt_breaks s || stmts_break l
 
   pub clause_breaks : Clause → Bool
   clause_breaks tree.no_clause = false
-  clause_breaks (tree.a_clause s) = has_break s
+  clause_breaks (tree.a_clause s) = stmt_breaks s
 
-abbrev pub is_forever : Option Expr → Stmts → Bool
-is_forever None body = not (any_break body)
-is_forever (Some test) body = false
+abbrev pub is_endless_for : Option Expr → Stmts → Bool
+is_endless_for None body = not (stmts_break body)
+is_endless_for (Some test) body = false
 
 -- a `return`; a block whose last statement is terminating; an `if` with an `else` whose branches both are; a `for`
 -- without a condition that no `break` leaves
 abbrev mutual
-  pub is_terminating : Stmt → Bool
-  is_terminating (tree.Block all at) = ends all
-  is_terminating (tree.If init test body other at) = ends body && clause_ends other
-  is_terminating (tree.For init test post body at) = is_forever test body
-  is_terminating (tree.Return value at) = true
-  is_terminating _ = false
+  pub stmt_terminates : Stmt → Bool
+  stmt_terminates (tree.Block all at) = stmts_terminate all
+  stmt_terminates (tree.If init test body other at) = stmts_terminate body && clause_terminates other
+  stmt_terminates (tree.For init test post body at) = is_endless_for test body
+  stmt_terminates (tree.Return value at) = true
+  stmt_terminates _ = false
 
-  pub ends : Stmts → Bool
-  ends tree.no_stmts = false
-  ends (tree.a_stmt s tree.no_stmts) = is_terminating s
-  ends (tree.a_stmt s (tree.a_stmt t l)) = ends (tree.a_stmt t l)
+  pub stmts_terminate : Stmts → Bool
+  stmts_terminate tree.no_stmts = false
+  stmts_terminate (tree.a_stmt s tree.no_stmts) = stmt_terminates s
+  stmts_terminate (tree.a_stmt s (tree.a_stmt t l)) = stmts_terminate (tree.a_stmt t l)
 
-  pub clause_ends : Clause → Bool
-  clause_ends tree.no_clause = false
-  clause_ends (tree.a_clause s) = is_terminating s
+  pub clause_terminates : Clause → Bool
+  clause_terminates tree.no_clause = false
+  clause_terminates (tree.a_clause s) = stmt_terminates s

@@ -16,35 +16,35 @@ use Rattle.rgo_typing_rules.specs.Shapes.{Shape}
 use Rattle.rgo_typing_rules.specs.declared.roles.Role.TheVariants as role
 use Rattle.rgo_typing_expressions.specs.Checking.{nodes}
 use Rattle.rgo_typing_expressions.specs.Packages.{Context}
-use Rattle.rgo_typing_expressions.specs.Terms.{term_of}
+use Rattle.rgo_typing_expressions.specs.Terms.{typed_term}
 use Rattle.rgo_typing_expressions.specs.Types.{type_of}
 use Rattle.rgo_typing_operations.specs.declared.results.Checked.{Checked}
-use Rattle.rgo_typing_statements.specs.Outcomes.{Outcome, Passes}
+use Rattle.rgo_typing_statements.specs.Outcomes.{StmtsOutcome, Passes}
 use Rattle.rgo_typing_statements.specs.Statements.{Enclosing, in_block, all_sites, clause_sites, after_all, after_block, after_clause}
 use Rattle.rgo_typing_statements.specs.Statements.{within_loop, optional_nodes, optional_type, condition_sites}
-use Rattle.rgo_typing_statements.specs.TypedStatements.{has_clause, branches, optional_term, typed_all, typed_clause}
-use Rattle.rgo_types.specs.Flow.{ends}
-use Rattle.rgo_types.specs.Views.{optional_shape_of, optional_term_of}
+use Rattle.rgo_typing_statements.specs.TypedStatements.{has_clause, if_or_else, optional_term, typed_all, typed_clause}
+use Rattle.rgo_types.specs.Flow.{stmts_terminate}
+use Rattle.rgo_types.specs.Views.{optional_checked_shape, optional_term_of}
 
 -- a check of these nodes that returns an expression's shape and term, if there is an expression
 abbrev pub ChecksToOptional : Result (Option Checked) TypeError → List Site → Option Shape → Option Term → Type 0
 ChecksToOptional (Ok e) sites shape term =
-    (first_refusal sites ≡ None) × (optional_shape_of e ≡ shape) × (optional_term_of e ≡ term)
+    (first_refusal sites ≡ None) × (optional_checked_shape e ≡ shape) × (optional_term_of e ≡ term)
 ChecksToOptional (Err e) sites shape term = Refuses e (first_refusal sites)
 
 -- of statements one after another
-abbrev pub all_outcome : Enclosing → Context → tree.Stmts → Outcome
+abbrev pub all_outcome : Enclosing → Context → tree.Stmts → StmtsOutcome
 all_outcome f c l = record { sites = all_sites f c l; after = after_all c l; typed = typed_all f c l }
 
 -- of statements in a block
-abbrev pub block_outcome : Enclosing → Context → tree.Stmts → Outcome
+abbrev pub block_outcome : Enclosing → Context → tree.Stmts → StmtsOutcome
 block_outcome f c l = record {
   sites = all_sites f (in_block c) l;
   after = after_block c l;
   typed = typed_all f (in_block c) l;
 }
 
-abbrev pub clause_outcome : Enclosing → Context → tree.Clause → Outcome
+abbrev pub clause_outcome : Enclosing → Context → tree.Clause → StmtsOutcome
 clause_outcome f c l = record { sites = clause_sites f c l; after = after_clause c l; typed = typed_clause f c l }
 
 -- of an `if` after its first statement, in the block that it is: its nodes, and its typed tree
@@ -56,7 +56,7 @@ if_sites f c test body other at =
 
 abbrev pub typed_if : Enclosing → Context → Expr → tree.Stmts → tree.Clause → ℕ → Stmt
 typed_if f c test body other at =
-    branches (has_clause other) (term_of c test) (typed_all f (in_block c) body)
+    if_or_else (has_clause other) (typed_term c test) (typed_all f (in_block c) body)
     (typed_clause f (after_block c body) other) at
 
 -- of a `for` after its first statement
@@ -72,10 +72,10 @@ typed_loop f c test post body at =
     (stmts_of (typed_all (within_loop f) (in_block (after_clause c post)) body)) (stmts_of (typed_clause f c post)) at
 
 -- of a function with this result type, from where its body begins: its statements, and then its end
-abbrev pub body_outcome : Option «Type» → Context → tree.Function → Outcome
+abbrev pub body_outcome : Option «Type» → Context → tree.Function → StmtsOutcome
 body_outcome result_type c f = record {
   sites = all_sites (record { result_type = result_type; in_loop = false }) c (tree.stmts_of f.body)
-      ++ (f.end, node.End (is_some f.result_type) (ends (tree.stmts_of f.body))) ∷ [];
+      ++ (f.end, node.End (is_some f.result_type) (stmts_terminate (tree.stmts_of f.body))) ∷ [];
   after = after_all c (tree.stmts_of f.body);
   typed = typed_all (record { result_type = result_type; in_loop = false }) c (tree.stmts_of f.body);
 }
@@ -97,6 +97,6 @@ MakesStmt (Ok s) sites stmt c after = (first_refusal sites ≡ None) × (stmt_of
 MakesStmt (Err e) sites stmt c after = Refuses e (first_refusal sites)
 
 -- a check that returns a list of typed trees
-abbrev pub Makes : Result (Vec CodeStmt Global) TypeError → Outcome → Context → Type 0
+abbrev pub Makes : Result (Vec CodeStmt Global) TypeError → StmtsOutcome → Context → Type 0
 Makes (Ok all) o c = Passes o c [] (map stmt_of all.items)
 Makes (Err e) o c = Refuses e (first_refusal o.sites)

@@ -15,7 +15,7 @@ use Rattle.rgo_typing_expressions.specs.Packages.{Package, Context}
 use Rattle.rgo_typing_expressions.specs.Scopes.{in_scope, signature_at}
 use Rattle.rgo_typing_packages.specs.Packages.{outside_functions, signatures_in, package_of, package_sites}
 use Rattle.rgo_typing_packages.specs.Signatures.{params_of, result_of}
-use Rattle.rgo_types.specs.Flow.{ends}
+use Rattle.rgo_types.specs.Flow.{stmts_terminate}
 use Rattle.rgo_typing_statements.specs.Statements.{Enclosing, all_sites, after_all}
 use Rattle.rgo_typing_statements.specs.TypedStatements.{typed_all}
 
@@ -25,11 +25,11 @@ abbrev pub are_none : List «Type» → Option «Type» → Bool
 are_none [] None = true
 are_none _ _ = false
 
-abbrev pub is_plain : Signature → Bool
-is_plain s = are_none s.params s.result_type
+abbrev pub is_empty_signature : Signature → Bool
+is_empty_signature s = are_none s.params s.result_type
 
 abbrev pub is_main : Package → Option Meaning → Bool
-is_main p (Some (meaning.Function n)) = is_plain (signature_at p n)
+is_main p (Some (meaning.Function n)) = is_empty_signature (signature_at p n)
 is_main p _ = false
 
 -- there is a function `main` without parameters and result
@@ -49,7 +49,7 @@ at_body c f = in_scope (params_of c f) c
 abbrev pub body_sites : Context → tree.Function → List Site
 body_sites c f =
     all_sites (in_function c f) (at_body c f) (stmts_of f.body)
-    ++ (f.end, node.End (is_some f.result_type) (ends (stmts_of f.body))) ∷ []
+    ++ (f.end, node.End (is_some f.result_type) (stmts_terminate (stmts_of f.body))) ∷ []
 
 abbrev pub decl_body_sites : Context → Decl → List Site
 decl_body_sites c (tree.Types types at) = []

@@ -6,9 +6,9 @@ use Rattle.rgo_typing_rules.specs.Shapes.{Shape}
 use Rattle.rgo_typing_rules.specs.Views.{shape_of}
 use Rattle.rgo_typing_operations.specs.declared.results.Checked.{Checked}
 
-abbrev pub optional_shape_of : Option Checked → Option Shape
-optional_shape_of None = None
-optional_shape_of (Some e) = Some (shape_of e.shape)
+abbrev pub optional_checked_shape : Option Checked → Option Shape
+optional_checked_shape None = None
+optional_checked_shape (Some e) = Some (shape_of e.shape)
 
 abbrev pub optional_term_of : Option Checked → Option Term
 optional_term_of None = None

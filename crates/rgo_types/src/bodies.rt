@@ -6,7 +6,7 @@ ghost use Rattle.rgo_ast.specs.Views.{decl_of, function_of};
 ghost use Rattle.rgo_typed.specs.Views as typed;
 ghost use Rattle.rgo_typed.specs.Views.{stmt_of};
 ghost use Rattle.rgo_typing_rules.specs.Checks.{Checks};
-ghost use Rattle.rgo_typing_rules.specs.Views.{kind_of, optional_kind_of};
+ghost use Rattle.rgo_typing_rules.specs.Views.{type_of_kind, optional_kind_of};
 ghost use Rattle.rgo_types.specs.Nested.{Makes, body_outcome, function_from};
 ghost use Rattle.rgo_types.specs.Programs as spec;
 
@@ -68,10 +68,10 @@ fn typed_function(
     result_type: Option<Kind<'_>>,
     body: Vec<Stmt>,
 ) -> Result<Function, AllocError>
-    ensures { IfOk result (λ t. typed.function_of t ≡ record {
+    ensures { IfOk result (λ t. typed.typed_function_of t ≡ record {
       name = f.now.name.name;
       params = params;
-      locals = map kind_of locals.now;
+      locals = map type_of_kind locals.now;
       result_type = optional_kind_of result_type.entry;
       body = map stmt_of body.items;
       end = f.now.end;
@@ -98,7 +98,7 @@ fn check_from<'a>(
     f: &'a Source,
 ) -> Result<Function, TypeError>
     ensures checked { Checks result (body_outcome (optional_kind_of result_type.entry) checker.old (function_of f.now)).sites }
-    ensures typed { IfOk result (λ t. typed.function_of t
+    ensures typed { IfOk result (λ t. typed.typed_function_of t
         ≡ function_from (optional_kind_of result_type.entry) checker.old (function_of f.now)) }
 {
     let params = count(checker.scope());
@@ -110,7 +110,7 @@ fn check_from<'a>(
 /// Checks a function whose signature was checked, and makes its typed tree.
 fn check_body<'a>(top: &Checker<'_, 'a>, f: &'a Source) -> Result<Function, TypeError>
     ensures checked { Checks result (spec.body_sites top.now (function_of f.now)) }
-    ensures typed { IfOk result (λ t. typed.function_of t ≡ spec.typed_function top.now (function_of f.now)) }
+    ensures typed { IfOk result (λ t. typed.typed_function_of t ≡ spec.typed_function top.now (function_of f.now)) }
 {
     let mut checker = at_body(top, f)?;
     check_from(&mut checker, result_kind(top, &f.result_type), f)
@@ -124,8 +124,8 @@ fn check_decl<'a>(
     decl: &'a Decl,
 ) -> Result<(), TypeError>
     ensures checked { Checks result (spec.decl_body_sites top.now (decl_of decl.now)) }
-    ensures typed { OnOk result (map typed.function_of functions.new.items
-        ≡ map typed.function_of functions.old.items ++ spec.typed_decl top.now (decl_of decl.now)) }
+    ensures typed { OnOk result (map typed.typed_function_of functions.new.items
+        ≡ map typed.typed_function_of functions.old.items ++ spec.typed_decl top.now (decl_of decl.now)) }
 {
     match decl {
         Decl::Types(_, _) | Decl::Vars(_, _) => Ok(()),
@@ -142,7 +142,7 @@ pub(crate) fn check_bodies<'a>(
     decls: &'a [Decl],
 ) -> Result<Vec<Function>, TypeError>
     ensures checked { Checks result (spec.bodies_sites top.now (map decl_of decls.now)) }
-    ensures typed { IfOk result (λ v. map typed.function_of v.items ≡ spec.typed_functions top.now (map decl_of decls.now)) }
+    ensures typed { IfOk result (λ v. map typed.typed_function_of v.items ≡ spec.typed_functions top.now (map decl_of decls.now)) }
 {
     let mut functions = Vec::new(top.alloc());
     for decl in decls {

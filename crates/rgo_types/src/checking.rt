@@ -3,7 +3,7 @@
 
 ghost use Rattle.std.specs.Prelude.{◌≡◌, IfOk, map};
 ghost use Rattle.rgo_ast.specs.Views.{program_of};
-ghost use Rattle.rgo_typed.specs.Views.{function_of, typed_of};
+ghost use Rattle.rgo_typed.specs.Views.{typed_function_of, typed_of};
 ghost use Rattle.rgo_typing_rules.specs.Checks.{Checks};
 ghost use Rattle.rgo_typing_packages.specs.Packages.{outside_functions};
 ghost use Rattle.rgo_types.specs.Programs.{functions_sites, has_main, sites_of, typed_functions, typed_program};
@@ -38,7 +38,7 @@ fn check_functions<'a>(
     program: &'a Program,
 ) -> Result<Vec<Function>, TypeError>
     ensures checked { Checks result (functions_sites globals.now (program_of program.now)) }
-    ensures typed { IfOk result (λ v. map function_of v.items
+    ensures typed { IfOk result (λ v. map typed_function_of v.items
         ≡ typed_functions (outside_functions globals.now) (program_of program.now).decls) }
 {
     check_text_end(program.end, has_main(globals))?;

@@ -11,7 +11,7 @@ use rgo_ast::Stmt;
 /// Whether a `break` in it leaves the `for` around it.
 #[cycle(breaks)]
 fn has_break(s: &Stmt) -> bool
-    ensures { result ≡ spec.has_break (stmt_of s.now) }
+    ensures { result ≡ spec.stmt_breaks (stmt_of s.now) }
 {
     match s {
         Stmt::Block(all, _) => any_break(all),
@@ -29,7 +29,7 @@ fn has_break(s: &Stmt) -> bool
 
 #[cycle(breaks)]
 fn any_break(all: &[Stmt]) -> bool
-    ensures { result ≡ spec.any_break (ast.stmts_of (map stmt_of all.now)) }
+    ensures { result ≡ spec.stmts_break (ast.stmts_of (map stmt_of all.now)) }
 {
     for s in all {
         if has_break(s) {
@@ -43,7 +43,7 @@ fn any_break(all: &[Stmt]) -> bool
 /// statements").
 #[cycle(ends)]
 fn is_terminating(s: &Stmt) -> bool
-    ensures { result ≡ spec.is_terminating (stmt_of s.now) }
+    ensures { result ≡ spec.stmt_terminates (stmt_of s.now) }
 {
     match s {
         Stmt::Block(all, _) => ends(all),
@@ -63,7 +63,7 @@ fn is_terminating(s: &Stmt) -> bool
 /// Whether the last of these statements is terminating.
 #[cycle(ends)]
 pub(crate) fn ends(all: &[Stmt]) -> bool
-    ensures { result ≡ spec.ends (ast.stmts_of (map stmt_of all.now)) }
+    ensures { result ≡ spec.stmts_terminate (ast.stmts_of (map stmt_of all.now)) }
 {
     match all.last() {
         None => false,

@@ -12,7 +12,7 @@ ghost use Rattle.rgo_typing_statements.specs.Outcomes.{ChecksStmt};
 ghost use Rattle.rgo_types.specs.Nested.{ChecksToOptional};
 ghost use Rattle.rgo_typing_statements.specs.Statements as spec;
 ghost use Rattle.rgo_typing_statements.specs.TypedStatements as typed;
-ghost use Rattle.rgo_types.specs.Views.{optional_shape_of, optional_term_of};
+ghost use Rattle.rgo_types.specs.Views.{optional_checked_shape, optional_term_of};
 
 use rgo_ast::{Expr, Place};
 use rgo_typed::{Stmt, Term};
@@ -79,7 +79,7 @@ pub(crate) fn if_of(
     at: Place,
 ) -> Result<Stmt, TypeError>
     ensures { ChecksStmt result ((at, Condition (shape_of test.entry.shape)) ∷ [])
-        (typed.branches has_other (term_of test.entry.term) (map stmt_of body.items) (map stmt_of other.items) at) }
+        (typed.if_or_else has_other (term_of test.entry.term) (map stmt_of body.items) (map stmt_of other.items) at) }
 {
     rgo_typing_nodes::check_condition(at, test.shape)?;
     let test = Box::new(alloc, test.term)?;
@@ -110,7 +110,7 @@ pub(crate) fn check_test<'a>(
 
 /// Checks that a condition is a `bool`, if there is one.
 fn check_condition(test: &Option<Checked<'_>>, at: Place) -> Result<(), TypeError>
-    ensures { Checks result (spec.condition_sites (optional_shape_of test.now) at) }
+    ensures { Checks result (spec.condition_sites (optional_checked_shape test.now) at) }
 {
     match test {
         None => Ok(()),
@@ -137,7 +137,7 @@ pub(crate) fn loop_of(
     post: Vec<Stmt>,
     at: Place,
 ) -> Result<Stmt, TypeError>
-    ensures { ChecksStmt result (spec.condition_sites (optional_shape_of test.entry) at)
+    ensures { ChecksStmt result (spec.condition_sites (optional_checked_shape test.entry) at)
         (tree.Loop (optional_term_of test.entry) (tree.stmts_of (map stmt_of body.items))
         (tree.stmts_of (map stmt_of post.items)) at) }
 {

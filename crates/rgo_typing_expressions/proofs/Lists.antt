@@ -12,7 +12,7 @@ use Rattle.rgo_typed.specs.Views.{term_of as view_of_term}
 use Rattle.rgo_typing_rules.specs.Checks.{Refuses}
 use Rattle.rgo_typing_rules.specs.Shapes.{Shape}
 use Rattle.rgo_typing_rules.specs.Sites.{Site, first_refusal}
-use Rattle.rgo_typing_rules.specs.Views.{kind_of, optional_kind_of, shape_of}
+use Rattle.rgo_typing_rules.specs.Views.{type_of_kind, optional_kind_of, shape_of}
 use Rattle.rgo_typing_rules.specs.declared.errors.TypeError.{TypeError}
 use Rattle.rgo_typing_rules.specs.declared.kinds.Kind.{Kind}
 use Rattle.rgo_typing_rules.specs.declared.roles.Role.{Role}
@@ -21,7 +21,7 @@ use Rattle.rgo_typing_rules.specs.declared.shapes.Shape.{Shape as CodeShape}
 use Rattle.rgo_typing_rules.proofs.Refusals.{refuses_first, none_first}
 use Rattle.rgo_typing_expressions.specs.Checking.{nodes, all_nodes, element_nodes, values_of}
 use Rattle.rgo_typing_expressions.specs.Packages.{Context}
-use Rattle.rgo_typing_expressions.specs.Terms.{term_of, all_terms, element_terms, with_first, with_known}
+use Rattle.rgo_typing_expressions.specs.Terms.{typed_term, all_terms, element_terms, with_first, with_known}
 use Rattle.rgo_typing_expressions.specs.Types.{type_of, types_of}
 
 -- terms with more after them
@@ -54,24 +54,24 @@ pub record Listed (A W : Type 0) (c : Context) (r : Role) : Type 0 where
   pub more_sites : (x : A) (l : List A) → sites (x ∷ l) ≡ nodes c r (expr x) ++ sites l
   pub more_types : (x : A) (l : List A) → types (x ∷ l) ≡ type_of c (expr x) ∷ types l
   pub more_terms : (i : ℕ) (w : List W) (x : A) (l : List A)
-      → terms (drop i w) (x ∷ l) ≡ a_term (wanted (drop i w) (term_of c (expr x))) (terms (drop (i + 1) w) l)
+      → terms (drop i w) (x ∷ l) ≡ a_term (wanted (drop i w) (typed_term c (expr x))) (terms (drop (i + 1) w) l)
 
 -- arguments of a call, or the values of a literal without names
 abbrev pub exprs : (c : Context) (r : Role) → Listed CodeExpr Kind c r
 exprs c r = record {
   expr = expr_of;
-  wanted = λ w. with_first (map kind_of w);
+  wanted = λ w. with_first (map type_of_kind w);
   sites = λ l. all_nodes c r (exprs_of (map expr_of l));
   types = λ l. types_of c (exprs_of (map expr_of l));
-  terms = λ w l. all_terms c (map kind_of w) (exprs_of (map expr_of l));
+  terms = λ w l. all_terms c (map type_of_kind w) (exprs_of (map expr_of l));
   no_types = refl;
   no_terms_of = λ w. refl;
   no_sites = refl;
   more_sites = λ x l. refl;
   more_types = λ x l. refl;
   more_terms = λ i w x l. ap
-      (λ v. a_term (with_first (map kind_of (drop i w)) (term_of c (expr_of x))) (all_terms c v (exprs_of (map expr_of l))))
-      (next kind_of i w);
+      (λ v. a_term (with_first (map type_of_kind (drop i w)) (typed_term c (expr_of x))) (all_terms c v (exprs_of (map expr_of l))))
+      (next type_of_kind i w);
 }
 
 -- the values of a literal by fields
@@ -88,7 +88,7 @@ elements c = record {
   more_sites = λ x l. refl;
   more_types = λ x l. refl;
   more_terms = λ i w x l. ap
-      (λ v. a_term (with_known (map optional_kind_of (drop i w)) (term_of c (expr_of x.value))) (element_terms c v (elements_of (map element_of l))))
+      (λ v. a_term (with_known (map optional_kind_of (drop i w)) (typed_term c (expr_of x.value))) (element_terms c v (elements_of (map element_of l))))
       (next optional_kind_of i w);
 }
 
@@ -119,14 +119,14 @@ module _ {A W : Type 0} {c : Context} {r : Role} (L : Listed A W c r) (wanted : 
       → Before i shapes terms → i < length all → x ≡ get_or all i x
       → first_refusal (nodes c r (L.expr x)) ≡ None
       → shape_of shape ≡ type_of c (L.expr x)
-      → view_of_term checked ≡ term_of c (L.expr x)
+      → view_of_term checked ≡ typed_term c (L.expr x)
       → view_of_term term ≡ L.wanted (drop n wanted) (view_of_term checked)
       → n ≡ i
       → Before (i + 1) (shapes ++ shape ∷ []) (terms ++ term ∷ [])
   continues i shapes terms x shape checked term n b within is none shape_is checked_is term_is n_is =
       let rest = drop (i + 1) all in
       let here : drop i all ≡ x ∷ rest = drop_more all i x within ∙ ap (λ y. y ∷ rest) (sym is) in
-      let wanted_is : view_of_term term ≡ L.wanted (drop i wanted) (term_of c (L.expr x)) =
+      let wanted_is : view_of_term term ≡ L.wanted (drop i wanted) (typed_term c (L.expr x)) =
       term_is ∙ ap (λ n. L.wanted (drop n wanted) (view_of_term checked)) n_is
       ∙ ap (L.wanted (drop i wanted)) checked_is in
       record {

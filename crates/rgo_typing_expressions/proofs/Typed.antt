@@ -21,7 +21,7 @@ use Rattle.rgo_typing_rules.specs.Shapes as shape
 use Rattle.rgo_typing_rules.specs.Shapes.{Shape}
 use Rattle.rgo_typing_expressions.specs.declared.callees.Callee.{Callee}
 use Rattle.rgo_typing_expressions.specs.declared.callees.Callee.TheVariants as callee
-use Rattle.rgo_typing_expressions.specs.Callees.{callee_of, role_if, is_package_selector, selects_println, bare, args_role}
+use Rattle.rgo_typing_expressions.specs.Callees.{callee_of, role_if, is_package_selector, selects_println, without_parens, args_role}
 use Rattle.rgo_typing_expressions.specs.Checking.{own, parts, nodes, all_nodes, element_nodes, capacity_nodes, callee_nodes}
 use Rattle.rgo_typing_expressions.specs.Checking.{call_node, call_place, type_expr_sites, base_site, values_of}
 use Rattle.rgo_typing_expressions.specs.Laws.{is_typed, TypedWhereUnbroken, TypedParts, room_in}
@@ -195,7 +195,7 @@ typed_parts c (tree.MakeChan ty room at) h =
 typed_parts c (tree.Select e field) h = value_typed c e h
 typed_parts c (tree.Index a i at) h = values_typed c a i h
 typed_parts c (tree.Called f args at) h =
-    all_typed c (args_role c f) args (no_target (is_package_selector c f && selects_println (bare f)))
+    all_typed c (args_role c f) args (no_target (is_package_selector c f && selects_println (without_parens f)))
     (right (callee_nodes c f) (all_nodes c (args_role c f) args) h)
 typed_parts c (tree.Unary op e at) h = value_typed c e h
 typed_parts c (tree.Binary op a b at) h = values_typed c a b h

@@ -6,7 +6,7 @@ use Rattle.rgo_ast.specs.declared.ops.UnaryOp.{UnaryOp}
 use Rattle.rgo_ast.specs.declared.ops.UnaryOp.TheVariants as unary
 use Rattle.rgo_typing_rules.specs.declared.builtins.Builtin as builtin
 use Rattle.rgo_typing_rules.specs.declared.builtins.Builtin.TheVariants.{Println}
-use Rattle.rgo_typing_rules.specs.Builtins.{of_fmt, named, name_of, result_of}
+use Rattle.rgo_typing_rules.specs.Builtins.{of_fmt, named, builtin_name, result_of}
 use Rattle.rgo_typing_rules.specs.declared.meanings.Meaning.{Meaning}
 use Rattle.rgo_typing_rules.specs.declared.meanings.Meaning.TheVariants as meaning
 use Rattle.rgo_typing_rules.specs.declared.roles.Role.{Role}
@@ -17,9 +17,9 @@ use Rattle.rgo_typing_expressions.specs.Packages.{Context}
 use Rattle.rgo_typing_expressions.specs.Scopes.{meaning_of}
 
 -- without the parentheses around it
-abbrev pub bare : Expr → Expr
-bare (tree.Paren e at) = bare e
-bare e = e
+abbrev pub without_parens : Expr → Expr
+without_parens (tree.Paren e at) = without_parens e
+without_parens e = e
 
 abbrev pub named_callee : ℕ → Option Meaning → Callee
 named_callee at None = Missing at
@@ -44,12 +44,12 @@ selected_callee c _ name = Nothing
 
 abbrev pub bare_callee : Context → Expr → Callee
 bare_callee c (tree.Name x) = named_callee x.at (meaning_of c x.name)
-bare_callee c (tree.Select e field) = selected_callee c (bare e) field.name
+bare_callee c (tree.Select e field) = selected_callee c (without_parens e) field.name
 bare_callee c _ = Nothing
 
 -- what a callee is
 abbrev pub callee_of : Context → Expr → Callee
-callee_of c f = bare_callee c (bare f)
+callee_of c f = bare_callee c (without_parens f)
 
 abbrev pub is_package : Option Meaning → Bool
 is_package (Some (meaning.Package imported)) = true
@@ -60,15 +60,15 @@ names_package c (tree.Name x) = is_package (meaning_of c x.name)
 names_package c _ = false
 
 abbrev pub bare_package_selector : Context → Expr → Bool
-bare_package_selector c (tree.Select e field) = names_package c (bare e)
+bare_package_selector c (tree.Select e field) = names_package c (without_parens e)
 bare_package_selector c _ = false
 
 -- `fmt` followed by a name
 abbrev pub is_package_selector : Context → Expr → Bool
-is_package_selector c f = bare_package_selector c (bare f)
+is_package_selector c f = bare_package_selector c (without_parens f)
 
 abbrev pub selects_println : Expr → Bool
-selects_println (tree.Select e field) = bytes_eq field.name (name_of Println)
+selects_println (tree.Select e field) = bytes_eq field.name (builtin_name Println)
 selects_println _ = false
 
 abbrev pub role_if : Bool → Role
@@ -77,7 +77,7 @@ role_if false = role.Value
 
 -- what the arguments of this callee are checked as
 abbrev pub args_role : Context → Expr → Role
-args_role c f = role_if (is_package_selector c f && selects_println (bare f))
+args_role c f = role_if (is_package_selector c f && selects_println (without_parens f))
 
 -- a builtin that has a value has no effect
 abbrev pub has_effect : Callee → Bool
@@ -95,7 +95,7 @@ bare_may_stand c _ = false
 
 -- a call other than of a builtin that has a value, or a receive: it may be a statement
 abbrev pub may_stand : Context → Expr → Bool
-may_stand c e = bare_may_stand c (bare e)
+may_stand c e = bare_may_stand c (without_parens e)
 
 abbrev pub is_variable : Option Meaning → Bool
 is_variable (Some (meaning.Local n)) = true
@@ -110,4 +110,4 @@ bare_is_place c _ = false
 
 -- a variable, a field or an element
 abbrev pub is_place : Context → Expr → Bool
-is_place c e = bare_is_place c (bare e)
+is_place c e = bare_is_place c (without_parens e)

@@ -12,7 +12,7 @@ use Rattle.rgo_typing_rules.specs.declared.meanings.Meaning.TheVariants as meani
 use Rattle.rgo_typing_rules.specs.Nodes as node
 use Rattle.rgo_typing_rules.specs.Nodes.{Node}
 use Rattle.rgo_typing_rules.specs.Shapes.{Shape}
-use Rattle.rgo_scopes.specs.Blocks.{Blocks, found, no_names, declared}
+use Rattle.rgo_scopes.specs.Blocks.{NestedBlocks, found, no_names, declared}
 use Rattle.rgo_typing_rules.specs.Sites.{Site}
 use Rattle.rgo_typing_expressions.specs.Packages.{Fields, Package, Context}
 use Rattle.rgo_typing_expressions.specs.Scopes.{meaning_of, fields_at, signature_at}
@@ -64,7 +64,7 @@ abbrev pub element_types : Package → Option Meaning → Elements → Option (L
 element_types p m members = known_if m (field_types (struct_fields p m) members)
 
 -- one of the elements has the field of an earlier one, or of these
-abbrev pub has_twice : Blocks ℕ → Elements → Bool
+abbrev pub has_twice : NestedBlocks ℕ → Elements → Bool
 has_twice seen tree.no_elements = false
 has_twice seen (tree.an_element x e l) = if is_some (found x.name seen) then true else has_twice (declared x.name 0 seen) l
 

@@ -32,19 +32,19 @@ abbrev pub room_in : Capacity → Exprs
 room_in tree.no_capacity = tree.no_exprs
 room_in (tree.a_capacity e) = tree.an_expr e tree.no_exprs
 
-abbrev pub one : Expr → Exprs
-one e = tree.an_expr e tree.no_exprs
+abbrev pub one_expr : Expr → Exprs
+one_expr e = tree.an_expr e tree.no_exprs
 
 -- the expressions whose types the rules ask for at a node
 abbrev pub operands : Expr → Exprs
 operands (tree.Paren e at) = operands e
-operands (tree.MakeSlice ty e at) = one e
+operands (tree.MakeSlice ty e at) = one_expr e
 operands (tree.MakeChan ty room at) = room_in room
-operands (tree.Select e field) = one e
-operands (tree.Index a i at) = tree.an_expr a (one i)
+operands (tree.Select e field) = one_expr e
+operands (tree.Index a i at) = tree.an_expr a (one_expr i)
 operands (tree.Called f args at) = args
-operands (tree.Unary op e at) = one e
-operands (tree.Binary op a b at) = tree.an_expr a (one b)
+operands (tree.Unary op e at) = one_expr e
+operands (tree.Binary op a b at) = tree.an_expr a (one_expr b)
 operands (tree.Literal x values at) = values
 operands (tree.Keyed x members at) = values_of members
 operands _ = tree.no_exprs

@@ -7,7 +7,7 @@ use Rattle.rgo_typed.specs.declared.types.Type.{«Type»}
 use Rattle.rgo_typing_rules.specs.Checks.{Refuses}
 use Rattle.rgo_typing_rules.specs.Shapes.{Shape}
 use Rattle.rgo_typing_rules.specs.Sites.{Site, first_refusal}
-use Rattle.rgo_typing_rules.specs.Views.{shape_of, kind_of, optional_kind_of}
+use Rattle.rgo_typing_rules.specs.Views.{shape_of, type_of_kind, optional_kind_of}
 use Rattle.rgo_typing_rules.specs.declared.errors.TypeError.{TypeError}
 use Rattle.rgo_typing_rules.specs.declared.roles.Role.{Role}
 use Rattle.rgo_typing_expressions.specs.Checking.{nodes, all_nodes, element_nodes, values_of, field_types}
@@ -32,7 +32,7 @@ ChecksToAll (Err e) sites shapes terms = Refuses e (first_refusal sites)
 
 -- the check of an expression
 abbrev pub ChecksExpr : Result Checked TypeError → Context → Role → Expr → Type 0
-ChecksExpr result c r e = ChecksTo result (nodes c r e) (type_of c e) (typing.term_of c e)
+ChecksExpr result c r e = ChecksTo result (nodes c r e) (type_of c e) (typing.typed_term c e)
 
 -- the check of expressions in order, as values of these types, where there are types
 abbrev pub ChecksExprs : Result Values TypeError → Context → Role → List «Type» → Exprs → Type 0
@@ -46,7 +46,7 @@ ChecksElements result c known members =
 -- a field by its number and type
 abbrev pub found_field : Option Field → Option (ℕ × «Type»)
 found_field None = None
-found_field (Some f) = Some (f.number, kind_of f.kind)
+found_field (Some f) = Some (f.number, type_of_kind f.kind)
 
 -- the fields that elements name
 abbrev pub FieldsOf : Named → Fields → Elements → Type 0

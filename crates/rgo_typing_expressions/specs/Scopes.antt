@@ -11,7 +11,7 @@ use Rattle.rgo_typing_rules.specs.declared.meanings.Meaning.TheVariants as meani
 use Rattle.rgo_typing_rules.specs.Meanings.{Signature}
 use Rattle.rgo_typing_rules.specs.declared.builtins.Builtin.{Builtin}
 use Rattle.rgo_typing_rules.specs.Builtins.{predeclared, named}
-use Rattle.rgo_scopes.specs.Blocks.{found, declared, entered, left, no_names}
+use Rattle.rgo_scopes.specs.Blocks.{found, declared, entered, block_left, no_names}
 use Rattle.rgo_typing_expressions.specs.Packages.{Fields, Package, Scope, Context}
 pub use Rattle.rgo_typing_operations.specs.Types.{int, bool}
 
@@ -28,8 +28,8 @@ no_signature = record { params = []; result_type = None }
 abbrev pub fields_at : Package → ℕ → Fields
 fields_at p n = get_or p.structs n no_fields
 
-abbrev pub variable_at : Package → ℕ → «Type»
-variable_at p n = get_or p.variables n int
+abbrev pub variable_type_at : Package → ℕ → «Type»
+variable_type_at p n = get_or p.variables n int
 
 abbrev pub signature_at : Package → ℕ → Signature
 signature_at p n = get_or p.functions n no_signature
@@ -76,7 +76,7 @@ abbrev pub inside : Scope → Scope
 inside g = record { locals = entered g.locals; types = g.types }
 
 abbrev pub outside : Scope → Scope
-outside g = record { locals = left g.locals; types = g.types }
+outside g = record { locals = block_left g.locals; types = g.types }
 
 -- the same context with this scope
 abbrev pub in_scope : Scope → Context → Context

@@ -15,7 +15,7 @@ use Rattle.rgo_typing_rules.specs.declared.meanings.Meaning.{Meaning}
 use Rattle.rgo_typing_rules.specs.declared.meanings.Meaning.TheVariants as meaning
 use Rattle.rgo_scopes.specs.Blocks.{found}
 use Rattle.rgo_typing_expressions.specs.Packages.{Fields, Package, Context}
-use Rattle.rgo_typing_expressions.specs.Scopes.{meaning_of, fields_at, variable_at, signature_at, local_at}
+use Rattle.rgo_typing_expressions.specs.Scopes.{meaning_of, fields_at, variable_type_at, signature_at, local_at}
 use Rattle.rgo_typing_expressions.specs.Scopes.{int, bool, resolved, pointer_base}
 use Rattle.rgo_typing_expressions.specs.declared.callees.Callee.{Callee}
 use Rattle.rgo_typing_expressions.specs.declared.callees.Callee.TheVariants as callee
@@ -24,7 +24,7 @@ pub use Rattle.rgo_typing_operations.specs.Types.{element_shape, constant_or, un
 
 abbrev pub shape_of_meaning : Context → Option Meaning → Shape
 shape_of_meaning c (Some (meaning.Local n)) = shape.Value (local_at c.scope n)
-shape_of_meaning c (Some (meaning.Global n)) = shape.Value (variable_at c.globals n)
+shape_of_meaning c (Some (meaning.Global n)) = shape.Value (variable_type_at c.globals n)
 shape_of_meaning c (Some (meaning.Truth b)) = shape.Value bool
 shape_of_meaning c (Some meaning.Nil) = shape.Nil
 shape_of_meaning c _ = shape.Untyped
@@ -38,9 +38,9 @@ struct_in [] b = struct_base b
 struct_in (layer ∷ layers) b = None
 
 -- the struct that a value of this shape points to
-abbrev pub struct_of : Shape → Option ℕ
-struct_of (shape.Value t) = struct_in t.layers t.base
-struct_of _ = None
+abbrev pub pointed_struct : Shape → Option ℕ
+pointed_struct (shape.Value t) = struct_in t.layers t.base
+pointed_struct _ = None
 
 -- a field's number and type
 abbrev pub numbered_field : Fields → Option ℕ → Option (ℕ × «Type»)
@@ -56,7 +56,7 @@ field_of_struct p (Some n) name = field_in (fields_at p n) name
 
 -- the field of this name of what a value of this shape points to
 abbrev pub field_of : Package → Shape → List ℕ → Option (ℕ × «Type»)
-field_of p s name = field_of_struct p (struct_of s) name
+field_of p s name = field_of_struct p (pointed_struct s) name
 
 abbrev pub field_shape : Option (ℕ × «Type») → Shape
 field_shape None = shape.Untyped

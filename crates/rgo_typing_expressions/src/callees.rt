@@ -24,7 +24,7 @@ pub enum Callee {
 
 /// An expression without the parentheses around it.
 pub fn bare(e: &Expr) -> &Expr
-    ensures { expr_of result.now ≡ spec.bare (expr_of e.now) }
+    ensures { expr_of result.now ≡ spec.without_parens (expr_of e.now) }
 {
     match e {
         Expr::Paren(inner, _) => bare(inner),

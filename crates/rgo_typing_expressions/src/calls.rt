@@ -6,7 +6,7 @@ ghost use Rattle.rgo_typed.specs.Tree as tree;
 ghost use Rattle.rgo_typed.specs.Views.{term_of};
 ghost use Rattle.rgo_typing_rules.specs.Builtins.{result_of, action_of};
 ghost use Rattle.rgo_typing_rules.specs.Nodes as node;
-ghost use Rattle.rgo_typing_rules.specs.Views.{shape_of, optional_kind_of, signature_of};
+ghost use Rattle.rgo_typing_rules.specs.Views.{shape_of, optional_kind_of, signature_of_kinds};
 ghost use Rattle.rgo_typing_expressions.specs.Checking.{call_place, call_node};
 ghost use Rattle.rgo_typing_expressions.specs.Results.{ChecksTo};
 ghost use Rattle.rgo_typing_expressions.specs.Scopes.{signature_at};
@@ -54,12 +54,12 @@ fn routine<'a>(
     ensures { ChecksTo result
         ((
           at,
-          node.Call role (signature_of signature.now)
+          node.Call role (signature_of_kinds signature.now)
               (map shape_of args.entry.shapes.items),
         ) ∷ [])
-        (types.result_shape (signature_of signature.now).result_type)
+        (types.result_shape (signature_of_kinds signature.now).result_type)
         (tree.Call number (tree.terms_of (map term_of args.entry.terms.items))
-        (terms.result_or_int (signature_of signature.now).result_type) at) }
+        (terms.result_or_int (signature_of_kinds signature.now).result_type) at) }
 {
     check_routine(at, role, signature, &args.shapes)?;
     let ty = result_or_int(alloc, signature.result_type)?;

@@ -1,7 +1,7 @@
 //! What every check of an expression or a statement is handed.
 
 ghost use Rattle.std.specs.Prelude.{◌≡◌, OnOk, OnErr};
-ghost use Rattle.rgo_typing_rules.specs.Views.{kind_of};
+ghost use Rattle.rgo_typing_rules.specs.Views.{type_of_kind};
 ghost use Rattle.rgo_typing_expressions.specs.Packages.{Context};
 ghost use Rattle.rgo_typing_expressions.specs.Scopes.{meaning_of, no_locals, with_local, inside, outside, in_scope};
 
@@ -83,7 +83,7 @@ impl<'p, 'a> Checker<'p, 'a> {
     /// Declares a local variable in the innermost block. On allocation failure nothing changes.
     pub fn declare(&mut self, name: &'a [u8], kind: Kind<'a>) -> Result<(), AllocError>
         ensures declared { OnOk result (self.new
-            ≡ in_scope (with_local name.now (kind_of kind.entry) self.old.scope) self.old) }
+            ≡ in_scope (with_local name.now (type_of_kind kind.entry) self.old.scope) self.old) }
         ensures err { OnErr result (self.new ≡ self.old) }
     {
         self.scope.declare(name, kind)

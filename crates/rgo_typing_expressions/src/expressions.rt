@@ -5,7 +5,7 @@ ghost use Rattle.std.specs.Prelude.{◌≡◌, [], ◌∷◌, IfOk, map};
 ghost use Rattle.rgo_ast.specs.Tree as ast;
 ghost use Rattle.rgo_ast.specs.Views.{expr_of, element_of, type_expr_of};
 ghost use Rattle.rgo_typing_rules.specs.Checks.{Checks};
-ghost use Rattle.rgo_typing_rules.specs.Views.{kind_of, optional_kind_of};
+ghost use Rattle.rgo_typing_rules.specs.Views.{type_of_kind, optional_kind_of};
 ghost use Rattle.rgo_typing_rules.specs.declared.roles.Role.TheVariants.{Value};
 ghost use Rattle.rgo_typing_expressions.specs.Checking as checking;
 ghost use Rattle.rgo_typing_expressions.specs.Results.{ChecksExpr, ChecksExprs, ChecksElements};
@@ -31,7 +31,7 @@ use rgo_typing_rules::{Kind, Meaning, Role, TypeError};
 
 /// The types that arguments of a callee have to have.
 pub fn params_of<'b, 'a>(globals: &'b Package<'a>, callee: Callee) -> &'b [Kind<'a>]
-    ensures { map kind_of result.now ≡ terms.wanted_of globals.now callee }
+    ensures { map type_of_kind result.now ≡ terms.wanted_of globals.now callee }
 {
     let Callee::Routine(number) = callee else {
         return no_kinds(globals);
@@ -307,7 +307,7 @@ impl<'p, 'a> Checker<'p, 'a> {
         wanted: &[Kind<'a>],
         all: &'a [Expr],
     ) -> Result<Values<'a>, TypeError>
-        ensures { ChecksExprs result self.now role (map kind_of wanted.now)
+        ensures { ChecksExprs result self.now role (map type_of_kind wanted.now)
             (ast.exprs_of (map expr_of all.now)) }
     {
         let mut terms = Vec::new(self.alloc());

@@ -3,7 +3,7 @@
 ghost use Rattle.std.specs.Prelude.{◌≡◌, [], ◌∷◌, is_some};
 ghost use Rattle.rgo_typed.specs.Views.{term_of};
 ghost use Rattle.rgo_typing_rules.specs.Nodes as node;
-ghost use Rattle.rgo_typing_rules.specs.Views.{kind_of, shape_of};
+ghost use Rattle.rgo_typing_rules.specs.Views.{type_of_kind, shape_of};
 ghost use Rattle.rgo_typing_expressions.specs.Results.{ChecksTo, found_field};
 ghost use Rattle.rgo_typing_expressions.specs.Terms as terms;
 ghost use Rattle.rgo_typing_expressions.specs.Types as types;
@@ -37,7 +37,7 @@ pub fn field_in<'a>(fields: &Fields<'a>, name: &[u8]) -> Option<Field<'a>>
 
 /// The struct that a value points to.
 fn struct_of(shape: Shape<'_>) -> Option<usize>
-    ensures { result ≡ types.struct_of (shape_of shape.entry) }
+    ensures { result ≡ types.pointed_struct (shape_of shape.entry) }
 {
     match shape {
         Shape::Value(Kind::Plain(Base::Pointer(number))) => Some(number),

@@ -47,7 +47,7 @@ fn known_kind<'a>(field: Option<Field<'a>>) -> Option<Kind<'a>>
 
 /// The number of a field, if there is one.
 fn number_or_zero(field: Option<Field<'_>>) -> usize
-    ensures { result ≡ terms.number_in (found_field field.entry) }
+    ensures { result ≡ terms.field_number (found_field field.entry) }
 {
     match field {
         Some(field) => field.number,

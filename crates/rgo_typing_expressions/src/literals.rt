@@ -5,7 +5,7 @@ ghost use Rattle.std.specs.Prelude.{◌≡◌, [], ◌∷◌, IfOk, map};
 ghost use Rattle.rgo_typed.specs.Tree as tree;
 ghost use Rattle.rgo_typed.specs.Views.{term_of};
 ghost use Rattle.rgo_typing_rules.specs.Nodes as node;
-ghost use Rattle.rgo_typing_rules.specs.Views.{kind_of, shape_of, fields_of};
+ghost use Rattle.rgo_typing_rules.specs.Views.{type_of_kind, shape_of, fields_of};
 ghost use Rattle.rgo_typing_expressions.specs.Checking as checking;
 ghost use Rattle.rgo_typing_expressions.specs.Results.{ChecksTo};
 ghost use Rattle.rgo_typing_expressions.specs.Terms as terms;
@@ -35,7 +35,7 @@ fn first_numbers(alloc: Global, n: usize) -> Result<Vec<usize>, AllocError>
 
 /// The types of the fields of the struct that a name means.
 pub(crate) fn kinds_of<'b, 'a>(globals: &'b Package<'a>, meaning: Option<Meaning>) -> &'b [Kind<'a>]
-    ensures { map kind_of result.now ≡ (checking.struct_fields globals.now meaning).types }
+    ensures { map type_of_kind result.now ≡ (checking.struct_fields globals.now meaning).types }
 {
     let Some(fields) = globals.structs.get(struct_number(meaning)) else {
         return no_kinds(globals);

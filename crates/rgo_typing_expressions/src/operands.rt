@@ -6,7 +6,7 @@ ghost use Rattle.rgo_typed.specs.Views.{term_of};
 ghost use Rattle.rgo_typed.specs.declared.actions.Action.TheVariants.{Nil};
 ghost use Rattle.rgo_typing_rules.specs.Nodes as node;
 ghost use Rattle.rgo_typing_rules.specs.Shapes as shape;
-ghost use Rattle.rgo_typing_rules.specs.Views.{kind_of, optional_kind_of};
+ghost use Rattle.rgo_typing_rules.specs.Views.{type_of_kind, optional_kind_of};
 ghost use Rattle.rgo_typing_expressions.specs.Results.{ChecksTo, Matches};
 ghost use Rattle.rgo_typing_expressions.specs.Scopes.{int, meaning_of};
 ghost use Rattle.rgo_typing_expressions.specs.Terms as terms;
@@ -24,7 +24,7 @@ use std::alloc::{AllocError, Global};
 #[tactic(auto, unfolding(rgo_typing_rules::specs::Rules::broken))]
 pub(crate) fn number<'a>(alloc: Global, value: u64, at: Place) -> Result<Checked<'a>, TypeError>
     ensures { ChecksTo result ((at, node.Number value) ∷ [])
-        (shape.Constant (pos value)) (terms.constant (pos value) at) }
+        (shape.Constant (pos value)) (terms.int_constant (pos value) at) }
 {
     check_number(at, value)?;
     let Ok(value) = i64::try_from(value) else {
@@ -101,7 +101,7 @@ pub(crate) fn wanted_term(
     term: Term,
 ) -> Result<Term, AllocError>
     ensures { IfOk result (λ t. term_of t
-        ≡ terms.with_first (map kind_of (drop number wanted.now)) (term_of term)) }
+        ≡ terms.with_first (map type_of_kind (drop number wanted.now)) (term_of term)) }
 {
     match wanted.get(number) {
         Some(kind) => with_type(alloc, *kind, term),

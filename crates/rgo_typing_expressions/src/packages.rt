@@ -1,8 +1,8 @@
 //! What a package declares.
 
 ghost use Rattle.std.specs.Prelude.{◌≡◌, []};
-ghost use Rattle.rgo_typing_rules.specs.Views.{kind_of};
-ghost use Rattle.rgo_typing_expressions.specs.Scopes.{variable_at, global_meaning};
+ghost use Rattle.rgo_typing_rules.specs.Views.{type_of_kind};
+ghost use Rattle.rgo_typing_expressions.specs.Scopes.{variable_type_at, global_meaning};
 
 use crate::names::universe;
 use rgo_scopes::Scopes;
@@ -23,9 +23,9 @@ impl<'a> Model for Fields<'a> {
     ghost Value = { Fields };
 
     ghost use Rattle.std.specs.Prelude.{map};
-    ghost use Rattle.rgo_typing_rules.specs.Views.{kind_of};
+    ghost use Rattle.rgo_typing_rules.specs.Views.{type_of_kind};
 
-    ghost view = { λ f. record { numbers = f.numbers; types = map kind_of f.kinds.items } };
+    ghost view = { λ f. record { numbers = f.numbers; types = map type_of_kind f.kinds.items } };
 }
 
 /// What a package declares.
@@ -45,21 +45,21 @@ impl<'a> Model for Package<'a> {
     ghost Value = { Package };
 
     ghost use Rattle.std.specs.Prelude.{map};
-    ghost use Rattle.rgo_typing_rules.specs.Views.{kind_of, signature_of};
+    ghost use Rattle.rgo_typing_rules.specs.Views.{type_of_kind, signature_of_kinds};
 
     ghost view = { λ p. record {
       imported = p.imported;
       names = p.names;
       structs = p.structs.items;
-      variables = map kind_of p.variables.items;
-      functions = map signature_of p.functions.items;
+      variables = map type_of_kind p.variables.items;
+      functions = map signature_of_kinds p.functions.items;
     } };
 }
 
 impl<'a> Package<'a> {
     /// The type of a package variable.
     pub fn variable(&self, number: usize) -> Kind<'a>
-        ensures { kind_of result ≡ variable_at self.now number }
+        ensures { type_of_kind result ≡ variable_type_at self.now number }
     {
         match self.variables.get(number) {
             Some(kind) => *kind,

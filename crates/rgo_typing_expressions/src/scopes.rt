@@ -1,7 +1,7 @@
 //! The local variables of a function at a point of it.
 
 ghost use Rattle.std.specs.Prelude.{◌≡◌, OnOk, OnErr, map, is_some};
-ghost use Rattle.rgo_typing_rules.specs.Views.{kind_of};
+ghost use Rattle.rgo_typing_rules.specs.Views.{type_of_kind};
 ghost use Rattle.rgo_scopes.specs.Blocks.{found, found_in};
 ghost use Rattle.rgo_typing_expressions.specs.Scopes.{local_at, with_local, inside, outside, no_locals};
 
@@ -27,9 +27,9 @@ impl<'a> Model for Scope<'a> {
     ghost Value = { Scope };
 
     ghost use Rattle.std.specs.Prelude.{map};
-    ghost use Rattle.rgo_typing_rules.specs.Views.{kind_of};
+    ghost use Rattle.rgo_typing_rules.specs.Views.{type_of_kind};
 
-    ghost view = { λ g. record { locals = g.locals; types = map kind_of g.kinds.items } };
+    ghost view = { λ g. record { locals = g.locals; types = map type_of_kind g.kinds.items } };
 }
 
 impl<'a> Scope<'a> {
@@ -59,14 +59,14 @@ impl<'a> Scope<'a> {
 
     /// The types of all local variables so far, by number.
     pub fn kinds(&self) -> &[Kind<'a>]
-        ensures { map kind_of result.now ≡ self.now.types }
+        ensures { map type_of_kind result.now ≡ self.now.types }
     {
         &self.kinds
     }
 
     /// The type of a local variable.
     pub fn local(&self, number: usize) -> Kind<'a>
-        ensures { kind_of result ≡ local_at self.now number }
+        ensures { type_of_kind result ≡ local_at self.now number }
     {
         match self.kinds.get(number) {
             Some(kind) => *kind,
@@ -78,7 +78,7 @@ impl<'a> Scope<'a> {
     /// it was.
     pub fn declare(&mut self, name: &'a [u8], kind: Kind<'a>) -> Result<(), AllocError>
         ensures declared { OnOk result
-            (self.new ≡ with_local name.now (kind_of kind.entry) self.old) }
+            (self.new ≡ with_local name.now (type_of_kind kind.entry) self.old) }
         ensures err { OnErr result (self.new ≡ self.old) }
     {
         let number = self.kinds.len();

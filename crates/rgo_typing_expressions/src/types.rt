@@ -4,7 +4,7 @@
 ghost use Rattle.std.specs.Prelude.{◌≡◌};
 ghost use Rattle.rgo_ast.specs.Views.{type_expr_of};
 ghost use Rattle.rgo_typing_rules.specs.Checks.{Checks};
-ghost use Rattle.rgo_typing_rules.specs.Views.{kind_of};
+ghost use Rattle.rgo_typing_rules.specs.Views.{type_of_kind};
 ghost use Rattle.rgo_typing_expressions.specs.Checking.{type_expr_sites};
 ghost use Rattle.rgo_typing_expressions.specs.Scopes.{base_of, basic_base, pointer_base, resolved};
 
@@ -47,7 +47,7 @@ impl<'p, 'a> Checker<'p, 'a> {
 
     /// The type that is written so.
     pub fn resolve<'t>(&self, ty: &'t TypeExpr) -> Kind<'t>
-        ensures { kind_of result ≡ resolved self.now (type_expr_of ty.now) }
+        ensures { type_of_kind result ≡ resolved self.now (type_expr_of ty.now) }
     {
         Kind::of(ty, self.resolve_base(ty))
     }

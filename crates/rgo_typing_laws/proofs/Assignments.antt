@@ -10,7 +10,7 @@ use Rattle.rgo_typed.specs.declared.actions.Action.TheVariants as action
 use Rattle.rgo_typed.specs.declared.types.Type.{«Type»}
 use Rattle.rgo_typed.specs.Tree as typed
 use Rattle.rgo_typed.specs.Tree.{Term, Terms, Stmt, no_terms, a_term}
-use Rattle.rgo_typing_rules.specs.Types.{element_of, is_int, is_chan}
+use Rattle.rgo_typing_rules.specs.Types.{element_type_of, is_int, is_chan}
 use Rattle.rgo_typing_rules.specs.Shapes as shape
 use Rattle.rgo_typing_rules.specs.Shapes.{Shape, fits, is_int_shape}
 use Rattle.rgo_typing_rules.specs.declared.meanings.Meaning.{Meaning}
@@ -24,11 +24,11 @@ use Rattle.rgo_typing_expressions.specs.Checking.{own, parts, nodes}
 use Rattle.rgo_typing_expressions.specs.Packages.{Context}
 use Rattle.rgo_typing_rules.specs.declared.rules.Rule.TheVariants as rule
 use Rattle.rgo_typing_rules.proofs.Unbroken.{keeps}
-use Rattle.rgo_typing_expressions.specs.Scopes.{meaning_of, variable_at, local_at, int}
+use Rattle.rgo_typing_expressions.specs.Scopes.{meaning_of, variable_type_at, local_at, int}
 use Rattle.rgo_typing_rules.specs.Sites.{first_refusal}
 use Rattle.rgo_typing_expressions.specs.Types.{type_of, shape_of_meaning, element_shape, field_of, field_shape}
-use Rattle.rgo_typing_expressions.specs.Terms.{two, with_type, type_in, element_type, term_of, name_term, field_term}
-use Rattle.rgo_typing_statements.specs.TypedStatements.{ended, write_of, stored, stored_by, changed, changed_by, assign_stmt}
+use Rattle.rgo_typing_expressions.specs.Terms.{pair_of_terms, with_type, type_in, element_type, typed_term, name_term, field_term}
+use Rattle.rgo_typing_statements.specs.TypedStatements.{with_last, write_of, store_stmt, stored_by, changed, changed_by, assign_stmt}
 use Rattle.rgo_typing_statements.specs.TypedStatements.{send_stmt}
 use Rattle.rgo_typing_statements.specs.Statements.{assign_sites, send_sites}
 use Rattle.rgo_wellformed.specs.TypeRules.{Declared, Returns, Takes, Computes}
@@ -57,14 +57,14 @@ module _ (env : Environment) (here : InScope) where
   have_ended : (parts : Terms) (types : List «Type») (t : Term) (ty : «Type»)
       → HaveTypes env.declared env.locals here parts types
       → HasType env.declared env.locals here t ty
-      → HaveTypes env.declared env.locals here (ended parts t) (types ++ ty ∷ [])
+      → HaveTypes env.declared env.locals here (with_last parts t) (types ++ ty ∷ [])
   have_ended no_terms types t ty h k = (ty, [], ap (λ l. l ++ ty ∷ []) h, k, refl)
   have_ended (a_term u l) types t ty h k =
       (h.0, h.1 ++ ty ∷ [], ap (λ x. x ++ ty ∷ []) h.2, h.3, have_ended l h.1 t ty h.4 k)
 
   pub stored_well : (t value : Term) (ty : «Type») (at : ℕ) → HasType env.declared env.locals here t ty
       → IsRead env.declared t ty
-      → HasType env.declared env.locals here value ty → Stays env here (stored t value at)
+      → HasType env.declared env.locals here value ty → Stays env here (store_stmt t value at)
   stored_well (typed.Local n) value ty at h r k = ((ty, h.0, h.1, k), refl)
   stored_well (typed.Apply read parts u read_at) value ty at h r k =
       subst (λ o. Stays env here (stored_by o parts value at)) (sym r.1) (
@@ -123,7 +123,7 @@ module _ (c : Context) (d : Declared) (result : Option «Type») (locals : List 
   env in_loop = record { declared = d; locals = locals; result_type = result; in_loop = in_loop }
 
   abbrev Fit : Expr → Type 0
-  Fit e = Fits d locals here (type_of c e) (term_of c e)
+  Fit e = Fits d locals here (type_of c e) (typed_term c e)
 
   well : (e : Expr) (r : Role) → first_refusal (nodes c r e) ≡ None → Fit e
   well = well_term c d locals here means structs
@@ -131,18 +131,18 @@ module _ (c : Context) (d : Declared) (result : Option «Type») (locals : List 
   -- ---- places
 
   abbrev IsPlace : Expr → Type 0
-  IsPlace e = (ty : «Type») × (type_of c e ≡ shape.Value ty) × IsRead d (term_of c e) ty
+  IsPlace e = (ty : «Type») × (type_of c e ≡ shape.Value ty) × IsRead d (typed_term c e) ty
 
   name_place : (m : Option Meaning) (at : ℕ) → is_variable m ≡ true
       → (ty : «Type») × (shape_of_meaning c m ≡ shape.Value ty) × IsRead d (name_term c m at) ty
   name_place (Some (meaning.Local n)) at v = (local_at c.scope n, refl, tt)
   name_place (Some (meaning.Global n)) at v = (
-    variable_at c.globals n,
+    variable_type_at c.globals n,
     refl,
     (
       action.Set n,
       refl,
-      λ operands gives. (variable_at c.globals n, ap (λ l. l ++ variable_at c.globals n ∷ []) gives.0, gives.1),
+      λ operands gives. (variable_type_at c.globals n, ap (λ l. l ++ variable_type_at c.globals n ∷ []) gives.0, gives.1),
     ),
   )
   name_place None at v = absurd (true≢false (sym v))
@@ -163,20 +163,20 @@ module _ (c : Context) (d : Declared) (result : Option «Type») (locals : List 
 
   index_place : (s i : Shape) (a b : Term) (at : ℕ) → broken (node.Index s i) ≡ None
       → (ty : «Type») × (element_shape s ≡ shape.Value ty)
-      × IsRead d (typed.Apply action.At (two a b) (element_type s) at) ty
+      × IsRead d (typed.Apply action.At (pair_of_terms a b) (element_type s) at) ty
   index_place (shape.Value u) i a b at br =
-      (element_of u, refl, (action.Put, refl, λ operands gives. (element_of u, ap (λ l. l ++ element_of u ∷ []) gives)))
+      (element_type_of u, refl, (action.Put, refl, λ operands gives. (element_type_of u, ap (λ l. l ++ element_type_of u ∷ []) gives)))
   index_place s i a b at br = absurd (true≢false (keeps rule.NotIndexable (node.Index s i) br))
 
   pub place : (e : Expr) (r : Role) → is_place c e ≡ true → first_refusal (nodes c r e) ≡ None → IsPlace e
   place (tree.Name x) r v h = name_place (meaning_of c x.name) x.at v
   place (tree.Paren e at) r v h = place e r v h
   place (tree.Select e field) r v h =
-      field_place (field_of c.globals (type_of c e) field.name) (term_of c e) field.at
+      field_place (field_of c.globals (type_of c e) field.name) (typed_term c e) field.at
       (alone field.at (node.Selector (is_some (field_of c.globals (type_of c e) field.name)))
       (right (nodes c role.Value e) (own c r (tree.Select e field)) h))
   place (tree.Index a i at) r v h =
-      index_place (type_of c a) (type_of c i) (term_of c a) (term_of c i) at
+      index_place (type_of c a) (type_of c i) (typed_term c a) (typed_term c i) at
       (alone at (node.Index (type_of c a) (type_of c i))
       (right (parts c (tree.Index a i at)) (own c r (tree.Index a i at)) h))
   place e r v h = absurd (true≢false (sym v))
@@ -190,7 +190,7 @@ module _ (c : Context) (d : Declared) (result : Option «Type») (locals : List 
   value_assigned : (ty : «Type») (t : Shape) (a b : Term) (at : ℕ) (in_loop : Bool) → IsRead d a ty
       → broken (node.Assign true (shape.Value ty) t) ≡ None → Fits d locals here (shape.Value ty) a
       → Fits d locals here t b
-      → Stays (env in_loop) here (stored a (with_type ty b) at)
+      → Stays (env in_loop) here (store_stmt a (with_type ty b) at)
   value_assigned ty t a b at in_loop r br h k =
       stored_well (env in_loop) here a (with_type ty b) ty at h.0 r
       (fitted d locals here ty t b (not_false (fits ty t)
@@ -204,18 +204,18 @@ module _ (c : Context) (d : Declared) (result : Option «Type») (locals : List 
       let at_place : is_place c a ≡ true = not_false (is_place c a) (keeps rule.NotPlace n parts.2) in
       let left_side = place a role.Target at_place parts.0 in
       let value : Fit b = well b role.Value parts.1 in
-      subst (λ s. broken (node.Assign true s (type_of c b)) ≡ None → Fits d locals here s (term_of c a)
-      → Stays (env in_loop) here (stored (term_of c a) (with_type (type_in s) (term_of c b)) at))
+      subst (λ s. broken (node.Assign true s (type_of c b)) ≡ None → Fits d locals here s (typed_term c a)
+      → Stays (env in_loop) here (store_stmt (typed_term c a) (with_type (type_in s) (typed_term c b)) at))
       (sym left_side.1)
-      (λ unbroken fit. value_assigned left_side.0 (type_of c b) (term_of c a)
-      (term_of c b) at in_loop left_side.2 unbroken fit value)
+      (λ unbroken fit. value_assigned left_side.0 (type_of c b) (typed_term c a)
+      (typed_term c b) at in_loop left_side.2 unbroken fit value)
       (subst (λ x. broken (node.Assign x (type_of c a) (type_of c b)) ≡ None) at_place parts.2)
       (well a role.Target parts.0)
 
   pub updated_well : (op : BinaryOp) (a : Expr) (s : Shape) (value : Term) (at : ℕ) (in_loop : Bool)
       → Computes op (int ∷ int ∷ []) int → first_refusal (nodes c role.Value a) ≡ None → Fits d locals here s value
       → broken (node.Update op (is_place c a) (type_of c a) s) ≡ None
-      → Stays (env in_loop) here (changed op (term_of c a) value at)
+      → Stays (env in_loop) here (changed op (typed_term c a) value at)
   updated_well op a s value at in_loop computes in_a fit br =
       let n = node.Update op (is_place c a) (type_of c a) s in
       let at_place : is_place c a ≡ true = not_false (is_place c a) (keeps rule.NotPlace n br) in
@@ -224,19 +224,19 @@ module _ (c : Context) (d : Declared) (result : Option «Type») (locals : List 
       let int_a = and_left (is_int_shape (type_of c a)) (is_int_shape s) both in
       let left_side = place a role.Value at_place in_a in
       let is_int_left : is_int left_side.0 ≡ true = subst (λ x. is_int_shape x ≡ true) left_side.1 int_a in
-      changed_well (env in_loop) here op (term_of c a) value at computes
-      (int_fits d locals here (type_of c a) (term_of c a) int_a (well a role.Value in_a))
-      (subst (IsRead d (term_of c a)) (int_is left_side.0 is_int_left) left_side.2)
+      changed_well (env in_loop) here op (typed_term c a) value at computes
+      (int_fits d locals here (type_of c a) (typed_term c a) int_a (well a role.Value in_a))
+      (subst (IsRead d (typed_term c a)) (int_is left_side.0 is_int_left) left_side.2)
       (int_fits d locals here s value (and_right (is_int_shape (type_of c a)) (is_int_shape s) both) fit)
 
   -- ---- sends
 
   sent : (s t : Shape) (a b : Term) (at : ℕ) (in_loop : Bool) → broken (node.Send s t) ≡ None
       → Fits d locals here s a → Fits d locals here t b
-      → Stays (env in_loop) here (typed.Perform action.Send (two a (with_type (element_type s) b)) at)
+      → Stays (env in_loop) here (typed.Perform action.Send (pair_of_terms a (with_type (element_type s) b)) at)
   sent (shape.Value u) t a b at in_loop br h k =
       let n = node.Send (shape.Value u) t in
-      let element = element_of u in
+      let element = element_type_of u in
       let chan : is_chan u ≡ true = not_false (is_chan u) (keeps rule.NotChannel n br) in
       let fit : fits element t ≡ true =
       not_false (fits element t) (and_false (is_chan u) (not (fits element t))
@@ -255,5 +255,5 @@ module _ (c : Context) (d : Declared) (result : Option «Type») (locals : List 
   send_well a b at in_loop h =
       let parts =
       in_three (nodes c role.Value a) (nodes c role.Value b) at (node.Send (type_of c a) (type_of c b)) h in
-      sent (type_of c a) (type_of c b) (term_of c a) (term_of c b) at in_loop parts.2
+      sent (type_of c a) (type_of c b) (typed_term c a) (typed_term c b) at in_loop parts.2
       (well a role.Value parts.0) (well b role.Value parts.1)

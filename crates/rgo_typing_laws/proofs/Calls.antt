@@ -10,7 +10,7 @@ use Rattle.rgo_typed.specs.declared.statements.Piece.{Piece}
 use Rattle.rgo_typed.specs.declared.types.Type.{«Type»}
 use Rattle.rgo_typed.specs.Tree as typed
 use Rattle.rgo_typed.specs.Tree.{Term, Terms}
-use Rattle.rgo_typing_rules.specs.Types.{element_of}
+use Rattle.rgo_typing_rules.specs.Types.{element_type_of}
 use Rattle.rgo_typing_rules.specs.Shapes as shape
 use Rattle.rgo_typing_rules.specs.Shapes.{Shape, fits, has_misfit, has_nil, has_pointer, is_bool_shape, is_chan_shape}
 use Rattle.rgo_typing_rules.specs.Shapes.{is_nil_shape, is_pointer_shape}
@@ -26,7 +26,7 @@ use Rattle.rgo_typing_rules.specs.Nodes.{is_target}
 use Rattle.rgo_typing_rules.specs.Rules.{broken}
 use Rattle.rgo_typing_expressions.specs.declared.callees.Callee.{Callee}
 use Rattle.rgo_typing_expressions.specs.declared.callees.Callee.TheVariants as callee
-use Rattle.rgo_typing_expressions.specs.Callees.{callee_of, bare, args_role, role_if, bare_may_stand, has_effect}
+use Rattle.rgo_typing_expressions.specs.Callees.{callee_of, without_parens, args_role, role_if, bare_may_stand, has_effect}
 use Rattle.rgo_typing_expressions.specs.Callees.{is_package_selector, selects_println}
 use Rattle.rgo_typing_expressions.specs.Checking.{own, parts, nodes, all_nodes, callee_nodes, call_node, call_place}
 use Rattle.rgo_typing_expressions.specs.Laws.{is_typed}
@@ -38,9 +38,9 @@ use Rattle.rgo_typing_rules.specs.Sites.{first_refusal}
 use Rattle.rgo_typing_expressions.specs.Types.{type_of, types_of, shape_of_meaning, element_shape, field_of}
 use Rattle.rgo_typing_expressions.specs.Types.{field_shape, constant_or, unary_shape, binary_type, result_shape}
 use Rattle.rgo_typing_expressions.specs.Types.{call_shape}
-use Rattle.rgo_typing_expressions.specs.Terms.{one, term_of, all_terms, wanted_of, result_or_int, unary_term}
+use Rattle.rgo_typing_expressions.specs.Terms.{one, typed_term, all_terms, wanted_of, result_or_int, unary_term}
 use Rattle.rgo_typing_expressions.proofs.Typed.{typed_where_unbroken}
-use Rattle.rgo_typing_statements.specs.TypedStatements.{bare_plain, call_stmt, called_stmt, pieces_of, piece_of, printed_terms}
+use Rattle.rgo_typing_statements.specs.TypedStatements.{bare_plain, call_stmt, called_stmt, printed_pieces, piece_of, printed_terms}
 use Rattle.rgo_typing_statements.specs.TypedStatements.{unless_text, is_text, go_stmt, returned}
 use Rattle.rgo_typing_statements.specs.Statements.{go_site, optional_type, optional_nodes}
 use Rattle.rgo_wellformed.specs.TypeRules.{Declared, Takes}
@@ -65,7 +65,7 @@ module _ (c : Context) (d : Declared) (result : Option «Type») (locals : List 
   env in_loop = record { declared = d; locals = locals; result_type = result; in_loop = in_loop }
 
   abbrev Fit : Expr → Type 0
-  Fit e = Fits d locals here (type_of c e) (term_of c e)
+  Fit e = Fits d locals here (type_of c e) (typed_term c e)
 
   well : (e : Expr) (r : Role) → first_refusal (nodes c r e) ≡ None → Fit e
   well = well_term c d locals here means structs
@@ -83,13 +83,13 @@ module _ (c : Context) (d : Declared) (result : Option «Type») (locals : List 
   return_well (Some t) (Some e) at in_loop is k h br =
       let n = node.Return (Some t) (Some (type_of c e)) in
       let fit = not_false (fits t (type_of c e)) (keeps rule.NotAssignable n br) in
-      ((t, is, fitted d locals here t (type_of c e) (term_of c e) fit k (well e role.Value h)), refl)
+      ((t, is, fitted d locals here t (type_of c e) (typed_term c e) fit k (well e role.Value h)), refl)
 
   pub condition_well : (e : Expr) (at : ℕ) → first_refusal (nodes c role.Value e) ≡ None
-      → first_refusal ((at, node.Condition (type_of c e)) ∷ []) ≡ None → HasType d locals here (term_of c e) bool
+      → first_refusal ((at, node.Condition (type_of c e)) ∷ []) ≡ None → HasType d locals here (typed_term c e) bool
   condition_well e at h k =
       let n = node.Condition (type_of c e) in
-      bool_fits d locals here (type_of c e) (term_of c e)
+      bool_fits d locals here (type_of c e) (typed_term c e)
       (not_false (is_bool_shape (type_of c e)) (keeps rule.NotBool n (alone at n k))) (well e role.Value h)
 
   -- ---- calls
@@ -137,10 +137,10 @@ module _ (c : Context) (d : Declared) (result : Option «Type») (locals : List 
       (not_false (is_chan_shape (type_of c e))
       (keeps rule.NotChannel (node.CallBuiltin builtin.Close r (type_of c e ∷ [])) br))
     where
-      go : (s : Shape) → Fits d locals here s (term_of c e) → is_chan_shape s ≡ true
-          → (types : List «Type») × HaveTypes d locals here (one (term_of c e)) types × Takes d action.Close types
+      go : (s : Shape) → Fits d locals here s (typed_term c e) → is_chan_shape s ≡ true
+          → (types : List «Type») × HaveTypes d locals here (one (typed_term c e)) types × Takes d action.Close types
       go (shape.Value u) h chan =
-          (u ∷ [], have_one d locals here (term_of c e) u h.0, (element_of u, ap (λ x. x ∷ []) (chan_is u chan)))
+          (u ∷ [], have_one d locals here (typed_term c e) u h.0, (element_type_of u, ap (λ x. x ∷ []) (chan_is u chan)))
       go s h chan = absurd (true≢false (sym chan))
   close_takes (tree.an_expr e (tree.an_expr e2 l)) r f br =
       let shapes = types_of c (tree.an_expr e (tree.an_expr e2 l)) in
@@ -187,7 +187,7 @@ module _ (c : Context) (d : Declared) (result : Option «Type») (locals : List 
   constant_no_text (Some n) s h = refl
 
   -- only a string is one
-  no_text : (e : Expr) → is_text (bare e) ≡ false → is_text_shape (type_of c e) ≡ false
+  no_text : (e : Expr) → is_text (without_parens e) ≡ false → is_text_shape (type_of c e) ≡ false
   no_text (tree.Number n at) h = refl
   no_text (tree.Text bytes at) h = absurd (true≢false h)
   no_text (tree.Name x) h = meaning_no_text (meaning_of c x.name)
@@ -234,12 +234,12 @@ module _ (c : Context) (d : Declared) (result : Option «Type») (locals : List 
       → has_nil (types_of c l) ≡ false
       → has_pointer (types_of c l) ≡ false
       → (types : List «Type») × HaveTypes d locals here (printed_terms l (all_terms c [] l)) types
-      × MatchPieces (pieces_of l) types
+      × MatchPieces (printed_pieces l) types
   print_well tree.no_exprs b h nil ptr = ([], refl, refl)
   print_well (tree.an_expr e l) b h nil ptr =
       let in_e = left (nodes c (role_if b) e) (all_nodes c (role_if b) l) h in
-      one_printed (bare e) (term_of c e) (printed_terms l (all_terms c [] l)) (pieces_of l)
-      (λ text. printed (type_of c e) (term_of c e) b (well e (role_if b) in_e)
+      one_printed (without_parens e) (typed_term c e) (printed_terms l (all_terms c [] l)) (printed_pieces l)
+      (λ text. printed (type_of c e) (typed_term c e) b (well e (role_if b) in_e)
       (typed_where_unbroken c (role_if b) e (not_target b) in_e)
       (or_left (is_nil_shape (type_of c e)) (has_nil (types_of c l)) nil)
       (or_left (is_pointer_shape (type_of c e)) (has_pointer (types_of c l)) ptr) (no_text e text))
@@ -281,22 +281,22 @@ module _ (c : Context) (d : Declared) (result : Option «Type») (locals : List 
       → Fits d locals here (constant_or (folded_shape unary.Receive s) (element_shape s))
       (unary_term unary.Receive s t at)
       → Stays (env in_loop) here (typed.Discard (unary_term unary.Receive s t at))
-  received (shape.Value u) t at in_loop br h = ((element_of u, h.0), refl)
+  received (shape.Value u) t at in_loop br h = ((element_type_of u, h.0), refl)
   received s t at in_loop br h = absurd (true≢false (keeps rule.NotChannel (node.Unary unary.Receive s) br))
 
   pub plain_well : (e : Expr) (in_loop : Bool) → first_refusal (nodes c role.Alone e) ≡ None
       → bare_may_stand c e ≡ true → Stays (env in_loop) here (bare_plain c e)
   plain_well (tree.Called f args at) in_loop h may =
       let call = tree.Called f args at in
-      call_well (callee_of c f) (is_package_selector c f && selects_println (bare f)) args at in_loop
-      (bare_calls c d locals here means structs (bare f))
+      call_well (callee_of c f) (is_package_selector c f && selects_println (without_parens f)) args at in_loop
+      (bare_calls c d locals here means structs (without_parens f))
       (right (callee_nodes c f) (all_nodes c (args_role c f) args) (left (parts c call) (own c role.Alone call) h))
       (alone (call_place at (callee_of c f)) (call_node c.globals role.Alone (callee_of c f) (types_of c args))
       (right (parts c call) (own c role.Alone call) h))
       may
   plain_well (tree.Unary unary.Receive e at) in_loop h may =
       let receive = tree.Unary unary.Receive e at in
-      received (type_of c e) (term_of c e) at in_loop
+      received (type_of c e) (typed_term c e) at in_loop
       (alone at (node.Unary unary.Receive (type_of c e)) (right (parts c receive) (own c role.Alone receive) h))
       (well receive role.Alone h)
   plain_well e in_loop h may = absurd (true≢false (sym may))

@@ -21,7 +21,7 @@ use Rattle.rgo_typing_expressions.specs.Checking.{nodes, type_expr_sites}
 use Rattle.rgo_typing_expressions.specs.Laws.{is_typed}
 use Rattle.rgo_typing_expressions.specs.Packages.{Context}
 use Rattle.rgo_typing_expressions.specs.Scopes.{with_local, in_scope, int, resolved}
-use Rattle.rgo_typing_expressions.specs.Terms.{with_type, term_of}
+use Rattle.rgo_typing_expressions.specs.Terms.{with_type, typed_term}
 use Rattle.rgo_typing_expressions.specs.Types.{type_of}
 use Rattle.rgo_typing_expressions.proofs.Typed.{typed_where_unbroken}
 use Rattle.rgo_typing_packages.specs.Names.{name_site, with_names}
@@ -80,7 +80,7 @@ module _ (d : Declared) (locals : List «Type») (result : Option «Type») wher
   room_before c h grown room = begins_trans c.scope.types h.scope.types locals grown.types room
 
   pub value_well : (c : Context) (here : InScope) → Room c → Describes d c here → (e : Expr) (r : Role)
-      → first_refusal (nodes c r e) ≡ None → Fits d locals here (type_of c e) (term_of c e)
+      → first_refusal (nodes c r e) ≡ None → Fits d locals here (type_of c e) (typed_term c e)
   value_well c here room st e r h = well_term c d locals here (means c d locals here st room) st.sound.structs e r h
 
   type_known : (c : Context) (here : InScope) → Room c → Describes d c here → (ty : tree.TypeExpr)
@@ -140,9 +140,9 @@ module _ (d : Declared) (locals : List «Type») (result : Option «Type») wher
       in_three (nodes c role.Value e) (name_site c.scope x ∷ []) at (define_node wanted (type_of c e)) h in
       let before : Room c =
       begins_trans c.scope.types (c.scope.types ++ ty ∷ []) locals (begins_more c.scope.types (ty ∷ [])) room in
-      let has = defined_fits here wanted (type_of c e) (term_of c e) k parts.2
+      let has = defined_fits here wanted (type_of c e) (typed_term c e) k parts.2
       (typed_where_unbroken c role.Value e refl parts.0) (value_well c here before st e role.Value parts.0) in
-      declared_well in_loop here c x.name ty (with_type ty (term_of c e)) at room st has.1 has.0
+      declared_well in_loop here c x.name ty (with_type ty (typed_term c e)) at room st has.1 has.0
 
   var_well : (in_loop : Bool) (here : InScope) (c : Context) (v : LocalVar) → Room (after_var c v) → Describes d c here
       → first_refusal (var_sites c v) ≡ None → Steps in_loop here (after_var c v) (var_stmts c v)

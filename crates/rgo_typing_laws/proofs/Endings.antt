@@ -13,19 +13,19 @@ use Rattle.rgo_typed.specs.Tree.{Term, Terms, Stmt, stmts_of}
 use Rattle.rgo_typing_rules.specs.Builtins.{result_of, action_of}
 use Rattle.rgo_typing_expressions.specs.declared.callees.Callee.{Callee}
 use Rattle.rgo_typing_expressions.specs.declared.callees.Callee.TheVariants as callee
-use Rattle.rgo_typing_expressions.specs.Callees.{bare, callee_of, named_callee}
+use Rattle.rgo_typing_expressions.specs.Callees.{without_parens, callee_of, named_callee}
 use Rattle.rgo_typing_expressions.specs.Packages.{Package, Context}
 use Rattle.rgo_typing_expressions.specs.Scopes.{signature_at, meaning_of, resolved}
-use Rattle.rgo_typing_expressions.specs.Terms.{term_of, all_terms, wanted_of, with_type, type_in, constant}
+use Rattle.rgo_typing_expressions.specs.Terms.{typed_term, all_terms, wanted_of, with_type, type_in, int_constant}
 use Rattle.rgo_typing_expressions.specs.Terms.{result_or_int}
 use Rattle.rgo_typing_expressions.specs.Types.{type_of, result_shape}
 use Rattle.rgo_types.specs.Flow as source
 use Rattle.rgo_typing_statements.specs.Statements.{Enclosing, within_loop, in_block, assign_op, step_op}
-use Rattle.rgo_typing_statements.specs.Statements.{after, after_var, after_block, after_clause, header}
-use Rattle.rgo_typing_statements.specs.TypedStatements.{plain_stmt, bare_plain, call_stmt, called_stmt, builtin_stmt, write_of, stored, stored_by}
+use Rattle.rgo_typing_statements.specs.Statements.{context_after, after_var, after_block, after_clause, header}
+use Rattle.rgo_typing_statements.specs.TypedStatements.{plain_stmt, bare_plain, call_stmt, called_stmt, builtin_stmt, write_of, store_stmt, stored_by}
 use Rattle.rgo_typing_statements.specs.TypedStatements.{changed, changed_by, assign_stmt, step_stmt, go_stmt, zeros, var_stmts}
 use Rattle.rgo_typing_statements.specs.TypedStatements.{vars_stmts}
-use Rattle.rgo_typing_statements.specs.TypedStatements.{has_clause, headed, branches, optional_term, typed_stmt, typed_all}
+use Rattle.rgo_typing_statements.specs.TypedStatements.{has_clause, headed, if_or_else, optional_term, typed_stmt, typed_all}
 use Rattle.rgo_typing_statements.specs.TypedStatements.{typed_clause}
 use Rattle.rgo_wellformed.specs.Endings.{has_break, any_break, is_forever, is_terminating, ends}
 use Rattle.rgo_typing_laws.specs.Headers.{HasHeaders, HaveHeaders, ClauseHasHeaders}
@@ -82,7 +82,7 @@ stored_by_flat : (o : Option Action) (parts : Terms) (value : Term) (at : ℕ)
 stored_by_flat None parts value at = refl
 stored_by_flat (Some write) parts value at = refl
 
-stored_flat : (t value : Term) (at : ℕ) → has_break (stored t value at) ≡ false
+stored_flat : (t value : Term) (at : ℕ) → has_break (store_stmt t value at) ≡ false
 stored_flat (typed.Local n) value at = refl
 stored_flat (typed.Apply read parts ty read_at) value at = stored_by_flat (write_of read) parts value at
 stored_flat t value at = refl
@@ -99,8 +99,8 @@ changed_flat op (typed.Apply read parts ty read_at) value at =
 changed_flat op t value at = refl
 
 assign_flat : (c : Context) (o : Option BinaryOp) (a b : Expr) (at : ℕ) → has_break (assign_stmt c o a b at) ≡ false
-assign_flat c None a b at = stored_flat (term_of c a) (with_type (type_in (type_of c a)) (term_of c b)) at
-assign_flat c (Some op) a b at = changed_flat op (term_of c a) (term_of c b) at
+assign_flat c None a b at = stored_flat (typed_term c a) (with_type (type_in (type_of c a)) (typed_term c b)) at
+assign_flat c (Some op) a b at = changed_flat op (typed_term c a) (typed_term c b) at
 
 go_flat : (f : Callee) (terms : Terms) (at : ℕ) → has_break (go_stmt f terms at) ≡ false
 go_flat (callee.Routine n) terms at = refl
@@ -129,20 +129,20 @@ headed_stays (tree.a_clause x) l s h k =
     stays_one (typed.Block (stmts_of (l ++ s ∷ []))) (stays_both l (s ∷ []) h (stays_one s k))
 
 branches_flat : (other : Clause) (test : Term) (body alternative : List Stmt) (at : ℕ) → NoBreak body
-    → NoBreak alternative → has_break (branches (has_clause other) test body alternative at) ≡ false
+    → NoBreak alternative → has_break (if_or_else (has_clause other) test body alternative at) ≡ false
 branches_flat tree.no_clause test body alternative at h k = h
 branches_flat (tree.a_clause s) test body alternative at h k =
     or_false (any_break (stmts_of body)) (any_break (stmts_of alternative)) h k
 
 mutual
-  stmt_stays : (s : tree.Stmt) (f : Enclosing) (c : Context) → HasHeaders s → source.has_break s ≡ false
+  stmt_stays : (s : tree.Stmt) (f : Enclosing) (c : Context) → HasHeaders s → source.stmt_breaks s ≡ false
       → NoBreak (typed_stmt f c s)
   stmt_stays (tree.Block all at) f c q h =
       stays_one (typed.Block (stmts_of (typed_all f (in_block c) all))) (all_stay all f (in_block c) q h)
-  stmt_stays (tree.Plain e) f c q h = stays_one (plain_stmt c e) (plain_flat c (bare e))
+  stmt_stays (tree.Plain e) f c q h = stays_one (plain_stmt c e) (plain_flat c (without_parens e))
   stmt_stays (tree.Send a b at) f c q h = refl
   stmt_stays (tree.Step op e at) f c q h =
-      stays_one (step_stmt c (step_op op) e at) (changed_flat (step_op op) (term_of c e) (constant (pos 1) at) at)
+      stays_one (step_stmt c (step_op op) e at) (changed_flat (step_op op) (typed_term c e) (int_constant (pos 1) at) at)
   stmt_stays (tree.Assign op a b at) f c q h =
       stays_one (assign_stmt c (assign_op op) a b at) (assign_flat c (assign_op op) a b at)
   stmt_stays (tree.Define x e at) f c q h = refl
@@ -152,11 +152,11 @@ mutual
       let then_part = typed_all f (in_block c1) body in
       let else_part = typed_clause f c2 other in
       headed_stays init (typed_clause f (in_block c) init)
-      (branches (has_clause other) (term_of c1 test) then_part else_part at)
+      (if_or_else (has_clause other) (typed_term c1 test) then_part else_part at)
       (clause_stays init f (in_block c) (init_headers init q.0) (init_breaks init q.0))
-      (branches_flat other (term_of c1 test) then_part else_part at
-      (all_stay body f (in_block c1) q.1 (or_left (source.any_break body) (source.clause_breaks other) h))
-      (clause_stays other f c2 q.2 (or_right (source.any_break body) (source.clause_breaks other) h)))
+      (branches_flat other (typed_term c1 test) then_part else_part at
+      (all_stay body f (in_block c1) q.1 (or_left (source.stmts_break body) (source.clause_breaks other) h))
+      (clause_stays other f c2 q.2 (or_right (source.stmts_break body) (source.clause_breaks other) h)))
   stmt_stays (tree.For init test post body at) f c q h =
       let c1 = header c init in
       let c2 = after_clause c1 post in
@@ -173,13 +173,13 @@ mutual
   stmt_stays (tree.Break at) f c q h = absurd (true≢false h)
   stmt_stays (tree.Continue at) f c q h = refl
 
-  all_stay : (l : tree.Stmts) (f : Enclosing) (c : Context) → HaveHeaders l → source.any_break l ≡ false
+  all_stay : (l : tree.Stmts) (f : Enclosing) (c : Context) → HaveHeaders l → source.stmts_break l ≡ false
       → NoBreak (typed_all f c l)
   all_stay tree.no_stmts f c q h = refl
   all_stay (tree.a_stmt s l) f c q h =
-      stays_both (typed_stmt f c s) (typed_all f (after c s) l)
-      (stmt_stays s f c q.0 (or_left (source.has_break s) (source.any_break l) h))
-      (all_stay l f (after c s) q.1 (or_right (source.has_break s) (source.any_break l) h))
+      stays_both (typed_stmt f c s) (typed_all f (context_after c s) l)
+      (stmt_stays s f c q.0 (or_left (source.stmt_breaks s) (source.stmts_break l) h))
+      (all_stay l f (context_after c s) q.1 (or_right (source.stmt_breaks s) (source.stmts_break l) h))
 
   clause_stays : (l : Clause) (f : Enclosing) (c : Context) → ClauseHasHeaders l → source.clause_breaks l ≡ false
       → NoBreak (typed_clause f c l)
@@ -202,20 +202,20 @@ headed_finish : (init : Clause) (l : List Stmt) (s : Stmt) → is_terminating s 
 headed_finish tree.no_clause l s h = h
 headed_finish (tree.a_clause x) l s h = finish_after l (s ∷ []) h
 
-branches_end : (other : Clause) (test : Term) (body alternative : List Stmt) (at : ℕ) → source.clause_ends other ≡ true
-    → Finish body → (source.clause_ends other ≡ true → Finish alternative)
-    → is_terminating (branches (has_clause other) test body alternative at) ≡ true
+branches_end : (other : Clause) (test : Term) (body alternative : List Stmt) (at : ℕ) → source.clause_terminates other ≡ true
+    → Finish body → (source.clause_terminates other ≡ true → Finish alternative)
+    → is_terminating (if_or_else (has_clause other) test body alternative at) ≡ true
 branches_end tree.no_clause test body alternative at e h k = absurd (true≢false (sym e))
 branches_end (tree.a_clause s) test body alternative at e h k =
     and_true (ends (stmts_of body)) (ends (stmts_of alternative)) h (k e)
 
-loop_ends : (test : Option Expr) (c : Context) (body : tree.Stmts) (l : List Stmt) → source.is_forever test body ≡ true
-    → (source.any_break body ≡ false → NoBreak l) → is_forever (optional_term c test) (stmts_of l) ≡ true
-loop_ends None c body l h k = ap not (k (not_true (source.any_break body) h))
+loop_ends : (test : Option Expr) (c : Context) (body : tree.Stmts) (l : List Stmt) → source.is_endless_for test body ≡ true
+    → (source.stmts_break body ≡ false → NoBreak l) → is_forever (optional_term c test) (stmts_of l) ≡ true
+loop_ends None c body l h k = ap not (k (not_true (source.stmts_break body) h))
 loop_ends (Some e) c body l h k = absurd (true≢false (sym h))
 
 mutual
-  stmt_ends : (s : tree.Stmt) (f : Enclosing) (c : Context) → HasHeaders s → source.is_terminating s ≡ true
+  stmt_ends : (s : tree.Stmt) (f : Enclosing) (c : Context) → HasHeaders s → source.stmt_terminates s ≡ true
       → Finish (typed_stmt f c s)
   stmt_ends (tree.Block all at) f c q h = all_end all f (in_block c) q h
   stmt_ends (tree.If init test body other at) f c q h =
@@ -224,10 +224,10 @@ mutual
       let then_part = typed_all f (in_block c1) body in
       let else_part = typed_clause f c2 other in
       headed_finish init (typed_clause f (in_block c) init)
-      (branches (has_clause other) (term_of c1 test) then_part else_part at)
-      (branches_end other (term_of c1 test) then_part else_part at
-      (and_right (source.ends body) (source.clause_ends other) h)
-      (all_end body f (in_block c1) q.1 (and_left (source.ends body) (source.clause_ends other) h))
+      (if_or_else (has_clause other) (typed_term c1 test) then_part else_part at)
+      (branches_end other (typed_term c1 test) then_part else_part at
+      (and_right (source.stmts_terminate body) (source.clause_terminates other) h)
+      (all_end body f (in_block c1) q.1 (and_left (source.stmts_terminate body) (source.clause_terminates other) h))
       (clause_finishes other f c2 q.2))
   stmt_ends (tree.For init test post body at) f c q h =
       let c1 = header c init in
@@ -247,16 +247,16 @@ mutual
   stmt_ends (tree.Break at) f c q h = absurd (true≢false (sym h))
   stmt_ends (tree.Continue at) f c q h = absurd (true≢false (sym h))
 
-  pub all_end : (l : tree.Stmts) (f : Enclosing) (c : Context) → HaveHeaders l → source.ends l ≡ true
+  pub all_end : (l : tree.Stmts) (f : Enclosing) (c : Context) → HaveHeaders l → source.stmts_terminate l ≡ true
       → Finish (typed_all f c l)
   all_end tree.no_stmts f c q h = absurd (true≢false (sym h))
   all_end (tree.a_stmt s tree.no_stmts) f c q h =
       subst Finish (sym (append-nil (typed_stmt f c s))) (stmt_ends s f c q.0 h)
   all_end (tree.a_stmt s (tree.a_stmt t l)) f c q h =
-      finish_after (typed_stmt f c s) (typed_all f (after c s) (tree.a_stmt t l))
-      (all_end (tree.a_stmt t l) f (after c s) q.1 h)
+      finish_after (typed_stmt f c s) (typed_all f (context_after c s) (tree.a_stmt t l))
+      (all_end (tree.a_stmt t l) f (context_after c s) q.1 h)
 
-  clause_finishes : (l : Clause) (f : Enclosing) (c : Context) → ClauseHasHeaders l → source.clause_ends l ≡ true
+  clause_finishes : (l : Clause) (f : Enclosing) (c : Context) → ClauseHasHeaders l → source.clause_terminates l ≡ true
       → Finish (typed_clause f c l)
   clause_finishes tree.no_clause f c q h = absurd (true≢false (sym h))
   clause_finishes (tree.a_clause s) f c q h = stmt_ends s f c q h

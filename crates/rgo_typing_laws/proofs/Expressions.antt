@@ -23,7 +23,7 @@ use Rattle.rgo_typing_rules.specs.Rules.{broken}
 use Rattle.rgo_scopes.specs.Blocks.{found, no_names}
 use Rattle.rgo_typing_expressions.specs.declared.callees.Callee.TheVariants as callee
 use Rattle.rgo_typing_expressions.specs.Callees.{callee_of, bare_callee, named_callee, selected_callee}
-use Rattle.rgo_typing_expressions.specs.Callees.{builtin_callee, package_callee, bare, args_role}
+use Rattle.rgo_typing_expressions.specs.Callees.{builtin_callee, package_callee, without_parens, args_role}
 use Rattle.rgo_typing_expressions.specs.Checking.{own, parts, nodes, all_nodes, element_nodes, capacity_nodes}
 use Rattle.rgo_typing_expressions.specs.Checking.{capacity_own, callee_nodes}
 use Rattle.rgo_typing_expressions.specs.Checking.{call_node, call_place, type_expr_sites, base_site, values_of}
@@ -34,7 +34,7 @@ use Rattle.rgo_typing_expressions.specs.Types.{type_of, types_of, shape_of_meani
 use Rattle.rgo_typing_expressions.specs.Types.{field_shape, numbered_field, struct_in}
 use Rattle.rgo_typing_expressions.specs.Types.{pointer_shape}
 use Rattle.rgo_typing_expressions.specs.Terms.{atom, one, name_term, field_term}
-use Rattle.rgo_typing_expressions.specs.Terms.{term_of, capacity_term}
+use Rattle.rgo_typing_expressions.specs.Terms.{typed_term, capacity_term}
 use Rattle.rgo_wellformed.specs.TypeRules.{Declared, IsBase, pointer_to}
 use Rattle.rgo_wellformed.specs.WellFormed.{InScope, HasType}
 use Rattle.rgo_typing_laws.proofs.Unbroken.{not_false, left, right, alone}
@@ -120,7 +120,7 @@ module _ (c : Context) (d : Declared) (locals : List «Type») (here : InScope) 
       (structs : (n : ℕ) → n < length d.structs → IsStruct c.globals d n) where
     pub bare_calls : (e : Expr) → Calls c.globals d (bare_callee c e)
     bare_calls (tree.Name x) = named_calls x.at (meaning_of c x.name) (means x.name)
-    bare_calls (tree.Select e field) = selected_calls (bare e) field.name
+    bare_calls (tree.Select e field) = selected_calls (without_parens e) field.name
     bare_calls e = tt
 
     -- ---- types as they are written
@@ -184,7 +184,7 @@ module _ (c : Context) (d : Declared) (locals : List «Type») (here : InScope) 
 
     mutual
       pub well_term : (e : Expr) (r : Role) → first_refusal (nodes c r e) ≡ None
-          → Fits d locals here (type_of c e) (term_of c e)
+          → Fits d locals here (type_of c e) (typed_term c e)
       well_term (tree.Number n at) r h = a_constant d locals here (pos n) at
       well_term (tree.Text bytes at) r h = tt
       well_term (tree.Name x) r h = name_fits (meaning_of c x.name) x.at (means x.name)
@@ -193,7 +193,7 @@ module _ (c : Context) (d : Declared) (locals : List «Type») (here : InScope) 
           new_fits (meaning_of c x.name) at (means x.name)
           (alone at (node.Pointed (meaning_of c x.name)) (in_own r (tree.New x at) h))
       well_term (tree.MakeSlice ty e at) r h =
-          slice_fits ty (type_of c e) (term_of c e) at
+          slice_fits ty (type_of c e) (typed_term c e) at
           (alone at (node.Size (type_of c e)) (in_own r (tree.MakeSlice ty e at) h))
           (well_term e role.Value
           (right (type_expr_sites c ty) (nodes c role.Value e) (in_parts r (tree.MakeSlice ty e at) h)))
@@ -203,29 +203,29 @@ module _ (c : Context) (d : Declared) (locals : List «Type») (here : InScope) 
           (right (type_expr_sites c ty) (capacity_nodes c room) (in_parts r (tree.MakeChan ty room at) h))
           (in_own r (tree.MakeChan ty room at) h))
       well_term (tree.Select e field) r h =
-          select_fits (type_of c e) field.name (term_of c e) field.at structs
+          select_fits (type_of c e) field.name (typed_term c e) field.at structs
           (well_term e role.Value (in_parts r (tree.Select e field) h))
           (alone field.at (node.Selector (is_some (field_of c.globals (type_of c e) field.name)))
           (in_own r (tree.Select e field) h))
       well_term (tree.Index a i at) r h =
           let both = in_parts r (tree.Index a i at) h in
-          index_fits d locals here (type_of c a) (type_of c i) (term_of c a) (term_of c i) at
+          index_fits d locals here (type_of c a) (type_of c i) (typed_term c a) (typed_term c i) at
           (alone at (node.Index (type_of c a) (type_of c i)) (in_own r (tree.Index a i at) h))
           (well_term a role.Value (left (nodes c role.Value a) (nodes c role.Value i) both))
           (well_term i role.Value (right (nodes c role.Value a) (nodes c role.Value i) both))
       well_term (tree.Called f args at) r h =
-          call_fits c d locals here r (callee_of c f) args at (bare_calls (bare f))
+          call_fits c d locals here r (callee_of c f) args at (bare_calls (without_parens f))
           (well_terms args (args_role c f)
           (right (callee_nodes c f) (all_nodes c (args_role c f) args) (in_parts r (tree.Called f args at) h)))
           (alone (call_place at (callee_of c f)) (call_node c.globals r (callee_of c f) (types_of c args))
           (in_own r (tree.Called f args at) h))
       well_term (tree.Unary op e at) r h =
-          unary_fits d locals here op (type_of c e) (term_of c e) at
+          unary_fits d locals here op (type_of c e) (typed_term c e) at
           (alone at (node.Unary op (type_of c e)) (in_own r (tree.Unary op e at) h))
           (well_term e role.Value (in_parts r (tree.Unary op e at) h))
       well_term (tree.Binary op a b at) r h =
           let both = in_parts r (tree.Binary op a b at) h in
-          binary_fits d locals here op (type_of c a) (type_of c b) (term_of c a) (term_of c b) at
+          binary_fits d locals here op (type_of c a) (type_of c b) (typed_term c a) (typed_term c b) at
           (alone at (node.Binary op (type_of c a) (type_of c b)) (in_own r (tree.Binary op a b at) h))
           (well_term a role.Value (left (nodes c role.Value a) (nodes c role.Value b) both))
           (well_term b role.Value (right (nodes c role.Value a) (nodes c role.Value b) both))
@@ -261,4 +261,4 @@ module _ (c : Context) (d : Declared) (locals : List «Type») (here : InScope) 
           → first_refusal (capacity_own c room at) ≡ None → HasType d locals here (capacity_term c room at) int
       well_room tree.no_capacity ty at h k = a_constant d locals here (pos 0) at
       well_room (tree.a_capacity e) ty at h k =
-          room_fits ty (type_of c e) (term_of c e) (alone at (node.Size (type_of c e)) k) (well_term e role.Value h)
+          room_fits ty (type_of c e) (typed_term c e) (alone at (node.Size (type_of c e)) k) (well_term e role.Value h)

@@ -11,7 +11,7 @@ use Rattle.rgo_typed.specs.declared.actions.Logical.{Logical}
 use Rattle.rgo_typed.specs.declared.actions.Logical.TheVariants as logical
 use Rattle.rgo_typed.specs.declared.types.Type.{«Type»}
 use Rattle.rgo_typed.specs.Tree.{Term, Local, Apply, no_terms, Logic}
-use Rattle.rgo_typing_rules.specs.Types.{slice_of, chan_of, element_of, is_int, is_bool, is_slice, is_chan}
+use Rattle.rgo_typing_rules.specs.Types.{slice_of, chan_of, element_type_of, is_int, is_bool, is_slice, is_chan}
 use Rattle.rgo_typing_rules.specs.Types.{is_pointer_like, same}
 use Rattle.rgo_typing_rules.specs.Shapes as shape
 use Rattle.rgo_typing_rules.specs.Shapes.{Shape, fits, are_comparable, is_int_shape, is_bool_shape, is_nil_shape}
@@ -21,7 +21,7 @@ use Rattle.rgo_typing_rules.specs.Rules.{broken, lacks, operands_of, are_slices,
 use Rattle.rgo_typing_expressions.specs.Scopes.{int, bool}
 use Rattle.rgo_typing_expressions.specs.Types.{element_shape}
 use Rattle.rgo_typing_expressions.specs.Types.{constant_or, unary_shape, binary_type}
-use Rattle.rgo_typing_expressions.specs.Terms.{one, two, constant, with_type, constant_or_term, element_type}
+use Rattle.rgo_typing_expressions.specs.Terms.{one, pair_of_terms, int_constant, with_type, constant_or_term, element_type}
 use Rattle.rgo_typing_expressions.specs.Terms.{unary_term, negated, compared, operation, binary_term}
 use Rattle.rgo_wellformed.specs.TypeRules.{Declared, IsType, Computes, Compares}
 use Rattle.rgo_wellformed.specs.WellFormed.{InScope, HasType, HaveTypes}
@@ -67,7 +67,7 @@ module _ (d : Declared) (locals : List «Type») (here : InScope) where
   bool_fits (shape.Value u) t f h = subst (HasType d locals here t) (bool_is u f) h.0
   bool_fits s t f h = absurd (true≢false (sym f))
 
-  pub a_constant : (n : ℤ) (at : ℕ) → HasType d locals here (constant n at) int
+  pub a_constant : (n : ℤ) (at : ℕ) → HasType d locals here (int_constant n at) int
   a_constant n at = (refl, tt, [], refl, (refl, refl))
 
   -- one operand, and two
@@ -75,7 +75,7 @@ module _ (d : Declared) (locals : List «Type») (here : InScope) where
   have_one t ty h = (ty, [], refl, h, refl)
 
   pub have_two : (a b : Term) (t u : «Type») → HasType d locals here a t → HasType d locals here b u
-      → HaveTypes d locals here (two a b) (t ∷ u ∷ [])
+      → HaveTypes d locals here (pair_of_terms a b) (t ∷ u ∷ [])
   have_two a b t u h k = (t, u ∷ [], refl, h, (u, [], refl, k, refl))
 
   pub folding : (o : Option ℤ) (s : Shape) (t : Term) (at : ℕ) → Fits s t
@@ -118,13 +118,13 @@ module _ (d : Declared) (locals : List «Type») (here : InScope) where
   )
   unary_fits unary.Not s t at b h = absurd (true≢false (keeps rule.Mismatch (node.Unary unary.Not s) b))
   unary_fits unary.Receive (shape.Value u) t at b h =
-      let c : u ≡ chan_of (element_of u) =
+      let c : u ≡ chan_of (element_type_of u) =
       chan_is u (not_false (is_chan u) (keeps rule.NotChannel (node.Unary unary.Receive (shape.Value u)) b)) in (
         (
           refl,
           h.1,
-          chan_of (element_of u) ∷ [],
-          have_one t (chan_of (element_of u)) (subst (HasType d locals here t) c h.0),
+          chan_of (element_type_of u) ∷ [],
+          have_one t (chan_of (element_type_of u)) (subst (HasType d locals here t) c h.0),
           refl,
         ),
         h.1,
@@ -146,7 +146,7 @@ module _ (d : Declared) (locals : List «Type») (here : InScope) where
   module _ (op : BinaryOp) (computes : (types : List «Type») → Compares types bool → Computes op types bool) where
     a_comparison : (a b : Term) (ty : «Type») (at : ℕ) → is_slice ty ≡ false → HasType d locals here a ty
         → HasType d locals here b ty
-        → HasType d locals here (Apply (action.Binary op) (two a b) bool at) bool
+        → HasType d locals here (Apply (action.Binary op) (pair_of_terms a b) bool at) bool
     a_comparison a b ty at n h k =
         (refl, tt, ty ∷ ty ∷ [], have_two a b ty ty h k, computes (ty ∷ ty ∷ []) (ty, refl, n, refl))
 
@@ -170,7 +170,7 @@ module _ (d : Declared) (locals : List «Type») (here : InScope) where
   -- an operator on ints
   two_ints : (op : BinaryOp) (s t : Shape) (a b : Term) (ty : «Type») (at : ℕ) → IsType d ty
       → Computes op (int ∷ int ∷ []) ty → not (is_int_shape s && is_int_shape t) ≡ false → Fits s a → Fits t b
-      → HasType d locals here (Apply (action.Binary op) (two a b) ty at) ty
+      → HasType d locals here (Apply (action.Binary op) (pair_of_terms a b) ty at) ty
   two_ints op s t a b ty at known computes kept h k =
       let both = not_false (is_int_shape s && is_int_shape t) kept in
       let left = int_fits s a (and_left (is_int_shape s) (is_int_shape t) both) h in
@@ -242,16 +242,16 @@ module _ (d : Declared) (locals : List «Type») (here : InScope) where
       (operation_fits op s t a b at br h k, a_type op)
 
   pub index_fits : (s i : Shape) (a b : Term) (at : ℕ) → broken (node.Index s i) ≡ None → Fits s a → Fits i b
-      → Fits (element_shape s) (Apply action.At (two a b) (element_type s) at)
+      → Fits (element_shape s) (Apply action.At (pair_of_terms a b) (element_type s) at)
   index_fits (shape.Value u) i a b at br h k =
       let both : is_slice u && is_int_shape i ≡ true =
       not_false (is_slice u && is_int_shape i) (keeps rule.NotIndexable (node.Index (shape.Value u) i) br) in
-      let slice : u ≡ slice_of (element_of u) = slice_is u (and_left (is_slice u) (is_int_shape i) both) in (
+      let slice : u ≡ slice_of (element_type_of u) = slice_is u (and_left (is_slice u) (is_int_shape i) both) in (
         (
           refl,
           h.1,
-          slice_of (element_of u) ∷ int ∷ [],
-          have_two a b (slice_of (element_of u)) int (subst (HasType d locals here a) slice h.0)
+          slice_of (element_type_of u) ∷ int ∷ [],
+          have_two a b (slice_of (element_type_of u)) int (subst (HasType d locals here a) slice h.0)
               (int_fits i b (and_right (is_slice u) (is_int_shape i) both) k),
           refl,
         ),

@@ -12,7 +12,7 @@ use Rattle.rgo_typing_expressions.specs.Scopes.{with_local, resolved}
 use Rattle.rgo_typing_expressions.specs.Types.{type_of}
 use Rattle.rgo_typing_packages.specs.Names.{with_names}
 use Rattle.rgo_typing_statements.specs.Statements.{type_or, in_block, out_of_block, header, after_block}
-use Rattle.rgo_typing_statements.specs.Statements.{after, after_all, after_clause, after_var, after_vars}
+use Rattle.rgo_typing_statements.specs.Statements.{context_after, after_all, after_clause, after_var, after_vars}
 
 -- a list begins with another
 abbrev pub Begins : {A : Type 0} → List A → List A → Type 0
@@ -118,19 +118,19 @@ for_restores c init post body first last inner =
     (extends_trans (in_block c) h b first (extends_trans h q b last (restored q b (block_restores q body inner))))
 
 mutual
-  pub grows : (c : Context) (s : Stmt) → Extends c (after c s)
+  pub grows : (c : Context) (s : Stmt) → Extends c (context_after c s)
   grows c (tree.Block all at) =
       restored c (after_block c all) (block_restores c all (grows_all (in_block c) all))
   grows c (tree.Define x e at) =
       record { globals = refl; outer = refl; types = begins_more c.scope.types (type_or None (type_of c e) ∷ []) }
   grows c (tree.If init test body other at) =
       let h = header c init in
-      restored c (after c (tree.If init test body other at))
+      restored c (context_after c (tree.If init test body other at))
       (if_restores c init body other (grows_clause (in_block c) init) (grows_all (in_block h) body)
       (grows_clause (after_block h body) other))
   grows c (tree.For init test post body at) =
       let h = header c init in
-      restored c (after c (tree.For init test post body at))
+      restored c (context_after c (tree.For init test post body at))
       (for_restores c init post body (grows_clause (in_block c) init) (grows_clause h post)
       (grows_all (in_block (after_clause h post)) body))
   grows c (tree.Var vars at) = grows_vars c vars
@@ -146,7 +146,7 @@ mutual
   pub grows_all : (c : Context) (l : Stmts) → Extends c (after_all c l)
   grows_all c tree.no_stmts = same_context c
   grows_all c (tree.a_stmt s l) =
-      extends_trans c (after c s) (after_all (after c s) l) (grows c s) (grows_all (after c s) l)
+      extends_trans c (context_after c s) (after_all (context_after c s) l) (grows c s) (grows_all (context_after c s) l)
 
   pub grows_clause : (c : Context) (l : Clause) → Extends c (after_clause c l)
   grows_clause c tree.no_clause = same_context c
@@ -156,14 +156,14 @@ pub after_the_block : (c : Context) (l : Stmts) → Restores c (after_block c l)
 after_the_block c l = block_restores c l (grows_all (in_block c) l)
 
 pub after_if : (c : Context) (init : Clause) (test : Expr) (body : Stmts) (other : Clause) (at : ℕ)
-    → Restores c (after c (tree.If init test body other at))
+    → Restores c (context_after c (tree.If init test body other at))
 after_if c init test body other at =
     let h = header c init in
     if_restores c init body other (grows_clause (in_block c) init) (grows_all (in_block h) body)
     (grows_clause (after_block h body) other)
 
 pub after_for : (c : Context) (init : Clause) (test : Option Expr) (post : Clause) (body : Stmts) (at : ℕ)
-    → Restores c (after c (tree.For init test post body at))
+    → Restores c (context_after c (tree.For init test post body at))
 after_for c init test post body at =
     let h = header c init in
     for_restores c init post body (grows_clause (in_block c) init) (grows_clause h post)

@@ -4,7 +4,7 @@ use Rattle.std.specs.List.{AllByRecursion}
 use Rattle.rgo_ast.specs.Tree as tree
 use Rattle.rgo_ast.specs.Tree.{Decl, stmts_of, clause_of}
 use Rattle.rgo_grammar.specs.Grammar as grammar
-use Rattle.rgo_grammar.specs.Grammar.{IsSimple, IsClause, IsStmt, IsStmts, IsIf, IsElse, IsFor, IsDecl, Each, IsProgram}
+use Rattle.rgo_grammar.specs.Grammar.{IsSimple, IsClause, IsStmt, IsStmts, IsIf, IsElse, IsFor, IsDecl, EachWithSemicolon, IsProgram}
 use Rattle.rgo_lexer.specs.Lexemes.{Lexeme, Leaf}
 use Rattle.rgo_typing_laws.specs.Headers.{IsInit, IsPost, HasHeaders, HaveHeaders, ClauseHasHeaders, DeclHasHeaders}
 use Rattle.rgo_typing_laws.specs.Laws.{GrammarHasHeaders}
@@ -78,9 +78,9 @@ decl_headers (grammar.IsDecl.var i b) = tt
 decl_headers (grammar.IsDecl.vars i j all) = tt
 decl_headers (grammar.IsDecl.func i j k m end params result body) = stmts_headers body
 
-decls_headers : {x : List Lexeme} {l : List Decl} → Each IsDecl x l → AllByRecursion DeclHasHeaders l
-decls_headers grammar.Each.none = tt
-decls_headers (grammar.Each.next j d rest) = (decl_headers d, decls_headers rest)
+decls_headers : {x : List Lexeme} {l : List Decl} → EachWithSemicolon IsDecl x l → AllByRecursion DeclHasHeaders l
+decls_headers grammar.EachWithSemicolon.none = tt
+decls_headers (grammar.EachWithSemicolon.next j d rest) = (decl_headers d, decls_headers rest)
 
 pub grammar_has_headers : GrammarHasHeaders
 grammar_has_headers l imports decls h = go h

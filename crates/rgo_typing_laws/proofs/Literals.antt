@@ -20,8 +20,8 @@ use Rattle.rgo_typing_expressions.specs.Checking.{field_types, known_type, struc
 use Rattle.rgo_typing_expressions.specs.Scopes.{fields_at, int}
 use Rattle.rgo_typing_expressions.specs.Types.{type_of, types_of, numbered_field}
 use Rattle.rgo_typing_expressions.specs.Types.{pointer_shape}
-use Rattle.rgo_typing_expressions.specs.Terms.{count, first_numbers, build}
-use Rattle.rgo_typing_expressions.specs.Terms.{number_in, element_numbers, with_known, term_of, all_terms}
+use Rattle.rgo_typing_expressions.specs.Terms.{number_of_terms, first_numbers, build}
+use Rattle.rgo_typing_expressions.specs.Terms.{field_number, element_numbers, with_known, typed_term, all_terms}
 use Rattle.rgo_typing_expressions.specs.Terms.{element_terms}
 use Rattle.rgo_wellformed.specs.TypeRules.{Declared, pointer_to}
 use Rattle.rgo_wellformed.specs.WellFormed.{InScope, HasType, HaveTypes, MatchFields}
@@ -67,9 +67,9 @@ first_fields fields (suc n) h =
 module _ (c : Context) (d : Declared) (locals : List «Type») (here : InScope) where
   abbrev pub EachFits : Elements → Type 0
   EachFits tree.no_elements = ⊤
-  EachFits (tree.an_element x e l) = Fits d locals here (type_of c e) (term_of c e) × EachFits l
+  EachFits (tree.an_element x e l) = Fits d locals here (type_of c e) (typed_term c e) × EachFits l
 
-  counted : (l : Exprs) (wanted : List «Type») → count (all_terms c wanted l) ≡ length (types_of c l)
+  counted : (l : Exprs) (wanted : List «Type») → number_of_terms (all_terms c wanted l) ≡ length (types_of c l)
   counted tree.no_exprs wanted = refl
   counted (tree.an_expr e l) wanted = ap suc (counted l (drop 1 wanted))
 
@@ -100,16 +100,16 @@ module _ (c : Context) (d : Declared) (locals : List «Type») (here : InScope) 
         (types : List «Type») × HaveTypes d locals here terms types × MatchFields fields.types numbers types
 
     fill_one : (x : Ident) (e : Expr) (terms : Terms) (numbers : List ℕ) (known : List (Option «Type»)) (o : Option ℕ)
-        → found x.name fields.numbers ≡ o → Fits d locals here (type_of c e) (term_of c e)
+        → found x.name fields.numbers ≡ o → Fits d locals here (type_of c e) (typed_term c e)
         → misfits (known_type (numbered_field fields o)) (type_of c e) ≡ false
         → is_none (known_type (numbered_field fields o)) ≡ false → Fill terms numbers
-        → Fill (a_term (with_known (known_type (numbered_field fields o) ∷ known) (term_of c e)) terms)
-        (number_in (numbered_field fields o) ∷ numbers)
+        → Fill (a_term (with_known (known_type (numbered_field fields o) ∷ known) (typed_term c e)) terms)
+        (field_number (numbered_field fields o) ∷ numbers)
     fill_one x e terms numbers known None is f m q rest = absurd (true≢false q)
     fill_one x e terms numbers known (Some k) is f m q rest =
         let t = get_or fields.types k int in
         let field = s.fields x.name k is in
-        let value = fitted d locals here t (type_of c e) (term_of c e) (not_false (fits t (type_of c e)) m) field.1 f in
+        let value = fitted d locals here t (type_of c e) (typed_term c e) (not_false (fits t (type_of c e)) m) field.1 f in
         (t ∷ rest.0, (t, rest.0, refl, value, rest.1), (t, rest.0, refl, field.0, rest.2))
 
     elements_have : (l : Elements) → EachFits l

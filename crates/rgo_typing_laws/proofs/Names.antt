@@ -10,7 +10,7 @@ use Rattle.rgo_lexer.specs.declared.terminals.Terminal.{Terminal}
 use Rattle.rgo_lexer.specs.declared.terminals.Terminal.TheVariants.{Name}
 use Rattle.rgo_lexer.specs.Lexemes.{Lexeme}
 use Rattle.rgo_grammar.specs.Grammar as grammar
-use Rattle.rgo_grammar.specs.Grammar.{Listed, IsNames, IsBinding, IsTypeSpec, IsDecl, Each, IsProgram}
+use Rattle.rgo_grammar.specs.Grammar.{Listed, IsNames, IsBinding, IsTypeSpec, IsDecl, EachWithSemicolon, IsProgram}
 use Rattle.rgo_typed.specs.declared.programs.Struct.{Struct}
 use Rattle.rgo_typed.specs.declared.programs.Variable.{Variable}
 use Rattle.rgo_typed.specs.declared.types.Type.{«Type»}
@@ -79,9 +79,9 @@ module _ (P : List ℕ → Type 0) where
   decl (grammar.IsDecl.vars i j all) h = listed IsBinding (λ b. Named b.names) (λ x a s k. binding s k) all h.1.1
   decl (grammar.IsDecl.func i j k m end params result body) h = h.1.0 refl
 
-  decls : {x : List Lexeme} {l : List Decl} → Each IsDecl x l → Spell x → AllByRecursion DeclNamed l
-  decls grammar.Each.none h = tt
-  decls (grammar.Each.next j d rest) h = (decl d (first _ _ h), decls rest (behind _ _ _ h))
+  decls : {x : List Lexeme} {l : List Decl} → EachWithSemicolon IsDecl x l → Spell x → AllByRecursion DeclNamed l
+  decls grammar.EachWithSemicolon.none h = tt
+  decls (grammar.EachWithSemicolon.next j d rest) h = (decl d (first _ _ h), decls rest (behind _ _ _ h))
 
   program : {l : List Lexeme} {imports : List tree.Import} {all : List Decl} → IsProgram l imports all → Spell l
       → AllByRecursion DeclNamed all

@@ -10,10 +10,10 @@ use Rattle.rgo_ast.specs.Tree.{Decl, TypeSpec, Binding}
 use Rattle.rgo_ast.specs.declared.names.Ident.{Ident}
 use Rattle.rgo_typing_rules.specs.declared.meanings.Meaning.{Meaning}
 use Rattle.rgo_typing_rules.specs.declared.meanings.Meaning.TheVariants as meaning
-use Rattle.rgo_scopes.specs.Blocks.{Blocks, found, found_in, found_outside, declared}
+use Rattle.rgo_scopes.specs.Blocks.{NestedBlocks, found, found_in, found_outside, declared}
 use Rattle.rgo_typing_laws.proofs.Lists.{some_is, none_is, still_there, at_end}
 use Rattle.rgo_typing_packages.specs.Numbering.{Numbering, no_numbers, first_meaning, with_struct, with_variable, with_function}
-use Rattle.rgo_typing_packages.specs.Numbering.{with_structs, with_variables, with_bindings, numbered}
+use Rattle.rgo_typing_packages.specs.Numbering.{with_structs, with_variables, with_bindings, with_all_decls}
 
 -- `functions` are the names of the functions so far
 abbrev pub IsNumbered : Numbering → List (List ℕ) → List ℕ → Meaning → Type 0
@@ -37,7 +37,7 @@ pub same_name : (a b : List ℕ) → bytes_eq a b ≡ true → a ≡ b
 same_name a b h = (bytes_eq-Decides a b).0 h
 
 -- a name has its old meaning, or the new one
-first_or : (name : List ℕ) (m : Meaning) (names : Blocks Meaning) (other : List ℕ) (x : Meaning)
+first_or : (name : List ℕ) (m : Meaning) (names : NestedBlocks Meaning) (other : List ℕ) (x : Meaning)
     → found other (first_meaning name m names) ≡ Some x → (found other names ≡ Some x) ⊎ ((other ≡ name) × (x ≡ m))
 first_or name m names other x h = go (is_some (found name names)) h
   where
@@ -134,11 +134,11 @@ bindings_numbered n f (b ∷ l) old =
     bindings_numbered (with_variables n b.names) f l (variables_numbered n f b.names old)
 
 pub all_numbered : (n : Numbering) (f : List (List ℕ)) (l : List Decl) → AreNumbered n f
-    → AreNumbered (numbered n l) (f ++ names_of l)
+    → AreNumbered (with_all_decls n l) (f ++ names_of l)
 all_numbered n f [] old = subst (AreNumbered n) (sym (append-nil f)) old
 all_numbered n f (tree.Types types at ∷ l) old =
     all_numbered (with_structs n types) f l (structs_numbered n f types old)
 all_numbered n f (tree.Vars vars at ∷ l) old = all_numbered (with_bindings n vars) f l (bindings_numbered n f vars old)
 all_numbered n f (tree.Func y ∷ l) old =
-    subst (AreNumbered (numbered (with_function n y) l)) (append_assoc f (y.name.name ∷ []) (names_of l))
+    subst (AreNumbered (with_all_decls (with_function n y) l)) (append_assoc f (y.name.name ∷ []) (names_of l))
     (all_numbered (with_function n y) (f ++ y.name.name ∷ []) l (function_numbered n f y old))

@@ -21,7 +21,7 @@ use Rattle.rgo_typing_expressions.specs.Scopes.{int, meaning_of, global_meaning_
 use Rattle.rgo_typing_packages.specs.Names.{with_names, with_bindings}
 use Rattle.rgo_typing_packages.specs.Names as names
 use Rattle.rgo_typing_packages.specs.Packages.{outside_functions}
-use Rattle.rgo_typing_packages.specs.Signatures.{Signatures, fields_of, with_struct, with_structs, with_variable, with_variables}
+use Rattle.rgo_typing_packages.specs.Signatures.{Signatures, fields_scope, with_struct, with_structs, with_variable, with_variables}
 use Rattle.rgo_typing_packages.specs.Signatures.{with_binding, with_vars, with_function, with_decls, result_of, params_of}
 use Rattle.rgo_typing_packages.specs.Signatures.{in_seen}
 use Rattle.rgo_wellformed.specs.TypeRules.{Declared, IsType, IsBase}
@@ -132,7 +132,7 @@ module _ (p : Package) (d : Declared)
   structs_exist : (s : Signatures) (l : List TypeSpec) → AllExist d s → AllExist d (with_structs c s l)
   structs_exist s [] h = h
   structs_exist s (t ∷ l) h =
-      let fields = fields_exist (fields_of c t) (bindings_scoped no_locals t.fields none_scoped) in
+      let fields = fields_exist (fields_scope c t) (bindings_scoped no_locals t.fields none_scoped) in
       structs_exist (with_struct c s t) l (holds_push (AreFields d) s.structs _ h.0 fields, h.1, h.2)
 
   variables_exist : (s : Signatures) (ty : «Type») (l : List Ident) → IsType d ty → AllExist d s

@@ -19,13 +19,13 @@ use Rattle.rgo_typing_rules.specs.declared.rules.Rule.TheVariants as rule
 use Rattle.rgo_typing_rules.proofs.Unbroken.{keeps}
 use Rattle.rgo_scopes.specs.Blocks.{found}
 use Rattle.rgo_typing_expressions.specs.Packages.{Package, Fields, Context}
-use Rattle.rgo_typing_expressions.specs.Scopes.{no_fields, no_signature, int, fields_at, variable_at, signature_at}
-use Rattle.rgo_types.specs.Flow.{ends}
+use Rattle.rgo_typing_expressions.specs.Scopes.{no_fields, no_signature, int, fields_at, variable_type_at, signature_at}
+use Rattle.rgo_types.specs.Flow.{stmts_terminate}
 use Rattle.rgo_typing_packages.specs.Imports.{import_sites}
-use Rattle.rgo_typing_packages.specs.Numbering.{no_numbers, numbered}
+use Rattle.rgo_typing_packages.specs.Numbering.{no_numbers, with_all_decls}
 use Rattle.rgo_typing_packages.specs.Packages.{outside_functions, named_package, signatures_in, package_of, package_sites}
 use Rattle.rgo_types.specs.Programs.{has_main, is_main}
-use Rattle.rgo_types.specs.Programs.{is_plain}
+use Rattle.rgo_types.specs.Programs.{is_empty_signature}
 use Rattle.rgo_types.specs.Programs.{are_none, in_function, at_body, body_sites, bodies_sites, typed_function}
 use Rattle.rgo_types.specs.Programs.{typed_functions}
 use Rattle.rgo_types.specs.Programs.{typed_program}
@@ -83,7 +83,7 @@ module _ (p : Package) (d : Declared) (sound : Sound p d)
       let grown = (grows_all begin (stmts_of f.body)).types in
       let longer : length all.scope.types ≡ length begin.scope.types + length grown.0 =
       ap length grown.1 ∙ length-append begin.scope.types grown.0 in
-      let n = node.End (is_some f.result_type) (ends (stmts_of f.body)) in
+      let n = node.End (is_some f.result_type) (stmts_terminate (stmts_of f.body)) in
       let sites = all_sites (in_function c f) begin (stmts_of f.body) in
       let body = well_all d all.scope.types result known (stmts_of f.body) begin here false headers
       (begins_itself all.scope.types) st (left sites ((f.end, n) ∷ []) h) in
@@ -124,7 +124,7 @@ module _ (program : Program) where
   abbrev d : Declared
   d = declared_by typed
 
-  in_step : InStep (numbered no_numbers program.decls) lists
+  in_step : InStep (with_all_decls no_numbers program.decls) lists
   in_step = all_in_step (outside_functions names) no_numbers no_signatures program.decls (refl, refl)
 
   mirrored : IsMirrored lists
@@ -133,7 +133,7 @@ module _ (program : Program) where
   functions_are : map declared_signature lists.functions ≡ d.functions
   functions_are = all_functions names lists no_signatures program.decls
 
-  numbers : AreNumbered (numbered no_numbers program.decls) (names_of program.decls)
+  numbers : AreNumbered (with_all_decls no_numbers program.decls) (names_of program.decls)
   numbers = all_numbered no_numbers [] program.decls none_numbered
 
   count_structs : length d.structs ≡ length lists.structs
@@ -142,7 +142,7 @@ module _ (program : Program) where
   named : (name : List ℕ) (m : Meaning) → found name whole.names ≡ Some m → IsNamed d m
   named name m h = go m (numbers.each name m h)
     where
-      go : (m : Meaning) → IsNumbered (numbered no_numbers program.decls) (names_of program.decls) name m → IsNamed d m
+      go : (m : Meaning) → IsNumbered (with_all_decls no_numbers program.decls) (names_of program.decls) name m → IsNamed d m
       go (meaning.Struct k) i = omega (arith, i, in_step.0, count_structs)
       go (meaning.Global k) i = tt
       go (meaning.Function k) i = tt
@@ -176,12 +176,12 @@ module _ (program : Program) where
   global_exists : (name : List ℕ) (m : Meaning) → found name whole.names ≡ Some m → IsGlobal whole d m
   global_exists name m h = go m (numbers.each name m h)
     where
-      go : (m : Meaning) → IsNumbered (numbered no_numbers program.decls) (names_of program.decls) name m
+      go : (m : Meaning) → IsNumbered (with_all_decls no_numbers program.decls) (names_of program.decls) name m
           → IsGlobal whole d m
       go (meaning.Struct k) i = omega (arith, i, in_step.0, count_structs)
       go (meaning.Global k) i =
           let o : k < length lists.variables = omega (arith, i, in_step.1) in (
-            subst (λ l. slice_get l k ≡ Some (variable_at whole k)) (sym mirrored.1)
+            subst (λ l. slice_get l k ≡ Some (variable_type_at whole k)) (sym mirrored.1)
                 (slice_get-get_or lists.variables k int o),
             holds_at (IsType d) lists.variables k int o lists_exist.1,
           )
@@ -212,9 +212,9 @@ module _ (program : Program) where
       → (n : ℕ) × (main : Function) × (slice_get typed.functions n ≡ Some main) × IsMain main
   main_exists all h = go (found (codes "main") whole.names) refl h
     where
-      at : (k : ℕ) → IsNumbered (numbered no_numbers program.decls) (names_of program.decls) (codes "main")
+      at : (k : ℕ) → IsNumbered (with_all_decls no_numbers program.decls) (names_of program.decls) (codes "main")
           (meaning.Function k) → IsCallee whole d k
-          → is_plain (signature_at whole k) ≡ true
+          → is_empty_signature (signature_at whole k) ≡ true
           → (n : ℕ) × (main : Function) × (slice_get typed.functions n ≡ Some main) × IsMain main
       at k i c plain =
           let f = unmapped_at (λ (f : Function). f.name) typed.functions k (codes "main")
@@ -235,7 +235,7 @@ module _ (program : Program) where
             },
           )
 
-      other : (m : Meaning) → IsNumbered (numbered no_numbers program.decls) (names_of program.decls) (codes "main") m
+      other : (m : Meaning) → IsNumbered (with_all_decls no_numbers program.decls) (names_of program.decls) (codes "main") m
           → IsGlobal whole d m
           → is_main whole (Some m) ≡ true
           → (n : ℕ) × (main : Function) × (slice_get typed.functions n ≡ Some main) × IsMain main
@@ -255,16 +255,16 @@ function_ends c f headers h =
     go f.result_type (keeps rule.MissingReturn n (alone f.end n (right sites ((f.end, n) ∷ []) h)))
   where
     n : node.Node
-    n = node.End (is_some f.result_type) (ends (stmts_of f.body))
+    n = node.End (is_some f.result_type) (stmts_terminate (stmts_of f.body))
 
     sites : List Site
     sites = all_sites (in_function c f) (at_body c f) (stmts_of f.body)
 
-    go : (o : Option tree.TypeExpr) → is_some o && not (ends (stmts_of f.body)) ≡ false
+    go : (o : Option tree.TypeExpr) → is_some o && not (stmts_terminate (stmts_of f.body)) ≡ false
         → EndsWith (result_of c o) (typed_function c f)
     go None k = tt
     go (Some ty) k =
-        all_end (stmts_of f.body) (in_function c f) (at_body c f) headers (not_false (ends (stmts_of f.body)) k)
+        all_end (stmts_of f.body) (in_function c f) (at_body c f) headers (not_false (stmts_terminate (stmts_of f.body)) k)
 
 functions_end : (c : Context) (l : List Decl) → AllByRecursion DeclHasHeaders l
     → first_refusal (bodies_sites c l) ≡ None

@@ -13,7 +13,7 @@ use Rattle.rgo_typing_rules.specs.declared.meanings.Meaning.{Meaning}
 use Rattle.rgo_typing_rules.specs.declared.meanings.Meaning.TheVariants as meaning
 use Rattle.rgo_scopes.specs.Blocks.{found, found_in, found_outside}
 use Rattle.rgo_typing_expressions.specs.Packages.{Package, Scope, Context}
-use Rattle.rgo_typing_expressions.specs.Scopes.{with_local, inside, local_at, variable_at, meaning_of, meaning_if}
+use Rattle.rgo_typing_expressions.specs.Scopes.{with_local, inside, local_at, variable_type_at, meaning_of, meaning_if}
 use Rattle.rgo_typing_expressions.specs.Scopes.{global_meaning_if, builtin_meaning, universe, int, in_scope}
 use Rattle.rgo_typing_statements.specs.Statements.{in_block}
 use Rattle.rgo_wellformed.specs.TypeRules.{Declared, IsType}
@@ -119,7 +119,7 @@ module _ (d : Declared) where
 
 -- what the package declares under a name exists
 abbrev pub IsGlobal : Package → Declared → Meaning → Type 0
-IsGlobal p d (meaning.Global n) = (slice_get d.variables n ≡ Some (variable_at p n)) × IsType d (variable_at p n)
+IsGlobal p d (meaning.Global n) = (slice_get d.variables n ≡ Some (variable_type_at p n)) × IsType d (variable_type_at p n)
 IsGlobal p d (meaning.Struct n) = n < length d.structs
 IsGlobal p d (meaning.Function n) = IsCallee p d n
 IsGlobal p d _ = ⊥

@@ -16,7 +16,7 @@ use Rattle.rgo_typing_expressions.specs.Packages.{Package, Scope, Fields, Contex
 use Rattle.rgo_typing_expressions.specs.Scopes.{no_locals, int, resolved, base_of}
 use Rattle.rgo_typing_packages.specs.Names.{with_names, with_bindings}
 use Rattle.rgo_typing_packages.specs.Names as names
-use Rattle.rgo_typing_packages.specs.Numbering.{Numbering, numbered}
+use Rattle.rgo_typing_packages.specs.Numbering.{Numbering, with_all_decls}
 use Rattle.rgo_typing_packages.specs.Numbering as numbering
 use Rattle.rgo_typing_packages.specs.Packages.{outside_functions, whole_package}
 use Rattle.rgo_types.specs.Programs.{at_body, typed_function, typed_functions}
@@ -63,7 +63,7 @@ vars_in_step c n s (b ∷ l) h =
     (variables_in_step n (in_binding s b) (resolved c b.ty) b.names h)
 
 pub all_in_step : (c : Context) (n : Numbering) (s : Signatures) (l : List Decl) → InStep n s
-    → InStep (numbered n l) (with_decls c s l)
+    → InStep (with_all_decls n l) (with_decls c s l)
 all_in_step c n s [] h = h
 all_in_step c n s (tree.Types types at ∷ l) h =
     all_in_step c (numbering.with_structs n types) (with_structs c s types) l (structs_in_step c n s types h)

@@ -19,18 +19,18 @@ use Rattle.rgo_typing_rules.specs.Sites.{first_refusal}
 use Rattle.rgo_typing_rules.specs.declared.roles.Role.TheVariants as role
 use Rattle.rgo_typing_rules.specs.declared.rules.Rule.TheVariants as rule
 use Rattle.rgo_typing_rules.proofs.Unbroken.{keeps}
-use Rattle.rgo_typing_expressions.specs.Callees.{bare, may_stand, named_callee, is_place}
+use Rattle.rgo_typing_expressions.specs.Callees.{without_parens, may_stand, named_callee, is_place}
 use Rattle.rgo_typing_expressions.specs.Checking.{nodes, all_nodes}
 use Rattle.rgo_typing_expressions.specs.Packages.{Context}
 use Rattle.rgo_typing_expressions.specs.Scopes.{int, meaning_of}
-use Rattle.rgo_typing_expressions.specs.Terms.{constant, term_of}
+use Rattle.rgo_typing_expressions.specs.Terms.{int_constant, typed_term}
 use Rattle.rgo_typing_expressions.specs.Types.{type_of, types_of}
-use Rattle.rgo_typing_statements.specs.Statements.{Enclosing, in_block, header, after, after_all, after_clause, after_block}
+use Rattle.rgo_typing_statements.specs.Statements.{Enclosing, in_block, header, context_after, after_all, after_clause, after_block}
 use Rattle.rgo_typing_statements.specs.Statements.{step_op, step_sites, assign_op, assign_sites, go_site, optional_nodes}
 use Rattle.rgo_typing_statements.specs.Statements.{optional_type, condition_sites, stmt_sites, all_sites, clause_sites}
 use Rattle.rgo_typing_statements.specs.TypedStatements.{plain_stmt, send_stmt, assign_stmt, step_stmt, started, returned}
 use Rattle.rgo_typing_statements.specs.TypedStatements.{optional_term}
-use Rattle.rgo_typing_statements.specs.TypedStatements.{has_clause, headed, branches, typed_stmt, typed_all, typed_clause}
+use Rattle.rgo_typing_statements.specs.TypedStatements.{has_clause, headed, if_or_else, typed_stmt, typed_all, typed_clause}
 use Rattle.rgo_wellformed.specs.TypeRules.{Declared, Computes}
 use Rattle.rgo_wellformed.specs.WellFormed.{InScope, HasType, AreStmts, IsCondition, IsResult}
 use Rattle.rgo_wellformed.specs.TypeRules.{bool}
@@ -86,7 +86,7 @@ module _ (d : Declared) (locals : List «Type») (result : Option «Type») (kno
       let n = node.Update op (is_place c a) (type_of c a) (type_of c b) in
       let parts = in_three (nodes c role.Value a) (nodes c role.Value b) at n h in
       updated_well c d result locals here (means c d locals here st room) st.sound.structs op a (type_of c b)
-      (term_of c b) at in_loop k parts.0 (value_well d locals result c here room st b role.Value parts.1) parts.2
+      (typed_term c b) at in_loop k parts.0 (value_well d locals result c here room st b role.Value parts.1) parts.2
 
   step_well : (c : Context) (here : InScope) (in_loop : Bool) (op : BinaryOp) (e : Expr) (at : ℕ)
       → Computes op (int ∷ int ∷ []) int → Room d locals result c → Describes d c here
@@ -95,7 +95,7 @@ module _ (d : Declared) (locals : List «Type») (result : Option «Type») (kno
       let one = shape.Constant (pos 1) in
       let n = node.Update op (is_place c e) (type_of c e) one in
       updated_well c d result locals here (means c d locals here st room) st.sound.structs op e one
-      (constant (pos 1) at) at in_loop computes (left (nodes c role.Value e) ((at, n) ∷ []) h)
+      (int_constant (pos 1) at) at in_loop computes (left (nodes c role.Value e) ((at, n) ∷ []) h)
       (a_constant d locals here (pos 1) at) (alone at n (right (nodes c role.Value e) ((at, n) ∷ []) h))
 
   -- ---- headers
@@ -116,7 +116,7 @@ module _ (d : Declared) (locals : List «Type») (result : Option «Type») (kno
   branches_well : (in_loop : Bool) (here : InScope) (other : Clause) (test : Term) (body alternative : List Stmt)
       (at : ℕ)
       → HasType d locals here test bool → All in_loop here body → All in_loop here alternative
-      → Well in_loop here (branches (has_clause other) test body alternative at)
+      → Well in_loop here (if_or_else (has_clause other) test body alternative at)
   branches_well in_loop here tree.no_clause test body alternative at t b o = ((t, b), refl)
   branches_well in_loop here (tree.a_clause s) test body alternative at t b o = ((t, b, o), refl)
 
@@ -142,9 +142,9 @@ module _ (d : Declared) (locals : List «Type») (result : Option «Type») (kno
 
   mutual
     pub well_stmt : (s : tree.Stmt) (c : Context) (here : InScope) (in_loop : Bool) → HasHeaders s
-        → Room d locals result (after c s) → Describes d c here
+        → Room d locals result (context_after c s) → Describes d c here
         → first_refusal (stmt_sites (enclosing in_loop) c s) ≡ None
-        → Leads in_loop here (after c s) (typed_stmt (enclosing in_loop) c s)
+        → Leads in_loop here (context_after c s) (typed_stmt (enclosing in_loop) c s)
     well_stmt (tree.Block all at) c here in_loop q room st h =
         let inside = in_block c in
         let body = well_all all inside here in_loop q room (describes_inside d c here st) h in
@@ -156,10 +156,10 @@ module _ (d : Declared) (locals : List «Type») (result : Option «Type») (kno
         )
     well_stmt (tree.Plain e) c here in_loop q room st h =
         let n = node.Alone (may_stand c e) in
-        let all = nodes c role.Alone (bare e) in
-        let at = place_of (bare e) in
+        let all = nodes c role.Alone (without_parens e) in
+        let at = place_of (without_parens e) in
         steps_one d locals result in_loop here c (plain_stmt c e) st
-        (plain_well c d result locals here (means c d locals here st room) st.sound.structs (bare e) in_loop
+        (plain_well c d result locals here (means c d locals here st room) st.sound.structs (without_parens e) in_loop
         (left all ((at, n) ∷ []) h)
         (not_false (may_stand c e) (keeps rule.NotStatement n (alone at n (right all ((at, n) ∷ []) h)))))
     well_stmt (tree.Send a b at) c here in_loop q room st h =
@@ -177,7 +177,7 @@ module _ (d : Declared) (locals : List «Type») (result : Option «Type») (kno
         let f = enclosing in_loop in
         let c1 = header c init in
         let c2 = after_block c1 body in
-        let all = after c (tree.If init test body other at) in
+        let all = context_after c (tree.If init test body other at) in
         let site = (at, node.Condition (type_of c1 test)) ∷ [] in
         let others = clause_sites f c2 other ++ site in
         let bodies = all_sites f (in_block c1) body ++ others in
@@ -199,7 +199,7 @@ module _ (d : Declared) (locals : List «Type») (result : Option «Type») (kno
         (right (clause_sites f c2 other) site h3) in
         headed_well in_loop here c all init _ inner st
         (λ next st3. describes_later d c all next (after_if c init test body other at) o.1.scoped.types st3)
-        (branches_well in_loop inner.0 other (term_of c1 test) (typed_all f (in_block c1) body)
+        (branches_well in_loop inner.0 other (typed_term c1 test) (typed_all f (in_block c1) body)
         (typed_clause f c2 other) at t
         (steps_all d locals result in_loop inner.0 (after_all (in_block c1) body) (typed_all f (in_block c1) body) b)
         (steps_all d locals result in_loop inner.0 (after_clause c2 other) (typed_clause f c2 other) o))
@@ -207,7 +207,7 @@ module _ (d : Declared) (locals : List «Type») (result : Option «Type») (kno
         let f = enclosing in_loop in
         let c1 = header c init in
         let c2 = after_clause c1 post in
-        let all = after c (tree.For init test post body at) in
+        let all = context_after c (tree.For init test post body at) in
         let site = condition_sites (optional_type c1 test) at in
         let bodies = all_sites (enclosing true) (in_block c2) body ++ site in
         let posts = clause_sites f c1 post ++ bodies in
@@ -267,7 +267,7 @@ module _ (d : Declared) (locals : List «Type») (result : Option «Type») (kno
         → Leads in_loop here (after_all c l) (typed_all (enclosing in_loop) c l)
     well_all tree.no_stmts c here in_loop q room st h = steps_none d locals result in_loop here c st
     well_all (tree.a_stmt s l) c here in_loop q room st h =
-        let c2 = after c s in
+        let c2 = context_after c s in
         let f = enclosing in_loop in
         steps_then d locals result in_loop here c2 (after_all c2 l) (typed_stmt f c s) (typed_all f c2 l)
         (well_stmt s c here in_loop q.0 (room_before d locals result c2 (after_all c2 l) (grows_all c2 l) room) st

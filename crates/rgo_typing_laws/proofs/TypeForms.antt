@@ -5,7 +5,7 @@ use Rattle.rgo_typed.specs.declared.types.Base.{Base}
 use Rattle.rgo_typed.specs.declared.types.Base.TheVariants.{Int, Bool as Boolean, Pointer}
 use Rattle.rgo_typed.specs.declared.types.Layer.{Layer}
 use Rattle.rgo_typed.specs.declared.types.Layer.TheVariants.{Slice, Chan}
-use Rattle.rgo_typing_rules.specs.Types.{slice_of, chan_of, element_of, same_layer, same_layers, same_base, same}
+use Rattle.rgo_typing_rules.specs.Types.{slice_of, chan_of, element_type_of, same_layer, same_layers, same_base, same}
 use Rattle.rgo_typing_rules.specs.Types.{is_bare, is_int_base, is_bool_base, is_int, is_bool, is_slice, is_chan}
 use Rattle.rgo_typing_rules.specs.Types.{is_slice_in, is_chan_in}
 use Rattle.rgo_typing_expressions.specs.Scopes.{int, bool}
@@ -33,21 +33,21 @@ pub bool_is : (t : «Type») → is_bool t ≡ true → t ≡ bool
 bool_is t h = bool_in t.layers t.base h
 
 slice_in : (layers : List Layer) (b : Base) → is_slice_in layers ≡ true
-    → ty_in layers b ≡ slice_of (element_of (ty_in layers b))
+    → ty_in layers b ≡ slice_of (element_type_of (ty_in layers b))
 slice_in [] b h = absurd (true≢false (sym h))
 slice_in (Slice ∷ layers) b h = refl
 slice_in (Chan ∷ layers) b h = absurd (true≢false (sym h))
 
-pub slice_is : (t : «Type») → is_slice t ≡ true → t ≡ slice_of (element_of t)
+pub slice_is : (t : «Type») → is_slice t ≡ true → t ≡ slice_of (element_type_of t)
 slice_is t h = slice_in t.layers t.base h
 
 chan_in : (layers : List Layer) (b : Base) → is_chan_in layers ≡ true
-    → ty_in layers b ≡ chan_of (element_of (ty_in layers b))
+    → ty_in layers b ≡ chan_of (element_type_of (ty_in layers b))
 chan_in [] b h = absurd (true≢false (sym h))
 chan_in (Chan ∷ layers) b h = refl
 chan_in (Slice ∷ layers) b h = absurd (true≢false (sym h))
 
-pub chan_is : (t : «Type») → is_chan t ≡ true → t ≡ chan_of (element_of t)
+pub chan_is : (t : «Type») → is_chan t ≡ true → t ≡ chan_of (element_type_of t)
 chan_is t h = chan_in t.layers t.base h
 
 base_is : (b c : Base) → same_base b c ≡ true → b ≡ c

@@ -10,7 +10,7 @@ use Rattle.rgo_ast.specs.Tree.{Exprs}
 use Rattle.rgo_typed.specs.declared.actions.Action.TheVariants as action
 use Rattle.rgo_typed.specs.declared.types.Type.{«Type»}
 use Rattle.rgo_typed.specs.Tree.{Terms, Apply, Call}
-use Rattle.rgo_typing_rules.specs.Types.{element_of}
+use Rattle.rgo_typing_rules.specs.Types.{element_type_of}
 use Rattle.rgo_typing_rules.specs.Shapes as shape
 use Rattle.rgo_typing_rules.specs.Shapes.{Shape, fits, has_misfit, is_slice_shape}
 use Rattle.rgo_typing_rules.specs.Meanings.{Signature}
@@ -24,12 +24,12 @@ use Rattle.rgo_scopes.specs.Blocks.{found}
 use Rattle.rgo_typing_expressions.specs.declared.callees.Callee.{Callee}
 use Rattle.rgo_typing_expressions.specs.declared.callees.Callee.TheVariants as callee
 use Rattle.rgo_typing_expressions.specs.Checking.{call_node}
-use Rattle.rgo_typing_expressions.specs.Scopes.{signature_at, fields_at, variable_at, local_at, int}
+use Rattle.rgo_typing_expressions.specs.Scopes.{signature_at, fields_at, variable_type_at, local_at, int}
 use Rattle.rgo_typing_expressions.specs.Types.{type_of, types_of}
 use Rattle.rgo_typing_expressions.specs.Types.{result_shape, call_shape}
 use Rattle.rgo_typing_expressions.specs.Terms.{one}
 use Rattle.rgo_typing_expressions.specs.Terms.{wanted_of, result_or_int, call_term}
-use Rattle.rgo_typing_expressions.specs.Terms.{term_of, all_terms}
+use Rattle.rgo_typing_expressions.specs.Terms.{typed_term, all_terms}
 use Rattle.rgo_wellformed.specs.TypeRules
 use Rattle.rgo_wellformed.specs.TypeRules.{Declared, IsType, IsBase}
 use Rattle.rgo_wellformed.specs.WellFormed.{InScope, is_in_scope, HasType, HaveTypes, IsResult}
@@ -69,7 +69,7 @@ module _ (c : Context) (d : Declared) (locals : List «Type») (here : InScope) 
   Means (Some (meaning.Local n)) =
       (is_in_scope here n ≡ true) × (slice_get locals n ≡ Some (local_at c.scope n)) × IsType d (local_at c.scope n)
   Means (Some (meaning.Global n)) =
-      (slice_get d.variables n ≡ Some (variable_at c.globals n)) × IsType d (variable_at c.globals n)
+      (slice_get d.variables n ≡ Some (variable_type_at c.globals n)) × IsType d (variable_type_at c.globals n)
   Means (Some (meaning.Struct n)) = n < length d.structs
   Means (Some (meaning.Function n)) = IsCallee c.globals d n
   Means (Some (meaning.Basic b)) = IsBase d b
@@ -85,7 +85,7 @@ module _ (c : Context) (d : Declared) (locals : List «Type») (here : InScope) 
   -- every term fits the shape of its expression
   abbrev pub AllFit : Exprs → Type 0
   AllFit tree.no_exprs = ⊤
-  AllFit (tree.an_expr e l) = Fits d locals here (type_of c e) (term_of c e) × AllFit l
+  AllFit (tree.an_expr e l) = Fits d locals here (type_of c e) (typed_term c e) × AllFit l
 
   -- values of these types, one each
   pub values_have : (l : Exprs) (wanted : List «Type») → AllByRecursion (IsType d) wanted → AllFit l
@@ -102,7 +102,7 @@ module _ (c : Context) (d : Declared) (locals : List «Type») (here : InScope) 
         t,
         wanted,
         refl,
-        fitted d locals here t s (term_of c e) first k.0 f.0,
+        fitted d locals here t s (typed_term c e) first k.0 f.0,
         values_have l wanted k.1 f.1 others (one_less s shapes t wanted n),
       )
 
@@ -132,14 +132,14 @@ module _ (c : Context) (d : Declared) (locals : List «Type») (here : InScope) 
       go (type_of c e) f.0 (not_false (is_slice_shape (type_of c e))
       (keeps rule.NotIndexable (node.CallBuiltin builtin.Len r (type_of c e ∷ [])) br))
     where
-      go : (s : Shape) → Fits d locals here s (term_of c e) → is_slice_shape s ≡ true
-          → HasType d locals here (Apply action.Len (one (term_of c e)) int at) int
+      go : (s : Shape) → Fits d locals here s (typed_term c e) → is_slice_shape s ≡ true
+          → HasType d locals here (Apply action.Len (one (typed_term c e)) int at) int
       go (shape.Value u) h slice = (
         refl,
         tt,
         u ∷ [],
-        have_one d locals here (term_of c e) u h.0,
-        (element_of u, ap (λ x. x ∷ []) (slice_is u slice), refl),
+        have_one d locals here (typed_term c e) u h.0,
+        (element_type_of u, ap (λ x. x ∷ []) (slice_is u slice), refl),
       )
       go s h slice = absurd (true≢false (sym slice))
   len_fits (tree.an_expr e (tree.an_expr e2 l)) r at f br =

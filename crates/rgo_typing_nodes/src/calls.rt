@@ -7,7 +7,7 @@
 ghost use Rattle.std.specs.Prelude.{[], ◌∷◌, map};
 ghost use Rattle.rgo_typing_rules.specs.Checks.{Checks};
 ghost use Rattle.rgo_typing_rules.specs.Nodes as node;
-ghost use Rattle.rgo_typing_rules.specs.Views.{shape_of, signature_of};
+ghost use Rattle.rgo_typing_rules.specs.Views.{shape_of, signature_of_kinds};
 
 use rgo_ast::Place;
 use rgo_typing_rules::{Builtin, Node, Role, Shape, Signature, TypeError, check_node};
@@ -34,7 +34,7 @@ pub fn check_routine<'t, 'p, 'v>(
     args: &'v [Shape<'t>],
 ) -> Result<(), TypeError>
     ensures { Checks result
-        ((at, node.Call role (signature_of signature.now) (map shape_of args.now)) ∷ []) }
+        ((at, node.Call role (signature_of_kinds signature.now) (map shape_of args.now)) ∷ []) }
 {
     let node: Node<'t, 'p, 'v> = Node::Call(role, signature, args);
     check_node(at, &node)
@@ -60,7 +60,7 @@ pub fn check_go<'t, 'p, 'v>(
     args: &'v [Shape<'t>],
 ) -> Result<(), TypeError>
     ensures { Checks result
-        ((at, node.Go (signature_of signature.now) (map shape_of args.now)) ∷ []) }
+        ((at, node.Go (signature_of_kinds signature.now) (map shape_of args.now)) ∷ []) }
 {
     let node: Node<'t, 'p, 'v> = Node::Go(signature, args);
     check_node(at, &node)

@@ -7,7 +7,7 @@
 ghost use Rattle.std.specs.Prelude.{[], ◌∷◌};
 ghost use Rattle.rgo_typing_rules.specs.Checks.{Checks};
 ghost use Rattle.rgo_typing_rules.specs.Nodes as node;
-ghost use Rattle.rgo_typing_rules.specs.Views.{shape_of, optional_shape_of, kind_of, optional_kind_of};
+ghost use Rattle.rgo_typing_rules.specs.Views.{shape_of, optional_shape_of, type_of_kind, optional_kind_of};
 
 use rgo_ast::{BinaryOp, Place};
 use rgo_typing_rules::{Kind, Node, Shape, TypeError, check_node};
@@ -68,7 +68,7 @@ pub fn check_define<'t>(at: Place, value: Shape<'t>) -> Result<(), TypeError>
 /// A variable declared with a type and a value.
 pub fn check_define_as<'t>(at: Place, kind: Kind<'t>, value: Shape<'t>) -> Result<(), TypeError>
     ensures { Checks result
-        ((at, node.DefineAs (kind_of kind.entry) (shape_of value.entry)) ∷ []) }
+        ((at, node.DefineAs (type_of_kind kind.entry) (shape_of value.entry)) ∷ []) }
 {
     let node: Node<'t, 't, 't> = Node::DefineAs(kind, value);
     check_node(at, &node)

@@ -21,12 +21,12 @@ atom a ty at = Apply a no_terms ty at
 abbrev pub one : Term → Terms
 one t = a_term t no_terms
 
-abbrev pub two : Term → Term → Terms
-two a b = a_term a (a_term b no_terms)
+abbrev pub pair_of_terms : Term → Term → Terms
+pair_of_terms a b = a_term a (a_term b no_terms)
 
 -- a constant is one `int`
-abbrev pub constant : ℤ → ℕ → Term
-constant n at = atom (action.Int n) int at
+abbrev pub int_constant : ℤ → ℕ → Term
+int_constant n at = atom (action.Int n) int at
 
 -- `nil` takes the type that is wanted of it
 abbrev pub with_type : «Type» → Term → Term
@@ -34,7 +34,7 @@ with_type ty (Apply action.Nil parts t at) = Apply action.Nil parts ty at
 with_type ty t = t
 
 abbrev pub constant_or_term : Option ℤ → ℕ → Term → Term
-constant_or_term (Some n) at t = constant n at
+constant_or_term (Some n) at t = int_constant n at
 constant_or_term None at t = t
 
 abbrev pub element_type : Shape → «Type»
@@ -55,14 +55,14 @@ negated false t at = t
 abbrev pub compared : BinaryOp → Bool → Bool → Bool → Term → Term → ℕ → Term
 compared op differs true b_is_nil a b at = negated differs (Apply action.IsNil (one b) bool at) at
 compared op differs false true a b at = negated differs (Apply action.IsNil (one a) bool at) at
-compared op differs false false a b at = Apply (action.Binary op) (two a b) bool at
+compared op differs false false a b at = Apply (action.Binary op) (pair_of_terms a b) bool at
 
 abbrev pub operation : BinaryOp → Shape → Shape → Term → Term → ℕ → Term
 operation binary.And s t a b at = Logic logical.And a b at
 operation binary.Or s t a b at = Logic logical.Or a b at
 operation binary.Eq s t a b at = compared binary.Eq false (is_nil_shape s) (is_nil_shape t) a b at
 operation binary.Ne s t a b at = compared binary.Ne true (is_nil_shape s) (is_nil_shape t) a b at
-operation op s t a b at = Apply (action.Binary op) (two a b) (binary_type op) at
+operation op s t a b at = Apply (action.Binary op) (pair_of_terms a b) (binary_type op) at
 
 abbrev pub binary_term : BinaryOp → Shape → Shape → Term → Term → ℕ → Term
 binary_term op s t a b at = constant_or_term (folded_shapes op s t) at (operation op s t a b at)

@@ -6,7 +6,7 @@ use Rattle.rgo_ast.specs.declared.ops.BinaryOp.{BinaryOp}
 use Rattle.rgo_ast.specs.declared.ops.BinaryOp.TheVariants as binary
 use Rattle.rgo_typed.specs.declared.types.Type.{«Type»}
 use Rattle.rgo_typed.specs.declared.types.Base.TheVariants.{Int, Bool as Boolean}
-use Rattle.rgo_typing_rules.specs.Types.{plain, element_of}
+use Rattle.rgo_typing_rules.specs.Types.{plain, element_type_of}
 use Rattle.rgo_typing_rules.specs.Shapes as shape
 use Rattle.rgo_typing_rules.specs.Shapes.{Shape}
 
@@ -17,7 +17,7 @@ abbrev pub bool : «Type»
 bool = plain Boolean
 
 abbrev pub element_shape : Shape → Shape
-element_shape (shape.Value t) = shape.Value (element_of t)
+element_shape (shape.Value t) = shape.Value (element_type_of t)
 element_shape _ = shape.Untyped
 
 -- a constant where there is a value

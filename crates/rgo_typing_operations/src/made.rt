@@ -7,7 +7,7 @@ ghost use Rattle.rgo_typed.specs.Views.{term_of};
 ghost use Rattle.rgo_typed.specs.declared.actions.Action.TheVariants as action;
 ghost use Rattle.rgo_typing_rules.specs.Nodes as node;
 ghost use Rattle.rgo_typing_rules.specs.Shapes as shape;
-ghost use Rattle.rgo_typing_rules.specs.Views.{kind_of, shape_of};
+ghost use Rattle.rgo_typing_rules.specs.Views.{type_of_kind, shape_of};
 ghost use Rattle.rgo_typing_operations.specs.Results.{ChecksTo, Matches};
 ghost use Rattle.rgo_typing_operations.specs.Terms as terms;
 
@@ -28,8 +28,8 @@ pub fn make_slice<'a>(
     at: Place,
 ) -> Result<Checked<'a>, TypeError>
     ensures { ChecksTo result ((at, node.Size (shape_of size.entry.shape)) ∷ [])
-        (shape.Value (kind_of kind.entry))
-        (tree.Apply action.Slice (terms.one (term_of size.entry.term)) (kind_of kind.entry) at) }
+        (shape.Value (type_of_kind kind.entry))
+        (tree.Apply action.Slice (terms.one (term_of size.entry.term)) (type_of_kind kind.entry) at) }
 {
     check_size(at, size.shape)?;
     Ok(applied(alloc, Action::Slice, size.term, kind, at)?)
@@ -37,8 +37,8 @@ pub fn make_slice<'a>(
 
 /// `make(chan T)`, of the channel's type: its capacity is 0.
 pub fn make_channel<'a>(alloc: Global, kind: Kind<'a>, at: Place) -> Result<Checked<'a>, AllocError>
-    ensures { IfOk result (λ e. Matches e (shape.Value (kind_of kind.entry))
-        (tree.Apply action.Chan (terms.one (terms.constant (pos 0) at)) (kind_of kind.entry) at)) }
+    ensures { IfOk result (λ e. Matches e (shape.Value (type_of_kind kind.entry))
+        (tree.Apply action.Chan (terms.one (terms.int_constant (pos 0) at)) (type_of_kind kind.entry) at)) }
 {
     applied(alloc, Action::Chan, constant(alloc, 0, at), kind, at)
 }
@@ -51,8 +51,8 @@ pub fn make_buffered<'a>(
     at: Place,
 ) -> Result<Checked<'a>, TypeError>
     ensures { ChecksTo result ((at, node.Size (shape_of capacity.entry.shape)) ∷ [])
-        (shape.Value (kind_of kind.entry))
-        (tree.Apply action.Chan (terms.one (term_of capacity.entry.term)) (kind_of kind.entry) at) }
+        (shape.Value (type_of_kind kind.entry))
+        (tree.Apply action.Chan (terms.one (term_of capacity.entry.term)) (type_of_kind kind.entry) at) }
 {
     check_size(at, capacity.shape)?;
     Ok(applied(alloc, Action::Chan, capacity.term, kind, at)?)

@@ -138,7 +138,7 @@ pub fn index<'a>(
     ensures { ChecksTo result
         ((at, node.Index (shape_of slice.entry.shape) (shape_of index.entry.shape)) ∷ [])
         (types.element_shape (shape_of slice.entry.shape))
-        (tree.Apply action.At (terms.two (term_of slice.entry.term) (term_of index.entry.term))
+        (tree.Apply action.At (terms.pair_of_terms (term_of slice.entry.term) (term_of index.entry.term))
         (terms.element_type (shape_of slice.entry.shape)) at) }
 {
     check_index(at, slice.shape, index.shape)?;

@@ -5,7 +5,7 @@ ghost use Rattle.std.specs.Prelude.{IfOk};
 ghost use Rattle.rgo_typed.specs.Tree as tree;
 ghost use Rattle.rgo_typed.specs.Views.{term_of};
 ghost use Rattle.rgo_typing_rules.specs.Shapes as shape;
-ghost use Rattle.rgo_typing_rules.specs.Views.{kind_of};
+ghost use Rattle.rgo_typing_rules.specs.Views.{type_of_kind};
 ghost use Rattle.rgo_typing_operations.specs.Results.{Matches};
 ghost use Rattle.rgo_typing_operations.specs.Terms as terms;
 
@@ -30,8 +30,8 @@ pub fn applied<'a>(
     kind: Kind<'a>,
     at: Place,
 ) -> Result<Checked<'a>, AllocError>
-    ensures { IfOk result (λ e. Matches e (shape.Value (kind_of kind.entry))
-        (tree.Apply action (terms.one (term_of part)) (kind_of kind.entry) at)) }
+    ensures { IfOk result (λ e. Matches e (shape.Value (type_of_kind kind.entry))
+        (tree.Apply action (terms.one (term_of part)) (type_of_kind kind.entry) at)) }
 {
     let ty = kind.to_type(alloc)?;
     let term = apply_one(alloc, action, part, ty, at)?;
@@ -48,8 +48,8 @@ pub fn applied_to_two<'a>(
     kind: Kind<'a>,
     at: Place,
 ) -> Result<Checked<'a>, AllocError>
-    ensures { IfOk result (λ e. Matches e (shape.Value (kind_of kind.entry))
-        (tree.Apply action (terms.two (term_of first) (term_of second)) (kind_of kind.entry) at)) }
+    ensures { IfOk result (λ e. Matches e (shape.Value (type_of_kind kind.entry))
+        (tree.Apply action (terms.pair_of_terms (term_of first) (term_of second)) (type_of_kind kind.entry) at)) }
 {
     let ty = kind.to_type(alloc)?;
     let term = apply_two(alloc, action, first, second, ty, at)?;

@@ -3,7 +3,7 @@
 
 ghost use Rattle.std.specs.Prelude.{◌≡◌, IfOk};
 ghost use Rattle.rgo_typing_rules.specs.Types.{plain};
-ghost use Rattle.rgo_typing_rules.specs.Views.{kind_of};
+ghost use Rattle.rgo_typing_rules.specs.Views.{type_of_kind};
 ghost use Rattle.rgo_typed.specs.Tree as tree;
 ghost use Rattle.rgo_typed.specs.Views.{term_of};
 ghost use Rattle.rgo_typing_operations.specs.Terms as spec;
@@ -32,7 +32,7 @@ pub fn atom(alloc: Global, action: Action, ty: Type, at: Place) -> Term
 
 /// A constant.
 pub fn constant(alloc: Global, value: i64, at: Place) -> Term
-    ensures { term_of result ≡ spec.constant value at }
+    ensures { term_of result ≡ spec.int_constant value at }
 {
     atom(alloc, Action::Int(value), plain(alloc, Base::Int), at)
 }
@@ -62,7 +62,7 @@ pub fn apply_two(
     at: Place,
 ) -> Result<Term, AllocError>
     ensures { IfOk result (λ t. term_of t
-        ≡ tree.Apply action (spec.two (term_of first) (term_of second)) ty at) }
+        ≡ tree.Apply action (spec.pair_of_terms (term_of first) (term_of second)) ty at) }
 {
     let mut parts = Vec::with_capacity(alloc, 2)?;
     parts.push_reserved(first);
@@ -72,7 +72,7 @@ pub fn apply_two(
 
 /// A value as one of this type: `nil` takes it.
 pub fn with_type(alloc: Global, kind: Kind<'_>, term: Term) -> Result<Term, AllocError>
-    ensures { IfOk result (λ t. term_of t ≡ spec.with_type (kind_of kind.entry) (term_of term)) }
+    ensures { IfOk result (λ t. term_of t ≡ spec.with_type (type_of_kind kind.entry) (term_of term)) }
 {
     match term {
         Term::Apply(Action::Nil, parts, _, at) => {

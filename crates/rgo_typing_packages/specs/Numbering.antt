@@ -5,11 +5,11 @@ use Rattle.rgo_ast.specs.Tree.{Decl, TypeSpec, Binding}
 use Rattle.rgo_ast.specs.declared.names.Ident.{Ident}
 use Rattle.rgo_typing_rules.specs.declared.meanings.Meaning.{Meaning}
 use Rattle.rgo_typing_rules.specs.declared.meanings.Meaning.TheVariants as meaning
-use Rattle.rgo_scopes.specs.Blocks.{Blocks, no_names, declared, found}
+use Rattle.rgo_scopes.specs.Blocks.{NestedBlocks, no_names, declared, found}
 
 -- the names so far, and the number of each kind
 pub record Numbering : Type 0 where
-  pub names : Blocks Meaning
+  pub names : NestedBlocks Meaning
   pub structs : ℕ
   pub variables : ℕ
   pub functions : ℕ
@@ -17,7 +17,7 @@ pub record Numbering : Type 0 where
 abbrev pub no_numbers : Numbering
 no_numbers = record { names = no_names; structs = 0; variables = 0; functions = 0 }
 
-abbrev pub first_meaning : List ℕ → Meaning → Blocks Meaning → Blocks Meaning
+abbrev pub first_meaning : List ℕ → Meaning → NestedBlocks Meaning → NestedBlocks Meaning
 first_meaning name m names = if is_some (found name names) then names else declared name m names
 
 abbrev pub with_struct : Numbering → TypeSpec → Numbering
@@ -61,6 +61,6 @@ with_decl n (tree.Types types at) = with_structs n types
 with_decl n (tree.Vars vars at) = with_bindings n vars
 with_decl n (tree.Func f) = with_function n f
 
-abbrev pub numbered : Numbering → List Decl → Numbering
-numbered n [] = n
-numbered n (d ∷ l) = numbered (with_decl n d) l
+abbrev pub with_all_decls : Numbering → List Decl → Numbering
+with_all_decls n [] = n
+with_all_decls n (d ∷ l) = with_all_decls (with_decl n d) l

@@ -5,7 +5,7 @@ use Rattle.rgo_typing_rules.specs.Sites.{Site}
 use Rattle.rgo_typing_expressions.specs.Packages.{Package, Context}
 use Rattle.rgo_typing_expressions.specs.Scopes.{no_locals}
 use Rattle.rgo_typing_packages.specs.Imports.{all_import_fmt, import_sites}
-use Rattle.rgo_typing_packages.specs.Numbering.{numbered, no_numbers}
+use Rattle.rgo_typing_packages.specs.Numbering.{with_all_decls, no_numbers}
 use Rattle.rgo_typing_packages.specs.Signatures.{Signatures, no_signatures, with_decls, decls_sites}
 
 -- where no local variable is in scope
@@ -16,7 +16,7 @@ outside_functions p = record { globals = p; scope = no_locals }
 abbrev pub named_package : Program → Package
 named_package program = record {
   imported = all_import_fmt false program.imports;
-  names = (numbered no_numbers program.decls).names;
+  names = (with_all_decls no_numbers program.decls).names;
   structs = [];
   variables = [];
   functions = [];

@@ -53,8 +53,8 @@ in_seen g s = record {
 abbrev pub struct_sites : Context → Signatures → TypeSpec → List Site
 struct_sites c s t = name_site s.seen t.name ∷ bindings_sites c no_locals t.fields
 
-abbrev pub fields_of : Context → TypeSpec → Scope
-fields_of c t = with_bindings c no_locals t.fields
+abbrev pub fields_scope : Context → TypeSpec → Scope
+fields_scope c t = with_bindings c no_locals t.fields
 
 -- a struct more, whose name was declared
 abbrev pub with_fields : Signatures → Fields → Struct → Signatures
@@ -70,10 +70,10 @@ with_fields s fields typed = record {
 abbrev pub with_struct : Context → Signatures → TypeSpec → Signatures
 with_struct c s t = record {
   seen = with_seen s.seen t.name;
-  structs = s.structs ++ record { numbers = (fields_of c t).locals; types = (fields_of c t).types } ∷ [];
+  structs = s.structs ++ record { numbers = (fields_scope c t).locals; types = (fields_scope c t).types } ∷ [];
   variables = s.variables;
   functions = s.functions;
-  typed_structs = s.typed_structs ++ record { name = t.name.name; fields = (fields_of c t).types } ∷ [];
+  typed_structs = s.typed_structs ++ record { name = t.name.name; fields = (fields_scope c t).types } ∷ [];
   typed_variables = s.typed_variables;
 }
 

@@ -4,7 +4,7 @@ use Rattle.rgo_ast.specs.Tree as tree
 use Rattle.rgo_ast.specs.Tree.{Program}
 use Rattle.rgo_ast.specs.Views.{type_expr_of}
 use Rattle.rgo_ast.specs.declared.types.TypeExpr.{TypeExpr}
-use Rattle.rgo_typing_rules.specs.Views.{kind_of, signature_of}
+use Rattle.rgo_typing_rules.specs.Views.{type_of_kind, signature_of_kinds}
 use Rattle.rgo_typing_packages.specs.Numbering.{Numbering}
 use Rattle.rgo_typing_packages.specs.Packages.{package_of, signatures_in}
 use Rattle.rgo_typing_packages.specs.Signatures.{Signatures}
@@ -24,8 +24,8 @@ abbrev pub signatures_of : CodeSignatures → Signatures
 signatures_of s = record {
   seen = s.seen;
   structs = s.structs.items;
-  variables = map kind_of s.variables.items;
-  functions = map signature_of s.functions.items;
+  variables = map type_of_kind s.variables.items;
+  functions = map signature_of_kinds s.functions.items;
   typed_structs = s.typed_structs.items;
   typed_variables = s.typed_variables.items;
 }
@@ -36,8 +36,8 @@ optional_type_expr_of None = None
 optional_type_expr_of (Some ty) = Some (type_expr_of ty)
 
 -- what the declarations outside of functions come to
-abbrev pub Declares : Declared → Program → Type 0
-Declares d program =
+abbrev pub DeclaresPackage : Declared → Program → Type 0
+DeclaresPackage d program =
     (d.package ≡ package_of program)
     × (d.structs.items ≡ (signatures_in program).typed_structs)
     × (d.variables.items ≡ (signatures_in program).typed_variables)

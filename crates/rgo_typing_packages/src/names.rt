@@ -4,7 +4,7 @@
 ghost use Rattle.std.specs.Prelude.{◌≡◌, [], ◌∷◌, IfOk, OnOk, map, length};
 ghost use Rattle.rgo_ast.specs.Views.{binding_of};
 ghost use Rattle.rgo_typing_rules.specs.Checks.{Checks};
-ghost use Rattle.rgo_typing_rules.specs.Views.{kind_of};
+ghost use Rattle.rgo_typing_rules.specs.Views.{type_of_kind};
 ghost use Rattle.rgo_typing_expressions.specs.Scopes.{no_locals, with_local};
 ghost use Rattle.rgo_typing_packages.specs.Names as spec;
 ghost use Rattle.rgo_typing_packages.specs.Outcomes.{ChecksInto};
@@ -37,7 +37,7 @@ pub(crate) fn declare_name<'a>(
     x: &'a Ident,
 ) -> Result<(), TypeError>
     ensures { ChecksInto result (spec.name_site scope.old x.now ∷ [])
-        scope.new (with_local x.now.name (kind_of kind.entry) scope.old) }
+        scope.new (with_local x.now.name (type_of_kind kind.entry) scope.old) }
 {
     check_name(scope, x)?;
     scope.declare(x.name.bytes(), kind)?;
@@ -50,8 +50,8 @@ pub(crate) fn declare_names<'a>(
     kind: Kind<'a>,
     names: &'a [Ident],
 ) -> Result<(), TypeError>
-    ensures { ChecksInto result (spec.name_sites (kind_of kind.entry) scope.old names.now)
-        scope.new (spec.with_names (kind_of kind.entry) scope.old names.now) }
+    ensures { ChecksInto result (spec.name_sites (type_of_kind kind.entry) scope.old names.now)
+        scope.new (spec.with_names (type_of_kind kind.entry) scope.old names.now) }
 {
     for x in names {
         declare_name(scope, kind, x)?;
@@ -108,7 +108,7 @@ fn add_names<'a>(
     kind: Kind<'a>,
     names: &'a [Ident],
 ) -> Result<(), AllocError>
-    ensures { OnOk result (scope.new ≡ spec.with_names (kind_of kind.entry) scope.old names.now) }
+    ensures { OnOk result (scope.new ≡ spec.with_names (type_of_kind kind.entry) scope.old names.now) }
 {
     for x in names {
         scope.declare(x.name.bytes(), kind)?;

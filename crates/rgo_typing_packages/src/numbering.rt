@@ -116,7 +116,7 @@ pub(crate) fn number_decls<'a>(
     alloc: Global,
     decls: &'a [Decl],
 ) -> Result<Scopes<'a, Meaning>, AllocError>
-    ensures { IfOk result (λ names. names ≡ (spec.numbered spec.no_numbers (map decl_of decls.now)).names) }
+    ensures { IfOk result (λ names. names ≡ (spec.with_all_decls spec.no_numbers (map decl_of decls.now)).names) }
 {
     let mut numbering = Numbering {
         names: Scopes::new(alloc),

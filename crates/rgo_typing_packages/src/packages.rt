@@ -7,7 +7,7 @@ ghost use Rattle.rgo_typing_rules.specs.Checks.{Checks};
 ghost use Rattle.rgo_typing_packages.specs.Imports.{import_sites};
 ghost use Rattle.rgo_typing_packages.specs.Packages.{named_package, outside_functions, package_sites, whole_package};
 ghost use Rattle.rgo_typing_packages.specs.Signatures.{decls_sites, no_signatures, with_decls};
-ghost use Rattle.rgo_typing_packages.specs.Views.{Declares, signatures_of};
+ghost use Rattle.rgo_typing_packages.specs.Views.{DeclaresPackage, signatures_of};
 
 use crate::imports::check_imports;
 use crate::numbering::number_decls;
@@ -83,7 +83,7 @@ fn whole<'a>(named: Package<'a>, signatures: Signatures<'a>) -> Declared<'a>
 #[tactic(auto, using(rgo_typing_rules::proofs::Refusals::refusals))]
 pub fn check_package<'a>(alloc: Global, program: &'a Program) -> Result<Declared<'a>, TypeError>
     ensures checked { Checks result (package_sites (program_of program.now)) }
-    ensures value { IfOk result (λ d. Declares d (program_of program.now)) }
+    ensures value { IfOk result (λ d. DeclaresPackage d (program_of program.now)) }
 {
     let named = check_names(alloc, program)?;
     let signatures = check_signatures(alloc, &named, &program.decls)?;

@@ -4,7 +4,7 @@
 ghost use Rattle.std.specs.Prelude.{◌≡◌, IfOk, OnOk, map};
 ghost use Rattle.rgo_ast.specs.Views.{binding_of, decl_of, function_of, type_spec_of, type_expr_of};
 ghost use Rattle.rgo_typing_rules.specs.Checks.{Checks};
-ghost use Rattle.rgo_typing_rules.specs.Views.{kind_of, optional_kind_of, signature_of};
+ghost use Rattle.rgo_typing_rules.specs.Views.{type_of_kind, optional_kind_of, signature_of_kinds};
 ghost use Rattle.rgo_typing_packages.specs.Outcomes.{ChecksInto};
 ghost use Rattle.rgo_typing_packages.specs.Signatures as spec;
 ghost use Rattle.rgo_typing_packages.specs.Views.{signatures_of, optional_type_expr_of};
@@ -26,7 +26,7 @@ pub fn copied(alloc: Global, name: &Name) -> Result<Name, AllocError>
 
 /// The types of these kinds.
 pub fn types(alloc: Global, kinds: &[Kind<'_>]) -> Result<Row<Type>, AllocError>
-    ensures { IfOk result (λ row. row ≡ map kind_of kinds.now) }
+    ensures { IfOk result (λ row. row ≡ map type_of_kind kinds.now) }
 {
     let mut types = Vec::new(alloc);
     for kind in kinds {
@@ -59,7 +59,7 @@ pub fn result_kind<'a>(top: &Checker<'_, '_>, result_type: &'a Option<TypeExpr>)
 #[tactic(auto, using(rgo_typing_rules::proofs::Refusals::refusals))]
 fn check_signature<'a>(top: &Checker<'_, '_>, f: &'a Function) -> Result<Signature<'a>, TypeError>
     ensures checked { Checks result (spec.signature_sites top.now (function_of f.now)) }
-    ensures value { IfOk result (λ s. signature_of s ≡ spec.signature_in top.now (function_of f.now)) }
+    ensures value { IfOk result (λ s. signature_of_kinds s ≡ spec.signature_in top.now (function_of f.now)) }
 {
     let params = check_bindings(top, &f.params)?;
     check_result(top, &f.result_type)?;
@@ -72,7 +72,7 @@ fn check_signature<'a>(top: &Checker<'_, '_>, f: &'a Function) -> Result<Signatu
 
 /// A struct as a typed tree.
 fn typed_struct(alloc: Global, name: &Name, kinds: &[Kind<'_>]) -> Result<Struct, AllocError>
-    ensures { IfOk result (λ s. s ≡ record { name = name.now; fields = map kind_of kinds.now }) }
+    ensures { IfOk result (λ s. s ≡ record { name = name.now; fields = map type_of_kind kinds.now }) }
 {
     let name = copied(alloc, name)?;
     let fields = types(alloc, kinds)?;
@@ -81,7 +81,7 @@ fn typed_struct(alloc: Global, name: &Name, kinds: &[Kind<'_>]) -> Result<Struct
 
 /// A package variable as a typed tree.
 fn typed_variable(alloc: Global, name: &Name, kind: Kind<'_>) -> Result<Variable, AllocError>
-    ensures { IfOk result (λ v. v ≡ record { name = name.now; ty = kind_of kind.entry }) }
+    ensures { IfOk result (λ v. v ≡ record { name = name.now; ty = type_of_kind kind.entry }) }
 {
     let name = copied(alloc, name)?;
     let ty = kind.to_type(alloc)?;
@@ -155,7 +155,7 @@ impl<'a> Signatures<'a> {
         kind: Kind<'a>,
         x: &'a Ident,
     ) -> Result<(), AllocError>
-        ensures { OnOk result (signatures_of self.new ≡ spec.with_variable (signatures_of self.old) (kind_of kind.entry) x.now) }
+        ensures { OnOk result (signatures_of self.new ≡ spec.with_variable (signatures_of self.old) (type_of_kind kind.entry) x.now) }
     {
         self.typed_variables
             .push(typed_variable(alloc, &x.name, kind)?)?;
@@ -170,7 +170,7 @@ impl<'a> Signatures<'a> {
         kind: Kind<'a>,
         names: &'a [Ident],
     ) -> Result<(), AllocError>
-        ensures { OnOk result (signatures_of self.new ≡ spec.with_variables (signatures_of self.old) (kind_of kind.entry) names.now) }
+        ensures { OnOk result (signatures_of self.new ≡ spec.with_variables (signatures_of self.old) (type_of_kind kind.entry) names.now) }
     {
         for x in names {
             self.push_variable(alloc, kind, x)?;

@@ -3,7 +3,7 @@ use Rattle.std.proofs.Common.{◌≡◌, ◌-◌, ℕ, zero, suc, Bool, true, fa
 use Rattle.std.proofs.Common.{Option, Some, None, is_some, if◌then◌else◌, refl, ap, true≢false}
 use Rattle.rgo_typing_rules.specs.declared.rules.Rule.{Rule}
 use Rattle.rgo_typing_rules.specs.Nodes.{Node}
-use Rattle.rgo_typing_rules.specs.RuleNames.{number_of}
+use Rattle.rgo_typing_rules.specs.RuleNames.{typing_rule_number}
 use Rattle.rgo_typing_rules.specs.Rules.{breaks, first_broken, rules, broken}
 
 kept_first : (b : Bool) (r : Rule) (o : Option Rule) → (if b then Some r else o) ≡ None → b ≡ false
@@ -20,6 +20,6 @@ kept_at n zero (r ∷ rs) h = kept_first (breaks r n) r (first_broken rs n) h
 kept_at n (suc i) (r ∷ rs) h = kept_at n i rs (kept_rest (breaks r n) r (first_broken rs n) h)
 
 -- of a rule by its name this computes to `breaks r n ≡ false`
-pub keeps : (r : Rule) (n : Node) → broken n ≡ None → get_or (map (λ q. breaks q n) rules) (number_of r - 1) false ≡ false
+pub keeps : (r : Rule) (n : Node) → broken n ≡ None → get_or (map (λ q. breaks q n) rules) (typing_rule_number r - 1) false ≡ false
 unfolding broken
-keeps r n h = kept_at n (number_of r - 1) rules h
+keeps r n h = kept_at n (typing_rule_number r - 1) rules h

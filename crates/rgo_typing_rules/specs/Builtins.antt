@@ -23,10 +23,10 @@ predeclared = Len ∷ Close ∷ []
 abbrev pub of_fmt : List Builtin
 of_fmt = Println ∷ []
 
-abbrev pub name_of : Builtin → List ℕ
-name_of Len = codes "len"
-name_of Close = codes "close"
-name_of Println = codes "Println"
+abbrev pub builtin_name : Builtin → List ℕ
+builtin_name Len = codes "len"
+builtin_name Close = codes "close"
+builtin_name Println = codes "Println"
 
 -- the type of its value; a call without a value, and no other, may be a statement
 abbrev pub result_of : Builtin → Option «Type»
@@ -59,4 +59,4 @@ call_breaks _ b r args = false
 -- the one of these with this name
 abbrev pub named : List Builtin → List ℕ → Option Builtin
 named [] name = None
-named (b ∷ bs) name = if bytes_eq name (name_of b) then Some b else named bs name
+named (b ∷ bs) name = if bytes_eq name (builtin_name b) then Some b else named bs name

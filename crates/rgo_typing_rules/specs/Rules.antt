@@ -9,7 +9,7 @@ use Rattle.rgo_ast.specs.declared.ops.UnaryOp.TheVariants as unary
 use Rattle.rgo_ast.specs.declared.ops.BinaryOp.{BinaryOp}
 use Rattle.rgo_ast.specs.declared.ops.BinaryOp.TheVariants as binary
 use Rattle.rgo_typed.specs.declared.types.Type.{«Type»}
-use Rattle.rgo_typing_rules.specs.Types.{element_of}
+use Rattle.rgo_typing_rules.specs.Types.{element_type_of}
 use Rattle.rgo_typing_rules.specs.Shapes as shape
 use Rattle.rgo_typing_rules.specs.Shapes.{Shape, is_int_shape, is_bool_shape, is_slice_shape, is_chan_shape, is_nil_shape}
 use Rattle.rgo_typing_rules.specs.Shapes.{fits, are_comparable, has_misfit, has_known_misfit}
@@ -149,7 +149,7 @@ misfits_assigned (shape.Value t) s = not (fits t s)
 misfits_assigned _ s = false
 
 abbrev pub misfits_sent : Shape → Shape → Bool
-misfits_sent (shape.Value t) s = not (fits (element_of t) s)
+misfits_sent (shape.Value t) s = not (fits (element_type_of t) s)
 misfits_sent _ s = false
 
 abbrev pub misfits_fields : Option (List «Type») → List Shape → Bool

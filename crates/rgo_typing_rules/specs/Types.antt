@@ -18,8 +18,8 @@ abbrev pub chan_of : «Type» → «Type»
 chan_of t = record { layers = Chan ∷ t.layers; base = t.base }
 
 -- of a slice or a channel
-abbrev pub element_of : «Type» → «Type»
-element_of t = record { layers = drop 1 t.layers; base = t.base }
+abbrev pub element_type_of : «Type» → «Type»
+element_type_of t = record { layers = drop 1 t.layers; base = t.base }
 
 -- the layers of a type as it is written
 abbrev pub layers_of : tree.TypeExpr → List Layer

@@ -17,10 +17,10 @@ use Rattle.rgo_typing_rules.specs.Meanings.{Signature}
 use Rattle.rgo_typing_rules.specs.Nodes as node
 use Rattle.rgo_typing_rules.specs.Nodes.{Node}
 
-abbrev pub kind_of : Kind → «Type»
-kind_of (kind.Plain base) = plain base
-kind_of (kind.Slice element base) = slice_of (spelled (type_expr_of element.now) base)
-kind_of (kind.Chan element base) = chan_of (spelled (type_expr_of element.now) base)
+abbrev pub type_of_kind : Kind → «Type»
+type_of_kind (kind.Plain base) = plain base
+type_of_kind (kind.Slice element base) = slice_of (spelled (type_expr_of element.now) base)
+type_of_kind (kind.Chan element base) = chan_of (spelled (type_expr_of element.now) base)
 
 abbrev pub shape_of : CodeShape → Shape
 shape_of code_shape.Untyped = shape.Untyped
@@ -28,22 +28,22 @@ shape_of code_shape.Nil = shape.Nil
 shape_of code_shape.Text = shape.Text
 shape_of code_shape.NoResult = shape.NoResult
 shape_of (code_shape.Constant n) = shape.Constant n
-shape_of (code_shape.Value kind) = shape.Value (kind_of kind)
+shape_of (code_shape.Value kind) = shape.Value (type_of_kind kind)
 
 abbrev pub optional_kind_of : Option Kind → Option «Type»
 optional_kind_of None = None
-optional_kind_of (Some k) = Some (kind_of k)
+optional_kind_of (Some k) = Some (type_of_kind k)
 
 abbrev pub optional_shape_of : Option CodeShape → Option Shape
 optional_shape_of None = None
 optional_shape_of (Some s) = Some (shape_of s)
 
-abbrev pub signature_of : CodeSignature → Signature
-signature_of s = record { params = map kind_of s.params.items; result_type = optional_kind_of s.result_type }
+abbrev pub signature_of_kinds : CodeSignature → Signature
+signature_of_kinds s = record { params = map type_of_kind s.params.items; result_type = optional_kind_of s.result_type }
 
 abbrev pub fields_of : Option (Bor (List Kind)) → Option (List «Type»)
 fields_of None = None
-fields_of (Some fields) = Some (map kind_of fields.now)
+fields_of (Some fields) = Some (map type_of_kind fields.now)
 
 abbrev pub known_of : Option (Bor (List (Option Kind))) → Option (List (Option «Type»))
 known_of None = None
@@ -69,16 +69,16 @@ node_of (code.Literal fields values) = node.Literal (fields_of fields) (map shap
 node_of (code.Keyed fields twice values) = node.Keyed (known_of fields) twice (map shape_of values.now)
 node_of code.CallMissing = node.CallMissing
 node_of code.CallNothing = node.CallNothing
-node_of (code.Call r s args) = node.Call r (signature_of s.now) (map shape_of args.now)
+node_of (code.Call r s args) = node.Call r (signature_of_kinds s.now) (map shape_of args.now)
 node_of (code.CallBuiltin b r args) = node.CallBuiltin b r (map shape_of args.now)
 node_of (code.Alone may_stand) = node.Alone may_stand
 node_of (code.Send c s) = node.Send (shape_of c) (shape_of s)
 node_of (code.Assign at_place a b) = node.Assign at_place (shape_of a) (shape_of b)
 node_of (code.Update op at_place a b) = node.Update op at_place (shape_of a) (shape_of b)
 node_of (code.Define s) = node.Define (shape_of s)
-node_of (code.DefineAs k s) = node.DefineAs (kind_of k) (shape_of s)
+node_of (code.DefineAs k s) = node.DefineAs (type_of_kind k) (shape_of s)
 node_of (code.Condition s) = node.Condition (shape_of s)
-node_of (code.Go s args) = node.Go (signature_of s.now) (map shape_of args.now)
+node_of (code.Go s args) = node.Go (signature_of_kinds s.now) (map shape_of args.now)
 node_of code.GoNothing = node.GoNothing
 node_of (code.Return wanted given) = node.Return (optional_kind_of wanted) (optional_shape_of given)
 node_of (code.Branch in_loop) = node.Branch in_loop

@@ -3,7 +3,7 @@
 #![tactic(auto, unfolding(crate::specs::Rules::broken))]
 
 ghost use Rattle.std.specs.Prelude.{◌≡◌, map};
-ghost use Rattle.rgo_typing_rules.specs.Builtins.{predeclared, of_fmt, named, name_of, result_of, action_of};
+ghost use Rattle.rgo_typing_rules.specs.Builtins.{predeclared, of_fmt, named, builtin_name, result_of, action_of};
 ghost use Rattle.rgo_typing_rules.specs.Nodes as spec;
 ghost use Rattle.rgo_typing_rules.specs.Rules.{broken};
 ghost use Rattle.rgo_typing_rules.specs.Views.{shape_of, optional_kind_of};
@@ -62,7 +62,7 @@ impl Builtin {
 
     /// Its name, without the package's.
     pub fn name(self) -> &'static str
-        ensures { result.now ≡ name_of self }
+        ensures { result.now ≡ builtin_name self }
     {
         match self {
             Builtin::Len => "len",

@@ -4,7 +4,7 @@
 ghost use Rattle.std.specs.Prelude.{◌≡◌, map};
 ghost use Rattle.rgo_typing_rules.specs.Nodes as spec;
 ghost use Rattle.rgo_typing_rules.specs.Rules.{broken};
-ghost use Rattle.rgo_typing_rules.specs.Views.{shape_of, signature_of};
+ghost use Rattle.rgo_typing_rules.specs.Views.{shape_of, signature_of_kinds};
 
 use crate::meanings::Signature;
 use crate::roles::Role;
@@ -21,7 +21,7 @@ pub(crate) fn wants_value(role: Role) -> bool
 
 pub(crate) fn called(role: Role, signature: &Signature<'_>, args: &[Shape<'_>]) -> Option<Rule>
     ensures { result
-        ≡ broken (spec.Call role (signature_of signature.now) (map shape_of args.now)) }
+        ≡ broken (spec.Call role (signature_of_kinds signature.now) (map shape_of args.now)) }
 {
     if has_misfit(&signature.params, args) {
         Some(Rule::NotAssignable)
@@ -33,7 +33,7 @@ pub(crate) fn called(role: Role, signature: &Signature<'_>, args: &[Shape<'_>]) 
 }
 
 pub(crate) fn started(signature: &Signature<'_>, args: &[Shape<'_>]) -> Option<Rule>
-    ensures { result ≡ broken (spec.Go (signature_of signature.now) (map shape_of args.now)) }
+    ensures { result ≡ broken (spec.Go (signature_of_kinds signature.now) (map shape_of args.now)) }
 {
     if has_misfit(&signature.params, args) {
         Some(Rule::NotAssignable)

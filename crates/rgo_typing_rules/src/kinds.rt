@@ -4,10 +4,10 @@
 
 ghost use Rattle.std.specs.Prelude.{◌≡◌, ◌++◌, IfOk, OnOk};
 ghost use Rattle.rgo_ast.specs.Views.{type_expr_of};
-ghost use Rattle.rgo_typing_rules.specs.Types.{spelled, layers_of, element_of};
+ghost use Rattle.rgo_typing_rules.specs.Types.{spelled, layers_of, element_type_of};
 ghost use Rattle.rgo_typing_rules.specs.Types.{same_base, same_layers, same};
 ghost use Rattle.rgo_typing_rules.specs.Types.{is_int, is_bool, is_slice, is_chan, is_pointer_like};
-ghost use Rattle.rgo_typing_rules.specs.Views.{kind_of};
+ghost use Rattle.rgo_typing_rules.specs.Views.{type_of_kind};
 
 use rgo_ast::TypeExpr;
 use rgo_typed::{Base, Layer, Row, Type};
@@ -67,7 +67,7 @@ fn push_layers(layers: &mut Vec<Layer>, ty: &TypeExpr) -> Result<(), AllocError>
 impl<'a> Kind<'a> {
     /// The type that is spelled so, if the name in it means this base.
     pub fn of(ty: &'a TypeExpr, base: Base) -> Kind<'a>
-        ensures { kind_of result ≡ spelled (type_expr_of ty.now) base }
+        ensures { type_of_kind result ≡ spelled (type_expr_of ty.now) base }
     {
         match ty {
             TypeExpr::Named(_) | TypeExpr::Pointer(_, _) => Kind::Plain(base),
@@ -78,42 +78,42 @@ impl<'a> Kind<'a> {
 
     /// Whether it is `int`.
     pub fn is_int(self) -> bool
-        ensures { result ≡ is_int (kind_of self.entry) }
+        ensures { result ≡ is_int (type_of_kind self.entry) }
     {
         matches!(self, Kind::Plain(Base::Int))
     }
 
     /// Whether it is `bool`.
     pub fn is_bool(self) -> bool
-        ensures { result ≡ is_bool (kind_of self.entry) }
+        ensures { result ≡ is_bool (type_of_kind self.entry) }
     {
         matches!(self, Kind::Plain(Base::Bool))
     }
 
     /// Whether it is a slice.
     pub fn is_slice(self) -> bool
-        ensures { result ≡ is_slice (kind_of self.entry) }
+        ensures { result ≡ is_slice (type_of_kind self.entry) }
     {
         matches!(self, Kind::Slice(_, _))
     }
 
     /// Whether it is a channel.
     pub fn is_chan(self) -> bool
-        ensures { result ≡ is_chan (kind_of self.entry) }
+        ensures { result ≡ is_chan (type_of_kind self.entry) }
     {
         matches!(self, Kind::Chan(_, _))
     }
 
     /// Whether it is a pointer, a slice or a channel.
     pub fn is_pointer_like(self) -> bool
-        ensures { result ≡ is_pointer_like (kind_of self.entry) }
+        ensures { result ≡ is_pointer_like (type_of_kind self.entry) }
     {
         !matches!(self, Kind::Plain(Base::Int) | Kind::Plain(Base::Bool))
     }
 
     /// The type of a slice's or channel's elements. Of another type it is the type itself.
     pub fn element(self) -> Kind<'a>
-        ensures { kind_of result ≡ element_of (kind_of self.entry) }
+        ensures { type_of_kind result ≡ element_type_of (type_of_kind self.entry) }
     {
         match self {
             Kind::Plain(base) => Kind::Plain(base),
@@ -124,7 +124,7 @@ impl<'a> Kind<'a> {
     /// Whether two types are identical (The Go Programming Language Specification, "Type
     /// identity").
     pub fn is_same(self, other: Kind<'_>) -> bool
-        ensures { result ≡ same (kind_of self.entry) (kind_of other.entry) }
+        ensures { result ≡ same (type_of_kind self.entry) (type_of_kind other.entry) }
     {
         match (self, other) {
             (Kind::Plain(a), Kind::Plain(b)) => same_bases(a, b),
@@ -140,7 +140,7 @@ impl<'a> Kind<'a> {
     ///
     /// On allocation failure.
     pub fn to_type(self, alloc: Global) -> Result<Type, AllocError>
-        ensures { IfOk result (λ ty. ty ≡ kind_of self.entry) }
+        ensures { IfOk result (λ ty. ty ≡ type_of_kind self.entry) }
     {
         let mut layers = Vec::new(alloc);
         let base = match self {

@@ -1,7 +1,7 @@
 //! The 34 rules on meaning, with their numbers and names.
 
 ghost use Rattle.std.specs.Prelude.{◌≡◌, Some, None, if◌then◌else◌};
-ghost use Rattle.rgo_typing_rules.specs.RuleNames.{number_of, name_of};
+ghost use Rattle.rgo_typing_rules.specs.RuleNames.{typing_rule_number, typing_rule_name};
 
 /// A rule on the meaning of a program (The Go Programming Language Specification; each variant says
 /// what breaks the rule).
@@ -87,7 +87,7 @@ impl Rule {
 
     /// Its number, from 1 on.
     pub fn number(self) -> u8
-        ensures { result ≡ number_of self }
+        ensures { result ≡ typing_rule_number self }
     {
         match self {
             Rule::BadImport => 1,
@@ -129,7 +129,7 @@ impl Rule {
 
     /// Its name.
     pub fn name(self) -> &'static str
-        ensures { result.now ≡ name_of self }
+        ensures { result.now ≡ typing_rule_name self }
     {
         match self {
             Rule::BadImport => "BadImport",

@@ -4,7 +4,7 @@ ghost use Rattle.std.specs.Prelude.{◌≡◌};
 ghost use Rattle.rgo_typing_rules.specs.Shapes.{is_int_shape, is_bool_shape, is_slice_shape};
 ghost use Rattle.rgo_typing_rules.specs.Shapes.{is_chan_shape, is_nil_shape, is_pointer_shape};
 ghost use Rattle.rgo_typing_rules.specs.Shapes.{fits, are_comparable};
-ghost use Rattle.rgo_typing_rules.specs.Views.{kind_of, shape_of};
+ghost use Rattle.rgo_typing_rules.specs.Views.{type_of_kind, shape_of};
 
 use crate::kinds::Kind;
 
@@ -87,7 +87,7 @@ impl<'a> Shape<'a> {
     /// Whether it may be assigned to a variable of this type (The Go Programming Language
     /// Specification, "Assignability").
     pub fn fits(self, wanted: Kind<'_>) -> bool
-        ensures { result ≡ fits (kind_of wanted.entry) (shape_of self.entry) }
+        ensures { result ≡ fits (type_of_kind wanted.entry) (shape_of self.entry) }
     {
         match self {
             Shape::Nil => wanted.is_pointer_like(),

@@ -4,14 +4,14 @@ ghost use Rattle.std.specs.Prelude.{◌≡◌, map, is_none};
 ghost use Rattle.std.specs.List.{list_any};
 ghost use Rattle.rgo_typing_rules.specs.Shapes.{has_misfit, misfits, has_known_misfit, has_nil};
 ghost use Rattle.rgo_typing_rules.specs.Shapes.{has_pointer};
-ghost use Rattle.rgo_typing_rules.specs.Views.{shape_of, kind_of, optional_kind_of};
+ghost use Rattle.rgo_typing_rules.specs.Views.{shape_of, type_of_kind, optional_kind_of};
 
 use crate::kinds::Kind;
 use crate::shapes::Shape;
 
 /// Whether a value does not fit the wanted type at its place, up to the end of the shorter list.
 pub fn has_misfit(wanted: &[Kind<'_>], given: &[Shape<'_>]) -> bool
-    ensures { result ≡ has_misfit (map kind_of wanted.now) (map shape_of given.now) }
+    ensures { result ≡ has_misfit (map type_of_kind wanted.now) (map shape_of given.now) }
 {
     let mut i = 0;
     while i < wanted.len() && i < given.len() {

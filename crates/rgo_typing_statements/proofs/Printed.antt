@@ -6,8 +6,8 @@ use Rattle.rgo_ast.specs.Views.{expr_of}
 use Rattle.rgo_ast.specs.declared.expressions.Expr.{Expr as CodeExpr}
 use Rattle.rgo_typed.specs.Tree.{Term, Terms, no_terms, a_term}
 use Rattle.rgo_typed.specs.declared.statements.Piece.{Piece}
-use Rattle.rgo_typing_expressions.specs.Callees.{bare}
-use Rattle.rgo_typing_statements.specs.TypedStatements.{pieces_of, piece_of, printed_terms, is_text, kept_operand, unless_text}
+use Rattle.rgo_typing_expressions.specs.Callees.{without_parens}
+use Rattle.rgo_typing_statements.specs.TypedStatements.{printed_pieces, piece_of, printed_terms, is_text, kept_operand, unless_text}
 use Rattle.rgo_typing_expressions.proofs.Lists.{terms_before, one_more}
 use Rattle.rgo_typing_packages.proofs.Lists.{opened}
 
@@ -27,17 +27,17 @@ is_kept true o t more = ap (λ l. terms_before l more) (append-nil o)
 is_kept false o t more = one_more o t more
 
 module _ (all : List CodeExpr) (i : ℕ) (e : CodeExpr) (q : e ≡ get_or all i e) (h : i < length all) where
-  pub one_piece : (o : List Piece) (p : Piece) → p ≡ piece_of (bare (expr_of e))
-      → (o ++ p ∷ []) ++ pieces_of (exprs_of (map expr_of (drop (i + 1) all))) ≡ o ++ pieces_of (exprs_of (map expr_of (drop i all)))
+  pub one_piece : (o : List Piece) (p : Piece) → p ≡ piece_of (without_parens (expr_of e))
+      → (o ++ p ∷ []) ++ printed_pieces (exprs_of (map expr_of (drop (i + 1) all))) ≡ o ++ printed_pieces (exprs_of (map expr_of (drop i all)))
   one_piece o p is =
-      append_assoc o (p ∷ []) (pieces_of (exprs_of (map expr_of (drop (i + 1) all))))
-      ∙ ap (λ x. o ++ x ∷ pieces_of (exprs_of (map expr_of (drop (i + 1) all)))) is
-      ∙ ap (λ l. o ++ pieces_of (exprs_of (map expr_of l))) (sym (opened all i e q h))
+      append_assoc o (p ∷ []) (printed_pieces (exprs_of (map expr_of (drop (i + 1) all))))
+      ∙ ap (λ x. o ++ x ∷ printed_pieces (exprs_of (map expr_of (drop (i + 1) all)))) is
+      ∙ ap (λ l. o ++ printed_pieces (exprs_of (map expr_of l))) (sym (opened all i e q h))
 
   -- an operand that is kept unless it is a string
   pub one_operand : (o : List Term) (t : Term) (more : Terms)
-      → terms_before (o ++ kept_operand (is_text (bare (expr_of e))) t) (printed_terms (exprs_of (map expr_of (drop (i + 1) all))) more)
+      → terms_before (o ++ kept_operand (is_text (without_parens (expr_of e))) t) (printed_terms (exprs_of (map expr_of (drop (i + 1) all))) more)
       ≡ terms_before o (printed_terms (exprs_of (map expr_of (drop i all))) (a_term t more))
   one_operand o t more =
-      is_kept (is_text (bare (expr_of e))) o t (printed_terms (exprs_of (map expr_of (drop (i + 1) all))) more)
+      is_kept (is_text (without_parens (expr_of e))) o t (printed_terms (exprs_of (map expr_of (drop (i + 1) all))) more)
       ∙ ap (λ l. terms_before o (printed_terms (exprs_of (map expr_of l)) (a_term t more))) (sym (opened all i e q h))

@@ -8,18 +8,18 @@ use Rattle.rgo_typing_rules.specs.Sites.{first_refusal}
 use Rattle.rgo_typing_rules.specs.declared.errors.TypeError.{TypeError}
 use Rattle.rgo_typing_rules.proofs.Refusals.{refuses_first, none_first}
 use Rattle.rgo_typing_expressions.specs.Packages.{Context}
-use Rattle.rgo_typing_statements.specs.Outcomes.{Outcome, Passes}
+use Rattle.rgo_typing_statements.specs.Outcomes.{StmtsOutcome, Passes}
 
 -- `all` are checked from the context `start` on, and `left` are left at the context `now`; `at_start` are the typed trees
 -- at the start, and `before` those so far
-pub record Appending {Y : Type 0} (outcome : Context → List Y → Outcome) (start : Context) (all : List Y) (at_start : List Stmt) (now : Context) (left : List Y) (before : List Stmt) : Type 0 where
+pub record Appending {Y : Type 0} (outcome : Context → List Y → StmtsOutcome) (start : Context) (all : List Y) (at_start : List Stmt) (now : Context) (left : List Y) (before : List Stmt) : Type 0 where
   pub refusal : first_refusal (outcome now left).sites ≡ first_refusal (outcome start all).sites
   pub context : (outcome now left).after ≡ (outcome start all).after
   pub typed : before ++ (outcome now left).typed ≡ at_start ++ (outcome start all).typed
 
-module _ {Y : Type 0} {outcome : Context → List Y → Outcome} {start : Context} {all : List Y} {at_start : List Stmt} {now : Context} {left : List Y} {before : List Stmt}
+module _ {Y : Type 0} {outcome : Context → List Y → StmtsOutcome} {start : Context} {all : List Y} {at_start : List Stmt} {now : Context} {left : List Y} {before : List Stmt}
     (loop : Appending outcome start all at_start now left before) (y : Y) (rest : List Y) (here : left ≡ y ∷ rest)
-    (first others : Outcome) (both : (outcome now (y ∷ rest)).sites ≡ first.sites ++ others.sites) where
+    (first others : StmtsOutcome) (both : (outcome now (y ∷ rest)).sites ≡ first.sites ++ others.sites) where
   pub refused_stmt : (e : TypeError) → Refuses e (first_refusal first.sites)
       → Refuses e (first_refusal (outcome start all).sites)
   refused_stmt e refuses =

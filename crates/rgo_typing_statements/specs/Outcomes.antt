@@ -15,7 +15,7 @@ use Rattle.rgo_typing_expressions.specs.Packages.{Context}
 use Rattle.rgo_typing_expressions.specs.Scopes.{in_scope}
 use Rattle.rgo_typing_packages.specs.Names.{name_sites, with_names}
 use Rattle.rgo_typing_statements.specs.Statements.{define_sites, after_define, var_sites, after_var, local_vars_sites, after_vars}
-use Rattle.rgo_typing_statements.specs.Statements.{Enclosing, stmt_sites, after}
+use Rattle.rgo_typing_statements.specs.Statements.{Enclosing, stmt_sites, context_after}
 use Rattle.rgo_typing_statements.specs.TypedStatements.{define_stmt, zeros, var_stmts, vars_stmts, typed_stmt}
 
 -- a check of these nodes that returns this statement
@@ -24,27 +24,27 @@ ChecksStmt (Ok s) sites stmt = (first_refusal sites ≡ None) × (stmt_of s ≡ 
 ChecksStmt (Err e) sites stmt = Refuses e (first_refusal sites)
 
 -- what a check of statements is about: their nodes, the context after them, and their typed trees
-pub record Outcome : Type 0 where
+pub record StmtsOutcome : Type 0 where
   pub sites : List Site
   pub after : Context
   pub typed : List Stmt
 
-abbrev pub stmt_outcome : Enclosing → Context → tree.Stmt → Outcome
-stmt_outcome f c s = record { sites = stmt_sites f c s; after = after c s; typed = typed_stmt f c s }
+abbrev pub stmt_outcome : Enclosing → Context → tree.Stmt → StmtsOutcome
+stmt_outcome f c s = record { sites = stmt_sites f c s; after = context_after c s; typed = typed_stmt f c s }
 
 -- a statement that contains no other
-abbrev pub is_simple : tree.Stmt → Bool
-is_simple (tree.Block all at) = false
-is_simple (tree.If init test body other at) = false
-is_simple (tree.For init test post body at) = false
-is_simple _ = true
+abbrev pub is_simple_stmt : tree.Stmt → Bool
+is_simple_stmt (tree.Block all at) = false
+is_simple_stmt (tree.If init test body other at) = false
+is_simple_stmt (tree.For init test post body at) = false
+is_simple_stmt _ = true
 
 -- of a statement that changes no scope
-abbrev pub simple_outcome : Context → List Site → Stmt → Outcome
+abbrev pub simple_outcome : Context → List Site → Stmt → StmtsOutcome
 simple_outcome c sites s = record { sites = sites; after = c; typed = s ∷ [] }
 
 -- of a variable that is declared with a value
-abbrev pub define_outcome : Context → Ident → Option «Type» → Expr → ℕ → Outcome
+abbrev pub define_outcome : Context → Ident → Option «Type» → Expr → ℕ → StmtsOutcome
 define_outcome c x wanted e at = record {
   sites = define_sites c x wanted e at;
   after = after_define c x wanted e;
@@ -52,26 +52,26 @@ define_outcome c x wanted e at = record {
 }
 
 -- of variables that begin with zeros
-abbrev pub zeros_outcome : Context → «Type» → List Ident → Outcome
+abbrev pub zeros_outcome : Context → «Type» → List Ident → StmtsOutcome
 zeros_outcome c ty names = record {
   sites = name_sites ty c.scope names;
   after = in_scope (with_names ty c.scope names) c;
   typed = zeros (length c.scope.types) ty names;
 }
 
-abbrev pub var_outcome : Context → LocalVar → Outcome
+abbrev pub var_outcome : Context → LocalVar → StmtsOutcome
 var_outcome c v = record { sites = var_sites c v; after = after_var c v; typed = var_stmts c v }
 
-abbrev pub vars_outcome : Context → List LocalVar → Outcome
+abbrev pub vars_outcome : Context → List LocalVar → StmtsOutcome
 vars_outcome c l = record { sites = local_vars_sites c l; after = after_vars c l; typed = vars_stmts c l }
 
 -- where no node breaks a rule: the context after the statements, and their typed trees after those before
-pub record Passes (o : Outcome) (c : Context) (before all : List Stmt) : Type 0 where
+pub record Passes (o : StmtsOutcome) (c : Context) (before all : List Stmt) : Type 0 where
   pub unbroken : first_refusal o.sites ≡ None
   pub context : c ≡ o.after
   pub typed : all ≡ before ++ o.typed
 
 -- a check that appends typed trees to a list
-abbrev pub Appends : {X : Type 0} → Result X TypeError → Outcome → Context → List CodeStmt → List CodeStmt → Type 0
+abbrev pub Appends : {X : Type 0} → Result X TypeError → StmtsOutcome → Context → List CodeStmt → List CodeStmt → Type 0
 Appends (Ok x) o c before all = Passes o c (map stmt_of before) (map stmt_of all)
 Appends (Err e) o c before all = Refuses e (first_refusal o.sites)

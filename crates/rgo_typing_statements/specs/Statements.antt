@@ -18,7 +18,7 @@ use Rattle.rgo_typing_rules.specs.Shapes.{Shape}
 use Rattle.rgo_typing_rules.specs.Sites.{Site}
 use Rattle.rgo_typing_rules.specs.declared.roles.Role.{Role}
 use Rattle.rgo_typing_rules.specs.declared.roles.Role.TheVariants as role
-use Rattle.rgo_typing_expressions.specs.Callees.{named_callee, bare, may_stand, is_place}
+use Rattle.rgo_typing_expressions.specs.Callees.{named_callee, without_parens, may_stand, is_place}
 use Rattle.rgo_typing_expressions.specs.Checking.{type_expr_sites, nodes, all_nodes}
 use Rattle.rgo_typing_expressions.specs.Packages.{Package, Context}
 use Rattle.rgo_typing_expressions.specs.Scopes.{with_local, inside, outside, in_scope, resolved, signature_at, meaning_of}
@@ -67,30 +67,30 @@ after_vars c [] = c
 after_vars c (v ∷ l) = after_vars (after_var c v) l
 
 abbrev mutual
-  pub after : Context → Stmt → Context
-  after c (tree.Block all at) = out_of_block (after_all (in_block c) all)
-  after c (tree.Plain e) = c
-  after c (tree.Send a b at) = c
-  after c (tree.Step op e at) = c
-  after c (tree.Assign op a b at) = c
-  after c (tree.Define x e at) = after_define c x None e
-  after c (tree.If init test body other at) =
+  pub context_after : Context → Stmt → Context
+  context_after c (tree.Block all at) = out_of_block (after_all (in_block c) all)
+  context_after c (tree.Plain e) = c
+  context_after c (tree.Send a b at) = c
+  context_after c (tree.Step op e at) = c
+  context_after c (tree.Assign op a b at) = c
+  context_after c (tree.Define x e at) = after_define c x None e
+  context_after c (tree.If init test body other at) =
       out_of_block (after_clause (out_of_block (after_all (in_block (after_clause (in_block c) init)) body)) other)
-  after c (tree.For init test post body at) =
+  context_after c (tree.For init test post body at) =
       out_of_block (out_of_block (after_all (in_block (after_clause (after_clause (in_block c) init) post)) body))
-  after c (tree.Go x args at) = c
-  after c (tree.Var vars at) = after_vars c vars
-  after c (tree.Return value at) = c
-  after c (tree.Break at) = c
-  after c (tree.Continue at) = c
+  context_after c (tree.Go x args at) = c
+  context_after c (tree.Var vars at) = after_vars c vars
+  context_after c (tree.Return value at) = c
+  context_after c (tree.Break at) = c
+  context_after c (tree.Continue at) = c
 
   pub after_all : Context → Stmts → Context
   after_all c tree.no_stmts = c
-  after_all c (tree.a_stmt s l) = after_all (after c s) l
+  after_all c (tree.a_stmt s l) = after_all (context_after c s) l
 
   pub after_clause : Context → Clause → Context
   after_clause c tree.no_clause = c
-  after_clause c (tree.a_clause s) = after c s
+  after_clause c (tree.a_clause s) = context_after c s
 
 abbrev pub after_block : Context → Stmts → Context
 after_block c all = out_of_block (after_all (in_block c) all)
@@ -103,7 +103,7 @@ header c init = after_clause (in_block c) init
 
 -- an expression statement
 abbrev pub plain_sites : Context → Expr → List Site
-plain_sites c e = nodes c role.Alone (bare e) ++ (place_of (bare e), node.Alone (may_stand c e)) ∷ []
+plain_sites c e = nodes c role.Alone (without_parens e) ++ (place_of (without_parens e), node.Alone (may_stand c e)) ∷ []
 
 abbrev pub send_sites : Context → Expr → Expr → ℕ → List Site
 send_sites c a b at = nodes c role.Value a ++ (nodes c role.Value b ++ (at, node.Send (type_of c a) (type_of c b)) ∷ [])
@@ -214,7 +214,7 @@ abbrev mutual
 
   pub all_sites : Enclosing → Context → Stmts → List Site
   all_sites f c tree.no_stmts = []
-  all_sites f c (tree.a_stmt s l) = stmt_sites f c s ++ all_sites f (after c s) l
+  all_sites f c (tree.a_stmt s l) = stmt_sites f c s ++ all_sites f (context_after c s) l
 
   pub clause_sites : Enclosing → Context → Clause → List Site
   clause_sites f c tree.no_clause = []

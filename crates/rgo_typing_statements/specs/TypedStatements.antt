@@ -15,14 +15,14 @@ use Rattle.rgo_typed.specs.Tree.{Term, Terms, Stmt, stmts_of, no_terms, a_term}
 use Rattle.rgo_typing_rules.specs.Builtins.{result_of, action_of}
 use Rattle.rgo_typing_rules.specs.Shapes as shape
 use Rattle.rgo_typing_rules.specs.Shapes.{Shape}
-use Rattle.rgo_typing_expressions.specs.Callees.{callee_of, named_callee, bare}
+use Rattle.rgo_typing_expressions.specs.Callees.{callee_of, named_callee, without_parens}
 use Rattle.rgo_typing_expressions.specs.Packages.{Package, Context}
 use Rattle.rgo_typing_expressions.specs.Scopes.{int, resolved, meaning_of}
-use Rattle.rgo_typing_expressions.specs.Terms.{term_of, all_terms, wanted_of, constant, with_type, type_in, element_type, two, call_term}
+use Rattle.rgo_typing_expressions.specs.Terms.{typed_term, all_terms, wanted_of, int_constant, with_type, type_in, element_type, pair_of_terms, call_term}
 use Rattle.rgo_typing_expressions.specs.Types.{type_of, call_shape}
 use Rattle.rgo_typing_expressions.specs.declared.callees.Callee.{Callee}
 use Rattle.rgo_typing_expressions.specs.declared.callees.Callee.TheVariants as callee
-use Rattle.rgo_typing_statements.specs.Statements.{Enclosing, within_loop, in_block, type_or, after_var, after, after_block, header, after_clause}
+use Rattle.rgo_typing_statements.specs.Statements.{Enclosing, within_loop, in_block, type_or, after_var, context_after, after_block, header, after_clause}
 use Rattle.rgo_typing_statements.specs.Statements.{assign_op, step_op}
 
 -- ---- prints and calls
@@ -36,9 +36,9 @@ piece_of (tree.Text bytes at) = piece.Text bytes
 piece_of _ = piece.Value
 
 -- what a print writes: each string as its bytes
-abbrev pub pieces_of : Exprs → List Piece
-pieces_of tree.no_exprs = []
-pieces_of (tree.an_expr e l) = piece_of (bare e) ∷ pieces_of l
+abbrev pub printed_pieces : Exprs → List Piece
+printed_pieces tree.no_exprs = []
+printed_pieces (tree.an_expr e l) = piece_of (without_parens e) ∷ printed_pieces l
 
 abbrev pub unless_text : Bool → Term → Terms → Terms
 unless_text true t l = l
@@ -53,7 +53,7 @@ kept_operand false t = t ∷ []
 abbrev pub printed_terms : Exprs → Terms → Terms
 printed_terms tree.no_exprs ts = no_terms
 printed_terms (tree.an_expr e l) no_terms = no_terms
-printed_terms (tree.an_expr e l) (a_term t ts) = unless_text (is_text (bare e)) t (printed_terms l ts)
+printed_terms (tree.an_expr e l) (a_term t ts) = unless_text (is_text (without_parens e)) t (printed_terms l ts)
 
 -- a call of a function, which may have no result
 abbrev pub called_stmt : Shape → Term → Stmt
@@ -63,7 +63,7 @@ called_stmt _ t = typed.Discard t
 
 -- a call of a builtin as a statement: a print where it has no action
 abbrev pub builtin_stmt : Option Action → Option «Type» → Exprs → Terms → ℕ → Stmt
-builtin_stmt None result args ts at = typed.Print (pieces_of args) (printed_terms args ts) at
+builtin_stmt None result args ts at = typed.Print (printed_pieces args) (printed_terms args ts) at
 builtin_stmt (Some a) None args ts at = typed.Perform a ts at
 builtin_stmt (Some a) (Some ty) args ts at = typed.Discard (typed.Apply a ts ty at)
 
@@ -75,11 +75,11 @@ call_stmt p c args ts at = called_stmt (call_shape p c) (call_term p c ts at)
 abbrev pub bare_plain : Context → Expr → Stmt
 bare_plain c (tree.Called f args at) =
     call_stmt c.globals (callee_of c f) args (all_terms c (wanted_of c.globals (callee_of c f)) args) at
-bare_plain c e = typed.Discard (term_of c e)
+bare_plain c e = typed.Discard (typed_term c e)
 
 -- an expression statement
 abbrev pub plain_stmt : Context → Expr → Stmt
-plain_stmt c e = bare_plain c (bare e)
+plain_stmt c e = bare_plain c (without_parens e)
 
 abbrev pub go_stmt : Callee → Terms → ℕ → Stmt
 go_stmt (callee.Routine n) ts at = typed.Go n ts at
@@ -91,11 +91,11 @@ started c f args at = go_stmt f (all_terms c (wanted_of c.globals f) args) at
 -- ---- sends and assignments
 
 abbrev pub send_stmt : Context → Expr → Expr → ℕ → Stmt
-send_stmt c a b at = typed.Perform action.Send (two (term_of c a) (with_type (element_type (type_of c a)) (term_of c b))) at
+send_stmt c a b at = typed.Perform action.Send (pair_of_terms (typed_term c a) (with_type (element_type (type_of c a)) (typed_term c b))) at
 
-abbrev pub ended : Terms → Term → Terms
-ended no_terms t = a_term t no_terms
-ended (a_term u l) t = a_term u (ended l t)
+abbrev pub with_last : Terms → Term → Terms
+with_last no_terms t = a_term t no_terms
+with_last (a_term u l) t = a_term u (with_last l t)
 
 -- the write that belongs to a read
 abbrev pub write_of : Action → Option Action
@@ -106,13 +106,13 @@ write_of _ = None
 
 abbrev pub stored_by : Option Action → Terms → Term → ℕ → Stmt
 stored_by None parts value at = typed.Discard value
-stored_by (Some write) parts value at = typed.Perform write (ended parts value) at
+stored_by (Some write) parts value at = typed.Perform write (with_last parts value) at
 
 -- a value is assigned to the left side
-abbrev pub stored : Term → Term → ℕ → Stmt
-stored (typed.Local n) value at = typed.Assign n value at
-stored (typed.Apply read parts ty read_at) value at = stored_by (write_of read) parts value at
-stored _ value at = typed.Discard value
+abbrev pub store_stmt : Term → Term → ℕ → Stmt
+store_stmt (typed.Local n) value at = typed.Assign n value at
+store_stmt (typed.Apply read parts ty read_at) value at = stored_by (write_of read) parts value at
+store_stmt _ value at = typed.Discard value
 
 abbrev pub changed_by : Option Action → Action → Terms → «Type» → ℕ → BinaryOp → Term → ℕ → Stmt
 changed_by None read parts ty read_at op value at = typed.Discard value
@@ -130,20 +130,20 @@ changed_by (Some write) read parts ty read_at op value at = typed.Update (record
 -- the left side is read, computed with and written
 abbrev pub changed : BinaryOp → Term → Term → ℕ → Stmt
 changed op (typed.Local n) value at =
-    typed.Assign n (typed.Apply (action.Binary op) (two (typed.Local n) value) int at) at
+    typed.Assign n (typed.Apply (action.Binary op) (pair_of_terms (typed.Local n) value) int at) at
 changed op (typed.Apply read parts ty read_at) value at = changed_by (write_of read) read parts ty read_at op value at
 changed op _ value at = typed.Discard value
 
 -- an assignment to a left side of this shape and term
-abbrev pub assigned : Option BinaryOp → Shape → Term → Term → ℕ → Stmt
-assigned None s left value at = stored left (with_type (type_in s) value) at
-assigned (Some op) s left value at = changed op left value at
+abbrev pub assigned_stmt : Option BinaryOp → Shape → Term → Term → ℕ → Stmt
+assigned_stmt None s left value at = store_stmt left (with_type (type_in s) value) at
+assigned_stmt (Some op) s left value at = changed op left value at
 
 abbrev pub assign_stmt : Context → Option BinaryOp → Expr → Expr → ℕ → Stmt
-assign_stmt c op a b at = assigned op (type_of c a) (term_of c a) (term_of c b) at
+assign_stmt c op a b at = assigned_stmt op (type_of c a) (typed_term c a) (typed_term c b) at
 
 abbrev pub step_stmt : Context → BinaryOp → Expr → ℕ → Stmt
-step_stmt c op e at = changed op (term_of c e) (constant (pos 1) at) at
+step_stmt c op e at = changed op (typed_term c e) (int_constant (pos 1) at) at
 
 -- ---- local variables
 
@@ -151,7 +151,7 @@ step_stmt c op e at = changed op (term_of c e) (constant (pos 1) at) at
 abbrev pub define_stmt : Context → Option «Type» → Expr → ℕ → Stmt
 define_stmt c wanted e at =
     typed.Declare (length c.scope.types) (type_or wanted (type_of c e))
-    (with_type (type_or wanted (type_of c e)) (term_of c e)) at
+    (with_type (type_or wanted (type_of c e)) (typed_term c e)) at
 
 -- variables begin with the zero of their type, at their names
 abbrev pub zeros : ℕ → «Type» → List Ident → List Stmt
@@ -175,11 +175,11 @@ with_result (Some ty) t = with_type ty t
 
 abbrev pub returned : Option «Type» → Context → Option Expr → Option Term
 returned result_type c None = None
-returned result_type c (Some e) = Some (with_result result_type (term_of c e))
+returned result_type c (Some e) = Some (with_result result_type (typed_term c e))
 
 abbrev pub optional_term : Context → Option Expr → Option Term
 optional_term c None = None
-optional_term c (Some e) = Some (term_of c e)
+optional_term c (Some e) = Some (typed_term c e)
 
 abbrev pub has_clause : Clause → Bool
 has_clause tree.no_clause = false
@@ -191,9 +191,9 @@ headed false init s = s ∷ []
 headed true init s = typed.Block (stmts_of (init ++ s ∷ [])) ∷ []
 
 -- an `if` with or without an `else`
-abbrev pub branches : Bool → Term → List Stmt → List Stmt → ℕ → Stmt
-branches false test body other at = typed.If test (stmts_of body) at
-branches true test body other at = typed.IfElse test (stmts_of body) (stmts_of other) at
+abbrev pub if_or_else : Bool → Term → List Stmt → List Stmt → ℕ → Stmt
+if_or_else false test body other at = typed.If test (stmts_of body) at
+if_or_else true test body other at = typed.IfElse test (stmts_of body) (stmts_of other) at
 
 abbrev mutual
   pub typed_stmt : Enclosing → Context → tree.Stmt → List Stmt
@@ -205,7 +205,7 @@ abbrev mutual
   typed_stmt f c (tree.Define x e at) = define_stmt c None e at ∷ []
   typed_stmt f c (tree.If init test body other at) =
       headed (has_clause init) (typed_clause f (in_block c) init)
-      (branches (has_clause other) (term_of (header c init) test) (typed_all f (in_block (header c init)) body)
+      (if_or_else (has_clause other) (typed_term (header c init) test) (typed_all f (in_block (header c init)) body)
       (typed_clause f (after_block (header c init) body) other) at)
   typed_stmt f c (tree.For init test post body at) =
       headed (has_clause init) (typed_clause f (in_block c) init)
@@ -220,7 +220,7 @@ abbrev mutual
 
   pub typed_all : Enclosing → Context → tree.Stmts → List Stmt
   typed_all f c tree.no_stmts = []
-  typed_all f c (tree.a_stmt s l) = typed_stmt f c s ++ typed_all f (after c s) l
+  typed_all f c (tree.a_stmt s l) = typed_stmt f c s ++ typed_all f (context_after c s) l
 
   pub typed_clause : Enclosing → Context → Clause → List Stmt
   typed_clause f c tree.no_clause = []

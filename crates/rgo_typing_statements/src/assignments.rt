@@ -71,7 +71,7 @@ fn write_of(read: Action) -> Option<Action>
 /// The operands with one more at their end.
 fn ended(operands: Vec<Term>, value: Term) -> Result<Vec<Term>, AllocError>
     ensures { IfOk result (λ all. terms_of (map term_of all.items)
-        ≡ spec.ended (terms_of (map term_of operands.items)) (term_of value)) }
+        ≡ spec.with_last (terms_of (map term_of operands.items)) (term_of value)) }
 {
     let mut all = operands;
     all.push(value)?;
@@ -81,7 +81,7 @@ fn ended(operands: Vec<Term>, value: Term) -> Result<Vec<Term>, AllocError>
 /// A value is assigned to the left side.
 #[tactic(auto, using(rgo_typing_expressions::proofs::Trees::terms))]
 fn stored(alloc: Global, left: Term, value: Term, at: Place) -> Result<Stmt, AllocError>
-    ensures { IfOk result (λ s. stmt_of s ≡ spec.stored (term_of left) (term_of value) at) }
+    ensures { IfOk result (λ s. stmt_of s ≡ spec.store_stmt (term_of left) (term_of value) at) }
 {
     match left {
         Term::Local(number) => Ok(Stmt::Assign(number, Box::new(alloc, value)?, at)),
@@ -130,7 +130,7 @@ pub(crate) fn changed(
 
 /// A value is assigned to a checked left side, as a value of its type.
 fn stored_as(alloc: Global, left: Checked<'_>, value: Term, at: Place) -> Result<Stmt, AllocError>
-    ensures { IfOk result (λ s. stmt_of s ≡ spec.stored (term_of left.entry.term)
+    ensures { IfOk result (λ s. stmt_of s ≡ spec.store_stmt (term_of left.entry.term)
         (terms.with_type (terms.type_in (shape_of left.entry.shape)) (term_of value)) at) }
 {
     let value = with_type(alloc, kind_in(left.shape), value)?;
@@ -146,7 +146,7 @@ pub(crate) fn assigned(
     at: Place,
 ) -> Result<Stmt, AllocError>
     ensures { IfOk result (λ s. stmt_of s
-        ≡ spec.assigned op (shape_of left.entry.shape) (term_of left.entry.term) (term_of value.entry.term) at) }
+        ≡ spec.assigned_stmt op (shape_of left.entry.shape) (term_of left.entry.term) (term_of value.entry.term) at) }
 {
     match op {
         None => stored_as(alloc, left, value.term, at),

@@ -14,7 +14,7 @@ ghost use Rattle.rgo_typing_rules.specs.declared.roles.Role.TheVariants.{Alone};
 ghost use Rattle.rgo_typing_expressions.specs.Callees.{named_callee};
 ghost use Rattle.rgo_typing_expressions.specs.Checking.{nodes, call_place, call_node};
 ghost use Rattle.rgo_typing_expressions.specs.Scopes.{meaning_of, signature_at};
-ghost use Rattle.rgo_typing_expressions.specs.Terms.{term_of as term_in};
+ghost use Rattle.rgo_typing_expressions.specs.Terms.{typed_term as term_in};
 ghost use Rattle.rgo_typing_statements.specs.Outcomes.{Appends, ChecksStmt, simple_outcome};
 ghost use Rattle.rgo_typing_statements.specs.Statements as spec;
 ghost use Rattle.rgo_typing_statements.specs.TypedStatements as typed;

@@ -7,7 +7,7 @@ ghost use Rattle.rgo_ast.specs.Views.{binding_of, local_var_of, expr_of};
 ghost use Rattle.rgo_typed.specs.Tree as tree;
 ghost use Rattle.rgo_typed.specs.Views.{stmt_of, term_of};
 ghost use Rattle.rgo_typing_rules.specs.Checks.{Checks};
-ghost use Rattle.rgo_typing_rules.specs.Views.{kind_of, optional_kind_of, shape_of};
+ghost use Rattle.rgo_typing_rules.specs.Views.{type_of_kind, optional_kind_of, shape_of};
 ghost use Rattle.rgo_typing_expressions.specs.Terms as terms;
 ghost use Rattle.rgo_typing_expressions.specs.Terms.{type_in};
 ghost use Rattle.rgo_typing_packages.specs.Names.{name_site};
@@ -30,7 +30,7 @@ fn declare_local<'a>(
     x: &'a Ident,
 ) -> Result<(), TypeError>
     ensures { ChecksInto result (name_site checker.old.scope x.now ∷ [])
-        checker.new (spec.with_local_variable x.now (kind_of kind.entry) checker.old) }
+        checker.new (spec.with_local_variable x.now (type_of_kind kind.entry) checker.old) }
 {
     check_name(checker.scope(), x)?;
     checker.declare(x.name.bytes(), kind)?;
@@ -45,7 +45,7 @@ fn declare_zeros<'a>(
     kind: Kind<'a>,
     names: &'a [Ident],
 ) -> Result<(), TypeError>
-    ensures { Appends result (zeros_outcome checker.old (kind_of kind.entry) names.now)
+    ensures { Appends result (zeros_outcome checker.old (type_of_kind kind.entry) names.now)
         checker.new out.old.items out.new.items }
 {
     for x in names {
@@ -74,7 +74,7 @@ fn declare_zero<'a>(
 
 /// The type that a value of this shape has in a variable.
 pub(crate) fn kind_in(shape: Shape<'_>) -> Kind<'_>
-    ensures { kind_of result ≡ type_in (shape_of shape.entry) }
+    ensures { type_of_kind result ≡ type_in (shape_of shape.entry) }
 {
     match shape {
         Shape::Value(kind) => kind,
@@ -84,7 +84,7 @@ pub(crate) fn kind_in(shape: Shape<'_>) -> Kind<'_>
 
 /// The type of a variable that is declared with this type, if any, and a value of this shape.
 fn kind_or<'a>(wanted: Option<Kind<'a>>, shape: Shape<'a>) -> Kind<'a>
-    ensures { kind_of result ≡ spec.type_or (optional_kind_of wanted.entry) (shape_of shape.entry) }
+    ensures { type_of_kind result ≡ spec.type_or (optional_kind_of wanted.entry) (shape_of shape.entry) }
 {
     match wanted {
         Some(kind) => kind,
@@ -114,7 +114,7 @@ fn declare_defined<'a>(
     ensures checked { ChecksInto result (name_site checker.old.scope x.now
         ∷ (at, spec.define_node (optional_kind_of wanted.entry) (shape_of shape.entry)) ∷ [])
         checker.new (spec.with_local_variable x.now (spec.type_or (optional_kind_of wanted.entry) (shape_of shape.entry)) checker.old) }
-    ensures kind { IfOk result (λ k. kind_of k ≡ spec.type_or (optional_kind_of wanted.entry) (shape_of shape.entry)) }
+    ensures kind { IfOk result (λ k. type_of_kind k ≡ spec.type_or (optional_kind_of wanted.entry) (shape_of shape.entry)) }
 {
     let kind = kind_or(wanted, shape);
     declare_local(checker, kind, x)?;
@@ -131,7 +131,7 @@ fn declared(
     at: Place,
 ) -> Result<Stmt, AllocError>
     ensures { IfOk result (λ s. stmt_of s
-        ≡ tree.Declare number (kind_of kind.entry) (terms.with_type (kind_of kind.entry) (term_of value.entry.term)) at) }
+        ≡ tree.Declare number (type_of_kind kind.entry) (terms.with_type (type_of_kind kind.entry) (term_of value.entry.term)) at) }
 {
     let value = Box::new(alloc, with_type(alloc, kind, value.term)?)?;
     Ok(Stmt::Declare(number, kind.to_type(alloc)?, value, at))

@@ -36,7 +36,7 @@ fn is_text(e: &Expr) -> bool
 
 /// What a print writes: each string as its bytes, and between them the values.
 fn pieces(alloc: Global, args: &[Expr]) -> Result<Row<Piece>, AllocError>
-    ensures { IfOk result (λ row. row ≡ spec.pieces_of (ast.exprs_of (map expr_of args.now))) }
+    ensures { IfOk result (λ row. row ≡ spec.printed_pieces (ast.exprs_of (map expr_of args.now))) }
 {
     let mut pieces = Vec::new(alloc);
     for arg in args {
@@ -79,7 +79,7 @@ pub(crate) fn print(
     terms: Vec<Term>,
     at: Place,
 ) -> Result<Stmt, AllocError>
-    ensures { IfOk result (λ s. stmt_of s ≡ tree.Print (spec.pieces_of (ast.exprs_of (map expr_of args.now)))
+    ensures { IfOk result (λ s. stmt_of s ≡ tree.Print (spec.printed_pieces (ast.exprs_of (map expr_of args.now)))
         (spec.printed_terms (ast.exprs_of (map expr_of args.now)) (tree.terms_of (map term_of terms.items))) at) }
 {
     let pieces = pieces(alloc, args)?;

@@ -10,7 +10,7 @@ ghost use Rattle.rgo_typing_rules.specs.Checks.{Checks};
 ghost use Rattle.rgo_typing_rules.specs.Nodes.{Branch};
 ghost use Rattle.rgo_typing_rules.specs.Views.{shape_of, optional_kind_of};
 ghost use Rattle.rgo_typing_expressions.specs.Terms as terms;
-ghost use Rattle.rgo_typing_expressions.specs.Terms.{two, with_type, element_type};
+ghost use Rattle.rgo_typing_expressions.specs.Terms.{pair_of_terms, with_type, element_type};
 ghost use Rattle.rgo_typing_statements.specs.Outcomes.{Appends, simple_outcome};
 ghost use Rattle.rgo_typing_statements.specs.Statements as spec;
 ghost use Rattle.rgo_typing_statements.specs.TypedStatements as typed;
@@ -31,7 +31,7 @@ fn sent(
     value: Checked<'_>,
     at: Place,
 ) -> Result<Stmt, AllocError>
-    ensures { IfOk result (λ s. stmt_of s ≡ tree.Perform SendAction (two (term_of channel.entry.term)
+    ensures { IfOk result (λ s. stmt_of s ≡ tree.Perform SendAction (pair_of_terms (term_of channel.entry.term)
         (with_type (element_type (shape_of channel.entry.shape)) (term_of value.entry.term))) at) }
 {
     let element = kind_in(channel.shape).element();
@@ -116,7 +116,7 @@ pub(crate) fn assign<'a>(
 /// One is added to the checked left side, or subtracted.
 fn stepped(alloc: Global, op: BinaryOp, left: Checked<'_>, at: Place) -> Result<Stmt, AllocError>
     ensures { IfOk result (λ s. stmt_of s
-        ≡ typed.changed op (term_of left.entry.term) (terms.constant (pos 1) at) at) }
+        ≡ typed.changed op (term_of left.entry.term) (terms.int_constant (pos 1) at) at) }
 {
     let one = constant(alloc, 1, at);
     changed(alloc, op, left.term, one, at)

@@ -3,7 +3,7 @@
 
 ghost use Rattle.std.specs.Prelude.{◌≡◌, true};
 ghost use Rattle.rgo_ast.specs.Views.{stmt_of};
-ghost use Rattle.rgo_typing_statements.specs.Outcomes.{Appends, is_simple, stmt_outcome};
+ghost use Rattle.rgo_typing_statements.specs.Outcomes.{Appends, is_simple_stmt, stmt_outcome};
 ghost use Rattle.rgo_typing_statements.specs.Statements.{within_loop};
 ghost use Rattle.rgo_typing_statements.specs.Views.{enclosing_of};
 
@@ -47,7 +47,7 @@ pub fn check_simple<'a>(
     out: &mut Vec<Stmt>,
     s: &'a Source,
 ) -> Result<(), TypeError>
-    requires simple { is_simple (stmt_of s.now) ≡ true }
+    requires simple { is_simple_stmt (stmt_of s.now) ≡ true }
     ensures { Appends result (stmt_outcome (enclosing_of around.entry) checker.old (stmt_of s.now))
         checker.new out.old.items out.new.items }
 {

@@ -10,7 +10,7 @@ use Rattle.rgo_wellformed.specs.TypeRules.{int, bool, slice_of, pointer_to, is_s
 use Rattle.rgo_typed.specs.Tree.{Function}
 use Rattle.std.specs.List.{IsDistinct}
 use Rattle.rgo_wellformed.proofs.Types.{some_is}
-use Rattle.rgo_wellformed.specs.Examples.{WellFormedExamples, IllFormedExamples, ProgramExamples, declared}
+use Rattle.rgo_wellformed.specs.Examples.{WellFormedExamples, IllFormedExamples, ProgramExamples, declared_for_examples}
 
 pub well : WellFormedExamples
 well = record {
@@ -159,12 +159,12 @@ ill = record {
   no_field = λ h.
       let at : 0 ≡ h.1.4.0 = ap (λ t. target_in t.base) (ap type_in h.1.3.3.1 ∙ ap first (sym h.1.3.2 ∙ h.1.4.1)) in
       let fields : int ∷ pointer_to 0 ∷ [] ≡ h.1.4.2.0 =
-      ap fields_in (subst (λ n. slice_get declared.structs n ≡ Some h.1.4.2.0) (sym at) h.1.4.2.1) in
+      ap fields_in (subst (λ n. slice_get declared_for_examples.structs n ≡ Some h.1.4.2.0) (sym at) h.1.4.2.1) in
       true≢false (sym (ap is_some (subst (λ l. slice_get l 2 ≡ Some int) (sym fields) h.1.4.2.2)));
   int_stored = λ h.
       let at : 0 ≡ h.2.0 = ap (λ t. target_in t.base) (ap type_in h.1.3.1 ∙ ap first (sym h.1.2 ∙ h.2.2)) in
       let fields : int ∷ pointer_to 0 ∷ [] ≡ h.2.3.0 =
-      ap fields_in (subst (λ n. slice_get declared.structs n ≡ Some h.2.3.0) (sym at) h.2.3.1) in
+      ap fields_in (subst (λ n. slice_get declared_for_examples.structs n ≡ Some h.2.3.0) (sym at) h.2.3.1) in
       let field : pointer_to 0 ≡ h.2.1 = ap type_in (subst (λ l. slice_get l 1 ≡ Some h.2.1) (sym fields) h.2.3.2) in
       let value : int ≡ h.2.1 = h.1.4.3.0 ∙ ap first (sym h.1.4.2 ∙ ap rest (sym h.1.2 ∙ h.2.2)) in
       true≢false (ap is_int (value ∙ sym field));

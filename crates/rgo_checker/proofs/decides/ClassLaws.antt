@@ -11,10 +11,10 @@ use Rattle.rgo_code.specs.Code.{Slot, CodeOp, CodeFn, Do, Call, Go, Print, Jump,
 use Rattle.rgo_code.specs.ClassRules.{SlotClassFitsType, is_of_package, Agree, JoinsAgree, GlobalsAgree, ReturnsAgree}
 use Rattle.rgo_code.specs.Erasure.{erased_op, erased_fn}
 use Rattle.rgo_code.specs.Names.{member_class}
-use Rattle.rgo_checker.specs.ClassTests.{same_class, has_class, class_fits, agree, op_agrees, joins_agree, globals_agree, return_agrees}
+use Rattle.rgo_checker.specs.ClassTests.{equal_classes, has_class, class_fits, agree, op_agrees, joins_agree, globals_agree, return_agrees}
 use Rattle.rgo_checker.proofs.Deciding.{always, never, unless, only_if, decides_same}
 
-pub same_class_decided : (a b : Class) → Decides (same_class a b) (a ≡ b)
+pub same_class_decided : (a b : Class) → Decides (equal_classes a b) (a ≡ b)
 same_class_decided NoClass NoClass = always refl
 same_class_decided NoClass Global = never (λ e. cc)
 same_class_decided NoClass (Name n) = never (λ e. cc)

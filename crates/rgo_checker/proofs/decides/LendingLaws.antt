@@ -14,7 +14,7 @@ use Rattle.rgo_code.specs.Erasure.{erased_op, erased_instr, erased_fn}
 use Rattle.rgo_code.specs.Lists.{removes_of, otherwise_of}
 use Rattle.rgo_code.specs.Names.{result_class, class_of, edges, Holds}
 use Rattle.rgo_code.specs.NameRules.{LendsResult, EntryLendsResult, ReturnsHoldNothing}
-use Rattle.rgo_checker.specs.ClassTests.{same_class, is_free, lends, is_empty, is_lent, value_is_lent, ends_empty}
+use Rattle.rgo_checker.specs.ClassTests.{equal_classes, is_free, lends, has_no_names, is_lent, value_is_lent, ends_empty}
 use Rattle.rgo_checker.proofs.decides.ClassLaws.{same_class_decided}
 use Rattle.rgo_checker.proofs.Deciding.{always, never}
 use Rattle.rgo_checker.proofs.Listing.{contains_none, contains_here, contains_there, contains_cases, among_decided}
@@ -110,7 +110,7 @@ entry_lends_decided f = free_decided (result_class f) f.entry
 
 -- ---- rule 14
 
-empty_decided : (names : List ℕ) → Decides (is_empty names) (names ≡ [])
+empty_decided : (names : List ℕ) → Decides (has_no_names names) (names ≡ [])
 empty_decided [] = always refl
 empty_decided (k ∷ ks) = never (λ e. cc)
 
@@ -118,7 +118,7 @@ lent_decided : (lent c : Class) → Decides (is_lent lent c) ((k : ℕ) → c �
 lent_decided lent NoClass = always (λ k e. cc)
 lent_decided lent Global = always (λ k e. cc)
 lent_decided lent (Name j) =
-    Decides-like (same_class lent (Name j)) (λ q k e. q ∙ e) (λ h. h j refl) (same_class_decided lent (Name j))
+    Decides-like (equal_classes lent (Name j)) (λ q k e. q ∙ e) (λ h. h j refl) (same_class_decided lent (Name j))
 
 -- what is live at a return is what it returns
 module _ (f : CodeFn) (i : ℕ) (instr : CodeInstr) (value : Option ℕ) (here : slice_get f.body i ≡ Some instr)
@@ -153,7 +153,7 @@ module _ (f : CodeFn) (i : ℕ) (instr : CodeInstr) (value : Option ℕ) (here :
   )
 
   otherwise : (k : ℕ) (w : ℕ) → class_of f w ≡ Name k → (Holds f k i → ⊥) → value ≡ Some w → (b : Bool)
-      → same_class (result_class f) (Name k) ≡ b → result_class f ≡ Name k
+      → equal_classes (result_class f) (Name k) ≡ b → result_class f ≡ Name k
   otherwise k w q h e true s = (same_class_decided (result_class f) (Name k)).0 s
   otherwise k w q h e false s =
       absurd (h (
@@ -170,7 +170,7 @@ module _ (f : CodeFn) (i : ℕ) (instr : CodeInstr) (value : Option ℕ) (here :
           Decides-like (is_lent (result_class f) (class_of f v))
           (λ q k h. h.0
           (q k (ap (class_of f) (same_Some v h.1.variable (sym e ∙ is_value h.1.variable h.1.live)) ∙ h.1.named)))
-          (λ h k q. otherwise k v q (h k) e (same_class (result_class f) (Name k)) refl)
+          (λ h k q. otherwise k v q (h k) e (equal_classes (result_class f) (Name k)) refl)
           (lent_decided (result_class f) (class_of f v))
 
 pub ends_decided : (f : CodeFn) (i : ℕ) (instr : CodeInstr) → slice_get f.body i ≡ Some instr
@@ -188,5 +188,5 @@ ends_decided f i instr here = by instr.op refl
     by (Return value) e =
         Decides-like (ends_empty f instr.creates (erased_op (Return value)))
         (λ p. record { creates = p.0; holds = p.1 }) (λ p. (p.creates, p.holds))
-        (Decides-and (is_empty instr.creates) (value_is_lent f value) (empty_decided instr.creates)
+        (Decides-and (has_no_names instr.creates) (value_is_lent f value) (empty_decided instr.creates)
         (holds_decided f i instr value here e))

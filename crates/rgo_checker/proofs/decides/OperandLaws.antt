@@ -11,8 +11,8 @@ use Rattle.rgo_wellformed.specs.TypeRules.{bool}
 use Rattle.rgo_wellformed.specs.WellFormed.{IsPrinted}
 use Rattle.rgo_tac.specs.Code.{Op, TacFn, Tac, Do, Call, Go, Print, Jump, Branch, Return}
 use Rattle.rgo_code.specs.Types.{VariableHasType, DoFits, ArgumentsFit, TargetFits, IsWellTypedOp}
-use Rattle.rgo_checker.specs.TypeTests.{is_type, is_bool}
-use Rattle.rgo_checker.specs.Tests.{with_first, types_at, returns_to, acts_on, acts_on_found, have_types, arguments_fit, target_has, target_fits, is_printed, is_test, has_result, return_fits, op_fits}
+use Rattle.rgo_checker.specs.TypeTests.{equals_type, is_bool_type}
+use Rattle.rgo_checker.specs.Tests.{with_first_type, types_at, returns_to, acts_on, acts_on_found, have_types, arguments_fit, target_has, target_fits, is_printable_type, is_test, has_result, return_fits, op_fits}
 use Rattle.rgo_checker.proofs.decides.ActionLaws.{returns_decided, takes_decided}
 use Rattle.rgo_checker.proofs.Deciding.{always, never}
 use Rattle.rgo_checker.proofs.Listing.{all_decided}
@@ -26,7 +26,7 @@ module _ (types : List «Type») where
   found (v ∷ vs) ts e = by (slice_get types v) (types_at types vs) refl refl e (found vs)
     where
       by : (o : Option «Type») (rest : Option (List «Type»)) → slice_get types v ≡ o → types_at types vs ≡ rest
-          → with_first o rest ≡ Some ts
+          → with_first_type o rest ≡ Some ts
           → ((us : List «Type») → types_at types vs ≡ Some us → map (slice_get types) vs ≡ map Some us)
           → map (slice_get types) (v ∷ vs) ≡ map Some ts
       by None rest p q r next = absurd (none-some ts r)
@@ -41,7 +41,7 @@ module _ (types : List «Type») where
   wanted (v ∷ vs) (t ∷ ts) e =
       let p : slice_get types v ≡ Some t = cc in
       let q : map (slice_get types) vs ≡ map Some ts = cc in
-      (λ j. with_first (p j) (wanted vs ts q j))
+      (λ j. with_first_type (p j) (wanted vs ts q j))
 
 module _ (code : Tac) (f : TacFn) where
   returns_to_decided : (act : Action) (operands : List «Type») (d : ℕ)
@@ -86,7 +86,7 @@ have_types_decided types [] (t ∷ ts) = never (λ e. cc)
 have_types_decided types (v ∷ vs) [] = never (λ e. cc)
 have_types_decided types (v ∷ vs) (t ∷ ts) =
     Decides-like (have_types types (v ∷ vs) (t ∷ ts)) (λ p. (λ j. p.0 j ∷ p.1 j)) (λ e. (cc, cc))
-    (Decides-and (is_type (slice_get types v) t) (have_types types vs ts) (is_type_decided (slice_get types v) t)
+    (Decides-and (equals_type (slice_get types v) t) (have_types types vs ts) (is_type_decided (slice_get types v) t)
     (have_types_decided types vs ts))
 
 module _ (f : TacFn) where
@@ -106,13 +106,13 @@ module _ (f : TacFn) where
       by : (r : Option «Type») → Decides (target_has f r (Some d)) ((t : «Type») → r ≡ Some t → VariableHasType f d t)
       by None = always (λ t e. absurd (none-some t e))
       by (Some u) =
-          Decides-like (is_type (slice_get f.variables d) u) (λ e t q. e ∙ q) (λ h. h u refl)
+          Decides-like (equals_type (slice_get f.variables d) u) (λ e t q. e ∙ q) (λ h. h u refl)
           (is_type_decided (slice_get f.variables d) u)
 
   -- ---- prints, branches and returns
 
   printed_decided : (v : ℕ)
-      → Decides (is_printed (slice_get f.variables v)) ((t : «Type») × VariableHasType f v t × IsPrinted t)
+      → Decides (is_printable_type (slice_get f.variables v)) ((t : «Type») × VariableHasType f v t × IsPrinted t)
   printed_decided v = by (slice_get f.variables v) refl
     where
       no : (like : Bool) → Decides (not like) (like ≡ false)
@@ -120,7 +120,7 @@ module _ (f : TacFn) where
       no false = always refl
 
       by : (o : Option «Type») → slice_get f.variables v ≡ o
-          → Decides (is_printed o) ((t : «Type») × VariableHasType f v t × IsPrinted t)
+          → Decides (is_printable_type o) ((t : «Type») × VariableHasType f v t × IsPrinted t)
       by None e = never (λ p. none-some p.0 (sym e ∙ p.1))
       by (Some t) e =
           Decides-like (not (is_pointer_like t)) (λ q. (t, e, q))
@@ -131,7 +131,7 @@ module _ (f : TacFn) where
     where
       by : (o : Option «Type») → Decides (is_test o) (o ≡ Some bool)
       by None = never (λ e. none-some bool e)
-      by (Some t) = Decides-like (is_bool t) (λ e. ap Some e) (λ e. same_Some t bool e) (is_bool_decided t)
+      by (Some t) = Decides-like (is_bool_type t) (λ e. ap Some e) (λ e. same_Some t bool e) (is_bool_decided t)
 
   return_decided : (code : Tac) (value : Option ℕ) → Decides (return_fits f value) (IsWellTypedOp code f (Return value))
   return_decided code None = by f.result_type
@@ -144,7 +144,7 @@ module _ (f : TacFn) where
       by : (o : Option «Type») → f.result_type ≡ o → Decides (has_result f v o) (IsWellTypedOp code f (Return (Some v)))
       by None e = never (λ p. none-some p.0 (sym e ∙ p.1))
       by (Some t) e =
-          Decides-like (is_type (slice_get f.variables v) t) (λ q. (t, e, q))
+          Decides-like (equals_type (slice_get f.variables v) t) (λ q. (t, e, q))
           (λ p. p.2 ∙ sym p.1 ∙ e) (is_type_decided (slice_get f.variables v) t)
 
 pub op_fits_decided : (code : Tac) (f : TacFn) (op : Op) → Decides (op_fits code f op) (IsWellTypedOp code f op)
@@ -154,7 +154,7 @@ op_fits_decided code f (Call to n from) =
     (arguments_decided f (slice_get code.functions n) from) (target_decided f (slice_get code.functions n) to)
 op_fits_decided code f (Go n from) = arguments_decided f (slice_get code.functions n) from
 op_fits_decided code f (Print pieces from) =
-    all_decided (λ v. is_printed (slice_get f.variables v)) (λ v. (t : «Type») × VariableHasType f v t × IsPrinted t)
+    all_decided (λ v. is_printable_type (slice_get f.variables v)) (λ v. (t : «Type») × VariableHasType f v t × IsPrinted t)
     (printed_decided f) from
 op_fits_decided code f (Jump target) = always tt
 op_fits_decided code f (Branch test target other) = test_decided f test

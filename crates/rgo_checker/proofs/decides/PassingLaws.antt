@@ -16,7 +16,7 @@ use Rattle.rgo_code.specs.ClassRules.{IsPassedFor, PassesClasses, StartPasses, C
 use Rattle.rgo_code.specs.Erasure.{erased_op, erased_fn}
 use Rattle.rgo_code.specs.Lists.{passes_of}
 use Rattle.rgo_code.specs.Names.{is_class_named, distinct_names, parameter_classes, region_parameters, result_class, class_of}
-use Rattle.rgo_checker.specs.ClassTests.{same_class, ArePlaces, AreDistinctClasses, is_class, is_passed_at, is_passed_for, ArgumentPasses, ArgumentsPass, TargetPasses, CallPassesBy, StartPassesBy, call_of, start_of, CalledPasses, StartedPasses}
+use Rattle.rgo_checker.specs.ClassTests.{equal_classes, ArePlaces, AreDistinctClasses, is_class, is_passed_at, is_passed_for, ArgumentPasses, ArgumentsPass, TargetPasses, CallPassesBy, StartPassesBy, call_operands, start_operands, CalledPasses, StartedPasses}
 use Rattle.rgo_checker.proofs.decides.ClassLaws.{same_class_decided}
 use Rattle.rgo_checker.proofs.Deciding.{always, never, decides_same}
 
@@ -86,7 +86,7 @@ distinct_of f classes e =
 class_decided : (o : Option Class) (c : Class) → Decides (is_class o c) (o ≡ Some c)
 class_decided None c = never (λ e. none-some c e)
 class_decided (Some d) c =
-    Decides-like (same_class d c) (λ e. ap Some e) (λ e. same_Some d c e) (same_class_decided d c)
+    Decides-like (equal_classes d c) (λ e. ap Some e) (λ e. same_Some d c e) (same_class_decided d c)
 
 module _ {S : Type 0} (classes passes : List Class) (places : HashMap ℕ ℕ S) (placed : ArePlaces classes places)
     (distinct : AreDistinctClasses classes) where
@@ -191,7 +191,7 @@ no_target f callee classes passes to none = λ v h. absurd (none-some v (sym non
 
 module _ (code : Code) (f : CodeFn) (passes : List Class) (b : Bool) where
   pub called_decided : (o : Op) (call : Option ℕ × ℕ × List ℕ)
-      → ◌≡◌ {A = Option (Option ℕ × ℕ × List ℕ)} (call_of o) (Some call)
+      → ◌≡◌ {A = Option (Option ℕ × ℕ × List ℕ)} (call_operands o) (Some call)
       → Decides b (CalledPasses code f passes call) → Decides b (CallPassesBy code f passes o)
   called_decided (tac.Call to n from) call e d =
       subst (λ (x : Option ℕ × ℕ × List ℕ). Decides b (CalledPasses code f passes x))
@@ -204,7 +204,7 @@ module _ (code : Code) (f : CodeFn) (passes : List Class) (b : Bool) where
   called_decided (tac.Return value) call e d = absurd (none-some {A = Option ℕ × ℕ × List ℕ} call e)
 
   pub started_decided : (o : Op) (call : Option ℕ × ℕ × List ℕ)
-      → ◌≡◌ {A = Option (Option ℕ × ℕ × List ℕ)} (start_of o) (Some call)
+      → ◌≡◌ {A = Option (Option ℕ × ℕ × List ℕ)} (start_operands o) (Some call)
       → Decides b (StartedPasses code f passes call) → Decides b (StartPassesBy code f passes o)
   started_decided (tac.Go n from) call e d =
       subst (λ (x : Option ℕ × ℕ × List ℕ). Decides b (StartedPasses code f passes x))
@@ -220,7 +220,7 @@ no_call_some : {X : Type 0} (x : X) → Some x ≡ None → ⊥
 no_call_some x e = none-some x (sym e)
 
 module _ (code : Code) (f : CodeFn) (passes : List Class) where
-  pub no_call : (o : Op) → ◌≡◌ {A = Option (Option ℕ × ℕ × List ℕ)} (call_of o) None → CallPassesBy code f passes o
+  pub no_call : (o : Op) → ◌≡◌ {A = Option (Option ℕ × ℕ × List ℕ)} (call_operands o) None → CallPassesBy code f passes o
   no_call (tac.Call to n from) e = absurd (no_call_some {X = Option ℕ × ℕ × List ℕ} (to, n, from) e)
   no_call (tac.Do to action from) e = tt
   no_call (tac.Go n from) e = tt
@@ -229,7 +229,7 @@ module _ (code : Code) (f : CodeFn) (passes : List Class) where
   no_call (tac.Branch test target other) e = tt
   no_call (tac.Return value) e = tt
 
-  pub no_start : (o : Op) → ◌≡◌ {A = Option (Option ℕ × ℕ × List ℕ)} (start_of o) None → StartPassesBy code f passes o
+  pub no_start : (o : Op) → ◌≡◌ {A = Option (Option ℕ × ℕ × List ℕ)} (start_operands o) None → StartPassesBy code f passes o
   no_start (tac.Go n from) e = absurd (no_call_some {X = Option ℕ × ℕ × List ℕ} (None, n, from) e)
   no_start (tac.Do to action from) e = tt
   no_start (tac.Call to n from) e = tt

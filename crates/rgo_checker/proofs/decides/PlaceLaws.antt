@@ -7,7 +7,7 @@ use Rattle.std.specs.HashMap.{HashMap, get}
 use Rattle.rgo_tac.specs.declared.regions.Class.{Class}
 use Rattle.rgo_tac.specs.declared.regions.Class.TheVariants.{NoClass, Global, Name}
 use Rattle.rgo_checker.specs.ClassTests.{ArePlaces}
-use Rattle.rgo_checker.specs.Parameters.{ArePlacesBelow, placed}
+use Rattle.rgo_checker.specs.Parameters.{ArePlacesBelow, place_with_class}
 use Rattle.rgo_checker.proofs.Deciding.{decides_same}
 
 -- what a map says of name k, as far as the loop has come
@@ -28,7 +28,7 @@ other classes n k c None here apart h = λ p low e. go p e (cases_lt p n) low
         apart (same_Some c (Name k) (sym here ∙ ap (slice_get classes) q ∙ e))
 
 at_next : (classes : List Class) (n k : ℕ) (c : Class) (o : Option ℕ) → slice_get classes n ≡ Some c
-    → At classes n k o → At classes (n + 1) k (placed c n k o)
+    → At classes n k o → At classes (n + 1) k (place_with_class c n k o)
 at_next classes n k NoClass o here h = other classes n k NoClass o here (λ e. cc) h
 at_next classes n k Global o here h = other classes n k Global o here (λ e. cc) h
 at_next classes n k (Name j) o here h = by (nat_eq j k) (decides_same j k)
@@ -39,7 +39,7 @@ at_next classes n k (Name j) o here h = by (nat_eq j k) (decides_same j k)
 
 module _ {S : Type 0} (classes : List Class) (old new : HashMap ℕ ℕ S) (n : ℕ) (c : Class) where
   pub places_more : slice_get classes n ≡ Some c → ArePlacesBelow classes n old
-      → ((q : ℕ) → get nat_eq new q ≡ placed c n q (get nat_eq old q)) → ArePlacesBelow classes (n + 1) new
+      → ((q : ℕ) → get nat_eq new q ≡ place_with_class c n q (get nat_eq old q)) → ArePlacesBelow classes (n + 1) new
   places_more here h says k =
       subst (At classes (n + 1) k) (sym (says k)) (at_next classes n k c (get nat_eq old k) here (h k))
 

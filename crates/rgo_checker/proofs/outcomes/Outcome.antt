@@ -10,7 +10,7 @@ use Rattle.rgo_code.specs.Checked.{KeepsRule, IsChecked, IsFirstBroken, rule_num
 use Rattle.rgo_code.specs.Code.{Code}
 use Rattle.rgo_checker.specs.declared.scan.Scan.{Scan}
 use Rattle.rgo_checker.specs.Lines.{struct_lines, variable_lines, functions_lines, lines_of}
-use Rattle.rgo_checker.specs.Scan.{IsKept, Scanned, Walks, passed}
+use Rattle.rgo_checker.specs.Scan.{IsKept, Scanned, Walks, past_next_line}
 use Rattle.rgo_checker.specs.Sizes.{HasNumbers}
 use Rattle.rgo_checker.proofs.Getting.{IsIn, get_split, first_inv}
 use Rattle.rgo_checker.proofs.walks.Reaching.{structs_long, variables_long}
@@ -110,7 +110,7 @@ pub rules : (code : Code) (line : ℕ) (s : Scan) → HasNumbers code → KeepsR
     → Walks code 2 15 (functions_lines 0 code.functions) (record { line = line; limit = 15; broken = None }) s
     → MatchOption s.broken (IsChecked code) (λ x. IsFirstBroken code x.rule x.line)
 rules code line s few exists e p =
-    outcome code 2 15 (passed s None) whole few (λ all r. each all r (cases_lt (rule_number r) 2))
+    outcome code 2 15 (past_next_line s None) whole few (λ all r. each all r (cases_lt (rule_number r) 2))
     (λ lesser l. subst (KeepsRule code) (sym (is_first lesser l)) exists)
   where
     together : (a b c d : List Line) → ((a ++ b) ++ c) ++ d ≡ a ++ (b ++ (c ++ d))
@@ -119,9 +119,9 @@ rules code line s few exists e p =
     functions : List Line
     functions = functions_lines 0 code.functions
 
-    whole : Scanned code 2 15 (lines_of code) (passed s None)
+    whole : Scanned code 2 15 (lines_of code) (past_next_line s None)
     whole =
-        subst (λ ls. Scanned code 2 15 ls (passed s None))
+        subst (λ ls. Scanned code 2 15 ls (past_next_line s None))
         (together (struct_lines code.structs) (variable_lines code.variables) functions (AfterLast ∷ []))
         ((walks_line code 2 15 AfterLast s None (λ few r low high. last_kept code r low)).walks
         (first_of code ++ functions)

@@ -23,8 +23,8 @@ use Rattle.rgo_code.specs.Exists.{TypeExists, HasMain}
 use Rattle.rgo_checker.specs.declared.scan.Scan.{Scan}
 use Rattle.rgo_checker.specs.Instrs.{InstrKept}
 use Rattle.rgo_checker.specs.Naming.{fn_names}
-use Rattle.rgo_checker.specs.Scan.{IsKept, Walks, passed}
-use Rattle.rgo_checker.specs.Tests.{broken_if, type_exists, types_exist, head_exists, is_main, has_main}
+use Rattle.rgo_checker.specs.Scan.{IsKept, Walks, past_next_line}
+use Rattle.rgo_checker.specs.Tests.{broken_if, type_exists, types_exist, head_exists, is_main_fn, declares_main}
 use Rattle.rgo_checker.proofs.Deciding.{always, never, decides_less, decides_same}
 use Rattle.rgo_checker.proofs.decides.ExistenceLaws.{type_decided, types_decided, head_decided}
 use Rattle.rgo_checker.proofs.decides.LineKept.{at_struct, at_variable, at_head, at_slot, at_instr, at_end, least_of_one}
@@ -37,7 +37,7 @@ only_first : (few limit : ℕ) (r : Rule) → few ≤ 2 → 1 ≤ rule_number r 
 only_first few limit r le low high other = other (omega (arith, le, low, high))
 
 exists_walked : (code : Code) (l : Line) (s t : Scan) (kept : Bool) → Decides kept (IsKept code rule.Exists l)
-    → t ≡ passed s (broken_if s.limit rule.Exists kept) → Walks code 1 2 (l ∷ []) s t
+    → t ≡ past_next_line s (broken_if s.limit rule.Exists kept) → Walks code 1 2 (l ∷ []) s t
 exists_walked code l s t kept d e =
     subst (Walks code 1 2 (l ∷ []) s) (sym e)
     (walks_line code 1 2 l s (broken_if s.limit rule.Exists kept)
@@ -48,7 +48,7 @@ module _ (code : Code) (s t : Scan) where
   pub struct_walked : (n : ℕ) (x : Struct) → slice_get code.structs n ≡ Some x → (fresh exist : Bool)
       → Decides fresh (Contains (take n (map (λ z. z.name) code.structs)) x.name → ⊥)
       → exist ≡ types_exist (erased code) x.fields
-      → t ≡ passed s (broken_if s.limit rule.Exists (fresh && exist)) → Walks code 1 2 (StructLine n ∷ []) s t
+      → t ≡ past_next_line s (broken_if s.limit rule.Exists (fresh && exist)) → Walks code 1 2 (StructLine n ∷ []) s t
   struct_walked n x here fresh exist d k e =
       let names = map (λ z. z.name) code.structs in
       exists_walked code (StructLine n) s t (fresh && exist)
@@ -64,7 +64,7 @@ module _ (code : Code) (s t : Scan) where
   pub variable_walked : (n : ℕ) (x : Variable) → slice_get code.variables n ≡ Some x → (fresh exist : Bool)
       → Decides fresh (Contains (take n (map (λ z. z.name) code.variables)) x.name → ⊥)
       → exist ≡ type_exists (erased code) x.ty
-      → t ≡ passed s (broken_if s.limit rule.Exists (fresh && exist)) → Walks code 1 2 (VariableLine n ∷ []) s t
+      → t ≡ past_next_line s (broken_if s.limit rule.Exists (fresh && exist)) → Walks code 1 2 (VariableLine n ∷ []) s t
   variable_walked n x here fresh exist d k e =
       let names = map (λ z. z.name) code.variables in
       exists_walked code (VariableLine n) s t (fresh && exist)
@@ -75,7 +75,7 @@ module _ (code : Code) (s t : Scan) where
       (slice_get-map (λ z. z.name) code.variables n ∙ ap (option_map (λ z. z.name)) here) d)
       (subst (λ b. Decides b (TypeExists (erased code) x.ty)) (sym k) (type_decided (erased code) x.ty))))) e
 
-  pub entry_walked : (n : ℕ) → t ≡ passed s None → Walks code 1 2 (EntryLine n ∷ []) s t
+  pub entry_walked : (n : ℕ) → t ≡ past_next_line s None → Walks code 1 2 (EntryLine n ∷ []) s t
   unfolding IsKept
   entry_walked n e =
       subst (Walks code 1 2 (EntryLine n ∷ []) s) (sym e)
@@ -96,7 +96,7 @@ module _ (code : Code) (s t : Scan) where
 
     pub head_walked : (fresh exist : Bool) → Decides fresh (Contains (take n (fn_names code)) f.name → ⊥)
         → exist ≡ head_exists (erased code) (erased_fn f)
-        → t ≡ passed s (broken_if s.limit rule.Exists (fresh && exist)) → Walks code 1 2 (FunctionLine n ∷ []) s t
+        → t ≡ past_next_line s (broken_if s.limit rule.Exists (fresh && exist)) → Walks code 1 2 (FunctionLine n ∷ []) s t
     head_walked fresh exist d k e =
         let h = head_decided (erased code) (erased_fn f) in
         exists_walked code (FunctionLine n) s t (fresh && exist)
@@ -117,7 +117,7 @@ module _ (code : Code) (s t : Scan) where
 
     pub slot_walked : (v : ℕ) (ty : «Type») → slice_get (erased_fn f).variables v ≡ Some ty → (exist : Bool)
         → exist ≡ type_exists (erased code) ty
-        → t ≡ passed s (broken_if s.limit rule.Exists exist) → Walks code 1 2 (SlotLine n v ∷ []) s t
+        → t ≡ past_next_line s (broken_if s.limit rule.Exists exist) → Walks code 1 2 (SlotLine n v ∷ []) s t
     slot_walked v ty there exist k e =
         let x = slot_of v ty there in
         exists_walked code (SlotLine n v) s t exist
@@ -126,7 +126,7 @@ module _ (code : Code) (s t : Scan) where
         (type_decided (erased code) x.0.ty))) e
 
     pub instr_walked : (i : ℕ) (kept : Bool) → Decides kept (InstrKept code f i rule.Exists)
-        → t ≡ passed s (broken_if s.limit rule.Exists kept) → Walks code 1 2 (InstrLine n i ∷ []) s t
+        → t ≡ past_next_line s (broken_if s.limit rule.Exists kept) → Walks code 1 2 (InstrLine n i ∷ []) s t
     instr_walked i kept d e =
         exists_walked code (InstrLine n i) s t kept (at_instr code rule.Exists kept n f here i d) e
 
@@ -135,7 +135,7 @@ module _ (code : Code) (s t : Scan) where
     has_items (x ∷ xs) = (λ t e. cc, λ h. (decides_less 0 (length (x ∷ xs))).1 (omega arith))
 
     pub end_walked : (kept : Bool) → kept ≡ nat_lt 0 (length f.body)
-        → t ≡ passed s (broken_if s.limit rule.Exists kept) → Walks code 1 2 (EndLine n ∷ []) s t
+        → t ≡ past_next_line s (broken_if s.limit rule.Exists kept) → Walks code 1 2 (EndLine n ∷ []) s t
     end_walked kept k e =
         exists_walked code (EndLine n) s t kept
         (at_end code rule.Exists kept n f here (subst (λ b. Decides b (f.body ≢ [])) (sym k) (has_items f.body))) e
@@ -143,7 +143,7 @@ module _ (code : Code) (s t : Scan) where
   -- ---- after the last line
 
   main_decided : (f : TacFn)
-      → Decides (is_main f) ((f.name ≡ codes "main") × ((f.params ≡ 0) × (f.result_type ≡ None)))
+      → Decides (is_main_fn f) ((f.name ≡ codes "main") × ((f.params ≡ 0) × (f.result_type ≡ None)))
   main_decided f =
       Decides-and (bytes_eq f.name (codes "main")) (nat_eq f.params 0 && not (is_some f.result_type))
       (bytes_eq-Decides f.name (codes "main"))
@@ -154,35 +154,35 @@ module _ (code : Code) (s t : Scan) where
       by (Some x) = never (λ q. none-some x (sym q))
 
   abbrev Main : List TacFn → Type 0
-  Main fs = (k : ℕ) × (f : TacFn) × (slice_get fs k ≡ Some f) × (is_main f ≡ true)
+  Main fs = (k : ℕ) × (f : TacFn) × (slice_get fs k ≡ Some f) × (is_main_fn f ≡ true)
 
-  any_main : (fs : List TacFn) → Decides (list_any is_main fs) (Main fs)
+  any_main : (fs : List TacFn) → Decides (list_any is_main_fn fs) (Main fs)
   any_main [] = never (λ p. none-some p.1 p.2)
-  any_main (f ∷ fs) = by (is_main f) refl (any_main fs)
+  any_main (f ∷ fs) = by (is_main_fn f) refl (any_main fs)
     where
-      later : Main (f ∷ fs) → is_main f ≡ false → Main fs
-      later (zero, g, e, q) other = absurd (false≢true (sym other ∙ ap is_main (same_Some f g e) ∙ q))
+      later : Main (f ∷ fs) → is_main_fn f ≡ false → Main fs
+      later (zero, g, e, q) other = absurd (false≢true (sym other ∙ ap is_main_fn (same_Some f g e) ∙ q))
       later (suc k, g, e, q) other = (k, g, e, q)
 
-      by : (b : Bool) → is_main f ≡ b → Decides (list_any is_main fs) (Main fs)
-          → Decides (b || list_any is_main fs) (Main (f ∷ fs))
+      by : (b : Bool) → is_main_fn f ≡ b → Decides (list_any is_main_fn fs) (Main fs)
+          → Decides (b || list_any is_main_fn fs) (Main (f ∷ fs))
       by true q d = (λ u. (0, f, refl, q), λ p. refl)
       by false q d = (λ u. let p = d.0 u in (suc p.0, p.1, p.2, p.3), λ p. d.1 (later p q))
 
-  has_main_decided : Decides (has_main (erased code)) (HasMain (erased code))
+  has_main_decided : Decides (declares_main (erased code)) (HasMain (erased code))
   has_main_decided =
-      Decides-like (has_main (erased code))
+      Decides-like (declares_main (erased code))
       (λ p. let m = (main_decided p.1).0 p.3 in
       record { number = p.0; main = p.1; declared = p.2; named = m.0; no_params = m.1.0; no_result = m.1.1 })
       (λ p. (p.number, p.main, p.declared, (main_decided p.main).1 (p.named, (p.no_params, p.no_result))))
       (any_main (erased code).functions)
 
-  pub last_walked : (kept : Bool) → kept ≡ has_main (erased code)
-      → t ≡ passed s (broken_if s.limit rule.Exists kept) → Walks code 1 2 (AfterLast ∷ []) s t
+  pub last_walked : (kept : Bool) → kept ≡ declares_main (erased code)
+      → t ≡ past_next_line s (broken_if s.limit rule.Exists kept) → Walks code 1 2 (AfterLast ∷ []) s t
   unfolding IsKept
   last_walked kept k e = exists_walked code AfterLast s t kept (last kept k) e
     where
-      last : (b : Bool) → b ≡ has_main (erased code) → Decides b (IsKept code rule.Exists AfterLast)
+      last : (b : Bool) → b ≡ declares_main (erased code) → Decides b (IsKept code rule.Exists AfterLast)
       last b q = subst (λ x. Decides x (HasMain (erased code))) (sym q) has_main_decided
 
 -- ---- no instruction

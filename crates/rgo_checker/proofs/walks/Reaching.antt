@@ -9,7 +9,7 @@ use Rattle.rgo_code.specs.declared.rules.Rule.{Rule}
 use Rattle.rgo_code.specs.Checked.{KeptAt}
 use Rattle.rgo_code.specs.Code.{CodeFn, Code}
 use Rattle.rgo_code.specs.Lines.{lines_before, line_number}
-use Rattle.rgo_checker.specs.Lines.{struct_lines, variable_lines, fn_lines, functions_lines, lines_of}
+use Rattle.rgo_checker.specs.Lines.{struct_lines, variable_lines, lines_of_function, functions_lines, lines_of}
 use Rattle.rgo_checker.proofs.Getting.{IsIn, get_left, get_right, get_split, get_one, first_length, first_get, first_inv}
 use Rattle.rgo_checker.proofs.walks.FunctionLines.{fn_head, fn_slot, fn_entry, fn_instr, fn_end, fn_number, functions_get, functions_at, functions_long}
 
@@ -50,8 +50,8 @@ number_at code i l e = go (get_split (struct_lines code.structs) (more_lines cod
         → IsIn (functions_lines 0 code.functions) (AfterLast ∷ []) k l → line_number code l ≡ i + 2
     last k p (inl q) =
         let r = functions_at 0 code.functions k l q in
-        let s : slice_get (fn_lines r.n r.f) r.o ≡ Some l =
-        ap (λ y. slice_get (fn_lines y r.f) r.o) (zero_left r.n) ∙ r.here in
+        let s : slice_get (lines_of_function r.n r.f) r.o ≡ Some l =
+        ap (λ y. slice_get (lines_of_function y r.f) r.o) (zero_left r.n) ∙ r.here in
         let t = fn_number code r.n r.f r.found r.o l s in
         omega (arith, t, r.place, p)
     last k p (inr (j, r, q)) =
@@ -92,7 +92,7 @@ abbrev fn_place : Code → ℕ → ℕ → ℕ
 fn_place code n o = length code.structs + (length code.variables + (lines_before code.functions n + o))
 
 function_at : (code : Code) (n : ℕ) (f : CodeFn) (o : ℕ) (l : Line) → slice_get code.functions n ≡ Some f
-    → slice_get (fn_lines n f) o ≡ Some l → slice_get (lines_of code) (fn_place code n o) ≡ Some l
+    → slice_get (lines_of_function n f) o ≡ Some l → slice_get (lines_of code) (fn_place code n o) ≡ Some l
 function_at code n f o l e g =
     let k = lines_before code.functions n + o in
     get_right (struct_lines code.structs) (more_lines code) (length code.variables + k) (fn_place code n o) l
@@ -123,7 +123,7 @@ module _ (code : Code) (rule : Rule) (Within : ℕ → Type 0)
   reached j l e w = kept j l (w j (number_at code j l e)) e
 
   in_function : (n : ℕ) (f : CodeFn) (o : ℕ) (l : Line) → slice_get code.functions n ≡ Some f
-      → slice_get (fn_lines n f) o ≡ Some l → ((k : ℕ) → line_number code l ≡ k + 2 → Within k) → KeptAt code rule l
+      → slice_get (lines_of_function n f) o ≡ Some l → ((k : ℕ) → line_number code l ≡ k + 2 → Within k) → KeptAt code rule l
   in_function n f o l e g w = reached (fn_place code n o) l (function_at code n f o l e g) w
 
   pub reach : (l : Line) → ((j : ℕ) → line_number code l ≡ j + 2 → Within j) → KeptAt code rule l

@@ -11,7 +11,7 @@ use Rattle.rgo_code.specs.Code.{Code}
 use Rattle.rgo_checker.specs.declared.scan.Scan.{Scan}
 use Rattle.rgo_checker.specs.Instrs.{LeastBroken}
 use Rattle.rgo_checker.specs.Lines.{lines_of}
-use Rattle.rgo_checker.specs.Scan.{IsKept, BreaksFirst, IsBroken, BrokenIs, Scanned, Walks, number_of, passed}
+use Rattle.rgo_checker.specs.Scan.{IsKept, BreaksFirst, IsBroken, BrokenIs, Scanned, Walks, line_number_at, past_next_line}
 use Rattle.rgo_checker.specs.Sizes.{HasNumbers}
 use Rattle.rgo_checker.proofs.Getting.{IsIn, get_left, get_right, get_split, get_one}
 use Rattle.rgo_checker.proofs.walks.Reaching.{lines_long, reach, number_at}
@@ -74,11 +74,11 @@ module _ (code : Code) (from to : ℕ) where
         go (inl q) = q
         go (inr (j, h, q)) = absurd (omega (arith, low, h))
 
-    longer : (n : ℕ) → n ≡ number_of (length seen) → min (n + 1) (2 ^ 32 - 1) ≡ number_of (length (seen ++ l ∷ []))
+    longer : (n : ℕ) → n ≡ line_number_at (length seen) → min (n + 1) (2 ^ 32 - 1) ≡ line_number_at (length (seen ++ l ∷ []))
     longer n e = omega (arith, e, length-append seen (l ∷ []))
 
     pass_line : (s : Scan) (found : Option Rule) → LeastBroken (λ rule. IsKept code rule l) from s.limit found
-        → Scanned code from to seen s → Scanned code from to (seen ++ l ∷ []) (passed s found)
+        → Scanned code from to seen s → Scanned code from to (seen ++ l ∷ []) (past_next_line s found)
     pass_line s None least h = record {
       line = longer s.line h.line;
       kept = λ rule place m low high e.
@@ -107,7 +107,7 @@ module _ (code : Code) (from to : ℕ) where
 
   pub walks_line : (l : Line) (s : Scan) (found : Option Rule)
       → (s.limit ≤ to → LeastBroken (λ rule. IsKept code rule l) from s.limit found)
-      → Walks code from to (l ∷ []) s (passed s found)
+      → Walks code from to (l ∷ []) s (past_next_line s found)
   walks_line l s found least = record {
     walks = λ seen h. pass_line seen l s found (least (at_most seen l s.limit s.broken h.broken)) h;
   }

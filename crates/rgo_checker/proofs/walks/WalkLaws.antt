@@ -18,8 +18,8 @@ use Rattle.rgo_code.specs.Names.{slot_class, class_of, result_class}
 use Rattle.rgo_checker.specs.declared.scan.Scan.{Scan}
 use Rattle.rgo_checker.specs.ClassTests.{class_fits, result_fits}
 use Rattle.rgo_checker.specs.Instrs.{InstrKept, EntryKept, LeastBroken}
-use Rattle.rgo_checker.specs.Lines.{first_lines, slot_lines, instr_lines, fn_lines, functions_lines}
-use Rattle.rgo_checker.specs.Scan.{IsKept, Walks, passed}
+use Rattle.rgo_checker.specs.Lines.{first_lines, lines_of_slots, lines_of_instrs, lines_of_function, functions_lines}
+use Rattle.rgo_checker.specs.Scan.{IsKept, Walks, past_next_line}
 use Rattle.rgo_checker.specs.Tests.{broken_if}
 use Rattle.rgo_checker.proofs.decides.ClassLaws.{class_fits_decided}
 use Rattle.rgo_checker.proofs.Deciding.{always}
@@ -66,7 +66,7 @@ module _ (code : Code) (n : ℕ) (f : CodeFn) (here : slice_get code.functions n
       by (Some s) = class_fits_decided s
 
   pub head_walked : (s t : Scan) (kept : Bool) → kept ≡ result_fits (result_class f) (erased_fn f).result_type
-      → t ≡ passed s (broken_if s.limit rule.Classes kept) → Walks code 2 15 (FunctionLine n ∷ []) s t
+      → t ≡ past_next_line s (broken_if s.limit rule.Classes kept) → Walks code 2 15 (FunctionLine n ∷ []) s t
   head_walked s t kept k e =
       subst (Walks code 2 15 (FunctionLine n ∷ []) s) (sym e)
       (walks_line code 2 15 (FunctionLine n) s (broken_if s.limit rule.Classes kept)
@@ -85,7 +85,7 @@ module _ (code : Code) (n : ℕ) (f : CodeFn) (here : slice_get code.functions n
       by (Some s) q h = (s, q, ap slot_class q, same_Some s.ty ty h)
 
   pub slot_walked : (v : ℕ) (ty : «Type») → slice_get (erased_fn f).variables v ≡ Some ty → (s t : Scan) (kept : Bool)
-      → kept ≡ class_fits (class_of f v) ty → t ≡ passed s (broken_if s.limit rule.Classes kept)
+      → kept ≡ class_fits (class_of f v) ty → t ≡ past_next_line s (broken_if s.limit rule.Classes kept)
       → Walks code 2 15 (SlotLine n v ∷ []) s t
   slot_walked v ty there s t kept k e =
       let x = slot_of v ty there in
@@ -99,19 +99,19 @@ module _ (code : Code) (n : ℕ) (f : CodeFn) (here : slice_get code.functions n
 
   -- ---- entry, instructions, end
 
-  pub entry_walked : (s t : Scan) (o : Option Rule) → LeastBroken (EntryKept f) 2 s.limit o → t ≡ passed s o
+  pub entry_walked : (s t : Scan) (o : Option Rule) → LeastBroken (EntryKept f) 2 s.limit o → t ≡ past_next_line s o
       → Walks code 2 15 (EntryLine n ∷ []) s t
   entry_walked s t o k e =
       subst (Walks code 2 15 (EntryLine n ∷ []) s) (sym e)
       (walks_line code 2 15 (EntryLine n) s o (λ few. least_at_entry code n f here 2 s.limit o k))
 
   pub instr_walked : (i : ℕ) (s t : Scan) (o : Option Rule) → LeastBroken (InstrKept code f i) 2 s.limit o
-      → t ≡ passed s o → Walks code 2 15 (InstrLine n i ∷ []) s t
+      → t ≡ past_next_line s o → Walks code 2 15 (InstrLine n i ∷ []) s t
   instr_walked i s t o k e =
       subst (Walks code 2 15 (InstrLine n i ∷ []) s) (sym e)
       (walks_line code 2 15 (InstrLine n i) s o (λ few. least_at_instr code n f here 2 s.limit o i k))
 
-pub end_walked : (code : Code) (n : ℕ) (s t : Scan) → t ≡ passed s None → Walks code 2 15 (EndLine n ∷ []) s t
+pub end_walked : (code : Code) (n : ℕ) (s t : Scan) → t ≡ past_next_line s None → Walks code 2 15 (EndLine n ∷ []) s t
 end_walked code n s t e =
     subst (Walks code 2 15 (EndLine n ∷ []) s) (sym e)
     (walks_line code 2 15 (EndLine n) s None (λ few r low high. end_trivial code n r low))
@@ -119,46 +119,46 @@ end_walked code n s t e =
 -- ---- functions
 
 pub fn_walked : (code : Code) (from to n : ℕ) (f : CodeFn) (s t u v w x : Scan)
-    → Walks code from to (FunctionLine n ∷ []) s t → Walks code from to (slot_lines n f.variables) t u
-    → Walks code from to (EntryLine n ∷ []) u v → Walks code from to (instr_lines n f.body) v w
-    → Walks code from to (EndLine n ∷ []) w x → Walks code from to (fn_lines n f) s x
+    → Walks code from to (FunctionLine n ∷ []) s t → Walks code from to (lines_of_slots n f.variables) t u
+    → Walks code from to (EntryLine n ∷ []) u v → Walks code from to (lines_of_instrs n f.body) v w
+    → Walks code from to (EndLine n ∷ []) w x → Walks code from to (lines_of_function n f) s x
 fn_walked code from to n f s t u v w x head slots entry body end =
-    walks_then code from to (FunctionLine n ∷ []) (slot_lines n f.variables ++ rest) s t x head
-    (walks_then code from to (slot_lines n f.variables) rest t u x slots
-    (walks_then code from to (EntryLine n ∷ []) (instr_lines n f.body ++ EndLine n ∷ []) u v x entry
-    (walks_then code from to (instr_lines n f.body) (EndLine n ∷ []) v w x body end)))
+    walks_then code from to (FunctionLine n ∷ []) (lines_of_slots n f.variables ++ rest) s t x head
+    (walks_then code from to (lines_of_slots n f.variables) rest t u x slots
+    (walks_then code from to (EntryLine n ∷ []) (lines_of_instrs n f.body ++ EndLine n ∷ []) u v x entry
+    (walks_then code from to (lines_of_instrs n f.body) (EndLine n ∷ []) v w x body end)))
   where
     rest : List Line
-    rest = EntryLine n ∷ (instr_lines n f.body ++ EndLine n ∷ [])
+    rest = EntryLine n ∷ (lines_of_instrs n f.body ++ EndLine n ∷ [])
 
 functions_more : (m : ℕ) (fs : List CodeFn) (n : ℕ) (f : CodeFn) → slice_get fs n ≡ Some f
-    → functions_lines m (take (suc n) fs) ≡ functions_lines m (take n fs) ++ fn_lines (m + n) f
+    → functions_lines m (take (suc n) fs) ≡ functions_lines m (take n fs) ++ lines_of_function (m + n) f
 functions_more m [] n f e = absurd (none-some f e)
 functions_more m (g ∷ fs) zero f e =
-    append-nil (fn_lines m g) ∙ (λ j. fn_lines (by j) (same_Some g f e j))
+    append-nil (lines_of_function m g) ∙ (λ j. lines_of_function (by j) (same_Some g f e j))
   where
     by : m ≡ m + 0
     by = omega arith
 functions_more m (g ∷ fs) (suc n) f e =
-    ap (λ ls. fn_lines m g ++ ls) (functions_more (m + 1) fs n f e)
-    ∙ sym (append_assoc (fn_lines m g) (functions_lines (m + 1) (take n fs)) (fn_lines ((m + 1) + n) f))
-    ∙ ap (λ k. (fn_lines m g ++ functions_lines (m + 1) (take n fs)) ++ fn_lines k f) by
+    ap (λ ls. lines_of_function m g ++ ls) (functions_more (m + 1) fs n f e)
+    ∙ sym (append_assoc (lines_of_function m g) (functions_lines (m + 1) (take n fs)) (lines_of_function ((m + 1) + n) f))
+    ∙ ap (λ k. (lines_of_function m g ++ functions_lines (m + 1) (take n fs)) ++ lines_of_function k f) by
   where
     by : (m + 1) + n ≡ m + suc n
     by = omega arith
 
 pub functions_walked : (code : Code) (from to n : ℕ) (f : CodeFn) (s t u : Scan) → slice_get code.functions n ≡ Some f
-    → Walks code from to (functions_lines 0 (take n code.functions)) s t → Walks code from to (fn_lines n f) t u
+    → Walks code from to (functions_lines 0 (take n code.functions)) s t → Walks code from to (lines_of_function n f) t u
     → Walks code from to (functions_lines 0 (take (n + 1) code.functions)) s u
 functions_walked code from to n f s t u e p q =
     subst (λ ls. Walks code from to ls s u) (sym together)
-    (walks_then code from to (functions_lines 0 (take n code.functions)) (fn_lines n f) s t u p q)
+    (walks_then code from to (functions_lines 0 (take n code.functions)) (lines_of_function n f) s t u p q)
   where
     together : functions_lines 0 (take (n + 1) code.functions)
-        ≡ functions_lines 0 (take n code.functions) ++ fn_lines n f
+        ≡ functions_lines 0 (take n code.functions) ++ lines_of_function n f
     together =
         ap (λ k. functions_lines 0 (take k code.functions)) (next n) ∙ functions_more 0 code.functions n f e
-        ∙ ap (λ k. functions_lines 0 (take n code.functions) ++ fn_lines k f) (zero_left n)
+        ∙ ap (λ k. functions_lines 0 (take n code.functions) ++ lines_of_function k f) (zero_left n)
       where
         next : (k : ℕ) → k + 1 ≡ suc k
         next k = omega arith

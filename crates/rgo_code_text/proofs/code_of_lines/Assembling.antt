@@ -9,7 +9,7 @@ use Rattle.rgo_typed.specs.declared.programs.Variable.{Variable}
 use Rattle.rgo_code.specs.Code.{Slot, CodeInstr, CodeFn}
 use Rattle.rgo_code_text.specs.declared.places.Place.{Place}
 use Rattle.rgo_code_text.specs.declared.places.Place.TheVariants.{First, Structs, Globals, Functions, Slots, Body}
-use Rattle.rgo_code_text.specs.CodeLines.{Line, Head, Struct, Global, Function, Var, Entry, Instr, End, instrs_from, lines_of_fn, line_kind, Building, nothing, no_function, with_line, with_lines}
+use Rattle.rgo_code_text.specs.CodeLines.{Line, Head, Struct, Global, Function, Var, Entry, Instr, End, instrs_from, code_lines_of_fn, line_kind, Building, empty_building, no_function, with_line, with_lines}
 use Rattle.rgo_code_text.specs.Order.{after_kind, after_kinds}
 use Rattle.rgo_code_words.specs.Readers.{on_some}
 use Rattle.rgo_code_words.proofs.ListFacts.{flat_push}
@@ -18,7 +18,7 @@ use Rattle.rgo_code_words.proofs.Options.{some_same, not_none}
 -- ---- the lines of code that is not complete
 
 abbrev pub whole_lines : Building → List Line
-whole_lines b = Head ∷ (map Struct b.structs ++ (map Global b.variables ++ flat_map lines_of_fn b.functions))
+whole_lines b = Head ∷ (map Struct b.structs ++ (map Global b.variables ++ flat_map code_lines_of_fn b.functions))
 
 abbrev pub head_of : CodeFn → Line
 head_of f = Function f.name f.params f.result
@@ -34,7 +34,7 @@ lines_so_far (Body i) b =
 
 -- what is at a place comes after what is before it
 abbrev pub Stands : Place → Building → Type 0
-Stands First b = b ≡ nothing
+Stands First b = b ≡ empty_building
 Stands Structs b = (b.variables ≡ []) × (b.functions ≡ [])
 Stands Globals b = b.functions ≡ []
 Stands Functions b = Unit {0}
@@ -54,9 +54,9 @@ instrs_push i (y ∷ xs) x j e = ap (λ t. Instr i y ∷ t) (instrs_push (i + 1)
 
 struct_grows : (b : Building) (s : StructType) → Stands Structs b → Grows Structs Structs b (with_line b (Struct s)) (Struct s)
 struct_grows b s st =
-    let rest : List Line = map Global b.variables ++ flat_map lines_of_fn b.functions in
+    let rest : List Line = map Global b.variables ++ flat_map code_lines_of_fn b.functions in
     let none : rest ≡ [] =
-    ap (λ vs. map Global vs ++ flat_map lines_of_fn b.functions) st.0 ∙ ap (λ fs. flat_map lines_of_fn fs) st.1 in
+    ap (λ vs. map Global vs ++ flat_map code_lines_of_fn b.functions) st.0 ∙ ap (λ fs. flat_map code_lines_of_fn fs) st.1 in
     let gone : (ws : List Line) → ws ++ rest ≡ ws = λ ws. ap (λ t. ws ++ t) none ∙ append-nil ws in
     record {
       lines = ap (λ ws. Head ∷ ws)
@@ -68,8 +68,8 @@ struct_grows b s st =
 global_grows : (p : Place) (b : Building) (v : Variable) → lines_so_far p b ≡ whole_lines b → b.functions ≡ []
     → Grows p Globals b (with_line b (Global v)) (Global v)
 global_grows p b v whole none =
-    let gone : (ws : List Line) → ws ++ flat_map lines_of_fn b.functions ≡ ws =
-    λ ws. ap (λ fs. ws ++ flat_map lines_of_fn fs) none ∙ append-nil ws in
+    let gone : (ws : List Line) → ws ++ flat_map code_lines_of_fn b.functions ≡ ws =
+    λ ws. ap (λ fs. ws ++ flat_map code_lines_of_fn fs) none ∙ append-nil ws in
     let structs : List Line = map Struct b.structs in
     let globals : List Line = map Global b.variables in
     record {
@@ -125,12 +125,12 @@ end_grows b i =
     let body : List Line = instrs_from 0 f.body in
     let structs : List Line = map Struct b.structs in
     let globals : List Line = map Global b.variables in
-    let fns : List Line = flat_map lines_of_fn b.functions in
+    let fns : List Line = flat_map code_lines_of_fn b.functions in
     let current : List Line = head_of f ∷ (slots ++ (Entry f.entry ∷ body)) in
-    let lines : lines_of_fn f ≡ current ++ End ∷ [] =
+    let lines : code_lines_of_fn f ≡ current ++ End ∷ [] =
     ap (λ ws. head_of f ∷ ws) (sym (append_assoc slots (Entry f.entry ∷ body) (End ∷ []))) in
     record {
-      lines = ap (λ ws. Head ∷ (structs ++ (globals ++ ws))) (flat_push lines_of_fn b.functions f ∙ ap (λ ws. fns ++ ws) lines)
+      lines = ap (λ ws. Head ∷ (structs ++ (globals ++ ws))) (flat_push code_lines_of_fn b.functions f ∙ ap (λ ws. fns ++ ws) lines)
           ∙ ap (λ ws. Head ∷ (structs ++ ws)) (sym (append_assoc globals fns (current ++ End ∷ [])))
           ∙ ap (λ ws. Head ∷ ws) (sym (append_assoc structs (globals ++ fns) (current ++ End ∷ [])))
           ∙ sym (append_assoc (whole_lines b) current (End ∷ []));
@@ -232,7 +232,7 @@ instrs_again b i (x ∷ xs) =
     ∙ ap (λ ys. record b { current = record b.current { body = ys } }) (append_assoc b.current.body (x ∷ []) xs)
 
 fn_again : (b : Building) (f : CodeFn)
-    → with_lines b (lines_of_fn f) ≡ record b { functions = b.functions ++ f ∷ []; current = no_function }
+    → with_lines b (code_lines_of_fn f) ≡ record b { functions = b.functions ++ f ∷ []; current = no_function }
 fn_again b f =
     let head : Building = with_line b (head_of f) in
     let slots : Building = record b { current = record head.current { variables = f.variables } } in
@@ -248,13 +248,13 @@ pub record FnsAgain (b : Building) (fs : List CodeFn) (c : Building) : Type 0 wh
   pub variables : c.variables ≡ b.variables
   pub functions : c.functions ≡ b.functions ++ fs
 
-fns_again : (b : Building) (fs : List CodeFn) → FnsAgain b fs (with_lines b (flat_map lines_of_fn fs))
+fns_again : (b : Building) (fs : List CodeFn) → FnsAgain b fs (with_lines b (flat_map code_lines_of_fn fs))
 fns_again b [] = record { structs = refl; variables = refl; functions = sym (append-nil b.functions) }
 fns_again b (f ∷ fs) =
     let c : Building = record b { functions = b.functions ++ f ∷ []; current = no_function } in
     let r = fns_again c fs in
     subst (FnsAgain b (f ∷ fs))
-    (sym (lines_append b (lines_of_fn f) (flat_map lines_of_fn fs) ∙ ap (λ c. with_lines c (flat_map lines_of_fn fs)) (fn_again b f)))
+    (sym (lines_append b (code_lines_of_fn f) (flat_map code_lines_of_fn fs) ∙ ap (λ c. with_lines c (flat_map code_lines_of_fn fs)) (fn_again b f)))
     (record {
       structs = r.structs;
       variables = r.variables;
@@ -262,14 +262,14 @@ fns_again b (f ∷ fs) =
     })
 
 pub code_again : (ss : List StructType) (vs : List Variable) (fs : List CodeFn)
-    → FnsAgain (record nothing { structs = ss; variables = vs }) fs
-    (with_lines nothing (Head ∷ (map Struct ss ++ (map Global vs ++ flat_map lines_of_fn fs))))
+    → FnsAgain (record empty_building { structs = ss; variables = vs }) fs
+    (with_lines empty_building (Head ∷ (map Struct ss ++ (map Global vs ++ flat_map code_lines_of_fn fs))))
 code_again ss vs fs =
-    let b : Building = record nothing { structs = ss } in
-    let c : Building = record nothing { structs = ss; variables = vs } in
+    let b : Building = record empty_building { structs = ss } in
+    let c : Building = record empty_building { structs = ss; variables = vs } in
     subst (FnsAgain c fs)
-    (sym (lines_append nothing (map Struct ss) (map Global vs ++ flat_map lines_of_fn fs)
-    ∙ ap (λ d. with_lines d (map Global vs ++ flat_map lines_of_fn fs)) (structs_again nothing ss)
-    ∙ lines_append b (map Global vs) (flat_map lines_of_fn fs)
-    ∙ ap (λ d. with_lines d (flat_map lines_of_fn fs)) (globals_again b vs)))
+    (sym (lines_append empty_building (map Struct ss) (map Global vs ++ flat_map code_lines_of_fn fs)
+    ∙ ap (λ d. with_lines d (map Global vs ++ flat_map code_lines_of_fn fs)) (structs_again empty_building ss)
+    ∙ lines_append b (map Global vs) (flat_map code_lines_of_fn fs)
+    ∙ ap (λ d. with_lines d (flat_map code_lines_of_fn fs)) (globals_again b vs)))
     (fns_again c fs)

@@ -14,15 +14,15 @@ use Rattle.rgo_code.specs.declared.notes.Note.{Note}
 use Rattle.rgo_code.specs.Code.{CodeOp, Do, Call, Go}
 use Rattle.rgo_code.specs.Views.{slots, code_body}
 use Rattle.rgo_code_text.specs.declared.building.Building.{Building as CodeBuilding}
-use Rattle.rgo_code_text.specs.Building.{base_names, type_names, slot_names, struct_name, variable_name, op_structs, op_variables, op_functions}
-use Rattle.rgo_code_text.specs.Building.{declared_struct, declared_variable, declared_function, used_structs, used_variables, used_functions, with_names}
+use Rattle.rgo_code_text.specs.Building.{base_names, type_names, result_names, struct_name, variable_name, op_structs, op_variables, op_functions}
+use Rattle.rgo_code_text.specs.Building.{declared_struct, declared_variable, declared_function, used_structs, used_variables, used_functions, with_all_names}
 use Rattle.rgo_code_text.specs.CodeLines as lines
-use Rattle.rgo_code_text.specs.CodeLines.{Building, nothing, with_line, with_lines}
+use Rattle.rgo_code_text.specs.CodeLines.{Building, empty_building, with_line, with_lines}
 use Rattle.rgo_code_text.specs.Items.{NamedSlot, Item, Head, Struct, Global, Function, Slot, Entry, Instr, End, item_words, items_text, named_type_word}
 use Rattle.rgo_code_text.specs.Numbers.{with_name}
 use Rattle.rgo_code_text.specs.Opened.{open_of, building_of, FunctionHasRoom}
 use Rattle.rgo_code_text.specs.Sizes.{AreFew}
-use Rattle.rgo_code_text.specs.Written.{Naming, NamesNothing, NamesStruct, NamesVariable, naming_of, number_of_name}
+use Rattle.rgo_code_text.specs.Written.{ActionNaming, NamesNothing, NamesStruct, NamesVariable, naming_of, number_of_name}
 use Rattle.rgo_code_words.specs.Readers.{NamedType}
 use Rattle.rgo_code_words.specs.Worded.{is_among}
 use Rattle.rgo_code_printing.specs.Text.{line}
@@ -63,7 +63,7 @@ base_few base.Bool name = omega arith
 type_few : (t : NamedType) → length (type_names t) ≤ 1
 type_few t = base_few t.ty.base t.name
 
-slot_few : (s : Option NamedSlot) → length (slot_names s) ≤ 1
+slot_few : (s : Option NamedSlot) → length (result_names s) ≤ 1
 slot_few None = omega arith
 slot_few (Some s) = type_few s.ty
 
@@ -72,12 +72,12 @@ types_few [] = omega arith
 types_few (t ∷ ts) =
     omega (arith, types_few ts, type_few t, length-append (type_names t) (flat_map type_names ts))
 
-struct_few : (n : Naming) (name : List ℕ) → length (struct_name n name) ≤ 1
+struct_few : (n : ActionNaming) (name : List ℕ) → length (struct_name n name) ≤ 1
 struct_few NamesNothing name = omega arith
 struct_few (NamesStruct n) name = omega arith
 struct_few (NamesVariable n) name = omega arith
 
-variable_few : (n : Naming) (name : List ℕ) → length (variable_name n name) ≤ 1
+variable_few : (n : ActionNaming) (name : List ℕ) → length (variable_name n name) ≤ 1
 variable_few NamesNothing name = omega arith
 variable_few (NamesStruct n) name = omega arith
 variable_few (NamesVariable n) name = omega arith
@@ -124,7 +124,7 @@ name_few names name = by (is_among names name)
     by true = omega arith
     by false = omega (arith, length_push names name)
 
-names_few : (names others : List (List ℕ)) → length (with_names names others) ≤ length names + length others
+names_few : (names others : List (List ℕ)) → length (with_all_names names others) ≤ length names + length others
 names_few names [] = omega arith
 names_few names (name ∷ others) = omega (arith, names_few (with_name names name) others, name_few names name)
 
@@ -144,7 +144,7 @@ module _ (declared used : Item → List (List ℕ))
       )
 
   kind_few : (items : List Item)
-      → length (with_names (flat_map declared items) (flat_map used items)) ≤ length (items_text items)
+      → length (with_all_names (flat_map declared items) (flat_map used items)) ≤ length (items_text items)
   kind_few items = omega (arith, both_few items, names_few (flat_map declared items) (flat_map used items))
 
 -- and so are the lines
@@ -213,14 +213,14 @@ lines_grow b (x ∷ xs) =
     let rest = lines_grow (with_line b x) xs in
     record { variables = omega (arith, first.variables, rest.variables); body = omega (arith, first.body, rest.body) }
 
-pub has_room : (b : CodeBuilding) (xs : List lines.Line) → building_of b ≡ with_lines nothing xs → length xs + 2 < 2 ^ 32
+pub has_room : (b : CodeBuilding) (xs : List lines.Line) → building_of b ≡ with_lines empty_building xs → length xs + 2 < 2 ^ 32
     → FunctionHasRoom b.current
 has_room b xs made h =
     let o = b.current in
-    let g = lines_grow nothing xs in
-    let variables : length (open_of o).variables ≡ length (with_lines nothing xs).current.variables =
+    let g = lines_grow empty_building xs in
+    let variables : length (open_of o).variables ≡ length (with_lines empty_building xs).current.variables =
     ap (λ (c : Building). length c.current.variables) made in
-    let body : length (open_of o).body ≡ length (with_lines nothing xs).current.body =
+    let body : length (open_of o).body ≡ length (with_lines empty_building xs).current.body =
     ap (λ (c : Building). length c.current.body) made in
     record {
       types = omega (arith, h, g.variables, variables, slots_long o.types.items o.classes.items);

@@ -10,12 +10,12 @@ use Rattle.rgo_typed.specs.declared.actions.Action.TheVariants as action
 use Rattle.rgo_code.specs.Code.{CodeOp, CodeInstr, CodeFn, Do, Call, Go, Print, Jump, Branch, Return}
 use Rattle.rgo_code.specs.NameRules.{InstrAscends, FnAscends, protected_names}
 use Rattle.rgo_code.specs.Names.{edges}
-use Rattle.rgo_code_text.specs.Building.{numbered, numbered_slot, numbered_action, numbered_op, numbered_instr}
-use Rattle.rgo_code_text.specs.CodeLines.{Building, nothing, no_function, with_line, with_lines}
+use Rattle.rgo_code_text.specs.Building.{line_of_item, numbered_slot, numbered_action, numbered_op, numbered_instr}
+use Rattle.rgo_code_text.specs.CodeLines.{Building, empty_building, no_function, with_line, with_lines}
 use Rattle.rgo_code_text.specs.Items.{NamedSlot, Item, Head, Struct, Global, Function, Slot as SlotLine, Entry, Instr, End, ItemFits, NamedSlotFits}
 use Rattle.rgo_code_printing.specs.Text.{Names}
-use Rattle.rgo_code_text.specs.Written.{IsInstruction, ActionFits, OpFits, InstrFits, SlotFits}
-use Rattle.rgo_code_words.specs.Worded.{IsSmall, AreRegions}
+use Rattle.rgo_code_text.specs.Written.{IsInstruction, ActionHasText, OpHasText, InstrHasText, SlotFits}
+use Rattle.rgo_code_words.specs.Worded.{IsSmallNumber, AreRegions}
 
 -- ---- lists
 
@@ -29,7 +29,7 @@ contained_all : {A : Type 0} (P : A → Type 0) (xs : List A) (x : A) → All P 
 contained_all P xs x a (k, l, e) = subst P e (a k x l)
 
 no_regions : AreRegions []
-no_regions = (λ k l. absurd (omega (arith, l)), All-nil IsSmall)
+no_regions = (λ k l. absurd (omega (arith, l)), All-nil IsSmallNumber)
 
 -- ---- numbers for names
 
@@ -47,13 +47,13 @@ instruction_same n (action.Set k) None (x ∷ y ∷ from) name f = f
 instruction_same n (action.Set k) (Some d) from name f = f
 instruction_same n _ to from name f = f
 
-action_same : (n : Names) (a : Action) (name : List ℕ) → ActionFits a → ActionFits (numbered_action n a name)
+action_same : (n : Names) (a : Action) (name : List ℕ) → ActionHasText a → ActionHasText (numbered_action n a name)
 action_same n (action.New k) name f = tt
 action_same n (action.Get k) name f = tt
 action_same n (action.Set k) name f = tt
 action_same n _ name f = f
 
-pub op_fits : (n : Names) (op : CodeOp) (name : List ℕ) → OpFits op → OpFits (numbered_op n op name)
+pub op_fits : (n : Names) (op : CodeOp) (name : List ℕ) → OpHasText op → OpHasText (numbered_op n op name)
 op_fits n (Do to a from removes) name f =
     (instruction_same n a to from name f.0, action_same n a name f.1, f.2, f.3, f.4)
 op_fits n (Call to k from passes protects removes) name f = f
@@ -67,11 +67,11 @@ op_fits n (Return value) name f = f
 
 -- all but the number of its instructions
 pub record PartsFit (f : CodeFn) : Type 0 where
-  pub params : IsSmall f.params
+  pub params : IsSmallNumber f.params
   pub result : IfSome f.result SlotFits
   pub variables : All SlotFits f.variables
   pub entry : AreRegions f.entry
-  pub body : All InstrFits f.body
+  pub body : All InstrHasText f.body
 
 pub record AllFit (b : Building) : Type 0 where
   pub functions : All PartsFit b.functions
@@ -83,17 +83,17 @@ none_fits = record {
   result = tt;
   variables = All-nil SlotFits;
   entry = no_regions;
-  body = All-nil InstrFits;
+  body = All-nil InstrHasText;
 }
 
-pub nothing_fits : AllFit nothing
+pub nothing_fits : AllFit empty_building
 nothing_fits = record { functions = All-nil PartsFit; current = none_fits }
 
 result_fits : (n : Names) (s : Option NamedSlot) → IfSome s NamedSlotFits → IfSome (option_map (numbered_slot n) s) SlotFits
 result_fits n None f = tt
 result_fits n (Some s) f = f.1
 
-pub grown_fits : (n : Names) (b : Building) (x : Item) → ItemFits x → AllFit b → AllFit (with_line b (numbered n x))
+pub grown_fits : (n : Names) (b : Building) (x : Item) → ItemFits x → AllFit b → AllFit (with_line b (line_of_item n x))
 grown_fits n b Head f a = a
 grown_fits n b (Struct name fields) f a = record { functions = a.functions; current = a.current }
 grown_fits n b (Global name ty) f a = record { functions = a.functions; current = a.current }
@@ -104,7 +104,7 @@ grown_fits n b (Function name params slot) f a = record {
     result = result_fits n slot f.2;
     variables = All-nil SlotFits;
     entry = no_regions;
-    body = All-nil InstrFits;
+    body = All-nil InstrHasText;
   };
 }
 grown_fits n b (SlotLine slot) f a = record {
@@ -134,7 +134,7 @@ grown_fits n b (Instr i instr name) f a = record {
     result = a.current.result;
     variables = a.current.variables;
     entry = a.current.entry;
-    body = All-push InstrFits b.current.body (numbered_instr n instr name) a.current.body
+    body = All-push InstrHasText b.current.body (numbered_instr n instr name) a.current.body
         (f.1.0, f.1.1, op_fits n instr.op name f.1.2);
   };
 }
@@ -143,14 +143,14 @@ grown_fits n b End f a = record {
   current = none_fits;
 }
 
-pub all_fit : (n : Names) (b : Building) (items : List Item) → All ItemFits items → AllFit b → AllFit (with_lines b (map (numbered n) items))
+pub all_fit : (n : Names) (b : Building) (items : List Item) → All ItemFits items → AllFit b → AllFit (with_lines b (map (line_of_item n) items))
 all_fit n b [] f a = a
 all_fit n b (x ∷ items) f a =
-    all_fit n (with_line b (numbered n x)) items (All-tail ItemFits x items f) (grown_fits n b x (All-head ItemFits x items f) a)
+    all_fit n (with_line b (line_of_item n x)) items (All-tail ItemFits x items f) (grown_fits n b x (All-head ItemFits x items f) a)
 
 -- ---- lists of names ascend
 
-protects_rise : (op : CodeOp) → OpFits op → IsStrictlyIncreasing (protected_names op)
+protects_rise : (op : CodeOp) → OpHasText op → IsStrictlyIncreasing (protected_names op)
 protects_rise (Call to k from passes protects removes) f = f.3.0
 protects_rise (Do to a from removes) f = no_regions.0
 protects_rise (Go k from passes removes) f = no_regions.0
@@ -162,7 +162,7 @@ protects_rise (Return value) f = no_regions.0
 abbrev Rises : ℕ × List ℕ → Type 0
 Rises edge = IsStrictlyIncreasing edge.1
 
-edges_rise : (op : CodeOp) (i : ℕ) → OpFits op → All Rises (edges op i)
+edges_rise : (op : CodeOp) (i : ℕ) → OpHasText op → All Rises (edges op i)
 edges_rise (Do to a from removes) i f = one_all Rises (i + 1, removes) f.4.0
 edges_rise (Call to k from passes protects removes) i f = one_all Rises (i + 1, removes) f.4.0
 edges_rise (Go k from passes removes) i f = one_all Rises (i + 1, removes) f.2.0
@@ -172,7 +172,7 @@ edges_rise (Branch test target removes other otherwise) i f =
     All-push Rises ((target, removes) ∷ []) (other, otherwise) (one_all Rises (target, removes) f.2.0) f.4.0
 edges_rise (Return value) i f = All-nil Rises
 
-instr_ascends : (i : ℕ) (instr : CodeInstr) → InstrFits instr → InstrAscends i instr
+instr_ascends : (i : ℕ) (instr : CodeInstr) → InstrHasText instr → InstrAscends i instr
 instr_ascends i instr f = record {
   creates = f.1.0;
   protects = protects_rise instr.op f.2;
@@ -184,5 +184,5 @@ fits_ascends fs a n f e =
     let p = got_all PartsFit fs n f a e in
     record {
       entry = p.entry.0;
-      body = λ i instr g. instr_ascends i instr (got_all InstrFits f.body i instr p.body g);
+      body = λ i instr g. instr_ascends i instr (got_all InstrHasText f.body i instr p.body g);
     }

@@ -9,11 +9,11 @@ use Rattle.rgo_typed.specs.declared.programs.Variable.{Variable}
 use Rattle.rgo_code.specs.Code.{Slot, CodeInstr, CodeFn, Code}
 use Rattle.rgo_code_text.specs.declared.places.Place.{Place}
 use Rattle.rgo_code_text.specs.declared.places.Place.TheVariants.{First, Structs, Globals, Functions, Slots, Body}
-use Rattle.rgo_code_text.specs.CodeLines.{Line, Head, Struct, Global, Var, Entry, Instr, End, instrs_from, lines_of_fn, lines_of, line_kind, line_words, LineFits, line_struct, line_variable, line_function, uses_structs, uses_variables, uses_functions}
+use Rattle.rgo_code_text.specs.CodeLines.{Line, Head, Struct, Global, Var, Entry, Instr, End, instrs_from, code_lines_of_fn, code_lines_of, line_kind, line_words, LineFits, line_struct, line_variable, line_function, uses_structs, uses_variables, uses_functions}
 use Rattle.rgo_code_text.specs.Order.{Kind, after_kind, after_kinds, IsLast}
 use Rattle.rgo_code_words.specs.Readers.{on_some}
-use Rattle.rgo_code_printing.specs.Text.{Names, struct_words, global_words, slot_words, body_lines, fn_lines, lines_with}
-use Rattle.rgo_code_text.specs.Written.{type_uses, struct_of_op, variable_in, function_in, fn_structs, fn_variables, fn_functions, uses_of, FnFits, SlotFits, InstrFits}
+use Rattle.rgo_code_printing.specs.Text.{Names, struct_line_words, global_words, slot_words, body_lines, fn_lines, lines_with}
+use Rattle.rgo_code_text.specs.Written.{type_uses, struct_of_op, variable_in, function_in, fn_structs, fn_variables, fn_functions, uses_of, FnHasText, SlotFits, InstrHasText}
 use Rattle.rgo_code_text.proofs.code_of_lines.Assembling.{head_of}
 use Rattle.rgo_code_words.proofs.ListFacts.{flat_append, front_all, back_all}
 
@@ -23,9 +23,9 @@ instrs_words : (n : Names) (i : ℕ) (xs : List CodeInstr) → map (line_words n
 instrs_words n i [] = refl
 instrs_words n i (x ∷ xs) = ap (λ ws. line_words n (Instr i x) ∷ ws) (instrs_words n (i + 1) xs)
 
-structs_words : (n : Names) (ss : List StructType) → map (line_words n) (map Struct ss) ≡ map (struct_words n) ss
+structs_words : (n : Names) (ss : List StructType) → map (line_words n) (map Struct ss) ≡ map (struct_line_words n) ss
 structs_words n [] = refl
-structs_words n (s ∷ ss) = ap (λ ws. struct_words n s ∷ ws) (structs_words n ss)
+structs_words n (s ∷ ss) = ap (λ ws. struct_line_words n s ∷ ws) (structs_words n ss)
 
 globals_words : (n : Names) (vs : List Variable) → map (line_words n) (map Global vs) ≡ map (global_words n) vs
 globals_words n [] = refl
@@ -35,7 +35,7 @@ slots_words : (n : Names) (ss : List Slot) → map (line_words n) (map Var ss) �
 slots_words n [] = refl
 slots_words n (s ∷ ss) = ap (λ ws. slot_words n s ∷ ws) (slots_words n ss)
 
-fn_words : (n : Names) (f : CodeFn) → map (line_words n) (lines_of_fn f) ≡ fn_lines n f
+fn_words : (n : Names) (f : CodeFn) → map (line_words n) (code_lines_of_fn f) ≡ fn_lines n f
 fn_words n f =
     ap (λ ws. line_words n (head_of f) ∷ ws)
     (map-append (line_words n) (map Var f.variables) (Entry f.entry ∷ (instrs_from 0 f.body ++ End ∷ []))
@@ -44,21 +44,21 @@ fn_words n f =
     (map-append (line_words n) (instrs_from 0 f.body) (End ∷ [])
     ∙ ap (λ ws. ws ++ line_words n End ∷ []) (instrs_words n 0 f.body)))
 
-fns_words : (n : Names) (fs : List CodeFn) → map (line_words n) (flat_map lines_of_fn fs) ≡ flat_map (fn_lines n) fs
+fns_words : (n : Names) (fs : List CodeFn) → map (line_words n) (flat_map code_lines_of_fn fs) ≡ flat_map (fn_lines n) fs
 fns_words n [] = refl
 fns_words n (f ∷ fs) =
-    map-append (line_words n) (lines_of_fn f) (flat_map lines_of_fn fs)
-    ∙ ap (λ ws. ws ++ map (line_words n) (flat_map lines_of_fn fs)) (fn_words n f)
+    map-append (line_words n) (code_lines_of_fn f) (flat_map code_lines_of_fn fs)
+    ∙ ap (λ ws. ws ++ map (line_words n) (flat_map code_lines_of_fn fs)) (fn_words n f)
     ∙ ap (λ ws. fn_lines n f ++ ws) (fns_words n fs)
 
-pub code_words : (n : Names) (c : Code) → map (line_words n) (lines_of c) ≡ lines_with n c
+pub code_words : (n : Names) (c : Code) → map (line_words n) (code_lines_of c) ≡ lines_with n c
 code_words n c =
     ap (λ ws. line_words n Head ∷ ws)
-    (map-append (line_words n) (map Struct c.structs) (map Global c.variables ++ flat_map lines_of_fn c.functions)
-    ∙ ap (λ ws. ws ++ map (line_words n) (map Global c.variables ++ flat_map lines_of_fn c.functions)) (structs_words n c.structs)
-    ∙ ap (λ ws. map (struct_words n) c.structs ++ ws)
-    (map-append (line_words n) (map Global c.variables) (flat_map lines_of_fn c.functions)
-    ∙ ap (λ ws. ws ++ map (line_words n) (flat_map lines_of_fn c.functions)) (globals_words n c.variables)
+    (map-append (line_words n) (map Struct c.structs) (map Global c.variables ++ flat_map code_lines_of_fn c.functions)
+    ∙ ap (λ ws. ws ++ map (line_words n) (map Global c.variables ++ flat_map code_lines_of_fn c.functions)) (structs_words n c.structs)
+    ∙ ap (λ ws. map (struct_line_words n) c.structs ++ ws)
+    (map-append (line_words n) (map Global c.variables) (flat_map code_lines_of_fn c.functions)
+    ∙ ap (λ ws. ws ++ map (line_words n) (flat_map code_lines_of_fn c.functions)) (globals_words n c.variables)
     ∙ ap (λ ws. map (global_words n) c.variables ++ ws) (fns_words n c.functions)))
 
 -- ---- what each line contributes to a list
@@ -80,7 +80,7 @@ module _ {A : Type 0} (F : Line → List A) where
   fn_part f =
       F (head_of f) ++ (flat_map (λ s. F (Var s)) f.variables ++ (F (Entry f.entry) ++ (instrs_part 0 f.body ++ F End)))
 
-  fn_flat : (f : CodeFn) → flat_map F (lines_of_fn f) ≡ fn_part f
+  fn_flat : (f : CodeFn) → flat_map F (code_lines_of_fn f) ≡ fn_part f
   fn_flat f =
       ap (λ ys. F (head_of f) ++ ys)
       (flat_append F (map Var f.variables) (Entry f.entry ∷ (instrs_from 0 f.body ++ End ∷ []))
@@ -90,21 +90,21 @@ module _ {A : Type 0} (F : Line → List A) where
       ∙ ap (λ ys. ys ++ (F End ++ [])) (instrs_flat 0 f.body)
       ∙ ap (λ ys. instrs_part 0 f.body ++ ys) (append-nil (F End))))
 
-  fns_flat : (fs : List CodeFn) → flat_map F (flat_map lines_of_fn fs) ≡ flat_map fn_part fs
+  fns_flat : (fs : List CodeFn) → flat_map F (flat_map code_lines_of_fn fs) ≡ flat_map fn_part fs
   fns_flat [] = refl
   fns_flat (f ∷ fs) =
-      flat_append F (lines_of_fn f) (flat_map lines_of_fn fs) ∙ ap (λ ys. ys ++ flat_map F (flat_map lines_of_fn fs)) (fn_flat f)
+      flat_append F (code_lines_of_fn f) (flat_map code_lines_of_fn fs) ∙ ap (λ ys. ys ++ flat_map F (flat_map code_lines_of_fn fs)) (fn_flat f)
       ∙ ap (λ ys. fn_part f ++ ys) (fns_flat fs)
 
-  code_flat : (c : Code) → flat_map F (lines_of c)
+  code_flat : (c : Code) → flat_map F (code_lines_of c)
       ≡ F Head ++ (flat_map (λ s. F (Struct s)) c.structs ++ (flat_map (λ v. F (Global v)) c.variables ++ flat_map fn_part c.functions))
   code_flat c =
       ap (λ ys. F Head ++ ys)
-      (flat_append F (map Struct c.structs) (map Global c.variables ++ flat_map lines_of_fn c.functions)
-      ∙ ap (λ ys. ys ++ flat_map F (map Global c.variables ++ flat_map lines_of_fn c.functions)) (flat_mapped Struct c.structs)
+      (flat_append F (map Struct c.structs) (map Global c.variables ++ flat_map code_lines_of_fn c.functions)
+      ∙ ap (λ ys. ys ++ flat_map F (map Global c.variables ++ flat_map code_lines_of_fn c.functions)) (flat_mapped Struct c.structs)
       ∙ ap (λ ys. flat_map (λ s. F (Struct s)) c.structs ++ ys)
-      (flat_append F (map Global c.variables) (flat_map lines_of_fn c.functions)
-      ∙ ap (λ ys. ys ++ flat_map F (flat_map lines_of_fn c.functions)) (flat_mapped Global c.variables)
+      (flat_append F (map Global c.variables) (flat_map code_lines_of_fn c.functions)
+      ∙ ap (λ ys. ys ++ flat_map F (flat_map code_lines_of_fn c.functions)) (flat_mapped Global c.variables)
       ∙ ap (λ ys. flat_map (λ v. F (Global v)) c.variables ++ ys) (fns_flat c.functions)))
 
 flat_same : {X A : Type 0} (f g : X → List A) (xs : List X) → ((x : X) → f x ≡ g x) → flat_map f xs ≡ flat_map g xs
@@ -126,7 +126,7 @@ instrs_same F g e i [] = refl
 instrs_same F g e i (x ∷ xs) =
     ap (λ ys. ys ++ instrs_part F (i + 1) xs) (e i x) ∙ ap (λ ys. g x ++ ys) (instrs_same F g e (i + 1) xs)
 
-pub structs_used : (c : Code) → flat_map uses_structs (lines_of c) ≡ (uses_of c).structs
+pub structs_used : (c : Code) → flat_map uses_structs (code_lines_of c) ≡ (uses_of c).structs
 structs_used c =
     code_flat uses_structs c
     ∙ ap (λ ys. flat_map (λ s. flat_map type_uses s.fields) c.structs ++ (flat_map (λ v. type_uses v.ty) c.variables ++ ys))
@@ -135,7 +135,7 @@ structs_used c =
     (append-nil (instrs_part uses_structs 0 f.body)
     ∙ instrs_same uses_structs (λ i. struct_of_op i.op) (λ i x. refl) 0 f.body)))
 
-pub variables_used : (c : Code) → flat_map uses_variables (lines_of c) ≡ (uses_of c).variables
+pub variables_used : (c : Code) → flat_map uses_variables (code_lines_of c) ≡ (uses_of c).variables
 variables_used c =
     code_flat uses_variables c
     ∙ ap (λ ys. ys ++ (flat_map (λ v. uses_variables (Global v)) c.variables ++ flat_map (fn_part uses_variables) c.functions))
@@ -146,7 +146,7 @@ variables_used c =
     ∙ append-nil (instrs_part uses_variables 0 f.body)
     ∙ instrs_same uses_variables (λ i. variable_in i.op) (λ i x. refl) 0 f.body)
 
-pub functions_used : (c : Code) → flat_map uses_functions (lines_of c) ≡ (uses_of c).functions
+pub functions_used : (c : Code) → flat_map uses_functions (code_lines_of c) ≡ (uses_of c).functions
 functions_used c =
     code_flat uses_functions c
     ∙ ap (λ ys. ys ++ (flat_map (λ v. uses_functions (Global v)) c.variables ++ flat_map (fn_part uses_functions) c.functions))
@@ -168,7 +168,7 @@ no_instrs : {A : Type 0} (F : Line → List A) → ((i : ℕ) (x : CodeInstr) �
 no_instrs F e i [] = refl
 no_instrs F e i (x ∷ xs) = ap (λ ys. ys ++ instrs_part F (i + 1) xs) (e i x) ∙ no_instrs F e (i + 1) xs
 
-pub structs_declared : (c : Code) → flat_map line_struct (lines_of c) ≡ map (λ s. s.name) c.structs
+pub structs_declared : (c : Code) → flat_map line_struct (code_lines_of c) ≡ map (λ s. s.name) c.structs
 structs_declared c =
     code_flat line_struct c
     ∙ ap (λ ys. flat_map (λ s. s.name ∷ []) c.structs ++ ys)
@@ -178,7 +178,7 @@ structs_declared c =
     ∙ append-nil (instrs_part line_struct 0 f.body) ∙ no_instrs line_struct (λ i x. refl) 0 f.body))
     ∙ append-nil (flat_map (λ s. s.name ∷ []) c.structs) ∙ flat_single (λ s. s.name) c.structs
 
-pub variables_declared : (c : Code) → flat_map line_variable (lines_of c) ≡ map (λ v. v.name) c.variables
+pub variables_declared : (c : Code) → flat_map line_variable (code_lines_of c) ≡ map (λ v. v.name) c.variables
 variables_declared c =
     code_flat line_variable c
     ∙ ap (λ ys. ys ++ (flat_map (λ v. v.name ∷ []) c.variables ++ flat_map (fn_part line_variable) c.functions))
@@ -189,7 +189,7 @@ variables_declared c =
     ∙ append-nil (instrs_part line_variable 0 f.body) ∙ no_instrs line_variable (λ i x. refl) 0 f.body))
     ∙ append-nil (flat_map (λ v. v.name ∷ []) c.variables) ∙ flat_single (λ v. v.name) c.variables
 
-pub functions_declared : (c : Code) → flat_map line_function (lines_of c) ≡ map (λ f. f.name) c.functions
+pub functions_declared : (c : Code) → flat_map line_function (code_lines_of c) ≡ map (λ f. f.name) c.functions
 functions_declared c =
     code_flat line_function c
     ∙ ap (λ ys. ys ++ (flat_map (λ v. line_function (Global v)) c.variables ++ flat_map (fn_part line_function) c.functions))
@@ -253,13 +253,13 @@ instrs_lead (x ∷ xs) i =
           ∙ (instrs_lead xs (i + 1)).is ∙ ap (λ k. Some (Body k)) next;
     }
 
-fn_leads : (f : CodeFn) (p : Place) → IsLast p → LeadsTo (lines_of_fn f) p Functions
+fn_leads : (f : CodeFn) (p : Place) → IsLast p → LeadsTo (code_lines_of_fn f) p Functions
 fn_leads f p l = record { is = head p l ∙ inside.is }
   where
     rest : List Line
     rest = map Var f.variables ++ (Entry f.entry ∷ (instrs_from 0 f.body ++ End ∷ []))
 
-    head : (p : Place) → IsLast p → after_kinds (map line_kind (lines_of_fn f)) p ≡ after_kinds (map line_kind rest) Slots
+    head : (p : Place) → IsLast p → after_kinds (map line_kind (code_lines_of_fn f)) p ≡ after_kinds (map line_kind rest) Slots
     head Structs l = refl
     head Globals l = refl
     head Functions l = refl
@@ -275,13 +275,13 @@ fn_leads f p l = record { is = head p l ∙ inside.is }
         both_lead (map Var f.variables) (Entry f.entry ∷ (instrs_from 0 f.body ++ End ∷ [])) Slots Slots Functions
         (slots_lead f.variables) (record { is = body.is })
 
-fns_lead : (fs : List CodeFn) (p : Place) → IsLast p → LeadsLast (flat_map lines_of_fn fs) p
+fns_lead : (fs : List CodeFn) (p : Place) → IsLast p → LeadsLast (flat_map code_lines_of_fn fs) p
 fns_lead [] p l = record { place = p; leads = record { is = refl }; last = l }
 fns_lead (f ∷ fs) p l =
     let rest = fns_lead fs Functions tt in
     record {
       place = rest.place;
-      leads = both_lead (lines_of_fn f) (flat_map lines_of_fn fs) p Functions rest.place (fn_leads f p l) rest.leads;
+      leads = both_lead (code_lines_of_fn f) (flat_map code_lines_of_fn fs) p Functions rest.place (fn_leads f p l) rest.leads;
       last = rest.last;
     }
 
@@ -291,14 +291,14 @@ pub record Ordered (lines : List Line) : Type 0 where
   pub leads : after_kinds (map line_kind lines) First ≡ Some place
   pub last : IsLast place
 
-pub code_ordered : (c : Code) → Ordered (lines_of c)
+pub code_ordered : (c : Code) → Ordered (code_lines_of c)
 code_ordered c =
     let globals = globals_lead c.variables in
     let fns = fns_lead c.functions globals.place globals.last in
     let all =
-    both_lead (map Struct c.structs) (map Global c.variables ++ flat_map lines_of_fn c.functions) Structs Structs fns.place
+    both_lead (map Struct c.structs) (map Global c.variables ++ flat_map code_lines_of_fn c.functions) Structs Structs fns.place
     (structs_lead c.structs)
-    (both_lead (map Global c.variables) (flat_map lines_of_fn c.functions) Structs globals.place fns.place globals.leads fns.leads) in
+    (both_lead (map Global c.variables) (flat_map code_lines_of_fn c.functions) Structs globals.place fns.place globals.leads fns.leads) in
     record { place = fns.place; leads = all.is; last = fns.last }
 
 -- ---- what fits
@@ -319,11 +319,11 @@ mapped_all P f [] a g = All-nil P
 mapped_all P f (x ∷ xs) a g =
     All-cons P x xs (g x (All-head LineFits (f x) (map f xs) a)) (mapped_all P f xs (All-tail LineFits (f x) (map f xs) a) g)
 
-instrs_fit : (i : ℕ) (xs : List CodeInstr) → i + length xs ≤ 2 ^ 32 → All InstrFits xs → All LineFits (instrs_from i xs)
+instrs_fit : (i : ℕ) (xs : List CodeInstr) → i + length xs ≤ 2 ^ 32 → All InstrHasText xs → All LineFits (instrs_from i xs)
 instrs_fit i [] l a = All-nil LineFits
 instrs_fit i (x ∷ xs) l a =
-    All-cons LineFits (Instr i x) (instrs_from (i + 1) xs) (omega (arith, l), All-head InstrFits x xs a)
-    (instrs_fit (i + 1) xs (omega (arith, l)) (All-tail InstrFits x xs a))
+    All-cons LineFits (Instr i x) (instrs_from (i + 1) xs) (omega (arith, l), All-head InstrHasText x xs a)
+    (instrs_fit (i + 1) xs (omega (arith, l)) (All-tail InstrHasText x xs a))
 
 instrs_bound : (i : ℕ) (xs : List CodeInstr) → i ≤ 2 ^ 32 → All LineFits (instrs_from i xs) → i + length xs ≤ 2 ^ 32
 instrs_bound i [] l a = omega (arith, l)
@@ -332,13 +332,13 @@ instrs_bound i (x ∷ xs) l a =
     let rest = instrs_bound (i + 1) xs (omega (arith, first.0)) (All-tail LineFits (Instr i x) (instrs_from (i + 1) xs) a) in
     omega (arith, rest)
 
-fit_instrs : (i : ℕ) (xs : List CodeInstr) → All LineFits (instrs_from i xs) → All InstrFits xs
-fit_instrs i [] a = All-nil InstrFits
+fit_instrs : (i : ℕ) (xs : List CodeInstr) → All LineFits (instrs_from i xs) → All InstrHasText xs
+fit_instrs i [] a = All-nil InstrHasText
 fit_instrs i (x ∷ xs) a =
-    All-cons InstrFits x xs (All-head LineFits (Instr i x) (instrs_from (i + 1) xs) a).1
+    All-cons InstrHasText x xs (All-head LineFits (Instr i x) (instrs_from (i + 1) xs) a).1
     (fit_instrs (i + 1) xs (All-tail LineFits (Instr i x) (instrs_from (i + 1) xs) a))
 
-fn_fits : (f : CodeFn) → FnFits f → All LineFits (lines_of_fn f)
+fn_fits : (f : CodeFn) → FnHasText f → All LineFits (code_lines_of_fn f)
 fn_fits f a =
     All-cons LineFits (head_of f) (map Var f.variables ++ (Entry f.entry ∷ (instrs_from 0 f.body ++ End ∷ []))) (a.params, a.result)
     (All-append LineFits (map Var f.variables) (Entry f.entry ∷ (instrs_from 0 f.body ++ End ∷ []))
@@ -347,7 +347,7 @@ fn_fits f a =
     (All-append LineFits (instrs_from 0 f.body) (End ∷ [])
     (instrs_fit 0 f.body (omega (arith, a.indexes)) a.body) (All-cons LineFits End [] tt (All-nil LineFits)))))
 
-fits_fn : (f : CodeFn) → All LineFits (lines_of_fn f) → FnFits f
+fits_fn : (f : CodeFn) → All LineFits (code_lines_of_fn f) → FnHasText f
 fits_fn f a =
     let last = instrs_from 0 f.body ++ End ∷ [] in
     let rest = map Var f.variables ++ (Entry f.entry ∷ last) in
@@ -365,27 +365,27 @@ fits_fn f a =
       body = fit_instrs 0 f.body instrs;
     }
 
-fns_fit : (fs : List CodeFn) → All FnFits fs → All LineFits (flat_map lines_of_fn fs)
+fns_fit : (fs : List CodeFn) → All FnHasText fs → All LineFits (flat_map code_lines_of_fn fs)
 fns_fit [] a = All-nil LineFits
 fns_fit (f ∷ fs) a =
-    All-append LineFits (lines_of_fn f) (flat_map lines_of_fn fs) (fn_fits f (All-head FnFits f fs a)) (fns_fit fs (All-tail FnFits f fs a))
+    All-append LineFits (code_lines_of_fn f) (flat_map code_lines_of_fn fs) (fn_fits f (All-head FnHasText f fs a)) (fns_fit fs (All-tail FnHasText f fs a))
 
-fits_fns : (fs : List CodeFn) → All LineFits (flat_map lines_of_fn fs) → All FnFits fs
-fits_fns [] a = All-nil FnFits
+fits_fns : (fs : List CodeFn) → All LineFits (flat_map code_lines_of_fn fs) → All FnHasText fs
+fits_fns [] a = All-nil FnHasText
 fits_fns (f ∷ fs) a =
-    All-cons FnFits f fs (fits_fn f (front_all LineFits (lines_of_fn f) (flat_map lines_of_fn fs) a))
-    (fits_fns fs (back_all LineFits (lines_of_fn f) (flat_map lines_of_fn fs) a))
+    All-cons FnHasText f fs (fits_fn f (front_all LineFits (code_lines_of_fn f) (flat_map code_lines_of_fn fs) a))
+    (fits_fns fs (back_all LineFits (code_lines_of_fn f) (flat_map code_lines_of_fn fs) a))
 
-pub code_fits : (c : Code) → All FnFits c.functions → All LineFits (lines_of c)
+pub code_fits : (c : Code) → All FnHasText c.functions → All LineFits (code_lines_of c)
 code_fits c a =
-    All-cons LineFits Head (map Struct c.structs ++ (map Global c.variables ++ flat_map lines_of_fn c.functions)) tt
-    (All-append LineFits (map Struct c.structs) (map Global c.variables ++ flat_map lines_of_fn c.functions)
+    All-cons LineFits Head (map Struct c.structs ++ (map Global c.variables ++ flat_map code_lines_of_fn c.functions)) tt
+    (All-append LineFits (map Struct c.structs) (map Global c.variables ++ flat_map code_lines_of_fn c.functions)
     (all_true Struct c.structs (λ s. tt))
-    (All-append LineFits (map Global c.variables) (flat_map lines_of_fn c.functions)
+    (All-append LineFits (map Global c.variables) (flat_map code_lines_of_fn c.functions)
     (all_true Global c.variables (λ v. tt)) (fns_fit c.functions a)))
 
-pub fits_code : (c : Code) → All LineFits (lines_of c) → All FnFits c.functions
+pub fits_code : (c : Code) → All LineFits (code_lines_of c) → All FnHasText c.functions
 fits_code c a =
-    let rest = map Global c.variables ++ flat_map lines_of_fn c.functions in
-    fits_fns c.functions (back_all LineFits (map Global c.variables) (flat_map lines_of_fn c.functions)
+    let rest = map Global c.variables ++ flat_map code_lines_of_fn c.functions in
+    fits_fns c.functions (back_all LineFits (map Global c.variables) (flat_map code_lines_of_fn c.functions)
     (back_all LineFits (map Struct c.structs) rest (All-tail LineFits Head (map Struct c.structs ++ rest) a)))

@@ -11,14 +11,14 @@ use Rattle.rgo_typed.specs.declared.types.Base.TheVariants as base
 use Rattle.rgo_code.specs.Code.{CodeOp, Code, Do, Call, Go, Print, Jump, Branch, Return}
 use Rattle.rgo_code_text.specs.declared.places.Place.{Place}
 use Rattle.rgo_code_text.specs.declared.places.Place.TheVariants.{First, Structs, Globals, Functions, Slots, Body}
-use Rattle.rgo_code_text.specs.Building.{numbered, numbered_type, numbered_slot, numbered_op, numbered_action, code_of, names_in, declared_in, declared_struct, declared_variable, declared_function, used_structs, used_variables, used_functions, type_names, base_names, slot_names, op_structs, op_variables, op_functions}
-use Rattle.rgo_code_text.specs.CodeLines.{Line, Building, nothing, with_lines, lines_of, line_kind, line_words, LineFits, line_struct, line_variable, line_function, uses_structs, uses_variables, uses_functions}
-use Rattle.rgo_code_text.specs.Items.{NamedSlot, Item, Head, Struct, Global, Function, Slot, Entry, Instr, End, ItemFits, IsName, IsNamed, BaseFits, TypeFits, NamedSlotFits, OpIsNamed, item_kind, item_words, items_text, after_all, named_type_word}
+use Rattle.rgo_code_text.specs.Building.{line_of_item, numbered_type, numbered_slot, numbered_op, numbered_action, code_of_items, names_in, declared_in, declared_struct, declared_variable, declared_function, used_structs, used_variables, used_functions, type_names, base_names, result_names, op_structs, op_variables, op_functions}
+use Rattle.rgo_code_text.specs.CodeLines.{Line, Building, empty_building, with_lines, code_lines_of, line_kind, line_words, LineFits, line_struct, line_variable, line_function, uses_structs, uses_variables, uses_functions}
+use Rattle.rgo_code_text.specs.Items.{NamedSlot, Item, Head, Struct, Global, Function, Slot, Entry, Instr, End, ItemFits, IsName, AwaitsNumber, BaseFits, TypeFits, NamedSlotFits, OpIsNamed, item_kind, item_words, items_text, place_after_items, named_type_word}
 use Rattle.rgo_code_text.specs.Order.{after_kinds, IsLast}
 use Rattle.rgo_code_words.specs.Readers.{NamedType}
 use Rattle.rgo_code_printing.specs.Text.{Names, names_of, line, lines_with, text_of}
 use Rattle.rgo_code_printing.specs.Words.{type_word, place_word, creates_word}
-use Rattle.rgo_code_text.specs.Written.{IsWritten, KindIsWritten, uses_of, number_of_name, SlotFits, OpFits, ActionFits, IsInstruction}
+use Rattle.rgo_code_text.specs.Written.{HasCodeText, KindIsWritten, uses_of, number_of_name, SlotFits, OpHasText, ActionHasText, IsInstruction}
 use Rattle.rgo_code_words.specs.Worded.{AreNames}
 use Rattle.rgo_code_text.proofs.code_of_lines.Assembling.{lines_so_far, whole_lines, all_grow}
 use Rattle.rgo_code_text.proofs.naming.Knowing.{used_known, kind_written, whole_is, all_flat, flat_all}
@@ -29,7 +29,7 @@ use Rattle.rgo_code_text.proofs.naming.Numbering.{type_numbers, fields_numbers, 
 
 -- ---- each line
 
-kind_same : (n : Names) (x : Item) → line_kind (numbered n x) ≡ item_kind x
+kind_same : (n : Names) (x : Item) → line_kind (line_of_item n x) ≡ item_kind x
 kind_same n Head = refl
 kind_same n (Struct name fields) = refl
 kind_same n (Global name ty) = refl
@@ -39,7 +39,7 @@ kind_same n (Entry names) = refl
 kind_same n (Instr i instr name) = refl
 kind_same n End = refl
 
-struct_same : (n : Names) (x : Item) → line_struct (numbered n x) ≡ declared_struct x
+struct_same : (n : Names) (x : Item) → line_struct (line_of_item n x) ≡ declared_struct x
 struct_same n Head = refl
 struct_same n (Struct name fields) = refl
 struct_same n (Global name ty) = refl
@@ -49,7 +49,7 @@ struct_same n (Entry names) = refl
 struct_same n (Instr i instr name) = refl
 struct_same n End = refl
 
-variable_same : (n : Names) (x : Item) → line_variable (numbered n x) ≡ declared_variable x
+variable_same : (n : Names) (x : Item) → line_variable (line_of_item n x) ≡ declared_variable x
 variable_same n Head = refl
 variable_same n (Struct name fields) = refl
 variable_same n (Global name ty) = refl
@@ -59,7 +59,7 @@ variable_same n (Entry names) = refl
 variable_same n (Instr i instr name) = refl
 variable_same n End = refl
 
-function_same : (n : Names) (x : Item) → line_function (numbered n x) ≡ declared_function x
+function_same : (n : Names) (x : Item) → line_function (line_of_item n x) ≡ declared_function x
 function_same n Head = refl
 function_same n (Struct name fields) = refl
 function_same n (Global name ty) = refl
@@ -69,7 +69,7 @@ function_same n (Entry names) = refl
 function_same n (Instr i instr name) = refl
 function_same n End = refl
 
-structs_same : (n : Names) (x : Item) → uses_structs (numbered n x) ≡ map (number_of_name n.structs) (used_structs x)
+structs_same : (n : Names) (x : Item) → uses_structs (line_of_item n x) ≡ map (number_of_name n.structs) (used_structs x)
 structs_same n Head = refl
 structs_same n (Struct name fields) = fields_numbers n fields
 structs_same n (Global name ty) = type_numbers n ty
@@ -79,7 +79,7 @@ structs_same n (Entry names) = refl
 structs_same n (Instr i instr name) = structs_numbers n instr.op name
 structs_same n End = refl
 
-variables_same : (n : Names) (x : Item) → uses_variables (numbered n x) ≡ map (number_of_name n.variables) (used_variables x)
+variables_same : (n : Names) (x : Item) → uses_variables (line_of_item n x) ≡ map (number_of_name n.variables) (used_variables x)
 variables_same n Head = refl
 variables_same n (Struct name fields) = refl
 variables_same n (Global name ty) = refl
@@ -89,7 +89,7 @@ variables_same n (Entry names) = refl
 variables_same n (Instr i instr name) = variables_numbers n instr.op name
 variables_same n End = refl
 
-functions_same : (n : Names) (x : Item) → uses_functions (numbered n x) ≡ map (number_of_name n.functions) (used_functions x)
+functions_same : (n : Names) (x : Item) → uses_functions (line_of_item n x) ≡ map (number_of_name n.functions) (used_functions x)
 functions_same n Head = refl
 functions_same n (Struct name fields) = refl
 functions_same n (Global name ty) = refl
@@ -114,7 +114,7 @@ fields_same n (t ∷ ts) f k =
     ∙ ap (λ ws. named_type_word t ∷ ws)
     (fields_same n ts (All-tail TypeFits t ts f) (back_all (IsKnown n.structs) (type_names t) (flat_map type_names ts) k))
 
-words_same : (n : Names) (x : Item) → ItemFits x → Knows n x → line_words n (numbered n x) ≡ item_words x
+words_same : (n : Names) (x : Item) → ItemFits x → Knows n x → line_words n (line_of_item n x) ≡ item_words x
 words_same n Head f k = refl
 words_same n (Struct name fields) f k = ap (λ ws. codes "struct" ∷ name ∷ ws) (fields_same n fields f.1 k.structs)
 words_same n (Global name ty) f k = ap (λ w. codes "global" ∷ name ∷ w ∷ []) (type_same n ty f.1 k.structs)
@@ -148,14 +148,14 @@ set_instruction k m None [] i = absurd (i refl)
 set_instruction k m None (a ∷ b ∷ from) i = absurd (i refl)
 set_instruction k m (Some d) from i = absurd (i refl)
 
-action_fits : (n : Names) (a : Action) (to : Option ℕ) (from name : List ℕ) → IsInstruction a to from → ActionFits a
-    → IsInstruction (numbered_action n a name) to from × ActionFits (numbered_action n a name)
+action_fits : (n : Names) (a : Action) (to : Option ℕ) (from name : List ℕ) → IsInstruction a to from → ActionHasText a
+    → IsInstruction (numbered_action n a name) to from × ActionHasText (numbered_action n a name)
 action_fits n (action.New k) to from name i f = (new_instruction k (number_of_name n.structs name) to from i, tt)
 action_fits n (action.Get k) to from name i f = (get_instruction k (number_of_name n.variables name) to from i, tt)
 action_fits n (action.Set k) to from name i f = (set_instruction k (number_of_name n.variables name) to from i, tt)
 action_fits n _ to from name i f = (i, f)
 
-pub op_fits : (n : Names) (op : CodeOp) (name : List ℕ) → OpFits op → OpFits (numbered_op n op name)
+pub op_fits : (n : Names) (op : CodeOp) (name : List ℕ) → OpHasText op → OpHasText (numbered_op n op name)
 op_fits n (Do to a from removes) name f =
     let g = action_fits n a to from name f.0 f.1 in (g.0, g.1, f.2, f.3, f.4)
 op_fits n (Call to k from passes protects removes) name f = f
@@ -172,7 +172,7 @@ result_fits : (n : Names) (o : Option NamedSlot) → IfSome o NamedSlotFits → 
 result_fits n None f = tt
 result_fits n (Some s) f = f.1
 
-line_fits : (n : Names) (x : Item) → ItemFits x → LineFits (numbered n x)
+line_fits : (n : Names) (x : Item) → ItemFits x → LineFits (line_of_item n x)
 line_fits n Head f = tt
 line_fits n (Struct name fields) f = tt
 line_fits n (Global name ty) f = tt
@@ -192,11 +192,11 @@ base_named (base.Pointer k) name f = All-cons IsName name [] f.1 (All-nil IsName
 type_named : (t : NamedType) → TypeFits t → AreNames (type_names t)
 type_named t f = base_named t.ty.base t.name f
 
-slot_named : (o : Option NamedSlot) → IfSome o NamedSlotFits → AreNames (slot_names o)
+slot_named : (o : Option NamedSlot) → IfSome o NamedSlotFits → AreNames (result_names o)
 slot_named None f = All-nil IsName
 slot_named (Some s) f = type_named s.ty f.0
 
-one_name : (k : ℕ) (name : List ℕ) → IsNamed k name → AreNames (name ∷ [])
+one_name : (k : ℕ) (name : List ℕ) → AwaitsNumber k name → AreNames (name ∷ [])
 one_name k name i = All-cons IsName name [] i.1 (All-nil IsName)
 
 op_structs_named : (op : CodeOp) (name : List ℕ) → OpIsNamed op name → AreNames (op_structs op name)
@@ -265,17 +265,17 @@ flat_numbers f F G num (x ∷ xs) e =
     ap (λ ys. ys ++ flat_map F (map f xs)) (e x) ∙ ap (λ ys. map num (G x) ++ ys) (flat_numbers f F G num xs e)
     ∙ sym (map-append num (G x) (flat_map G xs))
 
-all_fit : (n : Names) (xs : List Item) → All ItemFits xs → All LineFits (map (numbered n) xs)
+all_fit : (n : Names) (xs : List Item) → All ItemFits xs → All LineFits (map (line_of_item n) xs)
 all_fit n [] a = All-nil LineFits
 all_fit n (x ∷ xs) a =
-    All-cons LineFits (numbered n x) (map (numbered n) xs) (line_fits n x (All-head ItemFits x xs a))
+    All-cons LineFits (line_of_item n x) (map (line_of_item n) xs) (line_fits n x (All-head ItemFits x xs a))
     (all_fit n xs (All-tail ItemFits x xs a))
 
 all_words : (n : Names) (xs : List Item) → All ItemFits xs → All (Knows n) xs
-    → flat_map line (map (line_words n) (map (numbered n) xs)) ≡ items_text xs
+    → flat_map line (map (line_words n) (map (line_of_item n) xs)) ≡ items_text xs
 all_words n [] a k = refl
 all_words n (x ∷ xs) a k =
-    ap (λ w. line w ++ flat_map line (map (line_words n) (map (numbered n) xs)))
+    ap (λ w. line w ++ flat_map line (map (line_words n) (map (line_of_item n) xs)))
     (words_same n x (All-head ItemFits x xs a) (All-head (Knows n) x xs k))
     ∙ ap (λ t. line (item_words x) ++ t) (all_words n xs (All-tail ItemFits x xs a) (All-tail (Knows n) x xs k))
 
@@ -286,8 +286,8 @@ know_all n xs a b c k d l = record { structs = a k d l; variables = b k d l; fun
 
 -- code that was made of lines
 pub record Made (items : List Item) : Type 0 where
-  pub text : text_of (code_of items) ≡ items_text items
-  pub written : IsWritten (code_of items)
+  pub text : text_of (code_of_items items) ≡ items_text items
+  pub written : HasCodeText (code_of_items items)
 
 lines_last : (p : Place) (b : Building) → IsLast p → lines_so_far p b ≡ whole_lines b
 lines_last Structs b l = refl
@@ -297,7 +297,7 @@ lines_last First b l = absurd l
 lines_last Slots b l = absurd l
 lines_last (Body i) b l = absurd l
 
-module _ (items : List Item) (place : Place) (fit : All ItemFits items) (leads : after_all items First ≡ Some place)
+module _ (items : List Item) (place : Place) (fit : All ItemFits items) (leads : place_after_items items First ≡ Some place)
     (last : IsLast place) where
   abbrev n : Names
   n = names_in items
@@ -306,31 +306,31 @@ module _ (items : List Item) (place : Place) (fit : All ItemFits items) (leads :
   d = declared_in items
 
   abbrev c : Code
-  c = code_of items
+  c = code_of_items items
 
   abbrev lines : List Line
-  lines = map (numbered (names_in items)) items
+  lines = map (line_of_item (names_in items)) items
 
-  lines_same : lines_of c ≡ lines
+  lines_same : code_lines_of c ≡ lines
   lines_same =
-      let grown = all_grow (map (numbered (names_in items)) items) First place nothing
-      (ap (λ ks. after_kinds ks First) (map_same (numbered (names_in items)) line_kind item_kind items (kind_same (names_in items))) ∙ leads) refl in
-      sym (lines_last place (with_lines nothing (map (numbered (names_in items)) items)) last) ∙ grown.lines_are
+      let grown = all_grow (map (line_of_item (names_in items)) items) First place empty_building
+      (ap (λ ks. after_kinds ks First) (map_same (line_of_item (names_in items)) line_kind item_kind items (kind_same (names_in items))) ∙ leads) refl in
+      sym (lines_last place (with_lines empty_building (map (line_of_item (names_in items)) items)) last) ∙ grown.lines_are
 
   structs_are : map (λ s. s.name) c.structs ≡ d.structs
   structs_are =
       sym (structs_declared c) ∙ ap (flat_map line_struct) lines_same
-      ∙ flat_lines (numbered (names_in items)) line_struct declared_struct items (struct_same (names_in items))
+      ∙ flat_lines (line_of_item (names_in items)) line_struct declared_struct items (struct_same (names_in items))
 
   variables_are : map (λ v. v.name) c.variables ≡ d.variables
   variables_are =
       sym (variables_declared c) ∙ ap (flat_map line_variable) lines_same
-      ∙ flat_lines (numbered (names_in items)) line_variable declared_variable items (variable_same (names_in items))
+      ∙ flat_lines (line_of_item (names_in items)) line_variable declared_variable items (variable_same (names_in items))
 
   functions_are : map (λ f. f.name) c.functions ≡ d.functions
   functions_are =
       sym (functions_declared c) ∙ ap (flat_map line_function) lines_same
-      ∙ flat_lines (numbered (names_in items)) line_function declared_function items (function_same (names_in items))
+      ∙ flat_lines (line_of_item (names_in items)) line_function declared_function items (function_same (names_in items))
 
   names_are_same : names_of c ≡ n
   names_are_same =
@@ -363,7 +363,7 @@ module _ (items : List Item) (place : Place) (fit : All ItemFits items) (leads :
       let us = flat_map used_structs items in
       let uses : (uses_of c).structs ≡ map (number_of_name n.structs) us =
       sym (structs_used c) ∙ ap (flat_map uses_structs) lines_same
-      ∙ flat_numbers (numbered (names_in items)) uses_structs used_structs (number_of_name n.structs) items (structs_same (names_in items)) in
+      ∙ flat_numbers (line_of_item (names_in items)) uses_structs used_structs (number_of_name n.structs) items (structs_same (names_in items)) in
       subst (λ ns. KindIsWritten ns c.undeclared.structs (uses_of c).structs) (sym structs_are)
       (subst (KindIsWritten d.structs c.undeclared.structs) (sym uses)
       (kind_written d.structs us (flat_all ItemFits IsName declared_struct items fit declared_struct_named)
@@ -374,7 +374,7 @@ module _ (items : List Item) (place : Place) (fit : All ItemFits items) (leads :
       let us = flat_map used_variables items in
       let uses : (uses_of c).variables ≡ map (number_of_name n.variables) us =
       sym (variables_used c) ∙ ap (flat_map uses_variables) lines_same
-      ∙ flat_numbers (numbered (names_in items)) uses_variables used_variables (number_of_name n.variables) items (variables_same (names_in items)) in
+      ∙ flat_numbers (line_of_item (names_in items)) uses_variables used_variables (number_of_name n.variables) items (variables_same (names_in items)) in
       subst (λ ns. KindIsWritten ns c.undeclared.variables (uses_of c).variables) (sym variables_are)
       (subst (KindIsWritten d.variables c.undeclared.variables) (sym uses)
       (kind_written d.variables us (flat_all ItemFits IsName declared_variable items fit declared_variable_named)
@@ -385,7 +385,7 @@ module _ (items : List Item) (place : Place) (fit : All ItemFits items) (leads :
       let us = flat_map used_functions items in
       let uses : (uses_of c).functions ≡ map (number_of_name n.functions) us =
       sym (functions_used c) ∙ ap (flat_map uses_functions) lines_same
-      ∙ flat_numbers (numbered (names_in items)) uses_functions used_functions (number_of_name n.functions) items (functions_same (names_in items)) in
+      ∙ flat_numbers (line_of_item (names_in items)) uses_functions used_functions (number_of_name n.functions) items (functions_same (names_in items)) in
       subst (λ ns. KindIsWritten ns c.undeclared.functions (uses_of c).functions) (sym functions_are)
       (subst (KindIsWritten d.functions c.undeclared.functions) (sym uses)
       (kind_written d.functions us (flat_all ItemFits IsName declared_function items fit declared_function_named)
@@ -398,6 +398,6 @@ module _ (items : List Item) (place : Place) (fit : All ItemFits items) (leads :
       structs = structs_written;
       variables = variables_written;
       functions = functions_written;
-      fits = fits_code (code_of items) (subst (All LineFits) (sym lines_same) (all_fit (names_in items) items fit));
+      fits = fits_code (code_of_items items) (subst (All LineFits) (sym lines_same) (all_fit (names_in items) items fit));
     };
   }

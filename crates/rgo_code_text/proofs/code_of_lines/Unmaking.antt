@@ -12,15 +12,15 @@ use Rattle.rgo_typed.specs.declared.types.Type.{«Type»}
 use Rattle.rgo_code.specs.Code.{Slot as CodeSlot, CodeOp, CodeInstr, Code, Do, Call, Go, Print, Jump, Branch, Return}
 use Rattle.rgo_code_text.specs.declared.places.Place.{Place}
 use Rattle.rgo_code_text.specs.declared.places.Place.TheVariants.{First}
-use Rattle.rgo_code_text.specs.Building.{numbered, numbered_base, numbered_type, numbered_slot, numbered_op, numbered_action, code_of, built, names_in, declared_in, declared_struct, declared_variable, declared_function, used_structs, used_variables, used_functions, type_names, base_names, slot_names, op_structs, op_variables, op_functions, with_names}
-use Rattle.rgo_code_text.specs.CodeLines.{Line, nothing, with_lines, lines_of, line_kind, LineFits, line_struct, line_variable, line_function, uses_structs, uses_variables, uses_functions}
+use Rattle.rgo_code_text.specs.Building.{line_of_item, numbered_base, numbered_type, numbered_slot, numbered_op, numbered_action, code_of_items, built, names_in, declared_in, declared_struct, declared_variable, declared_function, used_structs, used_variables, used_functions, type_names, base_names, result_names, op_structs, op_variables, op_functions, with_all_names}
+use Rattle.rgo_code_text.specs.CodeLines.{Line, empty_building, with_lines, code_lines_of, line_kind, LineFits, line_struct, line_variable, line_function, uses_structs, uses_variables, uses_functions}
 use Rattle.rgo_code_text.specs.CodeLines as line
-use Rattle.rgo_code_text.specs.Items.{NamedSlot, Item, Head, Struct, Global, Function, Slot, Entry, Instr, End, ItemFits, IsName, BaseFits, TypeFits, NamedSlotFits, ActionIsNamed, OpIsNamed, item_kind, items_text, after_all}
+use Rattle.rgo_code_text.specs.Items.{NamedSlot, Item, Head, Struct, Global, Function, Slot, Entry, Instr, End, ItemFits, IsName, BaseFits, TypeFits, NamedSlotFits, ActionIsNamed, OpIsNamed, item_kind, items_text, place_after_items}
 use Rattle.rgo_code_text.specs.Order.{after_kinds, IsLast}
 use Rattle.rgo_code_words.specs.Readers.{NamedType}
 use Rattle.rgo_code_printing.specs.Text.{Names, names_of, text_of}
 use Rattle.rgo_code_printing.specs.Words.{name_at}
-use Rattle.rgo_code_text.specs.Written.{unknown, AreFirst, IsWritten, KindIsWritten, uses_of, number_of_name, base_uses, type_uses, result_uses, struct_of_op, variable_in, function_in, SlotFits, OpFits}
+use Rattle.rgo_code_text.specs.Written.{unknown, AreFirst, HasCodeText, KindIsWritten, uses_of, number_of_name, base_uses, type_uses, result_uses, struct_of_op, variable_in, function_in, SlotFits, OpHasText}
 use Rattle.rgo_code_words.specs.Worded.{AreNames}
 use Rattle.rgo_code_text.proofs.code_of_lines.Assembling.{code_again}
 use Rattle.rgo_code_text.proofs.naming.Knowing.{names_are, all_flat}
@@ -155,7 +155,7 @@ op_again n (Jump target removes) s v f = refl
 op_again n (Branch test target removes other otherwise) s v f = refl
 op_again n (Return value) s v f = refl
 
-line_again : (n : Names) (l : Line) → LineKnown n l → numbered n (named n l) ≡ l
+line_again : (n : Names) (l : Line) → LineKnown n l → line_of_item n (named n l) ≡ l
 unfolding named zero_instr
 line_again n line.Head k = refl
 line_again n (line.Struct s) k = ap (λ ts. line.Struct (record { name = s.name; fields = ts })) (types_again n s.fields k.structs)
@@ -247,7 +247,7 @@ line_fits n (line.Var slot) f k = slot_fits n slot f k.structs
 line_fits n (line.Entry names) f k = f
 line_fits n (line.Instr i instr) f k = (
   f.0,
-  (f.1.0, f.1.1, subst OpFits (zeroed instr.op) (op_fits without instr.op [] f.1.2)),
+  (f.1.0, f.1.1, subst OpHasText (zeroed instr.op) (op_fits without instr.op [] f.1.2)),
   op_named n instr.op k.structs k.variables k.functions,
 )
 line_fits n line.End f k = tt
@@ -321,7 +321,7 @@ unfolding named_slot
 slot_used n s = type_used n s.ty
 
 result_used : (n : Names) (o : Option CodeSlot)
-    → slot_names (option_map (named_slot n) o) ≡ map (name_at n.structs) (result_uses o)
+    → result_names (option_map (named_slot n) o) ≡ map (name_at n.structs) (result_uses o)
 result_used n None = refl
 result_used n (Some s) = slot_used n s
 
@@ -400,10 +400,10 @@ flat_names f F G name (x ∷ xs) e =
     ap (λ ys. ys ++ flat_map F (map f xs)) (e x) ∙ ap (λ ys. map name (G x) ++ ys) (flat_names f F G name xs e)
     ∙ sym (map-append name (G x) (flat_map G xs))
 
-lines_again : (n : Names) (xs : List Line) → All (LineKnown n) xs → map (numbered n) (map (named n) xs) ≡ xs
+lines_again : (n : Names) (xs : List Line) → All (LineKnown n) xs → map (line_of_item n) (map (named n) xs) ≡ xs
 lines_again n [] k = refl
 lines_again n (x ∷ xs) k =
-    ap (λ y. y ∷ map (numbered n) (map (named n) xs)) (line_again n x (All-head (LineKnown n) x xs k))
+    ap (λ y. y ∷ map (line_of_item n) (map (named n) xs)) (line_again n x (All-head (LineKnown n) x xs k))
     ∙ ap (λ ys. x ∷ ys) (lines_again n xs (All-tail (LineKnown n) x xs k))
 
 all_fit : (n : Names) (xs : List Line) → All LineFits xs → All (LineKnown n) xs → All ItemFits (map (named n) xs)
@@ -418,77 +418,77 @@ pub record Lined (code : Code) : Type 0 where
   pub items : List Item
   pub place : Place
   pub fit : All ItemFits items
-  pub leads : after_all items First ≡ Some place
+  pub leads : place_after_items items First ≡ Some place
   pub last : IsLast place
-  pub again : code_of items ≡ code
+  pub again : code_of_items items ≡ code
   pub text : text_of code ≡ items_text items
 
-module _ (c : Code) (w : IsWritten c) where
+module _ (c : Code) (w : HasCodeText c) where
   abbrev n : Names
   n = names_of c
 
   abbrev items : List Item
-  items = map (named (names_of c)) (lines_of c)
+  items = map (named (names_of c)) (code_lines_of c)
 
-  structs_known : AllKnown n.structs (flat_map uses_structs (lines_of c))
+  structs_known : AllKnown n.structs (flat_map uses_structs (code_lines_of c))
   structs_known =
       subst (AllKnown n.structs) (sym (structs_used c)) (known_of n.structs (uses_of c).structs w.structs.names w.structs.first)
 
-  variables_known : AllKnown n.variables (flat_map uses_variables (lines_of c))
+  variables_known : AllKnown n.variables (flat_map uses_variables (code_lines_of c))
   variables_known =
       subst (AllKnown n.variables) (sym (variables_used c))
       (known_of n.variables (uses_of c).variables w.variables.names w.variables.first)
 
-  functions_known : AllKnown n.functions (flat_map uses_functions (lines_of c))
+  functions_known : AllKnown n.functions (flat_map uses_functions (code_lines_of c))
   functions_known =
       subst (AllKnown n.functions) (sym (functions_used c))
       (known_of n.functions (uses_of c).functions w.functions.names w.functions.first)
 
-  all_known : All (LineKnown n) (lines_of c)
+  all_known : All (LineKnown n) (code_lines_of c)
   all_known =
-      let a = all_flat (Known n.structs) uses_structs (lines_of c) structs_known in
-      let b = all_flat (Known n.variables) uses_variables (lines_of c) variables_known in
-      let d = all_flat (Known n.functions) uses_functions (lines_of c) functions_known in
-      let e = all_flat IsName line_struct (lines_of c) (subst AreNames (sym (structs_declared c))
+      let a = all_flat (Known n.structs) uses_structs (code_lines_of c) structs_known in
+      let b = all_flat (Known n.variables) uses_variables (code_lines_of c) variables_known in
+      let d = all_flat (Known n.functions) uses_functions (code_lines_of c) functions_known in
+      let e = all_flat IsName line_struct (code_lines_of c) (subst AreNames (sym (structs_declared c))
       (front_all IsName (map (λ s. s.name) c.structs) c.undeclared.structs w.structs.names)) in
-      let f = all_flat IsName line_variable (lines_of c) (subst AreNames (sym (variables_declared c))
+      let f = all_flat IsName line_variable (code_lines_of c) (subst AreNames (sym (variables_declared c))
       (front_all IsName (map (λ v. v.name) c.variables) c.undeclared.variables w.variables.names)) in
-      let g = all_flat IsName line_function (lines_of c) (subst AreNames (sym (functions_declared c))
+      let g = all_flat IsName line_function (code_lines_of c) (subst AreNames (sym (functions_declared c))
       (front_all IsName (map (λ f. f.name) c.functions) c.undeclared.functions w.functions.names)) in
       λ k x l. record { structs = a k x l; variables = b k x l; functions = d k x l; struct = e k x l; variable = f k x l; function = g k x l }
 
-  kinds_same : map item_kind items ≡ map line_kind (lines_of c)
-  kinds_same = map_same (named n) item_kind line_kind (lines_of c) (kind_back n)
+  kinds_same : map item_kind items ≡ map line_kind (code_lines_of c)
+  kinds_same = map_same (named n) item_kind line_kind (code_lines_of c) (kind_back n)
 
   structs_declared_same : flat_map declared_struct items ≡ map (λ s. s.name) c.structs
-  structs_declared_same = flat_lines (named n) declared_struct line_struct (lines_of c) (struct_back n) ∙ structs_declared c
+  structs_declared_same = flat_lines (named n) declared_struct line_struct (code_lines_of c) (struct_back n) ∙ structs_declared c
 
   variables_declared_same : flat_map declared_variable items ≡ map (λ v. v.name) c.variables
-  variables_declared_same = flat_lines (named n) declared_variable line_variable (lines_of c) (variable_back n) ∙ variables_declared c
+  variables_declared_same = flat_lines (named n) declared_variable line_variable (code_lines_of c) (variable_back n) ∙ variables_declared c
 
   functions_declared_same : flat_map declared_function items ≡ map (λ f. f.name) c.functions
-  functions_declared_same = flat_lines (named n) declared_function line_function (lines_of c) (function_back n) ∙ functions_declared c
+  functions_declared_same = flat_lines (named n) declared_function line_function (code_lines_of c) (function_back n) ∙ functions_declared c
 
   -- the names of one kind
   kind_names : (declared undeclared : List (List ℕ)) (uses : List ℕ) (us ds : List (List ℕ)) → KindIsWritten declared undeclared uses
-      → ds ≡ declared → us ≡ map (name_at (declared ++ undeclared)) uses → with_names ds us ≡ declared ++ undeclared
+      → ds ≡ declared → us ≡ map (name_at (declared ++ undeclared)) uses → with_all_names ds us ≡ declared ++ undeclared
   kind_names declared undeclared uses us ds k e f =
-      ap (λ d. with_names d us) e ∙ names_are us declared
+      ap (λ d. with_all_names d us) e ∙ names_are us declared
       ∙ ap (λ t. declared ++ t) (ap (unknown declared) f ∙ sym k.unknown)
 
   names_same : names_in items ≡ n
   names_same =
       let a = kind_names (map (λ s. s.name) c.structs) c.undeclared.structs (uses_of c).structs (flat_map used_structs items)
       (flat_map declared_struct items) w.structs structs_declared_same
-      (flat_names (named n) used_structs uses_structs (name_at n.structs) (lines_of c) (structs_back n)
+      (flat_names (named n) used_structs uses_structs (name_at n.structs) (code_lines_of c) (structs_back n)
       ∙ ap (map (name_at n.structs)) (structs_used c)) in
       let b = kind_names (map (λ v. v.name) c.variables) c.undeclared.variables (uses_of c).variables (flat_map used_variables items)
       (flat_map declared_variable items) w.variables variables_declared_same
-      (flat_names (named n) used_variables uses_variables (name_at n.variables) (lines_of c) (variables_back n)
+      (flat_names (named n) used_variables uses_variables (name_at n.variables) (code_lines_of c) (variables_back n)
       ∙ ap (map (name_at n.variables)) (variables_used c)) in
       let d = kind_names (map (λ f. f.name) c.functions) c.undeclared.functions (uses_of c).functions (flat_map used_functions items)
       (flat_map declared_function items) w.functions functions_declared_same
-      (flat_names (named n) used_functions uses_functions (name_at n.functions) (lines_of c) (functions_back n)
+      (flat_names (named n) used_functions uses_functions (name_at n.functions) (code_lines_of c) (functions_back n)
       ∙ ap (map (name_at n.functions)) (functions_used c)) in
       ap (λ x. record { structs = x; variables = (names_in items).variables; functions = (names_in items).functions }) a
       ∙ ap (λ x. record { structs = n.structs; variables = x; functions = (names_in items).functions }) b
@@ -500,12 +500,12 @@ module _ (c : Code) (w : IsWritten c) where
   left_over declared undeclared ds all e f =
       ap (λ d. drop (length d) all) e ∙ ap (drop (length declared)) f ∙ drop_at declared undeclared (length declared) refl
 
-  made_again : code_of items ≡ c
+  made_again : code_of_items items ≡ c
   made_again =
-      let b = with_lines nothing (lines_of c) in
+      let b = with_lines empty_building (code_lines_of c) in
       let again = code_again c.structs c.variables c.functions in
-      let lines : with_lines nothing (map (numbered (names_in items)) items) ≡ b =
-      ap (λ m. with_lines nothing (map (numbered m) items)) names_same ∙ ap (with_lines nothing) (lines_again n (lines_of c) all_known) in
+      let lines : with_lines empty_building (map (line_of_item (names_in items)) items) ≡ b =
+      ap (λ m. with_lines empty_building (map (line_of_item m) items)) names_same ∙ ap (with_lines empty_building) (lines_again n (code_lines_of c) all_known) in
       let s = left_over (map (λ s. s.name) c.structs) c.undeclared.structs (declared_in items).structs (names_in items).structs
       structs_declared_same (ap (λ m. m.structs) names_same) in
       let v = left_over (map (λ v. v.name) c.variables) c.undeclared.variables (declared_in items).variables (names_in items).variables
@@ -513,20 +513,20 @@ module _ (c : Code) (w : IsWritten c) where
       let f = left_over (map (λ f. f.name) c.functions) c.undeclared.functions (declared_in items).functions (names_in items).functions
       functions_declared_same (ap (λ m. m.functions) names_same) in
       ap (built (names_in items) (declared_in items)) lines
-      ∙ ap (λ x. record { structs = x; variables = b.variables; functions = b.functions; undeclared = (code_of items).undeclared }) again.structs
-      ∙ ap (λ x. record { structs = c.structs; variables = x; functions = b.functions; undeclared = (code_of items).undeclared }) again.variables
-      ∙ ap (λ x. record { structs = c.structs; variables = c.variables; functions = x; undeclared = (code_of items).undeclared }) again.functions
+      ∙ ap (λ x. record { structs = x; variables = b.variables; functions = b.functions; undeclared = (code_of_items items).undeclared }) again.structs
+      ∙ ap (λ x. record { structs = c.structs; variables = x; functions = b.functions; undeclared = (code_of_items items).undeclared }) again.variables
+      ∙ ap (λ x. record { structs = c.structs; variables = c.variables; functions = x; undeclared = (code_of_items items).undeclared }) again.functions
       ∙ ap (λ x. record {
         structs = c.structs;
         variables = c.variables;
         functions = c.functions;
-        undeclared = record { structs = x; variables = (code_of items).undeclared.variables; functions = (code_of items).undeclared.functions };
+        undeclared = record { structs = x; variables = (code_of_items items).undeclared.variables; functions = (code_of_items items).undeclared.functions };
       }) s
       ∙ ap (λ x. record {
         structs = c.structs;
         variables = c.variables;
         functions = c.functions;
-        undeclared = record { structs = c.undeclared.structs; variables = x; functions = (code_of items).undeclared.functions };
+        undeclared = record { structs = c.undeclared.structs; variables = x; functions = (code_of_items items).undeclared.functions };
       }) v
       ∙ ap (λ x. record {
         structs = c.structs;
@@ -538,8 +538,8 @@ module _ (c : Code) (w : IsWritten c) where
   pub lined : Lined c
   lined =
       let ordered = code_ordered c in
-      let fit = all_fit n (lines_of c) (code_fits c w.fits) all_known in
-      let leads : after_all items First ≡ Some ordered.place = ap (λ ks. after_kinds ks First) kinds_same ∙ ordered.leads in
+      let fit = all_fit n (code_lines_of c) (code_fits c w.fits) all_known in
+      let leads : place_after_items items First ≡ Some ordered.place = ap (λ ks. after_kinds ks First) kinds_same ∙ ordered.leads in
       record {
         items = items;
         place = ordered.place;

@@ -2,9 +2,9 @@
 use Rattle.std.proofs.Common.{◌≡◌, ℕ, List, sym, ap, ◌∙◌, refl, arith, codes, decimal}
 use Rattle.std.specs.List.{before_first}
 use Rattle.rgo_code.specs.Code.{CodeInstr}
-use Rattle.rgo_code_words.specs.Cuts.{is_space, cut}
+use Rattle.rgo_code_words.specs.Cuts.{is_space, cut_line}
 use Rattle.rgo_code_text.specs.Items.{Item, Head, Struct, Global, Function, Slot, Entry, Instr, End, ItemFits, item_line}
-use Rattle.rgo_code_text.specs.Lines.{struct_of, global_of, function_of, slot_of, entry_of}
+use Rattle.rgo_code_text.specs.Lines.{struct_item, global_item, function_item, slot_item, entry_item}
 use Rattle.rgo_code_text.proofs.op_lines.Instrs.{instrs_one}
 use Rattle.rgo_code_text.proofs.line_forms.LineWords.{first_word, line_first, number_differs}
 use Rattle.rgo_code_text.proofs.line_forms.LinesBack.{struct_back, global_back, function_back, slot_line_back, entry_back}
@@ -49,12 +49,12 @@ items_one x y f g e = by x f e (sym (line_first y g) ∙ ap (before_first is_spa
     by End f e w = sym (only_end y g w)
     by (Instr i a m) f e w = only_instr i a m y f g w e
     by (Struct name fields) f e w =
-        some_same (Struct name fields) y (sym (struct_back (Struct name fields) f refl) ∙ ap (λ l. struct_of (cut 2 l)) e ∙ struct_back y g w)
+        some_same (Struct name fields) y (sym (struct_back (Struct name fields) f refl) ∙ ap (λ l. struct_item (cut_line 2 l)) e ∙ struct_back y g w)
     by (Global name ty) f e w =
-        some_same (Global name ty) y (sym (global_back (Global name ty) f refl) ∙ ap (λ l. global_of (cut 2 l)) e ∙ global_back y g w)
+        some_same (Global name ty) y (sym (global_back (Global name ty) f refl) ∙ ap (λ l. global_item (cut_line 2 l)) e ∙ global_back y g w)
     by (Function name params slot) f e w =
-        some_same (Function name params slot) y (sym (function_back (Function name params slot) f refl) ∙ ap (λ l. function_of (cut 4 l)) e ∙ function_back y g w)
+        some_same (Function name params slot) y (sym (function_back (Function name params slot) f refl) ∙ ap (λ l. function_item (cut_line 4 l)) e ∙ function_back y g w)
     by (Slot slot) f e w =
-        some_same (Slot slot) y (sym (slot_line_back (Slot slot) f refl) ∙ ap (λ l. slot_of (cut 2 l)) e ∙ slot_line_back y g w)
+        some_same (Slot slot) y (sym (slot_line_back (Slot slot) f refl) ∙ ap (λ l. slot_item (cut_line 2 l)) e ∙ slot_line_back y g w)
     by (Entry names) f e w =
-        some_same (Entry names) y (sym (entry_back (Entry names) f refl) ∙ ap (λ l. entry_of (cut 1 l)) e ∙ entry_back y g w)
+        some_same (Entry names) y (sym (entry_back (Entry names) f refl) ∙ ap (λ l. entry_item (cut_line 1 l)) e ∙ entry_back y g w)

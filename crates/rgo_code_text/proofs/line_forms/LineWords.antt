@@ -8,11 +8,11 @@ use Rattle.rgo_typed.specs.declared.types.Base.TheVariants as base
 use Rattle.rgo_typed.specs.declared.types.Layer.{Layer}
 use Rattle.rgo_typed.specs.declared.types.Layer.TheVariants as layer
 use Rattle.rgo_code_words.specs.Cuts.{is_space}
-use Rattle.rgo_code_text.specs.Items.{NamedSlot, Item, Head, Struct, Global, Function, Slot, Entry, Instr, End, ItemFits, IsName, item_line, BaseFits, TypeFits, NamedSlotFits, named_type_word, named_slot_words, named_result_words, only}
+use Rattle.rgo_code_text.specs.Items.{NamedSlot, Item, Head, Struct, Global, Function, Slot, Entry, Instr, End, ItemFits, IsName, item_line, BaseFits, TypeFits, NamedSlotFits, named_type_word, named_slot_words, named_result_words, only_name}
 use Rattle.rgo_code_printing.specs.Text.{op_words}
 use Rattle.rgo_code_words.specs.Readers.{NamedType, read_type}
 use Rattle.rgo_code_printing.specs.Words.{layer_word, base_word, class_word, creates_word, place_word, removes_word}
-use Rattle.rgo_code_words.specs.Worded.{IsSmall}
+use Rattle.rgo_code_words.specs.Worded.{IsSmallNumber}
 use Rattle.rgo_code_words.proofs.Cutting.{first_of_joined}
 use Rattle.rgo_code_words.proofs.Lacks.{Lacks, From, AllFrom, from_test, from_both, from_cons, from_less, from_nil, name_from, lacks_from}
 use Rattle.rgo_code_words.proofs.ListWords.{Reads}
@@ -102,7 +102,7 @@ decimal_below k small =
     k small
 
 -- a number is no word that begins with a letter
-pub number_differs : (i b : ℕ) (word : List ℕ) → IsSmall i → 57 < b → decimal i ≢ b ∷ word
+pub number_differs : (i b : ℕ) (word : List ℕ) → IsSmallNumber i → 57 < b → decimal i ≢ b ∷ word
 number_differs i b word s l e =
     let below = subst Below e (decimal_below i (omega (arith, s))) in
     absurd (omega (arith, l, below 0 0 (omega arith)))
@@ -116,6 +116,6 @@ line_first (Function name params slot) f =
 line_first (Slot slot) f = first_of_joined (codes "var") (named_slot_words slot) (first_lacks (Slot slot) f)
 line_first (Entry names) f =
     first_of_joined (codes "entry") (removes_word names ∷ []) (first_lacks (Entry names) f)
-line_first (Instr i instr name) f = first_of_joined (decimal i) (place_word instr.place ∷ creates_word instr.creates ∷ op_words (only name) instr.op)
+line_first (Instr i instr name) f = first_of_joined (decimal i) (place_word instr.place ∷ creates_word instr.creates ∷ op_words (only_name name) instr.op)
     (first_lacks (Instr i instr name) f)
 line_first End f = first_of_joined (codes "end") [] (first_lacks End f)

@@ -6,10 +6,10 @@ use Rattle.std.specs.Str.{bytes_eq}
 use Rattle.std.proofs.lemmas.Bool.Decides.{Decides-eqb, not_from_Decides}
 use Rattle.std.proofs.lemmas.List.Elements.{All-nil}
 use Rattle.std.proofs.lemmas.Slice.Eq.{bytes_eq-Decides}
-use Rattle.rgo_code_words.specs.Cuts.{is_space, cut, word_at}
+use Rattle.rgo_code_words.specs.Cuts.{is_space, cut_line, nth_word}
 use Rattle.rgo_code_text.specs.Items.{NamedSlot, Item, Head, Struct, Global, Function, Slot, Entry, Instr, End, ItemFits, IsName, item_line, TypeFits, NamedSlotFits, named_type_word, named_slot_words, named_result_words}
-use Rattle.rgo_code_text.specs.Lines.{read_fields, read_slot, read_result, struct_of, global_of, function_of, slot_of, entry_of, InstrFits}
-use Rattle.rgo_code_words.specs.Readers.{NamedType, IsRead, on_some, read_class, read_number, read_regions, read_type}
+use Rattle.rgo_code_text.specs.Lines.{read_fields, read_slot, read_result, struct_item, global_item, function_item, slot_item, entry_item, IsFittingInstr}
+use Rattle.rgo_code_words.specs.Readers.{NamedType, IsReadFromBytes, on_some, read_class, read_number, read_regions, read_type}
 use Rattle.rgo_code_printing.specs.Words.{class_word, removes_word}
 use Rattle.rgo_code_words.specs.Worded.{is_name}
 use Rattle.rgo_code_words.proofs.Cutting.{cut_words, cut_more, cut_joined, cut_short, first_of_cut, two_of, three_of, five_of}
@@ -113,7 +113,7 @@ dash_type s f = by (bytes_eq (named_type_word s.ty) (codes "-")) refl
         absurd (not_none s.ty (ap read_type (sym word) ∙ type_back s.ty.ty.layers s.ty.ty.base s.ty.name f.0))
 
 result_back : (o : Option NamedSlot) → IfSome o NamedSlotFits
-    → read_result (word_at (named_result_words o) 0) (word_at (named_result_words o) 1) ≡ Some o
+    → read_result (nth_word (named_result_words o) 0) (nth_word (named_result_words o) 1) ≡ Some o
 result_back None f = refl
 result_back (Some s) f =
     ap (λ t. if t && bytes_eq (class_word s.class) (codes "-") then Some None
@@ -144,28 +144,28 @@ result_is ty word o e =
 -- ---- each line
 
 -- the words of a line and its first one
-head_of_cut : (n : ℕ) (line word : List ℕ) → before_first is_space line ≡ word → word_at (cut (suc n) line) 0 ≡ word
+head_of_cut : (n : ℕ) (line word : List ℕ) → before_first is_space line ≡ word → nth_word (cut_line (suc n) line) 0 ≡ word
 head_of_cut n line word e = first_of_cut n line ∙ e
 
 -- what a reader of lines with a first word has to meet
 module _ (line word : List ℕ) (n : ℕ) (read : List (List ℕ) → Option Item) (first : before_first is_space line ≡ word)
-    (is : (words : List (List ℕ)) (x : Item) → word_at words 0 ≡ word → length words ≤ n + 2 → read words ≡ Some x
+    (is : (words : List (List ℕ)) (x : Item) → nth_word words 0 ≡ word → length words ≤ n + 2 → read words ≡ Some x
     → (join_with_byte 32 words ≡ item_line x) × ItemFits x)
-    (back : (x : Item) → ItemFits x → first_word x ≡ word → read (cut (suc n) (item_line x)) ≡ Some x) where
-  pub line_read : IsRead ItemFits item_line line (read (cut (suc n) line))
-  line_read = by (read (cut (suc n) line)) refl
+    (back : (x : Item) → ItemFits x → first_word x ≡ word → read (cut_line (suc n) (item_line x)) ≡ Some x) where
+  pub line_read : IsReadFromBytes ItemFits item_line line (read (cut_line (suc n) line))
+  line_read = by (read (cut_line (suc n) line)) refl
     where
-      by : (r : Option Item) → read (cut (suc n) line) ≡ r → IsRead ItemFits item_line line r
+      by : (r : Option Item) → read (cut_line (suc n) line) ≡ r → IsReadFromBytes ItemFits item_line line r
       by (Some x) e =
-          let i = is (cut (suc n) line) x (head_of_cut n line word first) (omega (arith, cut_short (suc n) line)) e in
+          let i = is (cut_line (suc n) line) x (head_of_cut n line word first) (omega (arith, cut_short (suc n) line)) e in
           (sym (cut_joined (suc n) line) ∙ i.0, i.1)
       by None e = λ x f t.
-          not_none x (sym e ∙ ap (λ l. read (cut (suc n) l)) t
+          not_none x (sym e ∙ ap (λ l. read (cut_line (suc n) l)) t
           ∙ back x f (sym (line_first x f) ∙ ap (before_first is_space) (sym t) ∙ first))
 
 -- ---- structs
 
-some_name : (words : List (List ℕ)) → is_name (word_at words 1) ≡ true → 2 ≤ length words
+some_name : (words : List (List ℕ)) → is_name (nth_word words 1) ≡ true → 2 ≤ length words
 unfolding is_name
 some_name [] e = absurd (true≢false (sym e))
 some_name (a ∷ []) e = absurd (true≢false (sym e))
@@ -179,10 +179,10 @@ fields_are : (name : List ℕ) (ts : List NamedType) → 0 < length ts
 fields_are name [] s = absurd (omega (arith, s))
 fields_are name (t ∷ ts) s = refl
 
-struct_is : (words : List (List ℕ)) (x : Item) → word_at words 0 ≡ codes "struct" → length words ≤ 3 → struct_of words ≡ Some x
+struct_is : (words : List (List ℕ)) (x : Item) → nth_word words 0 ≡ codes "struct" → length words ≤ 3 → struct_item words ≡ Some x
     → IsLineOf words x
 struct_is words x w l e =
-    let name = word_at words 1 in
+    let name = nth_word words 1 in
     let u = under (is_name name) _ x e in
     either_way (length words == 2) _ _ x (IsLineOf words x) u.is
     (λ t q. subst (IsLineOf words) (some_same (Struct name []) x q) (
@@ -190,13 +190,13 @@ struct_is words x w l e =
       (u.holds, All-nil TypeFits),
     ))
     (λ t q.
-    let m = mapped (Struct name) (read_fields (word_at words 2)) x q in
-    let i = words_is 32 read_type named_type_word TypeFits type_reads (word_at words 2) m.value m.was in
-    let some = words_some 32 read_type named_type_word TypeFits type_reads (word_at words 2) m.value m.was in
+    let m = mapped (Struct name) (read_fields (nth_word words 2)) x q in
+    let i = words_is 32 read_type named_type_word TypeFits type_reads (nth_word words 2) m.value m.was in
+    let some = words_some 32 read_type named_type_word TypeFits type_reads (nth_word words 2) m.value m.was in
     let three : length words ≡ 3 =
     omega (arith, l, some_name words u.holds, not_from_Decides (length words == 2) (Decides-eqb (length words) 2) t) in
     subst (IsLineOf words) m.is (
-      ap (join_with_byte 32) (three_of words three ∙ ap (λ v. v ∷ name ∷ word_at words 2 ∷ []) w)
+      ap (join_with_byte 32) (three_of words three ∙ ap (λ v. v ∷ name ∷ nth_word words 2 ∷ []) w)
           ∙ ap (λ r. codes "struct" ++ 32 ∷ (name ++ 32 ∷ r)) i.0 ∙ fields_are name m.value some,
       (u.holds, i.1),
     ))
@@ -207,50 +207,50 @@ word_lacks word e = lacks_from 33 32 word (omega arith) (from_test 33 word e)
 name_lacks : (name : List ℕ) → IsName name → Lacks 32 name
 name_lacks name i = lacks_from 33 32 name (omega arith) (named_from name i)
 
-pub struct_back : (x : Item) → ItemFits x → first_word x ≡ codes "struct" → struct_of (cut 2 (item_line x)) ≡ Some x
-struct_back x f e = only_struct (λ x. struct_of (cut 2 (item_line x)) ≡ Some x) x f e by
+pub struct_back : (x : Item) → ItemFits x → first_word x ≡ codes "struct" → struct_item (cut_line 2 (item_line x)) ≡ Some x
+struct_back x f e = only_struct (λ x. struct_item (cut_line 2 (item_line x)) ≡ Some x) x f e by
   where
     by : (name : List ℕ) (fields : List NamedType) → ItemFits (Struct name fields)
-        → struct_of (cut 2 (item_line (Struct name fields))) ≡ Some (Struct name fields)
+        → struct_item (cut_line 2 (item_line (Struct name fields))) ≡ Some (Struct name fields)
     by name [] f =
-        ap struct_of (cut_words 2 (codes "struct") (name ∷ []) (omega arith) (all_lack_from 33 32 (codes "struct" ∷ name ∷ []) (omega arith)
+        ap struct_item (cut_words 2 (codes "struct") (name ∷ []) (omega arith) (all_lack_from 33 32 (codes "struct" ∷ name ∷ []) (omega arith)
         (and_word (codes "struct") (name ∷ []) (from_test 33 (codes "struct") refl) (and_word name [] (named_from name f.0) no_words))))
         ∙ ap (λ t. if t then Some (Struct name []) else None) f.0
     by name (t ∷ ts) f =
         let rest = join_with_byte 32 (map named_type_word (t ∷ ts)) in
-        ap struct_of (cut_more 1 (codes "struct") (name ++ 32 ∷ rest) (word_lacks (codes "struct") refl)
+        ap struct_item (cut_more 1 (codes "struct") (name ++ 32 ∷ rest) (word_lacks (codes "struct") refl)
         ∙ ap (λ ws. codes "struct" ∷ ws) (cut_more 0 name rest (name_lacks name f.0)))
         ∙ ap (λ b. if b then option_map (Struct name) (read_fields rest) else None) f.0
         ∙ ap (option_map (Struct name)) (words_back 32 read_type named_type_word TypeFits type_reads t ts f.1)
 
 pub struct_read : (line : List ℕ) → before_first is_space line ≡ codes "struct"
-    → IsRead ItemFits item_line line (struct_of (cut 2 line))
-struct_read line e = line_read line (codes "struct") 1 struct_of e struct_is struct_back
+    → IsReadFromBytes ItemFits item_line line (struct_item (cut_line 2 line))
+struct_read line e = line_read line (codes "struct") 1 struct_item e struct_is struct_back
 
 -- ---- package variables
 
-global_is : (words : List (List ℕ)) (x : Item) → word_at words 0 ≡ codes "global" → length words ≤ 3 → global_of words ≡ Some x
+global_is : (words : List (List ℕ)) (x : Item) → nth_word words 0 ≡ codes "global" → length words ≤ 3 → global_item words ≡ Some x
     → IsLineOf words x
 global_is words x w l e =
-    let name = word_at words 1 in
+    let name = nth_word words 1 in
     let u = under (length words == 3 && is_name name) _ x e in
     let b = both_true (length words == 3) (is_name name) u.holds in
-    let m = mapped (Global name) (read_type (word_at words 2)) x u.is in
-    let i = type_is (word_at words 2) m.value m.was in
+    let m = mapped (Global name) (read_type (nth_word words 2)) x u.is in
+    let i = type_is (nth_word words 2) m.value m.was in
     subst (IsLineOf words) m.is (
-      ap (join_with_byte 32) (three_of words ((Decides-eqb (length words) 3).0 b.0) ∙ ap (λ v. v ∷ name ∷ word_at words 2 ∷ []) w
+      ap (join_with_byte 32) (three_of words ((Decides-eqb (length words) 3).0 b.0) ∙ ap (λ v. v ∷ name ∷ nth_word words 2 ∷ []) w
           ∙ ap (λ v. codes "global" ∷ name ∷ v ∷ []) i.0),
       (b.1, i.1),
     )
 
-pub global_back : (x : Item) → ItemFits x → first_word x ≡ codes "global" → global_of (cut 2 (item_line x)) ≡ Some x
-global_back x f e = only_global (λ x. global_of (cut 2 (item_line x)) ≡ Some x) x f e by
+pub global_back : (x : Item) → ItemFits x → first_word x ≡ codes "global" → global_item (cut_line 2 (item_line x)) ≡ Some x
+global_back x f e = only_global (λ x. global_item (cut_line 2 (item_line x)) ≡ Some x) x f e by
   where
     by : (name : List ℕ) (ty : NamedType) → ItemFits (Global name ty)
-        → global_of (cut 2 (item_line (Global name ty))) ≡ Some (Global name ty)
+        → global_item (cut_line 2 (item_line (Global name ty))) ≡ Some (Global name ty)
     by name ty f =
         let words = codes "global" ∷ name ∷ named_type_word ty ∷ [] in
-        ap global_of (cut_words 2 (codes "global") (name ∷ named_type_word ty ∷ []) (omega arith) (all_lack_from 33 32 words (omega arith)
+        ap global_item (cut_words 2 (codes "global") (name ∷ named_type_word ty ∷ []) (omega arith) (all_lack_from 33 32 words (omega arith)
         (and_word (codes "global") (name ∷ named_type_word ty ∷ []) (from_test 33 (codes "global") refl)
         (and_word name (named_type_word ty ∷ []) (named_from name f.0)
         (and_word (named_type_word ty) [] (type_from ty f.1) no_words)))))
@@ -258,30 +258,30 @@ global_back x f e = only_global (λ x. global_of (cut 2 (item_line x)) ≡ Some 
         ∙ ap (option_map (Global name)) (type_back ty.ty.layers ty.ty.base ty.name f.1)
 
 pub global_read : (line : List ℕ) → before_first is_space line ≡ codes "global"
-    → IsRead ItemFits item_line line (global_of (cut 2 line))
-global_read line e = line_read line (codes "global") 1 global_of e global_is global_back
+    → IsReadFromBytes ItemFits item_line line (global_item (cut_line 2 line))
+global_read line e = line_read line (codes "global") 1 global_item e global_is global_back
 
 -- ---- heads of functions
 
-function_is : (words : List (List ℕ)) (x : Item) → word_at words 0 ≡ codes "func" → length words ≤ 5 → function_of words ≡ Some x
+function_is : (words : List (List ℕ)) (x : Item) → nth_word words 0 ≡ codes "func" → length words ≤ 5 → function_item words ≡ Some x
     → IsLineOf words x
 function_is words x w l e =
-    let name = word_at words 1 in
+    let name = nth_word words 1 in
     let u = under (length words == 5 && is_name name) _ x e in
     let b = both_true (length words == 5) (is_name name) u.holds in
-    let p = after_some (read_number (word_at words 2)) _ x u.is in
-    let m = mapped (Function name p.value) (read_result (word_at words 3) (word_at words 4)) x p.is in
-    let n = number_sound (word_at words 2) p.value p.was in
-    let r = result_is (word_at words 3) (word_at words 4) m.value m.was in
+    let p = after_some (read_number (nth_word words 2)) _ x u.is in
+    let m = mapped (Function name p.value) (read_result (nth_word words 3) (nth_word words 4)) x p.is in
+    let n = number_sound (nth_word words 2) p.value p.was in
+    let r = result_is (nth_word words 3) (nth_word words 4) m.value m.was in
     subst (IsLineOf words) m.is (
       ap (join_with_byte 32) (five_of words ((Decides-eqb (length words) 5).0 b.0)
-          ∙ ap (λ v. v ∷ name ∷ word_at words 2 ∷ word_at words 3 ∷ word_at words 4 ∷ []) w
-          ∙ ap (λ v. codes "func" ∷ name ∷ v ∷ word_at words 3 ∷ word_at words 4 ∷ []) n.0
+          ∙ ap (λ v. v ∷ name ∷ nth_word words 2 ∷ nth_word words 3 ∷ nth_word words 4 ∷ []) w
+          ∙ ap (λ v. codes "func" ∷ name ∷ v ∷ nth_word words 3 ∷ nth_word words 4 ∷ []) n.0
           ∙ ap (λ vs. codes "func" ∷ name ∷ decimal p.value ∷ vs) r.words_are),
       (b.1, n.1, r.fits),
     )
 
-two_words : (o : Option NamedSlot) → named_result_words o ≡ word_at (named_result_words o) 0 ∷ word_at (named_result_words o) 1 ∷ []
+two_words : (o : Option NamedSlot) → named_result_words o ≡ nth_word (named_result_words o) 0 ∷ nth_word (named_result_words o) 1 ∷ []
 two_words None = refl
 two_words (Some s) = refl
 
@@ -289,16 +289,16 @@ two_long : (o : Option NamedSlot) → length (named_result_words o) ≡ 2
 two_long None = refl
 two_long (Some s) = refl
 
-pub function_back : (x : Item) → ItemFits x → first_word x ≡ codes "func" → function_of (cut 4 (item_line x)) ≡ Some x
-function_back x f e = only_function (λ x. function_of (cut 4 (item_line x)) ≡ Some x) x f e by
+pub function_back : (x : Item) → ItemFits x → first_word x ≡ codes "func" → function_item (cut_line 4 (item_line x)) ≡ Some x
+function_back x f e = only_function (λ x. function_item (cut_line 4 (item_line x)) ≡ Some x) x f e by
   where
     by : (name : List ℕ) (params : ℕ) (slot : Option NamedSlot) → ItemFits (Function name params slot)
-        → function_of (cut 4 (item_line (Function name params slot))) ≡ Some (Function name params slot)
+        → function_item (cut_line 4 (item_line (Function name params slot))) ≡ Some (Function name params slot)
     by name params slot f =
         let result = named_result_words slot in
         let rest = name ∷ decimal params ∷ result in
-        let read = read_result (word_at result 0) (word_at result 1) in
-        ap function_of (cut_words 4 (codes "func") rest (omega (arith, two_long slot)) (all_lack_from 33 32 (codes "func" ∷ rest) (omega arith)
+        let read = read_result (nth_word result 0) (nth_word result 1) in
+        ap function_item (cut_words 4 (codes "func") rest (omega (arith, two_long slot)) (all_lack_from 33 32 (codes "func" ∷ rest) (omega arith)
         (and_word (codes "func") rest (from_test 33 (codes "func") refl) (and_word name (decimal params ∷ result) (named_from name f.0)
         (and_word (decimal params) result (number_from params f.1) (result_from slot f.2)))))
         ∙ ap (λ ws. codes "func" ∷ name ∷ decimal params ∷ ws) (two_words slot))
@@ -307,72 +307,72 @@ function_back x f e = only_function (λ x. function_of (cut 4 (item_line x)) ≡
         ∙ ap (option_map (Function name params)) (result_back slot f.2)
 
 pub function_read : (line : List ℕ) → before_first is_space line ≡ codes "func"
-    → IsRead ItemFits item_line line (function_of (cut 4 line))
-function_read line e = line_read line (codes "func") 3 function_of e function_is function_back
+    → IsReadFromBytes ItemFits item_line line (function_item (cut_line 4 line))
+function_read line e = line_read line (codes "func") 3 function_item e function_is function_back
 
 -- ---- variables of functions
 
-slot_line_is : (words : List (List ℕ)) (x : Item) → word_at words 0 ≡ codes "var" → length words ≤ 3 → slot_of words ≡ Some x
+slot_line_is : (words : List (List ℕ)) (x : Item) → nth_word words 0 ≡ codes "var" → length words ≤ 3 → slot_item words ≡ Some x
     → IsLineOf words x
 slot_line_is words x w l e =
     let u = under (length words == 3) _ x e in
-    let m = mapped Slot (read_slot (word_at words 1) (word_at words 2)) x u.is in
-    let s = slot_is (word_at words 1) (word_at words 2) m.value m.was in
+    let m = mapped Slot (read_slot (nth_word words 1) (nth_word words 2)) x u.is in
+    let s = slot_is (nth_word words 1) (nth_word words 2) m.value m.was in
     subst (IsLineOf words) m.is (
       ap (join_with_byte 32) (three_of words ((Decides-eqb (length words) 3).0 u.holds)
-          ∙ ap (λ v. v ∷ word_at words 1 ∷ word_at words 2 ∷ []) w ∙ ap (λ v. codes "var" ∷ v ∷ word_at words 2 ∷ []) s.ty_is
+          ∙ ap (λ v. v ∷ nth_word words 1 ∷ nth_word words 2 ∷ []) w ∙ ap (λ v. codes "var" ∷ v ∷ nth_word words 2 ∷ []) s.ty_is
           ∙ ap (λ v. codes "var" ∷ named_type_word m.value.ty ∷ v ∷ []) s.class_is),
       s.fits,
     )
 
-pub slot_line_back : (x : Item) → ItemFits x → first_word x ≡ codes "var" → slot_of (cut 2 (item_line x)) ≡ Some x
-slot_line_back x f e = only_slot (λ x. slot_of (cut 2 (item_line x)) ≡ Some x) x f e by
+pub slot_line_back : (x : Item) → ItemFits x → first_word x ≡ codes "var" → slot_item (cut_line 2 (item_line x)) ≡ Some x
+slot_line_back x f e = only_slot (λ x. slot_item (cut_line 2 (item_line x)) ≡ Some x) x f e by
   where
-    by : (slot : NamedSlot) → ItemFits (Slot slot) → slot_of (cut 2 (item_line (Slot slot))) ≡ Some (Slot slot)
+    by : (slot : NamedSlot) → ItemFits (Slot slot) → slot_item (cut_line 2 (item_line (Slot slot))) ≡ Some (Slot slot)
     by slot f =
-        ap slot_of (cut_words 2 (codes "var") (named_slot_words slot) (omega arith)
+        ap slot_item (cut_words 2 (codes "var") (named_slot_words slot) (omega arith)
         (all_lack_from 33 32 (codes "var" ∷ named_slot_words slot) (omega arith)
         (and_word (codes "var") (named_slot_words slot) (from_test 33 (codes "var") refl) (slot_from slot f))))
         ∙ ap (option_map Slot) (slot_back slot f)
 
-pub slot_read : (line : List ℕ) → before_first is_space line ≡ codes "var" → IsRead ItemFits item_line line (slot_of (cut 2 line))
-slot_read line e = line_read line (codes "var") 1 slot_of e slot_line_is slot_line_back
+pub slot_read : (line : List ℕ) → before_first is_space line ≡ codes "var" → IsReadFromBytes ItemFits item_line line (slot_item (cut_line 2 line))
+slot_read line e = line_read line (codes "var") 1 slot_item e slot_line_is slot_line_back
 
 -- ---- entries
 
-entry_is : (words : List (List ℕ)) (x : Item) → word_at words 0 ≡ codes "entry" → length words ≤ 2 → entry_of words ≡ Some x
+entry_is : (words : List (List ℕ)) (x : Item) → nth_word words 0 ≡ codes "entry" → length words ≤ 2 → entry_item words ≡ Some x
     → IsLineOf words x
 entry_is words x w l e =
     let u = under (length words == 2) _ x e in
-    let m = mapped Entry (read_regions 45 (word_at words 1)) x u.is in
-    let r = regions_is 45 (word_at words 1) m.value m.was in
+    let m = mapped Entry (read_regions 45 (nth_word words 1)) x u.is in
+    let r = regions_is 45 (nth_word words 1) m.value m.was in
     subst (IsLineOf words) m.is (
-      ap (join_with_byte 32) (two_of words ((Decides-eqb (length words) 2).0 u.holds) ∙ ap (λ v. v ∷ word_at words 1 ∷ []) w
+      ap (join_with_byte 32) (two_of words ((Decides-eqb (length words) 2).0 u.holds) ∙ ap (λ v. v ∷ nth_word words 1 ∷ []) w
           ∙ ap (λ v. codes "entry" ∷ v ∷ []) r.0),
       r.1,
     )
 
-pub entry_back : (x : Item) → ItemFits x → first_word x ≡ codes "entry" → entry_of (cut 1 (item_line x)) ≡ Some x
-entry_back x f e = only_entry (λ x. entry_of (cut 1 (item_line x)) ≡ Some x) x f e by
+pub entry_back : (x : Item) → ItemFits x → first_word x ≡ codes "entry" → entry_item (cut_line 1 (item_line x)) ≡ Some x
+entry_back x f e = only_entry (λ x. entry_item (cut_line 1 (item_line x)) ≡ Some x) x f e by
   where
-    by : (names : List ℕ) → ItemFits (Entry names) → entry_of (cut 1 (item_line (Entry names))) ≡ Some (Entry names)
+    by : (names : List ℕ) → ItemFits (Entry names) → entry_item (cut_line 1 (item_line (Entry names))) ≡ Some (Entry names)
     by names f =
-        ap entry_of (cut_words 1 (codes "entry") (removes_word names ∷ []) (omega arith)
+        ap entry_item (cut_words 1 (codes "entry") (removes_word names ∷ []) (omega arith)
         (all_lack_from 33 32 (codes "entry" ∷ removes_word names ∷ []) (omega arith)
         (and_word (codes "entry") (removes_word names ∷ []) (from_test 33 (codes "entry") refl)
         (and_word (removes_word names) [] (removes_from names f) no_words))))
         ∙ ap (option_map Entry) (regions_back 45 names f)
 
 pub entry_read : (line : List ℕ) → before_first is_space line ≡ codes "entry"
-    → IsRead ItemFits item_line line (entry_of (cut 1 line))
-entry_read line e = line_read line (codes "entry") 0 entry_of e entry_is entry_back
+    → IsReadFromBytes ItemFits item_line line (entry_item (cut_line 1 line))
+entry_read line e = line_read line (codes "entry") 0 entry_item e entry_is entry_back
 
 -- ---- lines without operands
 
-pub head_read : (line : List ℕ) → bytes_eq line (codes "rgo code 1") ≡ true → IsRead ItemFits item_line line (Some Head)
+pub head_read : (line : List ℕ) → bytes_eq line (codes "rgo code 1") ≡ true → IsReadFromBytes ItemFits item_line line (Some Head)
 head_read line e = ((bytes_eq-Decides line (codes "rgo code 1")).0 e, tt)
 
-pub end_read : (line : List ℕ) → bytes_eq line (codes "end") ≡ true → IsRead ItemFits item_line line (Some End)
+pub end_read : (line : List ℕ) → bytes_eq line (codes "end") ≡ true → IsReadFromBytes ItemFits item_line line (Some End)
 end_read line e = ((bytes_eq-Decides line (codes "end")).0 e, tt)
 
 -- ---- all other lines are instructions
@@ -383,7 +383,7 @@ module _ (line : List ℕ) (head : bytes_eq line (codes "rgo code 1") ≡ false)
       (c : bytes_eq (before_first is_space line) (codes "func") ≡ false)
       (d : bytes_eq (before_first is_space line) (codes "var") ≡ false)
       (e : bytes_eq (before_first is_space line) (codes "entry") ≡ false) where
-    is_instr : (x : Item) → ItemFits x → line ≡ item_line x → InstrFits x
+    is_instr : (x : Item) → ItemFits x → line ≡ item_line x → IsFittingInstr x
     is_instr Head f t = absurd (differ line (codes "rgo code 1") head t)
     is_instr End f t = absurd (differ line (codes "end") last t)
     is_instr (Struct name fields) f t =
@@ -399,6 +399,6 @@ module _ (line : List ℕ) (head : bytes_eq line (codes "rgo code 1") ≡ false)
         absurd (differ (before_first is_space line) (codes "entry") e (ap (before_first is_space) t ∙ line_first (Entry names) f))
     is_instr (Instr i instr name) f t = (tt, f)
 
-    pub instr_read : (r : Option Item) → IsRead InstrFits item_line line r → IsRead ItemFits item_line line r
+    pub instr_read : (r : Option Item) → IsReadFromBytes IsFittingInstr item_line line r → IsReadFromBytes ItemFits item_line line r
     instr_read (Some x) i = (i.0, i.1.1)
     instr_read None i = λ x f t. i x (is_instr x f t) t

@@ -8,11 +8,11 @@ use Rattle.rgo_typed.specs.declared.statements.Piece.{Piece}
 use Rattle.rgo_typed.specs.declared.statements.Piece.TheVariants as piece
 use Rattle.rgo_code.specs.Code.{CodeOp, Do, Call, Go, Print, Jump, Branch, Return}
 use Rattle.rgo_code_text.specs.Forms.{IsLine}
-use Rattle.rgo_code_text.specs.Items.{Item, Head, Struct, Global, Function, Slot, Entry, Instr, End, ItemFits, TypeFits, item_words, item_line, items_text, only, OpIsNamed, named_type_word, named_slot_words, named_result_words}
+use Rattle.rgo_code_text.specs.Items.{Item, Head, Struct, Global, Function, Slot, Entry, Instr, End, ItemFits, TypeFits, item_words, item_line, items_text, only_name, OpIsNamed, named_type_word, named_slot_words, named_result_words}
 use Rattle.rgo_code_printing.specs.Text.{op_words}
-use Rattle.rgo_code_printing.specs.Words.{hex_digit, byte_word, string_word, piece_word, piece_words, place_word, creates_word, removes_word, in_one, listed, value_count}
-use Rattle.rgo_code_text.specs.Written.{OpFits}
-use Rattle.rgo_code_words.specs.Worded.{AreSmall, values_in}
+use Rattle.rgo_code_printing.specs.Words.{hex_digit, byte_word, string_word, piece_word, piece_words, place_word, creates_word, removes_word, in_one, comma_separated, value_count}
+use Rattle.rgo_code_text.specs.Written.{OpHasText}
+use Rattle.rgo_code_words.specs.Worded.{AreSmall, printed_value_count}
 use Rattle.rgo_code_text.proofs.line_forms.ItemsOne.{items_one}
 use Rattle.rgo_code_words.proofs.Lacks.{Lacks, From, AllFrom, from_test, from_both, from_cons, from_less, from_nil, joined_from, lacks_from, lettered_from}
 use Rattle.rgo_code_text.proofs.line_forms.LineWords.{type_from, slot_from, result_from, named_from}
@@ -62,7 +62,7 @@ piece_from (piece.Text bytes) from n s l = string_from bytes
 piece_from piece.Value from n s l =
     lettered_from 32 118 (get_or from n 0) (omega arith) (omega arith) (s n 0 (omega (arith, l)))
 
-pieces_from : (pieces : List Piece) (from : List ℕ) (n : ℕ) → AreSmall from → n + values_in pieces ≤ length from
+pieces_from : (pieces : List Piece) (from : List ℕ) (n : ℕ) → AreSmall from → n + printed_value_count pieces ≤ length from
     → AllFrom 32 (piece_words pieces from n)
 pieces_from [] from n s l = All-nil (From 32)
 pieces_from (p ∷ pieces) from n s l =
@@ -75,7 +75,7 @@ pieces_from (p ∷ pieces) from n s l =
 words_from : (words : List (List ℕ)) → AllFrom 33 words → From 32 (join_with_byte 32 words)
 words_from words f = joined_from 32 32 words (omega arith) (λ k d l. from_less 32 33 _ (omega arith) (f k d l))
 
-print_from : (pieces : List Piece) (from removes : List ℕ) → OpFits (Print pieces from removes)
+print_from : (pieces : List Piece) (from removes : List ℕ) → OpHasText (Print pieces from removes)
     → AllFrom 32 (in_one (piece_words pieces from 0) ++ removes_word removes ∷ [])
 print_from pieces from removes f =
     All-append (From 32) (in_one (piece_words pieces from 0)) (removes_word removes ∷ []) (by pieces refl)
@@ -86,31 +86,31 @@ print_from pieces from removes f =
     by [] e = All-nil (From 32)
     by (p ∷ ps) e =
         let all : AllFrom 32 (piece_words (p ∷ ps) from 0) =
-        pieces_from (p ∷ ps) from 0 f.2 (omega (arith, ap values_in e, f.1)) in
-        All-cons (From 32) (listed (piece_words (p ∷ ps) from 0)) [] (joined_from 32 44 (piece_words (p ∷ ps) from 0) (omega arith) all)
+        pieces_from (p ∷ ps) from 0 f.2 (omega (arith, ap printed_value_count e, f.1)) in
+        All-cons (From 32) (comma_separated (piece_words (p ∷ ps) from 0)) [] (joined_from 32 44 (piece_words (p ∷ ps) from 0) (omega arith) all)
         (All-nil (From 32))
 
 less_all : (words : List (List ℕ)) → AllFrom 33 words → AllFrom 32 words
 less_all words f k d l = from_less 32 33 _ (omega arith) (f k d l)
 
-op_from : (op : CodeOp) (name : List ℕ) → OpFits op → OpIsNamed op name → AllFrom 32 (op_words (only name) op)
+op_from : (op : CodeOp) (name : List ℕ) → OpHasText op → OpIsNamed op name → AllFrom 32 (op_words (only_name name) op)
 op_from (Print pieces from removes) name f i =
     All-cons (From 32) (codes "print") (in_one (piece_words pieces from 0) ++ removes_word removes ∷ [])
     (from_test 32 (codes "print") refl) (print_from pieces from removes f)
 op_from (Do to a from removes) name f i =
-    less_all (op_words (only name) (Do to a from removes)) (op_worded (Do to a from removes) name f i (λ p. p)).from
+    less_all (op_words (only_name name) (Do to a from removes)) (op_worded (Do to a from removes) name f i (λ p. p)).from
 op_from (Call to n from passes protects removes) name f i =
-    less_all (op_words (only name) (Call to n from passes protects removes))
+    less_all (op_words (only_name name) (Call to n from passes protects removes))
     (op_worded (Call to n from passes protects removes) name f i (λ p. p)).from
 op_from (Go n from passes removes) name f i =
-    less_all (op_words (only name) (Go n from passes removes)) (op_worded (Go n from passes removes) name f i (λ p. p)).from
+    less_all (op_words (only_name name) (Go n from passes removes)) (op_worded (Go n from passes removes) name f i (λ p. p)).from
 op_from (Jump target removes) name f i =
-    less_all (op_words (only name) (Jump target removes)) (op_worded (Jump target removes) name f i (λ p. p)).from
+    less_all (op_words (only_name name) (Jump target removes)) (op_worded (Jump target removes) name f i (λ p. p)).from
 op_from (Branch test target removes other otherwise) name f i =
-    less_all (op_words (only name) (Branch test target removes other otherwise))
+    less_all (op_words (only_name name) (Branch test target removes other otherwise))
     (op_worded (Branch test target removes other otherwise) name f i (λ p. p)).from
 op_from (Return value) name f i =
-    less_all (op_words (only name) (Return value)) (op_worded (Return value) name f i (λ p. p)).from
+    less_all (op_words (only_name name) (Return value)) (op_worded (Return value) name f i (λ p. p)).from
 
 line_from : (x : Item) → ItemFits x → From 32 (item_line x)
 line_from Head f = from_test 32 (codes "rgo code 1") refl
@@ -136,11 +136,11 @@ line_from (Entry names) f =
     (and_word (removes_word names) [] (removes_from names f) no_words))
 line_from (Instr i instr name) f =
     joined_from 32 32 (item_words (Instr i instr name)) (omega arith)
-    (All-cons (From 32) (decimal i) (place_word instr.place ∷ creates_word instr.creates ∷ op_words (only name) instr.op)
+    (All-cons (From 32) (decimal i) (place_word instr.place ∷ creates_word instr.creates ∷ op_words (only_name name) instr.op)
     (from_less 32 33 (decimal i) (omega arith) (number_from i f.0))
-    (All-cons (From 32) (place_word instr.place) (creates_word instr.creates ∷ op_words (only name) instr.op)
+    (All-cons (From 32) (place_word instr.place) (creates_word instr.creates ∷ op_words (only_name name) instr.op)
     (lettered_from 32 64 instr.place (omega arith) (omega arith) f.1.0)
-    (All-cons (From 32) (creates_word instr.creates) (op_words (only name) instr.op)
+    (All-cons (From 32) (creates_word instr.creates) (op_words (only_name name) instr.op)
     (from_less 32 33 (creates_word instr.creates) (omega arith) (regions_from 43 instr.creates (omega arith) f.1.1))
     (op_from instr.op name f.1.2 f.2))))
 line_from End f = from_test 32 (codes "end") refl

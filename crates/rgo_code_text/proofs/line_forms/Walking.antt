@@ -8,7 +8,7 @@ use Rattle.std.proofs.lemmas.List.Sums.{split_at_first, passes_at_first, fails_b
 use Rattle.rgo_code_text.specs.declared.places.Place.{Place}
 use Rattle.rgo_code_text.specs.declared.places.Place.TheVariants.{First}
 use Rattle.rgo_code_text.specs.Forms.{IsLine}
-use Rattle.rgo_code_text.specs.Items.{Item, ItemFits, item_words, item_line, after, after_all, items_text}
+use Rattle.rgo_code_text.specs.Items.{Item, ItemFits, item_words, item_line, place_after_item, place_after_items, items_text}
 use Rattle.rgo_code_text.specs.Order.{IsLast}
 use Rattle.rgo_code_words.specs.Readers.{on_some}
 use Rattle.rgo_code_printing.specs.Text.{line}
@@ -32,16 +32,16 @@ items_more (y ∷ xs) x =
     ∙ sym (append_assoc (line (item_words y)) (items_text xs) (item_line x ++ 10 ∷ []))
 
 pub places_more : (xs : List Item) (x : Item) (p : Place)
-    → after_all (xs ++ x ∷ []) p ≡ on_some (after_all xs p) (λ q. after q x)
-places_more [] x p = last (after p x)
+    → place_after_items (xs ++ x ∷ []) p ≡ on_some (place_after_items xs p) (λ q. place_after_item q x)
+places_more [] x p = last (place_after_item p x)
   where
-    last : (o : Option Place) → on_some o (after_all []) ≡ o
+    last : (o : Option Place) → on_some o (place_after_items []) ≡ o
     last None = refl
     last (Some q) = refl
-places_more (y ∷ xs) x p = by (after p y) (places_more xs x)
+places_more (y ∷ xs) x p = by (place_after_item p y) (places_more xs x)
   where
-    by : (o : Option Place) → ((q : Place) → after_all (xs ++ x ∷ []) q ≡ on_some (after_all xs q) (λ r. after r x))
-        → on_some o (after_all (xs ++ x ∷ [])) ≡ on_some (on_some o (after_all xs)) (λ r. after r x)
+    by : (o : Option Place) → ((q : Place) → place_after_items (xs ++ x ∷ []) q ≡ on_some (place_after_items xs q) (λ r. place_after_item r x))
+        → on_some o (place_after_items (xs ++ x ∷ [])) ≡ on_some (on_some o (place_after_items xs)) (λ r. place_after_item r x)
     by None more = refl
     by (Some q) more = more q
 
@@ -64,7 +64,7 @@ taken_more text xs x at n cut e l is =
 pub record ReadSoFar (text : List ℕ) (items : List Item) (place : Place) (at line : ℕ) : Type 0 where
   pub within : at ≤ length text
   pub fit : All ItemFits items
-  pub leads : after_all items First ≡ Some place
+  pub leads : place_after_items items First ≡ Some place
   pub cut : text ≡ items_text items ++ drop at text
   pub number : length items + 1 ≡ line
 
@@ -84,7 +84,7 @@ line_end bytes e =
 
 module _ (text : List ℕ) (items : List Item) (place : Place) (at n line : ℕ) (rest : List ℕ) (whole : rest ≡ drop at text)
     (first : n ≡ position_or_len is_newline rest) (within : n ≤ length rest) (inside : at ≤ length text)
-    (fit : All ItemFits items) (leads : after_all items First ≡ Some place) (cut : text ≡ items_text items ++ drop at text)
+    (fit : All ItemFits items) (leads : place_after_items items First ≡ Some place) (cut : text ≡ items_text items ++ drop at text)
     (number : length items + 1 ≡ line) where
   rest_cut : text ≡ items_text items ++ rest
   rest_cut = cut ∙ ap (λ t. items_text items ++ t) (sym whole)
@@ -145,7 +145,7 @@ module _ (text : List ℕ) (items : List Item) (place : Place) (at n line : ℕ)
       subst (λ xs. ReadSoFar text xs next (at + n + 1) (line + 1)) (sym m) (record {
         within = omega (arith, less, ap length whole, length-drop at text, inside);
         fit = All-push ItemFits items x fit s.1;
-        leads = places_more items x First ∙ ap (λ o. on_some o (λ q. after q x)) leads ∙ s.2;
+        leads = places_more items x First ∙ ap (λ o. on_some o (λ q. place_after_item q x)) leads ∙ s.2;
         cut = taken_more text items x at n cut (ap (position_or_len is_newline) (sym whole) ∙ sym first)
             (subst (λ r. n < length r) whole less) (ap (take n) (sym whole) ∙ s.0);
         number = omega (arith, length_push items x, number);

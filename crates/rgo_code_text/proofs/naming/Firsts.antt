@@ -4,7 +4,7 @@ use Rattle.std.specs.Str.{bytes_eq}
 use Rattle.std.proofs.lemmas.Bool.Decides.{Decides-ltb, nat_tests, not_from_Decides}
 use Rattle.std.proofs.lemmas.List.Folds.{position_or_len_push}
 use Rattle.std.proofs.lemmas.Slice.Eq.{bytes_eq-Decides}
-use Rattle.rgo_code_text.specs.Numbers.{first_of}
+use Rattle.rgo_code_text.specs.Numbers.{number_if_known}
 use Rattle.rgo_code_text.specs.Written.{number_of_name}
 use Rattle.rgo_code_words.specs.Worded.{is_among}
 use Rattle.rgo_code_words.proofs.Options.{not_none}
@@ -31,16 +31,16 @@ among_is (k ∷ names) name = by (bytes_eq k name) (among_is names name)
         same m n = grind (arith, nat_tests)
 
 pub first_known : (names : List (List ℕ)) (name : List ℕ) → is_among names name ≡ true
-    → first_of names name ≡ Some (number_of_name names name)
+    → number_if_known names name ≡ Some (number_of_name names name)
 first_known names name e =
     ap (λ t. if t then Some (number_of_name names name) else None) (sym (among_is names name) ∙ e)
 
-pub first_unknown : (names : List (List ℕ)) (name : List ℕ) → is_among names name ≡ false → first_of names name ≡ None
+pub first_unknown : (names : List (List ℕ)) (name : List ℕ) → is_among names name ≡ false → number_if_known names name ≡ None
 first_unknown names name e =
     ap (λ t. if t then Some (number_of_name names name) else None) (sym (among_is names name) ∙ e)
 
 -- a name without a first place has the number of all names
-pub number_unknown : (names : List (List ℕ)) (name : List ℕ) → first_of names name ≡ None → number_of_name names name ≡ length names
+pub number_unknown : (names : List (List ℕ)) (name : List ℕ) → number_if_known names name ≡ None → number_of_name names name ≡ length names
 number_unknown names name e = by (nat_lt (number_of_name names name) (length names)) refl e
   where
     by : (t : Bool) → nat_lt (number_of_name names name) (length names) ≡ t
@@ -50,7 +50,7 @@ number_unknown names name e = by (nat_lt (number_of_name names name) (length nam
         let past = not_from_Decides (nat_lt (number_of_name names name) (length names)) (Decides-ltb (number_of_name names name) (length names)) p in
         omega (arith, number_within names name, past)
 
-pub unknown_none : (names : List (List ℕ)) (name : List ℕ) → first_of names name ≡ None → is_among names name ≡ false
+pub unknown_none : (names : List (List ℕ)) (name : List ℕ) → number_if_known names name ≡ None → is_among names name ≡ false
 unknown_none names name e =
     among_is names name ∙ ap (λ k. nat_lt k (length names)) (number_unknown names name e) ∙ not_less (length names)
   where
@@ -82,7 +82,7 @@ pushed k len m b l e = by (nat_lt k len) refl b e
         ap (λ t. if t then Some m else None) less
 
 pub first_push : (names : List (List ℕ)) (n name : List ℕ)
-    → first_of (names ++ n ∷ []) name
+    → number_if_known (names ++ n ∷ []) name
     ≡ (if nat_lt (number_of_name names name) (length names) then Some (number_of_name names name)
     else (if bytes_eq n name then Some (length names) else None))
 first_push names n name =
@@ -92,16 +92,16 @@ first_push names n name =
     (position_or_len_push (λ known. bytes_eq known name) names n)
 
 -- a name that is new
-pub push_new : (names : List (List ℕ)) (n : List ℕ) → first_of names n ≡ None → (name : List ℕ)
-    → (if bytes_eq n name then Some (length names) else first_of names name) ≡ first_of (names ++ n ∷ []) name
+pub push_new : (names : List (List ℕ)) (n : List ℕ) → number_if_known names n ≡ None → (name : List ℕ)
+    → (if bytes_eq n name then Some (length names) else number_if_known names name) ≡ number_if_known (names ++ n ∷ []) name
 push_new names n e name = by (bytes_eq n name) refl
   where
     by : (b : Bool) → bytes_eq n name ≡ b
-        → (if b then Some (length names) else first_of names name) ≡ first_of (names ++ n ∷ []) name
+        → (if b then Some (length names) else number_if_known names name) ≡ number_if_known (names ++ n ∷ []) name
     by true p =
         let same : n ≡ name = (bytes_eq-Decides n name).0 p in
         let past : nat_lt (number_of_name names name) (length names) ≡ false =
-        sym (among_is names name) ∙ unknown_none names name (ap (first_of names) (sym same) ∙ e) in
+        sym (among_is names name) ∙ unknown_none names name (ap (number_if_known names) (sym same) ∙ e) in
         sym (first_push names n name
         ∙ ap (λ t. if t then Some (number_of_name names name) else (if bytes_eq n name then Some (length names) else None)) past
         ∙ ap (λ t. if t then Some (length names) else None) p)
@@ -112,11 +112,11 @@ push_new names n e name = by (bytes_eq n name) refl
 
 -- a name that is among them
 pub push_known : (names : List (List ℕ)) (n : List ℕ) → is_among names n ≡ true → (name : List ℕ)
-    → first_of names name ≡ first_of (names ++ n ∷ []) name
+    → number_if_known names name ≡ number_if_known (names ++ n ∷ []) name
 push_known names n e name = by (nat_lt (number_of_name names name) (length names)) refl (bytes_eq n name) refl
   where
     by : (t : Bool) → nat_lt (number_of_name names name) (length names) ≡ t → (b : Bool) → bytes_eq n name ≡ b
-        → first_of names name ≡ first_of (names ++ n ∷ []) name
+        → number_if_known names name ≡ number_if_known (names ++ n ∷ []) name
     by true p b q =
         ap (λ t. if t then Some (number_of_name names name) else None) p
         ∙ sym (first_push names n name
@@ -130,9 +130,9 @@ push_known names n e name = by (nat_lt (number_of_name names name) (length names
         ∙ ap (λ t. if t then Some (number_of_name names name) else (if bytes_eq n name then Some (length names) else None)) p
         ∙ ap (λ t. if t then Some (length names) else None) q)
 
-pub some_first : (names : List (List ℕ)) (name : List ℕ) → is_some (first_of names name) ≡ is_among names name
+pub some_first : (names : List (List ℕ)) (name : List ℕ) → is_some (number_if_known names name) ≡ is_among names name
 some_first names name = by (is_among names name) refl
   where
-    by : (b : Bool) → is_among names name ≡ b → is_some (first_of names name) ≡ b
+    by : (b : Bool) → is_among names name ≡ b → is_some (number_if_known names name) ≡ b
     by true e = ap is_some (first_known names name e)
     by false e = ap is_some (first_unknown names name e)

@@ -7,7 +7,7 @@ use Rattle.std.proofs.lemmas.List.{drop_at, at_drop_more}
 use Rattle.std.proofs.lemmas.List.Elements.{All-nil, All-cons, All-head, All-tail, All-append}
 use Rattle.std.proofs.lemmas.List.Sums.{passes_at_first}
 use Rattle.std.proofs.lemmas.Slice.Eq.{bytes_eq-Decides}
-use Rattle.rgo_code_text.specs.Building.{with_names}
+use Rattle.rgo_code_text.specs.Building.{with_all_names}
 use Rattle.rgo_code_text.specs.Items.{IsName}
 use Rattle.rgo_code_text.specs.Numbers.{with_name}
 use Rattle.rgo_code_printing.specs.Words.{name_at}
@@ -50,13 +50,13 @@ unknown_same (u ∷ us) a b e =
     (unknown_same us (u ∷ a) (u ∷ b) (λ x. ap (λ t. bytes_eq u x || t) (e x)))
 
 -- the names, and after them those that were not known
-pub names_are : (us names : List (List ℕ)) → with_names names us ≡ names ++ unknown names us
+pub names_are : (us names : List (List ℕ)) → with_all_names names us ≡ names ++ unknown names us
 names_are [] names = sym (append-nil names)
 names_are (u ∷ us) names = by (is_among names u) (names_are us names) (names_are us (names ++ u ∷ []))
   where
-    by : (t : Bool) → with_names names us ≡ names ++ unknown names us
-        → with_names (names ++ u ∷ []) us ≡ (names ++ u ∷ []) ++ unknown (names ++ u ∷ []) us
-        → with_names (if t then names else names ++ u ∷ []) us
+    by : (t : Bool) → with_all_names names us ≡ names ++ unknown names us
+        → with_all_names (names ++ u ∷ []) us ≡ (names ++ u ∷ []) ++ unknown (names ++ u ∷ []) us
+        → with_all_names (if t then names else names ++ u ∷ []) us
         ≡ names ++ (if t then unknown names us else u ∷ unknown (u ∷ names) us)
     by true e f = e
     by false e f =
@@ -81,7 +81,7 @@ among_itself names x =
 abbrev Among : List (List ℕ) → List ℕ → Type 0
 Among names x = is_among names x ≡ true
 
-kept : (us names : List (List ℕ)) (x : List ℕ) → is_among names x ≡ true → is_among (with_names names us) x ≡ true
+kept : (us names : List (List ℕ)) (x : List ℕ) → is_among names x ≡ true → is_among (with_all_names names us) x ≡ true
 kept us names x e = ap (λ ns. is_among ns x) (names_are us names) ∙ among_left names (unknown names us) x e
 
 with_name_knows : (names : List (List ℕ)) (u : List ℕ) → is_among (with_name names u) u ≡ true
@@ -91,10 +91,10 @@ with_name_knows names u = by (is_among names u) refl
     by true e = e
     by false e = among_itself names u
 
-all_among : (us names : List (List ℕ)) → All (Among (with_names names us)) us
+all_among : (us names : List (List ℕ)) → All (Among (with_all_names names us)) us
 all_among [] names = All-nil (Among names)
 all_among (u ∷ us) names =
-    All-cons (Among (with_names (with_name names u) us)) u us (kept us (with_name names u) u (with_name_knows names u))
+    All-cons (Among (with_all_names (with_name names u) us)) u us (kept us (with_name names u) u (with_name_knows names u))
     (all_among us (with_name names u))
 
 pub number_less : (names : List (List ℕ)) (x : List ℕ) → is_among names x ≡ true → number_of_name names x < length names
@@ -111,8 +111,8 @@ all_known names [] a = All-nil (IsKnown names)
 all_known names (u ∷ us) a =
     All-cons (IsKnown names) u us (known_among names u (All-head (Among names) u us a)) (all_known names us (All-tail (Among names) u us a))
 
-pub used_known : (us names : List (List ℕ)) → AreKnown (with_names names us) us
-used_known us names = all_known (with_names names us) us (all_among us names)
+pub used_known : (us names : List (List ℕ)) → AreKnown (with_all_names names us) us
+used_known us names = all_known (with_all_names names us) us (all_among us names)
 
 -- ---- a kind of names
 
@@ -145,18 +145,18 @@ names_again names (u ∷ us) k =
     ap (λ w. w ∷ map (name_at names) (map (number_of_name names) us)) (All-head (IsKnown names) u us k)
     ∙ ap (λ ws. u ∷ ws) (names_again names us (All-tail (IsKnown names) u us k))
 
-pub rest_is : (names us : List (List ℕ)) → drop (length names) (with_names names us) ≡ unknown names us
+pub rest_is : (names us : List (List ℕ)) → drop (length names) (with_all_names names us) ≡ unknown names us
 rest_is names us =
     ap (drop (length names)) (names_are us names) ∙ drop_at names (unknown names us) (length names) refl
 
-pub whole_is : (names us : List (List ℕ)) → names ++ drop (length names) (with_names names us) ≡ with_names names us
+pub whole_is : (names us : List (List ℕ)) → names ++ drop (length names) (with_all_names names us) ≡ with_all_names names us
 whole_is names us = ap (λ t. names ++ t) (rest_is names us) ∙ sym (names_are us names)
 
 -- names that are declared, and those that are used, make a kind
 pub kind_written : (names us : List (List ℕ)) → AreNames names → AreNames us
-    → KindIsWritten names (drop (length names) (with_names names us)) (map (number_of_name (with_names names us)) us)
+    → KindIsWritten names (drop (length names) (with_all_names names us)) (map (number_of_name (with_all_names names us)) us)
 kind_written names us a b =
-    let all : List (List ℕ) = with_names names us in
+    let all : List (List ℕ) = with_all_names names us in
     let whole = sym (whole_is names us) in
     record {
       names = subst AreNames (names_are us names ∙ ap (λ t. names ++ t) (sym (rest_is names us)))
@@ -182,16 +182,16 @@ flat_all Q P f (x ∷ xs) a g =
 
 -- ---- names, added step by step
 
-pub with_both : (us vs names : List (List ℕ)) → with_names names (us ++ vs) ≡ with_names (with_names names us) vs
+pub with_both : (us vs names : List (List ℕ)) → with_all_names names (us ++ vs) ≡ with_all_names (with_all_names names us) vs
 with_both [] vs names = refl
 with_both (u ∷ us) vs names = with_both us vs (with_name names u)
 
 -- one more of the things that use names
 pub noted_more : {X : Type 0} (used : X → List (List ℕ)) (xs : List X) (i : ℕ) (x : X) (old now all : List (List ℕ))
-    → i < length xs → x ≡ get_or xs i x → now ≡ with_names old (used x)
-    → with_names old (flat_map used (drop i xs)) ≡ all → with_names now (flat_map used (drop (i + 1) xs)) ≡ all
+    → i < length xs → x ≡ get_or xs i x → now ≡ with_all_names old (used x)
+    → with_all_names old (flat_map used (drop i xs)) ≡ all → with_all_names now (flat_map used (drop (i + 1) xs)) ≡ all
 noted_more used xs i x old now all l e n so_far =
-    ap (λ ns. with_names ns (flat_map used (drop (i + 1) xs))) n
+    ap (λ ns. with_all_names ns (flat_map used (drop (i + 1) xs))) n
     ∙ sym (with_both (used x) (flat_map used (drop (i + 1) xs)) old)
-    ∙ ap (λ y. with_names old (used y ++ flat_map used (drop (i + 1) xs))) e
-    ∙ sym (at_drop_more (λ ys. with_names old (flat_map used ys)) xs i x l) ∙ so_far
+    ∙ ap (λ y. with_all_names old (used y ++ flat_map used (drop (i + 1) xs))) e
+    ∙ sym (at_drop_more (λ ys. with_all_names old (flat_map used ys)) xs i x l) ∙ so_far

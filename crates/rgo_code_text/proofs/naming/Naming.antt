@@ -9,8 +9,8 @@ use Rattle.rgo_typed.specs.declared.types.Base.{Base}
 use Rattle.rgo_typed.specs.declared.types.Base.TheVariants as base
 use Rattle.rgo_code.specs.Code.{CodeOp, Do, Call, Go, Print, Jump, Branch, Return}
 use Rattle.rgo_code_text.specs.Building.{numbered_base, numbered_type, numbered_slot, numbered_action, numbered_op}
-use Rattle.rgo_code_text.specs.Building.{base_names, type_names, slot_names, op_structs, op_variables, op_functions}
-use Rattle.rgo_code_text.specs.Items.{NamedSlot, only, named_type_word, named_slot_words, named_result_words, TypeFits, BaseFits, ActionIsNamed, OpIsNamed, NamedSlotFits}
+use Rattle.rgo_code_text.specs.Building.{base_names, type_names, result_names, op_structs, op_variables, op_functions}
+use Rattle.rgo_code_text.specs.Items.{NamedSlot, only_name, named_type_word, named_slot_words, named_result_words, TypeFits, BaseFits, ActionIsNamed, OpIsNamed, NamedSlotFits}
 use Rattle.rgo_code_words.specs.Readers.{NamedType}
 use Rattle.rgo_code_printing.specs.Text.{Names, action_words, value_word, op_words, slot_words, result_words}
 use Rattle.rgo_code_printing.specs.Words.{name_at, base_word, type_word, layer_word, class_word, variable_word, callee_word, removes_word, passes_word, protects_word}
@@ -51,7 +51,7 @@ pub slot_same : (n : Names) (s : NamedSlot) → NamedSlotFits s → AreKnown n.s
     → slot_words n (numbered_slot n s) ≡ codes "var" ∷ named_slot_words s
 slot_same n s f known = ap (λ w. codes "var" ∷ w ∷ class_word s.class ∷ []) (type_same n s.ty f.0 known)
 
-pub result_same : (n : Names) (s : Option NamedSlot) → IfSome s NamedSlotFits → AreKnown n.structs (slot_names s)
+pub result_same : (n : Names) (s : Option NamedSlot) → IfSome s NamedSlotFits → AreKnown n.structs (result_names s)
     → result_words n (option_map (numbered_slot n) s) ≡ named_result_words s
 result_same n None f known = refl
 result_same n (Some s) f known = ap (λ w. w ∷ class_word s.class ∷ []) (type_same n s.ty f.0 known)
@@ -69,19 +69,19 @@ nameless_same n m _ to from x y z = refl
 
 -- `new`, `get` and `set` by their names
 new_same : (n : Names) (to : Option ℕ) (from name : List ℕ) → IsKnown n.structs name
-    → action_words n (action.New (number_of_name n.structs name)) to from ≡ action_words (only name) (action.New 0) to from
+    → action_words n (action.New (number_of_name n.structs name)) to from ≡ action_words (only_name name) (action.New 0) to from
 new_same n (Some d) [] name k = ap (λ w. codes "new" ∷ variable_word d ∷ w ∷ []) k
 new_same n (Some d) (a ∷ from) name k = refl
 new_same n None from name k = refl
 
 get_same : (n : Names) (to : Option ℕ) (from name : List ℕ) → IsKnown n.variables name
-    → action_words n (action.Get (number_of_name n.variables name)) to from ≡ action_words (only name) (action.Get 0) to from
+    → action_words n (action.Get (number_of_name n.variables name)) to from ≡ action_words (only_name name) (action.Get 0) to from
 get_same n (Some d) [] name k = ap (λ w. codes "get" ∷ variable_word d ∷ w ∷ []) k
 get_same n (Some d) (a ∷ from) name k = refl
 get_same n None from name k = refl
 
 set_same : (n : Names) (to : Option ℕ) (from name : List ℕ) → IsKnown n.variables name
-    → action_words n (action.Set (number_of_name n.variables name)) to from ≡ action_words (only name) (action.Set 0) to from
+    → action_words n (action.Set (number_of_name n.variables name)) to from ≡ action_words (only_name name) (action.Set 0) to from
 set_same n None (a ∷ []) name k = ap (λ w. codes "set" ∷ w ∷ variable_word a ∷ []) k
 set_same n None [] name k = refl
 set_same n None (a ∷ b ∷ from) name k = refl
@@ -90,31 +90,31 @@ set_same n (Some d) from name k = refl
 action_same : (n : Names) (a : Action) (to : Option ℕ) (from removes name : List ℕ) → ActionIsNamed a name
     → AreKnown n.structs (op_structs (Do to a from removes) name)
     → AreKnown n.variables (op_variables (Do to a from removes) name)
-    → action_words n (numbered_action n a name) to from ≡ action_words (only name) a to from
+    → action_words n (numbered_action n a name) to from ≡ action_words (only_name name) a to from
 action_same n (action.New k) to from removes name f s v =
     new_same n to from name (All-head (IsKnown n.structs) name [] s)
-    ∙ ap (λ m. action_words (only name) (action.New m) to from) (sym f.0)
+    ∙ ap (λ m. action_words (only_name name) (action.New m) to from) (sym f.0)
 action_same n (action.Get k) to from removes name f s v =
     get_same n to from name (All-head (IsKnown n.variables) name [] v)
-    ∙ ap (λ m. action_words (only name) (action.Get m) to from) (sym f.0)
+    ∙ ap (λ m. action_words (only_name name) (action.Get m) to from) (sym f.0)
 action_same n (action.Set k) to from removes name f s v =
     set_same n to from name (All-head (IsKnown n.variables) name [] v)
-    ∙ ap (λ m. action_words (only name) (action.Set m) to from) (sym f.0)
+    ∙ ap (λ m. action_words (only_name name) (action.Set m) to from) (sym f.0)
 action_same n (action.Int i) to from removes name f s v =
-    nameless_same n (only name) (action.Int i) to from (λ k e. cc) (λ k e. cc) (λ k e. cc)
+    nameless_same n (only_name name) (action.Int i) to from (λ k e. cc) (λ k e. cc) (λ k e. cc)
 action_same n (action.Bool b) to from removes name f s v =
-    nameless_same n (only name) (action.Bool b) to from (λ k e. cc) (λ k e. cc) (λ k e. cc)
+    nameless_same n (only_name name) (action.Bool b) to from (λ k e. cc) (λ k e. cc) (λ k e. cc)
 action_same n (action.Binary op) to from removes name f s v =
-    nameless_same n (only name) (action.Binary op) to from (λ k e. cc) (λ k e. cc) (λ k e. cc)
+    nameless_same n (only_name name) (action.Binary op) to from (λ k e. cc) (λ k e. cc) (λ k e. cc)
 action_same n (action.Load j) to from removes name f s v =
-    nameless_same n (only name) (action.Load j) to from (λ k e. cc) (λ k e. cc) (λ k e. cc)
+    nameless_same n (only_name name) (action.Load j) to from (λ k e. cc) (λ k e. cc) (λ k e. cc)
 action_same n (action.Store j) to from removes name f s v =
-    nameless_same n (only name) (action.Store j) to from (λ k e. cc) (λ k e. cc) (λ k e. cc)
-action_same n a to from removes name f s v = nameless_same n (only name) a to from (λ k e. cc) (λ k e. cc) (λ k e. cc)
+    nameless_same n (only_name name) (action.Store j) to from (λ k e. cc) (λ k e. cc) (λ k e. cc)
+action_same n a to from removes name f s v = nameless_same n (only_name name) a to from (λ k e. cc) (λ k e. cc) (λ k e. cc)
 
 pub op_same : (n : Names) (op : CodeOp) (name : List ℕ) → OpIsNamed op name → AreKnown n.structs (op_structs op name)
     → AreKnown n.variables (op_variables op name) → AreKnown n.functions (op_functions op name)
-    → op_words n (numbered_op n op name) ≡ op_words (only name) op
+    → op_words n (numbered_op n op name) ≡ op_words (only_name name) op
 op_same n (Do to a from removes) name f s v g =
     ap (λ ws. ws ++ removes_word removes ∷ []) (action_same n a to from removes name f s v)
 op_same n (Call to k from passes protects removes) name f s v g =

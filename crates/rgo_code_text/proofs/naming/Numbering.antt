@@ -8,7 +8,7 @@ use Rattle.rgo_typed.specs.declared.types.Base.{Base}
 use Rattle.rgo_typed.specs.declared.types.Base.TheVariants as base
 use Rattle.rgo_code.specs.Code.{CodeOp, Do, Call, Go}
 use Rattle.rgo_code_text.specs.Building.{numbered_base, numbered_type, numbered_slot, numbered_op}
-use Rattle.rgo_code_text.specs.Building.{base_names, type_names, slot_names, op_structs, op_variables, op_functions}
+use Rattle.rgo_code_text.specs.Building.{base_names, type_names, result_names, op_structs, op_variables, op_functions}
 use Rattle.rgo_code_text.specs.Items.{NamedSlot}
 use Rattle.rgo_code_words.specs.Readers.{NamedType}
 use Rattle.rgo_code_printing.specs.Text.{Names}
@@ -33,7 +33,7 @@ fields_numbers n (t ∷ ts) =
     ∙ sym (map-append (number_of_name n.structs) (type_names t) (flat_map type_names ts))
 
 pub result_numbers : (n : Names) (s : Option NamedSlot)
-    → result_uses (option_map (numbered_slot n) s) ≡ map (number_of_name n.structs) (slot_names s)
+    → result_uses (option_map (numbered_slot n) s) ≡ map (number_of_name n.structs) (result_names s)
 result_numbers n None = refl
 result_numbers n (Some s) = type_numbers n s.ty
 

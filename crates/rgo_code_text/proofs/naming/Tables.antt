@@ -10,11 +10,11 @@ use Rattle.std.proofs.lemmas.Slice.Eq.{bytes_eq-Decides}
 use Rattle.std.proofs.lemmas.Map.Text.{hash_map_updates_str}
 use denote.Ref.{Bor}
 use Rattle.indexmap.specs.IndexMap.{IndexMap, get_by, UpdatesBy}
-use Rattle.rgo_code_text.specs.Building.{with_names, with_structs, with_declared, with_used, all_declared, all_used, names_in, declared_in}
+use Rattle.rgo_code_text.specs.Building.{with_all_names, with_struct_names, with_declared, with_used, all_declared, all_used, names_in, declared_in}
 use Rattle.rgo_code_text.specs.Building.{declared_struct, declared_variable, declared_function, used_structs, used_variables, used_functions}
 use Rattle.rgo_code_words.specs.Cuts.{nows}
 use Rattle.rgo_code_text.specs.Items.{Item}
-use Rattle.rgo_code_text.specs.Numbers.{first_of, with_name}
+use Rattle.rgo_code_text.specs.Numbers.{number_if_known, with_name}
 use Rattle.rgo_code_printing.specs.Text.{Names}
 use Rattle.rgo_code_text.specs.Written.{empty_names, number_of_name}
 use Rattle.rgo_code_words.specs.Worded.{is_among}
@@ -34,7 +34,7 @@ past true o = Some 0
 past false o = option_map (λ n. 1 + n) o
 
 pub first_cons : (z : List ℕ) (names : List (List ℕ)) (x : List ℕ)
-    → first_of (z ∷ names) x ≡ past (bytes_eq z x) (first_of names x)
+    → number_if_known (z ∷ names) x ≡ past (bytes_eq z x) (number_if_known names x)
 first_cons z names x = by (bytes_eq z x)
   where
     under : (t : Bool) → (if t then Some (1 + number_of_name names x) else None)
@@ -44,7 +44,7 @@ first_cons z names x = by (bytes_eq z x)
 
     by : (b : Bool)
         → (if nat_lt (if not b then 1 + number_of_name names x else 0) (suc (length names))
-        then Some (if not b then 1 + number_of_name names x else 0) else None) ≡ past b (first_of names x)
+        then Some (if not b then 1 + number_of_name names x else 0) else None) ≡ past b (number_if_known names x)
     by true = ap (λ t. if t then Some 0 else None) ((Decides-ltb 0 (suc (length names))).1 (omega arith))
     by false =
         ap (λ t. if t then Some (1 + number_of_name names x) else None) (below_next (number_of_name names x) (length names))
@@ -56,7 +56,7 @@ newest false n = None
 
 -- one more name
 pub first_push : (names : List (List ℕ)) (y x : List ℕ)
-    → first_of (names ++ y ∷ []) x ≡ option_or (first_of names x) (newest (bytes_eq y x) (length names))
+    → number_if_known (names ++ y ∷ []) x ≡ option_or (number_if_known names x) (newest (bytes_eq y x) (length names))
 first_push [] y x = first_cons y [] x ∙ by (bytes_eq y x)
   where
     by : (b : Bool) → past b None ≡ newest b 0
@@ -64,7 +64,7 @@ first_push [] y x = first_cons y [] x ∙ by (bytes_eq y x)
     by false = refl
 first_push (z ∷ names) y x =
     first_cons z (names ++ y ∷ []) x ∙ ap (past (bytes_eq z x)) (first_push names y x)
-    ∙ by (bytes_eq z x) (first_of names x) (bytes_eq y x)
+    ∙ by (bytes_eq z x) (number_if_known names x) (bytes_eq y x)
     ∙ ap (λ o. option_or o (newest (bytes_eq y x) (suc (length names)))) (sym (first_cons z names x))
   where
     by : (b : Bool) (o : Option ℕ) (c : Bool)
@@ -74,10 +74,10 @@ first_push (z ∷ names) y x =
     by false None true = ap Some (omega arith)
     by false None false = refl
 
-pub among_first : (names : List (List ℕ)) (x : List ℕ) → is_among names x ≡ is_some (first_of names x)
+pub among_first : (names : List (List ℕ)) (x : List ℕ) → is_among names x ≡ is_some (number_if_known names x)
 among_first [] x = refl
 among_first (z ∷ names) x =
-    ap (λ t. bytes_eq z x || t) (among_first names x) ∙ by (bytes_eq z x) (first_of names x)
+    ap (λ t. bytes_eq z x || t) (among_first names x) ∙ by (bytes_eq z x) (number_if_known names x)
     ∙ ap is_some (sym (first_cons z names x))
   where
     by : (b : Bool) (o : Option ℕ) → (b || is_some o) ≡ is_some (past b o)
@@ -86,57 +86,57 @@ among_first (z ∷ names) x =
     by false None = refl
 
 -- a name that was there already
-pub first_kept : (names : List (List ℕ)) (y x : List ℕ) → is_some (first_of names y) ≡ true
-    → first_of (names ++ y ∷ []) x ≡ first_of names x
-first_kept names y x s = first_push names y x ∙ by (bytes_eq y x) (bytes_eq-Decides y x).0 (first_of names x) refl
+pub first_kept : (names : List (List ℕ)) (y x : List ℕ) → is_some (number_if_known names y) ≡ true
+    → number_if_known (names ++ y ∷ []) x ≡ number_if_known names x
+first_kept names y x s = first_push names y x ∙ by (bytes_eq y x) (bytes_eq-Decides y x).0 (number_if_known names x) refl
   where
-    by : (b : Bool) → (b ≡ true → y ≡ x) → (o : Option ℕ) → first_of names x ≡ o → option_or o (newest b (length names)) ≡ o
+    by : (b : Bool) → (b ≡ true → y ≡ x) → (o : Option ℕ) → number_if_known names x ≡ o → option_or o (newest b (length names)) ≡ o
     by b d (Some n) e = refl
     by false d None e = refl
-    by true d None e = absurd (true≢false (sym s ∙ ap (λ z. is_some (first_of names z)) (d refl) ∙ ap is_some e))
+    by true d None e = absurd (true≢false (sym s ∙ ap (λ z. is_some (number_if_known names z)) (d refl) ∙ ap is_some e))
 
 -- a name that was not
-pub first_added : (names : List (List ℕ)) (y x : List ℕ) → is_some (first_of names y) ≡ false
-    → first_of (names ++ y ∷ []) x ≡ (if bytes_eq y x then Some (length names) else first_of names x)
-first_added names y x s = first_push names y x ∙ by (bytes_eq y x) (bytes_eq-Decides y x).0 (first_of names x) refl
+pub first_added : (names : List (List ℕ)) (y x : List ℕ) → is_some (number_if_known names y) ≡ false
+    → number_if_known (names ++ y ∷ []) x ≡ (if bytes_eq y x then Some (length names) else number_if_known names x)
+first_added names y x s = first_push names y x ∙ by (bytes_eq y x) (bytes_eq-Decides y x).0 (number_if_known names x) refl
   where
-    by : (b : Bool) → (b ≡ true → y ≡ x) → (o : Option ℕ) → first_of names x ≡ o
+    by : (b : Bool) → (b ≡ true → y ≡ x) → (o : Option ℕ) → number_if_known names x ≡ o
         → option_or o (newest b (length names)) ≡ (if b then Some (length names) else o)
     by true d (Some n) e =
-        absurd (true≢false (sym (sym s ∙ ap (λ z. is_some (first_of names z)) (d refl) ∙ ap is_some e)))
+        absurd (true≢false (sym (sym s ∙ ap (λ z. is_some (number_if_known names z)) (d refl) ∙ ap is_some e)))
     by true d None e = refl
     by false d (Some n) e = refl
     by false d None e = refl
 
 -- the number of a name, by what is found
-pub number_some : (names : List (List ℕ)) (x : List ℕ) (n : ℕ) → first_of names x ≡ Some n → number_of_name names x ≡ n
+pub number_some : (names : List (List ℕ)) (x : List ℕ) (n : ℕ) → number_if_known names x ≡ Some n → number_of_name names x ≡ n
 number_some names x n e = by (nat_lt (number_of_name names x) (length names)) e
   where
     by : (t : Bool) → (if t then Some (number_of_name names x) else None) ≡ Some n → number_of_name names x ≡ n
     by true q = cc
     by false q = cc
 
-pub number_none : (names : List (List ℕ)) (x : List ℕ) → first_of names x ≡ None → number_of_name names x ≡ length names
+pub number_none : (names : List (List ℕ)) (x : List ℕ) → number_if_known names x ≡ None → number_of_name names x ≡ length names
 number_none [] x e = refl
 number_none (z ∷ names) x e =
-    by (bytes_eq z x) (first_of names x) refl (sym (first_cons z names x) ∙ e) (λ q. number_none names x q)
+    by (bytes_eq z x) (number_if_known names x) refl (sym (first_cons z names x) ∙ e) (λ q. number_none names x q)
   where
-    by : (b : Bool) (o : Option ℕ) → first_of names x ≡ o → past b o ≡ None
-        → (first_of names x ≡ None → number_of_name names x ≡ length names)
+    by : (b : Bool) (o : Option ℕ) → number_if_known names x ≡ o → past b o ≡ None
+        → (number_if_known names x ≡ None → number_of_name names x ≡ length names)
         → (if not b then 1 + number_of_name names x else 0) ≡ suc (length names)
     by true o q r rest = cc
     by false (Some n) q r rest = cc
     by false None q r rest = omega (arith, rest q)
 
 -- names by names
-pub with_append : (names xs ys : List (List ℕ)) → with_names names (xs ++ ys) ≡ with_names (with_names names xs) ys
+pub with_append : (names xs ys : List (List ℕ)) → with_all_names names (xs ++ ys) ≡ with_all_names (with_all_names names xs) ys
 with_append names [] ys = refl
 with_append names (x ∷ xs) ys = with_append (with_name names x) xs ys
 
 -- the map of the numbers of names
 module _ {S : Type 0} where
   abbrev pub FindsFirst : List (List ℕ) → IndexMap (Bor (List ℕ)) ℕ S → Type 0
-  FindsFirst names m = (name : List ℕ) → get_by (λ known. bytes_eq name known.now) m ≡ first_of names name
+  FindsFirst names m = (name : List ℕ) → get_by (λ known. bytes_eq name known.now) m ≡ number_if_known names name
 
   pub finds_kept : (names : List (List ℕ)) (y : List ℕ) (m : IndexMap (Bor (List ℕ)) ℕ S) → FindsFirst names m
       → is_some (get_by (λ known. bytes_eq y known.now) m) ≡ true → FindsFirst (names ++ y ∷ []) m
@@ -174,16 +174,16 @@ pub copied_some : (o : Option (Bor ℕ)) → is_some (option_copied o) ≡ is_so
 copied_some (Some n) = refl
 copied_some None = refl
 
-pub with_new : (names : List (List ℕ)) (x : List ℕ) → is_some (first_of names x) ≡ false → with_name names x ≡ names ++ x ∷ []
+pub with_new : (names : List (List ℕ)) (x : List ℕ) → is_some (number_if_known names x) ≡ false → with_name names x ≡ names ++ x ∷ []
 with_new names x s = ap (λ t. if t then names else names ++ x ∷ []) (among_first names x ∙ s)
 
-pub with_known : (names : List (List ℕ)) (x : List ℕ) → is_some (first_of names x) ≡ true → with_name names x ≡ names
+pub with_known : (names : List (List ℕ)) (x : List ℕ) → is_some (number_if_known names x) ≡ true → with_name names x ≡ names
 with_known names x s = ap (λ t. if t then names else names ++ x ∷ []) (among_first names x ∙ s)
 
 -- ---- the names of lines
 
 pub structs_append : (n : Names) (xs ys : List (List ℕ))
-    → with_structs n (xs ++ ys) ≡ with_structs (with_structs n xs) ys
+    → with_struct_names n (xs ++ ys) ≡ with_struct_names (with_struct_names n xs) ys
 structs_append n xs ys = ap (λ ss. record n { structs = ss }) (with_append n.structs xs ys)
 
 pub names_same : (a b : Names) → a.structs ≡ b.structs → a.variables ≡ b.variables → a.functions ≡ b.functions → a ≡ b
@@ -223,23 +223,23 @@ all_declared_in items = declared_more empty_names items
 
 used_more : (n : Names) (items : List Item)
     → all_used n items ≡ record {
-      structs = with_names n.structs (flat_map used_structs items);
-      variables = with_names n.variables (flat_map used_variables items);
-      functions = with_names n.functions (flat_map used_functions items);
+      structs = with_all_names n.structs (flat_map used_structs items);
+      variables = with_all_names n.variables (flat_map used_variables items);
+      functions = with_all_names n.functions (flat_map used_functions items);
     }
 used_more n [] = refl
 used_more n (i ∷ items) =
     used_more (with_used n i) items
     ∙ names_same
     (record {
-      structs = with_names (with_names n.structs (used_structs i)) (flat_map used_structs items);
-      variables = with_names (with_names n.variables (used_variables i)) (flat_map used_variables items);
-      functions = with_names (with_names n.functions (used_functions i)) (flat_map used_functions items);
+      structs = with_all_names (with_all_names n.structs (used_structs i)) (flat_map used_structs items);
+      variables = with_all_names (with_all_names n.variables (used_variables i)) (flat_map used_variables items);
+      functions = with_all_names (with_all_names n.functions (used_functions i)) (flat_map used_functions items);
     })
     (record {
-      structs = with_names n.structs (used_structs i ++ flat_map used_structs items);
-      variables = with_names n.variables (used_variables i ++ flat_map used_variables items);
-      functions = with_names n.functions (used_functions i ++ flat_map used_functions items);
+      structs = with_all_names n.structs (used_structs i ++ flat_map used_structs items);
+      variables = with_all_names n.variables (used_variables i ++ flat_map used_variables items);
+      functions = with_all_names n.functions (used_functions i ++ flat_map used_functions items);
     })
     (sym (with_append n.structs (used_structs i) (flat_map used_structs items)))
     (sym (with_append n.variables (used_variables i) (flat_map used_variables items)))

@@ -8,20 +8,20 @@ use Rattle.rgo_ast.specs.declared.ops.BinaryOp.TheVariants as binary
 use Rattle.rgo_typed.specs.declared.actions.Action.{Action}
 use Rattle.rgo_typed.specs.declared.actions.Action.TheVariants as action
 use Rattle.rgo_tac.specs.Code as tac
-use Rattle.rgo_code_text.specs.Actions.{NamedAction, named, with_one, with_two, with_three, with_operator, giving, taking, read_action}
-use Rattle.rgo_code_text.specs.Items.{only, ActionIsNamed}
+use Rattle.rgo_code_text.specs.Actions.{NamedAction, named_action, with_one, with_two, with_three, with_operator, read_with_target, taking, read_action}
+use Rattle.rgo_code_text.specs.Items.{only_name, ActionIsNamed}
 use Rattle.rgo_code_words.specs.Readers.{on_some, read_number, read_operator}
 use Rattle.rgo_code_printing.specs.Text.{action_words}
 use Rattle.rgo_code_printing.specs.Words.{variable_word, operator_word}
-use Rattle.rgo_code_text.specs.Written.{ActionFits, IsInstruction}
-use Rattle.rgo_code_words.specs.Worded.{is_name, IsSmall, AreSmall, ValueFits, OperatorFits}
+use Rattle.rgo_code_text.specs.Written.{ActionHasText, IsInstruction}
+use Rattle.rgo_code_words.specs.Worded.{is_name, IsSmallNumber, AreSmall, ValueFits, OperatorFits}
 use Rattle.rgo_code_words.proofs.Integers.{int_back}
 use Rattle.rgo_code_words.proofs.Numerals.{number_back}
 use Rattle.rgo_code_words.proofs.WordsBack.{operator_back}
 
 -- ---- by shape
 
-one_back : (word : List ℕ) (a : ℕ) → IsSmall a → read_action (word ∷ variable_word a ∷ []) ≡ with_one word a
+one_back : (word : List ℕ) (a : ℕ) → IsSmallNumber a → read_action (word ∷ variable_word a ∷ []) ≡ with_one word a
 one_back word a s = ap (λ o. on_some o (with_one word)) (number_back a s)
 
 -- the word is none of those whose last word is no variable
@@ -30,24 +30,24 @@ IsPlain word =
     (bytes_eq word (codes "set") ≡ false) × (bytes_eq word (codes "int") ≡ false) × (bytes_eq word (codes "bool") ≡ false)
     × (bytes_eq word (codes "new") ≡ false) × (bytes_eq word (codes "get") ≡ false)
 
-first_back : (word last : List ℕ) (d : ℕ) → bytes_eq word (codes "set") ≡ false → IsSmall d
-    → read_action (word ∷ variable_word d ∷ last ∷ []) ≡ giving d word last
+first_back : (word last : List ℕ) (d : ℕ) → bytes_eq word (codes "set") ≡ false → IsSmallNumber d
+    → read_action (word ∷ variable_word d ∷ last ∷ []) ≡ read_with_target d word last
 first_back word last d e s =
-    rw e (ap (λ o. on_some o (λ n. giving n word last)) (number_back d s))
+    rw e (ap (λ o. on_some o (λ n. read_with_target n word last)) (number_back d s))
 
-two_back : (word : List ℕ) (d a : ℕ) → IsPlain word → IsSmall d → IsSmall a
+two_back : (word : List ℕ) (d a : ℕ) → IsPlain word → IsSmallNumber d → IsSmallNumber a
     → read_action (word ∷ variable_word d ∷ variable_word a ∷ []) ≡ with_two word d a
 two_back word d a p s t =
     first_back word (variable_word a) d p.0 s
     ∙ rw (p.1, p.2, p.3, p.4) (ap (λ o. on_some o (λ b. with_two word d b)) (number_back a t))
 
-taking_back : (word second last : List ℕ) (a : ℕ) → IsSmall a
+taking_back : (word second last : List ℕ) (a : ℕ) → IsSmallNumber a
     → read_action (word ∷ variable_word a ∷ second ∷ last ∷ []) ≡ taking a (word ∷ variable_word a ∷ second ∷ last ∷ [])
 taking_back word second last a s =
     ap (λ o. on_some o (λ n. taking n (word ∷ variable_word a ∷ second ∷ last ∷ []))) (number_back a s)
 
 three_back : (word : List ℕ) (a b c : ℕ) → bytes_eq word (codes "load") ≡ false → bytes_eq word (codes "store") ≡ false
-    → IsSmall a → IsSmall b → IsSmall c
+    → IsSmallNumber a → IsSmallNumber b → IsSmallNumber c
     → read_action (word ∷ variable_word a ∷ variable_word b ∷ variable_word c ∷ []) ≡ with_three word a b c
 three_back word a b c e f s t u =
     taking_back word (variable_word b) (variable_word c) a s
@@ -72,7 +72,7 @@ operator_made binary.And d a b f = absurd f
 operator_made binary.Or d a b f = absurd f
 
 named_back : (op : tac.Op) (name : List ℕ) → is_name name ≡ true
-    → named op name ≡ Some (record { op = op; name = name })
+    → named_action op name ≡ Some (record { op = op; name = name })
 named_back op name e = ap (λ x. if x then Some (record { op = op; name = name }) else None) e
 
 -- what is read of an action
@@ -83,21 +83,21 @@ done a to from name = Some (record { op = tac.Do to a from; name = name })
 plain : (a : Action) (to : Option ℕ) (from name : List ℕ) → name ≡ [] → done a to from [] ≡ done a to from name
 plain a to from name e = ap (done a to from) (sym e)
 
-head_of : (a : ℕ) (others : List ℕ) → AreSmall (a ∷ others) → IsSmall a
-head_of a others s = All-head IsSmall a others s
+head_of : (a : ℕ) (others : List ℕ) → AreSmall (a ∷ others) → IsSmallNumber a
+head_of a others s = All-head IsSmallNumber a others s
 
 tail_of : (a : ℕ) (others : List ℕ) → AreSmall (a ∷ others) → AreSmall others
-tail_of a others s = All-tail IsSmall a others s
+tail_of a others s = All-tail IsSmallNumber a others s
 
 -- a word, a target and an operand
-unary : (a : Action) (word name : List ℕ) (d b : ℕ) → IsPlain word → IsSmall d → AreSmall (b ∷ []) → name ≡ []
+unary : (a : Action) (word name : List ℕ) (d b : ℕ) → IsPlain word → IsSmallNumber d → AreSmall (b ∷ []) → name ≡ []
     → with_two word d b ≡ done a (Some d) (b ∷ []) []
     → read_action (word ∷ variable_word d ∷ variable_word b ∷ []) ≡ done a (Some d) (b ∷ []) name
 unary a word name d b p s t e w =
     two_back word d b p s (head_of b [] t) ∙ w ∙ plain a (Some d) (b ∷ []) name e
 
-binary_back : (op : BinaryOp) (d b c : ℕ) (name : List ℕ) → OperatorFits op → IsSmall d → AreSmall (b ∷ c ∷ []) → name ≡ []
-    → read_action (action_words (only name) (action.Binary op) (Some d) (b ∷ c ∷ []))
+binary_back : (op : BinaryOp) (d b c : ℕ) (name : List ℕ) → OperatorFits op → IsSmallNumber d → AreSmall (b ∷ c ∷ []) → name ≡ []
+    → read_action (action_words (only_name name) (action.Binary op) (Some d) (b ∷ c ∷ []))
     ≡ done (action.Binary op) (Some d) (b ∷ c ∷ []) name
 binary_back op d b c name f s t e =
     ap (λ o. on_some o (λ n. on_some (read_operator (operator_word op)) (λ p. on_some (read_number (decimal b)) (λ m.
@@ -109,8 +109,8 @@ binary_back op d b c name f s t e =
     ∙ ap (λ o. on_some o (λ k. with_operator op d b k)) (number_back c (head_of c [] (tail_of b (c ∷ []) t)))
     ∙ operator_made op d b c f ∙ plain (action.Binary op) (Some d) (b ∷ c ∷ []) name e
 
-pub action_back : (a : Action) (to : Option ℕ) (from name : List ℕ) → IsInstruction a to from → ActionFits a → ValueFits to
-    → AreSmall from → ActionIsNamed a name → read_action (action_words (only name) a to from) ≡ done a to from name
+pub action_back : (a : Action) (to : Option ℕ) (from name : List ℕ) → IsInstruction a to from → ActionHasText a → ValueFits to
+    → AreSmall from → ActionIsNamed a name → read_action (action_words (only_name name) a to from) ≡ done a to from name
 action_back (action.Int k) (Some d) [] name i f s t e =
     first_back (codes "int") (signed_decimal k) d refl s
     ∙ ap (λ o. on_some o (λ n. done (action.Int n) (Some d) [] [])) (int_back k f) ∙ plain (action.Int k) (Some d) [] name e
@@ -151,7 +151,7 @@ action_back action.Put None (b ∷ c ∷ g ∷ []) name i f s t e =
     three_back (codes "put") b c g refl refl (head_of b (c ∷ g ∷ []) t) (head_of c (g ∷ []) u) (head_of g [] (tail_of c (g ∷ []) u))
     ∙ plain action.Put None (b ∷ c ∷ g ∷ []) name e
 action_back (action.New n) (Some d) [] name i f s t e =
-    subst (λ m. read_action (action_words (only name) (action.New m) (Some d) []) ≡ done (action.New m) (Some d) [] name)
+    subst (λ m. read_action (action_words (only_name name) (action.New m) (Some d) []) ≡ done (action.New m) (Some d) [] name)
     (sym e.0) (first_back (codes "new") name d refl s ∙ named_back (tac.Do (Some d) (action.New 0) []) name e.1)
 action_back action.Slice (Some d) (b ∷ []) name i f s t e =
     unary action.Slice (codes "slice") name d b (refl, refl, refl, refl, refl) s t e refl
@@ -165,11 +165,11 @@ action_back action.Send None (b ∷ c ∷ []) name i f s t e =
 action_back action.Close None (b ∷ []) name i f s t e =
     one_back (codes "close") b (head_of b [] t) ∙ plain action.Close None (b ∷ []) name e
 action_back (action.Get n) (Some d) [] name i f s t e =
-    subst (λ m. read_action (action_words (only name) (action.Get m) (Some d) []) ≡ done (action.Get m) (Some d) [] name)
+    subst (λ m. read_action (action_words (only_name name) (action.Get m) (Some d) []) ≡ done (action.Get m) (Some d) [] name)
     (sym e.0) (first_back (codes "get") name d refl s ∙ named_back (tac.Do (Some d) (action.Get 0) []) name e.1)
 action_back (action.Set n) None (b ∷ []) name i f s t e =
-    subst (λ m. read_action (action_words (only name) (action.Set m) None (b ∷ [])) ≡ done (action.Set m) None (b ∷ []) name)
+    subst (λ m. read_action (action_words (only_name name) (action.Set m) None (b ∷ [])) ≡ done (action.Set m) None (b ∷ []) name)
     (sym e.0) (
-    ap (λ o. on_some o (λ m. named (tac.Do None (action.Set 0) (m ∷ [])) name)) (number_back b (head_of b [] t))
+    ap (λ o. on_some o (λ m. named_action (tac.Do None (action.Set 0) (m ∷ [])) name)) (number_back b (head_of b [] t))
     ∙ named_back (tac.Do None (action.Set 0) (b ∷ [])) name e.1)
 action_back _ to from name i f s t e = absurd (i refl)

@@ -11,8 +11,8 @@ use Rattle.rgo_typed.specs.declared.statements.Piece.TheVariants as piece
 use Rattle.rgo_code.specs.Code.{Print}
 use Rattle.rgo_code_words.specs.Cuts.{is_space}
 use Rattle.rgo_code_text.specs.Ops.{NamedOp, op_text, NamedOpFits, LastWord}
-use Rattle.rgo_code_words.specs.Pieces.{string_byte, IsInside, Fronts, NoneFronts, ArePieces, value_list}
-use Rattle.rgo_code_words.specs.Readers.{IsRead, read_regions, read_variable}
+use Rattle.rgo_code_words.specs.Pieces.{string_byte, IsStringInside, Fronts, NoneFronts, ArePieces, value_list}
+use Rattle.rgo_code_words.specs.Readers.{IsReadFromBytes, read_regions, read_variable}
 use Rattle.rgo_code_words.proofs.ListFacts.{drop_here}
 use Rattle.rgo_code_words.proofs.PieceFronts.{Inside, inside_more, byte_some, is_comma, string_fronts, string_none, variable_fronts, variable_none}
 use Rattle.rgo_code_words.proofs.PieceLists.{Leads, leads_start, leads_none, leads_end, leads_wrong, leads_more}
@@ -40,7 +40,7 @@ first_within test (b ∷ bytes) = by (test b) (first_within test bytes) refl
 record InsideOf (bytes : List ℕ) : Type 0 where
   inside : List ℕ
   len : ℕ
-  is : IsInside bytes inside len
+  is : IsStringInside bytes inside len
 
 -- one byte more, or none
 inside_step : (bytes xs : List ℕ) (at : ℕ) → Inside bytes xs at → (r : Option (ℕ × ℕ)) → string_byte (drop at bytes) ≡ r
@@ -194,7 +194,7 @@ last_of bytes = last_from (length bytes) bytes 0 (omega arith) (omega arith) (in
 
 pub record PrintOf (bytes : List ℕ) : Type 0 where
   pub what : Option NamedOp
-  pub is : IsRead NamedOpFits op_text (codes "print " ++ bytes) what
+  pub is : IsReadFromBytes NamedOpFits op_text (codes "print " ++ bytes) what
 
 module _ (bytes : List ℕ) (w : LastOf bytes) where
   -- after the pieces

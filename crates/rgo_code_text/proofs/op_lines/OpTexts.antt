@@ -6,14 +6,14 @@ use Rattle.std.proofs.lemmas.List.{take-append-drop}
 use Rattle.std.proofs.lemmas.Slice.Eq.{bytes_eq-Decides}
 use Rattle.rgo_typed.specs.declared.statements.Piece.{Piece}
 use Rattle.rgo_code.specs.Code.{CodeOp, Do, Call, Go, Print, Jump, Branch, Return}
-use Rattle.rgo_code_words.specs.Cuts.{cut}
-use Rattle.rgo_code_text.specs.Items.{only, OpIsNamed}
+use Rattle.rgo_code_words.specs.Cuts.{cut_line}
+use Rattle.rgo_code_text.specs.Items.{only_name, OpIsNamed}
 use Rattle.rgo_code_text.specs.Ops.{NamedOp, op_text, NamedOpFits, read_op}
 use Rattle.rgo_code_words.specs.Pieces.{AreListed}
-use Rattle.rgo_code_words.specs.Readers.{IsRead, read_regions}
+use Rattle.rgo_code_words.specs.Readers.{IsReadFromBytes, read_regions}
 use Rattle.rgo_code_printing.specs.Text.{op_words}
-use Rattle.rgo_code_printing.specs.Words.{listed, piece_words, in_one, removes_word}
-use Rattle.rgo_code_text.specs.Written.{OpFits}
+use Rattle.rgo_code_printing.specs.Words.{comma_separated, piece_words, in_one, removes_word}
+use Rattle.rgo_code_text.specs.Written.{OpHasText}
 use Rattle.rgo_code_words.specs.Worded.{AreRegions}
 use Rattle.rgo_code_words.proofs.Cutting.{cut_words, cut_joined, cut_some}
 use Rattle.rgo_code_words.proofs.Lacks.{Lacks, all_lack_from, lacks_from}
@@ -40,14 +40,14 @@ kind (Return value) = silent (λ p. p)
 
 -- ---- operations that print nothing
 
-cut_again : (words : List (List ℕ)) → OpWorded words → cut 5 (join_with_byte 32 words) ≡ words
+cut_again : (words : List (List ℕ)) → OpWorded words → cut_line 5 (join_with_byte 32 words) ≡ words
 cut_again [] w = absurd (omega (arith, w.some))
 cut_again (word ∷ words) w =
     cut_words 5 word words (omega (arith, w.short)) (all_lack_from 33 32 (word ∷ words) (omega arith) w.from)
 
-text_back : (o : NamedOp) → NamedOpFits o → ¬ (IsPrint o.op) → read_op (cut 5 (op_text o)) ≡ Some o
+text_back : (o : NamedOp) → NamedOpFits o → ¬ (IsPrint o.op) → read_op (cut_line 5 (op_text o)) ≡ Some o
 text_back o f p =
-    ap read_op (cut_again (op_words (only o.name) o.op) (op_worded o.op o.name f.0 f.1 p)) ∙ op_back o.op o.name f.0 f.1 p
+    ap read_op (cut_again (op_words (only_name o.name) o.op) (op_worded o.op o.name f.0 f.1 p)) ∙ op_back o.op o.name f.0 f.1 p
 
 begins : (pieces : List Piece) (from removes name rest : List ℕ)
     → rest ≡ op_text (record { op = Print pieces from removes; name = name }) → bytes_eq (take 6 rest) (codes "print ") ≡ true
@@ -56,20 +56,20 @@ begins pieces from removes name rest e =
 
 -- text that does not begin with `print`
 pub text_read : (text : List ℕ) → bytes_eq (take 6 text) (codes "print ") ≡ false
-    → IsRead NamedOpFits op_text text (read_op (cut 5 text))
-text_read text e = by (read_op (cut 5 text)) refl
+    → IsReadFromBytes NamedOpFits op_text text (read_op (cut_line 5 text))
+text_read text e = by (read_op (cut_line 5 text)) refl
   where
-    by : (r : Option NamedOp) → read_op (cut 5 text) ≡ r → IsRead NamedOpFits op_text text r
+    by : (r : Option NamedOp) → read_op (cut_line 5 text) ≡ r → IsReadFromBytes NamedOpFits op_text text r
     by (Some o) q =
-        let i = op_is (cut 5 text) o (cut_some 5 text) q in
+        let i = op_is (cut_line 5 text) o (cut_some 5 text) q in
         (sym (cut_joined 5 text) ∙ ap (join_with_byte 32) i.words_are, i.fits)
     by None q = λ o f t. no_such o f t q (kind o.op)
       where
-        no_such : (o : NamedOp) → NamedOpFits o → text ≡ op_text o → read_op (cut 5 text) ≡ None → Kind o.op → ⊥
+        no_such : (o : NamedOp) → NamedOpFits o → text ≡ op_text o → read_op (cut_line 5 text) ≡ None → Kind o.op → ⊥
         no_such o f t q (print pieces from removes p) =
             true≢false (sym (begins pieces from removes o.name text
             (t ∙ ap (λ op. op_text (record { op = op; name = o.name })) p)) ∙ e)
-        no_such o f t q (silent p) = not_none o (sym q ∙ ap (λ t. read_op (cut 5 t)) t ∙ text_back o f p)
+        no_such o f t q (silent p) = not_none o (sym q ∙ ap (λ t. read_op (cut_line 5 t)) t ∙ text_back o f p)
 
 pub print_front : (text : List ℕ) → bytes_eq (take 6 text) (codes "print ") ≡ true → codes "print " ++ drop 6 text ≡ text
 print_front text e =
@@ -93,7 +93,7 @@ nothing : (fs : List ℕ) → length fs ≡ 0 → fs ≡ []
 nothing [] e = refl
 nothing (f ∷ fs) e = absurd (omega (arith, e))
 
-prints_one : (ps qs : List Piece) (fs gs rs ss : List ℕ) → OpFits (Print ps fs rs) → OpFits (Print qs gs ss)
+prints_one : (ps qs : List Piece) (fs gs rs ss : List ℕ) → OpHasText (Print ps fs rs) → OpHasText (Print qs gs ss)
     → join_with_byte 32 (in_one (piece_words ps fs 0) ++ removes_word rs ∷ [])
     ≡ join_with_byte 32 (in_one (piece_words qs gs 0) ++ removes_word ss ∷ []) → SamePrint ps qs fs gs rs ss
 prints_one [] [] fs gs rs ss f g e = record {
@@ -102,17 +102,17 @@ prints_one [] [] fs gs rs ss f g e = record {
   removes = regions_one rs ss f.3 g.3 e;
 }
 prints_one [] (q ∷ qs) fs gs rs ss f g e =
-    absurd (contains_space (listed (piece_words (q ∷ qs) gs 0)) (removes_word ss) (subst (Lacks 32) e (removes_lack rs f.3)))
+    absurd (contains_space (comma_separated (piece_words (q ∷ qs) gs 0)) (removes_word ss) (subst (Lacks 32) e (removes_lack rs f.3)))
 prints_one (p ∷ ps) [] fs gs rs ss f g e =
-    absurd (contains_space (listed (piece_words (p ∷ ps) fs 0)) (removes_word rs) (subst (Lacks 32) (sym e) (removes_lack ss g.3)))
+    absurd (contains_space (comma_separated (piece_words (p ∷ ps) fs 0)) (removes_word rs) (subst (Lacks 32) (sym e) (removes_lack ss g.3)))
 prints_one (p ∷ ps) (q ∷ qs) fs gs rs ss f g e =
-    let same = last_one (listed (piece_words (p ∷ ps) fs 0)) (listed (piece_words (q ∷ qs) gs 0)) (removes_word rs) (removes_word ss) e
+    let same = last_one (comma_separated (piece_words (p ∷ ps) fs 0)) (comma_separated (piece_words (q ∷ qs) gs 0)) (removes_word rs) (removes_word ss) e
     (removes_lack rs f.3) (removes_lack ss g.3) in
-    let a : AreListed (listed (piece_words (p ∷ ps) fs 0)) (p ∷ ps) fs =
+    let a : AreListed (comma_separated (piece_words (p ∷ ps) fs 0)) (p ∷ ps) fs =
     record { text = refl; some = some p ps; fit = f.0; values = f.1; small = f.2 } in
-    let b : AreListed (listed (piece_words (p ∷ ps) fs 0)) (q ∷ qs) gs =
+    let b : AreListed (comma_separated (piece_words (p ∷ ps) fs 0)) (q ∷ qs) gs =
     record { text = same.front; some = some q qs; fit = g.0; values = g.1; small = g.2 } in
-    let l = listed_one (p ∷ ps) (q ∷ qs) (listed (piece_words (p ∷ ps) fs 0)) fs gs a b in
+    let l = listed_one (p ∷ ps) (q ∷ qs) (comma_separated (piece_words (p ∷ ps) fs 0)) fs gs a b in
     record { pieces = l.pieces; from = l.from; removes = regions_one rs ss f.3 g.3 same.last }
   where
     some : (p : Piece) (ps : List Piece) → p ∷ ps ≢ []
@@ -130,7 +130,7 @@ pub op_one : (a b : NamedOp) → NamedOpFits a → NamedOpFits b → op_text a �
 op_one a b f g e = by (kind a.op) (kind b.op)
   where
     by : Kind a.op → Kind b.op → a ≡ b
-    by (silent p) (silent q) = some_same a b (sym (text_back a f p) ∙ ap (λ t. read_op (cut 5 t)) e ∙ text_back b g q)
+    by (silent p) (silent q) = some_same a b (sym (text_back a f p) ∙ ap (λ t. read_op (cut_line 5 t)) e ∙ text_back b g q)
     by (silent p) (print ps fs rs q) =
         let t = only_print (join_with_byte 32 (in_one (piece_words ps fs 0) ++ removes_word rs ∷ [])) a f
         (sym (print_text ps fs rs b.name) ∙ sym (ap (λ op. op_text (record { op = op; name = b.name })) q) ∙ sym e) in
@@ -144,7 +144,7 @@ op_one a b f g e = by (kind a.op) (kind b.op)
         ≡ join_with_byte 32 (in_one (piece_words qs gs 0) ++ removes_word ss ∷ []) =
         ap (drop 6) (sym (print_text ps fs rs a.name) ∙ sym (ap (λ op. op_text (record { op = op; name = a.name })) p) ∙ e
         ∙ ap (λ op. op_text (record { op = op; name = b.name })) q ∙ print_text qs gs ss b.name) in
-        let same = prints_one ps qs fs gs rs ss (subst OpFits p f.0) (subst OpFits q g.0) text in
+        let same = prints_one ps qs fs gs rs ss (subst OpHasText p f.0) (subst OpHasText q g.0) text in
         same_op a b (Print ps fs rs) p
         (q ∙ ap (λ x. Print x gs ss) (sym same.pieces) ∙ ap (λ x. Print ps x ss) (sym same.from)
         ∙ ap (λ x. Print ps fs x) (sym same.removes))

@@ -6,12 +6,12 @@ use Rattle.std.proofs.lemmas.List.Elements.{All-nil, All-cons, All-head, All-tai
 use Rattle.rgo_typed.specs.declared.actions.Action.{Action}
 use Rattle.rgo_typed.specs.declared.actions.Action.TheVariants as action
 use Rattle.rgo_code.specs.Code.{CodeOp, Do, Call, Go, Print, Jump, Branch, Return}
-use Rattle.rgo_code_words.specs.Cuts.{word_at}
-use Rattle.rgo_code_text.specs.Items.{only, IsNamed, ActionIsNamed, OpIsNamed}
+use Rattle.rgo_code_words.specs.Cuts.{nth_word}
+use Rattle.rgo_code_text.specs.Items.{only_name, AwaitsNumber, ActionIsNamed, OpIsNamed}
 use Rattle.rgo_code_printing.specs.Text.{action_words, op_words, value_word}
 use Rattle.rgo_code_printing.specs.Words.{name_at, operator_word, variable_word, removes_word, callee_word, passes_word, protects_word}
-use Rattle.rgo_code_text.specs.Written.{ActionFits, IsInstruction, OpFits}
-use Rattle.rgo_code_words.specs.Worded.{IntFits, IsSmall, AreSmall, AreRegions, ValueFits}
+use Rattle.rgo_code_text.specs.Written.{ActionHasText, IsInstruction, OpHasText}
+use Rattle.rgo_code_words.specs.Worded.{IntFits, IsSmallNumber, AreSmall, AreRegions, ValueFits}
 use Rattle.rgo_code_words.proofs.Lacks.{From, AllFrom, from_test, from_cons, from_both, from_less, decimal_from, lettered_from, name_from}
 use Rattle.rgo_code_words.proofs.WordsBack.{arguments_from, bool_from, operator_from, regions_from, passes_from, value_from}
 
@@ -23,10 +23,10 @@ is_keyword word =
 
 -- ---- single words
 
-pub variable_from : (v : ℕ) → IsSmall v → From 33 (variable_word v)
+pub variable_from : (v : ℕ) → IsSmallNumber v → From 33 (variable_word v)
 variable_from v s = lettered_from 33 118 v (omega arith) (omega arith) s
 
-pub number_from : (k : ℕ) → IsSmall k → From 33 (decimal k)
+pub number_from : (k : ℕ) → IsSmallNumber k → From 33 (decimal k)
 number_from k s = from_less 33 48 (decimal k) (omega arith) (decimal_from k (omega (arith, s)))
 
 int_from : (z : ℤ) → IntFits z → From 33 (signed_decimal z)
@@ -35,11 +35,11 @@ int_from (negsuc n) f =
     from_cons 33 45 (decimal (suc n)) (omega arith)
     (from_less 33 48 (decimal (suc n)) (omega arith) (decimal_from (suc n) (omega (arith, f))))
 
-pub known_from : (n : ℕ) (name : List ℕ) → IsNamed n name → From 33 (name_at (name ∷ []) n)
+pub known_from : (n : ℕ) (name : List ℕ) → AwaitsNumber n name → From 33 (name_at (name ∷ []) n)
 known_from n name i =
     subst (λ m. From 33 (name_at (name ∷ []) m)) (sym i.0) (from_less 33 48 name (omega arith) (name_from name i.1))
 
-pub callee_from : (n : ℕ) (name from : List ℕ) → IsNamed n name → AreSmall from
+pub callee_from : (n : ℕ) (name from : List ℕ) → AwaitsNumber n name → AreSmall from
     → From 33 (callee_word (name_at (name ∷ []) n) from)
 callee_from n name from i s =
     from_both 33 (name_at (name ∷ []) n) _ (known_from n name i) (arguments_from from s)
@@ -67,21 +67,21 @@ three a b c f g h = and_word a (b ∷ c ∷ []) f (two b c g h)
 pub record Worded (words : List (List ℕ)) : Type 0 where
   pub some : 0 < length words
   pub short : length words ≤ 5
-  pub plain : is_keyword (word_at words 0) ≡ false
+  pub plain : is_keyword (nth_word words 0) ≡ false
   pub from : AllFrom 33 words
 
 keyword : (word : List ℕ) (words : List (List ℕ)) → is_keyword word ≡ false → From 33 word → length words ≤ 4 → AllFrom 33 words
     → Worded (word ∷ words)
 keyword word words k f l g = record { some = omega arith; short = omega (arith, l); plain = k; from = and_word word words f g }
 
-unary : (word : List ℕ) (d b : ℕ) → is_keyword word ≡ false → From 33 word → IsSmall d → AreSmall (b ∷ [])
+unary : (word : List ℕ) (d b : ℕ) → is_keyword word ≡ false → From 33 word → IsSmallNumber d → AreSmall (b ∷ [])
     → Worded (word ∷ variable_word d ∷ variable_word b ∷ [])
 unary word d b k f s t =
     keyword word (variable_word d ∷ variable_word b ∷ []) k f (omega arith)
-    (two (variable_word d) (variable_word b) (variable_from d s) (variable_from b (All-head IsSmall b [] t)))
+    (two (variable_word d) (variable_word b) (variable_from d s) (variable_from b (All-head IsSmallNumber b [] t)))
 
-pub action_worded : (a : Action) (to : Option ℕ) (from name : List ℕ) → IsInstruction a to from → ActionFits a → ValueFits to
-    → AreSmall from → ActionIsNamed a name → Worded (action_words (only name) a to from)
+pub action_worded : (a : Action) (to : Option ℕ) (from name : List ℕ) → IsInstruction a to from → ActionHasText a → ValueFits to
+    → AreSmall from → ActionIsNamed a name → Worded (action_words (only_name name) a to from)
 action_worded (action.Int z) (Some d) [] name i f s t e =
     keyword (codes "int") _ refl (from_test 33 (codes "int") refl) (omega arith)
     (two (variable_word d) (signed_decimal z) (variable_from d s) (int_from z f))
@@ -95,27 +95,27 @@ action_worded (action.Binary op) (Some d) (b ∷ c ∷ []) name i f s t e =
     keyword (codes "bin") _ refl (from_test 33 (codes "bin") refl) (omega arith)
     (and_word (variable_word d) (operator_word op ∷ variable_word b ∷ variable_word c ∷ []) (variable_from d s)
     (three (operator_word op) (variable_word b) (variable_word c) (operator_from op)
-    (variable_from b (All-head IsSmall b (c ∷ []) t)) (variable_from c (All-head IsSmall c [] (All-tail IsSmall b (c ∷ []) t)))))
+    (variable_from b (All-head IsSmallNumber b (c ∷ []) t)) (variable_from c (All-head IsSmallNumber c [] (All-tail IsSmallNumber b (c ∷ []) t)))))
 action_worded action.Neg (Some d) (b ∷ []) name i f s t e = unary (codes "neg") d b refl (from_test 33 (codes "neg") refl) s t
 action_worded action.Not (Some d) (b ∷ []) name i f s t e = unary (codes "not") d b refl (from_test 33 (codes "not") refl) s t
 action_worded action.IsNil (Some d) (b ∷ []) name i f s t e = unary (codes "isnil") d b refl (from_test 33 (codes "isnil") refl) s t
 action_worded action.Len (Some d) (b ∷ []) name i f s t e = unary (codes "len") d b refl (from_test 33 (codes "len") refl) s t
 action_worded (action.Load k) (Some d) (b ∷ []) name i f s t e =
     keyword (codes "load") _ refl (from_test 33 (codes "load") refl) (omega arith)
-    (three (variable_word d) (variable_word b) (decimal k) (variable_from d s) (variable_from b (All-head IsSmall b [] t)) (number_from k f))
+    (three (variable_word d) (variable_word b) (decimal k) (variable_from d s) (variable_from b (All-head IsSmallNumber b [] t)) (number_from k f))
 action_worded (action.Store k) None (b ∷ c ∷ []) name i f s t e =
     keyword (codes "store") _ refl (from_test 33 (codes "store") refl) (omega arith)
-    (three (variable_word b) (decimal k) (variable_word c) (variable_from b (All-head IsSmall b (c ∷ []) t)) (number_from k f)
-    (variable_from c (All-head IsSmall c [] (All-tail IsSmall b (c ∷ []) t))))
+    (three (variable_word b) (decimal k) (variable_word c) (variable_from b (All-head IsSmallNumber b (c ∷ []) t)) (number_from k f)
+    (variable_from c (All-head IsSmallNumber c [] (All-tail IsSmallNumber b (c ∷ []) t))))
 action_worded action.At (Some d) (b ∷ c ∷ []) name i f s t e =
     keyword (codes "at") _ refl (from_test 33 (codes "at") refl) (omega arith)
-    (three (variable_word d) (variable_word b) (variable_word c) (variable_from d s) (variable_from b (All-head IsSmall b (c ∷ []) t))
-    (variable_from c (All-head IsSmall c [] (All-tail IsSmall b (c ∷ []) t))))
+    (three (variable_word d) (variable_word b) (variable_word c) (variable_from d s) (variable_from b (All-head IsSmallNumber b (c ∷ []) t))
+    (variable_from c (All-head IsSmallNumber c [] (All-tail IsSmallNumber b (c ∷ []) t))))
 action_worded action.Put None (b ∷ c ∷ g ∷ []) name i f s t e =
-    let u = All-tail IsSmall b (c ∷ g ∷ []) t in
+    let u = All-tail IsSmallNumber b (c ∷ g ∷ []) t in
     keyword (codes "put") _ refl (from_test 33 (codes "put") refl) (omega arith)
-    (three (variable_word b) (variable_word c) (variable_word g) (variable_from b (All-head IsSmall b (c ∷ g ∷ []) t))
-    (variable_from c (All-head IsSmall c (g ∷ []) u)) (variable_from g (All-head IsSmall g [] (All-tail IsSmall c (g ∷ []) u))))
+    (three (variable_word b) (variable_word c) (variable_word g) (variable_from b (All-head IsSmallNumber b (c ∷ g ∷ []) t))
+    (variable_from c (All-head IsSmallNumber c (g ∷ []) u)) (variable_from g (All-head IsSmallNumber g [] (All-tail IsSmallNumber c (g ∷ []) u))))
 action_worded (action.New n) (Some d) [] name i f s t e =
     keyword (codes "new") _ refl (from_test 33 (codes "new") refl) (omega arith)
     (two (variable_word d) _ (variable_from d s) (known_from n name e))
@@ -124,17 +124,17 @@ action_worded action.Chan (Some d) (b ∷ []) name i f s t e = unary (codes "cha
 action_worded action.Recv (Some d) (b ∷ []) name i f s t e = unary (codes "recv") d b refl (from_test 33 (codes "recv") refl) s t
 action_worded action.Send None (b ∷ c ∷ []) name i f s t e =
     keyword (codes "send") _ refl (from_test 33 (codes "send") refl) (omega arith)
-    (two (variable_word b) (variable_word c) (variable_from b (All-head IsSmall b (c ∷ []) t))
-    (variable_from c (All-head IsSmall c [] (All-tail IsSmall b (c ∷ []) t))))
+    (two (variable_word b) (variable_word c) (variable_from b (All-head IsSmallNumber b (c ∷ []) t))
+    (variable_from c (All-head IsSmallNumber c [] (All-tail IsSmallNumber b (c ∷ []) t))))
 action_worded action.Close None (b ∷ []) name i f s t e =
     keyword (codes "close") _ refl (from_test 33 (codes "close") refl) (omega arith)
-    (one (variable_word b) (variable_from b (All-head IsSmall b [] t)))
+    (one (variable_word b) (variable_from b (All-head IsSmallNumber b [] t)))
 action_worded (action.Get n) (Some d) [] name i f s t e =
     keyword (codes "get") _ refl (from_test 33 (codes "get") refl) (omega arith)
     (two (variable_word d) _ (variable_from d s) (known_from n name e))
 action_worded (action.Set n) None (b ∷ []) name i f s t e =
     keyword (codes "set") _ refl (from_test 33 (codes "set") refl) (omega arith)
-    (two _ (variable_word b) (known_from n name e) (variable_from b (All-head IsSmall b [] t)))
+    (two _ (variable_word b) (known_from n name e) (variable_from b (All-head IsSmallNumber b [] t)))
 action_worded _ to from name i f s t e = absurd (i refl)
 
 -- ---- operations
@@ -150,7 +150,7 @@ removes_from removes r = regions_from 45 removes (omega arith) r
 pub record OpWorded (words : List (List ℕ)) : Type 0 where
   pub some : 0 < length words
   pub short : length words ≤ 6
-  pub plain : bytes_eq (word_at words 0) (codes "print") ≡ false
+  pub plain : bytes_eq (nth_word words 0) (codes "print") ≡ false
   pub from : AllFrom 33 words
 
 no_print : (word : List ℕ) → is_keyword word ≡ false → bytes_eq word (codes "print") ≡ false
@@ -171,10 +171,10 @@ with_removes (word ∷ words) removes w r = record {
       (one (removes_word removes) (removes_from removes r));
 }
 
-pub op_worded : (op : CodeOp) (name : List ℕ) → OpFits op → OpIsNamed op name → ¬ (IsPrint op)
-    → OpWorded (op_words (only name) op)
+pub op_worded : (op : CodeOp) (name : List ℕ) → OpHasText op → OpIsNamed op name → ¬ (IsPrint op)
+    → OpWorded (op_words (only_name name) op)
 op_worded (Do to action from removes) name f i p =
-    with_removes (action_words (only name) action to from) removes
+    with_removes (action_words (only_name name) action to from) removes
     (action_worded action to from name f.0 f.1 f.2 f.3 i) f.4
 op_worded (Call to n from passes protects removes) name f i p = record {
   some = omega arith;

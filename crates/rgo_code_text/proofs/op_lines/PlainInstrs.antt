@@ -10,7 +10,7 @@ use Rattle.rgo_code.specs.Views.{code_op}
 use Rattle.rgo_code_printing.specs.Text.{Names}
 use Rattle.rgo_code_text.specs.declared.ops.NamedOp.{NamedOp}
 use Rattle.rgo_code_text.specs.Building.{numbered_op}
-use Rattle.rgo_code_text.specs.Opened.{IsCopy, IsNumbered, ListsBelow}
+use Rattle.rgo_code_text.specs.Opened.{IsCopy, IsNumberedInstr, ListsBelow}
 use Rattle.rgo_code_text.specs.Views.{own_op}
 
 -- neither a copy, nor what names something or has lists
@@ -62,7 +62,7 @@ pub plain_numbered : (n : Names) (o : NamedOp) (list : ℕ) → ((d a : ℕ) →
     → ((d n : ℕ) → o.instr ≡ code.New d n → ⊥) → ((d n : ℕ) → o.instr ≡ code.Get d n → ⊥)
     → ((n a : ℕ) → o.instr ≡ code.Set n a → ⊥) → ((d f k : ℕ) → o.instr ≡ code.Call d f k → ⊥)
     → ((f k : ℕ) → o.instr ≡ code.Invoke f k → ⊥) → ((f k : ℕ) → o.instr ≡ code.Go f k → ⊥)
-    → ((p k : ℕ) → o.instr ≡ code.Print p k → ⊥) → IsNumbered n o list o.instr
+    → ((p k : ℕ) → o.instr ≡ code.Print p k → ⊥) → IsNumberedInstr n o list o.instr
 plain_numbered n o list x y z w v u t s =
     let p = plain_of o.instr x y z w v u t s in
     record {
@@ -87,7 +87,7 @@ module _ (n : Names) (o : NamedOp) (list d a : ℕ) (is : o.instr ≡ code.Copy 
       copy_op n lists o.from.items pieces o.pieces.items o.note o.name.now d a e b p q
       ∙ ap (λ i. numbered_op n (code_op (own_op o.from.items o.pieces.items i) o.note) o.name.now) (sym is)
 
-  pub copy_numbered : (i : Instr) → IsCopy d a i → IsNumbered n o list i
+  pub copy_numbered : (i : Instr) → IsCopy d a i → IsNumberedInstr n o list i
   copy_numbered (code.Copy e b) c = record { below = λ k l. tt; op = λ lists pieces f g. copy_is lists pieces e b c.0 c.1 }
   copy_numbered (code.CopyInt e b) c = record { below = λ k l. tt; op = λ lists pieces f g. copy_is lists pieces e b c.0 c.1 }
   copy_numbered (code.CopyBool e b) c = record { below = λ k l. tt; op = λ lists pieces f g. copy_is lists pieces e b c.0 c.1 }

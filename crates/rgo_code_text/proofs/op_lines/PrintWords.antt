@@ -8,14 +8,14 @@ use Rattle.std.proofs.lemmas.List.Sums.{fails_before_first, passes_at_first}
 use Rattle.rgo_typed.specs.declared.statements.Piece.{Piece}
 use Rattle.rgo_code.specs.Code.{CodeOp, Do, Call, Go, Print, Jump, Branch, Return}
 use Rattle.rgo_code_words.specs.Cuts.{is_space}
-use Rattle.rgo_code_text.specs.Items.{only, OpIsNamed}
+use Rattle.rgo_code_text.specs.Items.{only_name, OpIsNamed}
 use Rattle.rgo_code_text.specs.Ops.{NamedOp, op_text, NamedOpFits, LastWord}
 use Rattle.rgo_code_words.specs.Pieces.{AreListed, ArePieces}
-use Rattle.rgo_code_words.specs.Readers.{read_regions, IsRead}
+use Rattle.rgo_code_words.specs.Readers.{read_regions, IsReadFromBytes}
 use Rattle.rgo_code_printing.specs.Text.{op_words}
-use Rattle.rgo_code_printing.specs.Words.{listed, piece_words, in_one, removes_word}
-use Rattle.rgo_code_text.specs.Written.{OpFits}
-use Rattle.rgo_code_words.specs.Worded.{AreRegions, PieceFits, IsSmall}
+use Rattle.rgo_code_printing.specs.Words.{comma_separated, piece_words, in_one, removes_word}
+use Rattle.rgo_code_text.specs.Written.{OpHasText}
+use Rattle.rgo_code_words.specs.Worded.{AreRegions, PieceFits, IsSmallNumber}
 use Rattle.rgo_code_words.proofs.Cutting.{first_of_two, first_of_joined}
 use Rattle.rgo_code_words.proofs.Lacks.{Lacks, From, from_test, lacks_from}
 use Rattle.rgo_code_words.proofs.ListFacts.{drop_here}
@@ -70,7 +70,7 @@ pub record PrintText (bytes : List ℕ) (o : NamedOp) : Type 0 where
   pub from : List ℕ
   pub removes : List ℕ
   pub op_is : o.op ≡ Print pieces from removes
-  pub fits : OpFits (Print pieces from removes)
+  pub fits : OpHasText (Print pieces from removes)
   pub text : bytes ≡ join_with_byte 32 (in_one (piece_words pieces from 0) ++ removes_word removes ∷ [])
 
 pub print_text : (pieces : List Piece) (from removes name : List ℕ)
@@ -82,9 +82,9 @@ print_text (p ∷ pieces) from removes name = refl
 print_lacks : Lacks 32 (codes "print")
 print_lacks = lacks_from 33 32 (codes "print") (omega arith) (from_test 33 (codes "print") refl)
 
-not_print : (op : CodeOp) (bytes name : List ℕ) → OpWorded (op_words (only name) op)
-    → codes "print " ++ bytes ≡ join_with_byte 32 (op_words (only name) op) → ⊥
-not_print op bytes name w e = by (op_words (only name) op) w e
+not_print : (op : CodeOp) (bytes name : List ℕ) → OpWorded (op_words (only_name name) op)
+    → codes "print " ++ bytes ≡ join_with_byte 32 (op_words (only_name name) op) → ⊥
+not_print op bytes name w e = by (op_words (only_name name) op) w e
   where
     by : (words : List (List ℕ)) → OpWorded words → codes "print " ++ bytes ≡ join_with_byte 32 words → ⊥
     by [] w e = absurd (omega (arith, w.some))
@@ -97,8 +97,8 @@ not_print op bytes name w e = by (op_words (only name) op) w e
 pub only_print : (bytes : List ℕ) (o : NamedOp) → NamedOpFits o → codes "print " ++ bytes ≡ op_text o → PrintText bytes o
 only_print bytes o f e = by o.op refl f e
   where
-    by : (op : CodeOp) → o.op ≡ op → OpFits op × OpIsNamed op o.name
-        → codes "print " ++ bytes ≡ join_with_byte 32 (op_words (only o.name) op) → PrintText bytes o
+    by : (op : CodeOp) → o.op ≡ op → OpHasText op × OpIsNamed op o.name
+        → codes "print " ++ bytes ≡ join_with_byte 32 (op_words (only_name o.name) op) → PrintText bytes o
     by (Print pieces from removes) q f e = record {
       pieces = pieces;
       from = from;
@@ -125,7 +125,7 @@ only_print bytes o f e = by o.op refl f e
 record Placed (bytes : List ℕ) (at : ℕ) (pieces : List Piece) (from removes : List ℕ) : Type 0 where
   pub last : drop at bytes ≡ removes_word removes
   pub rest : ((pieces ≡ []) × (at ≡ 0))
-      ⊎ ((0 < at) × (pieces ≢ []) × (take (at - 1) bytes ≡ listed (piece_words pieces from 0)))
+      ⊎ ((0 < at) × (pieces ≢ []) × (take (at - 1) bytes ≡ comma_separated (piece_words pieces from 0)))
 
 placed : (bytes : List ℕ) (at : ℕ) (pieces : List Piece) (from removes : List ℕ) → LastWord bytes at → AreRegions removes
     → bytes ≡ join_with_byte 32 (in_one (piece_words pieces from 0) ++ removes_word removes ∷ [])
@@ -141,11 +141,11 @@ placed bytes at pieces from removes w r e = by pieces w.before e
     by [] (inl z) e = record { last = ap (λ k. drop k bytes) z ∙ e; rest = inl (refl, z) }
     by [] (inr s) e = absurd (contains_space (take (at - 1) bytes) (drop at bytes) (subst (Lacks 32) (sym e ∙ s.1) lacks))
     by (p ∷ pieces) (inl z) e =
-        absurd (contains_space (listed (piece_words (p ∷ pieces) from 0)) (removes_word removes)
+        absurd (contains_space (comma_separated (piece_words (p ∷ pieces) from 0)) (removes_word removes)
         (subst (Lacks 32) (ap (λ k. drop k bytes) z ∙ e) (lacks_of (drop at bytes) w.last)))
     by (p ∷ pieces) (inr s) e =
         let same =
-        last_one (take (at - 1) bytes) (listed (piece_words (p ∷ pieces) from 0)) (drop at bytes) (removes_word removes)
+        last_one (take (at - 1) bytes) (comma_separated (piece_words (p ∷ pieces) from 0)) (drop at bytes) (removes_word removes)
         (sym s.1 ∙ e) (lacks_of (drop at bytes) w.last) lacks in
         record { last = same.last; rest = inr (s.0, some, same.front) }
       where
@@ -156,28 +156,28 @@ placed bytes at pieces from removes w r e = by pieces w.before e
 
 module _ (bytes : List ℕ) (at : ℕ) (w : LastWord bytes at) where
   -- no removals
-  pub print_none : read_regions 45 (drop at bytes) ≡ None → IsRead NamedOpFits op_text (codes "print " ++ bytes) None
+  pub print_none : read_regions 45 (drop at bytes) ≡ None → IsReadFromBytes NamedOpFits op_text (codes "print " ++ bytes) None
   print_none e o f q =
       let t = only_print bytes o f q in
       let p = placed bytes at t.pieces t.from t.removes w t.fits.3 t.text in
       not_none t.removes (sym e ∙ ap (read_regions 45) p.last ∙ regions_back 45 t.removes t.fits.3)
 
   module _ (removes : List ℕ) (e : read_regions 45 (drop at bytes) ≡ Some removes) where
-    pub print_plain : at ≡ 0 → IsRead NamedOpFits op_text (codes "print " ++ bytes)
+    pub print_plain : at ≡ 0 → IsReadFromBytes NamedOpFits op_text (codes "print " ++ bytes)
         (Some (record { op = Print [] [] removes; name = [] }))
     print_plain z =
         let r = regions_is 45 (drop at bytes) removes e in (
           ap (λ t. codes "print " ++ t) (sym (ap (λ k. drop k bytes) z) ∙ r.0),
-          ((All-nil PieceFits, refl, All-nil IsSmall, r.1), refl),
+          ((All-nil PieceFits, refl, All-nil IsSmallNumber, r.1), refl),
         )
 
     pub print_pieces : (pieces : List Piece) (from : List ℕ) → 0 < at → AreListed (take (at - 1) bytes) pieces from
-        → IsRead NamedOpFits op_text (codes "print " ++ bytes) (Some (record { op = Print pieces from removes; name = [] }))
+        → IsReadFromBytes NamedOpFits op_text (codes "print " ++ bytes) (Some (record { op = Print pieces from removes; name = [] }))
     print_pieces [] from l a = absurd (a.some refl)
     print_pieces (p ∷ pieces) from l a =
         let r = regions_is 45 (drop at bytes) removes e in (
           ap (λ t. codes "print " ++ t) (parts w.before ∙ ap (λ t. t ++ 32 ∷ drop at bytes) a.text
-              ∙ ap (λ t. listed (piece_words (p ∷ pieces) from 0) ++ 32 ∷ t) r.0),
+              ∙ ap (λ t. comma_separated (piece_words (p ∷ pieces) from 0) ++ 32 ∷ t) r.0),
           ((a.fit, a.values, a.small, r.1), refl),
         )
       where
@@ -186,15 +186,15 @@ module _ (bytes : List ℕ) (at : ℕ) (w : LastWord bytes at) where
         parts (inl z) = absurd (omega (arith, z, l))
         parts (inr s) = s.1
 
-    pub print_wrong : 0 < at → ArePieces (take (at - 1) bytes) None → IsRead NamedOpFits op_text (codes "print " ++ bytes) None
+    pub print_wrong : 0 < at → ArePieces (take (at - 1) bytes) None → IsReadFromBytes NamedOpFits op_text (codes "print " ++ bytes) None
     print_wrong l none o f q =
         let t = only_print bytes o f q in
         let p = placed bytes at t.pieces t.from t.removes w t.fits.3 t.text in
         by t.pieces t.from t.removes t.fits p.rest
       where
-        by : (pieces : List Piece) (from removes : List ℕ) → OpFits (Print pieces from removes)
+        by : (pieces : List Piece) (from removes : List ℕ) → OpHasText (Print pieces from removes)
             → ((pieces ≡ []) × (at ≡ 0))
-            ⊎ ((0 < at) × (pieces ≢ []) × (take (at - 1) bytes ≡ listed (piece_words pieces from 0))) → ⊥
+            ⊎ ((0 < at) × (pieces ≢ []) × (take (at - 1) bytes ≡ comma_separated (piece_words pieces from 0))) → ⊥
         by pieces from removes f (inl r) = absurd (omega (arith, l, r.1))
         by pieces from removes f (inr r) =
             none pieces from (record { text = r.2; some = r.1; fit = f.0; values = f.1; small = f.2 })

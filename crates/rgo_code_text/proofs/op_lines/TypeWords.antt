@@ -9,18 +9,18 @@ use Rattle.rgo_typed.specs.declared.types.Base.TheVariants as base
 use Rattle.rgo_typed.specs.declared.types.Layer.{Layer}
 use Rattle.rgo_typed.specs.declared.types.Layer.TheVariants as layer
 use Rattle.rgo_code_text.specs.Items.{BaseFits, TypeFits, named_type_word}
-use Rattle.rgo_code_words.specs.Readers.{NamedType, named, read_base, read_layer, with_layer, by_layer, type_after, read_type}
+use Rattle.rgo_code_words.specs.Readers.{NamedType, as_named_type, read_base, read_layer, with_layer, by_layer, type_after, read_type}
 use Rattle.rgo_code_printing.specs.Words.{layer_word, base_word}
 use Rattle.rgo_code_words.specs.Worded.{is_name}
 use Rattle.rgo_code_words.proofs.Options.{some_same, not_none, by_word}
 
 pub type_back : (layers : List Layer) (b : Base) (name : List ℕ) → BaseFits b name
-    → read_type (flat_map layer_word layers ++ base_word (name ∷ []) b) ≡ Some (named layers b name)
-type_back [] base.Int name f = ap (λ n. Some (named [] base.Int n)) (sym f)
-type_back [] base.Bool name f = ap (λ n. Some (named [] base.Bool n)) (sym f)
+    → read_type (flat_map layer_word layers ++ base_word (name ∷ []) b) ≡ Some (as_named_type layers b name)
+type_back [] base.Int name f = ap (λ n. Some (as_named_type [] base.Int n)) (sym f)
+type_back [] base.Bool name f = ap (λ n. Some (as_named_type [] base.Bool n)) (sym f)
 type_back [] (base.Pointer n) name f =
-    subst (λ m. read_type (base_word (name ∷ []) (base.Pointer m)) ≡ Some (named [] (base.Pointer m) name)) (sym f.0)
-    (ap (λ x. if x then Some (named [] (base.Pointer 0) name) else None) f.1)
+    subst (λ m. read_type (base_word (name ∷ []) (base.Pointer m)) ≡ Some (as_named_type [] (base.Pointer m) name)) (sym f.0)
+    (ap (λ x. if x then Some (as_named_type [] (base.Pointer 0) name) else None) f.1)
 type_back (layer.Slice ∷ layers) b name f = ap (with_layer layer.Slice) (type_back layers b name f)
 type_back (layer.Chan ∷ layers) b name f = ap (with_layer layer.Chan) (type_back layers b name f)
 
@@ -32,15 +32,15 @@ IsType word t = (word ≡ named_type_word t) × TypeFits t
 base_is : (word : List ℕ) (t : NamedType) → read_base word ≡ Some t → IsType word t
 base_is word t e =
     by_word word (codes "int") _ _ t (IsType word t) e
-    (λ w q. subst (IsType word) (some_same (named [] base.Int []) t q) (w, refl)) (λ e.
+    (λ w q. subst (IsType word) (some_same (as_named_type [] base.Int []) t q) (w, refl)) (λ e.
     by_word word (codes "bool") _ _ t (IsType word t) e
-    (λ w q. subst (IsType word) (some_same (named [] base.Bool []) t q) (w, refl)) (λ e.
+    (λ w q. subst (IsType word) (some_same (as_named_type [] base.Bool []) t q) (w, refl)) (λ e.
     pointer (bytes_eq (take 1 word) (codes "*")) refl (is_name (drop 1 word)) refl e))
   where
     pointer : (a : Bool) → bytes_eq (take 1 word) (codes "*") ≡ a → (b : Bool) → is_name (drop 1 word) ≡ b
-        → (if a && b then Some (named [] (base.Pointer 0) (drop 1 word)) else None) ≡ Some t → IsType word t
+        → (if a && b then Some (as_named_type [] (base.Pointer 0) (drop 1 word)) else None) ≡ Some t → IsType word t
     pointer true p true n q =
-        subst (IsType word) (some_same (named [] (base.Pointer 0) (drop 1 word)) t q)
+        subst (IsType word) (some_same (as_named_type [] (base.Pointer 0) (drop 1 word)) t q)
         (sym (take-append-drop 1 word) ∙ ap (λ front. front ++ drop 1 word) ((bytes_eq-Decides (take 1 word) (codes "*")).0 p), (refl, n))
     pointer true p false n q = absurd (not_none t q)
     pointer false p b n q = absurd (not_none t q)
@@ -54,10 +54,10 @@ layered : (l : Layer) (o : Option NamedType) (t : NamedType) (front rest : List 
 layered l None t front rest e f inner = absurd (not_none t e)
 layered l (Some u) t front rest e f inner =
     let i = inner u refl in
-    subst (IsType (front ++ rest)) (some_same (named (l ∷ u.ty.layers) u.ty.base u.name) t e)
+    subst (IsType (front ++ rest)) (some_same (as_named_type (l ∷ u.ty.layers) u.ty.base u.name) t e)
     (ap (λ x. x ++ rest) f ∙ ap (λ x. layer_word l ++ x) i.0 ∙ assoc l u, i.1)
   where
-    assoc : (l : Layer) (u : NamedType) → layer_word l ++ named_type_word u ≡ named_type_word (named (l ∷ u.ty.layers) u.ty.base u.name)
+    assoc : (l : Layer) (u : NamedType) → layer_word l ++ named_type_word u ≡ named_type_word (as_named_type (l ∷ u.ty.layers) u.ty.base u.name)
     assoc layer.Slice u = refl
     assoc layer.Chan u = refl
 

@@ -5,12 +5,12 @@ use Rattle.std.specs.Option.{IsSome}
 use Rattle.std.proofs.lemmas.List.Elements.{All-nil}
 use Rattle.rgo_code_text.specs.declared.places.Place.{Place}
 use Rattle.rgo_code_text.specs.declared.places.Place.TheVariants.{First, Structs, Globals, Functions, Slots, Body}
-use Rattle.rgo_code_text.specs.Building.{code_of}
+use Rattle.rgo_code_text.specs.Building.{code_of_items}
 use Rattle.rgo_code_text.specs.Forms.{IsText, IsFirstWithoutForm}
-use Rattle.rgo_code_text.specs.Items.{Item, ItemFits, item_line, after}
-use Rattle.rgo_code_text.specs.Laws.{OneOfBoth}
+use Rattle.rgo_code_text.specs.Items.{Item, ItemFits, item_line, place_after_item}
+use Rattle.rgo_code_text.specs.Laws.{TextOrRefusal}
 use Rattle.rgo_code_text.specs.Order.{IsLast}
-use Rattle.rgo_code_words.specs.Readers.{IsRead}
+use Rattle.rgo_code_words.specs.Readers.{IsReadFromBytes}
 use Rattle.rgo_code_text.specs.Walk.{AreItems, StepIs, StopsAt}
 use Rattle.rgo_code_text.proofs.line_forms.EachLine.{item_of_line}
 use Rattle.rgo_code_text.proofs.op_lines.EachPrint.{same_or_not, first_within}
@@ -27,19 +27,19 @@ record StepOf (place : Place) (bytes : List ℕ) : Type 0 where
 step_of : (place : Place) (bytes : List ℕ) → StepOf place bytes
 step_of place bytes = let r = item_of_line bytes in by r.what r.is
   where
-    placed : (x : Item) → IsRead ItemFits item_line bytes (Some x) → (next : Option Place) → after place x ≡ next → StepOf place bytes
+    placed : (x : Item) → IsReadFromBytes ItemFits item_line bytes (Some x) → (next : Option Place) → place_after_item place x ≡ next → StepOf place bytes
     placed x is (Some next) e = record { what = Some (x, next); is = (is.0, is.1, e) }
     placed x is None e = record {
       what = None;
       is = λ y fits may same.
           let one : x ≡ y = items_one x y is.1 fits (sym is.0 ∙ same) in
-          let none : after place y ≡ None = ap (after place) (sym one) ∙ e in
+          let none : place_after_item place y ≡ None = ap (place_after_item place) (sym one) ∙ e in
           true≢false (sym (subst IsSome none may));
     }
 
-    by : (r : Option Item) → IsRead ItemFits item_line bytes r → StepOf place bytes
+    by : (r : Option Item) → IsReadFromBytes ItemFits item_line bytes r → StepOf place bytes
     by None is = record { what = None; is = λ y fits may. is y fits }
-    by (Some x) is = placed x is (after place x) refl
+    by (Some x) is = placed x is (place_after_item place x) refl
 
 -- ---- all lines
 
@@ -123,11 +123,11 @@ walked text = walk_from (length text) text [] First 0 1 (omega arith) (record {
   number = refl;
 })
 
-pub one_of_both : OneOfBoth
+pub one_of_both : TextOrRefusal
 one_of_both text = by (walked text)
   where
     by : Walked text → IsText text ⊎ ((n : ℕ) × IsFirstWithoutForm text n)
     by (inl (items, a)) =
         let read = read_is text items a in
-        inl (record { code = code_of items; written = read.1; text = sym read.0 })
+        inl (record { code = code_of_items items; written = read.1; text = sym read.0 })
     by (inr (n, s)) = inr (n, refused s.before s.place s.fit s.leads text n s.tail s.cut s.number s.stops)

@@ -6,8 +6,8 @@ use Rattle.std.proofs.lemmas.List.Elements.{All-head, All-tail, Contains-append_
 use Rattle.rgo_code.specs.Code.{Code}
 use Rattle.rgo_code_printing.specs.Text.{text_of}
 use Rattle.rgo_code_text.specs.Forms.{IsLine, ended_lines, BeginsCode, HasNoForm, EndsEarly, IsFirstWithoutForm}
-use Rattle.rgo_code_text.specs.Laws.{OneRefusal}
-use Rattle.rgo_code_text.specs.Written.{IsWritten}
+use Rattle.rgo_code_text.specs.Laws.{OneTextRefusal}
+use Rattle.rgo_code_text.specs.Written.{HasCodeText}
 
 -- ---- one way to cut a text into lines
 
@@ -107,7 +107,7 @@ one text m n a b = by_order (cases_lt m n) (cases_lt n m)
 
 -- ---- the text of code
 
-stops_not : (code : Code) (head tail : List ℕ) → IsWritten code → text_of code ≡ head ++ tail
+stops_not : (code : Code) (head tail : List ℕ) → HasCodeText code → text_of code ≡ head ++ tail
     → HasNoForm head tail ⊎ EndsEarly head tail → ⊥
 stops_not code head tail written cut (inl stop) = stop.stops (record {
   code = code;
@@ -119,8 +119,8 @@ stops_not code head tail written cut (inl stop) = stop.stops (record {
 stops_not code head tail written cut (inr early) =
     early.stops (record { code = code; written = written; text = cut })
 
-not_both : (code : Code) (n : ℕ) → IsWritten code → IsFirstWithoutForm (text_of code) n → ⊥
+not_both : (code : Code) (n : ℕ) → HasCodeText code → IsFirstWithoutForm (text_of code) n → ⊥
 not_both code n written first = stops_not code (ended_lines first.before) first.tail written first.cut first.stops
 
-pub one_refusal : OneRefusal
+pub one_refusal : OneTextRefusal
 one_refusal = record { one = one; not_both = not_both }

@@ -2,10 +2,10 @@
 use Rattle.std.proofs.Common.{◌≡◌, ℕ, true, true≢false, List, [], ◌∷◌, None, refl, sym, arith, codes}
 use Rattle.std.proofs.lemmas.List.Elements.{All-nil, All-cons, All-head}
 use Rattle.rgo_code.specs.Code.{CodeOp, CodeFn}
-use Rattle.rgo_code_text.specs.Examples.{Examples, one_function}
+use Rattle.rgo_code_text.specs.Examples.{CodeTextExamples, one_function}
 use Rattle.rgo_code_text.specs.Printable.{IsPrintable, InstrPrints, FnPrints}
 use Rattle.rgo_code_text.specs.Written.{SlotFits}
-use Rattle.rgo_code_words.specs.Worded.{is_name, IsSmall}
+use Rattle.rgo_code_words.specs.Worded.{is_name, IsSmallNumber}
 
 main_is_name : is_name (codes "main") ≡ true
 unfolding is_name
@@ -34,7 +34,7 @@ instr_of name op place p =
       body = record { creates = []; op = op; place = place } ∷ [];
     }
 
-pub examples : Examples
+pub examples : CodeTextExamples
 examples = record {
   returns = record {
     structs = All-nil _;
@@ -44,9 +44,9 @@ examples = record {
       params = omega arith;
       result = tt;
       variables = All-nil SlotFits;
-      entry = All-nil IsSmall;
+      entry = All-nil IsSmallNumber;
       indexes = omega arith;
-      body = All-cons InstrPrints _ [] (omega arith, All-nil IsSmall, tt) (All-nil InstrPrints);
+      body = All-cons InstrPrints _ [] (omega arith, All-nil IsSmallNumber, tt) (All-nil InstrPrints);
     }) (All-nil FnPrints);
   };
   keyword = λ p. keyword_is_none (name_of _ _ _ p);

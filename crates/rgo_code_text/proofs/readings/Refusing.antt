@@ -9,16 +9,16 @@ use Rattle.rgo_code_text.specs.declared.places.Place.{Place}
 use Rattle.rgo_code_text.specs.declared.places.Place.TheVariants.{First, Structs, Globals, Functions, Slots, Body}
 use Rattle.rgo_code_text.specs.declared.refusals.ReadError.{ReadError}
 use Rattle.rgo_code_text.specs.declared.refusals.ReadError.TheVariants as error
-use Rattle.rgo_code_text.specs.Building.{code_of}
+use Rattle.rgo_code_text.specs.Building.{code_of_items}
 use Rattle.rgo_code_text.specs.Forms.{IsLine, ended_lines, BeginsCode, HasNoForm, EndsEarly, IsFirstWithoutForm}
-use Rattle.rgo_code_text.specs.Items.{Item, Head, Entry, End, ItemFits, item_kind, item_line, items_text, after, after_all}
+use Rattle.rgo_code_text.specs.Items.{Item, Head, Entry, End, ItemFits, item_kind, item_line, items_text, place_after_item, place_after_items}
 use Rattle.rgo_code_text.specs.Laws.{OneText}
 use Rattle.rgo_code_text.specs.Order.{after_kinds, IsLast}
-use Rattle.rgo_code_text.specs.Sizes.{IsTooLarge}
+use Rattle.rgo_code_text.specs.Sizes.{IsTooLongText}
 use Rattle.rgo_code_words.specs.Readers.{on_some}
 use Rattle.rgo_code_printing.specs.Text.{text_of}
 use Rattle.rgo_code_text.specs.Walk.{AreItems, Stops, CodeTextEnds, StopsIn, RefusesCodeText}
-use Rattle.rgo_code_text.specs.Written.{IsWritten}
+use Rattle.rgo_code_text.specs.Written.{HasCodeText}
 use Rattle.rgo_code_words.specs.Worded.{AreRegions}
 use Rattle.rgo_code_text.proofs.code_of_lines.LinesOfCode.{after_both}
 use Rattle.rgo_code_words.proofs.ListFacts.{back_all, flat_append}
@@ -34,11 +34,11 @@ no_two code other w v e =
     let a = lined code w in
     let b = lined other v in
     let same = texts_one a.items b.items a.fit b.fit (sym a.text ∙ e ∙ b.text) in
-    sym a.again ∙ ap code_of same ∙ b.again
+    sym a.again ∙ ap code_of_items same ∙ b.again
 
 -- ---- what was read is the text of code
 
-pub read_is : (text : List ℕ) (items : List Item) → AreItems text items → (text ≡ text_of (code_of items)) × IsWritten (code_of items)
+pub read_is : (text : List ℕ) (items : List Item) → AreItems text items → (text ≡ text_of (code_of_items items)) × HasCodeText (code_of_items items)
 read_is text items a =
     let m = made items a.place a.fit a.leads a.last in
     (a.text_is ∙ sym m.text, m.written)
@@ -60,7 +60,7 @@ record Ending (p : Place) : Type 0 where
   pub items : List Item
   pub fit : All ItemFits items
   pub place : Place
-  pub leads : after_all items p ≡ Some place
+  pub leads : place_after_items items p ≡ Some place
   pub last : IsLast place
 
 no_regions : AreRegions []
@@ -86,7 +86,7 @@ ending (Body i) = record {
   last = tt;
 }
 
-after_append : (xs ys : List Item) (p : Place) → after_all (xs ++ ys) p ≡ on_some (after_all xs p) (after_all ys)
+after_append : (xs ys : List Item) (p : Place) → place_after_items (xs ++ ys) p ≡ on_some (place_after_items xs p) (place_after_items ys)
 after_append xs ys p =
     ap (λ ks. after_kinds ks p) (map-append item_kind xs ys) ∙ after_both (map item_kind xs) (map item_kind ys) p
 
@@ -99,13 +99,13 @@ record GoesOn (p : Place) (rest : List ℕ) : Type 0 where
   pub fit : All ItemFits more
   pub text : items_text more ≡ rest
   pub last_place : Place
-  pub leads : after_all more p ≡ Some last_place
+  pub leads : place_after_items more p ≡ Some last_place
   pub last : IsLast last_place
 
-goes : (x : Item) (more : List Item) (p q : Place) → after_all (x ∷ more) p ≡ Some q → IsSome (after p x)
-goes x more p q e = by (after p x) e
+goes : (x : Item) (more : List Item) (p q : Place) → place_after_items (x ∷ more) p ≡ Some q → IsSome (place_after_item p x)
+goes x more p q e = by (place_after_item p x) e
   where
-    by : (o : Option Place) → on_some o (after_all more) ≡ Some q → IsSome o
+    by : (o : Option Place) → on_some o (place_after_items more) ≡ Some q → IsSome o
     by None r = absurd (not_none q r)
     by (Some r) s = refl
 
@@ -113,21 +113,21 @@ contains : (a b : List ℕ) → Contains (a ++ 10 ∷ b) 10
 contains a b =
     (length a, omega (arith, length-append a (10 ∷ b)), get_or_at a 10 b 10 (length a) refl)
 
-module _ (before : List Item) (place : Place) (fit : All ItemFits before) (leads : after_all before First ≡ Some place) where
+module _ (before : List Item) (place : Place) (fit : All ItemFits before) (leads : place_after_items before First ≡ Some place) where
   begins : BeginsCode (ended_lines (map item_line before))
   begins =
       let end = ending place in
       let all = before ++ end.items in
       let m = made all end.place (All-append ItemFits before end.items fit end.fit)
-      (after_append before end.items First ∙ ap (λ o. on_some o (after_all end.items)) leads ∙ end.leads) end.last in
+      (after_append before end.items First ∙ ap (λ o. on_some o (place_after_items end.items)) leads ∙ end.leads) end.last in
       record {
-        code = code_of all;
+        code = code_of_items all;
         rest = items_text end.items;
         written = m.written;
         text = m.text ∙ text_append before end.items ∙ ap (λ t. t ++ items_text end.items) (sym (ended_is before));
       }
 
-  go_on : (code : Code) (rest : List ℕ) → IsWritten code → text_of code ≡ ended_lines (map item_line before) ++ rest → GoesOn place rest
+  go_on : (code : Code) (rest : List ℕ) → HasCodeText code → text_of code ≡ ended_lines (map item_line before) ++ rest → GoesOn place rest
   go_on code rest w e =
       let l = lined code w in
       let b = begins_with before l.items rest fit l.fit (sym l.text ∙ e ∙ ap (λ t. t ++ rest) (ended_is before)) in
@@ -136,8 +136,8 @@ module _ (before : List Item) (place : Place) (fit : All ItemFits before) (leads
         fit = back_all ItemFits before b.more (subst (All ItemFits) b.are l.fit);
         text = b.text;
         last_place = l.place;
-        leads = sym (ap (λ o. on_some o (after_all b.more)) leads) ∙ sym (after_append before b.more First)
-            ∙ ap (λ xs. after_all xs First) (sym b.are) ∙ l.leads;
+        leads = sym (ap (λ o. on_some o (place_after_items b.more)) leads) ∙ sym (after_append before b.more First)
+            ∙ ap (λ xs. place_after_items xs First) (sym b.are) ∙ l.leads;
         last = l.last;
       }
 
@@ -155,7 +155,7 @@ module _ (before : List Item) (place : Place) (fit : All ItemFits before) (leads
         let g = go_on b.code (s.bytes ++ 10 ∷ b.rest) b.written text in
         let f = first_line_is g.more s.bytes b.rest g.fit (lacks_newline s.bytes s.line) g.text in
         let fits : ItemFits f.item = All-head ItemFits f.item f.others (subst (All ItemFits) f.are g.fit) in
-        s.none f.item fits (goes f.item f.others place g.last_place (ap (λ xs. after_all xs place) (sym f.are) ∙ g.leads)) f.line;
+        s.none f.item fits (goes f.item f.others place g.last_place (ap (λ xs. place_after_items xs place) (sym f.are) ∙ g.leads)) f.line;
   }
 
   -- the text ends before its time
@@ -167,7 +167,7 @@ module _ (before : List Item) (place : Place) (fit : All ItemFits before) (leads
         ends g.more g.text g.last_place g.leads g.last;
   }
     where
-      ends : (more : List Item) → items_text more ≡ tail → (q : Place) → after_all more place ≡ Some q → IsLast q → ⊥
+      ends : (more : List Item) → items_text more ≡ tail → (q : Place) → place_after_items more place ≡ Some q → IsLast q → ⊥
       ends [] t q l last = e.early (sym t) (subst IsLast (sym (some_same place q l)) last)
       ends (x ∷ more) t q l last =
           e.line (subst (λ bytes. Contains bytes 10) (sym (text_cons x more) ∙ t) (contains (item_line x) (items_text more)))
@@ -196,9 +196,9 @@ refuses text (error.Refused r) s = refused s.before s.place s.fit s.leads text r
 
 -- what is said of a text that is not too large, also says when the error is that it is too large: never
 pub too_large_exactly : (text : List ℕ) (r : Result Code ReadError)
-    → MatchResult r (λ code. (text ≡ text_of code) × IsWritten code) (RefusesCodeText text) → length text ≤ 4294967293
-    → (r ≡ Err error.TooLarge) ↔ IsTooLarge text
+    → MatchResult r (λ code. (text ≡ text_of code) × HasCodeText code) (RefusesCodeText text) → length text ≤ 4294967293
+    → (r ≡ Err error.TooLarge) ↔ IsTooLongText text
 too_large_exactly text r read few = (
-  λ e. subst (λ q. MatchResult q (λ code. (text ≡ text_of code) × IsWritten code) (RefusesCodeText text)) e read,
+  λ e. subst (λ q. MatchResult q (λ code. (text ≡ text_of code) × HasCodeText code) (RefusesCodeText text)) e read,
   λ large. absurd (omega (arith, large, few)),
 )

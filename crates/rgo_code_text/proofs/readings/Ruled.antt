@@ -23,7 +23,7 @@ use Rattle.rgo_code.specs.Types.{VariablesHaveTypes, ReturnsType, DoFits}
 use Rattle.rgo_code.specs.Types as types
 use Rattle.rgo_code_text.specs.Laws.{RulesSuffice}
 use Rattle.rgo_code_text.specs.Printable.{ActionPrints, OpPrints, InstrPrints, FnPrints}
-use Rattle.rgo_code_text.specs.Written.{ActionFits, IsInstruction, OpFits, InstrFits, FnFits}
+use Rattle.rgo_code_text.specs.Written.{ActionHasText, IsInstruction, OpHasText, InstrHasText, FnHasText}
 use Rattle.rgo_code_words.specs.Worded.{OperatorFits}
 use Rattle.rgo_code_text.proofs.readings.RuledUses.{each, kind, structs_first, variables_first, functions_first}
 
@@ -80,7 +80,7 @@ module _ (from : List ℕ) (operands : List «Type») (same : length from ≡ le
   computes d binary.Rem t h = (of_two (Worded (Some d) (action.Binary binary.Rem)) from (long _ h.0) (λ a b. some_word _ _), tt)
 
   returns : (code : Tac) (d : ℕ) (a : Action) (t : «Type») → ReturnsType code a operands t → ActionPrints a
-      → Worded (Some d) a from × ActionFits a
+      → Worded (Some d) a from × ActionHasText a
   returns code d (action.Int k) t h p = (of_none (Worded (Some d) (action.Int k)) from (long _ h.0) (some_word _ _), p)
   returns code d (action.Bool b) t h p = (of_none (Worded (Some d) (action.Bool b)) from (long _ h.0) (some_word _ _), tt)
   returns code d action.Nil t h p = (of_none (Worded (Some d) action.Nil) from (long _ h.0) (some_word _ _), tt)
@@ -103,7 +103,7 @@ module _ (from : List ℕ) (operands : List «Type») (same : length from ≡ le
   returns code d action.Close t h p = absurd h
   returns code d (action.Set n) t h p = absurd h
 
-  takes : (code : Tac) (a : Action) → Takes (declared_in_code code) a operands → ActionPrints a → Worded None a from × ActionFits a
+  takes : (code : Tac) (a : Action) → Takes (declared_in_code code) a operands → ActionPrints a → Worded None a from × ActionHasText a
   takes code (action.Store k) h p = (of_two (Worded None (action.Store k)) from (long _ h.2) (λ a b. some_word _ _), p)
   takes code action.Put h p = (of_three (Worded None action.Put) from (long _ h.1) (λ a b c. some_word _ _), tt)
   takes code action.Send h p = (of_two (Worded None action.Send) from (long _ h.1) (λ a b. some_word _ _), tt)
@@ -132,7 +132,7 @@ as_many f from operands e =
     sym (length-map from (slice_get f.variables)) ∙ ap length e ∙ length-map operands Some
 
 does : (code : Tac) (f : TacFn) (to : Option ℕ) (a : Action) (from : List ℕ) (operands : List «Type») → VariablesHaveTypes f from operands
-    → DoFits code f to a operands → ActionPrints a → Worded to a from × ActionFits a
+    → DoFits code f to a operands → ActionPrints a → Worded to a from × ActionHasText a
 does code f None a from operands have h p = takes from operands (as_many f from operands have) code a h p
 does code f (Some d) a from operands have h p = returns from operands (as_many f from operands have) code d a h.0 h.2 p
 
@@ -147,11 +147,11 @@ second v w = (1, omega arith, refl)
 
 module _ (code : Tac) (f : TacFn) where
   op_fits : (i : ℕ) (instr : CodeInstr) → types.IsWellTypedOp code f (erased_op instr.op) → InstrAscends i instr → OpPrints instr.op
-      → OpFits instr.op
+      → OpHasText instr.op
   op_fits i instr typed up p = by instr.op typed up.protects up.removes p
     where
       by : (op : CodeOp) → types.IsWellTypedOp code f (erased_op op) → IsStrictlyIncreasing (protected_names op)
-          → ((j : ℕ) (removes : List ℕ) → Contains (edges op i) (j, removes) → IsStrictlyIncreasing removes) → OpPrints op → OpFits op
+          → ((j : ℕ) (removes : List ℕ) → Contains (edges op i) (j, removes) → IsStrictlyIncreasing removes) → OpPrints op → OpHasText op
       by (Do to act from removes) t rises up p =
           let d = does code f to act from t.0 t.1 t.2 p.0 in
           (d.0, d.1, p.1, p.2, (up (i + 1) removes (first (i + 1, removes) []), p.3))
@@ -189,17 +189,17 @@ rules_suffice code checked ascends structs_none variables_none functions_none p 
   functions =
       kind (map (λ f. f.name) code.functions) code.undeclared.functions _ functions_none p.functions
       (functions_first code checked);
-  fits = with_all FnPrints FnFits code.functions p.fits fits;
+  fits = with_all FnPrints FnHasText code.functions p.fits fits;
 }
   where
-    fits : (n : ℕ) (f : CodeFn) → slice_get code.functions n ≡ Some f → FnPrints f → FnFits f
+    fits : (n : ℕ) (f : CodeFn) → slice_get code.functions n ≡ Some f → FnPrints f → FnHasText f
     fits n f there q = record {
       params = q.params;
       result = q.result;
       variables = q.variables;
       entry = ((ascends n f there).entry, q.entry);
       indexes = q.indexes;
-      body = with_all InstrPrints InstrFits f.body q.body (λ i x e r.
+      body = with_all InstrPrints InstrHasText f.body q.body (λ i x e r.
           let up = (ascends n f there).body i x e in (
             r.0,
             (up.creates, r.1),

@@ -34,20 +34,20 @@ use Rattle.rgo_sound.specs.Typed.declared.actions.Action.TheVariants as action
 use Rattle.rgo_sound.specs.Typed.declared.programs.Variable.{Variable}
 use Rattle.rgo_sound.specs.Typed.declared.types.Type.{«Type»}
 use Rattle.rgo_sound.specs.WellFormed.TypeRules.{pointer_to, slice_of}
-use Rattle.rgo_core_channels.specs.Channels.{Chan, IsChan, On, channel, word_of}
+use Rattle.rgo_core_channels.specs.Channels.{Chan, IsChan, On, channel, word_of_channel}
 use Rattle.rgo_core_channels.specs.Controls.{extent}
 use Rattle.rgo_core_channels.specs.Records.{at_rest}
 use Rattle.rgo_core_channels.proofs.Lists.{set_own}
-use Rattle.rgo_core_frames.specs.Actions.{after_action}
-use Rattle.rgo_core_frames.specs.Operands.{PointsTo}
-use Rattle.rgo_core_frames.specs.Steps.{HasInstruction}
-use Rattle.rgo_core_frames.specs.WordFrames.{word_at as word_of_frame}
-use Rattle.rgo_core_frames.specs.Words.{Shows}
+use Rattle.rgo_core_frames.specs.steps.Actions.{after_action}
+use Rattle.rgo_core_frames.specs.shown.Operands.{PointsTo}
+use Rattle.rgo_core_frames.specs.steps.Bookkept.{HasInstruction}
+use Rattle.rgo_core_frames.specs.shown.WordFrames.{frame_word as word_of_frame}
+use Rattle.rgo_core_frames.specs.shown.Words.{Shows}
 use Rattle.rgo_core_memory.specs.Accesses.{Before}
 use Rattle.rgo_core_memory.proofs.objects.Spreads.{in_table, whole_of}
 use Rattle.rgo_core_memory.specs.Encoding.{address}
 use Rattle.rgo_core_memory.specs.Ground.{IsLiveObject, ground_of}
-use Rattle.rgo_core_memory.specs.Image.{StateImage, code_of, word_at}
+use Rattle.rgo_core_memory.specs.Image.{StateImage, word_of_value, word_at}
 use Rattle.rgo_core_memory.specs.Spread.{words_before}
 use Rattle.rgo_core_memory.specs.Words.{base, variable_at}
 use Rattle.rgo_core_memory.proofs.image.Frames.{content_below}
@@ -57,11 +57,11 @@ use Rattle.rgo_core_memory.proofs.image.Steadies.{steady_of}
 use Rattle.rgo_core_memory.proofs.accesses.Storing.{gets}
 use Rattle.rgo_core_memory.proofs.accesses.Typing.{get_law, len_law, load_law, loads_from, set_law, store_law, stores_to}
 use Rattle.rgo_core_memory.proofs.Writes.{in_pages}
-use Rattle.rgo_core.specs.Accesses.{GetMove, IsFieldAt, LenMove, LenNilStill, LoadMove, PointsToWhole, SetMove, StoreMove}
-use Rattle.rgo_core.specs.Bounds.{Gives, LieInPages, Points, slice_words, target_type}
-use Rattle.rgo_core.specs.Core.{Here, Setup, layout}
+use Rattle.rgo_core.specs.moves.Cells.{GetMove, IsFieldAt, LenMove, LenNilStill, LoadMove, PointsToWhole, SetMove, StoreMove}
+use Rattle.rgo_core.specs.ties.Bounds.{Gives, LieInPages, Points, slice_words, target_type}
+use Rattle.rgo_core.specs.Core.{Situation, Setup, layout}
 use Rattle.rgo_core_channels.specs.Positions.{cell_place, place_at}
-use Rattle.rgo_core.specs.Next.{IsAt, acted}
+use Rattle.rgo_core.specs.Next.{IsAtOp, acted_record}
 use Rattle.rgo_core.specs.Records.{Record, frame_of, instructed, memory_of}
 use Rattle.rgo_core.specs.Steps.{MakesQuietStep, Steps}
 use Rattle.rgo_core.proofs.image.Bounds.{LeadsToLive, as_many as kinds_many, gives_points, held_live}
@@ -104,8 +104,8 @@ le_max n = omega arith
 
 -- ---- what is loaded stays
 
-module _ {T : Setup} {g : ℕ} {c : Record} (x : Here T g c) (rests : c.side ≡ at_rest) (d : ℕ) (act : Action) (from removes : List ℕ)
-    (a : IsAt T.code c (Do (Some d) act from removes)) (i : ℕ) (v : Value)
+module _ {T : Setup} {g : ℕ} {c : Record} (x : Situation T g c) (rests : c.side ≡ at_rest) (d : ℕ) (act : Action) (from removes : List ℕ)
+    (a : IsAtOp T.code c (Do (Some d) act from removes)) (i : ℕ) (v : Value)
     (does : performed T.code.structs act (destination_type (erased T.code) (operands.b x (Some d) act from removes a).frame (Some d))
     (operand_values (operands.b x (Some d) act from removes a).frame from) x.s.plain.memory ≡ Some (DoesSo x.s.plain.memory v))
     (shows : Shows (I x).addresses v (slice_index x.words i)) where
@@ -115,8 +115,8 @@ module _ {T : Setup} {g : ℕ} {c : Record} (x : Here T g c) (rests : c.side ≡
   read_step = operands.acts x (Some d) act from removes a x.s.plain.memory v (slice_index x.words i) does refl shows
 
   pub reads_word : StateImage (layout T) x.words (map memory_of x.recs) read_step.state (I x).places
-      → Steps x (slice_set x.words i (slice_index x.words i)) (acted T.code c a (Some d) (slice_index x.words i))
-  reads_word M = inl (subst (λ (w : List ℕ). MakesQuietStep x w (acted T.code c a (Some d) (slice_index x.words i))) (sym (set_own x.words i))
+      → Steps x (slice_set x.words i (slice_index x.words i)) (acted_record T.code c a (Some d) (slice_index x.words i))
+  reads_word M = inl (subst (λ (w : List ℕ). MakesQuietStep x w (acted_record T.code c a (Some d) (slice_index x.words i))) (sym (set_own x.words i))
       (performs x rests x.s.plain.memory (operands.b x (Some d) act from removes a).h
       (after_action T.code c.frame a.w a.ws a.instr (Some d) (slice_index x.words i)) read_step x.words (suc c.clock.accesses) refl
       (operands.as_deep x (Some d) act from removes a (slice_index x.words i)) M
@@ -134,8 +134,8 @@ module _ {T : Setup} {g : ℕ} {c : Record} (x : Here T g c) (rests : c.side ≡
 same_number : (m n : ℕ) → pointer_to m ≡ pointer_to n → m ≡ n
 same_number m n e = let b = ap (λ (t : «Type»). t.base) e in cc b
 
-module _ {T : Setup} {g : ℕ} {c : Record} (x : Here T g c) (to : Option ℕ) (act : Action) (p : ℕ) (others removes : List ℕ)
-    (a : IsAt T.code c (Do to act (p ∷ others) removes)) (n : ℕ) (tys : List «Type»)
+module _ {T : Setup} {g : ℕ} {c : Record} (x : Situation T g c) (to : Option ℕ) (act : Action) (p : ℕ) (others removes : List ℕ)
+    (a : IsAtOp T.code c (Do to act (p ∷ others) removes)) (n : ℕ) (tys : List «Type»)
     (types_are : (operands.rule x to act (p ∷ others) removes a).0 ≡ pointer_to n ∷ tys)
     (read : Contains (reads (erased_op (Do to act (p ∷ others) removes))) p) (at : ℕ) (points : word_of_frame a.w p ≡ suc at)
     (whole : PointsToWhole T c a p) where
@@ -173,8 +173,8 @@ fields_first cells k low = omega (arith, low)
 
 -- ---- a field is loaded
 
-module _ {T : Setup} {g : ℕ} {c : Record} (x : Here T g c) (rests : c.side ≡ at_rest) (d k p at : ℕ) (removes : List ℕ)
-    (a : IsAt T.code c (Do (Some d) (action.Load k) (p ∷ []) removes)) (points : word_of_frame a.w p ≡ suc at)
+module _ {T : Setup} {g : ℕ} {c : Record} (x : Situation T g c) (rests : c.side ≡ at_rest) (d k p at : ℕ) (removes : List ℕ)
+    (a : IsAtOp T.code c (Do (Some d) (action.Load k) (p ∷ []) removes)) (points : word_of_frame a.w p ≡ suc at)
     (word : ℕ) (lies : IsFieldAt T c a p at k word) where
   load_types : (n : ℕ) × ((operands.rule x (Some d) (action.Load k) (p ∷ []) removes a).0 ≡ pointer_to n ∷ [])
   load_types = load_takes (erased T.code) (erased_fn a.fn) d k (operands.rule x (Some d) (action.Load k) (p ∷ []) removes a).0
@@ -225,7 +225,7 @@ module _ {T : Setup} {g : ℕ} {c : Record} (x : Here T g c) (rests : c.side ≡
       (contains_here p []) points (StructObject load_there.0) load_there.1 k load_there.2 load_there.3)
 
   pub load_steps : Steps x (slice_set x.words word (slice_index x.words word))
-      (acted T.code c a (Some d) (slice_index x.words word))
+      (acted_record T.code c a (Some d) (slice_index x.words word))
   load_steps = reads_word x rests d (action.Load k) (p ∷ []) removes a word load_there.2 load_does load_shows
       (load_law T.code (layout T) x.words (map memory_of x.recs) x.s
       (read_step x rests d (action.Load k) (p ∷ []) removes a word load_there.2 load_does load_shows).state
@@ -238,15 +238,15 @@ module _ {T : Setup} {g : ℕ} {c : Record} (x : Here T g c) (rests : c.side ≡
 
 pub load_move : LoadMove
 load_move T g c d k p at word removes a rests points lies =
-    moves_by T g c word (λ n. n) (λ n. acted T.code c a (Some d) n) (Gives T c a (Some d)) (λ n. refl)
+    moves_by T g c word (λ n. n) (λ n. acted_record T.code c a (Some d) n) (Gives T c a (Some d)) (λ n. refl)
     (λ x. let h = field_high T c a p at k word lies in omega (arith, h))
     (λ x small. load_steps x rests d k p at removes a points word lies)
     (λ x. (refl, load_points x rests d k p at removes a points word lies))
 
 -- ---- the length of a slice is loaded
 
-module _ {T : Setup} {g : ℕ} {c : Record} (x : Here T g c) (rests : c.side ≡ at_rest) (d p at : ℕ) (removes : List ℕ)
-    (a : IsAt T.code c (Do (Some d) action.Len (p ∷ []) removes)) (points : word_of_frame a.w p ≡ suc at) where
+module _ {T : Setup} {g : ℕ} {c : Record} (x : Situation T g c) (rests : c.side ≡ at_rest) (d p at : ℕ) (removes : List ℕ)
+    (a : IsAtOp T.code c (Do (Some d) action.Len (p ∷ []) removes)) (points : word_of_frame a.w p ≡ suc at) where
   len_types : (u : «Type») × ((operands.rule x (Some d) action.Len (p ∷ []) removes a).0 ≡ slice_of u ∷ [])
   len_types = len_takes (erased T.code) (erased_fn a.fn) d (operands.rule x (Some d) action.Len (p ∷ []) removes a).0
       (operands.rule x (Some d) action.Len (p ∷ []) removes a).2
@@ -282,7 +282,7 @@ module _ {T : Setup} {g : ℕ} {c : Record} (x : Here T g c) (rests : c.side ≡
       (contains_here p []) points (SliceObject slice_there.0) slice_there.1 0 long refl)
 
   pub len_steps : Steps x (slice_set x.words (base (layout T) + at) (slice_index x.words (base (layout T) + at)))
-      (acted T.code c a (Some d) (slice_index x.words (base (layout T) + at)))
+      (acted_record T.code c a (Some d) (slice_index x.words (base (layout T) + at)))
   len_steps = reads_word x rests d action.Len (p ∷ []) removes a (base (layout T) + at) long len_does len_shows
       (len_law T.code (layout T) x.words (map memory_of x.recs) x.s
       (read_step x rests d action.Len (p ∷ []) removes a (base (layout T) + at) long len_does len_shows).state
@@ -300,15 +300,15 @@ module _ {T : Setup} {g : ℕ} {c : Record} (x : Here T g c) (rests : c.side ≡
 
 pub len_move : LenMove
 len_move T g c d p at removes a rests points =
-    moves_by T g c (base (layout T) + at) (λ n. n) (λ n. acted T.code c a (Some d) n)
+    moves_by T g c (base (layout T) + at) (λ n. n) (λ n. acted_record T.code c a (Some d) n)
     (λ n e. Gives T c a (Some d) n e × LieInPages T at (slice_words T n)) (λ n. refl) (λ x. omega arith)
     (λ x small. len_steps x rests d p at removes a points)
     (λ x. ((refl, len_points x rests d p at removes a points), elements_lie x rests d p at removes a points))
 
 -- ---- the length of nil
 
-module _ {T : Setup} {g : ℕ} {c : Record} (x : Here T g c) (rests : c.side ≡ at_rest) (d p : ℕ) (removes : List ℕ)
-    (a : IsAt T.code c (Do (Some d) action.Len (p ∷ []) removes)) (nil : word_of_frame a.w p ≡ 0) where
+module _ {T : Setup} {g : ℕ} {c : Record} (x : Situation T g c) (rests : c.side ≡ at_rest) (d p : ℕ) (removes : List ℕ)
+    (a : IsAtOp T.code c (Do (Some d) action.Len (p ∷ []) removes)) (nil : word_of_frame a.w p ≡ 0) where
   nil_types : (u : «Type») × ((operands.rule x (Some d) action.Len (p ∷ []) removes a).0 ≡ slice_of u ∷ [])
   nil_types = len_takes (erased T.code) (erased_fn a.fn) d (operands.rule x (Some d) action.Len (p ∷ []) removes a).0
       (operands.rule x (Some d) action.Len (p ∷ []) removes a).2
@@ -349,8 +349,8 @@ len_nil_still T g c d p removes a rests nil =
 
 -- ---- a package variable is loaded
 
-module _ {T : Setup} {g : ℕ} {c : Record} (x : Here T g c) (rests : c.side ≡ at_rest) (d k : ℕ) (removes : List ℕ)
-    (a : IsAt T.code c (Do (Some d) (action.Get k) [] removes)) where
+module _ {T : Setup} {g : ℕ} {c : Record} (x : Situation T g c) (rests : c.side ≡ at_rest) (d k : ℕ) (removes : List ℕ)
+    (a : IsAtOp T.code c (Do (Some d) (action.Get k) [] removes)) where
   variable_there : (v : Value) × (slice_get x.s.plain.memory.variables k ≡ Some v)
   variable_there =
       let r = operands.rule x (Some d) (action.Get k) [] removes a in
@@ -373,7 +373,7 @@ module _ {T : Setup} {g : ℕ} {c : Record} (x : Here T g c) (rests : c.side ≡
       let l = (I x).frames.laid in omega (arith, y, l)))
 
   pub get_steps : Steps x (slice_set x.words (variable_at (layout T) k) (slice_index x.words (variable_at (layout T) k)))
-      (acted T.code c a (Some d) (slice_index x.words (variable_at (layout T) k)))
+      (acted_record T.code c a (Some d) (slice_index x.words (variable_at (layout T) k)))
   get_steps = reads_word x rests d (action.Get k) [] removes a (variable_at (layout T) k) variable_there.0 get_does get_shows
       (get_law T.code (layout T) x.words (map memory_of x.recs) x.s
       (read_step x rests d (action.Get k) [] removes a (variable_at (layout T) k) variable_there.0 get_does get_shows).state
@@ -393,13 +393,13 @@ module _ {T : Setup} {g : ℕ} {c : Record} (x : Here T g c) (rests : c.side ≡
 
 pub get_move : GetMove
 get_move T g c d k removes a rests =
-    moves_by T g c (variable_at (layout T) k) (λ n. n) (λ n. acted T.code c a (Some d) n) (Gives T c a (Some d)) (λ n. refl)
+    moves_by T g c (variable_at (layout T) k) (λ n. n) (λ n. acted_record T.code c a (Some d) n) (Gives T c a (Some d)) (λ n. refl)
     (λ x. omega arith) (λ x small. get_steps x rests d k removes a) (λ x. (refl, get_points x rests d k removes a))
 
 -- ---- a field is stored
 
-module _ {T : Setup} {g : ℕ} {c : Record} (x : Here T g c) (rests : c.side ≡ at_rest) (k p q at : ℕ) (removes : List ℕ)
-    (a : IsAt T.code c (Do None (action.Store k) (p ∷ q ∷ []) removes)) (points : word_of_frame a.w p ≡ suc at)
+module _ {T : Setup} {g : ℕ} {c : Record} (x : Situation T g c) (rests : c.side ≡ at_rest) (k p q at : ℕ) (removes : List ℕ)
+    (a : IsAtOp T.code c (Do None (action.Store k) (p ∷ q ∷ []) removes)) (points : word_of_frame a.w p ≡ suc at)
     (word : ℕ) (lies : IsFieldAt T c a p at k word) where
   store_types : (n : ℕ) × (t : «Type») × ((operands.rule x None (action.Store k) (p ∷ q ∷ []) removes a).0 ≡ pointer_to n ∷ t ∷ [])
   store_types = store_takes (erased T.code) (erased_fn a.fn) k (operands.rule x None (action.Store k) (p ∷ q ∷ []) removes a).0
@@ -463,7 +463,7 @@ module _ {T : Setup} {g : ℕ} {c : Record} (x : Here T g c) (rests : c.side ≡
       ∙ located_word x o (StructObject store_there.0) store_to.region store_stands at k word e ((I x).addressed o at store_to.at))
       lies
 
-  same_word : code_of (layout T) (I x).places v ≡ word_of_frame a.w q
+  same_word : word_of_value (layout T) (I x).places v ≡ word_of_frame a.w q
   same_word = word_is (I x).addresses (address (layout T) (I x).places.start) (I x).addressed v (word_of_frame a.w q)
       (operands.shown x None (action.Store k) (p ∷ q ∷ []) removes a q (contains_there p (q ∷ []) q (contains_here q [])))
 
@@ -490,7 +490,7 @@ module _ {T : Setup} {g : ℕ} {c : Record} (x : Here T g c) (rests : c.side ≡
       (λ (t : (j ≢ o) × (slice_get x.s.plain.memory.heap j ≡ Some (channel l))). t.1)
       (at_set x.s.plain.memory.heap o j object (channel l) is)
 
-  store_done : MakesQuietStep x words (acted T.code c a None 0)
+  store_done : MakesQuietStep x words (acted_record T.code c a None 0)
   store_done = performs x rests mem (operands.b x None (action.Store k) (p ∷ q ∷ []) removes a).h
       (after_action T.code c.frame a.w a.ws a.instr None 0) store_step words (suc c.clock.accesses)
       (length_set x.s.plain.memory.heap o object)
@@ -507,19 +507,19 @@ module _ {T : Setup} {g : ℕ} {c : Record} (x : Here T g c) (rests : c.side ≡
       store_stands
       low (λ cells e. absurd (struct_no_slice store_there.0 cells e)) (word_of_frame a.w q))
 
-  pub store_steps : Steps x (slice_set x.words word (word_of_frame a.w q)) (acted T.code c a None 0)
-  store_steps = inl (subst (λ n. MakesQuietStep x (slice_set x.words n (word_of_frame a.w q)) (acted T.code c a None 0)) store_index store_done)
+  pub store_steps : Steps x (slice_set x.words word (word_of_frame a.w q)) (acted_record T.code c a None 0)
+  store_steps = inl (subst (λ n. MakesQuietStep x (slice_set x.words n (word_of_frame a.w q)) (acted_record T.code c a None 0)) store_index store_done)
 
 pub store_move : StoreMove
 store_move T g c k p q at word removes a rests points lies =
-    access_law T g c word (λ n. word_of_frame a.w q) (λ n. acted T.code c a None 0)
+    access_law T g c word (λ n. word_of_frame a.w q) (λ n. acted_record T.code c a None 0)
     (let h = field_high T c a p at k word lies in omega (arith, h)) (λ n. refl)
     (λ x small. store_steps x rests k p q at removes a points word lies)
 
 -- ---- a package variable is stored
 
-module _ {T : Setup} {g : ℕ} {c : Record} (x : Here T g c) (rests : c.side ≡ at_rest) (k q : ℕ) (removes : List ℕ)
-    (a : IsAt T.code c (Do None (action.Set k) (q ∷ []) removes)) where
+module _ {T : Setup} {g : ℕ} {c : Record} (x : Situation T g c) (rests : c.side ≡ at_rest) (k q : ℕ) (removes : List ℕ)
+    (a : IsAtOp T.code c (Do None (action.Set k) (q ∷ []) removes)) where
   abbrev set_value : Value
   set_value = value_at (operands.b x None (action.Set k) (q ∷ []) removes a).frame q
 
@@ -531,7 +531,7 @@ module _ {T : Setup} {g : ℕ} {c : Record} (x : Here T g c) (rests : c.side ≡
       (slice_set (map frame_of x.recs) g (after_action T.code c.frame a.w a.ws a.instr None 0))
   set_step = operands.acts x None (action.Set k) (q ∷ []) removes a set_mem value.Nil 0 refl refl refl
 
-  set_word : code_of (layout T) (I x).places set_value ≡ word_of_frame a.w q
+  set_word : word_of_value (layout T) (I x).places set_value ≡ word_of_frame a.w q
   set_word = word_is (I x).addresses (address (layout T) (I x).places.start) (I x).addressed set_value (word_of_frame a.w q)
       (operands.shown x None (action.Set k) (q ∷ []) removes a q (contains_here q []))
 
@@ -545,17 +545,17 @@ module _ {T : Setup} {g : ℕ} {c : Record} (x : Here T g c) (rests : c.side ≡
       (I x).memory set_step.steps (operands.before x None (action.Set k) (q ∷ []) removes a (set_value ∷ []) refl))
 
   set_same : (j i : ℕ) (l : Chan) → On x.s j l → i < 2 + extent l.capacity
-      → slice_index set_words (word_of (place_at (layout T) (I x).places) (cell_place (layout T) (I x).places) j i)
-      ≡ slice_index x.words (word_of (place_at (layout T) (I x).places) (cell_place (layout T) (I x).places) j i)
+      → slice_index set_words (word_of_channel (place_at (layout T) (I x).places) (cell_place (layout T) (I x).places) j i)
+      ≡ slice_index x.words (word_of_channel (place_at (layout T) (I x).places) (cell_place (layout T) (I x).places) j i)
   set_same j i l on low =
       let y = channel_stands x.s j l on in
       let u = (I x).memory.lies.inside j i (channel l) y.0 y.1 (in_table T.sizes.page_words (channel l) i low) in
       let e = channel_word (layout T) x.words (map memory_of x.recs) x.s (I x).places (I x).memory j i l on low in
       let b = in_pages (layout T).pages ((I x).places.spot j i).page (layout T).page_words ((I x).places.spot j i).offset u.0 u.1 in
-      get_or-set_other x.words (variable_at (layout T) k) (word_of (place_at (layout T) (I x).places) (cell_place (layout T) (I x).places) j i) (word_of_frame a.w q) 0
+      get_or-set_other x.words (variable_at (layout T) k) (word_of_channel (place_at (layout T) (I x).places) (cell_place (layout T) (I x).places) j i) (word_of_frame a.w q) 0
       (λ w. omega (arith, e, b, w))
 
-  pub set_steps : Steps x set_words (acted T.code c a None 0)
+  pub set_steps : Steps x set_words (acted_record T.code c a None 0)
   set_steps = inl (performs x rests set_mem (operands.b x None (action.Set k) (q ∷ []) removes a).h
       (after_action T.code c.frame a.w a.ws a.instr None 0) set_step set_words (suc c.clock.accesses) refl
       (operands.as_deep x None (action.Set k) (q ∷ []) removes a 0) set_memory
@@ -570,5 +570,5 @@ module _ {T : Setup} {g : ℕ} {c : Record} (x : Here T g c) (rests : c.side ≡
 
 pub set_move : SetMove
 set_move T g c k q removes a rests =
-    access_law T g c (variable_at (layout T) k) (λ n. word_of_frame a.w q) (λ n. acted T.code c a None 0) (omega arith) (λ n. refl)
+    access_law T g c (variable_at (layout T) k) (λ n. word_of_frame a.w q) (λ n. acted_record T.code c a None 0) (omega arith) (λ n. refl)
     (λ x small. set_steps x rests k q removes a)

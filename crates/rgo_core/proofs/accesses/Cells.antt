@@ -22,8 +22,8 @@ use Rattle.rgo_sound.specs.Typed.declared.programs.Struct.{Struct}
 use Rattle.rgo_sound.specs.Typed.declared.types.Type.{«Type»}
 use Rattle.rgo_sound.specs.WellFormed.TypeRules.{chan_of, pointer_to, slice_of}
 use Rattle.rgo_core_channels.proofs.Positions.{page_low}
-use Rattle.rgo_core_frames.specs.Operands.{PointsTo}
-use Rattle.rgo_core_frames.specs.WordFrames.{word_at as word_of_frame}
+use Rattle.rgo_core_frames.specs.shown.Operands.{PointsTo}
+use Rattle.rgo_core_frames.specs.shown.WordFrames.{frame_word as word_of_frame}
 use Rattle.rgo_core_memory.specs.Encoding.{address}
 use Rattle.rgo_core_memory.specs.Ground.{IsLiveObject, ground_of}
 use Rattle.rgo_core_memory.specs.Image.{word_at}
@@ -32,9 +32,9 @@ use Rattle.rgo_core_memory.specs.Words.{all_words, base, cell_at}
 use Rattle.rgo_core_memory.proofs.objects.Addresses.{number_behind, one_address, word_inside}
 use Rattle.rgo_core_memory.proofs.image.Facts.{spread_follow}
 use Rattle.rgo_core_memory.proofs.objects.Spreads.{cell_in_table, spread_data}
-use Rattle.rgo_core.specs.Core.{Here, Setup, layout}
-use Rattle.rgo_core.specs.Links.{LeadsToSpread}
-use Rattle.rgo_core.specs.Next.{IsAt}
+use Rattle.rgo_core.specs.Core.{Situation, Setup, layout}
+use Rattle.rgo_core.specs.ties.Links.{LeadsToSpread}
+use Rattle.rgo_core.specs.Next.{IsAtOp}
 use Rattle.rgo_core.specs.Records.{Record, memory_of}
 use Rattle.rgo_core.proofs.image.Bounds.{as_many as kinds_many}
 use Rattle.rgo_core.proofs.steps.Operands as operands
@@ -55,7 +55,7 @@ first_has f p others (t ∷ rest) ty h has =
 -- ---- a spread object at this address, with this cell
 
 -- so many words are before its cells
-pub record HasCell {T : Setup} {g : ℕ} {c : Record} (x : Here T g c) (at cell before : ℕ) : Type 0 where
+pub record HasCell {T : Setup} {g : ℕ} {c : Record} (x : Situation T g c) (at cell before : ℕ) : Type 0 where
   pub object : ℕ
   pub other : Object
   pub region : Region
@@ -68,7 +68,7 @@ pub record HasCell {T : Setup} {g : ℕ} {c : Record} (x : Here T g c) (at cell 
 less_is : (m n : ℕ) → m < n → nat_lt m n ≡ true
 less_is m n l = grind (arith, nat_tests)
 
-module _ {T : Setup} {g : ℕ} {c : Record} (x : Here T g c) (at cell before : ℕ) (h : HasCell x at cell before) where
+module _ {T : Setup} {g : ℕ} {c : Record} (x : Situation T g c) (at cell before : ℕ) (h : HasCell x at cell before) where
   -- its page number, among those of the object
   pub number_low : cell / T.sizes.page_words < data_pages T.sizes.page_words h.other
   number_low =
@@ -148,8 +148,8 @@ module _ {T : Setup} {g : ℕ} {c : Record} (x : Here T g c) (at cell before : �
 
 -- ---- of a struct
 
-module _ {T : Setup} {g : ℕ} {c : Record} (x : Here T g c) (to : Option ℕ) (act : Action) (p : ℕ) (others removes : List ℕ)
-    (a : IsAt T.code c (Do to act (p ∷ others) removes)) (at : ℕ) (points : word_of_frame a.w p ≡ suc at) where
+module _ {T : Setup} {g : ℕ} {c : Record} (x : Situation T g c) (to : Option ℕ) (act : Action) (p : ℕ) (others removes : List ℕ)
+    (a : IsAtOp T.code c (Do to act (p ∷ others) removes)) (at : ℕ) (points : word_of_frame a.w p ≡ suc at) where
   module _ (s : LeadsToSpread T.code T.sizes.page_words a.fn p) (cell : ℕ) (low : cell < length s.struct.fields) where
     tys : (rest : List «Type») × ((operands.rule x to act (p ∷ others) removes a).0 ≡ pointer_to s.number ∷ rest)
     tys = first_has (erased_fn a.fn) p others (operands.rule x to act (p ∷ others) removes a).0 (pointer_to s.number)

@@ -25,11 +25,11 @@ use Rattle.rgo_sound.specs.Typed.declared.actions.Action.TheVariants as action
 use Rattle.rgo_sound.specs.Typed.declared.types.Type.{«Type»}
 use Rattle.rgo_sound.specs.WellFormed.TypeRules.{int, slice_of}
 use Rattle.rgo_core_frames.proofs.goroutines.Ending.{trap_law}
-use Rattle.rgo_core_frames.specs.WordFrames.{word_at as word_of_frame}
+use Rattle.rgo_core_frames.specs.shown.WordFrames.{frame_word as word_of_frame}
 use Rattle.rgo_core_memory.specs.Words.{base}
-use Rattle.rgo_core.specs.Core.{Here, Setup, layout}
-use Rattle.rgo_core.specs.ElementTraps.{AtTrapMove, HasNoElement, IsOutside, PutTrapMove}
-use Rattle.rgo_core.specs.Next.{IsAt}
+use Rattle.rgo_core.specs.Core.{Situation, Setup, layout}
+use Rattle.rgo_core.specs.moves.ElementTraps.{AtTrapMove, HasNoElement, IsOutside, PutTrapMove}
+use Rattle.rgo_core.specs.Next.{IsAtOp}
 use Rattle.rgo_core.specs.Records.{Record}
 use Rattle.rgo_core.proofs.accesses.Elements.{second_type}
 use Rattle.rgo_core.proofs.image.Encodings.{small_word}
@@ -62,8 +62,8 @@ no_put cells (negsuc n) v h = refl
 
 -- ---- the operands
 
-module _ {T : Setup} {g : ℕ} {c : Record} (x : Here T g c) (to : Option ℕ) (act : Action) (p q : ℕ) (others removes : List ℕ)
-    (a : IsAt T.code c (Do to act (p ∷ q ∷ others) removes)) (u : «Type») (tys : List «Type»)
+module _ {T : Setup} {g : ℕ} {c : Record} (x : Situation T g c) (to : Option ℕ) (act : Action) (p q : ℕ) (others removes : List ℕ)
+    (a : IsAtOp T.code c (Do to act (p ∷ q ∷ others) removes)) (u : «Type») (tys : List «Type»)
     (types_are : (operands.rule x to act (p ∷ q ∷ others) removes a).0 ≡ slice_of u ∷ int ∷ tys)
     (reads_slice : Contains (reads (erased_op (Do to act (p ∷ q ∷ others) removes))) p)
     (reads_index : Contains (reads (erased_op (Do to act (p ∷ q ∷ others) removes))) q) where
@@ -109,8 +109,8 @@ module _ {T : Setup} {g : ℕ} {c : Record} (x : Here T g c) (to : Option ℕ) (
 
 -- ---- a load
 
-module _ {T : Setup} {g : ℕ} {c : Record} (x : Here T g c) (d p q : ℕ) (removes : List ℕ)
-    (a : IsAt T.code c (Do (Some d) action.At (p ∷ q ∷ []) removes)) where
+module _ {T : Setup} {g : ℕ} {c : Record} (x : Situation T g c) (d p q : ℕ) (removes : List ℕ)
+    (a : IsAtOp T.code c (Do (Some d) action.At (p ∷ q ∷ []) removes)) where
   types_of : (u : «Type») × ((operands.rule x (Some d) action.At (p ∷ q ∷ []) removes a).0 ≡ slice_of u ∷ int ∷ [])
   types_of = slices.at_takes (erased T.code) (erased_fn a.fn) d (operands.rule x (Some d) action.At (p ∷ q ∷ []) removes a).0
       (operands.rule x (Some d) action.At (p ∷ q ∷ []) removes a).2
@@ -150,8 +150,8 @@ at_trap_move T g c d p q removes a rests none = by_ends T g c IndexRange a.instr
 
 -- ---- a store
 
-module _ {T : Setup} {g : ℕ} {c : Record} (x : Here T g c) (p q r : ℕ) (removes : List ℕ)
-    (a : IsAt T.code c (Do None action.Put (p ∷ q ∷ r ∷ []) removes)) where
+module _ {T : Setup} {g : ℕ} {c : Record} (x : Situation T g c) (p q r : ℕ) (removes : List ℕ)
+    (a : IsAtOp T.code c (Do None action.Put (p ∷ q ∷ r ∷ []) removes)) where
   put_types : (u : «Type») × ((operands.rule x None action.Put (p ∷ q ∷ r ∷ []) removes a).0 ≡ slice_of u ∷ int ∷ u ∷ [])
   put_types = slices.put_takes (erased T.code) (erased_fn a.fn) (operands.rule x None action.Put (p ∷ q ∷ r ∷ []) removes a).0
       (operands.rule x None action.Put (p ∷ q ∷ r ∷ []) removes a).2

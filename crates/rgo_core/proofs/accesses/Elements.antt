@@ -25,26 +25,26 @@ use Rattle.rgo_sound.specs.WellFormed.TypeRules.{int, slice_of}
 use Rattle.rgo_core_channels.specs.Channels.{Chan, IsChan, channel}
 use Rattle.rgo_core_channels.specs.Records.{at_rest}
 use Rattle.rgo_core_channels.proofs.Lists.{set_own}
-use Rattle.rgo_core_frames.specs.Actions.{after_action}
-use Rattle.rgo_core_frames.specs.Operands.{PointsTo}
-use Rattle.rgo_core_frames.specs.Steps.{HasInstruction}
-use Rattle.rgo_core_frames.specs.WordFrames.{word_at as word_of_frame}
-use Rattle.rgo_core_frames.specs.Words.{Shows}
+use Rattle.rgo_core_frames.specs.steps.Actions.{after_action}
+use Rattle.rgo_core_frames.specs.shown.Operands.{PointsTo}
+use Rattle.rgo_core_frames.specs.steps.Bookkept.{HasInstruction}
+use Rattle.rgo_core_frames.specs.shown.WordFrames.{frame_word as word_of_frame}
+use Rattle.rgo_core_frames.specs.shown.Words.{Shows}
 use Rattle.rgo_core_memory.specs.Accesses.{Before}
 use Rattle.rgo_core_memory.specs.Encoding.{address}
-use Rattle.rgo_core_memory.specs.Image.{StateImage, code_of, word_at}
+use Rattle.rgo_core_memory.specs.Image.{StateImage, word_of_value, word_at}
 use Rattle.rgo_core_memory.specs.Records.{Measured}
 use Rattle.rgo_core_memory.specs.Spread.{words_before}
 use Rattle.rgo_core_memory.specs.Words.{base}
 use Rattle.rgo_core_memory.proofs.image.Keeps.{measured_keeps}
 use Rattle.rgo_core_memory.proofs.Rows.{at_set, set_else}
 use Rattle.rgo_core_memory.proofs.accesses.Typing.{at_law, put_law}
-use Rattle.rgo_core.specs.Accesses.{AtMove, IsElementAt, IsInSlice, IsWhole, MeasureMove, PutMove, measures}
+use Rattle.rgo_core.specs.moves.Cells.{AtMove, IsElementAt, IsInSlice, IsWhole, MeasureMove, PutMove, measures}
 use Rattle.rgo_core_memory.proofs.objects.Spreads.{whole_of}
-use Rattle.rgo_core.specs.Bounds.{Gives, LieInPages, Points, slice_words, target_type}
-use Rattle.rgo_core.specs.Core.{Here, Setup, layout}
-use Rattle.rgo_core.specs.Links.{IsAtElement}
-use Rattle.rgo_core.specs.Next.{IsAt, acted}
+use Rattle.rgo_core.specs.ties.Bounds.{Gives, LieInPages, Points, slice_words, target_type}
+use Rattle.rgo_core.specs.Core.{Situation, Setup, layout}
+use Rattle.rgo_core.specs.ties.Links.{IsAtElement}
+use Rattle.rgo_core.specs.Next.{IsAtOp, acted_record}
 use Rattle.rgo_core.specs.Records.{Record, frame_of, memory_of, steps_of}
 use Rattle.rgo_core.specs.Steps.{MakesQuietStep, MakesNoStep, Steps}
 use Rattle.rgo_core.proofs.accesses.Accesses.{read_points, read_step, reads_word}
@@ -63,7 +63,7 @@ use Rattle.rgo_core.proofs.new_objects.MakesObject.{slice_no_channel}
 
 -- ---- a length is read
 
-module _ {T : Setup} {g : ℕ} {c : Record} (x : Here T g c) (at : ℕ) (here : IsAtElement T.code c at) where
+module _ {T : Setup} {g : ℕ} {c : Record} (x : Situation T g c) (at : ℕ) (here : IsAtElement T.code c at) where
   abbrev found : ℕ
   found = slice_index x.words (base (layout T) + at)
 
@@ -116,8 +116,8 @@ second_type f p q from operands t u tys e h =
     second_is (slice_get f.variables p) (slice_get f.variables q) (Some t) (Some u) (map (slice_get f.variables) from) (map Some tys)
     (h ∙ ap (map Some) e)
 
-module _ {T : Setup} {g : ℕ} {c : Record} (x : Here T g c) (to : Option ℕ) (act : Action) (p q : ℕ) (others removes : List ℕ)
-    (a : IsAt T.code c (Do to act (p ∷ q ∷ others) removes)) (u : «Type») (tys : List «Type»)
+module _ {T : Setup} {g : ℕ} {c : Record} (x : Situation T g c) (to : Option ℕ) (act : Action) (p q : ℕ) (others removes : List ℕ)
+    (a : IsAtOp T.code c (Do to act (p ∷ q ∷ others) removes)) (u : «Type») (tys : List «Type»)
     (types_are : (operands.rule x to act (p ∷ q ∷ others) removes a).0 ≡ slice_of u ∷ int ∷ tys)
     (reads_slice : Contains (reads (erased_op (Do to act (p ∷ q ∷ others) removes))) p)
     (reads_index : Contains (reads (erased_op (Do to act (p ∷ q ∷ others) removes))) q)
@@ -177,8 +177,8 @@ module _ {T : Setup} {g : ℕ} {c : Record} (x : Here T g c) (to : Option ℕ) (
 
 -- ---- an element is loaded
 
-module _ {T : Setup} {g : ℕ} {c : Record} (x : Here T g c) (rests : c.side ≡ at_rest) (d p q at : ℕ) (removes : List ℕ)
-    (a : IsAt T.code c (Do (Some d) action.At (p ∷ q ∷ []) removes)) (points : word_of_frame a.w p ≡ suc at)
+module _ {T : Setup} {g : ℕ} {c : Record} (x : Situation T g c) (rests : c.side ≡ at_rest) (d p q at : ℕ) (removes : List ℕ)
+    (a : IsAtOp T.code c (Do (Some d) action.At (p ∷ q ∷ []) removes)) (points : word_of_frame a.w p ≡ suc at)
     (inside : IsInSlice c at (word_of_frame a.w q)) (word : ℕ)
     (lies : IsElementAt T c at (word_of_frame a.w q) inside word) where
   at_types : (u : «Type») × ((operands.rule x (Some d) action.At (p ∷ q ∷ []) removes a).0 ≡ slice_of u ∷ int ∷ [])
@@ -236,7 +236,7 @@ module _ {T : Setup} {g : ℕ} {c : Record} (x : Here T g c) (rests : c.side ≡
       reads_p points (SliceObject at_cells) at_there (suc i) element.0 element.1)
 
   pub at_steps : Steps x (slice_set x.words word (slice_index x.words word))
-      (acted T.code c a (Some d) (slice_index x.words word))
+      (acted_record T.code c a (Some d) (slice_index x.words word))
   at_steps = reads_word x rests d action.At (p ∷ q ∷ []) removes a word element.0 at_does at_shows
       (at_law T.code (layout T) x.words (map memory_of x.recs) x.s
       (read_step x rests d action.At (p ∷ q ∷ []) removes a word element.0 at_does at_shows).state
@@ -251,7 +251,7 @@ module _ {T : Setup} {g : ℕ} {c : Record} (x : Here T g c) (rests : c.side ≡
 
 pub at_move : AtMove
 at_move T g c d p q at word removes a rests points inside lies =
-    moves_by T g c word (λ n. n) (λ n. acted T.code c a (Some d) n) (Gives T c a (Some d)) (λ n. refl)
+    moves_by T g c word (λ n. n) (λ n. acted_record T.code c a (Some d) n) (Gives T c a (Some d)) (λ n. refl)
     (λ x. let h = element_high T c at (word_of_frame a.w q) inside word lies in omega (arith, h))
     (λ x small. at_steps x rests d p q at removes a points inside word lies)
     (λ x. (refl, at_points x rests d p q at removes a points inside word lies))
@@ -270,8 +270,8 @@ put_here cells i v low = by (nat_lt i (length cells)) (grind (arith, nat_tests))
 second_word : (cells : List Value) (others : List Value) (i : ℕ) → SliceObject cells ≡ SliceObject others → 0 ≢ suc i
 second_word cells others i same e = omega (arith, e)
 
-module _ {T : Setup} {g : ℕ} {c : Record} (x : Here T g c) (rests : c.side ≡ at_rest) (p q r at : ℕ) (removes : List ℕ)
-    (a : IsAt T.code c (Do None action.Put (p ∷ q ∷ r ∷ []) removes)) (points : word_of_frame a.w p ≡ suc at)
+module _ {T : Setup} {g : ℕ} {c : Record} (x : Situation T g c) (rests : c.side ≡ at_rest) (p q r at : ℕ) (removes : List ℕ)
+    (a : IsAtOp T.code c (Do None action.Put (p ∷ q ∷ r ∷ []) removes)) (points : word_of_frame a.w p ≡ suc at)
     (inside : IsInSlice c at (word_of_frame a.w q)) (word : ℕ)
     (lies : IsElementAt T c at (word_of_frame a.w q) inside word) where
   abbrev from : List ℕ
@@ -342,7 +342,7 @@ module _ {T : Setup} {g : ℕ} {c : Record} (x : Here T g c) (rests : c.side ≡
   put_word : word_at (layout T) (I x).places o (suc k) ≡ word
   put_word = word_is_at x None action.Put p q (r ∷ []) removes a put_types.0 (put_types.0 ∷ []) put_types.1 puts_p puts_q at points inside word lies
 
-  same_word : code_of (layout T) (I x).places v ≡ word_of_frame a.w r
+  same_word : word_of_value (layout T) (I x).places v ≡ word_of_frame a.w r
   same_word = word_is (I x).addresses (address (layout T) (I x).places.start) (I x).addressed v (word_of_frame a.w r)
       (operands.shown x None action.Put from removes a r
       (contains_there p (q ∷ r ∷ []) r (contains_there q (r ∷ []) r (contains_here r []))))
@@ -370,7 +370,7 @@ module _ {T : Setup} {g : ℕ} {c : Record} (x : Here T g c) (rests : c.side ≡
       (λ (t : (j ≢ o) × (slice_get x.s.plain.memory.heap j ≡ Some (channel l))). t.1)
       (at_set x.s.plain.memory.heap o j object (channel l) is)
 
-  put_done : MakesQuietStep x words (acted T.code c a None 0)
+  put_done : MakesQuietStep x words (acted_record T.code c a None 0)
   put_done = performs x rests mem (operands.b x None action.Put from removes a).h
       (after_action T.code c.frame a.w a.ws a.instr None 0) put_step words (suc c.clock.accesses)
       (length_set x.s.plain.memory.heap o object)
@@ -387,11 +387,11 @@ module _ {T : Setup} {g : ℕ} {c : Record} (x : Here T g c) (rests : c.side ≡
       stands_there : Rattle.rgo_core_memory.specs.Ground.IsLiveObject x.s.plain.memory.heap x.s.owners x.s.regions o (SliceObject put_cells) put_to.region
       stands_there = slices.slice_stands x None action.Put p (q ∷ r ∷ []) removes a put_types.0 (int ∷ put_types.0 ∷ []) put_types.1 puts_p at points
 
-  pub put_steps : Steps x (slice_set x.words word (word_of_frame a.w r)) (acted T.code c a None 0)
-  put_steps = inl (subst (λ n. MakesQuietStep x (slice_set x.words n (word_of_frame a.w r)) (acted T.code c a None 0)) put_word put_done)
+  pub put_steps : Steps x (slice_set x.words word (word_of_frame a.w r)) (acted_record T.code c a None 0)
+  put_steps = inl (subst (λ n. MakesQuietStep x (slice_set x.words n (word_of_frame a.w r)) (acted_record T.code c a None 0)) put_word put_done)
 
 pub put_move : PutMove
 put_move T g c p q r at word removes a rests points inside lies =
-    access_law T g c word (λ n. word_of_frame a.w r) (λ n. acted T.code c a None 0)
+    access_law T g c word (λ n. word_of_frame a.w r) (λ n. acted_record T.code c a None 0)
     (let h = element_high T c at (word_of_frame a.w q) inside word lies in omega (arith, h))
     (λ n. refl) (λ x small. put_steps x rests p q r at removes a points inside word lies)

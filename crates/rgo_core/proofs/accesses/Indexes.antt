@@ -12,14 +12,14 @@ use Rattle.rgo_sound.specs.Typed.declared.programs.Struct.{Struct}
 use Rattle.rgo_sound.specs.Typed.declared.types.Type.{«Type»}
 use Rattle.rgo_sound.specs.WellFormed.TypeRules.{HasField, int, pointer_to, slice_of}
 use Rattle.rgo_core_channels.proofs.Lists.{set_own}
-use Rattle.rgo_core_frames.specs.WordFrames.{word_at as word_of_frame}
+use Rattle.rgo_core_frames.specs.shown.WordFrames.{frame_word as word_of_frame}
 use Rattle.rgo_core_memory.specs.Records.{Located}
 use Rattle.rgo_core_memory.specs.Words.{all_words, base, cell_at}
 use Rattle.rgo_core_memory.proofs.image.Keeps.{located_keeps}
-use Rattle.rgo_core.specs.Accesses.{IndexMove, IsAtSpread, IsInSlice, IsSpreadOut, LoadsElement, LoadsField, StoresElement, StoresField, locates}
-use Rattle.rgo_core.specs.Core.{Here, Setup, layout}
-use Rattle.rgo_core.specs.Links.{IsAtCell, LeadsToSpread, OfSlice, OfStruct, is_on_cell}
-use Rattle.rgo_core.specs.Next.{IsAt}
+use Rattle.rgo_core.specs.moves.Cells.{IndexMove, IsAtSpread, IsInSlice, IsSpreadOut, LoadsElement, LoadsField, StoresElement, StoresField, locates}
+use Rattle.rgo_core.specs.Core.{Situation, Setup, layout}
+use Rattle.rgo_core.specs.ties.Links.{IsAtCell, LeadsToSpread, OfSlice, OfStruct, is_on_cell}
+use Rattle.rgo_core.specs.Next.{IsAtOp}
 use Rattle.rgo_core.specs.Records.{Record, memory_of, steps_of}
 use Rattle.rgo_core.specs.Steps.{MakesNoStep, Steps}
 use Rattle.rgo_core.proofs.accesses.Cells as cells
@@ -53,14 +53,14 @@ field_stored code f k operands (n, t, are, has) = record { number = n; ty = t; o
 
 -- ---- the cell before which the record is
 
-module _ {T : Setup} {g : ℕ} {c : Record} (x : Here T g c) (at cell : ℕ) where
+module _ {T : Setup} {g : ℕ} {c : Record} (x : Situation T g c) (at cell : ℕ) where
   -- a spread object with the cell; whatever the page number is there, it is that of the cell's page
   abbrev IsThere : ℕ → Type 0
   IsThere before = HasCell x at cell before
       × ((page : ℕ) → slice_index x.words (base (layout T) + (at + (before + cell / T.sizes.page_words))) ≡ suc page
       → (d : Record) → d.frame ≡ c.frame → IsAtCell T.code (layout T) x.words d at cell page)
 
-  module _ (to : Option ℕ) (act : Action) (p : ℕ) (others removes : List ℕ) (a : IsAt T.code c (Do to act (p ∷ others) removes))
+  module _ (to : Option ℕ) (act : Action) (p : ℕ) (others removes : List ℕ) (a : IsAtOp T.code c (Do to act (p ∷ others) removes))
       (on : is_on_cell act ≡ true) (points : word_of_frame a.w p ≡ suc at) where
     -- a field that the struct has by its types
     of_struct : (s : LeadsToSpread T.code T.sizes.page_words a.fn p)
@@ -108,7 +108,7 @@ module _ {T : Setup} {g : ℕ} {c : Record} (x : Here T g c) (at cell : ℕ) whe
         high : T.sizes.page_words ≤ slice_index x.words (base (layout T) + at)
         high = let l = long in omega (arith, l, large)
 
-is_there : {T : Setup} {g : ℕ} {c : Record} (x : Here T g c) (at before cell : ℕ) → IsAtSpread T c at before cell → IsThere x at cell before
+is_there : {T : Setup} {g : ℕ} {c : Record} (x : Situation T g c) (at before cell : ℕ) → IsAtSpread T c at before cell → IsThere x at cell before
 is_there {T} x at before cell (LoadsField d k p removes a points s none its) =
     subst (IsThere x at cell) (sym none)
     (of_struct x at cell (Some d) (action.Load k) p [] removes a refl points s
@@ -136,7 +136,7 @@ is_there {T} x at before cell (StoresElement p q r removes a points inside large
 
 -- ---- the page number is read
 
-module _ {T : Setup} {g : ℕ} {c : Record} (x : Here T g c) (at before cell : ℕ) (here : IsAtSpread T c at before cell) where
+module _ {T : Setup} {g : ℕ} {c : Record} (x : Situation T g c) (at before cell : ℕ) (here : IsAtSpread T c at before cell) where
   abbrev h : HasCell x at cell before
   h = (is_there x at before cell here).0
 

@@ -12,8 +12,8 @@ use Rattle.rgo_sound.specs.RegionMachine.States.{Duty, top_names}
 use Rattle.rgo_sound.specs.RegionMachine.declared.regions.Region.{Region}
 use Rattle.rgo_sound.specs.Typed.declared.actions.Action.{Action}
 use Rattle.rgo_sound.specs.Typed.declared.actions.Action.TheVariants as action
-use Rattle.rgo_core_frames.specs.Records.{Rec as FrameRec}
-use Rattle.rgo_core_frames.specs.WordFrames.{WordFrame, bare}
+use Rattle.rgo_core_frames.specs.Records.{FramesRec as FrameRec}
+use Rattle.rgo_core_frames.specs.shown.WordFrames.{WordFrame, bare}
 use Rattle.rgo_sound.proofs.Places.{get_snoc, head_is}
 use Rattle.rgo_core_memory.specs.Ground.{IsLiveObject, ground_of}
 use Rattle.rgo_core_memory.specs.Image.{StateImage, word_at}
@@ -28,9 +28,9 @@ use Rattle.rgo_core_memory.proofs.pages.Owing.{still_claimed}
 use Rattle.rgo_core_memory.proofs.Rows.{at_set}
 use Rattle.rgo_core_memory.proofs.objects.Spreads.{in_table}
 use Rattle.rgo_core_memory.proofs.accesses.Storing.{loads}
-use Rattle.rgo_core.specs.Core.{Here, Setup, layout}
-use Rattle.rgo_core.specs.Links.{BeforeLoad, BeforeStore, Finds, IsAtCell, IsAtElement, IsMakingIn, StillMeasured, Link, Links, OfSlice, OfStruct, is_on_cell, left_to_free, slot_number}
-use Rattle.rgo_core.specs.Next.{IsAt}
+use Rattle.rgo_core.specs.Core.{Situation, Setup, layout}
+use Rattle.rgo_core.specs.ties.Links.{BeforeLoad, BeforeStore, Finds, IsAtCell, IsAtElement, IsMakingIn, StillMeasured, Link, Links, OfSlice, OfStruct, is_on_cell, left_to_free, slot_number}
+use Rattle.rgo_core.specs.Next.{IsAtOp}
 use Rattle.rgo_core.specs.Records.{Record, memory_of, steps_of}
 use Rattle.rgo_core.proofs.accesses.Cells as cells
 use Rattle.rgo_core.proofs.accesses.PageNumbers.{same_numbers}
@@ -42,7 +42,7 @@ use Rattle.rgo_core.proofs.pages.Unreserved.{none_in}
 
 -- it is before no access to a cell
 abbrev pub IsNowhere : Code → Record → Type 0
-IsNowhere code c = (to : Option ℕ) (act : Action) (from removes : List ℕ) → IsAt code c (Do to act from removes) → is_on_cell act ≡ false
+IsNowhere code c = (to : Option ℕ) (act : Action) (from removes : List ℕ) → IsAtOp code c (Do to act from removes) → is_on_cell act ≡ false
 
 no_element : (code : Code) (c : Record) → IsNowhere code c → (at : ℕ) → IsAtElement code c at → ⊥
 no_element code c out at (BeforeLoad d p q removes a points) = true≢false (out (Some d) action.At (p ∷ q ∷ []) removes a)
@@ -56,7 +56,7 @@ no_cell code z words c out at cell page (OfSlice to act p others removes a on po
     true≢false (sym on ∙ out to act (p ∷ others) removes a)
 
 -- a record with the same frames is where it was
-abbrev pub at_same : (code : Code) (c d : Record) {op : CodeOp} → d.frame ≡ c.frame → IsAt code c op → IsAt code d op
+abbrev pub at_same : (code : Code) (c d : Record) {op : CodeOp} → d.frame ≡ c.frame → IsAtOp code c op → IsAtOp code d op
 at_same code c d same a = record {
   w = a.w;
   ws = a.ws;
@@ -85,11 +85,11 @@ same_making code z c d slot same m = record {
 }
 
 -- a record is at one instruction
-module _ (code : Code) (c : Record) {op : CodeOp} (a : IsAt code c op) where
-  frame_one : {other : CodeOp} (b : IsAt code c other) → b.w ≡ a.w
+module _ (code : Code) (c : Record) {op : CodeOp} (a : IsAtOp code c op) where
+  frame_one : {other : CodeOp} (b : IsAtOp code c other) → b.w ≡ a.w
   frame_one b = head_is b.w a.w b.ws a.ws (sym b.frames ∙ a.frames)
 
-  instr_one : {other : CodeOp} (b : IsAt code c other) → b.instr ≡ a.instr
+  instr_one : {other : CodeOp} (b : IsAtOp code c other) → b.instr ≡ a.instr
   instr_one b = same_Some b.instr a.instr (sym b.cur ∙ (ap (λ (y : WordFrame). current code (bare y)) (frame_one b) ∙ a.cur))
 
   -- the region in which it makes an object
@@ -163,9 +163,9 @@ length_in_table page_words (Channel capacity queue closed) elements e = absurd (
 
 -- ---- links after an access
 
-module _ {T : Setup} {g : ℕ} {c : Record} (x : Here T g c) where
+module _ {T : Setup} {g : ℕ} {c : Record} (x : Situation T g c) where
   -- the same state from another goroutine
-  abbrev other : (j : ℕ) (e : Record) → slice_get x.recs j ≡ Some e → Here T j e
+  abbrev other : (j : ℕ) (e : Record) → slice_get x.recs j ≡ Some e → Situation T j e
   other j e is = record { words = x.words; recs = x.recs; events = x.events; s = x.s; core = x.core; is_c = is }
 
   abbrev pub FixedStay : List ℕ → Type 0
@@ -179,7 +179,7 @@ module _ {T : Setup} {g : ℕ} {c : Record} (x : Here T g c) where
   -- ---- reserved pages
 
   -- none before an instruction that makes no object
-  pub makes_none : {op : CodeOp} (a : IsAt T.code c op)
+  pub makes_none : {op : CodeOp} (a : IsAtOp T.code c op)
       → making_region (code_function T.code a.w.function) (top_names c.frame.holder.environments) op ≡ None → c.memory.reserved.pages ≡ []
   makes_none a none = none_in c.memory.reserved.pages (λ some.
       let m = (x.core.links g c x.is_c).reserved some in
@@ -198,7 +198,7 @@ module _ {T : Setup} {g : ℕ} {c : Record} (x : Here T g c) where
       no_duty e = cc e
 
   -- some are of the slot of the region in which its next instruction makes an object
-  pub slot_made : {op : CodeOp} (a : IsAt T.code c op) (by_slot : Region)
+  pub slot_made : {op : CodeOp} (a : IsAtOp T.code c op) (by_slot : Region)
       → making_region (code_function T.code a.w.function) (top_names c.frame.holder.environments) a.instr.op ≡ Some by_slot
       → 0 < length c.memory.reserved.pages → c.memory.reserved.slot ≡ slot_number (layout T) by_slot
   slot_made a by_slot making some =
@@ -454,7 +454,7 @@ module _ {T : Setup} {g : ℕ} {c : Record} (x : Here T g c) where
         not_fixed at same i z (Number high) = let l = ap words_of same in omega (arith, low, high, z, l)
 
 -- a word of a channel, which memory shows as before
-pub links_beside : {T : Setup} {g : ℕ} {c : Record} (x : Here T g c) (i v : ℕ) (recs : List MemoryRec)
+pub links_beside : {T : Setup} {g : ℕ} {c : Record} (x : Situation T g c) (i v : ℕ) (recs : List MemoryRec)
     → StateImage (layout T) (slice_set x.words i v) recs x.s (I x).places → base (layout T) ≤ i
     → (d : Record) → Keeps c d → Advances T.code c d → Links T.code (layout T) (slice_set x.words i v) (slice_set x.recs g d)
 links_beside x i v recs M high = links_with x (slice_set x.words i v) (fixed_shown x (slice_set x.words i v) recs M) (claims_high x i v high)
@@ -467,7 +467,7 @@ act_is to to' act act' from from' removes removes' e = cc e
 
 module _ (code : Code) (c : Record) (w : WordFrame) (ws : List WordFrame) (frames : c.frame.frames ≡ w ∷ ws) (instr : CodeInstr)
     (cur : current code (bare w) ≡ Some instr) (to : Option ℕ) (from removes : List ℕ) (is : instr.op ≡ Do to action.Send from removes) where
-  instr_is : {op : CodeOp} (a : IsAt code c op) → a.instr ≡ instr
+  instr_is : {op : CodeOp} (a : IsAtOp code c op) → a.instr ≡ instr
   instr_is a =
       let f : a.w ≡ w = head_is a.w w a.ws ws (sym a.frames ∙ frames) in
       same_Some a.instr instr (sym a.cur ∙ (ap (λ (y : WordFrame). current code (bare y)) f ∙ cur))

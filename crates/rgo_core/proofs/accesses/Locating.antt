@@ -8,16 +8,16 @@ use Rattle.rgo_core_memory.specs.Ground.{IsLiveObject}
 use Rattle.rgo_core_memory.specs.Image.{word_at}
 use Rattle.rgo_core_memory.specs.Spread.{words_before}
 use Rattle.rgo_core_memory.specs.Words.{base, cell_at}
-use Rattle.rgo_core.specs.Accesses.{IsElementAt, IsFieldAt, IsInSlice, IsLocated}
-use Rattle.rgo_core.specs.Core.{Here, Setup, layout}
-use Rattle.rgo_core.specs.Links.{IsAtCell, OfSlice, OfStruct}
-use Rattle.rgo_core.specs.Next.{IsAt}
+use Rattle.rgo_core.specs.moves.Cells.{IsElementAt, IsFieldAt, IsInSlice, IsLocated}
+use Rattle.rgo_core.specs.Core.{Situation, Setup, layout}
+use Rattle.rgo_core.specs.ties.Links.{IsAtCell, OfSlice, OfStruct}
+use Rattle.rgo_core.specs.Next.{IsAtOp}
 use Rattle.rgo_core.specs.Records.{Record}
 use Rattle.rgo_core.proofs.accesses.Cells as cells
 use Rattle.rgo_core.proofs.accesses.Cells.{HasCell}
 use Rattle.rgo_core.proofs.image.Parts.{I}
 
-module _ {T : Setup} {g : ℕ} {c : Record} (x : Here T g c) (o : ℕ) (object : Object) (r : Region)
+module _ {T : Setup} {g : ℕ} {c : Record} (x : Situation T g c) (o : ℕ) (object : Object) (r : Region)
     (stands : IsLiveObject x.s.plain.memory.heap x.s.owners x.s.regions o object r) where
   -- a cell of the object at its address
   meets : (at cell before page : ℕ) (h : HasCell x at cell before)
@@ -49,7 +49,7 @@ module _ {T : Setup} {g : ℕ} {c : Record} (x : Here T g c) (o : ℕ) (object :
 located_high : (T : Setup) (c : Record) (at cell word : ℕ) → IsLocated T c at cell word → base (layout T) ≤ word
 located_high T c at cell word l = let e = l.at in omega (arith, e)
 
-pub field_high : (T : Setup) (c : Record) {op : CodeOp} (a : IsAt T.code c op) (p at k word : ℕ) → IsFieldAt T c a p at k word
+pub field_high : (T : Setup) (c : Record) {op : CodeOp} (a : IsAtOp T.code c op) (p at k word : ℕ) → IsFieldAt T c a p at k word
     → base (layout T) ≤ word
 field_high T c a p at k word lies = ⊎_elim (λ t. let e = t.1 in omega (arith, e)) (λ l. located_high T c at k word l) lies
 

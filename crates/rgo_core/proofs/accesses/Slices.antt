@@ -21,16 +21,16 @@ use Rattle.rgo_sound.specs.Typed.declared.actions.Action.{Action}
 use Rattle.rgo_sound.specs.Typed.declared.actions.Action.TheVariants as action
 use Rattle.rgo_sound.specs.Typed.declared.types.Type.{«Type»}
 use Rattle.rgo_sound.specs.WellFormed.TypeRules.{chan_of, int, pointer_to, slice_of}
-use Rattle.rgo_core_frames.specs.Operands.{PointsTo}
-use Rattle.rgo_core_frames.specs.WordFrames.{word_at as word_of_frame}
+use Rattle.rgo_core_frames.specs.shown.Operands.{PointsTo}
+use Rattle.rgo_core_frames.specs.shown.WordFrames.{frame_word as word_of_frame}
 use Rattle.rgo_core_memory.specs.Ground.{IsLiveObject, ground_of}
 use Rattle.rgo_core_memory.specs.Image.{word_at}
 use Rattle.rgo_core_memory.specs.Words.{base}
 use Rattle.rgo_core_memory.proofs.accesses.Storing.{loads}
-use Rattle.rgo_core.specs.Bounds.{LieInPages, slice_words}
-use Rattle.rgo_core.specs.Core.{Here, Setup, layout}
-use Rattle.rgo_core.specs.Links.{BeforeLoad, BeforeStore, IsAtElement}
-use Rattle.rgo_core.specs.Next.{IsAt}
+use Rattle.rgo_core.specs.ties.Bounds.{LieInPages, slice_words}
+use Rattle.rgo_core.specs.Core.{Situation, Setup, layout}
+use Rattle.rgo_core.specs.ties.Links.{BeforeLoad, BeforeStore, IsAtElement}
+use Rattle.rgo_core.specs.Next.{IsAtOp}
 use Rattle.rgo_core.specs.Records.{Record, memory_of}
 use Rattle.rgo_core.proofs.image.Bounds.{lies_in, same_row}
 use Rattle.rgo_core.proofs.image.Contents.{content_fits}
@@ -41,8 +41,8 @@ use Rattle.rgo_core.proofs.image.Parts.{I}
 fits_small : (n : ℕ) → FitsSigned w64 (pos n) → n < 2 ^ 63
 fits_small n f = omega (arith, f.sfits)
 
-module _ {T : Setup} {g : ℕ} {c : Record} (x : Here T g c) (to : Option ℕ) (act : Action) (p : ℕ) (others removes : List ℕ)
-    (a : IsAt T.code c (Do to act (p ∷ others) removes)) (u : «Type») (tys : List «Type»)
+module _ {T : Setup} {g : ℕ} {c : Record} (x : Situation T g c) (to : Option ℕ) (act : Action) (p : ℕ) (others removes : List ℕ)
+    (a : IsAtOp T.code c (Do to act (p ∷ others) removes)) (u : «Type») (tys : List «Type»)
     (types_are : (operands.rule x to act (p ∷ others) removes a).0 ≡ slice_of u ∷ tys)
     (read : Contains (reads (erased_op (Do to act (p ∷ others) removes))) p) (at : ℕ) (points : word_of_frame a.w p ≡ suc at) where
   abbrev pub it : PointsTo (I x).addresses x.s (operands.b x to act (p ∷ others) removes a).h
@@ -118,7 +118,7 @@ pub put_takes : (code : Tac) (f : TacFn) (tys : List «Type») → DoFits code f
 put_takes code f tys fits = (fits.0, fits.1)
 
 -- a slice in a live region, whose first word is there
-pub record HasSlice {T : Setup} {g : ℕ} {c : Record} (x : Here T g c) (at : ℕ) : Type 0 where
+pub record HasSlice {T : Setup} {g : ℕ} {c : Record} (x : Situation T g c) (at : ℕ) : Type 0 where
   pub object : ℕ
   pub cells : List Value
   pub region : Region
@@ -126,7 +126,7 @@ pub record HasSlice {T : Setup} {g : ℕ} {c : Record} (x : Here T g c) (at : �
   pub first : word_at (layout T) (I x).places object 0 ≡ base (layout T) + at
   pub lies : LieInPages T at (slice_words T (slice_index x.words (base (layout T) + at)))
 
-pub at_slice : {T : Setup} {g : ℕ} {c : Record} (x : Here T g c) (at : ℕ) → IsAtElement T.code c at → HasSlice x at
+pub at_slice : {T : Setup} {g : ℕ} {c : Record} (x : Situation T g c) (at : ℕ) → IsAtElement T.code c at → HasSlice x at
 at_slice {T} x at (BeforeLoad d p q removes a points) =
     let u = at_takes (erased T.code) (erased_fn a.fn) d (operands.rule x (Some d) action.At (p ∷ q ∷ []) removes a).0
     (operands.rule x (Some d) action.At (p ∷ q ∷ []) removes a).2 in

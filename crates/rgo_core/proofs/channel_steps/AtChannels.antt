@@ -19,16 +19,16 @@ use Rattle.rgo_core_channels.specs.Channels.{Accepted, Calm, Chan, Offered, Offe
 use Rattle.rgo_core_channels.specs.Records.{Nowhere, Offering, Post}
 use Rattle.rgo_core_channels.specs.Standing.{IsAt as IsAtWord, Next}
 use Rattle.rgo_core_channels.proofs.Live.{first_type, operand_is_live}
-use Rattle.rgo_core_frames.specs.Operands.{PointsTo}
-use Rattle.rgo_core_frames.specs.Slots.{nameless}
+use Rattle.rgo_core_frames.specs.shown.Operands.{PointsTo}
+use Rattle.rgo_core_frames.specs.regions.Slots.{nameless}
 use Rattle.rgo_core_frames.specs.States.{AtInstruction}
-use Rattle.rgo_core_frames.specs.WordFrames.{bare}
+use Rattle.rgo_core_frames.specs.shown.WordFrames.{bare}
 use Rattle.rgo_core_frames.proofs.shown.Operands.{pointer_law}
 use Rattle.rgo_core_memory.specs.Words.{base}
-use Rattle.rgo_core.specs.AtChannels.{IsAtChannel, Operates}
-use Rattle.rgo_core.specs.Core.{Here, Setup, layout}
+use Rattle.rgo_core.specs.ties.AtChannels.{IsAtChannel, Operates}
+use Rattle.rgo_core.specs.Core.{Situation, Setup, layout}
 use Rattle.rgo_core_channels.specs.Positions.{place_at}
-use Rattle.rgo_core.specs.Next.{IsAt}
+use Rattle.rgo_core.specs.Next.{IsAtOp}
 use Rattle.rgo_core.specs.Records.{Record}
 use Rattle.rgo_core.proofs.image.Standing.{at_instruction, side_at}
 
@@ -46,7 +46,7 @@ pub same_operands : (to to' : Option ℕ) (from from' removes removes' : List �
     → Do to Send from removes ≡ Do to' Send from' removes' → from ≡ from'
 same_operands to to' from from' removes removes' e = cc
 
-module _ {T : Setup} {g : ℕ} {c : Record} (x : Here T g c) where
+module _ {T : Setup} {g : ℕ} {c : Record} (x : Situation T g c) where
   -- a record with an offer that the state does not have, or one at a channel
   holder_calm : (h : Offer) → nameless h ≡ NoOffer → (p : Phase) (o : ℕ) → OfferOf p g → h ≡ holder_offer o p → ⊥
   holder_calm h e Calm o own is = own
@@ -54,7 +54,7 @@ module _ {T : Setup} {g : ℕ} {c : Record} (x : Here T g c) where
   holder_calm h e (Accepted j) o own is = no_taken (ap nameless (sym is) ∙ e)
 
   -- it has no offer, as its frames say
-  pub calm : {op : CodeOp} → IsAt T.code c op → c.side.post ≡ Nowhere
+  pub calm : {op : CodeOp} → IsAtOp T.code c op → c.side.post ≡ Nowhere
   calm a = by c.side.post refl
     where
       by : (p : Post) → c.side.post ≡ p → c.side.post ≡ Nowhere

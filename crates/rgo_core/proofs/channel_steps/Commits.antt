@@ -31,12 +31,12 @@ use Rattle.rgo_core_channels.specs.Moments.{Gains}
 use Rattle.rgo_core_channels.specs.Records.{Locked, Read, Sized, Wrote, at_rest}
 use Rattle.rgo_core_channels.specs.Standing.{blank_of, passed_holder}
 use Rattle.rgo_core_channels.proofs.Buffers.{close_is, receive_is, send_is, zero_is}
-use Rattle.rgo_core_frames.specs.Actions.{acted as frames_acted}
+use Rattle.rgo_core_frames.specs.steps.Actions.{acted_records as frames_acted}
 use Rattle.rgo_core_frames.specs.Fits.{RecordsFit, ObjectsDiffer}
-use Rattle.rgo_core_frames.specs.Ints.{ValueFitsWord, ObjectIntsFit}
-use Rattle.rgo_core_frames.specs.Steps.{PerformsInstr}
-use Rattle.rgo_core_frames.specs.WordFrames.{word_at as word_of}
-use Rattle.rgo_core_frames.specs.Words.{Shows}
+use Rattle.rgo_core_frames.specs.shown.Ints.{ValueFitsWord, ObjectIntsFit}
+use Rattle.rgo_core_frames.specs.steps.Bookkept.{PerformsInstr}
+use Rattle.rgo_core_frames.specs.shown.WordFrames.{frame_word as word_of}
+use Rattle.rgo_core_frames.specs.shown.Words.{Shows}
 use Rattle.rgo_core_frames.proofs.steps.ActionSteps.{action_law}
 use Rattle.rgo_core_frames.proofs.shown.Showing.{zero_shows}
 use Rattle.rgo_core_memory.specs.Encoding.{address, content}
@@ -45,10 +45,10 @@ use Rattle.rgo_core_memory.specs.Image.{StateImage, word_at}
 use Rattle.rgo_core_memory.proofs.accesses.Accesses.{image_of}
 use Rattle.rgo_core_memory.proofs.regions.Attending.{same_held}
 use Rattle.rgo_core_memory.proofs.image.Channels.{requeued, untold}
-use Rattle.rgo_core.specs.AtChannels.{Operates, commits}
-use Rattle.rgo_core.specs.Bounds.{Points, target_type}
-use Rattle.rgo_core.specs.CommitMoves.{CloseMove, ReceiveMove, Receives, SendMove, ZeroMove}
-use Rattle.rgo_core.specs.Core.{Here, Setup, layout}
+use Rattle.rgo_core.specs.ties.AtChannels.{Operates, commits}
+use Rattle.rgo_core.specs.ties.Bounds.{Points, target_type}
+use Rattle.rgo_core.specs.moves.Commits.{CloseMove, ReceiveMove, Receives, SendMove, ZeroMove}
+use Rattle.rgo_core.specs.Core.{Situation, Setup, layout}
 use Rattle.rgo_core_channels.specs.Positions.{place_at}
 use Rattle.rgo_core.specs.Records.{Record, frame_of, memory_of, steps_of}
 use Rattle.rgo_core.specs.Steps.{MakesQuietStep}
@@ -59,7 +59,7 @@ use Rattle.rgo_core.proofs.image.Encodings.{shows_it, word_is}
 use Rattle.rgo_core.proofs.channel_steps.Leaving.{channel_stands}
 use Rattle.rgo_core.proofs.image.Parts.{adds_of, image_with, memory_stays, shallow}
 use Rattle.rgo_core.proofs.image.Standing.{side_at}
-use Rattle.rgo_core.specs.Moments.{moment}
+use Rattle.rgo_core.specs.ties.Moments.{moment}
 use Rattle.rgo_core.proofs.pages.Unreserved.{adds_nothing}
 use Rattle.rgo_core.proofs.accesses.Links.{CountsOne, all_kept, links_beside, one_later}
 use Rattle.rgo_core.proofs.goroutines.Counting.{instructed_counts}
@@ -71,7 +71,7 @@ told_same k z e zero = refl
 told_same k z e (suc zero) = ap (λ n. content (Channel n [] false) 1) e
 told_same k z e (suc (suc j)) = refl
 
-module _ {T : Setup} {g : ℕ} {c : Record} (x : Here T g c) {to : Option ℕ} {action : Action} {others : List ℕ} {at : ℕ}
+module _ {T : Setup} {g : ℕ} {c : Record} (x : Situation T g c) {to : Option ℕ} {action : Action} {others : List ℕ} {at : ℕ}
     (a : Operates T c to action others at) where
   abbrev its_type : «Type»
   its_type = destination_type (erased T.code) (here x a).before.frame to
@@ -194,7 +194,7 @@ module _ {T : Setup} {g : ℕ} {c : Record} (x : Here T g c) {to : Option ℕ} {
 
 -- ---- the four operations
 
-module _ {T : Setup} {g : ℕ} {c : Record} (x : Here T g c) {to : Option ℕ} {sent at : ℕ} (a : Operates T c to Send (sent ∷ []) at)
+module _ {T : Setup} {g : ℕ} {c : Record} (x : Situation T g c) {to : Option ℕ} {sent at : ℕ} (a : Operates T c to Send (sent ∷ []) at)
   where
     abbrev pub value_sent : Value
     value_sent = value_at (here x a).before.frame sent
@@ -229,7 +229,7 @@ kinds_made : (kinds : List «Type») (ty : «Type») (v : Value) (p : ℕ) → H
 kinds_made kinds ty v p h e =
     let k : HasKind kinds ty (value.Object p) = subst (HasKind kinds ty) e h in slice_get_within kinds p ty k.0
 
-module _ {T : Setup} {g : ℕ} {c : Record} (x : Here T g c) {to : Option ℕ} {at : ℕ} (a : Operates T c to Recv [] at) where
+module _ {T : Setup} {g : ℕ} {c : Record} (x : Situation T g c) {to : Option ℕ} {at : ℕ} (a : Operates T c to Recv [] at) where
   -- the word of a value of a queue shows it
   queue_shows : (o : ℕ) (k : Chan) (v : Value) (queue : List Value) → On x.s o k → k.queue ≡ v ∷ queue
       → Shows x.core.image.addresses v ((moment x).encode v)
@@ -297,7 +297,7 @@ zero_move T g c to at n size a hold sizing shut empty =
     moves_by T g c at (λ w. n) (λ w. commits a 0) (λ w d. d ≡ commits a 0) (λ w. refl) (λ x. high x (reached x a))
     (λ x small. inl (zero_does x a n size hold sizing shut empty)) (λ x. refl)
 
-module _ {T : Setup} {g : ℕ} {c : Record} (x : Here T g c) {to : Option ℕ} {at : ℕ} (a : Operates T c to Close [] at) where
+module _ {T : Setup} {g : ℕ} {c : Record} (x : Situation T g c) {to : Option ℕ} {at : ℕ} (a : Operates T c to Close [] at) where
   close_does : (n : ℕ) → c.side.hold ≡ Locked at n → closed_of n ≡ 0
       → MakesQuietStep x (slice_set x.words at (n + 2)) (commits a 0)
   close_does n hold shut =

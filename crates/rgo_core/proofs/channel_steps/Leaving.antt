@@ -17,7 +17,7 @@ use Rattle.rgo_core_memory.proofs.image.Facts.{differ}
 use Rattle.rgo_core_memory.proofs.objects.Spreads.{in_table}
 use Rattle.rgo_core_memory.proofs.Writes.{far}
 use Rattle.rgo_core.proofs.image.Standing.{word_high}
-use Rattle.rgo_core_channels.specs.Channels.{Chan, On, channel, word_of}
+use Rattle.rgo_core_channels.specs.Channels.{Chan, On, channel, word_of_channel}
 use Rattle.rgo_core_channels.specs.Controls.{extent}
 use Rattle.rgo_core_channels.specs.Positions.{Layout, cell_place, place_at}
 use Rattle.rgo_core_channels.proofs.Positions.{layout_is}
@@ -61,7 +61,7 @@ module _ (z : TableSizes) (words : List ℕ) (recs : List MemoryRec) (s : Region
 
   -- a word of a channel
   abbrev pub spot_of : ℕ → ℕ → ℕ
-  spot_of = word_of (place_at z places) (cell_place z places)
+  spot_of = word_of_channel (place_at z places) (cell_place z places)
 
   pub channel_word : (o j : ℕ) (k : Chan) → On s o k → j < 2 + extent k.capacity → spot_of o j ≡ word_at z places o j
   channel_word o j k on h = lie.words_are o j k on h

@@ -27,15 +27,15 @@ use Rattle.rgo_sound.specs.Types.{HasKind, HaveKinds}
 use Rattle.rgo_core_channels.specs.After.{after_meeting}
 use Rattle.rgo_core_channels.specs.Controls.{closed_of, count_of}
 use Rattle.rgo_core_channels.specs.Moments.{Gains}
-use Rattle.rgo_core_channels.specs.Records.{Locked, Offering, Read, Rec as SideRec, Sized, Wrote, at_rest, offering}
+use Rattle.rgo_core_channels.specs.Records.{Locked, Offering, Read, ChannelRec as SideRec, Sized, Wrote, at_rest, offering_record}
 use Rattle.rgo_core_channels.specs.Standing.{Next}
 use Rattle.rgo_core_channels.proofs.Meetings.{acknowledge_is, meet_is, offer_is}
-use Rattle.rgo_core_frames.specs.Actions.{after_action}
+use Rattle.rgo_core_frames.specs.steps.Actions.{after_action}
 use Rattle.rgo_core_frames.specs.Fits.{RecordsFit, RecordFits, IsPast, IsShown}
-use Rattle.rgo_core_frames.specs.Meetings.{acknowledged, offering as frame_offering}
-use Rattle.rgo_core_frames.specs.Shown.{FramesShow}
-use Rattle.rgo_core_frames.specs.WordFrames.{WordFrame, word_at as word_of}
-use Rattle.rgo_core_frames.specs.Words.{Shows}
+use Rattle.rgo_core_frames.specs.goroutines.Meetings.{acknowledged, offering as frame_offering}
+use Rattle.rgo_core_frames.specs.shown.Variables.{FramesShow}
+use Rattle.rgo_core_frames.specs.shown.WordFrames.{WordFrame, frame_word as word_of}
+use Rattle.rgo_core_frames.specs.shown.Words.{Shows}
 use Rattle.rgo_core_frames.proofs.goroutines.Offering.{acknowledge_law, meet_law, offer_law}
 use Rattle.rgo_core_frames.proofs.shown.Showing.{reads_show}
 use Rattle.rgo_core_frames.proofs.Standing.{reads_stand}
@@ -45,10 +45,10 @@ use Rattle.rgo_core_memory.specs.Image.{StateImage}
 use Rattle.rgo_core_memory.proofs.image.Quiets.{quiet_keeps}
 use Rattle.rgo_core_memory.proofs.image.Steadies.{map_back}
 use Rattle.rgo_core_memory.proofs.image.Stepped.{map_get}
-use Rattle.rgo_core.specs.AtChannels.{Operates, commits}
-use Rattle.rgo_core.specs.Bounds.{Points, target_type}
-use Rattle.rgo_core.specs.CommitMoves.{AcknowledgeMove, IsAtSend, MeetMove, OfferMove, Receives, acknowledges, offers}
-use Rattle.rgo_core.specs.Core.{Here, Setup, layout}
+use Rattle.rgo_core.specs.ties.AtChannels.{Operates, commits}
+use Rattle.rgo_core.specs.ties.Bounds.{Points, target_type}
+use Rattle.rgo_core.specs.moves.Commits.{AcknowledgeMove, IsAtSend, MeetMove, OfferMove, Receives, acknowledges, offers}
+use Rattle.rgo_core.specs.Core.{Situation, Setup, layout}
 use Rattle.rgo_core.specs.Records.{Record, counted, frame_of, memory_of, side_of, steps_of}
 use Rattle.rgo_core.specs.Steps.{MakesQuietStep}
 use Rattle.rgo_core.proofs.channel_steps.AtChannels.{Reaches, here, calm, next, object, place_is, points_to, reached, reaches, same_operands, standing_or_taken}
@@ -60,11 +60,11 @@ use Rattle.rgo_core.proofs.image.Encodings.{OperandsFit, operands_fit, word_is}
 use Rattle.rgo_core.proofs.new_objects.MakesObject.{type_alike}
 use Rattle.rgo_core.proofs.image.Parts.{adds_of, image_with, memory_stays, shallow}
 use Rattle.rgo_core.proofs.image.Standing.{frames_here, side_at}
-use Rattle.rgo_core.specs.Moments.{moment}
+use Rattle.rgo_core.specs.ties.Moments.{moment}
 use Rattle.rgo_core.proofs.accesses.Links.{CountsOne, IsElsewhere, all_kept, as_much, at_send, links_beside, makes_none, one_later, sends_none}
 use Rattle.rgo_core.proofs.steps.Lift.{moves_by}
 
-module _ {T : Setup} {g : ℕ} {c : Record} (x : Here T g c) where
+module _ {T : Setup} {g : ℕ} {c : Record} (x : Situation T g c) where
   -- the control of its channel is stored, as memory shows it
   control_written : {control : ℕ} → Reaches x control → (w : ℕ)
       → StateImage (layout T) (slice_set x.words control w) (map memory_of x.recs) x.s x.core.image.places
@@ -75,7 +75,7 @@ module _ {T : Setup} {g : ℕ} {c : Record} (x : Here T g c) where
 
 -- ---- an offer
 
-module _ {T : Setup} {g : ℕ} {c : Record} (x : Here T g c) {to : Option ℕ} {sent at : ℕ} (a : Operates T c to Send (sent ∷ []) at)
+module _ {T : Setup} {g : ℕ} {c : Record} (x : Situation T g c) {to : Option ℕ} {sent at : ℕ} (a : Operates T c to Send (sent ∷ []) at)
     (n : ℕ) (hold : c.side.hold ≡ Wrote at n 0 (word_of a.here.w sent)) (sizing : c.side.size ≡ Sized at 0)
     (shut : closed_of n ≡ 0) (idle : count_of n ≡ 0) where
   abbrev h : Holder
@@ -90,7 +90,7 @@ module _ {T : Setup} {g : ℕ} {c : Record} (x : Here T g c) {to : Option ℕ} {
       let L = offer_is (moment x) g c.side (side_at x) (object x a) n (word_of a.here.w sent) (value_sent x a) (next x a)
       (hold ∙ ap (λ j. Wrote j n 0 (word_of a.here.w sent)) p) (sent_is x a) (calm x a.here)
       (sizing ∙ ap (λ j. Sized j 0) p) shut idle in
-      let G = subst (λ (j : ℕ). Gains (moment x) g j (n + 4) (offering j) (MakeOffer g) t) (place_is x a) L.2 in
+      let G = subst (λ (j : ℕ). Gains (moment x) g j (n + 4) (offering_record j) (MakeOffer g) t) (place_is x a) L.2 in
       let F = offer_law (here x a) to a.channel sent a.removes (object x a) a.here.is (points_to x a).is L.0 L.1 in
       record {
         goes = record {
@@ -133,7 +133,7 @@ offer_move T g c to sent at n a hold sizing shut idle =
 second : (u u' v v' : Value) → ◌≡◌ {A = List Value} (u ∷ v ∷ []) (u' ∷ v' ∷ []) → v ≡ v'
 second u u' v v' e = cc
 
-module _ {T : Setup} {g : ℕ} {c : Record} (x : Here T g c) (s o : ℕ) (v : Value)
+module _ {T : Setup} {g : ℕ} {c : Record} (x : Situation T g c) (s o : ℕ) (v : Value)
     (sends : Next T.code x.s s Send (value.Object o ∷ v ∷ [])) (stands : sends.holder.offer ≡ Standing o)
     (y : SideRec) (its : slice_get (map side_of x.recs) s ≡ Some y) where
   module _ (q : StandsAtSend T.code x.s.plain s o) where
@@ -244,7 +244,7 @@ module _ {T : Setup} {g : ℕ} {c : Record} (x : Here T g c) (s o : ℕ) (v : Va
               (leads_in T x.words (map memory_of x.recs) x.s x.core.image.places x.core.image.memory x.core.image.addresses x.core.image.addressed
               kinds x.core.sound.good.good.typed.memory k.0 v word k.2 (sent_live before_send) shows)
 
-module _ {T : Setup} {g : ℕ} {c : Record} (x : Here T g c) {to : Option ℕ} {at : ℕ} (a : Operates T c to Recv [] at)
+module _ {T : Setup} {g : ℕ} {c : Record} (x : Situation T g c) {to : Option ℕ} {at : ℕ} (a : Operates T c to Recv [] at)
     (n word : ℕ) (hold : c.side.hold ≡ Read at n 0 word) (sizing : c.side.size ≡ Sized at 0)
     (shut : closed_of n ≡ 0) (one : count_of n ≡ 1) where
   meet_does : MakesQuietStep x (slice_set x.words at (n + 4)) (commits a word)
@@ -303,7 +303,7 @@ meet_move T g c to at n word a hold sizing shut one =
 
 -- ---- an acknowledgement
 
-module _ {T : Setup} {g : ℕ} {c : Record} (x : Here T g c) (at n : ℕ) (a : IsAtSend T c) (post : c.side.post ≡ Offering at)
+module _ {T : Setup} {g : ℕ} {c : Record} (x : Situation T g c) (at n : ℕ) (a : IsAtSend T c) (post : c.side.post ≡ Offering at)
     (hold : c.side.hold ≡ Locked at n) (gone : count_of n ≡ 2) where
   acknowledge_does : MakesQuietStep x (slice_set x.words at (n - 8)) (acknowledges T c a)
   acknowledge_does =

@@ -4,7 +4,7 @@ use Rattle.rgo_sound.specs.RegionMachine.Objects.{object_words as words_in}
 use Rattle.rgo_core_channels.specs.Channels.{Accepted, Calm, Chan, Offered, OfferOf, On, Phase, Places, channel, phase_number}
 use Rattle.rgo_core_channels.specs.Controls.{count_of, extent, tail_words, head_of}
 use Rattle.rgo_core_channels.specs.Moments.{LoadsWord, Moment}
-use Rattle.rgo_core_channels.specs.Records.{Offering, Rec as SideRec, Sized, with_hold, with_lock, with_look, with_own_look, with_reach, with_size, Read, Wrote}
+use Rattle.rgo_core_channels.specs.Records.{Offering, ChannelRec as SideRec, Sized, with_hold, with_lock, with_look, with_own_look, with_reach, with_size, Read, Wrote}
 use Rattle.rgo_core_channels.proofs.Lists.{set_own}
 use Rattle.rgo_core_channels.proofs.Locks.{capacity_is, cell_load_is, cell_store_is, control_is, lock_is_taken, own_control_is, shown}
 use Rattle.rgo_core_channels.proofs.Steps.{no_buffer}
@@ -13,9 +13,9 @@ use Rattle.rgo_core_memory.specs.Ground.{ground_of}
 use Rattle.rgo_core_memory.specs.Image.{StateImage, word_at}
 use Rattle.rgo_core_memory.specs.Words.{all_words, base, cell_at}
 use Rattle.rgo_core_memory.proofs.image.Channels.{untold}
-use Rattle.rgo_core.specs.AtChannels.{knows}
-use Rattle.rgo_core.specs.ChannelMoves.{CapacityMove, CellLoadMove, CellStoreMove, ControlMove, LockMove, OwnControlMove, PageNumberMove}
-use Rattle.rgo_core.specs.Core.{Here, Setup, layout}
+use Rattle.rgo_core.specs.ties.AtChannels.{knows}
+use Rattle.rgo_core.specs.moves.Channels.{CapacityMove, CellLoadMove, CellStoreMove, ControlMove, LockMove, OwnControlMove, PageNumberMove}
+use Rattle.rgo_core.specs.Core.{Situation, Setup, layout}
 use Rattle.rgo_core_channels.specs.Positions.{PositionsAgree, Layout, place_at}
 use Rattle.rgo_core_channels.specs.Locking.{IsCell}
 use Rattle.rgo_core_channels.proofs.Positions.{layout_is, page_number_is}
@@ -26,12 +26,12 @@ use Rattle.rgo_core.proofs.channel_steps.AtChannels.{Reaches, at_channel, reache
 use Rattle.rgo_core.proofs.channel_steps.Leaving.{channel_stands, channel_word}
 use Rattle.rgo_core.proofs.image.Parts.{frame_stays, image_with, memory_stays}
 use Rattle.rgo_core.proofs.image.Standing.{side_at}
-use Rattle.rgo_core.specs.Moments.{moment}
+use Rattle.rgo_core.specs.ties.Moments.{moment}
 use Rattle.rgo_core_memory.specs.Owed.{claimed_for}
 use Rattle.rgo_core.proofs.accesses.Links.{ClaimsStay, Waits, all_kept, claims_high, fixed_shown, links_with}
 use Rattle.rgo_core.proofs.steps.Lift.{moves_by}
 
-module _ {T : Setup} {g : ℕ} {c : Record} (x : Here T g c) where
+module _ {T : Setup} {g : ℕ} {c : Record} (x : Situation T g c) where
   -- only what the record knows of channels changes, and a word of which memory says nothing
   pub side_stays : (words : List ℕ) (side : SideRec) (at : Places)
       → StateImage (layout T) words (map memory_of x.recs) x.s x.core.image.places
@@ -86,7 +86,7 @@ control_move T g c a r =
     × ((size : ℕ) → c.side.size ≡ Sized a size → head_of n < extent size)) (λ n. refl) (λ x. high x (reaches x r))
     (λ x small. inr (loaded x a (with_look c.side a (slice_index x.words a)) (is x).0)) (λ x. (refl, (is x).1, (is x).2))
   where
-    is : (x : Here T g c) → LoadsWord (moment x) g a (with_look c.side a) × (slice_index x.words a + 4 < 2 ^ 64)
+    is : (x : Situation T g c) → LoadsWord (moment x) g a (with_look c.side a) × (slice_index x.words a + 4 < 2 ^ 64)
         × ((size : ℕ) → c.side.size ≡ Sized a size → head_of (slice_index x.words a) < extent size)
     is x = control_is (moment x) g c.side (side_at x) a (at_channel x r)
 
@@ -120,7 +120,7 @@ own_control_move T g c a r =
     (λ x small. inr (loaded x a (with_own_look c.side a (slice_index x.words a)) (is x).0))
     (λ x. (refl, (is x).1, own_phase (moment x) g c.side (side_at x) a r))
   where
-    is : (x : Here T g c) → LoadsWord (moment x) g a (with_own_look c.side a) × (slice_index x.words a + 4 < 2 ^ 64)
+    is : (x : Situation T g c) → LoadsWord (moment x) g a (with_own_look c.side a) × (slice_index x.words a + 4 < 2 ^ 64)
     is x = own_control_is (moment x) g c.side (side_at x) a r
 
 pub capacity_move : CapacityMove
@@ -131,7 +131,7 @@ capacity_move T g c a r =
     (λ x small. inr (loaded x (a + 1) (with_size c.side a (slice_index x.words (a + 1))) (is x).0))
     (λ x. (refl, (is x).2, subst (λ n. a + 2 + tail_words T.sizes.page_words (slice_index x.words (a + 1)) ≤ n) x.core.image.memory.shows.wide (is x).1))
   where
-    is : (x : Here T g c) → LoadsWord (moment x) g (a + 1) (with_size c.side a)
+    is : (x : Situation T g c) → LoadsWord (moment x) g (a + 1) (with_size c.side a)
         × (a + 2 + tail_words T.sizes.page_words (slice_index x.words (a + 1)) ≤ length x.words) × (slice_index x.words (a + 1) < 1073741820)
     is x = capacity_is (moment x) g c.side (side_at x) a (at_channel x r)
 
@@ -140,7 +140,7 @@ lock_move T g c a n r even free =
     moves_by T g c a (λ w. if w == n then suc n else w) (λ w. knows c (with_lock c.side a n w))
     (λ w d. d ≡ knows c (with_lock c.side a n w)) (λ w. refl) (λ x. high x (reaches x r)) (λ x small. inr (by x)) (λ x. refl)
   where
-    by : (x : Here T g c) → MakesNoStep x (slice_set x.words a (if slice_index x.words a == n then suc n else slice_index x.words a))
+    by : (x : Situation T g c) → MakesNoStep x (slice_set x.words a (if slice_index x.words a == n then suc n else slice_index x.words a))
         (knows c (with_lock c.side a n (slice_index x.words a)))
     by x =
         let k = lock_is_taken (moment x) g c.side (side_at x) a n (at_channel x r) even free in
@@ -155,7 +155,7 @@ lock_move T g c a n r even free =
 
 -- ---- cells
 
-module _ {T : Setup} {g : ℕ} {c : Record} (x : Here T g c) (a i size : ℕ) (sized : c.side.size ≡ Sized a size) (within : i < extent size) where
+module _ {T : Setup} {g : ℕ} {c : Record} (x : Situation T g c) (a i size : ℕ) (sized : c.side.size ≡ Sized a size) (within : i < extent size) where
   abbrev its : (o : ℕ) × (k : Chan) × On x.s o k × (place_at (layout T) x.core.image.places o ≡ a) × (k.capacity ≡ size)
   its = x.core.image.channels.sizes g a size c.side (side_at x) sized
 
@@ -195,7 +195,7 @@ module _ {T : Setup} {g : ℕ} {c : Record} (x : Here T g c) (a i size : ℕ) (s
   begins_high = let e = its.3 in omega (arith, e)
 
 -- the moment of channels is that of the memory
-laid_moment : {T : Setup} {g : ℕ} {c : Record} (x : Here T g c) → PositionsAgree (moment x) (layout T) (map memory_of x.recs) x.core.image.places
+laid_moment : {T : Setup} {g : ℕ} {c : Record} (x : Situation T g c) → PositionsAgree (moment x) (layout T) (map memory_of x.recs) x.core.image.places
 laid_moment x = record { memory = x.core.image.memory; place = λ o k on. refl; cell = λ o i k on l. refl }
 
 pub page_number_move : PageNumberMove
@@ -214,7 +214,7 @@ page_number_move T g c a i size sized spread within =
           x.core.image.memory.shows.wide (is x).3,
     ))
   where
-    is : (x : Here T g c)
+    is : (x : Situation T g c)
         → LoadsWord (moment x) g (a + 2 + i / T.sizes.page_words)
         (λ w. with_reach c.side a i (cell_at (layout T) (w - 1) (i % T.sizes.page_words)))
         × (a + 2 + i / T.sizes.page_words < length x.words)
@@ -237,7 +237,7 @@ cell_store_move T g c a n i size p v hold sized spare is =
     (λ x. let h = cell_above x a i size sized spare.0 p is in omega (arith, h))
     (λ x small. inr (by x)) (λ x. refl)
   where
-    by : (x : Here T g c) → MakesNoStep x (slice_set x.words p v) (knows c (with_hold c.side (Wrote a n i v)))
+    by : (x : Situation T g c) → MakesNoStep x (slice_set x.words p v) (knows c (with_hold c.side (Wrote a n i v)))
     by x =
         let k = cell_store_is (moment x) g c.side (side_at x) a n i size p v hold sized spare is in
         side_stays x (slice_set x.words p v) (with_hold c.side (Wrote a n i v)) k.0

@@ -18,7 +18,7 @@ use Rattle.rgo_sound.specs.Code.Code.{CodeInstr, Do}
 use Rattle.rgo_sound.specs.Code.Erasure.{erased, erased_fn}
 use Rattle.rgo_sound.specs.Code.Types.{VariableHasType}
 use Rattle.rgo_sound.specs.RegionMachine.Duties.{may_go}
-use Rattle.rgo_sound.specs.RegionMachine.Instructions.{marked}
+use Rattle.rgo_sound.specs.RegionMachine.Instructions.{mark_with_end}
 use Rattle.rgo_sound.specs.RegionMachine.Machine.{Instruct}
 use Rattle.rgo_sound.specs.RegionMachine.Owed.{current}
 use Rattle.rgo_sound.specs.RegionMachine.States.{Ended, Holder, RegionState, Standing}
@@ -34,29 +34,29 @@ use Rattle.rgo_core_channels.proofs.Operations.{close_traps, send_traps}
 use Rattle.rgo_core_channels.proofs.Steps.{one_place}
 use Rattle.rgo_core_channels.proofs.Traps.{close_nil_is, close_trap_is, send_trap_is}
 use Rattle.rgo_core_frames.specs.Fits.{RecordsFit, RecordFits, IsPast, IsShown}
-use Rattle.rgo_core_frames.specs.Slots.{slot_duties}
+use Rattle.rgo_core_frames.specs.regions.Slots.{slot_duties}
 use Rattle.rgo_core_frames.specs.States.{AtInstruction}
-use Rattle.rgo_core_frames.specs.Steps.{RegionStepsTo}
-use Rattle.rgo_core_frames.specs.WordFrames.{word_at}
+use Rattle.rgo_core_frames.specs.steps.Bookkept.{RegionStepsTo}
+use Rattle.rgo_core_frames.specs.shown.WordFrames.{frame_word}
 use Rattle.rgo_core_frames.proofs.Before.{before_law}
 use Rattle.rgo_core_frames.proofs.goroutines.Ending.{trap_law}
 use Rattle.rgo_core_memory.proofs.image.Elsewhere.{ground_keeps}
-use Rattle.rgo_core.specs.AtChannels.{Operates}
-use Rattle.rgo_core.specs.ClockSteps.{EndsRunNext}
-use Rattle.rgo_core.specs.CommitMoves.{IsAtSend}
-use Rattle.rgo_core.specs.Core.{Here, Setup, layout}
+use Rattle.rgo_core.specs.ties.AtChannels.{Operates}
+use Rattle.rgo_core.specs.moves.Clock.{EndsRunNext}
+use Rattle.rgo_core.specs.moves.Commits.{IsAtSend}
+use Rattle.rgo_core.specs.Core.{Situation, Setup, layout}
 use Rattle.rgo_core.specs.Image.{Image}
-use Rattle.rgo_core.specs.Next.{IsAt}
+use Rattle.rgo_core.specs.Next.{IsAtOp}
 use Rattle.rgo_core.specs.Records.{Record, frame_of, memory_of, side_of}
-use Rattle.rgo_core.specs.TrapMoves.{CloseNilMove, CloseTrapMove, SendTrapMove, StrandedMove, trapped}
+use Rattle.rgo_core.specs.moves.ChannelTraps.{CloseNilMove, CloseTrapMove, SendTrapMove, StrandedMove, trapped_record}
 use Rattle.rgo_core.proofs.channel_steps.AtChannels.{calm, here, live, next, object, place_is, points_to, same_operands, standing_or_taken}
 use Rattle.rgo_core.proofs.steps.Operands as operands
 use Rattle.rgo_core.proofs.image.Standing.{at_instruction, frame_at, frames_here, image_same, side_at}
-use Rattle.rgo_core.specs.Moments.{moment}
+use Rattle.rgo_core.specs.ties.Moments.{moment}
 use Rattle.rgo_core.proofs.clock.Traps.{by_ends, trap_ends}
 
-module _ {T : Setup} {g : ℕ} {c : Record} (x : Here T g c) (trap : Trap) (place : ℕ) (kept : ChannelTraps (moment x) g trap place)
-    (F : RegionStepsTo (frames_here x) (Instruct (One g)) x.s.regions (marked x.s.mark (Some (the_end.Trap trap place))) (map frame_of x.recs)) where
+module _ {T : Setup} {g : ℕ} {c : Record} (x : Situation T g c) (trap : Trap) (place : ℕ) (kept : ChannelTraps (moment x) g trap place)
+    (F : RegionStepsTo (frames_here x) (Instruct (One g)) x.s.regions (mark_with_end x.s.mark (Some (the_end.Trap trap place))) (map frame_of x.recs)) where
   abbrev t : RegionState
   t = after_trap x.s trap place
 
@@ -74,14 +74,14 @@ module _ {T : Setup} {g : ℕ} {c : Record} (x : Here T g c) (trap : Trap) (plac
     channels = kept.1;
   }
 
-  ends : EndsRunNext x (Ended (the_end.Trap trap place)) (trapped c (slice_index x.words 0) trap place)
+  ends : EndsRunNext x (Ended (the_end.Trap trap place)) (trapped_record c (slice_index x.words 0) trap place)
   ends =
-      let d = trapped c (slice_index x.words 0) trap place in
+      let d = trapped_record c (slice_index x.words 0) trap place in
       trap_ends x trap place F
       (subst (Image T.code (layout T) x.words (slice_set x.recs g d)) (sym same)
       (image_same T.code (layout T) x.words x.recs t after g c d x.is_c refl refl refl))
 
-module _ {T : Setup} {g : ℕ} {c : Record} (x : Here T g c) {to : Option ℕ} {action : Action} {others : List ℕ} {at : ℕ}
+module _ {T : Setup} {g : ℕ} {c : Record} (x : Situation T g c) {to : Option ℕ} {action : Action} {others : List ℕ} {at : ℕ}
     (a : Operates T c to action others at) where
   -- the channel was found closed, and is
   is_shut : c.side.saw ≡ Shut at → (k : Chan) × On x.s (object x a) k × (k.closed ≡ true)
@@ -97,7 +97,7 @@ module _ {T : Setup} {g : ℕ} {c : Record} (x : Here T g c) {to : Option ℕ} {
   trap_step : (trap : Trap) → performed T.code.structs action (destination_type (erased T.code) (here x a).before.frame to)
       (value.Object (object x a) ∷ operand_values (here x a).before.frame others) x.s.plain.memory ≡ Some (Traps trap)
       → RegionStepsTo (frames_here x) (Instruct (One g)) x.s.regions
-      (marked x.s.mark (Some (the_end.Trap trap (trap_place action a.here.instr.place)))) (map frame_of x.recs)
+      (mark_with_end x.s.mark (Some (the_end.Trap trap (trap_place action a.here.instr.place)))) (map frame_of x.recs)
   trap_step trap does =
       trap_law (here x a) to action (a.channel ∷ others) a.removes trap a.here.is
       (ap (λ (u : Value). performed T.code.structs action (destination_type (erased T.code) (here x a).before.frame to)
@@ -124,8 +124,8 @@ close_trap_move T g c to at a saw =
 
 -- ---- a close of nil
 
-module _ {T : Setup} {g : ℕ} {c : Record} (x : Here T g c) {to : Option ℕ} {channel : ℕ} {removes : List ℕ}
-    (a : IsAt T.code c (Do to Close (channel ∷ []) removes)) (nil : word_at a.w channel ≡ 0) where
+module _ {T : Setup} {g : ℕ} {c : Record} (x : Situation T g c) {to : Option ℕ} {channel : ℕ} {removes : List ℕ}
+    (a : IsAtOp T.code c (Do to Close (channel ∷ []) removes)) (nil : frame_word a.w channel ≡ 0) where
   typed : (t : «Type») × VariableHasType (erased_fn a.fn) channel (chan_of t)
   typed =
       let t = operands.rule x to Close (channel ∷ []) removes a in
@@ -137,7 +137,7 @@ module _ {T : Setup} {g : ℕ} {c : Record} (x : Here T g c) {to : Option ℕ} {
   is_nil : value_at (at_instruction x a).before.frame channel ≡ value.Nil
   is_nil = operands.nil_there x to Close (channel ∷ []) removes a channel (chan_of typed.0) (contains_here channel []) typed.1 refl nil
 
-  nil_ends : EndsRunNext x (Ended (the_end.Trap CloseNil a.instr.place)) (trapped c (slice_index x.words 0) CloseNil a.instr.place)
+  nil_ends : EndsRunNext x (Ended (the_end.Trap CloseNil a.instr.place)) (trapped_record c (slice_index x.words 0) CloseNil a.instr.place)
   nil_ends =
       let b = (at_instruction x a).before in
       let next : Next T.code x.s g Close (value.Nil ∷ []) = record {
@@ -168,7 +168,7 @@ close_nil_move T g c to channel removes a nil = by_ends T g c CloseNil a.instr.p
 
 -- ---- a send whose offer stands
 
-module _ {T : Setup} {g : ℕ} {c : Record} (x : Here T g c) (a : IsAtSend T c) (o : ℕ) (k : Chan) (on : On x.s o k) (shut : k.closed ≡ true)
+module _ {T : Setup} {g : ℕ} {c : Record} (x : Situation T g c) (a : IsAtSend T c) (o : ℕ) (k : Chan) (on : On x.s o k) (shut : k.closed ≡ true)
     (v : Value) (n : Next T.code x.s g Send (value.Object o ∷ v ∷ [])) (stands : n.holder.offer ≡ Standing o) where
   offer_of : (h : Holder) → slice_get x.s.holders g ≡ Some h → h.offer ≡ Standing o
   offer_of h e = ap (λ (h : Holder). h.offer) (same_Some h n.holder (sym e ∙ n.there)) ∙ stands
@@ -211,7 +211,7 @@ module _ {T : Setup} {g : ℕ} {c : Record} (x : Here T g c) (a : IsAtSend T c) 
       (sym a.is ∙ ap (λ (i : CodeInstr). i.op) (sym instr_is) ∙ n.before.is) j)) ∙ n.before.operands
 
   stranded_ends : ChannelTraps (moment x) g SendClosed n.before.instr.place
-      → EndsRunNext x (Ended (the_end.Trap SendClosed a.instr.place)) (trapped c (slice_index x.words 0) SendClosed a.instr.place)
+      → EndsRunNext x (Ended (the_end.Trap SendClosed a.instr.place)) (trapped_record c (slice_index x.words 0) SendClosed a.instr.place)
   stranded_ends kept =
       let K = subst (λ (i : CodeInstr). ChannelTraps (moment x) g SendClosed i.place) instr_is kept in
       ends x SendClosed a.instr.place K

@@ -6,17 +6,17 @@ use mathlib.Core.Logic.{dite}
 use native.Mathlib.Decide.{dec_le}
 use Rattle.rgo_core_frames.proofs.steps.Ints.{ints_stay}
 use Rattle.rgo_core_frames.proofs.Sound.{next_sound}
-use Rattle.rgo_core_frames.specs.Records.{Rec as FrameRec}
+use Rattle.rgo_core_frames.specs.Records.{FramesRec as FrameRec}
 use Rattle.rgo_core_frames.specs.States.{IsSound}
 use Rattle.rgo_core_memory.proofs.Rows.{at_set}
 use Rattle.rgo_core_memory.proofs.image.Stepped.{map_set}
 use Rattle.rgo_sound.specs.Machine.Limits.{deepest, is_within, most_goroutines}
 use Rattle.rgo_sound.specs.RegionMachine.Machine.{Event}
 use Rattle.rgo_sound.proofs.Places.{get_snoc, length_set}
-use Rattle.rgo_core.specs.ClockSteps.{RunEndLaw, EndsRunNext, LookLaw, NumberLaw, Prints, StartsGoroutineNext, TicketLaw}
-use Rattle.rgo_core.specs.Core.{CoreAt, Here, Setup, layout}
+use Rattle.rgo_core.specs.moves.Clock.{RunEndLaw, EndsRunNext, LookLaw, NumberLaw, Prints, StartsGoroutineNext, TicketLaw}
+use Rattle.rgo_core.specs.Core.{CoreAt, Situation, Setup, layout}
 use Rattle.rgo_core.specs.Records.{ClockRec, Record, blank, clock_of, counted, frame_of, looked, with_child, with_refusal}
-use Rattle.rgo_core.specs.Story.{Story}
+use Rattle.rgo_core.specs.runs.Story.{Story}
 use Rattle.rgo_core.proofs.steps.Lift.{all_within, clock_at, few_records, shallow_here, stays_core, within_set}
 use Rattle.rgo_core.proofs.Lists.{get_of}
 use Rattle.rgo_core.proofs.goroutines.Numbers.{drawn_low}
@@ -28,7 +28,7 @@ use Rattle.rgo_core_channels.proofs.Lists.{set_own}
 pub ticket_law : TicketLaw
 ticket_law T g c bytes after short is finds words recs run core at fits =
     let n : ℕ = slice_index words 0 in
-    let x : Here T g c = record { words = words; recs = recs; events = run; s = core.0; core = core.1; is_c = get_of recs g c at } in
+    let x : Situation T g c = record { words = words; recs = recs; events = run; s = core.0; core = core.1; is_c = get_of recs g c at } in
     let p : Prints x bytes (after n) = finds x fits in
     let d : Record = after n in
     let sound = next_sound T.code T.sizes.page_words x.s p.goes.next p.goes.event x.core.sound p.goes.steps in
@@ -61,7 +61,7 @@ ticket_law T g c bytes after short is finds words recs run core at fits =
 pub end_law : RunEndLaw
 end_law T g c mark after is finds words recs run core at fits =
     let n : ℕ = slice_index words 0 in
-    let x : Here T g c = record { words = words; recs = recs; events = run; s = core.0; core = core.1; is_c = get_of recs g c at } in
+    let x : Situation T g c = record { words = words; recs = recs; events = run; s = core.0; core = core.1; is_c = get_of recs g c at } in
     let p : EndsRunNext x mark (after n) = finds x fits in
     let d : Record = after n in
     let sound = next_sound T.code T.sizes.page_words x.s p.goes.next p.goes.event x.core.sound p.goes.steps in
@@ -91,7 +91,7 @@ end_law T g c mark after is finds words recs run core at fits =
 
 pub look_law : LookLaw
 look_law T g c words recs run core at fits =
-    let x : Here T g c = record { words = words; recs = recs; events = run; s = core.0; core = core.1; is_c = get_of recs g c at } in
+    let x : Situation T g c = record { words = words; recs = recs; events = run; s = core.0; core = core.1; is_c = get_of recs g c at } in
     let d : Record = looked c in
     record {
       after = d;
@@ -115,7 +115,7 @@ pub map_more : {A : Type 0} (f : Record → A) (recs : List Record) (g : ℕ) (d
     → map f (slice_set recs g d ++ child ∷ []) ≡ slice_set (map f recs) g (f d) ++ f child ∷ []
 map_more f recs g d child = map-append f (slice_set recs g d) (child ∷ []) ∙ ap (λ l. l ++ f child ∷ []) (map_set f recs g d)
 
-module _ {T : Setup} {g : ℕ} {c : Record} (x : Here T g c) where
+module _ {T : Setup} {g : ℕ} {c : Record} (x : Situation T g c) where
   abbrev n : ℕ
   n = slice_index x.words 16
 
@@ -200,7 +200,7 @@ module _ {T : Setup} {g : ℕ} {c : Record} (x : Here T g c) where
 pub number_law : NumberLaw
 number_law T g c after child never is new starts words recs run core at fits =
     let n : ℕ = slice_index words 16 in
-    let x : Here T g c = record { words = words; recs = recs; events = run; s = core.0; core = core.1; is_c = get_of recs g c at } in
+    let x : Situation T g c = record { words = words; recs = recs; events = run; s = core.0; core = core.1; is_c = get_of recs g c at } in
     let on = fits_on x in
     dite (dec_le (most_goroutines T.limits) n)
     (λ full. let d : Record = record c { clock = with_refusal c.clock } in inl (record {

@@ -14,8 +14,8 @@ use Rattle.rgo_core_rule.specs.Lists.{flattened}
 use Rattle.rgo_sound.specs.RegionMachine.Instructions.{printed_if}
 use Rattle.rgo_sound.specs.RegionMachine.States.{Mark, RegionState}
 use Rattle.rgo_sound.proofs.Places.{get_append_last, get_snoc, get_front}
-use Rattle.rgo_core.specs.Clock.{Clock, has_set, has_ticket, prints_in}
-use Rattle.rgo_core.specs.ClockSteps.{first_mark, first_set}
+use Rattle.rgo_core.specs.ties.Clock.{Clock, has_set, has_ticket, prints_in}
+use Rattle.rgo_core.specs.moves.Clock.{first_mark, first_set}
 use Rattle.rgo_core.specs.Records.{ClockRec, Drawn, drawn_at, end_bit, has_ended}
 use Rattle.rgo_core.proofs.Lists.{cond_other, cond_same, count_push, flattened_snoc, one_if, sum_most, sum_same, sum_set, word_new}
 

@@ -10,7 +10,7 @@ use Rattle.rgo_core_frames.proofs.goroutines.Ending.{finish_law}
 use Rattle.rgo_core_frames.proofs.Sound.{next_sound}
 use Rattle.rgo_core_memory.proofs.image.Elsewhere.{ground_keeps}
 use Rattle.rgo_core_memory.specs.Ground.{ground_of}
-use Rattle.rgo_core_memory.specs.Image.{code_of}
+use Rattle.rgo_core_memory.specs.Image.{word_of_value}
 use Rattle.rgo_sound.specs.Machine.Limits.{IsAtCall, IsAtStart, deepest}
 use Rattle.rgo_sound.specs.Machine.Machines.{AtCall, AtStart}
 use Rattle.rgo_sound.specs.Memory.Memory.{Object}
@@ -28,14 +28,14 @@ use Rattle.rgo_sound.specs.Tac.Frames.{TacFrame, moved_to, operand_values}
 use Rattle.rgo_sound.specs.Tac.Steps.{at_tac_function, tac_stand, stand_at_instr, stand_before_op}
 use Rattle.rgo_sound.specs.Typed.declared.actions.Action.{Action}
 use Rattle.rgo_sound.specs.Tac.declared.regions.Class.{Class}
-use Rattle.rgo_core.specs.Causes.{ReachesLimit}
-use Rattle.rgo_core.specs.ClockSteps.{EndsRunNext, first_mark}
-use Rattle.rgo_core.specs.Core.{Here, Setup, layout}
+use Rattle.rgo_core.specs.runs.Causes.{ReachesLimit}
+use Rattle.rgo_core.specs.moves.Clock.{EndsRunNext, first_mark}
+use Rattle.rgo_core.specs.Core.{Situation, Setup, layout}
 use Rattle.rgo_core_channels.specs.Positions.{cell_place, place_at}
 use Rattle.rgo_core.specs.Image.{Image, ChannelsIn}
 use Rattle.rgo_core.specs.Laws.{CallsMove, FullMove, StopMove}
-use Rattle.rgo_core.specs.NewObjects.{LargeMove, ObjectOf}
-use Rattle.rgo_core.specs.Next.{IsAt}
+use Rattle.rgo_core.specs.moves.NewObjects.{LargeMove, ObjectOf}
+use Rattle.rgo_core.specs.Next.{IsAtOp}
 use Rattle.rgo_core.specs.Records.{Record, clock_of, counted, frame_of, memory_of, side_of, with_end}
 use Rattle.rgo_core.proofs.clock.ClockLifts.{end_law}
 use Rattle.rgo_core.proofs.goroutines.Counting.{plus_none}
@@ -50,7 +50,7 @@ kept_is : (m : Option Mark) (why : Limit) → kept_mark m why ≡ first_mark m (
 kept_is None why = refl
 kept_is (Some m) why = refl
 
-module _ {T : Setup} {g : ℕ} {c : Record} (x : Here T g c) (why : Limit) (stops : ReachesLimit T.code T.sizes T.limits why x.s) where
+module _ {T : Setup} {g : ℕ} {c : Record} (x : Situation T g c) (why : Limit) (stops : ReachesLimit T.code T.sizes T.limits why x.s) where
   abbrev d : Record
   d = record c { clock = with_end c.clock (slice_index x.words 0) (Stopped why) }
 
@@ -67,7 +67,7 @@ module _ {T : Setup} {g : ℕ} {c : Record} (x : Here T g c) (why : Limit) (stop
         frames = p.fit;
         memory = ground_keeps (layout T) x.words (map memory_of x.recs) x.s p.state x.core.image.places (ap ground_of (sym is)) x.core.image.memory;
         channels = subst (λ (t : RegionState). ChannelsIn T.code (layout T) x.core.image.places x.words (map side_of x.recs) t x.core.image.at) is
-            (finish_keeps T.code T.sizes.page_words (code_of (layout T) x.core.image.places) (place_at (layout T) x.core.image.places) (cell_place (layout T) x.core.image.places) x.words (map side_of x.recs) x.s x.core.image.at why x.core.image.channels);
+            (finish_keeps T.code T.sizes.page_words (word_of_value (layout T) x.core.image.places) (place_at (layout T) x.core.image.places) (cell_place (layout T) x.core.image.places) x.words (map side_of x.recs) x.s x.core.image.at why x.core.image.channels);
       } in
       let image = image_same T.code (layout T) x.words x.recs p.state after g c d x.is_c refl refl refl in
       record {
@@ -102,9 +102,9 @@ stands : (code : Code) (frame : TacFrame) (instr : CodeInstr) → current code f
     → tac_stand (erased code) frame ≡ stand_before_op (erased code) frame (erased_op instr.op) instr.place
 stands code frame instr cur = ap (stand_at_instr (erased code) frame) (current_erased code frame ∙ ap (option_map erased_instr) cur)
 
-module _ {T : Setup} {g : ℕ} {c : Record} (x : Here T g c) (f : ℕ) (callee : CodeFn) (from : List ℕ) (passes : List Class) (removes : List ℕ)
+module _ {T : Setup} {g : ℕ} {c : Record} (x : Situation T g c) (f : ℕ) (callee : CodeFn) (from : List ℕ) (passes : List Class) (removes : List ℕ)
     (is : code_function T.code f ≡ Some callee) where
-  too_deep : (to : Option ℕ) (protects : List ℕ) → IsAt T.code c (Call to f from passes protects removes) → length c.frame.frames ≡ deepest
+  too_deep : (to : Option ℕ) (protects : List ℕ) → IsAtOp T.code c (Call to f from passes protects removes) → length c.frame.frames ≡ deepest
       → ReachesLimit T.code T.sizes T.limits Calls x.s
   too_deep to protects a deep =
       let b = (at_instruction x a).before in
@@ -120,7 +120,7 @@ module _ {T : Setup} {g : ℕ} {c : Record} (x : Here T g c) (f : ℕ) (callee :
             ∙ ap (at_tac_function (AtCall b.frame) f (operand_values b.frame from)) (erased_found T.code f callee is)))) tt;
       }
 
-  no_more : IsAt T.code c (Go f from passes removes) → c.clock.refused ≡ true → ReachesLimit T.code T.sizes T.limits Goroutines x.s
+  no_more : IsAtOp T.code c (Go f from passes removes) → c.clock.refused ≡ true → ReachesLimit T.code T.sizes T.limits Goroutines x.s
   no_more a refused =
       let b = (at_instruction x a).before in
       let k = x.core.story.numbers in
@@ -151,8 +151,8 @@ full_move T g c f callee from passes removes a is refused =
 less_is : (m n : ℕ) → nat_lt m n ≡ true → m < n
 less_is m n e = grind (arith, nat_tests)
 
-module _ {T : Setup} {g : ℕ} {c : Record} (x : Here T g c) (to : Option ℕ) (act : Action) (from removes : List ℕ)
-    (a : IsAt T.code c (Do to act from removes)) (object : Object) (makes : ObjectOf (2 ^ 63) T.code a.w to act from object)
+module _ {T : Setup} {g : ℕ} {c : Record} (x : Situation T g c) (to : Option ℕ) (act : Action) (from removes : List ℕ)
+    (a : IsAtOp T.code c (Do to act from removes)) (object : Object) (makes : ObjectOf (2 ^ 63) T.code a.w to act from object)
     (large : is_too_large T.sizes.page_words object ≡ true) where
   pub too_large : ReachesLimit T.code T.sizes T.limits ObjectSize x.s
   too_large = (

@@ -14,7 +14,7 @@ use Rattle.rgo_sound.specs.Memory.Operators.{binary_of}
 use Rattle.rgo_sound.specs.Memory.declared.traps.Trap.TheVariants.{BadSize, DivideZero, NilPointer}
 use Rattle.rgo_sound.specs.Memory.declared.values.Value.{Value}
 use Rattle.rgo_sound.specs.Memory.declared.values.Value.TheVariants as value
-use Rattle.rgo_sound.specs.RegionMachine.Instructions.{marked}
+use Rattle.rgo_sound.specs.RegionMachine.Instructions.{mark_with_end}
 use Rattle.rgo_sound.specs.RegionMachine.Machine.{Instruct}
 use Rattle.rgo_sound.proofs.steps.Acting.{performed, trap_place}
 use Rattle.rgo_sound.proofs.Places.{contains_here, contains_there}
@@ -28,11 +28,11 @@ use Rattle.rgo_sound.specs.Typed.declared.programs.Struct.{Struct}
 use Rattle.rgo_sound.specs.Typed.declared.types.Type.{«Type»}
 use Rattle.rgo_sound.specs.WellFormed.TypeRules.{Computes, int, pointer_to}
 use Rattle.rgo_core_frames.proofs.goroutines.Ending.{trap_law}
-use Rattle.rgo_core_frames.specs.Steps.{RegionStepsTo}
-use Rattle.rgo_core_frames.specs.WordFrames.{word_at as word_of_frame}
-use Rattle.rgo_core.specs.Core.{Here, Setup}
-use Rattle.rgo_core.specs.Next.{IsAt}
-use Rattle.rgo_core.specs.OperandTraps.{DivideTrapMove, LoadTrapMove, SizeTrapMove, StoreTrapMove}
+use Rattle.rgo_core_frames.specs.steps.Bookkept.{RegionStepsTo}
+use Rattle.rgo_core_frames.specs.shown.WordFrames.{frame_word as word_of_frame}
+use Rattle.rgo_core.specs.Core.{Situation, Setup}
+use Rattle.rgo_core.specs.Next.{IsAtOp}
+use Rattle.rgo_core.specs.moves.OperandTraps.{DivideTrapMove, LoadTrapMove, SizeTrapMove, StoreTrapMove}
 use Rattle.rgo_core.specs.Records.{Record, frame_of}
 use Rattle.rgo_core.proofs.accesses.Accesses.{load_takes, store_takes}
 use Rattle.rgo_core.proofs.accesses.ElementTraps.{index_of}
@@ -81,8 +81,8 @@ divide_takes : (code : Tac) (f : TacFn) (op : BinaryOp) → (op ≡ Div) ⊎ (op
 divide_takes code f op (inl e) d tys fits = let r : Computes Div tys fits.0 = subst (λ (o : BinaryOp). Computes o tys fits.0) e fits.2 in r.0
 divide_takes code f op (inr e) d tys fits = let r : Computes Rem tys fits.0 = subst (λ (o : BinaryOp). Computes o tys fits.0) e fits.2 in r.0
 
-module _ {T : Setup} {g : ℕ} {c : Record} (x : Here T g c) (op : BinaryOp) (d p q : ℕ) (removes : List ℕ)
-    (a : IsAt T.code c (Do (Some d) (action.Binary op) (p ∷ q ∷ []) removes)) (divide : (op ≡ Div) ⊎ (op ≡ Rem))
+module _ {T : Setup} {g : ℕ} {c : Record} (x : Situation T g c) (op : BinaryOp) (d p q : ℕ) (removes : List ℕ)
+    (a : IsAtOp T.code c (Do (Some d) (action.Binary op) (p ∷ q ∷ []) removes)) (divide : (op ≡ Div) ⊎ (op ≡ Rem))
     (zero : word_of_frame a.w q ≡ 0) where
   abbrev read : Contains (reads (erased_op (Do (Some d) (action.Binary op) (p ∷ q ∷ []) removes))) q
   read = contains_there p (q ∷ []) q (contains_here q [])
@@ -141,8 +141,8 @@ size_place : (act : Action) (place : ℕ) → IsSized act → trap_place act pla
 size_place act place (inl e) = ap (λ (a : Action). trap_place a place) e
 size_place act place (inr e) = ap (λ (a : Action). trap_place a place) e
 
-module _ {T : Setup} {g : ℕ} {c : Record} (x : Here T g c) (act : Action) (d p : ℕ) (removes : List ℕ)
-    (a : IsAt T.code c (Do (Some d) act (p ∷ []) removes)) (sized : IsSized act) (large : 2 ^ 63 ≤ word_of_frame a.w p) where
+module _ {T : Setup} {g : ℕ} {c : Record} (x : Situation T g c) (act : Action) (d p : ℕ) (removes : List ℕ)
+    (a : IsAtOp T.code c (Do (Some d) act (p ∷ []) removes)) (sized : IsSized act) (large : 2 ^ 63 ≤ word_of_frame a.w p) where
   size_typed : VariableHasType (erased_fn a.fn) p int
   size_typed =
       let rule = operands.rule x (Some d) act (p ∷ []) removes a in
@@ -157,11 +157,11 @@ module _ {T : Setup} {g : ℕ} {c : Record} (x : Here T g c) (act : Action) (d p
       operands.int_there x (Some d) act (p ∷ []) removes a p int (contains_here p []) size_typed refl
       ∙ ap (λ z. value.Int z) size_negative.1
 
-  size_step : RegionStepsTo (frames_here x) (Instruct (One g)) x.s.regions (marked x.s.mark (Some (the_end.Trap BadSize a.instr.place)))
+  size_step : RegionStepsTo (frames_here x) (Instruct (One g)) x.s.regions (mark_with_end x.s.mark (Some (the_end.Trap BadSize a.instr.place)))
       (map frame_of x.recs)
   size_step =
       subst
-      (λ place. RegionStepsTo (frames_here x) (Instruct (One g)) x.s.regions (marked x.s.mark (Some (the_end.Trap BadSize place))) (map frame_of x.recs))
+      (λ place. RegionStepsTo (frames_here x) (Instruct (One g)) x.s.regions (mark_with_end x.s.mark (Some (the_end.Trap BadSize place))) (map frame_of x.recs))
       (size_place act a.instr.place sized)
       (trap_law (at_instruction x a) (Some d) act (p ∷ []) removes BadSize a.is
       (ap (λ (v : Value). performed T.code.structs act (destination_type (erased T.code) (at_instruction x a).before.frame (Some d)) (v ∷ [])

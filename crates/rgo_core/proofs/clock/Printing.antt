@@ -5,8 +5,8 @@ use Rattle.std.proofs.lemmas.Option.{same_Some}
 use Rattle.rgo_sound.specs.Code.Code.{CodeInstr, CodeOp, Print}
 use Rattle.rgo_core_channels.specs.Records.{at_rest}
 use Rattle.rgo_core_frames.proofs.Sound.{next_sound}
-use Rattle.rgo_core_frames.specs.Prints.{printed_values}
-use Rattle.rgo_core_frames.specs.WordFrames.{WordFrame}
+use Rattle.rgo_core_frames.specs.steps.Prints.{printed_values}
+use Rattle.rgo_core_frames.specs.shown.WordFrames.{WordFrame}
 use Rattle.rgo_core_memory.proofs.image.Quiets.{quiet_keeps}
 use Rattle.rgo_core_memory.specs.Quiet.{IsGo}
 use Rattle.rgo_sound.specs.Machine.Lines.{printed_line}
@@ -21,10 +21,10 @@ use Rattle.rgo_sound.specs.Tally.{counts_plus, no_share}
 use Rattle.rgo_sound.specs.Tac.Frames.{TacFrame}
 use Rattle.rgo_sound.specs.Typed.declared.statements.Piece.{Piece}
 use Rattle.rgo_core_frames.proofs.steps.ActionSteps.{print_law as frames_print}
-use Rattle.rgo_core.specs.ClockSteps.{Prints}
-use Rattle.rgo_core.specs.Core.{Here, Setup, layout}
+use Rattle.rgo_core.specs.moves.Clock.{Prints}
+use Rattle.rgo_core.specs.Core.{Situation, Setup, layout}
 use Rattle.rgo_core.specs.Laws.{PrintMove, printed_by}
-use Rattle.rgo_core.specs.Next.{IsAt}
+use Rattle.rgo_core.specs.Next.{IsAtOp}
 use Rattle.rgo_core.specs.Records.{Record, steps_of}
 use Rattle.rgo_core.proofs.clock.ClockLifts.{ticket_law}
 use Rattle.rgo_core.proofs.steps.Lift.{many_set, shallow_here}
@@ -50,7 +50,7 @@ counts_step s t n regions pages memory many steps = λ i. record {
 }
 
 -- the instruction of a record is the machine's
-pub not_go : {T : Setup} {g : ℕ} {c : Record} {op : CodeOp} (x : Here T g c) (a : IsAt T.code c op) → (IsGo op → ⊥) → (frame : TacFrame) (callers : List TacFrame)
+pub not_go : {T : Setup} {g : ℕ} {c : Record} {op : CodeOp} (x : Situation T g c) (a : IsAtOp T.code c op) → (IsGo op → ⊥) → (frame : TacFrame) (callers : List TacFrame)
     (instr : CodeInstr) → slice_get x.s.plain.goroutines g ≡ Some (frame ∷ callers) → current T.code frame ≡ Some instr → IsGo instr.op → ⊥
 not_go {T} {op = op} x a none frame callers instr at cur go =
     let b = (at_instruction x a).before in
@@ -61,7 +61,7 @@ not_go {T} {op = op} x a none frame callers instr at cur go =
     heads : (f f2 : TacFrame) (fs fs2 : List TacFrame) → f ∷ fs ≡ f2 ∷ fs2 → f ≡ f2
     heads f f2 fs fs2 e = cc
 
-module _ {T : Setup} {g : ℕ} {c : Record} (x : Here T g c) (pieces : List Piece) (from removes : List ℕ) (a : IsAt T.code c (Print pieces from removes))
+module _ {T : Setup} {g : ℕ} {c : Record} (x : Situation T g c) (pieces : List Piece) (from removes : List ℕ) (a : IsAtOp T.code c (Print pieces from removes))
     (rest : c.side ≡ at_rest) where
   abbrev bytes : List ℕ
   bytes = printed_line pieces (printed_values a.fn a.w from)

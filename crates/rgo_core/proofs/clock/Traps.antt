@@ -6,25 +6,25 @@ use Rattle.rgo_sound.specs.Machine.declared.picks.End.TheVariants as the_end
 use Rattle.rgo_sound.specs.Machine.declared.picks.Pick.TheVariants.{One}
 use Rattle.rgo_sound.specs.Memory.declared.traps.Trap.{Trap}
 use Rattle.rgo_sound.specs.Memory.Memory.{Memory as Heap}
-use Rattle.rgo_sound.specs.RegionMachine.Instructions.{marked}
+use Rattle.rgo_sound.specs.RegionMachine.Instructions.{mark_with_end}
 use Rattle.rgo_sound.specs.RegionMachine.Machine.{Instruct}
 use Rattle.rgo_sound.specs.RegionMachine.States.{Ended, Mark}
 use Rattle.rgo_sound.specs.Tally.{no_share}
 use Rattle.rgo_core_channels.specs.Records.{at_rest}
 use Rattle.rgo_core_frames.proofs.Sound.{next_sound}
 use Rattle.rgo_core_frames.specs.Fits.{RecordsFit}
-use Rattle.rgo_core_frames.specs.Steps.{RegionStepsTo}
+use Rattle.rgo_core_frames.specs.steps.Bookkept.{RegionStepsTo}
 use Rattle.rgo_core_memory.proofs.image.Quiets.{quiet_keeps}
 use Rattle.rgo_core_memory.proofs.Rows.{set_again}
 use Rattle.rgo_core_memory.specs.Quiet.{IsGo}
 use Rattle.rgo_core_memory.specs.Words.{clock_at}
-use Rattle.rgo_core.specs.ClockSteps.{EndsRunNext, first_mark}
-use Rattle.rgo_core.specs.Core.{Here, Setup, layout}
+use Rattle.rgo_core.specs.moves.Clock.{EndsRunNext, first_mark}
+use Rattle.rgo_core.specs.Core.{Situation, Setup, layout}
 use Rattle.rgo_core.specs.Image.{Image}
-use Rattle.rgo_core.specs.Next.{IsAt}
+use Rattle.rgo_core.specs.Next.{IsAtOp}
 use Rattle.rgo_core.specs.Records.{Record, frame_of, steps_of}
 use Rattle.rgo_core.specs.Steps.{Moves}
-use Rattle.rgo_core.specs.TrapMoves.{trapped}
+use Rattle.rgo_core.specs.moves.ChannelTraps.{trapped_record}
 use Rattle.rgo_core.proofs.clock.ClockLifts.{end_law}
 use Rattle.rgo_core.proofs.goroutines.Counting.{instructed_counts}
 use Rattle.rgo_core.proofs.steps.Lift.{many_set, shallow_here}
@@ -34,14 +34,14 @@ use Rattle.rgo_core.proofs.pages.Unreserved.{adds_nothing}
 use Rattle.rgo_core.proofs.image.Standing.{frame_at, frames_here, image_clock}
 use Rattle.rgo_core.proofs.steps.Staying.{image_stays}
 
-marked_is : (m : Option Mark) (end : End) → marked m (Some end) ≡ first_mark m (Ended end)
+marked_is : (m : Option Mark) (end : End) → mark_with_end m (Some end) ≡ first_mark m (Ended end)
 marked_is None end = refl
 marked_is (Some m) end = refl
 
-module _ {T : Setup} {g : ℕ} {c : Record} (x : Here T g c) (trap : Trap) (place : ℕ)
-    (F : RegionStepsTo (frames_here x) (Instruct (One g)) x.s.regions (marked x.s.mark (Some (the_end.Trap trap place))) (map frame_of x.recs)) where
+module _ {T : Setup} {g : ℕ} {c : Record} (x : Situation T g c) (trap : Trap) (place : ℕ)
+    (F : RegionStepsTo (frames_here x) (Instruct (One g)) x.s.regions (mark_with_end x.s.mark (Some (the_end.Trap trap place))) (map frame_of x.recs)) where
   abbrev pub d : Record
-  d = trapped c (slice_index x.words 0) trap place
+  d = trapped_record c (slice_index x.words 0) trap place
 
   -- by an image of the state after it
   pub trap_ends : Image T.code (layout T) x.words (slice_set x.recs g d) F.state → EndsRunNext x (Ended (the_end.Trap trap place)) d
@@ -67,7 +67,7 @@ module _ {T : Setup} {g : ℕ} {c : Record} (x : Here T g c) (trap : Trap) (plac
       }
 
   -- of a goroutine that is at no channel
-  pub traps_so : c.side ≡ at_rest → {op : CodeOp} (a : IsAt T.code c op) → (IsGo op → ⊥) → EndsRunNext x (Ended (the_end.Trap trap place)) d
+  pub traps_so : c.side ≡ at_rest → {op : CodeOp} (a : IsAtOp T.code c op) → (IsGo op → ⊥) → EndsRunNext x (Ended (the_end.Trap trap place)) d
   traps_so rests a no_go =
       trap_ends
       (image_stays x (Instruct (One g)) F.state F.steps refl rests F.same.memory F.same.owners F.regions_are d refl refl
@@ -78,9 +78,9 @@ module _ {T : Setup} {g : ℕ} {c : Record} (x : Here T g c) (trap : Trap) (plac
 
 -- from what each state says
 pub by_ends : (T : Setup) (g : ℕ) (c : Record) (trap : Trap) (place : ℕ)
-    → ((x : Here T g c) → EndsRunNext x (Ended (the_end.Trap trap place)) (trapped c (slice_index x.words 0) trap place))
-    → Moves T g c clock_at (λ n. bit_or n 9223372036854775808) (λ n d. d ≡ trapped c n trap place)
+    → ((x : Situation T g c) → EndsRunNext x (Ended (the_end.Trap trap place)) (trapped_record c (slice_index x.words 0) trap place))
+    → Moves T g c clock_at (λ n. bit_or n 9223372036854775808) (λ n d. d ≡ trapped_record c n trap place)
 by_ends T g c trap place ends =
-    end_law T g c (Ended (the_end.Trap trap place)) (λ n. trapped c n trap place)
+    end_law T g c (Ended (the_end.Trap trap place)) (λ n. trapped_record c n trap place)
     (λ n. record { prints = refl; first = refl; children = refl; refused = refl; accesses = refl })
     (λ x fits. ends x)

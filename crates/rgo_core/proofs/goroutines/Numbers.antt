@@ -5,7 +5,7 @@ use mathlib.Core.Logic.{dite}
 use native.Mathlib.Decide.{ℕ_discrete}
 use Rattle.rgo_core_memory.proofs.Rows.{at_set, below}
 use Rattle.rgo_sound.proofs.Places.{get_snoc, length_set}
-use Rattle.rgo_core.specs.Numbers.{Numbers, has_child, was_refused}
+use Rattle.rgo_core.specs.ties.Numbers.{Numbers, has_child, was_refused}
 use Rattle.rgo_core.specs.Records.{ClockRec}
 use Rattle.rgo_core.proofs.Lists.{cond_other, cond_same, count_first, one_if, sum_same, sum_set}
 

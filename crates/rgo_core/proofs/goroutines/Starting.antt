@@ -3,15 +3,15 @@ use Rattle.std.proofs.Common.{◌≡◌, ⊎_elim, ℕ, suc, ◌+◌, ◌≤◌,
 use Rattle.std.proofs.lemmas.List.{append-nil}
 use Rattle.std.proofs.lemmas.Option.{same_Some, slice_get_within}
 use Rattle.rgo_sound.specs.Code.Code.{CodeFn, CodeOp, Go}
-use Rattle.rgo_core_channels.specs.Records.{Rec as SideRec, at_rest}
+use Rattle.rgo_core_channels.specs.Records.{ChannelRec as SideRec, at_rest}
 use Rattle.rgo_core_frames.proofs.Before.{no_offer}
 use Rattle.rgo_core_frames.proofs.Sound.{next_sound}
 use Rattle.rgo_core_frames.proofs.goroutines.Starting.{go_law}
-use Rattle.rgo_core_frames.specs.Children.{child_records}
+use Rattle.rgo_core_frames.specs.goroutines.Children.{child_records}
 use Rattle.rgo_core_frames.specs.Fits.{RecordsFit, IsPast, IsShown}
-use Rattle.rgo_core_frames.specs.Records.{Rec as FrameRec}
-use Rattle.rgo_core_frames.specs.Slots.{nameless}
-use Rattle.rgo_core_frames.specs.WordFrames.{WordFrame, word_called, words_of}
+use Rattle.rgo_core_frames.specs.Records.{FramesRec as FrameRec}
+use Rattle.rgo_core_frames.specs.regions.Slots.{nameless}
+use Rattle.rgo_core_frames.specs.shown.WordFrames.{WordFrame, word_called, words_of}
 use Rattle.rgo_core_memory.proofs.image.Quiets.{start_keeps}
 use Rattle.rgo_core_memory.proofs.Rows.{set_again}
 use Rattle.rgo_core_memory.specs.Image.{StateImage}
@@ -28,11 +28,11 @@ use Rattle.rgo_sound.specs.RegionMachine.States.{Holder, NoOffer, RegionState, S
 use Rattle.rgo_sound.proofs.Places.{get_append_last, length_set}
 use Rattle.rgo_sound.specs.Tally.{counts_plus, no_share}
 use Rattle.rgo_sound.specs.Tac.declared.regions.Class.{Class}
-use Rattle.rgo_core.specs.ClockSteps.{StartsGoroutineNext}
-use Rattle.rgo_core.specs.Core.{Here, Setup, layout}
+use Rattle.rgo_core.specs.moves.Clock.{StartsGoroutineNext}
+use Rattle.rgo_core.specs.Core.{Situation, Setup, layout}
 use Rattle.rgo_core.specs.Image.{Image, ChannelsIn}
 use Rattle.rgo_core.specs.Laws.{StartMove, child_of, started_by}
-use Rattle.rgo_core.specs.Next.{IsAt}
+use Rattle.rgo_core.specs.Next.{IsAtOp}
 use Rattle.rgo_core.specs.Records.{ClockRec, Record, counted, frame_of, memory_of, side_of, with_child, steps_of}
 use Rattle.rgo_core.proofs.clock.ClockLifts.{map_more, number_law}
 use Rattle.rgo_core.proofs.steps.Lift.{many, shallow_here}
@@ -77,8 +77,8 @@ counted_start c n = λ i. record {
 not_standing : (o : ℕ) → Standing o ≡ NoOffer → ⊥
 not_standing o e = cc e
 
-module _ {T : Setup} {g : ℕ} {c : Record} (x : Here T g c) (f : ℕ) (callee : CodeFn) (from : List ℕ) (passes : List Class) (removes : List ℕ)
-    (a : IsAt T.code c (Go f from passes removes)) (is_callee : code_function T.code f ≡ Some callee) (rest : c.side ≡ at_rest) where
+module _ {T : Setup} {g : ℕ} {c : Record} (x : Situation T g c) (f : ℕ) (callee : CodeFn) (from : List ℕ) (passes : List Class) (removes : List ℕ)
+    (a : IsAtOp T.code c (Go f from passes removes)) (is_callee : code_function T.code f ≡ Some callee) (rest : c.side ≡ at_rest) where
   abbrev d : Record
   d = started_by T c a (slice_index x.words 16)
 

@@ -1,6 +1,6 @@
 -- Where words of a type may point.
 use Rattle.std.proofs.Common.{refl, sym, arith, true≢false}
-use Rattle.rgo_core.specs.BoundExamples.{BoundExamples}
+use Rattle.rgo_core.specs.examples.Bounds.{BoundExamples}
 
 pub examples : BoundExamples
 examples = record {

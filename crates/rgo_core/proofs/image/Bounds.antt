@@ -31,7 +31,7 @@ use Rattle.rgo_sound.specs.Typed.declared.actions.Action.{Action}
 use Rattle.rgo_sound.specs.Typed.declared.programs.Struct.{Struct}
 use Rattle.rgo_sound.specs.Typed.declared.types.Type.{«Type»}
 use Rattle.rgo_core_frames.specs.Fits.{IsOfLive}
-use Rattle.rgo_core_frames.specs.Words.{Shows}
+use Rattle.rgo_core_frames.specs.shown.Words.{Shows}
 use Rattle.rgo_core_memory.specs.Encoding.{Spot, address}
 use Rattle.rgo_core_memory.specs.Ground.{IsLiveObject}
 use Rattle.rgo_core_memory.specs.Image.{StateImage, Where}
@@ -40,9 +40,9 @@ use Rattle.rgo_core_memory.specs.Spread.{table_words, words_before}
 use Rattle.rgo_core_memory.proofs.image.Facts.{follow}
 use Rattle.rgo_core_memory.proofs.objects.Spreads.{in_table, number_spot, same_data, same_spread, spread_data}
 use Rattle.rgo_core_memory.proofs.Writes.{in_pages}
-use Rattle.rgo_core.specs.Bounds.{LieInPages, Points, least_words, row_words, struct_words, target_type}
-use Rattle.rgo_core.specs.Core.{Here, Setup, layout}
-use Rattle.rgo_core.specs.Next.{IsAt}
+use Rattle.rgo_core.specs.ties.Bounds.{LieInPages, Points, least_words, row_words, struct_words, target_type}
+use Rattle.rgo_core.specs.Core.{Situation, Setup, layout}
+use Rattle.rgo_core.specs.Next.{IsAtOp}
 use Rattle.rgo_core.specs.Records.{Record}
 use Rattle.rgo_core.proofs.new_objects.MakesObject.{type_alike}
 use Rattle.rgo_core.proofs.steps.Operands as operands
@@ -108,7 +108,7 @@ abbrev pub LeadsToLive : RegionState → Value → Type 0
 LeadsToLive s v = (o : ℕ) → v ≡ value.Object o → IsOfLive s.regions s.owners o
 
 -- what an object holds leads into its own region
-pub held_live : {T : Setup} {g : ℕ} {c : Record} (x : Here T g c) (o : ℕ) (object : Object) (r : Region)
+pub held_live : {T : Setup} {g : ℕ} {c : Record} (x : Situation T g c) (o : ℕ) (object : Object) (r : Region)
     → IsLiveObject x.s.plain.memory.heap x.s.owners x.s.regions o object r → (i : ℕ) (v : Value) → slice_get (cells_of object) i ≡ Some v
     → LeadsToLive x.s v
 held_live x o object r stands i v e p is = (
@@ -180,8 +180,8 @@ typed_at code frame fn d ty is typed =
     ap (λ o. variable_type o d) (slice_get-map erased_fn code.functions frame.function ∙ ap (option_map erased_fn) is)
     ∙ get_or_from_slice_get (erased_fn fn).variables d ty _ typed
 
-module _ {T : Setup} {g : ℕ} {c : Record} (x : Here T g c) (to : Option ℕ) (act : Action) (from removes : List ℕ)
-    (a : IsAt T.code c (Do to act from removes)) (mem : Heap) (v : Value)
+module _ {T : Setup} {g : ℕ} {c : Record} (x : Situation T g c) (to : Option ℕ) (act : Action) (from removes : List ℕ)
+    (a : IsAtOp T.code c (Do to act from removes)) (mem : Heap) (v : Value)
     (does : performed T.code.structs act (destination_type (erased T.code) (operands.b x to act from removes a).frame to)
     (operand_values (operands.b x to act from removes a).frame from) x.s.plain.memory ≡ Some (DoesSo mem v)) where
   abbrev frame : TacFrame

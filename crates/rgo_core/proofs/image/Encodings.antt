@@ -22,7 +22,7 @@ use Rattle.rgo_sound.specs.Types.{FrameFits, FramesHaveKinds, HasKind, HaveKinds
 use Rattle.rgo_sound.specs.Values.{LeadsInto}
 use Rattle.rgo_sound.specs.Typed.declared.actions.Action.{Action}
 use Rattle.rgo_sound.specs.Typed.declared.types.Type.{«Type»}
-use Rattle.rgo_core_frames.specs.Words.{Shows}
+use Rattle.rgo_core_frames.specs.shown.Words.{Shows}
 use Rattle.rgo_core_memory.specs.Accesses.{Before}
 use Rattle.rgo_core_memory.specs.Encoding.{Spot, address, encode}
 use Rattle.rgo_core_memory.specs.declared.layout.TableSizes.{TableSizes}

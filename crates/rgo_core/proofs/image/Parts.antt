@@ -7,23 +7,23 @@ use Rattle.rgo_sound.specs.RegionMachine.States.{RegionState}
 use Rattle.rgo_sound.proofs.Places.{length_set}
 use Rattle.rgo_sound.specs.Tally.{counts_plus, no_share}
 use Rattle.rgo_core_channels.specs.Channels.{Places}
-use Rattle.rgo_core_channels.specs.Records.{Rec as SideRec}
+use Rattle.rgo_core_channels.specs.Records.{ChannelRec as SideRec}
 use Rattle.rgo_core_frames.specs.Fits.{RecordsFit}
-use Rattle.rgo_core_frames.specs.Records.{Rec as FrameRec}
+use Rattle.rgo_core_frames.specs.Records.{FramesRec as FrameRec}
 use Rattle.rgo_core_frames.specs.States.{IsSound}
 use Rattle.rgo_core_memory.specs.Encoding.{address}
 use Rattle.rgo_core_memory.specs.Image.{StateImage, Where}
 use Rattle.rgo_core_memory.specs.Records.{Rec as MemoryRec}
 use Rattle.rgo_core_memory.proofs.Rows.{set_again}
 use Rattle.rgo_core_memory.proofs.image.Stepped.{map_set}
-use Rattle.rgo_core.specs.Core.{Here, Setup, layout}
+use Rattle.rgo_core.specs.Core.{Situation, Setup, layout}
 use Rattle.rgo_core.specs.Image.{Image, ChannelsIn}
 use Rattle.rgo_core.specs.Records.{Record, frame_of, memory_of, side_of}
 use Rattle.rgo_core.proofs.steps.Lift.{many, shallow_here}
 use Rattle.rgo_core.proofs.image.Standing.{frame_at, memory_at, side_at}
 use Rattle.rgo_core.proofs.goroutines.Counting.{plus_zero}
 
-module _ {T : Setup} {g : ℕ} {c : Record} (x : Here T g c) where
+module _ {T : Setup} {g : ℕ} {c : Record} (x : Situation T g c) where
   abbrev pub I : Image T.code (layout T) x.words x.recs x.s
   I = x.core.image
 

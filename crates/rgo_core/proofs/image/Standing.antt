@@ -2,26 +2,26 @@
 use Rattle.std.proofs.Common.{◌≡◌, inl, ℕ, zero, suc, ◌<◌, ◌≤◌, List, Some, length, map, slice_get, slice_set, ap, sym, subst, ◌∙◌, arith}
 use Rattle.rgo_sound.specs.Code.Code.{CodeOp, Code}
 use Rattle.rgo_core_channels.proofs.Quiet as channel_laws
-use Rattle.rgo_core_channels.specs.Channels.{Places, word_of}
-use Rattle.rgo_core_channels.specs.Records.{Rec as SideRec}
+use Rattle.rgo_core_channels.specs.Channels.{Places, word_of_channel}
+use Rattle.rgo_core_channels.specs.Records.{ChannelRec as SideRec}
 use Rattle.rgo_core_frames.proofs.Before.{before_law}
-use Rattle.rgo_core_frames.specs.Records.{Rec as FrameRec}
+use Rattle.rgo_core_frames.specs.Records.{FramesRec as FrameRec}
 use Rattle.rgo_core_frames.specs.States.{AtInstruction, Here as FramesHere}
 use Rattle.rgo_core_memory.proofs.image.Elsewhere.{clock_keeps, number_keeps}
 use Rattle.rgo_core_memory.proofs.Rows.{set_again}
 use Rattle.rgo_core_memory.proofs.image.Stepped.{map_get, map_set}
-use Rattle.rgo_core_memory.specs.Image.{StateImage, Where, code_of}
+use Rattle.rgo_core_memory.specs.Image.{StateImage, Where, word_of_value}
 use Rattle.rgo_core_memory.specs.Records.{Rec as MemoryRec}
 use Rattle.rgo_core_memory.specs.Words.{base}
 use Rattle.rgo_core_memory.specs.declared.layout.TableSizes.{TableSizes}
 use Rattle.rgo_sound.specs.RegionMachine.States.{RegionState}
-use Rattle.rgo_core.specs.Core.{Here, Setup}
+use Rattle.rgo_core.specs.Core.{Situation, Setup}
 use Rattle.rgo_core_channels.specs.Positions.{cell_place, place_at}
 use Rattle.rgo_core.specs.Image.{Image, ChannelsIn}
-use Rattle.rgo_core.specs.Next.{IsAt}
+use Rattle.rgo_core.specs.Next.{IsAtOp}
 use Rattle.rgo_core.specs.Records.{Record, frame_of, memory_of, side_of}
 
-module _ {T : Setup} {g : ℕ} {c : Record} (x : Here T g c) where
+module _ {T : Setup} {g : ℕ} {c : Record} (x : Situation T g c) where
   pub frame_at : slice_get (map frame_of x.recs) g ≡ Some c.frame
   frame_at = map_get frame_of x.recs g c x.is_c
 
@@ -46,7 +46,7 @@ module _ {T : Setup} {g : ℕ} {c : Record} (x : Here T g c) where
     is_c = frame_at;
   }
 
-  abbrev pub at_instruction : {op : CodeOp} → IsAt T.code c op → AtInstruction
+  abbrev pub at_instruction : {op : CodeOp} → IsAtOp T.code c op → AtInstruction
   at_instruction a = record {
     here = frames_here;
     w = a.w;
@@ -81,7 +81,7 @@ module _ (code : Code) (z : TableSizes) (words : List ℕ) (recs : List Record) 
   }
 
 -- words of channels are those of pages
-pub word_high : (z : TableSizes) (places : Where) (o j : ℕ) → base z ≤ word_of (place_at z places) (cell_place z places) o j
+pub word_high : (z : TableSizes) (places : Where) (o j : ℕ) → base z ≤ word_of_channel (place_at z places) (cell_place z places) o j
 word_high z places o zero = omega arith
 word_high z places o (suc zero) = omega arith
 word_high z places o (suc (suc j)) = omega arith
@@ -91,7 +91,7 @@ pub channels_beside : (code : Code) (z : TableSizes) (places : Where) (words : L
     → i < base z → ChannelsIn code z places words recs s at
     → ChannelsIn code z places (slice_set words i v) recs s at
 channels_beside code z places words recs s at i v low =
-    channel_laws.word_keeps code z.page_words (code_of z places) (place_at z places) (cell_place z places) words recs s at i v
+    channel_laws.word_keeps code z.page_words (word_of_value z places) (place_at z places) (cell_place z places) words recs s at i v
     (λ o j k on h e. let l = word_high z places o j in omega (arith, l, e, low))
 
 pub image_clock : (code : Code) (z : TableSizes) (words : List ℕ) (recs : List Record) (s : RegionState) (v : ℕ) → Image code z words recs s

@@ -27,16 +27,16 @@ use Rattle.rgo_sound.specs.Typed.declared.types.Type.{«Type»}
 use Rattle.rgo_sound.specs.WellFormed.TypeRules.{int}
 use Rattle.rgo_core_channels.specs.Channels.{Chan, channel}
 use Rattle.rgo_core_channels.proofs.Steps.{same_channel}
-use Rattle.rgo_core_frames.specs.Before.{IsBefore}
-use Rattle.rgo_core_frames.specs.Shown.{IsAlike}
+use Rattle.rgo_core_frames.specs.steps.Before.{IsBefore}
+use Rattle.rgo_core_frames.specs.shown.Variables.{IsAlike}
 use Rattle.rgo_core_frames.specs.States.{AtInstruction}
-use Rattle.rgo_core_frames.specs.WordFrames.{WordFrame, bare, word_at}
+use Rattle.rgo_core_frames.specs.shown.WordFrames.{WordFrame, bare, frame_word}
 use Rattle.rgo_core_frames.proofs.shown.Operands.{int_law}
 use Rattle.rgo_core_memory.specs.Accesses.{Before}
 use Rattle.rgo_core_memory.specs.Allocations.{MakesNext}
-use Rattle.rgo_core.specs.Core.{Here, Setup}
-use Rattle.rgo_core.specs.Next.{IsAt}
-use Rattle.rgo_core.specs.NewObjects.{AChannel, ASlice, AStruct, MakesObject, ObjectOf}
+use Rattle.rgo_core.specs.Core.{Situation, Setup}
+use Rattle.rgo_core.specs.Next.{IsAtOp}
+use Rattle.rgo_core.specs.moves.NewObjects.{AChannel, ASlice, AStruct, MakesObject, ObjectOf}
 use Rattle.rgo_core.specs.Records.{Record}
 use Rattle.rgo_core.proofs.image.Encodings.{small_int}
 use Rattle.rgo_core.proofs.image.Standing.{at_instruction}
@@ -70,8 +70,8 @@ struct_no_channel cells k e = cc
 pub slice_no_channel : (cells : List Value) (k : Chan) → SliceObject cells ≡ channel k → ⊥
 slice_no_channel cells k e = cc
 
-module _ {T : Setup} {g : ℕ} {c : Record} (x : Here T g c) (to : Option ℕ) (act : Action) (from removes : List ℕ)
-    (a : IsAt T.code c (Do to act from removes)) (object : Object) where
+module _ {T : Setup} {g : ℕ} {c : Record} (x : Situation T g c) (to : Option ℕ) (act : Action) (from removes : List ℕ)
+    (a : IsAtOp T.code c (Do to act from removes)) (object : Object) where
   abbrev pub at : AtInstruction
   at = at_instruction x a
 
@@ -104,7 +104,7 @@ module _ {T : Setup} {g : ℕ} {c : Record} (x : Here T g c) (to : Option ℕ) (
   }
 
   -- a size
-  sized : (p n : ℕ) (other : Action) → act ≡ other → from ≡ p ∷ [] → word_at a.w p ≡ n → n < 2 ^ 63
+  sized : (p n : ℕ) (other : Action) → act ≡ other → from ≡ p ∷ [] → frame_word a.w p ≡ n → n < 2 ^ 63
       → ((operands : List «Type») → DoFits (erased T.code) (erased_fn a.fn) to other operands → operands ≡ int ∷ [])
       → Contains (reads (erased_op (Do to other (p ∷ []) removes))) p → value_at b.frame p ≡ value.Int (pos n)
   sized p n other ea ef en small takes read =
@@ -120,21 +120,21 @@ module _ {T : Setup} {g : ℕ} {c : Record} (x : Here T g c) (to : Option ℕ) (
       })
       ∙ ap (λ z. value.Int z) (ap (cast_signed w64) en ∙ small_int n small)
 
-  slice_size : (p : ℕ) → act ≡ action.Slice → from ≡ p ∷ [] → word_at a.w p < 2 ^ 63
-      → value_at b.frame p ≡ value.Int (pos (word_at a.w p))
-  slice_size p ea ef small = sized p (word_at a.w p) action.Slice ea ef refl small
+  slice_size : (p : ℕ) → act ≡ action.Slice → from ≡ p ∷ [] → frame_word a.w p < 2 ^ 63
+      → value_at b.frame p ≡ value.Int (pos (frame_word a.w p))
+  slice_size p ea ef small = sized p (frame_word a.w p) action.Slice ea ef refl small
       (λ operands d. slice_takes (erased T.code) (erased_fn a.fn) to operands d) (contains_here p [])
 
-  channel_size : (p : ℕ) → act ≡ action.Chan → from ≡ p ∷ [] → word_at a.w p < 2 ^ 63
-      → value_at b.frame p ≡ value.Int (pos (word_at a.w p))
-  channel_size p ea ef small = sized p (word_at a.w p) action.Chan ea ef refl small
+  channel_size : (p : ℕ) → act ≡ action.Chan → from ≡ p ∷ [] → frame_word a.w p < 2 ^ 63
+      → value_at b.frame p ≡ value.Int (pos (frame_word a.w p))
+  channel_size p ea ef small = sized p (frame_word a.w p) action.Chan ea ef refl small
       (λ operands d. channel_takes (erased T.code) (erased_fn a.fn) to operands d) (contains_here p [])
 
-  slice_is : (p : ℕ) → object ≡ SliceObject (replicate (word_at a.w p) (element_zero (destination_type (erased T.code) (bare a.w) to)))
-      → object ≡ SliceObject (replicate (word_at a.w p) (element_zero (destination_type (erased T.code) b.frame to)))
+  slice_is : (p : ℕ) → object ≡ SliceObject (replicate (frame_word a.w p) (element_zero (destination_type (erased T.code) (bare a.w) to)))
+      → object ≡ SliceObject (replicate (frame_word a.w p) (element_zero (destination_type (erased T.code) b.frame to)))
   slice_is p eo =
       eo
-      ∙ ap (λ ty. SliceObject (replicate (word_at a.w p) (element_zero ty))) (type_alike (erased T.code) b.frame a.w b.newest.alike to)
+      ∙ ap (λ ty. SliceObject (replicate (frame_word a.w p) (element_zero ty))) (type_alike (erased T.code) b.frame a.w b.newest.alike to)
 
   -- the action makes the object
   pub makes_it : (most : ℕ) → most ≤ 2 ^ 63 → ObjectOf most T.code a.w to act from object
@@ -159,7 +159,7 @@ module _ {T : Setup} {g : ℕ} {c : Record} (x : Here T g c) (to : Option ℕ) (
     fresh = λ k e. absurd (struct_no_channel (map zero_of s.fields) k (sym eo ∙ e));
   }
   made (ASlice p ea ef small eo) =
-      let n = word_at a.w p in
+      let n = frame_word a.w p in
       let v = slice_size p ea ef small in
       record {
         does = makes_it 1073741820 (omega arith) (ASlice p ea ef small eo);
@@ -168,7 +168,7 @@ module _ {T : Setup} {g : ℕ} {c : Record} (x : Here T g c) (to : Option ℕ) (
         fresh = λ k e. absurd (slice_no_channel (replicate n (element_zero (destination_type (erased T.code) (bare a.w) to))) k (sym eo ∙ e));
       }
   made (AChannel p ea ef small eo) =
-      let n = word_at a.w p in
+      let n = frame_word a.w p in
       let v = channel_size p ea ef (omega (arith, small)) in
       record {
         does = makes_it 1073741820 (omega arith) (AChannel p ea ef small eo);

@@ -18,25 +18,25 @@ use Rattle.rgo_sound.specs.RegionMachine.declared.regions.Region.{Region}
 use Rattle.rgo_sound.proofs.Places.{get_append_last, get_append_left, get_some, length_set}
 use Rattle.rgo_sound.specs.Typed.declared.actions.Action.{Action}
 use Rattle.rgo_sound.specs.Typed.declared.actions.Action.TheVariants.{Send}
-use Rattle.rgo_core_channels.specs.Channels.{Calm, Chan, Channels, On, Places, Unlocked, channel, word_of}
-use Rattle.rgo_core_channels.specs.Elsewhere.{IsMade, Leaves}
-use Rattle.rgo_core_channels.specs.Records.{Rec as SideRec, at_rest}
+use Rattle.rgo_core_channels.specs.Channels.{Calm, Chan, Channels, On, Places, Unlocked, channel, word_of_channel}
+use Rattle.rgo_core_channels.specs.Elsewhere.{IsMade, LeavesChannels}
+use Rattle.rgo_core_channels.specs.Records.{ChannelRec as SideRec, at_rest}
 use Rattle.rgo_core_channels.proofs.Elsewhere.{event_keeps}
-use Rattle.rgo_core_frames.specs.Actions.{after_action}
+use Rattle.rgo_core_frames.specs.steps.Actions.{after_action}
 use Rattle.rgo_core_frames.specs.Fits.{IsOfLive, ObjectsDiffer}
-use Rattle.rgo_core_frames.specs.Makes.{MakesAt}
-use Rattle.rgo_core_frames.specs.Records.{Rec as FrameRec}
-use Rattle.rgo_core_frames.specs.Slots.{slot}
-use Rattle.rgo_core_frames.specs.Steps.{HasInstruction}
-use Rattle.rgo_core_frames.specs.Words.{Shows as WordShows}
+use Rattle.rgo_core_frames.specs.steps.Makes.{MakesAt}
+use Rattle.rgo_core_frames.specs.Records.{FramesRec as FrameRec}
+use Rattle.rgo_core_frames.specs.regions.Slots.{slotted_region}
+use Rattle.rgo_core_frames.specs.steps.Bookkept.{HasInstruction}
+use Rattle.rgo_core_frames.specs.shown.Words.{Shows as WordShows}
 use Rattle.rgo_core_frames.proofs.steps.ActionSteps.{action_law}
 use Rattle.rgo_core_frames.proofs.regions.Making.{region_law}
-use Rattle.rgo_core_memory.specs.Encoding.{Spot, address, content, opening}
+use Rattle.rgo_core_memory.specs.Encoding.{Spot, address, content, opening_word}
 use Rattle.rgo_core_memory.specs.Ground.{Held, IsLiveObject, MayUseRegion, ground_of, held_of, made_apart}
-use Rattle.rgo_core_memory.specs.Image.{MemoryImage, StateImage, Where, code_of, word_at}
+use Rattle.rgo_core_memory.specs.Image.{MemoryImage, StateImage, Where, word_of_value, word_at}
 use Rattle.rgo_core_memory.specs.Parts.{CoversApart, MakesApart, slot_of}
 use Rattle.rgo_core_memory.specs.Records.{Rec as MemoryRec, with_object_apart, with_word_apart}
-use Rattle.rgo_core_memory.specs.Words.{cell_at, put}
+use Rattle.rgo_core_memory.specs.Words.{cell_at, put_at}
 use Rattle.rgo_core_memory.specs.declared.layout.TableSizes.{TableSizes}
 use Rattle.rgo_core_memory.proofs.objects.Addresses.{one_address}
 use Rattle.rgo_core_memory.proofs.objects.Allocating.{allocation_keeps_apart, word_keeps_apart}
@@ -47,11 +47,11 @@ use Rattle.rgo_core_memory.proofs.Rows.{below, set_again, set_here, snoc_at}
 use Rattle.rgo_core_memory.proofs.regions.Slots.{uses_live}
 use Rattle.rgo_core_memory.proofs.image.Steadies.{steady_of}
 use Rattle.rgo_core_memory.proofs.image.Stepped.{map_get}
-use Rattle.rgo_core.specs.Bounds.{LieInPages, Points, row_words, target_type}
-use Rattle.rgo_core.specs.Core.{Here, Setup, layout}
+use Rattle.rgo_core.specs.ties.Bounds.{LieInPages, Points, row_words, target_type}
+use Rattle.rgo_core.specs.Core.{Situation, Setup, layout}
 use Rattle.rgo_core_channels.specs.Positions.{cell_place, place_at, Layout}
-use Rattle.rgo_core.specs.NewObjects.{MakesObject, reserved_address, slot_number, word_apart}
-use Rattle.rgo_core.specs.Next.{IsAt}
+use Rattle.rgo_core.specs.moves.NewObjects.{MakesObject, reserved_address, slot_number, word_apart}
+use Rattle.rgo_core.specs.Next.{IsAtOp}
 use Rattle.rgo_core.specs.Records.{Record, frame_of, memory_of, side_of}
 use Rattle.rgo_core.proofs.image.Bounds.{LeadsToLive, gives_points, lies_in}
 use Rattle.rgo_core_memory.proofs.objects.Spreads.{in_table, spread_offset, spread_within}
@@ -60,7 +60,7 @@ use Rattle.rgo_core.proofs.channel_steps.Leaving.{touch_more}
 use Rattle.rgo_core.proofs.new_objects.MakesObject.{Made, at, b, made as it_makes}
 use Rattle.rgo_core.proofs.image.Parts.{I}
 use Rattle.rgo_core.proofs.image.Standing.{memory_at, side_at}
-use Rattle.rgo_core.specs.Moments.{moment}
+use Rattle.rgo_core.specs.ties.Moments.{moment}
 use Rattle.rgo_core.proofs.goroutines.Counting.{plus_zero}
 use Rattle.rgo_sound.specs.RegionMachine.Room.{pages_of}
 use Rattle.rgo_core_channels.proofs.Positions.{layout_is}
@@ -68,8 +68,8 @@ use Rattle.rgo_core_memory.specs.Spread.{lead_spot, spread_opening, spread_spot,
 use Rattle.rgo_core.proofs.new_objects.NewObjects.{new_channel, is_new, only_new, slot_is}
 use Rattle.rgo_core.proofs.new_objects.WordsApart.{channel_apart, many, not_large, spread}
 
-module _ {T : Setup} {g : ℕ} {c : Record} (x : Here T g c) (to : Option ℕ) (act : Action) (from removes : List ℕ)
-    (a : IsAt T.code c (Do to act from removes)) (object : Object) (by_slot : Region) (stored : List ℕ) (i : ℕ)
+module _ {T : Setup} {g : ℕ} {c : Record} (x : Situation T g c) (to : Option ℕ) (act : Action) (from removes : List ℕ)
+    (a : IsAtOp T.code c (Do to act from removes)) (object : Object) (by_slot : Region) (stored : List ℕ) (i : ℕ)
     (rests : c.side ≡ at_rest) (mk : MakesObject T.code a.w to act from object)
     (making : making_region (code_function T.code a.w.function) (top_names c.frame.holder.environments) a.instr.op ≡ Some by_slot)
     (slotted : c.memory.reserved.slot ≡ slot_number (layout T) by_slot) (makes : MakesApart (layout T) c.memory object stored)
@@ -111,10 +111,10 @@ module _ {T : Setup} {g : ℕ} {c : Record} (x : Here T g c) (to : Option ℕ) (
   next_words = set x.words (word_apart T c object i) (spread_opening object pages i)
 
   abbrev spot : ℕ → ℕ → Spot
-  spot = put P.spot n (spread_spot z.page_words object pages)
+  spot = put_at P.spot n (spread_spot z.page_words object pages)
 
   abbrev start : ℕ → Spot
-  start = put P.start n (lead_spot pages 0)
+  start = put_at P.start n (lead_spot pages 0)
 
   abbrev pub places' : Where
   places' = record P { spot = spot; start = start }
@@ -295,7 +295,7 @@ module _ {T : Setup} {g : ℕ} {c : Record} (x : Here T g c) (to : Option ℕ) (
   side = map side_of x.recs
 
   abbrev pub at' : Places
-  at' = record { head = put (I x).at.head n 0; lock = put (I x).at.lock n Unlocked; phase = put (I x).at.phase n Calm }
+  at' = record { head = put_at (I x).at.head n 0; lock = put_at (I x).at.lock n Unlocked; phase = put_at (I x).at.phase n Calm }
 
   abbrev pub place' : ℕ → ℕ
   place' = place_at z places'
@@ -313,7 +313,7 @@ module _ {T : Setup} {g : ℕ} {c : Record} (x : Here T g c) (to : Option ℕ) (
   cell_same : (o i' : ℕ) → o < n → cell' o i' ≡ cell_place z P o i'
   cell_same o i' l = ap (λ (y : ℕ → Spot). cell_at z (y (2 + i')).page (y (2 + i')).offset) (old_spot o l)
 
-  codes_same : (v : Value) → ((p : ℕ) → v ≡ value.Object p → p < n) → code_of z places' v ≡ code_of z P v
+  codes_same : (v : Value) → ((p : ℕ) → v ≡ value.Object p → p < n) → word_of_value z places' v ≡ word_of_value z P v
   codes_same v l = old_code z P.start start n old_start v l
 
   -- the words of the new object
@@ -332,10 +332,10 @@ module _ {T : Setup} {g : ℕ} {c : Record} (x : Here T g c) (to : Option ℕ) (
       (M.own.ranged (spread_spot z.page_words object pages j).page (omega (arith, k)))
       (spread_offset z.page_words object pages j sp fine m) ∙ q.laid j m (covers j m))
 
-  opens : (k : Chan) → object ≡ channel k → (j : ℕ) → j < 2 → spread_opening object pages j ≡ opening (content (channel k) j)
+  opens : (k : Chan) → object ≡ channel k → (j : ℕ) → j < 2 → spread_opening object pages j ≡ opening_word (content (channel k) j)
   opens k e j l =
       ap (λ (y : Object). spread_opening y pages j) e
-      ∙ ap (λ (b : Bool). if b then opening (content (channel k) j) else suc (slice_index pages (j - words_of (channel k) + 1)))
+      ∙ ap (λ (b : Bool). if b then opening_word (content (channel k) j) else suc (slice_index pages (j - words_of (channel k) + 1)))
       (low j (words_of (channel k)) (omega (arith, l)))
     where
       low : (a b : ℕ) → a < b → nat_lt a b ≡ true
@@ -380,18 +380,18 @@ module _ {T : Setup} {g : ℕ} {c : Record} (x : Here T g c) (to : Option ℕ) (
     touch_more s t (r ∷ []) H.owners H.regions o (let l = on_low o k on in let w = as_many_owners in omega (arith, l, w)) ∙ on.1,
   )
 
-  word_same : (o j : ℕ) → o < n → word_of place' cell' o j ≡ word_of (place_at z P) (cell_place z P) o j
+  word_same : (o j : ℕ) → o < n → word_of_channel place' cell' o j ≡ word_of_channel (place_at z P) (cell_place z P) o j
   word_same o zero l = place_same o l
   word_same o (suc zero) l = ap (λ m. m + 1) (place_same o l)
   word_same o (suc (suc j)) l = cell_same o j l
 
-  leaves : Leaves (moment x) next_words t (code_of z places') place' cell' at' IsNew 0
+  leaves : LeavesChannels (moment x) next_words t (word_of_value z places') place' cell' at' IsNew 0
   leaves = record {
     long = length-set x.words (word_apart T c object i) (spread_opening object pages i);
     heap = λ o k on. ap (λ (y : Heap). slice_get y.heap o) H.memory_is
         ∙ (get_append_left s.plain.memory.heap (object ∷ []) o (on_low o k on) ∙ on.0);
     was = was;
-    same = λ o j k on l. get_or-set_other x.words (word_apart T c object i) (word_of (place_at z P) (cell_place z P) o j)
+    same = λ o j k on l. get_or-set_other x.words (word_apart T c object i) (word_of_channel (place_at z P) (cell_place z P) o j)
         (spread_opening object pages i) 0 (channel_apart x object stored i makes small o j k on l);
     places = λ o k on. place_same o (on_low o k on);
     spots = λ o j k on l. cell_same o j (on_low o k on);
@@ -436,9 +436,9 @@ module _ {T : Setup} {g : ℕ} {c : Record} (x : Here T g c) (to : Option ℕ) (
       as_many : length t.holders ≡ length s.holders
       as_many = sym H.fit.as_many ∙ (length_set (map frame_of x.recs) g d' ∙ (I x).frames.as_many)
 
-  pub channels_after : Channels T.code T.sizes.page_words (code_of z places') place' cell' next_words (slice_set side g c.side) t at'
+  pub channels_after : Channels T.code T.sizes.page_words (word_of_value z places') place' cell' next_words (slice_set side g c.side) t at'
   channels_after =
-      subst (λ l. Channels T.code T.sizes.page_words (code_of z places') place' cell' next_words l t at')
+      subst (λ l. Channels T.code T.sizes.page_words (word_of_value z places') place' cell' next_words l t at')
       (append-nil side ∙ sym (set_again side g c.side (side_at x)))
-      (event_keeps (moment x) g (Instruct (One g)) next_words t (code_of z places') place' cell' at' (new_channel n object) 0
+      (event_keeps (moment x) g (Instruct (One g)) next_words t (word_of_value z places') place' cell' at' (new_channel n object) 0
       (side_at x ∙ ap Some rests) refl H.steps leaves)

@@ -19,27 +19,27 @@ use Rattle.rgo_sound.specs.RegionMachine.declared.regions.Region.TheVariants.{Gl
 use Rattle.rgo_sound.proofs.Places.{get_append_last, get_append_left, get_some, length_set}
 use Rattle.rgo_sound.specs.Typed.declared.actions.Action.{Action}
 use Rattle.rgo_sound.specs.Typed.declared.actions.Action.TheVariants.{Send}
-use Rattle.rgo_core_channels.specs.Channels.{Calm, Chan, Channels, On, Places, Unlocked, channel, word_of}
+use Rattle.rgo_core_channels.specs.Channels.{Calm, Chan, Channels, On, Places, Unlocked, channel, word_of_channel}
 use Rattle.rgo_core_channels.specs.Controls.{extent, spreads}
-use Rattle.rgo_core_channels.specs.Elsewhere.{IsMade, Leaves}
-use Rattle.rgo_core_channels.specs.Records.{Rec as SideRec, at_rest}
+use Rattle.rgo_core_channels.specs.Elsewhere.{IsMade, LeavesChannels}
+use Rattle.rgo_core_channels.specs.Records.{ChannelRec as SideRec, at_rest}
 use Rattle.rgo_core_channels.proofs.Elsewhere.{event_keeps}
 use Rattle.rgo_core_channels.proofs.Steps.{same_channel}
-use Rattle.rgo_core_frames.specs.Actions.{after_action}
+use Rattle.rgo_core_frames.specs.steps.Actions.{after_action}
 use Rattle.rgo_core_frames.specs.Fits.{IsOfLive, ObjectsDiffer}
-use Rattle.rgo_core_frames.specs.Makes.{MakesAt}
-use Rattle.rgo_core_frames.specs.Records.{Rec as FrameRec}
-use Rattle.rgo_core_frames.specs.Slots.{slot}
-use Rattle.rgo_core_frames.specs.Steps.{HasInstruction}
-use Rattle.rgo_core_frames.specs.Words.{Shows as WordShows}
+use Rattle.rgo_core_frames.specs.steps.Makes.{MakesAt}
+use Rattle.rgo_core_frames.specs.Records.{FramesRec as FrameRec}
+use Rattle.rgo_core_frames.specs.regions.Slots.{slotted_region}
+use Rattle.rgo_core_frames.specs.steps.Bookkept.{HasInstruction}
+use Rattle.rgo_core_frames.specs.shown.Words.{Shows as WordShows}
 use Rattle.rgo_core_frames.proofs.steps.ActionSteps.{action_law}
 use Rattle.rgo_core_frames.proofs.regions.Making.{region_law}
-use Rattle.rgo_core_memory.specs.Encoding.{Spot, address, content, opening}
-use Rattle.rgo_core_memory.specs.Ground.{Held, IsLiveObject, MayUseRegion, ground_of, held_of, made}
-use Rattle.rgo_core_memory.specs.Image.{MemoryImage, StateImage, Where, code_of}
+use Rattle.rgo_core_memory.specs.Encoding.{Spot, address, content, opening_word}
+use Rattle.rgo_core_memory.specs.Ground.{Held, IsLiveObject, MayUseRegion, ground_of, held_of, made_in_page}
+use Rattle.rgo_core_memory.specs.Image.{MemoryImage, StateImage, Where, word_of_value}
 use Rattle.rgo_core_memory.specs.Parts.{Covers, RecordMakes, slot_of}
-use Rattle.rgo_core_memory.specs.Records.{Fill, Owns, Rec as MemoryRec, Within, with_object, with_word}
-use Rattle.rgo_core_memory.specs.Words.{cell_at, put}
+use Rattle.rgo_core_memory.specs.Records.{Fill, Owns, Rec as MemoryRec, Within, with_object_in_page, with_word}
+use Rattle.rgo_core_memory.specs.Words.{cell_at, put_at}
 use Rattle.rgo_core_memory.specs.declared.layout.TableSizes.{TableSizes}
 use Rattle.rgo_core_memory.proofs.objects.Addresses.{free_apart, one_address}
 use Rattle.rgo_core_memory.proofs.objects.Allocating.{allocation_keeps, word_keeps}
@@ -51,11 +51,11 @@ use Rattle.rgo_core_memory.proofs.regions.Slots.{one_region, uses_live}
 use Rattle.rgo_core_memory.proofs.image.Steadies.{steady_of}
 use Rattle.rgo_core_memory.proofs.image.Stepped.{map_get}
 use Rattle.rgo_core_memory.proofs.Writes.{in_pages, pages_apart}
-use Rattle.rgo_core.specs.Bounds.{LieInPages, Points, target_type}
-use Rattle.rgo_core.specs.Core.{Here, Setup, layout}
+use Rattle.rgo_core.specs.ties.Bounds.{LieInPages, Points, target_type}
+use Rattle.rgo_core.specs.Core.{Situation, Setup, layout}
 use Rattle.rgo_core_channels.specs.Positions.{cell_place, place_at}
-use Rattle.rgo_core.specs.NewObjects.{MakesObject, slot_number}
-use Rattle.rgo_core.specs.Next.{IsAt}
+use Rattle.rgo_core.specs.moves.NewObjects.{MakesObject, slot_number}
+use Rattle.rgo_core.specs.Next.{IsAtOp}
 use Rattle.rgo_core.specs.Records.{Record, frame_of, memory_of, side_of}
 use Rattle.rgo_core.proofs.image.Bounds.{LeadsToLive, gives_points}
 use Rattle.rgo_core_memory.proofs.objects.Spreads.{whole_of, in_table}
@@ -64,7 +64,7 @@ use Rattle.rgo_core.proofs.channel_steps.Leaving.{above_fill, channel_stands, ch
 use Rattle.rgo_core.proofs.new_objects.MakesObject.{Made, at, b, made as it_makes}
 use Rattle.rgo_core.proofs.image.Parts.{I}
 use Rattle.rgo_core.proofs.image.Standing.{memory_at, side_at}
-use Rattle.rgo_core.specs.Moments.{moment}
+use Rattle.rgo_core.specs.ties.Moments.{moment}
 use Rattle.rgo_core.proofs.goroutines.Counting.{plus_zero}
 
 -- ---- the channel that is made, if one is
@@ -97,12 +97,12 @@ only_new n (Channel capacity queue closed) fresh o k m =
     (m.0, (λ i. Channel capacity (f.0 i) (f.1 i)) ∙ ap channel (sym m.1))
 
 -- where slots are numbers
-pub slot_is : (z : TableSizes) (slot_at : ℕ → ℕ) (r : Region) → slot_number z (slot slot_at r) ≡ slot_of z slot_at r
+pub slot_is : (z : TableSizes) (slot_at : ℕ → ℕ) (r : Region) → slot_number z (slotted_region slot_at r) ≡ slot_of z slot_at r
 slot_is z slot_at GlobalRegion = refl
 slot_is z slot_at (Numbered k) = refl
 
-module _ {T : Setup} {g : ℕ} {c : Record} (x : Here T g c) (to : Option ℕ) (act : Action) (from removes : List ℕ)
-    (a : IsAt T.code c (Do to act from removes)) (object : Object) (by_slot : Region) (f : Fill) (stored : List ℕ) (i : ℕ)
+module _ {T : Setup} {g : ℕ} {c : Record} (x : Situation T g c) (to : Option ℕ) (act : Action) (from removes : List ℕ)
+    (a : IsAtOp T.code c (Do to act from removes)) (object : Object) (by_slot : Region) (f : Fill) (stored : List ℕ) (i : ℕ)
     (rests : c.side ≡ at_rest) (mk : MakesObject T.code a.w to act from object)
     (making : making_region (code_function T.code a.w.function) (top_names c.frame.holder.environments) a.instr.op ≡ Some by_slot)
     (slotted : f.slot ≡ slot_number (layout T) by_slot) (makes : RecordMakes (layout T) c.memory f object stored)
@@ -132,13 +132,13 @@ module _ {T : Setup} {g : ℕ} {c : Record} (x : Here T g c) (to : Option ℕ) (
   many = f.fill + words_of object
 
   abbrev pub next_words : List ℕ
-  next_words = set x.words (cell_at z f.page (f.fill + i)) (opening (content object i))
+  next_words = set x.words (cell_at z f.page (f.fill + i)) (opening_word (content object i))
 
   abbrev spot : ℕ → ℕ → Spot
-  spot = put P.spot n (λ j. record { page = f.page; offset = f.fill + j })
+  spot = put_at P.spot n (λ j. record { page = f.page; offset = f.fill + j })
 
   abbrev start : ℕ → Spot
-  start = put P.start n (record { page = f.page; offset = f.fill })
+  start = put_at P.start n (record { page = f.page; offset = f.fill })
 
   abbrev pub places' : Where
   places' = record P { spot = spot; start = start }
@@ -198,7 +198,7 @@ module _ {T : Setup} {g : ℕ} {c : Record} (x : Here T g c) (to : Option ℕ) (
 
   -- ---- memory, on what it shows of the state after the step
 
-  G : MemoryImage z next_words (slice_set recs g (with_object c.memory f.slot many)) (made (ground_of s) g (held_of h) r object many) places'
+  G : MemoryImage z next_words (slice_set recs g (with_object_in_page c.memory f.slot many)) (made_in_page (ground_of s) g (held_of h) r object many) places'
   G = object_made z x.words recs (ground_of s) P M (steady_of T.code s x.core.sound.good) g c.memory (memory_at x) f object stored makes i small covers
       (held_of h) there r used in_slot
 
@@ -255,7 +255,7 @@ module _ {T : Setup} {g : ℕ} {c : Record} (x : Here T g c) (to : Option ℕ) (
   differ o p m lo lp eo ep =
       let u = stands_after o lo in
       let v = stands_after p lp in
-      one_address z next_words (slice_set recs g (with_object c.memory f.slot many)) (made (ground_of s) g (held_of h) r object many) places' G o p
+      one_address z next_words (slice_set recs g (with_object_in_page c.memory f.slot many)) (made_in_page (ground_of s) g (held_of h) r object many) places' G o p
       u.0 v.0 u.1 v.1 u.2 v.2 (sym (addressed o m eo) ∙ addressed p m ep)
 
   -- ---- the step
@@ -299,7 +299,7 @@ module _ {T : Setup} {g : ℕ} {c : Record} (x : Here T g c) (to : Option ℕ) (
   abbrev pub t : RegionState
   t = H.state
 
-  pub memory_after : StateImage z next_words (slice_set recs g (with_object c.memory f.slot many)) t places'
+  pub memory_after : StateImage z next_words (slice_set recs g (with_object_in_page c.memory f.slot many)) t places'
   memory_after = allocation_keeps T.code z x.words recs s t g i h r c.memory f object stored x.core.sound.good P M
       (b x to act from removes a object).there (memory_at x) (it.next r region.makes) in_slot makes small covers H.steps
 
@@ -318,7 +318,7 @@ module _ {T : Setup} {g : ℕ} {c : Record} (x : Here T g c) (to : Option ℕ) (
 
   pub made_points : Points T (target_type T a.w to) (suc new_address)
   made_points = gives_points x to act from removes a memory (value.Object n) it.does next_words
-      (slice_set recs g (with_object c.memory f.slot many)) t places' memory_after addresses' addressed H.memory_is (suc new_address) made_live shows
+      (slice_set recs g (with_object_in_page c.memory f.slot many)) t places' memory_after addresses' addressed H.memory_is (suc new_address) made_live shows
 
   -- ---- channels
 
@@ -326,7 +326,7 @@ module _ {T : Setup} {g : ℕ} {c : Record} (x : Here T g c) (to : Option ℕ) (
   side = map side_of x.recs
 
   abbrev pub at' : Places
-  at' = record { head = put (I x).at.head n 0; lock = put (I x).at.lock n Unlocked; phase = put (I x).at.phase n Calm }
+  at' = record { head = put_at (I x).at.head n 0; lock = put_at (I x).at.lock n Unlocked; phase = put_at (I x).at.phase n Calm }
 
   abbrev pub place' : ℕ → ℕ
   place' = place_at z places'
@@ -352,19 +352,19 @@ module _ {T : Setup} {g : ℕ} {c : Record} (x : Here T g c) (to : Option ℕ) (
   cell_new : (o i' : ℕ) → o ≡ n → cell' o i' ≡ cell_at z f.page (f.fill + (2 + i'))
   cell_new o i' e = ap (λ (y : ℕ → Spot). cell_at z (y (2 + i')).page (y (2 + i')).offset) (new_spot o e)
 
-  word_new : (o j : ℕ) → o ≡ n → word_of place' cell' o j ≡ cell_at z f.page (f.fill + j)
+  word_new : (o j : ℕ) → o ≡ n → word_of_channel place' cell' o j ≡ cell_at z f.page (f.fill + j)
   word_new o zero e = place_new o e
   word_new o (suc zero) e = let q = place_new o e in omega (arith, q)
   word_new o (suc (suc j)) e = let q = cell_new o j e in omega (arith, q)
 
-  codes_same : (v : Value) → ((p : ℕ) → v ≡ value.Object p → p < n) → code_of z places' v ≡ code_of z P v
+  codes_same : (v : Value) → ((p : ℕ) → v ≡ value.Object p → p < n) → word_of_value z places' v ≡ word_of_value z P v
   codes_same v l = old_code z P.start start n old_start v l
 
   -- the words of the new object
   half : StateImage z next_words (slice_set recs g (with_word c.memory f object (i ∷ stored))) s P
   half = word_keeps z x.words recs s g i c.memory f object stored P M (memory_at x) makes small
 
-  word_is : (j : ℕ) → j < words_of object → slice_index next_words (cell_at z f.page (f.fill + j)) ≡ opening (content object j)
+  word_is : (j : ℕ) → j < words_of object → slice_index next_words (cell_at z f.page (f.fill + j)) ≡ opening_word (content object j)
   word_is j l =
       let q = half.own.amids g (with_word c.memory f object (i ∷ stored)) f object (i ∷ stored)
       (set_here recs g (with_word c.memory f object (i ∷ stored)) c.memory (memory_at x)) refl in
@@ -372,13 +372,13 @@ module _ {T : Setup} {g : ℕ} {c : Record} (x : Here T g c) (to : Option ℕ) (
       half.shows.cell f.page (f.fill + j) page_in (omega (arith, l, m)) ∙ q.1.laid j l (covers j l)
 
   first_word : (k : Chan) → object ≡ channel k → slice_index next_words (cell_at z f.page (f.fill + 0)) ≡ 0
-  first_word k e = word_is 0 (subst (λ (y : Object). 0 < words_of y) (sym e) (omega arith)) ∙ ap (λ (y : Object). opening (content y 0)) e
+  first_word k e = word_is 0 (subst (λ (y : Object). 0 < words_of y) (sym e) (omega arith)) ∙ ap (λ (y : Object). opening_word (content y 0)) e
 
   second_word : (k : Chan) → object ≡ channel k → slice_index next_words (cell_at z f.page (f.fill + 1)) ≡ k.capacity
   second_word k e =
       let l = (it.fresh k e).2 in
       word_is 1 (subst (λ (y : Object). 1 < words_of y) (sym e) (omega arith))
-      ∙ (ap (λ (y : Object). opening (content y 1)) e ∙ small_word k.capacity (omega (arith, l)))
+      ∙ (ap (λ (y : Object). opening_word (content y 1)) e ∙ small_word k.capacity (omega (arith, l)))
 
   fits_channel : (k : Chan) → object ≡ channel k → f.fill + (2 + extent k.capacity) ≤ z.page_words
   fits_channel k e = subst (λ (y : Object). f.fill + words_of y ≤ z.page_words) e fits
@@ -404,7 +404,7 @@ module _ {T : Setup} {g : ℕ} {c : Record} (x : Here T g c) (to : Option ℕ) (
   whole_channel k e = subst (λ (y : Object). is_spread z.page_words y ≡ false) e whole
 
   apart : (o p i' j' : ℕ) (k l : Chan) → IsNew o k → On s p l → i' < 2 + extent k.capacity → j' < 2 + extent l.capacity
-      → word_of place' cell' o i' ≢ word_of (place_at z P) (cell_place z P) p j'
+      → word_of_channel place' cell' o i' ≢ word_of_channel (place_at z P) (cell_place z P) p j'
   apart o p i' j' k l new on li lj e =
       let y = new_is o k new in
       let room = fits_channel k y.1 in
@@ -413,13 +413,13 @@ module _ {T : Setup} {g : ℕ} {c : Record} (x : Here T g c) (to : Option ℕ) (
       (in_table z.page_words (channel l) j' lj) (omega (arith, room, li))
       (sym (word_new o i' y.0) ∙ (e ∙ channel_word z x.words recs s P M p j' l on lj))
 
-  leaves : Leaves (moment x) next_words t (code_of z places') place' cell' at' IsNew 0
+  leaves : LeavesChannels (moment x) next_words t (word_of_value z places') place' cell' at' IsNew 0
   leaves = record {
-    long = length-set x.words (cell_at z f.page (f.fill + i)) (opening (content object i));
+    long = length-set x.words (cell_at z f.page (f.fill + i)) (opening_word (content object i));
     heap = λ o k on. ap (λ (y : Heap). slice_get y.heap o) H.memory_is
         ∙ (get_append_left s.plain.memory.heap (object ∷ []) o (on_low o k on) ∙ on.0);
     was = was;
-    same = λ o j k on l. above_fill z x.words recs s P M g i (opening (content object i)) f owner (let m = fits in omega (arith, small, m)) o j k on l;
+    same = λ o j k on l. above_fill z x.words recs s P M g i (opening_word (content object i)) f owner (let m = fits in omega (arith, small, m)) o j k on l;
     places = λ o k on. place_same o (on_low o k on);
     spots = λ o j k on l. cell_same o j (on_low o k on);
     ats = λ o k on. let l = on_low o k on in (
@@ -445,7 +445,7 @@ module _ {T : Setup} {g : ℕ} {c : Record} (x : Here T g c) (to : Option ℕ) (
         let room = fits_channel k y.1 in
         let pages = in_pages z.pages f.page z.page_words (f.fill + (1 + extent k.capacity)) page_in (omega (arith, room)) in
         let wide = (I x).memory.shows.wide in
-        let same = length-set x.words (cell_at z f.page (f.fill + i)) (opening (content object i)) in (
+        let same = length-set x.words (cell_at z f.page (f.fill + i)) (opening_word (content object i)) in (
           ap (slice_index next_words) q ∙ first_word k y.1,
           ap (slice_index next_words) q1 ∙ second_word k y.1,
           (it.fresh k y.1).2,
@@ -460,7 +460,7 @@ module _ {T : Setup} {g : ℕ} {c : Record} (x : Here T g c) (to : Option ℕ) (
         let room = fits_channel k y.1 in
         let pages = in_pages z.pages f.page z.page_words (f.fill + (2 + j)) page_in (omega (arith, room, lj)) in
         let wide = (I x).memory.shows.wide in
-        let same = length-set x.words (cell_at z f.page (f.fill + i)) (opening (content object i)) in (
+        let same = length-set x.words (cell_at z f.page (f.fill + i)) (opening_word (content object i)) in (
           omega (arith, w, pages, wide, same),
           λ sp. omega (arith, q, w),
         );
@@ -476,9 +476,9 @@ module _ {T : Setup} {g : ℕ} {c : Record} (x : Here T g c) (to : Option ℕ) (
       as_many : length t.holders ≡ length s.holders
       as_many = sym H.fit.as_many ∙ (length_set (map frame_of x.recs) g d' ∙ (I x).frames.as_many)
 
-  pub channels_after : Channels T.code T.sizes.page_words (code_of z places') place' cell' next_words (slice_set side g c.side) t at'
+  pub channels_after : Channels T.code T.sizes.page_words (word_of_value z places') place' cell' next_words (slice_set side g c.side) t at'
   channels_after =
-      subst (λ l. Channels T.code T.sizes.page_words (code_of z places') place' cell' next_words l t at')
+      subst (λ l. Channels T.code T.sizes.page_words (word_of_value z places') place' cell' next_words l t at')
       (append-nil side ∙ sym (set_again side g c.side (side_at x)))
-      (event_keeps (moment x) g (Instruct (One g)) next_words t (code_of z places') place' cell' at' (new_channel n object) 0
+      (event_keeps (moment x) g (Instruct (One g)) next_words t (word_of_value z places') place' cell' at' (new_channel n object) 0
       (side_at x ∙ ap Some rests) refl H.steps leaves)

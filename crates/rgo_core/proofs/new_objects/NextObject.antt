@@ -12,15 +12,15 @@ use Rattle.rgo_sound.proofs.Progress.{one_step}
 use Rattle.rgo_sound.specs.Tac.Frames.{TacFrame, frame_after_instr}
 use Rattle.rgo_sound.specs.Tac.Tac.{TacState}
 use Rattle.rgo_sound.specs.Typed.declared.actions.Action.{Action}
-use Rattle.rgo_core.specs.Core.{Here, Setup}
-use Rattle.rgo_core.specs.NewObjects.{ObjectOf}
-use Rattle.rgo_core.specs.Next.{IsAt}
+use Rattle.rgo_core.specs.Core.{Situation, Setup}
+use Rattle.rgo_core.specs.moves.NewObjects.{ObjectOf}
+use Rattle.rgo_core.specs.Next.{IsAtOp}
 use Rattle.rgo_core.specs.Records.{Record}
 use Rattle.rgo_core.proofs.new_objects.MakesObject.{b, makes_it}
 use Rattle.rgo_sound.specs.RegionMachine.Machine.{next_object, object_made, plain_step}
 
-module _ {T : Setup} {g : ℕ} {c : Record} (x : Here T g c) (to : Option ℕ) (act : Action) (from removes : List ℕ)
-    (a : IsAt T.code c (Do to act from removes)) (object : Object) (most : ℕ) (low : most ≤ 2 ^ 63)
+module _ {T : Setup} {g : ℕ} {c : Record} (x : Situation T g c) (to : Option ℕ) (act : Action) (from removes : List ℕ)
+    (a : IsAtOp T.code c (Do to act from removes)) (object : Object) (most : ℕ) (low : most ≤ 2 ^ 63)
     (makes : ObjectOf most T.code a.w to act from object) where
   abbrev old : TacState
   old = x.s.plain

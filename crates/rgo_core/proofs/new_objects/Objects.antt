@@ -13,26 +13,26 @@ use Rattle.rgo_sound.specs.RegionMachine.States.{top_names}
 use Rattle.rgo_sound.specs.RegionMachine.declared.regions.Region.{Region}
 use Rattle.rgo_sound.specs.Tally.{counts_plus, no_share}
 use Rattle.rgo_sound.specs.Typed.declared.actions.Action.{Action}
-use Rattle.rgo_core_channels.specs.Channels.{Chan, On, channel, word_of}
+use Rattle.rgo_core_channels.specs.Channels.{Chan, On, channel, word_of_channel}
 use Rattle.rgo_core_channels.specs.Controls.{extent}
 use Rattle.rgo_core_channels.specs.Records.{at_rest}
 use Rattle.rgo_core_channels.proofs.Forward.{printed_same}
 use Rattle.rgo_core_channels.proofs.Quiet.{word_keeps as channels_keep}
 use Rattle.rgo_core_frames.specs.States.{IsSound}
 use Rattle.rgo_core_frames.proofs.Sound.{sound_stays}
-use Rattle.rgo_core_memory.specs.Encoding.{content, opening}
+use Rattle.rgo_core_memory.specs.Encoding.{content, opening_word}
 use Rattle.rgo_core_memory.specs.Ground.{ground_of}
-use Rattle.rgo_core_memory.specs.Image.{code_of}
+use Rattle.rgo_core_memory.specs.Image.{word_of_value}
 use Rattle.rgo_core_memory.specs.Parts.{Covers, RecordMakes}
 use Rattle.rgo_core_memory.specs.Records.{Fill, Owns, Within, with_word}
 use Rattle.rgo_core_memory.specs.Words.{cell_at}
 use Rattle.rgo_core_memory.proofs.objects.Addresses.{free_apart}
 use Rattle.rgo_core_memory.proofs.objects.Allocating.{word_keeps}
-use Rattle.rgo_core.specs.Bounds.{LieInPages, Points, target_type}
-use Rattle.rgo_core.specs.Core.{Here, Setup, layout}
+use Rattle.rgo_core.specs.ties.Bounds.{LieInPages, Points, target_type}
+use Rattle.rgo_core.specs.Core.{Situation, Setup, layout}
 use Rattle.rgo_core_channels.specs.Positions.{cell_place, place_at}
-use Rattle.rgo_core.specs.NewObjects.{MakesObject, ObjectMove, WordMove, made_object, slot_number}
-use Rattle.rgo_core.specs.Next.{IsAt}
+use Rattle.rgo_core.specs.moves.NewObjects.{MakesObject, ObjectMove, WordMove, made_object, slot_number}
+use Rattle.rgo_core.specs.Next.{IsAtOp}
 use Rattle.rgo_core.specs.Records.{Record, accessed, counted, memory_of, side_of, steps_of}
 use Rattle.rgo_core.specs.Steps.{Steps}
 use Rattle.rgo_core.proofs.channel_steps.Leaving.{channel_stands, channel_word}
@@ -48,7 +48,7 @@ use Rattle.rgo_core.proofs.goroutines.Counting.{plus_zero}
 
 -- ---- a word before the last
 
-module _ {T : Setup} {g : ℕ} {c : Record} (x : Here T g c) (f : Fill) (object : Object) (stored : List ℕ) (i : ℕ)
+module _ {T : Setup} {g : ℕ} {c : Record} (x : Situation T g c) (f : Fill) (object : Object) (stored : List ℕ) (i : ℕ)
     (makes : RecordMakes (layout T) c.memory f object stored) (small : i < words_of object) where
   within : Within f c.memory.fills
   within = ⊎_elim (λ m. ((I x).memory.own.amids g c.memory f object stored (memory_at x) m).0) (λ m. m.2) makes
@@ -61,7 +61,7 @@ module _ {T : Setup} {g : ℕ} {c : Record} (x : Here T g c) (f : Fill) (object 
 
   -- no channel has the word
   apart : (o j : ℕ) (k : Chan) → On x.s o k → j < 2 + extent k.capacity
-      → word_of (place_at (layout T) (I x).places) (cell_place (layout T) (I x).places) o j ≢ cell_at (layout T) f.page (f.fill + i)
+      → word_of_channel (place_at (layout T) (I x).places) (cell_place (layout T) (I x).places) o j ≢ cell_at (layout T) f.page (f.fill + i)
   apart o j k on lj e =
       let u = channel_stands x.s o k on in
       let room = fits in
@@ -76,10 +76,10 @@ module _ {T : Setup} {g : ℕ} {c : Record} (x : Here T g c) (f : Fill) (object 
       free_apart (layout T) x.words (map memory_of x.recs) (ground_of x.s) (I x).places (I x).memory g o n i f at r owner stands
       low (omega (arith, room, small)) (sym e))
 
-  pub word_steps : Steps x (slice_set x.words (cell_at (layout T) f.page (f.fill + i)) (opening (content object i)))
+  pub word_steps : Steps x (slice_set x.words (cell_at (layout T) f.page (f.fill + i)) (opening_word (content object i)))
       (record c { clock = accessed c.clock; memory = with_word c.memory f object (i ∷ stored) })
   word_steps =
-      let words = slice_set x.words (cell_at (layout T) f.page (f.fill + i)) (opening (content object i)) in
+      let words = slice_set x.words (cell_at (layout T) f.page (f.fill + i)) (opening_word (content object i)) in
       inr (record {
         counted = refl;
         same = record { prints = refl; first = refl; children = refl; refused = refl };
@@ -87,23 +87,23 @@ module _ {T : Setup} {g : ℕ} {c : Record} (x : Here T g c) (f : Fill) (object 
             (I x).addresses (I x).addressed (frame_stays x x.s (I x).places.slot (I x).addresses (I x).frames)
             (word_keeps (layout T) x.words (map memory_of x.recs) x.s g i c.memory f object stored (I x).places (I x).memory (memory_at x) makes small)
             (side_stays x words x.s (I x).places (I x).at
-            (channels_keep T.code T.sizes.page_words (code_of (layout T) (I x).places) (place_at (layout T) (I x).places) (cell_place (layout T) (I x).places) x.words (map side_of x.recs) x.s (I x).at
-            (cell_at (layout T) f.page (f.fill + i)) (opening (content object i)) apart (I x).channels));
-        links = links_with x words (fixed_stay (opening (content object i)))
-            (claims_high x (cell_at (layout T) f.page (f.fill + i)) (opening (content object i)) (omega arith))
+            (channels_keep T.code T.sizes.page_words (word_of_value (layout T) (I x).places) (place_at (layout T) (I x).places) (cell_place (layout T) (I x).places) x.words (map side_of x.recs) x.s (I x).at
+            (cell_at (layout T) f.page (f.fill + i)) (opening_word (content object i)) apart (I x).channels));
+        links = links_with x words (fixed_stay (opening_word (content object i)))
+            (claims_high x (cell_at (layout T) f.page (f.fill + i)) (opening_word (content object i)) (omega arith))
             (record c { clock = accessed c.clock; memory = with_word c.memory f object (i ∷ stored) }) (all_kept refl refl refl refl) (Waits refl refl refl);
       })
 
 pub word_move : WordMove
 word_move T g c f object stored i makes small =
-    access_law T g c (cell_at (layout T) f.page (f.fill + i)) (λ n. opening (content object i))
+    access_law T g c (cell_at (layout T) f.page (f.fill + i)) (λ n. opening_word (content object i))
     (λ n. record c { clock = accessed c.clock; memory = with_word c.memory f object (i ∷ stored) }) (omega arith) (λ n. refl)
     (λ x fits. word_steps x f object stored i makes small)
 
 -- ---- the last word
 
-module _ {T : Setup} {g : ℕ} {c : Record} (x : Here T g c) (to : Option ℕ) (act : Action) (from removes : List ℕ)
-    (a : IsAt T.code c (Do to act from removes)) (object : Object) (by_slot : Region) (f : Fill) (stored : List ℕ) (i : ℕ)
+module _ {T : Setup} {g : ℕ} {c : Record} (x : Situation T g c) (to : Option ℕ) (act : Action) (from removes : List ℕ)
+    (a : IsAtOp T.code c (Do to act from removes)) (object : Object) (by_slot : Region) (f : Fill) (stored : List ℕ) (i : ℕ)
     (rests : c.side ≡ at_rest) (mk : MakesObject T.code a.w to act from object)
     (making : making_region (code_function T.code a.w.function) (top_names c.frame.holder.environments) a.instr.op ≡ Some by_slot)
     (slotted : f.slot ≡ slot_number (layout T) by_slot) (makes : RecordMakes (layout T) c.memory f object stored)
@@ -119,7 +119,7 @@ module _ {T : Setup} {g : ℕ} {c : Record} (x : Here T g c) (to : Option ℕ) (
     goroutines = plus_zero c.clock.share.goroutines c.clock.share.goroutines refl j;
   }
 
-  pub object_steps : Steps x (slice_set x.words (cell_at (layout T) f.page (f.fill + i)) (opening (content object i))) (made_object T c a to f object)
+  pub object_steps : Steps x (slice_set x.words (cell_at (layout T) f.page (f.fill + i)) (opening_word (content object i))) (made_object T c a to f object)
   object_steps =
       let words = new.next_words x to act from removes a object by_slot f stored i rests mk making slotted makes small covers in
       let H = new.H x to act from removes a object by_slot f stored i rests mk making slotted makes small covers in
@@ -143,9 +143,9 @@ module _ {T : Setup} {g : ℕ} {c : Record} (x : Here T g c) (to : Option ℕ) (
               (new.addressed x to act from removes a object by_slot f stored i rests mk making slotted makes small covers) H.fit
               (new.memory_after x to act from removes a object by_slot f stored i rests mk making slotted makes small covers)
               (new.channels_after x to act from removes a object by_slot f stored i rests mk making slotted makes small covers);
-          links = links_with x (slice_set x.words (cell_at (layout T) f.page (f.fill + i)) (opening (content object i)))
-              (fixed_stay x f object stored i makes small (opening (content object i)))
-              (claims_high x (cell_at (layout T) f.page (f.fill + i)) (opening (content object i)) (omega arith))
+          links = links_with x (slice_set x.words (cell_at (layout T) f.page (f.fill + i)) (opening_word (content object i)))
+              (fixed_stay x f object stored i makes small (opening_word (content object i)))
+              (claims_high x (cell_at (layout T) f.page (f.fill + i)) (opening_word (content object i)) (omega arith))
               (made_object T c a to f object) (all_kept refl refl refl refl)
               (CountsOne (one_later (steps_of c))
               (not_spread x object (next_is x to act from removes a object 1073741820 (omega arith) mk)
@@ -159,7 +159,7 @@ module _ {T : Setup} {g : ℕ} {c : Record} (x : Here T g c) (to : Option ℕ) (
 
 pub object_move : ObjectMove
 object_move T g c to act from removes a object by_slot f stored i rests mk making slotted makes small covers =
-    moves_by T g c (cell_at (layout T) f.page (f.fill + i)) (λ n. opening (content object i)) (λ n. made_object T c a to f object)
+    moves_by T g c (cell_at (layout T) f.page (f.fill + i)) (λ n. opening_word (content object i)) (λ n. made_object T c a to f object)
     (λ n d. (d ≡ made_object T c a to f object) × LieInPages T (f.page * T.sizes.page_words + f.fill) (words_of object)
     × Points T (target_type T a.w to) (suc (f.page * T.sizes.page_words + f.fill)))
     (λ n. refl) (λ x. omega arith)

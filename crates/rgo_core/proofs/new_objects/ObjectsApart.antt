@@ -18,10 +18,10 @@ use Rattle.rgo_core_channels.proofs.Forward.{printed_same}
 use Rattle.rgo_core_frames.specs.States.{IsSound}
 use Rattle.rgo_core_frames.proofs.Sound.{sound_stays}
 use Rattle.rgo_core_memory.specs.Parts.{CoversApart, MakesApart}
-use Rattle.rgo_core.specs.Bounds.{LieInPages, Points, row_words, target_type}
-use Rattle.rgo_core.specs.Core.{Here, Setup, layout}
-use Rattle.rgo_core.specs.NewObjects.{MakesObject, ObjectMoveApart, made_apart, reserved_address, slot_number, word_apart}
-use Rattle.rgo_core.specs.Next.{IsAt}
+use Rattle.rgo_core.specs.ties.Bounds.{LieInPages, Points, row_words, target_type}
+use Rattle.rgo_core.specs.Core.{Situation, Setup, layout}
+use Rattle.rgo_core.specs.moves.NewObjects.{MakesObject, ObjectMoveApart, record_made_apart, reserved_address, slot_number, word_apart}
+use Rattle.rgo_core.specs.Next.{IsAtOp}
 use Rattle.rgo_core.specs.Records.{Record, counted, steps_of}
 use Rattle.rgo_core.specs.Steps.{Steps}
 use Rattle.rgo_core.proofs.steps.Lift.{moves_by}
@@ -32,8 +32,8 @@ use Rattle.rgo_core.proofs.goroutines.Counting.{plus_zero}
 use Rattle.rgo_core_memory.specs.Spread.{spread_opening, table_words}
 use Rattle.rgo_core.proofs.new_objects.WordsApart.{fixed_stay, many}
 
-module _ {T : Setup} {g : ℕ} {c : Record} (x : Here T g c) (to : Option ℕ) (act : Action) (from removes : List ℕ)
-    (a : IsAt T.code c (Do to act from removes)) (object : Object) (by_slot : Region) (stored : List ℕ) (i : ℕ)
+module _ {T : Setup} {g : ℕ} {c : Record} (x : Situation T g c) (to : Option ℕ) (act : Action) (from removes : List ℕ)
+    (a : IsAtOp T.code c (Do to act from removes)) (object : Object) (by_slot : Region) (stored : List ℕ) (i : ℕ)
     (rests : c.side ≡ at_rest) (mk : MakesObject T.code a.w to act from object)
     (making : making_region (code_function T.code a.w.function) (top_names c.frame.holder.environments) a.instr.op ≡ Some by_slot)
     (makes : MakesApart (layout T) c.memory object stored)
@@ -41,7 +41,7 @@ module _ {T : Setup} {g : ℕ} {c : Record} (x : Here T g c) (to : Option ℕ) (
   slotted : c.memory.reserved.slot ≡ slot_number (layout T) by_slot
   slotted = slot_made x a by_slot making (let m = many x object stored i makes small in omega (arith, m))
 
-  counts : counted (made_apart T c a to).clock ≡ counts_plus (counted c.clock) (record no_share { steps = 1; objects = 1 })
+  counts : counted (record_made_apart T c a to).clock ≡ counts_plus (counted c.clock) (record no_share { steps = 1; objects = 1 })
   counts = λ j. record {
     made = plus_zero c.clock.share.made c.clock.share.made refl j;
     removed = plus_zero c.clock.share.removed c.clock.share.removed refl j;
@@ -52,7 +52,7 @@ module _ {T : Setup} {g : ℕ} {c : Record} (x : Here T g c) (to : Option ℕ) (
     goroutines = plus_zero c.clock.share.goroutines c.clock.share.goroutines refl j;
   }
 
-  pub object_steps : Steps x (slice_set x.words (word_apart T c object i) (spread_opening object c.memory.reserved.pages i)) (made_apart T c a to)
+  pub object_steps : Steps x (slice_set x.words (word_apart T c object i) (spread_opening object c.memory.reserved.pages i)) (record_made_apart T c a to)
   object_steps =
       let words = new.next_words x to act from removes a object by_slot stored i rests mk making slotted makes small covers in
       let H = new.H x to act from removes a object by_slot stored i rests mk making slotted makes small covers in
@@ -68,10 +68,10 @@ module _ {T : Setup} {g : ℕ} {c : Record} (x : Here T g c) (to : Option ℕ) (
           gain = record no_share { steps = 1; objects = 1 };
           adds = adds_of x.s H.state 1 1 H.regions H.global_pages H.counted
               (ap (λ (y : Heap). length y.heap) H.memory_is ∙ length-append x.s.plain.memory.heap (object ∷ []))
-              (as_many x H.state (I x).places.slot addresses (made_apart T c a to).frame sound H.fit);
+              (as_many x H.state (I x).places.slot addresses (record_made_apart T c a to).frame sound H.fit);
           counted = counts;
           shallow = subst (λ n. n ≤ deepest) (ap length a.frames) (shallow x);
-          image = image_with x words (made_apart T c a to) H.state places
+          image = image_with x words (record_made_apart T c a to) H.state places
               (new.at' x to act from removes a object by_slot stored i rests mk making slotted makes small covers) addresses
               (new.addressed x to act from removes a object by_slot stored i rests mk making slotted makes small covers) H.fit
               (new.memory_after x to act from removes a object by_slot stored i rests mk making slotted makes small covers)
@@ -79,7 +79,7 @@ module _ {T : Setup} {g : ℕ} {c : Record} (x : Here T g c) (to : Option ℕ) (
           links = links_with x (slice_set x.words (word_apart T c object i) (spread_opening object c.memory.reserved.pages i))
               (fixed_stay x object stored i makes small (spread_opening object c.memory.reserved.pages i))
               (claims_high x (word_apart T c object i) (spread_opening object c.memory.reserved.pages i) (omega arith))
-              (made_apart T c a to) (all_kept refl refl refl refl) (CountsOne (one_later (steps_of c)) refl);
+              (record_made_apart T c a to) (all_kept refl refl refl refl) (CountsOne (one_later (steps_of c)) refl);
         };
         mark = H.mark;
         printed = H.printed ∙ (ap (printed_if x.s.mark x.s.plain.printed) (append-nil x.s.plain.printed) ∙ printed_same x.s.mark x.s.plain.printed);
@@ -88,8 +88,8 @@ module _ {T : Setup} {g : ℕ} {c : Record} (x : Here T g c) (to : Option ℕ) (
 
 pub object_move_apart : ObjectMoveApart
 object_move_apart T g c to act from removes a object by_slot stored i rests mk making makes small covers =
-    moves_by T g c (word_apart T c object i) (λ n. spread_opening object c.memory.reserved.pages i) (λ n. made_apart T c a to)
-    (λ n d. (d ≡ made_apart T c a to) × LieInPages T (reserved_address T c) (row_words T.sizes.page_words object)
+    moves_by T g c (word_apart T c object i) (λ n. spread_opening object c.memory.reserved.pages i) (λ n. record_made_apart T c a to)
+    (λ n d. (d ≡ record_made_apart T c a to) × LieInPages T (reserved_address T c) (row_words T.sizes.page_words object)
     × Points T (target_type T a.w to) (suc (reserved_address T c)))
     (λ n. refl) (λ x. omega arith)
     (λ x fits. object_steps x to act from removes a object by_slot stored i rests mk making makes small covers)

@@ -2,16 +2,16 @@
 use Rattle.std.proofs.Common.{◌≡◌, ◌≢◌, false, true, inr, ⊎_elim, ℕ, ◌+◌, ◌<◌, List, ◌∷◌, length, map, slice_set, refl, sym, ◌∙◌, arith}
 use Rattle.rgo_sound.specs.Memory.Memory.{Object}
 use Rattle.rgo_sound.specs.RegionMachine.declared.regions.Region.{Region}
-use Rattle.rgo_core_channels.specs.Channels.{Chan, On, channel, word_of}
+use Rattle.rgo_core_channels.specs.Channels.{Chan, On, channel, word_of_channel}
 use Rattle.rgo_core_channels.specs.Controls.{extent}
 use Rattle.rgo_core_channels.proofs.Quiet.{word_keeps as channels_keep}
 use Rattle.rgo_core_memory.specs.Ground.{IsLiveObject}
-use Rattle.rgo_core_memory.specs.Image.{code_of, word_at}
+use Rattle.rgo_core_memory.specs.Image.{word_of_value, word_at}
 use Rattle.rgo_core_memory.specs.Parts.{MakesApart}
 use Rattle.rgo_core_memory.specs.Records.{Within, with_word_apart}
-use Rattle.rgo_core.specs.Core.{Here, Setup, layout}
+use Rattle.rgo_core.specs.Core.{Situation, Setup, layout}
 use Rattle.rgo_core_channels.specs.Positions.{cell_place, place_at}
-use Rattle.rgo_core.specs.NewObjects.{WordMoveApart, word_apart}
+use Rattle.rgo_core.specs.moves.NewObjects.{WordMoveApart, word_apart}
 use Rattle.rgo_core.specs.Records.{Record, accessed, counted, memory_of, side_of}
 use Rattle.rgo_core.specs.Steps.{Steps}
 use Rattle.rgo_core.proofs.channel_steps.Leaving.{channel_stands, channel_word, reserved_apart}
@@ -25,7 +25,7 @@ use Rattle.rgo_core_memory.proofs.objects.Allocating.{word_keeps_apart}
 use Rattle.rgo_core_memory.proofs.objects.Spreads.{in_table, spread_offset, spread_within}
 use Rattle.rgo_core_memory.specs.Spread.{spread_opening, spread_spot, table_words}
 
-module _ {T : Setup} {g : ℕ} {c : Record} (x : Here T g c) (object : Object) (stored : List ℕ) (i : ℕ)
+module _ {T : Setup} {g : ℕ} {c : Record} (x : Situation T g c) (object : Object) (stored : List ℕ) (i : ℕ)
     (makes : MakesApart (layout T) c.memory object stored) (small : i < table_words T.sizes.page_words object) where
   pub spread : is_spread T.sizes.page_words object ≡ true
   spread = ⊎_elim (λ m. ((I x).memory.own.apart.strewn g c.memory object stored (memory_at x) m).spread) (λ m. m.2) makes
@@ -58,7 +58,7 @@ module _ {T : Setup} {g : ℕ} {c : Record} (x : Here T g c) (object : Object) (
 
   -- nor has a channel
   pub channel_apart : (o j : ℕ) (k : Chan) → On x.s o k → j < 2 + extent k.capacity
-      → word_of (place_at (layout T) (I x).places) (cell_place (layout T) (I x).places) o j ≢ word_apart T c object i
+      → word_of_channel (place_at (layout T) (I x).places) (cell_place (layout T) (I x).places) o j ≢ word_apart T c object i
   channel_apart o j k on l e =
       let u = channel_stands x.s o k on in
       no_word o j (channel k) u.0 u.1 (in_table T.sizes.page_words (channel k) j l)
@@ -80,7 +80,7 @@ module _ {T : Setup} {g : ℕ} {c : Record} (x : Here T g c) (object : Object) (
             (I x).addresses (I x).addressed (frame_stays x x.s (I x).places.slot (I x).addresses (I x).frames)
             (word_keeps_apart (layout T) x.words (map memory_of x.recs) x.s g i c.memory object stored (I x).places (I x).memory (memory_at x) makes small)
             (side_stays x words x.s (I x).places (I x).at
-            (channels_keep T.code T.sizes.page_words (code_of (layout T) (I x).places) (place_at (layout T) (I x).places) (cell_place (layout T) (I x).places) x.words (map side_of x.recs) x.s (I x).at
+            (channels_keep T.code T.sizes.page_words (word_of_value (layout T) (I x).places) (place_at (layout T) (I x).places) (cell_place (layout T) (I x).places) x.words (map side_of x.recs) x.s (I x).at
             (word_apart T c object i) v channel_apart (I x).channels));
         links = links_with x words (fixed_stay v) (claims_high x (word_apart T c object i) v (omega arith)) d (all_kept refl refl refl refl) (Waits refl refl refl);
       })

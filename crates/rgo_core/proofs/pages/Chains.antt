@@ -6,24 +6,24 @@ use mathlib.Core.Logic.{dite}
 use native.Mathlib.Decide.{ℕ_discrete}
 use Rattle.rgo_core_memory.specs.Ground.{Ground, Steady, ground_of}
 use Rattle.rgo_core_memory.specs.Image.{MemoryImage, StateImage, Where}
-use Rattle.rgo_core_memory.specs.Pages.{PageChain, Chained, Free, Place, times}
+use Rattle.rgo_core_memory.specs.Pages.{PageChain, Chained, Free, Place, occurrences}
 use Rattle.rgo_core_memory.specs.Parts.{Living, Use, Vacant, pages_at}
 use Rattle.rgo_core_memory.specs.Records.{Calm, PageClaim, Claims, ClosesSlot, Gave, Give, ReturnsChain, Giving, Got, HasRecord, Hung, Idle, Past, Rec as MemoryRec, with_claim, with_give, Owes}
-use Rattle.rgo_core_memory.specs.Words.{base, count_at, head_at, next_at, put, state_at}
+use Rattle.rgo_core_memory.specs.Words.{base, count_at, head_at, next_at, put_at, state_at}
 use Rattle.rgo_core_memory.specs.declared.layout.TableSizes.{TableSizes}
 use Rattle.rgo_core_memory.proofs.pages.Chains.{times_else, times_first}
 use Rattle.rgo_core_memory.proofs.image.Keeps.{clear_keeps, free_keeps, hang_keeps, head_keeps, link_keeps, next_keeps, slot_keeps}
 use Rattle.rgo_core_memory.proofs.Rows.{set_here}
 use Rattle.rgo_core_memory.proofs.regions.Slots.{one_closes, stake_slot}
 use Rattle.rgo_core_memory.proofs.image.Steadies.{steady_of}
-use Rattle.rgo_core.specs.Chains.{ClearMove, FreeMove, HangMove, HeadMove, LinkMove, NextMove, SlotMove, frees, remembers}
-use Rattle.rgo_core.specs.Core.{Here, Setup, layout}
+use Rattle.rgo_core.specs.moves.Chains.{ClearMove, FreeMove, HangMove, HeadMove, LinkMove, NextMove, SlotMove, frees, remembers}
+use Rattle.rgo_core.specs.Core.{Situation, Setup, layout}
 use Rattle.rgo_core.specs.Image.{Image}
 use Rattle.rgo_core.specs.Records.{ClockRec, Record, counted, memory_of, side_of}
 use Rattle.rgo_core.specs.Steps.{Steps}
 use Rattle.rgo_core.proofs.steps.Lift.{access_law, moves_by, told_law}
 use Rattle.rgo_core.proofs.image.Parts.{I, frame_stays, image_with, side_stays}
-use Rattle.rgo_core.specs.Links.{Links, left_to_free}
+use Rattle.rgo_core.specs.ties.Links.{Links, left_to_free}
 use Rattle.rgo_core_memory.specs.Owed.{claimed_for}
 use Rattle.rgo_core_memory.proofs.pages.Owing.{still_claimed}
 use Rattle.rgo_core_memory.proofs.image.Stepped.{map_get}
@@ -32,17 +32,17 @@ use Rattle.rgo_core.proofs.image.Standing.{channels_beside, memory_at}
 
 -- ---- pages of chains are pages of the table
 
-more_times : (q p : ℕ) (ps : List ℕ) → 0 < times q ps → 0 < times q (p ∷ ps)
+more_times : (q p : ℕ) (ps : List ℕ) → 0 < occurrences q ps → 0 < occurrences q (p ∷ ps)
 more_times q p ps h = dite (ℕ_discrete p q)
     (λ e. let w = times_first q p ps e in omega (arith, w))
     (λ n. let w = times_else q p ps n in omega (arith, w, h))
 
 module _ (z : TableSizes) (words : List ℕ) (recs : List MemoryRec) (x : Ground) (places : Where) (k : MemoryImage z words recs x places) where
-  page_low : (r p : ℕ) → 0 < times p (places.chain r) → p < z.pages
+  page_low : (r p : ℕ) → 0 < occurrences p (places.chain r) → p < z.pages
   page_low r p h = let s = (k.pages.is_chained p r (k.pages.on r p h)).0 in k.own.ranged p (omega (arith, s))
 
   -- from a page of the chain on
-  chain_low : (r h : ℕ) (l : List ℕ) → ((p : ℕ) → 0 < times p l → 0 < times p (places.chain r)) → PageChain places.link h l → h ≤ z.pages
+  chain_low : (r h : ℕ) (l : List ℕ) → ((p : ℕ) → 0 < occurrences p l → 0 < occurrences p (places.chain r)) → PageChain places.link h l → h ≤ z.pages
   chain_low r h [] in_chain ch = omega (arith, ch)
   chain_low r h (p ∷ ps) in_chain ch =
       let w = times_first p p ps refl in
@@ -70,8 +70,8 @@ module _ (z : TableSizes) (words : List ℕ) (recs : List MemoryRec) (x : Ground
             let h = ch.0 in
             let same : y ≡ p = omega (arith, h, t) in
             let w = times_first p y ps same in (
-              page_low r p (subst (λ (l : List ℕ). 0 < times p l) (sym is) (omega (arith, w))),
-              chain_low r q ps (λ j u. subst (λ (l : List ℕ). 0 < times j l) (sym is) (more_times j y ps u))
+              page_low r p (subst (λ (l : List ℕ). 0 < occurrences p l) (sym is) (omega (arith, w))),
+              chain_low r q ps (λ j u. subst (λ (l : List ℕ). 0 < occurrences j l) (sym is) (more_times j y ps u))
                   (subst (λ (m : ℕ). PageChain places.link m ps) (ap places.link same ∙ link) ch.1),
             )
 
@@ -92,7 +92,7 @@ module _ (z : TableSizes) (words : List ℕ) (recs : List MemoryRec) (x : Ground
 
 -- ---- the image after
 
-module _ {T : Setup} {g : ℕ} {c : Record} (x : Here T g c) where
+module _ {T : Setup} {g : ℕ} {c : Record} (x : Situation T g c) where
   -- a word before the cells is stored, and the record's part of memory changes
   pub chain_image : (i v : ℕ) → i < base (layout T) → (k : ClockRec) (m : MemoryRec) (uses : ℕ → Use) (at : ℕ → Place) (chain : ℕ → List ℕ)
       (link top : ℕ → ℕ)
@@ -145,7 +145,7 @@ claims_few : (states : ℕ → ℕ) (n r : ℕ) → pages_at states n r ≤ n
 claims_few states zero r = omega arith
 claims_few states (suc n) r = let a = claims_few states n r in grind (arith, nat_tests, a)
 
-module _ {T : Setup} {g : ℕ} {c : Record} (x : Here T g c) (r : ℕ) where
+module _ {T : Setup} {g : ℕ} {c : Record} (x : Situation T g c) (r : ℕ) where
   few_owed : c.memory.give ≡ Owes r → c.clock.owed ≤ T.sizes.pages
   few_owed owes =
       let a : c.clock.owed ≡ claimed_for (layout T) x.words r = (x.core.links g c x.is_c).owed ∙ ap (left_to_free (layout T) x.words) owes in
@@ -179,8 +179,8 @@ hang_move T g c p r got =
     let k = (I x).places in
     let low = got_low (layout T) x.words (map memory_of x.recs) (ground_of x.s) k (I x).memory g c.memory (memory_at x)
     (steady_of T.code x.s x.core.sound.good) p r got in
-    remembered x _ _ (chain_image x (head_at (layout T) r) (suc p) (omega (arith, low)) _ _ k.uses (put k.at p (Chained r))
-    (put k.chain r (p ∷ k.chain r)) (put k.link p (slice_index x.words (head_at (layout T) r))) (put k.top r (suc p))
+    remembered x _ _ (chain_image x (head_at (layout T) r) (suc p) (omega (arith, low)) _ _ k.uses (put_at k.at p (Chained r))
+    (put_at k.chain r (p ∷ k.chain r)) (put_at k.link p (slice_index x.words (head_at (layout T) r))) (put_at k.top r (suc p))
     (hang_keeps T.code (layout T) x.words (map memory_of x.recs) x.s k g c.memory x.core.sound.good (I x).memory (memory_at x) p r got))
     (as_before x (head_at (layout T) r) (suc p) (omega arith) (omega (arith, low)) _ refl refl refl refl))
 
@@ -257,8 +257,8 @@ free_move T g c r p q past =
     inr (record {
       counted = one_less c r q (claimed_for (layout T) (slice_set x.words (state_at (layout T) p) 0) r) owed;
       same = record { prints = refl; first = refl; children = refl; refused = refl };
-      image = chain_image x (state_at (layout T) p) 0 (omega (arith, low)) _ _ k.uses (put k.at p Free) (put k.chain r (drop 1 (k.chain r)))
-          k.link (put k.top r q)
+      image = chain_image x (state_at (layout T) p) 0 (omega (arith, low)) _ _ k.uses (put_at k.at p Free) (put_at k.chain r (drop 1 (k.chain r)))
+          k.link (put_at k.top r q)
           (free_keeps T.code (layout T) x.words (map memory_of x.recs) x.s k g c.memory x.core.sound.good (I x).memory (memory_at x) r p q past);
       links = links_freeing x (slice_set x.words (state_at (layout T) p) 0) (fixed_low x (state_at (layout T) p) 0 (omega (arith, low))) (frees c r q)
           (λ j t e ne is closes. freed.1 t (λ same. ne (one_closes (layout T) x.words (map memory_of x.recs) (ground_of x.s) k (I x).memory r g j c.memory e.memory (memory_at x)
@@ -288,7 +288,7 @@ slot_move T g c r gave =
     let k = (I x).places in
     let low = closing_low (layout T) x.words (map memory_of x.recs) (ground_of x.s) k (I x).memory g c.memory (memory_at x) r
     (subst (λ (y : Give). ClosesSlot y r) (sym gave) refl) in
-    remembered x _ _ (chain_image x (count_at (layout T) r) 0 (omega (arith, low)) _ _ (put k.uses r Vacant) k.at k.chain k.link k.top
+    remembered x _ _ (chain_image x (count_at (layout T) r) 0 (omega (arith, low)) _ _ (put_at k.uses r Vacant) k.at k.chain k.link k.top
     (slot_keeps T.code (layout T) x.words (map memory_of x.recs) x.s k g c.memory x.core.sound.good (I x).memory (memory_at x) r gave))
     (as_before x (count_at (layout T) r) 0 (omega arith) (omega (arith, low)) _ refl refl refl
     (sym (ap (left_to_free (layout T) x.words) gave

@@ -14,9 +14,9 @@ use Rattle.rgo_sound.proofs.counts.Tally.{tally_adds}
 use Rattle.rgo_sound.specs.Tally.{counts_plus, no_share}
 use Rattle.rgo_sound.specs.Typed.declared.actions.Action.{Action}
 use Rattle.rgo_core_channels.specs.Records.{at_rest}
-use Rattle.rgo_core_frames.specs.Before.{IsBefore}
-use Rattle.rgo_core_frames.specs.Makes.{MakesAt}
-use Rattle.rgo_core_frames.specs.Pages.{TakesPage, after_page}
+use Rattle.rgo_core_frames.specs.steps.Before.{IsBefore}
+use Rattle.rgo_core_frames.specs.steps.Makes.{MakesAt}
+use Rattle.rgo_core_frames.specs.regions.Pages.{TakesPage, after_page}
 use Rattle.rgo_core_frames.proofs.regions.Making.{region_law}
 use Rattle.rgo_core_frames.proofs.regions.Paging.{page_law, wants_more}
 use Rattle.rgo_core_memory.specs.Events.{NextMakesObjectIn}
@@ -25,17 +25,17 @@ use Rattle.rgo_core_memory.specs.Image.{StateImage, Where, word_at}
 use Rattle.rgo_core_memory.specs.Pages.{Claimed}
 use Rattle.rgo_core_memory.specs.Parts.{slot_of}
 use Rattle.rgo_core_memory.specs.Records.{Idle, Rec as MemoryRec, Rest, with_reserved, with_tried_page, ClosesSlot}
-use Rattle.rgo_core_memory.specs.Words.{put, state_at}
+use Rattle.rgo_core_memory.specs.Words.{put_at, state_at}
 use Rattle.rgo_core_memory.specs.declared.layout.TableSizes.{TableSizes}
 use Rattle.rgo_core_memory.proofs.regions.Attending.{makes_used, reserved_page_keeps}
 use Rattle.rgo_core.proofs.pages.Claims.{live_so, mark_so, stays_so}
 use Rattle.rgo_core_memory.proofs.image.Keeps.{tried_page_keeps}
 use Rattle.rgo_core_memory.proofs.image.Stepped.{map_get}
-use Rattle.rgo_core.specs.Chains.{remembers}
-use Rattle.rgo_core.specs.Claims.{ReserveMove, reserves}
-use Rattle.rgo_core.specs.Core.{Here, Setup, layout}
-use Rattle.rgo_core.specs.NewObjects.{MakesObject, slot_number}
-use Rattle.rgo_core.specs.Next.{IsAt}
+use Rattle.rgo_core.specs.moves.Chains.{remembers}
+use Rattle.rgo_core.specs.moves.Claims.{ReserveMove, reserves}
+use Rattle.rgo_core.specs.Core.{Situation, Setup, layout}
+use Rattle.rgo_core.specs.moves.NewObjects.{MakesObject, slot_number}
+use Rattle.rgo_core.specs.Next.{IsAtOp}
 use Rattle.rgo_core.specs.Records.{Record, accesses, counted, memory_of}
 use Rattle.rgo_core.specs.Steps.{Steps}
 use Rattle.rgo_core.proofs.steps.Attending.{attends}
@@ -50,14 +50,14 @@ use Rattle.rgo_core_memory.specs.Owed.{claimed_for}
 use Rattle.rgo_core_memory.proofs.pages.Owing.{still_claimed}
 use Rattle.rgo_core_memory.proofs.regions.Slots.{stake_open}
 use Rattle.rgo_core_memory.proofs.image.Steadies.{steady_of}
-use Rattle.rgo_core.specs.Links.{Links}
+use Rattle.rgo_core.specs.ties.Links.{Links}
 use Rattle.rgo_core.proofs.accesses.Links.{FixedStay, Nowhere, Waits, all_kept, at_same, fixed_low, its_cell, its_own, links_by, links_with, owed_closing, slot_made}
 use Rattle.rgo_core.proofs.pages.Room.{page_there}
 use Rattle.rgo_core.proofs.image.Standing.{memory_at}
 use Rattle.rgo_core.proofs.goroutines.Counting.{plus_zero}
 
-module _ {T : Setup} {g : ℕ} {c : Record} (x : Here T g c) (to : Option ℕ) (act : Action) (from removes : List ℕ)
-    (a : IsAt T.code c (Do to act from removes)) (object : Object) (by_slot : Region) (p : ℕ) (rests : c.side ≡ at_rest)
+module _ {T : Setup} {g : ℕ} {c : Record} (x : Situation T g c) (to : Option ℕ) (act : Action) (from removes : List ℕ)
+    (a : IsAtOp T.code c (Do to act from removes)) (object : Object) (by_slot : Region) (p : ℕ) (rests : c.side ≡ at_rest)
     (mk : MakesObject T.code a.w to act from object)
     (making : making_region (code_function T.code a.w.function) (top_names c.frame.holder.environments) a.instr.op ≡ Some by_slot)
     (spread : is_spread T.sizes.page_words object ≡ true) (small : is_too_large T.sizes.page_words object ≡ false)
@@ -142,7 +142,7 @@ module _ {T : Setup} {g : ℕ} {c : Record} (x : Here T g c) (to : Option ℕ) (
   }
 
   abbrev P' : Where
-  P' = record (I x).places { at = put (I x).places.at p (Claimed g); page = put (I x).places.page (taken_of (ground_of x.s)) p }
+  P' = record (I x).places { at = put_at (I x).places.at p (Claimed g); page = put_at (I x).places.page (taken_of (ground_of x.s)) p }
 
   module _ (none : slice_index x.words (state_at z p) ≡ 0) where
     M : StateImage z (slice_set x.words (state_at z p) (suc sl)) (slice_set recs g (with_reserved c.memory p sl)) t P'
@@ -180,7 +180,7 @@ module _ {T : Setup} {g : ℕ} {c : Record} (x : Here T g c) (to : Option ℕ) (
 
     claimed_steps : Steps x (slice_set x.words (state_at z p) (suc sl)) (reserves c p sl)
     claimed_steps = inl (attends x rests (TakePage g) refl t P.steps (page_there x p low none) (stays_so x.s g paged r) (reserves c p sl).clock c.frame (with_reserved c.memory p sl)
-        (I x).places.slot (I x).places.uses (put (I x).places.at p (Claimed g)) (put (I x).places.page (taken_of (ground_of x.s)) p)
+        (I x).places.slot (I x).places.uses (put_at (I x).places.at p (Claimed g)) (put_at (I x).places.page (taken_of (ground_of x.s)) p)
         (state_at z p) (suc sl) (omega (arith, low)) (λ o q e l. sym (live_so x.s g paged r q) ∙ l)
         (frame_stays x t (I x).places.slot (I x).addresses P.fit) M links
         (record no_share { taken = 1 }) (tally_adds T.code T.sizes.page_words x.s t (TakePage g) P.steps) counts (shallow x) (mark_so x.s g paged r)
@@ -198,7 +198,7 @@ reserve_move T g c to act from removes a object by_slot p rests mk making spread
     counted_so true = refl
     counted_so false = refl
 
-    by : (x : Here T g c) (b : Bool) → (slice_index x.words (state_at (layout T) p) == 0) ≡ b
+    by : (x : Situation T g c) (b : Bool) → (slice_index x.words (state_at (layout T) p) == 0) ≡ b
         → Steps x (slice_set x.words (state_at (layout T) p)
         (if b then suc (slot_number (layout T) by_slot) else slice_index x.words (state_at (layout T) p)))
         (if b then reserves c p (slot_number (layout T) by_slot) else remembers c (with_tried_page c.memory p))

@@ -12,7 +12,7 @@ use Rattle.rgo_sound.specs.RegionMachine.States.{Create, Duty, EndBase, Holder, 
 use Rattle.rgo_sound.proofs.counts.Tally.{tally_adds}
 use Rattle.rgo_sound.specs.Tally.{share_of_duty, share_of_first, share_of_holder}
 use Rattle.rgo_core.proofs.image.Parts.{I}
-use Rattle.rgo_core.specs.Core.{Here, Setup, layout}
+use Rattle.rgo_core.specs.Core.{Situation, Setup, layout}
 use Rattle.rgo_core.specs.Records.{Record, memory_of}
 
 less_so : (n m : ℕ) → n < m → nat_lt n m ≡ true
@@ -45,7 +45,7 @@ no_creation code sizes s t g step same =
 
 -- ---- what is left
 
-module _ {T : Setup} {g : ℕ} {c : Record} (x : Here T g c) where
+module _ {T : Setup} {g : ℕ} {c : Record} (x : Situation T g c) where
   pub page_there : (p : ℕ) → p < T.sizes.pages → slice_index x.words (state_at (layout T) p) ≡ 0 → has_room T.sizes x.s (TakePage g) ≡ true
   page_there p low free = less_so (pages_in_use x.s) T.sizes.pages
       ((some_left (layout T) x.words (map memory_of x.recs) x.s (I x).places (I x).memory).0 p low free)

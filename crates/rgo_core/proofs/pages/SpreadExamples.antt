@@ -3,7 +3,7 @@ use Rattle.std.proofs.Common.{◌≡◌, ℕ, zero, suc, List, [], ◌∷◌, So
 use Rattle.std.proofs.lemmas.Option.{same_Some}
 use Rattle.rgo_sound.specs.Code.Code.{Code, CodeInstr, CodeOp, Do}
 use Rattle.rgo_sound.specs.Machine.declared.limits.Limits.{Limits}
-use Rattle.rgo_sound.specs.RegionMachine.Examples.{int_slot, main_of, node_slot, plain}
+use Rattle.rgo_sound.specs.RegionMachine.Examples.{int_slot, main_of, node_slot, plain_instr}
 use Rattle.rgo_sound.specs.RegionMachine.Objects.{making_region}
 use Rattle.rgo_sound.specs.RegionMachine.Owed.{current, code_function}
 use Rattle.rgo_sound.specs.RegionMachine.States.{top_names}
@@ -13,38 +13,38 @@ use Rattle.rgo_sound.specs.Tac.declared.regions.Class.TheVariants.{Name}
 use Rattle.rgo_sound.specs.Typed.declared.actions.Action.TheVariants.{At, Load, New, Put}
 use Rattle.rgo_sound.specs.Typed.declared.programs.Struct.{Struct}
 use Rattle.rgo_sound.proofs.Places.{head_is}
-use Rattle.rgo_core_frames.specs.WordFrames.{WordFrame, bare, word_at}
+use Rattle.rgo_core_frames.specs.shown.WordFrames.{WordFrame, bare, frame_word}
 use Rattle.rgo_core_memory.specs.Records.{Located, Measured}
 use Rattle.rgo_core_memory.specs.Words.{cell_at}
-use Rattle.rgo_core.specs.Accesses.{IsAtSpread, IsInSlice, IsLocated, LoadsElement, LoadsField, StoresElement, StoresField}
+use Rattle.rgo_core.specs.moves.Cells.{IsAtSpread, IsInSlice, IsLocated, LoadsElement, LoadsField, StoresElement, StoresField}
 use Rattle.rgo_core.specs.Core.{layout}
-use Rattle.rgo_core.specs.Links.{IsAtCell, OfSlice, OfStruct, slot_number}
-use Rattle.rgo_core.specs.Next.{IsAt}
+use Rattle.rgo_core.specs.ties.Links.{IsAtCell, OfSlice, OfStruct, slot_number}
+use Rattle.rgo_core.specs.Next.{IsAtOp}
 use Rattle.rgo_core.specs.Records.{Record}
-use Rattle.rgo_core.specs.SpreadExamples.{IsBeforeField, SpreadExamples, at_cell, at_field, elements, fields, frame_of, loads_field, makes, makes_it, making, narrow, of_field, reads, wide, with_number}
+use Rattle.rgo_core.specs.examples.Spread.{IsBeforeField, SpreadObjectExamples, at_cell, at_field, element_setup, fields, frame_of, loads_field, makes, makes_it, making_setup, narrow, of_field, reads_length, wide, with_number}
 
 -- ---- where the records are
 
 -- the frame and the instruction of a record
 module _ (code : Code) (c : Record) (w : WordFrame) (frames : c.frame.frames ≡ w ∷ []) (instr : CodeInstr)
     (cur : current code (bare w) ≡ Some instr) where
-  frame_is : {op : CodeOp} (a : IsAt code c op) → a.w ≡ w
+  frame_is : {op : CodeOp} (a : IsAtOp code c op) → a.w ≡ w
   frame_is a = head_is a.w w a.ws [] (sym a.frames ∙ frames)
 
-  instr_is : {op : CodeOp} (a : IsAt code c op) → a.instr ≡ instr
+  instr_is : {op : CodeOp} (a : IsAtOp code c op) → a.instr ≡ instr
   instr_is a = same_Some a.instr instr (sym a.cur ∙ (ap (λ (y : WordFrame). current code (bare y)) (frame_is a) ∙ cur))
 
-  op_is : {op : CodeOp} (a : IsAt code c op) → op ≡ instr.op
+  op_is : {op : CodeOp} (a : IsAtOp code c op) → op ≡ instr.op
   op_is a = sym a.is ∙ ap (λ (j : CodeInstr). j.op) (instr_is a)
 
-abbrev at_index : (limits : Limits) → IsAt (elements limits).code (reads 9) (Do (Some 2) At (0 ∷ 1 ∷ []) [])
+abbrev at_index : (limits : Limits) → IsAtOp (element_setup limits).code (reads_length 9) (Do (Some 2) At (0 ∷ 1 ∷ []) [])
 at_index limits = record {
   w = frame_of (1 ∷ 2 ∷ 0 ∷ []);
   ws = [];
   frames = refl;
-  fn = main_of (int_slot ∷ int_slot ∷ int_slot ∷ []) (plain (Do (Some 2) At (0 ∷ 1 ∷ []) []) ∷ []);
+  fn = main_of (int_slot ∷ int_slot ∷ int_slot ∷ []) (plain_instr (Do (Some 2) At (0 ∷ 1 ∷ []) []) ∷ []);
   in_fn = refl;
-  instr = plain (Do (Some 2) At (0 ∷ 1 ∷ []) []);
+  instr = plain_instr (Do (Some 2) At (0 ∷ 1 ∷ []) []);
   cur = refl;
   is = refl;
   none = refl;
@@ -65,7 +65,7 @@ before_field struct limits = record {
   free = refl;
 }
 
-abbrev before_cell : (limits : Limits) → IsAt (fields wide limits).code at_cell (Do (Some 1) (Load 5) (0 ∷ []) [])
+abbrev before_cell : (limits : Limits) → IsAtOp (fields wide limits).code at_cell (Do (Some 1) (Load 5) (0 ∷ []) [])
 before_cell limits = record {
   w = frame_of (9 ∷ 0 ∷ []);
   ws = [];
@@ -79,7 +79,7 @@ before_cell limits = record {
   free = refl;
 }
 
-abbrev before_making : (limits : Limits) → IsAt (making limits).code makes (Do (Some 0) (New 0) [] [])
+abbrev before_making : (limits : Limits) → IsAtOp (making_setup limits).code makes (Do (Some 0) (New 0) [] [])
 before_making limits = record {
   w = frame_of (0 ∷ []);
   ws = [];
@@ -95,7 +95,7 @@ before_making limits = record {
 
 -- ---- what was read
 
-elements_are : (n : ℕ) (i : IsInSlice (reads n) 0 2) → n ≡ i.measured.elements
+elements_are : (n : ℕ) (i : IsInSlice (reads_length n) 0 2) → n ≡ i.measured.elements
 elements_are n i = ap (λ (m : Measured). m.elements)
     (same_Some (record { address = 0; elements = n; steps = 0 }) i.measured i.read)
 
@@ -116,25 +116,25 @@ index_is d e n m p q ns ms removes others e' = cc
 no_put : (d : ℕ) (from others removes removes' : List ℕ) → Do None Put others removes' ≡ Do (Some d) At from removes → ⊥
 no_put d from others removes removes' e = cc e
 
-other_element : (limits : Limits) → IsAtSpread (elements limits) (reads 9) 0 1 3 → ⊥
+other_element : (limits : Limits) → IsAtSpread (element_setup limits) (reads_length 9) 0 1 3 → ⊥
 other_element limits (LoadsField d k p removes a points s none its) = omega (arith, none)
 other_element limits (StoresField k p q removes a points s none its) = omega (arith, none)
 other_element limits (LoadsElement d p q removes a points inside large one its) =
-    let w = frame_is (elements limits).code (reads 9) (frame_of (1 ∷ 2 ∷ 0 ∷ [])) refl (plain (Do (Some 2) At (0 ∷ 1 ∷ []) [])) refl a in
-    let o = op_is (elements limits).code (reads 9) (frame_of (1 ∷ 2 ∷ 0 ∷ [])) refl (plain (Do (Some 2) At (0 ∷ 1 ∷ []) [])) refl a in
+    let w = frame_is (element_setup limits).code (reads_length 9) (frame_of (1 ∷ 2 ∷ 0 ∷ [])) refl (plain_instr (Do (Some 2) At (0 ∷ 1 ∷ []) [])) refl a in
+    let o = op_is (element_setup limits).code (reads_length 9) (frame_of (1 ∷ 2 ∷ 0 ∷ [])) refl (plain_instr (Do (Some 2) At (0 ∷ 1 ∷ []) [])) refl a in
     let i = index_is 2 d 0 p 1 q [] [] [] removes o in
-    let e : ◌≡◌ {A = ℕ} 3 2 = its ∙ (λ j. word_at (w j) (i j)) in
+    let e : ◌≡◌ {A = ℕ} 3 2 = its ∙ (λ j. frame_word (w j) (i j)) in
     omega (arith, e)
 other_element limits (StoresElement p q r removes a points inside large one its) =
     no_put 2 (0 ∷ 1 ∷ []) (p ∷ q ∷ r ∷ []) [] removes
-    (op_is (elements limits).code (reads 9) (frame_of (1 ∷ 2 ∷ 0 ∷ [])) refl (plain (Do (Some 2) At (0 ∷ 1 ∷ []) [])) refl a)
+    (op_is (element_setup limits).code (reads_length 9) (frame_of (1 ∷ 2 ∷ 0 ∷ [])) refl (plain_instr (Do (Some 2) At (0 ∷ 1 ∷ []) [])) refl a)
 
 -- ---- whole examples
 
 no_region : (r : Region) → None ≡ Some r → ⊥
 no_region r e = cc e
 
-pub examples : SpreadExamples
+pub examples : SpreadObjectExamples
 examples = record {
   whole = λ limits i. let e = elements_are 3 i in omega (arith, e);
   not_whole = λ limits i w. let e = elements_are 4 i in omega (arith, e, w);
@@ -189,12 +189,12 @@ examples = record {
   made = λ limits a. refl;
   in_slot = λ limits. record { op = Do (Some 0) (New 0) [] []; a = before_making limits; by_slot = Numbered 1; making = refl; slotted = refl };
   other_slot = λ limits m.
-      let w = frame_is (making limits).code makes (frame_of (0 ∷ [])) refl makes_it refl m.a in
-      let i = instr_is (making limits).code makes (frame_of (0 ∷ [])) refl makes_it refl m.a in
+      let w = frame_is (making_setup limits).code makes (frame_of (0 ∷ [])) refl makes_it refl m.a in
+      let i = instr_is (making_setup limits).code makes (frame_of (0 ∷ [])) refl makes_it refl m.a in
       let e : Some (Numbered 1) ≡ Some m.by_slot =
-      (λ j. making_region (code_function (making limits).code (sym w j).function) (top_names makes.frame.holder.environments) (sym i j).op)
+      (λ j. making_region (code_function (making_setup limits).code (sym w j).function) (top_names makes.frame.holder.environments) (sym i j).op)
       ∙ m.making in
-      let s : ◌≡◌ {A = ℕ} 1 0 = ap (slot_number (layout (making limits))) (same_Some (Numbered 1) m.by_slot e) ∙ m.slotted in
+      let s : ◌≡◌ {A = ℕ} 1 0 = ap (slot_number (layout (making_setup limits))) (same_Some (Numbered 1) m.by_slot e) ∙ m.slotted in
       omega (arith, s);
   making_none = λ limits m.
       let w = frame_is (fields wide limits).code at_field (frame_of (9 ∷ 0 ∷ [])) refl loads_field refl m.a in

@@ -13,7 +13,7 @@ use Rattle.rgo_sound.proofs.counts.Pages.{reserved_for_next}
 use Rattle.rgo_core_memory.specs.Ground.{Held, held_of}
 use Rattle.rgo_core_memory.proofs.image.Steadies.{map_back}
 use Rattle.rgo_core_memory.proofs.image.Stepped.{slice_get_none}
-use Rattle.rgo_core.specs.Core.{Here, Setup}
+use Rattle.rgo_core.specs.Core.{Situation, Setup}
 use Rattle.rgo_core.specs.Records.{Record}
 use Rattle.rgo_core.proofs.image.Parts.{I}
 use Rattle.rgo_core.proofs.runs.Runs.{runs_too}
@@ -23,7 +23,7 @@ pub none_in : (pages : List ℕ) → (0 < length pages → ⊥) → pages ≡ []
 none_in [] few = refl
 none_in (p ∷ ps) few = absurd (few (omega arith))
 
-module _ {T : Setup} {g : ℕ} {c : Record} (x : Here T g c) where
+module _ {T : Setup} {g : ℕ} {c : Record} (x : Situation T g c) where
   leads : region_run T.code T.sizes.page_words x.events ≡ Some x.s
   leads = runs_too T.code T.sizes.page_words T.limits x.events (region_start T.code) x.s x.core.story.leads
 

@@ -19,27 +19,27 @@ use Rattle.rgo_sound.proofs.Tests.{eq_of, nat_eq_refl, split}
 use Rattle.rgo_sound.specs.Stakes.{is_in}
 use Rattle.rgo_sound.specs.Tally.{counts_plus, no_share, share_of_last}
 use Rattle.rgo_core_channels.specs.Records.{at_rest}
-use Rattle.rgo_core_frames.specs.Creations.{created_in}
+use Rattle.rgo_core_frames.specs.regions.Creations.{created_in}
 use Rattle.rgo_core_frames.specs.Fits.{RecordFits, IsPast, IsShown}
-use Rattle.rgo_core_frames.specs.Stakes.{ChangesStakes, stake_ended, stake_shared}
-use Rattle.rgo_core_frames.specs.Steps.{HasStep}
+use Rattle.rgo_core_frames.specs.regions.Stakes.{ChangesStakes, stake_ended, stake_shared}
+use Rattle.rgo_core_frames.specs.steps.Bookkept.{HasStep}
 use Rattle.rgo_core_frames.proofs.regions.Creating.{create_law, create_duty}
 use Rattle.rgo_core_frames.proofs.regions.StakeDuties.{OwesFirst, end_law, owes_first, past_owes, share_law}
 use Rattle.rgo_core_memory.specs.Image.{StateImage, Where}
 use Rattle.rgo_core_memory.specs.Parts.{Closing, Living}
 use Rattle.rgo_core_memory.specs.Records.{Calm, Owes, with_give, with_tried_slot, without_slot}
 use Rattle.rgo_core_memory.specs.Events.{IsFreeOf}
-use Rattle.rgo_core_memory.specs.Words.{base, count_at, put}
+use Rattle.rgo_core_memory.specs.Words.{base, count_at, put_at}
 use Rattle.rgo_core_memory.specs.declared.layout.TableSizes.{TableSizes}
 use Rattle.rgo_core_memory.proofs.regions.Attending.{create_keeps, last_leave_keeps, leave_keeps, share_keeps}
 use Rattle.rgo_core_memory.proofs.regions.Bounds.{count_small}
 use Rattle.rgo_core_memory.proofs.image.Keeps.{tried_slot_keeps}
 use Rattle.rgo_core_memory.proofs.Puts.{put_else, put_here}
 use Rattle.rgo_core_memory.proofs.regions.Slots.{live_info}
-use Rattle.rgo_core.specs.Chains.{remembers}
-use Rattle.rgo_core.specs.Core.{Here, Setup, layout}
+use Rattle.rgo_core.specs.moves.Chains.{remembers}
+use Rattle.rgo_core.specs.Core.{Situation, Setup, layout}
 use Rattle.rgo_core.specs.Records.{Record, accessed, accesses, counted, frame_of, memory_of, steps_of}
-use Rattle.rgo_core.specs.Regions.{CreateMove, HasLeft, LeaveMove, ShareMove, creates, leaves, leaves_last, with_holder}
+use Rattle.rgo_core.specs.moves.Regions.{CreateMove, HasLeft, LeaveMove, ShareMove, creates, left_stake, leaves_last, with_holder}
 use Rattle.rgo_core.specs.Steps.{MakesQuietStep, Steps}
 use Rattle.rgo_core.proofs.steps.Attending.{attends, else_stays}
 use Rattle.rgo_core.proofs.pages.Chains.{as_before, look_image, remembered}
@@ -50,7 +50,7 @@ use Rattle.rgo_core.proofs.regions.Stakes.{EndsStake, SharesStake, ends_stake, s
 use Rattle.rgo_core_memory.specs.Owed.{claimed_for}
 use Rattle.rgo_core_memory.proofs.pages.Owing.{still_claimed}
 use Rattle.rgo_core_memory.proofs.regions.Infos.{info_fewer}
-use Rattle.rgo_core.specs.Links.{Links, left_to_free}
+use Rattle.rgo_core.specs.ties.Links.{Links, left_to_free}
 use Rattle.rgo_core.proofs.accesses.Links.{IsElsewhere, all_kept, as_much, claims_apart, has_duty, fixed_low, links_between, links_freeing, owing_none}
 use Rattle.rgo_core.proofs.image.Standing.{frames_here, frame_at, memory_at}
 use Rattle.rgo_core.proofs.goroutines.Counting.{plus_zero}
@@ -86,7 +86,7 @@ not_among slot_of p (r ∷ rs) none =
     (λ f. ap (λ b. if b then true else is_in p (map slot_of rs)) f
     ∙ not_among slot_of p rs (λ q i. none q (later (nat_eq q r) (is_in q rs) i)))
 
-module _ {T : Setup} {g : ℕ} {c : Record} (x : Here T g c) (k p : ℕ) (ds : List Duty) (rests : c.side ≡ at_rest)
+module _ {T : Setup} {g : ℕ} {c : Record} (x : Situation T g c) (k p : ℕ) (ds : List Duty) (rests : c.side ≡ at_rest)
     (owed : c.frame.holder.duties ≡ Create k ∷ ds) (low : p < T.sizes.regions) where
   abbrev z : TableSizes
   z = layout T
@@ -109,7 +109,7 @@ module _ {T : Setup} {g : ℕ} {c : Record} (x : Here T g c) (k p : ℕ) (ds : L
         omega (arith, u, w, counts)
 
     abbrev slot' : ℕ → ℕ
-    slot' = put (I x).places.slot (length x.s.regions) p
+    slot' = put_at (I x).places.slot (length x.s.regions) p
 
     step : HasStep T.code T.sizes.page_words slot' (I x).addresses x.s (Attend g) (x.s.regions ++ record { stakes = 1; pages = 0 } ∷ []) x.s.mark
         (slice_set (map frame_of x.recs) g (created_in c.frame k ds p))
@@ -162,11 +162,11 @@ module _ {T : Setup} {g : ℕ} {c : Record} (x : Here T g c) (k p : ℕ) (ds : L
     }
 
     abbrev P' : Where
-    P' = record (I x).places { slot = slot'; uses = put (I x).places.uses p (Living (length x.s.regions)) }
+    P' = record (I x).places { slot = slot'; uses = put_at (I x).places.uses p (Living (length x.s.regions)) }
 
     created_steps : Steps x (slice_set x.words (count_at z p) 2) (creates c k ds p)
     created_steps = inl (attends x rests (Attend g) refl t step.steps (slot_there x p low none f.h k first.others f.there owes) (else_stays x.s t step.same) (creates c k ds p).clock (created_in c.frame k ds p) c.memory
-        slot' (put (I x).places.uses p (Living (length x.s.regions))) (I x).places.at (I x).places.page (count_at z p) 2 (omega (arith, low)) lives step.fit
+        slot' (put_at (I x).places.uses p (Living (length x.s.regions))) (I x).places.at (I x).places.page (count_at z p) 2 (omega (arith, low)) lives step.fit
         (memory_stays x (slice_set x.words (count_at z p) 2) t P'
         (create_keeps T.code z x.words (map memory_of x.recs) x.s t g k p f.h first.others x.core.sound.good (I x).places (I x).memory f.there owes
         step.steps low none))
@@ -194,7 +194,7 @@ create_move T g c k p ds rests owed low =
     counted_so true = refl
     counted_so false = refl
 
-    by : (x : Here T g c) (b : Bool) → (slice_index x.words (count_at (layout T) p) == 0) ≡ b
+    by : (x : Situation T g c) (b : Bool) → (slice_index x.words (count_at (layout T) p) == 0) ≡ b
         → Steps x (slice_set x.words (count_at (layout T) p) (if b then 2 else slice_index x.words (count_at (layout T) p)))
         (if b then creates c k ds p else remembers c (with_tried_slot c.memory p))
     by x true e = created_steps x k p ds rests owed low (grind (arith, nat_tests))
@@ -202,7 +202,7 @@ create_move T g c k p ds rests owed low =
 
 -- ---- the count of a live region
 
-module _ {T : Setup} {g : ℕ} {c : Record} (x : Here T g c) (j p : ℕ) (slot_is : (I x).places.slot j ≡ p)
+module _ {T : Setup} {g : ℕ} {c : Record} (x : Situation T g c) (j p : ℕ) (slot_is : (I x).places.slot j ≡ p)
     (live : is_live x.s.regions (Numbered j) ≡ true) where
   pub info_of : (info : RegionInfo) × (slice_get x.s.regions j ≡ Some info) × (0 < info.stakes)
   info_of = live_info x.s.regions j live
@@ -221,7 +221,7 @@ module _ {T : Setup} {g : ℕ} {c : Record} (x : Here T g c) (j p : ℕ) (slot_i
 
 -- ---- a stake is taken
 
-module _ {T : Setup} {g : ℕ} {c : Record} (x : Here T g c) (d : Duty) (ds : List Duty) (p : ℕ) (k : Holder) (rests : c.side ≡ at_rest)
+module _ {T : Setup} {g : ℕ} {c : Record} (x : Situation T g c) (d : Duty) (ds : List Duty) (p : ℕ) (k : Holder) (rests : c.side ≡ at_rest)
     (owed : c.frame.holder.duties ≡ d ∷ ds) (shares : stake_shared (record c.frame.holder { duties = ds }) d ≡ Some (p, k)) where
   S : ChangesStakes T.code T.sizes.page_words (I x).places.slot (I x).addresses x.s g p stake_shared with_added_stake
       (slice_set (map frame_of x.recs) g (record c.frame { holder = k }))
@@ -281,7 +281,7 @@ share_move T g c d ds p k rests owed shares =
 
 -- ---- a stake ends
 
-module _ {T : Setup} {g : ℕ} {c : Record} (x : Here T g c) (d : Duty) (ds : List Duty) (p : ℕ) (k : Holder) (rests : c.side ≡ at_rest)
+module _ {T : Setup} {g : ℕ} {c : Record} (x : Situation T g c) (d : Duty) (ds : List Duty) (p : ℕ) (k : Holder) (rests : c.side ≡ at_rest)
     (owed : c.frame.holder.duties ≡ d ∷ ds) (ends : stake_ended (record c.frame.holder { duties = ds }) d ≡ Some (p, k))
     (free : IsFreeOf c.memory p) (calm : c.memory.give ≡ Calm) where
   E : ChangesStakes T.code T.sizes.page_words (I x).places.slot (I x).addresses x.s g p stake_ended one_fewer
@@ -330,11 +330,11 @@ module _ {T : Setup} {g : ℕ} {c : Record} (x : Here T g c) (d : Duty) (ds : Li
         (I x).memory E.there (memory_at x) end_of.leaves E.step.steps end_free (owing_none x d ds owed)
         (subst (λ m. found_at m ≢ 2) (sym E.slot_is) more))
 
-    leave_does : MakesQuietStep x (slice_set x.words (count_at (layout T) p) (n - 1)) (leaves c k p)
+    leave_does : MakesQuietStep x (slice_set x.words (count_at (layout T) p) (n - 1)) (left_stake c k p)
     leave_does = attends x rests (Attend g) refl E.step.state E.step.steps end_room (else_stays x.s E.step.state E.step.same) (accessed c.clock) (record c.frame { holder = k })
         (without_slot c.memory p) (I x).places.slot (I x).places.uses (I x).places.at (I x).places.page (count_at (layout T) p) (n - 1) low_end end_lives
         E.step.fit leave_memory
-        (links_between x (count_at (layout T) p) (n - 1) (omega arith) low_end (leaves c k p) (all_kept refl refl refl refl)
+        (links_between x (count_at (layout T) p) (n - 1) (omega arith) low_end (left_stake c k p) (all_kept refl refl refl refl)
         (IsElsewhere (as_much (steps_of c)) (has_duty T.code c d ds owed) (owing_none x d ds owed)))
         no_share
         (end_adds ∙ ap (counts_plus (counts_of x.s)) (share_kept x.s.regions E.region info (info_of x E.region p E.slot_is E.live).1
@@ -349,10 +349,10 @@ module _ {T : Setup} {g : ℕ} {c : Record} (x : Here T g c) (d : Duty) (ds : Li
 
     last_memory : StateImage (layout T) (slice_set x.words (count_at (layout T) p) (n - 1))
         (slice_set (map memory_of x.recs) g (with_give (without_slot c.memory p) (Owes p))) E.step.state
-        (record (I x).places { uses = put (I x).places.uses p (Closing g) })
+        (record (I x).places { uses = put_at (I x).places.uses p (Closing g) })
     last_memory = subst (λ m. StateImage (layout T) (slice_set x.words (count_at (layout T) m) (found_at m - 1))
         (slice_set (map memory_of x.recs) g (with_give (without_slot c.memory m) (Owes m))) E.step.state
-        (record (I x).places { uses = put (I x).places.uses m (Closing g) })) E.slot_is
+        (record (I x).places { uses = put_at (I x).places.uses m (Closing g) })) E.slot_is
         (last_leave_keeps T.code (layout T) x.words (map memory_of x.recs) x.s E.step.state g E.region E.h c.memory x.core.sound.good (I x).places
         (I x).memory E.there (memory_at x) end_of.leaves E.step.steps end_free (owing_none x d ds owed) calm
         (subst (λ m. found_at m ≡ 2) (sym E.slot_is) two))
@@ -388,7 +388,7 @@ module _ {T : Setup} {g : ℕ} {c : Record} (x : Here T g c) (d : Duty) (ds : Li
 
     last_does : MakesQuietStep x (slice_set x.words (count_at (layout T) p) (n - 1)) (leaves_last c k p info.pages)
     last_does = attends x rests (Attend g) refl E.step.state E.step.steps end_room (else_stays x.s E.step.state E.step.same) (leaves_last c k p info.pages).clock
-        (record c.frame { holder = k }) (with_give (without_slot c.memory p) (Owes p)) (I x).places.slot (put (I x).places.uses p (Closing g))
+        (record c.frame { holder = k }) (with_give (without_slot c.memory p) (Owes p)) (I x).places.slot (put_at (I x).places.uses p (Closing g))
         (I x).places.at (I x).places.page (count_at (layout T) p) (n - 1) low_end end_lives E.step.fit last_memory last_links gain
         (end_adds ∙ ap (counts_plus (counts_of x.s)) (share_last x.s.regions E.region info (info_of x E.region p E.slot_is E.live).1
         (let w = n_is in omega (arith, w, two))))
@@ -404,9 +404,9 @@ module _ {T : Setup} {g : ℕ} {c : Record} (x : Here T g c) (d : Duty) (ds : Li
         tells_so = inr (two, owes_none two, info.pages, refl);
       })
       (λ more. record {
-        after = leaves c k p;
+        after = left_stake c k p;
         more = refl;
-        steps = inl (subst (λ m. MakesQuietStep x (slice_set x.words (count_at (layout T) p) m) (leaves c k p)) (sym down) (leave_does more));
+        steps = inl (subst (λ m. MakesQuietStep x (slice_set x.words (count_at (layout T) p) m) (left_stake c k p)) (sym down) (leave_does more));
         tells_so = inl (more, refl);
       })
     where

@@ -11,7 +11,7 @@ use Rattle.rgo_sound.specs.RegionMachine.States.{Create, Duty, EndBase, Holder, 
 use Rattle.rgo_sound.specs.RegionMachine.declared.regions.Region.{Region}
 use Rattle.rgo_sound.specs.RegionMachine.declared.regions.Region.TheVariants.{Global as GlobalRegion, Numbered}
 use Rattle.rgo_sound.specs.Tally.{no_share, share_of, share_of_duty, share_of_first, share_of_holder, share_of_last, share_of_named, share_of_removal}
-use Rattle.rgo_core_frames.specs.Stakes.{ended, shared_in, stake_ended, stake_shared}
+use Rattle.rgo_core_frames.specs.regions.Stakes.{ended, shared_in, stake_ended, stake_shared}
 use Rattle.rgo_core_frames.proofs.steps.LocalActs.{chained}
 use Rattle.rgo_core_memory.specs.Events.{Leaves}
 

@@ -13,12 +13,12 @@ use Rattle.rgo_core_frames.proofs.steps.Ints.{ints_stay}
 use Rattle.rgo_core_frames.proofs.Opening.{opening_law as frames_open}
 use Rattle.rgo_core_frames.proofs.Sound.{sound_stays}
 use Rattle.rgo_core_frames.specs.Fits.{RecordsFit}
-use Rattle.rgo_core_frames.specs.Constants.{ConstantsFit}
-use Rattle.rgo_core_frames.specs.Opening.{main_record}
-use Rattle.rgo_core_frames.specs.Records.{Rec as FrameRec}
-use Rattle.rgo_core_frames.specs.WordFrames.{WordFrame, bare_all, word_called}
+use Rattle.rgo_core_frames.specs.shown.Constants.{ConstantsFit}
+use Rattle.rgo_core_frames.specs.goroutines.Opening.{main_record}
+use Rattle.rgo_core_frames.specs.Records.{FramesRec as FrameRec}
+use Rattle.rgo_core_frames.specs.shown.WordFrames.{WordFrame, bare_all, word_called}
 use Rattle.rgo_core_memory.proofs.Opening.{opens as memory_opens, zeros, many}
-use Rattle.rgo_core_memory.specs.Image.{code_of}
+use Rattle.rgo_core_memory.specs.Image.{word_of_value}
 use Rattle.rgo_core_memory.specs.Opening.{first_words, nowhere}
 use Rattle.rgo_core_memory.specs.Words.{all_words, count_at}
 use Rattle.rgo_core_memory.specs.declared.layout.TableSizes.{TableSizes}
@@ -30,18 +30,18 @@ use Rattle.rgo_sound.proofs.steps.Each.{Main, main_of}
 use Rattle.rgo_sound.specs.Tac.Code.{TacFn}
 use Rattle.rgo_sound.specs.Tac.Frames.{TacFrame, new_tac_frame}
 use Rattle.rgo_sound.specs.Tac.Tac.{tac_main_frames}
-use Rattle.rgo_core.specs.Clock.{Clock}
+use Rattle.rgo_core.specs.ties.Clock.{Clock}
 use Rattle.rgo_core.specs.Core.{Core, Setup, layout}
 use Rattle.rgo_core_channels.specs.Positions.{cell_place, place_at}
 use Rattle.rgo_core.specs.Image.{Image}
-use Rattle.rgo_core.specs.Numbers.{Numbers, has_child}
-use Rattle.rgo_core.specs.Opening.{TableOpeningLaw, first_of, main_frame, main_words, opening}
+use Rattle.rgo_core.specs.ties.Numbers.{Numbers, has_child}
+use Rattle.rgo_core.specs.runs.Opening.{TableOpeningLaw, first_of, main_frame, main_words, opening_table}
 use Rattle.rgo_core.specs.Records.{Record, ClockRec, Drawn, fresh}
-use Rattle.rgo_core.specs.Runs.{Printed}
-use Rattle.rgo_core.specs.Story.{Story}
+use Rattle.rgo_core.specs.runs.Runs.{Printed}
+use Rattle.rgo_core.specs.runs.Story.{Story}
 use Rattle.rgo_core.proofs.Lists.{word_new, word_same}
 use Rattle.rgo_core.proofs.runs.Runs.{printed_whole}
-use Rattle.rgo_core.specs.Links.{Link, Links}
+use Rattle.rgo_core.specs.ties.Links.{Link, Links}
 use Rattle.rgo_core_memory.specs.Records.{Located, Measured}
 
 -- ---- words
@@ -165,7 +165,7 @@ at_zero code page_words limits (suc k) h = absurd (omega arith)
 abbrev nobody : Places
 nobody = record { head = λ o. 0; lock = λ o. Unlocked; phase = λ o. Calm }
 
-first_image : (T : Setup) → IsChecked T.code → Image T.code (layout T) (opening T) (first_of T.code ∷ []) (region_start T.code)
+first_image : (T : Setup) → IsChecked T.code → Image T.code (layout T) (opening_table T) (first_of T.code ∷ []) (region_start T.code)
 first_image T checked = record {
   places = nowhere;
   at = nobody;
@@ -173,11 +173,11 @@ first_image T checked = record {
   addressed = λ o a e. let z : None ≡ Some a = e in absurd (cc z);
   frames = frames_fit T.code nowhere.slot checked;
   memory = memory_opens T.code (layout T) (omega arith);
-  channels = channels_open T.code T.sizes.page_words (code_of (layout T) nowhere) (place_at (layout T) nowhere) (cell_place (layout T) nowhere) (opening T) nobody;
+  channels = channels_open T.code T.sizes.page_words (word_of_value (layout T) nowhere) (place_at (layout T) nowhere) (cell_place (layout T) nowhere) (opening_table T) nobody;
 }
 
-first_links : (T : Setup) → Links T.code (layout T) (opening T) (first_of T.code ∷ [])
-first_links T g c e = subst (Link T.code (layout T) (opening T)) (sole (first_of T.code) c g e)
+first_links : (T : Setup) → Links T.code (layout T) (opening_table T) (first_of T.code ∷ [])
+first_links T g c e = subst (Link T.code (layout T) (opening_table T)) (sole (first_of T.code) c g e)
     (record {
       owed = refl;
       knows = λ m read. absurd (nothing m read);
@@ -195,7 +195,7 @@ first_links T g c e = subst (Link T.code (layout T) (opening T)) (sole (first_of
     nowhere_read : (l : Located) → None ≡ Some l → ⊥
     nowhere_read l read = cc read
 
-pub first_story : (T : Setup) → Story T.code T.sizes T.limits (opening T) (fresh ∷ []) [] (region_start T.code)
+pub first_story : (T : Setup) → Story T.code T.sizes T.limits (opening_table T) (fresh ∷ []) [] (region_start T.code)
 first_story T = record {
   leads = refl;
   room = refl;
@@ -226,6 +226,6 @@ opening_law T checked written constants capped = (
 
 -- the same where the code of the setup is that code
 pub opens_by : (T : Setup) (code : Code) → T.code ≡ code → IsChecked code → Ascends code → ConstantsFit code
-    → most_goroutines T.limits ≤ 1000000 → Core T (opening T) (first_of T.code ∷ []) []
+    → most_goroutines T.limits ≤ 1000000 → Core T (opening_table T) (first_of T.code ∷ []) []
 opens_by T code same checked written constants capped =
     opening_law T (subst IsChecked (sym same) checked) (subst Ascends (sym same) written) (subst ConstantsFit (sym same) constants) capped

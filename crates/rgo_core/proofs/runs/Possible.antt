@@ -4,8 +4,8 @@ use Rattle.rgo_core_rule.specs.Steps.{Occurs}
 use Rattle.rgo_core_rule.proofs.Occurring.{still_occurs}
 use Rattle.rgo_core_rule.proofs.Lists.{at_below}
 use Rattle.rgo_core.specs.Core.{Core, IsPossible, Setup}
-use Rattle.rgo_core.specs.Opening.{first_of, opening}
-use Rattle.rgo_core.specs.Possible.{FirstPossible, OccursPossible, PossibleExamples, StillPossible}
+use Rattle.rgo_core.specs.runs.Opening.{first_of, opening_table}
+use Rattle.rgo_core.specs.runs.Possible.{FirstPossible, OccursPossible, PossibleExamples, StillPossible}
 use Rattle.rgo_core.specs.Records.{Record, accesses}
 use Rattle.rgo_core.proofs.steps.Lift.{few_records}
 use Rattle.rgo_core.proofs.Lists.{elem_of, get_of}
@@ -27,9 +27,9 @@ occurs T g c x = record { words = x.words; recs = x.recs; run = x.events; explai
 pub still_possible : StillPossible
 still_possible T g c d x still = is_possible T g d (still_occurs accesses (Core T) g c d still (occurs T g c x))
 
-pub opens_possible : (T : Setup) → Core T (opening T) (first_of T.code ∷ []) [] → IsPossible T 0 (first_of T.code)
+pub opens_possible : (T : Setup) → Core T (opening_table T) (first_of T.code ∷ []) [] → IsPossible T 0 (first_of T.code)
 opens_possible T core = record {
-  words = opening T;
+  words = opening_table T;
   recs = first_of T.code ∷ [];
   events = [];
   s = core.0;

@@ -8,7 +8,7 @@ use Rattle.rgo_sound.specs.Machine.Runs.{run}
 use Rattle.rgo_sound.specs.Machine.declared.limits.Limits.{Limits}
 use Rattle.rgo_sound.specs.RegionMachine.Machine.{Event, region_step}
 use Rattle.rgo_sound.specs.RegionMachine.States.{Mark, RegionState}
-use Rattle.rgo_core.specs.Runs.{Marked, Printed, if_in_limits, limited_run, limited_step}
+use Rattle.rgo_core.specs.runs.Runs.{Marked, Printed, if_in_limits, limited_run, step_in_limits}
 
 pub run_then : {S E : Type 0} (step : S → E → Option S) (s : S) (es : List E) (t u : S) (e : E) → run step s es ≡ Some t
     → step t e ≡ Some u → run step s (es ++ e ∷ []) ≡ Some u
@@ -24,7 +24,7 @@ run_then {S = S} {E = E} step s (x ∷ es) t u e leads one = go (step s x) leads
 module _ (code : Code) (page_words : ℕ) (limits : Limits) where
   -- a step to a state within the limits
   pub step_within : (s t : RegionState) (e : Event) → region_step code page_words s e ≡ Some t → is_within limits t.plain ≡ true
-      → limited_step code page_words limits s e ≡ Some t
+      → step_in_limits code page_words limits s e ≡ Some t
   step_within s t e step w = ap (option_and_then (if_in_limits code page_words limits)) step ∙ ap (λ (b : Bool). if b then Some t else None) w
 
   pub printed_more : (events more : List Event) (bytes : List ℕ) → Printed code page_words limits events bytes
@@ -71,7 +71,7 @@ module _ (code : Code) (page_words : ℕ) (limits : Limits) where
     }
 
     pub marked_now : (events : List Event) (e : Event) (s t : RegionState) (mark : Mark)
-        → limited_run code page_words limits events ≡ Some s → s.mark ≡ None → limited_step code page_words limits s e ≡ Some t
+        → limited_run code page_words limits events ≡ Some s → s.mark ≡ None → step_in_limits code page_words limits s e ≡ Some t
         → t.mark ≡ Some mark → t.plain.printed ≡ s.plain.printed → Cause mark s
         → Marked code page_words limits Cause (events ++ e ∷ []) mark s.plain.printed
     marked_now events e s t mark leads none one m still cause = record {
@@ -103,7 +103,7 @@ first_step {S = S} {E = E} step s t e es leads = go (step s e) leads
 
 module _ (code : Code) (page_words : ℕ) (limits : Limits) where
   -- a step within the limits is a step, and leads to a state within them
-  pub one_step : (s t : RegionState) (e : Event) → limited_step code page_words limits s e ≡ Some t
+  pub one_step : (s t : RegionState) (e : Event) → step_in_limits code page_words limits s e ≡ Some t
       → (region_step code page_words s e ≡ Some t) × (is_within limits t.plain ≡ true)
   one_step s t e is = go (region_step code page_words s e) is
     where
@@ -117,9 +117,9 @@ module _ (code : Code) (page_words : ℕ) (limits : Limits) where
       go None q = absurd (cc q)
       go (Some u) q = pick (is_within limits u.plain) u refl q
 
-  pub runs_too : (events : List Event) (s t : RegionState) → run (limited_step code page_words limits) s events ≡ Some t
+  pub runs_too : (events : List Event) (s t : RegionState) → run (step_in_limits code page_words limits) s events ≡ Some t
       → run (region_step code page_words) s events ≡ Some t
   runs_too [] s t e = e
   runs_too (event ∷ events) s t e =
-      let f = first_step (limited_step code page_words limits) s t event events e in
+      let f = first_step (step_in_limits code page_words limits) s t event events e in
       ap (option_and_then (λ u. run (region_step code page_words) u events)) (one_step s f.0 event f.1).0 ∙ runs_too events f.0 t f.2

@@ -15,14 +15,14 @@ use Rattle.rgo_sound.specs.RegionMachine.Machine.{Event, region_start, region_st
 use Rattle.rgo_sound.specs.RegionMachine.Room.{has_room, roomy_run, roomy_step}
 use Rattle.rgo_sound.specs.RegionMachine.States.{Mark, RegionState}
 use Rattle.rgo_sound.specs.Tally.{counts_plus, no_share}
-use Rattle.rgo_core.specs.Causes.{IsCause}
-use Rattle.rgo_core.specs.Clock.{Clock}
-use Rattle.rgo_core.specs.ClockSteps.{ClockHasEnded, first_mark}
-use Rattle.rgo_core.specs.Numbers.{Numbers}
+use Rattle.rgo_core.specs.runs.Causes.{IsCause}
+use Rattle.rgo_core.specs.ties.Clock.{Clock}
+use Rattle.rgo_core.specs.moves.Clock.{ClockHasEnded, first_mark}
+use Rattle.rgo_core.specs.ties.Numbers.{Numbers}
 use Rattle.rgo_core.specs.Records.{ClockRec, all_counted, counted, drawn_at}
-use Rattle.rgo_core.specs.Runs.{Marked, Printed, limited_run, limited_step}
+use Rattle.rgo_core.specs.runs.Runs.{Marked, Printed, limited_run, step_in_limits}
 use Rattle.rgo_core.specs.Steps.{SameClock}
-use Rattle.rgo_core.specs.Story.{Story}
+use Rattle.rgo_core.specs.runs.Story.{Story}
 use Rattle.rgo_core.proofs.clock.Clocks.{before_after, clock_child, clock_end, clock_print, clock_same, is_first, is_later, late_after, room}
 use Rattle.rgo_core.proofs.goroutines.Counting.{counted_child, counted_more, counted_same}
 use Rattle.rgo_core.proofs.Lists.{take_before, word_new, word_same}
@@ -79,11 +79,11 @@ module _ (code : Code) (sizes : Sizes) (limits : Limits) (words : List ℕ) (rec
     abbrev longer : List Event
     longer = events ++ e ∷ []
 
-    limited : limited_step code sizes.page_words limits s e ≡ Some next
+    limited : step_in_limits code sizes.page_words limits s e ≡ Some next
     limited = step_within code sizes.page_words limits s next e step within
 
     leads_on : limited_run code sizes.page_words limits longer ≡ Some next
-    leads_on = run_then (limited_step code sizes.page_words limits) (region_start code) events s next e k.leads limited
+    leads_on = run_then (step_in_limits code sizes.page_words limits) (region_start code) events s next e k.leads limited
 
     room_on : roomy_run code sizes longer ≡ Some next
     room_on = run_then (roomy_step code sizes) (region_start code) events s next e k.room

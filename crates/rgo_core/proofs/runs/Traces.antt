@@ -1,6 +1,6 @@
 -- Small runs, computed.
 use Rattle.std.proofs.Common.{refl}
-use Rattle.rgo_core.specs.TraceExamples.{TraceExamples}
+use Rattle.rgo_core.specs.examples.Traces.{TraceExamples}
 
 pub trace_examples : TraceExamples
 trace_examples = record {

@@ -15,28 +15,28 @@ use Rattle.rgo_sound.proofs.Places.{length_set}
 use Rattle.rgo_sound.specs.Leaving.{ActsAlone}
 use Rattle.rgo_sound.specs.Tally.{counts_plus}
 use Rattle.rgo_core_channels.specs.Channels.{Chan, On}
-use Rattle.rgo_core_channels.specs.Elsewhere.{IsMade, Leaves}
+use Rattle.rgo_core_channels.specs.Elsewhere.{IsMade, LeavesChannels}
 use Rattle.rgo_core_channels.specs.Records.{at_rest}
 use Rattle.rgo_core_channels.proofs.Elsewhere.{event_keeps}
 use Rattle.rgo_core_frames.specs.Fits.{RecordsFit}
-use Rattle.rgo_core_frames.specs.Records.{Rec as FrameRec}
-use Rattle.rgo_core_frames.specs.Steps.{StaysElse}
-use Rattle.rgo_core_memory.specs.Image.{StateImage, Where, code_of}
+use Rattle.rgo_core_frames.specs.Records.{FramesRec as FrameRec}
+use Rattle.rgo_core_frames.specs.steps.Bookkept.{StaysElse}
+use Rattle.rgo_core_memory.specs.Image.{StateImage, Where, word_of_value}
 use Rattle.rgo_core_memory.specs.Pages.{Place}
 use Rattle.rgo_core_memory.specs.Parts.{Use}
 use Rattle.rgo_core_memory.specs.Records.{Rec as MemoryRec}
 use Rattle.rgo_core_memory.specs.Words.{base}
 use Rattle.rgo_core_memory.proofs.Rows.{below, set_again}
-use Rattle.rgo_core.specs.Core.{Here, Setup, layout}
+use Rattle.rgo_core.specs.Core.{Situation, Setup, layout}
 use Rattle.rgo_core_channels.specs.Positions.{cell_place, place_at}
 use Rattle.rgo_core.specs.Image.{ChannelsIn}
 use Rattle.rgo_core.specs.Records.{ClockRec, Record, counted, frame_of, memory_of, side_of}
 use Rattle.rgo_core.specs.Steps.{MakesQuietStep, SameClock}
 use Rattle.rgo_core.proofs.channel_steps.Leaving.{before_cells, owner_of}
 use Rattle.rgo_core.proofs.image.Parts.{I, image_with}
-use Rattle.rgo_core.specs.Links.{Links}
+use Rattle.rgo_core.specs.ties.Links.{Links}
 use Rattle.rgo_core.proofs.image.Standing.{side_at}
-use Rattle.rgo_core.specs.Moments.{moment}
+use Rattle.rgo_core.specs.ties.Moments.{moment}
 use Rattle.rgo_core.proofs.goroutines.Counting.{plus_zero}
 
 -- memory, owners and print stay
@@ -48,7 +48,7 @@ pub record MemoryStays (s t : RegionState) : Type 0 where
 pub else_stays : (s t : RegionState) → StaysElse s t → MemoryStays s t
 else_stays s t e = record { memory = e.memory; owners = e.owners; printed = e.printed }
 
-module _ {T : Setup} {g : ℕ} {c : Record} (x : Here T g c) (rests : c.side ≡ at_rest) (event : Event) (alone : ActsAlone event g)
+module _ {T : Setup} {g : ℕ} {c : Record} (x : Situation T g c) (rests : c.side ≡ at_rest) (event : Event) (alone : ActsAlone event g)
     (t : RegionState) (step : region_step T.code T.sizes.page_words x.s event ≡ Some t) (room : has_room T.sizes x.s event ≡ true) (same : MemoryStays x.s t)
     (k : ClockRec) (fr : FrameRec) (m : MemoryRec) (slot : ℕ → ℕ) (uses : ℕ → Use) (at : ℕ → Place) (page : ℕ → ℕ) (i v : ℕ)
     (low : i < base (layout T))
@@ -73,7 +73,7 @@ module _ {T : Setup} {g : ℕ} {c : Record} (x : Here T g c) (rests : c.side ≡
         ap (owner_live x.s) e ∙ lives o y.0 e y.2,
       )
 
-  stay : Leaves (moment x) words t (code_of (layout T) P) (place_at (layout T) P) (cell_place (layout T) P) (I x).at (IsMade None) 0
+  stay : LeavesChannels (moment x) words t (word_of_value (layout T) P) (place_at (layout T) P) (cell_place (layout T) P) (I x).at (IsMade None) 0
   stay = record {
     long = length-set x.words i v;
     heap = λ o l on. ap (λ (h : Heap). slice_get h.heap o) same.memory ∙ on.0;
@@ -98,7 +98,7 @@ module _ {T : Setup} {g : ℕ} {c : Record} (x : Here T g c) (rests : c.side ≡
   channels =
       subst (λ l. ChannelsIn T.code (layout T) P words l t (I x).at)
       (append-nil (map side_of x.recs) ∙ sym (set_again (map side_of x.recs) g c.side (side_at x)))
-      (event_keeps (moment x) g event words t (code_of (layout T) P) (place_at (layout T) P) (cell_place (layout T) P) (I x).at None 0
+      (event_keeps (moment x) g event words t (word_of_value (layout T) P) (place_at (layout T) P) (cell_place (layout T) P) (I x).at None 0
       (side_at x ∙ ap Some rests) alone step stay)
 
   pub attends : Links T.code (layout T) words (slice_set x.recs g (record c { clock = k; frame = fr; memory = m })) → (gain : Counts) → counts_of t ≡ counts_plus (counts_of x.s) gain → counted k ≡ counts_plus (counted c.clock) gain

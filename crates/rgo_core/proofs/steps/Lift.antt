@@ -8,10 +8,10 @@ use Rattle.rgo_sound.specs.Code.Code.{Code}
 use Rattle.rgo_core_frames.proofs.steps.Ints.{ints_stay}
 use Rattle.rgo_core_frames.proofs.Sound.{next_sound}
 use Rattle.rgo_core_frames.specs.Fits.{RecordsFit, IsPast, IsShown}
-use Rattle.rgo_core_frames.specs.Records.{Rec as FrameRec}
-use Rattle.rgo_core_frames.specs.Shown.{CallersShow, FramesShow}
+use Rattle.rgo_core_frames.specs.Records.{FramesRec as FrameRec}
+use Rattle.rgo_core_frames.specs.shown.Variables.{CallersShow, FramesShow}
 use Rattle.rgo_core_frames.specs.States.{IsSound}
-use Rattle.rgo_core_frames.specs.WordFrames.{WordFrame}
+use Rattle.rgo_core_frames.specs.shown.WordFrames.{WordFrame}
 use Rattle.rgo_core_memory.proofs.Rows.{at_set}
 use Rattle.rgo_core_memory.proofs.image.Stepped.{map_get, map_set}
 use Rattle.rgo_sound.specs.Machine.Limits.{deepest, is_within_depth, is_within, most_goroutines}
@@ -20,11 +20,11 @@ use Rattle.rgo_sound.specs.RegionMachine.Machine.{Event}
 use Rattle.rgo_sound.specs.RegionMachine.States.{RegionState}
 use Rattle.rgo_sound.proofs.Places.{get_some, length_set}
 use Rattle.rgo_sound.specs.Tac.Frames.{TacFrame}
-use Rattle.rgo_core.specs.Core.{CoreAt, Here, Setup, layout}
+use Rattle.rgo_core.specs.Core.{CoreAt, Situation, Setup, layout}
 use Rattle.rgo_core.specs.Image.{Image}
 use Rattle.rgo_core.specs.Records.{ClockRec, Record, accesses, clock_of, frame_of}
-use Rattle.rgo_core.specs.Steps.{AccessLaw, MakesQuietStep, FindsWord, Moves, QuietLaw, MakesNoStep, Steps}
-use Rattle.rgo_core.specs.Story.{Story}
+use Rattle.rgo_core.specs.Steps.{AccessLaw, MakesQuietStep, FindsWord, Moves, QuietStepLaw, MakesNoStep, Steps}
+use Rattle.rgo_core.specs.runs.Story.{Story}
 use Rattle.rgo_core.proofs.Lists.{get_of, word_same}
 use Rattle.rgo_core.proofs.runs.Stories.{few, story_does, story_stays}
 
@@ -108,7 +108,7 @@ module _ (code : Code) (slot_of : ℕ → ℕ) (addresses : List ℕ) (limits : 
 
 -- ---- the core after a step
 
-module _ {T : Setup} {g : ℕ} {c : Record} (x : Here T g c) where
+module _ {T : Setup} {g : ℕ} {c : Record} (x : Situation T g c) where
   abbrev clocks : List ClockRec
   clocks = map clock_of x.recs
 
@@ -174,7 +174,7 @@ module _ {T : Setup} {g : ℕ} {c : Record} (x : Here T g c) where
 -- ---- a move of the rule
 
 -- what a goroutine does that finds a number on a word
-pub record Reaches {T : Setup} {g : ℕ} {c : Record} (x : Here T g c) (i : ℕ) (f : ℕ → ℕ) (tells : ℕ → Record → Type 0) : Type 0 where
+pub record Reaches {T : Setup} {g : ℕ} {c : Record} (x : Situation T g c) (i : ℕ) (f : ℕ → ℕ) (tells : ℕ → Record → Type 0) : Type 0 where
   pub after : Record
   pub more : accesses after ≡ suc (accesses c)
   pub steps : Steps x (slice_set x.words i (f (slice_index x.words i))) after
@@ -182,10 +182,10 @@ pub record Reaches {T : Setup} {g : ℕ} {c : Record} (x : Here T g c) (i : ℕ)
 
 -- its record afterwards may be told by more than what was found
 pub told_law : (T : Setup) (g : ℕ) (c : Record) (i : ℕ) (f : ℕ → ℕ) (tells : ℕ → Record → Type 0)
-    → ((x : Here T g c) → 32 ≤ i) → ((x : Here T g c) → slice_index x.words i < 18446744073709551616 → Reaches x i f tells) → Moves T g c i f tells
+    → ((x : Situation T g c) → 32 ≤ i) → ((x : Situation T g c) → slice_index x.words i < 18446744073709551616 → Reaches x i f tells) → Moves T g c i f tells
 told_law T g c i f tells low finds words recs run core at fits =
     let n : ℕ = slice_index words i in
-    let x : Here T g c = record { words = words; recs = recs; events = run; s = core.0; core = core.1; is_c = get_of recs g c at } in
+    let x : Situation T g c = record { words = words; recs = recs; events = run; s = core.0; core = core.1; is_c = get_of recs g c at } in
     let r = finds x fits in
     let clock : slice_index (slice_set words i (f n)) 0 ≡ slice_index words 0 = word_same words i 0 (f n) (λ e. let l = low x in omega (arith, l)) in
     let made : slice_index (slice_set words i (f n)) 16 ≡ slice_index words 16 = word_same words i 16 (f n) (λ e. let l = low x in omega (arith, l)) in
@@ -212,9 +212,9 @@ told_law T g c i f tells low finds words recs run core at fits =
 
 -- the record after it is told by what was found, and something more of that by the state
 pub moves_by : (T : Setup) (g : ℕ) (c : Record) (i : ℕ) (f : ℕ → ℕ) (after : ℕ → Record) (tells : ℕ → Record → Type 0)
-    → ((n : ℕ) → accesses (after n) ≡ suc (accesses c)) → ((x : Here T g c) → 32 ≤ i)
+    → ((n : ℕ) → accesses (after n) ≡ suc (accesses c)) → ((x : Situation T g c) → 32 ≤ i)
     → FindsWord T g c i (λ x n. Steps x (slice_set x.words i (f n)) (after n))
-    → ((x : Here T g c) → tells (slice_index x.words i) (after (slice_index x.words i)))
+    → ((x : Situation T g c) → tells (slice_index x.words i) (after (slice_index x.words i)))
     → Moves T g c i f tells
 moves_by T g c i f after tells more high finds tell = told_law T g c i f tells high (λ x small. record {
   after = after (slice_index x.words i);
@@ -226,9 +226,9 @@ moves_by T g c i f after tells more high finds tell = told_law T g c i f tells h
 pub access_law : AccessLaw
 access_law T g c i f after low more finds = moves_by T g c i f after (λ n d. d ≡ after n) more (λ x. low) finds (λ x. refl)
 
-pub quiet_law : QuietLaw
+pub quiet_law : QuietStepLaw
 quiet_law T g c d does words recs run core at =
-    let x : Here T g c = record { words = words; recs = recs; events = run; s = core.0; core = core.1; is_c = get_of recs g c at } in
+    let x : Situation T g c = record { words = words; recs = recs; events = run; s = core.0; core = core.1; is_c = get_of recs g c at } in
     let p = does x in (
       p.goes.event ∷ [],
       (p.goes.next, does_core x words d refl refl p),

@@ -2,17 +2,17 @@
 use Rattle.std.proofs.Common.{◌≡◌, inr, ℕ, zero, suc, ◌+◌, ◌≤◌, Bool, true, false, List, [], ◌∷◌, Option, Some, None, if◌then◌else◌, option_map, option_and_then, length, map, slice_get, slice_set, slice_index, bit_or, refl, ap, sym, subst, ◌∙◌, arith}
 use Rattle.std.proofs.lemmas.Option.{same_Some}
 use Rattle.rgo_sound.specs.Code.Code.{Branch, Call, Code, CodeInstr, CodeOp, Do, Go, Jump, Print, Return}
-use Rattle.rgo_core_channels.specs.Records.{Rec as SideRec, at_rest}
+use Rattle.rgo_core_channels.specs.Records.{ChannelRec as SideRec, at_rest}
 use Rattle.rgo_core_frames.proofs.Before.{before_law}
 use Rattle.rgo_core_frames.proofs.Leaving.{mark_stays}
 use Rattle.rgo_core_frames.proofs.steps.LocalSteps.{local_law}
 use Rattle.rgo_core_frames.proofs.Sound.{next_sound}
-use Rattle.rgo_core_frames.specs.Local.{local, local_by, local_frames, local_instr, local_op}
-use Rattle.rgo_core_frames.specs.LocalLaws.{end_by_frames, end_of, event_by, event_of}
-use Rattle.rgo_core_frames.specs.Quiet.{is_exit, quiet, unless_exit}
-use Rattle.rgo_core_frames.specs.Records.{Rec as FrameRec, after_op}
-use Rattle.rgo_core_frames.specs.Steps.{RegionStepsTo, steps_after}
-use Rattle.rgo_core_frames.specs.WordFrames.{WordFrame, bare}
+use Rattle.rgo_core_frames.specs.steps.Local.{local, local_by, local_frames, local_instr, local_op}
+use Rattle.rgo_core_frames.specs.steps.LocalLaws.{end_by_frames, end_of, event_by, event_of}
+use Rattle.rgo_core_frames.specs.steps.Quiet.{is_exit, quiet, unless_exit}
+use Rattle.rgo_core_frames.specs.Records.{FramesRec as FrameRec, after_op}
+use Rattle.rgo_core_frames.specs.steps.Bookkept.{RegionStepsTo, steps_after}
+use Rattle.rgo_core_frames.specs.shown.WordFrames.{WordFrame, bare}
 use Rattle.rgo_core_frames.proofs.Quiets.{no_end, acts_alone}
 use Rattle.rgo_core_memory.proofs.image.Elsewhere.{ground_keeps}
 use Rattle.rgo_core_memory.proofs.image.Quiets.{quiet_keeps}
@@ -23,7 +23,7 @@ use Rattle.rgo_sound.specs.Machine.declared.picks.End.TheVariants.{Exit}
 use Rattle.rgo_sound.specs.Machine.declared.picks.Pick.TheVariants.{One}
 use Rattle.rgo_sound.specs.RegionMachine.Counts.{counts_of}
 use Rattle.rgo_sound.specs.RegionMachine.Duties.{may_go}
-use Rattle.rgo_sound.specs.RegionMachine.Instructions.{marked}
+use Rattle.rgo_sound.specs.RegionMachine.Instructions.{mark_with_end}
 use Rattle.rgo_sound.specs.RegionMachine.Machine.{Instruct, region_step}
 use Rattle.rgo_sound.specs.RegionMachine.Owed.{current}
 use Rattle.rgo_sound.specs.RegionMachine.Room.{has_room}
@@ -31,8 +31,8 @@ use Rattle.rgo_sound.specs.RegionMachine.States.{Duty, Ended, Holder, Mark, Regi
 use Rattle.rgo_sound.specs.Tally.{counts_plus, no_share}
 use Rattle.rgo_sound.specs.Memory.Memory.{Memory as Heap}
 use Rattle.rgo_sound.specs.Tac.Frames.{TacFrame}
-use Rattle.rgo_core.specs.Core.{Here, Setup, layout}
-use Rattle.rgo_core.specs.ClockSteps.{EndsRunNext, first_mark}
+use Rattle.rgo_core.specs.Core.{Situation, Setup, layout}
+use Rattle.rgo_core.specs.moves.Clock.{EndsRunNext, first_mark}
 use Rattle.rgo_core.specs.Image.{Image}
 use Rattle.rgo_core.specs.Laws.{ExitMove, LocalStill, clock_after}
 use Rattle.rgo_core.specs.Records.{ClockRec, Record, counted, frame_of, instructed, memory_of, with_end, steps_of}
@@ -71,7 +71,7 @@ exit_short zero [] e = refl
 exit_short zero (w ∷ ws) e = cc
 exit_short (suc g) ws e = cc
 
-marked_exit : (m : Option Mark) → marked m (Some Exit) ≡ first_mark m (Ended Exit)
+marked_exit : (m : Option Mark) → mark_with_end m (Some Exit) ≡ first_mark m (Ended Exit)
 marked_exit None = refl
 marked_exit (Some m) = refl
 
@@ -128,7 +128,7 @@ same_clock : (ds : List Duty) (c : ClockRec) → SameClock c (clock_after ds c)
 same_clock [] c = record { prints = refl; first = refl; children = refl; refused = refl }
 same_clock (d ∷ ds) c = record { prints = refl; first = refl; children = refl; refused = refl }
 
-module _ {T : Setup} {g : ℕ} {c : Record} (x : Here T g c) (rest : c.side ≡ at_rest) (e : FrameRec) (loc : local T.code c.frame ≡ Some e) where
+module _ {T : Setup} {g : ℕ} {c : Record} (x : Situation T g c) (rest : c.side ≡ at_rest) (e : FrameRec) (loc : local T.code c.frame ≡ Some e) where
   abbrev places : Rattle.rgo_core_memory.specs.Image.Where
   places = x.core.image.places
 
@@ -164,7 +164,7 @@ module _ {T : Setup} {g : ℕ} {c : Record} (x : Here T g c) (rest : c.side ≡ 
   abbrev after : ClockRec → Record
   after clock = record c { clock = clock; frame = e }
 
-  abbrev p : RegionStepsTo (frames_here x) (event_of g c.frame) x.s.regions (marked x.s.mark (end_of g c.frame e)) (slice_set (map frame_of x.recs) g e)
+  abbrev p : RegionStepsTo (frames_here x) (event_of g c.frame) x.s.regions (mark_with_end x.s.mark (end_of g c.frame e)) (slice_set (map frame_of x.recs) g e)
   p = local_law (frames_here x) e x.core.constants loc
 
   local_image : (clock : ClockRec) → Image T.code (layout T) x.words (slice_set x.recs g (after clock)) p.state
@@ -210,7 +210,7 @@ module _ {T : Setup} {g : ℕ} {c : Record} (x : Here T g c) (rest : c.side ≡ 
       image = local_image (clock_after ds c.clock);
       links = links_same x (after (clock_after ds c.clock)) (local_keeps ds) (local_advances ds refl p.steps);
     };
-    mark = p.mark_is ∙ (ap (marked x.s.mark) (no_end g ds e.frames stays) ∙ mark_stays x.s.mark);
+    mark = p.mark_is ∙ (ap (mark_with_end x.s.mark) (no_end g ds e.frames stays) ∙ mark_stays x.s.mark);
     printed = p.same.printed;
     same = same_clock ds c.clock;
   }
@@ -234,8 +234,8 @@ module _ {T : Setup} {g : ℕ} {c : Record} (x : Here T g c) (rest : c.side ≡ 
           (CountsOne (one_later (steps_of c))
           (nothing_made (subst (λ (l : List Duty). region_step T.code T.sizes.page_words x.s (event_by g l) ≡ Some p.state) none p.steps)));
     };
-    marked = p.mark_is ∙ (ap (λ (l : List Duty). marked x.s.mark (end_by_frames g l e.frames)) none
-        ∙ (ap (marked x.s.mark) (some_end g e.frames exits) ∙ marked_exit x.s.mark));
+    marked = p.mark_is ∙ (ap (λ (l : List Duty). mark_with_end x.s.mark (end_by_frames g l e.frames)) none
+        ∙ (ap (mark_with_end x.s.mark) (some_end g e.frames exits) ∙ marked_exit x.s.mark));
     printed = p.same.printed;
     cause = λ q. tt;
   }

@@ -22,13 +22,13 @@ use Rattle.rgo_sound.specs.Typed.declared.actions.Action.{Action}
 use Rattle.rgo_sound.specs.Typed.declared.types.Type.{«Type»}
 use Rattle.rgo_sound.specs.Typed.Types.{is_pointer_like}
 use Rattle.rgo_sound.specs.WellFormed.TypeRules.{int}
-use Rattle.rgo_core_frames.specs.Actions.{after_action}
-use Rattle.rgo_core_frames.specs.Before.{IsBefore}
+use Rattle.rgo_core_frames.specs.steps.Actions.{after_action}
+use Rattle.rgo_core_frames.specs.steps.Before.{IsBefore}
 use Rattle.rgo_core_frames.specs.Fits.{ObjectsDiffer}
-use Rattle.rgo_core_frames.specs.Operands.{IsOperand, PointsTo}
-use Rattle.rgo_core_frames.specs.Steps.{HasInstruction}
-use Rattle.rgo_core_frames.specs.WordFrames.{word_at as word_of_frame}
-use Rattle.rgo_core_frames.specs.Words.{Shows}
+use Rattle.rgo_core_frames.specs.shown.Operands.{IsOperand, PointsTo}
+use Rattle.rgo_core_frames.specs.steps.Bookkept.{HasInstruction}
+use Rattle.rgo_core_frames.specs.shown.WordFrames.{frame_word as word_of_frame}
+use Rattle.rgo_core_frames.specs.shown.Words.{Shows}
 use Rattle.rgo_core_frames.proofs.steps.ActionSteps.{action_law}
 use Rattle.rgo_core_frames.proofs.shown.Operands.{int_law, pointer_law}
 use Rattle.rgo_core_memory.specs.Accesses.{Before}
@@ -42,8 +42,8 @@ use Rattle.rgo_sound.proofs.Tests.{split}
 use Rattle.rgo_core_memory.proofs.image.Steadies.{steady_of}
 use Rattle.rgo_core_memory.proofs.image.Stepped.{slice_get_none}
 use Rattle.rgo_core_memory.proofs.accesses.Storing.{loads}
-use Rattle.rgo_core.specs.Core.{Here, Setup, layout}
-use Rattle.rgo_core.specs.Next.{IsAt}
+use Rattle.rgo_core.specs.Core.{Situation, Setup, layout}
+use Rattle.rgo_core.specs.Next.{IsAtOp}
 use Rattle.rgo_core.specs.Records.{Record, frame_of, memory_of}
 use Rattle.rgo_core.proofs.image.Encodings.{shows_it}
 use Rattle.rgo_core.proofs.image.Contents.{content_fits}
@@ -51,8 +51,8 @@ use Rattle.rgo_core.proofs.new_objects.MakesObject.{first_type}
 use Rattle.rgo_core.proofs.image.Parts.{I}
 use Rattle.rgo_core.proofs.image.Standing.{at_instruction}
 
-module _ {T : Setup} {g : ℕ} {c : Record} (x : Here T g c) (to : Option ℕ) (act : Action) (from removes : List ℕ)
-    (a : IsAt T.code c (Do to act from removes)) where
+module _ {T : Setup} {g : ℕ} {c : Record} (x : Situation T g c) (to : Option ℕ) (act : Action) (from removes : List ℕ)
+    (a : IsAtOp T.code c (Do to act from removes)) where
   abbrev pub b : IsBefore T.code (I x).places.slot (I x).addresses x.s g c.frame a.w a.ws a.instr
   b = (at_instruction x a).before
 

@@ -8,19 +8,19 @@ use Rattle.rgo_sound.specs.RegionMachine.Machine.{Instruct}
 use Rattle.rgo_sound.specs.RegionMachine.States.{Holder, RegionState}
 use Rattle.rgo_sound.proofs.Places.{length_set}
 use Rattle.rgo_sound.specs.Tally.{no_share}
-use Rattle.rgo_core_channels.specs.Channels.{Chan, IsChan, On, word_of}
+use Rattle.rgo_core_channels.specs.Channels.{Chan, IsChan, On, word_of_channel}
 use Rattle.rgo_core_channels.specs.Controls.{extent}
-use Rattle.rgo_core_channels.specs.Elsewhere.{IsMade, Leaves}
+use Rattle.rgo_core_channels.specs.Elsewhere.{IsMade, LeavesChannels}
 use Rattle.rgo_core_channels.specs.Records.{at_rest}
 use Rattle.rgo_core_channels.proofs.Elsewhere.{event_keeps}
 use Rattle.rgo_core_channels.proofs.Forward.{printed_same}
-use Rattle.rgo_core_frames.specs.Records.{Rec as FrameRec}
+use Rattle.rgo_core_frames.specs.Records.{FramesRec as FrameRec}
 use Rattle.rgo_core_frames.specs.States.{IsSound}
-use Rattle.rgo_core_frames.specs.Steps.{HasInstruction}
+use Rattle.rgo_core_frames.specs.steps.Bookkept.{HasInstruction}
 use Rattle.rgo_core_frames.proofs.Sound.{sound_stays}
-use Rattle.rgo_core_memory.specs.Image.{StateImage, code_of}
+use Rattle.rgo_core_memory.specs.Image.{StateImage, word_of_value}
 use Rattle.rgo_core_memory.proofs.Rows.{below, set_again}
-use Rattle.rgo_core.specs.Core.{Here, Setup, layout}
+use Rattle.rgo_core.specs.Core.{Situation, Setup, layout}
 use Rattle.rgo_core_channels.specs.Positions.{cell_place, place_at}
 use Rattle.rgo_core.specs.Image.{ChannelsIn}
 use Rattle.rgo_core.specs.Records.{Record, frame_of, instructed, memory_of, side_of, steps_of}
@@ -30,10 +30,10 @@ use Rattle.rgo_core.proofs.image.Parts.{I, adds_of, as_many, image_with, memory_
 use Rattle.rgo_core.proofs.accesses.Links.{ClaimsStay, CountsOne, FixedStay, all_kept, links_with, one_later}
 use Rattle.rgo_core.proofs.image.Standing.{side_at}
 use Rattle.rgo_core.proofs.pages.Unreserved.{adds_nothing}
-use Rattle.rgo_core.specs.Moments.{moment}
+use Rattle.rgo_core.specs.ties.Moments.{moment}
 use Rattle.rgo_core.proofs.goroutines.Counting.{instructed_counts, plus_zero}
 
-module _ {T : Setup} {g : ℕ} {c : Record} (x : Here T g c) (rests : c.side ≡ at_rest) (mem : Heap) (h : Holder) (e : FrameRec)
+module _ {T : Setup} {g : ℕ} {c : Record} (x : Situation T g c) (rests : c.side ≡ at_rest) (mem : Heap) (h : Holder) (e : FrameRec)
     (H : HasInstruction T.code T.sizes.page_words (I x).places.slot (I x).addresses x.s g mem [] (h, [])
     (slice_set (map frame_of x.recs) g e)) (words : List ℕ) where
   abbrev pub t : RegionState
@@ -52,17 +52,17 @@ module _ {T : Setup} {g : ℕ} {c : Record} (x : Here T g c) (rests : c.side ≡
   pub channels_after : ((o : ℕ) (k : Chan) → IsChan x.s.plain.memory o k → IsChan mem o k)
       → ((o : ℕ) (k : Chan) → IsChan mem o k → IsChan x.s.plain.memory o k) → length words ≡ length x.words
       → ((o i : ℕ) (k : Chan) → On x.s o k → i < 2 + extent k.capacity
-      → slice_index words (word_of (place_at (layout T) (I x).places) (cell_place (layout T) (I x).places) o i)
-      ≡ slice_index x.words (word_of (place_at (layout T) (I x).places) (cell_place (layout T) (I x).places) o i))
+      → slice_index words (word_of_channel (place_at (layout T) (I x).places) (cell_place (layout T) (I x).places) o i)
+      ≡ slice_index x.words (word_of_channel (place_at (layout T) (I x).places) (cell_place (layout T) (I x).places) o i))
       → ChannelsIn T.code (layout T) (I x).places words
       (slice_set (map side_of x.recs) g c.side) t (I x).at
   channels_after stay was long same =
       subst (λ l. ChannelsIn T.code (layout T) (I x).places words l t (I x).at)
       (append-nil (map side_of x.recs) ∙ sym (set_again (map side_of x.recs) g c.side (side_at x)))
-      (event_keeps (moment x) g (Instruct (One g)) words t (code_of (layout T) (I x).places) (place_at (layout T) (I x).places) (cell_place (layout T) (I x).places) (I x).at None 0
+      (event_keeps (moment x) g (Instruct (One g)) words t (word_of_value (layout T) (I x).places) (place_at (layout T) (I x).places) (cell_place (layout T) (I x).places) (I x).at None 0
       (side_at x ∙ ap Some rests) refl H.steps leaves)
     where
-      leaves : Leaves (moment x) words t (code_of (layout T) (I x).places) (place_at (layout T) (I x).places) (cell_place (layout T) (I x).places) (I x).at (IsMade None) 0
+      leaves : LeavesChannels (moment x) words t (word_of_value (layout T) (I x).places) (place_at (layout T) (I x).places) (cell_place (layout T) (I x).places) (I x).at (IsMade None) 0
       leaves = record {
         long = long;
         heap = λ o k on. ap (λ (y : Heap). slice_get y.heap o) H.memory_is ∙ stay o k on.0;

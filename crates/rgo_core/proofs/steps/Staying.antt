@@ -4,28 +4,28 @@ use Rattle.std.proofs.lemmas.List.{append-nil}
 use Rattle.std.proofs.lemmas.Option.{slice_get_within}
 use Rattle.rgo_core_channels.proofs.Elsewhere.{event_keeps}
 use Rattle.rgo_core_channels.specs.Channels.{IsChan}
-use Rattle.rgo_core_channels.specs.Records.{Rec as SideRec, at_rest}
+use Rattle.rgo_core_channels.specs.Records.{ChannelRec as SideRec, at_rest}
 use Rattle.rgo_core_frames.specs.Fits.{RecordsFit}
-use Rattle.rgo_core_frames.specs.Records.{Rec as FrameRec}
+use Rattle.rgo_core_frames.specs.Records.{FramesRec as FrameRec}
 use Rattle.rgo_core_memory.proofs.Rows.{set_again}
 use Rattle.rgo_core_memory.proofs.image.Stepped.{map_set}
-use Rattle.rgo_core_memory.specs.Image.{StateImage, code_of}
+use Rattle.rgo_core_memory.specs.Image.{StateImage, word_of_value}
 use Rattle.rgo_core_memory.specs.Records.{Rec as MemoryRec}
 use Rattle.rgo_sound.specs.Memory.Memory.{Memory as Heap}
 use Rattle.rgo_sound.specs.RegionMachine.Machine.{Event, region_step}
 use Rattle.rgo_sound.specs.RegionMachine.States.{Holder, NoOffer, RegionState}
 use Rattle.rgo_sound.proofs.Places.{length_set}
 use Rattle.rgo_sound.specs.Leaving.{ActsAlone}
-use Rattle.rgo_core.specs.Core.{Here, Setup, layout}
+use Rattle.rgo_core.specs.Core.{Situation, Setup, layout}
 use Rattle.rgo_core_channels.specs.Positions.{cell_place, place_at}
 use Rattle.rgo_core.specs.Image.{Image, ChannelsIn}
 use Rattle.rgo_core.specs.Records.{Record, frame_of, memory_of, side_of}
 use Rattle.rgo_core.proofs.image.Standing.{memory_at, side_at}
-use Rattle.rgo_core.specs.Moments.{moment}
+use Rattle.rgo_core.specs.ties.Moments.{moment}
 use Rattle.rgo_core.proofs.channel_steps.Leaving.{touch_same}
 
 -- channels and what records know of them, where so many goroutines have started
-module _ {T : Setup} {g : ℕ} {c : Record} (x : Here T g c) (event : Event) (t : RegionState)
+module _ {T : Setup} {g : ℕ} {c : Record} (x : Situation T g c) (event : Event) (t : RegionState)
     (step : region_step T.code T.sizes.page_words x.s event ≡ Some t) (alone : ActsAlone event g) (rest : c.side ≡ at_rest)
     (memory : t.plain.memory ≡ x.s.plain.memory) (owners : t.owners ≡ x.s.owners) (regions : t.regions ≡ x.s.regions) where
   abbrev Shown : List SideRec → Type 0
@@ -35,7 +35,7 @@ module _ {T : Setup} {g : ℕ} {c : Record} (x : Here T g c) (event : Event) (t 
       → ((j : ℕ) (h : Holder) → length x.s.holders ≤ j → slice_get t.holders j ≡ Some h → h.offer ≡ NoOffer)
       → Shown (map side_of x.recs ++ replicate children at_rest)
   channels_keep children born calm =
-      event_keeps (moment x) g event x.words t (code_of (layout T) x.core.image.places) (place_at (layout T) x.core.image.places) (cell_place (layout T) x.core.image.places) x.core.image.at None children
+      event_keeps (moment x) g event x.words t (word_of_value (layout T) x.core.image.places) (place_at (layout T) x.core.image.places) (cell_place (layout T) x.core.image.places) x.core.image.at None children
       (side_at x ∙ ap Some rest) alone step (record {
         long = refl;
         heap = λ o k on. subst (λ (m : Heap). IsChan m o k) (sym memory) on.0;

@@ -17,21 +17,21 @@ use Rattle.rgo_sound.specs.Code.Erasure.{erased, erased_op}
 use Rattle.rgo_sound.specs.RegionMachine.declared.regions.Region.{Region}
 use Rattle.rgo_sound.specs.RegionMachine.declared.regions.Region.TheVariants.{Global as GlobalRegion, Numbered}
 use Rattle.rgo_sound.specs.RegionMachine.Duties.{guards, unprotected, with_protection}
-use Rattle.rgo_sound.specs.RegionMachine.Instructions.{child_holder, holder_after, instructed_with, last_frames, marked, printed_if}
+use Rattle.rgo_sound.specs.RegionMachine.Instructions.{child_holder, holder_after, instructed_with, last_frames, mark_with_end, printed_if}
 use Rattle.rgo_sound.specs.RegionMachine.Machine.{Instruct, finished, Finish, region_step}
 use Rattle.rgo_sound.specs.RegionMachine.Objects.{making_region}
 use Rattle.rgo_sound.specs.RegionMachine.Owed.{current, function_at}
 use Rattle.rgo_sound.specs.RegionMachine.Regions.{bound, removed_once, unbind}
 use Rattle.rgo_sound.specs.RegionMachine.States.{Create, Duty, EndBase, Holder, Protect, RegionState, Remove, Share, Unprotect, top_names, with_top}
 use Rattle.rgo_sound.proofs.steps.Acting.{Acted, act, after, effected, performed, trap_place}
-use Rattle.rgo_core_frames.specs.Before.{IsBefore}
-use Rattle.rgo_core_frames.specs.Ends.{FinishLaw, TrapLaw}
+use Rattle.rgo_core_frames.specs.steps.Before.{IsBefore}
+use Rattle.rgo_core_frames.specs.steps.Ends.{FinishLaw, TrapLaw}
 use Rattle.rgo_core_frames.specs.Fits.{RecordsFit, RecordFits, IsShown}
-use Rattle.rgo_core_frames.specs.Local.{local_by, local_duty, local_frames, local_instr, local_op, not_removed, not_shared}
-use Rattle.rgo_core_frames.specs.LocalLaws.{KeepsStakes, StakesStay}
-use Rattle.rgo_core_frames.specs.Records.{Rec, after_op}
-use Rattle.rgo_core_frames.specs.Shown.{FramesShow}
-use Rattle.rgo_core_frames.specs.WordFrames.{WordFrame, bare, bare_all}
+use Rattle.rgo_core_frames.specs.steps.Local.{local_by, local_duty, local_frames, local_instr, local_op, not_removed, not_shared}
+use Rattle.rgo_core_frames.specs.steps.LocalLaws.{KeepsStakes, StakesStay}
+use Rattle.rgo_core_frames.specs.Records.{FramesRec, after_op}
+use Rattle.rgo_core_frames.specs.shown.Variables.{FramesShow}
+use Rattle.rgo_core_frames.specs.shown.WordFrames.{WordFrame, bare, bare_all}
 use Rattle.rgo_core_frames.proofs.steps.ActionSteps.{ready_now}
 use Rattle.rgo_core_frames.proofs.steps.Instructing.{IsReady, instructs, none_allotted}
 use Rattle.rgo_core_frames.proofs.Keeping.{all_fit_kept}
@@ -39,13 +39,13 @@ use Rattle.rgo_sound.proofs.steps.Acting.{set_same}
 use Rattle.rgo_core_frames.proofs.steps.LocalActs.{chained, mapped}
 use Rattle.rgo_core_frames.proofs.Leaving.{has_step, print_stays}
 use Rattle.rgo_sound.specs.Running.{IsRunning}
-use Rattle.rgo_core_frames.specs.Steps.{HasStep}
+use Rattle.rgo_core_frames.specs.steps.Bookkept.{HasStep}
 
 -- ---- a trap
 
 module _ (code : Code) (page_words : ℕ) (checked : IsChecked code) (slot_of : ℕ → ℕ) (addresses : List ℕ) (s : RegionState)
-    (good : AllGood code s) (running : IsRunning s) (records : List Rec) (all : RecordsFit code slot_of addresses s records) (g : ℕ)
-    (c : Rec) (is_c : slice_get records g ≡ Some c) (w : WordFrame) (ws : List WordFrame) (instr : CodeInstr)
+    (good : AllGood code s) (running : IsRunning s) (records : List FramesRec) (all : RecordsFit code slot_of addresses s records) (g : ℕ)
+    (c : FramesRec) (is_c : slice_get records g ≡ Some c) (w : WordFrame) (ws : List WordFrame) (instr : CodeInstr)
     (b : IsBefore code slot_of addresses s g c w ws instr) where
   ready : IsReady code s g b.h b.frame b.callers instr
   ready = ready_now code page_words checked slot_of addresses [] s good running records all g c is_c w ws instr b
@@ -84,10 +84,10 @@ module _ (code : Code) (page_words : ℕ) (checked : IsChecked code) (slot_of : 
         s.plain g did refl)
 
     pub traps_so : HasStep code page_words slot_of addresses s (Instruct (One g)) s.regions
-        (marked s.mark (Some (TrapEnd trap (trap_place action instr.place)))) records
+        (mark_with_end s.mark (Some (TrapEnd trap (trap_place action instr.place)))) records
     traps_so =
         has_step code page_words slot_of addresses s (Instruct (One g)) s.regions
-        (marked s.mark (Some (TrapEnd trap (trap_place action instr.place)))) records trapped step_is
+        (mark_with_end s.mark (Some (TrapEnd trap (trap_place action instr.place)))) records trapped step_is
         (subst (RecordsFit code slot_of addresses trapped) (set_same records g c is_c)
         (all_fit_kept code slot_of addresses s trapped g (b.frame ∷ b.callers) b.h (b.frame ∷ b.callers) b.h b.at b.there
         (record { goroutines = refl; holders = ap (λ ks. slice_set s.holders g b.h ++ ks) no_child })
@@ -121,7 +121,7 @@ finish_law x limit =
     })
     (record { memory = refl; printed = refl; owners = refl; global_pages = refl }) refl refl refl
   where
-    again : (g : ℕ) (c : Rec) → RecordFits x.code x.slot_of x.addresses x.s g c
+    again : (g : ℕ) (c : FramesRec) → RecordFits x.code x.slot_of x.addresses x.s g c
         → RecordFits x.code x.slot_of x.addresses (finished x.s limit) g c
     again g c f = record { frames = f.frames; at = f.at; h = f.h; there = f.there; fits = f.fits }
 

@@ -18,7 +18,7 @@ use Rattle.rgo_sound.specs.Code.Code.{Code, CodeInstr, CodeOp, Do}
 use Rattle.rgo_sound.specs.Code.Erasure.{erased, erased_instr, erased_op}
 use Rattle.rgo_sound.specs.Code.Names.{edges}
 use Rattle.rgo_sound.specs.RegionMachine.Duties.{attended, may_go}
-use Rattle.rgo_sound.specs.RegionMachine.Instructions.{both_instructed, holder_after, instruct, is_ready, marked, plain_after, side_after, side_by, standing_at, taken_offer}
+use Rattle.rgo_sound.specs.RegionMachine.Instructions.{both_instructed, holder_after, instruct, is_ready, mark_with_end, plain_after, side_after, side_by, standing_at, taken_offer}
 use Rattle.rgo_sound.specs.RegionMachine.Machine.{Acknowledge, Instruct, plain_step, region_step, MakeOffer}
 use Rattle.rgo_sound.specs.RegionMachine.Objects.{may_touch, owner_live}
 use Rattle.rgo_sound.specs.RegionMachine.Offers.{acknowledge, make_offer, offer_at, offer_for, offered, offered_channel, open_channel, offers_on}
@@ -30,16 +30,16 @@ use Rattle.rgo_sound.proofs.Places.{contains_here, get_set_other, get_set_same, 
 use Rattle.rgo_sound.proofs.Tests.{eq_of, ne_of, nat_ne_sym, split}
 use Rattle.rgo_sound.specs.Good.{AllGood}
 use Rattle.rgo_sound.specs.Offers.{OfferFits, StandsAtSend}
-use Rattle.rgo_core_frames.specs.Actions.{after_action}
-use Rattle.rgo_core_frames.specs.Before.{IsBefore}
+use Rattle.rgo_core_frames.specs.steps.Actions.{after_action}
+use Rattle.rgo_core_frames.specs.steps.Before.{IsBefore}
 use Rattle.rgo_core_frames.specs.Fits.{RecordsFit, RecordFits, IsPast, IsShown}
-use Rattle.rgo_core_frames.specs.Meetings.{FrameAcknowledgeLaw, FrameMeetLaw, FrameOfferLaw, acknowledged, offering}
-use Rattle.rgo_core_frames.specs.Records.{Rec, after_op}
-use Rattle.rgo_core_frames.specs.Shown.{FramesShow, NewestShows}
-use Rattle.rgo_core_frames.specs.Slots.{slotted}
-use Rattle.rgo_core_frames.specs.Steps.{HasStep, RegionStepsTo}
-use Rattle.rgo_core_frames.specs.WordFrames.{WordFrame, bare, bare_all, word_going}
-use Rattle.rgo_core_frames.specs.Words.{Shows}
+use Rattle.rgo_core_frames.specs.goroutines.Meetings.{FrameAcknowledgeLaw, FrameMeetLaw, FrameOfferLaw, acknowledged, offering}
+use Rattle.rgo_core_frames.specs.Records.{FramesRec, after_op}
+use Rattle.rgo_core_frames.specs.shown.Variables.{FramesShow, NewestShows}
+use Rattle.rgo_core_frames.specs.regions.Slots.{slotted}
+use Rattle.rgo_core_frames.specs.steps.Bookkept.{HasStep, RegionStepsTo}
+use Rattle.rgo_core_frames.specs.shown.WordFrames.{WordFrame, bare, bare_all, word_going}
+use Rattle.rgo_core_frames.specs.shown.Words.{Shows}
 use Rattle.rgo_core_frames.proofs.steps.ActionSteps.{ready_now}
 use Rattle.rgo_core_frames.proofs.Before.{no_offer}
 use Rattle.rgo_core_frames.proofs.regions.Bookkeeping.{after_slot, current_alike}
@@ -135,7 +135,7 @@ same_target : (to to' : Option ℕ) (from from' removes removes' : List ℕ)
 same_target to to' from from' removes removes' e = cc
 
 module _ (code : Code) (page_words : ℕ) (checked : IsChecked code) (slot_of : ℕ → ℕ) (addresses : List ℕ) (s : RegionState)
-    (good : AllGood code s) (records : List Rec) (all : RecordsFit code slot_of addresses s records) (g : ℕ) (c : Rec)
+    (good : AllGood code s) (records : List FramesRec) (all : RecordsFit code slot_of addresses s records) (g : ℕ) (c : FramesRec)
     (is_c : slice_get records g ≡ Some c) (h : Holder) (there : slice_get s.holders g ≡ Some h) (o : ℕ)
     (taken : h.offer ≡ Taken o) (frames : List TacFrame) (at : slice_get s.plain.goroutines g ≡ Some frames)
     (past : IsPast code slot_of addresses frames h c) (w : WordFrame) (ws : List WordFrame) (is_w : c.frames ≡ w ∷ ws) where
@@ -149,7 +149,7 @@ module _ (code : Code) (page_words : ℕ) (checked : IsChecked code) (slot_of : 
     both.1,
   )
 
-  after : Rec
+  after : FramesRec
   after = acknowledged (after_op code c.holder w ws past.instr.op (word_going w past.to 0 ∷ ws))
 
   stands : IsShown code slot_of addresses frames (record h { offer = NoOffer })
@@ -172,7 +172,7 @@ module _ (code : Code) (page_words : ℕ) (checked : IsChecked code) (slot_of : 
       let x : OfferFits code s g h (Taken o) = subst (OfferFits code s g h) taken (good.offers.fits g h there) in
       ap (owner_live s) x.1 ∙ live_of s h x.0 (has_stake code s g h x.0 good.good.fine there x.2)
 
-  abbrev gone : Rec
+  abbrev gone : FramesRec
   gone = acknowledged (after_op code c.holder w ws past.instr.op (word_going w past.to 0 ∷ ws))
 
   pub acknowledges : HasStep code page_words slot_of addresses s (Acknowledge g) s.regions s.mark (slice_set records g
@@ -217,7 +217,7 @@ acknowledge_law x w ws instr to from removes o h there taken is_w cur is = go f.
 
 -- ---- a meeting
 
-past_standing : (code : Code) (slot_of : ℕ → ℕ) (addresses : List ℕ) (frames : List TacFrame) (h : Holder) (c : Rec) (o : ℕ)
+past_standing : (code : Code) (slot_of : ℕ → ℕ) (addresses : List ℕ) (frames : List TacFrame) (h : Holder) (c : FramesRec) (o : ℕ)
     → h.offer ≡ Standing o → IsPast code slot_of addresses frames h c → ⊥
 past_standing code slot_of addresses frames h c o e past =
     clash past.offer o (sym (ap (λ (k : Holder). k.offer) past.holder_is) ∙ e)
@@ -226,8 +226,8 @@ past_standing code slot_of addresses frames h c o e past =
     clash p o e = cc
 
 module _ (code : Code) (page_words : ℕ) (checked : IsChecked code) (slot_of : ℕ → ℕ) (addresses : List ℕ) (s : RegionState)
-    (good : AllGood code s) (running : IsRunning s) (records : List Rec) (all : RecordsFit code slot_of addresses s records) (r t : ℕ)
-    (c : Rec) (is_c : slice_get records r ≡ Some c) (w : WordFrame) (ws : List WordFrame) (instr : CodeInstr)
+    (good : AllGood code s) (running : IsRunning s) (records : List FramesRec) (all : RecordsFit code slot_of addresses s records) (r t : ℕ)
+    (c : FramesRec) (is_c : slice_get records r ≡ Some c) (w : WordFrame) (ws : List WordFrame) (instr : CodeInstr)
     (b : IsBefore code slot_of addresses s r c w ws instr) (to : Option ℕ) (channel : ℕ) (removes : List ℕ)
     (is : instr.op ≡ Do to Recv (channel ∷ []) removes) (o : ℕ) (at_channel : value_at b.frame channel ≡ value.Object o)
     (open_there : is_meeting_at (slice_get s.plain.memory.heap o) ≡ true) (k : Holder)
@@ -305,7 +305,7 @@ module _ (code : Code) (page_words : ℕ) (checked : IsChecked code) (slot_of : 
         slice_set (slice_set s.holders r (side_after code b.h (frames_of s.plain r) (frames_of next r)))
         t (record (side_after code k (frames_of s.plain t) (frames_of next t)) { offer = taken_offer k.offer });
     steps = s.steps + 1;
-    mark = marked s.mark next.ended;
+    mark = mark_with_end s.mark next.ended;
   }
 
   steps : region_step code page_words s (Instruct (Meet r t)) ≡ Some met_state
@@ -364,7 +364,7 @@ module _ (code : Code) (page_words : ℕ) (checked : IsChecked code) (slot_of : 
 
   -- ---- the records
 
-  abbrev got : Rec
+  abbrev got : FramesRec
   got = after_action code c w ws instr to word
 
   receiver_shows : FramesShow code addresses (receiver_frame ∷ b.callers) (word_going w to word ∷ ws)
@@ -385,7 +385,7 @@ module _ (code : Code) (page_words : ℕ) (checked : IsChecked code) (slot_of : 
   }
 
   -- the sender is past its send, and its record before it
-  sender_past : (d : Rec) → RecordFits code slot_of addresses s t d → IsPast code slot_of addresses (sender_frame ∷ x.callers) sender_after d
+  sender_past : (d : FramesRec) → RecordFits code slot_of addresses s t d → IsPast code slot_of addresses (sender_frame ∷ x.callers) sender_after d
   sender_past d f = go f.fits
     where
       same : f.h ≡ k
@@ -417,7 +417,7 @@ module _ (code : Code) (page_words : ℕ) (checked : IsChecked code) (slot_of : 
             (subst (λ fs. IsShown code slot_of addresses fs f.h d) frames_same shown);
       }
 
-  each_fits : (j : ℕ) (d : Rec) → slice_get (slice_set records r got) j ≡ Some d → RecordFits code slot_of addresses met_state j d
+  each_fits : (j : ℕ) (d : FramesRec) → slice_get (slice_set records r got) j ≡ Some d → RecordFits code slot_of addresses met_state j d
   each_fits j d q = split (nat_eq t j) (λ y. is_sender (eq_of t j y)) (λ n. split (nat_eq r j) (λ y. is_receiver (eq_of r j y)) (λ m. is_other n m))
     where
       is_sender : t ≡ j → RecordFits code slot_of addresses met_state j d
@@ -471,7 +471,7 @@ module _ (code : Code) (page_words : ℕ) (checked : IsChecked code) (slot_of : 
         addresses_differ = all.addresses_differ;
       })
       (record { memory = refl; printed = print_stays s.mark s.plain.printed; owners = refl; global_pages = refl })
-      refl (ap (marked s.mark) running ∙ mark_stays s.mark) refl
+      refl (ap (mark_with_end s.mark) running ∙ mark_stays s.mark) refl
 
 pub meet_law : FrameMeetLaw
 meet_law x t to channel removes o word k free is at_channel open_there there standing shows =

@@ -13,7 +13,7 @@ use Rattle.rgo_sound.specs.Code.Erasure.{erased, erased_fn, erased_op}
 use Rattle.rgo_sound.specs.Code.Names.{edges}
 use Rattle.rgo_sound.specs.RegionMachine.declared.regions.Region.{Region}
 use Rattle.rgo_sound.specs.RegionMachine.declared.regions.Region.TheVariants.{Global as GlobalRegion}
-use Rattle.rgo_sound.specs.RegionMachine.Instructions.{child_holder, last_frames, marked}
+use Rattle.rgo_sound.specs.RegionMachine.Instructions.{child_holder, last_frames, mark_with_end}
 use Rattle.rgo_sound.specs.RegionMachine.Objects.{making_region}
 use Rattle.rgo_sound.specs.RegionMachine.Owed.{entry_removes, formals_of, function_at, code_function, next_duties, passed, passed_regions, removes_behind, function_result_class, twice}
 use Rattle.rgo_sound.specs.RegionMachine.Regions.{Bindings, class_region, is_live}
@@ -24,14 +24,14 @@ use Rattle.rgo_sound.proofs.Places.{contains_here, get_append_left, get_set_same
 use Rattle.rgo_sound.proofs.names.Ruled.{erased_found}
 use Rattle.rgo_sound.proofs.calls.Starts.{last_frames_snoc}
 use Rattle.rgo_sound.specs.Good.{AllGood}
-use Rattle.rgo_core_frames.specs.Before.{IsBefore}
-use Rattle.rgo_core_frames.specs.Children.{GoLaw, child_records}
+use Rattle.rgo_core_frames.specs.steps.Before.{IsBefore}
+use Rattle.rgo_core_frames.specs.goroutines.Children.{GoLaw, child_records}
 use Rattle.rgo_core_frames.specs.Fits.{RecordsFit, IsShown, ObjectsDiffer}
-use Rattle.rgo_core_frames.specs.Records.{Rec, after_op}
-use Rattle.rgo_core_frames.specs.Shown.{FramesShow, NewestShows}
-use Rattle.rgo_core_frames.specs.Slots.{slot, slot_environments, slotted}
-use Rattle.rgo_core_frames.specs.Steps.{HasInstruction}
-use Rattle.rgo_core_frames.specs.WordFrames.{WordFrame, bare, bare_all, word_called, word_moved, words_of}
+use Rattle.rgo_core_frames.specs.Records.{FramesRec, after_op}
+use Rattle.rgo_core_frames.specs.shown.Variables.{FramesShow, NewestShows}
+use Rattle.rgo_core_frames.specs.regions.Slots.{slotted_region, slot_environments, slotted}
+use Rattle.rgo_core_frames.specs.steps.Bookkept.{HasInstruction}
+use Rattle.rgo_core_frames.specs.shown.WordFrames.{WordFrame, bare, bare_all, word_called, word_moved, words_of}
 use Rattle.rgo_core_frames.proofs.steps.ActionSteps.{fills_after, ready_now, reserved_after}
 use Rattle.rgo_core_frames.proofs.regions.Bookkeeping.{front_slot, passed_is}
 use Rattle.rgo_core_frames.proofs.steps.Instructing.{changes, done_state, instructs, next_holder, none_allotted, shown_after}
@@ -60,8 +60,8 @@ child_of code h n passes child = record {
 }
 
 module _ (code : Code) (page_words : ℕ) (checked : IsChecked code) (slot_of : ℕ → ℕ) (addresses : List ℕ) (s : RegionState)
-    (good : AllGood code s) (running : IsRunning s) (records : List Rec) (all : RecordsFit code slot_of addresses s records) (g : ℕ)
-    (c : Rec) (is_c : slice_get records g ≡ Some c) (w : WordFrame) (ws : List WordFrame) (instr : CodeInstr)
+    (good : AllGood code s) (running : IsRunning s) (records : List FramesRec) (all : RecordsFit code slot_of addresses s records) (g : ℕ)
+    (c : FramesRec) (is_c : slice_get records g ≡ Some c) (w : WordFrame) (ws : List WordFrame) (instr : CodeInstr)
     (b : IsBefore code slot_of addresses s g c w ws instr) (n : ℕ) (callee : CodeFn) (from : List ℕ) (passes : List Class)
     (removes : List ℕ) (is : instr.op ≡ Go n from passes removes) (found : code_function code n ≡ Some callee) where
   abbrev entered : TacFrame
@@ -121,7 +121,7 @@ module _ (code : Code) (page_words : ℕ) (checked : IsChecked code) (slot_of : 
 
   -- ---- the child's record
 
-  abbrev child : Rec
+  abbrev child : FramesRec
   child = record { frames = word_entered ∷ []; holder = child_of code c.holder n passes (bare_all (word_entered ∷ [])) }
 
   child_shows : FramesShow code addresses (entered ∷ []) (word_entered ∷ [])
@@ -148,7 +148,7 @@ module _ (code : Code) (page_words : ℕ) (checked : IsChecked code) (slot_of : 
       by (Some r) e k = (live x r e, k)
 
   base_is : twice (passed_regions (top_names (slot_environments slot_of b.h.environments)) passes)
-      ≡ map (slot slot_of) (twice (passed_regions (top_names b.h.environments) passes))
+      ≡ map (slotted_region slot_of) (twice (passed_regions (top_names b.h.environments) passes))
   base_is =
       ap (λ (ns : Bindings). twice (passed_regions ns passes)) (top_slot slot_of b.h.environments)
       ∙ ap twice (passes_slot slot_of (top_names b.h.environments) passes)
@@ -196,7 +196,7 @@ module _ (code : Code) (page_words : ℕ) (checked : IsChecked code) (slot_of : 
       ap (λ (k : Holder). k.reserved) (same_Some h holder_next (sym e ∙ next_there))
       ∙ reserved_after code b.h b.frame b.callers instr.op next
 
-  abbrev left : Rec
+  abbrev left : FramesRec
   left = after_op code c.holder w ws instr.op word_next
 
   both_fit : RecordsFit code slot_of addresses state_after (slice_set records g left ++ child ∷ [])
@@ -232,7 +232,7 @@ module _ (code : Code) (page_words : ℕ) (checked : IsChecked code) (slot_of : 
     owners = refl;
     regions = refl;
     global_pages = refl;
-    mark = ap (marked s.mark) (no_end g (moved_to b.frame (b.frame.next + 1)) b.callers) ∙ mark_stays s.mark;
+    mark = ap (mark_with_end s.mark) (no_end g (moved_to b.frame (b.frame.next + 1)) b.callers) ∙ mark_stays s.mark;
     counted = refl;
     fills = fills_are;
     reserved = reserved_is;

@@ -11,9 +11,9 @@ use Rattle.rgo_sound.specs.RegionMachine.Owed.{caller_duties, current, current_i
 use Rattle.rgo_sound.specs.RegionMachine.Owed.{entry_removes, formals_of, code_function, given_names, next_duties, passed, passed_regions, regions_named, removes_behind, function_result_class}
 use Rattle.rgo_sound.specs.RegionMachine.Regions.{Bindings, without_all}
 use Rattle.rgo_sound.specs.RegionMachine.States.{Create, Duty, Holder, Remove, Unprotect, top_names, with_top}
-use Rattle.rgo_core_frames.specs.Shown.{CallersShow, FramesShow, IsAlike}
-use Rattle.rgo_core_frames.specs.Slots.{slot_duties, slot_environments, slot_names, slotted}
-use Rattle.rgo_core_frames.specs.WordFrames.{WordFrame, bare, bare_all, is_set, word_at}
+use Rattle.rgo_core_frames.specs.shown.Variables.{CallersShow, FramesShow, IsAlike}
+use Rattle.rgo_core_frames.specs.regions.Slots.{slot_duties, slot_environments, slot_names, slotted}
+use Rattle.rgo_core_frames.specs.shown.WordFrames.{WordFrame, bare, bare_all, is_set, frame_word}
 use Rattle.rgo_core_frames.proofs.regions.SlotLemmas.{below_slot, creates_slot, ends_slot, map_append, passed_slot, passes_slot, protects_slot, removes_slot, shares_slot, top_slot, unprotects_slot, with_top_slot, without_all_slot}
 
 -- ---- the same place of the code
@@ -144,7 +144,7 @@ module _ (slot_of : ℕ → ℕ) where
 
 -- ---- the test of a branch
 
-pub bare_test : (w : WordFrame) (test : ℕ) → is_true (value_at (bare w) test) ≡ is_set (word_at w test)
+pub bare_test : (w : WordFrame) (test : ℕ) → is_true (value_at (bare w) test) ≡ is_set (frame_word w test)
 bare_test w test = go w.variables test
   where
     go : (ws : List ℕ) (n : ℕ) → is_true (get_or (map (λ x. value.Bool (is_set x)) ws) n value.Nil) ≡ is_set (get_or ws n 0)
@@ -155,7 +155,7 @@ bare_test w test = go w.variables test
 -- an instruction that is no branch is left with the same removals
 pub same_removes : (frame : TacFrame) (w : WordFrame) (op : CodeOp)
     → ((test target other : ℕ) (removes otherwise : List ℕ) → op ≡ Branch test target removes other otherwise
-    → is_set (word_at w test) ≡ is_true (value_at frame test)) → removes_behind (bare w) op ≡ removes_behind frame op
+    → is_set (frame_word w test) ≡ is_true (value_at frame test)) → removes_behind (bare w) op ≡ removes_behind frame op
 same_removes frame w (Do to action from removes) h = refl
 same_removes frame w (Call to n from passes protects removes) h = refl
 same_removes frame w (Go n from passes removes) h = refl

@@ -17,12 +17,12 @@ use Rattle.rgo_sound.proofs.Tests.{eq_of, nat_eq_refl, or_there, split}
 use Rattle.rgo_sound.specs.Core.{AreStaked, AreUnique, AreUniqueIn}
 use Rattle.rgo_sound.specs.Good.{AllGood}
 use Rattle.rgo_sound.specs.Invariant.{FramesFit, GoodHolder, IsReady}
-use Rattle.rgo_sound.specs.Stakes.{is_in, one_if, times_in}
-use Rattle.rgo_core_frames.specs.Creations.{CreateLaw, created_in, GivesSlot}
+use Rattle.rgo_sound.specs.Stakes.{is_in, one_when, times_in}
+use Rattle.rgo_core_frames.specs.regions.Creations.{CreateLaw, created_in, GivesSlot}
 use Rattle.rgo_core_frames.specs.Fits.{RecordsFit, RecordFits, IsOfLive, IsPast, IsShown, SlotsDiffer}
-use Rattle.rgo_core_frames.specs.Records.{Rec}
-use Rattle.rgo_core_frames.specs.Slots.{slot, slot_duties, slot_duty, slot_environments, slot_names, slotted}
-use Rattle.rgo_core_frames.specs.Steps.{HasStep}
+use Rattle.rgo_core_frames.specs.Records.{FramesRec}
+use Rattle.rgo_core_frames.specs.regions.Slots.{slotted_region, slot_duties, slot_duty, slot_environments, slot_names, slotted}
+use Rattle.rgo_core_frames.specs.steps.Bookkept.{HasStep}
 use Rattle.rgo_core_frames.proofs.Leaving.{has_step}
 use Rattle.rgo_core_frames.proofs.regions.SlotLemmas.{ends_slot, top_slot, unbind_slot, with_top_slot}
 use Rattle.rgo_core_frames.proofs.regions.StakeDuties.{owes_first, past_owes}
@@ -45,18 +45,18 @@ module _ (slot_of slot_of' : ℕ → ℕ) where
   pending_same : (rs : List ℕ) → ((r : ℕ) → 0 < times_in r rs → slot_of' r ≡ slot_of r) → map slot_of' rs ≡ map slot_of rs
   pending_same [] h = refl
   pending_same (r ∷ rs) h =
-      λ i. h r (let e : one_if (nat_eq r r) ≡ 1 = ap one_if (nat_eq_refl r) in omega (arith, e)) i
+      λ i. h r (let e : one_when (nat_eq r r) ≡ 1 = ap one_when (nat_eq_refl r) in omega (arith, e)) i
       ∷ pending_same rs (λ q n. h q (omega (arith, n))) i
 
   regions_same : (rs : List Region) → ((r : ℕ) → list_any (same_region (Numbered r)) rs ≡ true → slot_of' r ≡ slot_of r)
-      → map (slot slot_of') rs ≡ map (slot slot_of) rs
+      → map (slotted_region slot_of') rs ≡ map (slotted_region slot_of) rs
   regions_same [] h = refl
   regions_same (GlobalRegion ∷ rs) h = ap (λ (zs : List Region). GlobalRegion ∷ zs) (regions_same rs h)
   regions_same (Numbered r ∷ rs) h =
       λ i. Numbered (h r (ap (λ b. b || list_any (same_region (Numbered r)) rs) (nat_eq_refl r)) i)
       ∷ regions_same rs (λ q e. h q (or_there (nat_eq q r) (list_any (same_region (Numbered q)) rs) e)) i
 
-  slot_same : (r : Region) → ((q : ℕ) → r ≡ Numbered q → slot_of' q ≡ slot_of q) → slot slot_of' r ≡ slot slot_of r
+  slot_same : (r : Region) → ((q : ℕ) → r ≡ Numbered q → slot_of' q ≡ slot_of q) → slotted_region slot_of' r ≡ slotted_region slot_of r
   slot_same GlobalRegion h = refl
   slot_same (Numbered q) h = ap Numbered (h q refl)
 
@@ -112,12 +112,12 @@ module _ (slot_of slot_of' : ℕ → ℕ) where
       go (Some r) e next = ap (λ (zs : List Duty). Unprotect k ∷ zs) (next r e)
   ready_same Free Then (EndBase r ∷ ds) names ps h = absurd h
 
-  ends_same : (base : List Region) → map (slot slot_of') base ≡ map (slot slot_of) base
+  ends_same : (base : List Region) → map (slotted_region slot_of') base ≡ map (slotted_region slot_of) base
       → slot_duties slot_of' (map EndBase base) ≡ slot_duties slot_of (map EndBase base)
   ends_same base e = ends_slot slot_of' base ∙ ap (map EndBase) e ∙ sym (ends_slot slot_of base)
 
   duties_same : (code : Code) (base : List Region) (frames : List TacFrame) (es : List RegionEnvironment) (ds : List Duty)
-      → map (slot slot_of') base ≡ map (slot slot_of) base → FramesFit code base frames es ds
+      → map (slotted_region slot_of') base ≡ map (slotted_region slot_of) base → FramesFit code base frames es ds
       → slot_duties slot_of' ds ≡ slot_duties slot_of ds
   duties_same code base [] [] ds e f = ap (slot_duties slot_of') f ∙ ends_same base e ∙ ap (slot_duties slot_of) (sym f)
   duties_same code base [] (x ∷ es) ds e f = absurd f
@@ -127,7 +127,7 @@ module _ (slot_of slot_of' : ℕ → ℕ) where
   module _ (code : Code) (frames : List TacFrame) (h : Holder) (good : GoodHolder code frames h)
       (staked : (r : ℕ) → is_in r h.stakes ≡ true → slot_of' r ≡ slot_of r)
       (pended : (r : ℕ) → 0 < times_in r h.pending → slot_of' r ≡ slot_of r) where
-    base_same : map (slot slot_of') h.base ≡ map (slot slot_of) h.base
+    base_same : map (slotted_region slot_of') h.base ≡ map (slotted_region slot_of) h.base
     base_same = regions_same h.base (λ r e. staked r (good.core.based r e))
 
     envs_same : slot_environments slot_of' h.environments ≡ slot_environments slot_of h.environments
@@ -147,14 +147,14 @@ module _ (slot_of slot_of' : ℕ → ℕ) where
       duties = e i;
     }
 
-    shown_same : (addresses : List ℕ) (c : Rec) → IsShown code slot_of addresses frames h c → IsShown code slot_of' addresses frames h c
+    shown_same : (addresses : List ℕ) (c : FramesRec) → IsShown code slot_of addresses frames h c → IsShown code slot_of' addresses frames h c
     shown_same addresses c x = record {
       calm = x.calm;
       shown = x.shown;
       holder = x.holder ∙ sym (slotted_same h.duties h.offer owed_same);
     }
 
-    past_same : (addresses : List ℕ) (c : Rec) → IsPast code slot_of addresses frames h c → IsPast code slot_of' addresses frames h c
+    past_same : (addresses : List ℕ) (c : FramesRec) → IsPast code slot_of addresses frames h c → IsPast code slot_of' addresses frames h c
     past_same addresses c x = record {
       frame = x.frame;
       callers = x.callers;
@@ -202,7 +202,7 @@ new_or_old regions info r e = go (slice_get (regions ++ info ∷ []) r) refl e
     go (Some x) q l = by x l (get_snoc regions info r x q)
 
 module _ (code : Code) (page_words : ℕ) (slot_of : ℕ → ℕ) (addresses : List ℕ) (s : RegionState) (good : AllGood code s)
-    (made : OwnersMade s) (records : List Rec) (all : RecordsFit code slot_of addresses s records) (g : ℕ) (c : Rec)
+    (made : OwnersMade s) (records : List FramesRec) (all : RecordsFit code slot_of addresses s records) (g : ℕ) (c : FramesRec)
     (is_c : slice_get records g ≡ Some c) (p : ℕ) (fresh : (r : ℕ) → is_live s.regions (Numbered r) ≡ true → slot_of r ≢ p)
     (slot_of' : ℕ → ℕ) (gives : GivesSlot s slot_of slot_of' p)
     (frames : List TacFrame) (h : Holder) (at : slice_get s.plain.goroutines g ≡ Some frames)
@@ -224,7 +224,7 @@ module _ (code : Code) (page_words : ℕ) (slot_of : ℕ → ℕ) (addresses : L
   abbrev state' : RegionState
   state' = record (attended s g holder') { regions = s.regions ++ info ∷ [] }
 
-  abbrev d : Rec
+  abbrev d : FramesRec
   d = created_in c k (slot_duties slot_of ds) p
 
   staked_same : (j : ℕ) (x : Holder) → slice_get s.holders j ≡ Some x → (r : ℕ) → is_in r x.stakes ≡ true → slot_of' r ≡ slot_of r
@@ -237,7 +237,7 @@ module _ (code : Code) (page_words : ℕ) (slot_of : ℕ → ℕ) (addresses : L
       → GoodHolder code fs x
   good_of j fs x a e = subst (λ y. GoodHolder code y x) (ap frames_in a) (good.good.fine.each j x e)
 
-  other_fits : (j : ℕ) (x : Rec) → nat_eq g j ≡ false → RecordFits code slot_of addresses s j x → RecordFits code slot_of' addresses state' j x
+  other_fits : (j : ℕ) (x : FramesRec) → nat_eq g j ≡ false → RecordFits code slot_of addresses s j x → RecordFits code slot_of' addresses state' j x
   other_fits j x m f = record {
     frames = f.frames;
     at = f.at;

@@ -8,23 +8,23 @@ use Rattle.rgo_sound.specs.RegionMachine.Objects.{making_region, makes_object, t
 use Rattle.rgo_sound.specs.RegionMachine.Owed.{function_at, code_function}
 use Rattle.rgo_sound.specs.RegionMachine.Regions.{Bindings, class_region}
 use Rattle.rgo_sound.specs.RegionMachine.States.{Holder, top_names}
-use Rattle.rgo_core_frames.specs.Local.{local_by, local_frames, local_instr, local_op}
-use Rattle.rgo_core_frames.specs.Makes.{MakingLaw, RegionLaw}
-use Rattle.rgo_core_frames.specs.Operators.{computed}
+use Rattle.rgo_core_frames.specs.steps.Local.{local_by, local_frames, local_instr, local_op}
+use Rattle.rgo_core_frames.specs.steps.Makes.{MakingLaw, RegionLaw}
+use Rattle.rgo_core_frames.specs.shown.Operators.{computed}
 use Rattle.rgo_core_frames.specs.Records.{after_op}
-use Rattle.rgo_core_frames.specs.Slots.{slot, slot_names}
-use Rattle.rgo_core_frames.specs.WordFrames.{WordFrame, word_going, words_of}
+use Rattle.rgo_core_frames.specs.regions.Slots.{slotted_region, slot_names}
+use Rattle.rgo_core_frames.specs.shown.WordFrames.{WordFrame, word_going, words_of}
 use Rattle.rgo_core_frames.proofs.steps.LocalActs.{mapped}
 use Rattle.rgo_core_frames.proofs.regions.Paging.{region_live}
 use Rattle.rgo_core_frames.proofs.regions.SlotLemmas.{class_slot, top_slot}
 
 -- the same instruction makes its object at the region's slot
 making_slot : (slot_of : ℕ → ℕ) (f : Option CodeFn) (names : Bindings) (op : CodeOp)
-    → making_region f (slot_names slot_of names) op ≡ option_map (slot slot_of) (making_region f names op)
+    → making_region f (slot_names slot_of names) op ≡ option_map (slotted_region slot_of) (making_region f names op)
 making_slot slot_of f names (Do to action from removes) = go (makes_object action)
   where
     go : (b : Bool) → (if b then class_region (slot_names slot_of names) (target_class f to) else None)
-        ≡ option_map (slot slot_of) (if b then class_region names (target_class f to) else None)
+        ≡ option_map (slotted_region slot_of) (if b then class_region names (target_class f to) else None)
     go true = class_slot slot_of names (target_class f to)
     go false = refl
 making_slot slot_of f names (Call to n from passes protects removes) = refl
@@ -45,8 +45,8 @@ region_law x by_slot e = record {
   where
     at : (r : Region)
         × (making_region (code_function x.here.code x.w.function) (top_names x.before.h.environments) x.instr.op ≡ Some r)
-        × (slot x.here.slot_of r ≡ by_slot)
-    at = mapped (slot x.here.slot_of)
+        × (slotted_region x.here.slot_of r ≡ by_slot)
+    at = mapped (slotted_region x.here.slot_of)
         (making_region (code_function x.here.code x.w.function) (top_names x.before.h.environments) x.instr.op) by_slot
         (sym (making_slot x.here.slot_of (code_function x.here.code x.w.function) (top_names x.before.h.environments) x.instr.op)
         ∙ ap (λ ns. making_region (code_function x.here.code x.w.function) ns x.instr.op)

@@ -19,12 +19,12 @@ use Rattle.rgo_sound.proofs.offers.Offers.{class_has_stake, making_class}
 use Rattle.rgo_sound.proofs.Tests.{eq_of, split}
 use Rattle.rgo_sound.proofs.pointers.Steps.{Top}
 use Rattle.rgo_sound.specs.Good.{AllGood}
-use Rattle.rgo_core_frames.specs.Before.{IsBefore}
+use Rattle.rgo_core_frames.specs.steps.Before.{IsBefore}
 use Rattle.rgo_core_frames.specs.Fits.{RecordsFit, IsOfLive, IsShown, ObjectsDiffer}
-use Rattle.rgo_core_frames.specs.Pages.{PageLaw, after_page}
-use Rattle.rgo_core_frames.specs.Records.{Rec}
-use Rattle.rgo_core_frames.specs.Shown.{FramesShow}
-use Rattle.rgo_core_frames.specs.WordFrames.{WordFrame}
+use Rattle.rgo_core_frames.specs.regions.Pages.{PageLaw, after_page}
+use Rattle.rgo_core_frames.specs.Records.{FramesRec}
+use Rattle.rgo_core_frames.specs.shown.Variables.{FramesShow}
+use Rattle.rgo_core_frames.specs.shown.WordFrames.{WordFrame}
 use Rattle.rgo_core_frames.proofs.Keeping.{Changes, all_fit_after}
 use Rattle.rgo_sound.proofs.steps.Acting.{set_same}
 use Rattle.rgo_core_frames.proofs.Standing.{top}
@@ -72,7 +72,7 @@ wants_own page_words reserved used object spread full =
     ∙ ap not full
 
 module _ (code : Code) (page_words : ℕ) (checked : IsChecked code) (slot_of : ℕ → ℕ) (addresses : List ℕ) (s : RegionState)
-    (good : AllGood code s) (records : List Rec) (all : RecordsFit code slot_of addresses s records) (g : ℕ) (c : Rec)
+    (good : AllGood code s) (records : List FramesRec) (all : RecordsFit code slot_of addresses s records) (g : ℕ) (c : FramesRec)
     (is_c : slice_get records g ≡ Some c) (w : WordFrame) (ws : List WordFrame) (instr : CodeInstr)
     (b : IsBefore code slot_of addresses s g c w ws instr) where
   abbrev its_top : Top code b.h b.frame b.callers

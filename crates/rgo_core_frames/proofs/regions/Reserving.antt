@@ -10,8 +10,8 @@ use Rattle.rgo_sound.specs.RegionMachine.declared.regions.Region.{Region}
 use Rattle.rgo_sound.specs.Reserved.{IsReserved}
 use Rattle.rgo_sound.proofs.counts.Pages.{reserved_for_next}
 use Rattle.rgo_core_frames.specs.Fits.{RecordFits, IsPast, IsShown}
-use Rattle.rgo_core_frames.specs.Reserved.{IsReached, ReservedLaw}
-use Rattle.rgo_core_frames.specs.Slots.{slot_duties}
+use Rattle.rgo_core_frames.specs.regions.Reserved.{IsReached, ReservedLaw}
+use Rattle.rgo_core_frames.specs.regions.Slots.{slot_duties}
 use Rattle.rgo_core_frames.specs.States.{AtInstruction, Here}
 
 is_none : (n : ℕ) → (0 < n → ⊥) → n ≡ 0

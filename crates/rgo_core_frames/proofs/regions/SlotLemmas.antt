@@ -13,7 +13,7 @@ use Rattle.rgo_sound.specs.RegionMachine.States.{Duty, Remove, Protect, Unprotec
 use Rattle.rgo_sound.proofs.duties.Moves.{same_regions}
 use Rattle.rgo_sound.proofs.Tests.{eq_of, ne_of, nat_eq_refl, or_there, split}
 use Rattle.rgo_core_frames.specs.Fits.{SlotsDiffer}
-use Rattle.rgo_core_frames.specs.Slots.{slot, slot_duties, slot_environments, slot_names, slot_of_name}
+use Rattle.rgo_core_frames.specs.regions.Slots.{slotted_region, slot_duties, slot_environments, slot_names, slot_of_name}
 
 pub map_append : {X Y : Type 0} (f : X → Y) (xs ys : List X) → map f (xs ++ ys) ≡ map f xs ++ map f ys
 map_append f [] ys = refl
@@ -22,13 +22,13 @@ map_append f (x ∷ xs) ys = ap (λ zs. f x ∷ zs) (map_append f xs ys)
 module _ (slot_of : ℕ → ℕ) where
   -- ---- names
 
-  pub bound_slot : (names : Bindings) (k : ℕ) → bound (slot_names slot_of names) k ≡ option_map (slot slot_of) (bound names k)
+  pub bound_slot : (names : Bindings) (k : ℕ) → bound (slot_names slot_of names) k ≡ option_map (slotted_region slot_of) (bound names k)
   bound_slot [] k = refl
   bound_slot (b ∷ bs) k = go (nat_eq b.0 k) (bound_slot bs k)
     where
-      go : (t : Bool) → bound (slot_names slot_of bs) k ≡ option_map (slot slot_of) (bound bs k)
-          → (if t then Some (slot slot_of b.1) else bound (slot_names slot_of bs) k)
-          ≡ option_map (slot slot_of) (if t then Some b.1 else bound bs k)
+      go : (t : Bool) → bound (slot_names slot_of bs) k ≡ option_map (slotted_region slot_of) (bound bs k)
+          → (if t then Some (slotted_region slot_of b.1) else bound (slot_names slot_of bs) k)
+          ≡ option_map (slotted_region slot_of) (if t then Some b.1 else bound bs k)
       go true e = refl
       go false e = e
 
@@ -49,13 +49,13 @@ module _ (slot_of : ℕ → ℕ) where
       ap (λ (ns : Bindings). without_all ns ks) (unbind_slot names k) ∙ without_all_slot ks (unbind names k)
 
   pub class_slot : (names : Bindings) (c : Class) → class_region (slot_names slot_of names) c
-      ≡ option_map (slot slot_of) (class_region names c)
+      ≡ option_map (slotted_region slot_of) (class_region names c)
   class_slot names NoClass = refl
   class_slot names Global = refl
   class_slot names (Name k) = bound_slot names k
 
   abbrev pub slot_if : Option Region → Option Region
-  slot_if o = option_map (slot slot_of) o
+  slot_if o = option_map (slotted_region slot_of) o
 
   pub passes_slot : (names : Bindings) (passes : List Class) → passed_regions (slot_names slot_of names) passes
       ≡ map slot_if (passed_regions names passes)
@@ -71,7 +71,7 @@ module _ (slot_of : ℕ → ℕ) where
   passed_slot (NoClass ∷ fs) (r ∷ rs) = passed_slot fs rs
   passed_slot (Global ∷ fs) (r ∷ rs) = passed_slot fs rs
   passed_slot (Name k ∷ fs) (None ∷ rs) = passed_slot fs rs
-  passed_slot (Name k ∷ fs) (Some r ∷ rs) = ap (λ (zs : Bindings). (k, slot slot_of r) ∷ zs) (passed_slot fs rs)
+  passed_slot (Name k ∷ fs) (Some r ∷ rs) = ap (λ (zs : Bindings). (k, slotted_region slot_of r) ∷ zs) (passed_slot fs rs)
 
   -- ---- environments
 
@@ -88,7 +88,7 @@ module _ (slot_of : ℕ → ℕ) where
   below_slot [] = refl
   below_slot (e ∷ es) = refl
 
-  pub with_protection_slot : (es : List RegionEnvironment) (r : Region) → with_protection (slot_environments slot_of es) (slot slot_of r)
+  pub with_protection_slot : (es : List RegionEnvironment) (r : Region) → with_protection (slot_environments slot_of es) (slotted_region slot_of r)
       ≡ slot_environments slot_of (with_protection es r)
   with_protection_slot [] r = refl
   with_protection_slot (e ∷ es) r = refl
@@ -115,9 +115,9 @@ module _ (slot_of : ℕ → ℕ) where
   shares_slot [] = refl
   shares_slot (k ∷ ks) = ap (λ (ds : List Duty). Share k ∷ ds) (shares_slot ks)
 
-  pub ends_slot : (rs : List Region) → slot_duties slot_of (map EndBase rs) ≡ map EndBase (map (slot slot_of) rs)
+  pub ends_slot : (rs : List Region) → slot_duties slot_of (map EndBase rs) ≡ map EndBase (map (slotted_region slot_of) rs)
   ends_slot [] = refl
-  ends_slot (r ∷ rs) = ap (λ (ds : List Duty). EndBase (slot slot_of r) ∷ ds) (ends_slot rs)
+  ends_slot (r ∷ rs) = ap (λ (ds : List Duty). EndBase (slotted_region slot_of r) ∷ ds) (ends_slot rs)
 
   -- ---- which region it is
 
@@ -132,7 +132,7 @@ module _ (slot_of : ℕ → ℕ) where
     ProtectionsLive [] = Unit {0}
     ProtectionsLive (e ∷ es) = AllLive e.protections × ProtectionsLive es
 
-    pub same_slot : (r q : Region) → IsLive r → IsLive q → same_region (slot slot_of r) (slot slot_of q) ≡ same_region r q
+    pub same_slot : (r q : Region) → IsLive r → IsLive q → same_region (slotted_region slot_of r) (slotted_region slot_of q) ≡ same_region r q
     same_slot GlobalRegion GlobalRegion a b = refl
     same_slot GlobalRegion (Numbered q) a b = refl
     same_slot (Numbered r) GlobalRegion a b = refl
@@ -152,22 +152,22 @@ module _ (slot_of : ℕ → ℕ) where
         go false e = e
 
     pub any_slot : (r : Region) (rs : List Region) → IsLive r → AllLive rs
-        → list_any (same_region (slot slot_of r)) (map (slot slot_of) rs) ≡ list_any (same_region r) rs
+        → list_any (same_region (slotted_region slot_of r)) (map (slotted_region slot_of) rs) ≡ list_any (same_region r) rs
     any_slot r [] a h = refl
     any_slot r (q ∷ rs) a h = λ i. same_slot r q a (head_live q rs h) i || any_slot r rs a (tail_live q rs h) i
 
     pub removed_once_slot : (r : Region) (rs : List Region) → IsLive r → AllLive rs
-        → removed_once (slot slot_of r) (map (slot slot_of) rs) ≡ map (slot slot_of) (removed_once r rs)
+        → removed_once (slotted_region slot_of r) (map (slotted_region slot_of) rs) ≡ map (slotted_region slot_of) (removed_once r rs)
     removed_once_slot r [] a h = refl
     removed_once_slot r (q ∷ rs) a h =
-        ap (λ b. if b then map (slot slot_of) rs else slot slot_of q ∷ removed_once (slot slot_of r) (map (slot slot_of) rs))
+        ap (λ b. if b then map (slotted_region slot_of) rs else slotted_region slot_of q ∷ removed_once (slotted_region slot_of r) (map (slotted_region slot_of) rs))
         (same_slot r q a (head_live q rs h)) ∙ go (same_region r q) (removed_once_slot r rs a (tail_live q rs h))
       where
-        go : (b : Bool) → removed_once (slot slot_of r) (map (slot slot_of) rs) ≡ map (slot slot_of) (removed_once r rs)
-            → (if b then map (slot slot_of) rs else slot slot_of q ∷ removed_once (slot slot_of r) (map (slot slot_of) rs))
-            ≡ map (slot slot_of) (if b then rs else q ∷ removed_once r rs)
+        go : (b : Bool) → removed_once (slotted_region slot_of r) (map (slotted_region slot_of) rs) ≡ map (slotted_region slot_of) (removed_once r rs)
+            → (if b then map (slotted_region slot_of) rs else slotted_region slot_of q ∷ removed_once (slotted_region slot_of r) (map (slotted_region slot_of) rs))
+            ≡ map (slotted_region slot_of) (if b then rs else q ∷ removed_once r rs)
         go true e = refl
-        go false e = ap (λ (zs : List Region). slot slot_of q ∷ zs) e
+        go false e = ap (λ (zs : List Region). slotted_region slot_of q ∷ zs) e
 
     pub removed_live : (q : Region) (ss : List Region) → AllLive ss → AllLive (removed_once q ss)
     removed_live q ss h r e = h r (among ss e)
@@ -190,12 +190,12 @@ module _ (slot_of : ℕ → ℕ) where
                 (list_any (same_region (Numbered r)) ss) e next
 
     pub guards_slot : (base : List Region) (es : List RegionEnvironment) (r : Region) → IsLive r → AllLive base
-        → ProtectionsLive es → guards (map (slot slot_of) base) (slot_environments slot_of es) (slot slot_of r) ≡ guards base es r
+        → ProtectionsLive es → guards (map (slotted_region slot_of) base) (slot_environments slot_of es) (slotted_region slot_of r) ≡ guards base es r
     guards_slot base [] r a b s = any_slot r base a b
     guards_slot base (e ∷ es) r a b s = λ i. any_slot r e.protections a s.0 i || guards_slot base es r a b s.1 i
 
     pub without_protection_slot : (es : List RegionEnvironment) (r : Region) → IsLive r → ProtectionsLive es
-        → without_protection (slot_environments slot_of es) (slot slot_of r) ≡ slot_environments slot_of (without_protection es r)
+        → without_protection (slot_environments slot_of es) (slotted_region slot_of r) ≡ slot_environments slot_of (without_protection es r)
     without_protection_slot [] r a s = refl
     without_protection_slot (e ∷ es) r a s = λ i. record {
       lent = e.lent;
@@ -215,7 +215,7 @@ module _ (slot_of : ℕ → ℕ) where
     PassedLive (Some r ∷ rs) = IsLive r × PassedLive rs
 
     stands_in_slot : (r : Region) (rs : List (Option Region)) → IsLive r → PassedLive rs
-        → stands_in (slot slot_of r) (map slot_if rs) ≡ stands_in r rs
+        → stands_in (slotted_region slot_of r) (map slot_if rs) ≡ stands_in r rs
     stands_in_slot r [] l h = refl
     stands_in_slot r (None ∷ rs) l h = stands_in_slot r rs l h
     stands_in_slot r (Some q ∷ rs) l h = λ i. same_slot r q l h.0 i || stands_in_slot r rs l h.1 i
@@ -245,7 +245,7 @@ module _ (slot_of : ℕ → ℕ) where
         go true k = (h.0, k)
         go false k = k
 
-    pub twice_slot : (rs : List (Option Region)) → PassedLive rs → twice (map slot_if rs) ≡ map (slot slot_of) (twice rs)
+    pub twice_slot : (rs : List (Option Region)) → PassedLive rs → twice (map slot_if rs) ≡ map (slotted_region slot_of) (twice rs)
     twice_slot [] h = refl
     twice_slot (None ∷ rs) h = twice_slot rs h
     twice_slot (Some GlobalRegion ∷ rs) h = twice_slot rs h.1
@@ -253,20 +253,20 @@ module _ (slot_of : ℕ → ℕ) where
         ap (λ b. if b then Numbered (slot_of r) ∷ twice (map slot_if rs) else twice (map slot_if rs)) (test (twice_slot rs h.1))
         ∙ go (stands_in (Numbered r) rs && not (list_any (same_region (Numbered r)) (twice rs))) (twice_slot rs h.1)
       where
-        rest : twice (map slot_if rs) ≡ map (slot slot_of) (twice rs)
+        rest : twice (map slot_if rs) ≡ map (slotted_region slot_of) (twice rs)
             → list_any (same_region (Numbered (slot_of r))) (twice (map slot_if rs))
             ≡ list_any (same_region (Numbered r)) (twice rs)
         rest e = ap (list_any (same_region (Numbered (slot_of r)))) e
             ∙ any_slot (Numbered r) (twice rs) h.0 (each_all (twice rs) (twice_each rs h.1))
 
-        test : twice (map slot_if rs) ≡ map (slot slot_of) (twice rs)
+        test : twice (map slot_if rs) ≡ map (slotted_region slot_of) (twice rs)
             → (stands_in (Numbered (slot_of r)) (map slot_if rs)
             && not (list_any (same_region (Numbered (slot_of r))) (twice (map slot_if rs))))
             ≡ (stands_in (Numbered r) rs && not (list_any (same_region (Numbered r)) (twice rs)))
         test e = λ i. stands_in_slot (Numbered r) rs h.0 h.1 i && not (rest e i)
 
-        go : (b : Bool) → twice (map slot_if rs) ≡ map (slot slot_of) (twice rs)
+        go : (b : Bool) → twice (map slot_if rs) ≡ map (slotted_region slot_of) (twice rs)
             → (if b then Numbered (slot_of r) ∷ twice (map slot_if rs) else twice (map slot_if rs))
-            ≡ map (slot slot_of) (if b then Numbered r ∷ twice rs else twice rs)
+            ≡ map (slotted_region slot_of) (if b then Numbered r ∷ twice rs else twice rs)
         go true e = ap (λ (zs : List Region). Numbered (slot_of r) ∷ zs) e
         go false e = e

@@ -17,9 +17,9 @@ use Rattle.rgo_sound.specs.Good.{AllGood}
 use Rattle.rgo_sound.specs.NextNames.{DutyNames}
 use Rattle.rgo_sound.specs.Stakes.{is_in}
 use Rattle.rgo_core_frames.specs.Fits.{RecordsFit, RecordFits, IsOfLive, IsPast, IsShown, ObjectsDiffer}
-use Rattle.rgo_core_frames.specs.Records.{Rec}
-use Rattle.rgo_core_frames.specs.Slots.{slot, slot_duties, slot_duty, slot_environments, slotted}
-use Rattle.rgo_core_frames.specs.Stakes.{ChangesStakes, StakeEndLaw, ShareLaw, ended, shared_in, stake_ended, stake_shared, StakesChange}
+use Rattle.rgo_core_frames.specs.Records.{FramesRec}
+use Rattle.rgo_core_frames.specs.regions.Slots.{slotted_region, slot_duties, slot_duty, slot_environments, slotted}
+use Rattle.rgo_core_frames.specs.regions.Stakes.{ChangesStakes, StakeEndLaw, ShareLaw, ended, shared_in, stake_ended, stake_shared, StakesChange}
 use Rattle.rgo_core_frames.proofs.Keeping.{all_fit_after, base_live, pending_live, protections_live}
 use Rattle.rgo_sound.proofs.steps.Acting.{set_same}
 use Rattle.rgo_core_frames.proofs.steps.LocalActs.{chained, mapped}
@@ -61,7 +61,7 @@ more_live regions r q l e = split (nat_eq r q) (λ t. ap (λ x. is_live regions 
 -- ---- another holder and other stakes
 
 module _ (code : Code) (page_words : ℕ) (slot_of : ℕ → ℕ) (addresses : List ℕ) (s : RegionState) (good : AllGood code s)
-    (records : List Rec) (all : RecordsFit code slot_of addresses s records) (g : ℕ) (c : Rec) (is_c : slice_get records g ≡ Some c)
+    (records : List FramesRec) (all : RecordsFit code slot_of addresses s records) (g : ℕ) (c : FramesRec) (is_c : slice_get records g ≡ Some c)
     (frames : List TacFrame) (h : Holder) (at : slice_get s.plain.goroutines g ≡ Some frames)
     (there : slice_get s.holders g ≡ Some h) (shown : IsShown code slot_of addresses frames h c) where
   abbrev other_state : Holder → List RegionInfo → RegionState
@@ -103,9 +103,9 @@ module _ (code : Code) (page_words : ℕ) (slot_of : ℕ → ℕ) (addresses : L
     named_live r n = live_of s h r (duty_staked code s g h d ds r good.good.fine there owed n)
 
     found : (k : ℕ) (q : Region) → bound (top_names slot_envs) k ≡ Some q
-        → (r : Region) × (bound names k ≡ Some r) × (slot slot_of r ≡ q)
+        → (r : Region) × (bound names k ≡ Some r) × (slotted_region slot_of r ≡ q)
     found k q e =
-        mapped (slot slot_of) (bound names k) q
+        mapped (slotted_region slot_of) (bound names k) q
         (sym (bound_slot slot_of names k) ∙ ap (λ (ns : Bindings). bound ns k) (sym (top_slot slot_of h.environments)) ∙ e)
 
     abbrev Ends : Option RegionState → Option (ℕ × Holder) → (RegionInfo → RegionInfo) → ℕ → Holder → Type 0
@@ -143,12 +143,12 @@ module _ (code : Code) (page_words : ℕ) (slot_of : ℕ → ℕ) (addresses : L
 
     ends_stake : (after : Holder) (r : Region) → after.offer ≡ h.offer → after.stakes ≡ h.stakes → is_live s.regions r ≡ true
         → AllLive slot_of s.regions all.slots_differ after.base → ProtectionsLive slot_of s.regions all.slots_differ after.environments
-        → (p : ℕ) (k : Holder) → ended (slotted slot_of after) (slot slot_of r) ≡ Some (p, k)
+        → (p : ℕ) (k : Holder) → ended (slotted slot_of after) (slotted_region slot_of r) ≡ Some (p, k)
         → Ends (removal s g after r) (ended after r) one_fewer p k
     ends_stake after GlobalRegion o st l b pr p k e = cc
     ends_stake after (Numbered r) o st l b pr p k e = go (guards after.base after.environments (Numbered r)) refl
       where
-        same : guards (map (slot slot_of) after.base) (slot_environments slot_of after.environments) (Numbered (slot_of r))
+        same : guards (map (slotted_region slot_of) after.base) (slot_environments slot_of after.environments) (Numbered (slot_of r))
             ≡ guards after.base after.environments (Numbered r)
         same = guards_slot slot_of s.regions all.slots_differ after.base after.environments (Numbered r) l b pr
 
@@ -208,12 +208,12 @@ module _ (code : Code) (page_words : ℕ) (slot_of : ℕ → ℕ) (addresses : L
         let b : AllLive slot_of s.regions all.slots_differ h.base = base_live code s good.good.fine g h there in
         let after : Holder = record left { base = removed_once r h.base } in
         ends_stake after r refl refl l (removed_live slot_of s.regions all.slots_differ r h.base b) all_protections p k
-        (subst (λ (bs : List Region). ended (record (slotted slot_of left) { base = bs }) (slot slot_of r) ≡ Some (p, k))
+        (subst (λ (bs : List Region). ended (record (slotted slot_of left) { base = bs }) (slotted_region slot_of r) ≡ Some (p, k))
         (removed_once_slot slot_of s.regions all.slots_differ r h.base l b) e)
 
     -- a stake for a coming child
     shares_stake : (r : Region) → is_live s.regions r ≡ true → (p : ℕ) (k : Holder)
-        → shared_in (slotted slot_of left) (slot slot_of r) ≡ Some (p, k) → Ends (shared s g left r) (shared_in left r) with_added_stake p k
+        → shared_in (slotted slot_of left) (slotted_region slot_of r) ≡ Some (p, k) → Ends (shared s g left r) (shared_in left r) with_added_stake p k
     shares_stake GlobalRegion l p k e = cc
     shares_stake (Numbered r) l p k e = go (list_any (nat_eq r) h.pending) refl
       where
@@ -311,7 +311,7 @@ owes_first slot_of h d ds e = go h.duties refl e
         tail : slot_duty slot_of x ∷ slot_duties slot_of xs ≡ d ∷ ds → slot_duties slot_of xs ≡ ds
         tail e = cc
 
-pub past_owes : (code : Code) (slot_of : ℕ → ℕ) (addresses : List ℕ) (frames : List TacFrame) (h : Holder) (c : Rec) (d : Duty) (ds : List Duty)
+pub past_owes : (code : Code) (slot_of : ℕ → ℕ) (addresses : List ℕ) (frames : List TacFrame) (h : Holder) (c : FramesRec) (d : Duty) (ds : List Duty)
     → IsPast code slot_of addresses frames h c → c.holder.duties ≡ d ∷ ds → ⊥
 past_owes code slot_of addresses frames h c d ds p e =
     clash (sym (ap (λ (k : Holder). k.duties) p.shown.holder ∙ ap (slot_duties slot_of) p.owes_nothing) ∙ e)

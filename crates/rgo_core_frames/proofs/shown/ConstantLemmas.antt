@@ -6,7 +6,7 @@ use Rattle.std.proofs.lemmas.Option.{same_Some, slice_get-get_or, slice_get-map}
 use Rattle.rgo_sound.specs.Code.Code.{Code, CodeOp}
 use Rattle.rgo_sound.specs.Code.Erasure.{erased, erased_fn, erased_instr, erased_op}
 use Rattle.rgo_sound.proofs.names.Ruled.{erased_found}
-use Rattle.rgo_core_frames.specs.Constants.{ConstantsFit, FnFits, InstrFits, OpFits}
+use Rattle.rgo_core_frames.specs.shown.Constants.{ConstantsFit, FnFits, InstrFits, OpFits}
 
 pub one_more : {A : Type 0} (P : A → Type 0) (xs : List A) (n : ℕ) → n < length xs → All P (take n xs)
     → IfSome (slice_get xs n) P → All P (take (n + 1) xs)

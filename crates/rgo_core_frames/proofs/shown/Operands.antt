@@ -21,21 +21,21 @@ use Rattle.rgo_sound.specs.RegionMachine.States.{RegionState, top_names}
 use Rattle.rgo_sound.proofs.Places.{contains_here}
 use Rattle.rgo_sound.proofs.types.Steps.{var_kind}
 use Rattle.rgo_sound.specs.Types.{HasKind}
-use Rattle.rgo_core_frames.specs.Actions.{FrameLoadLaw, acted}
-use Rattle.rgo_core_frames.specs.Before.{IsBefore}
+use Rattle.rgo_core_frames.specs.steps.Actions.{FrameLoadLaw, acted_records}
+use Rattle.rgo_core_frames.specs.steps.Before.{IsBefore}
 use Rattle.rgo_core_frames.specs.Fits.{ObjectsDiffer, IsOfLive}
-use Rattle.rgo_core_frames.specs.Operands.{IntLaw, PointerLaw, PointsTo}
-use Rattle.rgo_core_frames.specs.Records.{Rec}
-use Rattle.rgo_core_frames.specs.Steps.{PerformsInstr}
-use Rattle.rgo_core_frames.specs.WordFrames.{WordFrame, word_at}
-use Rattle.rgo_core_frames.specs.Words.{Shows}
+use Rattle.rgo_core_frames.specs.shown.Operands.{IntLaw, PointerLaw, PointsTo}
+use Rattle.rgo_core_frames.specs.Records.{FramesRec}
+use Rattle.rgo_core_frames.specs.steps.Bookkept.{PerformsInstr}
+use Rattle.rgo_core_frames.specs.shown.WordFrames.{WordFrame, frame_word}
+use Rattle.rgo_core_frames.specs.shown.Words.{Shows}
 use Rattle.rgo_core_frames.proofs.steps.ActionSteps.{action_law}
 use Rattle.rgo_sound.proofs.Progress.{live_of}
 use Rattle.rgo_core_frames.proofs.shown.WordLemmas.{int_is}
 use Rattle.rgo_core_frames.specs.States.{AtInstruction}
 use Rattle.rgo_sound.specs.Memory.Memory.{Object}
 
-module _ (code : Code) (slot_of : ℕ → ℕ) (addresses : List ℕ) (s : RegionState) (g : ℕ) (c : Rec) (w : WordFrame) (ws : List WordFrame)
+module _ (code : Code) (slot_of : ℕ → ℕ) (addresses : List ℕ) (s : RegionState) (g : ℕ) (c : FramesRec) (w : WordFrame) (ws : List WordFrame)
     (instr : CodeInstr) (fn : CodeFn) (v : ℕ) (ty : «Type») (b : IsBefore code slot_of addresses s g c w ws instr)
     (is_fn : code_function code w.function ≡ Some fn) (read : Contains (reads (erased_op instr.op)) v)
     (typed : VariableHasType (erased_fn fn) v ty) where
@@ -46,19 +46,19 @@ module _ (code : Code) (slot_of : ℕ → ℕ) (addresses : List ℕ) (s : Regio
       var_kind b.kinds (erased_fn b.typed.0.0) b.frame b.typed.0.2 v ty
       (subst (λ (f : CodeFn). VariableHasType (erased_fn f) v ty) same typed)
 
-  pub is_nil_word : word_at w v ≡ 0 → is_pointer_like ty ≡ true → value_at b.frame v ≡ value.Nil
+  pub is_nil_word : frame_word w v ≡ 0 → is_pointer_like ty ≡ true → value_at b.frame v ≡ value.Nil
   is_nil_word z p = by (value_at b.frame v) kind (b.shown v read)
     where
-      by : (x : Value) → HasKind b.kinds ty x → Shows addresses x (word_at w v) → x ≡ value.Nil
+      by : (x : Value) → HasKind b.kinds ty x → Shows addresses x (frame_word w v) → x ≡ value.Nil
       by (value.Int i) k sh = absurd (true≢false (sym p ∙ ap is_pointer_like k))
       by (value.Bool t) k sh = absurd (true≢false (sym p ∙ ap is_pointer_like k))
       by value.Nil k sh = refl
       by (value.Object o) k (a, e, q) = absurd (omega (arith, q, z))
 
-  pub points : (a : ℕ) → word_at w v ≡ suc a → is_pointer_like ty ≡ true → PointsTo addresses s b.h (value_at b.frame v) a
+  pub points : (a : ℕ) → frame_word w v ≡ suc a → is_pointer_like ty ≡ true → PointsTo addresses s b.h (value_at b.frame v) a
   points a is p = by (value_at b.frame v) refl kind (b.shown v read)
     where
-      by : (x : Value) → value_at b.frame v ≡ x → HasKind b.kinds ty x → Shows addresses x (word_at w v)
+      by : (x : Value) → value_at b.frame v ≡ x → HasKind b.kinds ty x → Shows addresses x (frame_word w v)
           → PointsTo addresses s b.h (value_at b.frame v) a
       by (value.Int i) e k sh = absurd (true≢false (sym p ∙ ap is_pointer_like k))
       by (value.Bool t) e k sh = absurd (true≢false (sym p ∙ ap is_pointer_like k))
@@ -71,7 +71,7 @@ module _ (code : Code) (slot_of : ℕ → ℕ) (addresses : List ℕ) (s : Regio
 pub int_law : IntLaw
 int_law x v o =
     let y = x.here in
-    (int_is x.before.kinds y.addresses (value_at x.before.frame v) (word_at x.w v)
+    (int_is x.before.kinds y.addresses (value_at x.before.frame v) (frame_word x.w v)
     (kind y.code y.slot_of y.addresses y.s y.g y.c x.w x.ws x.instr o.fn v int x.before o.is_fn o.read o.typed)
     (x.before.shown v o.read)).is
 
@@ -86,7 +86,7 @@ pointer_law x v ty o p =
 
 module _ (x : AtInstruction) (fn : CodeFn) (d k p a found : ℕ) (ty : «Type») (removes : List ℕ)
     (is : x.instr.op ≡ Do (Some d) (action.Load k) (p ∷ []) removes) (is_fn : code_function x.here.code x.w.function ≡ Some fn)
-    (typed : VariableHasType (erased_fn fn) p ty) (like : is_pointer_like ty ≡ true) (at : word_at x.w p ≡ suc a) where
+    (typed : VariableHasType (erased_fn fn) p ty) (like : is_pointer_like ty ≡ true) (at : frame_word x.w p ≡ suc a) where
   abbrev heap : List Object
   heap = x.here.s.plain.memory.heap
 
@@ -96,9 +96,9 @@ module _ (x : AtInstruction) (fn : CodeFn) (d k p a found : ℕ) (ty : «Type»)
 
   loads : ((o : ℕ) → slice_get x.here.addresses o ≡ Some a → IsOfLive x.here.s.regions x.here.s.owners o
       → Shows x.here.addresses (field_value (slice_get heap o) k) found)
-      → PerformsInstr x x.here.addresses x.here.s.plain.memory [] (x.before.h, []) (acted x (Some d) found)
+      → PerformsInstr x x.here.addresses x.here.s.plain.memory [] (x.before.h, []) (acted_records x (Some d) found)
   loads shows =
-      subst (λ l. PerformsInstr x l x.here.s.plain.memory [] (x.before.h, []) (acted x (Some d) found)) (append-nil x.here.addresses)
+      subst (λ l. PerformsInstr x l x.here.s.plain.memory [] (x.before.h, []) (acted_records x (Some d) found)) (append-nil x.here.addresses)
       (action_law x [] (Some d) (action.Load k) (p ∷ []) removes x.here.s.plain.memory
       (field_value (slice_get heap loads_from.object) k) found (x.before.h, []) is
       (ap (λ v. Some (answered x.here.s.plain.memory (load x.here.s.plain.memory v k))) loads_from.is)

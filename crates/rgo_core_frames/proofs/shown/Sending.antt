@@ -9,9 +9,9 @@ use Rattle.rgo_sound.specs.RegionMachine.Owed.{current}
 use Rattle.rgo_sound.specs.RegionMachine.States.{frames_in}
 use Rattle.rgo_sound.specs.Tac.Flow.{reads}
 use Rattle.rgo_sound.specs.Tac.Frames.{TacFrame, value_at}
-use Rattle.rgo_core_frames.specs.Meetings.{SentLaw}
-use Rattle.rgo_core_frames.specs.WordFrames.{word_at}
-use Rattle.rgo_core_frames.specs.Words.{Shows}
+use Rattle.rgo_core_frames.specs.goroutines.Meetings.{SentLaw}
+use Rattle.rgo_core_frames.specs.shown.WordFrames.{frame_word}
+use Rattle.rgo_core_frames.specs.shown.Words.{Shows}
 
 same_sent : (to to' : Option ℕ) (channel sent channel' sent' : ℕ) (removes removes' : List ℕ)
     → Do to Send (channel ∷ sent ∷ []) removes ≡ Do to' Send (channel' ∷ sent' ∷ []) removes' → sent ≡ sent'
@@ -19,8 +19,8 @@ same_sent to to' channel sent channel' sent' removes removes' e = cc
 
 pub sent_law : SentLaw
 sent_law x to channel sent removes o is y =
-    subst (λ v. Shows x.here.addresses (value_at y.frame v) (word_at x.w sent)) same
-    (subst (λ (f : TacFrame). Shows x.here.addresses (value_at f sent) (word_at x.w sent)) frame_is
+    subst (λ v. Shows x.here.addresses (value_at y.frame v) (frame_word x.w sent)) same
+    (subst (λ (f : TacFrame). Shows x.here.addresses (value_at f sent) (frame_word x.w sent)) frame_is
     (x.before.shown sent (subst (λ (op : CodeOp). Contains (reads (erased_op op)) sent) (sym is)
     (contains_there channel (sent ∷ []) sent (contains_here sent [])))))
   where

@@ -23,9 +23,9 @@ use Rattle.rgo_sound.proofs.Places.{contains_here, contains_there, length_set}
 use Rattle.rgo_sound.proofs.names.Edges.{live_back}
 use Rattle.rgo_sound.specs.Invariant.{HasInstr}
 use Rattle.rgo_sound.specs.Values.{call_target}
-use Rattle.rgo_core_frames.specs.Shown.{CallerShows, NewestShows}
-use Rattle.rgo_core_frames.specs.WordFrames.{WordFrame, bare, word_at, word_called, word_resumed_at, word_resumed_by, words_of, written}
-use Rattle.rgo_core_frames.specs.Words.{AllShow, Shows}
+use Rattle.rgo_core_frames.specs.shown.Variables.{CallerShows, NewestShows}
+use Rattle.rgo_core_frames.specs.shown.WordFrames.{WordFrame, bare, frame_word, word_called, word_resumed_at, word_resumed_by, words_of, written}
+use Rattle.rgo_core_frames.specs.shown.Words.{AllShow, Shows}
 use Rattle.rgo_core_frames.proofs.regions.Bookkeeping.{current_alike}
 
 -- ---- lists of words
@@ -149,7 +149,7 @@ module _ (addresses : List ℕ) where
           go (Some fn) q = (fn, q)
 
       -- what it reads shows its value
-      pub reads_show : (v : ℕ) → Contains (reads (erased_op instr.op)) v → Shows addresses (value_at frame v) (word_at w v)
+      pub reads_show : (v : ℕ) → Contains (reads (erased_op instr.op)) v → Shows addresses (value_at frame v) (frame_word w v)
       reads_show v r =
           let f = in_function in
           t.shows f.0 f.1 v (none_some v) (live_read f.0 frame.next v instr (here f.0 f.1) r)

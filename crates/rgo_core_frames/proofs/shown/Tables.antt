@@ -4,7 +4,7 @@ use Rattle.rgo_sound.specs.RegionMachine.declared.regions.Region.{Region}
 use Rattle.rgo_sound.specs.RegionMachine.Regions.{Bindings, bound, unbind, without_all}
 use Rattle.rgo_sound.proofs.names.Core.{bound_unbind, bound_unbind_other}
 use Rattle.rgo_sound.proofs.Tests.{eq_of, split}
-use Rattle.rgo_core_frames.specs.NameTables.{NameTable, TableLaws, TableShows, cleared}
+use Rattle.rgo_core_frames.specs.shown.NameTables.{NameTable, TableLaws, TableShows, cleared}
 
 set_none : (table : NameTable) (k : ℕ) → get_or (slice_set table k None) k None ≡ None
 set_none [] k = refl

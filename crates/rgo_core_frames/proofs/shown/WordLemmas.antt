@@ -23,8 +23,8 @@ use Rattle.rgo_sound.specs.Memory.declared.values.Value.TheVariants as value
 use Rattle.rgo_sound.specs.Memory.Operators.{on_ints, binary_of, checked_quotient, same_bool}
 use Rattle.rgo_sound.specs.Types.{HasKind}
 use Rattle.rgo_sound.proofs.Places.{get_front}
-use Rattle.rgo_core_frames.specs.Operators.{binary_on_words, word_in, word_of}
-use Rattle.rgo_core_frames.specs.Words.{Shows}
+use Rattle.rgo_core_frames.specs.shown.Operators.{binary_on_words, word_in, word_of}
+use Rattle.rgo_core_frames.specs.shown.Words.{Shows}
 
 -- ---- more objects
 

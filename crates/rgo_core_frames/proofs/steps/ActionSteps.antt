@@ -20,7 +20,7 @@ use Rattle.rgo_sound.specs.Code.Erasure.{erased, erased_fn, erased_op}
 use Rattle.rgo_sound.specs.Code.Names.{edges}
 use Rattle.rgo_sound.specs.Code.Types.{VariableHasType}
 use Rattle.rgo_sound.specs.RegionMachine.declared.regions.Region.{Region}
-use Rattle.rgo_sound.specs.RegionMachine.Instructions.{child_holder, holder_after, last_frames, marked}
+use Rattle.rgo_sound.specs.RegionMachine.Instructions.{child_holder, holder_after, last_frames, mark_with_end}
 use Rattle.rgo_sound.specs.RegionMachine.Objects.{allotted, data_pages, fill_of, is_spread, is_too_large, making_region, placed, spread_out, object_words}
 use Rattle.rgo_sound.specs.RegionMachine.Owed.{function_at, code_function, removes_behind}
 use Rattle.rgo_sound.specs.RegionMachine.States.{Holder, RegionState, top_names}
@@ -30,15 +30,15 @@ use Rattle.rgo_sound.proofs.Places.{contains_here, contains_there, get_set_same}
 use Rattle.rgo_sound.proofs.types.Steps.{types, var_kind}
 use Rattle.rgo_sound.specs.Good.{AllGood}
 use Rattle.rgo_sound.specs.Types.{HasKind}
-use Rattle.rgo_core_frames.specs.Actions.{ActionLaw, after_action}
-use Rattle.rgo_core_frames.specs.Before.{IsBefore}
+use Rattle.rgo_core_frames.specs.steps.Actions.{ActionLaw, after_action}
+use Rattle.rgo_core_frames.specs.steps.Before.{IsBefore}
 use Rattle.rgo_core_frames.specs.Fits.{RecordsFit, IsShown, ObjectsDiffer}
-use Rattle.rgo_core_frames.specs.Prints.{PrintLaw, printed_values, typed_in, typed_value}
-use Rattle.rgo_core_frames.specs.Records.{Rec, after_op}
-use Rattle.rgo_core_frames.specs.Shown.{CallersShow, FramesShow, NewestShows}
-use Rattle.rgo_core_frames.specs.Steps.{HasInstruction}
-use Rattle.rgo_core_frames.specs.WordFrames.{WordFrame, bare, is_set, word_at, word_going, word_moved}
-use Rattle.rgo_core_frames.specs.Words.{Shows}
+use Rattle.rgo_core_frames.specs.steps.Prints.{PrintLaw, printed_values, typed_in, typed_value}
+use Rattle.rgo_core_frames.specs.Records.{FramesRec, after_op}
+use Rattle.rgo_core_frames.specs.shown.Variables.{CallersShow, FramesShow, NewestShows}
+use Rattle.rgo_core_frames.specs.steps.Bookkept.{HasInstruction}
+use Rattle.rgo_core_frames.specs.shown.WordFrames.{WordFrame, bare, is_set, frame_word, word_going, word_moved}
+use Rattle.rgo_core_frames.specs.shown.Words.{Shows}
 use Rattle.rgo_core_frames.proofs.steps.Instructing.{IsReady, changes, done_state, instructs, next_holder, none_allotted, shown_after}
 use Rattle.rgo_core_frames.proofs.Keeping.{Changes, all_fit_after, frames_more}
 use Rattle.rgo_core_frames.proofs.Leaving.{leaves_rest, mark_stays}
@@ -98,8 +98,8 @@ reserved_after code h frame callers (Branch test target removes other otherwise)
 reserved_after code h frame callers (Return value) next = refl
 
 module _ (code : Code) (page_words : ℕ) (checked : IsChecked code) (slot_of : ℕ → ℕ) (addresses more : List ℕ) (s : RegionState)
-    (good : AllGood code s) (running : IsRunning s) (records : List Rec) (all : RecordsFit code slot_of addresses s records) (g : ℕ)
-    (c : Rec) (is_c : slice_get records g ≡ Some c) (w : WordFrame) (ws : List WordFrame) (instr : CodeInstr)
+    (good : AllGood code s) (running : IsRunning s) (records : List FramesRec) (all : RecordsFit code slot_of addresses s records) (g : ℕ)
+    (c : FramesRec) (is_c : slice_get records g ≡ Some c) (w : WordFrame) (ws : List WordFrame) (instr : CodeInstr)
     (b : IsBefore code slot_of addresses s g c w ws instr) where
   pub ready_now : IsReady code s g b.h b.frame b.callers instr
   ready_now = record {
@@ -178,7 +178,7 @@ module _ (code : Code) (page_words : ℕ) (checked : IsChecked code) (slot_of : 
       owners = refl;
       regions = refl;
       global_pages = refl;
-      mark = ap (marked s.mark) (no_end g f fs) ∙ mark_stays s.mark;
+      mark = ap (mark_with_end s.mark) (no_end g f fs) ∙ mark_stays s.mark;
       counted = refl;
       fills = fills_are;
       reserved = reserved_is;
@@ -252,8 +252,8 @@ action_law x more to action from removes memory v word given is performs allots 
     places
 
 module _ (code : Code) (page_words : ℕ) (checked : IsChecked code) (slot_of : ℕ → ℕ) (addresses : List ℕ) (s : RegionState)
-    (good : AllGood code s) (running : IsRunning s) (records : List Rec) (all : RecordsFit code slot_of addresses s records)
-    (g : ℕ) (c : Rec) (is_c : slice_get records g ≡ Some c) (w : WordFrame) (ws : List WordFrame) (instr : CodeInstr)
+    (good : AllGood code s) (running : IsRunning s) (records : List FramesRec) (all : RecordsFit code slot_of addresses s records)
+    (g : ℕ) (c : FramesRec) (is_c : slice_get records g ≡ Some c) (w : WordFrame) (ws : List WordFrame) (instr : CodeInstr)
     (b : IsBefore code slot_of addresses s g c w ws instr) (fn : CodeFn) (pieces : List Piece) (from removes : List ℕ)
     (is : instr.op ≡ Print pieces from removes) (is_fn : code_function code w.function ≡ Some fn) where
   at_fn : function_at code b.frame ≡ Some fn
@@ -277,7 +277,7 @@ module _ (code : Code) (page_words : ℕ) (checked : IsChecked code) (slot_of : 
   values_are [] k = refl
   values_are (v ∷ vs) k = λ i. one i ∷ values_are vs (λ u m. k u (contains_there v vs u m)) i
     where
-      one : value_at b.frame v ≡ typed_value (slice_get fn.variables v) (word_at w v)
+      one : value_at b.frame v ≡ typed_value (slice_get fn.variables v) (frame_word w v)
       one = by (slice_get fn.variables v) refl
         where
           fits : (t : «Type») × VariableHasType (erased_fn fn) v t × (is_pointer_like t ≡ false)
@@ -286,7 +286,7 @@ module _ (code : Code) (page_words : ℕ) (checked : IsChecked code) (slot_of : 
           type_is : slice_get (erased_fn fn).variables v ≡ option_map (λ (x : Slot). x.ty) (slice_get fn.variables v)
           type_is = slice_get-map (λ (x : Slot). x.ty) fn.variables v
 
-          by : (o : Option Slot) → slice_get fn.variables v ≡ o → value_at b.frame v ≡ typed_value o (word_at w v)
+          by : (o : Option Slot) → slice_get fn.variables v ≡ o → value_at b.frame v ≡ typed_value o (frame_word w v)
           by None q = let z : Some fits.0 ≡ None = sym fits.1 ∙ type_is ∙ ap (option_map (λ (x : Slot). x.ty)) q in cc
           by (Some slot) q =
               let ty : slot.ty ≡ fits.0 = same_Some slot.ty fits.0
@@ -294,7 +294,7 @@ module _ (code : Code) (page_words : ℕ) (checked : IsChecked code) (slot_of : 
               let same : b.typed.0.0 ≡ fn = same_Some b.typed.0.0 fn (sym b.typed.0.1 ∙ at_fn) in
               let have : VariableHasType (erased_fn b.typed.0.0) v fits.0 =
               subst (λ (f : CodeFn). VariableHasType (erased_fn f) v fits.0) (sym same) fits.1 in
-              typed_is addresses b.kinds slot (value_at b.frame v) (word_at w v) (ap is_pointer_like ty ∙ fits.2)
+              typed_is addresses b.kinds slot (value_at b.frame v) (frame_word w v) (ap is_pointer_like ty ∙ fits.2)
               (subst (λ t. HasKind b.kinds t (value_at b.frame v)) (sym ty)
               (var_kind b.kinds (erased_fn b.typed.0.0) b.frame b.typed.0.2 v fits.0 have))
               (b.shown v (subst (λ (o : CodeOp). Contains (reads (erased_op o)) v) (sym is) (k v (contains_here v vs))))

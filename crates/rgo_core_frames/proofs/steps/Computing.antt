@@ -20,8 +20,8 @@ use Rattle.rgo_sound.specs.Tac.Code.{Tac}
 use Rattle.rgo_sound.specs.Code.Types.{ReturnsType}
 use Rattle.rgo_sound.proofs.steps.Acting.{performed}
 use Rattle.rgo_sound.specs.Types.{HasKind, HaveKinds}
-use Rattle.rgo_core_frames.specs.Operators.{computed, word_of}
-use Rattle.rgo_core_frames.specs.Words.{AllShow, Shows}
+use Rattle.rgo_core_frames.specs.shown.Operators.{computed, word_of}
+use Rattle.rgo_core_frames.specs.shown.Words.{AllShow, Shows}
 use Rattle.rgo_core_frames.proofs.shown.WordLemmas.{IsInt, IsTruth, AreCompared, Operands, binary_answers, compared, int_is, truth_is, word_shows, wrapped_fits, other_numbers, IsStanding}
 
 abbrev pub IsPointer : Value → Type 0

@@ -19,10 +19,10 @@ use Rattle.rgo_sound.proofs.steps.Acting.{Acted, act, act_at, after, end_by}
 use Rattle.rgo_sound.proofs.steps.OneStep.{SameHolder, current_erased}
 use Rattle.rgo_sound.proofs.Places.{get_append_left, get_set_same}
 use Rattle.rgo_core_frames.specs.Fits.{IsShown}
-use Rattle.rgo_core_frames.specs.Records.{Rec, after_op}
-use Rattle.rgo_core_frames.specs.Shown.{CallersShow, FramesShow}
-use Rattle.rgo_core_frames.specs.Slots.{slotted}
-use Rattle.rgo_core_frames.specs.WordFrames.{WordFrame, bare, bare_all}
+use Rattle.rgo_core_frames.specs.Records.{FramesRec, after_op}
+use Rattle.rgo_core_frames.specs.shown.Variables.{CallersShow, FramesShow}
+use Rattle.rgo_core_frames.specs.regions.Slots.{slotted}
+use Rattle.rgo_core_frames.specs.shown.WordFrames.{WordFrame, bare, bare_all}
 use Rattle.rgo_core_frames.proofs.regions.Bookkeeping.{after_slot}
 use Rattle.rgo_core_frames.proofs.Keeping.{Changes}
 use Rattle.rgo_sound.proofs.Progress.{one_step}
@@ -105,7 +105,7 @@ module _ {code : Code} {s : RegionState} {g : ℕ} {h : Holder} {frame : TacFram
     }
 
     -- the record after it, by slots
-    module _ (slot_of : ℕ → ℕ) (addresses : List ℕ) (same : SameHolder h given.0) (c : Rec) (holder_is : c.holder ≡ slotted slot_of h)
+    module _ (slot_of : ℕ → ℕ) (addresses : List ℕ) (same : SameHolder h given.0) (c : FramesRec) (holder_is : c.holder ≡ slotted slot_of h)
         (w : WordFrame) (ws : List WordFrame) (waiting : CallersShow code addresses callers ws)
         (tests : removes_behind (bare w) instr.op ≡ removes_behind frame instr.op) (addresses' : List ℕ)
         (next : List WordFrame) (shows : FramesShow code addresses' a.frames next) where

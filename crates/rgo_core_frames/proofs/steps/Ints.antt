@@ -43,8 +43,8 @@ use Rattle.rgo_sound.proofs.steps.Acting.{Acted, act, act_at, after, alone, alon
 use Rattle.rgo_sound.proofs.plain.Steps.{Always, Follows, step_follows, yields_is}
 use Rattle.rgo_sound.proofs.steps.OneStep.{ReceivesAt, SendsAt, StandsAt, current_erased, stands_at_channel}
 use Rattle.rgo_sound.proofs.Places.{each_get, each_replicate, each_set, each_snoc, length_set}
-use Rattle.rgo_core_frames.specs.Ints.{FramesIntsFit, ValueFitsWord, IntsFit, IntsStay, MemoryIntsFit, ObjectIntsFit}
-use Rattle.rgo_core_frames.specs.Constants.{ConstantsFit}
+use Rattle.rgo_core_frames.specs.shown.Ints.{FramesIntsFit, ValueFitsWord, IntsFit, IntsStay, MemoryIntsFit, ObjectIntsFit}
+use Rattle.rgo_core_frames.specs.shown.Constants.{ConstantsFit}
 use Rattle.rgo_core_frames.proofs.steps.Computing.{ConstantFits}
 use Rattle.rgo_core_frames.proofs.shown.WordLemmas.{IsWord, ints_word, wrapped_fits}
 

@@ -32,12 +32,12 @@ use Rattle.rgo_sound.specs.Invariant.{HasInstr}
 use Rattle.rgo_sound.specs.Types.{CalledFrom, FramesHaveKinds, HaveKinds, IsCallOf}
 use Rattle.rgo_sound.proofs.pointers.Variables.{no_target}
 use Rattle.rgo_core_frames.specs.Fits.{IsOfLive, ObjectsDiffer}
-use Rattle.rgo_core_frames.specs.Local.{local_op, word_branch, word_returned}
-use Rattle.rgo_core_frames.specs.Constants.{ConstantsFit}
-use Rattle.rgo_core_frames.specs.Operators.{computed}
-use Rattle.rgo_core_frames.specs.Shown.{CallerShows, CallersShow, FramesShow, NewestShows}
-use Rattle.rgo_core_frames.specs.WordFrames.{WordFrame, bare, is_set, word_at, word_called, word_going, word_moved, word_resumed_at, words_of}
-use Rattle.rgo_core_frames.specs.Words.{AllShow}
+use Rattle.rgo_core_frames.specs.steps.Local.{local_op, word_branch, word_returned}
+use Rattle.rgo_core_frames.specs.shown.Constants.{ConstantsFit}
+use Rattle.rgo_core_frames.specs.shown.Operators.{computed}
+use Rattle.rgo_core_frames.specs.shown.Variables.{CallerShows, CallersShow, FramesShow, NewestShows}
+use Rattle.rgo_core_frames.specs.shown.WordFrames.{WordFrame, bare, is_set, frame_word, word_called, word_going, word_moved, word_resumed_at, words_of}
+use Rattle.rgo_core_frames.specs.shown.Words.{AllShow}
 use Rattle.rgo_core_frames.proofs.steps.Computing.{AllStanding, ConstantFits, Fitted, fitted, gives}
 use Rattle.rgo_core_frames.proofs.shown.Showing.{all_reads_show, enters, goes_on, reads_show, resumes, resumes_with, waits}
 use Rattle.rgo_core_frames.proofs.shown.WordLemmas.{IsStanding, truth_is}
@@ -208,12 +208,12 @@ module _ (code : Code) (checked : IsChecked code) (constants : ConstantsFit code
       )
 
   pub test_shows : (test target other : ℕ) (removes otherwise : List ℕ) → instr.op ≡ Branch test target removes other otherwise
-      → is_set (word_at w test) ≡ is_true (value_at frame test)
+      → is_set (frame_word w test) ≡ is_true (value_at frame test)
   test_shows test target other removes otherwise is =
       let k = var_kind kinds (erased_fn fn) frame kinds_here test bool (op_fits (Branch test target removes other otherwise) is) in
       let s = reads_show addresses code frame w instr cur t test
       (subst (λ (op : CodeOp). Contains (reads (erased_op op)) test) (sym is) (contains_here test [])) in
-      let b = truth_is kinds addresses (value_at frame test) (word_at w test) k s in
+      let b = truth_is kinds addresses (value_at frame test) (frame_word w test) k s in
       ap is_set b.word ∙ go b.truth ∙ sym (ap is_true b.is)
     where
       go : (b : Bool) → is_set (from_bool b) ≡ is_true (value.Bool b)
@@ -254,7 +254,7 @@ module _ (code : Code) (checked : IsChecked code) (constants : ConstantsFit code
   -- ---- a return
 
   returns_alike : (value : Option ℕ) → instr.op ≡ Return value
-      → ActsAlike code addresses m frame callers instr (word_returned code (option_map (word_at w) value) ws)
+      → ActsAlike code addresses m frame callers instr (word_returned code (option_map (frame_word w) value) ws)
   returns_alike value is =
       let x = back value is callers ws waiting typed.1 typed.2 in with_op _ (Return value) is x.0 x.1 x.2
     where
@@ -263,20 +263,20 @@ module _ (code : Code) (checked : IsChecked code) (constants : ConstantsFit code
           → CallerShows code addresses caller u → (cfn : CodeFn) → function_at code caller ≡ Some cfn → (call : CodeInstr)
           → current code caller ≡ Some call → IsCallOf code call.op fn
           → NewestShows code addresses (tac_resumed (erased code) caller (option_map (value_at frame) value))
-          (word_resumed_at u (current code (bare u)) (option_map (word_at w) value))
+          (word_resumed_at u (current code (bare u)) (option_map (frame_word w) value))
       continues None is caller u c cfn is_cfn call cur_c calls =
           resumes addresses code caller u c call cur_c (no_target code fn cfn call.op (op_fits (Return None) is) calls
           (checked rule.Exists (line.Instr caller.function caller.next) cfn call is_cfn
           (here code checked caller cfn call is_cfn cur_c)).exists)
       continues (Some v) is caller u c cfn is_cfn call cur_c calls =
-          resumes_with addresses code caller u c call cur_c (value_at frame v) (word_at w v)
+          resumes_with addresses code caller u c call cur_c (value_at frame v) (frame_word w v)
           (reads_show addresses code frame w instr cur t v
           (subst (λ (op : CodeOp). Contains (reads (erased_op op)) v) (sym is) (contains_here v [])))
 
       back : (value : Option ℕ) → instr.op ≡ Return value → (cs : List TacFrame) (us : List WordFrame)
           → CallersShow code addresses cs us → CalledFrom code frame cs → FramesHaveKinds code kinds cs
           → (next : List TacFrame) × (returned (erased code) m (option_map (value_at frame) value) cs ≡ moves m next)
-          × FramesShow code addresses next (word_returned code (option_map (word_at w) value) us)
+          × FramesShow code addresses next (word_returned code (option_map (frame_word w) value) us)
       back value is [] [] s c k = ([], refl, tt)
       back value is [] (u ∷ us) s c k = absurd s
       back value is (caller ∷ cs) [] s c k = absurd s

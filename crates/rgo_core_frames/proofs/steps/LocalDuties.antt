@@ -14,10 +14,10 @@ use Rattle.rgo_sound.proofs.names.Stakes.{duty_staked}
 use Rattle.rgo_sound.proofs.Tests.{nat_eq_refl}
 use Rattle.rgo_sound.specs.Invariant.{Fine}
 use Rattle.rgo_sound.specs.NextNames.{DutyNames}
-use Rattle.rgo_sound.specs.Stakes.{one_if, times_in}
+use Rattle.rgo_sound.specs.Stakes.{one_when, times_in}
 use Rattle.rgo_core_frames.specs.Fits.{SlotsDiffer}
-use Rattle.rgo_core_frames.specs.Local.{local_duty, not_removed, not_shared}
-use Rattle.rgo_core_frames.specs.Slots.{slot, slot_duty, slot_environments, slotted}
+use Rattle.rgo_core_frames.specs.steps.Local.{local_duty, not_removed, not_shared}
+use Rattle.rgo_core_frames.specs.regions.Slots.{slotted_region, slot_duty, slot_environments, slotted}
 use Rattle.rgo_core_frames.proofs.Keeping.{base_live, pending_live, protections_live}
 use Rattle.rgo_core_frames.proofs.steps.LocalActs.{chained, mapped}
 use Rattle.rgo_core_frames.proofs.regions.SlotLemmas.{AllLive, ProtectionsLive, bound_slot, guards_slot, removed_live, removed_once_slot, same_slot, top_slot, unbind_slot, with_protection_slot, with_top_live, with_top_slot, without_protection_slot}
@@ -44,9 +44,9 @@ module _ (code : Code) (slot_of : ℕ → ℕ) (s : RegionState) (fine : Fine co
 
   -- a name by its slot
   found : (k : ℕ) (q : Region) → bound (top_names (slot_environments slot_of h.environments)) k ≡ Some q
-      → (r : Region) × (bound names k ≡ Some r) × (slot slot_of r ≡ q)
+      → (r : Region) × (bound names k ≡ Some r) × (slotted_region slot_of r ≡ q)
   found k q e =
-      mapped (slot slot_of) (bound names k) q
+      mapped (slotted_region slot_of) (bound names k) q
       (sym (bound_slot slot_of names k) ∙ ap (λ (ns : Bindings). bound ns k) (sym (top_slot slot_of h.environments)) ∙ e)
 
   abbrev Result : Option RegionState → Holder → Type 0
@@ -57,12 +57,12 @@ module _ (code : Code) (slot_of : ℕ → ℕ) (s : RegionState) (fine : Fine co
   removal_alike : (after : Holder) (r : Region) → after.offer ≡ h.offer
       → is_live s.regions r ≡ true → AllLive slot_of s.regions differ after.base
       → ProtectionsLive slot_of s.regions differ after.environments → (k : Holder)
-      → not_removed (slotted slot_of after) (slot slot_of r) ≡ Some k → Result (removal s g after r) k
+      → not_removed (slotted slot_of after) (slotted_region slot_of r) ≡ Some k → Result (removal s g after r) k
   removal_alike after GlobalRegion o l b p k e =
       record { after = after; does = refl; same_offer = o; slots = sym (same_Some (slotted slot_of after) k e) }
   removal_alike after (Numbered r) o l b p k e = go (guards after.base after.environments (Numbered r)) refl
     where
-      same : guards (map (slot slot_of) after.base) (slot_environments slot_of after.environments) (Numbered (slot_of r))
+      same : guards (map (slotted_region slot_of) after.base) (slot_environments slot_of after.environments) (Numbered (slot_of r))
           ≡ guards after.base after.environments (Numbered r)
       same = guards_slot slot_of s.regions differ after.base after.environments (Numbered r) l b p
 
@@ -82,7 +82,7 @@ module _ (code : Code) (slot_of : ℕ → ℕ) (s : RegionState) (fine : Fine co
   -- ---- shares that do nothing
 
   positive_here : (q : ℕ) (rs : List ℕ) → 0 < times_in q (q ∷ rs)
-  positive_here q rs = let e : one_if (nat_eq q q) ≡ 1 = ap one_if (nat_eq_refl q) in omega (arith, e)
+  positive_here q rs = let e : one_when (nat_eq q q) ≡ 1 = ap one_when (nat_eq_refl q) in omega (arith, e)
 
   pub pending_slot : (r : ℕ) (rs : List ℕ) → is_live s.regions (Numbered r) ≡ true
       → ((q : ℕ) → 0 < times_in q rs → is_live s.regions (Numbered q) ≡ true)
@@ -96,7 +96,7 @@ module _ (code : Code) (slot_of : ℕ → ℕ) (s : RegionState) (fine : Fine co
   more_pending r = record (attended s g (record left { pending = r ∷ left.pending })) { regions = with_info s.regions r with_added_stake }
 
   share_alike : (r : Region) → is_live s.regions r ≡ true → (k : Holder)
-      → not_shared (slotted slot_of left) (slot slot_of r) ≡ Some k → Result (shared s g left r) k
+      → not_shared (slotted slot_of left) (slotted_region slot_of r) ≡ Some k → Result (shared s g left r) k
   share_alike GlobalRegion l k e =
       record { after = left; does = refl; same_offer = refl; slots = sym (same_Some (slotted slot_of left) k e) }
   share_alike (Numbered r) l k e = go (list_any (nat_eq r) h.pending) refl
@@ -196,14 +196,14 @@ module _ (code : Code) (slot_of : ℕ → ℕ) (s : RegionState) (fine : Fine co
       (subst (λ (es : List RegionEnvironment). not_removed (record left_slots { environments = es }) x.0 ≡ Some kept) (unbound_slots k) x.2)))
 
   end_alike : (r : Region) → d ≡ EndBase r → (kept : Holder)
-      → not_removed (record left_slots { base = removed_once (slot slot_of r) (map (slot slot_of) h.base) }) (slot slot_of r) ≡ Some kept
+      → not_removed (record left_slots { base = removed_once (slotted_region slot_of r) (map (slotted_region slot_of) h.base) }) (slotted_region slot_of r) ≡ Some kept
       → Result (duty_done s g left (EndBase r)) kept
   end_alike r is kept e =
       let l = named_live (EndBase r) is r refl in
       let b : AllLive slot_of s.regions differ h.base = base_live code s fine g h there in
       let after : Holder = record left { base = removed_once r h.base } in
       removal_alike after r refl l (removed_live slot_of s.regions differ r h.base b) all_protections kept
-      (subst (λ (bs : List Region). not_removed (record left_slots { base = bs }) (slot slot_of r) ≡ Some kept)
+      (subst (λ (bs : List Region). not_removed (record left_slots { base = bs }) (slotted_region slot_of r) ≡ Some kept)
       (removed_once_slot slot_of s.regions differ r h.base l b) e)
 
   by_duty : (e : Duty) → d ≡ e → (kept : Holder) → local_duty left_slots (slot_duty slot_of e) ≡ Some kept

@@ -11,7 +11,7 @@ use Rattle.rgo_sound.specs.Code.Checked.{IsChecked}
 use Rattle.rgo_sound.specs.Code.Code.{Branch, Call, Code, CodeInstr, CodeOp, Do, Go, Jump, Print, Return}
 use Rattle.rgo_sound.specs.Code.Erasure.{erased_op}
 use Rattle.rgo_sound.specs.RegionMachine.Duties.{attended, may_go}
-use Rattle.rgo_sound.specs.RegionMachine.Instructions.{child_holder, last_frames, marked, printed_if}
+use Rattle.rgo_sound.specs.RegionMachine.Instructions.{child_holder, last_frames, mark_with_end, printed_if}
 use Rattle.rgo_sound.specs.RegionMachine.Machine.{Attend, Event, Instruct, region_step}
 use Rattle.rgo_sound.specs.RegionMachine.Objects.{making_region}
 use Rattle.rgo_sound.specs.RegionMachine.Owed.{current, function_at, removes_behind}
@@ -19,14 +19,14 @@ use Rattle.rgo_sound.specs.RegionMachine.States.{Duty, Holder, RegionState, top_
 use Rattle.rgo_sound.proofs.steps.Acting.{Acted, after, end_by}
 use Rattle.rgo_sound.specs.Good.{AllGood}
 use Rattle.rgo_core_frames.specs.Fits.{RecordsFit, RecordFits, IsOfLive, IsPast, IsShown}
-use Rattle.rgo_core_frames.specs.Local.{local, local_by, local_duty, local_frames, local_instr, local_op}
-use Rattle.rgo_core_frames.specs.Constants.{ConstantsFit}
-use Rattle.rgo_core_frames.specs.LocalLaws.{LocalLaw, event_by, event_of, end_by_frames, end_of}
-use Rattle.rgo_core_frames.specs.Records.{Rec, after_op}
-use Rattle.rgo_core_frames.specs.Shown.{CallersShow, FramesShow, NewestShows}
-use Rattle.rgo_core_frames.specs.Slots.{slot_duties, slot_duty, slotted}
-use Rattle.rgo_core_frames.specs.Steps.{StaysElse, HasStep, RegionStepsTo, steps_after}
-use Rattle.rgo_core_frames.specs.WordFrames.{WordFrame, bare}
+use Rattle.rgo_core_frames.specs.steps.Local.{local, local_by, local_duty, local_frames, local_instr, local_op}
+use Rattle.rgo_core_frames.specs.shown.Constants.{ConstantsFit}
+use Rattle.rgo_core_frames.specs.steps.LocalLaws.{LocalLaw, event_by, event_of, end_by_frames, end_of}
+use Rattle.rgo_core_frames.specs.Records.{FramesRec, after_op}
+use Rattle.rgo_core_frames.specs.shown.Variables.{CallersShow, FramesShow, NewestShows}
+use Rattle.rgo_core_frames.specs.regions.Slots.{slot_duties, slot_duty, slotted}
+use Rattle.rgo_core_frames.specs.steps.Bookkept.{StaysElse, HasStep, RegionStepsTo, steps_after}
+use Rattle.rgo_core_frames.specs.shown.WordFrames.{WordFrame, bare}
 use Rattle.rgo_core_frames.proofs.regions.Bookkeeping.{current_alike, same_removes}
 use Rattle.rgo_core_frames.proofs.steps.Instructing.{IsReady, changes, done_state, instructs, next_holder, none_allotted, shown_after}
 use Rattle.rgo_core_frames.proofs.Keeping.{Changes, all_fit_kept}
@@ -67,8 +67,8 @@ no_end_owed zero x ds ws = refl
 no_end_owed (suc g) x ds ws = refl
 
 module _ (code : Code) (page_words : ℕ) (checked : IsChecked code) (constants : ConstantsFit code) (slot_of : ℕ → ℕ)
-    (addresses : List ℕ) (s : RegionState) (good : AllGood code s) (running : IsRunning s) (records : List Rec)
-    (all : RecordsFit code slot_of addresses s records) (g : ℕ) (c d : Rec) (is_c : slice_get records g ≡ Some c)
+    (addresses : List ℕ) (s : RegionState) (good : AllGood code s) (running : IsRunning s) (records : List FramesRec)
+    (all : RecordsFit code slot_of addresses s records) (g : ℕ) (c d : FramesRec) (is_c : slice_get records g ≡ Some c)
     (frames : List TacFrame) (h : Holder) (at : slice_get s.plain.goroutines g ≡ Some frames)
     (there : slice_get s.holders g ≡ Some h) (shown : IsShown code slot_of addresses frames h c) where
   abbrev hs : Holder
@@ -76,15 +76,15 @@ module _ (code : Code) (page_words : ℕ) (checked : IsChecked code) (constants 
 
   abbrev Steps : Event → Option End → Type 0
   Steps event end =
-      HasStep code page_words slot_of addresses s event s.regions (marked s.mark end) (slice_set records g d)
+      HasStep code page_words slot_of addresses s event s.regions (mark_with_end s.mark end) (slice_set records g d)
 
   -- from the step and what it leaves
   steps_to : (event : Event) (end : Option End) (t : RegionState) → region_step code page_words s event ≡ Some t
       → (frames' : List TacFrame) (h' : Holder) → Changes s t g frames' h' [] [] → (same : StaysElse s t)
-      → t.regions ≡ s.regions → t.mark ≡ marked s.mark end → t.steps ≡ steps_after s.steps event
+      → t.regions ≡ s.regions → t.mark ≡ mark_with_end s.mark end → t.steps ≡ steps_after s.steps event
       → IsShown code slot_of addresses frames' h' d → Steps event end
   steps_to event end t e frames' h' changes same regions mark counted shows =
-      has_step code page_words slot_of addresses s event s.regions (marked s.mark end) (slice_set records g d) t e
+      has_step code page_words slot_of addresses s event s.regions (mark_with_end s.mark end) (slice_set records g d) t e
       (all_fit_kept code slot_of addresses s t g frames h frames' h' at there changes same.memory regions same.owners
       records c d all is_c (inl shows)) same regions mark counted
 
@@ -162,8 +162,8 @@ module _ (code : Code) (page_words : ℕ) (checked : IsChecked code) (constants 
         (none_allotted page_words h (making_region (function_at code frame) (top_names h.environments) instr.op) s.plain g
         moved refl))
         a.next after_holder only_one stays refl
-        (ap (marked s.mark) (ends_alike code addresses g a.next next a.shown
-        ∙ ap (λ (r : Rec). end_by_frames g [] r.frames) d_is))
+        (ap (mark_with_end s.mark) (ends_alike code addresses g a.next next a.shown
+        ∙ ap (λ (r : FramesRec). end_by_frames g [] r.frames) d_is))
         refl
         (subst (IsShown code slot_of addresses a.next after_holder) d_is shows)
 
@@ -193,7 +193,7 @@ module _ (code : Code) (page_words : ℕ) (checked : IsChecked code) (constants 
         holders = sym (append-nil _);
       })
       (record { memory = refl; printed = refl; owners = refl; global_pages = refl }) refl
-      (sym (ap (marked s.mark) (no_end_owed g (slot_duty slot_of x) (slot_duties slot_of ds) d.frames)
+      (sym (ap (mark_with_end s.mark) (no_end_owed g (slot_duty slot_of x) (slot_duties slot_of ds) d.frames)
       ∙ mark_stays s.mark))
       refl
       (subst (IsShown code slot_of addresses frames z.after) y.2
@@ -215,7 +215,7 @@ module _ (code : Code) (page_words : ℕ) (checked : IsChecked code) (constants 
       (ap (λ (k : Holder). local_by code (record { frames = c.frames; holder = k }) k.duties) (sym shown.holder) ∙ e))
 
 -- a sender whose offer was taken has no local step
-past_stays : (code : Code) (slot_of : ℕ → ℕ) (addresses : List ℕ) (frames : List TacFrame) (h : Holder) (c d : Rec)
+past_stays : (code : Code) (slot_of : ℕ → ℕ) (addresses : List ℕ) (frames : List TacFrame) (h : Holder) (c d : FramesRec)
     → IsPast code slot_of addresses frames h c → local code c ≡ Some d → ⊥
 past_stays code slot_of addresses frames h c d p e =
     from p.shown.shown (ap (λ (ds : List Duty). local_by code c ds) (sym owes) ∙ e)
@@ -248,7 +248,7 @@ local_law x d constants e = go f.fits
     f = x.all.each x.g x.c x.is_c
 
     go : IsShown x.code x.slot_of x.addresses f.frames f.h x.c ⊎ IsPast x.code x.slot_of x.addresses f.frames f.h x.c
-        → RegionStepsTo x (event_of x.g x.c) x.s.regions (marked x.s.mark (end_of x.g x.c d)) (slice_set x.records x.g d)
+        → RegionStepsTo x (event_of x.g x.c) x.s.regions (mark_with_end x.s.mark (end_of x.g x.c d)) (slice_set x.records x.g d)
     go (inl shown) = shown_steps x.code x.page_words x.sound.checked constants x.slot_of x.addresses x.s x.sound.good
         x.sound.running x.records x.all x.g x.c d x.is_c f.frames f.h f.at f.there shown e
     go (inr past) = absurd (past_stays x.code x.slot_of x.addresses f.frames f.h x.c d past e)

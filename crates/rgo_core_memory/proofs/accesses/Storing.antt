@@ -8,7 +8,7 @@ use Rattle.rgo_sound.specs.Memory.Memory.{Object}
 use Rattle.rgo_sound.specs.RegionMachine.Objects.{object_words as words_of}
 use Rattle.rgo_sound.specs.RegionMachine.declared.regions.Region.{Region}
 use Rattle.rgo_core_memory.specs.declared.layout.TableSizes.{TableSizes}
-use Rattle.rgo_core_memory.specs.Words.{put, put_two, cell_at, variable_at}
+use Rattle.rgo_core_memory.specs.Words.{put_at, put_two, cell_at, variable_at}
 use Rattle.rgo_core_memory.specs.Encoding.{Spot, address, encode, content, ChangesWord}
 use Rattle.rgo_core_memory.specs.Records.{Rec}
 use Rattle.rgo_core_memory.specs.Ground.{Ground, IsLiveObject, stored, assigned}
@@ -151,7 +151,7 @@ module _ (z : TableSizes) (words : List ℕ) (recs : List Rec) (x : Ground) (pla
     -- a store of a package variable
     pub assigns : MemoryImage z (set words (variable_at z n) (code v)) recs (assigned x n v) places
     assigns = record {
-      w = record k.w { variable = put k.w.variable n (code v) };
+      w = record k.w { variable = put_at k.w.variable n (code v) };
       shows = writes_variable z words k.w k.shows n (code v) inside;
       lies = record {
         inside = k.lies.inside;

@@ -25,7 +25,7 @@ use Rattle.rgo_sound.specs.Good.{AllGood}
 use Rattle.rgo_sound.specs.Types.{FrameFits, FramesHaveKinds, HaveKinds, MemoryFits, ObjectFits}
 use Rattle.rgo_core_memory.specs.Accesses.{Before}
 use Rattle.rgo_core_memory.specs.Laws.{MemoryLoadLaw, LenLaw, GetLaw, StoreLaw, SetLaw, AtLaw, PutLaw}
-use Rattle.rgo_core_memory.specs.Image.{code_of}
+use Rattle.rgo_core_memory.specs.Image.{word_of_value}
 use Rattle.rgo_core_memory.proofs.accesses.Accesses.{store_keeps, set_keeps, put_keeps, load_reads, len_reads, get_reads, at_reads}
 use Rattle.rgo_core_memory.proofs.Rows.{below}
 use Rattle.rgo_core_memory.proofs.image.Stepped.{map_get}
@@ -140,7 +140,7 @@ load_law code z words recs s t g o n places checked all k e b =
     let f = fit code s g (action.Load n) (value.Object o ∷ []) checked all b in
     let x = go b.to f.kinds f.memory f.fn f.operands f.have f.fits in
     let y = load_reads code z words recs s t g o n x.2 x.0 places k e b x.1 x.3 in
-    (y.0 ∙ ap (code_of z places) (sym (ap (λ (q : Option Object). field_value q n) x.1 ∙ ap or_nil x.3)), y.1)
+    (y.0 ∙ ap (word_of_value z places) (sym (ap (λ (q : Option Object). field_value q n) x.1 ∙ ap or_nil x.3)), y.1)
   where
     go : (to : Option ℕ) (kinds : List «Type») → MemoryFits code kinds s.plain.memory → (fn : CodeFn) (operands : List «Type»)
         → HaveKinds kinds operands (value.Object o ∷ [])
@@ -155,7 +155,7 @@ len_law code z words recs s t g o places checked all k e b =
     let f = fit code s g action.Len (value.Object o ∷ []) checked all b in
     let x = go b.to f.kinds f.memory f.fn f.operands f.have f.fits in
     let y = len_reads code z words recs s t g o x.0 places k e b x.1 in
-    (y.0 ∙ ap (code_of z places) (sym (ap length_in x.1)), y.1)
+    (y.0 ∙ ap (word_of_value z places) (sym (ap length_in x.1)), y.1)
   where
     go : (to : Option ℕ) (kinds : List «Type») → MemoryFits code kinds s.plain.memory → (fn : CodeFn) (operands : List «Type»)
         → HaveKinds kinds operands (value.Object o ∷ [])
@@ -186,7 +186,7 @@ get_law code z words recs s t g n places checked all k e b =
     let f = fit code s g (action.Get n) [] checked all b in
     let x = go b.to f.kinds f.memory f.fn f.operands f.fits in
     let y = get_reads code z words recs s t g n x.0 places k e b x.1 in
-    (y.0 ∙ ap (code_of z places) (sym (ap or_nil x.1)), y.1)
+    (y.0 ∙ ap (word_of_value z places) (sym (ap or_nil x.1)), y.1)
   where
     go : (to : Option ℕ) (kinds : List «Type») → MemoryFits code kinds s.plain.memory → (fn : CodeFn) (operands : List «Type»)
         → DoFits (erased code) (erased_fn fn) to (action.Get n) operands → (u : Value) × (slice_get s.plain.memory.variables n ≡ Some u)

@@ -7,7 +7,7 @@ use Rattle.rgo_sound.proofs.Places.{get_append_left}
 use Rattle.rgo_core_memory.specs.declared.layout.TableSizes.{TableSizes}
 use Rattle.rgo_core_memory.specs.Records.{Fill, Rest, Amid, Idle, Got, Hung, Calm, Past, Gave, Rec, HasRecord, Within, Owns, Claims, ClosesSlot, ReturnsChain}
 use Rattle.rgo_core_memory.specs.Ground.{Ground, Held}
-use Rattle.rgo_core_memory.specs.Pages.{times}
+use Rattle.rgo_core_memory.specs.Pages.{occurrences}
 use Rattle.rgo_core_memory.specs.Parts.{StakeAt}
 use Rattle.rgo_core_memory.specs.Opening.{first_record}
 use Rattle.rgo_core_memory.specs.Image.{MemoryImage, Where}
@@ -141,14 +141,14 @@ module _ (z : TableSizes) (words : List ℕ) (recs : List Rec) (x : Ground) (pla
       pages = λ p f. k.taken.pages p (⊎_elim (λ l. inl l) (λ u. inr (
         u.0,
         u.1,
-        only (λ c. 0 < times p c.tried_pages) (λ v. omega
+        only (λ c. 0 < occurrences p c.tried_pages) (λ v. omega
             (arith, v)) u.0 u.1 u.2 u.3,
         u.3,
       )) f);
       slots = λ s l f. k.taken.slots s l (⊎_elim (λ q. inl q) (λ u. inr (
         u.0,
         u.1,
-        only (λ c. 0 < times s c.tried_slots) (λ v. omega
+        only (λ c. 0 < occurrences s c.tried_slots) (λ v. omega
             (arith, v)) u.0 u.1 u.2 u.3,
         u.3,
       )) f);

@@ -11,7 +11,7 @@ use Rattle.rgo_core_memory.specs.declared.layout.TableSizes.{TableSizes}
 use Rattle.rgo_core_memory.specs.Encoding.{Spot}
 use Rattle.rgo_core_memory.specs.Records.{Fill, Amid, Give, Rec, HasRecord, Within, Owns, Claims, ClosesSlot, ReturnsChain, dropped}
 use Rattle.rgo_core_memory.specs.Ground.{Held}
-use Rattle.rgo_core_memory.specs.Pages.{Place, Pages, times}
+use Rattle.rgo_core_memory.specs.Pages.{Place, Pages, occurrences}
 use Rattle.rgo_core_memory.specs.Parts.{Own, OwnPagesFilled, StakeAt, Use, Closing, SlotCounts, Taken, TriedPage, TriedSlot}
 use Rattle.rgo_core_memory.proofs.Rows.{at_set, set_here, set_else}
 use Rattle.rgo_core_memory.specs.Records.{Across, Reserved}
@@ -231,8 +231,8 @@ module _ (recs : List Rec) (g : ℕ) (c d : Rec) (own : HasRecord recs g c) wher
 
   module _ (z : TableSizes) (states counts : ℕ → ℕ) (takes creations : ℕ) (slot page : ℕ
       → ℕ) (k : Taken z states counts recs takes creations slot page) where
-    pub taken_fewer : ((p : ℕ) → 0 < times p d.tried_pages → 0 < times p c.tried_pages) → ((r : ℕ) → 0 < times r d.tried_slots
-        → 0 < times r c.tried_slots)
+    pub taken_fewer : ((p : ℕ) → 0 < occurrences p d.tried_pages → 0 < occurrences p c.tried_pages) → ((r : ℕ) → 0 < occurrences r d.tried_slots
+        → 0 < occurrences r c.tried_slots)
         → Taken z states counts new takes creations slot page
     taken_fewer pages slots = record {
       pages = λ p q. k.pages p (⊎_elim (λ u. inl u) (λ u. inr (tried p u)) q);
@@ -241,18 +241,18 @@ module _ (recs : List Rec) (g : ℕ) (c d : Rec) (own : HasRecord recs g c) wher
       where
         tried : (p : ℕ) → TriedPage new p → TriedPage recs p
         tried p u = ⊎_elim
-            (λ (t : (u.0 ≡ g) × (d ≡ u.1)). (g, c, own, pages p (subst (λ (y : Rec). 0 < times p y.tried_pages) (sym t.1) u.3)))
+            (λ (t : (u.0 ≡ g) × (d ≡ u.1)). (g, c, own, pages p (subst (λ (y : Rec). 0 < occurrences p y.tried_pages) (sym t.1) u.3)))
             (λ (t : (u.0 ≢ g) × HasRecord recs u.0 u.1). (u.0, u.1, t.1, u.3))
             (was u.0 u.1 u.2)
 
         tried_slot : (s : ℕ) → TriedSlot new s → TriedSlot recs s
         tried_slot s u = ⊎_elim
-            (λ (t : (u.0 ≡ g) × (d ≡ u.1)). (g, c, own, slots s (subst (λ (y : Rec). 0 < times s y.tried_slots) (sym t.1) u.3)))
+            (λ (t : (u.0 ≡ g) × (d ≡ u.1)). (g, c, own, slots s (subst (λ (y : Rec). 0 < occurrences s y.tried_slots) (sym t.1) u.3)))
             (λ (t : (u.0 ≢ g) × HasRecord recs u.0 u.1). (u.0, u.1, t.1, u.3))
             (was u.0 u.1 u.2)
 
     pub taken_same : d.tried_pages ≡ c.tried_pages → d.tried_slots ≡ c.tried_slots → Taken z states counts new takes creations slot page
-    taken_same pages slots = taken_fewer (λ p l. subst (λ (m : List ℕ). 0 < times p m) pages l) (λ r l. subst (λ (m : List ℕ). 0 < times r m) slots l)
+    taken_same pages slots = taken_fewer (λ p l. subst (λ (m : List ℕ). 0 < occurrences p m) pages l) (λ r l. subst (λ (m : List ℕ). 0 < occurrences r m) slots l)
 
   -- a record that is at work on no other page
   module _ (states nexts heads : ℕ → ℕ) (at : ℕ → Place) (chain : ℕ → List ℕ) (link top : ℕ

@@ -22,10 +22,10 @@ use Rattle.rgo_sound.proofs.Places.{get_append_last}
 use Rattle.rgo_sound.specs.Good.{AllGood}
 use Rattle.rgo_sound.specs.Tac.Steps.{destination_type}
 use Rattle.rgo_core_memory.specs.declared.layout.TableSizes.{TableSizes}
-use Rattle.rgo_core_memory.specs.Words.{put, cell_at}
-use Rattle.rgo_core_memory.specs.Encoding.{content, opening, IsPlain}
-use Rattle.rgo_core_memory.specs.Records.{Fill, Rest, Amid, Rec, HasRecord, Within, with_object}
-use Rattle.rgo_core_memory.specs.Ground.{Held, MayUseRegion, ground_of, held_of, made}
+use Rattle.rgo_core_memory.specs.Words.{put_at, cell_at}
+use Rattle.rgo_core_memory.specs.Encoding.{content, opening_word, IsPlain}
+use Rattle.rgo_core_memory.specs.Records.{Fill, Rest, Amid, Rec, HasRecord, Within, with_object_in_page}
+use Rattle.rgo_core_memory.specs.Ground.{Held, MayUseRegion, ground_of, held_of, made_in_page}
 use Rattle.rgo_core_memory.specs.Parts.{slot_of, RecordMakes, Covers}
 use Rattle.rgo_core_memory.specs.Image.{StateImage, Where}
 use Rattle.rgo_core_memory.specs.Accesses.{Before}
@@ -127,7 +127,7 @@ module _ (code : Code) (z : TableSizes) (words : List ℕ) (recs : List Rec) (s 
         go true q = sym (same_Some _ done.given q)
         go false q = cc
 
-    is : ground_of t ≡ made (ground_of s) g (held_of h) r object (f.fill + words_of object)
+    is : ground_of t ≡ made_in_page (ground_of s) g (held_of h) r object (f.fill + words_of object)
     is = done.ground ∙ λ i. record {
       heap = s.plain.memory.heap ++ object ∷ [];
       variables = s.plain.memory.variables;
@@ -137,11 +137,11 @@ module _ (code : Code) (z : TableSizes) (words : List ℕ) (recs : List Rec) (s 
       held = ap (λ (y : Holder × List Region). slice_set (map held_of s.holders) g (held_of y.0)) given i;
     }
 
-    allocates : StateImage z (set words (cell_at z f.page (f.fill + i)) (opening (content object i))) (slice_set recs g (with_object c f.slot
+    allocates : StateImage z (set words (cell_at z f.page (f.fill + i)) (opening_word (content object i))) (slice_set recs g (with_object_in_page c f.slot
         (f.fill + words_of object))) t
         (record places {
-          spot = put places.spot (length s.plain.memory.heap) (λ i. record { page = f.page; offset = f.fill + i });
-          start = put places.start (length s.plain.memory.heap) (record { page = f.page; offset = f.fill });
+          spot = put_at places.spot (length s.plain.memory.heap) (λ i. record { page = f.page; offset = f.fill + i });
+          start = put_at places.start (length s.plain.memory.heap) (record { page = f.page; offset = f.fill });
         })
     allocates = image_of is (object_made z words recs (ground_of s) places k (steady_of code s all) g c own f object stored makes i small covers
         (held_of h) (map_get held_of s.holders g h hold) r used slotted)
@@ -206,8 +206,8 @@ module _ (code : Code) (z : TableSizes) (words : List ℕ) (recs : List Rec) (s 
         (spread_spot z.page_words object c.reserved.pages i).offset) (spread_opening object c.reserved.pages i))
         (slice_set recs g (with_object_apart c)) t
         (record places {
-          spot = put places.spot (length s.plain.memory.heap) (spread_spot z.page_words object c.reserved.pages);
-          start = put places.start (length s.plain.memory.heap) (lead_spot c.reserved.pages 0);
+          spot = put_at places.spot (length s.plain.memory.heap) (spread_spot z.page_words object c.reserved.pages);
+          start = put_at places.start (length s.plain.memory.heap) (lead_spot c.reserved.pages 0);
         })
     allocates_apart = image_of is_made (object_made_apart z words recs (ground_of s) places k (steady_of code s all) g c own
         object stored makes i small covers (held_of h) (map_get held_of s.holders g h hold) r used_apart slotted)

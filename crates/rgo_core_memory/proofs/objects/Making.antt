@@ -10,10 +10,10 @@ use Rattle.rgo_sound.specs.RegionMachine.declared.regions.Region.{Region}
 use Rattle.rgo_sound.specs.RegionMachine.declared.regions.Region.TheVariants.{Numbered}
 use Rattle.rgo_sound.proofs.Tests.{split, eq_of}
 use Rattle.rgo_core_memory.specs.declared.layout.TableSizes.{TableSizes}
-use Rattle.rgo_core_memory.specs.Words.{put, cell_at}
-use Rattle.rgo_core_memory.specs.Encoding.{Spot, address, encode, content, IsPlain, opening}
-use Rattle.rgo_core_memory.specs.Records.{Fill, Rest, Amid, Rec, HasRecord, Within, Owns, raised, with_word, with_object}
-use Rattle.rgo_core_memory.specs.Ground.{Ground, Held, IsLiveObject, MayUseRegion, Steady, made}
+use Rattle.rgo_core_memory.specs.Words.{put_at, cell_at}
+use Rattle.rgo_core_memory.specs.Encoding.{Spot, address, encode, content, IsPlain, opening_word}
+use Rattle.rgo_core_memory.specs.Records.{Fill, Rest, Amid, Rec, HasRecord, Within, Owns, raised, with_word, with_object_in_page}
+use Rattle.rgo_core_memory.specs.Ground.{Ground, Held, IsLiveObject, MayUseRegion, Steady, made_in_page}
 use Rattle.rgo_core_memory.specs.Parts.{Lies, Own, Amidst, slot_of, RecordMakes, Covers}
 use Rattle.rgo_core_memory.specs.Image.{MemoryImage, Where}
 use Rattle.rgo_core_memory.proofs.image.Frames.{content_below}
@@ -90,7 +90,7 @@ module _ (z : TableSizes) (words : List ℕ) (recs : List Rec) (x : Ground) (pla
   many = f.fill + words_of object
 
   abbrev d : Rec
-  d = with_object c f.slot many
+  d = with_object_in_page c f.slot many
 
   abbrev recs2 : List Rec
   recs2 = slice_set recs g d
@@ -105,10 +105,10 @@ module _ (z : TableSizes) (words : List ℕ) (recs : List Rec) (x : Ground) (pla
   owners = x.owners ++ r ∷ []
 
   abbrev spot : ℕ → ℕ → Spot
-  spot = put places.spot n (λ i. record { page = f.page; offset = f.fill + i })
+  spot = put_at places.spot n (λ i. record { page = f.page; offset = f.fill + i })
 
   abbrev start : ℕ → Spot
-  start = put places.start n (record { page = f.page; offset = f.fill })
+  start = put_at places.start n (record { page = f.page; offset = f.fill })
 
   begun : Within f c.fills × Amidst z k.w.cell f object stored
   begun = k.own.amids g c f object stored own make
@@ -178,7 +178,7 @@ module _ (z : TableSizes) (words : List ℕ) (recs : List Rec) (x : Ground) (pla
         → Spot). k.w.cell (y i).page (y i).offset ≡ encode (address z start) v) (sym (new_spot o t.0))
         (let u : content object i ≡ Some v = ap (λ (y : Object). content y i) t.1 ∙ e in
         let l = content_below object i v u in
-        begun.1.laid i l (covers i l) ∙ (ap opening u ∙ plain_code (λ o. 0) (address z start) v (begun.1.plain i v u))))
+        begun.1.laid i l (covers i l) ∙ (ap opening_word u ∙ plain_code (λ o. 0) (address z start) v (begun.1.plain i v u))))
         (which o ob q s);
     apart = λ o p i j ob ob2 q q2 s s2 l l2 a b. ⊎_elim
         (λ (t : (o < n) × IsLiveObject x.heap x.owners x.regions o ob q). ⊎_elim
@@ -370,7 +370,7 @@ module _ (z : TableSizes) (words : List ℕ) (recs : List Rec) (x : Ground) (pla
   }
 
   -- all words stand: the object is made
-  pub object_stands : MemoryImage z words recs2 (made x g h r object many) (record places { spot = spot; start = start })
+  pub object_stands : MemoryImage z words recs2 (made_in_page x g h r object many) (record places { spot = spot; start = start })
   object_stands = record {
     w = k.w;
     shows = k.shows;
@@ -391,20 +391,20 @@ pub object_made : (z : TableSizes) (words : List ℕ) (recs : List Rec) (x : Gro
     → (g : ℕ) (c : Rec) → HasRecord recs g c
     → (f : Fill) (object : Object) (stored : List ℕ) → RecordMakes z c f object stored → (i : ℕ) → i < words_of object → Covers object (i ∷ stored)
     → (h : Held) → slice_get x.held g ≡ Some h → (r : Region) → MayUseRegion h r → slot_of z places.slot r ≡ f.slot
-    → MemoryImage z (set words (cell_at z f.page (f.fill + i)) (opening (content object i))) (slice_set recs g (with_object c f.slot
-    (f.fill + words_of object))) (made x g h r object (f.fill + words_of object))
+    → MemoryImage z (set words (cell_at z f.page (f.fill + i)) (opening_word (content object i))) (slice_set recs g (with_object_in_page c f.slot
+    (f.fill + words_of object))) (made_in_page x g h r object (f.fill + words_of object))
     (record places {
-      spot = put places.spot (length x.heap) (λ i. record { page = f.page; offset = f.fill + i });
-      start = put places.start (length x.heap) (record { page = f.page; offset = f.fill });
+      spot = put_at places.spot (length x.heap) (λ i. record { page = f.page; offset = f.fill + i });
+      start = put_at places.start (length x.heap) (record { page = f.page; offset = f.fill });
     })
 object_made z words recs x places k steady g c own f object stored makes i small covers h hold r used slotted =
     let half : Rec = with_word c f object (i ∷ stored) in
     let k1 = word_stored z words recs x places k g c own f object stored makes i small in
-    let k2 = object_stands z (set words (cell_at z f.page (f.fill + i)) (opening (content object i)))
+    let k2 = object_stands z (set words (cell_at z f.page (f.fill + i)) (opening_word (content object i)))
     (slice_set recs g half) x places k1 steady g half (set_here recs g half c own) f object (i ∷ stored) refl covers h hold r used slotted in
-    subst (λ (l : List Rec). MemoryImage z (set words (cell_at z f.page (f.fill + i)) (opening (content object i))) l (made x g h r object
+    subst (λ (l : List Rec). MemoryImage z (set words (cell_at z f.page (f.fill + i)) (opening_word (content object i))) l (made_in_page x g h r object
     (f.fill + words_of object)) (record places {
-      spot = put places.spot (length x.heap) (λ i. record { page = f.page; offset = f.fill + i });
-      start = put places.start (length x.heap) (record { page = f.page; offset = f.fill });
+      spot = put_at places.spot (length x.heap) (λ i. record { page = f.page; offset = f.fill + i });
+      start = put_at places.start (length x.heap) (record { page = f.page; offset = f.fill });
     }))
-    (set_twice recs g half (with_object c f.slot (f.fill + words_of object))) k2
+    (set_twice recs g half (with_object_in_page c f.slot (f.fill + words_of object))) k2

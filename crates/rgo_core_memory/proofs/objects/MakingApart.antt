@@ -12,8 +12,8 @@ use Rattle.rgo_sound.specs.RegionMachine.declared.regions.Region.{Region}
 use Rattle.rgo_sound.specs.RegionMachine.declared.regions.Region.TheVariants.{Numbered}
 use Rattle.rgo_sound.proofs.Machine.Items.{set_twice}
 use Rattle.rgo_core_memory.specs.declared.layout.TableSizes.{TableSizes}
-use Rattle.rgo_core_memory.specs.Words.{put, cell_at}
-use Rattle.rgo_core_memory.specs.Encoding.{Spot, address, encode, content, opening}
+use Rattle.rgo_core_memory.specs.Words.{put_at, cell_at}
+use Rattle.rgo_core_memory.specs.Encoding.{Spot, address, encode, content, opening_word}
 use Rattle.rgo_core_memory.specs.Records.{Across, Amid, Fill, HasRecord, Owns, Rec, Rest, Within, with_object_apart, with_word_apart}
 use Rattle.rgo_core_memory.specs.Ground.{Ground, Held, IsLiveObject, Steady, MayUseRegion, made_apart}
 use Rattle.rgo_core_memory.specs.Parts.{CoversApart, Lies, MakesApart, Own, SpreadOver, Strewn, slot_of}
@@ -53,10 +53,10 @@ module _ (z : TableSizes) (words : List ℕ) (recs : List Rec) (x : Ground) (pla
   at = spread_spot z.page_words object c.reserved.pages
 
   abbrev spot : ℕ → ℕ → Spot
-  spot = put places.spot n at
+  spot = put_at places.spot n at
 
   abbrev start : ℕ → Spot
-  start = put places.start n (lead_spot c.reserved.pages 0)
+  start = put_at places.start n (lead_spot c.reserved.pages 0)
 
   begun : Strewn z k.w.cell c.reserved.pages object stored
   begun = k.own.apart.strewn g c object stored own make
@@ -120,14 +120,14 @@ module _ (z : TableSizes) (words : List ℕ) (recs : List Rec) (x : Ground) (pla
       → k.w.cell (at i).page (at i).offset ≡ spread_opening object c.reserved.pages i
   holds i l = begun.laid i l (covers i l)
 
-  word_opening : (i : ℕ) → i < words_of object → spread_opening object c.reserved.pages i ≡ opening (content object i)
-  word_opening i l = ap (λ b. if b then opening (content object i) else
+  word_opening : (i : ℕ) → i < words_of object → spread_opening object c.reserved.pages i ≡ opening_word (content object i)
+  word_opening i l = ap (λ b. if b then opening_word (content object i) else
       suc (slice_index c.reserved.pages (i - words_of object + 1))) (lt_test i (words_of object) l)
 
   number_opening : (j : ℕ) → spread_opening object c.reserved.pages (words_of object + j)
       ≡ suc (slice_index c.reserved.pages (suc j))
   number_opening j =
-      ap (λ b. if b then opening (content object (words_of object + j)) else
+      ap (λ b. if b then opening_word (content object (words_of object + j)) else
       suc (slice_index c.reserved.pages (words_of object + j - words_of object + 1)))
       (ge_test (words_of object + j) (words_of object) (omega arith))
       ∙ ap (λ m. suc (slice_index c.reserved.pages m)) (minus (words_of object) j)
@@ -164,7 +164,7 @@ module _ (z : TableSizes) (words : List ℕ) (recs : List Rec) (x : Ground) (pla
         (let u : content object i ≡ Some v = ap (λ (y : Object). content y i) t.1 ∙ e in
         let l = content_below object i v u in
         holds i (in_table z.page_words object i l)
-        ∙ (word_opening i l ∙ (ap opening u ∙ plain_code (λ o. 0) (address z start) v (begun.plain i v u)))))
+        ∙ (word_opening i l ∙ (ap opening_word u ∙ plain_code (λ o. 0) (address z start) v (begun.plain i v u)))))
         (which o ob q s);
     apart = λ o p i j ob ob2 q q2 s s2 l l2 a b. ⊎_elim
         (λ (t : (o < n) × IsLiveObject x.heap x.owners x.regions o ob q). ⊎_elim
@@ -323,8 +323,8 @@ pub object_made_apart : (z : TableSizes) (words : List ℕ) (recs : List Rec) (x
     (spread_spot z.page_words object c.reserved.pages i).offset) (spread_opening object c.reserved.pages i))
     (slice_set recs g (with_object_apart c)) (made_apart x g h r object)
     (record places {
-      spot = put places.spot (length x.heap) (spread_spot z.page_words object c.reserved.pages);
-      start = put places.start (length x.heap) (lead_spot c.reserved.pages 0);
+      spot = put_at places.spot (length x.heap) (spread_spot z.page_words object c.reserved.pages);
+      start = put_at places.start (length x.heap) (lead_spot c.reserved.pages 0);
     })
 object_made_apart z words recs x places k steady g c own object stored makes i small covers h hold r used slotted =
     let half : Rec = with_word_apart c object (i ∷ stored) in
@@ -335,7 +335,7 @@ object_made_apart z words recs x places k steady g c own object stored makes i s
     (i ∷ stored) refl covers h hold r used slotted in
     subst (λ (l : List Rec). MemoryImage z stored2 l (made_apart x g h r object)
     (record places {
-      spot = put places.spot (length x.heap) (spread_spot z.page_words object c.reserved.pages);
-      start = put places.start (length x.heap) (lead_spot c.reserved.pages 0);
+      spot = put_at places.spot (length x.heap) (spread_spot z.page_words object c.reserved.pages);
+      start = put_at places.start (length x.heap) (lead_spot c.reserved.pages 0);
     }))
     (set_twice recs g half (with_object_apart c)) k2

@@ -12,7 +12,7 @@ use Rattle.rgo_core_memory.specs.Words.{put_two, cell_at}
 use Rattle.rgo_core_memory.specs.Encoding.{Spot, content, IsPlain}
 use Rattle.rgo_core_memory.specs.Records.{Across, Amid, Fill, HasRecord, Owns, Rec, Reserved, Rest, Within, with_word_apart}
 use Rattle.rgo_core_memory.specs.Ground.{Ground}
-use Rattle.rgo_core_memory.specs.Pages.{times}
+use Rattle.rgo_core_memory.specs.Pages.{occurrences}
 use Rattle.rgo_core_memory.specs.Parts.{Lies, MakesApart, Own, Strewn}
 use Rattle.rgo_core_memory.specs.Image.{MemoryImage, Where}
 use Rattle.rgo_core_memory.specs.Spread.{spread_spot, spread_opening, table_words}
@@ -37,7 +37,7 @@ module _ (z : TableSizes) (words : List ℕ) (recs : List Rec) (x : Ground) (pla
         small = e.3;
         many = e.4;
         plain = e.5;
-        laid = λ i l y. absurd (let n : times i stored ≡ 0 = ap (times i) e.1 in omega (arith, n, y));
+        laid = λ i l y. absurd (let n : occurrences i stored ≡ 0 = ap (occurrences i) e.1 in omega (arith, n, y));
       })
       makes
 

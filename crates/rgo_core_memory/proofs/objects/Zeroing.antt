@@ -7,10 +7,10 @@ use Rattle.rgo_sound.specs.Memory.Memory.{Object}
 use Rattle.rgo_sound.specs.RegionMachine.Objects.{object_words as words_of}
 use Rattle.rgo_core_memory.specs.declared.layout.TableSizes.{TableSizes}
 use Rattle.rgo_core_memory.specs.Words.{put_two, cell_at}
-use Rattle.rgo_core_memory.specs.Encoding.{content, IsPlain, opening}
+use Rattle.rgo_core_memory.specs.Encoding.{content, IsPlain, opening_word}
 use Rattle.rgo_core_memory.specs.Records.{Fill, Rest, Amid, Rec, HasRecord, Within, Owns, with_word}
 use Rattle.rgo_core_memory.specs.Ground.{Ground}
-use Rattle.rgo_core_memory.specs.Pages.{times}
+use Rattle.rgo_core_memory.specs.Pages.{occurrences}
 use Rattle.rgo_core_memory.specs.Parts.{Lies, Own, Amidst, RecordMakes}
 use Rattle.rgo_core_memory.specs.Image.{MemoryImage, Where}
 use Rattle.rgo_core_memory.proofs.pages.Chains.{times_else}
@@ -33,7 +33,7 @@ module _ (z : TableSizes) (words : List ℕ) (recs : List Rec) (x : Ground) (pla
       (λ e. k.own.amids g c f object stored own e)
       (λ (e : (c.make ≡ Rest) × (stored ≡ []) × Within f c.fills × (f.fill + words_of object ≤ z.page_words) × ((i : ℕ) (v : Value)
       → content object i ≡ Some v → IsPlain v)).
-      (e.2, record { fits = e.3; plain = e.4; laid = λ i l y. absurd (let n : times i stored ≡ 0 = ap (times i) e.1 in omega arith) }))
+      (e.2, record { fits = e.3; plain = e.4; laid = λ i l y. absurd (let n : occurrences i stored ≡ 0 = ap (occurrences i) e.1 in omega arith) }))
       makes
 
   owner : Owns recs g f
@@ -41,7 +41,7 @@ module _ (z : TableSizes) (words : List ℕ) (recs : List Rec) (x : Ground) (pla
 
   module _ (i : ℕ) (small : i < words_of object) where
     abbrev word : ℕ
-    word = opening (content object i)
+    word = opening_word (content object i)
 
     abbrev cell : ℕ → ℕ → ℕ
     cell = put_two k.w.cell f.page (f.fill + i) word
@@ -157,7 +157,7 @@ module _ (z : TableSizes) (words : List ℕ) (recs : List Rec) (x : Ground) (pla
           plain = begun.1.plain;
           laid = λ n l u. dite (ℕ_discrete n i)
               (λ e. two_here k.w.cell f.page (f.fill + i) word f.page (f.fill + n) refl (omega (arith, e))
-              ∙ ap (λ (m : ℕ). opening (content object m)) (sym e))
+              ∙ ap (λ (m : ℕ). opening_word (content object m)) (sym e))
               (λ ne. two_else k.w.cell f.page (f.fill + i) word f.page (f.fill + n) (λ a b. ne (omega arith))
               ∙ begun.1.laid n l (let t = times_else n i stored (λ y. ne (sym y)) in omega arith));
         }

@@ -6,11 +6,11 @@ use Rattle.rgo_sound.specs.Memory.Memory.{Object}
 use Rattle.rgo_sound.specs.RegionMachine.Regions.{RegionInfo}
 use Rattle.rgo_sound.specs.RegionMachine.declared.regions.Region.{Region}
 use Rattle.rgo_core_memory.specs.declared.layout.TableSizes.{TableSizes}
-use Rattle.rgo_core_memory.specs.Words.{ListHasWords, put, state_at, next_at, head_at}
+use Rattle.rgo_core_memory.specs.Words.{ListHasWords, put_at, state_at, next_at, head_at}
 use Rattle.rgo_core_memory.specs.Encoding.{Spot}
 use Rattle.rgo_core_memory.specs.Records.{Fill, PageClaim, Idle, Got, Hung, Give, Owes, Giving, Past, Gave, Rec, HasRecord, Within, Owns, Claims, ClosesSlot, ReturnsChain, with_claim, with_give}
 use Rattle.rgo_core_memory.specs.Ground.{Ground, IsLiveObject, Steady}
-use Rattle.rgo_core_memory.specs.Pages.{Free, Chained, Pages, times}
+use Rattle.rgo_core_memory.specs.Pages.{Free, Chained, Pages, occurrences}
 use Rattle.rgo_core_memory.specs.Parts.{Own, slot_of, StakeAt, Vacant, Living, Closing, SlotCounts, Taken}
 use Rattle.rgo_core_memory.specs.Image.{MemoryImage, Where}
 use Rattle.rgo_core_memory.proofs.pages.Chains.{hangs, stores_next, times_first}
@@ -30,7 +30,7 @@ own_freed : (z : TableSizes) (states : ℕ → ℕ) (cell : ℕ → ℕ → ℕ)
     → (p r : ℕ) → states p ≡ suc r → ((o : ℕ) (object : Object) (q : Region) → IsLiveObject heap owners regions o object q → slot_of z slot q ≢ r)
     → ((g : ℕ) (f : Fill) → Owns recs g f → f.slot ≢ r)
     → ((g q : ℕ) (c : Rec) → HasRecord recs g c → Within q c.reserved.pages → c.reserved.slot ≢ r)
-    → Own z (put states p 0) cell recs heap owners regions slot spot
+    → Own z (put_at states p 0) cell recs heap owners regions slot spot
 own_freed z states cell recs heap owners regions slot spot k p r found dead left unreserved = record {
   ranged = λ q l. dite (ℕ_discrete q p)
       (λ e. absurd (let y = put_here states p 0 q e in omega arith))
@@ -54,11 +54,11 @@ own_freed z states cell recs heap owners regions slot spot k p r found dead left
   };
 }
   where
-    stays : (q s : ℕ) → s ≢ r → states q ≡ suc s → put states p 0 q ≡ suc s
+    stays : (q s : ℕ) → s ≢ r → states q ≡ suc s → put_at states p 0 q ≡ suc s
     stays q s ne e = put_else states p 0 q (λ y. ne (let v : states q ≡ suc r = ap states y ∙ found in omega arith)) ∙ e
 
 taken_freed : (z : TableSizes) (states counts : ℕ → ℕ) (recs : List Rec) (takes creations : ℕ) (slot page : ℕ → ℕ) (p : ℕ)
-    → Taken z states counts recs takes creations slot page → Taken z (put states p 0) counts recs takes creations slot page
+    → Taken z states counts recs takes creations slot page → Taken z (put_at states p 0) counts recs takes creations slot page
 taken_freed z states counts recs takes creations slot page p k = record {
   pages = λ q f. k.pages q (⊎_elim
       (λ l. inl (dite (ℕ_discrete q p) (λ e. absurd (let y = put_here states p 0 q e in omega arith)) (λ n. subst (λ (m : ℕ). 0 < m)
@@ -70,7 +70,7 @@ taken_freed z states counts recs takes creations slot page p k = record {
 module _ (z : TableSizes) (words : List ℕ) (recs : List Rec) (x : Ground) (places : Where) (k : MemoryImage z words recs x places) (steady : Steady x)
     (g : ℕ) (c : Rec) (own : HasRecord recs g c) where
   -- another head of a chain that is not vacant
-  top_counts : (r h : ℕ) → places.uses r ≢ Vacant → SlotCounts z k.w.count (put places.top r h) recs x.regions places.slot places.uses
+  top_counts : (r h : ℕ) → places.uses r ≢ Vacant → SlotCounts z k.w.count (put_at places.top r h) recs x.regions places.slot places.uses
   top_counts r h n = record {
     global = k.counts.global;
     vacant = λ s l e. let t = k.counts.vacant s l e in (t.0, put_else places.top r h s (λ q. n (ap places.uses (sym q) ∙ e)) ∙ t.1);
@@ -81,7 +81,7 @@ module _ (z : TableSizes) (words : List ℕ) (recs : List Rec) (x : Ground) (pla
   }
 
   -- the same beyond the slots of regions
-  top_global : (h : ℕ) → SlotCounts z k.w.count (put places.top z.slots h) recs x.regions places.slot places.uses
+  top_global : (h : ℕ) → SlotCounts z k.w.count (put_at places.top z.slots h) recs x.regions places.slot places.uses
   top_global h = record {
     global = k.counts.global;
     vacant = λ s l e. let t = k.counts.vacant s l e in (t.0, put_else places.top z.slots h s (λ q. omega arith) ∙ t.1);
@@ -91,9 +91,9 @@ module _ (z : TableSizes) (words : List ℕ) (recs : List Rec) (x : Ground) (pla
     closes = k.counts.closes;
   }
 
-  stake_top : (r h : ℕ) → StakeAt z x.held places.slot g r → SlotCounts z k.w.count (put places.top r h) recs x.regions places.slot places.uses
+  stake_top : (r h : ℕ) → StakeAt z x.held places.slot g r → SlotCounts z k.w.count (put_at places.top r h) recs x.regions places.slot places.uses
   stake_top r h st = ⊎_elim
-      (λ (e : r ≡ z.slots). subst (λ (n : ℕ). SlotCounts z k.w.count (put places.top n h) recs x.regions places.slot places.uses) (sym e) (top_global h))
+      (λ (e : r ≡ z.slots). subst (λ (n : ℕ). SlotCounts z k.w.count (put_at places.top n h) recs x.regions places.slot places.uses) (sym e) (top_global h))
       (λ (u : (m : ℕ) × (r < z.slots) × (places.uses r ≡ Living m)). top_counts r h (λ q. let y : Living u.0 ≡ Vacant = sym u.2 ∙ q in cc y))
       (stake_slot z words recs x places k steady g r st)
 
@@ -107,11 +107,11 @@ module _ (z : TableSizes) (words : List ℕ) (recs : List Rec) (x : Ground) (pla
   pub hung : (p r : ℕ) → c.claim ≡ Got p r
       → MemoryImage z (set words (head_at z r) (suc p)) (slice_set recs g (with_claim c (Hung p r (slice_index words (head_at z r))))) x
       (record places {
-        at = put places.at p (Chained r);
-        chain = put places.chain r (p ∷ places.chain r);
-        link = put places.link p
+        at = put_at places.at p (Chained r);
+        chain = put_at places.chain r (p ∷ places.chain r);
+        link = put_at places.link p
             (slice_index words (head_at z r));
-        top = put places.top r (suc p);
+        top = put_at places.top r (suc p);
       })
   hung p r before =
       let st : StakeAt z x.held places.slot g r = k.filled.claims g r c own (subst (λ (v : PageClaim). Claims v r) (sym before) refl) in
@@ -119,15 +119,15 @@ module _ (z : TableSizes) (words : List ℕ) (recs : List Rec) (x : Ground) (pla
       let found : old ≡ k.w.head r = k.shows.head r (stake_below r st) in
       let d : Rec = with_claim c (Hung p r old) in
       record {
-        w = record k.w { head = put k.w.head r (suc p) };
+        w = record k.w { head = put_at k.w.head r (suc p) };
         shows = writes_head z words k.w k.shows r (suc p) (stake_below r st);
         lies = k.lies;
         own = own_same recs g c d own z k.w.state k.w.cell x.heap x.owners x.regions places.slot places.spot k.own refl refl refl;
         filled = filled_same recs g c d own z x.held (length x.regions) places.slot k.filled refl refl (λ s q. subst (λ
             (n : ℕ). StakeAt z x.held places.slot g n) q st);
-        counts = counts_calm recs g c d own z k.w.count (put places.top r (suc p)) x.regions places.slot places.uses (stake_top r (suc p) st) refl;
-        pages = subst (λ (n : ℕ). Pages k.w.state k.w.next (put k.w.head r (suc p)) (slice_set recs g d) (put places.at p (Chained r))
-            (put places.chain r (p ∷ places.chain r)) (put places.link p n) (put places.top r (suc p))) (sym found)
+        counts = counts_calm recs g c d own z k.w.count (put_at places.top r (suc p)) x.regions places.slot places.uses (stake_top r (suc p) st) refl;
+        pages = subst (λ (n : ℕ). Pages k.w.state k.w.next (put_at k.w.head r (suc p)) (slice_set recs g d) (put_at places.at p (Chained r))
+            (put_at places.chain r (p ∷ places.chain r)) (put_at places.link p n) (put_at places.top r (suc p))) (sym found)
             (hangs k.w.state k.w.next k.w.head recs places.at places.chain places.link places.top k.pages g c d own refl p r before (ap
             (Hung p r) found)
             (λ j y e q. stake_open z words recs x places k steady g j r y st e q));
@@ -142,7 +142,7 @@ module _ (z : TableSizes) (words : List ℕ) (recs : List Rec) (x : Ground) (pla
       let at = (k.pages.hungs g p r o c own before).0 in
       let state = (k.pages.is_chained p r at).0 in
       record {
-        w = record k.w { next = put k.w.next p o };
+        w = record k.w { next = put_at k.w.next p o };
         shows = writes_next z words k.w k.shows p o (k.own.ranged p (omega (arith, state)));
         lies = k.lies;
         own = own_same recs g c d own z k.w.state k.w.cell x.heap x.owners x.regions places.slot places.spot k.own refl refl refl;
@@ -167,7 +167,7 @@ module _ (z : TableSizes) (words : List ℕ) (recs : List Rec) (x : Ground) (pla
 
     pub first_at : (p : ℕ) → places.top r ≡ suc p → places.at p ≡ Chained r
     first_at p e = let f = first_is k.w.state k.w.next k.w.head recs places.at places.chain places.link places.top k.pages g c c own refl r p e in
-        k.pages.on r p (subst (λ (l : List ℕ). 0 < times p l) (sym f.1) (let t = times_first p p f.0 refl in omega arith))
+        k.pages.on r p (subst (λ (l : List ℕ). 0 < occurrences p l) (sym f.1) (let t = times_first p p f.0 refl in omega arith))
 
     -- a page of a slot that is closed has no object in it, and is nobody's own
     dead : (o : ℕ) (object : Object) (q : Region) → IsLiveObject x.heap x.owners x.regions o object q → slot_of z places.slot q ≢ r
@@ -249,14 +249,14 @@ module _ (z : TableSizes) (words : List ℕ) (recs : List Rec) (x : Ground) (pla
   head_cleared r before =
       let closes = closes_by r (Giving r 0) before refl in
       with_heads r closes (Gave r) (λ s q. by_closes s (Giving r 0) before q) (λ s q. closes_by s (Giving r 0) before q) (set words
-      (head_at z r) 0) (put k.w.head r 0)
+      (head_at z r) 0) (put_at k.w.head r 0)
       (writes_head z words k.w k.shows r 0 (in_heads r closes))
       (clears_head k.w.state k.w.next k.w.head recs places.at places.chain places.link places.top k.pages g c (with_give c (Gave r)) own refl r
       (alone r closes) before refl)
 
   -- a page is freed
   pub page_freed : (r p q : ℕ) → c.give ≡ Past r (suc p) q → MemoryImage z (set words (state_at z p) 0) (slice_set recs g (with_give c (Giving r q))) x
-      (record places { at = put places.at p Free; chain = put places.chain r (drop 1 (places.chain r)); top = put places.top r q })
+      (record places { at = put_at places.at p Free; chain = put_at places.chain r (drop 1 (places.chain r)); top = put_at places.top r q })
   page_freed r p q before =
       let closes = closes_by r (Past r (suc p) q) before refl in
       let d : Rec = with_give c (Giving r q) in
@@ -268,7 +268,7 @@ module _ (z : TableSizes) (words : List ℕ) (recs : List Rec) (x : Ground) (pla
       let uses = (closing r closes).1 in
       let own2 = own_same recs g c d own z k.w.state k.w.cell x.heap x.owners x.regions places.slot places.spot k.own refl refl refl in
       record {
-        w = record k.w { state = put k.w.state p 0 };
+        w = record k.w { state = put_at k.w.state p 0 };
         shows = writes_state z words k.w k.shows p 0 (k.own.ranged p (omega (arith, state)));
         lies = k.lies;
         own = own_freed z k.w.state k.w.cell (slice_set recs g d) x.heap x.owners x.regions places.slot places.spot own2 p r state (dead r closes)
@@ -282,11 +282,11 @@ module _ (z : TableSizes) (words : List ℕ) (recs : List Rec) (x : Ground) (pla
             (λ (t : (j ≢ g) × HasRecord recs j y). unreserved r closes j m y t.1 w)
             (was recs g c d own j y e));
         filled = filled_same recs g c d own z x.held (length x.regions) places.slot k.filled refl refl (same_claims r closes);
-        counts = counts_same recs g c d own z k.w.count (put places.top r q) x.regions places.slot places.uses
+        counts = counts_same recs g c d own z k.w.count (put_at places.top r q) x.regions places.slot places.uses
             (top_counts r q (λ e. let y : Closing g ≡ Vacant = sym uses ∙ e in cc y))
             (λ s w. by_closes s (Past r (suc p) q) before w) (λ s w. closes_by s (Past r (suc p) q) before w);
-        pages = subst (λ (l : List ℕ). Pages (put k.w.state p 0) k.w.next k.w.head (slice_set recs g d) (put places.at p Free)
-            (put places.chain r l) places.link (put places.top r q)) (sym (ap (drop 1) freed.1)) freed.2;
+        pages = subst (λ (l : List ℕ). Pages (put_at k.w.state p 0) k.w.next k.w.head (slice_set recs g d) (put_at places.at p Free)
+            (put_at places.chain r l) places.link (put_at places.top r q)) (sym (ap (drop 1) freed.1)) freed.2;
         paged = record {
           live = λ j info e l.
               let u = k.counts.lives j info e l in

@@ -5,16 +5,16 @@ use Rattle.std.proofs.lemmas.Bool.Decides.{nat_tests}
 use Rattle.std.proofs.lemmas.Grind.{common_steps}
 use mathlib.Core.Logic.{dite}
 use native.Mathlib.Decide.{ℕ_discrete}
-use Rattle.rgo_core_memory.specs.Words.{put}
+use Rattle.rgo_core_memory.specs.Words.{put_at}
 use Rattle.rgo_core_memory.specs.Records.{Rec, HasRecord, PageClaim, Idle, Got, Hung, Give, Calm, Owes, Giving, Past, Gave, ClosesSlot, ReturnsChain}
-use Rattle.rgo_core_memory.specs.Pages.{times, Place, Free, Chained, Claimed, PageChain, Pages}
+use Rattle.rgo_core_memory.specs.Pages.{occurrences, Place, Free, Chained, Claimed, PageChain, Pages}
 use Rattle.rgo_core_memory.proofs.Puts.{put_here, put_else, word_new, word_else}
 use Rattle.rgo_core_memory.proofs.Rows.{at_set, set_here, set_else}
 
-pub times_first : (k x : ℕ) (xs : List ℕ) → x ≡ k → times k (x ∷ xs) ≡ suc (times k xs)
+pub times_first : (k x : ℕ) (xs : List ℕ) → x ≡ k → occurrences k (x ∷ xs) ≡ suc (occurrences k xs)
 times_first k x xs e = grind (arith, nat_tests, common_steps)
 
-pub times_else : (k x : ℕ) (xs : List ℕ) → x ≢ k → times k (x ∷ xs) ≡ times k xs
+pub times_else : (k x : ℕ) (xs : List ℕ) → x ≢ k → occurrences k (x ∷ xs) ≡ occurrences k xs
 times_else k x xs e = grind (arith, nat_tests, common_steps)
 
 pub closes_of : (z : Give) (r c : ℕ) → ReturnsChain z r c → ClosesSlot z r
@@ -24,7 +24,7 @@ closes_of (Giving s e) r c q = q.0
 closes_of (Past s e f) r c q = q.0
 closes_of (Gave s) r c q = absurd q
 
-chain_same : (link more : ℕ → ℕ) (h : ℕ) (ps : List ℕ) → ((q : ℕ) → 0 < times q ps → more q ≡ link q) → PageChain link h ps → PageChain more h ps
+chain_same : (link more : ℕ → ℕ) (h : ℕ) (ps : List ℕ) → ((q : ℕ) → 0 < occurrences q ps → more q ≡ link q) → PageChain link h ps → PageChain more h ps
 chain_same link more h [] same c = c
 chain_same link more h (p ∷ ps) same c = (
   c.0,
@@ -85,13 +85,13 @@ module _ (states nexts heads : ℕ → ℕ) (recs : List Rec) (at : ℕ → Plac
         go (Claimed j) e = let q = k.is_claimed p j e in absurd (omega (arith, q.4))
 
     abbrev at' : ℕ → Place
-    at' = put at p (Claimed g)
+    at' = put_at at p (Claimed g)
 
     other_page : (q : ℕ) (z : Place) → at q ≡ z → Free ≢ z → q ≢ p
     other_page q z e n same = n (sym was_free ∙ (ap at (sym same) ∙ e))
 
     -- a claim, where it found 0
-    pub claims : Pages (put states p (suc r)) nexts heads new at' chain link top
+    pub claims : Pages (put_at states p (suc r)) nexts heads new at' chain link top
     claims = record {
       is_free = λ q e. dite (ℕ_discrete q p) (λ s. absurd (cc (put_here at p (Claimed g) q s, e))) (λ n. word_else states p q (suc r) n
           ∙ k.is_free q (sym (put_else at p (Claimed g) q n) ∙ e));
@@ -158,7 +158,7 @@ module _ (states nexts heads : ℕ → ℕ) (recs : List Rec) (at : ℕ → Plac
     own_page : at p ≡ Claimed g
     own_page = (k.gots g p r h own before).0
 
-    off_chain : (s q : ℕ) → 0 < times q (chain s) → q ≢ p
+    off_chain : (s q : ℕ) → 0 < occurrences q (chain s) → q ≢ p
     off_chain s q e same = let y : Claimed g ≡ Chained s = sym own_page ∙ (ap at (sym same) ∙ k.on s q e) in absurd (cc y)
 
     top_is : top r ≡ old
@@ -176,33 +176,33 @@ module _ (states nexts heads : ℕ → ℕ) (recs : List Rec) (at : ℕ → Plac
         (was j x e)
 
     -- the page that a cursor tells is the first of its chain
-    cursor_on : (s c : ℕ) → top s ≡ suc c → 0 < times c (chain s)
+    cursor_on : (s c : ℕ) → top s ≡ suc c → 0 < occurrences c (chain s)
     cursor_on s c e = go (chain s) (subst (λ (z : ℕ). PageChain link z (chain s)) e (k.chains s))
       where
-        go : (l : List ℕ) → PageChain link (suc c) l → 0 < times c l
+        go : (l : List ℕ) → PageChain link (suc c) l → 0 < occurrences c l
         go [] w = absurd (omega arith)
         go (x ∷ l) w = let t = times_first c x l (let y = w.0 in omega arith) in omega arith
 
     abbrev at2 : ℕ → Place
-    at2 = put at p (Chained r)
+    at2 = put_at at p (Chained r)
 
     abbrev chain2 : ℕ → List ℕ
-    chain2 = put chain r (p ∷ chain r)
+    chain2 = put_at chain r (p ∷ chain r)
 
     abbrev link2 : ℕ → ℕ
-    link2 = put link p old
+    link2 = put_at link p old
 
     abbrev top2 : ℕ → ℕ
-    top2 = put top r (suc p)
+    top2 = put_at top r (suc p)
 
-    longer : (s q : ℕ) → times q (chain s) ≤ times q (chain2 s)
+    longer : (s q : ℕ) → occurrences q (chain s) ≤ occurrences q (chain2 s)
     longer s q = dite (ℕ_discrete s r)
         (λ e. rw (put_here chain r (p ∷ chain r) s e, e) (dite (ℕ_discrete p q) (λ y. let t = times_first q p (chain r) y in omega arith)
         (λ n. let t = times_else q p (chain r) n in omega arith)))
         (λ n. rw (put_else chain r (p ∷ chain r) s n) (omega arith))
 
     -- a page is hung into its chain
-    pub hangs : Pages states nexts (put heads r (suc p)) new at2 chain2 link2 top2
+    pub hangs : Pages states nexts (put_at heads r (suc p)) new at2 chain2 link2 top2
     hangs = record {
       is_free = λ q e. dite (ℕ_discrete q p) (λ s. absurd (cc (put_here at p (Chained r) q s, e))) (λ n. k.is_free q (sym (put_else at p
           (Chained r) q n) ∙ e));
@@ -219,14 +219,14 @@ module _ (states nexts heads : ℕ → ℕ) (recs : List Rec) (at : ℕ → Plac
           ∙ e) in (z.0, z.1, stays j z.1 (not_mine j z.1 (Got q z.0) z.2 z.3 (λ y. n (cc y))) z.2, z.3, z.4));
       on = λ s q e. dite (ℕ_discrete q p)
           (λ y. dite (ℕ_discrete s r) (λ e'. put_here at p (Chained r) q y
-          ∙ ap Chained (sym e')) (λ n. absurd (off_chain s q (subst (λ (l : List ℕ). 0 < times q l) (put_else chain r (p ∷ chain r) s n) e) y)))
+          ∙ ap Chained (sym e')) (λ n. absurd (off_chain s q (subst (λ (l : List ℕ). 0 < occurrences q l) (put_else chain r (p ∷ chain r) s n) e) y)))
           (λ n. put_else at p (Chained r) q n ∙ dite (ℕ_discrete s r)
-          (λ e'. let w : 0 < times q (p ∷ chain r) = subst (λ (l : List ℕ). 0 < times q l) (put_here chain r
+          (λ e'. let w : 0 < occurrences q (p ∷ chain r) = subst (λ (l : List ℕ). 0 < occurrences q l) (put_here chain r
           (p ∷ chain r) s e') e in let t = times_else q p (chain r) (λ y. n (sym y)) in k.on r q (omega arith) ∙ ap Chained (sym e'))
-          (λ n'. k.on s q (subst (λ (l : List ℕ). 0 < times q l) (put_else chain r (p ∷ chain r) s n') e)));
+          (λ n'. k.on s q (subst (λ (l : List ℕ). 0 < occurrences q l) (put_else chain r (p ∷ chain r) s n') e)));
       once = λ s q. dite (ℕ_discrete s r)
           (λ e. rw (put_here chain r (p ∷ chain r) s e) (dite (ℕ_discrete p q)
-          (λ y. let t = times_first q p (chain r) y in let z = none_of (times q (chain r)) (λ m. off_chain r q m (sym y)) in omega arith)
+          (λ y. let t = times_first q p (chain r) y in let z = none_of (occurrences q (chain r)) (λ m. off_chain r q m (sym y)) in omega arith)
           (λ n. let t = times_else q p (chain r) n in let o = k.once r q in omega arith)))
           (λ n. rw (put_else chain r (p ∷ chain r) s n) (k.once s q));
       chains = λ s. dite (ℕ_discrete s r)
@@ -286,7 +286,7 @@ module _ (states nexts heads : ℕ → ℕ) (recs : List Rec) (at : ℕ → Plac
         ∙ (ap (λ (y : Rec). y.claim) (sym same) ∙ e'))
 
     -- the link to the next page
-    pub stores_next : Pages states (put nexts p o) heads new at chain link top
+    pub stores_next : Pages states (put_at nexts p o) heads new at chain link top
     stores_next = record {
       is_free = k.is_free;
       is_chained = k.is_chained;
@@ -320,13 +320,13 @@ module _ (states nexts heads : ℕ → ℕ) (recs : List Rec) (at : ℕ → Plac
     (alone : (j : ℕ) (x : Rec) → HasRecord recs j x → ClosesSlot x.give r → j ≡ g) (unclaimed : (j s o : ℕ) (x : Rec) → HasRecord recs j x → x.claim ≡ Hung p s o
     → ⊥) where
   abbrev at3 : ℕ → Place
-  at3 = put at p Free
+  at3 = put_at at p Free
 
   abbrev chain3 : ℕ → List ℕ
-  chain3 = put chain r ps
+  chain3 = put_at chain r ps
 
   abbrev top3 : ℕ → ℕ
-  top3 = put top r q
+  top3 = put_at top r q
 
   abbrev new3 : List Rec
   new3 = slice_set recs g d
@@ -351,23 +351,23 @@ module _ (states nexts heads : ℕ → ℕ) (recs : List Rec) (at : ℕ → Plac
   first_on : at p ≡ Chained r
   first_on = k.on r p (rw is_chain (let t = times_first p p ps refl in omega arith))
 
-  gone : times p ps ≡ 0
-  gone = let o : times p (p ∷ ps) ≤ 1 = subst (λ (l : List ℕ). times p l ≤ 1) is_chain (k.once r p) in let t = times_first p p ps refl in omega arith
+  gone : occurrences p ps ≡ 0
+  gone = let o : occurrences p (p ∷ ps) ≤ 1 = subst (λ (l : List ℕ). occurrences p l ≤ 1) is_chain (k.once r p) in let t = times_first p p ps refl in omega arith
 
-  rest : (s z : ℕ) → 0 < times z (chain3 s) → (0 < times z (chain s)) × (z ≢ p)
+  rest : (s z : ℕ) → 0 < occurrences z (chain3 s) → (0 < occurrences z (chain s)) × (z ≢ p)
   rest s z e = dite (ℕ_discrete s r)
-      (λ y. let w : 0 < times z ps = subst (λ (l : List ℕ). 0 < times z l) (put_here chain r ps s y) e in (
+      (λ y. let w : 0 < occurrences z ps = subst (λ (l : List ℕ). 0 < occurrences z l) (put_here chain r ps s y) e in (
         rw (y, is_chain) (dite (ℕ_discrete p z) (λ m. let t = times_first z p ps m in omega arith)
             (λ n. let t = times_else z p ps n in omega arith)),
-        λ m. let v : times z ps ≡ 0 = rw m gone in omega arith,
+        λ m. let v : occurrences z ps ≡ 0 = rw m gone in omega arith,
       ))
-      (λ n. let w : 0 < times z (chain s) = subst (λ (l : List ℕ). 0 < times z l) (put_else chain r ps s n) e in (
+      (λ n. let w : 0 < occurrences z (chain s) = subst (λ (l : List ℕ). 0 < occurrences z l) (put_else chain r ps s n) e in (
         w,
         λ m. n
             (let v : Chained s ≡ Chained r = sym (k.on s z w) ∙ (ap at m ∙ first_on) in cc v),
       ))
 
-  pub frees : Pages (put states p 0) nexts heads new3 at3 chain3 link top3
+  pub frees : Pages (put_at states p 0) nexts heads new3 at3 chain3 link top3
   frees = record {
     is_free = λ z e. dite (ℕ_discrete z p) (λ y. rw y (word_new states p 0)) (λ n. word_else states p z 0 n
         ∙ k.is_free z (sym (put_else at p Free z n) ∙ e));
@@ -375,7 +375,7 @@ module _ (states nexts heads : ℕ → ℕ) (recs : List Rec) (at : ℕ → Plac
         (λ n. let w = k.is_chained z s (sym (put_else at p Free z n) ∙ e) in (
           word_else states p z 0 n ∙ w.0,
           dite (ℕ_discrete s r)
-              (λ y. rw (put_here chain r ps s y) (let v : 0 < times z (p ∷ ps) = subst (λ (l : List ℕ). 0 < times z l) (ap chain y
+              (λ y. rw (put_here chain r ps s y) (let v : 0 < occurrences z (p ∷ ps) = subst (λ (l : List ℕ). 0 < occurrences z l) (ap chain y
               ∙ is_chain) w.1 in let t = times_else z p ps (λ m. n (sym m)) in omega arith))
               (λ n'. rw (put_else chain r ps s n') w.1),
         ));
@@ -390,7 +390,7 @@ module _ (states nexts heads : ℕ → ℕ) (recs : List Rec) (at : ℕ → Plac
         ));
     on = λ s z e. let w = rest s z e in put_else at p Free z w.1 ∙ k.on s z w.0;
     once = λ s z. dite (ℕ_discrete s r)
-        (λ y. rw (put_here chain r ps s y) (let o : times z (p ∷ ps) ≤ 1 = subst (λ (l : List ℕ). times z l ≤ 1) is_chain (k.once r z) in dite
+        (λ y. rw (put_here chain r ps s y) (let o : occurrences z (p ∷ ps) ≤ 1 = subst (λ (l : List ℕ). occurrences z l ≤ 1) is_chain (k.once r z) in dite
         (ℕ_discrete p z) (λ m. let t = times_first z p ps m in omega arith) (λ n. let t = times_else z p ps n in omega arith)))
         (λ n. rw (put_else chain r ps s n) (k.once s z));
     chains = λ s. dite (ℕ_discrete s r)

@@ -10,9 +10,9 @@ use Rattle.rgo_sound.specs.RegionMachine.declared.regions.Region.{Region}
 use Rattle.rgo_sound.specs.RegionMachine.declared.regions.Region.TheVariants.{Global as GlobalRegion, Numbered}
 use Rattle.rgo_sound.proofs.duties.Attends.{length_with_info}
 use Rattle.rgo_core_memory.specs.declared.layout.TableSizes.{TableSizes}
-use Rattle.rgo_core_memory.specs.Words.{put, state_at}
-use Rattle.rgo_core_memory.specs.Records.{Fill, Rest, Amid, Idle, Rec, HasRecord, Within, Owns, with_page}
-use Rattle.rgo_core_memory.specs.Ground.{Ground, Held, MayUseRegion, Steady, page_taken, taken_of}
+use Rattle.rgo_core_memory.specs.Words.{put_at, state_at}
+use Rattle.rgo_core_memory.specs.Records.{Fill, Rest, Amid, Idle, Rec, HasRecord, Within, Owns, with_own_page}
+use Rattle.rgo_core_memory.specs.Ground.{Ground, Held, MayUseRegion, Steady, own_page_taken, taken_of}
 use Rattle.rgo_core_memory.specs.Pages.{Claimed}
 use Rattle.rgo_core_memory.specs.Parts.{Own, OwnPagesFilled, slot_of, StakeAt, Living, SlotCounts, Paged, pages_at, Taken}
 use Rattle.rgo_core_memory.specs.Image.{MemoryImage, Where}
@@ -53,7 +53,7 @@ module _ (z : TableSizes) (words : List ℕ) (recs : List Rec) (x : Ground) (pla
   s = slot_of z places.slot r
 
   abbrev states : ℕ → ℕ
-  states = put k.w.state p (suc s)
+  states = put_at k.w.state p (suc s)
 
   zero_state : k.w.state p ≡ 0
   zero_state = sym (k.shows.state p small) ∙ free
@@ -83,7 +83,7 @@ module _ (z : TableSizes) (words : List ℕ) (recs : List Rec) (x : Ground) (pla
     abbrev recs2 : List Rec
     recs2 = slice_set recs g d
 
-    taken_claimed : Taken z states k.w.count recs2 (suc (taken_of x)) (length x.regions) places.slot (put places.page (taken_of x) p)
+    taken_claimed : Taken z states k.w.count recs2 (suc (taken_of x)) (length x.regions) places.slot (put_at places.page (taken_of x) p)
     taken_claimed =
         let t = taken_same recs g c d own z k.w.state k.w.count (taken_of x) (length x.regions) places.slot places.page k.taken tried tried_slots in
         record {
@@ -104,7 +104,7 @@ module _ (z : TableSizes) (words : List ℕ) (recs : List Rec) (x : Ground) (pla
           global_pages = globals;
           held = slice_set x.held g h2;
         })
-        (record places { at = put places.at p (Claimed g); page = put places.page (taken_of x) p })
+        (record places { at = put_at places.at p (Claimed g); page = put_at places.page (taken_of x) p })
     with_infos infos globals live same counts more paged = record {
       w = record k.w { state = states };
       shows = writes_state z words k.w k.shows p (suc s) small;
@@ -116,8 +116,8 @@ module _ (z : TableSizes) (words : List ℕ) (recs : List Rec) (x : Ground) (pla
       counts = counts_calm recs g c d own z k.w.count places.top infos places.slot places.uses counts give;
       pages = claims k.w.state k.w.next k.w.head recs places.at places.chain places.link places.top k.pages g c d own give p s idle claim zero_state;
       paged = paged;
-      taken = subst (λ (m : ℕ). Taken z states k.w.count recs2 m (length infos) places.slot (put places.page (taken_of x) p)) (sym more)
-          (subst (λ (m : ℕ). Taken z states k.w.count recs2 (suc (taken_of x)) m places.slot (put places.page (taken_of x) p))
+      taken = subst (λ (m : ℕ). Taken z states k.w.count recs2 m (length infos) places.slot (put_at places.page (taken_of x) p)) (sym more)
+          (subst (λ (m : ℕ). Taken z states k.w.count recs2 (suc (taken_of x)) m places.slot (put_at places.page (taken_of x) p))
           (sym same) taken_claimed);
     }
 
@@ -125,7 +125,7 @@ module _ (z : TableSizes) (words : List ℕ) (recs : List Rec) (x : Ground) (pla
 
   module _ (rests : c.make ≡ Rest) where
     abbrev own_rec : Rec
-    own_rec = with_page c p s
+    own_rec = with_own_page c p s
 
     abbrev recs3 : List Rec
     recs3 = slice_set recs g own_rec
@@ -346,11 +346,11 @@ claimed_by : (z : TableSizes) (words : List ℕ) (recs : List Rec) (x : Ground) 
     → slice_index words (state_at z p) ≡ 0 → c.claim ≡ Idle
     → (d : Rec) (h2 : Held) → d.claim ≡ Got p (slot_of z places.slot r) → d.give ≡ c.give → d.tried_pages ≡ c.tried_pages
     → d.tried_slots ≡ c.tried_slots
-    → Own z (put k.w.state p (suc (slot_of z places.slot r))) k.w.cell (slice_set recs g d) x.heap x.owners x.regions
+    → Own z (put_at k.w.state p (suc (slot_of z places.slot r))) k.w.cell (slice_set recs g d) x.heap x.owners x.regions
     places.slot places.spot
     → OwnPagesFilled z (slice_set recs g d) (slice_set x.held g h2) (length x.regions) places.slot
     → MemoryImage z (set words (state_at z p) (suc (slot_of z places.slot r))) (slice_set recs g d) (one_page x g h2 r)
-    (record places { at = put places.at p (Claimed g); page = put places.page (taken_of x) p })
+    (record places { at = put_at places.at p (Claimed g); page = put_at places.page (taken_of x) p })
 claimed_by z words recs x places k steady g c own h hold GlobalRegion used p small free idle d h2 cl gi tr ts own2 filled2 =
     with_infos z words recs x places k steady g c own h hold GlobalRegion used p small free idle d h2 cl gi tr ts own2 filled2 x.regions (x.global_pages + 1)
     (λ q l. l) refl k.counts (omega arith)
@@ -384,7 +384,7 @@ claimed_by z words recs x places k steady g c own h hold (Numbered j) used p sma
           let v : (i.0).pages + 1 ≡ info.pages = ap (λ (i : RegionInfo). i.pages) is in
           let a = more_at k.w.state p z.pages (places.slot j) small (unclaimed_at (places.slot j)) in
           let b = k.paged.live j i.0 i.1 i.2 in
-          subst (λ (n : ℕ). info.pages ≡ pages_at (put k.w.state p (suc (places.slot j))) z.pages (places.slot n)) (sym y) (omega (arith, a, b, v)))
+          subst (λ (n : ℕ). info.pages ≡ pages_at (put_at k.w.state p (suc (places.slot j))) z.pages (places.slot n)) (sym y) (omega (arith, a, b, v)))
           (λ n.
           let old : slice_get x.regions m ≡ Some info = sym (info_else x.regions j m one_page_more n) ∙ e in
           let u = k.counts.lives m info old q in
@@ -402,12 +402,12 @@ claimed_by z words recs x places k steady g c own h hold (Numbered j) used p sma
 pub page_claimed : (z : TableSizes) (words : List ℕ) (recs : List Rec) (x : Ground) (places : Where) (k : MemoryImage z words recs x places) → Steady x
     → (g : ℕ) (c : Rec) → HasRecord recs g c → (h : Held) → slice_get x.held g ≡ Some h → (r : Region) → MayUseRegion h r → (p : ℕ) → p < z.pages
     → slice_index words (state_at z p) ≡ 0 → c.claim ≡ Idle → c.make ≡ Rest
-    → MemoryImage z (set words (state_at z p) (suc (slot_of z places.slot r))) (slice_set recs g (with_page c p (slot_of z places.slot r)))
-    (page_taken x g h r)
-    (record places { at = put places.at p (Claimed g); page = put places.page (taken_of x) p })
+    → MemoryImage z (set words (state_at z p) (suc (slot_of z places.slot r))) (slice_set recs g (with_own_page c p (slot_of z places.slot r)))
+    (own_page_taken x g h r)
+    (record places { at = put_at places.at p (Claimed g); page = put_at places.page (taken_of x) p })
 page_claimed z words recs x places k steady g c own h hold r used p small free idle rests =
     claimed_by z words recs x places k steady g c own h hold r used p small free idle
-    (with_page c p (slot_of z places.slot r)) (record h { fills = with_fill h.fills r 0 }) refl refl refl refl
+    (with_own_page c p (slot_of z places.slot r)) (record h { fills = with_fill h.fills r 0 }) refl refl refl refl
     (own_claimed z words recs x places k steady g c own h hold r used p small free idle rests)
     (filled_claimed z words recs x places k steady g c own h hold r used p small free idle rests)
 
@@ -417,7 +417,7 @@ pub page_reserves : (z : TableSizes) (words : List ℕ) (recs : List Rec) (x : G
     → (0 < length c.reserved.pages → c.reserved.slot ≡ slot_of z places.slot r)
     → MemoryImage z (set words (state_at z p) (suc (slot_of z places.slot r)))
     (slice_set recs g (with_reserved c p (slot_of z places.slot r))) (page_reserved x g h r)
-    (record places { at = put places.at p (Claimed g); page = put places.page (taken_of x) p })
+    (record places { at = put_at places.at p (Claimed g); page = put_at places.page (taken_of x) p })
 page_reserves z words recs x places k steady g c own h hold r used p small free idle rests same_slot =
     claimed_by z words recs x places k steady g c own h hold r used p small free idle
     (with_reserved c p (slot_of z places.slot r)) (record h { reserved = h.reserved + 1 }) refl refl refl refl

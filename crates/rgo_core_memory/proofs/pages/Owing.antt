@@ -4,10 +4,10 @@ use Rattle.std.proofs.lemmas.List.{get_or-set_other}
 use mathlib.Core.Logic.{dite}
 use native.Mathlib.Decide.{ℕ_discrete}
 use Rattle.rgo_core_memory.specs.declared.layout.TableSizes.{TableSizes}
-use Rattle.rgo_core_memory.specs.Words.{Words, ListHasWords, put, state_at, count_at}
+use Rattle.rgo_core_memory.specs.Words.{Words, ListHasWords, put_at, state_at, count_at}
 use Rattle.rgo_core_memory.specs.Records.{PageClaim, Gave, Give, Rec, HasRecord, Claims, ClosesSlot, ReturnsChain}
 use Rattle.rgo_core_memory.specs.Ground.{Ground, Steady, ground_of}
-use Rattle.rgo_core_memory.specs.Pages.{Place, Free, Chained, Claimed, times}
+use Rattle.rgo_core_memory.specs.Pages.{Place, Free, Chained, Claimed, occurrences}
 use Rattle.rgo_core_memory.specs.Parts.{Use, Vacant, Closing, pages_at}
 use Rattle.rgo_core_memory.specs.Image.{MemoryImage, Where}
 use Rattle.rgo_core_memory.specs.Owed.{claimed_for, owed_at, owed, to_free, StillClaimed, StillOwed}
@@ -47,13 +47,13 @@ shows_owed z words w uses k = owed_same uses uses w.state (λ p. slice_index wor
     (λ s l. ap (owed_at (uses s)) (same_at w.state (λ p. slice_index words (state_at z p)) z.pages s (λ p m e. k.state p m
     ∙ e) (λ p m e. sym (k.state p m) ∙ e)))
 
-less_at : (states : ℕ → ℕ) (p n s : ℕ) → p < n → states p ≡ suc s → suc (pages_at (put states p 0) n s) ≡ pages_at states n s
+less_at : (states : ℕ → ℕ) (p n s : ℕ) → p < n → states p ≡ suc s → suc (pages_at (put_at states p 0) n s) ≡ pages_at states n s
 less_at states p n s l e =
-    let a = more_at (put states p 0) p n s l (λ y. let z = put_here states p 0 p refl in omega (arith, y, z)) in
-    let b = same_at states (put (put states p 0) p (suc s)) n s
-    (λ q m y. dite (ℕ_discrete q p) (λ u. put_here (put states p 0) p (suc s) q u) (λ u. put_else (put states p 0) p (suc s) q u
+    let a = more_at (put_at states p 0) p n s l (λ y. let z = put_here states p 0 p refl in omega (arith, y, z)) in
+    let b = same_at states (put_at (put_at states p 0) p (suc s)) n s
+    (λ q m y. dite (ℕ_discrete q p) (λ u. put_here (put_at states p 0) p (suc s) q u) (λ u. put_else (put_at states p 0) p (suc s) q u
     ∙ (put_else states p 0 q u ∙ y)))
-    (λ q m y. dite (ℕ_discrete q p) (λ u. ap states u ∙ e) (λ u. sym (put_else states p 0 q u) ∙ (sym (put_else (put states p 0) p (suc s) q u)
+    (λ q m y. dite (ℕ_discrete q p) (λ u. ap states u ∙ e) (λ u. sym (put_else states p 0 q u) ∙ (sym (put_else (put_at states p 0) p (suc s) q u)
     ∙ y))) in
     omega (arith, a, b)
 
@@ -71,7 +71,7 @@ empty z words recs x places k steady g r c own before p e = go (places.at p) ref
         let y = k.pages.is_chained p s q in
         let same : s ≡ r = (let v = y.0 in omega (arith, e, v)) in
         let none = (k.pages.gaves g r c own before).1 in
-        let m : 0 < times p [] = subst (λ (l : List ℕ). 0 < times p l) (ap places.chain same ∙ none) y.1 in omega (arith, m)
+        let m : 0 < occurrences p [] = subst (λ (l : List ℕ). 0 < occurrences p l) (ap places.chain same ∙ none) y.1 in omega (arith, m)
     go (Claimed i) q =
         let y = k.pages.is_claimed p i q in
         let v = y.4 in
@@ -84,10 +84,10 @@ still_owed = record {
   leave = λ z words recs s places k g j n info e l.
       let u = k.counts.lives j info e l in
       let r = places.slot j in
-      let more = put places.uses r (Closing g) in
+      let more = put_at places.uses r (Closing g) in
       let below : r < suc z.slots = (let m = u.0 in omega arith) in
       let a = shows_owed z words k.w places.uses k.shows in
-      let b = shows_owed z (set words (count_at z r) n) (record k.w { count = put k.w.count r n }) more
+      let b = shows_owed z (set words (count_at z r) n) (record k.w { count = put_at k.w.count r n }) more
       (writes_count z words k.w k.shows r n below) in
       let c = owed_one places.uses more k.w.state k.w.state z.pages z.slots r u.0 (λ t ne. ap (λ (y : Use). owed_at y
       (pages_at k.w.state z.pages t)) (put_else places.uses r (Closing g) t ne)) in
@@ -103,23 +103,23 @@ still_owed = record {
       let state = (k.pages.is_chained p r at).0 in
       let small : p < z.pages = k.own.ranged p (omega (arith, state)) in
       let a = shows_owed z words k.w places.uses k.shows in
-      let b = shows_owed z (set words (state_at z p) 0) (record k.w { state = put k.w.state p 0 }) places.uses
+      let b = shows_owed z (set words (state_at z p) 0) (record k.w { state = put_at k.w.state p 0 }) places.uses
       (writes_state z words k.w k.shows p 0 small) in
-      let d = owed_one places.uses places.uses k.w.state (put k.w.state p 0) z.pages z.slots r u.0
+      let d = owed_one places.uses places.uses k.w.state (put_at k.w.state p 0) z.pages z.slots r u.0
       (λ t ne. ap (owed_at (places.uses t)) (other_at k.w.state p 0 z.pages t (λ y. ne (omega (arith, y, state))) (λ y. omega arith))) in
       let e : owed_at (places.uses r) (pages_at k.w.state z.pages r) ≡ pages_at k.w.state z.pages r = ap (λ (y : Use). owed_at y
       (pages_at k.w.state z.pages r)) u.1 in
-      let f : owed_at (places.uses r) (pages_at (put k.w.state p 0) z.pages r) ≡ pages_at (put k.w.state p 0) z.pages r = ap (λ
-      (y : Use). owed_at y (pages_at (put k.w.state p 0) z.pages r)) u.1 in
+      let f : owed_at (places.uses r) (pages_at (put_at k.w.state p 0) z.pages r) ≡ pages_at (put_at k.w.state p 0) z.pages r = ap (λ
+      (y : Use). owed_at y (pages_at (put_at k.w.state p 0) z.pages r)) u.1 in
       let h = less_at k.w.state p z.pages r small state in
       omega (arith, a, b, d, e, f, h);
   slot = λ code z words recs s places all k g r c own before.
       let closes : ClosesSlot c.give r = subst (λ (y : Give). ClosesSlot y r) (sym before) refl in
       let u = k.counts.closes g r c own closes in
-      let more = put places.uses r Vacant in
+      let more = put_at places.uses r Vacant in
       let below : r < suc z.slots = (let m = u.0 in omega arith) in
       let a = shows_owed z words k.w places.uses k.shows in
-      let b = shows_owed z (set words (count_at z r) 0) (record k.w { count = put k.w.count r 0 }) more
+      let b = shows_owed z (set words (count_at z r) 0) (record k.w { count = put_at k.w.count r 0 }) more
       (writes_count z words k.w k.shows r 0 below) in
       let d = owed_one places.uses more k.w.state k.w.state z.pages z.slots r u.0 (λ t ne. ap (λ (y : Use). owed_at y
       (pages_at k.w.state z.pages t)) (put_else places.uses r Vacant t ne)) in
@@ -150,13 +150,13 @@ still_claimed = record {
       let state = (k.pages.is_chained p r at).0 in
       let small : p < z.pages = k.own.ranged p (omega (arith, state)) in
       let was = shows_claimed z words k.w k.shows in
-      let is = shows_claimed z (set words (state_at z p) 0) (record k.w { state = put k.w.state p 0 }) (writes_state z words k.w k.shows p 0 small) in (
+      let is = shows_claimed z (set words (state_at z p) 0) (record k.w { state = put_at k.w.state p 0 }) (writes_state z words k.w k.shows p 0 small) in (
         ap suc (is r) ∙ (less_at k.w.state p z.pages r small state ∙ sym (was r)),
         λ t ne. is t ∙ (other_at k.w.state p 0 z.pages t (λ y. ne (omega (arith, y, state))) (λ y. omega arith) ∙ sym (was t)),
       );
   claim = λ z words recs s places k p r t small none ne.
       let zero_is : k.w.state p ≡ 0 = sym (k.shows.state p small) ∙ none in
-      shows_claimed z (set words (state_at z p) (suc r)) (record k.w { state = put k.w.state p (suc r) }) (writes_state z words k.w k.shows p (suc r) small) t
+      shows_claimed z (set words (state_at z p) (suc r)) (record k.w { state = put_at k.w.state p (suc r) }) (writes_state z words k.w k.shows p (suc r) small) t
       ∙ (other_at k.w.state p (suc r) z.pages t (λ y. omega (arith, y, zero_is)) (λ y. ne (omega (arith, y))) ∙ sym (shows_claimed z words k.w k.shows t));
   none = λ code z words recs s places all k g r c own before.
       shows_claimed z words k.w k.shows r

@@ -6,7 +6,7 @@ use mathlib.Core.Logic.{dite}
 use native.Mathlib.Decide.{ℕ_discrete}
 use Rattle.rgo_sound.specs.RegionMachine.Regions.{RegionInfo, with_info}
 use Rattle.rgo_core_memory.specs.declared.layout.TableSizes.{TableSizes}
-use Rattle.rgo_core_memory.specs.Words.{put}
+use Rattle.rgo_core_memory.specs.Words.{put_at}
 use Rattle.rgo_core_memory.specs.Parts.{pages_at, Paged}
 use Rattle.rgo_core_memory.proofs.regions.Infos.{info_here, info_else}
 use Rattle.rgo_core_memory.proofs.Puts.{put_here, put_else}
@@ -40,26 +40,26 @@ none_at states zero s never = refl
 none_at states (suc n) s never = let a = none_more_at states n s (never n (omega arith)) in let b = none_at states n s (λ p l. never p
     (omega arith)) in omega (arith, a, b)
 
-pub other_at : (states : ℕ → ℕ) (p v n s : ℕ) → states p ≢ suc s → v ≢ suc s → pages_at (put states p v) n s ≡ pages_at states n s
-other_at states p v n s old new = same_at states (put states p v) n s
+pub other_at : (states : ℕ → ℕ) (p v n s : ℕ) → states p ≢ suc s → v ≢ suc s → pages_at (put_at states p v) n s ≡ pages_at states n s
+other_at states p v n s old new = same_at states (put_at states p v) n s
     (λ q l e. put_else states p v q (λ y. old (ap states (sym y) ∙ e)) ∙ e)
     (λ q l e. dite (ℕ_discrete q p) (λ y. absurd (new (sym (put_here states p v q y) ∙ e))) (λ m. sym (put_else states p v q m) ∙ e))
 
-pub more_at : (states : ℕ → ℕ) (p n s : ℕ) → p < n → states p ≢ suc s → pages_at (put states p (suc s)) n s ≡ suc (pages_at states n s)
+pub more_at : (states : ℕ → ℕ) (p n s : ℕ) → p < n → states p ≢ suc s → pages_at (put_at states p (suc s)) n s ≡ suc (pages_at states n s)
 more_at states p zero s l old = absurd (omega arith)
 more_at states p (suc n) s l old = dite (ℕ_discrete n p)
     (λ e.
-    let a = one_more_at (put states p (suc s)) n s (put_here states p (suc s) n e) in
+    let a = one_more_at (put_at states p (suc s)) n s (put_here states p (suc s) n e) in
     let b = none_more_at states n s (λ y. old (ap states (sym e) ∙ y)) in
-    let c = same_at states (put states p (suc s)) n s (λ q m y. put_else states p (suc s) q (λ u. omega arith)
+    let c = same_at states (put_at states p (suc s)) n s (λ q m y. put_else states p (suc s) q (λ u. omega arith)
     ∙ y) (λ q m y. sym (put_else states p (suc s) q (λ u. omega arith)) ∙ y) in
     omega (arith, a, b, c))
     (λ ne.
     let next = more_at states p n s (omega (arith, ne)) old in
-    let same : put states p (suc s) n ≡ states n = put_else states p (suc s) n ne in
+    let same : put_at states p (suc s) n ≡ states n = put_else states p (suc s) n ne in
     dite (ℕ_discrete (states n) (suc s))
-    (λ e. let a = one_more_at states n s e in let b = one_more_at (put states p (suc s)) n s (same ∙ e) in omega (arith, a, b, next))
-    (λ m. let a = none_more_at states n s m in let b = none_more_at (put states p (suc s)) n s (λ y. m (sym same ∙ y)) in omega (arith, a, b, next)))
+    (λ e. let a = one_more_at states n s e in let b = one_more_at (put_at states p (suc s)) n s (same ∙ e) in omega (arith, a, b, next))
+    (λ m. let a = none_more_at states n s m in let b = none_more_at (put_at states p (suc s)) n s (λ y. m (sym same ∙ y)) in omega (arith, a, b, next)))
 
 -- one region changes, but not its pages
 pub paged_change : (z : TableSizes) (states : ℕ → ℕ) (regions : List RegionInfo) (global_pages : ℕ) (slot : ℕ → ℕ) (k : ℕ) (change : RegionInfo

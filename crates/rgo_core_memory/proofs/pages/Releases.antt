@@ -3,7 +3,7 @@ use Rattle.std.proofs.Common.{◌≡◌, ◌≢◌, ◌⊎◌, ℕ, suc, List, [
 use Rattle.std.proofs.lemmas.Option.{same_Some}
 use mathlib.Core.Logic.{dite}
 use native.Mathlib.Decide.{ℕ_discrete}
-use Rattle.rgo_core_memory.specs.Words.{put}
+use Rattle.rgo_core_memory.specs.Words.{put_at}
 use Rattle.rgo_core_memory.specs.Records.{Rec, HasRecord, Hung, Give, Calm, Owes, Giving, Past, Gave, ClosesSlot, ReturnsChain}
 use Rattle.rgo_core_memory.specs.Pages.{Place, Free, PageChain, Pages}
 use Rattle.rgo_core_memory.proofs.Puts.{word_new, word_else}
@@ -142,8 +142,8 @@ module _ (states nexts heads : ℕ → ℕ) (recs : List Rec) (at : ℕ → Plac
             ⊎_elim (λ u. sym u) (λ u. absurd (unclaimed u.0 r (link p) u.1 u.2 u.3)) (k.links p r o)
 
     -- a chain's head is cleared
-    pub clears_head : h.give ≡ Giving r 0 → d.give ≡ Gave r → Pages states nexts (put heads r 0) new at chain link top
-    clears_head before after = give_change (put heads r 0)
+    pub clears_head : h.give ≡ Giving r 0 → d.give ≡ Gave r → Pages states nexts (put_at heads r 0) new at chain link top
+    clears_head before after = give_change (put_at heads r 0)
         (λ s. dite (ℕ_discrete s r)
         (λ y. inl (rw y (empty ∙ sym (word_new heads r 0))))
         (λ n. ⊎_elim (λ u. inl (u
@@ -159,7 +159,7 @@ module _ (states nexts heads : ℕ → ℕ) (recs : List Rec) (at : ℕ → Plac
 
     -- a page is freed, from what the record knows
     pub gives_back : (p q : ℕ) → h.give ≡ Past r (suc p) q → d.give ≡ Giving r q → ((j s o : ℕ) (x : Rec) → HasRecord recs j x → x.claim ≡ Hung p s o → ⊥)
-        → (ps : List ℕ) × (chain r ≡ p ∷ ps) × Pages (put states p 0) nexts heads new (put at p Free) (put chain r ps) link (put top r q)
+        → (ps : List ℕ) × (chain r ≡ p ∷ ps) × Pages (put_at states p 0) nexts heads new (put_at at p Free) (put_at chain r ps) link (put_at top r q)
     gives_back p q before after unclaimed =
         let t = k.cursors g r (suc p) h own (rw before (refl, refl)) in
         let c = first_is r p t in (

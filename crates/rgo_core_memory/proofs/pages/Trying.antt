@@ -6,7 +6,7 @@ use Rattle.rgo_core_memory.specs.declared.layout.TableSizes.{TableSizes}
 use Rattle.rgo_core_memory.specs.Words.{state_at, count_at}
 use Rattle.rgo_core_memory.specs.Records.{Located, Measured, Rec, HasRecord, Claims, with_located, with_measured, with_tried_page, with_tried_slot}
 use Rattle.rgo_core_memory.specs.Ground.{Ground, taken_of}
-use Rattle.rgo_core_memory.specs.Pages.{times}
+use Rattle.rgo_core_memory.specs.Pages.{occurrences}
 use Rattle.rgo_core_memory.specs.Parts.{Taken, TriedPage, TriedSlot}
 use Rattle.rgo_core_memory.specs.Image.{MemoryImage, Where}
 use Rattle.rgo_core_memory.proofs.pages.Chains.{times_else}
@@ -47,7 +47,7 @@ module _ (z : TableSizes) (words : List ℕ) (recs : List Rec) (x : Ground) (pla
 
       slot_tried : (s : ℕ) → TriedSlot (slice_set recs g (with_tried_page c p)) s → TriedSlot recs s
       slot_tried s u = ⊎_elim
-          (λ (t : (u.0 ≡ g) × (with_tried_page c p ≡ u.1)). (g, c, own, subst (λ (y : Rec). 0 < times s y.tried_slots) (sym t.1) u.3))
+          (λ (t : (u.0 ≡ g) × (with_tried_page c p ≡ u.1)). (g, c, own, subst (λ (y : Rec). 0 < occurrences s y.tried_slots) (sym t.1) u.3))
           (λ (t : (u.0 ≢ g) × HasRecord recs u.0 u.1). (u.0, u.1, t.1, u.3))
           (was recs g c (with_tried_page c p) own u.0 u.1 u.2)
 
@@ -56,7 +56,7 @@ module _ (z : TableSizes) (words : List ℕ) (recs : List Rec) (x : Ground) (pla
           (λ (t : (u.0 ≡ g) × (with_tried_page c p ≡ u.1)). dite (ℕ_discrete q p)
           (λ e. k.taken.pages q (inl (subst (λ (m : ℕ). 0 < k.w.state m) (sym e) (positive (k.w.state p) (λ y. found (k.shows.state p small ∙ y))))))
           (λ ne.
-          let y : 0 < times q (p ∷ c.tried_pages) = subst (λ (y : Rec). 0 < times q y.tried_pages) (sym t.1) u.3 in
+          let y : 0 < occurrences q (p ∷ c.tried_pages) = subst (λ (y : Rec). 0 < occurrences q y.tried_pages) (sym t.1) u.3 in
           let v = times_else q p c.tried_pages (λ e. ne (sym e)) in k.taken.pages q (inr (g, c, own, omega (arith, y, v)))))
           (λ (t : (u.0 ≢ g) × HasRecord recs u.0 u.1). k.taken.pages q (inr (u.0, u.1, t.1, u.3)))
           (was recs g c (with_tried_page c p) own u.0 u.1 u.2)
@@ -70,7 +70,7 @@ module _ (z : TableSizes) (words : List ℕ) (recs : List Rec) (x : Ground) (pla
     where
       page_was : (q : ℕ) → TriedPage (slice_set recs g (with_tried_slot c r)) q → TriedPage recs q
       page_was q u = ⊎_elim
-          (λ (t : (u.0 ≡ g) × (with_tried_slot c r ≡ u.1)). (g, c, own, subst (λ (y : Rec). 0 < times q y.tried_pages) (sym t.1) u.3))
+          (λ (t : (u.0 ≡ g) × (with_tried_slot c r ≡ u.1)). (g, c, own, subst (λ (y : Rec). 0 < occurrences q y.tried_pages) (sym t.1) u.3))
           (λ (t : (u.0 ≢ g) × HasRecord recs u.0 u.1). (u.0, u.1, t.1, u.3))
           (was recs g c (with_tried_slot c r) own u.0 u.1 u.2)
 
@@ -81,7 +81,7 @@ module _ (z : TableSizes) (words : List ℕ) (recs : List Rec) (x : Ground) (pla
           (λ e. k.taken.slots s l (inl (subst (λ (m : ℕ). 0 < k.w.count m) (sym e) (positive (k.w.count r) (λ y. found (k.shows.count r
           (omega arith) ∙ y))))))
           (λ ne.
-          let y : 0 < times s (r ∷ c.tried_slots) = subst (λ (y : Rec). 0 < times s y.tried_slots) (sym t.1) u.3 in
+          let y : 0 < occurrences s (r ∷ c.tried_slots) = subst (λ (y : Rec). 0 < occurrences s y.tried_slots) (sym t.1) u.3 in
           let v = times_else s r c.tried_slots (λ e. ne (sym e)) in k.taken.slots s l (inr (g, c, own, omega (arith, y, v)))))
           (λ (t : (u.0 ≢ g) × HasRecord recs u.0 u.1). k.taken.slots s l (inr (u.0, u.1, t.1, u.3)))
           (was recs g c (with_tried_slot c r) own u.0 u.1 u.2)

@@ -21,7 +21,7 @@ use Rattle.rgo_sound.specs.Tac.declared.regions.Class.{Class}
 use Rattle.rgo_sound.specs.Tac.declared.regions.Class.TheVariants.{NoClass, Global, Name}
 use Rattle.rgo_sound.specs.Good.{AllGood}
 use Rattle.rgo_core_memory.specs.Records.{with_give, without_slot, Owes}
-use Rattle.rgo_core_memory.specs.Ground.{Held, MayUseRegion, ground_of, held_of, created, shared, left, page_taken}
+use Rattle.rgo_core_memory.specs.Ground.{Held, MayUseRegion, ground_of, held_of, with_new_region, region_shared, left, own_page_taken}
 use Rattle.rgo_core_memory.specs.Events.{CreateKeeps, ShareKeeps, Leaves, LeaveKeeps, LastLeaveKeeps, NextMakesObjectIn, PageKeeps}
 use Rattle.rgo_core_memory.proofs.accesses.Accesses.{image_of}
 use Rattle.rgo_core_memory.proofs.pages.Claiming.{page_claimed}
@@ -54,7 +54,7 @@ create_keeps code z words recs s t g name r h ds all places k hold owed e small 
     image_of is (one_created z words recs (ground_of s) places k (steady_of code s all) g r (held_of h)
     (map_get held_of s.holders g h hold) small free)
   where
-    is : ground_of t ≡ created (ground_of s) g (held_of h)
+    is : ground_of t ≡ with_new_region (ground_of s) g (held_of h)
     is = ap ground_of (sym (same_Some _ t (first_duty code z.page_words s t g h (Create name) ds hold owed e))) ∙ λ i. record {
       heap = s.plain.memory.heap;
       variables = s.plain.memory.variables;
@@ -81,7 +81,7 @@ share_keeps code z words recs s t g name j h ds places k hold owed named fresh e
 
     one : (p : Bool) → p ≡ false → (if p then Some (attended s g (record h { duties = ds }))
         else Some (record (attended s g (record h { duties = ds; pending = j ∷ h.pending })) { regions = with_info s.regions j with_added_stake })) ≡ Some t
-        → ground_of t ≡ shared (ground_of s) j
+        → ground_of t ≡ region_shared (ground_of s) j
     one true q w = absurd (true≢false q)
     one false q w = ap ground_of (sym (same_Some _ t w)) ∙ λ i. record {
       heap = s.plain.memory.heap;
@@ -96,7 +96,7 @@ share_keeps code z words recs s t g name j h ds places k hold owed named fresh e
         → (if b then (if list_any (nat_eq j) h.pending then Some (attended s g (record h { duties = ds }))
         else Some (record (attended s g
         (record h { duties = ds; pending = j ∷ h.pending })) { regions = with_info s.regions j with_added_stake })) else None) ≡ Some t
-        → (is_live s.regions (Numbered j) ≡ true) × (ground_of t ≡ shared (ground_of s) j)
+        → (is_live s.regions (Numbered j) ≡ true) × (ground_of t ≡ region_shared (ground_of s) j)
     go true q w = (q, one (list_any (nat_eq j) h.pending) fresh w)
     go false q w = cc
 
@@ -208,7 +208,7 @@ spread_page page_words h r x w = ap (λ b. record h {
 }) w
 
 page_ground : (s : RegionState) (g : ℕ) (h : Holder) (r : Region)
-    → ground_of (taken_state s g (record h { fills = with_fill h.fills r 0 }) r) ≡ page_taken (ground_of s) g (held_of h) r
+    → ground_of (taken_state s g (record h { fills = with_fill h.fills r 0 }) r) ≡ own_page_taken (ground_of s) g (held_of h) r
 page_ground s g h GlobalRegion = λ i. record {
   heap = s.plain.memory.heap;
   variables = s.plain.memory.variables;

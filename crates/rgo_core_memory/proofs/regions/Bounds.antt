@@ -8,7 +8,7 @@ use Rattle.rgo_sound.specs.RegionMachine.declared.regions.Region.{Region}
 use Rattle.rgo_sound.specs.RegionMachine.declared.regions.Region.TheVariants.{Global as GlobalRegion, Numbered}
 use Rattle.rgo_sound.specs.Good.{AllGood}
 use Rattle.rgo_sound.specs.Invariant.{FramesFit, GoodHolder, IsReady, Shares, at_most_one, bound_times, to_share, with_pending}
-use Rattle.rgo_sound.specs.Stakes.{is_in, one_if, times_in, total}
+use Rattle.rgo_sound.specs.Stakes.{is_in, one_when, times_in, total}
 use Rattle.rgo_sound.specs.Tac.Frames.{TacFrame}
 use Rattle.rgo_core_memory.specs.declared.layout.TableSizes.{TableSizes}
 use Rattle.rgo_core_memory.specs.Words.{count_at}
@@ -18,7 +18,7 @@ use Rattle.rgo_core_memory.specs.Image.{Where, StateImage}
 use Rattle.rgo_core_memory.proofs.regions.Sharing.{found}
 use Rattle.rgo_core_memory.proofs.regions.Slots.{live_info}
 
-one_small : (b : Bool) → one_if b ≤ 1
+one_small : (b : Bool) → one_when b ≤ 1
 one_small true = omega arith
 one_small false = omega arith
 
@@ -80,7 +80,7 @@ pub stakes_small : (code : Code) (s : RegionState) (j : ℕ) (info : RegionInfo)
 stakes_small code s j info all e =
     let fine = all.good.fine in
     let a = fine.counted j info e in
-    let b = total_small (λ (h : Holder). one_if (is_in j h.stakes)) s.holders (λ g h q. one_small (is_in j h.stakes)) in
+    let b = total_small (λ (h : Holder). one_when (is_in j h.stakes)) s.holders (λ g h q. one_small (is_in j h.stakes)) in
     let c = total_small (λ (h : Holder). times_in j h.pending) s.holders (λ g h q. pending_once code (frames_of s.plain g) h j (fine.each g h q)) in
     omega (arith, a, b, c)
 

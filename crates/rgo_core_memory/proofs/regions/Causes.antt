@@ -6,14 +6,14 @@ use native.Mathlib.Decide.{ℕ_discrete}
 use Rattle.rgo_core_memory.specs.declared.layout.TableSizes.{TableSizes}
 use Rattle.rgo_core_memory.specs.Records.{Rec, HasRecord}
 use Rattle.rgo_core_memory.specs.Ground.{Ground, taken_of}
-use Rattle.rgo_core_memory.specs.Pages.{times}
+use Rattle.rgo_core_memory.specs.Pages.{occurrences}
 use Rattle.rgo_core_memory.specs.Image.{MemoryImage, Where}
 use Rattle.rgo_core_memory.proofs.pages.Chains.{times_first, times_else}
 
 -- how often the numbers below n stand in a list
 abbrev spread : ℕ → List ℕ → ℕ
 spread zero l = 0
-spread (suc n) l = times n l + spread n l
+spread (suc n) l = occurrences n l + spread n l
 
 spread_none : (n : ℕ) → spread n [] ≡ 0
 spread_none zero = refl
@@ -34,10 +34,10 @@ spread_most n [] = let a = spread_none n in omega arith
 spread_most n (y ∷ l) = let a = spread_cons n y l in let b = spread_most n l in omega arith
 
 -- a list in which each of n numbers stands has at least n elements
-onto : (n : ℕ) (l : List ℕ) → ((r : ℕ) → r < n → 0 < times r l) → n ≤ length l
+onto : (n : ℕ) (l : List ℕ) → ((r : ℕ) → r < n → 0 < occurrences r l) → n ≤ length l
 onto n l all = let a = go n (λ r h. all r h) in let b = spread_most n l in omega arith
   where
-    go : (m : ℕ) → ((r : ℕ) → r < m → 0 < times r l) → m ≤ spread m l
+    go : (m : ℕ) → ((r : ℕ) → r < m → 0 < occurrences r l) → m ≤ spread m l
     go zero all = omega arith
     go (suc m) all = let a = go m (λ r h. all r (omega arith)) in let b = all m (omega arith) in omega arith
 
@@ -50,7 +50,7 @@ row_length : (f : ℕ → ℕ) (n : ℕ) → length (row f n) ≡ n
 row_length f zero = refl
 row_length f (suc n) = ap suc (row_length f n)
 
-row_has : (f : ℕ → ℕ) (n k p : ℕ) → k < n → f k ≡ p → 0 < times p (row f n)
+row_has : (f : ℕ → ℕ) (n k p : ℕ) → k < n → f k ≡ p → 0 < occurrences p (row f n)
 row_has f zero k p l e = absurd (omega arith)
 row_has f (suc n) k p l e = dite (ℕ_discrete (f n) p)
     (λ y. let t = times_first p (f n) (row f n) y in omega arith)
@@ -62,8 +62,8 @@ covered f n m all = let a = onto n (row f m) (λ p l. let t = all p l in row_has
 
 module _ (z : TableSizes) (words : List ℕ) (recs : List Rec) (x : Ground) (places : Where) (k : MemoryImage z words recs x places) (g : ℕ) (c : Rec)
     (own : HasRecord recs g c) where
-  pub pages_spent : ((p : ℕ) → p < z.pages → 0 < times p c.tried_pages) → z.pages ≤ taken_of x
+  pub pages_spent : ((p : ℕ) → p < z.pages → 0 < occurrences p c.tried_pages) → z.pages ≤ taken_of x
   pages_spent all = covered places.page z.pages (taken_of x) (λ p l. k.taken.pages p (inr (g, c, own, all p l)))
 
-  pub slots_spent : ((s : ℕ) → s < z.slots → 0 < times s c.tried_slots) → z.slots ≤ length x.regions
+  pub slots_spent : ((s : ℕ) → s < z.slots → 0 < occurrences s c.tried_slots) → z.slots ≤ length x.regions
   slots_spent all = covered places.slot z.slots (length x.regions) (λ s l. k.taken.slots s l (inr (g, c, own, all s l)))

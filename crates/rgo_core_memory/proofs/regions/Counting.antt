@@ -3,7 +3,7 @@ use Rattle.std.proofs.Common.{◌≡◌, ◌≢◌, ℕ, suc, ◌<◌, List, len
 use mathlib.Core.Logic.{dite}
 use native.Mathlib.Decide.{ℕ_discrete}
 use Rattle.rgo_core_memory.specs.declared.layout.TableSizes.{TableSizes}
-use Rattle.rgo_core_memory.specs.Words.{put, count_at}
+use Rattle.rgo_core_memory.specs.Words.{put_at, count_at}
 use Rattle.rgo_core_memory.specs.Records.{Give, Calm, Gave, Rec, HasRecord, ClosesSlot, with_give}
 use Rattle.rgo_core_memory.specs.Ground.{Ground}
 use Rattle.rgo_core_memory.specs.Pages.{PageChain}
@@ -15,7 +15,7 @@ use Rattle.rgo_core_memory.proofs.pages.Releases.{freed}
 use Rattle.rgo_core_memory.proofs.Writes.{writes_count}
 
 pub taken_count : (z : TableSizes) (states counts : ℕ → ℕ) (recs : List Rec) (takes creations : ℕ) (slot page : ℕ → ℕ) (r n : ℕ)
-    → (0 < n → 0 < counts r) → Taken z states counts recs takes creations slot page → Taken z states (put counts r n) recs takes creations slot page
+    → (0 < n → 0 < counts r) → Taken z states counts recs takes creations slot page → Taken z states (put_at counts r n) recs takes creations slot page
 taken_count z states counts recs takes creations slot page r n some k = record {
   pages = k.pages;
   slots = λ s l f. k.slots s l (⊎_elim
@@ -29,7 +29,7 @@ module _ (z : TableSizes) (words : List ℕ) (recs : List Rec) (x : Ground) (pla
   module _ (g : ℕ) (c : Rec) (own : HasRecord recs g c) where
     -- a slot is freed
     pub slot_freed : (r : ℕ) → c.give ≡ Gave r
-        → MemoryImage z (set words (count_at z r) 0) (slice_set recs g (with_give c Calm)) x (record places { uses = put places.uses r Vacant })
+        → MemoryImage z (set words (count_at z r) 0) (slice_set recs g (with_give c Calm)) x (record places { uses = put_at places.uses r Vacant })
     slot_freed r before =
         let d : Rec = with_give c Calm in
         let closes : ClosesSlot c.give r = subst (λ (y : Give). ClosesSlot y r) (sym before) refl in
@@ -39,7 +39,7 @@ module _ (z : TableSizes) (words : List ℕ) (recs : List Rec) (x : Ground) (pla
         let top : places.top r ≡ 0 = subst (λ (l : List ℕ). PageChain places.link (places.top r) l) done.1 (k.pages.chains r) in
         let mine_is : (s : ℕ) → ClosesSlot c.give s → r ≡ s = λ s q. subst (λ (y : Give). ClosesSlot y s) before q in
         record {
-          w = record k.w { count = put k.w.count r 0 };
+          w = record k.w { count = put_at k.w.count r 0 };
           shows = writes_count z words k.w k.shows r 0 below;
           lies = k.lies;
           own = own_same recs g c d own z k.w.state k.w.cell x.heap x.owners x.regions places.slot places.spot k.own refl refl refl;

@@ -13,10 +13,10 @@ use Rattle.rgo_sound.proofs.Places.{get_append_left, get_append_last}
 use Rattle.rgo_sound.proofs.Tests.{ne_of}
 use Rattle.rgo_sound.specs.Stakes.{is_in}
 use Rattle.rgo_core_memory.specs.declared.layout.TableSizes.{TableSizes}
-use Rattle.rgo_core_memory.specs.Words.{put, count_at}
+use Rattle.rgo_core_memory.specs.Words.{put_at, count_at}
 use Rattle.rgo_core_memory.specs.Records.{PageClaim, Rec, Claims}
-use Rattle.rgo_core_memory.specs.Ground.{Ground, Held, IsLiveObject, MayUseRegion, Steady, created, taken_of}
-use Rattle.rgo_core_memory.specs.Pages.{Place, Free, Chained, Claimed, PageChain, times}
+use Rattle.rgo_core_memory.specs.Ground.{Ground, Held, IsLiveObject, MayUseRegion, Steady, with_new_region, taken_of}
+use Rattle.rgo_core_memory.specs.Pages.{Place, Free, Chained, Claimed, PageChain, occurrences}
 use Rattle.rgo_core_memory.specs.Parts.{Own, OwnPagesFilled, slot_of, Use, Vacant, Living, Closing, SlotCounts, Paged, pages_at, Taken}
 use Rattle.rgo_core_memory.specs.Image.{MemoryImage, Where}
 use Rattle.rgo_core_memory.proofs.image.Frames.{lies_fewer}
@@ -60,10 +60,10 @@ module _ (z : TableSizes) (words : List ℕ) (recs : List Rec) (x : Ground) (pla
   held = slice_set x.held g h2
 
   abbrev slot : ℕ → ℕ
-  slot = put places.slot j r
+  slot = put_at places.slot j r
 
   abbrev uses : ℕ → Use
-  uses = put places.uses r (Living j)
+  uses = put_at places.uses r (Living j)
 
   below_all : r < suc z.slots
   below_all = omega arith
@@ -198,7 +198,7 @@ module _ (z : TableSizes) (words : List ℕ) (recs : List Rec) (x : Ground) (pla
   away : (s : ℕ) (u : Use) → places.uses s ≡ u → Vacant ≢ u → s ≢ r
   away s u e n q = n (sym vacant ∙ (ap places.uses (sym q) ∙ e))
 
-  counts_created : SlotCounts z (put k.w.count r 2) places.top recs infos slot uses
+  counts_created : SlotCounts z (put_at k.w.count r 2) places.top recs infos slot uses
   counts_created = record {
     global = put_else k.w.count r 2 z.slots (λ e. omega arith) ∙ k.counts.global;
     vacant = λ s l e. dite (ℕ_discrete s r)
@@ -247,7 +247,7 @@ module _ (z : TableSizes) (words : List ℕ) (recs : List Rec) (x : Ground) (pla
   same_takes : x.global_pages + sum_by (λ (i : RegionInfo). i.pages) infos ≡ taken_of x
   same_takes = let s = sum_by_push (λ (i : RegionInfo). i.pages) x.regions (record { stakes = 1; pages = 0 }) in omega (arith, s)
 
-  taken_created : Taken z k.w.state (put k.w.count r 2) recs (x.global_pages + sum_by (λ (i : RegionInfo). i.pages) infos)
+  taken_created : Taken z k.w.state (put_at k.w.count r 2) recs (x.global_pages + sum_by (λ (i : RegionInfo). i.pages) infos)
       (length infos) slot places.page
   taken_created = record {
     pages = λ p f. let t = k.taken.pages p f in let s = same_takes in let l = t.1 in (t.0, omega (arith, l, s), t.2);
@@ -269,7 +269,7 @@ module _ (z : TableSizes) (words : List ℕ) (recs : List Rec) (x : Ground) (pla
           let top : places.top s ≡ 0 = (k.counts.vacant s (subst (λ (m : ℕ). m < z.slots) (sym same) small) (ap places.uses same ∙ vacant)).1 in
           let none : places.chain s ≡ [] = empty_chain places.link (places.chain s) (subst (λ (m : ℕ). PageChain places.link m (places.chain s)) top
           (k.pages.chains s)) in
-          let c : 0 < times p [] = subst (λ (l : List ℕ). 0 < times p l) none y.1 in omega (arith, c)
+          let c : 0 < occurrences p [] = subst (λ (l : List ℕ). 0 < occurrences p l) none y.1 in omega (arith, c)
       go (Claimed i) q =
           let y = k.pages.is_claimed p i q in
           let v = y.4 in
@@ -293,13 +293,13 @@ module _ (z : TableSizes) (words : List ℕ) (recs : List Rec) (x : Ground) (pla
   }
 
   -- a creation
-  pub one_created : MemoryImage z (set words (count_at z r) 2) recs (created x g h) (record places {
-    slot = put places.slot
+  pub one_created : MemoryImage z (set words (count_at z r) 2) recs (with_new_region x g h) (record places {
+    slot = put_at places.slot
         (length x.regions) r;
-    uses = put places.uses r (Living (length x.regions));
+    uses = put_at places.uses r (Living (length x.regions));
   })
   one_created = record {
-    w = record k.w { count = put k.w.count r 2 };
+    w = record k.w { count = put_at k.w.count r 2 };
     shows = writes_count z words k.w k.shows r 2 below_all;
     lies = lies_fewer z k.w.variable k.w.cell x.variables x.heap x.owners x.regions infos places.spot places.start k.lies fewer (omega (arith, many));
     own = own_created;

@@ -14,9 +14,9 @@ use Rattle.rgo_sound.proofs.Tests.{ne_of}
 use Rattle.rgo_sound.specs.Stakes.{is_in}
 use Rattle.rgo_sound.proofs.counts.Pages.{pages_kept}
 use Rattle.rgo_core_memory.specs.declared.layout.TableSizes.{TableSizes}
-use Rattle.rgo_core_memory.specs.Words.{put, count_at}
+use Rattle.rgo_core_memory.specs.Words.{put_at, count_at}
 use Rattle.rgo_core_memory.specs.Records.{Fill, Amid, PageClaim, Give, Calm, Owes, Rec, HasRecord, Within, Owns, Claims, ClosesSlot, dropped}
-use Rattle.rgo_core_memory.specs.Ground.{Ground, Held, IsLiveObject, MayUseRegion, Steady, shared, left, taken_of}
+use Rattle.rgo_core_memory.specs.Ground.{Ground, Held, IsLiveObject, MayUseRegion, Steady, region_shared, left, taken_of}
 use Rattle.rgo_core_memory.specs.Parts.{Lies, Own, OwnPagesFilled, slot_of, StakeAt, Use, Vacant, Living, Closing, Taken}
 use Rattle.rgo_core_memory.specs.Image.{MemoryImage, Where}
 use Rattle.rgo_core_memory.proofs.regions.Counting.{taken_count}
@@ -79,23 +79,23 @@ module _ (z : TableSizes) (words : List ℕ) (recs : List Rec) (x : Ground) (pla
     same_takes = ap (λ (m : ℕ). x.global_pages + m) (pages_kept x.regions j change same_pages)
 
     taken_changed : (more : List Rec) (m : ℕ) → Taken z k.w.state k.w.count more (taken_of x) (length x.regions) places.slot places.page
-        → Taken z k.w.state (put k.w.count s m) more (x.global_pages + sum_by (λ (i : RegionInfo). i.pages) infos)
+        → Taken z k.w.state (put_at k.w.count s m) more (x.global_pages + sum_by (λ (i : RegionInfo). i.pages) infos)
         (length infos) places.slot places.page
     taken_changed more m t =
-        subst (λ (a : ℕ). Taken z k.w.state (put k.w.count s m) more a (length infos) places.slot places.page) (sym same_takes)
-        (subst (λ (b : ℕ). Taken z k.w.state (put k.w.count s m) more (taken_of x) b places.slot places.page) (sym same_length)
+        subst (λ (a : ℕ). Taken z k.w.state (put_at k.w.count s m) more a (length infos) places.slot places.page) (sym same_takes)
+        (subst (λ (b : ℕ). Taken z k.w.state (put_at k.w.count s m) more (taken_of x) b places.slot places.page) (sym same_length)
         (taken_count z k.w.state k.w.count more (taken_of x) (length x.regions) places.slot places.page s m
         (λ l. let t = k.counts.living s j slotted.0 slotted.1 in let q = t.4 in omega arith) t))
 
   -- a share
-  pub one_shared : MemoryImage z (set words (count_at z s) (n + 1)) recs (shared x j) places
+  pub one_shared : MemoryImage z (set words (count_at z s) (n + 1)) recs (region_shared x j) places
   one_shared = record {
-    w = record k.w { count = put k.w.count s (n + 1) };
+    w = record k.w { count = put_at k.w.count s (n + 1) };
     shows = writes_count z words k.w k.shows s (n + 1) below_all;
     lies = lies_changed with_added_stake (λ i. refl);
     own = own_changed with_added_stake (λ i. refl) recs k.own;
     filled = subst (λ (m : ℕ). OwnPagesFilled z recs x.held m places.slot) (sym (same_length with_added_stake (λ i. refl))) k.filled;
-    counts = counts_change z k.w.count (put k.w.count s
+    counts = counts_change z k.w.count (put_at k.w.count s
         (n + 1)) places.top recs x.regions places.slot places.uses j with_added_stake info.0 k.counts info.1 info.2
         (omega arith) (put_here k.w.count s (n + 1) s refl ∙ (let f = found in omega arith)) (λ r ne. put_else k.w.count s (n + 1) r ne);
     pages = k.pages;
@@ -232,13 +232,13 @@ module _ (z : TableSizes) (words : List ℕ) (recs : List Rec) (x : Ground) (pla
       other_left give more =
           let f = found in
           record {
-            w = record k.w { count = put k.w.count s (n - 1) };
+            w = record k.w { count = put_at k.w.count s (n - 1) };
             shows = writes_count z words k.w k.shows s (n - 1) below_all;
             lies = lies_changed one_fewer (λ i. refl);
             own = own_changed one_fewer (λ i. refl) recs2 own_left;
             filled = filled_left (length (with_info x.regions j one_fewer)) (sym (same_length one_fewer (λ i. refl)));
-            counts = counts_calm recs g c d own z (put k.w.count s (n - 1)) places.top (with_info x.regions j one_fewer) places.slot places.uses
-                (counts_change z k.w.count (put k.w.count s
+            counts = counts_calm recs g c d own z (put_at k.w.count s (n - 1)) places.top (with_info x.regions j one_fewer) places.slot places.uses
+                (counts_change z k.w.count (put_at k.w.count s
                 (n - 1)) places.top recs x.regions places.slot places.uses j one_fewer info.0 k.counts info.1 info.2
                 (two_left (info.0).stakes info.2 (λ e. more (f ∙ ap suc e)))
                 (put_here k.w.count s (n - 1) s refl ∙ one_less n (info.0).stakes info.2 f) (λ r ne. put_else k.w.count s (n - 1) r ne)) give;
@@ -258,13 +258,13 @@ module _ (z : TableSizes) (words : List ℕ) (recs : List Rec) (x : Ground) (pla
 
       -- a leave, where it was the last: the region goes, and its chain is to be given back
       pub last_left : c.give ≡ Calm → d.give ≡ Owes s → n ≡ 2
-          → MemoryImage z (set words (count_at z s) (n - 1)) recs2 (left x g h j) (record places { uses = put places.uses s (Closing g) })
+          → MemoryImage z (set words (count_at z s) (n - 1)) recs2 (left x g h j) (record places { uses = put_at places.uses s (Closing g) })
       last_left calm give last =
           let f = found in
           let one : (info.0).stakes ≡ 1 = omega (arith, f, last) in
           let away : (r : ℕ) (u : Use) → places.uses r ≡ u → Living j ≢ u → r ≢ s = λ r u e m q. m (sym slotted.1 ∙ (ap places.uses (sym q) ∙ e)) in
           record {
-            w = record k.w { count = put k.w.count s (n - 1) };
+            w = record k.w { count = put_at k.w.count s (n - 1) };
             shows = writes_count z words k.w k.shows s (n - 1) below_all;
             lies = lies_changed one_fewer (λ i. refl);
             own = own_changed one_fewer (λ i. refl) recs2 own_left;

@@ -4,8 +4,8 @@ use Rattle.rgo_ast.specs.declared.names.ImportPath.{ImportPath}
 use Rattle.rgo_ast.specs.Tree.{Binding, TypeSpec}
 use Rattle.rgo_ast.specs.Tree as tree
 use Rattle.rgo_lexer.specs.{declared.terminals.Terminal.{Terminal, TheVariants.{Name, Text, OpenParen, CloseParen, OpenBrace, CloseBrace, Comma, Semicolon, Import}}, Lexemes.{Leaf, Lexeme, tok, is_same_terminal}}
-use Rattle.rgo_grammar.specs.Grammar.{IsPath, IsImport, IsTypeSpec, IsResult, IsBinding, IsType, IsStmts, IsDecl, IsProgram, Listed, Each, Each.{none as no_more, next}}
-use Rattle.rgo_grammar.specs.reading.{Read.{Reader, Done, ◌>>=◌, given, first_of, single}, Types.{a_type, binding}, Declarations.{group_by, group, import_path, type_spec, result_on, function, func, decls_on, decls, imports_by, imports_on, imports, program}}
+use Rattle.rgo_grammar.specs.Grammar.{IsPath, IsImport, IsTypeSpec, IsResult, IsBinding, IsType, IsStmts, IsDecl, IsProgram, Listed, EachWithSemicolon, EachWithSemicolon.{none as no_more, next}}
+use Rattle.rgo_grammar.specs.reading.{Read.{Reader, Done, ◌>>=◌, yielding, next_lexeme, single}, Types.{a_type, a_binding}, Declarations.{group_by, group, import_path, type_spec, result_on, function, func, decls_on, decls, imports_by, imports_on, imports, program}}
 use Rattle.rgo_grammar.specs.Grammar as g
 use Rattle.rgo_grammar.proofs.reading.{Complete.{Meets, meets_trans, meets_bind, meets_then, Opens, listed_complete, not_true}, Next.{begins_append}}
 use Rattle.rgo_grammar.proofs.types.Complete.{type_complete, binding_complete, binding_opens, bindings_complete}
@@ -58,7 +58,7 @@ import_complete : {x : List Lexeme} {d : tree.Import} → IsImport x d
     → (n : ℕ) (found : List tree.Import) (again : List tree.Import → Reader (List tree.Import))
     (j : Leaf) (l : List Lexeme)
     → Meets (imports_on n again found (x ++ tok Semicolon j ∷ l)
-    (first_of (x ++ tok Semicolon j ∷ l))) (again (found ++ d ∷ []) l)
+    (next_lexeme (x ++ tok Semicolon j ∷ l))) (again (found ++ d ∷ []) l)
 import_complete (g.one i {x} {p} h) n found again j l =
     meets_then _
     (meets_bind _
@@ -82,7 +82,7 @@ imports_end n zero found l h = inl refl
 imports_end n (suc m) found [] h = inr refl
 imports_end n (suc m) found (t ∷ l) h = inr (no_import n (imports n m) found t.terminal t.leaf l h)
 
-imports_complete : {x : List Lexeme} {all : List tree.Import} → Each IsImport x all
+imports_complete : {x : List Lexeme} {all : List tree.Import} → EachWithSemicolon IsImport x all
     → (n m : ℕ) (found : List tree.Import) (l : List Lexeme) → NoImport l
     → Meets (imports n m found (x ++ l)) (Done (found ++ all) l)
 unfolding imports
@@ -111,11 +111,11 @@ var_opens : (k : Terminal) → (is_same_terminal k Name ≡ false) × (is_same_t
 var_opens k e x b h = binding_opens k e.0 x b h
 
 var_reads : (n : ℕ) (x : List Lexeme) (b : Binding) → IsBinding x b → (l : List Lexeme)
-    → Meets (binding n (x ++ l)) (Done b l)
+    → Meets (a_binding n (x ++ l)) (Done b l)
 var_reads n x b h l = binding_complete x b h n l
 
 result_type : (n : ℕ) (x : List Lexeme) (t : tree.TypeExpr) (l : List Lexeme) → IsType x t
-    → result_on n (x ++ l) (first_of (x ++ l)) ≡ (a_type n (x ++ l) >>= given (λ t. Some t))
+    → result_on n (x ++ l) (next_lexeme (x ++ l)) ≡ (a_type n (x ++ l) >>= yielding (λ t. Some t))
 result_type n _ _ l (g.named i) = refl
 result_type n _ _ l (g.pointer i j) = refl
 result_type n _ _ l (g.slice i j h) = refl
@@ -123,7 +123,7 @@ result_type n _ _ l (g.chan i h) = refl
 
 result_complete : {x : List Lexeme} {r : Option tree.TypeExpr} → IsResult x r
     → (n : ℕ) (m : Leaf) (l : List Lexeme)
-    → Meets (result_on n (x ++ tok OpenBrace m ∷ l) (first_of (x ++ tok OpenBrace m ∷ l)))
+    → Meets (result_on n (x ++ tok OpenBrace m ∷ l) (next_lexeme (x ++ tok OpenBrace m ∷ l)))
     (Done r (tok OpenBrace m ∷ l))
 result_complete g.none n m l = inr refl
 result_complete (g.some {x} {t} h) n m l =
@@ -146,7 +146,7 @@ module _ (n : ℕ) where
       → (found : List tree.Decl) (again : List tree.Decl → Reader (List tree.Decl)) (j : Leaf)
       (l : List Lexeme)
       → Meets (decls_on n again found (x ++ tok Semicolon j ∷ l)
-      (first_of (x ++ tok Semicolon j ∷ l))) (again (found ++ d ∷ []) l)
+      (next_lexeme (x ++ tok Semicolon j ∷ l))) (again (found ++ d ∷ []) l)
   decl_complete (g.type i {x} {s} h) found again j l =
       meets_then _
       (meets_bind _
@@ -160,19 +160,19 @@ module _ (n : ℕ) where
   decl_complete (g.var i {x} {b} h) found again j l =
       meets_then _
       (meets_bind _
-      (group_one n IsBinding (binding n) var_opens (var_reads n) x b (tok Semicolon j ∷ l) h))
+      (group_one n IsBinding (a_binding n) var_opens (var_reads n) x b (tok Semicolon j ∷ l) h))
       (inr refl)
   decl_complete (g.vars i k {y} {bs} d) found again j l =
       meets_then _
       (meets_bind _
-      (group_list n IsBinding (binding n) var_opens (var_reads n) k y bs (tok Semicolon j ∷ l) d))
+      (group_list n IsBinding (a_binding n) var_opens (var_reads n) k y bs (tok Semicolon j ∷ l) d))
       (inr refl)
   decl_complete (g.func i j k m end {x} {y} {z} {ps} {r} {b} p q s) found again s' l =
       rw (append_assoc, append_assoc)
       (meets_then _
       (func_complete i j k m end x y z ps r b (tok Semicolon s' ∷ l) p q s) (inr refl))
 
-  decls_complete : {x : List Lexeme} {all : List tree.Decl} → Each IsDecl x all
+  decls_complete : {x : List Lexeme} {all : List tree.Decl} → EachWithSemicolon IsDecl x all
       → (m : ℕ) (found : List tree.Decl) → Meets (decls n m found x) (Done (found ++ all) [])
   unfolding decls
   decls_complete no_more zero found = inl refl
@@ -191,7 +191,7 @@ module _ (n : ℕ) where
   decl_starts (g.vars i j d) l = refl
   decl_starts (g.func i j k m end p q s) l = refl
 
-  decls_start : {x : List Lexeme} {all : List tree.Decl} → Each IsDecl x all → NoImport x
+  decls_start : {x : List Lexeme} {all : List tree.Decl} → EachWithSemicolon IsDecl x all → NoImport x
   decls_start no_more = tt
   decls_start (next j {x} {y} p e) = decl_starts p (tok Semicolon j ∷ y)
 

@@ -5,7 +5,7 @@ use Rattle.rgo_ast.specs.Tree.{TypeSpec, Binding}
 use Rattle.rgo_ast.specs.Tree as tree
 use Rattle.rgo_lexer.specs.{declared.terminals.Terminal.{Terminal, TheVariants.{TypeWord, Var, Name, Text, OpenParen, CloseParen, OpenBrace, Comma, Import, Struct, Func}}, Lexemes.{Leaf, Lexeme, tok}}
 use Rattle.rgo_grammar.specs.Grammar.{IsPath, IsImport, IsTypeSpec, IsResult, IsBinding, IsDecl, Listed}
-use Rattle.rgo_grammar.specs.reading.{Read.{◌>>=◌, given, first_of}, Statements.{block}, Declarations.{import_path, import_decl, type_spec, result_by, function, func, group, result_on}, Types.{binding}}
+use Rattle.rgo_grammar.specs.reading.{Read.{◌>>=◌, yielding, next_lexeme}, Statements.{block}, Declarations.{import_path, import_decl, type_spec, result_by, function, func, group, result_on}, Types.{a_binding}}
 use Rattle.rgo_grammar.specs.Grammar as g
 use Rattle.rgo_grammar.proofs.machine.{Table.{T, Paths, PathList, Specs, SpecList, Vars, VarList, Fields, AType, Params, Result, Block, step}, Runs.{run}, Starts.{starts_as}}
 use Rattle.rgo_grammar.proofs.reading.{Correct.{Correct, same_start, correct_bind, correct_given, correct_under, correct_then, correct_token_then, correct_token_given, shorter, at_token, Empties, Correct.{done}}, Lists.{IsGroup, group_correct, list_syms}}
@@ -50,7 +50,7 @@ types_of z i ss (inr (j, y, e, h)) = rw e (g.types i j h)
 pub types_correct : (n : ℕ) (i : Leaf) (m : List Lexeme) → length m ≤ n
     → Empties (Specs ∷ [])
     (λ z d. IsDecl (tok TypeWord i ∷ z) d) m
-    (group (type_spec n) n m >>= given (λ ss. tree.Types ss i.at))
+    (group (type_spec n) n m >>= yielding (λ ss. tree.Types ss i.at))
 types_correct n i m h =
     correct_given _
     (group_correct {L = SpecList} (type_spec n) (length m)
@@ -66,10 +66,10 @@ vars_of z i bs (inr (j, y, e, h)) = rw e (g.vars i j h)
 
 pub vars_correct : (n : ℕ) (i : Leaf) (m : List Lexeme) → length m < n
     → Empties (Vars ∷ [])
-    (λ z d. IsDecl (tok Var i ∷ z) d) m (group (binding n) n m >>= given (λ bs. tree.Vars bs i.at))
+    (λ z d. IsDecl (tok Var i ∷ z) d) m (group (a_binding n) n m >>= yielding (λ bs. tree.Vars bs i.at))
 vars_correct n i m h =
     correct_given _
-    (group_correct {L = VarList} (binding n) (length m)
+    (group_correct {L = VarList} (a_binding n) (length m)
     (λ l e. binding_correct n l (omega arith)) (list_syms refl refl refl refl refl refl) refl refl n
     m (omega arith) (omega arith)) (λ z bs w d. vars_of z i bs d)
 
@@ -91,7 +91,7 @@ module _ (n : ℕ) where
       → IsResult y r
       → Empties (Block ∷ [])
       (λ z d. IsDecl (tok Func i ∷ tok Name j ∷ tok OpenParen k ∷ (x ++ (y ++ z))) d) l
-      (block n l >>= given (λ b. function i j ps r b.0 b.1))
+      (block n l >>= yielding (λ b. function i j ps r b.0 b.1))
   body_correct i j k x y ps r l h p q =
       correct_given _ (block_correct n l h) (λ z b w d. rw d.2 (g.func i j k d.0 b.1 p q d.3))
 
@@ -105,7 +105,7 @@ module _ (n : ℕ) where
       (bindings_correct (list_syms refl refl refl refl refl refl) n u
       (omega (arith, ap length c, ap length d)))
       (λ x ps v e p. correct_bind
-      (at_token (λ w. result_on n w (first_of w)) refl refl
+      (at_token (λ w. result_on n w (next_lexeme w)) refl refl
       (λ t n' c'. result_by_correct n t.terminal t.leaf n'
       (omega (arith, ap length c, ap length d, shorter u x v e, ap length c'))))
       (λ y r v' f q. body_correct i j k x y ps.0 r v'

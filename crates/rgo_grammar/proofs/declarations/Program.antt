@@ -2,8 +2,8 @@
 use Rattle.std.proofs.Common.{◌≡◌, ℕ, zero, suc, ◌+◌, ◌*◌, ◌<◌, ◌≤◌, List, [], ◌∷◌, ◌++◌, length, refl, sym, ◌∙◌, ap, append_assoc, arith, append-nil}
 use Rattle.rgo_ast.specs.Tree as tree
 use Rattle.rgo_lexer.specs.{declared.terminals.Terminal.{Terminal, TheVariants.{Main, Semicolon, Package, Import, TypeWord, Var, Func}}, Lexemes.{is_same_terminal, Leaf, Lexeme, tok}}
-use Rattle.rgo_grammar.specs.Grammar.{IsImport, IsDecl, IsProgram, Each}
-use Rattle.rgo_grammar.specs.reading.{Read.{Reader, Read, Done, Failed, At, ◌>>=◌, given, token}, Declarations.{decl_by, decls, imports_by, imports, head, program}}
+use Rattle.rgo_grammar.specs.Grammar.{IsImport, IsDecl, IsProgram, EachWithSemicolon}
+use Rattle.rgo_grammar.specs.reading.{Read.{Reader, Read, Done, Failed, At, ◌>>=◌, yielding, token}, Declarations.{decl_by, decls, imports_by, imports, head, program}}
 use Rattle.rgo_grammar.specs.Grammar as g
 use Rattle.rgo_grammar.proofs.machine.{Table.{Sym, T, Program, Imports, Decls, step}, Runs.{Accepted, Stopped, run, closes}, Starts.{one_start, alike}}
 use Rattle.rgo_grammar.proofs.reading.{Correct.{Correct, token_read, same_start, correct_weaker, correct_under, correct_then, correct_token, correct_token_then, shorter, Empties, Correct.{done, stops}}, Next.{NotNext}}
@@ -32,7 +32,7 @@ closed_bind {from = from} (stops h) k = rejects (let e = h [] in rw (append-nil 
 
 closed_given : {A B : Type 0} {from : List Sym} {P : List Lexeme → A → Type 0}
     {Q : List Lexeme → B → Type 0} {l : List Lexeme} {m : Read A} (f : A → B) → Closed from P l m
-    → ((a : A) → P l a → Q l (f a)) → Closed from Q l (m >>= given f)
+    → ((a : A) → P l a → Q l (f a)) → Closed from Q l (m >>= yielding f)
 closed_given f (accepts {a} p h) k = accepts (k a p) h
 closed_given f (rejects h) k = rejects h
 
@@ -61,7 +61,7 @@ head_correct l =
 
 abbrev Parts : List Lexeme → List tree.Import × List tree.Decl → Type 0
 Parts z x =
-    (i : List Lexeme) × (d : List Lexeme) × (z ≡ i ++ d) × Each IsImport i x.0 × Each IsDecl d x.1
+    (i : List Lexeme) × (d : List Lexeme) × (z ≡ i ++ d) × EachWithSemicolon IsImport i x.0 × EachWithSemicolon IsDecl d x.1
 
 headed : {z w : List Lexeme} {r : Read (List tree.Import × List tree.Decl)} → IsHead z
     → Closed (Imports ∷ []) Parts w r
@@ -88,7 +88,7 @@ module _ (n : ℕ) where
       (f (tok k i ∷ z) d j v (omega (arith, shorter m z w c, shorter w u v o, ap length q)) p)))) e
 
   abbrev DeclsAfter : List tree.Decl → List Lexeme → List tree.Decl → Type 0
-  DeclsAfter found z ds = (new : List tree.Decl) × (ds ≡ found ++ new) × Each IsDecl z new
+  DeclsAfter found z ds = (new : List tree.Decl) × (ds ≡ found ++ new) × EachWithSemicolon IsDecl z new
 
   after_one : (found : List tree.Decl) {x : List Lexeme} {d : tree.Decl} (j : Leaf)
       {w : List Lexeme} {r : Read (List tree.Decl)} → IsDecl x d
@@ -129,7 +129,7 @@ module _ (n : ℕ) where
 
   abbrev ImportsAfter : List tree.Import → List Lexeme → List tree.Import → List Lexeme → Type 0
   ImportsAfter found z ds w =
-      ((new : List tree.Import) × (ds ≡ found ++ new) × Each IsImport z new) × NoImport w
+      ((new : List tree.Import) × (ds ≡ found ++ new) × EachWithSemicolon IsImport z new) × NoImport w
 
   imports_by_correct : (again : List tree.Import → Reader (List tree.Import))
       (found : List tree.Import) (k : Terminal) (i : Leaf) (m : List Lexeme) → length m ≤ n
@@ -170,7 +170,7 @@ module _ (n : ℕ) where
 
   body_correct : (l : List Lexeme) → 4 * length l + 4 ≤ n
       → Closed (Imports ∷ []) Parts l
-      (imports n n [] l >>= λ is u. decls n n [] u >>= given (λ ds. (is, ds)))
+      (imports n n [] l >>= λ is u. decls n n [] u >>= yielding (λ ds. (is, ds)))
   body_correct l h =
       closed_bind (imports_correct n [] l (omega arith) (omega arith))
       (λ z is w c p. closed_from [] refl

@@ -4,7 +4,7 @@ use Rattle.rgo_ast.specs.declared.names.Ident.{Ident}
 use Rattle.rgo_ast.specs.Tree as tree
 use Rattle.rgo_lexer.specs.{declared.terminals.Terminal.{Terminal, TheVariants.{Name, Binary, OpenParen, OpenBracket, CloseBracket, CloseBrace, Comma, Colon, Dot, CloseParen}}, Lexemes.{Leaf, Lexeme, tok, ident}}
 use Rattle.rgo_grammar.specs.Grammar.{level, IsExpr, IsUnary, IsPrimary, IsExprs, IsElements, IsExpr.{unary as of_unary, binary}, IsUnary.{signed, literal, keyed, primary as of_primary}, IsPrimary.{number, text, name, parens, new, make_slice, make_chan, make_sized, select, index, call}, IsExprs.{none, last, more}, IsElements.{no_element, last_element, more_elements}}
-use Rattle.rgo_grammar.specs.reading.{Read.{Done}, Expressions.{exprs, exprs_from, element, elements_from, expr, climb, unary, primary, post}}
+use Rattle.rgo_grammar.specs.reading.{Read.{Done}, Expressions.{exprs, exprs_from, keyed_element, elements_from, expr, climb, unary, primary, post}}
 use Rattle.rgo_grammar.proofs.machine.Table.{both}
 use Rattle.rgo_grammar.proofs.reading.{Complete.{Meets, meets_trans, meets_bind, meets_then, items_last, items_more, items_none}, Next.{next_also, begins_append}}
 use Rattle.rgo_grammar.proofs.types.Complete.{type_complete}
@@ -129,20 +129,20 @@ mutual
       → (j : Leaf) × Meets (elements_from n (expr false m 1) found (y ++ l))
       (Done (found ++ es, j) l)
   elements_found (no_element j) m n found l =
-      items_none Comma CloseBrace refl (element (expr false m 1)) n found j l
+      items_none Comma CloseBrace refl (keyed_element (expr false m 1)) n found j l
   elements_found (last_element i c j {x} {v} f) m n found l =
       let h = meets_bind _
       (finished false m x (omega arith, refl)
       (formula_complete f m 1 (tok CloseBrace j ∷ l) (omega arith))) in
       rw append_assoc
-      (items_last Comma CloseBrace refl (element (expr false m 1)) n found (ident i, v) j
+      (items_last Comma CloseBrace refl (keyed_element (expr false m 1)) n found (ident i, v) j
       (tok Name i ∷ tok Colon c ∷ x) l refl h)
   elements_found (more_elements i c j {x} {y} {v} {vs} f d) m n found l =
       let h = meets_bind _
       (finished false m x (omega arith, refl)
       (formula_complete f m 1 (tok Comma j ∷ (y ++ l)) (omega arith))) in
       rw append_assoc
-      (items_more Comma CloseBrace refl (element (expr false m 1)) n found vs (ident i, v) j
+      (items_more Comma CloseBrace refl (keyed_element (expr false m 1)) n found vs (ident i, v) j
       (tok Name i ∷ tok Colon c ∷ x) y l refl h (λ k us. elements_found d m k us l))
 
 pub expr_complete : {h : Bool} {x : List Lexeme} {v : tree.Expr} → IsExpr h 1 x v

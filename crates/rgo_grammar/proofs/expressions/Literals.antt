@@ -5,7 +5,7 @@ use Rattle.rgo_ast.specs.Tree.{elements_of}
 use Rattle.rgo_ast.specs.Tree as tree
 use Rattle.rgo_lexer.specs.{declared.terminals.Terminal.{Terminal, TheVariants.{Name, Ampersand, OpenBrace, CloseBrace, Comma, Colon}}, Lexemes.{Leaf, Lexeme, tok, ident, is_same_terminal}}
 use Rattle.rgo_grammar.specs.Grammar.{Listed, IsExpr, IsUnary, IsElements, Listed.{none as none_item, last as last_item, more as next_item}, IsUnary.{literal, keyed as with_keys}, IsElements.{no_element, last_element, more_elements}}
-use Rattle.rgo_grammar.specs.reading.{Read.{Reader, ◌>>=◌, given, ended, listed, single, several}, Expressions.{element, elements_from, is_keyed, keyed, unkeyed, elements, literal as read_literal}}
+use Rattle.rgo_grammar.specs.reading.{Read.{Reader, ◌>>=◌, yielding, list_rest, listed, single, several}, Expressions.{keyed_element, elements_from, is_keyed, keyed, unkeyed, elements, literal as read_literal}}
 use Rattle.rgo_grammar.proofs.machine.{Table.{Sym, T, Unary, Bin, Elems, ElemsMore, KeyedMore, step, ElemsEnd, ElemsNamed, Post, then_all, bin_row, find, joined, next, post_row, row}, Runs.{run, closes}, Starts.{after_name, alike, name_ends}}
 use Rattle.rgo_grammar.proofs.reading.{Correct.{same_start, correct_given, correct_weaker, correct_token_then, Empties}, Complete.{bind_assoc}, Lists.{list_syms, token_list}}
 use Rattle.rgo_grammar.proofs.expressions.{Starts.{Reads}, Operands.{exprs_correct}}
@@ -100,22 +100,22 @@ key_run i c m s = refl
 pub keyed_list : (n : ℕ) (inner : Reader tree.Expr) (i j : Leaf) (t : Lexeme) (l : List Lexeme)
     → is_same_terminal CloseBrace t.terminal ≡ false
     → keyed n inner i j (t ∷ l)
-    ≡ (elements_from (suc n) inner [] (t ∷ l) >>= given
+    ≡ (elements_from (suc n) inner [] (t ∷ l) >>= yielding
     (λ x. tree.Keyed (ident j) (elements_of x.0) i.at))
 unfolding listed several
 keyed_list n inner i j t l e =
     rw e
-    (sym (bind_assoc (single (element inner (t ∷ l)))
-    (λ a. ended Comma CloseBrace (elements_from n inner) a)
-    (given (λ x. tree.Keyed (ident j) (elements_of x.0) i.at)) ∙ bind_assoc (element inner (t ∷ l))
-    (given (λ a. a ∷ []))
-    (λ a w. ended Comma CloseBrace (elements_from n inner) a w >>= given
+    (sym (bind_assoc (single (keyed_element inner (t ∷ l)))
+    (λ a. list_rest Comma CloseBrace (elements_from n inner) a)
+    (yielding (λ x. tree.Keyed (ident j) (elements_of x.0) i.at)) ∙ bind_assoc (keyed_element inner (t ∷ l))
+    (yielding (λ a. a ∷ []))
+    (λ a w. list_rest Comma CloseBrace (elements_from n inner) a w >>= yielding
     (λ x. tree.Keyed (ident j) (elements_of x.0) i.at))))
 
 module _ (bound : ℕ) (inner : Reader tree.Expr)
     (inner_c : (m : List Lexeme) → length m ≤ bound → Reads inner m) where
   element_correct : (l : List Lexeme) → length l ≤ bound
-      → Empties (T Name ∷ T Colon ∷ Unary false ∷ Bin false ∷ []) IsElement l (element inner l)
+      → Empties (T Name ∷ T Colon ∷ Unary false ∷ Bin false ∷ []) IsElement l (keyed_element inner l)
   element_correct l b =
       correct_token_then Name refl
       (λ i w d. correct_token_then Colon refl
@@ -140,7 +140,7 @@ module _ (bound : ℕ) (inner : Reader tree.Expr)
           rw (keyed_list n inner i j (tok Name a) (tok Colon c ∷ m) refl)
           (correct_given {P = λ z x w. IsElements z x.0 × NotEmpty x.0} _
           (correct_weaker
-          (same_start (token_list {L = KeyedMore} (element inner) bound element_correct
+          (same_start (token_list {L = KeyedMore} (keyed_element inner) bound element_correct
           (list_syms refl refl refl refl refl refl) (suc n) (tok Name a ∷ tok Colon c ∷ m)
           (omega arith) (omega arith))
           (λ s. key_run a c m s))

@@ -6,7 +6,7 @@ use Rattle.rgo_ast.specs.Tree as tree
 use Rattle.rgo_ast.specs.declared.ops.BinaryOp.TheVariants as op
 use Rattle.rgo_lexer.specs.{Lexemes.{Leaf, Lexeme, tok, ident}, declared.terminals.Terminal.{Terminal, TheVariants.{CloseParen, Comma, Name, New, Make, Number, Text, Binary, Bang, Ampersand, Arrow, OpenParen, OpenBracket, CloseBracket, Dot, Chan}}}
 use Rattle.rgo_grammar.specs.Grammar.{IsExprs.{none, last, more}, IsMakeEnd.{plain, comma}, IsPrimary.{new, make_slice as is_slice, make_chan, make_sized, number, text, name, parens as in_parens, select, index, call}, Listed.{none as none_item, last as last_item, more as next_item}, IsPrimary, IsType, IsMakeEnd, Listed, IsExpr, IsExprs}
-use Rattle.rgo_grammar.specs.reading.{Expressions.{exprs, make_end, make_end_by, capacity_by, sized_by, make_slice, made_by, new_at, parens, operand_by, post_by, made, capacity, sized}, Types.{a_type}, Read.{Reader}}
+use Rattle.rgo_grammar.specs.reading.{Expressions.{exprs, make_end, make_end_by, capacity_by, sized_chan_by, make_slice, make_args_by, new_at, parens, operand_by, post_by, make_args, capacity, sized_chan}, Types.{a_type}, Read.{Reader}}
 use Rattle.rgo_grammar.proofs.machine.{Table.{Sym, Bin, Args, expr_row, T, Unary, Post, step, AType, MakeType, MakeSize, MakeMore, MakeEnd}, Runs.{run}, Starts.{starts_as}}
 use Rattle.rgo_grammar.proofs.reading.{Correct.{Correct, same_start, correct_weaker, correct_under, token_read, correct_then, correct_token_then, correct_token_given, shorter, correct_given, correct_token, at_token, Empties, Correct.{done, stops}}, Lists.{ListSyms, list_correct, list_syms}}
 use Rattle.rgo_grammar.proofs.types.Correct.{type_correct}
@@ -87,7 +87,7 @@ module _ (bound : ℕ) (inner : Reader tree.Expr)
   sized_by_correct : (i j k : Leaf) (x : List Lexeme) (t : tree.TypeExpr) (q : Terminal) (d : Leaf)
       (l : List Lexeme) → IsType x t → length l < bound
       → Empties (MakeSize ∷ []) (IsChan i j k x) (tok q d ∷ l)
-      (sized_by inner t i q (tok q d ∷ l) l)
+      (sized_chan_by inner t i q (tok q d ∷ l) l)
   unfolding run step
   sized_by_correct i j k x t CloseParen d l h b =
       done (tok CloseParen d ∷ []) refl (make_chan i j k h (plain d)) (λ s. refl)
@@ -118,7 +118,7 @@ module _ (bound : ℕ) (inner : Reader tree.Expr)
   made_by_correct : (n : ℕ) → bound < n → (i j : Leaf) (q : Terminal) (d : Leaf) (l : List Lexeme)
       → length l < bound
       → ((m : List Lexeme) → length m < n → Empties (AType ∷ []) IsType m (a_type n m))
-      → Empties (MakeType ∷ []) (IsMade i j) (tok q d ∷ l) (made_by n inner i q (tok q d ∷ l) l)
+      → Empties (MakeType ∷ []) (IsMade i j) (tok q d ∷ l) (make_args_by n inner i q (tok q d ∷ l) l)
   unfolding run step
   made_by_correct n big i j OpenBracket d l b type_c =
       token_read (correct_token_then CloseBracket refl
@@ -127,7 +127,7 @@ module _ (bound : ℕ) (inner : Reader tree.Expr)
       (λ s. refl)
   made_by_correct n big i j Chan d l b type_c =
       token_read (correct_then (type_c l (omega arith))
-      (λ x t u e h. at_token (sized inner t i) refl refl
+      (λ x t u e h. at_token (sized_chan inner t i) refl refl
       (λ a m c. sized_by_correct i j d x t a.terminal a.leaf m h
       (omega (arith, shorter l x u e, ap length c))))) (λ s. refl)
   made_by_correct n big i j q d l b type_c = stops (λ s. refl)
@@ -163,7 +163,7 @@ module _ (bound : ℕ) (inner : Reader tree.Expr)
   operand_by_correct n big h Make i l b u =
       token_read (correct_under (Post ∷ [])
       (correct_token_then OpenParen refl
-      (λ j w c. at_token (made n inner i) refl refl
+      (λ j w c. at_token (make_args n inner i) refl refl
       (λ t m d. made_by_correct n big i j t.terminal t.leaf m
       (omega (arith, ap length c, ap length d)) (λ v g. type_correct n v g))))) (λ s. refl)
   operand_by_correct n big true k i l b u = stops (λ s. refl)

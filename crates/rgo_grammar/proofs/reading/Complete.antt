@@ -3,7 +3,7 @@
 use Rattle.std.proofs.Common.{◌≡◌, ℕ, zero, suc, ◌⊎◌, inl, inr, false, List, [], ◌∷◌, ◌++◌, refl, ◌∙◌, ap, append_assoc, append-nil, Bool, true, not}
 use Rattle.rgo_lexer.specs.{declared.terminals.Terminal.{Terminal}, Lexemes.{Leaf, Lexeme, tok, is_same_terminal}}
 use Rattle.rgo_grammar.specs.Grammar.{Listed, Listed.{none, last, more}}
-use Rattle.rgo_grammar.specs.reading.Read.{several, Reader, Read, Done, Failed, Starving, ◌>>=◌, ended, listed, single}
+use Rattle.rgo_grammar.specs.reading.Read.{several, Reader, Read, Done, Failed, Starving, ◌>>=◌, list_rest, listed, single}
 use Rattle.rgo_grammar.proofs.machine.Table.{same_self, closer}
 use Rattle.rgo_grammar.proofs.reading.Next.{IsNext, begins_append}
 
@@ -49,7 +49,7 @@ module _ {A : Type 0} (separator closer : Terminal) (other : is_same_terminal cl
 
   listed_open : (n : ℕ) (found : List A) (l : List Lexeme) → Opens closer l
       → listed separator closer item (suc n) found l
-      ≡ (item l >>= λ a. ended separator closer (listed separator closer item n) (found ++ a))
+      ≡ (item l >>= λ a. list_rest separator closer (listed separator closer item n) (found ++ a))
   unfolding listed
   listed_open n found [] o = absurd o
   listed_open n found (t ∷ l) o = rw (not_true (is_same_terminal closer t.terminal) o) refl

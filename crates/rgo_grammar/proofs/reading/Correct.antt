@@ -2,7 +2,7 @@
 -- same tokens, or stops at the same one; its turns are enough. And how such facts are put together.
 use Rattle.std.proofs.Common.{◌≡◌, ℕ, ◌+◌, ◌==◌, ◌||◌, ◌&&◌, nat_le, Bool, true, false, cond, get_or, List, [], ◌∷◌, ◌++◌, length, refl, sym, ◌∙◌, ap, append_assoc, arith, length-append}
 use Rattle.rgo_lexer.specs.{declared.terminals.Terminal.{Terminal, TheVariants.{Name, Main, New, Make, Number, Text, Binary, Bang, Ampersand, Arrow, Define, Assign, Step, OpenParen, CloseParen, OpenBracket, CloseBracket, OpenBrace, CloseBrace, Comma, Semicolon, Colon, Dot, Package, Import, TypeWord, Struct, Var, Func, Chan, Go, If, Else, For, Return, Break, Continue, Other}}, Lexemes.{Leaf, Lexeme, tok, class, is_same_terminal, is_plain_terminal}}
-use Rattle.rgo_grammar.specs.reading.Read.{Reader, Read, Done, Failed, At, ◌>>=◌, given, token}
+use Rattle.rgo_grammar.specs.reading.Read.{Reader, Read, Done, Failed, At, ◌>>=◌, yielding, token}
 use Rattle.rgo_grammar.proofs.machine.{Table.{Sym, T, step, same_self, nullable}, Runs.{Stopped, run, closes, same_class}, Starts.{stays}}
 
 -- Reading from l on, where the stack begins with `from`, in step with the machine: a value that
@@ -57,7 +57,7 @@ pub correct_given : {A B : Type 0} {from to : List Sym} {P : List Lexeme → A �
     {Q : List Lexeme → B → List Lexeme → Type 0} {l : List Lexeme} {m : Read A} (f : A → B)
     → Correct from (λ _. to) P l m
     → ((z : List Lexeme) (a : A) (w : List Lexeme) → P z a w → Q z (f a) w)
-    → Correct from (λ _. to) Q l (m >>= given f)
+    → Correct from (λ _. to) Q l (m >>= yielding f)
 correct_given f (done z {a} {w} c p h) g = done z c (g z a w p) h
 correct_given f (stops h) g = stops h
 
@@ -167,7 +167,7 @@ correct_token_then k p g = correct_then (correct_token k p) (λ z i w c e. rw e 
 pub correct_token_given : {B : Type 0} (k : Terminal) {Q : List Lexeme → B → List Lexeme → Type 0}
     {l : List Lexeme} (f : Leaf → B) → is_plain_terminal k ≡ true
     → ((i : Leaf) (w : List Lexeme) → Q (tok k i ∷ []) (f i) w)
-    → Correct (T k ∷ []) (λ _. []) Q l (token k l >>= given f)
+    → Correct (T k ∷ []) (λ _. []) Q l (token k l >>= yielding f)
 correct_token_given k f p g = correct_given f (correct_token k p) (λ z i w e. rw e (g i w))
 
 -- ---- at the next token, if there is one

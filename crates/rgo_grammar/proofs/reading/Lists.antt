@@ -2,7 +2,7 @@
 use Rattle.std.proofs.Common.{◌≡◌, ℕ, zero, suc, ◌+◌, ◌<◌, ◌≤◌, ◌⊎◌, inl, inr, Bool, true, false, cond, List, [], ◌∷◌, ◌++◌, length, refl, sym, ◌∙◌, append_assoc, arith, append-nil}
 use Rattle.rgo_lexer.specs.{declared.terminals.Terminal.{Terminal, TheVariants.{OpenParen, CloseParen, Semicolon}}, Lexemes.{Leaf, Lexeme, tok, is_same_terminal, is_plain_terminal}}
 use Rattle.rgo_grammar.specs.Grammar.{Listed, Listed.{none, last, more}}
-use Rattle.rgo_grammar.specs.reading.{Read.{Reader, Done, Failed, At, ◌>>=◌, ended, listed, single, several}, Declarations.{group_by, group}}
+use Rattle.rgo_grammar.specs.reading.{Read.{Reader, Done, Failed, At, ◌>>=◌, list_rest, listed, single, several}, Declarations.{group_by, group}}
 use Rattle.rgo_grammar.proofs.machine.{Table.{Sym, T, Row, row, nullable, closer}, Starts.{takes, refuses, stays, one_start}}
 use Rattle.rgo_grammar.proofs.reading.Correct.{Correct, token_read, same_start, correct_bind, correct_given, correct_weaker, correct_under, same_plain, shorter, Empties, Correct.{done, stops}}
 
@@ -73,7 +73,7 @@ module _ {A : Type 0} {separator closer : Terminal} {items : Row} {L E : Sym}
       → ((f : List A) (m : List Lexeme) → length m < length w
       → Correct (L ∷ []) (λ _. []) (AreListed f) m (again f m))
       → Correct (E ∷ []) (λ _. [])
-      (λ x b u. AreListed found (z ++ x) b u) w (ended separator closer again (found ++ new) w)
+      (λ x b u. AreListed found (z ++ x) b u) w (list_rest separator closer again (found ++ new) w)
   ended_correct again found new l z [] e h ih = stops (λ v. stays E v syms.end_stays)
   ended_correct again found new l z (t ∷ w) e h ih =
       ended_by again found new l z t.terminal t.leaf w (is_same_terminal closer t.terminal)
@@ -86,7 +86,7 @@ module _ {A : Type 0} {separator closer : Terminal} {items : Row} {L E : Sym}
       → Correct (L ∷ [])
       (λ _. []) (AreListed found) (tok k i ∷ l)
       (cond c (Done (found, i) l)
-      (item (tok k i ∷ l) >>= λ a. ended separator closer again (found ++ a)))
+      (item (tok k i ∷ l) >>= λ a. list_rest separator closer again (found ++ a)))
   listed_by again found k i l true b ce ih =
       let is : k ≡ closer = same_plain closer k syms.plain_closer ce in
       done (tok k i ∷ []) refl ([], sym (append-nil found), rw is (r_none i))

@@ -4,7 +4,7 @@ use Rattle.rgo_ast.specs.Tree.{stmts_of, clause_of}
 use Rattle.rgo_ast.specs.Tree as tree
 use Rattle.rgo_lexer.specs.{declared.terminals.Terminal.{Terminal, TheVariants.{OpenBrace, Semicolon, If, For, Else}}, Lexemes.{Leaf, Lexeme, tok}}
 use Rattle.rgo_grammar.specs.Grammar.{IsSimple, IsClause, IsCondition, IsStmts, IsIf, IsFor, IsExpr, IsElse, IsClause.{empty, some as a_clause}, IsCondition.{none as unconditional, some as on_condition}, IsFor.{while, three}, IsIf.{plain, with}, IsElse.{none as no_else, an_if, a_block}}
-use Rattle.rgo_grammar.specs.reading.{Read.{Reader, first_of, ◌>>=◌}, Statements.{valued, Head, condition, init, condition_by, step_by, looped, for_rest, for_by, for_on, head, else_body_by, else_by, else_on, branches, if_rest, condition_on, step_on, else_body_on}}
+use Rattle.rgo_grammar.specs.reading.{Read.{Reader, next_lexeme, ◌>>=◌}, Statements.{valued, Head, condition, init, condition_by, post_stmt_by, looped, for_rest, for_by, for_on, head, else_body_by, else_by, else_on, branches, if_rest, condition_on, post_stmt_on, else_body_on}}
 use Rattle.rgo_grammar.proofs.machine.{Table.{for_post, T, Unary, Bin, Tail, Block, IfHead, ForHead, Condition, ForStep, step, IfElse, ElseBody}, Runs.{run, closes}, Starts.{starts_as, alike}}
 use Rattle.rgo_grammar.proofs.reading.Correct.{Correct, same_start, correct_bind, correct_given, correct_under, correct_then, correct_token_given, shorter, token_read, correct_weaker, at_token, Empties, Correct.{done}}
 use Rattle.rgo_grammar.proofs.statements.{Simple.{Values, valued_correct, correct_left, left_before_block}, Headers.{IsHead, after_head, for_head_correct, if_head_correct}}
@@ -52,7 +52,7 @@ module _ (m : ℕ) (value : Reader tree.Expr) (value_c : Values true m value) wh
 
   step_by_correct : (k : Terminal) (i : Leaf) (l : List Lexeme) → length l + 1 ≤ m
       → Correct (ForStep ∷ []) (λ _. Block ∷ [])
-      (λ z p w. IsClause false z p) (tok k i ∷ l) (step_by value k (tok k i ∷ l))
+      (λ z p w. IsClause false z p) (tok k i ∷ l) (post_stmt_by value k (tok k i ∷ l))
   unfolding run step
   step_by_correct OpenBrace i l b = done [] refl empty (λ s. refl)
   step_by_correct k i l b =
@@ -95,11 +95,11 @@ module _ (m : ℕ) (value : Reader tree.Expr) (value_c : Values true m value)
       (λ k y bs end w d. while i k (on_condition h) d)
   for_rest_correct i x (init s) l b (u, j, e, hs) =
       correct_bind
-      (at_token (λ w. condition_on value w (first_of w)) refl refl
+      (at_token (λ w. condition_on value w (next_lexeme w)) refl refl
       (λ t n g. condition_by_correct m value value_c t.terminal t.leaf n
       (omega (arith, b, ap length g))))
       (λ z c w ec (v, k, ez, hc). correct_bind
-      (at_token (λ w. step_on value w (first_of w)) refl refl
+      (at_token (λ w. post_stmt_on value w (next_lexeme w)) refl refl
       (λ t n g. step_by_correct m value value_c t.terminal t.leaf n
       (omega (arith, b, shorter l z w ec, ap length g))))
       (λ y p o eo hp. looped_correct
@@ -120,9 +120,9 @@ module _ (m : ℕ) (value : Reader tree.Expr) (value_c : Values true m value)
 
   pub for_on_correct : (i : Leaf) (l : List Lexeme) → length l ≤ m
       → Empties (ForHead ∷ [])
-      (λ z s. IsFor (tok For i ∷ z) s) l (for_on block value i l (first_of l))
+      (λ z s. IsFor (tok For i ∷ z) s) l (for_on block value i l (next_lexeme l))
   for_on_correct i l b =
-      at_token (λ w. for_on block value i w (first_of w)) refl refl
+      at_token (λ w. for_on block value i w (next_lexeme w)) refl refl
       (λ t n g. for_by_correct i t.terminal t.leaf n (omega (arith, b, ap length g)))
 
 abbrev ElseAt : List Lexeme → List Lexeme → Option tree.Stmt → Type 0
@@ -172,13 +172,13 @@ module _ (m : ℕ) (block : Reader (List tree.Stmt × Leaf)) (block_c : Blocks m
   unfolding run step
   else_by_correct Else i l b =
       token_read (correct_weaker
-      (at_token (λ w. else_body_on block again w (first_of w)) refl refl
+      (at_token (λ w. else_body_on block again w (next_lexeme w)) refl refl
       (λ t n g. else_body_by_correct t.terminal t.leaf n (omega (arith, b, ap length g))))
       (λ z e w c h. h i)) (λ s. refl)
   else_by_correct _ i l b = done [] refl no_else (λ s. refl)
 
   else_on_correct : (l : List Lexeme) → length l ≤ m
-      → Empties (IfElse ∷ []) IsElse l (else_on block again l (first_of l))
+      → Empties (IfElse ∷ []) IsElse l (else_on block again l (next_lexeme l))
   unfolding run closes
   else_on_correct [] b = done [] refl no_else (λ s. refl)
   else_on_correct (t ∷ l) b = else_by_correct t.terminal t.leaf l (omega (arith, b))

@@ -3,7 +3,7 @@ use Rattle.std.proofs.Common.{ℕ, zero, suc, inl, inr, true, false, List, [], �
 use Rattle.rgo_ast.specs.Tree as tree
 use Rattle.rgo_lexer.specs.{declared.terminals.Terminal.TheVariants.{OpenParen, OpenBrace, CloseBrace, Semicolon}, Lexemes.{Leaf, Lexeme, tok}}
 use Rattle.rgo_grammar.specs.Grammar.{IsCondition.{none as unconditional, some as on_condition}, IsStmt, IsStmts, IsIf, IsElse, IsFor, IsStmt.{block as a_block, simple, if' as an_if, for' as a_for, go, var, vars, return as returned, returns, break as broken, continue as continued}, IsStmts.{end, empty, last, more}, IsIf.{plain, with}, IsElse.{none as no_else, an_if as else_if, a_block as else_block}, IsFor.{while, three}}
-use Rattle.rgo_grammar.specs.reading.{Read.{Done, first_of, listed}, Expressions.{expr}, Statements.{else_on, stmt, if_stmt, block}}
+use Rattle.rgo_grammar.specs.reading.{Read.{Done, next_lexeme, listed}, Expressions.{expr}, Statements.{else_on, stmt, if_stmt, block}}
 use Rattle.rgo_grammar.proofs.reading.{Complete.{Meets, meets_trans, meets_bind, listed_none, listed_last, listed_more, meets_then}, Next.{begins_append, next_also}}
 use Rattle.rgo_grammar.proofs.expressions.{Starts.{expr_starts}, Complete.{expr_complete, exprs_complete}, Parts.{paren_closer}}
 use Rattle.rgo_grammar.proofs.statements.{KindsComplete.{EndsStmt, stmt_ends, reads, if_at, for_at, stmt_if, stmt_for, stmt_simple, stmt_opens, return_done, returns_at, else_done, else_if_at, empty_item, condition_complete, for_clause_at, for_head_at, head_clause, head_condition, step_complete}, Parts.{one_complete, simple_complete, ends_expr, simple_starts, vars_complete}}
@@ -77,7 +77,7 @@ mutual
       (meets_then _ (stmts_found d n n [] (z ++ l)) (meets_bind _ (else_complete f n l h)))))
 
   else_complete : {z : List Lexeme} {e : Option tree.Stmt} → IsElse z e → (n : ℕ) (l : List Lexeme)
-      → EndsStmt l → Meets (else_on (block n) (if_stmt n) (z ++ l) (first_of (z ++ l))) (Done e l)
+      → EndsStmt l → Meets (else_on (block n) (if_stmt n) (z ++ l) (next_lexeme (z ++ l))) (Done e l)
   else_complete no_else n l h = inr (else_done (block n) (if_stmt n) l h)
   else_complete (else_if i {x} {s} d) n l h =
       rw (else_if_at d n l) (meets_bind _ (if_complete d n l h))

@@ -4,7 +4,7 @@ use Rattle.rgo_ast.specs.Tree.{stmts_of}
 use Rattle.rgo_ast.specs.Tree as tree
 use Rattle.rgo_lexer.specs.{declared.terminals.Terminal.{Terminal, TheVariants.{Name, OpenParen, CloseParen, OpenBrace, CloseBrace, Semicolon, Var, Go, If, For, Return, Break, Continue}}, Lexemes.{Leaf, Lexeme, tok, is_same_terminal}}
 use Rattle.rgo_grammar.specs.Grammar.{IsExprs, IsStmt, IsStmts, IsIf, IsStmt.{block as a_block, simple, if' as an_if, for' as a_for, go, return as returned, returns, break as broken, continue as continued}, IsStmts.{end, empty, last, more}}
-use Rattle.rgo_grammar.specs.reading.{Read.{Reader, Read, first_of, single}, Expressions.{expr, exprs}, Statements.{going, return_by, return_on, stmt_by, stmts, stmts_by, block_by, stmt, if_stmt, block}}
+use Rattle.rgo_grammar.specs.reading.{Read.{Reader, Read, next_lexeme, single}, Expressions.{expr, exprs}, Statements.{going, return_by, return_on, stmt_by, stmts, stmts_by, block_by, stmt, if_stmt, block}}
 use Rattle.rgo_grammar.proofs.machine.{Table.{alone, Sym, T, Args, Stmts, StmtEnd, Value, step, Bin, Unary, next, row, Block, IfHead}, Runs.{run, closes}, Starts.{entered_then, one_start}}
 use Rattle.rgo_grammar.proofs.reading.{Correct.{Correct, token_read, same_start, correct_given, correct_weaker, correct_under, correct_token_then, Empties, Correct.{done, stops}}, Lists.{listed_correct, list_syms}}
 use Rattle.rgo_grammar.proofs.expressions.Correct.{value_correct, args_correct}
@@ -65,7 +65,7 @@ module _ (n m : ℕ) (small : m + 2 < n) (value_c : (h : Bool) → Values h (m +
 
   at_return : (i : Leaf) (l : List Lexeme) → length l ≤ m
       → Correct (Value ∷ StmtEnd ∷ []) (λ _. StmtEnd ∷ [])
-      (λ z s w. IsStmt (tok Return i ∷ z) s) l (return_on (expr false n 1) i l (first_of l))
+      (λ z s w. IsStmt (tok Return i ∷ z) s) l (return_on (expr false n 1) i l (next_lexeme l))
   unfolding run closes
   at_return i [] b = stops (λ s. refl)
   at_return i (t ∷ l) b = return_by_correct i t.terminal t.leaf l (omega (arith, b))

@@ -3,7 +3,7 @@ use Rattle.std.proofs.Common.{◌≡◌, ℕ, ◌+◌, ◌≤◌, Bool, true, fa
 use Rattle.rgo_ast.specs.Tree as tree
 use Rattle.rgo_lexer.specs.{declared.terminals.Terminal.{Terminal, TheVariants.{Arrow, Assign, Step, OpenBrace, Semicolon}}, Lexemes.{Leaf, Lexeme, tok, is_same_terminal}}
 use Rattle.rgo_grammar.specs.Grammar.{IsExpr, IsSimple, IsClause, IsSimple.{plain}, IsClause.{empty, some}}
-use Rattle.rgo_grammar.specs.reading.{Read.{Reader, Failed, At, first_of}, Statements.{Head, condition, init, head_before_block, head_end_by, head_end_on, head_by, head}}
+use Rattle.rgo_grammar.specs.reading.{Read.{Reader, Failed, At, next_lexeme}, Statements.{Head, condition, init, head_before_block, head_end_by, head_end_on, head_by, head}}
 use Rattle.rgo_grammar.proofs.machine.{Table.{Context, before_if, before_for, Sym, Unary, Bin, Tail, Block, IfHead, IfElse, ForHead, Condition, rest, step}, Runs.{Stopped, run, closes}}
 use Rattle.rgo_grammar.proofs.reading.Correct.{Correct, correct_bind, at_token, Correct.{done, stops}}
 use Rattle.rgo_grammar.proofs.statements.Simple.{Values, tails, leaves, Left, defining_correct}
@@ -84,7 +84,7 @@ head_end_some b x st t l e g = other_end_by b x st t.terminal t.leaf l e (λ m. 
 
 head_end_correct : (b : Bool) (x : List Lexeme) (st : tree.Stmt) (w : List Lexeme)
     → IsSimple true true x st → Left st w
-    → Correct (leaves (before b) st) (after_head b) (HeadAt x) w (head_end_on st w (first_of w))
+    → Correct (leaves (before b) st) (after_head b) (HeadAt x) w (head_end_on st w (next_lexeme w))
 head_end_correct b x st [] e g = stops (λ s. no_end b st s)
 head_end_correct b x st (t ∷ w) e g = head_end_some b x st t w e g
 

@@ -3,40 +3,40 @@ use Rattle.std.proofs.Common.{◌≡◌, inr, true, false, List, ◌∷◌, ◌+
 use Rattle.rgo_ast.specs.Tree as tree
 use Rattle.rgo_lexer.specs.{declared.terminals.Terminal.{Terminal, TheVariants.{OpenBrace, Semicolon, CloseBrace, Var, Go, If, Else, For, Return, Break, Continue}}, Lexemes.{Leaf, Lexeme, tok}}
 use Rattle.rgo_grammar.specs.Grammar.{IsExpr, IsClause, IsCondition, IsStmt, IsIf, IsFor, IsSimple.{plain}, IsClause.{empty, some as a_clause}, IsCondition.{none as unconditional, some as on_condition}, IsStmt.{block as a_block, simple, if' as an_if, for' as a_for, go, var, vars, return as returned, returns, break as broken, continue as continued}, IsIf.{plain, with}, IsFor.{while, three}}
-use Rattle.rgo_grammar.specs.reading.{Read.{Reader, Read, Done, ◌>>=◌, given, first_of, token, Failed, Starving, single}, Statements.{valued, defining, condition, init, head_end_on, head_by, head, condition_by, condition_on, step_by, step_on, for_rest, for_by, for_on, else_body_on, else_by, else_on, return_by, return_on, stmt_by, stmts_by, block_by, stmt, if_stmt, stmts, block}, Expressions.{expr}}
+use Rattle.rgo_grammar.specs.reading.{Read.{Reader, Read, Done, ◌>>=◌, yielding, next_lexeme, token, Failed, Starving, single}, Statements.{valued, defining, condition, init, head_end_on, head_by, head, condition_by, condition_on, post_stmt_by, post_stmt_on, for_rest, for_by, for_on, else_body_on, else_by, else_on, return_by, return_on, stmt_by, stmts_by, block_by, stmt, if_stmt, stmts, block}, Expressions.{expr}}
 use Rattle.rgo_grammar.proofs.reading.{Complete.{Meets, meets_bind, Opens}, Next.{begins_append, IsNext, next_also}}
 use Rattle.rgo_grammar.proofs.expressions.{Starts.{starts, Starts, expr_starts, brace_closes}, Complete.{expr_complete}}
 use Rattle.rgo_grammar.proofs.statements.Parts.{ReadsExprs, simple_complete, simple_starts, valued_complete, ends}
 
 module _ (value : Reader tree.Expr) where
   head_kind : (k : Terminal) (l m : List Lexeme) → starts k ≡ true
-      → head_by value k l m ≡ (defining value l >>= λ s w. head_end_on s w (first_of w))
+      → head_by value k l m ≡ (defining value l >>= λ s w. head_end_on s w (next_lexeme w))
   head_kind Semicolon l m h = cc
   head_kind _ l m h = refl
 
   head_at : (l : List Lexeme) → Starts l
-      → head value l ≡ (defining value l >>= λ s w. head_end_on s w (first_of w))
+      → head value l ≡ (defining value l >>= λ s w. head_end_on s w (next_lexeme w))
   head_at [] h = absurd h
   head_at (t ∷ l) h = head_kind t.terminal (t ∷ l) l h
 
   condition_kind : (k : Terminal) (l m : List Lexeme) → starts k ≡ true
-      → condition_by value k l m ≡ (value l >>= λ v w. token Semicolon w >>= given (λ _. Some v))
+      → condition_by value k l m ≡ (value l >>= λ v w. token Semicolon w >>= yielding (λ _. Some v))
   condition_kind Semicolon l m h = cc
   condition_kind _ l m h = refl
 
   condition_at : (l : List Lexeme) → Starts l
-      → condition_on value l (first_of l)
-      ≡ (value l >>= λ v w. token Semicolon w >>= given (λ _. Some v))
+      → condition_on value l (next_lexeme l)
+      ≡ (value l >>= λ v w. token Semicolon w >>= yielding (λ _. Some v))
   condition_at [] h = absurd h
   condition_at (t ∷ l) h = condition_kind t.terminal (t ∷ l) l h
 
   step_kind : (k : Terminal) (l : List Lexeme) → starts k ≡ true
-      → step_by value k l ≡ (valued value l >>= given (λ s. Some s))
+      → post_stmt_by value k l ≡ (valued value l >>= yielding (λ s. Some s))
   step_kind OpenBrace l h = cc
   step_kind _ l h = refl
 
   step_at : (l : List Lexeme) → Starts l
-      → step_on value l (first_of l) ≡ (valued value l >>= given (λ s. Some s))
+      → post_stmt_on value l (next_lexeme l) ≡ (valued value l >>= yielding (λ s. Some s))
   step_at [] h = absurd h
   step_at (t ∷ l) h = step_kind t.terminal (t ∷ l) h
 
@@ -62,7 +62,7 @@ module _ (value : Reader tree.Expr) where
     pub condition_complete : {x : List Lexeme} {c : Option tree.Expr} → IsCondition x c
         → (k : Leaf) (l : List Lexeme)
         → Meets (condition_on value (x ++ tok Semicolon k ∷ l)
-        (first_of (x ++ tok Semicolon k ∷ l))) (Done c l)
+        (next_lexeme (x ++ tok Semicolon k ∷ l))) (Done c l)
     condition_complete unconditional k l = inr refl
     condition_complete (on_condition {x} {v} e) k l =
         rw (condition_at (x ++ tok Semicolon k ∷ l)
@@ -71,7 +71,7 @@ module _ (value : Reader tree.Expr) where
 
     pub step_complete : {x : List Lexeme} {p : Option tree.Stmt} → IsClause false x p
         → (m : Leaf) (l : List Lexeme)
-        → Meets (step_on value (x ++ tok OpenBrace m ∷ l) (first_of (x ++ tok OpenBrace m ∷ l)))
+        → Meets (post_stmt_on value (x ++ tok OpenBrace m ∷ l) (next_lexeme (x ++ tok OpenBrace m ∷ l)))
         (Done p (tok OpenBrace m ∷ l))
     step_complete empty m l = inr refl
     step_complete (a_clause {x} {s} h) m l =
@@ -87,13 +87,13 @@ module _ (value : Reader tree.Expr) (value_done : ReadsExprs true value)
   for_kind _ l h = refl
 
   pub for_head_at : (l : List Lexeme) → Starts l
-      → for_on block value i l (first_of l) ≡ (head value l >>= for_rest block value i)
+      → for_on block value i l (next_lexeme l) ≡ (head value l >>= for_rest block value i)
   for_head_at [] h = absurd h
   for_head_at (t ∷ l) h = for_kind t.terminal (t ∷ l) h
 
   pub for_clause_at : {x : List Lexeme} {s : Option tree.Stmt} → IsClause true x s
       → (j : Leaf) (l : List Lexeme)
-      → for_on block value i (x ++ tok Semicolon j ∷ l) (first_of (x ++ tok Semicolon j ∷ l))
+      → for_on block value i (x ++ tok Semicolon j ∷ l) (next_lexeme (x ++ tok Semicolon j ∷ l))
       ≡ (head value (x ++ tok Semicolon j ∷ l) >>= for_rest block value i)
   for_clause_at empty j l = refl
   for_clause_at (a_clause {x} h) j l =
@@ -126,7 +126,7 @@ if_at n (t ∷ l) = if_stmt n t.leaf l
 
 abbrev pub for_at : ℕ → List Lexeme → Read tree.Stmt
 for_at n [] = Failed Starving
-for_at n (t ∷ l) = for_on (block n) (expr true n 1) t.leaf l (first_of l)
+for_at n (t ∷ l) = for_on (block n) (expr true n 1) t.leaf l (next_lexeme l)
 
 pub stmt_if : {x : List Lexeme} {s : tree.Stmt} → IsIf x s → (n : ℕ) (l : List Lexeme)
     → stmt (suc n) (x ++ l) ≡ single (if_at n (x ++ l))
@@ -187,18 +187,18 @@ return_kind value i CloseBrace l h = refl
 return_kind value i _ l h = cc
 
 pub return_done : (value : Reader tree.Expr) (i : Leaf) (l : List Lexeme) → EndsStmt l
-    → return_on value i l (first_of l) ≡ Done (tree.Return None i.at) l
+    → return_on value i l (next_lexeme l) ≡ Done (tree.Return None i.at) l
 return_done value i [] h = absurd h
 return_done value i (t ∷ l) h = return_kind value i t.terminal (t ∷ l) h
 
 returns_kind : (value : Reader tree.Expr) (i : Leaf) (k : Terminal) (l : List Lexeme)
-    → starts k ≡ true → return_by value i k l ≡ (value l >>= given (λ v. tree.Return (Some v) i.at))
+    → starts k ≡ true → return_by value i k l ≡ (value l >>= yielding (λ v. tree.Return (Some v) i.at))
 returns_kind value i Semicolon l h = cc
 returns_kind value i CloseBrace l h = cc
 returns_kind value i _ l h = refl
 
 pub returns_at : (value : Reader tree.Expr) (i : Leaf) (l : List Lexeme) → Starts l
-    → return_on value i l (first_of l) ≡ (value l >>= given (λ v. tree.Return (Some v) i.at))
+    → return_on value i l (next_lexeme l) ≡ (value l >>= yielding (λ v. tree.Return (Some v) i.at))
 returns_at value i [] h = absurd h
 returns_at value i (t ∷ l) h = returns_kind value i t.terminal (t ∷ l) h
 
@@ -209,13 +209,13 @@ else_kind block again Else l m h = cc
 else_kind block again _ l m h = refl
 
 pub else_done : (block : Reader (List tree.Stmt × Leaf)) (again : Leaf → Reader tree.Stmt)
-    (l : List Lexeme) → EndsStmt l → else_on block again l (first_of l) ≡ Done None l
+    (l : List Lexeme) → EndsStmt l → else_on block again l (next_lexeme l) ≡ Done None l
 else_done block again [] h = absurd h
 else_done block again (t ∷ l) h = else_kind block again t.terminal (t ∷ l) l h
 
 pub else_if_at : {x : List Lexeme} {s : tree.Stmt} → IsIf x s → (n : ℕ) (l : List Lexeme)
-    → else_body_on (block n) (if_stmt n) (x ++ l) (first_of (x ++ l))
-    ≡ (if_at n (x ++ l) >>= given (λ s. Some s))
+    → else_body_on (block n) (if_stmt n) (x ++ l) (next_lexeme (x ++ l))
+    ≡ (if_at n (x ++ l) >>= yielding (λ s. Some s))
 else_if_at (plain i k e d f) n l = refl
 else_if_at (with i j k c e d f) n l = refl
 

@@ -4,8 +4,8 @@ use Rattle.std.proofs.Common.{◌≡◌, inr, Bool, true, false, List, [], ◌�
 use Rattle.rgo_ast.specs.Tree as tree
 use Rattle.rgo_ast.specs.declared.ops.AssignOp.TheVariants as assign_op
 use Rattle.rgo_lexer.specs.{declared.terminals.Terminal.{Terminal, TheVariants.{Name, Arrow, Define, Assign, Step, OpenBrace, CloseBrace, Semicolon, OpenParen, CloseParen, Comma}}, Lexemes.{Leaf, Lexeme, tok, is_same_terminal, ident}}
-use Rattle.rgo_grammar.specs.Grammar.{IsExpr, IsSimple, IsType, IsLocal, Listed, IsSimple.{plain, send, step as stepped, assign, define}, IsNames.{one as one_name, more as more_names}, IsType.{named, pointer, slice, chan}, IsBinding.{binding as of_names}, IsLocal.{zero as zeroed, typed, inferred}}
-use Rattle.rgo_grammar.specs.reading.{Read.{Reader, Read, Done, first_of, ◌>>=◌, given, single}, Statements.{simple_by, simple_on, valued, named_by, named_on, defining_by, defining, initial_by, initial, local_on, local, vars_on}, Types.{a_type, bound}}
+use Rattle.rgo_grammar.specs.Grammar.{IsExpr, IsSimple, IsType, IsLocalVar, Listed, IsSimple.{plain, send, step as stepped, assign, define}, IsNames.{one as one_name, more as more_names}, IsType.{named, pointer, slice, chan}, IsBinding.{binding as of_names}, IsLocalVar.{zero as zeroed, typed, inferred}}
+use Rattle.rgo_grammar.specs.reading.{Read.{Reader, Read, Done, next_lexeme, ◌>>=◌, yielding, single}, Statements.{simple_by, simple_on, valued, named_by, named_on, defining_by, defining, initial_by, initial, local_var_on, local_var, vars_on}, Types.{a_type, binding_with}}
 use Rattle.rgo_grammar.proofs.reading.{Complete.{Meets, meets_bind, meets_then, Opens, listed_complete}, Next.{IsNext, NotNext, begins_append, next_other}}
 use Rattle.rgo_grammar.proofs.types.Complete.{type_complete, binding_complete}
 use Rattle.rgo_grammar.proofs.expressions.{Starts.{Starts, expr_starts}, Second.{Apart, name_then, SecondNot, second_append, second_not}, Ends.{EndsExpr}}
@@ -73,7 +73,7 @@ module _ (value : Reader tree.Expr) where
   simple_end_by a _ i l m h = refl
 
   simple_end : (a : tree.Expr) (l : List Lexeme) → Ends l
-      → simple_on value a l (first_of l) ≡ Done (tree.Plain a) l
+      → simple_on value a l (next_lexeme l) ≡ Done (tree.Plain a) l
   simple_end a [] h = absurd h
   simple_end a (t ∷ l) h = simple_end_by a t.terminal t.leaf (t ∷ l) l h
 
@@ -83,7 +83,7 @@ module _ (value : Reader tree.Expr) where
   second_by i _ j l m h = refl
 
   second_on : (i : Leaf) (l m : List Lexeme) → NotNext (is_same_terminal Define) m
-      → named_on value i l (first_of m) ≡ valued value l
+      → named_on value i l (next_lexeme m) ≡ valued value l
   second_on i l [] h = refl
   second_on i l (t ∷ m) h = second_by i t.terminal t.leaf l m h
 
@@ -139,18 +139,18 @@ module _ (value : Reader tree.Expr) where
 
 module _ (n : ℕ) (value : Reader tree.Expr) (value_done : ReadsExprs false value) where
   initial_end_by : (i : Leaf) (t : tree.TypeExpr) (k : Terminal) (j : Leaf) (l m : List Lexeme)
-      → ends k ≡ true → initial_by value i t k j l m ≡ Done (tree.Zero (bound (ident i ∷ []) t)) l
+      → ends k ≡ true → initial_by value i t k j l m ≡ Done (tree.Zero (binding_with (ident i ∷ []) t)) l
   initial_end_by i t (Assign assign_op.Plain) j l m h = cc
   initial_end_by i t _ j l m h = refl
 
   initial_end : (i : Leaf) (t : tree.TypeExpr) (l : List Lexeme) → Ends l
-      → initial value i t l (first_of l) ≡ Done (tree.Zero (bound (ident i ∷ []) t)) l
+      → initial value i t l (next_lexeme l) ≡ Done (tree.Zero (binding_with (ident i ∷ []) t)) l
   initial_end i t [] h = absurd h
   initial_end i t (u ∷ l) h = initial_end_by i t u.terminal u.leaf (u ∷ l) l h
 
   type_at : (i : Leaf) {x : List Lexeme} {t : tree.TypeExpr} → IsType x t → (l : List Lexeme)
-      → local_on n value i (x ++ l) (first_of (x ++ l))
-      ≡ (a_type n (x ++ l) >>= λ t w. initial value i t w (first_of w))
+      → local_var_on n value i (x ++ l) (next_lexeme (x ++ l))
+      ≡ (a_type n (x ++ l) >>= λ t w. initial value i t w (next_lexeme w))
   type_at i (named j) l = refl
   type_at i (pointer j k) l = refl
   type_at i (slice j k h) l = refl
@@ -158,21 +158,21 @@ module _ (n : ℕ) (value : Reader tree.Expr) (value_done : ReadsExprs false val
 
   value_given : {x : List Lexeme} {v : tree.Expr} → IsExpr false 1 x v
       → (f : tree.Expr → tree.LocalVar) (l : List Lexeme) → Ends l
-      → Meets (value (x ++ l) >>= given f) (Done (f v) l)
+      → Meets (value (x ++ l) >>= yielding f) (Done (f v) l)
   value_given {x} {v} e f l h = meets_bind _ (value_done x v e l (ends_expr l h))
 
   type_then : (i : Leaf) {x : List Lexeme} {t : tree.TypeExpr} → IsType x t
-      → (l : List Lexeme) (r : Read tree.LocalVar) → Meets (initial value i t l (first_of l)) r
-      → Meets (local n value (tok Name i ∷ (x ++ l))) r
+      → (l : List Lexeme) (r : Read tree.LocalVar) → Meets (initial value i t l (next_lexeme l)) r
+      → Meets (local_var n value (tok Name i ∷ (x ++ l))) r
   type_then i {x} {t} h l r g = rw (type_at i h l) (meets_then _ (type_complete x t h n l) g)
 
-  pub local_complete : {x : List Lexeme} {v : tree.LocalVar} → IsLocal x v → (l : List Lexeme)
-      → Ends l → Meets (local n value (x ++ l)) (Done v l)
+  pub local_complete : {x : List Lexeme} {v : tree.LocalVar} → IsLocalVar x v → (l : List Lexeme)
+      → Ends l → Meets (local_var n value (x ++ l)) (Done v l)
   local_complete (zeroed (of_names {t = t} (one_name i) h)) l e =
-      type_then i h l (Done (tree.Zero (bound (ident i ∷ []) t)) l) (inr (initial_end i t l e))
+      type_then i h l (Done (tree.Zero (binding_with (ident i ∷ []) t)) l) (inr (initial_end i t l e))
   local_complete (zeroed (of_names {y = y} {t = t} (more_names i j {x} {ns} g) h)) l e =
       meets_bind _
-      (binding_complete (tok Name i ∷ tok Comma j ∷ (x ++ y)) (bound (ident i ∷ ns) t)
+      (binding_complete (tok Name i ∷ tok Comma j ∷ (x ++ y)) (binding_with (ident i ∷ ns) t)
       (of_names (more_names i j g) h) n l)
   local_complete (typed i j {x} {y} {t} {v} h g) l e =
       rw append_assoc
@@ -182,35 +182,35 @@ module _ (n : ℕ) (value : Reader tree.Expr) (value_done : ReadsExprs false val
   local_complete (inferred i j {y} {v} g) l e =
       value_given g (λ u. tree.Inferred (ident i) u j.at) l e
 
-  local_opens : (x : List Lexeme) (v : tree.LocalVar) → IsLocal x v → Opens CloseParen x
+  local_opens : (x : List Lexeme) (v : tree.LocalVar) → IsLocalVar x v → Opens CloseParen x
   local_opens _ _ (zeroed (of_names (one_name i) t)) = refl
   local_opens _ _ (zeroed (of_names (more_names i j h) t)) = refl
   local_opens _ _ (typed i j h e) = refl
   local_opens _ _ (inferred i j e) = refl
 
-  local_reads : (x : List Lexeme) (v : tree.LocalVar) → IsLocal x v
+  local_reads : (x : List Lexeme) (v : tree.LocalVar) → IsLocalVar x v
       → (k : Terminal) (j : Leaf) (l : List Lexeme) → (k ≡ Semicolon) ⊎ (k ≡ CloseParen)
-      → Meets (local n value (x ++ tok k j ∷ l)) (Done v (tok k j ∷ l))
+      → Meets (local_var n value (x ++ tok k j ∷ l)) (Done v (tok k j ∷ l))
   local_reads x v h k j l (inl e) = local_complete h (tok k j ∷ l) (rw e refl)
   local_reads x v h k j l (inr e) = local_complete h (tok k j ∷ l) (rw e refl)
 
   -- after `var`
-  one_at : {x : List Lexeme} {v : tree.LocalVar} → IsLocal x v → (l : List Lexeme)
-      → vars_on n value (x ++ l) (first_of (x ++ l)) ≡ single (local n value (x ++ l))
+  one_at : {x : List Lexeme} {v : tree.LocalVar} → IsLocalVar x v → (l : List Lexeme)
+      → vars_on n value (x ++ l) (next_lexeme (x ++ l)) ≡ single (local_var n value (x ++ l))
   one_at (zeroed (of_names (one_name i) t)) l = refl
   one_at (zeroed (of_names (more_names i j h) t)) l = refl
   one_at (typed i j h e) l = refl
   one_at (inferred i j e) l = refl
 
-  pub one_complete : {x : List Lexeme} {v : tree.LocalVar} → IsLocal x v → (l : List Lexeme)
-      → Ends l → Meets (vars_on n value (x ++ l) (first_of (x ++ l))) (Done (v ∷ []) l)
+  pub one_complete : {x : List Lexeme} {v : tree.LocalVar} → IsLocalVar x v → (l : List Lexeme)
+      → Ends l → Meets (vars_on n value (x ++ l) (next_lexeme (x ++ l))) (Done (v ∷ []) l)
   one_complete h l e = rw (one_at h l) (meets_bind _ (local_complete h l e))
 
   pub vars_complete : (i : Leaf) {y : List Lexeme} {vs : List tree.LocalVar}
-      → Listed IsLocal Semicolon CloseParen y vs → (l : List Lexeme)
-      → Meets (vars_on n value (tok OpenParen i ∷ (y ++ l)) (first_of (tok OpenParen i ∷ (y ++ l))))
+      → Listed IsLocalVar Semicolon CloseParen y vs → (l : List Lexeme)
+      → Meets (vars_on n value (tok OpenParen i ∷ (y ++ l)) (next_lexeme (tok OpenParen i ∷ (y ++ l))))
       (Done vs l)
   vars_complete i {y} {vs} d l =
-      let h = listed_complete Semicolon CloseParen refl IsLocal (local n value) local_opens
+      let h = listed_complete Semicolon CloseParen refl IsLocalVar (local_var n value) local_opens
       local_reads d n [] l in
       meets_bind _ h.1

@@ -5,7 +5,7 @@ use Rattle.rgo_ast.specs.declared.ops.AssignOp.TheVariants as assign_op
 use Rattle.rgo_ast.specs.Tree as tree
 use Rattle.rgo_lexer.specs.{declared.terminals.Terminal.{Terminal, TheVariants.{Name, Arrow, Define, Assign, Step}}, Lexemes.{Leaf, Lexeme, tok, is_same_terminal}}
 use Rattle.rgo_grammar.specs.Grammar.{IsExpr, IsSimple, IsSimple.{plain, send, step as stepped, assign, define}}
-use Rattle.rgo_grammar.specs.reading.{Read.{Reader, Read, ◌>>=◌, given, first_of}, Statements.{simple_by, simple_on, valued, named_by, named_on, defining}}
+use Rattle.rgo_grammar.specs.reading.{Read.{Reader, Read, ◌>>=◌, yielding, next_lexeme}, Statements.{simple_by, simple_on, valued, named_by, named_on, defining}}
 use Rattle.rgo_grammar.proofs.machine.{Table.{Context, alone, for_post, Sym, Unary, Bin, Tail, Named, Post, Block, header, rest, then_all, plain_row, row, nullable, find, next, step, after, starts_row}, Runs.{run, closes}, Starts.{takes, passes, alike, starts_as, after_name, name_ends}}
 use Rattle.rgo_grammar.proofs.reading.{Next.{NotNext}, Correct.{Correct, token_read, same_start, correct_after, correct_bind, correct_given, correct_under, shorter, Empties, Correct.{done, stops}}}
 
@@ -67,7 +67,7 @@ module _ (c : Context) (m : ℕ) (value : Reader tree.Expr)
       (f : tree.Expr → tree.Stmt) → length l ≤ m
       → ((z : List Lexeme) (v : tree.Expr) (w : List Lexeme) → IsExpr (header c) 1 z v
       → Q z (f v) w × (leaves c (f v) ≡ rest c))
-      → Correct (Unary (header c) ∷ Bin (header c) ∷ rest c) (leaves c) Q l (value l >>= given f)
+      → Correct (Unary (header c) ∷ Bin (header c) ∷ rest c) (leaves c) Q l (value l >>= yielding f)
   part_correct {Q = Q} {l = l} f b g =
       correct_left
       (correct_given {Q = λ z s w. Q z s w × (leaves c s ≡ rest c)} f
@@ -89,7 +89,7 @@ module _ (c : Context) (m : ℕ) (value : Reader tree.Expr)
 
   simple_on_correct : (d : Bool) (x : List Lexeme) (a : tree.Expr) (l : List Lexeme) → length l ≤ m
       → IsExpr (header c) 1 x a
-      → Correct (Tail c ∷ []) (leaves c) (AtSimple c d x) l (simple_on value a l (first_of l))
+      → Correct (Tail c ∷ []) (leaves c) (AtSimple c d x) l (simple_on value a l (next_lexeme l))
   simple_on_correct d x a [] b e = done [] refl (rw append-nil (plain e), tt) (λ s. refl)
   simple_on_correct d x a (t ∷ l) b e = simple_by_correct d x a t.terminal t.leaf l (omega arith) e
 
@@ -134,7 +134,7 @@ module _ (c : Context) (m : ℕ) (value : Reader tree.Expr)
     named_on_correct : (i : Leaf) (l : List Lexeme) → length l + 1 ≤ m
         → Correct (X ∷ [])
         (λ s. leaves c s ++ u) (AtSimple c true []) (tok Name i ∷ l)
-        (named_on value i (tok Name i ∷ l) (first_of l))
+        (named_on value i (tok Name i ∷ l) (next_lexeme l))
     named_on_correct i [] b =
         as_value (tok Name i ∷ []) (omega (arith, b))
         (λ s. name_run i [] s (name_ends (header c) (Named c) (Tail c) (u ++ s) (named_nullable c)))

@@ -5,7 +5,7 @@ use Rattle.rgo_ast.specs.Tree.{Binding}
 use Rattle.rgo_ast.specs.Tree as tree
 use Rattle.rgo_lexer.specs.{declared.terminals.Terminal.{Terminal, TheVariants.{Name, Comma}}, Lexemes.{Leaf, Lexeme, tok, ident, is_same_terminal}}
 use Rattle.rgo_grammar.specs.Grammar.{IsNames, IsType, IsBinding, Listed, IsNames.{one, more}, IsType.{named, pointer, slice, chan}, IsBinding.{binding as of_names}}
-use Rattle.rgo_grammar.specs.reading.{Read.{Done, ◌>>=◌, given, token}, Types.{a_type, names_by, names, bound, binding, bindings}}
+use Rattle.rgo_grammar.specs.reading.{Read.{Done, ◌>>=◌, yielding, token}, Types.{a_type, names_by, names, binding_with, a_binding, bindings}}
 use Rattle.rgo_grammar.proofs.reading.Complete.{Meets, meets_bind, meets_then, bind_assoc, Opens, listed_complete}
 use Rattle.rgo_grammar.proofs.types.Correct.{NoComma}
 
@@ -47,12 +47,12 @@ type_starts _ _ l (slice i j h) = refl
 type_starts _ _ l (chan i h) = refl
 
 pub binding_complete : (x : List Lexeme) (b : Binding) → IsBinding x b → (n : ℕ) (l : List Lexeme)
-    → Meets (binding n (x ++ l)) (Done b l)
+    → Meets (a_binding n (x ++ l)) (Done b l)
 binding_complete _ _ (of_names {x} {y} {ns} {t} h g) n l =
     rw (
       append_assoc,
       ← bind_assoc (token Name (x ++ (y ++ l))) (λ i. names n (ident i ∷ []))
-          (λ ms w. a_type n w >>= given (bound ms)),
+          (λ ms w. a_type n w >>= yielding (binding_with ms)),
     ) (meets_then _ (names_complete h n [] (y ++ l) (type_starts y t l g))
     (meets_bind _ (type_complete y t g n l)))
 
@@ -67,5 +67,5 @@ pub bindings_complete : (separator closer : Terminal) → is_same_terminal close
     → Listed IsBinding separator closer y bs → (n : ℕ) (l : List Lexeme)
     → (j : Leaf) × Meets (bindings separator closer n (y ++ l)) (Done (bs, j) l)
 bindings_complete separator closer other name d n l =
-    listed_complete separator closer other IsBinding (binding n) (binding_opens closer name)
+    listed_complete separator closer other IsBinding (a_binding n) (binding_opens closer name)
     (λ x b h k j m s. binding_complete x b h n (tok k j ∷ m)) d n [] l

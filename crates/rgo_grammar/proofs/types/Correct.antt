@@ -5,7 +5,7 @@ use Rattle.rgo_ast.specs.declared.ops.BinaryOp.TheVariants as op
 use Rattle.rgo_ast.specs.Tree as tree
 use Rattle.rgo_lexer.specs.{declared.terminals.Terminal.{Terminal, TheVariants.{Name, Binary, OpenBracket, CloseBracket, Comma, Chan}}, Lexemes.{Leaf, Lexeme, tok, ident, is_same_terminal}}
 use Rattle.rgo_grammar.specs.Grammar.{IsNames, IsType, IsBinding, Listed, IsNames.{one, more}, IsType.{named, pointer, slice, chan}, IsBinding.{binding as of_names}}
-use Rattle.rgo_grammar.specs.reading.{Read.{Reader}, Types.{type_by, a_type, names_by, names, typed_names, binding, bindings}}
+use Rattle.rgo_grammar.specs.reading.{Read.{Reader}, Types.{type_by, a_type, names_by, names, typed_names, a_binding, bindings}}
 use Rattle.rgo_grammar.proofs.machine.{Table.{Sym, T, AType, NamesType, step}, Runs.{run, closes}, Starts.{alike}}
 use Rattle.rgo_grammar.proofs.reading.{Lists.{ListSyms, token_list}, Correct.{Correct, token_read, same_start, correct_bind, correct_given, correct_weaker, correct_token_then, correct_token_given, shorter, Empties, Correct.{done, stops}}, Next.{NotNext}}
 
@@ -102,7 +102,7 @@ pub typed_names_correct : (n : ℕ) (l : List Lexeme) → length l < n → (i : 
 typed_names_correct n l h i = typed_from n (ident i ∷ []) (tok Name i ∷ []) l h (one i)
 
 pub binding_correct : (n : ℕ) (l : List Lexeme) → length l < n
-    → Empties (T Name ∷ NamesType ∷ []) IsBinding l (binding n l)
+    → Empties (T Name ∷ NamesType ∷ []) IsBinding l (a_binding n l)
 binding_correct n l h =
     correct_token_then Name refl (λ i w c. typed_names_correct n w (omega (arith, ap length c)) i)
 
@@ -113,5 +113,5 @@ pub bindings_correct : {separator closer : Terminal} {L E : Sym}
     → Empties (L ∷ [])
     (λ z x. Listed IsBinding separator closer z x.0) l (bindings separator closer n l)
 bindings_correct syms n l h =
-    token_list (binding n) (length l)
+    token_list (a_binding n) (length l)
     (λ m b. binding_correct n m (omega (arith, b, h))) syms n l h (omega arith)

@@ -4,12 +4,12 @@ use Rattle.rgo_ast.specs.declared.names.ImportPath.{ImportPath}
 use Rattle.rgo_ast.specs.Tree as tree
 use Rattle.rgo_ast.specs.Tree.{Binding, TypeSpec, Function}
 use Rattle.rgo_lexer.specs.{declared.terminals.Terminal.{Terminal, TheVariants.{Name, Main, Text, OpenParen, CloseParen}}, declared.terminals.Terminal.TheVariants.{OpenBrace, CloseBrace, Comma, Semicolon, Package}, declared.terminals.Terminal.TheVariants.{Import, TypeWord, Struct, Var, Func}, Lexemes.{Leaf, Lexeme, ident, path}}
-use Rattle.rgo_grammar.specs.reading.{Read.{Reader, Read, Done, Failed, At, Starving, ◌>>=◌, given, first_of, token, single, several}, Types.{a_type, binding, bindings}, Statements.{block}}
+use Rattle.rgo_grammar.specs.reading.{Read.{Reader, Read, Done, Failed, At, Starving, ◌>>=◌, yielding, next_lexeme, token, single, several}, Types.{a_type, a_binding, bindings}, Statements.{block}}
 
 -- one item, or a group of them in parentheses
 abbrev pub group_by : {A : Type 0} → Reader A → ℕ → Terminal → List Lexeme
     → List Lexeme → Read (List A)
-group_by item n OpenParen l m = several Semicolon CloseParen item n [] m >>= given (λ x. x.0)
+group_by item n OpenParen l m = several Semicolon CloseParen item n [] m >>= yielding (λ x. x.0)
 group_by item n _ l m = single (item l)
 
 abbrev pub group_on : {A : Type 0} → Reader A → ℕ → List Lexeme
@@ -18,13 +18,13 @@ group_on item n l None = Failed (At l)
 group_on item n l (Some x) = group_by item n x.0.terminal l x.1
 
 abbrev pub group : {A : Type 0} → Reader A → ℕ → List Lexeme → Read (List A)
-group item n l = group_on item n l (first_of l)
+group item n l = group_on item n l (next_lexeme l)
 
 abbrev pub import_path : List Lexeme → Read ImportPath
-import_path l = token Text l >>= given path
+import_path l = token Text l >>= yielding path
 
 abbrev pub import_decl : ℕ → Leaf → List Lexeme → Read tree.Import
-import_decl n i l = group import_path n l >>= given (λ ps. record { paths = ps; at = i.at })
+import_decl n i l = group import_path n l >>= yielding (λ ps. record { paths = ps; at = i.at })
 
 abbrev pub struct : Leaf → List Binding → TypeSpec
 struct i fs = record { name = ident i; fields = fs }
@@ -32,12 +32,12 @@ struct i fs = record { name = ident i; fields = fs }
 abbrev pub type_spec : ℕ → List Lexeme → Read TypeSpec
 type_spec n l =
     token Name l >>= λ i w. token Struct w >>= λ _ u. token OpenBrace u >>= λ _ v. bindings
-    Semicolon CloseBrace n v >>= given (λ x. struct i x.0)
+    Semicolon CloseBrace n v >>= yielding (λ x. struct i x.0)
 
 -- the type of a function's result, up to the block
 abbrev pub result_by : ℕ → Terminal → List Lexeme → Read (Option tree.TypeExpr)
 result_by n OpenBrace l = Done None l
-result_by n _ l = a_type n l >>= given (λ t. Some t)
+result_by n _ l = a_type n l >>= yielding (λ t. Some t)
 
 abbrev pub result_on : ℕ → List Lexeme → Option (Lexeme × List Lexeme) → Read (Option tree.TypeExpr)
 result_on n l None = Failed (At l)
@@ -52,11 +52,11 @@ function i j ps r b end =
 abbrev pub func : ℕ → Leaf → List Lexeme → Read tree.Decl
 func n i l =
     token Name l >>= λ j w. token OpenParen w >>= λ _ u. bindings Comma CloseParen n u >>= λ ps v.
-    result_on n v (first_of v) >>= λ r y. block n y >>= given (λ b. function i j ps.0 r b.0 b.1)
+    result_on n v (next_lexeme v) >>= λ r y. block n y >>= yielding (λ b. function i j ps.0 r b.0 b.1)
 
 abbrev pub decl_by : ℕ → Terminal → Leaf → List Lexeme → List Lexeme → Read tree.Decl
-decl_by n TypeWord i l m = group (type_spec n) n m >>= given (λ ss. tree.Types ss i.at)
-decl_by n Var i l m = group (binding n) n m >>= given (λ bs. tree.Vars bs i.at)
+decl_by n TypeWord i l m = group (type_spec n) n m >>= yielding (λ ss. tree.Types ss i.at)
+decl_by n Var i l m = group (a_binding n) n m >>= yielding (λ bs. tree.Vars bs i.at)
 decl_by n Func i l m = func n i m
 decl_by n _ i l m = Failed (At l)
 
@@ -74,7 +74,7 @@ decls_on n again found l (Some x) =
 -- declarations up to the end, each read with the first bound, appended to those found so far
 unfoldable pub decls : ℕ → ℕ → List tree.Decl → List Lexeme → Read (List tree.Decl)
 decls n zero found l = Failed Starving
-decls n (suc m) found l = decls_on n (decls n m) found l (first_of l)
+decls n (suc m) found l = decls_on n (decls n m) found l (next_lexeme l)
 
 abbrev pub imports_by : ℕ → (List tree.Import → Reader (List tree.Import)) → List tree.Import
     → Terminal → Leaf → List Lexeme → List Lexeme → Read (List tree.Import)
@@ -89,11 +89,11 @@ imports_on n again found l (Some x) = imports_by n again found x.0.terminal x.0.
 
 unfoldable pub imports : ℕ → ℕ → List tree.Import → List Lexeme → Read (List tree.Import)
 imports n zero found l = Failed Starving
-imports n (suc m) found l = imports_on n (imports n m) found l (first_of l)
+imports n (suc m) found l = imports_on n (imports n m) found l (next_lexeme l)
 
 abbrev pub head : List Lexeme → Read Leaf
 head l = token Package l >>= λ _ w. token Main w >>= λ _ u. token Semicolon u
 
 abbrev pub program : ℕ → List Lexeme → Read (List tree.Import × List tree.Decl)
 program n l =
-    head l >>= λ _ w. imports n n [] w >>= λ is u. decls n n [] u >>= given (λ ds. (is, ds))
+    head l >>= λ _ w. imports n n [] w >>= λ is u. decls n n [] u >>= yielding (λ ds. (is, ds))

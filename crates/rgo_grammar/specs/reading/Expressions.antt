@@ -9,7 +9,7 @@ use Rattle.rgo_ast.specs.Tree as tree
 use Rattle.rgo_ast.specs.Tree.{exprs_of, elements_of}
 use Rattle.rgo_lexer.specs.{Strings.{string_of}, declared.terminals.Terminal.{Terminal, TheVariants.{Name, New, Make, Number, Text, Binary, Bang}}, declared.terminals.Terminal.TheVariants.{Ampersand, Arrow, OpenParen, CloseParen}, declared.terminals.Terminal.TheVariants.{OpenBracket, CloseBracket, OpenBrace, CloseBrace}, declared.terminals.Terminal.TheVariants.{Comma, Colon, Dot, Chan}, Lexemes.{Leaf, Lexeme, ident}}
 use Rattle.rgo_grammar.specs.Grammar.{level}
-use Rattle.rgo_grammar.specs.reading.{Read.{Reader, Read, Done, Failed, At, Starving, ◌>>=◌, given, first_of, token, ended, several}, Read.{Reader}, Types.{a_type}}
+use Rattle.rgo_grammar.specs.reading.{Read.{Reader, Read, Done, Failed, At, Starving, ◌>>=◌, yielding, next_lexeme, token, list_rest, several}, Read.{Reader}, Types.{a_type}}
 
 -- [ "," ] ")"
 abbrev pub make_end_by : Terminal → List Lexeme → List Lexeme → Read Leaf
@@ -22,7 +22,7 @@ make_end_on l None = Failed (At l)
 make_end_on l (Some x) = make_end_by x.0.terminal l x.1
 
 abbrev pub make_end : List Lexeme → Read Leaf
-make_end l = make_end_on l (first_of l)
+make_end l = make_end_on l (next_lexeme l)
 
 -- Below, `inner` reads an expression in brackets.
 
@@ -31,7 +31,7 @@ abbrev pub capacity_by : Reader tree.Expr → tree.TypeExpr → Leaf → Termina
     → List Lexeme → Read tree.Expr
 capacity_by inner t i CloseParen l m = Done (tree.MakeChan t tree.no_capacity i.at) m
 capacity_by inner t i _ l m =
-    inner l >>= λ v w. make_end w >>= given (λ _. tree.MakeChan t (tree.a_capacity v) i.at)
+    inner l >>= λ v w. make_end w >>= yielding (λ _. tree.MakeChan t (tree.a_capacity v) i.at)
 
 abbrev pub capacity_on : Reader tree.Expr → tree.TypeExpr → Leaf → List Lexeme
     → Option (Lexeme × List Lexeme) → Read tree.Expr
@@ -39,51 +39,51 @@ capacity_on inner t i l None = Failed (At l)
 capacity_on inner t i l (Some x) = capacity_by inner t i x.0.terminal l x.1
 
 abbrev pub capacity : Reader tree.Expr → tree.TypeExpr → Leaf → List Lexeme → Read tree.Expr
-capacity inner t i l = capacity_on inner t i l (first_of l)
+capacity inner t i l = capacity_on inner t i l (next_lexeme l)
 
 -- after a channel's type
-abbrev pub sized_by : Reader tree.Expr → tree.TypeExpr → Leaf → Terminal → List Lexeme
+abbrev pub sized_chan_by : Reader tree.Expr → tree.TypeExpr → Leaf → Terminal → List Lexeme
     → List Lexeme → Read tree.Expr
-sized_by inner t i CloseParen l m = Done (tree.MakeChan t tree.no_capacity i.at) m
-sized_by inner t i Comma l m = capacity inner t i m
-sized_by inner t i _ l m = Failed (At l)
+sized_chan_by inner t i CloseParen l m = Done (tree.MakeChan t tree.no_capacity i.at) m
+sized_chan_by inner t i Comma l m = capacity inner t i m
+sized_chan_by inner t i _ l m = Failed (At l)
 
-abbrev pub sized_on : Reader tree.Expr → tree.TypeExpr → Leaf → List Lexeme
+abbrev pub sized_chan_on : Reader tree.Expr → tree.TypeExpr → Leaf → List Lexeme
     → Option (Lexeme × List Lexeme) → Read tree.Expr
-sized_on inner t i l None = Failed (At l)
-sized_on inner t i l (Some x) = sized_by inner t i x.0.terminal l x.1
+sized_chan_on inner t i l None = Failed (At l)
+sized_chan_on inner t i l (Some x) = sized_chan_by inner t i x.0.terminal l x.1
 
-abbrev pub sized : Reader tree.Expr → tree.TypeExpr → Leaf → List Lexeme → Read tree.Expr
-sized inner t i l = sized_on inner t i l (first_of l)
+abbrev pub sized_chan : Reader tree.Expr → tree.TypeExpr → Leaf → List Lexeme → Read tree.Expr
+sized_chan inner t i l = sized_chan_on inner t i l (next_lexeme l)
 
 -- after `make (`
 abbrev pub make_slice : Reader tree.Expr → Leaf → tree.TypeExpr → List Lexeme → Read tree.Expr
 make_slice inner i t l =
-    token Comma l >>= λ _ w. inner w >>= λ v u. make_end u >>= given (λ _. tree.MakeSlice t v i.at)
+    token Comma l >>= λ _ w. inner w >>= λ v u. make_end u >>= yielding (λ _. tree.MakeSlice t v i.at)
 
-abbrev pub made_by : ℕ → Reader tree.Expr → Leaf → Terminal → List Lexeme
+abbrev pub make_args_by : ℕ → Reader tree.Expr → Leaf → Terminal → List Lexeme
     → List Lexeme → Read tree.Expr
-made_by n inner i OpenBracket l m =
+make_args_by n inner i OpenBracket l m =
     token CloseBracket m >>= λ _ w. a_type n w >>= make_slice inner i
-made_by n inner i Chan l m = a_type n m >>= λ t. sized inner t i
-made_by n inner i _ l m = Failed (At l)
+make_args_by n inner i Chan l m = a_type n m >>= λ t. sized_chan inner t i
+make_args_by n inner i _ l m = Failed (At l)
 
-abbrev pub made_on : ℕ → Reader tree.Expr → Leaf → List Lexeme
+abbrev pub make_args_on : ℕ → Reader tree.Expr → Leaf → List Lexeme
     → Option (Lexeme × List Lexeme) → Read tree.Expr
-made_on n inner i l None = Failed (At l)
-made_on n inner i l (Some x) = made_by n inner i x.0.terminal l x.1
+make_args_on n inner i l None = Failed (At l)
+make_args_on n inner i l (Some x) = make_args_by n inner i x.0.terminal l x.1
 
-abbrev pub made : ℕ → Reader tree.Expr → Leaf → List Lexeme → Read tree.Expr
-made n inner i l = made_on n inner i l (first_of l)
+abbrev pub make_args : ℕ → Reader tree.Expr → Leaf → List Lexeme → Read tree.Expr
+make_args n inner i l = make_args_on n inner i l (next_lexeme l)
 
 -- new ( name )
 abbrev pub new_at : Leaf → List Lexeme → Read tree.Expr
 new_at i l =
-    token OpenParen l >>= λ _ w. token Name w >>= λ j u. token CloseParen u >>= given
+    token OpenParen l >>= λ _ w. token Name w >>= λ j u. token CloseParen u >>= yielding
     (λ _. tree.New (ident j) i.at)
 
 abbrev pub parens : Reader tree.Expr → Leaf → List Lexeme → Read tree.Expr
-parens inner i l = inner l >>= λ v w. token CloseParen w >>= given (λ _. tree.Paren v i.at)
+parens inner i l = inner l >>= λ v w. token CloseParen w >>= yielding (λ _. tree.Paren v i.at)
 
 -- the operand that a Primary begins with
 abbrev pub operand_by : ℕ → Reader tree.Expr → Terminal → Leaf → List Lexeme
@@ -93,7 +93,7 @@ operand_by n inner (Number v) i l m = Done (tree.Number v i.at) m
 operand_by n inner Text i l m = Done (tree.Text (string_of i.word) i.at) m
 operand_by n inner OpenParen i l m = parens inner i m
 operand_by n inner New i l m = new_at i m
-operand_by n inner Make i l m = token OpenParen m >>= λ _. made n inner i
+operand_by n inner Make i l m = token OpenParen m >>= λ _. make_args n inner i
 operand_by n inner _ i l m = Failed (At l)
 
 abbrev pub operand_on : ℕ → Reader tree.Expr → List Lexeme
@@ -102,7 +102,7 @@ operand_on n inner l None = Failed (At l)
 operand_on n inner l (Some x) = operand_by n inner x.0.terminal x.0.leaf l x.1
 
 abbrev pub operand : ℕ → Reader tree.Expr → List Lexeme → Read tree.Expr
-operand n inner l = operand_on n inner l (first_of l)
+operand n inner l = operand_on n inner l (next_lexeme l)
 
 abbrev pub exprs_from : Terminal → ℕ → Reader tree.Expr → List tree.Expr → List Lexeme
     → Read (List tree.Expr × Leaf)
@@ -112,13 +112,13 @@ abbrev pub exprs : Terminal → ℕ → Reader tree.Expr → List Lexeme → Rea
 exprs closer n inner l = exprs_from closer n inner [] l
 
 -- name ":" Expr
-abbrev pub element : Reader tree.Expr → List Lexeme → Read (Ident × tree.Expr)
-element inner l =
-    token Name l >>= λ i w. token Colon w >>= λ _ u. inner u >>= given (λ v. (ident i, v))
+abbrev pub keyed_element : Reader tree.Expr → List Lexeme → Read (Ident × tree.Expr)
+keyed_element inner l =
+    token Name l >>= λ i w. token Colon w >>= λ _ u. inner u >>= yielding (λ v. (ident i, v))
 
 abbrev pub elements_from : ℕ → Reader tree.Expr → List (Ident × tree.Expr) → List Lexeme
     → Read (List (Ident × tree.Expr) × Leaf)
-elements_from n inner found l = several Comma CloseBrace (element inner) n found l
+elements_from n inner found l = several Comma CloseBrace (keyed_element inner) n found l
 
 -- the next token is a `:`, so that a name and a `:` begin an element
 abbrev pub is_colon : Option (Lexeme × List Lexeme) → Bool
@@ -132,21 +132,21 @@ abbrev pub is_keyed_on : Option (Lexeme × List Lexeme) → Bool
 is_keyed_on None = false
 is_keyed_on (Some x) = by_terminal x.0.terminal where
   by_terminal : Terminal → Bool
-  by_terminal Name = is_colon (first_of x.1)
+  by_terminal Name = is_colon (next_lexeme x.1)
   by_terminal _ = false
 
 abbrev pub is_keyed : List Lexeme → Bool
-is_keyed l = is_keyed_on (first_of l)
+is_keyed l = is_keyed_on (next_lexeme l)
 
 -- after `& name {`
 abbrev pub keyed : ℕ → Reader tree.Expr → Leaf → Leaf → List Lexeme → Read tree.Expr
 keyed n inner i j l =
-    element inner l >>= λ e w. ended Comma CloseBrace (elements_from n inner) (e ∷ []) w >>= given
+    keyed_element inner l >>= λ e w. list_rest Comma CloseBrace (elements_from n inner) (e ∷ []) w >>= yielding
     (λ x. tree.Keyed (ident j) (elements_of x.0) i.at)
 
 abbrev pub unkeyed : ℕ → Reader tree.Expr → Leaf → Leaf → List Lexeme → Read tree.Expr
 unkeyed n inner i j l =
-    exprs CloseBrace n inner l >>= given (λ x. tree.Literal (ident j) (exprs_of x.0) i.at)
+    exprs CloseBrace n inner l >>= yielding (λ x. tree.Literal (ident j) (exprs_of x.0) i.at)
 
 abbrev pub elements : ℕ → Reader tree.Expr → Leaf → Leaf → List Lexeme → Read tree.Expr
 elements n inner i j l = if is_keyed l then keyed n inner i j l else unkeyed n inner i j l
@@ -184,7 +184,7 @@ literal_if true n inner i l m = Failed (At l)
 literal_if false n inner i l m = literal n inner i m
 
 abbrev pub signed : Reader tree.Expr → UnaryOp → Leaf → List Lexeme → Read tree.Expr
-signed again o i l = again l >>= given (λ v. tree.Unary o v i.at)
+signed again o i l = again l >>= yielding (λ v. tree.Unary o v i.at)
 
 abbrev pub unary_by : Bool → ℕ → Reader tree.Expr → Reader tree.Expr → Reader tree.Expr → Terminal
     → Leaf → List Lexeme → List Lexeme → Read tree.Expr
@@ -223,12 +223,12 @@ unfoldable mutual
   pub climb : Bool → ℕ → ℕ → tree.Expr → List Lexeme → Read tree.Expr
   climb header zero least a l = Failed Starving
   climb header (suc n) least a l =
-      climb_on (expr header n) (climb header n least) least a l (first_of l)
+      climb_on (expr header n) (climb header n least) least a l (next_lexeme l)
 
   pub unary : Bool → ℕ → List Lexeme → Read tree.Expr
   unary header zero l = Failed Starving
   unary header (suc n) l =
-      unary_on header n (expr false n 1) (unary header n) (primary n) l (first_of l)
+      unary_on header n (expr false n 1) (unary header n) (primary n) l (next_lexeme l)
 
   pub primary : ℕ → List Lexeme → Read tree.Expr
   primary zero l = Failed Starving
@@ -236,4 +236,4 @@ unfoldable mutual
 
   pub post : ℕ → tree.Expr → List Lexeme → Read tree.Expr
   post zero v l = Failed Starving
-  post (suc n) v l = post_on n (expr false n 1) (post n) v l (first_of l)
+  post (suc n) v l = post_on n (expr false n 1) (post n) v l (next_lexeme l)

@@ -23,12 +23,12 @@ abbrev pub ◌>>=◌ : {A B : Type 0} → Read A → (A → Reader B) → Read B
 (Failed s) >>= f = Failed s
 
 -- success with a function of what was read
-abbrev pub given : {A B : Type 0} → (A → B) → A → List Lexeme → Read B
-given f a w = Done (f a) w
+abbrev pub yielding : {A B : Type 0} → (A → B) → A → List Lexeme → Read B
+yielding f a w = Done (f a) w
 
-abbrev pub first_of : List Lexeme → Option (Lexeme × List Lexeme)
-first_of [] = None
-first_of (t ∷ l) = Some (t, l)
+abbrev pub next_lexeme : List Lexeme → Option (Lexeme × List Lexeme)
+next_lexeme [] = None
+next_lexeme (t ∷ l) = Some (t, l)
 
 -- one token
 abbrev pub token_on : Terminal → List Lexeme → Option (Lexeme × List Lexeme) → Read Leaf
@@ -36,19 +36,19 @@ token_on k l None = Failed (At l)
 token_on k l (Some x) = if is_same_terminal k x.0.terminal then Done x.0.leaf x.1 else Failed (At l)
 
 abbrev pub token : Terminal → List Lexeme → Read Leaf
-token k l = token_on k l (first_of l)
+token k l = token_on k l (next_lexeme l)
 
 -- after an item of a list: what closes the list, or a separator and the rest of the list
-abbrev pub ended_on : {A : Type 0} → Terminal → Terminal → (List A → Reader (List A × Leaf))
+abbrev pub list_rest_on : {A : Type 0} → Terminal → Terminal → (List A → Reader (List A × Leaf))
     → List A → List Lexeme → Option (Lexeme × List Lexeme) → Read (List A × Leaf)
-ended_on separator closer again found l None = Failed (At l)
-ended_on separator closer again found l (Some x) =
+list_rest_on separator closer again found l None = Failed (At l)
+list_rest_on separator closer again found l (Some x) =
     if is_same_terminal closer x.0.terminal then Done (found, x.0.leaf) x.1 else
     (if is_same_terminal separator x.0.terminal then again found x.1 else Failed (At l))
 
-abbrev pub ended : {A : Type 0} → Terminal → Terminal → (List A → Reader (List A × Leaf)) → List A
+abbrev pub list_rest : {A : Type 0} → Terminal → Terminal → (List A → Reader (List A × Leaf)) → List A
     → List Lexeme → Read (List A × Leaf)
-ended separator closer again found l = ended_on separator closer again found l (first_of l)
+list_rest separator closer again found l = list_rest_on separator closer again found l (next_lexeme l)
 
 abbrev pub listed_on : {A : Type 0} → Terminal → Terminal → Reader (List A)
     → (List A → Reader (List A × Leaf)) → List A → List Lexeme
@@ -56,17 +56,17 @@ abbrev pub listed_on : {A : Type 0} → Terminal → Terminal → Reader (List A
 listed_on separator closer item again found l None = Failed (At l)
 listed_on separator closer item again found l (Some x) =
     if is_same_terminal closer x.0.terminal then Done (found, x.0.leaf) x.1 else
-    (item l >>= λ a. ended separator closer again (found ++ a))
+    (item l >>= λ a. list_rest separator closer again (found ++ a))
 
 -- items up to what closes them, appended to those found so far
 unfoldable pub listed : {A : Type 0} → Terminal → Terminal → Reader (List A) → ℕ → List A
     → List Lexeme → Read (List A × Leaf)
 listed separator closer item zero found l = Failed Starving
 listed separator closer item (suc n) found l =
-    listed_on separator closer item (listed separator closer item n) found l (first_of l)
+    listed_on separator closer item (listed separator closer item n) found l (next_lexeme l)
 
 abbrev pub single : {A : Type 0} → Read A → Read (List A)
-single m = m >>= given (λ a. a ∷ [])
+single m = m >>= yielding (λ a. a ∷ [])
 
 -- items that are read one by one, up to what closes them, appended to those found so far
 unfoldable pub several : {A : Type 0} → Terminal → Terminal → Reader A → ℕ → List A

@@ -28,8 +28,8 @@ use Rattle.rgo_tac.specs.Steps.{destination_type}
 use Rattle.rgo_meaning.specs.Frames as source
 use Rattle.rgo_meaning.specs.Frames.{Todo, Perform, Affect, Settle, Create, Fill, Repeat, Give, Forget, Clear}
 use Rattle.rgo_meaning.specs.Frames.{Write, last_values, value_below, with_local_value}
-use Rattle.rgo_meaning.specs.Steps.{giving, leaving}
-use Rattle.rgo_lower.specs.Lowered.{Point, next_point, pointer_type, zero_action_in, zero_action, LoweringScope}
+use Rattle.rgo_meaning.specs.Steps.{with_action_result, without_action_result}
+use Rattle.rgo_lower.specs.Lowered.{LoweringPoint, next_point, pointer_type, zero_action_in, zero_action, LoweringScope}
 use Rattle.rgo_lower.proofs.follows.Lists.{below_drop, below_take, below_append, below_le, get_map}
 use Rattle.rgo_lower.proofs.follows.Places.{Place, Loop, Begins}
 use Rattle.rgo_lower.proofs.follows.Grows.{same_inside, fits_grow}
@@ -54,7 +54,7 @@ zero_stands [] base.Bool blank place next = refl
 zero_stands [] (base.Pointer n) blank place next = refl
 zero_stands (layer ∷ layers) b blank place next = refl
 
-module _ (c : Setting) (loops : List Loop) (scope : LoweringScope) (p : Point) (locals : List Value) where
+module _ (c : Setting) (loops : List Loop) (scope : LoweringScope) (p : LoweringPoint) (locals : List Value) where
   abbrev Now : List ℕ → List Todo → Type 0
   Now held todo = Here c loops scope p held locals todo
 
@@ -74,7 +74,7 @@ module _ (c : Setting) (loops : List Loop) (scope : LoweringScope) (p : Point) (
       let known = slice_get_within c.f.variables p.variable ty i.0.variable in
       let rest = leads c todo loops i.1 h.todo.2 in
       let vs = last_values count (map (g c) held) in
-      let next = λ (v : Value). giving frame count todo v in
+      let next = λ (v : Value). with_action_result frame count todo v in
       let fit : (v : Value) → Fit c (next v) (tac.frame_after_instr c.frame (Some p.variable) v) =
       λ v. gives c h count v todo known rest in
       together c frame op place (instr_is c op place p h.function h.next i.0.instr)
@@ -90,7 +90,7 @@ module _ (c : Setting) (loops : List Loop) (scope : LoweringScope) (p : Point) (
       let op = Do None action from in
       let rest = leads c todo loops i.1 h.todo.2 in
       let vs = last_values count (map (g c) held) in
-      let next = λ (v : Value). leaving frame count todo v in
+      let next = λ (v : Value). without_action_result frame count todo v in
       let fit : (v : Value) → Fit c (next v) (tac.frame_after_instr c.frame None v) =
       λ v. passes c h count todo rest in
       together c frame op place (instr_is c op place p h.function h.next i.0)
@@ -133,7 +133,7 @@ module _ (c : Setting) (loops : List Loop) (scope : LoweringScope) (p : Point) (
       let op = Do (Some p.variable) (New struct) [] in
       let known = slice_get_within c.f.variables p.variable (pointer_type struct) i.1.variable in
       let rest = leads c todo loops i.2 h.todo.2 in
-      let next = λ (v : Value). giving frame 0 todo v in
+      let next = λ (v : Value). with_action_result frame 0 todo v in
       let next2 = λ (v : Value). tac.frame_after_instr c.frame (Some p.variable) v in
       let fit : (v : Value) → Fit c (next v) (next2 v) = λ v. gives c h 0 v todo known rest in
       let made = λ (m : Memory) (ss : List Struct). made_struct (slice_get ss struct) m in
@@ -167,7 +167,7 @@ module _ (c : Setting) (loops : List Loop) (scope : LoweringScope) (p : Point) (
       let held = object ∷ below in
       let todo2 = Fill count fields place ∷ todo in
       let frame = frame_of c locals held (Fill count (k ∷ fields) place ∷ todo) in
-      let next = λ (v : Value). leaving frame 0 todo2 v in
+      let next = λ (v : Value). without_action_result frame 0 todo2 v in
       let from = object ∷ d ∷ [] in
       let op = Do None (Store k) from in
       let stored = value_below frame.values (length (k ∷ fields)) in

@@ -11,7 +11,7 @@ use Rattle.rgo_meaning.specs.Frames.{Todo, Evaluate, Execute, Sequence, When, Ch
 use Rattle.rgo_meaning.specs.Frames.{Again}
 use Rattle.rgo_meaning.specs.Steps.{when, chosen, tested}
 use Rattle.rgo_meaning.specs.Todos.{after_break, after_continue}
-use Rattle.rgo_lower.specs.Lowered.{Point, next_point, LoweringScope}
+use Rattle.rgo_lower.specs.Lowered.{LoweringPoint, next_point, LoweringScope}
 use Rattle.rgo_lower.proofs.follows.Places.{place_of, BodyAt, Loop, targets_of, loop_to}
 use Rattle.rgo_lower.proofs.follows.Grows.{same_inside, fits_grow, fits_inside, term_grows, stmts_grow, stmts_scopes}
 use Rattle.rgo_lower.proofs.follows.Grows.{variable_le}
@@ -20,7 +20,7 @@ use Rattle.rgo_lower.proofs.follows.Changes.{stays, jumped}
 use Rattle.rgo_lower.proofs.follows.Chains.{leads, breaks, continues}
 use Rattle.rgo_lower.proofs.follows.Steps.{Goal, stutter, instr_is, together}
 
-module _ (c : Setting) (loops : List Loop) (scope : LoweringScope) (p : Point) (locals : List Value) where
+module _ (c : Setting) (loops : List Loop) (scope : LoweringScope) (p : LoweringPoint) (locals : List Value) where
   abbrev Now : List ℕ → List Todo → Type 0
   Now held todo = Here c loops scope p held locals todo
 
@@ -129,7 +129,7 @@ module _ (c : Setting) (loops : List Loop) (scope : LoweringScope) (p : Point) (
       let start = variable_le p mid at.4 in
       stutter c frame (frame_of c locals [] (Sequence body ∷ Again None body post ∷ todo)) refl (λ m. refl)
       (stays c h (l ∷ loops) scope mid [] []
-      (Sequence body ∷ Again None body post ∷ todo) (ap (λ (z : Point). z.instr) at.4) (same_inside scope)
+      (Sequence body ∷ Again None body post ∷ todo) (ap (λ (z : LoweringPoint). z.instr) at.4) (same_inside scope)
       (fits_grow c.f scope p.variable mid.variable start h.fits) (same_inside scope) tt refl (
         place_of at.2 next [],
         (at.2, next, at.5, refl),
@@ -215,7 +215,7 @@ module _ (c : Setting) (loops : List Loop) (scope : LoweringScope) (p : Point) (
           jumped c h q.instr loops scope q todo refl (same_inside scope) fits h.loop rest
 
 -- the loop is the innermost one
-module _ (c : Setting) (l : Loop) (loops : List Loop) (scope : LoweringScope) (p : Point) (locals : List Value)
+module _ (c : Setting) (l : Loop) (loops : List Loop) (scope : LoweringScope) (p : LoweringPoint) (locals : List Value)
     (todo : List Todo) where
   -- after the body
   pub again_steps : (test : Option Term) (body post : Stmts)

@@ -15,7 +15,7 @@ use Rattle.rgo_tac.specs.Tac as machine
 use Rattle.rgo_meaning.specs.Frames as source
 use Rattle.rgo_meaning.specs.Frames.{closing}
 use Rattle.rgo_meaning.specs.Source.{function_named, source_main_frames}
-use Rattle.rgo_lower.specs.Lowered.{Point, LoweringScope, OpAt, parameters, variable_of_local, closing_op, IsLoweredFn, AreLowered}
+use Rattle.rgo_lower.specs.Lowered.{LoweringPoint, LoweringScope, OpAt, parameters, variable_of_local, closing_op, IsLoweredFn, AreLowered}
 use Rattle.rgo_lower.proofs.follows.Lists.{padded_long, padded_same, first_same}
 use Rattle.rgo_lower.proofs.follows.Places.{TodoAt, place_of}
 use Rattle.rgo_lower.proofs.follows.Grows.{some_same, tested_eq, stmts_grow}
@@ -57,7 +57,7 @@ parameter_at (suc count) n d e = go (λ q. parameter_at count n d q) (nat_eq cou
 -- ---- first frames
 
 module _ (functions : List Function) (code : Tac) where
-  closing_at : (g : TacFn) (result : Option «Type») (scope : LoweringScope) (p : Point) (place : ℕ)
+  closing_at : (g : TacFn) (result : Option «Type») (scope : LoweringScope) (p : LoweringPoint) (place : ℕ)
       → OpAt g p.instr (closing_op result p.instr) place → g.result_type ≡ result
       → TodoAt functions g (closing result) [] scope p []
   closing_at g None scope p place instr is = record { place = place; instr = instr; is = is; none = refl }
@@ -77,7 +77,7 @@ module _ (functions : List Function) (code : Tac) where
         → AreMatched functions code g (source.new_source_frame s arguments) (tac.new_tac_frame g n others)
     called_matched n others here same =
         let scope = parameters s.params in
-        let p : Point = record { instr = 0; variable = s.params } in
+        let p : LoweringPoint = record { instr = 0; variable = s.params } in
         let grows = stmts_grow functions g (stmts_of s.body) [] scope p l.scope l.last l.body in
         let enough = l.variables in
         let long = ap (λ vs. length (vs ++ drop (length vs) (map zero_of g.variables))) same in

@@ -9,7 +9,7 @@ use Rattle.rgo_typed.specs.Tree.{Function, Terms}
 use Rattle.rgo_tac.specs.Code as op
 use Rattle.rgo_meaning.specs.Frames.{Todo, Perform, Affect, Enter, Start, Write, Again, Leave, Stay}
 use Rattle.rgo_meaning.specs.Todos.{term_count, after_break, after_continue}
-use Rattle.rgo_lower.specs.Lowered.{Point, after_value, next_point, OpAt, ActionAt, LoweringScope, function_result_type, StoresAt, TermsAt}
+use Rattle.rgo_lower.specs.Lowered.{LoweringPoint, after_value, next_point, OpAt, ActionAt, LoweringScope, function_result_type, StoresAt, TermsAt}
 use Rattle.rgo_lower.proofs.follows.Lists.{onto, taken_back, dropped_back, get_onto}
 use Rattle.rgo_lower.proofs.follows.Settings.{Setting, At}
 use Rattle.rgo_lower.proofs.follows.Places.{Place, place_of, FillAt, CallAt, Fits, Loop, targets_of, InLoop}
@@ -24,7 +24,7 @@ module _ (c : Setting) where
       → At c todo loops q.scope q.point q.held
   leads todo loops e h = subst (λ (z : Place). At c todo loops z.scope z.point z.held) e h
 
-  pub terms_length : (ts : Terms) (scope : LoweringScope) (p : Point) (ds : List ℕ) (q : Point)
+  pub terms_length : (ts : Terms) (scope : LoweringScope) (p : LoweringPoint) (ds : List ℕ) (q : LoweringPoint)
       → TermsAt functions c.f scope ts p ds q → term_count ts ≡ length ds
   terms_length tree.no_terms scope p ds q h = ap length (sym h.0)
   terms_length (tree.a_term t ts) scope p ds q h =
@@ -32,7 +32,7 @@ module _ (c : Setting) where
 
   -- ---- after the parts, whose values are on top
 
-  module _ (loops : List Loop) (scope : LoweringScope) (mid : Point) (ds held : List ℕ) (n : ℕ) (e : n ≡ length ds)
+  module _ (loops : List Loop) (scope : LoweringScope) (mid : LoweringPoint) (ds held : List ℕ) (n : ℕ) (e : n ≡ length ds)
       (todo : List Todo) where
     pub perform_todo : (action : Action) (ty : «Type») (place : ℕ) → ActionAt c.f mid action ds ty place
         → At c todo loops scope (after_value mid) (mid.variable ∷ held)
@@ -105,7 +105,7 @@ module _ (c : Setting) where
           subst (λ z. At c todo loops scope (next_point mid) z) (sym (dropped_back ds held n e)) rest,
         )
 
-  fields_length : (object : ℕ) (fields ds : List ℕ) (place : ℕ) (p q : Point)
+  fields_length : (object : ℕ) (fields ds : List ℕ) (place : ℕ) (p q : LoweringPoint)
       → StoresAt functions c.f object fields ds place p q → length fields ≡ length ds
   fields_length object [] [] place p q h = refl
   fields_length object (k ∷ fields) (d ∷ ds) place p q h =
@@ -114,10 +114,10 @@ module _ (c : Setting) where
   fields_length object (k ∷ fields) [] place p q h = absurd h
 
   -- the stores of an object's elements, whose values are below it
-  pub fills : (object : ℕ) (fields ds xs : List ℕ) (place : ℕ) (p q : Point)
+  pub fills : (object : ℕ) (fields ds xs : List ℕ) (place : ℕ) (p q : LoweringPoint)
       → StoresAt functions c.f object fields ds place p q
       → FillAt functions c.f fields object p.instr (onto ds xs) place q
-  fills object [] [] xs place p q h = ap (λ (z : Point). z.instr) h
+  fills object [] [] xs place p q h = ap (λ (z : LoweringPoint). z.instr) h
   fills object (k ∷ fields) (d ∷ ds) xs place p q h =
       let n = fields_length object fields ds place (next_point p) q h.1 in
       let found = get_onto ds (d ∷ xs) (length fields) 0 (omega (arith, n)) in
@@ -130,13 +130,13 @@ module _ (c : Setting) where
   -- what is to do at a place to which a jump out of a loop's body leads
   pub record Reached (todo : List Todo) (scope : LoweringScope) (i : ℕ) : Type 0 where
     pub loops : List Loop
-    pub point : Point
+    pub point : LoweringPoint
     pub at : At c todo loops scope point []
     pub instr : i ≡ point.instr
     pub fits : Fits c.f scope point.variable
     pub loop : InLoop loops scope
 
-  pub breaks : (todo : List Todo) (l : Loop) (loops : List Loop) (scope : LoweringScope) (p : Point) (held : List ℕ)
+  pub breaks : (todo : List Todo) (l : Loop) (loops : List Loop) (scope : LoweringScope) (p : LoweringPoint) (held : List ℕ)
       → At c todo (l ∷ loops) scope p held → Reached (after_break todo) l.scope l.target.break_to
   breaks [] l loops scope p held h = let no : l ∷ loops ≡ [] = h.none in cc
   breaks (Leave ∷ todo) l loops scope p [] h = absurd h
@@ -158,7 +158,7 @@ module _ (c : Setting) where
       }
   breaks (item ∷ todo) l loops scope p held h = breaks todo l loops h.0.scope h.0.point h.0.held h.2
 
-  pub continues : (todo : List Todo) (l : Loop) (loops : List Loop) (scope : LoweringScope) (p : Point) (held : List ℕ)
+  pub continues : (todo : List Todo) (l : Loop) (loops : List Loop) (scope : LoweringScope) (p : LoweringPoint) (held : List ℕ)
       → At c todo (l ∷ loops) scope p held → Reached (after_continue todo) l.scope l.target.continue_to
   continues [] l loops scope p held h = let no : l ∷ loops ≡ [] = h.none in cc
   continues (Leave ∷ todo) l loops scope p [] h = absurd h

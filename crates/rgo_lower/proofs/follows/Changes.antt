@@ -7,7 +7,7 @@ use Rattle.rgo_memory.specs.declared.values.Value.TheVariants.{Nil}
 use Rattle.rgo_tac.specs.Frames as tac
 use Rattle.rgo_tac.specs.Frames.{value_at, moved_to}
 use Rattle.rgo_meaning.specs.Frames.{Todo, local_value, with_local_value}
-use Rattle.rgo_lower.specs.Lowered.{Point, after_value, next_point, LoweringScope, variable_of_local}
+use Rattle.rgo_lower.specs.Lowered.{LoweringPoint, after_value, next_point, LoweringScope, variable_of_local}
 use Rattle.rgo_lower.proofs.follows.Lists.{AreBelow, map_below, below_le, below_drop, local_same, local_other}
 use Rattle.rgo_lower.proofs.follows.Places.{Fits, Inside, Loop, InLoop}
 use Rattle.rgo_lower.proofs.follows.Grows.{same_inside, some_same, tested_eq, tested_ne, in_loop, fits_begin, fits_grow}
@@ -24,10 +24,10 @@ value_same : (low : tac.TacFrame) (to : ℕ) (v : Value) → to < length low.var
 value_same low to v h = get_or-set_same low.variables to v Nil h
 
 -- `loops`, `scope`, `p`, `held`, `locals` and `todo` are those before the change
-module _ (c : Setting) {loops : List Loop} {scope : LoweringScope} {p : Point} {held : List ℕ} {locals : List Value}
+module _ (c : Setting) {loops : List Loop} {scope : LoweringScope} {p : LoweringPoint} {held : List ℕ} {locals : List Value}
     {todo : List Todo} (h : Here c loops scope p held locals todo) where
   -- the code goes to an instruction, and no variable changes
-  pub jumps : (i : ℕ) (loops2 : List Loop) (scope2 : LoweringScope) (q : Point) (kept : List ℕ) (values : List Value)
+  pub jumps : (i : ℕ) (loops2 : List Loop) (scope2 : LoweringScope) (q : LoweringPoint) (kept : List ℕ) (values : List Value)
       (todo2 : List Todo) → i ≡ q.instr → Inside scope2 scope → Fits c.f scope2 q.variable → InLoop loops2 scope2
       → AreBelow q.variable kept → map (g c) kept ≡ values → At c todo2 loops2 scope2 q kept
       → Fit c (record { locals = locals; values = values; todo = todo2 }) (moved_to c.frame i)
@@ -50,7 +50,7 @@ module _ (c : Setting) {loops : List Loop} {scope : LoweringScope} {p : Point} {
   )
 
   -- the code stays where it is
-  pub stays : (loops2 : List Loop) (scope2 : LoweringScope) (q : Point) (kept : List ℕ) (values : List Value)
+  pub stays : (loops2 : List Loop) (scope2 : LoweringScope) (q : LoweringPoint) (kept : List ℕ) (values : List Value)
       (todo2 : List Todo) → q.instr ≡ p.instr → Inside scope2 scope → Fits c.f scope2 q.variable
       → InLoop loops2 scope2 → AreBelow q.variable kept → map (g c) kept ≡ values → At c todo2 loops2 scope2 q kept
       → Fit c (record { locals = locals; values = values; todo = todo2 }) c.frame
@@ -58,7 +58,7 @@ module _ (c : Setting) {loops : List Loop} {scope : LoweringScope} {p : Point} {
       jumps c.frame.next loops2 scope2 q kept values todo2 (h.next ∙ sym i) inside fits loop below same at
 
   -- the code jumps, and the source continues without values
-  pub jumped : (i : ℕ) (loops2 : List Loop) (scope2 : LoweringScope) (q : Point) (todo2 : List Todo) → i ≡ q.instr
+  pub jumped : (i : ℕ) (loops2 : List Loop) (scope2 : LoweringScope) (q : LoweringPoint) (todo2 : List Todo) → i ≡ q.instr
       → Inside scope2 scope → Fits c.f scope2 q.variable → InLoop loops2 scope2 → At c todo2 loops2 scope2 q []
       → Goroutines c (frame_of c locals [] todo2 ∷ c.callers) (moved_to c.frame i ∷ c.lows)
   jumped i loops2 scope2 q todo2 next inside fits loop at =
@@ -74,7 +74,7 @@ module _ (c : Setting) {loops : List Loop} {scope : LoweringScope} {p : Point} {
       (sym (drop-map (g c) n held)) at
 
   -- a variable that is no local variable's is given a value
-  pub writes : (to : ℕ) (v : Value) (q : Point) (kept : List ℕ) (values : List Value) (todo2 : List Todo)
+  pub writes : (to : ℕ) (v : Value) (q : LoweringPoint) (kept : List ℕ) (values : List Value) (todo2 : List Todo)
       → to < length c.f.variables → Fits c.f scope to → AreBelow to kept → q.instr ≡ p.instr + 1 → to < q.variable
       → p.variable ≤ q.variable → map (g c) kept ≡ values → At c todo2 loops scope q (to ∷ kept)
       → Fit c (record { locals = locals; values = v ∷ values; todo = todo2 }) (tac.frame_after_instr c.frame (Some to) v)

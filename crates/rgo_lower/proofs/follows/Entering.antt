@@ -14,7 +14,7 @@ use Rattle.rgo_meaning.specs.Frames as source
 use Rattle.rgo_meaning.specs.Frames.{Todo, Enter, Start, last_values}
 use Rattle.rgo_meaning.specs.Stands as stands
 use Rattle.rgo_meaning.specs.Stands.{source_stand}
-use Rattle.rgo_lower.specs.Lowered.{Point, function_result_type, LoweringScope}
+use Rattle.rgo_lower.specs.Lowered.{LoweringPoint, function_result_type, LoweringScope}
 use Rattle.rgo_lower.proofs.follows.Places.{CallAt, Loop}
 use Rattle.rgo_lower.proofs.follows.Grows.{some_same}
 use Rattle.rgo_lower.proofs.follows.Calls.{BothFound, both_found, called_matched}
@@ -24,7 +24,7 @@ use Rattle.rgo_lower.proofs.follows.Changes.{passes, gives}
 use Rattle.rgo_lower.proofs.follows.Chains.{leads}
 use Rattle.rgo_lower.proofs.follows.Steps.{StandsAlike, Goal, Next, instr_is, together, values_same}
 
-module _ (c : Setting) (loops : List Loop) (scope : LoweringScope) (p : Point) (locals : List Value) (held : List ℕ)
+module _ (c : Setting) (loops : List Loop) (scope : LoweringScope) (p : LoweringPoint) (locals : List Value) (held : List ℕ)
     (n count : ℕ) (todo : List Todo) where
   -- a frame before a call or a start
   abbrev before : Todo → source.SourceFrame

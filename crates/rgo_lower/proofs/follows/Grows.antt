@@ -5,7 +5,7 @@ use Rattle.std.proofs.lemmas.Bool.Decides.{nat_tests}
 use Rattle.rgo_typed.specs.Tree as tree
 use Rattle.rgo_typed.specs.Tree.{Function, Term, Terms, Stmt, Stmts, Change}
 use Rattle.rgo_tac.specs.Code.{TacFn}
-use Rattle.rgo_lower.specs.Lowered.{Point, after_value, next_point, LoweringScope, variable_of_local, Target, StoresAt, TermAt, TermsAt, TestAt}
+use Rattle.rgo_lower.specs.Lowered.{LoweringPoint, after_value, next_point, LoweringScope, variable_of_local, Target, StoresAt, TermAt, TermsAt, TestAt}
 use Rattle.rgo_lower.specs.Lowered.{ConditionAt, UpdateAt, StmtAt, StmtsAt}
 use Rattle.rgo_lower.proofs.follows.Places.{Inside, Fits, Loop, InLoop}
 
@@ -18,8 +18,8 @@ tested_eq m n e = grind (arith, nat_tests)
 pub tested_ne : (m n : ℕ) → nat_eq m n ≡ false → m ≢ n
 tested_ne m n e = grind (arith, nat_tests)
 
-pub variable_le : (p q : Point) → q ≡ p → p.variable ≤ q.variable
-variable_le p q e = let v = ap (λ (z : Point). z.variable) e in omega (arith, v)
+pub variable_le : (p q : LoweringPoint) → q ≡ p → p.variable ≤ q.variable
+variable_le p q e = let v = ap (λ (z : LoweringPoint). z.variable) e in omega (arith, v)
 
 -- ---- scopes
 
@@ -85,15 +85,15 @@ fits_begin f s n x known h = record {
 -- ---- variables
 
 module _ (functions : List Function) (f : TacFn) where
-  pub stores_keep : (object : ℕ) (fields ds : List ℕ) (place : ℕ) (p q : Point)
+  pub stores_keep : (object : ℕ) (fields ds : List ℕ) (place : ℕ) (p q : LoweringPoint)
       → StoresAt functions f object fields ds place p q → q.variable ≡ p.variable
-  stores_keep object [] [] place p q h = ap (λ (z : Point). z.variable) h
+  stores_keep object [] [] place p q h = ap (λ (z : LoweringPoint). z.variable) h
   stores_keep object (k ∷ fields) (d ∷ ds) place p q h = stores_keep object fields ds place (next_point p) q h.1
   stores_keep object [] (d ∷ ds) place p q h = absurd h
   stores_keep object (k ∷ fields) [] place p q h = absurd h
 
   mutual
-    pub term_grows : (scope : LoweringScope) (t : Term) (p : Point) (d : ℕ) (q : Point) → TermAt functions f scope t p d q
+    pub term_grows : (scope : LoweringScope) (t : Term) (p : LoweringPoint) (d : ℕ) (q : LoweringPoint) → TermAt functions f scope t p d q
         → p.variable ≤ q.variable
     term_grows scope (tree.Local n) p d q h = variable_le p q h.1
     term_grows scope (tree.Apply action parts ty place) p d q h =
@@ -114,23 +114,23 @@ module _ (functions : List Function) (f : TacFn) where
     term_grows scope (tree.Call n arguments ty place) p d q h =
         omega (arith, terms_grow scope arguments p h.0 h.1 h.2, variable_le (after_value h.1) q h.7)
 
-    pub terms_grow : (scope : LoweringScope) (ts : Terms) (p : Point) (ds : List ℕ) (q : Point)
+    pub terms_grow : (scope : LoweringScope) (ts : Terms) (p : LoweringPoint) (ds : List ℕ) (q : LoweringPoint)
         → TermsAt functions f scope ts p ds q → p.variable ≤ q.variable
     terms_grow scope tree.no_terms p ds q h = variable_le p q h.1
     terms_grow scope (tree.a_term t ts) p ds q h =
         omega (arith, term_grows scope t p h.0 h.2 h.3, terms_grow scope ts h.2 h.1 q h.4)
 
-  pub test_grows : (scope : LoweringScope) (t : Term) (otherwise place : ℕ) (p q : Point)
+  pub test_grows : (scope : LoweringScope) (t : Term) (otherwise place : ℕ) (p q : LoweringPoint)
       → TestAt functions f scope t otherwise place p q → p.variable ≤ q.variable
   test_grows scope t otherwise place p q h =
       omega (arith, term_grows scope t p h.0 h.1 h.2, variable_le (next_point h.1) q h.4)
 
-  pub condition_grows : (scope : LoweringScope) (t : Option Term) (otherwise place : ℕ) (p q : Point)
+  pub condition_grows : (scope : LoweringScope) (t : Option Term) (otherwise place : ℕ) (p q : LoweringPoint)
       → ConditionAt functions f scope t otherwise place p q → p.variable ≤ q.variable
   condition_grows scope None otherwise place p q h = variable_le p q h
   condition_grows scope (Some t) otherwise place p q h = test_grows scope t otherwise place p q h
 
-  update_grows : (scope : LoweringScope) (c : Change) (p q : Point) → UpdateAt functions f scope c p q
+  update_grows : (scope : LoweringScope) (c : Change) (p q : LoweringPoint) → UpdateAt functions f scope c p q
       → p.variable ≤ q.variable
   update_grows scope c p q h =
       omega (
@@ -141,7 +141,7 @@ module _ (functions : List Function) (f : TacFn) where
       )
 
   mutual
-    pub stmt_grows : (s : Stmt) (targets : List Target) (scope : LoweringScope) (p : Point) (scope2 : LoweringScope) (q : Point)
+    pub stmt_grows : (s : Stmt) (targets : List Target) (scope : LoweringScope) (p : LoweringPoint) (scope2 : LoweringScope) (q : LoweringPoint)
         → StmtAt functions f s targets scope p scope2 q → p.variable ≤ q.variable
     stmt_grows (tree.Block all) targets scope p scope2 q h = stmts_grow all targets scope p h.0 q h.1
     stmt_grows (tree.Declare n ty value place) targets scope p scope2 q h =
@@ -184,13 +184,13 @@ module _ (functions : List Function) (f : TacFn) where
     stmt_grows (tree.Return (Some value) place) targets scope p scope2 q h =
         omega (arith, term_grows scope value p h.0 h.1 h.3, variable_le (next_point h.1) q h.7)
 
-    pub stmts_grow : (ss : Stmts) (targets : List Target) (scope : LoweringScope) (p : Point) (scope2 : LoweringScope) (q : Point)
+    pub stmts_grow : (ss : Stmts) (targets : List Target) (scope : LoweringScope) (p : LoweringPoint) (scope2 : LoweringScope) (q : LoweringPoint)
         → StmtsAt functions f ss targets scope p scope2 q → p.variable ≤ q.variable
     stmts_grow tree.no_stmts targets scope p scope2 q h = variable_le p q h.1
     stmts_grow (tree.a_stmt s all) targets scope p scope2 q h =
         omega (arith, stmt_grows s targets scope p h.0 h.1 h.2, stmts_grow all targets h.0 h.1 scope2 q h.3)
 
-  stmt_scopes : (s : Stmt) (targets : List Target) (scope : LoweringScope) (p : Point) (scope2 : LoweringScope) (q : Point)
+  stmt_scopes : (s : Stmt) (targets : List Target) (scope : LoweringScope) (p : LoweringPoint) (scope2 : LoweringScope) (q : LoweringPoint)
       → StmtAt functions f s targets scope p scope2 q → Inside scope scope2
   stmt_scopes (tree.Block all) targets scope p scope2 q h = equal_inside scope scope2 h.2
   stmt_scopes (tree.Declare n ty value place) targets scope p scope2 q h =
@@ -214,7 +214,7 @@ module _ (functions : List Function) (f : TacFn) where
   stmt_scopes (tree.Return None place) targets scope p scope2 q h = equal_inside scope scope2 h.2
   stmt_scopes (tree.Return (Some value) place) targets scope p scope2 q h = equal_inside scope scope2 h.6
 
-  pub stmts_scopes : (ss : Stmts) (targets : List Target) (scope : LoweringScope) (p : Point) (scope2 : LoweringScope) (q : Point)
+  pub stmts_scopes : (ss : Stmts) (targets : List Target) (scope : LoweringScope) (p : LoweringPoint) (scope2 : LoweringScope) (q : LoweringPoint)
       → StmtsAt functions f ss targets scope p scope2 q → Inside scope scope2
   stmts_scopes tree.no_stmts targets scope p scope2 q h = equal_inside scope scope2 h.0
   stmts_scopes (tree.a_stmt s all) targets scope p scope2 q h =

@@ -7,12 +7,12 @@ use Rattle.rgo_memory.specs.declared.values.Value.{Value}
 use Rattle.rgo_tac.specs.Code.{TacFn, Tac}
 use Rattle.rgo_tac.specs.Frames as tac
 use Rattle.rgo_tac.specs.Frames.{value_at}
-use Rattle.rgo_tac.specs.Steps.{function_of}
+use Rattle.rgo_tac.specs.Steps.{function_of_frame}
 use Rattle.rgo_tac.specs.Steps as steps
 use Rattle.rgo_meaning.specs.Frames as source
 use Rattle.rgo_meaning.specs.Frames.{Todo, local_value}
 use Rattle.rgo_meaning.specs.Steps.{source_resumed}
-use Rattle.rgo_lower.specs.Lowered.{Point, LoweringScope, variable_of_local}
+use Rattle.rgo_lower.specs.Lowered.{LoweringPoint, LoweringScope, variable_of_local}
 use Rattle.rgo_lower.proofs.follows.Lists.{AreBelow}
 use Rattle.rgo_lower.proofs.follows.Places.{TodoAt, Fits, Loop, InLoop}
 
@@ -20,8 +20,8 @@ use Rattle.rgo_lower.proofs.follows.Places.{TodoAt, Fits, Loop, InLoop}
 
 -- both frames, that of the code in function f, are at the same place, with the same values
 pub record Matches (functions : List Function) (code : Tac) (f : TacFn) (loops : List Loop) (scope : LoweringScope)
-    (p : Point) (held : List ℕ) (frame : source.SourceFrame) (low : tac.TacFrame) : Type 0 where
-  pub function : function_of code low ≡ Some f
+    (p : LoweringPoint) (held : List ℕ) (frame : source.SourceFrame) (low : tac.TacFrame) : Type 0 where
+  pub function : function_of_frame code low ≡ Some f
   pub next : low.next ≡ p.instr
   pub todo : TodoAt functions f frame.todo loops scope p held
   pub values : map (value_at low) held ≡ frame.values
@@ -34,7 +34,7 @@ pub record Matches (functions : List Function) (code : Tac) (f : TacFn) (loops :
 module _ (functions : List Function) (code : Tac) where
   abbrev pub AreMatched : TacFn → source.SourceFrame → tac.TacFrame → Type 0
   AreMatched f frame low =
-      (loops : List Loop) × (scope : LoweringScope) × (p : Point) × (held : List ℕ)
+      (loops : List Loop) × (scope : LoweringScope) × (p : LoweringPoint) × (held : List ℕ)
       × Matches functions code f loops scope p held frame low
 
   -- a caller matches when its callee, which has this result, has returned

@@ -7,7 +7,7 @@ use Rattle.rgo_tac.specs.Frames as tac
 use Rattle.rgo_tac.specs.Frames.{value_at}
 use Rattle.rgo_meaning.specs.Frames as source
 use Rattle.rgo_meaning.specs.Frames.{Todo}
-use Rattle.rgo_lower.specs.Lowered.{Point, LoweringScope, IsLowered}
+use Rattle.rgo_lower.specs.Lowered.{LoweringPoint, LoweringScope, IsLowered}
 use Rattle.rgo_lower.proofs.follows.Places.{TodoAt, Loop}
 use Rattle.rgo_lower.proofs.follows.Matched.{Matches, AreMatched, CallersAt, Stacks}
 
@@ -32,12 +32,12 @@ module _ (c : Setting) where
   frame_of locals held todo = record { locals = locals; values = map g held; todo = todo }
 
   -- that frame matches the frame of the code
-  abbrev pub Here : List Loop → LoweringScope → Point → List ℕ → List Value → List Todo → Type 0
+  abbrev pub Here : List Loop → LoweringScope → LoweringPoint → List ℕ → List Value → List Todo → Type 0
   Here loops scope p held locals todo =
       Matches c.program.functions c.code c.f loops scope p held (frame_of locals held todo) c.frame
 
   -- the code of what is to do is in the frame's function
-  abbrev pub At : List Todo → List Loop → LoweringScope → Point → List ℕ → Type 0
+  abbrev pub At : List Todo → List Loop → LoweringScope → LoweringPoint → List ℕ → Type 0
   At todo loops scope p held = TodoAt c.program.functions c.f todo loops scope p held
 
   -- frames that match, of this function

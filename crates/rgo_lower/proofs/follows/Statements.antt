@@ -15,7 +15,7 @@ use Rattle.rgo_meaning.specs.Frames.{Todo, Evaluate, Each, Affect, Give, Forget,
 use Rattle.rgo_meaning.specs.Frames.{Execute, Sequence, When, Choose, Close, Turn}
 use Rattle.rgo_meaning.specs.Steps.{source_act}
 use Rattle.rgo_meaning.specs.Todos.{term_count, return_todo, update_todo}
-use Rattle.rgo_lower.specs.Lowered.{Point, after_value, next_point, OpAt, ActionAt, LoweringScope, StmtsAt}
+use Rattle.rgo_lower.specs.Lowered.{LoweringPoint, after_value, next_point, OpAt, ActionAt, LoweringScope, StmtsAt}
 use Rattle.rgo_lower.proofs.follows.Lists.{onto, twice_taken, twice_dropped, two_taken, one_more_taken}
 use Rattle.rgo_lower.proofs.follows.Lists.{one_more_dropped}
 use Rattle.rgo_lower.proofs.follows.Places.{place_of, Loop, targets_of}
@@ -27,7 +27,7 @@ use Rattle.rgo_lower.proofs.follows.Changes.{stays}
 use Rattle.rgo_lower.proofs.follows.Chains.{leads, terms_length, affect_todo, start_todo, write_todo, invoke_todo}
 use Rattle.rgo_lower.proofs.follows.Steps.{Goal, stutter, goes_on}
 
-module _ (c : Setting) (loops : List Loop) (scope : LoweringScope) (p : Point) (locals : List Value) where
+module _ (c : Setting) (loops : List Loop) (scope : LoweringScope) (p : LoweringPoint) (locals : List Value) where
   abbrev Now : List ℕ → List Todo → Type 0
   Now held todo = Here c loops scope p held locals todo
 
@@ -43,7 +43,7 @@ module _ (c : Setting) (loops : List Loop) (scope : LoweringScope) (p : Point) (
   unfolds s todo todo2 h moves smaller at = goes_on c h todo2 refl moves smaller at
 
   -- what follows a statement, where it leaves this scope and ends at q
-  after_stmt : (s : Stmt) (todo : List Todo) (h : Now [] (Execute s ∷ todo)) (scope2 : LoweringScope) (q : Point)
+  after_stmt : (s : Stmt) (todo : List Todo) (h : Now [] (Execute s ∷ todo)) (scope2 : LoweringScope) (q : LoweringPoint)
       → h.todo.1.0 ≡ scope2 → h.todo.1.1 ≡ q → At c todo loops scope2 q []
   after_stmt s todo h scope2 q e e2 =
       let i = h.todo.1 in
@@ -330,7 +330,7 @@ module _ (c : Setting) (loops : List Loop) (scope : LoweringScope) (p : Point) (
 
 -- ---- every statement
 
-module _ (c : Setting) (scope : LoweringScope) (p : Point) (locals : List Value) where
+module _ (c : Setting) (scope : LoweringScope) (p : LoweringPoint) (locals : List Value) where
   pub execute_steps : (loops : List Loop) (s : Stmt) (todo : List Todo)
       → Here c loops scope p [] locals (Execute s ∷ todo) → Goal c (frame_of c locals [] (Execute s ∷ todo))
   execute_steps loops (tree.Block all) todo h = block_steps c loops scope p locals all todo h

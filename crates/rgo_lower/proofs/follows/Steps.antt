@@ -20,14 +20,14 @@ use Rattle.rgo_tac.specs.Code.{Op, Do, TacFn}
 use Rattle.rgo_tac.specs.Frames as tac
 use Rattle.rgo_tac.specs.Frames.{operand_values}
 use Rattle.rgo_tac.specs.Steps as steps
-use Rattle.rgo_tac.specs.Steps.{function_of, instr_of, variable_type, destination_type}
+use Rattle.rgo_tac.specs.Steps.{function_of_frame, instr_of, variable_type, destination_type}
 use Rattle.rgo_tac.specs.Tac as low
 use Rattle.rgo_meaning.specs.Frames as source
 use Rattle.rgo_meaning.specs.Frames.{Todo, last_values}
 use Rattle.rgo_meaning.specs.Source as high
 use Rattle.rgo_meaning.specs.Stands.{source_stand}
 use Rattle.rgo_meaning.specs.Steps.{source_act}
-use Rattle.rgo_lower.specs.Lowered.{Point, OpAt, LoweringScope}
+use Rattle.rgo_lower.specs.Lowered.{LoweringPoint, OpAt, LoweringScope}
 use Rattle.rgo_lower.proofs.follows.Lists.{map-reverse}
 use Rattle.rgo_lower.proofs.follows.Places.{Loop}
 use Rattle.rgo_lower.proofs.follows.Grows.{same_inside}
@@ -93,7 +93,7 @@ module _ (c : Setting) where
   abbrev pub Next : Op → (place : ℕ) → Type 0
   Next op place = instr_of c.code c.frame ≡ Some (record { op = op; place = place })
 
-  pub instr_is : (op : Op) (place : ℕ) (p : Point) → function_of c.code c.frame ≡ Some c.f → c.frame.next ≡ p.instr
+  pub instr_is : (op : Op) (place : ℕ) (p : LoweringPoint) → function_of_frame c.code c.frame ≡ Some c.f → c.frame.next ≡ p.instr
       → OpAt c.f p.instr op place → Next op place
   instr_is op place p function next at =
       ap (option_and_then (λ (h : TacFn). slice_get h.body c.frame.next)) function ∙ ap (slice_get c.f.body) next ∙ at
@@ -117,7 +117,7 @@ module _ (c : Setting) where
       → operand_values c.frame (reverse (take count held)) ≡ last_values count (map (g c) held)
   values_same count held = map-reverse (g c) (take count held) ∙ ap reverse (sym (take-map (g c) count held))
 
-  pub type_is : (d : ℕ) (ty : «Type») → function_of c.code c.frame ≡ Some c.f → slice_get c.f.variables d ≡ Some ty
+  pub type_is : (d : ℕ) (ty : «Type») → function_of_frame c.code c.frame ≡ Some c.f → slice_get c.f.variables d ≡ Some ty
       → destination_type c.code c.frame (Some d) ≡ ty
   type_is d ty function known =
       ap (λ o. variable_type o d) function ∙ get_or_from_slice_get c.f.variables d ty no_type known
@@ -150,7 +150,7 @@ module _ (c : Setting) where
       vs next next2 (λ v. (c.f, fit v, c.below))))
 
 -- the source goes on alone, with other things to do at the same point of the code, and the same values
-pub goes_on : (c : Setting) {loops : List Loop} {scope : LoweringScope} {p : Point} {held : List ℕ} {locals : List Value}
+pub goes_on : (c : Setting) {loops : List Loop} {scope : LoweringScope} {p : LoweringPoint} {held : List ℕ} {locals : List Value}
     {todo : List Todo} → Here c loops scope p held locals todo → (todo2 : List Todo)
     → source_stand c.program (frame_of c locals held todo) ≡ Elsewhere
     → ((m : Memory) → source_act c.program m (frame_of c locals held todo) ≡ Moves m (frame_of c locals held todo2))

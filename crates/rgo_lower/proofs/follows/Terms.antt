@@ -15,7 +15,7 @@ use Rattle.rgo_tac.specs.Frames.{moved_to}
 use Rattle.rgo_meaning.specs.Frames.{Todo, Evaluate, Each, Perform, Settle, Decide, Create, Fill, Enter}
 use Rattle.rgo_meaning.specs.Steps.{decided}
 use Rattle.rgo_meaning.specs.Todos.{term_count}
-use Rattle.rgo_lower.specs.Lowered.{Point, after_value, next_point, OpAt, bool_type, logic_branch, LoweringScope}
+use Rattle.rgo_lower.specs.Lowered.{LoweringPoint, after_value, next_point, OpAt, bool_type, logic_branch, LoweringScope}
 use Rattle.rgo_lower.proofs.follows.Lists.{onto, dropped_back, below_le}
 use Rattle.rgo_lower.proofs.follows.Places.{place_of, Loop}
 use Rattle.rgo_lower.proofs.follows.Grows.{same_inside, fits_grow, term_grows, stores_keep}
@@ -24,7 +24,7 @@ use Rattle.rgo_lower.proofs.follows.Changes.{jumps, stays}
 use Rattle.rgo_lower.proofs.follows.Chains.{leads, terms_length, perform_todo, call_todo, fills}
 use Rattle.rgo_lower.proofs.follows.Steps.{Goal, stutter, instr_is, together, goes_on}
 
-module _ (c : Setting) (loops : List Loop) (scope : LoweringScope) (p : Point) (locals : List Value) where
+module _ (c : Setting) (loops : List Loop) (scope : LoweringScope) (p : LoweringPoint) (locals : List Value) where
   abbrev Now : List ℕ → List Todo → Type 0
   Now held todo = Here c loops scope p held locals todo
 
@@ -32,7 +32,7 @@ module _ (c : Setting) (loops : List Loop) (scope : LoweringScope) (p : Point) (
   Steps held todo = Goal c (frame_of c locals held todo)
 
   -- what follows a term, at the end of its code
-  after_term : (t : Term) (held : List ℕ) (todo : List Todo) (h : Now held (Evaluate t ∷ todo)) (d : ℕ) (q : Point)
+  after_term : (t : Term) (held : List ℕ) (todo : List Todo) (h : Now held (Evaluate t ∷ todo)) (d : ℕ) (q : LoweringPoint)
       → h.todo.1.0 ≡ d → h.todo.1.1 ≡ q → At c todo loops scope q (d ∷ held)
   after_term t held todo h d q e e2 =
       let i = h.todo.1 in

@@ -20,7 +20,7 @@ use Rattle.rgo_meaning.specs.Frames.{Turn, Test, Again, Leave, Stay}
 use Rattle.rgo_meaning.specs.Source as high
 use Rattle.rgo_meaning.specs.Source.{function_named, source_main_frames}
 use Rattle.rgo_lower.specs.Laws.{LoweringSimulates}
-use Rattle.rgo_lower.specs.Lowered.{Point, LoweringScope, IsLowered}
+use Rattle.rgo_lower.specs.Lowered.{LoweringPoint, LoweringScope, IsLowered}
 use Rattle.rgo_lower.proofs.follows.Places.{Loop}
 use Rattle.rgo_lower.proofs.follows.Grows.{same_inside}
 use Rattle.rgo_lower.proofs.follows.Size.{size}
@@ -55,7 +55,7 @@ module _ (c : Setting) where
   returned_value (Some result) ty v (f ∷ callers) [] e h = absurd h
   returned_value None ty v callers lows e h = cc
 
-  module _ (loops : List Loop) (scope : LoweringScope) (p : Point) (locals : List Value) where
+  module _ (loops : List Loop) (scope : LoweringScope) (p : LoweringPoint) (locals : List Value) where
     end_steps : (held : List ℕ) → Here c loops scope p held locals [] → Goal c (frame_of c locals held [])
     end_steps held h =
         let i = h.todo in
@@ -89,7 +89,7 @@ module _ (c : Setting) where
 
   -- ---- each thing to do
 
-  every_step : (ls : List Loop) (s : LoweringScope) (p : Point) (vs : List Value) (held : List ℕ) (todo : List Todo)
+  every_step : (ls : List Loop) (s : LoweringScope) (p : LoweringPoint) (vs : List Value) (held : List ℕ) (todo : List Todo)
       → Here c ls s p held vs todo → Goal c (frame_of c vs held todo)
   every_step ls s p vs held [] h = end_steps ls s p vs held h
   every_step ls s p vs held (Evaluate t ∷ todo) h = evaluate_steps c ls s p vs held t todo h

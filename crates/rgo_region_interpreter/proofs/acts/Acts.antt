@@ -18,7 +18,7 @@ use Rattle.rgo_code.specs.Code.{Branch, Call, Code, CodeInstr, CodeOp, Do, Go, J
 use Rattle.rgo_code.specs.Erasure.{erased, erased_op}
 use Rattle.rgo_region_machine.specs.declared.regions.Region.{Region}
 use Rattle.rgo_region_machine.specs.declared.regions.Region.TheVariants.{Numbered}
-use Rattle.rgo_region_machine.specs.Instructions.{child_holder, holder_after, instructed_with, last_frames, marked}
+use Rattle.rgo_region_machine.specs.Instructions.{child_holder, holder_after, instructed_with, last_frames, mark_with_end}
 use Rattle.rgo_region_machine.specs.Instructions.{unless_trapped}
 use Rattle.rgo_region_machine.specs.Machine.{Instruct, region_step}
 use Rattle.rgo_region_machine.specs.Objects.{allotted, fill_of, making_region, new_object}
@@ -34,7 +34,7 @@ use Rattle.rgo_region_interpreter.specs.declared.worlds.Next.{Next}
 use Rattle.rgo_region_interpreter.specs.declared.worlds.World.{World}
 use Rattle.rgo_region_interpreter.specs.Holders.{HolderShows, fill_in}
 use Rattle.rgo_region_interpreter.specs.Tables.{RegionTableShows}
-use Rattle.rgo_region_interpreter.specs.Works.{ActsBy, ActsNext, IsNextOf, OthersOwe, Ready, WorldTakesTurn, Works}
+use Rattle.rgo_region_interpreter.specs.Works.{ActsBy, ActsNext, IsNextInWorld, OthersOwe, Ready, WorldTakesTurn, Works}
 use Rattle.rgo_region_machine.specs.States.{end_in}
 use Rattle.rgo_region_interpreter.specs.Worlds.{HoldersShow, OwesNext, Prepared, Shown}
 use Rattle.rgo_region_interpreter.proofs.acts.Instructed.{acted_by, acts_by, instructs, steps_alone}
@@ -56,7 +56,7 @@ simple_of (Jump j removes) k = tt
 simple_of (Branch v j removes k' others) k = tt
 simple_of (Return value) k = k
 
-pub simple_next : (w : World) (g : ℕ) (next : Next) (at : IsNextOf w g next) → ActsNext next → IsSimple at.is.instr.op
+pub simple_next : (w : World) (g : ℕ) (next : Next) (at : IsNextInWorld w g next) → ActsNext next → IsSimple at.is.instr.op
 simple_next w g next at kind = simple_of at.is.instr.op (subst ActsBy (sym at.is.op) kind)
 
 no_child : (code : Code) (h : spec.Holder) (op : CodeOp) (child : List TacFrame) → IsSimple op
@@ -193,7 +193,7 @@ module _ (w v : World) (s : RegionState) (limits : Limits) (g : ℕ) {frame : Ta
         not_ended = sym y.ended ∙ running
 
         pub still_running : next_state.mark ≡ None
-        still_running = ap (marked s.mark) not_ended ∙ ap (λ n. marked n None) ready.works.running
+        still_running = ap (mark_with_end s.mark) not_ended ∙ ap (λ n. mark_with_end n None) ready.works.running
 
         -- what the goroutine has of the regions afterwards
         abbrev pub holder_next : spec.Holder

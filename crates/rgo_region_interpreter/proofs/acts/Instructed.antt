@@ -166,18 +166,18 @@ module _ {code : Code} {s : RegionState} {g : ℕ} {h : Holder} {frame : TacFram
     region_live = live_of s h its_region.0 (region_staked i its_region.0 its_region.1)
 
     -- how large the object is, as the code counts it
-    spread_is : (page_words : ℕ) → is_spread page_words made.object ≡ extents.is_spread page_words making.extent
+    spread_is : (page_words : ℕ) → is_spread page_words made.object ≡ extents.extent_is_spread page_words making.extent
     spread_is page_words = ap (nat_lt page_words) made.large.words
 
-    data_is : (page_words : ℕ) → data_pages page_words made.object ≡ extents.data_pages page_words making.extent
+    data_is : (page_words : ℕ) → data_pages page_words made.object ≡ extents.extent_data_pages page_words making.extent
     data_is page_words = λ j. if spread_is page_words j then (made.large.cells j - 1) / page_words + 1 else 0
 
     too_large_is : (page_words : ℕ)
-        → is_too_large page_words made.object ≡ extents.is_too_large page_words making.extent
+        → is_too_large page_words made.object ≡ extents.extent_is_too_large page_words making.extent
     too_large_is page_words = ap (nat_lt (most_data_pages page_words)) (data_is page_words)
 
     -- it wants more data pages than there can be
-    pub too_large : (page_words : ℕ) → extents.is_too_large page_words making.extent ≡ true → (next : TacState)
+    pub too_large : (page_words : ℕ) → extents.extent_is_too_large page_words making.extent ≡ true → (next : TacState)
         × (plain_step code s.plain (One g) ≡ Some next) × MakesTooLarge page_words s.plain next
     too_large page_words large = (
       after s.plain g making_act,
@@ -194,10 +194,10 @@ module _ {code : Code} {s : RegionState} {g : ℕ} {h : Holder} {frame : TacFram
         below n m e = grind (arith, nat_tests)
 
     -- a page is wanted for it
-    wants_one : (page_words : ℕ) (used : Option ℕ) → extents.is_too_large page_words making.extent ≡ false
+    wants_one : (page_words : ℕ) (used : Option ℕ) → extents.extent_is_too_large page_words making.extent ≡ false
         → 0 < pages_wanted page_words h.reserved used making.extent
         → wants_page page_words h.reserved used made.object ≡ true
-    wants_one page_words used small more = split (extents.is_spread page_words making.extent) whole part
+    wants_one page_words used small more = split (extents.extent_is_spread page_words making.extent) whole part
       where
         le : (n m : ℕ) → 0 < (m + 1) - n → nat_le n m ≡ true
         le n m l = grind (arith, nat_tests)
@@ -206,7 +206,7 @@ module _ {code : Code} {s : RegionState} {g : ℕ} {h : Holder} {frame : TacFram
         none_true true l = absurd (omega (arith, l))
         none_true false l = refl
 
-        whole : extents.is_spread page_words making.extent ≡ true
+        whole : extents.extent_is_spread page_words making.extent ≡ true
             → wants_page page_words h.reserved used made.object ≡ true
         whole t =
             ap (λ b. if b then not (is_too_large page_words made.object) && nat_le h.reserved
@@ -214,11 +214,11 @@ module _ {code : Code} {s : RegionState} {g : ℕ} {h : Holder} {frame : TacFram
             (spread_is page_words ∙ t)
             ∙ ap (λ b. not b && nat_le h.reserved (data_pages page_words made.object)) (too_large_is page_words ∙ small)
             ∙ ap (nat_le h.reserved) (data_is page_words)
-            ∙ le h.reserved (extents.data_pages page_words making.extent)
-            (subst (λ b. 0 < (if b then (extents.data_pages page_words making.extent + 1) - h.reserved
+            ∙ le h.reserved (extents.extent_data_pages page_words making.extent)
+            (subst (λ b. 0 < (if b then (extents.extent_data_pages page_words making.extent + 1) - h.reserved
             else if fits_in_page page_words used making.extent.words then 0 else 1)) t more)
 
-        part : extents.is_spread page_words making.extent ≡ false
+        part : extents.extent_is_spread page_words making.extent ≡ false
             → wants_page page_words h.reserved used made.object ≡ true
         part f =
             ap (λ b. if b then not (is_too_large page_words made.object) && nat_le h.reserved
@@ -226,11 +226,11 @@ module _ {code : Code} {s : RegionState} {g : ℕ} {h : Holder} {frame : TacFram
             (spread_is page_words ∙ f)
             ∙ ap (λ n. not (fits_in_page page_words used n)) made.large.words
             ∙ none_true (fits_in_page page_words used making.extent.words)
-            (subst (λ b. 0 < (if b then (extents.data_pages page_words making.extent + 1) - h.reserved
+            (subst (λ b. 0 < (if b then (extents.extent_data_pages page_words making.extent + 1) - h.reserved
             else if fits_in_page page_words used making.extent.words then 0 else 1)) f more)
 
     -- the goroutine takes a page for it
-    pub page_step : (page_words : ℕ) → extents.is_too_large page_words making.extent ≡ false
+    pub page_step : (page_words : ℕ) → extents.extent_is_too_large page_words making.extent ≡ false
         → 0 < pages_wanted page_words h.reserved (fill_of h.fills its_region.0) making.extent
         → region_step code page_words s (TakePage g)
         ≡ Some (page_taken s g (with_page page_words h its_region.0 made.object) its_region.0)
@@ -256,14 +256,14 @@ module _ {code : Code} {s : RegionState} {g : ℕ} {h : Holder} {frame : TacFram
         wants = wants_page page_words h.reserved (fill_of h.fills its_region.0) made.object
 
     -- the holder after it, by whether the object is spread
-    pub paged_spread : (page_words : ℕ) → extents.is_spread page_words making.extent ≡ true
+    pub paged_spread : (page_words : ℕ) → extents.extent_is_spread page_words making.extent ≡ true
         → with_page page_words h its_region.0 made.object ≡ record h { reserved = h.reserved + 1 }
     paged_spread page_words t = λ j. record h {
       fills = if (spread_is page_words ∙ t) j then h.fills else with_fill h.fills its_region.0 0;
       reserved = if (spread_is page_words ∙ t) j then h.reserved + 1 else h.reserved;
     }
 
-    pub paged_own : (page_words : ℕ) → extents.is_spread page_words making.extent ≡ false
+    pub paged_own : (page_words : ℕ) → extents.extent_is_spread page_words making.extent ≡ false
         → with_page page_words h its_region.0 made.object ≡ record h { fills = with_fill h.fills its_region.0 0 }
     paged_own page_words f = λ j. record h {
       fills = if (spread_is page_words ∙ f) j then h.fills else with_fill h.fills its_region.0 0;
@@ -271,7 +271,7 @@ module _ {code : Code} {s : RegionState} {g : ℕ} {h : Holder} {frame : TacFram
     }
 
     -- it fits the goroutine's own page
-    pub allots : (page_words used : ℕ) → extents.is_spread page_words making.extent ≡ false
+    pub allots : (page_words used : ℕ) → extents.extent_is_spread page_words making.extent ≡ false
         → fill_of h.fills its_region.0 ≡ Some used → used + making.extent.words ≤ page_words
         → allotted page_words h (making_region (function_at code frame) (top_names h.environments) instr.op)
         (new_object s.plain (after s.plain g making_act))
@@ -295,9 +295,9 @@ module _ {code : Code} {s : RegionState} {g : ℕ} {h : Holder} {frame : TacFram
         small_enough n m l = grind (arith, nat_tests)
 
     -- all of its pages are reserved
-    pub allots_spread : (page_words : ℕ) → extents.is_spread page_words making.extent ≡ true
-        → extents.is_too_large page_words making.extent ≡ false
-        → extents.data_pages page_words making.extent < h.reserved
+    pub allots_spread : (page_words : ℕ) → extents.extent_is_spread page_words making.extent ≡ true
+        → extents.extent_is_too_large page_words making.extent ≡ false
+        → extents.extent_data_pages page_words making.extent < h.reserved
         → allotted page_words h (making_region (function_at code frame) (top_names h.environments) instr.op)
         (new_object s.plain (after s.plain g making_act)) ≡ Some (record h { reserved = 0 }, its_region.0 ∷ [])
     allots_spread page_words t small all =
@@ -312,7 +312,7 @@ module _ {code : Code} {s : RegionState} {g : ℕ} {h : Holder} {frame : TacFram
         ∙ ap (λ n. if nat_lt n h.reserved then Some (record h { reserved = 0 }, its_region.0 ∷ []) else None)
         (data_is page_words)
         ∙ ap (λ b. if b then Some (record h { reserved = 0 }, its_region.0 ∷ []) else None)
-        (fewer (extents.data_pages page_words making.extent) h.reserved all)
+        (fewer (extents.extent_data_pages page_words making.extent) h.reserved all)
       where
         fewer : (n m : ℕ) → n < m → nat_lt n m ≡ true
         fewer n m l = grind (arith, nat_tests)

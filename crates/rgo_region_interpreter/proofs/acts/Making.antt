@@ -22,14 +22,14 @@ use Rattle.rgo_sound.proofs.steps.Acting.{Acted, act, effected, performed, trap_
 use Rattle.rgo_sound.proofs.plain.Steps.{Always}
 use Rattle.rgo_region_interpreter.specs.declared.objects.Extent.{Extent}
 use Rattle.rgo_region_interpreter.specs.declared.objects.Making.{Making}
-use Rattle.rgo_region_interpreter.specs.Extents.{IsOf}
+use Rattle.rgo_region_interpreter.specs.Extents.{IsExtentOf}
 use Rattle.rgo_region_interpreter.specs.Objects.{channel_extent, extent_made, making_by, making_of, sized_extent, slice_extent, struct_extent}
 
 -- whatever the memory, an instruction of this frame makes an object that is so large, and the variable points to it
 pub record Makes (code : Tac) (op : Op) (place : ℕ) (frame : TacFrame) (callers : List TacFrame) (making : Making) : Type 0
   where
     pub object : Object
-    pub large : IsOf making.extent object
+    pub large : IsExtentOf making.extent object
     pub acts : (m : Memory) → act code m op place frame callers ≡ Some (record {
       memory = record m { heap = m.heap ++ object ∷ [] };
       frames = frame_after_instr frame (Some making.to) (value.Object (length m.heap)) ∷ callers;
@@ -61,12 +61,12 @@ the_making (Some d) extent making e = (ap (λ m. Some m.to) is, ap (λ m. m.exte
 module _ (code : Tac) (place : ℕ) (frame : TacFrame) (callers : List TacFrame) where
   -- an action that makes this object, whatever the memory
   makes_object_by : (to : Option ℕ) (a : Action) (from : List ℕ) (extent : Extent) (making : Making) (object : Object)
-      → making_of to (Some extent) ≡ Some making → IsOf extent object
+      → making_of to (Some extent) ≡ Some making → IsExtentOf extent object
       → ((m : Memory) → performed code.structs a (destination_type code frame to) (operand_values frame from) m ≡ Some (made m object))
       → Makes code (Do to a from) place frame callers making
   makes_object_by to a from extent making object e large makes = record {
     object = object;
-    large = subst (λ x. IsOf x object) is.1 large;
+    large = subst (λ x. IsExtentOf x object) is.1 large;
     acts = λ m. ap (effected m frame callers to (trap_place a place)) (makes m)
         ∙ ap (λ d. effected m frame callers d (trap_place a place) (Some (made m object))) is.0;
   }

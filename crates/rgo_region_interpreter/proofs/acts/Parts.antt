@@ -19,37 +19,37 @@ use Rattle.rgo_region_interpreter.specs.declared.worlds.Halt.TheVariants as halt
 use Rattle.rgo_region_interpreter.specs.declared.worlds.Next.{Next}
 use Rattle.rgo_region_interpreter.specs.declared.worlds.World.{World}
 use Rattle.rgo_region_interpreter.specs.Objects.{ObjectHasNoRoom, ObjectHasRoom, IsRoomy, GoroutineMakesNext, RemovesBehind, making_by}
-use Rattle.rgo_region_interpreter.specs.Works.{IsNext, IsNextOf, IsReady, Ready, TakesStep, first_of, halted, newest_of}
+use Rattle.rgo_region_interpreter.specs.Works.{IsNextInFrame, IsNextInWorld, WorldIsReady, Ready, TakesStep, first_frame_of, halted, newest_of}
 use Rattle.rgo_region_interpreter.proofs.holding.OneHolder.{the_same}
 use Rattle.rgo_region_interpreter.proofs.stepping.Taking.{takes_after, takes_nothing, takes_short}
 
 -- ---- the newest frame
 
-newest_is : (w : World) (g : ℕ) (next : Next) (at : IsNextOf w g next) → newest_of w g ≡ Some at.frame
-newest_is w g next at = ap first_of at.frames
+newest_is : (w : World) (g : ℕ) (next : Next) (at : IsNextInWorld w g next) → newest_of w g ≡ Some at.frame
+newest_is w g next at = ap first_frame_of at.frames
 
-pub never_newest : (w : World) (g : ℕ) (next : Next) → IsNextOf w g next → newest_of w g ≡ None → ⊥
+pub never_newest : (w : World) (g : ℕ) (next : Next) → IsNextInWorld w g next → newest_of w g ≡ None → ⊥
 never_newest w g next at none = some_none (sym (newest_is w g next at) ∙ none)
   where
     some_none : Some at.frame ≡ None → ⊥
     some_none e = cc
 
-the_frame : (w : World) (g : ℕ) (next : Next) (at : IsNextOf w g next) (frame : TacFrame) → newest_of w g ≡ Some frame
+the_frame : (w : World) (g : ℕ) (next : Next) (at : IsNextInWorld w g next) (frame : TacFrame) → newest_of w g ≡ Some frame
     → frame ≡ at.frame
 the_frame w g next at frame is = the_same frame at.frame (sym is ∙ newest_is w g next at)
 
 -- what is removed behind an instruction, of whatever code
 abbrev pub BehindNext : TacFrame → Next → List ℕ → Type 0
-BehindNext frame next removes = (code : Code) (is : IsNext code frame next) → removes ≡ removes_behind frame is.instr.op
+BehindNext frame next removes = (code : Code) (is : IsNextInFrame code frame next) → removes ≡ removes_behind frame is.instr.op
 
 pub removes_next : (w : World) (g : ℕ) (next : Next) (frame : TacFrame) (removes : List ℕ) → newest_of w g ≡ Some frame
     → BehindNext frame next removes → RemovesBehind w g next removes
 removes_next w g next frame removes is behind at =
-    subst (λ f. (x : IsNext w.code.now f next) → removes ≡ removes_behind f x.instr.op)
+    subst (λ f. (x : IsNextInFrame w.code.now f next) → removes ≡ removes_behind f x.instr.op)
     (the_frame w g next at frame is) (behind w.code.now) at.is
 
 -- the object that the instruction makes, or none
-pub made_next : (w : World) (g : ℕ) (next : Next) (at : IsNextOf w g next) (frame : TacFrame) (structs : List Struct)
+pub made_next : (w : World) (g : ℕ) (next : Next) (at : IsNextInWorld w g next) (frame : TacFrame) (structs : List Struct)
     (o : Option Making) → newest_of w g ≡ Some frame → structs ≡ w.code.now.structs
     → o ≡ making_by structs frame (operation_of next.op)
     → making_by w.code.now.structs at.frame (operation_of next.op) ≡ o
@@ -85,11 +85,11 @@ module _ (w v : World) (limits : Limits) (g : ℕ) (next : Next) (making : Makin
       (takes (has s ready).attended.state (has s ready).roomy (within_then s ready within))
 
   -- what holds of the world with room
-  module _ (on : IsReady w limits g) where
+  module _ (on : WorldIsReady w limits g) where
     pub makes_then : GoroutineMakesNext v g next making
     makes_then = (has on.state on.ready).roomy.makes
 
-    pub ready_then : IsReady v limits g
+    pub ready_then : WorldIsReady v limits g
     ready_then = record {
       state = (has on.state on.ready).attended.state;
       ready = (has on.state on.ready).roomy.ready;
@@ -105,4 +105,4 @@ module _ (w v : World) (limits : Limits) (g : ℕ) (next : Next) (making : Makin
     pub removes_then : (frame : TacFrame) (removes : List ℕ) → newest_of w g ≡ Some frame → BehindNext frame next removes
         → RemovesBehind v g next removes
     removes_then frame removes is behind = removes_next v g next frame removes
-        (ap (λ gs. first_of (slice_get gs g)) same_frames ∙ is) behind
+        (ap (λ gs. first_frame_of (slice_get gs g)) same_frames ∙ is) behind

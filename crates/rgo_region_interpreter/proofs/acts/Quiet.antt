@@ -11,7 +11,7 @@ use Rattle.rgo_sound.proofs.steps.Acting.{Acted, after, call, returned, start}
 use Rattle.rgo_sound.proofs.plain.Steps.{Always}
 use Rattle.rgo_region_interpreter.specs.declared.worlds.Next.{Next}
 use Rattle.rgo_region_interpreter.specs.declared.worlds.World.{World}
-use Rattle.rgo_region_interpreter.specs.Works.{IsNextOf, IsNextOfSome, WorldTakesTurn}
+use Rattle.rgo_region_interpreter.specs.Works.{IsNextInWorld, IsNextOfSome, WorldTakesTurn}
 use Rattle.rgo_region_interpreter.specs.Worlds.{Prepared}
 use Rattle.rgo_region_interpreter.proofs.lifting.Good.{StepShows}
 use Rattle.rgo_machine.specs.declared.limits.Limits.{Limits}
@@ -79,7 +79,7 @@ module _ (w v : World) (limits : Limits) (g : ℕ) (turned : Turned) (takes : Wo
   pub code_kept : v.code.now ≡ w.code.now
   code_kept = ap (λ (z : World). z.code.now) takes.same
 
-  pub next_kept : (next : Next) → IsNextOf w g next → IsNextOfSome v.code.now next
+  pub next_kept : (next : Next) → IsNextInWorld w g next → IsNextOfSome v.code.now next
   next_kept next at = subst (λ code. IsNextOfSome code next) (sym code_kept) (at.frame, at.is)
 
   pub prepared_kept : Prepared w → Prepared v

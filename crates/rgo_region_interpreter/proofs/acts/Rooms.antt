@@ -37,7 +37,7 @@ use Rattle.rgo_region_interpreter.specs.Holders.{Fills, HolderShows, fill_in}
 use Rattle.rgo_region_interpreter.specs.Objects.{AddsPage, ObjectHasRoom, IsRoomy, GoroutineMakesNext, WithPage, extent_made, fill_for, fill_held}
 use Rattle.rgo_region_interpreter.specs.Objects.{making_by, making_of, named_region, pages_wanted_for, region_for, region_of_class}
 use Rattle.rgo_region_interpreter.specs.Objects.{reserved_held}
-use Rattle.rgo_region_interpreter.specs.Works.{Attended, IsNextOf, Ready, SameRun, StopsShort}
+use Rattle.rgo_region_interpreter.specs.Works.{Attended, IsNextInWorld, Ready, SameRun, StopsShort}
 use Rattle.rgo_region_machine.specs.Room.{LacksIn}
 use Rattle.rgo_region_interpreter.proofs.owing.Attending.{attended_none, attended_then, shown_holder, there_is}
 use Rattle.rgo_region_interpreter.proofs.acts.Instructed.{its_region, made, makes_one, page_step, paged_own, paged_spread, region_live, too_large}
@@ -49,7 +49,7 @@ use Rattle.rgo_region_interpreter.proofs.stepping.Targets.{IsBefore, region_in_s
 -- ---- a goroutine that is ready
 
 -- it is before its next instruction
-pub before : (w : World) (s : RegionState) (g : ℕ) (next : Next) (ready : Ready w s g) (at : IsNextOf w g next)
+pub before : (w : World) (s : RegionState) (g : ℕ) (next : Next) (ready : Ready w s g) (at : IsNextInWorld w g next)
     → IsBefore w.code.now s g ready.works.holder at.frame at.callers at.is.instr
 before w s g next ready at = record {
   checked = ready.works.prepared.checked;
@@ -107,7 +107,7 @@ pub record Roomier (w v : World) (s : RegionState) (g : ℕ) (next : Next) (maki
 
 module _ (w : World) (s : RegionState) (g : ℕ) (next : Next) (making : Making) (ready : Ready w s g)
     (makes : GoroutineMakesNext w g next making) where
-  abbrev at : IsNextOf w g next
+  abbrev at : IsNextInWorld w g next
   at = makes.at
 
   abbrev h : spec.Holder
@@ -177,13 +177,13 @@ module _ (w : World) (s : RegionState) (g : ℕ) (next : Next) (making : Making)
     lacks = lacks;
   }
 
-  pub too_many_pages : extents.is_too_large w.sizes.page_words making.extent ≡ true
+  pub too_many_pages : extents.extent_is_too_large w.sizes.page_words making.extent ≡ true
       → StopsShort w w s g shortage.ObjectSize
   too_many_pages large = stops_now shortage.ObjectSize
       (let t = too_large i making is_making w.sizes.page_words large in (g, t.0, t.1, t.2))
 
   module _ (region : Region) (e : region_for w g next making ≡ Some region)
-      (small : extents.is_too_large w.sizes.page_words making.extent ≡ false) where
+      (small : extents.extent_is_too_large w.sizes.page_words making.extent ≡ false) where
     its : region ≡ (its_region i making is_making).0
     its = the_same region r.0 (sym e ∙ region_found)
 
@@ -241,7 +241,7 @@ module _ (w : World) (s : RegionState) (g : ℕ) (next : Next) (making : Making)
               ≡ pages_wanted_for w g region making.extent
 
         changed : (d : Holder) × (v.holders.items ≡ slice_set w.holders.items g d)
-            × WithPage (extents.is_spread w.sizes.page_words making.extent) kept.0 d region
+            × WithPage (extents.extent_is_spread w.sizes.page_words making.extent) kept.0 d region
         changed = adds.changed kept.0 kept.1
 
         there : slice_get v.holders.items g ≡ Some changed.0
@@ -258,15 +258,15 @@ module _ (w : World) (s : RegionState) (g : ℕ) (next : Next) (making : Making)
             making.extent
 
         abbrev many : ℕ
-        many = extents.data_pages w.sizes.page_words making.extent
+        many = extents.extent_data_pages w.sizes.page_words making.extent
 
-        by_spread : (n : ℕ) (o : Option ℕ) (b : Bool) → extents.is_spread w.sizes.page_words making.extent ≡ b
+        by_spread : (n : ℕ) (o : Option ℕ) (b : Bool) → extents.extent_is_spread w.sizes.page_words making.extent ≡ b
             → pages_wanted w.sizes.page_words n o making.extent
             ≡ (if b then (many + 1) - n else if fits_in_page w.sizes.page_words o making.extent.words then 0 else 1)
         by_spread n o b t =
             ap (λ b. if b then (many + 1) - n else if fits_in_page w.sizes.page_words o making.extent.words then 0 else 1) t
 
-        one_more_spread : extents.is_spread w.sizes.page_words making.extent ≡ true → OneMore
+        one_more_spread : extents.extent_is_spread w.sizes.page_words making.extent ≡ true → OneMore
         one_more_spread t = record {
           fills = ready.works.holder.fills;
           reserved = ready.works.holder.reserved + 1;
@@ -287,7 +287,7 @@ module _ (w : World) (s : RegionState) (g : ℕ) (next : Next) (making : Making)
             fewer_by_one : (x y n m : ℕ) → x ≡ (n + 1) - (m + 1) → y ≡ (n + 1) - m → 0 < y → x + 1 ≡ y
             fewer_by_one x y n m e f l = omega (arith, e, f, l)
 
-        one_more_own : extents.is_spread w.sizes.page_words making.extent ≡ false → OneMore
+        one_more_own : extents.extent_is_spread w.sizes.page_words making.extent ≡ false → OneMore
         one_more_own f = record {
           fills = with_fill ready.works.holder.fills r.0 0;
           reserved = ready.works.holder.reserved;
@@ -318,7 +318,7 @@ module _ (w : World) (s : RegionState) (g : ℕ) (next : Next) (making : Making)
             only_one false n e l = e
 
         one_more : OneMore
-        one_more = split (extents.is_spread w.sizes.page_words making.extent) one_more_spread one_more_own
+        one_more = split (extents.extent_is_spread w.sizes.page_words making.extent) one_more_spread one_more_own
 
         next_makes : GoroutineMakesNext (record w { table = v.table; holders = v.holders }) g next making
         next_makes = record {
@@ -382,9 +382,9 @@ roomier_none w g next making region all makes e is s ready = record {
 
 module _ (w u : World) (g : ℕ) (next : Next) (making : Making) (region : Region) (left : ℕ)
     (so : AllRoomier w u g next making region left)
-    (small : extents.is_too_large w.sizes.page_words making.extent ≡ false) (same : SameRun w u) where
-  small_now : extents.is_too_large u.sizes.page_words making.extent ≡ false
-  small_now = ap (λ (z : Sizes). extents.is_too_large z.page_words making.extent) same.sizes ∙ small
+    (small : extents.extent_is_too_large w.sizes.page_words making.extent ≡ false) (same : SameRun w u) where
+  small_now : extents.extent_is_too_large u.sizes.page_words making.extent ≡ false
+  small_now = ap (λ (z : Sizes). extents.extent_is_too_large z.page_words making.extent) same.sizes ∙ small
 
   pub roomier_next : 0 < left → u.table.taken - u.table.returned < u.sizes.pages → (v : World)
       → AddsPage u v g region making.extent → AllRoomier w v g next making region (left - 1)
@@ -428,7 +428,7 @@ module _ (w u : World) (g : ℕ) (next : Next) (making : Making) (region : Regio
 -- the next one of so many
 pub roomier_step : (w u v : World) (g : ℕ) (next : Next) (making : Making) (region : Region) (all taken : ℕ)
     → AllRoomier w u g next making region (all - taken)
-    → extents.is_too_large w.sizes.page_words making.extent ≡ false → SameRun w u → taken < all
+    → extents.extent_is_too_large w.sizes.page_words making.extent ≡ false → SameRun w u → taken < all
     → u.table.taken - u.table.returned < u.sizes.pages → AddsPage u v g region making.extent
     → AllRoomier w v g next making region (all - (taken + 1))
 roomier_step w u v g next making region all taken so small same more fewer adds =

@@ -31,7 +31,7 @@ use Rattle.rgo_region_interpreter.specs.declared.holders.Holder.{Holder}
 use Rattle.rgo_region_interpreter.specs.declared.objects.Making.{Making}
 use Rattle.rgo_region_interpreter.specs.declared.worlds.Next.{Next}
 use Rattle.rgo_region_interpreter.specs.declared.worlds.World.{World}
-use Rattle.rgo_region_interpreter.specs.Extents.{data_pages, is_spread, pages_wanted}
+use Rattle.rgo_region_interpreter.specs.Extents.{extent_data_pages, extent_is_spread, pages_wanted}
 use Rattle.rgo_region_interpreter.specs.Holders.{Fills, HolderShows, Reserves, fill_in}
 use Rattle.rgo_region_interpreter.specs.Objects.{IsRoomy, MakesNone, Placed, PlacesObject, fill_held, making_by, region_for}
 use Rattle.rgo_region_interpreter.specs.Tables.{RegionTableShows}
@@ -302,13 +302,13 @@ module _ (w v : World) (s : RegionState) (limits : Limits) (g : ℕ) (next : Nex
         (making_region (function_at w.code.now roomy.makes.at.frame) (top_names roomy.ready.works.holder.environments)
         roomy.makes.at.is.instr.op) (new_object s.plain (after s.plain g (making_act before_it making is_some)))
         ≡ Some (record roomy.ready.works.holder { fills = fills; reserved = reserved }, r ∷ [])
-    shows : (d : Holder) → Placed (is_spread page_words making.extent) kept.0 d r making.extent.words → (ds : List Duty)
+    shows : (d : Holder) → Placed (extent_is_spread page_words making.extent) kept.0 d r making.extent.words → (ds : List Duty)
         → HolderShows d (record roomy.ready.works.holder { fills = fills; reserved = reserved; duties = ds })
-    unmade : (d : Holder) → Placed (is_spread page_words making.extent) kept.0 d r making.extent.words → (q : ℕ)
+    unmade : (d : Holder) → Placed (extent_is_spread page_words making.extent) kept.0 d r making.extent.words → (q : ℕ)
         → fill_in kept.0 (Numbered q) ≡ fill_of roomy.ready.works.holder.fills (Numbered q)
         → fill_in d (Numbered q) ≡ fill_of fills (Numbered q)
 
-  lies_spread : is_spread page_words making.extent ≡ true → LiesSo
+  lies_spread : extent_is_spread page_words making.extent ≡ true → LiesSo
   unfolding r
   lies_spread t = record {
     fills = roomy.ready.works.holder.fills;
@@ -318,20 +318,20 @@ module _ (w v : World) (s : RegionState) (limits : Limits) (g : ℕ) (next : Nex
     unmade = λ d p q e. ap (λ (z : Holder). fill_in z (Numbered q)) (so d p) ∙ e;
   }
     where
-      so : (d : Holder) → Placed (is_spread page_words making.extent) kept.0 d r making.extent.words
+      so : (d : Holder) → Placed (extent_is_spread page_words making.extent) kept.0 d r making.extent.words
           → Reserves kept.0 d 0
       so d p = subst (λ b. Placed b kept.0 d r making.extent.words) t p
 
       none_left : (n m : ℕ) → (n + 1) - m ≡ 0 → n < m
       none_left n m e = omega (arith, e)
 
-      all : data_pages page_words making.extent < roomy.ready.works.holder.reserved
-      all = none_left (data_pages page_words making.extent) roomy.ready.works.holder.reserved
-          (sym (ap (λ b. if b then (data_pages page_words making.extent + 1) - roomy.ready.works.holder.reserved
+      all : extent_data_pages page_words making.extent < roomy.ready.works.holder.reserved
+      all = none_left (extent_data_pages page_words making.extent) roomy.ready.works.holder.reserved
+          (sym (ap (λ b. if b then (extent_data_pages page_words making.extent + 1) - roomy.ready.works.holder.reserved
           else if fits_in_page page_words (fill_of roomy.ready.works.holder.fills r) making.extent.words then 0 else 1) t)
           ∙ has_pages)
 
-  lies_own : is_spread page_words making.extent ≡ false → LiesSo
+  lies_own : extent_is_spread page_words making.extent ≡ false → LiesSo
   unfolding r
   lies_own f = record {
     fills = with_fill roomy.ready.works.holder.fills r (used.0 + making.extent.words);
@@ -350,17 +350,17 @@ module _ (w v : World) (s : RegionState) (limits : Limits) (g : ℕ) (next : Nex
           × (used + making.extent.words ≤ page_words)
       used = fits_used page_words making.extent.words (fill_of roomy.ready.works.holder.fills r)
           (fits_now (fits_in_page page_words (fill_of roomy.ready.works.holder.fills r) making.extent.words)
-          (sym (ap (λ b. if b then (data_pages page_words making.extent + 1) - roomy.ready.works.holder.reserved
+          (sym (ap (λ b. if b then (extent_data_pages page_words making.extent + 1) - roomy.ready.works.holder.reserved
           else if fits_in_page page_words (fill_of roomy.ready.works.holder.fills r) making.extent.words then 0 else 1) f)
           ∙ has_pages))
 
-      so : (d : Holder) → Placed (is_spread page_words making.extent) kept.0 d r making.extent.words
+      so : (d : Holder) → Placed (extent_is_spread page_words making.extent) kept.0 d r making.extent.words
           → Fills kept.0 d r (used.0 + making.extent.words)
       so d p = subst (Fills kept.0 d r) (ap (λ o. unwrap_or o 0 + making.extent.words) (fill_there ∙ used.1))
           (subst (λ b. Placed b kept.0 d r making.extent.words) f p)
 
   lies : LiesSo
-  lies = split (is_spread page_words making.extent) lies_spread lies_own
+  lies = split (extent_is_spread page_words making.extent) lies_spread lies_own
 
   live : is_live s.regions r ≡ true
   unfolding r
@@ -486,12 +486,12 @@ module _ (w v : World) (s : RegionState) (limits : Limits) (g : ℕ) (next : Nex
           (sym (table_same w v s limits g turned roomy.ready takes)) roomy.ready.works.shown.table)
 
       changed : (d : Holder) × (p.holders.items ≡ slice_set v.holders.items g d)
-          × Placed (is_spread page_words making.extent) kept.0 d r making.extent.words
+          × Placed (extent_is_spread page_words making.extent) kept.0 d r making.extent.words
       changed =
           let x = placed.changed kept.0 (ap (λ l. slice_get l g) in_w ∙ kept.1) in (
             x.0,
             x.1,
-            subst (λ n. Placed (is_spread n making.extent) kept.0 x.0 r making.extent.words)
+            subst (λ n. Placed (extent_is_spread n making.extent) kept.0 x.0 r making.extent.words)
                 (ap (λ (z : World). z.sizes.page_words) takes.same) x.2,
           )
 

@@ -13,12 +13,12 @@ use Rattle.rgo_sound.proofs.names.Core.{bound_unbind, bound_unbind_other}
 use Rattle.rgo_sound.proofs.duties.Moves.{same_regions}
 use Rattle.rgo_sound.proofs.Tests.{eq_of, split}
 use Rattle.rgo_sound.specs.Invariant.{EachOnce, times}
-use Rattle.rgo_sound.specs.Stakes.{is_in, one_if}
+use Rattle.rgo_sound.specs.Stakes.{is_in, one_when}
 use Rattle.rgo_tac.specs.declared.regions.Class.{Class}
 use Rattle.rgo_region_interpreter.specs.Calls.{UnbindsAll, bound_except}
 use Rattle.rgo_region_interpreter.specs.declared.holders.Holder.{Holder}
 use Rattle.rgo_region_interpreter.specs.Holders.{HolderShows, HolderBegins, HolderReturns, HolderEnters, FrameNames, SameBindings}
-use Rattle.rgo_region_interpreter.specs.Holders.{bound_in, frames_of, protections_of, times_among, times_region}
+use Rattle.rgo_region_interpreter.specs.Holders.{bound_in, frame_names_of, protection_count, times_among, times_region}
 use Rattle.rgo_region_interpreter.proofs.holding.Showing.{flip, renamed, times_are, top_protections}
 
 -- ---- what changes on one side alone
@@ -27,9 +27,9 @@ use Rattle.rgo_region_interpreter.proofs.holding.Showing.{flip, renamed, times_a
 pub alike_shown : (c : Holder) (h k : spec.Holder) → HolderShows c h → k.environments ≡ h.environments → k.base ≡ h.base
     → k.stakes ≡ h.stakes → k.fills ≡ h.fills → k.reserved ≡ h.reserved → k.offer ≡ h.offer → HolderShows c k
 alike_shown c h k shows es bs ss fs rs o = record {
-  names = subst (SameBindings (frames_of c)) (sym es) shows.names;
-  protections = λ r. shows.protections r ∙ ap (λ x. protections_of (Numbered r) x h.base) (sym es)
-      ∙ ap (protections_of (Numbered r) k.environments) (sym bs);
+  names = subst (SameBindings (frame_names_of c)) (sym es) shows.names;
+  protections = λ r. shows.protections r ∙ ap (λ x. protection_count (Numbered r) x h.base) (sym es)
+      ∙ ap (protection_count (Numbered r) k.environments) (sym bs);
   base = shows.base ∙ sym bs;
   fills = λ r i. shows.fills r (ap (is_in r) (sym ss) ∙ i) ∙ ap (λ x. fill_of x (Numbered r)) (sym fs);
   global_fill = shows.global_fill ∙ ap (λ x. fill_of x GlobalRegion) (sym fs);
@@ -86,13 +86,13 @@ bound_without_all names (g ∷ gs) k =
 among_is : (r : ℕ) (base : List ℕ) → times_among r base ≡ times_region (Numbered r) (map Numbered base)
 among_is r [] = refl
 among_is r (q ∷ qs) =
-    ap (λ n. n + times_among r qs) (ap one_if (flip q r)) ∙ ap (λ n. one_if (nat_eq r q) + n) (among_is r qs)
+    ap (λ n. n + times_among r qs) (ap one_when (flip q r)) ∙ ap (λ n. one_when (nat_eq r q) + n) (among_is r qs)
 
 none_times : (r : Region) (rs : List Region) → list_any (same_region r) rs ≡ false → times_region r rs ≡ 0
 none_times r [] n = refl
 none_times r (s ∷ ss) n = go (same_region r s) (list_any (same_region r) ss) n (none_times r ss)
   where
-    go : (a b : Bool) → (a || b) ≡ false → (b ≡ false → times_region r ss ≡ 0) → one_if a + times_region r ss ≡ 0
+    go : (a b : Bool) → (a || b) ≡ false → (b ≡ false → times_region r ss ≡ 0) → one_when a + times_region r ss ≡ 0
     go true b n next = absurd (true≢false n)
     go false b n next = let z = next n in omega (arith, z)
 
@@ -100,7 +100,7 @@ once_times : (r : Region) (rs : List Region) → EachOnce rs → times_region r 
 once_times r [] once = omega arith
 once_times r (s ∷ ss) once = go (same_region r s) refl (once_times r ss once.1)
   where
-    go : (b : Bool) → same_region r s ≡ b → times_region r ss ≤ 1 → one_if b + times_region r ss ≤ 1
+    go : (b : Bool) → same_region r s ≡ b → times_region r ss ≤ 1 → one_when b + times_region r ss ≤ 1
     go true t l =
         let z = none_times r ss (ap (λ x. list_any (same_region x) ss) (same_regions r s t) ∙ once.0) in
         omega (arith, z)
@@ -119,11 +119,11 @@ pub begin_shown : (c : Holder) (h : spec.Holder) (names : FrameNames) (base : Li
     → e.protections ≡ [] → map Numbered base ≡ h.base → EachOnce h.base → h.fills ≡ []
     → h.reserved ≡ 0 → h.offer ≡ NoOffer → HolderShows c h
 begin_shown c h names base e begins es same none is once fs none_reserved offer = record {
-  names = subst (SameBindings (frames_of c)) (sym es)
+  names = subst (SameBindings (frame_names_of c)) (sym es)
       (subst (λ l. SameBindings l (e ∷ [])) (sym begins.frames) (same, tt));
   protections = λ r.
-      let p : protections_of (Numbered r) h.environments h.base ≡ 0 + times_region (Numbered r) h.base =
-      ap (λ l. protections_of (Numbered r) l h.base) es
+      let p : protection_count (Numbered r) h.environments h.base ≡ 0 + times_region (Numbered r) h.base =
+      ap (λ l. protection_count (Numbered r) l h.base) es
       ∙ ap (λ l. times_region (Numbered r) l + times_region (Numbered r) h.base) none in
       let q = begins.protections r
       ∙ at_most_once (times_among r base) (times_region (Numbered r) h.base)
@@ -177,16 +177,16 @@ module _ (c d : Holder) (h : spec.Holder) (shows : HolderShows c h) (ds : List D
       → ((r : Region) → times r e.protections ≡ 0) → HolderReturns c d
       → HolderShows d (record h { environments = below h.environments; duties = ds })
   return_shown e es there none back = record {
-    names = subst (λ l. SameBindings (frames_of d) (below l)) (sym there)
-        (go (frames_of c) refl (subst (SameBindings (frames_of c)) there shows.names));
+    names = subst (λ l. SameBindings (frame_names_of d) (below l)) (sym there)
+        (go (frame_names_of c) refl (subst (SameBindings (frame_names_of c)) there shows.names));
     protections = λ r.
         let a = back.1.protections r in
         let b = shows.protections r in
-        let f : protections_of (Numbered r) h.environments h.base
-        ≡ times_region (Numbered r) e.protections + protections_of (Numbered r) es h.base =
-        ap (λ l. protections_of (Numbered r) l h.base) there in
-        let g : protections_of (Numbered r) (below h.environments) h.base ≡ protections_of (Numbered r) es h.base =
-        ap (λ l. protections_of (Numbered r) (below l) h.base) there in
+        let f : protection_count (Numbered r) h.environments h.base
+        ≡ times_region (Numbered r) e.protections + protection_count (Numbered r) es h.base =
+        ap (λ l. protection_count (Numbered r) l h.base) there in
+        let g : protection_count (Numbered r) (below h.environments) h.base ≡ protection_count (Numbered r) es h.base =
+        ap (λ l. protection_count (Numbered r) (below l) h.base) there in
         let z = none (Numbered r) in
         let y = times_are (Numbered r) e.protections in
         omega (arith, a, b, f, g, z, y);
@@ -197,6 +197,6 @@ module _ (c d : Holder) (h : spec.Holder) (shows : HolderShows c h) (ds : List D
     no_offer = shows.no_offer;
   }
     where
-      go : (ns : List FrameNames) → frames_of c ≡ ns → SameBindings ns (e ∷ es) → SameBindings (frames_of d) es
+      go : (ns : List FrameNames) → frame_names_of c ≡ ns → SameBindings ns (e ∷ es) → SameBindings (frame_names_of d) es
       go [] q s = absurd s
       go (n ∷ ns) q s = subst (λ l. SameBindings l es) (sym (back.0 n ns q)) s.1

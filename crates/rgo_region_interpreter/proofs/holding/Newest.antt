@@ -6,7 +6,7 @@ use Rattle.std.proofs.Math.ListN.{set}
 use Rattle.std.proofs.lemmas.List.{take_all, take_more, map_push, reverse-append, length-set, get_or-set_same, take-set}
 use Rattle.rgo_region_machine.specs.declared.regions.Region.{Region}
 use Rattle.rgo_region_machine.specs.declared.regions.Region.TheVariants.{Global as GlobalRegion, Numbered}
-use Rattle.rgo_sound.specs.Stakes.{one_if}
+use Rattle.rgo_sound.specs.Stakes.{one_when}
 use Rattle.rgo_region_interpreter.specs.Holders.{count_in, times_among}
 
 last_first : {X Y : Type 0} (f : X → Y) (xs : List X) (n : ℕ) (d : X) → length xs ≡ n + 1
@@ -48,7 +48,7 @@ each_region P global numbered (Numbered r) = numbered r
 -- ---- the protections of a base
 
 -- one more region of a base
-pub times_push : (r : ℕ) (qs : List ℕ) (q : ℕ) → times_among r (qs ++ q ∷ []) ≡ times_among r qs + one_if (nat_eq q r)
+pub times_push : (r : ℕ) (qs : List ℕ) (q : ℕ) → times_among r (qs ++ q ∷ []) ≡ times_among r qs + one_when (nat_eq q r)
 times_push r [] q = omega arith
 times_push r (p ∷ ps) q = let e = times_push r ps q in omega (arith, e)
 
@@ -57,9 +57,9 @@ abbrev pub one_at_most : ℕ → ℕ
 one_at_most n = if nat_eq n 0 then 0 else 1
 
 pub count_more : (o : Option ℕ) (r q n : ℕ) → count_in o ≡ one_at_most n
-    → count_in (if nat_eq r q then Some 1 else o) ≡ one_at_most (n + one_if (nat_eq r q))
+    → count_in (if nat_eq r q then Some 1 else o) ≡ one_at_most (n + one_when (nat_eq r q))
 count_more o r q n e = go (nat_eq r q)
   where
-    go : (b : Bool) → count_in (if b then Some 1 else o) ≡ one_at_most (n + one_if b)
+    go : (b : Bool) → count_in (if b then Some 1 else o) ≡ one_at_most (n + one_when b)
     go true = sym (ap (λ b. if b then 0 else 1) (ne_eqb (n + 1) 0 (λ z. omega (arith, z))))
     go false = e ∙ ap one_at_most (let z : n ≡ n + 0 = omega arith in z)

@@ -9,7 +9,7 @@ use Rattle.rgo_tac.specs.Frames.{TacFrame}
 use Rattle.rgo_tac.specs.Ops.{op_in}
 use Rattle.rgo_code.specs.Code.{CodeInstr, CodeFn}
 use Rattle.rgo_code.specs.Erasure.{erased_op, erased_instr, erased_fn}
-use Rattle.rgo_region_interpreter.specs.Works.{first_of}
+use Rattle.rgo_region_interpreter.specs.Works.{first_frame_of}
 use Rattle.rgo_region_interpreter.proofs.holding.OneHolder.{none_some}
 
 -- an instruction of code whose erasure does this
@@ -42,6 +42,6 @@ none_last (x ∷ xs) e =
 -- as the code reads it
 pub newest_shows : (frames : Option (List TacFrame)) (items : List TacFrame) (o : Option (Bor TacFrame))
     → frames ≡ Some (reverse items) → option_copied o ≡ slice_get items (length items - 1)
-    → MatchOption o (first_of frames ≡ None) (λ f. first_of frames ≡ Some f.now)
-newest_shows frames items None e v = ap first_of e ∙ ap (λ l. first_of (Some (reverse l))) (none_last items (sym v))
-newest_shows frames items (Some f) e v = ap first_of e ∙ ap (λ l. first_of (Some l)) (last_is items f.now (sym v))
+    → MatchOption o (first_frame_of frames ≡ None) (λ f. first_frame_of frames ≡ Some f.now)
+newest_shows frames items None e v = ap first_frame_of e ∙ ap (λ l. first_frame_of (Some (reverse l))) (none_last items (sym v))
+newest_shows frames items (Some f) e v = ap first_frame_of e ∙ ap (λ l. first_frame_of (Some l)) (last_is items f.now (sym v))

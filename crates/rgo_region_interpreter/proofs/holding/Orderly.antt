@@ -13,7 +13,7 @@ use Rattle.rgo_memory.specs.Memory.{Object}
 use Rattle.rgo_region_machine.specs.Duties.{attend, attended, duty_done, protected, removal, shared, unprotected}
 use Rattle.rgo_region_machine.specs.Duties.{with_protection, without_protection}
 use Rattle.rgo_region_machine.specs.Instructions.{both_instructed, child_holder, holder_after, instruct, instructed_with}
-use Rattle.rgo_region_machine.specs.Instructions.{last_frames, marked, unless_trapped, taken_offer}
+use Rattle.rgo_region_machine.specs.Instructions.{last_frames, mark_with_end, unless_trapped, taken_offer}
 use Rattle.rgo_region_machine.specs.Machine.{Acknowledge, Attend, Event, Finish, Instruct, MakeOffer, TakePage}
 use Rattle.rgo_region_machine.specs.Machine.{finished, kept_mark, main_holder, page_before, page_for, page_taken, region_run, region_start, region_step}
 use Rattle.rgo_region_machine.specs.Machine.{take_page, takes_page}
@@ -47,7 +47,7 @@ use Rattle.rgo_sound.specs.Good.{AllGood}
 use Rattle.rgo_sound.specs.Invariant.{AllWait, AreProtections, Fine, FramesFit, GoodHolder, bound_times, same_bound}
 use Rattle.rgo_sound.specs.Invariant.{shared_before, shared_names, times, to_share}
 use Rattle.rgo_sound.specs.NextNames.{HasStake}
-use Rattle.rgo_sound.specs.Stakes.{one_if}
+use Rattle.rgo_sound.specs.Stakes.{one_when}
 use Rattle.rgo_sound.proofs.pointers.Owners.{live_made}
 use Rattle.rgo_tac.specs.Frames.{TacFrame}
 use Rattle.rgo_tac.specs.Tac.{TacState}
@@ -215,16 +215,16 @@ unprotects_all (k ∷ ks) ds names protections fit n = λ q b. (
     there : (q : Region) → bound names k ≡ Some q → 1 ≤ times q protections
     there q b =
         let a = fit q in
-        let c : one_if (same_bound q (bound names k)) ≡ 1 =
-        ap (λ x. one_if (same_bound q x)) b ∙ ap one_if (same_reflexive q) in
+        let c : one_when (same_bound q (bound names k)) ≡ 1 =
+        ap (λ x. one_when (same_bound q x)) b ∙ ap one_when (same_reflexive q) in
         omega (arith, a, c)
 
     fewer : (q : Region) → bound names k ≡ Some q → (r : Region) → times r (removed_once q protections)
         ≡ bound_times r names ks
     fewer q b r =
         let a = fit r in
-        let c : one_if (same_bound r (bound names k)) ≡ one_if (same_region r q) =
-        ap (λ x. one_if (same_bound r x)) b in
+        let c : one_when (same_bound r (bound names k)) ≡ one_when (same_region r q) =
+        ap (λ x. one_when (same_bound r x)) b in
         let t = times_removed r q protections (there q b) in
         omega (arith, a, c, t)
 
@@ -288,7 +288,7 @@ orderly_shared code frames h k old d u =
 
 -- ---- regions
 
-running_before : (mark : Option Mark) (end : Option End) → marked mark end ≡ None → (mark ≡ None) × (end ≡ None)
+running_before : (mark : Option Mark) (end : Option End) → mark_with_end mark end ≡ None → (mark ≡ None) × (end ≡ None)
 running_before None None e = (refl, refl)
 running_before None (Some end) e = cc
 running_before (Some mark) end e = cc
@@ -555,7 +555,7 @@ module _ (code : Code) (s : RegionState) (old : Orderly code s) where
       the_same : (x y : Holder) → Some x ≡ Some y → x ≡ y
       the_same x y e = cc
 
-      holders : marked s.mark (after s.plain g x.a).ended ≡ None → (j : ℕ) (y : Holder) → slice_get T.holders j ≡ Some y
+      holders : mark_with_end s.mark (after s.plain g x.a).ended ≡ None → (j : ℕ) (y : Holder) → slice_get T.holders j ≡ Some y
           → OrderlyHolder code (frames_of T.plain j) y
       holders m j y e = go (get_append_place (slice_set s.holders g held) child j y e)
         where

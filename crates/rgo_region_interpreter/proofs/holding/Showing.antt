@@ -13,12 +13,12 @@ use Rattle.rgo_sound.proofs.duties.Attends.{same_reflexive}
 use Rattle.rgo_sound.proofs.names.Core.{bound_unbind, bound_unbind_other, in_without, not_in_without}
 use Rattle.rgo_sound.proofs.Tests.{eq_of, split}
 use Rattle.rgo_sound.specs.Invariant.{times}
-use Rattle.rgo_sound.specs.Stakes.{is_in, one_if}
+use Rattle.rgo_sound.specs.Stakes.{is_in, one_when}
 use Rattle.rgo_sound.proofs.duties.Moves.{times_removed}
 use Rattle.rgo_region_interpreter.specs.declared.holders.Holder.{Holder}
 use Rattle.rgo_region_interpreter.specs.Holders.{HolderShows, Binds, Unbinds, HolderProtects, Unprotects, HolderLeaves, HolderEndsBase, FrameNames, Renames}
-use Rattle.rgo_region_interpreter.specs.Holders.{SameBindings, bound_in, bound_with, bound_without, fill_in, frames_of, is_number, newest}
-use Rattle.rgo_region_interpreter.specs.Holders.{protections_in, protections_of, region_in, times_region}
+use Rattle.rgo_region_interpreter.specs.Holders.{SameBindings, bound_in, bound_with, bound_without, fill_in, frame_names_of, is_region_number, newest_frame_names}
+use Rattle.rgo_region_interpreter.specs.Holders.{protections_in, protection_count, region_in, times_region}
 
 -- ---- numbers
 
@@ -45,9 +45,9 @@ flip x y = go (nat_eq x y) refl
 -- what a name stands for
 pub region_shown : (c : Holder) (h : spec.Holder) (k : ℕ) → HolderShows c h
     → region_in c k ≡ bound (top_names h.environments) k
-region_shown c h k shows = go (frames_of c) h.environments shows.names
+region_shown c h k shows = go (frame_names_of c) h.environments shows.names
   where
-    go : (ns : List FrameNames) (es : List RegionEnvironment) → SameBindings ns es → bound_in (newest ns) k ≡ bound (top_names es) k
+    go : (ns : List FrameNames) (es : List RegionEnvironment) → SameBindings ns es → bound_in (newest_frame_names ns) k ≡ bound (top_names es) k
     go [] [] s = refl
     go [] (e ∷ es) s = absurd s
     go (n ∷ ns) [] s = absurd s
@@ -56,20 +56,20 @@ region_shown c h k shows = go (frames_of c) h.environments shows.names
 times_any : (q : Region) (rs : List Region) → nat_lt 0 (times_region q rs) ≡ list_any (same_region q) rs
 times_any q [] = refl
 times_any q (r ∷ rs) =
-    positive_sum (one_if (same_region q r)) (times_region q rs)
-    ∙ ap (λ x. nat_lt 0 (one_if (same_region q r)) || x) (times_any q rs)
+    positive_sum (one_when (same_region q r)) (times_region q rs)
+    ∙ ap (λ x. nat_lt 0 (one_when (same_region q r)) || x) (times_any q rs)
     ∙ ap (λ x. x || list_any (same_region q) rs) (one (same_region q r))
   where
-    one : (b : Bool) → nat_lt 0 (one_if b) ≡ b
+    one : (b : Bool) → nat_lt 0 (one_when b) ≡ b
     one true = refl
     one false = refl
 
-any_protection : (q : Region) (es : List RegionEnvironment) (base : List Region) → nat_lt 0 (protections_of q es base)
+any_protection : (q : Region) (es : List RegionEnvironment) (base : List Region) → nat_lt 0 (protection_count q es base)
     ≡ guards base es q
 any_protection q [] base = times_any q base
 any_protection q (e ∷ es) base =
-    positive_sum (times_region q e.protections) (protections_of q es base)
-    ∙ ap (λ x. x || nat_lt 0 (protections_of q es base)) (times_any q e.protections)
+    positive_sum (times_region q e.protections) (protection_count q es base)
+    ∙ ap (λ x. x || nat_lt 0 (protection_count q es base)) (times_any q e.protections)
     ∙ ap (λ x. list_any (same_region q) e.protections || x) (any_protection q es base)
 
 -- whether it protects a region
@@ -80,7 +80,7 @@ guards_shown c h r shows = ap (nat_lt 0) (shows.protections r) ∙ any_protectio
 -- ---- names
 
 pub top_protections : (q : Region) (es : List RegionEnvironment) (names : Bindings) (base : List Region)
-    → protections_of q (with_top es names) base ≡ protections_of q es base
+    → protection_count q (with_top es names) base ≡ protection_count q es base
 top_protections q [] names base = refl
 top_protections q (e ∷ es) names base = refl
 
@@ -100,15 +100,15 @@ unprotected_names (n ∷ ns) (e ∷ es) q s = (s.0, s.1)
 
 -- the newest names are others
 pub renamed : (c d : Holder) (change : FrameNames → ℕ → Option Region) (names : Bindings) (es : List RegionEnvironment)
-    → SameBindings (frames_of c) es → Renames c d change
+    → SameBindings (frame_names_of c) es → Renames c d change
     → ((n : FrameNames) → ((k : ℕ) → bound_in n k ≡ bound (top_names es) k) → (k : ℕ) → change n k ≡ bound names k)
-    → (e : RegionEnvironment) (below : List RegionEnvironment) → es ≡ e ∷ below → SameBindings (frames_of d) (with_top es names)
+    → (e : RegionEnvironment) (below : List RegionEnvironment) → es ≡ e ∷ below → SameBindings (frame_names_of d) (with_top es names)
 renamed c d change names es same renames fits e below is =
-    subst (λ l. SameBindings (frames_of d) (with_top l names)) (sym is)
-    (go (frames_of c) refl (subst (SameBindings (frames_of c)) is same))
+    subst (λ l. SameBindings (frame_names_of d) (with_top l names)) (sym is)
+    (go (frame_names_of c) refl (subst (SameBindings (frame_names_of c)) is same))
   where
-    go : (ns : List FrameNames) → frames_of c ≡ ns → SameBindings ns (e ∷ below)
-        → SameBindings (frames_of d) (record e { names = names } ∷ below)
+    go : (ns : List FrameNames) → frame_names_of c ≡ ns → SameBindings ns (e ∷ below)
+        → SameBindings (frame_names_of d) (record e { names = names } ∷ below)
     go [] q s = absurd s
     go (n ∷ ns) q s =
         let x = renames.renamed n ns q in
@@ -121,14 +121,14 @@ renamed c d change names es same renames fits e below is =
 
 pub times_are : (q : Region) (rs : List Region) → times q rs ≡ times_region q rs
 times_are q [] = refl
-times_are q (r ∷ rs) = ap (λ n. one_if (same_region q r) + n) (times_are q rs)
+times_are q (r ∷ rs) = ap (λ n. one_when (same_region q r) + n) (times_are q rs)
 
-number_is : (q : Region) (r : ℕ) → one_if (is_number q r) ≡ one_if (same_region (Numbered r) q)
+number_is : (q : Region) (r : ℕ) → one_when (is_region_number q r) ≡ one_when (same_region (Numbered r) q)
 number_is GlobalRegion r = refl
-number_is (Numbered p) r = ap one_if (flip p r)
+number_is (Numbered p) r = ap one_when (flip p r)
 
-based : (q : Region) (es : List RegionEnvironment) (r : Region) (rs : List Region) → protections_of q es (r ∷ rs)
-    ≡ one_if (same_region q r) + protections_of q es rs
+based : (q : Region) (es : List RegionEnvironment) (r : Region) (rs : List Region) → protection_count q es (r ∷ rs)
+    ≡ one_when (same_region q r) + protection_count q es rs
 based q [] r rs = refl
 based q (e ∷ es) r rs = let b = based q es r rs in omega (arith, b)
 
@@ -173,19 +173,19 @@ module _ (c d : Holder) (h : spec.Holder) (shows : HolderShows c h) (ds : List D
     pub protect_shown : (q : Region) → HolderProtects c d q
         → HolderShows d (record h { environments = with_protection h.environments q; duties = ds })
     protect_shown q protects = record {
-      names = protected_names (frames_of d) h.environments q
+      names = protected_names (frame_names_of d) h.environments q
           (subst (λ l. SameBindings l h.environments) (sym protects.1.names) shows.names);
       protections = λ r.
           let a = protects.0 r in
           let b = shows.protections r in
           let n = number_is q r in
-          let f : protections_of (Numbered r) h.environments h.base
-          ≡ times_region (Numbered r) e.protections + protections_of (Numbered r) es h.base =
-          ap (λ l. protections_of (Numbered r) l h.base) there in
-          let g : protections_of (Numbered r) (with_protection h.environments q) h.base
-          ≡ (one_if (same_region (Numbered r) q) + times_region (Numbered r) e.protections)
-          + protections_of (Numbered r) es h.base =
-          ap (λ l. protections_of (Numbered r) (with_protection l q) h.base) there in
+          let f : protection_count (Numbered r) h.environments h.base
+          ≡ times_region (Numbered r) e.protections + protection_count (Numbered r) es h.base =
+          ap (λ l. protection_count (Numbered r) l h.base) there in
+          let g : protection_count (Numbered r) (with_protection h.environments q) h.base
+          ≡ (one_when (same_region (Numbered r) q) + times_region (Numbered r) e.protections)
+          + protection_count (Numbered r) es h.base =
+          ap (λ l. protection_count (Numbered r) (with_protection l q) h.base) there in
           omega (arith, a, b, n, f, g);
       base = ap (map Numbered) protects.1.base ∙ shows.base;
       fills = λ r i. protects.1.fills (Numbered r) ∙ shows.fills r i;
@@ -197,18 +197,18 @@ module _ (c d : Holder) (h : spec.Holder) (shows : HolderShows c h) (ds : List D
     pub unprotect_shown : (q : Region) → 1 ≤ times q e.protections → Unprotects c d q
         → HolderShows d (record h { environments = without_protection h.environments q; duties = ds })
     unprotect_shown q some unprotects = record {
-      names = unprotected_names (frames_of d) h.environments q
+      names = unprotected_names (frame_names_of d) h.environments q
           (subst (λ l. SameBindings l h.environments) (sym unprotects.1.names) shows.names);
       protections = λ r.
           let a = unprotects.0 r in
           let b = shows.protections r in
           let n = number_is q r in
-          let f : protections_of (Numbered r) h.environments h.base
-          ≡ times_region (Numbered r) e.protections + protections_of (Numbered r) es h.base =
-          ap (λ l. protections_of (Numbered r) l h.base) there in
-          let g : protections_of (Numbered r) (without_protection h.environments q) h.base
-          ≡ times_region (Numbered r) (removed_once q e.protections) + protections_of (Numbered r) es h.base =
-          ap (λ l. protections_of (Numbered r) (without_protection l q) h.base) there in
+          let f : protection_count (Numbered r) h.environments h.base
+          ≡ times_region (Numbered r) e.protections + protection_count (Numbered r) es h.base =
+          ap (λ l. protection_count (Numbered r) l h.base) there in
+          let g : protection_count (Numbered r) (without_protection h.environments q) h.base
+          ≡ times_region (Numbered r) (removed_once q e.protections) + protection_count (Numbered r) es h.base =
+          ap (λ l. protection_count (Numbered r) (without_protection l q) h.base) there in
           let t = times_removed (Numbered r) q e.protections some in
           let x = times_are (Numbered r) (removed_once q e.protections) in
           let y = times_are (Numbered r) e.protections in
@@ -271,13 +271,13 @@ module _ (c d : Holder) (h : spec.Holder) (shows : HolderShows c h) (ds : List D
           let a = ends.1 r in
           let b = shows.protections r in
           let n = number_is (Numbered q) r in
-          let f : protections_of (Numbered r) h.environments h.base
-          ≡ protections_of (Numbered r) h.environments (Numbered q ∷ map Numbered d.base.items) =
-          ap (protections_of (Numbered r) h.environments) base_is in
+          let f : protection_count (Numbered r) h.environments h.base
+          ≡ protection_count (Numbered r) h.environments (Numbered q ∷ map Numbered d.base.items) =
+          ap (protection_count (Numbered r) h.environments) base_is in
           let g = based (Numbered r) h.environments (Numbered q) (map Numbered d.base.items) in
-          let x : protections_of (Numbered r) h.environments (removed_once (Numbered q) h.base)
-          ≡ protections_of (Numbered r) h.environments (map Numbered d.base.items) =
-          ap (protections_of (Numbered r) h.environments) removed in
+          let x : protection_count (Numbered r) h.environments (removed_once (Numbered q) h.base)
+          ≡ protection_count (Numbered r) h.environments (map Numbered d.base.items) =
+          ap (protection_count (Numbered r) h.environments) removed in
           omega (arith, a, b, n, f, g, x);
       base = sym removed;
       fills = λ r i. ends.3 (Numbered r) ∙ shows.fills r i;

@@ -9,7 +9,7 @@ use Rattle.rgo_code.specs.Checked.{IsChecked}
 use Rattle.rgo_code.specs.Code.{Code}
 use Rattle.rgo_code.specs.Erasure.{erased}
 use Rattle.rgo_region_machine.specs.declared.regions.Region.{Region}
-use Rattle.rgo_region_machine.specs.Instructions.{marked, plain_after, printed_if}
+use Rattle.rgo_region_machine.specs.Instructions.{mark_with_end, plain_after, printed_if}
 use Rattle.rgo_region_machine.specs.Machine.{plain_step}
 use Rattle.rgo_region_machine.specs.States.{Mark, RegionState, end_in, plain_at}
 use Rattle.rgo_sound.specs.Good.{AllGood}
@@ -43,10 +43,10 @@ state_shows w s x = record {
 nothing_safe : (o : ℕ) → IsSafe [] [] o
 nothing_safe o r at = cc
 
-end_of_mark : (mark : Option Mark) → mark ≡ None → (e : Option End) → end_in (marked mark e) ≡ e
-end_of_mark mark m e = ap (λ x. end_in (marked x e)) m ∙ go e
+end_of_mark : (mark : Option Mark) → mark ≡ None → (e : Option End) → end_in (mark_with_end mark e) ≡ e
+end_of_mark mark m e = ap (λ x. end_in (mark_with_end x e)) m ∙ go e
   where
-    go : (e : Option End) → end_in (marked None e) ≡ e
+    go : (e : Option End) → end_in (mark_with_end None e) ≡ e
     go None = refl
     go (Some end) = refl
 
@@ -137,7 +137,7 @@ module _ (code : Code) (s : RegionState) (checked : IsChecked code) (all : AllGo
 
       -- where the region machine comes by it, with the owners of new objects
       module _ (pick : Pick) (v : TacState) (x : StepShows code s state pick v) (t : RegionState)
-          (plain : t.plain ≡ plain_after s x.next) (mark : t.mark ≡ marked s.mark x.next.ended) where
+          (plain : t.plain ≡ plain_after s x.next) (mark : t.mark ≡ mark_with_end s.mark x.next.ended) where
         ended_there : end_in t.mark ≡ x.next.ended
         ended_there = ap end_in mark ∙ end_of_mark s.mark running x.next.ended
 

@@ -38,7 +38,7 @@ use Rattle.rgo_tac.specs.Frames.{TacFrame}
 use Rattle.rgo_region_interpreter.specs.declared.holders.Holder.{Holder}
 use Rattle.rgo_region_interpreter.specs.declared.worlds.World.{World}
 use Rattle.rgo_region_interpreter.specs.Attending.{EndsStake, IsMoved, LeavesRegion, LeavesUnless, PendsBy, SharesOne, SharesTo, WorldStays}
-use Rattle.rgo_region_interpreter.specs.Attending.{base_in, base_of}
+use Rattle.rgo_region_interpreter.specs.Attending.{base_in, base_regions_of}
 use Rattle.rgo_region_interpreter.specs.Holders.{HolderShows, Binds, Unbinds, HolderProtects, Unprotects, HolderEndsBase, SameFills}
 use Rattle.rgo_region_interpreter.specs.Holders.{fill_in, protections_in, region_in}
 use Rattle.rgo_region_interpreter.specs.Orderly.{Orderly, UnprotectsIn}
@@ -803,12 +803,12 @@ module _ (u v : World) (g q : ℕ) (c : Holder) (there : slice_get u.holders.ite
         x.leaves.1.base,
       )
 
-  pub base_kept : base_of v g ≡ c.base.items
+  pub base_kept : base_regions_of v g ≡ c.base.items
   base_kept = ap base_in ended_holder.1 ∙ ended_holder.2
 
 -- the base as the code keeps it
 pub base_shown : (w : World) (s : RegionState) (g : ℕ) (duties : List Duty) (works : Works w s g duties)
-    → works.holder.base ≡ map Numbered (base_of w g)
+    → works.holder.base ≡ map Numbered (base_regions_of w g)
 base_shown w s g duties works =
     let x = there_is w s g duties works in
     sym (shown_holder w s g duties works x.0 x.1).base ∙ ap (λ o. map Numbered (base_in o)) (sym x.1)
@@ -816,16 +816,16 @@ base_shown w s g duties works =
 -- so much of the base has ended
 pub record EndsSo (w v : World) (g : ℕ) : Type 0 where
   pub ends : (s : RegionState) (h : spec.Holder) → slice_get s.holders g ≡ Some h → Works w s g (map EndBase h.base)
-      → Attended w v s g (map EndBase (map Numbered (base_of v g)))
+      → Attended w v s g (map EndBase (map Numbered (base_regions_of v g)))
   pub done : done_of v g ≡ done_of w g
 
 pub ends_none : (w : World) (g : ℕ) → EndsSo w w g
 ends_none w g = record {
   ends = λ s h e works.
       let same : works.holder ≡ h = the_same works.holder h (sym works.is_holder ∙ e) in
-      let base : h.base ≡ map Numbered (base_of w g) =
+      let base : h.base ≡ map Numbered (base_regions_of w g) =
       ap (λ (x : spec.Holder). x.base) (sym same) ∙ base_shown w s g (map EndBase h.base) works in
-      attended_none w s g (map EndBase (map Numbered (base_of w g)))
+      attended_none w s g (map EndBase (map Numbered (base_regions_of w g)))
       (subst (λ b. Works w s g (map EndBase b)) base works);
   done = refl;
 }
@@ -841,11 +841,11 @@ pub ends_next : (w v u x : World) (g q : ℕ) (c c' : Holder) → EndsSo w v g �
 ends_next w v u x g q c c' so there moved table memory holders ends stake counted = record {
   ends = λ s h e works.
       let a = so.ends s h e works in
-      let left : base_of v g ≡ q ∷ c'.base.items = ap base_in there ∙ ends.0 in
-      let rest : base_of x g ≡ c'.base.items = base_kept u x g q c' there' stake in
+      let left : base_regions_of v g ≡ q ∷ c'.base.items = ap base_in there ∙ ends.0 in
+      let rest : base_regions_of x g ≡ c'.base.items = base_kept u x g q c' there' stake in
       let held = subst (λ b. Works v a.state g (map EndBase (map Numbered b))) left a.works in
       subst (λ b. Attended w x s g (map EndBase (map Numbered b))) (sym rest)
-      (attended_then w v x s g (map EndBase (map Numbered (base_of v g))) (map EndBase (map Numbered c'.base.items)) a
+      (attended_then w v x s g (map EndBase (map Numbered (base_regions_of v g))) (map EndBase (map Numbered c'.base.items)) a
       (end_base_attends v u x a.state g q c c' (map EndBase (map Numbered c'.base.items)) held there moved table memory
       holders ends stake));
   done =
@@ -857,12 +857,12 @@ ends_next w v u x g q c c' so there moved table memory holders ends stake counte
 
 pub ends_fewer : (v u x : World) (g q : ℕ) (c c' : Holder) → slice_get v.holders.items g ≡ Some c
     → u.holders.items ≡ slice_set v.holders.items g c' → HolderEndsBase c c' (Some q) → EndsStake u x g (Numbered q)
-    → length (base_of x g) < length (base_of v g)
+    → length (base_regions_of x g) < length (base_regions_of v g)
 ends_fewer v u x g q c c' there holders ends stake =
     let there' : slice_get u.holders.items g ≡ Some c' =
     ap (λ l. slice_get l g) holders ∙ get_set_same v.holders.items g c c' there in
-    let a : length (base_of v g) ≡ suc (length c'.base.items) = ap length (ap base_in there ∙ ends.0) in
-    let b : length (base_of x g) ≡ length c'.base.items = ap length (base_kept u x g q c' there' stake) in
+    let a : length (base_regions_of v g) ≡ suc (length c'.base.items) = ap length (ap base_in there ∙ ends.0) in
+    let b : length (base_regions_of x g) ≡ length c'.base.items = ap length (base_kept u x g q c' there' stake) in
     omega (arith, a, b)
 
 -- nothing is left of it
@@ -872,7 +872,7 @@ pub ends_all : (w v u : World) (g : ℕ) (c c' : Holder) → EndsSo w v g → sl
     → slice_get s.holders g ≡ Some h → Works w s g (map EndBase h.base) → Attended w u s g []
 ends_all w v u g c c' so there moved table memory holders ends s h e works =
     let a = so.ends s h e works in
-    let none : base_of v g ≡ [] = ap base_in there ∙ ends.0 in
+    let none : base_regions_of v g ≡ [] = ap base_in there ∙ ends.0 in
     attended_to w v u s g [] (subst (λ b. Attended w v s g (map EndBase (map Numbered b))) none a)
     (counted_works v u g c c.done there moved table memory (holders ∙ ap (slice_set v.holders.items g) ends.1))
     (record {
@@ -886,7 +886,7 @@ pub ends_nowhere : (w v : World) (g : ℕ) → EndsSo w v g → slice_get v.hold
     (h : spec.Holder) → slice_get s.holders g ≡ Some h → Works w s g (map EndBase h.base) → Attended w v s g []
 ends_nowhere w v g so none s h e works =
     let a = so.ends s h e works in
-    absurd (nowhere v a.state g (map EndBase (map Numbered (base_of v g))) a.works none)
+    absurd (nowhere v a.state g (map EndBase (map Numbered (base_regions_of v g))) a.works none)
 
 -- ---- Share
 

@@ -23,7 +23,7 @@ use Rattle.rgo_region_interpreter.specs.declared.holders.Holder.{Holder}
 use Rattle.rgo_region_interpreter.specs.declared.objects.Extent.{Extent}
 use Rattle.rgo_region_interpreter.specs.declared.worlds.World.{World}
 use Rattle.rgo_region_interpreter.specs.Holders.{Fills, HolderShows, Reserves, SameBindings, fill_in}
-use Rattle.rgo_region_interpreter.specs.Extents.{is_spread}
+use Rattle.rgo_region_interpreter.specs.Extents.{extent_is_spread}
 use Rattle.rgo_region_interpreter.specs.Objects.{AddsPage, WithPage}
 use Rattle.rgo_region_interpreter.specs.Tables.{is_gone, is_gone_in, pages_with, regions_with_page}
 use Rattle.rgo_region_interpreter.specs.Works.{Attended, Ready, Works}
@@ -160,7 +160,7 @@ pub record Pages (w v : World) (s : RegionState) (g : ℕ) (k : spec.Holder) : T
 module _ (w v : World) (s : RegionState) (g : ℕ) (ready : Ready w s g) (region : Region) (extent : Extent)
     (adds : AddsPage w v g region extent) (live : is_live s.regions region ≡ true)
     (fewer : w.table.taken - w.table.returned < w.sizes.pages) (fills : List (Region × ℕ)) (reserved : ℕ)
-    (after : PageShows ready.works.holder (is_spread w.sizes.page_words extent) region fills reserved)
+    (after : PageShows ready.works.holder (extent_is_spread w.sizes.page_words extent) region fills reserved)
     (steps : region_step w.code.now w.sizes.page_words s (TakePage g)
     ≡ Some (page_taken s g (record ready.works.holder { fills = fills; reserved = reserved }) region)) where
   abbrev h : spec.Holder
@@ -204,7 +204,7 @@ module _ (w v : World) (s : RegionState) (g : ℕ) (ready : Ready w s g) (region
   kept = there_is w s g [] ready.works
 
   paged : (d : Holder) × (v.holders.items ≡ slice_set w.holders.items g d)
-      × WithPage (is_spread w.sizes.page_words extent) kept.0 d region
+      × WithPage (extent_is_spread w.sizes.page_words extent) kept.0 d region
   paged = adds.changed kept.0 kept.1
 
   changes : Changes w now s next g kept.0 paged.0 h k

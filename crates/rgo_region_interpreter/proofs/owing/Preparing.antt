@@ -36,7 +36,7 @@ use Rattle.rgo_region_interpreter.specs.Attending.{CreatesAll, DoesAll, FailsToC
 use Rattle.rgo_region_interpreter.specs.Attending.{PendsBy}
 use Rattle.rgo_region_interpreter.specs.Orderly.{shares_in}
 use Rattle.rgo_region_interpreter.specs.Worlds.{OwesNext, Shown, next_creates}
-use Rattle.rgo_region_interpreter.specs.Works.{Attended, WorldAttends, Between, Falls, WorldHalts, IsNextOf, KeepsOthers, OthersOwe, Readies}
+use Rattle.rgo_region_interpreter.specs.Works.{Attended, WorldAttends, Between, Falls, WorldHalts, IsNextInWorld, KeepsOthers, OthersOwe, Readies}
 use Rattle.rgo_region_interpreter.specs.Works.{SameOthers, SameRun, StopsShort, Works, done_in, done_of}
 use Rattle.rgo_region_interpreter.proofs.owing.Attending.{attended_none, attended_then, attended_to, same_then}
 use Rattle.rgo_region_interpreter.proofs.holding.Orderly.{shares_shares}
@@ -433,7 +433,7 @@ tail_nil : (xs ys : List Duty) → xs ++ ys ≡ [] → ys ≡ []
 tail_nil [] ys e = e
 tail_nil (x ∷ xs) ys e = cc
 
-module _ (w : World) (g : ℕ) (next : Next) (at : IsNextOf w g next) (s : RegionState) (between : Between w s) where
+module _ (w : World) (g : ℕ) (next : Next) (at : IsNextInWorld w g next) (s : RegionState) (between : Between w s) where
   abbrev instr : CodeInstr
   instr = at.is.instr
 
@@ -662,7 +662,7 @@ silent_op (Jump target removes) i = refl
 silent_op (Branch test target removes other otherwise) i = refl
 silent_op (Return value) i = refl
 
-module _ (w v : World) (g : ℕ) (next : Next) (at : IsNextOf w g next) (creates : CreatesAll w v g at.is.instr.creates)
+module _ (w v : World) (g : ℕ) (next : Next) (at : IsNextInWorld w g next) (creates : CreatesAll w v g at.is.instr.creates)
     (s : RegionState) (between : Between w s) where
   abbrev code_instr : CodeInstr
   code_instr = at.is.instr
@@ -778,7 +778,7 @@ module _ (w v : World) (g : ℕ) (next : Next) (at : IsNextOf w g next) (creates
           done = shares.shares created.attended.state held nothing (omega (arith, count, few))
 
 -- why it stopped
-pub falls : (why : Halt) (w v : World) (g : ℕ) (next : Next) (at : IsNextOf w g next)
+pub falls : (why : Halt) (w v : World) (g : ℕ) (next : Next) (at : IsNextInWorld w g next)
     → FailsToCreate why w v g at.is.instr.creates → Falls why w v g
 falls halt.NoMemory w v g next at same = same
 falls (halt.NoRoom why) w v g next at stops = λ s between. stops_at w g next at s between v why stops

@@ -13,20 +13,20 @@ use Rattle.rgo_region_machine.specs.Owed.{formals_of, code_function, passed, pas
 use Rattle.rgo_region_machine.specs.Regions.{Bindings}
 use Rattle.rgo_region_interpreter.specs.declared.holders.Holder.{Holder}
 use Rattle.rgo_region_interpreter.specs.declared.worlds.World.{World}
-use Rattle.rgo_region_interpreter.specs.Calls.{BeginsOther, NamesStandFor, HolderStarted, or_nothing}
-use Rattle.rgo_region_interpreter.specs.Holders.{HolderBegins, FrameNames, frames_of, newest}
+use Rattle.rgo_region_interpreter.specs.Calls.{BeginsOther, NamesStandFor, HolderStarted, or_no_elements}
+use Rattle.rgo_region_interpreter.specs.Holders.{HolderBegins, FrameNames, frame_names_of, newest_frame_names}
 use Rattle.rgo_region_interpreter.specs.Worlds.{Prepared}
 use Rattle.rgo_region_interpreter.proofs.holding.OneHolder.{the_same}
 
 -- the region parameters that the world keeps of a function
 pub formals_kept : (w : World) (n : ℕ) → Prepared w
-    → or_nothing (slice_get (map (λ v. v.items) w.formals.items) n) ≡ formals_of (code_function w.code.now n)
+    → or_no_elements (slice_get (map (λ v. v.items) w.formals.items) n) ≡ formals_of (code_function w.code.now n)
 formals_kept w n prepared =
-    ap (λ l. or_nothing (slice_get l n)) prepared.formals
-    ∙ ap or_nothing (slice_get-map region_parameters w.code.now.functions n)
+    ap (λ l. or_no_elements (slice_get l n)) prepared.formals
+    ∙ ap or_no_elements (slice_get-map region_parameters w.code.now.functions n)
     ∙ go (code_function w.code.now n)
   where
-    go : (o : Option CodeFn) → or_nothing (option_map region_parameters o) ≡ formals_of o
+    go : (o : Option CodeFn) → or_no_elements (option_map region_parameters o) ≡ formals_of o
     go None = refl
     go (Some f) = refl
 
@@ -34,9 +34,9 @@ formals_kept w n prepared =
 pub begun_with : (w p : World) (g callee : ℕ) (instr : Option CodeInstr) (c d : Holder) (names : FrameNames) (base : List ℕ)
     (formals passes : List Class) (regions : List (Option Region)) → Prepared w → slice_get w.holders.items g ≡ Some c
     → p ≡ record w { holders = p.holders } → p.holders.items ≡ w.holders.items ++ d ∷ [] → HolderBegins d names base
-    → formals ≡ or_nothing (slice_get (map (λ v. v.items) w.formals.items) callee) → passes ≡ passes_in instr
-    → ((bindings : Bindings) → NamesStandFor (newest (frames_of c)) bindings → regions ≡ passed_regions bindings passes)
-    → ((bindings : Bindings) → NamesStandFor (newest (frames_of c)) bindings
+    → formals ≡ or_no_elements (slice_get (map (λ v. v.items) w.formals.items) callee) → passes ≡ passes_in instr
+    → ((bindings : Bindings) → NamesStandFor (newest_frame_names (frame_names_of c)) bindings → regions ≡ passed_regions bindings passes)
+    → ((bindings : Bindings) → NamesStandFor (newest_frame_names (frame_names_of c)) bindings
     → NamesStandFor names (passed formals (passed_regions bindings passes)))
     → map Numbered base ≡ twice regions
     → BeginsOther w p g (code_function w.code.now callee) instr
@@ -51,7 +51,7 @@ begun_with w p g callee instr c d names base formals passes regions prepared the
       );
     }
   where
-    fits : (bindings : Bindings) → NamesStandFor (newest (frames_of c)) bindings
+    fits : (bindings : Bindings) → NamesStandFor (newest_frame_names (frame_names_of c)) bindings
         → regions ≡ passed_regions bindings (passes_in instr)
     fits bindings same = regions_are bindings same ∙ ap (passed_regions bindings) passes_are
 

@@ -31,9 +31,9 @@ use Rattle.rgo_region_interpreter.specs.declared.holders.Holder.{Holder}
 use Rattle.rgo_region_interpreter.specs.declared.worlds.Next.{Next}
 use Rattle.rgo_region_interpreter.specs.declared.worlds.World.{World}
 use Rattle.rgo_region_interpreter.specs.Calls.{HolderCalled, EntersCall, bound_except}
-use Rattle.rgo_region_interpreter.specs.Holders.{HolderShows, FrameNames, SameElse, SameBindings, bound_in, fill_in, frames_of}
+use Rattle.rgo_region_interpreter.specs.Holders.{HolderShows, FrameNames, SameElse, SameBindings, bound_in, fill_in, frame_names_of}
 use Rattle.rgo_region_interpreter.specs.Objects.{MakesNone, making_by}
-use Rattle.rgo_region_interpreter.specs.Works.{CallsNext, IsNextOf, OthersOwe, Ready, SameRun, WorldSettled, TakesStep, WorldTakesTurn, Works}
+use Rattle.rgo_region_interpreter.specs.Works.{CallsNext, IsNextInWorld, OthersOwe, Ready, SameRun, WorldSettled, TakesStep, WorldTakesTurn, Works}
 use Rattle.rgo_region_interpreter.specs.Works.{goes_by}
 use Rattle.rgo_region_interpreter.proofs.acts.Acts.{ActsSo}
 use Rattle.rgo_region_interpreter.proofs.owing.Attending.{shown_holder, there_is}
@@ -120,7 +120,7 @@ module _ (c d : Holder) (h : spec.Holder) (function : Option CodeFn) (passes : L
           ∙ sym (except_all (given_names (function_result_class function) (formals_of function) passes protects)
           (top_names h.environments) j)
 
-      left : SameBindings (frames_of called.caller) (with_top h.environments (without_all (top_names h.environments)
+      left : SameBindings (frame_names_of called.caller) (with_top h.environments (without_all (top_names h.environments)
           (given_names (function_result_class function) (formals_of function) passes protects)))
       left = renamed c called.caller
           (bound_except (given_names (function_result_class function) (formals_of function) passes protects))
@@ -159,7 +159,7 @@ call_to (Branch test target removes other otherwise) t n f e = cc
 call_to (Return value) t n f e = cc
 
 -- it makes no object
-pub call_makes : (w : World) (g : ℕ) (next : Next) (callee : ℕ) → IsNextOf w g next → CallsNext next callee
+pub call_makes : (w : World) (g : ℕ) (next : Next) (callee : ℕ) → IsNextInWorld w g next → CallsNext next callee
     → MakesNone w g next
 call_makes w g next callee at calls =
     record { at = at; is = ap (making_by w.code.now.structs at.frame) calls.2 }

@@ -14,8 +14,8 @@ use Rattle.rgo_region_machine.specs.Regions.{Bindings}
 use Rattle.rgo_region_interpreter.specs.declared.holders.Holder.{Holder}
 use Rattle.rgo_region_interpreter.specs.declared.worlds.Next.{Next}
 use Rattle.rgo_region_interpreter.specs.declared.worlds.World.{World}
-use Rattle.rgo_region_interpreter.specs.Calls.{HolderCalled, EntersCall, NamesStandFor, UnbindsAll, or_nothing}
-use Rattle.rgo_region_interpreter.specs.Holders.{HolderEnters, FrameNames, frames_of, newest}
+use Rattle.rgo_region_interpreter.specs.Calls.{HolderCalled, EntersCall, NamesStandFor, UnbindsAll, or_no_elements}
+use Rattle.rgo_region_interpreter.specs.Holders.{HolderEnters, FrameNames, frame_names_of, newest_frame_names}
 use Rattle.rgo_region_interpreter.specs.Works.{IsNextOfSome}
 use Rattle.rgo_region_interpreter.specs.Worlds.{Prepared}
 use Rattle.rgo_region_interpreter.proofs.holding.OneHolder.{the_same}
@@ -24,14 +24,14 @@ use Rattle.rgo_region_interpreter.proofs.holding.OneHolder.{the_same}
 
 -- the region parameters of a function
 pub formals_found : (w : World) (all : List (Vec Class Global)) (n : ℕ) → all ≡ w.formals.items → Prepared w
-    → or_nothing (slice_get (map (λ v. v.items) all) n) ≡ formals_of (code_function w.code.now n)
+    → or_no_elements (slice_get (map (λ v. v.items) all) n) ≡ formals_of (code_function w.code.now n)
 formals_found w all n is prepared =
-    ap (λ l. or_nothing (slice_get (map (λ v. v.items) l) n)) is
-    ∙ ap (λ l. or_nothing (slice_get l n)) prepared.formals
-    ∙ ap or_nothing (slice_get-map region_parameters w.code.now.functions n)
+    ap (λ l. or_no_elements (slice_get (map (λ v. v.items) l) n)) is
+    ∙ ap (λ l. or_no_elements (slice_get l n)) prepared.formals
+    ∙ ap or_no_elements (slice_get-map region_parameters w.code.now.functions n)
     ∙ go (slice_get w.code.now.functions n)
   where
-    go : (o : Option CodeFn) → or_nothing (option_map region_parameters o) ≡ formals_of o
+    go : (o : Option CodeFn) → or_no_elements (option_map region_parameters o) ≡ formals_of o
     go None = refl
     go (Some f) = refl
 
@@ -57,10 +57,10 @@ protects_rise w next prepared some =
 
 -- names stand for the regions that are passed, by the lists that the code has
 pub passed_stand : (c : Holder) (read names : FrameNames) (formals parameters passes classes : List Class)
-    → formals ≡ parameters → passes ≡ classes → read ≡ newest (frames_of c)
+    → formals ≡ parameters → passes ≡ classes → read ≡ newest_frame_names (frame_names_of c)
     → ((bindings : Bindings) → NamesStandFor read bindings
     → NamesStandFor names (passed formals (passed_regions bindings passes)))
-    → (bindings : Bindings) → NamesStandFor (newest (frames_of c)) bindings
+    → (bindings : Bindings) → NamesStandFor (newest_frame_names (frame_names_of c)) bindings
     → NamesStandFor names (passed parameters (passed_regions bindings classes))
 passed_stand c read names formals parameters passes classes formals_are passes_are is stand bindings by =
     subst (NamesStandFor names) (λ i. passed (formals_are i) (passed_regions bindings (passes_are i)))
@@ -71,7 +71,7 @@ passed_stand c read names formals parameters passes classes formals_are passes_a
 module _ (c caller d : Holder) (function : Option CodeFn) (instr : Option CodeInstr) (read names : FrameNames) (lent : Class)
     (formals passes : List Class) (protects : List ℕ) (formals_are : formals ≡ formals_of function) (lent_is : lent ≡ function_result_class function)
     (passes_are : passes ≡ passes_in instr) (protects_are : protects ≡ protects_in instr)
-    (read_is : read ≡ newest (frames_of c)) where
+    (read_is : read ≡ newest_frame_names (frame_names_of c)) where
   pub called_so : UnbindsAll c caller (given_names lent formals passes protects) → HolderEnters caller d names
       → ((bindings : Bindings) → NamesStandFor read bindings
       → NamesStandFor names (passed formals (passed_regions bindings passes)))

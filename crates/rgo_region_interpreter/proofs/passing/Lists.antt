@@ -18,36 +18,36 @@ use Rattle.rgo_region_machine.specs.declared.regions.Region.TheVariants.{Global 
 use Rattle.rgo_region_machine.specs.Owed.{passed, passed_regions, given_names, same_class, stands_in, twice}
 use Rattle.rgo_region_machine.specs.Regions.{Bindings, bound, class_region, same_region}
 use Rattle.rgo_region_interpreter.specs.declared.holders.Holder.{Holder}
-use Rattle.rgo_region_interpreter.specs.Calls.{NamesStandFor, UnbindsAll, class_in, bound_except, bound_first, or_else}
+use Rattle.rgo_region_interpreter.specs.Calls.{NamesStandFor, UnbindsAll, class_region_in, bound_except, bound_first, or_region}
 use Rattle.rgo_region_interpreter.specs.Holders.{FrameNames, Same, SameElse, Unbinds, bound_in, bound_with, bound_without}
 use Rattle.rgo_sound.proofs.Tests.{nat_eq_refl}
 
 -- ---- the regions that are passed
 
 class_same : (names : FrameNames) (bindings : Bindings) → NamesStandFor names bindings → (c : Class)
-    → class_in names c ≡ class_region bindings c
+    → class_region_in names c ≡ class_region bindings c
 class_same names bindings same NoClass = refl
 class_same names bindings same Global = refl
 class_same names bindings same (Name k) = same k
 
 pub regions_same : (names : FrameNames) (bindings : Bindings) → NamesStandFor names bindings → (cs : List Class)
-    → map (class_in names) cs ≡ passed_regions bindings cs
+    → map (class_region_in names) cs ≡ passed_regions bindings cs
 regions_same names bindings same [] = refl
 regions_same names bindings same (c ∷ cs) =
-    ap (λ r. r ∷ map (class_in names) cs) (class_same names bindings same c)
+    ap (λ r. r ∷ map (class_region_in names) cs) (class_same names bindings same c)
     ∙ ap (λ rs. class_region bindings c ∷ rs) (regions_same names bindings same cs)
 
 -- the region that is passed at a place
 pub region_at : (names : FrameNames) (cs : List Class) (i : ℕ) → i < length cs
-    → get_or (map (class_in names) cs) i None ≡ class_in names (get_or cs i NoClass)
-region_at names cs i h = get_or-map (class_in names) cs i NoClass None h
+    → get_or (map (class_region_in names) cs) i None ≡ class_region_in names (get_or cs i NoClass)
+region_at names cs i h = get_or-map (class_region_in names) cs i NoClass None h
 
-pub region_within : (names : FrameNames) (cs : List Class) (i : ℕ) → i < length cs → i < length (map (class_in names) cs)
+pub region_within : (names : FrameNames) (cs : List Class) (i : ℕ) → i < length cs → i < length (map (class_region_in names) cs)
 region_within names cs i h = rw length-map h
 
 -- ---- the names that are given
 
-pub or_none_same : (o : Option Region) → or_else o None ≡ o
+pub or_none_same : (o : Option Region) → or_region o None ≡ o
 or_none_same (Some r) = refl
 or_none_same None = refl
 
@@ -125,7 +125,7 @@ pub first_none : (names : FrameNames) (name : ℕ) (passed : Option Region) (k :
 first_none names name (Some region) k none = absurd (none region refl)
 first_none names name None k none = go (nat_eq name k) (bound_in names k)
   where
-    go : (t : Bool) (o : Option Region) → o ≡ or_else o (if t then None else None)
+    go : (t : Bool) (o : Option Region) → o ≡ or_region o (if t then None else None)
     go t (Some r) = refl
     go true None = refl
     go false None = refl
@@ -136,7 +136,7 @@ pub first_kept : (names : FrameNames) (name : ℕ) (passed : Option Region) (oth
 first_kept names name passed other k some =
     go (nat_eq name k) (bound_in names k) (λ t. ap (bound_in names) (sym (eqb-true name k t)) ∙ some)
   where
-    go : (t : Bool) (o : Option Region) → (t ≡ true → o ≡ Some other) → o ≡ or_else o (if t then passed else None)
+    go : (t : Bool) (o : Option Region) → (t ≡ true → o ≡ Some other) → o ≡ or_region o (if t then passed else None)
     go t (Some r) f = refl
     go true None f = absurd (none_some other (f refl))
     go false None f = refl
@@ -149,7 +149,7 @@ first_new names after name region k none is =
     is ∙ go (nat_eq name k) (bound_in names k) (λ t. ap (bound_in names) (sym (eqb-true name k t)) ∙ none)
   where
     go : (t : Bool) (o : Option Region) → (t ≡ true → o ≡ None)
-        → (if t then Some region else o) ≡ or_else o (if t then Some region else None)
+        → (if t then Some region else o) ≡ or_region o (if t then Some region else None)
     go true (Some r) f = absurd (none_some r (sym (f refl)))
     go true None f = refl
     go false (Some r) f = refl
@@ -157,22 +157,22 @@ first_new names after name region k none is =
 
 given_first : (names after : FrameNames) (name : ℕ) (passed_for : Option Region) (fs : List Class) (rs : List (Option Region)) (k : ℕ)
     → bound_in after k ≡ bound_first names name passed_for k
-    → or_else (bound_in after k) (bound (passed fs rs) k)
-    ≡ or_else (bound_in names k) (bound (passed (Name name ∷ fs) (passed_for ∷ rs)) k)
+    → or_region (bound_in after k) (bound (passed fs rs) k)
+    ≡ or_region (bound_in names k) (bound (passed (Name name ∷ fs) (passed_for ∷ rs)) k)
 given_first names after name None fs rs k is =
-    ap (λ o. or_else o (bound (passed fs rs) k)) is ∙ go (nat_eq name k) (bound_in names k)
+    ap (λ o. or_region o (bound (passed fs rs) k)) is ∙ go (nat_eq name k) (bound_in names k)
   where
     go : (t : Bool) (o : Option Region)
-        → or_else (or_else o (if t then None else None)) (bound (passed fs rs) k) ≡ or_else o (bound (passed fs rs) k)
+        → or_region (or_region o (if t then None else None)) (bound (passed fs rs) k) ≡ or_region o (bound (passed fs rs) k)
     go t (Some r) = refl
     go true None = refl
     go false None = refl
 given_first names after name (Some region) fs rs k is =
-    ap (λ o. or_else o (bound (passed fs rs) k)) is ∙ go (nat_eq name k) (bound_in names k)
+    ap (λ o. or_region o (bound (passed fs rs) k)) is ∙ go (nat_eq name k) (bound_in names k)
   where
     go : (t : Bool) (o : Option Region)
-        → or_else (or_else o (if t then Some region else None)) (bound (passed fs rs) k)
-        ≡ or_else o (if t then Some region else bound (passed fs rs) k)
+        → or_region (or_region o (if t then Some region else None)) (bound (passed fs rs) k)
+        ≡ or_region o (if t then Some region else bound (passed fs rs) k)
     go t (Some r) = refl
     go true None = refl
     go false None = refl
@@ -345,11 +345,11 @@ not_named class is k named = ⊎_elim (λ e. cc) (λ e. cc) is
 pub step_first : (fs : List Class) (rs : List (Option Region)) (i : ℕ) (names after : FrameNames) (name : ℕ) (r : Option Region) (k : ℕ)
     → i < length fs → i < length rs → get_or fs i NoClass ≡ Name name → get_or rs i None ≡ r
     → bound_in after k ≡ bound_first names name r k
-    → or_else (bound_in after k) (bound (passed (drop (i + 1) fs) (drop (i + 1) rs)) k)
-    ≡ or_else (bound_in names k) (bound (passed (drop i fs) (drop i rs)) k)
+    → or_region (bound_in after k) (bound (passed (drop (i + 1) fs) (drop (i + 1) rs)) k)
+    ≡ or_region (bound_in names k) (bound (passed (drop i fs) (drop i rs)) k)
 step_first fs rs i names after name r k a b f e is =
     given_first names after name r (drop (i + 1) fs) (drop (i + 1) rs) k is
-    ∙ ap (λ p. or_else (bound_in names k) (bound p k))
+    ∙ ap (λ p. or_region (bound_in names k) (bound p k))
     (sym (passed_at fs rs i NoClass None a b
     ∙ ap (λ x. passed (x ∷ drop (i + 1) fs) (get_or rs i None ∷ drop (i + 1) rs)) f
     ∙ ap (λ x. passed (Name name ∷ drop (i + 1) fs) (x ∷ drop (i + 1) rs)) e))

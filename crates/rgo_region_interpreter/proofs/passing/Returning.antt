@@ -39,8 +39,8 @@ use Rattle.rgo_region_interpreter.specs.declared.worlds.World.{World}
 use Rattle.rgo_region_interpreter.specs.Calls.{LeavesCall}
 use Rattle.rgo_region_interpreter.specs.Holders.{HolderReturns, HolderShows, fill_in}
 use Rattle.rgo_region_interpreter.specs.Objects.{MakesNone, making_by}
-use Rattle.rgo_region_interpreter.specs.Works.{IsCallBelow, IsNext, IsNextOf, NoCallBelow, OthersOwe, Ready, WorldSettled, TakesStep}
-use Rattle.rgo_region_interpreter.specs.Works.{WorldTakesTurn, Works, goes_by, instr_of}
+use Rattle.rgo_region_interpreter.specs.Works.{IsCallBelow, IsNextInFrame, IsNextInWorld, NoCallBelow, OthersOwe, Ready, WorldSettled, TakesStep}
+use Rattle.rgo_region_interpreter.specs.Works.{WorldTakesTurn, Works, goes_by, current_instr}
 use Rattle.rgo_region_interpreter.proofs.acts.Acts.{ActsSo}
 use Rattle.rgo_region_interpreter.proofs.owing.Attending.{shown_holder, there_is}
 use Rattle.rgo_region_interpreter.proofs.holding.Holding.{return_shown}
@@ -68,7 +68,7 @@ returns_op (Return v) value e = ap Return (the_value v value e)
     the_value a b e = cc
 
 -- it makes no object
-pub return_makes_none : (w : World) (g : ℕ) (next : Next) (value : Option ℕ) → IsNextOf w g next
+pub return_makes_none : (w : World) (g : ℕ) (next : Next) (value : Option ℕ) → IsNextInWorld w g next
     → operation_of next.op ≡ tac.Return value → MakesNone w g next
 return_makes_none w g next value at is = record { at = at; is = ap (making_by w.code.now.structs at.frame) is }
 
@@ -96,7 +96,7 @@ first_waits code caller callers (e ∷ es) all = (e, all.0)
 
 -- the last but one of the frames that the code keeps is the caller of the newest one
 pub call_shows : (w : World) (items : List TacFrame) (n : ℕ) (caller : TacFrame) (o : Option Next) → n ≡ length items → 2 ≤ n
-    → caller ≡ get_or items (n - 2) caller → MatchOption o (instr_of w caller ≡ None) (IsNext w.code.now caller)
+    → caller ≡ get_or items (n - 2) caller → MatchOption o (current_instr w caller ≡ None) (IsNextInFrame w.code.now caller)
     → (frame : TacFrame) (callers : List TacFrame) → reverse items ≡ frame ∷ callers
     → MatchOption o (NoCallBelow w callers) (IsCallBelow w callers)
 call_shows w items n caller o len two is found frame callers e = go o found
@@ -107,9 +107,9 @@ call_shows w items n caller o len two is found frame callers e = go o found
     first : (c : TacFrame) (others : List TacFrame) → callers ≡ c ∷ others → caller ≡ c
     first c others q = let z : caller ∷ drop 2 (reverse items) ≡ c ∷ others = sym there ∙ q in cc
 
-    go : (o : Option Next) → MatchOption o (instr_of w caller ≡ None) (IsNext w.code.now caller)
+    go : (o : Option Next) → MatchOption o (current_instr w caller ≡ None) (IsNextInFrame w.code.now caller)
         → MatchOption o (NoCallBelow w callers) (IsCallBelow w callers)
-    go None none = λ c others q. subst (λ f. instr_of w f ≡ None) (first c others q) none
+    go None none = λ c others q. subst (λ f. current_instr w f ≡ None) (first c others q) none
     go (Some next) here = (caller, drop 2 (reverse items), there, here)
 
 -- ---- what the goroutine does
@@ -249,7 +249,7 @@ module _ (w v : World) (s : RegionState) (limits : Limits) (g : ℕ) (next : Nex
         caller : TacFrame
         caller = at_call.0
 
-        called : IsNext w.code.now at_call.0 call
+        called : IsNextInFrame w.code.now at_call.0 call
         called = at_call.3
 
         waits : (e : RegionEnvironment) × Waits w.code.now at_call.0 e

@@ -34,7 +34,7 @@ use Rattle.rgo_region_interpreter.specs.declared.worlds.World.{World}
 use Rattle.rgo_region_interpreter.specs.Calls.{BeginsOther, NamesStandFor, HolderStarted}
 use Rattle.rgo_region_interpreter.specs.Holders.{HolderShows, fill_in}
 use Rattle.rgo_region_interpreter.specs.Objects.{MakesNone, making_by}
-use Rattle.rgo_region_interpreter.specs.Works.{BothWork, IsNextOf, Ready, SameRun, WorldSettled, StartsNext, TakesStep, WorldTakesTurn}
+use Rattle.rgo_region_interpreter.specs.Works.{BothWork, IsNextInWorld, Ready, SameRun, WorldSettled, StartsNext, TakesStep, WorldTakesTurn}
 use Rattle.rgo_region_interpreter.specs.Works.{Works, goes_by}
 use Rattle.rgo_region_interpreter.specs.Worlds.{HoldersShow, OwesNext}
 use Rattle.rgo_region_interpreter.proofs.acts.Acts.{ActsSo}
@@ -114,7 +114,7 @@ is_start (Branch test target removes other otherwise) n f e = cc
 is_start (Return value) n f e = cc
 
 -- it makes no object
-abbrev pub start_makes_none : (w : World) (g : ℕ) (next : Next) (callee : ℕ) → IsNextOf w g next
+abbrev pub start_makes_none : (w : World) (g : ℕ) (next : Next) (callee : ℕ) → IsNextInWorld w g next
     → StartsNext next callee → MakesNone w g next
 start_makes_none w g next callee at starts =
     record { at = at; is = ap (making_by w.code.now.structs at.frame) starts.1 }
@@ -129,7 +129,7 @@ last_at (f ∷ g ∷ fs) (suc n) e = last_at (g ∷ fs) n (omega (arith, e))
 -- ---- its turn
 
 module _ (w v : World) (s : RegionState) (limits : Limits) (g : ℕ) (next : Next) (callee : ℕ) (turned : Turned)
-    (ready : Ready w s g) (at : IsNextOf w g next) (starts : StartsNext next callee)
+    (ready : Ready w s g) (at : IsNextInWorld w g next) (starts : StartsNext next callee)
     (takes : WorldTakesTurn w v limits g turned) where
   abbrev makes : MakesNone w g next
   makes = start_makes_none w g next callee at starts

@@ -45,7 +45,7 @@ use Rattle.rgo_code.specs.declared.rules.Rule.TheVariants as rule
 use Rattle.rgo_region_machine.specs.declared.regions.Region.{Region}
 use Rattle.rgo_region_machine.specs.declared.regions.Region.TheVariants.{Numbered}
 use Rattle.rgo_region_machine.specs.Duties.{attended, may_go}
-use Rattle.rgo_region_machine.specs.Instructions.{both_instructed, has_none, instruct, is_ready, marked, plain_after}
+use Rattle.rgo_region_machine.specs.Instructions.{both_instructed, has_none, instruct, is_ready, mark_with_end, plain_after}
 use Rattle.rgo_region_machine.specs.Instructions.{printed_if, side_after, standing_at, touches}
 use Rattle.rgo_region_machine.specs.Machine.{Acknowledge, Instruct, MakeOffer, region_step}
 use Rattle.rgo_region_machine.specs.Objects.{fill_of, may_touch, owner_live, touched, touched_by}
@@ -75,7 +75,7 @@ use Rattle.rgo_region_interpreter.specs.declared.worlds.World.{World}
 use Rattle.rgo_region_interpreter.specs.Holders.{HolderShows, fill_in}
 use Rattle.rgo_region_interpreter.specs.Orderly.{Orderly}
 use Rattle.rgo_region_interpreter.specs.Tables.{RegionTableShows}
-use Rattle.rgo_region_interpreter.specs.Works.{Between, BothWork, GoroutineHasNoNext, IsNextOf, WorldMeets, WorldSettled, first_of}
+use Rattle.rgo_region_interpreter.specs.Works.{Between, BothWork, GoroutineHasNoNext, IsNextInWorld, WorldMeets, WorldSettled, first_frame_of}
 use Rattle.rgo_region_interpreter.specs.Worlds.{HoldersShow, OwesNext, Prepared, Shown, next_creates}
 use Rattle.rgo_region_interpreter.proofs.owing.Attending.{leads_append}
 use Rattle.rgo_region_interpreter.proofs.lifting.Good.{StateShows, StepShows, plain_at_after, shown_after, shown_none, shown_step}
@@ -296,7 +296,7 @@ pub record MeetsBy (code : Code) (sizes : Sizes) (s : RegionState) (r u : ℕ) (
   pub good : AllGood code state
   pub orderly : Orderly code state
   pub plain : state.plain ≡ plain_after s next
-  pub mark : state.mark ≡ marked s.mark next.ended
+  pub mark : state.mark ≡ mark_with_end s.mark next.ended
   pub owners : state.owners ≡ s.owners
   pub regions : state.regions ≡ s.regions
   pub global_pages : state.global_pages ≡ s.global_pages
@@ -409,7 +409,7 @@ module _ (code : Code) (sizes : Sizes) (s : RegionState) (r u : ℕ) (next : Tac
     plain = plain_after t1 next;
     holders = slice_set (slice_set t1.holders r receiver_after) u taken;
     steps = t1.steps + 1;
-    mark = marked t1.mark next.ended;
+    mark = mark_with_end t1.mark next.ended;
   }
 
   ready_r : is_ready code t1 h (frames_of s.plain r) ≡ true
@@ -536,7 +536,7 @@ module _ (code : Code) (sizes : Sizes) (s : RegionState) (r u : ℕ) (next : Tac
 no_next : (w : World) (g : ℕ) (frame : TacFrame) (callers : List TacFrame) (instr : CodeInstr)
     → slice_get w.state.goroutines g ≡ Some (frame ∷ callers) → current w.code.now frame ≡ Some instr → GoroutineHasNoNext w g
     → ⊥
-no_next w g frame callers instr at cur none = none_some (sym (none frame (ap first_of at)) ∙ cur)
+no_next w g frame callers instr at cur none = none_some (sym (none frame (ap first_frame_of at)) ∙ cur)
 
 -- so there is no meeting, where one of the two has none
 pub no_meeting : (w : World) (s : RegionState) (r u : ℕ) → Between w s → GoroutineHasNoNext w r ⊎ GoroutineHasNoNext w u
@@ -599,7 +599,7 @@ removes_are : (frame : TacFrame) (op : CodeOp) (to : Option ℕ) (action : Actio
 removes_are frame op to action from removes is = ap removes_of is ∙ sym (ap (removes_behind frame) is)
 
 -- the next instruction of a goroutine, from another view of its frames
-next_instr : (w : World) (g : ℕ) (next : Next) (at : IsNextOf w g next) (frame : TacFrame) (callers : List TacFrame)
+next_instr : (w : World) (g : ℕ) (next : Next) (at : IsNextInWorld w g next) (frame : TacFrame) (callers : List TacFrame)
     (instr : CodeInstr) → slice_get w.state.goroutines g ≡ Some (frame ∷ callers)
     → current w.code.now frame ≡ Some instr → at.is.instr ≡ instr
 next_instr w g next at frame callers instr e cur =
@@ -736,7 +736,7 @@ module _ (w v : World) (s : RegionState) (r u : ℕ) (between : Between w s)
   not_ended = ap (λ (p : TacState). p.ended) both.is ∙ both.running
 
   still : t.mark ≡ None
-  still = done.mark ∙ ap (marked s.mark) not_ended ∙ ap (λ m. marked m None) between.running
+  still = done.mark ∙ ap (mark_with_end s.mark) not_ended ∙ ap (λ m. mark_with_end m None) between.running
 
   state_now : StateShows v.state t
   state_now = shown_after w.code.now s between.prepared.checked between.good w.state shows between.running (Meet r u)
@@ -869,7 +869,7 @@ module _ (w v : World) (s : RegionState) (r u : ℕ) (between : Between w s)
 
   -- ---- what is owed after it
 
-  module _ (receives sends : Next) (at_r : IsNextOf w r receives) (at_u : IsNextOf w u sends) (received sent : List ℕ)
+  module _ (receives sends : Next) (at_r : IsNextInWorld w r receives) (at_u : IsNextInWorld w u sends) (received sent : List ℕ)
       (received_is : received ≡ removes_in (slice_get receives.function.body receives.at))
       (sent_is : sent ≡ removes_in (slice_get sends.function.body sends.at)) where
     in_w : (g : ℕ) (frames : List TacFrame) → slice_get s.plain.goroutines g ≡ Some frames

@@ -27,7 +27,7 @@ use Rattle.rgo_region_machine.specs.Regions.{RegionInfo}
 use Rattle.rgo_region_machine.specs.States.{RegionState, plain_at}
 use Rattle.rgo_sound.specs.Good.{AllGood}
 use Rattle.rgo_region_interpreter.specs.Tables.{is_gone, kept_memory}
-use Rattle.rgo_region_interpreter.specs.Works.{goes_by, without_regions}
+use Rattle.rgo_region_interpreter.specs.Works.{goes_by, plain_turn_end}
 use Rattle.rgo_region_interpreter.proofs.lifting.Steps.{Keeps, StepsAlike, none_of_whole}
 use Rattle.rgo_region_interpreter.proofs.lifting.Good.{StateShows, StepShows, shown_keeps, shown_step, shown_steps_alike}
 use Rattle.rgo_region_interpreter.proofs.lifting.Memory.{IsLost, IsSafe, Steady, kept_get}
@@ -157,7 +157,7 @@ nothing_printed s bytes = refl
 -- the same turn, where want of room for regions counts as want of memory
 pub turns_without_regions : (code : Code) (limits : Limits) (k k' : TacState) (g at_most : ℕ) (turned : Turned)
     → Turns (tac (erased code)) limits k k' g at_most turned → Turns (tac (erased code)) limits k k' g at_most
-    (record { steps = turned.steps; stop = without_regions turned.stop })
+    (record { steps = turned.steps; stop = plain_turn_end turned.stop })
 turns_without_regions code limits k k' g at_most turned turns = record {
   leads = turns.leads;
   within = turns.within;
@@ -167,19 +167,19 @@ turns_without_regions code limits k k' g at_most turned turns = record {
 }
   where
     over : (s : TurnEnd) → IsOver (tac (erased code)) limits k' g at_most turned.steps s
-        → IsOver (tac (erased code)) limits k' g at_most turned.steps (without_regions s)
+        → IsOver (tac (erased code)) limits k' g at_most turned.steps (plain_turn_end s)
     over (stop.NoRoom why) x = x
     over s x = x
 
-    channels : (s : TurnEnd) → ChangesChannels s k.memory k'.memory → ChangesChannels (without_regions s) k.memory k'.memory
+    channels : (s : TurnEnd) → ChangesChannels s k.memory k'.memory → ChangesChannels (plain_turn_end s) k.memory k'.memory
     channels (stop.NoRoom why) x = x
     channels s x = x
 
-    print : (s : TurnEnd) → ChangesPrint s k.printed k'.printed → ChangesPrint (without_regions s) k.printed k'.printed
+    print : (s : TurnEnd) → ChangesPrint s k.printed k'.printed → ChangesPrint (plain_turn_end s) k.printed k'.printed
     print (stop.NoRoom why) x = x
     print s x = x
 
-pub never_no_room : (s : TurnEnd) (why : Shortage) → without_regions s ≡ stop.NoRoom why → ⊥
+pub never_no_room : (s : TurnEnd) (why : Shortage) → plain_turn_end s ≡ stop.NoRoom why → ⊥
 never_no_room (stop.NoRoom why') why e = cc
 never_no_room stop.Spent why e = cc
 never_no_room stop.Waits why e = cc

@@ -31,7 +31,7 @@ use Rattle.rgo_sound.proofs.offers.Offers.{runs_are_good}
 use Rattle.rgo_sound.proofs.counts.Room.{room_is_kept}
 use Rattle.rgo_region_interpreter.specs.declared.worlds.World.{World}
 use Rattle.rgo_region_interpreter.specs.Views.{view_of}
-use Rattle.rgo_region_interpreter.specs.Works.{Between, IsOn, WorldMeets, SamePrint, WorldStarts, WorldTakesSteps, TakesStep, TriesMeeting}
+use Rattle.rgo_region_interpreter.specs.Works.{Between, WorldIsBetween, WorldMeets, SamePrint, WorldStarts, WorldTakesSteps, TakesStep, TriesMeeting}
 use Rattle.rgo_region_interpreter.specs.Worlds.{HoldersShow, Prepared, WorldReaches, Shown, IsWorldAt}
 use Rattle.rgo_region_interpreter.proofs.owing.Attending.{leads_append}
 use Rattle.rgo_region_interpreter.proofs.lifting.Steps.{none_of_kept}
@@ -156,7 +156,7 @@ same_fixed w v code sizes = λ i. (code i, sizes i)
 
 -- ---- turns
 
-pub is_on : (w : World) (limits : Limits) → driver.IsOn limits (view_of w) → IsOn w limits
+pub is_on : (w : World) (limits : Limits) → driver.IsOn limits (view_of w) → WorldIsBetween w limits
 is_on w limits on = record {
   state = on.shown.reaches.state;
   between = stands_between w on.given on.state on.shown on.on.running;
@@ -211,7 +211,7 @@ module _ (w v : World) (limits : Limits) (g at_most : ℕ) (turned : Turned)
 
 module _ (w v : World) (receiver sender : ℕ) where
   -- the code and the sizes are the same
-  same_after : (tried : Result Bool AllocError) → TriesMeeting w v receiver sender tried → driver.IsRunning (view_of w)
+  same_after : (tried : Result Bool AllocError) → TriesMeeting w v receiver sender tried → driver.IsNotEnded (view_of w)
       → (v.code.now ≡ w.code.now) × (v.sizes ≡ w.sizes)
   same_after (Ok true) tries on = let x = tries on.shown.reaches.state
       (stands_between w on.given on.state on.shown on.running) in (x.code, x.sizes)
@@ -219,11 +219,11 @@ module _ (w v : World) (receiver sender : ℕ) where
   same_after (Err e) tries on = (tries.code, tries.sizes)
 
   pub meet_machine : (tried : Result Bool AllocError) → TriesMeeting w v receiver sender tried
-      → driver.IsRunning (view_of w) → ◌≡◌ {A = Machine TacFrame} (tac (erased v.code.now)) (tac (erased w.code.now))
+      → driver.IsNotEnded (view_of w) → ◌≡◌ {A = Machine TacFrame} (tac (erased v.code.now)) (tac (erased w.code.now))
   meet_machine tried tries on = same_machine w v (same_after tried tries on).0
 
   pub meet_fixed : (tried : Result Bool AllocError) → TriesMeeting w v receiver sender tried
-      → driver.IsRunning (view_of w) → ◌≡◌ {A = Code × Sizes} (v.code.now, v.sizes) (w.code.now, w.sizes)
+      → driver.IsNotEnded (view_of w) → ◌≡◌ {A = Code × Sizes} (v.code.now, v.sizes) (w.code.now, w.sizes)
   meet_fixed tried tries on = same_fixed w v (same_after tried tries on).0 (same_after tried tries on).1
 
   module _ (given : List ℕ) (p : TacState) (at : IsWorldAt w given p) (on : p.ended ≡ None) where

@@ -27,8 +27,8 @@ use Rattle.rgo_region_interpreter.specs.declared.worlds.Halt.{Halt}
 use Rattle.rgo_region_interpreter.specs.declared.worlds.Halt.TheVariants as halt
 use Rattle.rgo_region_interpreter.specs.declared.worlds.Next.{Next}
 use Rattle.rgo_region_interpreter.specs.declared.worlds.World.{World}
-use Rattle.rgo_region_interpreter.specs.Works.{ActsBy, Between, Falls, GoroutineHasNoNext, IsNext, IsNextOf, IsOn, IsReady, Readies, Ready}
-use Rattle.rgo_region_interpreter.specs.Works.{WorldTakesSteps, TakesStep, first_of, halted}
+use Rattle.rgo_region_interpreter.specs.Works.{ActsBy, Between, Falls, GoroutineHasNoNext, IsNextInFrame, IsNextInWorld, WorldIsBetween, WorldIsReady, Readies, Ready}
+use Rattle.rgo_region_interpreter.specs.Works.{WorldTakesSteps, TakesStep, first_frame_of, halted}
 use Rattle.rgo_region_interpreter.proofs.holding.OneHolder.{none_some}
 use Rattle.rgo_region_interpreter.proofs.stepping.Taking.{plain_at_same, takes_after, takes_nothing, takes_short}
 
@@ -77,7 +77,7 @@ takes_wait w limits g no_next s between within = record {
     no_frames (Some []) e = refl
     no_frames (Some (frame ∷ callers)) e =
         absurd (stands_at_one w s g between frame callers e
-        (no_next frame (ap (λ gs. first_of (slice_get gs g)) between.shown.goroutines ∙ ap first_of e)))
+        (no_next frame (ap (λ gs. first_frame_of (slice_get gs g)) between.shown.goroutines ∙ ap first_frame_of e)))
 
     no_step : step_by (tac (erased w.code.now)) (plain_at s w.state.printed) (One g) ≡ None
     no_step =
@@ -95,7 +95,7 @@ takes_halt w v limits g (halt.NoRoom why) stops s between within =
 -- ---- it was all done
 
 module _ (w v : World) (limits : Limits) (g : ℕ) (readied : (s : RegionState) → Between w s → Readies w v s g) where
-  pub ready_then : IsOn w limits → IsReady v limits g
+  pub ready_then : WorldIsBetween w limits → WorldIsReady v limits g
   ready_then on = record {
     state = r.attended.state;
     ready = r.ready;
@@ -107,12 +107,12 @@ module _ (w v : World) (limits : Limits) (g : ℕ) (readied : (s : RegionState) 
       r = readied on.state on.between
 
   -- the next instruction is still the same
-  pub next_then : (next : Next) → IsOn w limits → IsNextOf w g next → IsNextOf v g next
+  pub next_then : (next : Next) → WorldIsBetween w limits → IsNextInWorld w g next → IsNextInWorld v g next
   next_then next on at = record {
     frame = at.frame;
     callers = at.callers;
     frames = ap (λ gs. slice_get gs g) goroutines ∙ at.frames;
-    is = subst (λ code. IsNext code at.frame next) (sym r.attended.same.code) at.is;
+    is = subst (λ code. IsNextInFrame code at.frame next) (sym r.attended.same.code) at.is;
   }
     where
       r : Readies w v on.state g

@@ -16,7 +16,7 @@ use Rattle.rgo_tac.specs.Tac.{TacState, tac}
 use Rattle.rgo_code.specs.Code.{Code}
 use Rattle.rgo_code.specs.Erasure.{erased}
 use Rattle.rgo_region_machine.specs.declared.regions.Region.{Region}
-use Rattle.rgo_region_machine.specs.Instructions.{marked, plain_after, printed_if}
+use Rattle.rgo_region_machine.specs.Instructions.{mark_with_end, plain_after, printed_if}
 use Rattle.rgo_region_machine.specs.Machine.{Event, Instruct, region_step}
 use Rattle.rgo_region_machine.specs.Owed.{next_duties}
 use Rattle.rgo_region_machine.specs.Room.{roomy_step, LacksIn}
@@ -222,7 +222,7 @@ module _ (w v : World) (s : RegionState) (limits : Limits) (g : ℕ) (turned : T
   module _ (one : turned.steps ≡ 1) (t : RegionState)
       (step : region_step w.code.now w.sizes.page_words s (Instruct (One g)) ≡ Some t)
       (plain : t.plain ≡ plain_after s (shows_step one).next)
-      (mark : t.mark ≡ marked s.mark (shows_step one).next.ended) (more : List Region)
+      (mark : t.mark ≡ mark_with_end s.mark (shows_step one).next.ended) (more : List Region)
       (none_gone : NoneGone s.regions more) (regions : t.regions ≡ s.regions) (owners : t.owners ≡ s.owners ++ more)
     where
       pub good_after : AllGood w.code.now t

@@ -26,7 +26,7 @@ use Rattle.rgo_sound.specs.Core.{NameInvariant}
 use Rattle.rgo_sound.specs.Holding.{is_mine}
 use Rattle.rgo_sound.specs.Invariant.{AllWait, AreProtections, EachOnce, GoodHolder, HasInstr, IsCall, IsFree, IsReady}
 use Rattle.rgo_sound.specs.Invariant.{Left, Settled, bound_times, same_bound}
-use Rattle.rgo_sound.specs.Stakes.{one_if, times_in}
+use Rattle.rgo_sound.specs.Stakes.{one_when, times_in}
 use Rattle.rgo_tac.specs.Frames.{TacFrame}
 use Rattle.rgo_tac.specs.declared.regions.Class.{Class}
 use Rattle.rgo_tac.specs.declared.regions.Class.TheVariants.{Global, Name, NoClass}
@@ -278,9 +278,9 @@ calls_on code fn callee frame entered callers call next to n from passes protect
         (given_names (result_class callee) (region_parameters callee) passes protects)) ks
     same r [] z = refl
     same r (k ∷ ks) z =
-        let a : one_if (same_bound r (bound f.names k)) ≡ one_if
+        let a : one_when (same_bound r (bound f.names k)) ≡ one_when
         (same_bound r (bound (without_all f.names (given_names (result_class callee) (region_parameters callee)
-        passes protects)) k)) = ap (λ x. one_if (same_bound r x))
+        passes protects)) k)) = ap (λ x. one_when (same_bound r x))
         (sym (left_other (given_names (result_class callee) (region_parameters callee) passes protects) f.names k
         (z k (contains_here k ks)))) in
         let b' = same r ks (λ j c. z j (contains_there k ks j c)) in

@@ -19,7 +19,7 @@ use Rattle.rgo_code.specs.Names.{LeavesToCallee, IsPassedForResult, callee_regio
 use Rattle.rgo_code.specs.Names.{parameter_classes, region_parameters, result_class}
 use Rattle.rgo_region_machine.specs.Owed.{code_function, given_names, same_class}
 use Rattle.rgo_region_machine.specs.Regions.{Bindings}
-use Rattle.rgo_sound.specs.Stakes.{one_if, times_in}
+use Rattle.rgo_sound.specs.Stakes.{one_when, times_in}
 use Rattle.rgo_tac.specs.declared.regions.Class.{Class}
 use Rattle.rgo_tac.specs.declared.regions.Class.TheVariants.{Global, Name, NoClass}
 
@@ -152,10 +152,10 @@ module _ (lent : Class) (protects : List ℕ) where
       ap (λ x. list_any (nat_eq x) protects || same_class c lent) rj ∙ ap (λ x. x || same_class c lent) n
       ∙ ap (λ x. same_class x lent) fc ∙ l in
       let is : times_in k (given_names lent (c ∷ formals) (Name j ∷ regions) protects)
-      ≡ one_if (nat_eq k j) + times_in k (given_names lent formals regions protects) =
+      ≡ one_when (nat_eq k j) + times_in k (given_names lent formals regions protects) =
       ap (λ x. times_in k (if x then given_names lent formals regions protects else j ∷ given_names lent formals
       regions protects)) off in
-      let one : one_if (nat_eq k j) ≡ 1 = ap (λ x. one_if (nat_eq k x)) rj ∙ ap one_if (self_named k) in
+      let one : one_when (nat_eq k j) ≡ 1 = ap (λ x. one_when (nat_eq k x)) rj ∙ ap one_when (self_named k) in
       omega (arith, is, one)
   given_at (c ∷ formals) (Global ∷ regions) zero m k f r n l = cc
   given_at (c ∷ formals) (NoClass ∷ regions) zero m k f r n l = cc
@@ -182,7 +182,7 @@ module _ (lent : Class) (protects : List ℕ) where
       (given_from formals regions k)
     where
       here : (x : Bool) → nat_eq k j ≡ x → same_class c lent ≡ false
-          → 1 ≤ one_if x + times_in k (given_names lent formals regions protects)
+          → 1 ≤ one_when x + times_in k (given_names lent formals regions protects)
           → (1 ≤ times_in k (given_names lent formals regions protects) → (p : ℕ) × (d : Class)
           × (slice_get formals p ≡ Some d) × (slice_get regions p ≡ Some (Name k)) × (same_class d lent ≡ false))
           → (p : ℕ) × (d : Class) × (slice_get (c ∷ formals) p ≡ Some d)

@@ -18,7 +18,7 @@ use Rattle.rgo_region_machine.specs.declared.regions.Region.TheVariants.{Global 
 use Rattle.rgo_sound.specs.Core.{AreUnique, NameInvariant}
 use Rattle.rgo_sound.specs.Holding.{held, held_in, is_mine}
 use Rattle.rgo_sound.specs.Invariant.{AreProtections, bound_times, same_bound, times}
-use Rattle.rgo_sound.specs.Stakes.{one_if, times_in}
+use Rattle.rgo_sound.specs.Stakes.{one_when, times_in}
 use Rattle.rgo_tac.specs.declared.regions.Class.{Class}
 use Rattle.rgo_tac.specs.declared.regions.Class.TheVariants.{Global, Name, NoClass}
 
@@ -40,7 +40,7 @@ ArePassable names (NoClass ∷ regions) = ⊥
 -- how often a name is passed
 abbrev pub times_named : ℕ → List Class → ℕ
 times_named k [] = 0
-times_named k (c ∷ cs) = one_if (is_class_named k c) + times_named k cs
+times_named k (c ∷ cs) = one_when (is_class_named k c) + times_named k cs
 
 -- what is asked of the lists of a call, by the rules on calls and on protections
 pub record CallFits (mine lent : Class) (names : Bindings) (formals regions : List Class) (protects : List ℕ) : Type 0
@@ -140,23 +140,23 @@ module _ (names : Bindings) (lent : Class) (protects : List ℕ) where
           → held_in lent r (passed (Name i ∷ formals) (o ∷ passed_regions names regions))
           ≡ bound_times (Numbered r) names (if m || l then given formals regions else k ∷ given formals regions)
       go None b l m el em h = absurd (p.0 b)
-      go (Some q) b true true el em h = let a : one_if (is_mine lent i && same_region (Numbered r) q) ≡ 0 =
-          ap (λ x. one_if (not x && same_region (Numbered r) q)) el in omega (arith, a, h)
-      go (Some q) b true false el em h = let a : one_if (is_mine lent i && same_region (Numbered r) q) ≡ 0 =
-          ap (λ x. one_if (not x && same_region (Numbered r) q)) el in omega (arith, a, h)
+      go (Some q) b true true el em h = let a : one_when (is_mine lent i && same_region (Numbered r) q) ≡ 0 =
+          ap (λ x. one_when (not x && same_region (Numbered r) q)) el in omega (arith, a, h)
+      go (Some q) b true false el em h = let a : one_when (is_mine lent i && same_region (Numbered r) q) ≡ 0 =
+          ap (λ x. one_when (not x && same_region (Numbered r) q)) el in omega (arith, a, h)
       go (Some q) b false true el em h =
           let n : same_region (Numbered r) q ≡ false = sym (ap (same_bound (Numbered r)) b) ∙ u k em in
-          let a : one_if (is_mine lent i && same_region (Numbered r) q) ≡ 0 =
-          ap (λ x. one_if (is_mine lent i && x)) n ∙ none_if (is_mine lent i) in
+          let a : one_when (is_mine lent i && same_region (Numbered r) q) ≡ 0 =
+          ap (λ x. one_when (is_mine lent i && x)) n ∙ none_if (is_mine lent i) in
           omega (arith, a, h)
       go (Some q) b false false el em h =
-          let a : one_if (is_mine lent i && same_region (Numbered r) q) ≡ one_if (same_region (Numbered r) q) =
-          ap (λ x. one_if (not x && same_region (Numbered r) q)) el in
-          let c : one_if (same_bound (Numbered r) (bound names k)) ≡ one_if (same_region (Numbered r) q) =
-          ap (λ x. one_if (same_bound (Numbered r) x)) b in
+          let a : one_when (is_mine lent i && same_region (Numbered r) q) ≡ one_when (same_region (Numbered r) q) =
+          ap (λ x. one_when (not x && same_region (Numbered r) q)) el in
+          let c : one_when (same_bound (Numbered r) (bound names k)) ≡ one_when (same_region (Numbered r) q) =
+          ap (λ x. one_when (same_bound (Numbered r) x)) b in
           omega (arith, a, c, h)
   received r (Name i ∷ formals) (Global ∷ regions) f p u =
-      let a : one_if (is_mine lent i && false) ≡ 0 = none_if (is_mine lent i) in
+      let a : one_when (is_mine lent i && false) ≡ 0 = none_if (is_mine lent i) in
       let h = received r formals regions f.1 p u in
       omega (arith, a, h)
   received r (Name i ∷ formals) (NoClass ∷ regions) f p u = absurd p
@@ -173,7 +173,7 @@ module _ (names : Bindings) (lent : Class) (protects : List ℕ) where
       (given_times formals regions k)
     where
       go : (b : Bool) → times_in k (given formals regions) ≤ times_named k regions
-          → times_in k (if b then given formals regions else j ∷ given formals regions) ≤ one_if (nat_eq k j) +
+          → times_in k (if b then given formals regions else j ∷ given formals regions) ≤ one_when (nat_eq k j) +
           times_named k regions
       go true h = omega (arith, h)
       go false h = omega (arith, h)
@@ -190,7 +190,7 @@ module _ (names : Bindings) (lent : Class) (protects : List ℕ) where
       (given_free formals regions k)
     where
       here : (x : Bool) → nat_eq k j ≡ x → (list_any (nat_eq j) protects || same_class c lent) ≡ false
-          → 1 ≤ one_if x + times_in k (given formals regions)
+          → 1 ≤ one_when x + times_in k (given formals regions)
           → (1 ≤ times_in k (given formals regions) → list_any (nat_eq k) protects ≡ false)
           → list_any (nat_eq k) protects ≡ false
       here true t e h next = ap (λ x. list_any (nat_eq x) protects) (eq_of k j t)
@@ -229,7 +229,7 @@ module _ (names : Bindings) (lent : Class) (protects : List ℕ) where
       go (bound names j) refl (nat_eq i m) refl e (λ e'. lent_at formals regions m r l f.1 e')
     where
       more : (b : Bool) (k : ℕ) → suc (times_in k (given formals regions)) ≤ times_named k regions
-          → suc (times_in k (if b then given formals regions else j ∷ given formals regions)) ≤ one_if (nat_eq k j) +
+          → suc (times_in k (if b then given formals regions else j ∷ given formals regions)) ≤ one_when (nat_eq k j) +
           times_named k regions
       more true k h = omega (arith, h)
       more false k h = omega (arith, h)
@@ -243,7 +243,7 @@ module _ (names : Bindings) (lent : Class) (protects : List ℕ) where
           → (bound (to_callee formals regions) m ≡ Some (Numbered r) → (k : ℕ) × (bound names k ≡ Some (Numbered r))
           × (suc (times_in k (given formals regions)) ≤ times_named k regions)) → (k : ℕ)
           × (bound names k ≡ Some (Numbered r)) × (suc (times_in k (given (Name i ∷ formals) (Name j ∷ regions))) ≤
-          one_if (nat_eq k j) + times_named k regions)
+          one_when (nat_eq k j) + times_named k regions)
       go None h b t e' next = let x = next e' in (
         x.0,
         x.1,
@@ -263,7 +263,7 @@ module _ (names : Bindings) (lent : Class) (protects : List ℕ) where
           let w : times_in j (given (Name i ∷ formals) (Name j ∷ regions)) ≡ times_in j (given formals regions) =
           ap (λ x. times_in j (if x then given formals regions else j ∷ given formals regions)) c in
           let g = given_times formals regions j in
-          let s : one_if (nat_eq j j) ≡ 1 = ap one_if (nat_eq_refl j) in
+          let s : one_when (nat_eq j j) ≡ 1 = ap one_when (nat_eq_refl j) in
           (j, h ∙ v, omega (arith, w, g, s))
 
 -- ---- what is left to the caller
@@ -274,7 +274,7 @@ pub left_other : (ks : List ℕ) (names : Bindings) (j : ℕ) → times_in j ks 
 left_other [] names j z = refl
 left_other (k ∷ ks) names j z = go (nat_eq j k) refl z (λ z'. left_other ks (unbind names k) j z')
   where
-    go : (b : Bool) → nat_eq j k ≡ b → one_if b + times_in j ks ≡ 0
+    go : (b : Bool) → nat_eq j k ≡ b → one_when b + times_in j ks ≡ 0
         → (times_in j ks ≡ 0 → bound (without_all (unbind names k) ks) j ≡ bound (unbind names k) j)
         → bound (without_all (unbind names k) ks) j ≡ bound names j
     go true t z next = absurd (omega (arith, z))
@@ -292,7 +292,7 @@ pub left_given : (ks : List ℕ) (names : Bindings) (j : ℕ) → 1 ≤ times_in
 left_given [] names j h = absurd (omega (arith, h))
 left_given (k ∷ ks) names j h = go (nat_eq j k) refl h (λ h'. left_given ks (unbind names k) j h')
   where
-    go : (b : Bool) → nat_eq j k ≡ b → 1 ≤ one_if b + times_in j ks
+    go : (b : Bool) → nat_eq j k ≡ b → 1 ≤ one_when b + times_in j ks
         → (1 ≤ times_in j ks → bound (without_all (unbind names k) ks) j ≡ None)
         → bound (without_all (unbind names k) ks) j ≡ None
     go true t h next = left_gone ks (unbind names k) j (subst (λ x. bound (unbind names k) x ≡ None) (sym (eq_of j k t))
@@ -325,15 +325,15 @@ left_count mine r (k ∷ ks) names u d m = go (bound names k) refl
     (left_count mine r ks (unbind names k) (unique_unbind names k u) (λ j. fewer (nat_eq j k) (d j))
     (λ j h. m j (omega (arith, h))))
   where
-    fewer : {n : ℕ} (b : Bool) → one_if b + n ≤ 1 → n ≤ 1
+    fewer : {n : ℕ} (b : Bool) → one_when b + n ≤ 1 → n ≤ 1
     fewer true h = omega (arith, h)
     fewer false h = omega (arith, h)
 
     no_more : times_in k ks ≡ 0
-    no_more = let a = d k in let b : one_if (nat_eq k k) ≡ 1 = ap one_if (nat_eq_refl k) in omega (arith, a, b)
+    no_more = let a = d k in let b : one_when (nat_eq k k) ≡ 1 = ap one_when (nat_eq_refl k) in omega (arith, a, b)
 
     mine_here : is_mine mine k ≡ true
-    mine_here = m k (let b : one_if (nat_eq k k) ≡ 1 = ap one_if (nat_eq_refl k) in omega (arith, b))
+    mine_here = m k (let b : one_when (nat_eq k k) ≡ 1 = ap one_when (nat_eq_refl k) in omega (arith, b))
 
     -- the others stand for what they stood for
     same : (js : List ℕ) → times_in k js ≡ 0 → bound_times (Numbered r) (unbind names k) js
@@ -341,32 +341,32 @@ left_count mine r (k ∷ ks) names u d m = go (bound names k) refl
     same [] z = refl
     same (j ∷ js) z = other (nat_eq k j) refl z (λ z'. same js z')
       where
-        other : (b : Bool) → nat_eq k j ≡ b → one_if b + times_in k js ≡ 0
+        other : (b : Bool) → nat_eq k j ≡ b → one_when b + times_in k js ≡ 0
             → (times_in k js ≡ 0 → bound_times (Numbered r) (unbind names k) js ≡ bound_times (Numbered r) names js)
-            → one_if (same_bound (Numbered r) (bound (unbind names k) j)) + bound_times (Numbered r) (unbind names k) js
-            ≡ one_if (same_bound (Numbered r) (bound names j)) + bound_times (Numbered r) names js
+            → one_when (same_bound (Numbered r) (bound (unbind names k) j)) + bound_times (Numbered r) (unbind names k) js
+            ≡ one_when (same_bound (Numbered r) (bound names j)) + bound_times (Numbered r) names js
         other true t z next = absurd (omega (arith, z))
         other false n z next =
-            let a : one_if (same_bound (Numbered r) (bound (unbind names k) j))
-            ≡ one_if (same_bound (Numbered r) (bound names j)) =
-            ap (λ x. one_if (same_bound (Numbered r) x)) (bound_unbind_other names k j n) in
+            let a : one_when (same_bound (Numbered r) (bound (unbind names k) j))
+            ≡ one_when (same_bound (Numbered r) (bound names j)) =
+            ap (λ x. one_when (same_bound (Numbered r) x)) (bound_unbind_other names k j n) in
             let b = next (omega (arith, z)) in
             omega (arith, a, b)
 
     go : (o : Option Region) → bound names k ≡ o → held_in mine r (unbind names k)
         ≡ bound_times (Numbered r) (unbind names k) ks + held_in mine r (without_all (unbind names k) ks)
-        → held_in mine r names ≡ (one_if (same_bound (Numbered r) (bound names k)) + bound_times (Numbered r) names ks)
+        → held_in mine r names ≡ (one_when (same_bound (Numbered r) (bound names k)) + bound_times (Numbered r) names ks)
         + held_in mine r (without_all (unbind names k) ks)
     go None e h =
-        let a : one_if (same_bound (Numbered r) (bound names k)) ≡ 0 = ap (λ x. one_if (same_bound (Numbered r) x)) e in
+        let a : one_when (same_bound (Numbered r) (bound names k)) ≡ 0 = ap (λ x. one_when (same_bound (Numbered r) x)) e in
         let s = same ks no_more in
         let i : held_in mine r (unbind names k) ≡ held_in mine r names = ap (held_in mine r) (unbind_none names k e) in
         omega (arith, a, h, s, i)
     go (Some q) e h =
-        let a : one_if (same_bound (Numbered r) (bound names k)) ≡ one_if (same_region (Numbered r) q) =
-        ap (λ x. one_if (same_bound (Numbered r) x)) e in
-        let b : one_if (is_mine mine k && same_region (Numbered r) q) ≡ one_if (same_region (Numbered r) q) =
-        ap (λ x. one_if (x && same_region (Numbered r) q)) mine_here in
+        let a : one_when (same_bound (Numbered r) (bound names k)) ≡ one_when (same_region (Numbered r) q) =
+        ap (λ x. one_when (same_bound (Numbered r) x)) e in
+        let b : one_when (is_mine mine k && same_region (Numbered r) q) ≡ one_when (same_region (Numbered r) q) =
+        ap (λ x. one_when (x && same_region (Numbered r) q)) mine_here in
         let s = same ks no_more in
         let i = held_unbind mine r names k q u e in
         omega (arith, a, b, h, s, i)
@@ -380,28 +380,28 @@ found_in r names [] = inl refl
 found_in r names (k ∷ ks) = go (bound names k) refl (found_in r names ks)
   where
     first : 1 ≤ times_in k (k ∷ ks)
-    first = let a : one_if (nat_eq k k) ≡ 1 = ap one_if (nat_eq_refl k) in omega (arith, a)
+    first = let a : one_when (nat_eq k k) ≡ 1 = ap one_when (nat_eq_refl k) in omega (arith, a)
 
     go : (o : Option Region) → bound names k ≡ o → (bound_times r names ks ≡ 0)
         ⊎ ((j : ℕ) × (1 ≤ times_in j ks) × (bound names j ≡ Some r))
-        → (one_if (same_bound r (bound names k)) + bound_times r names ks ≡ 0)
-        ⊎ ((j : ℕ) × (1 ≤ one_if (nat_eq j k) + times_in j ks) × (bound names j ≡ Some r))
+        → (one_when (same_bound r (bound names k)) + bound_times r names ks ≡ 0)
+        ⊎ ((j : ℕ) × (1 ≤ one_when (nat_eq j k) + times_in j ks) × (bound names j ≡ Some r))
     go o e (inr (j, h, b)) = inr (j, omega (arith, h), b)
-    go None e (inl z) = inl (let a : one_if (same_bound r (bound names k)) ≡ 0 = ap (λ x. one_if (same_bound r x)) e in
+    go None e (inl z) = inl (let a : one_when (same_bound r (bound names k)) ≡ 0 = ap (λ x. one_when (same_bound r x)) e in
         omega (arith, a, z))
     go (Some q) e (inl z) = by (same_region r q) refl
       where
-        by : (b : Bool) → same_region r q ≡ b → (one_if (same_bound r (bound names k)) + bound_times r names ks ≡ 0)
-            ⊎ ((j : ℕ) × (1 ≤ one_if (nat_eq j k) + times_in j ks) × (bound names j ≡ Some r))
+        by : (b : Bool) → same_region r q ≡ b → (one_when (same_bound r (bound names k)) + bound_times r names ks ≡ 0)
+            ⊎ ((j : ℕ) × (1 ≤ one_when (nat_eq j k) + times_in j ks) × (bound names j ≡ Some r))
         by true t = inr (k, first, e ∙ ap Some (sym (same_regions r q t)))
-        by false n = inl (let a : one_if (same_bound r (bound names k)) ≡ 0 =
-            ap (λ x. one_if (same_bound r x)) e ∙ ap one_if n in omega (arith, a, z))
+        by false n = inl (let a : one_when (same_bound r (bound names k)) ≡ 0 =
+            ap (λ x. one_when (same_bound r x)) e ∙ ap one_when n in omega (arith, a, z))
 
 times_any : (k : ℕ) (ks : List ℕ) → 1 ≤ times_in k ks → list_any (nat_eq k) ks ≡ true
 times_any k [] h = absurd (omega (arith, h))
 times_any k (j ∷ ks) h = go (nat_eq k j) h (times_any k ks)
   where
-    go : (b : Bool) → 1 ≤ one_if b + times_in k ks → (1 ≤ times_in k ks → list_any (nat_eq k) ks ≡ true)
+    go : (b : Bool) → 1 ≤ one_when b + times_in k ks → (1 ≤ times_in k ks → list_any (nat_eq k) ks ≡ true)
         → (b || list_any (nat_eq k) ks) ≡ true
     go true h next = refl
     go false h next = next (omega (arith, h))
@@ -411,7 +411,7 @@ any_times r [] e = cc
 any_times r (s ∷ ss) e = go (same_region r s) e (any_times r ss)
   where
     go : (b : Bool) → (b || list_any (same_region r) ss) ≡ true → (list_any (same_region r) ss ≡ true → 1 ≤ times r ss)
-        → 1 ≤ one_if b + times r ss
+        → 1 ≤ one_when b + times r ss
     go true e next = omega arith
     go false e next = let h = next e in omega (arith, h)
 
@@ -420,7 +420,7 @@ none_times r [] e = refl
 none_times r (s ∷ ss) e = go (same_region r s) e (none_times r ss)
   where
     go : (b : Bool) → (b || list_any (same_region r) ss) ≡ false
-        → (list_any (same_region r) ss ≡ false → times r ss ≡ 0) → one_if b + times r ss ≡ 0
+        → (list_any (same_region r) ss ≡ false → times r ss ≡ 0) → one_when b + times r ss ≡ 0
     go true e next = cc
     go false e next = let h = next e in omega (arith, h)
 
@@ -432,7 +432,7 @@ none_bound r names (j ∷ ks) k z e = go (nat_eq k j) refl e (same_bound r (boun
     (none_bound r names ks k)
   where
     go : (b : Bool) → nat_eq k j ≡ b → (b || list_any (nat_eq k) ks) ≡ true → (c : Bool) → same_bound r (bound names j)
-        ≡ c → one_if c + bound_times r names ks ≡ 0 → (bound_times r names ks ≡ 0 → list_any (nat_eq k) ks ≡ true
+        ≡ c → one_when c + bound_times r names ks ≡ 0 → (bound_times r names ks ≡ 0 → list_any (nat_eq k) ks ≡ true
         → same_bound r (bound names k) ≡ false) → same_bound r (bound names k) ≡ false
     go true t e false n z next = ap (λ x. same_bound r (bound names x)) (eq_of k j t) ∙ n
     go true t e true n z next = absurd (omega (arith, z))
@@ -526,9 +526,9 @@ module _ (stakes : List ℕ) (base : List Region) (f : RegionEnvironment) (fs : 
           unbound : held_in f.lent r f.names ≡ 1 + held_in f.lent r (unbind f.names k)
           unbound =
               let a = held_unbind f.lent r f.names k (Numbered r) core.unique.0 bk in
-              let b : one_if (is_mine f.lent k && same_region (Numbered r) (Numbered r)) ≡ 1 =
-              ap (λ x. one_if (x && same_region (Numbered r) (Numbered r))) (given_mine k gk)
-              ∙ ap one_if (nat_eq_refl r) in
+              let b : one_when (is_mine f.lent k && same_region (Numbered r) (Numbered r)) ≡ 1 =
+              ap (λ x. one_when (x && same_region (Numbered r) (Numbered r))) (given_mine k gk)
+              ∙ ap one_when (nat_eq_refl r) in
               omega (arith, a, b)
 
           two : is_mine f.lent j ≡ true → ⊥

@@ -10,7 +10,7 @@ use Rattle.rgo_code.specs.Code.{Call, CodeFn}
 use Rattle.rgo_code.specs.NameRules.{ProtectsUsed}
 use Rattle.rgo_code.specs.Names.{IsPassedTwice, is_class_named, result_class}
 use Rattle.rgo_sound.specs.Holding.{is_mine}
-use Rattle.rgo_sound.specs.Stakes.{one_if}
+use Rattle.rgo_sound.specs.Stakes.{one_when}
 use Rattle.rgo_tac.specs.declared.regions.Class.{Class}
 use Rattle.rgo_tac.specs.declared.regions.Class.TheVariants.{Name}
 
@@ -29,7 +29,7 @@ named_at : (k : ℕ) (cs : List Class) → 1 ≤ times_named k cs → (p : ℕ) 
 named_at k [] h = absurd (omega (arith, h))
 named_at k (c ∷ cs) h = go (is_class_named k c) refl h (named_at k cs)
   where
-    go : (b : Bool) → is_class_named k c ≡ b → 1 ≤ one_if b + times_named k cs
+    go : (b : Bool) → is_class_named k c ≡ b → 1 ≤ one_when b + times_named k cs
         → (1 ≤ times_named k cs → (p : ℕ) × (slice_get cs p ≡ Some (Name k))) → (p : ℕ)
         × (slice_get (c ∷ cs) p ≡ Some (Name k))
     go true e h next = (0, ap Some (is_named k c e))
@@ -46,7 +46,7 @@ named_twice k (c ∷ cs) h = go (is_class_named k c) refl h (named_twice k cs) (
     zero_suc : (p : ℕ) → zero ≢ suc p
     zero_suc p e = omega (arith, e)
 
-    go : (b : Bool) → is_class_named k c ≡ b → 2 ≤ one_if b + times_named k cs → (2 ≤ times_named k cs → IsPassedTwice cs k)
+    go : (b : Bool) → is_class_named k c ≡ b → 2 ≤ one_when b + times_named k cs → (2 ≤ times_named k cs → IsPassedTwice cs k)
         → (1 ≤ times_named k cs → (p : ℕ) × (slice_get cs p ≡ Some (Name k))) → IsPassedTwice (c ∷ cs) k
     go true e h next at = let x = at (omega (arith, h)) in
         record { one = 0; other = suc x.0; differ = zero_suc x.0; first = ap Some (is_named k c e); second = x.1 }

@@ -45,7 +45,7 @@ use Rattle.rgo_sound.specs.Holding.{held_in}
 use Rattle.rgo_sound.specs.Invariant.{ArePending, EachOnce, Fine, FramesFit, GoodHolder, HasInstr, IsFree, IsReady}
 use Rattle.rgo_sound.specs.Invariant.{Settled, Shares, Stands, at_most_one, bound_times, same_bound, shared_before}
 use Rattle.rgo_sound.specs.Invariant.{shared_names, to_share}
-use Rattle.rgo_sound.specs.Stakes.{holders_of, is_in, one_if, pending_of, times_in, total}
+use Rattle.rgo_sound.specs.Stakes.{holders_of, is_in, one_when, pending_of, times_in, total}
 use Rattle.rgo_tac.specs.Code.{TacFn}
 use Rattle.rgo_tac.specs.Frames.{TacFrame, new_tac_frame, moved_to, operand_values}
 use Rattle.rgo_tac.specs.Tac.{TacState}
@@ -59,7 +59,7 @@ use Rattle.rgo_code.specs.declared.rules.Rule.TheVariants as rule
 -- how often a region is passed
 abbrev given_times : ℕ → List (Option Region) → ℕ
 given_times r [] = 0
-given_times r (o ∷ given) = one_if (same_bound (Numbered r) o) + given_times r given
+given_times r (o ∷ given) = one_when (same_bound (Numbered r) o) + given_times r given
 
 zero_add : (n : ℕ) → 0 + n ≡ n
 zero_add n = omega arith
@@ -67,7 +67,7 @@ zero_add n = omega arith
 given_is : (r : ℕ) (names : Bindings) (passes : List Class) → given_times r (passed_regions names passes)
     ≡ bound_times (Numbered r) names (regions_named passes)
 given_is r names [] = refl
-given_is r names (Name k ∷ passes) = ap (λ x. one_if (same_bound (Numbered r) (bound names k)) + x)
+given_is r names (Name k ∷ passes) = ap (λ x. one_when (same_bound (Numbered r) (bound names k)) + x)
     (given_is r names passes)
 given_is r names (Global ∷ passes) = zero_add (given_times r (passed_regions names passes)) ∙ given_is r names passes
 given_is r names (NoClass ∷ passes) = zero_add (given_times r (passed_regions names passes)) ∙ given_is r names passes
@@ -78,7 +78,7 @@ stands_yes r (None ∷ given) e = let x = stands_yes r given e in omega (arith, 
 stands_yes r (Some q ∷ given) e = go (same_region (Numbered r) q) e (stands_yes r given)
   where
     go : (b : Bool) → (b || stands_in (Numbered r) given) ≡ true
-        → (stands_in (Numbered r) given ≡ true → 1 ≤ given_times r given) → 1 ≤ one_if b + given_times r given
+        → (stands_in (Numbered r) given ≡ true → 1 ≤ given_times r given) → 1 ≤ one_when b + given_times r given
     go true e next = omega arith
     go false e next = let x = next e in omega (arith, x)
 
@@ -88,7 +88,7 @@ stands_no r (None ∷ given) e = let x = stands_no r given e in omega (arith, x)
 stands_no r (Some q ∷ given) e = go (same_region (Numbered r) q) e (stands_no r given)
   where
     go : (b : Bool) → (b || stands_in (Numbered r) given) ≡ false
-        → (stands_in (Numbered r) given ≡ false → given_times r given ≡ 0) → one_if b + given_times r given ≡ 0
+        → (stands_in (Numbered r) given ≡ false → given_times r given ≡ 0) → one_when b + given_times r given ≡ 0
     go true e next = absurd (true≢false e)
     go false e next = let x = next e in omega (arith, x)
 
@@ -105,7 +105,7 @@ twice_yes r (Some (Numbered q) ∷ given) e = go (nat_eq r q) refl (stands_in (N
   where
     go : (b : Bool) → nat_eq r q ≡ b → (st : Bool) → stands_in (Numbered q) given ≡ st → (tw : Bool) → is_twice q given
         ≡ tw → list_any (same_region (Numbered r)) (if st && not tw then Numbered q ∷ twice given else twice given)
-        ≡ true → (is_twice r given ≡ true → 2 ≤ given_times r given) → 2 ≤ one_if b + given_times r given
+        ≡ true → (is_twice r given ≡ true → 2 ≤ given_times r given) → 2 ≤ one_when b + given_times r given
     go true t true st false tw e next = let x = subst (λ y. 1 ≤ given_times y given) (sym (eq_of r q t))
         (stands_yes q given st) in omega (arith, x)
     go true t true st true tw e next = let x = next e in omega (arith, x)
@@ -123,7 +123,7 @@ twice_no r (Some (Numbered q) ∷ given) e = go (nat_eq r q) refl (stands_in (Nu
   where
     go : (b : Bool) → nat_eq r q ≡ b → (st : Bool) → stands_in (Numbered q) given ≡ st → (tw : Bool) → is_twice q given
         ≡ tw → list_any (same_region (Numbered r)) (if st && not tw then Numbered q ∷ twice given else twice given)
-        ≡ false → (is_twice r given ≡ false → given_times r given ≤ 1) → one_if b + given_times r given ≤ 1
+        ≡ false → (is_twice r given ≡ false → given_times r given ≤ 1) → one_when b + given_times r given ≤ 1
     go true t true st false tw e next = absurd (true≢false (sym (ap (λ y. y || is_twice r given) t) ∙ e))
     go true t true st true tw e next = absurd (true≢false (sym tw ∙ ap (λ y. is_twice y given) (sym (eq_of r q t)) ∙ e))
     go true t false st tw' tw e next = let x = subst (λ y. given_times y given ≡ 0) (sym (eq_of r q t))
@@ -158,7 +158,7 @@ held_passed r names (Name k ∷ formals) (c ∷ passes) f l =
         ≡ given_times r (passed_regions names passes) → held_in NoClass r
         (passed (Name k ∷ formals) (o ∷ passed_regions names passes)) ≡ given_times r (o ∷ passed_regions names passes)
     go None h = h ∙ sym (zero_add (given_times r (passed_regions names passes)))
-    go (Some q) h = ap (λ x. one_if (same_region (Numbered r) q) + x) h
+    go (Some q) h = ap (λ x. one_when (same_region (Numbered r) q) + x) h
 held_passed r names (Global ∷ formals) passes f l = absurd f
 held_passed r names (NoClass ∷ formals) passes f l = absurd f
 
@@ -166,7 +166,7 @@ pub in_of_times : (r : ℕ) (xs : List ℕ) → 1 ≤ times_in r xs → is_in r 
 in_of_times r [] h = absurd (omega (arith, h))
 in_of_times r (x ∷ xs) h = go (nat_eq r x) h (in_of_times r xs)
   where
-    go : (b : Bool) → 1 ≤ one_if b + times_in r xs → (1 ≤ times_in r xs → is_in r xs ≡ true)
+    go : (b : Bool) → 1 ≤ one_when b + times_in r xs → (1 ≤ times_in r xs → is_in r xs ≡ true)
         → (if b then true else is_in r xs) ≡ true
     go true h next = refl
     go false h next = next (omega (arith, h))
@@ -176,7 +176,7 @@ times_of_in r [] e = absurd (true≢false (sym e))
 times_of_in r (x ∷ xs) e = go (nat_eq r x) e (times_of_in r xs)
   where
     go : (b : Bool) → (if b then true else is_in r xs) ≡ true → (is_in r xs ≡ true → 1 ≤ times_in r xs)
-        → 1 ≤ one_if b + times_in r xs
+        → 1 ≤ one_when b + times_in r xs
     go true e next = omega arith
     go false e next = let x = next e in omega (arith, x)
 
@@ -431,17 +431,17 @@ pub total_snoc : (f : Holder → ℕ) (hs : List Holder) (h : Holder) → total 
 total_snoc f [] h = omega arith
 total_snoc f (x ∷ xs) h = let e = total_snoc f xs h in omega (arith, e)
 
-in_times : (r : ℕ) (xs : List ℕ) → times_in r xs ≤ 1 → one_if (is_in r xs) ≡ times_in r xs
+in_times : (r : ℕ) (xs : List ℕ) → times_in r xs ≤ 1 → one_when (is_in r xs) ≡ times_in r xs
 in_times r xs h = split (is_in r xs) (λ t. yes_in t) (λ n. not_in n)
   where
-    yes_in : is_in r xs ≡ true → one_if (is_in r xs) ≡ times_in r xs
-    yes_in t = let a : one_if (is_in r xs) ≡ 1 = ap one_if t in let b = times_of_in r xs t in omega (arith, a, b, h)
+    yes_in : is_in r xs ≡ true → one_when (is_in r xs) ≡ times_in r xs
+    yes_in t = let a : one_when (is_in r xs) ≡ 1 = ap one_when t in let b = times_of_in r xs t in omega (arith, a, b, h)
 
-    not_in : is_in r xs ≡ false → one_if (is_in r xs) ≡ times_in r xs
-    not_in n = let a : one_if (is_in r xs) ≡ 0 = ap one_if n in
+    not_in : is_in r xs ≡ false → one_when (is_in r xs) ≡ times_in r xs
+    not_in n = let a : one_when (is_in r xs) ≡ 0 = ap one_when n in
         zero_when (times_in r xs) (λ p. true≢false (sym (in_of_times r xs p) ∙ n)) a
       where
-        zero_when : (n : ℕ) → (1 ≤ n → ⊥) → one_if (is_in r xs) ≡ 0 → one_if (is_in r xs) ≡ n
+        zero_when : (n : ℕ) → (1 ≤ n → ⊥) → one_when (is_in r xs) ≡ 0 → one_when (is_in r xs) ≡ n
         zero_when zero f a = a
         zero_when (suc n) f a = absurd (f (omega arith))
 
@@ -532,15 +532,15 @@ fine_started code s t g h k c frames child fine e rs hs gs ks kp cs cp once good
     counts : (r : ℕ) (info : RegionInfo) → info.stakes ≡ holders_of s r + pending_of s r → info.stakes
         ≡ holders_of t r + pending_of t r
     counts r info n =
-        let a = total_set (λ (x : Holder). one_if (is_in r x.stakes)) s.holders g h k e in
+        let a = total_set (λ (x : Holder). one_when (is_in r x.stakes)) s.holders g h k e in
         let b = total_set (λ (x : Holder). times_in r x.pending) s.holders g h k e in
-        let a' : one_if (is_in r k.stakes) ≡ one_if (is_in r h.stakes) = ap (λ y. one_if (is_in r y)) ks in
+        let a' : one_when (is_in r k.stakes) ≡ one_when (is_in r h.stakes) = ap (λ y. one_when (is_in r y)) ks in
         let b' : times_in r k.pending ≡ 0 = ap (times_in r) kp in
-        let d : one_if (is_in r c.stakes) ≡ times_in r h.pending =
-        ap (λ y. one_if (is_in r y)) cs ∙ in_times r h.pending (once r) in
+        let d : one_when (is_in r c.stakes) ≡ times_in r h.pending =
+        ap (λ y. one_when (is_in r y)) cs ∙ in_times r h.pending (once r) in
         let d' : times_in r c.pending ≡ 0 = ap (times_in r) cp in
-        let x = ap (total (λ (x : Holder). one_if (is_in r x.stakes))) hs
-        ∙ total_snoc (λ (x : Holder). one_if (is_in r x.stakes)) (slice_set s.holders g k) c in
+        let x = ap (total (λ (x : Holder). one_when (is_in r x.stakes))) hs
+        ∙ total_snoc (λ (x : Holder). one_when (is_in r x.stakes)) (slice_set s.holders g k) c in
         let y = ap (total (λ (x : Holder). times_in r x.pending)) hs
         ∙ total_snoc (λ (x : Holder). times_in r x.pending) (slice_set s.holders g k) c in
         omega (arith, n, a, b, a', b', d, d', x, y)

@@ -25,7 +25,7 @@ use Rattle.rgo_sound.specs.Core.{NameInvariant, RegionsStaked}
 use Rattle.rgo_sound.specs.Holding.{is_mine}
 use Rattle.rgo_sound.specs.Invariant.{AllWait, EachOnce, Fine, FramesFit, GoodHolder, IsFree, IsReady, Settled, Shares}
 use Rattle.rgo_sound.specs.Invariant.{Stands, to_share}
-use Rattle.rgo_sound.specs.Stakes.{holders_of, is_in, one_if, pending_of, times_in, total}
+use Rattle.rgo_sound.specs.Stakes.{holders_of, is_in, one_when, pending_of, times_in, total}
 use Rattle.rgo_tac.specs.Frames.{TacFrame}
 use Rattle.rgo_tac.specs.declared.regions.Class.{Class}
 use Rattle.rgo_tac.specs.declared.regions.Class.TheVariants.{Name}
@@ -90,8 +90,8 @@ staked_live code s g h r fine e i = go (get_some s.regions r (fine.made g h r e 
     go : (info : RegionInfo) × (slice_get s.regions r ≡ Some info) → is_live s.regions (Numbered r) ≡ true
     go (info, q) =
         let c = fine.counted r info q in
-        let a = total_at (λ (k : Holder). one_if (is_in r k.stakes)) s.holders g h e in
-        let b : one_if (is_in r h.stakes) ≡ 1 = ap one_if i in
+        let a = total_at (λ (k : Holder). one_when (is_in r k.stakes)) s.holders g h e in
+        let b : one_when (is_in r h.stakes) ≡ 1 = ap one_when i in
         ap has_stakes q ∙ positive info.stakes (omega (arith, a, b, c))
 
 -- another holder of one goroutine, and other regions
@@ -100,7 +100,7 @@ pub fine_with : (code : Code) (s : RegionState) (g : ℕ) (h k : Holder) (region
     → ((r : ℕ) → is_in r k.stakes ≡ true → r < length regions)
     → ((r : ℕ) → 0 < times_in r k.pending → r < length regions)
     → ((r : ℕ) (info : RegionInfo) → slice_get regions r ≡ Some info → info.stakes
-    ≡ total (λ (x : Holder). one_if (is_in r x.stakes)) (slice_set s.holders g k) + total
+    ≡ total (λ (x : Holder). one_when (is_in r x.stakes)) (slice_set s.holders g k) + total
     (λ (x : Holder). times_in r x.pending) (slice_set s.holders g k))
     → Fine code (record (attended s g k) { regions = regions })
 fine_with code s g h k regions fine e more good staked pending counts =
@@ -201,14 +201,14 @@ stake_ends code s g h k r fine e staked ks kp good =
     pended q i = let x = fine.pended g h q e i in omega (arith, x, same_length)
 
     counts : (q : ℕ) (info : RegionInfo) → slice_get (with_info s.regions r one_fewer) q ≡ Some info → info.stakes
-        ≡ total (λ (x : Holder). one_if (is_in q x.stakes)) (slice_set s.holders g k) + total
+        ≡ total (λ (x : Holder). one_when (is_in q x.stakes)) (slice_set s.holders g k) + total
         (λ (x : Holder). times_in q x.pending) (slice_set s.holders g k)
     counts q info i = split (nat_eq r q) (λ t. here t (get_some s.regions q
         (fine.made g h q e (subst (λ x. is_in x h.stakes ≡ true) (eq_of r q t) staked)))) (λ f. other f)
       where
-        a : total (λ (x : Holder). one_if (is_in q x.stakes)) (slice_set s.holders g k) + one_if (is_in q h.stakes)
-            ≡ holders_of s q + one_if (is_in q k.stakes)
-        a = total_set (λ (x : Holder). one_if (is_in q x.stakes)) s.holders g h k e
+        a : total (λ (x : Holder). one_when (is_in q x.stakes)) (slice_set s.holders g k) + one_when (is_in q h.stakes)
+            ≡ holders_of s q + one_when (is_in q k.stakes)
+        a = total_set (λ (x : Holder). one_when (is_in q x.stakes)) s.holders g h k e
 
         p : total (λ (x : Holder). times_in q x.pending) (slice_set s.holders g k) + times_in q h.pending
             ≡ pending_of s q + times_in q k.pending
@@ -217,18 +217,18 @@ stake_ends code s g h k r fine e staked ks kp good =
         p' : times_in q k.pending ≡ times_in q h.pending
         p' = ap (times_in q) kp
 
-        a' : one_if (is_in q k.stakes) ≡ one_if (is_in q (without r h.stakes))
-        a' = ap (λ x. one_if (is_in q x)) ks
+        a' : one_when (is_in q k.stakes) ≡ one_when (is_in q (without r h.stakes))
+        a' = ap (λ x. one_when (is_in q x)) ks
 
         here : nat_eq r q ≡ true → (old : RegionInfo) × (slice_get s.regions q ≡ Some old) → info.stakes
-            ≡ total (λ (x : Holder). one_if (is_in q x.stakes)) (slice_set s.holders g k) + total
+            ≡ total (λ (x : Holder). one_when (is_in q x.stakes)) (slice_set s.holders g k) + total
             (λ (x : Holder). times_in q x.pending) (slice_set s.holders g k)
         here t (old, o) =
             let u = eq_of r q t in
             let d = fine.counted q old o in
-            let y : one_if (is_in q h.stakes) ≡ 1 = ap one_if (subst (λ x. is_in x h.stakes ≡ true) u staked) in
-            let z : one_if (is_in q (without r h.stakes)) ≡ 0 =
-            ap one_if (subst (λ x. is_in x (without r h.stakes) ≡ false) u (not_in_without r h.stakes)) in
+            let y : one_when (is_in q h.stakes) ≡ 1 = ap one_when (subst (λ x. is_in x h.stakes ≡ true) u staked) in
+            let z : one_when (is_in q (without r h.stakes)) ≡ 0 =
+            ap one_when (subst (λ x. is_in x (without r h.stakes) ≡ false) u (not_in_without r h.stakes)) in
             let v : Some info ≡ Some (one_fewer old) = sym i ∙ subst
             (λ x. slice_get (with_info s.regions r one_fewer) x ≡ option_map one_fewer (slice_get s.regions x)) u
             (with_info_same s.regions r one_fewer) ∙ ap (option_map one_fewer) o in
@@ -236,12 +236,12 @@ stake_ends code s g h k r fine e staked ks kp good =
             in
             omega (arith, a, p, d, y, z, m, a', p')
 
-        other : nat_eq r q ≡ false → info.stakes ≡ total (λ (x : Holder). one_if (is_in q x.stakes))
+        other : nat_eq r q ≡ false → info.stakes ≡ total (λ (x : Holder). one_when (is_in q x.stakes))
             (slice_set s.holders g k) + total (λ (x : Holder). times_in q x.pending) (slice_set s.holders g k)
         other f =
             let d = fine.counted q info (sym (with_info_other s.regions r q one_fewer f) ∙ i) in
-            let y : one_if (is_in q (without r h.stakes)) ≡ one_if (is_in q h.stakes) =
-            ap one_if (in_without r q h.stakes f) in
+            let y : one_when (is_in q (without r h.stakes)) ≡ one_when (is_in q h.stakes) =
+            ap one_when (in_without r q h.stakes f) in
             omega (arith, a, p, d, y, a', p')
 
 module _ (code : Code) (s : RegionState) (g : ℕ) (stakes pending : List ℕ) (f : RegionEnvironment) (fs : List RegionEnvironment)
@@ -281,18 +281,18 @@ module _ (code : Code) (s : RegionState) (g : ℕ) (stakes pending : List ℕ) (
         fine_with code s g (before d) k s.regions fine e (omega arith) (subst (λ x. GoodHolder code x k) (sym at) good)
         (λ r i. fine.made g (before d) r e (subst (λ x. is_in r x ≡ true) a i))
         (λ r i. fine.pended g (before d) r e (subst (λ x. 0 < times_in r x) b i))
-        (λ r info q. go r (fine.counted r info q) (total_set (λ (x : Holder). one_if (is_in r x.stakes)) s.holders g
+        (λ r info q. go r (fine.counted r info q) (total_set (λ (x : Holder). one_when (is_in r x.stakes)) s.holders g
         (before d) k e) (total_set (λ (x : Holder). times_in r x.pending) s.holders g (before d) k e))
       where
         go : {n : ℕ} (r : ℕ) → n ≡ holders_of s r + pending_of s r
-            → total (λ (x : Holder). one_if (is_in r x.stakes)) (slice_set s.holders g k) + one_if (is_in r stakes)
-            ≡ total (λ (x : Holder). one_if (is_in r x.stakes)) s.holders + one_if (is_in r k.stakes)
+            → total (λ (x : Holder). one_when (is_in r x.stakes)) (slice_set s.holders g k) + one_when (is_in r stakes)
+            ≡ total (λ (x : Holder). one_when (is_in r x.stakes)) s.holders + one_when (is_in r k.stakes)
             → total (λ (x : Holder). times_in r x.pending) (slice_set s.holders g k) + times_in r pending
             ≡ total (λ (x : Holder). times_in r x.pending) s.holders + times_in r k.pending → n
-            ≡ total (λ (x : Holder). one_if (is_in r x.stakes)) (slice_set s.holders g k) + total
+            ≡ total (λ (x : Holder). one_when (is_in r x.stakes)) (slice_set s.holders g k) + total
             (λ (x : Holder). times_in r x.pending) (slice_set s.holders g k)
         go r c p q =
-            let p' : one_if (is_in r k.stakes) ≡ one_if (is_in r stakes) = ap (λ x. one_if (is_in r x)) a in
+            let p' : one_when (is_in r k.stakes) ≡ one_when (is_in r stakes) = ap (λ x. one_when (is_in r x)) a in
             let q' : times_in r k.pending ≡ times_in r pending = ap (times_in r) b in
             omega (arith, c, p, q, p', q')
 
@@ -347,14 +347,14 @@ module _ (code : Code) (s : RegionState) (g : ℕ) (stakes pending : List ℕ) (
         pended q i = let x = fine.pended g (before (Create k)) q e i in omega (arith, x, longer)
 
         counts : (q : ℕ) (info : RegionInfo) → slice_get (s.regions ++ record { stakes = 1; pages = 0 } ∷ []) q
-            ≡ Some info → info.stakes ≡ total (λ (x : Holder). one_if (is_in q x.stakes))
+            ≡ Some info → info.stakes ≡ total (λ (x : Holder). one_when (is_in q x.stakes))
             (slice_set s.holders g (created k)) + total (λ (x : Holder). times_in q x.pending)
             (slice_set s.holders g (created k))
         counts q info i = go (get_snoc s.regions (record { stakes = 1; pages = 0 }) q info i)
           where
-            a : total (λ (x : Holder). one_if (is_in q x.stakes)) (slice_set s.holders g (created k)) + one_if
-                (is_in q stakes) ≡ holders_of s q + one_if (is_in q (length s.regions ∷ stakes))
-            a = total_set (λ (x : Holder). one_if (is_in q x.stakes)) s.holders g (before (Create k)) (created k) e
+            a : total (λ (x : Holder). one_when (is_in q x.stakes)) (slice_set s.holders g (created k)) + one_when
+                (is_in q stakes) ≡ holders_of s q + one_when (is_in q (length s.regions ∷ stakes))
+            a = total_set (λ (x : Holder). one_when (is_in q x.stakes)) s.holders g (before (Create k)) (created k) e
 
             b : total (λ (x : Holder). times_in q x.pending) (slice_set s.holders g (created k)) + times_in q pending
                 ≡ pending_of s q + times_in q pending
@@ -362,24 +362,24 @@ module _ (code : Code) (s : RegionState) (g : ℕ) (stakes pending : List ℕ) (
 
             go : (slice_get s.regions q ≡ Some info) ⊎ ((q ≡ length s.regions)
                 × (info ≡ record { stakes = 1; pages = 0 })) → info.stakes
-                ≡ total (λ (x : Holder). one_if (is_in q x.stakes)) (slice_set s.holders g (created k)) + total
+                ≡ total (λ (x : Holder). one_when (is_in q x.stakes)) (slice_set s.holders g (created k)) + total
                 (λ (x : Holder). times_in q x.pending) (slice_set s.holders g (created k))
             go (inl o) =
                 let d = fine.counted q info o in
                 let l = slice_get_within s.regions q info o in
                 let n : nat_eq q (length s.regions) ≡ false = differs q (length s.regions) l in
-                let y : one_if (is_in q (length s.regions ∷ stakes)) ≡ one_if (is_in q stakes) =
-                ap (λ x. one_if (if x then true else is_in q stakes)) n in
+                let y : one_when (is_in q (length s.regions ∷ stakes)) ≡ one_when (is_in q stakes) =
+                ap (λ x. one_when (if x then true else is_in q stakes)) n in
                 omega (arith, a, b, d, y)
               where
                 differs : (x y : ℕ) → x < y → nat_eq x y ≡ false
                 differs x y l = grind arith
             go (inr (o, is)) =
                 let t : nat_eq q (length s.regions) ≡ true = same q (length s.regions) o in
-                let y : one_if (is_in q (length s.regions ∷ stakes)) ≡ 1 =
-                ap (λ x. one_if (if x then true else is_in q stakes)) t in
-                let z : one_if (is_in q stakes) ≡ 0 = ap (λ x. one_if (is_in x stakes)) o ∙ ap one_if fresh in
-                let n : holders_of s q ≡ 0 = total_none (λ (x : Holder). one_if (is_in q x.stakes)) s.holders
+                let y : one_when (is_in q (length s.regions ∷ stakes)) ≡ 1 =
+                ap (λ x. one_when (if x then true else is_in q stakes)) t in
+                let z : one_when (is_in q stakes) ≡ 0 = ap (λ x. one_when (is_in x stakes)) o ∙ ap one_when fresh in
+                let n : holders_of s q ≡ 0 = total_none (λ (x : Holder). one_when (is_in q x.stakes)) s.holders
                 (λ j x i. none j x i) in
                 let m : pending_of s q ≡ 0 = total_none (λ (x : Holder). times_in q x.pending) s.holders
                 (λ j x i. no_pending j x i) in
@@ -389,9 +389,9 @@ module _ (code : Code) (s : RegionState) (g : ℕ) (stakes pending : List ℕ) (
                 same : (x y : ℕ) → x ≡ y → nat_eq x y ≡ true
                 same x y e = grind arith
 
-                none : (j : ℕ) (x : Holder) → slice_get s.holders j ≡ Some x → one_if (is_in q x.stakes) ≡ 0
+                none : (j : ℕ) (x : Holder) → slice_get s.holders j ≡ Some x → one_when (is_in q x.stakes) ≡ 0
                 none j x i = split (is_in q x.stakes) (λ t. absurd (let l = fine.made j x q i t in omega (arith, l, o)))
-                    (λ n. ap one_if n)
+                    (λ n. ap one_when n)
 
                 no_pending : (j : ℕ) (x : Holder) → slice_get s.holders j ≡ Some x → times_in q x.pending ≡ 0
                 no_pending j x i = not_positive (times_in q x.pending)
@@ -635,7 +635,7 @@ module _ (code : Code) (s : RegionState) (g : ℕ) (stakes pending : List ℕ) (
         pended : (q : ℕ) → 0 < times_in q (r ∷ pending) → q < length (with_info s.regions r with_added_stake)
         pended q i = go (nat_eq q r) refl i
           where
-            go : (x : Bool) → nat_eq q r ≡ x → 0 < one_if x + times_in q pending
+            go : (x : Bool) → nat_eq q r ≡ x → 0 < one_when x + times_in q pending
                 → q < length (with_info s.regions r with_added_stake)
             go true t i' = let y = eq_of q r t in let z = fine.made g (before (Share k)) r e staked in
                 omega (arith, y, z, same_length)
@@ -643,18 +643,18 @@ module _ (code : Code) (s : RegionState) (g : ℕ) (stakes pending : List ℕ) (
                 omega (arith, z, same_length)
 
         counts : (q : ℕ) (info : RegionInfo) → slice_get (with_info s.regions r with_added_stake) q ≡ Some info → info.stakes
-            ≡ total (λ (x : Holder). one_if (is_in q x.stakes)) (slice_set s.holders g (sharing r)) + total
+            ≡ total (λ (x : Holder). one_when (is_in q x.stakes)) (slice_set s.holders g (sharing r)) + total
             (λ (x : Holder). times_in q x.pending) (slice_set s.holders g (sharing r))
         counts q info i = split (nat_eq r q) (λ t. here t (get_some s.regions q
             (fine.made g (before (Share k)) q e (subst (λ x. is_in x stakes ≡ true) (eq_of r q t) staked))))
             (λ f. other f)
           where
-            a : total (λ (x : Holder). one_if (is_in q x.stakes)) (slice_set s.holders g (sharing r)) + one_if
-                (is_in q stakes) ≡ holders_of s q + one_if (is_in q stakes)
-            a = total_set (λ (x : Holder). one_if (is_in q x.stakes)) s.holders g (before (Share k)) (sharing r) e
+            a : total (λ (x : Holder). one_when (is_in q x.stakes)) (slice_set s.holders g (sharing r)) + one_when
+                (is_in q stakes) ≡ holders_of s q + one_when (is_in q stakes)
+            a = total_set (λ (x : Holder). one_when (is_in q x.stakes)) s.holders g (before (Share k)) (sharing r) e
 
             p : total (λ (x : Holder). times_in q x.pending) (slice_set s.holders g (sharing r)) + times_in q pending
-                ≡ pending_of s q + (one_if (nat_eq q r) + times_in q pending)
+                ≡ pending_of s q + (one_when (nat_eq q r) + times_in q pending)
             p = total_set (λ (x : Holder). times_in q x.pending) s.holders g (before (Share k)) (sharing r) e
 
             flip : (x y : ℕ) (b : Bool) → nat_eq x y ≡ b → nat_eq y x ≡ b
@@ -662,12 +662,12 @@ module _ (code : Code) (s : RegionState) (g : ℕ) (stakes pending : List ℕ) (
             flip x y false h = grind arith
 
             here : nat_eq r q ≡ true → (old : RegionInfo) × (slice_get s.regions q ≡ Some old) → info.stakes
-                ≡ total (λ (x : Holder). one_if (is_in q x.stakes)) (slice_set s.holders g (sharing r)) + total
+                ≡ total (λ (x : Holder). one_when (is_in q x.stakes)) (slice_set s.holders g (sharing r)) + total
                 (λ (x : Holder). times_in q x.pending) (slice_set s.holders g (sharing r))
             here t (old, o) =
                 let u = eq_of r q t in
                 let d = fine.counted q old o in
-                let y : one_if (nat_eq q r) ≡ 1 = ap one_if (flip r q true t) in
+                let y : one_when (nat_eq q r) ≡ 1 = ap one_when (flip r q true t) in
                 let v : Some info ≡ Some (with_added_stake old) = sym i ∙ subst
                 (λ x. slice_get (with_info s.regions r with_added_stake) x ≡ option_map with_added_stake (slice_get s.regions x)) u
                 (with_info_same s.regions r with_added_stake) ∙ ap (option_map with_added_stake) o in
@@ -676,12 +676,12 @@ module _ (code : Code) (s : RegionState) (g : ℕ) (stakes pending : List ℕ) (
                 in
                 omega (arith, a, p, d, y, m)
 
-            other : nat_eq r q ≡ false → info.stakes ≡ total (λ (x : Holder). one_if (is_in q x.stakes))
+            other : nat_eq r q ≡ false → info.stakes ≡ total (λ (x : Holder). one_when (is_in q x.stakes))
                 (slice_set s.holders g (sharing r)) + total (λ (x : Holder). times_in q x.pending)
                 (slice_set s.holders g (sharing r))
             other f =
                 let d = fine.counted q info (sym (with_info_other s.regions r q with_added_stake f) ∙ i) in
-                let y : one_if (nat_eq q r) ≡ 0 = ap one_if (flip r q false f) in
+                let y : one_when (nat_eq q r) ≡ 0 = ap one_when (flip r q false f) in
                 omega (arith, a, p, d, y)
 
     goes_share : (k : ℕ) → slice_get s.holders g ≡ Some (before (Share k)) → NameInvariant stakes base (f ∷ fs)
@@ -739,7 +739,7 @@ module _ (code : Code) (s : RegionState) (g : ℕ) (stakes pending : List ℕ) (
               }))
               (λ r i. fine.made g _ r e i) (λ r i. fine.pended g _ r e i)
               (λ r info q. let a = fine.counted r info q in let b =
-              total_set (λ (x : Holder). one_if (is_in r x.stakes)) s.holders g _ (ended stakes rs) e in let p =
+              total_set (λ (x : Holder). one_when (is_in r x.stakes)) s.holders g _ (ended stakes rs) e in let p =
               total_set (λ (x : Holder). times_in r x.pending) s.holders g _ (ended stakes rs) e in
               omega (arith, a, b, p));
         }

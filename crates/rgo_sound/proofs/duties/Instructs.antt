@@ -29,7 +29,7 @@ use Rattle.rgo_region_machine.specs.declared.regions.Region.{Region}
 use Rattle.rgo_sound.specs.Core.{NameInvariant}
 use Rattle.rgo_sound.specs.Invariant.{EachOnce, Fine, FramesFit, GoodHolder, HasInstr, Shares}
 use Rattle.rgo_sound.specs.Invariant.{shared_names, to_share}
-use Rattle.rgo_sound.specs.Stakes.{holders_of, is_in, one_if, pending_of, times_in, total}
+use Rattle.rgo_sound.specs.Stakes.{holders_of, is_in, one_when, pending_of, times_in, total}
 use Rattle.rgo_tac.specs.Code.{Tac}
 use Rattle.rgo_tac.specs.Frames.{TacFrame, frame_after_instr, moved_to, value_at, operand_values}
 use Rattle.rgo_tac.specs.Steps.{destination_type}
@@ -171,12 +171,12 @@ fine_plain code s t g h k fine e rs hs ks kp gs frames good =
     counts : (r : ℕ) (info : RegionInfo) → info.stakes ≡ holders_of s r + pending_of s r → info.stakes
         ≡ holders_of t r + pending_of t r
     counts r info c =
-        let a = total_set (λ (x : Holder). one_if (is_in r x.stakes)) s.holders g h k e in
+        let a = total_set (λ (x : Holder). one_when (is_in r x.stakes)) s.holders g h k e in
         let b = total_set (λ (x : Holder). times_in r x.pending) s.holders g h k e in
-        let a' : one_if (is_in r k.stakes) ≡ one_if (is_in r h.stakes) = ap (λ y. one_if (is_in r y)) ks in
+        let a' : one_when (is_in r k.stakes) ≡ one_when (is_in r h.stakes) = ap (λ y. one_when (is_in r y)) ks in
         let b' : times_in r k.pending ≡ times_in r h.pending = ap (times_in r) kp in
-        let x : holders_of t r ≡ total (λ (x : Holder). one_if (is_in r x.stakes)) (slice_set s.holders g k) =
-        ap (total (λ (x : Holder). one_if (is_in r x.stakes))) hs in
+        let x : holders_of t r ≡ total (λ (x : Holder). one_when (is_in r x.stakes)) (slice_set s.holders g k) =
+        ap (total (λ (x : Holder). one_when (is_in r x.stakes))) hs in
         let y : pending_of t r ≡ total (λ (x : Holder). times_in r x.pending) (slice_set s.holders g k) =
         ap (total (λ (x : Holder). times_in r x.pending)) hs in
         omega (arith, c, a, b, a', b', x, y)

@@ -21,7 +21,7 @@ use Rattle.rgo_sound.specs.Core.{NameInvariant}
 use Rattle.rgo_sound.specs.Invariant.{AllWait, AreProtections, EachOnce, GoodHolder, HasInstr, IsFree, IsReady, Left}
 use Rattle.rgo_sound.specs.Invariant.{Settled, Shares, bound_times, same_bound, shared_before, shared_names, times}
 use Rattle.rgo_sound.specs.Invariant.{to_share}
-use Rattle.rgo_sound.specs.Stakes.{one_if}
+use Rattle.rgo_sound.specs.Stakes.{one_when}
 use Rattle.rgo_tac.specs.Frames.{TacFrame}
 use Rattle.rgo_tac.specs.declared.regions.Class.{Class}
 
@@ -30,7 +30,7 @@ use Rattle.rgo_tac.specs.declared.regions.Class.{Class}
 -- none is left where none is counted
 none_left : (protections : List Region) → ((r : Region) → times r protections ≡ 0) → protections ≡ []
 none_left [] n = refl
-none_left (s ∷ ss) n = let a = n s in let b : one_if (same_region s s) ≡ 1 = ap one_if (same_reflexive s) in
+none_left (s ∷ ss) n = let a = n s in let b : one_when (same_region s s) ≡ 1 = ap one_when (same_reflexive s) in
     absurd (omega (arith, a, b))
 
 pub same_regions : (r s : Region) → same_region r s ≡ true → r ≡ s
@@ -41,17 +41,17 @@ same_regions (Numbered r) (Numbered s) e = ap Numbered (eq_of r s e)
 
 -- one less of q, where there is one
 pub times_removed : (r q : Region) (protections : List Region) → 1 ≤ times q protections
-    → times r (removed_once q protections) + one_if (same_region r q) ≡ times r protections
+    → times r (removed_once q protections) + one_when (same_region r q) ≡ times r protections
 times_removed r q [] h = absurd (omega (arith, h))
 times_removed r q (s ∷ ss) h = go (same_region q s) refl (λ l. times_removed r q ss l)
   where
-    go : (b : Bool) → same_region q s ≡ b → (1 ≤ times q ss → times r (removed_once q ss) + one_if (same_region r q)
-        ≡ times r ss) → times r (if b then ss else s ∷ removed_once q ss) + one_if (same_region r q)
-        ≡ one_if (same_region r s) + times r ss
-    go true t next = let e : one_if (same_region r q) ≡ one_if (same_region r s) =
-        ap (λ x. one_if (same_region r x)) (same_regions q s t) in omega (arith, e)
+    go : (b : Bool) → same_region q s ≡ b → (1 ≤ times q ss → times r (removed_once q ss) + one_when (same_region r q)
+        ≡ times r ss) → times r (if b then ss else s ∷ removed_once q ss) + one_when (same_region r q)
+        ≡ one_when (same_region r s) + times r ss
+    go true t next = let e : one_when (same_region r q) ≡ one_when (same_region r s) =
+        ap (λ x. one_when (same_region r x)) (same_regions q s t) in omega (arith, e)
     go false n next =
-        let z : one_if (same_region q s) ≡ 0 = ap one_if n in
+        let z : one_when (same_region q s) ≡ 0 = ap one_when n in
         let k = next (omega (arith, h, z)) in
         omega (arith, k)
 
@@ -75,10 +75,10 @@ ready_unprotects Own Then (k ∷ ks) duties names protections h fit next = (
     fewer q e r =
         let a = fit r in
         let a' = fit q in
-        let b : one_if (same_bound r (bound names k)) ≡ one_if (same_region r q) =
-        ap (λ x. one_if (same_bound r x)) e in
-        let b' : one_if (same_bound q (bound names k)) ≡ 1 =
-        ap (λ x. one_if (same_bound q x)) e ∙ ap one_if (same_reflexive q) in
+        let b : one_when (same_bound r (bound names k)) ≡ one_when (same_region r q) =
+        ap (λ x. one_when (same_bound r x)) e in
+        let b' : one_when (same_bound q (bound names k)) ≡ 1 =
+        ap (λ x. one_when (same_bound q x)) e ∙ ap one_when (same_reflexive q) in
         let t = times_removed r q protections (omega (arith, a', b')) in
         omega (arith, a, b, t)
 

@@ -11,7 +11,7 @@ use Rattle.rgo_region_machine.specs.declared.regions.Region.TheVariants.{Global 
 use Rattle.rgo_sound.specs.Core.{AreLentBelow, AreStaked, AreUnique, AreUniqueIn, NameInvariant, IsHeldOnce, IsLentBelow}
 use Rattle.rgo_sound.specs.Core.{NamesStaked, RegionsStaked}
 use Rattle.rgo_sound.specs.Holding.{held, held_in, is_mine}
-use Rattle.rgo_sound.specs.Stakes.{is_in, one_if}
+use Rattle.rgo_sound.specs.Stakes.{is_in, one_when}
 use Rattle.rgo_tac.specs.declared.regions.Class.{Class}
 use Rattle.rgo_tac.specs.declared.regions.Class.TheVariants.{Global, Name, NoClass}
 
@@ -48,12 +48,12 @@ unique_unbind (b ∷ bs) k u = go (nat_eq b.0 k) (unique_unbind bs k u.1)
 
 -- a name that is unbound leaves the count without what it counted for
 pub held_unbind : (lent : Class) (r : ℕ) (names : Bindings) (k : ℕ) (q : Region) → AreUnique names → bound names k
-    ≡ Some q → held_in lent r names ≡ one_if (is_mine lent k && same_region (Numbered r) q) + held_in lent r
+    ≡ Some q → held_in lent r names ≡ one_when (is_mine lent k && same_region (Numbered r) q) + held_in lent r
     (unbind names k)
 held_unbind lent r [] k q u e = cc
 held_unbind lent r (b ∷ bs) k q u e = split (nat_eq b.0 k) (λ t. here t) (λ f. there f (held_unbind lent r bs k q u.1))
   where
-    here : nat_eq b.0 k ≡ true → held_in lent r (b ∷ bs) ≡ one_if (is_mine lent k && same_region (Numbered r) q) +
+    here : nat_eq b.0 k ≡ true → held_in lent r (b ∷ bs) ≡ one_when (is_mine lent k && same_region (Numbered r) q) +
         held_in lent r (unbind (b ∷ bs) k)
     here t =
         let same : b.0 ≡ k = eq_of b.0 k t in
@@ -61,20 +61,20 @@ held_unbind lent r (b ∷ bs) k q u e = split (nat_eq b.0 k) (λ t. here t) (λ 
         let none : bound bs k ≡ None = subst (λ x. bound bs x ≡ None) same u.0 in
         let rest : unbind (b ∷ bs) k ≡ bs = ap (λ x. if x then unbind bs k else b ∷ unbind bs k) t
         ∙ unbind_none bs k none in
-        ap (λ x. one_if (is_mine lent x && same_region (Numbered r) b.1) + held_in lent r bs) same
-        ∙ ap (λ x. one_if (is_mine lent k && same_region (Numbered r) x) + held_in lent r bs) value
-        ∙ ap (λ x. one_if (is_mine lent k && same_region (Numbered r) q) + held_in lent r x) (sym rest)
+        ap (λ x. one_when (is_mine lent x && same_region (Numbered r) b.1) + held_in lent r bs) same
+        ∙ ap (λ x. one_when (is_mine lent k && same_region (Numbered r) x) + held_in lent r bs) value
+        ∙ ap (λ x. one_when (is_mine lent k && same_region (Numbered r) q) + held_in lent r x) (sym rest)
 
     there : nat_eq b.0 k ≡ false → (bound bs k ≡ Some q → held_in lent r bs
-        ≡ one_if (is_mine lent k && same_region (Numbered r) q) + held_in lent r (unbind bs k))
-        → held_in lent r (b ∷ bs) ≡ one_if (is_mine lent k && same_region (Numbered r) q) + held_in lent r
+        ≡ one_when (is_mine lent k && same_region (Numbered r) q) + held_in lent r (unbind bs k))
+        → held_in lent r (b ∷ bs) ≡ one_when (is_mine lent k && same_region (Numbered r) q) + held_in lent r
         (unbind (b ∷ bs) k)
     there f next =
         let e' : bound bs k ≡ Some q = ap (λ x. if x then Some b.1 else bound bs k) (sym f) ∙ e in
-        let h : held_in lent r bs ≡ one_if (is_mine lent k && same_region (Numbered r) q) + held_in lent r
+        let h : held_in lent r bs ≡ one_when (is_mine lent k && same_region (Numbered r) q) + held_in lent r
         (unbind bs k) = next e' in
         let rest : unbind (b ∷ bs) k ≡ b ∷ unbind bs k = ap (λ x. if x then unbind bs k else b ∷ unbind bs k) f in
-        let rest' : held_in lent r (unbind (b ∷ bs) k) ≡ one_if (is_mine lent b.0 && same_region (Numbered r) b.1) +
+        let rest' : held_in lent r (unbind (b ∷ bs) k) ≡ one_when (is_mine lent b.0 && same_region (Numbered r) b.1) +
         held_in lent r (unbind bs k) = ap (held_in lent r) rest in
         omega (arith, h, rest')
 
@@ -86,8 +86,8 @@ pub bound_held : (lent : Class) (r : ℕ) (names : Bindings) (k : ℕ) → AreUn
     → is_mine lent k ≡ true → 1 ≤ held_in lent r names
 bound_held lent r names k u e m =
     let h = held_unbind lent r names k (Numbered r) u e in
-    let one : one_if (is_mine lent k && same_region (Numbered r) (Numbered r)) ≡ 1 =
-    ap (λ x. one_if (x && same_region (Numbered r) (Numbered r))) m ∙ ap one_if (same_self r) in
+    let one : one_when (is_mine lent k && same_region (Numbered r) (Numbered r)) ≡ 1 =
+    ap (λ x. one_when (x && same_region (Numbered r) (Numbered r))) m ∙ ap one_when (same_self r) in
     omega (arith, h, one)
 
 -- a count that is not none has a name
@@ -102,7 +102,7 @@ found lent r (b ∷ bs) u = go (is_mine lent b.0) (same_region (Numbered r) b.1)
 
     go : (m t : Bool) → is_mine lent b.0 ≡ m → same_region (Numbered r) b.1 ≡ t → (held_in lent r bs ≡ 0)
         ⊎ ((k : ℕ) × (bound bs k ≡ Some (Numbered r)) × (is_mine lent k ≡ true))
-        → (one_if (is_mine lent b.0 && same_region (Numbered r) b.1) + held_in lent r bs ≡ 0)
+        → (one_when (is_mine lent b.0 && same_region (Numbered r) b.1) + held_in lent r bs ≡ 0)
         ⊎ ((k : ℕ) × (bound (b ∷ bs) k ≡ Some (Numbered r)) × (is_mine lent k ≡ true))
     go true true m t rest = inr (
       b.0,
@@ -119,10 +119,10 @@ found lent r (b ∷ bs) u = go (is_mine lent b.0) (same_region (Numbered r) b.1)
       where
         clash : nat_eq b.0 k ≡ true → ⊥
         clash s = let n : bound bs k ≡ None = subst (λ x. bound bs x ≡ None) (eq_of b.0 k s) u.0 in cc
-    go false t em et (inl z) = inl (let a : one_if (is_mine lent b.0 && same_region (Numbered r) b.1) ≡ 0 =
-        ap (λ x. one_if (x && same_region (Numbered r) b.1)) em in omega (arith, a, z))
-    go true false em et (inl z) = inl (let a : one_if (is_mine lent b.0 && same_region (Numbered r) b.1) ≡ 0 =
-        ap (λ x. one_if (x && same_region (Numbered r) b.1)) em ∙ ap one_if et in omega (arith, a, z))
+    go false t em et (inl z) = inl (let a : one_when (is_mine lent b.0 && same_region (Numbered r) b.1) ≡ 0 =
+        ap (λ x. one_when (x && same_region (Numbered r) b.1)) em in omega (arith, a, z))
+    go true false em et (inl z) = inl (let a : one_when (is_mine lent b.0 && same_region (Numbered r) b.1) ≡ 0 =
+        ap (λ x. one_when (x && same_region (Numbered r) b.1)) em ∙ ap one_when et in omega (arith, a, z))
 
 -- what is not a frame's own is the class that it was lent
 lent_name : (lent : Class) (k : ℕ) → is_mine lent k ≡ false → lent ≡ Name k
@@ -242,8 +242,8 @@ core_kept stakes base f fs k q e g c = core_unbound stakes base f fs k
     keeps r u true s = absurd (true≢false (sym (g r (is_same r q s)) ∙ u))
     keeps r u false s =
         let h = held_unbind f.lent r f.names k q c.unique.0 e in
-        let z : one_if (is_mine f.lent k && same_region (Numbered r) q) ≡ 0 =
-        ap (λ x. one_if (is_mine f.lent k && x)) s ∙ none_if (is_mine f.lent k) in
+        let z : one_when (is_mine f.lent k && same_region (Numbered r) q) ≡ 0 =
+        ap (λ x. one_when (is_mine f.lent k && x)) s ∙ none_if (is_mine f.lent k) in
         omega (arith, h, z)
 
 -- the last removal: the goroutine's stake ends with its only holding name
@@ -271,8 +271,8 @@ core_removed stakes base f fs k r e m g c =
     top : held_in f.lent r f.names ≡ 1 + held_in f.lent r (unbind f.names k)
     top =
         let h = held_unbind f.lent r f.names k (Numbered r) c.unique.0 e in
-        let one : one_if (is_mine f.lent k && same_region (Numbered r) (Numbered r)) ≡ 1 =
-        ap (λ x. one_if (x && same_region (Numbered r) (Numbered r))) m ∙ ap one_if (same_self r) in
+        let one : one_when (is_mine f.lent k && same_region (Numbered r) (Numbered r)) ≡ 1 =
+        ap (λ x. one_when (x && same_region (Numbered r) (Numbered r))) m ∙ ap one_when (same_self r) in
         omega (arith, h, one)
 
     none_below : held r fs ≡ 0
@@ -338,8 +338,8 @@ core_removed stakes base f fs k r e m g c =
             keeps : nat_eq r q ≡ false → held_in f.lent q (unbind f.names k) ≡ held_in f.lent q f.names
             keeps n =
                 let h = held_unbind f.lent q f.names k (Numbered r) c.unique.0 e in
-                let z : one_if (is_mine f.lent k && same_region (Numbered q) (Numbered r)) ≡ 0 =
-                ap (λ x. one_if (is_mine f.lent k && x)) (nat_ne_sym r q n) ∙ none_if (is_mine f.lent k) in
+                let z : one_when (is_mine f.lent k && same_region (Numbered q) (Numbered r)) ≡ 0 =
+                ap (λ x. one_when (is_mine f.lent k && x)) (nat_ne_sym r q n) ∙ none_if (is_mine f.lent k) in
                 omega (arith, h, z)
 
 -- protections of the top frame begin and end
@@ -457,8 +457,8 @@ core_created stakes base f fs k r e m fresh c =
         go false e'' = in_more r q stakes (c.staked.0 j q (ap (λ x. bound x j) (sym same) ∙ e''))
 
     counts : (q : ℕ) → held_in f.lent q ((k, Numbered r) ∷ unbind f.names k)
-        ≡ one_if (is_mine f.lent k && nat_eq q r) + held_in f.lent q f.names
-    counts q = ap (λ x. one_if (is_mine f.lent k && nat_eq q r) + held_in f.lent q x) same
+        ≡ one_when (is_mine f.lent k && nat_eq q r) + held_in f.lent q f.names
+    counts q = ap (λ x. one_when (is_mine f.lent k && nat_eq q r) + held_in f.lent q x) same
 
     once : (q : ℕ) → is_in q (r ∷ stakes) ≡ true → IsHeldOnce q base
         (record f { names = (k, Numbered r) ∷ unbind f.names k } ∷ fs)
@@ -473,8 +473,8 @@ core_created stakes base f fs k r e m fresh c =
                 (record f { names = (k, Numbered r) ∷ unbind f.names k } ∷ fs) ≡ 1
             one u =
                 let a = counts q in
-                let b : one_if (is_mine f.lent k && nat_eq q r) ≡ 1 =
-                ap (λ x. one_if (x && nat_eq q r)) m ∙ ap one_if t in
+                let b : one_when (is_mine f.lent k && nat_eq q r) ≡ 1 =
+                ap (λ x. one_when (x && nat_eq q r)) m ∙ ap one_when t in
                 let z : held_in f.lent q f.names + held q fs ≡ 0 =
                 subst (λ x. held_in f.lent x f.names + held x fs ≡ 0) (sym (eq_of q r t)) none in
                 omega (arith, a, b, z)
@@ -485,8 +485,8 @@ core_created stakes base f fs k r e m fresh c =
             other : held q (f ∷ fs) ≡ 1 → held q (record f { names = (k, Numbered r) ∷ unbind f.names k } ∷ fs) ≡ 1
             other h =
                 let a = counts q in
-                let b : one_if (is_mine f.lent k && nat_eq q r) ≡ 0 =
-                ap (λ x. one_if (is_mine f.lent k && x)) n ∙ none_if (is_mine f.lent k) in
+                let b : one_when (is_mine f.lent k && nat_eq q r) ≡ 0 =
+                ap (λ x. one_when (is_mine f.lent k && x)) n ∙ none_if (is_mine f.lent k) in
                 omega (arith, a, b, h)
 
     lent : IsLentBelow base (record f { names = (k, Numbered r) ∷ unbind f.names k }) fs

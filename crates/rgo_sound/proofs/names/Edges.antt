@@ -20,7 +20,7 @@ use Rattle.rgo_flow.specs.Live.{Live, led_to_by, written_by}
 use Rattle.rgo_region_machine.specs.Regions.{Bindings, bound, same_region, unbind}
 use Rattle.rgo_region_machine.specs.declared.regions.Region.{Region}
 use Rattle.rgo_region_machine.specs.declared.regions.Region.TheVariants.{Numbered}
-use Rattle.rgo_sound.specs.Stakes.{one_if}
+use Rattle.rgo_sound.specs.Stakes.{one_when}
 use Rattle.rgo_tac.specs.Flow.{leads_to, writes}
 use Rattle.rgo_tac.specs.declared.regions.Class.{Class}
 use Rattle.rgo_tac.specs.declared.regions.Class.TheVariants.{Global, Name, NoClass}
@@ -120,8 +120,8 @@ module _ (Own : ℕ → Type 0) (Then : Bindings → List Region → Type 0) whe
     h k (contains_here k ks),
     λ q e.
         ready_protects ks names (q ∷ protections) (λ j c. h j (contains_there k ks j c))
-        (λ more eq. next more (λ r. let a = eq r in let b : one_if (same_bound r (bound names k))
-        ≡ one_if (same_region r q) = ap (λ x. one_if (same_bound r x)) e in omega (arith, a, b))),
+        (λ more eq. next more (λ r. let a = eq r in let b : one_when (same_bound r (bound names k))
+        ≡ one_when (same_region r q) = ap (λ x. one_when (same_bound r x)) e in omega (arith, a, b))),
   )
 
 -- ---- along an edge

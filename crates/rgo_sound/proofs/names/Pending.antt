@@ -11,7 +11,7 @@ use Rattle.rgo_region_machine.specs.declared.regions.Region.{Region}
 use Rattle.rgo_region_machine.specs.declared.regions.Region.TheVariants.{Global as GlobalRegion, Numbered}
 use Rattle.rgo_sound.specs.Invariant.{Shares, at_most_one, bound_times, same_bound, shared_before, shared_names}
 use Rattle.rgo_sound.specs.Invariant.{to_share, with_pending}
-use Rattle.rgo_sound.specs.Stakes.{one_if, times_in}
+use Rattle.rgo_sound.specs.Stakes.{one_when, times_in}
 use Rattle.rgo_tac.specs.Frames.{TacFrame}
 
 -- duties without a share
@@ -58,7 +58,7 @@ times_any r [] e = absurd (true≢false (sym e))
 times_any r (x ∷ xs) e = go (nat_eq r x) e (times_any r xs)
   where
     go : (b : Bool) → (b || list_any (nat_eq r) xs) ≡ true → (list_any (nat_eq r) xs ≡ true → 1 ≤ times_in r xs)
-        → 1 ≤ one_if b + times_in r xs
+        → 1 ≤ one_when b + times_in r xs
     go true e next = omega arith
     go false e next = let x = next e in omega (arith, x)
 
@@ -67,7 +67,7 @@ times_none r [] e = refl
 times_none r (x ∷ xs) e = go (nat_eq r x) e (times_none r xs)
   where
     go : (b : Bool) → (b || list_any (nat_eq r) xs) ≡ false → (list_any (nat_eq r) xs ≡ false → times_in r xs ≡ 0)
-        → one_if b + times_in r xs ≡ 0
+        → one_when b + times_in r xs ≡ 0
     go true e next = absurd (true≢false e)
     go false e next = sym (zero_add (times_in r xs)) ∙ next e
 
@@ -82,16 +82,16 @@ at_most_one_some (suc n) h = omega arith
 
 -- one share more
 more_pending : (q : Region) (pending : List ℕ) (c : ℕ → ℕ) → ((r : ℕ) → times_in r pending ≡ at_most_one (c r))
-    → (r : ℕ) → times_in r (with_pending q pending) ≡ at_most_one (one_if (same_region (Numbered r) q) + c r)
+    → (r : ℕ) → times_in r (with_pending q pending) ≡ at_most_one (one_when (same_region (Numbered r) q) + c r)
 more_pending GlobalRegion pending c h r = h r ∙ ap at_most_one (zero_add (c r))
 more_pending (Numbered q) pending c h r = split (list_any (nat_eq q) pending)
     (λ t. ap (λ b. times_in r (if b then pending else q ∷ pending)) t ∙ there t)
     (λ n. ap (λ b. times_in r (if b then pending else q ∷ pending)) n ∙ new n)
   where
-    there : list_any (nat_eq q) pending ≡ true → times_in r pending ≡ at_most_one (one_if (nat_eq r q) + c r)
+    there : list_any (nat_eq q) pending ≡ true → times_in r pending ≡ at_most_one (one_when (nat_eq r q) + c r)
     there t = go (nat_eq r q) refl
       where
-        go : (b : Bool) → nat_eq r q ≡ b → times_in r pending ≡ at_most_one (one_if b + c r)
+        go : (b : Bool) → nat_eq r q ≡ b → times_in r pending ≡ at_most_one (one_when b + c r)
         go true e =
             let a = subst (λ x. 1 ≤ times_in x pending) (sym (eq_of r q e)) (times_any q pending t) in
             let b = h r in
@@ -99,10 +99,10 @@ more_pending (Numbered q) pending c h r = split (list_any (nat_eq q) pending)
             b ∙ at_most_one_is (c r) d ∙ sym (at_most_one_is (1 + c r) (omega arith))
         go false e = h r ∙ ap at_most_one (zero_add (c r))
 
-    new : list_any (nat_eq q) pending ≡ false → times_in r (q ∷ pending) ≡ at_most_one (one_if (nat_eq r q) + c r)
+    new : list_any (nat_eq q) pending ≡ false → times_in r (q ∷ pending) ≡ at_most_one (one_when (nat_eq r q) + c r)
     new n = go (nat_eq r q) refl
       where
-        go : (b : Bool) → nat_eq r q ≡ b → one_if b + times_in r pending ≡ at_most_one (one_if b + c r)
+        go : (b : Bool) → nat_eq r q ≡ b → one_when b + times_in r pending ≡ at_most_one (one_when b + c r)
         go true e =
             let a = subst (λ x. times_in x pending ≡ 0) (sym (eq_of r q e)) (times_none q pending n) in
             ap (λ x. 1 + x) a ∙ sym (at_most_one_is (1 + c r) (omega arith))
@@ -114,10 +114,10 @@ shares_all : (ks todo : List ℕ) (names : Bindings) (pending : List ℕ) (c : �
     ≡ c r + bound_times (Numbered r) names todo) → Shares ks (map Share todo) names pending
 shares_all ks [] names pending c h t = λ r. let a = t r in h r ∙ ap at_most_one (omega (arith, a))
 shares_all ks (k ∷ todo) names pending c h t =
-    λ q b. shares_all ks todo names (with_pending q pending) (λ r. one_if (same_region (Numbered r) q) + c r)
+    λ q b. shares_all ks todo names (with_pending q pending) (λ r. one_when (same_region (Numbered r) q) + c r)
     (more_pending q pending c h)
-    (λ r. let a = t r in let e : one_if (same_bound (Numbered r) (bound names k))
-    ≡ one_if (same_region (Numbered r) q) = ap (λ x. one_if (same_bound (Numbered r) x)) b in omega (arith, a, e))
+    (λ r. let a = t r in let e : one_when (same_bound (Numbered r) (bound names k))
+    ≡ one_when (same_region (Numbered r) q) = ap (λ x. one_when (same_bound (Numbered r) x)) b in omega (arith, a, e))
 
 -- protections share nothing, and what is asked for before an instruction shares what it is to share
 shares_protects : (ps : List ℕ) (names : Bindings) → Shares [] (map Protect ps) names []
@@ -152,7 +152,7 @@ shares_next code frames front n names = shares_front (to_share code frames) fron
 -- where nothing is counted, nothing is pending
 none_in : (xs : List ℕ) → ((r : ℕ) → times_in r xs ≡ 0) → xs ≡ []
 none_in [] h = refl
-none_in (x ∷ xs) h = let a = h x in let b : one_if (nat_eq x x) ≡ 1 = ap one_if (nat_eq_refl x) in
+none_in (x ∷ xs) h = let a = h x in let b : one_when (nat_eq x x) ≡ 1 = ap one_when (nat_eq_refl x) in
     absurd (omega (arith, a, b))
 
 pub none_pending : (names : Bindings) (pending : List ℕ) → Shares [] [] names pending → pending ≡ []

@@ -21,7 +21,7 @@ use Rattle.rgo_sound.specs.Holding.{OneHoldingName, held}
 use Rattle.rgo_sound.specs.Invariant.{Fine, FramesFit, IsFree, IsReady, Settled, Shares, to_share}
 use Rattle.rgo_sound.specs.NextNames.{DutyNames, HasStake}
 use Rattle.rgo_sound.specs.Safety.{AllEnded}
-use Rattle.rgo_sound.specs.Stakes.{HasEnded, StakesAreCounted, holders_of, is_in, one_if, pending_of, times_in}
+use Rattle.rgo_sound.specs.Stakes.{HasEnded, StakesAreCounted, holders_of, is_in, one_when, pending_of, times_in}
 use Rattle.rgo_tac.specs.Frames.{TacFrame}
 
 -- ---- being in a list, as a test
@@ -146,8 +146,8 @@ pub all_unstaked : (code : Code) (s : RegionState) → Fine code s → AllEnded 
     → slice_get s.regions r ≡ Some info → info.stakes ≡ 0
 all_unstaked code s fine ended r info e =
     let a = fine.counted r info e in
-    let b : holders_of s r ≡ 0 = total_none (λ (h : Holder). one_if (is_in r h.stakes)) s.holders
-    (λ g h i. ap one_if (ended_unstaked code s g h fine i (ended g h i) r)) in
+    let b : holders_of s r ≡ 0 = total_none (λ (h : Holder). one_when (is_in r h.stakes)) s.holders
+    (λ g h i. ap one_when (ended_unstaked code s g h fine i (ended g h i) r)) in
     let c : pending_of s r ≡ 0 = total_none (λ (h : Holder). times_in r h.pending) s.holders
     (λ g h i. ap (times_in r) (ended_unpending code s g h fine i (ended g h i))) in
     omega (arith, a, b, c)

@@ -62,7 +62,7 @@ use Rattle.rgo_sound.proofs.steps.Acting.{trap_place}
 use Rattle.rgo_sound.specs.Good.{AllGood, Good, StartIsGood, StepsKeepGood}
 use Rattle.rgo_sound.specs.Invariant.{Fine, GoodHolder}
 use Rattle.rgo_sound.specs.NextNames.{HasStake, InstructionNames, NamesOnlyLive, NextNames}
-use Rattle.rgo_sound.specs.Offers.{IsUnbuffered, OfferFits, OffersFit, StandsAtSend, capacity_of}
+use Rattle.rgo_sound.specs.Offers.{IsUnbuffered, OfferFits, OffersFit, StandsAtSend, channel_capacity}
 use Rattle.rgo_sound.specs.Stakes.{is_in}
 use Rattle.rgo_sound.specs.Values.{FramesLead, LeadsHome, ValuesStay}
 use Rattle.rgo_tac.specs.Frames.{TacFrame, value_at, operand_values}
@@ -80,7 +80,7 @@ use Rattle.rgo_memory.specs.declared.values.Value.TheVariants as value
 -- ---- what an operation on one object leaves has the capacity of the object
 
 abbrev KeepsCapacity : Object → Outcome Object → Type 0
-KeepsCapacity old (Does new v) = capacity_of new ≡ capacity_of old
+KeepsCapacity old (Does new v) = channel_capacity new ≡ channel_capacity old
 KeepsCapacity old (Traps trap) = Unit {0}
 
 stored_keeps : (k : ℕ) (v : Value) (old : Object) → KeepsCapacity old (store_outcome k v old)
@@ -141,17 +141,17 @@ module _ (m : Memory) (b : Bool) where
   answers (Ok v) = stays v
   answers (Err trap) = tt
 
-  writes : (o : ℕ) (object old : Object) (v : Value) → slice_get m.heap o ≡ Some old → capacity_of object
-      ≡ capacity_of old → Steady (Does (with_object m o object) v)
+  writes : (o : ℕ) (object old : Object) (v : Value) → slice_get m.heap o ≡ Some old → channel_capacity object
+      ≡ channel_capacity old → Steady (Does (with_object m o object) v)
   writes o object old v e same = (keeps, λ f. length_set m.heap o object)
     where
-      here : (p : ℕ) (x : Object) → slice_get m.heap p ≡ Some x → capacity_of x ≡ Some 0 → o ≡ p
+      here : (p : ℕ) (x : Object) → slice_get m.heap p ≡ Some x → channel_capacity x ≡ Some 0 → o ≡ p
           → IsUnbuffered (with_object m o object) p
       here p x q c u = (
         object,
         ap (slice_get (slice_set m.heap o object)) (sym u)
             ∙ get_set_same m.heap o old object e,
-        same ∙ ap capacity_of
+        same ∙ ap channel_capacity
             (same_Some old x (sym e ∙ ap (slice_get m.heap) u ∙ q)) ∙ c,
       )
 
@@ -271,7 +271,7 @@ module _ (m : Memory) where
   makes : (object : Object) → Steady m true (made m object)
   makes object = ((λ p u. keeps p u.0 u.1 u.2), λ f. absurd (true≢false f))
     where
-      keeps : (p : ℕ) (x : Object) → slice_get m.heap p ≡ Some x → capacity_of x ≡ Some 0
+      keeps : (p : ℕ) (x : Object) → slice_get m.heap p ≡ Some x → channel_capacity x ≡ Some 0
           → IsUnbuffered (record m { heap = m.heap ++ object ∷ [] }) p
       keeps p x q c = (x, get_append_left m.heap (object ∷ []) p (slice_get_within m.heap p x q) ∙ q, c)
 
@@ -586,7 +586,7 @@ sends_trap m frame callers to place o w a (object, e, c) q =
     not_below : (n : ℕ) → nat_lt n 0 ≡ false
     not_below n = grind arith
 
-    go : (object : Object) → capacity_of object ≡ Some 0 → effected m frame callers to place
+    go : (object : Object) → channel_capacity object ≡ Some 0 → effected m frame callers to place
         (option_map silent (in_memory_if_ready m o (sent w object))) ≡ Some a → (kind : TrapKind)
         × (a ≡ trapped_there m (frame ∷ callers) (Trap kind place))
     go (StructObject cells) c q = cc

@@ -10,7 +10,7 @@ use Rattle.rgo_machine.specs.declared.picks.End.{End}
 use Rattle.rgo_machine.specs.declared.picks.Pick.{Pick}
 use Rattle.rgo_machine.specs.declared.picks.Pick.TheVariants.{Meet, One}
 use Rattle.rgo_region_machine.specs.Duties.{attend, duty_done, protected, removal, shared}
-use Rattle.rgo_region_machine.specs.Instructions.{both_instructed, instruct, instructed, instructed_at, marked}
+use Rattle.rgo_region_machine.specs.Instructions.{both_instructed, instruct, instructed, instructed_at, mark_with_end}
 use Rattle.rgo_region_machine.specs.Instructions.{one_instructed, plain_after, printed_if, some_instructed}
 use Rattle.rgo_region_machine.specs.Machine.{Acknowledge, Attend, Event, Finish, Instruct, MakeOffer, TakePage, kept_mark}
 use Rattle.rgo_region_machine.specs.Machine.{page_for, page_taken, region_start, region_step, take_page, plain_step}
@@ -159,10 +159,10 @@ kept_acknowledge s g h (Taken o) = yields_if _ _ _ (same s _ refl refl) yields_n
 -- t is s after an instruction that led the plain machine to next
 pub record Instructs (s : RegionState) (next : TacState) (t : RegionState) : Type 0 where
   pub plain : t.plain ≡ plain_after s next
-  pub mark : t.mark ≡ marked s.mark next.ended
+  pub mark : t.mark ≡ mark_with_end s.mark next.ended
 
 instructs : (s : RegionState) (next : TacState) (t : RegionState) → t.plain ≡ plain_after s next → t.mark
-    ≡ marked s.mark next.ended → Yields (Instructs s next) (Some t)
+    ≡ mark_with_end s.mark next.ended → Yields (Instructs s next) (Some t)
 instructs s next t p m = record { fact = record { plain = p; mark = m } }
 
 by_instructs : (code : Code) (page_words : ℕ) (s : RegionState) (g : ℕ) (h : Holder) (frame : TacFrame)
@@ -240,7 +240,7 @@ over_here : (s t : RegionState) (event : Event) (code : Code) (page_words : ℕ)
 over_here s t (Instruct pick) code page_words end m f =
     record {
       printed = ap (λ p. p.printed) f.2.plain ∙ ap (λ n. printed_if n s.plain.printed f.0.printed) m;
-      mark = f.2.mark ∙ ap (λ n. marked n f.0.ended) m;
+      mark = f.2.mark ∙ ap (λ n. mark_with_end n f.0.ended) m;
     }
 over_here s t (Finish e) code page_words end m f = record
     { printed = ap (λ p. p.printed) f.0; mark = f.1 ∙ ap (λ n. kept_mark n e) m }
@@ -312,8 +312,8 @@ module _ (code : Code) (page_words : ℕ) where
       begins : run (tac_step (erased code)) s.plain (pick ∷ rest) ≡ run (tac_step (erased code)) f.0 rest
       begins = ap (option_and_then (λ u. run (tac_step (erased code)) u rest)) f.1
 
-      marks : s'.mark ≡ marked None f.0.ended
-      marks = f.2.mark ∙ ap (λ q. marked q f.0.ended) m
+      marks : s'.mark ≡ mark_with_end None f.0.ended
+      marks = f.2.mark ∙ ap (λ q. mark_with_end q f.0.ended) m
 
       after_pick : (o : Option End) → f.0.ended ≡ o → Erases s.plain (pick ∷ rest) t
       after_pick None q =
@@ -324,11 +324,11 @@ module _ (code : Code) (page_words : ℕ) where
             printed = printed_if (m i) s.plain.printed f.0.printed;
             ended = sym q i;
           } in
-          let on = next (marks ∙ ap (marked None) q) (ap (λ p. p.ended) f.2.plain) in
+          let on = next (marks ∙ ap (mark_with_end None) q) (ap (λ p. p.ended) f.2.plain) in
           let x = subst (λ p. Erases p rest t) (f.2.plain ∙ plain) on in
           record { state = x.state; leads = begins ∙ x.leads; print = x.print; end = x.end; same = x.same }
       after_pick (Some x) q =
-          let mark : s'.mark ≡ Some (Ended x) = marks ∙ ap (marked None) q in
+          let mark : s'.mark ≡ Some (Ended x) = marks ∙ ap (mark_with_end None) q in
           let over = over_stays events s' t (Ended x) mark r in
           record {
             state = f.0;

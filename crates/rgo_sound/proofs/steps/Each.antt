@@ -40,7 +40,7 @@ use Rattle.rgo_region_machine.specs.declared.regions.Region.{Region}
 use Rattle.rgo_region_machine.specs.declared.regions.Region.TheVariants.{Global as GlobalRegion, Numbered}
 use Rattle.rgo_memory.specs.Memory.{Object}
 use Rattle.rgo_sound.specs.Invariant.{Fine, GoodHolder, IsFree, IsReady, Settled}
-use Rattle.rgo_sound.specs.Stakes.{holders_of, is_in, one_if, pending_of, times_in, total}
+use Rattle.rgo_sound.specs.Stakes.{holders_of, is_in, one_when, pending_of, times_in, total}
 use Rattle.rgo_tac.specs.Code.{TacFn}
 use Rattle.rgo_tac.specs.Frames.{TacFrame, new_tac_frame}
 use Rattle.rgo_tac.specs.Tac.{tac_main_frames, tac_start}
@@ -92,12 +92,12 @@ module _ (code : Code) (page_words : ℕ) (s : RegionState) (fine : Fine code s)
               ap (λ (x : RegionInfo). x.stakes) (same_Some info (one_page_more o) v) ∙ fine.counted q o p
 
       counts : (q : ℕ) (info : RegionInfo) → slice_get (with_info s.regions r one_page_more) q ≡ Some info → info.stakes
-          ≡ total (λ (x : Holder). one_if (is_in q x.stakes))
+          ≡ total (λ (x : Holder). one_when (is_in q x.stakes))
           (slice_set s.holders g (with_page page_words h (Numbered r) object)) + total
           (λ (x : Holder). times_in q x.pending) (slice_set s.holders g
           (with_page page_words h (Numbered r) object))
       counts q info i =
-          let a = total_set (λ (x : Holder). one_if (is_in q x.stakes)) s.holders g h
+          let a = total_set (λ (x : Holder). one_when (is_in q x.stakes)) s.holders g h
           (with_page page_words h (Numbered r) object) e in
           let b = total_set (λ (x : Holder). times_in q x.pending) s.holders g h
           (with_page page_words h (Numbered r) object) e in

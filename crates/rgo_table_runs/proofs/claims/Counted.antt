@@ -3,7 +3,7 @@ use Rattle.std.proofs.Common.{◌≡◌, ℕ, ◌+◌, List, [], ◌∷◌, ◌+
 use Rattle.std.proofs.lemmas.Option.{same_Some}
 use Rattle.std.specs.Prelude.{option_map, unwrap_or, slice_get}
 use Rattle.rgo_sound.specs.Code.Code.{Code}
-use Rattle.rgo_core.specs.Runs.{limited_step}
+use Rattle.rgo_core.specs.runs.Runs.{step_in_limits}
 use Rattle.rgo_sound.specs.Machine.Runs.{run}
 use Rattle.rgo_sound.specs.Machine.declared.limits.Limits.{Limits}
 use Rattle.rgo_sound.specs.RegionMachine.Counts.{Counts}
@@ -28,11 +28,11 @@ module _ (code : Code) (page_words : ℕ) (limits : Limits) where
       by_event (MakeOffer g) f = refl
       by_event (Acknowledge g) f = refl
 
-  pub counted : (events : List Event) (s t : RegionState) → t.mark ≡ None → run (limited_step code page_words limits) s events ≡ Some t
+  pub counted : (events : List Event) (s t : RegionState) → t.mark ≡ None → run (step_in_limits code page_words limits) s events ≡ Some t
       → length (erased_picks code page_words s events) + s.steps ≡ t.steps
   counted [] s t none e = let z : s.steps ≡ t.steps = ap (λ (u : RegionState). u.steps) (same_Some s t e) in omega arith
   counted (event ∷ events) s t none e =
-      let f = first_step (limited_step code page_words limits) s t event events e in
+      let f = first_step (step_in_limits code page_words limits) s t event events e in
       let one = one_step code page_words limits s f.0 event f.1 in
       let rest = counted events f.0 t none f.2 in
       let now = one_counted s f.0 event one.0 (follows code page_words limits s f.0 event one.0) in

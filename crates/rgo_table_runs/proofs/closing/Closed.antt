@@ -4,18 +4,18 @@ use Rattle.std.proofs.lemmas.Option.{same_Some}
 use Rattle.std.specs.Io.KnownBytes.{Appends}
 use Rattle.rgo_core.proofs.Lists.{get_of}
 use Rattle.rgo_core.specs.Core.{CoreAt, Setup, layout}
-use Rattle.rgo_core.specs.Links.{left_to_free}
+use Rattle.rgo_core.specs.ties.Links.{left_to_free}
 use Rattle.rgo_core.specs.Records.{ClockRec, Drawn, Record, all_counted, clock_of}
 use Rattle.rgo_core.proofs.Memory.image.Stepped.{map_get}
 use Rattle.rgo_core.specs.Rule.Lists.{flattened}
-use Rattle.rgo_core.specs.Rule.Views.{Has, Rows}
+use Rattle.rgo_core.specs.Rule.Views.{HasRow, Rows}
 use Rattle.rgo_core.specs.Rule.declared.accesses.View.{View}
 use Rattle.rgo_core_steps.specs.Outcomes.{ClosesTable}
 use Rattle.rgo_sound.specs.Machine.declared.ends.RunEnd.{RunEnd}
 use Rattle.rgo_sound.specs.Machine.declared.ends.RunEnd.TheVariants as run_end
 use Rattle.rgo_sound.specs.RegionMachine.Counts.{Counts}
 use Rattle.rgo_sound.specs.RegionMachine.States.{Ended, Mark, RegionState, Stopped}
-use Rattle.rgo_table_runs.specs.closing.Ends.{TableRunEnds, GaveOut, IsFirst, end_of}
+use Rattle.rgo_table_runs.specs.closing.Ends.{TableRunEnds, GaveOut, IsFirst, run_end_of_mark}
 use Rattle.rgo_table_runs.specs.closing.Laws.{ClosedClaims, ClosedRuns, HasClosed, RowsAreAll, last_state, whole_run}
 use Rattle.rgo_table_runs.specs.closing.Prints.{AllGiven, bytes_of}
 use Rattle.rgo_table_runs.specs.closing.Rows.{AreAll, all_shares}
@@ -44,21 +44,21 @@ module _ {T : Setup} {words : List ℕ} {v : View Record} (e : ClosesTable T wor
   pub recs_are : e.recs ≡ map record_in rows
   recs_are = all_rows T words v e rows all
 
-  pub has_row : (g : ℕ) (c : Record) → slice_get e.recs g ≡ Some c → Has rows g c
+  pub has_row : (g : ℕ) (c : Record) → slice_get e.recs g ≡ Some c → HasRow rows g c
   has_row g c q = row_of T words v e rows all g c q
 
-  pub is_there : (g : ℕ) (c : Record) → Has rows g c → slice_get e.recs g ≡ Some c
+  pub is_there : (g : ℕ) (c : Record) → HasRow rows g c → slice_get e.recs g ≡ Some c
   is_there g c has = get_of e.recs g c (row_there T words v e rows all g c has)
 
-  clock_here : (g : ℕ) (c : Record) → Has rows g c → slice_get (map clock_of e.recs) g ≡ Some c.clock
+  clock_here : (g : ℕ) (c : Record) → HasRow rows g c → slice_get (map clock_of e.recs) g ≡ Some c.clock
   clock_here g c has = map_get clock_of e.recs g c (is_there g c has)
 
-  clock_row : (g : ℕ) (c : ClockRec) → slice_get (map clock_of e.recs) g ≡ Some c → (d : Record) × Has rows g d × (d.clock ≡ c)
+  clock_row : (g : ℕ) (c : ClockRec) → slice_get (map clock_of e.recs) g ≡ Some c → (d : Record) × HasRow rows g d × (d.clock ≡ c)
   clock_row g c q = let f = find_clock e.recs g c q in (f.0, has_row g f.0 f.1, f.2)
 
   pub tally_is : all_counted (map clock_of e.recs) ≡ all_shares rows
   tally_is = ap (λ (l : List Record). all_counted (map clock_of l)) recs_are
-      ∙ all_counts rows (λ i r q. let has : Has rows r.0 r.1 = (i, q) in
+      ∙ all_counts rows (λ i r q. let has : HasRow rows r.0 r.1 = (i, q) in
       (at_last.links r.0 r.1 (is_there r.0 r.1 has)).owed ∙ ap (left_to_free (layout T) words) (all.calm r.0 r.1 has))
 
   module _ (given : List Drawn) (first : Option Mark) (tested : ℕ) (end : RunEnd) (old new : Option (List ℕ))
@@ -85,7 +85,7 @@ module _ {T : Setup} {words : List ℕ} {v : View Record} (e : ClosesTable T wor
     mark_is : (mark : Mark) → IsFirst rows (Some mark) → s.mark ≡ Some mark
     mark_is = its_mark words (map clock_of e.recs) s before at_last.story.late at_last.story.clock rows clock_here clock_row
 
-    by_mark : (mark : Mark) (end : RunEnd) → IsFirst rows (Some mark) → end_of mark ≡ end → Appends old new (flattened before) → Run end
+    by_mark : (mark : Mark) (end : RunEnd) → IsFirst rows (Some mark) → run_end_of_mark mark ≡ end → Appends old new (flattened before) → Run end
     by_mark (Ended x) end f is gave = subst Run is
         (by_instruction T.code T.sizes T.limits words (map clock_of e.recs) (whole_run e) s at_last.story x old new (mark_is (Ended x) f) gave)
     by_mark (Stopped l) end f is gave =

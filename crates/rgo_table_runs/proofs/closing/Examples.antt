@@ -6,13 +6,13 @@ use lib.ListN.{get_elem?}
 use Rattle.rgo_core.proofs.Lists.{elem_of}
 use Rattle.rgo_core.proofs.runs.Opening.{opening_law}
 use Rattle.rgo_core.specs.Core.{Core, Setup}
-use Rattle.rgo_core.specs.Opening.{first_of, opening}
+use Rattle.rgo_core.specs.runs.Opening.{first_of, opening_table}
 use Rattle.rgo_core.specs.Records.{Drawn, Record, accesses, blank, drawn_at, fresh, with_end, with_print}
-use Rattle.rgo_core.specs.Frames.Constants.{ConstantsFit}
+use Rattle.rgo_core.specs.Frames.shown.Constants.{ConstantsFit}
 use Rattle.rgo_core.specs.Memory.Records.{Calm}
 use Rattle.rgo_core.specs.Rule.Histories.{replay}
 use Rattle.rgo_core.specs.Rule.Lists.{flattened}
-use Rattle.rgo_core.specs.Rule.Views.{Has, view}
+use Rattle.rgo_core.specs.Rule.Views.{HasRow, view}
 use Rattle.rgo_sound.specs.Code.Checked.{IsChecked}
 use Rattle.rgo_sound.specs.Code.NameRules.{Ascends}
 use Rattle.rgo_core_steps.specs.Outcomes.{ClosesTable}
@@ -23,23 +23,23 @@ use Rattle.rgo_sound.specs.RegionMachine.Counts.{Counts}
 use Rattle.rgo_sound.specs.RegionMachine.States.{Ended, Mark, Stopped}
 use Rattle.rgo_sound.specs.Tally.{no_share}
 use Rattle.rgo_sound.specs.RegionMachine.declared.limits.Limit.TheVariants.{Memory}
-use Rattle.rgo_table_runs.specs.closing.Examples.{ClosingExamples, family, main_alone, parent, printers, with_clock}
-use Rattle.rgo_table_runs.specs.closing.Gathering.{IsIn}
+use Rattle.rgo_table_runs.specs.closing.Examples.{TableClosingExamples, family, row_of_main, parent_record, printers, with_clock}
+use Rattle.rgo_table_runs.specs.closing.Gathering.{IsDrawnIn}
 use Rattle.rgo_table_runs.specs.closing.Laws.{HasClosed}
-use Rattle.rgo_table_runs.specs.closing.Members.{SomeHasNumber, HasPrinted, IsListed, IsOneOf, Member, retired}
-use Rattle.rgo_table_runs.specs.closing.Prints.{AllGiven, IsPrint}
+use Rattle.rgo_table_runs.specs.closing.Members.{SomeHasNumber, HasPrinted, ListHasNumber, IsOneOf, Member, retired}
+use Rattle.rgo_table_runs.specs.closing.Prints.{AllGiven, SomePrinted}
 use Rattle.rgo_table_runs.specs.closing.Rows.{AreAll}
 
 -- ---- rows of two goroutines, and of one
 
 module _ (a b : Record) (P : ℕ → Record → Type 0) (p : P 0 a) (q : P 1 b) where
-  each_of_two : (g : ℕ) (c : Record) → Has ((0, a) ∷ (1, b) ∷ []) g c → P g c
+  each_of_two : (g : ℕ) (c : Record) → HasRow ((0, a) ∷ (1, b) ∷ []) g c → P g c
   each_of_two g c (zero, e) = subst (λ (r : ℕ × Record). P r.0 r.1) (some-injective (0, a) (g, c) e) p
   each_of_two g c (suc zero, e) = subst (λ (r : ℕ × Record). P r.0 r.1) (some-injective (1, b) (g, c) e) q
   each_of_two g c (suc (suc k), e) = absurd (some-ne-none (g, c) (sym e))
 
 module _ (a : Record) (P : ℕ → Record → Type 0) (p : P 0 a) where
-  each_of_one : (g : ℕ) (c : Record) → Has ((0, a) ∷ []) g c → P g c
+  each_of_one : (g : ℕ) (c : Record) → HasRow ((0, a) ∷ []) g c → P g c
   each_of_one g c (zero, e) = subst (λ (r : ℕ × Record). P r.0 r.1) (some-injective (0, a) (g, c) e) p
   each_of_one g c (suc k, e) = absurd (some-ne-none (g, c) (sym e))
 
@@ -64,30 +64,30 @@ family_all : AreAll (view family []) family
 family_all = record {
   here = λ g c has. has;
   family = record {
-    main = (parent, (0, refl));
-    children = λ g h i c has at. each_of_two parent (with_clock blank) (λ g c. slice_get c.clock.children i ≡ Some h → (d : Record) × Has family h d)
-        (λ e. subst (λ (k : ℕ). (d : Record) × Has family k d) (sym (its_child i h e)) (with_clock blank, (1, refl))) (λ e. absurd (no_child i h e)) g c has at;
+    main = (parent_record, (0, refl));
+    children = λ g h i c has at. each_of_two parent_record (with_clock blank) (λ g c. slice_get c.clock.children i ≡ Some h → (d : Record) × HasRow family h d)
+        (λ e. subst (λ (k : ℕ). (d : Record) × HasRow family k d) (sym (its_child i h e)) (with_clock blank, (1, refl))) (λ e. absurd (no_child i h e)) g c has at;
   };
   ascending = ascending;
-  calm = each_of_two parent (with_clock blank) (λ g c. c.memory.give ≡ Calm) refl refl;
+  calm = each_of_two parent_record (with_clock blank) (λ g c. c.memory.give ≡ Calm) refl refl;
 }
   where
     ascending : (i : ℕ) (r q : ℕ × Record) → get_elem? family i ≡ some r → get_elem? family (suc i) ≡ some q → r.0 < q.0
     ascending zero r q e f =
-        let a : 0 ≡ r.0 = ap (λ (x : ℕ × Record). x.0) (some-injective (0, parent) r e) in
+        let a : 0 ≡ r.0 = ap (λ (x : ℕ × Record). x.0) (some-injective (0, parent_record) r e) in
         let b : 1 ≡ q.0 = ap (λ (x : ℕ × Record). x.0) (some-injective (1, with_clock blank) q f) in
         omega (arith, a, b)
     ascending (suc zero) r q e f = absurd (some-ne-none q (sym f))
     ascending (suc (suc i)) r q e f = absurd (some-ne-none q (sym f))
 
-one_row : (k : ℕ) (c d : Record) → Has ((0, c) ∷ []) (suc k) d → ⊥
+one_row : (k : ℕ) (c d : Record) → HasRow ((0, c) ∷ []) (suc k) d → ⊥
 one_row k c d (zero, e) = let z : 0 ≡ suc k = ap (λ (x : ℕ × Record). x.0) (some-injective (0, c) (suc k, d) e) in omega (arith, z)
 one_row k c d (suc i, e) = some-ne-none (suc k, d) (sym e)
 
-first_print : IsPrint printers (drawn_at 0 (9 ∷ []))
+first_print : SomePrinted printers (drawn_at 0 (9 ∷ []))
 first_print = record { goroutine = 1; its = with_clock (with_print blank 0 (9 ∷ [])); has = (1, refl); place = 0; there = refl }
 
-second_print : IsPrint printers (drawn_at 1 (7 ∷ 8 ∷ []))
+second_print : SomePrinted printers (drawn_at 1 (7 ∷ 8 ∷ []))
 second_print = record { goroutine = 0; its = with_clock (with_print fresh 1 (7 ∷ 8 ∷ [])); has = (0, refl); place = 0; there = refl }
 
 both_given : AllGiven printers (drawn_at 0 (9 ∷ []) ∷ drawn_at 1 (7 ∷ 8 ∷ []) ∷ [])
@@ -103,7 +103,7 @@ not_both a b ne e = ne (same_Some a b e)
 another_end : Ended Exit ≡ Stopped Memory → ⊥
 another_end e = cc e
 
-none_printed : (d : Drawn) → IsPrint main_alone d → ⊥
+none_printed : (d : Drawn) → SomePrinted row_of_main d → ⊥
 none_printed d p = each_of_one (with_clock fresh) (λ g c. get_elem? c.clock.prints p.place ≡ some d → ⊥) (λ e. some-ne-none d (sym e)) p.goroutine p.its p.has p.there
 
 spent_all : (steps : ℕ) → steps ≡ 5 → (steps ≤ 5) × (3 ≤ 5) × (3 < max 1 steps)
@@ -115,7 +115,7 @@ module _ (T : Setup) (checked : IsChecked T.code) (ascends : Ascends T.code) (co
   abbrev main : Record
   main = first_of T.code
 
-  opened : ClosesTable T (opening T) (view ((0, main) ∷ []) [])
+  opened : ClosesTable T (opening_table T) (view ((0, main) ∷ []) [])
   opened = record {
     recs = main ∷ [];
     history = [];
@@ -134,12 +134,12 @@ module _ (T : Setup) (checked : IsChecked T.code) (ascends : Ascends T.code) (co
     here = each_of_one main (λ g c. (get_elem? (main ∷ []) g ≡ some c) × (accesses c ≡ 0)) (refl, refl);
   }
     where
-      moments : (k : ℕ) → k ≤ 0 → (then : List Record) × Core T (replay (opening T) (take k [])) then (flattened (take k []))
+      moments : (k : ℕ) → k ≤ 0 → (then : List Record) × Core T (replay (opening_table T) (take k [])) then (flattened (take k []))
       moments zero l = (main ∷ [], opening_law T checked ascends constants few)
       moments (suc k) l = absurd (omega arith)
 
-  pub closed_at_once : (e : ClosesTable T (opening T) (view ((0, main) ∷ []) []))
-      × HasClosed T (opening T) (view ((0, main) ∷ []) []) e ((0, main) ∷ []) [] None 0 NoMemory None None
+  pub closed_at_once : (e : ClosesTable T (opening_table T) (view ((0, main) ∷ []) []))
+      × HasClosed T (opening_table T) (view ((0, main) ∷ []) []) e ((0, main) ∷ []) [] None 0 NoMemory None None
   closed_at_once = (
     opened,
     record {
@@ -147,7 +147,7 @@ module _ (T : Setup) (checked : IsChecked T.code) (ascends : Ascends T.code) (co
         here = λ g c has. has;
         family = record {
           main = (main, (0, refl));
-          children = λ g h i c has at. each_of_one main (λ g c. slice_get c.clock.children i ≡ Some h → (d : Record) × Has ((0, main) ∷ []) h d)
+          children = λ g h i c has at. each_of_one main (λ g c. slice_get c.clock.children i ≡ Some h → (d : Record) × HasRow ((0, main) ∷ []) h d)
               (λ e. absurd (no_child i h e)) g c has at;
         };
         ascending = λ i r q e f. absurd (some-ne-none q (sym f));
@@ -176,50 +176,50 @@ second_printer = with_clock (with_print blank 0 (9 ∷ []))
 abbrev both : List Drawn
 both = drawn_at 0 (9 ∷ []) ∷ drawn_at 1 (7 ∷ 8 ∷ []) ∷ []
 
-their_own : (g : ℕ) (share : Counts) → slice_get (parent.clock.share ∷ []) g ≡ Some share
-    → ((c : Record) × Has family g c) ⊎ (share ≡ no_share)
-their_own zero share e = inl (parent, (0, refl))
+their_own : (g : ℕ) (share : Counts) → slice_get (parent_record.clock.share ∷ []) g ≡ Some share
+    → ((c : Record) × HasRow family g c) ⊎ (share ≡ no_share)
+their_own zero share e = inl (parent_record, (0, refl))
 their_own (suc g) share e = let z : None ≡ Some share = e in absurd (cc z)
 
-pub closing_examples : ClosingExamples
+pub closing_examples : TableClosingExamples
 closing_examples = record {
   all = family_all;
-  fewer = λ k. let d = k.family.children 0 1 0 parent (0, refl) refl in one_row 0 parent d.0 d.1;
-  swapped = λ k. let l = k.ascending 0 (1, with_clock blank) (0, parent) refl refl in omega arith;
+  fewer = λ k. let d = k.family.children 0 1 0 parent_record (0, refl) refl in one_row 0 parent_record d.0 d.1;
+  swapped = λ k. let l = k.ascending 0 (1, with_clock blank) (0, parent_record) refl refl in omega arith;
   unknown = λ k. let h = k.here 0 (with_clock fresh) (0, refl) in some-ne-none (0, with_clock fresh) (sym h.1);
   shares = refl;
   by_number = refl;
   shared = record {
-    its = each_of_two parent (with_clock blank)
-        (λ g c. (slice_get (parent.clock.share ∷ []) g ≡ Some c.clock.share) ⊎ ((1 ≤ g) × (c.clock.share ≡ no_share)))
+    its = each_of_two parent_record (with_clock blank)
+        (λ g c. (slice_get (parent_record.clock.share ∷ []) g ≡ Some c.clock.share) ⊎ ((1 ≤ g) × (c.clock.share ≡ no_share)))
         (inl refl) (inr (omega arith, refl));
     others = their_own;
   };
   unshared = λ k. ⊎_elim
-      (λ (e : None ≡ Some parent.clock.share). cc e)
-      (λ (t : (0 ≤ 0) × (parent.clock.share ≡ no_share)). let z = ap (λ (c : Counts). c.steps) t.1 in omega (arith, z))
-      (k.its 0 parent (0, refl));
+      (λ (e : None ≡ Some parent_record.clock.share). cc e)
+      (λ (t : (0 ≤ 0) × (parent_record.clock.share ≡ no_share)). let z = ap (λ (c : Counts). c.steps) t.1 in omega (arith, z))
+      (k.its 0 parent_record (0, refl));
   nobodys = λ k. ⊎_elim
-      (λ (t : (c : Record) × Has main_alone 1 c). one_row 0 (with_clock fresh) t.0 t.1)
+      (λ (t : (c : Record) × HasRow row_of_main 1 c). one_row 0 (with_clock fresh) t.0 t.1)
       (λ (none : record no_share { steps = 1 } ≡ no_share). let z = ap (λ (c : Counts). c.steps) none in omega (arith, z))
       (k.others 1 (record no_share { steps = 1 }) refl);
   sum = refl;
   gathered = record {
     each = λ d p valid. each_of_two (with_clock (with_print fresh 1 (7 ∷ 8 ∷ []))) (with_clock (with_print blank 0 (9 ∷ [])))
-        (λ g c. (i : ℕ) → get_elem? c.clock.prints i ≡ some d → IsIn both d ⊎ IsIn [] d)
-        (λ i e. one_only (drawn_at 1 (7 ∷ 8 ∷ [])) (λ j d. IsIn both d ⊎ IsIn [] d) (inl (1, refl)) i d e)
-        (λ i e. one_only (drawn_at 0 (9 ∷ [])) (λ j d. IsIn both d ⊎ IsIn [] d) (inl (0, refl)) i d e)
+        (λ g c. (i : ℕ) → get_elem? c.clock.prints i ≡ some d → IsDrawnIn both d ⊎ IsDrawnIn [] d)
+        (λ i e. one_only (drawn_at 1 (7 ∷ 8 ∷ [])) (λ j d. IsDrawnIn both d ⊎ IsDrawnIn [] d) (inl (1, refl)) i d e)
+        (λ i e. one_only (drawn_at 0 (9 ∷ [])) (λ j d. IsDrawnIn both d ⊎ IsDrawnIn [] d) (inl (0, refl)) i d e)
         p.goroutine p.its p.has p.place p.there;
     next = λ d t. absurd (some-ne-none d (sym t.1));
   };
   withheld = λ k. k.next (drawn_at 1 (7 ∷ 8 ∷ [])) (0, refl) refl;
   ungathered = λ k. ⊎_elim
-      (λ (t : IsIn (drawn_at 0 (9 ∷ []) ∷ []) (drawn_at 1 (7 ∷ 8 ∷ []))).
+      (λ (t : IsDrawnIn (drawn_at 0 (9 ∷ []) ∷ []) (drawn_at 1 (7 ∷ 8 ∷ []))).
       let z = one_only (drawn_at 0 (9 ∷ [])) (λ j d. d.ticket ≡ 0) refl t.0 (drawn_at 1 (7 ∷ 8 ∷ [])) t.1 in omega (arith, z))
-      (λ (t : IsIn [] (drawn_at 1 (7 ∷ 8 ∷ []))). some-ne-none (drawn_at 1 (7 ∷ 8 ∷ [])) (sym t.1))
+      (λ (t : IsDrawnIn [] (drawn_at 1 (7 ∷ 8 ∷ []))). some-ne-none (drawn_at 1 (7 ∷ 8 ∷ [])) (sym t.1))
       (k.each (drawn_at 1 (7 ∷ 8 ∷ [])) second_print refl);
   in_order = record {
-    are = two_only (drawn_at 0 (9 ∷ [])) (drawn_at 1 (7 ∷ 8 ∷ [])) (λ i d. IsPrint printers d) first_print second_print;
+    are = two_only (drawn_at 0 (9 ∷ [])) (drawn_at 1 (7 ∷ 8 ∷ [])) (λ i d. SomePrinted printers d) first_print second_print;
     next = two_only (drawn_at 0 (9 ∷ [])) (drawn_at 1 (7 ∷ 8 ∷ [])) (λ i d. d.ticket ≡ i) refl refl;
     valid = two_only (drawn_at 0 (9 ∷ [])) (drawn_at 1 (7 ∷ 8 ∷ [])) (λ i d. d.is_void ≡ false) refl refl;
   };
@@ -230,26 +230,26 @@ closing_examples = record {
   bytes = refl;
   none_lost = record {
     main = (retired (0, first_printer), (0, refl), refl);
-    children = λ m h one t. absurd (two_only (retired (0, first_printer)) (retired (1, second_printer)) (λ i m. IsListed m.its.clock.children h → ⊥)
+    children = λ m h one t. absurd (two_only (retired (0, first_printer)) (retired (1, second_printer)) (λ i m. ListHasNumber m.its.clock.children h → ⊥)
         (λ t. no_child t.0 h t.1) (λ t. no_child t.0 h t.1) one.0 m one.1 t);
-    prints = λ m d one t valid. inl (two_only (retired (0, first_printer)) (retired (1, second_printer)) (λ i m. HasPrinted m.its d → IsIn both d)
-        (λ t. one_only (drawn_at 1 (7 ∷ 8 ∷ [])) (λ i d. IsIn both d) (1, refl) t.0 d (elem_of (drawn_at 1 (7 ∷ 8 ∷ []) ∷ []) t.0 d t.1))
-        (λ t. one_only (drawn_at 0 (9 ∷ [])) (λ i d. IsIn both d) (0, refl) t.0 d (elem_of (drawn_at 0 (9 ∷ []) ∷ []) t.0 d t.1))
+    prints = λ m d one t valid. inl (two_only (retired (0, first_printer)) (retired (1, second_printer)) (λ i m. HasPrinted m.its d → IsDrawnIn both d)
+        (λ t. one_only (drawn_at 1 (7 ∷ 8 ∷ [])) (λ i d. IsDrawnIn both d) (1, refl) t.0 d (elem_of (drawn_at 1 (7 ∷ 8 ∷ []) ∷ []) t.0 d t.1))
+        (λ t. one_only (drawn_at 0 (9 ∷ [])) (λ i d. IsDrawnIn both d) (0, refl) t.0 d (elem_of (drawn_at 0 (9 ∷ []) ∷ []) t.0 d t.1))
         one.0 m one.1 t);
     are = λ d t. two_only (drawn_at 0 (9 ∷ [])) (drawn_at 1 (7 ∷ 8 ∷ []))
         (λ i d. (d.is_void ≡ false) × (m : Member) × IsOneOf (map retired printers) m × HasPrinted m.its d)
         (refl, retired (1, second_printer), (1, refl), (0, refl)) (refl, retired (0, first_printer), (0, refl), (0, refl)) t.0 d t.1;
   };
   lost_print = λ k. ⊎_elim
-      (λ (t : IsIn (drawn_at 0 (9 ∷ []) ∷ []) (drawn_at 1 (7 ∷ 8 ∷ []))).
+      (λ (t : IsDrawnIn (drawn_at 0 (9 ∷ []) ∷ []) (drawn_at 1 (7 ∷ 8 ∷ []))).
       let z = one_only (drawn_at 0 (9 ∷ [])) (λ j d. d.ticket ≡ 0) refl t.0 (drawn_at 1 (7 ∷ 8 ∷ [])) t.1 in omega (arith, z))
-      (λ (t : IsIn [] (drawn_at 1 (7 ∷ 8 ∷ []))). some-ne-none (drawn_at 1 (7 ∷ 8 ∷ [])) (sym t.1))
+      (λ (t : IsDrawnIn [] (drawn_at 1 (7 ∷ 8 ∷ []))). some-ne-none (drawn_at 1 (7 ∷ 8 ∷ [])) (sym t.1))
       (k.prints (retired (0, first_printer)) (drawn_at 1 (7 ∷ 8 ∷ [])) (0, refl) (0, refl) refl);
   lost_child = λ k. ⊎_elim
-      (λ (t : SomeHasNumber (map retired ((0, parent) ∷ [])) 1).
-      let z = one_only (retired (0, parent)) (λ j m. m.number ≡ 0) refl t.1.0 t.0 t.1.1 in let n = t.2 in omega (arith, z, n))
-      (λ (t : IsListed [] 1). no_child t.0 1 t.1)
-      (k.children (retired (0, parent)) 1 (0, refl) (0, refl));
+      (λ (t : SomeHasNumber (map retired ((0, parent_record) ∷ [])) 1).
+      let z = one_only (retired (0, parent_record)) (λ j m. m.number ≡ 0) refl t.1.0 t.0 t.1.1 in let n = t.2 in omega (arith, z, n))
+      (λ (t : ListHasNumber [] 1). no_child t.0 1 t.1)
+      (k.children (retired (0, parent_record)) 1 (0, refl) (0, refl));
   made_up = λ k.
       let a = k.are (drawn_at 0 (9 ∷ [])) (0, refl) in
       one_only (retired (0, with_clock fresh)) (λ j m. HasPrinted m.its (drawn_at 0 (9 ∷ [])) → ⊥) (λ t. no_drawn t.0 (drawn_at 0 (9 ∷ [])) t.1) a.2.0 a.1 a.2.1 a.3;

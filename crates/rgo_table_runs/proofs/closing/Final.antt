@@ -8,10 +8,10 @@ use Rattle.std.specs.Io.KnownBytes.{Appends}
 use Rattle.rgo_sound.specs.Code.Code.{Code}
 use Rattle.rgo_sound.specs.Code.Erasure.{erased}
 use Rattle.rgo_core.proofs.runs.Runs.{one_step, run_then, runs_too}
-use Rattle.rgo_core.specs.Causes.{IsCause, ReachesLimit}
+use Rattle.rgo_core.specs.runs.Causes.{IsCause, ReachesLimit}
 use Rattle.rgo_core.specs.Records.{ClockRec, all_counted}
-use Rattle.rgo_core.specs.Runs.{Marked, Printed, limited_run, limited_step}
-use Rattle.rgo_core.specs.Story.{Story}
+use Rattle.rgo_core.specs.runs.Runs.{Marked, Printed, limited_run, step_in_limits}
+use Rattle.rgo_core.specs.runs.Story.{Story}
 use Rattle.rgo_core.specs.Rule.Lists.{flattened}
 use Rattle.rgo_sound.specs.Machine.Ends as driver
 use Rattle.rgo_sound.specs.Machine.Ends.{AppendsSome, RunPrints}
@@ -26,7 +26,7 @@ use Rattle.rgo_sound.specs.Machine.declared.picks.End.{End}
 use Rattle.rgo_sound.specs.Machine.declared.picks.Pick.{Pick}
 use Rattle.rgo_sound.specs.Machine.declared.limits.Shortage.{Shortage}
 use Rattle.rgo_sound.specs.RegionMachine.Counts.{Counts}
-use Rattle.rgo_sound.specs.RegionMachine.Instructions.{marked, printed_if}
+use Rattle.rgo_sound.specs.RegionMachine.Instructions.{mark_with_end, printed_if}
 use Rattle.rgo_sound.specs.RegionMachine.Machine.{Acknowledge, Attend, Event, Finish, Instruct, MakeOffer, TakePage, kept_mark, region_run, region_start, region_step}
 use Rattle.rgo_sound.specs.RegionMachine.Room.{LacksIn, roomy_run}
 use Rattle.rgo_sound.specs.RegionMachine.States.{Ended, Mark, RegionState, Stopped, end_in, plain_at}
@@ -121,9 +121,9 @@ module _ (code : Code) (sizes : Sizes) (limits : Limits) where
       one = one_step code sizes.page_words limits m.state m.next m.event m.steps
 
       leads : limited_run code sizes.page_words limits (m.first ++ m.event ∷ []) ≡ Some m.next
-      leads = run_then (limited_step code sizes.page_words limits) (region_start code) m.first m.state m.next m.event m.leads m.steps
+      leads = run_then (step_in_limits code sizes.page_words limits) (region_start code) m.first m.state m.next m.event m.leads m.steps
 
-      has_ended : (o : Option End) → marked None o ≡ Some (Ended end) → o ≡ Some end
+      has_ended : (o : Option End) → mark_with_end None o ≡ Some (Ended end) → o ≡ Some end
       has_ended None e = absurd (cc e)
       has_ended (Some x) e = let q : Ended x ≡ Ended end = same_Some (Ended x) (Ended end) e in ap (λ (o : Mark). end_in (Some o)) q
 
@@ -137,7 +137,7 @@ module _ (code : Code) (sizes : Sizes) (limits : Limits) where
       go (MakeOffer g) is f = absurd (not_still f.mark)
       go (Acknowledge g) is f = absurd (not_still f.mark)
       go (Instruct pick) is f =
-          let ended : f.0.ended ≡ Some end = has_ended f.0.ended (ap (λ n. marked n f.0.ended) (sym m.unmarked) ∙ (sym f.2.mark ∙ m.marked)) in
+          let ended : f.0.ended ≡ Some end = has_ended f.0.ended (ap (λ n. mark_with_end n f.0.ended) (sym m.unmarked) ∙ (sym f.2.mark ∙ m.marked)) in
           let printed : m.next.plain.printed ≡ f.0.printed = ap (λ (p : TacState). p.printed) f.2.plain ∙ ap (λ n. printed_if n m.state.plain.printed f.0.printed) m.unmarked in
           let fits : is_within limits f.0 ≡ true = ap (is_within limits) (sym f.2.plain) ∙ one.1 in
           let picks : picks_of code sizes (m.first ++ m.event ∷ []) ≡ picks_of code sizes m.first ++ pick ∷ [] = picks_then code sizes.page_words limits m.first (region_start code) m.state m.event m.leads ∙ (λ i. picks_of code sizes m.first ++ event_picks (m.unmarked i) (is i)) in (

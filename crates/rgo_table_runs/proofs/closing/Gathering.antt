@@ -7,14 +7,14 @@ use lib.ListN.{get_elem?}
 use Rattle.rgo_core.proofs.Lists.{elem_of, get_of}
 use Rattle.rgo_core.specs.Core.{Setup}
 use Rattle.rgo_core.specs.Records.{Drawn, Record}
-use Rattle.rgo_core.specs.Rule.Views.{Has, Rows}
+use Rattle.rgo_core.specs.Rule.Views.{HasRow, Rows}
 use Rattle.rgo_core.specs.Rule.declared.accesses.View.{View}
-use Rattle.rgo_core_steps.proofs.Outcomes.{family_law, outcome_law}
+use Rattle.rgo_core_steps.proofs.tables.Outcomes.{family_law, outcome_law}
 use Rattle.rgo_core_steps.specs.Outcomes.{ClosesTable, HasDrawnAt, TableOutcome}
 use Rattle.rgo_sound.specs.RegionMachine.Counts.{Counts}
 use Rattle.rgo_sound.specs.Tally.{counts_plus, no_share}
-use Rattle.rgo_table_runs.specs.closing.Gathering.{AreGathered, FamilyIsAll, GatheredAreGiven, IsIn, SharesAreAll, numbered, numbered_from, sum_of}
-use Rattle.rgo_table_runs.specs.closing.Prints.{TicketsInOrder, IsPrint}
+use Rattle.rgo_table_runs.specs.closing.Gathering.{AreGathered, FamilyIsAll, GatheredAreGiven, IsDrawnIn, SharesAreAll, numbered_rows, numbered_from, sum_of}
+use Rattle.rgo_table_runs.specs.closing.Prints.{TicketsInOrder, SomePrinted}
 use Rattle.rgo_table_runs.specs.closing.Rows.{AreAll, all_shares}
 use Rattle.rgo_table_runs.proofs.closing.Closed.{has_row, is_there}
 use Rattle.rgo_table_runs.proofs.closing.Rows.{all_rows, low, record_in}
@@ -40,15 +40,15 @@ at_number n (d ∷ ds) (suc i) c e =
     at_number (suc n) ds i c e ∙ (λ j. some (z j, c))
 
 module _ (recs : List Record) where
-  numbered_row : (g : ℕ) (c : Record) → Has (numbered recs) g c → get_elem? recs g ≡ some c
+  numbered_row : (g : ℕ) (c : Record) → HasRow (numbered_rows recs) g c → get_elem? recs g ≡ some c
   numbered_row g c (k, e) =
       let t = numbered_at 0 recs k (g, c) e in
       subst (λ (n : ℕ). get_elem? recs n ≡ some c) (let z = t.0 in omega (arith, z)) t.1
 
-  has_number : (g : ℕ) (c : Record) → get_elem? recs g ≡ some c → Has (numbered recs) g c
+  has_number : (g : ℕ) (c : Record) → get_elem? recs g ≡ some c → HasRow (numbered_rows recs) g c
   has_number g c at =
       let z : 0 + g ≡ g = omega arith in
-      (g, subst (λ (n : ℕ). get_elem? (numbered recs) g ≡ some (n, c)) z (at_number 0 recs g c at))
+      (g, subst (λ (n : ℕ). get_elem? (numbered_rows recs) g ≡ some (n, c)) z (at_number 0 recs g c at))
 
 pub family_is_all : FamilyIsAll
 family_is_all T words v e family calm = record {
@@ -64,10 +64,10 @@ family_is_all T words v e family calm = record {
   calm = λ g c has. calm g c (here g c has);
 }
   where
-    here : (g : ℕ) (c : Record) → Has (numbered e.recs) g c → Has v.records g c
+    here : (g : ℕ) (c : Record) → HasRow (numbered_rows e.recs) g c → HasRow v.records g c
     here g c has = family_law T words v e family g c (get_of e.recs g c (numbered_row e.recs g c has))
 
-    row : (g : ℕ) (c : Record) → Has v.records g c → Has (numbered e.recs) g c
+    row : (g : ℕ) (c : Record) → HasRow v.records g c → HasRow (numbered_rows e.recs) g c
     row g c has = has_number e.recs g c (e.here g c has).0
 
 -- ---- what they have counted
@@ -120,7 +120,7 @@ shares_are_all T words v e rows shares all has =
     sum_is e.recs shares
     (λ g c at. has.its g c (all.here g c (has_row e rows all g c (get_of e.recs g c at))))
     (λ g share at l. ⊎_elim
-    (λ (t : (c : Record) × Has v.records g c). absurd (let z = low e.recs g t.0 (e.here g t.0 t.1).0 in omega (arith, z, l)))
+    (λ (t : (c : Record) × HasRow v.records g c). absurd (let z = low e.recs g t.0 (e.here g t.0 t.1).0 in omega (arith, z, l)))
     (λ (none : share ≡ no_share). none)
     (has.others g share at))
     ∙ (ap shares_in (all_rows T words v e rows all) ∙ shares_of_rows rows)
@@ -144,7 +144,7 @@ module _ (T : Setup) (words : List ℕ) (v : View Record) (e : ClosesTable T wor
   abbrev outcome : TableOutcome T words e.recs
   outcome = outcome_law T words v e
 
-  print_at : (g i : ℕ) (d : Drawn) → HasDrawnAt e.recs g i d → IsPrint rows d
+  print_at : (g i : ℕ) (d : Drawn) → HasDrawnAt e.recs g i d → SomePrinted rows d
   print_at g i d (c, at, there) = record {
     goroutine = g;
     its = c;
@@ -153,26 +153,26 @@ module _ (T : Setup) (words : List ℕ) (v : View Record) (e : ClosesTable T wor
     there = elem_of c.clock.prints i d there;
   }
 
-  drawn_by : (d : Drawn) (p : IsPrint rows d) → HasDrawnAt e.recs p.goroutine p.place d
+  drawn_by : (d : Drawn) (p : SomePrinted rows d) → HasDrawnAt e.recs p.goroutine p.place d
   drawn_by d p = (p.its, is_there e rows all p.goroutine p.its p.has, get_of p.its.clock.prints p.place d p.there)
 
   -- the next one would be there, if a later one is
-  none_beyond : (d : Drawn) → IsPrint rows d → d.is_void ≡ false → length given ≤ d.ticket → ⊥
+  none_beyond : (d : Drawn) → SomePrinted rows d → d.is_void ≡ false → length given ≤ d.ticket → ⊥
   none_beyond d p valid l =
       let piece = outcome.print.kept p.goroutine p.place d (drawn_by d p) valid in
       let next = earlier outcome.print.pieces (length given) d.ticket d.bytes piece l in
       let drawn = outcome.print.drawn (length given) next.0 next.1 in
       let it : Drawn = record { ticket = length given; bytes = next.0; is_void = false } in
       ⊎_elim
-      (λ (t : IsIn given it). let a = order.next t.0 it t.1 in let b = low given t.0 it t.1 in omega (arith, a, b))
-      (λ (t : IsIn waiting it). k.next it t refl)
+      (λ (t : IsDrawnIn given it). let a = order.next t.0 it t.1 in let b = low given t.0 it t.1 in omega (arith, a, b))
+      (λ (t : IsDrawnIn waiting it). k.next it t refl)
       (k.each it (print_at drawn.0 drawn.1 it drawn.2) refl)
 
-  by : (d : Drawn) → IsPrint rows d → d.is_void ≡ false → (b : Bool) → nat_le (length given) d.ticket ≡ b → d.ticket < length given
+  by : (d : Drawn) → SomePrinted rows d → d.is_void ≡ false → (b : Bool) → nat_le (length given) d.ticket ≡ b → d.ticket < length given
   by d p valid true q = absurd (none_beyond d p valid (at_most (length given) d.ticket q))
   by d p valid false q = fewer (length given) d.ticket q
 
-  pub all_given : (d : Drawn) → IsPrint rows d → d.is_void ≡ false → d.ticket < length given
+  pub all_given : (d : Drawn) → SomePrinted rows d → d.is_void ≡ false → d.ticket < length given
   all_given d p valid = by d p valid (nat_le (length given) d.ticket) refl
 
 pub gathered_are_given : GatheredAreGiven

@@ -4,9 +4,9 @@ use mathlib.Core.Option.{some, some-injective, some-ne-none}
 use lib.ListN.{get_elem?}
 use Rattle.rgo_core.proofs.Lists.{elem_of, get_of}
 use Rattle.rgo_core.specs.Records.{ClockRec, Drawn, Record, blank}
-use Rattle.rgo_core.specs.Rule.Views.{Has, Rows}
-use Rattle.rgo_table_runs.specs.closing.Gathering.{IsIn}
-use Rattle.rgo_table_runs.specs.closing.Members.{AllRetired, SomeHasNumber, HasPlayed, HasPrinted, IsListed, IsOneOf, KeptByAdopting, KeptByGathering, KeptByOrder, KeptByTurn, Member, NoneIsLost, WasGathered, WereAdopted, retired}
+use Rattle.rgo_core.specs.Rule.Views.{HasRow, Rows}
+use Rattle.rgo_table_runs.specs.closing.Gathering.{IsDrawnIn}
+use Rattle.rgo_table_runs.specs.closing.Members.{AllRetired, SomeHasNumber, HasPlayed, HasPrinted, ListHasNumber, IsOneOf, KeptByAdopting, KeptByGathering, KeptByOrder, KeptByTurn, Member, NoneIsLost, WasGathered, WereAdopted, retired}
 
 -- ---- lists
 
@@ -74,11 +74,11 @@ kept_by_order ms ns taken given k s = record {
   main = (k.main.0, s.there k.main.0 k.main.1, k.main.2);
   children = λ m h one listed. ⊎_elim
       (λ (t : SomeHasNumber ms h). inl (t.0, s.there t.0 t.1, t.2))
-      (λ (t : IsListed m.unborn h). inr t)
+      (λ (t : ListHasNumber m.unborn h). inr t)
       (k.children m h (s.back m one) listed);
   prints = λ m d one printed valid. ⊎_elim
-      (λ (t : IsIn taken d). inl (s.still d t))
-      (λ (t : IsIn m.fresh d). inr t)
+      (λ (t : IsDrawnIn taken d). inl (s.still d t))
+      (λ (t : IsDrawnIn m.fresh d). inr t)
       (k.prints m d (s.back m one) printed valid);
   are = λ d t. let a = k.are d (s.before d t) in (a.0, a.1, s.there a.1 a.2, a.3);
 }
@@ -87,24 +87,24 @@ module _ (front rest : List Member) (m n : Member) (taken : List Drawn) (p : Has
   abbrev its : IsOneOf (front ++ m ∷ rest) m
   its = the_middle front rest m
 
-  started_by : (h : ℕ) → IsListed n.its.clock.children h → SomeHasNumber (front ++ n ∷ rest) h ⊎ IsListed n.unborn h
+  started_by : (h : ℕ) → ListHasNumber n.its.clock.children h → SomeHasNumber (front ++ n ∷ rest) h ⊎ ListHasNumber n.unborn h
   started_by h t = ⊎_elim
-      (λ (s : In p.starts h). inr (subst (λ (l : List ℕ). IsListed l h) (sym p.unborn) (listed (p.starts ++ m.unborn) h (in_left p.starts m.unborn h s))))
+      (λ (s : In p.starts h). inr (subst (λ (l : List ℕ). ListHasNumber l h) (sym p.unborn) (listed (p.starts ++ m.unborn) h (in_left p.starts m.unborn h s))))
       (λ (s : In m.its.clock.children h). ⊎_elim
       (λ (q : SomeHasNumber (front ++ m ∷ rest) h). inl (same_number front rest m n p.number h q))
-      (λ (q : IsListed m.unborn h). inr (subst (λ (l : List ℕ). IsListed l h) (sym p.unborn)
+      (λ (q : ListHasNumber m.unborn h). inr (subst (λ (l : List ℕ). ListHasNumber l h) (sym p.unborn)
       (listed (p.starts ++ m.unborn) h (in_right p.starts m.unborn h (unlisted m.unborn h q)))))
       (k.children m h its (listed m.its.clock.children h s)))
       (in_either p.starts m.its.clock.children h
-      (unlisted (p.starts ++ m.its.clock.children) h (subst (λ (l : List ℕ). IsListed l h) p.started t)))
+      (unlisted (p.starts ++ m.its.clock.children) h (subst (λ (l : List ℕ). ListHasNumber l h) p.started t)))
 
-  printed_by : (d : Drawn) → HasPrinted n.its d → d.is_void ≡ false → IsIn taken d ⊎ IsIn n.fresh d
+  printed_by : (d : Drawn) → HasPrinted n.its d → d.is_void ≡ false → IsDrawnIn taken d ⊎ IsDrawnIn n.fresh d
   printed_by d t valid = ⊎_elim
       (λ (s : In m.its.clock.prints d). ⊎_elim
-      (λ (q : IsIn taken d). inl q)
-      (λ (q : IsIn m.fresh d). inr (subst (λ (l : List Drawn). IsIn l d) (sym p.fresh) (in_left m.fresh p.draws d q)))
+      (λ (q : IsDrawnIn taken d). inl q)
+      (λ (q : IsDrawnIn m.fresh d). inr (subst (λ (l : List Drawn). IsDrawnIn l d) (sym p.fresh) (in_left m.fresh p.draws d q)))
       (k.prints m d its (listed m.its.clock.prints d s) valid))
-      (λ (s : In p.draws d). inr (subst (λ (l : List Drawn). IsIn l d) (sym p.fresh) (in_right m.fresh p.draws d s)))
+      (λ (s : In p.draws d). inr (subst (λ (l : List Drawn). IsDrawnIn l d) (sym p.fresh) (in_right m.fresh p.draws d s)))
       (in_either m.its.clock.prints p.draws d
       (unlisted (m.its.clock.prints ++ p.draws) d (subst (λ (l : List Drawn). (i : ℕ) × (slice_get l i ≡ Some d)) p.printed t)))
 
@@ -116,15 +116,15 @@ module _ (front rest : List Member) (m n : Member) (taken : List Drawn) (p : Has
   played = record {
     main = same_number front rest m n p.number 0 k.main;
     children = λ x h one t. ⊎_elim
-        (λ (e : n ≡ x). subst (λ (y : Member). SomeHasNumber (front ++ n ∷ rest) h ⊎ IsListed y.unborn h) e
-        (started_by h (subst (λ (y : Member). IsListed y.its.clock.children h) (sym e) t)))
+        (λ (e : n ≡ x). subst (λ (y : Member). SomeHasNumber (front ++ n ∷ rest) h ⊎ ListHasNumber y.unborn h) e
+        (started_by h (subst (λ (y : Member). ListHasNumber y.its.clock.children h) (sym e) t)))
         (λ (q : (y : Member) → IsOneOf (front ++ y ∷ rest) x). ⊎_elim
         (λ (s : SomeHasNumber (front ++ m ∷ rest) h). inl (same_number front rest m n p.number h s))
-        (λ (s : IsListed x.unborn h). inr s)
+        (λ (s : ListHasNumber x.unborn h). inr s)
         (k.children x h (q m) t))
         (in_middle front rest n x one);
     prints = λ x d one t valid. ⊎_elim
-        (λ (e : n ≡ x). subst (λ (y : Member). IsIn taken d ⊎ IsIn y.fresh d) e
+        (λ (e : n ≡ x). subst (λ (y : Member). IsDrawnIn taken d ⊎ IsDrawnIn y.fresh d) e
         (printed_by d (subst (λ (y : Member). HasPrinted y.its d) (sym e) t) valid))
         (λ (q : (y : Member) → IsOneOf (front ++ y ∷ rest) x). k.prints x d (q m) t valid)
         (in_middle front rest n x one);
@@ -147,10 +147,10 @@ module _ (front rest : List Member) (m n : Member) (taken given : List Drawn) (w
   its_print : (d : Drawn) → HasPrinted m.its d → HasPrinted n.its d
   its_print d t = subst (λ (y : Member). HasPrinted y.its d) (sym w.is) t
 
-  printed_then : (d : Drawn) → HasPrinted n.its d → d.is_void ≡ false → IsIn given d
+  printed_then : (d : Drawn) → HasPrinted n.its d → d.is_void ≡ false → IsDrawnIn given d
   printed_then d t valid = ⊎_elim
-      (λ (q : IsIn taken d). w.old d q)
-      (λ (q : IsIn m.fresh d). w.all d q valid)
+      (λ (q : IsDrawnIn taken d). w.old d q)
+      (λ (q : IsDrawnIn m.fresh d). w.all d q valid)
       (k.prints m d (the_middle front rest m) (subst (λ (y : Member). HasPrinted y.its d) w.is t) valid)
 
   pub gathered_one : NoneIsLost (front ++ n ∷ rest) given
@@ -159,28 +159,28 @@ module _ (front rest : List Member) (m n : Member) (taken given : List Drawn) (w
     children = λ x h one t. ⊎_elim
         (λ (e : n ≡ x). ⊎_elim
         (λ (s : SomeHasNumber (front ++ m ∷ rest) h). inl (same_number front rest m n number_kept h s))
-        (λ (s : IsListed m.unborn h). inr (subst (λ (y : Member). IsListed y.unborn h) (sym w.is ∙ e) s))
-        (k.children m h (the_middle front rest m) (subst (λ (y : Member). IsListed y.its.clock.children h) (sym (sym w.is ∙ e)) t)))
+        (λ (s : ListHasNumber m.unborn h). inr (subst (λ (y : Member). ListHasNumber y.unborn h) (sym w.is ∙ e) s))
+        (k.children m h (the_middle front rest m) (subst (λ (y : Member). ListHasNumber y.its.clock.children h) (sym (sym w.is ∙ e)) t)))
         (λ (q : (y : Member) → IsOneOf (front ++ y ∷ rest) x). ⊎_elim
         (λ (s : SomeHasNumber (front ++ m ∷ rest) h). inl (same_number front rest m n number_kept h s))
-        (λ (s : IsListed x.unborn h). inr s)
+        (λ (s : ListHasNumber x.unborn h). inr s)
         (k.children x h (q m) t))
         (in_middle front rest n x one);
     prints = λ x d one t valid. ⊎_elim
         (λ (e : n ≡ x). inl (printed_then d (subst (λ (y : Member). HasPrinted y.its d) (sym e) t) valid))
         (λ (q : (y : Member) → IsOneOf (front ++ y ∷ rest) x). ⊎_elim
-        (λ (s : IsIn taken d). inl (w.old d s))
-        (λ (s : IsIn x.fresh d). inr s)
+        (λ (s : IsDrawnIn taken d). inl (w.old d s))
+        (λ (s : IsDrawnIn x.fresh d). inr s)
         (k.prints x d (q m) t valid))
         (in_middle front rest n x one);
     are = λ d t. ⊎_elim
-        (λ (s : IsIn taken d).
+        (λ (s : IsDrawnIn taken d).
         let a = k.are d s in
         ⊎_elim
         (λ (e : m ≡ a.1). (a.0, n, the_middle front rest n, its_print d (subst (λ (y : Member). HasPrinted y.its d) (sym e) a.3)))
         (λ (q : (y : Member) → IsOneOf (front ++ y ∷ rest) a.1). (a.0, a.1, q n, a.3))
         (in_middle front rest m a.1 a.2))
-        (λ (s : IsIn m.fresh d × (d.is_void ≡ false) × HasPrinted m.its d). (s.1, n, the_middle front rest n, its_print d s.2))
+        (λ (s : IsDrawnIn m.fresh d × (d.is_void ≡ false) × HasPrinted m.its d). (s.1, n, the_middle front rest n, its_print d s.2))
         (w.only d t);
   }
 
@@ -203,31 +203,31 @@ module _ (front rest more : List Member) (m n : Member) (taken : List Drawn) (w 
   new_number : (h : ℕ) → SomeHasNumber more h → SomeHasNumber all_then h
   new_number h q = (q.0, in_right (front ++ n ∷ rest) more q.0 q.1, q.2)
 
-  no_child : (c : ClockRec) → c ≡ blank → (h : ℕ) → IsListed c.children h → ⊥
+  no_child : (c : ClockRec) → c ≡ blank → (h : ℕ) → ListHasNumber c.children h → ⊥
   no_child c e h t = let z : None ≡ Some h = subst (λ (y : ClockRec). slice_get y.children t.0 ≡ Some h) e t.1 in cc z
 
   no_print : (c : ClockRec) → c ≡ blank → (d : Drawn) → (i : ℕ) × (slice_get c.prints i ≡ Some d) → ⊥
   no_print c e d t = let z : None ≡ Some d = subst (λ (y : ClockRec). slice_get y.prints t.0 ≡ Some d) e t.1 in cc z
 
-  children_of : (x : Member) (h : ℕ) → IsOneOf all_then x → IsListed x.its.clock.children h → SomeHasNumber all_then h ⊎ IsListed x.unborn h
+  children_of : (x : Member) (h : ℕ) → IsOneOf all_then x → ListHasNumber x.its.clock.children h → SomeHasNumber all_then h ⊎ ListHasNumber x.unborn h
   children_of x h one t = ⊎_elim
       (λ (o : IsOneOf (front ++ n ∷ rest) x). ⊎_elim
       (λ (e : n ≡ x). inl (⊎_elim
       (λ (s : SomeHasNumber (front ++ m ∷ rest) h). still_number h s)
-      (λ (s : IsListed m.unborn h). new_number h (w.all h s))
-      (k.children m h (the_middle front rest m) (subst (λ (y : Member). IsListed y.its.clock.children h) (sym (sym w.is ∙ e)) t))))
+      (λ (s : ListHasNumber m.unborn h). new_number h (w.all h s))
+      (k.children m h (the_middle front rest m) (subst (λ (y : Member). ListHasNumber y.its.clock.children h) (sym (sym w.is ∙ e)) t))))
       (λ (q : (y : Member) → IsOneOf (front ++ y ∷ rest) x). ⊎_elim
       (λ (s : SomeHasNumber (front ++ m ∷ rest) h). inl (still_number h s))
-      (λ (s : IsListed x.unborn h). inr s)
+      (λ (s : ListHasNumber x.unborn h). inr s)
       (k.children x h (q m) t))
       (in_middle front rest n x o))
       (λ (o : IsOneOf more x). absurd (no_child x.its.clock (w.new x o).0 h t))
       (in_either (front ++ n ∷ rest) more x one)
 
-  prints_of : (x : Member) (d : Drawn) → IsOneOf all_then x → HasPrinted x.its d → d.is_void ≡ false → IsIn taken d ⊎ IsIn x.fresh d
+  prints_of : (x : Member) (d : Drawn) → IsOneOf all_then x → HasPrinted x.its d → d.is_void ≡ false → IsDrawnIn taken d ⊎ IsDrawnIn x.fresh d
   prints_of x d one t valid = ⊎_elim
       (λ (o : IsOneOf (front ++ n ∷ rest) x). ⊎_elim
-      (λ (e : n ≡ x). subst (λ (y : Member). IsIn taken d ⊎ IsIn y.fresh d) (sym w.is ∙ e)
+      (λ (e : n ≡ x). subst (λ (y : Member). IsDrawnIn taken d ⊎ IsDrawnIn y.fresh d) (sym w.is ∙ e)
       (k.prints m d (the_middle front rest m) (subst (λ (y : Member). HasPrinted y.its d) (sym (sym w.is ∙ e)) t) valid))
       (λ (q : (y : Member) → IsOneOf (front ++ y ∷ rest) x). k.prints x d (q m) t valid)
       (in_middle front rest n x o))
@@ -259,14 +259,14 @@ kept_by_adopting front rest more m n taken w k = adopted_all front rest more m n
 
 module _ (rows : Rows Record) where
   -- the row of a member
-  row_of : (rows : Rows Record) (m : Member) → IsOneOf (map retired rows) m → Has rows m.number m.its × (m ≡ retired (m.number, m.its))
+  row_of : (rows : Rows Record) (m : Member) → IsOneOf (map retired rows) m → HasRow rows m.number m.its × (m ≡ retired (m.number, m.its))
   row_of [] m t = absurd (none_in m t)
   row_of (r ∷ rows) m (zero, e) =
       let q = some-injective (retired r) m e in
       ((0, λ i. some ((q i).number, (q i).its)), sym q ∙ (λ i. retired ((q i).number, (q i).its)))
   row_of (r ∷ rows) m (suc i, e) = let t = row_of rows m (i, e) in ((suc t.0.0, t.0.1), t.1)
 
-  member_of : (rows : Rows Record) (g : ℕ) (c : Record) → Has rows g c → IsOneOf (map retired rows) (retired (g, c))
+  member_of : (rows : Rows Record) (g : ℕ) (c : Record) → HasRow rows g c → IsOneOf (map retired rows) (retired (g, c))
   member_of [] g c t = absurd (some-ne-none (g, c) (sym t.1))
   member_of (r ∷ rows) g c (zero, e) = (0, ap (λ (x : ℕ × Record). some (retired x)) (some-injective r (g, c) e))
   member_of (r ∷ rows) g c (suc i, e) = let t = member_of rows g c (i, e) in (suc t.0, t.1)
@@ -276,16 +276,16 @@ all_retired v taken k = (
   record {
     main =
         let t = row_of v.records v.records k.main.0 k.main.1 in
-        (k.main.0.its, subst (λ (n : ℕ). Has v.records n k.main.0.its) k.main.2 t.0);
+        (k.main.0.its, subst (λ (n : ℕ). HasRow v.records n k.main.0.its) k.main.2 t.0);
     children = λ g h i c has at. ⊎_elim
         (λ (q : SomeHasNumber (map retired v.records) h).
-        let t = row_of v.records v.records q.0 q.1 in (q.0.its, subst (λ (n : ℕ). Has v.records n q.0.its) q.2 t.0))
-        (λ (q : IsListed [] h). let z : None ≡ Some h = q.1 in absurd (cc z))
+        let t = row_of v.records v.records q.0 q.1 in (q.0.its, subst (λ (n : ℕ). HasRow v.records n q.0.its) q.2 t.0))
+        (λ (q : ListHasNumber [] h). let z : None ≡ Some h = q.1 in absurd (cc z))
         (k.children (retired (g, c)) h (member_of v.records v.records g c has) (i, at));
   },
   λ d p valid. ⊎_elim
-      (λ (q : IsIn taken d). q)
-      (λ (q : IsIn [] d). absurd (none_in d q))
+      (λ (q : IsDrawnIn taken d). q)
+      (λ (q : IsDrawnIn [] d). absurd (none_in d q))
       (k.prints (retired (p.goroutine, p.its)) d (member_of v.records v.records p.goroutine p.its p.has)
       (listed p.its.clock.prints d (p.place, p.there)) valid),
   λ d t.

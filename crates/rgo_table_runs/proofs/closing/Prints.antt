@@ -6,13 +6,13 @@ use native.Mathlib.Decide.{ℕ_discrete}
 use mathlib.Core.Option.{some, some-injective, some-ne-none}
 use lib.ListN.{get_elem?}
 use Rattle.rgo_core.proofs.Lists.{cond_other, count_first, elem_of, get_of}
-use Rattle.rgo_core.specs.Clock.{Clock, has_ticket}
+use Rattle.rgo_core.specs.ties.Clock.{Clock, has_ticket}
 use Rattle.rgo_core.specs.Records.{ClockRec, Drawn, Record}
 use Rattle.rgo_core.specs.Rule.Lists.{flattened}
-use Rattle.rgo_core.specs.Rule.Views.{Has, Rows}
+use Rattle.rgo_core.specs.Rule.Views.{HasRow, Rows}
 use Rattle.rgo_sound.specs.RegionMachine.States.{Mark, RegionState}
 use Rattle.rgo_table_runs.specs.closing.Ends.{IsFirst}
-use Rattle.rgo_table_runs.specs.closing.Prints.{AllGiven, TicketsInOrder, IsPrint, bytes_in, bytes_of}
+use Rattle.rgo_table_runs.specs.closing.Prints.{AllGiven, TicketsInOrder, SomePrinted, drawn_bytes, bytes_of}
 use Rattle.rgo_table_runs.proofs.closing.Rows.{some_part}
 
 -- ---- lists
@@ -27,7 +27,7 @@ begins (x ∷ xs) (y ∷ ys) h =
     let same : y ≡ x = some-injective y x (h 0 x refl) in
     ((let a = r.0 in omega arith), (λ i. sym same i ∷ r.1 i))
 
-map_at : (ds : List Drawn) (i : ℕ) (b : List ℕ) → get_elem? (map bytes_in ds) i ≡ some b
+map_at : (ds : List Drawn) (i : ℕ) (b : List ℕ) → get_elem? (map drawn_bytes ds) i ≡ some b
     → (d : Drawn) × (get_elem? ds i ≡ some d) × (d.bytes ≡ b)
 map_at [] i b e = absurd (some-ne-none b (sym e))
 map_at (d ∷ ds) zero b e = (d, refl, some-injective d.bytes b e)
@@ -52,7 +52,7 @@ flattened_front (xs ∷ xss) (suc k) =
     let r = flattened_front xss k in
     (r.0, ap (λ (l : List ℕ). xs ++ l) r.1 ∙ sym (append_assoc xs (flattened (take k xss)) r.0))
 
-long_map : (ds : List Drawn) → length (map bytes_in ds) ≡ length ds
+long_map : (ds : List Drawn) → length (map drawn_bytes ds) ≡ length ds
 long_map [] = refl
 long_map (d ∷ ds) = ap suc (long_map ds)
 
@@ -83,16 +83,16 @@ some_drawn t (d ∷ ds) h = dite (ℕ_discrete d.ticket t)
 -- ---- the clock and what was given out
 
 module _ (words : List ℕ) (recs : List ClockRec) (s : RegionState) (before late : List (List ℕ)) (k : Clock words recs s before late)
-    (rows : Rows Record) (here : (g : ℕ) (c : Record) → Has rows g c → slice_get recs g ≡ Some c.clock)
-    (row_of : (g : ℕ) (c : ClockRec) → slice_get recs g ≡ Some c → (d : Record) × Has rows g d × (d.clock ≡ c)) where
-  pieces : (d : Drawn) → IsPrint rows d → (slice_get (before ++ late) d.ticket ≡ Some d.bytes) × (d.is_void ≡ nat_le (length before) d.ticket)
+    (rows : Rows Record) (here : (g : ℕ) (c : Record) → HasRow rows g c → slice_get recs g ≡ Some c.clock)
+    (row_of : (g : ℕ) (c : ClockRec) → slice_get recs g ≡ Some c → (d : Record) × HasRow rows g d × (d.clock ≡ c)) where
+  pieces : (d : Drawn) → SomePrinted rows d → (slice_get (before ++ late) d.ticket ≡ Some d.bytes) × (d.is_void ≡ nat_le (length before) d.ticket)
   pieces d p = k.pieces p.goroutine p.place p.its.clock d (here p.goroutine p.its p.has) (get_of p.its.clock.prints p.place d p.there)
 
-  valid_before : (d : Drawn) → IsPrint rows d → d.ticket < length before → d.is_void ≡ false
+  valid_before : (d : Drawn) → SomePrinted rows d → d.ticket < length before → d.is_void ≡ false
   valid_before d p l = (pieces d p).1 ∙ not_void (length before) d.ticket l
 
-  print_of : (g : ℕ) (c : ClockRec) (own : Record) → Has rows g own → own.clock ≡ c → (i : ℕ) (d : Drawn) → get_elem? c.prints i ≡ some d
-      → IsPrint rows d
+  print_of : (g : ℕ) (c : ClockRec) (own : Record) → HasRow rows g own → own.clock ≡ c → (i : ℕ) (d : Drawn) → get_elem? c.prints i ≡ some d
+      → SomePrinted rows d
   print_of g c own has is i d at = record {
     goroutine = g;
     its = own;
@@ -106,10 +106,10 @@ module _ (words : List ℕ) (recs : List ClockRec) (s : RegionState) (before lat
     pub first_pieces : (length given ≤ length before) × (bytes_of given ≡ flattened (take (length given) before))
     first_pieces =
         let l = long_map given in
-        let r = begins (map bytes_in given) before each in
+        let r = begins (map drawn_bytes given) before each in
         (omega (arith, r.0, l), ap flattened r.1 ∙ ap (λ (n : ℕ). flattened (take n before)) l)
       where
-        each : (i : ℕ) (b : List ℕ) → get_elem? (map bytes_in given) i ≡ some b → get_elem? before i ≡ some b
+        each : (i : ℕ) (b : List ℕ) → get_elem? (map drawn_bytes given) i ≡ some b → get_elem? before i ≡ some b
         each i b e =
             let m = map_at given i b e in
             let v = pieces m.0 (order.are i m.0 m.1) in

@@ -8,9 +8,9 @@ use lib.ListN.{get_elem?}
 use Rattle.rgo_core.proofs.Lists.{get_of}
 use Rattle.rgo_core.specs.Core.{Setup}
 use Rattle.rgo_core.specs.Records.{ClockRec, Record, all_counted, clock_of, counted}
-use Rattle.rgo_core.specs.Rule.Views.{Has, Rows, view}
+use Rattle.rgo_core.specs.Rule.Views.{HasRow, Rows, view}
 use Rattle.rgo_core.specs.Rule.declared.accesses.View.{View}
-use Rattle.rgo_core_steps.proofs.Outcomes.{family_law}
+use Rattle.rgo_core_steps.proofs.tables.Outcomes.{family_law}
 use Rattle.rgo_core_steps.specs.Outcomes.{ClosesTable}
 use Rattle.rgo_sound.specs.Tally.{counts_plus}
 use Rattle.rgo_table_runs.specs.closing.Rows.{AreAll, all_shares}
@@ -43,7 +43,7 @@ low (y ∷ xs) (suc i) x e = let l = low xs i x e in omega arith
 pub record From (n k : ℕ) (rows : Rows Record) : Type 0 where
   pub ascending : (i : ℕ) (r q : ℕ × Record) → get_elem? rows i ≡ some r → get_elem? rows (suc i) ≡ some q → r.0 < q.0
   pub least : (i : ℕ) (r : ℕ × Record) → get_elem? rows i ≡ some r → (k ≤ r.0) × (r.0 < n)
-  pub each : (h : ℕ) → k ≤ h → h < n → (c : Record) × Has rows h c
+  pub each : (h : ℕ) → k ≤ h → h < n → (c : Record) × HasRow rows h c
 
 -- the first number is not above any other
 first_least : (r : ℕ × Record) (rows : Rows Record)
@@ -84,7 +84,7 @@ at_place n k (q ∷ rows) f i r e = by (λ j d. at_place n (suc k) rows rest j r
       each = λ h l m. let t = f.each h (omega arith) m in behind h l t.0 t.1.0 t.1.1;
     }
       where
-        behind : (h : ℕ) → suc k ≤ h → (c : Record) (j : ℕ) → get_elem? (q ∷ rows) j ≡ some (h, c) → (d : Record) × Has rows h d
+        behind : (h : ℕ) → suc k ≤ h → (c : Record) (j : ℕ) → get_elem? (q ∷ rows) j ≡ some (h, c) → (d : Record) × HasRow rows h d
         behind h l c zero e = absurd (let a : q.0 ≡ h = ap (λ (x : ℕ × Record). x.0) (some-injective q (h, c) e) in let b = is_k in omega (arith, a, b, l))
         behind h l c (suc j) e = (c, (j, e))
 
@@ -115,7 +115,7 @@ elem_map (q ∷ rows) zero r e = ap (λ (x : ℕ × Record). some x.1) (some-inj
 elem_map (q ∷ rows) (suc i) r e = elem_map rows i r e
 
 module _ (T : Setup) (words : List ℕ) (v : View Record) (e : ClosesTable T words v) (rows : Rows Record) (all : AreAll v rows) where
-  pub is_there : (g : ℕ) (c : Record) → Has rows g c → get_elem? e.recs g ≡ some c
+  pub is_there : (g : ℕ) (c : Record) → HasRow rows g c → get_elem? e.recs g ≡ some c
   is_there g c has = (e.here g c (all.here g c has)).0
 
   -- the table closed with these rows alone
@@ -129,10 +129,10 @@ module _ (T : Setup) (words : List ℕ) (v : View Record) (e : ClosesTable T wor
   }
 
   -- the record of goroutine g
-  pub row_of : (g : ℕ) (c : Record) → slice_get e.recs g ≡ Some c → Has rows g c
+  pub row_of : (g : ℕ) (c : Record) → slice_get e.recs g ≡ Some c → HasRow rows g c
   row_of g c at = family_law T words (view rows v.seen) with_rows all.family g c at
 
-  has_row : (g : ℕ) → g < length e.recs → (c : Record) × Has rows g c
+  has_row : (g : ℕ) → g < length e.recs → (c : Record) × HasRow rows g c
   has_row g l = let t = there e.recs g l in (t.0, row_of g t.0 (get_of e.recs g t.0 t.1))
 
   from_start : From (length e.recs) 0 rows

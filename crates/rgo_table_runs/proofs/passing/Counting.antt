@@ -5,7 +5,7 @@ use native.Mathlib.Decide.{ℕ_discrete}
 use Rattle.rgo_core.proofs.Memory.pages.InUse.{below, below_here, below_more, live_many, live_sum, page_here, page_more, sum_more, sum_one, sum_split, zero_plus}
 use Rattle.rgo_core.specs.Memory.Ground.{Ground}
 use Rattle.rgo_core.specs.Memory.Image.{MemoryImage, Where}
-use Rattle.rgo_core.specs.Memory.Pages.{PageChain, Chained, Claimed, Free, Place, times}
+use Rattle.rgo_core.specs.Memory.Pages.{PageChain, Chained, Claimed, Free, Place, occurrences}
 use Rattle.rgo_core.specs.Memory.Parts.{Closing, Living, Use, Vacant, pages_at}
 use Rattle.rgo_core.specs.Memory.Records.{Calm, ClosesSlot, Give, Got, HasRecord, Idle, Rec}
 use Rattle.rgo_core.specs.Memory.Words.{count_at, state_at}
@@ -27,7 +27,7 @@ module _ (z : TableSizes) (words : List ℕ) (recs : List Rec) (x : Ground) (pla
   use_of s l (Living j) e not = let t = k.counts.living s j l e in inr (j, t.0, t.1, t.2, t.3)
   use_of s l (Closing g) e not = absurd (not_closing s g l e)
 
-  some_chained : (p : ℕ) (l : List ℕ) → 0 < times p l → l ≡ [] → ⊥
+  some_chained : (p : ℕ) (l : List ℕ) → 0 < occurrences p l → l ≡ [] → ⊥
   some_chained p [] h e = omega arith
   some_chained p (y ∷ ys) h e = cc e
 

@@ -5,15 +5,15 @@ use Rattle.rgo_core.proofs.new_objects.MakesObject.{Made, at, b, made as it_make
 use Rattle.rgo_core.proofs.new_objects.NewObjects.{slot_is}
 use Rattle.rgo_core.proofs.image.Parts.{I}
 use Rattle.rgo_core.proofs.image.Standing.{frame_at, memory_at}
-use Rattle.rgo_core.specs.Core.{Here, Setup, layout}
-use Rattle.rgo_core.specs.NewObjects.{slot_number}
+use Rattle.rgo_core.specs.Core.{Situation, Setup, layout}
+use Rattle.rgo_core.specs.moves.NewObjects.{slot_number}
 use Rattle.rgo_core.specs.Records.{Record}
 use Rattle.rgo_core.proofs.Frames.regions.Creating.{create_duty}
 use Rattle.rgo_core.proofs.Frames.regions.Making.{region_law}
 use Rattle.rgo_core.proofs.Frames.regions.StakeDuties.{OwesFirst, owes_first, past_owes}
-use Rattle.rgo_core.specs.Frames.Before.{IsBefore}
+use Rattle.rgo_core.specs.Frames.steps.Before.{IsBefore}
 use Rattle.rgo_core.specs.Frames.Fits.{RecordFits, IsPast, IsShown}
-use Rattle.rgo_core.specs.Frames.Makes.{MakesAt}
+use Rattle.rgo_core.specs.Frames.steps.Makes.{MakesAt}
 use Rattle.rgo_core.proofs.Memory.regions.Attending.{makes_used}
 use Rattle.rgo_core.proofs.Memory.image.Existing.{page_exists, reserved_page_exists}
 use Rattle.rgo_core.proofs.Memory.image.Stepped.{map_get}
@@ -31,7 +31,7 @@ use Rattle.rgo_sound.specs.RegionMachine.Room.{pages_of}
 use Rattle.rgo_sound.specs.RegionMachine.States.{Create, Duty, Holder, RegionState}
 
 -- the page of an object that the next instruction makes
-module _ {T : Setup} {g : ℕ} {c : Record} (x : Here T g c) (slot : ℕ) (object : Object) (n : RecordMakesNext T c object slot) where
+module _ {T : Setup} {g : ℕ} {c : Record} (x : Situation T g c) (slot : ℕ) (object : Object) (n : RecordMakesNext T c object slot) where
   abbrev before : IsBefore T.code (I x).places.slot (I x).addresses x.s g c.frame n.here.w n.here.ws n.here.instr
   before = b x n.to n.act n.from n.removes n.here object
 
@@ -79,12 +79,12 @@ module _ {T : Setup} {g : ℕ} {c : Record} (x : Here T g c) (slot : ℕ) (objec
       (it.next region.region region.makes) spread small
       (few_reserved (data_pages T.sizes.page_words object) before.h.reserved refl (omega (arith, more)))
 
-pub takes_page : {T : Setup} {g : ℕ} {c : Record} (x : Here T g c) (slot : ℕ) → NeedsPage T c slot
+pub takes_page : {T : Setup} {g : ℕ} {c : Record} (x : Situation T g c) (slot : ℕ) → NeedsPage T c slot
     → (t : RegionState) × (region_step T.code T.sizes.page_words x.s (TakePage g) ≡ Some t)
 takes_page x slot (inl n) = takes_own x slot n.object n.next n.fits n.full
 takes_page x slot (inr n) = takes_reserved x slot n.object n.next n.spread n.small n.more
 
-module _ {T : Setup} {g : ℕ} {c : Record} (x : Here T g c) (creates : IsCreating c) where
+module _ {T : Setup} {g : ℕ} {c : Record} (x : Situation T g c) (creates : IsCreating c) where
   abbrev fitted : RecordFits T.code (I x).places.slot (I x).addresses x.s g c.frame
   fitted = (I x).frames.each g c.frame (frame_at x)
 

@@ -4,14 +4,14 @@ use Rattle.std.proofs.lemmas.List.{append-nil}
 use mathlib.Core.Option.{some, some-ne-none}
 use lib.ListN.{get_elem?}
 use Rattle.rgo_core.specs.Core.{Core, Setup}
-use Rattle.rgo_core.specs.Opening.{opening}
+use Rattle.rgo_core.specs.runs.Opening.{opening_table}
 use Rattle.rgo_core.specs.Records.{Record, accesses}
 use Rattle.rgo_core.proofs.Rule.Histories.{by_append}
 use Rattle.rgo_core.proofs.Rule.Lists.{at_append, cancel}
 use Rattle.rgo_core.proofs.Rule.Settled.{found_stays, turn_looks}
 use Rattle.rgo_core.specs.Rule.Histories.{accesses_by}
 use Rattle.rgo_core.specs.Rule.Passes.{HasLooked}
-use Rattle.rgo_core.specs.Rule.Views.{Has, Rows}
+use Rattle.rgo_core.specs.Rule.Views.{HasRow, Rows}
 use Rattle.rgo_core.specs.Rule.declared.accesses.Access.{Access}
 use Rattle.rgo_core.specs.Rule.declared.accesses.View.{View}
 use Rattle.rgo_core_steps.specs.Outcomes.{ClosesTable}
@@ -48,7 +48,7 @@ module _ {T : Setup} {words : List ℕ} {v : View Record} (e : ClosesTable T wor
   pub history_is : e.history ≡ before ++ since
   history_is = sym e.seen.1 ∙ (ap (λ (l : List Access). l ++ e.seen.0) k.seen ∙ append_assoc before k.since e.seen.0)
 
-  pub passed : (g : ℕ) (c : Record) → Has rows g c → HasPassed T before e.history g c (lack g)
+  pub passed : (g : ℕ) (c : Record) → HasRow rows g c → HasPassed T before e.history g c (lack g)
   passed g c has = subst (λ (l : List Access). HasPassed T before l g c (lack g)) e.seen.1
       (stays_passed T before v.seen e.seen.0 g c (lack g) (k.each g c has))
 
@@ -70,7 +70,7 @@ module _ {T : Setup} {words : List ℕ} {v : View Record} (e : ClosesTable T wor
   looked g c there = looked_by g c there (passed g c (has_row e rows k.all g c (get_of e.recs g c there))).stands
 
   found : (i : ℕ) (a : Access) → get_elem? since i ≡ some a → a.found ≡ slice_index words a.word
-  found i a q = found_stays accesses (Core T) (opening T) words v e before since history_is looked i a q
+  found i a q = found_stays accesses (Core T) (opening_table T) words v e before since history_is looked i a q
 
   -- what a turn found
   pub found_now : (g : ℕ) (c : Record) (t : HadTurn before e.history g c) → FoundNow words g t.turn

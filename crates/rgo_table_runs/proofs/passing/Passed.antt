@@ -2,20 +2,20 @@
 use Rattle.std.proofs.Common.{◌≡◌, ◌≢◌, ℕ, zero, suc, ◌<◌, List, [], ◌∷◌, Option, Some, None, is_some, map, slice_get, slice_index, refl, ap, sym, subst, ◌∙◌, ⊎_elim}
 use Rattle.std.proofs.lemmas.Option.{same_Some}
 use Rattle.rgo_sound.specs.Code.Erasure.{erased}
-use Rattle.rgo_goroutine.proofs.Acts.Waiting.{loses_blocked, waits_blocked}
+use Rattle.rgo_goroutine.proofs.Acts.talking.Waiting.{loses_blocked, waits_blocked}
 use Rattle.rgo_goroutine.specs.Acts.Shortages.{AllInUse}
 use Rattle.rgo_goroutine.specs.Acts.Waits.{FoundNow}
 use Rattle.rgo_core.proofs.image.Parts.{I}
-use Rattle.rgo_core.specs.Core.{Here, Setup, layout}
-use Rattle.rgo_core.specs.Moments.{moment}
+use Rattle.rgo_core.specs.Core.{Situation, Setup, layout}
+use Rattle.rgo_core.specs.ties.Moments.{moment}
 use Rattle.rgo_core.specs.Records.{Record, memory_of, side_of}
 use Rattle.rgo_core.proofs.Channels.Deadlock.{deadlock}
 use Rattle.rgo_core.specs.Channels.Deadlock.{Blocked}
-use Rattle.rgo_core.specs.Channels.Records.{Free, Rec as SideRec}
+use Rattle.rgo_core.specs.Channels.Records.{Free, ChannelRec as SideRec}
 use Rattle.rgo_core.specs.Memory.Ground.{ground_of}
 use Rattle.rgo_core.specs.Memory.Records.{Calm, Idle, Rec as MemoryRec}
 use Rattle.rgo_core.specs.Memory.Words.{count_at, state_at}
-use Rattle.rgo_core.specs.Rule.Views.{Has, Rows}
+use Rattle.rgo_core.specs.Rule.Views.{HasRow, Rows}
 use Rattle.rgo_core.specs.Rule.declared.accesses.Access.{Access}
 use Rattle.rgo_core.specs.Rule.declared.accesses.Kind.{Kind}
 use Rattle.rgo_core.specs.Rule.declared.accesses.View.{View}
@@ -54,7 +54,7 @@ in_use_now words g es kind at n now all k l e =
 module _ {T : Setup} {words : List ℕ} {v : View Record} (e : ClosesTable T words v) (rows : Rows Record) (before : List Access)
     (lack : ℕ → Option Shortage) (k : AllPassed T v rows before lack) where
   -- each goroutine at the close
-  abbrev here : (g : ℕ) (c : Record) → slice_get e.recs g ≡ Some c → Here T g c
+  abbrev here : (g : ℕ) (c : Record) → slice_get e.recs g ≡ Some c → Situation T g c
   here g c there = record {
     words = words;
     recs = e.recs;
@@ -78,7 +78,7 @@ module _ {T : Setup} {words : List ℕ} {v : View Record} (e : ClosesTable T wor
   blocked : (g : ℕ) (c : Record) (there : slice_get e.recs g ≡ Some c) → lack g ≡ None → Blocked (moment (here g c there)) g c.side
   blocked g c there none = blocked_by g c there none (passed e rows before lack k g c (has_row e rows k.all g c there)).stands
 
-  pub is_deadlock : ((g : ℕ) (c : Record) → Has rows g c → lack g ≡ None) → IsDeadlock (tac (erased T.code)) (last_state e).plain
+  pub is_deadlock : ((g : ℕ) (c : Record) → HasRow rows g c → lack g ≡ None) → IsDeadlock (tac (erased T.code)) (last_state e).plain
   is_deadlock none =
       deadlock (moment (here 0 k.all.family.main.0 (is_there e rows k.all 0 k.all.family.main.0 k.all.family.main.1))) (λ g side at.
       let d = find_part side_of e.recs g side at in
@@ -90,8 +90,8 @@ module _ {T : Setup} {words : List ℕ} {v : View Record} (e : ClosesTable T wor
       let d = find_part memory_of e.recs g y at in
       subst (λ (m : MemoryRec). (m.give ≡ Calm) × (m.claim ≡ Idle)) d.2 ((tidy g d.0 d.1).give, (tidy g d.0 d.1).claim)
 
-  module _ (g : ℕ) (c : Record) (has : Has rows g c) where
-    abbrev x : Here T g c
+  module _ (g : ℕ) (c : Record) (has : HasRow rows g c) where
+    abbrev x : Situation T g c
     x = here g c (is_there e rows k.all g c has)
 
     by_kind : (why : Shortage) (t : HadTurn before e.history g c) → StandsStill T g c t.turn (Some why) → LacksIn T.code T.sizes why (last_state e)

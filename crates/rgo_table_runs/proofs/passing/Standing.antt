@@ -3,20 +3,20 @@ use Rattle.std.proofs.Common.{◌≡◌, ℕ, true, false, List, [], ◌∷◌, 
 use Rattle.std.proofs.lemmas.Option.{same_Some}
 use Rattle.rgo_sound.specs.Code.Code.{Code}
 use Rattle.rgo_core.proofs.image.Standing.{frame_at, side_at}
-use Rattle.rgo_core.specs.Core.{Here, Setup}
-use Rattle.rgo_core.specs.Moments.{moment}
+use Rattle.rgo_core.specs.Core.{Situation, Setup}
+use Rattle.rgo_core.specs.ties.Moments.{moment}
 use Rattle.rgo_core.specs.Records.{Record}
 use Rattle.rgo_core.specs.Channels.Channels.{Accepted, Calm, Chan, Offered, OfferOf, On, Phase, holder_offer}
 use Rattle.rgo_core.specs.Channels.Deadlock as why
 use Rattle.rgo_core.specs.Channels.Deadlock.{Blocked}
 use Rattle.rgo_core.specs.Channels.Records.{Nowhere, Offering, Post}
 use Rattle.rgo_core.specs.Frames.Fits.{RecordFits, IsPast, IsShown}
-use Rattle.rgo_core.specs.Frames.Shown.{FramesShow}
-use Rattle.rgo_core.specs.Frames.WordFrames.{WordFrame}
+use Rattle.rgo_core.specs.Frames.shown.Variables.{FramesShow}
+use Rattle.rgo_core.specs.Frames.shown.WordFrames.{WordFrame}
 use Rattle.rgo_sound.specs.RegionMachine.Duties.{may_go}
 use Rattle.rgo_sound.specs.RegionMachine.States.{Holder}
 use Rattle.rgo_sound.specs.Tac.Frames.{TacFrame}
-use Rattle.rgo_goroutine.specs.Turns.{IsOver}
+use Rattle.rgo_goroutine.specs.Turns.{HasFinished}
 
 -- no words of frames stand for no frames
 shown_none : (code : Code) (addresses : List ℕ) (frames : List TacFrame) (ws : List WordFrame) → ws ≡ [] → FramesShow code addresses frames ws
@@ -24,7 +24,7 @@ shown_none : (code : Code) (addresses : List ℕ) (frames : List TacFrame) (ws :
 shown_none code addresses [] ws e k = refl
 shown_none code addresses (f ∷ fs) ws e k = absurd (subst (FramesShow code addresses (f ∷ fs)) e k)
 
-module _ {T : Setup} {g : ℕ} {c : Record} (x : Here T g c) (over : IsOver c) where
+module _ {T : Setup} {g : ℕ} {c : Record} (x : Situation T g c) (over : HasFinished c) where
   abbrev fitted : RecordFits T.code x.core.image.places.slot x.core.image.addresses x.s g c.frame
   fitted = x.core.image.frames.each g c.frame (frame_at x)
 

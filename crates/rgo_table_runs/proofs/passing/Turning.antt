@@ -7,7 +7,7 @@ use Rattle.rgo_core.specs.Rule.Views.{number_of}
 use Rattle.rgo_core.specs.Rule.declared.accesses.Access.{Access}
 use Rattle.rgo_sound.specs.Machine.declared.limits.Shortage.{Shortage}
 use Rattle.rgo_goroutine.specs.Acts.Runs.{Run}
-use Rattle.rgo_goroutine.specs.Goroutines.{record_of}
+use Rattle.rgo_goroutine.specs.Goroutines.{record_of_goroutine}
 use Rattle.rgo_goroutine.specs.Turns.{TurnStops}
 use Rattle.rgo_goroutine.specs.declared.goroutine.Goroutine.{Goroutine}
 use Rattle.rgo_goroutine.specs.declared.turning.TableTurnEnd.{TableTurnEnd}
@@ -42,7 +42,7 @@ knows_by_look = record {
     early = new.actor.seat.me.0.seen;
     later = [];
     is = sym (append-nil new.actor.seat.me.0.seen);
-    own = k.grew.counts (some_more (accesses (record_of r.setup old)) (accesses (record_of r.setup new)) (accesses_by (number_of old.actor.seat.me) k.es)
+    own = k.grew.counts (some_more (accesses (record_of_goroutine r.setup old)) (accesses (record_of_goroutine r.setup new)) (accesses_by (number_of old.actor.seat.me) k.es)
         k.grew.more (ap accesses k.record_is));
   };
   stays = λ before more g n k. record {
@@ -57,13 +57,13 @@ turn_some : (a b n : ℕ) → b ≡ a + n → a < b → 0 < n
 turn_some a b n e f = omega arith
 
 stands_for : (r : Run) (old new : Goroutine) (slice n changed : ℕ) (es : List Access) (lack : Option Shortage) (why : TableTurnEnd) → Tells why lack
-    → TurnStops r old new slice n changed es why → StandsStill r.setup (number_of old.actor.seat.me) (record_of r.setup new) es lack
+    → TurnStops r old new slice n changed es why → StandsStill r.setup (number_of old.actor.seat.me) (record_of_goroutine r.setup new) es lack
 stands_for r old new slice n changed es lack (stop.Blocked at) is s =
-    subst (λ (o : Option Shortage). StandsStill r.setup (number_of old.actor.seat.me) (record_of r.setup new) es o) (sym is) (inl (at, s.1))
+    subst (λ (o : Option Shortage). StandsStill r.setup (number_of old.actor.seat.me) (record_of_goroutine r.setup new) es o) (sym is) (inl (at, s.1))
 stands_for r old new slice n changed es lack (stop.Lost at) is s =
-    subst (λ (o : Option Shortage). StandsStill r.setup (number_of old.actor.seat.me) (record_of r.setup new) es o) (sym is) (inr (at, s.1))
+    subst (λ (o : Option Shortage). StandsStill r.setup (number_of old.actor.seat.me) (record_of_goroutine r.setup new) es o) (sym is) (inr (at, s.1))
 stands_for r old new slice n changed es lack (stop.Short why) is s =
-    subst (λ (o : Option Shortage). StandsStill r.setup (number_of old.actor.seat.me) (record_of r.setup new) es o) (sym is) s.1
+    subst (λ (o : Option Shortage). StandsStill r.setup (number_of old.actor.seat.me) (record_of_goroutine r.setup new) es o) (sym is) s.1
 stands_for r old new slice n changed es lack stop.Went is s = absurd is
 stands_for r old new slice n changed es lack stop.Ended is s = absurd is
 stands_for r old new slice n changed es lack (stop.Stopped mark) is s = absurd is
@@ -78,16 +78,16 @@ passes_by_turn r old new slice turned before front lack seen known h still tidy 
     whole_seen : new.actor.seat.me.0.seen ≡ (before ++ front) ++ h.es
     whole_seen = h.turns.grew.seen ∙ ap (λ (l : List Access). l ++ h.es) seen
 
-    had : HadTurn before new.actor.seat.me.0.seen (number_of old.actor.seat.me) (record_of r.setup new)
+    had : HadTurn before new.actor.seat.me.0.seen (number_of old.actor.seat.me) (record_of_goroutine r.setup new)
     had = record {
-      had = accesses (record_of r.setup old);
+      had = accesses (record_of_goroutine r.setup old);
       known = known;
       front = front;
       turn = h.es;
       rest = [];
       is = whole_seen ∙ sym (append-nil ((before ++ front) ++ h.es));
       more = let m = h.turns.grew.more in omega arith;
-      whole = h.turns.grew.counts (turn_some (accesses (record_of r.setup old)) (accesses (record_of r.setup new))
+      whole = h.turns.grew.counts (turn_some (accesses (record_of_goroutine r.setup old)) (accesses (record_of_goroutine r.setup new))
           (accesses_by (number_of old.actor.seat.me) h.es) h.turns.grew.more h.turns.some)
           ∙ ap (accesses_by (number_of old.actor.seat.me)) whole_seen;
       still = still;

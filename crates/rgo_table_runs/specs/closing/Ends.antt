@@ -4,7 +4,7 @@ use Rattle.std.specs.Prelude.{◌≡◌, ◌<◌, ◌≤◌, ℕ, max, List, Opt
 use Rattle.rgo_sound.specs.Code.Code.{Code}
 use Rattle.rgo_sound.specs.Code.Erasure.{erased}
 use Rattle.rgo_core.specs.Records.{Drawn, Record}
-use Rattle.rgo_core.specs.Rule.Views.{Has, Rows}
+use Rattle.rgo_core.specs.Rule.Views.{HasRow, Rows}
 use Rattle.rgo_sound.specs.Machine.Ends.{AppendsSome}
 use Rattle.rgo_sound.specs.Machine.declared.ends.RunEnd.{RunEnd}
 use Rattle.rgo_sound.specs.Machine.declared.ends.RunEnd.TheVariants as run_end
@@ -21,8 +21,8 @@ use Rattle.rgo_table_runs.specs.closing.Prints.{AllGiven, bytes_of}
 
 -- which end mark some goroutine has set, or that none has
 abbrev pub IsFirst : Rows Record → Option Mark → Type 0
-IsFirst rows None = (g : ℕ) (c : Record) → Has rows g c → c.clock.first ≡ None
-IsFirst rows (Some mark) = (g : ℕ) × (c : Record) × Has rows g c × (c.clock.first ≡ Some mark)
+IsFirst rows None = (g : ℕ) (c : Record) → HasRow rows g c → c.clock.first ≡ None
+IsFirst rows (Some mark) = (g : ℕ) × (c : Record) × HasRow rows g c × (c.clock.first ≡ Some mark)
 
 -- ---- the end of the run
 
@@ -34,9 +34,9 @@ end_of_limit limit.Calls = run_end.CallsTooDeep
 end_of_limit limit.Goroutines = run_end.GoroutinesSpent
 end_of_limit limit.Memory = run_end.NoMemory
 
-abbrev pub end_of : Mark → RunEnd
-end_of (Ended end) = run_end.Ended end
-end_of (Stopped limit) = end_of_limit limit
+abbrev pub run_end_of_mark : Mark → RunEnd
+run_end_of_mark (Ended end) = run_end.Ended end
+run_end_of_mark (Stopped limit) = end_of_limit limit
 
 -- `steps` were made by the end, and `tested` when the limit of steps was tested before
 module _ (code : Code) (sizes : Sizes) (limits : Limits) (tested steps : ℕ) (s : RegionState) where
@@ -45,7 +45,7 @@ module _ (code : Code) (sizes : Sizes) (limits : Limits) (tested steps : ℕ) (s
   abbrev pub TableRunEnds : Option Mark → RunEnd → Type 0
   TableRunEnds first run_end.NoMemory = ⊤
   TableRunEnds first run_end.WriteFault = ⊤
-  TableRunEnds (Some mark) end = end_of mark ≡ end
+  TableRunEnds (Some mark) end = run_end_of_mark mark ≡ end
   TableRunEnds None run_end.Deadlock = IsDeadlock (tac (erased code)) s.plain
   TableRunEnds None run_end.StepsSpent = (limits.steps ≤ steps) × (tested ≤ steps) × (tested < max 1 limits.steps)
   TableRunEnds None (run_end.NoRoom why) = LacksIn code sizes why s

@@ -5,8 +5,8 @@ use lib.ListN.{get_elem?}
 use Rattle.rgo_core.specs.Records.{Drawn, Record, blank}
 use Rattle.rgo_core.specs.Rule.declared.accesses.View.{View}
 use Rattle.rgo_core_steps.specs.Outcomes.{HasFamily}
-use Rattle.rgo_table_runs.specs.closing.Prints.{IsPrint}
-use Rattle.rgo_table_runs.specs.closing.Gathering.{IsIn}
+use Rattle.rgo_table_runs.specs.closing.Prints.{SomePrinted}
+use Rattle.rgo_table_runs.specs.closing.Gathering.{IsDrawnIn}
 
 -- A goroutine, whether it has retired or not: its number and its record, what it has printed that was not gathered, and the numbers of
 -- those that it has started that were not adopted.
@@ -24,8 +24,8 @@ IsOneOf ms m = (i : ℕ) × (get_elem? ms i ≡ some m)
 abbrev pub SomeHasNumber : List Member → ℕ → Type 0
 SomeHasNumber ms n = (m : Member) × IsOneOf ms m × (m.number ≡ n)
 
-abbrev pub IsListed : List ℕ → ℕ → Type 0
-IsListed ns n = (i : ℕ) × (slice_get ns i ≡ Some n)
+abbrev pub ListHasNumber : List ℕ → ℕ → Type 0
+ListHasNumber ns n = (i : ℕ) × (slice_get ns i ≡ Some n)
 
 abbrev pub HasPrinted : Record → Drawn → Type 0
 HasPrinted c d = (i : ℕ) × (slice_get c.clock.prints i ≡ Some d)
@@ -34,9 +34,9 @@ HasPrinted c d = (i : ℕ) × (slice_get c.clock.prints i ≡ Some d)
 -- adopted; each print that is not void was taken, unless it was not yet gathered; and nothing else was taken.
 pub record NoneIsLost (ms : List Member) (taken : List Drawn) : Type 0 where
   pub main : SomeHasNumber ms 0
-  pub children : (m : Member) (h : ℕ) → IsOneOf ms m → IsListed m.its.clock.children h → SomeHasNumber ms h ⊎ IsListed m.unborn h
-  pub prints : (m : Member) (d : Drawn) → IsOneOf ms m → HasPrinted m.its d → d.is_void ≡ false → IsIn taken d ⊎ IsIn m.fresh d
-  pub are : (d : Drawn) → IsIn taken d → (d.is_void ≡ false) × (m : Member) × IsOneOf ms m × HasPrinted m.its d
+  pub children : (m : Member) (h : ℕ) → IsOneOf ms m → ListHasNumber m.its.clock.children h → SomeHasNumber ms h ⊎ ListHasNumber m.unborn h
+  pub prints : (m : Member) (d : Drawn) → IsOneOf ms m → HasPrinted m.its d → d.is_void ≡ false → IsDrawnIn taken d ⊎ IsDrawnIn m.fresh d
+  pub are : (d : Drawn) → IsDrawnIn taken d → (d.is_void ≡ false) × (m : Member) × IsOneOf ms m × HasPrinted m.its d
 
 -- ---- what keeps it
 
@@ -44,8 +44,8 @@ pub record NoneIsLost (ms : List Member) (taken : List Drawn) : Type 0 where
 pub record AreSameMembers (ms ns : List Member) (taken given : List Drawn) : Type 0 where
   pub there : (m : Member) → IsOneOf ms m → IsOneOf ns m
   pub back : (m : Member) → IsOneOf ns m → IsOneOf ms m
-  pub still : (d : Drawn) → IsIn taken d → IsIn given d
-  pub before : (d : Drawn) → IsIn given d → IsIn taken d
+  pub still : (d : Drawn) → IsDrawnIn taken d → IsDrawnIn given d
+  pub before : (d : Drawn) → IsDrawnIn given d → IsDrawnIn taken d
 
 abbrev pub KeptByOrder : Type 0
 KeptByOrder = (ms ns : List Member) (taken given : List Drawn) → NoneIsLost ms taken → AreSameMembers ms ns taken given → NoneIsLost ns given
@@ -67,9 +67,9 @@ KeptByTurn = (front rest : List Member) (m n : Member) (taken : List Drawn) → 
 -- What it had printed was gathered: what is not void of it was taken.
 pub record WasGathered (m n : Member) (taken given : List Drawn) : Type 0 where
   pub is : n ≡ record m { fresh = [] }
-  pub old : (d : Drawn) → IsIn taken d → IsIn given d
-  pub all : (d : Drawn) → IsIn m.fresh d → d.is_void ≡ false → IsIn given d
-  pub only : (d : Drawn) → IsIn given d → IsIn taken d ⊎ (IsIn m.fresh d × (d.is_void ≡ false) × HasPrinted m.its d)
+  pub old : (d : Drawn) → IsDrawnIn taken d → IsDrawnIn given d
+  pub all : (d : Drawn) → IsDrawnIn m.fresh d → d.is_void ≡ false → IsDrawnIn given d
+  pub only : (d : Drawn) → IsDrawnIn given d → IsDrawnIn taken d ⊎ (IsDrawnIn m.fresh d × (d.is_void ≡ false) × HasPrinted m.its d)
 
 abbrev pub KeptByGathering : Type 0
 KeptByGathering = (front rest : List Member) (m n : Member) (taken given : List Drawn) → WasGathered m n taken given
@@ -78,7 +78,7 @@ KeptByGathering = (front rest : List Member) (m n : Member) (taken given : List 
 -- Those that it had started were adopted: they have printed and started nothing yet.
 pub record WereAdopted (m n : Member) (more : List Member) : Type 0 where
   pub is : n ≡ record m { unborn = [] }
-  pub all : (h : ℕ) → IsListed m.unborn h → SomeHasNumber more h
+  pub all : (h : ℕ) → ListHasNumber m.unborn h → SomeHasNumber more h
   pub new : (c : Member) → IsOneOf more c → (c.its.clock ≡ blank) × (c.fresh ≡ []) × (c.unborn ≡ [])
 
 abbrev pub KeptByAdopting : Type 0
@@ -95,5 +95,5 @@ retired r = record { number = r.0; its = r.1; fresh = []; unborn = [] }
 abbrev pub AllRetired : Type 0
 AllRetired = (v : View Record) (taken : List Drawn) → NoneIsLost (map retired v.records) taken
     → HasFamily v
-    × ((d : Drawn) → IsPrint v.records d → d.is_void ≡ false → IsIn taken d)
-    × ((d : Drawn) → IsIn taken d → (d.is_void ≡ false) × IsPrint v.records d)
+    × ((d : Drawn) → SomePrinted v.records d → d.is_void ≡ false → IsDrawnIn taken d)
+    × ((d : Drawn) → IsDrawnIn taken d → (d.is_void ≡ false) × SomePrinted v.records d)

@@ -4,28 +4,28 @@ use mathlib.Core.Option.{some}
 use lib.ListN.{get_elem?}
 use Rattle.rgo_core.specs.Records.{Drawn, Record}
 use Rattle.rgo_core.specs.Rule.Lists.{flattened}
-use Rattle.rgo_core.specs.Rule.Views.{Has, Rows}
+use Rattle.rgo_core.specs.Rule.Views.{HasRow, Rows}
 
 -- some goroutine has drawn this ticket and printed these bytes
-pub record IsPrint (rows : Rows Record) (d : Drawn) : Type 0 where
+pub record SomePrinted (rows : Rows Record) (d : Drawn) : Type 0 where
   pub goroutine : ℕ
   pub its : Record
-  pub has : Has rows goroutine its
+  pub has : HasRow rows goroutine its
   pub place : ℕ
   pub there : get_elem? its.clock.prints place ≡ some d
 
 -- the prints with the tickets from 0 on, each once and in order, none of them void
 pub record TicketsInOrder (rows : Rows Record) (given : List Drawn) : Type 0 where
-  pub are : (i : ℕ) (d : Drawn) → get_elem? given i ≡ some d → IsPrint rows d
+  pub are : (i : ℕ) (d : Drawn) → get_elem? given i ≡ some d → SomePrinted rows d
   pub next : (i : ℕ) (d : Drawn) → get_elem? given i ≡ some d → d.ticket ≡ i
   pub valid : (i : ℕ) (d : Drawn) → get_elem? given i ≡ some d → d.is_void ≡ false
 
 -- no other print that is not void is there
 abbrev pub AllGiven : Rows Record → List Drawn → Type 0
-AllGiven rows given = (d : Drawn) → IsPrint rows d → d.is_void ≡ false → d.ticket < length given
+AllGiven rows given = (d : Drawn) → SomePrinted rows d → d.is_void ≡ false → d.ticket < length given
 
-abbrev pub bytes_in : Drawn → List ℕ
-bytes_in d = d.bytes
+abbrev pub drawn_bytes : Drawn → List ℕ
+drawn_bytes d = d.bytes
 
 abbrev pub bytes_of : List Drawn → List ℕ
-bytes_of given = flattened (map bytes_in given)
+bytes_of given = flattened (map drawn_bytes given)

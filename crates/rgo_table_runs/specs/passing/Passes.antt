@@ -2,7 +2,7 @@
 use Rattle.std.specs.Prelude.{◌≡◌, ℕ, List, ◌++◌, Option}
 use Rattle.rgo_core.specs.Core.{Setup}
 use Rattle.rgo_core.specs.Records.{Record}
-use Rattle.rgo_core.specs.Rule.Views.{Has, Rows}
+use Rattle.rgo_core.specs.Rule.Views.{HasRow, Rows}
 use Rattle.rgo_core.specs.Rule.declared.accesses.Access.{Access}
 use Rattle.rgo_core.specs.Rule.declared.accesses.View.{View}
 use Rattle.rgo_sound.specs.Machine.declared.limits.Shortage.{Shortage}
@@ -14,4 +14,4 @@ pub record AllPassed (T : Setup) (v : View Record) (rows : Rows Record) (before 
   pub all : AreAll v rows
   pub since : List Access
   pub seen : v.seen ≡ before ++ since
-  pub each : (g : ℕ) (c : Record) → Has rows g c → HasPassed T before v.seen g c (lack g)
+  pub each : (g : ℕ) (c : Record) → HasRow rows g c → HasPassed T before v.seen g c (lack g)

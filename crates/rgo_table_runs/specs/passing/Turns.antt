@@ -8,10 +8,10 @@ use Rattle.rgo_core.specs.Rule.Passes.{ChangesNothingBy}
 use Rattle.rgo_core.specs.Rule.declared.accesses.Access.{Access}
 use Rattle.rgo_sound.specs.Machine.declared.limits.Shortage.{Shortage}
 use Rattle.rgo_goroutine.specs.Acts.Waits.{Loses, WaitsAtChannel}
-use Rattle.rgo_goroutine.specs.Turns.{IsOver, IsTidy, LacksFor}
+use Rattle.rgo_goroutine.specs.Turns.{HasFinished, IsTidy, LacksFor}
 
 -- n accesses of goroutine g are known: it has made as many in a beginning of `before`
-pub record IsKnown (before : List Access) (g n : ℕ) : Type 0 where
+pub record AccessesAreKnown (before : List Access) (g n : ℕ) : Type 0 where
   pub early : List Access
   pub later : List Access
   pub is : before ≡ early ++ later
@@ -21,7 +21,7 @@ pub record IsKnown (before : List Access) (g n : ℕ) : Type 0 where
 -- it. In the history others had theirs before it (`front`) and after it (`rest`).
 pub record HadTurn (before history : List Access) (g : ℕ) (c : Record) : Type 0 where
   pub had : ℕ
-  pub known : IsKnown before g had
+  pub known : AccessesAreKnown before g had
   pub front : List Access
   pub turn : List Access
   pub rest : List Access
@@ -38,7 +38,7 @@ StandsStill T g c turn (Some lack) = LacksFor lack T g c turn
 -- Why goroutine g, whose record is c, does not continue: it was over when the pass began; or it had a turn and has not moved. It
 -- has nothing under way with which others would have to reckon.
 pub data HasStopped (T : Setup) (before history : List Access) (g : ℕ) (c : Record) (lack : Option Shortage) : Type 0 where
-  Over : lack ≡ None → IsKnown before g (accesses c) → IsOver c → HasStopped T before history g c lack
+  Over : lack ≡ None → AccessesAreKnown before g (accesses c) → HasFinished c → HasStopped T before history g c lack
   Still : (t : HadTurn before history g c) → StandsStill T g c t.turn lack → HasStopped T before history g c lack
 
 pub record HasPassed (T : Setup) (before history : List Access) (g : ℕ) (c : Record) (lack : Option Shortage) : Type 0 where

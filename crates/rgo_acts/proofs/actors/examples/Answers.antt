@@ -1,4 +1,4 @@
-use Rattle.rgo_acts.proofs.ActorExamples.{actor_examples}
+use Rattle.rgo_acts.proofs.examples.Actors.{actor_examples}
 use Rattle.rgo_acts.proofs.actors.examples.Goals as goal
 
 pub returns : goal.returns

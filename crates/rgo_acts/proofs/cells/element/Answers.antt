@@ -1,16 +1,16 @@
 use Rattle.std.proofs.Common.{◌≡◌, ◌+◌, ◌-◌, ◌<◌, ◌≤◌, arith, inl, refl, subst, sym}
-use Rattle.rgo_core.specs.Accesses.{IsAtSpread}
-use Rattle.rgo_core.specs.Bounds.{LieInPages}
+use Rattle.rgo_core.specs.moves.Cells.{IsAtSpread}
+use Rattle.rgo_core.specs.ties.Bounds.{LieInPages}
 use Rattle.rgo_core.specs.Core.{layout}
-use Rattle.rgo_core.specs.Links.{IsAtElement}
+use Rattle.rgo_core.specs.ties.Links.{IsAtElement}
 use Rattle.rgo_core.specs.Memory.Words.{base}
 use Rattle.rgo_sound.specs.Tac.Ops.{operation_of}
 use Rattle.rgo_acts.specs.Actors.{now}
 use Rattle.rgo_acts.specs.Elements.{ActorHasElement, HasLocated, HasNoElementHere}
-use Rattle.rgo_acts.specs.Ready.{IsBefore}
+use Rattle.rgo_acts.specs.Ready.{ActorIsBefore}
 use Rattle.rgo_acts.specs.Runs.{Run}
-use Rattle.rgo_acts.proofs.Before.{has_variable}
-use Rattle.rgo_acts.proofs.Measuring.{at_element, at_spread, has_measured, is_inside, is_located, is_nil, is_outside, length_lies, reads_both, within_pages}
+use Rattle.rgo_acts.proofs.before.Instructions.{has_variable}
+use Rattle.rgo_acts.proofs.before.Measuring.{at_element, at_spread, has_measured, is_inside, is_located, is_nil, is_outside, length_lies, reads_both, within_pages}
 use Rattle.rgo_acts.proofs.cells.element.Goals as goal
 
 pub word-pointer-requires : goal.word-pointer-requires
@@ -43,7 +43,7 @@ pub returns-then-index-elements : goal.returns-then-index-elements
 returns-then-index-elements g c =
     let a = c.args.actor.now in
     let b = record a { seat = c.measure-elements.new.seat; behind = 0 } in
-    let before = subst (λ (r : Run). IsBefore r a c.args.next.now) (sym c.run.view_is) c.requires.before in
+    let before = subst (λ (r : Run). ActorIsBefore r a c.args.next.now) (sym c.run.view_is) c.requires.before in
     subst (λ (r : Run). HasNoElementHere r a b c.args.next.now c.args.slice c.args.index) c.run.view_is
     (is_outside _ a c.args.next.now before c.args.slice c.args.index c.word-pointer.result c.requires.at c.word-pointer.ensures
     c.if-pointer-eq0.false b c.cell-first.result c.measure-elements.result c.measure-elements.ensures.own.0 refl refl
@@ -53,7 +53,7 @@ pub cell-requires : goal.cell-requires
 cell-requires g c =
     let a = c.args.actor.now in
     let b = record a { seat = c.measure-elements.new.seat; behind = 0 } in
-    let before = subst (λ (r : Run). IsBefore r a c.args.next.now) (sym c.run.view_is) c.requires.before in
+    let before = subst (λ (r : Run). ActorIsBefore r a c.args.next.now) (sym c.run.view_is) c.requires.before in
     let same = c.page_words-page_words.ensures in
     let few = c.if-elements-page_words.true in
     let whole = subst (λ (r : Run). c.measure-elements.result < r.setup.sizes.page_words) (sym c.run.view_is) (omega (arith, same, few)) in
@@ -66,7 +66,7 @@ pub returns-then-elements-page_words : goal.returns-then-elements-page_words
 returns-then-elements-page_words g c =
     let a = c.args.actor.now in
     let b = record a { seat = c.measure-elements.new.seat; behind = 0 } in
-    let before = subst (λ (r : Run). IsBefore r a c.args.next.now) (sym c.run.view_is) c.requires.before in
+    let before = subst (λ (r : Run). ActorIsBefore r a c.args.next.now) (sym c.run.view_is) c.requires.before in
     let same = c.page_words-page_words.ensures in
     let few = c.if-elements-page_words.true in
     let whole = subst (λ (r : Run). c.measure-elements.result < r.setup.sizes.page_words) (sym c.run.view_is) (omega (arith, same, few)) in
@@ -83,8 +83,8 @@ pub locate-requires-clause-before : goal.locate-requires-clause-before
 locate-requires-clause-before g c =
     let a = c.args.actor.now in
     let b = record a { seat = c.measure-elements.new.seat; behind = 0 } in
-    let before = subst (λ (r : Run). IsBefore r a c.args.next.now) (sym c.run.view_is) c.requires.before in
-    subst (λ (r : Run). IsBefore r b c.args.next.now) c.run.view_is
+    let before = subst (λ (r : Run). ActorIsBefore r a c.args.next.now) (sym c.run.view_is) c.requires.before in
+    subst (λ (r : Run). ActorIsBefore r b c.args.next.now) c.run.view_is
     (has_measured _ a c.args.next.now before c.args.slice c.args.index c.word-pointer.result c.requires.at c.word-pointer.ensures
     c.if-pointer-eq0.false b c.cell-first.result c.measure-elements.result c.measure-elements.ensures.own.0 refl refl
     c.measure-elements.ensures.possible c.measure-elements.ensures.leaves).before
@@ -93,7 +93,7 @@ pub locate-requires-clause-spread : goal.locate-requires-clause-spread
 locate-requires-clause-spread g c =
     let a = c.args.actor.now in
     let b = record a { seat = c.measure-elements.new.seat; behind = 0 } in
-    let before = subst (λ (r : Run). IsBefore r a c.args.next.now) (sym c.run.view_is) c.requires.before in
+    let before = subst (λ (r : Run). ActorIsBefore r a c.args.next.now) (sym c.run.view_is) c.requires.before in
     let same = c.page_words-page_words.ensures in
     let many = c.if-elements-page_words.false in
     let spread = subst (λ (r : Run). r.setup.sizes.page_words ≤ c.measure-elements.result) (sym c.run.view_is) (omega (arith, same, many)) in
@@ -107,7 +107,7 @@ pub returns : goal.returns
 returns g c =
     let a = c.args.actor.now in
     let b = record a { seat = c.measure-elements.new.seat; behind = 0 } in
-    let before = subst (λ (r : Run). IsBefore r a c.args.next.now) (sym c.run.view_is) c.requires.before in
+    let before = subst (λ (r : Run). ActorIsBefore r a c.args.next.now) (sym c.run.view_is) c.requires.before in
     let has = subst (λ (r : Run). HasLocated r b c.locate.new.actor c.args.next.now (c.word-pointer.result - 1) c.word-index.result c.locate.result)
     (sym c.run.view_is) c.locate.ensures in
     subst (λ (r : Run). ActorHasElement r a c.locate.new.actor c.args.next.now c.args.slice c.args.index c.locate.result) c.run.view_is

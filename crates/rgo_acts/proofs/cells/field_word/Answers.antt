@@ -1,7 +1,7 @@
 use Rattle.std.proofs.Common.{arith, subst}
 use Rattle.rgo_body.specs.Fields.{PointsToFields}
 use Rattle.rgo_acts.specs.Runs.{Run}
-use Rattle.rgo_acts.proofs.Fields.{field_here, field_lies, field_located, field_spread}
+use Rattle.rgo_acts.proofs.accesses.Fields.{field_here, field_lies, field_located, field_spread}
 use Rattle.rgo_acts.proofs.cells.field_word.Goals as goal
 
 pub cell-requires : goal.cell-requires

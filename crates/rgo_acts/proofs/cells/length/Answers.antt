@@ -2,9 +2,9 @@ use Rattle.std.proofs.Common.{[], refl, subst, sym}
 use Rattle.rgo_core_steps.specs.Accesses.{LengthOfNil}
 use Rattle.rgo_acts.specs.Actors.{now}
 use Rattle.rgo_acts.specs.Runs.{Run}
-use Rattle.rgo_acts.proofs.Before.{first_in, reads_it}
-use Rattle.rgo_acts.proofs.Fields.{length_loads, length_of_nil, length_within}
-use Rattle.rgo_acts.proofs.Loading.{looked}
+use Rattle.rgo_acts.proofs.before.Instructions.{first_in, reads_it}
+use Rattle.rgo_acts.proofs.accesses.Fields.{length_loads, length_of_nil, length_within}
+use Rattle.rgo_acts.proofs.accesses.Loading.{looked}
 use Rattle.rgo_acts.proofs.cells.length.Goals as goal
 
 pub word-slice-requires : goal.word-slice-requires

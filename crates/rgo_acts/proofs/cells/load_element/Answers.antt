@@ -1,4 +1,4 @@
-use Rattle.rgo_acts.proofs.Measuring.{element_loads, load_traps_at, then_acted}
+use Rattle.rgo_acts.proofs.before.Measuring.{element_loads, load_traps_at, then_acted}
 use Rattle.rgo_acts.proofs.cells.load_element.Goals as goal
 
 pub take-requires-clause-loads : goal.take-requires-clause-loads

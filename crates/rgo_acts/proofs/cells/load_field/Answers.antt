@@ -1,7 +1,7 @@
 use Rattle.std.proofs.Common.{[], inl}
-use Rattle.rgo_core.specs.Frames.WordFrames.{word_at}
-use Rattle.rgo_acts.proofs.Before.{first_in, one_more, reads_it}
-use Rattle.rgo_acts.proofs.Fields.{load_traps}
+use Rattle.rgo_core.specs.Frames.shown.WordFrames.{frame_word}
+use Rattle.rgo_acts.proofs.before.Instructions.{first_in, one_more, reads_it}
+use Rattle.rgo_acts.proofs.accesses.Fields.{load_traps}
 use Rattle.rgo_acts.proofs.Standing.{acted_then}
 use Rattle.rgo_acts.proofs.cells.load_field.Goals as goal
 
@@ -19,7 +19,7 @@ field_word-word-requires-clause-at g c = inl (c.args.to, c.requires.is)
 
 pub field_word-word-requires-clause-points : goal.field_word-word-requires-clause-points
 field_word-word-requires-clause-points g c =
-    λ w ws are. one_more c.word-pointer.result (word_at w c.args.from) (c.word-pointer.ensures w ws are) c.if-pointer-eq0.false
+    λ w ws are. one_more c.word-pointer.result (frame_word w c.args.from) (c.word-pointer.ensures w ws are) c.if-pointer-eq0.false
 
 pub take-requires-clause-loads : goal.take-requires-clause-loads
 take-requires-clause-loads g c = c.field_word-word.ensures.loads c.args.to c.requires.is

@@ -1,4 +1,4 @@
-use Rattle.rgo_acts.proofs.Fields.{variable_loads, variable_there}
+use Rattle.rgo_acts.proofs.accesses.Fields.{variable_loads, variable_there}
 use Rattle.rgo_acts.proofs.cells.load_variable.Goals as goal
 
 pub variable-requires : goal.variable-requires

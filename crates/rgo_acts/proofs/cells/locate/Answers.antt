@@ -1,14 +1,14 @@
 use Rattle.std.proofs.Common.{◌≡◌, ◌+◌, ◌-◌, ◌/◌, ◌%◌, ◌<◌, ◌≤◌, ◌^◌, ◌∙◌, Fits, w64, ap, arith, refl, subst, sym}
-use Rattle.rgo_core.specs.Accesses.{IsAtSpread}
-use Rattle.rgo_core.specs.Bounds.{LieInPages}
+use Rattle.rgo_core.specs.moves.Cells.{IsAtSpread}
+use Rattle.rgo_core.specs.ties.Bounds.{LieInPages}
 use Rattle.rgo_core.specs.Core.{layout}
 use Rattle.rgo_core.specs.Memory.Words.{all_words, cell_at}
 use Rattle.rgo_core.specs.Memory.declared.layout.TableSizes.{TableSizes}
 use Rattle.rgo_acts.specs.Actors.{now}
 use Rattle.rgo_acts.specs.Elements.{HasLocated}
-use Rattle.rgo_acts.specs.Ready.{IsBefore}
+use Rattle.rgo_acts.specs.Ready.{ActorIsBefore}
 use Rattle.rgo_acts.specs.Runs.{Run}
-use Rattle.rgo_acts.proofs.Locating.{has_located, number_lies, pages_have_words}
+use Rattle.rgo_acts.proofs.before.Locating.{has_located, number_lies, pages_have_words}
 use Rattle.rgo_acts.proofs.cells.locate.Goals as goal
 
 pub nonzero_div-cell : goal.nonzero_div-cell
@@ -49,7 +49,7 @@ returns g c =
     let a = c.args.actor.now in
     let b = record a { seat = c.index-number.new.seat; behind = 0 } in
     let n = c.index-number.result in
-    let before = subst (λ (r : Run). IsBefore r a c.args.next.now) (sym c.run.view_is) c.requires.before in
+    let before = subst (λ (r : Run). ActorIsBefore r a c.args.next.now) (sym c.run.view_is) c.requires.before in
     let at = subst (λ (r : Run). IsAtSpread r.setup (now r.setup a) c.args.address c.args.before c.args.cell) (sym c.run.view_is)
     c.requires.spread in
     let is = subst (λ (r : Run). c.cell_in.result ≡ cell_at (layout r.setup) (n - 1) (c.args.cell % r.setup.sizes.page_words))

@@ -2,7 +2,7 @@ use Rattle.std.proofs.Common.{refl, subst, sym}
 use Rattle.rgo_core_steps.specs.Accesses.{Stores}
 use Rattle.rgo_acts.specs.Actors.{now}
 use Rattle.rgo_acts.specs.Runs.{Run}
-use Rattle.rgo_acts.proofs.Loading.{stored}
+use Rattle.rgo_acts.proofs.accesses.Loading.{stored}
 use Rattle.rgo_acts.proofs.cells.put.Goals as goal
 
 pub store-requires-clause-stores : goal.store-requires-clause-stores

@@ -1,6 +1,6 @@
 use Rattle.std.proofs.Common.{[]}
-use Rattle.rgo_acts.proofs.Before.{reads_it, third_in}
-use Rattle.rgo_acts.proofs.Measuring.{element_stores, store_traps_at, then_acted}
+use Rattle.rgo_acts.proofs.before.Instructions.{reads_it, third_in}
+use Rattle.rgo_acts.proofs.before.Measuring.{element_stores, store_traps_at, then_acted}
 use Rattle.rgo_acts.proofs.cells.store_element.Goals as goal
 
 pub word-value-requires : goal.word-value-requires

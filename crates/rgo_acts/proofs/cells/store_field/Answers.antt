@@ -1,7 +1,7 @@
 use Rattle.std.proofs.Common.{[], ◌∷◌, inr, sym, ◌∙◌}
-use Rattle.rgo_core.specs.Frames.WordFrames.{word_at}
-use Rattle.rgo_acts.proofs.Before.{first_in, one_more, reads_it, second_in}
-use Rattle.rgo_acts.proofs.Fields.{store_traps}
+use Rattle.rgo_core.specs.Frames.shown.WordFrames.{frame_word}
+use Rattle.rgo_acts.proofs.before.Instructions.{first_in, one_more, reads_it, second_in}
+use Rattle.rgo_acts.proofs.accesses.Fields.{store_traps}
 use Rattle.rgo_acts.proofs.Standing.{acted_then}
 use Rattle.rgo_acts.proofs.cells.store_field.Goals as goal
 
@@ -20,7 +20,7 @@ field_word-word-requires-clause-at g c = inr (c.args.value, c.requires.is)
 
 pub field_word-word-requires-clause-points : goal.field_word-word-requires-clause-points
 field_word-word-requires-clause-points g c =
-    λ w ws are. one_more c.word-pointer.result (word_at w c.args.to) (c.word-pointer.ensures w ws are) c.if-pointer-eq0.false
+    λ w ws are. one_more c.word-pointer.result (frame_word w c.args.to) (c.word-pointer.ensures w ws are) c.if-pointer-eq0.false
 
 pub word-value-requires : goal.word-value-requires
 word-value-requires g c =

@@ -1,6 +1,6 @@
 use Rattle.std.proofs.Common.{[]}
-use Rattle.rgo_acts.proofs.Before.{first_in, reads_it}
-use Rattle.rgo_acts.proofs.Fields.{to_variable_there, variable_stores}
+use Rattle.rgo_acts.proofs.before.Instructions.{first_in, reads_it}
+use Rattle.rgo_acts.proofs.accesses.Fields.{to_variable_there, variable_stores}
 use Rattle.rgo_acts.proofs.cells.store_variable.Goals as goal
 
 pub word-value-requires : goal.word-value-requires

@@ -2,7 +2,7 @@ use Rattle.std.proofs.Common.{refl, subst, sym}
 use Rattle.rgo_core_steps.specs.Accesses.{Loads}
 use Rattle.rgo_acts.specs.Actors.{now}
 use Rattle.rgo_acts.specs.Runs.{Run}
-use Rattle.rgo_acts.proofs.Loading.{loaded}
+use Rattle.rgo_acts.proofs.accesses.Loading.{loaded}
 use Rattle.rgo_acts.proofs.cells.take.Goals as goal
 
 pub load-found-requires-clause-loads : goal.load-found-requires-clause-loads

@@ -4,12 +4,12 @@ use Rattle.rgo_chan.specs.declared.answers.Tried.TheVariants as tried
 use Rattle.rgo_sound.specs.Memory.declared.traps.Trap.TheVariants.{SendClosed}
 use Rattle.rgo_core.specs.Channels.Records as sides
 use Rattle.rgo_core.specs.Memory.Words.{all_words}
-use Rattle.rgo_core.specs.CommitMoves.{IsAtSend}
+use Rattle.rgo_core.specs.moves.Commits.{IsAtSend}
 use Rattle.rgo_core.specs.Core.{layout}
 use Rattle.rgo_core_steps.specs.Seats.{mine}
 use Rattle.rgo_acts.specs.Runs.{Run}
-use Rattle.rgo_acts.proofs.AtChannels.{mine_at_send, mine_free, mine_posted, offer_inside, offers_at_do}
-use Rattle.rgo_acts.proofs.Talking.{acknowledges_there, not_ready_there}
+use Rattle.rgo_acts.proofs.before.AtChannels.{mine_at_send, mine_free, mine_posted, offer_inside, offers_at_do}
+use Rattle.rgo_acts.proofs.talking.Tries.{acknowledges_there, not_ready_there}
 use Rattle.rgo_acts.proofs.channels.acknowledge.Goals as goal
 
 pub acknowledge-tried-requires-clause-lies : goal.acknowledge-tried-requires-clause-lies

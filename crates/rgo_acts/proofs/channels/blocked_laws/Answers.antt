@@ -1,4 +1,4 @@
-use Rattle.rgo_acts.proofs.Waiting.{loses_blocked, waits_blocked}
+use Rattle.rgo_acts.proofs.talking.Waiting.{loses_blocked, waits_blocked}
 use Rattle.rgo_acts.proofs.channels.blocked_laws.Goals as goal
 
 pub returns-clause-waits : goal.returns-clause-waits

@@ -1,15 +1,15 @@
 use Rattle.std.proofs.Common.{◌∷◌, [], refl, sym, subst, inr, arith}
 use Rattle.rgo_core_steps.specs.Seats.{HasPossible}
 use Rattle.rgo_chan.specs.Answers.{Closes}
-use Rattle.rgo_chan.specs.Before.{IsBeforeClose, LiesIn, control_at}
+use Rattle.rgo_chan.specs.Before.{IsBeforeClose, LiesIn, control_of_channel}
 use Rattle.rgo_chan.proofs.Carrying.{closes_at}
 use Rattle.rgo_sound.proofs.Places.{contains_here}
 use Rattle.rgo_sound.specs.Typed.declared.actions.Action.TheVariants.{Close}
 use Rattle.rgo_acts.specs.Actors.{now}
 use Rattle.rgo_acts.specs.Runs.{Run}
 use Rattle.rgo_acts.specs.Talks.{TryConcludes}
-use Rattle.rgo_acts.proofs.AtChannels.{before_close, has_operand, lies, place_fits}
-use Rattle.rgo_acts.proofs.Talking.{close_on_nil, closes_talk}
+use Rattle.rgo_acts.proofs.before.AtChannels.{before_close, has_operand, lies, place_fits}
+use Rattle.rgo_acts.proofs.talking.Tries.{close_on_nil, closes_talk}
 use Rattle.rgo_acts.proofs.channels.close.Goals as goal
 
 pub word-pointer-requires : goal.word-pointer-requires
@@ -53,14 +53,14 @@ returns-clause-talks g c =
     let b = record a { seat = c.close_channel-tried.new.seat; behind = 0; body = c.conclude.new.body } in
     (closes_talk c.args.run.now a b c.args.next.now c.requires.before c.close_channel-tried.ensures.own.0 refl
     (subst (λ (x : Run). HasPossible x.setup c.close_channel-tried.new.seat.me) c.run.view_is (c.close_channel-tried.ensures.possible c.if-pointer-eq0.false))
-    c.args.steps.now c.close_channel-tried.new.steps (control_at c.base-base.result c.word-pointer.result)
+    c.args.steps.now c.close_channel-tried.new.steps (control_of_channel c.base-base.result c.word-pointer.result)
     (closes_at c.base-base.ensures.at c.if-pointer-eq0.false (before_close c.args.run.now c.args.actor.now c.args.next.now c.requires.before c.requires.is.0 c.args.channel c.word-pointer.result c.requires.is.1
     (sym (c.word-pointer.ensures c.requires.before.ready.is_next.w c.requires.before.ready.is_next.ws c.requires.before.ready.is_next.are))))
     c.close_channel-tried.result c.conclude.result
-    (subst (λ (x : Run). Closes x.setup (control_at c.base-base.result c.word-pointer.result) (now x.setup a) c.close_channel-tried.result a.seat.me c.args.steps.now
+    (subst (λ (x : Run). Closes x.setup (control_of_channel c.base-base.result c.word-pointer.result) (now x.setup a) c.close_channel-tried.result a.seat.me c.args.steps.now
     c.close_channel-tried.new.seat.me c.close_channel-tried.new.steps) c.run.view_is
     (c.close_channel-tried.ensures.answers c.if-pointer-eq0.false))
-    (subst (λ (x : Run). TryConcludes x.program a.body c.conclude.new.body (control_at c.base-base.result c.word-pointer.result) c.close_channel-tried.result) c.run.view_is
+    (subst (λ (x : Run). TryConcludes x.program a.body c.conclude.new.body (control_of_channel c.base-base.result c.word-pointer.result) c.close_channel-tried.result) c.run.view_is
     c.conclude.ensures.body)
     c.conclude.ensures.says).0
 
@@ -70,13 +70,13 @@ returns-clause-only g c =
     let b = record a { seat = c.close_channel-tried.new.seat; behind = 0; body = c.conclude.new.body } in
     (closes_talk c.args.run.now a b c.args.next.now c.requires.before c.close_channel-tried.ensures.own.0 refl
     (subst (λ (x : Run). HasPossible x.setup c.close_channel-tried.new.seat.me) c.run.view_is (c.close_channel-tried.ensures.possible c.if-pointer-eq0.false))
-    c.args.steps.now c.close_channel-tried.new.steps (control_at c.base-base.result c.word-pointer.result)
+    c.args.steps.now c.close_channel-tried.new.steps (control_of_channel c.base-base.result c.word-pointer.result)
     (closes_at c.base-base.ensures.at c.if-pointer-eq0.false (before_close c.args.run.now c.args.actor.now c.args.next.now c.requires.before c.requires.is.0 c.args.channel c.word-pointer.result c.requires.is.1
     (sym (c.word-pointer.ensures c.requires.before.ready.is_next.w c.requires.before.ready.is_next.ws c.requires.before.ready.is_next.are))))
     c.close_channel-tried.result c.conclude.result
-    (subst (λ (x : Run). Closes x.setup (control_at c.base-base.result c.word-pointer.result) (now x.setup a) c.close_channel-tried.result a.seat.me c.args.steps.now
+    (subst (λ (x : Run). Closes x.setup (control_of_channel c.base-base.result c.word-pointer.result) (now x.setup a) c.close_channel-tried.result a.seat.me c.args.steps.now
     c.close_channel-tried.new.seat.me c.close_channel-tried.new.steps) c.run.view_is
     (c.close_channel-tried.ensures.answers c.if-pointer-eq0.false))
-    (subst (λ (x : Run). TryConcludes x.program a.body c.conclude.new.body (control_at c.base-base.result c.word-pointer.result) c.close_channel-tried.result) c.run.view_is
+    (subst (λ (x : Run). TryConcludes x.program a.body c.conclude.new.body (control_of_channel c.base-base.result c.word-pointer.result) c.close_channel-tried.result) c.run.view_is
     c.conclude.ensures.body)
     c.conclude.ensures.says).1

@@ -1,15 +1,15 @@
 use Rattle.std.proofs.Common.{◌∷◌, ◌∙◌, [], ap, refl, sym, subst, inl, arith}
 use Rattle.rgo_core_steps.specs.Seats.{HasPossible}
 use Rattle.rgo_chan.specs.Answers.{Receives}
-use Rattle.rgo_chan.specs.Before.{IsBeforeReceive, LiesIn, control_at}
+use Rattle.rgo_chan.specs.Before.{IsBeforeReceive, LiesIn, control_of_channel}
 use Rattle.rgo_chan.proofs.Carrying.{receives_at}
 use Rattle.rgo_sound.proofs.Places.{contains_here}
 use Rattle.rgo_sound.specs.Typed.declared.actions.Action.TheVariants.{Recv}
 use Rattle.rgo_acts.specs.Actors.{now}
 use Rattle.rgo_acts.specs.Runs.{Run}
 use Rattle.rgo_acts.specs.Talks.{TryConcludes}
-use Rattle.rgo_acts.proofs.AtChannels.{before_receive, has_operand, has_words, lies, place_fits}
-use Rattle.rgo_acts.proofs.Talking.{receive_on_nil, receives_talk}
+use Rattle.rgo_acts.proofs.before.AtChannels.{before_receive, has_operand, has_words, lies, place_fits}
+use Rattle.rgo_acts.proofs.talking.Tries.{receive_on_nil, receives_talk}
 use Rattle.rgo_acts.proofs.channels.receive.Goals as goal
 
 pub word-pointer-requires : goal.word-pointer-requires
@@ -66,14 +66,14 @@ returns-clause-talks g c =
     let b = record a { seat = c.receive-tried.new.seat; behind = 0; body = c.conclude.new.body } in
     (receives_talk c.args.run.now a b c.args.next.now c.requires.before c.receive-tried.ensures.own.0 refl
     (subst (λ (x : Run). HasPossible x.setup c.receive-tried.new.seat.me) c.run.view_is (c.receive-tried.ensures.possible c.if-pointer-eq0.false))
-    c.args.steps.now c.receive-tried.new.steps (control_at c.base-base.result c.word-pointer.result)
+    c.args.steps.now c.receive-tried.new.steps (control_of_channel c.base-base.result c.word-pointer.result)
     (receives_at c.base-base.ensures.at c.if-pointer-eq0.false (before_receive c.args.run.now c.args.actor.now c.args.next.now c.requires.before c.requires.is.0 c.args.channel c.word-pointer.result c.requires.is.1
     (sym (c.word-pointer.ensures c.requires.before.ready.is_next.w c.requires.before.ready.is_next.ws c.requires.before.ready.is_next.are))))
     c.receive-tried.result c.conclude.result
-    (subst (λ (x : Run). Receives x.setup (control_at c.base-base.result c.word-pointer.result) (now x.setup a) c.receive-tried.result a.seat.me c.args.steps.now
+    (subst (λ (x : Run). Receives x.setup (control_of_channel c.base-base.result c.word-pointer.result) (now x.setup a) c.receive-tried.result a.seat.me c.args.steps.now
     c.receive-tried.new.seat.me c.receive-tried.new.steps) c.run.view_is
     (c.receive-tried.ensures.answers c.if-pointer-eq0.false))
-    (subst (λ (x : Run). TryConcludes x.program a.body c.conclude.new.body (control_at c.base-base.result c.word-pointer.result) c.receive-tried.result) c.run.view_is
+    (subst (λ (x : Run). TryConcludes x.program a.body c.conclude.new.body (control_of_channel c.base-base.result c.word-pointer.result) c.receive-tried.result) c.run.view_is
     c.conclude.ensures.body)
     c.conclude.ensures.says).0
 
@@ -83,13 +83,13 @@ returns-clause-only g c =
     let b = record a { seat = c.receive-tried.new.seat; behind = 0; body = c.conclude.new.body } in
     (receives_talk c.args.run.now a b c.args.next.now c.requires.before c.receive-tried.ensures.own.0 refl
     (subst (λ (x : Run). HasPossible x.setup c.receive-tried.new.seat.me) c.run.view_is (c.receive-tried.ensures.possible c.if-pointer-eq0.false))
-    c.args.steps.now c.receive-tried.new.steps (control_at c.base-base.result c.word-pointer.result)
+    c.args.steps.now c.receive-tried.new.steps (control_of_channel c.base-base.result c.word-pointer.result)
     (receives_at c.base-base.ensures.at c.if-pointer-eq0.false (before_receive c.args.run.now c.args.actor.now c.args.next.now c.requires.before c.requires.is.0 c.args.channel c.word-pointer.result c.requires.is.1
     (sym (c.word-pointer.ensures c.requires.before.ready.is_next.w c.requires.before.ready.is_next.ws c.requires.before.ready.is_next.are))))
     c.receive-tried.result c.conclude.result
-    (subst (λ (x : Run). Receives x.setup (control_at c.base-base.result c.word-pointer.result) (now x.setup a) c.receive-tried.result a.seat.me c.args.steps.now
+    (subst (λ (x : Run). Receives x.setup (control_of_channel c.base-base.result c.word-pointer.result) (now x.setup a) c.receive-tried.result a.seat.me c.args.steps.now
     c.receive-tried.new.seat.me c.receive-tried.new.steps) c.run.view_is
     (c.receive-tried.ensures.answers c.if-pointer-eq0.false))
-    (subst (λ (x : Run). TryConcludes x.program a.body c.conclude.new.body (control_at c.base-base.result c.word-pointer.result) c.receive-tried.result) c.run.view_is
+    (subst (λ (x : Run). TryConcludes x.program a.body c.conclude.new.body (control_of_channel c.base-base.result c.word-pointer.result) c.receive-tried.result) c.run.view_is
     c.conclude.ensures.body)
     c.conclude.ensures.says).1

@@ -1,15 +1,15 @@
 use Rattle.std.proofs.Common.{◌∷◌, ◌∙◌, [], ap, refl, sym, subst, inl, inr, arith}
 use Rattle.rgo_core_steps.specs.Seats.{HasPossible}
 use Rattle.rgo_chan.specs.Answers.{Sends}
-use Rattle.rgo_chan.specs.Before.{IsBeforeSend, LiesIn, control_at}
+use Rattle.rgo_chan.specs.Before.{IsBeforeSend, LiesIn, control_of_channel}
 use Rattle.rgo_chan.proofs.Carrying.{sends_at}
 use Rattle.rgo_sound.proofs.Places.{contains_here, contains_there}
 use Rattle.rgo_sound.specs.Typed.declared.actions.Action.TheVariants.{Send}
 use Rattle.rgo_acts.specs.Actors.{now}
 use Rattle.rgo_acts.specs.Runs.{Run}
 use Rattle.rgo_acts.specs.Talks.{TryConcludes}
-use Rattle.rgo_acts.proofs.AtChannels.{before_send, has_operand, has_words, lies, place_fits}
-use Rattle.rgo_acts.proofs.Talking.{send_on_nil, sends_talk}
+use Rattle.rgo_acts.proofs.before.AtChannels.{before_send, has_operand, has_words, lies, place_fits}
+use Rattle.rgo_acts.proofs.talking.Tries.{send_on_nil, sends_talk}
 use Rattle.rgo_acts.proofs.channels.send.Goals as goal
 
 pub word-pointer-requires : goal.word-pointer-requires
@@ -73,14 +73,14 @@ returns-clause-talks g c =
     let b = record a { seat = c.send-tried.new.seat; behind = 0; body = c.conclude.new.body } in
     sends_talk c.args.run.now a b c.args.next.now c.requires.before c.send-tried.ensures.own.0 refl
     (subst (λ (x : Run). HasPossible x.setup c.send-tried.new.seat.me) c.run.view_is (c.send-tried.ensures.possible c.if-pointer-eq0.false))
-    c.args.steps.now c.send-tried.new.steps (control_at c.base-base.result c.word-pointer.result) c.word-word.result
+    c.args.steps.now c.send-tried.new.steps (control_of_channel c.base-base.result c.word-pointer.result) c.word-word.result
     (sends_at c.base-base.ensures.at c.if-pointer-eq0.false (before_send c.args.run.now c.args.actor.now c.args.next.now c.requires.before c.requires.is.0 c.args.channel c.args.value c.word-pointer.result c.word-word.result c.requires.is.1
     (sym (c.word-pointer.ensures c.requires.before.ready.is_next.w c.requires.before.ready.is_next.ws c.requires.before.ready.is_next.are))
     (sym (c.word-word.ensures c.requires.before.ready.is_next.w c.requires.before.ready.is_next.ws c.requires.before.ready.is_next.are))))
     c.send-tried.result c.conclude.result
-    (subst (λ (x : Run). Sends x.setup (control_at c.base-base.result c.word-pointer.result) (now x.setup a) c.word-word.result c.send-tried.result a.seat.me c.args.steps.now
+    (subst (λ (x : Run). Sends x.setup (control_of_channel c.base-base.result c.word-pointer.result) (now x.setup a) c.word-word.result c.send-tried.result a.seat.me c.args.steps.now
     c.send-tried.new.seat.me c.send-tried.new.steps) c.run.view_is
     (c.send-tried.ensures.answers c.if-pointer-eq0.false))
-    (subst (λ (x : Run). TryConcludes x.program a.body c.conclude.new.body (control_at c.base-base.result c.word-pointer.result) c.send-tried.result) c.run.view_is
+    (subst (λ (x : Run). TryConcludes x.program a.body c.conclude.new.body (control_of_channel c.base-base.result c.word-pointer.result) c.send-tried.result) c.run.view_is
     c.conclude.ensures.body)
     c.conclude.ensures.says

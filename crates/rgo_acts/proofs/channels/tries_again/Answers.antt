@@ -1,5 +1,5 @@
 use Rattle.std.proofs.Common.{refl}
-use Rattle.rgo_acts.proofs.Resting.{rested}
+use Rattle.rgo_acts.proofs.before.Resting.{rested}
 use Rattle.rgo_acts.proofs.Standing.{acted_none}
 use Rattle.rgo_acts.proofs.channels.tries_again.Goals as goal
 

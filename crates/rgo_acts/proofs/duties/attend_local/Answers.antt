@@ -1,11 +1,11 @@
 use Rattle.std.proofs.Common.{◌+◌, ◌∙◌, List, ap, arith, length, refl, subst, sym}
 use Rattle.rgo_sound.specs.RegionMachine.States.{Duty}
 use Rattle.rgo_body.specs.Duties.{DoesLocal}
-use Rattle.rgo_body.specs.Shows.{IsPossible}
+use Rattle.rgo_body.specs.Shows.{BodyIsPossible}
 use Rattle.rgo_body.specs.Steps.{StillShows}
 use Rattle.rgo_body.specs.declared.bodies.Body.{Body}
 use Rattle.rgo_acts.specs.Runs.{Run}
-use Rattle.rgo_acts.proofs.LocalDuties.{next_owed, none_attended, one_attended}
+use Rattle.rgo_acts.proofs.attending.LocalDuties.{next_owed, none_attended, one_attended}
 use Rattle.rgo_acts.proofs.Standing.{its_body}
 use Rattle.rgo_acts.proofs.duties.attend_local.Goals as goal
 
@@ -17,7 +17,7 @@ loop-duty-init c = record {
 
 pub do_locally-requires-clause-possible : goal.do_locally-requires-clause-possible
 do_locally-requires-clause-possible c =
-    subst (λ (r : Run). IsPossible r.program c.loop-duty.actor.body) (sym c.run.view_is)
+    subst (λ (r : Run). BodyIsPossible r.program c.loop-duty.actor.body) (sym c.run.view_is)
     (its_body c.args.run.now c.loop-duty.actor c.loop-duty.invariant.attended.acted.stands)
 
 pub do_locally-requires-clause-rests : goal.do_locally-requires-clause-rests

@@ -4,7 +4,7 @@ use Rattle.rgo_body.proofs.Attending.{later}
 use Rattle.rgo_body.specs.Steps.{StillShows}
 use Rattle.rgo_acts.specs.Attending.{HasAttended, IsAtDuty, IsShort}
 use Rattle.rgo_acts.specs.Runs.{Run}
-use Rattle.rgo_acts.proofs.Attending.{created_by_call, created_short, has_waited, no_slots, owes_first}
+use Rattle.rgo_acts.proofs.attending.Counts.{created_by_call, created_short, has_waited, no_slots, owes_first}
 use Rattle.rgo_acts.proofs.duties.create.Goals as goal
 
 pub returns-in-Err : goal.returns-in-Err

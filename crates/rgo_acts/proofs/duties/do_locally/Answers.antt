@@ -1,4 +1,4 @@
-use Rattle.rgo_acts.proofs.LocalDuties.{if_kept, if_left, if_not_ok, if_ok, same_rest, same_stays}
+use Rattle.rgo_acts.proofs.attending.LocalDuties.{if_kept, if_left, if_not_ok, if_ok, same_rest, same_stays}
 use Rattle.rgo_acts.proofs.duties.do_locally.Goals as goal
 
 pub returns-in-Protect-clause-done : goal.returns-in-Protect-clause-done

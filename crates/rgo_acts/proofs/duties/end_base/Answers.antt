@@ -1,7 +1,7 @@
 use Rattle.std.proofs.Common.{◌+◌, refl, subst}
 use Rattle.rgo_body.specs.Duties.{DoesLocal}
 use Rattle.rgo_acts.specs.Runs.{Run}
-use Rattle.rgo_acts.proofs.Attending.{local_done}
+use Rattle.rgo_acts.proofs.attending.Counts.{local_done}
 use Rattle.rgo_acts.proofs.duties.end_base.Goals as goal
 
 pub returns-in-None : goal.returns-in-None

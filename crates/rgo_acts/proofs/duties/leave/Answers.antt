@@ -2,7 +2,7 @@ use Rattle.std.proofs.Common.{◌≡◌, ◌∙◌, refl, subst, sym}
 use Rattle.rgo_body.specs.Duties.{LeavesIn}
 use Rattle.rgo_acts.specs.Attending.{HasAttended, IsAtDuty}
 use Rattle.rgo_acts.specs.Runs.{Run}
-use Rattle.rgo_acts.proofs.Attending.{all_gone, done_more, leave_slot, others_stay, returned_fits}
+use Rattle.rgo_acts.proofs.attending.Counts.{all_gone, done_more, leave_slot, others_stay, returned_fits}
 use Rattle.rgo_counts.specs.declared.stakes.Left.TheVariants.{Last, Others}
 use Rattle.rgo_acts.proofs.duties.leave.Goals as goal
 

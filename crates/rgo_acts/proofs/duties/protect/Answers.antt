@@ -2,7 +2,7 @@ use Rattle.std.proofs.Common.{◌+◌, refl, subst}
 use Rattle.rgo_body.specs.Duties.{DoesLocal}
 use Rattle.rgo_body.specs.Steps.{StillShows}
 use Rattle.rgo_acts.specs.Runs.{Run}
-use Rattle.rgo_acts.proofs.Attending.{has_waited, local_done}
+use Rattle.rgo_acts.proofs.attending.Counts.{has_waited, local_done}
 use Rattle.rgo_acts.proofs.duties.protect.Goals as goal
 
 pub returns-in-Ok : goal.returns-in-Ok

@@ -3,7 +3,7 @@ use Rattle.rgo_sound.specs.RegionMachine.States.{Share}
 use Rattle.rgo_body.specs.Duties.{DoesLocal}
 use Rattle.rgo_acts.specs.Attending.{HasAttended, IsAtDuty}
 use Rattle.rgo_acts.specs.Runs.{Run}
-use Rattle.rgo_acts.proofs.Attending.{local_done, share_slot, shared_by}
+use Rattle.rgo_acts.proofs.attending.Counts.{local_done, share_slot, shared_by}
 use Rattle.rgo_acts.proofs.duties.share.Goals as goal
 
 pub share-requires-in-Some-clause-slot : goal.share-requires-in-Some-clause-slot

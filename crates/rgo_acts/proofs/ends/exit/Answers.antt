@@ -5,7 +5,7 @@ use Rattle.rgo_sound.specs.Machine.declared.picks.End.TheVariants.{Exit}
 use Rattle.rgo_sound.specs.RegionMachine.States.{Ended}
 use Rattle.rgo_acts.specs.Actors.{IsActorOf, now}
 use Rattle.rgo_acts.specs.Runs.{Run}
-use Rattle.rgo_acts.proofs.EndActs.{ended, exit_ends}
+use Rattle.rgo_acts.proofs.clock.Ends.{ended, exit_ends}
 use Rattle.rgo_acts.proofs.ends.exit.Goals as goal
 
 pub finish-ends-requires-clause-cause : goal.finish-ends-requires-clause-cause

@@ -4,7 +4,7 @@ use Rattle.rgo_core_steps.specs.Ends.{GoroutineEndsRun}
 use Rattle.rgo_sound.specs.RegionMachine.States.{Stopped}
 use Rattle.rgo_acts.specs.Actors.{now}
 use Rattle.rgo_acts.specs.Runs.{Run}
-use Rattle.rgo_acts.proofs.EndActs.{stopped}
+use Rattle.rgo_acts.proofs.clock.Ends.{stopped}
 use Rattle.rgo_acts.proofs.ends.stop.Goals as goal
 
 pub finish-ends-requires-clause-cause : goal.finish-ends-requires-clause-cause

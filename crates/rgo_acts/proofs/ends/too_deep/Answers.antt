@@ -1,4 +1,4 @@
-use Rattle.rgo_acts.proofs.EndActs.{deep_ends}
+use Rattle.rgo_acts.proofs.clock.Ends.{deep_ends}
 use Rattle.rgo_acts.proofs.ends.too_deep.Goals as goal
 
 pub stop-requires-clause-cause : goal.stop-requires-clause-cause

@@ -1,4 +1,4 @@
-use Rattle.rgo_acts.proofs.EndActs.{full_ends}
+use Rattle.rgo_acts.proofs.clock.Ends.{full_ends}
 use Rattle.rgo_acts.proofs.ends.too_many.Goals as goal
 
 pub stop-requires-clause-cause : goal.stop-requires-clause-cause

@@ -8,7 +8,7 @@ use Rattle.rgo_sound.specs.Tac.Ops.{place_in}
 use Rattle.rgo_acts.specs.Actors.{IsActorOf, now}
 use Rattle.rgo_acts.specs.Endings.{ActorHasEnded}
 use Rattle.rgo_acts.specs.Runs.{Run}
-use Rattle.rgo_acts.proofs.EndActs.{ended, trap_ends}
+use Rattle.rgo_acts.proofs.clock.Ends.{ended, trap_ends}
 use Rattle.rgo_acts.proofs.ends.trap.Goals as goal
 
 pub finish-ends-requires-clause-cause : goal.finish-ends-requires-clause-cause

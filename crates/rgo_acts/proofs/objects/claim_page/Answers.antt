@@ -1,5 +1,5 @@
 use Rattle.std.proofs.Common.{arith, refl}
-use Rattle.rgo_acts.proofs.ObjectPages.{claimed_here, needs_here, none_here, pages_same}
+use Rattle.rgo_acts.proofs.new_objects.Pages.{claimed_here, needs_here, none_here, pages_same}
 use Rattle.rgo_acts.proofs.objects.claim_page.Goals as goal
 
 pub claim_from-claimed-requires-clause-needs : goal.claim_from-claimed-requires-clause-needs

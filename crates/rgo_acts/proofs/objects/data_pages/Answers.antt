@@ -1,6 +1,6 @@
 use Rattle.std.proofs.Common.{◌-◌, ◌/◌, ◌+◌, ◌∙◌, ap, sym}
 use Rattle.std.proofs.Math.Nat.{div-zero}
-use Rattle.rgo_acts.proofs.ObjectKinds.{none_apart, some_apart}
+use Rattle.rgo_acts.proofs.new_objects.Kinds.{none_apart, some_apart}
 use Rattle.rgo_acts.proofs.objects.data_pages.Goals as goal
 
 pub returns-then-words-page_words : goal.returns-then-words-page_words

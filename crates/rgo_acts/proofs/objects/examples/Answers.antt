@@ -1,4 +1,4 @@
-use Rattle.rgo_acts.proofs.ObjectExamples as made
+use Rattle.rgo_acts.proofs.examples.Objects as made
 use Rattle.rgo_acts.proofs.objects.examples.Goals as goal
 
 pub returns : goal.returns

@@ -1,11 +1,11 @@
 use Rattle.std.proofs.Common.{◌*◌, ◌∙◌, ℕ, List, suc, ap, arith, refl, slice_index, subst, sym}
 use Rattle.rgo_core.specs.Memory.declared.layout.TableSizes.{TableSizes}
-use Rattle.rgo_core.specs.Plans.{setup_of}
+use Rattle.rgo_core.specs.runs.Plans.{setup_of}
 use Rattle.rgo_core_steps.specs.Seats.{settled}
 use Rattle.rgo_acts.specs.Actors.{now}
-use Rattle.rgo_acts.specs.Objects.{IsPlacedApart}
-use Rattle.rgo_acts.proofs.ObjectMade.{apart_here, placed_apart as seen_apart}
-use Rattle.rgo_acts.proofs.ObjectReserves.{address_fits, placed_apart}
+use Rattle.rgo_acts.specs.Objects.{IsSpreadOverPages}
+use Rattle.rgo_acts.proofs.new_objects.Made.{apart_here, placed_apart as seen_apart}
+use Rattle.rgo_acts.proofs.new_objects.Reserves.{address_fits, placed_apart}
 use Rattle.rgo_acts.proofs.objects.make_in_reserved.Goals as goal
 
 pub store_words_apart-requires-clause-placed : goal.store_words_apart-requires-clause-placed
@@ -14,7 +14,7 @@ store_words_apart-requires-clause-placed g c =
     let T = setup_of c.run.inside.table.now.shared.key in
     let placed = placed_apart a.run.now a.actor.now a.next.now c.requires.before a.new c.requires.new c.requires.spread c.requires.small
     c.requires.all in
-    subst (λ (ps : List ℕ). IsPlacedApart T (settled T a.actor.now.behind a.actor.now.seat.me) ps a.new) (sym c.reserved.ensures)
+    subst (λ (ps : List ℕ). IsSpreadOverPages T (settled T a.actor.now.behind a.actor.now.seat.me) ps a.new) (sym c.reserved.ensures)
     (seen_apart _ a.run.now c.run.view_is a.actor.now a.next.now c.requires.before a.new _ placed)
 
 pub overflow_mul-address : goal.overflow_mul-address
@@ -48,7 +48,7 @@ returns-clause-acted g c =
     let words = ap (λ (z : TableSizes). z.page_words) c.run.invariant.layout.sizes in
     let placed = placed_apart a.run.now a.actor.now a.next.now c.requires.before a.new c.requires.new c.requires.spread c.requires.small
     c.requires.all in
-    let seen = subst (λ (ps : List ℕ). IsPlacedApart a.run.now.setup (now a.run.now.setup a.actor.now) ps a.new) (sym c.reserved.ensures)
+    let seen = subst (λ (ps : List ℕ). IsSpreadOverPages a.run.now.setup (now a.run.now.setup a.actor.now) ps a.new) (sym c.reserved.ensures)
     placed in
     apart_here _ a.run.now c.run.view_is a.actor.now a.next.now c.requires.before a.new c.reserved.result.now seen b
     c.store_words_apart.ensures.own refl c.store_words_apart.ensures.grew c.store_words_apart.ensures.stored

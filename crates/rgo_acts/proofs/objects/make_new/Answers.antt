@@ -1,5 +1,5 @@
 use Rattle.std.proofs.Common.{◌+◌, ◌*◌, ◌≤◌, arith, subst, sym}
-use Rattle.rgo_acts.proofs.ObjectKinds.{none_apart}
+use Rattle.rgo_acts.proofs.new_objects.Kinds.{none_apart}
 use Rattle.rgo_acts.proofs.objects.make_new.Goals as goal
 
 pub make-requires-clause-new : goal.make-requires-clause-new

@@ -1,6 +1,6 @@
 use Rattle.std.proofs.Common.{◌+◌, ◌*◌, ◌∙◌, suc, ap, arith, refl, sym}
 use Rattle.rgo_core.specs.Memory.declared.layout.TableSizes.{TableSizes}
-use Rattle.rgo_acts.proofs.ObjectMade.{made_here}
+use Rattle.rgo_acts.proofs.new_objects.Made.{made_here}
 use Rattle.rgo_acts.proofs.objects.make_on.Goals as goal
 
 pub returns-clause-acted : goal.returns-clause-acted

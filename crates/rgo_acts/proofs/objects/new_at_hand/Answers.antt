@@ -1,6 +1,6 @@
 use Rattle.std.proofs.Common.{Some, arith}
 use Rattle.rgo_sound.specs.Typed.declared.actions.Action.TheVariants as action
-use Rattle.rgo_acts.proofs.ObjectKinds.{no_operands, wants_struct}
+use Rattle.rgo_acts.proofs.new_objects.Kinds.{no_operands, wants_struct}
 use Rattle.rgo_acts.proofs.objects.new_at_hand.Goals as goal
 
 pub object_of-requires-clause-wants : goal.object_of-requires-clause-wants

@@ -1,8 +1,8 @@
 use Rattle.std.proofs.Common.{◌+◌, ◌≤◌, [], subst}
 use Rattle.rgo_core_facts.specs.MemoryObjects.{channel_words}
 use Rattle.rgo_acts.specs.Objects.{most_steps}
-use Rattle.rgo_acts.proofs.Before.{first_in, newest_is, reads_it}
-use Rattle.rgo_acts.proofs.ObjectKinds.{channel_traps, wants_channel}
+use Rattle.rgo_acts.proofs.before.Instructions.{first_in, newest_is, reads_it}
+use Rattle.rgo_acts.proofs.new_objects.Kinds.{channel_traps, wants_channel}
 use Rattle.rgo_acts.proofs.objects.new_channel.Goals as goal
 
 pub word-capacity-requires : goal.word-capacity-requires

@@ -1,7 +1,7 @@
 use Rattle.std.proofs.Common.{◌+◌, ◌≤◌, [], subst}
 use Rattle.rgo_acts.specs.Objects.{most_steps}
-use Rattle.rgo_acts.proofs.Before.{first_in, newest_is, reads_it}
-use Rattle.rgo_acts.proofs.ObjectKinds.{slice_traps, wants_slice}
+use Rattle.rgo_acts.proofs.before.Instructions.{first_in, newest_is, reads_it}
+use Rattle.rgo_acts.proofs.new_objects.Kinds.{slice_traps, wants_slice}
 use Rattle.rgo_acts.proofs.objects.new_slice.Goals as goal
 
 pub word-elements-requires : goal.word-elements-requires

@@ -1,6 +1,6 @@
 use Rattle.std.proofs.Common.{◌+◌, ◌≤◌, subst}
 use Rattle.rgo_acts.specs.Objects.{most_steps}
-use Rattle.rgo_acts.proofs.ObjectKinds.{wants_struct}
+use Rattle.rgo_acts.proofs.new_objects.Kinds.{wants_struct}
 use Rattle.rgo_acts.proofs.objects.new_struct.Goals as goal
 
 pub object-requires-clause-wants : goal.object-requires-clause-wants

@@ -1,7 +1,7 @@
 use Rattle.std.proofs.Common.{◌<◌, ◌≤◌, arith, subst}
 use Rattle.rgo_core_facts.specs.MemoryObjects.{data_pages_of}
 use Rattle.rgo_sound.specs.RegionMachine.Objects.{most_data_pages}
-use Rattle.rgo_acts.proofs.ObjectKinds.{key_at, no_key}
+use Rattle.rgo_acts.proofs.new_objects.Kinds.{key_at, no_key}
 use Rattle.rgo_acts.proofs.objects.object_of.Goals as goal
 
 pub returns-then-data_pages-most_data_pages-clause-object : goal.returns-then-data_pages-most_data_pages-clause-object

@@ -1,4 +1,4 @@
-use Rattle.rgo_acts.proofs.ObjectPages.{its_own_page}
+use Rattle.rgo_acts.proofs.new_objects.Pages.{its_own_page}
 use Rattle.rgo_acts.proofs.objects.own_page_for.Goals as goal
 
 pub returns : goal.returns

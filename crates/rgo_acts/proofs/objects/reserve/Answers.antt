@@ -1,7 +1,7 @@
 use Rattle.std.proofs.Common.{◌≡◌, ◌+◌, ◌-◌, ◌*◌, ◌≤◌, ◌∙◌, ap, arith, length, refl, subst, sym}
 use Rattle.rgo_core_facts.specs.MemoryObjects.{data_pages_of}
 use Rattle.rgo_acts.specs.Objects.{HasReserved}
-use Rattle.rgo_acts.proofs.ObjectReserves.{all_cost, cost_within, few_reserved, next_cost, no_memory, none_free_yet, none_more, reserved_all, reserved_then, too_few}
+use Rattle.rgo_acts.proofs.new_objects.Reserves.{all_cost, cost_within, few_reserved, next_cost, no_memory, none_free_yet, none_more, reserved_all, reserved_then, too_few}
 use Rattle.rgo_acts.proofs.objects.reserve.Goals as goal
 
 pub overflow_sub-all : goal.overflow_sub-all

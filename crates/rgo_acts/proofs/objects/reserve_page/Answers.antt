@@ -1,5 +1,5 @@
 use Rattle.std.proofs.Common.{arith, refl}
-use Rattle.rgo_acts.proofs.ObjectPages.{more_here, needs_more_here, no_more_here, pages_same}
+use Rattle.rgo_acts.proofs.new_objects.Pages.{more_here, needs_more_here, no_more_here, pages_same}
 use Rattle.rgo_acts.proofs.objects.reserve_page.Goals as goal
 
 pub claim_from-claimed-requires-clause-needs : goal.claim_from-claimed-requires-clause-needs

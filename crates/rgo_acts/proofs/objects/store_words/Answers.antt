@@ -2,13 +2,13 @@ use Rattle.std.proofs.Common.{◌≡◌, ◌+◌, ◌<◌, ◌∙◌, ◌++◌, 
 use Rattle.rgo_core.specs.Memory.Words.{cell_at}
 use Rattle.rgo_core.specs.Memory.declared.layout.TableSizes.{TableSizes}
 use Rattle.rgo_core.specs.Core.{layout}
-use Rattle.rgo_core.specs.Opening.{first_of}
-use Rattle.rgo_core.specs.Plans.{setup_of}
+use Rattle.rgo_core.specs.runs.Opening.{first_of}
+use Rattle.rgo_core.specs.runs.Plans.{setup_of}
 use Rattle.rgo_core.specs.Records.{accesses}
 use Rattle.rgo_core_steps.specs.Making.{IsNewWord}
 use Rattle.rgo_core_steps.specs.Seats.{settled}
-use Rattle.rgo_core_steps.proofs.Growing.{grew_none, grew_then}
-use Rattle.rgo_acts.proofs.ObjectStores.{new_word, none_so_far, one_grew, one_so_far, still_rests}
+use Rattle.rgo_core_steps.proofs.accesses.Growing.{grew_none, grew_then}
+use Rattle.rgo_acts.proofs.new_objects.Stores.{new_word, none_so_far, one_grew, one_so_far, still_rests}
 use Rattle.rgo_acts.proofs.objects.store_words.Goals as goal
 
 pub loop-i-init : goal.loop-i-init

@@ -2,14 +2,14 @@ use Rattle.std.proofs.Common.{◌≡◌, ◌+◌, ◌-◌, ◌/◌, ◌^◌, ◌
 use Rattle.rgo_core.specs.Memory.Words.{all_words}
 use Rattle.rgo_core.specs.Memory.declared.layout.TableSizes.{TableSizes}
 use Rattle.rgo_core.specs.Core.{layout}
-use Rattle.rgo_core.specs.Opening.{first_of}
-use Rattle.rgo_core.specs.Plans.{setup_of}
+use Rattle.rgo_core.specs.runs.Opening.{first_of}
+use Rattle.rgo_core.specs.runs.Plans.{setup_of}
 use Rattle.rgo_core.specs.Records.{accesses}
 use Rattle.rgo_core_facts.specs.MemoryObjects.{data_pages_of, spot_of}
 use Rattle.rgo_core_steps.specs.Making.{IsIndex, IsNewWordApart}
 use Rattle.rgo_core_steps.specs.Seats.{settled}
-use Rattle.rgo_core_steps.proofs.Growing.{grew_none, grew_then}
-use Rattle.rgo_acts.proofs.ObjectApart.{cell_page, new_word, none_apart, one_grew, one_so_far, spot_low, still_rests, word_at, word_inside, word_is, words_fit}
+use Rattle.rgo_core_steps.proofs.accesses.Growing.{grew_none, grew_then}
+use Rattle.rgo_acts.proofs.new_objects.Apart.{cell_page, new_word, none_apart, one_grew, one_so_far, spot_low, still_rests, word_at, word_inside, word_is, words_fit}
 use Rattle.rgo_acts.proofs.objects.store_words_apart.Goals as goal
 
 pub loop-i-init : goal.loop-i-init

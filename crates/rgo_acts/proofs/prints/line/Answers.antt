@@ -1,6 +1,6 @@
 use Rattle.std.proofs.Common.{ap, List, ◌++◌, ◌∙◌}
 use Rattle.rgo_sound.specs.Machine.Lines.{printed_line}
-use Rattle.rgo_acts.proofs.Printing.{line_is}
+use Rattle.rgo_acts.proofs.clock.Printing.{line_is}
 use Rattle.rgo_acts.proofs.prints.line.Goals as goal
 
 pub returns : goal.returns

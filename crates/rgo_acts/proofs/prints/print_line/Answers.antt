@@ -2,7 +2,7 @@ use Rattle.std.proofs.Common.{refl, subst, sym}
 use Rattle.rgo_core_steps.specs.Prints.{IsAtPrint}
 use Rattle.rgo_acts.specs.Actors.{now}
 use Rattle.rgo_acts.specs.Runs.{Run}
-use Rattle.rgo_acts.proofs.Printing.{is_print, printed}
+use Rattle.rgo_acts.proofs.clock.Printing.{is_print, printed}
 use Rattle.rgo_acts.proofs.prints.print_line.Goals as goal
 
 pub ticket-drawn-requires-clause-print : goal.ticket-drawn-requires-clause-print

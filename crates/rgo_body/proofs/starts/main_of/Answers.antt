@@ -1,6 +1,6 @@
 use Rattle.std.proofs.Common.{◌+◌, ◌∷◌, [], if◌then◌else◌, drop, sym, ap, ◌∙◌, arith}
-use Rattle.rgo_core.specs.Opening.{main_words}
-use Rattle.rgo_core.specs.Frames.WordFrames.{word_called}
+use Rattle.rgo_core.specs.runs.Opening.{main_words}
+use Rattle.rgo_core.specs.Frames.shown.WordFrames.{word_called}
 use Rattle.rgo_body.proofs.Starting.{main_here, none_at}
 use Rattle.rgo_body.proofs.starts.main_of.Goals as goal
 use Rattle.rgo_body.proofs.starts.main_of.Goals.{in-Some+else-is_main, in-None}

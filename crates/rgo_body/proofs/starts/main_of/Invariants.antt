@@ -1,5 +1,5 @@
 use Rattle.std.proofs.Common.{◌≡◌, drop}
-use Rattle.rgo_core.specs.Opening.{main_words}
+use Rattle.rgo_core.specs.runs.Opening.{main_words}
 use Rattle.rgo_body.proofs.starts.main_of.Given as goal
 
 abbrev pub invariant-loop-n : goal.invariant-loop-n

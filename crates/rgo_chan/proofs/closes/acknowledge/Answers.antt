@@ -1,6 +1,6 @@
 use Rattle.std.proofs.Common.{ap, sym, ◌∙◌, inl, inr, refl}
-use Rattle.rgo_core.specs.Channels.Records.{Rec as SideRec, with_own_look}
-use Rattle.rgo_core.specs.Plans.{setup_of}
+use Rattle.rgo_core.specs.Channels.Records.{ChannelRec as SideRec, with_own_look}
+use Rattle.rgo_core.specs.runs.Plans.{setup_of}
 use Rattle.rgo_core_steps.specs.Seats.{mine}
 use Rattle.rgo_chan.proofs.Closing.{acknowledged, can_acknowledge, is_taken, missed, same_side}
 use Rattle.rgo_chan.proofs.Looking.{did_own_control, own_hold, own_post}

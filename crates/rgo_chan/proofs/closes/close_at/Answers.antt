@@ -1,6 +1,6 @@
 use Rattle.std.proofs.Common.{ap, ◌∙◌, inl, inr, refl}
-use Rattle.rgo_core.specs.Channels.Records.{Rec as SideRec, with_look}
-use Rattle.rgo_core.specs.Plans.{setup_of}
+use Rattle.rgo_core.specs.Channels.Records.{ChannelRec as SideRec, with_look}
+use Rattle.rgo_core.specs.runs.Plans.{setup_of}
 use Rattle.rgo_core_steps.specs.Seats.{mine, settled}
 use Rattle.rgo_chan.proofs.Carrying.{closes_as, closes_there}
 use Rattle.rgo_chan.proofs.Closing.{can_close, closed, missed, same_frame, same_side}

@@ -1,8 +1,8 @@
 use Rattle.std.proofs.Common.{ap}
-use Rattle.rgo_core.specs.Plans.{setup_of}
+use Rattle.rgo_core.specs.runs.Plans.{setup_of}
 use Rattle.rgo_core.specs.Records.{Record}
 use Rattle.rgo_core_steps.specs.Seats.{mine}
-use Rattle.rgo_core_steps.proofs.Calling.{left_record}
+use Rattle.rgo_core_steps.proofs.accesses.Calling.{left_record}
 use Rattle.rgo_chan.proofs.Carrying.{there_as}
 use Rattle.rgo_chan.proofs.Looking.{looked_both}
 use Rattle.rgo_chan.proofs.looks.look.Goals as goal

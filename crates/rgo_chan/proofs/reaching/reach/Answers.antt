@@ -1,6 +1,6 @@
 use Rattle.std.proofs.Common.{◌≡◌, true, sym, subst, ◌∙◌}
 use Rattle.rgo_core.specs.Channels.Controls.{spreads}
-use Rattle.rgo_core.specs.Plans.{setup_of}
+use Rattle.rgo_core.specs.runs.Plans.{setup_of}
 use Rattle.rgo_chan.proofs.CellWords.{by_number}
 use Rattle.rgo_chan.proofs.reaching.reach.Goals as goal
 

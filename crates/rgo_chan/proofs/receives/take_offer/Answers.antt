@@ -1,6 +1,6 @@
 use Rattle.std.proofs.Common.{◌+◌, subst, refl, arith}
-use Rattle.rgo_core.specs.Bounds.{Points}
-use Rattle.rgo_core.specs.Plans.{setup_of}
+use Rattle.rgo_core.specs.ties.Bounds.{Points}
+use Rattle.rgo_core.specs.runs.Plans.{setup_of}
 use Rattle.rgo_core_steps.specs.Seats.{mine}
 use Rattle.rgo_chan.proofs.Carrying.{receives_as, type_as}
 use Rattle.rgo_chan.proofs.UnderLock.{can_load, can_meet, frame_still, held_still, leads, received, received_there}

@@ -1,4 +1,4 @@
-use Rattle.rgo_core.specs.Plans.{setup_of}
+use Rattle.rgo_core.specs.runs.Plans.{setup_of}
 use Rattle.rgo_core_steps.specs.Seats.{mine}
 use Rattle.rgo_chan.proofs.Carrying.{sends_as}
 use Rattle.rgo_chan.proofs.Cells.{only_spare}

@@ -1,4 +1,4 @@
-use Rattle.rgo_core.specs.Plans.{setup_of}
+use Rattle.rgo_core.specs.runs.Plans.{setup_of}
 use Rattle.rgo_core_steps.specs.Seats.{mine}
 use Rattle.rgo_chan.proofs.Carrying.{sends_as}
 use Rattle.rgo_chan.proofs.UnderLock.{can_send, can_store, frame_still, held_still, pushed, pushed_there, spare_cell}

@@ -2,7 +2,7 @@ use Rattle.std.proofs.Common.{◌+◌, ◌≤◌, inl, inr, refl, subst}
 use Rattle.rgo_core.specs.Channels.Controls.{tail_words}
 use Rattle.rgo_core.specs.Core.{layout}
 use Rattle.rgo_core.specs.Memory.Words.{all_words}
-use Rattle.rgo_core.specs.Plans.{setup_of}
+use Rattle.rgo_core.specs.runs.Plans.{setup_of}
 use Rattle.rgo_core_steps.specs.Seats.{mine, settled}
 use Rattle.rgo_chan.specs.Answers.{Looked}
 use Rattle.rgo_chan.proofs.Answering.{frame_held, holds, missed, offered, same_frame, sent, still_free}

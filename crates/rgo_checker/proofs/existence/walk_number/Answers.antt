@@ -1,7 +1,7 @@
 use Rattle.std.proofs.Common.{◌≡◌, ◌∙◌, ◌∷◌, ◌++◌, [], Some, slice_get, sym, subst}
 use Rattle.std.proofs.lemmas.Option.{same_Some, none-some}
 use Rattle.std.proofs.lemmas.Result.{on_ok_weaker}
-use Rattle.rgo_checker.specs.Lines.{fn_lines}
+use Rattle.rgo_checker.specs.Lines.{lines_of_function}
 use Rattle.rgo_checker.specs.Naming.{SetHasNames}
 use Rattle.rgo_checker.specs.Scan.{Walks}
 use Rattle.rgo_checker.proofs.existence.walk_number.Goals as goal
@@ -19,7 +19,7 @@ returns-in-Some-clause-walks c =
     sym c.function.ensures ∙ c.in-Some.is in
     on_ok_weaker c.walk_function.result
     (λ e f there h.
-    subst (λ x. Walks c.args.code.now 1 2 (fn_lines c.args.n x) c.args.scan.now c.walk_function.new.scan)
+    subst (λ x. Walks c.args.code.now 1 2 (lines_of_function c.args.n x) c.args.scan.now c.walk_function.new.scan)
     (same_Some c.in-Some.f f (sym here ∙ there)) (e c.args.n here h))
     c.walk_function.ensures.walks
 

@@ -1,6 +1,6 @@
 use Rattle.std.proofs.Common.{[], ◌∷◌, ◌++◌, ◌∙◌, map, ap, codes, append_assoc}
 use Rattle.std.proofs.lemmas.Result.{on_ok_weaker}
-use Rattle.rgo_code_printing.specs.Printing.{spaced}
+use Rattle.rgo_code_printing.specs.Printing.{words_after_spaces}
 use Rattle.rgo_code_printing.specs.Text.{names_of}
 use Rattle.rgo_code_printing.specs.Words.{type_word}
 use Rattle.rgo_code_printing.proofs.Printing.{named_line}
@@ -15,9 +15,9 @@ returns c =
     let named = c.in_ok-print-2.ensures ∙ ap (λ t. t ++ 32 ∷ []) c.in_ok-print.ensures in
     on_ok_weaker c.print-4.result
     (λ e. e ∙ ap (λ t. t ++ 10 ∷ []) (c.in_ok-print_fields.ensures
-    ∙ ap (λ fields. c.print-3.new.out.items ++ spaced (type_words fields)) c.items.ensures)
-    ∙ append_assoc c.print-3.new.out.items (spaced types) (10 ∷ [])
-    ∙ ap (λ t. t ++ (spaced types ++ 10 ∷ [])) (c.in_ok-print-3.ensures ∙ ap (λ t. t ++ c.bytes.result.now) named
+    ∙ ap (λ fields. c.print-3.new.out.items ++ words_after_spaces (type_words fields)) c.items.ensures)
+    ∙ append_assoc c.print-3.new.out.items (words_after_spaces types) (10 ∷ [])
+    ∙ ap (λ t. t ++ (words_after_spaces types ++ 10 ∷ [])) (c.in_ok-print-3.ensures ∙ ap (λ t. t ++ c.bytes.result.now) named
     ∙ ap (λ t. ((old ++ codes "struct") ++ 32 ∷ []) ++ t) c.bytes.ensures)
     ∙ named_line old (codes "struct") name types)
     c.print-4.ensures

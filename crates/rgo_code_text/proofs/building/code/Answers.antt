@@ -4,8 +4,8 @@ use Rattle.std.proofs.lemmas.List.{length-map}
 use Rattle.rgo_tac.specs.Code.{Tac, TacFn}
 use Rattle.rgo_code.specs.declared.code.Undeclared.{Undeclared}
 use Rattle.rgo_code.specs.Views.{code_fns}
-use Rattle.rgo_code_text.specs.Building.{built, names_now, declared_in, numbered}
-use Rattle.rgo_code_text.specs.CodeLines.{Building, nothing, with_lines}
+use Rattle.rgo_code_text.specs.Building.{built, names_now, declared_in, line_of_item}
+use Rattle.rgo_code_text.specs.CodeLines.{Building, empty_building, with_lines}
 use Rattle.rgo_code_printing.specs.Text.{Names}
 use Rattle.rgo_code_text.specs.Sizes.{HaveNumbers}
 use Rattle.rgo_code_text.specs.Views.{item_of}
@@ -17,21 +17,21 @@ pub new-requires-5-clause-ascends : goal.new-requires-5-clause-ascends
 new-requires-5-clause-ascends c =
     let n = names_now c.args.tables.now in
     let items = map item_of c.args.items.items in
-    let made : Building = with_lines nothing (map (numbered n) items) in
+    let made : Building = with_lines empty_building (map (line_of_item n) items) in
     let functions : code_fns c.new-tac.result.functions c.new-4.result ≡ made.functions =
     ap (λ (t : Tac). code_fns t.functions c.new-4.result) c.new-tac.ensures
     ∙ ap (λ (fs : List TacFn). code_fns fs c.new-4.result) c.new-3.ensures
     ∙ ap (code_fns c.in_ok-building.building.functions.items) c.new-4.ensures
     ∙ ap (λ (b : Building). b.functions) c.in_ok-building.ensures.built in
     fits_ascends (code_fns c.new-tac.result.functions c.new-4.result)
-    (subst (All PartsFit) (sym functions) (all_fit n nothing items c.requires.fit nothing_fits).functions)
+    (subst (All PartsFit) (sym functions) (all_fit n empty_building items c.requires.fit nothing_fits).functions)
 
 pub returns : goal.returns
 returns c =
     let n = names_now c.args.tables.now in
     let items = map item_of c.args.items.items in
     let d = declared_in items in
-    let made : Building = with_lines nothing (map (numbered n) items) in
+    let made : Building = with_lines empty_building (map (line_of_item n) items) in
     let b = c.in_ok-building.building in
     let u = c.in_ok-undeclared.undeclared in
     let code = c.new-tac.result in
@@ -50,7 +50,7 @@ returns c =
     (ap (λ (u : Undeclared). u.structs) c.in_ok-undeclared.ensures ∙ ap (λ k. drop k n.structs) c.requires.counts.structs)
     (ap (λ (u : Undeclared). u.variables) c.in_ok-undeclared.ensures ∙ ap (λ k. drop k n.variables) c.requires.counts.variables)
     (ap (λ (u : Undeclared). u.functions) c.in_ok-undeclared.ensures ∙ ap (λ k. drop k n.functions) c.requires.counts.functions)
-    ∙ ap (λ (m : Names). built m d (with_lines nothing (map (numbered m) items))) c.requires.names
+    ∙ ap (λ (m : Names). built m d (with_lines empty_building (map (line_of_item m) items))) c.requires.names
 
 pub collected-requires-clause-names : goal.collected-requires-clause-names
 collected-requires-clause-names c = subst HaveNumbers (sym c.requires.names) c.requires.few.names

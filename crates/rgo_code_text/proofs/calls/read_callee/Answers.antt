@@ -1,6 +1,6 @@
 use Rattle.std.proofs.Common.{◌≡◌, ◌-◌, true, length, take, drop, Some, None, codes, sym, ap, ◌∙◌}
 use Rattle.std.specs.Option.{option_map}
-use Rattle.rgo_code_words.specs.Readers.{inside, seen}
+use Rattle.rgo_code_words.specs.Readers.{bytes_inside, bytes_now}
 use Rattle.rgo_code_words.specs.Worded.{is_name}
 use Rattle.rgo_code_text.proofs.op_lines.CallNotes.{callee_by}
 use Rattle.rgo_code_words.proofs.ListFacts.{rest_of}
@@ -11,7 +11,7 @@ returns-in_default c =
     let word = c.args.word.now in
     let n = c.len_to-len.result in
     let named : is_name (take n word) ≡ true = cc c.is_name.ensures in
-    let none : inside (codes "(") 41 (take (length word - n) (drop n word)) ≡ None = sym c.inside.ensures ∙ ap seen c.in_default.is in
+    let none : bytes_inside (codes "(") 41 (take (length word - n) (drop n word)) ≡ None = sym c.inside.ensures ∙ ap bytes_now c.in_default.is in
     sym (callee_by word n (take (length word - n) (drop n word)) None c.len_to-len.ensures.len (rest_of word n) named none)
 
 pub returns-in-Some-2 : goal.returns-in-Some-2
@@ -19,8 +19,8 @@ returns-in-Some-2 c =
     let word = c.args.word.now in
     let n = c.len_to-len.result in
     let named : is_name (take n word) ≡ true = cc c.is_name.ensures in
-    let list : inside (codes "(") 41 (take (length word - n) (drop n word)) ≡ Some c.in-Some.list.now =
-    sym c.inside.ensures ∙ ap seen c.in-Some.is in
+    let list : bytes_inside (codes "(") 41 (take (length word - n) (drop n word)) ≡ Some c.in-Some.list.now =
+    sym c.inside.ensures ∙ ap bytes_now c.in-Some.is in
     sym (callee_by word n (take (length word - n) (drop n word)) (Some c.in-Some.list.now) c.len_to-len.ensures.len (rest_of word n)
     named list
     ∙ ap (option_map (λ from. record { name = take n word; from = from })) (sym c.in_ok-from.ensures ∙ c.in-Some-2.is))
@@ -30,8 +30,8 @@ returns-in-None c =
     let word = c.args.word.now in
     let n = c.len_to-len.result in
     let named : is_name (take n word) ≡ true = cc c.is_name.ensures in
-    let list : inside (codes "(") 41 (take (length word - n) (drop n word)) ≡ Some c.in-Some.list.now =
-    sym c.inside.ensures ∙ ap seen c.in-Some.is in
+    let list : bytes_inside (codes "(") 41 (take (length word - n) (drop n word)) ≡ Some c.in-Some.list.now =
+    sym c.inside.ensures ∙ ap bytes_now c.in-Some.is in
     sym (callee_by word n (take (length word - n) (drop n word)) (Some c.in-Some.list.now) c.len_to-len.ensures.len (rest_of word n)
     named list
     ∙ ap (option_map (λ from. record { name = take n word; from = from })) (sym c.in_ok-from.ensures ∙ c.in-None.is))

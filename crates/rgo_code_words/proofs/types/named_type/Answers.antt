@@ -4,7 +4,7 @@ use Rattle.std.proofs.lemmas.List.{take_all}
 use denote.Ref.{Bor}
 use Rattle.rgo_typed.specs.declared.types.Base.{Base}
 use Rattle.rgo_typed.specs.declared.types.Layer.{Layer}
-use Rattle.rgo_code_words.specs.Readers.{named, read_base}
+use Rattle.rgo_code_words.specs.Readers.{as_named_type, read_base}
 use Rattle.rgo_code_words.proofs.TypeSteps.{base_ends, layered_is, layer_more, with_layers}
 use Rattle.rgo_code_words.proofs.types.named_type.Goals as goal
 
@@ -30,8 +30,8 @@ returns-in-Some-base c =
     let whole : rest ≡ drop at word = take_all (length word - at) (drop at word) (omega (arith, length-drop at word)) in
     let b = c.in-Some-base.base in
     let name = c.in-Some-base.name.now in
-    let read : read_base rest ≡ Some (named [] b name) =
-    sym c.base.ensures ∙ ap (option_map (λ (p : Base × Bor (List ℕ)). named [] p.0 p.1.now)) c.in-Some-base.is in
-    ap (λ (ls : List Layer). Some (named ls b name)) (c.new-layers-in-Some-base.ensures ∙ sym (append-nil layers))
+    let read : read_base rest ≡ Some (as_named_type [] b name) =
+    sym c.base.ensures ∙ ap (option_map (λ (p : Base × Bor (List ℕ)). as_named_type [] p.0 p.1.now)) c.in-Some-base.is in
+    ap (λ (ls : List Layer). Some (as_named_type ls b name)) (c.new-layers-in-Some-base.ensures ∙ sym (append-nil layers))
     ∙ ap (with_layers layers) (sym read)
     ∙ base_ends layers word rest at whole (sym c.layer.ensures ∙ c.in_default.is) c.loop-l.invariant.read

@@ -1,7 +1,7 @@
 use Rattle.std.proofs.Common.{◌≡◌}
 use Rattle.rgo_core_rule.specs.Views.{record_of}
 use Rattle.rgo_core_rule.specs.declared.accesses.Kind.TheVariants as kind
-use Rattle.rgo_core.specs.Opening.{first_of}
+use Rattle.rgo_core.specs.runs.Opening.{first_of}
 use Rattle.rgo_core.specs.Records.{looked}
 use Rattle.rgo_core.proofs.table.look.Given as goal
 

@@ -2,10 +2,10 @@ use Rattle.std.proofs.Common.{subst, sym}
 use Rattle.std.proofs.lemmas.Result.{IfOk-weaker}
 use Rattle.rgo_sound.specs.Code.Checked.{IsChecked}
 use Rattle.rgo_sound.specs.Code.NameRules.{Ascends}
-use Rattle.rgo_core_frames.specs.Constants.{ConstantsFit}
+use Rattle.rgo_core_frames.specs.shown.Constants.{ConstantsFit}
 use Rattle.rgo_core.specs.Core.{IsPossible}
-use Rattle.rgo_core.specs.Opening.{first_of}
-use Rattle.rgo_core.specs.Plans.{setup_of}
+use Rattle.rgo_core.specs.runs.Opening.{first_of}
+use Rattle.rgo_core.specs.runs.Plans.{setup_of}
 use Rattle.rgo_core.specs.declared.table.Plan.{Plan}
 use Rattle.rgo_core.proofs.runs.Opening.{opens_by}
 use Rattle.rgo_core.proofs.runs.Possible.{opens_possible}

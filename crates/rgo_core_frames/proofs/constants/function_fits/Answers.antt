@@ -1,6 +1,6 @@
 use Rattle.std.proofs.Common.{All, subst, arith}
 use Rattle.std.proofs.lemmas.List.{take_all}
-use Rattle.rgo_core_frames.specs.Constants.{InstrFits}
+use Rattle.rgo_core_frames.specs.shown.Constants.{InstrFits}
 use Rattle.rgo_core_frames.proofs.shown.ConstantLemmas.{one_more}
 use Rattle.rgo_core_frames.proofs.constants.function_fits.Goals as goal
 

@@ -1,11 +1,11 @@
 use Rattle.std.proofs.Common.{◌+◌}
 use Rattle.rgo_core.specs.Rule.Views.{number_of}
-use Rattle.rgo_core.specs.Plans.{setup_of}
+use Rattle.rgo_core.specs.runs.Plans.{setup_of}
 use Rattle.rgo_core.proofs.runs.Possible.{is_possible}
 use Rattle.rgo_core_steps.specs.Channels.{ShowsCapacity}
 use Rattle.rgo_core_steps.specs.Seats.{settled}
-use Rattle.rgo_core_steps.proofs.ChannelAccesses.{capacity_shows}
-use Rattle.rgo_core_steps.proofs.Settling.{settles}
+use Rattle.rgo_core_steps.proofs.accesses.Channels.{capacity_shows}
+use Rattle.rgo_core_steps.proofs.record_steps.Settling.{settles}
 use Rattle.rgo_core_steps.proofs.channels.capacity.Goals as goal
 
 pub load-requires-clause-asks : goal.load-requires-clause-asks

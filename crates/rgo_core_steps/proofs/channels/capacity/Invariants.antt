@@ -1,5 +1,5 @@
 use Rattle.rgo_core.specs.Rule.declared.accesses.Kind.TheVariants as kind
-use Rattle.rgo_core.specs.Plans.{setup_of}
+use Rattle.rgo_core.specs.runs.Plans.{setup_of}
 use Rattle.rgo_core_steps.specs.Channels.{ShowsCapacity}
 use Rattle.rgo_core_steps.specs.Seats.{settled}
 use Rattle.rgo_core_steps.proofs.channels.capacity.Given as goal

@@ -1,6 +1,6 @@
 use Rattle.std.proofs.Common.{◌≡◌}
 use Rattle.rgo_core.specs.Rule.declared.accesses.Kind.TheVariants as kind
-use Rattle.rgo_core.specs.Plans.{setup_of}
+use Rattle.rgo_core.specs.runs.Plans.{setup_of}
 use Rattle.rgo_core_steps.specs.After.{acknowledging}
 use Rattle.rgo_core_steps.specs.Seats.{mine}
 use Rattle.rgo_core_steps.proofs.channels.commit_acknowledge.Given as goal

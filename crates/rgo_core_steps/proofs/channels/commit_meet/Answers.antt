@@ -1,15 +1,15 @@
 use Rattle.std.proofs.Common.{◌+◌}
 use Rattle.rgo_core.specs.Rule.Views.{number_of}
 use Rattle.rgo_core.specs.Rule.declared.accesses.Kind.TheVariants.{Commit}
-use Rattle.rgo_core.specs.Bounds.{Points}
-use Rattle.rgo_core.specs.Plans.{setup_of}
+use Rattle.rgo_core.specs.ties.Bounds.{Points}
+use Rattle.rgo_core.specs.runs.Plans.{setup_of}
 use Rattle.rgo_core.proofs.runs.Possible.{is_possible}
 use Rattle.rgo_core_steps.specs.Accesses.{given_type}
 use Rattle.rgo_core_steps.specs.After.{committing}
 use Rattle.rgo_core_steps.specs.Channels.{value_by}
 use Rattle.rgo_core_steps.specs.Seats.{mine}
-use Rattle.rgo_core_steps.proofs.Lefts.{stored_after}
-use Rattle.rgo_core_steps.proofs.ChannelAccesses.{meet_commits}
+use Rattle.rgo_core_steps.proofs.accesses.Lefts.{stored_after}
+use Rattle.rgo_core_steps.proofs.accesses.Channels.{meet_commits}
 use Rattle.rgo_core_steps.proofs.channels.commit_meet.Goals as goal
 
 pub store-requires-clause-asks : goal.store-requires-clause-asks

@@ -1,7 +1,7 @@
 use Rattle.std.proofs.Common.{◌≡◌}
 use Rattle.rgo_core.specs.Rule.declared.accesses.Kind.TheVariants as kind
-use Rattle.rgo_core.specs.Plans.{setup_of}
-use Rattle.rgo_core.specs.Bounds.{Points}
+use Rattle.rgo_core.specs.runs.Plans.{setup_of}
+use Rattle.rgo_core.specs.ties.Bounds.{Points}
 use Rattle.rgo_core_steps.specs.Accesses.{given_type}
 use Rattle.rgo_core_steps.specs.After.{committing}
 use Rattle.rgo_core_steps.specs.Channels.{value_by}

@@ -1,8 +1,8 @@
 use Rattle.rgo_core.specs.Rule.Views.{number_of}
-use Rattle.rgo_core.specs.Plans.{setup_of}
+use Rattle.rgo_core.specs.runs.Plans.{setup_of}
 use Rattle.rgo_core.proofs.runs.Possible.{is_possible}
 use Rattle.rgo_core_steps.specs.Seats.{mine}
-use Rattle.rgo_core_steps.proofs.ChannelAccesses.{send_commits}
+use Rattle.rgo_core_steps.proofs.accesses.Channels.{send_commits}
 use Rattle.rgo_core_steps.proofs.channels.commit_send.Goals as goal
 
 pub store-requires-clause-asks : goal.store-requires-clause-asks

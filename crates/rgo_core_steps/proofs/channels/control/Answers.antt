@@ -1,10 +1,10 @@
 use Rattle.rgo_core.specs.Rule.Views.{number_of}
-use Rattle.rgo_core.specs.Plans.{setup_of}
+use Rattle.rgo_core.specs.runs.Plans.{setup_of}
 use Rattle.rgo_core.proofs.runs.Possible.{is_possible}
 use Rattle.rgo_core_steps.specs.Channels.{ShowsControl}
 use Rattle.rgo_core_steps.specs.Seats.{settled}
-use Rattle.rgo_core_steps.proofs.ChannelAccesses.{control_shows}
-use Rattle.rgo_core_steps.proofs.Settling.{settles}
+use Rattle.rgo_core_steps.proofs.accesses.Channels.{control_shows}
+use Rattle.rgo_core_steps.proofs.record_steps.Settling.{settles}
 use Rattle.rgo_core_steps.proofs.channels.control.Goals as goal
 
 pub load-requires-clause-asks : goal.load-requires-clause-asks

@@ -1,8 +1,8 @@
 use Rattle.rgo_core.specs.Rule.Views.{number_of}
-use Rattle.rgo_core.specs.Plans.{setup_of}
+use Rattle.rgo_core.specs.runs.Plans.{setup_of}
 use Rattle.rgo_core.proofs.runs.Possible.{is_possible}
 use Rattle.rgo_core_steps.specs.Seats.{mine}
-use Rattle.rgo_core_steps.proofs.ChannelAccesses.{lock_locks}
+use Rattle.rgo_core_steps.proofs.accesses.Channels.{lock_locks}
 use Rattle.rgo_core_steps.proofs.channels.lock.Goals as goal
 
 pub compare_exchange-requires-clause-asks : goal.compare_exchange-requires-clause-asks

@@ -1,7 +1,7 @@
 use Rattle.std.proofs.Common.{◌≡◌}
 use Rattle.rgo_core.specs.Rule.declared.accesses.Kind.TheVariants as kind
-use Rattle.rgo_core.specs.Plans.{setup_of}
-use Rattle.rgo_core.specs.AtChannels.{knows}
+use Rattle.rgo_core.specs.runs.Plans.{setup_of}
+use Rattle.rgo_core.specs.ties.AtChannels.{knows}
 use Rattle.rgo_core.specs.Channels.Records.{with_lock}
 use Rattle.rgo_core_steps.specs.Seats.{mine}
 use Rattle.rgo_core_steps.proofs.channels.lock.Given as goal

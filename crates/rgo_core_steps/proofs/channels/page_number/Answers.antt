@@ -1,8 +1,8 @@
 use Rattle.rgo_core.specs.Rule.Views.{number_of}
-use Rattle.rgo_core.specs.Plans.{setup_of}
+use Rattle.rgo_core.specs.runs.Plans.{setup_of}
 use Rattle.rgo_core.proofs.runs.Possible.{is_possible}
 use Rattle.rgo_core_steps.specs.Seats.{mine}
-use Rattle.rgo_core_steps.proofs.ChannelAccesses.{page_shows}
+use Rattle.rgo_core_steps.proofs.accesses.Channels.{page_shows}
 use Rattle.rgo_core_steps.proofs.channels.page_number.Goals as goal
 
 pub load-requires-clause-asks : goal.load-requires-clause-asks

@@ -1,7 +1,7 @@
 use Rattle.std.proofs.Common.{◌≡◌}
 use Rattle.rgo_core.specs.Rule.declared.accesses.Kind.TheVariants as kind
-use Rattle.rgo_core.specs.Plans.{setup_of}
-use Rattle.rgo_core.specs.AtChannels.{knows}
+use Rattle.rgo_core.specs.runs.Plans.{setup_of}
+use Rattle.rgo_core.specs.ties.AtChannels.{knows}
 use Rattle.rgo_core.specs.Channels.Records.{Wrote, with_hold}
 use Rattle.rgo_core_steps.specs.Channels.{found_by}
 use Rattle.rgo_core_steps.specs.Seats.{mine}

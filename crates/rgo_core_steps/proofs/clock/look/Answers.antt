@@ -1,9 +1,9 @@
 use Rattle.rgo_core.specs.Rule.Views.{number_of}
-use Rattle.rgo_core.specs.Plans.{setup_of}
+use Rattle.rgo_core.specs.runs.Plans.{setup_of}
 use Rattle.rgo_core.proofs.runs.Possible.{is_possible}
 use Rattle.rgo_core.proofs.clock.ClockLifts.{look_law}
 use Rattle.rgo_core_steps.specs.Seats.{settled}
-use Rattle.rgo_core_steps.proofs.Settling.{settles}
+use Rattle.rgo_core_steps.proofs.record_steps.Settling.{settles}
 use Rattle.rgo_core_steps.proofs.clock.look.Goals as goal
 
 pub load-requires-clause-asks : goal.load-requires-clause-asks

@@ -4,13 +4,13 @@ use Rattle.rgo_sound.specs.Stakes.{is_in}
 use Rattle.rgo_core.specs.Memory.Words.{count_at}
 use Rattle.rgo_core.specs.Rule.declared.accesses.Kind.TheVariants.{CreateRegion}
 use Rattle.rgo_core_steps.specs.Counts.{tries_slot}
-use Rattle.rgo_core_steps.proofs.Lefts.{left_as}
+use Rattle.rgo_core_steps.proofs.accesses.Lefts.{left_as}
 use Rattle.rgo_core.specs.Rule.Views.{number_of}
-use Rattle.rgo_core.specs.Plans.{setup_of}
+use Rattle.rgo_core.specs.runs.Plans.{setup_of}
 use Rattle.rgo_core.proofs.runs.Possible.{is_possible}
-use Rattle.rgo_core_steps.proofs.Staking.{create_moves}
-use Rattle.rgo_core_steps.proofs.Layouts.{count_low}
-use Rattle.rgo_core_steps.proofs.Settling.{settles}
+use Rattle.rgo_core_steps.proofs.record_steps.Staking.{create_moves}
+use Rattle.rgo_core_steps.proofs.tables.Layouts.{count_low}
+use Rattle.rgo_core_steps.proofs.record_steps.Settling.{settles}
 use Rattle.rgo_core_steps.specs.Seats.{settled}
 use Rattle.rgo_core_steps.proofs.counts.create.Goals as goal
 

@@ -1,9 +1,9 @@
 use Rattle.std.proofs.Common.{arith}
 use Rattle.rgo_core.specs.Rule.Views.{number_of}
-use Rattle.rgo_core.specs.Plans.{setup_of}
+use Rattle.rgo_core.specs.runs.Plans.{setup_of}
 use Rattle.rgo_core.proofs.runs.Possible.{is_possible}
 use Rattle.rgo_core.proofs.pages.Chains.{slot_move}
-use Rattle.rgo_core_steps.proofs.Layouts.{count_low}
+use Rattle.rgo_core_steps.proofs.tables.Layouts.{count_low}
 use Rattle.rgo_core_steps.specs.Seats.{mine}
 use Rattle.rgo_core_steps.proofs.counts.free_slot.Goals as goal
 

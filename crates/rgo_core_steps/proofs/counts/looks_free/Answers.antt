@@ -1,5 +1,5 @@
 use Rattle.std.proofs.Common.{arith}
-use Rattle.rgo_core_steps.proofs.Layouts.{count_low}
+use Rattle.rgo_core_steps.proofs.tables.Layouts.{count_low}
 use Rattle.rgo_core_steps.proofs.counts.looks_free.Goals as goal
 
 pub peek-requires : goal.peek-requires

@@ -1,10 +1,10 @@
 use Rattle.std.proofs.Common.{arith}
 use Rattle.rgo_core.specs.Rule.Views.{number_of}
-use Rattle.rgo_core.specs.Plans.{setup_of}
+use Rattle.rgo_core.specs.runs.Plans.{setup_of}
 use Rattle.rgo_core.proofs.runs.Possible.{is_possible}
-use Rattle.rgo_core_steps.proofs.Staking.{share_moves}
-use Rattle.rgo_core_steps.proofs.Layouts.{count_low}
-use Rattle.rgo_core_steps.proofs.Settling.{settles}
+use Rattle.rgo_core_steps.proofs.record_steps.Staking.{share_moves}
+use Rattle.rgo_core_steps.proofs.tables.Layouts.{count_low}
+use Rattle.rgo_core_steps.proofs.record_steps.Settling.{settles}
 use Rattle.rgo_core_steps.specs.Seats.{settled}
 use Rattle.rgo_core_steps.proofs.counts.share.Goals as goal
 

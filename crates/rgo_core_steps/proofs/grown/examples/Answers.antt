@@ -1,4 +1,4 @@
-use Rattle.rgo_core_steps.proofs.GrownExamples.{grown_examples}
+use Rattle.rgo_core_steps.proofs.examples.Grown.{grown_examples}
 use Rattle.rgo_core_steps.proofs.grown.examples.Goals as goal
 
 pub returns : goal.returns

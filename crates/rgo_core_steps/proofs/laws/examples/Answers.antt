@@ -1,4 +1,4 @@
-use Rattle.rgo_core_steps.proofs.Examples.{after_examples, end_examples, outcome_examples, seat_examples, start_examples}
+use Rattle.rgo_core_steps.proofs.examples.Steps.{after_examples, end_examples, outcome_examples, seat_examples, start_examples}
 use Rattle.rgo_core_steps.proofs.laws.examples.Goals as goal
 
 pub returns-clause-seats : goal.returns-clause-seats

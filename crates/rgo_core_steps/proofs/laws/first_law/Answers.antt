@@ -1,4 +1,4 @@
-use Rattle.rgo_core_steps.proofs.Outcomes.{first_law as is}
+use Rattle.rgo_core_steps.proofs.tables.Outcomes.{first_law as is}
 use Rattle.rgo_core_steps.proofs.laws.first_law.Goals as goal
 
 pub returns : goal.returns

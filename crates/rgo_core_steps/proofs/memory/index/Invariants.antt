@@ -1,9 +1,9 @@
 use Rattle.std.proofs.Common.{◌≡◌, ◌-◌, ◌%◌, ◌<◌}
-use Rattle.rgo_core.specs.Accesses.{locates}
+use Rattle.rgo_core.specs.moves.Cells.{locates}
 use Rattle.rgo_core.specs.Core.{layout}
 use Rattle.rgo_core.specs.Memory.Words.{all_words, cell_at}
 use Rattle.rgo_core.specs.Rule.declared.accesses.Kind.TheVariants as kind
-use Rattle.rgo_core.specs.Plans.{setup_of}
+use Rattle.rgo_core.specs.runs.Plans.{setup_of}
 use Rattle.rgo_core_steps.specs.Seats.{settled}
 use Rattle.rgo_core_steps.proofs.memory.index.Given as goal
 

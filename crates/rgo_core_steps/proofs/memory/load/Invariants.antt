@@ -1,9 +1,9 @@
 use Rattle.std.proofs.Common.{◌≡◌}
-use Rattle.rgo_core.specs.Bounds.{Points}
+use Rattle.rgo_core.specs.ties.Bounds.{Points}
 use Rattle.rgo_core_steps.specs.Accesses.{given_type}
 use Rattle.rgo_core_steps.specs.After.{acting}
 use Rattle.rgo_core.specs.Rule.declared.accesses.Kind.TheVariants as kind
-use Rattle.rgo_core.specs.Plans.{setup_of}
+use Rattle.rgo_core.specs.runs.Plans.{setup_of}
 use Rattle.rgo_core_steps.specs.Seats.{settled}
 use Rattle.rgo_core_steps.proofs.memory.load.Given as goal
 

@@ -1,8 +1,8 @@
 use Rattle.std.proofs.Common.{◌≡◌}
-use Rattle.rgo_core.specs.Accesses.{measures}
-use Rattle.rgo_core.specs.Bounds.{LieInPages, slice_words}
+use Rattle.rgo_core.specs.moves.Cells.{measures}
+use Rattle.rgo_core.specs.ties.Bounds.{LieInPages, slice_words}
 use Rattle.rgo_core.specs.Rule.declared.accesses.Kind.TheVariants as kind
-use Rattle.rgo_core.specs.Plans.{setup_of}
+use Rattle.rgo_core.specs.runs.Plans.{setup_of}
 use Rattle.rgo_core_steps.specs.Seats.{settled}
 use Rattle.rgo_core_steps.proofs.memory.measure.Given as goal
 

@@ -1,11 +1,11 @@
 use Rattle.rgo_core.specs.Rule.Views.{number_of}
 use Rattle.rgo_core.specs.Rule.declared.accesses.Kind.TheVariants as kind
 use Rattle.rgo_core_steps.specs.Making.{NewPointsApart, filling_apart}
-use Rattle.rgo_core.specs.Plans.{setup_of}
+use Rattle.rgo_core.specs.runs.Plans.{setup_of}
 use Rattle.rgo_core.proofs.runs.Possible.{is_possible}
-use Rattle.rgo_core_steps.proofs.Lefts.{stored_after}
-use Rattle.rgo_core_steps.proofs.MakingApart.{zero_apart_moves}
-use Rattle.rgo_core_steps.proofs.Settling.{settles}
+use Rattle.rgo_core_steps.proofs.accesses.Lefts.{stored_after}
+use Rattle.rgo_core_steps.proofs.making.Apart.{zero_apart_moves}
+use Rattle.rgo_core_steps.proofs.record_steps.Settling.{settles}
 use Rattle.rgo_core_steps.specs.Seats.{settled}
 use Rattle.rgo_core_steps.proofs.memory.set_index.Goals as goal
 

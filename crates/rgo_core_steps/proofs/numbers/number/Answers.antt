@@ -1,8 +1,8 @@
 use Rattle.rgo_core.specs.Rule.Views.{number_of}
-use Rattle.rgo_core.specs.Plans.{setup_of}
+use Rattle.rgo_core.specs.runs.Plans.{setup_of}
 use Rattle.rgo_core_steps.specs.Seats.{settled}
-use Rattle.rgo_core_steps.proofs.Settling.{settles_either}
-use Rattle.rgo_core_steps.proofs.Drawing.{above, below, child_possible, drawn_none, drawn_possible, drawn_some, number_moves}
+use Rattle.rgo_core_steps.proofs.record_steps.Settling.{settles_either}
+use Rattle.rgo_core_steps.proofs.record_steps.Drawing.{above, below, child_possible, drawn_none, drawn_possible, drawn_some, number_moves}
 use Rattle.rgo_core_steps.proofs.numbers.number.Goals as goal
 
 pub fetch_add_start-found-requires-clause-asks : goal.fetch_add_start-found-requires-clause-asks

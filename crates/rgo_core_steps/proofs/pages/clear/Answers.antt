@@ -1,14 +1,14 @@
 use Rattle.std.proofs.Common.{◌≡◌, arith}
 use Rattle.rgo_core.specs.Rule.Views.{number_of}
 use Rattle.rgo_core.specs.Rule.declared.accesses.Kind.TheVariants as kind
-use Rattle.rgo_core.specs.Chains.{remembers}
+use Rattle.rgo_core.specs.moves.Chains.{remembers}
 use Rattle.rgo_core.specs.Memory.Words.{head_at}
 use Rattle.rgo_core.specs.Memory.Records.{Gave, with_give}
-use Rattle.rgo_core.specs.Plans.{setup_of}
+use Rattle.rgo_core.specs.runs.Plans.{setup_of}
 use Rattle.rgo_core.proofs.runs.Possible.{is_possible}
 use Rattle.rgo_core.proofs.pages.Chains.{clear_move}
-use Rattle.rgo_core_steps.proofs.Lefts.{stored_after}
-use Rattle.rgo_core_steps.proofs.Layouts.{head_low}
+use Rattle.rgo_core_steps.proofs.accesses.Lefts.{stored_after}
+use Rattle.rgo_core_steps.proofs.tables.Layouts.{head_low}
 use Rattle.rgo_core_steps.specs.Seats.{mine}
 use Rattle.rgo_core_steps.proofs.pages.clear.Goals as goal
 

@@ -1,8 +1,8 @@
 use Rattle.std.proofs.Common.{◌≡◌}
-use Rattle.rgo_core.specs.Chains.{remembers}
+use Rattle.rgo_core.specs.moves.Chains.{remembers}
 use Rattle.rgo_core.specs.Memory.Records.{Gave, with_give}
 use Rattle.rgo_core.specs.Rule.declared.accesses.Kind.TheVariants as kind
-use Rattle.rgo_core.specs.Plans.{setup_of}
+use Rattle.rgo_core.specs.runs.Plans.{setup_of}
 use Rattle.rgo_core_steps.specs.Seats.{mine}
 use Rattle.rgo_core_steps.proofs.pages.clear.Given as goal
 

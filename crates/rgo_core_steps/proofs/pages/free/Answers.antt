@@ -1,13 +1,13 @@
 use Rattle.std.proofs.Common.{◌<◌}
 use Rattle.rgo_core.specs.Rule.Views.{number_of}
 use Rattle.rgo_core.specs.Rule.declared.accesses.Kind.TheVariants as kind
-use Rattle.rgo_core.specs.Chains.{frees}
+use Rattle.rgo_core.specs.moves.Chains.{frees}
 use Rattle.rgo_core.specs.Memory.Words.{state_at}
-use Rattle.rgo_core.specs.Plans.{setup_of}
+use Rattle.rgo_core.specs.runs.Plans.{setup_of}
 use Rattle.rgo_core.proofs.runs.Possible.{is_possible}
-use Rattle.rgo_core_steps.proofs.Paging.{free_moves}
-use Rattle.rgo_core_steps.proofs.Lefts.{stored_after}
-use Rattle.rgo_core_steps.proofs.Layouts.{state_low}
+use Rattle.rgo_core_steps.proofs.record_steps.Paging.{free_moves}
+use Rattle.rgo_core_steps.proofs.accesses.Lefts.{stored_after}
+use Rattle.rgo_core_steps.proofs.tables.Layouts.{state_low}
 use Rattle.rgo_core_steps.specs.Seats.{mine}
 use Rattle.rgo_core_steps.proofs.pages.free.Goals as goal
 

@@ -1,9 +1,9 @@
 use Rattle.std.proofs.Common.{arith}
 use Rattle.rgo_core.specs.Rule.Views.{number_of}
-use Rattle.rgo_core.specs.Plans.{setup_of}
+use Rattle.rgo_core.specs.runs.Plans.{setup_of}
 use Rattle.rgo_core.proofs.runs.Possible.{is_possible}
-use Rattle.rgo_core_steps.proofs.Paging.{hang_moves}
-use Rattle.rgo_core_steps.proofs.Layouts.{head_low}
+use Rattle.rgo_core_steps.proofs.record_steps.Paging.{hang_moves}
+use Rattle.rgo_core_steps.proofs.tables.Layouts.{head_low}
 use Rattle.rgo_core_steps.specs.Seats.{mine}
 use Rattle.rgo_core_steps.proofs.pages.hang.Goals as goal
 

@@ -1,14 +1,14 @@
 use Rattle.std.proofs.Common.{◌≡◌, ◌≤◌, subst, sym, arith}
 use Rattle.rgo_core.specs.Rule.Views.{number_of}
 use Rattle.rgo_core.specs.Rule.declared.accesses.Kind.TheVariants as kind
-use Rattle.rgo_core.specs.Chains.{remembers}
+use Rattle.rgo_core.specs.moves.Chains.{remembers}
 use Rattle.rgo_core.specs.Memory.Words.{head_at}
 use Rattle.rgo_core.specs.Memory.Records.{Giving, with_give}
-use Rattle.rgo_core.specs.Plans.{setup_of}
+use Rattle.rgo_core.specs.runs.Plans.{setup_of}
 use Rattle.rgo_core.proofs.runs.Possible.{is_possible}
 use Rattle.rgo_core.proofs.pages.Chains.{head_move}
-use Rattle.rgo_core_steps.proofs.Lefts.{left_as}
-use Rattle.rgo_core_steps.proofs.Layouts.{head_low}
+use Rattle.rgo_core_steps.proofs.accesses.Lefts.{left_as}
+use Rattle.rgo_core_steps.proofs.tables.Layouts.{head_low}
 use Rattle.rgo_core_steps.specs.Seats.{mine}
 use Rattle.rgo_core_steps.proofs.pages.head.Goals as goal
 

@@ -1,8 +1,8 @@
 use Rattle.rgo_core.specs.Rule.Views.{number_of}
-use Rattle.rgo_core.specs.Plans.{setup_of}
+use Rattle.rgo_core.specs.runs.Plans.{setup_of}
 use Rattle.rgo_core.proofs.runs.Possible.{is_possible}
 use Rattle.rgo_core.proofs.pages.Chains.{link_move}
-use Rattle.rgo_core_steps.proofs.Layouts.{next_low}
+use Rattle.rgo_core_steps.proofs.tables.Layouts.{next_low}
 use Rattle.rgo_core_steps.specs.Seats.{mine}
 use Rattle.rgo_core_steps.proofs.pages.link.Goals as goal
 

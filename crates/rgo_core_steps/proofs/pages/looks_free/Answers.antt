@@ -1,4 +1,4 @@
-use Rattle.rgo_core_steps.proofs.Layouts.{state_low}
+use Rattle.rgo_core_steps.proofs.tables.Layouts.{state_low}
 use Rattle.rgo_core_steps.proofs.pages.looks_free.Goals as goal
 
 pub peek-requires : goal.peek-requires

@@ -1,14 +1,14 @@
 use Rattle.std.proofs.Common.{◌+◌, ◌≤◌, subst, sym}
 use Rattle.rgo_core.specs.Rule.Views.{number_of}
 use Rattle.rgo_core.specs.Rule.declared.accesses.Kind.TheVariants as kind
-use Rattle.rgo_core.specs.Chains.{remembers}
+use Rattle.rgo_core.specs.moves.Chains.{remembers}
 use Rattle.rgo_core.specs.Memory.Words.{next_at}
 use Rattle.rgo_core.specs.Memory.Records.{Past, with_give}
-use Rattle.rgo_core.specs.Plans.{setup_of}
+use Rattle.rgo_core.specs.runs.Plans.{setup_of}
 use Rattle.rgo_core.proofs.runs.Possible.{is_possible}
-use Rattle.rgo_core_steps.proofs.Paging.{next_moves}
-use Rattle.rgo_core_steps.proofs.Lefts.{left_after}
-use Rattle.rgo_core_steps.proofs.Layouts.{next_low}
+use Rattle.rgo_core_steps.proofs.record_steps.Paging.{next_moves}
+use Rattle.rgo_core_steps.proofs.accesses.Lefts.{left_after}
+use Rattle.rgo_core_steps.proofs.tables.Layouts.{next_low}
 use Rattle.rgo_core_steps.specs.Seats.{mine}
 use Rattle.rgo_core_steps.proofs.pages.next.Goals as goal
 

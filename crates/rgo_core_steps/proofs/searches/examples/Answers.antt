@@ -1,5 +1,5 @@
-use Rattle.rgo_core_steps.proofs.MemoryExamples.{count_examples, making_examples, search_examples}
-use Rattle.rgo_core_steps.proofs.SpreadExamples.{spread_examples}
+use Rattle.rgo_core_steps.proofs.examples.Memory.{count_examples, making_examples, search_examples}
+use Rattle.rgo_core_steps.proofs.examples.Spread.{spread_examples}
 use Rattle.rgo_core_steps.proofs.searches.examples.Goals as goal
 
 pub returns-clause-making : goal.returns-clause-making

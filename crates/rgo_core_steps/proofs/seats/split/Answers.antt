@@ -1,6 +1,6 @@
 use Rattle.std.proofs.Common.{◌∙◌}
-use Rattle.rgo_core.specs.Plans.{setup_of}
-use Rattle.rgo_core_steps.proofs.Parting.{has_second, left_is, right_is}
+use Rattle.rgo_core.specs.runs.Plans.{setup_of}
+use Rattle.rgo_core_steps.proofs.tables.Parting.{has_second, left_is, right_is}
 use Rattle.rgo_core_steps.proofs.seats.split.Goals as goal
 
 pub part-requires-clause-has : goal.part-requires-clause-has

@@ -3,12 +3,12 @@ use Rattle.std.proofs.lemmas.Option.{IfSome_then}
 use Rattle.rgo_core.specs.Channels.Records.{at_rest}
 use Rattle.rgo_core.specs.Rule.declared.accesses.Kind.TheVariants.{CreateRegion}
 use Rattle.rgo_core.specs.Memory.Words.{count_at}
-use Rattle.rgo_core.specs.Opening.{first_of}
-use Rattle.rgo_core.specs.Plans.{setup_of}
+use Rattle.rgo_core.specs.runs.Opening.{first_of}
+use Rattle.rgo_core.specs.runs.Plans.{setup_of}
 use Rattle.rgo_core.specs.Records.{Record, accesses}
-use Rattle.rgo_core_steps.specs.Counts.{IsCreating, created, tried_slot}
+use Rattle.rgo_core_steps.specs.Counts.{IsCreating, created_in_slot, tried_slot}
 use Rattle.rgo_core_steps.specs.Seats.{mine, settled}
-use Rattle.rgo_core_steps.proofs.Searching.{took_start}
+use Rattle.rgo_core_steps.proofs.searching.Exchanges.{took_start}
 use Rattle.rgo_counts.proofs.Trying.{missing_creates, missing_side, slot_taken, slot_tried, still_fresh, then_above, then_below}
 use Rattle.rgo_counts.proofs.creation.take.Goals as goal
 
@@ -22,7 +22,7 @@ returns-then-create-eq0-clause-taken g c =
     let low = c.beginning-start.ensures.inside in
     let w = c.create.new.seat.me in (
       low,
-      took_start accesses (first_of T.code) CreateRegion (count_at z) tried_slot (settled T q m) z.slots s low 2 (λ d. created d s) m w
+      took_start accesses (first_of T.code) CreateRegion (count_at z) tried_slot (settled T q m) z.slots s low 2 (λ d. created_in_slot d s) m w
           (slot_taken T z q m s c.create.result w c.requires.settles c.create.ensures.leaves c.if-create-eq0.true c.requires.creates),
     )
 

@@ -2,12 +2,12 @@ use Rattle.std.proofs.Common.{◌≡◌, ◌<◌, ◌≤◌, rules, subst, sym, 
 use Rattle.rgo_core.specs.Channels.Records.{at_rest}
 use Rattle.rgo_core.specs.Rule.declared.accesses.Kind.TheVariants.{CreateRegion}
 use Rattle.rgo_core.specs.Memory.Words.{count_at}
-use Rattle.rgo_core.specs.Opening.{first_of}
-use Rattle.rgo_core.specs.Plans.{setup_of}
+use Rattle.rgo_core.specs.runs.Opening.{first_of}
+use Rattle.rgo_core.specs.runs.Plans.{setup_of}
 use Rattle.rgo_core.specs.Records.{Record, accesses}
-use Rattle.rgo_core_steps.specs.Counts.{IsCreating, created, tried_slot}
+use Rattle.rgo_core_steps.specs.Counts.{IsCreating, created_in_slot, tried_slot}
 use Rattle.rgo_core_steps.specs.Seats.{mine}
-use Rattle.rgo_core_steps.proofs.Searching.{took_here, tried_begin, tried_next}
+use Rattle.rgo_core_steps.proofs.searching.Exchanges.{took_here, tried_begin, tried_next}
 use Rattle.rgo_counts.proofs.Trying.{missing_creates, missing_side, slot_taken, slot_tried, still_fresh}
 use Rattle.rgo_counts.proofs.creation.try_slots.Goals as goal
 
@@ -37,7 +37,7 @@ returns-then-create-eq0-clause-tried g c =
       above,
       below,
       took_here accesses (first_of T.code) CreateRegion (count_at z) tried_slot (mine T m) c.args.first s c.args.end 2 above m v w t
-          (λ d. created d s)
+          (λ d. created_in_slot d s)
           (slot_taken T z 0 v s c.create.result w tt c.create.ensures.leaves c.if-create-eq0.true
           (subst IsCreating (sym t.made.after) (missing_creates t.tries (mine T m) c.requires.creates))),
     )

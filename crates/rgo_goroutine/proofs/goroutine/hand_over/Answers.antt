@@ -4,7 +4,7 @@ use Rattle.atomic_table.specs.Seated.{TableId}
 use Rattle.rgo_core.specs.Memory.Words.{clock_at}
 use Rattle.rgo_core.specs.Rule.Passes.{after_pass}
 use Rattle.rgo_core.specs.Rule.declared.accesses.Access.{Access}
-use Rattle.rgo_goroutine.specs.Goroutines.{AreChildren, all_seen, rows}
+use Rattle.rgo_goroutine.specs.Goroutines.{AreChildren, all_seen, rows_of_children}
 use Rattle.rgo_goroutine.specs.declared.goroutine.Child.{Child}
 use Rattle.rgo_goroutine.proofs.Handing.{last_first, one_row}
 use Rattle.rgo_goroutine.proofs.goroutine.hand_over.Goals as goal
@@ -17,7 +17,7 @@ loop-child-init c =
       table = refl;
       id = refl;
       stand = subst (AreChildren c.args.run.now) (sym all) c.requires.stand;
-      records = ap (λ (l : List Child). c.args.seat.now.me.0.records ++ rows T l) all;
+      records = ap (λ (l : List Child). c.args.seat.now.me.0.records ++ rows_of_children T l) all;
       seen = ap (λ (l : List Child). after_pass c.args.seat.now.me.0.seen (all_seen l)) all;
       slots = refl;
     }
@@ -50,9 +50,9 @@ loop-child-preserved c =
       table = joined.own.0 ∙ l.invariant.table;
       id = joined.own.1 ∙ l.invariant.id;
       stand = all.1;
-      records = ap (λ k. k ++ rows T later) (joined.records ∙ ap (λ k. l.seat.me.0.records ++ k) (one_row r child all.0))
-          ∙ (append_assoc l.seat.me.0.records (rows T (child ∷ [])) (rows T later)
-          ∙ (ap (λ (k : List Child). l.seat.me.0.records ++ rows T k) (sym taken) ∙ l.invariant.records));
+      records = ap (λ k. k ++ rows_of_children T later) (joined.records ∙ ap (λ k. l.seat.me.0.records ++ k) (one_row r child all.0))
+          ∙ (append_assoc l.seat.me.0.records (rows_of_children T (child ∷ [])) (rows_of_children T later)
+          ∙ (ap (λ (k : List Child). l.seat.me.0.records ++ rows_of_children T k) (sym taken) ∙ l.invariant.records));
       seen = ap (λ (k : List Access). after_pass k (all_seen later)) joined.seen
           ∙ (ap (λ (k : List Child). after_pass l.seat.me.0.seen (all_seen k)) (sym taken) ∙ l.invariant.seen);
       slots = joined.slots ∙ l.invariant.slots;

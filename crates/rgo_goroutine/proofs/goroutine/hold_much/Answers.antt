@@ -1,9 +1,9 @@
 use Rattle.std.proofs.Common.{◌≡◌, List, [], ◌∷◌, ap, arith, length, refl}
 use Rattle.rgo_acts.specs.declared.prints.Print.{Print}
-use Rattle.rgo_goroutine.specs.Goroutines.{bytes_in}
+use Rattle.rgo_goroutine.specs.Goroutines.{printed_byte_count}
 use Rattle.rgo_goroutine.proofs.goroutine.hold_much.Goals as goal
 
-none_in : (ps : List Print) → length ps ≡ 0 → bytes_in ps ≡ 0
+none_in : (ps : List Print) → length ps ≡ 0 → printed_byte_count ps ≡ 0
 none_in [] none = refl
 none_in (p ∷ ps) none = absurd (omega (arith, none))
 
@@ -13,7 +13,7 @@ loop-first-init c = record { some = omega arith; rest = omega arith }
 pub loop-first-preserved : goal.loop-first-preserved
 loop-first-preserved c =
     let rest = c.loop-first.invariant.rest in
-    let split = ap bytes_in c.in-Some.ensures.cases.0 in
+    let split = ap printed_byte_count c.in-Some.ensures.cases.0 in
     let bytes = c.len-bytes.ensures in
     let less = c.if-bytes-left.false in
     record {
@@ -24,7 +24,7 @@ loop-first-preserved c =
 pub returns-then-bytes-left : goal.returns-then-bytes-left
 returns-then-bytes-left c =
     let rest = c.loop-first.invariant.rest in
-    let split = ap bytes_in c.in-Some.ensures.cases.0 in
+    let split = ap printed_byte_count c.in-Some.ensures.cases.0 in
     let bytes = c.len-bytes.ensures in
     let more = c.if-bytes-left.true in
     (λ yes. omega (arith, rest, split, bytes, more), λ much. refl)

@@ -1,4 +1,4 @@
-use Rattle.rgo_acts.proofs.LocalActs.{roomier_shows}
+use Rattle.rgo_acts.proofs.computing.LocalActs.{roomier_shows}
 use Rattle.rgo_goroutine.proofs.turning.room_behind_offer.Goals as goal
 
 pub returns-in-Ok-clause-stays : goal.returns-in-Ok-clause-stays

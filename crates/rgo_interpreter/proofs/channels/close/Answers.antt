@@ -1,17 +1,17 @@
 use Rattle.std.proofs.Common.{refl}
 use Rattle.rgo_memory.specs.Channels.{shut}
-use Rattle.rgo_interpreter.specs.Views.{memory_of}
+use Rattle.rgo_interpreter.specs.Views.{memory_view}
 use Rattle.rgo_interpreter.proofs.InPlace.{changed, not_there}
 use Rattle.rgo_interpreter.proofs.channels.close.Goals as goal
 
 pub returns-in-Some : goal.returns-in-Some
 returns-in-Some c =
     rw c.in-Object.is
-    (changed (memory_of c.args.memory.now) _ c.in-Object.n _ _ c.in-Some.ensures.value
+    (changed (memory_view c.args.memory.now) _ c.in-Object.n _ _ c.in-Some.ensures.value
     (rw c.in-Some.is at (c.object_mut.follows.holds c.shut.new.object)) c.shut.result shut refl c.shut.ensures)
 
 pub returns-in-None : goal.returns-in-None
 returns-in-None c =
     rw c.in-Object.is
-    (not_there (memory_of c.args.memory.now) _ c.in-Object.n c.in-None.ensures.value c.object_mut.follows.holds-at-none shut
+    (not_there (memory_view c.args.memory.now) _ c.in-Object.n c.in-None.ensures.value c.object_mut.follows.holds-at-none shut
     refl)

@@ -2,8 +2,8 @@ use Rattle.std.specs.Prelude.{OnOk}
 use Rattle.std.specs.declared.result.Result.{Result}
 use Rattle.std.specs.declared.result.Result.TheVariants.{Ok, Err}
 use Rattle.std.proofs.Common.{◌/◌, ◌%◌, refl, ap, sym, ◌∙◌}
-use Rattle.rgo_interpreter.specs.Blocks.{slot_in}
-use Rattle.rgo_interpreter.specs.Views.{object_in, entry_of, block_of}
+use Rattle.rgo_interpreter.specs.Blocks.{slot_in_block}
+use Rattle.rgo_interpreter.specs.Views.{object_view_or_empty, object_view_at, block_of}
 use Rattle.rgo_interpreter.proofs.Heap.{kept_before}
 use Rattle.rgo_interpreter.proofs.making.put.Goals as goal
 
@@ -14,7 +14,7 @@ on_ok f (Err e) p = tt
 pub returns-in-Some-clause-put : goal.returns-in-Some-clause-put
 returns-in-Some-clause-put c =
     let has = rw c.in-Some.is at (c.block_mut.follows.holds c.put.new.self) in
-    on_ok (λ put. ap (λ b. object_in (slot_in b (c.args.memory.now.made % 16))) has.1.1 ∙ ap object_in put)
+    on_ok (λ put. ap (λ b. object_view_or_empty (slot_in_block b (c.args.memory.now.made % 16))) has.1.1 ∙ ap object_view_or_empty put)
     c.put.result c.put.ensures.put
 
 pub returns-in-Some-clause-kept : goal.returns-in-Some-clause-kept
@@ -42,7 +42,7 @@ returns-in-Ok-clause-kept c n before =
     (λ k within.
     c.put-in-None.ensures.kept k within
     ∙ c.in_ok-block-in-None.ensures k
-    ∙ ap (λ b. slot_in b k) (c.in-None.ensures.value ∙ sym (ap (λ m. block_of m (number / 16)) same))
+    ∙ ap (λ b. slot_in_block b k) (c.in-None.ensures.value ∙ sym (ap (λ m. block_of m (number / 16)) same))
     ∙ sym (as_before (number / 16) k)) n before
-    ∙ ap object_in (as_before (n / 16) (n % 16))
-    ∙ ap (λ m. entry_of m n) same
+    ∙ ap object_view_or_empty (as_before (n / 16) (n % 16))
+    ∙ ap (λ m. object_view_at m n) same

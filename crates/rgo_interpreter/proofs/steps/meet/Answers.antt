@@ -1,5 +1,5 @@
 use Rattle.std.proofs.Common.{◌∙◌, sym, ap}
-use Rattle.rgo_interpreter.specs.Views.{memory_of}
+use Rattle.rgo_interpreter.specs.Views.{memory_view}
 use Rattle.rgo_interpreter.specs.Alone as alone
 use Rattle.rgo_interpreter.proofs.Meeting.{met_so}
 use Rattle.rgo_interpreter.proofs.steps.meet.Goals as goal
@@ -9,7 +9,7 @@ returns g c =
     let state = c.state.inside in (
       met_so (g.M.Machine.machine c.args.machine.now) c.args.state.now
           (record {
-            memory = memory_of state.memory;
+            memory = memory_view state.memory;
             goroutines = state.goroutines.items;
             printed = state.printed.items;
             ended = state.ended;

@@ -6,7 +6,7 @@ use Rattle.rgo_typed.specs.Views.{term_of, boxed_term_of, stmt_of}
 use Rattle.rgo_lower.specs.declared.builder.Loop.{Loop}
 use Rattle.rgo_lower.specs.Shapes.{stmts_fit}
 use Rattle.rgo_lower.specs.Sizes.{stmt_size}
-use Rattle.rgo_lower.specs.Emitted.{count, made_of, IsEmitted, StmtIsEmitted}
+use Rattle.rgo_lower.specs.Emitted.{builder_size, made_of, IsEmitted, StmtIsEmitted}
 use Rattle.rgo_lower.proofs.Growing.{ok_map}
 use Rattle.rgo_lower.proofs.Labels.{fresh}
 use Rattle.rgo_lower.proofs.Views.{block_is}
@@ -145,7 +145,7 @@ lower_stmts-lower_stmt-requires t c =
     let is : x ≡ get_or xs i x = subst (λ z. x ≡ get_or z i x) same c.stmt-item.is in
     let down = lighter xs i x is lt in
     let more = next_size xs i x lt is in
-    let small : count (made_of c.loop-stmt.b) + stmt_size (stmt_of x) < 2 ^ 32 =
+    let small : builder_size (made_of c.loop-stmt.b) + stmt_size (stmt_of x) < 2 ^ 32 =
     omega (arith, more, c.loop-stmt.invariant.small) in
     let fits = (next_fits (length c.loop-stmt.b.slots.items) (is_some c.args.innermost) xs i x lt is c.loop-stmt.invariant.shape).0 in
     search (rules, down, small, fits)

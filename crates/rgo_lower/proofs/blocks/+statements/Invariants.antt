@@ -1,7 +1,7 @@
 use Rattle.std.proofs.Common.{◌≡◌, ◌+◌, ◌<◌, ◌^◌, suc, true, is_some, length, drop, map}
 use Rattle.rgo_typed.specs.Tree.{stmts_of}
 use Rattle.rgo_typed.specs.Views.{stmt_of}
-use Rattle.rgo_lower.specs.Emitted.{BuilderParts, count, made_of, StmtsAreEmitted}
+use Rattle.rgo_lower.specs.Emitted.{BuilderParts, builder_size, made_of, StmtsAreEmitted}
 use Rattle.rgo_lower.specs.Shapes.{stmts_fit}
 use Rattle.rgo_lower.specs.Sizes.{stmts_size}
 use Rattle.rgo_lower.proofs.Weights.{weight, weights}
@@ -10,7 +10,7 @@ use Rattle.rgo_lower.proofs.blocks.+statements.Given as goal
 -- what emits the rest from here emits all from the beginning
 abbrev pub invariant-lower_stmts-loop-stmt : goal.invariant-lower_stmts-loop-stmt
 invariant-lower_stmts-loop-stmt l = record {
-  small : count (made_of l.b) + stmts_size (stmts_of (map stmt_of (drop l.stmt-index l.stmts.items))) < 2 ^ 32;
+  small : builder_size (made_of l.b) + stmts_size (stmts_of (map stmt_of (drop l.stmt-index l.stmts.items))) < 2 ^ 32;
   shape :
       stmts_fit (length l.b.slots.items) (is_some l.innermost)
       (stmts_of (map stmt_of (drop l.stmt-index l.stmts.items))) ≡ true;

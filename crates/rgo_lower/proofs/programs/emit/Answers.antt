@@ -1,5 +1,5 @@
 use Rattle.std.proofs.Common.{arith, ◌≡◌, ◌<◌, ◌≤◌, [], ◌∷◌, length, get_or, map, refl, sym, ◌∙◌, subst, append-nil}
-use Rattle.rgo_typed.specs.Views.{function_of, typed_of}
+use Rattle.rgo_typed.specs.Views.{typed_function_of, typed_of}
 use Rattle.rgo_wellformed.specs.WellFormed.{declared_by}
 use Rattle.rgo_lower.specs.Lowered.{AreLowered}
 use Rattle.rgo_lower.proofs.Growing.{one_more_before}
@@ -40,7 +40,7 @@ lower_function-requires-clause-shape c =
     let well =
     well_function program xs i x c.requires.well refl (subst (λ z. i < length z) same c.loop-function-test.true)
     (subst (λ z. x ≡ get_or z i x) same c.function-item.is) in
-    function_fits (declared_by program) (small_program program c.requires.size) (function_of x) well
+    function_fits (declared_by program) (small_program program c.requires.size) (typed_function_of x) well
 
 pub loop-function-preserved : goal.loop-function-preserved
 loop-function-preserved c =
@@ -56,9 +56,9 @@ loop-function-preserved c =
     let lowered =
     c.in_ok-lower_function.ensures (declared_by program) program.functions refl
     (well_function program xs i x c.requires.well refl lt is) in
-    subst (λ z. AreLowered (map function_of xs) (map function_of xs) z)
+    subst (λ z. AreLowered (map typed_function_of xs) (map typed_function_of xs) z)
     (one_more_before c.loop-function.functions.items c.push.new.self.items rest f c.in_ok-push.ensures.items)
-    (c.loop-function.invariant (f ∷ rest) (next_lowered (map function_of xs) xs i x f rest lt is lowered h))
+    (c.loop-function.invariant (f ∷ rest) (next_lowered (map typed_function_of xs) xs i x f rest lt is lowered h))
 
 pub returns : goal.returns
 returns c =
@@ -68,8 +68,8 @@ returns c =
     let same : c.deref-function-items.result.now ≡ xs = c.deref-function-items.ensures.value in
     let done =
     c.loop-function.invariant []
-    (end_lowered (map function_of xs) xs i (subst (λ z. length z ≤ i) same c.loop-function-test.false)) in
+    (end_lowered (map typed_function_of xs) xs i (subst (λ z. length z ≤ i) same c.loop-function-test.false)) in
     program_is program c.new-2.result c.in_ok-structs.structs c.in_ok-variables.variables c.new.result c.new-2.ensures
     (c.in_ok-structs.ensures ∙ c.items.ensures) (c.in_ok-variables.ensures ∙ c.items-2.ensures)
-    (subst (λ z. AreLowered (map function_of xs) (map function_of xs) z)
+    (subst (λ z. AreLowered (map typed_function_of xs) (map typed_function_of xs) z)
     (append-nil c.loop-function.functions.items ∙ sym c.new.ensures) done)

@@ -1,5 +1,5 @@
 use Rattle.std.proofs.Common.{◌≡◌, ◌-◌, ◌≤◌, ◌^◌, min, max, drop, map}
-use Rattle.rgo_typed.specs.Views.{function_of}
+use Rattle.rgo_typed.specs.Views.{typed_function_of}
 use Rattle.rgo_lower.specs.Sizes.{largest_of}
 use Rattle.rgo_lower.proofs.sizes.largest_of.Given as goal
 
@@ -8,6 +8,6 @@ abbrev pub invariant-loop-function : goal.invariant-loop-function
 invariant-loop-function l = record {
   fits : l.largest ≤ 2 ^ 64 - 1;
   all :
-      min (max l.largest (largest_of (map function_of (drop l.function-index l.functions.items)))) (2 ^ 64 - 1)
-      ≡ min (largest_of (map function_of l.functions.items)) (2 ^ 64 - 1);
+      min (max l.largest (largest_of (map typed_function_of (drop l.function-index l.functions.items)))) (2 ^ 64 - 1)
+      ≡ min (largest_of (map typed_function_of l.functions.items)) (2 ^ 64 - 1);
 }

@@ -2,7 +2,7 @@ use Rattle.std.proofs.Common.{◌≡◌, ◌+◌, ◌++◌, ◌&&◌, true, [], 
 use Rattle.rgo_typed.specs.Tree.{Change, terms_of}
 use Rattle.rgo_typed.specs.Views.{term_of}
 use Rattle.rgo_tac.specs.Code.{Do}
-use Rattle.rgo_lower.specs.Shapes.{is_strict, returns_value, has_effect, how_many, term_fits, terms_fit}
+use Rattle.rgo_lower.specs.Shapes.{is_strict, returns_value, returns_nothing, how_many, term_fits, terms_fit}
 use Rattle.rgo_lower.specs.Emitted.{made_of, OpIsAdded, ValueIsAdded, always, acts}
 use Rattle.rgo_lower.proofs.Growing.{ok_map}
 use Rattle.rgo_lower.proofs.StmtParts.{update_emitted}
@@ -20,14 +20,14 @@ act-requires c =
     let is : c.deref-2.result.now ≡ ds ++ y ∷ [] = c.deref-2.ensures.value ∙ c.in_ok-push.ensures.items in
     let values = c.in_ok-from.ensures.values in
     let one_more : length (ds ++ y ∷ []) ≡ n + 1 = omega (arith, length-append ds (y ∷ []), values) in
-    let write = has_effect change.write (n + 1) in
+    let write = returns_nothing change.write (n + 1) in
     let compute = is_strict change.op && write in
     let value = term_fits (term_of change.value.now) && compute in
     let read = returns_value change.read n && value in
     let shape = sides (terms_fit operands) read c.requires.shape in
     let after_read = sides (returns_value change.read n) value shape.1 in
     let after_value = sides (term_fits (term_of change.value.now)) compute after_read.1 in
-    subst (λ k. has_effect change.write k ≡ true) (sym (ap length is ∙ one_more))
+    subst (λ k. returns_nothing change.write k ≡ true) (sym (ap length is ∙ one_more))
     (sides (is_strict change.op) write after_value.1).1
 
 pub returns : goal.returns

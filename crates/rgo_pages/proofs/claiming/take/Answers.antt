@@ -1,13 +1,13 @@
 use Rattle.std.proofs.Common.{◌+◌, subst, sym}
 use Rattle.rgo_core.specs.Rule.declared.accesses.Kind.TheVariants.{ClaimPage}
 use Rattle.rgo_core.specs.Memory.Words.{state_at}
-use Rattle.rgo_core.specs.Opening.{first_of}
-use Rattle.rgo_core.specs.Plans.{setup_of}
+use Rattle.rgo_core.specs.runs.Opening.{first_of}
+use Rattle.rgo_core.specs.runs.Plans.{setup_of}
 use Rattle.rgo_core.specs.Records.{Record, accesses}
 use Rattle.rgo_core_steps.specs.Making.{IsCalm, NeedsPage}
-use Rattle.rgo_core_steps.specs.Pages.{takes_page, tried_page}
+use Rattle.rgo_core_steps.specs.Pages.{claims_or_reserves, tried_page}
 use Rattle.rgo_core_steps.specs.Seats.{mine, settled}
-use Rattle.rgo_core_steps.proofs.Searching.{took_start}
+use Rattle.rgo_core_steps.proofs.searching.Exchanges.{took_start}
 use Rattle.rgo_pages.proofs.Trying.{missing_calm, missing_needs, page_taken, page_tried, then_above, then_below}
 use Rattle.rgo_pages.proofs.claiming.take.Goals as goal
 
@@ -22,7 +22,7 @@ returns-then-claim-eq0-clause-taken g c =
     let low = c.beginning-start.ensures.inside in
     let w = c.claim.new.seat.me in (
       low,
-      took_start accesses (first_of T.code) ClaimPage (state_at z) tried_page (settled T q m) z.pages p low (s + 1) (λ d. takes_page T d p s) m w
+      took_start accesses (first_of T.code) ClaimPage (state_at z) tried_page (settled T q m) z.pages p low (s + 1) (λ d. claims_or_reserves T d p s) m w
           (page_taken T z s q m p c.claim.result w c.requires.settles c.claim.ensures.leaves c.if-claim-eq0.true),
     )
 

@@ -1,13 +1,13 @@
 use Rattle.std.proofs.Common.{◌+◌, ◌<◌, ◌≤◌, rules, subst, sym, arith}
 use Rattle.rgo_core.specs.Rule.declared.accesses.Kind.TheVariants.{ClaimPage}
 use Rattle.rgo_core.specs.Memory.Words.{state_at}
-use Rattle.rgo_core.specs.Opening.{first_of}
-use Rattle.rgo_core.specs.Plans.{setup_of}
+use Rattle.rgo_core.specs.runs.Opening.{first_of}
+use Rattle.rgo_core.specs.runs.Plans.{setup_of}
 use Rattle.rgo_core.specs.Records.{Record, accesses}
 use Rattle.rgo_core_steps.specs.Making.{IsCalm, NeedsPage}
-use Rattle.rgo_core_steps.specs.Pages.{takes_page, tried_page}
+use Rattle.rgo_core_steps.specs.Pages.{claims_or_reserves, tried_page}
 use Rattle.rgo_core_steps.specs.Seats.{mine}
-use Rattle.rgo_core_steps.proofs.Searching.{took_here, tried_begin, tried_next}
+use Rattle.rgo_core_steps.proofs.searching.Exchanges.{took_here, tried_begin, tried_next}
 use Rattle.rgo_pages.proofs.Trying.{missing_calm, missing_needs, page_taken, page_tried}
 use Rattle.rgo_pages.proofs.claiming.try_pages.Goals as goal
 
@@ -37,7 +37,7 @@ returns-then-claim-eq0-clause-tried g c =
       above,
       below,
       took_here accesses (first_of T.code) ClaimPage (state_at z) tried_page (mine T m) c.args.first p c.args.end (s + 1) above m v w
-          c.loop-page.invariant.tried (λ d. takes_page T d p s)
+          c.loop-page.invariant.tried (λ d. claims_or_reserves T d p s)
           (page_taken T z s 0 v p c.claim.result w tt c.claim.ensures.leaves c.if-claim-eq0.true),
     )
 

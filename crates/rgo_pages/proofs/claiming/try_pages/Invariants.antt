@@ -1,8 +1,8 @@
 use Rattle.std.proofs.Common.{◌≡◌, ◌+◌, ◌-◌}
 use Rattle.rgo_core.specs.Rule.declared.accesses.Kind.TheVariants.{ClaimPage}
 use Rattle.rgo_core.specs.Memory.Words.{state_at}
-use Rattle.rgo_core.specs.Opening.{first_of}
-use Rattle.rgo_core.specs.Plans.{setup_of}
+use Rattle.rgo_core.specs.runs.Opening.{first_of}
+use Rattle.rgo_core.specs.runs.Plans.{setup_of}
 use Rattle.rgo_core.specs.Records.{accesses}
 use Rattle.rgo_core_steps.specs.Pages.{tried_page}
 use Rattle.rgo_core_steps.specs.Searches.{Tried, upward}

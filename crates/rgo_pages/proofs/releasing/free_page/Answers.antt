@@ -1,4 +1,4 @@
-use Rattle.rgo_core.specs.Plans.{setup_of}
+use Rattle.rgo_core.specs.runs.Plans.{setup_of}
 use Rattle.rgo_pages.proofs.Chaining.{one_freed}
 use Rattle.rgo_pages.proofs.releasing.free_page.Goals as goal
 

@@ -1,6 +1,6 @@
 use Rattle.std.proofs.Common.{◌≡◌, ◌+◌, ◌-◌, rules, ap, subst, sym, ◌∙◌, arith}
 use Rattle.rgo_core.specs.Memory.Records.{Giving}
-use Rattle.rgo_core.specs.Plans.{setup_of}
+use Rattle.rgo_core.specs.runs.Plans.{setup_of}
 use Rattle.rgo_core.specs.Records.{Record}
 use Rattle.rgo_core_steps.specs.Seats.{mine}
 use Rattle.rgo_pages.specs.Releasing.{ChainGiven}

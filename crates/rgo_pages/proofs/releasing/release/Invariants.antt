@@ -1,5 +1,5 @@
 use Rattle.std.proofs.Common.{◌≡◌, ◌+◌, ◌*◌, ◌-◌, ◌≤◌}
-use Rattle.rgo_core.specs.Plans.{setup_of}
+use Rattle.rgo_core.specs.runs.Plans.{setup_of}
 use Rattle.rgo_core_steps.specs.Seats.{HasPossible, mine}
 use Rattle.rgo_pages.specs.Releasing.{ChainGiven}
 use Rattle.rgo_pages.proofs.releasing.release.Given as goal

@@ -2,7 +2,7 @@ use Rattle.std.proofs.Common.{◌≡◌, ◌+◌, ◌*◌, ◌-◌, [], false, m
 use Rattle.rgo_ast.specs.Views.{expr_of, element_of}
 use Rattle.rgo_lexer.specs.declared.terminals.Terminal.TheVariants.{Comma, CloseBrace}
 use Rattle.rgo_grammar.specs.reading.Read.{several}
-use Rattle.rgo_grammar.specs.reading.Expressions.{expr, exprs, element}
+use Rattle.rgo_grammar.specs.reading.Expressions.{expr, exprs, keyed_element}
 use Rattle.rgo_parser.proofs.expressions.+expressions.Given as goal
 
 abbrev pub decreases-expr : goal.decreases-expr
@@ -36,5 +36,5 @@ invariant-exprs-loop-turn l =
 
 abbrev pub invariant-elements-loop-turn : goal.invariant-elements-loop-turn
 invariant-elements-loop-turn l =
-    several Comma CloseBrace (element (expr false (l.turns - 1) 1)) l.turns [] l.fn.reader
-    ≡ several Comma CloseBrace (element (expr false (l.turns - 1) 1)) (l.turns - l.turn) (map element_of l.found.items) l.reader
+    several Comma CloseBrace (keyed_element (expr false (l.turns - 1) 1)) l.turns [] l.fn.reader
+    ≡ several Comma CloseBrace (keyed_element (expr false (l.turns - 1) 1)) (l.turns - l.turn) (map element_of l.found.items) l.reader

@@ -2,7 +2,7 @@ use Rattle.std.proofs.Common.{[], ◌∙◌, subst}
 use Rattle.rgo_code.specs.Erasure.{erased}
 use Rattle.rgo_round_robin.specs.Runs.{RunsTo}
 use Rattle.rgo_tac.specs.Tac.{tac, tac_start}
-use Rattle.rgo_recording.specs.Recorders.{view_of}
+use Rattle.rgo_recording.specs.Recorders.{recorder_view}
 use Rattle.rgo_recording.proofs.Ended.{records}
 use Rattle.rgo_recording.proofs.Leading.{begins}
 use Rattle.rgo_recording.proofs.Starting.{starts_ready}
@@ -27,7 +27,7 @@ returns-clause-records g c =
     let new = g.K.Sink.contents call.new.out in
     records code c.args.sizes c.args.limits old new call.new.run call.result
     (call.ensures.fixed ∙ (λ i. (starts.code_is i, starts.sizes_are i)))
-    (subst (λ x. RunsTo (view_of call.new.run) (tac (erased x)) c.args.limits [] start call.result old new) starts.code_is
+    (subst (λ x. RunsTo (recorder_view call.new.run) (tac (erased x)) c.args.limits [] start call.result old new) starts.code_is
     (call.ensures.runs [] start
     (begins code c.args.sizes (record { world = c.in_ok-world.world; notes = c.new-2.result }) starts c.new-2.ensures)
     (starts_ready c.args.limits (erased code))))

@@ -7,7 +7,7 @@ use Rattle.rgo_tac.specs.Tac.{TacState}
 use Rattle.rgo_code.specs.Code.{Code}
 use Rattle.std.specs.Prelude.{IfSome}
 use Rattle.std.proofs.Common.{Option}
-use Rattle.rgo_region_machine.specs.Examples.{long_slice, sizes_of, taking}
+use Rattle.rgo_region_machine.specs.Examples.{long_slice, small_sizes, taking_pages}
 use Rattle.rgo_region_machine.specs.Machine.{plain_step, region_run}
 use Rattle.rgo_region_machine.specs.Objects.{data_pages, most_data_pages, new_object}
 use Rattle.rgo_region_machine.specs.Room.{LacksIn}
@@ -67,6 +67,6 @@ returns c = record {
   lacks_pages = (0, refl, two);
   lacks_size = (0, _, refl, (_, refl, omega arith));
   has_size =
-      no_lack_after (long_slice 224 223 222) (sizes_of 99 1) (region_run (long_slice 224 223 222) 16 (taking 0)) 14 refl
+      no_lack_after (long_slice 224 223 222) (small_sizes 99 1) (region_run (long_slice 224 223 222) 16 (taking_pages 0)) 14 refl
       (omega arith) (λ g. refl);
 }

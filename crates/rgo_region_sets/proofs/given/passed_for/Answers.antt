@@ -1,13 +1,13 @@
 use Rattle.std.proofs.Common.{◌↔◌, ◌∙◌, ℕ, List, [], sym, subst, arith}
 use Rattle.std.specs.List.{Contains}
-use Rattle.rgo_region_sets.specs.Asked.{IsPassedFor}
+use Rattle.rgo_region_sets.specs.Asked.{IsNamePassedFor}
 use Rattle.rgo_region_sets.proofs.Members.{for_none, for_more, for_same, for_all, set_with}
 use Rattle.rgo_region_sets.proofs.given.passed_for.Goals as goal
 use Rattle.rgo_region_sets.proofs.given.passed_for.Goals.{in-Some+in_ok-push_if, in_default}
 
 pub loop-at-init : goal.loop-at-init
 loop-at-init c =
-    subst (λ (l : List ℕ). (k : ℕ) → Contains l k ↔ IsPassedFor c.args.regions.now c.args.result_class [] k)
+    subst (λ (l : List ℕ). (k : ℕ) → Contains l k ↔ IsNamePassedFor c.args.regions.now c.args.result_class [] k)
     (sym c.new-names.ensures.items) (for_none c.args.regions.now c.args.result_class)
 
 pub loop-at-preserved : goal.loop-at-preserved
@@ -28,4 +28,4 @@ returns c =
     let all = for_all c.args.regions.now c.args.result_class c.args.passes.now c.loop-at.at c.loop-at.names.items
     (omega (arith, c.loop-at-test.false)) c.loop-at.invariant in
     set_with c.set_of.result.items (Contains c.loop-at.names.items)
-    (IsPassedFor c.args.regions.now c.args.result_class c.args.passes.now) c.set_of.ensures all
+    (IsNamePassedFor c.args.regions.now c.args.result_class c.args.passes.now) c.set_of.ensures all

@@ -2,7 +2,7 @@ use Rattle.std.proofs.Common.{◌≡◌, ◌+◌, ◌++◌, ◌∷◌, [], lengt
 use Rattle.std.proofs.Common.{◌∙◌, append-nil, arith}
 use Rattle.std.proofs.lemmas.List.{take_more, drop_more, take_all, drop_all}
 use Rattle.rgo_round_robin.specs.Playing.{PlaysAll}
-use Rattle.rgo_round_robin.specs.Points.{listed, point_of}
+use Rattle.rgo_round_robin.specs.Points.{listed_at_channel, point_of}
 use Rattle.rgo_round_robin.specs.Sleeping.{Watches}
 use Rattle.rgo_round_robin.proofs.Given.{writes_none, writes_on, writes_whole}
 use Rattle.rgo_round_robin.proofs.Left.{itself, at_given, at_later}
@@ -26,7 +26,7 @@ loop-i-init g c =
             (record (point_of s d) { ready = c.replace-order.new.dest.items }) (g.K.Sink.contents c.args.out.now) refl
             refl ready.silent;
         watches = watches_lists machine c.args.limits s d.ready.items (order ++ c.replace-order.new.dest.items)
-            (listed d.waiting) (listed d.waiting) whole (λ n. refl);
+            (listed_at_channel d.waiting) (listed_at_channel d.waiting) whole (λ n. refl);
       };
       fixed = refl;
       sink = writes_none ⊥ _ _ _ (λ x. x);
@@ -107,5 +107,5 @@ returns-clause-plays g c = λ machine given s at ready.
       plays = subst (λ l. PlaysAll machine c.args.limits l (point_of s d) (point_of now.state c.loop-i.driver)
           now.bytes (g.K.Sink.contents c.args.out.now) (g.K.Sink.contents c.loop-i.out)) all now.plays;
       watches = λ watches. subst (λ l. Watches machine now.state (l ++ c.loop-i.driver.ready.items)
-          (listed c.loop-i.driver.waiting)) none (now.watches watches);
+          (listed_at_channel c.loop-i.driver.waiting)) none (now.watches watches);
     }

@@ -1,7 +1,7 @@
 use Rattle.std.proofs.Common.{false, arith, subst, sym, ◌∙◌}
 use Rattle.rgo_round_robin.specs.Taking.{WaitsTo}
 use Rattle.rgo_round_robin.proofs.Keepers.{sleeps_forever}
-use Rattle.rgo_round_robin.specs.Points.{listed}
+use Rattle.rgo_round_robin.specs.Points.{listed_at_channel}
 use Rattle.rgo_round_robin.proofs.Taken.{advances_still, advances_asleep, advances_by, stops_within}
 use Rattle.rgo_round_robin.proofs.turns.rest.Goals as goal
 
@@ -9,7 +9,7 @@ pub returns-in_default-clause-went : goal.returns-in_default-clause-went
 returns-in_default-clause-went g c = λ machine given s at on still.
     let d = c.args.driver.now in
     advances_still (g.R.Running.view c.args.run.now) machine c.args.limits c.args.g given s d c.args.left at on
-    (sleeps_forever machine c.args.limits c.args.g s (listed d.waiting) still
+    (sleeps_forever machine c.args.limits c.args.g s (listed_at_channel d.waiting) still
     (sym (c.channel_of.ensures machine given s at) ∙ c.in_default.is))
 
 pub returns-in-Ok-true-clause-went : goal.returns-in-Ok-true-clause-went

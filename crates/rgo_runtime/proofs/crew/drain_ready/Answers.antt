@@ -2,8 +2,8 @@ use Rattle.std.proofs.Common.{◌∙◌, ◌++◌, [], Some, ap, append-nil, ari
 use Rattle.std.proofs.lemmas.List.Elements.{All-nil, All-pop, All-push, All-same}
 use Rattle.rgo_runtime.specs.Boxes.{in_boxes}
 use Rattle.rgo_runtime.specs.Crews.{IsOfCrew, MayTurn, its_goroutine}
-use Rattle.rgo_runtime.proofs.Boxing.{boxes_more}
-use Rattle.rgo_runtime.proofs.CrewPasses.{all_taken, may_turn, nothing_left, taken_more}
+use Rattle.rgo_runtime.proofs.lists.Boxing.{boxes_more}
+use Rattle.rgo_runtime.proofs.passes.Crews.{all_taken, may_turn, nothing_left, taken_more}
 use Rattle.rgo_runtime.proofs.crew.drain_ready.Goals as goal
 
 pub loop-turn-init : goal.loop-turn-init

@@ -1,4 +1,4 @@
-use Rattle.rgo_runtime.proofs.CrewExamples.{whole_crews}
+use Rattle.rgo_runtime.proofs.examples.Crews.{whole_crews}
 use Rattle.rgo_runtime.proofs.crew.examples.Goals as goal
 
 pub returns : goal.returns

@@ -5,8 +5,8 @@ use Rattle.rgo_table_runs.specs.Goroutine.declared.goroutine.Goroutine.{Goroutin
 use Rattle.rgo_runtime.specs.Boxes.{in_boxes}
 use Rattle.rgo_runtime.specs.Crews.{MayTurn}
 use Rattle.rgo_runtime.specs.Turns.{first_turn}
-use Rattle.rgo_runtime.proofs.Boxing.{boxes_more}
-use Rattle.rgo_runtime.proofs.CrewPasses.{all_put, nothing_left, put_more}
+use Rattle.rgo_runtime.proofs.lists.Boxing.{boxes_more}
+use Rattle.rgo_runtime.proofs.passes.Crews.{all_put, nothing_left, put_more}
 use Rattle.rgo_runtime.proofs.crew.refill_ready.Goals as goal
 
 pub loop-goroutine-init : goal.loop-goroutine-init

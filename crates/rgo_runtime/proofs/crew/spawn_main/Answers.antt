@@ -1,6 +1,6 @@
 use Rattle.std.proofs.Common.{◌∙◌, ap, subst, sym}
 use Rattle.rgo_table_runs.specs.Goroutine.Goroutines.{IsOf}
-use Rattle.rgo_runtime.proofs.Keeps.{begins_again}
+use Rattle.rgo_runtime.proofs.crews.Parts.{begins_again}
 use Rattle.rgo_runtime.proofs.crew.spawn_main.Goals as goal
 
 pub retire-requires-clause-of : goal.retire-requires-clause-of

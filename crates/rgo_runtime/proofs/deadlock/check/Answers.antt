@@ -1,8 +1,8 @@
 use Rattle.std.proofs.Common.{◌∙◌}
 use Rattle.rgo_runtime.specs.Boxes.{in_boxes}
 use Rattle.rgo_runtime.specs.Passing.{HasLookedOnce, HasMet, IsTidyIn}
-use Rattle.rgo_runtime.proofs.Passing.{behind_glance, known_by_glance, tidy_looked, tidy_met}
-use Rattle.rgo_runtime.proofs.Sweeps.{zip_keeps}
+use Rattle.rgo_runtime.proofs.passes.Meetings.{behind_glance, known_by_glance, tidy_looked, tidy_met}
+use Rattle.rgo_runtime.proofs.lists.Sweeps.{zip_keeps}
 use Rattle.rgo_runtime.proofs.deadlock.check.Goals as goal
 
 pub look_all-requires-clause-behind : goal.look_all-requires-clause-behind

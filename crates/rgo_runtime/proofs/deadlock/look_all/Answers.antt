@@ -4,9 +4,9 @@ use Rattle.rgo_core.specs.Rule.declared.accesses.Access.{Access}
 use Rattle.rgo_table_runs.specs.Goroutine.Goroutines.{IsOf}
 use Rattle.rgo_runtime.specs.Boxes.{in_boxes}
 use Rattle.rgo_runtime.specs.Passing.{HasLookedOnce, IsBehind, IsKnownBy}
-use Rattle.rgo_runtime.proofs.Boxing.{boxes_set, has_too, in_box}
-use Rattle.rgo_runtime.proofs.Passing.{all_behind_more, all_known_after}
-use Rattle.rgo_runtime.proofs.Sweeps.{all_more, swept_more}
+use Rattle.rgo_runtime.proofs.lists.Boxing.{boxes_set, has_too, in_box}
+use Rattle.rgo_runtime.proofs.passes.Meetings.{all_behind_more, all_known_after}
+use Rattle.rgo_runtime.proofs.lists.Sweeps.{all_more, swept_more}
 use Rattle.rgo_runtime.proofs.deadlock.look_all.Goals as goal
 
 pub look_once-requires-clause-of : goal.look_once-requires-clause-of

@@ -4,7 +4,7 @@ use Rattle.rgo_core.specs.Rule.declared.accesses.Access.{Access}
 use Rattle.rgo_table_runs.specs.Goroutine.Goroutines.{IsOf}
 use Rattle.rgo_runtime.specs.Boxes.{in_boxes}
 use Rattle.rgo_runtime.specs.Passing.{HasLookedOnce, IsBehind, IsKnownBy}
-use Rattle.rgo_runtime.proofs.Sweeps.{Swept}
+use Rattle.rgo_runtime.proofs.lists.Sweeps.{Swept}
 use Rattle.rgo_runtime.proofs.deadlock.look_all.Given as goal
 
 abbrev pub invariant-loop-i : goal.invariant-loop-i

@@ -1,5 +1,5 @@
 use Rattle.std.proofs.Common.{ap}
-use Rattle.rgo_runtime.proofs.Passing.{looks_between, met_by}
+use Rattle.rgo_runtime.proofs.passes.Meetings.{looks_between, met_by}
 use Rattle.rgo_runtime.proofs.deadlock.look_once.Goals as goal
 
 pub returns-clause-looks : goal.returns-clause-looks

@@ -3,9 +3,9 @@ use Rattle.std.proofs.lemmas.List.Elements.{All-set}
 use Rattle.rgo_table_runs.specs.Goroutine.Goroutines.{IsOf}
 use Rattle.rgo_runtime.specs.Boxes.{in_boxes}
 use Rattle.rgo_runtime.specs.Passing.{HasMet, IsBehind, seen_by}
-use Rattle.rgo_runtime.proofs.Boxing.{boxes_set, has_too, in_box}
-use Rattle.rgo_runtime.proofs.Passing.{at_least, met_by, now_behind, still_behind}
-use Rattle.rgo_runtime.proofs.Sweeps.{all_more, swept_more}
+use Rattle.rgo_runtime.proofs.lists.Boxing.{boxes_set, has_too, in_box}
+use Rattle.rgo_runtime.proofs.passes.Meetings.{at_least, met_by, now_behind, still_behind}
+use Rattle.rgo_runtime.proofs.lists.Sweeps.{all_more, swept_more}
 use Rattle.rgo_runtime.proofs.deadlock.meet_all.Goals as goal
 
 pub meet-requires-clause-of : goal.meet-requires-clause-of

@@ -3,7 +3,7 @@ use Rattle.std.specs.List.{All}
 use Rattle.rgo_table_runs.specs.Goroutine.Goroutines.{IsOf}
 use Rattle.rgo_runtime.specs.Boxes.{in_boxes}
 use Rattle.rgo_runtime.specs.Passing.{HasMet, IsBehind}
-use Rattle.rgo_runtime.proofs.Sweeps.{Swept}
+use Rattle.rgo_runtime.proofs.lists.Sweeps.{Swept}
 use Rattle.rgo_runtime.proofs.deadlock.meet_all.Given as goal
 
 abbrev pub invariant-loop-i : goal.invariant-loop-i

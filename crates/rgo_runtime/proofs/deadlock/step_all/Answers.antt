@@ -7,10 +7,10 @@ use Rattle.rgo_table_runs.specs.Goroutine.declared.goroutine.Goroutine.{Goroutin
 use Rattle.rgo_runtime.specs.declared.deadlock.Passed.{Passed}
 use Rattle.rgo_runtime.specs.Boxes.{in_boxes}
 use Rattle.rgo_runtime.specs.Passing.{HasStoodStill, IsBehind, IsKnownBy, IsTidyIn, MayHaveTurned}
-use Rattle.rgo_runtime.proofs.Boxing.{boxes_length, boxes_set, has_too, in_box}
-use Rattle.rgo_runtime.proofs.Passing.{all_behind_more, all_known_after}
-use Rattle.rgo_runtime.proofs.Sweeps.{swept_all, swept_at, swept_more, swept_part, swept_weaker, zip_weaker}
-use Rattle.rgo_runtime.proofs.Turning.{HavePassed, all_still, may_have, may_turn, one_moved, one_passed, still_by, unchanged}
+use Rattle.rgo_runtime.proofs.lists.Boxing.{boxes_length, boxes_set, has_too, in_box}
+use Rattle.rgo_runtime.proofs.passes.Meetings.{all_behind_more, all_known_after}
+use Rattle.rgo_runtime.proofs.lists.Sweeps.{swept_all, swept_at, swept_more, swept_part, swept_weaker, zip_weaker}
+use Rattle.rgo_runtime.proofs.crews.Turning.{HavePassed, all_still, may_have, may_turn, one_moved, one_passed, still_by, unchanged}
 use Rattle.rgo_runtime.proofs.deadlock.step_all.Goals as goal
 
 pub step_once-next-requires-clause-of : goal.step_once-next-requires-clause-of

@@ -2,10 +2,10 @@ use Rattle.std.proofs.Common.{◌≡◌, ◌++◌, List, take}
 use Rattle.std.specs.List.{All}
 use Rattle.rgo_core.specs.Rule.declared.accesses.Access.{Access}
 use Rattle.rgo_table_runs.specs.Goroutine.Goroutines.{IsOf}
-use Rattle.rgo_runtime.proofs.Turning.{HavePassed}
+use Rattle.rgo_runtime.proofs.crews.Turning.{HavePassed}
 use Rattle.rgo_runtime.specs.Boxes.{in_boxes}
 use Rattle.rgo_runtime.specs.Passing.{HasStoodStill, IsBehind, IsKnownBy, IsTidyIn}
-use Rattle.rgo_runtime.proofs.Sweeps.{Swept}
+use Rattle.rgo_runtime.proofs.lists.Sweeps.{Swept}
 use Rattle.rgo_runtime.proofs.deadlock.step_all.Given as goal
 
 abbrev pub invariant-loop-i : goal.invariant-loop-i

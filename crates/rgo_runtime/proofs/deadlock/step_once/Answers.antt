@@ -1,8 +1,8 @@
 use Rattle.std.proofs.Common.{◌≡◌, ◌<◌, ◌≤◌, ◌^◌, ◌∙◌, ap, arith}
 use Rattle.rgo_core.specs.Records.{steps_of}
-use Rattle.rgo_table_runs.specs.Goroutine.Goroutines.{record_of}
-use Rattle.rgo_runtime.proofs.Passing.{met_by}
-use Rattle.rgo_runtime.proofs.Turning.{no_turn, turns_between}
+use Rattle.rgo_table_runs.specs.Goroutine.Goroutines.{record_of_goroutine}
+use Rattle.rgo_runtime.proofs.passes.Meetings.{met_by}
+use Rattle.rgo_runtime.proofs.crews.Turning.{no_turn, turns_between}
 use Rattle.rgo_runtime.proofs.deadlock.step_once.Goals as goal
 
 pub returns-clause-turns : goal.returns-clause-turns
@@ -16,8 +16,8 @@ returns-clause-turns g c =
     let between = c.meet.new.seat.me.0.seen in
     let after = c.meet-2.new.seat.me.0.seen in
     let counted = c.tally.ensures run c.requires.of in
-    let same : c.behind-goroutine.inside.steps ≡ steps_of (record_of run.setup a) = ap (λ s. s.steps) (c.behind-goroutine.view_is ∙ counted) in
-    let few : steps_of (record_of run.setup a) ≤ 2 ^ 42 = omega (arith, same, c.if-tally-gt-MOST_STEPS.false) in
+    let same : c.behind-goroutine.inside.steps ≡ steps_of (record_of_goroutine run.setup a) = ap (λ s. s.steps) (c.behind-goroutine.view_is ∙ counted) in
+    let few : steps_of (record_of_goroutine run.setup a) ≤ 2 ^ 42 = omega (arith, same, c.if-tally-gt-MOST_STEPS.false) in
     turns_between run a b x d before between after c.turn-turned.result
     (record {
       few = few;
@@ -37,6 +37,6 @@ returns-then-tally-gt-MOST_STEPS-clause-turns g c =
     let run = c.args.run.now in
     let go = c.args.goroutine.now in
     let counted = c.tally.ensures run c.requires.of in
-    let same : c.behind-goroutine.inside.steps ≡ steps_of (record_of run.setup go) = ap (λ s. s.steps) (c.behind-goroutine.view_is ∙ counted) in
-    let many : 2 ^ 42 < steps_of (record_of run.setup go) = omega (arith, same, c.if-tally-gt-MOST_STEPS.true) in
+    let same : c.behind-goroutine.inside.steps ≡ steps_of (record_of_goroutine run.setup go) = ap (λ s. s.steps) (c.behind-goroutine.view_is ∙ counted) in
+    let many : 2 ^ 42 < steps_of (record_of_goroutine run.setup go) = omega (arith, same, c.if-tally-gt-MOST_STEPS.true) in
     no_turn run c.args.seat.now.me.0.seen go many c.requires.behind

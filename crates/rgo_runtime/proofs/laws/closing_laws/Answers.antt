@@ -1,4 +1,4 @@
-use Rattle.rgo_runtime.proofs.Closing.{closes_anyway, closes_whole}
+use Rattle.rgo_runtime.proofs.ending.Closing.{closes_anyway, closes_whole}
 use Rattle.rgo_runtime.proofs.laws.closing_laws.Goals as goal
 
 pub returns-clause-anyway : goal.returns-clause-anyway

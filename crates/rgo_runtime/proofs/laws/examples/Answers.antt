@@ -1,4 +1,4 @@
-use Rattle.rgo_runtime.proofs.ClosingExamples.{closing_examples}
+use Rattle.rgo_runtime.proofs.examples.Closing.{closing_examples}
 use Rattle.rgo_runtime.proofs.laws.examples.Goals as goal
 
 pub returns : goal.returns

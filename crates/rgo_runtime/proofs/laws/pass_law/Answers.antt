@@ -1,4 +1,4 @@
-use Rattle.rgo_runtime.proofs.Telling.{pass_tells}
+use Rattle.rgo_runtime.proofs.ending.Telling.{pass_tells}
 use Rattle.rgo_runtime.proofs.laws.pass_law.Goals as goal
 
 pub returns : goal.returns

@@ -1,7 +1,7 @@
 use Rattle.std.proofs.Common.{◌∙◌, ◌++◌, ◌∷◌, [], ap, sym}
 use Rattle.std.proofs.lemmas.List.Sorted.{IsPermutation-to_front}
 use Rattle.rgo_runtime.specs.Parking.{pairs_of}
-use Rattle.rgo_runtime.proofs.Groups.{grown, kept}
+use Rattle.rgo_runtime.proofs.lists.Groups.{grown, kept}
 use Rattle.rgo_runtime.proofs.parking.add_to_group.Goals as goal
 
 pub returns-in-Ok-clause-parked : goal.returns-in-Ok-clause-parked

@@ -2,7 +2,7 @@ use Rattle.std.proofs.Common.{◌≡◌, ◌∙◌, ◌++◌, ◌∷◌, [], ap,
 use Rattle.indexmap.proofs.CallerLemmas.{insert_entry-new}
 use Rattle.indexmap.specs.IndexMap.{get, insert_entry}
 use Rattle.rgo_runtime.specs.Parking.{pairs_of}
-use Rattle.rgo_runtime.proofs.Groups.{begun}
+use Rattle.rgo_runtime.proofs.lists.Groups.{begun}
 use Rattle.rgo_runtime.proofs.parking.new_group.Goals as goal
 
 pub returns-clause-parked : goal.returns-clause-parked

@@ -1,6 +1,6 @@
 use Rattle.std.proofs.Common.{◌≡◌, ◌∙◌, ◌+◌, ◌++◌, ap, arith, length, rules, vec_len}
 use Rattle.rgo_runtime.specs.Parking.{pairs_of}
-use Rattle.rgo_runtime.proofs.Groups.{length_last, moved_more}
+use Rattle.rgo_runtime.proofs.lists.Groups.{length_last, moved_more}
 use Rattle.rgo_runtime.proofs.parking.take_all_groups.Goals as goal
 
 pub unwrap-requires : goal.unwrap-requires

@@ -1,6 +1,6 @@
 use Rattle.std.proofs.Common.{◌≤◌, ◌-◌, length, vec_capacity, vec_len}
 use Rattle.rgo_runtime.specs.Parking.{pairs_of}
-use Rattle.rgo_runtime.proofs.Groups.{Moved}
+use Rattle.rgo_runtime.proofs.lists.Groups.{Moved}
 use Rattle.rgo_runtime.proofs.parking.take_all_groups.Given as goal
 
 -- what has come, and what is still in the groups

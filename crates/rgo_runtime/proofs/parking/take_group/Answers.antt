@@ -1,6 +1,6 @@
 use Rattle.std.proofs.Common.{◌∙◌, ap, append-nil, sym, length}
 use Rattle.rgo_runtime.specs.Parking.{pairs_of}
-use Rattle.rgo_runtime.proofs.Groups.{emptied, found_at, kept, none_at, none_elsewhere}
+use Rattle.rgo_runtime.proofs.lists.Groups.{emptied, found_at, kept, none_at, none_elsewhere}
 use Rattle.rgo_runtime.proofs.parking.take_group.Goals as goal
 
 pub returns-in-Ok-clause-woken : goal.returns-in-Ok-clause-woken

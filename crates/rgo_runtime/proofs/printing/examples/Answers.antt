@@ -1,4 +1,4 @@
-use Rattle.rgo_runtime.proofs.Examples.{printing}
+use Rattle.rgo_runtime.proofs.examples.Parking.{printing}
 use Rattle.rgo_runtime.proofs.printing.examples.Goals as goal
 
 pub returns : goal.returns

@@ -1,5 +1,5 @@
 use Rattle.std.proofs.Common.{◌≡◌, ◌+◌, ◌<◌, ◌∙◌, ◌∷◌, arith, drop, length}
-use Rattle.rgo_runtime.proofs.Walks.{drop-at, drop-swap, pieces_more, take-swap, walk_fault, walk_given, walk_has, walk_kept}
+use Rattle.rgo_runtime.proofs.lists.Walks.{drop-at, drop-swap, pieces_more, take-swap, walk_fault, walk_given, walk_has, walk_kept}
 use Rattle.rgo_runtime.proofs.printing.write_in_order.Goals.{then-from-next+in-Ok, else-from-next}
 use Rattle.rgo_runtime.proofs.printing.write_in_order.Goals as goal
 

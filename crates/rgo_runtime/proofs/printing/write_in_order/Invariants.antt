@@ -1,7 +1,7 @@
 use Rattle.std.proofs.Common.{◌≡◌, ◌≤◌, drop, take, vec_len}
 use Rattle.rgo_outside.specs.Pieces.{AddsOnly}
 use Rattle.rgo_runtime.specs.Printing.{IsPieceOf}
-use Rattle.rgo_runtime.proofs.Walks.{Walk}
+use Rattle.rgo_runtime.proofs.lists.Walks.{Walk}
 use Rattle.rgo_runtime.proofs.printing.write_in_order.Given as goal
 
 -- how far the walk is; no write has failed

@@ -1,4 +1,4 @@
-use Rattle.rgo_runtime.proofs.CrewExamples.{crews}
+use Rattle.rgo_runtime.proofs.examples.Crews.{crews}
 use Rattle.rgo_runtime.proofs.retiring.examples.Goals as goal
 
 pub returns : goal.returns

@@ -1,4 +1,4 @@
-use Rattle.rgo_runtime.proofs.Gone.{leaving}
+use Rattle.rgo_runtime.proofs.leaving.All.{leaving}
 use Rattle.rgo_runtime.proofs.retiring.leaving_examples.Goals as goal
 
 pub returns : goal.returns

@@ -4,8 +4,8 @@ use Rattle.rgo_core.specs.Memory.Words.{clock_at}
 use Rattle.rgo_core.specs.Records.{ClockRec}
 use Rattle.rgo_core_steps.specs.Seats.{IsSeatOf}
 use Rattle.rgo_runtime.specs.Crews.{IsNewborn}
-use Rattle.rgo_runtime.proofs.Gone.{both_left, but_last, last_gone, last_one, nobody_leaves, none_left}
-use Rattle.rgo_runtime.proofs.Groups.{nothing_in}
+use Rattle.rgo_runtime.proofs.leaving.All.{both_left, but_last, last_gone, last_one, nobody_leaves, none_left}
+use Rattle.rgo_runtime.proofs.lists.Groups.{nothing_in}
 use Rattle.rgo_runtime.proofs.retiring.retire_newborns.Goals as goal
 
 pub loop-goroutine-init : goal.loop-goroutine-init

@@ -5,14 +5,14 @@ use Rattle.atomic_table.specs.Seated.{TableId}
 use Rattle.rgo_core.specs.Memory.Words.{clock_at}
 use Rattle.rgo_core_steps.specs.Seats.{IsSeatOf}
 use Rattle.rgo_runtime.specs.Crews.{IsOfCrew, its_goroutine}
-use Rattle.rgo_runtime.specs.Parking.{values_of}
-use Rattle.rgo_runtime.proofs.Gone.{both_left, but_last, group_gone, last_ones, nobody_leaves, none_parked}
+use Rattle.rgo_runtime.specs.Parking.{parked_values}
+use Rattle.rgo_runtime.proofs.leaving.All.{both_left, but_last, group_gone, last_ones, nobody_leaves, none_parked}
 use Rattle.rgo_runtime.proofs.retiring.retire_parked.Goals as goal
 
 pub loop-group-init : goal.loop-group-init
 loop-group-init c = record {
   gone = [];
-  are = IsPermutation-refl (map its_goroutine (values_of c.args.parked));
+  are = IsPermutation-refl (map its_goroutine (parked_values c.args.parked));
   all = c.requires.all;
   left = nobody_leaves c.args.run.now.setup c.args.left.now;
 }
@@ -21,7 +21,7 @@ pub retire_turns-requires-clause-all : goal.retire_turns-requires-clause-all
 retire_turns-requires-clause-all c =
     let n = length c.args.left.now.shares in
     subst (λ k. All (IsOfCrew c.args.run.now k) c.in-Some.group.items) (sym c.loop-group.invariant.left.places)
-    (last_ones (IsOfCrew c.args.run.now n) (values_of c.loop-group.parked) (values_of c.pop.new.self) c.in-Some.group.items c.in-Some.ensures.rest
+    (last_ones (IsOfCrew c.args.run.now n) (parked_values c.loop-group.parked) (parked_values c.pop.new.self) c.in-Some.group.items c.in-Some.ensures.rest
     c.loop-group.invariant.all)
 
 pub retire_turns-requires-clause-own : goal.retire_turns-requires-clause-own
@@ -30,14 +30,14 @@ retire_turns-requires-clause-own c =
 
 pub loop-group-preserved : goal.loop-group-preserved
 loop-group-preserved c =
-    let before = values_of c.loop-group.parked in
-    let rest = values_of c.pop.new.self in
+    let before = parked_values c.loop-group.parked in
+    let rest = parked_values c.pop.new.self in
     let group = c.in-Some.group.items in
     let gone = c.loop-group.invariant.gone in
     let gos = map its_goroutine group in
     record {
       gone = gone ++ reverse gos;
-      are = group_gone (map its_goroutine (values_of c.args.parked)) gone (map its_goroutine before) (map its_goroutine rest) gos
+      are = group_gone (map its_goroutine (parked_values c.args.parked)) gone (map its_goroutine before) (map its_goroutine rest) gos
           c.loop-group.invariant.are (ap (map its_goroutine) c.in-Some.ensures.rest ∙ map-append its_goroutine rest group);
       all = but_last (IsOfCrew c.args.run.now (length c.args.left.now.shares)) before rest group c.in-Some.ensures.rest
           c.loop-group.invariant.all;
@@ -55,7 +55,7 @@ loop-group-smaller c =
       arith,
       c.in-Some.ensures.some,
       ap length c.in-Some.ensures.rest,
-      length-append (values_of rest) group,
+      length-append (parked_values rest) group,
       length-map before (λ p. p.1),
       length-map rest (λ p. p.1),
     ) in
@@ -65,7 +65,7 @@ pub returns : goal.returns
 returns c =
     let is = c.loop-group.invariant in (
       is.gone,
-      none_parked (map its_goroutine (values_of c.args.parked)) is.gone (map its_goroutine (values_of c.loop-group.parked)) is.are
-          (ap (λ ps. map its_goroutine (values_of ps)) c.in_default.ensures.some),
+      none_parked (map its_goroutine (parked_values c.args.parked)) is.gone (map its_goroutine (parked_values c.loop-group.parked)) is.are
+          (ap (λ ps. map its_goroutine (parked_values ps)) c.in_default.ensures.some),
       is.left,
     )

@@ -2,15 +2,15 @@ use Rattle.std.proofs.Common.{◌++◌, All, IsPermutation, List, length, map}
 use Rattle.rgo_table_runs.specs.Goroutine.declared.goroutine.Goroutine.{Goroutine}
 use Rattle.rgo_runtime.specs.Crews.{IsOfCrew, its_goroutine}
 use Rattle.rgo_runtime.specs.Leaving.{HaveLeft}
-use Rattle.rgo_runtime.specs.Parking.{values_of}
+use Rattle.rgo_runtime.specs.Parking.{parked_values}
 use Rattle.rgo_runtime.proofs.retiring.retire_parked.Given as goal
 
 -- some have gone
 abbrev pub invariant-loop-group : goal.invariant-loop-group
 invariant-loop-group l = record {
   gone : List Goroutine;
-  are : IsPermutation (map its_goroutine (values_of l.fn.parked)) (gone ++ map its_goroutine (values_of l.parked));
-  all : All (IsOfCrew l.fn.run (length l.fn.left.shares)) (values_of l.parked);
+  are : IsPermutation (map its_goroutine (parked_values l.fn.parked)) (gone ++ map its_goroutine (parked_values l.parked));
+  all : All (IsOfCrew l.fn.run (length l.fn.left.shares)) (parked_values l.parked);
   left : HaveLeft l.fn.run.setup gone l.fn.left l.left;
 }
 

@@ -3,11 +3,11 @@ use Rattle.atomic_table.specs.Seated.{TableId}
 use Rattle.rgo_core.specs.Memory.Words.{clock_at}
 use Rattle.rgo_core_steps.specs.Seats.{IsSeatOf}
 use Rattle.rgo_table_runs.specs.Goroutine.Acts.Runs.{Run}
-use Rattle.rgo_table_runs.specs.Goroutine.Goroutines.{IsOf, IsTidy, record_of}
+use Rattle.rgo_table_runs.specs.Goroutine.Goroutines.{IsOf, IsTidy, record_of_goroutine}
 use Rattle.rgo_table_runs.specs.Goroutine.declared.goroutine.Goroutine.{Goroutine}
 use Rattle.rgo_runtime.specs.Crews.{IsOfCrew, its_goroutine}
-use Rattle.rgo_runtime.proofs.Gone.{both_left, but_last, last_one, last_turn_gone, nobody_leaves, none_left}
-use Rattle.rgo_runtime.proofs.Groups.{nothing_in}
+use Rattle.rgo_runtime.proofs.leaving.All.{both_left, but_last, last_one, last_turn_gone, nobody_leaves, none_left}
+use Rattle.rgo_runtime.proofs.lists.Groups.{nothing_in}
 use Rattle.rgo_runtime.proofs.retiring.retire_turns.Goals as goal
 
 pub loop-turn-init : goal.loop-turn-init
@@ -23,7 +23,7 @@ pub retire_or_give_up-requires-clause-tidy : goal.retire_or_give_up-requires-cla
 retire_or_give_up-requires-clause-tidy c =
     let P = IsOfCrew c.args.run.now (length c.args.left.now.shares) in
     let crew = last_one P c.loop-turn.turns.items c.pop.new.self.items c.in-Some.turn c.in-Some.ensures.items c.loop-turn.invariant.all in
-    subst (λ (r : Run). IsTidy (record_of r.setup c.into_goroutine.result)) crew.run c.into_goroutine.ensures.tidy
+    subst (λ (r : Run). IsTidy (record_of_goroutine r.setup c.into_goroutine.result)) crew.run c.into_goroutine.ensures.tidy
 
 pub retire_or_give_up-requires-clause-place : goal.retire_or_give_up-requires-clause-place
 retire_or_give_up-requires-clause-place c =

@@ -1,6 +1,6 @@
 use Rattle.std.proofs.Common.{◌∙◌, ap}
-use Rattle.rgo_runtime.proofs.Moving.{kept_then}
-use Rattle.rgo_runtime.proofs.Playing.{goes_quietly, is_stuck, passes}
+use Rattle.rgo_runtime.proofs.crews.Moving.{kept_then}
+use Rattle.rgo_runtime.proofs.ending.Playing.{goes_quietly, is_stuck, passes}
 use Rattle.rgo_runtime.proofs.runs.check_dead.Goals as goal
 
 pub returns-in-Moved-clause-ends : goal.returns-in-Moved-clause-ends

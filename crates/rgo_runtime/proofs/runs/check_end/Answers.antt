@@ -1,5 +1,5 @@
 use Rattle.std.proofs.Common.{ap}
-use Rattle.rgo_runtime.proofs.Playing.{comes_then, still_none_next}
+use Rattle.rgo_runtime.proofs.ending.Playing.{comes_then, still_none_next}
 use Rattle.rgo_runtime.proofs.runs.check_end.Goals as goal
 
 pub check_dead-requires-clause-next : goal.check_dead-requires-clause-next

@@ -1,5 +1,5 @@
 use Rattle.std.proofs.Common.{ap}
-use Rattle.rgo_runtime.proofs.Playing.{still_none_next}
+use Rattle.rgo_runtime.proofs.ending.Playing.{still_none_next}
 use Rattle.rgo_runtime.proofs.runs.check_step_limit.Goals as goal
 
 pub returns-then-exact-from-clause-ends : goal.returns-then-exact-from-clause-ends

@@ -1,5 +1,5 @@
 use Rattle.std.proofs.Common.{ap}
-use Rattle.rgo_runtime.proofs.Playing.{goes_quietly}
+use Rattle.rgo_runtime.proofs.ending.Playing.{goes_quietly}
 use Rattle.rgo_runtime.proofs.runs.count_steps.Goals as goal
 
 pub returns-in_err-snapshot-clause-kept : goal.returns-in_err-snapshot-clause-kept

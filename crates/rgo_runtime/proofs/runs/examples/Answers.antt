@@ -1,4 +1,4 @@
-use Rattle.rgo_runtime.proofs.RunExamples.{run_examples}
+use Rattle.rgo_runtime.proofs.examples.Runs.{run_examples}
 use Rattle.rgo_runtime.proofs.runs.examples.Goals as goal
 
 pub returns : goal.returns

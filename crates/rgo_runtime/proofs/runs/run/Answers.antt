@@ -1,7 +1,7 @@
 use Rattle.std.proofs.Common.{subst, sym}
 use Rattle.rgo_sound.specs.RegionRuns.{CodeRuns}
 use Rattle.rgo_sound.specs.RegionMachine.Tallies.{counts_in}
-use Rattle.rgo_runtime.proofs.Narrowing.{in_wider}
+use Rattle.rgo_runtime.proofs.ending.Narrowing.{in_wider}
 use Rattle.rgo_runtime.proofs.runs.run.Goals as goal
 
 pub returns-clause-runs : goal.returns-clause-runs

@@ -1,8 +1,8 @@
 use Rattle.std.proofs.Common.{ap, ◌∙◌}
-use Rattle.rgo_core.specs.Plans.{setup_of}
+use Rattle.rgo_core.specs.runs.Plans.{setup_of}
 use Rattle.rgo_table_runs.specs.Goroutine.Acts.Runs.{Run}
 use Rattle.rgo_sound.specs.RegionMachine.Tallies.{counts_in}
-use Rattle.rgo_runtime.proofs.Running.{code_runs, ends_in_time, fails_so}
+use Rattle.rgo_runtime.proofs.ending.Running.{code_runs, ends_in_time, fails_so}
 use Rattle.rgo_runtime.proofs.runs.run_on_table.Goals as goal
 
 -- the seat that comes back is that of the table

@@ -1,4 +1,4 @@
-use Rattle.rgo_runtime.proofs.Playing.{ends_then}
+use Rattle.rgo_runtime.proofs.ending.Playing.{ends_then}
 use Rattle.rgo_runtime.proofs.runs.schedule.Goals as goal
 
 pub returns-in-Some-clause-ends : goal.returns-in-Some-clause-ends

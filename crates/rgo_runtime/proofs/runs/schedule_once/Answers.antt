@@ -1,5 +1,5 @@
 use Rattle.rgo_runtime.specs.declared.runs.Why.TheVariants.{Write}
-use Rattle.rgo_runtime.proofs.Playing.{comes_then, ends_then, fails, goes_out, goes_quietly, goes_then, none_next}
+use Rattle.rgo_runtime.proofs.ending.Playing.{comes_then, ends_then, fails, goes_out, goes_quietly, goes_then, none_next}
 use Rattle.rgo_runtime.proofs.runs.schedule_once.Goals as goal
 
 pub returns-in-Err-clause-ends : goal.returns-in-Err-clause-ends

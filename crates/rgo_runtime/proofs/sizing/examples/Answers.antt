@@ -1,4 +1,4 @@
-use Rattle.rgo_runtime.proofs.Narrowing.{sizing_examples}
+use Rattle.rgo_runtime.proofs.ending.Narrowing.{sizing_examples}
 use Rattle.rgo_runtime.proofs.sizing.examples.Goals as goal
 
 pub returns : goal.returns

@@ -1,4 +1,4 @@
-use Rattle.rgo_runtime.proofs.TaskExamples.{turning}
+use Rattle.rgo_runtime.proofs.examples.Turns.{turning}
 use Rattle.rgo_runtime.proofs.turns.examples.Goals as goal
 
 pub returns : goal.returns

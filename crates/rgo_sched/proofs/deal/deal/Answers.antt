@@ -3,7 +3,7 @@ use Rattle.std.proofs.lemmas.List.{reverse-reverse}
 use Rattle.std.proofs.lemmas.Nat.{mod_below}
 use Rattle.std.proofs.lemmas.Option.{slice_get_within}
 use Rattle.rgo_sched.specs.declared.accounts.Account.{Account}
-use Rattle.rgo_sched.specs.Crew.{IsReady}
+use Rattle.rgo_sched.specs.Crew.{WorkerIsReady}
 use Rattle.rgo_sched.proofs.CrewLemmas.{at_read, crew_parts, crew_owner, puts_set, every_set, counted_owner}
 use Rattle.rgo_sched.proofs.DealLemmas.{dealt_none, dealt_slot, dealt_next}
 use Rattle.rgo_sched.proofs.ResultLemmas.{deal_next}
@@ -54,7 +54,7 @@ loop-at-preserved g c =
       rest = first.1;
       room = c.pop.ensures.capacity ∙ i.room;
       crew = crew_owner _ _ _ _ _ at c.give.ensures.same.0.1 c.give.ensures.same.0.0 parts refl i.crew;
-      each = every_set (IsReady (length c.args.stealers.now)) _ _ _ (counted_owner _ _ taken refl refl old.0, old.1) i.each;
+      each = every_set (WorkerIsReady (length c.args.stealers.now)) _ _ _ (counted_owner _ _ taken refl refl old.0, old.1) i.each;
       dealt = dealt_next (length g.B.Before.tasks) (length c.args.stealers.now) c.loop-at.at _ _ _ _ (omega arith)
           (ap (λ n. c.loop-at.at % n) b) at c.give.ensures.same.1 c.give.ensures.same.0.3 i.dealt;
       puts = puts_set _ _ _ _ _ c.loop-at.at at c.new.ensures.at c.give.ensures.given i.puts;

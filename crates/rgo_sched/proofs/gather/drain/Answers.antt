@@ -1,6 +1,6 @@
 use Rattle.std.proofs.Common.{ap, ◌∙◌, arith}
 use Rattle.rgo_sched.specs.declared.accounts.Account.{Account}
-use Rattle.rgo_sched.specs.Accounts.{total}
+use Rattle.rgo_sched.specs.Accounts.{total_weight}
 use Rattle.rgo_sched.specs.Positions.{only}
 use Rattle.rgo_sched.proofs.AccountLemmas.{takes_all, finds_all}
 use Rattle.rgo_sched.proofs.ResultLemmas.{filled_next}
@@ -22,5 +22,5 @@ loop-queued-preserved g c =
       fifo = c.pop_as.ensures.same.0.1 ∙ i.fifo;
       put = ap (λ (h : Account). h.put) t ∙ i.put;
       kept = λ k f. c.store.ensures.kept k (i.kept k f);
-      left = λ k. filled_next k _ _ _ _ _ c.turn.ensures (ap (λ (h : Account). total (only k) h.taken) t) c.store.ensures.here (c.store.ensures.kept k) (i.left k);
+      left = λ k. filled_next k _ _ _ _ _ c.turn.ensures (ap (λ (h : Account). total_weight (only k) h.taken) t) c.store.ensures.here (c.store.ensures.kept k) (i.left k);
     }

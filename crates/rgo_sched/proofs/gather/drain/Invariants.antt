@@ -1,6 +1,6 @@
 use Rattle.std.proofs.Common.{◌≡◌, ℕ, ◌+◌, ◌-◌, ◌⊎◌, length}
 use Rattle.crossbeam_deque.specs.Handles.{worker_view, worker_flavor}
-use Rattle.rgo_sched.specs.Accounts.{total}
+use Rattle.rgo_sched.specs.Accounts.{total_weight}
 use Rattle.rgo_sched.specs.Positions.{Filled, only}
 use Rattle.rgo_sched.proofs.gather.drain.Given as goal
 
@@ -11,7 +11,7 @@ invariant-loop-queued g l = record {
   fifo : worker_flavor l.own ≡ 0;
   put : (worker_view l.own).put ≡ (worker_view l.fn.own).put;
   kept : (k : ℕ) → Filled l.fn.results k → Filled l.results k;
-  left : (k : ℕ) → Filled l.results k ⊎ (total (only k) (worker_view l.own).taken ≡ total (only k) (worker_view l.fn.own).taken);
+  left : (k : ℕ) → Filled l.results k ⊎ (total_weight (only k) (worker_view l.own).taken ≡ total_weight (only k) (worker_view l.fn.own).taken);
 }
 
 abbrev pub decreases-loop-queued : goal.decreases-loop-queued

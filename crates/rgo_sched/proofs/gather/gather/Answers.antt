@@ -1,6 +1,6 @@
 use Rattle.std.proofs.Common.{◌≡◌, inl, inr, ap, ◌∙◌, ⊎_elim, arith}
 use Rattle.std.proofs.lemmas.List.{nil_from_length}
-use Rattle.rgo_sched.specs.Accounts.{total}
+use Rattle.rgo_sched.specs.Accounts.{total_weight}
 use Rattle.rgo_sched.specs.Positions.{only}
 use Rattle.rgo_sched.proofs.ResultLemmas.{filled_from}
 use Rattle.rgo_sched.proofs.gather.gather.Goals as goal
@@ -19,5 +19,5 @@ loop-done-preserved g c =
 pub returns-clause-left : goal.returns-clause-left
 returns-clause-left g c = λ k.
     let i = c.loop-done.invariant in
-    let z : total (only k) c.loop-done.worker.done.items ≡ 0 = ap (total (only k)) (nil_from_length _ (omega (arith, (rw c.in_default.is at c.pop.ensures.cases).0, c.loop-done.worker.done.ok))) in
+    let z : total_weight (only k) c.loop-done.worker.done.items ≡ 0 = ap (total_weight (only k)) (nil_from_length _ (omega (arith, (rw c.in_default.is at c.pop.ensures.cases).0, c.loop-done.worker.done.ok))) in
     ⊎_elim (λ f. inl f) (λ e. ⊎_elim (λ f. inl f) (λ r. inr (omega arith)) (i.rest k)) (i.left k)

@@ -1,6 +1,6 @@
 use Rattle.std.proofs.Common.{ap, arith}
 use Rattle.atomic_table.proofs.Lists.{at_index}
-use Rattle.rgo_sched.specs.Accounts.{total}
+use Rattle.rgo_sched.specs.Accounts.{total_weight}
 use Rattle.rgo_sched.specs.Crew.{put_by}
 use Rattle.rgo_sched.proofs.CrewLemmas.{crew_each, crew_parts, relate, was_there, total_same}
 use Rattle.rgo_sched.proofs.work.work_all.Goals as goal
@@ -26,4 +26,4 @@ returns-clause-counted g c = λ k n at.
 pub returns-clause-puts : goal.returns-clause-puts
 returns-clause-puts g c = λ w.
     let r = relate c.args.stealers.now c.args.crew.now c.for_each_mut.new.s c.for_each_mut.auto.s (λ k d h. let e = (c.for_each_mut.ensures k d h).1 in rw (← e.argument_is, ← e.left) e.call) in
-    total_same (put_by w) _ _ c.for_each_mut.auto.s (λ k m n a b. ap (total w) (r k m n a b).0.put)
+    total_same (put_by w) _ _ c.for_each_mut.auto.s (λ k m n a b. ap (total_weight w) (r k m n a b).0.put)

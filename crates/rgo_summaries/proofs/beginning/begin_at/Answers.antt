@@ -3,7 +3,7 @@ use Rattle.std.specs.Option.{option_map}
 use Rattle.std.proofs.lemmas.Option.{slice_get_within}
 use Rattle.std.proofs.lemmas.Result.{on_ok_weaker}
 use Rattle.rgo_summaries.specs.Beginning.{OwnHere}
-use Rattle.rgo_summaries.specs.Views.{called, called_with}
+use Rattle.rgo_summaries.specs.Views.{parts_of_call, called_with}
 use Rattle.rgo_summaries.proofs.Kinding.{kinds_first, kinds_longer}
 use Rattle.rgo_summaries.proofs.Standing.{call_here}
 use Rattle.rgo_summaries.proofs.Steps.{call_begins, grows_none, own_begins_at, steps}
@@ -18,7 +18,7 @@ begin_call-requires-clause-own c =
 pub begin_call-requires-clause-called : goal.begin_call-requires-clause-called
 begin_call-requires-clause-called c =
     let code = c.args.code.now in
-    let call = called c.in-Some.call in
+    let call = parts_of_call c.in-Some.call in
     let here = sym c.callee_at.ensures ∙ ap (option_map called_with) c.in-Some.is in
     let h = call_here code c.args.function.now c.args.at call c.in-Some.callee.now here in
     omega (arith, slice_get_within code.functions call.function c.in-Some.callee.now h.known, c.requires.sites)
@@ -35,7 +35,7 @@ returns-in-Some-clause-begins c =
     on_ok_weaker c.begin_call.result
     (λ b. call_begins c.args.code.now c.args.n c.args.function.now c.args.at c.args.progress.now.nodes.items
     c.begin_call.new.progress.nodes.items c.args.sites.now.items c.begin_call.new.sites.items c.requires.known
-    c.requires.size (called c.in-Some.call) c.in-Some.callee.now here b)
+    c.requires.size (parts_of_call c.in-Some.call) c.in-Some.callee.now here b)
     c.begin_call.ensures.begins
 
 pub returns-in-None-clause-begins : goal.returns-in-None-clause-begins

@@ -3,7 +3,7 @@ use Rattle.std.proofs.lemmas.Result.{on_ok_weaker}
 use Rattle.rgo_summaries.specs.Beginning.{Lists, Of, PassedBelow}
 use Rattle.rgo_summaries.specs.Kinds.{width_of}
 use Rattle.rgo_summaries.specs.Progress.{AddsJoins, GrowsIn, size_in}
-use Rattle.rgo_summaries.specs.Views.{called}
+use Rattle.rgo_summaries.specs.Views.{parts_of_call}
 use Rattle.rgo_summaries.proofs.Steps.{steps}
 use Rattle.rgo_summaries.proofs.beginning.begin_call.Goals as goal
 
@@ -14,7 +14,7 @@ returns-clause-begins c =
     let r = c.pass_all.new.progress in
     let n = c.args.caller in
     let f = c.args.function.now in
-    let call = called c.args.call in
+    let call = parts_of_call c.args.call in
     let callee = c.args.callee.now in
     let w = width_of callee in
     let grows = subst (λ k. GrowsIn p q n k) c.width_of.ensures c.in_ok-base.ensures.grows in

@@ -5,7 +5,7 @@ use Rattle.rgo_summaries.specs.declared.nodes.Nodes.{Nodes}
 use Rattle.rgo_summaries.specs.declared.progress.Site.{Site}
 use Rattle.rgo_summaries.specs.Families.{IsLeastFamily}
 use Rattle.rgo_summaries.specs.Progress.{HasRoom, IsSpread, width_in}
-use Rattle.rgo_summaries.specs.Views.{sites_of}
+use Rattle.rgo_summaries.specs.Views.{call_sites_of}
 use Rattle.rgo_summaries.proofs.Whole.{final_size, least_family, room}
 use Rattle.rgo_summaries.proofs.family.summaries.Goals as goal
 
@@ -13,7 +13,7 @@ pub spread-requires-clause-room : goal.spread-requires-clause-room
 spread-requires-clause-room c =
     let nodes = c.in_ok-begun.begun.progress.nodes.items in
     let sites = c.in_ok-begun.begun.sites.items in
-    subst (λ (rows : List (Vec Site Global)). (g : ℕ) → HasRoom nodes (width_in nodes g) (sites_of rows g))
+    subst (λ (rows : List (Vec Site Global)). (g : ℕ) → HasRoom nodes (width_in nodes g) (call_sites_of rows g))
     (sym c.deref.ensures.value)
     (room c.args.code.now nodes sites c.in_ok-begun.ensures.begun)
 

@@ -2,7 +2,7 @@
 use Rattle.std.proofs.Common.{◌+◌, ◌++◌, ◌∙◌, drop, map, ap, sym, subst, arith, rules}
 use Rattle.std.proofs.lemmas.List.{append_assoc}
 use Rattle.rgo_ast.specs.Views.{decl_of}
-use Rattle.rgo_typed.specs.Views.{function_of}
+use Rattle.rgo_typed.specs.Views.{typed_function_of}
 use Rattle.rgo_typing_rules.specs.Checks.{Refuses}
 use Rattle.rgo_typing_rules.specs.Sites.{first_refusal}
 use Rattle.rgo_typing_rules.proofs.Refusals.{refuses_first, none_first}
@@ -26,7 +26,7 @@ returns-in_err-check_decl-clause-checked c =
 pub loop-decl-preserved : goal.loop-decl-preserved
 loop-decl-preserved c =
     let p = c.args.top.now in
-    let o = map function_of c.loop-decl.functions.items in
+    let o = map typed_function_of c.loop-decl.functions.items in
     let d = decl_of c.decl-item.result in
     let rest = map decl_of (drop (c.loop-decl.decl-index + 1) c.args.decls.now) in
     let here = opened_map decl_of c.args.decls.now c.loop-decl.decl-index c.decl-item.result c.decl-item.is (omega arith) in

@@ -5,7 +5,7 @@ use Rattle.rgo_ast.specs.Views.{stmt_of as source_of}
 use Rattle.rgo_typing_rules.specs.Checks.{Refuses}
 use Rattle.rgo_typing_rules.specs.Sites.{first_refusal}
 use Rattle.rgo_typing_statements.specs.Outcomes.{stmt_outcome}
-use Rattle.rgo_typing_statements.specs.Statements.{all_sites, after}
+use Rattle.rgo_typing_statements.specs.Statements.{all_sites, context_after}
 use Rattle.rgo_typing_statements.specs.Views.{enclosing_of}
 use Rattle.rgo_typing_packages.proofs.Lists.{opened_map}
 use Rattle.rgo_typing_statements.proofs.Turns.{refused_stmt, appended}
@@ -30,7 +30,7 @@ check_stmts-returns-in_err-check_stmt t c =
     let here = opened_map source_of c.args.all.now c.loop-s.s-index c.s-item.result c.s-item.is (omega arith) in
     let refuses : Refuses e (first_refusal (all_sites f c.args.checker.now (stmts_of (map source_of c.args.all.now)))) =
     refused_stmt c.loop-s.invariant s rest here
-    (stmt_outcome f k s) (all_outcome f (after k s) (stmts_of rest)) refl e c.in_err-check_stmt.ensures in
+    (stmt_outcome f k s) (all_outcome f (context_after k s) (stmts_of rest)) refl e c.in_err-check_stmt.ensures in
     search rules
 
 pub check_stmts-loop-s-preserved : goal.check_stmts-loop-s-preserved
@@ -41,7 +41,7 @@ check_stmts-loop-s-preserved t c =
     let rest = map source_of (drop (c.loop-s.s-index + 1) c.args.all.now) in
     let here = opened_map source_of c.args.all.now c.loop-s.s-index c.s-item.result c.s-item.is (omega arith) in
     appended c.loop-s.invariant s rest here
-    (stmt_outcome f k s) (all_outcome f (after k s) (stmts_of rest)) refl c.in_ok-check_stmt.ensures refl refl refl
+    (stmt_outcome f k s) (all_outcome f (context_after k s) (stmts_of rest)) refl c.in_ok-check_stmt.ensures refl refl refl
 
 pub nested_block-returns-in_err-all : goal.nested_block-returns-in_err-all
 nested_block-returns-in_err-all t c = grind (arith, sources, refusals)

@@ -2,7 +2,7 @@
 use Rattle.std.proofs.Common.{◌+◌, [], ◌∷◌, drop, refl, arith, rules}
 use Rattle.rgo_typing_rules.specs.Checks.{Refuses}
 use Rattle.rgo_typing_rules.specs.Sites.{first_refusal}
-use Rattle.rgo_typing_rules.specs.Views.{kind_of}
+use Rattle.rgo_typing_rules.specs.Views.{type_of_kind}
 use Rattle.rgo_typing_expressions.specs.Scopes.{with_local}
 use Rattle.rgo_typing_packages.specs.Names.{name_site, name_sites}
 use Rattle.rgo_typing_packages.proofs.Lists.{opened}
@@ -12,7 +12,7 @@ use Rattle.rgo_typing_packages.proofs.names.declare_names.Goals as goal
 pub returns-in_err-declare_name : goal.returns-in_err-declare_name
 returns-in_err-declare_name c =
     let e = c.in_err-declare_name.field-0.0 in
-    let k = kind_of c.args.kind in
+    let k = type_of_kind c.args.kind in
     let g = c.loop-x.scope in
     let x = c.x-item.result in
     let rest = drop (c.loop-x.x-index + 1) c.args.names.now in
@@ -23,7 +23,7 @@ returns-in_err-declare_name c =
 
 pub loop-x-preserved : goal.loop-x-preserved
 loop-x-preserved c =
-    let k = kind_of c.args.kind in
+    let k = type_of_kind c.args.kind in
     let g = c.loop-x.scope in
     let x = c.x-item.result in
     let rest = drop (c.loop-x.x-index + 1) c.args.names.now in

@@ -1,9 +1,9 @@
 use Rattle.std.proofs.Common.{drop}
-use Rattle.rgo_typing_rules.specs.Views.{kind_of}
+use Rattle.rgo_typing_rules.specs.Views.{type_of_kind}
 use Rattle.rgo_typing_packages.specs.Names.{name_sites, with_names}
 use Rattle.rgo_typing_packages.proofs.Turns.{Loop}
 use Rattle.rgo_typing_packages.proofs.names.declare_names.Given as goal
 
 abbrev pub invariant-loop-x : goal.invariant-loop-x
 invariant-loop-x l =
-    Loop (name_sites (kind_of l.kind)) (with_names (kind_of l.kind)) l.initial.scope l.names l.scope (drop l.x-index l.names)
+    Loop (name_sites (type_of_kind l.kind)) (with_names (type_of_kind l.kind)) l.initial.scope l.names l.scope (drop l.x-index l.names)

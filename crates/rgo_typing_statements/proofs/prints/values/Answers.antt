@@ -6,7 +6,7 @@ use Rattle.rgo_ast.specs.Views.{expr_of}
 use Rattle.rgo_typed.specs.Tree.{terms_of}
 use Rattle.rgo_typed.specs.Views.{term_of}
 use Rattle.rgo_typing_statements.specs.TypedStatements.{printed_terms, is_text, kept_operand}
-use Rattle.rgo_typing_expressions.specs.Callees.{bare}
+use Rattle.rgo_typing_expressions.specs.Callees.{without_parens}
 use Rattle.rgo_typing_expressions.proofs.Lists.{terms_before, no_more}
 use Rattle.rgo_typing_statements.proofs.Printed.{one_operand, printed_none, no_items, one_less}
 use Rattle.rgo_typing_statements.proofs.prints.values.Goals as goal
@@ -24,7 +24,7 @@ loop-arg-preserved c =
     let o = map term_of c.loop-arg.values.items in
     let t = term_of c.in-Some.term in
     let more = terms_of (map term_of (into_iter_items c.next.new.self)) in
-    let is : c.is_text.result ≡ is_text (bare (expr_of c.arg-item.result)) = c.is_text.ensures ∙ ap is_text c.bare.ensures in (
+    let is : c.is_text.result ≡ is_text (without_parens (expr_of c.arg-item.result)) = c.is_text.ensures ∙ ap is_text c.bare.ensures in (
       ap (λ l. terms_before l (printed_terms (exprs_of (map expr_of (drop (c.loop-arg.arg-index + 1) c.args.args.now))) more)) c.in_ok-keep-in-Some.ensures
           ∙ ap (λ b. terms_before (o ++ kept_operand b t) (printed_terms (exprs_of (map expr_of (drop (c.loop-arg.arg-index + 1) c.args.args.now))) more)) is
           ∙ one_operand c.args.args.now c.loop-arg.arg-index c.arg-item.result c.arg-item.is (omega arith) o t more

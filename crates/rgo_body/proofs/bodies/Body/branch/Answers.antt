@@ -1,5 +1,5 @@
 use Rattle.std.proofs.Common.{true, false, sym, ap, ◌∙◌, refl}
-use Rattle.rgo_core.specs.Frames.WordFrames.{is_set}
+use Rattle.rgo_core.specs.Frames.shown.WordFrames.{is_set}
 use Rattle.rgo_stack.specs.Stacks.{newest_word}
 use Rattle.rgo_body.proofs.Placing.{can_go_on, can_turn, has_test}
 use Rattle.rgo_body.proofs.Showing.{at}

@@ -8,7 +8,7 @@ use Rattle.rgo_sound.specs.RegionMachine.States.{Remove}
 use Rattle.rgo_stack.specs.Places.{FrameCanCall}
 use Rattle.rgo_stack.specs.Stacks.{Belongs}
 use Rattle.rgo_sound.specs.Tac.declared.regions.Class.{Class}
-use Rattle.rgo_body.specs.Bodies.{frames_in}
+use Rattle.rgo_body.specs.Bodies.{frames_of_body}
 use Rattle.rgo_body.specs.declared.bodies.Body.{Body}
 use Rattle.rgo_body.proofs.Calling.{calls_shows}
 use Rattle.rgo_body.proofs.Placing.{callee, can_call}
@@ -22,7 +22,7 @@ returns-in-Err-prepare_call-clause-stays c T r s =
 
 pub call-requires-clause-can : goal.call-requires-clause-can
 call-requires-clause-can c =
-    subst (λ fs. FrameCanCall fs c.args.function (length c.args.from.now) (frames_in c.args.self.now)) (sym c.compact.ensures.compact)
+    subst (λ fs. FrameCanCall fs c.args.function (length c.args.from.now) (frames_of_body c.args.self.now)) (sym c.compact.ensures.compact)
     (can_call c.args.program.now c.args.self.now c.args.next.now c.requires.possible c.fits.ensures c.requires.ready.is_next
     c.requires.calls.0 c.args.function c.args.from.now c.requires.calls.1)
 

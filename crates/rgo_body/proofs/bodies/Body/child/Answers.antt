@@ -3,7 +3,7 @@ use Rattle.rgo_sound.specs.Code.Code.{Go}
 use Rattle.rgo_sound.specs.Code.Lists.{passes_of, removes_of}
 use Rattle.rgo_compact.specs.Functions.{IsCompact}
 use Rattle.rgo_core_facts.proofs.ControlPasses.{start_shares}
-use Rattle.rgo_core.specs.Frames.WordFrames.{word_called}
+use Rattle.rgo_core.specs.Frames.shown.WordFrames.{word_called}
 use Rattle.rgo_holding.specs.Passing.{AreRegionsPassed, ChildHoldingBegins}
 use Rattle.rgo_sound.specs.RegionMachine.Owed.{formals_of, code_function, passed_regions}
 use Rattle.rgo_sound.specs.RegionMachine.States.{top_names}

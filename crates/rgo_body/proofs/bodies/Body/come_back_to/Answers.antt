@@ -2,7 +2,7 @@ use Rattle.std.proofs.Common.{◌++◌, ◌∷◌, List, ℕ, false, arith, leng
 use Rattle.rgo_sound.specs.RegionMachine.States.{Duty, Remove, Unprotect}
 use Rattle.rgo_stack.specs.Places.{CanReturn, IsCalledFor}
 use Rattle.rgo_stack.specs.Stacks.{Belongs}
-use Rattle.rgo_body.specs.Bodies.{frames_in}
+use Rattle.rgo_body.specs.Bodies.{frames_of_body}
 use Rattle.rgo_body.proofs.Calling.{can_return, comes_back, comes_back_exit, goes_back, room_enough, tail_is}
 use Rattle.rgo_body.proofs.bodies.Body.come_back_to.Goals as goal
 
@@ -10,10 +10,10 @@ pub come_back-requires-clause-can : goal.come_back-requires-clause-can
 come_back-requires-clause-can c =
     let n = c.requires.call in
     let at = c.requires.ready.is_next in
-    subst (λ fs. CanReturn fs c.args.value c.result_target.result (frames_in c.args.self.now)) (sym c.compact.ensures.compact)
-    (subst (λ to. CanReturn c.args.program.now.compact c.args.value to (frames_in c.args.self.now)) (sym c.result_target.ensures)
+    subst (λ fs. CanReturn fs c.args.value c.result_target.result (frames_of_body c.args.self.now)) (sym c.compact.ensures.compact)
+    (subst (λ to. CanReturn c.args.program.now.compact c.args.value to (frames_of_body c.args.self.now)) (sym c.result_target.ensures)
     (can_return c.args.program.now c.args.self.now c.args.next.now c.requires.possible c.fits.ensures at c.args.value c.requires.returns
-    _ (n.w ∷ n.ws) (tail_is at.w at.ws (frames_in c.args.self.now) at.are ∙ n.are)
+    _ (n.w ∷ n.ws) (tail_is at.w at.ws (frames_of_body c.args.self.now) at.are ∙ n.are)
     (goes_back c.args.program.now c.args.self.now c.args.call.now c.requires.possible c.fits.ensures n)))
 
 pub put_all-requires : goal.put_all-requires
@@ -42,7 +42,7 @@ returns-clause-local c T g r here s =
     (subst (λ fs. Belongs fs c.come_back.new.self) c.compact.ensures.compact c.come_back.ensures.belongs)
     c.come_back-2.ensures.returns refl refl c.add_step.ensures refl refl refl
     c.args.call.now c.requires.call
-    (λ code is. c.come_back.ensures.frames code (subst (λ t. IsCalledFor code t (frames_in c.args.self.now)) (sym c.result_target.ensures) is))
+    (λ code is. c.come_back.ensures.frames code (subst (λ t. IsCalledFor code t (frames_of_body c.args.self.now)) (sym c.result_target.ensures) is))
     (c.put_all-2.ensures.put ∙ ap (λ (q : List ℕ × List Duty). map Unprotect q.0 ++ q.1)
     (λ i. (c.protects.ensures i, (c.put_all.ensures.put ∙ ap (λ ks. map Remove ks ++ c.args.self.now.queue.duties) c.removes.ensures) i)))
 
@@ -58,6 +58,6 @@ returns-clause-exit c clock T g r here s =
     (subst (λ fs. Belongs fs c.come_back.new.self) c.compact.ensures.compact c.come_back.ensures.belongs)
     c.come_back-2.ensures.returns refl refl c.add_step.ensures refl refl refl
     c.args.call.now c.requires.call
-    (λ code is. c.come_back.ensures.frames code (subst (λ t. IsCalledFor code t (frames_in c.args.self.now)) (sym c.result_target.ensures) is))
+    (λ code is. c.come_back.ensures.frames code (subst (λ t. IsCalledFor code t (frames_of_body c.args.self.now)) (sym c.result_target.ensures) is))
     (c.put_all-2.ensures.put ∙ ap (λ (q : List ℕ × List Duty). map Unprotect q.0 ++ q.1)
     (λ i. (c.protects.ensures i, (c.put_all.ensures.put ∙ ap (λ ks. map Remove ks ++ c.args.self.now.queue.duties) c.removes.ensures) i))) clock

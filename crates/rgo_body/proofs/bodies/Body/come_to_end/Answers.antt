@@ -1,7 +1,7 @@
 use Rattle.std.proofs.Common.{[], None, false, sym, ◌∙◌, refl, subst}
 use Rattle.rgo_stack.specs.Places.{CanReturn}
 use Rattle.rgo_stack.specs.Stacks.{Belongs}
-use Rattle.rgo_body.specs.Bodies.{frames_in}
+use Rattle.rgo_body.specs.Bodies.{frames_of_body}
 use Rattle.rgo_body.proofs.Calling.{base_room, can_return, ends, ends_exit, tail_is}
 use Rattle.rgo_body.proofs.Transfers.{no_caller_below}
 use Rattle.rgo_body.proofs.bodies.Body.come_to_end.Goals as goal
@@ -9,9 +9,9 @@ use Rattle.rgo_body.proofs.bodies.Body.come_to_end.Goals as goal
 pub come_back-requires-clause-can : goal.come_back-requires-clause-can
 come_back-requires-clause-can c =
     let at = c.requires.ready.is_next in
-    subst (λ fs. CanReturn fs c.args.value None (frames_in c.args.self.now)) (sym c.compact.ensures.compact)
+    subst (λ fs. CanReturn fs c.args.value None (frames_of_body c.args.self.now)) (sym c.compact.ensures.compact)
     (can_return c.args.program.now c.args.self.now c.args.next.now c.requires.possible c.fits.ensures at c.args.value c.requires.returns
-    None [] (tail_is at.w at.ws (frames_in c.args.self.now) at.are ∙ no_caller_below (frames_in c.args.self.now) c.requires.last) tt)
+    None [] (tail_is at.w at.ws (frames_of_body c.args.self.now) at.are ∙ no_caller_below (frames_of_body c.args.self.now) c.requires.last) tt)
 
 pub put_base-requires : goal.put_base-requires
 put_base-requires c = record {

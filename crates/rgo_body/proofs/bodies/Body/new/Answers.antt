@@ -1,8 +1,8 @@
 use Rattle.std.proofs.Common.{◌≡◌, [], ◌∷◌, length, sym, ap, ◌∙◌, subst, arith}
 use Rattle.rgo_sound.specs.Code.Code.{Code}
 use Rattle.rgo_compact.specs.Functions.{IsCompact}
-use Rattle.rgo_core.specs.Opening.{main_words}
-use Rattle.rgo_core.specs.Frames.WordFrames.{bare_all, word_called}
+use Rattle.rgo_core.specs.runs.Opening.{main_words}
+use Rattle.rgo_core.specs.Frames.shown.WordFrames.{bare_all, word_called}
 use Rattle.rgo_sound.specs.RegionMachine.Owed.{code_function}
 use Rattle.rgo_stack.proofs.Lookups.{places}
 use Rattle.rgo_stack.specs.Places.{FunctionTakes}

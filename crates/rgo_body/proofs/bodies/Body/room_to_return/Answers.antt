@@ -1,6 +1,6 @@
 use Rattle.std.proofs.Common.{◌≤◌, drop, length, sym, ap, ◌∙◌, subst}
 use Rattle.std.proofs.lemmas.List.{length-map}
-use Rattle.rgo_core.specs.Frames.WordFrames.{bare_all}
+use Rattle.rgo_core.specs.Frames.shown.WordFrames.{bare_all}
 use Rattle.rgo_sound.specs.RegionMachine.Owed.{caller_duties}
 use Rattle.rgo_sound.specs.RegionMachine.States.{EndBase}
 use Rattle.rgo_body.proofs.Transfers.{no_caller_below, on_ok}

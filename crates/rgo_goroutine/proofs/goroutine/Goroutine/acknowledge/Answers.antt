@@ -1,16 +1,16 @@
 use Rattle.std.proofs.Common.{◌≡◌, true, subst, sym, ◌∙◌}
-use Rattle.rgo_acts.specs.Body.Bodies.{HasRoomBehind, frames_in}
+use Rattle.rgo_acts.specs.Body.Bodies.{HasRoomBehind, frames_of_body}
 use Rattle.rgo_acts.specs.Body.Nexts.{FrameHasNoNext, IsNextOf}
 use Rattle.rgo_acts.specs.Body.Programs.{CompactProgram}
 use Rattle.rgo_acts.specs.Body.Steps.{StillShows}
-use Rattle.rgo_acts.proofs.AtChannels.{offers_owe_nothing}
+use Rattle.rgo_acts.proofs.before.AtChannels.{offers_owe_nothing}
 use Rattle.rgo_goroutine.proofs.Acknowledging.{asked, can_ask, has_next, no_room, room_then, was_ok}
 use Rattle.rgo_goroutine.proofs.goroutine.Goroutine.acknowledge.Goals as goal
 
 pub unreachable-requires : goal.unreachable-requires
 unreachable-requires g c =
     has_next c.args.run.now c.args.self.now.actor c.requires.goes.stands c.args.at c.requires.offers
-    (subst (λ (p : CompactProgram). FrameHasNoNext p.code (frames_in c.args.self.now.actor.body)) c.program.ensures c.in_default.ensures)
+    (subst (λ (p : CompactProgram). FrameHasNoNext p.code (frames_of_body c.args.self.now.actor.body)) c.program.ensures c.in_default.ensures)
 
 pub room_behind_offer-requires-clause-empty : goal.room_behind_offer-requires-clause-empty
 room_behind_offer-requires-clause-empty g c =
@@ -32,7 +32,7 @@ acknowledge-talked-requires g c =
       before = can_ask c.args.run.now c.args.self.now d c.args.turning.now c.requires.goes c.requires.some.1
           (subst (λ (p : CompactProgram). StillShows p b d) c.program-2.ensures c.room_behind_offer.ensures.stays)
           c.room_behind_offer.ensures.same c.in-Some.next.now c.args.at c.requires.offers
-          (subst (λ (p : CompactProgram). IsNextOf p.code (frames_in b) c.in-Some.next.now) c.program.ensures c.in-Some.ensures)
+          (subst (λ (p : CompactProgram). IsNextOf p.code (frames_of_body b) c.in-Some.next.now) c.program.ensures c.in-Some.ensures)
           (was_ok c.room_behind_offer.result (d.is_expanded ≡ true) ok c.room_behind_offer.ensures.expanded)
           (was_ok c.room_behind_offer.result (HasRoomBehind d c.in-Some.next.now) ok c.room_behind_offer.ensures.room);
     }

@@ -1,5 +1,5 @@
 use Rattle.std.proofs.Common.{ap, arith, refl, sym, ◌∙◌}
-use Rattle.rgo_core.specs.Plans.{setup_of}
+use Rattle.rgo_core.specs.runs.Plans.{setup_of}
 use Rattle.rgo_goroutine.proofs.Looking.{caught_up_at}
 use Rattle.rgo_goroutine.proofs.goroutine.Goroutine.catch_up.Goals as goal
 

@@ -1,8 +1,8 @@
 use Rattle.std.proofs.Common.{◌∙◌, [], ap, subst, sym}
 use lib.ListN.{get_elem?}
 use Rattle.rgo_core.specs.Memory.declared.layout.TableSizes.{TableSizes}
-use Rattle.rgo_core.specs.Rule.Views.{Me, rows_of, view}
-use Rattle.rgo_core.specs.Opening.{first_of}
+use Rattle.rgo_core.specs.Rule.Views.{Me, rows_for, view}
+use Rattle.rgo_core.specs.runs.Opening.{first_of}
 use Rattle.rgo_core.specs.Records.{Record}
 use Rattle.rgo_acts.specs.Body.Programs.{CompactProgram}
 use Rattle.rgo_acts.specs.Body.Shows.{BodyShows}
@@ -23,7 +23,7 @@ returns-in-Ok-clause-main c =
     let actor = c.new-in-Ok.ensures.actor in
     let seat = c.part-seat.ensures.new in
     let me = ap (λ (a : Actor). a.seat.me) actor
-    ∙ (seat.1 ∙ ap (λ (m : Me Record). (view (rows_of 0 m.0.records) m.0.seen, [])) c.requires.first) in
+    ∙ (seat.1 ∙ ap (λ (m : Me Record). (view (rows_for 0 m.0.records) m.0.seen, [])) c.requires.first) in
     let shows = c.in-Ok.ensures T (sym c.fits.ensures.code ∙ ap (λ (p : CompactProgram). p.code) (sym c.program.ensures))
     (sym (c.slots.ensures ∙ ap (λ (z : TableSizes). z.slots) c.fits.ensures.layout.sizes)) in (
       main_of r go me (ap (λ (a : Actor). a.seat.table_id) actor ∙ (seat.0 ∙ c.requires.own.0)) (ap (λ (a : Actor). a.behind) actor)

@@ -2,7 +2,7 @@ use Rattle.std.proofs.Common.{List, [], ◌∷◌, ◌++◌, ◌∙◌, ap, refl
 use Rattle.rgo_acts.specs.Actors.{ActorActed}
 use Rattle.rgo_acts.specs.declared.actors.Actor.{Actor}
 use Rattle.rgo_acts.specs.declared.prints.Print.{Print}
-use Rattle.rgo_acts.proofs.LocalActs.{unchanged}
+use Rattle.rgo_acts.proofs.computing.LocalActs.{unchanged}
 use Rattle.rgo_goroutine.proofs.Concluding.{counted_print, only_told}
 use Rattle.rgo_goroutine.proofs.Keeping.{printed_on, same_halts}
 use Rattle.rgo_goroutine.proofs.goroutine.Goroutine.print.Goals as goal

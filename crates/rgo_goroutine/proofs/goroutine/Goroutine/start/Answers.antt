@@ -1,10 +1,10 @@
 use Rattle.std.proofs.Common.{List, [], ◌∷◌, ◌++◌, ◌∙◌, ap, refl, subst, sym}
-use Rattle.rgo_core.specs.Channels.Records.{Rec as SideRec}
+use Rattle.rgo_core.specs.Channels.Records.{ChannelRec as SideRec}
 use Rattle.rgo_core.specs.Memory.Records.{Rec as MemoryRec}
 use Rattle.rgo_goroutine.specs.declared.goroutine.Child.{Child}
 use Rattle.rgo_acts.specs.Starts.{ActorStarts}
 use Rattle.rgo_acts.specs.declared.starts.Outcome.{Outcome}
-use Rattle.rgo_acts.proofs.LocalActs.{unchanged}
+use Rattle.rgo_acts.proofs.computing.LocalActs.{unchanged}
 use Rattle.rgo_goroutine.proofs.Beginning.{same_ends}
 use Rattle.rgo_goroutine.proofs.Concluding.{counted, ended, only_told}
 use Rattle.rgo_goroutine.proofs.Keeping.{same_halts, started_on}

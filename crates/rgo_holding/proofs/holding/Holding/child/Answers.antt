@@ -6,7 +6,7 @@ use Rattle.rgo_sound.specs.RegionMachine.declared.regions.Region.TheVariants.{Nu
 use Rattle.rgo_sound.specs.RegionMachine.declared.regions.Region.{Region}
 use Rattle.rgo_sound.specs.Tac.declared.regions.Class.TheVariants.{NoClass}
 use Rattle.rgo_holding.specs.declared.frames.Frames.{Frames}
-use Rattle.rgo_holding.specs.Holds.{region_at}
+use Rattle.rgo_holding.specs.Holds.{region_of_key}
 use Rattle.rgo_holding.specs.Learning.{AreGiven, Learned, ShowsFresh, SlotsKnown}
 use Rattle.rgo_holding.specs.Passing.{key_for}
 use Rattle.rgo_holding.proofs.Starting.{child_shows, given_fit, keys_still, tracks_none, twice_known}
@@ -34,7 +34,7 @@ returns c = λ slots h fills shows passed.
     child_shows c.add_bases.new.self c.name_first.new.self slots h.pending c.args.formals.now given
     (map Numbered (reverse c.deref-3.result.now)) c.in_ok-keys.keys.items c.pass.new.keys.items based
     (ap (λ ps. map Numbered (reverse ps)) c.deref-3.ensures.value ∙ found)
-    (keys_still (region_at c.learn_all.new.self) (region_at c.add_bases.new.self)
+    (keys_still (region_of_key c.learn_all.new.self) (region_of_key c.add_bases.new.self)
     (λ key r at. c.in_ok-add_bases.ensures.regions key ∙ at) c.in_ok-keys.keys.items given learned.keys_are)
     (λ n. c.in_ok-pass.ensures n ∙ ap (λ ks. key_for c.args.formals.now ks n) c.deref-4.ensures.value)
     (ap (λ (f : Frames). f.tables.items) (c.add_bases.ensures.kept.1 ∙ c.learn_all.ensures.kept.1) ∙ c.in_ok-child.ensures.tables)

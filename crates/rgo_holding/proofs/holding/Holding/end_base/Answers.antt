@@ -1,5 +1,5 @@
 use Rattle.std.proofs.Common.{ap, arith, refl, sym, ◌∙◌}
-use Rattle.rgo_holding.specs.Holds.{entry_at, region_at}
+use Rattle.rgo_holding.specs.Holds.{entry_at, region_of_key}
 use Rattle.rgo_holding.specs.Known.{entry_of}
 use Rattle.rgo_holding.proofs.Basing.{popped}
 use Rattle.rgo_holding.proofs.Changing.{end_shows}
@@ -13,7 +13,7 @@ returns-in-Some-clause-ends c = λ slots h fills shows.
     let key = c.in_ok-key.key in
     let at = ap (λ es. entry_of es key) (sym c.deref.ensures.value) ∙ sym c.entry_of.ensures ∙ c.in-Some.is in
     let used = (used_entry k.entries.items key c.in-Some.entry at).1 in
-    let first = popped (region_at k) k.base.items c.pop.new.self.items key h.base c.in_ok-key.ensures.items shows.base_is in (
+    let first = popped (region_of_key k) k.base.items c.pop.new.self.items key h.base c.in_ok-key.ensures.items shows.base_is in (
       first.r,
       first.rest,
       first.is,
@@ -34,6 +34,6 @@ pub returns-in_default-clause-ends : goal.returns-in_default-clause-ends
 returns-in_default-clause-ends c = λ slots h fills shows.
     let k = c.args.self.now in
     let key = c.in_ok-key.key in
-    let first = popped (region_at k) k.base.items c.pop.new.self.items key h.base c.in_ok-key.ensures.items shows.base_is in
+    let first = popped (region_of_key k) k.base.items c.pop.new.self.items key h.base c.in_ok-key.ensures.items shows.base_is in
     let there = entry_there k.slots (entry_at k key) first.r first.is in
     absurd (c.in_default.not-Some there.0 (c.entry_of.ensures ∙ ap (λ es. entry_of es key) c.deref.ensures.value ∙ there.1))

@@ -1,5 +1,5 @@
 use Rattle.std.proofs.Common.{refl, ap, sym, ◌∙◌}
-use Rattle.rgo_interpreter.specs.Views.{object_in, memory_of}
+use Rattle.rgo_interpreter.specs.Views.{object_view_or_empty, memory_view}
 use Rattle.rgo_interpreter.proofs.Heap.{read_slot, read_past, lent, not_lent}
 use Rattle.rgo_interpreter.proofs.memory.Memory.object_mut.Goals as goal
 
@@ -17,14 +17,14 @@ returns-in-Some c =
       ),
       record {
         writes_back = tt;
-        value = read_slot m c.args.n _ found c.if-n-self.true ∙ ap object_in (sym object.ensures.value);
+        value = read_slot m c.args.n _ found c.if-n-self.true ∙ ap object_view_or_empty (sym object.ensures.value);
       },
     )
 
 pub returns-in-None : goal.returns-in-None
 returns-in-None c =
     let m = c.args.self.now in (
-      (refl, λ w. tt, ap memory_of c.block_mut.follows.holds-at-none),
+      (refl, λ w. tt, ap memory_view c.block_mut.follows.holds-at-none),
       record { writes_back = tt; value = read_slot m c.args.n _ c.in-None.ensures.value c.if-n-self.true },
     )
 

@@ -1,11 +1,11 @@
 use Rattle.std.proofs.Common.{ap, ◌∙◌}
-use Rattle.rgo_interpreter.specs.Views.{memory_of}
+use Rattle.rgo_interpreter.specs.Views.{memory_view}
 use Rattle.rgo_interpreter.proofs.Heap.{cleared, same_slots, nothing_there}
 use Rattle.rgo_interpreter.proofs.memory.Memory.take_away.Goals as goal
 
 pub returns-in_default : goal.returns-in_default
 returns-in_default c =
-    ap memory_of c.block_mut.follows.holds-at-none ∙ nothing_there c.args.self.now c.args.n c.in_default.ensures.value
+    ap memory_view c.block_mut.follows.holds-at-none ∙ nothing_there c.args.self.now c.args.n c.in_default.ensures.value
 
 pub returns-then-number-self : goal.returns-then-number-self
 returns-then-number-self c =

@@ -1,5 +1,5 @@
 use Rattle.std.proofs.Common.{◌≡◌, ◌+◌, ap, ◌∙◌, subst, sym}
-use Rattle.rgo_lower.specs.Emitted.{count, made_of, OpIsAdded, branch_to}
+use Rattle.rgo_lower.specs.Emitted.{builder_size, made_of, OpIsAdded, branch_to}
 use Rattle.rgo_lower.proofs.Growing.{ok_map}
 use Rattle.rgo_lower.proofs.Labels.{fresh, branch_added, branches}
 use Rattle.rgo_lower.proofs.builder.Builder.branch_on.Goals as goal
@@ -23,10 +23,10 @@ returns c =
           (subst (λ z. OpIsAdded b (branch_to c.args.test c.args.other next) c.args.place (made_of z)) (sym w.self-is)
           w.in_ok-branch-in-Or.ensures.0)
     ] in
-    let one : count d ≡ count b + 1 =
+    let one : builder_size d ≡ builder_size b + 1 =
     elim c.match-logic.branch [
-      | in-And+in_ok-branch-in-And w ↦ ap (λ z. count (made_of z)) w.self-is ∙ w.in_ok-branch-in-And.ensures.1
-      | in-Or+in_ok-branch-in-Or w ↦ ap (λ z. count (made_of z)) w.self-is ∙ w.in_ok-branch-in-Or.ensures.1
+      | in-And+in_ok-branch-in-And w ↦ ap (λ z. builder_size (made_of z)) w.self-is ∙ w.in_ok-branch-in-And.ensures.1
+      | in-Or+in_ok-branch-in-Or w ↦ ap (λ z. builder_size (made_of z)) w.self-is ∙ w.in_ok-branch-in-Or.ensures.1
     ] in
     ok_map c.place.result _ _
     (branch_added c.args.logic c.args.test next c.args.other c.args.place a b d e

@@ -8,7 +8,7 @@ use Rattle.rgo_journal.specs.declared.picks.TacPick.TheVariants.{Meet}
 use Rattle.rgo_journal.specs.Text.{PickFits}
 use Rattle.rgo_tac.specs.Tac.{tac}
 use Rattle.rgo_region_interpreter.specs.Views as world
-use Rattle.rgo_recording.specs.Notes.{picks_of}
+use Rattle.rgo_recording.specs.Notes.{noted_picks}
 use Rattle.rgo_recording.proofs.Leading.{meeting_failed, met_noted, not_met, same_pick}
 use Rattle.rgo_recording.proofs.recorders.RecorderRunning.meet.Goals as goal
 
@@ -29,7 +29,7 @@ meet-requires c = record {
 pub returns-in-Ok-true-clause-meets : goal.returns-in-Ok-true-clause-meets
 returns-in-Ok-true-clause-meets c = λ given s at on.
     met_noted c.args.self.now (record { world = c.meet.new.self; notes = c.note.new.self }) c.args.receiver c.args.sender
-    (ap (λ (x : Code × Sizes). x.0) c.meet.ensures.fixed) given s at c.in-Some.pick (picks_of c.prepare.new.self) c.note.ensures
+    (ap (λ (x : Code × Sizes). x.0) c.meet.ensures.fixed) given s at c.in-Some.pick (noted_picks c.prepare.new.self) c.note.ensures
     c.in-Some.ensures.picks
     (same_pick (λ pick. (pick ≡ Meet c.args.receiver c.args.sender) × PickFits pick) c.meeting.result c.in-Some.pick
     c.meeting.ensures c.in-Some.ensures.same)

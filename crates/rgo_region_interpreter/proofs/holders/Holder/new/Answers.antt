@@ -1,7 +1,7 @@
 use Rattle.std.proofs.Common.{◌≡◌, ℕ, None, ◌+◌, ◌∙◌, ap, sym, refl, arith, rules, length, nat_eq, take, get_or}
 use Rattle.std.specs.HashMap.{get}
 use Rattle.std.proofs.lemmas.List.{take_all, take_more}
-use Rattle.rgo_sound.specs.Stakes.{one_if}
+use Rattle.rgo_sound.specs.Stakes.{one_when}
 use Rattle.rgo_region_interpreter.specs.Holders.{count_in, times_among}
 use Rattle.rgo_region_interpreter.proofs.holding.Newest.{count_more, each_region, one_at_most, one_frame, times_push}
 use Rattle.rgo_region_interpreter.proofs.holders.Holder.new.Goals as goal
@@ -16,7 +16,7 @@ loop-r-preserved c =
     ∙ count_more (get nat_eq c.loop-r.protections q) (get_or c.deref-r-items.result.now i 0) q
     (times_among q (take i base)) (c.loop-r.invariant q)
     ∙ ap one_at_most
-    (ap (λ l. times_among q (take i base) + one_if (nat_eq (get_or l i 0) q)) same
+    (ap (λ l. times_among q (take i base) + one_when (nat_eq (get_or l i 0) q)) same
     ∙ sym (times_push q (take i base) (get_or base i 0))
     ∙ ap (times_among q) (sym (take_more base i 0 (omega (arith, ap length same)))))
 

@@ -1,6 +1,6 @@
 use Rattle.std.proofs.Common.{◌≡◌, ◌-◌, None, Some, refl, ap, ◌∙◌, arith, nat_eq}
 use Rattle.std.specs.HashMap.{get}
-use Rattle.rgo_interpreter.specs.Views.{memory_of}
+use Rattle.rgo_interpreter.specs.Views.{memory_view}
 use Rattle.rgo_region_interpreter.specs.declared.tables.Row.{Row}
 use Rattle.rgo_region_interpreter.proofs.regions.Rows.{is_some, live_info}
 use Rattle.rgo_region_interpreter.proofs.regions.Counts.{lent, replaced, replaced_twice}
@@ -27,7 +27,7 @@ returns-then-row-gt1-clause-memory c =
     λ regions global_pages owners whole live shows made same memory.
     let x = live_info regions c.args.r live in
     let is = is_row t t regions global_pages owners shows c.args.r live row found x.0 x.1 x.2 in
-    memory_left (memory_of c.args.memory.now) regions owners whole memory c.args.r x.0 x.1
+    memory_left (memory_view c.args.memory.now) regions owners whole memory c.args.r x.0 x.1
     (omega (arith, is.stakes, c.if-row-gt1.true))
 
 pub returns-clause-left : goal.returns-clause-left
@@ -61,6 +61,6 @@ returns-clause-memory c =
     let is = is_row t t regions global_pages owners shows c.args.r live row found x.0 x.1 x.2 in
     let some = has_stakes t t regions global_pages owners shows c.args.r live row found in
     c.take_away_all.ensures
-    ∙ memory_removed (memory_of c.args.memory.now) regions owners whole memory c.args.r x.0 x.1
+    ∙ memory_removed (memory_view c.args.memory.now) regions owners whole memory c.args.r x.0 x.1
     (omega (arith, is.stakes, some, c.if-row-gt1.false)) c.deref.result.now
     (c.deref.ensures.value ∙ ap (λ (x : Row). x.objects.items) same ∙ is.objects)

@@ -1,6 +1,6 @@
 use Rattle.std.proofs.Common.{map, refl, sym, ap, ◌∙◌, subst, slice_get}
 use Rattle.rgo_region_machine.specs.Owed.{twice}
-use Rattle.rgo_region_interpreter.specs.Calls.{NamesStandFor, or_nothing}
+use Rattle.rgo_region_interpreter.specs.Calls.{NamesStandFor, or_no_elements}
 use Rattle.rgo_region_interpreter.proofs.owing.Attending.{found}
 use Rattle.rgo_region_interpreter.proofs.passing.Beginning.{begun_with}
 use Rattle.rgo_region_interpreter.proofs.worlds.World.begin.Goals as goal
@@ -18,7 +18,7 @@ returns-clause-begun c =
     ∙ found c.deref-2.result.now c.args.g c.in-Some.holder.now look.3.0 look.1)
     refl c.in_ok-push.ensures.items c.in_ok-new.ensures
     (c.formals_at-formals.ensures
-    ∙ ap (λ l. or_nothing (slice_get (map (λ v. v.items) l) c.args.callee)) c.deref.ensures.value)
+    ∙ ap (λ l. or_no_elements (slice_get (map (λ v. v.items) l) c.args.callee)) c.deref.ensures.value)
     c.passes-passes.ensures
     (λ bindings same. c.in_ok-regions.ensures bindings
     (subst (λ l. NamesStandFor l bindings) (sym c.names-callers.ensures) same))

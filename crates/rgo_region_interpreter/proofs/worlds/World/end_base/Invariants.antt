@@ -1,5 +1,5 @@
 use Rattle.std.proofs.Common.{length}
-use Rattle.rgo_region_interpreter.specs.Attending.{base_of}
+use Rattle.rgo_region_interpreter.specs.Attending.{base_regions_of}
 use Rattle.rgo_region_interpreter.proofs.owing.Attending.{EndsSo}
 use Rattle.rgo_region_interpreter.proofs.worlds.World.end_base.Given as goal
 
@@ -7,4 +7,4 @@ abbrev pub invariant-loop-holder : goal.invariant-loop-holder
 invariant-loop-holder l = EndsSo l.fn.self l.self l.g
 
 abbrev pub decreases-loop-holder : goal.decreases-loop-holder
-decreases-loop-holder l = length (base_of l.self l.g)
+decreases-loop-holder l = length (base_regions_of l.self l.g)

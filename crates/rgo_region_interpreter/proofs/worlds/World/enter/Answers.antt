@@ -1,7 +1,7 @@
 use Rattle.std.proofs.Common.{refl, sym, ap, ◌∙◌, subst, slice_get}
 use Rattle.std.specs.List.Sorted.{IsStrictlyIncreasing}
 use Rattle.rgo_region_machine.specs.Owed.{code_function}
-use Rattle.rgo_region_interpreter.specs.Holders.{newest}
+use Rattle.rgo_region_interpreter.specs.Holders.{newest_frame_names}
 use Rattle.rgo_region_interpreter.proofs.owing.Attending.{found}
 use Rattle.rgo_region_interpreter.proofs.passing.Lists.{unbinds_since}
 use Rattle.rgo_region_interpreter.proofs.passing.Entering.{called_so, entered_at, formals_found, protects_rise}
@@ -22,7 +22,7 @@ returns-clause-entered c =
     (c.formals_at-formals.ensures
     ∙ formals_found w c.deref.result.now c.args.callee c.deref.ensures.value c.requires.prepared)
     c.result_class.ensures c.passes-passes.ensures c.protects.ensures
-    (c.names.ensures ∙ ap newest c.take_spare-names.ensures.kept.0)
+    (c.names.ensures ∙ ap newest_frame_names c.take_spare-names.ensures.kept.0)
     (unbinds_since c.in-Some.holder.now c.take_spare-names.new.self c.leave_given.new.holder _
     c.take_spare-names.ensures.kept
     (c.leave_given.ensures (subst IsStrictlyIncreasing (sym c.protects.ensures)

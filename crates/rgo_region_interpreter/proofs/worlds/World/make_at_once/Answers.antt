@@ -2,7 +2,7 @@ use Rattle.std.proofs.Common.{slice_set, ◌≡◌, ◌-◌, ◌∷◌, ◌∙�
 use Rattle.std.specs.Vec.{vec_len}
 use Rattle.std.proofs.lemmas.Option.{slice_get_read}
 use Rattle.rgo_memory.specs.Channels.{SameChannels}
-use Rattle.rgo_interpreter.specs.Views.{memory_of}
+use Rattle.rgo_interpreter.specs.Views.{memory_view}
 use Rattle.rgo_interpreter.proofs.InPlace.{set_same}
 use Rattle.rgo_interpreter.proofs.Newest.{newest, renewed}
 use Rattle.rgo_tac_interpreter.specs.Making.{FrameContinues}
@@ -42,7 +42,7 @@ returns c =
     let place = vec_len frames - 1 in
     let old = c.in-Some-last_mut.frame.now in
     let next = c.make_object.new.frame in
-    let n = memory_of c.make_object.new.memory in
+    let n = memory_view c.make_object.new.memory in
     let callers = drop 1 (reverse frames.items) in
     let top = newest frames.items old place (omega (arith, last.3.0, frames.ok.0)) last.1 in
     let again = renewed frames.items next place (omega (arith, last.3.0, frames.ok.0)) in

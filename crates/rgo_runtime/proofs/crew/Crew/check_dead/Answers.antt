@@ -3,8 +3,8 @@ use Rattle.rgo_runtime.specs.Boxes.{in_boxes}
 use Rattle.rgo_runtime.specs.Crew.{Crew}
 use Rattle.rgo_runtime.specs.Crews.{MayTurn}
 use Rattle.rgo_runtime.specs.Turns.{first_turn}
-use Rattle.rgo_runtime.proofs.Boxing.{boxes_length}
-use Rattle.rgo_runtime.proofs.CrewPasses.{CrewHasPassed, all_passed, crew_passed, pass_length, pass_may_turn, passed_kept, written_back}
+use Rattle.rgo_runtime.proofs.lists.Boxing.{boxes_length}
+use Rattle.rgo_runtime.proofs.passes.Crews.{CrewHasPassed, all_passed, crew_passed, pass_length, pass_may_turn, passed_kept, written_back}
 use Rattle.rgo_runtime.proofs.crew.Crew.check_dead.Goals as goal
 
 pub drain_ready-requires : goal.drain_ready-requires

@@ -1,5 +1,5 @@
 use Rattle.std.proofs.Common.{◌<◌, ap, arith, length}
-use Rattle.rgo_runtime.proofs.Crewing.{one_changes}
+use Rattle.rgo_runtime.proofs.crews.Steps.{one_changes}
 use Rattle.rgo_runtime.proofs.crew.Crew.collect_all.Goals as goal
 
 pub returns-in_err-collect-clause-kept : goal.returns-in_err-collect-clause-kept

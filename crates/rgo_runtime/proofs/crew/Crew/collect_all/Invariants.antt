@@ -1,5 +1,5 @@
 use Rattle.std.proofs.Common.{◌≡◌, length}
-use Rattle.rgo_runtime.proofs.Crewing.{Changes}
+use Rattle.rgo_runtime.proofs.crews.Steps.{Changes}
 use Rattle.rgo_runtime.proofs.crew.Crew.collect_all.Given as goal
 
 -- some have changed

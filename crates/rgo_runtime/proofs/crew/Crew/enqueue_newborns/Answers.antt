@@ -1,10 +1,10 @@
 use Rattle.std.proofs.Common.{◌∙◌, ◌∷◌, ◌++◌, [], append-nil, ap, arith, subst, sym}
 use Rattle.rgo_core.specs.Records.{steps_of}
-use Rattle.rgo_table_runs.specs.Goroutine.Goroutines.{IsOf, IsTidy, record_of}
+use Rattle.rgo_table_runs.specs.Goroutine.Goroutines.{IsOf, IsTidy, record_of_goroutine}
 use Rattle.rgo_runtime.specs.Turns.{first_turn}
-use Rattle.rgo_runtime.proofs.CrewPasses.{nothing_left}
-use Rattle.rgo_runtime.proofs.Keeps.{newborn_steps}
-use Rattle.rgo_runtime.proofs.Moving.{born_kept, crew_born, crew_welcomed, last_newborn, welcomed_kept}
+use Rattle.rgo_runtime.proofs.passes.Crews.{nothing_left}
+use Rattle.rgo_runtime.proofs.crews.Parts.{newborn_steps}
+use Rattle.rgo_runtime.proofs.crews.Moving.{born_kept, crew_born, crew_welcomed, last_newborn, welcomed_kept}
 use Rattle.rgo_runtime.proofs.crew.Crew.enqueue_newborns.Goals as goal
 
 pub loop-goroutine-init : goal.loop-goroutine-init
@@ -28,14 +28,14 @@ new-requires-clause-tidy c =
     let r = c.loop-goroutine.self-inside.run.now in
     let is = last_newborn r c.loop-goroutine.self-inside.born.items c.pop.new.self.items c.in-Some.goroutine c.in-Some.ensures.items
     c.loop-goroutine.invariant.is.born in
-    subst (λ go. IsTidy (record_of r.setup go)) (sym c.in-Ok.ensures.boxed) is.tidy
+    subst (λ go. IsTidy (record_of_goroutine r.setup go)) (sym c.in-Ok.ensures.boxed) is.tidy
 
 pub new-requires-clause-few : goal.new-requires-clause-few
 new-requires-clause-few c =
     let r = c.loop-goroutine.self-inside.run.now in
     let is = last_newborn r c.loop-goroutine.self-inside.born.items c.pop.new.self.items c.in-Some.goroutine c.in-Some.ensures.items
     c.loop-goroutine.invariant.is.born in
-    omega (arith, newborn_steps r c.in-Some.goroutine is, ap (λ go. steps_of (record_of r.setup go)) c.in-Ok.ensures.boxed)
+    omega (arith, newborn_steps r c.in-Some.goroutine is, ap (λ go. steps_of (record_of_goroutine r.setup go)) c.in-Ok.ensures.boxed)
 
 pub loop-goroutine-preserved : goal.loop-goroutine-preserved
 loop-goroutine-preserved c = record {

@@ -1,4 +1,4 @@
-use Rattle.rgo_runtime.proofs.Crewing.{pieces_written}
+use Rattle.rgo_runtime.proofs.crews.Steps.{pieces_written}
 use Rattle.rgo_runtime.proofs.crew.Crew.flush_prints.Goals as goal
 
 pub returns-clause-pieces : goal.returns-clause-pieces

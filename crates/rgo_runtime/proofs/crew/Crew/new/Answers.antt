@@ -1,6 +1,6 @@
 use Rattle.std.proofs.Common.{◌≡◌, ◌∙◌, ◌∷◌, ◌++◌, [], None, ap, refl, replicate}
 use Rattle.rgo_sound.specs.Tally.{no_share}
-use Rattle.rgo_runtime.proofs.Crewing.{main_is_crew, main_not_lost}
+use Rattle.rgo_runtime.proofs.crews.Steps.{main_is_crew, main_not_lost}
 use Rattle.rgo_runtime.proofs.crew.Crew.new.Goals as goal
 
 pub invariant_of-result : goal.invariant_of-result

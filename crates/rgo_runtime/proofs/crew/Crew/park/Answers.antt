@@ -1,5 +1,5 @@
 use Rattle.std.proofs.Common.{◌++◌, ◌∙◌, ◌∷◌, [], ap, arith, length}
-use Rattle.rgo_runtime.proofs.Moving.{crew_turns, one_back, one_out, one_parked, turns_kept}
+use Rattle.rgo_runtime.proofs.crews.Moving.{crew_turns, one_back, one_out, one_parked, turns_kept}
 use Rattle.rgo_runtime.proofs.crew.Crew.park.Goals as goal
 
 pub invariant_of-self : goal.invariant_of-self

@@ -1,5 +1,5 @@
 use Rattle.std.proofs.Common.{◌∙◌, arith}
-use Rattle.rgo_runtime.proofs.Moving.{kept_then}
+use Rattle.rgo_runtime.proofs.crews.Moving.{kept_then}
 use Rattle.rgo_runtime.proofs.crew.Crew.park_and_retire.Goals as goal
 
 pub loop-place-preserved-in-Parked : goal.loop-place-preserved-in-Parked

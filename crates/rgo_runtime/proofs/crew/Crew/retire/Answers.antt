@@ -1,5 +1,5 @@
 use Rattle.std.proofs.Common.{◌∙◌, ap, arith, length, slice_index_or}
-use Rattle.rgo_runtime.proofs.Moving.{crew_retired, one_out, retired_kept}
+use Rattle.rgo_runtime.proofs.crews.Moving.{crew_retired, one_out, retired_kept}
 use Rattle.rgo_runtime.proofs.crew.Crew.retire.Goals as goal
 
 pub retire-requires-clause-gathered : goal.retire-requires-clause-gathered

@@ -1,5 +1,5 @@
 use Rattle.std.proofs.Common.{refl}
-use Rattle.rgo_runtime.proofs.Gone.{crew_leaves}
+use Rattle.rgo_runtime.proofs.leaving.All.{crew_leaves}
 use Rattle.rgo_runtime.proofs.crew.Crew.retire_all.Goals as goal
 
 pub returns-clause-left : goal.returns-clause-left

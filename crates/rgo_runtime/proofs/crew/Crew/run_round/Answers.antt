@@ -1,4 +1,4 @@
-use Rattle.rgo_runtime.proofs.Moving.{kept_then}
+use Rattle.rgo_runtime.proofs.crews.Moving.{kept_then}
 use Rattle.rgo_runtime.proofs.crew.Crew.run_round.Goals as goal
 
 pub returns-in_err-moved-clause-kept : goal.returns-in_err-moved-clause-kept

@@ -1,8 +1,8 @@
 use Rattle.std.proofs.Common.{◌≡◌, ◌<◌, ◌∙◌, ap, arith, get_or, length, subst}
-use Rattle.rgo_table_runs.specs.Goroutine.Goroutines.{record_of}
+use Rattle.rgo_table_runs.specs.Goroutine.Goroutines.{record_of_goroutine}
 use Rattle.rgo_sound.proofs.Places.{length_set}
 use Rattle.rgo_runtime.specs.Crew.{Crew, IsRunCrew}
-use Rattle.rgo_runtime.proofs.Snapshots.{one_noted}
+use Rattle.rgo_runtime.proofs.crews.Snapshots.{one_noted}
 use Rattle.rgo_runtime.proofs.crew.Crew.snapshot.Goals as goal
 
 pub loop-turn-preserved : goal.loop-turn-preserved
@@ -17,7 +17,7 @@ loop-turn-preserved c =
     let within : i < length crew.ready = omega (arith, c.loop-turn-test.true, ap length same) in
     record {
       places = ap length (c.save_counts.ensures.share t.run c.goroutine.ensures.of)
-          ∙ length_set c.loop-turn.snapshot.shares go.number (record_of t.run.setup go).clock.share ∙ c.loop-turn.invariant.places;
+          ∙ length_set c.loop-turn.snapshot.shares go.number (record_of_goroutine t.run.setup go).clock.share ∙ c.loop-turn.invariant.places;
       retired = one_noted crew.run crew.me.0.records crew.ready (length crew.shares) i t go c.loop-turn.snapshot.shares c.save_counts.new.shares
           c.loop-turn.snapshot.first c.save_counts.new.first within at c.goroutine.ensures.same is.ready c.loop-turn.invariant.places
           c.goroutine.ensures.of c.goroutine.ensures.tidy c.save_counts.ensures.share c.save_counts.ensures.first c.loop-turn.invariant.retired;

@@ -1,4 +1,4 @@
-use Rattle.rgo_runtime.proofs.Crewing.{round_crew, round_ends, round_kept}
+use Rattle.rgo_runtime.proofs.crews.Steps.{round_crew, round_ends, round_kept}
 use Rattle.rgo_runtime.proofs.crew.Crew.turn_all.Goals as goal
 
 pub invariant_of-self : goal.invariant_of-self

@@ -1,4 +1,4 @@
-use Rattle.rgo_runtime.proofs.Moving.{crew_turns, turns_kept, unparked}
+use Rattle.rgo_runtime.proofs.crews.Moving.{crew_turns, turns_kept, unparked}
 use Rattle.rgo_runtime.proofs.crew.Crew.wake.Goals as goal
 
 pub invariant_of-self : goal.invariant_of-self

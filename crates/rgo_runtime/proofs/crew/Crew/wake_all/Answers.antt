@@ -1,4 +1,4 @@
-use Rattle.rgo_runtime.proofs.Moving.{all_unparked, crew_turns, turns_kept}
+use Rattle.rgo_runtime.proofs.crews.Moving.{all_unparked, crew_turns, turns_kept}
 use Rattle.rgo_runtime.proofs.crew.Crew.wake_all.Goals as goal
 
 pub invariant_of-self : goal.invariant_of-self

@@ -1,5 +1,5 @@
 use Rattle.std.proofs.Common.{◌∙◌}
-use Rattle.rgo_runtime.proofs.Moving.{kept_then}
+use Rattle.rgo_runtime.proofs.crews.Moving.{kept_then}
 use Rattle.rgo_runtime.proofs.crew.Crew.wake_each.Goals as goal
 
 pub returns-in_err-wake-clause-kept : goal.returns-in_err-wake-clause-kept

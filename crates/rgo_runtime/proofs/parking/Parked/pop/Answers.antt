@@ -1,7 +1,7 @@
 use Rattle.std.proofs.Common.{◌≡◌, ◌∙◌, ◌+◌, ap, arith, length, sym}
 use Rattle.std.proofs.lemmas.Bool.Decides.{nat_tests}
-use Rattle.rgo_runtime.specs.Parking.{pairs_of, values_of}
-use Rattle.rgo_runtime.proofs.Groups.{length_last, none_last, nothing_in, values_last}
+use Rattle.rgo_runtime.specs.Parking.{pairs_of, parked_values}
+use Rattle.rgo_runtime.proofs.lists.Groups.{length_last, none_last, nothing_in, values_last}
 use Rattle.rgo_runtime.proofs.parking.Parked.pop.Goals as goal
 
 pub loop-group-init : goal.loop-group-init
@@ -37,5 +37,5 @@ invariant_of-self g c =
 pub returns-then-not-is_empty-clause-rest : goal.returns-then-not-is_empty-clause-rest
 returns-then-not-is_empty-clause-rest g c =
     let left = c.pop.new.self.entries in
-    ap values_of (sym c.loop-group.invariant.same)
-    ∙ (ap (λ es. values_of (pairs_of es)) c.in-Some.ensures.entries ∙ values_last left (c.in-Some.field-0-0, c.in-Some.group))
+    ap parked_values (sym c.loop-group.invariant.same)
+    ∙ (ap (λ es. parked_values (pairs_of es)) c.in-Some.ensures.entries ∙ values_last left (c.in-Some.field-0-0, c.in-Some.group))

@@ -1,6 +1,6 @@
 use Rattle.std.proofs.Common.{ap, arith, length}
 use Rattle.rgo_runtime.specs.Parking.{pairs_of}
-use Rattle.rgo_runtime.proofs.Groups.{parted}
+use Rattle.rgo_runtime.proofs.lists.Groups.{parted}
 use Rattle.rgo_runtime.proofs.parking.Parked.unpark.Goals as goal
 
 pub overflow_sub-self : goal.overflow_sub-self

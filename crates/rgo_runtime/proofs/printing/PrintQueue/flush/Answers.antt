@@ -1,4 +1,4 @@
-use Rattle.rgo_runtime.proofs.Walks.{sorted_out, sorted_pieces, sorted_some}
+use Rattle.rgo_runtime.proofs.lists.Walks.{sorted_out, sorted_pieces, sorted_some}
 use Rattle.rgo_runtime.proofs.printing.PrintQueue.flush.Goals as goal
 
 pub returns-in-Ok-clause-given : goal.returns-in-Ok-clause-given

@@ -1,5 +1,5 @@
 use Rattle.std.proofs.Common.{arith}
-use Rattle.rgo_runtime.proofs.Summing.{one_place}
+use Rattle.rgo_runtime.proofs.lists.Summing.{one_place}
 use Rattle.rgo_runtime.proofs.shares.Shares.make_room.Goals as goal
 
 pub loop-preserved : goal.loop-preserved

@@ -1,4 +1,4 @@
-use Rattle.rgo_runtime.proofs.Summing.{SumsTo, Within}
+use Rattle.rgo_runtime.proofs.lists.Summing.{SumsTo, Within}
 use Rattle.rgo_sound.specs.RegionMachine.Tallies.{counts_in}
 use Rattle.rgo_runtime.proofs.shares.Shares.total.Given as goal
 

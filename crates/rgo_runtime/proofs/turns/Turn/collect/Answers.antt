@@ -3,9 +3,9 @@ use Rattle.std.specs.List.{All}
 use Rattle.std.proofs.lemmas.List.Elements.{All-same}
 use Rattle.rgo_table_runs.specs.Goroutine.Goroutines.{IsOf}
 use Rattle.rgo_table_runs.specs.Goroutine.declared.goroutine.Goroutine.{Goroutine}
-use Rattle.rgo_runtime.specs.Crews.{IsNewborn, Keeps, drawn, its_member, member_of, members}
+use Rattle.rgo_runtime.specs.Crews.{IsNewborn, DriverKeeps, drawn, its_member, member_of, members}
 use Rattle.rgo_runtime.specs.Turns.{Turn}
-use Rattle.rgo_runtime.proofs.Keeps.{adopts_newborn, keeps_collect, keeps_prints_only}
+use Rattle.rgo_runtime.proofs.crews.Parts.{adopts_newborn, keeps_collect, keeps_prints_only}
 use Rattle.rgo_runtime.proofs.turns.Turn.collect.Goals as goal
 
 pub returns-in_err-adopt-clause-kept : goal.returns-in_err-adopt-clause-kept
@@ -16,9 +16,9 @@ returns-in_err-adopt-clause-kept c =
     let list = c.args.born.now.items in
     let gathered = c.in_ok-gather.ensures in
     let none = c.in_err-adopt.ensures.adopts in
-    subst (λ (x : Turn). Keeps (its_member x ∷ members x.run.setup list) (drawn c.args.waiting.now.items)
+    subst (λ (x : Turn). DriverKeeps (its_member x ∷ members x.run.setup list) (drawn c.args.waiting.now.items)
     (member_of r.setup c.adopt.new.self ∷ members x.run.setup c.adopt.new.into.items) (drawn c.gather.new.into.items)) c.self.view_is
-    (subst (λ (x : Goroutine). Keeps (member_of r.setup x ∷ members r.setup list) (drawn c.args.waiting.now.items)
+    (subst (λ (x : Goroutine). DriverKeeps (member_of r.setup x ∷ members r.setup list) (drawn c.args.waiting.now.items)
     (member_of r.setup c.adopt.new.self ∷ members r.setup c.adopt.new.into.items) (drawn c.gather.new.into.items)) is
     (keeps_prints_only r go c.gather.new.self c.adopt.new.self c.args.waiting.now.items c.gather.new.into.items
     c.in_ok-gather.field-0 list c.adopt.new.into.items (subst (IsOf r) (sym is) c.self.invariant.of) gathered.gathers none.0 none.1))
@@ -45,9 +45,9 @@ returns-clause-kept c =
     let of = subst (IsOf r) (sym is) c.self.invariant.of in
     let list = c.args.born.now.items in
     let gathered = c.in_ok-gather.ensures in
-    subst (λ (x : Turn). Keeps (its_member x ∷ members x.run.setup list) (drawn c.args.waiting.now.items)
+    subst (λ (x : Turn). DriverKeeps (its_member x ∷ members x.run.setup list) (drawn c.args.waiting.now.items)
     (member_of r.setup c.adopt.new.self ∷ members x.run.setup c.adopt.new.into.items) (drawn c.gather.new.into.items)) c.self.view_is
-    (subst (λ (x : Goroutine). Keeps (member_of r.setup x ∷ members r.setup list) (drawn c.args.waiting.now.items)
+    (subst (λ (x : Goroutine). DriverKeeps (member_of r.setup x ∷ members r.setup list) (drawn c.args.waiting.now.items)
     (member_of r.setup c.adopt.new.self ∷ members r.setup c.adopt.new.into.items) (drawn c.gather.new.into.items)) is
     (keeps_collect r go c.gather.new.self c.adopt.new.self c.args.waiting.now.items c.gather.new.into.items
     c.in_ok-gather.field-0 list c.adopt.new.into.items of gathered.gathers c.in_ok-adopt.field-0

@@ -1,6 +1,6 @@
 use Rattle.rgo_scopes.proofs.scopes.Scopes.leave.Goals as goal
 use Rattle.std.proofs.Common.{ap, ◌∙◌, sym, refl}
-use Rattle.rgo_scopes.specs.Blocks.{left}
+use Rattle.rgo_scopes.specs.Blocks.{block_left}
 use Rattle.rgo_scopes.proofs.TrailLemmas.{trail-restored, IsSome-last, trail-left, view-left, nil_from_length}
 
 pub restore-requires : goal.restore-requires
@@ -29,4 +29,4 @@ invariant_of-self g c =
 pub returns-in-Some-pop : goal.returns-in-Some-pop
 returns-in-Some-pop g c =
     view-left c.self.inside.here.items c.pop-2.new.self.items c.self.inside.outer.items c.in-Some-pop.block
-    (sym c.loop-binding.invariant.1 ∙ c.in-Some-pop.ensures.items) ∙ ap left c.self.view_is
+    (sym c.loop-binding.invariant.1 ∙ c.in-Some-pop.ensures.items) ∙ ap block_left c.self.view_is

@@ -3,10 +3,10 @@ use Rattle.std.proofs.lemmas.List.{take_at}
 use Rattle.std.proofs.lemmas.Option.{slice_get_within}
 use Rattle.rgo_compact.specs.declared.positions.Caller.{Caller}
 use Rattle.rgo_compact.specs.Functions.{CompactFn}
-use Rattle.rgo_compact.specs.Stack.{StackEnters, IsStack, shown}
+use Rattle.rgo_compact.specs.Stack.{StackEnters, IsStack, shown_frames}
 use Rattle.rgo_stack.specs.Places.{FrameCanCall}
 use Rattle.rgo_stack.specs.Stacks.{Stack}
-use Rattle.rgo_stack.specs.Steps.{after_call}
+use Rattle.rgo_stack.specs.Steps.{frames_after_call}
 use Rattle.rgo_stack.proofs.Calling.{as_many_callers, entered, enters_shows}
 use Rattle.rgo_stack.proofs.Frames.{as_deep, belongs_at, seen}
 use Rattle.rgo_stack.proofs.stacks.Stack.call.Goals as goal
@@ -65,9 +65,9 @@ returns c =
     let all = ap length is_callers in
     record {
       called = λ code fn compact known.
-          (λ i. shown (is_words i) (is_callers i) q)
+          (λ i. shown_frames (is_words i) (is_callers i) q)
           ∙ enters_shows code fs fn a.n p q a.from.now here.words.items words here.callers.items callers compact known b.1 enters
-          ∙ ap (after_call fn a.n a.from.now) was;
+          ∙ ap (frames_after_call fn a.n a.from.now) was;
       deep = (
         λ e. cc,
         λ e. absurd (c.if-p-eq-DEEPEST.false (sym (as_deep _ a.self.now p c.in-Some.is c.self.view_is) ∙ e)),

@@ -4,10 +4,10 @@ use Rattle.std.specs.Option.{option_map}
 use Rattle.std.specs.Prelude.{IfSome}
 use Rattle.rgo_compact.specs.declared.positions.Caller.{Caller}
 use Rattle.rgo_compact.specs.declared.positions.Position.{Position}
-use Rattle.rgo_compact.specs.Stack.{IsStack, given_back, no_caller, resumed_position, shown}
+use Rattle.rgo_compact.specs.Stack.{IsStack, given_back, no_caller, resumed_position, shown_frames}
 use Rattle.rgo_stack.specs.Places.{CanReturn, IsCalledFor}
 use Rattle.rgo_stack.specs.Stacks.{Stack}
-use Rattle.rgo_stack.specs.Steps.{after_return}
+use Rattle.rgo_stack.specs.Steps.{frames_after_return}
 use Rattle.rgo_stack.proofs.Calling.{any_default, returned_shows, returned_stack, writes}
 use Rattle.rgo_stack.proofs.Frames.{belongs_at, seen}
 use Rattle.rgo_stack.proofs.stacks.Stack.come_back.Goals as goal
@@ -75,9 +75,9 @@ returns c =
     let room = ap (λ (t : Stack). length t.callers) c.self.view_is in
     record {
       frames = λ code for.
-          (λ i. shown ((words ∙ is_given) i) callers (there i))
+          (λ i. shown_frames ((words ∙ is_given) i) callers (there i))
           ∙ returned_shows fs old callers p d is b.0 a.value a.to can code (subst (IsCalledFor code a.to) (sym was) for)
-          ∙ ap (after_return code a.value) was;
+          ∙ ap (frames_after_return code a.value) was;
       belongs = record {
         frames = (
           subst (IsStack fs callers) (sym there) (returned_stack fs old callers p d is b.0 a.value a.to can),

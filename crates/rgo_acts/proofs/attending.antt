@@ -1,0 +1,3 @@
+-- Duties: what each of them leaves.
+pub mod Counts
+pub mod LocalDuties

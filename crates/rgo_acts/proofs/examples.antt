@@ -1,0 +1,5 @@
+-- Each definition where it holds and where it must not.
+pub mod Actors
+pub mod Duties
+pub mod Objects
+pub mod Waits

@@ -1,0 +1,3 @@
+-- Searches for a free slot or page.
+pub mod Covering
+pub mod Exchanges

@@ -1,0 +1,3 @@
+-- Goroutines that retire or are given up: the driver has their records.
+pub mod All
+pub mod One
