@@ -1,4 +1,5 @@
--- Where trees stand in a text: the place by which each is named, and that of its first byte.
+-- Places of trees in a text: the one at which a fault of the tree is reported, and that of its first byte. They differ so that a fault
+-- of an operation is at its operator, and one of a part of it is somewhere else.
 use Rattle.std.specs.Prelude.{ℕ}
 use Rattle.rgo_ast.specs.Tree.{TypeExpr, Named, Pointer, Slice, Chan, Expr, Select, Index, Called, Binary}
 use Rattle.rgo_ast.specs.Tree.{Number, Text, Name, Paren, New, MakeSlice, MakeChan, Unary, Literal, Keyed}
@@ -38,7 +39,7 @@ start_of (Called f args at) = start_of f
 start_of (Binary op a b at) = start_of a
 start_of e = place_of e
 
--- of an expression its place, and else the operator where there is one, or the first token
+-- an expression's place; of other statements the operator, if there is one, or the first token
 abbrev pub stmt_place_of : Stmt → ℕ
 stmt_place_of (Block all at) = at
 stmt_place_of (Plain e) = place_of e

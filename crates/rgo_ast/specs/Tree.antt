@@ -1,4 +1,5 @@
--- The surface trees as plain data: what contracts say of them, without the pointers of the code's own.
+-- The surface trees as plain data: what contracts see of them, without the pointers of the code's own. Lists inside the cycles are
+-- data of their own, so that functions on them are by recursion on the tree.
 use Rattle.std.specs.Prelude.{ℕ, List, [], ◌∷◌, Option, Some, None}
 use Rattle.rgo_ast.specs.declared.ops.UnaryOp.{UnaryOp}
 use Rattle.rgo_ast.specs.declared.ops.BinaryOp.{BinaryOp}
@@ -20,7 +21,7 @@ pub record Binding : Type 0 where
   pub ty : TypeExpr
 
 mutual
-  -- A place that is no name's is that of the operator of a binary operation, of the `(` of a call,
+  -- A place that is not a name's is that of the operator of a binary operation, of the `(` of a call,
   -- of the `[` of an index, and else that of the first token.
   pub data Expr : Type 0 where
     Number : ℕ → ℕ → Expr
@@ -38,6 +39,7 @@ mutual
     Literal : Ident → Exprs → ℕ → Expr
     Keyed : Ident → Elements → ℕ → Expr
 
+  -- a list of expressions: arguments, or the values of a literal without field names
   pub data Exprs : Type 0 where
     no_exprs : Exprs
     an_expr : Expr → Exprs → Exprs
@@ -52,10 +54,12 @@ mutual
     no_capacity : Capacity
     a_capacity : Expr → Capacity
 
+-- a list as data of the trees' cycle
 abbrev pub exprs_of : List Expr → Exprs
 exprs_of [] = no_exprs
 exprs_of (e ∷ l) = an_expr e (exprs_of l)
 
+-- the same of elements, each a field's name and a value
 abbrev pub elements_of : List (Ident × Expr) → Elements
 elements_of [] = no_elements
 elements_of (e ∷ l) = an_element e.0 e.1 (elements_of l)
@@ -87,19 +91,22 @@ mutual
     Break : ℕ → Stmt
     Continue : ℕ → Stmt
 
+  -- a list of statements
   pub data Stmts : Type 0 where
     no_stmts : Stmts
     a_stmt : Stmt → Stmts → Stmts
 
-  -- a statement that may be left out: before the condition, behind it, or behind `else`
+  -- a statement that may be left out: before the condition, after it, or after `else`
   pub data Clause : Type 0 where
     no_clause : Clause
     a_clause : Stmt → Clause
 
+-- the same of statements
 abbrev pub stmts_of : List Stmt → Stmts
 stmts_of [] = no_stmts
 stmts_of (s ∷ l) = a_stmt s (stmts_of l)
 
+-- the same of a statement that may be left out
 abbrev pub clause_of : Option Stmt → Clause
 clause_of None = no_clause
 clause_of (Some s) = a_clause s
@@ -124,6 +131,7 @@ pub data Decl : Type 0 where
   Vars : List Binding → ℕ → Decl
   Func : Function → Decl
 
+-- an import declaration, at its keyword
 pub record Import : Type 0 where
   pub paths : List ImportPath
   pub at : ℕ

@@ -1,4 +1,4 @@
--- The views: of each tree of the code, the plain data that contracts say of it.
+-- The views: the plain data that contracts see in place of each tree of the code.
 use Rattle.std.specs.Prelude.{Option, Some, None, option_map, map}
 use Rattle.std.specs.declared.boxed.Box.{Box}
 use Rattle.std.specs.declared.alloc.Global.{Global}

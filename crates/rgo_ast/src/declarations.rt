@@ -1,4 +1,4 @@
-//! Declarations at the top of a text, and the whole of it.
+//! Declarations at the top of a text, and the whole of it. They are in the order of the text, which is that of checking.
 
 use crate::names::{Ident, ImportPath, Place};
 use crate::statements::Stmt;
@@ -20,7 +20,7 @@ pub struct Function {
     pub body: Vec<Stmt>,
     /// The place of `func`.
     pub at: Place,
-    /// The place of the closing brace.
+    /// The place of the closing brace, where a missing `return` is reported.
     pub end: Place,
 }
 
@@ -49,6 +49,6 @@ pub struct Import {
 pub struct Program {
     pub imports: Vec<Import>,
     pub decls: Vec<Decl>,
-    /// The length of the text.
+    /// The length of the text, where a missing `main` is reported.
     pub end: Place,
 }

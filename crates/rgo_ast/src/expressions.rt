@@ -1,4 +1,5 @@
-//! Expressions as they are written.
+//! Expressions as they are written. The place of a node is the one at which a fault of the node itself is reported, so it need not be
+//! its first.
 
 use crate::names::{Ident, Place};
 use crate::ops::{BinaryOp, UnaryOp};
@@ -12,9 +13,9 @@ pub enum Expr {
     Number(u64, Place),
     /// A string literal, by its value.
     Text(Vec<u8>, Place),
-    /// An operand name.
+    /// An operand name. It may be a package, a type or a function too: which it is, only the typing knows.
     Name(Ident),
-    /// `(x)`, at the `(`.
+    /// `(x)`, at the `(`. It is kept, so that a tree shows what was written; the typing looks through it.
     Paren(Box<Expr>, Place),
     /// `new(T)`, at `new`.
     New(Ident, Place),

@@ -1,4 +1,5 @@
-//! The surface trees: what a text says, before any name in it is resolved.
+//! The surface trees: what a text says, before any name in it is resolved. They keep what the typing reports or checks: the place of
+//! each node, parentheses, types as they are spelled. Final commas, empty statements and groups of declarations leave nothing.
 #![tactic(auto)]
 
 mod declarations;

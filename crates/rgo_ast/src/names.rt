@@ -4,10 +4,10 @@ ghost use Rattle.std.specs.Prelude.{◌≡◌};
 
 use std::marker::Model;
 
-/// Where something stands in a text: the number of bytes before it.
+/// The position of something in a text: the number of bytes before it. Lines and columns are computed from it only for a message.
 pub type Place = usize;
 
-/// Bytes that contracts see as their list.
+/// The bytes of a name, which contracts see as their list. A name is copied from the text, so that trees do not borrow from it.
 #[derive(Drop)]
 pub struct Name {
     bytes: Vec<u8>,
@@ -37,14 +37,14 @@ impl Name {
     }
 }
 
-/// A name where it stands.
+/// A name with its place.
 #[derive(Drop)]
 pub struct Ident {
     pub name: Name,
     pub at: Place,
 }
 
-/// The path of an import, without its quotes, where its string stands.
+/// The path of an import, without its quotes, with the place of its string.
 #[derive(Drop)]
 pub struct ImportPath {
     pub path: Name,

@@ -1,4 +1,5 @@
-//! Operators, by what they do (The Go Programming Language Specification, "Operators").
+//! Operators, by what they do (The Go Programming Language Specification, "Operators"). Typed trees and code have the same
+//! `BinaryOp`, so no pass translates it.
 
 /// Unary operators.
 #[derive(Clone, Copy, Debug, PartialEq, Eq)]
@@ -28,7 +29,7 @@ pub enum BinaryOp {
     Or,
 }
 
-/// `=`, and the assignments that compute first.
+/// `=`, and the assignments that compute first: those with an operator on `int`.
 #[derive(Clone, Copy, Debug, PartialEq, Eq)]
 pub enum AssignOp {
     Plain,

@@ -1,4 +1,4 @@
-//! Where trees stand in a text: the place by which each is named, and that of its first byte.
+//! Places of trees in a text: the one at which a fault of the tree is reported, and that of its first byte.
 #![tactic(auto, using(crate::proofs::Rows::rows))]
 
 ghost use Rattle.std.specs.Prelude.{◌≡◌};

@@ -37,7 +37,7 @@ pub enum Stmt {
         init: Option<Box<Stmt>>,
         test: Box<Expr>,
         body: Vec<Stmt>,
-        /// What stands behind `else`: a block or an "if" statement.
+        /// What follows `else`: a block or an "if" statement. It is a statement of either kind, so later passes need no case for it.
         other: Option<Box<Stmt>>,
         at: Place,
     },

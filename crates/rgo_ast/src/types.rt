@@ -1,4 +1,4 @@
-//! Types as they are written, and names declared with one.
+//! Types as they are written, and names declared with one. They are kept in the tree, since the rules refuse a type at its name or `*`.
 
 use crate::names::{Ident, Place};
 
@@ -7,7 +7,7 @@ use crate::names::{Ident, Place};
 pub enum TypeExpr {
     /// `T`.
     Named(Ident),
-    /// `*T`, at the `*`.
+    /// `*T`, at the `*`. Only a name can follow, since pointers point to structs.
     Pointer(Ident, Place),
     /// `[]T`, at the `[`.
     Slice(Box<TypeExpr>, Place),

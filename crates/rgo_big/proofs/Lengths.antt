@@ -1,4 +1,4 @@
--- How long the text is.
+-- The length of the text, as a bound for each part: so the largest text of `big` is within the limit on texts.
 use Rattle.std.proofs.Common.{◌≡◌, ◌+◌, ◌*◌, ◌%◌, ◌^◌, ◌<◌, ◌≤◌, ℕ, zero, suc, List, ◌++◌, length, codes, arith, refl, decimal}
 use Rattle.std.specs.List.{flat_map, range_with_len}
 use Rattle.std.proofs.Math.Nat.{mod-lt}

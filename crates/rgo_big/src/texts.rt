@@ -42,7 +42,7 @@ fn write_summer(text: &mut Vec<u8>, k: u32) -> Result<(), AllocError>
     Ok(())
 }
 
-/// Appends the functions of the first `n` goroutines.
+/// Appends the functions of the first `n` goroutines. Each has one of its own, so that code and summaries grow with `n`, too.
 fn write_summers(text: &mut Vec<u8>, n: u32) -> Result<(), AllocError>
     ensures { OnOk result (text.new.items ≡ text.old.items ++ summers n) }
 {
@@ -61,7 +61,7 @@ fn write_starter(text: &mut Vec<u8>, k: u32) -> Result<(), AllocError>
     Ok(())
 }
 
-/// Appends the statements that start the first `n` goroutines.
+/// Appends the statements that start the first `n` goroutines, all before `main` receives anything.
 fn write_starters(text: &mut Vec<u8>, n: u32) -> Result<(), AllocError>
     ensures { OnOk result (text.new.items ≡ text.old.items ++ starters n) }
 {

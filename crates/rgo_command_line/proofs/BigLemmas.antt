@@ -1,4 +1,5 @@
--- What the words after `big` ask for.
+-- What the words after `big` ask for. As for `run`, one word at a time; what differs is that its number is not an option, so a `--` may
+-- come before it or after it.
 use Rattle.std.proofs.Common.{◌≡◌, ◌∙◌, refl, sym, ap, ap₂, subst, codes, cond, Bool, true, false, ℕ, List, [], ◌∷◌}
 use Rattle.std.proofs.Common.{Option, Some, None, ◌⊎◌, inl, inr, option_map}
 use Rattle.std.specs.List.{fold}
@@ -88,7 +89,7 @@ stops : (w : Walk) (x : Text) (xs : List Text)
     → from w (x ∷ xs) ≡ None
 stops w x xs e = turn w x xs ∙ ap (λ (b : Bool). cond b None (from (walked big_leaf.rules [] w x) xs)) e
 
--- the word is none too much, and leads there
+-- the word is not one too many, and leads there
 record Leads (w : Walk) (x : Text) (v : Walk) : Type 0 where
   no_fault : turn_fault big_leaf [] w x ≡ []
   walk : walked big_leaf.rules [] w x ≡ v
@@ -133,7 +134,7 @@ no_first : slice_get (chars []) 0 ≡ None
 unfolding clap_on_literals
 no_first = refl
 
--- where a word may still be an option
+-- before a `--`, when a word may still be an option
 abbrev open_at : Option (Text × List Text) → ℕ → Walk
 open_at pending position =
     record start { held = record nothing_held { pending = pending }; position = position }
@@ -155,7 +156,7 @@ flags_stop : (pending : Option (Text × List Text)) (position : ℕ) (x : Text) 
 unfolding clap_on_literals
 flags_stop pending position x c cs y d l s f = rw (d, l, s, f) refl
 
--- a first word that is no `--` is the number, or asks for nothing
+-- a first word other than `--` is the number, or asks for nothing
 abbrev Meets : Text → List Text → Type 0
 Meets x xs = (from start (x ∷ xs) ≡ None) ⊎ (from start (x ∷ xs) ≡ from (full x false) xs)
 
@@ -189,7 +190,7 @@ behind_all : (x y : Text) (ys : List Text) → from (full x true) (y ∷ ys) ≡
 unfolding clap_on_literals
 behind_all x y ys = stops (full x true) y ys refl
 
--- a second word that is no option
+-- a second word that is not an option
 second : (x y : Text) → bytes_eq y (codes "--") ≡ false → long_of y ≡ None
     → (short : Option Text) → short_of y ≡ short
     → has_fault (turn_fault big_leaf [] (full x false) y) ≡ true
@@ -213,12 +214,12 @@ more x y ys d = by_long (long_of y) refl
 
 -- ---- the words as a whole
 
--- the words ask for nothing, or hold a number, and ask for what it gives
+-- the words ask for nothing, or hold a number and ask for `big` with it
 abbrev pub Found : List Text → Type 0
 Found rest = (from start rest ≡ None)
     ⊎ ((x : Text) × HoldNumber x rest × (from start rest ≡ option_map Big (big_by x)))
 
--- the words after one that is no `--`
+-- the words after one other than `--`
 after_first : (x : Text) (xs : List Text)
     → (from (full x false) xs ≡ None)
     ⊎ (HoldNumber x (x ∷ xs) × (from (full x false) xs ≡ option_map Big (big_by x)))
@@ -266,7 +267,7 @@ found (x ∷ xs) = by_dashes (bytes_eq x (codes "--")) refl
     by_dashes true d = subst (λ w. Found (w ∷ xs)) (sym ((bytes_eq-Decides x (codes "--")).0 d)) (at_dashes xs)
     by_dashes false d = by_first (first x xs d)
 
--- what gives a number is a numeral
+-- a word that is read as a number is a numeral
 by_numeral : (x : Text) (n : ℕ) → big_by x ≡ Some n → is_numeral x ≡ true
 by_numeral x n e = by_test (is_numeral x) e
   where

@@ -1,4 +1,4 @@
--- What a parse of the words tells of what they ask for.
+-- What the result of a parse by `clap` says about the command that the words ask for.
 use Rattle.std.proofs.Common.{◌≡◌, ◌≢◌, cond, true, refl, List, [], ◌∷◌, None, inl, inr}
 use Rattle.clap.specs.Words.{HasKind, Kinds, Text, fault_of, is_simple_and_free, kind_of, subcommand_of}
 use Rattle.clap.specs.declared.error.Error.{Error}

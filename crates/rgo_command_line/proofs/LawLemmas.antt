@@ -1,4 +1,5 @@
--- Which words ask for a command.
+-- Which words ask for a command, in both directions: `command_of`, which follows `clap`, against the groups of words of Laws.antt. For
+-- options `OptionLemmas` carries it; here the cases of the commands are put together.
 use Rattle.std.proofs.Common.{◌≡◌, ◌∙◌, refl, sym, ap, ap₂, subst, codes, cond, Bool, true, false, List, [], ◌∷◌, ◌++◌, map}
 use Rattle.std.proofs.Common.{Option, Some, None, inl, inr, ℕ, ◌*◌, ◌≤◌, nat_le, option_map, arith}
 use Rattle.std.specs.Prelude.{◌||◌, if◌then◌else◌, is_some, option_and_then}
@@ -59,7 +60,7 @@ fits_by n e = grind (arith, nat_tests, e)
 test_fits : (n : ℕ) → n ≤ most_words → nat_le n most_words ≡ true
 test_fits n h = grind (arith, nat_tests, h)
 
--- the number of workers that the values give, if they do, and the options that they set
+-- the number of workers that the values set, if any, and the options that they set
 abbrev with_workers_of : Values → RunOptions → Met
 with_workers_of v options = (options, is_some (v (number workers)))
 
@@ -111,7 +112,7 @@ found v met asked =
           is,
         )
 
-    -- where the number of workers is not one that its option takes, nothing is asked for
+    -- if the number of workers is not one that its option takes, nothing is asked for
     no_workers : (sizes : Sizes) (b : Bool)
         → option_map (with_workers_of v) (option_and_then (λ (z : Sizes). None) (cond b (Some sizes) None)) ≡ Some met
         → Found v met
@@ -401,7 +402,7 @@ after_big program rest command e = by_found (big.found rest)
     words : List Text
     words = program ∷ codes "big" ∷ rest
 
-    -- what a number gives is asked for
+    -- the number is what the words ask for
     by_number : (x : Text) → HoldNumber x rest
         → (n : Option ℕ) → big_by x ≡ n
         → option_map Big n ≡ Some command
@@ -508,7 +509,7 @@ ask_plain p words (program, ending, inl none, is) =
 ask_plain p words (program, ending, inr dashes, is) =
     ap command_of (is ∙ ap (λ e. program ∷ name_of p ∷ e) dashes) ∙ ended p program
 
--- an option of which there are no words has no value
+-- an option without words has no value
 none_given : (value : Option Text) (mine : List Text) → SetsOption (codes "workers") value mine → mine ≡ []
     → is_some value ≡ false
 none_given None mine give empty = refl

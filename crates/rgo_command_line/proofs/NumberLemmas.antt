@@ -1,4 +1,4 @@
--- A numeral that `parse` refuses writes a number that no word holds.
+-- A numeral that `parse` refuses writes a number that no 64-bit word holds, so it is out of the range of every option.
 use Rattle.std.proofs.Common.{◌≡◌, ◌∙◌, sym, ap, ◌<◌, ◌≤◌, ◌^◌, ◌&&◌, ℕ, Bool, true, false, true≢false, List, [], ◌∷◌}
 use Rattle.std.proofs.Common.{length, None, Err, refl, arith, nat_lt, inl, inr}
 use Rattle.std.specs.List.{list_all}

@@ -1,4 +1,5 @@
--- The words after `run`, an option at a time.
+-- The words after `run`, one option at a time: induction on the words, with the values of the options so far. The hard case is the
+-- order, since users may choose it: the options that have no value yet are kept as a list of names, which an option leaves.
 use Rattle.std.proofs.Common.{◌≡◌, ◌∙◌, refl, sym, ap, ap₂, subst, codes, cond, Bool, true, false}
 use Rattle.std.proofs.Common.{◌||◌, ℕ, zero, suc, ◌+◌, ◌<◌, List, [], ◌∷◌, ◌++◌, length, map, append_assoc, arith}
 use Rattle.std.proofs.Common.{Option, Some, None, ◌⊎◌, inl, inr, option_map}
@@ -25,7 +26,7 @@ use Rattle.rgo_command_line.proofs.WordLemmas.{Kind, Name, Number, dashed, dashe
 use Rattle.rgo_command_line.proofs.WordLemmas as word
 use Rattle.rgo_command_line.proofs.WordLemmas.{kind_of_word, named, number, number_text, other, stats, text_of, valued}
 
--- the words that give an option this value, or none
+-- the words that set an option to this value, or no words without one
 abbrev pub Gives : Name → Option Text → List Text → Type 0
 Gives (number n) value words = SetsOption (number_text n) value words
 Gives stats None words = words ≡ []
@@ -355,7 +356,7 @@ ends_here : (rows : List Row) (rest : List Text)
 ends_here rows rest (inl e) = ap (from (between rows None)) e
 ends_here rows rest (inr e) = ap (from (between rows None)) e ∙ at_ending rows None
 
--- the words that give an option its value lead to what follows them
+-- the words that set an option lead to what follows them
 gives_value : (rows : List Row) (name : Name) (value : Text) (words rest : List Text)
     → Gives name (Some value) words
     → IsNumeral name (Some value)

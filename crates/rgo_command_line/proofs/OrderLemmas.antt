@@ -1,4 +1,4 @@
--- The names of the options, in any order.
+-- The names of the options, in any order: the words in the order of the user are a permutation of those in the order of the definition.
 use Rattle.std.proofs.Common.{◌≡◌, ◌∙◌, refl, sym, ap, ap₂, subst, codes, cond, Bool, true, false, true≢false}
 use Rattle.std.proofs.Common.{◌||◌, ℕ, ◌<◌, List, [], ◌∷◌, ◌++◌, length, map, arith, slice_index_or, slice_set}
 use Rattle.std.specs.List.{AllByRecursion, IsDistinct, list_any, swap}
@@ -96,7 +96,7 @@ none_of : (name : Name) (rest : List Name)
 none_of name [] h = refl
 none_of name (x ∷ xs) h = ap₂ (λ (a b : Bool). a || b) h.0 (none_of name xs h.1)
 
--- the first of distinct names is no other of them
+-- the first of distinct names differs from the others
 pub not_again : (name : Name) (rest : List Name)
     → IsDistinct same (name ∷ rest)
     → list_any (same name) rest ≡ false
@@ -117,7 +117,7 @@ split name (x ∷ xs) e = by_first (same name x) refl e (split name xs)
     by_first true d f h = ([], xs, ap (λ n. n ∷ xs) (sym (same_is name x d)))
     by_first false d f h = (x ∷ (h f).0, (h f).1, ap (λ l. x ∷ l) (h f).2)
 
--- another name stays where this one is taken out
+-- another name stays if this one is taken out
 pub still_among : (name other : Name) (before after : List Name)
     → same name other ≡ false
     → list_any (same other) (before ++ name ∷ after) ≡ true
@@ -129,7 +129,7 @@ still_among name other before after differ e =
     ∙ sym (list_any-append (same other) before (name ∷ after))
     ∙ e
 
--- the words of one option do not matter where it is not among the names
+-- the words of one option do not matter if it is not among the names
 pub other_words : (name : Name) (mine : List Text) (words : Name → List Text) (rest : List Name)
     → list_any (same name) rest ≡ false
     → map (λ n. cond (same name n) mine (words n)) rest ≡ map words rest

@@ -1,4 +1,4 @@
--- The command line that the builders of `clap` make.
+-- The command line that the builders of `clap` make, one call at a time: the clauses of `parser` compare the result with plain data.
 use Rattle.std.proofs.Common.{◌≡◌, ◌∙◌, ◌||◌, Bool, true, false, ap, ap₂, codes}
 use Rattle.clap.specs.Words.{AddsArg, AddsSubcommand, App, Rule, Shape, app_of, new_app, rule_of, shape_of}
 use Rattle.clap.specs.Words.{with_rule, with_subcommand}

@@ -1,4 +1,5 @@
--- The words after a command's name are checked at that command's own level alone.
+-- The words after a command's name are checked at that command's own level alone. `clap` walks through all words from the top; by this
+-- the other proofs begin after the name, and `runcode` and `record` share those of `run`.
 use Rattle.std.proofs.Common.{◌≡◌, ◌∙◌, refl, sym, ap, ap₂, codes, cond, Bool, true}
 use Rattle.std.proofs.Common.{false, List, [], ◌∷◌, ◌++◌, Option, Some, None}
 use Rattle.std.proofs.Common.{append-nil, append_assoc, option_map}
@@ -230,7 +231,7 @@ after_record program rest =
     rows : List Row
     rows = rows_after run_leaf.rules [] rest
 
--- what the words after `big` ask for, where nothing is wrong with them
+-- what the words after `big` ask for, if nothing is wrong with them
 abbrev pub big_met : List Row → Option Command
 big_met rows = option_map Big (big_of rows)
 

@@ -1,4 +1,4 @@
--- What `get_str` of `clap` gives, by the rows of the matches.
+-- The value that `get_str` of `clap` returns, by the rows of the matches.
 use Rattle.std.proofs.Common.{◌≡◌}
 use Rattle.clap.specs.Words.{Text, first_of, first_value, rows_of}
 use Rattle.clap.specs.declared.parser.matches.Found.{Found}

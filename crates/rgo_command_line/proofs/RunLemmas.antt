@@ -1,4 +1,5 @@
--- What the words after `run` ask for, a word at a time.
+-- What the words after `run` ask for, one word at a time: the steps of `clap`'s walk, each as an equation. An option may wait for its
+-- value between two words, so a state of the walk is its rows and what waits.
 use Rattle.std.proofs.Common.{◌≡◌, ◌∙◌, refl, sym, ap, ap₂, codes, cond, Bool}
 use Rattle.std.proofs.Common.{true, false, ◌||◌, ◌&&◌, ℕ, List, [], ◌∷◌}
 use Rattle.std.proofs.Common.{Option, Some, None, ◌⊎◌, inl, inr}
@@ -51,7 +52,8 @@ between rows pending = walk_from (holding rows pending)
 abbrev pub waiting : List Row → Number → Walk
 waiting rows n = standing rows (Some (number_text n, [])) (option (number_text n))
 
--- what is wrong with the option that is no row yet, and the rows with it
+-- What is wrong with the option that is not a row yet, and the rows with it: `clap` adds a row only when the next option begins or the
+-- words end.
 abbrev settling : List Row → Option (Text × List Text) → Kinds
 settling rows pending = settle_fault run_leaf.rules run_leaf.args_override_self (holding rows pending)
 
@@ -148,7 +150,7 @@ pub at_more : (rows : List Row) (pending : Option (Text × List Text)) (x : Text
 unfolding from clap_on_literals
 at_more rows pending x xs = refl
 
--- an option that has its value is wrong where there is a row of it
+-- an option that has its value is wrong if there is a row of it: it appears at most once
 once : (b : Bool) → has_fault (or_else (if b && true then ArgumentConflict ∷ [] else []) []) ≡ b
 once true = refl
 once false = refl

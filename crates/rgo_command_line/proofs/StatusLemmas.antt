@@ -1,4 +1,5 @@
--- What the rows of `run` have of each option, and what they ask for at the end of the words.
+-- The value that the rows of `run` have for each option, and what they ask for at the end of the words. Rows are in the order of the
+-- words, so proofs compare them by these values and not as lists.
 use Rattle.std.proofs.Common.{◌≡◌, ◌∙◌, refl, sym, ap, ap₂, subst, codes, cond, Bool, true, false, true≢false}
 use Rattle.std.proofs.Common.{◌||◌, ℕ, List, [], ◌∷◌, ◌++◌, Option, Some, None, option_map}
 use Rattle.std.specs.Prelude.{find, is_some, slice_get}
@@ -171,7 +172,7 @@ shows_row name rows values shows = has_status (text_of name) rows ∙ ap is_some
 
 -- ---- at the end of the words
 
--- the options with these numbers and this flag, where all are there
+-- the options with these numbers and this flag, if none of them is missing
 abbrev pub options_from : Option ℕ → Option ℕ → Option ℕ → Option ℕ → Option ℕ → Option ℕ → Bool → Option RunOptions
 options_from s g p w r k is_stats =
     option_and_then (λ limits. option_and_then (λ sizes. option_map (λ workers. record {
@@ -265,7 +266,7 @@ no_fault rows =
 no_end_fault : (rows : List Row) → has_fault (end_fault (holding rows None)) ≡ false
 no_end_fault rows = ap (λ k. has_fault (or_else k [])) (no_fault rows)
 
--- the rows with the default of the flag give the values
+-- the rows with the default of the flag have these values
 record Gives (rows : List Row) (values : Values) : Type 0 where
   numbers : (n : Number) → first_of (number_text n) rows ≡ values (number n)
   flag : is_given (codes "stats") rows ≡ is_some (values stats)

@@ -1,4 +1,4 @@
--- A word that a command does not take.
+-- A word that a command does not take is a fault, whatever follows it: a later fault may be added, but none is lost.
 use Rattle.std.proofs.Common.{◌≡◌, refl, sym, codes, Bool, true, false, true≢false, ℕ, List, [], ◌∷◌, length}
 use Rattle.std.proofs.Common.{Option, Some, None}
 use Rattle.std.specs.Prelude.{⊤, slice_get, find}
@@ -65,7 +65,7 @@ module _ (s : Shape) (rows : List Row) (pending : Option (Text × List Text)) wh
   abbrev held : Held
   held = holding rows pending
 
-  -- what is wrong with a word that comes to this
+  -- what is wrong with such a word
   abbrev met_fault : Bool → Bool → Held × Step → Kinds
   met_fault r is_leaf met = step_fault (with_rules r s is_leaf) 1 met.0 met.1
 
@@ -106,7 +106,7 @@ module _ (s : Shape) (rows : List Row) (pending : Option (Text × List Text)) wh
   by_long false is_leaf (Some p) w e unknown = refl
   by_long r is_leaf None w e unknown = by_short r is_leaf (short_of w) w
 
-  -- a word that names no subcommand and no option, and is no `--`, is a fault where none waits for it
+  -- a word that names no subcommand and no option, and is not `--`, is a fault if no option waits for it
   pub stray : (r is_leaf : Bool) (names : Names) (w : Text)
       → find (answers_to w) names ≡ None
       → bytes_eq w (codes "--") ≡ false

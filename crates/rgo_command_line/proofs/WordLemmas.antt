@@ -1,4 +1,4 @@
--- What a word after `run` can be.
+-- The kinds of a word after `run`. The proofs about `run` go by cases of `Kind`, so that they do not look at the bytes of a word.
 use Rattle.std.proofs.Common.{◌≡◌, ◌∙◌, refl, sym, ap, subst, codes, cond, Bool}
 use Rattle.std.proofs.Common.{true, false, true≢false, ℕ, ◌==◌, ◌+◌}
 use Rattle.std.proofs.Common.{[], ◌∷◌, ◌++◌, length, nat_lt, suc, Option}

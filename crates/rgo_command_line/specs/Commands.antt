@@ -26,7 +26,7 @@ command_named name rows =
 abbrev pub command_met : Option (Text × List Row) → Option Command
 command_met = option_and_then (λ met. command_named met.0 met.1)
 
--- there is something to refuse the words for
+-- some kind of error applies to the words
 abbrev pub has_fault : Kinds → Bool
 has_fault [] = false
 has_fault (kind ∷ rest) = true
@@ -39,7 +39,7 @@ is_refused words = has_fault (fault_of parser words)
 abbrev pub command_of : List Text → Option Command
 command_of words = if is_refused words then None else command_met (subcommand_of parser words)
 
--- the command that the words ask for is returned, and `Usage` only where they ask for nothing
+-- The command that the words ask for is returned, and `Usage` only if they ask for nothing. `NoMemory` needs no cause.
 abbrev pub ReadsCommand : List Text → Result Command WordsError → Type 0
 ReadsCommand words answer = MatchResult answer
     (λ command. command_of words ≡ Some command)

@@ -1,4 +1,5 @@
--- Which words ask for a command, said without a reader of words.
+-- Which words ask for a command, stated without a reader of words: the definition by `clap` is exact but long, and this is what a user
+-- may rely on.
 use Rattle.std.specs.Prelude.{◌≡◌, ◌⊎◌, ◌↔◌, ℕ, Bool, true, false, List, [], ◌∷◌, ◌++◌, Option, Some, None, codes}
 use Rattle.std.specs.Prelude.{IsPermutation}
 use Rattle.clap.specs.Words.{Text}

@@ -1,4 +1,5 @@
--- The limits, sizes and workers of a run, as the options of `run` set them.
+-- The limits, sizes and workers of a run, as the options of `run` set them. That they lie in their bounds is part of every command that
+-- the words ask for, so what runs a program has it as a premise.
 use Rattle.std.specs.Prelude.{◌*◌, ◌≤◌, Bool, false, List, Option, Some, None, ℕ, codes, nat_le, option_and_then}
 use Rattle.std.specs.Prelude.{if◌then◌else◌, ◌||◌, is_some, option_map}
 use Rattle.std.specs.Option.{option_map_or}
@@ -10,21 +11,27 @@ use Rattle.rgo_command_line.specs.declared.limits.RunOptions.{RunOptions}
 use Rattle.rgo_machine.specs.declared.limits.Limits.{Limits}
 use Rattle.rgo_machine.specs.declared.limits.Sizes.{Sizes}
 
+-- the numbers that `--steps` takes, and the one without it; the most is 2 ^ 42
 abbrev pub step_bounds : Bounds
 step_bounds = record { least = 1; most = 4398046511104; default = 4398046511104 }
 
+-- of `--goroutines`
 abbrev pub goroutine_bounds : Bounds
 goroutine_bounds = record { least = 1; most = 1000000; default = 100000 }
 
+-- of `--pages`; all pages together are bounded by `most_words` as well
 abbrev pub page_bounds : Bounds
 page_bounds = record { least = 1; most = 65536; default = 4096 }
 
+-- of `--page-words`
 abbrev pub page_word_bounds : Bounds
 page_word_bounds = record { least = 16; most = 4096; default = 256 }
 
+-- of `--regions`
 abbrev pub region_bounds : Bounds
 region_bounds = record { least = 1; most = 65536; default = 65536 }
 
+-- of `--workers`
 abbrev pub worker_bounds : Bounds
 worker_bounds = record { least = 1; most = 64; default = 4 }
 
@@ -78,7 +85,7 @@ limit_of name bounds rows = limit_by bounds (first_of name rows)
 abbrev pub is_given : Text → List Row → Bool
 is_given name rows = option_map_or (λ value. bytes_eq value (codes "true")) (first_of name rows) false
 
--- the limits of a run, where each number is one that its option takes
+-- the limits of a run, if each number is one that its option takes
 abbrev pub limits_of : List Row → Option Limits
 limits_of rows =
     option_and_then (λ steps. option_map (λ goroutines. record {
@@ -91,7 +98,7 @@ limits_of rows =
 abbrev pub fitting : Sizes → Option Sizes
 fitting sizes = if nat_le (sizes.pages * sizes.page_words) most_words then Some sizes else None
 
--- the sizes of a run, where each number is one that its option takes
+-- the sizes of a run, if each number is one that its option takes
 abbrev pub sizes_of : List Row → Option Sizes
 sizes_of rows =
     option_and_then (λ page_words. option_and_then (λ pages. option_and_then (λ regions. fitting (record {
@@ -114,8 +121,8 @@ options_of rows =
     (sizes_of rows))
     (limits_of rows)
 
--- What the options of `record` set: those of `run` but for the number of workers and the counts. None if the words have one
--- of these.
+-- What the options of `record` set: those of `run` except for the number of workers and the counts. None if the words have one of
+-- these: a recorded run is on one thread and writes a journal in place of the counts.
 abbrev pub recording_of : List Row → Option RunOptions
 recording_of rows =
     option_and_then (λ options. if is_some (first_of (codes "workers") rows) || options.stats then None else Some options)

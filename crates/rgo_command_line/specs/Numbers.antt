@@ -13,6 +13,6 @@ is_numeral text = nat_lt 0 (length text) && list_all is_ascii_digit text
 abbrev pub numeral_value : List ℕ → Option ℕ
 numeral_value text = if is_numeral text then Some (digits_value 10 text) else None
 
--- the number, where it is from `least` to `most`
+-- the number, if it is from `least` to `most`
 abbrev pub within : ℕ → ℕ → Option ℕ → Option ℕ
 within least most = option_and_then (λ n. if nat_le least n && nat_le n most then Some n else None)

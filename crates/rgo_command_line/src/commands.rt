@@ -1,4 +1,5 @@
-//! The command that the words of a command line ask for.
+//! The command that the words of a command line ask for. The words are all that a command depends on: neither the machine nor the
+//! environment is asked, so the same words mean the same run everywhere.
 
 ghost use Rattle.std.specs.Prelude.{◌≡◌, IfOk, IfSome, map, string_bytes};
 ghost use Rattle.clap.specs.Words.{found_of, rows_of, subcommand_rows_of};
@@ -71,7 +72,7 @@ fn command_named(name: &str, matches: &ArgMatches<'_>) -> Option<Command>
     }
 }
 
-/// `clap` accepts words without a subcommand, too, which ask for nothing.
+/// `clap` also accepts words without a subcommand, which ask for nothing.
 fn command_met(matches: &ArgMatches<'_>) -> Option<Command>
     ensures value { result ≡ command_met (subcommand_rows_of matches.now) }
     ensures bounds { IfSome result KeepsBounds }
@@ -99,7 +100,7 @@ fn command_met(matches: &ArgMatches<'_>) -> Option<Command>
 /// `big` takes a number of goroutines and no option: one or more decimal digits, from 1 to 10,000.
 /// A `--` may appear after the number or before it.
 ///
-/// `Usage` is returned only where they ask for nothing; `NoMemory` may be returned for any words.
+/// `Usage` is returned only if they ask for nothing; `NoMemory` may be returned for any words, since `clap` allocates while it reads.
 pub fn read_words(alloc: Global, words: &[String]) -> Result<Command, WordsError>
     ensures asked { ReadsCommand (map string_bytes words.now) result }
     ensures bounds { IfOk result KeepsBounds }

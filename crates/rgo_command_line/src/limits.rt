@@ -1,4 +1,5 @@
-//! What limits a run, and on how many workers it is, as the options of `run` set it.
+//! The limits of a run and the number of its workers, as the options of `run` set them. Each number has its bounds here and nowhere
+//! else: what runs a program takes them as premises and makes no test of its own.
 
 ghost use Rattle.std.specs.Prelude.{◌≡◌, false, IfSome};
 ghost use Rattle.clap.specs.Words.{found_of, rows_of};
@@ -58,42 +59,43 @@ pub(crate) struct Bounds {
     pub default: u64,
 }
 
-/// How many steps all goroutines may take together.
+/// The most steps that all goroutines may take together; 4,398,046,511,104 is 2^42.
 const STEPS: Bounds = Bounds {
     least: 1,
     most: 4_398_046_511_104,
     default: 4_398_046_511_104,
 };
 
-/// How many goroutines there may be, `main` included.
+/// The most goroutines, `main` included.
 const GOROUTINES: Bounds = Bounds {
     least: 1,
     most: 1_000_000,
     default: 100_000,
 };
 
-/// How many pages there may be at one time.
+/// The most pages in use at one time.
 const PAGES: Bounds = Bounds {
     least: 1,
     most: 65_536,
     default: 4_096,
 };
 
-/// How many words a page has.
+/// The number of words of a page.
 const PAGE_WORDS: Bounds = Bounds {
     least: 16,
     most: 4_096,
     default: 256,
 };
 
-/// How many regions there may be at one time, without the global one.
+/// The most live regions at one time, without the global one.
 const REGIONS: Bounds = Bounds {
     least: 1,
     most: 65_536,
     default: 65_536,
 };
 
-/// On how many workers the goroutines run.
+/// The number of workers on which goroutines run. The default does not depend on the machine, so that a command depends on nothing but
+/// its words.
 const WORKERS: Bounds = Bounds {
     least: 1,
     most: 64,
@@ -103,7 +105,7 @@ const WORKERS: Bounds = Bounds {
 /// The most goroutines that `big` starts; the least is one.
 const MOST_BIG: u64 = 10_000;
 
-/// The most words of all pages together.
+/// The most words of all pages together. The largest page size and the largest number of pages are not allowed together.
 const MOST_WORDS: usize = 16_777_216;
 
 #[tactic(auto, using(crate::proofs::RowLemmas::first_value_rows))]
@@ -117,7 +119,7 @@ fn limit(matches: &ArgMatches<'_>, name: &str, bounds: Bounds) -> Option<u64>
     }
 }
 
-/// Whether the words have the flag of this name.
+/// Whether the words have the flag of this name. `clap` gives a flag the value "false" if it is missing, so its presence is not enough.
 #[tactic(auto, using(crate::proofs::RowLemmas::first_value_rows))]
 fn is_given(matches: &ArgMatches<'_>, name: &str) -> bool
     ensures { result ≡ is_given name.now (rows_of (found_of matches.now)) }
@@ -175,7 +177,7 @@ pub(crate) fn options_of(matches: &ArgMatches<'_>) -> Option<RunOptions>
     })
 }
 
-/// What the options of `record` set, which are those of `run` but for `--workers` and `--stats`; none if the words have one of
+/// What the options of `record` set, which are those of `run` except for `--workers` and `--stats`; none if the words have one of
 /// these two. `clap` reads both commands in the same way, so these are refused here.
 #[tactic(auto, using(crate::proofs::RowLemmas::first_value_rows))]
 pub(crate) fn recording_of(matches: &ArgMatches<'_>) -> Option<RunOptions>

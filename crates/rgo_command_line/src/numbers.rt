@@ -1,4 +1,4 @@
-//! Numbers in decimal digits.
+//! Numbers in decimal digits. They are read here and not by `clap`, so that a number out of range is rejected like any wrong word.
 
 ghost use Rattle.std.specs.Prelude.{◌≡◌, ◌≤◌, IfSome, Some};
 ghost use Rattle.std.specs.Char.{is_ascii_digit};

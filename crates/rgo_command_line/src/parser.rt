@@ -54,7 +54,8 @@ fn big_parser<'a>(alloc: Global) -> Result<Command<'a>, AllocError>
     Command::new(alloc, "big").arg(required_word(alloc, "goroutines"))
 }
 
-/// One level of subcommands. Help and versions are off, since none of `clap`'s texts is printed.
+/// One level of subcommands. Help and versions are off: their words are rejected like other wrong words, with rgo's own usage line,
+/// so no text of `clap` is ever printed. Each option belongs to its command and to no other, as the clauses `local` state.
 pub(crate) fn parser<'a>(alloc: Global) -> Result<Command<'a>, AllocError>
     ensures { IfOk result (λ command. app_of command ≡ parser) }
 {

@@ -1,4 +1,4 @@
--- One step of the search for the first lexeme that nests too deep.
+-- One step of the search for the first lexeme that nests too deep, for the loop of `deep_at`.
 use Rattle.std.proofs.Common.{◌≡◌, ℕ, ◌+◌, ◌<◌, ◌≤◌, nat_lt, cond, List, length, get_or, drop, Option, Some, None, refl}
 use Rattle.std.proofs.lemmas.List.{drop_more, drop_all}
 use Rattle.std.proofs.lemmas.Bool.{lt-ltb, le-ltb}

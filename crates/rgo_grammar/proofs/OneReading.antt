@@ -1,4 +1,5 @@
--- A list of lexemes has at most one first bad lexeme, and none if it is a program.
+-- A list of lexemes has at most one first bad lexeme, and none if it is a program: if there were two, some program would begin with the
+-- tokens up to and including the first, which is bad. This needs no reading function.
 use Rattle.std.proofs.Common.{◌≡◌, ℕ, ◌+◌, ◌≤◌, ◌<◌, ◌⊎◌, inl, inr, List, [], ◌++◌, length, take, drop, subst, append_assoc, append-nil, arith}
 use Rattle.std.proofs.lemmas.List.{take-take, take-append-drop}
 use Rattle.std.proofs.lemmas.Bool.{cases_order, cases_lt}

@@ -1,5 +1,5 @@
--- From reading to the laws: reading fails at the first bad token, and what it returns is the one
--- tree.
+-- From reading to the laws: reading fails at the first bad token, and what it returns is the one tree. The order matters: correctness
+-- shows that the turns are enough; so completeness makes every program read as its tree, and two trees of one list are equal.
 use Rattle.std.proofs.Common.{◌≡◌, ℕ, suc, ◌+◌, ◌-◌, ◌*◌, ◌<◌, ◌≤◌, ◌⊎◌, inl, inr, true, List, [], ◌∷◌, ◌++◌, length, take, refl, ◌∙◌, ap, append_assoc, arith, length-append, add-one}
 use Rattle.std.proofs.Math.Seq.{take-append_seam}
 use Rattle.rgo_ast.specs.Tree.{Import, Decl}

@@ -1,4 +1,5 @@
--- The first bad lexeme: the first that cannot continue any program. Why: docs/DECISIONS.md, "Refusals".
+-- The first bad lexeme: the first that cannot continue any program. It is a fact about the language and not about a parser, so a user
+-- can rely on it: what comes before it may be kept. Why: docs/DECISIONS.md, "Refusals".
 use Rattle.std.specs.Prelude.{◌≡◌, ℕ, ◌+◌, ◌<◌, ◌≤◌, List, ◌++◌, length, take}
 use Rattle.rgo_ast.specs.Tree.{Import, Decl}
 use Rattle.rgo_lexer.specs.Lexemes.{Lexeme}

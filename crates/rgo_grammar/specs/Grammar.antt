@@ -164,8 +164,7 @@ mutual
 
 -- Simple = [ Expr | Expr "<-" Expr | Expr ( "++" | "--" )
 --     | Expr ( "=" | "+=" | "-=" | "*=" | "/=" | "%=" ) Expr | name ":=" Expr ] .
--- `defines`: the last one is allowed. The empty statement is left to the productions that contain
--- it.
+-- `defines`: the last one is allowed. The empty statement is left to the productions that contain it, since it has no tree.
 pub data IsSimple : Bool → Bool → List Lexeme → tree.Stmt → Type 0 where
   plain : {header defines : Bool} {x : List Lexeme} {v : tree.Expr} → IsExpr header 1 x v
       → IsSimple header defines x (tree.Plain v)

@@ -1,5 +1,5 @@
--- What a text begins with: it fits, a token by itself is the same token, and an operator is the
--- longest one.
+-- The front of a text: it fits, a token by itself is the same token, and an operator is the longest one. Each is proved for every form in
+-- the form's own file, and here for the choice among them. The second is the subtle one: cutting the text must not change the form.
 use Rattle.std.proofs.Common.{◌≡◌, ℕ, zero, suc, Bool, true, false, cond, List, [], ◌∷◌, take, refl, sym, subst, ◌∙◌, arith}
 use Rattle.std.specs.Prelude.{◌==◌, ◌||◌, not}
 use Rattle.std.proofs.lemmas.Bool.{false≢true}

@@ -1,4 +1,5 @@
--- Digits after a number make it no smaller, and are read one by one.
+-- Digits after a number make it no smaller, and are read one by one. So the code may stop at the first digit that makes the number too
+-- large, while the definition computes the whole value.
 use Rattle.std.proofs.Common.{◌≡◌, ℕ, ◌+◌, ◌*◌, ◌<◌, ◌≤◌, Bool, true, false, cond, List, [], ◌∷◌, get_or, drop, length, None, refl, ◌∙◌, arith}
 use Rattle.std.specs.Prelude.{fold, filter}
 use Rattle.std.specs.Char.{is_digit, digit_value}
@@ -35,7 +36,7 @@ value_after-cons base n b l =
 pub too_large : (m n : ℕ) → None ≡ if_fits m → m ≤ n → None ≡ if_fits n
 too_large m n e h = grind (arith, nat_tests)
 
--- where one byte more makes the number too large, so do all
+-- if one byte more makes the number too large, so do all
 pub value_after-too_large : (base n : ℕ) (digits : List ℕ) (i total : ℕ) → 1 ≤ base
     → i < length digits → None ≡ if_fits (value_after base n (get_or digits i 0 ∷ []))
     → value_after base n (drop i digits) ≡ total → None ≡ if_fits total

@@ -1,4 +1,5 @@
--- A text has one list of lexemes, or else one refusal.
+-- A text has one list of lexemes, or else one refusal. The front of a text is a function, so in each of the three laws both sides take
+-- the same step; that one of both exists is by induction on the length of the rest, which every step shortens.
 use Rattle.std.proofs.Common.{◌≡◌, ℕ, zero, suc, ◌+◌, ◌≤◌, ◌⊎◌, inl, inr, List, ◌∷◌, ◌++◌, length, take, drop, Option, Some, None, refl, sym, ap, subst, ◌∙◌, arith}
 use Rattle.std.specs.Str.{IsUtf8}
 use Rattle.std.proofs.lemmas.List.{length-drop}

@@ -1,4 +1,5 @@
--- The longest word of a table that a text begins with.
+-- The longest word of a table that a text begins with. The definition compares all entries, and the code takes the first that fits: they
+-- agree since no entry comes after a shorter one, which is checked by computing.
 use Rattle.std.proofs.Common.{◌≡◌, ℕ, ◌+◌, ◌<◌, ◌≤◌, zero, suc, map, get_or, take, drop, Bool, true, false, cond, List, [], ◌∷◌, length, Option, Some, None, refl, sym, ap, ◌∙◌, arith, Contains, IfSome}
 use Rattle.std.specs.Prelude.{nat_le}
 use Rattle.std.specs.List.{list_all}

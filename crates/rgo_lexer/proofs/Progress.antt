@@ -1,4 +1,5 @@
--- The state of the loop of `lexemes_from`: how far the text has been cut.
+-- The state of the loop of `lexemes_from`: how far the text has been cut. The relation of lexing goes from the front of the text on,
+-- and the loop appends at the end; so its invariant says what any lexemes of the rest would complete.
 use Rattle.std.proofs.Common.{◌≡◌, ℕ, ◌+◌, ◌-◌, ◌≤◌, List, [], ◌∷◌, ◌++◌, length, take, drop, Option, None, Some, sym, ap, append_assoc, arith}
 use Rattle.std.proofs.lemmas.List.{drop-drop, take_all, length-drop}
 use Rattle.rgo_lexer.specs.Front.{front_of, IsWidthIn}

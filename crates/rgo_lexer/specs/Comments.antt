@@ -1,4 +1,5 @@
--- Comments: to the end of the line, or to the first `*/`.
+-- Comments: to the end of the line, or to the first `*/`, so they do not nest. The first kind leaves its newline in the text, which may
+-- have to insert a `;`.
 use Rattle.std.specs.Prelude.{ℕ, suc, ◌+◌, Bool, if◌then◌else◌, ◌||◌, ◌==◌, List, [], ◌∷◌, take, drop, codes, Option, Some, None, option_map}
 use Rattle.std.specs.List.{list_any, position_or_len}
 use Rattle.rgo_lexer.specs.Bytes.{has_prefix}
@@ -12,12 +13,15 @@ first_close [] = None
 first_close (b ∷ text) =
     if has_prefix (b ∷ text) (codes "*/") then Some 0 else option_map suc (first_close text)
 
+-- a comment to the end of the line begins here
 abbrev pub begins_line_comment : List ℕ → Bool
 begins_line_comment text = has_prefix text (codes "//")
 
+-- a comment of either kind begins here
 abbrev pub begins_comment : List ℕ → Bool
 begins_comment text = begins_line_comment text || has_prefix text (codes "/*")
 
+-- the one byte that ends a line; a carriage return is blank
 abbrev pub is_newline : ℕ → Bool
 is_newline b = b == 10
 

@@ -26,7 +26,7 @@ pub record IsWidthIn (text : List ℕ) (n : ℕ) : Type 0 where
   pub some : 0 < n
   pub within : n ≤ length text
 
--- the bytes of a separator or a token, or the reported byte of an error, lie within the text
+-- The bytes of a separator or a token, or the reported byte of an error, lie within the text. A width is never 0, so lexing ends.
 abbrev pub FitsIn : List ℕ → Front → Type 0
 FitsIn text End = text ≡ []
 FitsIn text (Blank n) = IsWidthIn text n

@@ -28,7 +28,8 @@ abbrev pub OneRefusal : Type 0
 OneRefusal = (text : List ℕ) (r other : LexRefusal)
     → LexRefuses text r → LexRefuses text other → r ≡ other
 
--- each lexeme of a text is an inserted `;` or a part of the text that is a token by itself
+-- Each lexeme of a text is an inserted `;` or a part of the text that is a token by itself. So a lexeme means the same wherever it is,
+-- and its terminal can be checked from its bytes.
 abbrev pub OfText : Type 0
 OfText = (text : List ℕ) (lexemes : List Lexeme)
     → LexesAs text lexemes → All (IsLexemeOf text) lexemes

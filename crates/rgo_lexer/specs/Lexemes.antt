@@ -23,11 +23,13 @@ pub record Leaf : Type 0 where
 -- a token with its terminal
 pub record Lexeme : Type 0 where
   pub terminal : Terminal
+  -- the record as a function of its parts, for clauses
   pub leaf : Leaf
 
 abbrev pub leaf : ℕ → List ℕ → Leaf
 leaf at word = record { at = at; word = word }
 
+-- the same of a lexeme
 abbrev pub tok : Terminal → Leaf → Lexeme
 tok k i = record { terminal = k; leaf = i }
 
@@ -35,6 +37,7 @@ tok k i = record { terminal = k; leaf = i }
 abbrev pub lexeme_end : Lexeme → ℕ
 lexeme_end l = l.leaf.at + length l.leaf.word
 
+-- the name in a tree that a leaf becomes: its bytes and its place
 abbrev pub ident : Leaf → Ident
 ident i = record { name = i.word; at = i.at }
 
@@ -43,7 +46,7 @@ abbrev pub path : Leaf → ImportPath
 path i = record { path = string_of i.word; at = i.at }
 
 -- The class of a terminal is the number of its form. Operators that occur in other productions than the rest of their form also have
--- a subclass. Terminals that share both occur in the same productions.
+-- a subclass. Terminals that share both occur in the same productions, so the grammar compares these and not what a terminal carries.
 abbrev pub class : Terminal → ℕ
 class Name = 0
 class Main = 1

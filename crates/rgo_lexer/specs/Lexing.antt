@@ -1,4 +1,5 @@
--- `LexesAs text lexemes`: the lexemes that the specification assigns to a text. Refusals.antt is its counterpart for the other texts.
+-- `LexesAs text lexemes`: the lexemes that the specification assigns to a text. Refusals.antt is its counterpart for the other texts. It
+-- is a relation and not a function, which would retrace the loop of the lexer. Why: docs/DECISIONS.md, "The forms of the definitions".
 use Rattle.std.specs.Prelude.{◌≡◌, ℕ, ◌+◌, ◌<◌, ◌≤◌, ◌⊎◌, ◌==◌, List, [], ◌∷◌, ◌++◌, length, take, drop, codes, Option, None, Some, if◌then◌else◌, slice_range}
 use Rattle.std.specs.Str.{IsUtf8, bytes_eq}
 use Rattle.rgo_lexer.specs.Bytes.{has_prefix}
@@ -39,7 +40,7 @@ text_start text = if has_prefix text byte_order_mark then 3 else 0
 abbrev pub package_name : Lexeme → Lexeme
 package_name l = if bytes_eq l.leaf.word (codes "main") then tok Main l.leaf else l
 
--- the second lexeme of a text is the name of the package
+-- the second lexeme of a text is the name of the package; it is the only lexeme whose terminal depends on its position
 abbrev pub with_package_name : List Lexeme → List Lexeme
 with_package_name [] = []
 with_package_name (l ∷ []) = l ∷ []

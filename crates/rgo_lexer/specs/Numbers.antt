@@ -54,7 +54,8 @@ literal_value word =
     if is_decimal word then if_fits (value_of 10 word)
     else (if is_hexadecimal word then if_fits (value_of 16 (drop 2 word)) else None)
 
--- a literal that is malformed or too large, rejected at its first byte
+-- A literal that is malformed or too large, rejected at its first byte. Its longest valid front is not a number, since the rest would
+-- then be reported as a syntax error.
 abbrev pub bad_number : Front
 bad_number = Refused BadNumber 0
 

@@ -13,7 +13,8 @@ use Rattle.rgo_lexer.specs.declared.terminals.Terminal.TheVariants.{Step, OpenPa
 use Rattle.rgo_lexer.specs.declared.terminals.Terminal.TheVariants.{CloseBracket, OpenBrace, CloseBrace, Comma}
 use Rattle.rgo_lexer.specs.declared.terminals.Terminal.TheVariants.{Semicolon, Colon, Dot, Other}
 
--- all of Go's operators and punctuation, with their terminals
+-- All of Go's operators and punctuation, with their terminals, also those that occur in no production: without `<<` the text `<<` would
+-- be two tokens.
 abbrev pub operators : List (List ℕ × Terminal)
 operators =
     (codes "<<=", Other) ∷ (codes ">>=", Other) ∷ (codes "&^=", Other) ∷ (codes "...", Other)

@@ -19,6 +19,7 @@ width (Newline n) = Some n
 width (Piece terminal n) = Some n
 width _ = None
 
+-- the record as a function of its parts, for the constructor below
 abbrev pub refusal : LexicalKind → ℕ → LexRefusal
 refusal kind at = record { kind = kind; at = at }
 
@@ -34,7 +35,8 @@ pub data RefusesFrom : ℕ → List ℕ → LexRefusal → Type 0 where
 abbrev pub bad_utf8 : List ℕ → LexRefusal
 bad_utf8 text = refusal BadUtf8 (utf8_valid_len text)
 
--- the refusal of a text; one that is not UTF-8 is rejected for that, whatever else is wrong with it
+-- The refusal of a text. One that is not UTF-8 is rejected for that, whatever else is wrong with it: the place of an earlier error would
+-- depend on bytes that are not text.
 abbrev pub LexRefuses : List ℕ → LexRefusal → Type 0
 LexRefuses text r =
     (IsUtf8 text × RefusesFrom (text_start text) (drop (text_start text) text) r)

@@ -1,4 +1,4 @@
--- The `;` that the end of a line inserts after its last token.
+-- The `;` that the end of a line inserts after its last token. It is inserted by the lexer, so the grammar needs no newlines.
 use Rattle.std.specs.Prelude.{ℕ, Bool, true, false, List, [], ◌∷◌, Option, None, Some, if◌then◌else◌, codes}
 use Rattle.std.specs.Str.{bytes_eq}
 use Rattle.rgo_lexer.specs.Lexemes.{Lexeme, leaf, tok}

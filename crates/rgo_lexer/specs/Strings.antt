@@ -24,8 +24,8 @@ escaped letter =
 abbrev pub is_plain_byte : ℕ → Bool
 is_plain_byte b = not (b == 34 || b == 92 || b == 10)
 
--- The items at the front of a text, up to the first byte that begins none. Each is a plain byte, or a backslash and an escape's letter.
 abbrev mutual
+  -- The items at the front of a text, up to the first byte that begins none. Each is a plain byte, or a backslash and an escape's letter.
   pub items : List ℕ → List (List ℕ)
   items [] = []
   items (b ∷ text) =
@@ -57,7 +57,7 @@ string_of literal = map item_value (items (drop 1 literal))
 unfoldable pub items_len : List ℕ → ℕ
 items_len text = length (concat (items text))
 
--- a string without its closing quote, rejected at its first byte
+-- a string without its closing quote, rejected at its first byte, since nobody can say where it should end
 abbrev pub open_string : Front
 open_string = Refused OpenString 0
 

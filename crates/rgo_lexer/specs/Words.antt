@@ -20,7 +20,8 @@ abbrev pub looked_up : List (List ℕ × Terminal) → Terminal → List ℕ →
 looked_up [] default word = default
 looked_up (e ∷ table) default word = if bytes_eq word e.0 then e.1 else looked_up table default word
 
--- the words that are not names: all of Go's keywords, `new` and `make`
+-- The words that are not names: all of Go's keywords, so that no program uses one as a name, and `new` and `make`, whose first operand is
+-- a type.
 abbrev pub words : List (List ℕ × Terminal)
 words =
     (codes "break", Break) ∷ (codes "case", Other) ∷ (codes "chan", Chan)

@@ -1,4 +1,5 @@
--- Each list of lexemes is one program, or has one refusal.
+-- Each list of lexemes is one program, or has one refusal. From the law of the grammar, with the nesting: of a list that nests too deep
+-- the part up to that lexeme decides which refusal it has.
 use Rattle.std.proofs.Common.{◌≡◌, ℕ, ◌+◌, ◌<◌, ◌≤◌, ◌⊎◌, inl, inr, List, Option, Some, None, refl, sym, ap, subst, ◌∙◌, arith}
 use Rattle.std.proofs.lemmas.Bool.{cases_lt}
 use Rattle.rgo_ast.specs.Tree.{Import, Decl, Program}

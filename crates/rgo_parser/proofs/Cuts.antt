@@ -1,4 +1,5 @@
--- A list that nests too deep is read up to the lexeme where it does.
+-- A list that nests too deep is read up to the lexeme where it does: a bad lexeme before that is also the first bad one of the whole
+-- list, since whether a lexeme is bad depends on no lexeme after it.
 use Rattle.std.proofs.Common.{◌≡◌, ℕ, suc, ◌+◌, ◌<◌, ◌≤◌, Bool, true, false, cond, List, [], ◌∷◌, ◌++◌, length, take, drop, map, Some, None, sym, subst, append_assoc, append-nil, arith}
 use Rattle.std.specs.Prelude.{nat_lt}
 use Rattle.std.proofs.lemmas.List.{take-take, length-take, length-map, take-append-drop}
@@ -47,7 +48,7 @@ cut_syntax l k d e h bad =
       shallow = rw e h;
     }
 
--- where the front is a program, or begins one to its end, the nesting is refused
+-- if the front is a program, or begins one to its end, the nesting is refused
 pub cut_program : (l : List Lexeme) (d : ℕ) (imports : List Import) (decls : List Decl) → deep_at limit l ≡ Some d
     → IsProgram (take (d + 1) l) imports decls → IsTooDeep l d
 cut_program l d imports decls e p = record { deep = e; begun = ([], imports, decls, rw append-nil p) }

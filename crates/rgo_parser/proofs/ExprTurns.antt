@@ -1,4 +1,5 @@
--- One turn of each reader of expressions, at a number of turns that is not 0, in the parts that the code reads at once.
+-- One turn of each reader of expressions, at a number of turns that is not 0, in the parts that the code reads at once. The reading
+-- functions of rgo_grammar are cut otherwise than the code; each equation here turns one into the other, and the answers cite them.
 use Rattle.std.proofs.Common.{◌≡◌, ℕ, ◌+◌, ◌-◌, ◌<◌, nat_le, Bool, true, false, cond, List, [], ◌∷◌, ◌++◌, suc, Option, Some, None, refl, sym, ap, subst, ◌∙◌}
 use Rattle.rgo_ast.specs.declared.ops.BinaryOp.{BinaryOp}
 use Rattle.rgo_ast.specs.declared.ops.BinaryOp.TheVariants as op

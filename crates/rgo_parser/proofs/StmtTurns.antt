@@ -1,4 +1,5 @@
--- One turn of each reader of statements, at a number of turns that is not 0, in the parts that the code reads at once.
+-- One turn of each reader of statements, at a number of turns that is not 0, in the parts that the code reads at once: as in ExprTurns,
+-- with headers and `else` read apart from their blocks.
 use Rattle.std.proofs.Common.{◌≡◌, ℕ, zero, suc, ◌-◌, ◌<◌, true, false, List, [], ◌∷◌, Option, Some, None, refl, ap, ◌∙◌}
 use Rattle.rgo_ast.specs.declared.statements.Stmt as code
 use Rattle.rgo_ast.specs.Tree as tree

@@ -1,4 +1,4 @@
--- What reading a whole list of lexemes finds, with as many turns as the parser takes.
+-- What reading a whole list of lexemes finds, with as many turns as the parser takes; by rgo_grammar these are enough.
 use Rattle.std.proofs.Common.{◌≡◌, ◌+◌, ◌-◌, ◌*◌, ◌≤◌, List, length, subst}
 use Rattle.rgo_ast.specs.Tree.{Import, Decl}
 use Rattle.rgo_lexer.specs.Lexemes.{Lexeme}

@@ -1,4 +1,5 @@
--- Reading functions for the headers of `if` and `for` up to the block; those of rgo_grammar read a header together with its block.
+-- Reading functions for the headers of `if` and `for` up to the block; those of rgo_grammar read a header together with its block. The
+-- code reads headers outside the cycle of statements, so that the cycle is small.
 use Rattle.std.specs.Prelude.{List, Option, Some, None}
 use Rattle.rgo_ast.specs.Tree.{Expr, Stmt}
 use Rattle.rgo_ast.specs.Views.{expr_of, boxed_expr_of, boxed_stmt_of}

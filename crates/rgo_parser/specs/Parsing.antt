@@ -1,5 +1,5 @@
--- What `parse` decides about a list of lexemes: `IsParsed`, or `RefusesLexemes` with the first lexeme that is wrong. The number of a lexeme
--- counts those before it; the number of all lexemes means the end of the text.
+-- What `parse` decides about a list of lexemes: `IsParsed`, or a refusal with the first lexeme that is wrong. The number of a lexeme
+-- counts those before it; the number of all lexemes means the end of the text, where the next lexeme is missing.
 use Rattle.std.specs.Prelude.{◌≡◌, ℕ, ◌+◌, List, take, None, Some}
 use Rattle.rgo_ast.specs.Tree.{Program}
 use Rattle.rgo_lexer.specs.Lexemes.{Lexeme}
@@ -11,7 +11,7 @@ use Rattle.rgo_parser.specs.declared.parser.ParseRefusal.TheVariants as refusal
 use Rattle.rgo_parser.specs.declared.parser.ParseError.{ParseError}
 use Rattle.rgo_parser.specs.declared.parser.ParseError.TheVariants as error
 
--- the greatest depth of nesting
+-- the greatest depth of nesting; the recursion of the parser and of every later pass is bounded by it
 abbrev pub limit : ℕ
 limit = 200
 
@@ -26,11 +26,13 @@ pub record IsSyntax (lexemes : List Lexeme) (k : ℕ) : Type 0 where
   pub bad : IsFirstBad lexemes k
   pub shallow : NotBefore (deep_at limit lexemes) k
 
--- the k-th lexeme is the first that nests too deep, and some program begins with the lexemes up to it
+-- The k-th lexeme is the first that nests too deep, and some program begins with the lexemes up to it: if it is bad as well, syntax is
+-- reported, so that a refusal for nesting always means that the text was valid so far.
 pub record IsTooDeep (lexemes : List Lexeme) (k : ℕ) : Type 0 where
   pub deep : deep_at limit lexemes ≡ Some k
   pub begun : Begins (take (k + 1) lexemes)
 
+-- what a refusal claims of the lexemes: the first that is bad, or the first that nests too deep
 abbrev pub RefusesLexemes : List Lexeme → ParseRefusal → Type 0
 RefusesLexemes lexemes (refusal.Syntax at) = IsSyntax lexemes at
 RefusesLexemes lexemes (refusal.TooDeep at) = IsTooDeep lexemes at

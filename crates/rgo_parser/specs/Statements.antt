@@ -1,4 +1,5 @@
--- Reading functions for the parts of statements that contain no other statement; those of rgo_grammar read whole statements.
+-- Reading functions for the parts of statements that contain no other statement; those of rgo_grammar read whole statements. The parser
+-- splits a statement there: what is read before its block needs no recursion.
 use Rattle.std.specs.Prelude.{ℕ, false, true, List, [], ◌∷◌, Option, Some, None}
 use Rattle.rgo_ast.specs.declared.statements.Stmt.{Stmt as CodeStmt}
 use Rattle.rgo_ast.specs.Tree.{Stmt}

@@ -19,7 +19,7 @@ use rgo_reader::{Fault, Reader};
 use std::alloc::{AllocError, Global};
 use thiserror::Error;
 
-/// The greatest depth of nesting, in levels, joints and branches as rgo_grammar counts them.
+/// The greatest depth of nesting: brackets, joints and `else` of all open levels, as rgo_grammar counts them.
 const LIMIT: usize = 200;
 
 /// Why lexemes are not a program, with the number, from 0, of the first lexeme that is wrong. The number of all lexemes means the

@@ -47,7 +47,7 @@ pub(crate) fn valued(
     }
 }
 
-/// A simple statement that may be a definition; `header` as for `valued`. Only the second lexeme tells a definition from an
+/// A simple statement that may be a definition; `header` as for `valued`. Only the second lexeme distinguishes a definition from an
 /// expression, so this looks two ahead.
 pub(crate) fn defining(
     alloc: Global,

@@ -1,4 +1,5 @@
 -- `Agrees`: code that reads from a `Reader` agrees with a reading function of rgo_grammar on the same lexemes, unless memory ran out.
+-- It also fixes the lexemes that are left, after a failure too: by their number the parser knows the first bad one.
 use Rattle.std.specs.Prelude.{◌≡◌, ◌≢◌, ℕ, List, [], Result, Ok, Err}
 use denote.Ref.{Bor}
 use Rattle.rgo_ast.specs.declared.names.Ident.{Ident}
@@ -24,6 +25,6 @@ leaf_of i = record { at = i.at; word = i.name }
 abbrev pub leaf_in : Bor Lexeme → Leaf
 leaf_in l = l.now.leaf
 
--- a leaf with a place and no word, where only the place matters
+-- A leaf with a place and no word, for keywords and brackets: trees keep only their place, and the code has no more of them.
 abbrev pub leaf_at : ℕ → Leaf
 leaf_at at = record { at = at; word = [] }

@@ -1,4 +1,6 @@
--- Reading functions for the parts of an expression that contain no other: what comes before, between and after its operands.
+-- Reading functions for the parts of an expression that contain no other: what comes before, between and after its operands. Those of
+-- rgo_grammar read an operand whole; the code reads it in two halves, so that its functions here do not recur, and rgo_parser proves
+-- that the halves together agree.
 use Rattle.std.specs.Prelude.{ℕ, nat_le, Bool, true, false, if◌then◌else◌, List, Option, Some, None}
 use Rattle.std.specs.declared.alloc.Global.{Global}
 use Rattle.std.specs.declared.boxed.Box.{Box}

@@ -1,4 +1,4 @@
--- What an insertion into the map of the newest declarations changes of the names' meanings.
+-- How an insertion into the map of the newest declarations changes what names mean: that of one name, and no other.
 use Rattle.std.proofs.Common.{◌≡◌, ℕ, List, Bool, true, false, Option, None, Some, bytes_eq, if◌then◌else◌, refl, sym, ap, ◌∙◌, Result, Ok, Err, OnErr, IsSome, IsOk, is_some, true≢false}
 use Rattle.std.proofs.lemmas.Map.Text.{hash_map_updates_str}
 use Rattle.indexmap.specs.IndexMap.{get_by, UpdatesBy}

@@ -1,4 +1,5 @@
--- What a declaration, a block and their ends change of the trail.
+-- How a declaration, a block and their ends change the trail. The hard case is the end of a block: declarations are taken back one by
+-- one, and halfway the map agrees with the blocks without those already taken back, which is the invariant of that loop.
 use Rattle.std.proofs.Common.{◌≡◌, ℕ, ◌+◌, ◌<◌, ◌≤◌, List, [], ◌∷◌, ◌++◌, length, Bool, true, false, Option, None, Some, IsSome, is_some, Vec, bytes_eq, nat_eq, option_map, if◌then◌else◌, refl, sym, ap, subst, ◌∙◌, arith}
 use Rattle.std.proofs.lemmas.Bool.Decides.{nat_tests}
 use Rattle.std.proofs.lemmas.Slice.Eq.{bytes_eq-Decides}
@@ -102,7 +103,7 @@ module _ {T : Type 0} where
       by None h = IsBelow-more (length bs) (length (b ∷ bs)) (seen_outside name bs) (omega arith) h
       by (Some x) h = omega arith
 
-  -- whether what is seen stands in the block of this number
+  -- whether what is seen is in the block of this number
   abbrev pub is_at : ℕ → Option (Seen T) → Bool
   is_at n None = false
   is_at n (Some s) = nat_eq s.block n
@@ -201,7 +202,7 @@ module _ {T : Type 0} where
     IsSome-last here more outer old b t e =
         rw (notes-last here more outer old b t e b.name.now, (bytes_eq-Decides b.name.now b.name.now).1 refl) refl
 
-    -- the block outside, where the innermost declares nothing
+    -- the block outside, if the innermost declares nothing
     pub trail-left : (here next : Trail T) (outer more : Trails T) (v : Vec (Binding T) Global) (newest : Newest T S)
         → IsTrail here more newest → here ≡ [] → more ≡ outer ++ v ∷ [] → next ≡ v.items → IsTrail next outer newest
     trail-left here next outer more v newest t none e same =

@@ -1,5 +1,5 @@
--- Names with what they mean, block by block: a name means its newest declaration in the innermost
--- block that declares it.
+-- Names with what they mean, block by block: a name means its newest declaration in the innermost block that declares it. This is the
+-- definition that crates above use; the table keeps it in another form, for fast look-ups (Trail.antt).
 use Rattle.std.specs.Prelude.{ℕ, List, [], ◌∷◌, Option, None, Some, bytes_eq, if◌then◌else◌}
 use Rattle.std.specs.Option.{option_or}
 
@@ -7,7 +7,7 @@ use Rattle.std.specs.Option.{option_or}
 abbrev pub Block : Type 0 → Type 0
 Block T = List (List ℕ × T)
 
--- the innermost block, and those around it, from the inside to the outside
+-- The innermost block, and those around it, from the inside to the outside. The innermost is apart, so that there always is one.
 pub record NestedBlocks (T : Type 0) : Type 0 where
   pub here : Block T
   pub outer : List (Block T)
@@ -39,7 +39,7 @@ module _ {T : Type 0} where
   abbrev pub entered : NestedBlocks T → NestedBlocks T
   entered s = record { here = []; outer = s.here ∷ s.outer }
 
-  -- the first of these blocks as the innermost, and no names where there is none
+  -- the first of these blocks as the innermost, and no names if there is none
   abbrev pub left_to : List (Block T) → NestedBlocks T
   left_to [] = no_names
   left_to (b ∷ bs) = record { here = b; outer = bs }

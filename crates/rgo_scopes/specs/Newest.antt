@@ -1,10 +1,11 @@
--- What the map of the newest declarations says of a name, and what an insertion changes.
+-- What the map of the newest declarations says of a name, and what an insertion changes. Contracts speak of look-ups alone: the order
+-- of a map's entries says nothing.
 use Rattle.std.specs.Prelude.{◌≡◌, ℕ, List, Option, None, Some, bytes_eq, if◌then◌else◌}
 use Rattle.std.specs.Borrow.{Bor}
 use Rattle.rgo_scopes.specs.declared.newest.Seen.{Seen}
 use Rattle.indexmap.specs.IndexMap.{IndexMap, get_by}
 
--- a name without an entry means nothing, and so does one that is no longer declared
+-- a name without an entry means nothing, as does one that was declared and is out of scope
 abbrev pub flat : {T : Type 0} → Option (Option (Seen T)) → Option (Seen T)
 flat None = None
 flat (Some seen) = seen

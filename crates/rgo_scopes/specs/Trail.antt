@@ -1,5 +1,5 @@
--- What the fields of the table say of its names: the blocks, what the map notes, and what each
--- declaration hid.
+-- The invariant of the table: the map notes what the blocks say, and each declaration has what its name meant before it, so that the
+-- end of a block can restore the map without a search. That is kept for outer blocks too, since each becomes the innermost again.
 use Rattle.std.specs.Prelude.{◌≡◌, ℕ, List, [], ◌∷◌, Option, None, length, Vec}
 use Rattle.std.specs.Option.{option_or, option_map}
 use Rattle.std.specs.Borrow.{Bor}

@@ -1,4 +1,5 @@
-//! The index below the table of blocks: what each name means now, found by a hash of the name.
+//! The index below the table of blocks: what each name means now, found by a hash of the name. Entries are never removed: a name
+//! that is out of scope keeps one that means nothing, so that the end of a block allocates nothing and cannot fail.
 
 ghost use Rattle.std.specs.Prelude.{◌≡◌, List, ℕ, Some, IsSome, OnOk, OnErr, bytes_eq, if◌then◌else◌};
 ghost use Rattle.rgo_scopes.specs.Newest.{noted_meaning, Notes};
@@ -13,7 +14,7 @@ pub(crate) struct Seen<T> {
     pub(crate) block: usize,
 }
 
-/// What each name means. A name that is no longer declared keeps its entry.
+/// What each name means. `None` is a name that was declared once and no longer is.
 pub(crate) type Newest<'a, T> = IndexMap<&'a [u8], Option<Seen<T>>>;
 
 /// What a name means.
@@ -39,8 +40,8 @@ pub(crate) fn note<'a, T: Copy>(
     Ok(())
 }
 
-/// Makes a name that means something mean what it meant before. Its entry exists, so this allocates
-/// nothing.
+/// Makes a name mean what it meant before its newest declaration. The premise says that it means something, so its entry exists and
+/// the insertion allocates nothing.
 pub(crate) fn restore<'a, T: Copy>(
     newest: &mut Newest<'a, T>,
     name: &'a [u8],

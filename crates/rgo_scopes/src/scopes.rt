@@ -1,4 +1,7 @@
 //! The table of blocks: what each block declares, and what each declaration hid.
+//!
+//! Invariant: the index says of each name what the blocks say, and each declaration has what its name meant before it. So a look-up
+//! takes one step however deep blocks are nested, and the end of a block only undoes its own declarations.
 
 ghost use Rattle.std.specs.Prelude.{◌≡◌, OnOk, OnErr, is_some};
 ghost use Rattle.rgo_scopes.specs.Blocks.{no_names, found, found_in, declared, entered, block_left};
@@ -83,6 +86,7 @@ impl<'a, T: Copy> Scopes<'a, T> {
         ensures declared { OnOk result (self.new ≡ declared name.now value self.old) }
         ensures err { OnErr result (self.new ≡ self.old) }
     {
+        // Room first: after the index has changed, nothing may fail.
         let hidden = look_up(&self.newest, name);
         let block = self.outer.len();
         self.here.reserve(1)?;
@@ -114,6 +118,7 @@ impl<'a, T: Copy> Scopes<'a, T> {
     pub fn leave(&mut self)
         ensures { self.new ≡ block_left self.old }
     {
+        // The newest first: a name that the block declared twice is hidden twice, and its first declaration has the outer meaning.
         while let Some(binding) = self.here.pop() {
             restore(&mut self.newest, binding.name, binding.hidden);
         }

@@ -1,5 +1,5 @@
--- What declarations come to is within their lexemes: structs, fields of a struct, package variables, functions and what
--- the code of each counts.
+-- The numbers of structs, fields of a struct, package variables and functions are at most those of their lexemes, and the code of each
+-- function counts at most 12 for each lexeme. By induction on the derivation, since a tree does not say how many lexemes it has.
 use Rattle.std.proofs.Common.{ℕ, ◌+◌, ◌*◌, ◌≤◌, List, [], ◌∷◌, ◌++◌, length, arith, length-append}
 use Rattle.rgo_ast.specs.Tree as tree
 use Rattle.rgo_ast.specs.Tree.{Binding, TypeSpec, Decl}

@@ -1,4 +1,5 @@
--- The lexemes and the tree of the example's text, and the counts of programs that are too large.
+-- The lexemes and the tree of the example's text, and the counts of programs that are too large. By computation, except where a count
+-- is of billions: there lists are only counted and never written out.
 use Rattle.std.proofs.Common.{◌≡◌, ℕ, zero, suc, ◌*◌, ◌≤◌, List, [], ◌∷◌, length, None, replicate, refl, arith}
 use Rattle.std.proofs.lemmas.List.{length-replicate}
 use Rattle.std.specs.Prelude.{◌↔◌, codes}

@@ -1,4 +1,5 @@
--- The term of an expression counts at most 12 for each of its lexemes.
+-- The term of an expression counts at most 12 for each of its lexemes, by induction on the derivation. The factor is one for all
+-- constructs, so that the bounds of parts add up.
 use Rattle.std.proofs.Common.{◌≡◌, ℕ, zero, suc, ◌+◌, ◌*◌, ◌≤◌, Bool, List, [], ◌∷◌, ◌++◌, length, drop, Option, refl, arith, length-append}
 use Rattle.rgo_ast.specs.Tree.{Expr, exprs_of, elements_of}
 use Rattle.rgo_ast.specs.declared.names.Ident.{Ident}

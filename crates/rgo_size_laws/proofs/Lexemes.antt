@@ -1,4 +1,5 @@
--- A text has at most one lexeme for each byte, and one more: a `;` is inserted at a newline or at the end.
+-- A text has at most one lexeme for each byte, and one more: a token has a byte of its own, an inserted `;` has that of the newline, and
+-- only the one at the end of the text has none.
 use Rattle.std.proofs.Common.{◌≡◌, ℕ, ◌+◌, ◌≤◌, List, [], ◌∷◌, length, Option, None, Some, refl, sym, ap, arith, length-append, length-drop}
 use Rattle.rgo_lexer.specs.Lexemes.{Lexeme}
 use Rattle.rgo_lexer.specs.Semicolons.{inserted}

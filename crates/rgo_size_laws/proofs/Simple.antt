@@ -1,4 +1,4 @@
--- What statements that contain no others count, by what their terms or their lexemes count.
+-- The count of statements that contain no others, by the counts of their terms or their lexemes.
 use Rattle.std.proofs.Common.{◌≡◌, ℕ, ◌+◌, ◌*◌, ◌≤◌, Bool, true, false, List, [], ◌∷◌, length, Option, Some, None, refl, arith, length-append}
 use Rattle.rgo_ast.specs.Tree as tree
 use Rattle.rgo_ast.specs.Tree.{Expr, Exprs, exprs_of}
@@ -33,7 +33,7 @@ unless_small : (text : Bool) (t : Term) (l : Terms) (n : ℕ) → terms_size l �
 unless_small true t l n h = omega (arith, h)
 unless_small false t l n h = omega (arith, h)
 
--- strings of a print count nothing
+-- the terms of a print are those of its operands without the strings, so they count no more
 printed_small : (args : Exprs) (l : Terms) → terms_size (printed_terms args l) ≤ terms_size l
 printed_small tree.no_exprs l = omega arith
 printed_small (tree.an_expr e args) typed.no_terms = omega arith

@@ -27,7 +27,8 @@ use Rattle.rgo_size_laws.proofs.Expressions.{expr_small, exprs_small}
 use Rattle.rgo_size_laws.proofs.Names.{names_few, declared_many}
 use Rattle.rgo_size_laws.proofs.Simple.{plain_small, changed_small, assign_small, go_small, result_retyped}
 
--- typed statements between two contexts, for n lexemes
+-- Typed statements between two contexts, for n lexemes. The local variables that they declare count as well, since a program's size has
+-- those; so the bound is on both together.
 abbrev pub Small : ℕ → Context → Context → List Stmt → Type 0
 Small n c h l = stmts_size (stmts_of l) + length h.scope.types ≤ 12 * n + length c.scope.types
 

@@ -1,4 +1,4 @@
--- What the terms of expressions count, by what the terms of their parts count.
+-- The count of an expression's term, by the counts of the terms of its parts. These lemmas are about terms alone and know no lexemes.
 use Rattle.std.proofs.Common.{◌≡◌, ℕ, ◌+◌, ◌≤◌, Bool, true, false, List, [], ◌∷◌, Option, Some, None, refl, arith}
 use Rattle.std.specs.Prelude.{ℤ}
 use Rattle.rgo_ast.specs.declared.ops.UnaryOp.{UnaryOp}

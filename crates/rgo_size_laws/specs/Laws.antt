@@ -1,4 +1,5 @@
--- The size of a program's code is linear in the length of its text: first lexemes by bytes, then code by lexemes.
+-- The size of a program's code is linear in the length of its text: first lexemes by bytes, then code by lexemes. Lowering refuses a
+-- program that is too large; a text has at most 1 MiB, so by this law that never happens, and no command has an ending for it.
 use Rattle.std.specs.Prelude.{ℕ, ◌+◌, ◌*◌, ◌^◌, ◌≤◌, List, length}
 use Rattle.rgo_ast.specs.Tree.{Program}
 use Rattle.rgo_lexer.specs.Lexemes.{Lexeme}

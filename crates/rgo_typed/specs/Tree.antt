@@ -1,4 +1,4 @@
--- The typed trees as plain data: what contracts say of them, without the pointers of the code's own.
+-- The typed trees as plain data: what contracts see of them, without the pointers of the code's own.
 use Rattle.std.specs.Prelude.{ℕ, List, [], ◌∷◌, Option}
 use Rattle.rgo_ast.specs.declared.ops.BinaryOp.{BinaryOp}
 use Rattle.rgo_typed.specs.declared.actions.Action.{Action}
@@ -18,6 +18,7 @@ mutual
     Build : ℕ → Terms → List ℕ → ℕ → Term
     Call : ℕ → Terms → «Type» → ℕ → Term
 
+  -- a list of terms
   pub data Terms : Type 0 where
     no_terms : Terms
     a_term : Term → Terms → Terms
@@ -39,6 +40,8 @@ pub record Change : Type 0 where
   pub at : ℕ
 
 mutual
+  -- A last number is the place. The first number of a declaration or an assignment is that of the local variable, the first of Invoke
+  -- and Go that of the function. Invoke calls a function without result; Discard evaluates a term and drops its value
   pub data Stmt : Type 0 where
     Block : Stmts → Stmt
     Declare : ℕ → «Type» → Term → ℕ → Stmt
@@ -58,10 +61,12 @@ mutual
     Continue : ℕ → Stmt
     Return : Option Term → ℕ → Stmt
 
+  -- a list of statements
   pub data Stmts : Type 0 where
     no_stmts : Stmts
     a_stmt : Stmt → Stmts → Stmts
 
+-- a list as data of the trees' cycle
 abbrev pub stmts_of : List Stmt → Stmts
 stmts_of [] = no_stmts
 stmts_of (s ∷ l) = a_stmt s (stmts_of l)

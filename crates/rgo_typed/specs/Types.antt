@@ -1,10 +1,11 @@
--- What is said of types: which of them may be nil.
+-- Which types may be nil: those whose values point to objects, and so need a region.
 use Rattle.std.specs.Prelude.{Bool, true, false, List, [], ◌∷◌}
 use Rattle.rgo_typed.specs.declared.types.Type.{«Type»}
 use Rattle.rgo_typed.specs.declared.types.Base.{Base}
 use Rattle.rgo_typed.specs.declared.types.Base.TheVariants as base
 use Rattle.rgo_typed.specs.declared.types.Layer.{Layer}
 
+-- a pointer to a struct
 abbrev pub is_pointer_base : Base → Bool
 is_pointer_base (base.Pointer struct) = true
 is_pointer_base _ = false

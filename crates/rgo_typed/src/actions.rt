@@ -1,8 +1,9 @@
-//! What a program does to values that are there.
+//! What a program does to values that have been computed. The same actions are in typed trees, in three-address code and in code with
+//! regions, so that what an action does is defined once (rgo_memory).
 
 use rgo_ast::BinaryOp;
 
-/// One operation. It takes its operands in order, and gives one value or none.
+/// One operation. It takes its operands in order, and returns one value or none. It is one step: no other goroutine acts within it.
 #[derive(Clone, Copy, Debug, PartialEq, Eq)]
 pub enum Action {
     /// A constant. No operand.
@@ -13,7 +14,7 @@ pub enum Action {
     Nil,
     /// Its operand.
     Copy,
-    /// An operator other than `&&` and `||`.
+    /// An operator other than `&&` and `||`, which need not evaluate both operands.
     Binary(BinaryOp),
     /// `-x`.
     Neg,
@@ -49,7 +50,7 @@ pub enum Action {
     Set(usize),
 }
 
-/// `&&` or `||`.
+/// `&&` or `||`. They are not actions: their right operand is evaluated only if it decides, so code branches on the left one.
 #[derive(Clone, Copy, Debug, PartialEq, Eq)]
 pub enum Logical {
     And,

@@ -1,5 +1,5 @@
-//! The typed trees: a program whose names are resolved, whose constants are computed and whose
-//! parentheses are gone. This is what every later pass stands on.
+//! The typed trees: a program whose names are resolved, whose constants are computed and whose parentheses are gone. Every later pass
+//! works on them, and no later pass looks at the source again: so a tree has the place of each trap that may come of it.
 #![tactic(auto)]
 
 mod actions;

@@ -1,4 +1,5 @@
-//! Lists that contracts see as plain lists.
+//! Lists that contracts see as plain lists. A `Vec` would show its allocator and its capacity too, so that two equal trees would differ
+//! in what contracts see.
 
 ghost use Rattle.std.specs.Prelude.{◌≡◌};
 
@@ -33,7 +34,7 @@ impl<T> Row<T> {
         &self.items
     }
 
-    /// Its items, to be taken out. Nothing is copied.
+    /// Its items, moved out. Nothing is copied.
     pub fn into_items(self) -> Vec<T>
         ensures { result.items ≡ self }
     {

@@ -13,22 +13,22 @@ pub enum Piece {
     Value,
 }
 
-/// A statement. Where a trap can come of it, it has the place of that trap.
+/// A statement. If it can trap, it has the place of that trap.
 #[derive(Drop)]
 pub enum Stmt {
-    /// A block, at whose end its local variables go out of scope. A statement with a header
-    /// stands in one.
+    /// A block, at whose end its local variables go out of scope. A statement with a header is in a block of its own, since the
+    /// variable of its header goes out of scope with it.
     Block(Vec<Stmt>),
     /// The local variable of this number begins with a value, at the `=` or `:=`.
     Declare(usize, Type, Box<Term>, Place),
     /// The local variable of this number begins with the zero of its type, at its name.
     Zero(usize, Type, Place),
-    /// The local variable of this number is given a value.
+    /// The local variable of this number is assigned a value.
     Assign(usize, Box<Term>, Place),
     /// A store, a send, a close, a package variable set: its operands, and then the action.
     Perform(Action, Vec<Term>, Place),
-    /// An assignment that computes first, to a field, an element or a package variable: the
-    /// operands of the variable, its read, the value, the operator, the write.
+    /// An assignment that computes first, to a field, an element or a package variable: the operands of the variable, its read, the
+    /// value, the operator, the write. The operands appear once, since they are evaluated once for the read and the write.
     Update {
         operands: Vec<Term>,
         read: Action,
@@ -53,7 +53,7 @@ pub enum Stmt {
     If(Box<Term>, Vec<Stmt>, Place),
     /// `if` with `else`.
     IfElse(Box<Term>, Vec<Stmt>, Vec<Stmt>, Place),
-    /// `for`, behind its first statement.
+    /// `for`, after its first statement, which is in the block around it.
     Loop {
         test: Option<Box<Term>>,
         body: Vec<Stmt>,

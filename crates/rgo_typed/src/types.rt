@@ -1,4 +1,5 @@
-//! Types. A type is a row of `[]` and `chan` round a base, so that no type holds a type.
+//! Types. A type is a row of `[]` and `chan` around a base, so that no type contains a type: a proof about types needs no induction
+//! but that on lists.
 
 ghost use Rattle.std.specs.Prelude.{◌≡◌};
 ghost use Rattle.rgo_typed.specs.Types.{is_pointer_like};
@@ -12,7 +13,7 @@ pub enum Layer {
     Chan,
 }
 
-/// What stands inside all layers of a type.
+/// What is inside all layers of a type.
 #[derive(Clone, Copy, Debug, PartialEq, Eq)]
 pub enum Base {
     Int,
@@ -21,8 +22,7 @@ pub enum Base {
     Pointer(usize),
 }
 
-/// A type (The Go Programming Language Specification, "Types"): its layers, the outermost first,
-/// and what stands inside them.
+/// A type (The Go Programming Language Specification, "Types"): its layers, the outermost first, and what is inside them.
 #[derive(Drop)]
 pub struct Type {
     pub layers: Row<Layer>,

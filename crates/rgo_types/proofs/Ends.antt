@@ -1,4 +1,4 @@
--- The last of some statements.
+-- The last of some statements: the code takes it by its index, and the definition walks to it.
 use Rattle.std.proofs.Common.{◌≡◌, suc, ◌-◌, List, [], ◌∷◌, length, map, slice_get, Some, ap, subst, arith}
 use Rattle.rgo_ast.specs.Tree.{stmts_of}
 use Rattle.rgo_ast.specs.Views.{stmt_of}

@@ -1,4 +1,5 @@
--- The size of a statement: the measure by which its check ends.
+-- The size of a statement: the measure by which its check ends. Each function of the cycle has the size of its parts and a small number
+-- beside it, which is less for a function that is called with the same parts.
 use Rattle.std.proofs.Common.{◌≡◌, ℕ, zero, suc, ◌+◌, ◌<◌, List, [], ◌∷◌, length, map, get_or, arith, subst, sym}
 use Rattle.rgo_ast.specs.Tree as tree
 use Rattle.rgo_ast.specs.Tree.{Stmt, Stmts, Clause, stmts_of}

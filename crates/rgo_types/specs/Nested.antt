@@ -1,4 +1,5 @@
--- What a check of lists of statements and of function bodies returns.
+-- What a check of lists of statements and of function bodies returns: the definitions of rgo_typing_statements, cut into the parts that
+-- one function of the code checks.
 use Rattle.std.specs.Prelude.{◌≡◌, ℕ, false, length, List, [], ◌∷◌, ◌++◌, map, Vec, Option, None, is_some, Result, Ok, Err}
 use Rattle.std.specs.declared.alloc.Global.{Global}
 use Rattle.rgo_ast.specs.Tree as tree
@@ -32,11 +33,11 @@ ChecksToOptional (Ok e) sites shape term =
     (first_refusal sites ≡ None) × (optional_checked_shape e ≡ shape) × (optional_term_of e ≡ term)
 ChecksToOptional (Err e) sites shape term = Refuses e (first_refusal sites)
 
--- of statements one after another
+-- for statements one after another
 abbrev pub all_outcome : Enclosing → Context → tree.Stmts → StmtsOutcome
 all_outcome f c l = record { sites = all_sites f c l; after = after_all c l; typed = typed_all f c l }
 
--- of statements in a block
+-- for statements in a block
 abbrev pub block_outcome : Enclosing → Context → tree.Stmts → StmtsOutcome
 block_outcome f c l = record {
   sites = all_sites f (in_block c) l;
@@ -47,7 +48,7 @@ block_outcome f c l = record {
 abbrev pub clause_outcome : Enclosing → Context → tree.Clause → StmtsOutcome
 clause_outcome f c l = record { sites = clause_sites f c l; after = after_clause c l; typed = typed_clause f c l }
 
--- of an `if` after its first statement, in the block that it is: its nodes, and its typed tree
+-- for an `if` after its first statement, in the block of its header: its nodes, and its typed tree
 abbrev pub if_sites : Enclosing → Context → Expr → tree.Stmts → tree.Clause → ℕ → List Site
 if_sites f c test body other at =
     nodes c role.Value test
@@ -59,7 +60,7 @@ typed_if f c test body other at =
     if_or_else (has_clause other) (typed_term c test) (typed_all f (in_block c) body)
     (typed_clause f (after_block c body) other) at
 
--- of a `for` after its first statement
+-- for a `for` after its first statement
 abbrev pub loop_sites : Enclosing → Context → Option Expr → tree.Clause → tree.Stmts → ℕ → List Site
 loop_sites f c test post body at =
     optional_nodes c test
@@ -71,7 +72,7 @@ typed_loop f c test post body at =
     typed_tree.Loop (optional_term c test)
     (stmts_of (typed_all (within_loop f) (in_block (after_clause c post)) body)) (stmts_of (typed_clause f c post)) at
 
--- of a function with this result type, from where its body begins: its statements, and then its end
+-- for a function with this result type, from the beginning of its body: its statements, and then its end
 abbrev pub body_outcome : Option «Type» → Context → tree.Function → StmtsOutcome
 body_outcome result_type c f = record {
   sites = all_sites (record { result_type = result_type; in_loop = false }) c (tree.stmts_of f.body)
@@ -80,7 +81,7 @@ body_outcome result_type c f = record {
   typed = typed_all (record { result_type = result_type; in_loop = false }) c (tree.stmts_of f.body);
 }
 
--- the typed tree of such a function, where its parameters are all local variables so far
+-- the typed tree of such a function, if its parameters are all local variables so far
 abbrev pub function_from : Option «Type» → Context → tree.Function → Function
 function_from result_type c f = record {
   name = f.name.name;

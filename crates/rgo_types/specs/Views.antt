@@ -1,4 +1,4 @@
--- The views of a condition that may be left out.
+-- The views of a condition that may be left out, as of `for { }`.
 use Rattle.std.specs.Prelude.{Option, Some, None}
 use Rattle.rgo_typed.specs.Tree.{Term}
 use Rattle.rgo_typed.specs.Views.{term_of}

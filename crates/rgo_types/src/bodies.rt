@@ -1,4 +1,5 @@
-//! Bodies of functions.
+//! Bodies of functions. They are checked after all declarations, since a body may use what is declared after it; each begins from
+//! the package alone, so no body sees the variables of another.
 #![tactic(auto)]
 
 ghost use Rattle.std.specs.Prelude.{◌≡◌, ◌++◌, IfOk, OnOk, map};
@@ -10,7 +11,7 @@ ghost use Rattle.rgo_typing_rules.specs.Views.{type_of_kind, optional_kind_of};
 ghost use Rattle.rgo_types.specs.Nested.{Makes, body_outcome, function_from};
 ghost use Rattle.rgo_types.specs.Programs as spec;
 
-use crate::flow::ends;
+use crate::flow::stmts_terminate;
 use crate::statements::check_stmts;
 use rgo_ast::{Decl, Function as Source};
 use rgo_typed::{Function, Stmt, Type};
@@ -30,7 +31,8 @@ fn optional_type(alloc: Global, kind: Option<Kind<'_>>) -> Result<Option<Type>, 
     }
 }
 
-/// Where the body of a function begins, whose parameters were checked.
+/// The checker at the beginning of a function's body. The parameters are declared without a check, since the check of the package
+/// has refused bad ones.
 fn at_body<'p, 'a>(top: &Checker<'p, 'a>, f: &'a Source) -> Result<Checker<'p, 'a>, AllocError>
     ensures { IfOk result (λ c. c ≡ spec.at_body top.now (function_of f.now)) }
 {
@@ -39,7 +41,7 @@ fn at_body<'p, 'a>(top: &Checker<'p, 'a>, f: &'a Source) -> Result<Checker<'p, '
     Ok(Checker::with_scope(top.alloc(), top.globals(), scope))
 }
 
-/// Checks the statements of a function, and then its end.
+/// Checks the statements of a function, and then its end: a missing `return` is reported only if the body breaks no other rule.
 #[tactic(auto, using(rgo_typing_rules::proofs::Refusals::refusals))]
 fn check_stmts_of<'a>(
     checker: &mut Checker<'_, 'a>,
@@ -54,7 +56,7 @@ fn check_stmts_of<'a>(
         in_loop: false,
     };
     let body = check_stmts(checker, around, &f.body)?;
-    check_end(f.end, f.result_type.is_some(), ends(&f.body))?;
+    check_end(f.end, f.result_type.is_some(), stmts_terminate(&f.body))?;
     Ok(body)
 }
 
@@ -101,6 +103,8 @@ fn check_from<'a>(
     ensures typed { IfOk result (λ t. typed.typed_function_of t
         ≡ function_from (optional_kind_of result_type.entry) checker.old (function_of f.now)) }
 {
+    // The scope numbers variables in the order of their declarations, and keeps them when their blocks end: before the body it has
+    // the parameters, after it all local variables.
     let params = count(checker.scope());
     let body = check_stmts_of(checker, result_type, f)?;
     let locals = checker.scope().kinds();
@@ -116,7 +120,7 @@ fn check_body<'a>(top: &Checker<'_, 'a>, f: &'a Source) -> Result<Function, Type
     check_from(&mut checker, result_kind(top, &f.result_type), f)
 }
 
-/// Checks the body of a declaration, where it has one.
+/// Checks the body of a declaration, if it has one. Types and package variables were checked with the package.
 #[tactic(auto, using(std::proofs::lemmas::List::map_push))]
 fn check_decl<'a>(
     top: &Checker<'_, 'a>,

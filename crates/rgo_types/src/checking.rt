@@ -1,4 +1,5 @@
-//! Whole programs.
+//! Whole programs: the package, then `main`, then the bodies. The order is part of the contract, since the first broken rule is
+//! reported. Why: docs/DECISIONS.md, "Checking: the order".
 #![tactic(auto)]
 
 ghost use Rattle.std.specs.Prelude.{◌≡◌, IfOk, map};
@@ -24,6 +25,7 @@ fn has_main(globals: &Package<'_>) -> bool
     match globals.names.get("main".as_bytes()) {
         Some(Meaning::Function(number)) => match globals.functions.get(number) {
             Some(signature) => signature.params.is_empty() && signature.result_type.is_none(),
+            // Every function has a signature. The definition reads a missing one as that of `main`, so this arm agrees with it.
             None => true,
         },
         _ => false,
@@ -41,6 +43,7 @@ fn check_functions<'a>(
     ensures typed { IfOk result (λ v. map typed_function_of v.items
         ≡ typed_functions (outside_functions globals.now) (program_of program.now).decls) }
 {
+    // A missing `main` is known from the signatures alone, so it is reported before any fault in a body.
     check_text_end(program.end, has_main(globals))?;
     check_bodies(&Checker::new(alloc, globals), &program.decls)
 }

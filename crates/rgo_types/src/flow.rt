@@ -10,29 +10,31 @@ use rgo_ast::Stmt;
 
 /// Whether a `break` in it leaves the `for` around it.
 #[cycle(breaks)]
-fn has_break(s: &Stmt) -> bool
+fn stmt_breaks(s: &Stmt) -> bool
     ensures { result ≡ spec.stmt_breaks (stmt_of s.now) }
 {
     match s {
-        Stmt::Block(all, _) => any_break(all),
+        Stmt::Block(all, _) => stmts_break(all),
         Stmt::If { body, other, .. } => {
-            any_break(body)
+            stmts_break(body)
                 || match other {
                     None => false,
-                    Some(other) => has_break(other),
+                    Some(other) => stmt_breaks(other),
                 }
         }
         Stmt::Break(_) => true,
+        // A `break` in a `for` leaves that `for`, and other statements contain none.
         _ => false,
     }
 }
 
+/// Whether a `break` in one of these statements leaves the `for` around them.
 #[cycle(breaks)]
-fn any_break(all: &[Stmt]) -> bool
+fn stmts_break(all: &[Stmt]) -> bool
     ensures { result ≡ spec.stmts_break (ast.stmts_of (map stmt_of all.now)) }
 {
     for s in all {
-        if has_break(s) {
+        if stmt_breaks(s) {
             return true;
         }
     }
@@ -42,31 +44,33 @@ fn any_break(all: &[Stmt]) -> bool
 /// Whether it is terminating (The Go Programming Language Specification, "Terminating
 /// statements").
 #[cycle(ends)]
-fn is_terminating(s: &Stmt) -> bool
+fn stmt_terminates(s: &Stmt) -> bool
     ensures { result ≡ spec.stmt_terminates (stmt_of s.now) }
 {
     match s {
-        Stmt::Block(all, _) => ends(all),
+        Stmt::Block(all, _) => stmts_terminate(all),
         Stmt::If { body, other, .. } => {
-            ends(body)
+            stmts_terminate(body)
                 && match other {
                     None => false,
-                    Some(other) => is_terminating(other),
+                    Some(other) => stmt_terminates(other),
                 }
         }
-        Stmt::For { test, body, .. } => test.is_none() && !any_break(body),
+        // Without a condition and a `break`, nothing but a `return` leaves the loop.
+        Stmt::For { test, body, .. } => test.is_none() && !stmts_break(body),
         Stmt::Return(_, _) => true,
+        // No call is terminating, since the subset has no `panic`.
         _ => false,
     }
 }
 
 /// Whether the last of these statements is terminating.
 #[cycle(ends)]
-pub(crate) fn ends(all: &[Stmt]) -> bool
+pub(crate) fn stmts_terminate(all: &[Stmt]) -> bool
     ensures { result ≡ spec.stmts_terminate (ast.stmts_of (map stmt_of all.now)) }
 {
     match all.last() {
         None => false,
-        Some(s) => is_terminating(s),
+        Some(s) => stmt_terminates(s),
     }
 }

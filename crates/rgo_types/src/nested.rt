@@ -1,4 +1,5 @@
-//! Typed trees of statements that contain others.
+//! Typed trees of statements that contain others, from their parts, which `statements` has checked. A header
+//! has a block of its own in the typed tree, so that its variable goes out of scope with the statement.
 #![tactic(auto)]
 
 ghost use Rattle.std.specs.Prelude.{◌≡◌, [], ◌∷◌, ◌++◌, IfOk, OnOk, map};
@@ -48,7 +49,7 @@ fn block_of(init: Vec<Stmt>, stmt: Stmt) -> Result<Stmt, AllocError>
     Ok(block(all))
 }
 
-/// Appends a statement, in a block with its header where it has one.
+/// Appends a statement, in a block with its header if it has one. Without a header it needs no block of its own.
 #[tactic(auto, using(std::proofs::lemmas::List::map_push))]
 pub(crate) fn push_headed(
     out: &mut Vec<Stmt>,
@@ -68,7 +69,8 @@ pub(crate) fn push_headed(
     Ok(())
 }
 
-/// Checks the condition of an `if`, and makes the statement.
+/// Checks that the condition of an `if` is a `bool`, and makes the statement. That comes last, at the `if`: faults in the blocks are
+/// reported first.
 #[tactic(auto, using(rgo_typing_statements::proofs::Trees::stmts))]
 pub(crate) fn if_of(
     alloc: Global,
@@ -90,7 +92,7 @@ pub(crate) fn if_of(
     }
 }
 
-/// The condition of a `for`, if it has one.
+/// Checks the parts of a condition, if there is one. Whether it is a `bool` is not asked here: that rule comes after the blocks.
 pub(crate) fn check_test<'a>(
     checker: &Checker<'_, 'a>,
     test: &'a Option<Box<Expr>>,
@@ -128,7 +130,7 @@ fn boxed_term(alloc: Global, test: Option<Checked<'_>>) -> Result<Option<Box<Ter
     }
 }
 
-/// Checks the condition of a `for`, and makes the loop.
+/// Checks that the condition of a `for` is a `bool`, and makes the loop. As in an `if`, that comes after the blocks.
 #[tactic(auto, using(rgo_typing_statements::proofs::Trees::stmts))]
 pub(crate) fn loop_of(
     alloc: Global,

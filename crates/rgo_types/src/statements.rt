@@ -1,7 +1,9 @@
 //! Statements: checked in the order of the text, and made typed trees.
 //!
-//! Only blocks, `if` and `for` contain statements: with `check_stmt` they form one cycle of functions, with
-//! nothing else in it.
+//! Only blocks, `if` and `for` contain statements: with `check_stmt` they form one cycle of functions. All other statements are in
+//! rgo_typing_statements, so that the induction on the tree covers only this cycle.
+//!
+//! A refusal may leave blocks of the scope open. It ends the whole check, so nothing looks at the scope afterwards.
 #![tactic(auto, using(rgo_typing_statements::proofs::Trees::sources, rgo_typing_rules::proofs::Refusals::refusals))]
 
 ghost use Rattle.std.specs.Prelude.{map};
@@ -86,6 +88,7 @@ fn if_stmt<'a>(
         (ast.stmts_of (map stmt_of body.now)) (ast.clause_of (boxed_stmt_of other.now)) at))
         checker.new out.old.items out.new.items }
 {
+    // The header's variable is in scope in the condition and in both branches.
     checker.enter()?;
     let header = check_clause(checker, around, init)?;
     let stmt = check_if(checker, around, test, body, other, at)?;
@@ -145,7 +148,8 @@ fn for_stmt<'a>(
     Ok(())
 }
 
-/// Checks what follows the first statement of a `for`. Its condition is refused after its blocks.
+/// Checks what follows the first statement of a `for`. The third part is checked before the body, as it is written, although it runs
+/// after it; a condition that is not a `bool` is reported last.
 #[cycle(statements)]
 fn check_loop<'a>(
     checker: &mut Checker<'_, 'a>,

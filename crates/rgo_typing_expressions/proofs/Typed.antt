@@ -1,4 +1,5 @@
--- Where no node breaks a rule, each expression has a type.
+-- If no node breaks a rule, each expression has a type, by induction on the expression: the sites of its parts come before its own, so
+-- they break no rule either, and the rule on the node asks for what its shape needs.
 use Rattle.std.proofs.Common.{◌≡◌, ◌++◌, ◌&&◌, ℕ, ℤ, Bool, true, false, not, List, [], ◌∷◌}
 use Rattle.std.proofs.Common.{Option, Some, None, is_some, is_none, refl, ap, sym, ◌∙◌, true≢false}
 use Rattle.std.specs.List.{list_all}

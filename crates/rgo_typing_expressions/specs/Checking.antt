@@ -1,5 +1,6 @@
--- The checked nodes of types and expressions, in the order of checking: the parts from left to right, then the
--- node itself. A callee is checked with its call, after the arguments; parentheses are no nodes.
+-- The checked nodes of types and expressions, in the order of checking: the parts from left to right, then the node itself, whose rules
+-- ask for the types of the parts. A callee is checked with its call, after the arguments; parentheses have no node.
+-- Why: docs/DECISIONS.md, "Checking: the order".
 use Rattle.std.specs.Prelude.{ℕ, Bool, true, false, List, [], ◌∷◌, ◌++◌, Option, Some, None, is_some, if◌then◌else◌}
 use Rattle.rgo_ast.specs.Tree as tree
 use Rattle.rgo_ast.specs.Tree.{Expr, Exprs, Elements, Capacity}
@@ -38,20 +39,22 @@ abbrev pub struct_types : Package → Option Meaning → Option (List «Type»)
 struct_types p (Some (meaning.Struct n)) = Some (fields_at p n).types
 struct_types p _ = None
 
+-- the type of a field that was looked up, if it was found
 abbrev pub known_type : Option (ℕ × «Type») → Option «Type»
 known_type None = None
 known_type (Some field) = Some field.1
 
--- the type of each element's field, where there is such a field
+-- the type of each element's field, if there is such a field
 abbrev pub field_types : Fields → Elements → List (Option «Type»)
 field_types fields tree.no_elements = []
 field_types fields (tree.an_element x e l) = known_type (field_in fields x.name) ∷ field_types fields l
 
--- these, where a name means a struct
+-- these, if a name means a struct
 abbrev pub known_if : Option Meaning → List (Option «Type») → Option (List (Option «Type»))
 known_if (Some (meaning.Struct n)) known = Some known
 known_if _ known = None
 
+-- the struct that a name means; 0 if it means none, in a program that is refused
 abbrev pub struct_number : Option Meaning → ℕ
 struct_number (Some (meaning.Struct n)) = n
 struct_number _ = 0
@@ -60,6 +63,7 @@ struct_number _ = 0
 abbrev pub struct_fields : Package → Option Meaning → Fields
 struct_fields p m = fields_at p (struct_number m)
 
+-- the type of each element's field in a literal by fields; none if the name is not a struct's
 abbrev pub element_types : Package → Option Meaning → Elements → Option (List (Option «Type»))
 element_types p m members = known_if m (field_types (struct_fields p m) members)
 
@@ -68,10 +72,12 @@ abbrev pub has_twice : NestedBlocks ℕ → Elements → Bool
 has_twice seen tree.no_elements = false
 has_twice seen (tree.an_element x e l) = if is_some (found x.name seen) then true else has_twice (declared x.name 0 seen) l
 
+-- the values of a literal by fields, without the names of the fields
 abbrev pub values_of : Elements → Exprs
 values_of tree.no_elements = tree.no_exprs
 values_of (tree.an_element x e l) = tree.an_expr e (values_of l)
 
+-- a call by its callee; the role decides whether it needs a result
 abbrev pub call_node : Package → Role → Callee → List Shape → Node
 call_node p r (callee.Missing at) args = node.CallMissing
 call_node p r (callee.Builtin b) args = node.CallBuiltin b r args
@@ -83,6 +89,7 @@ abbrev pub call_place : ℕ → Callee → ℕ
 call_place open_at (callee.Missing at) = at
 call_place open_at _ = open_at
 
+-- the test of a channel's capacity as a size, at the place of its `make`; a capacity that is left out has none
 abbrev pub capacity_own : Context → Capacity → ℕ → List Site
 capacity_own c tree.no_capacity at = []
 capacity_own c (tree.a_capacity e) at = (at, node.Size (type_of c e)) ∷ []
@@ -110,12 +117,13 @@ own c r (tree.Keyed x members at) = (
       (types_of c (values_of members)),
 ) ∷ []
 
+-- these nodes, or none if the test is true
 abbrev pub unless : Bool → List Site → List Site
 unless true sites = []
 unless false sites = sites
 
 abbrev mutual
-  -- the nodes of the parts, which are values but for the arguments of `fmt.Println`
+  -- the nodes of the parts, which are values except for the arguments of `fmt.Println`
   pub parts : Context → Expr → List Site
   parts c (tree.Number n at) = []
   parts c (tree.Text bytes at) = []
@@ -133,14 +141,17 @@ abbrev mutual
   parts c (tree.Literal x values at) = base_site c x ∷ all_nodes c role.Value values
   parts c (tree.Keyed x members at) = base_site c x ∷ element_nodes c members
 
+  -- all nodes of each expression of a list, which have one role, from left to right
   pub all_nodes : Context → Role → Exprs → List Site
   all_nodes c r tree.no_exprs = []
   all_nodes c r (tree.an_expr e l) = (parts c e ++ own c r e) ++ all_nodes c r l
 
+  -- the same of the values of a literal by fields
   pub element_nodes : Context → Elements → List Site
   element_nodes c tree.no_elements = []
   element_nodes c (tree.an_element x e l) = (parts c e ++ own c role.Value e) ++ element_nodes c l
 
+  -- the nodes of a channel's capacity, if it has one; its test as a size comes later, with the `make` itself
   pub capacity_nodes : Context → Capacity → List Site
   capacity_nodes c tree.no_capacity = []
   capacity_nodes c (tree.a_capacity e) = parts c e ++ own c role.Value e

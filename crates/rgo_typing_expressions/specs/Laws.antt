@@ -1,4 +1,5 @@
--- The law of the typing: where no node breaks a rule, each expression has a type, so that a rule looks at typed parts.
+-- The law of the typing: if no node breaks a rule, each expression has a type. So the shape without a type, which the definitions need
+-- to be total, never reaches a rule, and no rule has to say what holds of it.
 use Rattle.std.specs.Prelude.{◌≡◌, Bool, true, false, not, None}
 use Rattle.std.specs.List.{list_all}
 use Rattle.rgo_ast.specs.Tree as tree
@@ -14,7 +15,7 @@ use Rattle.rgo_typing_expressions.specs.Packages.{Context}
 use Rattle.rgo_typing_rules.specs.Sites.{first_refusal}
 use Rattle.rgo_typing_expressions.specs.Types.{type_of, types_of}
 
--- It has a type, or is `nil`. A string has a place where it is printed, and a call without result where no value is
+-- It has a type, or is `nil`. A string is allowed if it is printed, and a call without result if no value is
 -- wanted.
 abbrev pub is_typed : Role → Shape → Bool
 is_typed r shape.Untyped = false
@@ -22,7 +23,7 @@ is_typed r shape.Text = is_printed r
 is_typed r shape.NoResult = not (wants_value r)
 is_typed r _ = true
 
--- the left side of `=` may name what is no value; the assignment is refused then
+-- the left side of `=` may name something that is not a value; the assignment is refused then
 abbrev pub TypedWhereUnbroken : Type 0
 TypedWhereUnbroken =
     (c : Context) → (r : Role) → (e : Expr) → is_target r ≡ false
@@ -55,7 +56,7 @@ operands_role c (tree.Paren e at) = operands_role c e
 operands_role c (tree.Called f args at) = args_role c f
 operands_role c _ = role.Value
 
--- where no earlier node breaks a rule, the parts of a node are typed
+-- if no earlier node breaks a rule, the parts of a node are typed
 abbrev pub TypedParts : Type 0
 TypedParts =
     (c : Context) → (e : Expr) → first_refusal (parts c e) ≡ None

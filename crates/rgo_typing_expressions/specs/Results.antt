@@ -34,11 +34,11 @@ ChecksToAll (Err e) sites shapes terms = Refuses e (first_refusal sites)
 abbrev pub ChecksExpr : Result Checked TypeError → Context → Role → Expr → Type 0
 ChecksExpr result c r e = ChecksTo result (nodes c r e) (type_of c e) (typing.typed_term c e)
 
--- the check of expressions in order, as values of these types, where there are types
+-- the check of expressions in order, as values of these types, if there are types
 abbrev pub ChecksExprs : Result Values TypeError → Context → Role → List «Type» → Exprs → Type 0
 ChecksExprs result c r wanted es = ChecksToAll result (all_nodes c r es) (types_of c es) (all_terms c wanted es)
 
--- the check of the values of a literal by fields, as values of these types, where they are known
+-- the check of the values of a literal by fields, as values of these types, if they are known
 abbrev pub ChecksElements : Result Values TypeError → Context → List (Option «Type») → Elements → Type 0
 ChecksElements result c known members =
     ChecksToAll result (element_nodes c members) (types_of c (values_of members)) (element_terms c known members)

@@ -1,4 +1,5 @@
--- The typed tree of an expression.
+-- The typed tree of an expression. It is defined for every tree, also for those that break rules, whose terms mean nothing: so it needs
+-- no premise, and the rules are apart from it.
 use Rattle.std.specs.Prelude.{ℕ, zero, suc, ◌++◌, pos, List, [], ◌∷◌, drop, Option, Some, None}
 use Rattle.rgo_ast.specs.Tree as tree
 use Rattle.rgo_ast.specs.Tree.{Expr, Exprs, Elements, Capacity}
@@ -32,12 +33,15 @@ abbrev pub with_first : List «Type» → Term → Term
 with_first [] t = t
 with_first (ty ∷ tys) t = with_type ty t
 
+-- a name with this meaning, read at this place. `nil` gets its type by `with_type` from where it is used; a name that is not a value gets
+-- the same term, in a program that is refused
 abbrev pub name_term : Context → Option Meaning → ℕ → Term
 name_term c (Some (meaning.Local n)) at = Local n
 name_term c (Some (meaning.Global n)) at = atom (action.Get n) (variable_type_at c.globals n) at
 name_term c (Some (meaning.Truth b)) at = atom (action.Bool b) bool at
 name_term c _ at = atom action.Nil int at
 
+-- the read of a field that was looked up; t itself if it was not found, in a program that is refused
 abbrev pub field_term : Option (ℕ × «Type») → Term → ℕ → Term
 field_term None t at = t
 field_term (Some field) t at = Apply (action.Load field.0) (one t) field.1 at
@@ -47,6 +51,7 @@ abbrev pub wanted_of : Package → Callee → List «Type»
 wanted_of p (callee.Routine n) = (signature_at p n).params
 wanted_of p _ = []
 
+-- the type in a call's term; without a result the call can only be a statement, and `called_stmt` drops this type
 abbrev pub result_or_int : Option «Type» → «Type»
 result_or_int None = int
 result_or_int (Some t) = t
@@ -56,11 +61,13 @@ abbrev pub builtin_term : Option Action → Option «Type» → Terms → ℕ �
 builtin_term (Some a) (Some ty) args at = Apply a args ty at
 builtin_term _ _ args at = atom action.Nil int at
 
+-- a call by its callee and the terms of its arguments; `nil` where nothing can be called, in a program that is refused
 abbrev pub call_term : Package → Callee → Terms → ℕ → Term
 call_term p (callee.Routine n) args at = Call n args (result_or_int (signature_at p n).result_type) at
 call_term p (callee.Builtin b) args at = builtin_term (action_of b) (result_of b) args at
 call_term p _ args at = atom action.Nil int at
 
+-- the length of a list of terms
 abbrev pub number_of_terms : Terms → ℕ
 number_of_terms no_terms = 0
 number_of_terms (a_term t l) = suc (number_of_terms l)
@@ -74,6 +81,7 @@ first_numbers (suc n) = first_numbers n ++ n ∷ []
 abbrev pub build : ℕ → Terms → ℕ → Term
 build n values at = Build n values (first_numbers (number_of_terms values)) at
 
+-- the number of a field that was looked up; 0 if it was not found, in a program that is refused
 abbrev pub field_number : Option (ℕ × «Type») → ℕ
 field_number None = 0
 field_number (Some field) = field.0
@@ -83,13 +91,15 @@ abbrev pub element_numbers : Fields → Elements → List ℕ
 element_numbers fields tree.no_elements = []
 element_numbers fields (tree.an_element x e l) = field_number (field_in fields x.name) ∷ element_numbers fields l
 
--- the first of these types, where it is known
+-- the first of these types, if it is known
 abbrev pub with_known : List (Option «Type») → Term → Term
 with_known [] t = t
 with_known (None ∷ tys) t = t
 with_known (Some ty ∷ tys) t = with_type ty t
 
 abbrev mutual
+  -- the typed tree of an expression in this context. Parentheses disappear; the term of a string is never used, since a print writes
+  -- strings from its pieces
   pub typed_term : Context → Expr → Term
   typed_term c (tree.Number n at) = int_constant (pos n) at
   typed_term c (tree.Text bytes at) = atom action.Nil int at
@@ -120,7 +130,7 @@ abbrev mutual
   capacity_term c tree.no_capacity at = int_constant (pos 0) at
   capacity_term c (tree.a_capacity e) at = typed_term c e
 
-  -- values of these types, where there are types
+  -- values of these types, if there are types
   pub all_terms : Context → List «Type» → Exprs → Terms
   all_terms c wanted tree.no_exprs = no_terms
   all_terms c wanted (tree.an_expr e l) = a_term (with_first wanted (typed_term c e)) (all_terms c (drop 1 wanted) l)

@@ -18,7 +18,7 @@ pub enum Callee {
     Builtin(Builtin),
     /// The function of this number.
     Routine(usize),
-    /// What is no function.
+    /// Something that is not a function.
     Nothing,
 }
 
@@ -66,7 +66,7 @@ fn selects_println(e: &Expr) -> bool
     }
 }
 
-/// Whether a call may have an effect. A builtin that has a value has none.
+/// Whether a call may have an effect. A builtin that has a value has none, so `len(s)` alone is not a statement.
 fn has_effect(callee: Callee) -> bool
     ensures { result ≡ spec.has_effect callee }
 {
@@ -106,7 +106,8 @@ impl<'p, 'a> Checker<'p, 'a> {
         }
     }
 
-    /// Whether it is `fmt` followed by a name.
+    /// Whether it is `fmt` followed by a name. Such a callee has no parts to check: `fmt` is not a value, and whether it is imported
+    /// is asked with the call.
     pub fn is_package_selector(&self, f: &Expr) -> bool
         ensures { result ≡ spec.is_package_selector self.now (expr_of f.now) }
     {
@@ -116,7 +117,8 @@ impl<'p, 'a> Checker<'p, 'a> {
         }
     }
 
-    /// What the arguments of a callee are checked as.
+    /// What the arguments of a callee are checked as. A string is refused in those of any other function of `fmt`, as in `fmt.Print`,
+    /// before the call itself.
     pub fn args_role(&self, f: &Expr) -> Role
         ensures { result ≡ spec.args_role self.now (expr_of f.now) }
     {

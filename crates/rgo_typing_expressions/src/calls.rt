@@ -1,4 +1,5 @@
-//! Calls, from their callee and their checked arguments.
+//! Calls, from their callee and their checked arguments. The node of a call comes after its arguments, and has the rules on its
+//! callee too: in `ff(zz)` with both unknown the fault is at `zz`.
 #![tactic(auto)]
 
 ghost use Rattle.std.specs.Prelude.{◌≡◌, [], ◌∷◌, IfOk, map};
@@ -107,7 +108,7 @@ fn builtin_call<'a>(
     })
 }
 
-/// A call of the function of this number.
+/// A call of the function of this number. Every function has a signature; the definition reads a missing one as an empty one.
 fn numbered<'a>(
     alloc: Global,
     globals: &Package<'a>,
@@ -158,6 +159,7 @@ pub fn call<'a>(
         (tree.terms_of (map term_of args.entry.terms.items)) at) }
 {
     match callee {
+        // The nodes of these two break a rule whatever else holds.
         Callee::Missing(name_at) => {
             check_missing(name_at)?;
             unreachable!();

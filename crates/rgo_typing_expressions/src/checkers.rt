@@ -1,4 +1,4 @@
-//! What every check of an expression or a statement is handed.
+//! What every check of an expression or a statement is passed.
 
 ghost use Rattle.std.specs.Prelude.{◌≡◌, OnOk, OnErr};
 ghost use Rattle.rgo_typing_rules.specs.Views.{type_of_kind};
@@ -28,7 +28,7 @@ impl<'p, 'a> Model for Checker<'p, 'a> {
 }
 
 impl<'p, 'a> Checker<'p, 'a> {
-    /// A checker of a package where no local variable is in scope.
+    /// A checker of a package with no local variable in scope: for what is outside of functions.
     pub fn new(alloc: Global, globals: &'p Package<'a>) -> Checker<'p, 'a>
         ensures { result ≡ record { globals = globals.now; scope = no_locals } }
     {
@@ -50,7 +50,7 @@ impl<'p, 'a> Checker<'p, 'a> {
         }
     }
 
-    /// The allocator of the trees that checks make.
+    /// The allocator of the trees that checks make. It is not part of what contracts see of a checker.
     pub fn alloc(&self) -> Global {
         self.alloc
     }

@@ -1,4 +1,8 @@
-//! Expressions: checked in the order of the text, parts before the whole, and made typed trees.
+//! Expressions: checked in the order of the text, parts before the whole, and made typed trees. Parts come first because the rules on
+//! the whole ask for their types, and an expression without a fault in its parts has them.
+//!
+//! The functions of the cycle `expressions` only lead from an expression to its parts. What follows from checked parts is outside the
+//! cycle, in the other files and in rgo_typing_operations, so that the proof by induction is small.
 #![tactic(auto)]
 
 ghost use Rattle.std.specs.Prelude.{◌≡◌, [], ◌∷◌, IfOk, map};
@@ -235,7 +239,8 @@ impl<'p, 'a> Checker<'p, 'a> {
         }
     }
 
-    /// Checks the parts of an expression, and not the expression itself.
+    /// Checks the parts of an expression, and not the expression itself. Only callees need this: whatever a callee is, its call
+    /// reports it, after the arguments.
     #[cycle(expressions)]
     #[tactic(auto, using(crate::proofs::Trees::exprs, rgo_typing_rules::proofs::Refusals::refusals))]
     fn check_parts(&self, e: &'a Expr) -> Result<(), TypeError>
@@ -270,7 +275,7 @@ impl<'p, 'a> Checker<'p, 'a> {
         }
     }
 
-    /// Checks an expression as a value, for its nodes alone.
+    /// Checks an expression as a value, for its nodes alone: below a callee that is not a function no tree is kept.
     #[cycle(expressions)]
     fn check_value(&self, e: &'a Expr) -> Result<(), TypeError>
         ensures { Checks result (checking.nodes self.now Value (expr_of e.now)) }
@@ -299,7 +304,7 @@ impl<'p, 'a> Checker<'p, 'a> {
         Ok(())
     }
 
-    /// Checks expressions in order, each as a value of the type of its number, where there is one.
+    /// Checks expressions in order, each as a value of the type of its number, if there is one.
     #[cycle(expressions)]
     pub fn check_all(
         &self,

@@ -28,6 +28,7 @@ pub fn field_in<'a>(fields: &Fields<'a>, name: &[u8]) -> Option<Field<'a>>
     ensures { found_field result ≡ types.field_in fields.now name.now }
 {
     let number = fields.numbers.get(name)?;
+    // Each number that a name has is below the number of types. The definition reads a missing type as `int`.
     let kind = match fields.kinds.get(number) {
         Some(kind) => *kind,
         None => Kind::Plain(Base::Int),
@@ -71,6 +72,7 @@ pub(crate) fn select<'a>(
 {
     let found = find_field(globals, operand.shape, name);
     check_selector(at, found.is_some())?;
+    // A selector without a field was refused by the line above.
     let Some(field) = found else {
         unreachable!();
     };

@@ -1,4 +1,5 @@
-//! Composite literals by fields.
+//! Composite literals by fields. The fields are looked up before the values are checked, since a `nil` takes the type of its field;
+//! an unknown or repeated field is reported after the values, with the literal.
 #![tactic(auto)]
 
 ghost use Rattle.std.specs.Prelude.{◌≡◌, [], ◌∷◌, IfOk, map};
@@ -27,7 +28,7 @@ use rgo_typing_operations::Checked;
 use rgo_typing_rules::{Kind, Meaning, Shape, TypeError};
 use std::alloc::{AllocError, Global};
 
-/// The fields that the elements of a literal name: the type of each, where there is such a field,
+/// The fields that the elements of a literal name: the type of each, if there is such a field,
 /// and its number.
 #[derive(Drop)]
 pub struct Named<'a> {
@@ -45,7 +46,7 @@ fn known_kind<'a>(field: Option<Field<'a>>) -> Option<Kind<'a>>
     }
 }
 
-/// The number of a field, if there is one.
+/// The number of a field. If there is none, the literal is refused and the 0 is not used.
 fn number_or_zero(field: Option<Field<'_>>) -> usize
     ensures { result ≡ terms.field_number (found_field field.entry) }
 {
@@ -120,7 +121,7 @@ fn has_twice(alloc: Global, elements: &[Element]) -> Result<bool, AllocError>
     repeats(&mut seen, elements)
 }
 
-/// The types of the named fields, where a name means a struct.
+/// The types of the named fields, if a name means a struct.
 fn known_if<'k, 'a>(
     meaning: Option<Meaning>,
     known: &'k [Option<Kind<'a>>],

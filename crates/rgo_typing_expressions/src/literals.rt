@@ -43,7 +43,7 @@ pub(crate) fn kinds_of<'b, 'a>(globals: &'b Package<'a>, meaning: Option<Meaning
     &fields.kinds
 }
 
-/// The same, where it means a struct.
+/// The same, if it means a struct.
 fn struct_kinds<'b, 'a>(
     globals: &'b Package<'a>,
     meaning: Option<Meaning>,

@@ -20,7 +20,7 @@ use rgo_typing_operations::{Checked, atom, plain};
 use rgo_typing_rules::{Kind, Meaning, Shape, TypeError};
 use std::alloc::Global;
 
-/// The number of the struct that a name means.
+/// The number of the struct that a name means. For other names the 0 is not used: the rules refuse them.
 pub(crate) fn struct_number(meaning: Option<Meaning>) -> usize
     ensures { result ≡ checking.struct_number meaning }
 {

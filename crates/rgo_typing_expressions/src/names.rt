@@ -1,4 +1,5 @@
-//! The names that each program has.
+//! The names that each program has. They are looked up last, after all scopes, but nothing can hide them: to declare one breaks the
+//! rule on reserved names.
 
 ghost use Rattle.std.specs.Prelude.{◌≡◌};
 ghost use Rattle.rgo_typing_expressions.specs.Scopes.{builtin_meaning, universe};
@@ -17,7 +18,7 @@ fn builtin_meaning(name: &[u8]) -> Option<Meaning>
     }
 }
 
-/// What a name means that each program has.
+/// The meaning of a name that each program has.
 pub(crate) fn universe(imported: bool, name: &[u8]) -> Option<Meaning>
     ensures { result ≡ universe imported name.now }
 {

@@ -27,6 +27,7 @@ pub(crate) fn number<'a>(alloc: Global, value: u64, at: Place) -> Result<Checked
         (shape.Constant (pos value)) (terms.int_constant (pos value) at) }
 {
     check_number(at, value)?;
+    // The rule on constants has refused larger numbers.
     let Ok(value) = i64::try_from(value) else {
         unreachable!();
     };
@@ -36,7 +37,7 @@ pub(crate) fn number<'a>(alloc: Global, value: u64, at: Place) -> Result<Checked
     })
 }
 
-/// A string literal. It has no term of its own: a print takes its bytes.
+/// A string literal. No term has a string as its value: a print takes the bytes from the source, and drops this one.
 pub(crate) fn text<'a>(alloc: Global, role: Role, at: Place) -> Result<Checked<'a>, TypeError>
     ensures { ChecksTo result ((at, node.Text role) ∷ []) shape.Text (terms.atom Nil int at) }
 {
@@ -59,7 +60,7 @@ impl<'p, 'a> Checker<'p, 'a> {
         Ok(self.named_value(found, x.at)?)
     }
 
-    /// The value of a name that means this.
+    /// The value of a name that means this. `nil` begins as an `int` here and gets its type where it is used.
     fn named_value(&self, meaning: Option<Meaning>, at: Place) -> Result<Checked<'a>, AllocError>
         ensures { IfOk result (λ e. Matches e
             (types.shape_of_meaning self.now meaning) (terms.name_term self.now meaning at)) }
@@ -93,7 +94,8 @@ impl<'p, 'a> Checker<'p, 'a> {
     }
 }
 
-/// A value as one of the type of this number, where there is one.
+/// A value as one of the type of this number, if there is one. If there are more values than types, the rule on their number refuses
+/// them later.
 pub(crate) fn wanted_term(
     alloc: Global,
     wanted: &[Kind<'_>],
@@ -109,7 +111,7 @@ pub(crate) fn wanted_term(
     }
 }
 
-/// The same, where some types are unknown.
+/// The same if some types are unknown.
 pub(crate) fn known_term(
     alloc: Global,
     known: &[Option<Kind<'_>>],

@@ -28,7 +28,8 @@ impl<'a> Model for Fields<'a> {
     ghost view = { λ f. record { numbers = f.numbers; types = map type_of_kind f.kinds.items } };
 }
 
-/// What a package declares.
+/// What a package declares. Names have numbers, and the lists have what belongs to a number; while declarations are checked the lists
+/// are empty, and only the meanings of names are asked for.
 #[derive(Drop)]
 pub struct Package<'a> {
     /// Whether it imports `fmt`.
@@ -67,7 +68,7 @@ impl<'a> Package<'a> {
         }
     }
 
-    /// What a name means that is no local variable.
+    /// The meaning of a name that is not a local variable.
     pub fn meaning(&self, name: &[u8]) -> Option<Meaning>
         ensures { result ≡ global_meaning self.now name.now }
     {
@@ -78,7 +79,7 @@ impl<'a> Package<'a> {
     }
 }
 
-/// No types.
+/// No types, as an empty part of a list of the package, so that nothing is allocated.
 pub(crate) fn no_kinds<'b, 'a>(globals: &'b Package<'a>) -> &'b [Kind<'a>]
     ensures { result.now ≡ [] }
 {

@@ -1,4 +1,5 @@
-//! The local variables of a function at a point of it.
+//! The local variables of a function at a point of it. Blocks end, but numbers are never given again: later passes know a variable by
+//! its number alone, in the whole function.
 
 ghost use Rattle.std.specs.Prelude.{◌≡◌, OnOk, OnErr, map, is_some};
 ghost use Rattle.rgo_typing_rules.specs.Views.{type_of_kind};
@@ -81,6 +82,7 @@ impl<'a> Scope<'a> {
             (self.new ≡ with_local name.now (type_of_kind kind.entry) self.old) }
         ensures err { OnErr result (self.new ≡ self.old) }
     {
+        // Room first, so that the name is not declared without its type.
         let number = self.kinds.len();
         self.kinds.reserve(1)?;
         self.locals.declare(name, number)?;
@@ -96,7 +98,8 @@ impl<'a> Scope<'a> {
         self.locals.enter()
     }
 
-    /// The local variables as the fields of a struct, or the parameters of a function.
+    /// The local variables as the fields of a struct, or the parameters of a function. All three are names that must differ and have
+    /// types by number, so they are checked by the same functions.
     pub fn into_fields(self) -> Fields<'a>
         ensures { result ≡ record { numbers = self.entry.locals; types = self.entry.types } }
     {

@@ -1,4 +1,5 @@
-//! Types as they are written: what they mean, and whether they keep the rules.
+//! Types as they are written: what they mean, and whether they keep the rules. The two are separate: a type is resolved where it may
+//! not have been checked yet, and one that breaks a rule resolves to some type that nobody uses.
 #![tactic(auto)]
 
 ghost use Rattle.std.specs.Prelude.{◌≡◌};

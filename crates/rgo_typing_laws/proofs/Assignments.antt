@@ -1,4 +1,5 @@
--- Assignments and sends: where no node of one breaks a rule, its typed statement is well-formed.
+-- Assignments and sends: if no node of one breaks a rule, its typed statement is well-formed. The case that matters is the left side:
+-- by the rule on places its term is a read with a write, so the definitions never drop the value.
 use Rattle.std.proofs.Common.{◌≡◌, ◌++◌, ◌&&◌, ◌<◌, ℕ, Bool, true, false, not, List, [], ◌∷◌, length}
 use Rattle.std.proofs.Common.{Option, Some, None, is_some, refl, ap, sym, subst, true≢false}
 use Rattle.std.specs.Prelude.{⊤}

@@ -1,4 +1,5 @@
--- Returns, calls and prints: where no node of one breaks a rule, its typed statement is well-formed.
+-- Returns, calls and prints: if no node of one breaks a rule, its typed statement is well-formed. The hard case is a print: its terms
+-- are those of its operands without the strings, so the pieces have to be matched with the rest.
 use Rattle.std.proofs.Common.{◌≡◌, ◌&&◌, ◌==◌, ◌<◌, ℕ, ℤ, Bool, true, false, not, List, [], ◌∷◌, length}
 use Rattle.std.proofs.Common.{Option, Some, None, is_some, refl, ap, sym, true≢false, eqb-true, arith}
 use Rattle.rgo_ast.specs.Tree as tree

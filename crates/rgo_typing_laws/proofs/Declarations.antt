@@ -1,4 +1,5 @@
--- Lists of typed statements and what is in scope after them, and the declarations of local variables.
+-- Lists of typed statements and what is in scope after them, and the declarations of local variables. `Steps` says that statements
+-- are well-formed if those after them are, so that it composes along a list, in which a declaration may be several statements.
 use Rattle.std.proofs.Common.{◌≡◌, ◌++◌, ◌+◌, ℕ, Bool, List, [], ◌∷◌, length, append_assoc, length-append}
 use Rattle.std.proofs.Common.{Option, Some, None, true, refl, sym, subst, true≢false}
 use Rattle.std.proofs.lemmas.List.{append-nil}

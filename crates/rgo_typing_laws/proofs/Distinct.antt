@@ -1,4 +1,5 @@
--- The names that a package declares are distinct: those of its structs, of its variables, and of its functions.
+-- The names that a package declares are distinct: those of its structs, of its variables, and of its functions. All are checked in one
+-- scope, which refuses a second declaration of any kind; so it is enough to keep that the names so far are in that scope.
 use Rattle.std.proofs.Common.{◌≡◌, ◌++◌, ℕ, Bool, true, false, List, [], ◌∷◌, length, map, bytes_eq, if◌then◌else◌}
 use Rattle.std.proofs.Common.{Some, None, is_some, refl, sym, ◌∙◌, subst, true≢false}
 use Rattle.std.specs.List.{AllByRecursion, IsDistinct}

@@ -1,4 +1,5 @@
--- Where the statements of a body are terminating, its typed statements are terminating, too.
+-- If the statements of a body are terminating, so are its typed statements. The rule is on source trees and the later passes ask of
+-- typed ones: typing keeps each `break` and puts headers into blocks, so no loop gains a `break` and the last statement stays last.
 use Rattle.std.proofs.Common.{◌≡◌, ◌++◌, ◌&&◌, ◌||◌, ◌+◌, ℕ, pos, Bool, true, false, not, List, [], ◌∷◌, length}
 use Rattle.std.proofs.Common.{Option, Some, None, refl, ap, sym, subst, true≢false}
 use Rattle.std.proofs.lemmas.List.{append-nil}

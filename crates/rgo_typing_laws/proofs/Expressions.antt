@@ -1,4 +1,5 @@
--- Where no node of an expression breaks a rule, its term is well-formed and has its type.
+-- If no node of an expression breaks a rule, its term is well-formed and has its type, by induction on the expression. Each case takes
+-- the list of sites apart (`Unbroken`) and cites the lemma on its operation (`Fitting`, `Values`, `Literals`).
 use Rattle.std.proofs.Common.{◌≡◌, ◌<◌, ℕ, pos, Bool, true, false, List, [], ◌∷◌, length}
 use Rattle.std.proofs.Common.{Option, Some, None, is_some, refl, true≢false}
 use Rattle.rgo_ast.specs.Tree as tree

@@ -1,4 +1,5 @@
--- Terms that fit the shape of their expression: operators and indices.
+-- Terms that fit the shape of their expression: operators and indices. Not "have its type": a `nil` has no type until it is used, so
+-- `Fits` says what holds before, and a value that fits a type has it once it is retyped.
 use Rattle.std.proofs.Common.{◌≡◌, ◌&&◌, ◌||◌, ℕ, ℤ, Bool, true, false, not, List, [], ◌∷◌}
 use Rattle.std.proofs.Common.{Option, Some, None, refl, sym, subst, true≢false}
 use Rattle.std.specs.Prelude.{⊤}

@@ -1,4 +1,5 @@
--- What statements keep of a context: its package, the blocks around it, and the types of earlier local variables.
+-- What statements keep of a context: its package, the blocks around it, and the types of earlier local variables. A typed function lists
+-- all its local variables, while a statement is checked when only some are declared: by this the list begins with those.
 use Rattle.std.proofs.Common.{◌≡◌, List, [], ◌∷◌, ◌++◌, append_assoc, refl, ap, sym, ◌∙◌}
 use Rattle.std.proofs.lemmas.List.{append-nil}
 use Rattle.std.specs.Prelude.{Option, None, ℕ}

@@ -1,4 +1,4 @@
--- The statements of headers by their forms.
+-- The statements of headers by their forms: simple statements contain no `break` and no header of their own.
 use Rattle.std.proofs.Common.{◌≡◌, false, refl}
 use Rattle.rgo_ast.specs.Tree as tree
 use Rattle.rgo_ast.specs.Tree.{Clause}

@@ -1,4 +1,5 @@
--- The trees of the grammar have its headers.
+-- The trees of the grammar have its headers, by induction on the derivation. This is the only proof here about the grammar; all others
+-- are about any tree with such headers.
 use Rattle.std.proofs.Common.{Bool, false, List, Option}
 use Rattle.std.specs.List.{AllByRecursion}
 use Rattle.rgo_ast.specs.Tree as tree

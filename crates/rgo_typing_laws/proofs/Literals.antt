@@ -1,4 +1,5 @@
--- Struct literals: where no node of one breaks a rule, its term is well-formed.
+-- Struct literals: if no node of one breaks a rule, its term is well-formed. By the rule on literals a literal by values has none or
+-- all, so its numbers are those of the first fields.
 use Rattle.std.proofs.Common.{◌≡◌, ◌++◌, ◌==◌, ◌<◌, ◌≤◌, ℕ, zero, suc, false, List, [], ◌∷◌, length}
 use Rattle.std.proofs.Common.{get_or, drop, take}
 use Rattle.std.proofs.Common.{Option, Some, None, is_none, slice_get, refl, ap, sym, ◌∙◌, subst, true≢false, eqb-true}

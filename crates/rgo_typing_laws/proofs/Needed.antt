@@ -1,4 +1,5 @@
--- A tree that no text parses to: `func main() { for ; ; x := 1 { x = 2 } }`.
+-- A tree that no text parses to: `func main() { for ; ; x := 1 { x = 2 } }`. It breaks no rule and its typed tree is not well-formed, so
+-- the law needs its premise on headers.
 use Rattle.std.proofs.Common.{◌≡◌, [], ◌∷◌, None, codes, refl, sym, true≢false}
 use Rattle.rgo_ast.specs.Tree as tree
 use Rattle.rgo_ast.specs.Tree.{Program, Stmt}

@@ -1,4 +1,5 @@
--- The numbers of package names: each is below the count of its kind, and a function is numbered by its position.
+-- The numbers of package names: each is below the count of its kind, and a function is numbered by its position. The numbers come from
+-- the first pass over the declarations and the lists from the second (`Signatures`), so that they agree has to be proved.
 use Rattle.std.proofs.Common.{◌≡◌, ◌++◌, ◌+◌, ◌<◌, ◌≤◌, ℕ, Bool, true, false, List, [], ◌∷◌, length, slice_get}
 use Rattle.std.proofs.Common.{bytes_eq, if◌then◌else◌, append_assoc, length-append}
 use Rattle.std.proofs.Common.{Some, is_some, refl, ap, sym, ◌∙◌, subst, arith, ◌⊎◌, inl, inr}

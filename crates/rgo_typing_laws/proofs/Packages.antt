@@ -1,4 +1,5 @@
--- Everything that a package declares exists: the structs that its types name, and the fields of its structs.
+-- Everything that a package declares exists: the structs that its types name, and the fields of its structs. A type may name a struct
+-- that is declared later, so this is about the finished package, and the lists so far are only built up.
 use Rattle.std.proofs.Common.{◌≡◌, ◌++◌, ◌<◌, ℕ, zero, suc, Bool, true, false, List, [], ◌∷◌, length, bytes_eq, codes}
 use Rattle.std.proofs.Common.{if◌then◌else◌}
 use Rattle.std.proofs.Common.{Option, Some, None, refl, sym, ◌∙◌, subst, arith, true≢false, eqb-true, eq-eqb}

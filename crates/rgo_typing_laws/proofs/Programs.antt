@@ -1,4 +1,5 @@
--- Where no node of a program breaks a rule, its typed tree is well-formed.
+-- If no node of a program breaks a rule, its typed tree is well-formed. Each field of `IsWellFormed` is one lemma: the package by
+-- `Packages`, `Signatures` and `Distinct`, the bodies by `Statements`, and `main` by the rule at the text's end.
 use Rattle.std.proofs.Common.{◌≡◌, ◌+◌, ◌<◌, ◌&&◌, ℕ, true, false, not, List, [], ◌∷◌, length, map, slice_get, codes}
 use Rattle.std.proofs.Common.{length-append}
 use Rattle.std.proofs.Common.{Option, Some, None, is_some, refl, ap, sym, ◌∙◌, subst, arith, true≢false}

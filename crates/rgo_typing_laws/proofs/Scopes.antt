@@ -1,4 +1,5 @@
--- Local variables in scope: a name means a variable in scope, and a new variable is not in scope yet.
+-- Local variables in scope: a name means a variable in scope, and a new variable is not in scope yet. The second holds since numbers are
+-- never given again: all numbers in scope are below the count of variables so far, which is the new one's number.
 use Rattle.std.proofs.Common.{◌≡◌, ℕ, suc, ◌+◌, ◌<◌, Bool, true, false, ◌||◌, List, [], ◌∷◌, ◌++◌, length, slice_get}
 use Rattle.std.proofs.Common.{bytes_eq, codes, if◌then◌else◌, nat_eq, refl, ap, sym, ◌∙◌, subst, true≢false, arith}
 use Rattle.std.proofs.Common.{append_assoc, eqb-true, eq-eqb, ne_eqb, length-append}
@@ -62,7 +63,8 @@ before l m rest n a is h = subst (λ x. slice_get x n ≡ Some a) (sym is) (stil
 
 -- ---- scopes
 
--- Every variable that a name of the scope means is in `here`; those in `here` were declared before; all types exist.
+-- Every variable that a name of the scope means is in `here`; those in `here` were declared before; all types exist. `here` may have
+-- more than the names mean, since a variable that is shadowed is still in scope.
 pub record Scoped (d : Declared) (g : Scope) (here : InScope) : Type 0 where
   pub known : (name : List ℕ) (n : ℕ) → found name g.locals ≡ Some n → is_in_scope here n ≡ true
   pub below : AllByRecursion (λ m. m < length g.types) here

@@ -1,5 +1,5 @@
--- The lists of what a package declares: they grow in step with the numbers, with the lists of the typed tree, and with
--- its functions.
+-- The lists of what a package declares: they grow in step with the numbers, with the lists of the typed tree, and with its functions. So
+-- a number finds the same declaration for the checker and in the typed tree.
 use Rattle.std.proofs.Common.{◌≡◌, ◌++◌, ◌+◌, ℕ, List, [], ◌∷◌, length, map, take, append_assoc, length-append}
 use Rattle.std.proofs.Common.{Option, Some, None, refl, ap, ap₂, sym, ◌∙◌}
 use Rattle.std.proofs.lemmas.List.{append-nil, map-append}

@@ -1,4 +1,5 @@
--- Where no node of a statement breaks a rule, its typed statements are well-formed.
+-- If no node of a statement breaks a rule, its typed statements are well-formed, by induction on the statement. The hard case is `for`:
+-- its post statement is checked before the body and is after it in the typed tree, which is right only if it declares nothing.
 use Rattle.std.proofs.Common.{◌≡◌, ◌++◌, ℕ, pos, Bool, true, List, [], ◌∷◌}
 use Rattle.std.proofs.Common.{Option, Some, None, refl, sym, subst}
 use Rattle.std.specs.Prelude.{⊤}

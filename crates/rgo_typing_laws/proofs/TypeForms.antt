@@ -1,4 +1,4 @@
--- Types by their tests.
+-- Types by their tests: the rules test types with functions to bool, and well-formed trees have equations of types.
 use Rattle.std.proofs.Common.{◌≡◌, true, ◌&&◌, List, [], ◌∷◌, refl, ap, ap₂, sym, true≢false, eqb-true}
 use Rattle.rgo_typed.specs.declared.types.Type.{«Type»}
 use Rattle.rgo_typed.specs.declared.types.Base.{Base}

@@ -1,4 +1,5 @@
--- Sites that break no rule: the parts of lists of sites, and tests that are true or false.
+-- Sites that break no rule: the parts of lists of sites, and tests that are true or false. Each proof about a construct begins by taking
+-- its sites apart with these, down to the tests of single rules.
 use Rattle.std.proofs.Common.{◌≡◌, ◌++◌, ◌&&◌, ◌||◌, ℕ, Bool, true, false, not, List, [], ◌∷◌}
 use Rattle.std.proofs.Common.{Option, Some, None, is_some, refl, ap, sym, ◌∙◌, true≢false}
 use Rattle.rgo_typing_rules.specs.Nodes.{Node}

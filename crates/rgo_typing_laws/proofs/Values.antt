@@ -1,4 +1,4 @@
--- What names mean, and the values of calls.
+-- What names mean exists in the typed tree, and the values of calls have the types of their parameters.
 use Rattle.std.proofs.Common.{◌≡◌, ◌==◌, ◌<◌, ℕ, true, false, not, List, [], ◌∷◌, length}
 use Rattle.std.proofs.Common.{get_or}
 use Rattle.std.proofs.Common.{Option, Some, None, slice_get, refl, ap, sym, subst, true≢false, eqb-true}

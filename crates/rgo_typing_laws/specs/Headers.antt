@@ -1,5 +1,6 @@
 -- What the grammar ensures for the headers of `if` and `for`, and trees alone do not: a simple statement precedes the condition, and
--- the post statement of a `for` declares nothing. The law in Laws.antt needs this.
+-- the post statement of a `for` declares nothing. The law in Laws.antt needs this: the post statement is checked before the body, but
+-- is after it in the typed tree, so a variable that it declared would be used before its declaration.
 use Rattle.std.specs.Prelude.{⊤}
 use Rattle.std.specs.List.{AllByRecursion}
 use Rattle.rgo_ast.specs.Tree.{Stmt, Stmts, Clause, Decl, Program, stmts_of}

@@ -1,4 +1,4 @@
--- Where an operation on constants breaks no rule, its value keeps the range.
+-- If an operation on constants breaks no rule, its value keeps the range, so the code's 64-bit integer is the exact value.
 use Rattle.std.proofs.Common.{◌≡◌, ℕ, ℤ, Bool, true, false, not, [], ◌∷◌, Option, Some, None, is_some, if◌then◌else◌, refl, ap, true≢false}
 use Rattle.rgo_ast.specs.declared.ops.BinaryOp.{BinaryOp}
 use Rattle.rgo_ast.specs.declared.ops.UnaryOp.{UnaryOp}

@@ -19,7 +19,7 @@ pub fn check_missing(at: Place) -> Result<(), TypeError>
     check_node(at, &Node::CallMissing)
 }
 
-/// A call of what is no function.
+/// A call of something that is not a function. It breaks a rule whatever else holds, so callers need no case after it.
 pub fn check_nothing(at: Place) -> Result<(), TypeError>
     ensures { Checks result ((at, node.CallNothing) ∷ []) }
 {
@@ -66,7 +66,7 @@ pub fn check_go<'t, 'p, 'v>(
     check_node(at, &node)
 }
 
-/// `go` of what is no function.
+/// `go` of something that is not a function. It always breaks a rule, too.
 pub fn check_go_nothing(at: Place) -> Result<(), TypeError>
     ensures { Checks result ((at, node.GoNothing) ∷ []) }
 {

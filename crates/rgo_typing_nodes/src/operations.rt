@@ -58,7 +58,7 @@ fn check_two<'t>(
     check_node(at, &node)
 }
 
-/// A unary operation. Returns its value where it is a constant.
+/// A unary operation. Returns its value if it is a constant, so that it is computed only once.
 #[tactic(auto, using(crate::proofs::Kept::kept_unary))]
 pub fn check_unary(at: Place, op: UnaryOp, operand: Shape<'_>) -> Result<Option<i64>, TypeError>
     ensures checked { Checks result ((at, node.Unary op (shape_of operand.entry)) ∷ []) }
@@ -68,7 +68,7 @@ pub fn check_unary(at: Place, op: UnaryOp, operand: Shape<'_>) -> Result<Option<
     Ok(folded_one(op, operand))
 }
 
-/// A binary operation. Returns its value where it is a constant.
+/// A binary operation. Returns its value if it is a constant.
 #[tactic(auto, using(crate::proofs::Kept::kept_binary))]
 pub fn check_binary<'t>(
     at: Place,

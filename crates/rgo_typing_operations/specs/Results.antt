@@ -13,7 +13,7 @@ use Rattle.rgo_typing_operations.specs.declared.results.Checked.{Checked}
 abbrev pub Matches : Checked → Shape → Term → Type 0
 Matches e shape term = (shape_of e.shape ≡ shape) × (term_of e.term ≡ term)
 
--- a check of these nodes, with the shape and the term of an expression where no node breaks a rule
+-- a check of these nodes, with the shape and the term of an expression if no node breaks a rule
 abbrev pub ChecksTo : Result Checked TypeError → List Site → Shape → Term → Type 0
 ChecksTo (Ok e) sites shape term = (first_refusal sites ≡ None) × Matches e shape term
 ChecksTo (Err e) sites shape term = Refuses e (first_refusal sites)

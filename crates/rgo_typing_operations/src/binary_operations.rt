@@ -33,7 +33,7 @@ fn binary_base(op: BinaryOp) -> Base
     }
 }
 
-/// The comparison itself, or its opposite.
+/// The comparison itself, or its opposite: there is one action for the test for `nil`, so `!=` negates it.
 fn opposite(alloc: Global, differs: bool, test: Term, at: Place) -> Result<Term, AllocError>
     ensures { IfOk result (λ t. term_of t ≡ terms.negated differs (term_of test) at) }
 {
@@ -53,7 +53,7 @@ fn nil_test(alloc: Global, differs: bool, value: Term, at: Place) -> Result<Term
     opposite(alloc, differs, test, at)
 }
 
-/// `==`, or `!=`. With `nil` on one side it is a test of the other side.
+/// `==`, or `!=`. With `nil` on one side it is a test of the other side. `nil` on both sides was refused.
 fn compared(
     alloc: Global,
     op: BinaryOp,
@@ -82,7 +82,7 @@ fn logic(alloc: Global, op: Logical, left: Term, right: Term, at: Place) -> Resu
     Ok(Term::Logic(op, Box::new(alloc, left)?, Box::new(alloc, right)?, at))
 }
 
-/// A binary operation that is no constant.
+/// A binary operation whose value is not a constant.
 fn operation(
     alloc: Global,
     op: BinaryOp,

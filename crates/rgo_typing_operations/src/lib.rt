@@ -1,5 +1,5 @@
-//! Operations, index expressions and `make`, from their checked operands: the check of the node, the typed tree,
-//! and what the rules see of its value.
+//! Operations, index expressions and `make`, from their checked operands: the check of the node, the typed tree, and what the rules
+//! see of its value. Nothing here recurs: that the operands were checked is a fact about the arguments.
 #![tactic(auto)]
 
 mod binary_operations;

@@ -35,7 +35,7 @@ pub fn make_slice<'a>(
     Ok(applied(alloc, Action::Slice, size.term, kind, at)?)
 }
 
-/// `make(chan T)`, of the channel's type: its capacity is 0.
+/// `make(chan T)`, of the channel's type: its capacity is 0. It has no size that a rule could refuse.
 pub fn make_channel<'a>(alloc: Global, kind: Kind<'a>, at: Place) -> Result<Checked<'a>, AllocError>
     ensures { IfOk result (λ e. Matches e (shape.Value (type_of_kind kind.entry))
         (tree.Apply action.Chan (terms.one (terms.int_constant (pos 0) at)) (type_of_kind kind.entry) at)) }

@@ -22,7 +22,7 @@ use rgo_typing_nodes::{check_index, check_unary};
 use rgo_typing_rules::{Kind, Shape, TypeError};
 use std::alloc::{AllocError, Global};
 
-/// `+x`: its operand, as an `int`.
+/// `+x`: the operand itself, since no action is needed.
 fn plus<'a>(operand: Checked<'a>, at: Place) -> Result<Checked<'a>, TypeError>
     ensures { ChecksTo result ((at, node.Unary Plus (shape_of operand.entry.shape)) ∷ [])
         (types.constant_or (folded_shape Plus (shape_of operand.entry.shape))
@@ -39,7 +39,7 @@ fn plus<'a>(operand: Checked<'a>, at: Place) -> Result<Checked<'a>, TypeError>
     })
 }
 
-/// The negated operand, or a constant in its place.
+/// The negated operand, or a constant in its place: typed trees have the values of constant operations and not the operations.
 fn negated<'a>(
     alloc: Global,
     value: Option<i64>,
@@ -101,6 +101,7 @@ fn received<'a>(alloc: Global, channel: Checked<'a>, at: Place) -> Result<Checke
         (terms.unary_term Receive (shape_of channel.entry.shape) (term_of channel.entry.term) at) }
 {
     check_unary(at, UnaryOp::Receive, channel.shape)?;
+    // Only a value can be a channel, and others were refused.
     let Shape::Value(kind) = channel.shape else {
         unreachable!();
     };

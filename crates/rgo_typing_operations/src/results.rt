@@ -1,4 +1,4 @@
-//! Expressions that break no rule.
+//! Expressions that break no rule: what a check returns, and so what operations take.
 #![tactic(auto)]
 
 ghost use Rattle.std.specs.Prelude.{IfOk};
@@ -15,7 +15,8 @@ use rgo_typed::{Action, Term};
 use rgo_typing_rules::{Kind, Shape};
 use std::alloc::{AllocError, Global};
 
-/// An expression that breaks no rule: its typed tree, and its shape.
+/// An expression that breaks no rule: its typed tree, and its shape. The tree is kept and the shape is for the rules on whatever the
+/// expression is part of.
 #[derive(Drop)]
 pub struct Checked<'a> {
     pub term: Term,

@@ -70,7 +70,8 @@ pub fn apply_two(
     Ok(Term::Apply(action, parts, ty, at))
 }
 
-/// A value as one of this type: `nil` takes it.
+/// A value as one of this type: `nil` takes it, since alone it has none. All other terms have their type already, and are returned as
+/// they are.
 pub fn with_type(alloc: Global, kind: Kind<'_>, term: Term) -> Result<Term, AllocError>
     ensures { IfOk result (λ t. term_of t ≡ spec.with_type (type_of_kind kind.entry) (term_of term)) }
 {

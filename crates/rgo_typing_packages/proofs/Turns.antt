@@ -1,4 +1,5 @@
--- Loops that check the items of a list one after another: what a turn keeps, and where one ends with a refusal.
+-- Loops that check the items of a list one after another: what a turn keeps, and where one ends with a refusal. Proved once for any kind
+-- of item; each loop of the crate is an instance.
 use Rattle.std.proofs.Common.{◌≡◌, ◌++◌, List, ◌∷◌, None, ap, ◌∙◌, sym, subst}
 use Rattle.rgo_typing_rules.specs.Checks.{Refuses}
 use Rattle.rgo_typing_rules.specs.Sites.{Site, first_refusal}

@@ -19,6 +19,7 @@ abbrev pub name_sites : «Type» → Scope → List Ident → List Site
 name_sites ty g [] = []
 name_sites ty g (x ∷ l) = name_site g x ∷ name_sites ty (with_local x.name ty g) l
 
+-- the scope after these names, each with this type
 abbrev pub with_names : «Type» → Scope → List Ident → Scope
 with_names ty g [] = g
 with_names ty g (x ∷ l) = with_names ty (with_local x.name ty g) l
@@ -27,6 +28,7 @@ with_names ty g (x ∷ l) = with_names ty (with_local x.name ty g) l
 abbrev pub binding_sites : Context → Scope → Binding → List Site
 binding_sites c g b = name_sites (resolved c b.ty) g b.names ++ type_expr_sites c b.ty
 
+-- the scope after the names of one binding
 abbrev pub with_binding : Context → Scope → Binding → Scope
 with_binding c g b = with_names (resolved c b.ty) g b.names
 
@@ -35,6 +37,7 @@ abbrev pub bindings_sites : Context → Scope → List Binding → List Site
 bindings_sites c g [] = []
 bindings_sites c g (b ∷ l) = binding_sites c g b ++ bindings_sites c (with_binding c g b) l
 
+-- the scope after all fields or parameters, numbered from left to right
 abbrev pub with_bindings : Context → Scope → List Binding → Scope
 with_bindings c g [] = g
 with_bindings c g (b ∷ l) = with_bindings c (with_binding c g b) l

@@ -1,4 +1,4 @@
--- What a check that changes a state returns: the first refusal; or, where no node breaks a rule, the state after it.
+-- What a check that changes a state returns: the first refusal; or, if no node breaks a rule, the state after it.
 use Rattle.std.specs.Prelude.{◌≡◌, List, None, Result, Ok, Err}
 use Rattle.rgo_typing_rules.specs.Checks.{Refuses}
 use Rattle.rgo_typing_rules.specs.Sites.{Site, first_refusal}

@@ -1,4 +1,5 @@
--- What a package comes to: its names, what they mean, and the checked nodes of all that is outside of function bodies.
+-- A whole package: its names, what they mean, and the checked nodes of all that is outside of function bodies. Types are resolved with
+-- the meanings of names alone, before fields and signatures are known, so that declarations may refer to later ones.
 use Rattle.std.specs.Prelude.{false, List, [], ◌++◌}
 use Rattle.rgo_ast.specs.Tree.{Program}
 use Rattle.rgo_typing_rules.specs.Sites.{Site}
@@ -22,6 +23,7 @@ named_package program = record {
   functions = [];
 }
 
+-- all structs, variables and signatures of the program, each at its number
 abbrev pub signatures_in : Program → Signatures
 signatures_in program = with_decls (outside_functions (named_package program)) no_signatures program.decls
 
@@ -35,6 +37,7 @@ whole_package p s = record {
   functions = s.functions;
 }
 
+-- the package of a program: all names outside of functions, and what they mean
 abbrev pub package_of : Program → Package
 package_of program = whole_package (named_package program) (signatures_in program)
 

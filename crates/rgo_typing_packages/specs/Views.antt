@@ -1,4 +1,4 @@
--- The views: of what the code keeps while it checks a package, the plain data that contracts speak of.
+-- The views: the plain data that contracts see in place of what the code keeps while it checks a package.
 use Rattle.std.specs.Prelude.{◌≡◌, map, Option, Some, None}
 use Rattle.rgo_ast.specs.Tree as tree
 use Rattle.rgo_ast.specs.Tree.{Program}
@@ -35,7 +35,7 @@ abbrev pub optional_type_expr_of : Option TypeExpr → Option tree.TypeExpr
 optional_type_expr_of None = None
 optional_type_expr_of (Some ty) = Some (type_expr_of ty)
 
--- what the declarations outside of functions come to
+-- the result of the declarations outside of functions
 abbrev pub DeclaresPackage : Declared → Program → Type 0
 DeclaresPackage d program =
     (d.package ≡ package_of program)

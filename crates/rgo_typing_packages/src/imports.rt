@@ -1,4 +1,4 @@
-//! Imports.
+//! Imports. They are checked first of all, since whether `fmt` is imported decides what `fmt` means everywhere else.
 #![tactic(auto)]
 
 ghost use Rattle.std.specs.Prelude.{◌≡◌, false, IfOk, map};

@@ -1,4 +1,7 @@
 //! The typing of what a package declares: its imports, its names, and all outside of function bodies.
+//!
+//! Declarations are passed over twice. A name may be used before its declaration, so the first pass (`numbering`) gives each name its
+//! meaning and refuses nothing; the second (`signatures`) checks names and types in the order of the text with these meanings.
 #![tactic(auto)]
 
 mod imports;

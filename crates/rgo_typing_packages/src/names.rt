@@ -15,7 +15,7 @@ use rgo_typing_nodes::check_declared;
 use rgo_typing_rules::{Kind, TypeError};
 use std::alloc::AllocError;
 
-/// How many names were declared so far: the number of the next local variable.
+/// The number of names declared so far, and so the number of the next local variable. It never falls, also at the end of a block.
 pub fn count(scope: &Scope<'_>) -> usize
     ensures { result ≡ length scope.now.types }
 {
@@ -59,7 +59,8 @@ pub(crate) fn declare_names<'a>(
     Ok(())
 }
 
-/// Declares names with one type.
+/// Declares names with one type. The names are checked before the type, in the order of the text, although the meaning of the type
+/// is found first: it does not depend on the names.
 #[tactic(auto, using(rgo_typing_rules::proofs::Refusals::refusals))]
 fn declare_binding<'a>(
     top: &Checker<'_, '_>,
@@ -102,7 +103,7 @@ pub(crate) fn check_bindings<'a>(
     Ok(scope)
 }
 
-/// Adds names of one type that were checked before.
+/// Adds names of one type that were checked before. So only memory can be missing, and the error is not a refusal.
 fn add_names<'a>(
     scope: &mut Scope<'a>,
     kind: Kind<'a>,

@@ -1,4 +1,5 @@
-//! The names of a package: each means what the first of its declarations says.
+//! The names of a package: each means what the first of its declarations says. This pass refuses nothing; a name that is declared
+//! again is reported later, at its place in the order of checking, and until then it means the first.
 #![tactic(auto)]
 
 ghost use Rattle.std.specs.Prelude.{◌≡◌, ◌+◌, OnOk, IfOk, map};
@@ -20,7 +21,7 @@ pub(crate) struct Numbering<'a> {
     pub(crate) functions: usize,
 }
 
-/// Declares a name that has no meaning yet.
+/// Declares a name, unless it has a meaning: that of the first declaration stays.
 fn declare_first<'a>(
     names: &mut Scopes<'a, Meaning>,
     name: &'a [u8],
@@ -35,7 +36,8 @@ fn declare_first<'a>(
     }
 }
 
-/// The next number. No memory holds as many names as there are numbers.
+/// The next number. It also counts declarations of names that have a meaning, so that a number is an index in the lists that the
+/// pass over signatures makes. No memory holds as many names as there are numbers.
 fn next(number: usize) -> Result<usize, AllocError>
     ensures { IfOk result (λ n. n ≡ number + 1) }
 {

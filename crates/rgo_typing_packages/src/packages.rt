@@ -1,4 +1,4 @@
-//! Packages: imports, names, and what the declarations outside of function bodies come to.
+//! Packages: imports, names, and the result of the declarations outside of function bodies.
 #![tactic(auto)]
 
 ghost use Rattle.std.specs.Prelude.{◌≡◌, IfOk, false, map};
@@ -27,7 +27,8 @@ pub struct Declared<'a> {
     pub variables: Vec<Variable>,
 }
 
-/// Checks the imports, and returns the names of the package by their meanings alone.
+/// Checks the imports, and returns the names of the package by their meanings alone. They are enough to check types: that a name means a
+/// struct is all that `*T` needs, whose fields may not be known yet.
 fn check_names<'a>(alloc: Global, program: &'a Program) -> Result<Package<'a>, TypeError>
     ensures checked { Checks result (import_sites false (program_of program.now).imports) }
     ensures value { IfOk result (λ p. p ≡ named_package (program_of program.now)) }
@@ -74,7 +75,7 @@ fn whole<'a>(named: Package<'a>, signatures: Signatures<'a>) -> Declared<'a>
     }
 }
 
-/// Checks all of a program but that there is a `main`, and bodies.
+/// Checks all of a program except that there is a `main`, and except bodies. What it returns is all that bodies ask of a package.
 ///
 /// # Errors
 ///

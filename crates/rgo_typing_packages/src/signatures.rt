@@ -1,4 +1,5 @@
-//! What a package declares, but for the bodies of its functions.
+//! What a package declares, except for the bodies of its functions: checked in the order of the text, and the lists by which the
+//! numbers of names find fields, types and signatures.
 #![tactic(auto)]
 
 ghost use Rattle.std.specs.Prelude.{◌≡◌, IfOk, OnOk, map};
@@ -55,7 +56,7 @@ pub fn result_kind<'a>(top: &Checker<'_, '_>, result_type: &'a Option<TypeExpr>)
     }
 }
 
-/// The parameters and the result of a function.
+/// The parameters and the result of a function, in this order, as they are written.
 #[tactic(auto, using(rgo_typing_rules::proofs::Refusals::refusals))]
 fn check_signature<'a>(top: &Checker<'_, '_>, f: &'a Function) -> Result<Signature<'a>, TypeError>
     ensures checked { Checks result (spec.signature_sites top.now (function_of f.now)) }
@@ -91,7 +92,7 @@ fn typed_variable(alloc: Global, name: &Name, kind: Kind<'_>) -> Result<Variable
 /// What the package declares so far, and structs and variables as typed trees.
 #[derive(Drop)]
 pub(crate) struct Signatures<'a> {
-    /// The names of the package.
+    /// The names of the package so far, to find one that is declared again. Their types here are not used.
     pub(crate) seen: Scope<'a>,
     pub(crate) structs: Vec<Fields<'a>>,
     pub(crate) variables: Vec<Kind<'a>>,
@@ -235,7 +236,7 @@ impl<'a> Signatures<'a> {
     }
 }
 
-/// Checks what the package declares, but for the bodies, with the meanings of names that `top` has.
+/// Checks what the package declares, except for the bodies, with the meanings of names that `top` has.
 pub(crate) fn check_decls<'a>(
     top: &Checker<'_, '_>,
     decls: &'a [Decl],

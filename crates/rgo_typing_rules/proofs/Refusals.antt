@@ -1,4 +1,5 @@
--- The first refusal of lists of nodes that are checked one after another.
+-- The first refusal of lists of nodes that are checked one after another. The contracts of all checks are of one form, so these few lemmas
+-- let the prover find most proofs of the typing by itself.
 use Rattle.std.proofs.Common.{◌≡◌, ◌++◌, List, [], ◌∷◌, Option, Some, None, refl, ap, ◌∙◌, sym}
 use Rattle.rgo_typing_rules.specs.Checks.{Refuses}
 use Rattle.rgo_typing_rules.specs.Sites.{Site, refusal_of, earlier, first_refusal}
@@ -22,7 +23,7 @@ pub refuses_first : (e : TypeError) (l m : List Site) → Refuses e (first_refus
 refuses_first NoMemory l m refuses = tt
 refuses_first (Refused r) l m refuses = first_of_both l m ∙ ap (λ o. earlier o (first_refusal m)) refuses
 
--- where the first nodes break no rule, the refusal is that of the others
+-- if the first nodes break no rule, the refusal is that of the others
 pub none_first : (l m : List Site) → first_refusal l ≡ None → first_refusal (l ++ m) ≡ first_refusal m
 none_first l m none = first_of_both l m ∙ ap (λ o. earlier o (first_refusal m)) none
 

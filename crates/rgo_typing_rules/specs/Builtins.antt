@@ -23,6 +23,7 @@ predeclared = Len ∷ Close ∷ []
 abbrev pub of_fmt : List Builtin
 of_fmt = Println ∷ []
 
+-- its name in a program's text, as bytes; that of Println without `fmt.`
 abbrev pub builtin_name : Builtin → List ℕ
 builtin_name Len = codes "len"
 builtin_name Close = codes "close"

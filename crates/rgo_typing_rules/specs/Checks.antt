@@ -1,4 +1,5 @@
--- What a check returns: that no node of a list breaks a rule, or the first refusal.
+-- What a check returns: that no node of a list breaks a rule, or the first refusal. Checks in sequence check the appended lists, which
+-- is why every check in the crates of the typing has this one form.
 use Rattle.std.specs.Prelude.{◌≡◌, List, Option, Some, None, Result, Ok, Err, ⊤}
 use Rattle.rgo_typing_rules.specs.declared.errors.TypeError.{TypeError}
 use Rattle.rgo_typing_rules.specs.declared.errors.TypeError.TheVariants.{NoMemory, Refused}

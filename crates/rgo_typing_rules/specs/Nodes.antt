@@ -1,4 +1,5 @@
--- The nodes of a program that are checked against the rules, each with what the rules ask about it and its parts.
+-- The nodes of a program that are checked against the rules, each with what the rules ask about it and its parts. A node has no tree
+-- and no scope, so each rule is a test by cases; which nodes a program has is defined apart, by the crates of the typing.
 use Rattle.std.specs.Prelude.{ℕ, Bool, true, false, List, Option}
 use Rattle.rgo_ast.specs.declared.ops.UnaryOp.{UnaryOp}
 use Rattle.rgo_ast.specs.declared.ops.BinaryOp.{BinaryOp}
@@ -10,6 +11,7 @@ use Rattle.rgo_typing_rules.specs.declared.builtins.Builtin.{Builtin}
 use Rattle.rgo_typing_rules.specs.declared.meanings.Meaning.{Meaning}
 use Rattle.rgo_typing_rules.specs.Meanings.{Signature}
 
+-- one place of the text that rules are asked about, with everything that any rule asks about it
 pub data Node : Type 0 where
   -- an import: whether its path was imported before, and the path
   Import : Bool → List ℕ → Node
@@ -36,12 +38,12 @@ pub data Node : Type 0 where
   Index : Shape → Shape → Node
   Unary : UnaryOp → Shape → Node
   Binary : BinaryOp → Shape → Shape → Node
-  -- a literal by its values: the types of the struct's fields, where the name is a struct's
+  -- a literal by its values: the types of the struct's fields, if the name is a struct's
   Literal : Option (List «Type») → List Shape → Node
-  -- a literal by fields: the type of each element's field, where there is such a field; whether a
+  -- a literal by fields: the type of each element's field, if there is such a field; whether a
   -- field appears twice
   Keyed : Option (List (Option «Type»)) → Bool → List Shape → Node
-  -- calls: of a name that nothing declares; of what is no function; of a function; of a builtin
+  -- calls: of a name that nothing declares; of something that is not a function; of a function; of a builtin
   CallMissing : Node
   CallNothing : Node
   Call : Role → Signature → List Shape → Node
@@ -59,7 +61,7 @@ pub data Node : Type 0 where
   DefineAs : «Type» → Shape → Node
   Condition : Shape → Node
   Go : Signature → List Shape → Node
-  -- `go` of what is no function
+  -- `go` of something that is not a function
   GoNothing : Node
   -- the function's result, and what is returned
   Return : Option «Type» → Option Shape → Node
@@ -73,10 +75,12 @@ wants_value role.Printed = true
 wants_value role.Alone = false
 wants_value role.Target = false
 
+-- an argument of `fmt.Println`, the only place for a string
 abbrev pub is_printed : Role → Bool
 is_printed role.Printed = true
 is_printed _ = false
 
+-- the left side of `=`, which is written and not read
 abbrev pub is_target : Role → Bool
 is_target role.Target = true
 is_target _ = false

@@ -18,6 +18,7 @@ use Rattle.rgo_typing_rules.specs.declared.rules.Rule.TheVariants.{LiteralFields
 use Rattle.rgo_typing_rules.specs.declared.rules.Rule.TheVariants.{ReturnCount, MissingReturn}
 use Rattle.rgo_typing_rules.specs.declared.rules.Rule.TheVariants.{LoopOutside, NoMain}
 
+-- the number of a rule, as in `type 32 MissingReturn`; a node is checked against the rules in this order
 abbrev pub typing_rule_number : Rule → ℕ
 typing_rule_number BadImport = 1
 typing_rule_number Redeclared = 2
@@ -54,6 +55,7 @@ typing_rule_number MissingReturn = 32
 typing_rule_number LoopOutside = 33
 typing_rule_number NoMain = 34
 
+-- its name, as bytes
 abbrev pub typing_rule_name : Rule → List ℕ
 typing_rule_name BadImport = codes "BadImport"
 typing_rule_name Redeclared = codes "Redeclared"

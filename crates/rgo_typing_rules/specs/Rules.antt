@@ -1,5 +1,6 @@
--- The 34 rules on meaning. Each is a test of one node, which says whether the node breaks the rule. What a call of a
--- builtin breaks is in the table of the builtins. A node is refused for the first rule that it breaks.
+-- The 34 rules on meaning. Each is a test of one node, which says whether the node breaks the rule. What a call of a builtin breaks is
+-- in the table of the builtins. A node is refused for the first rule that it breaks, by number; so a test need not exclude what an
+-- earlier one covers, and each can be read alone.
 use Rattle.std.specs.Prelude.{ℕ, Bool, true, false, not, ◌&&◌, ◌||◌, ◌==◌, ◌^◌, nat_lt, List, [], ◌∷◌, length}
 use Rattle.std.specs.List.{list_any}
 use Rattle.std.specs.Prelude.{Option, Some, None, is_some, is_none, if◌then◌else◌, codes}
@@ -40,6 +41,7 @@ reserved =
     ∷ codes "new" ∷ codes "make" ∷ codes "cap" ∷ codes "append" ∷ codes "fmt"
     ∷ codes "sync" ∷ codes "init" ∷ codes "_" ∷ []
 
+-- a name that no declaration may use: that of a predeclared builtin or one of `reserved`
 abbrev pub is_reserved : List ℕ → Bool
 is_reserved name = is_some (named predeclared name) || list_any (λ k. bytes_eq k name) reserved
 
@@ -56,7 +58,7 @@ no_such_name (node.Name r m) = is_missing m
 no_such_name node.CallMissing = true
 no_such_name _ = false
 
--- NotType: a name in a type's place that names no type
+-- NotType: a name in a type's place that does not name a type. One that nothing declares has an earlier rule.
 abbrev pub not_type : Node → Bool
 not_type (node.TypeName m) = not (is_type m)
 not_type (node.BaseName m) = not (is_type m)
@@ -67,23 +69,24 @@ abbrev pub struct_by_value : Node → Bool
 struct_by_value (node.TypeName m) = is_struct m
 struct_by_value _ = false
 
--- PointerBase: `*X`, `new(X)` or `&X{` where X is no struct
+-- PointerBase: `*X`, `new(X)` or `&X{` if X is not a struct
 abbrev pub pointer_base : Node → Bool
 pointer_base (node.Pointed m) = not (is_struct m)
 pointer_base (node.Literal fields values) = is_none fields
 pointer_base (node.Keyed fields twice values) = is_none fields
 pointer_base _ = false
 
+-- a name that is declared, but not as an operand; one that nothing declares breaks NoSuchName
 abbrev pub is_no_value : Option Meaning → Bool
 is_no_value None = false
 is_no_value (Some m) = not (is_value m)
 
--- NotValue: a type, function, builtin or package as a value; the left side of `=` is no value
+-- NotValue: a type, function, builtin or package as a value. The left side of `=` is not read, so there the assignment is refused.
 abbrev pub not_value : Node → Bool
 not_value (node.Name r m) = is_no_value m && not (is_target r)
 not_value _ = false
 
--- StringPlace: a string that is no argument of `fmt.Println`
+-- StringPlace: a string that is not an argument of `fmt.Println`
 abbrev pub string_place : Node → Bool
 string_place (node.Text r) = not (is_printed r)
 string_place _ = false
@@ -94,6 +97,7 @@ pub data Operands : Type 0 where
   bools : Operands
   alike : Operands
 
+-- by the operator: all but `==`, `!=`, `&&` and `||` work on ints
 abbrev pub operands_of : BinaryOp → Operands
 operands_of binary.Eq = alike
 operands_of binary.Ne = alike
@@ -101,17 +105,21 @@ operands_of binary.And = bools
 operands_of binary.Or = bools
 operands_of _ = ints
 
+-- both are of slice types; SliceCompare reports this, so Mismatch leaves it out
 abbrev pub are_slices : Shape → Shape → Bool
 are_slices a b = is_slice_shape a && is_slice_shape b
 
+-- both are the word `nil`; BareNil reports this
 abbrev pub are_nil : Shape → Shape → Bool
 are_nil a b = is_nil_shape a && is_nil_shape b
 
+-- one of the two operands is not what the operator works on
 abbrev pub lacks : Operands → Shape → Shape → Bool
 lacks ints a b = not (is_int_shape a && is_int_shape b)
 lacks bools a b = not (is_bool_shape a && is_bool_shape b)
 lacks alike a b = not (are_slices a b || are_nil a b || are_comparable a b)
 
+-- the same of an operator with one operand; a receive from something other than a channel breaks NotChannel
 abbrev pub lacks_one : UnaryOp → Shape → Bool
 lacks_one unary.Plus s = not (is_int_shape s)
 lacks_one unary.Minus s = not (is_int_shape s)
@@ -125,6 +133,7 @@ mismatch (node.Binary op a b) = lacks (operands_of op) a b
 mismatch (node.Update op at_place a b) = lacks ints a b
 mismatch _ = false
 
+-- the operator is `==` or `!=`, and the test is true of its two operands
 abbrev pub compares : (Shape → Shape → Bool) → Operands → Shape → Shape → Bool
 compares test alike a b = test a b
 compares test _ a b = false
@@ -140,27 +149,32 @@ bare_nil (node.Binary op a b) = compares are_nil (operands_of op) a b
 bare_nil (node.Define s) = is_nil_shape s
 bare_nil _ = false
 
+-- the returned value does not fit the result type; one too many or too few breaks ReturnCount
 abbrev pub misfits_returned : Option «Type» → Option Shape → Bool
 misfits_returned (Some t) (Some s) = not (fits t s)
 misfits_returned _ _ = false
 
+-- the right side does not fit the type of the left side; a left side without a type has broken a rule before
 abbrev pub misfits_assigned : Shape → Shape → Bool
 misfits_assigned (shape.Value t) s = not (fits t s)
 misfits_assigned _ s = false
 
+-- the value does not fit the elements of the channel; asked only where the first operand is a channel
 abbrev pub misfits_sent : Shape → Shape → Bool
 misfits_sent (shape.Value t) s = not (fits (element_type_of t) s)
 misfits_sent _ s = false
 
+-- values without field names do not fit the fields in their order; where the name is not a struct's, PointerBase is broken
 abbrev pub misfits_fields : Option (List «Type») → List Shape → Bool
 misfits_fields None values = false
 misfits_fields (Some fields) values = has_misfit fields values
 
+-- the same of values with field names; a field that the struct does not have has no type, and LiteralFields reports it
 abbrev pub misfits_known : Option (List (Option «Type»)) → List Shape → Bool
 misfits_known None values = false
 misfits_known (Some fields) values = has_known_misfit fields values
 
--- NotAssignable: a value whose type is not the wanted one, where it is declared with a type,
+-- NotAssignable: a value whose type is not the wanted one, when it is declared with a type,
 -- assigned, passed, returned, sent or put in a literal; pairs past the end of the shorter list do not count
 abbrev pub not_assignable : Node → Bool
 not_assignable (node.Literal fields values) = misfits_fields fields values
@@ -173,23 +187,23 @@ not_assignable (node.Go signature args) = has_misfit signature.params args
 not_assignable (node.Return wanted given) = misfits_returned wanted given
 not_assignable _ = false
 
--- NotPlace: an assignment, `++` or `--` on what is no variable, field or element
+-- NotPlace: an assignment, `++` or `--` on something other than a variable, field or element
 abbrev pub not_place : Node → Bool
 not_place (node.Assign at_place a b) = not at_place
 not_place (node.Update op at_place a b) = not at_place
 not_place _ = false
 
--- NoSuchField: a selector on what is no struct pointer, or of a field that the struct does not have
+-- NoSuchField: a selector on something other than a struct pointer, or of a field that the struct does not have
 abbrev pub no_such_field : Node → Bool
 no_such_field (node.Selector there) = not there
 no_such_field _ = false
 
--- NotIndexable: an index or `len` on what is no slice, or an index that is no int
+-- NotIndexable: an index or `len` on something other than a slice, or an index that is not an int
 abbrev pub not_indexable : Node → Bool
 not_indexable (node.Index a i) = not (is_slice_shape a && is_int_shape i)
 not_indexable _ = false
 
--- NotCall: a callee that is no function and no builtin
+-- NotCall: a callee that is neither a function nor a builtin
 abbrev pub not_call : Node → Bool
 not_call node.CallNothing = true
 not_call _ = false
@@ -210,28 +224,29 @@ abbrev pub not_statement : Node → Bool
 not_statement (node.Alone may_stand) = not may_stand
 not_statement _ = false
 
--- GoTarget: `go` of what is no function, or of one with a result
+-- GoTarget: `go` of something that is not a function, or of one with a result
 abbrev pub go_target : Node → Bool
 go_target (node.Go signature args) = is_some signature.result_type
 go_target node.GoNothing = true
 go_target _ = false
 
+-- `<-` before something other than a channel
 abbrev pub receives_no_channel : UnaryOp → Shape → Bool
 receives_no_channel unary.Receive s = not (is_chan_shape s)
 receives_no_channel _ s = false
 
--- NotChannel: a send, receive or close on what is no channel
+-- NotChannel: a send, receive or close on something other than a channel
 abbrev pub not_channel : Node → Bool
 not_channel (node.Unary op s) = receives_no_channel op s
 not_channel (node.Send c s) = not (is_chan_shape c)
 not_channel _ = false
 
--- NotBool: a condition that is no bool
+-- NotBool: a condition that is not a bool
 abbrev pub not_bool : Node → Bool
 not_bool (node.Condition s) = not (is_bool_shape s)
 not_bool _ = false
 
--- NotInt: a size that is no int
+-- NotInt: a size that is not an int
 abbrev pub not_int : Node → Bool
 not_int (node.Size s) = not (is_int_shape s)
 not_int _ = false
@@ -243,10 +258,12 @@ const_range (node.Unary op s) = is_out_of_range (folded_shape op s)
 const_range (node.Binary op a b) = is_out_of_range (folded_shapes op a b)
 const_range _ = false
 
+-- a constant whose value is 0
 abbrev pub is_zero_shape : Shape → Bool
 is_zero_shape (shape.Constant n) = is_zero n
 is_zero_shape _ = false
 
+-- the operators with a divisor, `/` and `%`
 abbrev pub divides : BinaryOp → Bool
 divides binary.Div = true
 divides binary.Rem = true
@@ -258,6 +275,7 @@ const_zero_divisor (node.Binary op a b) = divides op && is_zero_shape b
 const_zero_divisor (node.Update op at_place a b) = divides op && is_zero_shape b
 const_zero_divisor _ = false
 
+-- a constant whose value is below 0
 abbrev pub is_below_zero_shape : Shape → Bool
 is_below_zero_shape (shape.Constant n) = is_below_zero n
 is_below_zero_shape _ = false
@@ -278,6 +296,7 @@ is_partial None values = false
 is_partial (Some fields) [] = false
 is_partial (Some fields) (s ∷ values) = not (length (s ∷ values) == length fields)
 
+-- an element of a literal by fields names a field that the struct does not have
 abbrev pub has_unknown : Option (List (Option «Type»)) → Bool
 has_unknown None = false
 has_unknown (Some fields) = list_any is_none fields
@@ -293,13 +312,13 @@ literal_fields _ = false
 abbrev pub print_type : Node → Bool
 print_type _ = false
 
--- ReturnCount: a value returned where there is no result, or none where there is one
+-- ReturnCount: a value returned by a function without a result, or none by one with a result
 abbrev pub return_count : Node → Bool
 return_count (node.Return None given) = is_some given
 return_count (node.Return (Some t) given) = is_none given
 return_count _ = false
 
--- MissingReturn: a function with a result whose body is not terminating
+-- MissingReturn: a function with a result whose body is not terminating, as Flow.antt of rgo_types defines that
 abbrev pub missing_return : Node → Bool
 missing_return (node.End has_result is_terminating) = has_result && not is_terminating
 missing_return _ = false

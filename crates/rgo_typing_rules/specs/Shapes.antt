@@ -4,8 +4,10 @@ use Rattle.std.specs.Prelude.{Bool, true, false, not, ◌&&◌, ◌||◌, ℤ, L
 use Rattle.rgo_typed.specs.declared.types.Type.{«Type»}
 use Rattle.rgo_typing_rules.specs.Types.{same, is_int, is_bool, is_slice, is_chan, is_pointer_like}
 
+-- the type of an expression, or why it has none; a constant has its value in place of its type, since constant operations are computed
+-- and have to keep their range
 pub data Shape : Type 0 where
-  -- what has no type: a name that is no value, or something in it breaks a rule
+  -- without a type: a name that is not a value, or an expression of which a part breaks a rule, so that no rule asks for its shape
   Untyped : Shape
   Nil : Shape
   Text : Shape
@@ -15,27 +17,33 @@ pub data Shape : Type 0 where
   Constant : ℤ → Shape
   Value : «Type» → Shape
 
+-- an operand of type int; each constant is one
 abbrev pub is_int_shape : Shape → Bool
 is_int_shape (Constant n) = true
 is_int_shape (Value t) = is_int t
 is_int_shape _ = false
 
+-- an operand of type bool; no bool is a constant, as `true` and `false` are values
 abbrev pub is_bool_shape : Shape → Bool
 is_bool_shape (Value t) = is_bool t
 is_bool_shape _ = false
 
+-- a value of a slice type; `nil` is not one, since it has no type
 abbrev pub is_slice_shape : Shape → Bool
 is_slice_shape (Value t) = is_slice t
 is_slice_shape _ = false
 
+-- a value of a channel type
 abbrev pub is_chan_shape : Shape → Bool
 is_chan_shape (Value t) = is_chan t
 is_chan_shape _ = false
 
+-- the word `nil`; a variable that is nil has a type and so is a value
 abbrev pub is_nil_shape : Shape → Bool
 is_nil_shape Nil = true
 is_nil_shape _ = false
 
+-- a value of a type that has `nil`: a pointer, a slice or a channel
 abbrev pub is_pointer_shape : Shape → Bool
 is_pointer_shape (Value t) = is_pointer_like t
 is_pointer_shape _ = false
@@ -62,6 +70,7 @@ has_misfit [] shapes = false
 has_misfit (t ∷ ts) [] = false
 has_misfit (t ∷ ts) (s ∷ shapes) = not (fits t s) || has_misfit ts shapes
 
+-- one value does not fit its wanted type; where that is not known, another rule reports the place
 abbrev pub misfits : Option «Type» → Shape → Bool
 misfits None s = false
 misfits (Some t) s = not (fits t s)
@@ -72,6 +81,7 @@ has_known_misfit [] shapes = false
 has_known_misfit (t ∷ ts) [] = false
 has_known_misfit (t ∷ ts) (s ∷ shapes) = misfits t s || has_known_misfit ts shapes
 
+-- one of these operands is the word `nil`
 abbrev pub has_nil : List Shape → Bool
 has_nil [] = false
 has_nil (s ∷ shapes) = is_nil_shape s || has_nil shapes

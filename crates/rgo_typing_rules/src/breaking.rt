@@ -1,4 +1,5 @@
-//! The first rule that a node breaks.
+//! The first rule that a node breaks. For each kind of node the tests come in the order of the rules' numbers, since of several
+//! broken rules the one with the least number is reported. Why: docs/DECISIONS.md, "Checking: the order".
 #![tactic(auto, unfolding(crate::specs::Rules::broken))]
 
 ghost use Rattle.std.specs.Prelude.{◌≡◌};
@@ -14,7 +15,8 @@ use crate::roles::Role;
 use crate::rules::Rule;
 use crate::value_rules::{assigned, keyed, literal, returned, sent, updated};
 
-/// The first rule that the node breaks; `None` where it breaks none.
+/// The first rule that the node breaks; `None` if it breaks none. Each variant is listed, so that a new kind of node has to be
+/// decided here.
 pub fn broken(node: &Node<'_, '_, '_>) -> Option<Rule>
     ensures { result ≡ broken (node_of node.now) }
 {
@@ -28,6 +30,7 @@ pub fn broken(node: &Node<'_, '_, '_>) -> Option<Rule>
         Node::TypeName(meaning) => type_name(meaning),
         Node::BaseName(meaning) => base_name(meaning),
         Node::Pointed(meaning) => Rule::PointerBase.when(!is_struct(meaning)),
+        // No text breaks it here, since the lexer refuses such numbers; the rule is about any tree.
         Node::Number(n) => Rule::ConstRange.when(n > 0x7FFF_FFFF_FFFF_FFFF),
         Node::Text(role) => Rule::StringPlace.when(!matches!(role, Role::Printed)),
         Node::Name(role, meaning) => name(role, meaning),

@@ -93,7 +93,8 @@ impl Builtin {
     }
 }
 
-/// The first rule that a call breaks.
+/// The first rule that a call breaks. That `len` is applied to a slice is asked before the number of its arguments, since that rule
+/// has the lower number.
 pub(crate) fn builtin_called(builtin: Builtin, role: Role, args: &[Shape<'_>]) -> Option<Rule>
     ensures { result ≡ broken (spec.CallBuiltin builtin role (map shape_of args.now)) }
 {

@@ -1,4 +1,5 @@
-//! What calls of functions and `go` may break.
+//! Which rules calls of functions and `go` may break. Arguments are compared with their parameters before they are counted: in a
+//! call of `f(int, int)`, `f(true)` has a wrong type and not a wrong number.
 #![tactic(auto, unfolding(crate::specs::Rules::broken))]
 
 ghost use Rattle.std.specs.Prelude.{◌≡◌, map};

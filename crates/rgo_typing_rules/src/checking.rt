@@ -1,4 +1,5 @@
-//! The check of a node at its place.
+//! The check of a node at its place: the only function that refuses. Whoever checks parts of a program calls it for one node after
+//! the other, so that the first refusal is that of the first node that breaks a rule.
 
 ghost use Rattle.std.specs.Prelude.{[], ◌∷◌};
 ghost use Rattle.rgo_typing_rules.specs.Checks.{Checks};

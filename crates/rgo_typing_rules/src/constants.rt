@@ -1,12 +1,13 @@
-//! Constant operations.
+//! Constant operations. Each result has to be a 64-bit integer, also if a later operation would bring it back into the range: so the
+//! value of an expression never needs larger numbers. Go computes with them.
 
 ghost use Rattle.std.specs.Prelude.{◌≡◌};
 ghost use Rattle.rgo_typing_rules.specs.Constants.{folded, folded_one, kept};
 
 use rgo_ast::{BinaryOp, UnaryOp};
 
-/// The value of a constant binary operation. `None` where there is no such operation on constants,
-/// where it divides by zero, or where its value is no 64-bit integer.
+/// The value of a constant binary operation. `None` if there is no such operation on constants, if it divides by zero, or if its
+/// value is not a 64-bit integer: which of these it is, the rules ask for themselves.
 pub fn fold(op: BinaryOp, a: i64, b: i64) -> Option<i64>
     ensures { result ≡ kept (folded op a b) }
 {
@@ -22,8 +23,8 @@ pub fn fold(op: BinaryOp, a: i64, b: i64) -> Option<i64>
     }
 }
 
-/// The value of a constant unary operation. `None` where there is no such operation on constants,
-/// or where its value is no 64-bit integer.
+/// The value of a constant unary operation. `None` if there is no such operation on constants, or if its value is not a 64-bit
+/// integer.
 pub fn fold_one(op: UnaryOp, a: i64) -> Option<i64>
     ensures { result ≡ kept (folded_one op a) }
 {

@@ -1,4 +1,5 @@
-//! Why a program gets no typed tree.
+//! Why a program gets no typed tree: one refusal, and not a list. One fault at a determined place can be stated and proved exactly; a
+//! list would depend on how checking recovers.
 
 use crate::rules::Rule;
 use rgo_ast::Place;
@@ -19,7 +20,7 @@ pub enum TypeError {
     /// An allocation failed.
     #[error("no memory for the typed tree")]
     NoMemory,
-    /// It breaks a rule.
+    /// The program breaks a rule.
     #[error("breaks a rule on meaning")]
     Refused(TypeRefusal),
 }

@@ -1,5 +1,5 @@
-//! Types of values while a program is checked. A type with layers is borrowed from the syntax tree
-//! that spells it, so nothing is copied.
+//! Types of values while a program is checked. A type with layers is borrowed from the syntax tree that spells it, so checking copies
+//! and allocates no types: only the terms that the typed tree keeps get a [`Type`].
 #![tactic(auto)]
 
 ghost use Rattle.std.specs.Prelude.{◌≡◌, ◌++◌, IfOk, OnOk};
@@ -18,7 +18,8 @@ use std::alloc::{AllocError, Global};
 pub enum Kind<'a> {
     /// A base without layers.
     Plain(Base),
-    /// A slice: how the type of its elements is spelled, and what the name in it means.
+    /// A slice: how the type of its elements is spelled, and what the name in it means. The meaning is looked up once, where the
+    /// type is written, since the name may mean something else where the value is used.
     Slice(&'a TypeExpr, Base),
     /// A channel, by its elements in the same way.
     Chan(&'a TypeExpr, Base),
@@ -34,7 +35,8 @@ fn same_bases(a: Base, b: Base) -> bool
     }
 }
 
-/// Whether two types are spelled alike except for the name inside.
+/// Whether two types are spelled alike except for the name inside. What the names mean is compared as bases, since one name may mean
+/// two things and a pointer's `*` belongs to its base.
 fn same_spellings(a: &TypeExpr, b: &TypeExpr) -> bool
     ensures { result
         ≡ same_layers (layers_of (type_expr_of a.now)) (layers_of (type_expr_of b.now)) }
@@ -111,7 +113,7 @@ impl<'a> Kind<'a> {
         !matches!(self, Kind::Plain(Base::Int) | Kind::Plain(Base::Bool))
     }
 
-    /// The type of a slice's or channel's elements. Of another type it is the type itself.
+    /// The type of a slice's or channel's elements; another type is returned as it is, and no rule asks for that.
     pub fn element(self) -> Kind<'a>
         ensures { type_of_kind result ≡ element_type_of (type_of_kind self.entry) }
     {
@@ -134,7 +136,7 @@ impl<'a> Kind<'a> {
         }
     }
 
-    /// The type as typed trees hold it.
+    /// The type as typed trees hold it, without references into the syntax tree.
     ///
     /// # Errors
     ///

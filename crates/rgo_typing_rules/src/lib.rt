@@ -1,4 +1,5 @@
-//! The rules on meaning, each a test of one node of a program; and the check of a node.
+//! The rules on meaning, each a test of one node of a program; and the check of a node. A rule sees the shapes of a node's parts and
+//! not the parts, so that it is a few lines without recursion, and what is a rule is apart from the order in which nodes are checked.
 #![tactic(auto)]
 
 mod breaking;

@@ -4,8 +4,8 @@ use crate::builtins::Builtin;
 use crate::kinds::Kind;
 use rgo_typed::Base;
 
-/// What a name in scope means. Local variables are numbered in their function, package variables,
-/// functions and structs each in the package.
+/// What a name in scope means. Local variables are numbered in their function; package variables, functions and structs each in the
+/// package. A number is the index in the lists of the checker, so a meaning needs no reference to a declaration.
 #[derive(Clone, Copy)]
 pub enum Meaning {
     /// A local variable.
@@ -24,7 +24,7 @@ pub enum Meaning {
     Nil,
     /// A predeclared builtin.
     Builtin(Builtin),
-    /// `fmt`, and whether it is imported.
+    /// `fmt`, and whether it is imported. Without the import it is a name that nothing declares.
     Package(bool),
 }
 

@@ -1,4 +1,4 @@
-//! What declared names, types and operand names may break.
+//! Which rules declared names, types and operand names may break.
 #![tactic(auto, unfolding(crate::specs::Rules::broken))]
 
 ghost use Rattle.std.specs.Prelude.{◌≡◌, codes, false};
@@ -29,7 +29,8 @@ pub(crate) fn import(again: bool, path: &[u8]) -> Option<Rule>
     }
 }
 
-/// The reserved names other than those of builtins.
+/// The reserved names other than those of builtins. `cap`, `append`, `sync`, `init` and `_` mean nothing in the subset: they are
+/// reserved because Go gives them a meaning, which a declaration here would contradict.
 const RESERVED: [&[u8]; 13] = [
     b"int", b"bool", b"true", b"false", b"nil", b"new", b"make", b"cap", b"append", b"fmt",
     b"sync", b"init", b"_",
@@ -73,6 +74,7 @@ pub(crate) fn base_name(meaning: Option<Meaning>) -> Option<Rule>
 {
     match meaning {
         None | Some(Meaning::Package(false)) => Some(Rule::NoSuchName),
+        // `*int` is reported at the `*`, by a node of its own.
         Some(Meaning::Basic(_)) | Some(Meaning::Struct(_)) => None,
         Some(_) => Some(Rule::NotType),
     }
@@ -87,6 +89,7 @@ pub(crate) fn name(role: Role, meaning: Option<Meaning>) -> Option<Rule>
         | Some(Meaning::Global(_))
         | Some(Meaning::Truth(_))
         | Some(Meaning::Nil) => None,
+        // On the left side of `=` the assignment reports it, at the `=`.
         Some(_) => Rule::NotValue.when(!matches!(role, Role::Target)),
     }
 }

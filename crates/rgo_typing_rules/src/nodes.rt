@@ -1,4 +1,5 @@
-//! The nodes of a program that are checked against the rules.
+//! The nodes of a program that are checked against the rules. A node has what the rules ask, and nothing else: the answers to
+//! questions about names and scopes are given with it, so that a rule needs no scope and no tree.
 
 use crate::builtins::Builtin;
 use crate::kinds::Kind;
@@ -42,14 +43,14 @@ pub enum Node<'t, 'p, 'v> {
     Unary(UnaryOp, Shape<'t>),
     /// A binary operation.
     Binary(BinaryOp, Shape<'t>, Shape<'t>),
-    /// A literal by its values: the types of the struct's fields, where its name is a struct's.
+    /// A literal by its values: the types of the struct's fields, if its name is a struct's.
     Literal(Option<&'p [Kind<'t>]>, &'v [Shape<'t>]),
-    /// A literal by fields: the type of each element's field, where there is such a field; whether
+    /// A literal by fields: the type of each element's field, if there is such a field; whether
     /// a field appears twice; and the values.
     Keyed(Option<&'p [Option<Kind<'t>>]>, bool, &'v [Shape<'t>]),
     /// A call of a name that nothing declares.
     CallMissing,
-    /// A call of what is no function.
+    /// A call of something that is not a function.
     CallNothing,
     /// A call of a function.
     Call(Role, &'p Signature<'t>, &'v [Shape<'t>]),
@@ -71,7 +72,7 @@ pub enum Node<'t, 'p, 'v> {
     Condition(Shape<'t>),
     /// `go` of a function.
     Go(&'p Signature<'t>, &'v [Shape<'t>]),
-    /// `go` of what is no function.
+    /// `go` of something that is not a function.
     GoNothing,
     /// A `return`: the function's result, and what is returned.
     Return(Option<Kind<'t>>, Option<Shape<'t>>),

@@ -1,4 +1,4 @@
-//! What sizes, index expressions and operations may break.
+//! Which rules sizes, index expressions and operations may break.
 #![tactic(auto, unfolding(crate::specs::Rules::broken))]
 
 ghost use Rattle.std.specs.Prelude.{◌≡◌};
@@ -100,6 +100,7 @@ fn constants_leave_range(op: BinaryOp, a: i64, b: i64) -> bool
 {
     match op {
         BinaryOp::Add | BinaryOp::Sub | BinaryOp::Mul => fold(op, a, b).is_none(),
+        // A zero divisor has no value either, but a rule of its own.
         BinaryOp::Div | BinaryOp::Rem => b != 0 && fold(op, a, b).is_none(),
         _ => false,
     }

@@ -3,8 +3,9 @@
 ghost use Rattle.std.specs.Prelude.{◌≡◌, Some, None, if◌then◌else◌};
 ghost use Rattle.rgo_typing_rules.specs.RuleNames.{typing_rule_number, typing_rule_name};
 
-/// A rule on the meaning of a program (The Go Programming Language Specification; each variant says
-/// what breaks the rule).
+/// A rule on the meaning of a program (The Go Programming Language Specification; each variant says what breaks the rule). The
+/// variants are in the order of the numbers, which users see in messages and which decide
+/// which of several broken rules is reported.
 #[derive(Clone, Copy, Debug, PartialEq, Eq)]
 pub enum Rule {
     /// An import of a path other than `fmt`.
@@ -15,15 +16,15 @@ pub enum Rule {
     ReservedName,
     /// A name that nothing in scope declares, or `fmt` without its import.
     NoSuchName,
-    /// A name in the place of a type that names no type.
+    /// A name in the place of a type that does not name a type.
     NotType,
     /// A struct as a type without `*`.
     StructByValue,
-    /// `*X`, `new(X)` or `&X{` where `X` is no struct.
+    /// `*X`, `new(X)` or `&X{` if `X` is not a struct.
     PointerBase,
     /// A type, function, builtin or package as a value.
     NotValue,
-    /// A string that is no argument of `fmt.Println`.
+    /// A string that is not an argument of `fmt.Println`.
     StringPlace,
     /// An operator on operands that it does not take.
     Mismatch,
@@ -33,13 +34,13 @@ pub enum Rule {
     BareNil,
     /// A value whose type is not the wanted one.
     NotAssignable,
-    /// An assignment to what is no variable, field or element.
+    /// An assignment to something other than a variable, field or element.
     NotPlace,
-    /// A selector on what is no struct pointer, or of a field that the struct does not have.
+    /// A selector on something other than a struct pointer, or of a field that the struct does not have.
     NoSuchField,
-    /// An index or `len` of what is no slice, or an index that is no `int`.
+    /// An index or `len` of something other than a slice, or an index that is not an `int`.
     NotIndexable,
-    /// A call of what is no function, `len`, `close` or `fmt.Println`.
+    /// A call of something other than a function, `len`, `close` or `fmt.Println`.
     NotCall,
     /// A wrong number of arguments.
     ArgCount,
@@ -47,15 +48,15 @@ pub enum Rule {
     NoResult,
     /// An expression statement that is neither a call nor a receive, or is `len`, `new` or `make`.
     NotStatement,
-    /// `go` of what is no function, or of a function with a result.
+    /// `go` of something other than a function, or of a function with a result.
     GoTarget,
-    /// A send, receive or close on what is no channel.
+    /// A send, receive or close on something other than a channel.
     NotChannel,
-    /// A condition that is no `bool`.
+    /// A condition that is not a `bool`.
     NotBool,
-    /// A size that is no `int`.
+    /// A size that is not an `int`.
     NotInt,
-    /// A constant that is no 64-bit integer.
+    /// A constant that is not a 64-bit integer.
     ConstRange,
     /// A division or remainder by a constant 0.
     ConstZeroDivisor,
@@ -67,7 +68,7 @@ pub enum Rule {
     LiteralFields,
     /// `fmt.Println` of a pointer, slice or channel.
     PrintType,
-    /// A value returned where there is no result, or none where there is one.
+    /// A value returned by a function without a result, or none by one with a result.
     ReturnCount,
     /// A function with a result whose body may end without a `return`.
     MissingReturn,
@@ -78,7 +79,7 @@ pub enum Rule {
 }
 
 impl Rule {
-    /// This rule, where it is broken.
+    /// This rule, if it is broken.
     pub(crate) fn when(self, is_broken: bool) -> Option<Rule>
         ensures { result ≡ (if is_broken then Some self else None) }
     {

@@ -1,4 +1,4 @@
-//! Shapes of expressions while a program is checked.
+//! Shapes of expressions while a program is checked: what the rules see of an expression in place of the expression itself.
 
 ghost use Rattle.std.specs.Prelude.{◌≡◌};
 ghost use Rattle.rgo_typing_rules.specs.Shapes.{is_int_shape, is_bool_shape, is_slice_shape};
@@ -11,7 +11,7 @@ use crate::kinds::Kind;
 /// What the typing says about an expression: its type in most cases.
 #[derive(Clone, Copy)]
 pub enum Shape<'a> {
-    /// No type: a name that is no value, on the left side of `=`.
+    /// No type: a name that is not a value, on the left side of `=`. It gets that far because the assignment reports it.
     Untyped,
     /// `nil`.
     Nil,
@@ -19,7 +19,7 @@ pub enum Shape<'a> {
     Text,
     /// A call of a function without result.
     NoResult,
-    /// A constant, of type `int`.
+    /// A constant, of type `int`. Its value is kept, since some rules are about values: a zero divisor, a size below 0.
     Constant(i64),
     /// A value of this type.
     Value(Kind<'a>),

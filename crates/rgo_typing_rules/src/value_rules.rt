@@ -1,4 +1,4 @@
-//! What literals, sends, assignments and returns may break: values and where they go.
+//! Which rules literals, sends, assignments and returns may break: values and where they go.
 #![tactic(auto, unfolding(crate::specs::Rules::broken))]
 
 ghost use Rattle.std.specs.Prelude.{◌≡◌, map};
@@ -47,7 +47,7 @@ pub(crate) fn keyed(
     }
 }
 
-/// Whether a value does not fit a channel's elements.
+/// Whether a value does not fit a channel's elements. The channel was checked to be one, so it has a type.
 fn misfits_channel(channel: Shape<'_>, value: Shape<'_>) -> bool
     ensures { result ≡ misfits_sent (shape_of channel.entry) (shape_of value.entry) }
 {
@@ -67,7 +67,7 @@ pub(crate) fn sent(channel: Shape<'_>, value: Shape<'_>) -> Option<Rule>
     }
 }
 
-/// Whether a value does not fit what it is assigned to.
+/// Whether a value does not fit what it is assigned to. The target was checked to be a place, so it has a type.
 fn misfits_target(target: Shape<'_>, value: Shape<'_>) -> bool
     ensures { result ≡ misfits_assigned (shape_of target.entry) (shape_of value.entry) }
 {

@@ -9,7 +9,8 @@ ghost use Rattle.rgo_typing_rules.specs.Views.{shape_of, type_of_kind, optional_
 use crate::kinds::Kind;
 use crate::shapes::Shape;
 
-/// Whether a value does not fit the wanted type at its place, up to the end of the shorter list.
+/// Whether a value does not fit the wanted type with its number, up to the end of the shorter list: that the numbers differ is a rule
+/// of its own, which comes later.
 pub fn has_misfit(wanted: &[Kind<'_>], given: &[Shape<'_>]) -> bool
     ensures { result ≡ has_misfit (map type_of_kind wanted.now) (map shape_of given.now) }
 {
@@ -23,7 +24,7 @@ pub fn has_misfit(wanted: &[Kind<'_>], given: &[Shape<'_>]) -> bool
     false
 }
 
-/// Whether a value does not fit its wanted type, where there is one.
+/// Whether a value does not fit its wanted type, if there is one.
 fn misfits(wanted: Option<Kind<'_>>, given: Shape<'_>) -> bool
     ensures { result ≡ misfits (optional_kind_of wanted.entry) (shape_of given.entry) }
 {
@@ -33,7 +34,7 @@ fn misfits(wanted: Option<Kind<'_>>, given: Shape<'_>) -> bool
     }
 }
 
-/// The same, where some wanted types are unknown.
+/// The same if some wanted types are unknown: those of fields that the struct does not have, which is another rule.
 pub fn has_known_misfit(wanted: &[Option<Kind<'_>>], given: &[Shape<'_>]) -> bool
     ensures { result ≡ has_known_misfit (map optional_kind_of wanted.now) (map shape_of given.now) }
 {

@@ -1,4 +1,5 @@
--- Prints: the operands that were seen, and those that are left.
+-- Prints: the operands that were seen, and those that are left. The loop takes operands and terms in step, and keeps fewer terms than
+-- it takes, so its invariant has both rests.
 use Rattle.std.proofs.Common.{◌≡◌, ℕ, ◌+◌, ◌<◌, Bool, true, false, List, [], ◌∷◌, ◌++◌, length, drop, map, get_or, refl, ap, ◌∙◌, sym, arith}
 use Rattle.std.proofs.lemmas.List.{append_assoc, append-nil}
 use Rattle.rgo_ast.specs.Tree.{exprs_of}

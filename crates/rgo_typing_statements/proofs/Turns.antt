@@ -1,5 +1,5 @@
--- Loops that check statements one after another and append their typed trees: what a turn keeps, and where one ends with
--- a refusal.
+-- Loops that check statements one after another and append their typed trees: what a turn keeps, and where one ends with a refusal.
+-- The invariant is about the statements that are left: their first refusal, last context and trees are those of the whole list.
 use Rattle.std.proofs.Common.{◌≡◌, ◌++◌, List, ◌∷◌, ap, ◌∙◌, sym, subst}
 use Rattle.std.proofs.lemmas.List.{append_assoc}
 use Rattle.rgo_typed.specs.Tree.{Stmt}

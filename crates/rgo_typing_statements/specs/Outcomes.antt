@@ -1,5 +1,5 @@
--- What a check of statements returns: the first refusal; or, where no node breaks a rule, the context after them and their
--- typed trees.
+-- What a check of statements returns: the first refusal; or, if no node breaks a rule, the context after them and their typed trees.
+-- After a refusal nothing is stated of the context and the trees, since the check of the program ends there.
 use Rattle.std.specs.Prelude.{◌≡◌, ℕ, Bool, true, false, length, List, [], ◌∷◌, ◌++◌, map, Option, None, Result, Ok, Err}
 use Rattle.rgo_ast.specs.Tree as tree
 use Rattle.rgo_ast.specs.Tree.{Expr, LocalVar}
@@ -39,11 +39,11 @@ is_simple_stmt (tree.If init test body other at) = false
 is_simple_stmt (tree.For init test post body at) = false
 is_simple_stmt _ = true
 
--- of a statement that changes no scope
+-- for a statement that changes no scope
 abbrev pub simple_outcome : Context → List Site → Stmt → StmtsOutcome
 simple_outcome c sites s = record { sites = sites; after = c; typed = s ∷ [] }
 
--- of a variable that is declared with a value
+-- for a variable that is declared with a value
 abbrev pub define_outcome : Context → Ident → Option «Type» → Expr → ℕ → StmtsOutcome
 define_outcome c x wanted e at = record {
   sites = define_sites c x wanted e at;
@@ -51,7 +51,7 @@ define_outcome c x wanted e at = record {
   typed = define_stmt c wanted e at ∷ [];
 }
 
--- of variables that begin with zeros
+-- for variables that begin with zeros
 abbrev pub zeros_outcome : Context → «Type» → List Ident → StmtsOutcome
 zeros_outcome c ty names = record {
   sites = name_sites ty c.scope names;
@@ -65,7 +65,7 @@ var_outcome c v = record { sites = var_sites c v; after = after_var c v; typed =
 abbrev pub vars_outcome : Context → List LocalVar → StmtsOutcome
 vars_outcome c l = record { sites = local_vars_sites c l; after = after_vars c l; typed = vars_stmts c l }
 
--- where no node breaks a rule: the context after the statements, and their typed trees after those before
+-- if no node breaks a rule: the context after the statements, and their typed trees after those before
 pub record Passes (o : StmtsOutcome) (c : Context) (before all : List Stmt) : Type 0 where
   pub unbroken : first_refusal o.sites ≡ None
   pub context : c ≡ o.after

@@ -1,4 +1,5 @@
--- The context after each statement, and the checked nodes of statements in the order of checking.
+-- The context after each statement, and the checked nodes of statements in the order of checking. The two are separate functions: what
+-- a statement declares does not depend on whether it breaks a rule. Why: docs/DECISIONS.md, "Checking: the order".
 use Rattle.std.specs.Prelude.{ℕ, Bool, true, pos, List, [], ◌∷◌, ◌++◌, Option, Some, None}
 use Rattle.rgo_ast.specs.Tree as tree
 use Rattle.rgo_ast.specs.Tree.{Expr, Exprs, Stmt, Stmts, Clause, LocalVar}
@@ -33,6 +34,7 @@ pub record Enclosing : Type 0 where
   pub result_type : Option «Type»
   pub in_loop : Bool
 
+-- in the body of a `for`, where `break` and `continue` are allowed
 abbrev pub within_loop : Enclosing → Enclosing
 within_loop f = record { result_type = f.result_type; in_loop = true }
 
@@ -42,9 +44,11 @@ within_loop f = record { result_type = f.result_type; in_loop = true }
 abbrev pub in_block : Context → Context
 in_block c = in_scope (inside c.scope) c
 
+-- back in the context around the innermost block
 abbrev pub out_of_block : Context → Context
 out_of_block c = in_scope (outside c.scope) c
 
+-- after the declaration of the variable x with this type
 abbrev pub with_local_variable : Ident → «Type» → Context → Context
 with_local_variable x ty c = in_scope (with_local x.name ty c.scope) c
 
@@ -57,16 +61,20 @@ type_or (Some ty) s = ty
 abbrev pub after_define : Context → Ident → Option «Type» → Expr → Context
 after_define c x wanted e = with_local_variable x (type_or wanted (type_of c e)) c
 
+-- after one declaration of a `var`: names with a type, or a name with a value, whose type is written or not
 abbrev pub after_var : Context → LocalVar → Context
 after_var c (tree.Zero b) = in_scope (with_binding c c.scope b) c
 after_var c (tree.Typed x ty e at) = after_define c x (Some (resolved c ty)) e
 after_var c (tree.Inferred x e at) = after_define c x None e
 
+-- after several, where each sees the variables of those before it
 abbrev pub after_vars : Context → List LocalVar → Context
 after_vars c [] = c
 after_vars c (v ∷ l) = after_vars (after_var c v) l
 
 abbrev mutual
+  -- the context after a statement. Of its variables only those of a declaration are in scope after it, but each number that it used stays
+  -- used
   pub context_after : Context → Stmt → Context
   context_after c (tree.Block all at) = out_of_block (after_all (in_block c) all)
   context_after c (tree.Plain e) = c
@@ -84,14 +92,17 @@ abbrev mutual
   context_after c (tree.Break at) = c
   context_after c (tree.Continue at) = c
 
+  -- after all statements of a list, in order
   pub after_all : Context → Stmts → Context
   after_all c tree.no_stmts = c
   after_all c (tree.a_stmt s l) = after_all (context_after c s) l
 
+  -- after a statement that may be left out: the first of an `if` or `for`, the last of a `for`'s header, or what follows `else`
   pub after_clause : Context → Clause → Context
   after_clause c tree.no_clause = c
   after_clause c (tree.a_clause s) = context_after c s
 
+-- after a block with these statements
 abbrev pub after_block : Context → Stmts → Context
 after_block c all = out_of_block (after_all (in_block c) all)
 
@@ -105,6 +116,7 @@ header c init = after_clause (in_block c) init
 abbrev pub plain_sites : Context → Expr → List Site
 plain_sites c e = nodes c role.Alone (without_parens e) ++ (place_of (without_parens e), node.Alone (may_stand c e)) ∷ []
 
+-- a send: the channel, the value, and then the send itself
 abbrev pub send_sites : Context → Expr → Expr → ℕ → List Site
 send_sites c a b at = nodes c role.Value a ++ (nodes c role.Value b ++ (at, node.Send (type_of c a) (type_of c b)) ∷ [])
 
@@ -113,6 +125,7 @@ abbrev pub step_op : StepOp → BinaryOp
 step_op step.Increment = binary.Add
 step_op step.Decrement = binary.Sub
 
+-- `++` and `--`: the operand, which is read and so checked as a value, and then the update by the constant 1
 abbrev pub step_sites : Context → BinaryOp → Expr → ℕ → List Site
 step_sites c op e at =
     nodes c role.Value e ++ (at, node.Update op (is_place c e) (type_of c e) (shape.Constant (pos 1))) ∷ []
@@ -126,19 +139,23 @@ assign_op assign.Mul = Some binary.Mul
 assign_op assign.Div = Some binary.Div
 assign_op assign.Rem = Some binary.Rem
 
+-- the role of the left side: `=` only writes it, an operator also reads it
 abbrev pub left_role : Option BinaryOp → Role
 left_role None = role.Target
 left_role (Some op) = role.Value
 
+-- the assignment itself: whether the left side is a variable, a field or an element, and the shapes of both sides
 abbrev pub assign_node : Option BinaryOp → Bool → Shape → Shape → Node
 assign_node None place s t = node.Assign place s t
 assign_node (Some op) place s t = node.Update op place s t
 
+-- an assignment: the left side, the right side, and then the assignment itself
 abbrev pub assign_sites : Context → Option BinaryOp → Expr → Expr → ℕ → List Site
 assign_sites c op a b at =
     nodes c (left_role op) a ++ (nodes c role.Value b
     ++ (at, assign_node op (is_place c a) (type_of c a) (type_of c b)) ∷ [])
 
+-- the declaration itself: a value has to fit the type that is written, or fixes the type
 abbrev pub define_node : Option «Type» → Shape → Node
 define_node None s = node.Define s
 define_node (Some ty) s = node.DefineAs ty s
@@ -154,15 +171,18 @@ var_sites c (tree.Zero b) = binding_sites c c.scope b
 var_sites c (tree.Typed x ty e at) = type_expr_sites c ty ++ define_sites c x (Some (resolved c ty)) e at
 var_sites c (tree.Inferred x e at) = define_sites c x None e at
 
+-- each declaration of a `var`, in the context after those before it
 abbrev pub local_vars_sites : Context → List LocalVar → List Site
 local_vars_sites c [] = []
 local_vars_sites c (v ∷ l) = var_sites c v ++ local_vars_sites (after_var c v) l
 
+-- the `go` itself, at its own place; a name that nothing declares is reported at the name, and a builtin cannot be started
 abbrev pub go_site : Package → Callee → List Shape → ℕ → Site
 go_site p (callee.Missing name_at) args at = (name_at, node.CallMissing)
 go_site p (callee.Routine n) args at = (at, node.Go (signature_at p n) args)
 go_site p _ args at = (at, node.GoNothing)
 
+-- a `go`: the arguments, and then the `go` itself; the name has no node of its own
 abbrev pub go_sites : Context → Ident → Exprs → ℕ → List Site
 go_sites c x args at =
     all_nodes c role.Value args
@@ -173,20 +193,23 @@ abbrev pub optional_nodes : Context → Option Expr → List Site
 optional_nodes c None = []
 optional_nodes c (Some e) = nodes c role.Value e
 
+-- the shape of an expression that may be left out
 abbrev pub optional_type : Context → Option Expr → Option Shape
 optional_type c None = None
 optional_type c (Some e) = Some (type_of c e)
 
+-- a `return`: its value, if it has one, and then the `return` itself with the result type of the function
 abbrev pub return_sites : Option «Type» → Context → Option Expr → ℕ → List Site
 return_sites result_type c value at =
     optional_nodes c value ++ (at, node.Return result_type (optional_type c value)) ∷ []
 
--- the condition of a `for`, after its blocks
+-- the rule on the condition of a `for`, which comes after its blocks
 abbrev pub condition_sites : Option Shape → ℕ → List Site
 condition_sites None at = []
 condition_sites (Some s) at = (at, node.Condition s) ∷ []
 
 abbrev mutual
+  -- the nodes of a statement in the order of checking. That a condition is a bool is checked after the blocks that it governs
   pub stmt_sites : Enclosing → Context → Stmt → List Site
   stmt_sites f c (tree.Block all at) = all_sites f (in_block c) all
   stmt_sites f c (tree.Plain e) = plain_sites c e
@@ -195,6 +218,7 @@ abbrev mutual
   stmt_sites f c (tree.Assign op a b at) = assign_sites c (assign_op op) a b at
   stmt_sites f c (tree.Define x e at) = define_sites c x None e at
   stmt_sites f c (tree.If init test body other at) =
+      -- a statement that may be left out
       clause_sites f (in_block c) init
       ++ (nodes (header c init) role.Value test
       ++ (all_sites f (in_block (header c init)) body
@@ -212,6 +236,7 @@ abbrev mutual
   stmt_sites f c (tree.Break at) = (at, node.Branch f.in_loop) ∷ []
   stmt_sites f c (tree.Continue at) = (at, node.Branch f.in_loop) ∷ []
 
+  -- each statement of a list, in the context after those before it
   pub all_sites : Enclosing → Context → Stmts → List Site
   all_sites f c tree.no_stmts = []
   all_sites f c (tree.a_stmt s l) = stmt_sites f c s ++ all_sites f (context_after c s) l

@@ -1,4 +1,8 @@
 //! Typed trees of assignments, from their checked sides.
+//!
+//! The left side is checked as an expression first, so its term is a read; the assignment turns this read into the write of the
+//! same place. Only places come here, since the rules have refused other left sides. The definitions are total nevertheless, and
+//! keep only the value if the term is not a place.
 #![tactic(auto)]
 
 ghost use Rattle.std.specs.Prelude.{◌≡◌, IfOk, map};
@@ -39,7 +43,7 @@ pub(crate) fn step_op(op: StepOp) -> BinaryOp
     }
 }
 
-/// The write that belongs to a read.
+/// The write that belongs to a read. All actions are listed, so that a new one has to be decided here.
 fn write_of(read: Action) -> Option<Action>
     ensures { result ≡ spec.write_of read }
 {
@@ -93,7 +97,8 @@ fn stored(alloc: Global, left: Term, value: Term, at: Place) -> Result<Stmt, All
     }
 }
 
-/// The left side is read, computed with and written.
+/// The left side is read, computed with and written. Its operands appear once in the tree, since Go evaluates them once: `s[f()] += 1`
+/// calls `f` once. A local variable has no operands, so for it an ordinary assignment is enough.
 #[tactic(auto, using(rgo_typing_expressions::proofs::Trees::terms))]
 pub(crate) fn changed(
     alloc: Global,
@@ -106,6 +111,7 @@ pub(crate) fn changed(
 {
     match left {
         Term::Local(number) => {
+            // Operators that an assignment may compute with are those of `int`.
             let ty = plain(alloc, Base::Int);
             let read = Term::Local(number);
             let value = apply_two(alloc, Action::Binary(op), read, value, ty, at)?;

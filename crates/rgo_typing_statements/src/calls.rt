@@ -1,4 +1,5 @@
-//! Calls as statements.
+//! Calls as statements: those for what they do, and `go`. A call alone is not checked as other expressions are, since a print has no
+//! term: its strings are taken from its arguments as they are written.
 #![tactic(auto)]
 
 ghost use Rattle.std.specs.Prelude.{◌≡◌, [], ◌∷◌, IfOk, map};
@@ -43,7 +44,7 @@ fn routine(alloc: Global, called: Checked<'_>) -> Result<Stmt, AllocError>
     }
 }
 
-/// A call of a builtin as a statement: a print where it has no action.
+/// A call of a builtin as a statement. The builtin without an action is the print.
 #[tactic(auto, using(rgo_typing_expressions::proofs::Trees::terms))]
 fn builtin_stmt(
     alloc: Global,
@@ -91,7 +92,8 @@ fn call_stmt<'a>(
     }
 }
 
-/// A call as a statement.
+/// A call as a statement. The order is that of every call: what is inside the callee, the arguments, and then the call with its
+/// callee; so in `ff(zz)` with both unknown the fault is at `zz`.
 #[tactic(auto, using(rgo_typing_expressions::proofs::Trees::exprs, rgo_typing_rules::proofs::Refusals::refusals))]
 fn called<'a>(
     checker: &Checker<'_, 'a>,
@@ -143,6 +145,7 @@ pub(crate) fn plain<'a>(
 {
     let inner = bare(e);
     let stmt = alone(checker, inner)?;
+    // It is checked by itself first: `1 / 0` alone is a zero divisor, and only then no statement.
     check_alone(inner.place(), checker.may_stand(e))?;
     out.push(stmt)?;
     Ok(())
@@ -160,6 +163,7 @@ fn check_go(
 {
     match globals.functions.get(number) {
         Some(signature) => rgo_typing_nodes::check_go(at, signature, args),
+        // Every function has a signature. The definition reads a missing one as an empty one.
         None => {
             let signature = Signature {
                 params: Vec::new(alloc),
@@ -184,6 +188,7 @@ fn started<'a>(
 {
     match callee {
         Callee::Missing(name_at) => {
+            // The node of an unknown name breaks a rule whatever else holds, so the line above has returned; so below.
             check_missing(name_at)?;
             unreachable!();
         }

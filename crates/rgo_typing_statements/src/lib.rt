@@ -1,4 +1,5 @@
-//! The typing of statements that contain no others; and what is defined for all statements.
+//! The typing of statements that contain no others; and what is defined for all statements. What contains statements is in rgo_types:
+//! the functions here need no induction on statements.
 #![tactic(auto)]
 
 mod assignments;

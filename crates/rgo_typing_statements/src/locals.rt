@@ -1,4 +1,5 @@
-//! Declarations of local variables.
+//! Declarations of local variables. A variable gets the next number of its function, also if it shadows another or is out of scope
+//! later, so that a number means one variable of the function.
 #![tactic(auto)]
 
 ghost use Rattle.std.specs.Prelude.{◌≡◌, [], ◌∷◌, IfOk, map};
@@ -56,7 +57,8 @@ fn declare_zeros<'a>(
     Ok(())
 }
 
-/// `var a, b T`: the type is checked after the names, but they are not in its scope.
+/// `var a, b T`. Faults of the names are reported before that of the type, but the names are not in the type's scope: so the type is
+/// checked first, and its refusal is returned last.
 #[tactic(auto, using(rgo_typing_rules::proofs::Refusals::refusals))]
 fn declare_zero<'a>(
     checker: &mut Checker<'_, 'a>,
@@ -72,7 +74,8 @@ fn declare_zero<'a>(
     ty
 }
 
-/// The type that a value of this shape has in a variable.
+/// The type that a value of this shape has in a variable. Without a type of its own it can only be a constant, which is an `int`:
+/// the rules refuse the other shapes.
 pub(crate) fn kind_in(shape: Shape<'_>) -> Kind<'_>
     ensures { type_of_kind result ≡ type_in (shape_of shape.entry) }
 {
@@ -151,6 +154,7 @@ pub(crate) fn define<'a>(
     ensures { Appends result (define_outcome checker.old x.now (optional_kind_of wanted.entry) (expr_of value.now) at)
         checker.new out.old.items out.new.items }
 {
+    // The value comes before the declaration: in `x := x` the right one is the `x` outside.
     let value = checker.check_expr(Role::Value, value)?;
     let number = count(checker.scope());
     let kind = declare_defined(checker, x, wanted, value.shape, at)?;

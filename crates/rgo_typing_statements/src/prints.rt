@@ -1,4 +1,5 @@
-//! Typed trees of prints, from their checked operands.
+//! Typed trees of prints, from their checked operands. A print keeps its strings as bytes and evaluates only the other operands,
+//! since a string is not a value of any type in the subset.
 #![tactic(auto)]
 
 ghost use Rattle.std.specs.Prelude.{◌≡◌, ◌++◌, IfOk, OnOk, map};
@@ -65,6 +66,7 @@ fn values(alloc: Global, args: &[Expr], terms: Vec<Term>) -> Result<Vec<Term>, A
     let mut rest = terms.into_iter();
     for arg in args {
         match rest.next() {
+            // Each operand has a term. The definition ends with the shorter list, and so does this.
             None => return Ok(values),
             Some(term) => keep(&mut values, is_text(bare(arg)), term)?,
         }

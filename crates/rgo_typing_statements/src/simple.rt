@@ -62,7 +62,8 @@ pub(crate) fn send<'a>(
     Ok(())
 }
 
-/// What the left side of an assignment is checked as.
+/// What the left side of an assignment is checked as: `=` does not read it, all other assignments do, so for them it also has to be
+/// a value.
 fn left_role(op: Option<BinaryOp>) -> Role
     ensures { result ≡ spec.left_role op }
 {
@@ -105,6 +106,7 @@ pub(crate) fn assign<'a>(
         checker.now out.old.items out.new.items }
 {
     let op = assign_op(op);
+    // Whether it is a place is a question to the source: `f()` and a variable may have terms of the same type.
     let at_place = checker.is_place(left);
     let left = checker.check_expr(left_role(op), left)?;
     let right = checker.check_expr(Role::Value, right)?;
@@ -185,7 +187,7 @@ pub(crate) fn return_value<'a>(
     }
 }
 
-/// A "break" or a "continue" statement, which changes nothing that `checker` holds.
+/// A "break" or a "continue" statement. The checker is passed for the contract alone, which says that nothing in it changes.
 #[tactic(auto, using(std::proofs::lemmas::List::map_push))]
 pub(crate) fn branch(
     checker: &Checker<'_, '_>,

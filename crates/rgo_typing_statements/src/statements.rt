@@ -15,7 +15,8 @@ use rgo_typed::Stmt;
 use rgo_typing_expressions::Checker;
 use rgo_typing_rules::{Kind, TypeError};
 
-/// What encloses a statement.
+/// What encloses a statement: all that a rule needs of it beside the scope. It is passed down by value, so nothing has to be
+/// restored at the end of a loop.
 #[derive(Clone, Copy)]
 pub struct Enclosing<'a> {
     /// The result type of its function.
@@ -62,6 +63,7 @@ pub fn check_simple<'a>(
         Source::Return(value, at) => return_value(checker, out, around.result_type, value, *at),
         Source::Break(at) => branch(checker, out, around.in_loop, Stmt::Break(*at), *at),
         Source::Continue(at) => branch(checker, out, around.in_loop, Stmt::Continue(*at), *at),
+        // These contain statements, which the premise excludes.
         Source::Block(_, _) | Source::If { .. } | Source::For { .. } => unreachable!(),
     }
 }

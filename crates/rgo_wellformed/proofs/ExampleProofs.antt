@@ -96,7 +96,7 @@ well = record {
   printed = (int ∷ [], (int, [], refl, (refl, refl), refl), (int, [], refl, refl, refl));
 }
 
--- ---- tests that tell types apart
+-- ---- tests that distinguish types
 
 abbrev is_int_base : Base → Bool
 is_int_base base.Int = true

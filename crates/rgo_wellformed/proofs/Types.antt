@@ -1,4 +1,4 @@
--- The type of a term.
+-- The type of a term: it is one, since a term carries its type or takes it from a declaration by number.
 use Rattle.std.proofs.Common.{◌≡◌, ℕ, zero, suc, List, [], ◌∷◌, slice_get, Some, None, sym, ◌∙◌, subst}
 use Rattle.std.specs.List.{AllByRecursion}
 use Rattle.std.proofs.lemmas.Option.{slice_get_within}

@@ -1,4 +1,5 @@
--- Terminating statements (The Go Programming Language Specification, "Terminating statements"), on typed trees.
+-- Terminating statements (The Go Programming Language Specification, "Terminating statements"), on typed trees. Later passes need it
+-- so that a function with a result never reaches its end without one.
 use Rattle.std.specs.Prelude.{◌≡◌, Bool, true, false, not, ◌&&◌, ◌||◌, Option, Some, None, ⊤}
 use Rattle.rgo_typed.specs.declared.types.Type.{«Type»}
 use Rattle.rgo_typed.specs.Tree.{Term, Stmt, Stmts, stmts_of, Function}

@@ -1,4 +1,5 @@
--- Typed statements and programs that are well-formed, and some that are not.
+-- Typed statements and programs that are well-formed, and some that are not. The second kind shows that the definition rules something
+-- out: a law about well-formed trees would be worth little if every tree were one.
 use Rattle.std.specs.Prelude.{ℕ, codes, pos, true, false, List, [], ◌∷◌, Some, None}
 use Rattle.rgo_ast.specs.declared.ops.BinaryOp.TheVariants.{Add, Eq}
 use Rattle.rgo_typed.specs.declared.actions.Action.{Action}
@@ -115,7 +116,7 @@ pub record IllFormedExamples : Type 0 where
   pub slices_compared : IsNot (2 ∷ []) (tree.Discard (applied_term (action.Binary Eq) (read_local 2 ∷ read_local 2 ∷ []) bool))
   pub int_and_bool : IsNot [] (tree.Discard (tree.Logic And literal_seven true_term 0))
   pub bool_added_to_field : IsNot (3 ∷ []) (add_to_field true_term)
-  -- a condition that is no bool
+  -- a condition that is not a bool
   pub int_condition : IsNot [] (tree.If literal_seven tree.no_stmts 0)
   pub int_loop : IsNot [] (tree.Loop (Some literal_seven) tree.no_stmts tree.no_stmts 0)
   -- a struct that does not exist

@@ -1,4 +1,5 @@
--- Laws of well-formed terms and statements: a term has one type, which exists; lists are well-formed item by item.
+-- Laws of well-formed terms and statements: a term has one type, which exists; lists are well-formed item by item. They are what a proof
+-- about a later pass uses in place of the definitions.
 use Rattle.std.specs.Prelude.{◌≡◌, ℕ, List, [], ◌∷◌, ◌++◌, length, Some, slice_get}
 use Rattle.std.specs.List.{AllByRecursion}
 use Rattle.rgo_typed.specs.declared.types.Type.{«Type»}

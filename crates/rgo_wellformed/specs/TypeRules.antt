@@ -1,4 +1,5 @@
--- The typing rules of actions: the types of the operands that each takes, and the type of the value that it returns.
+-- The typing rules of actions: the types of the operands that each takes, and the type of the value that it returns. Each action is
+-- listed, so that a new one has to be decided here.
 use Rattle.std.specs.Prelude.{◌≡◌, ℕ, ◌<◌, Bool, true, false, List, [], ◌∷◌, length, Option, Some, slice_get, ⊤}
 use Rattle.rgo_ast.specs.declared.ops.BinaryOp.{BinaryOp}
 use Rattle.rgo_ast.specs.declared.ops.BinaryOp.TheVariants as binary
@@ -13,9 +14,11 @@ use Rattle.rgo_typed.specs.Types.{is_pointer_like}
 
 -- ---- types
 
+-- the types again: the rules of typed trees are apart from those of the checker, so that one can be proved against the other
 abbrev pub int : «Type»
 int = record { layers = []; base = base.Int }
 
+-- the type of bools
 abbrev pub bool : «Type»
 bool = record { layers = []; base = base.Bool }
 
@@ -23,16 +26,20 @@ bool = record { layers = []; base = base.Bool }
 abbrev pub pointer_to : ℕ → «Type»
 pointer_to n = record { layers = []; base = base.Pointer n }
 
+-- `[]t`
 abbrev pub slice_of : «Type» → «Type»
 slice_of t = record { layers = Slice ∷ t.layers; base = t.base }
 
+-- `chan t`
 abbrev pub chan_of : «Type» → «Type»
 chan_of t = record { layers = Chan ∷ t.layers; base = t.base }
 
+-- the outermost of these layers is a slice
 abbrev pub is_slice_in : List Layer → Bool
 is_slice_in (Slice ∷ layers) = true
 is_slice_in _ = false
 
+-- a slice, whatever its elements are
 abbrev pub is_slice : «Type» → Bool
 is_slice t = is_slice_in t.layers
 
@@ -50,6 +57,7 @@ pub record Declared : Type 0 where
   pub variables : List «Type»
   pub functions : List Signature
 
+-- a pointer's struct is one of the program's
 abbrev pub IsBase : Declared → Base → Type 0
 IsBase d (base.Pointer n) = n < length d.structs
 IsBase d _ = ⊤
@@ -64,7 +72,7 @@ HasField d n k t = (fields : List «Type») × (slice_get d.structs n ≡ Some f
 
 -- ---- actions
 
--- two values of the same type, which is no slice
+-- two values of the same type, which is not a slice
 abbrev pub Compares : List «Type» → «Type» → Type 0
 Compares operands t = (u : «Type») × (operands ≡ u ∷ u ∷ []) × (is_slice u ≡ false) × (t ≡ bool)
 

@@ -1,4 +1,5 @@
--- Well-formed typed trees: every name is declared and in scope, and every value has the type that its context requires.
+-- Well-formed typed trees: every name is declared and in scope, and every value has the type that its context requires. A term carries
+-- its type, so this is a check and not an inference: one pass over the tree, by recursion.
 use Rattle.std.specs.Prelude.{◌≡◌, ℕ, zero, suc, ◌≤◌, Bool, true, false, List, [], ◌∷◌, ◌++◌, length, map, take}
 use Rattle.std.specs.Prelude.{codes, bytes_eq}
 use Rattle.std.specs.Prelude.{Option, Some, None, slice_get, ⊤, nat_eq}
@@ -69,7 +70,8 @@ Has e g t ty = HasType e.declared e.locals g t ty
 abbrev pub Have : Environment → InScope → Terms → List «Type» → Type 0
 Have e g terms types = HaveTypes e.declared e.locals g terms types
 
--- a declaration of local variable n, whose number is not in scope yet
+-- A declaration of local variable n, whose number is not in scope yet: so a declaration never changes a variable that is in use. After
+-- its block the number is out of scope, so a loop may declare it again.
 abbrev pub Declares : Environment → InScope → ℕ → «Type» → Type 0
 Declares e g n t = (is_in_scope g n ≡ false) × (slice_get e.locals n ≡ Some t)
 
@@ -159,7 +161,8 @@ abbrev pub first_numbers : ℕ → InScope
 first_numbers zero = []
 first_numbers (suc n) = first_numbers n ++ n ∷ []
 
--- the parameters are the first local variables, and in scope in the whole body
+-- The parameters are the first local variables, and in scope in the whole body. All local variables of the body are in the list, also
+-- those of inner blocks.
 pub record IsFunction (d : Declared) (f : Function) : Type 0 where
   pub params : f.params ≤ length f.locals
   pub locals : AllByRecursion (IsType d) f.locals

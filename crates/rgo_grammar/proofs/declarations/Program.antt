@@ -1,4 +1,5 @@
--- Reading whole programs is correct.
+-- Reading whole programs is correct. The end of the text closes the list of declarations, and not a token, so it has a proof of its own
+-- beside those of `Lists`.
 use Rattle.std.proofs.Common.{◌≡◌, ℕ, zero, suc, ◌+◌, ◌*◌, ◌<◌, ◌≤◌, List, [], ◌∷◌, ◌++◌, length, refl, sym, ◌∙◌, ap, append_assoc, arith, append-nil}
 use Rattle.rgo_ast.specs.Tree as tree
 use Rattle.rgo_lexer.specs.{declared.terminals.Terminal.{Terminal, TheVariants.{Main, Semicolon, Package, Import, TypeWord, Var, Func}}, Lexemes.{is_same_terminal, Leaf, Lexeme, tok}}
@@ -9,7 +10,7 @@ use Rattle.rgo_grammar.proofs.machine.{Table.{Sym, T, Program, Imports, Decls, s
 use Rattle.rgo_grammar.proofs.reading.{Correct.{Correct, token_read, same_start, correct_weaker, correct_under, correct_then, correct_token, correct_token_then, shorter, Empties, Correct.{done, stops}}, Next.{NotNext}}
 use Rattle.rgo_grammar.proofs.declarations.Correct.{import_correct, func_correct, types_correct, vars_correct}
 
--- reading to the end of the list, where the stack is `from` and nothing lies under it
+-- Reading to the end of the list, if the stack is `from` and nothing is under it: at the end the machine has to accept.
 pub data Closed {A : Type 0} (from : List Sym) (P : List Lexeme → A → Type 0)
     (l : List Lexeme) : Read A → Type 0 where
   accepts : {a : A} → P l a → run l from ≡ Accepted → Closed from P l (Done a [])
@@ -72,7 +73,7 @@ headed h (rejects f) = rejects f
 module _ (n : ℕ) where
   -- ---- declarations
 
-  -- a declaration and what follows it, where the machine has its symbols on the stack
+  -- a declaration and what follows it, if the machine has its symbols on the stack
   decl_then : {B : Type 0} {from : List Sym} {k : Terminal} {i : Leaf} {m : List Lexeme}
       {r : Read tree.Decl} {again : tree.Decl → Reader B} {Q : List Lexeme → B → Type 0}
       → Empties from (λ z d. IsDecl (tok k i ∷ z) d) m r

@@ -1,4 +1,5 @@
--- Expressions of the grammar are read as their trees, before whatever does not continue them.
+-- Expressions of the grammar are read as their trees, before whatever does not continue them: an expression is read as far as possible,
+-- so the same tokens before an operator or a `(` would be part of a larger one.
 use Rattle.std.proofs.Common.{ℕ, zero, suc, ◌+◌, ◌≤◌, inl, inr, Bool, false, List, [], ◌∷◌, ◌++◌, refl, append_assoc, arith}
 use Rattle.rgo_ast.specs.declared.names.Ident.{Ident}
 use Rattle.rgo_ast.specs.Tree as tree

@@ -1,4 +1,6 @@
--- Reading expressions is correct.
+-- Reading expressions is correct, by induction on the turns. The hard case is climbing: reading goes back to a lower level of precedence
+-- without taking a token, while the machine knows no levels and has one symbol that waits for an operator. So the fact about a level
+-- also states that no operator comes next that binds as tightly, and only the outermost level ends the wait.
 use Rattle.std.proofs.Common.{◌≡◌, ℕ, zero, suc, ◌+◌, ◌*◌, ◌<◌, ◌≤◌, nat_le, Bool, true, false, cond, List, [], ◌∷◌, ◌++◌, length, Some, refl, ◌∙◌, append_assoc, arith, append-nil}
 use Rattle.std.proofs.lemmas.Bool.{leb-true, leb-false}
 use Rattle.rgo_ast.specs.declared.ops.{BinaryOp.{BinaryOp}, UnaryOp.{UnaryOp}}
@@ -12,7 +14,7 @@ use Rattle.rgo_grammar.proofs.machine.{Table.{Sym, Unary, Bin, Post, Args, step}
 use Rattle.rgo_grammar.proofs.reading.Correct.{Correct, token_read, correct_bind, correct_given, correct_weaker, correct_then, shorter, Empties, Correct.{done, stops}}
 use Rattle.rgo_grammar.proofs.expressions.{Starts.{level_of, top, starts_some, unary_starts, primary_starts, Reads, bin_pops, operator_run, unsigned}, Literals.{literal_correct}, Operands.{args_correct as arg_list, operand_by_correct, post_by_correct}}
 
--- where no operator comes next, the wait for one is over
+-- if no operator comes next, the wait for one is over
 pub correct_popped : {A : Type 0} {h : Bool} {from : List Sym}
     {P : List Lexeme → A → List Lexeme → Type 0} {l : List Lexeme} {m : Read A}
     → Correct from (λ _. Bin h ∷ []) (λ z v w. P z v w × (top w < 1)) l m

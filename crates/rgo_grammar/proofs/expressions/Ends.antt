@@ -1,5 +1,5 @@
--- Where an expression ends, and how one is read that a token follows: operators, selections,
--- indexes, calls, signs.
+-- Where an expression ends, and how one is read that a token follows: operators, selections, indexes, calls, signs. One lemma for each
+-- production, from which `Complete` takes its cases.
 use Rattle.std.proofs.Common.{◌≡◌, ℕ, zero, suc, ◌+◌, ◌<◌, ◌≤◌, inl, inr, Bool, true, false, List, [], ◌∷◌, ◌++◌, Some, refl, arith}
 use Rattle.std.proofs.lemmas.Bool.{le-leb, lt-leb}
 use Rattle.rgo_ast.specs.declared.ops.{BinaryOp.{BinaryOp}, UnaryOp.{UnaryOp}}
@@ -61,7 +61,7 @@ climb_done h (suc n) p v [] e = inr refl
 climb_done h (suc n) p v (t ∷ l) e =
     inr (climb_done_by (expr h n) (climb h n p) p v t.terminal t.leaf (t ∷ l) l e)
 
--- where nothing continues an expression, what was read of it is all
+-- if nothing continues an expression, it has been read whole
 pub finished : (h : Bool) (n : ℕ) (x : List Lexeme) {v : tree.Expr} {l : List Lexeme} → EndsExpr l
     → (top l ≤ 1 → Unposted l → (m : ℕ) × Meets (expr h n 1 (x ++ l)) (climb h m 1 v l))
     → Meets (expr h n 1 (x ++ l)) (Done v l)

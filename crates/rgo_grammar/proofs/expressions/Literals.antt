@@ -1,4 +1,4 @@
--- Reading literals and their elements is correct, where reading expressions in brackets is.
+-- Reading literals and their elements is correct if reading expressions in brackets is.
 use Rattle.std.proofs.Common.{◌≡◌, ℕ, suc, ◌+◌, ◌<◌, ◌≤◌, true, false, cond, List, [], ◌∷◌, ◌++◌, length, refl, sym, ◌∙◌, ap, arith}
 use Rattle.rgo_ast.specs.declared.names.Ident.{Ident}
 use Rattle.rgo_ast.specs.Tree.{elements_of}
@@ -10,7 +10,7 @@ use Rattle.rgo_grammar.proofs.machine.{Table.{Sym, T, Unary, Bin, Elems, ElemsMo
 use Rattle.rgo_grammar.proofs.reading.{Correct.{same_start, correct_given, correct_weaker, correct_token_then, Empties}, Complete.{bind_assoc}, Lists.{list_syms, token_list}}
 use Rattle.rgo_grammar.proofs.expressions.{Starts.{Reads}, Operands.{exprs_correct}}
 
--- ---- where no key comes first
+-- ---- if no key comes first
 
 after_elems_name : (l : List Lexeme) (s : List Sym) (i : Leaf) → is_keyed (tok Name i ∷ l) ≡ false
     → run l (ElemsNamed ∷ s) ≡ run l (Post ∷ Bin false ∷ ElemsEnd ∷ s)

@@ -1,5 +1,5 @@
--- Reading a primary expression is correct, where reading expressions in brackets is: lists of them,
--- `new` and `make`, what begins one, what follows it.
+-- Reading a primary expression is correct if reading expressions in brackets is: lists of them, `new` and `make`, what begins one, what
+-- follows it. That premise is a reader `inner`, correct on shorter lists, so the induction is only in `Correct`.
 use Rattle.std.proofs.Common.{◌≡◌, ℕ, ◌<◌, ◌≤◌, Bool, true, false, List, [], ◌∷◌, ◌++◌, length, refl, append_assoc, arith, append-nil, ap}
 use Rattle.rgo_ast.specs.Tree.{exprs_of}
 use Rattle.rgo_ast.specs.Tree as tree

@@ -1,5 +1,5 @@
--- Parts of expressions in the grammar are read as their trees, where expressions are: `new ( .. )`
--- and `make ( .. )`, items of lists, and the literals around them.
+-- Parts of expressions in the grammar are read as their trees if expressions are: `new ( .. )` and `make ( .. )`, items of lists, and
+-- the literals around them.
 use Rattle.std.proofs.Common.{◌≡◌, ℕ, suc, inr, true, false, List, ◌∷◌, ◌++◌, refl, ap, arith, [], ◌<◌}
 use Rattle.rgo_ast.specs.declared.names.Ident.{Ident}
 use Rattle.rgo_ast.specs.Tree.{elements_of}

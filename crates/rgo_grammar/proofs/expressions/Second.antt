@@ -1,4 +1,5 @@
--- The second token of an expression that begins with a name: `.`, `[`, `(` or an operator.
+-- The second token of an expression that begins with a name: `.`, `[`, `(` or an operator. Reading looks two tokens ahead to find a key
+-- (`name :`) or a definition (`name :=`), and by this it never takes the beginning of an expression for one.
 use Rattle.std.proofs.Common.{◌≡◌, ℕ, Bool, false, List, [], ◌∷◌, ◌++◌, Some, refl, append_assoc}
 use Rattle.rgo_ast.specs.declared.ops.{BinaryOp.{BinaryOp}, UnaryOp.{UnaryOp}}
 use Rattle.rgo_ast.specs.Tree as tree
@@ -19,7 +20,7 @@ abbrev pub name_then : (Terminal → Bool) → Terminal → List Lexeme → Type
 name_then test Name l = NotNext test l
 name_then test _ l = Unit {0}
 
--- where a name comes first, the token after it does not pass the test
+-- if a name comes first, the token after it does not pass the test
 abbrev pub SecondNot : (Terminal → Bool) → List Lexeme → Type 0
 SecondNot test [] = Unit {0}
 SecondNot test (t ∷ l) = name_then test t.terminal l

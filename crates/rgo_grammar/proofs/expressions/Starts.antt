@@ -128,7 +128,7 @@ bin_passes h (Binary o) i l s e = absurd (omega (arith, level_some o))
 bin_passes h (Assign assign_op.Plain) i l s e = refl
 bin_passes h _ i l s e = refl
 
--- where no operator comes next, none is waited for
+-- if no operator comes next, none is waited for
 pub bin_pops : (h : Bool) (w : List Lexeme) (s : List Sym) → top w < 1 → run w (Bin h ∷ s) ≡ run w s
 unfolding run closes
 bin_pops h [] s e = refl

@@ -1,5 +1,6 @@
--- The machine over lists of tokens: each stack that it reaches can be emptied by some text, and
--- where it stops, it stops whatever follows.
+-- The machine over lists of tokens: each stack that it reaches can be emptied by some text, and where it stops, it stops whatever
+-- follows. These are the two halves of a first bad token: some program begins with the tokens before it, and none with it. The lemma
+-- that carries the first is `finish_run`, by `step_fine`: every step keeps the condition on stacks that the table was checked for.
 use Rattle.std.proofs.Common.{◌≡◌, Bool, true, false, ◌&&◌, cond, not, List, [], ◌∷◌, ◌++◌, Option, Some, None, refl, ◌∙◌, ap, append_assoc, inl, inr, ◌⊎◌, nat_eq}
 use Rattle.std.proofs.lemmas.Bool.{eqb-true}
 use Rattle.rgo_lexer.specs.{declared.terminals.Terminal.{Terminal}, Lexemes.{Leaf, Lexeme, tok, class, subclass, is_same_terminal}}

@@ -1,5 +1,5 @@
--- What the machine does at a symbol, by the symbol's row: it takes a token, stops, or does the same
--- as at another symbol.
+-- What the machine does at a symbol, by the symbol's row: it takes a token, stops, or does the same as at another symbol. Proofs about
+-- reading cite these, so that none of them unfolds the table.
 use Rattle.std.proofs.Common.{◌≡◌, Bool, true, false, cond, List, [], ◌∷◌, ◌++◌, Option, Some, None, refl, append_assoc}
 use Rattle.rgo_lexer.specs.{declared.terminals.Terminal.{Terminal}, Lexemes.{Leaf, Lexeme, tok, is_same_terminal}}
 use Rattle.rgo_grammar.proofs.machine.{Table.{Sym, T, Bin, Post, Row, then_all, joined, post_row, bin_row, row, nullable, find, next, entered, step}, Runs.{Stopped, advance, run, closes}}

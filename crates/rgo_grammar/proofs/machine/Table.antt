@@ -1,6 +1,7 @@
--- The grammar as the table of a machine that takes one token at a time, with a stack of what is
--- still to come: for each symbol of the stack a row, which tells for each token what takes the
--- place of the symbol.
+-- The grammar as the table of a machine that takes one token at a time, with a stack of what is still to come: each symbol of the stack
+-- has a row, which lists for each token the symbols that replace it. The machine looks at no token but the next, so where it stops is
+-- a function of the tokens before; that is why the first bad token is found with it. It has no levels of precedence: which
+-- lists of tokens are expressions does not depend on how operators group.
 use Rattle.std.proofs.Common.{◌≡◌, Bool, true, false, cond, not, List, [], ◌∷◌, ◌++◌, Option, Some, None, refl, inl, inr, ◌⊎◌, ◌==◌, ◌||◌, ◌&&◌, nat_le}
 use Rattle.std.proofs.lemmas.Bool.{eq-eqb}
 use Rattle.rgo_ast.specs.declared.ops.BinaryOp.TheVariants as op
@@ -182,7 +183,7 @@ row ElemsMore = (CloseBrace, []) ∷ expr_row false (Bin false ∷ ElemsEnd ∷ 
 row KeyedEnd = (CloseBrace, []) ∷ (Comma, KeyedMore ∷ []) ∷ []
 row KeyedMore = (CloseBrace, []) ∷ (Name, T Colon ∷ Unary false ∷ Bin false ∷ KeyedEnd ∷ []) ∷ []
 
--- what may be left out
+-- what may be left out: the next token may belong to what is under it on the stack
 abbrev pub nullable : Sym → Bool
 nullable Imports = true
 nullable Decls = true
@@ -195,7 +196,8 @@ nullable (Named alone) = true
 nullable (Bin h) = true
 nullable _ = false
 
--- a short text: its first token where a row begins with one that ends it
+-- A short text that a symbol derives. It is the first token of the row if that token alone is enough; the others are listed. Nothing
+-- depends on how they were found, since each is checked below.
 abbrev one_token : Row → List Terminal
 one_token ((k, []) ∷ r) = k ∷ []
 one_token _ = []
@@ -276,7 +278,8 @@ unfoldable pub leads : List Sym → Bool → Bool
 leads [] o = o
 leads (x ∷ s) o = cond (nullable x) (leads s o) (closes_first (word x))
 
--- each symbol that may continue at its end is followed by one whose short text begins with a closer
+-- Each symbol that may continue at its end is followed by one whose short text begins with a closer. Without this a short text could
+-- be read as a continuation of what comes before it, and the stack would not be emptied.
 unfoldable pub fine : List Sym → Bool → Bool
 fine [] o = true
 fine (x ∷ s) o = cond (cond (opens x) (leads s o) true) (fine s o) false
@@ -301,7 +304,7 @@ abbrev empty : {A : Type 0} → List A → Bool
 empty [] = true
 empty (x ∷ l) = false
 
--- ---- the table is checked by computing: a test of each symbol, and what the test implies
+-- ---- the table is checked by computing: a test of each symbol, and what the test implies; a new production needs no new proof here
 
 -- a symbol that may be left out: no closer begins it, and nothing is its short text
 abbrev skipped : Sym → Bool

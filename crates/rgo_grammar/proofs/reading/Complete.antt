@@ -1,5 +1,5 @@
--- What is proved of the grammar: what it derives is read as its tree. And how such facts are put
--- together.
+-- What is proved of the grammar: what it derives is read as its tree. And how such facts are put together. Each fact is stated up to a
+-- bound on the turns that was too small; that the bound is large enough is proved once, for whole programs, by correctness (Whole).
 use Rattle.std.proofs.Common.{◌≡◌, ℕ, zero, suc, ◌⊎◌, inl, inr, false, List, [], ◌∷◌, ◌++◌, refl, ◌∙◌, ap, append_assoc, append-nil, Bool, true, not}
 use Rattle.rgo_lexer.specs.{declared.terminals.Terminal.{Terminal}, Lexemes.{Leaf, Lexeme, tok, is_same_terminal}}
 use Rattle.rgo_grammar.specs.Grammar.{Listed, Listed.{none, last, more}}

@@ -1,13 +1,13 @@
--- What is proved of each reading function: what it reads is in the grammar; the machine takes the
--- same tokens, or stops at the same one; its turns are enough. And how such facts are put together.
+-- What is proved of each reading function: what it reads is in the grammar; the machine takes the same tokens, or stops at the same one;
+-- its turns are enough. And how such facts are put together. The three are proved at once, since each step of reading has to know that
+-- the step before it left a shorter list and the stack that the next one begins with.
 use Rattle.std.proofs.Common.{◌≡◌, ℕ, ◌+◌, ◌==◌, ◌||◌, ◌&&◌, nat_le, Bool, true, false, cond, get_or, List, [], ◌∷◌, ◌++◌, length, refl, sym, ◌∙◌, ap, append_assoc, arith, length-append}
 use Rattle.rgo_lexer.specs.{declared.terminals.Terminal.{Terminal, TheVariants.{Name, Main, New, Make, Number, Text, Binary, Bang, Ampersand, Arrow, Define, Assign, Step, OpenParen, CloseParen, OpenBracket, CloseBracket, OpenBrace, CloseBrace, Comma, Semicolon, Colon, Dot, Package, Import, TypeWord, Struct, Var, Func, Chan, Go, If, Else, For, Return, Break, Continue, Other}}, Lexemes.{Leaf, Lexeme, tok, class, is_same_terminal, is_plain_terminal}}
 use Rattle.rgo_grammar.specs.reading.Read.{Reader, Read, Done, Failed, At, ◌>>=◌, yielding, token}
 use Rattle.rgo_grammar.proofs.machine.{Table.{Sym, T, step, same_self, nullable}, Runs.{Stopped, run, closes, same_class}, Starts.{stays}}
 
--- Reading from l on, where the stack begins with `from`, in step with the machine: a value that
--- holds of the tokens read, and the stack that is left for it; or the machine stops at the same
--- token.
+-- Reading from l on, in step with the machine, whose stack begins with `from`: a value for which P holds with the tokens read, and the
+-- stack that is left for it; or the machine stops at the same token. Whatever is under `from` on the stack makes no difference.
 pub data Correct {A : Type 0} (from : List Sym) (to : A → List Sym)
     (P : List Lexeme → A → List Lexeme → Type 0) (l : List Lexeme)
     : Read A → Type 0 where
@@ -16,7 +16,7 @@ pub data Correct {A : Type 0} (from : List Sym) (to : A → List Sym)
   stops : {w : List Lexeme} → ((s : List Sym) → run l (from ++ s) ≡ Stopped w)
       → Correct from to P l (Failed (At w))
 
--- the same where nothing of `from` is left, and P speaks of what was read alone
+-- the same if nothing of `from` is left, and P is about what was read alone
 abbrev pub Empties : {A : Type 0} → List Sym → (List Lexeme → A → Type 0)
     → List Lexeme → Read A → Type 0
 Empties from P l r = Correct from (λ _. []) (λ z a w. P z a) l r
@@ -37,7 +37,7 @@ pub token_read : {A : Type 0} {from via : List Sym} {to : A → List Sym}
     → ((s : List Sym) → run (t ∷ l) (from ++ s) ≡ run l (via ++ s)) → Correct from to Q (t ∷ l) r
 token_read {t = t} h e = correct_after (t ∷ []) refl h e
 
--- no token yet, where the machine takes one stack as the other
+-- no token yet, if the machine does the same with both stacks
 pub same_start : {A : Type 0} {from via : List Sym} {to : A → List Sym}
     {Q : List Lexeme → A → List Lexeme → Type 0} {l : List Lexeme} {r : Read A}
     → Correct via to Q l r → ((s : List Sym) → run l (from ++ s) ≡ run l (via ++ s))
@@ -52,7 +52,7 @@ pub correct_bind : {A B : Type 0} {from : List Sym} {via : A → List Sym} {to :
 correct_bind (done z {a} {w} c p h) g = correct_after z c (g z a w c p) h
 correct_bind (stops h) g = stops h
 
--- a value made into another; the stack that is left does not tell them apart
+-- a value made into another; the stack that is left is the same for both
 pub correct_given : {A B : Type 0} {from to : List Sym} {P : List Lexeme → A → List Lexeme → Type 0}
     {Q : List Lexeme → B → List Lexeme → Type 0} {l : List Lexeme} {m : Read A} (f : A → B)
     → Correct from (λ _. to) P l m

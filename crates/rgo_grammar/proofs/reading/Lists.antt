@@ -1,4 +1,5 @@
--- Reading lists and groups is correct, where reading an item is.
+-- Reading lists and groups is correct if reading an item is. The rows of a list's symbols are a premise, so all lists of the grammar
+-- share these proofs.
 use Rattle.std.proofs.Common.{◌≡◌, ℕ, zero, suc, ◌+◌, ◌<◌, ◌≤◌, ◌⊎◌, inl, inr, Bool, true, false, cond, List, [], ◌∷◌, ◌++◌, length, refl, sym, ◌∙◌, append_assoc, arith, append-nil}
 use Rattle.rgo_lexer.specs.{declared.terminals.Terminal.{Terminal, TheVariants.{OpenParen, CloseParen, Semicolon}}, Lexemes.{Leaf, Lexeme, tok, is_same_terminal, is_plain_terminal}}
 use Rattle.rgo_grammar.specs.Grammar.{Listed, Listed.{none, last, more}}

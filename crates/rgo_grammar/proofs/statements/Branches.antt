@@ -1,4 +1,4 @@
--- Reading `for` and `if` is correct, where reading blocks and the next `if` is.
+-- Reading `for` and `if` is correct if reading blocks and the next `if` is, on shorter lists.
 use Rattle.std.proofs.Common.{◌≡◌, ℕ, ◌+◌, ◌≤◌, true, false, List, [], ◌∷◌, ◌++◌, length, Option, Some, None, refl, append_assoc, arith, sym, ap}
 use Rattle.rgo_ast.specs.Tree.{stmts_of, clause_of}
 use Rattle.rgo_ast.specs.Tree as tree

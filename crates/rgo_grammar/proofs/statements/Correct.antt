@@ -1,4 +1,5 @@
--- Reading statements and blocks is correct.
+-- Reading statements and blocks is correct, by induction on the turns: the kinds of statements come from the other files, and here only
+-- their cycle is closed.
 use Rattle.std.proofs.Common.{◌≡◌, ℕ, ◌+◌, ◌<◌, ◌≤◌, ◌⊎◌, inl, inr, Bool, true, false, List, [], ◌∷◌, ◌++◌, length, refl, append_assoc, ap, arith, None, zero, suc, ◌*◌}
 use Rattle.rgo_ast.specs.Tree.{stmts_of}
 use Rattle.rgo_ast.specs.Tree as tree
@@ -31,7 +32,7 @@ keyword_correct h e =
     token_read (correct_given _ (correct_under (StmtEnd ∷ []) h) (λ z s w g. inr (s, refl, g)))
     (λ s. rw append_assoc (e s))
 
--- after `return`: where no statement ends here, a value must come
+-- after `return`: if no statement ends here, a value must come
 return_run : (t : Lexeme) (l : List Lexeme) (s : List Sym) → next StmtEnd t.terminal ≡ None
     → run (t ∷ l) (Value ∷ StmtEnd ∷ s) ≡ run (t ∷ l) (Unary false ∷ Bin false ∷ StmtEnd ∷ s)
 unfolding run step

@@ -1,4 +1,5 @@
--- Headers and the kinds of statements in the grammar: how reading tells each from the others.
+-- Headers and the kinds of statements in the grammar: how reading distinguishes them. A keyword decides at once. The hard case is the
+-- first part of a header, which is known to be a condition or a statement only at its end.
 use Rattle.std.proofs.Common.{◌≡◌, inr, true, false, List, ◌∷◌, ◌++◌, Option, Some, None, refl, arith, [], ℕ, zero, suc, inl, Bool}
 use Rattle.rgo_ast.specs.Tree as tree
 use Rattle.rgo_lexer.specs.{declared.terminals.Terminal.{Terminal, TheVariants.{OpenBrace, Semicolon, CloseBrace, Var, Go, If, Else, For, Return, Break, Continue}}, Lexemes.{Leaf, Lexeme, tok}}
@@ -117,7 +118,7 @@ stmt_ends _ h = cc
 pub reads : (h : Bool) (n : ℕ) → ReadsExprs h (expr h n 1)
 reads h n x v e l d = expr_complete e n l d
 
--- ---- the first tokens determine the kind of a statement
+-- ---- the first tokens determine the kind of a statement, so no statement is read as one of another kind
 
 -- an `if` or `for` from its keyword on
 abbrev pub if_at : ℕ → List Lexeme → Read tree.Stmt

@@ -1,5 +1,4 @@
--- Simple statements and declarations of local variables in the grammar are read as their trees,
--- where expressions are.
+-- Simple statements and declarations of local variables in the grammar are read as their trees if expressions are.
 use Rattle.std.proofs.Common.{◌≡◌, inr, Bool, true, false, List, [], ◌∷◌, ◌++◌, refl, append_assoc, arith, ℕ, ◌⊎◌, inl}
 use Rattle.rgo_ast.specs.Tree as tree
 use Rattle.rgo_ast.specs.declared.ops.AssignOp.TheVariants as assign_op

@@ -1,4 +1,5 @@
--- Reading simple statements is correct, where reading expressions is.
+-- Reading simple statements is correct if reading expressions is. A statement that is an expression so far may still become a send or
+-- an assignment, so the machine keeps a symbol for that after it, which the next token uses or drops.
 use Rattle.std.proofs.Common.{◌≡◌, ℕ, ◌+◌, ◌≤◌, Bool, true, false, List, [], ◌∷◌, ◌++◌, length, Some, refl, ◌∙◌, append_assoc, append-nil, arith}
 use Rattle.rgo_ast.specs.declared.ops.AssignOp.{AssignOp}
 use Rattle.rgo_ast.specs.declared.ops.AssignOp.TheVariants as assign_op
@@ -50,7 +51,7 @@ unfolding run step
 assign_run c assign_op.Plain i l s = refl
 assign_run c _ i l s = refl
 
--- what begins an expression, but for names
+-- what begins an expression, except for names
 starts_other : (h : Bool) (k : Terminal) (after named : List Sym) → is_same_terminal Name k ≡ false
     → find k (starts_row h after named) ≡ find k (then_all (row (Unary h)) after)
 starts_other true k after named e = rw e refl

@@ -120,7 +120,7 @@ abbrev pub elements_from : ℕ → Reader tree.Expr → List (Ident × tree.Expr
     → Read (List (Ident × tree.Expr) × Leaf)
 elements_from n inner found l = several Comma CloseBrace (keyed_element inner) n found l
 
--- the next token is a `:`, so that a name and a `:` begin an element
+-- the next token is a `:`, so that a name and a `:` begin an element; a name alone may begin an expression
 abbrev pub is_colon : Option (Lexeme × List Lexeme) → Bool
 is_colon None = false
 is_colon (Some x) = by_terminal x.0.terminal where

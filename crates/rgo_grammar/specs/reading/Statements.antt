@@ -186,7 +186,7 @@ abbrev pub condition_on : Reader tree.Expr → List Lexeme → Option (Lexeme ×
 condition_on value l None = Failed (At l)
 condition_on value l (Some x) = condition_by value x.0.terminal l x.1
 
--- the post statement of a `for`, up to the block
+-- the post statement of a `for`, up to the block; it is read as a statement that may not be a definition
 abbrev pub post_stmt_by : Reader tree.Expr → Terminal → List Lexeme → Read (Option tree.Stmt)
 post_stmt_by value OpenBrace l = Done None l
 post_stmt_by value _ l = valued value l >>= yielding (λ s. Some s)
@@ -218,7 +218,7 @@ abbrev pub for_on : Reader (List tree.Stmt × Leaf) → Reader tree.Expr → Lea
 for_on block value i l None = Failed (At l)
 for_on block value i l (Some x) = for_by block value i x.0.terminal l
 
--- A statement as a list; the empty statement is the empty list.
+-- A statement as a list; the empty statement is the empty list, so that it leaves nothing in the tree.
 abbrev pub stmt_by : ℕ → Reader (List tree.Stmt × Leaf) → Reader (List tree.Stmt × Leaf)
     → (Leaf → Reader tree.Stmt) → Terminal → Leaf → List Lexeme → List Lexeme
     → Read (List tree.Stmt)

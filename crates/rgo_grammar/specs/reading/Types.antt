@@ -1,4 +1,4 @@
--- Reading names and types.
+-- Reading names and types. They contain no expression, so they are outside the cycles of the other reading functions.
 use Rattle.std.specs.Prelude.{ℕ, zero, suc, List, [], ◌∷◌, ◌++◌, Option, Some, None}
 use Rattle.rgo_ast.specs.declared.ops.BinaryOp.TheVariants as op
 use Rattle.rgo_ast.specs.declared.names.Ident.{Ident}

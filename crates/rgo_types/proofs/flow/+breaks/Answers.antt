@@ -6,17 +6,17 @@ use Rattle.rgo_types.proofs.Breaks.{block_breaks}
 use Rattle.rgo_typing_statements.proofs.Trees.{sources}
 use Rattle.rgo_types.proofs.flow.+breaks.Goals as goal
 
-pub has_break-returns-in-Block : goal.has_break-returns-in-Block
-has_break-returns-in-Block t c =
-    c.any_break.ensures
+pub stmt_breaks-returns-in-Block : goal.stmt_breaks-returns-in-Block
+stmt_breaks-returns-in-Block t c =
+    c.stmts_break.ensures
     ∙ ap (λ l. stmts_break (stmts_of (map stmt_of l))) c.deref.ensures.value
     ∙ sym (block_breaks c.args.s.now c.in-Block.all c.in-Block.field-1 c.in-Block.is)
 
-pub has_break-returns-then-any_break : goal.has_break-returns-then-any_break
-has_break-returns-then-any_break t c = grind (arith, sources)
+pub stmt_breaks-returns-then-stmts_break : goal.stmt_breaks-returns-then-stmts_break
+stmt_breaks-returns-then-stmts_break t c = grind (arith, sources)
 
-pub has_break-returns-in-None : goal.has_break-returns-in-None
-has_break-returns-in-None t c = grind (arith, sources)
+pub stmt_breaks-returns-in-None : goal.stmt_breaks-returns-in-None
+stmt_breaks-returns-in-None t c = grind (arith, sources)
 
-pub has_break-returns-in-Some : goal.has_break-returns-in-Some
-has_break-returns-in-Some t c = grind (arith, sources)
+pub stmt_breaks-returns-in-Some : goal.stmt_breaks-returns-in-Some
+stmt_breaks-returns-in-Some t c = grind (arith, sources)
